@@ -1,0 +1,15 @@
+pub mod Names
+pub mod World
+pub mod Literals
+pub mod Vocabulary
+pub mod Faults
+pub mod Texts
+pub mod Tree
+pub mod Schemas
+pub mod Meanings
+pub mod Accepts
+pub mod Reports
+pub mod Asks
+pub mod Malformed
+pub mod Trees
+pub mod Meaning

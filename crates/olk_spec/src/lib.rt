@@ -1,0 +1,2 @@
+//! Definitions of what a schema means, and the laws that they keep.
+#![tactic(auto)]
