@@ -11,5 +11,6 @@ pub mod Accepts
 pub mod Reports
 pub mod Asks
 pub mod Malformed
+pub mod Costs
 pub mod Trees
 pub mod Meaning
