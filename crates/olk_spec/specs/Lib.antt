@@ -13,3 +13,4 @@ pub mod Asks
 pub mod Malformed
 pub mod Trees
 pub mod Meaning
+pub mod Laws
