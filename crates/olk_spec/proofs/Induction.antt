@@ -1,9 +1,9 @@
 -- Induction over schemas: a fact of each answer holds if each step keeps it.
-use Rattle.std.specs.Prelude.{⊤, ℕ, ◌+◌, List, [], ◌∷◌, map, option_to_list, decimal}
-use Rattle.std.specs.List.{flat_map, enumerate_from}
+use Rattle.std.specs.Prelude.{⊤, ℕ, ◌+◌, List, [], ◌∷◌, map, decimal}
+use Rattle.std.specs.List.{enumerate_from}
 use Rattle.serde_json.specs.Data.{Data, null, boolean, number, string, array, object, Items, no_items, item, Members, no_members, member}
 use Rattle.olk_spec.specs.Names.{Name, lookup}
-use Rattle.olk_spec.specs.Schemas.{Sub, Part, Keywords, Schema, truth, keywords, no_schema, read, read_items, read_members, answer_for, whole_entries, inner_entries, whole_items, branches, numbered, parts_at, entries_at, wholes_at}
+use Rattle.olk_spec.specs.Schemas.{Sub, Part, Keywords, Schema, truth, keywords, no_schema, read, read_items, read_members, answer_for, whole_entries, inner_entries, whole_items, branches, parts_at, entries_at, wholes_at}
 use Rattle.olk_spec.proofs.Each.{Each, Each-flat_map, Each-option, Each-map, On-lookup, Each-implies}
 
 -- what a step is given at a place

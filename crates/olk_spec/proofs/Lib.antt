@@ -1,6 +1,6 @@
 pub mod Each
 pub mod Induction
 pub mod Verdicts
-pub mod Laws
+pub mod Logic
 pub mod Passing
 pub mod Order

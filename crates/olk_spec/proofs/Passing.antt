@@ -1,9 +1,9 @@
 -- A value that is no object passes the keywords of objects.
-use Rattle.std.specs.Prelude.{◌≡◌, Bool, true, false, not, ◌&&◌, ◌||◌, List, [], ◌∷◌, map, codes}
+use Rattle.std.specs.Prelude.{◌≡◌, Bool, true, false, ◌||◌, List, [], ◌∷◌, codes}
 use Rattle.std.specs.List.{flat_map, list_all}
-use Rattle.std.proofs.Common.{refl, ap, ◌∙◌}
+use Rattle.std.proofs.Common.{refl}
 use Rattle.serde_json.specs.Data.{Data, null, boolean, number, string, array, object}
-use Rattle.olk_spec.specs.Names.{Name, those, is_empty, lookup}
+use Rattle.olk_spec.specs.Names.{those}
 use Rattle.olk_spec.specs.Schemas.{members, is_object}
 use Rattle.olk_spec.specs.Meaning.{meaning}
 use Rattle.olk_spec.specs.Laws.{Passes}
@@ -25,83 +25,46 @@ pub or_true : (b : Bool) → (b || true) ≡ true
 or_true true = refl
 or_true false = refl
 
+pub no_members : (v : Data) → is_object v ≡ false → members v ≡ []
+no_members null h = refl
+no_members (boolean b) h = refl
+no_members (number n) h = refl
+no_members (string s) h = refl
+no_members (array ds) h = refl
+no_members (object ms) h = absurd (true≢false h)
+
 pub passes_properties : Passes (codes "properties")
 unfolding meaning
-passes_properties W u d null h = simp (flat_map-none, those-none, list_all-true, or_true) refl
-passes_properties W u d (boolean b) h = simp (flat_map-none, those-none, list_all-true, or_true) refl
-passes_properties W u d (number n) h = simp (flat_map-none, those-none, list_all-true, or_true) refl
-passes_properties W u d (string s) h = simp (flat_map-none, those-none, list_all-true, or_true) refl
-passes_properties W u d (array ds) h = simp (flat_map-none, those-none, list_all-true, or_true) refl
-passes_properties W u d (object ms) h = absurd (true≢false h)
+passes_properties W u d v h = simp (no_members v h, flat_map-none) refl
 
 pub passes_pattern_properties : Passes (codes "patternProperties")
 unfolding meaning
-passes_pattern_properties W u d null h = simp (flat_map-none, those-none, list_all-true, or_true) refl
-passes_pattern_properties W u d (boolean b) h = simp (flat_map-none, those-none, list_all-true, or_true) refl
-passes_pattern_properties W u d (number n) h = simp (flat_map-none, those-none, list_all-true, or_true) refl
-passes_pattern_properties W u d (string s) h = simp (flat_map-none, those-none, list_all-true, or_true) refl
-passes_pattern_properties W u d (array ds) h = simp (flat_map-none, those-none, list_all-true, or_true) refl
-passes_pattern_properties W u d (object ms) h = absurd (true≢false h)
+passes_pattern_properties W u d v h = simp (no_members v h, flat_map-none) refl
 
 pub passes_additional_properties : Passes (codes "additionalProperties")
 unfolding meaning
-passes_additional_properties W u d null h = simp (flat_map-none, those-none, list_all-true, or_true) refl
-passes_additional_properties W u d (boolean b) h = simp (flat_map-none, those-none, list_all-true, or_true) refl
-passes_additional_properties W u d (number n) h = simp (flat_map-none, those-none, list_all-true, or_true) refl
-passes_additional_properties W u d (string s) h = simp (flat_map-none, those-none, list_all-true, or_true) refl
-passes_additional_properties W u d (array ds) h = simp (flat_map-none, those-none, list_all-true, or_true) refl
-passes_additional_properties W u d (object ms) h = absurd (true≢false h)
+passes_additional_properties W u d v h = simp (no_members v h, or_true) refl
 
 pub passes_property_names : Passes (codes "propertyNames")
 unfolding meaning
-passes_property_names W u d null h = simp (flat_map-none, those-none, list_all-true, or_true) refl
-passes_property_names W u d (boolean b) h = simp (flat_map-none, those-none, list_all-true, or_true) refl
-passes_property_names W u d (number n) h = simp (flat_map-none, those-none, list_all-true, or_true) refl
-passes_property_names W u d (string s) h = simp (flat_map-none, those-none, list_all-true, or_true) refl
-passes_property_names W u d (array ds) h = simp (flat_map-none, those-none, list_all-true, or_true) refl
-passes_property_names W u d (object ms) h = absurd (true≢false h)
+passes_property_names W u d v h = simp (no_members v h, or_true) refl
 
 pub passes_required : Passes (codes "required")
 unfolding meaning
-passes_required W u d null h = simp (flat_map-none, those-none, list_all-true, or_true) refl
-passes_required W u d (boolean b) h = simp (flat_map-none, those-none, list_all-true, or_true) refl
-passes_required W u d (number n) h = simp (flat_map-none, those-none, list_all-true, or_true) refl
-passes_required W u d (string s) h = simp (flat_map-none, those-none, list_all-true, or_true) refl
-passes_required W u d (array ds) h = simp (flat_map-none, those-none, list_all-true, or_true) refl
-passes_required W u d (object ms) h = absurd (true≢false h)
+passes_required W u d v h = simp (h, those-none) refl
 
 pub passes_dependent_required : Passes (codes "dependentRequired")
 unfolding meaning
-passes_dependent_required W u d null h = simp (flat_map-none, those-none, list_all-true, or_true) refl
-passes_dependent_required W u d (boolean b) h = simp (flat_map-none, those-none, list_all-true, or_true) refl
-passes_dependent_required W u d (number n) h = simp (flat_map-none, those-none, list_all-true, or_true) refl
-passes_dependent_required W u d (string s) h = simp (flat_map-none, those-none, list_all-true, or_true) refl
-passes_dependent_required W u d (array ds) h = simp (flat_map-none, those-none, list_all-true, or_true) refl
-passes_dependent_required W u d (object ms) h = absurd (true≢false h)
+passes_dependent_required W u d v h = simp (no_members v h, those-none) refl
 
 pub passes_dependent_schemas : Passes (codes "dependentSchemas")
 unfolding meaning
-passes_dependent_schemas W u d null h = simp (flat_map-none, those-none, list_all-true, or_true) refl
-passes_dependent_schemas W u d (boolean b) h = simp (flat_map-none, those-none, list_all-true, or_true) refl
-passes_dependent_schemas W u d (number n) h = simp (flat_map-none, those-none, list_all-true, or_true) refl
-passes_dependent_schemas W u d (string s) h = simp (flat_map-none, those-none, list_all-true, or_true) refl
-passes_dependent_schemas W u d (array ds) h = simp (flat_map-none, those-none, list_all-true, or_true) refl
-passes_dependent_schemas W u d (object ms) h = absurd (true≢false h)
+passes_dependent_schemas W u d v h = simp (no_members v h, those-none) refl
 
 pub passes_dependencies : Passes (codes "dependencies")
 unfolding meaning
-passes_dependencies W u d null h = simp (flat_map-none, those-none, list_all-true, or_true) refl
-passes_dependencies W u d (boolean b) h = simp (flat_map-none, those-none, list_all-true, or_true) refl
-passes_dependencies W u d (number n) h = simp (flat_map-none, those-none, list_all-true, or_true) refl
-passes_dependencies W u d (string s) h = simp (flat_map-none, those-none, list_all-true, or_true) refl
-passes_dependencies W u d (array ds) h = simp (flat_map-none, those-none, list_all-true, or_true) refl
-passes_dependencies W u d (object ms) h = absurd (true≢false h)
+passes_dependencies W u d v h = simp (no_members v h, those-none) refl
 
 pub passes_property_dependencies : Passes (codes "propertyDependencies")
 unfolding meaning
-passes_property_dependencies W u d null h = simp (flat_map-none, those-none, list_all-true, or_true) refl
-passes_property_dependencies W u d (boolean b) h = simp (flat_map-none, those-none, list_all-true, or_true) refl
-passes_property_dependencies W u d (number n) h = simp (flat_map-none, those-none, list_all-true, or_true) refl
-passes_property_dependencies W u d (string s) h = simp (flat_map-none, those-none, list_all-true, or_true) refl
-passes_property_dependencies W u d (array ds) h = simp (flat_map-none, those-none, list_all-true, or_true) refl
-passes_property_dependencies W u d (object ms) h = absurd (true≢false h)
+passes_property_dependencies W u d v h = simp (no_members v h, flat_map-none) refl

@@ -1,22 +1,21 @@
 -- A schema accepts exactly where it finds no fault.
-use Rattle.std.specs.Prelude.{◌≡◌, ℕ, ◌+◌, Bool, true, false, not, cond, ◌&&◌, ◌||◌, ◌==◌, nat_lt, List, [], ◌∷◌, ◌++◌, map, count_by, option_to_list}
+use Rattle.std.specs.Prelude.{◌≡◌, ℕ, Bool, true, false, not, ◌&&◌, ◌||◌, ◌==◌, nat_lt, List, [], ◌∷◌, ◌++◌, map, option_to_list}
 use Rattle.std.specs.List.{flat_map, list_all, list_any}
-use Rattle.std.proofs.Common.{refl, sym, ◌∙◌, ap}
+use Rattle.std.proofs.Common.{refl, sym, ◌∙◌}
 use native.Mathlib.Omega.{arith}
-use Rattle.std.proofs.lemmas.List.Sums.{sum_by-cons}
 use Rattle.serde_json.specs.Data.{Data, string}
 use Rattle.olk_spec.specs.Names.{Name, Path, ◌//◌, down, those, put_if, is_empty, lookup}
 use Rattle.olk_spec.specs.World.{World}
-use Rattle.olk_spec.specs.Vocabulary.{Keyword, properties, pattern_properties, additional_properties, property_names, required, dependent_required, dependent_schemas, dependencies, property_dependencies, all_of, any_of, one_of, not_keyword, if_keyword, then_keyword, else_keyword, unsupported, leaf, unread, keyword_named}
+use Rattle.olk_spec.specs.Vocabulary.{Keyword, properties, pattern_properties, additional_properties, property_names, required, dependent_required, dependent_schemas, dependencies, property_dependencies, all_of, any_of, one_of, not_keyword, then_keyword, else_keyword, leaf, keyword_named}
 use Rattle.olk_spec.specs.Schemas.{at, as_text, has, is_array, is_object, is_truth, Schema, truth, keywords, no_schema, Keywords, Part, members, branches, names}
 use Rattle.olk_spec.specs.Meanings.{Meaning, Subschema, holds, applied, additional, Asked, asked, asked_whole, matches, if_accepts, if_refuses}
 use Rattle.olk_spec.specs.Accepts.{wanted, keyword_accepts, missing, due, accepting}
-use Rattle.olk_spec.specs.Faults.{Fault, fault, FalseSchema, Not, Required, Leaf, AnyOf, OneOfNotValid, OneOfMultipleValid, Kind}
+use Rattle.olk_spec.specs.Faults.{fault, FalseSchema, Not, Required, Leaf, AnyOf, OneOfNotValid, OneOfMultipleValid, Kind}
 use Rattle.olk_spec.specs.Reports.{branch_faults, fault_if, required_faults, unexpected_faults, has_neighbour, wrapped, own, keyword_report}
 use Rattle.olk_spec.specs.Meaning.{meaning, meaning_step}
 use Rattle.olk_spec.specs.Laws.{Verdict_of_reports}
 use Rattle.olk_spec.proofs.Each.{Each, Each-implies, Each-map, Each-flat_map, Each-those, Each-any, Each-option, On-lookup}
-use Rattle.olk_spec.proofs.Induction.{good_answer, schema_read, GoodSchema, GoodKeywords, GoodPart, branches_good}
+use Rattle.olk_spec.proofs.Induction.{good_answer, schema_read, GoodSchema, GoodPart, branches_good}
 
 -- ---- lists
 
@@ -145,7 +144,7 @@ module _ (W : World) (u : Bool) where
       pub keyword_row : (w : Keyword) → keyword_accepts W u S k p v w ≡ is_empty (keyword_report W u S k p v P Q w)
       keyword_row w = both_empty _ _ _ _
           (all_empty (λ a. holds a.sub a.value) (λ a. a.sub.answer.report a.value (down P a.in_schema) (down Q a.in_instance)) (applied W u S k p v w)
-              (Each-implies AgreesAsked (λ a. holds a.sub a.value ≡ is_empty (a.sub.answer.report a.value (down P a.in_schema) (down Q a.in_instance))) (λ a g. g a.value (down P a.in_schema) (down Q a.in_instance)) (applied W u S k p v w) (applied_good w)))
+          (Each-implies AgreesAsked (λ a. holds a.sub a.value ≡ is_empty (a.sub.answer.report a.value (down P a.in_schema) (down Q a.in_instance))) (λ a g. g a.value (down P a.in_schema) (down Q a.in_instance)) (applied W u S k p v w) (applied_good w)))
           (own_row w)
 
   keep : (S : Schema Meaning) → GoodSchema Agrees S → (v : Data) (P Q : Path) → (meaning_step W u S).accepts v ≡ is_empty ((meaning_step W u S).report v P Q)
