@@ -4,3 +4,4 @@ pub mod Verdicts
 pub mod Logic
 pub mod Passing
 pub mod Order
+pub mod Reading
