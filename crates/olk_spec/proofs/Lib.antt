@@ -1,3 +1,10 @@
 pub mod Bodies
 pub mod Grammar
 pub mod LiteralForms
+pub mod Each
+pub mod Induction
+pub mod Verdicts
+pub mod Logic
+pub mod Passing
+pub mod Order
+pub mod Reading

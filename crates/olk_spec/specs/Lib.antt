@@ -14,3 +14,4 @@ pub mod Malformed
 pub mod Costs
 pub mod Trees
 pub mod Meaning
+pub mod Laws

@@ -2,3 +2,4 @@
 #![tactic(auto)]
 
 pub mod literals;
+pub mod laws;

@@ -1,0 +1,70 @@
+-- A value that is no object passes the keywords of objects.
+use Rattle.std.specs.Prelude.{◌≡◌, Bool, true, false, ◌||◌, List, [], ◌∷◌, codes}
+use Rattle.std.specs.List.{flat_map, list_all}
+use Rattle.std.proofs.Common.{refl}
+use Rattle.serde_json.specs.Data.{Data, null, boolean, number, string, array, object}
+use Rattle.olk_spec.specs.Names.{those}
+use Rattle.olk_spec.specs.Schemas.{members, is_object}
+use Rattle.olk_spec.specs.Meaning.{meaning}
+use Rattle.olk_spec.specs.Laws.{Passes}
+use mathlib.Core.Bool.{true≢false}
+
+pub flat_map-none : {A B : Type 0} (xs : List A) → flat_map {A = B} (λ x. []) xs ≡ []
+flat_map-none [] = refl
+flat_map-none (x ∷ xs) = flat_map-none xs
+
+pub those-none : {A : Type 0} (xs : List A) → those (λ x. false) xs ≡ []
+those-none [] = refl
+those-none (x ∷ xs) = those-none xs
+
+pub list_all-true : {A : Type 0} (xs : List A) → list_all (λ x. true) xs ≡ true
+list_all-true [] = refl
+list_all-true (x ∷ xs) = list_all-true xs
+
+pub or_true : (b : Bool) → (b || true) ≡ true
+or_true true = refl
+or_true false = refl
+
+pub no_members : (v : Data) → is_object v ≡ false → members v ≡ []
+no_members null h = refl
+no_members (boolean b) h = refl
+no_members (number n) h = refl
+no_members (string s) h = refl
+no_members (array ds) h = refl
+no_members (object ms) h = absurd (true≢false h)
+
+pub passes_properties : Passes (codes "properties")
+unfolding meaning
+passes_properties W u d v h = simp (no_members v h, flat_map-none) refl
+
+pub passes_pattern_properties : Passes (codes "patternProperties")
+unfolding meaning
+passes_pattern_properties W u d v h = simp (no_members v h, flat_map-none) refl
+
+pub passes_additional_properties : Passes (codes "additionalProperties")
+unfolding meaning
+passes_additional_properties W u d v h = simp (no_members v h, or_true) refl
+
+pub passes_property_names : Passes (codes "propertyNames")
+unfolding meaning
+passes_property_names W u d v h = simp (no_members v h, or_true) refl
+
+pub passes_required : Passes (codes "required")
+unfolding meaning
+passes_required W u d v h = simp (h, those-none) refl
+
+pub passes_dependent_required : Passes (codes "dependentRequired")
+unfolding meaning
+passes_dependent_required W u d v h = simp (no_members v h, those-none) refl
+
+pub passes_dependent_schemas : Passes (codes "dependentSchemas")
+unfolding meaning
+passes_dependent_schemas W u d v h = simp (no_members v h, those-none) refl
+
+pub passes_dependencies : Passes (codes "dependencies")
+unfolding meaning
+passes_dependencies W u d v h = simp (no_members v h, those-none) refl
+
+pub passes_property_dependencies : Passes (codes "propertyDependencies")
+unfolding meaning
+passes_property_dependencies W u d v h = simp (no_members v h, flat_map-none) refl

@@ -1,0 +1,159 @@
+-- A schema accepts exactly where it finds no fault.
+use Rattle.std.specs.Prelude.{◌≡◌, ℕ, Bool, true, false, not, ◌&&◌, ◌||◌, ◌==◌, nat_lt, List, [], ◌∷◌, ◌++◌, map, option_to_list}
+use Rattle.std.specs.List.{flat_map, list_all, list_any}
+use Rattle.std.proofs.Common.{refl, sym, ◌∙◌}
+use native.Mathlib.Omega.{arith}
+use Rattle.serde_json.specs.Data.{Data, string}
+use Rattle.olk_spec.specs.Names.{Name, Path, ◌//◌, down, those, put_if, is_empty, lookup}
+use Rattle.olk_spec.specs.World.{World}
+use Rattle.olk_spec.specs.Vocabulary.{Keyword, properties, pattern_properties, additional_properties, property_names, required, dependent_required, dependent_schemas, dependencies, property_dependencies, all_of, any_of, one_of, not_keyword, then_keyword, else_keyword, leaf, keyword_named}
+use Rattle.olk_spec.specs.Schemas.{at, as_text, has, is_array, is_object, is_truth, Schema, truth, keywords, no_schema, Keywords, Part, members, branches, names}
+use Rattle.olk_spec.specs.Meanings.{Meaning, Subschema, holds, applied, additional, Asked, asked, asked_whole, matches, if_accepts, if_refuses}
+use Rattle.olk_spec.specs.Accepts.{wanted, keyword_accepts, missing, due, accepting}
+use Rattle.olk_spec.specs.Faults.{fault, FalseSchema, Not, Required, Leaf, AnyOf, OneOfNotValid, OneOfMultipleValid, Kind}
+use Rattle.olk_spec.specs.Reports.{branch_faults, fault_if, required_faults, unexpected_faults, has_neighbour, wrapped, own, keyword_report}
+use Rattle.olk_spec.specs.Meaning.{meaning, meaning_step}
+use Rattle.olk_spec.specs.Laws.{Verdict_of_reports}
+use Rattle.olk_spec.proofs.Each.{Each, Each-implies, Each-map, Each-flat_map, Each-those, Each-any, Each-option, On-lookup}
+use Rattle.olk_spec.proofs.Induction.{good_answer, schema_read, GoodSchema, GoodPart, branches_good}
+
+-- ---- lists
+
+pub is_empty-append : {A : Type 0} (xs ys : List A) → is_empty (xs ++ ys) ≡ (is_empty xs && is_empty ys)
+is_empty-append [] ys = refl
+is_empty-append (x ∷ xs) ys = refl
+
+pub is_empty-nil : {A : Type 0} (xs : List A) → is_empty (xs ++ []) ≡ is_empty xs
+is_empty-nil [] = refl
+is_empty-nil (x ∷ xs) = refl
+
+module _ {A B : Type 0} where
+  pub is_empty-map : (f : A → B) (xs : List A) → is_empty (map f xs) ≡ is_empty xs
+  is_empty-map f [] = refl
+  is_empty-map f (x ∷ xs) = refl
+
+  pub all_empty : (f : A → Bool) (g : A → List B) (xs : List A) → Each (λ x. f x ≡ is_empty (g x)) xs → list_all f xs ≡ is_empty (flat_map g xs)
+  all_empty f g [] h = refl
+  all_empty f g (x ∷ xs) h = (λ i. h.0 i && all_empty f g xs h.1 i) ∙ sym (is_empty-append (g x) (flat_map g xs))
+
+  -- where a test holds
+  pub empty_where : (b c : Bool) (x : A) (g : A → List B) → c ≡ is_empty (g x) → (not b || c) ≡ is_empty (flat_map g (put_if b x []))
+  empty_where true c x g e = e ∙ sym (is_empty-nil (g x))
+  empty_where false c x g e = refl
+
+-- a verdict that two lists of faults share
+both_empty : {A : Type 0} (a b : Bool) (xs ys : List A) → a ≡ is_empty xs → b ≡ is_empty ys → (a && b) ≡ is_empty (xs ++ ys)
+both_empty a b xs ys e f = (λ i. e i && f i) ∙ sym (is_empty-append xs ys)
+
+pub none_if : (b : Bool) (k : Kind) (v : Data) (P Q : Path) → not b ≡ is_empty (fault_if b k v P Q)
+none_if true k v P Q = refl
+none_if false k v P Q = refl
+
+-- ---- truth values
+
+not_both : (f e : Bool) → (not f || e) ≡ not (f && not e)
+not_both true true = refl
+not_both true false = refl
+not_both false e = refl
+
+not_not : (b : Bool) → b ≡ not (not b)
+not_not true = refl
+not_not false = refl
+
+exactly_one : (n : ℕ) → (n == 1) ≡ (not (n == 0) && not (nat_lt 1 n))
+exactly_one n = grind arith
+
+-- ---- the rows
+
+module _ (W : World) (u : Bool) where
+  abbrev pub Agrees : Data → Meaning → Type 0
+  Agrees d m = (v : Data) (P Q : Path) → m.accepts v ≡ is_empty (m.report v P Q)
+
+  abbrev AgreesSub : Subschema → Type 0
+  AgreesSub s = Agrees s.schema s.answer
+
+  abbrev AgreesEntry : Name × Subschema → Type 0
+  AgreesEntry e = Agrees e.1.schema e.1.answer
+
+  abbrev AgreesAsked : Asked → Type 0
+  AgreesAsked a = AgreesSub a.sub
+
+  module _ (S : Keywords Meaning) (k : Name) (p : Part Meaning) (h : GoodPart Agrees p) (v : Data) where
+    abbrev All_agree : List Asked → Type 0
+    All_agree xs = Each AgreesAsked xs
+
+    entry_row : (f : Name × Subschema → List Asked) → ((e : Name × Subschema) → AgreesEntry e → All_agree (f e)) → (es : List (Name × Subschema)) → Each AgreesEntry es → All_agree (flat_map f es)
+    entry_row f g es c = Each-flat_map AgreesAsked f es (Each-implies AgreesEntry (λ e. All_agree (f e)) g es c)
+
+    whole_row : (es : List (Name × Subschema)) → Each AgreesEntry es → All_agree (asked_whole k v es)
+    whole_row es g = Each-map AgreesAsked (λ e. asked e.1 v (k ∷ e.0 ∷ []) []) es g
+
+    where_row : (b : Bool) (a : Asked) → AgreesAsked a → All_agree (put_if b a [])
+    where_row true a g = (g, tt)
+    where_row false a g = tt
+
+    text_row : (e : Name × List (Name × Subschema)) → Each AgreesEntry e.1 → All_agree (flat_map (λ t. map (λ s. asked s v (k ∷ e.0 ∷ t ∷ []) []) (option_to_list (lookup t e.1))) (flat_map as_text (at e.0 v)))
+    text_row e g = Each-flat_map AgreesAsked (λ t. map (λ s. asked s v (k ∷ e.0 ∷ t ∷ []) []) (option_to_list (lookup t e.1))) (flat_map as_text (at e.0 v))
+        (Each-any (λ t. All_agree (map (λ s. asked s v (k ∷ e.0 ∷ t ∷ []) []) (option_to_list (lookup t e.1)))) (λ t. Each-map AgreesAsked (λ s. asked s v (k ∷ e.0 ∷ t ∷ []) []) (option_to_list (lookup t e.1)) (Each-option AgreesSub (lookup t e.1) (On-lookup AgreesSub t e.1 g))) (flat_map as_text (at e.0 v)))
+
+    pub applied_good : (w : Keyword) → All_agree (applied W u S k p v w)
+    applied_good properties = entry_row (λ e. map (λ w. asked e.1 w (k ∷ e.0 ∷ []) (e.0 ∷ [])) (at e.0 v)) (λ e g. Each-map AgreesAsked (λ w. asked e.1 w (k ∷ e.0 ∷ []) (e.0 ∷ [])) (at e.0 v) (Each-any (λ w. AgreesEntry e) (λ w. g) (at e.0 v))) p.entries h.1
+    applied_good pattern_properties = entry_row (λ e. map (λ m. asked e.1 m.1 (k ∷ e.0 ∷ []) (m.0 ∷ [])) (those (λ m. matches W u e.0 m.0) (members v))) (λ e g. Each-map AgreesAsked (λ m. asked e.1 m.1 (k ∷ e.0 ∷ []) (m.0 ∷ [])) (those (λ m. matches W u e.0 m.0) (members v)) (Each-any (λ m. AgreesEntry e) (λ m. g) (those (λ m. matches W u e.0 m.0) (members v)))) p.entries h.1
+    applied_good additional_properties = Each-flat_map AgreesAsked (λ m. put_if (is_object p.whole.schema) (asked p.whole m.1 (k ∷ []) (m.0 ∷ [])) []) (additional S W u v) (Each-any (λ m. All_agree (put_if (is_object p.whole.schema) (asked p.whole m.1 (k ∷ []) (m.0 ∷ [])) [])) (λ m. where_row (is_object p.whole.schema) (asked p.whole m.1 (k ∷ []) (m.0 ∷ [])) h.0) (additional S W u v))
+    applied_good dependent_schemas = whole_row (those (λ e. has e.0 v) p.entries) (Each-those AgreesEntry (λ e. has e.0 v) p.entries h.1)
+    applied_good dependencies = whole_row (those (λ e. has e.0 v && not (is_array e.1.schema)) p.entries) (Each-those AgreesEntry (λ e. has e.0 v && not (is_array e.1.schema)) p.entries h.1)
+    applied_good property_dependencies = Each-flat_map AgreesAsked (λ e. flat_map (λ t. map (λ s. asked s v (k ∷ e.0 ∷ t ∷ []) []) (option_to_list (lookup t e.1))) (flat_map as_text (at e.0 v))) p.inner (Each-implies (λ e. Each AgreesEntry e.1) (λ e. All_agree (flat_map (λ t. map (λ s. asked s v (k ∷ e.0 ∷ t ∷ []) []) (option_to_list (lookup t e.1))) (flat_map as_text (at e.0 v)))) text_row p.inner h.2)
+    applied_good all_of = whole_row (branches p) (branches_good Agrees p h)
+    applied_good then_keyword = where_row (if_accepts S v) (asked p.whole v (k ∷ []) []) h.0
+    applied_good else_keyword = where_row (if_refuses S v) (asked p.whole v (k ∷ []) []) h.0
+    applied_good _ = tt
+
+    module _ (P Q : Path) where
+      required_row : (ns : List Name) (P' : Path) → is_empty (missing ns v) ≡ is_empty (required_faults ns v P' Q)
+      required_row ns P' = sym (is_empty-map (λ n. fault (Required n) v Q P') (missing ns v))
+
+      due_row : list_all (λ e. is_empty (missing e.1 v)) (due p v) ≡ is_empty (flat_map (λ e. required_faults e.1 v (P // k) Q) (due p v))
+      due_row = all_empty (λ e. is_empty (missing e.1 v)) (λ e. required_faults e.1 v (P // k) Q) (due p v) (Each-any (λ e. is_empty (missing e.1 v) ≡ is_empty (required_faults e.1 v (P // k) Q)) (λ e. required_row e.1 (P // k)) (due p v))
+
+      unexpected_row : (named : Bool) (ms : List (Name × Data)) → is_empty ms ≡ is_empty (unexpected_faults named ms v (P // k) Q)
+      unexpected_row named [] = refl
+      unexpected_row true (m ∷ ms) = refl
+      unexpected_row false (m ∷ ms) = refl
+
+      names_row : list_all (λ m. holds p.whole (string m.0)) (members v) ≡ is_empty (flat_map (λ m. map (wrapped v Q) (p.whole.answer.report (string m.0) (P // k) Q)) (members v))
+      names_row = all_empty (λ m. holds p.whole (string m.0)) (λ m. map (wrapped v Q) (p.whole.answer.report (string m.0) (P // k) Q)) (members v)
+          (Each-any (λ m. holds p.whole (string m.0) ≡ is_empty (map (wrapped v Q) (p.whole.answer.report (string m.0) (P // k) Q))) (λ m. h.0 (string m.0) (P // k) Q ∙ sym (is_empty-map (wrapped v Q) (p.whole.answer.report (string m.0) (P // k) Q))) (members v))
+
+      -- what a keyword wants is what its own faults are of
+      pub own_row : (w : Keyword) → wanted W u S k p v w ≡ is_empty (own W u S k p v P Q w)
+      own_row additional_properties = empty_where (is_truth false p.whole.schema) (is_empty (additional S W u v)) p.whole (λ s. unexpected_faults (has_neighbour S) (additional S W u v) v (P // k) Q) (unexpected_row (has_neighbour S) (additional S W u v))
+      own_row property_names = both_empty _ _ _ _
+          (empty_where (is_object p.whole.schema) (list_all (λ m. holds p.whole (string m.0)) (members v)) p.whole (λ s. flat_map (λ m. map (wrapped v Q) (s.answer.report (string m.0) (P // k) Q)) (members v)) names_row)
+          (not_both (is_truth false p.whole.schema) (is_empty (members v)) ∙ none_if (is_truth false p.whole.schema && not (is_empty (members v))) FalseSchema v (P // k) Q)
+      own_row required = required_row (names p) (P // k)
+      own_row dependent_required = due_row
+      own_row dependencies = due_row
+      own_row any_of = not_not (list_any (λ s. holds s v) p.items) ∙ none_if (not (list_any (λ s. holds s v) p.items)) (AnyOf (branch_faults p v (P // k) Q)) v (P // k) Q
+      own_row one_of = exactly_one (accepting p v) ∙ both_empty _ _ _ _
+          (none_if (accepting p v == 0) (OneOfNotValid (branch_faults p v (P // k) Q)) v (P // k) Q)
+          (none_if (nat_lt 1 (accepting p v)) (OneOfMultipleValid (branch_faults p v (P // k) Q)) v (P // k) Q)
+      own_row not_keyword = none_if (holds p.whole v) (Not p.whole.schema) v (P // k) Q
+      own_row leaf = sym (is_empty-map (λ t. fault (Leaf k t) v Q (P // k)) (W.faults k p.whole.schema v))
+      own_row _ = refl
+
+      pub keyword_row : (w : Keyword) → keyword_accepts W u S k p v w ≡ is_empty (keyword_report W u S k p v P Q w)
+      keyword_row w = both_empty _ _ _ _
+          (all_empty (λ a. holds a.sub a.value) (λ a. a.sub.answer.report a.value (down P a.in_schema) (down Q a.in_instance)) (applied W u S k p v w)
+          (Each-implies AgreesAsked (λ a. holds a.sub a.value ≡ is_empty (a.sub.answer.report a.value (down P a.in_schema) (down Q a.in_instance))) (λ a g. g a.value (down P a.in_schema) (down Q a.in_instance)) (applied W u S k p v w) (applied_good w)))
+          (own_row w)
+
+  keep : (S : Schema Meaning) → GoodSchema Agrees S → (v : Data) (P Q : Path) → (meaning_step W u S).accepts v ≡ is_empty ((meaning_step W u S).report v P Q)
+  keep (truth true) h v P Q = refl
+  keep (truth false) h v P Q = refl
+  keep (no_schema d) h v P Q = refl
+  keep (keywords S) h v P Q = all_empty (λ m. keyword_accepts W u S m.0 m.1 v (keyword_named W m.0)) (λ m. keyword_report W u S m.0 m.1 v P Q (keyword_named W m.0)) S
+      (Each-implies (λ m. GoodPart Agrees m.1) (λ m. keyword_accepts W u S m.0 m.1 v (keyword_named W m.0) ≡ is_empty (keyword_report W u S m.0 m.1 v P Q (keyword_named W m.0))) (λ m g. keyword_row S m.0 m.1 g v P Q (keyword_named W m.0)) S h)
+
+pub verdict_of_reports : Verdict_of_reports
+unfolding meaning
+verdict_of_reports W u S v P Q = good_answer (Agrees W u) (meaning_step W u) (λ d. keep W u (schema_read (meaning_step W u) d)) S v P Q

@@ -1,0 +1,35 @@
+//! The laws of the meaning, each the contract of a function that does nothing.
+
+ghost use Rattle.std.specs.Prelude.{codes};
+ghost use Rattle.olk_spec.specs.Laws.{Verdict_of_reports, Empty_report, Only_report, Not_not, One_branch, Passes};
+
+/// A schema accepts a value exactly where it finds no fault in it: exactly if the empty list is a report, and then it
+/// is the only one.
+pub fn one_verdict()
+    ensures verdict { Verdict_of_reports }
+    ensures empty { Empty_report }
+    ensures only { Only_report }
+{}
+
+/// `not` of `not` of a schema accepts what the schema accepts, and so do `allOf`, `anyOf` and `oneOf` with that schema
+/// as their one branch (JSON Schema 2020-12 Core, 10.2.1).
+pub fn logic()
+    ensures not_not { Not_not }
+    ensures all_of { One_branch (codes "allOf") }
+    ensures any_of { One_branch (codes "anyOf") }
+    ensures one_of { One_branch (codes "oneOf") }
+{}
+
+/// A value that is no object passes each keyword that speaks of objects, whatever that keyword's value is (JSON Schema
+/// 2020-12 Core, 10.3.2, and Validation, 6.5).
+pub fn other_values()
+    ensures properties { Passes (codes "properties") }
+    ensures pattern_properties { Passes (codes "patternProperties") }
+    ensures additional_properties { Passes (codes "additionalProperties") }
+    ensures property_names { Passes (codes "propertyNames") }
+    ensures required { Passes (codes "required") }
+    ensures dependent_required { Passes (codes "dependentRequired") }
+    ensures dependent_schemas { Passes (codes "dependentSchemas") }
+    ensures dependencies { Passes (codes "dependencies") }
+    ensures property_dependencies { Passes (codes "propertyDependencies") }
+{}
