@@ -13,3 +13,5 @@ pub mod Asks
 pub mod Malformed
 pub mod Trees
 pub mod Meaning
+pub mod Json
+pub mod Bench
