@@ -15,3 +15,5 @@ pub mod Costs
 pub mod Trees
 pub mod Meaning
 pub mod Laws
+pub mod Json
+pub mod Bench
