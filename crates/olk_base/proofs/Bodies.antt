@@ -1,5 +1,5 @@
 -- What a walk over the bodies of an alternation has read so far.
-use Rattle.std.proofs.Common.{◌≡◌, ◌≢◌, ℕ, suc, ◌<◌, ◌≤◌, Bool, true, false, cond, not, ◌&&◌, List, [], ◌∷◌, ◌++◌, map, length, chars, encode_utf8_all, encode_utf8, refl, sym, ◌∙◌, ap, subst, append_assoc, length-append, arith, IsUtf8, IsAscii, bytes_eq, Option, Some, None, zero}
+use Rattle.std.proofs.Common.{◌≡◌, ◌≢◌, ℕ, suc, ◌<◌, ◌≤◌, Bool, true, false, cond, not, ◌&&◌, List, [], ◌∷◌, ◌++◌, map, length, chars, encode_utf8_all, encode_utf8, refl, sym, ◌∙◌, ap, append_assoc, length-append, arith, IsUtf8, IsAscii, bytes_eq, Option, Some, None, zero}
 use Rattle.std.specs.Bool.{◌==◌}
 use Rattle.std.specs.List.{list_all}
 use Rattle.std.specs.Prelude.{nat_le, nat_lt, codes}

@@ -1,10 +1,10 @@
 -- What a pattern stands for, from the body at its start and what is left behind it.
-use Rattle.std.proofs.Common.{◌≡◌, ◌≢◌, ℕ, Bool, true, false, List, [], ◌∷◌, length, chars, encode_utf8_all, refl, sym, ◌∙◌, ap, bytes_eq, Option, Some, None, option_map, MatchOption}
+use Rattle.std.proofs.Common.{◌≡◌, ◌≢◌, ℕ, true, false, List, [], ◌∷◌, length, chars, encode_utf8_all, refl, sym, ◌∙◌, ap, bytes_eq, Option, Some, None, option_map, MatchOption}
 use Rattle.std.specs.Bool.{◌==◌}
 use Rattle.std.specs.Prelude.{codes}
 use Rattle.std.proofs.lemmas.Bool.Decides.{Decides-eqb}
 use Rattle.olk_spec.specs.Names.{Text, is_empty}
-use Rattle.olk_spec.specs.Literals.{body_of, bodies_of, alternation, single, suffix, anchored, literal, literal_in, Literal, IsPatternOf, starts_with_text, ends_with_text, equals_text}
+use Rattle.olk_spec.specs.Literals.{body_of, single, suffix, anchored, literal, literal_in, Literal, IsPatternOf}
 use Rattle.olk_spec.proofs.Bodies.{not_true}
 use Rattle.olk_spec.proofs.Grammar.{literal_is_grammar}
 use Rattle.olk_base.proofs.Bodies.{is_empty-encode}

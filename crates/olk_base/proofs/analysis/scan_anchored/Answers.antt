@@ -1,6 +1,6 @@
 use Rattle.std.proofs.Common.{sym, ◌∙◌, ap, nat_eq, chars, string_bytes}
 use Rattle.olk_spec.specs.Literals.{body_of}
-use Rattle.olk_base.proofs.Forms.{anchored-body, single-none, single-starts, single-equals, single-other}
+use Rattle.olk_base.proofs.Forms.{anchored-body, single-none}
 use Rattle.olk_base.proofs.analysis.scan_anchored.Goals as goal
 
 pub returns-then-is_empty : goal.returns-then-is_empty

@@ -1,6 +1,6 @@
 use Rattle.std.proofs.Common.{sym, ◌∙◌, ap, nat_eq, chars, string_bytes}
 use Rattle.olk_spec.specs.Literals.{body_of}
-use Rattle.olk_base.proofs.Forms.{suffix-none, suffix-ends, suffix-other}
+use Rattle.olk_base.proofs.Forms.{suffix-none}
 use Rattle.olk_base.proofs.analysis.scan_suffix.Goals as goal
 
 pub returns-then-is_empty : goal.returns-then-is_empty
