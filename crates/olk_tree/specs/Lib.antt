@@ -3,3 +3,7 @@ pub mod Questions
 pub mod Kit
 pub mod Answers
 pub mod Stands
+pub mod Members
+pub mod Building
+pub mod Forms
+pub mod Lists

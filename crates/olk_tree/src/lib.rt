@@ -3,6 +3,8 @@
 
 pub mod all_of;
 pub mod any_of;
+pub mod compile;
+pub mod context;
 pub mod map;
 pub mod node;
 pub mod not;

@@ -1,7 +1,11 @@
 ghost use Rattle.std.specs.Ordering.{nat_cmp};
 ghost use Rattle.std.specs.Cmp.Lexicographic.{slice_cmp};
-ghost use Rattle.std.specs.Prelude.{◌≡◌, bytes_eq, string_bytes, position};
+ghost use Rattle.std.specs.Prelude.{◌≡◌, IfOk, bytes_eq, map, string_bytes, position};
+ghost use Rattle.serde_json.specs.View.{members_view};
+ghost use Rattle.olk_spec.specs.Schemas.{listed};
 
+use crate::compile::append;
+use serde_json::{Map, Value};
 use std::alloc::{AllocError, Global};
 use std::cmp::Ordering;
 use std::marker::Model;
@@ -24,6 +28,17 @@ impl Model for SortedNames {
 }
 
 impl SortedNames {
+    /// The names of an object's members.
+    pub fn of(alloc: Global, object: &Map<String, Value>) -> Result<SortedNames, AllocError>
+        ensures { IfOk result (λ names. names ≡ map (λ m. m.0) (listed (members_view object.now.entries))) }
+    {
+        let mut names = Vec::new(alloc);
+        for (name, _) in object {
+            append(&mut names, name.clone()?)?;
+        }
+        Ok(SortedNames { names })
+    }
+
     /// At which place the name stands, found by bisection.
     pub fn find(&self, name: &str) -> Option<usize>
         ensures { result ≡ position (λ k. bytes_eq k name.now) self.now }

@@ -1,3 +1,5 @@
+ghost use Rattle.std.specs.Prelude.{◌≡◌};
+
 use crate::all_of::{AllOf, SingleValueAllOf};
 use crate::any_of::{AnyOf, SingleAnyOf};
 use crate::not::Not;
@@ -33,6 +35,29 @@ pub struct SchemaNode<K, R> {
     pub location: Location,
     pub body: Body<Keyword<K, R>>,
     pub engine: PhantomData<R>,
+}
+
+impl<K, R> SchemaNode<K, R> {
+    ghost use Rattle.olk_tree.specs.declared.node.SchemaNode.{out-SchemaNode};
+
+    /// A node at its place.
+    pub(crate) fn new(location: Location, body: Body<Keyword<K, R>>) -> Self
+        ensures place { (out-SchemaNode K R result).location ≡ location }
+        ensures body { (out-SchemaNode K R result).body ≡ body }
+    {
+        SchemaNode {
+            location,
+            body,
+            engine: PhantomData,
+        }
+    }
+
+    /// The place of the node in its schema, a JSON pointer (RFC 6901).
+    pub fn location(&self) -> &Location
+        ensures { result.now ≡ (out-SchemaNode K R self.now).location }
+    {
+        &self.location
+    }
 }
 
 /// A keyword of a schema object.

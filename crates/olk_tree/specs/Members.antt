@@ -1,0 +1,36 @@
+-- What a member of a schema object means, refuses and costs as a keyword.
+use Rattle.std.specs.Prelude.{ℕ, Bool, List}
+use Rattle.serde_json.specs.Data.{Data, Members}
+use Rattle.olk_spec.specs.Names.{Name, Path}
+use Rattle.olk_spec.specs.World.{World}
+use Rattle.olk_spec.specs.Vocabulary.{Keyword, keyword_named}
+use Rattle.olk_spec.specs.Faults.{Fault}
+use Rattle.olk_spec.specs.Schemas.{read, read_members}
+use Rattle.olk_spec.specs.Meaning.{meaning_step}
+use Rattle.olk_spec.specs.Accepts.{keyword_accepts}
+use Rattle.olk_spec.specs.Reports.{keyword_report}
+use Rattle.olk_spec.specs.Asks.{keyword_asks}
+use Rattle.olk_spec.specs.Malformed.{pending, malformations_step, malformations_beside, keyword_malformations}
+use Rattle.olk_spec.specs.Costs.{Cost, cost_step, keyword_cost}
+
+-- a schema's malformations, at its place
+abbrev pub malformations_at : World → Data → Path → List Fault
+malformations_at W S P = malformations_beside W pending S P
+
+-- m is a member of the schema object with the members ms, which stands at P
+module _ (W : World) (ms : Members) (m : Name × Data) (w : Keyword) where
+  module _ (u : Bool) where
+    abbrev pub member_accepts : Data → Bool
+    member_accepts v = keyword_accepts W u (read_members (meaning_step W u) ms) m.0 (read (meaning_step W u) m.1) v w
+
+    abbrev pub member_asks : Data → ℕ
+    member_asks v = keyword_asks W u (read_members (meaning_step W u) ms) m.0 (read (meaning_step W u) m.1) v w
+
+    abbrev pub member_report : Data → Path → Path → List Fault
+    member_report v P Q = keyword_report W u (read_members (meaning_step W u) ms) m.0 (read (meaning_step W u) m.1) v P Q w
+
+  abbrev pub member_malformations : Path → List Fault
+  member_malformations P = keyword_malformations W pending (read_members (malformations_step W pending) ms) m.0 (read (malformations_step W pending) m.1) P w
+
+  abbrev pub member_cost : Cost
+  member_cost = keyword_cost W (read_members (cost_step W) ms) m.0 (read (cost_step W) m.1) w
