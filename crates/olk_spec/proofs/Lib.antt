@@ -1,7 +1,10 @@
 pub mod Each
 pub mod Induction
+pub mod Applied
 pub mod Verdicts
 pub mod Logic
 pub mod Passing
 pub mod Order
 pub mod Reading
+pub mod Walks
+pub mod Named

@@ -13,4 +13,5 @@ pub mod Asks
 pub mod Malformed
 pub mod Trees
 pub mod Meaning
+pub mod Distinct
 pub mod Laws
