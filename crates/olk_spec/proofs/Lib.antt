@@ -8,3 +8,4 @@ pub mod Order
 pub mod Reading
 pub mod Walks
 pub mod Named
+pub mod Tree_verdicts

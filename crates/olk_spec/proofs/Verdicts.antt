@@ -61,7 +61,7 @@ not_not : (b : Bool) → b ≡ not (not b)
 not_not true = refl
 not_not false = refl
 
-exactly_one : (n : ℕ) → (n == 1) ≡ (not (n == 0) && not (nat_lt 1 n))
+pub exactly_one : (n : ℕ) → (n == 1) ≡ (not (n == 0) && not (nat_lt 1 n))
 exactly_one n = grind arith
 
 -- ---- the rows
