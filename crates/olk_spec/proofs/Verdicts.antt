@@ -66,6 +66,15 @@ exactly_one n = grind arith
 
 -- ---- the rows
 
+pub unexpected_row : (named : Bool) (ms : List (Name × Data)) (v : Data) (P Q : Path) → is_empty ms ≡ is_empty (unexpected_faults named ms v P Q)
+unexpected_row named [] v P Q = refl
+unexpected_row true (m ∷ ms) v P Q = refl
+unexpected_row false (m ∷ ms) v P Q = refl
+
+pub additional_own_row : (W : World) (u : Bool) (S : Keywords Meaning) (k : Name) (p : Part Meaning) (v : Data) (P Q : Path) → wanted W u S k p v additional_properties ≡ is_empty (own W u S k p v P Q additional_properties)
+additional_own_row W u S k p v P Q = empty_where (is_truth false p.whole.schema) (is_empty (additional S W u v)) p.whole (λ s. unexpected_faults (has_neighbour S) (additional S W u v) v (P // k) Q) (unexpected_row (has_neighbour S) (additional S W u v) v (P // k) Q)
+
+
 module _ (W : World) (u : Bool) where
   abbrev pub Agrees : Data → Meaning → Type 0
   Agrees d m = (v : Data) (P Q : Path) → m.accepts v ≡ is_empty (m.report v P Q)
@@ -78,18 +87,13 @@ module _ (W : World) (u : Bool) where
       due_row : list_all (λ e. is_empty (missing e.1 v)) (due p v) ≡ is_empty (flat_map (λ e. required_faults e.1 v (P // k) Q) (due p v))
       due_row = all_empty (λ e. is_empty (missing e.1 v)) (λ e. required_faults e.1 v (P // k) Q) (due p v) (Each-any (λ e. is_empty (missing e.1 v) ≡ is_empty (required_faults e.1 v (P // k) Q)) (λ e. required_row e.1 (P // k)) (due p v))
 
-      unexpected_row : (named : Bool) (ms : List (Name × Data)) → is_empty ms ≡ is_empty (unexpected_faults named ms v (P // k) Q)
-      unexpected_row named [] = refl
-      unexpected_row true (m ∷ ms) = refl
-      unexpected_row false (m ∷ ms) = refl
-
       names_row : list_all (λ m. holds p.whole (string m.0)) (members v) ≡ is_empty (flat_map (λ m. map (wrapped v Q) (p.whole.answer.report (string m.0) (P // k) Q)) (members v))
       names_row = all_empty (λ m. holds p.whole (string m.0)) (λ m. map (wrapped v Q) (p.whole.answer.report (string m.0) (P // k) Q)) (members v)
           (Each-any (λ m. holds p.whole (string m.0) ≡ is_empty (map (wrapped v Q) (p.whole.answer.report (string m.0) (P // k) Q))) (λ m. h.0 (string m.0) (P // k) Q ∙ sym (is_empty-map (wrapped v Q) (p.whole.answer.report (string m.0) (P // k) Q))) (members v))
 
       -- what a keyword wants is what its own faults are of
       pub own_row : (w : Keyword) → wanted W u S k p v w ≡ is_empty (own W u S k p v P Q w)
-      own_row additional_properties = empty_where (is_truth false p.whole.schema) (is_empty (additional S W u v)) p.whole (λ s. unexpected_faults (has_neighbour S) (additional S W u v) v (P // k) Q) (unexpected_row (has_neighbour S) (additional S W u v))
+      own_row additional_properties = additional_own_row W u S k p v P Q
       own_row property_names = both_empty _ _ _ _
           (empty_where (is_object p.whole.schema) (list_all (λ m. holds p.whole (string m.0)) (members v)) p.whole (λ s. flat_map (λ m. map (wrapped v Q) (s.answer.report (string m.0) (P // k) Q)) (members v)) names_row)
           (not_both (is_truth false p.whole.schema) (is_empty (members v)) ∙ none_if (is_truth false p.whole.schema && not (is_empty (members v))) FalseSchema v (P // k) Q)

@@ -33,7 +33,7 @@ abbrev pub Distinct : {X : Type 0} → List (Name × X) → Type 0
 Distinct [] = ⊤
 Distinct (m ∷ ms) = Each (λ k. bytes_eq m.0 k.0 ≡ false) ms × Distinct ms
 
-neither : (a b : Bool) → (a || b) ≡ false → (a ≡ false) × (b ≡ false)
+pub neither : (a b : Bool) → (a || b) ≡ false → (a ≡ false) × (b ≡ false)
 neither true b e = absurd (true≢false e)
 neither false b e = (refl, e)
 
