@@ -4,7 +4,7 @@ use Rattle.std.specs.List.{flat_map}
 use Rattle.serde_json.specs.Data.{Data}
 use Rattle.olk_spec.specs.Names.{Name, those, put_if, lookup}
 use Rattle.olk_spec.specs.World.{World}
-use Rattle.olk_spec.specs.Vocabulary.{Keyword, properties, pattern_properties, additional_properties, property_names, required, dependent_required, dependent_schemas, dependencies, property_dependencies, all_of, any_of, one_of, not_keyword, if_keyword, then_keyword, else_keyword, unsupported, leaf, unread}
+use Rattle.olk_spec.specs.Vocabulary.{Keyword, properties, pattern_properties, additional_properties, dependent_schemas, dependencies, property_dependencies, all_of, then_keyword, else_keyword}
 use Rattle.olk_spec.specs.Schemas.{at, as_text, has, is_array, is_object, Keywords, Part, members, branches}
 use Rattle.olk_spec.specs.Meanings.{Meaning, Subschema, applied, additional, Asked, asked, asked_whole, matches, is_declared, matching, if_accepts, if_refuses}
 use Rattle.olk_spec.specs.Names.{is_empty}

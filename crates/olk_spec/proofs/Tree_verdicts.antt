@@ -1,32 +1,33 @@
 -- A tree is valid exactly where its schema accepts.
-use Rattle.std.specs.Prelude.{◌≡◌, ⊤, ℕ, ◌+◌, Bool, true, false, not, cond, ◌&&◌, ◌||◌, ◌==◌, nat_lt, nat_eq, List, [], ◌∷◌, ◌++◌, map, codes, count_by, length, Option, Some, None, option_to_list, bytes_eq, is_some}
+use Rattle.std.specs.Prelude.{◌≡◌, ℕ, ◌+◌, Bool, true, false, not, cond, ◌&&◌, ◌||◌, ◌==◌, nat_lt, nat_eq, List, [], ◌∷◌, ◌++◌, map, codes, count_by, length, Option, Some, None, option_to_list, bytes_eq, is_some}
 use Rattle.std.specs.List.{flat_map, list_all, list_any}
 use Rattle.std.proofs.Common.{refl, sym, ◌∙◌, ap, subst, arith}
 use Rattle.std.proofs.lemmas.List.{append-nil}
 use Rattle.std.proofs.lemmas.List.Sums.{sum_by-cons}
 use Rattle.std.proofs.lemmas.List.Folds.{list_all-append, list_all-map}
 use mathlib.Core.Bool.{true≢false}
-use Rattle.serde_json.specs.Data.{Data, null, boolean, number, string, array, object, Items, Members, no_members, member}
+use Rattle.serde_json.specs.Data.{Data, null, boolean, number, string, array, object, Items, no_items, item, Members, no_members, member}
 use Rattle.olk_spec.specs.Names.{Name, Path, ◌//◌, down, those, put_if, is_empty, is_among, lookup}
 use Rattle.olk_spec.specs.World.{World}
-use Rattle.olk_spec.specs.Vocabulary.{Keyword, properties, pattern_properties, additional_properties, property_names, required, dependent_required, dependent_schemas, dependencies, property_dependencies, all_of, any_of, one_of, not_keyword, if_keyword, then_keyword, else_keyword, unsupported, leaf, unread, keyword_named}
-use Rattle.olk_spec.specs.Schemas.{at, has, is_array, is_object, is_truth, Schema, truth, keywords, no_schema, Keywords, Part, listed, members, branches, names, texts, read, read_members, name_lists, parts_at, entries_at, names_at, wholes_at, is_present}
-use Rattle.olk_spec.specs.Meanings.{Meaning, Subschema, holds, applied, additional, Asked, asked, asked_whole, matches, matching, restricts, is_declared, is_conditional, if_accepts, if_refuses}
+use Rattle.olk_spec.specs.Vocabulary.{Keyword, properties, pattern_properties, additional_properties, property_names, required, dependent_required, dependent_schemas, dependencies, property_dependencies, all_of, any_of, one_of, not_keyword, if_keyword, then_keyword, else_keyword, leaf, keyword_named}
+use Rattle.olk_spec.specs.Schemas.{at, has, is_array, is_object, is_truth, Schema, Keywords, Part, listed, members, branches, names, texts, read, read_members, name_lists, parts_at, entries_at, names_at, wholes_at, is_present}
+use Rattle.olk_spec.specs.Meanings.{Meaning, Subschema, holds, applied, additional, Asked, asked, matches, matching, restricts, is_declared, is_conditional, if_accepts, if_refuses}
 use Rattle.olk_spec.specs.Accepts.{wanted, keyword_accepts, missing, due, accepting}
 use Rattle.olk_spec.specs.Faults.{Fault, fault, FalseSchema, Not, Required, Leaf, Kind}
 use Rattle.olk_spec.specs.Reports.{fault_if, required_faults, own}
 use Rattle.olk_spec.specs.Tree.{Tree, node, no_tree, Described, is_valid, result, result_node, plain, erring, described, described_fault, trees_from}
-use Rattle.olk_spec.specs.Trees.{where_so, declared_trees, pattern_trees, additional_trees, additional_names, matched_names, on_objects, missing_child, branch_trees, asked_trees, properties_child, patterns_child, additional_child, names_child, required_child, due_trees, dependency_tree, any_of_child, one_of_child, are_two, case_trees, if_child, keyword_child, fuses_one, fuses_two, declares, has_patterns}
+use Rattle.olk_spec.specs.Trees.{where_so, declared_trees, pattern_trees, additional_trees, additional_names, matched_names, on_objects, missing_child, branch_trees, asked_trees, additional_child, names_child, due_trees, dependency_tree, any_of_child, one_of_child, are_two, case_trees, if_child, keyword_child, fuses_one, fuses_two, declares, has_patterns}
 use Rattle.olk_spec.specs.Meaning.{meaning, meaning_step}
-use Rattle.olk_spec.specs.Distinct.{DistinctNames, DistinctInMembers}
+use Rattle.olk_spec.specs.Distinct.{DistinctNames, DistinctInItems, DistinctInMembers}
 use Rattle.olk_spec.specs.Laws.{Verdict_of_trees}
-use Rattle.olk_spec.proofs.Each.{Each, On, Each-implies, Each-map, Each-flat_map, Each-those, Each-any, Each-option, Each-both, On-lookup, On-implies}
-use Rattle.olk_spec.proofs.Induction.{sound_answer, schema_read, GoodSub, GoodEntry, GoodSchema, GoodKeywords, GoodPart, branches_good, entries_at_good, wholes_at_good}
+use Rattle.olk_spec.proofs.Each.{Each, On, Each-implies, Each-those, Each-option, Each-both, On-lookup}
+use Rattle.olk_spec.proofs.Induction.{sound_answer, EachItem, EachMember, schema_read, GoodSub, GoodEntry, GoodSchema, GoodKeywords, GoodPart, branches_good, entries_at_good, wholes_at_good}
 use Rattle.olk_spec.proofs.Applied.{GoodAsked, applied_good}
 use Rattle.olk_spec.proofs.Passing.{or_true, flat_map-none}
-use Rattle.olk_spec.proofs.Walks.{neither, bytes_eq-itself, Distinct, Distinct-from, Distinct-map, same_name, On-lookup-named, Each-found, list_all-flat_map, list_all-and, list_all-true, list_all-same, list_all-where, list_all-those, list_all-inside_out, list_all-other_side}
+use Rattle.olk_spec.proofs.Walks.{neither, bytes_eq-itself, Distinct, Distinct-from, Distinct-map, same_name, On-lookup-named, Each-found, list_all-flat_map, list_all-and, list_all-same, list_all-where, list_all-those, list_all-inside_out, list_all-other_side}
 use Rattle.olk_spec.proofs.Named.{Named, named}
-use Rattle.olk_spec.proofs.Verdicts.{is_empty-append, is_empty-nil, is_empty-map, exactly_one, additional_own_row}
+use Rattle.olk_spec.proofs.Reading.{members_read, entries_read, place}
+use Rattle.olk_spec.proofs.Verdicts.{is_empty-map, exactly_one, additional_own_row}
 
 -- ---- results
 
@@ -330,8 +331,8 @@ module _ (W : World) (u : Bool) (S : Keywords Meaning) (h : GoodKeywords TreeAgr
         list_all-flat_map is_valid (additional_trees W u S v P Q k p) (members v)
         ∙ list_all-same (λ m. list_all is_valid (additional_trees W u S v P Q k p m)) (λ m. not (is_additional m.0) || (not (is_object p.whole.schema) || holds p.whole m.1)) (members v) (Each-implies (λ m. DistinctNames m.1 × (is_among m.0 (map (λ e. e.0) (members v)) ≡ true)) (λ m. list_all is_valid (additional_trees W u S v P Q k p m) ≡ (not (is_additional m.0) || (not (is_object p.whole.schema) || holds p.whole m.1))) of_member (members v) (Each-both (λ m. DistinctNames m.1) (λ m. is_among m.0 (map (λ e. e.0) (members v)) ≡ true) (members v) fines (Each-among (members v))))
         ∙ sym (list_all-flat_map (λ a. holds a.sub a.value) (λ m. put_if (is_object p.whole.schema) (asked p.whole m.1 (k ∷ []) (m.0 ∷ [])) []) (additional S W u v)
-            ∙ (λ i. list_all (λ m. list_all-where (λ a. holds a.sub a.value) (is_object p.whole.schema) (asked p.whole m.1 (k ∷ []) (m.0 ∷ [])) i) (additional S W u v))
-            ∙ list_all-those (λ m. not (is_object p.whole.schema) || holds p.whole m.1) (λ m. is_additional m.0) (members v))
+        ∙ (λ i. list_all (λ m. list_all-where (λ a. holds a.sub a.value) (is_object p.whole.schema) (asked p.whole m.1 (k ∷ []) (m.0 ∷ [])) i) (additional S W u v))
+        ∙ list_all-those (λ m. not (is_object p.whole.schema) || holds p.whole m.1) (λ m. is_additional m.0) (members v))
       where
         of_member : (m : Name × Data) → DistinctNames m.1 × (is_among m.0 (map (λ e. e.0) (members v)) ≡ true) → list_all is_valid (additional_trees W u S v P Q k p m) ≡ (not (is_additional m.0) || (not (is_object p.whole.schema) || holds p.whole m.1))
         of_member m c = where_valid (is_object p.whole.schema && is_among m.0 (additional_names W u S v P Q)) (p.whole.answer.tree m.1 (P // k) (Q // m.0)) (holds p.whole m.1) (g.0 m.1 (P // k) (Q // m.0) c.0)
@@ -350,8 +351,10 @@ module _ (W : World) (u : Bool) (S : Keywords Meaning) (h : GoodKeywords TreeAgr
       where
         ds : Name × Data → List Tree
         ds m = declared_trees W u S v P Q m
+
         ps : Name × Data → List Tree
         ps m = pattern_trees W u S v P Q m
+
         rs : Name × Data → List Tree
         rs m = additional_trees W u S v P Q k p m
 
@@ -385,7 +388,7 @@ module _ (W : World) (u : Bool) (S : Keywords Meaning) (h : GoodKeywords TreeAgr
     names_row =
         list_all-append is_valid (where_so (is_object p.whole.schema) (plain (P // k) Q name_trees)) (where_so (is_truth false p.whole.schema) (erring (P // k) Q none_allowed))
         ∙ (λ i. where_valid (is_object p.whole.schema) (plain (P // k) Q name_trees) (list_all (λ m. holds p.whole (string m.0)) (members v)) (is_valid-plain (P // k) Q name_trees ∙ names_valid) i
-            && where_valid (is_truth false p.whole.schema) (erring (P // k) Q none_allowed) (is_empty (members v)) (is_valid-erring (P // k) Q none_allowed ∙ none_where (not (is_empty (members v))) FalseSchema v (P // k) Q ∙ not_not (is_empty (members v))) i)
+        && where_valid (is_truth false p.whole.schema) (erring (P // k) Q none_allowed) (is_empty (members v)) (is_valid-erring (P // k) Q none_allowed ∙ none_where (not (is_empty (members v))) FalseSchema v (P // k) Q ∙ not_not (is_empty (members v))) i)
       where
         name_trees : List Tree
         name_trees = map (λ m. p.whole.answer.tree (string m.0) (P // k) Q) (members v)
@@ -682,9 +685,42 @@ module _ (W : World) (u : Bool) (S : Keywords Meaning) (h : GoodKeywords TreeAgr
   shown_is_accepted : list_all shows_each S ≡ list_all accepts_each S
   shown_is_accepted = same_truth (list_all shows_each S) (list_all accepts_each S)
       (λ e. let t : Each (λ m. shows_each m ≡ true) S = each_true shows_each S e in
-        all_true accepts_each S (Each-implies (λ m. (shows_each m ≡ true) × (lookup m.0 S ≡ Some m.1)) (λ m. accepts_each m ≡ true) (λ m c. accepts_where_shown (λ n. On-lookup-named (λ k p. shown k p (keyword_named W k) ≡ true) n S t) m.0 m.1 (keyword_named W m.0) (named m.0 W) c.1 c.0) S (Each-both (λ m. shows_each m ≡ true) (λ m. lookup m.0 S ≡ Some m.1) S t (Each-found S dS))))
+      all_true accepts_each S (Each-implies (λ m. (shows_each m ≡ true) × (lookup m.0 S ≡ Some m.1)) (λ m. accepts_each m ≡ true) (λ m c. accepts_where_shown (λ n. On-lookup-named (λ k p. shown k p (keyword_named W k) ≡ true) n S t) m.0 m.1 (keyword_named W m.0) (named m.0 W) c.1 c.0) S (Each-both (λ m. shows_each m ≡ true) (λ m. lookup m.0 S ≡ Some m.1) S t (Each-found S dS))))
       (λ e. let t : Each (λ m. accepts_each m ≡ true) S = each_true accepts_each S e in
-        all_true shows_each S (Each-implies (λ m. accepts_each m ≡ true) (λ m. shows_each m ≡ true) (λ m c. shown_where_accepts (λ n. On-lookup-named (λ k p. keyword_accepts W u S k p v (keyword_named W k) ≡ true) n S t) m.0 m.1 (keyword_named W m.0) c) S t))
+      all_true shows_each S (Each-implies (λ m. accepts_each m ≡ true) (λ m. shows_each m ≡ true) (λ m c. shown_where_accepts (λ n. On-lookup-named (λ k p. keyword_accepts W u S k p v (keyword_named W k) ≡ true) n S t) m.0 m.1 (keyword_named W m.0) c) S t))
 
   pub object_row : is_valid (plain P Q (flat_map (λ m. keyword_child W u S v P Q m.0 m.1 (keyword_named W m.0)) S)) ≡ list_all accepts_each S
   object_row = is_valid-plain P Q (flat_map (λ m. keyword_child W u S v P Q m.0 m.1 (keyword_named W m.0)) S) ∙ children_row ∙ shown_is_accepted
+
+-- ---- the recursion
+
+items_distinct : (ds : Items) → DistinctInItems ds → EachItem DistinctNames ds
+items_distinct no_items h = tt
+items_distinct (item d ds) h = (h.0, items_distinct ds h.1)
+
+members_distinct : (ms : Members) → DistinctInMembers ms → EachMember DistinctNames ms
+members_distinct no_members h = tt
+members_distinct (member n d ms) h = (h.0, members_distinct ms h.1)
+
+module _ (W : World) (u : Bool) where
+  abbrev step : Schema Meaning → Meaning
+  step = meaning_step W u
+
+  keywords_distinct : (ms : Members) → DistinctNames (object ms) → Distinct (read_members step ms)
+  keywords_distinct ms h = subst Distinct (sym (members_read step ms)) (Distinct-map (read step) (listed ms) (Distinct-from (listed ms) h.0))
+
+  entries_distinct_in : (ms : Members) → DistinctInMembers ms → Each (λ m. Distinct m.1.entries) (read_members step ms)
+  entries_distinct_in no_members h = tt
+  entries_distinct_in (member n d ms) h = (subst Distinct (sym (entries_read step d)) (Distinct-map (place step) (members d) (Distinct-members d h.0)), entries_distinct_in ms h.1)
+
+  keep : (d : Data) → DistinctNames d → GoodSchema TreeAgrees (schema_read step d) → TreeAgrees d (step (schema_read step d))
+  keep null s h v P Q dv = refl
+  keep (boolean b) s h v P Q dv = is_valid-erring P Q (fault_if (not b) FalseSchema v P Q) ∙ none_where (not b) FalseSchema v P Q ∙ not_not b
+  keep (number n) s h v P Q dv = refl
+  keep (string t) s h v P Q dv = refl
+  keep (array ds) s h v P Q dv = refl
+  keep (object ms) s h v P Q dv = object_row W u (read_members step ms) h (keywords_distinct ms s) (entries_distinct_in ms s.1) v dv P Q
+
+pub verdict_of_trees : Verdict_of_trees
+unfolding meaning
+verdict_of_trees W u S v P Q s dv = sound_answer TreeAgrees DistinctNames items_distinct (λ ms h. members_distinct ms h.1) (meaning_step W u) (keep W u) S s v P Q dv

@@ -1,22 +1,22 @@
 -- A schema accepts exactly where it finds no fault.
-use Rattle.std.specs.Prelude.{◌≡◌, ⊤, ℕ, Bool, true, false, not, ◌&&◌, ◌||◌, ◌==◌, nat_lt, List, [], ◌∷◌, ◌++◌, map, option_to_list}
+use Rattle.std.specs.Prelude.{◌≡◌, ⊤, ℕ, Bool, true, false, not, ◌&&◌, ◌||◌, ◌==◌, nat_lt, List, [], ◌∷◌, ◌++◌, map}
 use Rattle.std.specs.List.{flat_map, list_all, list_any}
 use Rattle.std.proofs.Common.{refl, sym, ◌∙◌}
 use native.Mathlib.Omega.{arith}
 use Rattle.serde_json.specs.Data.{Data, string}
-use Rattle.olk_spec.specs.Names.{Name, Path, ◌//◌, down, those, put_if, is_empty, lookup}
+use Rattle.olk_spec.specs.Names.{Name, Path, ◌//◌, down, put_if, is_empty}
 use Rattle.olk_spec.specs.World.{World}
-use Rattle.olk_spec.specs.Vocabulary.{Keyword, properties, pattern_properties, additional_properties, property_names, required, dependent_required, dependent_schemas, dependencies, property_dependencies, all_of, any_of, one_of, not_keyword, then_keyword, else_keyword, leaf, keyword_named}
-use Rattle.olk_spec.specs.Schemas.{at, as_text, has, is_array, is_object, is_truth, Schema, truth, keywords, no_schema, Keywords, Part, members, branches, names}
-use Rattle.olk_spec.specs.Meanings.{Meaning, Subschema, holds, applied, additional, Asked, asked, asked_whole, matches, if_accepts, if_refuses}
+use Rattle.olk_spec.specs.Vocabulary.{Keyword, additional_properties, property_names, required, dependent_required, dependencies, any_of, one_of, not_keyword, leaf, keyword_named}
+use Rattle.olk_spec.specs.Schemas.{is_object, is_truth, Schema, truth, keywords, no_schema, Keywords, Part, members, names}
+use Rattle.olk_spec.specs.Meanings.{Meaning, holds, applied, additional}
 use Rattle.olk_spec.specs.Accepts.{wanted, keyword_accepts, missing, due, accepting}
 use Rattle.olk_spec.specs.Faults.{fault, FalseSchema, Not, Required, Leaf, AnyOf, OneOfNotValid, OneOfMultipleValid, Kind}
 use Rattle.olk_spec.specs.Reports.{branch_faults, fault_if, required_faults, unexpected_faults, has_neighbour, wrapped, own, keyword_report}
 use Rattle.olk_spec.specs.Meaning.{meaning, meaning_step}
 use Rattle.olk_spec.specs.Laws.{Verdict_of_reports}
-use Rattle.olk_spec.proofs.Each.{Each, Each-implies, Each-map, Each-flat_map, Each-those, Each-any, Each-option, On-lookup}
+use Rattle.olk_spec.proofs.Each.{Each, Each-implies, Each-any}
 use Rattle.olk_spec.proofs.Applied.{GoodAsked, applied_good}
-use Rattle.olk_spec.proofs.Induction.{good_answer, schema_read, GoodSchema, GoodPart, branches_good}
+use Rattle.olk_spec.proofs.Induction.{good_answer, schema_read, GoodSchema, GoodPart}
 
 -- ---- lists
 
@@ -73,7 +73,6 @@ unexpected_row false (m ∷ ms) v P Q = refl
 
 pub additional_own_row : (W : World) (u : Bool) (S : Keywords Meaning) (k : Name) (p : Part Meaning) (v : Data) (P Q : Path) → wanted W u S k p v additional_properties ≡ is_empty (own W u S k p v P Q additional_properties)
 additional_own_row W u S k p v P Q = empty_where (is_truth false p.whole.schema) (is_empty (additional S W u v)) p.whole (λ s. unexpected_faults (has_neighbour S) (additional S W u v) v (P // k) Q) (unexpected_row (has_neighbour S) (additional S W u v) v (P // k) Q)
-
 
 module _ (W : World) (u : Bool) where
   abbrev pub Agrees : Data → Meaning → Type 0

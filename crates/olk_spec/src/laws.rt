@@ -1,7 +1,7 @@
 //! The laws of the meaning, each the contract of a function that does nothing.
 
 ghost use Rattle.std.specs.Prelude.{codes};
-ghost use Rattle.olk_spec.specs.Laws.{Verdict_of_reports, Empty_report, Only_report, Not_not, One_branch, Passes};
+ghost use Rattle.olk_spec.specs.Laws.{Verdict_of_reports, Empty_report, Only_report, Not_not, One_branch, Passes, Verdict_of_trees};
 
 /// A schema accepts a value exactly where it finds no fault in it: exactly if the empty list is a report, and then it
 /// is the only one.
@@ -9,6 +9,12 @@ pub fn one_verdict()
     ensures verdict { Verdict_of_reports }
     ensures empty { Empty_report }
     ensures only { Only_report }
+{}
+
+/// The tree of a schema over a value is valid exactly where the schema accepts the value, for every schema and value in
+/// which no object has a name twice (RFC 8259, 4), malformed schemas among them.
+pub fn tree_verdict()
+    ensures { Verdict_of_trees }
 {}
 
 /// `not` of `not` of a schema accepts what the schema accepts, and so do `allOf`, `anyOf` and `oneOf` with that schema
