@@ -1,0 +1,6 @@
+pub mod Bodies
+pub mod CountLemmas
+pub mod Forms
+pub mod Heads
+pub mod Scan
+pub mod Texts

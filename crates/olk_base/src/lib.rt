@@ -1,6 +1,18 @@
 //! Names, patterns, the traits of leaves and matchers, the meter and the context.
 #![tactic(auto)]
 
+pub mod analysis;
+pub mod context;
+pub mod meter;
+pub mod names;
 pub mod node;
+pub mod pattern;
+pub mod traits;
 
+pub use analysis::{PatternOptimization, analyze_pattern, contains_ecma_whitespace};
+pub use context::ValidationContext;
+pub use meter::Meter;
+pub use names::{KeyHead, PropertyName};
 pub use node::{JsonType, Node};
+pub use pattern::{CompiledPattern, PropertyPattern};
+pub use traits::{Leaf, MakeError, MakeLeaf, MakeRegex, RegexEngine, Unfinished};

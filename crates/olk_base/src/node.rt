@@ -1,3 +1,4 @@
+//! What a schema is asked about.
 ghost use Rattle.std.specs.Prelude.{◌≡◌, option_map};
 ghost use Rattle.olk_base.specs.Nodes.{tree_of, type_of};
 ghost use Rattle.serde_json.specs.Find.{as_object};
@@ -5,6 +6,7 @@ ghost use Rattle.serde_json.specs.View.{members_view};
 
 use serde_json::{Map, Value};
 
+/// The six types of JSON values (JSON Schema 2020-12 Core, 4.2.1). A whole number is a number.
 #[derive(Debug, Clone, Copy, PartialEq, Eq)]
 pub enum JsonType {
     Null,
@@ -15,6 +17,8 @@ pub enum JsonType {
     Object,
 }
 
+/// A JSON value, or the name of a member, which is asked as the text that it spells
+/// (JSON Schema 2020-12 Core, 10.3.2.4).
 #[derive(Clone, Copy)]
 pub enum Node<'a> {
     Value(&'a Value),
@@ -22,6 +26,7 @@ pub enum Node<'a> {
 }
 
 impl<'a> Node<'a> {
+    /// The members, where the node is an object; a name is none.
     pub fn as_object(self) -> Option<&'a Map<String, Value>>
         ensures { option_map (λ m. members_view m.now.entries) result ≡ as_object (tree_of self.entry) }
     {
@@ -31,6 +36,7 @@ impl<'a> Node<'a> {
         }
     }
 
+    /// The type of the value (JSON Schema 2020-12 Core, 4.2.1); that of a name is `String`.
     pub fn json_type(self) -> JsonType
         ensures { result ≡ type_of (tree_of self.entry) }
     {

@@ -1,3 +1,6 @@
+pub mod Bodies
+pub mod Grammar
+pub mod LiteralForms
 pub mod Each
 pub mod Induction
 pub mod Applied

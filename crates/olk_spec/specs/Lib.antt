@@ -11,7 +11,10 @@ pub mod Accepts
 pub mod Reports
 pub mod Asks
 pub mod Malformed
+pub mod Costs
 pub mod Trees
 pub mod Meaning
 pub mod Distinct
 pub mod Laws
+pub mod Json
+pub mod Bench

@@ -1,12 +1,12 @@
--- What a schema reads, what makes it malformed, and what a build counts.
-use Rattle.std.specs.Prelude.{ℕ, ◌+◌, ◌*◌, Bool, true, false, cond, not, ◌||◌, List, [], ◌∷◌, ◌++◌, map, length, codes, sum_by}
+-- What a schema reads, and what makes it malformed.
+use Rattle.std.specs.Prelude.{Bool, true, false, cond, not, ◌||◌, List, [], ◌∷◌, ◌++◌, map, codes}
 use Rattle.std.specs.List.{flat_map}
 use Rattle.serde_json.specs.Data.{Data, string, array, Items, no_items, item}
 use Rattle.olk_spec.specs.Names.{Name, Path, ◌//◌, down, is_among, those, put_if}
 use Rattle.olk_spec.specs.World.{World}
 use Rattle.olk_spec.specs.Vocabulary.{Keyword, properties, pattern_properties, additional_properties, property_names, required, dependent_required, dependent_schemas, dependencies, property_dependencies, all_of, any_of, one_of, not_keyword, if_keyword, then_keyword, else_keyword, unsupported, leaf, keyword_named}
-use Rattle.olk_spec.specs.Schemas.{Sub, Part, Schema, truth, keywords, no_schema, Keywords, answer_for, is_object, is_array, is_truth, texts, is_present, entries_at, branches}
-use Rattle.olk_spec.specs.Meanings.{restricts, is_conditional}
+use Rattle.olk_spec.specs.Schemas.{Sub, Part, Schema, truth, keywords, no_schema, Keywords, answer_for, is_object, is_array, is_truth, texts, is_present, branches}
+use Rattle.olk_spec.specs.Meanings.{is_conditional}
 use Rattle.olk_spec.specs.Asks.{open_patterns}
 use Rattle.olk_spec.specs.Faults.{Fault, fault, Kind, SingleType, MultipleTypes, UniqueItems, Regex, Unsupported, LeafRefused, array_type, object_type, string_type}
 
@@ -135,43 +135,3 @@ module _ (W : World) where
 
   abbrev pub malformations : Data → List Fault
   malformations S = malformations_beside pending S []
-
-  -- ---- counts
-
-  -- the sum over all read places, where each counts `here` and a keyword what `of_keyword` says
-  module _ (here : ℕ) (of_keyword : Keywords ℕ → Part ℕ → Keyword → ℕ) where
-    abbrev pub keyword_count : Keywords ℕ → Name → Part ℕ → Keyword → ℕ
-    keyword_count S k p w = of_keyword S p w + sum_by (λ r. r.0.answer) (read_places k S p w)
-
-    abbrev pub count_step : Schema ℕ → ℕ
-    count_step (truth b) = here
-    count_step (no_schema d) = here
-    count_step (keywords S) = here + sum_by (λ m. keyword_count S m.0 m.1 (keyword_named W m.0)) S
-
-  abbrev pub no_count : {X : Type 0} → Keywords X → Part X → Keyword → ℕ
-  no_count S p w = 0
-
-  abbrev pub leaf_count : {X : Type 0} → Keywords X → Part X → Keyword → ℕ
-  leaf_count S p leaf = 1
-  leaf_count S p _ = 0
-
-  abbrev pub pattern_count : {X : Type 0} → Keywords X → Part X → Keyword → ℕ
-  pattern_count S p pattern_properties = length (open_patterns W p)
-  pattern_count S p _ = 0
-
-  -- where there is a table, each matcher is asked for each declared name
-  abbrev pub table_count : {X : Type 0} → Keywords X → Part X → Keyword → ℕ
-  table_count S p pattern_properties = cond (restricts S) (length (entries_at S (codes "properties")) * length (open_patterns W p)) 0
-  table_count S p _ = 0
-
-  unfoldable pub places : Data → ℕ
-  places = answer_for (count_step 1 no_count)
-
-  unfoldable pub leaf_places : Data → ℕ
-  leaf_places = answer_for (count_step 0 leaf_count)
-
-  unfoldable pub pattern_places : Data → ℕ
-  pattern_places = answer_for (count_step 0 pattern_count)
-
-  unfoldable pub table_asks : Data → ℕ
-  table_asks = answer_for (count_step 0 table_count)

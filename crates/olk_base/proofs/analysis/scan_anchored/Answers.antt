@@ -1,0 +1,10 @@
+use Rattle.std.proofs.Common.{sym, ◌∙◌, ap, nat_eq, chars, string_bytes}
+use Rattle.olk_spec.specs.Literals.{body_of}
+use Rattle.olk_base.proofs.Forms.{anchored-body, single-none}
+use Rattle.olk_base.proofs.analysis.scan_anchored.Goals as goal
+
+pub returns-then-is_empty : goal.returns-then-is_empty
+returns-then-is_empty c =
+    let none = ap (λ n. nat_eq n 0) (sym c.in_ok-text.text.bytes.ok.0) ∙ sym c.is_empty.ensures ∙ c.if-is_empty.true in
+    sym (anchored-body (chars c.args.pattern.now) c.in_default.ensures.cases
+    ∙ single-none (body_of (chars c.args.pattern.now)) (string_bytes c.in_ok-text.text) c.in_ok-text.ensures.text none)

@@ -1,0 +1,22 @@
+-- Paths as texts.
+use Rattle.std.specs.Prelude.{◌≡◌, ◌≢◌, ℕ, ◌<◌, [], ◌∷◌, length, slice_index, if◌then◌else◌, ◌==◌}
+use Rattle.std.specs.Char.{encode_utf8}
+use Rattle.olk_spec.specs.Names.{Text, Name, Path, ◌//◌}
+
+-- one segment further down
+abbrev pub one_below : Path → Name → Path
+one_below path segment = path // segment
+
+-- the last `/` of the path stands at n
+pub record HasLastSlash (path : Path) (n : ℕ) : Type 0 where
+  pub within : n < length path
+  pub is_slash : slice_index path n ≡ 47
+  pub is_last : (k : ℕ) → n < k → k < length path → slice_index path k ≢ 47
+
+abbrev pub IsEmptyOrSlash : Text → Type 0
+IsEmptyOrSlash [] = Unit {0}
+IsEmptyOrSlash (b ∷ bs) = b ≡ 47
+
+-- what a character of a segment is written as
+abbrev pub escaped_char : ℕ → Text
+escaped_char c = if c == 126 then 126 ∷ 48 ∷ [] else (if c == 47 then 126 ∷ 49 ∷ [] else encode_utf8 c)

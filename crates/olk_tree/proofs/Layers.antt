@@ -1,0 +1,69 @@
+-- One level of a node: its answers, over those of the nodes below it.
+use Rattle.std.specs.Prelude.{◌≡◌, Bool, not, List, [], ◌∷◌, map, codes}
+use Rattle.std.specs.List.{flat_map}
+use Rattle.std.proofs.Common.{refl, ap, ◌∙◌}
+use Rattle.serde_json.specs.Data.{Data}
+use Rattle.olk_spec.specs.Names.{Path, ◌//◌}
+use Rattle.olk_spec.specs.Faults.{Fault, AnyOf, context}
+use Rattle.olk_spec.specs.Schemas.{at}
+use Rattle.olk_spec.specs.Reports.{fault_if}
+use Rattle.olk_tree.specs.Kit.{Kit}
+use Rattle.olk_tree.specs.Questions.{every, some}
+use Rattle.olk_tree.specs.Answers.{Answers, keyword_means, body_means, keyword_finds, body_finds, node_step, answers}
+use Rattle.olk_tree.specs.declared.node.KeywordOver.{KeywordOver}
+use Rattle.olk_tree.specs.declared.node.KeywordOver.TheVariants as keyword
+use Rattle.olk_tree.specs.declared.node.Body.{Body}
+use Rattle.olk_tree.specs.declared.node.Body.TheVariants.{True, False, Keywords}
+use Rattle.olk_tree.specs.declared.node.SchemaNode.{SchemaNode, map-SchemaNode, out-SchemaNode, fold_out-SchemaNode}
+use Rattle.olk_tree.specs.declared.node.SchemaNode.TheOpen.{SchemaNode-F}
+use Rattle.olk_tree.proofs.Maps.{every-map, some-map, every-beside, flat_map-map, flat_map-beside, map-map}
+
+module _ {K R : Type 0} (o : Kit K R) where
+  abbrev opened : SchemaNode-F K R (SchemaNode K R) → Body (KeywordOver K (SchemaNode K R)) → SchemaNode-F K R Answers
+  opened n b = map-SchemaNode K R (SchemaNode K R) Answers (answers o) record n { body = b }
+
+  means_layer : (n : SchemaNode-F K R (SchemaNode K R)) (b : Body (KeywordOver K (SchemaNode K R))) (v : Data)
+      → (node_step o (opened n b)).means v ≡ body_means (keyword_means o.finds (λ n. (answers o n).means)) b v
+  unfolding keyword_means
+  means_layer n True v = refl
+  means_layer n False v = refl
+  means_layer n (Keywords ks) v = every-map (λ k. keyword_means o.finds (λ a. a.means) k v) (λ k. keyword_means o.finds (λ n. (answers o n).means) k v) _ (elim [
+    | keyword.Properties k ↦ every-beside (λ e. every e.1.means (at e.0 v)) (λ e. every (answers o e.1).means (at e.0 v)) (answers o) (λ a y. refl) k.properties.names k.properties.nodes.items
+    | keyword.Required k ↦ refl
+    | keyword.AllOf k ↦ every-map (λ a. a.means v) (λ n. (answers o n).means v) (answers o) (λ n. refl) k.schemas.items
+    | keyword.SingleValueAllOf k ↦ refl
+    | keyword.AnyOf k ↦ some-map (λ a. a.means v) (λ n. (answers o n).means v) (answers o) (λ n. refl) k.schemas.items
+    | keyword.SingleAnyOf k ↦ refl
+    | keyword.Not k ↦ refl
+    | keyword.Leaf p l ↦ refl
+  ]) ks.items
+
+  finds_layer : (n : SchemaNode-F K R (SchemaNode K R)) (b : Body (KeywordOver K (SchemaNode K R))) (u : Bool) (v : Data) (Q : Path)
+      → (node_step o (opened n b)).report u v Q ≡ body_finds (keyword_finds o.finds (λ n. (answers o n).means) o.keyword_of (λ n. (answers o n).report) u) n.location b v Q
+  unfolding keyword_finds
+  finds_layer n True u v Q = refl
+  finds_layer n False u v Q = refl
+  finds_layer n (Keywords ks) u v Q = flat_map-map (λ k. keyword_finds o.finds (λ a. a.means) o.keyword_of (λ a. a.report) u k v Q) (λ k. keyword_finds o.finds (λ n. (answers o n).means) o.keyword_of (λ n. (answers o n).report) u k v Q) _ (elim [
+    | keyword.Properties k ↦ flat_map-beside (λ e. flat_map (λ x. e.1.report u x (Q // e.0)) (at e.0 v)) (λ e. flat_map (λ x. (answers o e.1).report u x (Q // e.0)) (at e.0 v)) (answers o) (λ a y. refl) k.properties.names k.properties.nodes.items
+    | keyword.Required k ↦ refl
+    | keyword.AllOf k ↦ flat_map-map (λ a. a.report u v Q) (λ n. (answers o n).report u v Q) (answers o) (λ n. refl) k.schemas.items
+    | keyword.SingleValueAllOf k ↦ refl
+    | keyword.AnyOf k ↦ λ i. fault_if (not ((some-map (λ a. a.means v) (λ n. (answers o n).means v) (answers o) (λ n. refl) k.schemas.items i).accepts u)) (AnyOf (context (map-map (λ a. a.report u v Q) (λ n. (answers o n).report u v Q) (answers o) (λ n. refl) k.schemas.items i))) v k.location Q
+    | keyword.SingleAnyOf k ↦ refl
+    | keyword.Not k ↦ refl
+    | keyword.Leaf p l ↦ refl
+  ]) ks.items
+
+  pub node_means : (n : SchemaNode K R) (v : Data) → (answers o n).means v ≡ body_means (keyword_means o.finds (λ n. (answers o n).means)) (out-SchemaNode K R n).body v
+  unfolding answers
+  node_means n v = ap (λ a. a.means v) (fold_out-SchemaNode K R Answers (node_step o) n) ∙ means_layer (out-SchemaNode K R n) (out-SchemaNode K R n).body v
+
+  pub node_finds : (n : SchemaNode K R) (u : Bool) (v : Data) (Q : Path) → (answers o n).report u v Q ≡ body_finds (keyword_finds o.finds (λ n. (answers o n).means) o.keyword_of (λ n. (answers o n).report) u) (out-SchemaNode K R n).location (out-SchemaNode K R n).body v Q
+  unfolding answers
+  node_finds n u v Q = ap (λ a. a.report u v Q) (fold_out-SchemaNode K R Answers (node_step o) n) ∙ finds_layer (out-SchemaNode K R n) (out-SchemaNode K R n).body u v Q
+
+  pub node_location : (n : SchemaNode K R) → (answers o n).location ≡ (out-SchemaNode K R n).location
+  unfolding answers
+  node_location n = ap (λ a. a.location) (fold_out-SchemaNode K R Answers (node_step o) n)
+
+pub ruleset layers = (node_means, node_finds, node_location)

@@ -1,0 +1,3 @@
+mod Search
+mod Maps
+pub mod Layers

@@ -1,0 +1,90 @@
+-- What a built node answers: whether it accepts a value, and the faults that it finds.
+use Rattle.std.specs.Prelude.{Bool, true, false, not, List, [], ◌∷◌, map, String, string_bytes}
+use Rattle.std.specs.declared.alloc.Global.{Global}
+use Rattle.std.specs.List.{flat_map}
+use Rattle.serde_json.specs.Data.{Data}
+use Rattle.serde_json.specs.View.{view}
+use Rattle.olk_spec.specs.Names.{Name, Text, Path, ◌//◌, is_empty}
+use Rattle.olk_spec.specs.Faults.{Fault, fault, FalseSchema, Leaf, AnyOf, Not, context}
+use Rattle.olk_spec.specs.Schemas.{at}
+use Rattle.olk_spec.specs.Accepts.{missing}
+use Rattle.olk_spec.specs.Reports.{required_faults, fault_if}
+use Rattle.olk_tree.specs.Kit.{Kit}
+use Rattle.olk_tree.specs.Questions.{Question, always, every, some, opposite}
+use Rattle.olk_tree.specs.declared.map.SmallMap.{SmallMap}
+use Rattle.olk_tree.specs.declared.node.KeywordOver.{KeywordOver}
+use Rattle.olk_tree.specs.declared.node.KeywordOver.TheVariants as keyword
+use Rattle.olk_tree.specs.declared.node.Body.{Body}
+use Rattle.olk_tree.specs.declared.node.Body.TheVariants.{True, False, Keywords}
+use Rattle.olk_tree.specs.declared.node.SchemaNode.{SchemaNode, fold-SchemaNode}
+use Rattle.olk_tree.specs.declared.node.SchemaNode.TheOpen.{SchemaNode-F}
+
+pub record Answers : Type 0 where
+  pub means : Data → Question
+  pub report : Bool → Data → Path → List Fault
+  pub location : Path
+
+-- two lists, side by side
+abbrev pub beside : {A B : Type 0} → List A → List B → List (A × B)
+beside [] ys = []
+beside (x ∷ xs) [] = []
+beside (x ∷ xs) (y ∷ ys) = (x, y) ∷ beside xs ys
+
+abbrev pub named : {N : Type 0} → SmallMap N → List (Name × N)
+named m = beside m.names m.nodes.items
+
+-- the texts of owned names
+abbrev pub texts_of : List (String Global) → List Text
+texts_of = map string_bytes
+
+module _ {K N : Type 0} (finds : K → Data → List Text) (m : N → Data → Question) where
+  -- each declared name that is a member, with its node
+  abbrev pub properties_mean : List (Name × N) → Data → Question
+  properties_mean es v = every (λ e. every (m e.1) (at e.0 v)) es
+
+  -- whether a keyword accepts, over what its nodes mean
+  unfoldable pub keyword_means : KeywordOver K N → Data → Question
+  keyword_means (keyword.Properties k) v = properties_mean (named k.properties) v
+  keyword_means (keyword.Required k) v = always (is_empty (missing (texts_of k.required.items) v))
+  keyword_means (keyword.AllOf k) v = every (λ n. m n v) k.schemas.items
+  keyword_means (keyword.SingleValueAllOf k) v = m k.node v
+  keyword_means (keyword.AnyOf k) v = some (λ n. m n v) k.schemas.items
+  keyword_means (keyword.SingleAnyOf k) v = m k.node v
+  keyword_means (keyword.Not k) v = opposite (m k.node v)
+  keyword_means (keyword.Leaf p l) v = always (is_empty (finds l v))
+
+  module _ (keyword_of : K → Name) (r : N → Bool → Data → Path → List Fault) (u : Bool) where
+    -- what a keyword finds, over what its nodes find
+    unfoldable pub keyword_finds : KeywordOver K N → Data → Path → List Fault
+    keyword_finds (keyword.Properties k) v Q = flat_map (λ e. flat_map (λ x. r e.1 u x (Q // e.0)) (at e.0 v)) (named k.properties)
+    keyword_finds (keyword.Required k) v Q = required_faults (texts_of k.required.items) v k.location Q
+    keyword_finds (keyword.AllOf k) v Q = flat_map (λ n. r n u v Q) k.schemas.items
+    keyword_finds (keyword.SingleValueAllOf k) v Q = r k.node u v Q
+    keyword_finds (keyword.AnyOf k) v Q = fault_if (not ((some (λ n. m n v) k.schemas.items).accepts u)) (AnyOf (context (map (λ n. r n u v Q) k.schemas.items))) v k.location Q
+    keyword_finds (keyword.SingleAnyOf k) v Q = fault_if (not ((m k.node v).accepts u)) (AnyOf (context (r k.node u v Q ∷ []))) v k.location Q
+    keyword_finds (keyword.Not k) v Q = fault_if ((m k.node v).accepts u) (Not (view k.original)) v k.location Q
+    keyword_finds (keyword.Leaf p l) v Q = map (λ t. fault (Leaf (keyword_of l) t) v Q p) (finds l v)
+
+-- whether a body accepts
+abbrev pub body_means : {W : Type 0} → (W → Data → Question) → Body W → Data → Question
+body_means f True v = always true
+body_means f False v = always false
+body_means f (Keywords ks) v = every (λ k. f k v) ks.items
+
+-- what a body finds at its place
+abbrev pub body_finds : {W : Type 0} → (W → Data → Path → List Fault) → Path → Body W → Data → Path → List Fault
+body_finds f P True v Q = []
+body_finds f P False v Q = fault FalseSchema v Q P ∷ []
+body_finds f P (Keywords ks) v Q = flat_map (λ k. f k v Q) ks.items
+
+module _ {K R : Type 0} (o : Kit K R) where
+  abbrev pub node_step : SchemaNode-F K R Answers → Answers
+  node_step n = record {
+    means = body_means (keyword_means o.finds (λ a. a.means)) n.body;
+    report = λ u. body_finds (keyword_finds o.finds (λ a. a.means) o.keyword_of (λ a. a.report) u) n.location n.body;
+    location = n.location;
+  }
+
+  -- what a node answers, by recursion over it
+  unfoldable pub answers : SchemaNode K R → Answers
+  answers = fold-SchemaNode K R Answers node_step

@@ -1,0 +1,5 @@
+pub mod Ascending
+pub mod Questions
+pub mod Kit
+pub mod Answers
+pub mod Stands

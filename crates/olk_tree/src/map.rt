@@ -1,0 +1,48 @@
+ghost use Rattle.std.specs.Ordering.{nat_cmp};
+ghost use Rattle.std.specs.Cmp.Lexicographic.{slice_cmp};
+ghost use Rattle.std.specs.Prelude.{◌≡◌, bytes_eq, string_bytes, position};
+
+use std::alloc::{AllocError, Global};
+use std::cmp::Ordering;
+use std::marker::Model;
+
+/// Names in strictly ascending order of their bytes.
+#[derive(Drop)]
+pub struct SortedNames {
+    names: Vec<String>,
+}
+
+impl Model for SortedNames {
+    ghost use Rattle.std.specs.Prelude.{ℕ, List, map, string_bytes};
+    ghost use Rattle.olk_tree.specs.Ascending.{Ascend};
+
+    ghost Value = { List (List ℕ) };
+
+    ghost view = { λ m. map string_bytes m.names.items };
+
+    ghost invariant = { λ m. Ascend (map string_bytes m.names.items) };
+}
+
+impl SortedNames {
+    /// At which place the name stands, found by bisection.
+    pub fn find(&self, name: &str) -> Option<usize>
+        ensures { result ≡ position (λ k. bytes_eq k name.now) self.now }
+    {
+        let found = self.names.binary_search_by(
+            |k: &String| -> Ordering
+                ensures { result ≡ slice_cmp nat_cmp (string_bytes k.now) name.entry.now }
+            { k.as_str().cmp(name) },
+        );
+        match found {
+            Ok(i) => Some(i),
+            Err(_) => None,
+        }
+    }
+}
+
+/// Names, and beside each what stands at it.
+#[derive(Drop)]
+pub struct SmallMap<N> {
+    pub names: SortedNames,
+    pub nodes: Vec<N>,
+}
