@@ -12,3 +12,4 @@ pub mod Reading
 pub mod Walks
 pub mod Named
 pub mod Tree_verdicts
+pub mod Refused

@@ -18,3 +18,4 @@ pub mod Distinct
 pub mod Laws
 pub mod Json
 pub mod Bench
+pub mod Refused

@@ -2,6 +2,7 @@
 
 ghost use Rattle.std.specs.Prelude.{codes};
 ghost use Rattle.olk_spec.specs.Laws.{Verdict_of_reports, Empty_report, Only_report, Not_not, One_branch, Passes, Verdict_of_trees};
+ghost use Rattle.olk_spec.specs.Refused.{One_length, All_names_are_told, First_name_alone_is_no_report, Order_in_a_branch_is_free, First_faults_alone_are_no_report, Exchanged_branches_are_no_report, No_branches_are_no_report};
 
 /// A schema accepts a value exactly where it finds no fault in it: exactly if the empty list is a report, and then it
 /// is the only one.
@@ -38,4 +39,16 @@ pub fn other_values()
     ensures dependent_schemas { Passes (codes "dependentSchemas") }
     ensures dependencies { Passes (codes "dependencies") }
     ensures property_dependencies { Passes (codes "propertyDependencies") }
+{}
+
+/// The order in a report is free, also inside a context. A list in which a fault or a name is left out is no report, and
+/// nor is one whose branches are exchanged.
+pub fn order()
+    ensures one_length { One_length }
+    ensures all_names { All_names_are_told }
+    ensures first_name { First_name_alone_is_no_report }
+    ensures any_order { Order_in_a_branch_is_free }
+    ensures first_faults { First_faults_alone_are_no_report }
+    ensures exchanged { Exchanged_branches_are_no_report }
+    ensures no_branches { No_branches_are_no_report }
 {}
