@@ -70,7 +70,7 @@ module _ {X : Type 0} (Good : Data → X → Type 0) where
   module _ (Sound : Data → Type 0) (sound_items : (ds : Items) → Sound (array ds) → EachItem Sound ds) (sound_members : (ms : Members) → Sound (object ms) → EachMember Sound ms)
       (step : Schema X → X) (keep : (d : Data) → Sound d → GoodSchema (schema_read step d) → Good d (step (schema_read step d))) where
     mutual
-      sound_part : (d : Data) → Sound d → GoodPart (read step d)
+      pub sound_part : (d : Data) → Sound d → GoodPart (read step d)
       sound_part null s = (keep null s tt, tt, tt, tt)
       sound_part (boolean b) s = (keep (boolean b) s tt, tt, tt, tt)
       sound_part (number n) s = (keep (number n) s tt, tt, tt, tt)
@@ -80,11 +80,11 @@ module _ {X : Type 0} (Good : Data → X → Type 0) where
           let g : GoodKeywords (read_members step ms) = sound_each_member ms (sound_members ms s) in
           (keep (object ms) s g, wholes_good (read_members step ms) g, inner_good (read_members step ms) g, tt)
 
-      sound_each_item : (ds : Items) → EachItem Sound ds → Each GoodPart (read_items step ds)
+      pub sound_each_item : (ds : Items) → EachItem Sound ds → Each GoodPart (read_items step ds)
       sound_each_item no_items s = tt
       sound_each_item (item d ds) s = (sound_part d s.0, sound_each_item ds s.1)
 
-      sound_each_member : (ms : Members) → EachMember Sound ms → GoodKeywords (read_members step ms)
+      pub sound_each_member : (ms : Members) → EachMember Sound ms → GoodKeywords (read_members step ms)
       sound_each_member no_members s = tt
       sound_each_member (member n d ms) s = (sound_part d s.0, sound_each_member ms s.1)
 

@@ -8,13 +8,7 @@ use Rattle.olk_spec.specs.Literals.{literal}
 use Rattle.olk_spec.specs.Meaning.{meaning}
 use Rattle.olk_spec.specs.Faults.{Fault, fault, Kind, AdditionalProperties, AnyOf, Context, no_branch, branch, IsLike, like, IsLikeKind, itself, like_any_of, like_not_valid, like_multiple, like_names, IsLikeContext, like_none, like_branch, ◌∼◌, like_empty, like_next, like_swap, like_through}
 use Rattle.olk_spec.specs.Refused as refused
-use Rattle.olk_spec.proofs.Order.{∼_refl, ∼_weight, faults_weight, in_list}
-
-pub ∼_length : {fs gs : List Fault} → fs ∼ gs → length fs ≡ length gs
-∼_length like_empty = refl
-∼_length (like_next {f} {g} {fs} {gs} h k) = let e : length fs ≡ length gs = ∼_length k in grind (arith, e)
-∼_length (like_swap {f} {g} {fs}) = refl
-∼_length (like_through h k) = ∼_length h ∙ ∼_length k
+use Rattle.olk_spec.proofs.Order.{∼_length, ∼_refl, ∼_weight, faults_weight, in_list}
 
 pub one_length : refused.One_length
 one_length W u S v P Q list h = ∼_length h

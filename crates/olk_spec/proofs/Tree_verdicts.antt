@@ -1,9 +1,8 @@
 -- A tree is valid exactly where its schema accepts.
-use Rattle.std.specs.Prelude.{◌≡◌, ℕ, ◌+◌, Bool, true, false, not, cond, ◌&&◌, ◌||◌, ◌==◌, nat_lt, nat_eq, List, [], ◌∷◌, ◌++◌, map, codes, count_by, length, Option, Some, None, option_to_list, bytes_eq, is_some}
+use Rattle.std.specs.Prelude.{◌≡◌, Bool, true, false, not, cond, ◌&&◌, ◌||◌, ◌==◌, nat_lt, nat_eq, List, [], ◌∷◌, ◌++◌, map, codes, length, Option, Some, None, option_to_list, is_some}
 use Rattle.std.specs.List.{flat_map, list_all, list_any}
-use Rattle.std.proofs.Common.{refl, sym, ◌∙◌, ap, subst, arith}
+use Rattle.std.proofs.Common.{refl, sym, ◌∙◌, ap, subst}
 use Rattle.std.proofs.lemmas.List.{append-nil}
-use Rattle.std.proofs.lemmas.List.Sums.{sum_by-cons}
 use Rattle.std.proofs.lemmas.List.Folds.{list_all-append, list_all-map}
 use mathlib.Core.Bool.{true≢false}
 use Rattle.serde_json.specs.Data.{Data, null, boolean, number, string, array, object, Items, no_items, item, Members, no_members, member}
@@ -23,8 +22,9 @@ use Rattle.olk_spec.specs.Laws.{Verdict_of_trees}
 use Rattle.olk_spec.proofs.Each.{Each, On, Each-implies, Each-those, Each-option, Each-both, On-lookup}
 use Rattle.olk_spec.proofs.Induction.{sound_answer, EachItem, EachMember, schema_read, GoodSub, GoodEntry, GoodSchema, GoodKeywords, GoodPart, branches_good, entries_at_good, wholes_at_good}
 use Rattle.olk_spec.proofs.Applied.{GoodAsked, applied_good}
-use Rattle.olk_spec.proofs.Passing.{or_true, flat_map-none}
-use Rattle.olk_spec.proofs.Walks.{neither, bytes_eq-itself, Distinct, Distinct-from, Distinct-map, same_name, On-lookup-named, Each-found, list_all-flat_map, list_all-and, list_all-same, list_all-where, list_all-those, list_all-inside_out, list_all-other_side}
+use Rattle.olk_spec.proofs.Passing.{flat_map-none}
+use Rattle.olk_spec.proofs.Truth.{or_true, and_true, not_or_same, not_not, or_false, and_first, and_second, or_second, or_from, and_from, same_truth, regroup, dependency_truth, missing_truth, unless_either, among_truth, some_counted, is_among-those, Each-among, each_true, all_true, any_of_either}
+use Rattle.olk_spec.proofs.Walks.{neither, Distinct, Distinct-from, Distinct-map, On-lookup-named, Each-found, list_all-flat_map, list_all-and, list_all-same, list_all-where, list_all-those, list_all-inside_out, list_all-other_side}
 use Rattle.olk_spec.proofs.Named.{Named, named}
 use Rattle.olk_spec.proofs.Reading.{members_read, entries_read, place}
 use Rattle.olk_spec.proofs.Verdicts.{is_empty-map, exactly_one, additional_own_row}
@@ -40,10 +40,6 @@ is_valid-result P Q a c es ts = valid_node (is_empty es && not c && list_all is_
 
 pub is_valid-plain : (P Q : Path) (ts : List Tree) → is_valid (plain P Q ts) ≡ list_all is_valid ts
 is_valid-plain P Q ts = is_valid-result P Q None false [] ts
-
-and_true : (b : Bool) → (b && true) ≡ b
-and_true true = refl
-and_true false = refl
 
 pub is_valid-erring : (P Q : Path) (fs : List Fault) → is_valid (erring P Q fs) ≡ is_empty fs
 is_valid-erring P Q fs = is_valid-result P Q None false (described fs) [] ∙ and_true (is_empty (described fs) && true) ∙ and_true (is_empty (described fs)) ∙ is_empty-map described_fault fs
@@ -66,133 +62,6 @@ none_where false k v P Q = refl
 
 none_missing : (ns : List Name) (v : Data) (P Q : Path) → is_empty (required_faults ns v P Q) ≡ is_empty (missing ns v)
 none_missing ns v P Q = is_empty-map (λ n. fault (Required n) v Q P) (missing ns v)
-
--- ---- truth values
-
-not_or_same : (b : Bool) → (not b || b) ≡ true
-not_or_same true = refl
-not_or_same false = refl
-
-not_not : (b : Bool) → not (not b) ≡ b
-not_not true = refl
-not_not false = refl
-
-or_false : (b : Bool) → (b || false) ≡ b
-or_false true = refl
-or_false false = refl
-
-and_first : (a b : Bool) → (a && b) ≡ true → a ≡ true
-and_first true b e = refl
-and_first false b e = e
-
-and_second : (a b : Bool) → (a && b) ≡ true → b ≡ true
-and_second true b e = e
-and_second false b e = absurd (true≢false (sym e))
-
-or_second : (a b : Bool) → (a || b) ≡ true → a ≡ false → b ≡ true
-or_second true b e f = absurd (true≢false f)
-or_second false b e f = e
-
-or_from : (a b : Bool) → b ≡ true → (a || b) ≡ true
-or_from a b e = ap (λ c. a || c) e ∙ or_true a
-
-and_from : (a b : Bool) → a ≡ true → b ≡ true → (a && b) ≡ true
-and_from a b e f = λ i. e i && f i
-
-same_truth : (a b : Bool) → (a ≡ true → b ≡ true) → (b ≡ true → a ≡ true) → a ≡ b
-same_truth true b f g = sym (f refl)
-same_truth false true f g = g refl
-same_truth false false f g = refl
-
--- the parts of a verdict in another order
-regroup : (w d p a c : Bool) → ((w && true) && ((((d && p) && a) && true) && c)) ≡ ((a && w) && ((d && p) && c))
-regroup true true true a c = refl
-regroup true true false true c = refl
-regroup true true false false c = refl
-regroup true false p true c = refl
-regroup true false p false c = refl
-regroup false d p true c = refl
-regroup false d p false c = refl
-
-dependency_truth : (h a : Bool) (e t m y : Bool) → e ≡ m → t ≡ y → (not h || cond a e t) ≡ ((not (h && not a) || y) && (not a || (not h || m)))
-dependency_truth true true e t m y p q = p
-dependency_truth true false e t m y p q = q ∙ sym (and_true y)
-dependency_truth false true e t m y p q = refl
-dependency_truth false false e t m y p q = refl
-
-missing_truth : (b e : Bool) → (not (b && not e) || e) ≡ (not b || e)
-missing_truth true true = refl
-missing_truth true false = refl
-missing_truth false e = refl
-
-unless_either : (a b c : Bool) → (not (not a && not b) || c) ≡ ((a || b) || c)
-unless_either true b c = refl
-unless_either false true c = refl
-unless_either false false c = refl
-
-among_truth : (o t c : Bool) → (not (o && (t && true)) || c) ≡ (not t || (not o || c))
-among_truth true true c = refl
-among_truth true false c = refl
-among_truth false true c = refl
-among_truth false false c = refl
-
--- ---- lists
-
-module _ {A : Type 0} (f : A → Bool) where
-  step_any : (b : Bool) (n : ℕ) → (b || not (n == 0)) ≡ not (cond b 1 0 + n == 0)
-  step_any true n = grind arith
-  step_any false n = grind arith
-
-  pub some_counted : (xs : List A) → list_any f xs ≡ not (count_by f xs == 0)
-  some_counted [] = refl
-  some_counted (x ∷ xs) = (λ i. f x || some_counted xs i) ∙ step_any (f x) (count_by f xs) ∙ sym (ap (λ n. not (n == 0)) (sum_by-cons (λ y. cond (f y) 1 0) x xs))
-
-module _ {B : Type 0} (t : Name → Bool) where
-  among_step : (n : Name) (m : Name × B) (ms : List (Name × B)) (r s : Bool) → bytes_eq n m.0 ≡ r → t m.0 ≡ s → is_among n (map (λ k. k.0) (those (λ k. t k.0) ms)) ≡ (t n && is_among n (map (λ k. k.0) ms)) → is_among n (map (λ k. k.0) (put_if s m (those (λ k. t k.0) ms))) ≡ (t n && (r || is_among n (map (λ k. k.0) ms)))
-  among_step n m ms true true e f h =
-      let same : t n ≡ true = ap t (same_name n m.0 e) ∙ f in
-      (λ i. e i || is_among n (map (λ k. k.0) (those (λ k. t k.0) ms))) ∙ sym (ap (λ b. b && true) same)
-  among_step n m ms true false e f h =
-      let same : t n ≡ false = ap t (same_name n m.0 e) ∙ f in
-      h ∙ ap (λ b. b && is_among n (map (λ k. k.0) ms)) same ∙ sym (ap (λ b. b && true) same)
-  among_step n m ms false true e f h = (λ i. e i || is_among n (map (λ k. k.0) (those (λ k. t k.0) ms))) ∙ h
-  among_step n m ms false false e f h = h
-
-  -- a name is among those that pass a test of names if it passes and is there
-  pub is_among-those : (n : Name) (ms : List (Name × B)) → is_among n (map (λ k. k.0) (those (λ k. t k.0) ms)) ≡ (t n && is_among n (map (λ k. k.0) ms))
-  is_among-those n [] = by (t n)
-    where
-      by : (b : Bool) → false ≡ (b && false)
-      by true = refl
-      by false = refl
-  is_among-those n (m ∷ ms) = among_step n m ms (bytes_eq n m.0) (t m.0) refl refl (is_among-those n ms)
-
-module _ {B : Type 0} where
-  among_later : (m : Name × B) (ms ks : List (Name × B)) → Each (λ k. is_among k.0 (map (λ e. e.0) ms) ≡ true) ks → Each (λ k. is_among k.0 (map (λ e. e.0) (m ∷ ms)) ≡ true) ks
-  among_later m ms [] h = tt
-  among_later m ms (k ∷ ks) h = (ap (λ b. bytes_eq k.0 m.0 || b) h.0 ∙ or_true (bytes_eq k.0 m.0), among_later m ms ks h.1)
-
-  pub Each-among : (ms : List (Name × B)) → Each (λ m. is_among m.0 (map (λ e. e.0) ms) ≡ true) ms
-  Each-among [] = tt
-  Each-among (m ∷ ms) = (ap (λ b. b || is_among m.0 (map (λ e. e.0) ms)) (bytes_eq-itself m.0), among_later m ms ms (Each-among ms))
-
-module _ {A : Type 0} (f : A → Bool) where
-  pub each_true : (xs : List A) → list_all f xs ≡ true → Each (λ x. f x ≡ true) xs
-  each_true [] e = tt
-  each_true (x ∷ xs) e = (and_first (f x) (list_all f xs) e, each_true xs (and_second (f x) (list_all f xs) e))
-
-  pub all_true : (xs : List A) → Each (λ x. f x ≡ true) xs → list_all f xs ≡ true
-  all_true [] h = refl
-  all_true (x ∷ xs) h = and_from (f x) (list_all f xs) h.0 (all_true xs h.1)
-
-  either_more : (a b c d : Bool) → (a || c) ≡ true → (c ≡ true → d ≡ true) → ((a || b) || d) ≡ true
-  either_more true b c d e h = refl
-  either_more false true c d e h = refl
-  either_more false false c d e h = h e
-
-  pub any_of_either : (g : A → Bool) (xs : List A) → list_any f xs ≡ true → list_any (λ x. f x || g x) xs ≡ true
-  any_of_either g [] e = e
-  any_of_either g (x ∷ xs) e = either_more (f x) (g x) (list_any f xs) (list_any (λ y. f y || g y) xs) e (any_of_either g xs)
 
 -- ---- values
 
