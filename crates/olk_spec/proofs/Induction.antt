@@ -15,6 +15,23 @@ schema_read step (string s) = no_schema (string s)
 schema_read step (array ds) = no_schema (array ds)
 schema_read step (object ms) = keywords (read_members step ms)
 
+-- a fact of each item, and of each member
+abbrev pub EachItem : (Data → Type 0) → Items → Type 0
+EachItem P no_items = ⊤
+EachItem P (item d ds) = P d × EachItem P ds
+
+abbrev pub EachMember : (Data → Type 0) → Members → Type 0
+EachMember P no_members = ⊤
+EachMember P (member n d ms) = P d × EachMember P ms
+
+any_item : (ds : Items) → EachItem (λ d. ⊤) ds
+any_item no_items = tt
+any_item (item d ds) = (tt, any_item ds)
+
+any_member : (ms : Members) → EachMember (λ d. ⊤) ms
+any_member no_members = tt
+any_member (member n d ms) = (tt, any_member ms)
+
 -- Good d x: a fact of x, which is the answer for d
 module _ {X : Type 0} (Good : Data → X → Type 0) where
   abbrev pub GoodSub : Sub X → Type 0
@@ -49,34 +66,39 @@ module _ {X : Type 0} (Good : Data → X → Type 0) where
   items_good [] h = tt
   items_good (p ∷ ps) h = (h.0.0, items_good ps h.1)
 
-  module _ (step : Schema X → X) (keep : (d : Data) → GoodSchema (schema_read step d) → Good d (step (schema_read step d))) where
+  -- where the data at each place has a premise, and the data inside then has it too
+  module _ (Sound : Data → Type 0) (sound_items : (ds : Items) → Sound (array ds) → EachItem Sound ds) (sound_members : (ms : Members) → Sound (object ms) → EachMember Sound ms)
+      (step : Schema X → X) (keep : (d : Data) → Sound d → GoodSchema (schema_read step d) → Good d (step (schema_read step d))) where
     mutual
-      pub good : (d : Data) → GoodPart (read step d)
-      good null = (keep null tt, tt, tt, tt)
-      good (boolean b) = (keep (boolean b) tt, tt, tt, tt)
-      good (number n) = (keep (number n) tt, tt, tt, tt)
-      good (string s) = (keep (string s) tt, tt, tt, tt)
-      good (array ds) = (keep (array ds) tt, tt, tt, items_good (read_items step ds) (good_items ds))
-      good (object ms) = (keep (object ms) (good_members ms), wholes_good (read_members step ms) (good_members ms), inner_good (read_members step ms) (good_members ms), tt)
+      pub sound_part : (d : Data) → Sound d → GoodPart (read step d)
+      sound_part null s = (keep null s tt, tt, tt, tt)
+      sound_part (boolean b) s = (keep (boolean b) s tt, tt, tt, tt)
+      sound_part (number n) s = (keep (number n) s tt, tt, tt, tt)
+      sound_part (string t) s = (keep (string t) s tt, tt, tt, tt)
+      sound_part (array ds) s = (keep (array ds) s tt, tt, tt, items_good (read_items step ds) (sound_each_item ds (sound_items ds s)))
+      sound_part (object ms) s =
+          let g : GoodKeywords (read_members step ms) = sound_each_member ms (sound_members ms s) in
+          (keep (object ms) s g, wholes_good (read_members step ms) g, inner_good (read_members step ms) g, tt)
 
-      pub good_items : (ds : Items) → Each GoodPart (read_items step ds)
-      good_items no_items = tt
-      good_items (item d ds) = (good d, good_items ds)
+      pub sound_each_item : (ds : Items) → EachItem Sound ds → Each GoodPart (read_items step ds)
+      sound_each_item no_items s = tt
+      sound_each_item (item d ds) s = (sound_part d s.0, sound_each_item ds s.1)
 
-      pub good_members : (ms : Members) → GoodKeywords (read_members step ms)
-      good_members no_members = tt
-      good_members (member n d ms) = (good d, good_members ms)
+      pub sound_each_member : (ms : Members) → EachMember Sound ms → GoodKeywords (read_members step ms)
+      sound_each_member no_members s = tt
+      sound_each_member (member n d ms) s = (sound_part d s.0, sound_each_member ms s.1)
 
-    whole_good : (d : Data) → Good d (answer_for step d)
-    whole_good null = keep null tt
-    whole_good (boolean b) = keep (boolean b) tt
-    whole_good (number n) = keep (number n) tt
-    whole_good (string s) = keep (string s) tt
-    whole_good (array ds) = keep (array ds) tt
-    whole_good (object ms) = keep (object ms) (good_members ms)
+    pub sound_answer : (d : Data) → Sound d → Good d (answer_for step d)
+    sound_answer null s = keep null s tt
+    sound_answer (boolean b) s = keep (boolean b) s tt
+    sound_answer (number n) s = keep (number n) s tt
+    sound_answer (string t) s = keep (string t) s tt
+    sound_answer (array ds) s = keep (array ds) s tt
+    sound_answer (object ms) s = keep (object ms) s (sound_each_member ms (sound_members ms s))
 
+  module _ (step : Schema X → X) (keep : (d : Data) → GoodSchema (schema_read step d) → Good d (step (schema_read step d))) where
     pub good_answer : (d : Data) → Good d (answer_for step d)
-    good_answer d = whole_good d
+    good_answer d = sound_answer (λ d. ⊤) (λ ds s. any_item ds) (λ ms s. any_member ms) step (λ d s. keep d) d tt
 
   numbered_good : (n : ℕ) (ss : List (Sub X)) → Each GoodSub ss → Each GoodEntry (map (λ e. (decimal e.0, e.1)) (enumerate_from n ss))
   numbered_good n [] g = tt

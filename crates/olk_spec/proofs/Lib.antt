@@ -3,8 +3,14 @@ pub mod Grammar
 pub mod LiteralForms
 pub mod Each
 pub mod Induction
+pub mod Applied
 pub mod Verdicts
 pub mod Logic
 pub mod Passing
 pub mod Order
 pub mod Reading
+pub mod Walks
+pub mod Truth
+pub mod Named
+pub mod Tree_verdicts
+pub mod Refused

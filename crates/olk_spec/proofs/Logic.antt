@@ -2,16 +2,11 @@
 use Rattle.std.specs.Prelude.{◌≡◌, Bool, true, false, not, cond, ◌&&◌, ◌||◌, ◌==◌, ◌+◌, List, [], ◌∷◌, codes}
 use Rattle.std.proofs.Common.{refl, sym, ◌∙◌, subst, arith}
 use Rattle.olk_spec.specs.Names.{is_empty}
-use Rattle.olk_spec.specs.Faults.{Fault, ◌∼◌, like_empty, like_next, like_swap, like_through}
+use Rattle.olk_spec.specs.Faults.{◌∼◌, like_empty}
 use Rattle.olk_spec.specs.Meaning.{meaning, accepts, report}
 use Rattle.olk_spec.specs.Laws.{Empty_report, Only_report, Not_not, One_branch}
+use Rattle.olk_spec.proofs.Order.{∼_is_empty}
 use Rattle.olk_spec.proofs.Verdicts.{verdict_of_reports}
-
-pub ∼_is_empty : {fs gs : List Fault} → fs ∼ gs → is_empty fs ≡ is_empty gs
-∼_is_empty like_empty = refl
-∼_is_empty (like_next e h) = refl
-∼_is_empty like_swap = refl
-∼_is_empty (like_through h k) = ∼_is_empty h ∙ ∼_is_empty k
 
 pub nil_of_is_empty : {A : Type 0} (xs : List A) → is_empty xs ≡ true → xs ≡ []
 nil_of_is_empty [] e = refl

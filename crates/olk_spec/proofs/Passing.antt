@@ -1,11 +1,17 @@
 -- A value that is no object passes the keywords of objects.
-use Rattle.std.specs.Prelude.{◌≡◌, Bool, true, false, ◌||◌, List, [], ◌∷◌, codes}
-use Rattle.std.specs.List.{flat_map, list_all}
-use Rattle.std.proofs.Common.{refl}
+use Rattle.std.specs.Prelude.{◌≡◌, Bool, true, false, ◌&&◌, List, [], ◌∷◌, codes}
+use Rattle.std.specs.List.{flat_map}
+use Rattle.std.proofs.Common.{refl, sym}
 use Rattle.serde_json.specs.Data.{Data, null, boolean, number, string, array, object}
-use Rattle.olk_spec.specs.Names.{those}
-use Rattle.olk_spec.specs.Schemas.{members, is_object}
+use Rattle.olk_spec.specs.Names.{Name, Path, those}
+use Rattle.olk_spec.specs.Schemas.{Keywords, Part, members, is_object}
+use Rattle.olk_spec.specs.World.{World}
+use Rattle.olk_spec.specs.Vocabulary.{Keyword, properties, pattern_properties, additional_properties, property_names, required, dependent_required, dependent_schemas, dependencies, property_dependencies}
+use Rattle.olk_spec.specs.Meanings.{Meaning, applied}
+use Rattle.olk_spec.specs.Faults.{Kind}
+use Rattle.olk_spec.specs.Reports.{own, fault_if}
 use Rattle.olk_spec.specs.Meaning.{meaning}
+use Rattle.olk_spec.proofs.Truth.{or_true}
 use Rattle.olk_spec.specs.Laws.{Passes}
 use mathlib.Core.Bool.{true≢false}
 
@@ -16,14 +22,6 @@ flat_map-none (x ∷ xs) = flat_map-none xs
 pub those-none : {A : Type 0} (xs : List A) → those (λ x. false) xs ≡ []
 those-none [] = refl
 those-none (x ∷ xs) = those-none xs
-
-pub list_all-true : {A : Type 0} (xs : List A) → list_all (λ x. true) xs ≡ true
-list_all-true [] = refl
-list_all-true (x ∷ xs) = list_all-true xs
-
-pub or_true : (b : Bool) → (b || true) ≡ true
-or_true true = refl
-or_true false = refl
 
 pub no_members : (v : Data) → is_object v ≡ false → members v ≡ []
 no_members null h = refl
@@ -68,3 +66,46 @@ passes_dependencies W u d v h = simp (no_members v h, those-none) refl
 pub passes_property_dependencies : Passes (codes "propertyDependencies")
 unfolding meaning
 passes_property_dependencies W u d v h = simp (no_members v h, flat_map-none) refl
+
+-- ---- the same beside other keywords: nothing is asked and nothing is found
+
+abbrev pub speaks_of_objects : Keyword → Bool
+speaks_of_objects properties = true
+speaks_of_objects pattern_properties = true
+speaks_of_objects additional_properties = true
+speaks_of_objects property_names = true
+speaks_of_objects required = true
+speaks_of_objects dependent_required = true
+speaks_of_objects dependent_schemas = true
+speaks_of_objects dependencies = true
+speaks_of_objects property_dependencies = true
+speaks_of_objects _ = false
+
+module _ (W : World) (u : Bool) (S : Keywords Meaning) (k : Name) (p : Part Meaning) (v : Data) (h : is_object v ≡ false) where
+  pub nothing_applied : (w : Keyword) → speaks_of_objects w ≡ true → applied W u S k p v w ≡ []
+  nothing_applied properties e = simp (no_members v h, flat_map-none) refl
+  nothing_applied pattern_properties e = simp (no_members v h, flat_map-none) refl
+  nothing_applied additional_properties e = simp (no_members v h) refl
+  nothing_applied property_names e = refl
+  nothing_applied required e = refl
+  nothing_applied dependent_required e = refl
+  nothing_applied dependent_schemas e = simp (no_members v h, those-none) refl
+  nothing_applied dependencies e = simp (no_members v h, those-none) refl
+  nothing_applied property_dependencies e = simp (no_members v h, flat_map-none) refl
+  nothing_applied _ e = absurd (true≢false (sym e))
+
+  no_such_fault : (b : Bool) (f : Kind) (P Q : Path) → fault_if (b && false) f v P Q ≡ []
+  no_such_fault true f P Q = refl
+  no_such_fault false f P Q = refl
+
+  pub nothing_own : (P Q : Path) (w : Keyword) → speaks_of_objects w ≡ true → own W u S k p v P Q w ≡ []
+  nothing_own P Q properties e = refl
+  nothing_own P Q pattern_properties e = refl
+  nothing_own P Q additional_properties e = simp (no_members v h, flat_map-none) refl
+  nothing_own P Q property_names e = simp (no_members v h, flat_map-none, no_such_fault) refl
+  nothing_own P Q required e = simp (h, those-none) refl
+  nothing_own P Q dependent_required e = simp (no_members v h, those-none) refl
+  nothing_own P Q dependent_schemas e = refl
+  nothing_own P Q dependencies e = simp (no_members v h, those-none) refl
+  nothing_own P Q property_dependencies e = refl
+  nothing_own P Q _ e = absurd (true≢false (sym e))

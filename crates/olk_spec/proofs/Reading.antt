@@ -11,7 +11,7 @@ use Rattle.serde_json.specs.Data.{Data, null, boolean, number, string, array, ob
 use Rattle.serde_json.specs.Find.{get_member}
 use Rattle.olk_spec.specs.Names.{Name, lookup, first_if_equal}
 use Rattle.olk_spec.specs.Malformed.{items_list, items_of_array}
-use Rattle.olk_spec.specs.Schemas.{Sub, Part, Schema, Keywords, keywords, read, read_items, read_members, answer_for, whole_entries, inner_entries, whole_items, listed, members, texts, has, is_present, parts_at, entries_at, names_at, wholes_at, numbered, branches, names}
+use Rattle.olk_spec.specs.Schemas.{Sub, Part, Schema, keywords, read, read_items, read_members, answer_for, whole_entries, inner_entries, whole_items, listed, members, texts, is_present, parts_at, entries_at, names_at, wholes_at, numbered, branches, names}
 use Rattle.olk_spec.specs.World.{World}
 use Rattle.olk_spec.specs.Meaning.{meaning, meaning_step}
 

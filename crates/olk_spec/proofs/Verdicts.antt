@@ -1,21 +1,22 @@
 -- A schema accepts exactly where it finds no fault.
-use Rattle.std.specs.Prelude.{◌≡◌, ℕ, Bool, true, false, not, ◌&&◌, ◌||◌, ◌==◌, nat_lt, List, [], ◌∷◌, ◌++◌, map, option_to_list}
+use Rattle.std.specs.Prelude.{◌≡◌, ⊤, ℕ, Bool, true, false, not, ◌&&◌, ◌||◌, ◌==◌, nat_lt, List, [], ◌∷◌, ◌++◌, map}
 use Rattle.std.specs.List.{flat_map, list_all, list_any}
 use Rattle.std.proofs.Common.{refl, sym, ◌∙◌}
 use native.Mathlib.Omega.{arith}
 use Rattle.serde_json.specs.Data.{Data, string}
-use Rattle.olk_spec.specs.Names.{Name, Path, ◌//◌, down, those, put_if, is_empty, lookup}
+use Rattle.olk_spec.specs.Names.{Name, Path, ◌//◌, down, put_if, is_empty}
 use Rattle.olk_spec.specs.World.{World}
-use Rattle.olk_spec.specs.Vocabulary.{Keyword, properties, pattern_properties, additional_properties, property_names, required, dependent_required, dependent_schemas, dependencies, property_dependencies, all_of, any_of, one_of, not_keyword, then_keyword, else_keyword, leaf, keyword_named}
-use Rattle.olk_spec.specs.Schemas.{at, as_text, has, is_array, is_object, is_truth, Schema, truth, keywords, no_schema, Keywords, Part, members, branches, names}
-use Rattle.olk_spec.specs.Meanings.{Meaning, Subschema, holds, applied, additional, Asked, asked, asked_whole, matches, if_accepts, if_refuses}
+use Rattle.olk_spec.specs.Vocabulary.{Keyword, additional_properties, property_names, required, dependent_required, dependencies, any_of, one_of, not_keyword, leaf, keyword_named}
+use Rattle.olk_spec.specs.Schemas.{is_object, is_truth, Schema, truth, keywords, no_schema, Keywords, Part, members, names}
+use Rattle.olk_spec.specs.Meanings.{Meaning, holds, applied, additional}
 use Rattle.olk_spec.specs.Accepts.{wanted, keyword_accepts, missing, due, accepting}
 use Rattle.olk_spec.specs.Faults.{fault, FalseSchema, Not, Required, Leaf, AnyOf, OneOfNotValid, OneOfMultipleValid, Kind}
 use Rattle.olk_spec.specs.Reports.{branch_faults, fault_if, required_faults, unexpected_faults, has_neighbour, wrapped, own, keyword_report}
 use Rattle.olk_spec.specs.Meaning.{meaning, meaning_step}
 use Rattle.olk_spec.specs.Laws.{Verdict_of_reports}
-use Rattle.olk_spec.proofs.Each.{Each, Each-implies, Each-map, Each-flat_map, Each-those, Each-any, Each-option, On-lookup}
-use Rattle.olk_spec.proofs.Induction.{good_answer, schema_read, GoodSchema, GoodPart, branches_good}
+use Rattle.olk_spec.proofs.Each.{Each, Each-implies, Each-any}
+use Rattle.olk_spec.proofs.Applied.{GoodAsked, applied_good}
+use Rattle.olk_spec.proofs.Induction.{good_answer, schema_read, GoodSchema, GoodPart}
 
 -- ---- lists
 
@@ -60,54 +61,24 @@ not_not : (b : Bool) → b ≡ not (not b)
 not_not true = refl
 not_not false = refl
 
-exactly_one : (n : ℕ) → (n == 1) ≡ (not (n == 0) && not (nat_lt 1 n))
+pub exactly_one : (n : ℕ) → (n == 1) ≡ (not (n == 0) && not (nat_lt 1 n))
 exactly_one n = grind arith
 
 -- ---- the rows
+
+pub unexpected_row : (named : Bool) (ms : List (Name × Data)) (v : Data) (P Q : Path) → is_empty ms ≡ is_empty (unexpected_faults named ms v P Q)
+unexpected_row named [] v P Q = refl
+unexpected_row true (m ∷ ms) v P Q = refl
+unexpected_row false (m ∷ ms) v P Q = refl
+
+pub additional_own_row : (W : World) (u : Bool) (S : Keywords Meaning) (k : Name) (p : Part Meaning) (v : Data) (P Q : Path) → wanted W u S k p v additional_properties ≡ is_empty (own W u S k p v P Q additional_properties)
+additional_own_row W u S k p v P Q = empty_where (is_truth false p.whole.schema) (is_empty (additional S W u v)) p.whole (λ s. unexpected_faults (has_neighbour S) (additional S W u v) v (P // k) Q) (unexpected_row (has_neighbour S) (additional S W u v) v (P // k) Q)
 
 module _ (W : World) (u : Bool) where
   abbrev pub Agrees : Data → Meaning → Type 0
   Agrees d m = (v : Data) (P Q : Path) → m.accepts v ≡ is_empty (m.report v P Q)
 
-  abbrev AgreesSub : Subschema → Type 0
-  AgreesSub s = Agrees s.schema s.answer
-
-  abbrev AgreesEntry : Name × Subschema → Type 0
-  AgreesEntry e = Agrees e.1.schema e.1.answer
-
-  abbrev AgreesAsked : Asked → Type 0
-  AgreesAsked a = AgreesSub a.sub
-
   module _ (S : Keywords Meaning) (k : Name) (p : Part Meaning) (h : GoodPart Agrees p) (v : Data) where
-    abbrev All_agree : List Asked → Type 0
-    All_agree xs = Each AgreesAsked xs
-
-    entry_row : (f : Name × Subschema → List Asked) → ((e : Name × Subschema) → AgreesEntry e → All_agree (f e)) → (es : List (Name × Subschema)) → Each AgreesEntry es → All_agree (flat_map f es)
-    entry_row f g es c = Each-flat_map AgreesAsked f es (Each-implies AgreesEntry (λ e. All_agree (f e)) g es c)
-
-    whole_row : (es : List (Name × Subschema)) → Each AgreesEntry es → All_agree (asked_whole k v es)
-    whole_row es g = Each-map AgreesAsked (λ e. asked e.1 v (k ∷ e.0 ∷ []) []) es g
-
-    where_row : (b : Bool) (a : Asked) → AgreesAsked a → All_agree (put_if b a [])
-    where_row true a g = (g, tt)
-    where_row false a g = tt
-
-    text_row : (e : Name × List (Name × Subschema)) → Each AgreesEntry e.1 → All_agree (flat_map (λ t. map (λ s. asked s v (k ∷ e.0 ∷ t ∷ []) []) (option_to_list (lookup t e.1))) (flat_map as_text (at e.0 v)))
-    text_row e g = Each-flat_map AgreesAsked (λ t. map (λ s. asked s v (k ∷ e.0 ∷ t ∷ []) []) (option_to_list (lookup t e.1))) (flat_map as_text (at e.0 v))
-        (Each-any (λ t. All_agree (map (λ s. asked s v (k ∷ e.0 ∷ t ∷ []) []) (option_to_list (lookup t e.1)))) (λ t. Each-map AgreesAsked (λ s. asked s v (k ∷ e.0 ∷ t ∷ []) []) (option_to_list (lookup t e.1)) (Each-option AgreesSub (lookup t e.1) (On-lookup AgreesSub t e.1 g))) (flat_map as_text (at e.0 v)))
-
-    pub applied_good : (w : Keyword) → All_agree (applied W u S k p v w)
-    applied_good properties = entry_row (λ e. map (λ w. asked e.1 w (k ∷ e.0 ∷ []) (e.0 ∷ [])) (at e.0 v)) (λ e g. Each-map AgreesAsked (λ w. asked e.1 w (k ∷ e.0 ∷ []) (e.0 ∷ [])) (at e.0 v) (Each-any (λ w. AgreesEntry e) (λ w. g) (at e.0 v))) p.entries h.1
-    applied_good pattern_properties = entry_row (λ e. map (λ m. asked e.1 m.1 (k ∷ e.0 ∷ []) (m.0 ∷ [])) (those (λ m. matches W u e.0 m.0) (members v))) (λ e g. Each-map AgreesAsked (λ m. asked e.1 m.1 (k ∷ e.0 ∷ []) (m.0 ∷ [])) (those (λ m. matches W u e.0 m.0) (members v)) (Each-any (λ m. AgreesEntry e) (λ m. g) (those (λ m. matches W u e.0 m.0) (members v)))) p.entries h.1
-    applied_good additional_properties = Each-flat_map AgreesAsked (λ m. put_if (is_object p.whole.schema) (asked p.whole m.1 (k ∷ []) (m.0 ∷ [])) []) (additional S W u v) (Each-any (λ m. All_agree (put_if (is_object p.whole.schema) (asked p.whole m.1 (k ∷ []) (m.0 ∷ [])) [])) (λ m. where_row (is_object p.whole.schema) (asked p.whole m.1 (k ∷ []) (m.0 ∷ [])) h.0) (additional S W u v))
-    applied_good dependent_schemas = whole_row (those (λ e. has e.0 v) p.entries) (Each-those AgreesEntry (λ e. has e.0 v) p.entries h.1)
-    applied_good dependencies = whole_row (those (λ e. has e.0 v && not (is_array e.1.schema)) p.entries) (Each-those AgreesEntry (λ e. has e.0 v && not (is_array e.1.schema)) p.entries h.1)
-    applied_good property_dependencies = Each-flat_map AgreesAsked (λ e. flat_map (λ t. map (λ s. asked s v (k ∷ e.0 ∷ t ∷ []) []) (option_to_list (lookup t e.1))) (flat_map as_text (at e.0 v))) p.inner (Each-implies (λ e. Each AgreesEntry e.1) (λ e. All_agree (flat_map (λ t. map (λ s. asked s v (k ∷ e.0 ∷ t ∷ []) []) (option_to_list (lookup t e.1))) (flat_map as_text (at e.0 v)))) text_row p.inner h.2)
-    applied_good all_of = whole_row (branches p) (branches_good Agrees p h)
-    applied_good then_keyword = where_row (if_accepts S v) (asked p.whole v (k ∷ []) []) h.0
-    applied_good else_keyword = where_row (if_refuses S v) (asked p.whole v (k ∷ []) []) h.0
-    applied_good _ = tt
-
     module _ (P Q : Path) where
       required_row : (ns : List Name) (P' : Path) → is_empty (missing ns v) ≡ is_empty (required_faults ns v P' Q)
       required_row ns P' = sym (is_empty-map (λ n. fault (Required n) v Q P') (missing ns v))
@@ -115,18 +86,13 @@ module _ (W : World) (u : Bool) where
       due_row : list_all (λ e. is_empty (missing e.1 v)) (due p v) ≡ is_empty (flat_map (λ e. required_faults e.1 v (P // k) Q) (due p v))
       due_row = all_empty (λ e. is_empty (missing e.1 v)) (λ e. required_faults e.1 v (P // k) Q) (due p v) (Each-any (λ e. is_empty (missing e.1 v) ≡ is_empty (required_faults e.1 v (P // k) Q)) (λ e. required_row e.1 (P // k)) (due p v))
 
-      unexpected_row : (named : Bool) (ms : List (Name × Data)) → is_empty ms ≡ is_empty (unexpected_faults named ms v (P // k) Q)
-      unexpected_row named [] = refl
-      unexpected_row true (m ∷ ms) = refl
-      unexpected_row false (m ∷ ms) = refl
-
       names_row : list_all (λ m. holds p.whole (string m.0)) (members v) ≡ is_empty (flat_map (λ m. map (wrapped v Q) (p.whole.answer.report (string m.0) (P // k) Q)) (members v))
       names_row = all_empty (λ m. holds p.whole (string m.0)) (λ m. map (wrapped v Q) (p.whole.answer.report (string m.0) (P // k) Q)) (members v)
           (Each-any (λ m. holds p.whole (string m.0) ≡ is_empty (map (wrapped v Q) (p.whole.answer.report (string m.0) (P // k) Q))) (λ m. h.0 (string m.0) (P // k) Q ∙ sym (is_empty-map (wrapped v Q) (p.whole.answer.report (string m.0) (P // k) Q))) (members v))
 
       -- what a keyword wants is what its own faults are of
       pub own_row : (w : Keyword) → wanted W u S k p v w ≡ is_empty (own W u S k p v P Q w)
-      own_row additional_properties = empty_where (is_truth false p.whole.schema) (is_empty (additional S W u v)) p.whole (λ s. unexpected_faults (has_neighbour S) (additional S W u v) v (P // k) Q) (unexpected_row (has_neighbour S) (additional S W u v))
+      own_row additional_properties = additional_own_row W u S k p v P Q
       own_row property_names = both_empty _ _ _ _
           (empty_where (is_object p.whole.schema) (list_all (λ m. holds p.whole (string m.0)) (members v)) p.whole (λ s. flat_map (λ m. map (wrapped v Q) (s.answer.report (string m.0) (P // k) Q)) (members v)) names_row)
           (not_both (is_truth false p.whole.schema) (is_empty (members v)) ∙ none_if (is_truth false p.whole.schema && not (is_empty (members v))) FalseSchema v (P // k) Q)
@@ -144,7 +110,8 @@ module _ (W : World) (u : Bool) where
       pub keyword_row : (w : Keyword) → keyword_accepts W u S k p v w ≡ is_empty (keyword_report W u S k p v P Q w)
       keyword_row w = both_empty _ _ _ _
           (all_empty (λ a. holds a.sub a.value) (λ a. a.sub.answer.report a.value (down P a.in_schema) (down Q a.in_instance)) (applied W u S k p v w)
-          (Each-implies AgreesAsked (λ a. holds a.sub a.value ≡ is_empty (a.sub.answer.report a.value (down P a.in_schema) (down Q a.in_instance))) (λ a g. g a.value (down P a.in_schema) (down Q a.in_instance)) (applied W u S k p v w) (applied_good w)))
+          (Each-implies (GoodAsked Agrees (λ w. ⊤)) (λ a. holds a.sub a.value ≡ is_empty (a.sub.answer.report a.value (down P a.in_schema) (down Q a.in_instance))) (λ a g. g.0 a.value (down P a.in_schema) (down Q a.in_instance)) (applied W u S k p v w)
+          (applied_good Agrees (λ w. ⊤) W u S k p h v tt (Each-any (λ m. ⊤) (λ m. tt) (members v)) w)))
           (own_row w)
 
   keep : (S : Schema Meaning) → GoodSchema Agrees S → (v : Data) (P Q : Path) → (meaning_step W u S).accepts v ≡ is_empty ((meaning_step W u S).report v P Q)

@@ -5,7 +5,9 @@ use Rattle.olk_spec.specs.Names.{Name, Path, is_empty}
 use Rattle.olk_spec.specs.World.{World}
 use Rattle.olk_spec.specs.Faults.{Fault}
 use Rattle.olk_spec.specs.Schemas.{is_object}
-use Rattle.olk_spec.specs.Meaning.{accepts, report, IsReport}
+use Rattle.olk_spec.specs.Tree.{is_valid}
+use Rattle.olk_spec.specs.Distinct.{DistinctNames}
+use Rattle.olk_spec.specs.Meaning.{accepts, report, tree, IsReport}
 
 -- the schema object with one keyword
 abbrev pub only : Name → Data → Data
@@ -32,3 +34,7 @@ One_branch k = (W : World) (u : Bool) (S v : Data) → accepts W u (only k (arra
 -- a value that is no object passes a keyword, whatever the keyword's value
 abbrev pub Passes : Name → Type 0
 Passes k = (W : World) (u : Bool) (d v : Data) → is_object v ≡ false → accepts W u (only k d) v ≡ true
+
+-- the tree is valid exactly where the schema accepts
+abbrev pub Verdict_of_trees : Type 0
+Verdict_of_trees = (W : World) (u : Bool) (S v : Data) (P Q : Path) → DistinctNames S → DistinctNames v → is_valid (tree W u S v P Q) ≡ accepts W u S v

@@ -14,6 +14,8 @@ pub mod Malformed
 pub mod Costs
 pub mod Trees
 pub mod Meaning
+pub mod Distinct
 pub mod Laws
 pub mod Json
 pub mod Bench
+pub mod Refused

@@ -1,5 +1,5 @@
 //! Definitions of what a schema means, and the laws that they keep.
 #![tactic(auto)]
 
-pub mod literals;
 pub mod laws;
+pub mod literals;

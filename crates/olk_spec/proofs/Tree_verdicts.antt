@@ -1,0 +1,595 @@
+-- A tree is valid exactly where its schema accepts.
+use Rattle.std.specs.Prelude.{◌≡◌, Bool, true, false, not, cond, ◌&&◌, ◌||◌, ◌==◌, nat_lt, nat_eq, List, [], ◌∷◌, ◌++◌, map, codes, length, Option, Some, None, option_to_list, is_some}
+use Rattle.std.specs.List.{flat_map, list_all, list_any}
+use Rattle.std.proofs.Common.{refl, sym, ◌∙◌, ap, subst}
+use Rattle.std.proofs.lemmas.List.{append-nil}
+use Rattle.std.proofs.lemmas.List.Folds.{list_all-append, list_all-map}
+use mathlib.Core.Bool.{true≢false}
+use Rattle.serde_json.specs.Data.{Data, null, boolean, number, string, array, object, Items, no_items, item, Members, no_members, member}
+use Rattle.olk_spec.specs.Names.{Name, Path, ◌//◌, down, those, put_if, is_empty, is_among, lookup}
+use Rattle.olk_spec.specs.World.{World}
+use Rattle.olk_spec.specs.Vocabulary.{Keyword, properties, pattern_properties, additional_properties, property_names, required, dependent_required, dependent_schemas, dependencies, property_dependencies, all_of, any_of, one_of, not_keyword, if_keyword, then_keyword, else_keyword, leaf, keyword_named}
+use Rattle.olk_spec.specs.Schemas.{at, has, is_array, is_object, is_truth, Schema, Keywords, Part, listed, members, branches, names, texts, read, read_members, name_lists, parts_at, entries_at, names_at, wholes_at, is_present}
+use Rattle.olk_spec.specs.Meanings.{Meaning, Subschema, holds, applied, additional, Asked, asked, matches, matching, restricts, is_declared, is_conditional, if_accepts, if_refuses}
+use Rattle.olk_spec.specs.Accepts.{wanted, keyword_accepts, missing, due, accepting}
+use Rattle.olk_spec.specs.Faults.{Fault, fault, FalseSchema, Not, Required, Leaf, Kind}
+use Rattle.olk_spec.specs.Reports.{fault_if, required_faults, own}
+use Rattle.olk_spec.specs.Tree.{Tree, node, no_tree, Described, is_valid, result, result_node, plain, erring, described, described_fault, trees_from}
+use Rattle.olk_spec.specs.Trees.{where_so, declared_trees, pattern_trees, additional_trees, additional_names, matched_names, on_objects, missing_child, branch_trees, asked_trees, additional_child, names_child, due_trees, dependency_tree, any_of_child, one_of_child, are_two, case_trees, if_child, keyword_child, fuses_one, fuses_two, declares, has_patterns}
+use Rattle.olk_spec.specs.Meaning.{meaning, meaning_step}
+use Rattle.olk_spec.specs.Distinct.{DistinctNames, DistinctInItems, DistinctInMembers}
+use Rattle.olk_spec.specs.Laws.{Verdict_of_trees}
+use Rattle.olk_spec.proofs.Each.{Each, On, Each-implies, Each-those, Each-option, Each-both, On-lookup}
+use Rattle.olk_spec.proofs.Induction.{sound_answer, EachItem, EachMember, schema_read, GoodSub, GoodEntry, GoodSchema, GoodKeywords, GoodPart, branches_good, entries_at_good, wholes_at_good}
+use Rattle.olk_spec.proofs.Applied.{GoodAsked, applied_good}
+use Rattle.olk_spec.proofs.Passing.{flat_map-none}
+use Rattle.olk_spec.proofs.Truth.{or_true, and_true, not_or_same, not_not, or_false, and_first, and_second, or_second, or_from, and_from, same_truth, regroup, dependency_truth, missing_truth, unless_either, among_truth, some_counted, is_among-those, Each-among, each_true, all_true, any_of_either}
+use Rattle.olk_spec.proofs.Walks.{neither, Distinct, Distinct-from, Distinct-map, On-lookup-named, Each-found, list_all-flat_map, list_all-and, list_all-same, list_all-where, list_all-those, list_all-inside_out, list_all-other_side}
+use Rattle.olk_spec.proofs.Named.{Named, named}
+use Rattle.olk_spec.proofs.Reading.{members_read, entries_read, place}
+use Rattle.olk_spec.proofs.Verdicts.{is_empty-map, exactly_one, additional_own_row}
+
+-- ---- results
+
+valid_node : (b : Bool) (P Q : Path) (a : Option (List Name)) (es : List Described) (ts : List Tree) → is_valid (result_node P Q b a es (trees_from ts)) ≡ b
+valid_node true P Q a es ts = refl
+valid_node false P Q a es ts = refl
+
+pub is_valid-result : (P Q : Path) (a : Option (List Name)) (c : Bool) (es : List Described) (ts : List Tree) → is_valid (result P Q a c es ts) ≡ (is_empty es && not c && list_all is_valid ts)
+is_valid-result P Q a c es ts = valid_node (is_empty es && not c && list_all is_valid ts) P Q a es ts
+
+pub is_valid-plain : (P Q : Path) (ts : List Tree) → is_valid (plain P Q ts) ≡ list_all is_valid ts
+is_valid-plain P Q ts = is_valid-result P Q None false [] ts
+
+pub is_valid-erring : (P Q : Path) (fs : List Fault) → is_valid (erring P Q fs) ≡ is_empty fs
+is_valid-erring P Q fs = is_valid-result P Q None false (described fs) [] ∙ and_true (is_empty (described fs) && true) ∙ and_true (is_empty (described fs)) ∙ is_empty-map described_fault fs
+
+one_valid : (t : Tree) → list_all is_valid (t ∷ []) ≡ is_valid t
+one_valid t = and_true (is_valid t)
+
+plain_valid : (P Q : Path) (ts : List Tree) → list_all is_valid (plain P Q ts ∷ []) ≡ list_all is_valid ts
+plain_valid P Q ts = one_valid (plain P Q ts) ∙ is_valid-plain P Q ts
+
+erring_valid : (P Q : Path) (fs : List Fault) → list_all is_valid (erring P Q fs ∷ []) ≡ is_empty fs
+erring_valid P Q fs = one_valid (erring P Q fs) ∙ is_valid-erring P Q fs
+
+where_valid : (b : Bool) (t : Tree) (c : Bool) → is_valid t ≡ c → list_all is_valid (where_so b t) ≡ (not b || c)
+where_valid b t c e = list_all-where is_valid b t ∙ ap (λ d. not b || d) e
+
+none_where : (b : Bool) (k : Kind) (v : Data) (P Q : Path) → is_empty (fault_if b k v P Q) ≡ not b
+none_where true k v P Q = refl
+none_where false k v P Q = refl
+
+none_missing : (ns : List Name) (v : Data) (P Q : Path) → is_empty (required_faults ns v P Q) ≡ is_empty (missing ns v)
+none_missing ns v P Q = is_empty-map (λ n. fault (Required n) v Q P) (missing ns v)
+
+-- ---- values
+
+pub Distinct-members : (d : Data) → DistinctNames d → Distinct (members d)
+Distinct-members null h = tt
+Distinct-members (boolean b) h = tt
+Distinct-members (number n) h = tt
+Distinct-members (string s) h = tt
+Distinct-members (array ds) h = tt
+Distinct-members (object ms) h = Distinct-from (listed ms) h.0
+
+Each-listed : (ms : Members) → DistinctInMembers ms → Each (λ m. DistinctNames m.1) (listed ms)
+Each-listed no_members h = tt
+Each-listed (member n d ms) h = (h.0, Each-listed ms h.1)
+
+pub DistinctNames-members : (d : Data) → DistinctNames d → Each (λ m. DistinctNames m.1) (members d)
+DistinctNames-members null h = tt
+DistinctNames-members (boolean b) h = tt
+DistinctNames-members (number n) h = tt
+DistinctNames-members (string s) h = tt
+DistinctNames-members (array ds) h = tt
+DistinctNames-members (object ms) h = Each-listed ms h.1
+
+-- ---- the keywords of one schema object
+
+-- the answer's tree is valid exactly where it accepts
+abbrev pub TreeAgrees : Data → Meaning → Type 0
+TreeAgrees d m = (v : Data) (P Q : Path) → DistinctNames v → is_valid (m.tree v P Q) ≡ m.accepts v
+
+module _ (W : World) (u : Bool) (S : Keywords Meaning) (h : GoodKeywords TreeAgrees S) (dS : Distinct S) (dE : Each (λ m. Distinct m.1.entries) S) (v : Data) (dv : DistinctNames v) (P Q : Path) where
+  -- what the keyword of a name accepts, where it is there
+  abbrev accepts_at : Name → Keyword → Bool
+  accepts_at k w = list_all (λ p. keyword_accepts W u S k p v w) (parts_at S k)
+
+  abbrev the_properties : Bool
+  the_properties = accepts_at (codes "properties") properties
+
+  abbrev the_patterns : Bool
+  the_patterns = accepts_at (codes "patternProperties") pattern_properties
+
+  abbrev the_required : Bool
+  the_required = accepts_at (codes "required") required
+
+  abbrev the_then : Bool
+  the_then = accepts_at (codes "then") then_keyword
+
+  abbrev the_else : Bool
+  the_else = accepts_at (codes "else") else_keyword
+
+  dM : Distinct (members v)
+  dM = Distinct-members v dv
+
+  fines : Each (λ m. DistinctNames m.1) (members v)
+  fines = DistinctNames-members v dv
+
+  entries_distinct : (k : Name) → Distinct (entries_at S k)
+  entries_distinct k = by (lookup k S) (On-lookup (λ p. Distinct p.entries) k S dE)
+    where
+      by : (o : Option (Part Meaning)) → On (λ p. Distinct p.entries) o → Distinct (flat_map (λ p. p.entries) (option_to_list o))
+      by None g = tt
+      by (Some p) g = subst Distinct (sym (append-nil p.entries)) g
+
+  -- ---- the walk over the members
+
+  -- a declared name's subschema over the member of that name
+  declared_row : list_all is_valid (flat_map (declared_trees W u S v P Q) (members v)) ≡ the_properties
+  declared_row =
+      list_all-flat_map is_valid (declared_trees W u S v P Q) (members v)
+      ∙ list_all-same (λ m. list_all is_valid (declared_trees W u S v P Q m)) (λ m. list_all (λ s. holds s m.1) (option_to_list (lookup m.0 es))) (members v) (Each-implies (λ m. DistinctNames m.1) (λ m. list_all is_valid (declared_trees W u S v P Q m) ≡ list_all (λ s. holds s m.1) (option_to_list (lookup m.0 es))) of_member (members v) fines)
+      ∙ sym (list_all-other_side (λ s w. holds s w) es (members v) (entries_distinct (codes "properties")) dM)
+      ∙ list_all-flat_map (λ e. list_all (λ w. holds e.1 w) (at e.0 v)) (λ p. p.entries) (parts_at S (codes "properties"))
+      ∙ (λ i. list_all (λ p. of_part p i) (parts_at S (codes "properties")))
+    where
+      es : List (Name × Subschema)
+      es = entries_at S (codes "properties")
+
+      of_member : (m : Name × Data) → DistinctNames m.1 → list_all is_valid (declared_trees W u S v P Q m) ≡ list_all (λ s. holds s m.1) (option_to_list (lookup m.0 es))
+      of_member m g = list_all-map is_valid (λ s. s.answer.tree m.1 (P // codes "properties" // m.0) (Q // m.0)) (option_to_list (lookup m.0 es))
+          ∙ list_all-same (λ s. is_valid (s.answer.tree m.1 (P // codes "properties" // m.0) (Q // m.0))) (λ s. holds s m.1) (option_to_list (lookup m.0 es)) (Each-implies (GoodSub TreeAgrees) (λ s. is_valid (s.answer.tree m.1 (P // codes "properties" // m.0) (Q // m.0)) ≡ holds s m.1) (λ s c. c m.1 (P // codes "properties" // m.0) (Q // m.0) g) (option_to_list (lookup m.0 es)) (Each-option (GoodSub TreeAgrees) (lookup m.0 es) (On-lookup (GoodSub TreeAgrees) m.0 es (entries_at_good TreeAgrees S h (codes "properties")))))
+
+      of_part : (p : Part Meaning) → list_all (λ e. list_all (λ w. holds e.1 w) (at e.0 v)) p.entries ≡ keyword_accepts W u S (codes "properties") p v properties
+      of_part p = sym (and_true (list_all (λ a. holds a.sub a.value) (applied W u S (codes "properties") p v properties))
+          ∙ list_all-flat_map (λ a. holds a.sub a.value) (λ e. map (λ w. asked e.1 w (codes "properties" ∷ e.0 ∷ []) (e.0 ∷ [])) (at e.0 v)) p.entries
+          ∙ (λ i. list_all (λ e. list_all-map (λ a. holds a.sub a.value) (λ w. asked e.1 w (codes "properties" ∷ e.0 ∷ []) (e.0 ∷ [])) (at e.0 v) i) p.entries))
+
+  -- a pattern's subschema over each member that it matches
+  patterns_row : list_all is_valid (flat_map (pattern_trees W u S v P Q) (members v)) ≡ the_patterns
+  patterns_row =
+      list_all-flat_map is_valid (pattern_trees W u S v P Q) (members v)
+      ∙ list_all-same (λ m. list_all is_valid (pattern_trees W u S v P Q m)) (λ m. list_all (λ e. not (matches W u e.0 m.0) || holds e.1 m.1) es) (members v) (Each-implies (λ m. DistinctNames m.1) (λ m. list_all is_valid (pattern_trees W u S v P Q m) ≡ list_all (λ e. not (matches W u e.0 m.0) || holds e.1 m.1) es) of_member (members v) fines)
+      ∙ list_all-inside_out (λ m e. not (matches W u e.0 m.0) || holds e.1 m.1) (members v) es
+      ∙ list_all-flat_map (λ e. list_all (λ m. not (matches W u e.0 m.0) || holds e.1 m.1) (members v)) (λ p. p.entries) (parts_at S (codes "patternProperties"))
+      ∙ (λ i. list_all (λ p. of_part p i) (parts_at S (codes "patternProperties")))
+    where
+      es : List (Name × Subschema)
+      es = entries_at S (codes "patternProperties")
+
+      of_member : (m : Name × Data) → DistinctNames m.1 → list_all is_valid (pattern_trees W u S v P Q m) ≡ list_all (λ e. not (matches W u e.0 m.0) || holds e.1 m.1) es
+      of_member m g = list_all-map is_valid (λ e. e.1.answer.tree m.1 (P // codes "patternProperties" // e.0) (Q // m.0)) (those (λ e. matches W u e.0 m.0) es)
+          ∙ list_all-same (λ e. is_valid (e.1.answer.tree m.1 (P // codes "patternProperties" // e.0) (Q // m.0))) (λ e. holds e.1 m.1) (those (λ e. matches W u e.0 m.0) es) (Each-implies (GoodEntry TreeAgrees) (λ e. is_valid (e.1.answer.tree m.1 (P // codes "patternProperties" // e.0) (Q // m.0)) ≡ holds e.1 m.1) (λ e c. c m.1 (P // codes "patternProperties" // e.0) (Q // m.0) g) (those (λ e. matches W u e.0 m.0) es) (Each-those (GoodEntry TreeAgrees) (λ e. matches W u e.0 m.0) es (entries_at_good TreeAgrees S h (codes "patternProperties"))))
+          ∙ list_all-those (λ e. holds e.1 m.1) (λ e. matches W u e.0 m.0) es
+
+      of_part : (p : Part Meaning) → list_all (λ e. list_all (λ m. not (matches W u e.0 m.0) || holds e.1 m.1) (members v)) p.entries ≡ keyword_accepts W u S (codes "patternProperties") p v pattern_properties
+      of_part p = sym (and_true (list_all (λ a. holds a.sub a.value) (applied W u S (codes "patternProperties") p v pattern_properties))
+          ∙ list_all-flat_map (λ a. holds a.sub a.value) (λ e. map (λ m. asked e.1 m.1 (codes "patternProperties" ∷ e.0 ∷ []) (m.0 ∷ [])) (those (λ m. matches W u e.0 m.0) (members v))) p.entries
+          ∙ (λ i. list_all (λ e. (list_all-map (λ a. holds a.sub a.value) (λ m. asked e.1 m.1 (codes "patternProperties" ∷ e.0 ∷ []) (m.0 ∷ [])) (those (λ m. matches W u e.0 m.0) (members v)) ∙ list_all-those (λ m. holds e.1 m.1) (λ m. matches W u e.0 m.0) (members v)) i) p.entries))
+
+  -- `required` inside another validator
+  missing_row : (b : Bool) → list_all is_valid (missing_child W u S v P Q b) ≡ (not b || the_required)
+  missing_row b = where_valid (b && not (is_empty (missing ns v))) (erring (P // codes "required") Q (required_faults ns v (P // codes "required") Q)) (is_empty (missing ns v)) (is_valid-erring (P // codes "required") Q (required_faults ns v (P // codes "required") Q) ∙ none_missing ns v (P // codes "required") Q)
+      ∙ missing_truth b (is_empty (missing ns v))
+      ∙ ap (λ c. not b || c) (by (lookup (codes "required") S))
+    where
+      ns : List Name
+      ns = names_at S (codes "required")
+
+      by : (o : Option (Part Meaning)) → is_empty (missing (flat_map names (option_to_list o)) v) ≡ list_all (λ p. keyword_accepts W u S (codes "required") p v required) (option_to_list o)
+      by None = refl
+      by (Some p) = ap (λ xs. is_empty (missing xs v)) (append-nil (names p)) ∙ sym (and_true (is_empty (missing (names p) v)))
+
+  -- ---- the child of one keyword
+
+  module _ (k : Name) (p : Part Meaning) (g : GoodPart TreeAgrees p) where
+    asked_row : (w : Keyword) → list_all is_valid (asked_trees W u S v P Q k p w) ≡ list_all (λ a. holds a.sub a.value) (applied W u S k p v w)
+    asked_row w = list_all-map is_valid (λ a. a.sub.answer.tree a.value (down P a.in_schema) (down Q a.in_instance)) (applied W u S k p v w)
+        ∙ list_all-same (λ a. is_valid (a.sub.answer.tree a.value (down P a.in_schema) (down Q a.in_instance))) (λ a. holds a.sub a.value) (applied W u S k p v w) (Each-implies (GoodAsked TreeAgrees DistinctNames) (λ a. is_valid (a.sub.answer.tree a.value (down P a.in_schema) (down Q a.in_instance)) ≡ holds a.sub a.value) (λ a c. c.0 a.value (down P a.in_schema) (down Q a.in_instance) c.1) (applied W u S k p v w) (applied_good TreeAgrees DistinctNames W u S k p g v dv fines w))
+
+    asked_child : (w : Keyword) → list_all is_valid (plain (P // k) Q (asked_trees W u S v P Q k p w) ∷ []) ≡ (list_all (λ a. holds a.sub a.value) (applied W u S k p v w) && true)
+    asked_child w = plain_valid (P // k) Q (asked_trees W u S v P Q k p w) ∙ asked_row w ∙ sym (and_true (list_all (λ a. holds a.sub a.value) (applied W u S k p v w)))
+
+    abbrev is_additional : Name → Bool
+    is_additional n = not (is_declared S n) && is_empty (matching S W u n)
+
+    additional_row : list_all is_valid (flat_map (additional_trees W u S v P Q k p) (members v)) ≡ list_all (λ a. holds a.sub a.value) (applied W u S k p v additional_properties)
+    additional_row =
+        list_all-flat_map is_valid (additional_trees W u S v P Q k p) (members v)
+        ∙ list_all-same (λ m. list_all is_valid (additional_trees W u S v P Q k p m)) (λ m. not (is_additional m.0) || (not (is_object p.whole.schema) || holds p.whole m.1)) (members v) (Each-implies (λ m. DistinctNames m.1 × (is_among m.0 (map (λ e. e.0) (members v)) ≡ true)) (λ m. list_all is_valid (additional_trees W u S v P Q k p m) ≡ (not (is_additional m.0) || (not (is_object p.whole.schema) || holds p.whole m.1))) of_member (members v) (Each-both (λ m. DistinctNames m.1) (λ m. is_among m.0 (map (λ e. e.0) (members v)) ≡ true) (members v) fines (Each-among (members v))))
+        ∙ sym (list_all-flat_map (λ a. holds a.sub a.value) (λ m. put_if (is_object p.whole.schema) (asked p.whole m.1 (k ∷ []) (m.0 ∷ [])) []) (additional S W u v)
+        ∙ (λ i. list_all (λ m. list_all-where (λ a. holds a.sub a.value) (is_object p.whole.schema) (asked p.whole m.1 (k ∷ []) (m.0 ∷ [])) i) (additional S W u v))
+        ∙ list_all-those (λ m. not (is_object p.whole.schema) || holds p.whole m.1) (λ m. is_additional m.0) (members v))
+      where
+        of_member : (m : Name × Data) → DistinctNames m.1 × (is_among m.0 (map (λ e. e.0) (members v)) ≡ true) → list_all is_valid (additional_trees W u S v P Q k p m) ≡ (not (is_additional m.0) || (not (is_object p.whole.schema) || holds p.whole m.1))
+        of_member m c = where_valid (is_object p.whole.schema && is_among m.0 (additional_names W u S v P Q)) (p.whole.answer.tree m.1 (P // k) (Q // m.0)) (holds p.whole m.1) (g.0 m.1 (P // k) (Q // m.0) c.0)
+            ∙ ap (λ b. not (is_object p.whole.schema && b) || holds p.whole m.1) (is_among-those is_additional m.0 (members v) ∙ ap (λ b. is_additional m.0 && b) c.1)
+            ∙ among_truth (is_object p.whole.schema) (is_additional m.0) (holds p.whole m.1)
+
+    -- the declared, the matching and the additional schemas, member by member
+    members_row : list_all is_valid (flat_map (λ m. declared_trees W u S v P Q m ++ pattern_trees W u S v P Q m ++ additional_trees W u S v P Q k p m) (members v)) ≡ ((the_properties && the_patterns) && list_all (λ a. holds a.sub a.value) (applied W u S k p v additional_properties))
+    members_row =
+        list_all-flat_map is_valid (λ m. ds m ++ ps m ++ rs m) (members v)
+        ∙ (λ i. list_all (λ m. (list_all-append is_valid (ds m ++ ps m) (rs m) ∙ ap (λ b. b && list_all is_valid (rs m)) (list_all-append is_valid (ds m) (ps m))) i) (members v))
+        ∙ list_all-and (λ m. list_all is_valid (ds m) && list_all is_valid (ps m)) (λ m. list_all is_valid (rs m)) (members v)
+        ∙ ap (λ b. b && list_all (λ m. list_all is_valid (rs m)) (members v)) (list_all-and (λ m. list_all is_valid (ds m)) (λ m. list_all is_valid (ps m)) (members v))
+        ∙ (λ i. (sym (list_all-flat_map is_valid ds (members v)) i && sym (list_all-flat_map is_valid ps (members v)) i) && sym (list_all-flat_map is_valid rs (members v)) i)
+        ∙ (λ i. (declared_row i && patterns_row i) && additional_row i)
+      where
+        ds : Name × Data → List Tree
+        ds m = declared_trees W u S v P Q m
+
+        ps : Name × Data → List Tree
+        ps m = pattern_trees W u S v P Q m
+
+        rs : Name × Data → List Tree
+        rs m = additional_trees W u S v P Q k p m
+
+    additional_child_row : list_all is_valid (additional_child W u S v P Q k p) ≡ (not (restricts S) || (keyword_accepts W u S k p v additional_properties && ((the_properties && the_patterns) && (not (fuses_one S) || the_required))))
+    additional_child_row = where_valid (restricts S) (result (P // k) Q annotation false (described (own W u S k p v P Q additional_properties)) (walked ++ matched_child ++ missing_child W u S v P Q (fuses_one S))) (keyword_accepts W u S k p v additional_properties && ((the_properties && the_patterns) && (not (fuses_one S) || the_required)))
+        (is_valid-result (P // k) Q annotation false (described (own W u S k p v P Q additional_properties)) (walked ++ matched_child ++ missing_child W u S v P Q (fuses_one S))
+        ∙ (λ i. (own_part i && true) && children i)
+        ∙ regroup (wanted W u S k p v additional_properties) the_properties the_patterns (list_all (λ a. holds a.sub a.value) (applied W u S k p v additional_properties)) (not (fuses_one S) || the_required))
+      where
+        annotation : Option (List Name)
+        annotation = on_objects W u S v P Q (is_object p.whole.schema && (cond (declares S) (has_patterns S) (not (has_patterns S)) || not (is_empty (additional_names W u S v P Q)))) (additional_names W u S v P Q)
+
+        own_part : is_empty (described (own W u S k p v P Q additional_properties)) ≡ wanted W u S k p v additional_properties
+        own_part = is_empty-map described_fault (own W u S k p v P Q additional_properties) ∙ sym (additional_own_row W u S k p v P Q)
+
+        matched_child : List Tree
+        matched_child = where_so (has_patterns S && not (declares S) && not (is_empty (matched_names W u S v P Q))) (node (P // codes "patternProperties") Q true (Some (matched_names W u S v P Q)) [] no_tree)
+
+        matched_row : list_all is_valid matched_child ≡ true
+        matched_row = where_valid (has_patterns S && not (declares S) && not (is_empty (matched_names W u S v P Q))) (node (P // codes "patternProperties") Q true (Some (matched_names W u S v P Q)) [] no_tree) true refl ∙ or_true (not (has_patterns S && not (declares S) && not (is_empty (matched_names W u S v P Q))))
+
+        walked : List Tree
+        walked = flat_map (λ m. declared_trees W u S v P Q m ++ pattern_trees W u S v P Q m ++ additional_trees W u S v P Q k p m) (members v)
+
+        children : list_all is_valid (walked ++ matched_child ++ missing_child W u S v P Q (fuses_one S)) ≡ ((((the_properties && the_patterns) && list_all (λ a. holds a.sub a.value) (applied W u S k p v additional_properties)) && true) && (not (fuses_one S) || the_required))
+        children = list_all-append is_valid (walked ++ matched_child) (missing_child W u S v P Q (fuses_one S))
+            ∙ ap (λ b. b && list_all is_valid (missing_child W u S v P Q (fuses_one S))) (list_all-append is_valid walked matched_child)
+            ∙ (λ i. (members_row i && matched_row i) && missing_row (fuses_one S) i)
+
+    names_row : list_all is_valid (names_child W u S v P Q k p) ≡ keyword_accepts W u S k p v property_names
+    names_row =
+        list_all-append is_valid (where_so (is_object p.whole.schema) (plain (P // k) Q name_trees)) (where_so (is_truth false p.whole.schema) (erring (P // k) Q none_allowed))
+        ∙ (λ i. where_valid (is_object p.whole.schema) (plain (P // k) Q name_trees) (list_all (λ m. holds p.whole (string m.0)) (members v)) (is_valid-plain (P // k) Q name_trees ∙ names_valid) i
+        && where_valid (is_truth false p.whole.schema) (erring (P // k) Q none_allowed) (is_empty (members v)) (is_valid-erring (P // k) Q none_allowed ∙ none_where (not (is_empty (members v))) FalseSchema v (P // k) Q ∙ not_not (is_empty (members v))) i)
+      where
+        name_trees : List Tree
+        name_trees = map (λ m. p.whole.answer.tree (string m.0) (P // k) Q) (members v)
+
+        none_allowed : List Fault
+        none_allowed = fault_if (not (is_empty (members v))) FalseSchema v (P // k) Q
+
+        names_valid : list_all is_valid name_trees ≡ list_all (λ m. holds p.whole (string m.0)) (members v)
+        names_valid = list_all-map is_valid (λ m. p.whole.answer.tree (string m.0) (P // k) Q) (members v) ∙ (λ i. list_all (λ m. g.0 (string m.0) (P // k) Q tt i) (members v))
+
+    due_row : list_all is_valid (due_trees W u S v P Q k p) ≡ list_all (λ e. is_empty (missing e.1 v)) (due p v)
+    due_row = list_all-map is_valid (λ e. erring (P // k) Q (required_faults e.1 v (P // k) Q)) (due p v)
+        ∙ (λ i. list_all (λ e. (is_valid-erring (P // k) Q (required_faults e.1 v (P // k) Q) ∙ none_missing e.1 v (P // k) Q) i) (due p v))
+
+    dependencies_row : list_all is_valid (map (dependency_tree W u S v P Q k p) (those (λ e. has e.0 v) p.entries)) ≡ keyword_accepts W u S k p v dependencies
+    dependencies_row =
+        list_all-map is_valid (dependency_tree W u S v P Q k p) (those (λ e. has e.0 v) p.entries)
+        ∙ list_all-those (λ e. is_valid (dependency_tree W u S v P Q k p e)) (λ e. has e.0 v) p.entries
+        ∙ list_all-same (λ e. not (has e.0 v) || is_valid (dependency_tree W u S v P Q k p e)) (λ e. (not (has e.0 v && not (is_array e.1.schema)) || holds e.1 v) && (not (is_array e.1.schema) || (not (has e.0 v) || is_empty (missing (texts e.1.schema) v)))) p.entries (Each-implies (GoodEntry TreeAgrees) (λ e. (not (has e.0 v) || is_valid (dependency_tree W u S v P Q k p e)) ≡ ((not (has e.0 v && not (is_array e.1.schema)) || holds e.1 v) && (not (is_array e.1.schema) || (not (has e.0 v) || is_empty (missing (texts e.1.schema) v))))) of_entry p.entries g.1)
+        ∙ list_all-and (λ e. not (has e.0 v && not (is_array e.1.schema)) || holds e.1 v) (λ e. not (is_array e.1.schema) || (not (has e.0 v) || is_empty (missing (texts e.1.schema) v))) p.entries
+        ∙ (λ i. sym subschemas i && sym name_lists_row i)
+      where
+        of_valid : (b : Bool) (s t : Tree) → is_valid (cond b s t) ≡ cond b (is_valid s) (is_valid t)
+        of_valid true s t = refl
+        of_valid false s t = refl
+
+        of_entry : (e : Name × Subschema) → GoodEntry TreeAgrees e → (not (has e.0 v) || is_valid (dependency_tree W u S v P Q k p e)) ≡ ((not (has e.0 v && not (is_array e.1.schema)) || holds e.1 v) && (not (is_array e.1.schema) || (not (has e.0 v) || is_empty (missing (texts e.1.schema) v))))
+        of_entry e c = ap (λ b. not (has e.0 v) || b) (of_valid (is_array e.1.schema) (erring (P // k) Q (required_faults (texts e.1.schema) v (P // k) Q)) (e.1.answer.tree v (P // k // e.0) Q))
+            ∙ dependency_truth (has e.0 v) (is_array e.1.schema) _ _ (is_empty (missing (texts e.1.schema) v)) (holds e.1 v) (is_valid-erring (P // k) Q (required_faults (texts e.1.schema) v (P // k) Q) ∙ none_missing (texts e.1.schema) v (P // k) Q) (c v (P // k // e.0) Q dv)
+
+        subschemas : list_all (λ a. holds a.sub a.value) (applied W u S k p v dependencies) ≡ list_all (λ e. not (has e.0 v && not (is_array e.1.schema)) || holds e.1 v) p.entries
+        subschemas = list_all-map (λ a. holds a.sub a.value) (λ e. asked e.1 v (k ∷ e.0 ∷ []) []) (those (λ e. has e.0 v && not (is_array e.1.schema)) p.entries) ∙ list_all-those (λ e. holds e.1 v) (λ e. has e.0 v && not (is_array e.1.schema)) p.entries
+
+        name_lists_row : list_all (λ e. is_empty (missing e.1 v)) (due p v) ≡ list_all (λ e. not (is_array e.1.schema) || (not (has e.0 v) || is_empty (missing (texts e.1.schema) v))) p.entries
+        name_lists_row = list_all-those (λ e. is_empty (missing e.1 v)) (λ e. has e.0 v) (name_lists p)
+            ∙ list_all-map (λ e. not (has e.0 v) || is_empty (missing e.1 v)) (λ e. (e.0, texts e.1.schema)) (those (λ e. is_array e.1.schema) p.entries)
+            ∙ list_all-those (λ e. not (has e.0 v) || is_empty (missing (texts e.1.schema) v)) (λ e. is_array e.1.schema) p.entries
+
+    -- the branches that accept
+    branches_row : list_all is_valid (branch_trees W u S v P Q k p (λ s. holds s v)) ≡ true
+    branches_row = list_all-map is_valid (λ b. b.1.answer.tree v (P // k // b.0) Q) (those (λ b. holds b.1 v) (branches p))
+        ∙ list_all-those (λ b. is_valid (b.1.answer.tree v (P // k // b.0) Q)) (λ b. holds b.1 v) (branches p)
+        ∙ all_true (λ b. not (holds b.1 v) || is_valid (b.1.answer.tree v (P // k // b.0) Q)) (branches p) (Each-implies (GoodEntry TreeAgrees) (λ b. (not (holds b.1 v) || is_valid (b.1.answer.tree v (P // k // b.0) Q)) ≡ true) (λ b c. ap (λ a. not (holds b.1 v) || a) (c v (P // k // b.0) Q dv) ∙ not_or_same (holds b.1 v)) (branches p) (branches_good TreeAgrees p g))
+
+    any_of_row : is_valid (any_of_child W u S v P Q k p) ≡ not (accepting p v == 0)
+    any_of_row = by (accepting p v == 0)
+      where
+        by : (b : Bool) → is_valid (cond b (result (P // k) Q None true [] (branch_trees W u S v P Q k p (λ s. true))) (plain (P // k) Q (branch_trees W u S v P Q k p (λ s. holds s v)))) ≡ not b
+        by true = is_valid-result (P // k) Q None true [] (branch_trees W u S v P Q k p (λ s. true))
+        by false = is_valid-plain (P // k) Q (branch_trees W u S v P Q k p (λ s. holds s v)) ∙ branches_row
+
+    one_of_row : is_valid (one_of_child W u S v P Q k p) ≡ (accepting p v == 1)
+    one_of_row = by (accepting p v == 0) ∙ sym (exactly_one (accepting p v))
+      where
+        told : List Described
+        told = put_if (nat_lt 1 (accepting p v)) (codes "oneOf", codes "more than one subschema succeeded") []
+
+        none_told : (b : Bool) (d : Described) → is_empty (put_if b d []) ≡ not b
+        none_told true d = refl
+        none_told false d = refl
+
+        by : (b : Bool) → is_valid (cond b (result (P // k) Q None true [] (branch_trees W u S v P Q k p (λ s. true))) (result (P // k) Q None false told (branch_trees W u S v P Q k p (λ s. holds s v)))) ≡ (not b && not (nat_lt 1 (accepting p v)))
+        by true = is_valid-result (P // k) Q None true [] (branch_trees W u S v P Q k p (λ s. true))
+        by false = is_valid-result (P // k) Q None false told (branch_trees W u S v P Q k p (λ s. holds s v))
+            ∙ (λ i. (none_told (nat_lt 1 (accepting p v)) (codes "oneOf", codes "more than one subschema succeeded") i && true) && branches_row i)
+            ∙ and_true (not (nat_lt 1 (accepting p v)) && true) ∙ and_true (not (nat_lt 1 (accepting p v)))
+
+    -- ---- `if`, where this is it
+
+    module _ (there : lookup (codes "if") S ≡ Some p) where
+      accepts_here : if_accepts S v ≡ holds p.whole v
+      accepts_here = ap (λ o. list_any (λ s. holds s v) (map (λ q. q.whole) (option_to_list o))) there ∙ or_false (holds p.whole v)
+
+      refuses_here : if_refuses S v ≡ not (holds p.whole v)
+      refuses_here = ap (λ o. list_any (λ s. not (holds s v)) (map (λ q. q.whole) (option_to_list o))) there ∙ or_false (not (holds p.whole v))
+
+      case_row : (b : Bool) (n : Name) → list_all is_valid (case_trees W u S v P Q k p b n) ≡ list_all (λ q. not b || holds q.whole v) (parts_at S n)
+      case_row b n =
+          list_all-flat_map is_valid (λ s. where_so b (s.answer.tree v (P // n) Q)) (wholes_at S n)
+          ∙ list_all-same (λ s. list_all is_valid (where_so b (s.answer.tree v (P // n) Q))) (λ s. not b || holds s v) (wholes_at S n) (Each-implies (GoodSub TreeAgrees) (λ s. list_all is_valid (where_so b (s.answer.tree v (P // n) Q)) ≡ (not b || holds s v)) (λ s c. where_valid b (s.answer.tree v (P // n) Q) (holds s v) (c v (P // n) Q dv)) (wholes_at S n) (wholes_at_good TreeAgrees S h n))
+          ∙ list_all-map (λ s. not b || holds s v) (λ q. q.whole) (parts_at S n)
+
+      one_asked : (b c : Bool) (n : Name) (q : Part Meaning) → c ≡ b → (list_all (λ a. holds a.sub a.value) (put_if c (asked q.whole v (n ∷ []) []) []) && true) ≡ (not b || holds q.whole v)
+      one_asked b c n q e = and_true (list_all (λ a. holds a.sub a.value) (put_if c (asked q.whole v (n ∷ []) []) [])) ∙ list_all-where (λ a. holds a.sub a.value) c (asked q.whole v (n ∷ []) []) ∙ ap (λ d. not d || holds q.whole v) e
+
+      if_row : list_all is_valid (if_child W u S v P Q k p) ≡ (not (is_conditional S) || (the_then && the_else))
+      if_row = where_valid (is_conditional S) (plain (P // k) Q (itself ++ thens ++ elses)) (the_then && the_else)
+          (is_valid-plain (P // k) Q (itself ++ thens ++ elses)
+          ∙ list_all-append is_valid (itself ++ thens) elses
+          ∙ ap (λ b. b && list_all is_valid elses) (list_all-append is_valid itself thens)
+          ∙ (λ i. (itself_row i && then_row i) && else_row i))
+        where
+          itself : List Tree
+          itself = where_so (holds p.whole v) (p.whole.answer.tree v (P // k) Q)
+
+          thens : List Tree
+          thens = case_trees W u S v P Q k p (holds p.whole v) (codes "then")
+
+          elses : List Tree
+          elses = case_trees W u S v P Q k p (not (holds p.whole v)) (codes "else")
+
+          itself_row : list_all is_valid itself ≡ true
+          itself_row = where_valid (holds p.whole v) (p.whole.answer.tree v (P // k) Q) (holds p.whole v) (g.0 v (P // k) Q dv) ∙ not_or_same (holds p.whole v)
+
+          then_row : list_all is_valid thens ≡ the_then
+          then_row = case_row (holds p.whole v) (codes "then") ∙ (λ i. list_all (λ q. sym (one_asked (holds p.whole v) (if_accepts S v) (codes "then") q accepts_here) i) (parts_at S (codes "then")))
+
+          else_row : list_all is_valid elses ≡ the_else
+          else_row = case_row (not (holds p.whole v)) (codes "else") ∙ (λ i. list_all (λ q. sym (one_asked (not (holds p.whole v)) (if_refuses S v) (codes "else") q refuses_here) i) (parts_at S (codes "else")))
+
+  -- the keyword that a name stands for, where it is this one
+  here : (name : Name) (w : Keyword) (k : Name) (p : Part Meaning) → k ≡ name → lookup k S ≡ Some p → accepts_at name w ≡ keyword_accepts W u S k p v w
+  here name w k p n there = ap (λ a. accepts_at a w) (sym n) ∙ ap (λ o. list_all (λ q. keyword_accepts W u S k q v w) (option_to_list o)) there ∙ and_true (keyword_accepts W u S k p v w)
+
+  -- ---- what a keyword shows, by what the keywords accept
+
+  abbrev shown : Name → Part Meaning → Keyword → Bool
+  shown k p properties = restricts S || (the_properties && (not (fuses_two S) || the_required))
+  shown k p pattern_properties = restricts S || the_patterns
+  shown k p additional_properties = not (restricts S) || (keyword_accepts W u S k p v additional_properties && ((the_properties && the_patterns) && (not (fuses_one S) || the_required)))
+  shown k p required = (fuses_one S || fuses_two S) || keyword_accepts W u S k p v required
+  shown k p if_keyword = not (is_conditional S) || (the_then && the_else)
+  shown k p then_keyword = true
+  shown k p else_keyword = true
+  shown k p w = keyword_accepts W u S k p v w
+
+  module _ (k : Name) (p : Part Meaning) (g : GoodPart TreeAgrees p) (there : lookup k S ≡ Some p) where
+    keyword_row : (w : Keyword) → Named k w → list_all is_valid (keyword_child W u S v P Q k p w) ≡ shown k p w
+    keyword_row properties n = where_valid (not (restricts S)) _ (the_properties && (not (fuses_two S) || the_required)) (is_valid-result (P // k) Q annotation false [] (walked ++ missing_child W u S v P Q (fuses_two S)) ∙ list_all-append is_valid walked (missing_child W u S v P Q (fuses_two S)) ∙ (λ i. declared_row i && missing_row (fuses_two S) i))
+        ∙ ap (λ b. b || (the_properties && (not (fuses_two S) || the_required))) (not_not (restricts S))
+      where
+        annotation : Option (List Name)
+        annotation = on_objects W u S v P Q true (map (λ m. m.0) (those (λ m. is_declared S m.0) (members v)))
+
+        walked : List Tree
+        walked = flat_map (declared_trees W u S v P Q) (members v)
+    keyword_row pattern_properties n = where_valid (not (restricts S)) _ the_patterns (is_valid-result (P // k) Q annotation false [] (asked_trees W u S v P Q k p pattern_properties) ∙ asked_row k p g pattern_properties ∙ patterns_here)
+        ∙ ap (λ b. b || the_patterns) (not_not (restricts S))
+      where
+        annotation : Option (List Name)
+        annotation = on_objects W u S v P Q true (flat_map (λ e. map (λ m. m.0) (those (λ m. matches W u e.0 m.0) (members v))) p.entries)
+
+        patterns_here : list_all (λ a. holds a.sub a.value) (applied W u S k p v pattern_properties) ≡ the_patterns
+        patterns_here = sym (and_true (list_all (λ a. holds a.sub a.value) (applied W u S k p v pattern_properties))) ∙ sym (here (codes "patternProperties") pattern_properties k p n there)
+    keyword_row additional_properties n = additional_child_row k p g
+    keyword_row property_names n = names_row k p g
+    keyword_row required n = where_valid (not (fuses_one S) && not (fuses_two S)) (erring (P // k) Q (required_faults (names p) v (P // k) Q)) (is_empty (missing (names p) v)) (is_valid-erring (P // k) Q (required_faults (names p) v (P // k) Q) ∙ none_missing (names p) v (P // k) Q) ∙ unless_either (fuses_one S) (fuses_two S) (is_empty (missing (names p) v))
+    keyword_row dependent_required n = plain_valid (P // k) Q (due_trees W u S v P Q k p) ∙ due_row k p g
+    keyword_row dependent_schemas n = asked_child k p g dependent_schemas
+    keyword_row dependencies n = plain_valid (P // k) Q (map (dependency_tree W u S v P Q k p) (those (λ e. has e.0 v) p.entries)) ∙ dependencies_row k p g
+    keyword_row property_dependencies n = asked_child k p g property_dependencies
+    keyword_row all_of n = asked_child k p g all_of
+    keyword_row any_of n = one_valid (any_of_child W u S v P Q k p) ∙ any_of_row k p g ∙ sym (some_counted (λ s. holds s v) p.items)
+    keyword_row one_of n = one_valid (one_of_child W u S v P Q k p) ∙ one_of_row k p g
+    keyword_row not_keyword n = erring_valid (P // k) Q (own W u S k p v P Q not_keyword) ∙ none_where (holds p.whole v) (Not p.whole.schema) v (P // k) Q
+    keyword_row if_keyword n = if_row k p g (subst (λ a. lookup a S ≡ Some p) n there)
+    keyword_row leaf n = and_true (is_empty (described (own W u S k p v P Q leaf))) ∙ is_empty-map described_fault (own W u S k p v P Q leaf) ∙ is_empty-map (λ t. fault (Leaf k t) v Q (P // k)) (W.faults k p.whole.schema v)
+    keyword_row _ n = refl
+
+  -- ---- all keywords together
+
+  module _ (shows : (n : Name) → On (λ p. shown n p (keyword_named W n) ≡ true) (lookup n S)) where
+    absent : (k : Name) (w : Keyword) → lookup k S ≡ None → accepts_at k w ≡ true
+    absent k w e = ap (λ o. list_all (λ p. keyword_accepts W u S k p v w) (option_to_list o)) e
+
+    -- where there is a table or a closed object, `additionalProperties` shows the others
+    by_additional : restricts S ≡ true → ((the_properties && the_patterns) && (not (fuses_one S) || the_required)) ≡ true
+    by_additional r = by (lookup (codes "additionalProperties") S) refl (shows (codes "additionalProperties"))
+      where
+        by : (o : Option (Part Meaning)) → lookup (codes "additionalProperties") S ≡ o → On (λ p. shown (codes "additionalProperties") p additional_properties ≡ true) o → ((the_properties && the_patterns) && (not (fuses_one S) || the_required)) ≡ true
+        by None e t = absurd (true≢false (sym r ∙ ap (λ o. list_any (λ s. is_truth false s.schema || is_object s.schema) (map (λ p. p.whole) (option_to_list o))) e))
+        by (Some p) e t = and_second (keyword_accepts W u S (codes "additionalProperties") p v additional_properties) _ (or_second (not (restricts S)) _ t (ap not r))
+
+    properties_true : the_properties ≡ true
+    properties_true = by (restricts S) refl (lookup (codes "properties") S) refl (shows (codes "properties"))
+      where
+        by : (r : Bool) → restricts S ≡ r → (o : Option (Part Meaning)) → lookup (codes "properties") S ≡ o → On (λ p. shown (codes "properties") p properties ≡ true) o → the_properties ≡ true
+        by true r o e t = and_first the_properties the_patterns (and_first (the_properties && the_patterns) (not (fuses_one S) || the_required) (by_additional r))
+        by false r None e t = absent (codes "properties") properties e
+        by false r (Some p) e t = and_first the_properties (not (fuses_two S) || the_required) (or_second (restricts S) (the_properties && (not (fuses_two S) || the_required)) t r)
+
+    patterns_true : the_patterns ≡ true
+    patterns_true = by (restricts S) refl (lookup (codes "patternProperties") S) refl (shows (codes "patternProperties"))
+      where
+        by : (r : Bool) → restricts S ≡ r → (o : Option (Part Meaning)) → lookup (codes "patternProperties") S ≡ o → On (λ p. shown (codes "patternProperties") p pattern_properties ≡ true) o → the_patterns ≡ true
+        by true r o e t = and_second the_properties the_patterns (and_first (the_properties && the_patterns) (not (fuses_one S) || the_required) (by_additional r))
+        by false r None e t = absent (codes "patternProperties") pattern_properties e
+        by false r (Some p) e t = or_second (restricts S) the_patterns t r
+
+    by_one : fuses_one S ≡ true → the_required ≡ true
+    by_one e = or_second (not (fuses_one S)) the_required (and_second (the_properties && the_patterns) (not (fuses_one S) || the_required) (by_additional restricted)) (ap not e)
+      where
+        restricted : restricts S ≡ true
+        restricted = any_of_either (λ s. is_truth false s.schema) (λ s. is_object s.schema) (wholes_at S (codes "additionalProperties")) (and_second (declares S) _ (and_first _ (not (has_patterns S)) (and_first _ (nat_eq (length (names_at S (codes "required"))) 1) e)))
+
+    by_two : fuses_two S ≡ true → the_required ≡ true
+    by_two e = by (lookup (codes "properties") S) refl (shows (codes "properties"))
+      where
+        unrestricted : (declares S && not (restricts S)) ≡ true
+        unrestricted = and_first _ (not (has_patterns S)) (and_first _ (nat_lt (length (entries_at S (codes "properties"))) 15) (and_first _ (are_two (names_at S (codes "required"))) e))
+
+        by : (o : Option (Part Meaning)) → lookup (codes "properties") S ≡ o → On (λ p. shown (codes "properties") p properties ≡ true) o → the_required ≡ true
+        by None n t = absurd (true≢false (sym (and_first (declares S) (not (restricts S)) unrestricted) ∙ ap is_some n))
+        by (Some p) n t = or_second (not (fuses_two S)) the_required (and_second the_properties (not (fuses_two S) || the_required) (or_second (restricts S) (the_properties && (not (fuses_two S) || the_required)) t (sym (not_not (restricts S)) ∙ ap not (and_second (declares S) (not (restricts S)) unrestricted)))) (ap not e)
+
+    required_true : the_required ≡ true
+    required_true = by (fuses_one S) refl (fuses_two S) refl (lookup (codes "required") S) refl (shows (codes "required"))
+      where
+        by : (a : Bool) → fuses_one S ≡ a → (b : Bool) → fuses_two S ≡ b → (o : Option (Part Meaning)) → lookup (codes "required") S ≡ o → On (λ p. shown (codes "required") p required ≡ true) o → the_required ≡ true
+        by true a b c o e t = by_one a
+        by false a true c o e t = by_two c
+        by false a false c None e t = absent (codes "required") required e
+        by false a false c (Some p) e t = here (codes "required") required (codes "required") p refl e ∙ or_second (fuses_one S || fuses_two S) (keyword_accepts W u S (codes "required") p v required) t (λ i. a i || c i)
+
+    -- `then` and `else`, the one that n names, where `if` is there or is not
+    module _ (n : Name) (w : Keyword) (asks_if : Bool) (idle : asks_if ≡ false → (p : Part Meaning) → keyword_accepts W u S n p v w ≡ true) where
+      case_true : (lookup (codes "if") S ≡ None → asks_if ≡ false) → ((q : Part Meaning) → lookup (codes "if") S ≡ Some q → (p : Part Meaning) → lookup n S ≡ Some p → accepts_at n w ≡ true) → accepts_at n w ≡ true
+      case_true without beside = by (lookup n S) refl (lookup (codes "if") S) refl
+        where
+          by : (o : Option (Part Meaning)) → lookup n S ≡ o → (c : Option (Part Meaning)) → lookup (codes "if") S ≡ c → accepts_at n w ≡ true
+          by None e c f = absent n w e
+          by (Some p) e None f = ap (λ o. list_all (λ q. keyword_accepts W u S n q v w) (option_to_list o)) e ∙ and_true (keyword_accepts W u S n p v w) ∙ idle (without f) p
+          by (Some p) e (Some q) f = beside q f p e
+
+    nothing_asked : (b : Bool) (a : Asked) → b ≡ false → (list_all (λ x. holds x.sub x.value) (put_if b a []) && true) ≡ true
+    nothing_asked b a e = ap (λ c. list_all (λ x. holds x.sub x.value) (put_if c a []) && true) e
+
+    both_cases : (q : Part Meaning) → lookup (codes "if") S ≡ Some q → is_conditional S ≡ true → (the_then && the_else) ≡ true
+    both_cases q e c = or_second (not (is_conditional S)) (the_then && the_else) (subst (On (λ p. shown (codes "if") p if_keyword ≡ true)) e (shows (codes "if"))) (ap not c)
+
+    then_true : the_then ≡ true
+    then_true = case_true (codes "then") then_keyword (if_accepts S v) (λ e p. nothing_asked (if_accepts S v) (asked p.whole v (codes "then" ∷ []) []) e)
+        (λ e. ap (λ o. list_any (λ s. holds s v) (map (λ p. p.whole) (option_to_list o))) e)
+        (λ q e p f. and_first the_then the_else (both_cases q e (λ i. is_some (e i) && (is_some (f i) || is_present S (codes "else")))))
+
+    else_true : the_else ≡ true
+    else_true = case_true (codes "else") else_keyword (if_refuses S v) (λ e p. nothing_asked (if_refuses S v) (asked p.whole v (codes "else" ∷ []) []) e)
+        (λ e. ap (λ o. list_any (λ s. not (holds s v)) (map (λ p. p.whole) (option_to_list o))) e)
+        (λ q e p f. and_second the_then the_else (both_cases q e ((λ i. is_some (e i) && (is_present S (codes "then") || is_some (f i))) ∙ or_true (is_present S (codes "then")))))
+
+    -- a keyword at `additionalProperties` that neither closes nor restricts asks nothing
+    open_object : (k : Name) (p : Part Meaning) (o f : Bool) → o ≡ false → f ≡ false → (list_all (λ a. holds a.sub a.value) (flat_map (λ m. put_if o (asked p.whole m.1 (k ∷ []) (m.0 ∷ [])) []) (additional S W u v)) && (not f || is_empty (additional S W u v))) ≡ true
+    open_object k p o f e c = (λ i. list_all (λ a. holds a.sub a.value) (flat_map (λ m. put_if (e i) (asked p.whole m.1 (k ∷ []) (m.0 ∷ [])) []) (additional S W u v)) && (not (c i) || is_empty (additional S W u v)))
+        ∙ and_true (list_all (λ a. holds a.sub a.value) (flat_map (λ m. []) (additional S W u v))) ∙ ap (list_all (λ a. holds a.sub a.value)) (flat_map-none (additional S W u v))
+
+    additional_true : (k : Name) (p : Part Meaning) → k ≡ codes "additionalProperties" → lookup k S ≡ Some p → shown k p additional_properties ≡ true → keyword_accepts W u S k p v additional_properties ≡ true
+    additional_true k p n there t = by (restricts S) refl
+      where
+        here_restricts : restricts S ≡ (is_truth false p.whole.schema || is_object p.whole.schema)
+        here_restricts = ap (λ o. list_any (λ s. is_truth false s.schema || is_object s.schema) (map (λ q. q.whole) (option_to_list o))) (subst (λ a. lookup a S ≡ Some p) n there) ∙ or_false (is_truth false p.whole.schema || is_object p.whole.schema)
+
+        by : (r : Bool) → restricts S ≡ r → keyword_accepts W u S k p v additional_properties ≡ true
+        by true r = and_first (keyword_accepts W u S k p v additional_properties) _ (or_second (not (restricts S)) _ t (ap not r))
+        by false r = open_object k p (is_object p.whole.schema) (is_truth false p.whole.schema) (neither (is_truth false p.whole.schema) (is_object p.whole.schema) (sym here_restricts ∙ r)).1 (neither (is_truth false p.whole.schema) (is_object p.whole.schema) (sym here_restricts ∙ r)).0
+
+    accepts_where_shown : (k : Name) (p : Part Meaning) (w : Keyword) → Named k w → lookup k S ≡ Some p → shown k p w ≡ true → keyword_accepts W u S k p v w ≡ true
+    accepts_where_shown k p properties n there t = sym (here (codes "properties") properties k p n there) ∙ properties_true
+    accepts_where_shown k p pattern_properties n there t = sym (here (codes "patternProperties") pattern_properties k p n there) ∙ patterns_true
+    accepts_where_shown k p additional_properties n there t = additional_true k p n there t
+    accepts_where_shown k p required n there t = sym (here (codes "required") required k p n there) ∙ required_true
+    accepts_where_shown k p if_keyword n there t = refl
+    accepts_where_shown k p then_keyword n there t = sym (here (codes "then") then_keyword k p n there) ∙ then_true
+    accepts_where_shown k p else_keyword n there t = sym (here (codes "else") else_keyword k p n there) ∙ else_true
+    accepts_where_shown k p _ n there t = t
+
+  module _ (accepted : (n : Name) → On (λ p. keyword_accepts W u S n p v (keyword_named W n) ≡ true) (lookup n S)) where
+    at_true : (n : Name) → accepts_at n (keyword_named W n) ≡ true
+    at_true n = by (lookup n S) (accepted n)
+      where
+        by : (o : Option (Part Meaning)) → On (λ p. keyword_accepts W u S n p v (keyword_named W n) ≡ true) o → list_all (λ p. keyword_accepts W u S n p v (keyword_named W n)) (option_to_list o) ≡ true
+        by None t = refl
+        by (Some p) t = and_true (keyword_accepts W u S n p v (keyword_named W n)) ∙ t
+
+    shown_where_accepts : (k : Name) (p : Part Meaning) (w : Keyword) → keyword_accepts W u S k p v w ≡ true → shown k p w ≡ true
+    shown_where_accepts k p properties t = or_from (restricts S) _ (and_from the_properties _ (at_true (codes "properties")) (or_from (not (fuses_two S)) the_required (at_true (codes "required"))))
+    shown_where_accepts k p pattern_properties t = or_from (restricts S) the_patterns (at_true (codes "patternProperties"))
+    shown_where_accepts k p additional_properties t = or_from (not (restricts S)) _ (and_from (keyword_accepts W u S k p v additional_properties) _ t (and_from (the_properties && the_patterns) _ (and_from the_properties the_patterns (at_true (codes "properties")) (at_true (codes "patternProperties"))) (or_from (not (fuses_one S)) the_required (at_true (codes "required")))))
+    shown_where_accepts k p required t = or_from (fuses_one S || fuses_two S) (keyword_accepts W u S k p v required) t
+    shown_where_accepts k p if_keyword t = or_from (not (is_conditional S)) _ (and_from the_then the_else (at_true (codes "then")) (at_true (codes "else")))
+    shown_where_accepts k p then_keyword t = refl
+    shown_where_accepts k p else_keyword t = refl
+    shown_where_accepts k p _ t = t
+
+  abbrev shows_each : Name × Part Meaning → Bool
+  shows_each m = shown m.0 m.1 (keyword_named W m.0)
+
+  abbrev accepts_each : Name × Part Meaning → Bool
+  accepts_each m = keyword_accepts W u S m.0 m.1 v (keyword_named W m.0)
+
+  children_row : list_all is_valid (flat_map (λ m. keyword_child W u S v P Q m.0 m.1 (keyword_named W m.0)) S) ≡ list_all shows_each S
+  children_row = list_all-flat_map is_valid (λ m. keyword_child W u S v P Q m.0 m.1 (keyword_named W m.0)) S
+      ∙ list_all-same (λ m. list_all is_valid (keyword_child W u S v P Q m.0 m.1 (keyword_named W m.0))) shows_each S (Each-implies (λ m. GoodPart TreeAgrees m.1 × (lookup m.0 S ≡ Some m.1)) (λ m. list_all is_valid (keyword_child W u S v P Q m.0 m.1 (keyword_named W m.0)) ≡ shows_each m) (λ m c. keyword_row m.0 m.1 c.0 c.1 (keyword_named W m.0) (named m.0 W)) S (Each-both (λ m. GoodPart TreeAgrees m.1) (λ m. lookup m.0 S ≡ Some m.1) S h (Each-found S dS)))
+
+  shown_is_accepted : list_all shows_each S ≡ list_all accepts_each S
+  shown_is_accepted = same_truth (list_all shows_each S) (list_all accepts_each S)
+      (λ e. let t : Each (λ m. shows_each m ≡ true) S = each_true shows_each S e in
+      all_true accepts_each S (Each-implies (λ m. (shows_each m ≡ true) × (lookup m.0 S ≡ Some m.1)) (λ m. accepts_each m ≡ true) (λ m c. accepts_where_shown (λ n. On-lookup-named (λ k p. shown k p (keyword_named W k) ≡ true) n S t) m.0 m.1 (keyword_named W m.0) (named m.0 W) c.1 c.0) S (Each-both (λ m. shows_each m ≡ true) (λ m. lookup m.0 S ≡ Some m.1) S t (Each-found S dS))))
+      (λ e. let t : Each (λ m. accepts_each m ≡ true) S = each_true accepts_each S e in
+      all_true shows_each S (Each-implies (λ m. accepts_each m ≡ true) (λ m. shows_each m ≡ true) (λ m c. shown_where_accepts (λ n. On-lookup-named (λ k p. keyword_accepts W u S k p v (keyword_named W k) ≡ true) n S t) m.0 m.1 (keyword_named W m.0) c) S t))
+
+  pub object_row : is_valid (plain P Q (flat_map (λ m. keyword_child W u S v P Q m.0 m.1 (keyword_named W m.0)) S)) ≡ list_all accepts_each S
+  object_row = is_valid-plain P Q (flat_map (λ m. keyword_child W u S v P Q m.0 m.1 (keyword_named W m.0)) S) ∙ children_row ∙ shown_is_accepted
+
+-- ---- the recursion
+
+items_distinct : (ds : Items) → DistinctInItems ds → EachItem DistinctNames ds
+items_distinct no_items h = tt
+items_distinct (item d ds) h = (h.0, items_distinct ds h.1)
+
+members_distinct : (ms : Members) → DistinctInMembers ms → EachMember DistinctNames ms
+members_distinct no_members h = tt
+members_distinct (member n d ms) h = (h.0, members_distinct ms h.1)
+
+module _ (W : World) (u : Bool) where
+  abbrev step : Schema Meaning → Meaning
+  step = meaning_step W u
+
+  keywords_distinct : (ms : Members) → DistinctNames (object ms) → Distinct (read_members step ms)
+  keywords_distinct ms h = subst Distinct (sym (members_read step ms)) (Distinct-map (read step) (listed ms) (Distinct-from (listed ms) h.0))
+
+  entries_distinct_in : (ms : Members) → DistinctInMembers ms → Each (λ m. Distinct m.1.entries) (read_members step ms)
+  entries_distinct_in no_members h = tt
+  entries_distinct_in (member n d ms) h = (subst Distinct (sym (entries_read step d)) (Distinct-map (place step) (members d) (Distinct-members d h.0)), entries_distinct_in ms h.1)
+
+  keep : (d : Data) → DistinctNames d → GoodSchema TreeAgrees (schema_read step d) → TreeAgrees d (step (schema_read step d))
+  keep null s h v P Q dv = refl
+  keep (boolean b) s h v P Q dv = is_valid-erring P Q (fault_if (not b) FalseSchema v P Q) ∙ none_where (not b) FalseSchema v P Q ∙ not_not b
+  keep (number n) s h v P Q dv = refl
+  keep (string t) s h v P Q dv = refl
+  keep (array ds) s h v P Q dv = refl
+  keep (object ms) s h v P Q dv = object_row W u (read_members step ms) h (keywords_distinct ms s) (entries_distinct_in ms s.1) v dv P Q
+
+pub verdict_of_trees : Verdict_of_trees
+unfolding meaning
+verdict_of_trees W u S v P Q s dv = sound_answer TreeAgrees DistinctNames items_distinct (λ ms h. members_distinct ms h.1) (meaning_step W u) (keep W u) S s v P Q dv

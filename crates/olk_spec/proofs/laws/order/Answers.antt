@@ -1,0 +1,23 @@
+use Rattle.olk_spec.proofs.laws.order.Goals as goal
+use Rattle.olk_spec.proofs.Refused.{one_length, all_names_are_told, first_name_alone_is_no_report, order_in_a_branch_is_free, first_faults_alone_are_no_report, exchanged_branches_are_no_report, no_branches_are_no_report}
+
+pub returns-clause-one_length : goal.returns-clause-one_length
+returns-clause-one_length c = one_length
+
+pub returns-clause-all_names : goal.returns-clause-all_names
+returns-clause-all_names c = all_names_are_told
+
+pub returns-clause-first_name : goal.returns-clause-first_name
+returns-clause-first_name c = first_name_alone_is_no_report
+
+pub returns-clause-any_order : goal.returns-clause-any_order
+returns-clause-any_order c = order_in_a_branch_is_free
+
+pub returns-clause-first_faults : goal.returns-clause-first_faults
+returns-clause-first_faults c = first_faults_alone_are_no_report
+
+pub returns-clause-exchanged : goal.returns-clause-exchanged
+returns-clause-exchanged c = exchanged_branches_are_no_report
+
+pub returns-clause-no_branches : goal.returns-clause-no_branches
+returns-clause-no_branches c = no_branches_are_no_report
