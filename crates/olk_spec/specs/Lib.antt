@@ -15,3 +15,14 @@ pub mod Trees
 pub mod Meaning
 pub mod Json
 pub mod Bench
+pub mod Answers
+pub mod Rows_properties
+pub mod Rows_patterns
+pub mod Rows_branches
+pub mod Rows_dependencies
+pub mod Rows_refusals
+pub mod Rows_costs
+pub mod Rows_evaluation
+pub mod Vectors_names
+pub mod Vectors_members
+pub mod Vectors_patterns

@@ -1,2 +1,4 @@
 //! Definitions of what a schema means, and the laws that they keep.
 #![tactic(auto)]
+
+pub mod rows;
