@@ -1,5 +1,5 @@
 -- What the definitions answer for small schemas and values over the bench, in the form in which worked rows compare it.
-use Rattle.std.specs.Prelude.{◌≡◌, ℕ, Bool, true, false, List, [], ◌∷◌, ◌++◌, map, codes, Option, Some, None}
+use Rattle.std.specs.Prelude.{◌≡◌, ℕ, Bool, true, false, List, [], ◌∷◌, ◌++◌, map, codes, Some, None}
 use Rattle.std.specs.List.{flat_map}
 use Rattle.std.specs.Ordering.{nat_cmp}
 use Rattle.std.specs.declared.cmp.Ordering.{Ordering}
@@ -7,7 +7,6 @@ use Rattle.std.specs.declared.cmp.Ordering.TheVariants.{Less, Equal, Greater}
 use Rattle.std.specs.Cmp.Lexicographic.{slice_cmp}
 use Prim.Native.String.{String as Quoted}
 use Rattle.serde_json.specs.Data.{Data, boolean}
-use Rattle.serde_json.specs.Written.{compact_text}
 use Rattle.olk_spec.specs.Names.{Text, Name, Path, is_empty}
 use Rattle.olk_spec.specs.Json.{json, obj, arr, str}
 use Rattle.olk_spec.specs.Bench.{bench}
@@ -123,6 +122,9 @@ refusals S = lines (malformations_beside bench [] S [])
 
 abbrev pub Is_refused : Quoted → List Quoted → Type 0
 Is_refused S ls = refusals (json S) ≡ map codes ls
+
+abbrev pub Are_refused : List (Quoted × Quoted) → Type 0
+Are_refused es = map (λ e. refusals (json e.0)) es ≡ map (λ e. codes e.1 ∷ []) es
 
 abbrev pub Builds : Quoted → Type 0
 Builds S = refusals (json S) ≡ []

@@ -23,6 +23,7 @@ pub mod Rows_dependencies
 pub mod Rows_refusals
 pub mod Rows_costs
 pub mod Rows_evaluation
+pub mod Rows_bench
 pub mod Vectors_names
 pub mod Vectors_members
 pub mod Vectors_patterns

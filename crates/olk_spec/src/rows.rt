@@ -9,6 +9,7 @@ ghost use Rattle.olk_spec.specs.Rows_dependencies.{Rows_dependencies};
 ghost use Rattle.olk_spec.specs.Rows_refusals.{Rows_refusals};
 ghost use Rattle.olk_spec.specs.Rows_costs.{Rows_costs};
 ghost use Rattle.olk_spec.specs.Rows_evaluation.{Rows_evaluation};
+ghost use Rattle.olk_spec.specs.Rows_bench.{Rows_bench};
 ghost use Rattle.olk_spec.specs.Vectors_names.{Vectors_names};
 ghost use Rattle.olk_spec.specs.Vectors_members.{Vectors_members};
 ghost use Rattle.olk_spec.specs.Vectors_patterns.{Vectors_patterns};
@@ -46,6 +47,11 @@ pub fn rows_of_costs()
 /// Evaluation trees show the annotations and errors that are expected.
 pub fn rows_of_evaluation()
     ensures { Rows_evaluation }
+{}
+
+/// The bench's leaves and matcher take and say what is expected.
+pub fn rows_of_bench()
+    ensures { Rows_bench }
 {}
 
 /// Names are told apart at each length and place.

@@ -22,6 +22,7 @@ FORMS = {
     "Costs": "(refl, refl, refl, refl)",
     "Is_refused": "refl",
     "Builds": "refl",
+    "Are_refused": "refl",
     "Is_pattern": "refl",
     "Is_no_pattern": "refl",
 }
@@ -92,6 +93,11 @@ class Group:
 
     def is_refused(self, name, schema, lines):
         self.add(name, "Is_refused", self.text_of(schema), texts(ordered(lines)))
+
+    def are_refused(self, name, pairs):
+        for schema, _ in pairs:
+            json.loads(schema)
+        self.add(name, "Are_refused", "(" + " ∷ ".join(f"({quote(s)}, {quote(l)})" for s, l in pairs) + " ∷ [])")
 
     def builds(self, name, schema):
         self.add(name, "Builds", self.text_of(schema))
@@ -367,6 +373,26 @@ def refusals():
         ("A_root_that_is_no_schema", "5", '5 is not of types "boolean", "object" @ "", ""'),
     ):
         g.is_refused(n, s, [l])
+    bad = [("5", '5 is not of types "boolean", "object"', "")]
+    bad += [('{"%s":5}' % k, '5 is not of type "%s"' % t, "/" + k)
+            for t, ks in (("object", ("properties", "patternProperties", "dependentRequired", "dependentSchemas", "dependencies", "propertyDependencies")),
+                          ("array", ("required", "allOf", "anyOf", "oneOf"))) for k in ks]
+    bad += [('{"%s":5}' % k, '"%s" is not supported here' % k, "/" + k) for k in ("$ref", "$dynamicRef", "$recursiveRef", "unevaluatedProperties", "unevaluatedItems")]
+    bad += [('{"additionalProperties":5}', '5 is not of types "boolean", "object"', "/additionalProperties"), ('{"patternProperties":{"(":{}}}', '"(" is not a "regex"', "/patternProperties/("),
+            ('{"required":[5]}', '5 is not of type "string"', "/required"), ('{"dependentRequired":{"a":5}}', '5 is not of type "array"', "/dependentRequired/a"),
+            ('{"dependentRequired":{"a":["b","b"]}}', '["b","b"] has non-unique elements', "/dependentRequired/a"), ('{"dependentRequired":{"a":[5]}}', '5 is not of type "string"', "/dependentRequired"),
+            ('{"dependencies":{"a":[5]}}', '5 is not of type "string"', "/dependencies"), ('{"propertyDependencies":{"a":5}}', '5 is not of type "object"', "/propertyDependencies/a"),
+            ('{"type":5}', '5 is not a value for "type"', "/type")]
+    for label, place, path in (
+        ("At_the_root", "%s", ""), ("In_properties", '{"properties":{"n":%s}}', "/properties/n"), ("In_pattern_properties", '{"patternProperties":{"n":%s}}', "/patternProperties/n"),
+        ("In_additional_properties", '{"additionalProperties":%s}', "/additionalProperties"), ("In_property_names", '{"propertyNames":%s}', "/propertyNames"),
+        ("In_dependent_schemas", '{"dependentSchemas":{"n":%s}}', "/dependentSchemas/n"), ("In_dependencies", '{"dependencies":{"n":%s}}', "/dependencies/n"),
+        ("In_property_dependencies", '{"propertyDependencies":{"n":{"t":%s}}}', "/propertyDependencies/n/t"),
+        ("In_all_of", '{"allOf":[%s]}', "/allOf/0"), ("In_any_of", '{"anyOf":[true,%s]}', "/anyOf/1"), ("In_one_of", '{"oneOf":[%s]}', "/oneOf/0"), ("In_not", '{"not":%s}', "/not"),
+        ("In_if", '{"if":%s,"then":{}}', "/if"), ("In_then", '{"if":{},"then":%s}', "/then"), ("In_else", '{"if":{},"else":%s}', "/else"),
+    ):
+        pairs = [(place.replace("%s", s), '%s @ "", %s' % (text, (path + tail) or '""')) for s, text, tail in bad if not (label == "In_property_names" and s == "5")]
+        g.are_refused(label, pairs)
     g.builds("A_condition_alone_builds", '{"if":5}')
     g.builds("Names_that_are_neither_false_nor_an_object_build", '{"propertyNames":5}')
     return g
@@ -433,11 +459,59 @@ def evaluation():
                 '{"annotations":[],"errors":[{"instancePath":"","keyword":"oneOf","message":"more than one subschema succeeded","schemaPath":"/oneOf"}],"valid":false}')
     g.evaluates("Matches_stand_in_a_child_of_their_own", '{"additionalProperties":{"type":"integer"},"patternProperties":{"^x":{}}}', '{"x1":"t","y":2}',
                 '{"annotations":[{"instancePath":"","names":["y"],"schemaPath":"/additionalProperties"},{"instancePath":"","names":["x1"],"schemaPath":"/patternProperties"}],"errors":[],"valid":true}')
+    for n, nodes in ((14, '""(/properties(/required))'), (15, '""(/properties)(/required)')):
+        g.has_nodes("Of_%d_names_two_are_missing" % n, {"properties": {"p%02d" % i: {} for i in range(n)}, "required": ["p00", "p01"]}, "{}", nodes)
+    g.has_nodes("One_missing_name_stands_in_the_closed_object", '{"properties":{"a":{}},"additionalProperties":false,"required":["z"]}', "{}", '""(/additionalProperties(/required))')
+    g.has_nodes("Beside_patterns_it_stands_alone", '{"properties":{"a":{}},"patternProperties":{"^b":{}},"additionalProperties":false,"required":["z"]}', "{}", '""(/additionalProperties)(/required)')
+    g.has_nodes("A_condition_that_holds_is_shown", '{"if":true,"then":true,"else":false}', "1", '""(/if(/if)(/then))')
+    g.has_nodes("A_condition_that_fails_is_not_shown", '{"if":false,"then":false,"else":true}', "1", '""(/if(/else))')
+    g.has_nodes("A_schema_chosen_by_a_text_is_shown", '{"propertyDependencies":{"k":{"a":true,"b":false}}}', '{"k":"a"}', '""(/propertyDependencies(/propertyDependencies/k/a))')
     nothing = '{"annotations":[],"errors":[],"valid":false}'
     g.evaluates("Any_of_none_is_invalid_without_errors", '{"anyOf":[]}', "1", nothing)
     g.evaluates("One_of_none_is_invalid_without_errors", '{"oneOf":[]}', "1", nothing)
     g.evaluates("A_false_schema_is_an_error_of_its_place", '{"properties":{"a":false}}', '{"a":1}',
                 '{"annotations":[],"errors":[{"instancePath":"/a","keyword":"falseSchema","message":"False schema does not allow 1","schemaPath":"/properties/a"}],"valid":false}')
+    return g
+
+
+# ---- the bench
+
+
+def bench():
+    g = Group("Rows_bench", "The leaves of the bench.")
+    for kind, v in (("null", "null"), ("boolean", "true"), ("integer", "-5"), ("number", "-5"), ("string", '"a"'), ("array", "[1]"), ("object", "{}")):
+        g.holds("A_value_of_kind_" + kind, {"type": kind}, v)
+    g.holds("A_fraction_is_a_number", '{"type":"number"}', "1.5")
+    g.fails("A_fraction_is_no_integer", '{"type":"integer"}', "1.5", ['value is not of type "integer" @ "", /type'])
+    g.fails("A_text_shows_no_fraction", '{"type":"object"}', '["a",1.5]', ['value is not of type "object" @ "", /type'])
+    g.holds("A_constant_number", '{"const":-3}', "-3")
+    g.fails("Another_number", '{"const":-3}', "3", ['-3 was expected @ "", /const'])
+    g.fails("A_text_for_a_number", '{"const":3}', '"3"', ['3 was expected @ "", /const'])
+    g.holds("A_constant_text", '{"const":"a/b"}', '"a/b"')
+    g.fails("Another_text", '{"const":"a"}', "null", ['"a" was expected @ "", /const'])
+    g.holds("The_minimum_itself", '{"minimum":-3}', "-3")
+    g.fails("Less_than_the_minimum", '{"minimum":-3}', "-4", ['-4 is less than the minimum of -3 @ "", /minimum'])
+    g.holds("The_maximum_itself", '{"maximum":18446744073709551615}', "18446744073709551615")
+    g.fails("Greater_than_the_maximum", '{"maximum":-3}', "0", ['0 is greater than the maximum of -3 @ "", /maximum'])
+    g.holds("A_fraction_is_no_whole_number", '{"minimum":3,"maximum":1,"multipleOf":7}', "2.5")
+    g.holds("A_text_is_no_whole_number", '{"minimum":3,"maximum":1,"multipleOf":7}', '"2"')
+    g.holds("A_multiple_below_zero", '{"multipleOf":3}', "-6")
+    g.fails("No_multiple_below_zero", '{"multipleOf":3}', "-7", ['-7 is not a multiple of 3 @ "", /multipleOf'])
+    g.holds("Two_characters_of_four_bytes", '{"minLength":2,"maxLength":2}', '"\\u00e9\\u00e9"')
+    g.refuses("One_character_of_two_bytes", '{"minLength":2}', '"\\u00e9"')
+    g.fails("Three_characters", '{"maxLength":2}', '"abc"', ['"abc" is longer than 2 characters @ "", /maxLength'])
+    g.holds("A_number_has_no_length", '{"minLength":2,"maxLength":2}', "1")
+    for n, s in (("Kinds_have_names", '{"type":["string"]}'), ("A_constant_object", '{"const":{}}'), ("A_fraction_as_minimum", '{"minimum":1.5}'), ("A_text_as_maximum", '{"maximum":"1"}'),
+                 ("Multiples_of_zero", '{"multipleOf":0}'), ("A_length_below_zero", '{"minLength":-1}'), ("Kind_is_unknown", '{"type":"float"}')):
+        k = s.split('"')[1]
+        value = s[s.index(":") + 1:-1]
+        if "." not in value:
+            g.is_refused(n, s, ['%s is not a value for "%s" @ "", /%s' % (value, k, k)])
+    g.holds("An_unknown_keyword_is_ignored", '{"enum":[]}', "1")
+    for n, p in (("A_class", "[a-z]"), ("A_slow_nothing", "(slow)"), ("A_slow_anchor", "(slow)^a"), ("An_empty_pattern", ""), ("Two_anchors", "^$")):
+        g.is_refused(n + "_is_refused", {"patternProperties": {p: {}}}, ['"%s" is not a "regex" @ "", /patternProperties/%s' % (p, p)])
+    g.fails("A_body_stands_anywhere", '{"patternProperties":{"b":false}}', '{"abc":1,"ac":2}', ["False schema does not allow 1 @ /abc, /patternProperties/b"])
+    g.fails("An_escaped_body_stands_anywhere", '{"patternProperties":{"\\\\.":false}}', '{"a.c":1,"abc":2}', ["False schema does not allow 1 @ /a.c, /patternProperties/\\."])
     return g
 
 
@@ -552,5 +626,5 @@ def refused_patterns():
 
 
 if __name__ == "__main__":
-    for group in (properties(), patterns(), branches(), dependencies(), refusals(), costs(), evaluation(), names(), members(), refused_patterns()):
+    for group in (properties(), patterns(), branches(), dependencies(), refusals(), costs(), evaluation(), bench(), names(), members(), refused_patterns()):
         group.write()
