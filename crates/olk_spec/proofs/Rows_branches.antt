@@ -23,6 +23,14 @@ pub two_accepting_branches_are_too_many : rows.Two_accepting_branches_are_too_ma
 unfolding literal chars digits meaning malformations_beside places leaf_places pattern_places table_asks serde_json_on_literals
 two_accepting_branches_are_too_many = λ u. (refl, refl, refl)
 
+pub one_accepting_branch_is_enough : rows.One_accepting_branch_is_enough
+unfolding literal chars digits meaning malformations_beside places leaf_places pattern_places table_asks serde_json_on_literals
+one_accepting_branch_is_enough = λ u. (refl, refl, refl)
+
+pub the_other_branch_is_enough : rows.The_other_branch_is_enough
+unfolding literal chars digits meaning malformations_beside places leaf_places pattern_places table_asks serde_json_on_literals
+the_other_branch_is_enough = λ u. (refl, refl, refl)
+
 pub each_branch_tells_all_that_it_finds : rows.Each_branch_tells_all_that_it_finds
 unfolding literal chars digits meaning malformations_beside places leaf_places pattern_places table_asks serde_json_on_literals
 each_branch_tells_all_that_it_finds = λ u. (refl, refl, refl)
@@ -60,4 +68,4 @@ unfolding literal chars digits meaning malformations_beside places leaf_places p
 each_branch_of_all_of_is_asked = λ u. (refl, refl, refl)
 
 pub rows_branches : rows.Rows_branches
-rows_branches = (any_of_none_refuses, one_of_none_refuses, all_of_none_accepts, two_accepting_branches_are_too_many, each_branch_tells_all_that_it_finds, branches_inside_a_branch_tell_theirs, a_negation_shows_its_schema, a_double_negation_shows_the_inner_one, where_the_condition_fails_else_applies, where_the_condition_holds_then_applies, then_alone_is_unread, then_alone_builds, each_branch_of_all_of_is_asked)
+rows_branches = (any_of_none_refuses, one_of_none_refuses, all_of_none_accepts, two_accepting_branches_are_too_many, one_accepting_branch_is_enough, the_other_branch_is_enough, each_branch_tells_all_that_it_finds, branches_inside_a_branch_tell_theirs, a_negation_shows_its_schema, a_double_negation_shows_the_inner_one, where_the_condition_fails_else_applies, where_the_condition_holds_then_applies, then_alone_is_unread, then_alone_builds, each_branch_of_all_of_is_asked)

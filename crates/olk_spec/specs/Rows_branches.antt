@@ -14,6 +14,12 @@ All_of_none_accepts = Holds "{\"allOf\":[]}" "1"
 abbrev pub Two_accepting_branches_are_too_many : Type 0
 Two_accepting_branches_are_too_many = Fails "{\"oneOf\":[{\"type\":\"string\"},{\"maxLength\":3}]}" "\"\"" ("\"\" is valid under more than one of the schemas listed in the 'oneOf' keyword @ \"\", /oneOf [{}{}]" ∷ [])
 
+abbrev pub One_accepting_branch_is_enough : Type 0
+One_accepting_branch_is_enough = Holds "{\"oneOf\":[{\"type\":\"string\"},{\"maxLength\":3}]}" "\"long\""
+
+abbrev pub The_other_branch_is_enough : Type 0
+The_other_branch_is_enough = Holds "{\"oneOf\":[{\"type\":\"string\"},{\"maxLength\":3}]}" "5"
+
 abbrev pub Each_branch_tells_all_that_it_finds : Type 0
 Each_branch_tells_all_that_it_finds = Fails "{\"anyOf\":[{\"type\":\"integer\"},{\"required\":[\"a\",\"b\"]}]}" "{}" ("{} is not valid under any of the schemas listed in the 'anyOf' keyword @ \"\", /anyOf [{{} is not of type \"integer\" @ \"\", /anyOf/0/type;}{\"a\" is a required property @ \"\", /anyOf/1/required;\"b\" is a required property @ \"\", /anyOf/1/required;}]" ∷ [])
 
@@ -42,4 +48,4 @@ abbrev pub Each_branch_of_all_of_is_asked : Type 0
 Each_branch_of_all_of_is_asked = Fails "{\"allOf\":[{\"type\":\"string\"},true,false]}" "1" ("1 is not of type \"string\" @ \"\", /allOf/0/type" ∷ "False schema does not allow 1 @ \"\", /allOf/2" ∷ [])
 
 abbrev pub Rows_branches : Type 0
-Rows_branches = Any_of_none_refuses × One_of_none_refuses × All_of_none_accepts × Two_accepting_branches_are_too_many × Each_branch_tells_all_that_it_finds × Branches_inside_a_branch_tell_theirs × A_negation_shows_its_schema × A_double_negation_shows_the_inner_one × Where_the_condition_fails_else_applies × Where_the_condition_holds_then_applies × Then_alone_is_unread × Then_alone_builds × Each_branch_of_all_of_is_asked
+Rows_branches = Any_of_none_refuses × One_of_none_refuses × All_of_none_accepts × Two_accepting_branches_are_too_many × One_accepting_branch_is_enough × The_other_branch_is_enough × Each_branch_tells_all_that_it_finds × Branches_inside_a_branch_tell_theirs × A_negation_shows_its_schema × A_double_negation_shows_the_inner_one × Where_the_condition_fails_else_applies × Where_the_condition_holds_then_applies × Then_alone_is_unread × Then_alone_builds × Each_branch_of_all_of_is_asked

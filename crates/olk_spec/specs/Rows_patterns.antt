@@ -61,6 +61,12 @@ A_byte_order_mark_is_white_space = Holds no_whitespace "{\"a\\ufeffb\":1}"
 abbrev pub A_name_without_white_space_matches : Type 0
 A_name_without_white_space_matches = Fails no_whitespace "{\"ab\":1}" ("False schema does not allow 1 @ /ab, /patternProperties/^\\S*$" ∷ [])
 
+abbrev pub A_name_is_additional_if_nothing_holds_or_matches_it : Type 0
+A_name_is_additional_if_nothing_holds_or_matches_it = Fails "{\"properties\":{\"foo\":{}},\"patternProperties\":{\"^bar\":{}},\"additionalProperties\":false}" "{\"foo\":1,\"barn\":2,\"faz\":3}" ("Additional properties are not allowed ('faz' was unexpected) @ \"\", /additionalProperties" ∷ [])
+
+abbrev pub A_suffix_stands_at_the_end : Type 0
+A_suffix_stands_at_the_end = Fails "{\"patternProperties\":{\"spam$\":false}}" "{\"xspam\":1,\"spamx\":2}" ("False schema does not allow 1 @ /xspam, /patternProperties/spam$" ∷ [])
+
 abbrev pub Two_patterns_are_both_asked : Type 0
 Two_patterns_are_both_asked = Holds "{\"patternProperties\":{\"^x\":{},\"spam$\":{\"type\":\"integer\"}}}" "{\"x1\":\"t\"}"
 
@@ -158,4 +164,4 @@ abbrev pub A_dot_is_no_suffix : Type 0
 A_dot_is_no_suffix = Is_no_pattern "fo.o$"
 
 abbrev pub Rows_patterns : Type 0
-Rows_patterns = All_four_faults_are_told × A_declared_name_meets_its_patterns_too × All_unexpected_names_are_told × The_first_unexpected_name_is_kept × An_unfinished_match_that_counts × An_unfinished_match_that_does_not_count × Alone_an_unfinished_match_counts × Alone_an_unfinished_match_does_not_count × A_finished_match_counts_under_both × A_space_is_white_space × A_byte_order_mark_is_white_space × A_name_without_white_space_matches × Two_patterns_are_both_asked × Declared_and_matching_names_are_expected × A_matching_name_is_expected × The_last_of_65_patterns_matches × The_first_of_66_patterns_does_not_count × The_first_of_66_patterns_counts × Prefix_of_letters × Prefix_with_a_hyphen × Prefix_with_a_slash × Prefix_with_an_escaped_slash × Exact_letters × Exact_with_an_escaped_dollar × Prefix_that_ends_in_a_dollar × Alternatives × No_white_space × Suffix_of_letters × Suffix_that_is_a_dollar × Letters_alone_are_no_test × An_anchor_alone_is_no_test × Two_anchors_are_no_test × One_alternative_is_no_test × A_star_is_no_test × A_plus_is_no_test × A_question_mark_is_no_test × A_class_is_no_test × Open_alternatives_are_no_test × A_group_is_no_test × A_digit_is_no_test × An_escaped_dollar_is_no_suffix × A_dollar_alone_is_no_suffix × A_group_is_no_suffix × A_dot_is_no_suffix
+Rows_patterns = All_four_faults_are_told × A_declared_name_meets_its_patterns_too × All_unexpected_names_are_told × The_first_unexpected_name_is_kept × An_unfinished_match_that_counts × An_unfinished_match_that_does_not_count × Alone_an_unfinished_match_counts × Alone_an_unfinished_match_does_not_count × A_finished_match_counts_under_both × A_space_is_white_space × A_byte_order_mark_is_white_space × A_name_without_white_space_matches × A_name_is_additional_if_nothing_holds_or_matches_it × A_suffix_stands_at_the_end × Two_patterns_are_both_asked × Declared_and_matching_names_are_expected × A_matching_name_is_expected × The_last_of_65_patterns_matches × The_first_of_66_patterns_does_not_count × The_first_of_66_patterns_counts × Prefix_of_letters × Prefix_with_a_hyphen × Prefix_with_a_slash × Prefix_with_an_escaped_slash × Exact_letters × Exact_with_an_escaped_dollar × Prefix_that_ends_in_a_dollar × Alternatives × No_white_space × Suffix_of_letters × Suffix_that_is_a_dollar × Letters_alone_are_no_test × An_anchor_alone_is_no_test × Two_anchors_are_no_test × One_alternative_is_no_test × A_star_is_no_test × A_plus_is_no_test × A_question_mark_is_no_test × A_class_is_no_test × Open_alternatives_are_no_test × A_group_is_no_test × A_digit_is_no_test × An_escaped_dollar_is_no_suffix × A_dollar_alone_is_no_suffix × A_group_is_no_suffix × A_dot_is_no_suffix

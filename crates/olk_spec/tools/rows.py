@@ -1,7 +1,7 @@
 #!/usr/bin/env python3
 """Writes the worked rows and vectors as facts that the checker computes.
 
-Run it in the crate's folder: `python3 tools/rows.py`. It writes specs/Rows_*.antt
+Run it in the crate's folder: `python3 tools/rows.py`, and then `rt fmt`. It writes specs/Rows_*.antt
 and specs/Vectors_*.antt, their proofs, and nothing else. Each row is a schema and a
 value as JSON texts, a name that says what the row shows, and what is expected.
 """
@@ -252,6 +252,9 @@ def patterns():
     g.holds("A_space_is_white_space", blank, '{"a b":1}')
     g.holds("A_byte_order_mark_is_white_space", blank, '{"a\\ufeffb":1}')
     g.fails("A_name_without_white_space_matches", blank, '{"ab":1}', ["False schema does not allow 1 @ /ab, /patternProperties/^\\S*$"])
+    g.fails("A_name_is_additional_if_nothing_holds_or_matches_it", '{"properties":{"foo":{}},"patternProperties":{"^bar":{}},"additionalProperties":false}', '{"foo":1,"barn":2,"faz":3}',
+            ["Additional properties are not allowed ('faz' was unexpected) @ \"\", /additionalProperties"])
+    g.fails("A_suffix_stands_at_the_end", '{"patternProperties":{"spam$":false}}', '{"xspam":1,"spamx":2}', ["False schema does not allow 1 @ /xspam, /patternProperties/spam$"])
     g.holds("Two_patterns_are_both_asked", '{"patternProperties":{"^x":{},"spam$":{"type":"integer"}}}', '{"x1":"t"}')
     shut = g.schema("closed_suffix", '{"properties":{"a":{},"bspam":{}},"patternProperties":{"spam$":{}},"additionalProperties":false}')
     g.holds("Declared_and_matching_names_are_expected", shut, '{"a":1,"bspam":2}')
@@ -306,6 +309,8 @@ def branches():
     g.holds("All_of_none_accepts", '{"allOf":[]}', "1")
     g.fails("Two_accepting_branches_are_too_many", '{"oneOf":[{"type":"string"},{"maxLength":3}]}', '""',
             ["\"\" is valid under more than one of the schemas listed in the 'oneOf' keyword @ \"\", /oneOf [{}{}]"])
+    g.holds("One_accepting_branch_is_enough", '{"oneOf":[{"type":"string"},{"maxLength":3}]}', '"long"')
+    g.holds("The_other_branch_is_enough", '{"oneOf":[{"type":"string"},{"maxLength":3}]}', "5")
     g.fails("Each_branch_tells_all_that_it_finds", '{"anyOf":[{"type":"integer"},{"required":["a","b"]}]}', "{}",
             ["{} is not valid under any of the schemas listed in the 'anyOf' keyword @ \"\", /anyOf "
              '[{{} is not of type "integer" @ "", /anyOf/0/type;}{"a" is a required property @ "", /anyOf/1/required;"b" is a required property @ "", /anyOf/1/required;}]'])
