@@ -9,3 +9,4 @@ pub mod Rows_bench
 pub mod Vectors_names
 pub mod Vectors_members
 pub mod Vectors_patterns
+pub mod Bench
