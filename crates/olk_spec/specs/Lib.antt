@@ -19,3 +19,15 @@ pub mod Laws
 pub mod Json
 pub mod Bench
 pub mod Refused
+pub mod Answers
+pub mod Rows_properties
+pub mod Rows_patterns
+pub mod Rows_branches
+pub mod Rows_dependencies
+pub mod Rows_refusals
+pub mod Rows_costs
+pub mod Rows_evaluation
+pub mod Rows_bench
+pub mod Vectors_names
+pub mod Vectors_members
+pub mod Vectors_patterns

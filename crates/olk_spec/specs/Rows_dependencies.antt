@@ -1,0 +1,52 @@
+-- Dependencies between members, and schemas of member names.
+use Rattle.std.specs.Prelude.{◌∷◌, []}
+use Prim.Native.String.{String as Quoted}
+use Rattle.olk_spec.specs.Answers.{Holds, Fails, Is_about}
+
+abbrev pub by_kind : Quoted
+by_kind = "{\"propertyDependencies\":{\"kind\":{\"a\":{\"required\":[\"x\"]},\"b\":false}}}"
+
+abbrev pub A_name_listed_twice_is_told_twice : Type 0
+A_name_listed_twice_is_told_twice = Fails "{\"dependencies\":{\"a\":[\"b\",\"b\"]}}" "{\"a\":1}" ("\"b\" is a required property @ \"\", /dependencies" ∷ "\"b\" is a required property @ \"\", /dependencies" ∷ [])
+
+abbrev pub A_dependent_schema_is_asked_of_the_object : Type 0
+A_dependent_schema_is_asked_of_the_object = Fails "{\"dependentSchemas\":{\"a\":{\"required\":[\"b\"]}}}" "{\"a\":1}" ("\"b\" is a required property @ \"\", /dependentSchemas/a/required" ∷ [])
+
+abbrev pub A_short_name_is_told_of_the_object : Type 0
+A_short_name_is_told_of_the_object = Fails "{\"propertyNames\":{\"minLength\":2}}" "{\"f\":1}" ("\"f\" is shorter than 2 characters @ \"\", /propertyNames/minLength" ∷ [])
+
+abbrev pub Its_instance_is_the_object : Type 0
+Its_instance_is_the_object = Is_about "{\"propertyNames\":{\"minLength\":2}}" "{\"f\":1}" ("{\"f\":1}" ∷ [])
+
+abbrev pub No_name_is_allowed : Type 0
+No_name_is_allowed = Fails "{\"propertyNames\":false}" "{\"foo\":1}" ("False schema does not allow {\"foo\":1} @ \"\", /propertyNames" ∷ [])
+
+abbrev pub No_names_are_none_refused : Type 0
+No_names_are_none_refused = Holds "{\"propertyNames\":false}" "{}"
+
+abbrev pub A_name_is_no_object : Type 0
+A_name_is_no_object = Holds "{\"propertyNames\":{\"properties\":{\"a\":false}}}" "{\"a\":1}"
+
+abbrev pub A_text_chooses_its_schema : Type 0
+A_text_chooses_its_schema = Fails by_kind "{\"kind\":\"a\"}" ("\"x\" is a required property @ \"\", /propertyDependencies/kind/a/required" ∷ [])
+
+abbrev pub A_text_chooses_a_false_schema : Type 0
+A_text_chooses_a_false_schema = Fails by_kind "{\"kind\":\"b\"}" ("False schema does not allow {\"kind\":\"b\"} @ \"\", /propertyDependencies/kind/b" ∷ [])
+
+abbrev pub Another_text_chooses_none : Type 0
+Another_text_chooses_none = Holds by_kind "{\"kind\":\"c\"}"
+
+abbrev pub A_number_chooses_none : Type 0
+A_number_chooses_none = Holds by_kind "{\"kind\":1}"
+
+abbrev pub An_absent_member_chooses_none : Type 0
+An_absent_member_chooses_none = Holds by_kind "{}"
+
+abbrev pub Another_value_chooses_none : Type 0
+Another_value_chooses_none = Holds by_kind "\"a\""
+
+abbrev pub The_empty_text_chooses_too : Type 0
+The_empty_text_chooses_too = Fails "{\"propertyDependencies\":{\"k\":{\"\":false}}}" "{\"k\":\"\"}" ("False schema does not allow {\"k\":\"\"} @ \"\", /propertyDependencies/k/" ∷ [])
+
+abbrev pub Rows_dependencies : Type 0
+Rows_dependencies = A_name_listed_twice_is_told_twice × A_dependent_schema_is_asked_of_the_object × A_short_name_is_told_of_the_object × Its_instance_is_the_object × No_name_is_allowed × No_names_are_none_refused × A_name_is_no_object × A_text_chooses_its_schema × A_text_chooses_a_false_schema × Another_text_chooses_none × A_number_chooses_none × An_absent_member_chooses_none × Another_value_chooses_none × The_empty_text_chooses_too

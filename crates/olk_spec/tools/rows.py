@@ -1,0 +1,635 @@
+#!/usr/bin/env python3
+"""Writes the worked rows and vectors as facts that the checker computes.
+
+Run it in the crate's folder: `python3 tools/rows.py`, and then `rt fmt`. It writes specs/Rows_*.antt
+and specs/Vectors_*.antt, their proofs, and nothing else. Each row is a schema and a
+value as JSON texts, a name that says what the row shows, and what is expected.
+"""
+import json
+import re
+
+FORMS = {
+    "Holds": "λ u. (refl, refl, refl)",
+    "Fails": "λ u. (refl, refl, refl)",
+    "Refuses": "λ u. (refl, refl, refl)",
+    "Holds_under": "(refl, refl, refl)",
+    "Fails_under": "(refl, refl, refl)",
+    "Is_about": "λ u. refl",
+    "Cuts_to": "λ u. refl",
+    "Asks": "(refl, refl)",
+    "Evaluates": "λ u. refl",
+    "Has_nodes": "λ u. refl",
+    "Costs": "(refl, refl, refl, refl)",
+    "Is_refused": "refl",
+    "Builds": "refl",
+    "Are_refused": "refl",
+    "Is_pattern": "refl",
+    "Is_no_pattern": "refl",
+}
+
+
+def quote(text):
+    return '"' + text.replace("\\", "\\\\").replace('"', '\\"') + '"'
+
+
+def texts(items):
+    return "(" + " ∷ ".join([quote(i) for i in items] + ["[]"]) + ")" if items else "[]"
+
+
+def ordered(items):
+    return sorted(items, key=lambda t: t.encode())
+
+
+class Group:
+    """One file of rows: named schemas, and facts about them."""
+
+    def __init__(self, module, title):
+        self.module, self.title = module, title
+        self.schemas, self.rows = {}, []
+
+    def schema(self, name, value):
+        text = value if isinstance(value, str) else compact(value)
+        json.loads(text)
+        assert name not in self.schemas, name
+        self.schemas[name] = text
+        return name
+
+    def add(self, name, form, *words):
+        assert form in FORMS
+        assert name[0].isupper() and all(name != r[0] for r in self.rows), name
+        self.rows.append((name, form, " ".join(words)))
+
+    def text_of(self, schema):
+        return schema if isinstance(schema, str) and schema in self.schemas else quoted_json(schema)
+
+    # ---- the kinds of facts
+
+    def holds(self, name, schema, value):
+        self.add(name, "Holds", self.text_of(schema), quoted_json(value))
+
+    def fails(self, name, schema, value, lines):
+        self.add(name, "Fails", self.text_of(schema), quoted_json(value), texts(ordered(lines)))
+
+    def refuses(self, name, schema, value):
+        self.add(name, "Refuses", self.text_of(schema), quoted_json(value))
+
+    def holds_under(self, name, answer, schema, value):
+        self.add(name, "Holds_under", answer, self.text_of(schema), quoted_json(value))
+
+    def fails_under(self, name, answer, schema, value, lines):
+        self.add(name, "Fails_under", answer, self.text_of(schema), quoted_json(value), texts(ordered(lines)))
+
+    def is_about(self, name, schema, value, instances):
+        self.add(name, "Is_about", self.text_of(schema), quoted_json(value), texts(instances))
+
+    def cuts_to(self, name, schema, value, lines):
+        self.add(name, "Cuts_to", self.text_of(schema), quoted_json(value), texts(ordered(lines)))
+
+    def asks(self, name, schema, value, count):
+        self.add(name, "Asks", self.text_of(schema), quoted_json(value), str(count))
+
+    def costs(self, name, schema, compiled, leaves, made, asked):
+        self.add(name, "Costs", self.text_of(schema), *map(str, (compiled, leaves, made, asked)))
+
+    def is_refused(self, name, schema, lines):
+        self.add(name, "Is_refused", self.text_of(schema), texts(ordered(lines)))
+
+    def are_refused(self, name, pairs):
+        for schema, _ in pairs:
+            json.loads(schema)
+        self.add(name, "Are_refused", "(" + " ∷ ".join(f"({quote(s)}, {quote(l)})" for s, l in pairs) + " ∷ [])")
+
+    def builds(self, name, schema):
+        self.add(name, "Builds", self.text_of(schema))
+
+    def evaluates(self, name, schema, value, answer):
+        self.add(name, "Evaluates", self.text_of(schema), quoted_json(value), quoted_json(answer))
+
+    def has_nodes(self, name, schema, value, nodes):
+        self.add(name, "Has_nodes", self.text_of(schema), quoted_json(value), quote(nodes))
+
+    def is_pattern(self, name, pattern, literal):
+        self.add(name, "Is_pattern", quote(pattern), "(" + literal + ")")
+
+    def is_no_pattern(self, name, pattern):
+        self.add(name, "Is_no_pattern", quote(pattern))
+
+    # ---- what is written
+
+    def write(self):
+        product = self.module  # the module and the fact that joins its rows have one name
+        body = "".join(f"\nabbrev pub {n} : Quoted\n{n} = {quote(t)}\n" for n, t in self.schemas.items())
+        body += "".join(f"\nabbrev pub {n} : Type 0\n{n} = {f} {w}\n" for n, f, w in self.rows)
+        body += f"\nabbrev pub {product} : Type 0\n{product} = " + " × ".join(n for n, _, _ in self.rows) + "\n"
+        code = re.sub(r'"(\\.|[^"\\])*"', '""', body)
+        words = set(re.findall(r"[\w◌∷]+", code)) | set(re.findall(r"\[\]|∷|×", code))
+        prelude = [w for w in ("List", "[]", "true", "false", "codes") if w in words]
+        if "∷" in code:
+            prelude.insert(0, "◌∷◌")
+        forms = [f for f in FORMS if f in words]
+        literals = [w for w in ("starts_with_text", "ends_with_text", "equals_text", "is_one_of", "has_no_whitespace") if w in words]
+        head = f"-- {self.title}\n"
+        if prelude:
+            head += f"use Rattle.std.specs.Prelude.{{{', '.join(prelude)}}}\n"
+        if self.schemas:
+            head += "use Prim.Native.String.{String as Quoted}\n"
+        if literals:
+            head += f"use Rattle.olk_spec.specs.Literals.{{{', '.join(literals)}}}\n"
+        head += f"use Rattle.olk_spec.specs.Answers.{{{', '.join(forms)}}}\n"
+        with open(f"specs/{self.module}.antt", "w") as out:
+            out.write(head + body)
+
+        opened = "unfolding literal chars digits meaning malformations_beside places leaf_places pattern_places table_asks serde_json_on_literals"
+        proof = (
+            "use Rattle.std.proofs.Common.{refl}\n"
+            "use Rattle.std.specs.Fmt.{digits}\n"
+            "use Rattle.std.specs.Str.{chars}\n"
+            "use Rattle.olk_spec.specs.Literals.{literal}\n"
+            "use Rattle.olk_spec.specs.Meaning.{meaning}\n"
+            "use Rattle.olk_spec.specs.Malformed.{malformations_beside, places, leaf_places, pattern_places, table_asks}\n"
+            "use Rattle.serde_json.proofs.OnLiterals.{serde_json_on_literals}\n"
+            f"use Rattle.olk_spec.specs.{self.module} as rows\n"
+        )
+        for name, form, _ in self.rows:
+            fact = name[0].lower() + name[1:]
+            proof += f"\npub {fact} : rows.{name}\n{opened}\n{fact} = {FORMS[form]}\n"
+        joined = product[0].lower() + product[1:]
+        facts = ", ".join(n[0].lower() + n[1:] for n, _, _ in self.rows)
+        proof += f"\npub {joined} : rows.{product}\n{joined} = ({facts})\n"
+        with open(f"proofs/{self.module}.antt", "w") as out:
+            out.write(proof)
+        print(self.module, len(self.rows))
+
+
+def compact(value):
+    return json.dumps(value, separators=(",", ":"))
+
+
+def quoted_json(value):
+    """A JSON text, given as itself or as the value that it stands for."""
+    text = value if isinstance(value, str) else compact(value)
+    json.loads(text)
+    return quote(text)
+
+
+# ---- properties, required, additionalProperties
+
+
+def properties():
+    g = Group("Rows_properties", "Declared, required and additional members.")
+    two = g.schema("two_required", '{"properties":{"a":{"type":"integer"},"b":{"type":"string"}},"required":["a","b"]}')
+    g.holds("Extra_members_are_accepted", two, '{"a":1,"b":"x","c":3}')
+    g.fails("Missing_and_wrong_are_both_told", two, '{"a":"x"}',
+            ['"b" is a required property @ "", /required', '"x" is not of type "integer" @ /a, /properties/a/type'])
+    g.fails("A_wrong_member_alone_is_told", two, '{"a":"x","b":"y"}', ['"x" is not of type "integer" @ /a, /properties/a/type'])
+    g.holds("Names_that_differ_early_are_told_apart", '{"properties":{"abcdEFGHijkl":false,"p":true}}', '{"abcdefghijkl":1,"p":1}')
+    g.fails("Names_that_differ_in_the_middle_are_told_apart",
+            {"properties": {"prefix%04dsuffix00" % n: {"const": n} for n in range(14)}, "additionalProperties": False},
+            '{"prefix0099suffix00":0}',
+            ["Additional properties are not allowed ('prefix0099suffix00' was unexpected) @ \"\", /additionalProperties"])
+    near = g.schema("near_names", '{"properties":{"prefix0003suffix00":false,"prefix0004suffix00":true}}')
+    g.holds("A_near_name_is_not_refused", near, '{"prefix0004suffix00":0}')
+    g.fails("A_false_schema_refuses_its_name", near, '{"prefix0003suffix00":0}',
+            ["False schema does not allow 0 @ /prefix0003suffix00, /properties/prefix0003suffix00"])
+    twice = g.schema("required_twice", '{"properties":{"a":{}},"required":["a","a"]}')
+    g.holds("A_name_required_twice_is_met_once", twice, '{"a":1}')
+    g.fails("A_name_required_twice_is_missing_twice", twice, "{}", ['"a" is a required property @ "", /required'] * 2)
+    other = g.schema("undeclared_required", '{"properties":{"a":{}},"additionalProperties":false,"required":["z"]}')
+    g.fails("A_required_name_may_be_unexpected", other, '{"z":1}',
+            ["Additional properties are not allowed ('z' was unexpected) @ \"\", /additionalProperties"])
+    g.fails("A_required_undeclared_name_is_missing", other, "{}", ['"z" is a required property @ "", /required'])
+    g.fails("Unexpected_and_missing_are_both_told", '{"properties":{"a":{}},"additionalProperties":false,"required":["a"]}', '{"b":1}',
+            ["Additional properties are not allowed ('b' was unexpected) @ \"\", /additionalProperties", '"a" is a required property @ "", /required'])
+    g.fails("A_required_undeclared_name_may_be_present", '{"properties":{"a":{"type":"integer"},"b":{}},"required":["a","z"]}', '{"z":2,"y":3}',
+            ['"a" is a required property @ "", /required'])
+    g.fails("No_declared_names_are_still_declared", '{"properties":{},"additionalProperties":false}', '{"x":1}',
+            ["Additional properties are not allowed ('x' was unexpected) @ \"\", /additionalProperties"])
+    g.fails("Alone_it_is_a_false_schema_over_the_first_member", '{"additionalProperties":false}', '{"x":1}',
+            ['False schema does not allow 1 @ "", /additionalProperties'])
+    g.is_about("Alone_its_instance_is_the_first_value", '{"additionalProperties":false}', '{"y":2,"x":1}', ["1"])
+    g.fails("Additional_members_meet_their_schema", '{"additionalProperties":{"type":"integer"},"properties":{"foo":{}}}', '{"foo":"x","bar":"a"}',
+            ['"a" is not of type "integer" @ /bar, /additionalProperties/type'])
+    five = g.schema("five_arrays", {"additionalProperties": False, "required": ["id"],
+                                    "properties": {"id": {"type": "integer"}, **{k: {"type": "array"} for k in "abcde"}}})
+    g.fails("A_fifth_container_is_asked", five, '{"a":[],"b":[],"c":[],"d":[],"e":{},"id":1}', ['{} is not of type "array" @ /e, /properties/e/type'])
+    g.holds("Five_containers_are_accepted", five, '{"a":[],"b":[],"c":[],"d":[],"e":[],"id":1}')
+    for n in (14, 15, 16):
+        last = "p%02d" % (n - 1)
+        many = g.schema("names_%d" % n, {"properties": {"p%02d" % i: {"type": "integer"} for i in range(n)}})
+        error = ['"x" is not of type "integer" @ /%s, /properties/%s/type' % (last, last)]
+        g.fails("The_last_of_%d_names_is_asked" % n, many, {"p%02d" % i: ("x" if i == n - 1 else 1) for i in range(20)}, error)
+        g.fails("The_last_of_%d_names_is_asked_alone" % n, many, {last: "x"}, error)
+    g.fails("Paths_are_escaped", '{"properties":{"a/b":false}}', '{"a/b":1}', ["False schema does not allow 1 @ /a~1b, /properties/a~1b"])
+    g.holds("Other_values_pass", '{"properties":{"a":false},"required":["a"],"additionalProperties":false,"patternProperties":{"":false},"propertyNames":false,"dependentRequired":{"a":["b"]},"dependentSchemas":{"a":false},"dependencies":{"a":false},"propertyDependencies":{"a":{"b":false}}}', "[1]")
+    return g
+
+
+# ---- patternProperties
+
+
+def patterns():
+    g = Group("Rows_patterns", "Patterns: those with a test of their own, those that the matcher answers, and those that it leaves unfinished.")
+    both = g.schema("closed", CLOSED)
+    g.fails("All_four_faults_are_told", both, '{"bar":4,"spam":11,"foo":3,"faz":1}',
+            ["Additional properties are not allowed ('faz' was unexpected) @ \"\", /additionalProperties",
+             "4 is less than the minimum of 5 @ /bar, /patternProperties/^bar/minimum",
+             '3 is not of type "string" @ /foo, /properties/foo/type',
+             "11 is greater than the maximum of 10 @ /spam, /patternProperties/spam$/maximum"])
+    g.fails("A_declared_name_meets_its_patterns_too", both, '{"barbaz":3}', ["3 is less than the minimum of 5 @ /barbaz, /patternProperties/^bar/minimum"])
+    g.fails("All_unexpected_names_are_told", both, '{"faz":1,"haz":1}',
+            ["Additional properties are not allowed ('faz', 'haz' were unexpected) @ \"\", /additionalProperties"])
+    g.cuts_to("The_first_unexpected_name_is_kept", both, '{"faz":1,"haz":1}',
+              ["Additional properties are not allowed ('faz' was unexpected) @ \"\", /additionalProperties"])
+    slow = g.schema("slow_declared", '{"properties":{"ax":{}},"patternProperties":{"(slow)x":{"type":"integer"}},"additionalProperties":false}')
+    g.fails_under("An_unfinished_match_that_counts", "true", slow, '{"ax":"t"}', ['"t" is not of type "integer" @ /ax, /patternProperties/(slow)x/type'])
+    g.holds_under("An_unfinished_match_that_does_not_count", "false", slow, '{"ax":"t"}')
+    wild = g.schema("slow_alone", '{"patternProperties":{"(slow)x":{"type":"integer"}}}')
+    g.fails_under("Alone_an_unfinished_match_counts", "true", wild, '{"ax":"t","b":"t"}', ['"t" is not of type "integer" @ /ax, /patternProperties/(slow)x/type'])
+    g.holds_under("Alone_an_unfinished_match_does_not_count", "false", wild, '{"ax":"t","b":"t"}')
+    g.fails("A_finished_match_counts_under_both", '{"patternProperties":{"x":{"type":"integer"}}}', '{"ax":"t","b":"t"}',
+            ['"t" is not of type "integer" @ /ax, /patternProperties/x/type'])
+    blank = g.schema("no_whitespace", '{"patternProperties":{"^\\\\S*$":false}}')
+    g.holds("A_space_is_white_space", blank, '{"a b":1}')
+    g.holds("A_byte_order_mark_is_white_space", blank, '{"a\\ufeffb":1}')
+    g.fails("A_name_without_white_space_matches", blank, '{"ab":1}', ["False schema does not allow 1 @ /ab, /patternProperties/^\\S*$"])
+    g.fails("A_name_is_additional_if_nothing_holds_or_matches_it", '{"properties":{"foo":{}},"patternProperties":{"^bar":{}},"additionalProperties":false}', '{"foo":1,"barn":2,"faz":3}',
+            ["Additional properties are not allowed ('faz' was unexpected) @ \"\", /additionalProperties"])
+    g.fails("A_suffix_stands_at_the_end", '{"patternProperties":{"spam$":false}}', '{"xspam":1,"spamx":2}', ["False schema does not allow 1 @ /xspam, /patternProperties/spam$"])
+    g.holds("Two_patterns_are_both_asked", '{"patternProperties":{"^x":{},"spam$":{"type":"integer"}}}', '{"x1":"t"}')
+    shut = g.schema("closed_suffix", '{"properties":{"a":{},"bspam":{}},"patternProperties":{"spam$":{}},"additionalProperties":false}')
+    g.holds("Declared_and_matching_names_are_expected", shut, '{"a":1,"bspam":2}')
+    g.holds("A_matching_name_is_expected", shut, '{"a":1,"xspam":1}')
+    names = {"m%02d" % i: {} for i in range(65)}
+    wide = g.schema("patterns_65", {"additionalProperties": False, "properties": {"m64": {}}, "patternProperties": names})
+    wider = g.schema("patterns_66", {"additionalProperties": False, "properties": {"m64": {}}, "patternProperties": {"(slow)m64": False, **names}})
+    g.holds("The_last_of_65_patterns_matches", wide, '{"m64":1}')
+    g.holds_under("The_first_of_66_patterns_does_not_count", "false", wider, '{"m64":1}')
+    g.fails_under("The_first_of_66_patterns_counts", "true", wider, '{"m64":1}', ["False schema does not allow 1 @ /m64, /patternProperties/(slow)m64"])
+
+    def prefix(t):
+        return f"starts_with_text (codes {quote(t)})"
+
+    for n, p, l in (
+        ("Prefix_of_letters", "^foo", prefix("foo")),
+        ("Prefix_with_a_hyphen", "^x-", prefix("x-")),
+        ("Prefix_with_a_slash", "^path/to", prefix("path/to")),
+        ("Prefix_with_an_escaped_slash", "^\\/", prefix("/")),
+        ("Exact_letters", "^foo$", f"equals_text (codes {quote('foo')})"),
+        ("Exact_with_an_escaped_dollar", "^\\$ref$", f"equals_text (codes {quote('$ref')})"),
+        ("Prefix_that_ends_in_a_dollar", "^foo\\$", prefix("foo$")),
+        ("Alternatives", "^(a|b)$", f"is_one_of (codes {quote('a')} ∷ codes {quote('b')} ∷ [])"),
+        ("No_white_space", "^\\S*$", "has_no_whitespace"),
+        ("Suffix_of_letters", "spam$", f"ends_with_text (codes {quote('spam')})"),
+        ("Suffix_that_is_a_dollar", "\\$$", f"ends_with_text (codes {quote('$')})"),
+    ):
+        g.is_pattern(n, p, l)
+    for n, p in (
+        ("Letters_alone_are_no_test", "foo"), ("An_anchor_alone_is_no_test", "^"), ("Two_anchors_are_no_test", "^$"),
+        ("One_alternative_is_no_test", "^(a)$"), ("A_star_is_no_test", "^foo.*"), ("A_plus_is_no_test", "^foo+"),
+        ("A_question_mark_is_no_test", "^foo?"), ("A_class_is_no_test", "^[a-z]"), ("Open_alternatives_are_no_test", "^foo|bar"),
+        ("A_group_is_no_test", "^foo(bar)"), ("A_digit_is_no_test", "^foo\\d"), ("An_escaped_dollar_is_no_suffix", "foo\\$"),
+        ("A_dollar_alone_is_no_suffix", "$"), ("A_group_is_no_suffix", "(a)$"), ("A_dot_is_no_suffix", "fo.o$"),
+    ):
+        g.is_no_pattern(n, p)
+    return g
+
+
+CLOSED = {"additionalProperties": False,
+          "properties": {"foo": {"type": "string"}, "barbaz": {"type": "integer", "multipleOf": 3}},
+          "patternProperties": {"^bar": {"type": "integer", "minimum": 5}, "spam$": {"type": "integer", "maximum": 10}}}
+
+
+# ---- allOf, anyOf, oneOf, not, if
+
+
+def branches():
+    g = Group("Rows_branches", "Branches, negation and conditions.")
+    g.fails("Any_of_none_refuses", '{"anyOf":[]}', "1", ["1 is not valid under any of the schemas listed in the 'anyOf' keyword @ \"\", /anyOf []"])
+    g.fails("One_of_none_refuses", '{"oneOf":[]}', "1", ["1 is not valid under any of the schemas listed in the 'oneOf' keyword @ \"\", /oneOf []"])
+    g.holds("All_of_none_accepts", '{"allOf":[]}', "1")
+    g.fails("Two_accepting_branches_are_too_many", '{"oneOf":[{"type":"string"},{"maxLength":3}]}', '""',
+            ["\"\" is valid under more than one of the schemas listed in the 'oneOf' keyword @ \"\", /oneOf [{}{}]"])
+    g.holds("One_accepting_branch_is_enough", '{"oneOf":[{"type":"string"},{"maxLength":3}]}', '"long"')
+    g.holds("The_other_branch_is_enough", '{"oneOf":[{"type":"string"},{"maxLength":3}]}', "5")
+    g.fails("Each_branch_tells_all_that_it_finds", '{"anyOf":[{"type":"integer"},{"required":["a","b"]}]}', "{}",
+            ["{} is not valid under any of the schemas listed in the 'anyOf' keyword @ \"\", /anyOf "
+             '[{{} is not of type "integer" @ "", /anyOf/0/type;}{"a" is a required property @ "", /anyOf/1/required;"b" is a required property @ "", /anyOf/1/required;}]'])
+    inner = '"x" is not valid under any of the schemas listed in the \'anyOf\' keyword @ "", /anyOf/0/anyOf [{"x" is not of type "integer" @ "", /anyOf/0/anyOf/0/type;}{"x" is not of type "array" @ "", /anyOf/0/anyOf/1/type;}]'
+    g.fails("Branches_inside_a_branch_tell_theirs", '{"anyOf":[{"anyOf":[{"type":"integer"},{"type":"array"}]}]}', '"x"',
+            ['"x" is not valid under any of the schemas listed in the \'anyOf\' keyword @ "", /anyOf [{' + inner + ";}]"])
+    g.fails("A_negation_shows_its_schema", '{"not":{"type":"string"}}', '"foo"', ['{"type":"string"} is not allowed for "foo" @ "", /not'])
+    g.fails("A_double_negation_shows_the_inner_one", '{"not":{"not":{"type":"string"}}}', "1", ['{"not":{"type":"string"}} is not allowed for 1 @ "", /not'])
+    g.fails("Where_the_condition_fails_else_applies", '{"if":{"minimum":0},"then":{"multipleOf":2},"else":{"multipleOf":2}}', "-1",
+            ['-1 is not a multiple of 2 @ "", /else/multipleOf'])
+    g.fails("Where_the_condition_holds_then_applies", '{"if":{"minimum":0},"then":{"multipleOf":2},"else":{"multipleOf":3}}', "3",
+            ['3 is not a multiple of 2 @ "", /then/multipleOf'])
+    g.holds("Then_alone_is_unread", '{"then":5}', "1")
+    g.builds("Then_alone_builds", '{"then":5}')
+    g.fails("Each_branch_of_all_of_is_asked", '{"allOf":[{"type":"string"},true,false]}', "1",
+            ['1 is not of type "string" @ "", /allOf/0/type', 'False schema does not allow 1 @ "", /allOf/2'])
+    return g
+
+
+# ---- dependencies, names
+
+
+def dependencies():
+    g = Group("Rows_dependencies", "Dependencies between members, and schemas of member names.")
+    g.fails("A_name_listed_twice_is_told_twice", '{"dependencies":{"a":["b","b"]}}', '{"a":1}', ['"b" is a required property @ "", /dependencies'] * 2)
+    g.fails("A_dependent_schema_is_asked_of_the_object", '{"dependentSchemas":{"a":{"required":["b"]}}}', '{"a":1}',
+            ['"b" is a required property @ "", /dependentSchemas/a/required'])
+    g.fails("A_short_name_is_told_of_the_object", '{"propertyNames":{"minLength":2}}', '{"f":1}', ['"f" is shorter than 2 characters @ "", /propertyNames/minLength'])
+    g.is_about("Its_instance_is_the_object", '{"propertyNames":{"minLength":2}}', '{"f":1}', ['{"f":1}'])
+    g.fails("No_name_is_allowed", '{"propertyNames":false}', '{"foo":1}', ['False schema does not allow {"foo":1} @ "", /propertyNames'])
+    g.holds("No_names_are_none_refused", '{"propertyNames":false}', "{}")
+    g.holds("A_name_is_no_object", '{"propertyNames":{"properties":{"a":false}}}', '{"a":1}')
+    kind = g.schema("by_kind", '{"propertyDependencies":{"kind":{"a":{"required":["x"]},"b":false}}}')
+    g.fails("A_text_chooses_its_schema", kind, '{"kind":"a"}', ['"x" is a required property @ "", /propertyDependencies/kind/a/required'])
+    g.fails("A_text_chooses_a_false_schema", kind, '{"kind":"b"}', ['False schema does not allow {"kind":"b"} @ "", /propertyDependencies/kind/b'])
+    for n, v in (("Another_text_chooses_none", '{"kind":"c"}'), ("A_number_chooses_none", '{"kind":1}'), ("An_absent_member_chooses_none", "{}"), ("Another_value_chooses_none", '"a"')):
+        g.holds(n, kind, v)
+    g.fails("The_empty_text_chooses_too", '{"propertyDependencies":{"k":{"":false}}}', '{"k":""}',
+            ['False schema does not allow {"k":""} @ "", /propertyDependencies/k/'])
+    return g
+
+
+# ---- refusals
+
+
+def refusals():
+    g = Group("Rows_refusals", "Malformed schemas, each with all that is wrong with it.")
+    for n, s, l in (
+        ("A_refused_pattern", '{"patternProperties":{"a/b~(":{}}}', '"a/b~(" is not a "regex" @ "", /patternProperties/a~1b~0('),
+        ("Declared_names_that_are_no_object", '{"properties":5,"additionalProperties":false}', '5 is not of type "object" @ "", /properties'),
+        ("A_reference_inside", '{"properties":{"a":{"$ref":"#"}}}', '"$ref" is not supported here @ "", /properties/a/$ref'),
+        ("A_list_with_a_repeated_name", '{"dependentRequired":{"a":["b","b"]}}', '["b","b"] has non-unique elements @ "", /dependentRequired/a'),
+        ("A_read_condition_that_is_no_schema", '{"if":5,"then":{}}', '5 is not of types "boolean", "object" @ "", /if'),
+        ("A_branch_that_is_no_schema", '{"allOf":[5]}', '5 is not of types "boolean", "object" @ "", /allOf/0'),
+        ("A_leaf_value_that_does_not_fit", '{"type":"text"}', '"text" is not a value for "type" @ "", /type'),
+        ("A_listed_name_that_is_no_text", '{"dependencies":{"a":[1]}}', '1 is not of type "string" @ "", /dependencies'),
+        ("Equal_items_that_are_no_texts", '{"dependentRequired":{"a":[1,1]}}', '1 is not of type "string" @ "", /dependentRequired'),
+        ("A_repeated_name_before_another_item", '{"dependentRequired":{"a":["b","b",1]}}', '["b","b",1] has non-unique elements @ "", /dependentRequired/a'),
+        ("Additional_properties_that_are_no_schema", '{"additionalProperties":5,"properties":{"a":{}}}', '5 is not of types "boolean", "object" @ "", /additionalProperties'),
+        ("A_required_item_that_is_no_text", '{"properties":{"a":{}},"additionalProperties":false,"required":[5]}', '5 is not of type "string" @ "", /required'),
+        ("A_reference_in_a_branch", '{"allOf":[{"$ref":"#"},{"type":"integer"}]}', '"$ref" is not supported here @ "", /allOf/0/$ref'),
+        ("Property_dependencies_that_are_no_object", '{"propertyDependencies":5}', '5 is not of type "object" @ "", /propertyDependencies'),
+        ("An_entry_of_property_dependencies_that_is_no_object", '{"propertyDependencies":{"k":5}}', '5 is not of type "object" @ "", /propertyDependencies/k'),
+        ("A_schema_of_property_dependencies_that_is_none", '{"propertyDependencies":{"k":{"t/u":5}}}', '5 is not of types "boolean", "object" @ "", /propertyDependencies/k/t~1u'),
+        ("A_root_that_is_no_schema", "5", '5 is not of types "boolean", "object" @ "", ""'),
+    ):
+        g.is_refused(n, s, [l])
+    bad = [("5", '5 is not of types "boolean", "object"', "")]
+    bad += [('{"%s":5}' % k, '5 is not of type "%s"' % t, "/" + k)
+            for t, ks in (("object", ("properties", "patternProperties", "dependentRequired", "dependentSchemas", "dependencies", "propertyDependencies")),
+                          ("array", ("required", "allOf", "anyOf", "oneOf"))) for k in ks]
+    bad += [('{"%s":5}' % k, '"%s" is not supported here' % k, "/" + k) for k in ("$ref", "$dynamicRef", "$recursiveRef", "unevaluatedProperties", "unevaluatedItems")]
+    bad += [('{"additionalProperties":5}', '5 is not of types "boolean", "object"', "/additionalProperties"), ('{"patternProperties":{"(":{}}}', '"(" is not a "regex"', "/patternProperties/("),
+            ('{"required":[5]}', '5 is not of type "string"', "/required"), ('{"dependentRequired":{"a":5}}', '5 is not of type "array"', "/dependentRequired/a"),
+            ('{"dependentRequired":{"a":["b","b"]}}', '["b","b"] has non-unique elements', "/dependentRequired/a"), ('{"dependentRequired":{"a":[5]}}', '5 is not of type "string"', "/dependentRequired"),
+            ('{"dependencies":{"a":[5]}}', '5 is not of type "string"', "/dependencies"), ('{"propertyDependencies":{"a":5}}', '5 is not of type "object"', "/propertyDependencies/a"),
+            ('{"type":5}', '5 is not a value for "type"', "/type")]
+    for label, place, path in (
+        ("At_the_root", "%s", ""), ("In_properties", '{"properties":{"n":%s}}', "/properties/n"), ("In_pattern_properties", '{"patternProperties":{"n":%s}}', "/patternProperties/n"),
+        ("In_additional_properties", '{"additionalProperties":%s}', "/additionalProperties"), ("In_property_names", '{"propertyNames":%s}', "/propertyNames"),
+        ("In_dependent_schemas", '{"dependentSchemas":{"n":%s}}', "/dependentSchemas/n"), ("In_dependencies", '{"dependencies":{"n":%s}}', "/dependencies/n"),
+        ("In_property_dependencies", '{"propertyDependencies":{"n":{"t":%s}}}', "/propertyDependencies/n/t"),
+        ("In_all_of", '{"allOf":[%s]}', "/allOf/0"), ("In_any_of", '{"anyOf":[true,%s]}', "/anyOf/1"), ("In_one_of", '{"oneOf":[%s]}', "/oneOf/0"), ("In_not", '{"not":%s}', "/not"),
+        ("In_if", '{"if":%s,"then":{}}', "/if"), ("In_then", '{"if":{},"then":%s}', "/then"), ("In_else", '{"if":{},"else":%s}', "/else"),
+    ):
+        pairs = [(place.replace("%s", s), '%s @ "", %s' % (text, (path + tail) or '""')) for s, text, tail in bad if not (label == "In_property_names" and s == "5")]
+        g.are_refused(label, pairs)
+    g.builds("A_condition_alone_builds", '{"if":5}')
+    g.builds("Names_that_are_neither_false_nor_an_object_build", '{"propertyNames":5}')
+    return g
+
+
+# ---- costs
+
+
+def costs():
+    g = Group("Rows_costs", "What a build counts, and how many matchers a verdict may ask.")
+    slow = g.schema("slow_declared", '{"properties":{"ax":{}},"patternProperties":{"(slow)x":{"type":"integer"}},"additionalProperties":false}')
+    g.costs("A_matcher_is_asked_for_a_declared_name", slow, 3, 1, 1, 1)
+    g.asks("An_unfinished_entry_is_asked_again", slow, '{"ax":"t"}', 1)
+    two = g.schema("prefix_and_suffix", '{"patternProperties":{"^x":{},"spam$":{"type":"integer"}}}')
+    g.costs("Tests_make_no_matcher", two, 3, 1, 0, 0)
+    g.asks("Tests_ask_no_matcher", two, '{"x1":"t"}', 0)
+    g.costs("Patterns_beside_true_are_compiled_once", '{"additionalProperties":true,"patternProperties":{"^x":{"type":"integer"}}}', 2, 1, 0, 0)
+    shut = g.schema("closed_suffix", '{"properties":{"a":{},"bspam":{}},"patternProperties":{"spam$":{}},"additionalProperties":false}')
+    g.costs("A_table_of_tests_asks_no_matcher", shut, 4, 0, 0, 0)
+    g.asks("Declared_names_ask_no_matcher", shut, '{"a":1,"bspam":2}', 0)
+    g.asks("Other_names_ask_no_matcher", shut, '{"a":1,"xspam":1}', 0)
+    g.costs("A_condition_that_is_read_is_compiled", '{"allOf":[{"if":{"type":"integer"},"then":{"minimum":1}},true]}', 5, 2, 0, 0)
+    g.costs("A_condition_alone_is_not_compiled", '{"if":{"type":"integer"}}', 1, 0, 0, 0)
+    g.costs("True_for_names_is_not_compiled", '{"propertyNames":true}', 1, 0, 0, 0)
+    g.costs("False_for_names_is_not_compiled", '{"propertyNames":false}', 1, 0, 0, 0)
+    g.costs("A_name_list_is_not_compiled", '{"dependencies":{"a":["b"],"c":{}}}', 2, 0, 0, 0)
+    three = g.schema("three_patterns", '{"additionalProperties":false,"properties":{"a":{},"b":{}},"patternProperties":{"x":{},"y$":{},"^z":{}}}')
+    g.costs("One_of_three_patterns_makes_a_matcher", three, 6, 0, 1, 2)
+    g.asks("One_of_three_patterns_asks_a_matcher", three, '{"c":1}', 1)
+    g.costs("Schemas_chosen_by_a_text_are_compiled", '{"propertyDependencies":{"k":{"a":{"type":"string"},"b":{}}}}', 3, 1, 0, 0)
+    g.asks("Patterns_inside_patterns_are_asked", '{"patternProperties":{"a":{"patternProperties":{"b":{}}}}}', '{"a":{"b":1},"c":2}', 3)
+    g.asks("Each_branch_may_be_asked", '{"anyOf":[true,{"patternProperties":{"x":{}}}]}', '{"x":1}', 1)
+    g.asks("Each_member_asks_the_matcher", '{"patternProperties":{"(slow)x":{"type":"integer"}}}', '{"ax":"t","b":"t"}', 2)
+    names = {"m%02d" % i: {} for i in range(65)}
+    wide = g.schema("patterns_65", {"additionalProperties": False, "properties": {"m64": {}}, "patternProperties": names})
+    wider = g.schema("patterns_66", {"additionalProperties": False, "properties": {"m64": {}}, "patternProperties": {"(slow)m64": False, **names}})
+    g.costs("A_table_of_65_patterns", wide, 67, 0, 65, 65)
+    g.costs("A_table_of_66_patterns", wider, 68, 0, 66, 66)
+    g.asks("No_entry_of_65_is_asked_again", wide, '{"m64":1}', 0)
+    g.asks("One_entry_of_66_is_asked_again", wider, '{"m64":1}', 1)
+    return g
+
+
+# ---- evaluation
+
+
+def evaluation():
+    g = Group("Rows_evaluation", "Evaluation trees.")
+    two = g.schema("two_required", '{"properties":{"a":{"type":"integer"},"b":{"type":"string"}},"required":["a","b"]}')
+    g.evaluates("The_names_met_are_shown", two, '{"a":1,"b":"x"}',
+                '{"annotations":[{"instancePath":"","names":["a","b"],"schemaPath":"/properties"}],"errors":[],"valid":true}')
+    g.has_nodes("A_fused_validator_stands_at_its_keyword", two, '{"a":1,"b":"x"}',
+                '""(/properties(/properties/a(/properties/a/type))(/properties/b(/properties/b/type)))')
+
+    def missing(n):
+        return '{"instancePath":"","keyword":"required","message":"\\"%s\\" is a required property","schemaPath":"/required"}' % n
+
+    g.evaluates("Two_missing_names_are_two_errors", two, "{}", '{"annotations":[],"errors":[%s,%s],"valid":false}' % (missing("a"), missing("b")))
+    g.evaluates("A_missing_name_is_a_child_at_required", '{"properties":{"a":{}},"additionalProperties":false,"required":["z"]}', "{}",
+                '{"annotations":[],"errors":[%s],"valid":false}' % missing("z"))
+    g.evaluates("A_name_for_each_match", '{"patternProperties":{"^a":{},"^ab":{}}}', '{"abc":1}',
+                '{"annotations":[{"instancePath":"","names":["abc","abc"],"schemaPath":"/patternProperties"}],"errors":[],"valid":true}')
+    g.evaluates("More_than_one_branch_is_an_own_error", '{"oneOf":[{"type":"string"},{"maxLength":3}]}', '""',
+                '{"annotations":[],"errors":[{"instancePath":"","keyword":"oneOf","message":"more than one subschema succeeded","schemaPath":"/oneOf"}],"valid":false}')
+    g.evaluates("Matches_stand_in_a_child_of_their_own", '{"additionalProperties":{"type":"integer"},"patternProperties":{"^x":{}}}', '{"x1":"t","y":2}',
+                '{"annotations":[{"instancePath":"","names":["y"],"schemaPath":"/additionalProperties"},{"instancePath":"","names":["x1"],"schemaPath":"/patternProperties"}],"errors":[],"valid":true}')
+    for n, nodes in ((14, '""(/properties(/required))'), (15, '""(/properties)(/required)')):
+        g.has_nodes("Of_%d_names_two_are_missing" % n, {"properties": {"p%02d" % i: {} for i in range(n)}, "required": ["p00", "p01"]}, "{}", nodes)
+    g.has_nodes("One_missing_name_stands_in_the_closed_object", '{"properties":{"a":{}},"additionalProperties":false,"required":["z"]}', "{}", '""(/additionalProperties(/required))')
+    g.has_nodes("Beside_patterns_it_stands_alone", '{"properties":{"a":{}},"patternProperties":{"^b":{}},"additionalProperties":false,"required":["z"]}', "{}", '""(/additionalProperties)(/required)')
+    g.has_nodes("A_condition_that_holds_is_shown", '{"if":true,"then":true,"else":false}', "1", '""(/if(/if)(/then))')
+    g.has_nodes("A_condition_that_fails_is_not_shown", '{"if":false,"then":false,"else":true}', "1", '""(/if(/else))')
+    g.has_nodes("A_schema_chosen_by_a_text_is_shown", '{"propertyDependencies":{"k":{"a":true,"b":false}}}', '{"k":"a"}', '""(/propertyDependencies(/propertyDependencies/k/a))')
+    nothing = '{"annotations":[],"errors":[],"valid":false}'
+    g.evaluates("Any_of_none_is_invalid_without_errors", '{"anyOf":[]}', "1", nothing)
+    g.evaluates("One_of_none_is_invalid_without_errors", '{"oneOf":[]}', "1", nothing)
+    g.evaluates("A_false_schema_is_an_error_of_its_place", '{"properties":{"a":false}}', '{"a":1}',
+                '{"annotations":[],"errors":[{"instancePath":"/a","keyword":"falseSchema","message":"False schema does not allow 1","schemaPath":"/properties/a"}],"valid":false}')
+    return g
+
+
+# ---- the bench
+
+
+def bench():
+    g = Group("Rows_bench", "The leaves of the bench.")
+    for kind, v in (("null", "null"), ("boolean", "true"), ("integer", "-5"), ("number", "-5"), ("string", '"a"'), ("array", "[1]"), ("object", "{}")):
+        g.holds("A_value_of_kind_" + kind, {"type": kind}, v)
+    g.holds("A_fraction_is_a_number", '{"type":"number"}', "1.5")
+    g.fails("A_fraction_is_no_integer", '{"type":"integer"}', "1.5", ['value is not of type "integer" @ "", /type'])
+    g.fails("A_text_shows_no_fraction", '{"type":"object"}', '["a",1.5]', ['value is not of type "object" @ "", /type'])
+    g.holds("A_constant_number", '{"const":-3}', "-3")
+    g.fails("Another_number", '{"const":-3}', "3", ['-3 was expected @ "", /const'])
+    g.fails("A_text_for_a_number", '{"const":3}', '"3"', ['3 was expected @ "", /const'])
+    g.holds("A_constant_text", '{"const":"a/b"}', '"a/b"')
+    g.fails("Another_text", '{"const":"a"}', "null", ['"a" was expected @ "", /const'])
+    g.holds("The_minimum_itself", '{"minimum":-3}', "-3")
+    g.fails("Less_than_the_minimum", '{"minimum":-3}', "-4", ['-4 is less than the minimum of -3 @ "", /minimum'])
+    g.holds("The_maximum_itself", '{"maximum":18446744073709551615}', "18446744073709551615")
+    g.fails("Greater_than_the_maximum", '{"maximum":-3}', "0", ['0 is greater than the maximum of -3 @ "", /maximum'])
+    g.holds("A_fraction_is_no_whole_number", '{"minimum":3,"maximum":1,"multipleOf":7}', "2.5")
+    g.holds("A_text_is_no_whole_number", '{"minimum":3,"maximum":1,"multipleOf":7}', '"2"')
+    g.holds("A_multiple_below_zero", '{"multipleOf":3}', "-6")
+    g.fails("No_multiple_below_zero", '{"multipleOf":3}', "-7", ['-7 is not a multiple of 3 @ "", /multipleOf'])
+    g.holds("Two_characters_of_four_bytes", '{"minLength":2,"maxLength":2}', '"\\u00e9\\u00e9"')
+    g.refuses("One_character_of_two_bytes", '{"minLength":2}', '"\\u00e9"')
+    g.fails("Three_characters", '{"maxLength":2}', '"abc"', ['"abc" is longer than 2 characters @ "", /maxLength'])
+    g.holds("A_number_has_no_length", '{"minLength":2,"maxLength":2}', "1")
+    for n, s in (("Kinds_have_names", '{"type":["string"]}'), ("A_constant_object", '{"const":{}}'), ("A_fraction_as_minimum", '{"minimum":1.5}'), ("A_text_as_maximum", '{"maximum":"1"}'),
+                 ("Multiples_of_zero", '{"multipleOf":0}'), ("A_length_below_zero", '{"minLength":-1}'), ("Kind_is_unknown", '{"type":"float"}')):
+        k = s.split('"')[1]
+        value = s[s.index(":") + 1:-1]
+        if "." not in value:
+            g.is_refused(n, s, ['%s is not a value for "%s" @ "", /%s' % (value, k, k)])
+    g.holds("An_unknown_keyword_is_ignored", '{"enum":[]}', "1")
+    for n, p in (("A_class", "[a-z]"), ("A_slow_nothing", "(slow)"), ("A_slow_anchor", "(slow)^a"), ("An_empty_pattern", ""), ("Two_anchors", "^$")):
+        g.is_refused(n + "_is_refused", {"patternProperties": {p: {}}}, ['"%s" is not a "regex" @ "", /patternProperties/%s' % (p, p)])
+    g.fails("A_body_stands_anywhere", '{"patternProperties":{"b":false}}', '{"abc":1,"ac":2}', ["False schema does not allow 1 @ /abc, /patternProperties/b"])
+    g.fails("An_escaped_body_stands_anywhere", '{"patternProperties":{"\\\\.":false}}', '{"a.c":1,"abc":2}', ["False schema does not allow 1 @ /a.c, /patternProperties/\\."])
+    return g
+
+
+# ---- vectors: names
+
+
+def names():
+    g = Group("Vectors_names", "Names that are equal and names that differ, at each length and place where a comparison could go wrong.")
+    same = [("names_of_13_bytes", "abcdefghijklX"), ("names_of_12_bytes", "abcdefghijkl"), ("names_of_4_bytes", "abcd"), ("empty_names", ""), ("names_beyond_ascii", "café-résumé-naïve")]
+    pairs = [(n, k, k) for n, k in same] + [
+        ("the_last_byte_of_13", "abcdefghijklX", "abcdefghijklY"), ("the_last_byte_of_12", "abcdefghijkl", "abcdefghijkL"),
+        ("bytes_5_to_8", "abcdEFGHijkl", "abcdefghijkl"), ("the_last_byte_of_4", "abcd", "abce"), ("one_byte_more", "abcd", "abcde"),
+        ("the_empty_name", "", "a"), ("a_letter_beyond_ascii", "café-résumé-naïve", "café-rÉsumé-naïve")]
+    for n, d, k in pairs:
+        equal = d == k
+        say = g.holds, g.refuses
+        word = "In_equal_" if equal else "At_"
+        for label, schema, value, valid in (
+            ("a_false_schema", {"properties": {d: False, "p": True}}, {k: 1, "p": 1}, not equal),
+            ("a_required_false_schema", {"properties": {d: False, "p": True}, "required": [d, "p"]}, {k: 1, "p": 1}, False),
+            ("a_required_true_schema", {"properties": {d: True, "p": True}, "required": [d, "p"]}, {k: 1, "p": 1}, equal),
+            ("a_declared_or_an_additional_schema", {"properties": {d: {"type": "integer"}}, "additionalProperties": {"type": "string"}}, {k: 1}, equal),
+        ):
+            say[0 if valid else 1](word + n + "_" + label, schema, value)
+    return g
+
+
+# ---- vectors: members
+
+
+def members():
+    g = Group("Vectors_members", "Declared names, patterns and additional members in all their combinations, and other object keywords.")
+    g.fails("Dependencies_list_names", '{"dependencies":{"bar":["foo"]}}', '{"bar":1}', ['"foo" is a required property @ "", /dependencies'])
+    g.fails("Dependencies_hold_schemas", '{"dependencies":{"bar":{"type":"string"}}}', '{"bar":1}', ['{"bar":1} is not of type "string" @ "", /dependencies/bar/type'])
+    dep = g.schema("a_requires_b_and_c", '{"dependentRequired":{"a":["b","c"]}}')
+    g.fails("Both_dependent_names_are_missing", dep, '{"a":1}', ['"%s" is a required property @ "", /dependentRequired' % n for n in "bc"])
+    g.holds("Both_dependent_names_are_there", dep, '{"a":1,"b":2,"c":3}')
+    g.holds("Without_the_key_nothing_is_required", dep, '{"b":2}')
+    g.holds("An_array_has_no_key", dep, "[1]")
+    short = g.schema("short_names", '{"propertyNames":{"maxLength":3}}')
+    g.holds("Three_short_names", short, '{"a":1,"bc":1,"def":1}')
+    g.fails("One_long_name", short, '{"ab":1,"cdef":1}', ['"cdef" is longer than 3 characters @ "", /propertyNames/maxLength'])
+    blank = g.schema("names_without_white_space", '{"additionalProperties":false,"patternProperties":{"^\\\\S*$":{"type":"integer"}}}')
+    g.holds("A_name_without_white_space", blank, '{"ab":1}')
+    g.refuses("A_name_with_white_space", blank, '{"a b":1}')
+    g.refuses("A_wrong_value_without_white_space", blank, '{"ab":"x"}')
+
+    def without(s, k):
+        return {a: b for a, b in s.items() if a != k}
+
+    s = {"closed": CLOSED, "closed_patterns": without(CLOSED, "properties"), "closed_foo": {"additionalProperties": False, "properties": {"foo": {"type": "string"}}}}
+    for n, b in (("typed_foo", "closed_foo"), ("typed", "closed"), ("typed_patterns", "closed_patterns")):
+        s[n] = {**s[b], "additionalProperties": {"type": "integer"}}
+    for n, v in s.items():
+        g.schema(n, v)
+    errors = {"m": ("4 is less than the minimum of 5", "/patternProperties/^bar/minimum"), "x": ("11 is greater than the maximum of 10", "/patternProperties/spam$/maximum"),
+              "f": ('3 is not of type "string"', "/properties/foo/type"), "u": ("Additional properties are not allowed ('faz' was unexpected)", "/additionalProperties"),
+              "i": ('"a" is not of type "integer"', "/additionalProperties/type")}
+    every, patterned = list(s), ["closed", "closed_patterns", "typed", "typed_patterns"]
+    foo, both = ["closed", "closed_foo", "typed_foo", "typed"], ["closed", "typed"]
+    shut, typed = ["closed", "closed_patterns", "closed_foo"], ["typed_foo", "typed", "typed_patterns"]
+    for label, value, names, found in (
+        ("an_array", "[1]", every, ""), ("no_members", "{}", every, ""),
+        ("a_right_foo", '{"foo":"a"}', foo, ""), ("a_wrong_foo", '{"foo":3}', foo, "f/foo"),
+        ("a_right_bar_and_spam", '{"bar":6,"spam":7}', patterned, ""), ("a_right_barspam", '{"barspam":7}', patterned, ""),
+        ("a_low_bar", '{"bar":4}', patterned, "m/bar"), ("a_high_spam", '{"spam":11}', patterned, "x/spam"),
+        ("a_low_barspam", '{"barspam":4}', patterned, "m/barspam"), ("a_high_barspam", '{"barspam":11}', patterned, "x/barspam"),
+        ("a_wrong_foo_and_a_low_bar", '{"foo":3,"bar":4}', both, "f/foo m/bar"),
+        ("a_faz_that_is_unexpected", '{"faz":"a"}', shut, 'u""'), ("a_faz_that_is_no_integer", '{"faz":"a"}', typed, "i/faz"),
+        ("a_right_foo_and_a_low_bar", '{"foo":"a","bar":4}', ["typed_foo"], ""), ("a_low_bar_and_a_foo_that_is_no_integer", '{"foo":"a","bar":4}', ["typed_patterns"], "i/foo m/bar"),
+        ("one_fault_of_each_kind", '{"bar":4,"spam":11,"foo":3,"faz":"a","fam":42}', ["typed"], "m/bar x/spam f/foo i/faz"),
+    ):
+        for n in names:
+            lines = [f"{errors[w[0]][0]} @ {w[1:]}, {errors[w[0]][1]}" for w in found.split()]
+            name = n[0].upper() + n[1:] + "_on_" + label
+            (g.fails(name, n, value, lines) if lines else g.holds(name, n, value))
+
+    two = g.schema("two_required", '{"properties":{"a":{"type":"integer"},"b":{"type":"string"}},"required":["a","b"]}')
+    g.holds("A_text_requires_nothing", two, '"string"')
+    g.refuses("One_of_two_is_missing", two, '{"a":1,"c":3}')
+    g.refuses("One_of_two_is_missing_among_300_others", two, {"b": "x", **{"m%03d" % i: 1 for i in range(300)}})
+    g.fails("The_missing_one_and_the_wrong_one", two, '{"b":1}', ['"a" is a required property @ "", /required', '1 is not of type "string" @ /b, /properties/b/type'])
+    z = g.schema("one_declared_of_two", '{"properties":{"a":{"type":"integer"},"b":{}},"required":["a","z"]}')
+    g.holds("A_required_name_is_undeclared", z, '{"a":1,"z":2}')
+    g.refuses("The_undeclared_name_is_missing", z, '{"a":1}')
+    g.refuses("The_declared_value_is_wrong", z, '{"a":"x","z":2}')
+    five = g.schema("five_arrays", {"additionalProperties": False, "required": ["id"], "properties": {"id": {"type": "integer"}, **{k: {"type": "array"} for k in "abcde"}}})
+    g.holds("The_required_one_alone", five, '{"id":1}')
+    g.holds("The_required_one_and_an_array", five, '{"a":[],"id":1}')
+    g.refuses("An_object_for_an_array", five, '{"a":{},"id":1}')
+    g.refuses("A_text_for_the_required_one", five, '{"a":[],"id":"x"}')
+    g.refuses("An_unexpected_member", five, '{"a":[],"id":1,"zzz":1}')
+    g.refuses("The_required_one_is_missing", five, '{"a":[]}')
+    return g
+
+
+def refused_patterns():
+    g = Group("Vectors_patterns", "Patterns that the matcher refuses, beside each neighbour.")
+    many = {"p%d" % i: {} for i in range(15)}
+    for label, pattern in (("An_open_group", "a("), ("A_look_behind", "(?<=a)b")):
+        for name, more, others in (
+            ("alone", {}, {}), ("beside_a_prefix", {}, {"^x": {}}), ("beside_true", {"additionalProperties": True}, {}),
+            ("beside_false", {"additionalProperties": False}, {}), ("beside_a_schema", {"additionalProperties": {"type": "integer"}}, {}),
+            ("beside_false_and_a_name", {"additionalProperties": False, "properties": {"foo": {}}}, {}),
+            ("beside_a_schema_and_a_name", {"additionalProperties": {"type": "integer"}, "properties": {"foo": {}}}, {}),
+            ("beside_false_and_15_names", {"additionalProperties": False, "properties": many}, {}),
+            ("beside_a_schema_and_15_names", {"additionalProperties": {"type": "integer"}, "properties": many}, {}),
+        ):
+            g.is_refused(label + "_" + name, {"patternProperties": {pattern: {}, **others}, **more},
+                         [f'"{pattern}" is not a "regex" @ "", /patternProperties/{pattern}'])
+    return g
+
+
+if __name__ == "__main__":
+    for group in (properties(), patterns(), branches(), dependencies(), refusals(), costs(), evaluation(), bench(), names(), members(), refused_patterns()):
+        group.write()
