@@ -16,7 +16,8 @@ use Rattle.olk_spec.specs.Texts.{kind_text}
 use Rattle.olk_spec.specs.Reports.{cut}
 use Rattle.olk_spec.specs.Tree.{Tree, node, leaf_node, Trees, no_tree, and_tree, Described, annotations, errors, is_valid}
 use Rattle.olk_spec.specs.Meaning.{accepts, report, asks, tree}
-use Rattle.olk_spec.specs.Malformed.{malformations_beside, places, leaf_places, pattern_places, table_asks}
+use Rattle.olk_spec.specs.Malformed.{malformations_beside}
+use Rattle.olk_spec.specs.Costs.{places, leaf_places, pattern_places, table_asks}
 
 -- ---- texts in byte order
 

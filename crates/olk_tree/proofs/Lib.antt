@@ -1,3 +1,4 @@
 mod Search
 mod Maps
 pub mod Layers
+pub mod Spending
