@@ -1,5 +1,5 @@
 //! Building nodes from a schema, place by place.
-ghost use Rattle.std.specs.Prelude.{◌≡◌, ◌++◌, ◌∷◌, [], codes, IfOk, IfErr, OnOk, option_to_list, string_bytes, decimal};
+ghost use Rattle.std.specs.Prelude.{◌≡◌, ◌++◌, ◌∷◌, [], codes, IfOk, IfErr, OnOk, OnErr, option_to_list, string_bytes, decimal};
 ghost use Rattle.serde_json.specs.Data.{Members};
 ghost use Rattle.serde_json.specs.View.{view, members_view, items_view};
 ghost use Rattle.olk_spec.specs.Names.{is_among};
@@ -14,9 +14,10 @@ ghost use Rattle.olk_reports.specs.declared.error.BuildError.TheVariants.{Refuse
 ghost use Rattle.olk_tree.specs.Forms.{IsOther};
 ghost use Rattle.olk_tree.specs.Kit.{kit};
 ghost use Rattle.olk_tree.specs.Members.{malformations_at};
-ghost use Rattle.olk_tree.specs.Building.{IsBuilt, AreBuilt, HoldsMember, RefusesMember, KeywordsAreBuilt, Refuses, TellsOneOf, each_malformed, each_cost, all_malformed, all_cost};
+ghost use Rattle.olk_tree.specs.Building.{IsBuilt, AreBuilt, HoldsMember, RefusesMember, KeywordsAreBuilt, Refuses, TellsOneOf, each_malformed, each_cost, all_malformed, all_cost, Spends, SpendsWithin};
+ghost use Rattle.olk_tree.specs.Stands.{StandsFor};
 
-use crate::context::Makers;
+use crate::context::{Context, Makers};
 use crate::map::{SmallMap, SortedNames};
 use crate::node::{Body, Keyword, KeywordOver, SchemaNode};
 use crate::not::Not;
@@ -357,4 +358,26 @@ fn compile_items<'a, L: MakeLeaf, M: MakeRegex>(
         append(&mut nodes, node)?;
     }
     Ok(nodes)
+}
+
+/// Builds the node of a schema at the context's place, with all that it reads inside.
+///
+/// A malformed schema is refused, with one of its malformations (JSON Schema 2020-12 Core, 4.3, and the shapes of the
+/// keywords). Without memory nothing is said of the schema. The meter rises by the cost of the schema, or by a part of
+/// it where nothing is built; the context's place is left as it was.
+pub fn compile<'a, L: MakeLeaf, M: MakeRegex>(
+    ctx: &mut Context<'_, L, M>,
+    alloc: Global,
+    schema: &'a Value,
+) -> Result<SchemaNode<L::Leaf, M::Engine>, BuildError<'a>>
+    ensures stands { IfOk result (λ n. StandsFor (kit L.Leaf.reads L.Leaf.fits L.Leaf.faults L.Leaf.keyword_of L.Leaf.finds M.Engine.builds M.Engine.says M.Engine.answers M.Engine.costs) n (view schema.now) ctx.old.place) }
+    ensures clean { OnOk result (malformations_at (kit L.Leaf.reads L.Leaf.fits L.Leaf.faults L.Leaf.keyword_of L.Leaf.finds M.Engine.builds M.Engine.says M.Engine.answers M.Engine.costs).world (view schema.now) ctx.old.place ≡ []) }
+    ensures refused { IfErr result (TellsOneOf (malformations_at (kit L.Leaf.reads L.Leaf.fits L.Leaf.faults L.Leaf.keyword_of L.Leaf.finds M.Engine.builds M.Engine.says M.Engine.answers M.Engine.costs).world (view schema.now) ctx.old.place)) }
+    ensures costs { OnOk result (Spends ctx.old.meter.now ctx.new.meter.now (cost (kit L.Leaf.reads L.Leaf.fits L.Leaf.faults L.Leaf.keyword_of L.Leaf.finds M.Engine.builds M.Engine.says M.Engine.answers M.Engine.costs).world (view schema.now))) }
+    ensures costs_at_most { OnErr result (SpendsWithin ctx.old.meter.now ctx.new.meter.now (cost (kit L.Leaf.reads L.Leaf.fits L.Leaf.faults L.Leaf.keyword_of L.Leaf.finds M.Engine.builds M.Engine.says M.Engine.answers M.Engine.costs).world (view schema.now))) }
+    ensures place { ctx.new.place ≡ ctx.old.place }
+    ensures same_meter { ctx.new.meter.ghost_name ≡ ctx.old.meter.ghost_name }
+{
+    let location = ctx.place.try_clone(alloc)?;
+    compile_schema(&ctx.makers, ctx.meter, alloc, location, schema)
 }

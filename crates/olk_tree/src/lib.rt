@@ -10,3 +10,8 @@ pub mod node;
 pub mod not;
 pub mod properties;
 pub mod required;
+
+pub use compile::compile;
+pub use context::{Context, Makers};
+pub use map::{SmallMap, SortedNames};
+pub use node::{Body, Keyword, KeywordOver, SchemaNode};
