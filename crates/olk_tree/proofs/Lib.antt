@@ -2,3 +2,4 @@ mod Search
 mod Maps
 pub mod Layers
 pub mod Spending
+pub mod Built

@@ -3,7 +3,7 @@
 
 pub mod all_of;
 pub mod any_of;
-pub mod compile;
+pub mod build;
 pub mod context;
 pub mod map;
 pub mod node;
@@ -11,7 +11,7 @@ pub mod not;
 pub mod properties;
 pub mod required;
 
-pub use compile::compile;
+pub use build::compile;
 pub use context::{Context, Makers};
 pub use map::{SmallMap, SortedNames};
 pub use node::{Body, Keyword, KeywordOver, SchemaNode};

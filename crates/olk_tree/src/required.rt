@@ -4,7 +4,7 @@ ghost use Rattle.olk_spec.specs.Schemas.{texts_in};
 ghost use Rattle.olk_tree.specs.Building.{TellsOneOf};
 ghost use Rattle.olk_tree.specs.Lists.{not_texts};
 
-use crate::compile::{append, refuse};
+use crate::build::{append, refuse};
 use olk_base::JsonType;
 use olk_reports::{BuildError, Location, ValidationErrorKind};
 use serde_json::Value;

@@ -1,0 +1,31 @@
+use Rattle.std.proofs.Common.{◌≡◌, ◌++◌, List, map, take}
+use Rattle.serde_json.specs.Data.{Data}
+use Rattle.serde_json.specs.View.{view, members_view}
+use Rattle.olk_spec.specs.Names.{Name}
+use Rattle.olk_spec.specs.Schemas.{listed, numbered}
+use Rattle.olk_tree.specs.Kit.{kit}
+use Rattle.olk_tree.specs.Building.{AreBuilt, KeywordsAreBuilt}
+use Rattle.olk_tree.proofs.build.+compile.Given as goal
+
+-- the nodes so far are built for the entries so far
+abbrev pub invariant-compile_entries-loop-name : goal.invariant-compile_entries-loop-name
+invariant-compile_entries-loop-name g l = record {
+  done : List (Name × Data);
+  built : AreBuilt (kit g.L.Leaf.Leaf.reads g.L.Leaf.Leaf.fits g.L.Leaf.Leaf.faults g.L.Leaf.Leaf.keyword_of g.L.Leaf.Leaf.finds g.M.Engine.RegexEngine.builds g.M.Engine.RegexEngine.says g.M.Engine.RegexEngine.answers g.M.Engine.RegexEngine.costs) l.nodes.items done l.fn.place l.fn.meter l.meter;
+  rest : done ++ listed (members_view l.name-iterator) ≡ listed (members_view l.map.entries);
+  next : (goal.iterator-compile_entries-loop-name g).can_next l.name-iterator;
+  ends : (goal.iterator-compile_entries-loop-name g).is_finite l.name-iterator;
+}
+
+abbrev pub invariant-compile_items-loop-i : goal.invariant-compile_items-loop-i
+invariant-compile_items-loop-i g l = AreBuilt (kit g.L.Leaf.Leaf.reads g.L.Leaf.Leaf.fits g.L.Leaf.Leaf.faults g.L.Leaf.Leaf.keyword_of g.L.Leaf.Leaf.finds g.M.Engine.RegexEngine.builds g.M.Engine.RegexEngine.says g.M.Engine.RegexEngine.answers g.M.Engine.RegexEngine.costs) l.nodes.items (numbered (map view (take l.i l.schema-items))) l.fn.place l.fn.meter l.meter
+
+-- the keywords so far are built for the members so far
+abbrev pub invariant-compile_members-loop-name : goal.invariant-compile_members-loop-name
+invariant-compile_members-loop-name g l = record {
+  done : List (Name × Data);
+  built : KeywordsAreBuilt (kit g.L.Leaf.Leaf.reads g.L.Leaf.Leaf.fits g.L.Leaf.Leaf.faults g.L.Leaf.Leaf.keyword_of g.L.Leaf.Leaf.finds g.M.Engine.RegexEngine.builds g.M.Engine.RegexEngine.says g.M.Engine.RegexEngine.answers g.M.Engine.RegexEngine.costs) (members_view l.members.entries) l.keywords.items done l.fn.place l.fn.meter l.meter;
+  rest : done ++ listed (members_view l.name-iterator) ≡ listed (members_view l.members.entries);
+  next : (goal.iterator-compile_members-loop-name g).can_next l.name-iterator;
+  ends : (goal.iterator-compile_members-loop-name g).is_finite l.name-iterator;
+}
