@@ -2,3 +2,5 @@ mod Search
 mod Maps
 pub mod Layers
 pub mod Spending
+pub mod Facts
+pub mod Held
