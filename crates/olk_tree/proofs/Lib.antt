@@ -1,5 +1,8 @@
 mod Search
 mod Maps
+mod Shapes
+mod Texts
+mod Entries
 pub mod Layers
 pub mod Spending
 pub mod Built

@@ -1,5 +1,5 @@
 //! Building nodes from a schema, place by place.
-ghost use Rattle.std.specs.Prelude.{◌≡◌, ◌++◌, ◌∷◌, [], codes, IfOk, IfErr, OnOk, OnErr, option_to_list, string_bytes, decimal};
+ghost use Rattle.std.specs.Prelude.{false, ◌≡◌, ◌++◌, ◌∷◌, [], codes, IfOk, IfErr, OnOk, OnErr, option_to_list, string_bytes, decimal};
 ghost use Rattle.serde_json.specs.Data.{Members};
 ghost use Rattle.serde_json.specs.View.{view, members_view, items_view};
 ghost use Rattle.olk_spec.specs.Names.{is_among};
@@ -305,6 +305,7 @@ fn build_leaf<'a, L: MakeLeaf, M: MakeRegex>(
     name: &'a str,
     value: &'a Value,
 ) -> Result<Keyword<L::Leaf, M::Engine>, BuildError<'a>>
+    requires { is_among name.now pending ≡ false }
     ensures built { IfOk result (λ k. HoldsMember (kit L.Leaf.reads L.Leaf.fits L.Leaf.faults L.Leaf.keyword_of L.Leaf.finds M.Engine.builds M.Engine.says M.Engine.answers M.Engine.costs) (k ∷ []) name.now (view value.now) leaf location meter.old meter.new) }
     ensures refused { IfErr result (RefusesMember (kit L.Leaf.reads L.Leaf.fits L.Leaf.faults L.Leaf.keyword_of L.Leaf.finds M.Engine.builds M.Engine.says M.Engine.answers M.Engine.costs) name.now (view value.now) leaf location meter.old meter.new) }
 {

@@ -4,7 +4,6 @@ ghost use Rattle.std.specs.Prelude.{◌≡◌, IfOk, bytes_eq, map, string_bytes
 ghost use Rattle.serde_json.specs.View.{members_view};
 ghost use Rattle.olk_spec.specs.Schemas.{listed};
 
-use crate::build::append;
 use serde_json::{Map, Value};
 use std::alloc::{AllocError, Global};
 use std::cmp::Ordering;
@@ -34,7 +33,7 @@ impl SortedNames {
     {
         let mut names = Vec::new(alloc);
         for (name, _) in object {
-            append(&mut names, name.clone()?)?;
+            names.push(name.clone()?)?;
         }
         Ok(SortedNames { names })
     }

@@ -15,49 +15,55 @@ use Rattle.olk_tree.specs.Members.{malformations_at, member_malformations, membe
 use Rattle.olk_tree.specs.Building.{IsBuilt, AreBuilt, HoldsMember, RefusesMember, KeywordsAreBuilt, Refuses, TellsOneOf, each_malformed, each_cost, all_malformed, all_cost}
 use Rattle.olk_tree.proofs.Spending.{exit, refuses_among, memory_among, refuses_memory, within_nothing}
 use Rattle.olk_tree.proofs.Built.{items_list-view, items_after, items_more, items_whole, items_start, none_built, one_more_built, no_keywords_built, one_more_keyword, built_truth, built_object, refuses_object, refuses_no_schema, no_schema_is}
+use Rattle.olk_tree.proofs.Shapes.{no_array, no_object}
+use Rattle.olk_tree.proofs.Held.{holds_properties, holds_all_of, holds_any_of, holds_not, refuses_properties_kind, refuses_all_of_kind, refuses_any_of_kind, refuses_properties_inside, refuses_all_of_inside, refuses_any_of_inside, refuses_not_inside, refuses_memory_member}
+use Rattle.olk_spec.specs.Costs.{no_cost}
+use Rattle.olk_spec.specs.Faults.{fault}
+use Rattle.olk_base.specs.declared.node.JsonType.TheVariants as json
+use Rattle.olk_reports.proofs.Errors.{kind_of_single_type, kind_of_multiple_types}
 use Rattle.olk_tree.proofs.build.+compile.Goals as goal
 
 pub build_all_of-returns-in_default : goal.build_all_of-returns-in_default
-build_all_of-returns-in_default g t c = ?
+build_all_of-returns-in_default g t c = record { built = tt; refused = refuses_all_of_kind (kit g.L.Leaf.Leaf.reads g.L.Leaf.Leaf.fits g.L.Leaf.Leaf.faults g.L.Leaf.Leaf.keyword_of g.L.Leaf.Leaf.finds g.M.Engine.RegexEngine.builds g.M.Engine.RegexEngine.says g.M.Engine.RegexEngine.answers g.M.Engine.RegexEngine.costs) c.args.location (view c.args.value.now) c.args.meter.now c.refuse.result (no_array c.args.value.now c.in_default.not-Array) (subst (λ k. TellsOneOf (fault k (view c.args.value.now) [] c.args.location ∷ []) c.refuse.result) (kind_of_single_type json.Array) c.refuse.ensures) }
 
 pub build_all_of-returns-in_err-schemas-clause-refused : goal.build_all_of-returns-in_err-schemas-clause-refused
-build_all_of-returns-in_err-schemas-clause-refused g t c = ?
+build_all_of-returns-in_err-schemas-clause-refused g t c = exit _ _ _ c.from_residual.ensures.1 (λ e q. refuses_all_of_inside (kit g.L.Leaf.Leaf.reads g.L.Leaf.Leaf.fits g.L.Leaf.Leaf.faults g.L.Leaf.Leaf.keyword_of g.L.Leaf.Leaf.finds g.M.Engine.RegexEngine.builds g.M.Engine.RegexEngine.says g.M.Engine.RegexEngine.answers g.M.Engine.RegexEngine.costs) c.args.location (items_view c.in-Array.items.items) (view c.args.value.now) c.args.meter.now c.compile_items.new.meter e (ap view c.in-Array.is ∙ view-Array c.in-Array.items) (subst (λ x. Refuses (each_malformed (kit g.L.Leaf.Leaf.reads g.L.Leaf.Leaf.fits g.L.Leaf.Leaf.faults g.L.Leaf.Leaf.keyword_of g.L.Leaf.Leaf.finds g.M.Engine.RegexEngine.builds g.M.Engine.RegexEngine.says g.M.Engine.RegexEngine.answers g.M.Engine.RegexEngine.costs) c.args.location (numbered (items_list (items_view c.in-Array.items.items)))) (each_cost (kit g.L.Leaf.Leaf.reads g.L.Leaf.Leaf.fits g.L.Leaf.Leaf.faults g.L.Leaf.Leaf.keyword_of g.L.Leaf.Leaf.finds g.M.Engine.RegexEngine.builds g.M.Engine.RegexEngine.says g.M.Engine.RegexEngine.answers g.M.Engine.RegexEngine.costs) (numbered (items_list (items_view c.in-Array.items.items)))) c.args.meter.now c.compile_items.new.meter x) (sym q) c.in_err-schemas.ensures.refused))
 
 pub build_all_of-returns-clause-built : goal.build_all_of-returns-clause-built
-build_all_of-returns-clause-built g t c = ?
+build_all_of-returns-clause-built g t c = holds_all_of (kit g.L.Leaf.Leaf.reads g.L.Leaf.Leaf.fits g.L.Leaf.Leaf.faults g.L.Leaf.Leaf.keyword_of g.L.Leaf.Leaf.finds g.M.Engine.RegexEngine.builds g.M.Engine.RegexEngine.says g.M.Engine.RegexEngine.answers g.M.Engine.RegexEngine.costs) c.keyword.result c.in_ok-schemas.schemas.items c.args.location (items_view c.in-Array.items.items) (view c.args.value.now) c.args.meter.now c.compile_items.new.meter (ap view c.in-Array.is ∙ view-Array c.in-Array.items) c.keyword.ensures c.in_ok-schemas.ensures.built
 
 pub build_any_of-returns-in_default : goal.build_any_of-returns-in_default
-build_any_of-returns-in_default g t c = ?
+build_any_of-returns-in_default g t c = record { built = tt; refused = refuses_any_of_kind (kit g.L.Leaf.Leaf.reads g.L.Leaf.Leaf.fits g.L.Leaf.Leaf.faults g.L.Leaf.Leaf.keyword_of g.L.Leaf.Leaf.finds g.M.Engine.RegexEngine.builds g.M.Engine.RegexEngine.says g.M.Engine.RegexEngine.answers g.M.Engine.RegexEngine.costs) c.args.location (view c.args.value.now) c.args.meter.now c.refuse.result (no_array c.args.value.now c.in_default.not-Array) (subst (λ k. TellsOneOf (fault k (view c.args.value.now) [] c.args.location ∷ []) c.refuse.result) (kind_of_single_type json.Array) c.refuse.ensures) }
 
 pub build_any_of-returns-in_err-schemas-clause-refused : goal.build_any_of-returns-in_err-schemas-clause-refused
-build_any_of-returns-in_err-schemas-clause-refused g t c = ?
+build_any_of-returns-in_err-schemas-clause-refused g t c = exit _ _ _ c.from_residual.ensures.1 (λ e q. refuses_any_of_inside (kit g.L.Leaf.Leaf.reads g.L.Leaf.Leaf.fits g.L.Leaf.Leaf.faults g.L.Leaf.Leaf.keyword_of g.L.Leaf.Leaf.finds g.M.Engine.RegexEngine.builds g.M.Engine.RegexEngine.says g.M.Engine.RegexEngine.answers g.M.Engine.RegexEngine.costs) c.args.location (items_view c.in-Array.items.items) (view c.args.value.now) c.args.meter.now c.compile_items.new.meter e (ap view c.in-Array.is ∙ view-Array c.in-Array.items) (subst (λ x. Refuses (each_malformed (kit g.L.Leaf.Leaf.reads g.L.Leaf.Leaf.fits g.L.Leaf.Leaf.faults g.L.Leaf.Leaf.keyword_of g.L.Leaf.Leaf.finds g.M.Engine.RegexEngine.builds g.M.Engine.RegexEngine.says g.M.Engine.RegexEngine.answers g.M.Engine.RegexEngine.costs) c.args.location (numbered (items_list (items_view c.in-Array.items.items)))) (each_cost (kit g.L.Leaf.Leaf.reads g.L.Leaf.Leaf.fits g.L.Leaf.Leaf.faults g.L.Leaf.Leaf.keyword_of g.L.Leaf.Leaf.finds g.M.Engine.RegexEngine.builds g.M.Engine.RegexEngine.says g.M.Engine.RegexEngine.answers g.M.Engine.RegexEngine.costs) (numbered (items_list (items_view c.in-Array.items.items)))) c.args.meter.now c.compile_items.new.meter x) (sym q) c.in_err-schemas.ensures.refused))
 
 pub build_any_of-returns-clause-built : goal.build_any_of-returns-clause-built
-build_any_of-returns-clause-built g t c = ?
+build_any_of-returns-clause-built g t c = holds_any_of (kit g.L.Leaf.Leaf.reads g.L.Leaf.Leaf.fits g.L.Leaf.Leaf.faults g.L.Leaf.Leaf.keyword_of g.L.Leaf.Leaf.finds g.M.Engine.RegexEngine.builds g.M.Engine.RegexEngine.says g.M.Engine.RegexEngine.answers g.M.Engine.RegexEngine.costs) c.keyword.result c.in_ok-schemas.schemas.items c.args.location (items_view c.in-Array.items.items) (view c.args.value.now) c.args.meter.now c.compile_items.new.meter (ap view c.in-Array.is ∙ view-Array c.in-Array.items) c.keyword.ensures c.in_ok-schemas.ensures.built
 
 pub build_not-returns-in_err-original-clause-refused : goal.build_not-returns-in_err-original-clause-refused
-build_not-returns-in_err-original-clause-refused g t c = ?
+build_not-returns-in_err-original-clause-refused g t c = exit _ _ _ c.from_residual.ensures.1 (λ e q. refuses_memory_member (kit g.L.Leaf.Leaf.reads g.L.Leaf.Leaf.fits g.L.Leaf.Leaf.faults g.L.Leaf.Leaf.keyword_of g.L.Leaf.Leaf.finds g.M.Engine.RegexEngine.builds g.M.Engine.RegexEngine.says g.M.Engine.RegexEngine.answers g.M.Engine.RegexEngine.costs) (codes "not") (view c.args.value.now) not_keyword c.args.location c.args.meter.now c.args.meter.now e _ q (within_nothing c.args.meter.now no_cost))
 
 pub build_not-returns-in_err-place-clause-refused : goal.build_not-returns-in_err-place-clause-refused
-build_not-returns-in_err-place-clause-refused g t c = ?
+build_not-returns-in_err-place-clause-refused g t c = exit _ _ _ c.from_residual-in_err-place.ensures.1 (λ e q. refuses_memory_member (kit g.L.Leaf.Leaf.reads g.L.Leaf.Leaf.fits g.L.Leaf.Leaf.faults g.L.Leaf.Leaf.keyword_of g.L.Leaf.Leaf.finds g.M.Engine.RegexEngine.builds g.M.Engine.RegexEngine.says g.M.Engine.RegexEngine.answers g.M.Engine.RegexEngine.costs) (codes "not") (view c.args.value.now) not_keyword c.args.location c.args.meter.now c.args.meter.now e _ q (within_nothing c.args.meter.now no_cost))
 
 pub build_not-returns-in_err-node-clause-refused : goal.build_not-returns-in_err-node-clause-refused
-build_not-returns-in_err-node-clause-refused g t c = ?
+build_not-returns-in_err-node-clause-refused g t c = exit _ _ _ c.from_residual-in_err-node.ensures.1 (λ e q. refuses_not_inside (kit g.L.Leaf.Leaf.reads g.L.Leaf.Leaf.fits g.L.Leaf.Leaf.faults g.L.Leaf.Leaf.keyword_of g.L.Leaf.Leaf.finds g.M.Engine.RegexEngine.builds g.M.Engine.RegexEngine.says g.M.Engine.RegexEngine.answers g.M.Engine.RegexEngine.costs) c.args.location (view c.args.value.now) c.args.meter.now c.compile_schema.new.meter e (subst₂ (λ P x. Refuses (malformations_at (kit g.L.Leaf.Leaf.reads g.L.Leaf.Leaf.fits g.L.Leaf.Leaf.faults g.L.Leaf.Leaf.keyword_of g.L.Leaf.Leaf.finds g.M.Engine.RegexEngine.builds g.M.Engine.RegexEngine.says g.M.Engine.RegexEngine.answers g.M.Engine.RegexEngine.costs).world (view c.args.value.now) P) (cost (kit g.L.Leaf.Leaf.reads g.L.Leaf.Leaf.fits g.L.Leaf.Leaf.faults g.L.Leaf.Leaf.keyword_of g.L.Leaf.Leaf.finds g.M.Engine.RegexEngine.builds g.M.Engine.RegexEngine.says g.M.Engine.RegexEngine.answers g.M.Engine.RegexEngine.costs).world (view c.args.value.now)) c.args.meter.now c.compile_schema.new.meter x) c.in_ok-place.ensures (sym q) c.in_err-node.ensures.refused))
 
 pub build_not-returns-clause-built : goal.build_not-returns-clause-built
-build_not-returns-clause-built g t c = ?
+build_not-returns-clause-built g t c = holds_not (kit g.L.Leaf.Leaf.reads g.L.Leaf.Leaf.fits g.L.Leaf.Leaf.faults g.L.Leaf.Leaf.keyword_of g.L.Leaf.Leaf.finds g.M.Engine.RegexEngine.builds g.M.Engine.RegexEngine.says g.M.Engine.RegexEngine.answers g.M.Engine.RegexEngine.costs) c.in_ok-original.original c.in_ok-node.node c.args.location (view c.args.value.now) c.args.meter.now c.compile_schema.new.meter c.in_ok-original.ensures.cases (subst (λ P. IsBuilt (kit g.L.Leaf.Leaf.reads g.L.Leaf.Leaf.fits g.L.Leaf.Leaf.faults g.L.Leaf.Leaf.keyword_of g.L.Leaf.Leaf.finds g.M.Engine.RegexEngine.builds g.M.Engine.RegexEngine.says g.M.Engine.RegexEngine.answers g.M.Engine.RegexEngine.costs) c.in_ok-node.node (view c.args.value.now) P c.args.meter.now c.compile_schema.new.meter) c.in_ok-place.ensures c.in_ok-node.ensures.built)
 
 pub build_properties-returns-in_default : goal.build_properties-returns-in_default
-build_properties-returns-in_default g t c = ?
+build_properties-returns-in_default g t c = record { built = tt; refused = refuses_properties_kind (kit g.L.Leaf.Leaf.reads g.L.Leaf.Leaf.fits g.L.Leaf.Leaf.faults g.L.Leaf.Leaf.keyword_of g.L.Leaf.Leaf.finds g.M.Engine.RegexEngine.builds g.M.Engine.RegexEngine.says g.M.Engine.RegexEngine.answers g.M.Engine.RegexEngine.costs) c.args.location (view c.args.value.now) c.args.meter.now c.refuse.result (no_object c.args.value.now c.in_default.not-Object) (subst (λ k. TellsOneOf (fault k (view c.args.value.now) [] c.args.location ∷ []) c.refuse.result) (kind_of_single_type json.Object) c.refuse.ensures) }
 
 pub build_properties-returns-in_err-names-clause-refused : goal.build_properties-returns-in_err-names-clause-refused
-build_properties-returns-in_err-names-clause-refused g t c = ?
+build_properties-returns-in_err-names-clause-refused g t c = exit _ _ _ c.from_residual.ensures.1 (λ e q. refuses_memory_member (kit g.L.Leaf.Leaf.reads g.L.Leaf.Leaf.fits g.L.Leaf.Leaf.faults g.L.Leaf.Leaf.keyword_of g.L.Leaf.Leaf.finds g.M.Engine.RegexEngine.builds g.M.Engine.RegexEngine.says g.M.Engine.RegexEngine.answers g.M.Engine.RegexEngine.costs) (codes "properties") (view c.args.value.now) properties c.args.location c.args.meter.now c.args.meter.now e _ q (within_nothing c.args.meter.now no_cost))
 
 pub build_properties-returns-in_err-nodes-clause-refused : goal.build_properties-returns-in_err-nodes-clause-refused
-build_properties-returns-in_err-nodes-clause-refused g t c = ?
+build_properties-returns-in_err-nodes-clause-refused g t c = exit _ _ _ c.from_residual-in_err-nodes.ensures.1 (λ e q. refuses_properties_inside (kit g.L.Leaf.Leaf.reads g.L.Leaf.Leaf.fits g.L.Leaf.Leaf.faults g.L.Leaf.Leaf.keyword_of g.L.Leaf.Leaf.finds g.M.Engine.RegexEngine.builds g.M.Engine.RegexEngine.says g.M.Engine.RegexEngine.answers g.M.Engine.RegexEngine.costs) c.args.location (members_view c.in-Object.map.entries) (view c.args.value.now) c.args.meter.now c.compile_entries.new.meter e (ap view c.in-Object.is ∙ view-Object c.in-Object.map) (subst (λ x. Refuses (each_malformed (kit g.L.Leaf.Leaf.reads g.L.Leaf.Leaf.fits g.L.Leaf.Leaf.faults g.L.Leaf.Leaf.keyword_of g.L.Leaf.Leaf.finds g.M.Engine.RegexEngine.builds g.M.Engine.RegexEngine.says g.M.Engine.RegexEngine.answers g.M.Engine.RegexEngine.costs) c.args.location (listed (members_view c.in-Object.map.entries))) (each_cost (kit g.L.Leaf.Leaf.reads g.L.Leaf.Leaf.fits g.L.Leaf.Leaf.faults g.L.Leaf.Leaf.keyword_of g.L.Leaf.Leaf.finds g.M.Engine.RegexEngine.builds g.M.Engine.RegexEngine.says g.M.Engine.RegexEngine.answers g.M.Engine.RegexEngine.costs) (listed (members_view c.in-Object.map.entries))) c.args.meter.now c.compile_entries.new.meter x) (sym q) c.in_err-nodes.ensures.refused))
 
 pub build_properties-returns-clause-built : goal.build_properties-returns-clause-built
-build_properties-returns-clause-built g t c = ?
+build_properties-returns-clause-built g t c = holds_properties (kit g.L.Leaf.Leaf.reads g.L.Leaf.Leaf.fits g.L.Leaf.Leaf.faults g.L.Leaf.Leaf.keyword_of g.L.Leaf.Leaf.finds g.M.Engine.RegexEngine.builds g.M.Engine.RegexEngine.says g.M.Engine.RegexEngine.answers g.M.Engine.RegexEngine.costs) record { names = c.in_ok-names.names; nodes = c.in_ok-nodes.nodes } c.args.location (members_view c.in-Object.map.entries) (view c.args.value.now) c.args.meter.now c.compile_entries.new.meter (ap view c.in-Object.is ∙ view-Object c.in-Object.map) c.in_ok-names.ensures c.in_ok-nodes.ensures.built
 
 pub compile_entries-loop-name-init : goal.compile_entries-loop-name-init
 compile_entries-loop-name-init g t c = record { done = []; built = none_built (kit g.L.Leaf.Leaf.reads g.L.Leaf.Leaf.fits g.L.Leaf.Leaf.faults g.L.Leaf.Leaf.keyword_of g.L.Leaf.Leaf.finds g.M.Engine.RegexEngine.builds g.M.Engine.RegexEngine.says g.M.Engine.RegexEngine.answers g.M.Engine.RegexEngine.costs) c.args.place.now c.args.meter.now c.new-nodes.result.items c.new-nodes.ensures.items; rest = ap (λ l. listed (members_view l)) c.into_iter-name-iterator.ensures.into_iter_gives.0; next = tt; ends = tt }
@@ -96,19 +102,19 @@ pub compile_items-returns-clause-built : goal.compile_items-returns-clause-built
 compile_items-returns-clause-built g t c = subst (λ l. AreBuilt (kit g.L.Leaf.Leaf.reads g.L.Leaf.Leaf.fits g.L.Leaf.Leaf.faults g.L.Leaf.Leaf.keyword_of g.L.Leaf.Leaf.finds g.M.Engine.RegexEngine.builds g.M.Engine.RegexEngine.says g.M.Engine.RegexEngine.answers g.M.Engine.RegexEngine.costs) c.loop-i.nodes.items l c.args.place.now c.args.meter.now c.loop-i.meter) (ap (λ l. numbered (map view l)) (take_all c.loop-i.i c.deref-schema-items.result.now c.loop-i-test.false) ∙ (ap (λ l. numbered (map view l)) c.deref-schema-items.ensures.value ∙ ap numbered (sym (items_list-view c.args.items.now.items)))) c.loop-i.invariant
 
 pub compile_keyword-returns-in_ok-build_properties-in-properties-clause-built : goal.compile_keyword-returns-in_ok-build_properties-in-properties-clause-built
-compile_keyword-returns-in_ok-build_properties-in-properties-clause-built g t c = ?
+compile_keyword-returns-in_ok-build_properties-in-properties-clause-built g t c = subst (λ n. HoldsMember (kit g.L.Leaf.Leaf.reads g.L.Leaf.Leaf.fits g.L.Leaf.Leaf.faults g.L.Leaf.Leaf.keyword_of g.L.Leaf.Leaf.finds g.M.Engine.RegexEngine.builds g.M.Engine.RegexEngine.says g.M.Engine.RegexEngine.answers g.M.Engine.RegexEngine.costs) (c.in_ok-build_properties-in-properties.field-0 ∷ []) n (view c.args.value.now) (keyword_named (kit g.L.Leaf.Leaf.reads g.L.Leaf.Leaf.fits g.L.Leaf.Leaf.faults g.L.Leaf.Leaf.keyword_of g.L.Leaf.Leaf.finds g.M.Engine.RegexEngine.builds g.M.Engine.RegexEngine.says g.M.Engine.RegexEngine.answers g.M.Engine.RegexEngine.costs).world n) c.args.location c.args.meter.now c.build_properties.new.meter) (sym c.in-properties.is) c.in_ok-build_properties-in-properties.ensures.built
 
 pub compile_keyword-returns-in_ok-build_required-in-required-clause-built : goal.compile_keyword-returns-in_ok-build_required-in-required-clause-built
-compile_keyword-returns-in_ok-build_required-in-required-clause-built g t c = ?
+compile_keyword-returns-in_ok-build_required-in-required-clause-built g t c = subst (λ n. HoldsMember (kit g.L.Leaf.Leaf.reads g.L.Leaf.Leaf.fits g.L.Leaf.Leaf.faults g.L.Leaf.Leaf.keyword_of g.L.Leaf.Leaf.finds g.M.Engine.RegexEngine.builds g.M.Engine.RegexEngine.says g.M.Engine.RegexEngine.answers g.M.Engine.RegexEngine.costs) (c.in_ok-build_required-in-required.field-0 ∷ []) n (view c.args.value.now) (keyword_named (kit g.L.Leaf.Leaf.reads g.L.Leaf.Leaf.fits g.L.Leaf.Leaf.faults g.L.Leaf.Leaf.keyword_of g.L.Leaf.Leaf.finds g.M.Engine.RegexEngine.builds g.M.Engine.RegexEngine.says g.M.Engine.RegexEngine.answers g.M.Engine.RegexEngine.costs).world n) c.args.location c.args.meter.now c.build_required.new.meter) (sym c.in-required.is) c.in_ok-build_required-in-required.ensures.built
 
 pub compile_keyword-returns-in_ok-build_all_of-in-allOf-clause-built : goal.compile_keyword-returns-in_ok-build_all_of-in-allOf-clause-built
-compile_keyword-returns-in_ok-build_all_of-in-allOf-clause-built g t c = ?
+compile_keyword-returns-in_ok-build_all_of-in-allOf-clause-built g t c = subst (λ n. HoldsMember (kit g.L.Leaf.Leaf.reads g.L.Leaf.Leaf.fits g.L.Leaf.Leaf.faults g.L.Leaf.Leaf.keyword_of g.L.Leaf.Leaf.finds g.M.Engine.RegexEngine.builds g.M.Engine.RegexEngine.says g.M.Engine.RegexEngine.answers g.M.Engine.RegexEngine.costs) (c.in_ok-build_all_of-in-allOf.field-0 ∷ []) n (view c.args.value.now) (keyword_named (kit g.L.Leaf.Leaf.reads g.L.Leaf.Leaf.fits g.L.Leaf.Leaf.faults g.L.Leaf.Leaf.keyword_of g.L.Leaf.Leaf.finds g.M.Engine.RegexEngine.builds g.M.Engine.RegexEngine.says g.M.Engine.RegexEngine.answers g.M.Engine.RegexEngine.costs).world n) c.args.location c.args.meter.now c.build_all_of.new.meter) (sym c.in-allOf.is) c.in_ok-build_all_of-in-allOf.ensures.built
 
 pub compile_keyword-returns-in_ok-build_any_of-in-anyOf-clause-built : goal.compile_keyword-returns-in_ok-build_any_of-in-anyOf-clause-built
-compile_keyword-returns-in_ok-build_any_of-in-anyOf-clause-built g t c = ?
+compile_keyword-returns-in_ok-build_any_of-in-anyOf-clause-built g t c = subst (λ n. HoldsMember (kit g.L.Leaf.Leaf.reads g.L.Leaf.Leaf.fits g.L.Leaf.Leaf.faults g.L.Leaf.Leaf.keyword_of g.L.Leaf.Leaf.finds g.M.Engine.RegexEngine.builds g.M.Engine.RegexEngine.says g.M.Engine.RegexEngine.answers g.M.Engine.RegexEngine.costs) (c.in_ok-build_any_of-in-anyOf.field-0 ∷ []) n (view c.args.value.now) (keyword_named (kit g.L.Leaf.Leaf.reads g.L.Leaf.Leaf.fits g.L.Leaf.Leaf.faults g.L.Leaf.Leaf.keyword_of g.L.Leaf.Leaf.finds g.M.Engine.RegexEngine.builds g.M.Engine.RegexEngine.says g.M.Engine.RegexEngine.answers g.M.Engine.RegexEngine.costs).world n) c.args.location c.args.meter.now c.build_any_of.new.meter) (sym c.in-anyOf.is) c.in_ok-build_any_of-in-anyOf.ensures.built
 
 pub compile_keyword-returns-in_ok-build_not-in-not-clause-built : goal.compile_keyword-returns-in_ok-build_not-in-not-clause-built
-compile_keyword-returns-in_ok-build_not-in-not-clause-built g t c = ?
+compile_keyword-returns-in_ok-build_not-in-not-clause-built g t c = subst (λ n. HoldsMember (kit g.L.Leaf.Leaf.reads g.L.Leaf.Leaf.fits g.L.Leaf.Leaf.faults g.L.Leaf.Leaf.keyword_of g.L.Leaf.Leaf.finds g.M.Engine.RegexEngine.builds g.M.Engine.RegexEngine.says g.M.Engine.RegexEngine.answers g.M.Engine.RegexEngine.costs) (c.in_ok-build_not-in-not.field-0 ∷ []) n (view c.args.value.now) (keyword_named (kit g.L.Leaf.Leaf.reads g.L.Leaf.Leaf.fits g.L.Leaf.Leaf.faults g.L.Leaf.Leaf.keyword_of g.L.Leaf.Leaf.finds g.M.Engine.RegexEngine.builds g.M.Engine.RegexEngine.says g.M.Engine.RegexEngine.answers g.M.Engine.RegexEngine.costs).world n) c.args.location c.args.meter.now c.build_not.new.meter) (sym c.in-not.is) c.in_ok-build_not-in-not.ensures.built
 
 pub compile_members-loop-name-init : goal.compile_members-loop-name-init
 compile_members-loop-name-init g t c = record { done = []; built = no_keywords_built (kit g.L.Leaf.Leaf.reads g.L.Leaf.Leaf.fits g.L.Leaf.Leaf.faults g.L.Leaf.Leaf.keyword_of g.L.Leaf.Leaf.finds g.M.Engine.RegexEngine.builds g.M.Engine.RegexEngine.says g.M.Engine.RegexEngine.answers g.M.Engine.RegexEngine.costs) (members_view c.args.members.now.entries) c.args.place.now c.args.meter.now c.new-keywords.result.items c.new-keywords.ensures.items; rest = ap (λ l. listed (members_view l)) c.into_iter-name-iterator.ensures.into_iter_gives.0; next = tt; ends = tt }
@@ -153,4 +159,4 @@ compile_schema-returns-in-Null-clause-refused g t c = refuses_no_schema (kit g.L
       | inr j ↦ rw j.1 (search (rules, value_lemmas))
     ]
   ]
-])) c.tick_compiled.ensures c.refuse.ensures
+])) c.tick_compiled.ensures (subst (λ k. TellsOneOf (fault k (view c.args.schema.now) [] c.args.location ∷ []) c.refuse.result) kind_of_multiple_types c.refuse.ensures)

@@ -1,0 +1,35 @@
+-- Values that are no array, and no object.
+use Rattle.std.specs.Prelude.{◌≡◌, true, false, Vec, String}
+use Rattle.std.specs.declared.alloc.Global.{Global}
+use Rattle.std.specs.BTreeMap.{BTreeMap}
+use Rattle.std.proofs.Common.{subst, rules}
+use Rattle.serde_json.specs.View.{view}
+use Rattle.serde_json.specs.declared.value.Value.{Value, Array, Object, out-Value, roll-Value, the_lemmas}
+use Rattle.serde_json.specs.declared.value.Value.TheOpen.{Value-F}
+use Rattle.serde_json.specs.declared.value.Value.TheVariants.{rolls-Array, rolls-Object}
+use Rattle.olk_spec.specs.Schemas.{is_array, is_object}
+
+rolled : (v : Value) → roll-Value (out-Value v) ≡ v
+rolled v = search (rules, the_lemmas)
+
+no_array_layer : (x : Value-F Value) → ((ds : Vec Value Global) → roll-Value x ≡ Array ds → ⊥) → is_array (view (roll-Value x)) ≡ false
+no_array_layer (Value-F.Array ds) h = absurd (h ds (rolls-Array ds))
+no_array_layer Value-F.Null h = search (rules, the_lemmas)
+no_array_layer (Value-F.Bool b) h = search (rules, the_lemmas)
+no_array_layer (Value-F.Number n) h = search (rules, the_lemmas)
+no_array_layer (Value-F.String s) h = search (rules, the_lemmas)
+no_array_layer (Value-F.Object m) h = search (rules, the_lemmas)
+
+pub no_array : (v : Value) → ((ds : Vec Value Global) → v ≡ Array ds → ⊥) → is_array (view v) ≡ false
+no_array v = subst (λ x. ((ds : Vec Value Global) → x ≡ Array ds → ⊥) → is_array (view x) ≡ false) (rolled v) (no_array_layer (out-Value v))
+
+no_object_layer : (x : Value-F Value) → ((m : BTreeMap (String Global) Value) → roll-Value x ≡ Object m → ⊥) → is_object (view (roll-Value x)) ≡ false
+no_object_layer (Value-F.Object m) h = absurd (h m (rolls-Object m))
+no_object_layer Value-F.Null h = search (rules, the_lemmas)
+no_object_layer (Value-F.Bool b) h = search (rules, the_lemmas)
+no_object_layer (Value-F.Number n) h = search (rules, the_lemmas)
+no_object_layer (Value-F.String s) h = search (rules, the_lemmas)
+no_object_layer (Value-F.Array ds) h = search (rules, the_lemmas)
+
+pub no_object : (v : Value) → ((m : BTreeMap (String Global) Value) → v ≡ Object m → ⊥) → is_object (view v) ≡ false
+no_object v = subst (λ x. ((m : BTreeMap (String Global) Value) → x ≡ Object m → ⊥) → is_object (view x) ≡ false) (rolled v) (no_object_layer (out-Value v))
