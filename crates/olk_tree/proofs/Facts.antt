@@ -3,7 +3,7 @@ use Rattle.std.specs.Prelude.{◌≡◌, ℕ, ◌+◌, Bool, true, false, not, �
 use Rattle.std.specs.List.{list_all, list_any, flat_map, enumerate_from}
 use Rattle.std.proofs.Common.{refl, sym, ◌∙◌, ap, arith}
 use Rattle.std.proofs.lemmas.List.{append-nil}
-use Rattle.std.proofs.lemmas.List.Folds.{list_all-append}
+use Rattle.std.proofs.lemmas.List.Folds.{list_all-append, list_all-map}
 use Rattle.std.proofs.lemmas.List.Sums.{sum_by-cons, sum_by-append}
 use Rattle.std.proofs.lemmas.Grind.{flat_map-append}
 use mathlib.Core.Bool.{true≢false}
@@ -22,15 +22,12 @@ use Rattle.olk_spec.specs.Costs.{cost, cost_step, no_cost, ◌⊕◌, total_cost
 use Rattle.olk_spec.proofs.Truth.{and_true}
 use Rattle.olk_spec.proofs.Reading.{entry, place, entries_read, items_read, branches_read, schema_of_read}
 use Rattle.olk_tree.specs.Members.{malformations_at, member_accepts, member_asks, member_report, member_malformations, member_cost}
+use Rattle.olk_tree.proofs.Maps.{flat_map-map, map-map}
 use Rattle.olk_tree.proofs.Spending.{sum_first, sum_last}
 
 -- ---- walks
 
 module _ {X Y : Type 0} (h : Y → X) where
-  list_all_under : (p : X → Bool) (ys : List Y) → list_all p (map h ys) ≡ list_all (λ y. p (h y)) ys
-  list_all_under p [] = refl
-  list_all_under p (y ∷ ys) = ap (λ b. p (h y) && b) (list_all_under p ys)
-
   list_any_under : (p : X → Bool) (ys : List Y) → list_any p (map h ys) ≡ list_any (λ y. p (h y)) ys
   list_any_under p [] = refl
   list_any_under p (y ∷ ys) = ap (λ b. p (h y) || b) (list_any_under p ys)
@@ -38,14 +35,6 @@ module _ {X Y : Type 0} (h : Y → X) where
   sum_by_under : (p : X → ℕ) (ys : List Y) → sum_by p (map h ys) ≡ sum_by (λ y. p (h y)) ys
   sum_by_under p [] = refl
   sum_by_under p (y ∷ ys) = sum_by-cons p (h y) (map h ys) ∙ ap (λ n. p (h y) + n) (sum_by_under p ys) ∙ sym (sum_by-cons (λ z. p (h z)) y ys)
-
-  flat_map_under : {A : Type 0} (p : X → List A) (ys : List Y) → flat_map p (map h ys) ≡ flat_map (λ y. p (h y)) ys
-  flat_map_under p [] = refl
-  flat_map_under p (y ∷ ys) = ap (λ l. p (h y) ++ l) (flat_map_under p ys)
-
-  map_under : {A : Type 0} (p : X → A) (ys : List Y) → map p (map h ys) ≡ map (λ y. p (h y)) ys
-  map_under p [] = refl
-  map_under p (y ∷ ys) = ap (λ l. p (h y) ∷ l) (map_under p ys)
 
   numbered_from : (n : ℕ) (ys : List Y) → map {B = Name × X} (λ e. (decimal e.0, e.1)) (enumerate_from n (map h ys)) ≡ map {A = Name × Y} {B = Name × X} (λ e. (e.0, h e.1)) (map {B = Name × Y} (λ e. (decimal e.0, e.1)) (enumerate_from n ys))
   numbered_from n [] = refl
@@ -98,7 +87,7 @@ module _ (step : Schema Meaning → Meaning) (k : Name) (v : Data) where
   at_members_accept [] = refl
   at_members_accept (e ∷ es) =
       list_all-append (λ a. a.sub.answer.accepts a.value) (map (λ w. asked (place step e.1) w (k ∷ e.0 ∷ []) (e.0 ∷ [])) (at e.0 v)) (at_members (map (entry step) es))
-      ∙ (λ i. list_all_under (λ w. asked (place step e.1) w (k ∷ e.0 ∷ []) (e.0 ∷ [])) (λ a. a.sub.answer.accepts a.value) (at e.0 v) i && at_members_accept es i)
+      ∙ (λ i. list_all-map (λ a. a.sub.answer.accepts a.value) (λ w. asked (place step e.1) w (k ∷ e.0 ∷ []) (e.0 ∷ [])) (at e.0 v) i && at_members_accept es i)
 
   at_members_ask : (es : List (Name × Data)) → sum_by (λ a. a.sub.answer.asks a.value) (at_members (map (entry step) es)) ≡ sum_by (λ e. sum_by (answer_for step e.1).asks (at e.0 v)) es
   at_members_ask [] = refl
@@ -111,7 +100,7 @@ module _ (step : Schema Meaning → Meaning) (k : Name) (v : Data) where
   at_members_find P Q [] = refl
   at_members_find P Q (e ∷ es) =
       flat_map-append (λ a. a.sub.answer.report a.value (down P a.in_schema) (down Q a.in_instance)) (map (λ w. asked (place step e.1) w (k ∷ e.0 ∷ []) (e.0 ∷ [])) (at e.0 v)) (at_members (map (entry step) es))
-      ∙ (λ i. flat_map_under (λ w. asked (place step e.1) w (k ∷ e.0 ∷ []) (e.0 ∷ [])) (λ a. a.sub.answer.report a.value (down P a.in_schema) (down Q a.in_instance)) (at e.0 v) i ++ at_members_find P Q es i)
+      ∙ (λ i. flat_map-map (λ a. a.sub.answer.report a.value (down P a.in_schema) (down Q a.in_instance)) (λ w. (answer_for step e.1).report w (P // k // e.0) (Q // e.0)) (λ w. asked (place step e.1) w (k ∷ e.0 ∷ []) (e.0 ∷ [])) (λ w. refl) (at e.0 v) i ++ at_members_find P Q es i)
 
   at_whole_accept : (es : List (Name × Data)) → list_all (λ a. a.sub.answer.accepts a.value) (asked_whole k v (map (entry step) es)) ≡ list_all (λ e. (answer_for step e.1).accepts v) es
   at_whole_accept [] = refl
@@ -219,7 +208,7 @@ module _ (W : World) (ms : Members) where
           found : map (λ b. b.1.answer.report v (P // codes "anyOf" // b.0) Q) (branches (read (meaning_step W u) (array ds))) ≡ map (λ e. report W u e.1 v (P // codes "anyOf" // e.0) Q) (numbered (items_list ds))
           found =
               ap (map (λ b. b.1.answer.report v (P // codes "anyOf" // b.0) Q)) (branch_entries (meaning_step W u) ds)
-              ∙ map_under (entry (meaning_step W u)) (λ b. b.1.answer.report v (P // codes "anyOf" // b.0) Q) (numbered (items_list ds))
+              ∙ map-map (λ b. b.1.answer.report v (P // codes "anyOf" // b.0) Q) (λ e. report W u e.1 v (P // codes "anyOf" // e.0) Q) (entry (meaning_step W u)) (λ e. refl) (numbered (items_list ds))
 
   -- ---- not
 
