@@ -37,8 +37,9 @@ fn same_names(rt: HostRuntime) -> Result<(), Fail> {
         ("café-résumé-naïve", "café-rÉsumé-naïve", false),
     ] {
         let name = PropertyName::new(rt.alloc(), name)?;
-        assert_eq!(rt; name.matches(KeyHead::of(key), key), same, "{key}");
-        assert_eq!(rt; name.as_str() == key, same, "{key}");
+        let found = name.matches(KeyHead::of(key), key);
+        assert_eq!(rt; found, same, "{}", name.as_str());
+        assert_eq!(rt; name.as_str() == key, same, "{}", name.as_str());
     }
     Ok(())
 }
