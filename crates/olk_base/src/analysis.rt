@@ -39,8 +39,8 @@ pub fn analyze_pattern(
     scan_pattern(alloc, pattern)
 }
 
-/// Whether white space of ECMA-262 (its white space and its line terminators, 25 characters) is in
-/// the text.
+/// Whether one of the 25 white space characters and line terminators of ECMA-262 (12.2 and 12.3)
+/// stands in the text.
 pub fn contains_ecma_whitespace(text: &str) -> bool
     ensures { result ≡ has_ecma_whitespace text.now }
 {
