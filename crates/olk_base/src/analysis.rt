@@ -6,6 +6,8 @@ ghost use Rattle.olk_base.specs.Optimization.{test_of};
 
 use std::alloc::{AllocError, Global};
 
+const FEWEST_ALTERNATIVES: usize = 2;
+
 /// The test that a pattern stands for.
 #[derive(Debug, PartialEq, Eq, Drop)]
 pub enum PatternOptimization {
@@ -37,8 +39,8 @@ pub fn analyze_pattern(
     scan_pattern(alloc, pattern)
 }
 
-/// Whether white space of ECMA-262 (its white space and its line terminators, 25 characters) is in
-/// the text.
+/// Whether one of the 25 white space characters and line terminators of ECMA-262 (12.2 and 12.3)
+/// stands in the text.
 pub fn contains_ecma_whitespace(text: &str) -> bool
     ensures { result ≡ has_ecma_whitespace text.now }
 {
@@ -99,10 +101,10 @@ fn scan_anchored(alloc: Global, pattern: &str) -> Result<Option<PatternOptimizat
 fn scan_suffix(alloc: Global, pattern: &str) -> Result<Option<PatternOptimization>, AllocError>
     ensures { IfOk result (λ o. option_map test_of o ≡ suffix (body_of (chars pattern.now))) }
 {
-    let (text, rest) = scan_body(alloc, pattern)?;
+    let (text, end) = scan_body(alloc, pattern)?;
     if text.is_empty() {
         Ok(None)
-    } else if is_ascii_text(rest, "$") {
+    } else if is_ascii_text(end, "$") {
         Ok(Some(PatternOptimization::Suffix(text)))
     } else {
         Ok(None)
@@ -123,7 +125,7 @@ fn scan_alternation(alloc: Global, pattern: &str) -> Result<Option<Vec<String>>,
         texts.push(text)?;
         if let Some(next) = strip_char(after, '|') {
             rest = next;
-        } else if texts.len() < 2 {
+        } else if texts.len() < FEWEST_ALTERNATIVES {
             return Ok(None);
         } else if is_ascii_text(after, ")$") {
             return Ok(Some(texts));

@@ -1,6 +1,6 @@
 //! The counts of building and asking.
-ghost use Rattle.std.specs.Prelude.{◌≡◌};
-ghost use Rattle.olk_base.specs.Count.{no_counts, count_compiled, count_leaf, count_made, count_asked, count_unfinished};
+ghost use Rattle.std.specs.Prelude.{◌≡◌, ℕ, ◌+◌, ◌≤◌};
+ghost use Rattle.olk_base.specs.Count.{no_counts, raised, count_compiled, count_leaf, count_made, count_asked, count_unfinished};
 
 use std::marker::Model;
 
@@ -109,3 +109,10 @@ impl Meter {
         self.unfinished = self.unfinished.saturating_add(1);
     }
 }
+
+/// The law of counts: a count is never lowered, is exact up to `u64::MAX`, and stays there.
+pub fn law_of_counts()
+    ensures never_lowered { (count n : ℕ) → count ≤ raised count n }
+    ensures exact { (count n : ℕ) → count + n ≤ u64.MAX → raised count n ≡ count + n }
+    ensures stays { (n : ℕ) → raised u64.MAX n ≡ u64.MAX }
+{}

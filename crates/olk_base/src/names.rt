@@ -5,6 +5,9 @@ ghost use Rattle.olk_base.specs.Heads.{head_of, low_first};
 use std::alloc::{AllocError, Global};
 use std::marker::Model;
 
+// Up to this length the head of a name has all of its bytes.
+const LONGEST_WHOLE: usize = 16;
+
 /// The length of a name, and its first and last bytes as numbers, the lowest byte first: up to
 /// three bytes stand whole in the first number, beside zero; from four bytes on, four at either
 /// end, and from eight on, eight.
@@ -108,5 +111,24 @@ fn same_middle(name: &[u8], key: &[u8]) -> bool
     ensures { IsTrue result ↔ (name.now ≡ key.now) }
 {
     let len = key.len();
-    len <= 16 || name[8..len - 8] == key[8..len - 8]
+    len <= LONGEST_WHOLE || name[8..len - 8] == key[8..len - 8]
+}
+
+#[cfg(test)]
+mod tests {
+    use super::KeyHead;
+
+    #[test]
+    fn heads(rt: HostRuntime) {
+        for (name, len, first, last) in [
+            ("", 0, 0, 0),
+            ("a", 1, 97, 0),
+            ("abc", 3, 6513249, 0),
+            ("abcd", 4, 1684234849, 1684234849),
+            ("abcde", 5, 1684234849, 1701077858),
+            ("abcdefgh", 8, 0x6867666564636261, 0x6867666564636261),
+        ] {
+            assert_eq!(rt; KeyHead::of(name), KeyHead { len, first, last }, "{name}");
+        }
+    }
 }

@@ -23,15 +23,15 @@ returns-then-is_ascii_text c =
     let t = tested _ _ _ _ _ c.loop-texts.invariant.read c.in_ok-text.ensures.text c.in_ok-text.ensures.rest some c.in_default.ensures.cases in
     let all = sym (ap (map string_bytes) c.in_ok-push.ensures.items ∙ map-append string_bytes c.loop-texts.texts.items (c.in_ok-text.text ∷ [])) in
     let count = length-map c.push.new.self.items string_bytes ∙ sym c.push.new.self.ok.0 ∙ sym c.len.ensures in
-    tested-closed _ (map string_bytes c.push.new.self.items) _ (rw all at t) (omega (arith, count, c.if-len-lt2.false)) (sym c.if-is_ascii_text.ensures)
+    tested-closed _ (map string_bytes c.push.new.self.items) _ (rw all at t) (omega (arith, count, c.if-len-lt-FEWEST_ALTERNATIVES.false)) (sym c.if-is_ascii_text.ensures)
 
-pub returns-then-len-lt2 : goal.returns-then-len-lt2
-returns-then-len-lt2 c =
+pub returns-then-len-lt-FEWEST_ALTERNATIVES : goal.returns-then-len-lt-FEWEST_ALTERNATIVES
+returns-then-len-lt-FEWEST_ALTERNATIVES c =
     let some = ap (λ n. nat_eq n 0) (sym c.in_ok-text.text.bytes.ok.0) ∙ sym c.is_empty.ensures ∙ c.if-is_empty.false in
     let t = tested _ _ _ _ _ c.loop-texts.invariant.read c.in_ok-text.ensures.text c.in_ok-text.ensures.rest some c.in_default.ensures.cases in
     let all = sym (ap (map string_bytes) c.in_ok-push.ensures.items ∙ map-append string_bytes c.loop-texts.texts.items (c.in_ok-text.text ∷ [])) in
     let count = length-map c.push.new.self.items string_bytes ∙ sym c.push.new.self.ok.0 ∙ sym c.len.ensures in
-    tested-short _ (map string_bytes c.push.new.self.items) _ (rw all at t) (omega (arith, count, c.if-len-lt2.true))
+    tested-short _ (map string_bytes c.push.new.self.items) _ (rw all at t) (omega (arith, count, c.if-len-lt-FEWEST_ALTERNATIVES.true))
 
 pub returns-else-is_ascii_text : goal.returns-else-is_ascii_text
 returns-else-is_ascii_text c =
@@ -39,4 +39,4 @@ returns-else-is_ascii_text c =
     let t = tested _ _ _ _ _ c.loop-texts.invariant.read c.in_ok-text.ensures.text c.in_ok-text.ensures.rest some c.in_default.ensures.cases in
     let all = sym (ap (map string_bytes) c.in_ok-push.ensures.items ∙ map-append string_bytes c.loop-texts.texts.items (c.in_ok-text.text ∷ [])) in
     let count = length-map c.push.new.self.items string_bytes ∙ sym c.push.new.self.ok.0 ∙ sym c.len.ensures in
-    tested-open _ (map string_bytes c.push.new.self.items) _ (rw all at t) (omega (arith, count, c.if-len-lt2.false)) (sym c.if-is_ascii_text.ensures)
+    tested-open _ (map string_bytes c.push.new.self.items) _ (rw all at t) (omega (arith, count, c.if-len-lt-FEWEST_ALTERNATIVES.false)) (sym c.if-is_ascii_text.ensures)

@@ -1,0 +1,422 @@
+//! The tables of names and patterns, and a leaf set and a matcher called through their bounds.
+ghost use Rattle.std.specs.Prelude.{◌≡◌, ◌∷◌, ◌++◌, List, true, false, IfOk, IfErr, is_none, string_bytes, codes, if◌then◌else◌};
+ghost use Rattle.serde_json.specs.View.{view};
+ghost use Rattle.olk_spec.specs.Names.{Name, is_empty};
+ghost use Rattle.olk_spec.specs.Literals.{literal};
+ghost use Rattle.olk_spec.specs.Meanings.{pattern_says};
+ghost use Rattle.olk_base.specs.Compiled.{pattern_answers, pattern_builds, pattern_costs};
+ghost use Rattle.olk_base.specs.Count.{count_made};
+ghost use Rattle.olk_base.specs.Lawful.{matcher, IsRefused};
+ghost use Rattle.olk_base.specs.Nodes.{tree_of};
+
+use crate::{
+    CompiledPattern, JsonType, KeyHead, Leaf, MakeError, MakeLeaf, MakeRegex, Meter, Node,
+    PatternOptimization, PropertyName, PropertyPattern, RegexEngine, Unfinished, ValidationContext,
+    analyze_pattern, contains_ecma_whitespace,
+};
+use serde_json::{Map, Value};
+use std::alloc::{AllocError, Global};
+use std::test::Fail;
+
+// ---- names
+
+#[test]
+fn same_names(rt: HostRuntime) -> Result<(), Fail> {
+    for (name, key, same) in [
+        ("abcdefghijklX", "abcdefghijklX", true),
+        ("abcdefghijkl", "abcdefghijkl", true),
+        ("abcd", "abcd", true),
+        ("", "", true),
+        ("café-résumé-naïve", "café-résumé-naïve", true),
+        ("abcdefghijklX", "abcdefghijklY", false),
+        ("abcdefghijkl", "abcdefghijkL", false),
+        ("abcdEFGHijkl", "abcdefghijkl", false),
+        ("abcd", "abce", false),
+        ("abcd", "abcde", false),
+        ("", "a", false),
+        ("café-résumé-naïve", "café-rÉsumé-naïve", false),
+    ] {
+        let name = PropertyName::new(rt.alloc(), name)?;
+        let found = name.matches(KeyHead::of(key), key);
+        assert_eq!(rt; found, same, "{}", name.as_str());
+        assert_eq!(rt; name.as_str() == key, same, "{}", name.as_str());
+    }
+    Ok(())
+}
+
+// ---- patterns
+
+fn test_text(alloc: Global, pattern: &str) -> Result<String, AllocError> {
+    match analyze_pattern(alloc, pattern)? {
+        Some(PatternOptimization::Prefix(text)) => format!(in alloc; "Prefix {text}"),
+        Some(PatternOptimization::Suffix(text)) => format!(in alloc; "Suffix {text}"),
+        Some(PatternOptimization::Exact(text)) => format!(in alloc; "Exact {text}"),
+        Some(PatternOptimization::Alternation(texts)) => format!(in alloc; "Alternation {texts:?}"),
+        Some(PatternOptimization::NoWhitespace) => String::from_str(alloc, "NoWhitespace"),
+        None => String::from_str(alloc, "none"),
+    }
+}
+
+#[test]
+fn literal_patterns(rt: HostRuntime) -> Result<(), Fail> {
+    for (pattern, test) in [
+        ("^foo", "Prefix foo"),
+        ("^x-", "Prefix x-"),
+        ("^path/to", "Prefix path/to"),
+        ("^\\/", "Prefix /"),
+        ("^foo$", "Exact foo"),
+        ("^\\$ref$", "Exact $ref"),
+        ("^foo\\$", "Prefix foo$"),
+        ("^(a|b)$", "Alternation [\"a\", \"b\"]"),
+        ("^\\S*$", "NoWhitespace"),
+        ("spam$", "Suffix spam"),
+        ("\\$$", "Suffix $"),
+    ] {
+        let found = test_text(rt.alloc(), pattern)?;
+        assert_eq!(rt; found.as_str(), test, "{pattern}");
+    }
+    for pattern in [
+        "foo",
+        "^",
+        "^$",
+        "^(a)$",
+        "^foo.*",
+        "^foo+",
+        "^foo?",
+        "^[a-z]",
+        "^foo|bar",
+        "^foo(bar)",
+        "^foo\\d",
+        "foo\\$",
+        "$",
+        "(a)$",
+        "fo.o$",
+    ] {
+        let found = test_text(rt.alloc(), pattern)?;
+        assert_eq!(rt; found.as_str(), "none", "{pattern}");
+    }
+    Ok(())
+}
+
+#[test]
+fn white_space(rt: HostRuntime) {
+    for text in [
+        "\u{9}",
+        "\u{a}",
+        "\u{b}",
+        "\u{c}",
+        "\u{d}",
+        "\u{20}",
+        "\u{a0}",
+        "\u{1680}",
+        "\u{2000}",
+        "\u{2001}",
+        "\u{2002}",
+        "\u{2003}",
+        "\u{2004}",
+        "\u{2005}",
+        "\u{2006}",
+        "\u{2007}",
+        "\u{2008}",
+        "\u{2009}",
+        "\u{200a}",
+        "\u{2028}",
+        "\u{2029}",
+        "\u{202f}",
+        "\u{205f}",
+        "\u{3000}",
+        "\u{feff}",
+        "a b",
+        "é\u{3000}y",
+    ] {
+        assert!(rt; contains_ecma_whitespace(text));
+    }
+    for text in [
+        "", "ab", "\u{8}", "\u{e}", "\u{85}", "\u{180e}", "\u{200b}", "\u{2060}", "é",
+    ] {
+        assert!(rt; !contains_ecma_whitespace(text));
+    }
+}
+
+// ---- a matcher: a pattern matches the names that equal it, `?` is unfinished, `(` does not build
+
+#[derive(Drop)]
+struct EqualTo {
+    text: String,
+}
+
+impl RegexEngine for EqualTo {
+    ghost use Rattle.std.specs.Prelude.{true, string_bytes};
+    ghost use Rattle.olk_base.specs.Plain.{is_pattern, equals};
+
+    ghost builds = { is_pattern };
+
+    ghost says = { equals };
+
+    ghost answers = { λ e n. equals (string_bytes e.text) n };
+
+    ghost costs = { λ e. true };
+
+    fn is_match(&self, text: &str, meter: &mut Meter) -> Result<bool, Unfinished> {
+        meter.tick_asked();
+        if self.text.as_str() == "?" {
+            Err(Unfinished)
+        } else {
+            Ok(self.text.as_str() == text)
+        }
+    }
+}
+
+#[derive(Drop)]
+struct Equality;
+
+impl MakeRegex for Equality {
+    type Engine = EqualTo;
+
+    fn make(&self, alloc: Global, pattern: &str, meter: &mut Meter) -> Result<EqualTo, MakeError> {
+        meter.tick_made();
+        if pattern == "(" {
+            Err(MakeError::Refused)
+        } else {
+            let text = String::from_str(alloc, pattern)?;
+            Ok(EqualTo { text })
+        }
+    }
+}
+
+// What building does with a pattern.
+fn compile_pattern<M: MakeRegex>(
+    maker: &M,
+    alloc: Global,
+    pattern: &str,
+    meter: &mut Meter,
+) -> Result<CompiledPattern<M::Engine>, MakeError>
+    ensures answers { IfOk result (λ p. (n : Name) → pattern_answers M.Engine.answers p n ≡ pattern_says (matcher M.Engine.builds M.Engine.says) pattern.now n) }
+    ensures costs { IfOk result (λ p. pattern_costs M.Engine.costs p ≡ is_none (literal pattern.now)) }
+    ensures builds { IfOk result (λ p. pattern_builds (matcher M.Engine.builds M.Engine.says) pattern.now ≡ true) }
+    ensures refused { IfErr result (λ e. IsRefused e → pattern_builds (matcher M.Engine.builds M.Engine.says) pattern.now ≡ false) }
+    ensures counts { IfOk result (λ p. meter.new ≡ (if is_none (literal pattern.now) then count_made meter.old else meter.old)) }
+{
+    match analyze_pattern(alloc, pattern)? {
+        Some(PatternOptimization::Prefix(text)) => Ok(CompiledPattern::Prefix(text)),
+        Some(PatternOptimization::Suffix(text)) => Ok(CompiledPattern::Suffix(text)),
+        Some(PatternOptimization::Exact(text)) => Ok(CompiledPattern::Exact(text)),
+        Some(PatternOptimization::Alternation(texts)) => Ok(CompiledPattern::Alternation(texts)),
+        Some(PatternOptimization::NoWhitespace) => Ok(CompiledPattern::NoWhitespace),
+        None => Ok(CompiledPattern::Regex(maker.make(alloc, pattern, meter)?)),
+    }
+}
+
+fn plain_error(error: MakeError) -> Fail {
+    match error {
+        MakeError::Refused => Fail::from("refused"),
+        MakeError::Memory(error) => Fail::from(error),
+    }
+}
+
+#[test]
+fn patterns(rt: HostRuntime) -> Result<(), Fail> {
+    for (pattern, name, found, asked, unfinished) in [
+        ("^foo", "foobar", true, 0, 0),
+        ("^foo", "barfoo", false, 0, 0),
+        ("spam$", "xspam", true, 0, 0),
+        ("spam$", "spamx", false, 0, 0),
+        ("spam$", "am", false, 0, 0),
+        ("^foo$", "foo", true, 0, 0),
+        ("^foo$", "foobar", false, 0, 0),
+        ("^(a|b)$", "b", true, 0, 0),
+        ("^(a|b)$", "ab", false, 0, 0),
+        ("^\\S*$", "ab", true, 0, 0),
+        ("^\\S*$", "a b", false, 0, 0),
+        ("foo", "foo", true, 1, 0),
+        ("foo", "foobar", false, 1, 0),
+        ("?", "foo", true, 1, 1),
+    ] {
+        let mut meter = Meter::new();
+        let compiled = compile_pattern(&Equality, rt.alloc(), pattern, &mut meter).map_err(
+            plain_error,
+        )?;
+        assert_eq!(rt; meter.made(), asked, "{pattern}");
+        let mut ctx = ValidationContext::new(true);
+        assert_eq!(rt;
+            compiled.is_match_in(name, &mut ctx),
+            found,
+            "{pattern} {name}"
+        );
+        assert_eq!(rt; ctx.meter().asked(), asked, "{pattern}");
+        assert_eq!(rt; ctx.meter().unfinished(), unfinished, "{pattern}");
+        assert!(rt; ctx.answer());
+    }
+    let mut meter = Meter::new();
+    let refused = compile_pattern(&Equality, rt.alloc(), "(", &mut meter);
+    assert!(rt; matches!(refused, Err(MakeError::Refused)));
+    assert_eq!(rt; meter.made(), 1);
+    Ok(())
+}
+
+// ---- a leaf set: the keyword `text`, with the value false, refuses texts
+
+#[derive(Drop)]
+struct NoText;
+
+impl Leaf for NoText {
+    ghost use Rattle.std.specs.Prelude.{codes};
+    ghost use Rattle.olk_base.specs.Plain.{is_keyword, fits_text, text_faults};
+
+    ghost reads = { is_keyword };
+
+    ghost fits = { fits_text };
+
+    ghost faults = { λ k x v. text_faults v };
+
+    ghost keyword_of = { λ l. codes "text" };
+
+    ghost finds = { λ l v. text_faults v };
+
+    fn keyword(&self) -> &str {
+        "text"
+    }
+
+    fn is_valid(&self, node: Node<'_>) -> bool {
+        match node {
+            Node::Value(Value::String(_)) => false,
+            Node::Value(_) => true,
+            Node::Name(_) => false,
+        }
+    }
+
+    fn validate(&self, alloc: Global, node: Node<'_>) -> Result<Option<String>, AllocError> {
+        if self.is_valid(node) {
+            Ok(None)
+        } else {
+            Ok(Some(String::from_str(alloc, "is a text")?))
+        }
+    }
+
+    fn collect_errors(
+        &self,
+        alloc: Global,
+        node: Node<'_>,
+        texts: &mut Vec<String>,
+    ) -> Result<(), AllocError> {
+        if !self.is_valid(node) {
+            texts.push(String::from_str(alloc, "is a text")?)?;
+        }
+        Ok(())
+    }
+
+    fn evaluate(&self, alloc: Global, node: Node<'_>) -> Result<Vec<String>, AllocError> {
+        let mut texts = Vec::new(alloc);
+        self.collect_errors(alloc, node, &mut texts)?;
+        Ok(texts)
+    }
+}
+
+#[derive(Drop)]
+struct NoTexts;
+
+impl MakeLeaf for NoTexts {
+    type Leaf = NoText;
+
+    fn reads(&self, keyword: &str) -> bool {
+        keyword == "text"
+    }
+
+    fn make(
+        &self,
+        _alloc: Global,
+        keyword: &str,
+        value: &Value,
+        meter: &mut Meter,
+    ) -> Result<NoText, MakeError> {
+        meter.tick_leaves();
+        match value {
+            Value::Bool(false) if keyword == "text" => Ok(NoText),
+            _ => Err(MakeError::Refused),
+        }
+    }
+}
+
+// A leaf that is made, and asked by each of its calls.
+fn asked_leaf<L: MakeLeaf>(
+    leaves: &L,
+    alloc: Global,
+    keyword: &str,
+    value: &Value,
+    node: Node<'_>,
+    meter: &mut Meter,
+) -> Result<(bool, Option<String>, Vec<String>, Vec<String>), MakeError>
+    ensures valid { IfOk result (λ r. r.0 ≡ is_empty (L.Leaf.faults keyword.now (view value.now) (tree_of node.entry))) }
+{
+    let leaf = leaves.make(alloc, keyword, value, meter)?;
+    let mut texts = one_text(alloc, leaf.keyword())?;
+    leaf.collect_errors(alloc, node, &mut texts)?;
+    Ok((
+        leaf.is_valid(node),
+        leaf.validate(alloc, node)?,
+        texts,
+        leaf.evaluate(alloc, node)?,
+    ))
+}
+
+fn one_text(alloc: Global, text: &str) -> Result<Vec<String>, AllocError> {
+    Ok(vec![in alloc; String::from_str(alloc, text)?]?)
+}
+
+#[test]
+fn leaves(rt: HostRuntime) -> Result<(), Fail> {
+    let (value, mut meter) = (Value::Bool(false), Meter::new());
+    assert!(rt; NoTexts.reads("text") && !NoTexts.reads("texts"));
+    for (node, valid, one, texts) in [
+        (
+            Node::Name("a"),
+            false,
+            "Some(\"is a text\")",
+            "[\"text\", \"is a text\"]",
+        ),
+        (Node::Value(&value), true, "None", "[\"text\"]"),
+    ] {
+        let answers = asked_leaf(&NoTexts, rt.alloc(), "text", &value, node, &mut meter).map_err(
+            plain_error,
+        )?;
+        assert_eq!(rt; answers.0, valid);
+        assert_eq!(rt; format!(in rt.alloc(); "{:?}", answers.1)?.as_str(), one);
+        assert_eq!(rt; format!(in rt.alloc(); "{:?}", answers.2)?.as_str(), texts);
+        assert_eq!(rt; answers.3.is_empty(), valid);
+    }
+    let refused = asked_leaf(
+        &NoTexts,
+        rt.alloc(),
+        "text",
+        &Value::Null,
+        Node::Name("a"),
+        &mut meter,
+    );
+    assert!(rt; matches!(refused, Err(MakeError::Refused)));
+    assert_eq!(rt; meter.leaves(), 3);
+    Ok(())
+}
+
+// ---- nodes and counts
+
+#[test]
+fn nodes(rt: HostRuntime) {
+    let object = Value::Object(Map::new(rt.alloc()));
+    assert!(rt; Node::Value(&object).as_object().is_some());
+    assert_eq!(rt; Node::Value(&object).json_type(), JsonType::Object);
+    assert!(rt; Node::Value(&Value::Null).as_object().is_none());
+    assert_eq!(rt; Node::Value(&Value::Null).json_type(), JsonType::Null);
+    assert!(rt; Node::Name("a").as_object().is_none());
+    assert_eq!(rt; Node::Name("a").json_type(), JsonType::String);
+}
+
+#[test]
+fn counts(rt: HostRuntime) {
+    let mut meter = Meter::new();
+    meter.tick_compiled();
+    meter.tick_unfinished();
+    meter.tick_unfinished();
+    assert_eq!(rt; meter.compiled(), 1);
+    assert_eq!(rt; meter.unfinished(), 2);
+    assert_eq!(rt; meter.leaves() + meter.made() + meter.asked(), 0);
+}
