@@ -2,8 +2,10 @@
 #![tactic(auto)]
 
 mod error;
+mod evaluation;
 mod message;
 mod path;
 
 pub use error::{BuildError, ValidateError, ValidationError, ValidationErrorKind};
+pub use evaluation::{ErrorDescription, EvaluationNode, EvaluationResult};
 pub use path::{InstancePath, Location, Mark};
