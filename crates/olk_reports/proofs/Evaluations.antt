@@ -1,5 +1,5 @@
 -- Facts on results and the trees that they show.
-use Rattle.std.proofs.Common.{◌≡◌, ℕ, Bool, true, false, Option, option_map, List, [], ◌∷◌, map, refl, sym, ap, ◌∙◌, Vec, Bor, string_bytes}
+use Rattle.std.proofs.Common.{◌≡◌, ℕ, Bool, true, false, Option, option_map, List, [], ◌∷◌, map, refl, ap, ◌∙◌, Vec, Bor}
 use Rattle.std.specs.List.{list_all}
 use Rattle.std.specs.declared.alloc.Global.{Global}
 use Rattle.std.proofs.lemmas.List.Folds.{list_all-map}
@@ -8,8 +8,7 @@ use Rattle.olk_spec.specs.Tree.{Tree, Described, trees_from, result_node, is_val
 use Rattle.olk_reports.specs.Evaluations.{Shown, shown, shown_of, tree_of, node_at, described_of, node_step, result_step, trees_in, tree_children}
 use Rattle.olk_reports.specs.declared.evaluation.ErrorDescription.{ErrorDescription}
 use Rattle.olk_reports.specs.declared.evaluation.EvaluationNode.{EvaluationNode, out-EvaluationNode}
-use Rattle.olk_reports.specs.declared.evaluation.EvaluationResult.{EvaluationResult, out-EvaluationResult, roll-EvaluationResult}
-use Rattle.olk_reports.specs.declared.evaluation.EvaluationNode.TheOpen.{EvaluationResult-F}
+use Rattle.olk_reports.specs.declared.evaluation.EvaluationResult.{out-EvaluationResult, roll-EvaluationResult}
 use Rattle.olk_reports.specs.declared.evaluation.EvaluationNode.TheFolds.{fold_out-EvaluationNode, fold_out-EvaluationResult, fold-roll-EvaluationResult}
 
 pub each_valid : (ns : List EvaluationNode) → list_all is_valid (map tree_of ns) ≡ list_all (λ n. is_valid (tree_of n)) ns

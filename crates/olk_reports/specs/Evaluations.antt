@@ -1,5 +1,5 @@
 -- The tree that an evaluation node stands for.
-use Rattle.std.specs.Prelude.{Bool, true, false, Option, Some, None, List, [], ◌∷◌, ◌++◌, map, option_map, string_bytes}
+use Rattle.std.specs.Prelude.{Bool, false, Option, Some, None, List, [], ◌∷◌, ◌++◌, map, option_map, string_bytes}
 use Rattle.olk_spec.specs.Names.{Name, Path}
 use Rattle.olk_spec.specs.Tree.{Tree, node, leaf_node, Trees, no_tree, and_tree, Described, trees_from, result_node}
 use Rattle.olk_reports.specs.declared.evaluation.ErrorDescription.{ErrorDescription}

@@ -2,3 +2,4 @@ pub mod Paths
 pub mod Errors
 pub mod Messages
 pub mod Evaluations
+pub mod Entries

@@ -44,7 +44,7 @@ pub struct EvaluationResult<'a> {
     valid: bool,
     annotation: Option<Vec<&'a str>>,
     errors: Vec<ErrorDescription<'a>>,
-    children: Vec<EvaluationNode<'a>>,
+    pub(crate) children: Vec<EvaluationNode<'a>>,
 }
 
 /// A result with its place in the schema and in the instance.
@@ -53,7 +53,7 @@ pub struct EvaluationResult<'a> {
 pub struct EvaluationNode<'a> {
     schema_path: &'a str,
     instance_path: String,
-    result: EvaluationResult<'a>,
+    pub(crate) result: EvaluationResult<'a>,
 }
 
 impl<'a> EvaluationResult<'a> {

@@ -1,4 +1,4 @@
-use Rattle.std.proofs.Common.{◌≡◌, ap, ◌∙◌, sym, map}
+use Rattle.std.proofs.Common.{ap, ◌∙◌, sym, map}
 use Rattle.olk_reports.specs.Evaluations.{tree_of}
 use Rattle.olk_reports.proofs.Evaluations.{children_of}
 use Rattle.olk_reports.proofs.evaluation.EvaluationNode.children.Goals as goal
