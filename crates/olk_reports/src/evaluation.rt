@@ -166,7 +166,7 @@ impl<'a> EvaluationNode<'a> {
     pub fn annotation(&self) -> Option<&[&'a str]>
         ensures { option_map (λ ns. map (λ n. n.now) ns.now) result ≡ tree_annotation (tree_of self.now) }
     {
-        if self.result.valid {
+        if self.valid() {
             self.result.annotation.as_deref()
         } else {
             None

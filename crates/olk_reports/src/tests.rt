@@ -3,7 +3,7 @@ use crate::{
     ValidationError, ValidationErrorKind,
 };
 use olk_base::{JsonType, Node};
-use serde_json::Value;
+use serde_json::{Map, Value};
 use std::alloc::{AllocError, Global};
 use std::test::Fail;
 
@@ -43,12 +43,12 @@ fn paths_are_pointers(rt: HostRuntime) -> Result<(), Fail> {
     Ok(())
 }
 
-fn text_of(
+fn text_of<'a>(
     alloc: Global,
-    kind: ValidationErrorKind<'_>,
-    instance: &Value,
+    kind: ValidationErrorKind<'a>,
+    instance: Node<'a>,
 ) -> Result<String, AllocError> {
-    ValidationError::new(kind, Node::Value(instance), String::new(alloc), "").message(alloc)
+    ValidationError::new(kind, instance, String::new(alloc), "").message(alloc)
 }
 
 fn unexpected<'a>(alloc: Global, names: &[&'a str]) -> Result<ValidationErrorKind<'a>, AllocError> {
@@ -60,69 +60,75 @@ fn unexpected<'a>(alloc: Global, names: &[&'a str]) -> Result<ValidationErrorKin
 }
 
 #[test]
-fn texts_of_validating(rt: HostRuntime) -> Result<(), Fail> {
+fn texts_of_unexpected_names(rt: HostRuntime) -> Result<(), Fail> {
     let alloc = rt.alloc();
-    let instance = Value::from_str(alloc, "{\"b\":[1, \"x\"], \"a\":null}")?;
-    let schema = Value::from_str(alloc, "{\"type\": \"string\"}")?;
-    for (names, text) in [
+    let one = unexpected(alloc, &["z"])?;
+    let two = unexpected(alloc, &["faz", "h\"z"])?;
+    let three = unexpected(alloc, &["x", "y", "z"])?;
+    for (kind, text) in [
         (
-            ["z"].as_slice(),
+            one,
             "Additional properties are not allowed ('z' was unexpected)",
         ),
         (
-            ["faz", "h\"z"].as_slice(),
+            two,
             "Additional properties are not allowed ('faz', 'h\"z' were unexpected)",
         ),
         (
-            ["x", "y", "z"].as_slice(),
+            three,
             "Additional properties are not allowed ('x', 'y', 'z' were unexpected)",
         ),
     ] {
-        assert_eq!(rt;
-            text_of(alloc, unexpected(alloc, names)?, &instance)?.as_str(),
-            text
-        );
+        assert_eq!(rt; text_of(alloc, kind, Node::Name(""))?.as_str(), text);
     }
+    Ok(())
+}
+
+#[test]
+fn texts_of_validating(rt: HostRuntime) -> Result<(), Fail> {
+    let alloc = rt.alloc();
+    let schema = Value::Bool(true);
+    let limit = String::from_str(alloc, "4 is less than the minimum of 5")?;
     for (kind, text) in [
         (
             ValidationErrorKind::AnyOf {
                 context: Vec::new(alloc),
             },
-            "{\"a\":null,\"b\":[1,\"x\"]} is not valid under any of the schemas listed in the 'anyOf' keyword",
+            "\"k\\\"l\" is not valid under any of the schemas listed in the 'anyOf' keyword",
         ),
         (
             ValidationErrorKind::OneOfNotValid {
                 context: Vec::new(alloc),
             },
-            "{\"a\":null,\"b\":[1,\"x\"]} is not valid under any of the schemas listed in the 'oneOf' keyword",
+            "\"k\\\"l\" is not valid under any of the schemas listed in the 'oneOf' keyword",
         ),
         (
             ValidationErrorKind::OneOfMultipleValid {
                 context: Vec::new(alloc),
             },
-            "{\"a\":null,\"b\":[1,\"x\"]} is valid under more than one of the schemas listed in the 'oneOf' keyword",
+            "\"k\\\"l\" is valid under more than one of the schemas listed in the 'oneOf' keyword",
         ),
         (
             ValidationErrorKind::Not { schema: &schema },
-            "{\"type\":\"string\"} is not allowed for {\"a\":null,\"b\":[1,\"x\"]}",
+            "true is not allowed for \"k\\\"l\"",
         ),
         (
-            ValidationErrorKind::Required { property: "k\"l" },
-            "\"k\\\"l\" is a required property",
+            ValidationErrorKind::Required { property: "a\"b" },
+            "\"a\\\"b\" is a required property",
         ),
         (
             ValidationErrorKind::FalseSchema,
-            "False schema does not allow {\"a\":null,\"b\":[1,\"x\"]}",
+            "False schema does not allow \"k\\\"l\"",
         ),
         (
             ValidationErrorKind::Leaf {
                 keyword: "minimum",
-                text: String::from_str(alloc, "4 is less than the minimum of 5")?,
+                text: limit,
             },
             "4 is less than the minimum of 5",
         ),
     ] {
-        assert_eq!(rt; text_of(alloc, kind, &instance)?.as_str(), text);
+        assert_eq!(rt; text_of(alloc, kind, Node::Name("k\"l"))?.as_str(), text);
     }
     Ok(())
 }
@@ -130,33 +136,32 @@ fn texts_of_validating(rt: HostRuntime) -> Result<(), Fail> {
 #[test]
 fn texts_of_building(rt: HostRuntime) -> Result<(), Fail> {
     let alloc = rt.alloc();
-    let instance = Value::from_str(alloc, "[\"b\", \"b\"]")?;
     for (kind, text) in [
         (
             ValidationErrorKind::SingleType {
                 expected: JsonType::Object,
             },
-            "[\"b\",\"b\"] is not of type \"object\"",
+            "\"k\" is not of type \"object\"",
         ),
         (
             ValidationErrorKind::SingleType {
                 expected: JsonType::Array,
             },
-            "[\"b\",\"b\"] is not of type \"array\"",
+            "\"k\" is not of type \"array\"",
         ),
         (
             ValidationErrorKind::SingleType {
                 expected: JsonType::String,
             },
-            "[\"b\",\"b\"] is not of type \"string\"",
+            "\"k\" is not of type \"string\"",
         ),
         (
             ValidationErrorKind::MultipleTypes,
-            "[\"b\",\"b\"] is not of types \"boolean\", \"object\"",
+            "\"k\" is not of types \"boolean\", \"object\"",
         ),
         (
             ValidationErrorKind::UniqueItems,
-            "[\"b\",\"b\"] has non-unique elements",
+            "\"k\" has non-unique elements",
         ),
         (
             ValidationErrorKind::Unsupported { keyword: "$ref" },
@@ -164,18 +169,19 @@ fn texts_of_building(rt: HostRuntime) -> Result<(), Fail> {
         ),
         (
             ValidationErrorKind::LeafRefused { keyword: "minimum" },
-            "[\"b\",\"b\"] is not a value for \"minimum\"",
+            "\"k\" is not a value for \"minimum\"",
         ),
     ] {
-        assert_eq!(rt; text_of(alloc, kind, &instance)?.as_str(), text);
+        assert_eq!(rt; text_of(alloc, kind, Node::Name("k"))?.as_str(), text);
     }
     let mut place = Location::new(alloc);
     let _properties = place.push("patternProperties")?;
+    let at_pattern = place.join(alloc, "a/b~(")?;
     let error = ValidationError::refusing(
         ValidationErrorKind::Regex,
         Node::Name("a/b~("),
         String::new(alloc),
-        place.join(alloc, "a/b~(")?,
+        at_pattern,
     );
     assert_eq!(rt;
         error.message(alloc)?.as_str(),
@@ -186,11 +192,8 @@ fn texts_of_building(rt: HostRuntime) -> Result<(), Fail> {
     Ok(())
 }
 
-// The error of a name, told of the object, as the one branch of an `anyOf`.
-#[test]
-fn errors_inside_errors(rt: HostRuntime) -> Result<(), Fail> {
-    let alloc = rt.alloc();
-    let object = Value::from_str(alloc, "{\"f\":1}")?;
+// The error of a name, told of the object.
+fn error_of_name<'a>(alloc: Global, object: Node<'a>) -> Result<ValidationError<'a>, AllocError> {
     let text = String::from_str(alloc, "\"f\" is shorter than 2 characters")?;
     let of_name = ValidationError::new(
         ValidationErrorKind::Leaf {
@@ -201,11 +204,18 @@ fn errors_inside_errors(rt: HostRuntime) -> Result<(), Fail> {
         String::from_str(alloc, "/a")?,
         "/anyOf/0/propertyNames/minLength",
     );
-    let wrapping = ValidationError::wrapping(
+    Ok(ValidationError::wrapping(
         Box::new(alloc, of_name)?,
-        Node::Value(&object),
+        object,
         String::from_str(alloc, "/a")?,
-    );
+    ))
+}
+
+#[test]
+fn errors_inside_errors(rt: HostRuntime) -> Result<(), Fail> {
+    let alloc = rt.alloc();
+    let object = Value::Object(Map::new(alloc));
+    let wrapping = error_of_name(alloc, Node::Value(&object))?;
     assert_eq!(rt; wrapping.schema_path(), "/anyOf/0/propertyNames/minLength");
     assert_eq!(rt;
         wrapping.message(alloc)?.as_str(),
@@ -215,8 +225,9 @@ fn errors_inside_errors(rt: HostRuntime) -> Result<(), Fail> {
     branch.push(wrapping)?;
     let mut context = Vec::new(alloc);
     context.push(branch)?;
+    let kind = ValidationErrorKind::AnyOf { context };
     let error = ValidationError::new(
-        ValidationErrorKind::AnyOf { context },
+        kind,
         Node::Value(&object),
         String::from_str(alloc, "/a")?,
         "/anyOf",
@@ -228,7 +239,7 @@ fn errors_inside_errors(rt: HostRuntime) -> Result<(), Fail> {
     );
     assert_eq!(rt;
         error.message(alloc)?.as_str(),
-        "{\"f\":1} is not valid under any of the schemas listed in the 'anyOf' keyword"
+        "{} is not valid under any of the schemas listed in the 'anyOf' keyword"
     );
     Ok(())
 }
@@ -264,39 +275,46 @@ fn evaluation<'a>(alloc: Global, messages: [&str; 4]) -> Result<Evaluation<'a>, 
 #[test]
 fn entries_stand_parent_first(rt: HostRuntime) -> Result<(), Fail> {
     let alloc = rt.alloc();
-    let all = ["/allOf", "/allOf/0", "/allOf/0/x", "/allOf/1"];
     for (messages, valid, erring, annotating) in [
-        (["", "", "", ""], true, [].as_slice(), all.as_slice()),
-        (["m", "m", "m", "m"], false, all.as_slice(), [].as_slice()),
         (
-            ["", "", "m", ""],
-            false,
-            ["/allOf/0/x"].as_slice(),
-            ["/allOf/1"].as_slice(),
+            ["", "", "", ""],
+            true,
+            "",
+            "/allOf /allOf/0 /allOf/0/x /allOf/1 ",
         ),
+        (
+            ["m", "m", "m", "m"],
+            false,
+            "/allOf /allOf/0 /allOf/0/x /allOf/1 ",
+            "",
+        ),
+        (["", "", "m", ""], false, "/allOf/0/x ", "/allOf/1 "),
         (
             ["", "m", "", ""],
             false,
-            ["/allOf/0"].as_slice(),
-            ["/allOf/0/x", "/allOf/1"].as_slice(),
+            "/allOf/0 ",
+            "/allOf/0/x /allOf/1 ",
         ),
     ] {
         let evaluation = evaluation(alloc, messages)?;
         assert_eq!(rt; evaluation.flag().valid, valid);
-        let errors = evaluation.iter_errors(alloc)?;
-        assert_eq!(rt; errors.len(), erring.len());
-        for (entry, place) in errors.iter().zip(erring) {
-            assert_eq!(rt; entry.schema_location, *place);
+        let mut places = String::new(alloc);
+        for entry in &evaluation.iter_errors(alloc)? {
+            places.push_str(entry.schema_location)?;
+            places.push_str(" ")?;
             assert_eq!(rt; entry.instance_location, "/i");
             assert_eq!(rt; entry.error.keyword(), "required");
             assert_eq!(rt; entry.error.message(), "m");
         }
-        let annotations = evaluation.iter_annotations(alloc)?;
-        assert_eq!(rt; annotations.len(), annotating.len());
-        for (entry, place) in annotations.iter().zip(annotating) {
-            assert_eq!(rt; entry.schema_location, *place);
+        assert_eq!(rt; places.as_str(), erring);
+        places.clear();
+        for entry in &evaluation.iter_annotations(alloc)? {
+            places.push_str(entry.schema_location)?;
+            places.push_str(" ")?;
+            assert_eq!(rt; entry.instance_location, "/i");
             assert_eq!(rt; entry.annotations.len(), 1);
         }
+        assert_eq!(rt; places.as_str(), annotating);
     }
     Ok(())
 }
@@ -319,5 +337,50 @@ fn nodes_show_their_parts(rt: HostRuntime) -> Result<(), Fail> {
     assert_eq!(rt; invalid.iter_errors(alloc)?.len(), 0);
     let empty = EvaluationResult::valid_empty(alloc);
     assert!(rt; EvaluationNode::new("", String::new(alloc), empty).valid());
+    Ok(())
+}
+
+// With one growth refused, whichever it is, each value is as before, and the same call then gives its full answer.
+#[test]
+fn a_refused_growth_changes_nothing(rt: HostRuntime) -> Result<(), Fail> {
+    let alloc = rt.alloc();
+    let mut path = InstancePath::new(alloc);
+    let long =
+        "a segment that is longer than any text that a first growth makes room for, ~ and / with it";
+    for segment in ["a/b", long] {
+        match path.push(segment) {
+            Ok(mark) => path.pop(mark),
+            Err(_) => {
+                assert_eq!(rt; path.as_str(), "");
+                let mark = path.push(segment)?;
+                path.pop(mark);
+            }
+        }
+    }
+    let place = Location::new(alloc);
+    let joined = match place.join(alloc, "m~n") {
+        Ok(joined) => joined,
+        Err(_) => place.join(alloc, "m~n")?,
+    };
+    assert_eq!(rt; joined.as_str(), "/m~0n");
+    let kind = ValidationErrorKind::LeafRefused { keyword: "minimum" };
+    let error = ValidationError::new(kind, Node::Name("x"), String::new(alloc), "");
+    let text = match error.message(alloc) {
+        Ok(text) => text,
+        Err(_) => error.message(alloc)?,
+    };
+    assert_eq!(rt; text.as_str(), "\"x\" is not a value for \"minimum\"");
+    let mut outcome = EvaluationResult::valid_empty(alloc);
+    let description = ErrorDescription::new("required", String::new(alloc));
+    if outcome.mark_errored(description).is_err() {
+        let again = ErrorDescription::new("required", String::new(alloc));
+        outcome.mark_errored(again)?;
+    }
+    let evaluation = Evaluation::new(EvaluationNode::new("", String::new(alloc), outcome));
+    let errors = match evaluation.iter_errors(alloc) {
+        Ok(errors) => errors,
+        Err(_) => evaluation.iter_errors(alloc)?,
+    };
+    assert_eq!(rt; errors.len(), 1);
     Ok(())
 }
