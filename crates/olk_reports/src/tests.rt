@@ -377,10 +377,12 @@ fn a_refused_growth_changes_nothing(rt: HostRuntime) -> Result<(), Fail> {
         outcome.mark_errored(again)?;
     }
     let evaluation = Evaluation::new(EvaluationNode::new("", String::new(alloc), outcome));
-    let errors = match evaluation.iter_errors(alloc) {
-        Ok(errors) => errors,
-        Err(_) => evaluation.iter_errors(alloc)?,
-    };
-    assert_eq!(rt; errors.len(), 1);
+    let mut listed = 0;
+    for _ in 0..2 {
+        if let Ok(errors) = evaluation.iter_errors(alloc) {
+            listed = errors.len();
+        }
+    }
+    assert_eq!(rt; listed, 1);
     Ok(())
 }
