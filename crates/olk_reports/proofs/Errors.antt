@@ -1,5 +1,6 @@
 -- The equations of `kind_of` and `fault_of`.
-use Rattle.std.proofs.Common.{◌≡◌, ℕ, List, [], ◌∷◌, map, sym, ap, ◌∙◌, refl, Vec, Bor, Box, String, string_bytes}
+use Rattle.std.proofs.Common.{◌≡◌, ℕ, List, map, sym, ap, ◌∙◌, refl, Vec, Bor, Box, String, string_bytes}
+use Rattle.std.proofs.lemmas.Simd.{map-map}
 use Rattle.std.specs.declared.alloc.Global.{Global}
 use Rattle.serde_json.specs.Data.{Data}
 use Rattle.serde_json.specs.View.{view}
@@ -16,10 +17,6 @@ use Rattle.olk_reports.specs.declared.error.ValidationErrorKind as the
 use Rattle.olk_reports.specs.declared.error.ValidationErrorKind.TheVariants.{rolls-AdditionalProperties, rolls-AnyOf, rolls-OneOfNotValid, rolls-OneOfMultipleValid, rolls-Not, rolls-Required, rolls-FalseSchema, rolls-PropertyNames, rolls-Leaf, rolls-SingleType, rolls-MultipleTypes, rolls-UniqueItems, rolls-Regex, rolls-Unsupported, rolls-LeafRefused}
 use Rattle.olk_reports.specs.declared.error.ValidationErrorKind.TheOpen.{ValidationErrorKind-F}
 use Rattle.olk_reports.specs.declared.error.ValidationErrorKind.TheFolds.{fold-roll-ValidationErrorKind}
-
-map-map : {A B C : Type 0} (g : B → C) (f : A → B) (xs : List A) → map g (map f xs) ≡ map (λ x. g (f x)) xs
-map-map g f [] = refl
-map-map g f (x ∷ xs) = ap (λ ys. g (f x) ∷ ys) (map-map g f xs)
 
 abbrev pub Contexts : Type 0
 Contexts = Vec (Vec ValidationError Global) Global

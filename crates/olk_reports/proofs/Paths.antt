@@ -4,7 +4,7 @@ use Rattle.std.specs.List.{flat_map}
 use Rattle.std.specs.Str.{IsUtf8, chars}
 use lib.Utf8.{encodes, encode}
 use Rattle.std.proofs.Math.Seq.{take-append_seam, get_or-append_seam}
-use Rattle.std.proofs.lemmas.List.{get_or-append-add}
+use Rattle.std.proofs.lemmas.List.{append-nil, get_or-append-add}
 use Rattle.std.proofs.lemmas.Str.{encode_ascii, encodes-chars, inside_one}
 use Rattle.std.proofs.lemmas.Bool.Decides.{nat_tests}
 use Rattle.std.proofs.lemmas.Grind.{flat_map-append}
@@ -18,10 +18,6 @@ escape_high (x ∷ xs) h =
     let more = escape_high xs (λ k l. h (suc k) (omega arith)) in
     grind (arith, nat_tests)
 
-append_none : (xs : List ℕ) → xs ≡ xs ++ []
-append_none [] = refl
-append_none (x ∷ xs) = ap (λ l. x ∷ l) (append_none xs)
-
 split : (c : ℕ) → (c < 128) ⊎ (128 ≤ c)
 split c = grind arith
 
@@ -30,7 +26,7 @@ escape_low c l = let e = encode_ascii c l in grind (arith, nat_tests)
 
 clash : (c k : ℕ) → 128 ≤ c → k < length (encode c) → get_or (encode c) k 0 < 128 → ⊥
 clash c k h l low =
-    let same = inside_one c [] (encode c) k (append_none (encode c)) l low in omega arith
+    let same = inside_one c [] (encode c) k (sym (append-nil (encode c))) l low in omega arith
 
 high_bytes : (c : ℕ) → 128 ≤ c → (k : ℕ) → k < length (encode c) → 128 ≤ get_or (encode c) k 0
 high_bytes c h k l =

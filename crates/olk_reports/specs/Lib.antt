@@ -1,3 +1,5 @@
 pub mod Paths
 pub mod Errors
 pub mod Messages
+pub mod Evaluations
+pub mod Entries

@@ -140,11 +140,12 @@ impl<'a> ValidationError<'a> {
     ) -> Self
         ensures { fault_of result ≡ fault (kind_of kind.entry) (tree_of instance.entry) (string_bytes instance_path) schema_path.now }
     {
+        let schema_path = SchemaPath::Borrowed(schema_path);
         ValidationError {
             kind,
             instance,
             instance_path,
-            schema_path: SchemaPath::Borrowed(schema_path),
+            schema_path,
         }
     }
 
@@ -157,11 +158,12 @@ impl<'a> ValidationError<'a> {
     ) -> Self
         ensures { fault_of result ≡ fault (kind_of kind.entry) (tree_of instance.entry) (string_bytes instance_path) schema_path }
     {
+        let schema_path = SchemaPath::Owned(schema_path);
         ValidationError {
             kind,
             instance,
             instance_path,
-            schema_path: SchemaPath::Owned(schema_path),
+            schema_path,
         }
     }
 

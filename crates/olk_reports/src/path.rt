@@ -67,13 +67,13 @@ impl InstancePath {
 /// Where a subschema stands in a schema: the text of a JSON pointer (RFC 6901, section 3).
 #[derive(Drop)]
 pub struct Location {
-    text: String,
+    pointer: String,
 }
 
 impl Model for Location {
     ghost Value = { List ℕ };
 
-    ghost view = { λ l. string_bytes l.text };
+    ghost view = { λ l. string_bytes l.pointer };
 }
 
 impl Location {
@@ -82,7 +82,7 @@ impl Location {
         ensures { result ≡ [] }
     {
         Location {
-            text: String::new(alloc),
+            pointer: String::new(alloc),
         }
     }
 
@@ -92,9 +92,9 @@ impl Location {
     pub fn join(&self, alloc: Global, segment: &str) -> Result<Location, AllocError>
         ensures { IfOk result (λ l. l ≡ one_below self.now segment.now) }
     {
-        let mut text = String::from_str(alloc, self.text.as_str())?;
-        push_segment(&mut text, segment)?;
-        Ok(Location { text })
+        let mut pointer = String::from_str(alloc, self.pointer.as_str())?;
+        push_segment(&mut pointer, segment)?;
+        Ok(Location { pointer })
     }
 
     /// The same place, as a text of its own.
@@ -104,7 +104,7 @@ impl Location {
         ensures { IfOk result (λ l. l ≡ self.now) }
     {
         Ok(Location {
-            text: String::from_str(alloc, self.text.as_str())?,
+            pointer: String::from_str(alloc, self.pointer.as_str())?,
         })
     }
 
@@ -118,7 +118,7 @@ impl Location {
         ensures back { IfOk result (λ m. take m.len self.new ≡ self.old) }
         ensures refused { OnErr result (self.new ≡ self.old) }
     {
-        descend(&mut self.text, segment)
+        descend(&mut self.pointer, segment)
     }
 
     /// Cuts the text at the mark, where the last `/` of the text has to stand: after a push it is the place before it.
@@ -126,14 +126,14 @@ impl Location {
         requires { HasLastSlash self.old mark.len }
         ensures { self.new ≡ take mark.len self.old }
     {
-        self.text.truncate(mark.len);
+        self.pointer.truncate(mark.len);
     }
 
     /// The text of the pointer.
     pub fn as_str(&self) -> &str
         ensures { result.now ≡ self.now }
     {
-        self.text.as_str()
+        self.pointer.as_str()
     }
 }
 

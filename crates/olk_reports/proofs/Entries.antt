@@ -1,0 +1,62 @@
+-- What a tree shows, node by node.
+use Rattle.std.proofs.Common.{◌≡◌, List, ◌++◌, map, refl, sym, ap, ◌∙◌, ◌≤◌, length, take, append_assoc, ℕ}
+use Rattle.std.specs.List.{flat_map}
+use Rattle.std.proofs.lemmas.List.{append-nil, take_all}
+use Rattle.std.proofs.lemmas.List.Folds.{flat_map-map}
+use Rattle.std.proofs.lemmas.Simd.{map-map}
+use Rattle.olk_spec.specs.Names.{Path}
+use Rattle.olk_reports.specs.declared.evaluation.ErrorDescription.{ErrorDescription}
+use Rattle.olk_spec.specs.Tree.{Described, Tree, node, leaf_node, Trees, no_tree, and_tree, errors, errors_of, annotations, annotations_of}
+use Rattle.olk_reports.specs.Evaluations.{tree_of, trees_in, tree_children, tree_errors, tree_schema_path, tree_instance_path, described_of}
+use Rattle.olk_reports.specs.Entries.{own_errors, own_annotations}
+use Rattle.olk_reports.specs.declared.evaluation.EvaluationNode.{EvaluationNode, out-EvaluationNode}
+use Rattle.olk_reports.specs.declared.evaluation.EvaluationResult.{out-EvaluationResult}
+use Rattle.olk_reports.proofs.Evaluations.{children_of}
+
+errors_of-each : (ts : Trees) → errors_of ts ≡ flat_map errors (trees_in ts)
+errors_of-each no_tree = refl
+errors_of-each (and_tree t ts) = ap (λ es. errors t ++ es) (errors_of-each ts)
+
+annotations_of-each : (ts : Trees) → annotations_of ts ≡ flat_map annotations (trees_in ts)
+annotations_of-each no_tree = refl
+annotations_of-each (and_tree t ts) = ap (λ es. annotations t ++ es) (annotations_of-each ts)
+
+errors_parts : (t : Tree) → errors t ≡ own_errors t ++ flat_map errors (tree_children t)
+errors_parts (node P Q b a es ts) = ap (λ l. own_errors (node P Q b a es ts) ++ l) (errors_of-each ts)
+errors_parts (leaf_node P Q es) = sym (append-nil _)
+
+annotations_parts : (t : Tree) → annotations t ≡ own_annotations t ++ flat_map annotations (tree_children t)
+annotations_parts (node P Q b a es ts) = ap (λ l. own_annotations (node P Q b a es ts) ++ l) (annotations_of-each ts)
+annotations_parts (leaf_node P Q es) = refl
+
+-- its own errors, and then those of each node below
+pub errors_below : (n : EvaluationNode) → errors (tree_of n) ≡ own_errors (tree_of n) ++ flat_map (λ m. errors (tree_of m)) (out-EvaluationResult (out-EvaluationNode n).result).children.items
+errors_below n =
+    errors_parts (tree_of n)
+    ∙ ap (λ ts. own_errors (tree_of n) ++ flat_map errors ts) (children_of n)
+    ∙ ap (λ l. own_errors (tree_of n) ++ l) (flat_map-map errors tree_of _)
+
+pub annotations_below : (n : EvaluationNode) → annotations (tree_of n) ≡ own_annotations (tree_of n) ++ flat_map (λ m. annotations (tree_of m)) (out-EvaluationResult (out-EvaluationNode n).result).children.items
+annotations_below n =
+    annotations_parts (tree_of n)
+    ∙ ap (λ ts. own_annotations (tree_of n) ++ flat_map annotations ts) (children_of n)
+    ∙ ap (λ l. own_annotations (tree_of n) ++ l) (flat_map-map annotations tree_of _)
+
+-- a walk over the nodes below that has come to its end
+pub below_end : {X Y : Type 0} (f : X → List Y) (items below : List X) (i : ℕ) (before between after own all : List Y) →
+    length items ≤ i → items ≡ below → between ≡ before ++ own → after ≡ between ++ flat_map f (take i items) → all ≡ own ++ flat_map f below → after ≡ before ++ all
+below_end f items below i before between after own all past same start walked parts =
+    walked
+    ∙ ap (λ xs. between ++ flat_map f xs) (take_all i items past ∙ same)
+    ∙ ap (λ l. l ++ flat_map f below) start
+    ∙ append_assoc before own (flat_map f below)
+    ∙ ap (λ l. before ++ l) (sym parts)
+
+-- a walk over a node's own errors that has come to its end
+pub own_end : (t : Tree) (items : List ErrorDescription) (i : ℕ) (before after : List (Path × Path × Described)) →
+    length items ≤ i → after ≡ before ++ map (λ e. (tree_schema_path t, tree_instance_path t, described_of e)) (take i items) → map described_of items ≡ tree_errors t → after ≡ before ++ own_errors t
+own_end t items i before after past walked same =
+    walked
+    ∙ ap (λ xs. before ++ map (λ e. (tree_schema_path t, tree_instance_path t, described_of e)) xs) (take_all i items past)
+    ∙ ap (λ l. before ++ l) (sym (map-map (λ e. (tree_schema_path t, tree_instance_path t, e)) described_of items))
+    ∙ ap (λ es. before ++ map (λ e. (tree_schema_path t, tree_instance_path t, e)) es) same

@@ -1,0 +1,64 @@
+-- The tree that an evaluation node stands for.
+use Rattle.std.specs.Prelude.{Bool, false, Option, Some, None, List, [], ◌∷◌, ◌++◌, map, option_map, string_bytes}
+use Rattle.olk_spec.specs.Names.{Name, Path}
+use Rattle.olk_spec.specs.Tree.{Tree, node, leaf_node, Trees, no_tree, and_tree, Described, trees_from, result_node}
+use Rattle.olk_reports.specs.declared.evaluation.ErrorDescription.{ErrorDescription}
+use Rattle.olk_reports.specs.declared.evaluation.EvaluationNode.{EvaluationNode}
+use Rattle.olk_reports.specs.declared.evaluation.EvaluationResult.{EvaluationResult}
+use Rattle.olk_reports.specs.declared.evaluation.EvaluationNode.TheOpen.{EvaluationResult-F, EvaluationNode-F}
+use Rattle.olk_reports.specs.declared.evaluation.EvaluationNode.TheFolds.{fold-EvaluationResult, fold-EvaluationNode}
+
+-- what a result has before it stands at a place: validity, annotation, own errors, children
+pub data Shown : Type 0 where
+  shown : Bool → Option (List Name) → List Described → List Tree → Shown
+
+abbrev pub annotated : List Name → Shown → Shown
+annotated ns (shown b a es ts) = shown b (Some ns) es ts
+
+abbrev pub errored : Described → Shown → Shown
+errored e (shown b a es ts) = shown false a (es ++ e ∷ []) ts
+
+-- an invalid one shows no annotation
+abbrev pub node_at : Path → Path → Shown → Tree
+node_at P Q (shown b a es ts) = result_node P Q b a es (trees_from ts)
+
+abbrev pub described_of : ErrorDescription → Described
+described_of e = (e.keyword.now, string_bytes e.message)
+
+-- one level, each node below already seen as its tree
+abbrev pub result_step : EvaluationResult-F Tree Shown → Shown
+result_step r = shown r.valid (option_map (λ ns. map (λ n. n.now) ns.items) r.annotation) (map described_of r.errors.items) r.children.items
+
+abbrev pub node_step : EvaluationNode-F Tree Shown → Tree
+node_step n = node_at n.schema_path.now (string_bytes n.instance_path) n.result
+
+abbrev pub shown_of : EvaluationResult → Shown
+shown_of = fold-EvaluationResult Tree Shown node_step result_step
+
+abbrev pub tree_of : EvaluationNode → Tree
+tree_of = fold-EvaluationNode Tree Shown node_step result_step
+
+-- the parts of a tree
+abbrev pub tree_schema_path : Tree → Path
+tree_schema_path (node P Q b a es ts) = P
+tree_schema_path (leaf_node P Q es) = P
+
+abbrev pub tree_instance_path : Tree → Path
+tree_instance_path (node P Q b a es ts) = Q
+tree_instance_path (leaf_node P Q es) = Q
+
+abbrev pub tree_annotation : Tree → Option (List Name)
+tree_annotation (node P Q b a es ts) = a
+tree_annotation (leaf_node P Q es) = None
+
+abbrev pub tree_errors : Tree → List Described
+tree_errors (node P Q b a es ts) = es
+tree_errors (leaf_node P Q es) = es
+
+abbrev pub trees_in : Trees → List Tree
+trees_in no_tree = []
+trees_in (and_tree t ts) = t ∷ trees_in ts
+
+abbrev pub tree_children : Tree → List Tree
+tree_children (node P Q b a es ts) = trees_in ts
+tree_children (leaf_node P Q es) = []

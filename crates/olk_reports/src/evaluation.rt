@@ -1,0 +1,195 @@
+ghost use Rattle.std.specs.Prelude.{◌≡◌, ◌++◌, ◌∷◌, [], ℕ, List, IfOk, OnOk, OnErr, Some, None, true, false, string_bytes, map, option_map};
+ghost use Rattle.olk_spec.specs.Tree.{trees_from, errors, annotations, is_valid, result_node};
+ghost use Rattle.std.specs.List.{list_all};
+ghost use Rattle.olk_reports.specs.Evaluations.{tree_of};
+
+use std::alloc::{AllocError, Global};
+
+/// An error as an evaluation shows it: the keyword and the message.
+#[derive(Drop)]
+pub struct ErrorDescription<'a> {
+    keyword: &'a str,
+    message: String,
+}
+
+impl<'a> ErrorDescription<'a> {
+    ghost use Rattle.olk_reports.specs.Evaluations.{described_of};
+
+    /// The error of this keyword with this message.
+    pub fn new(keyword: &'a str, message: String) -> Self
+        ensures { described_of result ≡ (keyword.now, string_bytes message) }
+    {
+        ErrorDescription { keyword, message }
+    }
+
+    /// The name of the keyword.
+    pub fn keyword(&self) -> &str
+        ensures { result.now ≡ (described_of self.now).0 }
+    {
+        self.keyword
+    }
+
+    /// The error in words.
+    pub fn message(&self) -> &str
+        ensures { result.now ≡ (described_of self.now).1 }
+    {
+        self.message.as_str()
+    }
+}
+
+/// What a validator shows of a value: whether it is valid, an annotation, errors of its own and the nodes below.
+#[derive(Drop)]
+#[cycle(evaluation)]
+pub struct EvaluationResult<'a> {
+    valid: bool,
+    annotation: Option<Vec<&'a str>>,
+    errors: Vec<ErrorDescription<'a>>,
+    pub(crate) children: Vec<EvaluationNode<'a>>,
+}
+
+/// A result with its place in the schema and in the instance.
+#[derive(Drop)]
+#[cycle(evaluation)]
+pub struct EvaluationNode<'a> {
+    schema_path: &'a str,
+    instance_path: String,
+    pub(crate) result: EvaluationResult<'a>,
+}
+
+impl<'a> EvaluationResult<'a> {
+    ghost use Rattle.olk_reports.specs.Evaluations.{Shown, shown, shown_of, tree_of, described_of, annotated, errored};
+
+    /// Valid, with nothing to show.
+    pub fn valid_empty(alloc: Global) -> Self
+        ensures { shown_of result ≡ shown true None [] [] }
+    {
+        EvaluationResult {
+            valid: true,
+            annotation: None,
+            errors: Vec::new(alloc),
+            children: Vec::new(alloc),
+        }
+    }
+
+    /// Valid exactly if all children are.
+    pub fn from_children(alloc: Global, children: Vec<EvaluationNode<'a>>) -> Self
+        ensures { shown_of result ≡ shown (list_all is_valid (map tree_of children.entry.items)) None [] (map tree_of children.entry.items) }
+    {
+        let valid = all_valid(children.as_slice());
+        EvaluationResult {
+            valid,
+            annotation: None,
+            errors: Vec::new(alloc),
+            children,
+        }
+    }
+
+    /// Invalid whatever the children are, with no error of its own.
+    pub fn invalid_with(alloc: Global, children: Vec<EvaluationNode<'a>>) -> Self
+        ensures { shown_of result ≡ shown false None [] (map tree_of children.entry.items) }
+    {
+        EvaluationResult {
+            valid: false,
+            annotation: None,
+            errors: Vec::new(alloc),
+            children,
+        }
+    }
+
+    /// What `from_children` gives of one.
+    ///
+    /// Without memory there is none.
+    pub fn from_node(alloc: Global, node: EvaluationNode<'a>) -> Result<Self, AllocError>
+        ensures { IfOk result (λ r. shown_of r ≡ shown (is_valid (tree_of node.entry)) None [] (tree_of node.entry ∷ [])) }
+    {
+        let mut children = Vec::new(alloc);
+        children.push(node)?;
+        Ok(EvaluationResult::from_children(alloc, children))
+    }
+
+    /// Takes these names as the annotation, which only a valid node shows (JSON Schema 2020-12 Core, 7.7).
+    pub fn annotate(&mut self, names: Vec<&'a str>)
+        ensures { shown_of self.new ≡ annotated (map (λ n. n.now) names.entry.items) (shown_of self.old) }
+    {
+        self.annotation = Some(names);
+    }
+
+    /// Adds an error of its own, which makes the result invalid.
+    ///
+    /// Without memory the result is left as it was.
+    pub fn mark_errored(&mut self, error: ErrorDescription<'a>) -> Result<(), AllocError>
+        ensures ok { OnOk result (shown_of self.new ≡ errored (described_of error.entry) (shown_of self.old)) }
+        ensures refused { OnErr result (shown_of self.new ≡ shown_of self.old) }
+    {
+        self.errors.push(error)?;
+        self.valid = false;
+        Ok(())
+    }
+}
+
+impl<'a> EvaluationNode<'a> {
+    ghost use Rattle.olk_reports.specs.Evaluations.{shown_of, tree_of, described_of, node_at, tree_schema_path, tree_instance_path, tree_annotation, tree_errors, tree_children};
+
+    /// The result at these places.
+    pub fn new(schema_path: &'a str, instance_path: String, outcome: EvaluationResult<'a>) -> Self
+        ensures { tree_of result ≡ node_at schema_path.now (string_bytes instance_path) (shown_of outcome.entry) }
+    {
+        EvaluationNode {
+            schema_path,
+            instance_path,
+            result: outcome,
+        }
+    }
+
+    /// Whether the value is valid here.
+    pub fn valid(&self) -> bool
+        ensures { result ≡ is_valid (tree_of self.now) }
+    {
+        self.result.valid
+    }
+
+    /// The place in the schema, as a JSON pointer (RFC 6901).
+    pub fn schema_path(&self) -> &str
+        ensures { result.now ≡ tree_schema_path (tree_of self.now) }
+    {
+        self.schema_path
+    }
+
+    /// The place in the instance, as a JSON pointer (RFC 6901).
+    pub fn instance_path(&self) -> &str
+        ensures { result.now ≡ tree_instance_path (tree_of self.now) }
+    {
+        self.instance_path.as_str()
+    }
+
+    /// The names that it annotates; none where it is invalid.
+    pub fn annotation(&self) -> Option<&[&'a str]>
+        ensures { option_map (λ ns. map (λ n. n.now) ns.now) result ≡ tree_annotation (tree_of self.now) }
+    {
+        if self.valid() {
+            self.result.annotation.as_deref()
+        } else {
+            None
+        }
+    }
+
+    /// Its own errors, without those of the nodes below.
+    pub fn errors(&self) -> &[ErrorDescription<'a>]
+        ensures { map described_of result.now ≡ tree_errors (tree_of self.now) }
+    {
+        self.result.errors.as_slice()
+    }
+
+    /// The nodes below, in order.
+    pub fn children(&self) -> &[EvaluationNode<'a>]
+        ensures { map tree_of result.now ≡ tree_children (tree_of self.now) }
+    {
+        self.result.children.as_slice()
+    }
+}
+
+fn all_valid(children: &[EvaluationNode<'_>]) -> bool
+    ensures { result ≡ list_all (λ n. is_valid (tree_of n)) children.now }
+{
+    children.iter().all(|child| child.valid())
+}

@@ -1,0 +1,388 @@
+use crate::{
+    ErrorDescription, Evaluation, EvaluationNode, EvaluationResult, InstancePath, Location,
+    ValidationError, ValidationErrorKind,
+};
+use olk_base::{JsonType, Node};
+use serde_json::{Map, Value};
+use std::alloc::{AllocError, Global};
+use std::test::Fail;
+
+// The pointers of RFC 6901, section 5.
+const SEGMENTS: [(&str, &str); 9] = [
+    ("", "/"),
+    ("a/b", "/a~1b"),
+    ("c%d", "/c%d"),
+    ("e^f", "/e^f"),
+    ("g|h", "/g|h"),
+    ("k\"l", "/k\"l"),
+    (" ", "/ "),
+    ("m~n", "/m~0n"),
+    ("~1/é", "/~01~1é"),
+];
+
+#[test]
+fn paths_are_pointers(rt: HostRuntime) -> Result<(), Fail> {
+    let alloc = rt.alloc();
+    let mut path = InstancePath::new(alloc);
+    let mut location = Location::new(alloc);
+    for (segment, pointer) in SEGMENTS {
+        let mark = path.push(segment)?;
+        assert_eq!(rt; path.as_str(), pointer);
+        path.pop(mark);
+        assert_eq!(rt; path.as_str(), "");
+        let joined = location.join(alloc, segment)?;
+        assert_eq!(rt; joined.try_clone(alloc)?.as_str(), pointer);
+        let mark = location.push(segment)?;
+        assert_eq!(rt; location.as_str(), pointer);
+        location.pop(mark);
+        assert_eq!(rt; location.as_str(), "");
+    }
+    let _outer = path.push("a/b")?;
+    let _inner = path.push("0")?;
+    assert_eq!(rt; path.as_str(), "/a~1b/0");
+    Ok(())
+}
+
+fn text_of<'a>(
+    alloc: Global,
+    kind: ValidationErrorKind<'a>,
+    instance: Node<'a>,
+) -> Result<String, AllocError> {
+    ValidationError::new(kind, instance, String::new(alloc), "").message(alloc)
+}
+
+fn unexpected<'a>(alloc: Global, names: &[&'a str]) -> Result<ValidationErrorKind<'a>, AllocError> {
+    let mut unexpected = Vec::new(alloc);
+    for name in names {
+        unexpected.push(*name)?;
+    }
+    Ok(ValidationErrorKind::AdditionalProperties { unexpected })
+}
+
+#[test]
+fn texts_of_unexpected_names(rt: HostRuntime) -> Result<(), Fail> {
+    let alloc = rt.alloc();
+    let one = unexpected(alloc, &["z"])?;
+    let two = unexpected(alloc, &["faz", "h\"z"])?;
+    let three = unexpected(alloc, &["x", "y", "z"])?;
+    for (kind, text) in [
+        (
+            one,
+            "Additional properties are not allowed ('z' was unexpected)",
+        ),
+        (
+            two,
+            "Additional properties are not allowed ('faz', 'h\"z' were unexpected)",
+        ),
+        (
+            three,
+            "Additional properties are not allowed ('x', 'y', 'z' were unexpected)",
+        ),
+    ] {
+        assert_eq!(rt; text_of(alloc, kind, Node::Name(""))?.as_str(), text);
+    }
+    Ok(())
+}
+
+#[test]
+fn texts_of_validating(rt: HostRuntime) -> Result<(), Fail> {
+    let alloc = rt.alloc();
+    let schema = Value::Bool(true);
+    let limit = String::from_str(alloc, "4 is less than the minimum of 5")?;
+    for (kind, text) in [
+        (
+            ValidationErrorKind::AnyOf {
+                context: Vec::new(alloc),
+            },
+            "\"k\\\"l\" is not valid under any of the schemas listed in the 'anyOf' keyword",
+        ),
+        (
+            ValidationErrorKind::OneOfNotValid {
+                context: Vec::new(alloc),
+            },
+            "\"k\\\"l\" is not valid under any of the schemas listed in the 'oneOf' keyword",
+        ),
+        (
+            ValidationErrorKind::OneOfMultipleValid {
+                context: Vec::new(alloc),
+            },
+            "\"k\\\"l\" is valid under more than one of the schemas listed in the 'oneOf' keyword",
+        ),
+        (
+            ValidationErrorKind::Not { schema: &schema },
+            "true is not allowed for \"k\\\"l\"",
+        ),
+        (
+            ValidationErrorKind::Required { property: "a\"b" },
+            "\"a\\\"b\" is a required property",
+        ),
+        (
+            ValidationErrorKind::FalseSchema,
+            "False schema does not allow \"k\\\"l\"",
+        ),
+        (
+            ValidationErrorKind::Leaf {
+                keyword: "minimum",
+                text: limit,
+            },
+            "4 is less than the minimum of 5",
+        ),
+    ] {
+        assert_eq!(rt; text_of(alloc, kind, Node::Name("k\"l"))?.as_str(), text);
+    }
+    Ok(())
+}
+
+#[test]
+fn texts_of_building(rt: HostRuntime) -> Result<(), Fail> {
+    let alloc = rt.alloc();
+    for (kind, text) in [
+        (
+            ValidationErrorKind::SingleType {
+                expected: JsonType::Object,
+            },
+            "\"k\" is not of type \"object\"",
+        ),
+        (
+            ValidationErrorKind::SingleType {
+                expected: JsonType::Array,
+            },
+            "\"k\" is not of type \"array\"",
+        ),
+        (
+            ValidationErrorKind::SingleType {
+                expected: JsonType::String,
+            },
+            "\"k\" is not of type \"string\"",
+        ),
+        (
+            ValidationErrorKind::MultipleTypes,
+            "\"k\" is not of types \"boolean\", \"object\"",
+        ),
+        (
+            ValidationErrorKind::UniqueItems,
+            "\"k\" has non-unique elements",
+        ),
+        (
+            ValidationErrorKind::Unsupported { keyword: "$ref" },
+            "\"$ref\" is not supported here",
+        ),
+        (
+            ValidationErrorKind::LeafRefused { keyword: "minimum" },
+            "\"k\" is not a value for \"minimum\"",
+        ),
+    ] {
+        assert_eq!(rt; text_of(alloc, kind, Node::Name("k"))?.as_str(), text);
+    }
+    let mut place = Location::new(alloc);
+    let _properties = place.push("patternProperties")?;
+    let at_pattern = place.join(alloc, "a/b~(")?;
+    let error = ValidationError::refusing(
+        ValidationErrorKind::Regex,
+        Node::Name("a/b~("),
+        String::new(alloc),
+        at_pattern,
+    );
+    assert_eq!(rt;
+        error.message(alloc)?.as_str(),
+        "\"a/b~(\" is not a \"regex\""
+    );
+    assert_eq!(rt; error.schema_path(), "/patternProperties/a~1b~0(");
+    assert_eq!(rt; error.instance_path(), "");
+    Ok(())
+}
+
+// The error of a name, told of the object.
+fn error_of_name<'a>(alloc: Global, object: Node<'a>) -> Result<ValidationError<'a>, AllocError> {
+    let text = String::from_str(alloc, "\"f\" is shorter than 2 characters")?;
+    let of_name = ValidationError::new(
+        ValidationErrorKind::Leaf {
+            keyword: "minLength",
+            text,
+        },
+        Node::Name("f"),
+        String::from_str(alloc, "/a")?,
+        "/anyOf/0/propertyNames/minLength",
+    );
+    Ok(ValidationError::wrapping(
+        Box::new(alloc, of_name)?,
+        object,
+        String::from_str(alloc, "/a")?,
+    ))
+}
+
+#[test]
+fn errors_inside_errors(rt: HostRuntime) -> Result<(), Fail> {
+    let alloc = rt.alloc();
+    let object = Value::Object(Map::new(alloc));
+    let wrapping = error_of_name(alloc, Node::Value(&object))?;
+    assert_eq!(rt; wrapping.schema_path(), "/anyOf/0/propertyNames/minLength");
+    assert_eq!(rt;
+        wrapping.message(alloc)?.as_str(),
+        "\"f\" is shorter than 2 characters"
+    );
+    let mut branch = Vec::new(alloc);
+    branch.push(wrapping)?;
+    let mut context = Vec::new(alloc);
+    context.push(branch)?;
+    let kind = ValidationErrorKind::AnyOf { context };
+    let error = ValidationError::new(
+        kind,
+        Node::Value(&object),
+        String::from_str(alloc, "/a")?,
+        "/anyOf",
+    );
+    assert_eq!(rt; error.instance_path(), "/a");
+    assert!(rt; error.instance().as_object().is_some());
+    assert!(rt;
+        matches!(error.kind(), ValidationErrorKind::AnyOf { context } if context.len() == 1)
+    );
+    assert_eq!(rt;
+        error.message(alloc)?.as_str(),
+        "{} is not valid under any of the schemas listed in the 'anyOf' keyword"
+    );
+    Ok(())
+}
+
+// A node that annotates its place, with an error where there is a message.
+fn node<'a>(
+    alloc: Global,
+    place: &'a str,
+    message: &str,
+    children: Vec<EvaluationNode<'a>>,
+) -> Result<EvaluationNode<'a>, AllocError> {
+    let mut outcome = EvaluationResult::from_children(alloc, children);
+    let mut names = Vec::new(alloc);
+    names.push(place)?;
+    outcome.annotate(names);
+    if !message.is_empty() {
+        outcome.mark_errored(ErrorDescription::new("required", String::from_str(alloc, message)?))?;
+    }
+    Ok(EvaluationNode::new(place, String::from_str(alloc, "/i")?, outcome))
+}
+
+// Three levels, with these messages at the root, its first child, that one's child, and its second child.
+fn evaluation<'a>(alloc: Global, messages: [&str; 4]) -> Result<Evaluation<'a>, AllocError> {
+    let inner = node(alloc, "/allOf/0/x", messages[2], Vec::new(alloc))?;
+    let mut below = Vec::new(alloc);
+    below.push(inner)?;
+    let mut children = Vec::new(alloc);
+    children.push(node(alloc, "/allOf/0", messages[1], below)?)?;
+    children.push(node(alloc, "/allOf/1", messages[3], Vec::new(alloc))?)?;
+    Ok(Evaluation::new(node(alloc, "/allOf", messages[0], children)?))
+}
+
+#[test]
+fn entries_stand_parent_first(rt: HostRuntime) -> Result<(), Fail> {
+    let alloc = rt.alloc();
+    for (messages, valid, erring, annotating) in [
+        (
+            ["", "", "", ""],
+            true,
+            "",
+            "/allOf /allOf/0 /allOf/0/x /allOf/1 ",
+        ),
+        (
+            ["m", "m", "m", "m"],
+            false,
+            "/allOf /allOf/0 /allOf/0/x /allOf/1 ",
+            "",
+        ),
+        (["", "", "m", ""], false, "/allOf/0/x ", "/allOf/1 "),
+        (
+            ["", "m", "", ""],
+            false,
+            "/allOf/0 ",
+            "/allOf/0/x /allOf/1 ",
+        ),
+    ] {
+        let evaluation = evaluation(alloc, messages)?;
+        assert_eq!(rt; evaluation.flag().valid, valid);
+        let mut places = String::new(alloc);
+        for entry in &evaluation.iter_errors(alloc)? {
+            places.push_str(entry.schema_location)?;
+            places.push_str(" ")?;
+            assert_eq!(rt; entry.instance_location, "/i");
+            assert_eq!(rt; entry.error.keyword(), "required");
+            assert_eq!(rt; entry.error.message(), "m");
+        }
+        assert_eq!(rt; places.as_str(), erring);
+        places.clear();
+        for entry in &evaluation.iter_annotations(alloc)? {
+            places.push_str(entry.schema_location)?;
+            places.push_str(" ")?;
+            assert_eq!(rt; entry.instance_location, "/i");
+            assert_eq!(rt; entry.annotations.len(), 1);
+        }
+        assert_eq!(rt; places.as_str(), annotating);
+    }
+    Ok(())
+}
+
+#[test]
+fn nodes_show_their_parts(rt: HostRuntime) -> Result<(), Fail> {
+    let alloc = rt.alloc();
+    let inner = node(alloc, "/oneOf/0", "", Vec::new(alloc))?;
+    let outcome = EvaluationResult::from_node(alloc, inner)?;
+    let root = EvaluationNode::new("/oneOf", String::new(alloc), outcome);
+    assert!(rt; root.valid());
+    assert_eq!(rt; root.schema_path(), "/oneOf");
+    assert_eq!(rt; root.instance_path(), "");
+    assert!(rt; root.annotation().is_none());
+    assert_eq!(rt; root.errors().len(), 0);
+    assert_eq!(rt; root.children().len(), 1);
+    let none = EvaluationResult::invalid_with(alloc, Vec::new(alloc));
+    let invalid = Evaluation::new(EvaluationNode::new("/oneOf", String::new(alloc), none));
+    assert!(rt; !invalid.root().valid());
+    assert_eq!(rt; invalid.iter_errors(alloc)?.len(), 0);
+    let empty = EvaluationResult::valid_empty(alloc);
+    assert!(rt; EvaluationNode::new("", String::new(alloc), empty).valid());
+    Ok(())
+}
+
+// With one growth refused, whichever it is, each value is as before, and the same call then gives its full answer.
+#[test]
+fn a_refused_growth_changes_nothing(rt: HostRuntime) -> Result<(), Fail> {
+    let alloc = rt.alloc();
+    let mut path = InstancePath::new(alloc);
+    let long =
+        "a segment that is longer than any text that a first growth makes room for, ~ and / with it";
+    for segment in ["a/b", long] {
+        match path.push(segment) {
+            Ok(mark) => path.pop(mark),
+            Err(_) => {
+                assert_eq!(rt; path.as_str(), "");
+                let mark = path.push(segment)?;
+                path.pop(mark);
+            }
+        }
+    }
+    let place = Location::new(alloc);
+    let joined = match place.join(alloc, "m~n") {
+        Ok(joined) => joined,
+        Err(_) => place.join(alloc, "m~n")?,
+    };
+    assert_eq!(rt; joined.as_str(), "/m~0n");
+    let kind = ValidationErrorKind::LeafRefused { keyword: "minimum" };
+    let error = ValidationError::new(kind, Node::Name("x"), String::new(alloc), "");
+    let text = match error.message(alloc) {
+        Ok(text) => text,
+        Err(_) => error.message(alloc)?,
+    };
+    assert_eq!(rt; text.as_str(), "\"x\" is not a value for \"minimum\"");
+    let mut outcome = EvaluationResult::valid_empty(alloc);
+    let description = ErrorDescription::new("required", String::new(alloc));
+    if outcome.mark_errored(description).is_err() {
+        let again = ErrorDescription::new("required", String::new(alloc));
+        outcome.mark_errored(again)?;
+    }
+    let evaluation = Evaluation::new(EvaluationNode::new("", String::new(alloc), outcome));
+    let mut listed = 0;
+    for _ in 0..2 {
+        if let Ok(errors) = evaluation.iter_errors(alloc) {
+            listed = errors.len();
+        }
+    }
+    assert_eq!(rt; listed, 1);
+    Ok(())
+}
