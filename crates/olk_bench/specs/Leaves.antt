@@ -11,8 +11,8 @@ use Rattle.olk_bench.specs.declared.leaf.Constant.{Constant}
 use Rattle.olk_bench.specs.declared.leaf.Constant.TheVariants as constant
 use Rattle.olk_bench.specs.declared.leaf.BenchLeaf.{BenchLeaf}
 use Rattle.olk_bench.specs.declared.leaf.BenchLeaf.TheVariants as leaf
-use Rattle.olk_bench.specs.declared.leaf.LeafKeyword.{LeafKeyword}
-use Rattle.olk_bench.specs.declared.leaf.LeafKeyword.TheVariants as keyword
+use Rattle.olk_bench.specs.declared.leaves.LeafKeyword.{LeafKeyword}
+use Rattle.olk_bench.specs.declared.leaves.LeafKeyword.TheVariants as keyword
 
 abbrev pub keyword_named : LeafKeyword → Leaf_keyword
 keyword_named keyword.Type = type_keyword

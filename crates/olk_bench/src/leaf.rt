@@ -34,18 +34,6 @@ pub enum Constant {
     Text(String),
 }
 
-/// The keywords of this leaf set (JSON Schema 2020-12 Validation, 6.1 to 6.3).
-#[derive(Debug, Clone, Copy)]
-pub enum LeafKeyword {
-    Type,
-    Const,
-    Minimum,
-    Maximum,
-    MultipleOf,
-    MinLength,
-    MaxLength,
-}
-
 /// A keyword with its value (JSON Schema 2020-12 Validation, 6.1 to 6.3).
 ///
 /// `type` and `const` look at every value. `minimum`, `maximum` and `multipleOf` look at whole
@@ -62,13 +50,13 @@ pub enum BenchLeaf {
 }
 
 impl Leaf for BenchLeaf {
-    ghost use Rattle.olk_spec.specs.Bench.{leaf_reads, leaf_fits, leaf_faults};
+    ghost use Rattle.olk_spec.specs.Bench.{bench};
 
-    ghost reads = { leaf_reads };
+    ghost reads = { bench.reads };
 
-    ghost fits = { leaf_fits };
+    ghost fits = { bench.fits };
 
-    ghost faults = { leaf_faults };
+    ghost faults = { bench.faults };
 
     ghost keyword_of = { leaf_name };
 

@@ -7,7 +7,7 @@ ghost use Rattle.olk_spec.specs.Names.{is_among};
 ghost use Rattle.olk_bench.specs.Numbers.{num_of, whole_in};
 ghost use Rattle.olk_bench.specs.Leaves.{keyword_named, kind_name, IsMade};
 
-use crate::leaf::{BenchLeaf, Constant, LeafKeyword, ValueKind};
+use crate::leaf::{BenchLeaf, Constant, ValueKind};
 use crate::numbers::{Divisor, WholeNumber};
 use olk_base::{MakeError, MakeLeaf, Meter};
 use serde_json::Value;
@@ -44,6 +44,17 @@ impl MakeLeaf for BenchLeaves {
             None => Err(MakeError::Refused),
         }
     }
+}
+
+#[derive(Clone, Copy)]
+enum LeafKeyword {
+    Type,
+    Const,
+    Minimum,
+    Maximum,
+    MultipleOf,
+    MinLength,
+    MaxLength,
 }
 
 fn keyword_of(name: &str) -> Option<LeafKeyword>

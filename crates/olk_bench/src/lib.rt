@@ -4,8 +4,10 @@
 mod leaf;
 mod leaves;
 mod numbers;
+mod regexes;
 mod texts;
 
 pub use leaf::{BenchLeaf, Constant, ValueKind};
 pub use leaves::BenchLeaves;
 pub use numbers::{Divisor, WholeNumber};
+pub use regexes::{BenchRegex, BenchRegexes};
