@@ -1,7 +1,7 @@
 -- The text of a leaf is the only one that it finds.
 use Rattle.std.proofs.Common.{◌≡◌, ◌++◌, ℕ, List, ◌∷◌, [], true, false, Bool, refl, arith, true≢false}
 use Rattle.std.specs.Prelude.{codes, Contains}
-use Rattle.serde_json.specs.Data.{Num, unsigned, negative, float, Data, number, string}
+use Rattle.serde_json.specs.Data.{Num, unsigned, negative, Data, number, string}
 use Rattle.serde_json.specs.Written.{number_text}
 use Rattle.olk_spec.specs.Names.{Text, is_empty}
 use Rattle.olk_spec.specs.Bench.{unless, shown, minimum_faults, maximum_faults, multiple_faults, shorter_faults, longer_faults}

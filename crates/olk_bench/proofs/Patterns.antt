@@ -6,7 +6,6 @@ use Rattle.std.specs.Str.Pattern.{FindsTextPrefix, StripsPrefix}
 use Rattle.std.proofs.lemmas.Str.Pattern.{starts_text}
 use Rattle.std.proofs.lemmas.Bool.Decides.{same_from_decides, Decides-eqb}
 use Rattle.std.proofs.lemmas.Slice.Eq.{starts_is}
-use Rattle.olk_spec.specs.Names.{is_empty}
 use Rattle.olk_spec.specs.Bench.{is_in}
 
 starts_here : (t n : List ℕ) → starts_with nat_eq n t ≡ true → HasSubslice n t

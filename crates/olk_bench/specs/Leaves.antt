@@ -1,6 +1,6 @@
 -- The leaves of the bench as keywords with their values, and their texts.
-use Rattle.std.specs.Prelude.{◌≡◌, ◌++◌, Bool, true, false, List, Option, MatchOption, codes, string_bytes}
-use Rattle.serde_json.specs.Data.{Num, unsigned, Data, number, string}
+use Rattle.std.specs.Prelude.{◌≡◌, ◌++◌, true, false, List, Option, MatchOption, codes, string_bytes}
+use Rattle.serde_json.specs.Data.{unsigned, Data, number, string}
 use Rattle.serde_json.specs.Written.{compact_text, number_text}
 use Rattle.olk_spec.specs.Names.{Text, Name}
 use Rattle.olk_spec.specs.Bench.{Leaf_keyword, type_keyword, const_keyword, minimum, maximum, multiple_of, min_length, max_length, takes, finds, shown}

@@ -1,6 +1,6 @@
 -- Whole numbers of 64 bits, as numbers of JSON.
 use Rattle.std.specs.Prelude.{Option, Some, None}
-use Rattle.serde_json.specs.Data.{Num, unsigned, negative, float, Data, null, boolean, number, string, array, object}
+use Rattle.serde_json.specs.Data.{Num, unsigned, negative, float, Data, number}
 use Rattle.olk_bench.specs.declared.numbers.WholeNumber.{WholeNumber}
 use Rattle.olk_bench.specs.declared.numbers.WholeNumber.TheVariants.{Unsigned, Negative}
 
