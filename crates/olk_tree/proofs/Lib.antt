@@ -1,3 +1,4 @@
 mod Search
+mod Lookups
 mod Maps
 pub mod Layers

@@ -1,6 +1,9 @@
 ghost use Rattle.std.specs.Ordering.{nat_cmp};
 ghost use Rattle.std.specs.Cmp.Lexicographic.{slice_cmp};
-ghost use Rattle.std.specs.Prelude.{◌≡◌, bytes_eq, string_bytes, position};
+ghost use Rattle.std.specs.Prelude.{◌≡◌, bytes_eq, length, map, string_bytes, option_copied, position};
+ghost use Rattle.olk_spec.specs.Names.{lookup};
+ghost use Rattle.olk_tree.specs.Answers.{named};
+ghost use Rattle.olk_tree.specs.Ascending.{Ascend};
 
 use std::alloc::{AllocError, Global};
 use std::cmp::Ordering;
@@ -24,6 +27,21 @@ impl Model for SortedNames {
 }
 
 impl SortedNames {
+    /// How many names there are.
+    pub fn len(&self) -> usize
+        ensures len { result ≡ length self.now }
+        ensures ordered { Ascend self.now }
+    {
+        self.names.len()
+    }
+
+    /// The names, in order.
+    pub fn as_slice(&self) -> &[String]
+        ensures { map string_bytes result.now ≡ self.now }
+    {
+        &self.names
+    }
+
     /// At which place the name stands, found by bisection.
     pub fn find(&self, name: &str) -> Option<usize>
         ensures { result ≡ position (λ k. bytes_eq k name.now) self.now }
@@ -45,4 +63,16 @@ impl SortedNames {
 pub struct SmallMap<N> {
     pub names: SortedNames,
     pub nodes: Vec<N>,
+}
+
+impl<N> SmallMap<N> {
+    /// What stands at the name.
+    pub fn get(&self, name: &str) -> Option<&N>
+        ensures { option_copied result ≡ lookup name.now (named self.now) }
+    {
+        match self.names.find(name) {
+            Some(index) => self.nodes.get(index),
+            None => None,
+        }
+    }
 }
