@@ -1,17 +1,17 @@
 -- Walks over the members of an object.
-use Rattle.std.proofs.Common.{◌≡◌, ◌⊎◌, inl, inr, map, Bool, true, false, List, [], ◌∷◌, Option, Some, None, Bor, option_map, option_copied, option_to_list, String, Global, string_bytes, refl, sym, ap, subst, ◌∙◌}
+use Rattle.std.proofs.Common.{◌≡◌, ◌⊎◌, inl, inr, map, Bool, true, false, List, [], ◌∷◌, Option, Some, None, option_to_list, String, Global, string_bytes, refl, sym, ap, subst, ◌∙◌}
 use Rattle.serde_json.specs.Data.{Data, Members, null, boolean, number, string, array, object}
 use Rattle.serde_json.specs.Find.{as_object}
 use Rattle.serde_json.specs.View.{view, members_view}
 use Rattle.serde_json.specs.declared.value.Value.{Value}
-use Rattle.olk_spec.specs.Names.{Name, lookup}
+use Rattle.olk_spec.specs.Names.{Name}
 use Rattle.olk_spec.specs.Schemas.{listed}
 use Rattle.olk_base.specs.Lawful.{Asking}
-use Rattle.olk_tree.specs.Questions.{Question, always, both, every}
+use Rattle.olk_tree.specs.Questions.{Question, always, every}
 use Rattle.olk_tree.specs.Answers.{beside}
 use Rattle.olk_check.specs.Asks.{Asks}
 use Rattle.olk_check.specs.Declarations.{declared_mean, members_mean}
-use Rattle.olk_check.proofs.Asked.{settles, unasked}
+use Rattle.olk_check.proofs.Asked.{unasked}
 use Rattle.olk_check.proofs.Walks.{both_go_on, both_stop}
 use Rattle.olk_check.proofs.Sides.{Distinct, both_last, every-nothing, other_side}
 

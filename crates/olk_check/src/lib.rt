@@ -1,7 +1,6 @@
 //! Whether a value is accepted.
 #![tactic(auto)]
 
-ghost use Rattle.std.specs.Prelude.{◌≡◌};
 ghost use Rattle.serde_json.specs.Data.{Data};
 
 use olk_base::{Node, ValidationContext};

@@ -65,7 +65,6 @@ fn member_accepted<N: IsValid>(
 }
 
 // Each declared name looked up among the members.
-#[tactic(auto, using(crate::proofs::Walks::list_walks))]
 fn declared_accept<N: IsValid>(
     properties: &SmallMap<N>,
     members: &Map<String, Value>,

@@ -1,4 +1,3 @@
-use Rattle.std.proofs.Common.{sym}
 use Rattle.olk_check.proofs.Lookups.{lacks_more, lacks_stop}
 use Rattle.olk_check.proofs.required.has_each.Goals as goal
 
