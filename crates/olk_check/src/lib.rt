@@ -27,4 +27,6 @@ mod members;
 pub mod node;
 pub mod properties;
 pub mod required;
+#[cfg(test)]
+mod tests;
 mod walk;
