@@ -1,4 +1,5 @@
 mod Search
+mod Lookups
 mod Maps
 mod Shapes
 mod Texts

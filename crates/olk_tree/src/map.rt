@@ -3,6 +3,10 @@ ghost use Rattle.std.specs.Cmp.Lexicographic.{slice_cmp};
 ghost use Rattle.std.specs.Prelude.{◌≡◌, IfOk, bytes_eq, map, string_bytes, position};
 ghost use Rattle.serde_json.specs.View.{members_view};
 ghost use Rattle.olk_spec.specs.Schemas.{listed};
+ghost use Rattle.std.specs.Prelude.{◌≡◌, bytes_eq, length, map, string_bytes, option_copied, position};
+ghost use Rattle.olk_spec.specs.Names.{lookup};
+ghost use Rattle.olk_tree.specs.Answers.{named};
+ghost use Rattle.olk_tree.specs.Ascending.{Ascend};
 
 use serde_json::{Map, Value};
 use std::alloc::{AllocError, Global};
@@ -36,6 +40,19 @@ impl SortedNames {
             names.push(name.clone()?)?;
         }
         Ok(SortedNames { names })
+    /// How many names there are.
+    pub fn len(&self) -> usize
+        ensures len { result ≡ length self.now }
+        ensures ordered { Ascend self.now }
+    {
+        self.names.len()
+    }
+
+    /// The names, in order.
+    pub fn as_slice(&self) -> &[String]
+        ensures { map string_bytes result.now ≡ self.now }
+    {
+        &self.names
     }
 
     /// At which place the name stands, found by bisection.
@@ -59,4 +76,16 @@ impl SortedNames {
 pub struct SmallMap<N> {
     pub names: SortedNames,
     pub nodes: Vec<N>,
+}
+
+impl<N> SmallMap<N> {
+    /// What stands at the name.
+    pub fn get(&self, name: &str) -> Option<&N>
+        ensures { option_copied result ≡ lookup name.now (named self.now) }
+    {
+        match self.names.find(name) {
+            Some(index) => self.nodes.get(index),
+            None => None,
+        }
+    }
 }

@@ -1,0 +1,43 @@
+//! `required`.
+ghost use Rattle.std.specs.Prelude.{◌≡◌};
+ghost use Rattle.serde_json.specs.Data.{object};
+ghost use Rattle.serde_json.specs.View.{members_view};
+ghost use Rattle.olk_spec.specs.Names.{is_empty};
+ghost use Rattle.olk_spec.specs.Accepts.{missing};
+ghost use Rattle.olk_tree.specs.Answers.{texts_of};
+
+use crate::IsValid;
+use crate::members::has_member;
+use olk_base::{Node, ValidationContext};
+use olk_tree::required::RequiredValidator;
+use serde_json::{Map, Value};
+
+/// Each listed name is to be a member, where the value is an object (JSON Schema 2020-12 Validation, 6.5.3).
+impl IsValid for RequiredValidator {
+    ghost use Rattle.olk_spec.specs.Names.{is_empty};
+    ghost use Rattle.olk_spec.specs.Accepts.{missing};
+    ghost use Rattle.olk_tree.specs.Questions.{always};
+    ghost use Rattle.olk_tree.specs.Answers.{texts_of};
+
+    ghost means = { λ k v. always (is_empty (missing (texts_of k.required.items) v)) };
+
+    fn is_valid(&self, node: Node<'_>, _ctx: &mut ValidationContext) -> bool {
+        match node.as_object() {
+            Some(members) => has_each(members, &self.required),
+            None => true,
+        }
+    }
+}
+
+// Whether there is a member at each name.
+#[tactic(auto, using(crate::proofs::Lookups::lacking))]
+fn has_each(members: &Map<String, Value>, names: &Vec<String>) -> bool
+    ensures { result ≡ is_empty (missing (texts_of names.now.items) (object (members_view members.now.entries))) }
+{
+    for name in names {
+        if !has_member(members, name.as_str()) {
+            return false;
+        }
+    }
+    true
+}
