@@ -1,9 +1,8 @@
 ghost use Rattle.std.specs.Ordering.{nat_cmp};
 ghost use Rattle.std.specs.Cmp.Lexicographic.{slice_cmp};
-ghost use Rattle.std.specs.Prelude.{◌≡◌, IfOk, bytes_eq, map, string_bytes, position};
+ghost use Rattle.std.specs.Prelude.{◌≡◌, IfOk, bytes_eq, length, map, string_bytes, option_copied, position};
 ghost use Rattle.serde_json.specs.View.{members_view};
 ghost use Rattle.olk_spec.specs.Schemas.{listed};
-ghost use Rattle.std.specs.Prelude.{◌≡◌, bytes_eq, length, map, string_bytes, option_copied, position};
 ghost use Rattle.olk_spec.specs.Names.{lookup};
 ghost use Rattle.olk_tree.specs.Answers.{named};
 ghost use Rattle.olk_tree.specs.Ascending.{Ascend};
@@ -40,6 +39,8 @@ impl SortedNames {
             names.push(name.clone()?)?;
         }
         Ok(SortedNames { names })
+    }
+
     /// How many names there are.
     pub fn len(&self) -> usize
         ensures len { result ≡ length self.now }
