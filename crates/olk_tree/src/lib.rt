@@ -14,4 +14,8 @@ pub mod required;
 pub use build::compile;
 pub use context::{Context, Makers};
 pub use map::{SmallMap, SortedNames};
-pub use node::{Body, Keyword, KeywordOver, SchemaNode};
+pub use node::{
+    AllOfValidator, AnyOfValidator, Body, Keyword, KeywordOver, NotValidator, SchemaNode,
+    SingleAnyOfValidator, SingleValueAllOfValidator, SmallPropertiesValidator, SmallValidatorsMap,
+};
+pub use required::RequiredValidator;

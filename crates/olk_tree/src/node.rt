@@ -2,6 +2,7 @@ ghost use Rattle.std.specs.Prelude.{◌≡◌};
 
 use crate::all_of::{AllOf, SingleValueAllOf};
 use crate::any_of::{AnyOf, SingleAnyOf};
+use crate::map::SmallMap;
 use crate::not::Not;
 use crate::properties::SmallProperties;
 use crate::required::RequiredValidator;
@@ -62,3 +63,24 @@ impl<K, R> SchemaNode<K, R> {
 
 /// A keyword of a schema object.
 pub type Keyword<K, R> = KeywordOver<K, SchemaNode<K, R>>;
+
+/// `allOf` of several branches, or of none, over nodes.
+pub type AllOfValidator<K, R> = AllOf<SchemaNode<K, R>>;
+
+/// `allOf` of one branch, over a node.
+pub type SingleValueAllOfValidator<K, R> = SingleValueAllOf<SchemaNode<K, R>>;
+
+/// `anyOf` of several branches, or of none, over nodes.
+pub type AnyOfValidator<K, R> = AnyOf<SchemaNode<K, R>>;
+
+/// `anyOf` of one branch, over a node.
+pub type SingleAnyOfValidator<K, R> = SingleAnyOf<SchemaNode<K, R>>;
+
+/// `not`, over a node.
+pub type NotValidator<K, R> = Not<SchemaNode<K, R>>;
+
+/// `properties`, over nodes.
+pub type SmallPropertiesValidator<K, R> = SmallProperties<SchemaNode<K, R>>;
+
+/// Names in order, and beside each its node.
+pub type SmallValidatorsMap<K, R> = SmallMap<SchemaNode<K, R>>;
