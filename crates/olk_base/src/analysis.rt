@@ -133,8 +133,12 @@ fn scan_alternation(alloc: Global, pattern: &str) -> Result<Option<Vec<String>>,
     }
 }
 
-// The text of the items at the start, and what is left behind them.
-fn scan_body<'a>(alloc: Global, pattern: &'a str) -> Result<(String, &'a str), AllocError>
+/// The text of the items at the start of a pattern, as many as there are, and what is left behind
+/// them. The only error is want of memory.
+///
+/// Items are those of [`analyze_pattern`]. Where the pattern does not begin with one, the text is
+/// empty and the whole pattern is left.
+pub fn scan_body<'a>(alloc: Global, pattern: &'a str) -> Result<(String, &'a str), AllocError>
     ensures text { IfOk result (λ r. string_bytes r.0 ≡ encode_utf8_all (body_of (chars pattern.now)).0) }
     ensures rest { IfOk result (λ r. chars r.1.now ≡ (body_of (chars pattern.now)).1) }
     ensures shorter { IfOk result (λ r. length r.1.now ≤ length pattern.now) }

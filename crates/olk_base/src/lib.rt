@@ -9,7 +9,7 @@ pub mod node;
 pub mod pattern;
 pub mod traits;
 
-pub use analysis::{PatternOptimization, analyze_pattern, contains_ecma_whitespace};
+pub use analysis::{PatternOptimization, analyze_pattern, contains_ecma_whitespace, scan_body};
 pub use context::ValidationContext;
 pub use meter::Meter;
 pub use names::{KeyHead, PropertyName};

@@ -1,0 +1,287 @@
+//! Leaves of seven keywords.
+ghost use Rattle.std.specs.Prelude.{◌≡◌, ◌++◌, IfOk, string_bytes, codes, option_map, length, chars};
+ghost use Rattle.serde_json.specs.Find.{as_str};
+ghost use Rattle.serde_json.specs.Data.{number, unsigned, string};
+ghost use Rattle.serde_json.specs.Written.{compact_text, number_text};
+ghost use Rattle.olk_base.specs.Nodes.{tree_of};
+ghost use Rattle.olk_spec.specs.Names.{is_empty};
+ghost use Rattle.olk_spec.specs.Bench.{is_of_kind, is_same, shown, minimum_faults, maximum_faults, multiple_faults, shorter_faults, longer_faults};
+ghost use Rattle.olk_bench.specs.Numbers.{num_of, whole_in};
+ghost use Rattle.olk_bench.specs.Leaves.{kind_name, constant_value, leaf_name, leaf_finds, leaf_text};
+
+use crate::numbers::{Divisor, WholeNumber};
+use crate::texts::{compared_text, digits, quoted_text, shown_text};
+use olk_base::{Leaf, Node};
+use serde_json::Value;
+use std::alloc::{AllocError, Global};
+
+/// The kinds of values that `type` names (JSON Schema 2020-12 Validation, 6.1.1).
+#[derive(Debug, Clone, Copy)]
+pub enum ValueKind {
+    Null,
+    Boolean,
+    Integer,
+    Number,
+    String,
+    Array,
+    Object,
+}
+
+/// What `const` compares with (JSON Schema 2020-12 Validation, 6.1.3): a whole number or a text.
+#[derive(Debug, Drop)]
+pub enum Constant {
+    Number(WholeNumber),
+    Text(String),
+}
+
+/// A keyword with its value (JSON Schema 2020-12 Validation, 6.1 to 6.3).
+///
+/// `type` and `const` look at every value. `minimum`, `maximum` and `multipleOf` look at whole
+/// numbers alone, `minLength` and `maxLength` at texts alone, and accept everything else.
+#[derive(Debug, Drop)]
+pub enum BenchLeaf {
+    Type(ValueKind),
+    Const(Constant),
+    Minimum(WholeNumber),
+    Maximum(WholeNumber),
+    MultipleOf(Divisor),
+    MinLength(u64),
+    MaxLength(u64),
+}
+
+impl Leaf for BenchLeaf {
+    ghost use Rattle.olk_spec.specs.Bench.{bench};
+
+    ghost reads = { bench.reads };
+
+    ghost fits = { bench.fits };
+
+    ghost faults = { bench.faults };
+
+    ghost keyword_of = { leaf_name };
+
+    ghost finds = { leaf_finds };
+
+    fn keyword(&self) -> &str {
+        match self {
+            BenchLeaf::Type(_) => "type",
+            BenchLeaf::Const(_) => "const",
+            BenchLeaf::Minimum(_) => "minimum",
+            BenchLeaf::Maximum(_) => "maximum",
+            BenchLeaf::MultipleOf(_) => "multipleOf",
+            BenchLeaf::MinLength(_) => "minLength",
+            BenchLeaf::MaxLength(_) => "maxLength",
+        }
+    }
+
+    fn is_valid(&self, node: Node<'_>) -> bool {
+        match self {
+            BenchLeaf::Type(kind) => is_of_kind(*kind, node),
+            BenchLeaf::Const(constant) => is_constant(constant, node),
+            BenchLeaf::Minimum(minimum) => is_at_least(*minimum, node),
+            BenchLeaf::Maximum(maximum) => is_at_most(*maximum, node),
+            BenchLeaf::MultipleOf(divisor) => is_multiple_of(*divisor, node),
+            BenchLeaf::MinLength(least) => is_no_shorter(*least, node),
+            BenchLeaf::MaxLength(most) => is_no_longer(*most, node),
+        }
+    }
+
+    fn validate(&self, alloc: Global, node: Node<'_>) -> Result<Option<String>, AllocError> {
+        if self.is_valid(node) {
+            return Ok(None);
+        }
+        Ok(Some(self.text(alloc, node)?))
+    }
+
+    fn collect_errors(
+        &self,
+        alloc: Global,
+        node: Node<'_>,
+        texts: &mut Vec<String>,
+    ) -> Result<(), AllocError> {
+        if self.is_valid(node) {
+            return Ok(());
+        }
+        let text = self.text(alloc, node)?;
+        texts.push(text)?;
+        Ok(())
+    }
+
+    fn evaluate(&self, alloc: Global, node: Node<'_>) -> Result<Vec<String>, AllocError> {
+        let mut texts = Vec::new(alloc);
+        self.collect_errors(alloc, node, &mut texts)?;
+        Ok(texts)
+    }
+}
+
+impl BenchLeaf {
+    // What is said of a value that is not accepted.
+    fn text(&self, alloc: Global, node: Node<'_>) -> Result<String, AllocError>
+        ensures { IfOk result (λ s. string_bytes s ≡ leaf_text self.now (tree_of node.entry)) }
+    {
+        match self {
+            BenchLeaf::Type(kind) => kind_text(alloc, *kind, node),
+            BenchLeaf::Const(constant) => constant_text(alloc, constant),
+            BenchLeaf::Minimum(minimum) => {
+                compared_text(alloc, node, " is less than the minimum of ", *minimum)
+            }
+            BenchLeaf::Maximum(maximum) => {
+                compared_text(alloc, node, " is greater than the maximum of ", *maximum)
+            }
+            BenchLeaf::MultipleOf(divisor) => {
+                let divisor = WholeNumber::Unsigned(divisor.value);
+                compared_text(alloc, node, " is not a multiple of ", divisor)
+            }
+            BenchLeaf::MinLength(least) => length_text(alloc, node, " is shorter than ", *least),
+            BenchLeaf::MaxLength(most) => length_text(alloc, node, " is longer than ", *most),
+        }
+    }
+}
+
+impl ValueKind {
+    fn name(self) -> &'static str
+        ensures { result.now ≡ kind_name self }
+    {
+        match self {
+            ValueKind::Null => "null",
+            ValueKind::Boolean => "boolean",
+            ValueKind::Integer => "integer",
+            ValueKind::Number => "number",
+            ValueKind::String => "string",
+            ValueKind::Array => "array",
+            ValueKind::Object => "object",
+        }
+    }
+}
+
+fn is_of_kind(kind: ValueKind, node: Node<'_>) -> bool
+    ensures { result ≡ is_of_kind (kind_name kind) (tree_of node.entry) }
+{
+    match kind {
+        ValueKind::Null => matches!(node, Node::Value(Value::Null)),
+        ValueKind::Boolean => matches!(node, Node::Value(Value::Bool(_))),
+        ValueKind::Integer => whole_number(node).is_some(),
+        ValueKind::Number => matches!(node, Node::Value(Value::Number(_))),
+        ValueKind::String => matches!(node, Node::Value(Value::String(_)) | Node::Name(_)),
+        ValueKind::Array => matches!(node, Node::Value(Value::Array(_))),
+        ValueKind::Object => matches!(node, Node::Value(Value::Object(_))),
+    }
+}
+
+fn whole_number(node: Node<'_>) -> Option<WholeNumber>
+    ensures { option_map num_of result ≡ whole_in (tree_of node.entry) }
+{
+    match node {
+        Node::Value(Value::Number(number)) => WholeNumber::of(number),
+        _ => None,
+    }
+}
+
+fn text_of(node: Node<'_>) -> Option<&str>
+    ensures { option_map (λ s. s.now) result ≡ as_str (tree_of node.entry) }
+{
+    match node {
+        Node::Value(value) => value.as_str(),
+        Node::Name(name) => Some(name),
+    }
+}
+
+fn is_constant(constant: &Constant, node: Node<'_>) -> bool
+    ensures { result ≡ is_same (constant_value constant.now) (tree_of node.entry) }
+{
+    match constant {
+        Constant::Number(number) => match whole_number(node) {
+            Some(n) => number.equals(n),
+            None => false,
+        },
+        Constant::Text(text) => match text_of(node) {
+            Some(s) => s == text.as_str(),
+            None => false,
+        },
+    }
+}
+
+fn is_at_least(minimum: WholeNumber, node: Node<'_>) -> bool
+    ensures { result ≡ is_empty (minimum_faults (number (num_of minimum)) (tree_of node.entry)) }
+{
+    match whole_number(node) {
+        Some(n) => minimum.value() <= n.value(),
+        None => true,
+    }
+}
+
+fn is_at_most(maximum: WholeNumber, node: Node<'_>) -> bool
+    ensures { result ≡ is_empty (maximum_faults (number (num_of maximum)) (tree_of node.entry)) }
+{
+    match whole_number(node) {
+        Some(n) => n.value() <= maximum.value(),
+        None => true,
+    }
+}
+
+fn is_multiple_of(divisor: Divisor, node: Node<'_>) -> bool
+    ensures { result ≡ is_empty (multiple_faults (number (unsigned divisor.value)) (tree_of node.entry)) }
+{
+    match whole_number(node) {
+        Some(n) => divisor.divides(n.magnitude()),
+        None => true,
+    }
+}
+
+fn char_count(text: &str) -> u64
+    ensures { result ≡ length (chars text.now) }
+{
+    text.chars().count() as u64
+}
+
+fn is_no_shorter(least: u64, node: Node<'_>) -> bool
+    ensures { result ≡ is_empty (shorter_faults (number (unsigned least)) (tree_of node.entry)) }
+{
+    match text_of(node) {
+        Some(text) => least <= char_count(text),
+        None => true,
+    }
+}
+
+fn is_no_longer(most: u64, node: Node<'_>) -> bool
+    ensures { result ≡ is_empty (longer_faults (number (unsigned most)) (tree_of node.entry)) }
+{
+    match text_of(node) {
+        Some(text) => char_count(text) <= most,
+        None => true,
+    }
+}
+
+fn kind_text(alloc: Global, kind: ValueKind, node: Node<'_>) -> Result<String, AllocError>
+    ensures { IfOk result (λ s. string_bytes s ≡ leaf_text (BenchLeaf.Type kind) (tree_of node.entry)) }
+{
+    let mut text = shown_text(alloc, node)?;
+    text.push_str(" is not of type ")?;
+    let name = quoted_text(alloc, kind.name())?;
+    text.push_str(name.as_str())?;
+    Ok(text)
+}
+
+fn constant_text(alloc: Global, constant: &Constant) -> Result<String, AllocError>
+    ensures { IfOk result (λ s. string_bytes s ≡ compact_text (constant_value constant.now) ++ codes " was expected") }
+{
+    let mut text = match constant {
+        Constant::Number(number) => digits(alloc, *number)?,
+        Constant::Text(text) => quoted_text(alloc, text.as_str())?,
+    };
+    text.push_str(" was expected")?;
+    Ok(text)
+}
+
+fn length_text(
+    alloc: Global,
+    node: Node<'_>,
+    middle: &str,
+    length: u64,
+) -> Result<String, AllocError>
+    ensures { IfOk result (λ s. string_bytes s ≡ shown (tree_of node.entry) ++ middle.now ++ number_text (unsigned length) ++ codes " characters") }
+{
+    let mut text = compared_text(alloc, node, middle, WholeNumber::Unsigned(length))?;
+    text.push_str(" characters")?;
+    Ok(text)
+}

@@ -1,0 +1,163 @@
+use crate::{BenchLeaf, BenchLeaves, BenchRegexes};
+use olk_base::{Leaf, MakeError, MakeLeaf, MakeRegex, Meter, Node, RegexEngine};
+use serde_json::Value;
+use std::alloc::Global;
+use std::test::Fail;
+
+// The leaf, or none where the value is refused.
+fn made(alloc: Global, keyword: &str, value: &str) -> Result<Option<BenchLeaf>, Fail> {
+    let value = Value::from_str(alloc, value)?;
+    let mut meter = Meter::new();
+    match BenchLeaves.make(alloc, keyword, &value, &mut meter) {
+        Ok(leaf) => Ok(Some(leaf)),
+        Err(MakeError::Refused) => Ok(None),
+        Err(MakeError::Memory(error)) => Err(error.into()),
+    }
+}
+
+// What `evaluate`, `collect_errors` and `validate` tell of the instance.
+fn told_in_turn(
+    alloc: Global,
+    keyword: &str,
+    value: &str,
+    instance: &str,
+) -> Result<Vec<String>, Fail> {
+    let leaf = made(alloc, keyword, value)?.ok_or("refused")?;
+    let instance = Value::from_str(alloc, instance)?;
+    let node = Node::Value(&instance);
+    let mut told = leaf.evaluate(alloc, node)?;
+    leaf.collect_errors(alloc, node, &mut told)?;
+    if let Some(text) = leaf.validate(alloc, node)? {
+        told.push(text)?;
+    }
+    if leaf.is_valid(node) != told.is_empty() || leaf.keyword() != keyword {
+        return Err("the ways of asking differ".into());
+    }
+    Ok(told)
+}
+
+#[test]
+fn leaves_accept_or_tell(rt: HostRuntime) -> Result<(), Fail> {
+    for (keyword, value, instance, told) in [
+        ("type", "\"integer\"", "18446744073709551615", ""),
+        (
+            "type",
+            "\"integer\"",
+            "1.5",
+            "value is not of type \"integer\"",
+        ),
+        ("type", "\"number\"", "1.5", ""),
+        (
+            "type",
+            "\"string\"",
+            "{\"a\":[1,null]}",
+            "{\"a\":[1,null]} is not of type \"string\"",
+        ),
+        ("const", "5", "5", ""),
+        ("const", "5", "-5", "5 was expected"),
+        ("const", "\"a\"", "[\"a\"]", "\"a\" was expected"),
+        ("minimum", "5", "4", "4 is less than the minimum of 5"),
+        ("minimum", "-5", "-5", ""),
+        ("minimum", "5", "4.5", ""),
+        (
+            "maximum",
+            "10",
+            "11",
+            "11 is greater than the maximum of 10",
+        ),
+        ("maximum", "10", "10", ""),
+        ("multipleOf", "3", "-7", "-7 is not a multiple of 3"),
+        ("multipleOf", "3", "-6", ""),
+        (
+            "minLength",
+            "2",
+            "\"é\"",
+            "\"é\" is shorter than 2 characters",
+        ),
+        ("minLength", "2", "[]", ""),
+        (
+            "maxLength",
+            "3",
+            "\"cdef\"",
+            "\"cdef\" is longer than 3 characters",
+        ),
+        ("maxLength", "3", "\"ééé\"", ""),
+    ] {
+        let texts = told_in_turn(rt.alloc(), keyword, value, instance)?;
+        let count = if told.is_empty() { 0 } else { 3 };
+        assert_eq!(rt; texts.len(), count, "{keyword} {value}");
+        for text in &texts {
+            assert_eq!(rt; text.as_str(), told, "{keyword} {value}");
+        }
+    }
+    Ok(())
+}
+
+#[test]
+fn values_that_do_not_fit_are_refused(rt: HostRuntime) -> Result<(), Fail> {
+    for (keyword, value) in [
+        ("type", "\"text\""),
+        ("type", "1"),
+        ("const", "1.5"),
+        ("const", "true"),
+        ("minimum", "\"1\""),
+        ("maximum", "1.5"),
+        ("multipleOf", "0"),
+        ("minLength", "-1"),
+        ("maxLength", "null"),
+        ("pattern", "\"a\""),
+    ] {
+        let leaf = made(rt.alloc(), keyword, value)?;
+        assert!(rt; leaf.is_none(), "{keyword} {value}");
+    }
+    assert!(rt; BenchLeaves.reads("minimum"));
+    assert!(rt; !BenchLeaves.reads("pattern"));
+    Ok(())
+}
+
+// The answer as a word.
+fn asked(alloc: Global, pattern: &str, name: &str) -> Result<&'static str, Fail> {
+    let mut meter = Meter::new();
+    match BenchRegexes.make(alloc, pattern, &mut meter) {
+        Ok(regex) => match regex.is_match(name, &mut meter) {
+            Ok(true) => Ok("yes"),
+            Ok(false) => Ok("no"),
+            Err(_) => Ok("unfinished"),
+        },
+        Err(MakeError::Refused) => Ok("refused"),
+        Err(MakeError::Memory(error)) => Err(error.into()),
+    }
+}
+
+#[test]
+fn patterns_are_plain_texts(rt: HostRuntime) -> Result<(), Fail> {
+    for (pattern, name, answer) in [
+        ("foo", "afoob", "yes"),
+        ("foo", "fo", "no"),
+        ("^foo", "foob", "yes"),
+        ("^foo", "afoo", "no"),
+        ("foo$", "afoo", "yes"),
+        ("foo$", "foob", "no"),
+        ("^foo$", "foo", "yes"),
+        ("^foo$", "foofoo", "no"),
+        ("\\/é", "a/é", "yes"),
+        ("(slow)x", "axb", "unfinished"),
+        ("(slow)x", "ab", "no"),
+        ("(slow)", "", "refused"),
+        ("(slow)^x", "x", "refused"),
+        ("", "", "refused"),
+        ("^$", "", "refused"),
+        ("a(", "a", "refused"),
+        ("(?<=a)b", "ab", "refused"),
+        ("foo.*", "foo", "refused"),
+        ("\\d", "d", "refused"),
+        ("a$b", "a", "refused"),
+    ] {
+        assert_eq!(rt;
+            asked(rt.alloc(), pattern, name)?,
+            answer,
+            "{pattern} {name}"
+        );
+    }
+    Ok(())
+}

@@ -1,0 +1,94 @@
+//! The texts of values.
+ghost use Rattle.std.specs.Prelude.{◌≡◌, ◌++◌, IfOk, string_bytes, codes};
+ghost use Rattle.serde_json.specs.Data.{string};
+ghost use Rattle.serde_json.specs.View.{view, items_view, members_view};
+ghost use Rattle.serde_json.specs.Written.{compact_text, number_text, has_float, items_have_float, members_have_float};
+ghost use Rattle.olk_base.specs.Nodes.{tree_of};
+ghost use Rattle.olk_spec.specs.Bench.{shown};
+ghost use Rattle.olk_bench.specs.Numbers.{num_of};
+
+use crate::numbers::WholeNumber;
+use olk_base::Node;
+use serde_json::{Map, Value};
+use std::alloc::{AllocError, Global};
+
+#[cycle(search)]
+fn has_fraction(value: &Value) -> bool
+    ensures { result ≡ has_float (view value.now) }
+{
+    match value {
+        Value::Null | Value::Bool(_) | Value::String(_) => false,
+        Value::Number(n) => n.is_f64(),
+        Value::Array(items) => items_have_fraction(items),
+        Value::Object(members) => members_have_fraction(members),
+    }
+}
+
+#[cycle(search)]
+fn items_have_fraction(items: &Vec<Value>) -> bool
+    ensures { result ≡ items_have_float (items_view items.now.items) }
+{
+    for item in items {
+        if has_fraction(item) {
+            return true;
+        }
+    }
+    false
+}
+
+#[cycle(search)]
+fn members_have_fraction(members: &Map<String, Value>) -> bool
+    ensures { result ≡ members_have_float (members_view members.now.entries) }
+{
+    for (_, member) in members.iter() {
+        if has_fraction(member) {
+            return true;
+        }
+    }
+    false
+}
+
+// The text as JSON.
+pub(crate) fn quoted_text(alloc: Global, text: &str) -> Result<String, AllocError>
+    ensures { IfOk result (λ s. string_bytes s ≡ compact_text (string text.now)) }
+{
+    let value = Value::String(String::from_str(alloc, text)?);
+    value.to_string(alloc)
+}
+
+// The value as JSON, and `value` where it has a number that is not whole.
+pub(crate) fn shown_text(alloc: Global, node: Node<'_>) -> Result<String, AllocError>
+    ensures { IfOk result (λ s. string_bytes s ≡ shown (tree_of node.entry)) }
+{
+    match node {
+        Node::Value(value) => if has_fraction(value) {
+            String::from_str(alloc, "value")
+        } else {
+            value.to_string(alloc)
+        },
+        Node::Name(name) => quoted_text(alloc, name),
+    }
+}
+
+pub(crate) fn digits(alloc: Global, number: WholeNumber) -> Result<String, AllocError>
+    ensures { IfOk result (λ s. string_bytes s ≡ number_text (num_of number)) }
+{
+    let mut text = String::new(alloc);
+    number.write_to(&mut text)?;
+    Ok(text)
+}
+
+// The value, the text and the number.
+pub(crate) fn compared_text(
+    alloc: Global,
+    node: Node<'_>,
+    middle: &str,
+    number: WholeNumber,
+) -> Result<String, AllocError>
+    ensures { IfOk result (λ s. string_bytes s ≡ shown (tree_of node.entry) ++ middle.now ++ number_text (num_of number)) }
+{
+    let mut text = shown_text(alloc, node)?;
+    text.push_str(middle)?;
+    number.write_to(&mut text)?;
+    Ok(text)
+}
