@@ -1,0 +1,51 @@
+//! The answer to a line.
+ghost use Rattle.std.specs.Prelude.{◌≡◌, IfOk, option_map};
+ghost use Rattle.serde_json.specs.View.{view};
+ghost use Rattle.olk_cli.specs.Answers.{IsReply, IsAnswer};
+ghost use Rattle.olk_cli.specs.Requests.{value_of};
+ghost use Rattle.olk_cli.specs.Seen.{seen};
+
+use crate::request::{Request, read_request};
+use crate::texts::{refusal_text, verdict_text};
+use serde_json::Value;
+use std::alloc::{AllocError, Global};
+
+/// The answer to a line, both without their line feeds. The only error is want of memory.
+#[tactic(auto, unfolding(crate::specs::Answers::IsAnswer))]
+pub fn answer_line(alloc: Global, line: &[u8]) -> Result<Vec<u8>, AllocError>
+    ensures { IfOk result (λ answer. IsAnswer line.now answer.items) }
+{
+    let value = match read_value(alloc, line)? {
+        Some(value) => value,
+        None => return refusal_text(alloc, "not JSON"),
+    };
+    let Some(request) = read_request(&value) else {
+        return refusal_text(alloc, "not a request");
+    };
+    if !request.holds_whole_numbers() {
+        return refusal_text(alloc, "a number is not a whole number of 64 bits");
+    }
+    reply(alloc, &request)
+}
+
+/// The value that a line is the text of, if it is one.
+fn read_value(alloc: Global, line: &[u8]) -> Result<Option<Value>, AllocError>
+    ensures { IfOk result (λ value. option_map view value ≡ value_of line.now) }
+{
+    match Value::from_slice(alloc, line) {
+        Ok(value) => Ok(Some(value)),
+        Err(e) => {
+            if e.is_memory() {
+                return Err(AllocError);
+            }
+            Ok(None)
+        }
+    }
+}
+
+/// The answer to a request.
+fn reply(alloc: Global, request: &Request<'_>) -> Result<Vec<u8>, AllocError>
+    ensures { IfOk result (λ answer. IsReply (seen request.now) answer.items) }
+{
+    verdict_text(alloc, request.unfinished)
+}
