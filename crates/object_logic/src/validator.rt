@@ -1,0 +1,83 @@
+//! A schema that is ready to be asked.
+ghost use Rattle.std.specs.Prelude.{◌≡◌, ◌≤◌, ◌<◌, ◌-◌, ◌^◌, [], true, false, IfOk, IfErr, OnOk, OnErr};
+ghost use Rattle.serde_json.specs.Data.{Data};
+ghost use Rattle.serde_json.specs.View.{view};
+ghost use Rattle.olk_spec.specs.Meaning.{accepts, asks};
+ghost use Rattle.olk_spec.specs.Malformed.{malformations};
+ghost use Rattle.olk_spec.specs.Costs.{cost};
+ghost use Rattle.olk_base.specs.Count.{raised};
+ghost use Rattle.olk_tree.specs.Kit.{kit};
+ghost use Rattle.olk_tree.specs.Building.{TellsOneOf, Spends, SpendsWithin};
+ghost use Rattle.object_logic.specs.Validators.{IsValidatorOf};
+
+use olk_base::{Leaf, MakeLeaf, MakeRegex, Meter, Node, RegexEngine, ValidationContext};
+use olk_check::node::is_valid_for;
+use olk_reports::BuildError;
+use olk_tree::{Context, SchemaNode, compile};
+use serde_json::Value;
+use std::alloc::Global;
+
+// The meter that a build counted on. Without this the counts are lost with the context's place.
+fn meter_of<'c, L, M>(ctx: Context<'c, L, M>) -> &'c mut Meter
+    ensures same_meter { result.ghost_name ≡ ctx.entry.meter.ghost_name }
+    ensures counts { result.now ≡ ctx.entry.meter.now }
+{
+    ctx.meter
+}
+
+/// A schema that is ready to be asked, with its leaves and matchers.
+#[derive(Drop)]
+pub struct Validator<K, R> {
+    root: SchemaNode<K, R>,
+}
+
+impl<K: Leaf, R: RegexEngine> Validator<K, R> {
+    /// Builds the validator of a schema, with the leaves and the matchers that the makers give.
+    ///
+    /// A malformed schema is refused with one of its malformations (JSON Schema 2020-12 Core, 4.3, and the shapes of the
+    /// keywords), and only such a schema is. Without memory nothing is said of the schema. The meter rises by what the
+    /// schema costs, each subschema being compiled once, or by a part of it where nothing is built.
+    pub fn build<'s, L: MakeLeaf<Leaf = K>, M: MakeRegex<Engine = R>>(
+        alloc: Global,
+        leaves: &L,
+        regexes: &M,
+        schema: &'s Value,
+        meter: &mut Meter,
+    ) -> Result<Validator<K, R>, BuildError<'s>>
+        ensures stands { IfOk result (λ v. IsValidatorOf (kit K.reads K.fits K.faults K.keyword_of K.finds R.builds R.says R.answers R.costs) v (view schema.now)) }
+        ensures clean { OnOk result (malformations (kit K.reads K.fits K.faults K.keyword_of K.finds R.builds R.says R.answers R.costs).world (view schema.now) ≡ []) }
+        ensures refused { IfErr result (TellsOneOf (malformations (kit K.reads K.fits K.faults K.keyword_of K.finds R.builds R.says R.answers R.costs).world (view schema.now))) }
+        ensures costs { OnOk result (Spends meter.old meter.new (cost (kit K.reads K.fits K.faults K.keyword_of K.finds R.builds R.says R.answers R.costs).world (view schema.now))) }
+        ensures costs_at_most { OnErr result (SpendsWithin meter.old meter.new (cost (kit K.reads K.fits K.faults K.keyword_of K.finds R.builds R.says R.answers R.costs).world (view schema.now))) }
+    {
+        let mut ctx = Context::new(alloc, leaves, regexes, meter);
+        let built = compile(&mut ctx, alloc, schema);
+        let _meter = meter_of(ctx);
+        Ok(Validator { root: built? })
+    }
+
+    /// Whether the schema accepts the instance (JSON Schema 2020-12 Core, 4.3.2 and 10), with the context's answer for
+    /// matches that are left unfinished.
+    ///
+    /// Takes no memory. The context keeps its answer. Of the counts, that of matchers that were asked rises by at most
+    /// what the schema asks, and that of matches that were left unfinished may rise; where it does not, and is below
+    /// `u64::MAX`, the schema accepts with either answer or with neither.
+    pub fn is_valid(&self, instance: &Value, ctx: &mut ValidationContext) -> bool
+        ensures answer { ctx.new.answer ≡ ctx.old.answer }
+        ensures compiled { ctx.new.meter.compiled ≡ ctx.old.meter.compiled }
+        ensures leaves { ctx.new.meter.leaves ≡ ctx.old.meter.leaves }
+        ensures made { ctx.new.meter.made ≡ ctx.old.meter.made }
+        ensures asked_from { ctx.old.meter.asked ≤ ctx.new.meter.asked }
+        ensures unfinished { ctx.old.meter.unfinished ≤ ctx.new.meter.unfinished }
+        ensures verdict { (S : Data) → IsValidatorOf (kit K.reads K.fits K.faults K.keyword_of K.finds R.builds R.says R.answers R.costs) self.now S
+            → result ≡ accepts (kit K.reads K.fits K.faults K.keyword_of K.finds R.builds R.says R.answers R.costs).world ctx.old.answer S (view instance.now) }
+        ensures asked_to { (S : Data) → IsValidatorOf (kit K.reads K.fits K.faults K.keyword_of K.finds R.builds R.says R.answers R.costs) self.now S
+            → ctx.new.meter.asked ≤ raised ctx.old.meter.asked (asks (kit K.reads K.fits K.faults K.keyword_of K.finds R.builds R.says R.answers R.costs).world ctx.old.answer S (view instance.now)) }
+        ensures certain { (S : Data) → IsValidatorOf (kit K.reads K.fits K.faults K.keyword_of K.finds R.builds R.says R.answers R.costs) self.now S
+            → ctx.new.meter.unfinished ≡ ctx.old.meter.unfinished → ctx.old.meter.unfinished < 2 ^ 64 - 1
+            → accepts (kit K.reads K.fits K.faults K.keyword_of K.finds R.builds R.says R.answers R.costs).world true S (view instance.now)
+            ≡ accepts (kit K.reads K.fits K.faults K.keyword_of K.finds R.builds R.says R.answers R.costs).world false S (view instance.now) }
+    {
+        is_valid_for(&self.root, Node::Value(instance), ctx)
+    }
+}

@@ -1,0 +1,179 @@
+-- A malformation of a schema that has no fraction prints none.
+use Rattle.std.proofs.Common.{◌≡◌, true≢false, Bool, true, false, not, ◌||◌, List, [], ◌∷◌, ◌++◌, map, refl, codes}
+use Rattle.std.specs.List.{flat_map, AllByRecursion, All, Contains}
+use Rattle.std.proofs.lemmas.List.Elements.{All-from_recursion, All-contains}
+use Rattle.serde_json.specs.Data.{Data, null, boolean, number, string, array, object, Items, no_items, item, Members, no_members, member}
+use Rattle.serde_json.specs.Written.{has_float, items_have_float, members_have_float}
+use Rattle.olk_spec.specs.Names.{Name, Path, ◌//◌, down, is_among, those, put_if}
+use Rattle.olk_spec.specs.World.{World}
+use Rattle.olk_spec.specs.Vocabulary.{Keyword, properties, pattern_properties, additional_properties, property_names, required, dependent_required, dependent_schemas, dependencies, property_dependencies, all_of, any_of, one_of, not_keyword, if_keyword, then_keyword, else_keyword, unsupported, leaf, unread, keyword_named}
+use Rattle.olk_spec.specs.Schemas.{Sub, Part, Keywords, is_object, is_array, is_present, texts, branches, read_members}
+use Rattle.olk_spec.specs.Meanings.{is_conditional}
+use Rattle.olk_spec.specs.Asks.{open_patterns}
+use Rattle.olk_spec.specs.Faults.{Fault, Kind, SingleType, MultipleTypes, UniqueItems, Regex, Unsupported, LeafRefused, string_type}
+use Rattle.olk_spec.specs.Malformed.{each, places_where, read_places, refusal, first_of_list, items_list, items_of_array, is_text, not_a_text, has_repeat, or_else_list, unless_kind, unless_object, unless_array, name_list_refusals, own_refusals, keyword_malformations, malformations_step, malformations_beside, malformations, pending}
+use Rattle.olk_spec.proofs.Each.{Each, Each-append, Each-those, Each-any, Each-map, Each-flat_map, Each-implies}
+use Rattle.olk_spec.proofs.Induction.{schema_read, EachItem, EachMember, GoodSub, GoodEntry, GoodInner, GoodPart, GoodKeywords, GoodSchema, sound_answer, branches_good}
+use Rattle.olk_reports.specs.Messages.{prints_fraction}
+
+-- a value that has no fraction, and a fault that prints none
+abbrev IsPlain : Data → Type 0
+IsPlain d = has_float d ≡ false
+
+abbrev PrintsNone : Fault → Type 0
+PrintsNone f = prints_fraction f ≡ false
+
+abbrev Told : Type 0
+Told = Path → List Fault
+
+abbrev Good : Data → Told → Type 0
+Good d told = IsPlain d × ((P : Path) → Each PrintsNone (told P))
+
+abbrev GoodPlace : Sub Told × List Name → Type 0
+GoodPlace r = Good r.0.schema r.0.answer
+
+pub neither : (a b : Bool) → (a || b) ≡ false → (a ≡ false) × (b ≡ false)
+neither true b h = absurd (true≢false h)
+neither false b h = (refl, h)
+
+each_item : (ds : Items) → items_have_float ds ≡ false → EachItem IsPlain ds
+each_item no_items h = tt
+each_item (item d ds) h = let p = neither (has_float d) (items_have_float ds) h in (p.0, each_item ds p.1)
+
+each_member : (ms : Members) → members_have_float ms ≡ false → EachMember IsPlain ms
+each_member no_members h = tt
+each_member (member k d ms) h = let p = neither (has_float d) (members_have_float ms) h in (p.0, each_member ms p.1)
+
+-- ---- the places that a keyword reads
+
+each_good : (k : Name) (es : List (Name × Sub Told)) → Each (GoodEntry Good) es → Each GoodPlace (each k es)
+each_good k [] h = tt
+each_good k (e ∷ es) h = (h.0, each_good k es h.1)
+
+inner_good : (k key : Name) (es : List (Name × Sub Told)) → Each (GoodEntry Good) es → Each GoodPlace (map (λ i. (i.1, k ∷ key ∷ i.0 ∷ [])) es)
+inner_good k key [] h = tt
+inner_good k key (e ∷ es) h = (h.0, inner_good k key es h.1)
+
+where_good : (k : Name) (b : Bool) (ps : List (Sub Told × List Name)) → Each GoodPlace ps → Each GoodPlace (places_where k b ps)
+where_good k true ps h = h
+where_good k false ps h = tt
+
+places_good : (k : Name) (S : Keywords Told) (p : Part Told) → GoodPart Good p → (w : Keyword) → Each GoodPlace (read_places k S p w)
+places_good k S p h properties = each_good k p.entries h.1
+places_good k S p h pattern_properties = each_good k p.entries h.1
+places_good k S p h additional_properties = where_good k (is_object p.whole.schema) _ (h.0, tt)
+places_good k S p h property_names = where_good k (is_object p.whole.schema) _ (h.0, tt)
+places_good k S p h dependent_schemas = each_good k p.entries h.1
+places_good k S p h dependencies = each_good k _ (Each-those (GoodEntry Good) (λ e. not (is_array e.1.schema)) p.entries h.1)
+places_good k S p h property_dependencies = Each-flat_map GoodPlace _ p.inner (Each-implies (GoodInner Good) _ (λ e g. inner_good k e.0 e.1 g) p.inner h.2)
+places_good k S p h all_of = each_good k _ (branches_good Good p h)
+places_good k S p h any_of = each_good k _ (branches_good Good p h)
+places_good k S p h one_of = each_good k _ (branches_good Good p h)
+places_good k S p h not_keyword = (h.0, tt)
+places_good k S p h if_keyword = where_good k (is_conditional S) _ (h.0, tt)
+places_good k S p h then_keyword = where_good k (is_present S (codes "if")) _ (h.0, tt)
+places_good k S p h else_keyword = where_good k (is_present S (codes "if")) _ (h.0, tt)
+places_good k S p h required = tt
+places_good k S p h dependent_required = tt
+places_good k S p h unsupported = tt
+places_good k S p h leaf = tt
+places_good k S p h unread = tt
+
+-- ---- a keyword itself
+
+put_prints : (b : Bool) (f : Fault) → PrintsNone f → Each PrintsNone (put_if b f [])
+put_prints true f h = (h, tt)
+put_prints false f h = tt
+
+first_prints : (ds : List Data) → Each IsPlain ds → Each IsPlain (first_of_list ds)
+first_prints [] h = tt
+first_prints (d ∷ ds) h = (h.0, tt)
+
+or_prints : (fs gs : List Fault) → Each PrintsNone fs → Each PrintsNone gs → Each PrintsNone (or_else_list fs gs)
+or_prints [] gs h k = k
+or_prints (f ∷ fs) gs h k = h
+
+list_plain : (ds : Items) → items_have_float ds ≡ false → Each IsPlain (items_list ds)
+list_plain no_items h = tt
+list_plain (item d ds) h = let p = neither (has_float d) (items_have_float ds) h in (p.0, list_plain ds p.1)
+
+items_plain : (d : Data) → IsPlain d → Each IsPlain (items_of_array d)
+items_plain null h = tt
+items_plain (boolean b) h = tt
+items_plain (number n) h = tt
+items_plain (string s) h = tt
+items_plain (array ds) h = list_plain ds h
+items_plain (object ms) h = tt
+
+not_text_prints : (d : Data) (P : Path) → IsPlain d → Each PrintsNone (not_a_text d P)
+not_text_prints d P h = Each-map PrintsNone (λ i. refusal (SingleType string_type) i P) _ (first_prints _ (Each-those IsPlain (λ i. not (is_text i)) (items_of_array d) (items_plain d h)))
+
+name_list_prints : (key : Name) (d : Data) (P : Path) → IsPlain d → Each PrintsNone (name_list_refusals key d P)
+name_list_prints key d P h =
+    or_prints _ _ (put_prints (not (is_array d)) _ h)
+    (or_prints _ _ (put_prints (has_repeat (texts d)) (refusal UniqueItems d (P // key)) h) (not_text_prints d P h))
+
+module _ (W : World) where
+  own_prints : (k : Name) (p : Part Told) (P : Path) → GoodPart Good p → (w : Keyword) → Each PrintsNone (own_refusals W k p P w)
+  own_prints k p P h properties = put_prints _ _ h.0.0
+  own_prints k p P h pattern_properties =
+      Each-append PrintsNone (unless_object p.whole.schema P) _ (put_prints _ _ h.0.0)
+      (Each-map PrintsNone (λ t. refusal Regex (string t) (P // t)) _ (Each-any _ (λ t. refl) (those (λ t. not (W.builds t)) (open_patterns W p))))
+  own_prints k p P h additional_properties = put_prints _ _ h.0.0
+  own_prints k p P h required = Each-append PrintsNone (unless_array p.whole.schema P) _ (put_prints _ _ h.0.0) (not_text_prints p.whole.schema P h.0.0)
+  own_prints k p P h dependent_required =
+      Each-append PrintsNone (unless_object p.whole.schema P) _ (put_prints _ _ h.0.0)
+      (Each-flat_map PrintsNone (λ e. name_list_refusals e.0 e.1.schema P) p.entries (Each-implies (GoodEntry Good) _ (λ e g. name_list_prints e.0 e.1.schema P g.0) p.entries h.1))
+  own_prints k p P h dependent_schemas = put_prints _ _ h.0.0
+  own_prints k p P h dependencies =
+      Each-append PrintsNone (unless_object p.whole.schema P) _ (put_prints _ _ h.0.0)
+      (Each-flat_map PrintsNone (λ e. not_a_text e.1.schema P) p.entries (Each-implies (GoodEntry Good) _ (λ e g. not_text_prints e.1.schema P g.0) p.entries h.1))
+  own_prints k p P h property_dependencies =
+      Each-append PrintsNone (unless_object p.whole.schema P) _ (put_prints _ _ h.0.0)
+      (Each-flat_map PrintsNone (λ e. unless_object e.1.schema (P // e.0)) p.entries (Each-implies (GoodEntry Good) _ (λ e g. put_prints _ _ g.0) p.entries h.1))
+  own_prints k p P h all_of = put_prints _ _ h.0.0
+  own_prints k p P h any_of = put_prints _ _ h.0.0
+  own_prints k p P h one_of = put_prints _ _ h.0.0
+  own_prints k p P h unsupported = (refl, tt)
+  own_prints k p P h leaf = put_prints _ _ h.0.0
+  own_prints k p P h property_names = tt
+  own_prints k p P h not_keyword = tt
+  own_prints k p P h if_keyword = tt
+  own_prints k p P h then_keyword = tt
+  own_prints k p P h else_keyword = tt
+  own_prints k p P h unread = tt
+
+  module _ (refused : List Name) where
+    keyword_prints : (S : Keywords Told) (k : Name) (p : Part Told) (P : Path) → GoodPart Good p → (w : Keyword) → Each PrintsNone (keyword_malformations W refused S k p P w)
+    keyword_prints S k p P h w =
+        Each-append PrintsNone (put_if (is_among k refused) (refusal (Unsupported k) p.whole.schema (P // k)) [] ++ own_refusals W k p (P // k) w) _
+        (Each-append PrintsNone (put_if (is_among k refused) (refusal (Unsupported k) p.whole.schema (P // k)) []) _
+        (put_prints (is_among k refused) _ refl)
+        (own_prints k p (P // k) h w))
+        (Each-flat_map PrintsNone (λ r. r.0.answer (down P r.1)) (read_places k S p w)
+        (Each-implies GoodPlace _ (λ r g. g.1 (down P r.1)) (read_places k S p w) (places_good k S p h w)))
+
+    step_prints : (d : Data) → IsPlain d → GoodSchema Good (schema_read (malformations_step W refused) d) → Good d (malformations_step W refused (schema_read (malformations_step W refused) d))
+    step_prints null s g = (s, λ P. (refl, tt))
+    step_prints (boolean b) s g = (s, λ P. tt)
+    step_prints (number n) s g = (s, λ P. (s, tt))
+    step_prints (string t) s g = (s, λ P. (refl, tt))
+    step_prints (array ds) s g = (s, λ P. (s, tt))
+    step_prints (object ms) s g =
+        let S : Keywords Told = read_members (malformations_step W refused) ms in (
+          s,
+          λ P. Each-flat_map PrintsNone (λ m. keyword_malformations W refused S m.0 m.1 P (keyword_named W m.0)) S
+              (Each-implies (λ m. GoodPart Good m.1) _ (λ m h. keyword_prints S m.0 m.1 P h (keyword_named W m.0)) S g),
+        )
+
+    each_prints : (S : Data) → IsPlain S → (P : Path) → Each PrintsNone (malformations_beside W refused S P)
+    unfolding malformations_beside
+    each_prints S s P = (sound_answer Good IsPlain each_item each_member (malformations_step W refused) step_prints S s).1 P
+
+by_recursion : (fs : List Fault) → Each PrintsNone fs → AllByRecursion PrintsNone fs
+by_recursion [] h = tt
+by_recursion (f ∷ fs) h = (h.0, by_recursion fs h.1)
+
+pub malformation_prints_no_fraction : (W : World) (S : Data) → has_float S ≡ false → (f : Fault) → Contains (malformations W S) f → prints_fraction f ≡ false
+malformation_prints_no_fraction W S s f c =
+    All-contains PrintsNone (malformations W S) f (All-from_recursion PrintsNone (malformations W S) (by_recursion (malformations W S) (each_prints W pending S s []))) c

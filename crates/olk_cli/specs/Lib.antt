@@ -1,0 +1,5 @@
+pub mod Answers
+pub mod Lines
+pub mod Requests
+pub mod Seen
+pub mod Steps

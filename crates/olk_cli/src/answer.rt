@@ -1,0 +1,83 @@
+//! The answer to a line.
+ghost use Rattle.std.specs.Prelude.{◌≡◌, false, IfOk, option_map};
+ghost use Rattle.serde_json.specs.View.{view};
+ghost use Rattle.olk_reports.specs.Errors.{fault_of};
+ghost use Rattle.olk_reports.specs.Messages.{prints_fraction};
+ghost use Rattle.olk_cli.specs.Answers.{json_text, fault_refusal, IsReply, IsAnswer};
+ghost use Rattle.olk_cli.specs.Requests.{value_of, has_fraction};
+ghost use Rattle.olk_cli.specs.Seen.{seen};
+
+use crate::request::{Ask, Request, read_request};
+use crate::texts::{refusal_text, schema_refusal_text, verdict_text};
+use object_logic::{BuildError, Meter, ValidationContext, ValidationError, Validator};
+use olk_bench::{BenchLeaves, BenchRegexes};
+use serde_json::Value;
+use std::alloc::{AllocError, Global};
+
+/// The answer to a line, both without their line feeds. The only error is want of memory.
+#[tactic(auto, unfolding(crate::specs::Answers::IsAnswer))]
+pub fn answer_line(alloc: Global, line: &[u8]) -> Result<Vec<u8>, AllocError>
+    ensures { IfOk result (λ answer. IsAnswer line.now answer.items) }
+{
+    let value = match read_value(alloc, line)? {
+        Some(value) => value,
+        None => return refusal_text(alloc, "not JSON"),
+    };
+    let Some(request) = read_request(&value) else {
+        return refusal_text(alloc, "not a request");
+    };
+    if !request.holds_whole_numbers() {
+        return refusal_text(alloc, "a number is not a whole number of 64 bits");
+    }
+    reply(alloc, &request)
+}
+
+/// The value that a line is the text of, if it is one.
+fn read_value(alloc: Global, line: &[u8]) -> Result<Option<Value>, AllocError>
+    ensures { IfOk result (λ value. option_map view value ≡ value_of line.now) }
+{
+    match Value::from_slice(alloc, line) {
+        Ok(value) => Ok(Some(value)),
+        Err(e) => {
+            if e.is_memory() {
+                return Err(AllocError);
+            }
+            Ok(None)
+        }
+    }
+}
+
+/// The answer to a request, whose numbers are whole numbers of 64 bits.
+fn reply(alloc: Global, request: &Request<'_>) -> Result<Vec<u8>, AllocError>
+    requires { has_fraction (seen request.now) ≡ false }
+    ensures { IfOk result (λ answer. IsReply (seen request.now) answer.items) }
+{
+    let mut meter = Meter::new();
+    let built = Validator::build(
+        alloc,
+        &BenchLeaves,
+        &BenchRegexes,
+        request.schema,
+        &mut meter,
+    );
+    match built {
+        Ok(validator) => {
+            let mut ctx = ValidationContext::new(request.unfinished);
+            let valid = validator.is_valid(request.instance, &mut ctx);
+            match request.ask {
+                Ask::Valid => verdict_text(alloc, valid),
+            }
+        }
+        Err(BuildError::Refused(error)) => malformation_text(alloc, &error),
+        Err(BuildError::Memory(error)) => Err(error),
+    }
+}
+
+/// The refusal of a malformed schema.
+fn malformation_text(alloc: Global, error: &ValidationError<'_>) -> Result<Vec<u8>, AllocError>
+    ensures { IfOk result (λ answer. prints_fraction (fault_of error.now) ≡ false
+        → answer.items ≡ json_text (fault_refusal (fault_of error.now))) }
+{
+    let message = error.message(alloc)?;
+    schema_refusal_text(alloc, message.as_str(), error.schema_path())
+}

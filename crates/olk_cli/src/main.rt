@@ -1,0 +1,24 @@
+//! Answers requests to validate, one a line.
+#![tactic(auto)]
+
+mod answer;
+mod program;
+mod reading;
+mod request;
+#[cfg(test)]
+mod streams;
+#[cfg(test)]
+mod tests;
+mod texts;
+mod writing;
+
+use program::run;
+use std::io::BufReader;
+use std::process::ExitCode;
+
+fn main(rt: HostRuntime) -> ExitCode {
+    match BufReader::new(rt.alloc(), rt.reader()) {
+        Ok(mut reader) => ExitCode::from(run(rt.alloc(), &mut reader, &mut rt.stdout())),
+        Err(_) => ExitCode::from(program::MEMORY),
+    }
+}
