@@ -15,3 +15,6 @@ pub use build::compile;
 pub use context::{Context, Makers};
 pub use map::{SmallMap, SortedNames};
 pub use node::{Body, Keyword, KeywordOver, SchemaNode};
+
+#[cfg(test)]
+mod tests;
