@@ -19,3 +19,6 @@ pub use node::{
     SingleAnyOfValidator, SingleValueAllOfValidator, SmallPropertiesValidator, SmallValidatorsMap,
 };
 pub use required::RequiredValidator;
+
+#[cfg(test)]
+mod tests;

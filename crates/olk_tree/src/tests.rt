@@ -1,0 +1,289 @@
+//! Building from schemas, and looking up names, with a leaf set and a matcher.
+use crate::{Context, SmallMap, SortedNames, compile};
+use olk_base::{Leaf, MakeError, MakeLeaf, MakeRegex, Meter, Node, RegexEngine, Unfinished};
+use olk_reports::{BuildError, ValidationError};
+use serde_json::{Map, Value};
+use std::alloc::{AllocError, Global};
+use std::test::Fail;
+
+// ---- a leaf set: the keyword `text`, with the value false, refuses texts
+
+#[derive(Drop)]
+struct NoText;
+
+impl Leaf for NoText {
+    ghost use Rattle.std.specs.Prelude.{codes};
+    ghost use Rattle.olk_base.specs.Plain.{is_keyword, fits_text, text_faults};
+
+    ghost reads = { is_keyword };
+
+    ghost fits = { fits_text };
+
+    ghost faults = { λ k x v. text_faults v };
+
+    ghost keyword_of = { λ l. codes "text" };
+
+    ghost finds = { λ l v. text_faults v };
+
+    fn keyword(&self) -> &str {
+        "text"
+    }
+
+    fn is_valid(&self, node: Node<'_>) -> bool {
+        match node {
+            Node::Value(Value::String(_)) => false,
+            Node::Value(_) => true,
+            Node::Name(_) => false,
+        }
+    }
+
+    fn validate(&self, alloc: Global, node: Node<'_>) -> Result<Option<String>, AllocError> {
+        if self.is_valid(node) {
+            Ok(None)
+        } else {
+            Ok(Some(String::from_str(alloc, "is a text")?))
+        }
+    }
+
+    fn collect_errors(
+        &self,
+        alloc: Global,
+        node: Node<'_>,
+        texts: &mut Vec<String>,
+    ) -> Result<(), AllocError> {
+        if !self.is_valid(node) {
+            texts.push(String::from_str(alloc, "is a text")?)?;
+        }
+        Ok(())
+    }
+
+    fn evaluate(&self, alloc: Global, node: Node<'_>) -> Result<Vec<String>, AllocError> {
+        let mut texts = Vec::new(alloc);
+        self.collect_errors(alloc, node, &mut texts)?;
+        Ok(texts)
+    }
+}
+
+#[derive(Drop)]
+struct NoTexts;
+
+impl MakeLeaf for NoTexts {
+    type Leaf = NoText;
+
+    fn reads(&self, keyword: &str) -> bool {
+        keyword == "text"
+    }
+
+    fn make(
+        &self,
+        _alloc: Global,
+        keyword: &str,
+        value: &Value,
+        meter: &mut Meter,
+    ) -> Result<NoText, MakeError> {
+        meter.tick_leaves();
+        match value {
+            Value::Bool(false) if keyword == "text" => Ok(NoText),
+            _ => Err(MakeError::Refused),
+        }
+    }
+}
+
+// ---- a matcher: a pattern matches the names that equal it, `?` is unfinished, `(` does not build
+
+#[derive(Drop)]
+struct EqualTo {
+    text: String,
+}
+
+impl RegexEngine for EqualTo {
+    ghost use Rattle.std.specs.Prelude.{true, string_bytes};
+    ghost use Rattle.olk_base.specs.Plain.{is_pattern, equals};
+
+    ghost builds = { is_pattern };
+
+    ghost says = { equals };
+
+    ghost answers = { λ e n. equals (string_bytes e.text) n };
+
+    ghost costs = { λ e. true };
+
+    fn is_match(&self, text: &str, meter: &mut Meter) -> Result<bool, Unfinished> {
+        meter.tick_asked();
+        if self.text.as_str() == "?" {
+            Err(Unfinished)
+        } else {
+            Ok(self.text.as_str() == text)
+        }
+    }
+}
+
+#[derive(Drop)]
+struct Equality;
+
+impl MakeRegex for Equality {
+    type Engine = EqualTo;
+
+    fn make(&self, alloc: Global, pattern: &str, meter: &mut Meter) -> Result<EqualTo, MakeError> {
+        meter.tick_made();
+        if pattern == "(" {
+            Err(MakeError::Refused)
+        } else {
+            let text = String::from_str(alloc, pattern)?;
+            Ok(EqualTo { text })
+        }
+    }
+}
+
+// ---- building
+
+fn failure(error: BuildError<'_>) -> Fail {
+    match error {
+        BuildError::Refused(_error) => Fail::from("refused"),
+        BuildError::Memory(error) => Fail::from(error),
+    }
+}
+
+fn refusal(error: BuildError<'_>) -> Result<ValidationError<'_>, Fail> {
+    match error {
+        BuildError::Refused(error) => Ok(error),
+        BuildError::Memory(error) => Err(Fail::from(error)),
+    }
+}
+
+#[test]
+fn schemas_that_are_built(rt: HostRuntime) -> Result<(), Fail> {
+    let alloc = rt.alloc();
+    for (text, places, leaves) in [
+        ("true", 1, 0),
+        ("{}", 1, 0),
+        ("{\"other\":{\"properties\":5}}", 1, 0),
+        (
+            "{\"properties\":{\"a\":true,\"b\":{\"text\":false}},\"required\":[\"a\"]}",
+            3,
+            1,
+        ),
+        (
+            "{\"allOf\":[{},{\"anyOf\":[true,false]}],\"not\":{\"text\":false}}",
+            6,
+            1,
+        ),
+    ] {
+        let schema = Value::from_str(alloc, text)?;
+        let mut meter = Meter::new();
+        let mut ctx = Context::new(alloc, &NoTexts, &Equality, &mut meter);
+        ctx.place = ctx.place.join(alloc, "definitions")?;
+        let node = compile(&mut ctx, alloc, &schema).map_err(failure)?;
+        assert_eq!(rt; node.location().as_str(), "/definitions", "{text}");
+        assert_eq!(rt; ctx.location(), "/definitions", "{text}");
+        drop(ctx);
+        assert_eq!(rt; meter.compiled(), places, "{text}");
+        assert_eq!(rt; meter.leaves(), leaves, "{text}");
+        assert_eq!(rt; meter.made(), 0, "{text}");
+        assert_eq!(rt; meter.asked(), 0, "{text}");
+    }
+    Ok(())
+}
+
+#[test]
+fn schemas_that_are_refused(rt: HostRuntime) -> Result<(), Fail> {
+    let alloc = rt.alloc();
+    for (text, place, message) in [
+        ("7", "", "7 is not of types \"boolean\", \"object\""),
+        (
+            "{\"allOf\":[5]}",
+            "/allOf/0",
+            "5 is not of types \"boolean\", \"object\"",
+        ),
+        ("{\"anyOf\":{}}", "/anyOf", "{} is not of type \"array\""),
+        (
+            "{\"not\":[]}",
+            "/not",
+            "[] is not of types \"boolean\", \"object\"",
+        ),
+        (
+            "{\"properties\":5}",
+            "/properties",
+            "5 is not of type \"object\"",
+        ),
+        (
+            "{\"required\":[\"a\",5]}",
+            "/required",
+            "5 is not of type \"string\"",
+        ),
+        (
+            "{\"required\":true}",
+            "/required",
+            "true is not of type \"array\"",
+        ),
+        (
+            "{\"properties\":{\"a\":{\"$ref\":\"#\"}}}",
+            "/properties/a/$ref",
+            "\"$ref\" is not supported here",
+        ),
+        (
+            "{\"oneOf\":[]}",
+            "/oneOf",
+            "\"oneOf\" is not supported here",
+        ),
+        (
+            "{\"not\":{\"text\":true}}",
+            "/not/text",
+            "true is not a value for \"text\"",
+        ),
+    ] {
+        let schema = Value::from_str(alloc, text)?;
+        let mut meter = Meter::new();
+        let mut ctx = Context::new(alloc, &NoTexts, &Equality, &mut meter);
+        let Err(error) = compile(&mut ctx, alloc, &schema) else {
+            return Err(Fail::from("built"));
+        };
+        assert_eq!(rt; ctx.location(), "", "{text}");
+        let error = refusal(error)?;
+        assert_eq!(rt; error.schema_path(), place, "{text}");
+        assert_eq!(rt; error.instance_path(), "", "{text}");
+        assert_eq!(rt; error.message(alloc)?.as_str(), message, "{text}");
+    }
+    Ok(())
+}
+
+// ---- looking up names
+
+const DECLARED: [&str; 16] = [
+    "01", "03", "05", "07", "09", "11", "13", "15", "17", "19", "21", "23", "25", "27", "29", "31",
+];
+
+// Below, between and above those.
+const OTHERS: [&str; 18] = [
+    "", "00", "02", "04", "06", "08", "10", "12", "14", "16", "18", "20", "22", "24", "26", "28",
+    "30", "32",
+];
+
+#[test]
+fn names_are_found(rt: HostRuntime) -> Result<(), Fail> {
+    let alloc = rt.alloc();
+    for count in [0usize, 1, 2, 13, 14, 15, 16] {
+        let mut object = Map::new(alloc);
+        let mut nodes = Vec::new(alloc);
+        for (i, name) in DECLARED.iter().enumerate() {
+            if i < count {
+                object.insert(String::from_str(alloc, name)?, Value::Null)?;
+                nodes.push(i)?;
+            }
+        }
+        let names = SortedNames::of(alloc, &object)?;
+        assert_eq!(rt; names.len(), count);
+        assert_eq!(rt; names.as_slice().len(), count);
+        let map = SmallMap { names, nodes };
+        for (i, name) in DECLARED.iter().enumerate() {
+            let found = if i < count { Some(i) } else { None };
+            assert_eq!(rt; map.names.find(name), found, "{name} of {count}");
+            assert_eq!(rt; map.get(name).copied(), found, "{name} of {count}");
+        }
+        for name in OTHERS {
+            assert_eq!(rt; map.names.find(name), None, "{name} of {count}");
+            assert!(rt; map.get(name).is_none(), "{name} of {count}");
+        }
+    }
+    Ok(())
+}
