@@ -7,3 +7,4 @@ pub mod Members
 pub mod Building
 pub mod Forms
 pub mod Lists
+pub mod Parts

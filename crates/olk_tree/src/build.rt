@@ -161,7 +161,7 @@ fn compile_keyword<'a, L: MakeLeaf, M: MakeRegex>(
 
 /// `properties`, at its place.
 #[cycle(compile)]
-fn build_properties<'a, L: MakeLeaf, M: MakeRegex>(
+pub(crate) fn build_properties<'a, L: MakeLeaf, M: MakeRegex>(
     makers: &Makers<'_, L, M>,
     meter: &mut Meter,
     alloc: Global,
@@ -188,7 +188,7 @@ fn build_properties<'a, L: MakeLeaf, M: MakeRegex>(
 
 /// `allOf`, at its place.
 #[cycle(compile)]
-fn build_all_of<'a, L: MakeLeaf, M: MakeRegex>(
+pub(crate) fn build_all_of<'a, L: MakeLeaf, M: MakeRegex>(
     makers: &Makers<'_, L, M>,
     meter: &mut Meter,
     alloc: Global,
@@ -210,7 +210,7 @@ fn build_all_of<'a, L: MakeLeaf, M: MakeRegex>(
 
 /// `anyOf`, at its place.
 #[cycle(compile)]
-fn build_any_of<'a, L: MakeLeaf, M: MakeRegex>(
+pub(crate) fn build_any_of<'a, L: MakeLeaf, M: MakeRegex>(
     makers: &Makers<'_, L, M>,
     meter: &mut Meter,
     alloc: Global,
@@ -232,7 +232,7 @@ fn build_any_of<'a, L: MakeLeaf, M: MakeRegex>(
 
 /// `not`, at its place.
 #[cycle(compile)]
-fn build_not<'a, L: MakeLeaf, M: MakeRegex>(
+pub(crate) fn build_not<'a, L: MakeLeaf, M: MakeRegex>(
     makers: &Makers<'_, L, M>,
     meter: &mut Meter,
     alloc: Global,
@@ -253,7 +253,7 @@ fn build_not<'a, L: MakeLeaf, M: MakeRegex>(
 }
 
 /// `required`, at its place.
-fn build_required<'a, L: MakeLeaf, M: MakeRegex>(
+pub(crate) fn build_required<'a, L: MakeLeaf, M: MakeRegex>(
     makers: &Makers<'_, L, M>,
     meter: &mut Meter,
     alloc: Global,

@@ -1,13 +1,18 @@
-ghost use Rattle.std.specs.Prelude.{◌≡◌, [], IfOk, IfErr, map, string_bytes};
-ghost use Rattle.serde_json.specs.View.{items_view};
+ghost use Rattle.std.specs.Prelude.{◌≡◌, codes, [], IfOk, IfErr, map, string_bytes};
+ghost use Rattle.serde_json.specs.View.{items_view, view};
 ghost use Rattle.olk_spec.specs.Schemas.{texts_in};
+ghost use Rattle.olk_spec.specs.Vocabulary.{required};
+ghost use Rattle.olk_tree.specs.Kit.{kit};
+ghost use Rattle.olk_tree.specs.Parts.{GivesMember};
 ghost use Rattle.olk_tree.specs.Building.{TellsOneOf};
 ghost use Rattle.olk_tree.specs.Lists.{not_texts};
 
-use crate::build::{append, refuse};
-use olk_base::JsonType;
+use crate::build::{append, build_required, refuse};
+use crate::context::Context;
+use crate::node::Keyword;
+use olk_base::{JsonType, MakeLeaf, MakeRegex};
 use olk_reports::{BuildError, Location, ValidationErrorKind};
-use serde_json::Value;
+use serde_json::{Map, Value};
 use std::alloc::Global;
 
 /// `required`: each name is to be a member, where the value is an object (JSON Schema 2020-12 Validation, 6.5.3).
@@ -38,4 +43,24 @@ pub(crate) fn names<'a>(
         append(&mut names, String::from_str(alloc, text)?)?;
     }
     Ok(names)
+}
+
+/// The keyword of `required` in the object at the context's place (JSON Schema 2020-12 Validation, 6.5.3).
+///
+/// There always is an answer: the keyword, the refusal of a malformed value, or want of memory. The meter rises by the
+/// cost of the keyword, or by a part of it where nothing is built; the context's place is left as it was.
+pub fn compile<'a, L: MakeLeaf, M: MakeRegex>(
+    ctx: &mut Context<'_, L, M>,
+    alloc: Global,
+    _parent: &'a Map<String, Value>,
+    schema: &'a Value,
+) -> Option<Result<Keyword<L::Leaf, M::Engine>, BuildError<'a>>>
+    ensures gives { GivesMember (kit L.Leaf.reads L.Leaf.fits L.Leaf.faults L.Leaf.keyword_of L.Leaf.finds M.Engine.builds M.Engine.says M.Engine.answers M.Engine.costs) (codes "required") (view schema.now) required ctx.old.place ctx.old.meter.now ctx.new.meter.now result }
+    ensures place { ctx.new.place ≡ ctx.old.place }
+    ensures same_meter { ctx.new.meter.ghost_name ≡ ctx.old.meter.ghost_name }
+{
+    match ctx.place.join(alloc, "required") {
+        Ok(location) => Some(build_required(&ctx.makers, ctx.meter, alloc, location, schema)),
+        Err(error) => Some(Err(BuildError::Memory(error))),
+    }
 }
