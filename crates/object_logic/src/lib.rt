@@ -5,11 +5,20 @@ mod validator;
 mod whole;
 
 pub use olk_base::{
-    Leaf, MakeError, MakeLeaf, MakeRegex, Meter, Node, RegexEngine, Unfinished, ValidationContext,
+    CompiledPattern, JsonType, KeyHead, Leaf, MakeError, MakeLeaf, MakeRegex, Meter, Node,
+    PatternOptimization, PropertyName, PropertyPattern, RegexEngine, Unfinished, ValidationContext,
+    analyze_pattern, contains_ecma_whitespace,
 };
 pub use olk_check::IsValid;
 pub use olk_reports::{
-    BuildError, InstancePath, Location, Mark, ValidateError, ValidationError, ValidationErrorKind,
+    AnnotationEntry, BuildError, ErrorDescription, ErrorEntry, Evaluation, EvaluationFlag,
+    EvaluationNode, EvaluationResult, InstancePath, Location, Mark, ValidateError, ValidationError,
+    ValidationErrorKind,
+};
+pub use olk_tree::{
+    AllOfValidator, AnyOfValidator, Context, Keyword, NotValidator, RequiredValidator, SchemaNode,
+    SingleAnyOfValidator, SingleValueAllOfValidator, SmallPropertiesValidator, SmallValidatorsMap,
+    SortedNames, all_of, any_of, compile, not, properties, required,
 };
 pub use validator::Validator;
 pub use whole::holds_whole_numbers;
