@@ -6,6 +6,8 @@ mod program;
 mod reading;
 mod request;
 #[cfg(test)]
+mod rows;
+#[cfg(test)]
 mod streams;
 #[cfg(test)]
 mod tests;
