@@ -4,3 +4,4 @@ pub mod Lookups
 pub mod Sides
 pub mod MemberWalks
 pub mod Schemas
+pub mod Merge

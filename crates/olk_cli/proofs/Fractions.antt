@@ -14,7 +14,7 @@ use Rattle.olk_spec.specs.Faults.{Fault, Kind, SingleType, MultipleTypes, Unique
 use Rattle.olk_spec.specs.Malformed.{each, places_where, read_places, refusal, first_of_list, items_list, items_of_array, is_text, not_a_text, has_repeat, or_else_list, unless_kind, unless_object, unless_array, name_list_refusals, own_refusals, keyword_malformations, malformations_step, malformations_beside, malformations, pending}
 use Rattle.olk_spec.proofs.Each.{Each, Each-append, Each-those, Each-any, Each-map, Each-flat_map, Each-implies}
 use Rattle.olk_spec.proofs.Induction.{schema_read, EachItem, EachMember, GoodSub, GoodEntry, GoodInner, GoodPart, GoodKeywords, GoodSchema, sound_answer, branches_good}
-use Rattle.olk_reports.specs.Messages.{prints_fraction}
+use Rattle.olk_spec.specs.Texts.{prints_fraction}
 
 -- a value that has no fraction, and a fault that prints none
 abbrev IsPlain : Data → Type 0

@@ -6,7 +6,7 @@ use Rattle.olk_spec.specs.Faults.{Fault}
 use Rattle.olk_spec.specs.Malformed.{malformations}
 use Rattle.olk_spec.specs.Meaning.{accepts}
 use Rattle.olk_spec.specs.Bench.{bench}
-use Rattle.olk_reports.specs.Messages.{prints_fraction}
+use Rattle.olk_spec.specs.Texts.{prints_fraction}
 use Rattle.olk_cli.specs.Requests.{Asked, has_fraction}
 use Rattle.olk_cli.specs.Answers.{json_text, verdict, fault_refusal, IsReplyWhere, IsReply}
 use Rattle.olk_cli.proofs.Fractions.{malformation_prints_no_fraction, neither}

@@ -23,7 +23,7 @@ abbrev pub node_at : Path → Path → Shown → Tree
 node_at P Q (shown b a es ts) = result_node P Q b a es (trees_from ts)
 
 abbrev pub described_of : ErrorDescription → Described
-described_of e = (e.keyword.now, string_bytes e.message)
+described_of e = (e.keyword.now, string_bytes e.message, false)
 
 -- one level, each node below already seen as its tree
 abbrev pub result_step : EvaluationResult-F Tree Shown → Shown

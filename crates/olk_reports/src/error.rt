@@ -129,7 +129,7 @@ impl<'a> From<AllocError> for ValidateError<'a> {
 
 impl<'a> ValidationError<'a> {
     ghost use Rattle.olk_reports.specs.Errors.{kind_of, fault_of, fault_kind, fault_instance, fault_instance_path, fault_schema_path};
-    ghost use Rattle.olk_reports.specs.Messages.{prints_fraction};
+    ghost use Rattle.olk_spec.specs.Texts.{prints_fraction};
 
     /// An error of validating.
     pub fn new(

@@ -17,7 +17,7 @@ impl<'a> ErrorDescription<'a> {
 
     /// The error of this keyword with this message.
     pub fn new(keyword: &'a str, message: String) -> Self
-        ensures { described_of result ≡ (keyword.now, string_bytes message) }
+        ensures { described_of result ≡ (keyword.now, string_bytes message, false) }
     {
         ErrorDescription { keyword, message }
     }

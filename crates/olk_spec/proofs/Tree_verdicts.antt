@@ -313,7 +313,7 @@ module _ (W : World) (u : Bool) (S : Keywords Meaning) (h : GoodKeywords TreeAgr
     one_of_row = by (accepting p v == 0) ∙ sym (exactly_one (accepting p v))
       where
         told : List Described
-        told = put_if (nat_lt 1 (accepting p v)) (codes "oneOf", codes "more than one subschema succeeded") []
+        told = put_if (nat_lt 1 (accepting p v)) (codes "oneOf", codes "more than one subschema succeeded", false) []
 
         none_told : (b : Bool) (d : Described) → is_empty (put_if b d []) ≡ not b
         none_told true d = refl
@@ -322,7 +322,7 @@ module _ (W : World) (u : Bool) (S : Keywords Meaning) (h : GoodKeywords TreeAgr
         by : (b : Bool) → is_valid (cond b (result (P // k) Q None true [] (branch_trees W u S v P Q k p (λ s. true))) (result (P // k) Q None false told (branch_trees W u S v P Q k p (λ s. holds s v)))) ≡ (not b && not (nat_lt 1 (accepting p v)))
         by true = is_valid-result (P // k) Q None true [] (branch_trees W u S v P Q k p (λ s. true))
         by false = is_valid-result (P // k) Q None false told (branch_trees W u S v P Q k p (λ s. holds s v))
-            ∙ (λ i. (none_told (nat_lt 1 (accepting p v)) (codes "oneOf", codes "more than one subschema succeeded") i && true) && branches_row i)
+            ∙ (λ i. (none_told (nat_lt 1 (accepting p v)) (codes "oneOf", codes "more than one subschema succeeded", false) i && true) && branches_row i)
             ∙ and_true (not (nat_lt 1 (accepting p v)) && true) ∙ and_true (not (nat_lt 1 (accepting p v)))
 
     -- ---- `if`, where this is it

@@ -115,7 +115,7 @@ module _ (W : World) (u : Bool) (S : Keywords Meaning) (v : Data) (P Q : Path) w
     abbrev pub one_of_child : Tree
     one_of_child = cond (accepting p v == 0)
         (result (P // k) Q None true [] (branch_trees (λ s. true)))
-        (result (P // k) Q None false (where_so (nat_lt 1 (accepting p v)) (codes "oneOf", codes "more than one subschema succeeded")) (branch_trees (λ s. holds s v)))
+        (result (P // k) Q None false (where_so (nat_lt 1 (accepting p v)) (codes "oneOf", codes "more than one subschema succeeded", false)) (branch_trees (λ s. holds s v)))
 
     -- `if` with `then` where it accepts (shown only then), else `else`
     abbrev pub case_trees : Bool → Name → List Tree

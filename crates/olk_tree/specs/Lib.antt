@@ -2,6 +2,7 @@ pub mod Ascending
 pub mod Questions
 pub mod Kit
 pub mod Answers
+pub mod Shown
 pub mod Stands
 pub mod Members
 pub mod Building

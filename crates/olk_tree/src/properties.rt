@@ -21,6 +21,16 @@ pub struct SmallProperties<N> {
     pub location: Location,
 }
 
+/// `properties` together with `required` of two different names.
+#[derive(Drop)]
+pub struct SmallPropertiesWithRequired2<N> {
+    pub properties: SmallMap<N>,
+    pub first: String,
+    pub second: String,
+    pub location: Location,
+    pub required_location: Location,
+}
+
 /// The keyword of `properties` in the object at the context's place (JSON Schema 2020-12 Core, 10.3.2.1).
 ///
 /// There always is an answer: the keyword, the refusal of a malformed value, or want of memory. The meter rises by the
