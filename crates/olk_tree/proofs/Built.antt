@@ -1,5 +1,5 @@
 -- What is built so far, and one more.
-use Rattle.std.specs.Prelude.{◌≡◌, ◌≤◌, ◌<◌, ◌+◌, ⊤, ℕ, Bool, true, false, ◌&&◌, List, [], ◌∷◌, ◌++◌, map, sum_by, take, drop, length, decimal, Option, Some, None, option_to_list, IsPermutation, slice_index_or as get_or}
+use Rattle.std.specs.Prelude.{◌≡◌, ◌≤◌, ◌<◌, ◌+◌, ⊤, ℕ, Bool, true, false, ◌&&◌, List, [], ◌∷◌, ◌++◌, map, sum_by, take, drop, length, decimal, Option, Some, None, option_to_list, IsPermutation, Result, Ok, Err, IfOk, IfErr, slice_index_or as get_or}
 use Rattle.std.specs.List.{list_all, flat_map, enumerate_from}
 use Rattle.std.specs.List.Sorted.{IsStrictlySortedBy}
 use Rattle.std.specs.Map.{keys_of}
@@ -13,11 +13,11 @@ use Rattle.std.proofs.lemmas.Grind.{flat_map-append}
 use Rattle.serde_json.specs.Data.{Data, null, boolean, number, string, array, object, Members, Items}
 use Rattle.serde_json.specs.View.{view, items_view, members_view}
 use Rattle.serde_json.specs.declared.value.Value.{Value}
-use Rattle.olk_spec.specs.Names.{Name, Path, ◌//◌}
+use Rattle.olk_spec.specs.Names.{Name, Path, ◌//◌, lookup}
 use Rattle.olk_spec.specs.Faults.{Fault, fault, FalseSchema, MultipleTypes, ◌∼◌, like_empty, like_through}
 use Rattle.olk_spec.specs.Schemas.{listed, numbered, read, read_members}
 use Rattle.olk_spec.specs.Vocabulary.{Keyword, keyword_named}
-use Rattle.olk_spec.specs.Malformed.{malformations_beside, malformations_step, keyword_malformations, pending, items_list}
+use Rattle.olk_spec.specs.Malformed.{has_repeat, malformations_beside, malformations_step, keyword_malformations, pending, items_list}
 use Rattle.olk_spec.specs.Meaning.{meaning, meaning_step, accepts, asks, report}
 use Rattle.olk_spec.specs.Accepts.{keyword_accepts}
 use Rattle.olk_spec.specs.Asks.{keyword_asks}
@@ -25,6 +25,7 @@ use Rattle.olk_spec.specs.Reports.{keyword_report}
 use Rattle.olk_spec.specs.Costs.{Cost, cost, cost_step, no_cost, ◌⊕◌, total_cost, one_place, keyword_cost}
 use Rattle.olk_spec.proofs.Order.{∼_refl, ∼_append, ∼_same, ∼_permuted}
 use Rattle.olk_spec.proofs.Truth.{and_true}
+use Rattle.olk_spec.proofs.Walks.{Distinct-from}
 use Rattle.olk_spec.proofs.Reading.{members_read, keyword_part}
 use Rattle.olk_base.specs.Count.{Counts, count_compiled}
 use Rattle.olk_reports.specs.declared.error.BuildError.{BuildError}
@@ -39,12 +40,13 @@ use Rattle.olk_tree.proofs.Maps.{flat_map-map}
 use Rattle.std.specs.Prelude.{Vec}
 use Rattle.std.specs.declared.alloc.Global.{Global}
 use Rattle.olk_spec.specs.World.{World}
-use Rattle.olk_tree.specs.Building.{Spends, SpendsWithin, TellsOneOf, Refuses, IsBuilt, StandEach, AreBuilt, each_malformed, each_cost, Covers, Holds, KeywordIsBuilt, KeywordsAreBuilt, HoldsClaims, all_malformed, all_cost, which, means, ask, find}
+use Rattle.olk_tree.specs.Building.{Spends, SpendsWithin, TellsOneOf, Refuses, IsBuilt, StandEach, AreBuilt, each_malformed, each_cost, Covers, Holds, KeywordIsBuilt, KeywordsAreBuilt, HoldsClaims, RefusesMember, all_malformed, all_cost, which, means, ask, find}
+use Rattle.olk_tree.specs.Parts.{BuildsClaims}
 use Rattle.olk_tree.specs.declared.node.KeywordOver.{KeywordOver}
 use Rattle.olk_tree.specs.declared.node.Body.{Body}
 use Rattle.olk_tree.specs.declared.node.Body.TheVariants.{True, False, Keywords}
 use Rattle.olk_tree.specs.declared.node.SchemaNode.{SchemaNode, out-SchemaNode}
-use Rattle.olk_tree.proofs.Claims.{list_all-permuted, claims_are_all, are_taken, member_found}
+use Rattle.olk_tree.proofs.Claims.{list_all-permuted, claims_are_all, sorted_distinct, are_taken, member_found}
 use Rattle.olk_tree.proofs.Layers.{node_means, node_finds, node_location}
 use Rattle.olk_tree.proofs.Spending.{sum_first, sum_last, sum_around, total_cost-append, total_cost-map, spends_nothing, spends_append, spends_same, spends_place, within_after, within_same, within_exactly, within_nothing, tells_same}
 
@@ -324,7 +326,17 @@ module _ {K R : Type 0} (o : Kit K R) where
         → BuiltSoFar ks done a m → HoldsClaims o ls t n d P at m b → BuiltSoFar new (done ++ (n, d) ∷ []) a b
     next_keyword ks ls new done n d rest at a m b q whole place h k =
         one_more_keyword object_members P (taken_names object_members) ks ls new done (n, d) a m b q h
-        (subst (λ s. KeywordsAreBuilt o object_members ls (claims s object_members (n, d)) ((n, d) ∷ []) P m b) chosen (k object_members place (member_found entries done (n, d) rest sorted whole) (are_taken entries t sorted chosen)))
+        (subst (λ s. KeywordsAreBuilt o object_members ls (claims s object_members (n, d)) ((n, d) ∷ []) P m b) chosen (k object_members place (member_found entries done (n, d) rest sorted whole) (are_taken object_members t (sorted_distinct entries sorted) chosen)))
 
     pub last_keyword : (ks : List (KeywordOver K (SchemaNode K R))) (done : List (Name × Data)) (a b : Counts) → done ≡ listed object_members → BuiltSoFar ks done a b → KeywordsAreBuilt o object_members ks (listed object_members) (listed object_members) P a b
-    last_keyword ks done a b whole h = all_keywords object_members P (taken_names object_members) ks a b (are_taken entries (taken_names object_members) sorted refl) (subst (λ es. BuiltSoFar ks es a b) whole h)
+    last_keyword ks done a b whole h = all_keywords object_members P (taken_names object_members) ks a b (are_taken object_members (taken_names object_members) (sorted_distinct entries sorted) refl) (subst (λ es. BuiltSoFar ks es a b) whole h)
+
+  -- the keyword of a member of one object
+  pub in_object : (ms : Members) (t : Option (Name × Name)) (chosen : t ≡ taken_names ms) (ks : List (KeywordOver K (SchemaNode K R))) (k : Name) (d : Data) (P : Path) (a b : Counts) → HoldsClaims o ks t k d P (P // k) a b
+      → has_repeat (map (λ m. m.0) (listed ms)) ≡ false → lookup k (listed ms) ≡ Some d → KeywordsAreBuilt o ms ks (claims (taken_names ms) ms (k, d)) ((k, d) ∷ []) P a b
+  in_object ms t chosen ks k d P a b h distinct there = subst (λ s. KeywordsAreBuilt o ms ks (claims s ms (k, d)) ((k, d) ∷ []) P a b) chosen (h ms refl there (are_taken ms t (Distinct-from (listed ms) distinct) chosen))
+
+  pub builds_claims : (ms : Members) (t : Option (Name × Name)) (chosen : t ≡ taken_names ms) (k : Name) (d : Data) (w : Keyword) (P L : Path) (a b : Counts) (r : Result (KeywordOver K (SchemaNode K R)) BuildError) → L ≡ P // k
+      → IfOk r (λ x. HoldsClaims o (x ∷ []) t k d P L a b) → IfErr r (RefusesMember o k d w L a b) → BuildsClaims o ms k d w P a b r
+  builds_claims ms t chosen k d w P L a b (Ok x) e h g = (λ distinct there. in_object ms t chosen (x ∷ []) k d P a b (subst (λ M. HoldsClaims o (x ∷ []) t k d P M a b) e h) distinct there, tt)
+  builds_claims ms t chosen k d w P L a b (Err x) e h g = (tt, subst (λ M. RefusesMember o k d w M a b x) e g)

@@ -110,7 +110,7 @@ later_differ : (k : String Global) (es : List (String Global × Value)) → AllB
 later_differ k [] h = tt
 later_differ k (e ∷ es) h = (sym (is_eq-slice_cmp (string_bytes k) (string_bytes e.0)) ∙ ap is_eq h.0, later_differ k es h.1)
 
-sorted_distinct : (es : List (String Global × Value)) → IsStrictlySortedBy string_cmp (keys_of es) → Distinct (listed (members_view es))
+pub sorted_distinct : (es : List (String Global × Value)) → IsStrictlySortedBy string_cmp (keys_of es) → Distinct (listed (members_view es))
 unfolding IsStrictlySortedBy
 sorted_distinct [] h = tt
 sorted_distinct (e ∷ es) h = (later_differ e.0 es h.0, sorted_distinct es h.1)
@@ -154,19 +154,18 @@ where_few true true false o t e = absurd (true≢false (sym (ap is_some e)))
 where_few true false c o t e = absurd (true≢false (sym (ap is_some e)))
 where_few false b c o t e = absurd (true≢false (sym (ap is_some e)))
 
-pub are_taken : (es : List (String Global × Value)) (o : Option (Name × Name)) → IsStrictlySortedBy string_cmp (keys_of es) → o ≡ taken_names (members_view es) → AreTaken (members_view es) o
-are_taken es None h e = tt
-are_taken es (Some t) h e =
-    let ms = listed (members_view es) in
-    let distinct = sorted_distinct es h in
-    let w = where_few _ _ (allows_others (lookup (codes "additionalProperties") ms)) (two_names (lookup (codes "required") ms)) t (sym e) in
-    let d = declared_value (lookup (codes "properties") ms) w.0 in
-    let r = listed_names (lookup (codes "required") ms) t w.1 in
+pub are_taken : (ms : Members) (o : Option (Name × Name)) → Distinct (listed ms) → o ≡ taken_names ms → AreTaken ms o
+are_taken ms None h e = tt
+are_taken ms (Some t) h e =
+    let es = listed ms in
+    let w = where_few _ _ (allows_others (lookup (codes "additionalProperties") es)) (two_names (lookup (codes "required") es)) t (sym e) in
+    let d = declared_value (lookup (codes "properties") es) w.0 in
+    let r = listed_names (lookup (codes "required") es) t w.1 in
     record {
       value = d.0;
-      declared = named_once (codes "properties") d.0 ms distinct d.1;
+      declared = named_once (codes "properties") d.0 es h d.1;
       listed_at = r;
-      required = named_once (codes "required") (listing t) ms distinct r;
+      required = named_once (codes "required") (listing t) es h r;
     }
 
 one_of : {X : Type 0} (P : X → Type 0) (xs : List X) (x : X) (ys : List X) → Each P (xs ++ x ∷ ys) → P x

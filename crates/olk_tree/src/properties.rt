@@ -1,9 +1,9 @@
-ghost use Rattle.std.specs.Prelude.{◌≡◌, codes, option_map, IfOk};
+ghost use Rattle.std.specs.Prelude.{◌≡◌, codes, option_map, IfOk, IsSomeAnd};
 ghost use Rattle.serde_json.specs.View.{view, members_view};
 ghost use Rattle.olk_spec.specs.Vocabulary.{properties};
 ghost use Rattle.olk_tree.specs.Kit.{kit};
 ghost use Rattle.olk_tree.specs.Forms.{IsFormOfProperties, declares_few, allows_others, two_names, taken_names};
-ghost use Rattle.olk_tree.specs.Parts.{GivesMember};
+ghost use Rattle.olk_tree.specs.Parts.{BuildsClaims};
 
 use crate::build::build_properties;
 use crate::context::Context;
@@ -122,20 +122,29 @@ pub(crate) fn keyword<K, N: Drop>(
 
 /// The keyword of `properties` in the object at the context's place (JSON Schema 2020-12 Core, 10.3.2.1).
 ///
-/// There always is an answer: the keyword, the refusal of a malformed value, or want of memory. The meter rises by the
-/// cost of the keyword, or by a part of it where nothing is built; the context's place is left as it was.
+/// There always is an answer: the keyword, the refusal of a malformed value, or want of memory. Where `required` of the
+/// parent is taken over, the keyword stands for both. The meter rises by the cost of the keyword, or by a part of it where
+/// nothing is built; the context's place is left as it was.
 pub fn compile<'a, L: MakeLeaf, M: MakeRegex>(
     ctx: &mut Context<'_, L, M>,
     alloc: Global,
-    _parent: &'a Map<String, Value>,
+    parent: &'a Map<String, Value>,
     schema: &'a Value,
 ) -> Option<Result<Keyword<L::Leaf, M::Engine>, BuildError<'a>>>
-    ensures gives { GivesMember (kit L.Leaf.reads L.Leaf.fits L.Leaf.faults L.Leaf.keyword_of L.Leaf.finds M.Engine.builds M.Engine.says M.Engine.answers M.Engine.costs) (codes "properties") (view schema.now) properties ctx.old.place ctx.old.meter.now ctx.new.meter.now result }
+    ensures gives { IsSomeAnd result (BuildsClaims (kit L.Leaf.reads L.Leaf.fits L.Leaf.faults L.Leaf.keyword_of L.Leaf.finds M.Engine.builds M.Engine.says M.Engine.answers M.Engine.costs) (members_view parent.now.entries) (codes "properties") (view schema.now) properties ctx.old.place ctx.old.meter.now ctx.new.meter.now) }
     ensures place { ctx.new.place ≡ ctx.old.place }
     ensures same_meter { ctx.new.meter.ghost_name ≡ ctx.old.meter.ghost_name }
 {
     match ctx.place.join(alloc, "properties") {
-        Ok(location) => Some(build_properties(&ctx.makers, ctx.meter, alloc, &ctx.place, location, schema, None)),
+        Ok(location) => Some(build_properties(
+            &ctx.makers,
+            ctx.meter,
+            alloc,
+            &ctx.place,
+            location,
+            schema,
+            taken_names(parent),
+        )),
         Err(error) => Some(Err(BuildError::Memory(error))),
     }
 }
