@@ -10,6 +10,7 @@ pub use olk_base::{
     analyze_pattern, contains_ecma_whitespace,
 };
 pub use olk_check::IsValid;
+pub use olk_errors::Errors;
 pub use olk_reports::{
     AnnotationEntry, BuildError, ErrorDescription, ErrorEntry, Evaluation, EvaluationFlag,
     EvaluationNode, EvaluationResult, InstancePath, Location, Mark, ValidateError, ValidationError,

@@ -3,7 +3,7 @@ ghost use Rattle.std.specs.Prelude.{◌≡◌, OnOk, OnErr, IfErr};
 ghost use Rattle.std.specs.List.{flat_map};
 ghost use Rattle.serde_json.specs.Data.{object};
 ghost use Rattle.serde_json.specs.View.{view, members_view};
-ghost use Rattle.olk_spec.specs.Names.{◌//◌};
+ghost use Rattle.olk_reports.specs.Paths.{one_below};
 ghost use Rattle.olk_spec.specs.Schemas.{at};
 ghost use Rattle.olk_tree.specs.Answers.{named, first_of};
 ghost use Rattle.olk_tree.specs.Questions.{every};
@@ -203,8 +203,8 @@ fn validate_at<'a, N: Errors<'a>>(
     path: &mut InstancePath,
     ctx: &mut ValidationContext,
 ) -> Result<(), ValidateError<'a>>
-    ensures ok { OnOk result (Passes ((every (N.means subschema.now) (at name.now (object (members_view members.now.entries)))).accepts ctx.old.answer) (first_of (λ x. N.first subschema.now ctx.old.answer x (path.old // name.now)) (at name.now (object (members_view members.now.entries))))) }
-    ensures invalid { IfErr result (λ e. IfInvalid e (IsTold ((every (N.means subschema.now) (at name.now (object (members_view members.now.entries)))).accepts ctx.old.answer) (first_of (λ x. N.first subschema.now ctx.old.answer x (path.old // name.now)) (at name.now (object (members_view members.now.entries)))) (flat_map (λ x. N.finds subschema.now ctx.old.answer x (path.old // name.now)) (at name.now (object (members_view members.now.entries)))))) }
+    ensures ok { OnOk result (Passes ((every (N.means subschema.now) (at name.now (object (members_view members.now.entries)))).accepts ctx.old.answer) (first_of (λ x. N.first subschema.now ctx.old.answer x (one_below path.old name.now)) (at name.now (object (members_view members.now.entries))))) }
+    ensures invalid { IfErr result (λ e. IfInvalid e (IsTold ((every (N.means subschema.now) (at name.now (object (members_view members.now.entries)))).accepts ctx.old.answer) (first_of (λ x. N.first subschema.now ctx.old.answer x (one_below path.old name.now)) (at name.now (object (members_view members.now.entries)))) (flat_map (λ x. N.finds subschema.now ctx.old.answer x (one_below path.old name.now)) (at name.now (object (members_view members.now.entries)))))) }
     ensures path { path.new ≡ path.old }
     ensures answer { ctx.new.answer ≡ ctx.old.answer }
 {
@@ -223,8 +223,8 @@ fn validate_below<'a, N: Errors<'a>>(
     path: &mut InstancePath,
     ctx: &mut ValidationContext,
 ) -> Result<(), ValidateError<'a>>
-    ensures ok { OnOk result (Passes ((N.means subschema.now (view value.now)).accepts ctx.old.answer) (N.first subschema.now ctx.old.answer (view value.now) (path.old // name.now))) }
-    ensures invalid { IfErr result (λ e. IfInvalid e (IsTold ((N.means subschema.now (view value.now)).accepts ctx.old.answer) (N.first subschema.now ctx.old.answer (view value.now) (path.old // name.now)) (N.finds subschema.now ctx.old.answer (view value.now) (path.old // name.now)))) }
+    ensures ok { OnOk result (Passes ((N.means subschema.now (view value.now)).accepts ctx.old.answer) (N.first subschema.now ctx.old.answer (view value.now) (one_below path.old name.now))) }
+    ensures invalid { IfErr result (λ e. IfInvalid e (IsTold ((N.means subschema.now (view value.now)).accepts ctx.old.answer) (N.first subschema.now ctx.old.answer (view value.now) (one_below path.old name.now)) (N.finds subschema.now ctx.old.answer (view value.now) (one_below path.old name.now)))) }
     ensures path { path.new ≡ path.old }
     ensures answer { ctx.new.answer ≡ ctx.old.answer }
 {
@@ -330,7 +330,7 @@ fn collect_at<'a, N: Errors<'a>>(
     ctx: &mut ValidationContext,
     errors: &mut Vec<ValidationError<'a>>,
 ) -> Result<(), AllocError>
-    ensures report { OnOk result (Appends errors.old.items errors.new.items (flat_map (λ x. N.finds subschema.now ctx.old.answer x (path.old // name.now)) (at name.now (object (members_view members.now.entries))))) }
+    ensures report { OnOk result (Appends errors.old.items errors.new.items (flat_map (λ x. N.finds subschema.now ctx.old.answer x (one_below path.old name.now)) (at name.now (object (members_view members.now.entries))))) }
     ensures memory { OnErr result (errors.new.items ≡ errors.old.items) }
     ensures path { path.new ≡ path.old }
     ensures answer { ctx.new.answer ≡ ctx.old.answer }
@@ -351,7 +351,7 @@ fn collect_below<'a, N: Errors<'a>>(
     ctx: &mut ValidationContext,
     errors: &mut Vec<ValidationError<'a>>,
 ) -> Result<(), AllocError>
-    ensures report { OnOk result (Appends errors.old.items errors.new.items (N.finds subschema.now ctx.old.answer (view value.now) (path.old // name.now))) }
+    ensures report { OnOk result (Appends errors.old.items errors.new.items (N.finds subschema.now ctx.old.answer (view value.now) (one_below path.old name.now))) }
     ensures memory { OnErr result (errors.new.items ≡ errors.old.items) }
     ensures path { path.new ≡ path.old }
     ensures answer { ctx.new.answer ≡ ctx.old.answer }
