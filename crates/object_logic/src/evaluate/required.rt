@@ -1,0 +1,104 @@
+//! `required`.
+ghost use Rattle.std.specs.Prelude.{◌≡◌, ◌++◌, not, map, List, IfOk, OnOk};
+ghost use Rattle.serde_json.specs.Data.{object};
+ghost use Rattle.serde_json.specs.View.{members_view};
+ghost use Rattle.olk_base.specs.Nodes.{tree_of};
+ghost use Rattle.olk_spec.specs.Faults.{Fault, fault, Required};
+ghost use Rattle.olk_spec.specs.Schemas.{has};
+ghost use Rattle.olk_spec.specs.Accepts.{missing};
+ghost use Rattle.olk_spec.specs.Reports.{required_faults, fault_if};
+ghost use Rattle.olk_reports.specs.Evaluations.{shown_of};
+ghost use Rattle.olk_tree.specs.Answers.{texts_of};
+ghost use Rattle.object_logic.specs.Wanted.{HasErrors};
+
+use crate::evaluate::Evaluate;
+use crate::evaluate::own::mark;
+use olk_base::{Node, ValidationContext};
+use olk_check::members::has_member;
+use olk_reports::{EvaluationResult, InstancePath, ValidationErrorKind};
+use olk_tree::required::RequiredValidator;
+use serde_json::{Map, Value};
+use std::alloc::{AllocError, Global};
+
+/// An error of its own for each listed name that an object lacks (JSON Schema 2020-12 Validation, 6.5.3).
+impl<'a> Evaluate<'a> for RequiredValidator {
+    ghost use Rattle.olk_spec.specs.Reports.{required_faults};
+    ghost use Rattle.olk_spec.specs.Tree.{erring};
+    ghost use Rattle.olk_tree.specs.Answers.{texts_of};
+
+    ghost shows = { λ k u v Q. erring k.location Q (required_faults (texts_of k.required.items) v k.location Q) };
+
+    ghost place = { λ k. k.location };
+
+    fn location(&'a self) -> &'a str {
+        self.location.as_str()
+    }
+
+    fn evaluate(
+        &'a self,
+        alloc: Global,
+        node: Node<'a>,
+        path: &mut InstancePath,
+        _ctx: &mut ValidationContext,
+    ) -> Result<EvaluationResult<'a>, AllocError> {
+        match node.as_object() {
+            Some(members) => {
+                let location = self.location.as_str();
+                Ok(each_missing(&self.required, location, alloc, members, node, path)?)
+            }
+            None => Ok(EvaluationResult::valid_empty(alloc)),
+        }
+    }
+}
+
+// An error for each name that is no member.
+fn each_missing<'a>(
+    names: &'a Vec<String>,
+    location: &'a str,
+    alloc: Global,
+    members: &Map<String, Value>,
+    node: Node<'a>,
+    path: &InstancePath,
+) -> Result<EvaluationResult<'a>, AllocError>
+    ensures { IfOk result (λ r. HasErrors (map (λ n. fault (Required n) (tree_of node.entry) path.now location.now) (missing (texts_of names.now.items) (object (members_view members.now.entries)))) (shown_of r)) }
+{
+    let mut outcome = EvaluationResult::valid_empty(alloc);
+    for name in names {
+        mark_missing(
+            &mut outcome,
+            name.as_str(),
+            location,
+            alloc,
+            members,
+            node,
+            path,
+        )?;
+    }
+    Ok(outcome)
+}
+
+// An error where the name is no member.
+pub(crate) fn mark_missing<'a>(
+    outcome: &mut EvaluationResult<'a>,
+    name: &'a str,
+    location: &'a str,
+    alloc: Global,
+    members: &Map<String, Value>,
+    node: Node<'a>,
+    path: &InstancePath,
+) -> Result<(), AllocError>
+    ensures { OnOk result ((before : List Fault) → HasErrors before (shown_of outcome.old) → HasErrors (before ++ fault_if (not (has name.now (object (members_view members.now.entries)))) (Required name.now) (tree_of node.entry) location.now path.now) (shown_of outcome.new)) }
+{
+    if has_member(members, name) {
+        return Ok(());
+    }
+    mark(
+        outcome,
+        alloc,
+        ValidationErrorKind::Required { property: name },
+        node,
+        path,
+        location,
+    )?;
+    Ok(())
+}
