@@ -41,6 +41,7 @@ pub trait Evaluate<'a>: IsValid {
 }
 
 pub mod all_of;
+pub mod any_of;
 pub mod not;
 mod own;
 pub mod required;
