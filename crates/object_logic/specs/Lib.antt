@@ -1,2 +1,3 @@
 pub mod Validators
 pub mod Wanted
+pub mod Members

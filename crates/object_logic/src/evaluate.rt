@@ -44,5 +44,6 @@ pub mod all_of;
 pub mod any_of;
 pub mod not;
 mod own;
+pub mod properties;
 pub mod required;
 mod walk;
