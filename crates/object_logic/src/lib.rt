@@ -19,7 +19,8 @@ pub use olk_reports::{
 };
 pub use olk_tree::{
     AllOfValidator, AnyOfValidator, Context, Keyword, NotValidator, RequiredValidator, SchemaNode,
-    SingleAnyOfValidator, SingleValueAllOfValidator, SmallPropertiesValidator, SmallValidatorsMap,
+    SingleAnyOfValidator, SingleValueAllOfValidator, SmallPropertiesValidator,
+    SmallPropertiesWithRequired2Validator, SmallValidatorsMap,
     SortedNames, all_of, any_of, compile, not, properties, required,
 };
 pub use validator::Validator;

@@ -8,9 +8,9 @@ ghost use Rattle.olk_tree.specs.Questions.{every};
 ghost use Rattle.olk_check.specs.Declarations.{declared_mean, member_means, members_mean};
 
 use crate::IsValid;
-use crate::members::member;
 use olk_base::{Node, ValidationContext};
 use olk_tree::map::SmallMap;
+use olk_tree::members::member;
 use olk_tree::properties::SmallProperties;
 use serde_json::{Map, Value};
 

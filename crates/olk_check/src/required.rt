@@ -7,8 +7,8 @@ ghost use Rattle.olk_spec.specs.Accepts.{missing};
 ghost use Rattle.olk_tree.specs.Answers.{texts_of};
 
 use crate::IsValid;
-use crate::members::has_member;
 use olk_base::{Node, ValidationContext};
+use olk_tree::members::has_member;
 use olk_tree::required::RequiredValidator;
 use serde_json::{Map, Value};
 

@@ -1,5 +1,5 @@
 -- What holds a keyword, and what is told where none is built.
-use Rattle.std.specs.Prelude.{◌≡◌, ◌≤◌, ℕ, ◌+◌, Bool, true, false, not, ◌&&◌, ◌||◌, if◌then◌else◌, List, [], ◌∷◌, ◌++◌, map, sum_by, codes, Vec, String, string_bytes, bytes_eq}
+use Rattle.std.specs.Prelude.{◌≡◌, cond, Option, Some, None, unwrap_or, is_some, option_map, ◌≤◌, ℕ, ◌+◌, Bool, true, false, not, ◌&&◌, ◌||◌, if◌then◌else◌, List, [], ◌∷◌, ◌++◌, map, sum_by, codes, Vec, String, string_bytes, bytes_eq}
 use Rattle.std.specs.List.{list_all, list_any, flat_map}
 use Rattle.std.specs.declared.alloc.AllocError.{AllocError}
 use Rattle.std.specs.declared.alloc.Global.{Global}
@@ -15,7 +15,7 @@ use Rattle.serde_json.specs.declared.value.Value.{Value}
 use Rattle.olk_spec.specs.Names.{Name, Path, ◌//◌, is_empty, is_among}
 use Rattle.olk_spec.specs.World.{World}
 use Rattle.olk_spec.specs.Vocabulary.{Keyword, properties, required, all_of, any_of, not_keyword, leaf, unread, unsupported, unsupported_names, leaf_or_unread, keyword_named}
-use Rattle.olk_spec.specs.Faults.{Fault, AnyOf, Not, Leaf, LeafRefused, SingleType, Unsupported, array_type, object_type, fault, Context, context, IsLikeContext, like_none, like_branch, like, like_any_of, ◌∼◌, like_empty, like_next}
+use Rattle.olk_spec.specs.Faults.{Fault, AnyOf, Not, Leaf, LeafRefused, SingleType, Unsupported, array_type, object_type, fault, Context, context, IsLikeContext, like_none, like_branch, like, like_any_of, ◌∼◌, like_empty, like_next, like_through}
 use Rattle.olk_spec.specs.Schemas.{listed, numbered, at, texts_in, is_object, is_array}
 use Rattle.olk_spec.specs.Malformed.{pending, items_list, unless_kind}
 use Rattle.olk_spec.specs.Meaning.{accepts, asks, report}
@@ -23,9 +23,9 @@ use Rattle.olk_spec.specs.Accepts.{missing}
 use Rattle.olk_spec.specs.Reports.{required_faults, fault_if}
 use Rattle.olk_spec.specs.Costs.{Cost, cost, no_cost, ◌⊕◌}
 use Rattle.olk_spec.proofs.Each.{Each}
-use Rattle.olk_spec.proofs.Order.{∼_same, ∼_append, ∼_flat_map_any, faults_in-from}
+use Rattle.olk_spec.proofs.Order.{∼_same, ∼_append, ∼_behind, ∼_swap, ∼_flat_map_any, faults_in-from}
 use Rattle.olk_spec.proofs.Truth.{and_true, or_false}
-use Rattle.olk_spec.proofs.Walks.{neither}
+use Rattle.olk_spec.proofs.Walks.{neither, bytes_eq-sym}
 use Rattle.olk_base.specs.Count.{Counts, count_leaf}
 use Rattle.olk_base.proofs.CountLemmas.{raised_zero}
 use Rattle.olk_reports.specs.declared.error.BuildError.{BuildError}
@@ -35,15 +35,18 @@ use Rattle.olk_tree.specs.Questions.{Question, every, some}
 use Rattle.olk_tree.specs.Answers.{answers, beside, keyword_means, keyword_finds}
 use Rattle.olk_tree.specs.Stands.{StandsFor}
 use Rattle.olk_tree.specs.Members.{malformations_at, member_accepts, member_asks, member_report, member_malformations, member_cost}
-use Rattle.olk_tree.specs.Forms.{IsFormOfAllOf, IsFormOfAnyOf, IsOther}
+use Rattle.olk_tree.specs.Claims.{claims, members_named, listing}
+use Rattle.olk_tree.specs.Forms.{IsFormOfProperties, IsFormOfAllOf, IsFormOfAnyOf, IsOther}
 use Rattle.olk_tree.specs.Lists.{not_texts}
-use Rattle.olk_tree.specs.Building.{Spends, SpendsWithin, TellsOneOf, Refuses, IsBuilt, StandEach, AreBuilt, each_malformed, each_cost, Holds, KeywordIsBuilt, HoldsMember, RefusesMember}
+use Rattle.olk_tree.specs.Building.{Spends, SpendsWithin, TellsOneOf, Refuses, IsBuilt, StandEach, AreBuilt, each_malformed, each_cost, which, Holds, Covers, KeywordIsBuilt, KeywordsAreBuilt, HoldsMember, HoldsClaims, RefusesMember}
 use Rattle.olk_tree.specs.declared.map.SmallMap.{SmallMap}
+use Rattle.olk_tree.specs.declared.properties.SmallPropertiesWithRequired2.{SmallPropertiesWithRequired2}
 use Rattle.olk_tree.specs.declared.node.KeywordOver.{KeywordOver}
 use Rattle.olk_tree.specs.declared.node.KeywordOver.TheVariants as keyword
 use Rattle.olk_tree.specs.declared.node.SchemaNode.{SchemaNode}
 use Rattle.olk_tree.proofs.Facts as fact
-use Rattle.olk_tree.proofs.Spending.{sum_first, spends_nothing, within_before, within_same, within_exactly, within_nothing, tells_left, tells_same, tells_memory}
+use Rattle.olk_tree.proofs.Built.{built_alone}
+use Rattle.olk_tree.proofs.Spending.{sum_first, sum_last, spends_nothing, spends_same, refuses_memory, within_before, within_same, within_exactly, within_nothing, tells_left, tells_same, tells_memory}
 
 -- ---- numbers and counts
 
@@ -249,6 +252,65 @@ module _ {K R : Type 0} (o : Kit K R) where
     spends = subst (Spends a b) (sym (fact.properties_cost o.world ms fs)) built.spends;
   })
 
+  -- ---- properties, with required or alone
+
+  module _ (ms : Members) (m : SmallMap (SchemaNode K R)) (L P : Path) (k : SmallPropertiesWithRequired2 (SchemaNode K R)) (t : Name × Name) (form : IsFormOfProperties {K = K} P L m (Some t) (keyword.PropertiesWithRequired2 k)) where
+    abbrev alone : KeywordOver K (SchemaNode K R)
+    alone = keyword.Properties (record { properties = m; location = L })
+
+    abbrev lacking : Data → List Name
+    lacking v = missing (t.0 ∷ t.1 ∷ []) v
+
+    module _ (u : Bool) (v : Data) where
+      both_accept : (question (keyword.PropertiesWithRequired2 k) v).accepts u ≡ (is_empty (lacking v) && (question alone v).accepts u)
+      unfolding keyword_means
+      both_accept = λ i. is_empty (missing (form.2 i ∷ form.3 i ∷ []) v) && (question (keyword.Properties (record { properties = form.0 i; location = L })) v).accepts u
+
+      both_ask : (question (keyword.PropertiesWithRequired2 k) v).asks u ≡ 0 + (question alone v).asks u
+      unfolding keyword_means
+      both_ask = λ i. 0 + (question (keyword.Properties (record { properties = form.0 i; location = L })) v).asks u
+
+      both_find : (Q : Path) → found u (keyword.PropertiesWithRequired2 k) v Q ≡ required_faults (t.0 ∷ t.1 ∷ []) v (P // codes "required") Q ++ found u alone v Q
+      unfolding keyword_finds
+      both_find Q = λ i. required_faults (form.2 i ∷ form.3 i ∷ []) v (form.4 i) Q ++ found u (keyword.Properties (record { properties = form.0 i; location = L })) v Q
+
+    covers_both : (d : Data) → Holds o ms (alone ∷ []) (codes "properties", d) properties P → Covers o ms (keyword.PropertiesWithRequired2 k ∷ []) ((codes "properties", d) ∷ (codes "required", listing t) ∷ []) P
+    covers_both d h = record {
+      verdict = λ u v. ap (λ b. b && true) (both_accept u v) ∙ turned (is_empty (lacking v)) ((question alone v).accepts u) ∙ (λ i. h.verdict u v i && (sym (fact.required_accepts o.world ms (listing t) u v) i && true));
+      asks_within = λ u v.
+          let f : Name × Data → ℕ = λ x. member_asks o.world ms x (which o ms x) u v in
+          let b = both_ask u v in
+          let s = sum_by-cons f (codes "properties", d) ((codes "required", listing t) ∷ []) in
+          let q = h.asks_within u v in
+          omega (arith, b, s, q);
+      faults = λ u v Q. subst₂ (λ x y. x ∼ y)
+          (sym (append-nil _ ∙ both_find u v Q))
+          (ap (λ l. member_report o.world ms (codes "properties", d) properties u v P Q ++ l) (sym (append-nil _ ∙ fact.required_report o.world ms (listing t) u v P Q)))
+          (like_through (∼_swap (required_faults (t.0 ∷ t.1 ∷ []) v (P // codes "required") Q) (found u alone v Q))
+          (∼_behind (required_faults (t.0 ∷ t.1 ∷ []) v (P // codes "required") Q) (subst (λ l. l ∼ member_report o.world ms (codes "properties", d) properties u v P Q) (append-nil (found u alone v Q)) (h.faults u v Q))));
+    }
+      where
+        turned : (a b : Bool) → ((a && b) && true) ≡ ((b && true) && (a && true))
+        turned true true = refl
+        turned true false = refl
+        turned false true = refl
+        turned false false = refl
+
+  pub holds_form : (k : KeywordOver K (SchemaNode K R)) (m : SmallMap (SchemaNode K R)) (L P : Path) (t : Option (Name × Name)) (fs : Members) (d : Data) (a b : Counts) → d ≡ object fs → m.names ≡ map (λ e. e.0) (listed fs) → AreBuilt o m.nodes.items (listed fs) L a b → IsFormOfProperties P L m t k → HoldsClaims o (k ∷ []) t (codes "properties") d P L a b
+  holds_form (keyword.Properties k) m L P None fs d a b q names built form ms p there taken =
+      subst (λ x. KeywordsAreBuilt o ms (keyword.Properties x ∷ []) ((codes "properties", d) ∷ []) ((codes "properties", d) ∷ []) P a b) (λ i. record { properties = sym form.0 i; location = sym form.1 i })
+      (built_alone o ms P _ (codes "properties", d) a b (holds_properties m L fs d a b q names built ms P p))
+  holds_form (keyword.PropertiesWithRequired2 k) m L P (Some t) fs d a b q names built form ms p there taken =
+      let plain = holds_properties m L fs d a b q names built ms P p in
+      let whole = built_alone o ms P _ (codes "properties", d) a b plain in
+      record {
+        covers = subst (λ rows. Covers o ms (keyword.PropertiesWithRequired2 k ∷ []) ((codes "properties", d) ∷ rows) P) (sym taken.required) (covers_both ms m L P k t form d plain.holds);
+        clean = whole.clean;
+        spends = whole.spends;
+      }
+  holds_form k m L P None fs d a b q names built form ms p there taken = absurd form
+  holds_form k m L P (Some t) fs d a b q names built form ms p there taken = absurd form
+
   -- ---- branches
 
   module _ (L : Path) (ns : List (SchemaNode K R)) (u : Bool) (v : Data) where
@@ -382,6 +444,39 @@ module _ {K R : Type 0} (o : Kit K R) where
     spends = subst (Spends a a) (sym (fact.required_cost o.world ms (array ds))) (spends_nothing a);
   })
 
+  -- the names are taken over
+  pub holds_taken : (L P : Path) (t : Name × Name) (d : Data) (a : Counts) → HoldsClaims o [] (Some t) (codes "required") d P L a a
+  holds_taken L P t d a ms p there taken = record {
+    covers = record { verdict = λ u v. refl; asks_within = λ u v. omega arith; faults = λ u v Q. like_empty };
+    clean = append-nil _ ∙ ap (λ x. member_malformations o.world ms (codes "required", x) required P) same ∙ fact.required_malformations o.world ms (listing t) P;
+    spends = spends_same a a no_cost _ (sym (sum_last _ ∙ fact.required_cost o.world ms d)) (spends_nothing a);
+  }
+    where
+      same : d ≡ listing t
+      same = ap (λ o. unwrap_or o d) (sym there ∙ taken.listed_at)
+
+  module _ {X : Type 0} (f : X → Name × Name) where
+    pub holds_required_elsewhere : (x : Option X) (L P : Path) (d : Data) (a : Counts) → is_some x ≡ true → HoldsClaims o [] (option_map f x) (codes "required") d P L a a
+    holds_required_elsewhere None L P d a e = absurd (true≢false (sym e))
+    holds_required_elsewhere (Some x) L P d a e = holds_taken L P (f x) d a
+
+    pub holds_required_alone : (x : Option X) (ks : List (KeywordOver K (SchemaNode K R))) (L P : Path) (d : Data) (a b : Counts) → is_some x ≡ false → HoldsMember o ks (codes "required") d required L a b → HoldsClaims o ks (option_map f x) (codes "required") d P L a b
+    holds_required_alone None ks L P d a b e h ms p there taken = built_alone o ms P ks (codes "required", d) a b (h ms P p)
+    holds_required_alone (Some x) ks L P d a b e h ms p there taken = absurd (true≢false e)
+
+  -- a keyword that is neither claims its own member
+  pub holds_own : (ks : List (KeywordOver K (SchemaNode K R))) (t : Option (Name × Name)) (k : Name) (d : Data) (P L : Path) (a b : Counts) → bytes_eq (codes "properties") k ≡ false → bytes_eq (codes "required") k ≡ false → HoldsMember o ks k d (keyword_named o.world k) L a b → HoldsClaims o ks t k d P L a b
+  holds_own ks t k d P L a b e f h ms p there taken = subst (λ rows. KeywordsAreBuilt o ms ks rows ((k, d) ∷ []) P a b) (by t) (built_alone o ms P ks (k, d) a b (h ms P p))
+    where
+      by : (s : Option (Name × Name)) → (k, d) ∷ [] ≡ claims s ms (k, d)
+      by None = refl
+      by (Some s) = λ i. cond (sym e i) ((k, d) ∷ members_named (codes "required") (listed ms)) (cond (sym f i) [] ((k, d) ∷ []))
+
+  pub holds_other : (ks : List (KeywordOver K (SchemaNode K R))) (t : Option (Name × Name)) (k : Name) (d : Data) (P L : Path) (a b : Counts) → IsOther k → HoldsMember o ks k d (keyword_named o.world k) L a b → HoldsClaims o ks t k d P L a b
+  holds_other ks t k d P L a b other h =
+      let q = none_among k (codes "properties" ∷ codes "required" ∷ codes "allOf" ∷ codes "anyOf" ∷ codes "not" ∷ []) other in
+      holds_own ks t k d P L a b (bytes_eq-sym (codes "properties") k ∙ q.0) (bytes_eq-sym (codes "required") k ∙ q.1.0) h
+
   -- ---- leaves, and names that nothing reads
 
   module _ (l : K) (L : Path) (u : Bool) (v : Data) where
@@ -447,6 +542,10 @@ module _ {K R : Type 0} (o : Kit K R) where
   pub refuses_properties_inside : (L : Path) (fs : Members) (d : Data) (a b : Counts) (e : BuildError) → d ≡ object fs → Refuses (each_malformed o L (listed fs)) (each_cost o (listed fs)) a b e → RefusesMember o (codes "properties") d properties L a b e
   refuses_properties_inside L fs d a b e q h ms P p = subst (λ x. Refuses (member_malformations o.world ms (codes "properties", x) properties P) (member_cost o.world ms (codes "properties", x) properties) a b e) (sym q)
       (refuses_same _ _ _ _ a b e (ap (λ M. each_malformed o M (listed fs)) p ∙ sym (fact.properties_malformations o.world ms fs P)) (sym (fact.properties_cost o.world ms fs)) h)
+
+  pub refuses_properties_memory : (L : Path) (fs : Members) (d : Data) (a b : Counts) (e : BuildError) (m : AllocError) → d ≡ object fs → e ≡ Memory m → Spends a b (each_cost o (listed fs)) → RefusesMember o (codes "properties") d properties L a b e
+  refuses_properties_memory L fs d a b e m q r h ms P p = subst (λ x. Refuses (member_malformations o.world ms (codes "properties", x) properties P) (member_cost o.world ms (codes "properties", x) properties) a b e) (sym q)
+      (refuses_memory _ _ a b e m r (within_same a b _ _ (sym (fact.properties_cost o.world ms fs)) (within_exactly a b (each_cost o (listed fs)) h)))
 
   pub refuses_all_of_inside : (L : Path) (ds : Items) (d : Data) (a b : Counts) (e : BuildError) → d ≡ array ds → Refuses (each_malformed o L (numbered (items_list ds))) (each_cost o (numbered (items_list ds))) a b e → RefusesMember o (codes "allOf") d all_of L a b e
   refuses_all_of_inside L ds d a b e q h ms P p = subst (λ x. Refuses (member_malformations o.world ms (codes "allOf", x) all_of P) (member_cost o.world ms (codes "allOf", x) all_of) a b e) (sym q)

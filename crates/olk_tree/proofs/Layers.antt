@@ -1,15 +1,16 @@
 -- One level of a node: its answers, over those of the nodes below it.
-use Rattle.std.specs.Prelude.{◌≡◌, Bool, not, List, [], ◌∷◌, map, codes}
+use Rattle.std.specs.Prelude.{◌≡◌, Bool, not, List, [], ◌∷◌, ◌++◌, map, codes}
 use Rattle.std.specs.List.{flat_map}
 use Rattle.std.proofs.Common.{refl, ap, ◌∙◌}
 use Rattle.serde_json.specs.Data.{Data}
-use Rattle.olk_spec.specs.Names.{Path, ◌//◌}
+use Rattle.olk_spec.specs.Names.{Path, ◌//◌, is_empty}
 use Rattle.olk_spec.specs.Faults.{Fault, AnyOf, context}
 use Rattle.olk_spec.specs.Schemas.{at}
-use Rattle.olk_spec.specs.Reports.{fault_if}
+use Rattle.olk_spec.specs.Accepts.{missing}
+use Rattle.olk_spec.specs.Reports.{required_faults, fault_if}
 use Rattle.olk_tree.specs.Kit.{Kit}
-use Rattle.olk_tree.specs.Questions.{every, some}
-use Rattle.olk_tree.specs.Answers.{Answers, keyword_means, body_means, keyword_finds, body_finds, node_step, answers}
+use Rattle.olk_tree.specs.Questions.{always, both, every, some}
+use Rattle.olk_tree.specs.Answers.{Answers, two_texts, keyword_means, body_means, keyword_finds, body_finds, node_step, answers}
 use Rattle.olk_tree.specs.declared.node.KeywordOver.{KeywordOver}
 use Rattle.olk_tree.specs.declared.node.KeywordOver.TheVariants as keyword
 use Rattle.olk_tree.specs.declared.node.Body.{Body}
@@ -29,6 +30,7 @@ module _ {K R : Type 0} (o : Kit K R) where
   means_layer n False v = refl
   means_layer n (Keywords ks) v = every-map (λ k. keyword_means o.finds (λ a. a.means) k v) (λ k. keyword_means o.finds (λ n. (answers o n).means) k v) _ (elim [
     | keyword.Properties k ↦ every-beside (λ e. every e.1.means (at e.0 v)) (λ e. every (answers o e.1).means (at e.0 v)) (answers o) (λ a y. refl) k.properties.names k.properties.nodes.items
+    | keyword.PropertiesWithRequired2 k ↦ ap (both (always (is_empty (missing (two_texts k.first k.second) v)))) (every-beside (λ e. every e.1.means (at e.0 v)) (λ e. every (answers o e.1).means (at e.0 v)) (answers o) (λ a y. refl) k.properties.names k.properties.nodes.items)
     | keyword.Required k ↦ refl
     | keyword.AllOf k ↦ every-map (λ a. a.means v) (λ n. (answers o n).means v) (answers o) (λ n. refl) k.schemas.items
     | keyword.SingleValueAllOf k ↦ refl
@@ -45,6 +47,7 @@ module _ {K R : Type 0} (o : Kit K R) where
   finds_layer n False u v Q = refl
   finds_layer n (Keywords ks) u v Q = flat_map-map (λ k. keyword_finds o.finds (λ a. a.means) o.keyword_of (λ a. a.report) u k v Q) (λ k. keyword_finds o.finds (λ n. (answers o n).means) o.keyword_of (λ n. (answers o n).report) u k v Q) _ (elim [
     | keyword.Properties k ↦ flat_map-beside (λ e. flat_map (λ x. e.1.report u x (Q // e.0)) (at e.0 v)) (λ e. flat_map (λ x. (answers o e.1).report u x (Q // e.0)) (at e.0 v)) (answers o) (λ a y. refl) k.properties.names k.properties.nodes.items
+    | keyword.PropertiesWithRequired2 k ↦ ap (λ fs. required_faults (two_texts k.first k.second) v k.required_location Q ++ fs) (flat_map-beside (λ e. flat_map (λ x. e.1.report u x (Q // e.0)) (at e.0 v)) (λ e. flat_map (λ x. (answers o e.1).report u x (Q // e.0)) (at e.0 v)) (answers o) (λ a y. refl) k.properties.names k.properties.nodes.items)
     | keyword.Required k ↦ refl
     | keyword.AllOf k ↦ flat_map-map (λ a. a.report u v Q) (λ n. (answers o n).report u v Q) (answers o) (λ n. refl) k.schemas.items
     | keyword.SingleValueAllOf k ↦ refl

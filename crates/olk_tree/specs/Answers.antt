@@ -1,5 +1,5 @@
 -- What a built node answers: whether it accepts a value, and the faults that it finds.
-use Rattle.std.specs.Prelude.{Bool, true, false, not, List, [], ◌∷◌, map, String, string_bytes}
+use Rattle.std.specs.Prelude.{Bool, true, false, not, List, [], ◌∷◌, ◌++◌, map, String, string_bytes}
 use Rattle.std.specs.declared.alloc.Global.{Global}
 use Rattle.std.specs.List.{flat_map}
 use Rattle.serde_json.specs.Data.{Data}
@@ -10,7 +10,7 @@ use Rattle.olk_spec.specs.Schemas.{at}
 use Rattle.olk_spec.specs.Accepts.{missing}
 use Rattle.olk_spec.specs.Reports.{required_faults, fault_if}
 use Rattle.olk_tree.specs.Kit.{Kit}
-use Rattle.olk_tree.specs.Questions.{Question, always, every, some, opposite}
+use Rattle.olk_tree.specs.Questions.{Question, always, both, every, some, opposite}
 use Rattle.olk_tree.specs.declared.map.SmallMap.{SmallMap}
 use Rattle.olk_tree.specs.declared.node.KeywordOver.{KeywordOver}
 use Rattle.olk_tree.specs.declared.node.KeywordOver.TheVariants as keyword
@@ -37,6 +37,13 @@ named m = beside m.names m.nodes.items
 abbrev pub texts_of : List (String Global) → List Text
 texts_of = map string_bytes
 
+abbrev pub two_texts : String Global → String Global → List Text
+two_texts a b = string_bytes a ∷ string_bytes b ∷ []
+
+-- what the nodes of the declared names find at the members that have them
+abbrev pub properties_find : {N : Type 0} → (N → Bool → Data → Path → List Fault) → Bool → List (Name × N) → Data → Path → List Fault
+properties_find r u es v Q = flat_map (λ e. flat_map (λ x. r e.1 u x (Q // e.0)) (at e.0 v)) es
+
 module _ {K N : Type 0} (finds : K → Data → List Text) (m : N → Data → Question) where
   -- each declared name that is a member, with its node
   abbrev pub properties_mean : List (Name × N) → Data → Question
@@ -45,6 +52,7 @@ module _ {K N : Type 0} (finds : K → Data → List Text) (m : N → Data → Q
   -- whether a keyword accepts, over what its nodes mean
   unfoldable pub keyword_means : KeywordOver K N → Data → Question
   keyword_means (keyword.Properties k) v = properties_mean (named k.properties) v
+  keyword_means (keyword.PropertiesWithRequired2 k) v = both (always (is_empty (missing (two_texts k.first k.second) v))) (properties_mean (named k.properties) v)
   keyword_means (keyword.Required k) v = always (is_empty (missing (texts_of k.required.items) v))
   keyword_means (keyword.AllOf k) v = every (λ n. m n v) k.schemas.items
   keyword_means (keyword.SingleValueAllOf k) v = m k.node v
@@ -56,7 +64,8 @@ module _ {K N : Type 0} (finds : K → Data → List Text) (m : N → Data → Q
   module _ (keyword_of : K → Name) (r : N → Bool → Data → Path → List Fault) (u : Bool) where
     -- what a keyword finds, over what its nodes find
     unfoldable pub keyword_finds : KeywordOver K N → Data → Path → List Fault
-    keyword_finds (keyword.Properties k) v Q = flat_map (λ e. flat_map (λ x. r e.1 u x (Q // e.0)) (at e.0 v)) (named k.properties)
+    keyword_finds (keyword.Properties k) v Q = properties_find r u (named k.properties) v Q
+    keyword_finds (keyword.PropertiesWithRequired2 k) v Q = required_faults (two_texts k.first k.second) v k.required_location Q ++ properties_find r u (named k.properties) v Q
     keyword_finds (keyword.Required k) v Q = required_faults (texts_of k.required.items) v k.location Q
     keyword_finds (keyword.AllOf k) v Q = flat_map (λ n. r n u v Q) k.schemas.items
     keyword_finds (keyword.SingleValueAllOf k) v Q = r k.node u v Q

@@ -1,9 +1,10 @@
 -- What building a node, or a part of one, promises.
-use Rattle.std.specs.Prelude.{◌≡◌, ◌≤◌, ⊤, ℕ, Bool, true, List, [], ◌∷◌, Contains}
+use Rattle.std.specs.Prelude.{◌≡◌, ◌≤◌, ⊤, ℕ, Bool, true, List, [], ◌∷◌, Contains, Option, Some}
 use Rattle.std.specs.List.{list_all, flat_map, sum_by}
 use Rattle.serde_json.specs.Data.{Data, Members}
-use Rattle.olk_spec.specs.Names.{Name, Path, ◌//◌}
+use Rattle.olk_spec.specs.Names.{Name, Path, ◌//◌, lookup}
 use Rattle.olk_spec.specs.World.{World}
+use Rattle.olk_spec.specs.Schemas.{listed}
 use Rattle.olk_spec.specs.Vocabulary.{Keyword, keyword_named}
 use Rattle.olk_spec.specs.Faults.{Fault, ◌∼◌}
 use Rattle.olk_spec.specs.Costs.{Cost, cost, total_cost}
@@ -13,6 +14,7 @@ use Rattle.olk_reports.specs.declared.error.BuildError.{BuildError}
 use Rattle.olk_reports.specs.declared.error.BuildError.TheVariants.{Refused, Memory}
 use Rattle.olk_tree.specs.Kit.{Kit}
 use Rattle.olk_tree.specs.Questions.{every}
+use Rattle.olk_tree.specs.Claims.{claims, AreTaken}
 use Rattle.olk_tree.specs.Answers.{answers, keyword_means, keyword_finds}
 use Rattle.olk_tree.specs.Stands.{StandsFor}
 use Rattle.olk_tree.specs.Members.{malformations_at, member_accepts, member_asks, member_report, member_malformations, member_cost}
@@ -117,12 +119,18 @@ module _ {K R : Type 0} (o : Kit K R) where
         pub asks_within : (u : Bool) (v : Data) → ask v u ≤ sum_by (λ m. member_asks o.world ms m (which m) u v) es
         pub faults : (u : Bool) (v : Data) (Q : Path) → find u v Q ∼ flat_map (λ m. member_report o.world ms m (which m) u v P Q) es
 
-      pub record KeywordsAreBuilt (es : List (Name × Data)) (P : Path) (old new : Counts) : Type 0 where
-        pub covers : Covers es P
+      -- it is built for the members es, and is what the members rows mean together
+      pub record KeywordsAreBuilt (rows es : List (Name × Data)) (P : Path) (old new : Counts) : Type 0 where
+        pub covers : Covers rows P
         pub clean : all_malformed P es ≡ []
         pub spends : Spends old new (all_cost es)
 
-  -- ---- the same for a keyword that has no neighbours: k is its name, d its value and at its place
+  -- ---- the same for the keyword of the name k and the value d at its place, where these names are taken over in the object at P
+
+  abbrev pub HoldsClaims : List (KeywordOver K (SchemaNode K R)) → Option (Name × Name) → Name → Data → Path → Path → Counts → Counts → Type 0
+  HoldsClaims ks t k d P at old new = (ms : Members) → at ≡ P // k → lookup k (listed ms) ≡ Some d → AreTaken ms t → KeywordsAreBuilt ms ks (claims t ms (k, d)) ((k, d) ∷ []) P old new
+
+  -- ---- the same for a keyword that has no neighbours
 
   abbrev pub HoldsMember : List (KeywordOver K (SchemaNode K R)) → Name → Data → Keyword → Path → Counts → Counts → Type 0
   HoldsMember ks k d w at old new = (ms : Members) (P : Path) → at ≡ P // k → KeywordIsBuilt ms ks (k, d) w P old new

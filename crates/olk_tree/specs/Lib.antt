@@ -5,6 +5,7 @@ pub mod Answers
 pub mod Shown
 pub mod Stands
 pub mod Members
+pub mod Claims
 pub mod Building
 pub mod Forms
 pub mod Lists

@@ -11,7 +11,7 @@ ghost use Rattle.olk_reports.specs.Evaluations.{tree_of as shown_tree};
 use crate::evaluate::Evaluate;
 use crate::evaluate::walk::child;
 use olk_base::{Node, ValidationContext};
-use olk_check::members::member;
+use olk_tree::members::member;
 use olk_reports::{EvaluationNode, EvaluationResult, InstancePath};
 use olk_tree::map::SmallMap;
 use olk_tree::properties::SmallProperties;

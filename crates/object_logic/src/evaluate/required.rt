@@ -14,7 +14,7 @@ ghost use Rattle.object_logic.specs.Wanted.{HasErrors};
 use crate::evaluate::Evaluate;
 use crate::evaluate::own::mark;
 use olk_base::{Node, ValidationContext};
-use olk_check::members::has_member;
+use olk_tree::members::has_member;
 use olk_reports::{EvaluationResult, InstancePath, ValidationErrorKind};
 use olk_tree::required::RequiredValidator;
 use serde_json::{Map, Value};
