@@ -2,8 +2,9 @@
 use Rattle.std.specs.Prelude.{◌≡◌, ⊤, Bool, false, List, [], ◌∷◌, map, None}
 use Rattle.serde_json.specs.Data.{Data}
 use Rattle.olk_spec.specs.Names.{Path, is_empty}
-use Rattle.olk_spec.specs.Faults.{Fault}
-use Rattle.olk_spec.specs.Tree.{Tree, IsLikeTree, is_valid, Described, AreTold, described, described_fault}
+use Rattle.olk_spec.specs.Faults.{Fault, fault, Required}
+use Rattle.olk_spec.specs.Tree.{Tree, IsLikeTree, is_valid, Described, AreTold, described, described_fault, erring}
+use Rattle.olk_spec.specs.Accepts.{missing}
 use Rattle.olk_reports.specs.Evaluations.{Shown, shown, tree_of}
 use Rattle.olk_reports.specs.declared.evaluation.EvaluationNode.{EvaluationNode}
 use Rattle.olk_tree.specs.Questions.{Question}
@@ -43,3 +44,17 @@ module _ {N : Type 0} (t : N → Bool → Data → Path → Tree) (m : N → Dat
 
   abbrev pub each_wanted : List N → Data → Path → List Wanted
   each_wanted ns v Q = map (λ n. wanted n v Q) ns
+
+-- trees that are to be invalid
+abbrev pub refused : List Tree → List Wanted
+refused = map (λ t. (t, false))
+
+-- one tree with the faults of v at the names that w lacks, where it lacks one
+abbrev pub lacking_trees : List Name → Data → Data → Path → Path → List Tree
+lacking_trees ns v w P Q = put_if (not (is_empty (missing ns w))) (erring P Q (map (λ n. fault (Required n) v Q P) (missing ns w))) []
+
+-- texts of a keyword as own errors, in any order, and nothing else
+pub record HasTexts (k : Name) (texts : List Text) (s : Shown) : Type 0 where
+  pub own : List Described
+  pub is : s ≡ shown (is_empty texts) None own []
+  pub told : IsPermutation (map (λ t. (k, t, false)) texts) own

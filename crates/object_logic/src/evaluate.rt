@@ -42,6 +42,7 @@ pub trait Evaluate<'a>: IsValid {
 
 pub mod all_of;
 pub mod any_of;
+pub mod node;
 pub mod not;
 mod own;
 pub mod properties;

@@ -1,5 +1,5 @@
 //! `properties`.
-ghost use Rattle.std.specs.Prelude.{◌≡◌, ◌∷◌, [], IfOk, OnOk};
+ghost use Rattle.std.specs.Prelude.{◌≡◌, ◌++◌, ◌∷◌, [], IfOk, OnOk, option_to_list};
 ghost use Rattle.serde_json.specs.View.{view, members_view};
 ghost use Rattle.olk_spec.specs.Names.{◌//◌};
 ghost use Rattle.olk_spec.specs.Schemas.{listed};
@@ -9,12 +9,13 @@ ghost use Rattle.object_logic.specs.Wanted.{IsShown, wanted};
 ghost use Rattle.olk_reports.specs.Evaluations.{tree_of as shown_tree};
 
 use crate::evaluate::Evaluate;
+use crate::evaluate::required::missing_child;
 use crate::evaluate::walk::child;
 use olk_base::{Node, ValidationContext};
 use olk_tree::members::member;
 use olk_reports::{EvaluationNode, EvaluationResult, InstancePath};
 use olk_tree::map::SmallMap;
-use olk_tree::properties::SmallProperties;
+use olk_tree::properties::{SmallProperties, SmallPropertiesWithRequired2};
 use serde_json::{Map, Value};
 use std::alloc::{AllocError, Global};
 
@@ -50,6 +51,46 @@ impl<'a, N: Evaluate<'a>> Evaluate<'a> for SmallProperties<N> {
     }
 }
 
+/// Beside these, a child at the place of `required` where an object lacks one of the two names, with an error for each
+/// (JSON Schema 2020-12 Validation, 6.5.3).
+impl<'a, N: Evaluate<'a>> Evaluate<'a> for SmallPropertiesWithRequired2<N> {
+    ghost use Rattle.olk_tree.specs.Answers.{named, two_texts};
+    ghost use Rattle.olk_tree.specs.Shown.{properties_tree, missing_trees};
+
+    ghost shows = { λ k u v Q. properties_tree (λ n. N.shows n u) v Q k.location (named k.properties) (missing_trees (two_texts k.first k.second) v k.required_location Q) };
+
+    ghost place = { λ k. k.location };
+
+    fn location(&'a self) -> &'a str {
+        self.location.as_str()
+    }
+
+    fn evaluate(
+        &'a self,
+        alloc: Global,
+        node: Node<'a>,
+        path: &mut InstancePath,
+        ctx: &mut ValidationContext,
+    ) -> Result<EvaluationResult<'a>, AllocError> {
+        match node.as_object() {
+            Some(members) => {
+                let met = meet(&self.properties, members, alloc, path, ctx)?;
+                let missing = missing_child(
+                    self.first.as_str(),
+                    self.second.as_str(),
+                    self.required_location.as_str(),
+                    alloc,
+                    members,
+                    node,
+                    path,
+                )?;
+                Ok(met.with(missing)?.outcome(alloc))
+            }
+            None => Ok(EvaluationResult::valid_empty(alloc)),
+        }
+    }
+}
+
 // The members that are declared: their names, and what is shown of their values.
 #[derive(Drop)]
 struct Met<'a> {
@@ -72,6 +113,18 @@ impl<'a> Met<'a> {
             names: Vec::new(alloc),
             children: Vec::new(alloc),
         }
+    }
+
+    // With one child more, or none.
+    fn with(self, more: Option<EvaluationNode<'a>>) -> Result<Met<'a>, AllocError>
+        ensures names { IfOk result (λ m. m.names.items ≡ self.entry.names.items) }
+        ensures children { IfOk result (λ m. m.children.items ≡ self.entry.children.items ++ option_to_list more.entry) }
+    {
+        let mut met = self;
+        if let Some(child) = more {
+            met.children.push(child)?;
+        }
+        Ok(met)
     }
 
     // The children, and the names as annotation.

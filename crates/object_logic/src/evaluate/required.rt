@@ -1,5 +1,5 @@
 //! `required`.
-ghost use Rattle.std.specs.Prelude.{◌≡◌, ◌++◌, not, map, List, IfOk, OnOk};
+ghost use Rattle.std.specs.Prelude.{◌≡◌, ◌++◌, ◌∷◌, [], not, map, List, IfOk, OnOk, option_to_list};
 ghost use Rattle.serde_json.specs.Data.{object};
 ghost use Rattle.serde_json.specs.View.{members_view};
 ghost use Rattle.olk_base.specs.Nodes.{tree_of};
@@ -9,13 +9,14 @@ ghost use Rattle.olk_spec.specs.Accepts.{missing};
 ghost use Rattle.olk_spec.specs.Reports.{required_faults, fault_if};
 ghost use Rattle.olk_reports.specs.Evaluations.{shown_of};
 ghost use Rattle.olk_tree.specs.Answers.{texts_of};
-ghost use Rattle.object_logic.specs.Wanted.{HasErrors};
+ghost use Rattle.object_logic.specs.Wanted.{HasErrors, AreShown, refused, lacking_trees, trees_of};
+ghost use Rattle.olk_spec.specs.Names.{is_empty};
 
 use crate::evaluate::Evaluate;
 use crate::evaluate::own::mark;
 use olk_base::{Node, ValidationContext};
 use olk_tree::members::has_member;
-use olk_reports::{EvaluationResult, InstancePath, ValidationErrorKind};
+use olk_reports::{EvaluationNode, EvaluationResult, InstancePath, ValidationErrorKind};
 use olk_tree::required::RequiredValidator;
 use serde_json::{Map, Value};
 use std::alloc::{AllocError, Global};
@@ -101,4 +102,52 @@ pub(crate) fn mark_missing<'a>(
         location,
     )?;
     Ok(())
+}
+
+// Whether one of the names is no member.
+pub(crate) fn lacks_one(members: &Map<String, Value>, first: &str, second: &str) -> bool
+    ensures { result ≡ not (is_empty (missing (first.now ∷ second.now ∷ []) (object (members_view members.now.entries)))) }
+{
+    if !has_member(members, first) {
+        return true;
+    }
+    !has_member(members, second)
+}
+
+// An error for each of two names that is no member.
+fn both_missing<'a>(
+    first: &'a str,
+    second: &'a str,
+    location: &'a str,
+    alloc: Global,
+    members: &Map<String, Value>,
+    node: Node<'a>,
+    path: &InstancePath,
+) -> Result<EvaluationResult<'a>, AllocError>
+    ensures { IfOk result (λ r. HasErrors (map (λ n. fault (Required n) (tree_of node.entry) path.now location.now) (missing (first.now ∷ second.now ∷ []) (object (members_view members.now.entries)))) (shown_of r)) }
+{
+    let mut outcome = EvaluationResult::valid_empty(alloc);
+    mark_missing(&mut outcome, first, location, alloc, members, node, path)?;
+    mark_missing(&mut outcome, second, location, alloc, members, node, path)?;
+    Ok(outcome)
+}
+
+// A child at the place of `required`, where one of the names is no member.
+pub(crate) fn missing_child<'a>(
+    first: &'a str,
+    second: &'a str,
+    location: &'a str,
+    alloc: Global,
+    members: &Map<String, Value>,
+    node: Node<'a>,
+    path: &InstancePath,
+) -> Result<Option<EvaluationNode<'a>>, AllocError>
+    ensures { IfOk result (λ o. AreShown (refused (lacking_trees (first.now ∷ second.now ∷ []) (tree_of node.entry) (object (members_view members.now.entries)) location.now path.now)) (trees_of (option_to_list o))) }
+{
+    if !lacks_one(members, first, second) {
+        return Ok(None);
+    }
+    let outcome = both_missing(first, second, location, alloc, members, node, path)?;
+    let text = String::from_str(alloc, path.as_str())?;
+    Ok(Some(EvaluationNode::new(location, text, outcome)))
 }
