@@ -20,8 +20,8 @@ pub use olk_reports::{
 pub use olk_tree::{
     AllOfValidator, AnyOfValidator, Context, Keyword, NotValidator, RequiredValidator, SchemaNode,
     SingleAnyOfValidator, SingleValueAllOfValidator, SmallPropertiesValidator,
-    SmallPropertiesWithRequired2Validator, SmallValidatorsMap,
-    SortedNames, all_of, any_of, compile, not, properties, required,
+    SmallPropertiesWithRequired2Validator, SmallValidatorsMap, SortedNames, all_of, any_of,
+    compile, not, properties, required,
 };
 pub use validator::Validator;
 pub use whole::holds_whole_numbers;

@@ -1,36 +1,36 @@
 -- What is built so far, and one more.
-use Rattle.std.specs.Prelude.{◌≡◌, ◌≤◌, ◌<◌, ◌+◌, ⊤, ℕ, Bool, true, false, ◌&&◌, List, [], ◌∷◌, ◌++◌, map, sum_by, take, drop, length, decimal, Option, Some, None, option_to_list, IsPermutation, Result, Ok, Err, IfOk, IfErr, slice_index_or as get_or}
+use Rattle.std.specs.Prelude.{◌≡◌, ◌≤◌, ◌<◌, ◌+◌, ⊤, ℕ, Bool, true, false, ◌&&◌, List, [], ◌∷◌, ◌++◌, map, sum_by, take, drop, length, decimal, Option, Some, IsPermutation, Result, Ok, Err, IfOk, IfErr, slice_index_or as get_or}
 use Rattle.std.specs.List.{list_all, flat_map, enumerate_from}
 use Rattle.std.specs.List.Sorted.{IsStrictlySortedBy}
 use Rattle.std.specs.Map.{keys_of}
-use Rattle.std.proofs.Common.{refl, sym, ◌∙◌, ap, subst, arith, zero, suc, string_cmp, String}
+use Rattle.std.proofs.Common.{refl, sym, ◌∙◌, ap, subst, arith, string_cmp, String}
 use mathlib.Core.Path.{subst₂}
 use Rattle.std.proofs.lemmas.List.{append-nil, append_assoc, map-append, take_more, take-append-drop, length-map, length-take-le}
 use Rattle.std.proofs.lemmas.List.Folds.{list_all-append, list_all-map}
 use Rattle.std.proofs.lemmas.List.Sorted.{sum_by-IsPermutation}
 use Rattle.std.proofs.lemmas.List.Sums.{sum_by-append, sum_by-cons}
 use Rattle.std.proofs.lemmas.Grind.{flat_map-append}
-use Rattle.serde_json.specs.Data.{Data, null, boolean, number, string, array, object, Members, Items}
+use Rattle.serde_json.specs.Data.{Data, null, boolean, number, string, array, object, Members}
 use Rattle.serde_json.specs.View.{view, items_view, members_view}
 use Rattle.serde_json.specs.declared.value.Value.{Value}
 use Rattle.olk_spec.specs.Names.{Name, Path, ◌//◌, lookup}
-use Rattle.olk_spec.specs.Faults.{Fault, fault, FalseSchema, MultipleTypes, ◌∼◌, like_empty, like_through}
-use Rattle.olk_spec.specs.Schemas.{listed, numbered, read, read_members}
+use Rattle.olk_spec.specs.Faults.{fault, MultipleTypes, ◌∼◌, like_empty, like_through}
+use Rattle.olk_spec.specs.Schemas.{listed, numbered, read_members}
 use Rattle.olk_spec.specs.Vocabulary.{Keyword, keyword_named}
 use Rattle.olk_spec.specs.Malformed.{has_repeat, malformations_beside, malformations_step, keyword_malformations, pending, items_list}
 use Rattle.olk_spec.specs.Meaning.{meaning, meaning_step, accepts, asks, report}
 use Rattle.olk_spec.specs.Accepts.{keyword_accepts}
 use Rattle.olk_spec.specs.Asks.{keyword_asks}
 use Rattle.olk_spec.specs.Reports.{keyword_report}
-use Rattle.olk_spec.specs.Costs.{Cost, cost, cost_step, no_cost, ◌⊕◌, total_cost, one_place, keyword_cost}
-use Rattle.olk_spec.proofs.Order.{∼_refl, ∼_append, ∼_same, ∼_permuted}
+use Rattle.olk_spec.specs.Costs.{cost, cost_step, ◌⊕◌, total_cost, one_place, keyword_cost}
+use Rattle.olk_spec.proofs.Order.{∼_append, ∼_same, ∼_permuted}
 use Rattle.olk_spec.proofs.Truth.{and_true}
 use Rattle.olk_spec.proofs.Walks.{Distinct-from}
-use Rattle.olk_spec.proofs.Reading.{members_read, keyword_part}
+use Rattle.olk_spec.proofs.Reading.{members_read}
 use Rattle.olk_base.specs.Count.{Counts, count_compiled}
 use Rattle.olk_reports.specs.declared.error.BuildError.{BuildError}
 use Rattle.olk_tree.specs.Kit.{Kit}
-use Rattle.olk_tree.specs.Questions.{Question, every, both}
+use Rattle.olk_tree.specs.Questions.{Question, every}
 use Rattle.olk_tree.specs.Answers.{answers, keyword_means, keyword_finds, body_means, body_finds}
 use Rattle.olk_tree.specs.Claims.{claims, AreTaken}
 use Rattle.olk_tree.specs.Forms.{taken_names}
@@ -40,7 +40,7 @@ use Rattle.olk_tree.proofs.Maps.{flat_map-map}
 use Rattle.std.specs.Prelude.{Vec}
 use Rattle.std.specs.declared.alloc.Global.{Global}
 use Rattle.olk_spec.specs.World.{World}
-use Rattle.olk_tree.specs.Building.{Spends, SpendsWithin, TellsOneOf, Refuses, IsBuilt, StandEach, AreBuilt, each_malformed, each_cost, Covers, Holds, KeywordIsBuilt, KeywordsAreBuilt, HoldsClaims, RefusesMember, all_malformed, all_cost, which, means, ask, find}
+use Rattle.olk_tree.specs.Building.{TellsOneOf, Refuses, IsBuilt, StandEach, AreBuilt, each_cost, KeywordIsBuilt, KeywordsAreBuilt, HoldsClaims, RefusesMember, all_cost, which, ask, find}
 use Rattle.olk_tree.specs.Parts.{BuildsClaims}
 use Rattle.olk_tree.specs.declared.node.KeywordOver.{KeywordOver}
 use Rattle.olk_tree.specs.declared.node.Body.{Body}
@@ -48,7 +48,7 @@ use Rattle.olk_tree.specs.declared.node.Body.TheVariants.{True, False, Keywords}
 use Rattle.olk_tree.specs.declared.node.SchemaNode.{SchemaNode, out-SchemaNode}
 use Rattle.olk_tree.proofs.Claims.{list_all-permuted, claims_are_all, sorted_distinct, are_taken, member_found}
 use Rattle.olk_tree.proofs.Layers.{node_means, node_finds, node_location}
-use Rattle.olk_tree.proofs.Spending.{sum_first, sum_last, sum_around, total_cost-append, total_cost-map, spends_nothing, spends_append, spends_same, spends_place, within_after, within_same, within_exactly, within_nothing, tells_same}
+use Rattle.olk_tree.proofs.Spending.{sum_last, total_cost-append, total_cost-map, spends_nothing, spends_append, spends_same, spends_place, within_after, within_same, within_exactly, tells_same}
 
 abbrev pub truth_body : {W : Type 0} → Bool → Body W
 truth_body true = True

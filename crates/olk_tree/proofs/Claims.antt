@@ -12,7 +12,7 @@ use Rattle.std.proofs.Common.{refl, sym, ◌∙◌, ap, subst, string_cmp, strin
 use Rattle.std.proofs.lemmas.List.Sorted.{IsPermutation-refl, IsPermutation-cons, IsPermutation-sym, IsPermutation-trans, IsPermutation-middle}
 use Rattle.std.proofs.lemmas.Map.Text.{is_eq-slice_cmp}
 use mathlib.Core.Bool.{true≢false}
-use Rattle.serde_json.specs.Data.{Data, null, boolean, number, string, array, object, Items, no_items, item, Members}
+use Rattle.serde_json.specs.Data.{Data, string, array, no_items, item, Members}
 use Rattle.serde_json.specs.View.{members_view}
 use Rattle.serde_json.specs.declared.value.Value.{Value}
 use Rattle.olk_spec.specs.Names.{Name, lookup, first_if_equal, those, put_if, is_empty}
@@ -20,7 +20,7 @@ use Rattle.olk_spec.specs.Schemas.{listed}
 use Rattle.olk_spec.proofs.Each.{Each}
 use Rattle.olk_spec.proofs.Order.{along_permutation}
 use Rattle.olk_spec.proofs.Walks.{same_name, Distinct, Each-found}
-use Rattle.olk_tree.specs.Claims.{members_named, listing, TakesOver, AreTaken, claims}
+use Rattle.olk_tree.specs.Claims.{members_named, listing, AreTaken, claims}
 use Rattle.olk_tree.specs.Forms.{declares_few, allows_others, two_names, taken_names}
 
 -- ---- lists in another order

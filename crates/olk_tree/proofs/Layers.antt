@@ -1,15 +1,15 @@
 -- One level of a node: its answers, over those of the nodes below it.
-use Rattle.std.specs.Prelude.{◌≡◌, Bool, not, List, [], ◌∷◌, ◌++◌, map, codes}
+use Rattle.std.specs.Prelude.{◌≡◌, Bool, not, ◌++◌}
 use Rattle.std.specs.List.{flat_map}
 use Rattle.std.proofs.Common.{refl, ap, ◌∙◌}
 use Rattle.serde_json.specs.Data.{Data}
 use Rattle.olk_spec.specs.Names.{Path, ◌//◌, is_empty}
-use Rattle.olk_spec.specs.Faults.{Fault, AnyOf, context}
+use Rattle.olk_spec.specs.Faults.{AnyOf, context}
 use Rattle.olk_spec.specs.Schemas.{at}
 use Rattle.olk_spec.specs.Accepts.{missing}
 use Rattle.olk_spec.specs.Reports.{required_faults, fault_if}
 use Rattle.olk_tree.specs.Kit.{Kit}
-use Rattle.olk_tree.specs.Questions.{always, both, every, some}
+use Rattle.olk_tree.specs.Questions.{always, both, every}
 use Rattle.olk_tree.specs.Answers.{Answers, two_texts, keyword_means, body_means, keyword_finds, body_finds, node_step, answers}
 use Rattle.olk_tree.specs.declared.node.KeywordOver.{KeywordOver}
 use Rattle.olk_tree.specs.declared.node.KeywordOver.TheVariants as keyword

@@ -129,7 +129,14 @@ fn compile_members<'a, L: MakeLeaf, M: MakeRegex>(
     for (name, value) in members {
         let location = place.join(alloc, name.as_str())?;
         let keyword = compile_keyword(
-            makers, meter, alloc, place, location, name.as_str(), value, taken,
+            makers,
+            meter,
+            alloc,
+            place,
+            location,
+            name.as_str(),
+            value,
+            taken,
         )?;
         if let Some(keyword) = keyword {
             append(&mut keywords, keyword)?;
@@ -157,9 +164,7 @@ fn compile_keyword<'a, L: MakeLeaf, M: MakeRegex>(
         "properties" => Ok(Some(build_properties(
             makers, meter, alloc, place, location, value, taken,
         )?)),
-        "required" => Ok(build_own_required(
-            makers, meter, alloc, location, value, taken,
-        )?),
+        "required" => Ok(build_own_required(makers, meter, alloc, location, value, taken)?),
         "allOf" => Ok(Some(build_all_of(makers, meter, alloc, location, value)?)),
         "anyOf" => Ok(Some(build_any_of(makers, meter, alloc, location, value)?)),
         "not" => Ok(Some(build_not(makers, meter, alloc, location, value)?)),

@@ -84,8 +84,9 @@ pub type NotValidator<K, R> = Not<SchemaNode<K, R>>;
 pub type SmallPropertiesValidator<K, R> = SmallProperties<SchemaNode<K, R>>;
 
 /// `properties` together with `required` of two different names, over nodes.
-pub type SmallPropertiesWithRequired2Validator<K, R> =
-    SmallPropertiesWithRequired2<SchemaNode<K, R>>;
+pub type SmallPropertiesWithRequired2Validator<K, R> = SmallPropertiesWithRequired2<
+    SchemaNode<K, R>,
+>;
 
 /// Names in order, and beside each its node.
 pub type SmallValidatorsMap<K, R> = SmallMap<SchemaNode<K, R>>;

@@ -109,15 +109,13 @@ pub(crate) fn keyword<K, N: Drop>(
     let first = String::from_str(alloc, first)?;
     let second = String::from_str(alloc, second)?;
     let required_location = place.join(alloc, "required")?;
-    Ok(KeywordOver::PropertiesWithRequired2(
-        SmallPropertiesWithRequired2 {
-            properties,
-            first,
-            second,
-            location,
-            required_location,
-        },
-    ))
+    Ok(KeywordOver::PropertiesWithRequired2(SmallPropertiesWithRequired2 {
+        properties,
+        first,
+        second,
+        location,
+        required_location,
+    }))
 }
 
 /// The keyword of `properties` in the object at the context's place (JSON Schema 2020-12 Core, 10.3.2.1).
