@@ -11,7 +11,7 @@ use Rattle.olk_tree.specs.Questions.{Question, some}
 use Rattle.olk_tree.specs.Shown.{branch_trees, any_of_tree}
 use Rattle.olk_reports.specs.declared.evaluation.EvaluationNode.{EvaluationNode}
 use Rattle.object_logic.specs.Wanted.{Wanted, IsShown, AreShown, wanted, each_wanted, trees_of}
-use Rattle.object_logic.proofs.Children.{ShownFrom, shown_more, trees_wanted, all_wanted, plain_like, plain_verdict, valid_shown, like_result, like_children, branches_wanted}
+use Rattle.object_logic.proofs.Children.{ShownFrom, shown_more, trees_wanted, plain_like, plain_verdict, valid_shown, like_result, like_children, branches_wanted}
 
 -- ---- those of a list
 

@@ -1,5 +1,5 @@
 -- Members that are met, one after another.
-use Rattle.std.proofs.Common.{◌≡◌, ℕ, ◌⊎◌, inl, inr, Bool, true, false, ◌&&◌, cond, List, [], ◌∷◌, ◌++◌, map, ◌||◌, bytes_eq, Ordering, Less, Equal, Greater, Option, Some, None, is_some, option_to_list, String, Global, string_bytes, Bor, refl, sym, ap, subst, ◌∙◌, append_assoc}
+use Rattle.std.proofs.Common.{◌≡◌, ℕ, ◌⊎◌, inl, inr, Bool, true, false, ◌&&◌, List, [], ◌∷◌, ◌++◌, map, ◌||◌, bytes_eq, Ordering, Less, Equal, Greater, Option, Some, None, is_some, option_to_list, String, Global, string_bytes, Bor, refl, sym, ap, subst, ◌∙◌, append_assoc}
 use Rattle.std.specs.List.{flat_map, list_all}
 use Rattle.std.specs.Ordering.{nat_cmp, is_eq}
 use Rattle.std.specs.Cmp.Lexicographic.{slice_cmp}
@@ -10,16 +10,19 @@ use Rattle.serde_json.specs.Data.{Data, Members, object}
 use Rattle.serde_json.specs.Find.{as_object}
 use Rattle.serde_json.specs.View.{view, members_view}
 use Rattle.serde_json.specs.declared.value.Value.{Value}
-use Rattle.olk_spec.specs.Names.{Name, Path, ◌//◌, lookup, first_if_equal, is_among, those, put_if}
+use Rattle.olk_spec.specs.Names.{Name, Path, ◌//◌, lookup, first_if_equal, is_among, those, put_if, is_empty}
 use Rattle.olk_spec.specs.Schemas.{listed}
 use Rattle.olk_spec.specs.Tree.{Tree, IsLikeTree, AreLikeTrees, trees_from, is_valid}
 use Rattle.olk_tree.specs.Questions.{Question, every}
-use Rattle.olk_tree.specs.Shown.{member_trees, met_names, properties_tree}
+use Rattle.olk_tree.specs.Shown.{member_trees, met_names, properties_tree, missing_trees}
 use Rattle.olk_check.specs.Declarations.{declared_mean}
 use Rattle.olk_check.proofs.MemberWalks.{declared_nothing, object_of}
 use Rattle.object_logic.proofs.Children.{trees_wanted, all_wanted, like_result, valid_shown, like_children, all_valid, all_wanted_valid}
 use Rattle.olk_tree.specs.Answers.{beside}
-use Rattle.object_logic.specs.Wanted.{Wanted, IsShown, AreShown, trees_of}
+use Rattle.object_logic.specs.Wanted.{Wanted, IsShown, AreShown, refused, lacking_trees, trees_of}
+use Rattle.olk_spec.specs.Accepts.{missing}
+use Rattle.olk_check.proofs.Lookups.{lacks_nothing}
+use Rattle.object_logic.proofs.Own.{all_there}
 use Rattle.olk_reports.specs.Evaluations.{Shown, shown, node_at, tree_of}
 use Rattle.olk_reports.specs.declared.evaluation.EvaluationNode.{EvaluationNode}
 use Rattle.object_logic.specs.Members.{Meets, HasMet, met_at, met_member, met_members, met_declaration, met_declared}
@@ -211,3 +214,39 @@ module _ {N : Type 0} (t : N → Bool → Data → Path → Tree) (m : N → Dat
         ∙ all_valid (wanted_of (declared_here ms [])) cs h
         ∙ wanted_met es (listed ms)
         ∙ ap (λ w. (declared_mean m es w).accepts u) (object_of v ms o)
+
+  refused_trees : (ts : List Tree) → trees_wanted (refused ts) ≡ ts
+  refused_trees [] = refl
+  refused_trees (r ∷ ts) = ap (λ l. r ∷ l) (refused_trees ts)
+
+  and_turned : (x y : Bool) → (x && y) ≡ (y && x)
+  and_turned true true = refl
+  and_turned true false = refl
+  and_turned false true = refl
+  and_turned false false = refl
+
+  module _ (P : Path) (v : Data) (ms : Members) (ns : List Name) (required : Path) (met : Met) (more : List EvaluationNode) (b : Met) where
+    abbrev pub lacking : List Wanted
+    lacking = refused (lacking_trees ns v (object ms) required Q)
+
+    children_shown : (fs : Found) → HasMet fs met → AreShown lacking (trees_of more) → b.children.items ≡ met.children.items ++ more → AreShown (wanted_of fs ++ lacking) (trees_of b.children.items)
+    children_shown fs h k children = subst (AreShown (wanted_of fs ++ lacking)) (sym (ap trees_of children ∙ map-append tree_of met.children.items more)) (shown_append (wanted_of fs) lacking (trees_of met.children.items) (trees_of more) h.shown k)
+
+    -- the members' children, and one for names that are missing
+    pub beside_like : {s : Shown} → Some ms ≡ as_object v → HasMet (found_here ms []) met → AreShown lacking (trees_of more) → b.names.items ≡ met.names.items → b.children.items ≡ met.children.items ++ more
+        → s ≡ shown (list_all is_valid (trees_of b.children.items)) (Some (names_in b)) [] (trees_of b.children.items) → IsLikeTree (properties_tree shows_with v Q P es (missing_trees ns v required Q)) (node_at P Q s)
+    beside_like {s} o h k names children e =
+        subst (λ w. IsLikeTree (properties_tree shows_with w Q P es (lacking_trees ns v w required Q)) (node_at P Q s)) (object_of v ms o)
+        (subst (λ ts. IsLikeTree (properties_tree shows_with (object ms) Q P es ts) (node_at P Q s)) (refused_trees (lacking_trees ns v (object ms) required Q))
+        (properties_like P ms lacking (names_in b) (trees_of b.children.items) (ap (map (λ n. n.now)) names ∙ h.names) (children_shown (found_here ms []) h k children) e))
+
+    pub beside_verdict : {s : Shown} → Some ms ≡ as_object v → HasMet (declared_here ms []) met → AreShown lacking (trees_of more) → b.children.items ≡ met.children.items ++ more
+        → s ≡ shown (list_all is_valid (trees_of b.children.items)) (Some (names_in b)) [] (trees_of b.children.items) → is_valid (node_at P Q s) ≡ (is_empty (missing ns v) && (declared_mean m es v).accepts u)
+    beside_verdict o h k children e =
+        properties_verdict P ms lacking (names_in b) (trees_of b.children.items) (children_shown (declared_here ms []) h k children) e
+        ∙ ap (λ c. (declared_mean m es (object ms)).accepts u && c) (all_there ns v (object ms) required Q)
+        ∙ and_turned ((declared_mean m es (object ms)).accepts u) (is_empty (missing ns (object ms)))
+        ∙ ap (λ w. is_empty (missing ns w) && (declared_mean m es w).accepts u) (object_of v ms o)
+
+  pub nothing_missing : (P : Path) (v : Data) (ns : List Name) {s : Shown} → None ≡ as_object v → s ≡ shown true None [] [] → is_valid (node_at P Q s) ≡ (is_empty (missing ns v) && (declared_mean m es v).accepts u)
+  nothing_missing P v ns e h = nothing_verdict P v e h ∙ ap (λ c. c && (declared_mean m es v).accepts u) (sym (lacks_nothing ns v e))

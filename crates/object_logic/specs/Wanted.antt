@@ -1,7 +1,7 @@
 -- What an evaluation is to show, and what it shows.
-use Rattle.std.specs.Prelude.{◌≡◌, ⊤, Bool, false, List, [], ◌∷◌, map, None}
+use Rattle.std.specs.Prelude.{◌≡◌, ⊤, Bool, false, not, List, [], ◌∷◌, map, None, IsPermutation}
 use Rattle.serde_json.specs.Data.{Data}
-use Rattle.olk_spec.specs.Names.{Path, is_empty}
+use Rattle.olk_spec.specs.Names.{Name, Text, Path, put_if, is_empty}
 use Rattle.olk_spec.specs.Faults.{Fault, fault, Required}
 use Rattle.olk_spec.specs.Tree.{Tree, IsLikeTree, is_valid, Described, AreTold, described, described_fault, erring}
 use Rattle.olk_spec.specs.Accepts.{missing}
