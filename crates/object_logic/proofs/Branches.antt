@@ -1,8 +1,7 @@
 -- Branches that accept, and those that refuse.
-use Rattle.std.proofs.Common.{◌≡◌, ℕ, ◌==◌, length, arith, Bool, true, false, not, cond, ◌&&◌, ◌||◌, List, [], ◌∷◌, ◌++◌, map, None, refl, sym, ap, subst, ◌∙◌}
+use Rattle.std.proofs.Common.{◌≡◌, ℕ, ◌==◌, length, arith, Bool, true, false, not, cond, ◌&&◌, ◌||◌, List, [], ◌∷◌, map, None, refl, sym, ap, subst, ◌∙◌}
 use Rattle.std.specs.List.{list_all}
 use Rattle.std.proofs.lemmas.Bool.Decides.{nat_tests}
-use Rattle.std.proofs.lemmas.List.{append-nil}
 use Rattle.serde_json.specs.Data.{Data}
 use Rattle.olk_spec.specs.Names.{Path, those, put_if, is_empty}
 use Rattle.olk_spec.specs.Tree.{Tree, trees_from, IsLikeTree, is_valid, plain, result}
@@ -10,8 +9,8 @@ use Rattle.olk_reports.specs.Evaluations.{Shown, shown, node_at}
 use Rattle.olk_tree.specs.Questions.{Question, some}
 use Rattle.olk_tree.specs.Shown.{branch_trees, any_of_tree}
 use Rattle.olk_reports.specs.declared.evaluation.EvaluationNode.{EvaluationNode}
-use Rattle.object_logic.specs.Wanted.{Wanted, IsShown, AreShown, wanted, each_wanted, trees_of}
-use Rattle.object_logic.proofs.Children.{ShownFrom, shown_more, trees_wanted, plain_like, plain_verdict, valid_shown, like_result, like_children, branches_wanted}
+use Rattle.object_logic.specs.Wanted.{Wanted, AreShown, wanted, each_wanted, trees_of}
+use Rattle.object_logic.proofs.Children.{trees_wanted, plain_like, plain_verdict, valid_shown, like_result, like_children, branches_wanted}
 
 -- ---- those of a list
 
@@ -24,7 +23,7 @@ module _ {X : Type 0} (p : X → Bool) where
   rest_empty x xs true e = cc
   rest_empty x xs false e = e
 
-  pub none_those : (xs : List X) → is_empty (those p xs) ≡ true → those (λ x. not (p x)) xs ≡ xs
+  none_those : (xs : List X) → is_empty (those p xs) ≡ true → those (λ x. not (p x)) xs ≡ xs
   none_those [] e = refl
   none_those (x ∷ xs) e = none_first x xs (p x) e (none_those xs (rest_empty x xs (p x) e))
 
@@ -32,7 +31,7 @@ module _ {X : Type 0} (p : X → Bool) where
   pass_first x xs true q rest = λ i. q i && rest i
   pass_first x xs false q rest = rest
 
-  pub those_pass : (xs : List X) → list_all p (those p xs) ≡ true
+  those_pass : (xs : List X) → list_all p (those p xs) ≡ true
   those_pass [] = refl
   those_pass (x ∷ xs) = pass_first x xs (p x) refl (those_pass xs)
 
@@ -45,14 +44,6 @@ those_map f p (x ∷ xs) = ap (put_if (p (f x)) (f x)) (those_map f p xs) ∙ by
     by false = refl
 
 -- ---- one branch after another
-
-module _ (p : Wanted → Bool) where
-  -- a child is put with the others where the test holds of what is wanted
-  pub sorted_more : (all : List Wanted) {left rest : List Wanted} {w : Wanted} {ts us : List Tree} {t : Tree} (b : Bool) → ShownFrom (those p all) (those p left) ts → left ≡ w ∷ rest → us ≡ ts ++ put_if b t [] → b ≡ p w → IsShown w t → ShownFrom (those p all) (those p rest) us
-  sorted_more all {rest = rest} {w = w} true h e pushed same s = shown_more h (ap (those p) e ∙ ap (λ c. put_if c w (those p rest)) (sym same)) pushed s
-  sorted_more all {rest = rest} {w = w} {ts = ts} false h e pushed same s =
-      subst (ShownFrom (those p all) (those p rest)) (sym (pushed ∙ append-nil ts))
-      (subst (λ l. ShownFrom (those p all) l ts) (ap (those p) e ∙ ap (λ c. put_if c w (those p rest)) (sym same)) h)
 
 -- ---- the tree
 

@@ -1,7 +1,7 @@
 -- Children beside those that are wanted.
-use Rattle.std.proofs.Common.{◌≡◌, ℕ, ◌+◌, ◌<◌, ◌≤◌, Bool, true, false, ◌&&◌, List, [], ◌∷◌, ◌++◌, map, length, get_or, drop, Option, None, refl, sym, ap, subst, ◌∙◌, append_assoc}
+use Rattle.std.proofs.Common.{◌≡◌, ℕ, ◌≤◌, Bool, true, false, ◌&&◌, List, [], ◌∷◌, ◌++◌, map, length, drop, Option, None, refl, sym, ap, subst, ◌∙◌}
 use Rattle.std.specs.List.{list_all}
-use Rattle.std.proofs.lemmas.List.{append-nil, at_drop_more, drop_all}
+use Rattle.std.proofs.lemmas.List.{append-nil, drop_all}
 use Rattle.std.proofs.lemmas.Simd.{map-map}
 use Rattle.olk_spec.specs.Names.{Name, Path}
 use Rattle.olk_spec.specs.Tree.{Tree, Trees, node, leaf_node, trees_from, IsLikeTree, AreLikeTrees, AreTold, Described, is_valid, result_node, plain}
@@ -9,7 +9,7 @@ use Rattle.olk_reports.specs.Evaluations.{Shown, shown, node_at}
 use Rattle.serde_json.specs.Data.{Data}
 use Rattle.olk_tree.specs.Questions.{Question, every}
 use Rattle.olk_tree.specs.Shown.{branch_trees}
-use Rattle.object_logic.specs.Wanted.{Wanted, IsShown, AreShown, wanted, each_wanted}
+use Rattle.object_logic.specs.Wanted.{Wanted, AreShown, wanted, each_wanted}
 
 -- ---- the tree of a result
 
@@ -21,7 +21,7 @@ like_result P Q true false a a' es es' ts ts' valid annotation own below = cc
 like_result P Q false true a a' es es' ts ts' valid annotation own below = cc
 like_result P Q false false a a' es es' ts ts' valid annotation own below = (refl, refl, refl, refl, own, below)
 
-pub valid_result : (P Q : Path) (b : Bool) (a : Option (List Name)) (es : List Described) (ts : Trees) → is_valid (result_node P Q b a es ts) ≡ b
+valid_result : (P Q : Path) (b : Bool) (a : Option (List Name)) (es : List Described) (ts : Trees) → is_valid (result_node P Q b a es ts) ≡ b
 valid_result P Q true a es ts = refl
 valid_result P Q false a es ts = refl
 
@@ -68,20 +68,8 @@ pub record ShownFrom (all left : List Wanted) (ts : List Tree) : Type 0 where
   pub goes_on : (more : List Tree) → AreShown left more → AreShown all (ts ++ more)
 
 module _ {all : List Wanted} where
-  pub shown_start : {left : List Wanted} {ts : List Tree} → ts ≡ [] → left ≡ all → ShownFrom all left ts
-  shown_start none same = record { goes_on = λ more h. subst (λ us. AreShown all (us ++ more)) (sym none) (subst (λ ws. AreShown ws more) same h) }
-
-  pub shown_more : {left rest : List Wanted} {w : Wanted} {ts us : List Tree} {t : Tree} → ShownFrom all left ts → left ≡ w ∷ rest → us ≡ ts ++ t ∷ [] → IsShown w t → ShownFrom all rest us
-  shown_more {ts = ts} {t = t} h e pushed s = record {
-    goes_on = λ more k. subst (AreShown all) (sym (ap (λ l. l ++ more) pushed ∙ append_assoc ts (t ∷ []) more)) (h.goes_on (t ∷ more) (subst (λ ws. AreShown ws (t ∷ more)) (sym e) (s, k)));
-  }
-
   pub shown_end : {left : List Wanted} {ts : List Tree} → ShownFrom all left ts → left ≡ [] → AreShown all ts
   shown_end {ts = ts} h e = subst (AreShown all) (append-nil ts) (h.goes_on [] (subst (λ ws. AreShown ws []) (sym e) tt))
-
--- what is left at i is what is wanted there, and what is left after it
-pub left_at : {X : Type 0} (g : X → Wanted) (xs ys : List X) (i : ℕ) (x : X) → ys ≡ xs → x ≡ get_or ys i x → i < length ys → map g (drop i xs) ≡ g x ∷ map g (drop (i + 1) xs)
-left_at g xs ys i x same is lt = at_drop_more (map g) xs i x (subst (λ zs. i < length zs) same lt) ∙ ap (λ y. g y ∷ map g (drop (i + 1) xs)) (sym (is ∙ ap (λ zs. get_or zs i x) same))
 
 pub none_left : {X : Type 0} (g : X → Wanted) (xs ys : List X) (i : ℕ) → ys ≡ xs → length ys ≤ i → map g (drop i xs) ≡ []
 none_left g xs ys i same le = ap (map g) (drop_all i xs (subst (λ zs. length zs ≤ i) same le))

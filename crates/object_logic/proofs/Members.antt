@@ -46,11 +46,11 @@ shown_append [] vs (t ∷ ts) us h k = absurd h
 shown_append (w ∷ ws) vs [] us h k = absurd h
 shown_append (w ∷ ws) vs (t ∷ ts) us h k = (h.0, shown_append ws vs ts us h.1 k)
 
-pub meets_none : {a : Met} → Meets [] a a
+meets_none : {a : Met} → Meets [] a a
 meets_none {a} = record { names = sym (append-nil (names_in a)); more = []; children = sym (append-nil (trees_of a.children.items)); shown = tt }
 
 -- some, and then others
-pub meets_both : {fs gs : Found} {a b c : Met} → Meets fs a b → Meets gs b c → Meets (fs ++ gs) a c
+meets_both : {fs gs : Found} {a b c : Met} → Meets fs a b → Meets gs b c → Meets (fs ++ gs) a c
 meets_both {fs} {gs} {a} {b} {c} h k = record {
   names = k.names ∙ ap (λ l. l ++ names_of gs) h.names ∙ append_assoc (names_in a) (names_of fs) (names_of gs) ∙ ap (λ l. names_in a ++ l) (sym (map-append (λ f. f.0) fs gs));
   more = h.more ++ k.more;
@@ -76,9 +76,6 @@ has_met {fs} {a} {b} no_names no_children h = record {
 -- what is left decides about all
 pub record MeetsFrom (all left : Found) (a b : Met) : Type 0 where
   pub goes_on : (c : Met) → Meets left b c → Meets all a c
-
-pub meets_start : {all left : Found} {a : Met} → left ≡ all → MeetsFrom all left a a
-meets_start {a = a} same = record { goes_on = λ c h. subst (λ fs. Meets fs a c) same h }
 
 pub meets_more : {all left : Found} (here rest : Found) {a b c : Met} → MeetsFrom all left a b → left ≡ here ++ rest → Meets here b c → MeetsFrom all rest a c
 meets_more here rest {b = b} h e k = record { goes_on = λ d l. h.goes_on d (subst (λ fs. Meets fs b d) (sym e) (meets_both k l)) }
@@ -183,7 +180,7 @@ module _ {N : Type 0} (t : N → Bool → Data → Path → Tree) (m : N → Dat
 
   module _ (P : Path) (ms : Members) (extra : List Wanted) (ns : List Name) (cs : List Tree) {s : Shown} where
     -- the members' children, and others behind them
-    pub properties_like : ns ≡ names_of (found_here ms extra) → AreShown (wanted_of (found_here ms extra) ++ extra) cs → s ≡ shown (list_all is_valid cs) (Some ns) [] cs → IsLikeTree (properties_tree shows_with (object ms) Q P es (trees_wanted extra)) (node_at P Q s)
+    properties_like : ns ≡ names_of (found_here ms extra) → AreShown (wanted_of (found_here ms extra) ++ extra) cs → s ≡ shown (list_all is_valid cs) (Some ns) [] cs → IsLikeTree (properties_tree shows_with (object ms) Q P es (trees_wanted extra)) (node_at P Q s)
     properties_like names h e =
         subst (λ r. IsLikeTree (properties_tree shows_with (object ms) Q P es (trees_wanted extra)) (node_at P Q r)) (sym e)
         (like_result P Q (list_all is_valid (wanted_trees ms extra)) (list_all is_valid cs) (Some (met_names shows_with (object ms) Q es)) (Some ns) [] [] (trees_from (wanted_trees ms extra)) (trees_from cs)
@@ -191,7 +188,7 @@ module _ {N : Type 0} (t : N → Bool → Data → Path → Tree) (m : N → Dat
         (ap Some (names ∙ names_met (listed ms))) tt
         (subst (λ ts. AreLikeTrees (trees_from ts) (trees_from cs)) (trees_as_wanted ms extra) (like_children (wanted_of (found_here ms extra) ++ extra) cs h)))
 
-    pub properties_verdict : AreShown (wanted_of (met_declared t m u Q es (listed ms)) ++ extra) cs → s ≡ shown (list_all is_valid cs) (Some ns) [] cs → is_valid (node_at P Q s) ≡ ((declared_mean m es (object ms)).accepts u && all_wanted extra)
+    properties_verdict : AreShown (wanted_of (met_declared t m u Q es (listed ms)) ++ extra) cs → s ≡ shown (list_all is_valid cs) (Some ns) [] cs → is_valid (node_at P Q s) ≡ ((declared_mean m es (object ms)).accepts u && all_wanted extra)
     properties_verdict h e =
         valid_shown P Q s (list_all is_valid cs) (Some ns) [] cs e
         ∙ all_valid (wanted_of (met_declared t m u Q es (listed ms)) ++ extra) cs h

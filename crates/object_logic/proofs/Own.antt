@@ -1,7 +1,7 @@
 -- Errors that a keyword shows itself.
 use Rattle.std.proofs.Common.{◌≡◌, ℕ, ◌+◌, ◌<◌, ◌≤◌, length, get_or, drop, String, Global, string_bytes, Bool, true, false, not, ◌&&◌, arith, List, [], ◌∷◌, ◌++◌, map, None, refl, sym, ap, subst, ◌∙◌, append_assoc}
 use Rattle.std.specs.List.{list_all}
-use Rattle.std.proofs.lemmas.List.{append-nil, map-append, at_drop_more, drop_all}
+use Rattle.std.proofs.lemmas.List.{append-nil, at_drop_more, drop_all}
 use Rattle.std.proofs.lemmas.List.Sorted.{IsPermutation-map, length_permutation}
 use Rattle.std.proofs.lemmas.Simd.{map-map}
 use Rattle.std.specs.List.Sorted.{IsPermutation}
@@ -85,7 +85,7 @@ module _ (f : Name → Fault) where
   one_missing true n ns = refl
   one_missing false n ns = refl
 
-  pub none_missing : (ns : List Name) → is_empty ns ≡ true → map f ns ≡ []
+  none_missing : (ns : List Name) → is_empty ns ≡ true → map f ns ≡ []
   none_missing [] e = refl
   none_missing (n ∷ ns) e = cc
 
@@ -124,20 +124,6 @@ module _ (k : Name) where
   abbrev told_as : Text → Described
   told_as t = (k, t, false)
 
-  pub texts_start : {s : Shown} → s ≡ shown true None [] [] → s ≡ shown (is_empty {X = Text} []) None (map told_as []) []
-  texts_start e = e
-
-  some_text : (ts : List Text) (t : Text) → is_empty (ts ++ t ∷ []) ≡ false
-  some_text [] t = refl
-  some_text (u ∷ ts) t = refl
-
-  -- one text more
-  pub texts_more : (ts : List Text) {us : List Text} (t : Text) {s r : Shown} → s ≡ shown (is_empty ts) None (map told_as ts) [] → r ≡ errored (k, t, false) s → us ≡ ts ++ t ∷ [] → r ≡ shown (is_empty us) None (map told_as us) []
-  texts_more ts {us} t h e more =
-      e ∙ ap (errored (k, t, false)) h
-      ∙ (λ i. shown (sym (some_text ts t) i) None (sym (map-append told_as ts (t ∷ [])) i) [])
-      ∙ ap (λ l. shown (is_empty l) None (map told_as l) []) (sym more)
-
   same_emptiness_after : (ts us : List Text) → IsPermutation ts us → is_empty us ≡ is_empty ts
   same_emptiness_after [] [] p = refl
   same_emptiness_after [] (u ∷ us) p = absurd (omega (arith, length_permutation [] (u ∷ us) p))
@@ -170,9 +156,6 @@ module _ (k : Name) where
         by : (b : Bool) → is_empty ts ≡ b → IsLikeTree (leaf_node P Q (map told_as ts)) (node_at P Q (shown b None h.own []))
         by true e = (refl, refl, sym (empty_as ts ∙ e), refl, h.told, refl)
         by false e = (refl, refl, sym (empty_as ts ∙ e), refl, h.told, refl)
-
-    pub leaf_verdict : {s : Shown} → HasTexts k ts s → is_valid (node_at P Q s) ≡ is_empty ts
-    leaf_verdict {s} h = valid_shown P Q s (is_empty ts) None h.own [] h.is
 
 -- ---- a child for names that are missing
 

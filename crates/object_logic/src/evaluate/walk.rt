@@ -40,8 +40,7 @@ pub(crate) fn each_child<'a, N: Evaluate<'a>>(
 {
     let mut children = Vec::new(alloc);
     for schema in schemas {
-        let shown = child(schema, alloc, node, path, ctx)?;
-        children.push(shown)?;
+        children.push(child(schema, alloc, node, path, ctx)?)?;
     }
     Ok(children)
 }
