@@ -1,10 +1,18 @@
 //! `allOf`.
-use crate::evaluate::Evaluate;
+use crate::evaluate::{Evaluate, Located};
 use crate::evaluate::walk::{child, each_child};
 use olk_base::{Node, ValidationContext};
 use olk_reports::{EvaluationResult, InstancePath};
 use olk_tree::all_of::{AllOf, SingleValueAllOf};
 use std::alloc::{AllocError, Global};
+
+impl<N> Located for AllOf<N> {
+    ghost place = { λ k. k.location };
+
+    fn location(&self) -> &str {
+        self.location.as_str()
+    }
+}
 
 /// A child for each branch (JSON Schema 2020-12 Core, 10.2.1.1).
 impl<'a, N: Evaluate<'a>> Evaluate<'a> for AllOf<N> {
@@ -12,12 +20,6 @@ impl<'a, N: Evaluate<'a>> Evaluate<'a> for AllOf<N> {
     ghost use Rattle.olk_tree.specs.Shown.{branch_trees};
 
     ghost shows = { λ k u v Q. plain k.location Q (branch_trees (λ n. N.shows n u) v Q k.schemas.items) };
-
-    ghost place = { λ k. k.location };
-
-    fn location(&'a self) -> &'a str {
-        self.location.as_str()
-    }
 
     fn evaluate(
         &'a self,
@@ -31,6 +33,14 @@ impl<'a, N: Evaluate<'a>> Evaluate<'a> for AllOf<N> {
     }
 }
 
+impl<N> Located for SingleValueAllOf<N> {
+    ghost place = { λ k. k.location };
+
+    fn location(&self) -> &str {
+        self.location.as_str()
+    }
+}
+
 /// A child for the branch.
 impl<'a, N: Evaluate<'a>> Evaluate<'a> for SingleValueAllOf<N> {
     ghost use Rattle.std.specs.Prelude.{[], ◌∷◌};
@@ -38,12 +48,6 @@ impl<'a, N: Evaluate<'a>> Evaluate<'a> for SingleValueAllOf<N> {
     ghost use Rattle.olk_tree.specs.Shown.{branch_trees};
 
     ghost shows = { λ k u v Q. plain k.location Q (branch_trees (λ n. N.shows n u) v Q (k.node ∷ [])) };
-
-    ghost place = { λ k. k.location };
-
-    fn location(&'a self) -> &'a str {
-        self.location.as_str()
-    }
 
     fn evaluate(
         &'a self,

@@ -6,12 +6,20 @@ ghost use Rattle.olk_spec.specs.Tree.{is_valid};
 ghost use Rattle.olk_reports.specs.Evaluations.{tree_of as shown_tree};
 ghost use Rattle.object_logic.specs.Wanted.{AreShown, each_wanted, trees_of};
 
-use crate::evaluate::Evaluate;
+use crate::evaluate::{Evaluate, Located};
 use crate::evaluate::walk::child;
 use olk_base::{Node, ValidationContext};
 use olk_reports::{EvaluationNode, EvaluationResult, InstancePath};
 use olk_tree::any_of::{AnyOf, SingleAnyOf};
 use std::alloc::{AllocError, Global};
+
+impl<N> Located for AnyOf<N> {
+    ghost place = { λ k. k.location };
+
+    fn location(&self) -> &str {
+        self.location.as_str()
+    }
+}
 
 /// A child for each branch that accepts; where there is none, a child for each branch (JSON Schema 2020-12 Core,
 /// 10.2.1.2).
@@ -19,12 +27,6 @@ impl<'a, N: Evaluate<'a>> Evaluate<'a> for AnyOf<N> {
     ghost use Rattle.olk_tree.specs.Shown.{any_of_tree};
 
     ghost shows = { λ k u v Q. any_of_tree (λ n. N.shows n u) v Q (λ n. (N.means n v).accepts u) k.location k.schemas.items };
-
-    ghost place = { λ k. k.location };
-
-    fn location(&'a self) -> &'a str {
-        self.location.as_str()
-    }
 
     fn evaluate(
         &'a self,
@@ -41,18 +43,20 @@ impl<'a, N: Evaluate<'a>> Evaluate<'a> for AnyOf<N> {
     }
 }
 
+impl<N> Located for SingleAnyOf<N> {
+    ghost place = { λ k. k.location };
+
+    fn location(&self) -> &str {
+        self.location.as_str()
+    }
+}
+
 /// A child for the branch.
 impl<'a, N: Evaluate<'a>> Evaluate<'a> for SingleAnyOf<N> {
     ghost use Rattle.std.specs.Prelude.{[], ◌∷◌};
     ghost use Rattle.olk_tree.specs.Shown.{any_of_tree};
 
     ghost shows = { λ k u v Q. any_of_tree (λ n. N.shows n u) v Q (λ n. (N.means n v).accepts u) k.location (k.node ∷ []) };
-
-    ghost place = { λ k. k.location };
-
-    fn location(&'a self) -> &'a str {
-        self.location.as_str()
-    }
 
     fn evaluate(
         &'a self,

@@ -3,28 +3,24 @@ ghost use Rattle.std.specs.Prelude.{◌≡◌, IfOk};
 ghost use Rattle.olk_base.specs.Nodes.{tree_of};
 ghost use Rattle.olk_spec.specs.Tree.{IsLikeTree, is_valid};
 ghost use Rattle.olk_reports.specs.Evaluations.{node_at, shown_of};
-ghost use Rattle.olk_tree.specs.Answers.{body_means};
+ghost use Rattle.olk_tree.specs.Answers.{body_means, body_shows};
 ghost use Rattle.object_logic.specs.Wanted.{HasTexts};
-ghost use Rattle.object_logic.specs.Keywords.{body_shows};
 
-use crate::evaluate::Evaluate;
+use crate::evaluate::{Evaluate, Located};
 use crate::evaluate::own::one_error;
 use crate::evaluate::walk::each_child;
-use olk_base::{Leaf, Node, ValidationContext};
+use olk_base::{Leaf, Node, RegexEngine, ValidationContext};
 use olk_reports::{ErrorDescription, EvaluationResult, InstancePath, ValidationErrorKind};
-use olk_tree::node::{Body, KeywordOver};
+use olk_tree::node::{Body, KeywordOver, SchemaNode};
 use std::alloc::{AllocError, Global};
 
-/// What the keyword shows.
-impl<'a, K: Leaf, N: Evaluate<'a>> Evaluate<'a> for KeywordOver<K, N> {
-    ghost use Rattle.object_logic.specs.Keywords.{keyword_shows, keyword_place};
-
-    ghost shows = { λ k u. keyword_shows K.finds N.means K.keyword_of N.shows u k };
+impl<K, N> Located for KeywordOver<K, N> {
+    ghost use Rattle.object_logic.specs.Keywords.{keyword_place};
 
     ghost place = { keyword_place };
 
     #[tactic(auto, unfolding(crate::specs::Keywords::keyword_place))]
-    fn location(&'a self) -> &'a str {
+    fn location(&self) -> &str {
         match self {
             KeywordOver::Properties(keyword) => keyword.location(),
             KeywordOver::PropertiesWithRequired2(keyword) => keyword.location(),
@@ -37,8 +33,15 @@ impl<'a, K: Leaf, N: Evaluate<'a>> Evaluate<'a> for KeywordOver<K, N> {
             KeywordOver::Leaf(location, _) => location.as_str(),
         }
     }
+}
 
-    #[tactic(auto, unfolding(crate::specs::Keywords::keyword_shows, crate::specs::Keywords::keyword_place, olk_tree::specs::Answers::keyword_means))]
+/// What the keyword shows.
+impl<'a, K: Leaf, N: Evaluate<'a>> Evaluate<'a> for KeywordOver<K, N> {
+    ghost use Rattle.olk_tree.specs.Answers.{keyword_shows};
+
+    ghost shows = { λ k u. keyword_shows K.finds N.means K.keyword_of N.shows u k };
+
+    #[tactic(auto, unfolding(olk_tree::specs::Answers::keyword_shows, crate::specs::Keywords::keyword_place, olk_tree::specs::Answers::keyword_means))]
     fn evaluate(
         &'a self,
         alloc: Global,
@@ -62,6 +65,35 @@ impl<'a, K: Leaf, N: Evaluate<'a>> Evaluate<'a> for KeywordOver<K, N> {
     }
 }
 
+impl<K, R> Located for SchemaNode<K, R> {
+    ghost use Rattle.olk_tree.specs.declared.node.SchemaNode.{out-SchemaNode};
+
+    ghost place = { λ n. (out-SchemaNode K R n).location };
+
+    fn location(&self) -> &str {
+        self.location.as_str()
+    }
+}
+
+/// What the place's body shows.
+impl<'a, K: Leaf, R: RegexEngine> Evaluate<'a> for SchemaNode<K, R> {
+    ghost use Rattle.olk_tree.specs.Kit.{kit};
+    ghost use Rattle.olk_tree.specs.Answers.{answers};
+
+    ghost shows = { λ n. (answers (kit K.reads K.fits K.faults K.keyword_of K.finds R.builds R.says R.answers R.costs) n).tree };
+
+    #[tactic(auto, using(olk_tree::proofs::Layers::layers))]
+    fn evaluate(
+        &'a self,
+        alloc: Global,
+        node: Node<'a>,
+        path: &mut InstancePath,
+        ctx: &mut ValidationContext,
+    ) -> Result<EvaluationResult<'a>, AllocError> {
+        evaluate_body(&self.body, self.location.as_str(), alloc, node, path, ctx)
+    }
+}
+
 // The texts of a leaf as errors.
 fn leaf_errors<'a, K: Leaf>(
     leaf: &'a K,
@@ -79,7 +111,7 @@ fn leaf_errors<'a, K: Leaf>(
 
 // What a body shows at its place: nothing where the schema is true, an error where it is false, and otherwise a child
 // for each keyword.
-pub(crate) fn evaluate_body<'a, W: Evaluate<'a>>(
+fn evaluate_body<'a, W: Evaluate<'a>>(
     body: &'a Body<W>,
     location: &'a str,
     alloc: Global,
@@ -87,7 +119,7 @@ pub(crate) fn evaluate_body<'a, W: Evaluate<'a>>(
     path: &mut InstancePath,
     ctx: &mut ValidationContext,
 ) -> Result<EvaluationResult<'a>, AllocError>
-    ensures shows { IfOk result (λ r. IsLikeTree (body_shows W.shows location.now body.now ctx.old.answer (tree_of node.entry) path.old) (node_at location.now path.old (shown_of r))) }
+    ensures shows { IfOk result (λ r. IsLikeTree (body_shows (λ k. W.shows k ctx.old.answer) location.now body.now (tree_of node.entry) path.old) (node_at location.now path.old (shown_of r))) }
     ensures verdict { IfOk result (λ r. is_valid (node_at location.now path.old (shown_of r)) ≡ (body_means W.means body.now (tree_of node.entry)).accepts ctx.old.answer) }
     ensures path { path.new ≡ path.old }
     ensures answer { ctx.new.answer ≡ ctx.old.answer }

@@ -1,10 +1,18 @@
 //! `not`.
-use crate::evaluate::Evaluate;
+use crate::evaluate::{Evaluate, Located};
 use crate::evaluate::own::one_error;
 use olk_base::{Node, ValidationContext};
 use olk_reports::{EvaluationResult, InstancePath, ValidationErrorKind};
 use olk_tree::not::Not;
 use std::alloc::{AllocError, Global};
+
+impl<N> Located for Not<N> {
+    ghost place = { λ k. k.location };
+
+    fn location(&self) -> &str {
+        self.location.as_str()
+    }
+}
 
 /// An error of its own where the subschema accepts; what the subschema shows is left out (JSON Schema 2020-12 Core,
 /// 10.2.1.4).
@@ -15,12 +23,6 @@ impl<'a, N: Evaluate<'a>> Evaluate<'a> for Not<N> {
     ghost use Rattle.olk_spec.specs.Tree.{erring};
 
     ghost shows = { λ k u v Q. erring k.location Q (fault_if ((N.means k.node v).accepts u) (Refuses (view k.original)) v k.location Q) };
-
-    ghost place = { λ k. k.location };
-
-    fn location(&'a self) -> &'a str {
-        self.location.as_str()
-    }
 
     fn evaluate(
         &'a self,

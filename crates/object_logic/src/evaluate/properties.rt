@@ -8,7 +8,7 @@ ghost use Rattle.object_logic.specs.Members.{Meets, HasMet, met_at, met_member, 
 ghost use Rattle.object_logic.specs.Wanted.{IsShown, wanted};
 ghost use Rattle.olk_reports.specs.Evaluations.{tree_of as shown_tree};
 
-use crate::evaluate::Evaluate;
+use crate::evaluate::{Evaluate, Located};
 use crate::evaluate::required::missing_child;
 use crate::evaluate::walk::child;
 use olk_base::{Node, ValidationContext};
@@ -19,6 +19,14 @@ use olk_tree::properties::{SmallProperties, SmallPropertiesWithRequired2};
 use serde_json::{Map, Value};
 use std::alloc::{AllocError, Global};
 
+impl<N> Located for SmallProperties<N> {
+    ghost place = { λ k. k.location };
+
+    fn location(&self) -> &str {
+        self.location.as_str()
+    }
+}
+
 /// A child for each member whose name is declared; where the value is an object, these names are annotated
 /// (JSON Schema 2020-12 Core, 10.3.2.1).
 impl<'a, N: Evaluate<'a>> Evaluate<'a> for SmallProperties<N> {
@@ -27,12 +35,6 @@ impl<'a, N: Evaluate<'a>> Evaluate<'a> for SmallProperties<N> {
     ghost use Rattle.std.specs.Prelude.{[]};
 
     ghost shows = { λ k u v Q. properties_tree (λ n. N.shows n u) v Q k.location (named k.properties) [] };
-
-    ghost place = { λ k. k.location };
-
-    fn location(&'a self) -> &'a str {
-        self.location.as_str()
-    }
 
     fn evaluate(
         &'a self,
@@ -51,6 +53,14 @@ impl<'a, N: Evaluate<'a>> Evaluate<'a> for SmallProperties<N> {
     }
 }
 
+impl<N> Located for SmallPropertiesWithRequired2<N> {
+    ghost place = { λ k. k.location };
+
+    fn location(&self) -> &str {
+        self.location.as_str()
+    }
+}
+
 /// Beside these, a child at the place of `required` where an object lacks one of the two names, with an error for each
 /// (JSON Schema 2020-12 Validation, 6.5.3).
 impl<'a, N: Evaluate<'a>> Evaluate<'a> for SmallPropertiesWithRequired2<N> {
@@ -58,12 +68,6 @@ impl<'a, N: Evaluate<'a>> Evaluate<'a> for SmallPropertiesWithRequired2<N> {
     ghost use Rattle.olk_tree.specs.Shown.{properties_tree, missing_trees};
 
     ghost shows = { λ k u v Q. properties_tree (λ n. N.shows n u) v Q k.location (named k.properties) (missing_trees (two_texts k.first k.second) v k.required_location Q) };
-
-    ghost place = { λ k. k.location };
-
-    fn location(&'a self) -> &'a str {
-        self.location.as_str()
-    }
 
     fn evaluate(
         &'a self,

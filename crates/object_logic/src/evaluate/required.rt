@@ -12,7 +12,7 @@ ghost use Rattle.olk_tree.specs.Answers.{texts_of};
 ghost use Rattle.object_logic.specs.Wanted.{HasErrors, AreShown, refused, lacking_trees, trees_of};
 ghost use Rattle.olk_spec.specs.Names.{is_empty};
 
-use crate::evaluate::Evaluate;
+use crate::evaluate::{Evaluate, Located};
 use crate::evaluate::own::mark;
 use olk_base::{Node, ValidationContext};
 use olk_reports::{EvaluationNode, EvaluationResult, InstancePath, ValidationErrorKind};
@@ -21,6 +21,14 @@ use olk_tree::required::RequiredValidator;
 use serde_json::{Map, Value};
 use std::alloc::{AllocError, Global};
 
+impl Located for RequiredValidator {
+    ghost place = { λ k. k.location };
+
+    fn location(&self) -> &str {
+        self.location.as_str()
+    }
+}
+
 /// An error of its own for each listed name that an object lacks (JSON Schema 2020-12 Validation, 6.5.3).
 impl<'a> Evaluate<'a> for RequiredValidator {
     ghost use Rattle.olk_spec.specs.Reports.{required_faults};
@@ -28,12 +36,6 @@ impl<'a> Evaluate<'a> for RequiredValidator {
     ghost use Rattle.olk_tree.specs.Answers.{texts_of};
 
     ghost shows = { λ k u v Q. erring k.location Q (required_faults (texts_of k.required.items) v k.location Q) };
-
-    ghost place = { λ k. k.location };
-
-    fn location(&'a self) -> &'a str {
-        self.location.as_str()
-    }
 
     fn evaluate(
         &'a self,

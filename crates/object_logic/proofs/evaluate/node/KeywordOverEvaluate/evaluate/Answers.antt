@@ -2,7 +2,8 @@ use Rattle.std.proofs.Common.{sym, subst}
 use Rattle.olk_base.specs.Nodes.{tree_of}
 use Rattle.olk_spec.specs.Tree.{IsLikeTree}
 use Rattle.olk_reports.specs.Evaluations.{node_at, shown_of}
-use Rattle.object_logic.specs.Keywords.{keyword_shows, keyword_place}
+use Rattle.olk_tree.specs.Answers.{keyword_shows}
+use Rattle.object_logic.specs.Keywords.{keyword_place}
 use Rattle.object_logic.proofs.Own.{leaf_like}
 use Rattle.object_logic.proofs.evaluate.node.KeywordOverEvaluate.evaluate.Goals as goal
 
