@@ -1,4 +1,4 @@
--- What a built node answers: whether it accepts a value, and the faults that it finds.
+-- What a built node answers: whether it accepts a value, the faults that it finds, and the tree that it shows.
 use Rattle.std.specs.Prelude.{Bool, true, false, not, List, [], ◌∷◌, ◌++◌, map, String, string_bytes}
 use Rattle.std.specs.declared.alloc.Global.{Global}
 use Rattle.std.specs.List.{flat_map}
@@ -9,8 +9,10 @@ use Rattle.olk_spec.specs.Faults.{Fault, fault, FalseSchema, Leaf, AnyOf, Not, c
 use Rattle.olk_spec.specs.Schemas.{at}
 use Rattle.olk_spec.specs.Accepts.{missing}
 use Rattle.olk_spec.specs.Reports.{required_faults, fault_if}
+use Rattle.olk_spec.specs.Tree.{Tree, leaf_node, plain, erring, described}
 use Rattle.olk_tree.specs.Kit.{Kit}
 use Rattle.olk_tree.specs.Questions.{Question, always, both, every, some, opposite}
+use Rattle.olk_tree.specs.Shown.{missing_trees, properties_tree, branch_trees, any_of_tree}
 use Rattle.olk_tree.specs.declared.map.SmallMap.{SmallMap}
 use Rattle.olk_tree.specs.declared.node.KeywordOver.{KeywordOver}
 use Rattle.olk_tree.specs.declared.node.KeywordOver.TheVariants as keyword
@@ -22,6 +24,7 @@ use Rattle.olk_tree.specs.declared.node.SchemaNode.TheOpen.{SchemaNode-F}
 pub record Answers : Type 0 where
   pub means : Data → Question
   pub report : Bool → Data → Path → List Fault
+  pub tree : Bool → Data → Path → Tree
   pub location : Path
 
 -- two lists, side by side
@@ -74,6 +77,22 @@ module _ {K N : Type 0} (finds : K → Data → List Text) (m : N → Data → Q
     keyword_finds (keyword.Not k) v Q = fault_if ((m k.node v).accepts u) (Not (view k.original)) v k.location Q
     keyword_finds (keyword.Leaf p l) v Q = map (λ t. fault (Leaf (keyword_of l) t) v Q p) (finds l v)
 
+  module _ (keyword_of : K → Name) (t : N → Bool → Data → Path → Tree) (u : Bool) where
+    abbrev pub at_node : N → Data → Path → Tree
+    at_node n = t n u
+
+    -- what a keyword shows, over what its nodes show
+    unfoldable pub keyword_shows : KeywordOver K N → Data → Path → Tree
+    keyword_shows (keyword.Properties k) v Q = properties_tree at_node v Q k.location (named k.properties) []
+    keyword_shows (keyword.PropertiesWithRequired2 k) v Q = properties_tree at_node v Q k.location (named k.properties) (missing_trees (two_texts k.first k.second) v k.required_location Q)
+    keyword_shows (keyword.Required k) v Q = erring k.location Q (required_faults (texts_of k.required.items) v k.location Q)
+    keyword_shows (keyword.AllOf k) v Q = plain k.location Q (branch_trees at_node v Q k.schemas.items)
+    keyword_shows (keyword.SingleValueAllOf k) v Q = plain k.location Q (branch_trees at_node v Q (k.node ∷ []))
+    keyword_shows (keyword.AnyOf k) v Q = any_of_tree at_node v Q (λ n. (m n v).accepts u) k.location k.schemas.items
+    keyword_shows (keyword.SingleAnyOf k) v Q = any_of_tree at_node v Q (λ n. (m n v).accepts u) k.location (k.node ∷ [])
+    keyword_shows (keyword.Not k) v Q = erring k.location Q (fault_if ((m k.node v).accepts u) (Not (view k.original)) v k.location Q)
+    keyword_shows (keyword.Leaf p l) v Q = leaf_node p Q (described (map (λ x. fault (Leaf (keyword_of l) x) v Q p) (finds l v)))
+
 -- whether a body accepts
 abbrev pub body_means : {W : Type 0} → (W → Data → Question) → Body W → Data → Question
 body_means f True v = always true
@@ -86,11 +105,18 @@ body_finds f P True v Q = []
 body_finds f P False v Q = fault FalseSchema v Q P ∷ []
 body_finds f P (Keywords ks) v Q = flat_map (λ k. f k v Q) ks.items
 
+-- what a body shows at its place
+abbrev pub body_shows : {W : Type 0} → (W → Data → Path → Tree) → Path → Body W → Data → Path → Tree
+body_shows f P True v Q = plain P Q []
+body_shows f P False v Q = erring P Q (fault FalseSchema v Q P ∷ [])
+body_shows f P (Keywords ks) v Q = plain P Q (map (λ k. f k v Q) ks.items)
+
 module _ {K R : Type 0} (o : Kit K R) where
   abbrev pub node_step : SchemaNode-F K R Answers → Answers
   node_step n = record {
     means = body_means (keyword_means o.finds (λ a. a.means)) n.body;
     report = λ u. body_finds (keyword_finds o.finds (λ a. a.means) o.keyword_of (λ a. a.report) u) n.location n.body;
+    tree = λ u. body_shows (keyword_shows o.finds (λ a. a.means) o.keyword_of (λ a. a.tree) u) n.location n.body;
     location = n.location;
   }
 

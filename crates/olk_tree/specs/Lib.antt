@@ -1,8 +1,8 @@
 pub mod Ascending
 pub mod Questions
 pub mod Kit
-pub mod Answers
 pub mod Shown
+pub mod Answers
 pub mod Stands
 pub mod Members
 pub mod Claims
