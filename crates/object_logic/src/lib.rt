@@ -5,7 +5,7 @@ mod evaluate;
 mod validator;
 mod whole;
 
-pub use evaluate::{Evaluate, Located};
+pub use evaluate::{Evaluate, EvaluateNode, Located};
 pub use olk_base::{
     CompiledPattern, JsonType, KeyHead, Leaf, MakeError, MakeLeaf, MakeRegex, Meter, Node,
     PatternOptimization, PropertyName, PropertyPattern, RegexEngine, Unfinished, ValidationContext,

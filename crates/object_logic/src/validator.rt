@@ -2,7 +2,9 @@
 ghost use Rattle.std.specs.Prelude.{◌≡◌, ◌≤◌, ◌<◌, ◌-◌, ◌^◌, [], true, false, IfOk, IfErr, OnOk, OnErr};
 ghost use Rattle.serde_json.specs.Data.{Data};
 ghost use Rattle.serde_json.specs.View.{view};
-ghost use Rattle.olk_spec.specs.Meaning.{accepts, asks};
+ghost use Rattle.olk_spec.specs.Meaning.{accepts, asks, IsTree};
+ghost use Rattle.olk_spec.specs.Tree.{is_valid as valid_tree};
+ghost use Rattle.olk_reports.specs.Entries.{evaluated};
 ghost use Rattle.olk_spec.specs.Malformed.{malformations};
 ghost use Rattle.olk_spec.specs.Costs.{cost};
 ghost use Rattle.olk_base.specs.Count.{raised};
@@ -10,12 +12,13 @@ ghost use Rattle.olk_tree.specs.Kit.{kit};
 ghost use Rattle.olk_tree.specs.Building.{TellsOneOf, Spends, SpendsWithin};
 ghost use Rattle.object_logic.specs.Validators.{IsValidatorOf};
 
+use crate::evaluate::child;
 use olk_base::{Leaf, MakeLeaf, MakeRegex, Meter, Node, RegexEngine, ValidationContext};
 use olk_check::node::is_valid_for;
-use olk_reports::BuildError;
+use olk_reports::{BuildError, Evaluation, InstancePath};
 use olk_tree::{Context, SchemaNode, compile};
 use serde_json::Value;
-use std::alloc::Global;
+use std::alloc::{AllocError, Global};
 
 // The meter that a build counted on. Without this the counts are lost with the context's place.
 fn meter_of<'c, L, M>(ctx: Context<'c, L, M>) -> &'c mut Meter
@@ -79,5 +82,26 @@ impl<K: Leaf, R: RegexEngine> Validator<K, R> {
             ≡ accepts (kit K.reads K.fits K.faults K.keyword_of K.finds R.builds R.says R.answers R.costs).world false S (view instance.now) }
     {
         is_valid_for(&self.root, Node::Value(instance), ctx)
+    }
+
+    /// What the schema shows of the instance: a tree of results, with their annotations and errors (JSON Schema 2020-12
+    /// Core, 7.7 and 12), with the context's answer for matches that are left unfinished.
+    ///
+    /// The context keeps its answer. The only error is want of memory.
+    pub fn evaluate<'a>(
+        &'a self,
+        alloc: Global,
+        instance: &'a Value,
+        ctx: &mut ValidationContext,
+    ) -> Result<Evaluation<'a>, AllocError>
+        ensures answer { ctx.new.answer ≡ ctx.old.answer }
+        ensures tree { IfOk result (λ e. (S : Data) → IsValidatorOf (kit K.reads K.fits K.faults K.keyword_of K.finds R.builds R.says R.answers R.costs) self.now S
+            → IsTree (kit K.reads K.fits K.faults K.keyword_of K.finds R.builds R.says R.answers R.costs).world ctx.old.answer S (view instance.now) [] [] (evaluated e)) }
+        ensures verdict { IfOk result (λ e. (S : Data) → IsValidatorOf (kit K.reads K.fits K.faults K.keyword_of K.finds R.builds R.says R.answers R.costs) self.now S
+            → valid_tree (evaluated e) ≡ accepts (kit K.reads K.fits K.faults K.keyword_of K.finds R.builds R.says R.answers R.costs).world ctx.old.answer S (view instance.now)) }
+    {
+        let mut path = InstancePath::new(alloc);
+        let root = child(&self.root, alloc, Node::Value(instance), &mut path, ctx)?;
+        Ok(Evaluation::new(root))
     }
 }

@@ -1,6 +1,6 @@
 //! `allOf`.
-use crate::evaluate::{Evaluate, Located};
 use crate::evaluate::walk::{child, each_child};
+use crate::evaluate::{Evaluate, Located};
 use olk_base::{Node, ValidationContext};
 use olk_reports::{EvaluationResult, InstancePath};
 use olk_tree::all_of::{AllOf, SingleValueAllOf};
@@ -18,6 +18,9 @@ impl<N> Located for AllOf<N> {
 impl<'a, N: Evaluate<'a>> Evaluate<'a> for AllOf<N> {
     ghost use Rattle.olk_spec.specs.Tree.{plain};
     ghost use Rattle.olk_tree.specs.Shown.{branch_trees};
+    ghost use Rattle.olk_tree.specs.Questions.{every};
+
+    ghost means = { λ k v. every (λ n. N.means n v) k.schemas.items };
 
     ghost shows = { λ k u v Q. plain k.location Q (branch_trees (λ n. N.shows n u) v Q k.schemas.items) };
 
@@ -46,6 +49,8 @@ impl<'a, N: Evaluate<'a>> Evaluate<'a> for SingleValueAllOf<N> {
     ghost use Rattle.std.specs.Prelude.{[], ◌∷◌};
     ghost use Rattle.olk_spec.specs.Tree.{plain};
     ghost use Rattle.olk_tree.specs.Shown.{branch_trees};
+
+    ghost means = { λ k v. N.means k.node v };
 
     ghost shows = { λ k u v Q. plain k.location Q (branch_trees (λ n. N.shows n u) v Q (k.node ∷ [])) };
 

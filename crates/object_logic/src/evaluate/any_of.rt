@@ -6,8 +6,8 @@ ghost use Rattle.olk_spec.specs.Tree.{is_valid};
 ghost use Rattle.olk_reports.specs.Evaluations.{tree_of as shown_tree};
 ghost use Rattle.object_logic.specs.Wanted.{AreShown, each_wanted, trees_of};
 
-use crate::evaluate::{Evaluate, Located};
 use crate::evaluate::walk::child;
+use crate::evaluate::{Evaluate, Located};
 use olk_base::{Node, ValidationContext};
 use olk_reports::{EvaluationNode, EvaluationResult, InstancePath};
 use olk_tree::any_of::{AnyOf, SingleAnyOf};
@@ -25,6 +25,9 @@ impl<N> Located for AnyOf<N> {
 /// 10.2.1.2).
 impl<'a, N: Evaluate<'a>> Evaluate<'a> for AnyOf<N> {
     ghost use Rattle.olk_tree.specs.Shown.{any_of_tree};
+    ghost use Rattle.olk_tree.specs.Questions.{some};
+
+    ghost means = { λ k v. some (λ n. N.means n v) k.schemas.items };
 
     ghost shows = { λ k u v Q. any_of_tree (λ n. N.shows n u) v Q (λ n. (N.means n v).accepts u) k.location k.schemas.items };
 
@@ -55,6 +58,8 @@ impl<N> Located for SingleAnyOf<N> {
 impl<'a, N: Evaluate<'a>> Evaluate<'a> for SingleAnyOf<N> {
     ghost use Rattle.std.specs.Prelude.{[], ◌∷◌};
     ghost use Rattle.olk_tree.specs.Shown.{any_of_tree};
+
+    ghost means = { λ k v. N.means k.node v };
 
     ghost shows = { λ k u v Q. any_of_tree (λ n. N.shows n u) v Q (λ n. (N.means n v).accepts u) k.location (k.node ∷ []) };
 

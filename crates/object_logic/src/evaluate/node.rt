@@ -6,10 +6,11 @@ ghost use Rattle.olk_reports.specs.Evaluations.{node_at, shown_of};
 ghost use Rattle.olk_tree.specs.Answers.{body_means, body_shows};
 ghost use Rattle.object_logic.specs.Wanted.{HasTexts};
 
-use crate::evaluate::{Evaluate, Located};
 use crate::evaluate::own::one_error;
 use crate::evaluate::walk::each_child;
+use crate::evaluate::{Evaluate, EvaluateNode, Located};
 use olk_base::{Leaf, Node, RegexEngine, ValidationContext};
+use olk_check::IsValid;
 use olk_reports::{ErrorDescription, EvaluationResult, InstancePath, ValidationErrorKind};
 use olk_tree::node::{Body, KeywordOver, SchemaNode};
 use std::alloc::{AllocError, Global};
@@ -36,8 +37,11 @@ impl<K, N> Located for KeywordOver<K, N> {
 }
 
 /// What the keyword shows.
-impl<'a, K: Leaf, N: Evaluate<'a>> Evaluate<'a> for KeywordOver<K, N> {
+impl<'a, K: Leaf, N: EvaluateNode<'a>> Evaluate<'a> for KeywordOver<K, N> {
     ghost use Rattle.olk_tree.specs.Answers.{keyword_shows};
+    ghost use Rattle.olk_tree.specs.Answers.{keyword_means};
+
+    ghost means = { keyword_means K.finds N.means };
 
     ghost shows = { λ k u. keyword_shows K.finds N.means K.keyword_of N.shows u k };
 
@@ -80,6 +84,8 @@ impl<'a, K: Leaf, R: RegexEngine> Evaluate<'a> for SchemaNode<K, R> {
     ghost use Rattle.olk_tree.specs.Kit.{kit};
     ghost use Rattle.olk_tree.specs.Answers.{answers};
 
+    ghost means = { λ n. (answers (kit K.reads K.fits K.faults K.keyword_of K.finds R.builds R.says R.answers R.costs) n).means };
+
     ghost shows = { λ n. (answers (kit K.reads K.fits K.faults K.keyword_of K.finds R.builds R.says R.answers R.costs) n).tree };
 
     #[tactic(auto, using(olk_tree::proofs::Layers::layers))]
@@ -91,6 +97,13 @@ impl<'a, K: Leaf, R: RegexEngine> Evaluate<'a> for SchemaNode<K, R> {
         ctx: &mut ValidationContext,
     ) -> Result<EvaluationResult<'a>, AllocError> {
         evaluate_body(&self.body, self.location.as_str(), alloc, node, path, ctx)
+    }
+}
+
+/// What the place's body asks.
+impl<'a, K: Leaf, R: RegexEngine> EvaluateNode<'a> for SchemaNode<K, R> {
+    fn accepts(&self, node: Node<'_>, ctx: &mut ValidationContext) -> bool {
+        self.is_valid(node, ctx)
     }
 }
 

@@ -1,6 +1,6 @@
 //! `not`.
-use crate::evaluate::{Evaluate, Located};
 use crate::evaluate::own::one_error;
+use crate::evaluate::{Evaluate, EvaluateNode, Located};
 use olk_base::{Node, ValidationContext};
 use olk_reports::{EvaluationResult, InstancePath, ValidationErrorKind};
 use olk_tree::not::Not;
@@ -16,11 +16,14 @@ impl<N> Located for Not<N> {
 
 /// An error of its own where the subschema accepts; what the subschema shows is left out (JSON Schema 2020-12 Core,
 /// 10.2.1.4).
-impl<'a, N: Evaluate<'a>> Evaluate<'a> for Not<N> {
+impl<'a, N: EvaluateNode<'a>> Evaluate<'a> for Not<N> {
     ghost use Rattle.serde_json.specs.View.{view};
     ghost use Rattle.olk_spec.specs.Faults.{Not as Refuses};
     ghost use Rattle.olk_spec.specs.Reports.{fault_if};
     ghost use Rattle.olk_spec.specs.Tree.{erring};
+    ghost use Rattle.olk_tree.specs.Questions.{opposite};
+
+    ghost means = { λ k v. opposite (N.means k.node v) };
 
     ghost shows = { λ k u v Q. erring k.location Q (fault_if ((N.means k.node v).accepts u) (Refuses (view k.original)) v k.location Q) };
 
@@ -31,7 +34,7 @@ impl<'a, N: Evaluate<'a>> Evaluate<'a> for Not<N> {
         path: &mut InstancePath,
         ctx: &mut ValidationContext,
     ) -> Result<EvaluationResult<'a>, AllocError> {
-        if !self.node.is_valid(node, ctx) {
+        if !self.node.accepts(node, ctx) {
             return Ok(EvaluationResult::valid_empty(alloc));
         }
         let kind = ValidationErrorKind::Not {

@@ -8,9 +8,9 @@ ghost use Rattle.object_logic.specs.Members.{Meets, HasMet, met_at, met_member, 
 ghost use Rattle.object_logic.specs.Wanted.{IsShown, wanted};
 ghost use Rattle.olk_reports.specs.Evaluations.{tree_of as shown_tree};
 
-use crate::evaluate::{Evaluate, Located};
 use crate::evaluate::required::missing_child;
 use crate::evaluate::walk::child;
+use crate::evaluate::{Evaluate, Located};
 use olk_base::{Node, ValidationContext};
 use olk_reports::{EvaluationNode, EvaluationResult, InstancePath};
 use olk_tree::map::SmallMap;
@@ -33,6 +33,9 @@ impl<'a, N: Evaluate<'a>> Evaluate<'a> for SmallProperties<N> {
     ghost use Rattle.olk_tree.specs.Answers.{named};
     ghost use Rattle.olk_tree.specs.Shown.{properties_tree};
     ghost use Rattle.std.specs.Prelude.{[]};
+    ghost use Rattle.olk_check.specs.Declarations.{declared_mean};
+
+    ghost means = { λ k v. declared_mean N.means (named k.properties) v };
 
     ghost shows = { λ k u v Q. properties_tree (λ n. N.shows n u) v Q k.location (named k.properties) [] };
 
@@ -66,6 +69,12 @@ impl<N> Located for SmallPropertiesWithRequired2<N> {
 impl<'a, N: Evaluate<'a>> Evaluate<'a> for SmallPropertiesWithRequired2<N> {
     ghost use Rattle.olk_tree.specs.Answers.{named, two_texts};
     ghost use Rattle.olk_tree.specs.Shown.{properties_tree, missing_trees};
+    ghost use Rattle.olk_spec.specs.Names.{is_empty};
+    ghost use Rattle.olk_spec.specs.Accepts.{missing};
+    ghost use Rattle.olk_tree.specs.Questions.{always, both};
+    ghost use Rattle.olk_check.specs.Declarations.{declared_mean};
+
+    ghost means = { λ k v. both (always (is_empty (missing (two_texts k.first k.second) v))) (declared_mean N.means (named k.properties) v) };
 
     ghost shows = { λ k u v Q. properties_tree (λ n. N.shows n u) v Q k.location (named k.properties) (missing_trees (two_texts k.first k.second) v k.required_location Q) };
 

@@ -12,8 +12,8 @@ ghost use Rattle.olk_tree.specs.Answers.{texts_of};
 ghost use Rattle.object_logic.specs.Wanted.{HasErrors, AreShown, refused, lacking_trees, trees_of};
 ghost use Rattle.olk_spec.specs.Names.{is_empty};
 
-use crate::evaluate::{Evaluate, Located};
 use crate::evaluate::own::mark;
+use crate::evaluate::{Evaluate, Located};
 use olk_base::{Node, ValidationContext};
 use olk_reports::{EvaluationNode, EvaluationResult, InstancePath, ValidationErrorKind};
 use olk_tree::members::has_member;
@@ -34,6 +34,11 @@ impl<'a> Evaluate<'a> for RequiredValidator {
     ghost use Rattle.olk_spec.specs.Reports.{required_faults};
     ghost use Rattle.olk_spec.specs.Tree.{erring};
     ghost use Rattle.olk_tree.specs.Answers.{texts_of};
+    ghost use Rattle.olk_spec.specs.Names.{is_empty};
+    ghost use Rattle.olk_spec.specs.Accepts.{missing};
+    ghost use Rattle.olk_tree.specs.Questions.{always};
+
+    ghost means = { λ k v. always (is_empty (missing (texts_of k.required.items) v)) };
 
     ghost shows = { λ k u v Q. erring k.location Q (required_faults (texts_of k.required.items) v k.location Q) };
 

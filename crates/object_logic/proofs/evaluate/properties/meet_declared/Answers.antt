@@ -9,9 +9,9 @@ pub loop-name-preserved : goal.loop-name-preserved
 loop-name-preserved g c = record {
   path = c.in_ok-meet_declaration.ensures.path ∙ c.loop-name.invariant.path;
   answer = c.in_ok-meet_declaration.ensures.answer ∙ c.loop-name.invariant.answer;
-  met = declared_more g.N.Evaluate.shows g.N.IsValid.means (listed (members_view c.args.members.now.entries)) c.loop-name.invariant.met c.in-Some.ensures.steps.0 c.in-Some.ensures.steps.1 c.as_str.ensures.value c.loop-name.invariant.answer c.loop-name.invariant.path c.in_ok-meet_declaration.ensures.met;
+  met = declared_more g.N.Evaluate.shows g.N.Evaluate.means (listed (members_view c.args.members.now.entries)) c.loop-name.invariant.met c.in-Some.ensures.steps.0 c.in-Some.ensures.steps.1 c.as_str.ensures.value c.loop-name.invariant.answer c.loop-name.invariant.path c.in_ok-meet_declaration.ensures.met;
 }
 
 pub returns-clause-met : goal.returns-clause-met
 returns-clause-met g c = has_met c.new-met.ensures.names c.new-met.ensures.children (meets_end c.loop-name.invariant.met
-    (none_declared g.N.Evaluate.shows g.N.IsValid.means c.args.ctx.now.answer c.args.path.now (listed (members_view c.args.members.now.entries)) c.loop-name.name-iterator.a.rest.now c.loop-name.name-iterator.b.rest.now (either_empty_from_Zip c.loop-name.name-iterator c.next.new.self c.next.result c.in-None.is c.next.ensures.steps)))
+    (none_declared g.N.Evaluate.shows g.N.Evaluate.means c.args.ctx.now.answer c.args.path.now (listed (members_view c.args.members.now.entries)) c.loop-name.name-iterator.a.rest.now c.loop-name.name-iterator.b.rest.now (either_empty_from_Zip c.loop-name.name-iterator c.next.new.self c.next.result c.in-None.is c.next.ensures.steps)))

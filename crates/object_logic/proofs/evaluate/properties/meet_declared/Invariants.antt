@@ -10,5 +10,5 @@ abbrev pub invariant-loop-name : goal.invariant-loop-name
 invariant-loop-name g l = record {
   path : l.path ≡ l.initial.path;
   answer : l.ctx.answer ≡ l.initial.ctx.answer;
-  met : MeetsFrom (met_declared g.N.Evaluate.shows g.N.IsValid.means l.initial.ctx.answer l.initial.path (named l.properties) (listed (members_view l.members.entries))) (met_declared g.N.Evaluate.shows g.N.IsValid.means l.initial.ctx.answer l.initial.path (beside (map string_bytes l.name-iterator.a.rest.now) l.name-iterator.b.rest.now) (listed (members_view l.members.entries))) l.initial.met l.met;
+  met : MeetsFrom (met_declared g.N.Evaluate.shows g.N.Evaluate.means l.initial.ctx.answer l.initial.path (named l.properties) (listed (members_view l.members.entries))) (met_declared g.N.Evaluate.shows g.N.Evaluate.means l.initial.ctx.answer l.initial.path (beside (map string_bytes l.name-iterator.a.rest.now) l.name-iterator.b.rest.now) (listed (members_view l.members.entries))) l.initial.met l.met;
 }

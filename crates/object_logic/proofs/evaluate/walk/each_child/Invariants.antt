@@ -8,5 +8,5 @@ abbrev pub invariant-loop-schema : goal.invariant-loop-schema
 invariant-loop-schema g l = record {
   path : l.path ≡ l.initial.path;
   answer : l.ctx.answer ≡ l.initial.ctx.answer;
-  shown : ShownFrom (each_wanted g.N.Evaluate.shows g.N.IsValid.means l.initial.ctx.answer l.schemas.items (tree_of l.node) l.initial.path) (each_wanted g.N.Evaluate.shows g.N.IsValid.means l.initial.ctx.answer (drop l.schema-index l.schemas.items) (tree_of l.node) l.initial.path) (trees_of l.children.items);
+  shown : ShownFrom (each_wanted g.N.Evaluate.shows g.N.Evaluate.means l.initial.ctx.answer l.schemas.items (tree_of l.node) l.initial.path) (each_wanted g.N.Evaluate.shows g.N.Evaluate.means l.initial.ctx.answer (drop l.schema-index l.schemas.items) (tree_of l.node) l.initial.path) (trees_of l.children.items);
 }
