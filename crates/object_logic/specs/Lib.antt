@@ -1,1 +1,4 @@
 pub mod Validators
+pub mod Wanted
+pub mod Members
+pub mod Keywords

@@ -1,9 +1,11 @@
 //! Validation by the object and logic keywords of JSON Schema.
 #![tactic(auto)]
 
+mod evaluate;
 mod validator;
 mod whole;
 
+pub use evaluate::{Evaluate, EvaluateNode, Located};
 pub use olk_base::{
     CompiledPattern, JsonType, KeyHead, Leaf, MakeError, MakeLeaf, MakeRegex, Meter, Node,
     PatternOptimization, PropertyName, PropertyPattern, RegexEngine, Unfinished, ValidationContext,

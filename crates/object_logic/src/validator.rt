@@ -2,7 +2,9 @@
 ghost use Rattle.std.specs.Prelude.{◌≡◌, ◌≤◌, ◌<◌, ◌-◌, ◌^◌, [], true, false, nat_eq, length, IfOk, IfErr, OnOk, OnErr};
 ghost use Rattle.serde_json.specs.Data.{Data};
 ghost use Rattle.serde_json.specs.View.{view};
-ghost use Rattle.olk_spec.specs.Meaning.{accepts, report, asks};
+ghost use Rattle.olk_spec.specs.Meaning.{accepts, report, asks, IsTree};
+ghost use Rattle.olk_spec.specs.Tree.{is_valid as valid_tree};
+ghost use Rattle.olk_reports.specs.Entries.{evaluated};
 ghost use Rattle.olk_spec.specs.Malformed.{malformations};
 ghost use Rattle.olk_spec.specs.Costs.{cost};
 ghost use Rattle.olk_base.specs.Count.{raised};
@@ -11,10 +13,11 @@ ghost use Rattle.olk_tree.specs.Building.{TellsOneOf, Spends, SpendsWithin};
 ghost use Rattle.olk_errors.specs.Found.{Appends, IfInvalid, IsRefusal};
 ghost use Rattle.object_logic.specs.Validators.{IsValidatorOf};
 
+use crate::evaluate::child;
 use olk_base::{Leaf, MakeLeaf, MakeRegex, Meter, Node, RegexEngine, ValidationContext};
 use olk_check::node::is_valid_for;
 use olk_errors::node::{collect_errors_for, validate_for};
-use olk_reports::{BuildError, InstancePath, ValidateError, ValidationError};
+use olk_reports::{BuildError, Evaluation, InstancePath, ValidateError, ValidationError};
 use olk_tree::{Context, SchemaNode, compile};
 use serde_json::Value;
 use std::alloc::{AllocError, Global};
@@ -125,5 +128,26 @@ impl<K: Leaf, R: RegexEngine> Validator<K, R> {
     {
         let mut path = InstancePath::new(alloc);
         collect_errors_for(&self.root, alloc, Node::Value(instance), &mut path, ctx, errors)
+    }
+
+    /// What the schema shows of the instance: a tree of results, with their annotations and errors (JSON Schema 2020-12
+    /// Core, 7.7 and 12), with the context's answer for matches that are left unfinished.
+    ///
+    /// The context keeps its answer. The only error is want of memory.
+    pub fn evaluate<'a>(
+        &'a self,
+        alloc: Global,
+        instance: &'a Value,
+        ctx: &mut ValidationContext,
+    ) -> Result<Evaluation<'a>, AllocError>
+        ensures answer { ctx.new.answer ≡ ctx.old.answer }
+        ensures tree { IfOk result (λ e. (S : Data) → IsValidatorOf (kit K.reads K.fits K.faults K.keyword_of K.finds R.builds R.says R.answers R.costs) self.now S
+            → IsTree (kit K.reads K.fits K.faults K.keyword_of K.finds R.builds R.says R.answers R.costs).world ctx.old.answer S (view instance.now) [] [] (evaluated e)) }
+        ensures verdict { IfOk result (λ e. (S : Data) → IsValidatorOf (kit K.reads K.fits K.faults K.keyword_of K.finds R.builds R.says R.answers R.costs) self.now S
+            → valid_tree (evaluated e) ≡ accepts (kit K.reads K.fits K.faults K.keyword_of K.finds R.builds R.says R.answers R.costs).world ctx.old.answer S (view instance.now)) }
+    {
+        let mut path = InstancePath::new(alloc);
+        let root = child(&self.root, alloc, Node::Value(instance), &mut path, ctx)?;
+        Ok(Evaluation::new(root))
     }
 }

@@ -1,0 +1,15 @@
+-- Where keywords stand.
+use Rattle.olk_spec.specs.Names.{Path}
+use Rattle.olk_tree.specs.declared.node.KeywordOver.{KeywordOver}
+use Rattle.olk_tree.specs.declared.node.KeywordOver.TheVariants as keyword
+
+unfoldable pub keyword_place : {K N : Type 0} → KeywordOver K N → Path
+keyword_place (keyword.Properties k) = k.location
+keyword_place (keyword.PropertiesWithRequired2 k) = k.location
+keyword_place (keyword.Required k) = k.location
+keyword_place (keyword.AllOf k) = k.location
+keyword_place (keyword.SingleValueAllOf k) = k.location
+keyword_place (keyword.AnyOf k) = k.location
+keyword_place (keyword.SingleAnyOf k) = k.location
+keyword_place (keyword.Not k) = k.location
+keyword_place (keyword.Leaf p l) = p

@@ -1,0 +1,60 @@
+-- What an evaluation is to show, and what it shows.
+use Rattle.std.specs.Prelude.{◌≡◌, ⊤, Bool, false, not, List, [], ◌∷◌, map, None, IsPermutation}
+use Rattle.serde_json.specs.Data.{Data}
+use Rattle.olk_spec.specs.Names.{Name, Text, Path, put_if, is_empty}
+use Rattle.olk_spec.specs.Faults.{Fault, fault, Required}
+use Rattle.olk_spec.specs.Tree.{Tree, IsLikeTree, is_valid, Described, AreTold, described, described_fault, erring}
+use Rattle.olk_spec.specs.Accepts.{missing}
+use Rattle.olk_reports.specs.Evaluations.{Shown, shown, tree_of}
+use Rattle.olk_reports.specs.declared.evaluation.EvaluationNode.{EvaluationNode}
+use Rattle.olk_tree.specs.Questions.{Question}
+
+-- a tree, and whether it is to be valid
+abbrev pub Wanted : Type 0
+Wanted = Tree × Bool
+
+pub record IsShown (w : Wanted) (t : Tree) : Type 0 where
+  pub like : IsLikeTree w.0 t
+  pub verdict : is_valid t ≡ w.1
+
+abbrev pub AreShown : List Wanted → List Tree → Type 0
+AreShown [] [] = ⊤
+AreShown [] (t ∷ ts) = ⊥
+AreShown (w ∷ ws) [] = ⊥
+AreShown (w ∷ ws) (t ∷ ts) = IsShown w t × AreShown ws ts
+
+abbrev pub trees_of : List EvaluationNode → List Tree
+trees_of = map tree_of
+
+-- the error that shows a fault; a text that prints a fraction may be any text
+pub record IsTold (f : Fault) (d : Described) : Type 0 where
+  pub keyword : d.0 ≡ (described_fault f).0
+  pub text : (described_fault f).2 ≡ false → d.1 ≡ (described_fault f).1
+
+-- own errors, and nothing else
+pub record HasErrors (fs : List Fault) (s : Shown) : Type 0 where
+  pub own : List Described
+  pub is : s ≡ shown (is_empty fs) None own []
+  pub told : AreTold (described fs) own
+
+module _ {N : Type 0} (t : N → Bool → Data → Path → Tree) (m : N → Data → Question) (u : Bool) where
+  -- what a node is to show of a value at a path
+  abbrev pub wanted : N → Data → Path → Wanted
+  wanted n v Q = (t n u v Q, (m n v).accepts u)
+
+  abbrev pub each_wanted : List N → Data → Path → List Wanted
+  each_wanted ns v Q = map (λ n. wanted n v Q) ns
+
+-- trees that are to be invalid
+abbrev pub refused : List Tree → List Wanted
+refused = map (λ t. (t, false))
+
+-- one tree with the faults of v at the names that w lacks, where it lacks one
+abbrev pub lacking_trees : List Name → Data → Data → Path → Path → List Tree
+lacking_trees ns v w P Q = put_if (not (is_empty (missing ns w))) (erring P Q (map (λ n. fault (Required n) v Q P) (missing ns w))) []
+
+-- texts of a keyword as own errors, in any order, and nothing else
+pub record HasTexts (k : Name) (texts : List Text) (s : Shown) : Type 0 where
+  pub own : List Described
+  pub is : s ≡ shown (is_empty texts) None own []
+  pub told : IsPermutation (map (λ t. (k, t, false)) texts) own

@@ -1,0 +1,72 @@
+//! What a schema shows of a value.
+ghost use Rattle.serde_json.specs.Data.{Data};
+
+use olk_base::{Node, ValidationContext};
+use olk_reports::{EvaluationResult, InstancePath};
+use std::alloc::{AllocError, Global};
+
+/// What stands at a place of a schema.
+pub trait Located {
+    ghost use Rattle.std.specs.Prelude.{◌≡◌};
+    ghost use Rattle.olk_spec.specs.Names.{Path};
+
+    ghost place: { Self → Path };
+
+    /// The place, a JSON pointer (RFC 6901).
+    fn location(&self) -> &str
+        ensures { result.now ≡ place self.now };
+}
+
+/// What can be asked what it shows of a value. What it shows stands at its place.
+pub trait Evaluate<'a>: Located {
+    ghost use Rattle.std.specs.Prelude.{◌≡◌, Bool, IfOk};
+    ghost use Rattle.olk_base.specs.Nodes.{tree_of};
+    ghost use Rattle.olk_spec.specs.Names.{Path};
+    ghost use Rattle.olk_spec.specs.Tree.{Tree, IsLikeTree, is_valid};
+    ghost use Rattle.olk_reports.specs.Evaluations.{node_at, shown_of};
+    ghost use Rattle.olk_tree.specs.Questions.{Question};
+
+    // whether it accepts a value, and the tree that it shows, with either answer for unfinished matches
+    ghost means: { Self → Data → Question };
+
+    ghost shows: { Self → Bool → Data → Path → Tree };
+
+    /// What it shows of the node: the validity, an annotation, errors of its own and the nodes below, in order
+    /// (JSON Schema 2020-12 Core, 7.7 and 12).
+    ///
+    /// The path is left as it was, and the context keeps its answer. The only error is want of memory.
+    fn evaluate(
+        &'a self,
+        alloc: Global,
+        node: Node<'a>,
+        path: &mut InstancePath,
+        ctx: &mut ValidationContext,
+    ) -> Result<EvaluationResult<'a>, AllocError>
+        ensures shows { IfOk result (λ r. IsLikeTree (shows self.now ctx.old.answer (tree_of node.entry) path.old) (node_at (Self.place self.now) path.old (shown_of r))) }
+        ensures verdict { IfOk result (λ r. is_valid (node_at (Self.place self.now) path.old (shown_of r)) ≡ (means self.now (tree_of node.entry)).accepts ctx.old.answer) }
+        ensures path { path.new ≡ path.old }
+        ensures answer { ctx.new.answer ≡ ctx.old.answer };
+}
+
+/// A node of a schema, which can also be asked whether it accepts a value.
+pub trait EvaluateNode<'a>: Evaluate<'a> {
+    ghost use Rattle.olk_base.specs.Nodes.{tree_of};
+    ghost use Rattle.olk_check.specs.Asks.{Asks};
+
+    /// Whether the node is accepted, with the context's answer for matches that are left unfinished.
+    ///
+    /// Takes no memory. The context keeps its answer.
+    fn accepts(&self, node: Node<'_>, ctx: &mut ValidationContext) -> bool
+        ensures { Asks ctx.old ctx.new (Self.means self.now (tree_of node.entry)) result };
+}
+
+pub mod all_of;
+pub mod any_of;
+pub mod node;
+pub mod not;
+mod own;
+pub mod properties;
+pub mod required;
+mod walk;
+
+pub(crate) use walk::child;
