@@ -17,10 +17,10 @@ use Rattle.olk_spec.proofs.Induction.{schema_read, EachItem, EachMember, GoodSub
 use Rattle.olk_spec.specs.Texts.{prints_fraction}
 
 -- a value that has no fraction, and a fault that prints none
-abbrev IsPlain : Data → Type 0
+abbrev pub IsPlain : Data → Type 0
 IsPlain d = has_float d ≡ false
 
-abbrev PrintsNone : Fault → Type 0
+abbrev pub PrintsNone : Fault → Type 0
 PrintsNone f = prints_fraction f ≡ false
 
 abbrev Told : Type 0
@@ -36,11 +36,11 @@ pub neither : (a b : Bool) → (a || b) ≡ false → (a ≡ false) × (b ≡ fa
 neither true b h = absurd (true≢false h)
 neither false b h = (refl, h)
 
-each_item : (ds : Items) → items_have_float ds ≡ false → EachItem IsPlain ds
+pub each_item : (ds : Items) → items_have_float ds ≡ false → EachItem IsPlain ds
 each_item no_items h = tt
 each_item (item d ds) h = let p = neither (has_float d) (items_have_float ds) h in (p.0, each_item ds p.1)
 
-each_member : (ms : Members) → members_have_float ms ≡ false → EachMember IsPlain ms
+pub each_member : (ms : Members) → members_have_float ms ≡ false → EachMember IsPlain ms
 each_member no_members h = tt
 each_member (member k d ms) h = let p = neither (has_float d) (members_have_float ms) h in (p.0, each_member ms p.1)
 
@@ -81,7 +81,7 @@ places_good k S p h unread = tt
 
 -- ---- a keyword itself
 
-put_prints : (b : Bool) (f : Fault) → PrintsNone f → Each PrintsNone (put_if b f [])
+pub put_prints : (b : Bool) (f : Fault) → PrintsNone f → Each PrintsNone (put_if b f [])
 put_prints true f h = (h, tt)
 put_prints false f h = tt
 
@@ -170,7 +170,7 @@ module _ (W : World) where
     unfolding malformations_beside
     each_prints S s P = (sound_answer Good IsPlain each_item each_member (malformations_step W refused) step_prints S s).1 P
 
-by_recursion : (fs : List Fault) → Each PrintsNone fs → AllByRecursion PrintsNone fs
+pub by_recursion : (fs : List Fault) → Each PrintsNone fs → AllByRecursion PrintsNone fs
 by_recursion [] h = tt
 by_recursion (f ∷ fs) h = (h.0, by_recursion fs h.1)
 
