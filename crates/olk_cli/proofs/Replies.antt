@@ -8,7 +8,8 @@ use Rattle.olk_spec.specs.Meaning.{accepts}
 use Rattle.olk_spec.specs.Bench.{bench}
 use Rattle.olk_spec.specs.Texts.{prints_fraction}
 use Rattle.olk_cli.specs.Requests.{Asked, has_fraction}
-use Rattle.olk_cli.specs.Answers.{json_text, verdict, fault_refusal, IsReplyWhere, IsReply}
+use Rattle.olk_cli.specs.Answers.{verdict, fault_refusal, IsReplyWhere, IsReply}
+use Rattle.olk_cli.specs.Texts.{json_text}
 use Rattle.olk_cli.proofs.Fractions.{malformation_prints_no_fraction, neither}
 
 -- where the schema is not malformed

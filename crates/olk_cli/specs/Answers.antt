@@ -1,13 +1,13 @@
 -- What a line is answered.
 use Rattle.std.specs.Prelude.{◌≡◌, ℕ, Bool, List, [], ◌∷◌, codes, Contains}
 use Rattle.serde_json.specs.Data.{Data, boolean, string, object, no_members, member}
-use Rattle.serde_json.specs.Written.{compact_text}
 use Rattle.olk_spec.specs.Names.{Text, Path}
 use Rattle.olk_spec.specs.Faults.{Fault, fault}
 use Rattle.olk_spec.specs.Texts.{text}
 use Rattle.olk_spec.specs.Malformed.{malformations}
 use Rattle.olk_spec.specs.Meaning.{accepts}
 use Rattle.olk_spec.specs.Bench.{bench}
+use Rattle.olk_cli.specs.Texts.{json_text}
 use Rattle.olk_cli.specs.Requests.{Asked, Understood, not_json, not_a_request, not_whole, asks, understood}
 
 -- a refusal that has no place in a schema
@@ -23,10 +23,6 @@ fault_refusal (fault k v Q P) = schema_refusal (text (fault k v Q P)) P
 
 abbrev pub verdict : Bool → Data
 verdict valid = object (member (codes "valid") (boolean valid) no_members)
-
--- compact JSON
-unfoldable pub json_text : Data → Text
-json_text d = compact_text d
 
 -- a malformed schema is refused by one of its malformations, and the verdict is given on an instance of another
 abbrev pub IsReplyWhere : List Fault → Asked → Text → Type 0

@@ -3,3 +3,5 @@ pub mod Lines
 pub mod Requests
 pub mod Seen
 pub mod Steps
+pub mod Texts
+pub mod Told

@@ -3,9 +3,10 @@ ghost use Rattle.std.specs.Prelude.{◌≡◌, false, IfOk, option_map};
 ghost use Rattle.serde_json.specs.View.{view};
 ghost use Rattle.olk_reports.specs.Errors.{fault_of};
 ghost use Rattle.olk_spec.specs.Texts.{prints_fraction};
-ghost use Rattle.olk_cli.specs.Answers.{json_text, fault_refusal, IsReply, IsAnswer};
+ghost use Rattle.olk_cli.specs.Answers.{fault_refusal, IsReply, IsAnswer};
 ghost use Rattle.olk_cli.specs.Requests.{value_of, has_fraction};
 ghost use Rattle.olk_cli.specs.Seen.{seen};
+ghost use Rattle.olk_cli.specs.Texts.{json_text};
 
 use crate::request::{Ask, Request, read_request};
 use crate::texts::{refusal_text, schema_refusal_text, verdict_text};

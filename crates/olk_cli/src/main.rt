@@ -2,6 +2,7 @@
 #![tactic(auto)]
 
 mod answer;
+mod errors;
 mod program;
 mod reading;
 mod request;
