@@ -3,13 +3,15 @@ use Rattle.std.proofs.Common.{◌≡◌, ◌≢◌, ℕ, ◌+◌, ◌<◌, ◌==
 use Rattle.std.specs.List.Sorted.{IsSorted}
 use Rattle.std.proofs.lemmas.Bool.{ne_eqb}
 use Rattle.std.proofs.lemmas.List.{get_or-map, length-map, take_more, map-append}
+use Rattle.serde_json.specs.Data.{string}
 use Rattle.serde_json.specs.View.{items_of}
 use Rattle.serde_json.specs.Written.{has_float, items_have_float}
-use Rattle.olk_spec.specs.Names.{is_empty}
-use Rattle.olk_spec.specs.Faults.{Fault}
+use Rattle.olk_spec.specs.Names.{Name, Path, is_empty}
+use Rattle.olk_spec.specs.Tree.{Described}
 use Rattle.olk_spec.specs.Texts.{prints_fraction}
 use Rattle.olk_reports.specs.Errors.{fault_of}
 use Rattle.olk_reports.specs.declared.error.ValidationError.{ValidationError}
+use Rattle.olk_cli.specs.Evaluated.{annotation_data, description_data, evaluation_data}
 use Rattle.olk_cli.specs.Told.{Told, told, shown, told_cmp, error_data, errors_data, PrintNoFraction}
 use Rattle.olk_cli.specs.declared.errors.ToldError.{ToldError}
 
@@ -49,3 +51,20 @@ is_empty-length [] = refl
 is_empty-length (x ∷ xs) =
     let some : length (x ∷ xs) ≢ 0 = λ e. omega arith in
     ne_eqb (length (x ∷ xs)) 0 some
+
+-- ---- evaluations
+
+names_are_plain : (ns : List Name) → items_have_float (items_of (map string ns)) ≡ false
+names_are_plain [] = refl
+names_are_plain (n ∷ ns) = names_are_plain ns
+
+annotations_are_plain : (ns : List (Path × Path × List Name)) → items_have_float (items_of (map annotation_data ns)) ≡ false
+annotations_are_plain [] = refl
+annotations_are_plain ((P, Q, n) ∷ ns) = rw (names_are_plain n, annotations_are_plain ns)
+
+descriptions_are_plain : (es : List (Path × Path × Described)) → items_have_float (items_of (map description_data es)) ≡ false
+descriptions_are_plain [] = refl
+descriptions_are_plain ((P, Q, (k, t, fraction)) ∷ es) = descriptions_are_plain es
+
+pub evaluation_is_plain : (valid : Bool) (ns : List (Path × Path × List Name)) (es : List (Path × Path × Described)) → has_float (evaluation_data valid ns es) ≡ false
+evaluation_is_plain valid ns es = rw (annotations_are_plain ns, descriptions_are_plain es)

@@ -1,4 +1,6 @@
 pub mod Answers
+pub mod Evaluated
+pub mod Found
 pub mod Lines
 pub mod Requests
 pub mod Seen

@@ -1,5 +1,5 @@
 -- What is told of a fault, and answers that tell faults.
-use Rattle.std.specs.Prelude.{◌≡◌, Bool, false, List, codes, map, string_bytes}
+use Rattle.std.specs.Prelude.{◌≡◌, Bool, true, false, Result, Ok, Err, List, codes, map, string_bytes}
 use Rattle.std.specs.List.{All}
 use Rattle.std.specs.declared.cmp.Ordering.{Ordering}
 use Rattle.std.specs.Ordering.{nat_cmp, ordering_then}
@@ -10,6 +10,9 @@ use Rattle.serde_json.specs.View.{items_of}
 use Rattle.olk_spec.specs.Names.{Text, Path}
 use Rattle.olk_spec.specs.Faults.{Fault, fault}
 use Rattle.olk_spec.specs.Texts.{text, prints_fraction}
+use Rattle.olk_reports.specs.Errors.{fault_of}
+use Rattle.olk_reports.specs.declared.error.ValidateError.{ValidateError}
+use Rattle.olk_reports.specs.declared.error.ValidateError.TheVariants.{Invalid, Memory}
 use Rattle.olk_cli.specs.Texts.{json_text}
 use Rattle.olk_cli.specs.declared.errors.ToldError.{ToldError}
 
@@ -29,6 +32,9 @@ shown t = record { instance_path = t.instance_path.now; schema_path = t.schema_p
 abbrev pub told_cmp : Told → Told → Ordering
 told_cmp a b = ordering_then (slice_cmp nat_cmp a.instance_path b.instance_path) (ordering_then (slice_cmp nat_cmp a.schema_path b.schema_path) (slice_cmp nat_cmp a.message b.message))
 
+abbrev pub verdict : Bool → Data
+verdict valid = object (member (codes "valid") (boolean valid) no_members)
+
 abbrev pub error_data : Told → Data
 error_data e = object (member (codes "instancePath") (string e.instance_path) (member (codes "message") (string e.message) (member (codes "schemaPath") (string e.schema_path) no_members)))
 
@@ -44,6 +50,12 @@ pub record TellsSorted (valid : Bool) (errors : List Told) (answer : Text) : Typ
   pub same : IsPermutation errors sorted
   pub ascends : IsSorted told_cmp sorted
   pub is : answer ≡ json_text (errors_data valid sorted)
+
+-- what `validate` gives is told; nothing for want of memory
+abbrev pub TellsFound : Result (Unit {0}) ValidateError → Text → Type 0
+TellsFound (Ok accepted) answer = answer ≡ json_text (verdict true)
+TellsFound (Err (Invalid e)) answer = prints_fraction (fault_of e) ≡ false → answer ≡ json_text (first_data (told (fault_of e)))
+TellsFound (Err (Memory m)) answer = ⊥
 
 -- the texts of all these faults are promised
 abbrev pub PrintNoFraction : List Fault → Type 0

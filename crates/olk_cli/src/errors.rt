@@ -5,10 +5,10 @@ ghost use Rattle.olk_reports.specs.Errors.{fault_of};
 ghost use Rattle.olk_spec.specs.Names.{is_empty};
 ghost use Rattle.olk_spec.specs.Texts.{prints_fraction};
 ghost use Rattle.olk_cli.specs.Texts.{json_text};
-ghost use Rattle.olk_cli.specs.Told.{told, shown, error_data, first_data, errors_data, TellsSorted, PrintNoFraction};
+ghost use Rattle.olk_cli.specs.Told.{told, shown, error_data, first_data, errors_data, TellsFound, TellsSorted, PrintNoFraction};
 
-use crate::texts::compact_text;
-use object_logic::ValidationError;
+use crate::texts::{compact_text, verdict_text};
+use object_logic::{ValidateError, ValidationError};
 use serde_json::{Value, json};
 use std::alloc::{AllocError, Global};
 
@@ -38,8 +38,7 @@ fn told_errors<'e>(
     alloc: Global,
     errors: &'e [ValidationError<'_>],
 ) -> Result<Vec<ToldError<'e>>, AllocError>
-    requires { PrintNoFraction (map fault_of errors.now) }
-    ensures { IfOk result (λ ts. map shown ts.items ≡ map told (map fault_of errors.now)) }
+    ensures { IfOk result (λ ts. PrintNoFraction (map fault_of errors.now) → map shown ts.items ≡ map told (map fault_of errors.now)) }
 {
     let mut told = Vec::new(alloc);
     for error in errors {
@@ -75,11 +74,7 @@ fn first_value(alloc: Global, told: &ToldError<'_>) -> Result<Value, AllocError>
     json!(in alloc; {"error": (error), "valid": false})
 }
 
-fn errors_value(
-    alloc: Global,
-    valid: bool,
-    told: &[ToldError<'_>],
-) -> Result<Value, AllocError>
+fn errors_value(alloc: Global, valid: bool, told: &[ToldError<'_>]) -> Result<Value, AllocError>
     ensures { IfOk result (λ v. view v ≡ errors_data valid (map shown told.now)) }
 {
     let errors = error_values(alloc, told)?;
@@ -87,19 +82,33 @@ fn errors_value(
 }
 
 /// The answer that tells one error.
-pub fn first_text(alloc: Global, error: &ValidationError<'_>) -> Result<Vec<u8>, AllocError>
-    requires { prints_fraction (fault_of error.now) ≡ false }
-    ensures { IfOk result (λ answer. answer.items ≡ json_text (first_data (told (fault_of error.now)))) }
+fn first_error_text(alloc: Global, error: &ValidationError<'_>) -> Result<Vec<u8>, AllocError>
+    ensures { IfOk result (λ answer. prints_fraction (fault_of error.now) ≡ false
+        → answer.items ≡ json_text (first_data (told (fault_of error.now)))) }
 {
     let told = told_error(alloc, error)?;
     let value = first_value(alloc, &told)?;
     compact_text(alloc, &value)
 }
 
+/// The answer that tells the error that `validate` gives, or that there is none.
+pub fn first_text(
+    alloc: Global,
+    found: Result<(), ValidateError<'_>>,
+) -> Result<Vec<u8>, AllocError>
+    ensures { IfOk result (λ answer. TellsFound found.entry answer.items) }
+{
+    match found {
+        Ok(()) => verdict_text(alloc, true),
+        Err(ValidateError::Invalid(error)) => first_error_text(alloc, &error),
+        Err(ValidateError::Memory(error)) => Err(error),
+    }
+}
+
 /// The answer that tells errors, sorted. Where there is none, the instance is valid.
 pub fn errors_text(alloc: Global, errors: &[ValidationError<'_>]) -> Result<Vec<u8>, AllocError>
-    requires { PrintNoFraction (map fault_of errors.now) }
-    ensures { IfOk result (λ answer. TellsSorted (is_empty errors.now) (map told (map fault_of errors.now)) answer.items) }
+    ensures { IfOk result (λ answer. PrintNoFraction (map fault_of errors.now)
+        → TellsSorted (is_empty errors.now) (map told (map fault_of errors.now)) answer.items) }
 {
     let mut told = told_errors(alloc, errors)?;
     told.sort_unstable();

@@ -3,6 +3,7 @@
 
 mod answer;
 mod errors;
+mod evaluated;
 mod program;
 mod reading;
 mod request;

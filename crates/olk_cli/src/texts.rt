@@ -2,8 +2,9 @@
 ghost use Rattle.std.specs.Prelude.{◌≡◌, IfOk, false};
 ghost use Rattle.serde_json.specs.View.{view};
 ghost use Rattle.serde_json.specs.Written.{has_float};
-ghost use Rattle.olk_cli.specs.Answers.{refusal, schema_refusal, verdict};
+ghost use Rattle.olk_cli.specs.Answers.{refusal, schema_refusal};
 ghost use Rattle.olk_cli.specs.Texts.{json_text};
+ghost use Rattle.olk_cli.specs.Told.{verdict};
 
 use serde_json::{Value, json};
 use std::alloc::{AllocError, Global};

@@ -1,6 +1,5 @@
 use Rattle.std.proofs.Common.{ap, ◌∙◌}
 use Rattle.std.proofs.lemmas.Result.{IfOk-weaker}
-use Rattle.serde_json.specs.View.{view}
 use Rattle.olk_base.specs.Lawful.{Asking}
 use Rattle.olk_reports.specs.Errors.{fault_of}
 use Rattle.olk_spec.specs.Meaning.{accepts}
