@@ -9,14 +9,14 @@ use Rattle.olk_spec.specs.Schemas.{at}
 use Rattle.olk_spec.specs.Reports.{fault_if}
 use Rattle.olk_tree.specs.Kit.{Kit}
 use Rattle.olk_tree.specs.Questions.{every, some}
-use Rattle.olk_tree.specs.Answers.{Answers, keyword_means, body_means, keyword_finds, body_finds, node_step, answers}
+use Rattle.olk_tree.specs.Answers.{Answers, keyword_means, body_means, keyword_finds, keyword_first, body_finds, body_first, first_of, node_step, answers}
 use Rattle.olk_tree.specs.declared.node.KeywordOver.{KeywordOver}
 use Rattle.olk_tree.specs.declared.node.KeywordOver.TheVariants as keyword
 use Rattle.olk_tree.specs.declared.node.Body.{Body}
 use Rattle.olk_tree.specs.declared.node.Body.TheVariants.{True, False, Keywords}
 use Rattle.olk_tree.specs.declared.node.SchemaNode.{SchemaNode, map-SchemaNode, out-SchemaNode, fold_out-SchemaNode}
 use Rattle.olk_tree.specs.declared.node.SchemaNode.TheOpen.{SchemaNode-F}
-use Rattle.olk_tree.proofs.Maps.{every-map, some-map, every-beside, flat_map-map, flat_map-beside, map-map}
+use Rattle.olk_tree.proofs.Maps.{every-map, some-map, every-beside, flat_map-map, flat_map-beside, map-map, first_of-map, first_of-beside}
 
 module _ {K R : Type 0} (o : Kit K R) where
   abbrev opened : SchemaNode-F K R (SchemaNode K R) → Body (KeywordOver K (SchemaNode K R)) → SchemaNode-F K R Answers
@@ -54,6 +54,22 @@ module _ {K R : Type 0} (o : Kit K R) where
     | keyword.Leaf p l ↦ refl
   ]) ks.items
 
+  first_layer : (n : SchemaNode-F K R (SchemaNode K R)) (b : Body (KeywordOver K (SchemaNode K R))) (u : Bool) (v : Data) (Q : Path)
+      → (node_step o (opened n b)).first u v Q ≡ body_first (keyword_first o.finds (λ n. (answers o n).means) o.keyword_of (λ n. (answers o n).report) u (λ n. (answers o n).first)) n.location b v Q
+  unfolding keyword_first
+  first_layer n True u v Q = refl
+  first_layer n False u v Q = refl
+  first_layer n (Keywords ks) u v Q = first_of-map (λ k. keyword_first o.finds (λ a. a.means) o.keyword_of (λ a. a.report) u (λ a. a.first) k v Q) (λ k. keyword_first o.finds (λ n. (answers o n).means) o.keyword_of (λ n. (answers o n).report) u (λ n. (answers o n).first) k v Q) _ (elim [
+    | keyword.Properties k ↦ first_of-beside (λ e. first_of (λ x. e.1.first u x (Q // e.0)) (at e.0 v)) (λ e. first_of (λ x. (answers o e.1).first u x (Q // e.0)) (at e.0 v)) (answers o) (λ a y. refl) k.properties.names k.properties.nodes.items
+    | keyword.Required k ↦ refl
+    | keyword.AllOf k ↦ first_of-map (λ a. a.first u v Q) (λ n. (answers o n).first u v Q) (answers o) (λ n. refl) k.schemas.items
+    | keyword.SingleValueAllOf k ↦ refl
+    | keyword.AnyOf k ↦ λ i. fault_if (not ((some-map (λ a. a.means v) (λ n. (answers o n).means v) (answers o) (λ n. refl) k.schemas.items i).accepts u)) (AnyOf (context (map-map (λ a. a.report u v Q) (λ n. (answers o n).report u v Q) (answers o) (λ n. refl) k.schemas.items i))) v k.location Q
+    | keyword.SingleAnyOf k ↦ refl
+    | keyword.Not k ↦ refl
+    | keyword.Leaf p l ↦ refl
+  ]) ks.items
+
   pub node_means : (n : SchemaNode K R) (v : Data) → (answers o n).means v ≡ body_means (keyword_means o.finds (λ n. (answers o n).means)) (out-SchemaNode K R n).body v
   unfolding answers
   node_means n v = ap (λ a. a.means v) (fold_out-SchemaNode K R Answers (node_step o) n) ∙ means_layer (out-SchemaNode K R n) (out-SchemaNode K R n).body v
@@ -62,8 +78,12 @@ module _ {K R : Type 0} (o : Kit K R) where
   unfolding answers
   node_finds n u v Q = ap (λ a. a.report u v Q) (fold_out-SchemaNode K R Answers (node_step o) n) ∙ finds_layer (out-SchemaNode K R n) (out-SchemaNode K R n).body u v Q
 
+  pub node_first : (n : SchemaNode K R) (u : Bool) (v : Data) (Q : Path) → (answers o n).first u v Q ≡ body_first (keyword_first o.finds (λ n. (answers o n).means) o.keyword_of (λ n. (answers o n).report) u (λ n. (answers o n).first)) (out-SchemaNode K R n).location (out-SchemaNode K R n).body v Q
+  unfolding answers
+  node_first n u v Q = ap (λ a. a.first u v Q) (fold_out-SchemaNode K R Answers (node_step o) n) ∙ first_layer (out-SchemaNode K R n) (out-SchemaNode K R n).body u v Q
+
   pub node_location : (n : SchemaNode K R) → (answers o n).location ≡ (out-SchemaNode K R n).location
   unfolding answers
   node_location n = ap (λ a. a.location) (fold_out-SchemaNode K R Answers (node_step o) n)
 
-pub ruleset layers = (node_means, node_finds, node_location)
+pub ruleset layers = (node_means, node_finds, node_first, node_location)

@@ -2,7 +2,8 @@
 use Rattle.std.specs.Prelude.{◌≡◌, List, [], ◌∷◌, ◌++◌, map}
 use Rattle.std.specs.List.{flat_map}
 use Rattle.std.proofs.Common.{refl}
-use Rattle.olk_tree.specs.Answers.{beside}
+use Rattle.olk_spec.specs.Faults.{Fault}
+use Rattle.olk_tree.specs.Answers.{beside, or_else, first_of}
 use Rattle.olk_tree.specs.Questions.{Question, both, either, every, some}
 
 module _ {X Y : Type 0} (p : X → Question) (q : Y → Question) (h : Y → X) (same : (y : Y) → p (h y) ≡ q y) where
@@ -31,3 +32,12 @@ pub flat_map-beside : {A X Y B : Type 0} (p : A × X → List B) (q : A × Y →
 flat_map-beside p q h e [] ys = refl
 flat_map-beside p q h e (a ∷ ks) [] = refl
 flat_map-beside p q h e (a ∷ ks) (y ∷ ys) = λ i. e a y i ++ flat_map-beside p q h e ks ys i
+
+pub first_of-map : {X Y : Type 0} (p : X → List Fault) (q : Y → List Fault) (h : Y → X) → ((y : Y) → p (h y) ≡ q y) → (ys : List Y) → first_of p (map h ys) ≡ first_of q ys
+first_of-map p q h e [] = refl
+first_of-map p q h e (y ∷ ys) = λ i. or_else (e y i) (first_of-map p q h e ys i)
+
+pub first_of-beside : {A X Y : Type 0} (p : A × X → List Fault) (q : A × Y → List Fault) (h : Y → X) → ((a : A) (y : Y) → p (a, h y) ≡ q (a, y)) → (ks : List A) (ys : List Y) → first_of p (beside ks (map h ys)) ≡ first_of q (beside ks ys)
+first_of-beside p q h e [] ys = refl
+first_of-beside p q h e (a ∷ ks) [] = refl
+first_of-beside p q h e (a ∷ ks) (y ∷ ys) = λ i. or_else (e a y i) (first_of-beside p q h e ks ys i)
