@@ -23,7 +23,7 @@ pub trait IsValid {
 }
 
 pub mod logic;
-mod members;
+pub mod members;
 pub mod node;
 pub mod properties;
 pub mod required;

@@ -1,4 +1,4 @@
-// Looking up members.
+//! Looking up members.
 ghost use Rattle.std.specs.Prelude.{◌≡◌, option_map};
 ghost use Rattle.serde_json.specs.Data.{object};
 ghost use Rattle.serde_json.specs.View.{view, members_view};
@@ -7,15 +7,15 @@ ghost use Rattle.olk_spec.specs.Schemas.{listed, has};
 
 use serde_json::{Map, Value};
 
-// The member at the name.
-pub(crate) fn member<'v>(members: &'v Map<String, Value>, name: &str) -> Option<&'v Value>
+/// The member at the name (RFC 8259, section 4).
+pub fn member<'v>(members: &'v Map<String, Value>, name: &str) -> Option<&'v Value>
     ensures { option_map (λ v. view v.now) result ≡ lookup name.now (listed (members_view members.now.entries)) }
 {
     members.get(name)
 }
 
-// Whether there is a member at the name.
-pub(crate) fn has_member(members: &Map<String, Value>, name: &str) -> bool
+/// Whether there is a member at the name (RFC 8259, section 4).
+pub fn has_member(members: &Map<String, Value>, name: &str) -> bool
     ensures { result ≡ has name.now (object (members_view members.now.entries)) }
 {
     members.contains_key(name)
