@@ -10,6 +10,7 @@ pub use olk_base::{
     analyze_pattern, contains_ecma_whitespace,
 };
 pub use olk_check::IsValid;
+pub use olk_errors::Errors;
 pub use olk_reports::{
     AnnotationEntry, BuildError, ErrorDescription, ErrorEntry, Evaluation, EvaluationFlag,
     EvaluationNode, EvaluationResult, InstancePath, Location, Mark, ValidateError, ValidationError,
@@ -17,8 +18,9 @@ pub use olk_reports::{
 };
 pub use olk_tree::{
     AllOfValidator, AnyOfValidator, Context, Keyword, NotValidator, RequiredValidator, SchemaNode,
-    SingleAnyOfValidator, SingleValueAllOfValidator, SmallPropertiesValidator, SmallValidatorsMap,
-    SortedNames, all_of, any_of, compile, not, properties, required,
+    SingleAnyOfValidator, SingleValueAllOfValidator, SmallPropertiesValidator,
+    SmallPropertiesWithRequired2Validator, SmallValidatorsMap, SortedNames, all_of, any_of,
+    compile, not, properties, required,
 };
 pub use validator::Validator;
 pub use whole::holds_whole_numbers;

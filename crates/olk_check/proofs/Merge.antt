@@ -1,5 +1,5 @@
 -- Two ascending lists of names are walked in step: it is one whether the names of the first are looked up in the second, or those of the second in the first.
-use Rattle.std.proofs.Common.{◌≡◌, ℕ, suc, ◌<◌, List, [], ◌∷◌, ◌++◌, length, get_or, option_to_list, Option, Some, None, String, Global, Ordering, Less, Equal, Greater, string_bytes, string_cmp, refl, sym, ap, subst, ◌∙◌, arith}
+use Rattle.std.proofs.Common.{◌≡◌, ℕ, suc, ◌<◌, List, [], ◌∷◌, ◌++◌, length, get_or, option_to_list, None, String, Global, Ordering, Less, Equal, Greater, string_bytes, string_cmp, refl, sym, ap, subst, ◌∙◌, arith}
 use Rattle.std.specs.Ordering.{nat_cmp, ordering_reverse}
 use Rattle.std.specs.Cmp.Lexicographic.{slice_cmp}
 use Rattle.std.specs.Bool.{⊤}

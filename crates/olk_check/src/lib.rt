@@ -23,7 +23,6 @@ pub trait IsValid {
 }
 
 pub mod logic;
-pub mod members;
 pub mod node;
 pub mod properties;
 pub mod required;

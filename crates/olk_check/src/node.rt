@@ -22,6 +22,7 @@ impl<K: Leaf, N: IsValid> IsValid for KeywordOver<K, N> {
     fn is_valid(&self, node: Node<'_>, ctx: &mut ValidationContext) -> bool {
         match self {
             KeywordOver::Properties(keyword) => keyword.is_valid(node, ctx),
+            KeywordOver::PropertiesWithRequired2(keyword) => keyword.is_valid(node, ctx),
             KeywordOver::Required(keyword) => keyword.is_valid(node, ctx),
             KeywordOver::AllOf(keyword) => keyword.is_valid(node, ctx),
             KeywordOver::SingleValueAllOf(keyword) => keyword.is_valid(node, ctx),

@@ -8,10 +8,11 @@ ghost use Rattle.olk_tree.specs.Questions.{every};
 ghost use Rattle.olk_check.specs.Declarations.{declared_mean, member_means, members_mean};
 
 use crate::IsValid;
-use crate::members::member;
+use crate::required::has_both;
 use olk_base::{Node, ValidationContext};
 use olk_tree::map::SmallMap;
-use olk_tree::properties::SmallProperties;
+use olk_tree::members::member;
+use olk_tree::properties::{SmallProperties, SmallPropertiesWithRequired2};
 use serde_json::{Map, Value};
 
 /// A member whose name is declared is to be accepted by that name's subschema (JSON Schema 2020-12
@@ -21,15 +22,45 @@ impl<N: IsValid> IsValid for SmallProperties<N> {
 
     fn is_valid(&self, node: Node<'_>, ctx: &mut ValidationContext) -> bool {
         match node.as_object() {
+            Some(members) => object_accepted(&self.properties, members, ctx),
+            None => true,
+        }
+    }
+}
+
+/// Beside that, both names are to be members, where the value is an object (JSON Schema 2020-12
+/// Validation, 6.5.3).
+impl<N: IsValid> IsValid for SmallPropertiesWithRequired2<N> {
+    ghost use Rattle.olk_spec.specs.Names.{is_empty};
+    ghost use Rattle.olk_spec.specs.Accepts.{missing};
+    ghost use Rattle.olk_tree.specs.Questions.{always, both};
+    ghost use Rattle.olk_tree.specs.Answers.{two_texts};
+
+    ghost means = { λ k v. both (always (is_empty (missing (two_texts k.first k.second) v))) (declared_mean N.means (named k.properties) v) };
+
+    fn is_valid(&self, node: Node<'_>, ctx: &mut ValidationContext) -> bool {
+        match node.as_object() {
             Some(members) => {
-                if members.len() <= self.properties.names.len() {
-                    members_accept(&self.properties, members, ctx)
-                } else {
-                    declared_accept(&self.properties, members, ctx)
-                }
+                has_both(members, self.first.as_str(), self.second.as_str())
+                    && object_accepted(&self.properties, members, ctx)
             }
             None => true,
         }
+    }
+}
+
+// Whether each member is accepted whose name is declared: the shorter of the two lists is gone through.
+fn object_accepted<N: IsValid>(
+    properties: &SmallMap<N>,
+    members: &Map<String, Value>,
+    ctx: &mut ValidationContext,
+) -> bool
+    ensures { Asks ctx.old ctx.new (declared_mean N.means (named properties.now) (object (members_view members.now.entries))) result }
+{
+    if members.len() <= properties.names.len() {
+        members_accept(properties, members, ctx)
+    } else {
+        declared_accept(properties, members, ctx)
     }
 }
 

@@ -1,5 +1,5 @@
 //! `required`.
-ghost use Rattle.std.specs.Prelude.{◌≡◌};
+ghost use Rattle.std.specs.Prelude.{◌≡◌, [], ◌∷◌};
 ghost use Rattle.serde_json.specs.Data.{object};
 ghost use Rattle.serde_json.specs.View.{members_view};
 ghost use Rattle.olk_spec.specs.Names.{is_empty};
@@ -7,8 +7,8 @@ ghost use Rattle.olk_spec.specs.Accepts.{missing};
 ghost use Rattle.olk_tree.specs.Answers.{texts_of};
 
 use crate::IsValid;
-use crate::members::has_member;
 use olk_base::{Node, ValidationContext};
+use olk_tree::members::has_member;
 use olk_tree::required::RequiredValidator;
 use serde_json::{Map, Value};
 
@@ -40,4 +40,11 @@ fn has_each(members: &Map<String, Value>, names: &Vec<String>) -> bool
         }
     }
     true
+}
+
+// Whether there is a member at both names.
+pub(crate) fn has_both(members: &Map<String, Value>, first: &str, second: &str) -> bool
+    ensures { result ≡ is_empty (missing (first.now ∷ second.now ∷ []) (object (members_view members.now.entries))) }
+{
+    has_member(members, first) && has_member(members, second)
 }

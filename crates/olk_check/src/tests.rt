@@ -8,7 +8,7 @@ use olk_tree::any_of::{AnyOf, SingleAnyOf};
 use olk_tree::map::{SmallMap, SortedNames};
 use olk_tree::node::{Body, Keyword, KeywordOver, SchemaNode};
 use olk_tree::not::Not;
-use olk_tree::properties::SmallProperties;
+use olk_tree::properties::{SmallProperties, SmallPropertiesWithRequired2};
 use olk_tree::required::RequiredValidator;
 use serde_json::{Map, Value};
 use std::alloc::{AllocError, Global};
@@ -231,6 +231,41 @@ fn required_names(rt: HostRuntime) -> Result<(), Fail> {
         )?;
         let value = Value::from_str(alloc, text)?;
         assert_eq!(rt; accepts(&place, &value), answer, "{names:?} {text}");
+    }
+    Ok(())
+}
+
+// `properties` of the name `a` with the leaf, and two required names.
+#[test]
+fn required_names_beside_declared_ones(rt: HostRuntime) -> Result<(), Fail> {
+    let alloc = rt.alloc();
+    for (text, answer) in [
+        (r#"{"b":"x","c":1}"#, true),
+        (r#"{"a":1,"b":"x","c":1}"#, true),
+        (r#"{"a":"x","b":"x","c":1}"#, false),
+        (r#"{"a":1,"b":"x"}"#, false),
+        (r#"{"a":1,"c":"x"}"#, false),
+        (r#"{}"#, false),
+        (r#"[]"#, true),
+    ] {
+        let mut names = Map::new(alloc);
+        names.insert(String::from_str(alloc, "a")?, Value::Null)?;
+        let mut nodes = Vec::new(alloc);
+        nodes.push(no_text(alloc)?)?;
+        let properties = SmallMap {
+            names: SortedNames::of(alloc, &names)?,
+            nodes,
+        };
+        let both = SmallPropertiesWithRequired2 {
+            properties,
+            first: String::from_str(alloc, "c")?,
+            second: String::from_str(alloc, "b")?,
+            location: Location::new(alloc),
+            required_location: Location::new(alloc),
+        };
+        let place = keyword(alloc, KeywordOver::PropertiesWithRequired2(both))?;
+        let value = Value::from_str(alloc, text)?;
+        assert_eq!(rt; accepts(&place, &value), answer, "{text}");
     }
     Ok(())
 }

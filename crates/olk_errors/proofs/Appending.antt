@@ -52,3 +52,11 @@ left_by r x {So} {Then} h told k = let p = err_from_is_err_and r h in subst (λ 
 
 pub told_so : {T : Type 0} (r : Result T ValidateError) {So Then : Fault → Type 0} → ((f : Fault) → So f → Then f) → IfErr r (λ e. IfInvalid e So) → IfErr r (λ e. IfInvalid e Then)
 told_so r {So} {Then} k h = IfErr-weaker r (λ e. IfInvalid e So) (λ e. IfInvalid e Then) (invalid_so k) h
+
+-- what is appended last, and cut back where there is no memory
+pub after_cut : {A E : Type 0} {old mid : List ValidationError} {fs : List Fault} (now new : List ValidationError) (gs : List Fault) (r a : Result A E) → r ≡ a → OnOk r (new ≡ now) → OnOk a (Appends mid now gs) → Appends old mid fs → OnOk r (Appends old new (fs ++ gs))
+after_cut {A} {E} {old} {mid} {fs} now new gs r a same ok found before = by r ok (subst (λ x. OnOk x (Appends mid now gs)) (sym same) found)
+  where
+    by : (x : Result A E) → OnOk x (new ≡ now) → OnOk x (Appends mid now gs) → OnOk x (Appends old new (fs ++ gs))
+    by (Ok y) e f = appends_more before (appends_same e f)
+    by (Err y) e f = tt

@@ -4,3 +4,4 @@ pub mod Own
 pub mod Missing
 pub mod Sides
 pub mod Schemas
+pub mod Fused

@@ -35,7 +35,7 @@ module _ (v : Data) where
     abbrev told : Name → Fault
     told n = fault (Required n) v Q P
 
-    put_map : (b : Bool) (n : Name) (ns : List Name) → map told (put_if b n []) ++ map told ns ≡ map told (put_if b n ns)
+    pub put_map : (b : Bool) (n : Name) (ns : List Name) → map told (put_if b n []) ++ map told ns ≡ map told (put_if b n ns)
     put_map true n ns = refl
     put_map false n ns = refl
 

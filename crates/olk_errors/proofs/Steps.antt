@@ -50,7 +50,7 @@ module _ {X : Type 0} {f : X → List Fault} {all : List X} where
 contains_none : (f : Fault) → Contains [] f → ⊥
 contains_none f c = absurd (omega arith)
 
-contains_first : (fs gs : List Fault) (f : Fault) → Contains fs f → Contains (or_else fs gs) f
+pub contains_first : (fs gs : List Fault) (f : Fault) → Contains fs f → Contains (or_else fs gs) f
 contains_first [] gs f c = absurd (contains_none f c)
 contains_first (g ∷ fs) gs f c = c
 

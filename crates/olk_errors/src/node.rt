@@ -89,6 +89,9 @@ impl<'a, K: Leaf, N: Errors<'a>> Errors<'a> for KeywordOver<K, N> {
     ) -> Result<(), ValidateError<'a>> {
         match self {
             KeywordOver::Properties(keyword) => keyword.validate(alloc, node, path, ctx),
+            KeywordOver::PropertiesWithRequired2(keyword) => keyword.validate(
+                alloc, node, path, ctx,
+            ),
             KeywordOver::Required(keyword) => keyword.validate(alloc, node, path, ctx),
             KeywordOver::AllOf(keyword) => keyword.validate(alloc, node, path, ctx),
             KeywordOver::SingleValueAllOf(keyword) => keyword.validate(alloc, node, path, ctx),
@@ -112,6 +115,9 @@ impl<'a, K: Leaf, N: Errors<'a>> Errors<'a> for KeywordOver<K, N> {
             KeywordOver::Properties(keyword) => keyword.collect_errors(
                 alloc, node, path, ctx, errors,
             ),
+            KeywordOver::PropertiesWithRequired2(keyword) => {
+                keyword.collect_errors(alloc, node, path, ctx, errors)
+            }
             KeywordOver::Required(keyword) => keyword.collect_errors(
                 alloc, node, path, ctx, errors,
             ),

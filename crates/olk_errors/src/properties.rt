@@ -3,7 +3,7 @@ ghost use Rattle.std.specs.Prelude.{◌≡◌, OnOk, OnErr, IfErr};
 ghost use Rattle.std.specs.List.{flat_map};
 ghost use Rattle.serde_json.specs.Data.{object};
 ghost use Rattle.serde_json.specs.View.{view, members_view};
-ghost use Rattle.olk_spec.specs.Names.{◌//◌};
+ghost use Rattle.olk_reports.specs.Paths.{one_below};
 ghost use Rattle.olk_spec.specs.Schemas.{at};
 ghost use Rattle.olk_tree.specs.Answers.{named, first_of};
 ghost use Rattle.olk_tree.specs.Questions.{every};
@@ -13,11 +13,12 @@ ghost use Rattle.olk_errors.specs.Properties.{declared_finds, declared_first, me
 
 use crate::Errors;
 use crate::append::or_cut;
+use crate::required::{collect_if_either_missing, refuse_if_either_missing};
 use olk_base::{Node, ValidationContext};
-use olk_check::members::member;
 use olk_reports::{InstancePath, ValidateError, ValidationError};
 use olk_tree::map::SmallMap;
-use olk_tree::properties::SmallProperties;
+use olk_tree::members::member;
+use olk_tree::properties::{SmallProperties, SmallPropertiesWithRequired2};
 use serde_json::{Map, Value};
 use std::alloc::{AllocError, Global};
 
@@ -52,6 +53,64 @@ impl<'a, N: Errors<'a>> Errors<'a> for SmallProperties<N> {
     ) -> Result<(), AllocError> {
         match node.as_object() {
             Some(members) => collect_members(&self.properties, alloc, members, path, ctx, errors),
+            None => Ok(()),
+        }
+    }
+}
+
+/// The errors of the names that are absent, in order, before those of the members whose name is declared (JSON Schema
+/// 2020-12 Validation, 6.5.3, and Core, 10.3.2.1).
+impl<'a, N: Errors<'a>> Errors<'a> for SmallPropertiesWithRequired2<N> {
+    ghost use Rattle.std.specs.Prelude.{◌++◌};
+    ghost use Rattle.olk_spec.specs.Names.{is_empty};
+    ghost use Rattle.olk_spec.specs.Accepts.{missing};
+    ghost use Rattle.olk_spec.specs.Reports.{required_faults};
+    ghost use Rattle.olk_tree.specs.Answers.{two_texts, or_else, head_of};
+    ghost use Rattle.olk_tree.specs.Questions.{always, both};
+
+    ghost means = { λ k v. both (always (is_empty (missing (two_texts k.first k.second) v))) (declared_mean N.means (named k.properties) v) };
+
+    ghost finds = { λ k u v Q. required_faults (two_texts k.first k.second) v k.required_location Q ++ declared_finds N.finds u (named k.properties) v Q };
+
+    ghost first = { λ k u v Q. or_else (head_of (required_faults (two_texts k.first k.second) v k.required_location Q)) (declared_first N.first u (named k.properties) v Q) };
+
+    fn validate(
+        &'a self,
+        alloc: Global,
+        node: Node<'a>,
+        path: &mut InstancePath,
+        ctx: &mut ValidationContext,
+    ) -> Result<(), ValidateError<'a>> {
+        match node.as_object() {
+            Some(members) => {
+                let (first, second) = (self.first.as_str(), self.second.as_str());
+                let location = self.required_location.as_str();
+                refuse_if_either_missing(first, second, location, alloc, members, node, path)?;
+                validate_members(&self.properties, alloc, members, path, ctx)
+            }
+            None => Ok(()),
+        }
+    }
+
+    fn collect_errors(
+        &'a self,
+        alloc: Global,
+        node: Node<'a>,
+        path: &mut InstancePath,
+        ctx: &mut ValidationContext,
+        errors: &mut Vec<ValidationError<'a>>,
+    ) -> Result<(), AllocError> {
+        match node.as_object() {
+            Some(members) => {
+                let len = errors.len();
+                let (first, second) = (self.first.as_str(), self.second.as_str());
+                let location = self.required_location.as_str();
+                collect_if_either_missing(
+                    first, second, location, alloc, members, node, path, errors,
+                )?;
+                let answer = collect_members(&self.properties, alloc, members, path, ctx, errors);
+                or_cut(answer, errors, len)
+            }
             None => Ok(()),
         }
     }
@@ -144,8 +203,8 @@ fn validate_at<'a, N: Errors<'a>>(
     path: &mut InstancePath,
     ctx: &mut ValidationContext,
 ) -> Result<(), ValidateError<'a>>
-    ensures ok { OnOk result (Passes ((every (N.means subschema.now) (at name.now (object (members_view members.now.entries)))).accepts ctx.old.answer) (first_of (λ x. N.first subschema.now ctx.old.answer x (path.old // name.now)) (at name.now (object (members_view members.now.entries))))) }
-    ensures invalid { IfErr result (λ e. IfInvalid e (IsTold ((every (N.means subschema.now) (at name.now (object (members_view members.now.entries)))).accepts ctx.old.answer) (first_of (λ x. N.first subschema.now ctx.old.answer x (path.old // name.now)) (at name.now (object (members_view members.now.entries)))) (flat_map (λ x. N.finds subschema.now ctx.old.answer x (path.old // name.now)) (at name.now (object (members_view members.now.entries)))))) }
+    ensures ok { OnOk result (Passes ((every (N.means subschema.now) (at name.now (object (members_view members.now.entries)))).accepts ctx.old.answer) (first_of (λ x. N.first subschema.now ctx.old.answer x (one_below path.old name.now)) (at name.now (object (members_view members.now.entries))))) }
+    ensures invalid { IfErr result (λ e. IfInvalid e (IsTold ((every (N.means subschema.now) (at name.now (object (members_view members.now.entries)))).accepts ctx.old.answer) (first_of (λ x. N.first subschema.now ctx.old.answer x (one_below path.old name.now)) (at name.now (object (members_view members.now.entries)))) (flat_map (λ x. N.finds subschema.now ctx.old.answer x (one_below path.old name.now)) (at name.now (object (members_view members.now.entries)))))) }
     ensures path { path.new ≡ path.old }
     ensures answer { ctx.new.answer ≡ ctx.old.answer }
 {
@@ -164,8 +223,8 @@ fn validate_below<'a, N: Errors<'a>>(
     path: &mut InstancePath,
     ctx: &mut ValidationContext,
 ) -> Result<(), ValidateError<'a>>
-    ensures ok { OnOk result (Passes ((N.means subschema.now (view value.now)).accepts ctx.old.answer) (N.first subschema.now ctx.old.answer (view value.now) (path.old // name.now))) }
-    ensures invalid { IfErr result (λ e. IfInvalid e (IsTold ((N.means subschema.now (view value.now)).accepts ctx.old.answer) (N.first subschema.now ctx.old.answer (view value.now) (path.old // name.now)) (N.finds subschema.now ctx.old.answer (view value.now) (path.old // name.now)))) }
+    ensures ok { OnOk result (Passes ((N.means subschema.now (view value.now)).accepts ctx.old.answer) (N.first subschema.now ctx.old.answer (view value.now) (one_below path.old name.now))) }
+    ensures invalid { IfErr result (λ e. IfInvalid e (IsTold ((N.means subschema.now (view value.now)).accepts ctx.old.answer) (N.first subschema.now ctx.old.answer (view value.now) (one_below path.old name.now)) (N.finds subschema.now ctx.old.answer (view value.now) (one_below path.old name.now)))) }
     ensures path { path.new ≡ path.old }
     ensures answer { ctx.new.answer ≡ ctx.old.answer }
 {
@@ -271,7 +330,7 @@ fn collect_at<'a, N: Errors<'a>>(
     ctx: &mut ValidationContext,
     errors: &mut Vec<ValidationError<'a>>,
 ) -> Result<(), AllocError>
-    ensures report { OnOk result (Appends errors.old.items errors.new.items (flat_map (λ x. N.finds subschema.now ctx.old.answer x (path.old // name.now)) (at name.now (object (members_view members.now.entries))))) }
+    ensures report { OnOk result (Appends errors.old.items errors.new.items (flat_map (λ x. N.finds subschema.now ctx.old.answer x (one_below path.old name.now)) (at name.now (object (members_view members.now.entries))))) }
     ensures memory { OnErr result (errors.new.items ≡ errors.old.items) }
     ensures path { path.new ≡ path.old }
     ensures answer { ctx.new.answer ≡ ctx.old.answer }
@@ -292,7 +351,7 @@ fn collect_below<'a, N: Errors<'a>>(
     ctx: &mut ValidationContext,
     errors: &mut Vec<ValidationError<'a>>,
 ) -> Result<(), AllocError>
-    ensures report { OnOk result (Appends errors.old.items errors.new.items (N.finds subschema.now ctx.old.answer (view value.now) (path.old // name.now))) }
+    ensures report { OnOk result (Appends errors.old.items errors.new.items (N.finds subschema.now ctx.old.answer (view value.now) (one_below path.old name.now))) }
     ensures memory { OnErr result (errors.new.items ≡ errors.old.items) }
     ensures path { path.new ≡ path.old }
     ensures answer { ctx.new.answer ≡ ctx.old.answer }

@@ -12,8 +12,8 @@ ghost use Rattle.olk_errors.specs.Found.{Appends, IfInvalid, Passes, IsTold};
 use crate::Errors;
 use crate::append::{append_error, or_cut, refuse};
 use olk_base::{Node, ValidationContext};
-use olk_check::members::has_member;
 use olk_reports::{InstancePath, ValidateError, ValidationError, ValidationErrorKind};
+use olk_tree::members::has_member;
 use olk_tree::required::RequiredValidator;
 use serde_json::{Map, Value};
 use std::alloc::{AllocError, Global};
@@ -170,4 +170,43 @@ pub(crate) fn collect_if_missing<'a>(
     }
     let kind = ValidationErrorKind::Required { property: name };
     append_error(alloc, kind, node, path, schema_path, errors)
+}
+
+// The error of the first of two names that is absent.
+pub(crate) fn refuse_if_either_missing<'a>(
+    first: &'a str,
+    second: &'a str,
+    schema_path: &'a str,
+    alloc: Global,
+    members: &Map<String, Value>,
+    node: Node<'a>,
+    path: &InstancePath,
+) -> Result<(), ValidateError<'a>>
+    requires { tree_of node ≡ object (members_view members.now.entries) }
+    ensures ok { OnOk result (Passes (is_empty (missing (first.now ∷ second.now ∷ []) (tree_of node.entry))) (head_of (required_faults (first.now ∷ second.now ∷ []) (tree_of node.entry) schema_path.now path.now))) }
+    ensures invalid { IfErr result (λ e. IfInvalid e (IsTold (is_empty (missing (first.now ∷ second.now ∷ []) (tree_of node.entry))) (head_of (required_faults (first.now ∷ second.now ∷ []) (tree_of node.entry) schema_path.now path.now)) (required_faults (first.now ∷ second.now ∷ []) (tree_of node.entry) schema_path.now path.now))) }
+{
+    refuse_if_missing(first, schema_path, alloc, members, node, path)?;
+    refuse_if_missing(second, schema_path, alloc, members, node, path)
+}
+
+// One error for each of two names that is absent.
+pub(crate) fn collect_if_either_missing<'a>(
+    first: &'a str,
+    second: &'a str,
+    schema_path: &'a str,
+    alloc: Global,
+    members: &Map<String, Value>,
+    node: Node<'a>,
+    path: &InstancePath,
+    errors: &mut Vec<ValidationError<'a>>,
+) -> Result<(), AllocError>
+    requires { tree_of node ≡ object (members_view members.now.entries) }
+    ensures report { OnOk result (Appends errors.old.items errors.new.items (required_faults (first.now ∷ second.now ∷ []) (tree_of node.entry) schema_path.now path.now)) }
+    ensures memory { OnErr result (errors.new.items ≡ errors.old.items) }
+{
+    let len = errors.len();
+    collect_if_missing(first, schema_path, alloc, members, node, path, errors)?;
+    let answer = collect_if_missing(second, schema_path, alloc, members, node, path, errors);
+    or_cut(answer, errors, len)
 }

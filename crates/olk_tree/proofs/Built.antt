@@ -1,45 +1,55 @@
 -- What is built so far, and one more.
-use Rattle.std.specs.Prelude.{◌≡◌, ◌≤◌, ◌<◌, ◌+◌, ⊤, ℕ, Bool, true, false, ◌&&◌, List, [], ◌∷◌, ◌++◌, map, sum_by, take, drop, length, decimal, Option, Some, None, option_to_list, slice_index_or as get_or}
+use Rattle.std.specs.Prelude.{◌≡◌, ◌≤◌, ◌<◌, ◌+◌, ⊤, ℕ, Bool, true, false, ◌&&◌, List, [], ◌∷◌, ◌++◌, map, sum_by, take, drop, length, decimal, Option, Some, IsPermutation, Result, Ok, Err, IfOk, IfErr, slice_index_or as get_or}
 use Rattle.std.specs.List.{list_all, flat_map, enumerate_from}
-use Rattle.std.proofs.Common.{refl, sym, ◌∙◌, ap, subst, arith, zero, suc}
+use Rattle.std.specs.List.Sorted.{IsStrictlySortedBy}
+use Rattle.std.specs.Map.{keys_of}
+use Rattle.std.proofs.Common.{refl, sym, ◌∙◌, ap, subst, arith, string_cmp, String}
 use mathlib.Core.Path.{subst₂}
 use Rattle.std.proofs.lemmas.List.{append-nil, append_assoc, map-append, take_more, take-append-drop, length-map, length-take-le}
 use Rattle.std.proofs.lemmas.List.Folds.{list_all-append, list_all-map}
+use Rattle.std.proofs.lemmas.List.Sorted.{sum_by-IsPermutation}
 use Rattle.std.proofs.lemmas.List.Sums.{sum_by-append, sum_by-cons}
 use Rattle.std.proofs.lemmas.Grind.{flat_map-append}
-use Rattle.serde_json.specs.Data.{Data, null, boolean, number, string, array, object, Members, Items}
-use Rattle.serde_json.specs.View.{view, items_view}
+use Rattle.serde_json.specs.Data.{Data, null, boolean, number, string, array, object, Members}
+use Rattle.serde_json.specs.View.{view, items_view, members_view}
 use Rattle.serde_json.specs.declared.value.Value.{Value}
-use Rattle.olk_spec.specs.Names.{Name, Path, ◌//◌}
-use Rattle.olk_spec.specs.Faults.{Fault, fault, FalseSchema, MultipleTypes, ◌∼◌, like_empty, like_through}
-use Rattle.olk_spec.specs.Schemas.{listed, numbered, read, read_members}
+use Rattle.olk_spec.specs.Names.{Name, Path, ◌//◌, lookup}
+use Rattle.olk_spec.specs.Faults.{fault, MultipleTypes, ◌∼◌, like_empty, like_through}
+use Rattle.olk_spec.specs.Schemas.{listed, numbered, read_members}
 use Rattle.olk_spec.specs.Vocabulary.{Keyword, keyword_named}
-use Rattle.olk_spec.specs.Malformed.{malformations_beside, malformations_step, keyword_malformations, pending, items_list}
-use Rattle.olk_spec.specs.Meaning.{meaning, meaning_step, accepts, asks, report}
+use Rattle.olk_spec.specs.Malformed.{has_repeat, malformations_beside, malformations_step, keyword_malformations, pending, items_list}
+use Rattle.olk_spec.specs.Meaning.{meaning, meaning_step, accepts, asks, report, tree}
 use Rattle.olk_spec.specs.Accepts.{keyword_accepts}
 use Rattle.olk_spec.specs.Asks.{keyword_asks}
 use Rattle.olk_spec.specs.Reports.{keyword_report}
-use Rattle.olk_spec.specs.Costs.{Cost, cost, cost_step, no_cost, ◌⊕◌, total_cost, one_place, keyword_cost}
-use Rattle.olk_spec.proofs.Order.{∼_refl, ∼_append, ∼_same}
-use Rattle.olk_spec.proofs.Reading.{members_read, keyword_part}
+use Rattle.olk_spec.specs.Costs.{cost, cost_step, ◌⊕◌, total_cost, one_place, keyword_cost}
+use Rattle.olk_spec.specs.Tree.{plain}
+use Rattle.olk_spec.specs.Trees.{keyword_child}
+use Rattle.olk_spec.proofs.Order.{∼_append, ∼_same, ∼_permuted}
+use Rattle.olk_spec.proofs.Truth.{and_true}
+use Rattle.olk_spec.proofs.Reading.{members_read}
 use Rattle.olk_base.specs.Count.{Counts, count_compiled}
 use Rattle.olk_reports.specs.declared.error.BuildError.{BuildError}
 use Rattle.olk_tree.specs.Kit.{Kit}
-use Rattle.olk_tree.specs.Questions.{Question, every, both}
-use Rattle.olk_tree.specs.Answers.{answers, keyword_means, keyword_finds, body_means, body_finds}
+use Rattle.olk_tree.specs.Questions.{Question, every}
+use Rattle.olk_tree.specs.Answers.{answers, keyword_means, keyword_finds, body_means, body_finds, keyword_shows, body_shows}
+use Rattle.olk_tree.specs.Claims.{claims}
+use Rattle.olk_tree.specs.Forms.{taken_names}
 use Rattle.olk_tree.specs.Stands.{StandsFor}
-use Rattle.olk_tree.specs.Members.{malformations_at, member_accepts, member_asks, member_report, member_malformations, member_cost}
+use Rattle.olk_tree.specs.Members.{malformations_at, member_accepts, member_asks, member_report, member_child, StandsAlone, member_malformations, member_cost}
 use Rattle.olk_tree.proofs.Maps.{flat_map-map}
 use Rattle.std.specs.Prelude.{Vec}
 use Rattle.std.specs.declared.alloc.Global.{Global}
 use Rattle.olk_spec.specs.World.{World}
-use Rattle.olk_tree.specs.Building.{Spends, SpendsWithin, TellsOneOf, Refuses, IsBuilt, StandEach, AreBuilt, each_malformed, each_cost, Covers, Holds, KeywordIsBuilt, KeywordsAreBuilt, all_malformed, all_cost, which, means, ask, find}
+use Rattle.olk_tree.specs.Building.{all_malformed, TellsOneOf, Refuses, IsBuilt, StandEach, AreBuilt, each_cost, KeywordIsBuilt, KeywordsAreBuilt, HoldsClaims, RefusesMember, all_cost, which, ask, find}
+use Rattle.olk_tree.specs.Parts.{BuildsClaims}
 use Rattle.olk_tree.specs.declared.node.KeywordOver.{KeywordOver}
 use Rattle.olk_tree.specs.declared.node.Body.{Body}
 use Rattle.olk_tree.specs.declared.node.Body.TheVariants.{True, False, Keywords}
 use Rattle.olk_tree.specs.declared.node.SchemaNode.{SchemaNode, out-SchemaNode}
-use Rattle.olk_tree.proofs.Layers.{node_means, node_finds, node_location}
-use Rattle.olk_tree.proofs.Spending.{sum_first, sum_last, sum_around, total_cost-append, total_cost-map, spends_nothing, spends_append, spends_same, spends_place, within_after, within_same, within_exactly, within_nothing, tells_same}
+use Rattle.olk_tree.proofs.Claims.{list_all-permuted, claims_are_all, sorted_distinct, member_found}
+use Rattle.olk_tree.proofs.Layers.{node_means, node_finds, node_shows, node_location}
+use Rattle.olk_tree.proofs.Spending.{sum_last, total_cost-append, total_cost-map, spends_nothing, spends_append, spends_same, spends_place, within_after, within_same, within_exactly, tells_same}
 
 abbrev pub truth_body : {W : Type 0} → Bool → Body W
 truth_body true = True
@@ -121,6 +131,10 @@ module _ (W : World) (ms : Members) where
   unfolding meaning
   object_report u v P Q = ap (flat_map (λ m. keyword_report W u (read_members (meaning_step W u) ms) m.0 m.1 v P Q (keyword_named W m.0))) (members_read (meaning_step W u) ms) ∙ flat_map-map _ _ _ (λ m. refl) (listed ms)
 
+  pub object_tree : (u : Bool) (v : Data) (P Q : Path) → tree W u (object ms) v P Q ≡ plain P Q (flat_map (λ m. member_child W ms m (keyword_named W m.0) u v P Q) (listed ms))
+  unfolding meaning
+  object_tree u v P Q = ap (λ ps. plain P Q (flat_map (λ m. keyword_child W u (read_members (meaning_step W u) ms) v P Q m.0 m.1 (keyword_named W m.0)) ps)) (members_read (meaning_step W u) ms) ∙ ap (plain P Q) (flat_map-map _ _ _ (λ m. refl) (listed ms))
+
   pub object_malformed : (P : Path) → malformations_at W (object ms) P ≡ flat_map (λ m. member_malformations W ms m (keyword_named W m.0) P) (listed ms)
   unfolding malformations_beside
   object_malformed P = ap (flat_map (λ m. keyword_malformations W pending (read_members (malformations_step W pending) ms) m.0 m.1 P (keyword_named W m.0))) (members_read (malformations_step W pending) ms) ∙ flat_map-map _ _ _ (λ m. refl) (listed ms)
@@ -194,6 +208,7 @@ module _ {K R : Type 0} (o : Kit K R) where
         verdict = λ u v. ap (λ q. q.accepts u) (node_means o n v ∙ ap (λ y. body_means (keyword_means o.finds (λ z. (answers o z).means)) y v) b);
         asks_within = λ u v. let q = ap (λ q. q.asks u) (node_means o n v ∙ ap (λ y. body_means (keyword_means o.finds (λ z. (answers o z).means)) y v) b) in omega (arith, q);
         faults = λ u v Q. ∼_same (node_finds o n u v Q ∙ ap (λ y. body_finds (keyword_finds o.finds (λ z. (answers o z).means) o.keyword_of (λ z. (answers o z).report) u) (out-SchemaNode K R n).location y v Q) b);
+        evaluation = λ u v Q. node_shows o n u v Q ∙ (λ i. body_shows (keyword_shows o.finds (λ z. (answers o z).means) o.keyword_of (λ z. (answers o z).tree) u) (at i) (b i) v Q);
         place = node_location o n ∙ at;
       };
       clean = refl;
@@ -204,18 +219,20 @@ module _ {K R : Type 0} (o : Kit K R) where
         verdict = λ u v. ap (λ q. q.accepts u) (node_means o n v ∙ ap (λ y. body_means (keyword_means o.finds (λ z. (answers o z).means)) y v) b);
         asks_within = λ u v. let q = ap (λ q. q.asks u) (node_means o n v ∙ ap (λ y. body_means (keyword_means o.finds (λ z. (answers o z).means)) y v) b) in omega (arith, q);
         faults = λ u v Q. ∼_same (node_finds o n u v Q ∙ (λ i. body_finds (keyword_finds o.finds (λ z. (answers o z).means) o.keyword_of (λ z. (answers o z).report) u) (at i) (b i) v Q));
+        evaluation = λ u v Q. node_shows o n u v Q ∙ (λ i. body_shows (keyword_shows o.finds (λ z. (answers o z).means) o.keyword_of (λ z. (answers o z).tree) u) (at i) (b i) v Q);
         place = node_location o n ∙ at;
       };
       clean = refl;
       spends = spends_place a m c;
     }
 
-    pub built_object : (ms : Members) (ks : Vec (KeywordOver K (SchemaNode K R)) Global) (z : Counts) → (out-SchemaNode K R n).body ≡ Keywords ks → d ≡ object ms → KeywordsAreBuilt o ms ks.items (listed ms) P m z → IsBuilt o n d P a z
+    pub built_object : (ms : Members) (ks : Vec (KeywordOver K (SchemaNode K R)) Global) (z : Counts) → (out-SchemaNode K R n).body ≡ Keywords ks → d ≡ object ms → KeywordsAreBuilt o ms ks.items (listed ms) (listed ms) P m z → IsBuilt o n d P a z
     built_object ms ks z b e h = subst (λ x. IsBuilt o n x P a z) (sym e) record {
       stands = record {
         verdict = λ u v. ap (λ q. q.accepts u) (node_means o n v ∙ ap (λ y. body_means (keyword_means o.finds (λ z. (answers o z).means)) y v) b) ∙ h.covers.verdict u v ∙ sym (object_accepts o.world ms u v);
         asks_within = λ u v. let q = ap (λ q. q.asks u) (node_means o n v ∙ ap (λ y. body_means (keyword_means o.finds (λ z. (answers o z).means)) y v) b) in let r = h.covers.asks_within u v in let t = object_asks o.world ms u v in omega (arith, q, r, t);
         faults = λ u v Q. like_through (∼_same (node_finds o n u v Q ∙ ap (λ y. body_finds (keyword_finds o.finds (λ z. (answers o z).means) o.keyword_of (λ z. (answers o z).report) u) (out-SchemaNode K R n).location y v Q) b)) (like_through (h.covers.faults u v Q) (∼_same (sym (object_report o.world ms u v P Q))));
+        evaluation = λ u v Q. node_shows o n u v Q ∙ (λ i. body_shows (keyword_shows o.finds (λ z. (answers o z).means) o.keyword_of (λ z. (answers o z).tree) u) (at i) (b i) v Q) ∙ ap (plain P Q) (h.shows h.clean u v Q) ∙ sym (object_tree o.world ms u v P Q);
         place = node_location o n ∙ at;
       };
       clean = object_malformed o.world ms P ∙ h.clean;
@@ -243,31 +260,95 @@ module _ {K R : Type 0} (o : Kit K R) where
   -- ---- keywords
 
   module _ (ms : Members) (P : Path) where
-    pub no_keywords_built : (a : Counts) (ks : List (KeywordOver K (SchemaNode K R))) → ks ≡ [] → KeywordsAreBuilt o ms ks [] P a a
-    no_keywords_built a ks e = subst (λ x. KeywordsAreBuilt o ms x [] P a a) (sym e) record {
+    pub no_keywords_built : (a : Counts) (ks : List (KeywordOver K (SchemaNode K R))) → ks ≡ [] → KeywordsAreBuilt o ms ks [] [] P a a
+    no_keywords_built a ks e = subst (λ x. KeywordsAreBuilt o ms x [] [] P a a) (sym e) record {
       covers = record { verdict = λ u v. refl; asks_within = λ u v. omega arith; faults = λ u v Q. like_empty };
+      shows = λ c u v Q. refl;
       clean = refl;
       spends = spends_nothing a;
     }
 
-    last_true : (x : Bool) → (x && true) ≡ x
-    last_true true = refl
-    last_true false = refl
-
-    pub one_more_keyword : (ks ls new : List (KeywordOver K (SchemaNode K R))) (es : List (Name × Data)) (e : Name × Data) (a m b : Counts) → new ≡ ks ++ ls → KeywordsAreBuilt o ms ks es P a m → KeywordIsBuilt o ms ls e (which o ms e) P m b → KeywordsAreBuilt o ms new (es ++ e ∷ []) P a b
-    one_more_keyword ks ls new es e a m b q h k = subst (λ x. KeywordsAreBuilt o ms x (es ++ e ∷ []) P a b) (sym q) record {
+    -- what is built for one member alone
+    pub built_alone : (ks : List (KeywordOver K (SchemaNode K R))) (e : Name × Data) (a b : Counts) → (all_malformed o ms P (listed ms) ≡ [] → (u : Bool) → StandsAlone o.world u ms e (which o ms e)) → KeywordIsBuilt o ms ks e (which o ms e) P a b → KeywordsAreBuilt o ms ks (e ∷ []) (e ∷ []) P a b
+    built_alone ks e a b alone k = record {
       covers = record {
-        verdict = λ u v. (every-append (λ k. keyword_means o.finds (λ n. (answers o n).means) k v) ks ls u).0 ∙ (λ i. h.covers.verdict u v i && (k.holds.verdict u v ∙ sym (last_true (member_accepts o.world ms e (which o ms e) u v))) i) ∙ sym (list_all-append _ es (e ∷ []));
+        verdict = λ u v. k.holds.verdict u v ∙ sym (and_true (member_accepts o.world ms e (which o ms e) u v));
+        asks_within = λ u v.
+            let f : Name × Data → ℕ = λ x. member_asks o.world ms x (which o ms x) u v in
+            let t = sum_by-cons f e [] in
+            let q = k.holds.asks_within u v in
+            omega (arith, t, q);
+        faults = λ u v Q. subst (λ l. find o ms ks u v Q ∼ l) (sym (append-nil _)) (k.holds.faults u v Q);
+      };
+      shows = λ c u v Q. k.shows u (alone c u) v Q ∙ sym (append-nil _);
+      clean = append-nil _ ∙ k.clean;
+      spends = spends_same a b _ (all_cost o ms (e ∷ [])) (sym (sum_last (member_cost o.world ms e (which o ms e)))) k.spends;
+    }
+
+    more_keywords : (ks ls new : List (KeywordOver K (SchemaNode K R))) (rows more es fs : List (Name × Data)) (a m b : Counts) → new ≡ ks ++ ls → KeywordsAreBuilt o ms ks rows es P a m → KeywordsAreBuilt o ms ls more fs P m b → KeywordsAreBuilt o ms new (rows ++ more) (es ++ fs) P a b
+    more_keywords ks ls new rows more es fs a m b q h k = subst (λ x. KeywordsAreBuilt o ms x (rows ++ more) (es ++ fs) P a b) (sym q) record {
+      covers = record {
+        verdict = λ u v. (every-append (λ k. keyword_means o.finds (λ n. (answers o n).means) k v) ks ls u).0 ∙ (λ i. h.covers.verdict u v i && k.covers.verdict u v i) ∙ sym (list_all-append _ rows more);
         asks_within = λ u v.
             let f : Name × Data → ℕ = λ x. member_asks o.world ms x (which o ms x) u v in
             let x = (every-append (λ k. keyword_means o.finds (λ n. (answers o n).means) k v) ks ls u).1 in
-            let s = sum_by-append f es (e ∷ []) in
-            let t = sum_by-cons f e [] in
+            let s = sum_by-append f rows more in
             let p = h.covers.asks_within u v in
-            let q = k.holds.asks_within u v in
-            omega (arith, x, s, t, p, q);
-        faults = λ u v Q. subst₂ (λ x y. x ∼ y) (sym (flat_map-append _ ks ls)) (sym (flat_map-append _ es (e ∷ []) ∙ ap (λ l. flat_map (λ x. member_report o.world ms x (which o ms x) u v P Q) es ++ l) (append-nil _))) (∼_append (h.covers.faults u v Q) (k.holds.faults u v Q));
+            let q = k.covers.asks_within u v in
+            omega (arith, x, s, p, q);
+        faults = λ u v Q. subst₂ (λ x y. x ∼ y) (sym (flat_map-append _ ks ls)) (sym (flat_map-append _ rows more)) (∼_append (h.covers.faults u v Q) (k.covers.faults u v Q));
       };
-      clean = flat_map-append (λ x. member_malformations o.world ms x (which o ms x) P) es (e ∷ []) ∙ (λ i. h.clean i ++ (k.clean i ++ []));
-      spends = spends_same a b _ (all_cost o ms (es ++ e ∷ [])) (sym (total_cost-append (λ x. member_cost o.world ms x (which o ms x)) es (e ∷ []) ∙ ap (λ c. all_cost o ms es ⊕ c) (sum_last (member_cost o.world ms e (which o ms e))))) (spends_append a m b (all_cost o ms es) (member_cost o.world ms e (which o ms e)) h.spends k.spends);
+      shows = λ c u v Q. map-append _ ks ls ∙ (λ i. h.shows c u v Q i ++ k.shows c u v Q i) ∙ sym (flat_map-append _ es fs);
+      clean = flat_map-append (λ x. member_malformations o.world ms x (which o ms x) P) es fs ∙ (λ i. h.clean i ++ k.clean i);
+      spends = spends_same a b _ (all_cost o ms (es ++ fs)) (sym (total_cost-append (λ x. member_cost o.world ms x (which o ms x)) es fs)) (spends_append a m b (all_cost o ms es) (all_cost o ms fs) h.spends k.spends);
     }
+
+    module _ (t : Option (Name × Name)) where
+      pub one_more_keyword : (ks ls new : List (KeywordOver K (SchemaNode K R))) (es : List (Name × Data)) (e : Name × Data) (a m b : Counts) → new ≡ ks ++ ls → KeywordsAreBuilt o ms ks (flat_map (claims t ms) es) es P a m → KeywordsAreBuilt o ms ls (claims t ms e) (e ∷ []) P m b → KeywordsAreBuilt o ms new (flat_map (claims t ms) (es ++ e ∷ [])) (es ++ e ∷ []) P a b
+      one_more_keyword ks ls new es e a m b q h k = subst (λ rows. KeywordsAreBuilt o ms new rows (es ++ e ∷ []) P a b)
+          (sym (flat_map-append (claims t ms) es (e ∷ []) ∙ ap (λ l. flat_map (claims t ms) es ++ l) (append-nil (claims t ms e))))
+          (more_keywords ks ls new (flat_map (claims t ms) es) (claims t ms e) es (e ∷ []) a m b q h k)
+
+      -- what all members claim are all members
+      pub all_keywords : (ks : List (KeywordOver K (SchemaNode K R))) (a b : Counts) → has_repeat (map (λ m. m.0) (listed ms)) ≡ false → t ≡ taken_names ms → KeywordsAreBuilt o ms ks (flat_map (claims t ms) (listed ms)) (listed ms) P a b → KeywordsAreBuilt o ms ks (listed ms) (listed ms) P a b
+      all_keywords ks a b distinct chosen h = record {
+        covers = record {
+          verdict = λ u v. h.covers.verdict u v ∙ list_all-permuted (λ m. member_accepts o.world ms m (which o ms m) u v) (flat_map (claims t ms) (listed ms)) (listed ms) all;
+          asks_within = λ u v. subst (λ n. ask o ms ks v u ≤ n) (sym (sum_by-IsPermutation (λ m. member_asks o.world ms m (which o ms m) u v) (flat_map (claims t ms) (listed ms)) (listed ms) all)) (h.covers.asks_within u v);
+          faults = λ u v Q. like_through (h.covers.faults u v Q) (∼_permuted (λ m. member_report o.world ms m (which o ms m) u v P Q) (flat_map (claims t ms) (listed ms)) (listed ms) all);
+        };
+        shows = h.shows;
+        clean = h.clean;
+        spends = h.spends;
+      }
+        where
+          all : IsPermutation (flat_map (claims t ms) (listed ms)) (listed ms)
+          all = claims_are_all ms distinct t chosen
+
+  -- ---- the members of an object, one after the other
+
+  module _ (entries : List (String Global × Value)) (sorted : IsStrictlySortedBy string_cmp (keys_of entries)) (P : Path) (t : Option (Name × Name)) (chosen : t ≡ taken_names (members_view entries)) where
+    abbrev object_members : Members
+    object_members = members_view entries
+
+    abbrev BuiltSoFar : List (KeywordOver K (SchemaNode K R)) → List (Name × Data) → Counts → Counts → Type 0
+    BuiltSoFar ks es a b = KeywordsAreBuilt o object_members ks (flat_map (claims (taken_names object_members) object_members) es) es P a b
+
+    pub next_keyword : (ks ls new : List (KeywordOver K (SchemaNode K R))) (done : List (Name × Data)) (n : Name) (d : Data) (rest : List (Name × Data)) (at : Path) (a m b : Counts) → new ≡ ks ++ ls → done ++ (n, d) ∷ rest ≡ listed object_members → at ≡ P // n
+        → BuiltSoFar ks done a m → HoldsClaims o ls t n d P at m b → BuiltSoFar new (done ++ (n, d) ∷ []) a b
+    next_keyword ks ls new done n d rest at a m b q whole place h k =
+        one_more_keyword object_members P (taken_names object_members) ks ls new done (n, d) a m b q h
+        (subst (λ s. KeywordsAreBuilt o object_members ls (claims s object_members (n, d)) ((n, d) ∷ []) P m b) chosen (k object_members place (sorted_distinct entries sorted) (member_found entries done (n, d) rest sorted whole) chosen))
+
+    pub last_keyword : (ks : List (KeywordOver K (SchemaNode K R))) (done : List (Name × Data)) (a b : Counts) → done ≡ listed object_members → BuiltSoFar ks done a b → KeywordsAreBuilt o object_members ks (listed object_members) (listed object_members) P a b
+    last_keyword ks done a b whole h = all_keywords object_members P (taken_names object_members) ks a b (sorted_distinct entries sorted) refl (subst (λ es. BuiltSoFar ks es a b) whole h)
+
+  -- the keyword of a member of one object
+  pub in_object : (ms : Members) (t : Option (Name × Name)) (chosen : t ≡ taken_names ms) (ks : List (KeywordOver K (SchemaNode K R))) (k : Name) (d : Data) (P : Path) (a b : Counts) → HoldsClaims o ks t k d P (P // k) a b
+      → has_repeat (map (λ m. m.0) (listed ms)) ≡ false → lookup k (listed ms) ≡ Some d → KeywordsAreBuilt o ms ks (claims (taken_names ms) ms (k, d)) ((k, d) ∷ []) P a b
+  in_object ms t chosen ks k d P a b h distinct there = subst (λ s. KeywordsAreBuilt o ms ks (claims s ms (k, d)) ((k, d) ∷ []) P a b) chosen (h ms refl distinct there chosen)
+
+  pub builds_claims : (ms : Members) (t : Option (Name × Name)) (chosen : t ≡ taken_names ms) (k : Name) (d : Data) (w : Keyword) (P L : Path) (a b : Counts) (r : Result (KeywordOver K (SchemaNode K R)) BuildError) → L ≡ P // k
+      → IfOk r (λ x. HoldsClaims o (x ∷ []) t k d P L a b) → IfErr r (RefusesMember o k d w L a b) → BuildsClaims o ms k d w P a b r
+  builds_claims ms t chosen k d w P L a b (Ok x) e h g = (λ distinct there. in_object ms t chosen (x ∷ []) k d P a b (subst (λ M. HoldsClaims o (x ∷ []) t k d P M a b) e h) distinct there, tt)
+  builds_claims ms t chosen k d w P L a b (Err x) e h g = (tt, subst (λ M. RefusesMember o k d w M a b x) e g)

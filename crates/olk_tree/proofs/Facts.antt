@@ -52,10 +52,10 @@ values_from n (x ∷ xs) = ap (λ l. x ∷ l) (values_from (n + 1) xs)
 pub numbered_values : {X : Type 0} (xs : List X) → xs ≡ map {A = Name × X} (λ e. e.1) (numbered xs)
 numbered_values xs = values_from 0 xs
 
-branch_entries : {X : Type 0} (step : Schema X → X) (ds : Items) → branches (read step (array ds)) ≡ map (entry step) (numbered (items_list ds))
+pub branch_entries : {X : Type 0} (step : Schema X → X) (ds : Items) → branches (read step (array ds)) ≡ map (entry step) (numbered (items_list ds))
 branch_entries step ds = branches_read step (array ds) ∙ numbered-map (place step) (items_list ds)
 
-item_entries : {X : Type 0} (step : Schema X → X) (ds : Items) → (read step (array ds)).items ≡ map {A = Name × Sub X} (λ e. e.1) (map (entry step) (numbered (items_list ds)))
+pub item_entries : {X : Type 0} (step : Schema X → X) (ds : Items) → (read step (array ds)).items ≡ map {A = Name × Sub X} (λ e. e.1) (map (entry step) (numbered (items_list ds)))
 item_entries {X} step ds = items_read step (array ds) ∙ numbered_values (map (place step) (items_list ds)) ∙ ap (map {A = Name × Sub X} (λ e. e.1)) (numbered-map (place step) (items_list ds))
 
 nothing_first : (n : ℕ) → 0 + n ≡ n

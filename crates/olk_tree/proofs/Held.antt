@@ -1,6 +1,11 @@
 -- What holds a keyword, and what is told where none is built.
-use Rattle.std.specs.Prelude.{◌≡◌, ◌≤◌, ℕ, ◌+◌, Bool, true, false, not, ◌&&◌, ◌||◌, if◌then◌else◌, List, [], ◌∷◌, ◌++◌, map, sum_by, codes, Vec, String, string_bytes, bytes_eq}
+use Rattle.std.specs.Prelude.{◌≡◌, cond, Option, Some, None, unwrap_or, is_some, option_map, option_to_list, ◌≤◌, ℕ, ◌+◌, Bool, true, false, not, ◌&&◌, ◌||◌, if◌then◌else◌, List, [], ◌∷◌, ◌++◌, map, sum_by, codes, Vec, String, string_bytes, bytes_eq}
 use Rattle.std.specs.List.{list_all, list_any, flat_map}
+use Rattle.std.specs.Ordering.{nat_cmp, is_eq}
+use Rattle.std.specs.Cmp.Lexicographic.{slice_cmp}
+use Rattle.std.specs.declared.cmp.Ordering.{Ordering}
+use Rattle.std.specs.declared.cmp.Ordering.TheVariants.{Less, Equal, Greater}
+use Rattle.std.proofs.lemmas.Map.Text.{is_eq-slice_cmp}
 use Rattle.std.specs.declared.alloc.AllocError.{AllocError}
 use Rattle.std.specs.declared.alloc.Global.{Global}
 use Rattle.std.proofs.Common.{refl, sym, ◌∙◌, ap, subst, arith, ◌⊎◌, inl, inr}
@@ -12,38 +17,49 @@ use mathlib.Core.Path.{subst₂}
 use Rattle.serde_json.specs.Data.{Data, object, array, Members, Items}
 use Rattle.serde_json.specs.View.{view}
 use Rattle.serde_json.specs.declared.value.Value.{Value}
-use Rattle.olk_spec.specs.Names.{Name, Path, ◌//◌, is_empty, is_among}
+use Rattle.olk_spec.specs.Names.{Name, Path, ◌//◌, lookup, first_if_equal, those, put_if, is_empty, is_among}
 use Rattle.olk_spec.specs.World.{World}
 use Rattle.olk_spec.specs.Vocabulary.{Keyword, properties, required, all_of, any_of, not_keyword, leaf, unread, unsupported, unsupported_names, leaf_or_unread, keyword_named}
-use Rattle.olk_spec.specs.Faults.{Fault, AnyOf, Not, Leaf, LeafRefused, SingleType, Unsupported, array_type, object_type, fault, Context, context, IsLikeContext, like_none, like_branch, like, like_any_of, ◌∼◌, like_empty, like_next}
-use Rattle.olk_spec.specs.Schemas.{listed, numbered, at, texts_in, is_object, is_array}
+use Rattle.olk_spec.specs.Faults.{Fault, AnyOf, Not, Leaf, LeafRefused, SingleType, Unsupported, array_type, object_type, fault, Context, context, IsLikeContext, like_none, like_branch, like, like_any_of, ◌∼◌, like_empty, like_next, like_through}
+use Rattle.olk_spec.specs.Schemas.{read_members, listed, numbered, at, members, texts_in, is_object, is_array}
 use Rattle.olk_spec.specs.Malformed.{pending, items_list, unless_kind}
-use Rattle.olk_spec.specs.Meaning.{accepts, asks, report}
+use Rattle.olk_spec.specs.Meaning.{accepts, asks, report, tree, meaning_step}
 use Rattle.olk_spec.specs.Accepts.{missing}
 use Rattle.olk_spec.specs.Reports.{required_faults, fault_if}
 use Rattle.olk_spec.specs.Costs.{Cost, cost, no_cost, ◌⊕◌}
+use Rattle.olk_spec.specs.Tree.{Tree, leaf_node, result, plain, erring, described}
+use Rattle.olk_spec.specs.Trees.{missing_child}
 use Rattle.olk_spec.proofs.Each.{Each}
-use Rattle.olk_spec.proofs.Order.{∼_same, ∼_append, ∼_flat_map_any, faults_in-from}
+use Rattle.olk_spec.proofs.Named.{Named, named as is_named}
+use Rattle.olk_spec.proofs.Order.{∼_same, ∼_append, ∼_behind, ∼_swap, ∼_flat_map_any, faults_in-from}
 use Rattle.olk_spec.proofs.Truth.{and_true, or_false}
-use Rattle.olk_spec.proofs.Walks.{neither}
+use Rattle.olk_spec.proofs.Walks.{neither, same_name, bytes_eq-sym}
 use Rattle.olk_base.specs.Count.{Counts, count_leaf}
 use Rattle.olk_base.proofs.CountLemmas.{raised_zero}
 use Rattle.olk_reports.specs.declared.error.BuildError.{BuildError}
 use Rattle.olk_reports.specs.declared.error.BuildError.TheVariants.{Memory}
 use Rattle.olk_tree.specs.Kit.{Kit}
 use Rattle.olk_tree.specs.Questions.{Question, every, some}
-use Rattle.olk_tree.specs.Answers.{answers, beside, keyword_means, keyword_finds}
+use Rattle.olk_tree.specs.Answers.{answers, beside, named, keyword_means, keyword_finds, keyword_shows}
+use Rattle.olk_tree.specs.Shown.{missing_trees, properties_tree, branch_trees, any_of_tree}
 use Rattle.olk_tree.specs.Stands.{StandsFor}
-use Rattle.olk_tree.specs.Members.{malformations_at, member_accepts, member_asks, member_report, member_malformations, member_cost}
-use Rattle.olk_tree.specs.Forms.{IsFormOfAllOf, IsFormOfAnyOf, IsOther}
+use Rattle.olk_tree.specs.Members.{malformations_at, member_accepts, member_asks, member_report, member_child, StandsAlone, member_malformations, member_cost}
+use Rattle.olk_tree.specs.Claims.{claims, members_named}
+use Rattle.olk_tree.specs.Forms.{IsFormOfProperties, IsFormOfAllOf, IsFormOfAnyOf, IsOther}
 use Rattle.olk_tree.specs.Lists.{not_texts}
-use Rattle.olk_tree.specs.Building.{Spends, SpendsWithin, TellsOneOf, Refuses, IsBuilt, StandEach, AreBuilt, each_malformed, each_cost, Holds, KeywordIsBuilt, HoldsMember, RefusesMember}
+use Rattle.olk_tree.specs.Building.{Spends, SpendsWithin, TellsOneOf, Refuses, IsBuilt, StandEach, AreBuilt, each_malformed, each_cost, which, Holds, Covers, KeywordIsBuilt, KeywordsAreBuilt, HoldsMember, HoldsClaims, RefusesMember}
 use Rattle.olk_tree.specs.declared.map.SmallMap.{SmallMap}
+use Rattle.olk_tree.specs.declared.properties.SmallPropertiesWithRequired2.{SmallPropertiesWithRequired2}
 use Rattle.olk_tree.specs.declared.node.KeywordOver.{KeywordOver}
 use Rattle.olk_tree.specs.declared.node.KeywordOver.TheVariants as keyword
 use Rattle.olk_tree.specs.declared.node.SchemaNode.{SchemaNode}
 use Rattle.olk_tree.proofs.Facts as fact
-use Rattle.olk_tree.proofs.Spending.{sum_first, spends_nothing, within_before, within_same, within_exactly, within_nothing, tells_left, tells_same, tells_memory}
+use Rattle.olk_tree.proofs.Built.{built_alone}
+use Rattle.olk_tree.proofs.Claims.{listing, takes_over}
+use Rattle.olk_tree.proofs.Clean.{free, not_fused, fused, names_taken}
+use Rattle.olk_tree.proofs.Children.{shown_at, shown_declared, branches_shown, accepting_branches, any_shown, properties_child, required_child, no_required_child, all_of_child, any_of_child, not_child, leaf_child}
+use Rattle.olk_tree.proofs.Maps.{is_empty-map}
+use Rattle.olk_tree.proofs.Spending.{sum_first, sum_last, spends_nothing, spends_same, refuses_memory, within_before, within_same, within_exactly, within_nothing, tells_left, tells_same, tells_memory}
 
 -- ---- numbers and counts
 
@@ -123,6 +139,9 @@ module _ {K R : Type 0} (o : Kit K R) where
   abbrev question : KeywordOver K (SchemaNode K R) → Data → Question
   question k v = keyword_means o.finds (λ n. (answers o n).means) k v
 
+  abbrev shown : Bool → KeywordOver K (SchemaNode K R) → Data → Path → Tree
+  shown u k v Q = keyword_shows o.finds (λ n. (answers o n).means) o.keyword_of (λ n. (answers o n).tree) u k v Q
+
   abbrev found : Bool → KeywordOver K (SchemaNode K R) → Data → Path → List Fault
   found u k v Q = keyword_finds o.finds (λ n. (answers o n).means) o.keyword_of (λ n. (answers o n).report) u k v Q
 
@@ -201,6 +220,57 @@ module _ {K R : Type 0} (o : Kit K R) where
     any_context Q (n ∷ ns) [] L h = absurd h
     any_context Q (n ∷ ns) (e ∷ es) L h = like_branch (subst₂ (λ x y. x ∼ y) (sym (faults_in-from ((answers o n).report u v Q))) (sym (faults_in-from (report o.world u e.1 v (L // e.0) Q))) (h.0.faults u v Q)) (any_context Q ns es L h.1)
 
+    branches_show : (Q : Path) (ns : List (SchemaNode K R)) (es : List (Name × Data)) (L : Path) → StandEach o ns es L → map (λ n. (answers o n).tree u v Q) ns ≡ branches_shown o.world u v L Q es
+    branches_show Q [] [] L h = refl
+    branches_show Q [] (e ∷ es) L h = absurd h
+    branches_show Q (n ∷ ns) [] L h = absurd h
+    branches_show Q (n ∷ ns) (e ∷ es) L h = λ i. h.0.evaluation u v Q i ∷ branches_show Q ns es L h.1 i
+
+    abbrev accepts_value : SchemaNode K R → Bool
+    accepts_value n = ((answers o n).means v).accepts u
+
+    accepting_show : (Q : Path) (ns : List (SchemaNode K R)) (es : List (Name × Data)) (L : Path) → StandEach o ns es L → map (λ n. (answers o n).tree u v Q) (those accepts_value ns) ≡ branches_shown o.world u v L Q (accepting_branches o.world u v es)
+    accepting_show Q [] [] L h = refl
+    accepting_show Q [] (e ∷ es) L h = absurd h
+    accepting_show Q (n ∷ ns) [] L h = absurd h
+    accepting_show Q (n ∷ ns) (e ∷ es) L h = ap (λ b. map (λ n. (answers o n).tree u v Q) (put_if b n (those accepts_value ns))) (h.0.verdict u v) ∙ by (accepts o.world u e.1 v) (accepting_show Q ns es L h.1)
+      where
+        by : (b : Bool) → map (λ n. (answers o n).tree u v Q) (those accepts_value ns) ≡ branches_shown o.world u v L Q (accepting_branches o.world u v es)
+            → map (λ n. (answers o n).tree u v Q) (put_if b n (those accepts_value ns)) ≡ branches_shown o.world u v L Q (put_if b e (accepting_branches o.world u v es))
+        by true g = λ i. h.0.evaluation u v Q i ∷ g i
+        by false g = g
+
+    any_show : (Q : Path) (ns : List (SchemaNode K R)) (es : List (Name × Data)) (L : Path) → StandEach o ns es L → any_of_tree (λ n. (answers o n).tree u) v Q accepts_value L ns ≡ any_shown o.world u v L Q es
+    any_show Q ns es L h = λ i. cond (none i) (result L Q None true [] (branches_show Q ns es L h i)) (plain L Q (accepting_show Q ns es L h i))
+      where
+        none : is_empty (those accepts_value ns) ≡ is_empty (accepting_branches o.world u v es)
+        none = sym (is_empty-map (λ n. (answers o n).tree u v Q) (those accepts_value ns)) ∙ ap is_empty (accepting_show Q ns es L h) ∙ is_empty-map (λ e. tree o.world u e.1 v (L // e.0) Q) (accepting_branches o.world u v es)
+
+    beside_names : (ns : List (SchemaNode K R)) (es : List (Name × Data)) (L : Path) → StandEach o ns es L → map {A = Name × SchemaNode K R} (λ e. e.0) (beside (map (λ e. e.0) es) ns) ≡ map {A = Name × Data} (λ e. e.0) es
+    beside_names [] [] L h = refl
+    beside_names [] (e ∷ es) L h = absurd h
+    beside_names (n ∷ ns) [] L h = absurd h
+    beside_names (n ∷ ns) (e ∷ es) L h = ap (λ ks. e.0 ∷ ks) (beside_names ns es L h.1)
+
+    member_shows : (Q : Path) (m : Name × Data) (ns : List (SchemaNode K R)) (es : List (Name × Data)) (L : Path) → StandEach o ns es L → map (λ n. (answers o n).tree u m.1 (Q // m.0)) (option_to_list (lookup m.0 (beside (map (λ e. e.0) es) ns))) ≡ shown_at o.world u v L Q es m
+    member_shows Q m [] [] L h = refl
+    member_shows Q m [] (e ∷ es) L h = absurd h
+    member_shows Q m (n ∷ ns) [] L h = absurd h
+    member_shows Q m (n ∷ ns) (e ∷ es) L h = by (slice_cmp nat_cmp m.0 e.0) (is_eq-slice_cmp m.0 e.0) (member_shows Q m ns es L h.1)
+      where
+        by : (c : Ordering) → is_eq c ≡ bytes_eq m.0 e.0 → map (λ n. (answers o n).tree u m.1 (Q // m.0)) (option_to_list (lookup m.0 (beside (map (λ e. e.0) es) ns))) ≡ shown_at o.world u v L Q es m
+            → map (λ n. (answers o n).tree u m.1 (Q // m.0)) (option_to_list (first_if_equal c n (lookup m.0 (beside (map (λ e. e.0) es) ns)))) ≡ map (λ d. tree o.world u d m.1 (L // m.0) (Q // m.0)) (option_to_list (first_if_equal c e.1 (lookup m.0 es)))
+        by Less q g = g
+        by Equal q g = (λ i. h.0.evaluation u m.1 (Q // m.0) i ∷ []) ∙ ap (λ k. tree o.world u e.1 m.1 (L // k) (Q // m.0) ∷ []) (sym (same_name m.0 e.0 (sym q)))
+        by Greater q g = g
+
+    members_show : (Q : Path) (ms : List (Name × Data)) (ns : List (SchemaNode K R)) (es : List (Name × Data)) (L : Path) → StandEach o ns es L → flat_map (λ m. map (λ n. (answers o n).tree u m.1 (Q // m.0)) (option_to_list (lookup m.0 (beside (map (λ e. e.0) es) ns)))) ms ≡ flat_map (shown_at o.world u v L Q es) ms
+    members_show Q [] ns es L h = refl
+    members_show Q (m ∷ ms) ns es L h = λ i. member_shows Q m ns es L h i ++ members_show Q ms ns es L h i
+
+    declared_show : (Q : Path) (more : List Tree) (ns : List (SchemaNode K R)) (es : List (Name × Data)) (L : Path) → StandEach o ns es L → properties_tree (λ n. (answers o n).tree u) v Q L (beside (map (λ e. e.0) es) ns) more ≡ shown_declared o.world u v L Q es more
+    declared_show Q more ns es L h = λ i. result L Q (cond (is_object v) (Some (map (λ m. m.0) (those (λ m. is_among m.0 (beside_names ns es L h i)) (members v)))) None) false [] (members_show Q (members v) ns es L h i ++ more)
+
   any_fault : (b : Bool) (c d : Context) (v : Data) (P Q : Path) → IsLikeContext c d → fault_if b (AnyOf c) v P Q ∼ fault_if b (AnyOf d) v P Q
   any_fault true c d v P Q h = like_next (like (like_any_of h)) like_empty
   any_fault false c d v P Q h = like_empty
@@ -237,6 +307,13 @@ module _ {K R : Type 0} (o : Kit K R) where
       unfolding keyword_finds
       properties_find Q = subst (λ ks. flat_map (λ e. flat_map (λ x. (answers o e.1).report u x (Q // e.0)) (at e.0 v)) (beside ks m.nodes.items) ∼ flat_map (λ e. flat_map (λ x. report o.world u e.1 x (L // e.0) (Q // e.0)) (at e.0 v)) es) (sym names) (members_find u v Q m.nodes.items es L stand)
 
+      properties_show : (Q : Path) (more : List Tree) → properties_tree (λ n. (answers o n).tree u) v Q L (named m) more ≡ shown_declared o.world u v L Q es more
+      properties_show Q more = ap (λ ks. properties_tree (λ n. (answers o n).tree u) v Q L (beside ks m.nodes.items) more) names ∙ declared_show u v Q more m.nodes.items es L stand
+
+      alone_show : (Q : Path) → shown u properties_keyword v Q ≡ properties_tree (λ n. (answers o n).tree u) v Q L (named m) []
+      unfolding keyword_shows
+      alone_show Q = refl
+
   pub holds_properties : (m : SmallMap (SchemaNode K R)) (L : Path) (fs : Members) (d : Data) (a b : Counts) → d ≡ object fs → m.names ≡ map (λ e. e.0) (listed fs) → AreBuilt o m.nodes.items (listed fs) L a b → HoldsMember o (keyword.Properties (record { properties = m; location = L }) ∷ []) (codes "properties") d properties L a b
   holds_properties m L fs d a b q names built ms P p = subst (λ x. KeywordIsBuilt o ms (properties_keyword m L (listed fs) names built.stand ∷ []) (codes "properties", x) properties P a b) (sym q) (record {
     holds = one ms (properties_keyword m L (listed fs) names built.stand) (codes "properties", object fs) properties P
@@ -245,9 +322,83 @@ module _ {K R : Type 0} (o : Kit K R) where
         (λ u v Q. subst (λ l. found u (properties_keyword m L (listed fs) names built.stand) v Q ∼ l)
         (ap (λ M. flat_map (λ e. flat_map (λ x. report o.world u e.1 x (M // e.0) (Q // e.0)) (at e.0 v)) (listed fs)) p ∙ sym (fact.properties_report o.world ms fs u v P Q))
         (properties_find m L (listed fs) names built.stand u v Q));
+    shows = λ u h v Q.
+        ap (λ t. t ∷ []) (alone_show m L (listed fs) names built.stand u v Q ∙ properties_show m L (listed fs) names built.stand u v Q [] ∙ ap (λ M. shown_declared o.world u v M Q (listed fs) []) p)
+        ∙ ap (λ b. shown_declared o.world u v (P // codes "properties") Q (listed fs) (missing_child o.world u (read_members (meaning_step o.world u) ms) v P Q b) ∷ []) (sym h.2)
+        ∙ sym (properties_child o.world u v ms P Q fs h.0 h.1);
     clean = fact.properties_malformations o.world ms fs P ∙ ap (λ M. each_malformed o M (listed fs)) (sym p) ∙ built.clean;
     spends = subst (Spends a b) (sym (fact.properties_cost o.world ms fs)) built.spends;
   })
+
+  -- ---- properties, with required or alone
+
+  module _ (ms : Members) (m : SmallMap (SchemaNode K R)) (L P : Path) (k : SmallPropertiesWithRequired2 (SchemaNode K R)) (t : Name × Name) (form : IsFormOfProperties {K = K} P L m (Some t) (keyword.PropertiesWithRequired2 k)) where
+    abbrev alone : KeywordOver K (SchemaNode K R)
+    alone = keyword.Properties (record { properties = m; location = L })
+
+    abbrev lacking : Data → List Name
+    lacking v = missing (t.0 ∷ t.1 ∷ []) v
+
+    module _ (u : Bool) (v : Data) where
+      both_accept : (question (keyword.PropertiesWithRequired2 k) v).accepts u ≡ (is_empty (lacking v) && (question alone v).accepts u)
+      unfolding keyword_means
+      both_accept = λ i. is_empty (missing (form.2 i ∷ form.3 i ∷ []) v) && (question (keyword.Properties (record { properties = form.0 i; location = L })) v).accepts u
+
+      both_ask : (question (keyword.PropertiesWithRequired2 k) v).asks u ≡ 0 + (question alone v).asks u
+      unfolding keyword_means
+      both_ask = λ i. 0 + (question (keyword.Properties (record { properties = form.0 i; location = L })) v).asks u
+
+      both_find : (Q : Path) → found u (keyword.PropertiesWithRequired2 k) v Q ≡ required_faults (t.0 ∷ t.1 ∷ []) v (P // codes "required") Q ++ found u alone v Q
+      unfolding keyword_finds
+      both_find Q = λ i. required_faults (form.2 i ∷ form.3 i ∷ []) v (form.4 i) Q ++ found u (keyword.Properties (record { properties = form.0 i; location = L })) v Q
+
+      both_show : (Q : Path) → shown u (keyword.PropertiesWithRequired2 k) v Q ≡ properties_tree (λ n. (answers o n).tree u) v Q L (named m) (missing_trees (t.0 ∷ t.1 ∷ []) v (P // codes "required") Q)
+      unfolding keyword_shows
+      both_show Q = λ i. properties_tree (λ n. (answers o n).tree u) v Q (form.1 i) (named (form.0 i)) (missing_trees (form.2 i ∷ form.3 i ∷ []) v (form.4 i) Q)
+
+    covers_both : (d : Data) → Holds o ms (alone ∷ []) (codes "properties", d) properties P → Covers o ms (keyword.PropertiesWithRequired2 k ∷ []) ((codes "properties", d) ∷ (codes "required", listing t) ∷ []) P
+    covers_both d h = record {
+      verdict = λ u v. ap (λ b. b && true) (both_accept u v) ∙ turned (is_empty (lacking v)) ((question alone v).accepts u) ∙ (λ i. h.verdict u v i && (sym (fact.required_accepts o.world ms (listing t) u v) i && true));
+      asks_within = λ u v.
+          let f : Name × Data → ℕ = λ x. member_asks o.world ms x (which o ms x) u v in
+          let b = both_ask u v in
+          let s = sum_by-cons f (codes "properties", d) ((codes "required", listing t) ∷ []) in
+          let q = h.asks_within u v in
+          omega (arith, b, s, q);
+      faults = λ u v Q. subst₂ (λ x y. x ∼ y)
+          (sym (append-nil _ ∙ both_find u v Q))
+          (ap (λ l. member_report o.world ms (codes "properties", d) properties u v P Q ++ l) (sym (append-nil _ ∙ fact.required_report o.world ms (listing t) u v P Q)))
+          (like_through (∼_swap (required_faults (t.0 ∷ t.1 ∷ []) v (P // codes "required") Q) (found u alone v Q))
+          (∼_behind (required_faults (t.0 ∷ t.1 ∷ []) v (P // codes "required") Q) (subst (λ l. l ∼ member_report o.world ms (codes "properties", d) properties u v P Q) (append-nil (found u alone v Q)) (h.faults u v Q))));
+    }
+      where
+        turned : (a b : Bool) → ((a && b) && true) ≡ ((b && true) && (a && true))
+        turned true true = refl
+        turned true false = refl
+        turned false true = refl
+        turned false false = refl
+
+  pub holds_form : (k : KeywordOver K (SchemaNode K R)) (m : SmallMap (SchemaNode K R)) (L P : Path) (t : Option (Name × Name)) (fs : Members) (d : Data) (a b : Counts) → d ≡ object fs → m.names ≡ map (λ e. e.0) (listed fs) → AreBuilt o m.nodes.items (listed fs) L a b → IsFormOfProperties P L m t k → HoldsClaims o (k ∷ []) t (codes "properties") d P L a b
+  holds_form (keyword.Properties k) m L P None fs d a b q names built form ms p distinct there chosen =
+      subst (λ x. KeywordsAreBuilt o ms (keyword.Properties x ∷ []) ((codes "properties", d) ∷ []) ((codes "properties", d) ∷ []) P a b) (λ i. record { properties = sym form.0 i; location = sym form.1 i })
+      (built_alone o ms P _ (codes "properties", d) a b
+      (λ clean u. (there, free o.world ms P clean (meaning_step o.world u), fused o.world ms P clean (meaning_step o.world u) ∙ ap is_some (sym chosen)))
+      (holds_properties m L fs d a b q names built ms P p))
+  holds_form (keyword.PropertiesWithRequired2 k) m L P (Some t) fs d a b q names built form ms p distinct there chosen =
+      let taken = takes_over ms distinct t chosen in
+      let plain = holds_properties m L fs d a b q names built ms P p in
+      record {
+        covers = subst (λ rows. Covers o ms (keyword.PropertiesWithRequired2 k ∷ []) ((codes "properties", d) ∷ rows) P) (sym taken.required) (covers_both ms m L P k t form d plain.holds);
+        shows = λ clean u v Q.
+            let step = meaning_step o.world u in
+            ap (λ x. x ∷ []) (both_show ms m L P k t form u v Q ∙ properties_show m L (listed fs) names built.stand u v Q (missing_trees (t.0 ∷ t.1 ∷ []) v (P // codes "required") Q) ∙ ap (λ M. shown_declared o.world u v M Q (listed fs) (missing_trees (t.0 ∷ t.1 ∷ []) v (P // codes "required") Q)) p)
+            ∙ (λ i. shown_declared o.world u v (P // codes "properties") Q (listed fs) (put_if (sym (fused o.world ms P clean step ∙ ap is_some (sym chosen)) i && not (is_empty (missing (sym (names_taken step ms t taken.listed_at) i) v))) (erring (P // codes "required") Q (required_faults (sym (names_taken step ms t taken.listed_at) i) v (P // codes "required") Q)) []) ∷ [])
+            ∙ sym (append-nil _ ∙ ap (λ x. member_child o.world ms (codes "properties", x) properties u v P Q) q ∙ properties_child o.world u v ms P Q fs (there ∙ ap Some q) (free o.world ms P clean step));
+        clean = append-nil _ ∙ plain.clean;
+        spends = spends_same a b _ _ (sym (sum_last _)) plain.spends;
+      }
+  holds_form k m L P None fs d a b q names built form ms p distinct there chosen = absurd form
+  holds_form k m L P (Some t) fs d a b q names built form ms p distinct there chosen = absurd form
 
   -- ---- branches
 
@@ -269,6 +420,18 @@ module _ {K R : Type 0} (o : Kit K R) where
     all_form_finds Q (keyword.AllOf k) f = ap (flat_map (λ n. (answers o n).report u v Q)) f.0
     all_form_finds Q (keyword.SingleValueAllOf k) f = sym (append-nil ((answers o k.node).report u v Q)) ∙ ap (flat_map (λ n. (answers o n).report u v Q)) (sym f.0)
     all_form_finds Q k f = absurd f
+
+    all_form_shows : (Q : Path) (k : KeywordOver K (SchemaNode K R)) → IsFormOfAllOf L ns k → shown u k v Q ≡ plain L Q (branch_trees (λ n. (answers o n).tree u) v Q ns)
+    unfolding keyword_shows
+    all_form_shows Q (keyword.AllOf k) f = λ i. plain (f.2 i) Q (branch_trees (λ n. (answers o n).tree u) v Q (f.0 i))
+    all_form_shows Q (keyword.SingleValueAllOf k) f = λ i. plain (f.1 i) Q (branch_trees (λ n. (answers o n).tree u) v Q (sym f.0 i))
+    all_form_shows Q k f = absurd f
+
+    any_form_shows : (Q : Path) (k : KeywordOver K (SchemaNode K R)) → IsFormOfAnyOf L ns k → shown u k v Q ≡ any_of_tree (λ n. (answers o n).tree u) v Q (accepts_value u v) L ns
+    unfolding keyword_shows
+    any_form_shows Q (keyword.AnyOf k) f = λ i. any_of_tree (λ n. (answers o n).tree u) v Q (accepts_value u v) (f.2 i) (f.0 i)
+    any_form_shows Q (keyword.SingleAnyOf k) f = λ i. any_of_tree (λ n. (answers o n).tree u) v Q (accepts_value u v) (f.1 i) (sym f.0 i)
+    any_form_shows Q k f = absurd f
 
     any_form_accepts : (k : KeywordOver K (SchemaNode K R)) → IsFormOfAnyOf L ns k → (question k v).accepts u ≡ (some (at_value u v) ns).accepts u
     unfolding keyword_means
@@ -304,6 +467,9 @@ module _ {K R : Type 0} (o : Kit K R) where
         (λ u v Q. subst₂ (λ x y. x ∼ y) (sym (all_form_finds L ns u v Q k form))
         (ap (λ M. flat_map (λ e. report o.world u e.1 v (M // e.0) Q) (numbered (items_list ds))) p ∙ sym (fact.all_of_report o.world ms ds u v P Q))
         (all_find u v Q ns (numbered (items_list ds)) L built.stand));
+    shows = λ u h v Q.
+        ap (λ t. t ∷ []) (all_form_shows L ns u v Q k form ∙ ap (plain L Q) (branches_show u v Q ns (numbered (items_list ds)) L built.stand) ∙ ap (λ M. plain M Q (branches_shown o.world u v M Q (numbered (items_list ds)))) p)
+        ∙ sym (all_of_child o.world u v ms P Q ds);
     clean = fact.all_of_malformations o.world ms ds P ∙ ap (λ M. each_malformed o M (numbered (items_list ds))) (sym p) ∙ built.clean;
     spends = subst (Spends a b) (sym (fact.all_of_cost o.world ms ds)) built.spends;
   })
@@ -316,6 +482,9 @@ module _ {K R : Type 0} (o : Kit K R) where
         (λ u v Q. subst₂ (λ x y. x ∼ y) (told u v Q) (meant u v Q) (any_fault (not (list_any (λ e. accepts o.world u e.1 v) (numbered (items_list ds))))
         (context (map (λ n. (answers o n).report u v Q) ns)) (context (map (λ e. report o.world u e.1 v (L // e.0) Q) (numbered (items_list ds)))) v L Q
         (any_context u v Q ns (numbered (items_list ds)) L built.stand)));
+    shows = λ u h v Q.
+        ap (λ t. t ∷ []) (any_form_shows L ns u v Q k form ∙ any_show u v Q ns (numbered (items_list ds)) L built.stand ∙ ap (λ M. any_shown o.world u v M Q (numbered (items_list ds))) p)
+        ∙ sym (any_of_child o.world u v ms P Q ds);
     clean = fact.any_of_malformations o.world ms ds P ∙ ap (λ M. each_malformed o M (numbered (items_list ds))) (sym p) ∙ built.clean;
     spends = subst (Spends a b) (sym (fact.any_of_cost o.world ms ds)) built.spends;
   })
@@ -344,12 +513,17 @@ module _ {K R : Type 0} (o : Kit K R) where
     unfolding keyword_finds
     not_find Q = refl
 
+    not_show : (Q : Path) → shown u not_of v Q ≡ erring L Q (fault_if (((answers o n).means v).accepts u) (Not (view original)) v L Q)
+    unfolding keyword_shows
+    not_show Q = refl
+
   pub holds_not : (original : Value) (n : SchemaNode K R) (L : Path) (d : Data) (a b : Counts) → view original ≡ d → IsBuilt o n d L a b → HoldsMember o (keyword.Not (record { original = original; node = n; location = L }) ∷ []) (codes "not") d not_keyword L a b
   holds_not original n L d a b same built ms P p = record {
     holds = one ms (keyword.Not (record { original = original; node = n; location = L })) (codes "not", d) not_keyword P
         (λ u v. not_accept original n L u v ∙ ap not (built.stands.verdict u v) ∙ sym (fact.not_accepts o.world ms d u v))
         (λ u v. subst₂ (λ x y. x ≤ y) (sym (not_ask original n L u v)) (sym (fact.not_asks o.world ms d u v)) (built.stands.asks_within u v))
         (λ u v Q. ∼_same (not_find original n L u v Q ∙ (λ i. fault_if (built.stands.verdict u v i) (Not (same i)) v (p i) Q) ∙ sym (fact.not_report o.world ms d u v P Q)));
+    shows = λ u h v Q. ap (λ t. t ∷ []) (not_show original n L u v Q ∙ (λ i. erring (p i) Q (fault_if (built.stands.verdict u v i) (Not (same i)) v (p i) Q))) ∙ sym (not_child o.world u v ms P Q d);
     clean = fact.not_malformations o.world ms d P ∙ ap (malformations_at o.world d) (sym p) ∙ built.clean;
     spends = subst (Spends a b) (sym (fact.not_cost o.world ms d)) built.spends;
   }
@@ -372,15 +546,61 @@ module _ {K R : Type 0} (o : Kit K R) where
     unfolding keyword_finds
     required_find Q = refl
 
+    required_show : (Q : Path) → shown u required_of v Q ≡ erring L Q (required_faults (map string_bytes names.items) v L Q)
+    unfolding keyword_shows
+    required_show Q = refl
+
   pub holds_required : (names : Vec (String Global) Global) (L : Path) (ds : Items) (d : Data) (a : Counts) → d ≡ array ds → map string_bytes names.items ≡ texts_in ds → not_texts L ds ≡ [] → HoldsMember o (keyword.Required (record { required = names; location = L }) ∷ []) (codes "required") d required L a a
   holds_required names L ds d a q same clean ms P p = subst (λ x. KeywordIsBuilt o ms (keyword.Required (record { required = names; location = L }) ∷ []) (codes "required", x) required P a a) (sym q) (record {
     holds = one ms (keyword.Required (record { required = names; location = L })) (codes "required", array ds) required P
         (λ u v. required_accept names L u v ∙ ap (λ ns. is_empty (missing ns v)) same ∙ sym (fact.required_accepts o.world ms (array ds) u v))
         (λ u v. subst₂ (λ x y. x ≤ y) (sym (required_ask names L u v)) (sym (fact.required_asks o.world ms (array ds) u v)) (omega arith))
         (λ u v Q. ∼_same (required_find names L u v Q ∙ (λ i. required_faults (same i) v (p i) Q) ∙ sym (fact.required_report o.world ms (array ds) u v P Q)));
+    shows = λ u h v Q. ap (λ t. t ∷ []) (required_show names L u v Q ∙ (λ i. erring (p i) Q (required_faults (same i) v (p i) Q))) ∙ sym (required_child o.world u v ms P Q (array ds) h);
     clean = fact.required_malformations o.world ms (array ds) P ∙ ap (λ M. not_texts M ds) (sym p) ∙ clean;
     spends = subst (Spends a a) (sym (fact.required_cost o.world ms (array ds))) (spends_nothing a);
   })
+
+  -- the names are taken over
+  pub holds_taken : (L P : Path) (t : Name × Name) (d : Data) (a : Counts) → HoldsClaims o [] (Some t) (codes "required") d P L a a
+  holds_taken L P t d a ms p distinct there chosen = record {
+    covers = record { verdict = λ u v. refl; asks_within = λ u v. omega arith; faults = λ u v Q. like_empty };
+    shows = λ clean u v Q. sym (append-nil _ ∙ no_required_child o.world u v ms P Q d (not_fused o.world ms P clean (meaning_step o.world u)) (fused o.world ms P clean (meaning_step o.world u) ∙ ap is_some (sym chosen)));
+    clean = append-nil _ ∙ ap (λ x. member_malformations o.world ms (codes "required", x) required P) same ∙ fact.required_malformations o.world ms (listing t) P;
+    spends = spends_same a a no_cost _ (sym (sum_last _ ∙ fact.required_cost o.world ms d)) (spends_nothing a);
+  }
+    where
+      same : d ≡ listing t
+      same = ap (λ x. unwrap_or x d) (sym there ∙ (takes_over ms distinct t chosen).listed_at)
+
+  module _ {X : Type 0} (f : X → Name × Name) where
+    pub holds_required_elsewhere : (x : Option X) (L P : Path) (d : Data) (a : Counts) → is_some x ≡ true → HoldsClaims o [] (option_map f x) (codes "required") d P L a a
+    holds_required_elsewhere None L P d a e = absurd (true≢false (sym e))
+    holds_required_elsewhere (Some x) L P d a e = holds_taken L P (f x) d a
+
+    pub holds_required_alone : (x : Option X) (ks : List (KeywordOver K (SchemaNode K R))) (L P : Path) (d : Data) (a b : Counts) → is_some x ≡ false → HoldsMember o ks (codes "required") d required L a b → HoldsClaims o ks (option_map f x) (codes "required") d P L a b
+    holds_required_alone None ks L P d a b e h ms p distinct there chosen = built_alone o ms P ks (codes "required", d) a b
+        (λ clean u. (not_fused o.world ms P clean (meaning_step o.world u), fused o.world ms P clean (meaning_step o.world u) ∙ ap is_some (sym chosen))) (h ms P p)
+    holds_required_alone (Some x) ks L P d a b e h ms p distinct there chosen = absurd (true≢false e)
+
+  -- a keyword that is neither has a child of its own, and claims its own member
+  neither_of : (ms : Members) (u : Bool) (k : Name) (d : Data) → bytes_eq (codes "properties") k ≡ false → bytes_eq (codes "required") k ≡ false → (w : Keyword) → Named k w → StandsAlone o.world u ms (k, d) w
+  neither_of ms u k d e f properties n = absurd (true≢false (ap (bytes_eq (codes "properties")) (sym n) ∙ e))
+  neither_of ms u k d e f required n = absurd (true≢false (ap (bytes_eq (codes "required")) (sym n) ∙ f))
+  neither_of ms u k d e f w n = tt
+
+  pub holds_own : (ks : List (KeywordOver K (SchemaNode K R))) (t : Option (Name × Name)) (k : Name) (d : Data) (P L : Path) (a b : Counts) → bytes_eq (codes "properties") k ≡ false → bytes_eq (codes "required") k ≡ false → HoldsMember o ks k d (keyword_named o.world k) L a b → HoldsClaims o ks t k d P L a b
+  holds_own ks t k d P L a b e f h ms p distinct there chosen = subst (λ rows. KeywordsAreBuilt o ms ks rows ((k, d) ∷ []) P a b) (by t)
+      (built_alone o ms P ks (k, d) a b (λ clean u. neither_of ms u k d e f (keyword_named o.world k) (is_named k o.world)) (h ms P p))
+    where
+      by : (s : Option (Name × Name)) → (k, d) ∷ [] ≡ claims s ms (k, d)
+      by None = refl
+      by (Some s) = λ i. cond (sym e i) ((k, d) ∷ members_named (codes "required") (listed ms)) (cond (sym f i) [] ((k, d) ∷ []))
+
+  pub holds_other : (ks : List (KeywordOver K (SchemaNode K R))) (t : Option (Name × Name)) (k : Name) (d : Data) (P L : Path) (a b : Counts) → IsOther k → HoldsMember o ks k d (keyword_named o.world k) L a b → HoldsClaims o ks t k d P L a b
+  holds_other ks t k d P L a b other h =
+      let q = none_among k (codes "properties" ∷ codes "required" ∷ codes "allOf" ∷ codes "anyOf" ∷ codes "not" ∷ []) other in
+      holds_own ks t k d P L a b (bytes_eq-sym (codes "properties") k ∙ q.0) (bytes_eq-sym (codes "required") k ∙ q.1.0) h
 
   -- ---- leaves, and names that nothing reads
 
@@ -397,12 +617,17 @@ module _ {K R : Type 0} (o : Kit K R) where
     unfolding keyword_finds
     leaf_find Q = refl
 
+    leaf_show : (Q : Path) → shown u (keyword.Leaf L l) v Q ≡ leaf_node L Q (described (map (λ t. fault (Leaf (o.keyword_of l) t) v Q L) (o.finds l v)))
+    unfolding keyword_shows
+    leaf_show Q = refl
+
   pub holds_leaf : (l : K) (k : Name) (L : Path) (d : Data) (a b : Counts) → is_among k pending ≡ false → o.world.fits k d ≡ true → o.keyword_of l ≡ k → ((v : Data) → o.finds l v ≡ o.world.faults k d v) → b ≡ count_leaf a → HoldsMember o (keyword.Leaf L l ∷ []) k d leaf L a b
   holds_leaf l k L d a b e fits name same count ms P p = record {
     holds = one ms (keyword.Leaf L l) (k, d) leaf P
         (λ u v. leaf_accept l L u v ∙ ap is_empty (same v) ∙ sym (fact.leaf_accepts o.world ms k d u v))
         (λ u v. subst₂ (λ x y. x ≤ y) (sym (leaf_ask l L u v)) (sym (fact.leaf_asks o.world ms k d u v)) (omega arith))
         (λ u v Q. ∼_same (leaf_find l L u v Q ∙ (λ i. map (λ t. fault (Leaf (name i) t) v Q (p i)) (same v i)) ∙ sym (fact.leaf_report o.world ms k d u v P Q)));
+    shows = λ u h v Q. ap (λ t. t ∷ []) (leaf_show l L u v Q ∙ (λ i. leaf_node (p i) Q (described (map (λ t. fault (Leaf (name i) t) v Q (p i)) (same v i))))) ∙ sym (leaf_child o.world u v ms P Q d k);
     clean = fact.leaf_malformations o.world ms k d e P ∙ ap (λ f. unless_kind f (LeafRefused k) d (P // k)) fits;
     spends = subst (Spends a b) (sym (fact.leaf_cost o.world ms k d)) (spends_leaf a b count);
   }
@@ -414,6 +639,7 @@ module _ {K R : Type 0} (o : Kit K R) where
       asks_within = λ u v. subst (λ n. 0 ≤ n) (sym (fact.unread_asks o.world ms k d u v)) (omega arith);
       faults = λ u v Q. ∼_same (sym (fact.unread_report o.world ms k d u v P Q));
     };
+    shows = λ u h v Q. refl;
     clean = fact.unread_malformations o.world ms k d e P;
     spends = subst (Spends a a) (sym (fact.unread_cost o.world ms k d)) (spends_nothing a);
   }
@@ -447,6 +673,10 @@ module _ {K R : Type 0} (o : Kit K R) where
   pub refuses_properties_inside : (L : Path) (fs : Members) (d : Data) (a b : Counts) (e : BuildError) → d ≡ object fs → Refuses (each_malformed o L (listed fs)) (each_cost o (listed fs)) a b e → RefusesMember o (codes "properties") d properties L a b e
   refuses_properties_inside L fs d a b e q h ms P p = subst (λ x. Refuses (member_malformations o.world ms (codes "properties", x) properties P) (member_cost o.world ms (codes "properties", x) properties) a b e) (sym q)
       (refuses_same _ _ _ _ a b e (ap (λ M. each_malformed o M (listed fs)) p ∙ sym (fact.properties_malformations o.world ms fs P)) (sym (fact.properties_cost o.world ms fs)) h)
+
+  pub refuses_properties_memory : (L : Path) (fs : Members) (d : Data) (a b : Counts) (e : BuildError) (m : AllocError) → d ≡ object fs → e ≡ Memory m → Spends a b (each_cost o (listed fs)) → RefusesMember o (codes "properties") d properties L a b e
+  refuses_properties_memory L fs d a b e m q r h ms P p = subst (λ x. Refuses (member_malformations o.world ms (codes "properties", x) properties P) (member_cost o.world ms (codes "properties", x) properties) a b e) (sym q)
+      (refuses_memory _ _ a b e m r (within_same a b _ _ (sym (fact.properties_cost o.world ms fs)) (within_exactly a b (each_cost o (listed fs)) h)))
 
   pub refuses_all_of_inside : (L : Path) (ds : Items) (d : Data) (a b : Counts) (e : BuildError) → d ≡ array ds → Refuses (each_malformed o L (numbered (items_list ds))) (each_cost o (numbered (items_list ds))) a b e → RefusesMember o (codes "allOf") d all_of L a b e
   refuses_all_of_inside L ds d a b e q h ms P p = subst (λ x. Refuses (member_malformations o.world ms (codes "allOf", x) all_of P) (member_cost o.world ms (codes "allOf", x) all_of) a b e) (sym q)

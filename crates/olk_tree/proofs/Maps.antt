@@ -1,8 +1,17 @@
 -- What is said of the answers of nodes is said of the nodes.
-use Rattle.std.specs.Prelude.{◌≡◌, List, [], ◌∷◌, ◌++◌, map}
+use Rattle.std.specs.Prelude.{◌≡◌, Bool, true, false, cond, List, [], ◌∷◌, ◌++◌, map, Option, Some, None, option_map, option_to_list}
 use Rattle.std.specs.List.{flat_map}
-use Rattle.std.proofs.Common.{refl}
+use Rattle.std.specs.Ordering.{nat_cmp}
+use Rattle.std.specs.Cmp.Lexicographic.{slice_cmp}
+use Rattle.std.specs.declared.cmp.Ordering.{Ordering}
+use Rattle.std.specs.declared.cmp.Ordering.TheVariants.{Less, Equal, Greater}
+use Rattle.std.proofs.Common.{refl, ap, ◌∙◌}
+use Rattle.serde_json.specs.Data.{Data}
 use Rattle.olk_spec.specs.Faults.{Fault}
+use Rattle.olk_spec.specs.Names.{Name, Path, ◌//◌, lookup, first_if_equal, is_among, those, put_if, is_empty}
+use Rattle.olk_spec.specs.Schemas.{is_object, members}
+use Rattle.olk_spec.specs.Tree.{Tree, result, plain}
+use Rattle.olk_tree.specs.Shown.{properties_tree, branch_trees, any_of_tree}
 use Rattle.olk_tree.specs.Answers.{beside, or_else, first_of}
 use Rattle.olk_tree.specs.Questions.{Question, both, either, every, some}
 
@@ -41,3 +50,54 @@ pub first_of-beside : {A X Y : Type 0} (p : A × X → List Fault) (q : A × Y �
 first_of-beside p q h e [] ys = refl
 first_of-beside p q h e (a ∷ ks) [] = refl
 first_of-beside p q h e (a ∷ ks) (y ∷ ys) = λ i. or_else (e a y i) (first_of-beside p q h e ks ys i)
+
+pub those-map : {X Y : Type 0} (p : X → Bool) (q : Y → Bool) (h : Y → X) → ((y : Y) → p (h y) ≡ q y) → (ys : List Y) → those p (map h ys) ≡ map h (those q ys)
+those-map p q h e [] = refl
+those-map p q h e (y ∷ ys) = (λ i. put_if (e y i) (h y) (those-map p q h e ys i)) ∙ by (q y)
+  where
+    by : (b : Bool) → put_if b (h y) (map h (those q ys)) ≡ map h (put_if b y (those q ys))
+    by true = refl
+    by false = refl
+
+pub is_empty-map : {X Y : Type 0} (h : Y → X) (ys : List Y) → is_empty (map h ys) ≡ is_empty ys
+is_empty-map h [] = refl
+is_empty-map h (y ∷ ys) = refl
+
+module _ {X Y : Type 0} (h : Y → X) where
+  pub names-beside : (ks : List Name) (ys : List Y) → map {A = Name × X} (λ e. e.0) (beside ks (map h ys)) ≡ map {A = Name × Y} (λ e. e.0) (beside ks ys)
+  names-beside [] ys = refl
+  names-beside (k ∷ ks) [] = refl
+  names-beside (k ∷ ks) (y ∷ ys) = ap (λ ns. k ∷ ns) (names-beside ks ys)
+
+  found_at : (o : Ordering) (y : Y) (r : Option X) (s : Option Y) → r ≡ option_map h s → first_if_equal o (h y) r ≡ option_map h (first_if_equal o y s)
+  found_at Less y r s e = e
+  found_at Equal y r s e = refl
+  found_at Greater y r s e = e
+
+  pub lookup-beside : (n : Name) (ks : List Name) (ys : List Y) → lookup n (beside ks (map h ys)) ≡ option_map h (lookup n (beside ks ys))
+  lookup-beside n [] ys = refl
+  lookup-beside n (k ∷ ks) [] = refl
+  lookup-beside n (k ∷ ks) (y ∷ ys) = found_at (slice_cmp nat_cmp n k) y _ _ (lookup-beside n ks ys)
+
+-- ---- what is shown
+
+module _ {X Y : Type 0} (t : X → Data → Path → Tree) (s : Y → Data → Path → Tree) (h : Y → X) (same : (y : Y) (v : Data) (Q : Path) → t (h y) v Q ≡ s y v Q) (v : Data) (Q : Path) where
+  at_found : (m : Name × Data) (o : Option Y) → map (λ x. t x m.1 (Q // m.0)) (option_to_list (option_map h o)) ≡ map (λ y. s y m.1 (Q // m.0)) (option_to_list o)
+  at_found m None = refl
+  at_found m (Some y) = ap (λ x. x ∷ []) (same y m.1 (Q // m.0))
+
+  at_members : (ks : List Name) (ys : List Y) (ms : List (Name × Data))
+      → flat_map (λ m. map (λ x. t x m.1 (Q // m.0)) (option_to_list (lookup m.0 (beside ks (map h ys))))) ms ≡ flat_map (λ m. map (λ y. s y m.1 (Q // m.0)) (option_to_list (lookup m.0 (beside ks ys)))) ms
+  at_members ks ys [] = refl
+  at_members ks ys (m ∷ ms) = λ i. (ap (λ o. map (λ x. t x m.1 (Q // m.0)) (option_to_list o)) (lookup-beside h m.0 ks ys) ∙ at_found m (lookup m.0 (beside ks ys))) i ++ at_members ks ys ms i
+
+  pub properties_tree-map : (P : Path) (ks : List Name) (ys : List Y) (more : List Tree) → properties_tree t v Q P (beside ks (map h ys)) more ≡ properties_tree s v Q P (beside ks ys) more
+  properties_tree-map P ks ys more = λ i. result P Q (cond (is_object v) (Some (map (λ m. m.0) (those (λ m. is_among m.0 (names-beside h ks ys i)) (members v)))) None) false [] (at_members ks ys (members v) i ++ more)
+
+  pub branch_trees-map : (ys : List Y) → branch_trees t v Q (map h ys) ≡ branch_trees s v Q ys
+  branch_trees-map ys = map-map (λ x. t x v Q) (λ y. s y v Q) h (λ y. same y v Q) ys
+
+  pub any_of_tree-map : (a : X → Bool) (b : Y → Bool) → ((y : Y) → a (h y) ≡ b y) → (P : Path) (ys : List Y) → any_of_tree t v Q a P (map h ys) ≡ any_of_tree s v Q b P ys
+  any_of_tree-map a b e P ys =
+      ap (λ xs. cond (is_empty xs) (result P Q None true [] (branch_trees t v Q (map h ys))) (plain P Q (branch_trees t v Q xs))) (those-map a b h e ys)
+      ∙ (λ i. cond (is_empty-map h (those b ys) i) (result P Q None true [] (branch_trees-map ys i)) (plain P Q (branch_trees-map (those b ys) i)))

@@ -1,5 +1,5 @@
 -- Values that are no array, and no object.
-use Rattle.std.specs.Prelude.{◌≡◌, true, false, Vec, String}
+use Rattle.std.specs.Prelude.{◌≡◌, false, Vec, String}
 use Rattle.std.specs.declared.alloc.Global.{Global}
 use Rattle.std.specs.BTreeMap.{BTreeMap}
 use Rattle.std.proofs.Common.{subst, rules}

@@ -1,5 +1,5 @@
 -- What is spent, and what is told where nothing is built.
-use Rattle.std.specs.Prelude.{◌≡◌, ◌+◌, ◌≤◌, List, [], ◌∷◌, ◌++◌, map, Contains, Result, IfErr, IsErrAnd}
+use Rattle.std.specs.Prelude.{◌≡◌, List, [], ◌∷◌, ◌++◌, map, Contains, Result, IfErr, IsErrAnd}
 use Rattle.std.specs.declared.alloc.AllocError.{AllocError}
 use Rattle.std.specs.List.{flat_map}
 use Rattle.std.proofs.Common.{refl, sym, ◌∙◌, ap, subst, arith}
@@ -8,7 +8,7 @@ use Rattle.std.proofs.lemmas.List.Elements.{Contains-append_left, Contains-appen
 use Rattle.std.proofs.lemmas.Result.{err_from_is_err_and}
 use Rattle.olk_spec.specs.Faults.{Fault}
 use Rattle.olk_spec.specs.Costs.{Cost, no_cost, ◌⊕◌, total_cost, one_place}
-use Rattle.olk_base.specs.Count.{Counts, raised_by, sum_of, no_counts, count_compiled}
+use Rattle.olk_base.specs.Count.{Counts, raised_by, count_compiled}
 use Rattle.olk_base.proofs.CountLemmas.{raised_by_none, raised_by_sum, raised_zero}
 use Rattle.olk_reports.specs.declared.error.BuildError.{BuildError}
 use Rattle.olk_reports.specs.declared.error.BuildError.TheVariants.{Refused, Memory}

@@ -1,5 +1,5 @@
 -- Arrays of texts.
-use Rattle.std.specs.Prelude.{◌≡◌, ⊤, ℕ, ◌+◌, ◌<◌, ◌≤◌, Bool, true, false, not, List, [], ◌∷◌, ◌++◌, map, length, take, slice_index_or as get_or, Option, Some, None, is_some, unwrap_or, String, string_bytes}
+use Rattle.std.specs.Prelude.{◌≡◌, ⊤, ℕ, ◌+◌, ◌<◌, ◌≤◌, false, not, List, [], ◌∷◌, ◌++◌, map, length, take, slice_index_or as get_or, Some, None, is_some, unwrap_or, String, string_bytes}
 use Rattle.std.specs.declared.alloc.Global.{Global}
 use Rattle.std.proofs.Common.{refl, sym, ◌∙◌, ap, subst, arith, zero, suc, take_all, true≢false}
 use mathlib.Core.Path.{subst₂}

@@ -1,5 +1,5 @@
--- What a built node answers: whether it accepts a value, and the faults that it finds.
-use Rattle.std.specs.Prelude.{Bool, true, false, not, List, [], ◌∷◌, map, String, string_bytes}
+-- What a built node answers: whether it accepts a value, the faults that it finds, and the tree that it shows.
+use Rattle.std.specs.Prelude.{Bool, true, false, not, List, [], ◌∷◌, ◌++◌, map, String, string_bytes}
 use Rattle.std.specs.declared.alloc.Global.{Global}
 use Rattle.std.specs.List.{flat_map}
 use Rattle.serde_json.specs.Data.{Data}
@@ -9,8 +9,10 @@ use Rattle.olk_spec.specs.Faults.{Fault, fault, FalseSchema, Leaf, AnyOf, Not, c
 use Rattle.olk_spec.specs.Schemas.{at}
 use Rattle.olk_spec.specs.Accepts.{missing}
 use Rattle.olk_spec.specs.Reports.{required_faults, fault_if}
+use Rattle.olk_spec.specs.Tree.{Tree, leaf_node, plain, erring, described}
 use Rattle.olk_tree.specs.Kit.{Kit}
-use Rattle.olk_tree.specs.Questions.{Question, always, every, some, opposite}
+use Rattle.olk_tree.specs.Questions.{Question, always, both, every, some, opposite}
+use Rattle.olk_tree.specs.Shown.{missing_trees, properties_tree, branch_trees, any_of_tree}
 use Rattle.olk_tree.specs.declared.map.SmallMap.{SmallMap}
 use Rattle.olk_tree.specs.declared.node.KeywordOver.{KeywordOver}
 use Rattle.olk_tree.specs.declared.node.KeywordOver.TheVariants as keyword
@@ -24,6 +26,7 @@ pub record Answers : Type 0 where
   pub report : Bool → Data → Path → List Fault
   -- those of the first step that refuses, of which `validate` tells one
   pub first : Bool → Data → Path → List Fault
+  pub tree : Bool → Data → Path → Tree
   pub location : Path
 
 -- two lists, side by side
@@ -53,6 +56,13 @@ abbrev pub head_of : List Fault → List Fault
 head_of [] = []
 head_of (f ∷ fs) = f ∷ []
 
+abbrev pub two_texts : String Global → String Global → List Text
+two_texts a b = string_bytes a ∷ string_bytes b ∷ []
+
+-- what the nodes of the declared names find at the members that have them
+abbrev pub properties_find : {N : Type 0} → (N → Bool → Data → Path → List Fault) → Bool → List (Name × N) → Data → Path → List Fault
+properties_find r u es v Q = flat_map (λ e. flat_map (λ x. r e.1 u x (Q // e.0)) (at e.0 v)) es
+
 module _ {K N : Type 0} (finds : K → Data → List Text) (m : N → Data → Question) where
   -- each declared name that is a member, with its node
   abbrev pub properties_mean : List (Name × N) → Data → Question
@@ -61,6 +71,7 @@ module _ {K N : Type 0} (finds : K → Data → List Text) (m : N → Data → Q
   -- whether a keyword accepts, over what its nodes mean
   unfoldable pub keyword_means : KeywordOver K N → Data → Question
   keyword_means (keyword.Properties k) v = properties_mean (named k.properties) v
+  keyword_means (keyword.PropertiesWithRequired2 k) v = both (always (is_empty (missing (two_texts k.first k.second) v))) (properties_mean (named k.properties) v)
   keyword_means (keyword.Required k) v = always (is_empty (missing (texts_of k.required.items) v))
   keyword_means (keyword.AllOf k) v = every (λ n. m n v) k.schemas.items
   keyword_means (keyword.SingleValueAllOf k) v = m k.node v
@@ -72,7 +83,8 @@ module _ {K N : Type 0} (finds : K → Data → List Text) (m : N → Data → Q
   module _ (keyword_of : K → Name) (r : N → Bool → Data → Path → List Fault) (u : Bool) where
     -- what a keyword finds, over what its nodes find
     unfoldable pub keyword_finds : KeywordOver K N → Data → Path → List Fault
-    keyword_finds (keyword.Properties k) v Q = flat_map (λ e. flat_map (λ x. r e.1 u x (Q // e.0)) (at e.0 v)) (named k.properties)
+    keyword_finds (keyword.Properties k) v Q = properties_find r u (named k.properties) v Q
+    keyword_finds (keyword.PropertiesWithRequired2 k) v Q = required_faults (two_texts k.first k.second) v k.required_location Q ++ properties_find r u (named k.properties) v Q
     keyword_finds (keyword.Required k) v Q = required_faults (texts_of k.required.items) v k.location Q
     keyword_finds (keyword.AllOf k) v Q = flat_map (λ n. r n u v Q) k.schemas.items
     keyword_finds (keyword.SingleValueAllOf k) v Q = r k.node u v Q
@@ -85,6 +97,7 @@ module _ {K N : Type 0} (finds : K → Data → List Text) (m : N → Data → Q
       -- what it finds at the first step that refuses, over what its nodes find and find first
       unfoldable pub keyword_first : KeywordOver K N → Data → Path → List Fault
       keyword_first (keyword.Properties k) v Q = first_of (λ e. first_of (λ x. s e.1 u x (Q // e.0)) (at e.0 v)) (named k.properties)
+      keyword_first (keyword.PropertiesWithRequired2 k) v Q = or_else (head_of (required_faults (two_texts k.first k.second) v k.required_location Q)) (first_of (λ e. first_of (λ x. s e.1 u x (Q // e.0)) (at e.0 v)) (named k.properties))
       keyword_first (keyword.Required k) v Q = head_of (required_faults (texts_of k.required.items) v k.location Q)
       keyword_first (keyword.AllOf k) v Q = first_of (λ n. s n u v Q) k.schemas.items
       keyword_first (keyword.SingleValueAllOf k) v Q = s k.node u v Q
@@ -92,6 +105,22 @@ module _ {K N : Type 0} (finds : K → Data → List Text) (m : N → Data → Q
       keyword_first (keyword.SingleAnyOf k) v Q = fault_if (not ((m k.node v).accepts u)) (AnyOf (context (r k.node u v Q ∷ []))) v k.location Q
       keyword_first (keyword.Not k) v Q = fault_if ((m k.node v).accepts u) (Not (view k.original)) v k.location Q
       keyword_first (keyword.Leaf p l) v Q = map (λ t. fault (Leaf (keyword_of l) t) v Q p) (finds l v)
+
+  module _ (keyword_of : K → Name) (t : N → Bool → Data → Path → Tree) (u : Bool) where
+    abbrev pub at_node : N → Data → Path → Tree
+    at_node n = t n u
+
+    -- what a keyword shows, over what its nodes show
+    unfoldable pub keyword_shows : KeywordOver K N → Data → Path → Tree
+    keyword_shows (keyword.Properties k) v Q = properties_tree at_node v Q k.location (named k.properties) []
+    keyword_shows (keyword.PropertiesWithRequired2 k) v Q = properties_tree at_node v Q k.location (named k.properties) (missing_trees (two_texts k.first k.second) v k.required_location Q)
+    keyword_shows (keyword.Required k) v Q = erring k.location Q (required_faults (texts_of k.required.items) v k.location Q)
+    keyword_shows (keyword.AllOf k) v Q = plain k.location Q (branch_trees at_node v Q k.schemas.items)
+    keyword_shows (keyword.SingleValueAllOf k) v Q = plain k.location Q (branch_trees at_node v Q (k.node ∷ []))
+    keyword_shows (keyword.AnyOf k) v Q = any_of_tree at_node v Q (λ n. (m n v).accepts u) k.location k.schemas.items
+    keyword_shows (keyword.SingleAnyOf k) v Q = any_of_tree at_node v Q (λ n. (m n v).accepts u) k.location (k.node ∷ [])
+    keyword_shows (keyword.Not k) v Q = erring k.location Q (fault_if ((m k.node v).accepts u) (Not (view k.original)) v k.location Q)
+    keyword_shows (keyword.Leaf p l) v Q = leaf_node p Q (described (map (λ x. fault (Leaf (keyword_of l) x) v Q p) (finds l v)))
 
 -- whether a body accepts
 abbrev pub body_means : {W : Type 0} → (W → Data → Question) → Body W → Data → Question
@@ -111,12 +140,20 @@ body_first f P True v Q = []
 body_first f P False v Q = fault FalseSchema v Q P ∷ []
 body_first f P (Keywords ks) v Q = first_of (λ k. f k v Q) ks.items
 
+-- what a body shows at its place
+abbrev pub body_shows : {W : Type 0} → (W → Data → Path → Tree) → Path → Body W → Data → Path → Tree
+body_shows f P True v Q = plain P Q []
+body_shows f P False v Q = erring P Q (fault FalseSchema v Q P ∷ [])
+body_shows f P (Keywords ks) v Q = plain P Q (map (λ k. f k v Q) ks.items)
+
 module _ {K R : Type 0} (o : Kit K R) where
   abbrev pub node_step : SchemaNode-F K R Answers → Answers
   node_step n = record {
     means = body_means (keyword_means o.finds (λ a. a.means)) n.body;
     report = λ u. body_finds (keyword_finds o.finds (λ a. a.means) o.keyword_of (λ a. a.report) u) n.location n.body;
     first = λ u. body_first (keyword_first o.finds (λ a. a.means) o.keyword_of (λ a. a.report) u (λ a. a.first)) n.location n.body;
+
+    tree = λ u. body_shows (keyword_shows o.finds (λ a. a.means) o.keyword_of (λ a. a.tree) u) n.location n.body;
     location = n.location;
   }
 

@@ -1,11 +1,13 @@
 -- What building a node, or a part of one, promises.
-use Rattle.std.specs.Prelude.{◌≡◌, ◌≤◌, ⊤, ℕ, Bool, true, List, [], ◌∷◌, Contains}
+use Rattle.std.specs.Prelude.{◌≡◌, ◌≤◌, ⊤, ℕ, Bool, false, List, [], ◌∷◌, map, Contains, Option, Some}
 use Rattle.std.specs.List.{list_all, flat_map, sum_by}
 use Rattle.serde_json.specs.Data.{Data, Members}
-use Rattle.olk_spec.specs.Names.{Name, Path, ◌//◌}
-use Rattle.olk_spec.specs.World.{World}
+use Rattle.olk_spec.specs.Names.{Name, Path, ◌//◌, lookup}
+use Rattle.olk_spec.specs.Schemas.{listed}
 use Rattle.olk_spec.specs.Vocabulary.{Keyword, keyword_named}
 use Rattle.olk_spec.specs.Faults.{Fault, ◌∼◌}
+use Rattle.olk_spec.specs.Tree.{Tree}
+use Rattle.olk_spec.specs.Malformed.{has_repeat}
 use Rattle.olk_spec.specs.Costs.{Cost, cost, total_cost}
 use Rattle.olk_base.specs.Count.{Counts, raised_by}
 use Rattle.olk_reports.specs.Errors.{fault_of}
@@ -13,9 +15,11 @@ use Rattle.olk_reports.specs.declared.error.BuildError.{BuildError}
 use Rattle.olk_reports.specs.declared.error.BuildError.TheVariants.{Refused, Memory}
 use Rattle.olk_tree.specs.Kit.{Kit}
 use Rattle.olk_tree.specs.Questions.{every}
-use Rattle.olk_tree.specs.Answers.{answers, keyword_means, keyword_finds}
+use Rattle.olk_tree.specs.Claims.{claims}
+use Rattle.olk_tree.specs.Forms.{taken_names}
+use Rattle.olk_tree.specs.Answers.{answers, keyword_means, keyword_finds, keyword_shows}
 use Rattle.olk_tree.specs.Stands.{StandsFor}
-use Rattle.olk_tree.specs.Members.{malformations_at, member_accepts, member_asks, member_report, member_malformations, member_cost}
+use Rattle.olk_tree.specs.Members.{malformations_at, member_accepts, member_asks, member_report, member_child, StandsAlone, member_malformations, member_cost}
 use Rattle.olk_tree.specs.declared.node.SchemaNode.{SchemaNode}
 use Rattle.olk_tree.specs.declared.node.KeywordOver.{KeywordOver}
 
@@ -100,6 +104,9 @@ module _ {K R : Type 0} (o : Kit K R) where
       abbrev pub find : Bool → Data → Path → List Fault
       find u v Q = flat_map (λ k. keyword_finds o.finds (λ n. (answers o n).means) o.keyword_of (λ n. (answers o n).report) u k v Q) ks
 
+      abbrev pub show : Bool → Data → Path → List Tree
+      show u v Q = map (λ k. keyword_shows o.finds (λ n. (answers o n).means) o.keyword_of (λ n. (answers o n).tree) u k v Q) ks
+
       -- it is what one member means
       pub record Holds (m : Name × Data) (w : Keyword) (P : Path) : Type 0 where
         pub verdict : (u : Bool) (v : Data) → means v u ≡ member_accepts o.world ms m w u v
@@ -108,6 +115,7 @@ module _ {K R : Type 0} (o : Kit K R) where
 
       pub record KeywordIsBuilt (m : Name × Data) (w : Keyword) (P : Path) (old new : Counts) : Type 0 where
         pub holds : Holds m w P
+        pub shows : (u : Bool) → StandsAlone o.world u ms m w → (v : Data) (Q : Path) → show u v Q ≡ member_child o.world ms m w u v P Q
         pub clean : member_malformations o.world ms m w P ≡ []
         pub spends : Spends old new (member_cost o.world ms m w)
 
@@ -117,12 +125,19 @@ module _ {K R : Type 0} (o : Kit K R) where
         pub asks_within : (u : Bool) (v : Data) → ask v u ≤ sum_by (λ m. member_asks o.world ms m (which m) u v) es
         pub faults : (u : Bool) (v : Data) (Q : Path) → find u v Q ∼ flat_map (λ m. member_report o.world ms m (which m) u v P Q) es
 
-      pub record KeywordsAreBuilt (es : List (Name × Data)) (P : Path) (old new : Counts) : Type 0 where
-        pub covers : Covers es P
+      -- it is built for the members es, and is what the members rows mean together
+      pub record KeywordsAreBuilt (rows es : List (Name × Data)) (P : Path) (old new : Counts) : Type 0 where
+        pub covers : Covers rows P
+        pub shows : all_malformed P (listed ms) ≡ [] → (u : Bool) (v : Data) (Q : Path) → show u v Q ≡ flat_map (λ m. member_child o.world ms m (which m) u v P Q) es
         pub clean : all_malformed P es ≡ []
         pub spends : Spends old new (all_cost es)
 
-  -- ---- the same for a keyword that has no neighbours: k is its name, d its value and at its place
+  -- ---- the same for the keyword of the name k and the value d at its place, in each object at P where no name stands twice and these names are taken over
+
+  abbrev pub HoldsClaims : List (KeywordOver K (SchemaNode K R)) → Option (Name × Name) → Name → Data → Path → Path → Counts → Counts → Type 0
+  HoldsClaims ks t k d P at old new = (ms : Members) → at ≡ P // k → has_repeat (map (λ m. m.0) (listed ms)) ≡ false → lookup k (listed ms) ≡ Some d → t ≡ taken_names ms → KeywordsAreBuilt ms ks (claims t ms (k, d)) ((k, d) ∷ []) P old new
+
+  -- ---- the same for a keyword that has no neighbours
 
   abbrev pub HoldsMember : List (KeywordOver K (SchemaNode K R)) → Name → Data → Keyword → Path → Counts → Counts → Type 0
   HoldsMember ks k d w at old new = (ms : Members) (P : Path) → at ≡ P // k → KeywordIsBuilt ms ks (k, d) w P old new

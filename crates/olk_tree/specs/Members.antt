@@ -1,12 +1,15 @@
 -- What a member of a schema object means, refuses and costs as a keyword.
-use Rattle.std.specs.Prelude.{ℕ, Bool, List}
+use Rattle.std.specs.Prelude.{◌≡◌, ⊤, false, Some, ℕ, Bool, List}
 use Rattle.serde_json.specs.Data.{Data, Members}
-use Rattle.olk_spec.specs.Names.{Name, Path}
+use Rattle.olk_spec.specs.Names.{Name, Path, lookup}
 use Rattle.olk_spec.specs.World.{World}
-use Rattle.olk_spec.specs.Vocabulary.{Keyword, keyword_named}
+use Rattle.olk_spec.specs.Vocabulary.{properties, required, Keyword}
 use Rattle.olk_spec.specs.Faults.{Fault}
-use Rattle.olk_spec.specs.Schemas.{read, read_members}
+use Rattle.olk_spec.specs.Schemas.{read, read_members, listed}
+use Rattle.olk_spec.specs.Tree.{Tree}
+use Rattle.olk_spec.specs.Meanings.{restricts}
 use Rattle.olk_spec.specs.Meaning.{meaning_step}
+use Rattle.olk_spec.specs.Trees.{fuses_two, fuses_one, keyword_child}
 use Rattle.olk_spec.specs.Accepts.{keyword_accepts}
 use Rattle.olk_spec.specs.Reports.{keyword_report}
 use Rattle.olk_spec.specs.Asks.{keyword_asks}
@@ -29,8 +32,18 @@ module _ (W : World) (ms : Members) (m : Name × Data) (w : Keyword) where
     abbrev pub member_report : Data → Path → Path → List Fault
     member_report v P Q = keyword_report W u (read_members (meaning_step W u) ms) m.0 (read (meaning_step W u) m.1) v P Q w
 
+    abbrev pub member_child : Data → Path → Path → List Tree
+    member_child v P Q = keyword_child W u (read_members (meaning_step W u) ms) v P Q m.0 (read (meaning_step W u) m.1) w
+
   abbrev pub member_malformations : Path → List Fault
   member_malformations P = keyword_malformations W pending (read_members (malformations_step W pending) ms) m.0 (read (malformations_step W pending) m.1) P w
 
   abbrev pub member_cost : Cost
   member_cost = keyword_cost W (read_members (cost_step W) ms) m.0 (read (cost_step W) m.1) w
+
+-- the member has a child of its own, which shows nothing of its neighbours
+module _ (W : World) (u : Bool) (ms : Members) (m : Name × Data) where
+  abbrev pub StandsAlone : Keyword → Type 0
+  StandsAlone properties = (lookup m.0 (listed ms) ≡ Some m.1) × (restricts (read_members (meaning_step W u) ms) ≡ false) × (fuses_two (read_members (meaning_step W u) ms) ≡ false)
+  StandsAlone required = (fuses_one (read_members (meaning_step W u) ms) ≡ false) × (fuses_two (read_members (meaning_step W u) ms) ≡ false)
+  StandsAlone w = ⊤

@@ -3,7 +3,7 @@ use Rattle.std.specs.Prelude.{◌≡◌, ◌≤◌, Bool}
 use Rattle.serde_json.specs.Data.{Data}
 use Rattle.olk_spec.specs.Names.{Path}
 use Rattle.olk_spec.specs.Faults.{◌∼◌}
-use Rattle.olk_spec.specs.Meaning.{accepts, asks, report}
+use Rattle.olk_spec.specs.Meaning.{accepts, asks, report, tree}
 use Rattle.olk_tree.specs.Kit.{Kit}
 use Rattle.olk_tree.specs.declared.node.SchemaNode.{SchemaNode}
 use Rattle.olk_tree.specs.Answers.{answers}
@@ -13,4 +13,5 @@ pub record StandsFor {K R : Type 0} (o : Kit K R) (n : SchemaNode K R) (S : Data
   pub verdict : (u : Bool) (v : Data) → ((answers o n).means v).accepts u ≡ accepts o.world u S v
   pub asks_within : (u : Bool) (v : Data) → ((answers o n).means v).asks u ≤ asks o.world u S v
   pub faults : (u : Bool) (v : Data) (Q : Path) → (answers o n).report u v Q ∼ report o.world u S v P Q
+  pub evaluation : (u : Bool) (v : Data) (Q : Path) → (answers o n).tree u v Q ≡ tree o.world u S v P Q
   pub place : (answers o n).location ≡ P

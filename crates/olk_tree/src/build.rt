@@ -1,8 +1,8 @@
 //! Building nodes from a schema, place by place.
-ghost use Rattle.std.specs.Prelude.{false, ◌≡◌, ◌++◌, ◌∷◌, [], codes, IfOk, IfErr, OnOk, OnErr, option_to_list, string_bytes, decimal};
+ghost use Rattle.std.specs.Prelude.{false, ◌≡◌, ◌++◌, ◌∷◌, [], codes, IfOk, IfErr, OnOk, OnErr, option_map, option_to_list, string_bytes, decimal};
 ghost use Rattle.serde_json.specs.Data.{Members};
 ghost use Rattle.serde_json.specs.View.{view, members_view, items_view};
-ghost use Rattle.olk_spec.specs.Names.{is_among};
+ghost use Rattle.olk_spec.specs.Names.{Path, is_among};
 ghost use Rattle.olk_spec.specs.Faults.{fault};
 ghost use Rattle.olk_spec.specs.Vocabulary.{unsupported_names, keyword_named, properties, required, all_of, any_of, not_keyword, leaf};
 ghost use Rattle.olk_spec.specs.Schemas.{listed, numbered};
@@ -14,16 +14,15 @@ ghost use Rattle.olk_reports.specs.declared.error.BuildError.TheVariants.{Refuse
 ghost use Rattle.olk_tree.specs.Forms.{IsOther};
 ghost use Rattle.olk_tree.specs.Kit.{kit};
 ghost use Rattle.olk_tree.specs.Members.{malformations_at};
-ghost use Rattle.olk_tree.specs.Building.{IsBuilt, AreBuilt, HoldsMember, RefusesMember, KeywordsAreBuilt, Refuses, TellsOneOf, each_malformed, each_cost, all_malformed, all_cost, Spends, SpendsWithin};
+ghost use Rattle.olk_tree.specs.Building.{IsBuilt, AreBuilt, HoldsMember, HoldsClaims, RefusesMember, KeywordsAreBuilt, Refuses, TellsOneOf, each_malformed, each_cost, all_malformed, all_cost, Spends, SpendsWithin};
 ghost use Rattle.olk_tree.specs.Stands.{StandsFor};
 
 use crate::context::{Context, Makers};
 use crate::map::{SmallMap, SortedNames};
 use crate::node::{Body, Keyword, KeywordOver, SchemaNode};
 use crate::not::Not;
-use crate::properties::SmallProperties;
 use crate::required::{self, RequiredValidator};
-use crate::{all_of, any_of};
+use crate::{all_of, any_of, properties};
 use olk_base::{JsonType, MakeError, MakeLeaf, MakeRegex, Meter, Node};
 use olk_reports::{BuildError, Location, ValidationError, ValidationErrorKind};
 use serde_json::{Map, Value};
@@ -122,13 +121,23 @@ fn compile_members<'a, L: MakeLeaf, M: MakeRegex>(
     place: &Location,
     members: &'a Map<String, Value>,
 ) -> Result<Vec<Keyword<L::Leaf, M::Engine>>, BuildError<'a>>
-    ensures built { IfOk result (λ ks. KeywordsAreBuilt (kit L.Leaf.reads L.Leaf.fits L.Leaf.faults L.Leaf.keyword_of L.Leaf.finds M.Engine.builds M.Engine.says M.Engine.answers M.Engine.costs) (members_view members.now.entries) ks.items (listed (members_view members.now.entries)) place.now meter.old meter.new) }
+    ensures built { IfOk result (λ ks. KeywordsAreBuilt (kit L.Leaf.reads L.Leaf.fits L.Leaf.faults L.Leaf.keyword_of L.Leaf.finds M.Engine.builds M.Engine.says M.Engine.answers M.Engine.costs) (members_view members.now.entries) ks.items (listed (members_view members.now.entries)) (listed (members_view members.now.entries)) place.now meter.old meter.new) }
     ensures refused { IfErr result (Refuses (all_malformed (kit L.Leaf.reads L.Leaf.fits L.Leaf.faults L.Leaf.keyword_of L.Leaf.finds M.Engine.builds M.Engine.says M.Engine.answers M.Engine.costs) (members_view members.now.entries) place.now (listed (members_view members.now.entries))) (all_cost (kit L.Leaf.reads L.Leaf.fits L.Leaf.faults L.Leaf.keyword_of L.Leaf.finds M.Engine.builds M.Engine.says M.Engine.answers M.Engine.costs) (members_view members.now.entries) (listed (members_view members.now.entries))) meter.old meter.new) }
 {
+    let taken = properties::taken_names(members);
     let mut keywords = Vec::new(alloc);
     for (name, value) in members {
         let location = place.join(alloc, name.as_str())?;
-        let keyword = compile_keyword(makers, meter, alloc, location, name.as_str(), value)?;
+        let keyword = compile_keyword(
+            makers,
+            meter,
+            alloc,
+            place,
+            location,
+            name.as_str(),
+            value,
+            taken,
+        )?;
         if let Some(keyword) = keyword {
             append(&mut keywords, keyword)?;
         }
@@ -136,22 +145,26 @@ fn compile_members<'a, L: MakeLeaf, M: MakeRegex>(
     Ok(keywords)
 }
 
-/// The keyword of this name and value, if it is read; its place is taken over.
+/// The keyword of this name and value in the object at the place, if it is read and isn't taken over.
 #[cycle(compile)]
 fn compile_keyword<'a, L: MakeLeaf, M: MakeRegex>(
     makers: &Makers<'_, L, M>,
     meter: &mut Meter,
     alloc: Global,
+    place: &Location,
     location: Location,
     name: &'a str,
     value: &'a Value,
+    taken: Option<(&str, &str)>,
 ) -> Result<Option<Keyword<L::Leaf, M::Engine>>, BuildError<'a>>
-    ensures built { IfOk result (λ o. HoldsMember (kit L.Leaf.reads L.Leaf.fits L.Leaf.faults L.Leaf.keyword_of L.Leaf.finds M.Engine.builds M.Engine.says M.Engine.answers M.Engine.costs) (option_to_list o) name.now (view value.now) (keyword_named (kit L.Leaf.reads L.Leaf.fits L.Leaf.faults L.Leaf.keyword_of L.Leaf.finds M.Engine.builds M.Engine.says M.Engine.answers M.Engine.costs).world name.now) location meter.old meter.new) }
+    ensures built { IfOk result (λ o. HoldsClaims (kit L.Leaf.reads L.Leaf.fits L.Leaf.faults L.Leaf.keyword_of L.Leaf.finds M.Engine.builds M.Engine.says M.Engine.answers M.Engine.costs) (option_to_list o) (option_map (λ t. (t.0.now, t.1.now)) taken.entry) name.now (view value.now) place.now location meter.old meter.new) }
     ensures refused { IfErr result (RefusesMember (kit L.Leaf.reads L.Leaf.fits L.Leaf.faults L.Leaf.keyword_of L.Leaf.finds M.Engine.builds M.Engine.says M.Engine.answers M.Engine.costs) name.now (view value.now) (keyword_named (kit L.Leaf.reads L.Leaf.fits L.Leaf.faults L.Leaf.keyword_of L.Leaf.finds M.Engine.builds M.Engine.says M.Engine.answers M.Engine.costs).world name.now) location meter.old meter.new) }
 {
     match name {
-        "properties" => Ok(Some(build_properties(makers, meter, alloc, location, value)?)),
-        "required" => Ok(Some(build_required(makers, meter, alloc, location, value)?)),
+        "properties" => Ok(Some(build_properties(
+            makers, meter, alloc, place, location, value, taken,
+        )?)),
+        "required" => Ok(build_own_required(makers, meter, alloc, location, value, taken)?),
         "allOf" => Ok(Some(build_all_of(makers, meter, alloc, location, value)?)),
         "anyOf" => Ok(Some(build_any_of(makers, meter, alloc, location, value)?)),
         "not" => Ok(Some(build_not(makers, meter, alloc, location, value)?)),
@@ -159,16 +172,18 @@ fn compile_keyword<'a, L: MakeLeaf, M: MakeRegex>(
     }
 }
 
-/// `properties`, at its place.
+/// `properties` in the object at the place, with what it takes over.
 #[cycle(compile)]
 pub(crate) fn build_properties<'a, L: MakeLeaf, M: MakeRegex>(
     makers: &Makers<'_, L, M>,
     meter: &mut Meter,
     alloc: Global,
+    place: &Location,
     location: Location,
     value: &'a Value,
+    taken: Option<(&str, &str)>,
 ) -> Result<Keyword<L::Leaf, M::Engine>, BuildError<'a>>
-    ensures built { IfOk result (λ k. HoldsMember (kit L.Leaf.reads L.Leaf.fits L.Leaf.faults L.Leaf.keyword_of L.Leaf.finds M.Engine.builds M.Engine.says M.Engine.answers M.Engine.costs) (k ∷ []) (codes "properties") (view value.now) properties location meter.old meter.new) }
+    ensures built { IfOk result (λ k. HoldsClaims (kit L.Leaf.reads L.Leaf.fits L.Leaf.faults L.Leaf.keyword_of L.Leaf.finds M.Engine.builds M.Engine.says M.Engine.answers M.Engine.costs) (k ∷ []) (option_map (λ t. (t.0.now, t.1.now)) taken.entry) (codes "properties") (view value.now) place.now location meter.old meter.new) }
     ensures refused { IfErr result (RefusesMember (kit L.Leaf.reads L.Leaf.fits L.Leaf.faults L.Leaf.keyword_of L.Leaf.finds M.Engine.builds M.Engine.says M.Engine.answers M.Engine.costs) (codes "properties") (view value.now) properties location meter.old meter.new) }
 {
     let Value::Object(map) = value else {
@@ -180,10 +195,7 @@ pub(crate) fn build_properties<'a, L: MakeLeaf, M: MakeRegex>(
     let names = SortedNames::of(alloc, map)?;
     let nodes = compile_entries(makers, meter, alloc, &location, map)?;
     let properties = SmallMap { names, nodes };
-    Ok(KeywordOver::Properties(SmallProperties {
-        properties,
-        location,
-    }))
+    Ok(properties::keyword(alloc, place, location, properties, taken)?)
 }
 
 /// `allOf`, at its place.
@@ -271,6 +283,24 @@ pub(crate) fn build_required<'a, L: MakeLeaf, M: MakeRegex>(
     };
     let required = required::names(alloc, &location, items)?;
     Ok(KeywordOver::Required(RequiredValidator { required, location }))
+}
+
+/// `required`, at its place, unless its names are taken over.
+fn build_own_required<'a, L: MakeLeaf, M: MakeRegex>(
+    makers: &Makers<'_, L, M>,
+    meter: &mut Meter,
+    alloc: Global,
+    location: Location,
+    value: &'a Value,
+    taken: Option<(&str, &str)>,
+) -> Result<Option<Keyword<L::Leaf, M::Engine>>, BuildError<'a>>
+    ensures built { (P : Path) → IfOk result (λ o. HoldsClaims (kit L.Leaf.reads L.Leaf.fits L.Leaf.faults L.Leaf.keyword_of L.Leaf.finds M.Engine.builds M.Engine.says M.Engine.answers M.Engine.costs) (option_to_list o) (option_map (λ t. (t.0.now, t.1.now)) taken.entry) (codes "required") (view value.now) P location meter.old meter.new) }
+    ensures refused { IfErr result (RefusesMember (kit L.Leaf.reads L.Leaf.fits L.Leaf.faults L.Leaf.keyword_of L.Leaf.finds M.Engine.builds M.Engine.says M.Engine.answers M.Engine.costs) (codes "required") (view value.now) required location meter.old meter.new) }
+{
+    if taken.is_some() {
+        return Ok(None);
+    }
+    Ok(Some(build_required(makers, meter, alloc, location, value)?))
 }
 
 /// A keyword that is none of those above: refused, a leaf, or unread.

@@ -6,6 +6,7 @@ pub mod any_of;
 pub mod build;
 pub mod context;
 pub mod map;
+pub mod members;
 pub mod node;
 pub mod not;
 pub mod properties;
@@ -16,7 +17,8 @@ pub use context::{Context, Makers};
 pub use map::{SmallMap, SortedNames};
 pub use node::{
     AllOfValidator, AnyOfValidator, Body, Keyword, KeywordOver, NotValidator, SchemaNode,
-    SingleAnyOfValidator, SingleValueAllOfValidator, SmallPropertiesValidator, SmallValidatorsMap,
+    SingleAnyOfValidator, SingleValueAllOfValidator, SmallPropertiesValidator,
+    SmallPropertiesWithRequired2Validator, SmallValidatorsMap,
 };
 pub use required::RequiredValidator;
 

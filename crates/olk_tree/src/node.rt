@@ -4,7 +4,7 @@ use crate::all_of::{AllOf, SingleValueAllOf};
 use crate::any_of::{AnyOf, SingleAnyOf};
 use crate::map::SmallMap;
 use crate::not::Not;
-use crate::properties::SmallProperties;
+use crate::properties::{SmallProperties, SmallPropertiesWithRequired2};
 use crate::required::RequiredValidator;
 use olk_reports::Location;
 use std::marker::PhantomData;
@@ -13,6 +13,7 @@ use std::marker::PhantomData;
 #[derive(Drop)]
 pub enum KeywordOver<K, N> {
     Properties(SmallProperties<N>),
+    PropertiesWithRequired2(SmallPropertiesWithRequired2<N>),
     Required(RequiredValidator),
     AllOf(AllOf<N>),
     SingleValueAllOf(SingleValueAllOf<N>),
@@ -81,6 +82,11 @@ pub type NotValidator<K, R> = Not<SchemaNode<K, R>>;
 
 /// `properties`, over nodes.
 pub type SmallPropertiesValidator<K, R> = SmallProperties<SchemaNode<K, R>>;
+
+/// `properties` together with `required` of two different names, over nodes.
+pub type SmallPropertiesWithRequired2Validator<K, R> = SmallPropertiesWithRequired2<
+    SchemaNode<K, R>,
+>;
 
 /// Names in order, and beside each its node.
 pub type SmallValidatorsMap<K, R> = SmallMap<SchemaNode<K, R>>;

@@ -1,5 +1,5 @@
 //! Building from schemas, and looking up names, with a leaf set and a matcher.
-use crate::{Context, SmallMap, SortedNames, compile};
+use crate::{Body, Context, KeywordOver, SmallMap, SortedNames, compile, properties, required};
 use olk_base::{Leaf, MakeError, MakeLeaf, MakeRegex, Meter, Node, RegexEngine, Unfinished};
 use olk_reports::{BuildError, ValidationError};
 use serde_json::{Map, Value};
@@ -243,6 +243,66 @@ fn schemas_that_are_refused(rt: HostRuntime) -> Result<(), Fail> {
         assert_eq!(rt; error.schema_path(), place, "{text}");
         assert_eq!(rt; error.instance_path(), "", "{text}");
         assert_eq!(rt; error.message(alloc)?.as_str(), message, "{text}");
+    }
+    Ok(())
+}
+
+// A schema object with so many declared names, and `required`.
+fn closed(alloc: Global, count: usize, required: &str) -> Result<Map<String, Value>, Fail> {
+    let mut declared = Map::new(alloc);
+    for i in 0..count {
+        declared.insert(format!(in alloc; "m{i:02}")?, Value::Bool(true))?;
+    }
+    let mut schema = Map::new(alloc);
+    schema.insert(
+        String::from_str(alloc, "properties")?,
+        Value::Object(declared),
+    )?;
+    schema.insert(
+        String::from_str(alloc, "required")?,
+        Value::from_str(alloc, required)?,
+    )?;
+    Ok(schema)
+}
+
+#[test]
+fn required_names_that_are_taken_over(rt: HostRuntime) -> Result<(), Fail> {
+    let alloc = rt.alloc();
+    for (count, required, is_taken) in [
+        (0, r#"["a","b"]"#, true),
+        (14, r#"["a","b"]"#, true),
+        (14, r#"["b","a"]"#, true),
+        (15, r#"["a","b"]"#, false),
+        (14, r#"["a","a"]"#, false),
+        (14, r#"[]"#, false),
+        (14, r#"["a"]"#, false),
+        (14, r#"["a","b","c"]"#, false),
+    ] {
+        let parent = closed(alloc, count, required)?;
+        let mut meter = Meter::new();
+        let mut ctx = Context::new(alloc, &NoTexts, &Equality, &mut meter);
+        let declared = parent.get("properties").unwrap_or(&Value::Null);
+        let built = properties::compile(&mut ctx, alloc, &parent, declared);
+        let alone = match built {
+            Some(Ok(KeywordOver::PropertiesWithRequired2(keyword))) => {
+                assert_eq!(rt; keyword.location.as_str(), "/properties");
+                assert_eq!(rt; keyword.required_location.as_str(), "/required");
+                false
+            }
+            Some(Ok(KeywordOver::Properties(_))) => true,
+            _ => return Err(Fail::from("not built")),
+        };
+        assert_eq!(rt; alone, !is_taken, "{count} {required}");
+        let listed = parent.get("required").unwrap_or(&Value::Null);
+        let built = required::compile(&mut ctx, alloc, &parent, listed);
+        assert_eq!(rt; built.is_none(), is_taken, "{count} {required}");
+        let schema = Value::Object(parent.clone()?);
+        let node = compile(&mut ctx, alloc, &schema).map_err(failure)?;
+        let Body::Keywords(keywords) = &node.body else {
+            return Err(Fail::from("no keywords"));
+        };
+        let expected = if is_taken { 1 } else { 2 };
+        assert_eq!(rt; keywords.len(), expected, "{count} {required}");
     }
     Ok(())
 }

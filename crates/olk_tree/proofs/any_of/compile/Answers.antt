@@ -5,7 +5,6 @@ use Rattle.olk_spec.specs.Names.{◌//◌}
 use Rattle.olk_spec.specs.Vocabulary.{any_of}
 use Rattle.olk_spec.specs.Costs.{no_cost}
 use Rattle.olk_tree.specs.Kit.{kit}
-use Rattle.olk_tree.specs.Parts.{Builds}
 use Rattle.olk_tree.proofs.Spending.{within_nothing}
 use Rattle.olk_tree.proofs.Held.{refuses_memory_member}
 use Rattle.olk_tree.specs.Building.{HoldsMember, RefusesMember}

@@ -1,4 +1,4 @@
-use Rattle.std.proofs.Common.{rules, true, false, inl, inr, ◌≡◌, ◌++◌, List, [], ◌∷◌, codes, map, take, take_all, string_bytes, decimal, option_to_list, refl, sym, ap, subst, ◌∙◌, arith}
+use Rattle.std.proofs.Common.{rules, true, false, inl, inr, ◌++◌, [], ◌∷◌, codes, map, take, take_all, string_bytes, decimal, option_map, option_to_list, refl, sym, ap, subst, ◌∙◌}
 use mathlib.Core.Path.{subst₂}
 use Rattle.std.proofs.lemmas.List.{append-nil, append_assoc}
 use Rattle.serde_json.specs.Data.{Data}
@@ -6,17 +6,17 @@ use Rattle.serde_json.specs.View.{view, members_view, items_view}
 use Rattle.serde_json.proofs.Views.{view-Object, view-Array}
 use Rattle.serde_json.specs.declared.value.Value.{the_lemmas as value_lemmas}
 use Rattle.olk_spec.specs.Names.{Name, ◌//◌}
-use Rattle.olk_spec.specs.Vocabulary.{keyword_named, properties, required, all_of, any_of, not_keyword, leaf}
+use Rattle.olk_spec.specs.Vocabulary.{keyword_named, properties, not_keyword}
 use Rattle.olk_spec.specs.Schemas.{listed, numbered}
 use Rattle.olk_spec.specs.Malformed.{items_list}
 use Rattle.olk_spec.specs.Costs.{cost}
 use Rattle.olk_tree.specs.Kit.{kit}
 use Rattle.olk_tree.specs.Members.{malformations_at, member_malformations, member_cost}
-use Rattle.olk_tree.specs.Building.{IsBuilt, AreBuilt, HoldsMember, RefusesMember, KeywordsAreBuilt, Refuses, TellsOneOf, each_malformed, each_cost, all_malformed, all_cost}
-use Rattle.olk_tree.proofs.Spending.{exit, refuses_among, memory_among, refuses_memory, within_nothing}
-use Rattle.olk_tree.proofs.Built.{items_list-view, items_after, items_more, items_whole, items_start, none_built, one_more_built, no_keywords_built, one_more_keyword, built_truth, built_object, refuses_object, refuses_no_schema, no_schema_is}
+use Rattle.olk_tree.specs.Building.{IsBuilt, AreBuilt, HoldsClaims, RefusesMember, Refuses, TellsOneOf, each_malformed, each_cost, all_malformed, all_cost}
+use Rattle.olk_tree.proofs.Spending.{exit, refuses_among, memory_among, within_nothing}
+use Rattle.olk_tree.proofs.Built.{items_list-view, items_after, items_more, items_whole, items_start, none_built, one_more_built, no_keywords_built, next_keyword, last_keyword, built_truth, built_object, refuses_object, refuses_no_schema, no_schema_is}
 use Rattle.olk_tree.proofs.Shapes.{no_array, no_object}
-use Rattle.olk_tree.proofs.Held.{holds_properties, holds_all_of, holds_any_of, holds_not, refuses_properties_kind, refuses_all_of_kind, refuses_any_of_kind, refuses_properties_inside, refuses_all_of_inside, refuses_any_of_inside, refuses_not_inside, refuses_memory_member}
+use Rattle.olk_tree.proofs.Held.{holds_form, holds_own, holds_other, refuses_properties_memory, holds_all_of, holds_any_of, holds_not, refuses_properties_kind, refuses_all_of_kind, refuses_any_of_kind, refuses_properties_inside, refuses_all_of_inside, refuses_any_of_inside, refuses_not_inside, refuses_memory_member}
 use Rattle.olk_spec.specs.Costs.{no_cost}
 use Rattle.olk_spec.specs.Faults.{fault}
 use Rattle.olk_base.specs.declared.node.JsonType.TheVariants as json
@@ -62,8 +62,11 @@ build_properties-returns-in_err-names-clause-refused g t c = exit _ _ _ c.from_r
 pub build_properties-returns-in_err-nodes-clause-refused : goal.build_properties-returns-in_err-nodes-clause-refused
 build_properties-returns-in_err-nodes-clause-refused g t c = exit _ _ _ c.from_residual-in_err-nodes.ensures.1 (λ e q. refuses_properties_inside (kit g.L.Leaf.Leaf.reads g.L.Leaf.Leaf.fits g.L.Leaf.Leaf.faults g.L.Leaf.Leaf.keyword_of g.L.Leaf.Leaf.finds g.M.Engine.RegexEngine.builds g.M.Engine.RegexEngine.says g.M.Engine.RegexEngine.answers g.M.Engine.RegexEngine.costs) c.args.location (members_view c.in-Object.map.entries) (view c.args.value.now) c.args.meter.now c.compile_entries.new.meter e (ap view c.in-Object.is ∙ view-Object c.in-Object.map) (subst (λ x. Refuses (each_malformed (kit g.L.Leaf.Leaf.reads g.L.Leaf.Leaf.fits g.L.Leaf.Leaf.faults g.L.Leaf.Leaf.keyword_of g.L.Leaf.Leaf.finds g.M.Engine.RegexEngine.builds g.M.Engine.RegexEngine.says g.M.Engine.RegexEngine.answers g.M.Engine.RegexEngine.costs) c.args.location (listed (members_view c.in-Object.map.entries))) (each_cost (kit g.L.Leaf.Leaf.reads g.L.Leaf.Leaf.fits g.L.Leaf.Leaf.faults g.L.Leaf.Leaf.keyword_of g.L.Leaf.Leaf.finds g.M.Engine.RegexEngine.builds g.M.Engine.RegexEngine.says g.M.Engine.RegexEngine.answers g.M.Engine.RegexEngine.costs) (listed (members_view c.in-Object.map.entries))) c.args.meter.now c.compile_entries.new.meter x) (sym q) c.in_err-nodes.ensures.refused))
 
+pub build_properties-returns-in_err-keyword-clause-refused : goal.build_properties-returns-in_err-keyword-clause-refused
+build_properties-returns-in_err-keyword-clause-refused g t c = exit _ _ _ c.from_residual-in_err-keyword.ensures.1 (λ e q. refuses_properties_memory (kit g.L.Leaf.Leaf.reads g.L.Leaf.Leaf.fits g.L.Leaf.Leaf.faults g.L.Leaf.Leaf.keyword_of g.L.Leaf.Leaf.finds g.M.Engine.RegexEngine.builds g.M.Engine.RegexEngine.says g.M.Engine.RegexEngine.answers g.M.Engine.RegexEngine.costs) c.args.location (members_view c.in-Object.map.entries) (view c.args.value.now) c.args.meter.now c.compile_entries.new.meter e _ (ap view c.in-Object.is ∙ view-Object c.in-Object.map) q c.in_ok-nodes.ensures.built.spends)
+
 pub build_properties-returns-clause-built : goal.build_properties-returns-clause-built
-build_properties-returns-clause-built g t c = holds_properties (kit g.L.Leaf.Leaf.reads g.L.Leaf.Leaf.fits g.L.Leaf.Leaf.faults g.L.Leaf.Leaf.keyword_of g.L.Leaf.Leaf.finds g.M.Engine.RegexEngine.builds g.M.Engine.RegexEngine.says g.M.Engine.RegexEngine.answers g.M.Engine.RegexEngine.costs) record { names = c.in_ok-names.names; nodes = c.in_ok-nodes.nodes } c.args.location (members_view c.in-Object.map.entries) (view c.args.value.now) c.args.meter.now c.compile_entries.new.meter (ap view c.in-Object.is ∙ view-Object c.in-Object.map) c.in_ok-names.ensures c.in_ok-nodes.ensures.built
+build_properties-returns-clause-built g t c = holds_form (kit g.L.Leaf.Leaf.reads g.L.Leaf.Leaf.fits g.L.Leaf.Leaf.faults g.L.Leaf.Leaf.keyword_of g.L.Leaf.Leaf.finds g.M.Engine.RegexEngine.builds g.M.Engine.RegexEngine.says g.M.Engine.RegexEngine.answers g.M.Engine.RegexEngine.costs) c.in_ok-keyword.field-0 record { names = c.in_ok-names.names; nodes = c.in_ok-nodes.nodes } c.args.location c.args.place.now (option_map (λ t. (t.0.now, t.1.now)) c.args.taken) (members_view c.in-Object.map.entries) (view c.args.value.now) c.args.meter.now c.compile_entries.new.meter (ap view c.in-Object.is ∙ view-Object c.in-Object.map) c.in_ok-names.ensures c.in_ok-nodes.ensures.built c.in_ok-keyword.ensures
 
 pub compile_entries-loop-name-init : goal.compile_entries-loop-name-init
 compile_entries-loop-name-init g t c = record { done = []; built = none_built (kit g.L.Leaf.Leaf.reads g.L.Leaf.Leaf.fits g.L.Leaf.Leaf.faults g.L.Leaf.Leaf.keyword_of g.L.Leaf.Leaf.finds g.M.Engine.RegexEngine.builds g.M.Engine.RegexEngine.says g.M.Engine.RegexEngine.answers g.M.Engine.RegexEngine.costs) c.args.place.now c.args.meter.now c.new-nodes.result.items c.new-nodes.ensures.items; rest = ap (λ l. listed (members_view l)) c.into_iter-name-iterator.ensures.into_iter_gives.0; next = tt; ends = tt }
@@ -102,19 +105,22 @@ pub compile_items-returns-clause-built : goal.compile_items-returns-clause-built
 compile_items-returns-clause-built g t c = subst (λ l. AreBuilt (kit g.L.Leaf.Leaf.reads g.L.Leaf.Leaf.fits g.L.Leaf.Leaf.faults g.L.Leaf.Leaf.keyword_of g.L.Leaf.Leaf.finds g.M.Engine.RegexEngine.builds g.M.Engine.RegexEngine.says g.M.Engine.RegexEngine.answers g.M.Engine.RegexEngine.costs) c.loop-i.nodes.items l c.args.place.now c.args.meter.now c.loop-i.meter) (ap (λ l. numbered (map view l)) (take_all c.loop-i.i c.deref-schema-items.result.now c.loop-i-test.false) ∙ (ap (λ l. numbered (map view l)) c.deref-schema-items.ensures.value ∙ ap numbered (sym (items_list-view c.args.items.now.items)))) c.loop-i.invariant
 
 pub compile_keyword-returns-in_ok-build_properties-in-properties-clause-built : goal.compile_keyword-returns-in_ok-build_properties-in-properties-clause-built
-compile_keyword-returns-in_ok-build_properties-in-properties-clause-built g t c = subst (λ n. HoldsMember (kit g.L.Leaf.Leaf.reads g.L.Leaf.Leaf.fits g.L.Leaf.Leaf.faults g.L.Leaf.Leaf.keyword_of g.L.Leaf.Leaf.finds g.M.Engine.RegexEngine.builds g.M.Engine.RegexEngine.says g.M.Engine.RegexEngine.answers g.M.Engine.RegexEngine.costs) (c.in_ok-build_properties-in-properties.field-0 ∷ []) n (view c.args.value.now) (keyword_named (kit g.L.Leaf.Leaf.reads g.L.Leaf.Leaf.fits g.L.Leaf.Leaf.faults g.L.Leaf.Leaf.keyword_of g.L.Leaf.Leaf.finds g.M.Engine.RegexEngine.builds g.M.Engine.RegexEngine.says g.M.Engine.RegexEngine.answers g.M.Engine.RegexEngine.costs).world n) c.args.location c.args.meter.now c.build_properties.new.meter) (sym c.in-properties.is) c.in_ok-build_properties-in-properties.ensures.built
+compile_keyword-returns-in_ok-build_properties-in-properties-clause-built g t c = subst (λ n. HoldsClaims (kit g.L.Leaf.Leaf.reads g.L.Leaf.Leaf.fits g.L.Leaf.Leaf.faults g.L.Leaf.Leaf.keyword_of g.L.Leaf.Leaf.finds g.M.Engine.RegexEngine.builds g.M.Engine.RegexEngine.says g.M.Engine.RegexEngine.answers g.M.Engine.RegexEngine.costs) (c.in_ok-build_properties-in-properties.field-0 ∷ []) (option_map (λ t. (t.0.now, t.1.now)) c.args.taken) n (view c.args.value.now) c.args.place.now c.args.location c.args.meter.now c.build_properties.new.meter) (sym c.in-properties.is) c.in_ok-build_properties-in-properties.ensures.built
 
-pub compile_keyword-returns-in_ok-build_required-in-required-clause-built : goal.compile_keyword-returns-in_ok-build_required-in-required-clause-built
-compile_keyword-returns-in_ok-build_required-in-required-clause-built g t c = subst (λ n. HoldsMember (kit g.L.Leaf.Leaf.reads g.L.Leaf.Leaf.fits g.L.Leaf.Leaf.faults g.L.Leaf.Leaf.keyword_of g.L.Leaf.Leaf.finds g.M.Engine.RegexEngine.builds g.M.Engine.RegexEngine.says g.M.Engine.RegexEngine.answers g.M.Engine.RegexEngine.costs) (c.in_ok-build_required-in-required.field-0 ∷ []) n (view c.args.value.now) (keyword_named (kit g.L.Leaf.Leaf.reads g.L.Leaf.Leaf.fits g.L.Leaf.Leaf.faults g.L.Leaf.Leaf.keyword_of g.L.Leaf.Leaf.finds g.M.Engine.RegexEngine.builds g.M.Engine.RegexEngine.says g.M.Engine.RegexEngine.answers g.M.Engine.RegexEngine.costs).world n) c.args.location c.args.meter.now c.build_required.new.meter) (sym c.in-required.is) c.in_ok-build_required-in-required.ensures.built
+pub compile_keyword-returns-in_ok-build_own_required-in-required-clause-built : goal.compile_keyword-returns-in_ok-build_own_required-in-required-clause-built
+compile_keyword-returns-in_ok-build_own_required-in-required-clause-built g t c = subst (λ n. HoldsClaims (kit g.L.Leaf.Leaf.reads g.L.Leaf.Leaf.fits g.L.Leaf.Leaf.faults g.L.Leaf.Leaf.keyword_of g.L.Leaf.Leaf.finds g.M.Engine.RegexEngine.builds g.M.Engine.RegexEngine.says g.M.Engine.RegexEngine.answers g.M.Engine.RegexEngine.costs) (option_to_list c.in_ok-build_own_required-in-required.field-0) (option_map (λ t. (t.0.now, t.1.now)) c.args.taken) n (view c.args.value.now) c.args.place.now c.args.location c.args.meter.now c.build_own_required.new.meter) (sym c.in-required.is) (c.in_ok-build_own_required-in-required.ensures.built c.args.place.now)
 
 pub compile_keyword-returns-in_ok-build_all_of-in-allOf-clause-built : goal.compile_keyword-returns-in_ok-build_all_of-in-allOf-clause-built
-compile_keyword-returns-in_ok-build_all_of-in-allOf-clause-built g t c = subst (λ n. HoldsMember (kit g.L.Leaf.Leaf.reads g.L.Leaf.Leaf.fits g.L.Leaf.Leaf.faults g.L.Leaf.Leaf.keyword_of g.L.Leaf.Leaf.finds g.M.Engine.RegexEngine.builds g.M.Engine.RegexEngine.says g.M.Engine.RegexEngine.answers g.M.Engine.RegexEngine.costs) (c.in_ok-build_all_of-in-allOf.field-0 ∷ []) n (view c.args.value.now) (keyword_named (kit g.L.Leaf.Leaf.reads g.L.Leaf.Leaf.fits g.L.Leaf.Leaf.faults g.L.Leaf.Leaf.keyword_of g.L.Leaf.Leaf.finds g.M.Engine.RegexEngine.builds g.M.Engine.RegexEngine.says g.M.Engine.RegexEngine.answers g.M.Engine.RegexEngine.costs).world n) c.args.location c.args.meter.now c.build_all_of.new.meter) (sym c.in-allOf.is) c.in_ok-build_all_of-in-allOf.ensures.built
+compile_keyword-returns-in_ok-build_all_of-in-allOf-clause-built g t c = subst (λ n. HoldsClaims (kit g.L.Leaf.Leaf.reads g.L.Leaf.Leaf.fits g.L.Leaf.Leaf.faults g.L.Leaf.Leaf.keyword_of g.L.Leaf.Leaf.finds g.M.Engine.RegexEngine.builds g.M.Engine.RegexEngine.says g.M.Engine.RegexEngine.answers g.M.Engine.RegexEngine.costs) (c.in_ok-build_all_of-in-allOf.field-0 ∷ []) (option_map (λ t. (t.0.now, t.1.now)) c.args.taken) n (view c.args.value.now) c.args.place.now c.args.location c.args.meter.now c.build_all_of.new.meter) (sym c.in-allOf.is) (holds_own (kit g.L.Leaf.Leaf.reads g.L.Leaf.Leaf.fits g.L.Leaf.Leaf.faults g.L.Leaf.Leaf.keyword_of g.L.Leaf.Leaf.finds g.M.Engine.RegexEngine.builds g.M.Engine.RegexEngine.says g.M.Engine.RegexEngine.answers g.M.Engine.RegexEngine.costs) _ (option_map (λ t. (t.0.now, t.1.now)) c.args.taken) (codes "allOf") (view c.args.value.now) c.args.place.now c.args.location c.args.meter.now c.build_all_of.new.meter refl refl c.in_ok-build_all_of-in-allOf.ensures.built)
 
 pub compile_keyword-returns-in_ok-build_any_of-in-anyOf-clause-built : goal.compile_keyword-returns-in_ok-build_any_of-in-anyOf-clause-built
-compile_keyword-returns-in_ok-build_any_of-in-anyOf-clause-built g t c = subst (λ n. HoldsMember (kit g.L.Leaf.Leaf.reads g.L.Leaf.Leaf.fits g.L.Leaf.Leaf.faults g.L.Leaf.Leaf.keyword_of g.L.Leaf.Leaf.finds g.M.Engine.RegexEngine.builds g.M.Engine.RegexEngine.says g.M.Engine.RegexEngine.answers g.M.Engine.RegexEngine.costs) (c.in_ok-build_any_of-in-anyOf.field-0 ∷ []) n (view c.args.value.now) (keyword_named (kit g.L.Leaf.Leaf.reads g.L.Leaf.Leaf.fits g.L.Leaf.Leaf.faults g.L.Leaf.Leaf.keyword_of g.L.Leaf.Leaf.finds g.M.Engine.RegexEngine.builds g.M.Engine.RegexEngine.says g.M.Engine.RegexEngine.answers g.M.Engine.RegexEngine.costs).world n) c.args.location c.args.meter.now c.build_any_of.new.meter) (sym c.in-anyOf.is) c.in_ok-build_any_of-in-anyOf.ensures.built
+compile_keyword-returns-in_ok-build_any_of-in-anyOf-clause-built g t c = subst (λ n. HoldsClaims (kit g.L.Leaf.Leaf.reads g.L.Leaf.Leaf.fits g.L.Leaf.Leaf.faults g.L.Leaf.Leaf.keyword_of g.L.Leaf.Leaf.finds g.M.Engine.RegexEngine.builds g.M.Engine.RegexEngine.says g.M.Engine.RegexEngine.answers g.M.Engine.RegexEngine.costs) (c.in_ok-build_any_of-in-anyOf.field-0 ∷ []) (option_map (λ t. (t.0.now, t.1.now)) c.args.taken) n (view c.args.value.now) c.args.place.now c.args.location c.args.meter.now c.build_any_of.new.meter) (sym c.in-anyOf.is) (holds_own (kit g.L.Leaf.Leaf.reads g.L.Leaf.Leaf.fits g.L.Leaf.Leaf.faults g.L.Leaf.Leaf.keyword_of g.L.Leaf.Leaf.finds g.M.Engine.RegexEngine.builds g.M.Engine.RegexEngine.says g.M.Engine.RegexEngine.answers g.M.Engine.RegexEngine.costs) _ (option_map (λ t. (t.0.now, t.1.now)) c.args.taken) (codes "anyOf") (view c.args.value.now) c.args.place.now c.args.location c.args.meter.now c.build_any_of.new.meter refl refl c.in_ok-build_any_of-in-anyOf.ensures.built)
 
 pub compile_keyword-returns-in_ok-build_not-in-not-clause-built : goal.compile_keyword-returns-in_ok-build_not-in-not-clause-built
-compile_keyword-returns-in_ok-build_not-in-not-clause-built g t c = subst (λ n. HoldsMember (kit g.L.Leaf.Leaf.reads g.L.Leaf.Leaf.fits g.L.Leaf.Leaf.faults g.L.Leaf.Leaf.keyword_of g.L.Leaf.Leaf.finds g.M.Engine.RegexEngine.builds g.M.Engine.RegexEngine.says g.M.Engine.RegexEngine.answers g.M.Engine.RegexEngine.costs) (c.in_ok-build_not-in-not.field-0 ∷ []) n (view c.args.value.now) (keyword_named (kit g.L.Leaf.Leaf.reads g.L.Leaf.Leaf.fits g.L.Leaf.Leaf.faults g.L.Leaf.Leaf.keyword_of g.L.Leaf.Leaf.finds g.M.Engine.RegexEngine.builds g.M.Engine.RegexEngine.says g.M.Engine.RegexEngine.answers g.M.Engine.RegexEngine.costs).world n) c.args.location c.args.meter.now c.build_not.new.meter) (sym c.in-not.is) c.in_ok-build_not-in-not.ensures.built
+compile_keyword-returns-in_ok-build_not-in-not-clause-built g t c = subst (λ n. HoldsClaims (kit g.L.Leaf.Leaf.reads g.L.Leaf.Leaf.fits g.L.Leaf.Leaf.faults g.L.Leaf.Leaf.keyword_of g.L.Leaf.Leaf.finds g.M.Engine.RegexEngine.builds g.M.Engine.RegexEngine.says g.M.Engine.RegexEngine.answers g.M.Engine.RegexEngine.costs) (c.in_ok-build_not-in-not.field-0 ∷ []) (option_map (λ t. (t.0.now, t.1.now)) c.args.taken) n (view c.args.value.now) c.args.place.now c.args.location c.args.meter.now c.build_not.new.meter) (sym c.in-not.is) (holds_own (kit g.L.Leaf.Leaf.reads g.L.Leaf.Leaf.fits g.L.Leaf.Leaf.faults g.L.Leaf.Leaf.keyword_of g.L.Leaf.Leaf.finds g.M.Engine.RegexEngine.builds g.M.Engine.RegexEngine.says g.M.Engine.RegexEngine.answers g.M.Engine.RegexEngine.costs) _ (option_map (λ t. (t.0.now, t.1.now)) c.args.taken) (codes "not") (view c.args.value.now) c.args.place.now c.args.location c.args.meter.now c.build_not.new.meter refl refl c.in_ok-build_not-in-not.ensures.built)
+
+pub compile_keyword-returns-in_ok-build_other-in_default-clause-built : goal.compile_keyword-returns-in_ok-build_other-in_default-clause-built
+compile_keyword-returns-in_ok-build_other-in_default-clause-built g t c = holds_other (kit g.L.Leaf.Leaf.reads g.L.Leaf.Leaf.fits g.L.Leaf.Leaf.faults g.L.Leaf.Leaf.keyword_of g.L.Leaf.Leaf.finds g.M.Engine.RegexEngine.builds g.M.Engine.RegexEngine.says g.M.Engine.RegexEngine.answers g.M.Engine.RegexEngine.costs) (option_to_list c.in_ok-build_other-in_default.field-0) (option_map (λ t. (t.0.now, t.1.now)) c.args.taken) c.args.name.now (view c.args.value.now) c.args.place.now c.args.location c.args.meter.now c.build_other.new.meter (search rules) c.in_ok-build_other-in_default.ensures.built
 
 pub compile_members-loop-name-init : goal.compile_members-loop-name-init
 compile_members-loop-name-init g t c = record { done = []; built = no_keywords_built (kit g.L.Leaf.Leaf.reads g.L.Leaf.Leaf.fits g.L.Leaf.Leaf.faults g.L.Leaf.Leaf.keyword_of g.L.Leaf.Leaf.finds g.M.Engine.RegexEngine.builds g.M.Engine.RegexEngine.says g.M.Engine.RegexEngine.answers g.M.Engine.RegexEngine.costs) (members_view c.args.members.now.entries) c.args.place.now c.args.meter.now c.new-keywords.result.items c.new-keywords.ensures.items; rest = ap (λ l. listed (members_view l)) c.into_iter-name-iterator.ensures.into_iter_gives.0; next = tt; ends = tt }
@@ -126,16 +132,16 @@ pub compile_members-returns-in_err-keyword-clause-refused : goal.compile_members
 compile_members-returns-in_err-keyword-clause-refused g t c = exit _ _ _ c.from_residual-in_err-keyword.ensures.1 (λ e q. refuses_among (λ (x : Name × Data). member_malformations (kit g.L.Leaf.Leaf.reads g.L.Leaf.Leaf.fits g.L.Leaf.Leaf.faults g.L.Leaf.Leaf.keyword_of g.L.Leaf.Leaf.finds g.M.Engine.RegexEngine.builds g.M.Engine.RegexEngine.says g.M.Engine.RegexEngine.answers g.M.Engine.RegexEngine.costs).world (members_view c.args.members.now.entries) x (keyword_named (kit g.L.Leaf.Leaf.reads g.L.Leaf.Leaf.fits g.L.Leaf.Leaf.faults g.L.Leaf.Leaf.keyword_of g.L.Leaf.Leaf.finds g.M.Engine.RegexEngine.builds g.M.Engine.RegexEngine.says g.M.Engine.RegexEngine.answers g.M.Engine.RegexEngine.costs).world x.0) c.args.place.now) (λ (x : Name × Data). member_cost (kit g.L.Leaf.Leaf.reads g.L.Leaf.Leaf.fits g.L.Leaf.Leaf.faults g.L.Leaf.Leaf.keyword_of g.L.Leaf.Leaf.finds g.M.Engine.RegexEngine.builds g.M.Engine.RegexEngine.says g.M.Engine.RegexEngine.answers g.M.Engine.RegexEngine.costs).world (members_view c.args.members.now.entries) x (keyword_named (kit g.L.Leaf.Leaf.reads g.L.Leaf.Leaf.fits g.L.Leaf.Leaf.faults g.L.Leaf.Leaf.keyword_of g.L.Leaf.Leaf.finds g.M.Engine.RegexEngine.builds g.M.Engine.RegexEngine.says g.M.Engine.RegexEngine.answers g.M.Engine.RegexEngine.costs).world x.0)) _ _ _ c.loop-name.invariant.done (string_bytes c.in-Some.name.now, view c.in-Some.value.now) (listed (members_view c.next.new.self)) c.loop-name.meter e (ap (λ l. c.loop-name.invariant.done ++ listed (members_view l)) (sym c.in-Some.ensures.steps) ∙ c.loop-name.invariant.rest) c.loop-name.invariant.built.spends (subst (λ x. Refuses ((λ (x : Name × Data). member_malformations (kit g.L.Leaf.Leaf.reads g.L.Leaf.Leaf.fits g.L.Leaf.Leaf.faults g.L.Leaf.Leaf.keyword_of g.L.Leaf.Leaf.finds g.M.Engine.RegexEngine.builds g.M.Engine.RegexEngine.says g.M.Engine.RegexEngine.answers g.M.Engine.RegexEngine.costs).world (members_view c.args.members.now.entries) x (keyword_named (kit g.L.Leaf.Leaf.reads g.L.Leaf.Leaf.fits g.L.Leaf.Leaf.faults g.L.Leaf.Leaf.keyword_of g.L.Leaf.Leaf.finds g.M.Engine.RegexEngine.builds g.M.Engine.RegexEngine.says g.M.Engine.RegexEngine.answers g.M.Engine.RegexEngine.costs).world x.0) c.args.place.now) (string_bytes c.in-Some.name.now, view c.in-Some.value.now)) ((λ (x : Name × Data). member_cost (kit g.L.Leaf.Leaf.reads g.L.Leaf.Leaf.fits g.L.Leaf.Leaf.faults g.L.Leaf.Leaf.keyword_of g.L.Leaf.Leaf.finds g.M.Engine.RegexEngine.builds g.M.Engine.RegexEngine.says g.M.Engine.RegexEngine.answers g.M.Engine.RegexEngine.costs).world (members_view c.args.members.now.entries) x (keyword_named (kit g.L.Leaf.Leaf.reads g.L.Leaf.Leaf.fits g.L.Leaf.Leaf.faults g.L.Leaf.Leaf.keyword_of g.L.Leaf.Leaf.finds g.M.Engine.RegexEngine.builds g.M.Engine.RegexEngine.says g.M.Engine.RegexEngine.answers g.M.Engine.RegexEngine.costs).world x.0)) (string_bytes c.in-Some.name.now, view c.in-Some.value.now)) c.loop-name.meter c.compile_keyword.new.meter x) (sym q) ((subst (λ n. RefusesMember (kit g.L.Leaf.Leaf.reads g.L.Leaf.Leaf.fits g.L.Leaf.Leaf.faults g.L.Leaf.Leaf.keyword_of g.L.Leaf.Leaf.finds g.M.Engine.RegexEngine.builds g.M.Engine.RegexEngine.says g.M.Engine.RegexEngine.answers g.M.Engine.RegexEngine.costs) n (view c.in-Some.value.now) (keyword_named (kit g.L.Leaf.Leaf.reads g.L.Leaf.Leaf.fits g.L.Leaf.Leaf.faults g.L.Leaf.Leaf.keyword_of g.L.Leaf.Leaf.finds g.M.Engine.RegexEngine.builds g.M.Engine.RegexEngine.says g.M.Engine.RegexEngine.answers g.M.Engine.RegexEngine.costs).world n) c.in_ok-location.location c.loop-name.meter c.compile_keyword.new.meter c.in_err-keyword.field-0.0) c.as_str-in-loop-name.ensures.value c.in_err-keyword.ensures.refused) (members_view c.args.members.now.entries) c.args.place.now (c.in_ok-location.ensures ∙ ap (λ n. c.args.place.now // n) c.as_str.ensures.value))))
 
 pub compile_members-loop-name-preserved-in-Continue-branch-3 : goal.compile_members-loop-name-preserved-in-Continue-branch-3
-compile_members-loop-name-preserved-in-Continue-branch-3 g t c = record { done = c.loop-name.invariant.done ++ (string_bytes c.in-Some.name.now, view c.in-Some.value.now) ∷ []; built = (one_more_keyword (kit g.L.Leaf.Leaf.reads g.L.Leaf.Leaf.fits g.L.Leaf.Leaf.faults g.L.Leaf.Leaf.keyword_of g.L.Leaf.Leaf.finds g.M.Engine.RegexEngine.builds g.M.Engine.RegexEngine.says g.M.Engine.RegexEngine.answers g.M.Engine.RegexEngine.costs) (members_view c.args.members.now.entries) c.args.place.now c.loop-name.keywords.items (option_to_list c.in_ok-keyword.keyword) _ c.loop-name.invariant.done (string_bytes c.in-Some.name.now, view c.in-Some.value.now) c.args.meter.now c.loop-name.meter c.compile_keyword.new.meter (c.in_ok-append.ensures ∙ ap (λ o. c.loop-name.keywords.items ++ option_to_list o) (sym c.in-Some-keyword.is)) c.loop-name.invariant.built (subst (λ n. HoldsMember (kit g.L.Leaf.Leaf.reads g.L.Leaf.Leaf.fits g.L.Leaf.Leaf.faults g.L.Leaf.Leaf.keyword_of g.L.Leaf.Leaf.finds g.M.Engine.RegexEngine.builds g.M.Engine.RegexEngine.says g.M.Engine.RegexEngine.answers g.M.Engine.RegexEngine.costs) (option_to_list c.in_ok-keyword.keyword) n (view c.in-Some.value.now) (keyword_named (kit g.L.Leaf.Leaf.reads g.L.Leaf.Leaf.fits g.L.Leaf.Leaf.faults g.L.Leaf.Leaf.keyword_of g.L.Leaf.Leaf.finds g.M.Engine.RegexEngine.builds g.M.Engine.RegexEngine.says g.M.Engine.RegexEngine.answers g.M.Engine.RegexEngine.costs).world n) c.in_ok-location.location c.loop-name.meter c.compile_keyword.new.meter) c.as_str-in-loop-name.ensures.value c.in_ok-keyword.ensures.built (members_view c.args.members.now.entries) c.args.place.now (c.in_ok-location.ensures ∙ ap (λ n. c.args.place.now // n) c.as_str.ensures.value))); rest = (append_assoc c.loop-name.invariant.done ((string_bytes c.in-Some.name.now, view c.in-Some.value.now) ∷ []) (listed (members_view c.next.new.self)) ∙ (ap (λ l. c.loop-name.invariant.done ++ listed (members_view l)) (sym c.in-Some.ensures.steps) ∙ c.loop-name.invariant.rest)); next = tt; ends = tt }
+compile_members-loop-name-preserved-in-Continue-branch-3 g t c = record { done = c.loop-name.invariant.done ++ (string_bytes c.in-Some.name.now, view c.in-Some.value.now) ∷ []; built = next_keyword (kit g.L.Leaf.Leaf.reads g.L.Leaf.Leaf.fits g.L.Leaf.Leaf.faults g.L.Leaf.Leaf.keyword_of g.L.Leaf.Leaf.finds g.M.Engine.RegexEngine.builds g.M.Engine.RegexEngine.says g.M.Engine.RegexEngine.answers g.M.Engine.RegexEngine.costs) c.args.members.now.entries c.into_iter-name-iterator.ensures.into_iter_gives.5 c.args.place.now (option_map (λ t. (t.0.now, t.1.now)) c.taken_names-taken.result) c.taken_names-taken.ensures c.loop-name.keywords.items (option_to_list c.in_ok-keyword.keyword) _ c.loop-name.invariant.done (string_bytes c.in-Some.name.now) (view c.in-Some.value.now) (listed (members_view c.next.new.self)) c.in_ok-location.location c.args.meter.now c.loop-name.meter c.compile_keyword.new.meter (c.in_ok-append.ensures ∙ ap (λ o. c.loop-name.keywords.items ++ option_to_list o) (sym c.in-Some-keyword.is)) (ap (λ l. c.loop-name.invariant.done ++ listed (members_view l)) (sym c.in-Some.ensures.steps) ∙ c.loop-name.invariant.rest) (c.in_ok-location.ensures ∙ ap (λ n. c.args.place.now // n) c.as_str.ensures.value) c.loop-name.invariant.built (subst (λ n. HoldsClaims (kit g.L.Leaf.Leaf.reads g.L.Leaf.Leaf.fits g.L.Leaf.Leaf.faults g.L.Leaf.Leaf.keyword_of g.L.Leaf.Leaf.finds g.M.Engine.RegexEngine.builds g.M.Engine.RegexEngine.says g.M.Engine.RegexEngine.answers g.M.Engine.RegexEngine.costs) (option_to_list c.in_ok-keyword.keyword) (option_map (λ t. (t.0.now, t.1.now)) c.taken_names-taken.result) n (view c.in-Some.value.now) c.args.place.now c.in_ok-location.location c.loop-name.meter c.compile_keyword.new.meter) c.as_str-in-loop-name.ensures.value c.in_ok-keyword.ensures.built); rest = (append_assoc c.loop-name.invariant.done ((string_bytes c.in-Some.name.now, view c.in-Some.value.now) ∷ []) (listed (members_view c.next.new.self)) ∙ (ap (λ l. c.loop-name.invariant.done ++ listed (members_view l)) (sym c.in-Some.ensures.steps) ∙ c.loop-name.invariant.rest)); next = tt; ends = tt }
 
 pub compile_members-returns-in_err-append-clause-refused : goal.compile_members-returns-in_err-append-clause-refused
-compile_members-returns-in_err-append-clause-refused g t c = exit _ _ _ c.from_residual-in_err-append.ensures.1 (λ e q. memory_among (λ (x : Name × Data). member_malformations (kit g.L.Leaf.Leaf.reads g.L.Leaf.Leaf.fits g.L.Leaf.Leaf.faults g.L.Leaf.Leaf.keyword_of g.L.Leaf.Leaf.finds g.M.Engine.RegexEngine.builds g.M.Engine.RegexEngine.says g.M.Engine.RegexEngine.answers g.M.Engine.RegexEngine.costs).world (members_view c.args.members.now.entries) x (keyword_named (kit g.L.Leaf.Leaf.reads g.L.Leaf.Leaf.fits g.L.Leaf.Leaf.faults g.L.Leaf.Leaf.keyword_of g.L.Leaf.Leaf.finds g.M.Engine.RegexEngine.builds g.M.Engine.RegexEngine.says g.M.Engine.RegexEngine.answers g.M.Engine.RegexEngine.costs).world x.0) c.args.place.now) (λ (x : Name × Data). member_cost (kit g.L.Leaf.Leaf.reads g.L.Leaf.Leaf.fits g.L.Leaf.Leaf.faults g.L.Leaf.Leaf.keyword_of g.L.Leaf.Leaf.finds g.M.Engine.RegexEngine.builds g.M.Engine.RegexEngine.says g.M.Engine.RegexEngine.answers g.M.Engine.RegexEngine.costs).world (members_view c.args.members.now.entries) x (keyword_named (kit g.L.Leaf.Leaf.reads g.L.Leaf.Leaf.fits g.L.Leaf.Leaf.faults g.L.Leaf.Leaf.keyword_of g.L.Leaf.Leaf.finds g.M.Engine.RegexEngine.builds g.M.Engine.RegexEngine.says g.M.Engine.RegexEngine.answers g.M.Engine.RegexEngine.costs).world x.0)) _ _ _ (c.loop-name.invariant.done ++ (string_bytes c.in-Some.name.now, view c.in-Some.value.now) ∷ []) (listed (members_view c.next.new.self)) e _ q (append_assoc c.loop-name.invariant.done ((string_bytes c.in-Some.name.now, view c.in-Some.value.now) ∷ []) (listed (members_view c.next.new.self)) ∙ (ap (λ l. c.loop-name.invariant.done ++ listed (members_view l)) (sym c.in-Some.ensures.steps) ∙ c.loop-name.invariant.rest)) (one_more_keyword (kit g.L.Leaf.Leaf.reads g.L.Leaf.Leaf.fits g.L.Leaf.Leaf.faults g.L.Leaf.Leaf.keyword_of g.L.Leaf.Leaf.finds g.M.Engine.RegexEngine.builds g.M.Engine.RegexEngine.says g.M.Engine.RegexEngine.answers g.M.Engine.RegexEngine.costs) (members_view c.args.members.now.entries) c.args.place.now c.loop-name.keywords.items (option_to_list c.in_ok-keyword.keyword) _ c.loop-name.invariant.done (string_bytes c.in-Some.name.now, view c.in-Some.value.now) c.args.meter.now c.loop-name.meter c.compile_keyword.new.meter refl c.loop-name.invariant.built (subst (λ n. HoldsMember (kit g.L.Leaf.Leaf.reads g.L.Leaf.Leaf.fits g.L.Leaf.Leaf.faults g.L.Leaf.Leaf.keyword_of g.L.Leaf.Leaf.finds g.M.Engine.RegexEngine.builds g.M.Engine.RegexEngine.says g.M.Engine.RegexEngine.answers g.M.Engine.RegexEngine.costs) (option_to_list c.in_ok-keyword.keyword) n (view c.in-Some.value.now) (keyword_named (kit g.L.Leaf.Leaf.reads g.L.Leaf.Leaf.fits g.L.Leaf.Leaf.faults g.L.Leaf.Leaf.keyword_of g.L.Leaf.Leaf.finds g.M.Engine.RegexEngine.builds g.M.Engine.RegexEngine.says g.M.Engine.RegexEngine.answers g.M.Engine.RegexEngine.costs).world n) c.in_ok-location.location c.loop-name.meter c.compile_keyword.new.meter) c.as_str-in-loop-name.ensures.value c.in_ok-keyword.ensures.built (members_view c.args.members.now.entries) c.args.place.now (c.in_ok-location.ensures ∙ ap (λ n. c.args.place.now // n) c.as_str.ensures.value))).spends)
+compile_members-returns-in_err-append-clause-refused g t c = exit _ _ _ c.from_residual-in_err-append.ensures.1 (λ e q. memory_among (λ (x : Name × Data). member_malformations (kit g.L.Leaf.Leaf.reads g.L.Leaf.Leaf.fits g.L.Leaf.Leaf.faults g.L.Leaf.Leaf.keyword_of g.L.Leaf.Leaf.finds g.M.Engine.RegexEngine.builds g.M.Engine.RegexEngine.says g.M.Engine.RegexEngine.answers g.M.Engine.RegexEngine.costs).world (members_view c.args.members.now.entries) x (keyword_named (kit g.L.Leaf.Leaf.reads g.L.Leaf.Leaf.fits g.L.Leaf.Leaf.faults g.L.Leaf.Leaf.keyword_of g.L.Leaf.Leaf.finds g.M.Engine.RegexEngine.builds g.M.Engine.RegexEngine.says g.M.Engine.RegexEngine.answers g.M.Engine.RegexEngine.costs).world x.0) c.args.place.now) (λ (x : Name × Data). member_cost (kit g.L.Leaf.Leaf.reads g.L.Leaf.Leaf.fits g.L.Leaf.Leaf.faults g.L.Leaf.Leaf.keyword_of g.L.Leaf.Leaf.finds g.M.Engine.RegexEngine.builds g.M.Engine.RegexEngine.says g.M.Engine.RegexEngine.answers g.M.Engine.RegexEngine.costs).world (members_view c.args.members.now.entries) x (keyword_named (kit g.L.Leaf.Leaf.reads g.L.Leaf.Leaf.fits g.L.Leaf.Leaf.faults g.L.Leaf.Leaf.keyword_of g.L.Leaf.Leaf.finds g.M.Engine.RegexEngine.builds g.M.Engine.RegexEngine.says g.M.Engine.RegexEngine.answers g.M.Engine.RegexEngine.costs).world x.0)) _ _ _ (c.loop-name.invariant.done ++ (string_bytes c.in-Some.name.now, view c.in-Some.value.now) ∷ []) (listed (members_view c.next.new.self)) e _ q (append_assoc c.loop-name.invariant.done ((string_bytes c.in-Some.name.now, view c.in-Some.value.now) ∷ []) (listed (members_view c.next.new.self)) ∙ (ap (λ l. c.loop-name.invariant.done ++ listed (members_view l)) (sym c.in-Some.ensures.steps) ∙ c.loop-name.invariant.rest)) (next_keyword (kit g.L.Leaf.Leaf.reads g.L.Leaf.Leaf.fits g.L.Leaf.Leaf.faults g.L.Leaf.Leaf.keyword_of g.L.Leaf.Leaf.finds g.M.Engine.RegexEngine.builds g.M.Engine.RegexEngine.says g.M.Engine.RegexEngine.answers g.M.Engine.RegexEngine.costs) c.args.members.now.entries c.into_iter-name-iterator.ensures.into_iter_gives.5 c.args.place.now (option_map (λ t. (t.0.now, t.1.now)) c.taken_names-taken.result) c.taken_names-taken.ensures c.loop-name.keywords.items (option_to_list c.in_ok-keyword.keyword) _ c.loop-name.invariant.done (string_bytes c.in-Some.name.now) (view c.in-Some.value.now) (listed (members_view c.next.new.self)) c.in_ok-location.location c.args.meter.now c.loop-name.meter c.compile_keyword.new.meter (refl) (ap (λ l. c.loop-name.invariant.done ++ listed (members_view l)) (sym c.in-Some.ensures.steps) ∙ c.loop-name.invariant.rest) (c.in_ok-location.ensures ∙ ap (λ n. c.args.place.now // n) c.as_str.ensures.value) c.loop-name.invariant.built (subst (λ n. HoldsClaims (kit g.L.Leaf.Leaf.reads g.L.Leaf.Leaf.fits g.L.Leaf.Leaf.faults g.L.Leaf.Leaf.keyword_of g.L.Leaf.Leaf.finds g.M.Engine.RegexEngine.builds g.M.Engine.RegexEngine.says g.M.Engine.RegexEngine.answers g.M.Engine.RegexEngine.costs) (option_to_list c.in_ok-keyword.keyword) (option_map (λ t. (t.0.now, t.1.now)) c.taken_names-taken.result) n (view c.in-Some.value.now) c.args.place.now c.in_ok-location.location c.loop-name.meter c.compile_keyword.new.meter) c.as_str-in-loop-name.ensures.value c.in_ok-keyword.ensures.built)).spends)
 
 pub compile_members-loop-name-preserved : goal.compile_members-loop-name-preserved
-compile_members-loop-name-preserved g t c = record { done = c.loop-name.invariant.done ++ (string_bytes c.in-Some.name.now, view c.in-Some.value.now) ∷ []; built = (one_more_keyword (kit g.L.Leaf.Leaf.reads g.L.Leaf.Leaf.fits g.L.Leaf.Leaf.faults g.L.Leaf.Leaf.keyword_of g.L.Leaf.Leaf.finds g.M.Engine.RegexEngine.builds g.M.Engine.RegexEngine.says g.M.Engine.RegexEngine.answers g.M.Engine.RegexEngine.costs) (members_view c.args.members.now.entries) c.args.place.now c.loop-name.keywords.items (option_to_list c.in_ok-keyword.keyword) _ c.loop-name.invariant.done (string_bytes c.in-Some.name.now, view c.in-Some.value.now) c.args.meter.now c.loop-name.meter c.compile_keyword.new.meter (sym (append-nil c.loop-name.keywords.items) ∙ ap (λ o. c.loop-name.keywords.items ++ option_to_list o) (sym c.in_default.is)) c.loop-name.invariant.built (subst (λ n. HoldsMember (kit g.L.Leaf.Leaf.reads g.L.Leaf.Leaf.fits g.L.Leaf.Leaf.faults g.L.Leaf.Leaf.keyword_of g.L.Leaf.Leaf.finds g.M.Engine.RegexEngine.builds g.M.Engine.RegexEngine.says g.M.Engine.RegexEngine.answers g.M.Engine.RegexEngine.costs) (option_to_list c.in_ok-keyword.keyword) n (view c.in-Some.value.now) (keyword_named (kit g.L.Leaf.Leaf.reads g.L.Leaf.Leaf.fits g.L.Leaf.Leaf.faults g.L.Leaf.Leaf.keyword_of g.L.Leaf.Leaf.finds g.M.Engine.RegexEngine.builds g.M.Engine.RegexEngine.says g.M.Engine.RegexEngine.answers g.M.Engine.RegexEngine.costs).world n) c.in_ok-location.location c.loop-name.meter c.compile_keyword.new.meter) c.as_str-in-loop-name.ensures.value c.in_ok-keyword.ensures.built (members_view c.args.members.now.entries) c.args.place.now (c.in_ok-location.ensures ∙ ap (λ n. c.args.place.now // n) c.as_str.ensures.value))); rest = (append_assoc c.loop-name.invariant.done ((string_bytes c.in-Some.name.now, view c.in-Some.value.now) ∷ []) (listed (members_view c.next.new.self)) ∙ (ap (λ l. c.loop-name.invariant.done ++ listed (members_view l)) (sym c.in-Some.ensures.steps) ∙ c.loop-name.invariant.rest)); next = tt; ends = tt }
+compile_members-loop-name-preserved g t c = record { done = c.loop-name.invariant.done ++ (string_bytes c.in-Some.name.now, view c.in-Some.value.now) ∷ []; built = next_keyword (kit g.L.Leaf.Leaf.reads g.L.Leaf.Leaf.fits g.L.Leaf.Leaf.faults g.L.Leaf.Leaf.keyword_of g.L.Leaf.Leaf.finds g.M.Engine.RegexEngine.builds g.M.Engine.RegexEngine.says g.M.Engine.RegexEngine.answers g.M.Engine.RegexEngine.costs) c.args.members.now.entries c.into_iter-name-iterator.ensures.into_iter_gives.5 c.args.place.now (option_map (λ t. (t.0.now, t.1.now)) c.taken_names-taken.result) c.taken_names-taken.ensures c.loop-name.keywords.items (option_to_list c.in_ok-keyword.keyword) _ c.loop-name.invariant.done (string_bytes c.in-Some.name.now) (view c.in-Some.value.now) (listed (members_view c.next.new.self)) c.in_ok-location.location c.args.meter.now c.loop-name.meter c.compile_keyword.new.meter (sym (append-nil c.loop-name.keywords.items) ∙ ap (λ o. c.loop-name.keywords.items ++ option_to_list o) (sym c.in_default.is)) (ap (λ l. c.loop-name.invariant.done ++ listed (members_view l)) (sym c.in-Some.ensures.steps) ∙ c.loop-name.invariant.rest) (c.in_ok-location.ensures ∙ ap (λ n. c.args.place.now // n) c.as_str.ensures.value) c.loop-name.invariant.built (subst (λ n. HoldsClaims (kit g.L.Leaf.Leaf.reads g.L.Leaf.Leaf.fits g.L.Leaf.Leaf.faults g.L.Leaf.Leaf.keyword_of g.L.Leaf.Leaf.finds g.M.Engine.RegexEngine.builds g.M.Engine.RegexEngine.says g.M.Engine.RegexEngine.answers g.M.Engine.RegexEngine.costs) (option_to_list c.in_ok-keyword.keyword) (option_map (λ t. (t.0.now, t.1.now)) c.taken_names-taken.result) n (view c.in-Some.value.now) c.args.place.now c.in_ok-location.location c.loop-name.meter c.compile_keyword.new.meter) c.as_str-in-loop-name.ensures.value c.in_ok-keyword.ensures.built); rest = (append_assoc c.loop-name.invariant.done ((string_bytes c.in-Some.name.now, view c.in-Some.value.now) ∷ []) (listed (members_view c.next.new.self)) ∙ (ap (λ l. c.loop-name.invariant.done ++ listed (members_view l)) (sym c.in-Some.ensures.steps) ∙ c.loop-name.invariant.rest)); next = tt; ends = tt }
 
 pub compile_members-returns-clause-built : goal.compile_members-returns-clause-built
-compile_members-returns-clause-built g t c = subst (λ l. KeywordsAreBuilt (kit g.L.Leaf.Leaf.reads g.L.Leaf.Leaf.fits g.L.Leaf.Leaf.faults g.L.Leaf.Leaf.keyword_of g.L.Leaf.Leaf.finds g.M.Engine.RegexEngine.builds g.M.Engine.RegexEngine.says g.M.Engine.RegexEngine.answers g.M.Engine.RegexEngine.costs) (members_view c.args.members.now.entries) c.loop-name.keywords.items l c.args.place.now c.args.meter.now c.loop-name.meter) (sym (append-nil c.loop-name.invariant.done) ∙ ap (λ l. c.loop-name.invariant.done ++ listed (members_view l)) (sym c.in-None.ensures.steps.0) ∙ c.loop-name.invariant.rest) c.loop-name.invariant.built
+compile_members-returns-clause-built g t c = last_keyword (kit g.L.Leaf.Leaf.reads g.L.Leaf.Leaf.fits g.L.Leaf.Leaf.faults g.L.Leaf.Leaf.keyword_of g.L.Leaf.Leaf.finds g.M.Engine.RegexEngine.builds g.M.Engine.RegexEngine.says g.M.Engine.RegexEngine.answers g.M.Engine.RegexEngine.costs) c.args.members.now.entries c.into_iter-name-iterator.ensures.into_iter_gives.5 c.args.place.now (option_map (λ t. (t.0.now, t.1.now)) c.taken_names-taken.result) c.taken_names-taken.ensures c.loop-name.keywords.items c.loop-name.invariant.done c.args.meter.now c.loop-name.meter (sym (append-nil c.loop-name.invariant.done) ∙ ap (λ l. c.loop-name.invariant.done ++ listed (members_view l)) (sym c.in-None.ensures.steps.0) ∙ c.loop-name.invariant.rest) c.loop-name.invariant.built
 
 pub compile_schema-returns-in_err-keywords-in-Object-clause-refused : goal.compile_schema-returns-in_err-keywords-in-Object-clause-refused
 compile_schema-returns-in_err-keywords-in-Object-clause-refused g t c = exit _ _ _ c.from_residual.ensures.1 (λ e q. refuses_object (kit g.L.Leaf.Leaf.reads g.L.Leaf.Leaf.fits g.L.Leaf.Leaf.faults g.L.Leaf.Leaf.keyword_of g.L.Leaf.Leaf.finds g.M.Engine.RegexEngine.builds g.M.Engine.RegexEngine.says g.M.Engine.RegexEngine.answers g.M.Engine.RegexEngine.costs).world (members_view c.in-Object.members.entries) (view c.args.schema.now) c.args.location c.args.meter.now c.tick_compiled.new.self c.compile_members.new.meter e (ap view c.in-Object.is ∙ view-Object c.in-Object.members) c.tick_compiled.ensures (subst (λ x. Refuses (all_malformed (kit g.L.Leaf.Leaf.reads g.L.Leaf.Leaf.fits g.L.Leaf.Leaf.faults g.L.Leaf.Leaf.keyword_of g.L.Leaf.Leaf.finds g.M.Engine.RegexEngine.builds g.M.Engine.RegexEngine.says g.M.Engine.RegexEngine.answers g.M.Engine.RegexEngine.costs) (members_view c.in-Object.members.entries) c.args.location (listed (members_view c.in-Object.members.entries))) (all_cost (kit g.L.Leaf.Leaf.reads g.L.Leaf.Leaf.fits g.L.Leaf.Leaf.faults g.L.Leaf.Leaf.keyword_of g.L.Leaf.Leaf.finds g.M.Engine.RegexEngine.builds g.M.Engine.RegexEngine.says g.M.Engine.RegexEngine.answers g.M.Engine.RegexEngine.costs) (members_view c.in-Object.members.entries) (listed (members_view c.in-Object.members.entries))) c.tick_compiled.new.self c.compile_members.new.meter x) (sym q) c.in_err-keywords-in-Object.ensures.refused))

@@ -1,9 +1,12 @@
 use Rattle.std.proofs.Common.{◌≡◌, ◌++◌, List, map, take}
+use Rattle.std.specs.List.{flat_map}
 use Rattle.serde_json.specs.Data.{Data}
 use Rattle.serde_json.specs.View.{view, members_view}
 use Rattle.olk_spec.specs.Names.{Name}
 use Rattle.olk_spec.specs.Schemas.{listed, numbered}
 use Rattle.olk_tree.specs.Kit.{kit}
+use Rattle.olk_tree.specs.Claims.{claims}
+use Rattle.olk_tree.specs.Forms.{taken_names}
 use Rattle.olk_tree.specs.Building.{AreBuilt, KeywordsAreBuilt}
 use Rattle.olk_tree.proofs.build.+compile.Given as goal
 
@@ -24,7 +27,7 @@ invariant-compile_items-loop-i g l = AreBuilt (kit g.L.Leaf.Leaf.reads g.L.Leaf.
 abbrev pub invariant-compile_members-loop-name : goal.invariant-compile_members-loop-name
 invariant-compile_members-loop-name g l = record {
   done : List (Name × Data);
-  built : KeywordsAreBuilt (kit g.L.Leaf.Leaf.reads g.L.Leaf.Leaf.fits g.L.Leaf.Leaf.faults g.L.Leaf.Leaf.keyword_of g.L.Leaf.Leaf.finds g.M.Engine.RegexEngine.builds g.M.Engine.RegexEngine.says g.M.Engine.RegexEngine.answers g.M.Engine.RegexEngine.costs) (members_view l.members.entries) l.keywords.items done l.fn.place l.fn.meter l.meter;
+  built : KeywordsAreBuilt (kit g.L.Leaf.Leaf.reads g.L.Leaf.Leaf.fits g.L.Leaf.Leaf.faults g.L.Leaf.Leaf.keyword_of g.L.Leaf.Leaf.finds g.M.Engine.RegexEngine.builds g.M.Engine.RegexEngine.says g.M.Engine.RegexEngine.answers g.M.Engine.RegexEngine.costs) (members_view l.members.entries) l.keywords.items (flat_map (claims (taken_names (members_view l.members.entries)) (members_view l.members.entries)) done) done l.fn.place l.fn.meter l.meter;
   rest : done ++ listed (members_view l.name-iterator) ≡ listed (members_view l.members.entries);
   next : (goal.iterator-compile_members-loop-name g).can_next l.name-iterator;
   ends : (goal.iterator-compile_members-loop-name g).is_finite l.name-iterator;

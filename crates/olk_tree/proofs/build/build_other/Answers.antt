@@ -6,8 +6,7 @@ use Rattle.olk_spec.specs.Vocabulary.{unsupported_names, leaf_or_unread}
 use Rattle.olk_spec.specs.Malformed.{pending}
 use Rattle.olk_reports.proofs.Errors.{kind_of_unsupported}
 use Rattle.olk_tree.specs.Kit.{kit}
-use Rattle.olk_tree.specs.Building.{HoldsMember, RefusesMember, TellsOneOf}
-use Rattle.olk_tree.proofs.Spending.{exit}
+use Rattle.olk_tree.specs.Building.{HoldsMember, TellsOneOf}
 use Rattle.olk_tree.proofs.Held.{holds_unread, refuses_name, keyword_of_other, not_pending}
 use Rattle.olk_tree.proofs.build.build_other.Goals as goal
 

@@ -1,20 +1,16 @@
-use Rattle.std.specs.Prelude.{IfOk, IfErr}
-use Rattle.std.proofs.Common.{[], ◌∷◌, codes, refl, subst}
-use Rattle.serde_json.specs.View.{view}
+use Rattle.std.proofs.Common.{codes, option_map, refl}
+use Rattle.serde_json.specs.View.{view, members_view}
 use Rattle.olk_spec.specs.Names.{◌//◌}
 use Rattle.olk_spec.specs.Vocabulary.{properties}
 use Rattle.olk_spec.specs.Costs.{no_cost}
 use Rattle.olk_tree.specs.Kit.{kit}
-use Rattle.olk_tree.specs.Parts.{Builds}
 use Rattle.olk_tree.proofs.Spending.{within_nothing}
+use Rattle.olk_tree.proofs.Built.{builds_claims}
 use Rattle.olk_tree.proofs.Held.{refuses_memory_member}
-use Rattle.olk_tree.specs.Building.{HoldsMember, RefusesMember}
 use Rattle.olk_tree.proofs.properties.compile.Goals as goal
 
 pub returns-in-Ok-clause-gives : goal.returns-in-Ok-clause-gives
-returns-in-Ok-clause-gives g c =
-    subst (λ L. IfOk c.build_properties.result (λ x. HoldsMember (kit g.L.Leaf.Leaf.reads g.L.Leaf.Leaf.fits g.L.Leaf.Leaf.faults g.L.Leaf.Leaf.keyword_of g.L.Leaf.Leaf.finds g.M.Engine.RegexEngine.builds g.M.Engine.RegexEngine.says g.M.Engine.RegexEngine.answers g.M.Engine.RegexEngine.costs) (x ∷ []) (codes "properties") (view c.args.schema.now) properties L c.args.ctx.now.meter.now c.build_properties.new.meter) × IfErr c.build_properties.result (RefusesMember (kit g.L.Leaf.Leaf.reads g.L.Leaf.Leaf.fits g.L.Leaf.Leaf.faults g.L.Leaf.Leaf.keyword_of g.L.Leaf.Leaf.finds g.M.Engine.RegexEngine.builds g.M.Engine.RegexEngine.says g.M.Engine.RegexEngine.answers g.M.Engine.RegexEngine.costs) (codes "properties") (view c.args.schema.now) properties L c.args.ctx.now.meter.now c.build_properties.new.meter))
-    c.in-Ok.ensures (c.build_properties.ensures.built, c.build_properties.ensures.refused)
+returns-in-Ok-clause-gives g c = builds_claims (kit g.L.Leaf.Leaf.reads g.L.Leaf.Leaf.fits g.L.Leaf.Leaf.faults g.L.Leaf.Leaf.keyword_of g.L.Leaf.Leaf.finds g.M.Engine.RegexEngine.builds g.M.Engine.RegexEngine.says g.M.Engine.RegexEngine.answers g.M.Engine.RegexEngine.costs) (members_view c.args.parent.now.entries) (option_map (λ t. (t.0.now, t.1.now)) c.taken_names.result) c.taken_names.ensures (codes "properties") (view c.args.schema.now) properties c.args.ctx.now.place c.in-Ok.location c.args.ctx.now.meter.now c.build_properties.new.meter c.build_properties.result c.in-Ok.ensures c.build_properties.ensures.built c.build_properties.ensures.refused
 
 pub returns-in-Err-clause-gives : goal.returns-in-Err-clause-gives
 returns-in-Err-clause-gives g c = (tt, refuses_memory_member (kit g.L.Leaf.Leaf.reads g.L.Leaf.Leaf.fits g.L.Leaf.Leaf.faults g.L.Leaf.Leaf.keyword_of g.L.Leaf.Leaf.finds g.M.Engine.RegexEngine.builds g.M.Engine.RegexEngine.says g.M.Engine.RegexEngine.answers g.M.Engine.RegexEngine.costs) (codes "properties") (view c.args.schema.now) properties (c.args.ctx.now.place // codes "properties") c.args.ctx.now.meter.now c.args.ctx.now.meter.now _ c.in-Err.error refl (within_nothing c.args.ctx.now.meter.now no_cost))

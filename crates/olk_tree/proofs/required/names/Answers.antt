@@ -1,6 +1,6 @@
-use Rattle.std.proofs.Common.{◌≡◌, [], ◌∷◌, map, string_bytes, sym, ◌∙◌, subst}
+use Rattle.std.proofs.Common.{[], ◌∷◌, map, string_bytes, sym}
 use Rattle.serde_json.specs.View.{view}
-use Rattle.olk_spec.specs.Faults.{fault, SingleType, string_type}
+use Rattle.olk_spec.specs.Faults.{fault}
 use Rattle.olk_base.specs.declared.node.JsonType.TheVariants as json
 use Rattle.olk_reports.proofs.Errors.{kind_of_single_type}
 use Rattle.olk_tree.specs.Building.{TellsOneOf}

@@ -1,0 +1,35 @@
+-- Members by their names.
+use Rattle.std.proofs.Common.{◌≡◌, List, [], ◌∷◌, Option, Some, None, option_map, option_copied, Bor, is_some, cond, String, Global, Ordering, Less, Equal, Greater, string_bytes, refl, ap, ◌∙◌}
+use Rattle.std.specs.Ordering.{nat_cmp, is_eq}
+use Rattle.std.specs.Cmp.Lexicographic.{slice_cmp}
+use Rattle.std.specs.BTreeMap.{is_at}
+use Rattle.std.specs.Map.{lookup as first_where}
+use Rattle.serde_json.specs.Data.{Data, object}
+use Rattle.serde_json.specs.View.{view, members_view}
+use Rattle.serde_json.specs.declared.value.Value.{Value}
+use Rattle.olk_spec.specs.Names.{Name, lookup, first_if_equal}
+use Rattle.olk_spec.specs.Schemas.{listed, has}
+
+found_or : (o : Ordering) (v : Value) (rest : Option Value) (d : Option Data) → option_map view rest ≡ d → option_map view (cond (is_eq o) (Some v) rest) ≡ first_if_equal o (view v) d
+found_or Less v rest d e = e
+found_or Equal v rest d e = refl
+found_or Greater v rest d e = e
+
+-- the first entry at a name is the member at it
+pub view_lookup : (name : Name) (es : List (String Global × Value)) → option_map view (first_where (is_at (λ k. slice_cmp nat_cmp name (string_bytes k))) es) ≡ lookup name (listed (members_view es))
+view_lookup name [] = refl
+view_lookup name (e ∷ es) = found_or (slice_cmp nat_cmp name (string_bytes e.0)) e.1 _ _ (view_lookup name es)
+
+is_some-view : (o : Option Value) (d : Option Data) → option_map view o ≡ d → is_some o ≡ is_some d
+is_some-view None d e = ap is_some e
+is_some-view (Some v) d e = ap is_some e
+
+pub has_lookup : (name : Name) (es : List (String Global × Value)) → is_some (first_where (is_at (λ k. slice_cmp nat_cmp name (string_bytes k))) es) ≡ has name (object (members_view es))
+has_lookup name es = is_some-view _ _ (view_lookup name es)
+
+copied : (o : Option (Bor Value)) → option_map (λ v. view v.now) o ≡ option_map view (option_copied o)
+copied None = refl
+copied (Some v) = refl
+
+pub member_lookup : (o : Option (Bor Value)) (name : Name) (es : List (String Global × Value)) → option_copied o ≡ first_where (is_at (λ k. slice_cmp nat_cmp name (string_bytes k))) es → option_map (λ v. view v.now) o ≡ lookup name (listed (members_view es))
+member_lookup o name es e = copied o ∙ ap (option_map view) e ∙ view_lookup name es
