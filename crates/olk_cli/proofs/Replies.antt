@@ -19,19 +19,18 @@ use Rattle.olk_reports.specs.Errors.{fault_of}
 use Rattle.olk_reports.specs.declared.error.ValidationError.{ValidationError}
 use Rattle.olk_reports.specs.declared.error.ValidateError.{ValidateError}
 use Rattle.olk_reports.specs.declared.error.ValidateError.TheVariants.{Invalid, Memory}
-use Rattle.olk_cli.specs.Found.{Appends, IfInvalid, IsOfReport}
+use Rattle.olk_errors.specs.Found.{Appends, IfInvalid, IsOfReport, IsRefusal}
 use Rattle.olk_cli.specs.Requests.{Asked, has_fraction}
 use Rattle.olk_cli.specs.Texts.{json_text}
-use Rattle.olk_cli.specs.Told.{told, verdict, errors_data, TellsFound, TellsSorted, PrintNoFraction}
-use Rattle.olk_cli.specs.Answers.{fault_refusal, TellsFirst, TellsErrors, TellsEvaluation, IsReplyWhere, IsReply}
+use Rattle.olk_cli.specs.Told.{told, errors_data, TellsFound, TellsSorted, PrintNoFraction}
+use Rattle.olk_cli.specs.Answers.{fault_refusal, TellsFirst, TellsErrors, TellsEvaluation, IsReplyBy, IsReplyWhere, IsReply}
 use Rattle.olk_cli.proofs.Fractions.{IsPlain, PrintsNone, malformation_prints_no_fraction, neither, by_recursion}
 use Rattle.olk_cli.proofs.Plain.{same_faults_print_none, cut_fault_prints_none, tree_prints_none, errors_promised}
 
 -- where the schema is not malformed
-pub reply_is_verdict : (r : Asked) (valid : Bool) (answer : Text) → malformations bench r.schema ≡ [] → valid ≡ accepts bench r.unfinished r.schema r.instance
-    → answer ≡ json_text (verdict valid) → IsReply r answer
+pub reply_is_by : (r : Asked) (answer : Text) → malformations bench r.schema ≡ [] → IsReplyBy r.ask r answer → IsReply r answer
 unfolding IsReply
-reply_is_verdict r valid answer clean is h = subst (λ fs. IsReplyWhere fs r answer) (sym clean) (h ∙ ap (λ b. json_text (verdict b)) is)
+reply_is_by r answer clean h = subst (λ fs. IsReplyWhere fs r answer) (sym clean) h
 
 -- where it is
 refused_where : (fs : List Fault) (r : Asked) (f : Fault) (answer : Text) → Contains fs f → answer ≡ json_text (fault_refusal f) → IsReplyWhere fs r answer
@@ -59,14 +58,14 @@ module _ (r : Asked) (plain : has_fraction r ≡ false) where
     -- what `validate` gives is the first error
     pub found_is_first : (found : Result (Unit {0}) ValidateError) (answer : Text) → u ≡ r.unfinished
         → OnOk found (accepts bench u r.schema r.instance ≡ true)
-        → IfErr found (λ e. IfInvalid e (λ f. (accepts bench u r.schema r.instance ≡ false) × IsOfReport bench u r.schema r.instance [] [] f))
+        → IfErr found (λ e. IfInvalid e (IsRefusal bench u r.schema r.instance [] []))
         → TellsFound found answer → TellsFirst (accepts bench r.unfinished r.schema r.instance) r answer
     found_is_first (Ok done) answer is ok invalid tells = subst (λ b. TellsFirst b r answer) (sym ok ∙ ap (λ u. accepts bench u r.schema r.instance) is) tells
     found_is_first (Err (Memory m)) answer is ok invalid tells = absurd tells
     found_is_first (Err (Invalid e)) answer is ok invalid tells =
-        let o = subst (λ u. IsOfReport bench u r.schema r.instance [] [] (fault_of e)) is invalid.1 in
+        let o = subst (λ u. IsOfReport bench u r.schema r.instance [] [] (fault_of e)) is invalid.of_report in
         let none = cut_fault_prints_none bench r.unfinished r.schema r.instance schema_plain instance_plain [] [] o.list o.report o.whole o.among in
-        subst (λ b. TellsFirst b r answer) (sym invalid.0 ∙ ap (λ u. accepts bench u r.schema r.instance) is) (fault_of e, o, tells (subst PrintsNone (sym o.told) none))
+        subst (λ b. TellsFirst b r answer) (sym invalid.verdict ∙ ap (λ u. accepts bench u r.schema r.instance) is) (fault_of e, o, tells (subst PrintsNone (sym o.told) none))
 
     -- what `collect_errors` appends to no error are the errors
     pub added_are_errors : (old errors : List ValidationError) (answer : Text) → u ≡ r.unfinished → old ≡ []

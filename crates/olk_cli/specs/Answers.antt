@@ -11,9 +11,11 @@ use Rattle.olk_spec.specs.Tree.{Tree, errors}
 use Rattle.std.specs.List.{All}
 use Rattle.olk_cli.specs.Evaluated.{tree_data, IsPromised}
 use Rattle.olk_spec.specs.Bench.{bench}
-use Rattle.olk_cli.specs.Found.{IsOfReport}
+use Rattle.olk_errors.specs.Found.{IsOfReport}
 use Rattle.olk_cli.specs.Told.{verdict, told, first_data, TellsSorted}
 use Rattle.olk_cli.specs.Texts.{json_text}
+use Rattle.olk_cli.specs.declared.request.Ask.{Ask}
+use Rattle.olk_cli.specs.declared.request.Ask.TheVariants.{Valid, First, Errors}
 use Rattle.olk_cli.specs.Requests.{Asked, Understood, not_json, not_a_request, not_whole, asks, understood}
 
 -- a refusal that has no place in a schema
@@ -43,9 +45,15 @@ pub record TellsEvaluation (r : Asked) (answer : Text) : Type 0 where
   pub promised : All IsPromised (errors (meant.tree bench r.unfinished r.schema r.instance [] []))
   pub is : answer ≡ json_text (tree_data tree)
 
--- a malformed schema is refused by one of its malformations, and the verdict is given on an instance of another
+-- the answer by what is asked
+abbrev pub IsReplyBy : Ask → Asked → Text → Type 0
+IsReplyBy Valid r answer = answer ≡ json_text (verdict (accepts bench r.unfinished r.schema r.instance))
+IsReplyBy First r answer = TellsFirst (accepts bench r.unfinished r.schema r.instance) r answer
+IsReplyBy Errors r answer = TellsErrors r answer
+
+-- a malformed schema is refused by one of its malformations, and what is asked of another is answered
 abbrev pub IsReplyWhere : List Fault → Asked → Text → Type 0
-IsReplyWhere [] r answer = answer ≡ json_text (verdict (accepts bench r.unfinished r.schema r.instance))
+IsReplyWhere [] r answer = IsReplyBy r.ask r answer
 IsReplyWhere (f ∷ fs) r answer = (g : Fault) × Contains (f ∷ fs) g × (answer ≡ json_text (fault_refusal g))
 
 unfoldable pub IsReply : Asked → Text → Type 0

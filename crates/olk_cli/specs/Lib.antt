@@ -1,6 +1,5 @@
 pub mod Answers
 pub mod Evaluated
-pub mod Found
 pub mod Lines
 pub mod Requests
 pub mod Seen
