@@ -2,6 +2,8 @@
 #![tactic(auto)]
 
 mod answer;
+mod errors;
+mod evaluated;
 mod program;
 mod reading;
 mod request;

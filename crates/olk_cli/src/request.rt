@@ -13,6 +13,10 @@ use serde_json::{Map, Value};
 pub enum Ask {
     /// Whether the schema accepts the instance.
     Valid,
+    /// One error of the instance.
+    First,
+    /// Every error of the instance.
+    Errors,
 }
 
 /// What a line asks.
@@ -30,6 +34,8 @@ fn read_ask(word: &str) -> Option<Ask>
 {
     match word {
         "valid" => Some(Ask::Valid),
+        "first" => Some(Ask::First),
+        "errors" => Some(Ask::Errors),
         _ => None,
     }
 }
