@@ -4,6 +4,8 @@
 mod answer;
 mod errors;
 mod evaluated;
+#[cfg(test)]
+mod found;
 mod program;
 mod reading;
 mod request;
