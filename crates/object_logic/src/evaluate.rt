@@ -60,13 +60,13 @@ pub trait EvaluateNode<'a>: Evaluate<'a> {
         ensures { Asks ctx.old ctx.new (Self.means self.now (tree_of node.entry)) result };
 }
 
-pub mod all_of;
-pub mod any_of;
-pub mod node;
-pub mod not;
+mod all_of;
+mod any_of;
+mod node;
+mod not;
 mod own;
-pub mod properties;
-pub mod required;
+mod properties;
+mod required;
 mod walk;
 
 pub(crate) use walk::child;

@@ -2,6 +2,8 @@
 #![tactic(auto)]
 
 mod evaluate;
+#[cfg(test)]
+mod tests;
 mod validator;
 mod whole;
 
