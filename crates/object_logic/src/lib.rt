@@ -4,6 +4,7 @@
 mod evaluate;
 #[cfg(test)]
 mod tests;
+mod validate;
 mod validator;
 mod whole;
 
@@ -26,5 +27,6 @@ pub use olk_tree::{
     SmallPropertiesWithRequired2Validator, SmallValidatorsMap, SortedNames, all_of, any_of,
     compile, not, properties, required,
 };
+pub use validate::Validate;
 pub use validator::Validator;
 pub use whole::holds_whole_numbers;
