@@ -5,7 +5,7 @@ use Rattle.std.specs.List.{Contains, AllByRecursion}
 use Rattle.std.proofs.lemmas.List.Elements.{All-from_recursion}
 use Rattle.std.proofs.lemmas.List.Sorted.{IsPermutation-trans}
 use Rattle.olk_spec.specs.Names.{Text, Path, is_empty}
-use Rattle.olk_spec.specs.Tree.{Tree, Described}
+use Rattle.olk_spec.specs.Tree.{Tree, Described, is_valid}
 use Rattle.olk_spec.proofs.Each.{Each}
 use Rattle.olk_cli.specs.Evaluated.{tree_data, IsPromised}
 use Rattle.olk_spec.specs.Faults.{Fault, fault, IsLike, like, ◌∼◌}
@@ -90,10 +90,11 @@ module _ (r : Asked) (plain : has_fraction r ≡ false) where
         like_told (fault k v Q P) (fault l w R O) (like h) = ap (λ m. record { instance_path = Q; schema_path = P; message = m }) (like_text (fault k v Q P) (fault l v Q P) (like h))
 
     -- what `evaluate` gives is the evaluation
-    pub shown_is_evaluation : (t : Tree) (answer : Text) → u ≡ r.unfinished → IsTree bench u r.schema r.instance [] [] t → answer ≡ json_text (tree_data t) → TellsEvaluation r answer
-    shown_is_evaluation t answer is shows tells = record {
+    pub shown_is_evaluation : (t : Tree) (answer : Text) → u ≡ r.unfinished → IsTree bench u r.schema r.instance [] [] t → is_valid t ≡ accepts bench u r.schema r.instance → answer ≡ json_text (tree_data t) → TellsEvaluation r answer
+    shown_is_evaluation t answer is shows valid tells = record {
       tree = t;
       is_tree = subst (λ u. IsTree bench u r.schema r.instance [] [] t) is shows;
+      verdict = valid ∙ ap (λ u. accepts bench u r.schema r.instance) is;
       promised = All-from_recursion IsPromised _ (promised_by_recursion _ (errors_promised _ (tree_prints_none bench r.unfinished r.schema r.instance schema_plain instance_plain [] [])));
       is = tells;
     }

@@ -7,7 +7,7 @@ use Rattle.olk_spec.specs.Texts.{text}
 use Rattle.olk_spec.specs.Malformed.{malformations}
 use Rattle.olk_spec.specs.Meaning.{accepts, report, IsTree}
 use Rattle.olk_spec.specs.Meaning as meant
-use Rattle.olk_spec.specs.Tree.{Tree, errors}
+use Rattle.olk_spec.specs.Tree.{Tree, errors, is_valid}
 use Rattle.std.specs.List.{All}
 use Rattle.olk_cli.specs.Evaluated.{tree_data, IsPromised}
 use Rattle.olk_spec.specs.Bench.{bench}
@@ -15,7 +15,7 @@ use Rattle.olk_errors.specs.Found.{IsOfReport}
 use Rattle.olk_cli.specs.Told.{verdict, told, first_data, TellsSorted}
 use Rattle.olk_cli.specs.Texts.{json_text}
 use Rattle.olk_cli.specs.declared.request.Ask.{Ask}
-use Rattle.olk_cli.specs.declared.request.Ask.TheVariants.{Valid, First, Errors}
+use Rattle.olk_cli.specs.declared.request.Ask.TheVariants.{Valid, First, Errors, Evaluate}
 use Rattle.olk_cli.specs.Requests.{Asked, Understood, not_json, not_a_request, not_whole, asks, understood}
 
 -- a refusal that has no place in a schema
@@ -38,10 +38,11 @@ TellsFirst false r answer = (f : Fault) × IsOfReport bench r.unfinished r.schem
 abbrev pub TellsErrors : Asked → Text → Type 0
 TellsErrors r answer = TellsSorted (accepts bench r.unfinished r.schema r.instance) (map told (report bench r.unfinished r.schema r.instance [] [])) answer
 
--- what a tree of the schema over the instance shows; the text of each error in it is promised
+-- what a tree of the schema over the instance shows; it is valid where the schema accepts, and the text of each error in it is promised
 pub record TellsEvaluation (r : Asked) (answer : Text) : Type 0 where
   pub tree : Tree
   pub is_tree : IsTree bench r.unfinished r.schema r.instance [] [] tree
+  pub verdict : is_valid tree ≡ accepts bench r.unfinished r.schema r.instance
   pub promised : All IsPromised (errors (meant.tree bench r.unfinished r.schema r.instance [] []))
   pub is : answer ≡ json_text (tree_data tree)
 
@@ -50,6 +51,7 @@ abbrev pub IsReplyBy : Ask → Asked → Text → Type 0
 IsReplyBy Valid r answer = answer ≡ json_text (verdict (accepts bench r.unfinished r.schema r.instance))
 IsReplyBy First r answer = TellsFirst (accepts bench r.unfinished r.schema r.instance) r answer
 IsReplyBy Errors r answer = TellsErrors r answer
+IsReplyBy Evaluate r answer = TellsEvaluation r answer
 
 -- a malformed schema is refused by one of its malformations, and what is asked of another is answered
 abbrev pub IsReplyWhere : List Fault → Asked → Text → Type 0

@@ -6,7 +6,7 @@ use Rattle.serde_json.specs.Find.{get_member, as_str, as_bool}
 use Rattle.serde_json.specs.Read.{read}
 use Rattle.serde_json.specs.Written.{has_float}
 use Rattle.olk_cli.specs.declared.request.Ask.{Ask}
-use Rattle.olk_cli.specs.declared.request.Ask.TheVariants.{Valid, First, Errors}
+use Rattle.olk_cli.specs.declared.request.Ask.TheVariants.{Valid, First, Errors, Evaluate}
 
 -- a request, without where it lies in memory
 pub record Asked : Type 0 where
@@ -20,6 +20,7 @@ ask_of word =
     if bytes_eq word (codes "valid") then Some Valid
     else if bytes_eq word (codes "first") then Some First
     else if bytes_eq word (codes "errors") then Some Errors
+    else if bytes_eq word (codes "evaluate") then Some Evaluate
     else None
 
 abbrev pub is_request_name : List ℕ → Bool

@@ -9,6 +9,7 @@ ghost use Rattle.olk_cli.specs.Seen.{seen};
 ghost use Rattle.olk_cli.specs.Texts.{json_text};
 
 use crate::errors::{errors_text, first_text};
+use crate::evaluated::evaluation_text;
 use crate::request::{Ask, Request, read_request};
 use crate::texts::{refusal_text, schema_refusal_text, verdict_text};
 use object_logic::{BuildError, Meter, ValidationContext, ValidationError, Validator};
@@ -75,6 +76,10 @@ fn reply(alloc: Global, request: &Request<'_>) -> Result<Vec<u8>, AllocError>
                     let mut errors = Vec::new(alloc);
                     validator.collect_errors(alloc, request.instance, &mut ctx, &mut errors)?;
                     errors_text(alloc, &errors)
+                }
+                Ask::Evaluate => {
+                    let evaluation = validator.evaluate(alloc, request.instance, &mut ctx)?;
+                    evaluation_text(alloc, &evaluation)
                 }
             }
         }

@@ -17,6 +17,8 @@ pub enum Ask {
     First,
     /// Every error of the instance.
     Errors,
+    /// What the schema shows of the instance.
+    Evaluate,
 }
 
 /// What a line asks.
@@ -36,6 +38,7 @@ fn read_ask(word: &str) -> Option<Ask>
         "valid" => Some(Ask::Valid),
         "first" => Some(Ask::First),
         "errors" => Some(Ask::Errors),
+        "evaluate" => Some(Ask::Evaluate),
         _ => None,
     }
 }

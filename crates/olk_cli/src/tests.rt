@@ -167,6 +167,46 @@ fn errors_are_sorted(rt: HostRuntime) -> Result<(), Fail> {
 }
 
 #[test]
+fn evaluations(rt: HostRuntime) -> Result<(), Fail> {
+    let alloc = rt.alloc();
+    let two =
+        r#"{"properties":{"a":{"type":"integer"},"b":{"type":"string"}},"required":["a","b"]}"#;
+    for (schema, instance, answer) in [
+        (
+            two,
+            r#"{"a":1,"b":"x"}"#,
+            r#"{"annotations":[{"instancePath":"","names":["a","b"],"schemaPath":"/properties"}],"errors":[],"valid":true}"#,
+        ),
+        (
+            two,
+            "{}",
+            r#"{"annotations":[],"errors":[{"instancePath":"","keyword":"required","message":"\"a\" is a required property","schemaPath":"/required"},{"instancePath":"","keyword":"required","message":"\"b\" is a required property","schemaPath":"/required"}],"valid":false}"#,
+        ),
+        (
+            r#"{"anyOf":[]}"#,
+            "1",
+            r#"{"annotations":[],"errors":[],"valid":false}"#,
+        ),
+        (
+            r#"{"properties":{"a":false}}"#,
+            r#"{"a":1}"#,
+            r#"{"annotations":[],"errors":[{"instancePath":"/a","keyword":"falseSchema","message":"False schema does not allow 1","schemaPath":"/properties/a"}],"valid":false}"#,
+        ),
+        (
+            r#"{"allOf":[5]}"#,
+            "1",
+            r#"{"refused":"5 is not of types \"boolean\", \"object\"","schemaPath":"/allOf/0"}"#,
+        ),
+    ] {
+        let request = format!(in alloc;
+            "{{\"ask\":\"evaluate\",\"schema\":{schema},\"instance\":{instance}}}\n"
+        )?;
+        expect_answer(&rt, alloc, request.as_str(), answer)?;
+    }
+    Ok(())
+}
+
+#[test]
 fn refused_schemas(rt: HostRuntime) -> Result<(), Fail> {
     let alloc = rt.alloc();
     for (schema, message, place) in [
@@ -225,6 +265,10 @@ fn refused_lines(rt: HostRuntime) -> Result<(), Fail> {
         (r#"{"ask":"valid","schema":{},"instance":1.5}"#, no_whole),
         (r#"{"ask":"first","schema":{},"instance":1.5}"#, no_whole),
         (r#"{"ask":"errors","schema":1.5,"instance":1}"#, no_whole),
+        (
+            r#"{"ask":"evaluate","schema":true,"instance":[0.5]}"#,
+            no_whole,
+        ),
         (
             r#"{"ask":"valid","schema":true,"instance":18446744073709551616}"#,
             no_whole,

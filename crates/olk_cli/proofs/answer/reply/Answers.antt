@@ -8,7 +8,7 @@ use Rattle.olk_cli.specs.Answers.{IsReplyBy}
 use Rattle.olk_cli.specs.Told.{verdict}
 use Rattle.olk_cli.specs.Texts.{json_text}
 use Rattle.olk_cli.specs.Seen.{seen}
-use Rattle.olk_cli.proofs.Replies.{reply_is_by, reply_is_refusal, found_is_first, added_are_errors}
+use Rattle.olk_cli.proofs.Replies.{reply_is_by, reply_is_refusal, found_is_first, added_are_errors, shown_is_evaluation}
 use Rattle.olk_cli.proofs.answer.reply.Goals as goal
 
 pub returns-in-Valid : goal.returns-in-Valid
@@ -29,8 +29,8 @@ returns-in-First c =
     IfOk-weaker c.first_text.result _ _ (λ answer is. reply_is_by r answer.items c.in-Ok.ensures.clean
     (subst (λ ask. IsReplyBy ask r answer.items) (sym c.in-First.is) (found_is_first r c.requires _ found answer.items same ok invalid is))) c.first_text.ensures
 
-pub returns-in-Ok : goal.returns-in-Ok
-returns-in-Ok c =
+pub returns-in-Errors : goal.returns-in-Errors
+returns-in-Errors c =
     let r = seen c.args.request.now in
     let same = ap (λ (a : Asking). a.answer) c.new-ctx.ensures in
     let added = c.in_ok-collect_errors-in-Errors.ensures.report r.schema c.in-Ok.ensures.stands in
@@ -42,3 +42,12 @@ pub returns-in-Err-Refused : goal.returns-in-Err-Refused
 returns-in-Err-Refused c =
     let told = rw c.in-Err-Refused.field-0-is at c.in-Err-Refused.ensures.refused in
     IfOk-weaker c.malformation_text.result _ _ (λ answer is. reply_is_refusal (seen c.args.request.now) (fault_of c.in-Err-Refused.error) answer.items c.requires told is) c.malformation_text.ensures
+
+pub returns-in-Ok : goal.returns-in-Ok
+returns-in-Ok c =
+    let r = seen c.args.request.now in
+    let same = ap (λ (a : Asking). a.answer) c.new-ctx.ensures in
+    let shows = c.in_ok-evaluation-in-Evaluate.ensures.tree r.schema c.in-Ok.ensures.stands in
+    let valid = c.in_ok-evaluation-in-Evaluate.ensures.verdict r.schema c.in-Ok.ensures.stands in
+    IfOk-weaker c.evaluation_text.result _ _ (λ answer is. reply_is_by r answer.items c.in-Ok.ensures.clean
+    (subst (λ ask. IsReplyBy ask r answer.items) (sym c.in-Evaluate.is) (shown_is_evaluation r c.requires _ _ answer.items same shows valid is))) c.evaluation_text.ensures
