@@ -261,6 +261,44 @@ fn errors_before_are_kept(rt: HostRuntime) -> Result<(), Fail> {
     Ok(())
 }
 
+// The schema paths of the nodes below the root, each with those of its children in parentheses.
+#[test]
+fn children_of_an_evaluation(rt: HostRuntime) -> Result<(), Fail> {
+    let alloc = rt.alloc();
+    let two =
+        r#"{"properties":{"a":{"type":"integer"},"b":{"type":"string"}},"required":["a","b"]}"#;
+    let schema = Value::from_str(alloc, two)?;
+    let instance = Value::from_str(alloc, r#"{"a":1,"b":"x"}"#)?;
+    let mut meter = Meter::new();
+    let Ok(validator) = Validator::build(alloc, &BenchLeaves, &BenchRegexes, &schema, &mut meter)
+    else {
+        return Err(Fail::new("refused"));
+    };
+    let mut ctx = ValidationContext::new(false);
+    let evaluation = validator.evaluate(alloc, &instance, &mut ctx)?;
+    let mut text = String::new(alloc);
+    for keyword in evaluation.root().children() {
+        text.push_str(keyword.schema_path())?;
+        for member in keyword.children() {
+            text.push_str(" (")?;
+            text.push_str(member.schema_path())?;
+            for leaf in member.children() {
+                text.push_str(" (")?;
+                text.push_str(leaf.schema_path())?;
+                text.push_str("@")?;
+                text.push_str(leaf.instance_path())?;
+                text.push_str(")")?;
+            }
+            text.push_str(")")?;
+        }
+    }
+    assert_eq!(rt;
+        text.as_str(),
+        "/properties (/properties/a (/properties/a/type@/a)) (/properties/b (/properties/b/type@/b))"
+    );
+    Ok(())
+}
+
 const MANY_FAULTS: &str = concat!(
     r#"{"allOf":[{"required":["a","b"]},{"properties":{"c":{"type":"string"}}}],"#,
     r#""anyOf":[{"required":["a"]},{"properties":{"c":false}}],"not":{"required":["c"]},"#,
@@ -315,5 +353,15 @@ fn full_answers_after_a_refused_growth(rt: HostRuntime) -> Result<(), Fail> {
             assert_eq!(rt; message.as_str(), r#""a" is a required property"#);
         }
     }
+    let evaluation = match validator.evaluate(alloc, &instance, &mut ctx) {
+        Err(_) => validator.evaluate(alloc, &instance, &mut ctx)?,
+        Ok(evaluation) => evaluation,
+    };
+    assert!(rt; !evaluation.flag().valid);
+    let entries = match evaluation.iter_errors(alloc) {
+        Err(_) => evaluation.iter_errors(alloc)?,
+        Ok(entries) => entries,
+    };
+    assert_eq!(rt; entries.len(), 9);
     Ok(())
 }
