@@ -1,7 +1,7 @@
 //! `properties`.
 ghost use Rattle.std.specs.Prelude.{◌≡◌, ◌++◌, ◌∷◌, [], IfOk, OnOk, option_to_list};
 ghost use Rattle.serde_json.specs.View.{view, members_view};
-ghost use Rattle.olk_spec.specs.Names.{◌//◌};
+ghost use Rattle.olk_reports.specs.Paths.{one_below};
 ghost use Rattle.olk_spec.specs.Schemas.{listed};
 ghost use Rattle.olk_tree.specs.Answers.{named};
 ghost use Rattle.object_logic.specs.Members.{Meets, HasMet, met_at, met_member, met_members, met_declaration, met_declared};
@@ -159,7 +159,7 @@ fn below<'a, N: Evaluate<'a>>(
     path: &mut InstancePath,
     ctx: &mut ValidationContext,
 ) -> Result<EvaluationNode<'a>, AllocError>
-    ensures shown { IfOk result (λ c. IsShown (wanted N.shows N.means ctx.old.answer schema.now (view value.now) (path.old // name.now)) (shown_tree c)) }
+    ensures shown { IfOk result (λ c. IsShown (wanted N.shows N.means ctx.old.answer schema.now (view value.now) (one_below path.old name.now)) (shown_tree c)) }
     ensures path { path.new ≡ path.old }
     ensures answer { ctx.new.answer ≡ ctx.old.answer }
 {
