@@ -4,6 +4,7 @@
 mod evaluate;
 #[cfg(test)]
 mod tests;
+mod validate;
 mod validator;
 mod whole;
 
@@ -14,6 +15,7 @@ pub use olk_base::{
     analyze_pattern, contains_ecma_whitespace,
 };
 pub use olk_check::IsValid;
+pub use olk_errors::Errors;
 pub use olk_reports::{
     AnnotationEntry, BuildError, ErrorDescription, ErrorEntry, Evaluation, EvaluationFlag,
     EvaluationNode, EvaluationResult, InstancePath, Location, Mark, ValidateError, ValidationError,
@@ -25,5 +27,6 @@ pub use olk_tree::{
     SmallPropertiesWithRequired2Validator, SmallValidatorsMap, SortedNames, all_of, any_of,
     compile, not, properties, required,
 };
+pub use validate::Validate;
 pub use validator::Validator;
 pub use whole::holds_whole_numbers;

@@ -1,8 +1,8 @@
 //! A schema that is ready to be asked.
-ghost use Rattle.std.specs.Prelude.{◌≡◌, ◌≤◌, ◌<◌, ◌-◌, ◌^◌, [], true, false, IfOk, IfErr, OnOk, OnErr};
+ghost use Rattle.std.specs.Prelude.{◌≡◌, ◌≤◌, ◌<◌, ◌-◌, ◌^◌, [], true, false, nat_eq, length, IfOk, IfErr, OnOk, OnErr};
 ghost use Rattle.serde_json.specs.Data.{Data};
 ghost use Rattle.serde_json.specs.View.{view};
-ghost use Rattle.olk_spec.specs.Meaning.{accepts, asks, IsTree};
+ghost use Rattle.olk_spec.specs.Meaning.{accepts, report, asks, IsTree};
 ghost use Rattle.olk_spec.specs.Tree.{is_valid as valid_tree};
 ghost use Rattle.olk_reports.specs.Entries.{evaluated};
 ghost use Rattle.olk_spec.specs.Malformed.{malformations};
@@ -10,12 +10,14 @@ ghost use Rattle.olk_spec.specs.Costs.{cost};
 ghost use Rattle.olk_base.specs.Count.{raised};
 ghost use Rattle.olk_tree.specs.Kit.{kit};
 ghost use Rattle.olk_tree.specs.Building.{TellsOneOf, Spends, SpendsWithin};
+ghost use Rattle.olk_errors.specs.Found.{Appends, IfInvalid, IsRefusal};
 ghost use Rattle.object_logic.specs.Validators.{IsValidatorOf};
 
 use crate::evaluate::child;
 use olk_base::{Leaf, MakeLeaf, MakeRegex, Meter, Node, RegexEngine, ValidationContext};
 use olk_check::node::is_valid_for;
-use olk_reports::{BuildError, Evaluation, InstancePath};
+use olk_errors::node::{collect_errors_for, validate_for};
+use olk_reports::{BuildError, Evaluation, InstancePath, ValidateError, ValidationError};
 use olk_tree::{Context, SchemaNode, compile};
 use serde_json::Value;
 use std::alloc::{AllocError, Global};
@@ -82,6 +84,50 @@ impl<K: Leaf, R: RegexEngine> Validator<K, R> {
             ≡ accepts (kit K.reads K.fits K.faults K.keyword_of K.finds R.builds R.says R.answers R.costs).world false S (view instance.now) }
     {
         is_valid_for(&self.root, Node::Value(instance), ctx)
+    }
+
+    /// The first error of the walk over the instance; none where the schema accepts it (JSON Schema 2020-12 Core, 4.3.2
+    /// and 10), with the context's answer for matches that are left unfinished.
+    ///
+    /// The error is one of a report of the schema over the instance; where members that nothing allows are told, the
+    /// first of them alone. Otherwise the only error is want of memory. The context keeps its answer.
+    pub fn validate<'a>(
+        &'a self,
+        alloc: Global,
+        instance: &'a Value,
+        ctx: &mut ValidationContext,
+    ) -> Result<(), ValidateError<'a>>
+        ensures answer { ctx.new.answer ≡ ctx.old.answer }
+        ensures ok { (S : Data) → IsValidatorOf (kit K.reads K.fits K.faults K.keyword_of K.finds R.builds R.says R.answers R.costs) self.now S
+            → OnOk result (accepts (kit K.reads K.fits K.faults K.keyword_of K.finds R.builds R.says R.answers R.costs).world ctx.old.answer S (view instance.now) ≡ true) }
+        ensures invalid { (S : Data) → IsValidatorOf (kit K.reads K.fits K.faults K.keyword_of K.finds R.builds R.says R.answers R.costs) self.now S
+            → IfErr result (λ e. IfInvalid e (IsRefusal (kit K.reads K.fits K.faults K.keyword_of K.finds R.builds R.says R.answers R.costs).world ctx.old.answer S (view instance.now) [] [])) }
+    {
+        let mut path = InstancePath::new(alloc);
+        validate_for(&self.root, alloc, Node::Value(instance), &mut path, ctx)
+    }
+
+    /// Appends all errors of the instance: a report of the schema over it (JSON Schema 2020-12 Core, 4.3.2 and 10), with
+    /// the context's answer for matches that are left unfinished. None is appended exactly where the schema accepts the
+    /// instance.
+    ///
+    /// The only error is want of memory, and then the list is as before. The context keeps its answer.
+    pub fn collect_errors<'a>(
+        &'a self,
+        alloc: Global,
+        instance: &'a Value,
+        ctx: &mut ValidationContext,
+        errors: &mut Vec<ValidationError<'a>>,
+    ) -> Result<(), AllocError>
+        ensures answer { ctx.new.answer ≡ ctx.old.answer }
+        ensures report { (S : Data) → IsValidatorOf (kit K.reads K.fits K.faults K.keyword_of K.finds R.builds R.says R.answers R.costs) self.now S
+            → OnOk result (Appends errors.old.items errors.new.items (report (kit K.reads K.fits K.faults K.keyword_of K.finds R.builds R.says R.answers R.costs).world ctx.old.answer S (view instance.now) [] [])) }
+        ensures verdict { (S : Data) → IsValidatorOf (kit K.reads K.fits K.faults K.keyword_of K.finds R.builds R.says R.answers R.costs) self.now S
+            → OnOk result (nat_eq (length errors.new.items) (length errors.old.items) ≡ accepts (kit K.reads K.fits K.faults K.keyword_of K.finds R.builds R.says R.answers R.costs).world ctx.old.answer S (view instance.now)) }
+        ensures memory { OnErr result (errors.new.items ≡ errors.old.items) }
+    {
+        let mut path = InstancePath::new(alloc);
+        collect_errors_for(&self.root, alloc, Node::Value(instance), &mut path, ctx, errors)
     }
 
     /// What the schema shows of the instance: a tree of results, with their annotations and errors (JSON Schema 2020-12

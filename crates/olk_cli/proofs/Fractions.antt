@@ -1,26 +1,26 @@
 -- A malformation of a schema that has no fraction prints none.
 use Rattle.std.proofs.Common.{◌≡◌, true≢false, Bool, true, false, not, ◌||◌, List, [], ◌∷◌, ◌++◌, map, refl, codes}
-use Rattle.std.specs.List.{flat_map, AllByRecursion, All, Contains}
+use Rattle.std.specs.List.{AllByRecursion, Contains}
 use Rattle.std.proofs.lemmas.List.Elements.{All-from_recursion, All-contains}
 use Rattle.serde_json.specs.Data.{Data, null, boolean, number, string, array, object, Items, no_items, item, Members, no_members, member}
 use Rattle.serde_json.specs.Written.{has_float, items_have_float, members_have_float}
 use Rattle.olk_spec.specs.Names.{Name, Path, ◌//◌, down, is_among, those, put_if}
 use Rattle.olk_spec.specs.World.{World}
 use Rattle.olk_spec.specs.Vocabulary.{Keyword, properties, pattern_properties, additional_properties, property_names, required, dependent_required, dependent_schemas, dependencies, property_dependencies, all_of, any_of, one_of, not_keyword, if_keyword, then_keyword, else_keyword, unsupported, leaf, unread, keyword_named}
-use Rattle.olk_spec.specs.Schemas.{Sub, Part, Keywords, is_object, is_array, is_present, texts, branches, read_members}
+use Rattle.olk_spec.specs.Schemas.{Sub, Part, Keywords, is_object, is_array, is_present, texts, read_members}
 use Rattle.olk_spec.specs.Meanings.{is_conditional}
 use Rattle.olk_spec.specs.Asks.{open_patterns}
-use Rattle.olk_spec.specs.Faults.{Fault, Kind, SingleType, MultipleTypes, UniqueItems, Regex, Unsupported, LeafRefused, string_type}
-use Rattle.olk_spec.specs.Malformed.{each, places_where, read_places, refusal, first_of_list, items_list, items_of_array, is_text, not_a_text, has_repeat, or_else_list, unless_kind, unless_object, unless_array, name_list_refusals, own_refusals, keyword_malformations, malformations_step, malformations_beside, malformations, pending}
+use Rattle.olk_spec.specs.Faults.{Fault, SingleType, UniqueItems, Regex, Unsupported, string_type}
+use Rattle.olk_spec.specs.Malformed.{each, places_where, read_places, refusal, first_of_list, items_list, items_of_array, is_text, not_a_text, has_repeat, or_else_list, unless_object, unless_array, name_list_refusals, own_refusals, keyword_malformations, malformations_step, malformations_beside, malformations, pending}
 use Rattle.olk_spec.proofs.Each.{Each, Each-append, Each-those, Each-any, Each-map, Each-flat_map, Each-implies}
-use Rattle.olk_spec.proofs.Induction.{schema_read, EachItem, EachMember, GoodSub, GoodEntry, GoodInner, GoodPart, GoodKeywords, GoodSchema, sound_answer, branches_good}
+use Rattle.olk_spec.proofs.Induction.{schema_read, EachItem, EachMember, GoodEntry, GoodInner, GoodPart, GoodSchema, sound_answer, branches_good}
 use Rattle.olk_spec.specs.Texts.{prints_fraction}
 
 -- a value that has no fraction, and a fault that prints none
-abbrev IsPlain : Data → Type 0
+abbrev pub IsPlain : Data → Type 0
 IsPlain d = has_float d ≡ false
 
-abbrev PrintsNone : Fault → Type 0
+abbrev pub PrintsNone : Fault → Type 0
 PrintsNone f = prints_fraction f ≡ false
 
 abbrev Told : Type 0
@@ -36,11 +36,11 @@ pub neither : (a b : Bool) → (a || b) ≡ false → (a ≡ false) × (b ≡ fa
 neither true b h = absurd (true≢false h)
 neither false b h = (refl, h)
 
-each_item : (ds : Items) → items_have_float ds ≡ false → EachItem IsPlain ds
+pub each_item : (ds : Items) → items_have_float ds ≡ false → EachItem IsPlain ds
 each_item no_items h = tt
 each_item (item d ds) h = let p = neither (has_float d) (items_have_float ds) h in (p.0, each_item ds p.1)
 
-each_member : (ms : Members) → members_have_float ms ≡ false → EachMember IsPlain ms
+pub each_member : (ms : Members) → members_have_float ms ≡ false → EachMember IsPlain ms
 each_member no_members h = tt
 each_member (member k d ms) h = let p = neither (has_float d) (members_have_float ms) h in (p.0, each_member ms p.1)
 
@@ -81,7 +81,7 @@ places_good k S p h unread = tt
 
 -- ---- a keyword itself
 
-put_prints : (b : Bool) (f : Fault) → PrintsNone f → Each PrintsNone (put_if b f [])
+pub put_prints : (b : Bool) (f : Fault) → PrintsNone f → Each PrintsNone (put_if b f [])
 put_prints true f h = (h, tt)
 put_prints false f h = tt
 
@@ -170,7 +170,7 @@ module _ (W : World) where
     unfolding malformations_beside
     each_prints S s P = (sound_answer Good IsPlain each_item each_member (malformations_step W refused) step_prints S s).1 P
 
-by_recursion : (fs : List Fault) → Each PrintsNone fs → AllByRecursion PrintsNone fs
+pub by_recursion : (fs : List Fault) → Each PrintsNone fs → AllByRecursion PrintsNone fs
 by_recursion [] h = tt
 by_recursion (f ∷ fs) h = (h.0, by_recursion fs h.1)
 

@@ -6,7 +6,7 @@ use Rattle.serde_json.specs.Find.{get_member, as_str, as_bool}
 use Rattle.serde_json.specs.Read.{read}
 use Rattle.serde_json.specs.Written.{has_float}
 use Rattle.olk_cli.specs.declared.request.Ask.{Ask}
-use Rattle.olk_cli.specs.declared.request.Ask.TheVariants.{Valid}
+use Rattle.olk_cli.specs.declared.request.Ask.TheVariants.{Valid, First, Errors, Evaluate}
 
 -- a request, without where it lies in memory
 pub record Asked : Type 0 where
@@ -16,7 +16,12 @@ pub record Asked : Type 0 where
   pub unfinished : Bool
 
 abbrev pub ask_of : List ℕ → Option Ask
-ask_of word = if bytes_eq word (codes "valid") then Some Valid else None
+ask_of word =
+    if bytes_eq word (codes "valid") then Some Valid
+    else if bytes_eq word (codes "first") then Some First
+    else if bytes_eq word (codes "errors") then Some Errors
+    else if bytes_eq word (codes "evaluate") then Some Evaluate
+    else None
 
 abbrev pub is_request_name : List ℕ → Bool
 is_request_name name = bytes_eq name (codes "ask") || bytes_eq name (codes "schema") || bytes_eq name (codes "instance") || bytes_eq name (codes "unfinished")

@@ -3,10 +3,13 @@ ghost use Rattle.std.specs.Prelude.{◌≡◌, false, IfOk, option_map};
 ghost use Rattle.serde_json.specs.View.{view};
 ghost use Rattle.olk_reports.specs.Errors.{fault_of};
 ghost use Rattle.olk_spec.specs.Texts.{prints_fraction};
-ghost use Rattle.olk_cli.specs.Answers.{json_text, fault_refusal, IsReply, IsAnswer};
+ghost use Rattle.olk_cli.specs.Answers.{fault_refusal, IsReply, IsAnswer};
 ghost use Rattle.olk_cli.specs.Requests.{value_of, has_fraction};
 ghost use Rattle.olk_cli.specs.Seen.{seen};
+ghost use Rattle.olk_cli.specs.Texts.{json_text};
 
+use crate::errors::{errors_text, first_text};
+use crate::evaluated::evaluation_text;
 use crate::request::{Ask, Request, read_request};
 use crate::texts::{refusal_text, schema_refusal_text, verdict_text};
 use object_logic::{BuildError, Meter, ValidationContext, ValidationError, Validator};
@@ -63,9 +66,21 @@ fn reply(alloc: Global, request: &Request<'_>) -> Result<Vec<u8>, AllocError>
     match built {
         Ok(validator) => {
             let mut ctx = ValidationContext::new(request.unfinished);
-            let valid = validator.is_valid(request.instance, &mut ctx);
             match request.ask {
-                Ask::Valid => verdict_text(alloc, valid),
+                Ask::Valid => verdict_text(alloc, validator.is_valid(request.instance, &mut ctx)),
+                Ask::First => {
+                    let found = validator.validate(alloc, request.instance, &mut ctx);
+                    first_text(alloc, found)
+                }
+                Ask::Errors => {
+                    let mut errors = Vec::new(alloc);
+                    validator.collect_errors(alloc, request.instance, &mut ctx, &mut errors)?;
+                    errors_text(alloc, &errors)
+                }
+                Ask::Evaluate => {
+                    let evaluation = validator.evaluate(alloc, request.instance, &mut ctx)?;
+                    evaluation_text(alloc, &evaluation)
+                }
             }
         }
         Err(BuildError::Refused(error)) => malformation_text(alloc, &error),

@@ -2,6 +2,10 @@
 #![tactic(auto)]
 
 mod answer;
+mod errors;
+mod evaluated;
+#[cfg(test)]
+mod found;
 mod program;
 mod reading;
 mod request;

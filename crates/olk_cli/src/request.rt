@@ -13,6 +13,12 @@ use serde_json::{Map, Value};
 pub enum Ask {
     /// Whether the schema accepts the instance.
     Valid,
+    /// One error of the instance.
+    First,
+    /// Every error of the instance.
+    Errors,
+    /// What the schema shows of the instance.
+    Evaluate,
 }
 
 /// What a line asks.
@@ -30,6 +36,9 @@ fn read_ask(word: &str) -> Option<Ask>
 {
     match word {
         "valid" => Some(Ask::Valid),
+        "first" => Some(Ask::First),
+        "errors" => Some(Ask::Errors),
+        "evaluate" => Some(Ask::Evaluate),
         _ => None,
     }
 }

@@ -78,6 +78,135 @@ fn verdicts(rt: HostRuntime) -> Result<(), Fail> {
 }
 
 #[test]
+fn first_errors(rt: HostRuntime) -> Result<(), Fail> {
+    let alloc = rt.alloc();
+    for (request, answer) in [
+        (
+            r#"{"ask":"first","schema":{"properties":{"a":false}},"instance":{"b":1}}"#,
+            r#"{"valid":true}"#,
+        ),
+        (
+            r#"{"ask":"first","schema":{"not":{"type":"string"}},"instance":"foo"}"#,
+            r#"{"error":{"instancePath":"","message":"{\"type\":\"string\"} is not allowed for \"foo\"","schemaPath":"/not"},"valid":false}"#,
+        ),
+        (
+            r#"{"ask":"first","schema":{"properties":{"a":{"type":"integer"},"b":{"type":"string"}},"required":["a","b"]},"instance":{"a":"x"}}"#,
+            r#"{"error":{"instancePath":"","message":"\"b\" is a required property","schemaPath":"/required"},"valid":false}"#,
+        ),
+        (
+            r#"{"ask":"first","schema":{"allOf":[5]},"instance":1}"#,
+            r#"{"refused":"5 is not of types \"boolean\", \"object\"","schemaPath":"/allOf/0"}"#,
+        ),
+    ] {
+        expect_answer(&rt, alloc, request, answer)?;
+    }
+    Ok(())
+}
+
+#[test]
+fn all_errors(rt: HostRuntime) -> Result<(), Fail> {
+    let alloc = rt.alloc();
+    for (schema, instance, answer) in [
+        (
+            r#"{"properties":{"a":{}},"required":["a","a"]}"#,
+            "{}",
+            r#"{"errors":[{"instancePath":"","message":"\"a\" is a required property","schemaPath":"/required"},{"instancePath":"","message":"\"a\" is a required property","schemaPath":"/required"}],"valid":false}"#,
+        ),
+        (
+            r#"{"anyOf":[]}"#,
+            "1",
+            r#"{"errors":[{"instancePath":"","message":"1 is not valid under any of the schemas listed in the 'anyOf' keyword","schemaPath":"/anyOf"}],"valid":false}"#,
+        ),
+        (r#"{"allOf":[]}"#, "1", r#"{"errors":[],"valid":true}"#),
+        (
+            r#"{"not":{"type":"string"}}"#,
+            r#""foo""#,
+            r#"{"errors":[{"instancePath":"","message":"{\"type\":\"string\"} is not allowed for \"foo\"","schemaPath":"/not"}],"valid":false}"#,
+        ),
+        (
+            r#"{"properties":{"a/b":false}}"#,
+            r#"{"a/b":1}"#,
+            r#"{"errors":[{"instancePath":"/a~1b","message":"False schema does not allow 1","schemaPath":"/properties/a~1b"}],"valid":false}"#,
+        ),
+    ] {
+        let request = format!(in alloc;
+            "{{\"ask\":\"errors\",\"schema\":{schema},\"instance\":{instance}}}\n"
+        )?;
+        expect_answer(&rt, alloc, request.as_str(), answer)?;
+    }
+    Ok(())
+}
+
+// By instance path, then by schema path, then by message; they are found in another order.
+#[test]
+fn errors_are_sorted(rt: HostRuntime) -> Result<(), Fail> {
+    let alloc = rt.alloc();
+    for (schema, instance, answer) in [
+        (
+            r#"{"properties":{"a":{"type":"integer"}},"required":["b"]}"#,
+            r#"{"a":"x"}"#,
+            r#"{"errors":[{"instancePath":"","message":"\"b\" is a required property","schemaPath":"/required"},{"instancePath":"/a","message":"\"x\" is not of type \"integer\"","schemaPath":"/properties/a/type"}],"valid":false}"#,
+        ),
+        (
+            r#"{"allOf":[true,true,false,true,true,true,true,true,true,true,false]}"#,
+            "1",
+            r#"{"errors":[{"instancePath":"","message":"False schema does not allow 1","schemaPath":"/allOf/10"},{"instancePath":"","message":"False schema does not allow 1","schemaPath":"/allOf/2"}],"valid":false}"#,
+        ),
+        (
+            r#"{"required":["b","a"]}"#,
+            "{}",
+            r#"{"errors":[{"instancePath":"","message":"\"a\" is a required property","schemaPath":"/required"},{"instancePath":"","message":"\"b\" is a required property","schemaPath":"/required"}],"valid":false}"#,
+        ),
+    ] {
+        let request = format!(in alloc;
+            "{{\"ask\":\"errors\",\"schema\":{schema},\"instance\":{instance}}}\n"
+        )?;
+        expect_answer(&rt, alloc, request.as_str(), answer)?;
+    }
+    Ok(())
+}
+
+#[test]
+fn evaluations(rt: HostRuntime) -> Result<(), Fail> {
+    let alloc = rt.alloc();
+    let two =
+        r#"{"properties":{"a":{"type":"integer"},"b":{"type":"string"}},"required":["a","b"]}"#;
+    for (schema, instance, answer) in [
+        (
+            two,
+            r#"{"a":1,"b":"x"}"#,
+            r#"{"annotations":[{"instancePath":"","names":["a","b"],"schemaPath":"/properties"}],"errors":[],"valid":true}"#,
+        ),
+        (
+            two,
+            "{}",
+            r#"{"annotations":[],"errors":[{"instancePath":"","keyword":"required","message":"\"a\" is a required property","schemaPath":"/required"},{"instancePath":"","keyword":"required","message":"\"b\" is a required property","schemaPath":"/required"}],"valid":false}"#,
+        ),
+        (
+            r#"{"anyOf":[]}"#,
+            "1",
+            r#"{"annotations":[],"errors":[],"valid":false}"#,
+        ),
+        (
+            r#"{"properties":{"a":false}}"#,
+            r#"{"a":1}"#,
+            r#"{"annotations":[],"errors":[{"instancePath":"/a","keyword":"falseSchema","message":"False schema does not allow 1","schemaPath":"/properties/a"}],"valid":false}"#,
+        ),
+        (
+            r#"{"allOf":[5]}"#,
+            "1",
+            r#"{"refused":"5 is not of types \"boolean\", \"object\"","schemaPath":"/allOf/0"}"#,
+        ),
+    ] {
+        let request = format!(in alloc;
+            "{{\"ask\":\"evaluate\",\"schema\":{schema},\"instance\":{instance}}}\n"
+        )?;
+        expect_answer(&rt, alloc, request.as_str(), answer)?;
+    }
+    Ok(())
+}
+
+#[test]
 fn refused_schemas(rt: HostRuntime) -> Result<(), Fail> {
     let alloc = rt.alloc();
     for (schema, message, place) in [
@@ -134,6 +263,12 @@ fn refused_lines(rt: HostRuntime) -> Result<(), Fail> {
             no_request,
         ),
         (r#"{"ask":"valid","schema":{},"instance":1.5}"#, no_whole),
+        (r#"{"ask":"first","schema":{},"instance":1.5}"#, no_whole),
+        (r#"{"ask":"errors","schema":1.5,"instance":1}"#, no_whole),
+        (
+            r#"{"ask":"evaluate","schema":true,"instance":[0.5]}"#,
+            no_whole,
+        ),
         (
             r#"{"ask":"valid","schema":true,"instance":18446744073709551616}"#,
             no_whole,

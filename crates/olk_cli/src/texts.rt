@@ -2,7 +2,9 @@
 ghost use Rattle.std.specs.Prelude.{◌≡◌, IfOk, false};
 ghost use Rattle.serde_json.specs.View.{view};
 ghost use Rattle.serde_json.specs.Written.{has_float};
-ghost use Rattle.olk_cli.specs.Answers.{refusal, schema_refusal, verdict, json_text};
+ghost use Rattle.olk_cli.specs.Answers.{refusal, schema_refusal};
+ghost use Rattle.olk_cli.specs.Texts.{json_text};
+ghost use Rattle.olk_cli.specs.Told.{verdict};
 
 use serde_json::{Value, json};
 use std::alloc::{AllocError, Global};
@@ -50,8 +52,8 @@ pub fn verdict_text(alloc: Global, valid: bool) -> Result<Vec<u8>, AllocError>
 }
 
 /// The compact text of a value that has no fraction.
-#[tactic(auto, unfolding(crate::specs::Answers::json_text))]
-fn compact_text(alloc: Global, value: &Value) -> Result<Vec<u8>, AllocError>
+#[tactic(auto, unfolding(crate::specs::Texts::json_text))]
+pub fn compact_text(alloc: Global, value: &Value) -> Result<Vec<u8>, AllocError>
     requires { has_float (view value.now) ≡ false }
     ensures { IfOk result (λ text. text.items ≡ json_text (view value.now)) }
 {

@@ -11,15 +11,15 @@ use Rattle.olk_spec.specs.Reports.{required_faults, fault_if}
 use Rattle.olk_spec.specs.Tree.{plain}
 use Rattle.olk_tree.specs.Kit.{Kit}
 use Rattle.olk_tree.specs.Shown.{missing_trees}
-use Rattle.olk_tree.specs.Questions.{always, both, every}
-use Rattle.olk_tree.specs.Answers.{Answers, two_texts, keyword_means, body_means, keyword_finds, body_finds, keyword_shows, body_shows, node_step, answers}
+use Rattle.olk_tree.specs.Questions.{always, both, every, some}
+use Rattle.olk_tree.specs.Answers.{Answers, two_texts, or_else, head_of, first_of, keyword_means, body_means, keyword_finds, body_finds, keyword_first, body_first, keyword_shows, body_shows, node_step, answers}
 use Rattle.olk_tree.specs.declared.node.KeywordOver.{KeywordOver}
 use Rattle.olk_tree.specs.declared.node.KeywordOver.TheVariants as keyword
 use Rattle.olk_tree.specs.declared.node.Body.{Body}
 use Rattle.olk_tree.specs.declared.node.Body.TheVariants.{True, False, Keywords}
 use Rattle.olk_tree.specs.declared.node.SchemaNode.{SchemaNode, map-SchemaNode, out-SchemaNode, fold_out-SchemaNode}
 use Rattle.olk_tree.specs.declared.node.SchemaNode.TheOpen.{SchemaNode-F}
-use Rattle.olk_tree.proofs.Maps.{every-map, some-map, every-beside, flat_map-map, flat_map-beside, map-map, properties_tree-map, branch_trees-map, any_of_tree-map}
+use Rattle.olk_tree.proofs.Maps.{every-map, some-map, every-beside, flat_map-map, flat_map-beside, map-map, first_of-map, first_of-beside, properties_tree-map, branch_trees-map, any_of_tree-map}
 
 module _ {K R : Type 0} (o : Kit K R) where
   abbrev opened : SchemaNode-F K R (SchemaNode K R) → Body (KeywordOver K (SchemaNode K R)) → SchemaNode-F K R Answers
@@ -59,6 +59,23 @@ module _ {K R : Type 0} (o : Kit K R) where
     | keyword.Leaf p l ↦ refl
   ]) ks.items
 
+  first_layer : (n : SchemaNode-F K R (SchemaNode K R)) (b : Body (KeywordOver K (SchemaNode K R))) (u : Bool) (v : Data) (Q : Path)
+      → (node_step o (opened n b)).first u v Q ≡ body_first (keyword_first o.finds (λ n. (answers o n).means) o.keyword_of (λ n. (answers o n).report) u (λ n. (answers o n).first)) n.location b v Q
+  unfolding keyword_first
+  first_layer n True u v Q = refl
+  first_layer n False u v Q = refl
+  first_layer n (Keywords ks) u v Q = first_of-map (λ k. keyword_first o.finds (λ a. a.means) o.keyword_of (λ a. a.report) u (λ a. a.first) k v Q) (λ k. keyword_first o.finds (λ n. (answers o n).means) o.keyword_of (λ n. (answers o n).report) u (λ n. (answers o n).first) k v Q) _ (elim [
+    | keyword.Properties k ↦ first_of-beside (λ e. first_of (λ x. e.1.first u x (Q // e.0)) (at e.0 v)) (λ e. first_of (λ x. (answers o e.1).first u x (Q // e.0)) (at e.0 v)) (answers o) (λ a y. refl) k.properties.names k.properties.nodes.items
+    | keyword.PropertiesWithRequired2 k ↦ ap (or_else (head_of (required_faults (two_texts k.first k.second) v k.required_location Q))) (first_of-beside (λ e. first_of (λ x. e.1.first u x (Q // e.0)) (at e.0 v)) (λ e. first_of (λ x. (answers o e.1).first u x (Q // e.0)) (at e.0 v)) (answers o) (λ a y. refl) k.properties.names k.properties.nodes.items)
+    | keyword.Required k ↦ refl
+    | keyword.AllOf k ↦ first_of-map (λ a. a.first u v Q) (λ n. (answers o n).first u v Q) (answers o) (λ n. refl) k.schemas.items
+    | keyword.SingleValueAllOf k ↦ refl
+    | keyword.AnyOf k ↦ λ i. fault_if (not ((some-map (λ a. a.means v) (λ n. (answers o n).means v) (answers o) (λ n. refl) k.schemas.items i).accepts u)) (AnyOf (context (map-map (λ a. a.report u v Q) (λ n. (answers o n).report u v Q) (answers o) (λ n. refl) k.schemas.items i))) v k.location Q
+    | keyword.SingleAnyOf k ↦ refl
+    | keyword.Not k ↦ refl
+    | keyword.Leaf p l ↦ refl
+  ]) ks.items
+
   shows_layer : (n : SchemaNode-F K R (SchemaNode K R)) (b : Body (KeywordOver K (SchemaNode K R))) (u : Bool) (v : Data) (Q : Path)
       → (node_step o (opened n b)).tree u v Q ≡ body_shows (keyword_shows o.finds (λ n. (answers o n).means) o.keyword_of (λ n. (answers o n).tree) u) n.location b v Q
   unfolding keyword_shows
@@ -84,6 +101,10 @@ module _ {K R : Type 0} (o : Kit K R) where
   unfolding answers
   node_finds n u v Q = ap (λ a. a.report u v Q) (fold_out-SchemaNode K R Answers (node_step o) n) ∙ finds_layer (out-SchemaNode K R n) (out-SchemaNode K R n).body u v Q
 
+  pub node_first : (n : SchemaNode K R) (u : Bool) (v : Data) (Q : Path) → (answers o n).first u v Q ≡ body_first (keyword_first o.finds (λ n. (answers o n).means) o.keyword_of (λ n. (answers o n).report) u (λ n. (answers o n).first)) (out-SchemaNode K R n).location (out-SchemaNode K R n).body v Q
+  unfolding answers
+  node_first n u v Q = ap (λ a. a.first u v Q) (fold_out-SchemaNode K R Answers (node_step o) n) ∙ first_layer (out-SchemaNode K R n) (out-SchemaNode K R n).body u v Q
+
   pub node_shows : (n : SchemaNode K R) (u : Bool) (v : Data) (Q : Path) → (answers o n).tree u v Q ≡ body_shows (keyword_shows o.finds (λ n. (answers o n).means) o.keyword_of (λ n. (answers o n).tree) u) (out-SchemaNode K R n).location (out-SchemaNode K R n).body v Q
   unfolding answers
   node_shows n u v Q = ap (λ a. a.tree u v Q) (fold_out-SchemaNode K R Answers (node_step o) n) ∙ shows_layer (out-SchemaNode K R n) (out-SchemaNode K R n).body u v Q
@@ -92,4 +113,4 @@ module _ {K R : Type 0} (o : Kit K R) where
   unfolding answers
   node_location n = ap (λ a. a.location) (fold_out-SchemaNode K R Answers (node_step o) n)
 
-pub ruleset layers = (node_means, node_finds, node_shows, node_location)
+pub ruleset layers = (node_means, node_finds, node_first, node_shows, node_location)

@@ -7,11 +7,12 @@ use Rattle.std.specs.declared.cmp.Ordering.{Ordering}
 use Rattle.std.specs.declared.cmp.Ordering.TheVariants.{Less, Equal, Greater}
 use Rattle.std.proofs.Common.{refl, ap, ◌∙◌}
 use Rattle.serde_json.specs.Data.{Data}
+use Rattle.olk_spec.specs.Faults.{Fault}
 use Rattle.olk_spec.specs.Names.{Name, Path, ◌//◌, lookup, first_if_equal, is_among, those, put_if, is_empty}
 use Rattle.olk_spec.specs.Schemas.{is_object, members}
 use Rattle.olk_spec.specs.Tree.{Tree, result, plain}
 use Rattle.olk_tree.specs.Shown.{properties_tree, branch_trees, any_of_tree}
-use Rattle.olk_tree.specs.Answers.{beside}
+use Rattle.olk_tree.specs.Answers.{beside, or_else, first_of}
 use Rattle.olk_tree.specs.Questions.{Question, both, either, every, some}
 
 module _ {X Y : Type 0} (p : X → Question) (q : Y → Question) (h : Y → X) (same : (y : Y) → p (h y) ≡ q y) where
@@ -40,6 +41,15 @@ pub flat_map-beside : {A X Y B : Type 0} (p : A × X → List B) (q : A × Y →
 flat_map-beside p q h e [] ys = refl
 flat_map-beside p q h e (a ∷ ks) [] = refl
 flat_map-beside p q h e (a ∷ ks) (y ∷ ys) = λ i. e a y i ++ flat_map-beside p q h e ks ys i
+
+pub first_of-map : {X Y : Type 0} (p : X → List Fault) (q : Y → List Fault) (h : Y → X) → ((y : Y) → p (h y) ≡ q y) → (ys : List Y) → first_of p (map h ys) ≡ first_of q ys
+first_of-map p q h e [] = refl
+first_of-map p q h e (y ∷ ys) = λ i. or_else (e y i) (first_of-map p q h e ys i)
+
+pub first_of-beside : {A X Y : Type 0} (p : A × X → List Fault) (q : A × Y → List Fault) (h : Y → X) → ((a : A) (y : Y) → p (a, h y) ≡ q (a, y)) → (ks : List A) (ys : List Y) → first_of p (beside ks (map h ys)) ≡ first_of q (beside ks ys)
+first_of-beside p q h e [] ys = refl
+first_of-beside p q h e (a ∷ ks) [] = refl
+first_of-beside p q h e (a ∷ ks) (y ∷ ys) = λ i. or_else (e a y i) (first_of-beside p q h e ks ys i)
 
 pub those-map : {X Y : Type 0} (p : X → Bool) (q : Y → Bool) (h : Y → X) → ((y : Y) → p (h y) ≡ q y) → (ys : List Y) → those p (map h ys) ≡ map h (those q ys)
 those-map p q h e [] = refl

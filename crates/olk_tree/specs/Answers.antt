@@ -24,6 +24,8 @@ use Rattle.olk_tree.specs.declared.node.SchemaNode.TheOpen.{SchemaNode-F}
 pub record Answers : Type 0 where
   pub means : Data → Question
   pub report : Bool → Data → Path → List Fault
+  -- those of the first step that refuses, of which `validate` tells one
+  pub first : Bool → Data → Path → List Fault
   pub tree : Bool → Data → Path → Tree
   pub location : Path
 
@@ -39,6 +41,20 @@ named m = beside m.names m.nodes.items
 -- the texts of owned names
 abbrev pub texts_of : List (String Global) → List Text
 texts_of = map string_bytes
+
+-- the faults of the first step that has any
+abbrev pub or_else : List Fault → List Fault → List Fault
+or_else [] gs = gs
+or_else (f ∷ fs) gs = f ∷ fs
+
+abbrev pub first_of : {A : Type 0} → (A → List Fault) → List A → List Fault
+first_of f [] = []
+first_of f (x ∷ xs) = or_else (f x) (first_of f xs)
+
+-- the first fault alone
+abbrev pub head_of : List Fault → List Fault
+head_of [] = []
+head_of (f ∷ fs) = f ∷ []
 
 abbrev pub two_texts : String Global → String Global → List Text
 two_texts a b = string_bytes a ∷ string_bytes b ∷ []
@@ -77,6 +93,19 @@ module _ {K N : Type 0} (finds : K → Data → List Text) (m : N → Data → Q
     keyword_finds (keyword.Not k) v Q = fault_if ((m k.node v).accepts u) (Not (view k.original)) v k.location Q
     keyword_finds (keyword.Leaf p l) v Q = map (λ t. fault (Leaf (keyword_of l) t) v Q p) (finds l v)
 
+    module _ (s : N → Bool → Data → Path → List Fault) where
+      -- what it finds at the first step that refuses, over what its nodes find and find first
+      unfoldable pub keyword_first : KeywordOver K N → Data → Path → List Fault
+      keyword_first (keyword.Properties k) v Q = first_of (λ e. first_of (λ x. s e.1 u x (Q // e.0)) (at e.0 v)) (named k.properties)
+      keyword_first (keyword.PropertiesWithRequired2 k) v Q = or_else (head_of (required_faults (two_texts k.first k.second) v k.required_location Q)) (first_of (λ e. first_of (λ x. s e.1 u x (Q // e.0)) (at e.0 v)) (named k.properties))
+      keyword_first (keyword.Required k) v Q = head_of (required_faults (texts_of k.required.items) v k.location Q)
+      keyword_first (keyword.AllOf k) v Q = first_of (λ n. s n u v Q) k.schemas.items
+      keyword_first (keyword.SingleValueAllOf k) v Q = s k.node u v Q
+      keyword_first (keyword.AnyOf k) v Q = fault_if (not ((some (λ n. m n v) k.schemas.items).accepts u)) (AnyOf (context (map (λ n. r n u v Q) k.schemas.items))) v k.location Q
+      keyword_first (keyword.SingleAnyOf k) v Q = fault_if (not ((m k.node v).accepts u)) (AnyOf (context (r k.node u v Q ∷ []))) v k.location Q
+      keyword_first (keyword.Not k) v Q = fault_if ((m k.node v).accepts u) (Not (view k.original)) v k.location Q
+      keyword_first (keyword.Leaf p l) v Q = map (λ t. fault (Leaf (keyword_of l) t) v Q p) (finds l v)
+
   module _ (keyword_of : K → Name) (t : N → Bool → Data → Path → Tree) (u : Bool) where
     abbrev pub at_node : N → Data → Path → Tree
     at_node n = t n u
@@ -105,6 +134,12 @@ body_finds f P True v Q = []
 body_finds f P False v Q = fault FalseSchema v Q P ∷ []
 body_finds f P (Keywords ks) v Q = flat_map (λ k. f k v Q) ks.items
 
+-- and at its first step that refuses
+abbrev pub body_first : {W : Type 0} → (W → Data → Path → List Fault) → Path → Body W → Data → Path → List Fault
+body_first f P True v Q = []
+body_first f P False v Q = fault FalseSchema v Q P ∷ []
+body_first f P (Keywords ks) v Q = first_of (λ k. f k v Q) ks.items
+
 -- what a body shows at its place
 abbrev pub body_shows : {W : Type 0} → (W → Data → Path → Tree) → Path → Body W → Data → Path → Tree
 body_shows f P True v Q = plain P Q []
@@ -116,6 +151,8 @@ module _ {K R : Type 0} (o : Kit K R) where
   node_step n = record {
     means = body_means (keyword_means o.finds (λ a. a.means)) n.body;
     report = λ u. body_finds (keyword_finds o.finds (λ a. a.means) o.keyword_of (λ a. a.report) u) n.location n.body;
+    first = λ u. body_first (keyword_first o.finds (λ a. a.means) o.keyword_of (λ a. a.report) u (λ a. a.first)) n.location n.body;
+
     tree = λ u. body_shows (keyword_shows o.finds (λ a. a.means) o.keyword_of (λ a. a.tree) u) n.location n.body;
     location = n.location;
   }

@@ -125,7 +125,7 @@ module _ {K R : Type 0} (o : Kit K R) where
         pub asks_within : (u : Bool) (v : Data) → ask v u ≤ sum_by (λ m. member_asks o.world ms m (which m) u v) es
         pub faults : (u : Bool) (v : Data) (Q : Path) → find u v Q ∼ flat_map (λ m. member_report o.world ms m (which m) u v P Q) es
 
-      -- it is built for the members es, and is what the members rows mean together
+      -- it is built for the members es, whose keywords claim rows: it means what these mean together, and shows what those show
       pub record KeywordsAreBuilt (rows es : List (Name × Data)) (P : Path) (old new : Counts) : Type 0 where
         pub covers : Covers rows P
         pub shows : all_malformed P (listed ms) ≡ [] → (u : Bool) (v : Data) (Q : Path) → show u v Q ≡ flat_map (λ m. member_child o.world ms m (which m) u v P Q) es

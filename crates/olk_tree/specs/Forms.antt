@@ -18,7 +18,7 @@ IsFormOfAnyOf P ns (keyword.AnyOf k) = (k.schemas.items ≡ ns) × (length ns �
 IsFormOfAnyOf P ns (keyword.SingleAnyOf k) = (ns ≡ k.node ∷ []) × (k.location ≡ P)
 IsFormOfAnyOf P ns k = ⊥
 
--- with two names that are taken over, and alone, in the object at P
+-- the form at L in the object at P: with two names that are taken over, or alone
 abbrev pub IsFormOfProperties : {K N : Type 0} → Path → Path → SmallMap N → Option (Name × Name) → KeywordOver K N → Type 0
 IsFormOfProperties P L m None (keyword.Properties k) = (k.properties ≡ m) × (k.location ≡ L)
 IsFormOfProperties P L m (Some t) (keyword.PropertiesWithRequired2 k) = (k.properties ≡ m) × (k.location ≡ L) × (string_bytes k.first ≡ t.0) × (string_bytes k.second ≡ t.1) × (k.required_location ≡ P // codes "required")

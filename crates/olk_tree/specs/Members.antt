@@ -1,4 +1,4 @@
--- What a member of a schema object means, refuses and costs as a keyword.
+-- What a member of a schema object means, shows, refuses and costs as a keyword.
 use Rattle.std.specs.Prelude.{◌≡◌, ⊤, false, Some, ℕ, Bool, List}
 use Rattle.serde_json.specs.Data.{Data, Members}
 use Rattle.olk_spec.specs.Names.{Name, Path, lookup}

@@ -33,7 +33,7 @@ pub struct SmallPropertiesWithRequired2<N> {
     pub required_location: Location,
 }
 
-/// From so many declared names on `required` stands alone.
+/// From so many declared names on `required` isn't taken over.
 const FEWEST_WIDE: usize = 15;
 
 /// Whether few names are declared.
@@ -120,9 +120,9 @@ pub(crate) fn keyword<K, N: Drop>(
 
 /// The keyword of `properties` in the object at the context's place (JSON Schema 2020-12 Core, 10.3.2.1).
 ///
-/// There always is an answer: the keyword, the refusal of a malformed value, or want of memory. Where `required` of the
-/// parent is taken over, the keyword stands for both. The meter rises by the cost of the keyword, or by a part of it where
-/// nothing is built; the context's place is left as it was.
+/// There always is an answer: the keyword, the refusal of a malformed value, or want of memory. Where it takes over what
+/// `required` of the parent lists, the keyword stands for both. The meter rises by the cost of the keyword, or by a part
+/// of it where nothing is built; the context's place is left as it was.
 pub fn compile<'a, L: MakeLeaf, M: MakeRegex>(
     ctx: &mut Context<'_, L, M>,
     alloc: Global,

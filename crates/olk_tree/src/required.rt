@@ -50,9 +50,9 @@ pub(crate) fn names<'a>(
 
 /// The keyword of `required` in the object at the context's place (JSON Schema 2020-12 Validation, 6.5.3).
 ///
-/// Where `properties` of the parent takes it over there is no answer, and else the keyword, the refusal of a malformed value,
-/// or want of memory. The meter rises by the cost of the keyword, or by a part of it where nothing is built; the context's
-/// place is left as it was.
+/// There is no answer where `properties` of the parent takes the names over, and else the keyword, the refusal of a
+/// malformed value, or want of memory. The meter rises by the cost of the keyword, or by a part of it where nothing is
+/// built; the context's place is left as it was.
 pub fn compile<'a, L: MakeLeaf, M: MakeRegex>(
     ctx: &mut Context<'_, L, M>,
     alloc: Global,

@@ -265,6 +265,42 @@ fn closed(alloc: Global, count: usize, required: &str) -> Result<Map<String, Val
     Ok(schema)
 }
 
+// Whether the keyword of `properties` takes over what `required` lists.
+fn takes_over(alloc: Global, parent: &Map<String, Value>) -> Result<bool, Fail> {
+    let mut meter = Meter::new();
+    let mut ctx = Context::new(alloc, &NoTexts, &Equality, &mut meter);
+    let declared = parent.get("properties").unwrap_or(&Value::Null);
+    match properties::compile(&mut ctx, alloc, parent, declared) {
+        Some(Ok(KeywordOver::PropertiesWithRequired2(keyword))) => {
+            Ok(
+                keyword.location.as_str() == "/properties"
+                    && keyword.required_location.as_str() == "/required",
+            )
+        }
+        Some(Ok(KeywordOver::Properties(_))) => Ok(false),
+        _ => Err(Fail::from("not built")),
+    }
+}
+
+// Whether `required` has a keyword of its own.
+fn stands_alone(alloc: Global, parent: &Map<String, Value>) -> bool {
+    let mut meter = Meter::new();
+    let mut ctx = Context::new(alloc, &NoTexts, &Equality, &mut meter);
+    let listed = parent.get("required").unwrap_or(&Value::Null);
+    required::compile(&mut ctx, alloc, parent, listed).is_some()
+}
+
+// How many keywords the schema has.
+fn keyword_count(alloc: Global, schema: &Value) -> Result<usize, Fail> {
+    let mut meter = Meter::new();
+    let mut ctx = Context::new(alloc, &NoTexts, &Equality, &mut meter);
+    let node = compile(&mut ctx, alloc, schema).map_err(failure)?;
+    match &node.body {
+        Body::Keywords(keywords) => Ok(keywords.len()),
+        _ => Err(Fail::from("no keywords")),
+    }
+}
+
 #[test]
 fn required_names_that_are_taken_over(rt: HostRuntime) -> Result<(), Fail> {
     let alloc = rt.alloc();
@@ -279,30 +315,19 @@ fn required_names_that_are_taken_over(rt: HostRuntime) -> Result<(), Fail> {
         (14, r#"["a","b","c"]"#, false),
     ] {
         let parent = closed(alloc, count, required)?;
-        let mut meter = Meter::new();
-        let mut ctx = Context::new(alloc, &NoTexts, &Equality, &mut meter);
-        let declared = parent.get("properties").unwrap_or(&Value::Null);
-        let built = properties::compile(&mut ctx, alloc, &parent, declared);
-        let alone = match built {
-            Some(Ok(KeywordOver::PropertiesWithRequired2(keyword))) => {
-                assert_eq!(rt; keyword.location.as_str(), "/properties");
-                assert_eq!(rt; keyword.required_location.as_str(), "/required");
-                false
-            }
-            Some(Ok(KeywordOver::Properties(_))) => true,
-            _ => return Err(Fail::from("not built")),
-        };
-        assert_eq!(rt; alone, !is_taken, "{count} {required}");
-        let listed = parent.get("required").unwrap_or(&Value::Null);
-        let built = required::compile(&mut ctx, alloc, &parent, listed);
-        assert_eq!(rt; built.is_none(), is_taken, "{count} {required}");
-        let schema = Value::Object(parent.clone()?);
-        let node = compile(&mut ctx, alloc, &schema).map_err(failure)?;
-        let Body::Keywords(keywords) = &node.body else {
-            return Err(Fail::from("no keywords"));
-        };
-        let expected = if is_taken { 1 } else { 2 };
-        assert_eq!(rt; keywords.len(), expected, "{count} {required}");
+        assert_eq!(rt; takes_over(alloc, &parent)?, is_taken, "{count} {required}");
+        assert_eq!(rt;
+            stands_alone(alloc, &parent),
+            !is_taken,
+            "{count} {required}"
+        );
+        let keywords = if is_taken { 1 } else { 2 };
+        let schema = Value::Object(parent);
+        assert_eq!(rt;
+            keyword_count(alloc, &schema)?,
+            keywords,
+            "{count} {required}"
+        );
     }
     Ok(())
 }

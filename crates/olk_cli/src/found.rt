@@ -1,0 +1,367 @@
+//! The first error and all errors of instances, with their contexts, each row under a name of its own.
+use object_logic::{
+    Meter, ValidateError, ValidationContext, ValidationError, ValidationErrorKind, Validator,
+};
+use olk_bench::{BenchLeaves, BenchRegexes};
+use serde_json::Value;
+use std::alloc::{AllocError, Global};
+use std::process::Abort;
+use std::test::Fail;
+
+// An error as a line: its text, its instance path and its schema path.
+fn line(alloc: Global, error: &ValidationError<'_>) -> Result<String, AllocError> {
+    let message = error.message(alloc)?;
+    let (instance, schema) = (error.instance_path(), error.schema_path());
+    format!(in alloc; "{message} @ \"{instance}\", {schema}")
+}
+
+// The lines of errors in the order of their texts.
+fn sorted(alloc: Global, errors: &[ValidationError<'_>]) -> Result<Vec<String>, AllocError> {
+    let mut lines = Vec::new(alloc);
+    for error in errors {
+        lines.push(line(alloc, error)?)?;
+    }
+    lines.sort_unstable();
+    Ok(lines)
+}
+
+// The line of an error, and what each branch finds in brackets.
+fn with_context(alloc: Global, error: &ValidationError<'_>) -> Result<String, AllocError> {
+    let mut text = line(alloc, error)?;
+    if let ValidationErrorKind::AnyOf { context } = error.kind() {
+        for branch in context {
+            text.push_str(" {")?;
+            for line in &sorted(alloc, branch)? {
+                text.push_str(line.as_str())?;
+                text.push_str(";")?;
+            }
+            text.push_str("}")?;
+        }
+    }
+    Ok(text)
+}
+
+// What is found is compared with these lines, in the order of their texts, and what is told first with the first.
+fn expect_found(
+    rt: &impl Abort,
+    alloc: Global,
+    row: &str,
+    schema: &str,
+    instance: &str,
+    first: &str,
+    all: &[&str],
+) -> Result<(), Fail> {
+    let schema = Value::from_str(alloc, schema)?;
+    let instance = Value::from_str(alloc, instance)?;
+    let mut meter = Meter::new();
+    let Ok(validator) = Validator::build(alloc, &BenchLeaves, &BenchRegexes, &schema, &mut meter)
+    else {
+        return Err(Fail::new("refused"));
+    };
+    let mut ctx = ValidationContext::new(false);
+    let mut errors: Vec<ValidationError<'_>> = Vec::new(alloc);
+    validator.collect_errors(alloc, &instance, &mut ctx, &mut errors)?;
+    let mut lines = Vec::new(alloc);
+    for error in &errors {
+        lines.push(with_context(alloc, error)?)?;
+    }
+    lines.sort_unstable();
+    assert_eq!(rt; lines.len(), all.len(), "{row}");
+    for (line, wanted) in lines.iter().zip(all) {
+        assert_eq!(rt; line.as_str(), *wanted, "{row}");
+    }
+    match validator.validate(alloc, &instance, &mut ctx) {
+        Ok(()) => assert_eq!(rt; first, "", "{row}"),
+        Err(ValidateError::Invalid(error)) => {
+            assert_eq!(rt; with_context(alloc, &error)?.as_str(), first, "{row}");
+        }
+        Err(ValidateError::Memory(error)) => return Err(Fail::from(error)),
+    }
+    assert_eq!(rt; validator.is_valid(&instance, &mut ctx), all.is_empty(), "{row}");
+    Ok(())
+}
+
+#[test]
+fn required_names_and_members(rt: HostRuntime) -> Result<(), Fail> {
+    let alloc = rt.alloc();
+    let two =
+        r#"{"properties":{"a":{"type":"integer"},"b":{"type":"string"}},"required":["a","b"]}"#;
+    let missing = r#""b" is a required property @ "", /required"#;
+    let wrong = r#""x" is not of type "integer" @ "/a", /properties/a/type"#;
+    expect_found(&rt, alloc, "both names are there", two, r#"{"a":1,"b":"x","c":3}"#, "", &[])?;
+    expect_found(
+        &rt,
+        alloc,
+        "a missing name comes before a wrong member",
+        two,
+        r#"{"a":"x"}"#,
+        missing,
+        &[missing, wrong],
+    )?;
+    expect_found(
+        &rt,
+        alloc,
+        "the members are walked in order",
+        two,
+        r#"{"a":"x","b":1}"#,
+        wrong,
+        &[wrong, r#"1 is not of type "string" @ "/b", /properties/b/type"#],
+    )?;
+    let first = r#""a" is a required property @ "", /required"#;
+    expect_found(
+        &rt,
+        alloc,
+        "the first missing name comes before the second",
+        two,
+        "{}",
+        first,
+        &[first, missing],
+    )?;
+    expect_found(
+        &rt,
+        alloc,
+        "a repeated name is told twice",
+        r#"{"properties":{"a":{}},"required":["a","a"]}"#,
+        "{}",
+        first,
+        &[first, first],
+    )?;
+    expect_found(
+        &rt,
+        alloc,
+        "a required name that is not declared",
+        r#"{"properties":{"a":{"type":"integer"},"b":{}},"required":["a","z"]}"#,
+        r#"{"z":2,"y":3}"#,
+        first,
+        &[first],
+    )?;
+    let escaped = "False schema does not allow 1 @ \"/a~1b\", /properties/a~1b";
+    expect_found(
+        &rt,
+        alloc,
+        "a name with a slash",
+        r#"{"properties":{"a/b":false}}"#,
+        r#"{"a/b":1}"#,
+        escaped,
+        &[escaped],
+    )?;
+    Ok(())
+}
+
+#[test]
+fn branches(rt: HostRuntime) -> Result<(), Fail> {
+    let alloc = rt.alloc();
+    let none = "1 is not valid under any of the schemas listed in the 'anyOf' keyword @ \"\", /anyOf";
+    expect_found(&rt, alloc, "no branch, an empty context", r#"{"anyOf":[]}"#, "1", none, &[none])?;
+    let both = concat!(
+        "{} is not valid under any of the schemas listed in the 'anyOf' keyword @ \"\", /anyOf",
+        " {{} is not of type \"integer\" @ \"\", /anyOf/0/type;}",
+        " {\"a\" is a required property @ \"\", /anyOf/1/required;",
+        "\"b\" is a required property @ \"\", /anyOf/1/required;}"
+    );
+    expect_found(
+        &rt,
+        alloc,
+        "each branch has all that it finds in the context, in the order of branches",
+        r#"{"anyOf":[{"type":"integer"},{"required":["a","b"]}]}"#,
+        "{}",
+        both,
+        &[both],
+    )?;
+    let one = concat!(
+        "1 is not valid under any of the schemas listed in the 'anyOf' keyword @ \"\", /anyOf",
+        " {1 is not of type \"string\" @ \"\", /anyOf/0/type;}"
+    );
+    expect_found(&rt, alloc, "one branch", r#"{"anyOf":[{"type":"string"}]}"#, "1", one, &[one])?;
+    expect_found(
+        &rt,
+        alloc,
+        "a branch that accepts",
+        r#"{"anyOf":[{"type":"integer"},false]}"#,
+        "1",
+        "",
+        &[],
+    )?;
+    expect_found(&rt, alloc, "nothing is wanted of all of none", r#"{"allOf":[]}"#, "1", "", &[])?;
+    let text = r#"1 is not of type "string" @ "", /allOf/0/type"#;
+    let least = r#"1 is less than the minimum of 5 @ "", /allOf/1/minimum"#;
+    expect_found(
+        &rt,
+        alloc,
+        "each branch of all",
+        r#"{"allOf":[{"type":"string"},{"minimum":5}]}"#,
+        "1",
+        text,
+        &[least, text],
+    )?;
+    let not = r#"{"type":"string"} is not allowed for "foo" @ "", /not"#;
+    expect_found(&rt, alloc, "not", r#"{"not":{"type":"string"}}"#, r#""foo""#, not, &[not])?;
+    let never = "False schema does not allow 1 @ \"\", ";
+    expect_found(&rt, alloc, "a false schema", "false", "1", never, &[never])?;
+    Ok(())
+}
+
+// Fourteen to sixteen declared names, and twenty members.
+#[test]
+fn many_declared_names(rt: HostRuntime) -> Result<(), Fail> {
+    let alloc = rt.alloc();
+    for declared in [14usize, 15, 16] {
+        let mut schema = String::from_str(alloc, "{\"properties\":{")?;
+        for i in 0..declared {
+            let comma = if i > 0 { "," } else { "" };
+            let entry = format!(in alloc; "{comma}\"p{:02}\":{{\"type\":\"integer\"}}", i)?;
+            schema.push_str(entry.as_str())?;
+        }
+        schema.push_str("}}")?;
+        let mut instance = String::from_str(alloc, "{")?;
+        for i in 0..20usize {
+            let comma = if i > 0 { "," } else { "" };
+            let value = if i + 1 == declared { "\"x\"" } else { "1" };
+            let entry = format!(in alloc; "{comma}\"p{:02}\":{value}", i)?;
+            instance.push_str(entry.as_str())?;
+        }
+        instance.push_str("}")?;
+        let last = declared - 1;
+        let wanted = format!(in alloc; "\"x\" is not of type \"integer\" @ \"/p{last}\", /properties/p{last}/type")?;
+        let alone = format!(in alloc; "{{\"p{last}\":\"x\"}}")?;
+        for value in [instance.as_str(), alone.as_str()] {
+            expect_found(
+                &rt,
+                alloc,
+                "the last declared name",
+                schema.as_str(),
+                value,
+                wanted.as_str(),
+                &[wanted.as_str()],
+            )?;
+        }
+    }
+    Ok(())
+}
+
+// A list that is handed in stays in front.
+#[test]
+fn errors_before_are_kept(rt: HostRuntime) -> Result<(), Fail> {
+    let alloc = rt.alloc();
+    let schema = Value::from_str(alloc, r#"{"allOf":[{"type":"string"},{"minimum":5}]}"#)?;
+    let instance = Value::from_str(alloc, "1")?;
+    let mut meter = Meter::new();
+    let Ok(validator) = Validator::build(alloc, &BenchLeaves, &BenchRegexes, &schema, &mut meter)
+    else {
+        return Err(Fail::new("refused"));
+    };
+    let mut ctx = ValidationContext::new(false);
+    let mut errors: Vec<ValidationError<'_>> = Vec::new(alloc);
+    validator.collect_errors(alloc, &instance, &mut ctx, &mut errors)?;
+    validator.collect_errors(alloc, &instance, &mut ctx, &mut errors)?;
+    assert_eq!(rt; errors.len(), 4);
+    for (one, again) in errors[..2].iter().zip(&errors[2..]) {
+        assert_eq!(rt; line(alloc, one)?, line(alloc, again)?);
+    }
+    Ok(())
+}
+
+// The schema paths of the nodes below the root, each with those of its children in parentheses.
+#[test]
+fn children_of_an_evaluation(rt: HostRuntime) -> Result<(), Fail> {
+    let alloc = rt.alloc();
+    let two =
+        r#"{"properties":{"a":{"type":"integer"},"b":{"type":"string"}},"required":["a","b"]}"#;
+    let schema = Value::from_str(alloc, two)?;
+    let instance = Value::from_str(alloc, r#"{"a":1,"b":"x"}"#)?;
+    let mut meter = Meter::new();
+    let Ok(validator) = Validator::build(alloc, &BenchLeaves, &BenchRegexes, &schema, &mut meter)
+    else {
+        return Err(Fail::new("refused"));
+    };
+    let mut ctx = ValidationContext::new(false);
+    let evaluation = validator.evaluate(alloc, &instance, &mut ctx)?;
+    let mut text = String::new(alloc);
+    for keyword in evaluation.root().children() {
+        text.push_str(keyword.schema_path())?;
+        for member in keyword.children() {
+            text.push_str(" (")?;
+            text.push_str(member.schema_path())?;
+            for leaf in member.children() {
+                text.push_str(" (")?;
+                text.push_str(leaf.schema_path())?;
+                text.push_str("@")?;
+                text.push_str(leaf.instance_path())?;
+                text.push_str(")")?;
+            }
+            text.push_str(")")?;
+        }
+    }
+    assert_eq!(rt;
+        text.as_str(),
+        "/properties (/properties/a (/properties/a/type@/a)) (/properties/b (/properties/b/type@/b))"
+    );
+    Ok(())
+}
+
+const MANY_FAULTS: &str = concat!(
+    r#"{"allOf":[{"required":["a","b"]},{"properties":{"c":{"type":"string"}}}],"#,
+    r#""anyOf":[{"required":["a"]},{"properties":{"c":false}}],"not":{"required":["c"]},"#,
+    r#""properties":{"c":{"minimum":5},"d":{"type":"integer"}},"required":["a","b"]}"#
+);
+
+// All errors, asked a second time where memory was wanting; a refused call leaves the list as it was.
+fn collect_at_last<'a>(
+    validator: &'a Validator<olk_bench::BenchLeaf, olk_bench::BenchRegex>,
+    alloc: Global,
+    instance: &'a Value,
+    errors: &mut Vec<ValidationError<'a>>,
+) -> Result<(), Fail> {
+    let mut ctx = ValidationContext::new(false);
+    let before = errors.len();
+    if validator.collect_errors(alloc, instance, &mut ctx, errors).is_err() {
+        if errors.len() != before {
+            return Err(Fail::new("the list is not as it was"));
+        }
+        validator.collect_errors(alloc, instance, &mut ctx, errors)?;
+    }
+    Ok(())
+}
+
+// With each growth refused in turn (tools/refused_growths), the second call gives the full answer.
+#[test]
+fn full_answers_after_a_refused_growth(rt: HostRuntime) -> Result<(), Fail> {
+    let alloc = rt.alloc();
+    let schema = Value::from_str(alloc, MANY_FAULTS)?;
+    let instance = Value::from_str(alloc, r#"{"c":1,"d":2}"#)?;
+    let mut meter = Meter::new();
+    let Ok(validator) = Validator::build(alloc, &BenchLeaves, &BenchRegexes, &schema, &mut meter)
+    else {
+        return Err(Fail::from(AllocError));
+    };
+    let mut errors: Vec<ValidationError<'_>> = Vec::new(alloc);
+    collect_at_last(&validator, alloc, &instance, &mut errors)?;
+    assert_eq!(rt; errors.len(), 8);
+    collect_at_last(&validator, alloc, &instance, &mut errors)?;
+    assert_eq!(rt; errors.len(), 16);
+    let mut ctx = ValidationContext::new(false);
+    let told = match validator.validate(alloc, &instance, &mut ctx) {
+        Err(ValidateError::Memory(_)) => validator.validate(alloc, &instance, &mut ctx),
+        told => told,
+    };
+    match told {
+        Ok(()) => return Err(Fail::new("accepted")),
+        Err(ValidateError::Memory(error)) => return Err(Fail::from(error)),
+        Err(ValidateError::Invalid(error)) => {
+            assert_eq!(rt; error.schema_path(), "/allOf/0/required");
+            let message = error.message(alloc).or_else(|_| error.message(alloc))?;
+            assert_eq!(rt; message.as_str(), r#""a" is a required property"#);
+        }
+    }
+    let evaluation = match validator.evaluate(alloc, &instance, &mut ctx) {
+        Err(_) => validator.evaluate(alloc, &instance, &mut ctx)?,
+        Ok(evaluation) => evaluation,
+    };
+    assert!(rt; !evaluation.flag().valid);
+    let entries = match evaluation.iter_errors(alloc) {
+        Err(_) => evaluation.iter_errors(alloc)?,
+        Ok(entries) => entries,
+    };
+    assert_eq!(rt; entries.len(), 9);
+    Ok(())
+}

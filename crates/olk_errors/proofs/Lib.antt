@@ -1,0 +1,7 @@
+pub mod Appending
+pub mod Steps
+pub mod Own
+pub mod Missing
+pub mod Sides
+pub mod Schemas
+pub mod Fused

@@ -1,0 +1,15 @@
+use Rattle.std.specs.List.{flat_map}
+use Rattle.serde_json.specs.Data.{object}
+use Rattle.serde_json.specs.View.{members_view}
+use Rattle.olk_spec.specs.Names.{◌//◌}
+use Rattle.olk_spec.specs.Schemas.{at, listed}
+use Rattle.olk_tree.specs.Answers.{named, beside, first_of}
+use Rattle.olk_tree.specs.Questions.{every}
+use Rattle.olk_check.specs.Declarations.{member_means}
+use Rattle.olk_errors.specs.Properties.{member_finds, member_first}
+use Rattle.std.proofs.Common.{map, string_bytes}
+use Rattle.olk_errors.proofs.Steps.{Collecting}
+use Rattle.olk_errors.proofs.properties.collect_each.Given as goal
+
+abbrev pub invariant-loop-name : goal.invariant-loop-name
+invariant-loop-name g l = Collecting (λ u Q m. member_finds g.N.Errors.finds u (named l.properties) m.0 m.1 Q) (listed (members_view l.members.entries)) (listed (members_view l.name-iterator)) l.initial.errors.items l.errors.items l.initial.path l.path l.initial.ctx.answer l.ctx.answer

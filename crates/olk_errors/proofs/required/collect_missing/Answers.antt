@@ -1,0 +1,20 @@
+use Rattle.std.proofs.Common.{[], ◌∷◌, subst}
+use Rattle.olk_base.specs.Nodes.{tree_of}
+use Rattle.olk_spec.specs.Reports.{required_faults}
+use Rattle.olk_errors.specs.Found.{Appends}
+use Rattle.olk_errors.proofs.Appending.{at_ok, appends_same}
+use Rattle.olk_errors.proofs.Steps.{next_at, past_end, collected_start, collected_more, collected_end}
+use Rattle.olk_errors.proofs.Missing.{all_lacked}
+use Rattle.olk_errors.proofs.required.collect_missing.Goals as goal
+
+pub loop-name-init : goal.loop-name-init
+loop-name-init c = collected_start c.args.errors.now.items
+
+pub loop-name-preserved : goal.loop-name-preserved
+loop-name-preserved c = collected_more c.loop-name.invariant (next_at c.deref-name-items.ensures.value c.name-item.is c.loop-name-test.true)
+    (appends_same c.in_ok-or_cut.ensures.ok (subst (λ n. Appends c.loop-name.errors.items c.collect_if_missing-answer.new.errors.items (required_faults (n ∷ []) (tree_of c.args.node) c.args.schema_path.now c.args.path.now)) c.as_str.ensures.value
+    (at_ok c.or_cut.ensures.same c.in_ok-or_cut.was c.collect_if_missing-answer.ensures.report)))
+
+pub returns-clause-report : goal.returns-clause-report
+returns-clause-report c = subst (Appends c.args.errors.now.items c.loop-name.errors.items) (all_lacked (tree_of c.args.node) c.args.schema_path.now c.args.path.now c.args.names.now.items)
+    (collected_end c.loop-name.invariant (past_end c.deref-name-items.ensures.value c.loop-name-test.false))
