@@ -7,7 +7,7 @@ use Rattle.std.proofs.lemmas.Simd.{map-map}
 use Rattle.std.specs.List.Sorted.{IsPermutation}
 use Rattle.serde_json.specs.Data.{Data, Members, object}
 use Rattle.olk_spec.specs.Names.{Name, Text, Path, is_empty, put_if}
-use Rattle.olk_spec.specs.Faults.{Fault, fault, Leaf, Required}
+use Rattle.olk_spec.specs.Faults.{Fault, Kind, fault, Leaf, Required}
 use Rattle.olk_spec.specs.Tree.{Tree, IsLikeTree, AreTold, Described, described, described_fault, leaf_node, is_valid, erring, no_tree}
 use Rattle.serde_json.specs.Find.{as_object}
 use Rattle.olk_check.proofs.Lookups.{lacks_nothing}
@@ -31,12 +31,16 @@ some_error : (fs : List Fault) (f : Fault) → is_empty (fs ++ f ∷ []) ≡ fal
 some_error [] f = refl
 some_error (g ∷ fs) f = refl
 
--- one error more
-pub marked : {before : List Fault} {f g : Fault} {d : Described} {s r : Shown} → HasErrors before s → IsTold g d → g ≡ f → r ≡ errored d s → HasErrors (before ++ f ∷ []) r
-marked {before} {f} {g} {d} {s} {r} h t same e = record {
+-- the places of a fault are not shown
+placed : {k : Kind} {v : Data} {P Q R S : Path} {d : Described} → IsTold (fault k v Q P) d → IsTold (fault k v S R) d
+placed t = record { keyword = t.keyword; text = t.text }
+
+-- one error more, at any places
+pub marked : (R S : Path) {before : List Fault} {k : Kind} {v : Data} {P Q : Path} {g : Fault} {d : Described} {s r : Shown} → HasErrors before s → IsTold g d → g ≡ fault k v Q P → r ≡ errored d s → HasErrors (before ++ fault k v S R ∷ []) r
+marked R S {before} {k} {v} {P} {Q} {g} {d} {s} {r} h t same e = record {
   own = h.own ++ d ∷ [];
-  is = e ∙ ap (errored d) h.is ∙ ap (λ b. shown b None (h.own ++ d ∷ []) []) (sym (some_error before f));
-  told = told_more before h.own f d h.told (subst (λ k. IsTold k d) same t);
+  is = e ∙ ap (errored d) h.is ∙ ap (λ b. shown b None (h.own ++ d ∷ []) []) (sym (some_error before (fault k v S R)));
+  told = told_more before h.own (fault k v S R) d h.told (placed {P = P} {Q = Q} {R = R} {S = S} (subst (λ f. IsTold f d) same t));
 }
 
 -- ---- the tree of own errors

@@ -139,13 +139,7 @@ fn evaluate_body<'a, W: Evaluate<'a>>(
 {
     match body {
         Body::True => Ok(EvaluationResult::valid_empty(alloc)),
-        Body::False => Ok(one_error(
-            alloc,
-            ValidationErrorKind::FalseSchema,
-            node,
-            path,
-            location,
-        )?),
+        Body::False => Ok(one_error(alloc, ValidationErrorKind::FalseSchema, node)?),
         Body::Keywords(keywords) => {
             let children = each_child(keywords, alloc, node, path, ctx)?;
             Ok(EvaluationResult::from_children(alloc, children))

@@ -31,7 +31,7 @@ impl<'a, N: EvaluateNode<'a>> Evaluate<'a> for Not<N> {
         &'a self,
         alloc: Global,
         node: Node<'a>,
-        path: &mut InstancePath,
+        _path: &mut InstancePath,
         ctx: &mut ValidationContext,
     ) -> Result<EvaluationResult<'a>, AllocError> {
         if !self.node.accepts(node, ctx) {
@@ -40,6 +40,6 @@ impl<'a, N: EvaluateNode<'a>> Evaluate<'a> for Not<N> {
         let kind = ValidationErrorKind::Not {
             schema: &self.original,
         };
-        Ok(one_error(alloc, kind, node, path, self.location.as_str())?)
+        Ok(one_error(alloc, kind, node)?)
     }
 }

@@ -1,6 +1,7 @@
 // The errors that a keyword shows itself.
 ghost use Rattle.std.specs.Prelude.{◌≡◌, ◌++◌, ◌∷◌, [], List, IfOk, OnOk};
 ghost use Rattle.olk_base.specs.Nodes.{tree_of};
+ghost use Rattle.olk_spec.specs.Names.{Path};
 ghost use Rattle.olk_spec.specs.Faults.{Fault, fault};
 ghost use Rattle.olk_spec.specs.Texts.{keyword as keyword_name};
 ghost use Rattle.olk_reports.specs.Errors.{kind_of, fault_of};
@@ -8,9 +9,7 @@ ghost use Rattle.olk_reports.specs.Evaluations.{described_of, shown_of};
 ghost use Rattle.object_logic.specs.Wanted.{HasErrors, IsTold};
 
 use olk_base::Node;
-use olk_reports::{
-    ErrorDescription, EvaluationResult, InstancePath, ValidationError, ValidationErrorKind,
-};
+use olk_reports::{ErrorDescription, EvaluationResult, ValidationError, ValidationErrorKind};
 use std::alloc::{AllocError, Global};
 
 // The name of the keyword that finds errors of this kind; none of an error of building.
@@ -43,19 +42,16 @@ fn describe<'a>(
     Ok(ErrorDescription::new(keyword(error.kind()), message))
 }
 
-// Adds an error of its own about the node.
+// Adds an error of its own about the node. An error is shown without its places, so none are asked for.
 pub(crate) fn mark<'a>(
     outcome: &mut EvaluationResult<'a>,
     alloc: Global,
     kind: ValidationErrorKind<'a>,
     node: Node<'a>,
-    path: &InstancePath,
-    location: &'a str,
 ) -> Result<(), AllocError>
-    ensures { OnOk result ((before : List Fault) → HasErrors before (shown_of outcome.old) → HasErrors (before ++ fault (kind_of kind.entry) (tree_of node.entry) path.now location.now ∷ []) (shown_of outcome.new)) }
+    ensures { OnOk result ((before : List Fault) (P Q : Path) → HasErrors before (shown_of outcome.old) → HasErrors (before ++ fault (kind_of kind.entry) (tree_of node.entry) Q P ∷ []) (shown_of outcome.new)) }
 {
-    let text = String::from_str(alloc, path.as_str())?;
-    let error = ValidationError::new(kind, node, text, location);
+    let error = ValidationError::new(kind, node, String::new(alloc), "");
     outcome.mark_errored(describe(alloc, error)?)?;
     Ok(())
 }
@@ -65,12 +61,10 @@ pub(crate) fn one_error<'a>(
     alloc: Global,
     kind: ValidationErrorKind<'a>,
     node: Node<'a>,
-    path: &InstancePath,
-    location: &'a str,
 ) -> Result<EvaluationResult<'a>, AllocError>
-    ensures { IfOk result (λ r. HasErrors (fault (kind_of kind.entry) (tree_of node.entry) path.now location.now ∷ []) (shown_of r)) }
+    ensures { IfOk result (λ r. (P Q : Path) → HasErrors (fault (kind_of kind.entry) (tree_of node.entry) Q P ∷ []) (shown_of r)) }
 {
     let mut outcome = EvaluationResult::valid_empty(alloc);
-    mark(&mut outcome, alloc, kind, node, path, location)?;
+    mark(&mut outcome, alloc, kind, node)?;
     Ok(outcome)
 }

@@ -10,7 +10,7 @@ ghost use Rattle.olk_spec.specs.Reports.{required_faults, fault_if};
 ghost use Rattle.olk_reports.specs.Evaluations.{shown_of};
 ghost use Rattle.olk_tree.specs.Answers.{texts_of};
 ghost use Rattle.object_logic.specs.Wanted.{HasErrors, AreShown, refused, lacking_trees, trees_of};
-ghost use Rattle.olk_spec.specs.Names.{is_empty};
+ghost use Rattle.olk_spec.specs.Names.{Path, is_empty};
 
 use crate::evaluate::own::mark;
 use crate::evaluate::{Evaluate, Located};
@@ -46,14 +46,11 @@ impl<'a> Evaluate<'a> for RequiredValidator {
         &'a self,
         alloc: Global,
         node: Node<'a>,
-        path: &mut InstancePath,
+        _path: &mut InstancePath,
         _ctx: &mut ValidationContext,
     ) -> Result<EvaluationResult<'a>, AllocError> {
         match node.as_object() {
-            Some(members) => {
-                let location = self.location.as_str();
-                Ok(each_missing(&self.required, location, alloc, members, node, path)?)
-            }
+            Some(members) => { Ok(each_missing(&self.required, alloc, members, node)?) }
             None => Ok(EvaluationResult::valid_empty(alloc)),
         }
     }
@@ -62,25 +59,15 @@ impl<'a> Evaluate<'a> for RequiredValidator {
 // An error for each name that is no member.
 fn each_missing<'a>(
     names: &'a Vec<String>,
-    location: &'a str,
     alloc: Global,
     members: &Map<String, Value>,
     node: Node<'a>,
-    path: &InstancePath,
 ) -> Result<EvaluationResult<'a>, AllocError>
-    ensures { IfOk result (λ r. HasErrors (map (λ n. fault (Required n) (tree_of node.entry) path.now location.now) (missing (texts_of names.now.items) (object (members_view members.now.entries)))) (shown_of r)) }
+    ensures { IfOk result (λ r. (P Q : Path) → HasErrors (map (λ n. fault (Required n) (tree_of node.entry) Q P) (missing (texts_of names.now.items) (object (members_view members.now.entries)))) (shown_of r)) }
 {
     let mut outcome = EvaluationResult::valid_empty(alloc);
     for name in names {
-        mark_missing(
-            &mut outcome,
-            name.as_str(),
-            location,
-            alloc,
-            members,
-            node,
-            path,
-        )?;
+        mark_missing(&mut outcome, name.as_str(), alloc, members, node)?;
     }
     Ok(outcome)
 }
@@ -89,13 +76,11 @@ fn each_missing<'a>(
 pub(crate) fn mark_missing<'a>(
     outcome: &mut EvaluationResult<'a>,
     name: &'a str,
-    location: &'a str,
     alloc: Global,
     members: &Map<String, Value>,
     node: Node<'a>,
-    path: &InstancePath,
 ) -> Result<(), AllocError>
-    ensures { OnOk result ((before : List Fault) → HasErrors before (shown_of outcome.old) → HasErrors (before ++ fault_if (not (has name.now (object (members_view members.now.entries)))) (Required name.now) (tree_of node.entry) location.now path.now) (shown_of outcome.new)) }
+    ensures { OnOk result ((before : List Fault) (P Q : Path) → HasErrors before (shown_of outcome.old) → HasErrors (before ++ fault_if (not (has name.now (object (members_view members.now.entries)))) (Required name.now) (tree_of node.entry) P Q) (shown_of outcome.new)) }
 {
     if has_member(members, name) {
         return Ok(());
@@ -105,8 +90,6 @@ pub(crate) fn mark_missing<'a>(
         alloc,
         ValidationErrorKind::Required { property: name },
         node,
-        path,
-        location,
     )?;
     Ok(())
 }
@@ -125,17 +108,15 @@ pub(crate) fn lacks_one(members: &Map<String, Value>, first: &str, second: &str)
 fn both_missing<'a>(
     first: &'a str,
     second: &'a str,
-    location: &'a str,
     alloc: Global,
     members: &Map<String, Value>,
     node: Node<'a>,
-    path: &InstancePath,
 ) -> Result<EvaluationResult<'a>, AllocError>
-    ensures { IfOk result (λ r. HasErrors (map (λ n. fault (Required n) (tree_of node.entry) path.now location.now) (missing (first.now ∷ second.now ∷ []) (object (members_view members.now.entries)))) (shown_of r)) }
+    ensures { IfOk result (λ r. (P Q : Path) → HasErrors (map (λ n. fault (Required n) (tree_of node.entry) Q P) (missing (first.now ∷ second.now ∷ []) (object (members_view members.now.entries)))) (shown_of r)) }
 {
     let mut outcome = EvaluationResult::valid_empty(alloc);
-    mark_missing(&mut outcome, first, location, alloc, members, node, path)?;
-    mark_missing(&mut outcome, second, location, alloc, members, node, path)?;
+    mark_missing(&mut outcome, first, alloc, members, node)?;
+    mark_missing(&mut outcome, second, alloc, members, node)?;
     Ok(outcome)
 }
 
@@ -154,7 +135,7 @@ pub(crate) fn missing_child<'a>(
     if !lacks_one(members, first, second) {
         return Ok(None);
     }
-    let outcome = both_missing(first, second, location, alloc, members, node, path)?;
+    let outcome = both_missing(first, second, alloc, members, node)?;
     let text = String::from_str(alloc, path.as_str())?;
     Ok(Some(EvaluationNode::new(location, text, outcome)))
 }

@@ -1,4 +1,8 @@
-use Rattle.std.proofs.Common.{sym, ap, subst, ◌∙◌}
+use Rattle.olk_spec.specs.Faults.{fault, FalseSchema}
+use Rattle.olk_reports.proofs.Errors.{kind_of_false_schema}
+use Rattle.object_logic.specs.Wanted.{HasErrors}
+use Rattle.object_logic.proofs.Own.{erring_like, erring_verdict}
+use Rattle.std.proofs.Common.{[], ◌∷◌, sym, ap, subst, ◌∙◌}
 use Rattle.olk_base.specs.Nodes.{tree_of}
 use Rattle.olk_spec.specs.Tree.{IsLikeTree}
 use Rattle.olk_reports.specs.Evaluations.{node_at, shown_of}
@@ -14,3 +18,14 @@ pub returns-in_ok-children-in-Keywords-clause-verdict : goal.returns-in_ok-child
 returns-in_ok-children-in-Keywords-clause-verdict g c =
     branches_verdict g.W.Evaluate.shows g.W.Evaluate.means c.args.ctx.now.answer (tree_of c.args.node) c.args.location.now c.args.path.now c.in-Keywords.keywords.items c.in_ok-children-in-Keywords.ensures.shown c.from_children.ensures
     ∙ ap (λ b. (body_means g.W.Evaluate.means b (tree_of c.args.node)).accepts c.args.ctx.now.answer) (sym c.in-Keywords.is)
+
+pub returns-in_ok-one_error-in-False-clause-shows : goal.returns-in_ok-one_error-in-False-clause-shows
+returns-in_ok-one_error-in-False-clause-shows g c =
+    let error = subst (λ k. HasErrors (fault k (tree_of c.args.node) c.args.path.now c.args.location.now ∷ []) (shown_of c.in_ok-one_error-in-False.field-0)) kind_of_false_schema (c.in_ok-one_error-in-False.ensures c.args.location.now c.args.path.now) in
+    subst (λ b. IsLikeTree (body_shows (λ k. g.W.Evaluate.shows k c.args.ctx.now.answer) c.args.location.now b (tree_of c.args.node) c.args.path.now) (node_at c.args.location.now c.args.path.now (shown_of c.in_ok-one_error-in-False.field-0))) (sym c.in-False.is)
+    (erring_like c.args.location.now c.args.path.now (fault FalseSchema (tree_of c.args.node) c.args.path.now c.args.location.now ∷ []) error)
+
+pub returns-in_ok-one_error-in-False-clause-verdict : goal.returns-in_ok-one_error-in-False-clause-verdict
+returns-in_ok-one_error-in-False-clause-verdict g c =
+    erring_verdict c.args.location.now c.args.path.now (fault _ (tree_of c.args.node) c.args.path.now c.args.location.now ∷ []) (c.in_ok-one_error-in-False.ensures c.args.location.now c.args.path.now)
+    ∙ ap (λ b. (body_means g.W.Evaluate.means b (tree_of c.args.node)).accepts c.args.ctx.now.answer) (sym c.in-False.is)

@@ -8,6 +8,6 @@ use Rattle.object_logic.proofs.Own.{no_error, two_missing}
 use Rattle.object_logic.proofs.evaluate.required.both_missing.Goals as goal
 
 pub returns : goal.returns
-returns c =
-    let first = c.in_ok-mark_missing.ensures [] (no_error c.valid_empty-outcome.ensures) in
-    two_missing (λ n. fault (Required n) (tree_of c.args.node) c.args.path.now c.args.location.now) (not (has c.args.first.now (object (members_view c.args.members.now.entries)))) (not (has c.args.second.now (object (members_view c.args.members.now.entries)))) c.args.first.now c.args.second.now (c.in_ok-mark_missing-2.ensures _ first)
+returns c P Q =
+    let first = c.in_ok-mark_missing.ensures [] P Q (no_error c.valid_empty-outcome.ensures) in
+    two_missing (λ n. fault (Required n) (tree_of c.args.node) Q P) (not (has c.args.first.now (object (members_view c.args.members.now.entries)))) (not (has c.args.second.now (object (members_view c.args.members.now.entries)))) c.args.first.now c.args.second.now (c.in_ok-mark_missing-2.ensures _ P Q first)

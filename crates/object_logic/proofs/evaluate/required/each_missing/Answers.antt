@@ -6,12 +6,12 @@ use Rattle.object_logic.proofs.Own.{errors_start, errors_more, errors_end, missi
 use Rattle.object_logic.proofs.evaluate.required.each_missing.Goals as goal
 
 pub loop-name-init : goal.loop-name-init
-loop-name-init c = errors_start c.valid_empty-outcome.ensures refl
+loop-name-init c P Q = errors_start c.valid_empty-outcome.ensures refl
 
 pub loop-name-preserved : goal.loop-name-preserved
-loop-name-preserved c = errors_more _ _ c.loop-name.invariant
-    (missing_at (members_view c.args.members.now.entries) (λ n. fault (Required n) (tree_of c.args.node) c.args.path.now c.args.location.now) c.args.names.now.items c.deref-name-items.result.now c.loop-name.name-index c.deref-name-items.ensures.value c.name-item.is c.loop-name-test.true c.as_str.ensures.value)
-    c.in_ok-mark_missing.ensures
+loop-name-preserved c P Q = errors_more _ _ (c.loop-name.invariant P Q)
+    (missing_at (members_view c.args.members.now.entries) (λ n. fault (Required n) (tree_of c.args.node) Q P) c.args.names.now.items c.deref-name-items.result.now c.loop-name.name-index c.deref-name-items.ensures.value c.name-item.is c.loop-name-test.true c.as_str.ensures.value)
+    (λ before h. c.in_ok-mark_missing.ensures before P Q h)
 
 pub returns : goal.returns
-returns c = errors_end c.loop-name.invariant (missing_end (members_view c.args.members.now.entries) (λ n. fault (Required n) (tree_of c.args.node) c.args.path.now c.args.location.now) c.args.names.now.items c.deref-name-items.result.now c.loop-name.name-index c.deref-name-items.ensures.value c.loop-name-test.false)
+returns c P Q = errors_end (c.loop-name.invariant P Q) (missing_end (members_view c.args.members.now.entries) (λ n. fault (Required n) (tree_of c.args.node) Q P) c.args.names.now.items c.deref-name-items.result.now c.loop-name.name-index c.deref-name-items.ensures.value c.loop-name-test.false)
