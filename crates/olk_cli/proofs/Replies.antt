@@ -24,6 +24,7 @@ use Rattle.olk_cli.specs.Requests.{Asked, has_fraction}
 use Rattle.olk_cli.specs.Texts.{json_text}
 use Rattle.olk_cli.specs.Told.{told, errors_data, TellsFound, TellsSorted, PrintNoFraction}
 use Rattle.olk_cli.specs.Answers.{fault_refusal, TellsFirst, TellsErrors, TellsEvaluation, IsReplyBy, IsReplyWhere, IsReply}
+use Rattle.olk_cli.proofs.ToldLemmas.{tree_data_is}
 use Rattle.olk_cli.proofs.Fractions.{IsPlain, PrintsNone, malformation_prints_no_fraction, neither, by_recursion}
 use Rattle.olk_cli.proofs.Plain.{same_faults_print_none, cut_fault_prints_none, tree_prints_none, errors_promised}
 
@@ -96,5 +97,5 @@ module _ (r : Asked) (plain : has_fraction r ≡ false) where
       is_tree = subst (λ u. IsTree bench u r.schema r.instance [] [] t) is shows;
       verdict = valid ∙ ap (λ u. accepts bench u r.schema r.instance) is;
       promised = All-from_recursion IsPromised _ (promised_by_recursion _ (errors_promised _ (tree_prints_none bench r.unfinished r.schema r.instance schema_plain instance_plain [] [])));
-      is = tells;
+      is = tells ∙ ap json_text (tree_data_is t);
     }

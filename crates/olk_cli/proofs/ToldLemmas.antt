@@ -3,15 +3,17 @@ use Rattle.std.proofs.Common.{◌≡◌, ◌≢◌, ℕ, ◌+◌, ◌<◌, ◌==
 use Rattle.std.specs.List.Sorted.{IsSorted}
 use Rattle.std.proofs.lemmas.Bool.{ne_eqb}
 use Rattle.std.proofs.lemmas.List.{get_or-map, length-map, take_more, map-append}
-use Rattle.serde_json.specs.Data.{string}
+use Rattle.serde_json.specs.Data.{Data, string, item}
 use Rattle.serde_json.specs.View.{items_of}
 use Rattle.serde_json.specs.Written.{has_float, items_have_float}
 use Rattle.olk_spec.specs.Names.{Name, Path, is_empty}
-use Rattle.olk_spec.specs.Tree.{Described}
+use Rattle.olk_spec.specs.Tree.{Tree, Described, annotations, errors}
+use Rattle.olk_spec.specs.Answers as rows
+use Rattle.olk_spec.specs.Json.{items_from}
 use Rattle.olk_spec.specs.Texts.{prints_fraction}
 use Rattle.olk_reports.specs.Errors.{fault_of}
 use Rattle.olk_reports.specs.declared.error.ValidationError.{ValidationError}
-use Rattle.olk_cli.specs.Evaluated.{annotation_data, description_data, evaluation_data}
+use Rattle.olk_cli.specs.Evaluated.{annotation_data, description_data, evaluation_data, tree_data}
 use Rattle.olk_cli.specs.Told.{Told, told, shown, told_cmp, error_data, errors_data, PrintNoFraction}
 use Rattle.olk_cli.specs.declared.errors.ToldError.{ToldError}
 
@@ -68,3 +70,20 @@ descriptions_are_plain ((P, Q, (k, t, fraction)) ∷ es) = descriptions_are_plai
 
 pub evaluation_is_plain : (valid : Bool) (ns : List (Path × Path × List Name)) (es : List (Path × Path × Described)) → has_float (evaluation_data valid ns es) ≡ false
 evaluation_is_plain valid ns es = rw (annotations_are_plain ns, descriptions_are_plain es)
+
+-- the answer is the one of the worked rows
+
+items_same : (ds : List Data) → items_of ds ≡ items_from ds
+items_same [] = refl
+items_same (d ∷ ds) = ap (item d) (items_same ds)
+
+annotations_same : (ns : List (Path × Path × List Name)) → items_of (map annotation_data ns) ≡ items_from (map rows.annotation_data ns)
+annotations_same [] = refl
+annotations_same ((P, Q, names) ∷ ns) = rw (items_same (map string names)) (ap (item (rows.annotation_data (P, Q, names))) (annotations_same ns))
+
+descriptions_same : (es : List (Path × Path × Described)) → items_of (map description_data es) ≡ items_from (map rows.error_data es)
+descriptions_same [] = refl
+descriptions_same ((P, Q, (k, t, fraction)) ∷ es) = ap (item (rows.error_data (P, Q, (k, t, fraction)))) (descriptions_same es)
+
+pub tree_data_is : (t : Tree) → tree_data t ≡ rows.tree_data t
+tree_data_is t = rw (annotations_same (annotations t), descriptions_same (errors t)) refl

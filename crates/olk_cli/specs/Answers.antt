@@ -9,7 +9,8 @@ use Rattle.olk_spec.specs.Meaning.{accepts, report, IsTree}
 use Rattle.olk_spec.specs.Meaning as meant
 use Rattle.olk_spec.specs.Tree.{Tree, errors, is_valid}
 use Rattle.std.specs.List.{All}
-use Rattle.olk_cli.specs.Evaluated.{tree_data, IsPromised}
+use Rattle.olk_spec.specs.Answers.{tree_data}
+use Rattle.olk_cli.specs.Evaluated.{IsPromised}
 use Rattle.olk_spec.specs.Bench.{bench}
 use Rattle.olk_errors.specs.Found.{IsOfReport}
 use Rattle.olk_cli.specs.Told.{verdict, told, first_data, TellsSorted}

@@ -1,4 +1,4 @@
--- What is told of an evaluation.
+-- What is told of an evaluation: `tree_data` of the worked rows, as lists of annotations and errors.
 use Rattle.std.specs.Prelude.{◌≡◌, Bool, false, List, codes, map}
 use Rattle.serde_json.specs.Data.{Data, boolean, string, array, object, no_members, member}
 use Rattle.serde_json.specs.View.{items_of}
