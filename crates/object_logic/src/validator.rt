@@ -127,7 +127,14 @@ impl<K: Leaf, R: RegexEngine> Validator<K, R> {
         ensures memory { OnErr result (errors.new.items ≡ errors.old.items) }
     {
         let mut path = InstancePath::new(alloc);
-        collect_errors_for(&self.root, alloc, Node::Value(instance), &mut path, ctx, errors)
+        collect_errors_for(
+            &self.root,
+            alloc,
+            Node::Value(instance),
+            &mut path,
+            ctx,
+            errors,
+        )
     }
 
     /// What the schema shows of the instance: a tree of results, with their annotations and errors (JSON Schema 2020-12

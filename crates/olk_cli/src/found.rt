@@ -77,7 +77,11 @@ fn expect_found(
         }
         Err(ValidateError::Memory(error)) => return Err(Fail::from(error)),
     }
-    assert_eq!(rt; validator.is_valid(&instance, &mut ctx), all.is_empty(), "{row}");
+    assert_eq!(rt;
+        validator.is_valid(&instance, &mut ctx),
+        all.is_empty(),
+        "{row}"
+    );
     Ok(())
 }
 
@@ -88,7 +92,15 @@ fn required_names_and_members(rt: HostRuntime) -> Result<(), Fail> {
         r#"{"properties":{"a":{"type":"integer"},"b":{"type":"string"}},"required":["a","b"]}"#;
     let missing = r#""b" is a required property @ "", /required"#;
     let wrong = r#""x" is not of type "integer" @ "/a", /properties/a/type"#;
-    expect_found(&rt, alloc, "both names are there", two, r#"{"a":1,"b":"x","c":3}"#, "", &[])?;
+    expect_found(
+        &rt,
+        alloc,
+        "both names are there",
+        two,
+        r#"{"a":1,"b":"x","c":3}"#,
+        "",
+        &[],
+    )?;
     expect_found(
         &rt,
         alloc,
@@ -105,7 +117,10 @@ fn required_names_and_members(rt: HostRuntime) -> Result<(), Fail> {
         two,
         r#"{"a":"x","b":1}"#,
         wrong,
-        &[wrong, r#"1 is not of type "string" @ "/b", /properties/b/type"#],
+        &[
+            wrong,
+            r#"1 is not of type "string" @ "/b", /properties/b/type"#,
+        ],
     )?;
     let first = r#""a" is a required property @ "", /required"#;
     expect_found(
@@ -151,8 +166,17 @@ fn required_names_and_members(rt: HostRuntime) -> Result<(), Fail> {
 #[test]
 fn branches(rt: HostRuntime) -> Result<(), Fail> {
     let alloc = rt.alloc();
-    let none = "1 is not valid under any of the schemas listed in the 'anyOf' keyword @ \"\", /anyOf";
-    expect_found(&rt, alloc, "no branch, an empty context", r#"{"anyOf":[]}"#, "1", none, &[none])?;
+    let none =
+        "1 is not valid under any of the schemas listed in the 'anyOf' keyword @ \"\", /anyOf";
+    expect_found(
+        &rt,
+        alloc,
+        "no branch, an empty context",
+        r#"{"anyOf":[]}"#,
+        "1",
+        none,
+        &[none],
+    )?;
     let both = concat!(
         "{} is not valid under any of the schemas listed in the 'anyOf' keyword @ \"\", /anyOf",
         " {{} is not of type \"integer\" @ \"\", /anyOf/0/type;}",
@@ -172,7 +196,15 @@ fn branches(rt: HostRuntime) -> Result<(), Fail> {
         "1 is not valid under any of the schemas listed in the 'anyOf' keyword @ \"\", /anyOf",
         " {1 is not of type \"string\" @ \"\", /anyOf/0/type;}"
     );
-    expect_found(&rt, alloc, "one branch", r#"{"anyOf":[{"type":"string"}]}"#, "1", one, &[one])?;
+    expect_found(
+        &rt,
+        alloc,
+        "one branch",
+        r#"{"anyOf":[{"type":"string"}]}"#,
+        "1",
+        one,
+        &[one],
+    )?;
     expect_found(
         &rt,
         alloc,
@@ -182,7 +214,15 @@ fn branches(rt: HostRuntime) -> Result<(), Fail> {
         "",
         &[],
     )?;
-    expect_found(&rt, alloc, "nothing is wanted of all of none", r#"{"allOf":[]}"#, "1", "", &[])?;
+    expect_found(
+        &rt,
+        alloc,
+        "nothing is wanted of all of none",
+        r#"{"allOf":[]}"#,
+        "1",
+        "",
+        &[],
+    )?;
     let text = r#"1 is not of type "string" @ "", /allOf/0/type"#;
     let least = r#"1 is less than the minimum of 5 @ "", /allOf/1/minimum"#;
     expect_found(
@@ -195,7 +235,15 @@ fn branches(rt: HostRuntime) -> Result<(), Fail> {
         &[least, text],
     )?;
     let not = r#"{"type":"string"} is not allowed for "foo" @ "", /not"#;
-    expect_found(&rt, alloc, "not", r#"{"not":{"type":"string"}}"#, r#""foo""#, not, &[not])?;
+    expect_found(
+        &rt,
+        alloc,
+        "not",
+        r#"{"not":{"type":"string"}}"#,
+        r#""foo""#,
+        not,
+        &[not],
+    )?;
     let never = "False schema does not allow 1 @ \"\", ";
     expect_found(&rt, alloc, "a false schema", "false", "1", never, &[never])?;
     Ok(())
@@ -222,7 +270,9 @@ fn many_declared_names(rt: HostRuntime) -> Result<(), Fail> {
         }
         instance.push_str("}")?;
         let last = declared - 1;
-        let wanted = format!(in alloc; "\"x\" is not of type \"integer\" @ \"/p{last}\", /properties/p{last}/type")?;
+        let wanted = format!(in alloc;
+            "\"x\" is not of type \"integer\" @ \"/p{last}\", /properties/p{last}/type"
+        )?;
         let alone = format!(in alloc; "{{\"p{last}\":\"x\"}}")?;
         for value in [instance.as_str(), alone.as_str()] {
             expect_found(
@@ -314,7 +364,10 @@ fn collect_at_last<'a>(
 ) -> Result<(), Fail> {
     let mut ctx = ValidationContext::new(false);
     let before = errors.len();
-    if validator.collect_errors(alloc, instance, &mut ctx, errors).is_err() {
+    if validator
+        .collect_errors(alloc, instance, &mut ctx, errors)
+        .is_err()
+    {
         if errors.len() != before {
             return Err(Fail::new("the list is not as it was"));
         }

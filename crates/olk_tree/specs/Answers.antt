@@ -152,7 +152,6 @@ module _ {K R : Type 0} (o : Kit K R) where
     means = body_means (keyword_means o.finds (λ a. a.means)) n.body;
     report = λ u. body_finds (keyword_finds o.finds (λ a. a.means) o.keyword_of (λ a. a.report) u) n.location n.body;
     first = λ u. body_first (keyword_first o.finds (λ a. a.means) o.keyword_of (λ a. a.report) u (λ a. a.first)) n.location n.body;
-
     tree = λ u. body_shows (keyword_shows o.finds (λ a. a.means) o.keyword_of (λ a. a.tree) u) n.location n.body;
     location = n.location;
   }
