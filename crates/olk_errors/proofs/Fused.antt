@@ -1,11 +1,11 @@
 -- Two names that are wanted, and then the members.
-use Rattle.std.proofs.Common.{◌≡◌, Bool, true, false, true≢false, ◌&&◌, List, [], ◌∷◌, ◌++◌, map, refl, sym, ap, subst, ◌∙◌}
+use Rattle.std.proofs.Common.{Bool, true, false, true≢false, ◌&&◌, List, [], ◌∷◌, ◌++◌, map, refl, sym, ap, subst, ◌∙◌}
 use Rattle.std.specs.List.{Contains}
 use Rattle.std.proofs.lemmas.List.Elements.{Contains-append_left, Contains-append_right}
 use Rattle.olk_spec.specs.Names.{Name, put_if, is_empty}
 use Rattle.olk_spec.specs.Faults.{Fault}
 use Rattle.olk_tree.specs.Answers.{or_else, head_of}
-use Rattle.olk_errors.specs.Found.{Passes, IsLikeOneOf, IsKeptOf, IsTold}
+use Rattle.olk_errors.specs.Found.{Passes, IsTold}
 use Rattle.olk_errors.proofs.Steps.{contains_first}
 
 -- ---- one after the other

@@ -3,7 +3,7 @@ use Rattle.std.proofs.Common.{◌≡◌, Bool, true, false, not, ◌&&◌, List,
 use Rattle.std.specs.List.{flat_map}
 use Rattle.serde_json.specs.Data.{Data, object, Members, null, boolean, number, string, array}
 use Rattle.serde_json.specs.Find.{as_object}
-use Rattle.std.proofs.Common.{Option, Some, None}
+use Rattle.std.proofs.Common.{None}
 use Rattle.olk_spec.specs.Names.{Name, Path, put_if, is_empty}
 use Rattle.olk_spec.specs.Faults.{Fault, fault, Required}
 use Rattle.olk_spec.specs.Schemas.{has, is_object}

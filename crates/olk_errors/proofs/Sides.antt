@@ -2,7 +2,6 @@
 use Rattle.std.proofs.Common.{◌≡◌, ◌⊎◌, inl, inr, map, Bool, List, [], ◌∷◌, ◌++◌, Option, Some, None, option_to_list, String, Global, string_bytes, refl, sym, ap, subst, ◌∙◌}
 use Rattle.std.specs.List.{flat_map}
 use Rattle.std.proofs.lemmas.List.{append-nil}
-use Rattle.std.proofs.lemmas.Grind.{flat_map-append}
 use mathlib.Core.Path.{subst₂}
 use Rattle.serde_json.specs.Data.{Data, Members, null, boolean, number, string, array, object}
 use Rattle.serde_json.specs.Find.{as_object}
@@ -11,13 +10,12 @@ use Rattle.serde_json.specs.declared.value.Value.{Value}
 use Rattle.olk_spec.specs.Names.{Name, Path, ◌//◌, lookup}
 use Rattle.olk_spec.specs.Faults.{Fault}
 use Rattle.olk_spec.specs.Schemas.{listed}
-use Rattle.olk_reports.specs.declared.error.ValidationError.{ValidationError}
 use Rattle.olk_tree.specs.Answers.{beside, or_else, first_of}
 use Rattle.olk_tree.specs.Questions.{Question}
 use Rattle.olk_check.specs.Declarations.{declared_mean, members_mean}
 use Rattle.olk_check.proofs.Sides.{Distinct, other_side}
 use Rattle.olk_check.proofs.Merge.{Rising, in_step}
-use Rattle.olk_errors.specs.Found.{Appends, Passes, IsTold}
+use Rattle.olk_errors.specs.Found.{Passes, IsTold}
 use Rattle.olk_errors.specs.Properties.{declared_finds, declared_first, members_find, members_first}
 
 -- ---- none or one

@@ -12,7 +12,7 @@ use Rattle.olk_reports.specs.Errors.{fault_of}
 use Rattle.olk_reports.specs.declared.error.ValidationError.{ValidationError}
 use Rattle.olk_tree.specs.Answers.{or_else, first_of}
 use Rattle.olk_tree.specs.Questions.{Question, every, some}
-use Rattle.olk_errors.specs.Found.{Appends, AreLike, Passes, IsLikeOneOf, IsKeptOf, IsTold}
+use Rattle.olk_errors.specs.Found.{Appends, AreLike, Passes, IsTold}
 use Rattle.olk_errors.proofs.Appending.{appends_nothing, appends_more, cut_back}
 
 -- the element at i, and those after it

@@ -11,7 +11,7 @@ use Rattle.olk_spec.specs.Reports.{required_faults, fault_if}
 use Rattle.olk_spec.specs.Tree.{plain}
 use Rattle.olk_tree.specs.Kit.{Kit}
 use Rattle.olk_tree.specs.Shown.{missing_trees}
-use Rattle.olk_tree.specs.Questions.{always, both, every, some}
+use Rattle.olk_tree.specs.Questions.{always, both, every}
 use Rattle.olk_tree.specs.Answers.{Answers, two_texts, or_else, head_of, first_of, keyword_means, body_means, keyword_finds, body_finds, keyword_first, body_first, keyword_shows, body_shows, node_step, answers}
 use Rattle.olk_tree.specs.declared.node.KeywordOver.{KeywordOver}
 use Rattle.olk_tree.specs.declared.node.KeywordOver.TheVariants as keyword

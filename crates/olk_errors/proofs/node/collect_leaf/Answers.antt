@@ -1,7 +1,6 @@
 use Rattle.std.proofs.Common.{◌≡◌, rules, List, length, refl, arith, [], ◌∷◌, map, string_bytes, sym, ap, subst, ◌∙◌}
 use Rattle.std.specs.Vec.Iter.{into_iter_items}
 use Rattle.olk_base.specs.Nodes.{tree_of}
-use Rattle.olk_base.specs.Lawful.{texts_of}
 use Rattle.olk_spec.specs.Faults.{fault, Leaf}
 use Rattle.olk_reports.proofs.Errors.{kind_of_leaf}
 use Rattle.olk_errors.specs.Found.{Appends}

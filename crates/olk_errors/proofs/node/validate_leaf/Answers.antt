@@ -1,4 +1,4 @@
-use Rattle.std.proofs.Common.{refl, sym, ap, subst, ◌∙◌, string_bytes}
+use Rattle.std.proofs.Common.{ap, subst, ◌∙◌, string_bytes}
 use Rattle.olk_base.specs.Nodes.{tree_of}
 use Rattle.olk_base.specs.Lawful.{IsOneOf}
 use Rattle.olk_spec.specs.Faults.{fault, Leaf}

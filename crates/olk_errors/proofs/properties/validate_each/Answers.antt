@@ -1,18 +1,12 @@
-use Rattle.std.proofs.Common.{◌≡◌, rules, map, string_bytes, sym, ap, subst, ◌∙◌}
-use Rattle.std.specs.List.{flat_map}
-use Rattle.std.proofs.lemmas.Slice.Zip.{either_empty_from_Zip}
-use Rattle.serde_json.specs.Data.{object}
-use Rattle.serde_json.specs.View.{view, members_view}
-use Rattle.olk_spec.specs.Names.{◌//◌}
-use Rattle.olk_spec.specs.Schemas.{at, listed}
-use Rattle.olk_tree.specs.Answers.{named, first_of}
-use Rattle.olk_tree.specs.Questions.{every}
+use Rattle.std.proofs.Common.{◌≡◌, rules, subst}
+use Rattle.serde_json.specs.View.{view}
+use Rattle.olk_tree.specs.Answers.{named}
 use Rattle.olk_check.specs.Declarations.{member_means}
-use Rattle.olk_errors.specs.Found.{Appends, IfInvalid, Passes, IsTold}
+use Rattle.olk_errors.specs.Found.{IfInvalid, Passes, IsTold}
 use Rattle.olk_errors.specs.Properties.{member_finds, member_first}
-use Rattle.olk_errors.proofs.Appending.{at_ok, appends_same, left_by}
-use Rattle.olk_errors.proofs.Steps.{Collecting, collecting_start, collecting_more, collecting_end, Passing, passing_from, passing_more, passing_end, passing_told}
-use Rattle.olk_errors.proofs.Sides.{all_members, next_member, no_member, all_pairs, next_pair, no_pair}
+use Rattle.olk_errors.proofs.Appending.{left_by}
+use Rattle.olk_errors.proofs.Steps.{passing_from, passing_more, passing_told}
+use Rattle.olk_errors.proofs.Sides.{all_members, next_member}
 use Rattle.olk_errors.proofs.properties.validate_each.Goals as goal
 
 pub loop-name-init : goal.loop-name-init

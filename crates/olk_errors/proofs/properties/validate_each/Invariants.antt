@@ -1,13 +1,8 @@
-use Rattle.std.specs.List.{flat_map}
-use Rattle.serde_json.specs.Data.{object}
 use Rattle.serde_json.specs.View.{members_view}
-use Rattle.olk_spec.specs.Names.{◌//◌}
-use Rattle.olk_spec.specs.Schemas.{at, listed}
-use Rattle.olk_tree.specs.Answers.{named, beside, first_of}
-use Rattle.olk_tree.specs.Questions.{every}
+use Rattle.olk_spec.specs.Schemas.{listed}
+use Rattle.olk_tree.specs.Answers.{named}
 use Rattle.olk_check.specs.Declarations.{member_means}
 use Rattle.olk_errors.specs.Properties.{member_finds, member_first}
-use Rattle.std.proofs.Common.{map, string_bytes}
 use Rattle.olk_errors.proofs.Steps.{Passing}
 use Rattle.olk_errors.proofs.properties.validate_each.Given as goal
 

@@ -1,12 +1,10 @@
-use Rattle.std.proofs.Common.{sym, subst}
 use Rattle.std.proofs.lemmas.Result.{on_ok_weaker}
 use Rattle.serde_json.specs.View.{members_view}
 use Rattle.olk_tree.specs.Answers.{named}
 use Rattle.olk_check.proofs.Merge.{ascending_rising, sorted_rising}
 use Rattle.olk_check.proofs.Sides.{ascending_distinct, sorted_distinct}
-use Rattle.olk_errors.specs.Found.{Appends}
 use Rattle.olk_errors.proofs.Appending.{told_so}
-use Rattle.olk_errors.proofs.Sides.{finds_sides, passes_sides, told_sides}
+use Rattle.olk_errors.proofs.Sides.{passes_sides, told_sides}
 use Rattle.olk_errors.proofs.properties.validate_members.Goals as goal
 
 pub returns-then-len-clause-ok : goal.returns-then-len-clause-ok

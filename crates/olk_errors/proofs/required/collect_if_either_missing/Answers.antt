@@ -1,4 +1,4 @@
-use Rattle.std.proofs.Common.{[], ◌∷◌, ◌&&◌, not, subst}
+use Rattle.std.proofs.Common.{[], ◌&&◌, not, subst}
 use Rattle.std.proofs.lemmas.Result.{on_ok_weaker}
 use Rattle.olk_base.specs.Nodes.{tree_of}
 use Rattle.olk_spec.specs.Names.{put_if}

@@ -1,4 +1,4 @@
-use Rattle.std.proofs.Common.{[], ◌∷◌, map, true, refl, sym, subst}
+use Rattle.std.proofs.Common.{map, true, refl, sym, subst}
 use Rattle.std.proofs.lemmas.Result.{on_ok_weaker}
 use Rattle.olk_base.specs.Nodes.{tree_of}
 use Rattle.olk_spec.specs.Faults.{fault, Required, itself}

@@ -1,4 +1,4 @@
-use Rattle.std.proofs.Common.{map, not, refl, sym, ap, ◌∙◌}
+use Rattle.std.proofs.Common.{map, not, sym, ap, ◌∙◌}
 use mathlib.Core.Path.{subst₂}
 use Rattle.std.proofs.lemmas.Result.{on_ok_weaker}
 use Rattle.olk_base.specs.Nodes.{tree_of}

@@ -1,6 +1,5 @@
 use Rattle.std.proofs.Common.{[], ◌∷◌, not, refl, sym, ap, ◌∙◌}
 use mathlib.Core.Path.{subst₂}
-use Rattle.std.proofs.lemmas.Result.{on_ok_weaker}
 use Rattle.olk_base.specs.Nodes.{tree_of}
 use Rattle.olk_spec.specs.Faults.{AnyOf, context}
 use Rattle.olk_reports.proofs.Errors.{kind_of_any_of, context_faults}

@@ -1,10 +1,8 @@
-use Rattle.std.proofs.Common.{ap, sym, subst}
+use Rattle.std.proofs.Common.{ap}
 use Rattle.olk_base.specs.Nodes.{tree_of}
 use Rattle.olk_tree.specs.Answers.{named}
 use Rattle.olk_check.proofs.MemberWalks.{declared_nothing}
-use Rattle.olk_errors.specs.Found.{Appends}
-use Rattle.olk_errors.proofs.Appending.{appends_nothing}
-use Rattle.olk_errors.proofs.Sides.{finds_nothing, first_nothing}
+use Rattle.olk_errors.proofs.Sides.{first_nothing}
 use Rattle.olk_errors.proofs.properties.SmallPropertiesErrors.validate.Goals as goal
 
 pub returns-in-None-clause-ok : goal.returns-in-None-clause-ok

@@ -1,20 +1,16 @@
 use Rattle.olk_spec.specs.Faults.{fault, Required}
-use Rattle.std.proofs.Common.{map, [], ◌∷◌, ◌++◌, ◌&&◌, refl, sym, ap, subst, ◌∙◌, string_bytes}
+use Rattle.std.proofs.Common.{map, [], ◌∷◌, ◌++◌, sym, subst}
 use Rattle.std.proofs.lemmas.Result.{on_ok_weaker}
 use Rattle.serde_json.specs.View.{members_view}
 use Rattle.olk_base.specs.Nodes.{tree_of}
-use Rattle.olk_spec.specs.Names.{is_empty}
-use Rattle.olk_spec.specs.Accepts.{missing}
 use Rattle.olk_spec.specs.Reports.{required_faults}
-use Rattle.olk_tree.specs.Answers.{named, two_texts, head_of}
-use Rattle.olk_check.specs.Declarations.{declared_mean}
-use Rattle.olk_check.proofs.MemberWalks.{object_of, declared_nothing}
-use Rattle.olk_errors.specs.Found.{Appends, IfInvalid, Passes, IsTold}
-use Rattle.olk_errors.specs.Properties.{declared_finds, declared_first}
-use Rattle.olk_errors.proofs.Appending.{after_cut, appends_nothing, left_by, told_so}
-use Rattle.olk_errors.proofs.Fused.{both_pass, first_told, second_told}
+use Rattle.olk_tree.specs.Answers.{named, two_texts}
+use Rattle.olk_check.proofs.MemberWalks.{object_of}
+use Rattle.olk_errors.specs.Found.{Appends}
+use Rattle.olk_errors.specs.Properties.{declared_finds}
+use Rattle.olk_errors.proofs.Appending.{after_cut, appends_nothing}
 use Rattle.olk_errors.proofs.Missing.{nothing_missing}
-use Rattle.olk_errors.proofs.Sides.{finds_nothing, first_nothing}
+use Rattle.olk_errors.proofs.Sides.{finds_nothing}
 use Rattle.olk_errors.proofs.properties.SmallPropertiesWithRequired2Errors.collect_errors.Goals as goal
 
 pub returns-in_ok-collect_if_either_missing-in-Some-clause-report : goal.returns-in_ok-collect_if_either_missing-in-Some-clause-report
