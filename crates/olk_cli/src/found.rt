@@ -41,16 +41,12 @@ fn with_context(alloc: Global, error: &ValidationError<'_>) -> Result<String, Al
     Ok(text)
 }
 
-// What is found is compared with these lines, in the order of their texts, and what is told first with the first.
-fn expect_found(
-    rt: &impl Abort,
-    alloc: Global,
-    row: &str,
-    schema: &str,
-    instance: &str,
-    first: &str,
-    all: &[&str],
-) -> Result<(), Fail> {
+// A name for the row, the schema, the instance, the first error, and all errors in the order of their texts.
+type Row<'a> = (&'a str, &'a str, &'a str, &'a str, &'a [&'a str]);
+
+// What is found is compared with what the row says, and each way of asking gives the same verdict.
+fn expect_found(rt: &impl Abort, alloc: Global, row: Row<'_>) -> Result<(), Fail> {
+    let (name, schema, instance, first, all) = row;
     let schema = Value::from_str(alloc, schema)?;
     let instance = Value::from_str(alloc, instance)?;
     let mut meter = Meter::new();
@@ -66,186 +62,322 @@ fn expect_found(
         lines.push(with_context(alloc, error)?)?;
     }
     lines.sort_unstable();
-    assert_eq!(rt; lines.len(), all.len(), "{row}");
+    assert_eq!(rt; lines.len(), all.len(), "{name}");
     for (line, wanted) in lines.iter().zip(all) {
-        assert_eq!(rt; line.as_str(), *wanted, "{row}");
+        assert_eq!(rt; line.as_str(), *wanted, "{name}");
     }
     match validator.validate(alloc, &instance, &mut ctx) {
-        Ok(()) => assert_eq!(rt; first, "", "{row}"),
+        Ok(()) => assert_eq!(rt; first, "", "{name}"),
         Err(ValidateError::Invalid(error)) => {
-            assert_eq!(rt; with_context(alloc, &error)?.as_str(), first, "{row}");
+            assert_eq!(rt; with_context(alloc, &error)?.as_str(), first, "{name}");
         }
         Err(ValidateError::Memory(error)) => return Err(Fail::from(error)),
     }
-    assert_eq!(rt;
-        validator.is_valid(&instance, &mut ctx),
-        all.is_empty(),
-        "{row}"
-    );
+    let valid = all.is_empty();
+    assert_eq!(rt; validator.is_valid(&instance, &mut ctx), valid, "{name}");
+    let evaluation = validator.evaluate(alloc, &instance, &mut ctx)?;
+    assert_eq!(rt; evaluation.flag().valid, valid, "{name}");
     Ok(())
 }
+
+const TWO: &str =
+    r#"{"properties":{"a":{"type":"integer"},"b":{"type":"string"}},"required":["a","b"]}"#;
+
+const NO_A: &str = r#""a" is a required property @ "", /required"#;
+
+const NO_B: &str = r#""b" is a required property @ "", /required"#;
+
+const TEXT_AT_A: &str = r#""x" is not of type "integer" @ "/a", /properties/a/type"#;
 
 #[test]
 fn required_names_and_members(rt: HostRuntime) -> Result<(), Fail> {
-    let alloc = rt.alloc();
-    let two =
-        r#"{"properties":{"a":{"type":"integer"},"b":{"type":"string"}},"required":["a","b"]}"#;
-    let missing = r#""b" is a required property @ "", /required"#;
-    let wrong = r#""x" is not of type "integer" @ "/a", /properties/a/type"#;
-    expect_found(
-        &rt,
-        alloc,
-        "both names are there",
-        two,
-        r#"{"a":1,"b":"x","c":3}"#,
-        "",
-        &[],
-    )?;
-    expect_found(
-        &rt,
-        alloc,
-        "a missing name comes before a wrong member",
-        two,
-        r#"{"a":"x"}"#,
-        missing,
-        &[missing, wrong],
-    )?;
-    expect_found(
-        &rt,
-        alloc,
-        "the members are walked in order",
-        two,
-        r#"{"a":"x","b":1}"#,
-        wrong,
-        &[
-            wrong,
-            r#"1 is not of type "string" @ "/b", /properties/b/type"#,
-        ],
-    )?;
-    let first = r#""a" is a required property @ "", /required"#;
-    expect_found(
-        &rt,
-        alloc,
-        "the first missing name comes before the second",
-        two,
-        "{}",
-        first,
-        &[first, missing],
-    )?;
-    expect_found(
-        &rt,
-        alloc,
-        "a repeated name is told twice",
-        r#"{"properties":{"a":{}},"required":["a","a"]}"#,
-        "{}",
-        first,
-        &[first, first],
-    )?;
-    expect_found(
-        &rt,
-        alloc,
-        "a required name that is not declared",
-        r#"{"properties":{"a":{"type":"integer"},"b":{}},"required":["a","z"]}"#,
-        r#"{"z":2,"y":3}"#,
-        first,
-        &[first],
-    )?;
-    let escaped = "False schema does not allow 1 @ \"/a~1b\", /properties/a~1b";
-    expect_found(
-        &rt,
-        alloc,
-        "a name with a slash",
-        r#"{"properties":{"a/b":false}}"#,
-        r#"{"a/b":1}"#,
-        escaped,
-        &[escaped],
-    )?;
+    let rows: [Row<'_>; 8] = [
+        (
+            "both names are there",
+            TWO,
+            r#"{"a":1,"b":"x","c":3}"#,
+            "",
+            &[],
+        ),
+        (
+            "a missing name comes before a wrong member",
+            TWO,
+            r#"{"a":"x"}"#,
+            NO_B,
+            &[NO_B, TEXT_AT_A],
+        ),
+        (
+            "one wrong member",
+            TWO,
+            r#"{"a":"x","b":"y"}"#,
+            TEXT_AT_A,
+            &[TEXT_AT_A],
+        ),
+        (
+            "the members are walked in order",
+            TWO,
+            r#"{"a":"x","b":1}"#,
+            TEXT_AT_A,
+            &[
+                TEXT_AT_A,
+                r#"1 is not of type "string" @ "/b", /properties/b/type"#,
+            ],
+        ),
+        (
+            "the first missing name comes before the second",
+            TWO,
+            "{}",
+            NO_A,
+            &[NO_A, NO_B],
+        ),
+        (
+            "a repeated name is told twice",
+            r#"{"properties":{"a":{}},"required":["a","a"]}"#,
+            "{}",
+            NO_A,
+            &[NO_A, NO_A],
+        ),
+        (
+            "a required name that is not declared",
+            r#"{"properties":{"a":{"type":"integer"},"b":{}},"required":["a","z"]}"#,
+            r#"{"z":2,"y":3}"#,
+            NO_A,
+            &[NO_A],
+        ),
+        (
+            "a name with a slash",
+            r#"{"properties":{"a/b":false}}"#,
+            r#"{"a/b":1}"#,
+            "False schema does not allow 1 @ \"/a~1b\", /properties/a~1b",
+            &["False schema does not allow 1 @ \"/a~1b\", /properties/a~1b"],
+        ),
+    ];
+    for row in rows {
+        expect_found(&rt, rt.alloc(), row)?;
+    }
     Ok(())
 }
 
+const NO_BRANCH: &str =
+    "1 is not valid under any of the schemas listed in the 'anyOf' keyword @ \"\", /anyOf";
+
+const EMPTY_IN_BRANCHES: &str = concat!(
+    "{} is not valid under any of the schemas listed in the 'anyOf' keyword @ \"\", /anyOf",
+    " {{} is not of type \"integer\" @ \"\", /anyOf/0/type;}",
+    " {\"a\" is a required property @ \"\", /anyOf/1/required;",
+    "\"b\" is a required property @ \"\", /anyOf/1/required;}"
+);
+
+const NUMBER_IN_A_BRANCH: &str = concat!(
+    "1 is not valid under any of the schemas listed in the 'anyOf' keyword @ \"\", /anyOf",
+    " {1 is not of type \"string\" @ \"\", /anyOf/0/type;}"
+);
+
+const NUMBER_IN_ALL: &str = r#"1 is not of type "string" @ "", /allOf/0/type"#;
+
+const NOT_A_TEXT: &str = r#"{"type":"string"} is not allowed for "foo" @ "", /not"#;
+
+const NOT_NOT_A_TEXT: &str = r#"{"not":{"type":"string"}} is not allowed for 1 @ "", /not"#;
+
+const NEVER: &str = "False schema does not allow 1 @ \"\", ";
+
 #[test]
 fn branches(rt: HostRuntime) -> Result<(), Fail> {
+    let rows: [Row<'_>; 9] = [
+        (
+            "no branch, an empty context",
+            r#"{"anyOf":[]}"#,
+            "1",
+            NO_BRANCH,
+            &[NO_BRANCH],
+        ),
+        (
+            "each branch has all that it finds in the context, in the order of branches",
+            r#"{"anyOf":[{"type":"integer"},{"required":["a","b"]}]}"#,
+            "{}",
+            EMPTY_IN_BRANCHES,
+            &[EMPTY_IN_BRANCHES],
+        ),
+        (
+            "one branch",
+            r#"{"anyOf":[{"type":"string"}]}"#,
+            "1",
+            NUMBER_IN_A_BRANCH,
+            &[NUMBER_IN_A_BRANCH],
+        ),
+        (
+            "a branch that accepts",
+            r#"{"anyOf":[{"type":"integer"},false]}"#,
+            "1",
+            "",
+            &[],
+        ),
+        (
+            "nothing is wanted of all of none",
+            r#"{"allOf":[]}"#,
+            "1",
+            "",
+            &[],
+        ),
+        (
+            "each branch of all",
+            r#"{"allOf":[{"type":"string"},{"minimum":5}]}"#,
+            "1",
+            NUMBER_IN_ALL,
+            &[
+                r#"1 is less than the minimum of 5 @ "", /allOf/1/minimum"#,
+                NUMBER_IN_ALL,
+            ],
+        ),
+        (
+            "not",
+            r#"{"not":{"type":"string"}}"#,
+            r#""foo""#,
+            NOT_A_TEXT,
+            &[NOT_A_TEXT],
+        ),
+        (
+            "not of not",
+            r#"{"not":{"not":{"type":"string"}}}"#,
+            "1",
+            NOT_NOT_A_TEXT,
+            &[NOT_NOT_A_TEXT],
+        ),
+        ("a false schema", "false", "1", NEVER, &[NEVER]),
+    ];
+    for row in rows {
+        expect_found(&rt, rt.alloc(), row)?;
+    }
+    Ok(())
+}
+
+// A context inside a context.
+#[test]
+fn branches_of_a_branch(rt: HostRuntime) -> Result<(), Fail> {
     let alloc = rt.alloc();
-    let none =
-        "1 is not valid under any of the schemas listed in the 'anyOf' keyword @ \"\", /anyOf";
-    expect_found(
-        &rt,
-        alloc,
-        "no branch, an empty context",
-        r#"{"anyOf":[]}"#,
-        "1",
-        none,
-        &[none],
-    )?;
-    let both = concat!(
-        "{} is not valid under any of the schemas listed in the 'anyOf' keyword @ \"\", /anyOf",
-        " {{} is not of type \"integer\" @ \"\", /anyOf/0/type;}",
-        " {\"a\" is a required property @ \"\", /anyOf/1/required;",
-        "\"b\" is a required property @ \"\", /anyOf/1/required;}"
+    let schema = r#"{"anyOf":[{"anyOf":[{"type":"integer"},{"type":"array"}]}]}"#;
+    let schema = Value::from_str(alloc, schema)?;
+    let instance = Value::from_str(alloc, "\"x\"")?;
+    let mut meter = Meter::new();
+    let Ok(validator) = Validator::build(alloc, &BenchLeaves, &BenchRegexes, &schema, &mut meter)
+    else {
+        return Err(Fail::new("refused"));
+    };
+    let mut ctx = ValidationContext::new(false);
+    let mut errors: Vec<ValidationError<'_>> = Vec::new(alloc);
+    validator.collect_errors(alloc, &instance, &mut ctx, &mut errors)?;
+    let mut lines = Vec::new(alloc);
+    for error in &errors {
+        if let ValidationErrorKind::AnyOf { context } = error.kind() {
+            for inner in context.iter().flatten() {
+                lines.push(with_context(alloc, inner)?)?;
+            }
+        }
+    }
+    assert_eq!(rt; (errors.len(), lines.len()), (1, 1));
+    assert_eq!(rt;
+        lines[0].as_str(),
+        concat!(
+            "\"x\" is not valid under any of the schemas listed in the 'anyOf' keyword",
+            " @ \"\", /anyOf/0/anyOf",
+            " {\"x\" is not of type \"integer\" @ \"\", /anyOf/0/anyOf/0/type;}",
+            " {\"x\" is not of type \"array\" @ \"\", /anyOf/0/anyOf/1/type;}"
+        )
     );
-    expect_found(
-        &rt,
-        alloc,
-        "each branch has all that it finds in the context, in the order of branches",
-        r#"{"anyOf":[{"type":"integer"},{"required":["a","b"]}]}"#,
-        "{}",
-        both,
-        &[both],
-    )?;
-    let one = concat!(
-        "1 is not valid under any of the schemas listed in the 'anyOf' keyword @ \"\", /anyOf",
-        " {1 is not of type \"string\" @ \"\", /anyOf/0/type;}"
-    );
-    expect_found(
-        &rt,
-        alloc,
-        "one branch",
-        r#"{"anyOf":[{"type":"string"}]}"#,
-        "1",
-        one,
-        &[one],
-    )?;
-    expect_found(
-        &rt,
-        alloc,
-        "a branch that accepts",
-        r#"{"anyOf":[{"type":"integer"},false]}"#,
-        "1",
-        "",
-        &[],
-    )?;
-    expect_found(
-        &rt,
-        alloc,
-        "nothing is wanted of all of none",
-        r#"{"allOf":[]}"#,
-        "1",
-        "",
-        &[],
-    )?;
-    let text = r#"1 is not of type "string" @ "", /allOf/0/type"#;
-    let least = r#"1 is less than the minimum of 5 @ "", /allOf/1/minimum"#;
-    expect_found(
-        &rt,
-        alloc,
-        "each branch of all",
-        r#"{"allOf":[{"type":"string"},{"minimum":5}]}"#,
-        "1",
-        text,
-        &[least, text],
-    )?;
-    let not = r#"{"type":"string"} is not allowed for "foo" @ "", /not"#;
-    expect_found(
-        &rt,
-        alloc,
-        "not",
-        r#"{"not":{"type":"string"}}"#,
-        r#""foo""#,
-        not,
-        &[not],
-    )?;
-    let never = "False schema does not allow 1 @ \"\", ";
-    expect_found(&rt, alloc, "a false schema", "false", "1", never, &[never])?;
+    Ok(())
+}
+
+// A schema with these declared names, so many more that there are `count`, and these required ones.
+fn padded(
+    alloc: Global,
+    declared: &str,
+    names: u8,
+    count: u8,
+    required: &str,
+) -> Result<String, AllocError> {
+    let mut schema = format!(in alloc; "{{\"required\":{required},\"properties\":{{{declared}")?;
+    for i in names..count {
+        let more = format!(in alloc; ",\"q{i}\":{{}}")?;
+        schema.push_str(more.as_str())?;
+    }
+    schema.push_str("}}")?;
+    Ok(schema)
+}
+
+// Fourteen declared names are the most that are walked together with two required names.
+#[test]
+fn required_names_beside_many_declared_names(rt: HostRuntime) -> Result<(), Fail> {
+    let alloc = rt.alloc();
+    for count in [14u8, 15] {
+        let two = r#""a":{"type":"integer"},"b":{"type":"string"}"#;
+        let two = padded(alloc, two, 2, count, r#"["a","b"]"#)?;
+        let again = padded(alloc, r#""a":{}"#, 1, count, r#"["a","a"]"#)?;
+        let other = r#""a":{"type":"integer"},"b":{}"#;
+        let other = padded(alloc, other, 2, count, r#"["a","z"]"#)?;
+        let first = if count == 14 { NO_B } else { TEXT_AT_A };
+        let (two, again, other) = (two.as_str(), again.as_str(), other.as_str());
+        let rows: [Row<'_>; 6] = [
+            (
+                "both names are there",
+                two,
+                r#"{"a":1,"b":"x","c":3}"#,
+                "",
+                &[],
+            ),
+            (
+                "a missing name and a wrong member",
+                two,
+                r#"{"a":"x"}"#,
+                first,
+                &[NO_B, TEXT_AT_A],
+            ),
+            (
+                "one wrong member",
+                two,
+                r#"{"a":"x","b":"y"}"#,
+                TEXT_AT_A,
+                &[TEXT_AT_A],
+            ),
+            ("a repeated name is there", again, r#"{"a":1}"#, "", &[]),
+            (
+                "a repeated name is told twice",
+                again,
+                "{}",
+                NO_A,
+                &[NO_A, NO_A],
+            ),
+            (
+                "a required name that is not declared",
+                other,
+                r#"{"z":2,"y":3}"#,
+                NO_A,
+                &[NO_A],
+            ),
+        ];
+        for row in rows {
+            expect_found(&rt, alloc, row)?;
+        }
+    }
+    Ok(())
+}
+
+// More members than declared names, and a required name is not among them.
+#[test]
+fn many_members(rt: HostRuntime) -> Result<(), Fail> {
+    let alloc = rt.alloc();
+    let mut instance = String::from_str(alloc, r#"{"b":"x""#)?;
+    for i in 0..300u16 {
+        let member = format!(in alloc; ",\"m{i}\":0")?;
+        instance.push_str(member.as_str())?;
+    }
+    instance.push_str("}")?;
+    for instance in [r#"{"b":"x"}"#, instance.as_str()] {
+        expect_found(
+            &rt,
+            alloc,
+            ("the first name is missing", TWO, instance, NO_A, &[NO_A]),
+        )?;
+    }
     Ok(())
 }
 
@@ -274,15 +406,12 @@ fn many_declared_names(rt: HostRuntime) -> Result<(), Fail> {
             "\"x\" is not of type \"integer\" @ \"/p{last}\", /properties/p{last}/type"
         )?;
         let alone = format!(in alloc; "{{\"p{last}\":\"x\"}}")?;
+        let (schema, wanted) = (schema.as_str(), wanted.as_str());
         for value in [instance.as_str(), alone.as_str()] {
             expect_found(
                 &rt,
                 alloc,
-                "the last declared name",
-                schema.as_str(),
-                value,
-                wanted.as_str(),
-                &[wanted.as_str()],
+                ("the last declared name", schema, value, wanted, &[wanted]),
             )?;
         }
     }

@@ -4,6 +4,7 @@ use std::alloc::Global;
 use std::process::Abort;
 use std::test::Fail;
 
+// Asks in the four ways: `valid` stands last in each answer, and alone in the answer to `valid`.
 fn expect_verdict(
     rt: &impl Abort,
     alloc: Global,
@@ -12,18 +13,19 @@ fn expect_verdict(
     instance: &str,
     valid: bool,
 ) -> Result<(), Fail> {
-    let line = format!(in alloc;
-        "{{\"ask\":\"valid\",\"schema\":{schema},\"instance\":{instance}}}\n"
-    )?;
-    let wanted = if valid {
-        "{\"valid\":true}\n"
-    } else {
-        "{\"valid\":false}\n"
-    };
-    let mut input = line.as_str().as_bytes();
-    let mut output = Vec::new(alloc);
-    assert_eq!(rt; run(alloc, &mut input, &mut output), 0, "{row}");
-    assert!(rt; output.as_slice() == wanted.as_bytes(), "{row}");
+    let last = format!(in alloc; "\"valid\":{valid}}}\n")?;
+    for ask in ["valid", "first", "errors", "evaluate"] {
+        let line = format!(in alloc;
+            "{{\"ask\":\"{ask}\",\"schema\":{schema},\"instance\":{instance}}}\n"
+        )?;
+        let mut input = line.as_str().as_bytes();
+        let mut output = Vec::new(alloc);
+        assert_eq!(rt; run(alloc, &mut input, &mut output), 0, "{row}, {ask}");
+        assert!(rt; output.ends_with(last.as_str().as_bytes()), "{row}, {ask}");
+        if ask == "valid" {
+            assert_eq!(rt; output.len(), last.len() + 1, "{row}");
+        }
+    }
     Ok(())
 }
 
@@ -33,7 +35,46 @@ fn named_rows(rt: HostRuntime) -> Result<(), Fail> {
     let two =
         r#"{"properties":{"a":{"type":"integer"},"b":{"type":"string"}},"required":["a","b"]}"#;
     let undeclared = r#"{"properties":{"a":{"type":"integer"},"b":{}},"required":["a","z"]}"#;
+    let declared = r#"{"allOf":[{}],"properties":{"a":{"type":"integer"}}}"#;
+    let alike = r#"{"properties":{"prefix0003suffix00":false,"prefix0004suffix00":true}}"#;
     for (row, schema, instance, valid) in [
+        ("a declared member is right", declared, r#"{"a":1}"#, true),
+        (
+            "a declared member is wrong",
+            declared,
+            r#"{"a":"x"}"#,
+            false,
+        ),
+        (
+            "a name that differs within",
+            alike,
+            r#"{"prefix0004suffix00":0}"#,
+            true,
+        ),
+        (
+            "the name itself",
+            alike,
+            r#"{"prefix0003suffix00":0}"#,
+            false,
+        ),
+        (
+            "names that differ in the case of letters",
+            r#"{"properties":{"abcdEFGHijkl":false,"p":true}}"#,
+            r#"{"abcdefghijkl":1,"p":1}"#,
+            true,
+        ),
+        (
+            "a name that is required twice is there",
+            r#"{"properties":{"a":{}},"required":["a","a"]}"#,
+            r#"{"a":1}"#,
+            true,
+        ),
+        (
+            "the largest number that is read",
+            "true",
+            "18446744073709551615",
+            true,
+        ),
         (
             "extra members are accepted",
             two,
@@ -42,7 +83,7 @@ fn named_rows(rt: HostRuntime) -> Result<(), Fail> {
         ),
         ("a required name is missing", two, r#"{"a":"x"}"#, false),
         (
-            "a declared member is wrong",
+            "a declared member is wrong beside a right one",
             two,
             r#"{"a":"x","b":"y"}"#,
             false,

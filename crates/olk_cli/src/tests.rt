@@ -19,65 +19,6 @@ fn expect_answer(rt: &impl Abort, alloc: Global, line: &str, answer: &str) -> Re
 }
 
 #[test]
-fn verdicts(rt: HostRuntime) -> Result<(), Fail> {
-    let alloc = rt.alloc();
-    for (schema, instance, answer) in [
-        (
-            r#"{"allOf":[{}],"properties":{"a":{"type":"integer"}}}"#,
-            r#"{"a":1}"#,
-            "true",
-        ),
-        (
-            r#"{"allOf":[{}],"properties":{"a":{"type":"integer"}}}"#,
-            r#"{"a":"x"}"#,
-            "false",
-        ),
-        (
-            r#"{"properties":{"prefix0003suffix00":false,"prefix0004suffix00":true}}"#,
-            r#"{"prefix0004suffix00":0}"#,
-            "true",
-        ),
-        (
-            r#"{"properties":{"prefix0003suffix00":false,"prefix0004suffix00":true}}"#,
-            r#"{"prefix0003suffix00":0}"#,
-            "false",
-        ),
-        (
-            r#"{"properties":{"abcdEFGHijkl":false,"p":true}}"#,
-            r#"{"abcdefghijkl":1,"p":1}"#,
-            "true",
-        ),
-        (
-            r#"{"properties":{"a":{}},"required":["a","a"]}"#,
-            r#"{"a":1}"#,
-            "true",
-        ),
-        (
-            r#"{"properties":{"a":{}},"required":["a","a"]}"#,
-            "{}",
-            "false",
-        ),
-        (r#"{"anyOf":[]}"#, "1", "false"),
-        (r#"{"allOf":[]}"#, "1", "true"),
-        (
-            r#"{"anyOf":[{"type":"integer"},{"required":["a","b"]}]}"#,
-            "{}",
-            "false",
-        ),
-        (r#"{"not":{"type":"string"}}"#, r#""foo""#, "false"),
-        (r#"{"properties":{"a/b":false}}"#, r#"{"a/b":1}"#, "false"),
-        ("true", "18446744073709551615", "true"),
-    ] {
-        let line = format!(in alloc;
-            "{{\"ask\":\"valid\",\"schema\":{schema},\"instance\":{instance}}}\n"
-        )?;
-        let answer = format!(in alloc; "{{\"valid\":{answer}}}")?;
-        expect_answer(&rt, alloc, line.as_str(), answer.as_str())?;
-    }
-    Ok(())
-}
-
-#[test]
 fn first_errors(rt: HostRuntime) -> Result<(), Fail> {
     let alloc = rt.alloc();
     for (request, answer) in [
@@ -143,7 +84,7 @@ fn errors_are_sorted(rt: HostRuntime) -> Result<(), Fail> {
     let alloc = rt.alloc();
     for (schema, instance, answer) in [
         (
-            r#"{"properties":{"a":{"type":"integer"}},"required":["b"]}"#,
+            r#"{"properties":{"a":{"type":"integer"},"b":{"type":"string"}},"required":["a","b"]}"#,
             r#"{"a":"x"}"#,
             r#"{"errors":[{"instancePath":"","message":"\"b\" is a required property","schemaPath":"/required"},{"instancePath":"/a","message":"\"x\" is not of type \"integer\"","schemaPath":"/properties/a/type"}],"valid":false}"#,
         ),
