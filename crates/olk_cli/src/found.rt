@@ -1,12 +1,24 @@
 //! The first error and all errors of instances, with their contexts, each row under a name of its own.
 use object_logic::{
-    Meter, ValidateError, ValidationContext, ValidationError, ValidationErrorKind, Validator,
+    BuildError, EvaluationNode, Meter, ValidateError, ValidationContext, ValidationError,
+    ValidationErrorKind, Validator,
 };
-use olk_bench::{BenchLeaves, BenchRegexes};
+use olk_bench::{BenchLeaf, BenchLeaves, BenchRegex, BenchRegexes};
 use serde_json::Value;
 use std::alloc::{AllocError, Global};
 use std::process::Abort;
 use std::test::Fail;
+
+type BenchValidator = Validator<BenchLeaf, BenchRegex>;
+
+fn built(alloc: Global, schema: &Value) -> Result<BenchValidator, Fail> {
+    let mut meter = Meter::new();
+    match Validator::build(alloc, &BenchLeaves, &BenchRegexes, schema, &mut meter) {
+        Ok(validator) => Ok(validator),
+        Err(BuildError::Refused(_)) => Err(Fail::new("refused")),
+        Err(BuildError::Memory(error)) => Err(Fail::from(error)),
+    }
+}
 
 // An error as a line: its text, its instance path and its schema path.
 fn line(alloc: Global, error: &ValidationError<'_>) -> Result<String, AllocError> {
@@ -41,6 +53,58 @@ fn with_context(alloc: Global, error: &ValidationError<'_>) -> Result<String, Al
     Ok(text)
 }
 
+fn collect<'a>(
+    validator: &'a BenchValidator,
+    alloc: Global,
+    instance: &'a Value,
+    errors: &mut Vec<ValidationError<'a>>,
+) -> Result<(), AllocError> {
+    let mut ctx = ValidationContext::new(false);
+    validator.collect_errors(alloc, instance, &mut ctx, errors)
+}
+
+// All errors with their contexts, in the order of their texts.
+fn all_lines(
+    validator: &BenchValidator,
+    alloc: Global,
+    instance: &Value,
+) -> Result<Vec<String>, AllocError> {
+    let mut errors: Vec<ValidationError<'_>> = Vec::new(alloc);
+    collect(validator, alloc, instance, &mut errors)?;
+    let mut lines = Vec::new(alloc);
+    for error in &errors {
+        lines.push(with_context(alloc, error)?)?;
+    }
+    lines.sort_unstable();
+    Ok(lines)
+}
+
+// The first error with its context, and an empty line where the instance is accepted.
+fn first_line(
+    validator: &BenchValidator,
+    alloc: Global,
+    instance: &Value,
+) -> Result<String, AllocError> {
+    let mut ctx = ValidationContext::new(false);
+    match validator.validate(alloc, instance, &mut ctx) {
+        Ok(()) => Ok(String::new(alloc)),
+        Err(ValidateError::Invalid(error)) => with_context(alloc, &error),
+        Err(ValidateError::Memory(error)) => Err(error),
+    }
+}
+
+// What `is_valid` and `evaluate` say.
+fn verdicts(
+    validator: &BenchValidator,
+    alloc: Global,
+    instance: &Value,
+) -> Result<(bool, bool), AllocError> {
+    let mut ctx = ValidationContext::new(false);
+    let valid = validator.is_valid(instance, &mut ctx);
+    let evaluation = validator.evaluate(alloc, instance, &mut ctx)?;
+    Ok((valid, evaluation.flag().valid))
+}
+
 // A name for the row, the schema, the instance, the first error, and all errors in the order of their texts.
 type Row<'a> = (&'a str, &'a str, &'a str, &'a str, &'a [&'a str]);
 
@@ -49,34 +113,17 @@ fn expect_found(rt: &impl Abort, alloc: Global, row: Row<'_>) -> Result<(), Fail
     let (name, schema, instance, first, all) = row;
     let schema = Value::from_str(alloc, schema)?;
     let instance = Value::from_str(alloc, instance)?;
-    let mut meter = Meter::new();
-    let Ok(validator) = Validator::build(alloc, &BenchLeaves, &BenchRegexes, &schema, &mut meter)
-    else {
-        return Err(Fail::new("refused"));
-    };
-    let mut ctx = ValidationContext::new(false);
-    let mut errors: Vec<ValidationError<'_>> = Vec::new(alloc);
-    validator.collect_errors(alloc, &instance, &mut ctx, &mut errors)?;
-    let mut lines = Vec::new(alloc);
-    for error in &errors {
-        lines.push(with_context(alloc, error)?)?;
-    }
-    lines.sort_unstable();
+    let validator = built(alloc, &schema)?;
+    let lines = all_lines(&validator, alloc, &instance)?;
     assert_eq!(rt; lines.len(), all.len(), "{name}");
     for (line, wanted) in lines.iter().zip(all) {
         assert_eq!(rt; line.as_str(), *wanted, "{name}");
     }
-    match validator.validate(alloc, &instance, &mut ctx) {
-        Ok(()) => assert_eq!(rt; first, "", "{name}"),
-        Err(ValidateError::Invalid(error)) => {
-            assert_eq!(rt; with_context(alloc, &error)?.as_str(), first, "{name}");
-        }
-        Err(ValidateError::Memory(error)) => return Err(Fail::from(error)),
-    }
+    let line = first_line(&validator, alloc, &instance)?;
+    assert_eq!(rt; line.as_str(), first, "{name}");
     let valid = all.is_empty();
-    assert_eq!(rt; validator.is_valid(&instance, &mut ctx), valid, "{name}");
-    let evaluation = validator.evaluate(alloc, &instance, &mut ctx)?;
-    assert_eq!(rt; evaluation.flag().valid, valid, "{name}");
+    let told = verdicts(&validator, alloc, &instance)?;
+    assert_eq!(rt; told, (valid, valid), "{name}");
     Ok(())
 }
 
@@ -173,6 +220,8 @@ const NUMBER_IN_A_BRANCH: &str = concat!(
     " {1 is not of type \"string\" @ \"\", /anyOf/0/type;}"
 );
 
+const TOO_SMALL: &str = r#"1 is less than the minimum of 5 @ "", /allOf/1/minimum"#;
+
 const NUMBER_IN_ALL: &str = r#"1 is not of type "string" @ "", /allOf/0/type"#;
 
 const NOT_A_TEXT: &str = r#"{"type":"string"} is not allowed for "foo" @ "", /not"#;
@@ -224,10 +273,7 @@ fn branches(rt: HostRuntime) -> Result<(), Fail> {
             r#"{"allOf":[{"type":"string"},{"minimum":5}]}"#,
             "1",
             NUMBER_IN_ALL,
-            &[
-                r#"1 is less than the minimum of 5 @ "", /allOf/1/minimum"#,
-                NUMBER_IN_ALL,
-            ],
+            &[TOO_SMALL, NUMBER_IN_ALL],
         ),
         (
             "not",
@@ -251,39 +297,43 @@ fn branches(rt: HostRuntime) -> Result<(), Fail> {
     Ok(())
 }
 
-// A context inside a context.
+// The errors in the contexts of errors, with their contexts.
+fn inner_lines(alloc: Global, errors: &[ValidationError<'_>]) -> Result<Vec<String>, AllocError> {
+    let mut lines = Vec::new(alloc);
+    for error in errors {
+        if let ValidationErrorKind::AnyOf { context } = error.kind() {
+            for branch in context {
+                for inner in branch {
+                    lines.push(with_context(alloc, inner)?)?;
+                }
+            }
+        }
+    }
+    Ok(lines)
+}
+
+const TEXT_IN_BRANCHES: &str = concat!(
+    "\"x\" is not valid under any of the schemas listed in the 'anyOf' keyword",
+    " @ \"\", /anyOf/0/anyOf",
+    " {\"x\" is not of type \"integer\" @ \"\", /anyOf/0/anyOf/0/type;}",
+    " {\"x\" is not of type \"array\" @ \"\", /anyOf/0/anyOf/1/type;}"
+);
+
 #[test]
 fn branches_of_a_branch(rt: HostRuntime) -> Result<(), Fail> {
     let alloc = rt.alloc();
     let schema = r#"{"anyOf":[{"anyOf":[{"type":"integer"},{"type":"array"}]}]}"#;
     let schema = Value::from_str(alloc, schema)?;
     let instance = Value::from_str(alloc, "\"x\"")?;
-    let mut meter = Meter::new();
-    let Ok(validator) = Validator::build(alloc, &BenchLeaves, &BenchRegexes, &schema, &mut meter)
-    else {
-        return Err(Fail::new("refused"));
-    };
-    let mut ctx = ValidationContext::new(false);
+    let validator = built(alloc, &schema)?;
     let mut errors: Vec<ValidationError<'_>> = Vec::new(alloc);
-    validator.collect_errors(alloc, &instance, &mut ctx, &mut errors)?;
-    let mut lines = Vec::new(alloc);
-    for error in &errors {
-        if let ValidationErrorKind::AnyOf { context } = error.kind() {
-            for inner in context.iter().flatten() {
-                lines.push(with_context(alloc, inner)?)?;
-            }
-        }
+    collect(&validator, alloc, &instance, &mut errors)?;
+    assert_eq!(rt; errors.len(), 1);
+    let lines = inner_lines(alloc, &errors)?;
+    assert_eq!(rt; lines.len(), 1);
+    for line in &lines {
+        assert_eq!(rt; line.as_str(), TEXT_IN_BRANCHES);
     }
-    assert_eq!(rt; (errors.len(), lines.len()), (1, 1));
-    assert_eq!(rt;
-        lines[0].as_str(),
-        concat!(
-            "\"x\" is not valid under any of the schemas listed in the 'anyOf' keyword",
-            " @ \"\", /anyOf/0/anyOf",
-            " {\"x\" is not of type \"integer\" @ \"\", /anyOf/0/anyOf/0/type;}",
-            " {\"x\" is not of type \"array\" @ \"\", /anyOf/0/anyOf/1/type;}"
-        )
-    );
     Ok(())
 }
 
@@ -418,58 +468,54 @@ fn many_declared_names(rt: HostRuntime) -> Result<(), Fail> {
     Ok(())
 }
 
-// A list that is handed in stays in front.
+// What was in the list stays in it.
 #[test]
 fn errors_before_are_kept(rt: HostRuntime) -> Result<(), Fail> {
     let alloc = rt.alloc();
     let schema = Value::from_str(alloc, r#"{"allOf":[{"type":"string"},{"minimum":5}]}"#)?;
     let instance = Value::from_str(alloc, "1")?;
-    let mut meter = Meter::new();
-    let Ok(validator) = Validator::build(alloc, &BenchLeaves, &BenchRegexes, &schema, &mut meter)
-    else {
-        return Err(Fail::new("refused"));
-    };
-    let mut ctx = ValidationContext::new(false);
+    let validator = built(alloc, &schema)?;
     let mut errors: Vec<ValidationError<'_>> = Vec::new(alloc);
-    validator.collect_errors(alloc, &instance, &mut ctx, &mut errors)?;
-    validator.collect_errors(alloc, &instance, &mut ctx, &mut errors)?;
-    assert_eq!(rt; errors.len(), 4);
-    for (one, again) in errors[..2].iter().zip(&errors[2..]) {
-        assert_eq!(rt; line(alloc, one)?, line(alloc, again)?);
+    collect(&validator, alloc, &instance, &mut errors)?;
+    collect(&validator, alloc, &instance, &mut errors)?;
+    let lines = sorted(alloc, &errors)?;
+    let wanted = [TOO_SMALL, TOO_SMALL, NUMBER_IN_ALL, NUMBER_IN_ALL];
+    assert_eq!(rt; lines.len(), wanted.len());
+    for (line, wanted) in lines.iter().zip(wanted) {
+        assert_eq!(rt; line.as_str(), wanted);
     }
     Ok(())
 }
 
-// The schema paths of the nodes below the root, each with those of its children in parentheses.
+// The schema paths of a node and of those below it, in parentheses, down to the keywords of its members.
+fn push_paths(text: &mut String, keyword: &EvaluationNode<'_>) -> Result<(), AllocError> {
+    text.push_str(keyword.schema_path())?;
+    for member in keyword.children() {
+        text.push_str(" (")?;
+        text.push_str(member.schema_path())?;
+        for leaf in member.children() {
+            text.push_str(" (")?;
+            text.push_str(leaf.schema_path())?;
+            text.push_str("@")?;
+            text.push_str(leaf.instance_path())?;
+            text.push_str(")")?;
+        }
+        text.push_str(")")?;
+    }
+    Ok(())
+}
+
 #[test]
 fn children_of_an_evaluation(rt: HostRuntime) -> Result<(), Fail> {
     let alloc = rt.alloc();
-    let two =
-        r#"{"properties":{"a":{"type":"integer"},"b":{"type":"string"}},"required":["a","b"]}"#;
-    let schema = Value::from_str(alloc, two)?;
+    let schema = Value::from_str(alloc, TWO)?;
     let instance = Value::from_str(alloc, r#"{"a":1,"b":"x"}"#)?;
-    let mut meter = Meter::new();
-    let Ok(validator) = Validator::build(alloc, &BenchLeaves, &BenchRegexes, &schema, &mut meter)
-    else {
-        return Err(Fail::new("refused"));
-    };
+    let validator = built(alloc, &schema)?;
     let mut ctx = ValidationContext::new(false);
     let evaluation = validator.evaluate(alloc, &instance, &mut ctx)?;
     let mut text = String::new(alloc);
     for keyword in evaluation.root().children() {
-        text.push_str(keyword.schema_path())?;
-        for member in keyword.children() {
-            text.push_str(" (")?;
-            text.push_str(member.schema_path())?;
-            for leaf in member.children() {
-                text.push_str(" (")?;
-                text.push_str(leaf.schema_path())?;
-                text.push_str("@")?;
-                text.push_str(leaf.instance_path())?;
-                text.push_str(")")?;
-            }
-            text.push_str(")")?;
-        }
+        push_paths(&mut text, keyword)?;
     }
     assert_eq!(rt;
         text.as_str(),
@@ -486,28 +532,52 @@ const MANY_FAULTS: &str = concat!(
 
 // All errors, asked a second time where memory was wanting; a refused call leaves the list as it was.
 fn collect_at_last<'a>(
-    validator: &'a Validator<olk_bench::BenchLeaf, olk_bench::BenchRegex>,
+    validator: &'a BenchValidator,
     alloc: Global,
     instance: &'a Value,
     errors: &mut Vec<ValidationError<'a>>,
 ) -> Result<(), Fail> {
-    let mut ctx = ValidationContext::new(false);
     let before = errors.len();
-    if validator
-        .collect_errors(alloc, instance, &mut ctx, errors)
-        .is_err()
-    {
-        if errors.len() != before {
-            return Err(Fail::new("the list is not as it was"));
-        }
-        if validator
-            .collect_errors(alloc, instance, &mut ctx, errors)
-            .is_err()
-        {
-            return Err(Fail::new("refused twice"));
-        }
+    if collect(validator, alloc, instance, errors).is_ok() {
+        return Ok(());
     }
-    Ok(())
+    if errors.len() != before {
+        return Err(Fail::new("the list is not as it was"));
+    }
+    collect(validator, alloc, instance, errors).or_else(|_| Err(Fail::new("refused twice")))
+}
+
+// The first error's line, asked a second time where memory was wanting.
+fn first_line_at_last(
+    validator: &BenchValidator,
+    alloc: Global,
+    instance: &Value,
+) -> Result<String, Fail> {
+    first_line(validator, alloc, instance)
+        .or_else(|_| first_line(validator, alloc, instance))
+        .or_else(|_| Err(Fail::new("refused twice")))
+}
+
+// How many errors an evaluation lists; each call is asked a second time where memory was wanting.
+fn evaluated_errors_at_last(
+    validator: &BenchValidator,
+    alloc: Global,
+    instance: &Value,
+) -> Result<usize, Fail> {
+    let mut ctx = ValidationContext::new(false);
+    let Ok(evaluation) = validator
+        .evaluate(alloc, instance, &mut ctx)
+        .or_else(|_| validator.evaluate(alloc, instance, &mut ctx))
+    else {
+        return Err(Fail::new("refused twice"));
+    };
+    let Ok(entries) = evaluation
+        .iter_errors(alloc)
+        .or_else(|_| evaluation.iter_errors(alloc))
+    else {
+        return Err(Fail::new("refused twice"));
+    };
+    Ok(entries.len())
 }
 
 // With each growth refused in turn (tools/refused_growths), the second call gives the full answer; want
@@ -517,46 +587,17 @@ fn full_answers_after_a_refused_growth(rt: HostRuntime) -> Result<(), Fail> {
     let alloc = rt.alloc();
     let schema = Value::from_str(alloc, MANY_FAULTS)?;
     let instance = Value::from_str(alloc, r#"{"c":1,"d":2}"#)?;
-    let mut meter = Meter::new();
-    let Ok(validator) = Validator::build(alloc, &BenchLeaves, &BenchRegexes, &schema, &mut meter)
-    else {
-        return Err(Fail::from(AllocError));
-    };
+    let validator = built(alloc, &schema)?;
     let mut errors: Vec<ValidationError<'_>> = Vec::new(alloc);
     collect_at_last(&validator, alloc, &instance, &mut errors)?;
     assert_eq!(rt; errors.len(), 8);
     collect_at_last(&validator, alloc, &instance, &mut errors)?;
     assert_eq!(rt; errors.len(), 16);
-    let mut ctx = ValidationContext::new(false);
-    let told = match validator.validate(alloc, &instance, &mut ctx) {
-        Err(ValidateError::Memory(_)) => validator.validate(alloc, &instance, &mut ctx),
-        told => told,
-    };
-    match told {
-        Ok(()) => return Err(Fail::new("accepted")),
-        Err(ValidateError::Memory(_)) => return Err(Fail::new("refused twice")),
-        Err(ValidateError::Invalid(error)) => {
-            assert_eq!(rt; error.schema_path(), "/allOf/0/required");
-            let Ok(message) = error.message(alloc).or_else(|_| error.message(alloc)) else {
-                return Err(Fail::new("refused twice"));
-            };
-            assert_eq!(rt; message.as_str(), r#""a" is a required property"#);
-        }
-    }
-    let evaluation = match validator.evaluate(alloc, &instance, &mut ctx) {
-        Err(_) => validator.evaluate(alloc, &instance, &mut ctx),
-        evaluation => evaluation,
-    };
-    let Ok(evaluation) = evaluation else {
-        return Err(Fail::new("refused twice"));
-    };
-    assert!(rt; !evaluation.flag().valid);
-    let Ok(entries) = evaluation
-        .iter_errors(alloc)
-        .or_else(|_| evaluation.iter_errors(alloc))
-    else {
-        return Err(Fail::new("refused twice"));
-    };
-    assert_eq!(rt; entries.len(), 9);
+    let first = first_line_at_last(&validator, alloc, &instance)?;
+    assert_eq!(rt;
+        first.as_str(),
+        r#""a" is a required property @ "", /allOf/0/required"#
+    );
+    assert_eq!(rt; evaluated_errors_at_last(&validator, alloc, &instance)?, 9);
     Ok(())
 }

