@@ -7,7 +7,7 @@ use Rattle.std.proofs.lemmas.List.Sorted.{IsPermutation-trans}
 use Rattle.olk_spec.specs.Names.{Text, Path, is_empty}
 use Rattle.olk_spec.specs.Tree.{Tree, Described, is_valid}
 use Rattle.olk_spec.proofs.Each.{Each}
-use Rattle.olk_cli.specs.Evaluated.{tree_data, IsPromised}
+use Rattle.olk_answers.specs.Evaluated.{tree_data, IsPromised}
 use Rattle.olk_spec.specs.Faults.{Fault, fault, IsLike, like, ◌∼◌}
 use Rattle.olk_spec.specs.Malformed.{malformations}
 use Rattle.olk_spec.specs.Meaning.{accepts, report, IsTree}
@@ -21,12 +21,13 @@ use Rattle.olk_reports.specs.declared.error.ValidateError.{ValidateError}
 use Rattle.olk_reports.specs.declared.error.ValidateError.TheVariants.{Invalid, Memory}
 use Rattle.olk_errors.specs.Found.{Appends, IfInvalid, IsOfReport, IsRefusal}
 use Rattle.olk_cli.specs.Requests.{Asked, has_fraction}
-use Rattle.olk_cli.specs.Texts.{json_text}
-use Rattle.olk_cli.specs.Told.{told, errors_data, TellsFound, TellsSorted, PrintNoFraction}
-use Rattle.olk_cli.specs.Answers.{fault_refusal, TellsFirst, TellsErrors, TellsEvaluation, IsReplyBy, IsReplyWhere, IsReply}
-use Rattle.olk_cli.proofs.ToldLemmas.{tree_data_is}
-use Rattle.olk_cli.proofs.Fractions.{IsPlain, PrintsNone, malformation_prints_no_fraction, neither, by_recursion}
-use Rattle.olk_cli.proofs.Plain.{same_faults_print_none, cut_fault_prints_none, tree_prints_none, errors_promised}
+use Rattle.olk_answers.specs.Texts.{json_text}
+use Rattle.olk_answers.specs.Told.{told, errors_data, TellsFound, TellsSorted, PrintNoFraction}
+use Rattle.olk_answers.specs.Refusals.{fault_refusal}
+use Rattle.olk_cli.specs.Answers.{TellsFirst, TellsErrors, TellsEvaluation, IsReplyBy, IsReplyWhere, IsReply}
+use Rattle.olk_answers.proofs.ToldLemmas.{tree_data_is}
+use Rattle.olk_answers.proofs.Fractions.{IsPlain, PrintsNone, malformation_prints_no_fraction, neither, by_recursion}
+use Rattle.olk_answers.proofs.Plain.{same_faults_print_none, cut_fault_prints_none, tree_prints_none, errors_promised}
 
 -- where the schema is not malformed
 pub reply_is_by : (r : Asked) (answer : Text) → malformations bench r.schema ≡ [] → IsReplyBy r.ask r answer → IsReply r answer

@@ -1,34 +1,22 @@
 -- What a line is answered.
 use Rattle.std.specs.Prelude.{◌≡◌, Bool, true, false, List, [], ◌∷◌, map, codes, Contains}
-use Rattle.serde_json.specs.Data.{Data, string, object, no_members, member}
-use Rattle.olk_spec.specs.Names.{Text, Path}
-use Rattle.olk_spec.specs.Faults.{Fault, fault}
-use Rattle.olk_spec.specs.Texts.{text}
+use Rattle.olk_spec.specs.Names.{Text}
+use Rattle.olk_spec.specs.Faults.{Fault}
 use Rattle.olk_spec.specs.Malformed.{malformations}
 use Rattle.olk_spec.specs.Meaning.{accepts, report, IsTree}
 use Rattle.olk_spec.specs.Meaning as meant
 use Rattle.olk_spec.specs.Tree.{Tree, errors, is_valid}
 use Rattle.std.specs.List.{All}
 use Rattle.olk_spec.specs.Answers.{tree_data}
-use Rattle.olk_cli.specs.Evaluated.{IsPromised}
+use Rattle.olk_answers.specs.Evaluated.{IsPromised}
 use Rattle.olk_spec.specs.Bench.{bench}
 use Rattle.olk_errors.specs.Found.{IsOfReport}
-use Rattle.olk_cli.specs.Told.{verdict, told, first_data, TellsSorted}
-use Rattle.olk_cli.specs.Texts.{json_text}
+use Rattle.olk_answers.specs.Refusals.{refusal, fault_refusal}
+use Rattle.olk_answers.specs.Told.{verdict, told, first_data, TellsSorted}
+use Rattle.olk_answers.specs.Texts.{json_text}
 use Rattle.olk_cli.specs.declared.request.Ask.{Ask}
 use Rattle.olk_cli.specs.declared.request.Ask.TheVariants.{Valid, First, Errors, Evaluate}
 use Rattle.olk_cli.specs.Requests.{Asked, Understood, not_json, not_a_request, not_whole, asks, understood}
-
--- a refusal that has no place in a schema
-abbrev pub refusal : Text → Data
-refusal why = object (member (codes "refused") (string why) no_members)
-
--- what is refused of a schema, and where
-abbrev pub schema_refusal : Text → Path → Data
-schema_refusal message path = object (member (codes "refused") (string message) (member (codes "schemaPath") (string path) no_members))
-
-abbrev pub fault_refusal : Fault → Data
-fault_refusal (fault k v Q P) = schema_refusal (text (fault k v Q P)) P
 
 -- one error, where the instance is refused: what is kept of a fault of some report
 abbrev pub TellsFirst : Bool → Asked → Text → Type 0

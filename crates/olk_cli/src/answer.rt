@@ -1,18 +1,15 @@
 //! The answer to a line.
 ghost use Rattle.std.specs.Prelude.{◌≡◌, false, IfOk, option_map};
 ghost use Rattle.serde_json.specs.View.{view};
-ghost use Rattle.olk_reports.specs.Errors.{fault_of};
-ghost use Rattle.olk_spec.specs.Texts.{prints_fraction};
-ghost use Rattle.olk_cli.specs.Answers.{fault_refusal, IsReply, IsAnswer};
+ghost use Rattle.olk_cli.specs.Answers.{IsReply, IsAnswer};
 ghost use Rattle.olk_cli.specs.Requests.{value_of, has_fraction};
 ghost use Rattle.olk_cli.specs.Seen.{seen};
-ghost use Rattle.olk_cli.specs.Texts.{json_text};
 
-use crate::errors::{errors_text, first_text};
-use crate::evaluated::evaluation_text;
 use crate::request::{Ask, Request, read_request};
-use crate::texts::{refusal_text, schema_refusal_text, verdict_text};
-use object_logic::{BuildError, Meter, ValidationContext, ValidationError, Validator};
+use object_logic::{BuildError, Meter, ValidationContext, Validator};
+use olk_answers::{
+    errors_text, evaluation_text, first_text, malformation_text, refusal_text, verdict_text,
+};
 use olk_bench::{BenchLeaves, BenchRegexes};
 use serde_json::Value;
 use std::alloc::{AllocError, Global};
@@ -86,13 +83,4 @@ fn reply(alloc: Global, request: &Request<'_>) -> Result<Vec<u8>, AllocError>
         Err(BuildError::Refused(error)) => malformation_text(alloc, &error),
         Err(BuildError::Memory(error)) => Err(error),
     }
-}
-
-/// The refusal of a malformed schema.
-fn malformation_text(alloc: Global, error: &ValidationError<'_>) -> Result<Vec<u8>, AllocError>
-    ensures { IfOk result (λ answer. prints_fraction (fault_of error.now) ≡ false
-        → answer.items ≡ json_text (fault_refusal (fault_of error.now))) }
-{
-    let message = error.message(alloc)?;
-    schema_refusal_text(alloc, message.as_str(), error.schema_path())
 }

@@ -2,8 +2,6 @@
 #![tactic(auto)]
 
 mod answer;
-mod errors;
-mod evaluated;
 #[cfg(test)]
 mod found;
 mod program;
@@ -15,7 +13,6 @@ mod rows;
 mod streams;
 #[cfg(test)]
 mod tests;
-mod texts;
 mod writing;
 
 use program::run;

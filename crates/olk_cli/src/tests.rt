@@ -1,6 +1,6 @@
 use crate::program::run;
 use crate::streams::{FailingReader, FailingWriter};
-use object_logic::{BuildError, Meter, Validator, holds_whole_numbers};
+use object_logic::{BuildError, Meter, ValidationContext, Validator, holds_whole_numbers};
 use olk_bench::{BenchLeaves, BenchRegexes};
 use serde_json::Value;
 use std::alloc::Global;
@@ -265,62 +265,53 @@ fn no_line(rt: HostRuntime) {
     assert!(rt; answers(&rt, rt.alloc(), b"".as_slice()).is_empty());
 }
 
-// The counts of a build, and the schema path of its refusal; none where it was built.
-fn counts_of_build(alloc: Global, schema: &str) -> Result<(Meter, Option<String>), Fail> {
-    let schema = Value::from_str(alloc, schema)?;
-    let mut meter = Meter::new();
-    let refused = match Validator::build(alloc, &BenchLeaves, &BenchRegexes, &schema, &mut meter) {
-        Ok(_) => None,
-        Err(BuildError::Refused(error)) => Some(String::from_str(alloc, error.schema_path())?),
-        Err(BuildError::Memory(error)) => return Err(Fail::from(error)),
-    };
-    Ok((meter, refused))
-}
-
 #[test]
-fn counts_of_builds(rt: HostRuntime) -> Result<(), Fail> {
+fn counts_of_a_build_and_of_an_ask(rt: HostRuntime) -> Result<(), Fail> {
     let alloc = rt.alloc();
-    for (schema, compiled, leaves, place) in [
-        (
-            r#"{"allOf":[{}],"properties":{"a":{"type":"integer"}}}"#,
-            3,
-            1,
-            None,
-        ),
-        (
-            r##"{"allOf":[{"$ref":"#"},{"type":"integer"}]}"##,
-            2,
-            0,
-            Some("/allOf/0/$ref"),
-        ),
+    let schema = Value::from_str(
+        alloc,
+        r#"{"allOf":[{}],"properties":{"a":{"type":"integer"}}}"#,
+    )?;
+    let mut meter = Meter::new();
+    let Ok(validator) = Validator::build(alloc, &BenchLeaves, &BenchRegexes, &schema, &mut meter)
+    else {
+        return Err(Fail::new("refused"));
+    };
+    assert_eq!(rt; (meter.compiled(), meter.leaves()), (3, 1));
+    assert_eq!(rt;
+        (meter.made(), meter.asked(), meter.unfinished()),
+        (0, 0, 0)
+    );
+    for (instance, valid, whole) in [
+        (r#"{"a":1}"#, true, true),
+        (r#"{"a":"x"}"#, false, true),
+        (r#"[1.5]"#, true, false),
     ] {
-        let (meter, refused) = counts_of_build(alloc, schema)?;
-        assert_eq!(rt; refused.as_deref(), place, "{schema}");
-        assert_eq!(rt;
-            (meter.compiled(), meter.leaves()),
-            (compiled, leaves),
-            "{schema}"
-        );
-        assert_eq!(rt;
-            (meter.made(), meter.asked(), meter.unfinished()),
-            (0, 0, 0),
-            "{schema}"
-        );
+        let instance = Value::from_str(alloc, instance)?;
+        for answer in [false, true] {
+            let mut ctx = ValidationContext::new(answer);
+            assert_eq!(rt; validator.is_valid(&instance, &mut ctx), valid);
+            assert_eq!(rt; (ctx.answer(), ctx.meter().asked()), (answer, 0));
+        }
+        assert_eq!(rt; holds_whole_numbers(&instance), whole);
     }
     Ok(())
 }
 
 #[test]
-fn whole_numbers(rt: HostRuntime) -> Result<(), Fail> {
+fn counts_of_a_refused_build(rt: HostRuntime) -> Result<(), Fail> {
     let alloc = rt.alloc();
-    for (value, whole) in [
-        (r#"{"a":1}"#, true),
-        (r#"{"a":"x"}"#, true),
-        ("[1.5]", false),
-    ] {
-        let value = Value::from_str(alloc, value)?;
-        assert_eq!(rt; holds_whole_numbers(&value), whole);
+    let schema = Value::from_str(alloc, r##"{"allOf":[{"$ref":"#"},{"type":"integer"}]}"##)?;
+    let mut meter = Meter::new();
+    match Validator::build(alloc, &BenchLeaves, &BenchRegexes, &schema, &mut meter) {
+        Err(BuildError::Refused(error)) => assert_eq!(rt; error.schema_path(), "/allOf/0/$ref"),
+        Err(BuildError::Memory(_)) | Ok(_) => return Err(Fail::new("not refused")),
     }
+    assert_eq!(rt; (meter.compiled(), meter.leaves()), (2, 0));
+    assert_eq!(rt;
+        (meter.made(), meter.asked(), meter.unfinished()),
+        (0, 0, 0)
+    );
     Ok(())
 }
 

@@ -5,8 +5,8 @@ use Rattle.olk_reports.specs.Errors.{fault_of}
 use Rattle.olk_spec.specs.Meaning.{accepts}
 use Rattle.olk_spec.specs.Bench.{bench}
 use Rattle.olk_cli.specs.Answers.{IsReplyBy}
-use Rattle.olk_cli.specs.Told.{verdict}
-use Rattle.olk_cli.specs.Texts.{json_text}
+use Rattle.olk_answers.specs.Told.{verdict}
+use Rattle.olk_answers.specs.Texts.{json_text}
 use Rattle.olk_cli.specs.Seen.{seen}
 use Rattle.olk_cli.proofs.Replies.{reply_is_by, reply_is_refusal, found_is_first, added_are_errors, shown_is_evaluation}
 use Rattle.olk_cli.proofs.answer.reply.Goals as goal

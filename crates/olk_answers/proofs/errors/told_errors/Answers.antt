@@ -1,5 +1,5 @@
-use Rattle.olk_cli.proofs.ToldLemmas.{told_next}
-use Rattle.olk_cli.proofs.errors.told_errors.Goals as goal
+use Rattle.olk_answers.proofs.ToldLemmas.{told_next}
+use Rattle.olk_answers.proofs.errors.told_errors.Goals as goal
 
 pub loop-error-preserved : goal.loop-error-preserved
 loop-error-preserved c =

@@ -2,8 +2,8 @@
 use Rattle.std.proofs.Common.{◌≡◌, map, take}
 use Rattle.serde_json.specs.View.{view}
 use Rattle.olk_reports.specs.Entries.{annotation_of}
-use Rattle.olk_cli.specs.Evaluated.{annotation_data}
-use Rattle.olk_cli.proofs.evaluated.annotation_values.Given as goal
+use Rattle.olk_answers.specs.Evaluated.{annotation_data}
+use Rattle.olk_answers.proofs.evaluated.annotation_values.Given as goal
 
 abbrev pub invariant-loop-entry : goal.invariant-loop-entry
 invariant-loop-entry l = map view l.values.items ≡ map annotation_data (map annotation_of (take l.entry-index l.entries))

@@ -2,10 +2,10 @@ use Rattle.std.proofs.Common.{map, ap, ◌∙◌, subst}
 use Rattle.std.proofs.lemmas.Result.{IfOk-weaker}
 use Rattle.std.proofs.lemmas.List.Sorted.{IsPermutation-map}
 use Rattle.std.specs.List.Sorted.{IsPermutation}
-use Rattle.olk_cli.specs.Texts.{json_text}
-use Rattle.olk_cli.specs.Told.{shown, errors_data}
-use Rattle.olk_cli.proofs.ToldLemmas.{answer_is_plain, shown_ascend, is_empty-length}
-use Rattle.olk_cli.proofs.errors.errors_text.Goals as goal
+use Rattle.olk_answers.specs.Texts.{json_text}
+use Rattle.olk_answers.specs.Told.{shown, errors_data}
+use Rattle.olk_answers.proofs.ToldLemmas.{answer_is_plain, shown_ascend, is_empty-length}
+use Rattle.olk_answers.proofs.errors.errors_text.Goals as goal
 
 pub compact_text-requires : goal.compact_text-requires
 compact_text-requires c = rw c.in_ok-value.ensures (answer_is_plain c.is_empty.result (map shown c.deref.result.now))

@@ -13,8 +13,8 @@ use Rattle.olk_spec.specs.Texts.{text, prints_fraction}
 use Rattle.olk_reports.specs.Errors.{fault_of}
 use Rattle.olk_reports.specs.declared.error.ValidateError.{ValidateError}
 use Rattle.olk_reports.specs.declared.error.ValidateError.TheVariants.{Invalid, Memory}
-use Rattle.olk_cli.specs.Texts.{json_text}
-use Rattle.olk_cli.specs.declared.errors.ToldError.{ToldError}
+use Rattle.olk_answers.specs.Texts.{json_text}
+use Rattle.olk_answers.specs.declared.errors.ToldError.{ToldError}
 
 pub record Told : Type 0 where
   pub instance_path : Path

@@ -1,10 +1,9 @@
-//! The texts of answers.
 ghost use Rattle.std.specs.Prelude.{◌≡◌, IfOk, false};
 ghost use Rattle.serde_json.specs.View.{view};
 ghost use Rattle.serde_json.specs.Written.{has_float};
-ghost use Rattle.olk_cli.specs.Answers.{refusal, schema_refusal};
-ghost use Rattle.olk_cli.specs.Texts.{json_text};
-ghost use Rattle.olk_cli.specs.Told.{verdict};
+ghost use Rattle.olk_answers.specs.Refusals.{refusal, schema_refusal};
+ghost use Rattle.olk_answers.specs.Texts.{json_text};
+ghost use Rattle.olk_answers.specs.Told.{verdict};
 
 use serde_json::{Value, json};
 use std::alloc::{AllocError, Global};
@@ -15,7 +14,9 @@ fn refusal_value(alloc: Global, why: &str) -> Result<Value, AllocError>
     json!(in alloc; {"refused": why})
 }
 
-/// The refusal of a line.
+/// The refusal of a line, as compact JSON (RFC 8259).
+///
+/// The only error is want of memory.
 pub fn refusal_text(alloc: Global, why: &str) -> Result<Vec<u8>, AllocError>
     ensures { IfOk result (λ text. text.items ≡ json_text (refusal why.now)) }
 {
@@ -29,7 +30,9 @@ fn schema_refusal_value(alloc: Global, message: &str, path: &str) -> Result<Valu
     json!(in alloc; {"refused": message, "schemaPath": path})
 }
 
-/// The refusal of a schema.
+/// The refusal of a schema with this message and this place, as compact JSON (RFC 8259).
+///
+/// The only error is want of memory.
 pub fn schema_refusal_text(alloc: Global, message: &str, path: &str) -> Result<Vec<u8>, AllocError>
     ensures { IfOk result (λ text. text.items ≡ json_text (schema_refusal message.now path.now)) }
 {
@@ -43,7 +46,9 @@ fn verdict_value(alloc: Global, valid: bool) -> Result<Value, AllocError>
     json!(in alloc; {"valid": valid})
 }
 
-/// The verdict on an instance.
+/// The verdict on an instance, as compact JSON (RFC 8259).
+///
+/// The only error is want of memory.
 pub fn verdict_text(alloc: Global, valid: bool) -> Result<Vec<u8>, AllocError>
     ensures { IfOk result (λ text. text.items ≡ json_text (verdict valid)) }
 {
@@ -53,7 +58,7 @@ pub fn verdict_text(alloc: Global, valid: bool) -> Result<Vec<u8>, AllocError>
 
 /// The compact text of a value that has no fraction.
 #[tactic(auto, unfolding(crate::specs::Texts::json_text))]
-pub fn compact_text(alloc: Global, value: &Value) -> Result<Vec<u8>, AllocError>
+pub(crate) fn compact_text(alloc: Global, value: &Value) -> Result<Vec<u8>, AllocError>
     requires { has_float (view value.now) ≡ false }
     ensures { IfOk result (λ text. text.items ≡ json_text (view value.now)) }
 {

@@ -13,9 +13,9 @@ use Rattle.olk_spec.specs.Json.{items_from}
 use Rattle.olk_spec.specs.Texts.{prints_fraction}
 use Rattle.olk_reports.specs.Errors.{fault_of}
 use Rattle.olk_reports.specs.declared.error.ValidationError.{ValidationError}
-use Rattle.olk_cli.specs.Evaluated.{annotation_data, description_data, evaluation_data, tree_data}
-use Rattle.olk_cli.specs.Told.{Told, told, shown, told_cmp, error_data, errors_data, PrintNoFraction}
-use Rattle.olk_cli.specs.declared.errors.ToldError.{ToldError}
+use Rattle.olk_answers.specs.Evaluated.{annotation_data, description_data, evaluation_data, tree_data}
+use Rattle.olk_answers.specs.Told.{Told, told, shown, told_cmp, error_data, errors_data, PrintNoFraction}
+use Rattle.olk_answers.specs.declared.errors.ToldError.{ToldError}
 
 errors_are_plain : (es : List Told) → items_have_float (items_of (map error_data es)) ≡ false
 errors_are_plain [] = refl

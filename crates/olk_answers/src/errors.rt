@@ -1,14 +1,14 @@
-//! The texts of answers that tell errors.
 ghost use Rattle.std.specs.Prelude.{◌≡◌, IfOk, map, false};
 ghost use Rattle.serde_json.specs.View.{view};
 ghost use Rattle.olk_reports.specs.Errors.{fault_of};
 ghost use Rattle.olk_spec.specs.Names.{is_empty};
 ghost use Rattle.olk_spec.specs.Texts.{prints_fraction};
-ghost use Rattle.olk_cli.specs.Texts.{json_text};
-ghost use Rattle.olk_cli.specs.Told.{told, shown, error_data, first_data, errors_data, TellsFound, TellsSorted, PrintNoFraction};
+ghost use Rattle.olk_answers.specs.Refusals.{fault_refusal};
+ghost use Rattle.olk_answers.specs.Texts.{json_text};
+ghost use Rattle.olk_answers.specs.Told.{told, shown, error_data, first_data, errors_data, TellsFound, TellsSorted, PrintNoFraction};
 
-use crate::texts::{compact_text, verdict_text};
-use object_logic::{ValidateError, ValidationError};
+use crate::texts::{compact_text, schema_refusal_text, verdict_text};
+use olk_reports::{ValidateError, ValidationError};
 use serde_json::{Value, json};
 use std::alloc::{AllocError, Global};
 
@@ -92,6 +92,8 @@ fn first_error_text(alloc: Global, error: &ValidationError<'_>) -> Result<Vec<u8
 }
 
 /// The answer that tells the error that `validate` gives, or that there is none.
+///
+/// The only error is want of memory, also where it is what `validate` gives.
 pub fn first_text(
     alloc: Global,
     found: Result<(), ValidateError<'_>>,
@@ -105,7 +107,10 @@ pub fn first_text(
     }
 }
 
-/// The answer that tells errors, sorted. Where there is none, the instance is valid.
+/// The answer that tells errors, sorted by instance path, schema path and message in byte order. Where there is none,
+/// the instance is valid.
+///
+/// The only error is want of memory.
 pub fn errors_text(alloc: Global, errors: &[ValidationError<'_>]) -> Result<Vec<u8>, AllocError>
     ensures { IfOk result (λ answer. PrintNoFraction (map fault_of errors.now)
         → TellsSorted (is_empty errors.now) (map told (map fault_of errors.now)) answer.items) }
@@ -114,4 +119,15 @@ pub fn errors_text(alloc: Global, errors: &[ValidationError<'_>]) -> Result<Vec<
     told.sort_unstable();
     let value = errors_value(alloc, errors.is_empty(), &told)?;
     compact_text(alloc, &value)
+}
+
+/// The refusal of a malformed schema: the error in words, and its place in the schema (JSON Pointer, RFC 6901).
+///
+/// The only error is want of memory.
+pub fn malformation_text(alloc: Global, error: &ValidationError<'_>) -> Result<Vec<u8>, AllocError>
+    ensures { IfOk result (λ answer. prints_fraction (fault_of error.now) ≡ false
+        → answer.items ≡ json_text (fault_refusal (fault_of error.now))) }
+{
+    let message = error.message(alloc)?;
+    schema_refusal_text(alloc, message.as_str(), error.schema_path())
 }

@@ -1,13 +1,12 @@
-//! The text of an answer that tells an evaluation.
 ghost use Rattle.std.specs.Prelude.{◌≡◌, IfOk, map};
 ghost use Rattle.serde_json.specs.Data.{string};
 ghost use Rattle.serde_json.specs.View.{view};
 ghost use Rattle.olk_reports.specs.Entries.{evaluated, error_of, annotation_of};
-ghost use Rattle.olk_cli.specs.Evaluated.{annotation_data, description_data, evaluation_data, tree_data};
-ghost use Rattle.olk_cli.specs.Texts.{json_text};
+ghost use Rattle.olk_answers.specs.Evaluated.{annotation_data, description_data, evaluation_data, tree_data};
+ghost use Rattle.olk_answers.specs.Texts.{json_text};
 
 use crate::texts::compact_text;
-use object_logic::{AnnotationEntry, ErrorEntry, Evaluation};
+use olk_reports::{AnnotationEntry, ErrorEntry, Evaluation};
 use serde_json::{Value, json};
 use std::alloc::{AllocError, Global};
 
@@ -84,6 +83,8 @@ fn evaluation_value(
 }
 
 /// The answer that tells an evaluation: its annotations and its errors, each in the order of the tree, and the verdict.
+///
+/// The only error is want of memory.
 pub fn evaluation_text(alloc: Global, evaluation: &Evaluation<'_>) -> Result<Vec<u8>, AllocError>
     ensures { IfOk result (λ answer. answer.items ≡ json_text (tree_data (evaluated evaluation.now))) }
 {

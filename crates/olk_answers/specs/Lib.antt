@@ -1,0 +1,4 @@
+pub mod Evaluated
+pub mod Refusals
+pub mod Texts
+pub mod Told
