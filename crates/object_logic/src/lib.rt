@@ -2,8 +2,6 @@
 #![tactic(auto)]
 
 mod evaluate;
-#[cfg(test)]
-mod tests;
 mod validate;
 mod validator;
 mod whole;

@@ -8,6 +8,3 @@ mod texts;
 pub use errors::{errors_text, first_text, malformation_text};
 pub use evaluated::evaluation_text;
 pub use texts::{refusal_text, schema_refusal_text, verdict_text};
-
-#[cfg(test)]
-mod tests;

@@ -16,6 +16,3 @@ pub use names::{KeyHead, PropertyName};
 pub use node::{JsonType, Node};
 pub use pattern::{CompiledPattern, PropertyPattern};
 pub use traits::{Leaf, MakeError, MakeLeaf, MakeRegex, RegexEngine, Unfinished};
-
-#[cfg(test)]
-mod tests;

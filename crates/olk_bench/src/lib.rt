@@ -11,6 +11,3 @@ pub use leaf::{BenchLeaf, Constant, ValueKind};
 pub use leaves::BenchLeaves;
 pub use numbers::{Divisor, WholeNumber};
 pub use regexes::{BenchRegex, BenchRegexes};
-
-#[cfg(test)]
-mod tests;

@@ -26,6 +26,4 @@ pub mod logic;
 pub mod node;
 pub mod properties;
 pub mod required;
-#[cfg(test)]
-mod tests;
 mod walk;

@@ -2,8 +2,6 @@
 #![tactic(auto)]
 
 mod answer;
-#[cfg(test)]
-mod found;
 mod program;
 mod reading;
 mod request;

@@ -11,6 +11,3 @@ pub use entry::{AnnotationEntry, ErrorEntry, Evaluation, EvaluationFlag};
 pub use error::{BuildError, ValidateError, ValidationError, ValidationErrorKind};
 pub use evaluation::{ErrorDescription, EvaluationNode, EvaluationResult};
 pub use path::{InstancePath, Location, Mark};
-
-#[cfg(test)]
-mod tests;

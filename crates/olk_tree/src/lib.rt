@@ -21,6 +21,3 @@ pub use node::{
     SmallPropertiesWithRequired2Validator, SmallValidatorsMap,
 };
 pub use required::RequiredValidator;
-
-#[cfg(test)]
-mod tests;

@@ -1,4 +1,4 @@
-use crate::{
+use olk_answers::{
     errors_text, evaluation_text, first_text, malformation_text, refusal_text, schema_refusal_text,
     verdict_text,
 };

@@ -1,5 +1,5 @@
-use crate::{BenchLeaf, BenchLeaves, BenchRegexes};
 use olk_base::{Leaf, MakeError, MakeLeaf, MakeRegex, Meter, Node, RegexEngine};
+use olk_bench::{BenchLeaf, BenchLeaves, BenchRegexes};
 use serde_json::Value;
 use std::alloc::Global;
 use std::test::Fail;

@@ -1,8 +1,8 @@
-use crate::{
+use olk_base::{JsonType, Node};
+use olk_reports::{
     ErrorDescription, Evaluation, EvaluationNode, EvaluationResult, InstancePath, Location,
     ValidationError, ValidationErrorKind,
 };
-use olk_base::{JsonType, Node};
 use serde_json::{Map, Value};
 use std::alloc::{AllocError, Global};
 use std::test::Fail;

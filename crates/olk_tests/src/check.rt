@@ -1,7 +1,8 @@
 //! Validators that are built by hand, over a leaf that refuses texts.
-use crate::IsValid;
-use crate::node::is_valid_for;
-use olk_base::{Leaf, Meter, Node, RegexEngine, Unfinished, ValidationContext};
+use crate::doubles::{EqualTo, NoText};
+use olk_base::{Node, ValidationContext};
+use olk_check::IsValid;
+use olk_check::node::is_valid_for;
 use olk_reports::Location;
 use olk_tree::all_of::{AllOf, SingleValueAllOf};
 use olk_tree::any_of::{AnyOf, SingleAnyOf};
@@ -15,90 +16,9 @@ use std::alloc::{AllocError, Global};
 use std::marker::PhantomData;
 use std::test::Fail;
 
-// ---- a leaf and a matcher
-
-// Refuses texts.
-#[derive(Drop)]
-struct NoText;
-
-impl Leaf for NoText {
-    ghost use Rattle.std.specs.Prelude.{codes};
-    ghost use Rattle.olk_base.specs.Plain.{is_keyword, fits_text, text_faults};
-
-    ghost reads = { is_keyword };
-
-    ghost fits = { fits_text };
-
-    ghost faults = { λ k x v. text_faults v };
-
-    ghost keyword_of = { λ l. codes "text" };
-
-    ghost finds = { λ l v. text_faults v };
-
-    fn keyword(&self) -> &str {
-        "text"
-    }
-
-    fn is_valid(&self, node: Node<'_>) -> bool {
-        match node {
-            Node::Value(Value::String(_)) => false,
-            Node::Value(_) => true,
-            Node::Name(_) => false,
-        }
-    }
-
-    fn validate(&self, alloc: Global, node: Node<'_>) -> Result<Option<String>, AllocError> {
-        if self.is_valid(node) {
-            Ok(None)
-        } else {
-            Ok(Some(String::from_str(alloc, "is a text")?))
-        }
-    }
-
-    fn collect_errors(
-        &self,
-        alloc: Global,
-        node: Node<'_>,
-        texts: &mut Vec<String>,
-    ) -> Result<(), AllocError> {
-        if !self.is_valid(node) {
-            texts.push(String::from_str(alloc, "is a text")?)?;
-        }
-        Ok(())
-    }
-
-    fn evaluate(&self, alloc: Global, node: Node<'_>) -> Result<Vec<String>, AllocError> {
-        let mut texts = Vec::new(alloc);
-        self.collect_errors(alloc, node, &mut texts)?;
-        Ok(texts)
-    }
-}
-
-// Matches every name.
-#[derive(Drop)]
-struct Always;
-
-impl RegexEngine for Always {
-    ghost use Rattle.std.specs.Prelude.{true};
-    ghost use Rattle.olk_spec.specs.World.{matched};
-
-    ghost builds = { λ p. true };
-
-    ghost says = { λ p n. matched };
-
-    ghost answers = { λ e n. matched };
-
-    ghost costs = { λ e. true };
-
-    fn is_match(&self, _text: &str, meter: &mut Meter) -> Result<bool, Unfinished> {
-        meter.tick_asked();
-        Ok(true)
-    }
-}
-
 // ---- places
 
-fn place(alloc: Global, body: Body<Keyword<NoText, Always>>) -> SchemaNode<NoText, Always> {
+fn place(alloc: Global, body: Body<Keyword<NoText, EqualTo>>) -> SchemaNode<NoText, EqualTo> {
     SchemaNode {
         location: Location::new(alloc),
         body,
@@ -106,7 +26,7 @@ fn place(alloc: Global, body: Body<Keyword<NoText, Always>>) -> SchemaNode<NoTex
     }
 }
 
-fn truth(alloc: Global, accepts: bool) -> SchemaNode<NoText, Always> {
+fn truth(alloc: Global, accepts: bool) -> SchemaNode<NoText, EqualTo> {
     if accepts {
         place(alloc, Body::True)
     } else {
@@ -116,19 +36,19 @@ fn truth(alloc: Global, accepts: bool) -> SchemaNode<NoText, Always> {
 
 fn keyword(
     alloc: Global,
-    keyword: Keyword<NoText, Always>,
-) -> Result<SchemaNode<NoText, Always>, AllocError> {
+    keyword: Keyword<NoText, EqualTo>,
+) -> Result<SchemaNode<NoText, EqualTo>, AllocError> {
     Ok(place(alloc, Body::Keywords(vec![in alloc; keyword]?)))
 }
 
-fn no_text(alloc: Global) -> Result<SchemaNode<NoText, Always>, AllocError> {
+fn no_text(alloc: Global) -> Result<SchemaNode<NoText, EqualTo>, AllocError> {
     keyword(alloc, KeywordOver::Leaf(Location::new(alloc), NoText))
 }
 
 fn branches(
     alloc: Global,
     answers: &[bool],
-) -> Result<Vec<SchemaNode<NoText, Always>>, AllocError> {
+) -> Result<Vec<SchemaNode<NoText, EqualTo>>, AllocError> {
     let mut nodes = Vec::new(alloc);
     for answer in answers {
         nodes.push(truth(alloc, *answer))?;
@@ -136,7 +56,7 @@ fn branches(
     Ok(nodes)
 }
 
-fn accepts(place: &SchemaNode<NoText, Always>, value: &Value) -> bool {
+fn accepts(place: &SchemaNode<NoText, EqualTo>, value: &Value) -> bool {
     let mut ctx = ValidationContext::new(false);
     is_valid_for(place, Node::Value(value), &mut ctx)
 }
@@ -271,7 +191,7 @@ fn required_names_beside_declared_ones(rt: HostRuntime) -> Result<(), Fail> {
 }
 
 // `properties` of so many names, each with the leaf.
-fn declared(alloc: Global, count: usize) -> Result<SchemaNode<NoText, Always>, AllocError> {
+fn declared(alloc: Global, count: usize) -> Result<SchemaNode<NoText, EqualTo>, AllocError> {
     let mut names = Map::new(alloc);
     let mut nodes = Vec::new(alloc);
     for i in 0..count {

@@ -9,10 +9,11 @@ ghost use Rattle.olk_base.specs.Count.{count_made};
 ghost use Rattle.olk_base.specs.Lawful.{matcher, IsRefused};
 ghost use Rattle.olk_base.specs.Nodes.{tree_of};
 
-use crate::{
+use crate::doubles::{Equality, NoTexts};
+use olk_base::{
     CompiledPattern, JsonType, KeyHead, Leaf, MakeError, MakeLeaf, MakeRegex, Meter, Node,
-    PatternOptimization, PropertyName, PropertyPattern, RegexEngine, Unfinished, ValidationContext,
-    analyze_pattern, contains_ecma_whitespace,
+    PatternOptimization, PropertyName, PropertyPattern, ValidationContext, analyze_pattern,
+    contains_ecma_whitespace,
 };
 use serde_json::{Map, Value};
 use std::alloc::{AllocError, Global};
@@ -138,52 +139,6 @@ fn white_space(rt: HostRuntime) {
     }
 }
 
-// ---- a matcher: a pattern matches the names that equal it, `?` is unfinished, `(` does not build
-
-#[derive(Drop)]
-struct EqualTo {
-    text: String,
-}
-
-impl RegexEngine for EqualTo {
-    ghost use Rattle.std.specs.Prelude.{true, string_bytes};
-    ghost use Rattle.olk_base.specs.Plain.{is_pattern, equals};
-
-    ghost builds = { is_pattern };
-
-    ghost says = { equals };
-
-    ghost answers = { λ e n. equals (string_bytes e.text) n };
-
-    ghost costs = { λ e. true };
-
-    fn is_match(&self, text: &str, meter: &mut Meter) -> Result<bool, Unfinished> {
-        meter.tick_asked();
-        if self.text.as_str() == "?" {
-            Err(Unfinished)
-        } else {
-            Ok(self.text.as_str() == text)
-        }
-    }
-}
-
-#[derive(Drop)]
-struct Equality;
-
-impl MakeRegex for Equality {
-    type Engine = EqualTo;
-
-    fn make(&self, alloc: Global, pattern: &str, meter: &mut Meter) -> Result<EqualTo, MakeError> {
-        meter.tick_made();
-        if pattern == "(" {
-            Err(MakeError::Refused)
-        } else {
-            let text = String::from_str(alloc, pattern)?;
-            Ok(EqualTo { text })
-        }
-    }
-}
-
 // What building does with a pattern.
 fn compile_pattern<M: MakeRegex>(
     maker: &M,
@@ -252,89 +207,6 @@ fn patterns(rt: HostRuntime) -> Result<(), Fail> {
     assert!(rt; matches!(refused, Err(MakeError::Refused)));
     assert_eq!(rt; meter.made(), 1);
     Ok(())
-}
-
-// ---- a leaf set: the keyword `text`, with the value false, refuses texts
-
-#[derive(Drop)]
-struct NoText;
-
-impl Leaf for NoText {
-    ghost use Rattle.std.specs.Prelude.{codes};
-    ghost use Rattle.olk_base.specs.Plain.{is_keyword, fits_text, text_faults};
-
-    ghost reads = { is_keyword };
-
-    ghost fits = { fits_text };
-
-    ghost faults = { λ k x v. text_faults v };
-
-    ghost keyword_of = { λ l. codes "text" };
-
-    ghost finds = { λ l v. text_faults v };
-
-    fn keyword(&self) -> &str {
-        "text"
-    }
-
-    fn is_valid(&self, node: Node<'_>) -> bool {
-        match node {
-            Node::Value(Value::String(_)) => false,
-            Node::Value(_) => true,
-            Node::Name(_) => false,
-        }
-    }
-
-    fn validate(&self, alloc: Global, node: Node<'_>) -> Result<Option<String>, AllocError> {
-        if self.is_valid(node) {
-            Ok(None)
-        } else {
-            Ok(Some(String::from_str(alloc, "is a text")?))
-        }
-    }
-
-    fn collect_errors(
-        &self,
-        alloc: Global,
-        node: Node<'_>,
-        texts: &mut Vec<String>,
-    ) -> Result<(), AllocError> {
-        if !self.is_valid(node) {
-            texts.push(String::from_str(alloc, "is a text")?)?;
-        }
-        Ok(())
-    }
-
-    fn evaluate(&self, alloc: Global, node: Node<'_>) -> Result<Vec<String>, AllocError> {
-        let mut texts = Vec::new(alloc);
-        self.collect_errors(alloc, node, &mut texts)?;
-        Ok(texts)
-    }
-}
-
-#[derive(Drop)]
-struct NoTexts;
-
-impl MakeLeaf for NoTexts {
-    type Leaf = NoText;
-
-    fn reads(&self, keyword: &str) -> bool {
-        keyword == "text"
-    }
-
-    fn make(
-        &self,
-        _alloc: Global,
-        keyword: &str,
-        value: &Value,
-        meter: &mut Meter,
-    ) -> Result<NoText, MakeError> {
-        meter.tick_leaves();
-        match value {
-            Value::Bool(false) if keyword == "text" => Ok(NoText),
-            _ => Err(MakeError::Refused),
-        }
-    }
 }
 
 // A leaf that is made, and asked by each of its calls.
