@@ -9,6 +9,7 @@ use olk_reports::{
 };
 use serde_json::Value;
 use std::alloc::{AllocError, Global};
+use std::process::Abort;
 use std::test::Fail;
 
 // A name that the value lacks.
@@ -25,46 +26,87 @@ fn malformed(alloc: Global, value: &Value) -> Result<ValidationError<'_>, AllocE
     Ok(ValidationError::refusing(kind, Node::Value(value), String::new(alloc), place))
 }
 
+fn expect_text(rt: &impl Abort, answer: Vec<u8>, wanted: &str) {
+    assert!(rt; answer.as_slice() == wanted.as_bytes(), "{wanted}");
+}
+
 #[test]
-fn texts_of_answers(rt: HostRuntime) -> Result<(), Fail> {
+fn texts_of_refusals(rt: HostRuntime) -> Result<(), Fail> {
+    let alloc = rt.alloc();
+    let answer = refusal_text(alloc, "not JSON")?;
+    expect_text(&rt, answer, r#"{"refused":"not JSON"}"#);
+    let answer = schema_refusal_text(alloc, "5 is not a value", "/type")?;
+    expect_text(
+        &rt,
+        answer,
+        r#"{"refused":"5 is not a value","schemaPath":"/type"}"#,
+    );
+    Ok(())
+}
+
+#[test]
+fn text_of_a_malformation(rt: HostRuntime) -> Result<(), Fail> {
     let alloc = rt.alloc();
     let number = Value::from_str(alloc, "5")?;
+    let answer = malformation_text(alloc, &malformed(alloc, &number)?)?;
+    expect_text(
+        &rt,
+        answer,
+        r#"{"refused":"5 is not of type \"object\"","schemaPath":"/properties"}"#,
+    );
+    Ok(())
+}
+
+#[test]
+fn texts_of_verdicts(rt: HostRuntime) -> Result<(), Fail> {
+    let alloc = rt.alloc();
+    expect_text(&rt, verdict_text(alloc, true)?, r#"{"valid":true}"#);
+    expect_text(&rt, verdict_text(alloc, false)?, r#"{"valid":false}"#);
+    expect_text(&rt, first_text(alloc, Ok(()))?, r#"{"valid":true}"#);
+    Ok(())
+}
+
+#[test]
+fn text_of_a_first_error(rt: HostRuntime) -> Result<(), Fail> {
+    let alloc = rt.alloc();
+    let empty = Value::from_str(alloc, "{}")?;
+    let first = Err(ValidateError::Invalid(missing(alloc, "b", &empty)));
+    expect_text(
+        &rt,
+        first_text(alloc, first)?,
+        r#"{"error":{"instancePath":"","message":"\"b\" is a required property","schemaPath":"/required"},"valid":false}"#,
+    );
+    Ok(())
+}
+
+#[test]
+fn texts_of_errors(rt: HostRuntime) -> Result<(), Fail> {
+    let alloc = rt.alloc();
+    expect_text(
+        &rt,
+        errors_text(alloc, &[])?,
+        r#"{"errors":[],"valid":true}"#,
+    );
     let empty = Value::from_str(alloc, "{}")?;
     let errors = vec![in alloc; missing(alloc, "b", &empty), missing(alloc, "a", &empty)]?;
-    let first = Err(ValidateError::Invalid(missing(alloc, "b", &empty)));
+    expect_text(
+        &rt,
+        errors_text(alloc, &errors)?,
+        r#"{"errors":[{"instancePath":"","message":"\"a\" is a required property","schemaPath":"/required"},{"instancePath":"","message":"\"b\" is a required property","schemaPath":"/required"}],"valid":false}"#,
+    );
+    Ok(())
+}
+
+#[test]
+fn text_of_an_evaluation(rt: HostRuntime) -> Result<(), Fail> {
+    let alloc = rt.alloc();
     let shown = EvaluationResult::valid_empty(alloc);
     let shown = Evaluation::new(EvaluationNode::new("", String::new(alloc), shown));
-    for (answer, wanted) in [
-        (
-            refusal_text(alloc, "not JSON")?,
-            r#"{"refused":"not JSON"}"#,
-        ),
-        (
-            schema_refusal_text(alloc, "5 is not a value", "/type")?,
-            r#"{"refused":"5 is not a value","schemaPath":"/type"}"#,
-        ),
-        (
-            malformation_text(alloc, &malformed(alloc, &number)?)?,
-            r#"{"refused":"5 is not of type \"object\"","schemaPath":"/properties"}"#,
-        ),
-        (verdict_text(alloc, true)?, r#"{"valid":true}"#),
-        (verdict_text(alloc, false)?, r#"{"valid":false}"#),
-        (first_text(alloc, Ok(()))?, r#"{"valid":true}"#),
-        (
-            first_text(alloc, first)?,
-            r#"{"error":{"instancePath":"","message":"\"b\" is a required property","schemaPath":"/required"},"valid":false}"#,
-        ),
-        (errors_text(alloc, &[])?, r#"{"errors":[],"valid":true}"#),
-        (
-            errors_text(alloc, &errors)?,
-            r#"{"errors":[{"instancePath":"","message":"\"a\" is a required property","schemaPath":"/required"},{"instancePath":"","message":"\"b\" is a required property","schemaPath":"/required"}],"valid":false}"#,
-        ),
-        (
-            evaluation_text(alloc, &shown)?,
-            r#"{"annotations":[],"errors":[],"valid":true}"#,
-        ),
-    ] {
-        assert!(rt; answer.as_slice() == wanted.as_bytes(), "{wanted}");
-    }
+    let answer = evaluation_text(alloc, &shown)?;
+    expect_text(
+        &rt,
+        answer,
+        r#"{"annotations":[],"errors":[],"valid":true}"#,
+    );
     Ok(())
 }

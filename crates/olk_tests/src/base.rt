@@ -10,6 +10,7 @@ ghost use Rattle.olk_base.specs.Lawful.{matcher, IsRefused};
 ghost use Rattle.olk_base.specs.Nodes.{tree_of};
 
 use crate::doubles::{Equality, NoTexts};
+use crate::tables::two;
 use olk_base::{
     CompiledPattern, JsonType, KeyHead, Leaf, MakeError, MakeLeaf, MakeRegex, Meter, Node,
     PatternOptimization, PropertyName, PropertyPattern, ValidationContext, analyze_pattern,
@@ -17,30 +18,50 @@ use olk_base::{
 };
 use serde_json::{Map, Value};
 use std::alloc::{AllocError, Global};
+use std::process::Abort;
 use std::test::Fail;
 
 // ---- names
 
+fn expect_same(
+    rt: &impl Abort,
+    alloc: Global,
+    name: &str,
+    key: &str,
+    same: bool,
+) -> Result<(), Fail> {
+    let name = PropertyName::new(alloc, name)?;
+    assert_eq!(rt; name.matches(KeyHead::of(key), key), same, "{key}");
+    assert_eq!(rt; name.as_str() == key, same, "{key}");
+    Ok(())
+}
+
 #[test]
 fn same_names(rt: HostRuntime) -> Result<(), Fail> {
-    for (name, key, same) in [
-        ("abcdefghijklX", "abcdefghijklX", true),
-        ("abcdefghijkl", "abcdefghijkl", true),
-        ("abcd", "abcd", true),
-        ("", "", true),
-        ("café-résumé-naïve", "café-résumé-naïve", true),
-        ("abcdefghijklX", "abcdefghijklY", false),
-        ("abcdefghijkl", "abcdefghijkL", false),
-        ("abcdEFGHijkl", "abcdefghijkl", false),
-        ("abcd", "abce", false),
-        ("abcd", "abcde", false),
-        ("", "a", false),
-        ("café-résumé-naïve", "café-rÉsumé-naïve", false),
+    for name in [
+        "abcdefghijklX",
+        "abcdefghijkl",
+        "abcd",
+        "",
+        "café-résumé-naïve",
     ] {
-        let name = PropertyName::new(rt.alloc(), name)?;
-        let found = name.matches(KeyHead::of(key), key);
-        assert_eq!(rt; found, same, "{}", name.as_str());
-        assert_eq!(rt; name.as_str() == key, same, "{}", name.as_str());
+        expect_same(&rt, rt.alloc(), name, name, true)?;
+    }
+    Ok(())
+}
+
+#[test]
+fn other_names(rt: HostRuntime) -> Result<(), Fail> {
+    for (name, key) in [
+        ("abcdefghijklX", "abcdefghijklY"),
+        ("abcdefghijkl", "abcdefghijkL"),
+        ("abcdEFGHijkl", "abcdefghijkl"),
+        ("abcd", "abce"),
+        ("abcd", "abcde"),
+        ("", "a"),
+        ("café-résumé-naïve", "café-rÉsumé-naïve"),
+    ] {
+        expect_same(&rt, rt.alloc(), name, key, false)?;
     }
     Ok(())
 }
@@ -58,43 +79,40 @@ fn test_text(alloc: Global, pattern: &str) -> Result<String, AllocError> {
     }
 }
 
+// A pattern, and the test that it is read as.
+const LITERALS: &str = r#"^foo | Prefix foo
+^x- | Prefix x-
+^path/to | Prefix path/to
+^\/ | Prefix /
+^foo$ | Exact foo
+^\$ref$ | Exact $ref
+^foo\$ | Prefix foo$
+^(a|b)$ | Alternation ["a", "b"]
+^\S*$ | NoWhitespace
+spam$ | Suffix spam
+\$$ | Suffix $
+foo | none
+^ | none
+^$ | none
+^(a)$ | none
+^foo.* | none
+^foo+ | none
+^foo? | none
+^[a-z] | none
+^foo|bar | none
+^foo(bar) | none
+^foo\d | none
+foo\$ | none
+$ | none
+(a)$ | none
+fo.o$ | none"#;
+
 #[test]
 fn literal_patterns(rt: HostRuntime) -> Result<(), Fail> {
-    for (pattern, test) in [
-        ("^foo", "Prefix foo"),
-        ("^x-", "Prefix x-"),
-        ("^path/to", "Prefix path/to"),
-        ("^\\/", "Prefix /"),
-        ("^foo$", "Exact foo"),
-        ("^\\$ref$", "Exact $ref"),
-        ("^foo\\$", "Prefix foo$"),
-        ("^(a|b)$", "Alternation [\"a\", \"b\"]"),
-        ("^\\S*$", "NoWhitespace"),
-        ("spam$", "Suffix spam"),
-        ("\\$$", "Suffix $"),
-    ] {
+    for row in LITERALS.lines() {
+        let (pattern, test) = two(row)?;
         let found = test_text(rt.alloc(), pattern)?;
         assert_eq!(rt; found.as_str(), test, "{pattern}");
-    }
-    for pattern in [
-        "foo",
-        "^",
-        "^$",
-        "^(a)$",
-        "^foo.*",
-        "^foo+",
-        "^foo?",
-        "^[a-z]",
-        "^foo|bar",
-        "^foo(bar)",
-        "^foo\\d",
-        "foo\\$",
-        "$",
-        "(a)$",
-        "fo.o$",
-    ] {
-        let found = test_text(rt.alloc(), pattern)?;
-        assert_eq!(rt; found.as_str(), "none", "{pattern}");
     }
     Ok(())
 }
@@ -169,9 +187,29 @@ fn plain_error(error: MakeError) -> Fail {
     }
 }
 
+// A pattern, a name, whether it matches, how many engines are asked, and how many matches are left unfinished.
+type Match<'a> = (&'a str, &'a str, bool, u64, u64);
+
+fn expect_match(rt: &impl Abort, alloc: Global, row: Match<'_>) -> Result<(), Fail> {
+    let (pattern, name, found, asked, unfinished) = row;
+    let mut meter = Meter::new();
+    let compiled = compile_pattern(&Equality, alloc, pattern, &mut meter).map_err(plain_error)?;
+    assert_eq!(rt; meter.made(), asked, "{pattern}");
+    let mut ctx = ValidationContext::new(true);
+    assert_eq!(rt;
+        compiled.is_match_in(name, &mut ctx),
+        found,
+        "{pattern} {name}"
+    );
+    assert_eq!(rt; ctx.meter().asked(), asked, "{pattern}");
+    assert_eq!(rt; ctx.meter().unfinished(), unfinished, "{pattern}");
+    assert!(rt; ctx.answer());
+    Ok(())
+}
+
 #[test]
 fn patterns(rt: HostRuntime) -> Result<(), Fail> {
-    for (pattern, name, found, asked, unfinished) in [
+    for row in [
         ("^foo", "foobar", true, 0, 0),
         ("^foo", "barfoo", false, 0, 0),
         ("spam$", "xspam", true, 0, 0),
@@ -187,26 +225,17 @@ fn patterns(rt: HostRuntime) -> Result<(), Fail> {
         ("foo", "foobar", false, 1, 0),
         ("?", "foo", true, 1, 1),
     ] {
-        let mut meter = Meter::new();
-        let compiled = compile_pattern(&Equality, rt.alloc(), pattern, &mut meter).map_err(
-            plain_error,
-        )?;
-        assert_eq!(rt; meter.made(), asked, "{pattern}");
-        let mut ctx = ValidationContext::new(true);
-        assert_eq!(rt;
-            compiled.is_match_in(name, &mut ctx),
-            found,
-            "{pattern} {name}"
-        );
-        assert_eq!(rt; ctx.meter().asked(), asked, "{pattern}");
-        assert_eq!(rt; ctx.meter().unfinished(), unfinished, "{pattern}");
-        assert!(rt; ctx.answer());
+        expect_match(&rt, rt.alloc(), row)?;
     }
+    Ok(())
+}
+
+#[test]
+fn a_pattern_that_is_refused(rt: HostRuntime) {
     let mut meter = Meter::new();
     let refused = compile_pattern(&Equality, rt.alloc(), "(", &mut meter);
     assert!(rt; matches!(refused, Err(MakeError::Refused)));
     assert_eq!(rt; meter.made(), 1);
-    Ok(())
 }
 
 // A leaf that is made, and asked by each of its calls.
@@ -235,38 +264,47 @@ fn one_text(alloc: Global, text: &str) -> Result<Vec<String>, AllocError> {
     Ok(vec![in alloc; String::from_str(alloc, text)?]?)
 }
 
+// What each call of a leaf answers of the node.
+fn expect_answers(
+    rt: &impl Abort,
+    alloc: Global,
+    node: Node<'_>,
+    one: &str,
+    texts: &str,
+) -> Result<(), Fail> {
+    let (value, mut meter) = (Value::Bool(false), Meter::new());
+    let answers = asked_leaf(&NoTexts, alloc, "text", &value, node, &mut meter).map_err(
+        plain_error,
+    )?;
+    assert_eq!(rt; meter.leaves(), 1);
+    assert_eq!(rt; answers.0, one == "None");
+    assert_eq!(rt; format!(in alloc; "{:?}", answers.1)?.as_str(), one);
+    assert_eq!(rt; format!(in alloc; "{:?}", answers.2)?.as_str(), texts);
+    assert_eq!(rt; answers.3.is_empty(), one == "None");
+    Ok(())
+}
+
 #[test]
 fn leaves(rt: HostRuntime) -> Result<(), Fail> {
-    let (value, mut meter) = (Value::Bool(false), Meter::new());
-    assert!(rt; NoTexts.reads("text") && !NoTexts.reads("texts"));
-    for (node, valid, one, texts) in [
-        (
-            Node::Name("a"),
-            false,
-            "Some(\"is a text\")",
-            "[\"text\", \"is a text\"]",
-        ),
-        (Node::Value(&value), true, "None", "[\"text\"]"),
-    ] {
-        let answers = asked_leaf(&NoTexts, rt.alloc(), "text", &value, node, &mut meter).map_err(
-            plain_error,
-        )?;
-        assert_eq!(rt; answers.0, valid);
-        assert_eq!(rt; format!(in rt.alloc(); "{:?}", answers.1)?.as_str(), one);
-        assert_eq!(rt; format!(in rt.alloc(); "{:?}", answers.2)?.as_str(), texts);
-        assert_eq!(rt; answers.3.is_empty(), valid);
-    }
-    let refused = asked_leaf(
-        &NoTexts,
-        rt.alloc(),
-        "text",
-        &Value::Null,
-        Node::Name("a"),
-        &mut meter,
-    );
-    assert!(rt; matches!(refused, Err(MakeError::Refused)));
-    assert_eq!(rt; meter.leaves(), 3);
+    let alloc = rt.alloc();
+    let texts = "[\"text\", \"is a text\"]";
+    expect_answers(&rt, alloc, Node::Name("a"), "Some(\"is a text\")", texts)?;
+    expect_answers(&rt, alloc, Node::Value(&Value::Null), "None", "[\"text\"]")?;
     Ok(())
+}
+
+#[test]
+fn a_leaf_that_is_refused(rt: HostRuntime) {
+    let mut meter = Meter::new();
+    let (value, node) = (Value::Null, Node::Name("a"));
+    let refused = asked_leaf(&NoTexts, rt.alloc(), "text", &value, node, &mut meter);
+    assert!(rt; matches!(refused, Err(MakeError::Refused)));
+    assert_eq!(rt; meter.leaves(), 1);
+}
+
+#[test]
+fn keywords_of_leaves(rt: HostRuntime) {
+    assert!(rt; NoTexts.reads("text") && !NoTexts.reads("texts"));
 }
 
 // ---- nodes and counts

@@ -1,7 +1,9 @@
+use crate::tables::{four, three};
 use olk_base::{Leaf, MakeError, MakeLeaf, MakeRegex, Meter, Node, RegexEngine};
 use olk_bench::{BenchLeaf, BenchLeaves, BenchRegexes};
 use serde_json::Value;
 use std::alloc::Global;
+use std::process::Abort;
 use std::test::Fail;
 
 // The leaf, or none where the value is refused.
@@ -36,59 +38,41 @@ fn told_in_turn(
     Ok(told)
 }
 
+// A leaf's keyword and value, an instance, and what is told of it, or `-`.
+const LEAVES: &str = r#"type | "integer" | 18446744073709551615 | -
+type | "integer" | 1.5 | value is not of type "integer"
+type | "number" | 1.5 | -
+type | "string" | {"a":[1,null]} | {"a":[1,null]} is not of type "string"
+const | 5 | 5 | -
+const | 5 | -5 | 5 was expected
+const | "a" | ["a"] | "a" was expected
+minimum | 5 | 4 | 4 is less than the minimum of 5
+minimum | -5 | -5 | -
+minimum | 5 | 4.5 | -
+maximum | 10 | 11 | 11 is greater than the maximum of 10
+maximum | 10 | 10 | -
+multipleOf | 3 | -7 | -7 is not a multiple of 3
+multipleOf | 3 | -6 | -
+minLength | 2 | "é" | "é" is shorter than 2 characters
+minLength | 2 | [] | -
+maxLength | 3 | "cdef" | "cdef" is longer than 3 characters
+maxLength | 3 | "ééé" | -"#;
+
+fn expect_told(rt: &impl Abort, alloc: Global, row: &str) -> Result<(), Fail> {
+    let (keyword, value, instance, told) = four(row)?;
+    let texts = told_in_turn(alloc, keyword, value, instance)?;
+    let count = if told == "-" { 0 } else { 3 };
+    assert_eq!(rt; texts.len(), count, "{row}");
+    for text in &texts {
+        assert_eq!(rt; text.as_str(), told, "{row}");
+    }
+    Ok(())
+}
+
 #[test]
 fn leaves_accept_or_tell(rt: HostRuntime) -> Result<(), Fail> {
-    for (keyword, value, instance, told) in [
-        ("type", "\"integer\"", "18446744073709551615", ""),
-        (
-            "type",
-            "\"integer\"",
-            "1.5",
-            "value is not of type \"integer\"",
-        ),
-        ("type", "\"number\"", "1.5", ""),
-        (
-            "type",
-            "\"string\"",
-            "{\"a\":[1,null]}",
-            "{\"a\":[1,null]} is not of type \"string\"",
-        ),
-        ("const", "5", "5", ""),
-        ("const", "5", "-5", "5 was expected"),
-        ("const", "\"a\"", "[\"a\"]", "\"a\" was expected"),
-        ("minimum", "5", "4", "4 is less than the minimum of 5"),
-        ("minimum", "-5", "-5", ""),
-        ("minimum", "5", "4.5", ""),
-        (
-            "maximum",
-            "10",
-            "11",
-            "11 is greater than the maximum of 10",
-        ),
-        ("maximum", "10", "10", ""),
-        ("multipleOf", "3", "-7", "-7 is not a multiple of 3"),
-        ("multipleOf", "3", "-6", ""),
-        (
-            "minLength",
-            "2",
-            "\"é\"",
-            "\"é\" is shorter than 2 characters",
-        ),
-        ("minLength", "2", "[]", ""),
-        (
-            "maxLength",
-            "3",
-            "\"cdef\"",
-            "\"cdef\" is longer than 3 characters",
-        ),
-        ("maxLength", "3", "\"ééé\"", ""),
-    ] {
-        let texts = told_in_turn(rt.alloc(), keyword, value, instance)?;
-        let count = if told.is_empty() { 0 } else { 3 };
-        assert_eq!(rt; texts.len(), count, "{keyword} {value}");
-        for text in &texts {
-            assert_eq!(rt; text.as_str(), told, "{keyword} {value}");
-        }
+    for row in LEAVES.lines() {
+        expect_told(&rt, rt.alloc(), row)?;
     }
     Ok(())
 }
@@ -110,9 +94,13 @@ fn values_that_do_not_fit_are_refused(rt: HostRuntime) -> Result<(), Fail> {
         let leaf = made(rt.alloc(), keyword, value)?;
         assert!(rt; leaf.is_none(), "{keyword} {value}");
     }
+    Ok(())
+}
+
+#[test]
+fn keywords_are_read(rt: HostRuntime) {
     assert!(rt; BenchLeaves.reads("minimum"));
     assert!(rt; !BenchLeaves.reads("pattern"));
-    Ok(())
 }
 
 // The answer as a word.
@@ -129,35 +117,33 @@ fn asked(alloc: Global, pattern: &str, name: &str) -> Result<&'static str, Fail>
     }
 }
 
+// A pattern, a name, and the answer.
+const PATTERNS: &str = r"foo | afoob | yes
+foo | fo | no
+^foo | foob | yes
+^foo | afoo | no
+foo$ | afoo | yes
+foo$ | foob | no
+^foo$ | foo | yes
+^foo$ | foofoo | no
+\/é | a/é | yes
+(slow)x | axb | unfinished
+(slow)x | ab | no
+(slow) |  | refused
+(slow)^x | x | refused
+ |  | refused
+^$ |  | refused
+a( | a | refused
+(?<=a)b | ab | refused
+foo.* | foo | refused
+\d | d | refused
+a$b | a | refused";
+
 #[test]
 fn patterns_are_plain_texts(rt: HostRuntime) -> Result<(), Fail> {
-    for (pattern, name, answer) in [
-        ("foo", "afoob", "yes"),
-        ("foo", "fo", "no"),
-        ("^foo", "foob", "yes"),
-        ("^foo", "afoo", "no"),
-        ("foo$", "afoo", "yes"),
-        ("foo$", "foob", "no"),
-        ("^foo$", "foo", "yes"),
-        ("^foo$", "foofoo", "no"),
-        ("\\/é", "a/é", "yes"),
-        ("(slow)x", "axb", "unfinished"),
-        ("(slow)x", "ab", "no"),
-        ("(slow)", "", "refused"),
-        ("(slow)^x", "x", "refused"),
-        ("", "", "refused"),
-        ("^$", "", "refused"),
-        ("a(", "a", "refused"),
-        ("(?<=a)b", "ab", "refused"),
-        ("foo.*", "foo", "refused"),
-        ("\\d", "d", "refused"),
-        ("a$b", "a", "refused"),
-    ] {
-        assert_eq!(rt;
-            asked(rt.alloc(), pattern, name)?,
-            answer,
-            "{pattern} {name}"
-        );
+    for row in PATTERNS.lines() {
+        let (pattern, name, answer) = three(row)?;
+        assert_eq!(rt; asked(rt.alloc(), pattern, name)?, answer, "{row}");
     }
     Ok(())
 }

@@ -14,11 +14,16 @@ use olk_tree::required::RequiredValidator;
 use serde_json::{Map, Value};
 use std::alloc::{AllocError, Global};
 use std::marker::PhantomData;
+use std::process::Abort;
 use std::test::Fail;
 
 // ---- places
 
-fn place(alloc: Global, body: Body<Keyword<NoText, EqualTo>>) -> SchemaNode<NoText, EqualTo> {
+type PlainKeyword = Keyword<NoText, EqualTo>;
+
+type PlainNode = SchemaNode<NoText, EqualTo>;
+
+fn place(alloc: Global, body: Body<PlainKeyword>) -> PlainNode {
     SchemaNode {
         location: Location::new(alloc),
         body,
@@ -26,7 +31,7 @@ fn place(alloc: Global, body: Body<Keyword<NoText, EqualTo>>) -> SchemaNode<NoTe
     }
 }
 
-fn truth(alloc: Global, accepts: bool) -> SchemaNode<NoText, EqualTo> {
+fn truth(alloc: Global, accepts: bool) -> PlainNode {
     if accepts {
         place(alloc, Body::True)
     } else {
@@ -34,21 +39,15 @@ fn truth(alloc: Global, accepts: bool) -> SchemaNode<NoText, EqualTo> {
     }
 }
 
-fn keyword(
-    alloc: Global,
-    keyword: Keyword<NoText, EqualTo>,
-) -> Result<SchemaNode<NoText, EqualTo>, AllocError> {
+fn keyword(alloc: Global, keyword: PlainKeyword) -> Result<PlainNode, AllocError> {
     Ok(place(alloc, Body::Keywords(vec![in alloc; keyword]?)))
 }
 
-fn no_text(alloc: Global) -> Result<SchemaNode<NoText, EqualTo>, AllocError> {
+fn no_text(alloc: Global) -> Result<PlainNode, AllocError> {
     keyword(alloc, KeywordOver::Leaf(Location::new(alloc), NoText))
 }
 
-fn branches(
-    alloc: Global,
-    answers: &[bool],
-) -> Result<Vec<SchemaNode<NoText, EqualTo>>, AllocError> {
+fn branches(alloc: Global, answers: &[bool]) -> Result<Vec<PlainNode>, AllocError> {
     let mut nodes = Vec::new(alloc);
     for answer in answers {
         nodes.push(truth(alloc, *answer))?;
@@ -56,12 +55,24 @@ fn branches(
     Ok(nodes)
 }
 
-fn accepts(place: &SchemaNode<NoText, EqualTo>, value: &Value) -> bool {
+fn accepts(place: &PlainNode, value: &Value) -> bool {
     let mut ctx = ValidationContext::new(false);
     is_valid_for(place, Node::Value(value), &mut ctx)
 }
 
 // ---- the tables
+
+fn all_of(alloc: Global, answers: &[bool]) -> Result<PlainNode, AllocError> {
+    let schemas = branches(alloc, answers)?;
+    let location = Location::new(alloc);
+    keyword(alloc, KeywordOver::AllOf(AllOf { schemas, location }))
+}
+
+fn any_of(alloc: Global, answers: &[bool]) -> Result<PlainNode, AllocError> {
+    let schemas = branches(alloc, answers)?;
+    let location = Location::new(alloc);
+    keyword(alloc, KeywordOver::AnyOf(AnyOf { schemas, location }))
+}
 
 #[test]
 fn branches_of_logic(rt: HostRuntime) -> Result<(), Fail> {
@@ -76,40 +87,54 @@ fn branches_of_logic(rt: HostRuntime) -> Result<(), Fail> {
         (&[false, false], false, false),
     ];
     for (answers, all, any) in rows {
-        let schemas = branches(alloc, answers)?;
-        let location = Location::new(alloc);
-        let all_of = keyword(alloc, KeywordOver::AllOf(AllOf { schemas, location }))?;
-        assert_eq!(rt; accepts(&all_of, &Value::Null), all, "allOf {answers:?}");
-        let schemas = branches(alloc, answers)?;
-        let location = Location::new(alloc);
-        let any_of = keyword(alloc, KeywordOver::AnyOf(AnyOf { schemas, location }))?;
-        assert_eq!(rt; accepts(&any_of, &Value::Null), any, "anyOf {answers:?}");
+        let accepted = accepts(&all_of(alloc, answers)?, &Value::Null);
+        assert_eq!(rt; accepted, all, "allOf {answers:?}");
+        let accepted = accepts(&any_of(alloc, answers)?, &Value::Null);
+        assert_eq!(rt; accepted, any, "anyOf {answers:?}");
     }
     Ok(())
+}
+
+fn all_of_one(alloc: Global, answer: bool) -> Result<PlainNode, AllocError> {
+    let node = truth(alloc, answer);
+    let location = Location::new(alloc);
+    keyword(
+        alloc,
+        KeywordOver::SingleValueAllOf(SingleValueAllOf { node, location }),
+    )
+}
+
+fn any_of_one(alloc: Global, answer: bool) -> Result<PlainNode, AllocError> {
+    let node = truth(alloc, answer);
+    let location = Location::new(alloc);
+    keyword(
+        alloc,
+        KeywordOver::SingleAnyOf(SingleAnyOf { node, location }),
+    )
+}
+
+fn not(alloc: Global, answer: bool) -> Result<PlainNode, AllocError> {
+    let node = truth(alloc, answer);
+    let location = Location::new(alloc);
+    let original = Value::Bool(answer);
+    keyword(
+        alloc,
+        KeywordOver::Not(Not {
+            original,
+            node,
+            location,
+        }),
+    )
 }
 
 #[test]
 fn one_branch(rt: HostRuntime) -> Result<(), Fail> {
     let alloc = rt.alloc();
     for answer in [true, false] {
-        let node = truth(alloc, answer);
-        assert_eq!(rt; accepts(&node, &Value::Null), answer);
-        let all_of = KeywordOver::SingleValueAllOf(SingleValueAllOf {
-            node,
-            location: Location::new(alloc),
-        });
-        assert_eq!(rt; accepts(&keyword(alloc, all_of)?, &Value::Null), answer);
-        let any_of = KeywordOver::SingleAnyOf(SingleAnyOf {
-            node: truth(alloc, answer),
-            location: Location::new(alloc),
-        });
-        assert_eq!(rt; accepts(&keyword(alloc, any_of)?, &Value::Null), answer);
-        let not = KeywordOver::Not(Not {
-            original: Value::Bool(answer),
-            node: truth(alloc, answer),
-            location: Location::new(alloc),
-        });
-        assert_eq!(rt; accepts(&keyword(alloc, not)?, &Value::Null), !answer);
+        assert_eq!(rt; accepts(&truth(alloc, answer), &Value::Null), answer);
+        assert_eq!(rt; accepts(&all_of_one(alloc, answer)?, &Value::Null), answer);
+        assert_eq!(rt; accepts(&any_of_one(alloc, answer)?, &Value::Null), answer);
+        assert_eq!(rt; accepts(&not(alloc, answer)?, &Value::Null), !answer);
     }
     Ok(())
 }
@@ -126,6 +151,18 @@ fn leaves(rt: HostRuntime) -> Result<(), Fail> {
     Ok(())
 }
 
+fn required(alloc: Global, names: &[&str]) -> Result<PlainNode, AllocError> {
+    let mut required = Vec::new(alloc);
+    for name in names {
+        required.push(String::from_str(alloc, name)?)?;
+    }
+    let location = Location::new(alloc);
+    keyword(
+        alloc,
+        KeywordOver::Required(RequiredValidator { required, location }),
+    )
+}
+
 #[test]
 fn required_names(rt: HostRuntime) -> Result<(), Fail> {
     let alloc = rt.alloc();
@@ -140,25 +177,38 @@ fn required_names(rt: HostRuntime) -> Result<(), Fail> {
         (&["a"], r#"["a"]"#, true),
     ];
     for (names, text, answer) in rows {
-        let mut required = Vec::new(alloc);
-        for name in names {
-            required.push(String::from_str(alloc, name)?)?;
-        }
-        let location = Location::new(alloc);
-        let place = keyword(
-            alloc,
-            KeywordOver::Required(RequiredValidator { required, location }),
-        )?;
         let value = Value::from_str(alloc, text)?;
-        assert_eq!(rt; accepts(&place, &value), answer, "{names:?} {text}");
+        let accepted = accepts(&required(alloc, names)?, &value);
+        assert_eq!(rt; accepted, answer, "{names:?} {text}");
     }
     Ok(())
 }
 
-// `properties` of the name `a` with the leaf, and two required names.
+// The name `a` with the leaf.
+fn one_name(alloc: Global) -> Result<SmallMap<PlainNode>, AllocError> {
+    let mut names = Map::new(alloc);
+    names.insert(String::from_str(alloc, "a")?, Value::Null)?;
+    let nodes = vec![in alloc; no_text(alloc)?]?;
+    let names = SortedNames::of(alloc, &names)?;
+    Ok(SmallMap { names, nodes })
+}
+
+// `properties` of that name, and two required names.
+fn beside_required(alloc: Global) -> Result<PlainNode, AllocError> {
+    let both = SmallPropertiesWithRequired2 {
+        properties: one_name(alloc)?,
+        first: String::from_str(alloc, "c")?,
+        second: String::from_str(alloc, "b")?,
+        location: Location::new(alloc),
+        required_location: Location::new(alloc),
+    };
+    keyword(alloc, KeywordOver::PropertiesWithRequired2(both))
+}
+
 #[test]
 fn required_names_beside_declared_ones(rt: HostRuntime) -> Result<(), Fail> {
     let alloc = rt.alloc();
+    let place = beside_required(alloc)?;
     for (text, answer) in [
         (r#"{"b":"x","c":1}"#, true),
         (r#"{"a":1,"b":"x","c":1}"#, true),
@@ -168,22 +218,6 @@ fn required_names_beside_declared_ones(rt: HostRuntime) -> Result<(), Fail> {
         (r#"{}"#, false),
         (r#"[]"#, true),
     ] {
-        let mut names = Map::new(alloc);
-        names.insert(String::from_str(alloc, "a")?, Value::Null)?;
-        let mut nodes = Vec::new(alloc);
-        nodes.push(no_text(alloc)?)?;
-        let properties = SmallMap {
-            names: SortedNames::of(alloc, &names)?,
-            nodes,
-        };
-        let both = SmallPropertiesWithRequired2 {
-            properties,
-            first: String::from_str(alloc, "c")?,
-            second: String::from_str(alloc, "b")?,
-            location: Location::new(alloc),
-            required_location: Location::new(alloc),
-        };
-        let place = keyword(alloc, KeywordOver::PropertiesWithRequired2(both))?;
         let value = Value::from_str(alloc, text)?;
         assert_eq!(rt; accepts(&place, &value), answer, "{text}");
     }
@@ -191,7 +225,7 @@ fn required_names_beside_declared_ones(rt: HostRuntime) -> Result<(), Fail> {
 }
 
 // `properties` of so many names, each with the leaf.
-fn declared(alloc: Global, count: usize) -> Result<SchemaNode<NoText, EqualTo>, AllocError> {
+fn declared(alloc: Global, count: usize) -> Result<PlainNode, AllocError> {
     let mut names = Map::new(alloc);
     let mut nodes = Vec::new(alloc);
     for i in 0..count {
@@ -223,25 +257,50 @@ fn object(alloc: Global, name: &str, besides: usize) -> Result<Value, AllocError
     Ok(Value::Object(members))
 }
 
+// Whether an object with a text at this name is accepted.
+fn accepts_text_at(
+    place: &PlainNode,
+    alloc: Global,
+    name: &str,
+    besides: usize,
+) -> Result<bool, AllocError> {
+    Ok(accepts(place, &object(alloc, name, besides)?))
+}
+
 // With few members besides, these are looked up among the declared names, and with many the
 // declared names among them.
+fn expect_declared(
+    rt: &impl Abort,
+    alloc: Global,
+    count: usize,
+    besides: usize,
+) -> Result<(), Fail> {
+    let place = declared(alloc, count)?;
+    for i in 0..20 {
+        let name = format!(in alloc; "m{i:02}")?;
+        let accepted = accepts_text_at(&place, alloc, name.as_str(), besides)?;
+        assert_eq!(rt; accepted, i >= count, "{i} of {count}");
+    }
+    for name in ["", "l", "m", "m00a", "m005", "m12z", "n"] {
+        let accepted = accepts_text_at(&place, alloc, name, besides)?;
+        assert!(rt; accepted, "{name} of {count}");
+    }
+    Ok(())
+}
+
 #[test]
 fn declared_names(rt: HostRuntime) -> Result<(), Fail> {
-    let alloc = rt.alloc();
     for count in [0, 1, 2, 13, 14, 15, 16] {
-        let place = declared(alloc, count)?;
         for besides in [0, count, 20] {
-            for i in 0..20 {
-                let name = format!(in alloc; "m{i:02}")?;
-                let value = object(alloc, name.as_str(), besides)?;
-                assert_eq!(rt; accepts(&place, &value), i >= count, "{name} of {count}");
-            }
-            for name in ["", "l", "m", "m00a", "m005", "m12z", "n"] {
-                let value = object(alloc, name, besides)?;
-                assert!(rt; accepts(&place, &value), "{name} of {count}");
-            }
+            expect_declared(&rt, rt.alloc(), count, besides)?;
         }
-        assert!(rt; accepts(&place, &Value::Null));
     }
+    Ok(())
+}
+
+#[test]
+fn declared_names_beside_no_object(rt: HostRuntime) -> Result<(), Fail> {
+    let place = declared(rt.alloc(), 2)?;
+    assert!(rt; accepts(&place, &Value::Null));
     Ok(())
 }

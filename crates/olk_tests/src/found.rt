@@ -108,19 +108,25 @@ fn verdicts(
 // A name for the row, the schema, the instance, the first error, and all errors in the order of their texts.
 type Row<'a> = (&'a str, &'a str, &'a str, &'a str, &'a [&'a str]);
 
+fn expect_lines(rt: &impl Abort, lines: &[String], wanted: &[&str], name: &str) {
+    assert_eq!(rt; lines.len(), wanted.len(), "{name}");
+    for (line, wanted) in lines.iter().zip(wanted) {
+        assert_eq!(rt; line.as_str(), *wanted, "{name}");
+    }
+}
+
 // What is found is compared with what the row says, and each way of asking gives the same verdict.
 fn expect_found(rt: &impl Abort, alloc: Global, row: Row<'_>) -> Result<(), Fail> {
     let (name, schema, instance, first, all) = row;
     let schema = Value::from_str(alloc, schema)?;
     let instance = Value::from_str(alloc, instance)?;
     let validator = built(alloc, &schema)?;
-    let lines = all_lines(&validator, alloc, &instance)?;
-    assert_eq!(rt; lines.len(), all.len(), "{name}");
-    for (line, wanted) in lines.iter().zip(all) {
-        assert_eq!(rt; line.as_str(), *wanted, "{name}");
-    }
-    let line = first_line(&validator, alloc, &instance)?;
-    assert_eq!(rt; line.as_str(), first, "{name}");
+    expect_lines(rt, &all_lines(&validator, alloc, &instance)?, all, name);
+    assert_eq!(rt;
+        first_line(&validator, alloc, &instance)?.as_str(),
+        first,
+        "{name}"
+    );
     let valid = all.is_empty();
     let told = verdicts(&validator, alloc, &instance)?;
     assert_eq!(rt; told, (valid, valid), "{name}");
@@ -319,21 +325,21 @@ const TEXT_IN_BRANCHES: &str = concat!(
     " {\"x\" is not of type \"array\" @ \"\", /anyOf/0/anyOf/1/type;}"
 );
 
-#[test]
-fn branches_of_a_branch(rt: HostRuntime) -> Result<(), Fail> {
-    let alloc = rt.alloc();
-    let schema = r#"{"anyOf":[{"anyOf":[{"type":"integer"},{"type":"array"}]}]}"#;
+// The lines of the errors in the contexts of the errors of an instance.
+fn lines_of_branches(alloc: Global, schema: &str, instance: &str) -> Result<Vec<String>, Fail> {
     let schema = Value::from_str(alloc, schema)?;
-    let instance = Value::from_str(alloc, "\"x\"")?;
+    let instance = Value::from_str(alloc, instance)?;
     let validator = built(alloc, &schema)?;
     let mut errors: Vec<ValidationError<'_>> = Vec::new(alloc);
     collect(&validator, alloc, &instance, &mut errors)?;
-    assert_eq!(rt; errors.len(), 1);
-    let lines = inner_lines(alloc, &errors)?;
-    assert_eq!(rt; lines.len(), 1);
-    for line in &lines {
-        assert_eq!(rt; line.as_str(), TEXT_IN_BRANCHES);
-    }
+    Ok(inner_lines(alloc, &errors)?)
+}
+
+#[test]
+fn branches_of_a_branch(rt: HostRuntime) -> Result<(), Fail> {
+    let schema = r#"{"anyOf":[{"anyOf":[{"type":"integer"},{"type":"array"}]}]}"#;
+    let lines = lines_of_branches(rt.alloc(), schema, "\"x\"")?;
+    expect_lines(&rt, &lines, &[TEXT_IN_BRANCHES], "a branch of a branch");
     Ok(())
 }
 
@@ -431,59 +437,75 @@ fn many_members(rt: HostRuntime) -> Result<(), Fail> {
     Ok(())
 }
 
-// Fourteen to sixteen declared names, and twenty members.
+// `properties` of so many names, each an integer.
+fn declared_integers(alloc: Global, count: usize) -> Result<String, AllocError> {
+    let mut schema = String::from_str(alloc, r#"{"properties":{"#)?;
+    for i in 0..count {
+        let comma = if i > 0 { "," } else { "" };
+        let entry = format!(in alloc; "{comma}\"p{i:02}\":{{\"type\":\"integer\"}}")?;
+        schema.push_str(entry.as_str())?;
+    }
+    schema.push_str("}}")?;
+    Ok(schema)
+}
+
+// An object of twenty integers, but for a text at this position.
+fn twenty_members(alloc: Global, text_at: usize) -> Result<String, AllocError> {
+    let mut instance = String::from_str(alloc, "{")?;
+    for i in 0..20usize {
+        let comma = if i > 0 { "," } else { "" };
+        let value = if i == text_at { r#""x""# } else { "1" };
+        let entry = format!(in alloc; "{comma}\"p{i:02}\":{value}")?;
+        instance.push_str(entry.as_str())?;
+    }
+    instance.push_str("}")?;
+    Ok(instance)
+}
+
+fn expect_last(rt: &impl Abort, alloc: Global, count: usize, instance: &str) -> Result<(), Fail> {
+    let schema = declared_integers(alloc, count)?;
+    let last = count - 1;
+    let wanted = format!(in alloc;
+        "\"x\" is not of type \"integer\" @ \"/p{last}\", /properties/p{last}/type"
+    )?;
+    let (name, schema, wanted) = ("the last declared name", schema.as_str(), wanted.as_str());
+    expect_found(rt, alloc, (name, schema, instance, wanted, &[wanted]))
+}
+
+// Fourteen to sixteen declared names, and twenty members or one.
 #[test]
 fn many_declared_names(rt: HostRuntime) -> Result<(), Fail> {
     let alloc = rt.alloc();
-    for declared in [14usize, 15, 16] {
-        let mut schema = String::from_str(alloc, "{\"properties\":{")?;
-        for i in 0..declared {
-            let comma = if i > 0 { "," } else { "" };
-            let entry = format!(in alloc; "{comma}\"p{:02}\":{{\"type\":\"integer\"}}", i)?;
-            schema.push_str(entry.as_str())?;
-        }
-        schema.push_str("}}")?;
-        let mut instance = String::from_str(alloc, "{")?;
-        for i in 0..20usize {
-            let comma = if i > 0 { "," } else { "" };
-            let value = if i + 1 == declared { "\"x\"" } else { "1" };
-            let entry = format!(in alloc; "{comma}\"p{:02}\":{value}", i)?;
-            instance.push_str(entry.as_str())?;
-        }
-        instance.push_str("}")?;
-        let last = declared - 1;
-        let wanted = format!(in alloc;
-            "\"x\" is not of type \"integer\" @ \"/p{last}\", /properties/p{last}/type"
-        )?;
-        let alone = format!(in alloc; "{{\"p{last}\":\"x\"}}")?;
-        let (schema, wanted) = (schema.as_str(), wanted.as_str());
-        for value in [instance.as_str(), alone.as_str()] {
-            expect_found(
-                &rt,
-                alloc,
-                ("the last declared name", schema, value, wanted, &[wanted]),
-            )?;
-        }
+    for (count, alone) in [
+        (14usize, r#"{"p13":"x"}"#),
+        (15, r#"{"p14":"x"}"#),
+        (16, r#"{"p15":"x"}"#),
+    ] {
+        let members = twenty_members(alloc, count - 1)?;
+        expect_last(&rt, alloc, count, members.as_str())?;
+        expect_last(&rt, alloc, count, alone)?;
     }
     Ok(())
+}
+
+// The lines of a list that the errors of an instance are put into twice.
+fn lines_of_two(alloc: Global, schema: &str, instance: &str) -> Result<Vec<String>, Fail> {
+    let schema = Value::from_str(alloc, schema)?;
+    let instance = Value::from_str(alloc, instance)?;
+    let validator = built(alloc, &schema)?;
+    let mut errors: Vec<ValidationError<'_>> = Vec::new(alloc);
+    collect(&validator, alloc, &instance, &mut errors)?;
+    collect(&validator, alloc, &instance, &mut errors)?;
+    Ok(sorted(alloc, &errors)?)
 }
 
 // What was in the list stays in it.
 #[test]
 fn errors_before_are_kept(rt: HostRuntime) -> Result<(), Fail> {
-    let alloc = rt.alloc();
-    let schema = Value::from_str(alloc, r#"{"allOf":[{"type":"string"},{"minimum":5}]}"#)?;
-    let instance = Value::from_str(alloc, "1")?;
-    let validator = built(alloc, &schema)?;
-    let mut errors: Vec<ValidationError<'_>> = Vec::new(alloc);
-    collect(&validator, alloc, &instance, &mut errors)?;
-    collect(&validator, alloc, &instance, &mut errors)?;
-    let lines = sorted(alloc, &errors)?;
+    let schema = r#"{"allOf":[{"type":"string"},{"minimum":5}]}"#;
+    let lines = lines_of_two(rt.alloc(), schema, "1")?;
     let wanted = [TOO_SMALL, TOO_SMALL, NUMBER_IN_ALL, NUMBER_IN_ALL];
-    assert_eq!(rt; lines.len(), wanted.len());
-    for (line, wanted) in lines.iter().zip(wanted) {
-        assert_eq!(rt; line.as_str(), wanted);
-    }
+    expect_lines(&rt, &lines, &wanted, "errors before");
     Ok(())
 }
 
@@ -505,11 +527,10 @@ fn push_paths(text: &mut String, keyword: &EvaluationNode<'_>) -> Result<(), All
     Ok(())
 }
 
-#[test]
-fn children_of_an_evaluation(rt: HostRuntime) -> Result<(), Fail> {
-    let alloc = rt.alloc();
-    let schema = Value::from_str(alloc, TWO)?;
-    let instance = Value::from_str(alloc, r#"{"a":1,"b":"x"}"#)?;
+// The paths of what an evaluation shows below its root.
+fn shown_paths(alloc: Global, schema: &str, instance: &str) -> Result<String, Fail> {
+    let schema = Value::from_str(alloc, schema)?;
+    let instance = Value::from_str(alloc, instance)?;
     let validator = built(alloc, &schema)?;
     let mut ctx = ValidationContext::new(false);
     let evaluation = validator.evaluate(alloc, &instance, &mut ctx)?;
@@ -517,6 +538,12 @@ fn children_of_an_evaluation(rt: HostRuntime) -> Result<(), Fail> {
     for keyword in evaluation.root().children() {
         push_paths(&mut text, keyword)?;
     }
+    Ok(text)
+}
+
+#[test]
+fn children_of_an_evaluation(rt: HostRuntime) -> Result<(), Fail> {
+    let text = shown_paths(rt.alloc(), TWO, r#"{"a":1,"b":"x"}"#)?;
     assert_eq!(rt;
         text.as_str(),
         "/properties (/properties/a (/properties/a/type@/a)) (/properties/b (/properties/b/type@/b))"
@@ -580,6 +607,19 @@ fn evaluated_errors_at_last(
     Ok(entries.len())
 }
 
+// How many errors are in a list that they are put into twice.
+fn two_counts_at_last(
+    validator: &BenchValidator,
+    alloc: Global,
+    instance: &Value,
+) -> Result<(usize, usize), Fail> {
+    let mut errors: Vec<ValidationError<'_>> = Vec::new(alloc);
+    collect_at_last(validator, alloc, instance, &mut errors)?;
+    let once = errors.len();
+    collect_at_last(validator, alloc, instance, &mut errors)?;
+    Ok((once, errors.len()))
+}
+
 // With each growth refused in turn (tools/refused_growths), the second call gives the full answer; want
 // of memory is told by the schema, the instance and the building alone.
 #[test]
@@ -588,14 +628,9 @@ fn full_answers_after_a_refused_growth(rt: HostRuntime) -> Result<(), Fail> {
     let schema = Value::from_str(alloc, MANY_FAULTS)?;
     let instance = Value::from_str(alloc, r#"{"c":1,"d":2}"#)?;
     let validator = built(alloc, &schema)?;
-    let mut errors: Vec<ValidationError<'_>> = Vec::new(alloc);
-    collect_at_last(&validator, alloc, &instance, &mut errors)?;
-    assert_eq!(rt; errors.len(), 8);
-    collect_at_last(&validator, alloc, &instance, &mut errors)?;
-    assert_eq!(rt; errors.len(), 16);
-    let first = first_line_at_last(&validator, alloc, &instance)?;
+    assert_eq!(rt; two_counts_at_last(&validator, alloc, &instance)?, (8, 16));
     assert_eq!(rt;
-        first.as_str(),
+        first_line_at_last(&validator, alloc, &instance)?.as_str(),
         r#""a" is a required property @ "", /allOf/0/required"#
     );
     assert_eq!(rt; evaluated_errors_at_last(&validator, alloc, &instance)?, 9);

@@ -18,6 +18,8 @@ mod found;
 #[cfg(test)]
 mod reports;
 #[cfg(test)]
+mod tables;
+#[cfg(test)]
 mod tree;
 #[cfg(test)]
 mod validator;

@@ -5,6 +5,7 @@ use olk_reports::{
 };
 use serde_json::{Map, Value};
 use std::alloc::{AllocError, Global};
+use std::process::Abort;
 use std::test::Fail;
 
 // The pointers of RFC 6901, section 5.
@@ -20,23 +21,49 @@ const SEGMENTS: [(&str, &str); 9] = [
     ("~1/é", "/~01~1é"),
 ];
 
+fn expect_path(rt: &impl Abort, alloc: Global, segment: &str, pointer: &str) -> Result<(), Fail> {
+    let mut path = InstancePath::new(alloc);
+    let mark = path.push(segment)?;
+    assert_eq!(rt; path.as_str(), pointer);
+    path.pop(mark);
+    assert_eq!(rt; path.as_str(), "");
+    Ok(())
+}
+
+fn expect_location(
+    rt: &impl Abort,
+    alloc: Global,
+    segment: &str,
+    pointer: &str,
+) -> Result<(), Fail> {
+    let mut location = Location::new(alloc);
+    let mark = location.push(segment)?;
+    assert_eq!(rt; location.as_str(), pointer);
+    location.pop(mark);
+    assert_eq!(rt; location.as_str(), "");
+    Ok(())
+}
+
+fn expect_joined(rt: &impl Abort, alloc: Global, segment: &str, pointer: &str) -> Result<(), Fail> {
+    let joined = Location::new(alloc).join(alloc, segment)?;
+    assert_eq!(rt; joined.try_clone(alloc)?.as_str(), pointer);
+    Ok(())
+}
+
 #[test]
 fn paths_are_pointers(rt: HostRuntime) -> Result<(), Fail> {
     let alloc = rt.alloc();
-    let mut path = InstancePath::new(alloc);
-    let mut location = Location::new(alloc);
     for (segment, pointer) in SEGMENTS {
-        let mark = path.push(segment)?;
-        assert_eq!(rt; path.as_str(), pointer);
-        path.pop(mark);
-        assert_eq!(rt; path.as_str(), "");
-        let joined = location.join(alloc, segment)?;
-        assert_eq!(rt; joined.try_clone(alloc)?.as_str(), pointer);
-        let mark = location.push(segment)?;
-        assert_eq!(rt; location.as_str(), pointer);
-        location.pop(mark);
-        assert_eq!(rt; location.as_str(), "");
+        expect_path(&rt, alloc, segment, pointer)?;
+        expect_location(&rt, alloc, segment, pointer)?;
+        expect_joined(&rt, alloc, segment, pointer)?;
     }
+    Ok(())
+}
+
+#[test]
+fn paths_go_down(rt: HostRuntime) -> Result<(), Fail> {
+    let mut path = InstancePath::new(rt.alloc());
     let _outer = path.push("a/b")?;
     let _inner = path.push("0")?;
     assert_eq!(rt; path.as_str(), "/a~1b/0");
@@ -174,6 +201,12 @@ fn texts_of_building(rt: HostRuntime) -> Result<(), Fail> {
     ] {
         assert_eq!(rt; text_of(alloc, kind, Node::Name("k"))?.as_str(), text);
     }
+    Ok(())
+}
+
+#[test]
+fn text_of_a_pattern_that_is_refused(rt: HostRuntime) -> Result<(), Fail> {
+    let alloc = rt.alloc();
     let mut place = Location::new(alloc);
     let _properties = place.push("patternProperties")?;
     let at_pattern = place.join(alloc, "a/b~(")?;
@@ -212,7 +245,7 @@ fn error_of_name<'a>(alloc: Global, object: Node<'a>) -> Result<ValidationError<
 }
 
 #[test]
-fn errors_inside_errors(rt: HostRuntime) -> Result<(), Fail> {
+fn an_error_of_a_name(rt: HostRuntime) -> Result<(), Fail> {
     let alloc = rt.alloc();
     let object = Value::Object(Map::new(alloc));
     let wrapping = error_of_name(alloc, Node::Value(&object))?;
@@ -221,17 +254,26 @@ fn errors_inside_errors(rt: HostRuntime) -> Result<(), Fail> {
         wrapping.message(alloc)?.as_str(),
         "\"f\" is shorter than 2 characters"
     );
-    let mut branch = Vec::new(alloc);
-    branch.push(wrapping)?;
-    let mut context = Vec::new(alloc);
-    context.push(branch)?;
+    Ok(())
+}
+
+// An error with a context of one branch, which finds the error of a name.
+fn error_of_branches<'a>(
+    alloc: Global,
+    object: Node<'a>,
+) -> Result<ValidationError<'a>, AllocError> {
+    let branch = vec![in alloc; error_of_name(alloc, object)?]?;
+    let context = vec![in alloc; branch]?;
     let kind = ValidationErrorKind::AnyOf { context };
-    let error = ValidationError::new(
-        kind,
-        Node::Value(&object),
-        String::from_str(alloc, "/a")?,
-        "/anyOf",
-    );
+    let path = String::from_str(alloc, "/a")?;
+    Ok(ValidationError::new(kind, object, path, "/anyOf"))
+}
+
+#[test]
+fn errors_inside_errors(rt: HostRuntime) -> Result<(), Fail> {
+    let alloc = rt.alloc();
+    let object = Value::Object(Map::new(alloc));
+    let error = error_of_branches(alloc, Node::Value(&object))?;
     assert_eq!(rt; error.instance_path(), "/a");
     assert!(rt; error.instance().as_object().is_some());
     assert!(rt;
@@ -272,22 +314,53 @@ fn evaluation<'a>(alloc: Global, messages: [&str; 4]) -> Result<Evaluation<'a>, 
     Ok(Evaluation::new(node(alloc, "/allOf", messages[0], children)?))
 }
 
+// The places of the errors, in their order.
+fn erring(alloc: Global, evaluation: &Evaluation<'_>) -> Result<String, Fail> {
+    let mut places = String::new(alloc);
+    for entry in &evaluation.iter_errors(alloc)? {
+        places.push_str(entry.schema_location)?;
+        places.push_str(" ")?;
+        if entry.instance_location != "/i" || entry.error.keyword() != "required" {
+            return Err("another error".into());
+        }
+        if entry.error.message() != "m" {
+            return Err("another text".into());
+        }
+    }
+    Ok(places)
+}
+
+// The places of the annotations, in their order.
+fn annotating(alloc: Global, evaluation: &Evaluation<'_>) -> Result<String, Fail> {
+    let mut places = String::new(alloc);
+    for entry in &evaluation.iter_annotations(alloc)? {
+        places.push_str(entry.schema_location)?;
+        places.push_str(" ")?;
+        if entry.instance_location != "/i" || entry.annotations.len() != 1 {
+            return Err("another annotation".into());
+        }
+    }
+    Ok(places)
+}
+
+// Messages as `evaluation` takes them, whether the root is valid, and the places that err and that annotate.
+type Entries<'a> = ([&'a str; 4], bool, &'a str, &'a str);
+
+fn expect_entries(rt: &impl Abort, alloc: Global, row: Entries<'_>) -> Result<(), Fail> {
+    let (messages, valid, errors, annotations) = row;
+    let evaluation = evaluation(alloc, messages)?;
+    assert_eq!(rt; evaluation.flag().valid, valid);
+    assert_eq!(rt; erring(alloc, &evaluation)?.as_str(), errors);
+    assert_eq!(rt; annotating(alloc, &evaluation)?.as_str(), annotations);
+    Ok(())
+}
+
 #[test]
 fn entries_stand_parent_first(rt: HostRuntime) -> Result<(), Fail> {
-    let alloc = rt.alloc();
-    for (messages, valid, erring, annotating) in [
-        (
-            ["", "", "", ""],
-            true,
-            "",
-            "/allOf /allOf/0 /allOf/0/x /allOf/1 ",
-        ),
-        (
-            ["m", "m", "m", "m"],
-            false,
-            "/allOf /allOf/0 /allOf/0/x /allOf/1 ",
-            "",
-        ),
+    let all = "/allOf /allOf/0 /allOf/0/x /allOf/1 ";
+    for row in [
+        (["", "", "", ""], true, "", all),
+        (["m", "m", "m", "m"], false, all, ""),
         (["", "", "m", ""], false, "/allOf/0/x ", "/allOf/1 "),
         (
             ["", "m", "", ""],
@@ -296,25 +369,7 @@ fn entries_stand_parent_first(rt: HostRuntime) -> Result<(), Fail> {
             "/allOf/0/x /allOf/1 ",
         ),
     ] {
-        let evaluation = evaluation(alloc, messages)?;
-        assert_eq!(rt; evaluation.flag().valid, valid);
-        let mut places = String::new(alloc);
-        for entry in &evaluation.iter_errors(alloc)? {
-            places.push_str(entry.schema_location)?;
-            places.push_str(" ")?;
-            assert_eq!(rt; entry.instance_location, "/i");
-            assert_eq!(rt; entry.error.keyword(), "required");
-            assert_eq!(rt; entry.error.message(), "m");
-        }
-        assert_eq!(rt; places.as_str(), erring);
-        places.clear();
-        for entry in &evaluation.iter_annotations(alloc)? {
-            places.push_str(entry.schema_location)?;
-            places.push_str(" ")?;
-            assert_eq!(rt; entry.instance_location, "/i");
-            assert_eq!(rt; entry.annotations.len(), 1);
-        }
-        assert_eq!(rt; places.as_str(), annotating);
+        expect_entries(&rt, rt.alloc(), row)?;
     }
     Ok(())
 }
@@ -331,6 +386,12 @@ fn nodes_show_their_parts(rt: HostRuntime) -> Result<(), Fail> {
     assert!(rt; root.annotation().is_none());
     assert_eq!(rt; root.errors().len(), 0);
     assert_eq!(rt; root.children().len(), 1);
+    Ok(())
+}
+
+#[test]
+fn nodes_without_children(rt: HostRuntime) -> Result<(), Fail> {
+    let alloc = rt.alloc();
     let none = EvaluationResult::invalid_with(alloc, Vec::new(alloc));
     let invalid = Evaluation::new(EvaluationNode::new("/oneOf", String::new(alloc), none));
     assert!(rt; !invalid.root().valid());
@@ -340,49 +401,65 @@ fn nodes_show_their_parts(rt: HostRuntime) -> Result<(), Fail> {
     Ok(())
 }
 
-// With one growth refused, whichever it is, each value is as before, and the same call then gives its full answer.
-#[test]
-fn a_refused_growth_changes_nothing(rt: HostRuntime) -> Result<(), Fail> {
-    let alloc = rt.alloc();
-    let mut path = InstancePath::new(alloc);
-    let long =
-        "a segment that is longer than any text that a first growth makes room for, ~ and / with it";
-    for segment in ["a/b", long] {
-        match path.push(segment) {
-            Ok(mark) => path.pop(mark),
-            Err(_) => {
-                assert_eq!(rt; path.as_str(), "");
-                let mark = path.push(segment)?;
-                path.pop(mark);
-            }
+const LONG: &str =
+    "a segment that is longer than any text that a first growth makes room for, ~ and / with it";
+
+fn push_at_last(path: &mut InstancePath, segment: &str) -> Result<(), Fail> {
+    match path.push(segment) {
+        Ok(mark) => path.pop(mark),
+        Err(_) if path.as_str().is_empty() => {
+            let mark = path.push(segment)?;
+            path.pop(mark);
         }
+        Err(_) => return Err("the path is not as it was".into()),
     }
+    Ok(())
+}
+
+fn join_at_last(alloc: Global) -> Result<Location, AllocError> {
     let place = Location::new(alloc);
-    let joined = match place.join(alloc, "m~n") {
-        Ok(joined) => joined,
-        Err(_) => place.join(alloc, "m~n")?,
-    };
-    assert_eq!(rt; joined.as_str(), "/m~0n");
+    place
+        .join(alloc, "m~n")
+        .or_else(|_| place.join(alloc, "m~n"))
+}
+
+fn text_at_last(alloc: Global) -> Result<String, AllocError> {
     let kind = ValidationErrorKind::LeafRefused { keyword: "minimum" };
     let error = ValidationError::new(kind, Node::Name("x"), String::new(alloc), "");
-    let text = match error.message(alloc) {
-        Ok(text) => text,
-        Err(_) => error.message(alloc)?,
-    };
-    assert_eq!(rt; text.as_str(), "\"x\" is not a value for \"minimum\"");
+    error.message(alloc).or_else(|_| error.message(alloc))
+}
+
+fn errored_at_last<'a>(alloc: Global) -> Result<EvaluationResult<'a>, AllocError> {
     let mut outcome = EvaluationResult::valid_empty(alloc);
     let description = ErrorDescription::new("required", String::new(alloc));
     if outcome.mark_errored(description).is_err() {
         let again = ErrorDescription::new("required", String::new(alloc));
         outcome.mark_errored(again)?;
     }
+    Ok(outcome)
+}
+
+fn entries_at_last(alloc: Global, evaluation: &Evaluation<'_>) -> Result<usize, AllocError> {
+    let errors = evaluation
+        .iter_errors(alloc)
+        .or_else(|_| evaluation.iter_errors(alloc))?;
+    Ok(errors.len())
+}
+
+// With one growth refused, whichever it is, each value is as before, and the same call then gives its full answer.
+#[test]
+fn a_refused_growth_changes_nothing(rt: HostRuntime) -> Result<(), Fail> {
+    let alloc = rt.alloc();
+    let mut path = InstancePath::new(alloc);
+    push_at_last(&mut path, "a/b")?;
+    push_at_last(&mut path, LONG)?;
+    assert_eq!(rt; join_at_last(alloc)?.as_str(), "/m~0n");
+    assert_eq!(rt;
+        text_at_last(alloc)?.as_str(),
+        "\"x\" is not a value for \"minimum\""
+    );
+    let outcome = errored_at_last(alloc)?;
     let evaluation = Evaluation::new(EvaluationNode::new("", String::new(alloc), outcome));
-    let mut listed = 0;
-    for _ in 0..2 {
-        if let Ok(errors) = evaluation.iter_errors(alloc) {
-            listed = errors.len();
-        }
-    }
-    assert_eq!(rt; listed, 1);
+    assert_eq!(rt; entries_at_last(alloc, &evaluation)?, 1);
     Ok(())
 }

@@ -1,10 +1,12 @@
 //! Building from schemas, and looking up names, with a leaf set and a matcher.
 use crate::doubles::{Equality, NoTexts};
+use crate::tables::three;
 use olk_base::Meter;
 use olk_reports::{BuildError, ValidationError};
 use olk_tree::{Body, Context, KeywordOver, SmallMap, SortedNames, compile, properties, required};
 use serde_json::{Map, Value};
-use std::alloc::Global;
+use std::alloc::{AllocError, Global};
+use std::process::Abort;
 use std::test::Fail;
 
 // ---- building
@@ -23,98 +25,101 @@ fn refusal(error: BuildError<'_>) -> Result<ValidationError<'_>, Fail> {
     }
 }
 
+// The place of the node that is built below `definitions`.
+fn built_place(alloc: Global, schema: &Value, meter: &mut Meter) -> Result<String, Fail> {
+    let mut ctx = Context::new(alloc, &NoTexts, &Equality, meter);
+    ctx.place = ctx.place.join(alloc, "definitions")?;
+    let node = compile(&mut ctx, alloc, schema).map_err(failure)?;
+    if ctx.location() != "/definitions" {
+        return Err(Fail::from("the context's place moved"));
+    }
+    Ok(String::from_str(alloc, node.location().as_str())?)
+}
+
+fn expect_built(
+    rt: &impl Abort,
+    alloc: Global,
+    text: &str,
+    places: u64,
+    leaves: u64,
+) -> Result<(), Fail> {
+    let schema = Value::from_str(alloc, text)?;
+    let mut meter = Meter::new();
+    let place = built_place(alloc, &schema, &mut meter)?;
+    assert_eq!(rt; place.as_str(), "/definitions", "{text}");
+    assert_eq!(rt;
+        (meter.compiled(), meter.leaves()),
+        (places, leaves),
+        "{text}"
+    );
+    assert_eq!(rt; (meter.made(), meter.asked()), (0, 0), "{text}");
+    Ok(())
+}
+
 #[test]
 fn schemas_that_are_built(rt: HostRuntime) -> Result<(), Fail> {
-    let alloc = rt.alloc();
     for (text, places, leaves) in [
         ("true", 1, 0),
         ("{}", 1, 0),
-        ("{\"other\":{\"properties\":5}}", 1, 0),
+        (r#"{"other":{"properties":5}}"#, 1, 0),
         (
-            "{\"properties\":{\"a\":true,\"b\":{\"text\":false}},\"required\":[\"a\"]}",
+            r#"{"properties":{"a":true,"b":{"text":false}},"required":["a"]}"#,
             3,
             1,
         ),
         (
-            "{\"allOf\":[{},{\"anyOf\":[true,false]}],\"not\":{\"text\":false}}",
+            r#"{"allOf":[{},{"anyOf":[true,false]}],"not":{"text":false}}"#,
             6,
             1,
         ),
     ] {
-        let schema = Value::from_str(alloc, text)?;
-        let mut meter = Meter::new();
-        let mut ctx = Context::new(alloc, &NoTexts, &Equality, &mut meter);
-        ctx.place = ctx.place.join(alloc, "definitions")?;
-        let node = compile(&mut ctx, alloc, &schema).map_err(failure)?;
-        assert_eq!(rt; node.location().as_str(), "/definitions", "{text}");
-        assert_eq!(rt; ctx.location(), "/definitions", "{text}");
-        drop(ctx);
-        assert_eq!(rt; meter.compiled(), places, "{text}");
-        assert_eq!(rt; meter.leaves(), leaves, "{text}");
-        assert_eq!(rt; meter.made(), 0, "{text}");
-        assert_eq!(rt; meter.asked(), 0, "{text}");
+        expect_built(&rt, rt.alloc(), text, places, leaves)?;
     }
+    Ok(())
+}
+
+// A schema, the place of what is refused, and the text; the root is `.` here.
+const REFUSED: &str = r##"7 | . | 7 is not of types "boolean", "object"
+{"allOf":[5]} | ./allOf/0 | 5 is not of types "boolean", "object"
+{"anyOf":{}} | ./anyOf | {} is not of type "array"
+{"not":[]} | ./not | [] is not of types "boolean", "object"
+{"properties":5} | ./properties | 5 is not of type "object"
+{"required":["a",5]} | ./required | 5 is not of type "string"
+{"required":true} | ./required | true is not of type "array"
+{"properties":{"a":{"$ref":"#"}}} | ./properties/a/$ref | "$ref" is not supported here
+{"oneOf":[]} | ./oneOf | "oneOf" is not supported here
+{"not":{"text":true}} | ./not/text | true is not a value for "text""##;
+
+fn refused(alloc: Global, schema: &Value) -> Result<ValidationError<'_>, Fail> {
+    let mut meter = Meter::new();
+    let mut ctx = Context::new(alloc, &NoTexts, &Equality, &mut meter);
+    let Err(error) = compile(&mut ctx, alloc, schema) else {
+        return Err(Fail::from("built"));
+    };
+    if !ctx.location().is_empty() {
+        return Err(Fail::from("the context's place moved"));
+    }
+    refusal(error)
+}
+
+fn expect_refused(rt: &impl Abort, alloc: Global, row: &str) -> Result<(), Fail> {
+    let (text, place, message) = three(row)?;
+    let schema = Value::from_str(alloc, text)?;
+    let error = refused(alloc, &schema)?;
+    assert_eq!(rt;
+        Some(error.schema_path()),
+        place.strip_prefix("."),
+        "{text}"
+    );
+    assert_eq!(rt; error.instance_path(), "", "{text}");
+    assert_eq!(rt; error.message(alloc)?.as_str(), message, "{text}");
     Ok(())
 }
 
 #[test]
 fn schemas_that_are_refused(rt: HostRuntime) -> Result<(), Fail> {
-    let alloc = rt.alloc();
-    for (text, place, message) in [
-        ("7", "", "7 is not of types \"boolean\", \"object\""),
-        (
-            "{\"allOf\":[5]}",
-            "/allOf/0",
-            "5 is not of types \"boolean\", \"object\"",
-        ),
-        ("{\"anyOf\":{}}", "/anyOf", "{} is not of type \"array\""),
-        (
-            "{\"not\":[]}",
-            "/not",
-            "[] is not of types \"boolean\", \"object\"",
-        ),
-        (
-            "{\"properties\":5}",
-            "/properties",
-            "5 is not of type \"object\"",
-        ),
-        (
-            "{\"required\":[\"a\",5]}",
-            "/required",
-            "5 is not of type \"string\"",
-        ),
-        (
-            "{\"required\":true}",
-            "/required",
-            "true is not of type \"array\"",
-        ),
-        (
-            "{\"properties\":{\"a\":{\"$ref\":\"#\"}}}",
-            "/properties/a/$ref",
-            "\"$ref\" is not supported here",
-        ),
-        (
-            "{\"oneOf\":[]}",
-            "/oneOf",
-            "\"oneOf\" is not supported here",
-        ),
-        (
-            "{\"not\":{\"text\":true}}",
-            "/not/text",
-            "true is not a value for \"text\"",
-        ),
-    ] {
-        let schema = Value::from_str(alloc, text)?;
-        let mut meter = Meter::new();
-        let mut ctx = Context::new(alloc, &NoTexts, &Equality, &mut meter);
-        let Err(error) = compile(&mut ctx, alloc, &schema) else {
-            return Err(Fail::from("built"));
-        };
-        assert_eq!(rt; ctx.location(), "", "{text}");
-        let error = refusal(error)?;
-        assert_eq!(rt; error.schema_path(), place, "{text}");
-        assert_eq!(rt; error.instance_path(), "", "{text}");
-        assert_eq!(rt; error.message(alloc)?.as_str(), message, "{text}");
+    for row in REFUSED.lines() {
+        expect_refused(&rt, rt.alloc(), row)?;
     }
     Ok(())
 }
@@ -173,9 +178,25 @@ fn keyword_count(alloc: Global, schema: &Value) -> Result<usize, Fail> {
     }
 }
 
+fn expect_taken(
+    rt: &impl Abort,
+    alloc: Global,
+    count: usize,
+    required: &str,
+    is_taken: bool,
+) -> Result<(), Fail> {
+    let parent = closed(alloc, count, required)?;
+    assert_eq!(rt; takes_over(alloc, &parent)?, is_taken, "{count} {required}");
+    let alone = stands_alone(alloc, &parent);
+    assert_eq!(rt; alone, !is_taken, "{count} {required}");
+    let keywords = if is_taken { 1 } else { 2 };
+    let found = keyword_count(alloc, &Value::Object(parent))?;
+    assert_eq!(rt; found, keywords, "{count} {required}");
+    Ok(())
+}
+
 #[test]
 fn required_names_that_are_taken_over(rt: HostRuntime) -> Result<(), Fail> {
-    let alloc = rt.alloc();
     for (count, required, is_taken) in [
         (0, r#"["a","b"]"#, true),
         (14, r#"["a","b"]"#, true),
@@ -186,60 +207,47 @@ fn required_names_that_are_taken_over(rt: HostRuntime) -> Result<(), Fail> {
         (14, r#"["a"]"#, false),
         (14, r#"["a","b","c"]"#, false),
     ] {
-        let parent = closed(alloc, count, required)?;
-        assert_eq!(rt; takes_over(alloc, &parent)?, is_taken, "{count} {required}");
-        assert_eq!(rt;
-            stands_alone(alloc, &parent),
-            !is_taken,
-            "{count} {required}"
-        );
-        let keywords = if is_taken { 1 } else { 2 };
-        let schema = Value::Object(parent);
-        assert_eq!(rt;
-            keyword_count(alloc, &schema)?,
-            keywords,
-            "{count} {required}"
-        );
+        expect_taken(&rt, rt.alloc(), count, required, is_taken)?;
     }
     Ok(())
 }
 
 // ---- looking up names
 
-const DECLARED: [&str; 16] = [
-    "01", "03", "05", "07", "09", "11", "13", "15", "17", "19", "21", "23", "25", "27", "29", "31",
-];
+const DECLARED: &str = "01 03 05 07 09 11 13 15 17 19 21 23 25 27 29 31";
 
 // Below, between and above those.
-const OTHERS: [&str; 18] = [
-    "", "00", "02", "04", "06", "08", "10", "12", "14", "16", "18", "20", "22", "24", "26", "28",
-    "30", "32",
-];
+const OTHERS: &str = " 00 02 04 06 08 10 12 14 16 18 20 22 24 26 28 30 32";
+
+// The first so many names, each with its position.
+fn first_names(alloc: Global, count: usize) -> Result<SmallMap<usize>, AllocError> {
+    let mut object = Map::new(alloc);
+    let mut nodes = Vec::new(alloc);
+    for (i, name) in DECLARED.split(" ").take(count).enumerate() {
+        object.insert(String::from_str(alloc, name)?, Value::Null)?;
+        nodes.push(i)?;
+    }
+    let names = SortedNames::of(alloc, &object)?;
+    Ok(SmallMap { names, nodes })
+}
+
+fn expect_at(rt: &impl Abort, map: &SmallMap<usize>, name: &str, position: Option<usize>) {
+    assert_eq!(rt; map.names.find(name), position, "{name}");
+    assert_eq!(rt; map.get(name).copied(), position, "{name}");
+}
 
 #[test]
 fn names_are_found(rt: HostRuntime) -> Result<(), Fail> {
-    let alloc = rt.alloc();
     for count in [0usize, 1, 2, 13, 14, 15, 16] {
-        let mut object = Map::new(alloc);
-        let mut nodes = Vec::new(alloc);
-        for (i, name) in DECLARED.iter().enumerate() {
-            if i < count {
-                object.insert(String::from_str(alloc, name)?, Value::Null)?;
-                nodes.push(i)?;
-            }
+        let map = first_names(rt.alloc(), count)?;
+        assert_eq!(rt; map.names.len(), count);
+        assert_eq!(rt; map.names.as_slice().len(), count);
+        for (i, name) in DECLARED.split(" ").enumerate() {
+            let position = if i < count { Some(i) } else { None };
+            expect_at(&rt, &map, name, position);
         }
-        let names = SortedNames::of(alloc, &object)?;
-        assert_eq!(rt; names.len(), count);
-        assert_eq!(rt; names.as_slice().len(), count);
-        let map = SmallMap { names, nodes };
-        for (i, name) in DECLARED.iter().enumerate() {
-            let found = if i < count { Some(i) } else { None };
-            assert_eq!(rt; map.names.find(name), found, "{name} of {count}");
-            assert_eq!(rt; map.get(name).copied(), found, "{name} of {count}");
-        }
-        for name in OTHERS {
-            assert_eq!(rt; map.names.find(name), None, "{name} of {count}");
-            assert!(rt; map.get(name).is_none(), "{name} of {count}");
+        for name in OTHERS.split(" ") {
+            expect_at(&rt, &map, name, None);
         }
     }
     Ok(())
