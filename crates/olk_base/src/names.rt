@@ -113,22 +113,3 @@ fn same_middle(name: &[u8], key: &[u8]) -> bool
     let len = key.len();
     len <= LONGEST_WHOLE || name[8..len - 8] == key[8..len - 8]
 }
-
-#[cfg(test)]
-mod tests {
-    use super::KeyHead;
-
-    #[test]
-    fn heads(rt: HostRuntime) {
-        for (name, len, first, last) in [
-            ("", 0, 0, 0),
-            ("a", 1, 97, 0),
-            ("abc", 3, 6513249, 0),
-            ("abcd", 4, 1684234849, 1684234849),
-            ("abcde", 5, 1684234849, 1701077858),
-            ("abcdefgh", 8, 0x6867666564636261, 0x6867666564636261),
-        ] {
-            assert_eq!(rt; KeyHead::of(name), KeyHead { len, first, last }, "{name}");
-        }
-    }
-}

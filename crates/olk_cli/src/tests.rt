@@ -163,7 +163,8 @@ fn expect_read(rt: &impl Abort, alloc: Global, turns: u32, written: usize, statu
     let mut output = Vec::new(alloc);
     let ended = run(alloc, &mut reader, &mut output);
     assert_eq!(rt; ended, status, "after {turns}");
-    assert!(rt; output.as_slice() == &ANSWERS[..written], "after {turns}");
+    assert_eq!(rt; output.len(), written, "after {turns}");
+    assert!(rt; ANSWERS.starts_with(output.as_slice()), "after {turns}");
 }
 
 #[test]
@@ -185,7 +186,8 @@ fn expect_write(
     let mut reader = LINES;
     let ended = run(alloc, &mut reader, &mut writer);
     assert_eq!(rt; ended, status, "{written}");
-    assert!(rt; writer.bytes.as_slice() == &ANSWERS[..written], "{written}");
+    assert_eq!(rt; writer.bytes.len(), written, "{written}");
+    assert!(rt; ANSWERS.starts_with(writer.bytes.as_slice()), "{written}");
 }
 
 #[test]

@@ -23,6 +23,24 @@ use std::test::Fail;
 
 // ---- names
 
+// A name and its head.
+const HEADS: &str = " | KeyHead { len: 0, first: 0, last: 0 }
+a | KeyHead { len: 1, first: 97, last: 0 }
+abc | KeyHead { len: 3, first: 6513249, last: 0 }
+abcd | KeyHead { len: 4, first: 1684234849, last: 1684234849 }
+abcde | KeyHead { len: 5, first: 1684234849, last: 1701077858 }
+abcdefgh | KeyHead { len: 8, first: 7523094288207667809, last: 7523094288207667809 }";
+
+#[test]
+fn heads(rt: HostRuntime) -> Result<(), Fail> {
+    for row in HEADS.lines() {
+        let (name, head) = two(row)?;
+        let shown = format!(in rt.alloc(); "{:?}", KeyHead::of(name))?;
+        assert_eq!(rt; shown.as_str(), head, "{name}");
+    }
+    Ok(())
+}
+
 fn expect_same(
     rt: &impl Abort,
     alloc: Global,

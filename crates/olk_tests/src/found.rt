@@ -462,9 +462,13 @@ fn twenty_members(alloc: Global, text_at: usize) -> Result<String, AllocError> {
     Ok(instance)
 }
 
-fn expect_last(rt: &impl Abort, alloc: Global, count: usize, instance: &str) -> Result<(), Fail> {
+fn expect_last(
+    rt: &impl Abort,
+    alloc: Global,
+    (count, last): (usize, usize),
+    instance: &str,
+) -> Result<(), Fail> {
     let schema = declared_integers(alloc, count)?;
-    let last = count - 1;
     let wanted = format!(in alloc;
         "\"x\" is not of type \"integer\" @ \"/p{last}\", /properties/p{last}/type"
     )?;
@@ -476,14 +480,14 @@ fn expect_last(rt: &impl Abort, alloc: Global, count: usize, instance: &str) -> 
 #[test]
 fn many_declared_names(rt: HostRuntime) -> Result<(), Fail> {
     let alloc = rt.alloc();
-    for (count, alone) in [
-        (14usize, r#"{"p13":"x"}"#),
-        (15, r#"{"p14":"x"}"#),
-        (16, r#"{"p15":"x"}"#),
+    for (count, last, alone) in [
+        (14usize, 13usize, r#"{"p13":"x"}"#),
+        (15, 14, r#"{"p14":"x"}"#),
+        (16, 15, r#"{"p15":"x"}"#),
     ] {
-        let members = twenty_members(alloc, count - 1)?;
-        expect_last(&rt, alloc, count, members.as_str())?;
-        expect_last(&rt, alloc, count, alone)?;
+        let members = twenty_members(alloc, last)?;
+        expect_last(&rt, alloc, (count, last), members.as_str())?;
+        expect_last(&rt, alloc, (count, last), alone)?;
     }
     Ok(())
 }
