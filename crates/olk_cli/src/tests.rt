@@ -1,3 +1,4 @@
+//! The program over memory: answers, refusals, and streams that fail.
 use crate::program::run;
 use crate::streams::{FailingReader, FailingWriter};
 use std::alloc::{AllocError, Global};

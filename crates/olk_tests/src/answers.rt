@@ -1,3 +1,4 @@
+//! The texts of answers, each whole.
 use olk_answers::{
     errors_text, evaluation_text, first_text, malformation_text, refusal_text, schema_refusal_text,
     verdict_text,

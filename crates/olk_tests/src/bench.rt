@@ -1,3 +1,4 @@
+//! What leaves of the bench accept and tell, and what its matcher answers.
 use crate::tables::{four, three};
 use olk_base::{Leaf, MakeError, MakeLeaf, MakeRegex, Meter, Node, RegexEngine};
 use olk_bench::{BenchLeaf, BenchLeaves, BenchRegexes};

@@ -5,6 +5,7 @@ use std::alloc::{AllocError, Global};
 
 // ---- a leaf set: the keyword `text`, with the value false, refuses texts
 
+/// The leaf `text`, which refuses texts.
 #[derive(Drop)]
 pub struct NoText;
 
@@ -61,6 +62,7 @@ impl Leaf for NoText {
     }
 }
 
+/// Makes the leaf `text` of the value false, and of no other.
 #[derive(Drop)]
 pub struct NoTexts;
 
@@ -88,6 +90,7 @@ impl MakeLeaf for NoTexts {
 
 // ---- a matcher: a pattern matches the names that equal it, `?` is unfinished, `(` does not build
 
+/// Matches the name that equals the text; where that is `?`, it leaves every name unfinished.
 #[derive(Drop)]
 pub struct EqualTo {
     text: String,
@@ -115,6 +118,7 @@ impl RegexEngine for EqualTo {
     }
 }
 
+/// Builds the matcher of each pattern but `(`.
 #[derive(Drop)]
 pub struct Equality;
 

@@ -1,4 +1,4 @@
-//! Tests of the libraries.
+//! Tests of the libraries, and the leaf set and the matcher that they ask.
 #![tactic(auto)]
 
 #[cfg(test)]
@@ -11,8 +11,7 @@ mod bench;
 mod check;
 #[cfg(test)]
 mod counts;
-#[cfg(test)]
-mod doubles;
+pub mod doubles;
 #[cfg(test)]
 mod found;
 #[cfg(test)]

@@ -1,3 +1,4 @@
+//! Paths, texts of errors, contexts and evaluation trees.
 use olk_base::{JsonType, Node};
 use olk_reports::{
     ErrorDescription, Evaluation, EvaluationNode, EvaluationResult, InstancePath, Location,
