@@ -1,5 +1,1 @@
 pub mod Appended
-pub mod Children
-pub mod Own
-pub mod Branches
-pub mod Members

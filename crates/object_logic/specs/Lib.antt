@@ -1,4 +1,1 @@
 pub mod Validators
-pub mod Wanted
-pub mod Members
-pub mod Keywords

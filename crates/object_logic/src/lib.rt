@@ -1,30 +1,30 @@
 //! Validation by the object and logic keywords of JSON Schema.
 #![tactic(auto)]
 
-mod evaluate;
 mod validate;
 mod validator;
 mod whole;
 
-pub use evaluate::{Evaluate, EvaluateNode, Located};
 pub use olk_base::{
     CompiledPattern, JsonType, KeyHead, Leaf, MakeError, MakeLeaf, MakeRegex, Meter, Node,
     PatternOptimization, PropertyName, PropertyPattern, RegexEngine, Unfinished, ValidationContext,
     analyze_pattern, contains_ecma_whitespace,
 };
+pub use olk_build::{Context, all_of, any_of, compile, not, properties, required};
 pub use olk_check::IsValid;
 pub use olk_errors::Errors;
+pub use olk_evaluate::{Evaluate, Located};
+pub use olk_node::{
+    AllOfValidator, AnyOfValidator, Keyword, NotValidator, SchemaNode, SingleAnyOfValidator,
+    SingleValueAllOfValidator, SmallPropertiesValidator, SmallPropertiesWithRequired2Validator,
+    SmallValidatorsMap,
+};
 pub use olk_reports::{
     AnnotationEntry, BuildError, ErrorDescription, ErrorEntry, Evaluation, EvaluationFlag,
     EvaluationNode, EvaluationResult, InstancePath, Location, Mark, ValidateError, ValidationError,
     ValidationErrorKind,
 };
-pub use olk_tree::{
-    AllOfValidator, AnyOfValidator, Context, Keyword, NotValidator, RequiredValidator, SchemaNode,
-    SingleAnyOfValidator, SingleValueAllOfValidator, SmallPropertiesValidator,
-    SmallPropertiesWithRequired2Validator, SmallValidatorsMap, SortedNames, all_of, any_of,
-    compile, not, properties, required,
-};
+pub use olk_tree::{Means, RequiredValidator, SortedNames};
 pub use validate::Validate;
 pub use validator::Validator;
 pub use whole::holds_whole_numbers;

@@ -8,17 +8,16 @@ ghost use Rattle.olk_reports.specs.Entries.{evaluated};
 ghost use Rattle.olk_spec.specs.Malformed.{malformations};
 ghost use Rattle.olk_spec.specs.Costs.{cost};
 ghost use Rattle.olk_base.specs.Count.{raised};
-ghost use Rattle.olk_tree.specs.Kit.{kit};
-ghost use Rattle.olk_tree.specs.Building.{TellsOneOf, Spends, SpendsWithin};
+ghost use Rattle.olk_node.specs.Kit.{kit, world};
+ghost use Rattle.olk_build.specs.Building.{TellsOneOf, Spends, SpendsWithin};
 ghost use Rattle.olk_errors.specs.Found.{Appends, IfInvalid, IsRefusal};
 ghost use Rattle.object_logic.specs.Validators.{IsValidatorOf};
 
-use crate::evaluate::child;
 use olk_base::{Leaf, MakeLeaf, MakeRegex, Meter, Node, RegexEngine, ValidationContext};
-use olk_check::node::is_valid_for;
-use olk_errors::node::{collect_errors_for, validate_for};
+use olk_build::{Context, compile};
+use olk_evaluate::child;
+use olk_node::{SchemaNode, collect_errors_for, is_valid_for, validate_for};
 use olk_reports::{BuildError, Evaluation, InstancePath, ValidateError, ValidationError};
-use olk_tree::{Context, SchemaNode, compile};
 use serde_json::Value;
 use std::alloc::{AllocError, Global};
 
@@ -49,11 +48,11 @@ impl<K: Leaf, R: RegexEngine> Validator<K, R> {
         schema: &'s Value,
         meter: &mut Meter,
     ) -> Result<Validator<K, R>, BuildError<'s>>
-        ensures stands { IfOk result (λ v. IsValidatorOf (kit K.reads K.fits K.faults K.keyword_of K.finds R.builds R.says R.answers R.costs) v (view schema.now)) }
-        ensures clean { OnOk result (malformations (kit K.reads K.fits K.faults K.keyword_of K.finds R.builds R.says R.answers R.costs).world (view schema.now) ≡ []) }
-        ensures refused { IfErr result (TellsOneOf (malformations (kit K.reads K.fits K.faults K.keyword_of K.finds R.builds R.says R.answers R.costs).world (view schema.now))) }
-        ensures costs { OnOk result (Spends meter.old meter.new (cost (kit K.reads K.fits K.faults K.keyword_of K.finds R.builds R.says R.answers R.costs).world (view schema.now))) }
-        ensures costs_at_most { OnErr result (SpendsWithin meter.old meter.new (cost (kit K.reads K.fits K.faults K.keyword_of K.finds R.builds R.says R.answers R.costs).world (view schema.now))) }
+        ensures stands { IfOk result (λ v. IsValidatorOf (kit K.Leaf R.RegexEngine) v (view schema.now)) }
+        ensures clean { OnOk result (malformations (world K.Leaf R.RegexEngine) (view schema.now) ≡ []) }
+        ensures refused { IfErr result (TellsOneOf (malformations (world K.Leaf R.RegexEngine) (view schema.now))) }
+        ensures costs { OnOk result (Spends meter.old meter.new (cost (world K.Leaf R.RegexEngine) (view schema.now))) }
+        ensures costs_at_most { OnErr result (SpendsWithin meter.old meter.new (cost (world K.Leaf R.RegexEngine) (view schema.now))) }
     {
         let mut ctx = Context::new(alloc, leaves, regexes, meter);
         let built = compile(&mut ctx, alloc, schema);
@@ -74,14 +73,14 @@ impl<K: Leaf, R: RegexEngine> Validator<K, R> {
         ensures made { ctx.new.meter.made ≡ ctx.old.meter.made }
         ensures asked_from { ctx.old.meter.asked ≤ ctx.new.meter.asked }
         ensures unfinished { ctx.old.meter.unfinished ≤ ctx.new.meter.unfinished }
-        ensures verdict { (S : Data) → IsValidatorOf (kit K.reads K.fits K.faults K.keyword_of K.finds R.builds R.says R.answers R.costs) self.now S
-            → result ≡ accepts (kit K.reads K.fits K.faults K.keyword_of K.finds R.builds R.says R.answers R.costs).world ctx.old.answer S (view instance.now) }
-        ensures asked_to { (S : Data) → IsValidatorOf (kit K.reads K.fits K.faults K.keyword_of K.finds R.builds R.says R.answers R.costs) self.now S
-            → ctx.new.meter.asked ≤ raised ctx.old.meter.asked (asks (kit K.reads K.fits K.faults K.keyword_of K.finds R.builds R.says R.answers R.costs).world ctx.old.answer S (view instance.now)) }
-        ensures certain { (S : Data) → IsValidatorOf (kit K.reads K.fits K.faults K.keyword_of K.finds R.builds R.says R.answers R.costs) self.now S
+        ensures verdict { (S : Data) → IsValidatorOf (kit K.Leaf R.RegexEngine) self.now S
+            → result ≡ accepts (world K.Leaf R.RegexEngine) ctx.old.answer S (view instance.now) }
+        ensures asked_to { (S : Data) → IsValidatorOf (kit K.Leaf R.RegexEngine) self.now S
+            → ctx.new.meter.asked ≤ raised ctx.old.meter.asked (asks (world K.Leaf R.RegexEngine) ctx.old.answer S (view instance.now)) }
+        ensures certain { (S : Data) → IsValidatorOf (kit K.Leaf R.RegexEngine) self.now S
             → ctx.new.meter.unfinished ≡ ctx.old.meter.unfinished → ctx.old.meter.unfinished < 2 ^ 64 - 1
-            → accepts (kit K.reads K.fits K.faults K.keyword_of K.finds R.builds R.says R.answers R.costs).world true S (view instance.now)
-            ≡ accepts (kit K.reads K.fits K.faults K.keyword_of K.finds R.builds R.says R.answers R.costs).world false S (view instance.now) }
+            → accepts (world K.Leaf R.RegexEngine) true S (view instance.now)
+            ≡ accepts (world K.Leaf R.RegexEngine) false S (view instance.now) }
     {
         is_valid_for(&self.root, Node::Value(instance), ctx)
     }
@@ -98,10 +97,10 @@ impl<K: Leaf, R: RegexEngine> Validator<K, R> {
         ctx: &mut ValidationContext,
     ) -> Result<(), ValidateError<'a>>
         ensures answer { ctx.new.answer ≡ ctx.old.answer }
-        ensures ok { (S : Data) → IsValidatorOf (kit K.reads K.fits K.faults K.keyword_of K.finds R.builds R.says R.answers R.costs) self.now S
-            → OnOk result (accepts (kit K.reads K.fits K.faults K.keyword_of K.finds R.builds R.says R.answers R.costs).world ctx.old.answer S (view instance.now) ≡ true) }
-        ensures invalid { (S : Data) → IsValidatorOf (kit K.reads K.fits K.faults K.keyword_of K.finds R.builds R.says R.answers R.costs) self.now S
-            → IfErr result (λ e. IfInvalid e (IsRefusal (kit K.reads K.fits K.faults K.keyword_of K.finds R.builds R.says R.answers R.costs).world ctx.old.answer S (view instance.now) [] [])) }
+        ensures ok { (S : Data) → IsValidatorOf (kit K.Leaf R.RegexEngine) self.now S
+            → OnOk result (accepts (world K.Leaf R.RegexEngine) ctx.old.answer S (view instance.now) ≡ true) }
+        ensures invalid { (S : Data) → IsValidatorOf (kit K.Leaf R.RegexEngine) self.now S
+            → IfErr result (λ e. IfInvalid e (IsRefusal (world K.Leaf R.RegexEngine) ctx.old.answer S (view instance.now) [] [])) }
     {
         let mut path = InstancePath::new(alloc);
         validate_for(&self.root, alloc, Node::Value(instance), &mut path, ctx)
@@ -120,10 +119,10 @@ impl<K: Leaf, R: RegexEngine> Validator<K, R> {
         errors: &mut Vec<ValidationError<'a>>,
     ) -> Result<(), AllocError>
         ensures answer { ctx.new.answer ≡ ctx.old.answer }
-        ensures report { (S : Data) → IsValidatorOf (kit K.reads K.fits K.faults K.keyword_of K.finds R.builds R.says R.answers R.costs) self.now S
-            → OnOk result (Appends errors.old.items errors.new.items (report (kit K.reads K.fits K.faults K.keyword_of K.finds R.builds R.says R.answers R.costs).world ctx.old.answer S (view instance.now) [] [])) }
-        ensures verdict { (S : Data) → IsValidatorOf (kit K.reads K.fits K.faults K.keyword_of K.finds R.builds R.says R.answers R.costs) self.now S
-            → OnOk result (nat_eq (length errors.new.items) (length errors.old.items) ≡ accepts (kit K.reads K.fits K.faults K.keyword_of K.finds R.builds R.says R.answers R.costs).world ctx.old.answer S (view instance.now)) }
+        ensures report { (S : Data) → IsValidatorOf (kit K.Leaf R.RegexEngine) self.now S
+            → OnOk result (Appends errors.old.items errors.new.items (report (world K.Leaf R.RegexEngine) ctx.old.answer S (view instance.now) [] [])) }
+        ensures verdict { (S : Data) → IsValidatorOf (kit K.Leaf R.RegexEngine) self.now S
+            → OnOk result (nat_eq (length errors.new.items) (length errors.old.items) ≡ accepts (world K.Leaf R.RegexEngine) ctx.old.answer S (view instance.now)) }
         ensures memory { OnErr result (errors.new.items ≡ errors.old.items) }
     {
         let mut path = InstancePath::new(alloc);
@@ -148,10 +147,10 @@ impl<K: Leaf, R: RegexEngine> Validator<K, R> {
         ctx: &mut ValidationContext,
     ) -> Result<Evaluation<'a>, AllocError>
         ensures answer { ctx.new.answer ≡ ctx.old.answer }
-        ensures tree { IfOk result (λ e. (S : Data) → IsValidatorOf (kit K.reads K.fits K.faults K.keyword_of K.finds R.builds R.says R.answers R.costs) self.now S
-            → IsTree (kit K.reads K.fits K.faults K.keyword_of K.finds R.builds R.says R.answers R.costs).world ctx.old.answer S (view instance.now) [] [] (evaluated e)) }
-        ensures verdict { IfOk result (λ e. (S : Data) → IsValidatorOf (kit K.reads K.fits K.faults K.keyword_of K.finds R.builds R.says R.answers R.costs) self.now S
-            → valid_tree (evaluated e) ≡ accepts (kit K.reads K.fits K.faults K.keyword_of K.finds R.builds R.says R.answers R.costs).world ctx.old.answer S (view instance.now)) }
+        ensures tree { IfOk result (λ e. (S : Data) → IsValidatorOf (kit K.Leaf R.RegexEngine) self.now S
+            → IsTree (world K.Leaf R.RegexEngine) ctx.old.answer S (view instance.now) [] [] (evaluated e)) }
+        ensures verdict { IfOk result (λ e. (S : Data) → IsValidatorOf (kit K.Leaf R.RegexEngine) self.now S
+            → valid_tree (evaluated e) ≡ accepts (world K.Leaf R.RegexEngine) ctx.old.answer S (view instance.now)) }
     {
         let mut path = InstancePath::new(alloc);
         let root = child(&self.root, alloc, Node::Value(instance), &mut path, ctx)?;

@@ -3,5 +3,4 @@ pub mod Walks
 pub mod Lookups
 pub mod Sides
 pub mod MemberWalks
-pub mod Schemas
 pub mod Merge

@@ -1,25 +1,20 @@
 //! Whether a value is accepted.
 #![tactic(auto)]
 
-ghost use Rattle.serde_json.specs.Data.{Data};
-
 use olk_base::{Node, ValidationContext};
+use olk_tree::Means;
 
 /// What can be asked whether it accepts a value.
-pub trait IsValid {
+pub trait IsValid: Means {
     ghost use Rattle.olk_base.specs.Nodes.{tree_of};
-    ghost use Rattle.olk_tree.specs.Questions.{Question};
     ghost use Rattle.olk_check.specs.Asks.{Asks};
-
-    // whether it accepts a value, and how many matchers it may ask
-    ghost means: { Self → Data → Question };
 
     /// Whether the node is accepted, with the context's answer for matches that are left unfinished.
     ///
     /// Takes no memory. The context keeps its answer; of the counts only those of matchers that
     /// were asked and of matches that were left unfinished rise.
     fn is_valid(&self, node: Node<'_>, ctx: &mut ValidationContext) -> bool
-        ensures { Asks ctx.old ctx.new (means self.now (tree_of node.entry)) result };
+        ensures { Asks ctx.old ctx.new (Self.means self.now (tree_of node.entry)) result };
 }
 
 pub mod logic;

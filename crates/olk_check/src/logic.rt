@@ -8,10 +8,6 @@ use olk_tree::not::Not;
 
 /// Each branch is to accept (JSON Schema 2020-12 Core, 10.2.1.1).
 impl<N: IsValid> IsValid for AllOf<N> {
-    ghost use Rattle.olk_tree.specs.Questions.{every};
-
-    ghost means = { λ k v. every (λ n. N.means n v) k.schemas.items };
-
     fn is_valid(&self, node: Node<'_>, ctx: &mut ValidationContext) -> bool {
         all_accept(&self.schemas, node, ctx)
     }
@@ -19,8 +15,6 @@ impl<N: IsValid> IsValid for AllOf<N> {
 
 /// The branch is to accept.
 impl<N: IsValid> IsValid for SingleValueAllOf<N> {
-    ghost means = { λ k v. N.means k.node v };
-
     fn is_valid(&self, node: Node<'_>, ctx: &mut ValidationContext) -> bool {
         self.node.is_valid(node, ctx)
     }
@@ -28,10 +22,6 @@ impl<N: IsValid> IsValid for SingleValueAllOf<N> {
 
 /// One branch is to accept (JSON Schema 2020-12 Core, 10.2.1.2).
 impl<N: IsValid> IsValid for AnyOf<N> {
-    ghost use Rattle.olk_tree.specs.Questions.{some};
-
-    ghost means = { λ k v. some (λ n. N.means n v) k.schemas.items };
-
     fn is_valid(&self, node: Node<'_>, ctx: &mut ValidationContext) -> bool {
         any_accepts(&self.schemas, node, ctx)
     }
@@ -39,8 +29,6 @@ impl<N: IsValid> IsValid for AnyOf<N> {
 
 /// The branch is to accept.
 impl<N: IsValid> IsValid for SingleAnyOf<N> {
-    ghost means = { λ k v. N.means k.node v };
-
     fn is_valid(&self, node: Node<'_>, ctx: &mut ValidationContext) -> bool {
         self.node.is_valid(node, ctx)
     }
@@ -48,10 +36,6 @@ impl<N: IsValid> IsValid for SingleAnyOf<N> {
 
 /// The subschema is to refuse (JSON Schema 2020-12 Core, 10.2.1.4).
 impl<N: IsValid> IsValid for Not<N> {
-    ghost use Rattle.olk_tree.specs.Questions.{opposite};
-
-    ghost means = { λ k v. opposite (N.means k.node v) };
-
     #[tactic(auto, using(crate::proofs::Walks::opposite_answers))]
     fn is_valid(&self, node: Node<'_>, ctx: &mut ValidationContext) -> bool {
         !self.node.is_valid(node, ctx)

@@ -18,8 +18,6 @@ use serde_json::{Map, Value};
 /// A member whose name is declared is to be accepted by that name's subschema (JSON Schema 2020-12
 /// Core, 10.3.2.1).
 impl<N: IsValid> IsValid for SmallProperties<N> {
-    ghost means = { λ k v. declared_mean N.means (named k.properties) v };
-
     fn is_valid(&self, node: Node<'_>, ctx: &mut ValidationContext) -> bool {
         match node.as_object() {
             Some(members) => object_accepted(&self.properties, members, ctx),
@@ -31,13 +29,6 @@ impl<N: IsValid> IsValid for SmallProperties<N> {
 /// Beside that, both names are to be members, where the value is an object (JSON Schema 2020-12
 /// Validation, 6.5.3).
 impl<N: IsValid> IsValid for SmallPropertiesWithRequired2<N> {
-    ghost use Rattle.olk_spec.specs.Names.{is_empty};
-    ghost use Rattle.olk_spec.specs.Accepts.{missing};
-    ghost use Rattle.olk_tree.specs.Questions.{always, both};
-    ghost use Rattle.olk_tree.specs.Answers.{two_texts};
-
-    ghost means = { λ k v. both (always (is_empty (missing (two_texts k.first k.second) v))) (declared_mean N.means (named k.properties) v) };
-
     fn is_valid(&self, node: Node<'_>, ctx: &mut ValidationContext) -> bool {
         match node.as_object() {
             Some(members) => {

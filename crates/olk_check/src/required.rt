@@ -14,13 +14,6 @@ use serde_json::{Map, Value};
 
 /// Each listed name is to be a member, where the value is an object (JSON Schema 2020-12 Validation, 6.5.3).
 impl IsValid for RequiredValidator {
-    ghost use Rattle.olk_spec.specs.Names.{is_empty};
-    ghost use Rattle.olk_spec.specs.Accepts.{missing};
-    ghost use Rattle.olk_tree.specs.Questions.{always};
-    ghost use Rattle.olk_tree.specs.Answers.{texts_of};
-
-    ghost means = { λ k v. always (is_empty (missing (texts_of k.required.items) v)) };
-
     fn is_valid(&self, node: Node<'_>, _ctx: &mut ValidationContext) -> bool {
         match node.as_object() {
             Some(members) => has_each(members, &self.required),

@@ -3,5 +3,4 @@ pub mod Steps
 pub mod Own
 pub mod Missing
 pub mod Sides
-pub mod Schemas
 pub mod Fused

@@ -7,19 +7,17 @@ ghost use Rattle.olk_spec.specs.Names.{Path};
 ghost use Rattle.olk_spec.specs.Faults.{Fault};
 
 use olk_base::{Node, ValidationContext};
+use olk_check::IsValid;
 use olk_reports::{InstancePath, ValidateError, ValidationError};
 use std::alloc::{AllocError, Global};
 
 /// What can be asked what is wrong with a value.
-pub trait Errors<'a> {
+pub trait Errors<'a>: IsValid {
     ghost use Rattle.std.specs.Prelude.{◌≡◌, OnOk, OnErr, IfErr};
     ghost use Rattle.olk_base.specs.Nodes.{tree_of};
-    ghost use Rattle.olk_tree.specs.Questions.{Question};
     ghost use Rattle.olk_errors.specs.Found.{Appends, IfInvalid, Passes, IsTold};
 
-    // whether it accepts a value, the faults that it finds in it at a path, and those of its first step that refuses, for either answer for unfinished matches
-    ghost means: { Self → Data → Question };
-
+    // the faults that it finds in a value at a path, and those of its first step that refuses, for either answer for unfinished matches
     ghost finds: { Self → Bool → Data → Path → List Fault };
 
     ghost first: { Self → Bool → Data → Path → List Fault };
@@ -35,8 +33,8 @@ pub trait Errors<'a> {
         path: &mut InstancePath,
         ctx: &mut ValidationContext,
     ) -> Result<(), ValidateError<'a>>
-        ensures ok { OnOk result (Passes ((means self.now (tree_of node.entry)).accepts ctx.old.answer) (first self.now ctx.old.answer (tree_of node.entry) path.old)) }
-        ensures invalid { IfErr result (λ e. IfInvalid e (IsTold ((means self.now (tree_of node.entry)).accepts ctx.old.answer) (first self.now ctx.old.answer (tree_of node.entry) path.old) (finds self.now ctx.old.answer (tree_of node.entry) path.old))) }
+        ensures ok { OnOk result (Passes ((Self.means self.now (tree_of node.entry)).accepts ctx.old.answer) (first self.now ctx.old.answer (tree_of node.entry) path.old)) }
+        ensures invalid { IfErr result (λ e. IfInvalid e (IsTold ((Self.means self.now (tree_of node.entry)).accepts ctx.old.answer) (first self.now ctx.old.answer (tree_of node.entry) path.old) (finds self.now ctx.old.answer (tree_of node.entry) path.old))) }
         ensures path { path.new ≡ path.old }
         ensures answer { ctx.new.answer ≡ ctx.old.answer };
 

@@ -1,8 +1,9 @@
 //! `allOf`, `anyOf` and `not`.
 use crate::Errors;
 use crate::append::{append_error, refuse};
-use crate::walk::{any_passes, collect_all, contexts, one_context, passes, validate_all};
+use crate::walk::{collect_all, contexts, one_context, validate_all};
 use olk_base::{Node, ValidationContext};
+use olk_check::IsValid;
 use olk_reports::{InstancePath, ValidateError, ValidationError, ValidationErrorKind};
 use olk_tree::all_of::{AllOf, SingleValueAllOf};
 use olk_tree::any_of::{AnyOf, SingleAnyOf};
@@ -13,9 +14,6 @@ use std::alloc::{AllocError, Global};
 impl<'a, N: Errors<'a>> Errors<'a> for AllOf<N> {
     ghost use Rattle.std.specs.List.{flat_map};
     ghost use Rattle.olk_tree.specs.Answers.{first_of};
-    ghost use Rattle.olk_tree.specs.Questions.{every};
-
-    ghost means = { λ k v. every (λ n. N.means n v) k.schemas.items };
 
     ghost finds = { λ k u v Q. flat_map (λ n. N.finds n u v Q) k.schemas.items };
 
@@ -45,8 +43,6 @@ impl<'a, N: Errors<'a>> Errors<'a> for AllOf<N> {
 
 /// The errors of the branch.
 impl<'a, N: Errors<'a>> Errors<'a> for SingleValueAllOf<N> {
-    ghost means = { λ k v. N.means k.node v };
-
     ghost finds = { λ k u v Q. N.finds k.node u v Q };
 
     ghost first = { λ k u v Q. N.first k.node u v Q };
@@ -80,8 +76,6 @@ impl<'a, N: Errors<'a>> Errors<'a> for AnyOf<N> {
     ghost use Rattle.olk_spec.specs.Reports.{fault_if};
     ghost use Rattle.olk_tree.specs.Questions.{some};
 
-    ghost means = { λ k v. some (λ n. N.means n v) k.schemas.items };
-
     ghost finds = { λ k u v Q. fault_if (not ((some (λ n. N.means n v) k.schemas.items).accepts u)) (AnyOf (context (map (λ n. N.finds n u v Q) k.schemas.items))) v k.location Q };
 
     ghost first = { λ k u v Q. fault_if (not ((some (λ n. N.means n v) k.schemas.items).accepts u)) (AnyOf (context (map (λ n. N.finds n u v Q) k.schemas.items))) v k.location Q };
@@ -93,8 +87,7 @@ impl<'a, N: Errors<'a>> Errors<'a> for AnyOf<N> {
         path: &mut InstancePath,
         ctx: &mut ValidationContext,
     ) -> Result<(), ValidateError<'a>> {
-        let accepted = any_passes(&self.schemas, alloc, node, path, ctx)?;
-        if accepted {
+        if self.is_valid(node, ctx) {
             return Ok(());
         }
         let context = contexts(&self.schemas, alloc, node, path, ctx)?;
@@ -115,8 +108,7 @@ impl<'a, N: Errors<'a>> Errors<'a> for AnyOf<N> {
         ctx: &mut ValidationContext,
         errors: &mut Vec<ValidationError<'a>>,
     ) -> Result<(), AllocError> {
-        let accepted = any_passes(&self.schemas, alloc, node, path, ctx)?;
-        if accepted {
+        if self.is_valid(node, ctx) {
             return Ok(());
         }
         let context = contexts(&self.schemas, alloc, node, path, ctx)?;
@@ -131,8 +123,6 @@ impl<'a, N: Errors<'a>> Errors<'a> for SingleAnyOf<N> {
     ghost use Rattle.olk_spec.specs.Faults.{AnyOf, context};
     ghost use Rattle.olk_spec.specs.Reports.{fault_if};
 
-    ghost means = { λ k v. N.means k.node v };
-
     ghost finds = { λ k u v Q. fault_if (not ((N.means k.node v).accepts u)) (AnyOf (context (N.finds k.node u v Q ∷ []))) v k.location Q };
 
     ghost first = { λ k u v Q. fault_if (not ((N.means k.node v).accepts u)) (AnyOf (context (N.finds k.node u v Q ∷ []))) v k.location Q };
@@ -144,8 +134,7 @@ impl<'a, N: Errors<'a>> Errors<'a> for SingleAnyOf<N> {
         path: &mut InstancePath,
         ctx: &mut ValidationContext,
     ) -> Result<(), ValidateError<'a>> {
-        let accepted = passes(&self.node, alloc, node, path, ctx)?;
-        if accepted {
+        if self.node.is_valid(node, ctx) {
             return Ok(());
         }
         let context = one_context(&self.node, alloc, node, path, ctx)?;
@@ -166,8 +155,7 @@ impl<'a, N: Errors<'a>> Errors<'a> for SingleAnyOf<N> {
         ctx: &mut ValidationContext,
         errors: &mut Vec<ValidationError<'a>>,
     ) -> Result<(), AllocError> {
-        let accepted = passes(&self.node, alloc, node, path, ctx)?;
-        if accepted {
+        if self.node.is_valid(node, ctx) {
             return Ok(());
         }
         let context = one_context(&self.node, alloc, node, path, ctx)?;
@@ -181,9 +169,6 @@ impl<'a, N: Errors<'a>> Errors<'a> for Not<N> {
     ghost use Rattle.serde_json.specs.View.{view};
     ghost use Rattle.olk_spec.specs.Faults.{Not};
     ghost use Rattle.olk_spec.specs.Reports.{fault_if};
-    ghost use Rattle.olk_tree.specs.Questions.{opposite};
-
-    ghost means = { λ k v. opposite (N.means k.node v) };
 
     ghost finds = { λ k u v Q. fault_if ((N.means k.node v).accepts u) (Not (view k.original)) v k.location Q };
 
@@ -196,8 +181,7 @@ impl<'a, N: Errors<'a>> Errors<'a> for Not<N> {
         path: &mut InstancePath,
         ctx: &mut ValidationContext,
     ) -> Result<(), ValidateError<'a>> {
-        let accepted = passes(&self.node, alloc, node, path, ctx)?;
-        if !accepted {
+        if !self.node.is_valid(node, ctx) {
             return Ok(());
         }
         let kind = ValidationErrorKind::Not {
@@ -214,8 +198,7 @@ impl<'a, N: Errors<'a>> Errors<'a> for Not<N> {
         ctx: &mut ValidationContext,
         errors: &mut Vec<ValidationError<'a>>,
     ) -> Result<(), AllocError> {
-        let accepted = passes(&self.node, alloc, node, path, ctx)?;
-        if !accepted {
+        if !self.node.is_valid(node, ctx) {
             return Ok(());
         }
         let kind = ValidationErrorKind::Not {

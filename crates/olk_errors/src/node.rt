@@ -1,21 +1,17 @@
-//! Keywords and places of a schema.
-ghost use Rattle.std.specs.Prelude.{◌≡◌, ◌∷◌, [], map, true, false, OnOk, OnErr, IfErr};
-ghost use Rattle.serde_json.specs.Data.{Data};
+//! Keywords and bodies.
+ghost use Rattle.std.specs.Prelude.{◌≡◌, map, OnOk, OnErr, IfErr};
 ghost use Rattle.olk_base.specs.Nodes.{tree_of};
-ghost use Rattle.olk_spec.specs.Names.{Path, is_empty};
+ghost use Rattle.olk_spec.specs.Names.{is_empty};
 ghost use Rattle.olk_spec.specs.Faults.{fault, Leaf, FalseSchema};
-ghost use Rattle.olk_spec.specs.Meaning.{accepts, report};
-ghost use Rattle.olk_tree.specs.Answers.{answers, body_means, body_finds, body_first};
-ghost use Rattle.olk_tree.specs.Kit.{kit};
-ghost use Rattle.olk_tree.specs.Stands.{StandsFor};
-ghost use Rattle.olk_errors.specs.Found.{Appends, IfInvalid, Passes, IsTold, IsRefusal};
+ghost use Rattle.olk_tree.specs.Answers.{body_means, body_finds, body_first};
+ghost use Rattle.olk_errors.specs.Found.{Appends, IfInvalid, Passes, IsTold};
 
 use crate::Errors;
 use crate::append::{append_error, or_cut, refuse};
 use crate::walk::{collect_all, validate_all};
-use olk_base::{Leaf, Node, RegexEngine, ValidationContext};
+use olk_base::{Leaf, Node, ValidationContext};
 use olk_reports::{InstancePath, Location, ValidateError, ValidationError, ValidationErrorKind};
-use olk_tree::node::{Body, KeywordOver, SchemaNode};
+use olk_tree::node::{Body, KeywordOver};
 use std::alloc::{AllocError, Global};
 
 // One of the errors that a leaf finds.
@@ -72,8 +68,6 @@ fn collect_leaf<'a, K: Leaf>(
 impl<'a, K: Leaf, N: Errors<'a>> Errors<'a> for KeywordOver<K, N> {
     ghost use Rattle.olk_tree.specs.Answers.{keyword_finds, keyword_first};
     ghost use Rattle.olk_tree.specs.Answers.{keyword_means};
-
-    ghost means = { keyword_means K.finds N.means };
 
     ghost finds = { λ k u. keyword_finds K.finds N.means K.keyword_of N.finds u k };
 
@@ -138,7 +132,7 @@ impl<'a, K: Leaf, N: Errors<'a>> Errors<'a> for KeywordOver<K, N> {
 }
 
 // The first error of a body at its place.
-fn validate_body<'a, W: Errors<'a>>(
+pub fn validate_body<'a, W: Errors<'a>>(
     body: &'a Body<W>,
     location: &'a str,
     alloc: Global,
@@ -165,7 +159,7 @@ fn validate_body<'a, W: Errors<'a>>(
 }
 
 // The errors of a body at its place.
-fn collect_body<'a, W: Errors<'a>>(
+pub fn collect_body<'a, W: Errors<'a>>(
     body: &'a Body<W>,
     location: &'a str,
     alloc: Global,
@@ -187,91 +181,4 @@ fn collect_body<'a, W: Errors<'a>>(
         }
         Body::Keywords(keywords) => collect_all(keywords, alloc, node, path, ctx, errors),
     }
-}
-
-/// What the place's body finds; a false schema finds one error at its place.
-impl<'a, K: Leaf, R: RegexEngine> Errors<'a> for SchemaNode<K, R> {
-    ghost means = { λ n. (answers (kit K.reads K.fits K.faults K.keyword_of K.finds R.builds R.says R.answers R.costs) n).means };
-
-    ghost finds = { λ n. (answers (kit K.reads K.fits K.faults K.keyword_of K.finds R.builds R.says R.answers R.costs) n).report };
-
-    ghost first = { λ n. (answers (kit K.reads K.fits K.faults K.keyword_of K.finds R.builds R.says R.answers R.costs) n).first };
-
-    #[cycle(errors)]
-    #[tactic(auto, using(olk_tree::proofs::Layers::layers))]
-    fn validate(
-        &'a self,
-        alloc: Global,
-        node: Node<'a>,
-        path: &mut InstancePath,
-        ctx: &mut ValidationContext,
-    ) -> Result<(), ValidateError<'a>> {
-        validate_body(&self.body, self.location.as_str(), alloc, node, path, ctx)
-    }
-
-    #[cycle(errors)]
-    #[tactic(auto, using(olk_tree::proofs::Layers::layers))]
-    fn collect_errors(
-        &'a self,
-        alloc: Global,
-        node: Node<'a>,
-        path: &mut InstancePath,
-        ctx: &mut ValidationContext,
-        errors: &mut Vec<ValidationError<'a>>,
-    ) -> Result<(), AllocError> {
-        collect_body(
-            &self.body,
-            self.location.as_str(),
-            alloc,
-            node,
-            path,
-            ctx,
-            errors,
-        )
-    }
-}
-
-/// The first error of the walk over the node, where the place stands for a schema; none where the schema accepts it
-/// (JSON Schema 2020-12 Core, 4.3.2 and 10).
-///
-/// The error is one of a report of the schema over the node, at the schema's place and the path; where members that
-/// nothing allows are told, the first of them alone. Otherwise the only error is want of memory. The path and the
-/// context's answer are as before.
-pub fn validate_for<'a, K: Leaf, R: RegexEngine>(
-    place: &'a SchemaNode<K, R>,
-    alloc: Global,
-    node: Node<'a>,
-    path: &mut InstancePath,
-    ctx: &mut ValidationContext,
-) -> Result<(), ValidateError<'a>>
-    ensures ok { OnOk result ((S : Data) (P : Path) → StandsFor (kit K.reads K.fits K.faults K.keyword_of K.finds R.builds R.says R.answers R.costs) place.now S P
-        → accepts (kit K.reads K.fits K.faults K.keyword_of K.finds R.builds R.says R.answers R.costs).world ctx.old.answer S (tree_of node.entry) ≡ true) }
-    ensures invalid { IfErr result (λ e. IfInvalid e (λ f. (S : Data) (P : Path) → StandsFor (kit K.reads K.fits K.faults K.keyword_of K.finds R.builds R.says R.answers R.costs) place.now S P
-        → IsRefusal (kit K.reads K.fits K.faults K.keyword_of K.finds R.builds R.says R.answers R.costs).world ctx.old.answer S (tree_of node.entry) P path.old f)) }
-    ensures path { path.new ≡ path.old }
-    ensures context { ctx.new.answer ≡ ctx.old.answer }
-{
-    place.validate(alloc, node, path, ctx)
-}
-
-/// Appends all errors of the node, where the place stands for a schema: a report of the schema over the node, at the
-/// schema's place and the path (JSON Schema 2020-12 Core, 4.3.2 and 10).
-///
-/// The only error is want of memory, and then the list is as before. So are the path and the context's answer, in both
-/// cases.
-pub fn collect_errors_for<'a, K: Leaf, R: RegexEngine>(
-    place: &'a SchemaNode<K, R>,
-    alloc: Global,
-    node: Node<'a>,
-    path: &mut InstancePath,
-    ctx: &mut ValidationContext,
-    errors: &mut Vec<ValidationError<'a>>,
-) -> Result<(), AllocError>
-    ensures report { OnOk result ((S : Data) (P : Path) → StandsFor (kit K.reads K.fits K.faults K.keyword_of K.finds R.builds R.says R.answers R.costs) place.now S P
-        → Appends errors.old.items errors.new.items (report (kit K.reads K.fits K.faults K.keyword_of K.finds R.builds R.says R.answers R.costs).world ctx.old.answer S (tree_of node.entry) P path.old)) }
-    ensures memory { OnErr result (errors.new.items ≡ errors.old.items) }
-    ensures path { path.new ≡ path.old }
-    ensures context { ctx.new.answer ≡ ctx.old.answer }
-{
-    place.collect_errors(alloc, node, path, ctx, errors)
 }

@@ -24,8 +24,6 @@ use std::alloc::{AllocError, Global};
 
 /// The errors of each member whose name is declared, at its place (JSON Schema 2020-12 Core, 10.3.2.1).
 impl<'a, N: Errors<'a>> Errors<'a> for SmallProperties<N> {
-    ghost means = { λ k v. declared_mean N.means (named k.properties) v };
-
     ghost finds = { λ k u v Q. declared_finds N.finds u (named k.properties) v Q };
 
     ghost first = { λ k u v Q. declared_first N.first u (named k.properties) v Q };
@@ -62,13 +60,8 @@ impl<'a, N: Errors<'a>> Errors<'a> for SmallProperties<N> {
 /// 2020-12 Validation, 6.5.3, and Core, 10.3.2.1).
 impl<'a, N: Errors<'a>> Errors<'a> for SmallPropertiesWithRequired2<N> {
     ghost use Rattle.std.specs.Prelude.{◌++◌};
-    ghost use Rattle.olk_spec.specs.Names.{is_empty};
-    ghost use Rattle.olk_spec.specs.Accepts.{missing};
     ghost use Rattle.olk_spec.specs.Reports.{required_faults};
     ghost use Rattle.olk_tree.specs.Answers.{two_texts, or_else, head_of};
-    ghost use Rattle.olk_tree.specs.Questions.{always, both};
-
-    ghost means = { λ k v. both (always (is_empty (missing (two_texts k.first k.second) v))) (declared_mean N.means (named k.properties) v) };
 
     ghost finds = { λ k u v Q. required_faults (two_texts k.first k.second) v k.required_location Q ++ declared_finds N.finds u (named k.properties) v Q };
 

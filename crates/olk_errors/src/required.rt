@@ -22,11 +22,6 @@ use std::alloc::{AllocError, Global};
 impl<'a> Errors<'a> for RequiredValidator {
     ghost use Rattle.olk_spec.specs.Reports.{required_faults};
     ghost use Rattle.olk_tree.specs.Answers.{texts_of, head_of};
-    ghost use Rattle.olk_spec.specs.Names.{is_empty};
-    ghost use Rattle.olk_spec.specs.Accepts.{missing};
-    ghost use Rattle.olk_tree.specs.Questions.{always};
-
-    ghost means = { λ k v. always (is_empty (missing (texts_of k.required.items) v)) };
 
     ghost finds = { λ k u v Q. required_faults (texts_of k.required.items) v k.location Q };
 

@@ -4,7 +4,7 @@ ghost use Rattle.olk_reports.proofs.Errors.{context_faults};
 ghost use Rattle.std.specs.List.{flat_map};
 ghost use Rattle.olk_base.specs.Nodes.{tree_of};
 ghost use Rattle.olk_tree.specs.Answers.{first_of};
-ghost use Rattle.olk_tree.specs.Questions.{every, some};
+ghost use Rattle.olk_tree.specs.Questions.{every};
 ghost use Rattle.olk_errors.specs.Found.{Appends, AreLike, IfInvalid, Passes, IsTold};
 
 use crate::Errors;
@@ -52,45 +52,6 @@ pub(crate) fn collect_all<'a, N: Errors<'a>>(
         or_cut(answer, errors, len)?;
     }
     Ok(())
-}
-
-// Whether the node is accepted, as `validate` says.
-pub(crate) fn passes<'a, N: Errors<'a>>(
-    branch: &'a N,
-    alloc: Global,
-    node: Node<'a>,
-    path: &mut InstancePath,
-    ctx: &mut ValidationContext,
-) -> Result<bool, AllocError>
-    ensures verdict { IfOk result (λ b. b ≡ (N.means branch.now (tree_of node.entry)).accepts ctx.old.answer) }
-    ensures path { path.new ≡ path.old }
-    ensures answer { ctx.new.answer ≡ ctx.old.answer }
-{
-    match branch.validate(alloc, node, path, ctx) {
-        Ok(()) => Ok(true),
-        Err(ValidateError::Invalid(_)) => Ok(false),
-        Err(ValidateError::Memory(error)) => Err(error),
-    }
-}
-
-// Whether one of them accepts; the first that accepts is the last that is asked.
-pub(crate) fn any_passes<'a, N: Errors<'a>>(
-    nodes: &'a Vec<N>,
-    alloc: Global,
-    node: Node<'a>,
-    path: &mut InstancePath,
-    ctx: &mut ValidationContext,
-) -> Result<bool, AllocError>
-    ensures verdict { IfOk result (λ b. b ≡ (some (λ n. N.means n (tree_of node.entry)) nodes.now.items).accepts ctx.old.answer) }
-    ensures path { path.new ≡ path.old }
-    ensures answer { ctx.new.answer ≡ ctx.old.answer }
-{
-    for n in nodes {
-        if passes(n, alloc, node, path, ctx)? {
-            return Ok(true);
-        }
-    }
-    Ok(false)
 }
 
 // For each of them its errors, in a list of its own.

@@ -2,12 +2,12 @@
 use crate::doubles::{EqualTo, NoText};
 use olk_base::{Node, ValidationContext};
 use olk_check::IsValid;
-use olk_check::node::is_valid_for;
+use olk_node::{Keyword, SchemaNode, is_valid_for};
 use olk_reports::Location;
 use olk_tree::all_of::{AllOf, SingleValueAllOf};
 use olk_tree::any_of::{AnyOf, SingleAnyOf};
 use olk_tree::map::{SmallMap, SortedNames};
-use olk_tree::node::{Body, Keyword, KeywordOver, SchemaNode};
+use olk_tree::node::{Body, KeywordOver};
 use olk_tree::not::Not;
 use olk_tree::properties::{SmallProperties, SmallPropertiesWithRequired2};
 use olk_tree::required::RequiredValidator;

@@ -2,8 +2,9 @@
 use crate::doubles::{Equality, NoTexts};
 use crate::tables::three;
 use olk_base::Meter;
+use olk_build::{Context, compile, properties, required};
 use olk_reports::{BuildError, ValidationError};
-use olk_tree::{Body, Context, KeywordOver, SmallMap, SortedNames, compile, properties, required};
+use olk_tree::{Body, KeywordOver, SmallMap, SortedNames};
 use serde_json::{Map, Value};
 use std::alloc::{AllocError, Global};
 use std::process::Abort;

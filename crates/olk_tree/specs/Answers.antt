@@ -1,4 +1,4 @@
--- What a built node answers: whether it accepts a value, the faults that it finds, and the tree that it shows.
+-- What validators answer over what their nodes answer: whether they accept a value, the faults that they find, and the trees that they show.
 use Rattle.std.specs.Prelude.{Bool, true, false, not, List, [], ◌∷◌, ◌++◌, map, String, string_bytes}
 use Rattle.std.specs.declared.alloc.Global.{Global}
 use Rattle.std.specs.List.{flat_map}
@@ -10,7 +10,6 @@ use Rattle.olk_spec.specs.Schemas.{at}
 use Rattle.olk_spec.specs.Accepts.{missing}
 use Rattle.olk_spec.specs.Reports.{required_faults, fault_if}
 use Rattle.olk_spec.specs.Tree.{Tree, leaf_node, plain, erring, described}
-use Rattle.olk_tree.specs.Kit.{Kit}
 use Rattle.olk_tree.specs.Questions.{Question, always, both, every, some, opposite}
 use Rattle.olk_tree.specs.Shown.{missing_trees, properties_tree, branch_trees, any_of_tree}
 use Rattle.olk_tree.specs.declared.map.SmallMap.{SmallMap}
@@ -18,16 +17,6 @@ use Rattle.olk_tree.specs.declared.node.KeywordOver.{KeywordOver}
 use Rattle.olk_tree.specs.declared.node.KeywordOver.TheVariants as keyword
 use Rattle.olk_tree.specs.declared.node.Body.{Body}
 use Rattle.olk_tree.specs.declared.node.Body.TheVariants.{True, False, Keywords}
-use Rattle.olk_tree.specs.declared.node.SchemaNode.{SchemaNode, fold-SchemaNode}
-use Rattle.olk_tree.specs.declared.node.SchemaNode.TheOpen.{SchemaNode-F}
-
-pub record Answers : Type 0 where
-  pub means : Data → Question
-  pub report : Bool → Data → Path → List Fault
-  -- those of the first step that refuses, of which `validate` tells one
-  pub first : Bool → Data → Path → List Fault
-  pub tree : Bool → Data → Path → Tree
-  pub location : Path
 
 -- two lists, side by side
 abbrev pub beside : {A B : Type 0} → List A → List B → List (A × B)
@@ -63,15 +52,15 @@ two_texts a b = string_bytes a ∷ string_bytes b ∷ []
 abbrev pub properties_find : {N : Type 0} → (N → Bool → Data → Path → List Fault) → Bool → List (Name × N) → Data → Path → List Fault
 properties_find r u es v Q = flat_map (λ e. flat_map (λ x. r e.1 u x (Q // e.0)) (at e.0 v)) es
 
-module _ {K N : Type 0} (finds : K → Data → List Text) (m : N → Data → Question) where
-  -- each declared name that is a member, with its node
-  abbrev pub properties_mean : List (Name × N) → Data → Question
-  properties_mean es v = every (λ e. every (m e.1) (at e.0 v)) es
+-- each declared name that is a member, with its node
+abbrev pub properties_mean : {N : Type 0} → (N → Data → Question) → List (Name × N) → Data → Question
+properties_mean m es v = every (λ e. every (m e.1) (at e.0 v)) es
 
+module _ {K N : Type 0} (finds : K → Data → List Text) (m : N → Data → Question) where
   -- whether a keyword accepts, over what its nodes mean
   unfoldable pub keyword_means : KeywordOver K N → Data → Question
-  keyword_means (keyword.Properties k) v = properties_mean (named k.properties) v
-  keyword_means (keyword.PropertiesWithRequired2 k) v = both (always (is_empty (missing (two_texts k.first k.second) v))) (properties_mean (named k.properties) v)
+  keyword_means (keyword.Properties k) v = properties_mean m (named k.properties) v
+  keyword_means (keyword.PropertiesWithRequired2 k) v = both (always (is_empty (missing (two_texts k.first k.second) v))) (properties_mean m (named k.properties) v)
   keyword_means (keyword.Required k) v = always (is_empty (missing (texts_of k.required.items) v))
   keyword_means (keyword.AllOf k) v = every (λ n. m n v) k.schemas.items
   keyword_means (keyword.SingleValueAllOf k) v = m k.node v
@@ -145,17 +134,3 @@ abbrev pub body_shows : {W : Type 0} → (W → Data → Path → Tree) → Path
 body_shows f P True v Q = plain P Q []
 body_shows f P False v Q = erring P Q (fault FalseSchema v Q P ∷ [])
 body_shows f P (Keywords ks) v Q = plain P Q (map (λ k. f k v Q) ks.items)
-
-module _ {K R : Type 0} (o : Kit K R) where
-  abbrev pub node_step : SchemaNode-F K R Answers → Answers
-  node_step n = record {
-    means = body_means (keyword_means o.finds (λ a. a.means)) n.body;
-    report = λ u. body_finds (keyword_finds o.finds (λ a. a.means) o.keyword_of (λ a. a.report) u) n.location n.body;
-    first = λ u. body_first (keyword_first o.finds (λ a. a.means) o.keyword_of (λ a. a.report) u (λ a. a.first)) n.location n.body;
-    tree = λ u. body_shows (keyword_shows o.finds (λ a. a.means) o.keyword_of (λ a. a.tree) u) n.location n.body;
-    location = n.location;
-  }
-
-  -- what a node answers, by recursion over it
-  unfoldable pub answers : SchemaNode K R → Answers
-  answers = fold-SchemaNode K R Answers node_step

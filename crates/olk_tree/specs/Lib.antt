@@ -1,12 +1,4 @@
 pub mod Ascending
 pub mod Questions
-pub mod Kit
 pub mod Shown
 pub mod Answers
-pub mod Stands
-pub mod Members
-pub mod Claims
-pub mod Building
-pub mod Forms
-pub mod Lists
-pub mod Parts

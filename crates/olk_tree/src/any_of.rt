@@ -1,17 +1,5 @@
-ghost use Rattle.std.specs.Prelude.{◌≡◌, codes};
-ghost use Rattle.serde_json.specs.View.{view};
-ghost use Rattle.olk_spec.specs.Vocabulary.{any_of};
-ghost use Rattle.olk_tree.specs.Kit.{kit};
-ghost use Rattle.olk_tree.specs.Parts.{GivesMember};
-ghost use Rattle.olk_tree.specs.Forms.{IsFormOfAnyOf};
-
-use crate::build::build_any_of;
-use crate::context::Context;
-use crate::node::{Keyword, KeywordOver};
-use olk_base::{MakeLeaf, MakeRegex};
-use olk_reports::{BuildError, Location};
-use serde_json::{Map, Value};
-use std::alloc::Global;
+//! `anyOf`.
+use olk_reports::Location;
 
 /// `anyOf` of several branches, or of none: one is to accept (JSON Schema 2020-12 Core, 10.2.1.2).
 #[derive(Drop)]
@@ -25,37 +13,4 @@ pub struct AnyOf<N> {
 pub struct SingleAnyOf<N> {
     pub node: N,
     pub location: Location,
-}
-
-/// The form for so many branches.
-pub(crate) fn keyword<K, N: Drop>(location: Location, mut schemas: Vec<N>) -> KeywordOver<K, N>
-    ensures { IsFormOfAnyOf location schemas.items result }
-{
-    if schemas.len() == 1
-        && let Some(node) = schemas.pop()
-    {
-        KeywordOver::SingleAnyOf(SingleAnyOf { node, location })
-    } else {
-        KeywordOver::AnyOf(AnyOf { schemas, location })
-    }
-}
-
-/// The keyword of `anyOf` in the object at the context's place (JSON Schema 2020-12 Core, 10.2.1.2).
-///
-/// There always is an answer: the keyword, the refusal of a malformed value, or want of memory. The meter rises by the
-/// cost of the keyword, or by a part of it where nothing is built; the context's place is left as it was.
-pub fn compile<'a, L: MakeLeaf, M: MakeRegex>(
-    ctx: &mut Context<'_, L, M>,
-    alloc: Global,
-    _parent: &'a Map<String, Value>,
-    schema: &'a Value,
-) -> Option<Result<Keyword<L::Leaf, M::Engine>, BuildError<'a>>>
-    ensures gives { GivesMember (kit L.Leaf.reads L.Leaf.fits L.Leaf.faults L.Leaf.keyword_of L.Leaf.finds M.Engine.builds M.Engine.says M.Engine.answers M.Engine.costs) (codes "anyOf") (view schema.now) any_of ctx.old.place ctx.old.meter.now ctx.new.meter.now result }
-    ensures place { ctx.new.place ≡ ctx.old.place }
-    ensures same_meter { ctx.new.meter.ghost_name ≡ ctx.old.meter.ghost_name }
-{
-    match ctx.place.join(alloc, "anyOf") {
-        Ok(location) => Some(build_any_of(&ctx.makers, ctx.meter, alloc, location, schema)),
-        Err(error) => Some(Err(BuildError::Memory(error))),
-    }
 }

@@ -15,10 +15,10 @@ loop-name-init g c =
     pairs_start names nodes
 
 pub returns-then-not-accepts_member : goal.returns-then-not-accepts_member
-returns-then-not-accepts_member g c = pairs_stop c.loop-name.invariant c.in-Some.ensures.steps.0 c.in-Some.ensures.steps.1 (subst (λ n. Asks c.loop-name.ctx c.accepts_member.new.ctx (every (g.N.IsValid.means c.in-Some.subschema.now) (at n (object (members_view c.args.members.now.entries)))) false) c.as_str.ensures.value c.if-not-accepts_member.ensures)
+returns-then-not-accepts_member g c = pairs_stop c.loop-name.invariant c.in-Some.ensures.steps.0 c.in-Some.ensures.steps.1 (subst (λ n. Asks c.loop-name.ctx c.accepts_member.new.ctx (every (g.N.Means.means c.in-Some.subschema.now) (at n (object (members_view c.args.members.now.entries)))) false) c.as_str.ensures.value c.if-not-accepts_member.ensures)
 
 pub loop-name-preserved : goal.loop-name-preserved
-loop-name-preserved g c = pairs_go_on c.loop-name.invariant c.in-Some.ensures.steps.0 c.in-Some.ensures.steps.1 (subst (λ n. Asks c.loop-name.ctx c.accepts_member.new.ctx (every (g.N.IsValid.means c.in-Some.subschema.now) (at n (object (members_view c.args.members.now.entries)))) true) c.as_str.ensures.value c.if-not-accepts_member.ensures)
+loop-name-preserved g c = pairs_go_on c.loop-name.invariant c.in-Some.ensures.steps.0 c.in-Some.ensures.steps.1 (subst (λ n. Asks c.loop-name.ctx c.accepts_member.new.ctx (every (g.N.Means.means c.in-Some.subschema.now) (at n (object (members_view c.args.members.now.entries)))) true) c.as_str.ensures.value c.if-not-accepts_member.ensures)
 
 pub returns : goal.returns
 returns g c = pairs_end c.loop-name.invariant (either_empty_from_Zip c.loop-name.name-iterator c.next.new.self c.next.result c.in-None.is c.next.ensures.steps)

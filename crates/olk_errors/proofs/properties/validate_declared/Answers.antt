@@ -21,12 +21,12 @@ loop-name-init g c =
 
 pub loop-name-preserved : goal.loop-name-preserved
 loop-name-preserved g c = passing_more c.loop-name.invariant (next_pair _ _ c.in-Some.ensures.steps.0 c.in-Some.ensures.steps.1)
-    (subst (λ n. Passes ((every (g.N.Errors.means c.in-Some.subschema.now) (at n (object (members_view c.args.members.now.entries)))).accepts c.loop-name.ctx.answer) (first_of (λ x. g.N.Errors.first c.in-Some.subschema.now c.loop-name.ctx.answer x (c.loop-name.path // n)) (at n (object (members_view c.args.members.now.entries))))) c.as_str.ensures.value c.in_ok-validate_at.ensures.ok)
+    (subst (λ n. Passes ((every (g.N.Means.means c.in-Some.subschema.now) (at n (object (members_view c.args.members.now.entries)))).accepts c.loop-name.ctx.answer) (first_of (λ x. g.N.Errors.first c.in-Some.subschema.now c.loop-name.ctx.answer x (c.loop-name.path // n)) (at n (object (members_view c.args.members.now.entries))))) c.as_str.ensures.value c.in_ok-validate_at.ensures.ok)
     c.validate_at.ensures.path c.validate_at.ensures.answer
 
 pub returns-in_err-validate_at-clause-invalid : goal.returns-in_err-validate_at-clause-invalid
 returns-in_err-validate_at-clause-invalid g c = left_by _ _ c.from_residual.ensures.1
-    (subst (λ n. IfInvalid c.in_err-validate_at.field-0.0 (IsTold ((every (g.N.Errors.means c.in-Some.subschema.now) (at n (object (members_view c.args.members.now.entries)))).accepts c.loop-name.ctx.answer) (first_of (λ x. g.N.Errors.first c.in-Some.subschema.now c.loop-name.ctx.answer x (c.loop-name.path // n)) (at n (object (members_view c.args.members.now.entries)))) (flat_map (λ x. g.N.Errors.finds c.in-Some.subschema.now c.loop-name.ctx.answer x (c.loop-name.path // n)) (at n (object (members_view c.args.members.now.entries)))))) c.as_str.ensures.value c.in_err-validate_at.ensures.invalid)
+    (subst (λ n. IfInvalid c.in_err-validate_at.field-0.0 (IsTold ((every (g.N.Means.means c.in-Some.subschema.now) (at n (object (members_view c.args.members.now.entries)))).accepts c.loop-name.ctx.answer) (first_of (λ x. g.N.Errors.first c.in-Some.subschema.now c.loop-name.ctx.answer x (c.loop-name.path // n)) (at n (object (members_view c.args.members.now.entries)))) (flat_map (λ x. g.N.Errors.finds c.in-Some.subschema.now c.loop-name.ctx.answer x (c.loop-name.path // n)) (at n (object (members_view c.args.members.now.entries)))))) c.as_str.ensures.value c.in_err-validate_at.ensures.invalid)
     (passing_told c.loop-name.invariant (next_pair _ _ c.in-Some.ensures.steps.0 c.in-Some.ensures.steps.1))
 
 pub returns-clause-ok : goal.returns-clause-ok

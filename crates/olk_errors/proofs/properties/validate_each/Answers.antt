@@ -14,10 +14,10 @@ loop-name-init g c = let whole : c.into_iter-name-iterator.result ≡ c.args.mem
 
 pub loop-name-preserved : goal.loop-name-preserved
 loop-name-preserved g c = passing_more c.loop-name.invariant (next_member _ _ c.in-Some.ensures.steps)
-    (subst (λ n. Passes ((member_means g.N.Errors.means (named c.args.properties.now) n (view c.in-Some.value.now)).accepts c.loop-name.ctx.answer) (member_first g.N.Errors.first c.loop-name.ctx.answer (named c.args.properties.now) n (view c.in-Some.value.now) c.loop-name.path)) c.as_str.ensures.value c.in_ok-validate_member.ensures.ok)
+    (subst (λ n. Passes ((member_means g.N.Means.means (named c.args.properties.now) n (view c.in-Some.value.now)).accepts c.loop-name.ctx.answer) (member_first g.N.Errors.first c.loop-name.ctx.answer (named c.args.properties.now) n (view c.in-Some.value.now) c.loop-name.path)) c.as_str.ensures.value c.in_ok-validate_member.ensures.ok)
     c.validate_member.ensures.path c.validate_member.ensures.answer
 
 pub returns-in_err-validate_member-clause-invalid : goal.returns-in_err-validate_member-clause-invalid
 returns-in_err-validate_member-clause-invalid g c = left_by _ _ c.from_residual.ensures.1
-    (subst (λ n. IfInvalid c.in_err-validate_member.field-0.0 (IsTold ((member_means g.N.Errors.means (named c.args.properties.now) n (view c.in-Some.value.now)).accepts c.loop-name.ctx.answer) (member_first g.N.Errors.first c.loop-name.ctx.answer (named c.args.properties.now) n (view c.in-Some.value.now) c.loop-name.path) (member_finds g.N.Errors.finds c.loop-name.ctx.answer (named c.args.properties.now) n (view c.in-Some.value.now) c.loop-name.path))) c.as_str.ensures.value c.in_err-validate_member.ensures.invalid)
+    (subst (λ n. IfInvalid c.in_err-validate_member.field-0.0 (IsTold ((member_means g.N.Means.means (named c.args.properties.now) n (view c.in-Some.value.now)).accepts c.loop-name.ctx.answer) (member_first g.N.Errors.first c.loop-name.ctx.answer (named c.args.properties.now) n (view c.in-Some.value.now) c.loop-name.path) (member_finds g.N.Errors.finds c.loop-name.ctx.answer (named c.args.properties.now) n (view c.in-Some.value.now) c.loop-name.path))) c.as_str.ensures.value c.in_err-validate_member.ensures.invalid)
     (passing_told c.loop-name.invariant (next_member _ _ c.in-Some.ensures.steps))

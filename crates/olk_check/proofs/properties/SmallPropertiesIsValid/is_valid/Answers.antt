@@ -7,4 +7,4 @@ use Rattle.olk_check.proofs.MemberWalks.{declared_nothing}
 use Rattle.olk_check.proofs.properties.SmallPropertiesIsValid.is_valid.Goals as goal
 
 pub returns-in-None : goal.returns-in-None
-returns-in-None g c = subst (λ q. Asks c.args.ctx.now c.args.ctx.now q true) (sym (declared_nothing g.N.IsValid.means (named c.args.self.now.properties) (tree_of c.args.node) c.in-None.ensures)) (unasked c.args.ctx.now true)
+returns-in-None g c = subst (λ q. Asks c.args.ctx.now c.args.ctx.now q true) (sym (declared_nothing g.N.Means.means (named c.args.self.now.properties) (tree_of c.args.node) c.in-None.ensures)) (unasked c.args.ctx.now true)

@@ -11,5 +11,5 @@ use Rattle.olk_check.proofs.properties.SmallPropertiesWithRequired2IsValid.is_va
 
 pub returns-in-None : goal.returns-in-None
 returns-in-None g c = subst (λ q. Asks c.args.ctx.now c.args.ctx.now q true)
-    (sym ((λ i. both (always (lacks_nothing (two_texts c.args.self.now.first c.args.self.now.second) (tree_of c.args.node) c.in-None.ensures i)) (declared_nothing g.N.IsValid.means (named c.args.self.now.properties) (tree_of c.args.node) c.in-None.ensures i)) ∙ both_last (always true)))
+    (sym ((λ i. both (always (lacks_nothing (two_texts c.args.self.now.first c.args.self.now.second) (tree_of c.args.node) c.in-None.ensures i)) (declared_nothing g.N.Means.means (named c.args.self.now.properties) (tree_of c.args.node) c.in-None.ensures i)) ∙ both_last (always true)))
     (unasked c.args.ctx.now true)

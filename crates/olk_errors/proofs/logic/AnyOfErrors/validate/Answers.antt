@@ -1,5 +1,4 @@
-use Rattle.std.proofs.Common.{map, not, refl, sym, ap, ◌∙◌}
-use mathlib.Core.Path.{subst₂}
+use Rattle.std.proofs.Common.{map, not, refl, sym, ap, subst}
 use Rattle.olk_base.specs.Nodes.{tree_of}
 use Rattle.olk_spec.specs.Faults.{AnyOf, context}
 use Rattle.olk_reports.proofs.Errors.{kind_of_any_of, context_faults}
@@ -8,8 +7,8 @@ use Rattle.olk_errors.proofs.Appending.{told_so}
 use Rattle.olk_errors.proofs.Own.{own_passes, own_told, like_at, any_of_like}
 use Rattle.olk_errors.proofs.logic.AnyOfErrors.validate.Goals as goal
 
-pub returns-then-accepted-clause-ok : goal.returns-then-accepted-clause-ok
-returns-then-accepted-clause-ok g c = own_passes (AnyOf (context (map (λ n. g.N.Errors.finds n c.args.ctx.now.answer (tree_of c.args.node) c.args.path.now) c.args.self.now.schemas.items))) (tree_of c.args.node) c.args.self.now.location c.args.path.now (sym c.in_ok-accepted.ensures.verdict ∙ c.if-accepted.true) (ap not (sym c.in_ok-accepted.ensures.verdict ∙ c.if-accepted.true))
+pub returns-then-is_valid-clause-ok : goal.returns-then-is_valid-clause-ok
+returns-then-is_valid-clause-ok g c = own_passes (AnyOf (context (map (λ n. g.N.Errors.finds n c.args.ctx.now.answer (tree_of c.args.node) c.args.path.now) c.args.self.now.schemas.items))) (tree_of c.args.node) c.args.self.now.location c.args.path.now (sym c.if-is_valid.ensures.verdict) (ap not (sym c.if-is_valid.ensures.verdict))
 
 pub returns-clause-invalid : goal.returns-clause-invalid
-returns-clause-invalid g c = told_so c.refuse.result (own_told (AnyOf (context (map (λ n. g.N.Errors.finds n c.args.ctx.now.answer (tree_of c.args.node) c.args.path.now) c.args.self.now.schemas.items))) (tree_of c.args.node) c.args.self.now.location c.args.path.now (sym c.in_ok-accepted.ensures.verdict ∙ c.if-accepted.false) (ap not (sym c.in_ok-accepted.ensures.verdict ∙ c.if-accepted.false)) refl (like_at (kind_of_any_of c.in_ok-context.context) (any_of_like (context_faults c.in_ok-context.context) (map (λ n. g.N.Errors.finds n c.args.ctx.now.answer (tree_of c.args.node) c.args.path.now) c.args.self.now.schemas.items) (subst₂ (λ u Q. AreLike (context_faults c.in_ok-context.context) (map (λ n. g.N.Errors.finds n u (tree_of c.args.node) Q) c.args.self.now.schemas.items)) c.any_passes.ensures.answer c.any_passes.ensures.path c.in_ok-context.ensures.contexts)) (c.contexts.ensures.path ∙ c.any_passes.ensures.path) c.as_str.ensures)) c.refuse.ensures.invalid
+returns-clause-invalid g c = told_so c.refuse.result (own_told (AnyOf (context (map (λ n. g.N.Errors.finds n c.args.ctx.now.answer (tree_of c.args.node) c.args.path.now) c.args.self.now.schemas.items))) (tree_of c.args.node) c.args.self.now.location c.args.path.now (sym c.if-is_valid.ensures.verdict) (ap not (sym c.if-is_valid.ensures.verdict)) refl (like_at (kind_of_any_of c.in_ok-context.context) (any_of_like (context_faults c.in_ok-context.context) (map (λ n. g.N.Errors.finds n c.args.ctx.now.answer (tree_of c.args.node) c.args.path.now) c.args.self.now.schemas.items) (subst (λ u. AreLike (context_faults c.in_ok-context.context) (map (λ n. g.N.Errors.finds n u (tree_of c.args.node) c.args.path.now) c.args.self.now.schemas.items)) c.if-is_valid.ensures.answer c.in_ok-context.ensures.contexts)) c.contexts.ensures.path c.as_str.ensures)) c.refuse.ensures.invalid

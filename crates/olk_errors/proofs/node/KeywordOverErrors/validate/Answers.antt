@@ -6,6 +6,6 @@ use Rattle.olk_errors.proofs.node.KeywordOverErrors.validate.Goals as goal
 
 pub returns-in-Leaf-clause-invalid : goal.returns-in-Leaf-clause-invalid
 unfolding keyword_means keyword_finds keyword_first
-returns-in-Leaf-clause-invalid g c = subst (λ k. IfErr c.validate_leaf.result (λ e. IfInvalid e (IsTold ((keyword_means g.K.Leaf.finds g.N.Errors.means k (tree_of c.args.node)).accepts c.args.ctx.now.answer)
-    (keyword_first g.K.Leaf.finds g.N.Errors.means g.K.Leaf.keyword_of g.N.Errors.finds c.args.ctx.now.answer g.N.Errors.first k (tree_of c.args.node) c.args.path.now)
-    (keyword_finds g.K.Leaf.finds g.N.Errors.means g.K.Leaf.keyword_of g.N.Errors.finds c.args.ctx.now.answer k (tree_of c.args.node) c.args.path.now)))) (sym c.in-Leaf.is) c.validate_leaf.ensures.invalid
+returns-in-Leaf-clause-invalid g c = subst (λ k. IfErr c.validate_leaf.result (λ e. IfInvalid e (IsTold ((keyword_means g.K.Leaf.finds g.N.Means.means k (tree_of c.args.node)).accepts c.args.ctx.now.answer)
+    (keyword_first g.K.Leaf.finds g.N.Means.means g.K.Leaf.keyword_of g.N.Errors.finds c.args.ctx.now.answer g.N.Errors.first k (tree_of c.args.node) c.args.path.now)
+    (keyword_finds g.K.Leaf.finds g.N.Means.means g.K.Leaf.keyword_of g.N.Errors.finds c.args.ctx.now.answer k (tree_of c.args.node) c.args.path.now)))) (sym c.in-Leaf.is) c.validate_leaf.ensures.invalid

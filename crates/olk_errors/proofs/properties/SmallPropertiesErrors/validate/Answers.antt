@@ -7,6 +7,6 @@ use Rattle.olk_errors.proofs.properties.SmallPropertiesErrors.validate.Goals as 
 
 pub returns-in-None-clause-ok : goal.returns-in-None-clause-ok
 returns-in-None-clause-ok g c = record {
-  verdict = ap (λ q. q.accepts c.args.ctx.now.answer) (declared_nothing g.N.Errors.means (named c.args.self.now.properties) (tree_of c.args.node) c.in-None.ensures);
+  verdict = ap (λ q. q.accepts c.args.ctx.now.answer) (declared_nothing g.N.Means.means (named c.args.self.now.properties) (tree_of c.args.node) c.in-None.ensures);
   nothing = first_nothing g.N.Errors.first c.args.ctx.now.answer (named c.args.self.now.properties) c.args.path.now (tree_of c.args.node) c.in-None.ensures;
 }

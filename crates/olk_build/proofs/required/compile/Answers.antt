@@ -1,0 +1,19 @@
+use Rattle.std.specs.Prelude.{IfOk, IfErr}
+use Rattle.std.proofs.Common.{[], ◌∷◌, codes, refl, subst}
+use Rattle.serde_json.specs.View.{view}
+use Rattle.olk_spec.specs.Names.{◌//◌}
+use Rattle.olk_spec.specs.Vocabulary.{required}
+use Rattle.olk_spec.specs.Costs.{no_cost}
+use Rattle.olk_node.specs.Kit.{kit}
+use Rattle.olk_build.proofs.Spending.{within_nothing}
+use Rattle.olk_build.proofs.Held.{refuses_memory_member}
+use Rattle.olk_build.specs.Building.{HoldsMember, RefusesMember}
+use Rattle.olk_build.proofs.required.compile.Goals as goal
+
+pub returns-in-Ok-clause-gives : goal.returns-in-Ok-clause-gives
+returns-in-Ok-clause-gives g c =
+    subst (λ L. IfOk c.build_required.result (λ x. HoldsMember (kit g.L.Leaf.Leaf g.M.Engine.RegexEngine) (x ∷ []) (codes "required") (view c.args.schema.now) required L c.args.ctx.now.meter.now c.build_required.new.meter) × IfErr c.build_required.result (RefusesMember (kit g.L.Leaf.Leaf g.M.Engine.RegexEngine) (codes "required") (view c.args.schema.now) required L c.args.ctx.now.meter.now c.build_required.new.meter))
+    c.in-Ok.ensures (c.build_required.ensures.built, c.build_required.ensures.refused)
+
+pub returns-in-Err-clause-gives : goal.returns-in-Err-clause-gives
+returns-in-Err-clause-gives g c = (tt, refuses_memory_member (kit g.L.Leaf.Leaf g.M.Engine.RegexEngine) (codes "required") (view c.args.schema.now) required (c.args.ctx.now.place // codes "required") c.args.ctx.now.meter.now c.args.ctx.now.meter.now _ c.in-Err.error refl (within_nothing c.args.ctx.now.meter.now no_cost))

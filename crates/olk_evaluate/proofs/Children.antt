@@ -1,0 +1,102 @@
+-- Children beside those that are wanted.
+use Rattle.std.proofs.Common.{◌≡◌, ℕ, ◌≤◌, Bool, true, false, ◌&&◌, List, [], ◌∷◌, ◌++◌, map, length, drop, Option, None, refl, sym, ap, subst, ◌∙◌}
+use Rattle.std.specs.List.{list_all}
+use Rattle.std.proofs.lemmas.List.{append-nil, drop_all}
+use Rattle.std.proofs.lemmas.Simd.{map-map}
+use Rattle.olk_spec.specs.Names.{Name, Path}
+use Rattle.olk_spec.specs.Tree.{Tree, Trees, node, leaf_node, trees_from, IsLikeTree, AreLikeTrees, AreTold, Described, is_valid, result_node, plain}
+use Rattle.olk_reports.specs.Evaluations.{Shown, shown, node_at}
+use Rattle.serde_json.specs.Data.{Data}
+use Rattle.olk_tree.specs.Questions.{Question, every}
+use Rattle.olk_tree.specs.Shown.{branch_trees}
+use Rattle.olk_evaluate.specs.Wanted.{Wanted, AreShown, wanted, each_wanted}
+
+-- ---- the tree of a result
+
+-- a result that has what is wanted shows the tree that is wanted
+pub like_result : (P Q : Path) (b b' : Bool) (a a' : Option (List Name)) (es es' : List Described) (ts ts' : Trees)
+    → b' ≡ b → a' ≡ a → AreTold es es' → AreLikeTrees ts ts' → IsLikeTree (result_node P Q b a es ts) (result_node P Q b' a' es' ts')
+like_result P Q true true a a' es es' ts ts' valid annotation own below = (refl, refl, refl, annotation, own, below)
+like_result P Q true false a a' es es' ts ts' valid annotation own below = cc
+like_result P Q false true a a' es es' ts ts' valid annotation own below = cc
+like_result P Q false false a a' es es' ts ts' valid annotation own below = (refl, refl, refl, refl, own, below)
+
+valid_result : (P Q : Path) (b : Bool) (a : Option (List Name)) (es : List Described) (ts : Trees) → is_valid (result_node P Q b a es ts) ≡ b
+valid_result P Q true a es ts = refl
+valid_result P Q false a es ts = refl
+
+pub valid_shown : (P Q : Path) (s : Shown) (b : Bool) (a : Option (List Name)) (es : List Described) (ts : List Tree) → s ≡ shown b a es ts → is_valid (node_at P Q s) ≡ b
+valid_shown P Q s b a es ts e = ap (λ r. is_valid (node_at P Q r)) e ∙ valid_result P Q b a es (trees_from ts)
+
+-- ---- children
+
+-- what is like a tree is valid where the tree is
+same_validity : (t u : Tree) → IsLikeTree t u → is_valid u ≡ is_valid t
+same_validity (node P Q b a es ts) (node P' Q' b' a' es' ts') h = h.2
+same_validity (leaf_node P Q es) (node P' Q' b' a' es' ts') h = h.2
+same_validity (node P Q b a es ts) (leaf_node P' Q' es') h = absurd h
+same_validity (leaf_node P Q es) (leaf_node P' Q' es') h = absurd h
+
+abbrev pub trees_wanted : List Wanted → List Tree
+trees_wanted = map (λ w. w.0)
+
+abbrev pub all_wanted : List Wanted → Bool
+all_wanted = list_all (λ w. w.1)
+
+pub like_children : (ws : List Wanted) (ts : List Tree) → AreShown ws ts → AreLikeTrees (trees_from (trees_wanted ws)) (trees_from ts)
+like_children [] [] h = tt
+like_children [] (t ∷ ts) h = absurd h
+like_children (w ∷ ws) [] h = absurd h
+like_children (w ∷ ws) (t ∷ ts) h = (h.0.like, like_children ws ts h.1)
+
+pub all_valid : (ws : List Wanted) (ts : List Tree) → AreShown ws ts → list_all is_valid ts ≡ all_wanted ws
+all_valid [] [] h = refl
+all_valid [] (t ∷ ts) h = absurd h
+all_valid (w ∷ ws) [] h = absurd h
+all_valid (w ∷ ws) (t ∷ ts) h = λ i. h.0.verdict i && all_valid ws ts h.1 i
+
+pub all_wanted_valid : (ws : List Wanted) (ts : List Tree) → AreShown ws ts → list_all is_valid ts ≡ list_all is_valid (trees_wanted ws)
+all_wanted_valid [] [] h = refl
+all_wanted_valid [] (t ∷ ts) h = absurd h
+all_wanted_valid (w ∷ ws) [] h = absurd h
+all_wanted_valid (w ∷ ws) (t ∷ ts) h = λ i. same_validity w.0 t h.0.like i && all_wanted_valid ws ts h.1 i
+
+-- ---- one child after another
+
+-- the children so far, and those of what is left, are all
+pub record ShownFrom (all left : List Wanted) (ts : List Tree) : Type 0 where
+  pub goes_on : (more : List Tree) → AreShown left more → AreShown all (ts ++ more)
+
+module _ {all : List Wanted} where
+  pub shown_end : {left : List Wanted} {ts : List Tree} → ShownFrom all left ts → left ≡ [] → AreShown all ts
+  shown_end {ts = ts} h e = subst (AreShown all) (append-nil ts) (h.goes_on [] (subst (λ ws. AreShown ws []) (sym e) tt))
+
+pub none_left : {X : Type 0} (g : X → Wanted) (xs ys : List X) (i : ℕ) → ys ≡ xs → length ys ≤ i → map g (drop i xs) ≡ []
+none_left g xs ys i same le = ap (map g) (drop_all i xs (subst (λ zs. length zs ≤ i) same le))
+
+-- ---- results of children
+
+module _ (P Q : Path) (ws : List Wanted) {cs : List Tree} {s : Shown} where
+  -- valid exactly if all children are
+  pub plain_like : (ts : List Tree) → trees_wanted ws ≡ ts → AreShown ws cs → s ≡ shown (list_all is_valid cs) None [] cs → IsLikeTree (plain P Q ts) (node_at P Q s)
+  plain_like ts same h e = subst (λ r. IsLikeTree (plain P Q ts) (node_at P Q r)) (sym e) (subst (λ us. IsLikeTree (plain P Q us) (node_at P Q (shown (list_all is_valid cs) None [] cs))) same
+      (like_result P Q (list_all is_valid (trees_wanted ws)) (list_all is_valid cs) None None [] [] (trees_from (trees_wanted ws)) (trees_from cs) (all_wanted_valid ws cs h) refl tt (like_children ws cs h)))
+
+  pub plain_verdict : (b : Bool) → all_wanted ws ≡ b → AreShown ws cs → s ≡ shown (list_all is_valid cs) None [] cs → is_valid (node_at P Q s) ≡ b
+  plain_verdict b same h e = valid_shown P Q s (list_all is_valid cs) None [] cs e ∙ all_valid ws cs h ∙ same
+
+module _ {N : Type 0} (t : N → Bool → Data → Path → Tree) (m : N → Data → Question) (u : Bool) (v : Data) (P Q : Path) (ns : List N) where
+  pub branches_wanted : trees_wanted (each_wanted t m u ns v Q) ≡ branch_trees (λ n. t n u) v Q ns
+  branches_wanted = map-map (λ w. w.0) (λ n. wanted t m u n v Q) ns
+
+  module _ {cs : List Tree} {s : Shown} where
+    -- a child for each branch
+    pub branches_like : AreShown (each_wanted t m u ns v Q) cs → s ≡ shown (list_all is_valid cs) None [] cs → IsLikeTree (plain P Q (branch_trees (λ n. t n u) v Q ns)) (node_at P Q s)
+    branches_like = plain_like P Q (each_wanted t m u ns v Q) (branch_trees (λ n. t n u) v Q ns) branches_wanted
+
+    pub branches_verdict : AreShown (each_wanted t m u ns v Q) cs → s ≡ shown (list_all is_valid cs) None [] cs → is_valid (node_at P Q s) ≡ (every (λ n. m n v) ns).accepts u
+    branches_verdict = plain_verdict P Q (each_wanted t m u ns v Q) ((every (λ n. m n v) ns).accepts u) (every_wanted ns)
+      where
+        every_wanted : (ns : List N) → all_wanted (each_wanted t m u ns v Q) ≡ (every (λ n. m n v) ns).accepts u
+        every_wanted [] = refl
+        every_wanted (n ∷ ns) = ap (λ b. (m n v).accepts u && b) (every_wanted ns)

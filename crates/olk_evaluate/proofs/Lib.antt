@@ -1,0 +1,4 @@
+pub mod Children
+pub mod OwnErrors
+pub mod Branches
+pub mod Members

@@ -1,0 +1,61 @@
+//! `allOf`.
+use crate::walk::{child, each_child};
+use crate::{Evaluate, Located};
+use olk_base::{Node, ValidationContext};
+use olk_reports::{EvaluationResult, InstancePath};
+use olk_tree::all_of::{AllOf, SingleValueAllOf};
+use std::alloc::{AllocError, Global};
+
+impl<N> Located for AllOf<N> {
+    ghost place = { λ k. k.location };
+
+    fn location(&self) -> &str {
+        self.location.as_str()
+    }
+}
+
+/// A child for each branch (JSON Schema 2020-12 Core, 10.2.1.1).
+impl<'a, N: Evaluate<'a>> Evaluate<'a> for AllOf<N> {
+    ghost use Rattle.olk_spec.specs.Tree.{plain};
+    ghost use Rattle.olk_tree.specs.Shown.{branch_trees};
+
+    ghost shows = { λ k u v Q. plain k.location Q (branch_trees (λ n. N.shows n u) v Q k.schemas.items) };
+
+    fn evaluate(
+        &'a self,
+        alloc: Global,
+        node: Node<'a>,
+        path: &mut InstancePath,
+        ctx: &mut ValidationContext,
+    ) -> Result<EvaluationResult<'a>, AllocError> {
+        let children = each_child(&self.schemas, alloc, node, path, ctx)?;
+        Ok(EvaluationResult::from_children(alloc, children))
+    }
+}
+
+impl<N> Located for SingleValueAllOf<N> {
+    ghost place = { λ k. k.location };
+
+    fn location(&self) -> &str {
+        self.location.as_str()
+    }
+}
+
+/// A child for the branch.
+impl<'a, N: Evaluate<'a>> Evaluate<'a> for SingleValueAllOf<N> {
+    ghost use Rattle.std.specs.Prelude.{[], ◌∷◌};
+    ghost use Rattle.olk_spec.specs.Tree.{plain};
+    ghost use Rattle.olk_tree.specs.Shown.{branch_trees};
+
+    ghost shows = { λ k u v Q. plain k.location Q (branch_trees (λ n. N.shows n u) v Q (k.node ∷ [])) };
+
+    fn evaluate(
+        &'a self,
+        alloc: Global,
+        node: Node<'a>,
+        path: &mut InstancePath,
+        ctx: &mut ValidationContext,
+    ) -> Result<EvaluationResult<'a>, AllocError> {
+        Ok(EvaluationResult::from_node(alloc, child(&self.node, alloc, node, path, ctx)?)?)
+    }
+}

@@ -1,0 +1,91 @@
+//! `anyOf`.
+ghost use Rattle.std.specs.Prelude.{◌≡◌, IfOk};
+ghost use Rattle.olk_base.specs.Nodes.{tree_of};
+ghost use Rattle.olk_spec.specs.Names.{those};
+ghost use Rattle.olk_evaluate.specs.Wanted.{AreShown, each_wanted, trees_of};
+
+use crate::walk::{child, each_child};
+use crate::{Evaluate, Located};
+use olk_base::{Node, ValidationContext};
+use olk_check::IsValid;
+use olk_reports::{EvaluationNode, EvaluationResult, InstancePath};
+use olk_tree::any_of::{AnyOf, SingleAnyOf};
+use std::alloc::{AllocError, Global};
+
+impl<N> Located for AnyOf<N> {
+    ghost place = { λ k. k.location };
+
+    fn location(&self) -> &str {
+        self.location.as_str()
+    }
+}
+
+/// A child for each branch that accepts; where there is none, a child for each branch (JSON Schema 2020-12 Core,
+/// 10.2.1.2).
+impl<'a, N: Evaluate<'a>> Evaluate<'a> for AnyOf<N> {
+    ghost use Rattle.olk_tree.specs.Shown.{any_of_tree};
+
+    ghost shows = { λ k u v Q. any_of_tree (λ n. N.shows n u) v Q (λ n. (N.means n v).accepts u) k.location k.schemas.items };
+
+    fn evaluate(
+        &'a self,
+        alloc: Global,
+        node: Node<'a>,
+        path: &mut InstancePath,
+        ctx: &mut ValidationContext,
+    ) -> Result<EvaluationResult<'a>, AllocError> {
+        let accepting = accepting_children(&self.schemas, alloc, node, path, ctx)?;
+        if accepting.is_empty() {
+            let children = each_child(&self.schemas, alloc, node, path, ctx)?;
+            return Ok(EvaluationResult::invalid_with(alloc, children));
+        }
+        Ok(EvaluationResult::from_children(alloc, accepting))
+    }
+}
+
+impl<N> Located for SingleAnyOf<N> {
+    ghost place = { λ k. k.location };
+
+    fn location(&self) -> &str {
+        self.location.as_str()
+    }
+}
+
+/// A child for the branch.
+impl<'a, N: Evaluate<'a>> Evaluate<'a> for SingleAnyOf<N> {
+    ghost use Rattle.std.specs.Prelude.{[], ◌∷◌};
+    ghost use Rattle.olk_tree.specs.Shown.{any_of_tree};
+
+    ghost shows = { λ k u v Q. any_of_tree (λ n. N.shows n u) v Q (λ n. (N.means n v).accepts u) k.location (k.node ∷ []) };
+
+    fn evaluate(
+        &'a self,
+        alloc: Global,
+        node: Node<'a>,
+        path: &mut InstancePath,
+        ctx: &mut ValidationContext,
+    ) -> Result<EvaluationResult<'a>, AllocError> {
+        Ok(EvaluationResult::from_node(alloc, child(&self.node, alloc, node, path, ctx)?)?)
+    }
+}
+
+// What each branch shows that accepts; nothing is built for the others.
+fn accepting_children<'a, N: Evaluate<'a>>(
+    schemas: &'a Vec<N>,
+    alloc: Global,
+    node: Node<'a>,
+    path: &mut InstancePath,
+    ctx: &mut ValidationContext,
+) -> Result<Vec<EvaluationNode<'a>>, AllocError>
+    ensures shown { IfOk result (λ cs. AreShown (those (λ w. w.1) (each_wanted N.shows N.means ctx.old.answer schemas.now.items (tree_of node.entry) path.old)) (trees_of cs.items)) }
+    ensures path { path.new ≡ path.old }
+    ensures answer { ctx.new.answer ≡ ctx.old.answer }
+{
+    let mut children = Vec::new(alloc);
+    for schema in schemas {
+        if schema.is_valid(node, ctx) {
+            children.push(child(schema, alloc, node, path, ctx)?)?;
+        }
+    }
+    Ok(children)
+}

@@ -1,0 +1,60 @@
+//! What a schema shows of a value.
+#![tactic(auto)]
+
+ghost use Rattle.serde_json.specs.Data.{Data};
+
+use olk_base::{Node, ValidationContext};
+use olk_check::IsValid;
+use olk_reports::{EvaluationResult, InstancePath};
+use std::alloc::{AllocError, Global};
+
+/// What stands at a place of a schema.
+pub trait Located {
+    ghost use Rattle.std.specs.Prelude.{◌≡◌};
+    ghost use Rattle.olk_spec.specs.Names.{Path};
+
+    ghost place: { Self → Path };
+
+    /// The place, a JSON pointer (RFC 6901).
+    fn location(&self) -> &str
+        ensures { result.now ≡ place self.now };
+}
+
+/// What can be asked what it shows of a value. What it shows stands at its place.
+pub trait Evaluate<'a>: Located + IsValid {
+    ghost use Rattle.std.specs.Prelude.{◌≡◌, Bool, IfOk};
+    ghost use Rattle.olk_base.specs.Nodes.{tree_of};
+    ghost use Rattle.olk_spec.specs.Names.{Path};
+    ghost use Rattle.olk_spec.specs.Tree.{Tree, IsLikeTree, is_valid};
+    ghost use Rattle.olk_reports.specs.Evaluations.{node_at, shown_of};
+
+    // the tree that it shows of a value, with either answer for unfinished matches
+    ghost shows: { Self → Bool → Data → Path → Tree };
+
+    /// What it shows of the node: the validity, an annotation, errors of its own and the nodes below, in order
+    /// (JSON Schema 2020-12 Core, 7.7 and 12).
+    ///
+    /// The path is left as it was, and the context keeps its answer. The only error is want of memory.
+    fn evaluate(
+        &'a self,
+        alloc: Global,
+        node: Node<'a>,
+        path: &mut InstancePath,
+        ctx: &mut ValidationContext,
+    ) -> Result<EvaluationResult<'a>, AllocError>
+        ensures shows { IfOk result (λ r. IsLikeTree (shows self.now ctx.old.answer (tree_of node.entry) path.old) (node_at (Self.place self.now) path.old (shown_of r))) }
+        ensures verdict { IfOk result (λ r. is_valid (node_at (Self.place self.now) path.old (shown_of r)) ≡ (Self.means self.now (tree_of node.entry)).accepts ctx.old.answer) }
+        ensures path { path.new ≡ path.old }
+        ensures answer { ctx.new.answer ≡ ctx.old.answer };
+}
+
+mod all_of;
+mod any_of;
+pub mod node;
+mod not;
+mod own;
+mod properties;
+mod required;
+mod walk;
+
+pub use walk::child;

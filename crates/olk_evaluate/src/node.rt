@@ -1,0 +1,107 @@
+//! Keywords and bodies.
+ghost use Rattle.std.specs.Prelude.{◌≡◌, IfOk};
+ghost use Rattle.olk_base.specs.Nodes.{tree_of};
+ghost use Rattle.olk_spec.specs.Tree.{IsLikeTree, is_valid};
+ghost use Rattle.olk_reports.specs.Evaluations.{node_at, shown_of};
+ghost use Rattle.olk_tree.specs.Answers.{body_means, body_shows};
+ghost use Rattle.olk_evaluate.specs.Wanted.{HasTexts};
+
+use crate::own::one_error;
+use crate::walk::each_child;
+use crate::{Evaluate, Located};
+use olk_base::{Leaf, Node, ValidationContext};
+use olk_reports::{ErrorDescription, EvaluationResult, InstancePath, ValidationErrorKind};
+use olk_tree::node::{Body, KeywordOver};
+use std::alloc::{AllocError, Global};
+
+impl<K, N> Located for KeywordOver<K, N> {
+    ghost use Rattle.olk_evaluate.specs.Keywords.{keyword_place};
+
+    ghost place = { keyword_place };
+
+    #[tactic(auto, unfolding(crate::specs::Keywords::keyword_place))]
+    fn location(&self) -> &str {
+        match self {
+            KeywordOver::Properties(keyword) => keyword.location(),
+            KeywordOver::PropertiesWithRequired2(keyword) => keyword.location(),
+            KeywordOver::Required(keyword) => keyword.location(),
+            KeywordOver::AllOf(keyword) => keyword.location(),
+            KeywordOver::SingleValueAllOf(keyword) => keyword.location(),
+            KeywordOver::AnyOf(keyword) => keyword.location(),
+            KeywordOver::SingleAnyOf(keyword) => keyword.location(),
+            KeywordOver::Not(keyword) => keyword.location(),
+            KeywordOver::Leaf(location, _) => location.as_str(),
+        }
+    }
+}
+
+/// What the keyword shows.
+impl<'a, K: Leaf, N: Evaluate<'a>> Evaluate<'a> for KeywordOver<K, N> {
+    ghost use Rattle.olk_tree.specs.Answers.{keyword_shows};
+    ghost use Rattle.olk_tree.specs.Answers.{keyword_means};
+
+    ghost shows = { λ k u. keyword_shows K.finds N.means K.keyword_of N.shows u k };
+
+    #[tactic(auto, unfolding(olk_tree::specs::Answers::keyword_shows, crate::specs::Keywords::keyword_place, olk_tree::specs::Answers::keyword_means))]
+    fn evaluate(
+        &'a self,
+        alloc: Global,
+        node: Node<'a>,
+        path: &mut InstancePath,
+        ctx: &mut ValidationContext,
+    ) -> Result<EvaluationResult<'a>, AllocError> {
+        match self {
+            KeywordOver::Properties(keyword) => Ok(keyword.evaluate(alloc, node, path, ctx)?),
+            KeywordOver::PropertiesWithRequired2(keyword) => {
+                Ok(keyword.evaluate(alloc, node, path, ctx)?)
+            }
+            KeywordOver::Required(keyword) => Ok(keyword.evaluate(alloc, node, path, ctx)?),
+            KeywordOver::AllOf(keyword) => Ok(keyword.evaluate(alloc, node, path, ctx)?),
+            KeywordOver::SingleValueAllOf(keyword) => Ok(keyword.evaluate(alloc, node, path, ctx)?),
+            KeywordOver::AnyOf(keyword) => Ok(keyword.evaluate(alloc, node, path, ctx)?),
+            KeywordOver::SingleAnyOf(keyword) => Ok(keyword.evaluate(alloc, node, path, ctx)?),
+            KeywordOver::Not(keyword) => Ok(keyword.evaluate(alloc, node, path, ctx)?),
+            KeywordOver::Leaf(_, leaf) => Ok(leaf_errors(leaf, alloc, node)?),
+        }
+    }
+}
+
+// The texts of a leaf as errors.
+fn leaf_errors<'a, K: Leaf>(
+    leaf: &'a K,
+    alloc: Global,
+    node: Node<'a>,
+) -> Result<EvaluationResult<'a>, AllocError>
+    ensures { IfOk result (λ r. HasTexts (K.keyword_of leaf.now) (K.finds leaf.now (tree_of node.entry)) (shown_of r)) }
+{
+    let mut outcome = EvaluationResult::valid_empty(alloc);
+    for text in leaf.evaluate(alloc, node)? {
+        outcome.mark_errored(ErrorDescription::new(leaf.keyword(), text))?;
+    }
+    Ok(outcome)
+}
+
+/// What a body shows at its place: nothing where the schema is true, an error where it is false, and otherwise a child
+/// for each keyword.
+pub fn evaluate_body<'a, W: Evaluate<'a>>(
+    body: &'a Body<W>,
+    location: &'a str,
+    alloc: Global,
+    node: Node<'a>,
+    path: &mut InstancePath,
+    ctx: &mut ValidationContext,
+) -> Result<EvaluationResult<'a>, AllocError>
+    ensures shows { IfOk result (λ r. IsLikeTree (body_shows (λ k. W.shows k ctx.old.answer) location.now body.now (tree_of node.entry) path.old) (node_at location.now path.old (shown_of r))) }
+    ensures verdict { IfOk result (λ r. is_valid (node_at location.now path.old (shown_of r)) ≡ (body_means W.means body.now (tree_of node.entry)).accepts ctx.old.answer) }
+    ensures path { path.new ≡ path.old }
+    ensures answer { ctx.new.answer ≡ ctx.old.answer }
+{
+    match body {
+        Body::True => Ok(EvaluationResult::valid_empty(alloc)),
+        Body::False => Ok(one_error(alloc, ValidationErrorKind::FalseSchema, node)?),
+        Body::Keywords(keywords) => {
+            let children = each_child(keywords, alloc, node, path, ctx)?;
+            Ok(EvaluationResult::from_children(alloc, children))
+        }
+    }
+}

@@ -1,0 +1,43 @@
+//! `not`.
+use crate::own::one_error;
+use crate::{Evaluate, Located};
+use olk_base::{Node, ValidationContext};
+use olk_check::IsValid;
+use olk_reports::{EvaluationResult, InstancePath, ValidationErrorKind};
+use olk_tree::not::Not;
+use std::alloc::{AllocError, Global};
+
+impl<N> Located for Not<N> {
+    ghost place = { λ k. k.location };
+
+    fn location(&self) -> &str {
+        self.location.as_str()
+    }
+}
+
+/// An error of its own where the subschema accepts; what the subschema shows is left out (JSON Schema 2020-12 Core,
+/// 10.2.1.4).
+impl<'a, N: Evaluate<'a>> Evaluate<'a> for Not<N> {
+    ghost use Rattle.serde_json.specs.View.{view};
+    ghost use Rattle.olk_spec.specs.Faults.{Not as Refuses};
+    ghost use Rattle.olk_spec.specs.Reports.{fault_if};
+    ghost use Rattle.olk_spec.specs.Tree.{erring};
+
+    ghost shows = { λ k u v Q. erring k.location Q (fault_if ((N.means k.node v).accepts u) (Refuses (view k.original)) v k.location Q) };
+
+    fn evaluate(
+        &'a self,
+        alloc: Global,
+        node: Node<'a>,
+        _path: &mut InstancePath,
+        ctx: &mut ValidationContext,
+    ) -> Result<EvaluationResult<'a>, AllocError> {
+        if !self.node.is_valid(node, ctx) {
+            return Ok(EvaluationResult::valid_empty(alloc));
+        }
+        let kind = ValidationErrorKind::Not {
+            schema: &self.original,
+        };
+        Ok(one_error(alloc, kind, node)?)
+    }
+}

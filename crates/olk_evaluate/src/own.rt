@@ -1,0 +1,70 @@
+// The errors that a keyword shows itself.
+ghost use Rattle.std.specs.Prelude.{◌≡◌, ◌++◌, ◌∷◌, [], List, IfOk, OnOk};
+ghost use Rattle.olk_base.specs.Nodes.{tree_of};
+ghost use Rattle.olk_spec.specs.Names.{Path};
+ghost use Rattle.olk_spec.specs.Faults.{Fault, fault};
+ghost use Rattle.olk_spec.specs.Texts.{keyword as keyword_name};
+ghost use Rattle.olk_reports.specs.Errors.{kind_of, fault_of};
+ghost use Rattle.olk_reports.specs.Evaluations.{described_of, shown_of};
+ghost use Rattle.olk_evaluate.specs.Wanted.{HasErrors, IsTold};
+
+use olk_base::Node;
+use olk_reports::{ErrorDescription, EvaluationResult, ValidationError, ValidationErrorKind};
+use std::alloc::{AllocError, Global};
+
+// The name of the keyword that finds errors of this kind; none of an error of building.
+#[tactic(auto, using(olk_reports::proofs::Errors::kinds))]
+fn keyword<'a>(kind: &ValidationErrorKind<'a>) -> &'a str
+    ensures { result.now ≡ keyword_name (kind_of kind.now) }
+{
+    match kind {
+        ValidationErrorKind::AdditionalProperties { unexpected: _ } => "additionalProperties",
+        ValidationErrorKind::AnyOf { context: _ } => "anyOf",
+        ValidationErrorKind::OneOfNotValid { context: _ } => "oneOf",
+        ValidationErrorKind::OneOfMultipleValid { context: _ } => "oneOf",
+        ValidationErrorKind::Not { schema: _ } => "not",
+        ValidationErrorKind::Required { property: _ } => "required",
+        ValidationErrorKind::FalseSchema => "falseSchema",
+        ValidationErrorKind::PropertyNames { error: _ } => "propertyNames",
+        ValidationErrorKind::Leaf { keyword, text: _ } => keyword,
+        _ => "",
+    }
+}
+
+// The error as an evaluation shows it.
+fn describe<'a>(
+    alloc: Global,
+    error: ValidationError<'a>,
+) -> Result<ErrorDescription<'a>, AllocError>
+    ensures { IfOk result (λ e. IsTold (fault_of error.entry) (described_of e)) }
+{
+    let message = error.message(alloc)?;
+    Ok(ErrorDescription::new(keyword(error.kind()), message))
+}
+
+// Adds an error of its own about the node. An error is shown without its places, so none are asked for.
+pub(crate) fn mark<'a>(
+    outcome: &mut EvaluationResult<'a>,
+    alloc: Global,
+    kind: ValidationErrorKind<'a>,
+    node: Node<'a>,
+) -> Result<(), AllocError>
+    ensures { OnOk result ((before : List Fault) (P Q : Path) → HasErrors before (shown_of outcome.old) → HasErrors (before ++ fault (kind_of kind.entry) (tree_of node.entry) Q P ∷ []) (shown_of outcome.new)) }
+{
+    let error = ValidationError::new(kind, node, String::new(alloc), "");
+    outcome.mark_errored(describe(alloc, error)?)?;
+    Ok(())
+}
+
+// One error of its own about the node, and nothing else.
+pub(crate) fn one_error<'a>(
+    alloc: Global,
+    kind: ValidationErrorKind<'a>,
+    node: Node<'a>,
+) -> Result<EvaluationResult<'a>, AllocError>
+    ensures { IfOk result (λ r. (P Q : Path) → HasErrors (fault (kind_of kind.entry) (tree_of node.entry) Q P ∷ []) (shown_of r)) }
+{
+    let mut outcome = EvaluationResult::valid_empty(alloc);
+    mark(&mut outcome, alloc, kind, node)?;
+    Ok(outcome)
+}

@@ -1,0 +1,46 @@
+// What the nodes of a keyword show.
+ghost use Rattle.std.specs.Prelude.{◌≡◌, IfOk};
+ghost use Rattle.olk_base.specs.Nodes.{tree_of};
+ghost use Rattle.olk_reports.specs.Evaluations.{tree_of as shown_tree};
+ghost use Rattle.olk_evaluate.specs.Wanted.{IsShown, AreShown, wanted, each_wanted, trees_of};
+
+use crate::Evaluate;
+use olk_base::{Node, ValidationContext};
+use olk_reports::{EvaluationNode, InstancePath};
+use std::alloc::{AllocError, Global};
+
+/// What one node shows, at its place and at the path.
+pub fn child<'a, N: Evaluate<'a>>(
+    schema: &'a N,
+    alloc: Global,
+    node: Node<'a>,
+    path: &mut InstancePath,
+    ctx: &mut ValidationContext,
+) -> Result<EvaluationNode<'a>, AllocError>
+    ensures shown { IfOk result (λ c. IsShown (wanted N.shows N.means ctx.old.answer schema.now (tree_of node.entry) path.old) (shown_tree c)) }
+    ensures path { path.new ≡ path.old }
+    ensures answer { ctx.new.answer ≡ ctx.old.answer }
+{
+    let outcome = schema.evaluate(alloc, node, path, ctx)?;
+    let text = String::from_str(alloc, path.as_str())?;
+    Ok(EvaluationNode::new(schema.location(), text, outcome))
+}
+
+// What each of them shows.
+pub(crate) fn each_child<'a, N: Evaluate<'a>>(
+    schemas: &'a Vec<N>,
+    alloc: Global,
+    node: Node<'a>,
+    path: &mut InstancePath,
+    ctx: &mut ValidationContext,
+) -> Result<Vec<EvaluationNode<'a>>, AllocError>
+    ensures shown { IfOk result (λ cs. AreShown (each_wanted N.shows N.means ctx.old.answer schemas.now.items (tree_of node.entry) path.old) (trees_of cs.items)) }
+    ensures path { path.new ≡ path.old }
+    ensures answer { ctx.new.answer ≡ ctx.old.answer }
+{
+    let mut children = Vec::new(alloc);
+    for schema in schemas {
+        children.push(child(schema, alloc, node, path, ctx)?)?;
+    }
+    Ok(children)
+}

@@ -1,0 +1,117 @@
+-- One level of a node: its answers, over those of the nodes below it.
+use Rattle.std.specs.Prelude.{◌≡◌, [], ◌∷◌, Bool, not, ◌++◌}
+use Rattle.std.specs.List.{flat_map}
+use Rattle.std.proofs.Common.{refl, ap, ◌∙◌}
+use Rattle.serde_json.specs.Data.{Data}
+use Rattle.olk_spec.specs.Names.{Path, ◌//◌, is_empty}
+use Rattle.olk_spec.specs.Faults.{AnyOf, context}
+use Rattle.olk_spec.specs.Schemas.{at}
+use Rattle.olk_spec.specs.Accepts.{missing}
+use Rattle.olk_spec.specs.Reports.{required_faults, fault_if}
+use Rattle.olk_spec.specs.Tree.{plain}
+use Rattle.olk_node.specs.Kit.{Kit}
+use Rattle.olk_tree.specs.Shown.{missing_trees}
+use Rattle.olk_tree.specs.Questions.{always, both, every}
+use Rattle.olk_tree.specs.Answers.{two_texts, or_else, head_of, first_of, keyword_means, body_means, keyword_finds, body_finds, keyword_first, body_first, keyword_shows, body_shows}
+use Rattle.olk_node.specs.Nodes.{Answers, node_step, answers}
+use Rattle.olk_tree.specs.declared.node.KeywordOver.{KeywordOver}
+use Rattle.olk_tree.specs.declared.node.KeywordOver.TheVariants as keyword
+use Rattle.olk_tree.specs.declared.node.Body.{Body}
+use Rattle.olk_tree.specs.declared.node.Body.TheVariants.{True, False, Keywords}
+use Rattle.olk_node.specs.declared.node.SchemaNode.{SchemaNode, map-SchemaNode, out-SchemaNode, fold_out-SchemaNode}
+use Rattle.olk_node.specs.declared.node.SchemaNode.TheOpen.{SchemaNode-F}
+use Rattle.olk_tree.proofs.Maps.{every-map, some-map, every-beside, flat_map-map, flat_map-beside, map-map, first_of-map, first_of-beside, properties_tree-map, branch_trees-map, any_of_tree-map}
+
+module _ {K R : Type 0} (o : Kit K R) where
+  abbrev opened : SchemaNode-F K R (SchemaNode K R) → Body (KeywordOver K (SchemaNode K R)) → SchemaNode-F K R Answers
+  opened n b = map-SchemaNode K R (SchemaNode K R) Answers (answers o) record n { body = b }
+
+  means_layer : (n : SchemaNode-F K R (SchemaNode K R)) (b : Body (KeywordOver K (SchemaNode K R))) (v : Data)
+      → (node_step o (opened n b)).means v ≡ body_means (keyword_means o.finds (λ n. (answers o n).means)) b v
+  unfolding keyword_means
+  means_layer n True v = refl
+  means_layer n False v = refl
+  means_layer n (Keywords ks) v = every-map (λ k. keyword_means o.finds (λ a. a.means) k v) (λ k. keyword_means o.finds (λ n. (answers o n).means) k v) _ (elim [
+    | keyword.Properties k ↦ every-beside (λ e. every e.1.means (at e.0 v)) (λ e. every (answers o e.1).means (at e.0 v)) (answers o) (λ a y. refl) k.properties.names k.properties.nodes.items
+    | keyword.PropertiesWithRequired2 k ↦ ap (both (always (is_empty (missing (two_texts k.first k.second) v)))) (every-beside (λ e. every e.1.means (at e.0 v)) (λ e. every (answers o e.1).means (at e.0 v)) (answers o) (λ a y. refl) k.properties.names k.properties.nodes.items)
+    | keyword.Required k ↦ refl
+    | keyword.AllOf k ↦ every-map (λ a. a.means v) (λ n. (answers o n).means v) (answers o) (λ n. refl) k.schemas.items
+    | keyword.SingleValueAllOf k ↦ refl
+    | keyword.AnyOf k ↦ some-map (λ a. a.means v) (λ n. (answers o n).means v) (answers o) (λ n. refl) k.schemas.items
+    | keyword.SingleAnyOf k ↦ refl
+    | keyword.Not k ↦ refl
+    | keyword.Leaf p l ↦ refl
+  ]) ks.items
+
+  finds_layer : (n : SchemaNode-F K R (SchemaNode K R)) (b : Body (KeywordOver K (SchemaNode K R))) (u : Bool) (v : Data) (Q : Path)
+      → (node_step o (opened n b)).report u v Q ≡ body_finds (keyword_finds o.finds (λ n. (answers o n).means) o.keyword_of (λ n. (answers o n).report) u) n.location b v Q
+  unfolding keyword_finds
+  finds_layer n True u v Q = refl
+  finds_layer n False u v Q = refl
+  finds_layer n (Keywords ks) u v Q = flat_map-map (λ k. keyword_finds o.finds (λ a. a.means) o.keyword_of (λ a. a.report) u k v Q) (λ k. keyword_finds o.finds (λ n. (answers o n).means) o.keyword_of (λ n. (answers o n).report) u k v Q) _ (elim [
+    | keyword.Properties k ↦ flat_map-beside (λ e. flat_map (λ x. e.1.report u x (Q // e.0)) (at e.0 v)) (λ e. flat_map (λ x. (answers o e.1).report u x (Q // e.0)) (at e.0 v)) (answers o) (λ a y. refl) k.properties.names k.properties.nodes.items
+    | keyword.PropertiesWithRequired2 k ↦ ap (λ fs. required_faults (two_texts k.first k.second) v k.required_location Q ++ fs) (flat_map-beside (λ e. flat_map (λ x. e.1.report u x (Q // e.0)) (at e.0 v)) (λ e. flat_map (λ x. (answers o e.1).report u x (Q // e.0)) (at e.0 v)) (answers o) (λ a y. refl) k.properties.names k.properties.nodes.items)
+    | keyword.Required k ↦ refl
+    | keyword.AllOf k ↦ flat_map-map (λ a. a.report u v Q) (λ n. (answers o n).report u v Q) (answers o) (λ n. refl) k.schemas.items
+    | keyword.SingleValueAllOf k ↦ refl
+    | keyword.AnyOf k ↦ λ i. fault_if (not ((some-map (λ a. a.means v) (λ n. (answers o n).means v) (answers o) (λ n. refl) k.schemas.items i).accepts u)) (AnyOf (context (map-map (λ a. a.report u v Q) (λ n. (answers o n).report u v Q) (answers o) (λ n. refl) k.schemas.items i))) v k.location Q
+    | keyword.SingleAnyOf k ↦ refl
+    | keyword.Not k ↦ refl
+    | keyword.Leaf p l ↦ refl
+  ]) ks.items
+
+  first_layer : (n : SchemaNode-F K R (SchemaNode K R)) (b : Body (KeywordOver K (SchemaNode K R))) (u : Bool) (v : Data) (Q : Path)
+      → (node_step o (opened n b)).first u v Q ≡ body_first (keyword_first o.finds (λ n. (answers o n).means) o.keyword_of (λ n. (answers o n).report) u (λ n. (answers o n).first)) n.location b v Q
+  unfolding keyword_first
+  first_layer n True u v Q = refl
+  first_layer n False u v Q = refl
+  first_layer n (Keywords ks) u v Q = first_of-map (λ k. keyword_first o.finds (λ a. a.means) o.keyword_of (λ a. a.report) u (λ a. a.first) k v Q) (λ k. keyword_first o.finds (λ n. (answers o n).means) o.keyword_of (λ n. (answers o n).report) u (λ n. (answers o n).first) k v Q) _ (elim [
+    | keyword.Properties k ↦ first_of-beside (λ e. first_of (λ x. e.1.first u x (Q // e.0)) (at e.0 v)) (λ e. first_of (λ x. (answers o e.1).first u x (Q // e.0)) (at e.0 v)) (answers o) (λ a y. refl) k.properties.names k.properties.nodes.items
+    | keyword.PropertiesWithRequired2 k ↦ ap (or_else (head_of (required_faults (two_texts k.first k.second) v k.required_location Q))) (first_of-beside (λ e. first_of (λ x. e.1.first u x (Q // e.0)) (at e.0 v)) (λ e. first_of (λ x. (answers o e.1).first u x (Q // e.0)) (at e.0 v)) (answers o) (λ a y. refl) k.properties.names k.properties.nodes.items)
+    | keyword.Required k ↦ refl
+    | keyword.AllOf k ↦ first_of-map (λ a. a.first u v Q) (λ n. (answers o n).first u v Q) (answers o) (λ n. refl) k.schemas.items
+    | keyword.SingleValueAllOf k ↦ refl
+    | keyword.AnyOf k ↦ λ i. fault_if (not ((some-map (λ a. a.means v) (λ n. (answers o n).means v) (answers o) (λ n. refl) k.schemas.items i).accepts u)) (AnyOf (context (map-map (λ a. a.report u v Q) (λ n. (answers o n).report u v Q) (answers o) (λ n. refl) k.schemas.items i))) v k.location Q
+    | keyword.SingleAnyOf k ↦ refl
+    | keyword.Not k ↦ refl
+    | keyword.Leaf p l ↦ refl
+  ]) ks.items
+
+  shows_layer : (n : SchemaNode-F K R (SchemaNode K R)) (b : Body (KeywordOver K (SchemaNode K R))) (u : Bool) (v : Data) (Q : Path)
+      → (node_step o (opened n b)).tree u v Q ≡ body_shows (keyword_shows o.finds (λ n. (answers o n).means) o.keyword_of (λ n. (answers o n).tree) u) n.location b v Q
+  unfolding keyword_shows
+  shows_layer n True u v Q = refl
+  shows_layer n False u v Q = refl
+  shows_layer n (Keywords ks) u v Q = ap (plain n.location Q) (map-map (λ k. keyword_shows o.finds (λ a. a.means) o.keyword_of (λ a. a.tree) u k v Q) (λ k. keyword_shows o.finds (λ n. (answers o n).means) o.keyword_of (λ n. (answers o n).tree) u k v Q) _ (elim [
+    | keyword.Properties k ↦ properties_tree-map (λ a. a.tree u) (λ n. (answers o n).tree u) (answers o) (λ y w R. refl) v Q k.location k.properties.names k.properties.nodes.items []
+    | keyword.PropertiesWithRequired2 k ↦ properties_tree-map (λ a. a.tree u) (λ n. (answers o n).tree u) (answers o) (λ y w R. refl) v Q k.location k.properties.names k.properties.nodes.items (missing_trees (two_texts k.first k.second) v k.required_location Q)
+    | keyword.Required k ↦ refl
+    | keyword.AllOf k ↦ ap (plain k.location Q) (branch_trees-map (λ a. a.tree u) (λ n. (answers o n).tree u) (answers o) (λ y w R. refl) v Q k.schemas.items)
+    | keyword.SingleValueAllOf k ↦ refl
+    | keyword.AnyOf k ↦ any_of_tree-map (λ a. a.tree u) (λ n. (answers o n).tree u) (answers o) (λ y w R. refl) v Q (λ a. (a.means v).accepts u) (λ n. ((answers o n).means v).accepts u) (λ n. refl) k.location k.schemas.items
+    | keyword.SingleAnyOf k ↦ any_of_tree-map (λ a. a.tree u) (λ n. (answers o n).tree u) (answers o) (λ y w R. refl) v Q (λ a. (a.means v).accepts u) (λ n. ((answers o n).means v).accepts u) (λ n. refl) k.location (k.node ∷ [])
+    | keyword.Not k ↦ refl
+    | keyword.Leaf p l ↦ refl
+  ]) ks.items)
+
+  pub node_means : (n : SchemaNode K R) (v : Data) → (answers o n).means v ≡ body_means (keyword_means o.finds (λ n. (answers o n).means)) (out-SchemaNode K R n).body v
+  unfolding answers
+  node_means n v = ap (λ a. a.means v) (fold_out-SchemaNode K R Answers (node_step o) n) ∙ means_layer (out-SchemaNode K R n) (out-SchemaNode K R n).body v
+
+  pub node_finds : (n : SchemaNode K R) (u : Bool) (v : Data) (Q : Path) → (answers o n).report u v Q ≡ body_finds (keyword_finds o.finds (λ n. (answers o n).means) o.keyword_of (λ n. (answers o n).report) u) (out-SchemaNode K R n).location (out-SchemaNode K R n).body v Q
+  unfolding answers
+  node_finds n u v Q = ap (λ a. a.report u v Q) (fold_out-SchemaNode K R Answers (node_step o) n) ∙ finds_layer (out-SchemaNode K R n) (out-SchemaNode K R n).body u v Q
+
+  pub node_first : (n : SchemaNode K R) (u : Bool) (v : Data) (Q : Path) → (answers o n).first u v Q ≡ body_first (keyword_first o.finds (λ n. (answers o n).means) o.keyword_of (λ n. (answers o n).report) u (λ n. (answers o n).first)) (out-SchemaNode K R n).location (out-SchemaNode K R n).body v Q
+  unfolding answers
+  node_first n u v Q = ap (λ a. a.first u v Q) (fold_out-SchemaNode K R Answers (node_step o) n) ∙ first_layer (out-SchemaNode K R n) (out-SchemaNode K R n).body u v Q
+
+  pub node_shows : (n : SchemaNode K R) (u : Bool) (v : Data) (Q : Path) → (answers o n).tree u v Q ≡ body_shows (keyword_shows o.finds (λ n. (answers o n).means) o.keyword_of (λ n. (answers o n).tree) u) (out-SchemaNode K R n).location (out-SchemaNode K R n).body v Q
+  unfolding answers
+  node_shows n u v Q = ap (λ a. a.tree u v Q) (fold_out-SchemaNode K R Answers (node_step o) n) ∙ shows_layer (out-SchemaNode K R n) (out-SchemaNode K R n).body u v Q
+
+  pub node_location : (n : SchemaNode K R) → (answers o n).location ≡ (out-SchemaNode K R n).location
+  unfolding answers
+  node_location n = ap (λ a. a.location) (fold_out-SchemaNode K R Answers (node_step o) n)
+
+pub ruleset layers = (node_means, node_finds, node_first, node_shows, node_location)

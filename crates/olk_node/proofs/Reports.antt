@@ -1,0 +1,80 @@
+-- What a place that stands for a schema tells is of the schema's reports.
+use Rattle.std.proofs.Common.{◌≡◌, ℕ, zero, suc, ◌<◌, length, get_or, Bool, true, List, [], ◌∷◌, refl, sym, subst, ◌∙◌, arith}
+use Rattle.std.specs.List.{Contains}
+use Rattle.serde_json.specs.Data.{Data}
+use Rattle.olk_spec.specs.Names.{Path}
+use Rattle.olk_spec.specs.Faults.{Fault, fault, Kind, AdditionalProperties, AnyOf, OneOfNotValid, OneOfMultipleValid, Not, Required, FalseSchema, PropertyNames, Leaf, SingleType, MultipleTypes, UniqueItems, Regex, Unsupported, LeafRefused, IsLike, like, IsLikeKind, itself, like_any_of, like_not_valid, like_multiple, like_names, ◌∼◌, like_next, like_through}
+use Rattle.olk_spec.specs.Meaning.{accepts, report}
+use Rattle.olk_spec.specs.Reports.{cut, cut_kind}
+use Rattle.olk_spec.proofs.Order.{like_itself, ∼_refl}
+use Rattle.olk_reports.specs.declared.error.ValidationError.{ValidationError}
+use Rattle.olk_node.specs.Kit.{Kit}
+use Rattle.olk_node.specs.Nodes.{answers}
+use Rattle.olk_node.specs.Stands.{StandsFor}
+use Rattle.olk_node.specs.declared.node.SchemaNode.{SchemaNode}
+use Rattle.olk_errors.specs.Found.{Appends, Passes, IsTold, IsRefusal}
+use Rattle.olk_errors.proofs.Appending.{appends_like}
+
+-- f is what is kept of something like g
+record Kept (f g : Fault) : Type 0 where
+  pub whole : Fault
+  pub told : f ≡ cut whole
+  pub alike : IsLike whole g
+
+kept_kind : (k l : Kind) (v : Data) (Q P : Path) → IsLikeKind k (cut_kind l) → Kept (fault k v Q P) (fault l v Q P)
+kept_kind k (AdditionalProperties []) v Q P itself = record { whole = fault (AdditionalProperties []) v Q P; told = refl; alike = like itself }
+kept_kind k (AdditionalProperties (n ∷ ns)) v Q P itself = record { whole = fault (AdditionalProperties (n ∷ ns)) v Q P; told = refl; alike = like itself }
+kept_kind k (AnyOf c) v Q P itself = record { whole = fault (AnyOf c) v Q P; told = refl; alike = like itself }
+kept_kind (AnyOf d) (AnyOf c) v Q P (like_any_of h) = record { whole = fault (AnyOf d) v Q P; told = refl; alike = like (like_any_of h) }
+kept_kind k (OneOfNotValid c) v Q P itself = record { whole = fault (OneOfNotValid c) v Q P; told = refl; alike = like itself }
+kept_kind (OneOfNotValid d) (OneOfNotValid c) v Q P (like_not_valid h) = record { whole = fault (OneOfNotValid d) v Q P; told = refl; alike = like (like_not_valid h) }
+kept_kind k (OneOfMultipleValid c) v Q P itself = record { whole = fault (OneOfMultipleValid c) v Q P; told = refl; alike = like itself }
+kept_kind (OneOfMultipleValid d) (OneOfMultipleValid c) v Q P (like_multiple h) = record { whole = fault (OneOfMultipleValid d) v Q P; told = refl; alike = like (like_multiple h) }
+kept_kind k (Not d) v Q P itself = record { whole = fault (Not d) v Q P; told = refl; alike = like itself }
+kept_kind k (Required n) v Q P itself = record { whole = fault (Required n) v Q P; told = refl; alike = like itself }
+kept_kind k FalseSchema v Q P itself = record { whole = fault FalseSchema v Q P; told = refl; alike = like itself }
+kept_kind k (PropertyNames f) v Q P itself = record { whole = fault (PropertyNames f) v Q P; told = refl; alike = like itself }
+kept_kind (PropertyNames g) (PropertyNames f) v Q P (like_names h) = record { whole = fault (PropertyNames g) v Q P; told = refl; alike = like (like_names h) }
+kept_kind k (Leaf n t) v Q P itself = record { whole = fault (Leaf n t) v Q P; told = refl; alike = like itself }
+kept_kind k (SingleType t) v Q P itself = record { whole = fault (SingleType t) v Q P; told = refl; alike = like itself }
+kept_kind k MultipleTypes v Q P itself = record { whole = fault MultipleTypes v Q P; told = refl; alike = like itself }
+kept_kind k UniqueItems v Q P itself = record { whole = fault UniqueItems v Q P; told = refl; alike = like itself }
+kept_kind k Regex v Q P itself = record { whole = fault Regex v Q P; told = refl; alike = like itself }
+kept_kind k (Unsupported n) v Q P itself = record { whole = fault (Unsupported n) v Q P; told = refl; alike = like itself }
+kept_kind k (LeafRefused n) v Q P itself = record { whole = fault (LeafRefused n) v Q P; told = refl; alike = like itself }
+
+kept : (f g : Fault) → IsLike f (cut g) → Kept f g
+kept (fault k v Q P) (fault l w R O) (like h) = kept_kind k l v Q P h
+
+-- a list with one fault exchanged for one that is like it
+record Exchanged (fs : List Fault) (h : Fault) : Type 0 where
+  pub list : List Fault
+  pub alike : list ∼ fs
+  pub among : Contains list h
+
+no_place : (n : ℕ) → n < 0 → ⊥
+no_place n l = absurd (omega (arith, l))
+
+exchanged : (fs : List Fault) (g h : Fault) (n : ℕ) → n < length fs → get_or fs n g ≡ g → IsLike h g → Exchanged fs h
+exchanged [] g h n l e alike = absurd (no_place n l)
+exchanged (f ∷ fs) g h zero l e alike = record { list = h ∷ fs; alike = like_next (subst (IsLike h) (sym e) alike) (∼_refl fs); among = (0, omega arith, refl) }
+exchanged (f ∷ fs) g h (suc n) l e alike =
+    let r = exchanged fs g h n (omega (arith, l)) e alike in
+    let m = r.among.1 in
+    record { list = f ∷ r.list; alike = like_next (like_itself f) r.alike; among = (suc r.among.0, omega (arith, m), r.among.2) }
+
+module _ {K R : Type 0} (o : Kit K R) (n : SchemaNode K R) (u : Bool) (v : Data) (Q : Path) where
+  pub report_of_schema : {old new : List ValidationError} → Appends old new ((answers o n).report u v Q) → (S : Data) (P : Path) → StandsFor o n S P → Appends old new (report o.world u S v P Q)
+  report_of_schema a S P s = appends_like (s.faults u v Q) a
+
+  pub accepts_of_schema : Passes (((answers o n).means v).accepts u) ((answers o n).first u v Q) → (S : Data) (P : Path) → StandsFor o n S P → accepts o.world u S v ≡ true
+  accepts_of_schema passes S P s = sym (s.verdict u v) ∙ passes.verdict
+
+  pub refusal_of_schema : (f : Fault) → IsTold (((answers o n).means v).accepts u) ((answers o n).first u v Q) ((answers o n).report u v Q) f → (S : Data) (P : Path) → StandsFor o n S P → IsRefusal o.world u S v P Q f
+  refusal_of_schema f told S P s =
+      let k = kept f told.of_all.whole told.of_all.like in
+      let x = exchanged ((answers o n).report u v Q) told.of_all.whole k.whole told.of_all.among.0 told.of_all.among.1 told.of_all.among.2 k.alike in
+      record {
+        verdict = sym (s.verdict u v) ∙ told.verdict;
+        of_report = record { whole = k.whole; list = x.list; report = like_through x.alike (s.faults u v Q); among = x.among; told = k.told };
+      }

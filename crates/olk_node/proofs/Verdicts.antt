@@ -1,0 +1,23 @@
+-- A place that stands for a schema answers for the schema.
+use Rattle.std.proofs.Common.{Bool, true, false, sym, ◌∙◌, arith}
+use Rattle.serde_json.specs.Data.{Data}
+use Rattle.olk_spec.specs.Names.{Path}
+use Rattle.olk_base.specs.Lawful.{Asking}
+use Rattle.olk_node.specs.Kit.{Kit}
+use Rattle.olk_node.specs.Nodes.{answers}
+use Rattle.olk_node.specs.Stands.{StandsFor}
+use Rattle.olk_node.specs.declared.node.SchemaNode.{SchemaNode}
+use Rattle.olk_check.specs.Asks.{Asks, AsksSchema}
+
+pub of_schema : {K R : Type 0} {o : Kit K R} {n : SchemaNode K R} {S : Data} {P : Path} {v : Data} {a b : Asking} {r : Bool} → StandsFor o n S P → Asks a b ((answers o n).means v) r → AsksSchema o.world S v a b r
+of_schema {v = v} {a = a} s h = record {
+  answer = h.answer;
+  compiled = h.compiled;
+  leaves = h.leaves;
+  made = h.made;
+  asked_from = h.asked_from;
+  asked_to = let within = s.asks_within a.answer v in omega arith;
+  unfinished = h.unfinished;
+  verdict = h.verdict ∙ s.verdict a.answer v;
+  certain = λ e l. sym (s.verdict true v) ∙ sym (h.certain e l true) ∙ h.certain e l false ∙ s.verdict false v;
+}

@@ -1,0 +1,33 @@
+-- What a node answers: whether it accepts a value, the faults that it finds, and the tree that it shows.
+use Rattle.std.specs.Prelude.{Bool, List}
+use Rattle.serde_json.specs.Data.{Data}
+use Rattle.olk_spec.specs.Names.{Path}
+use Rattle.olk_spec.specs.Faults.{Fault}
+use Rattle.olk_spec.specs.Tree.{Tree}
+use Rattle.olk_tree.specs.Questions.{Question}
+use Rattle.olk_tree.specs.Answers.{keyword_means, keyword_finds, keyword_first, keyword_shows, body_means, body_finds, body_first, body_shows}
+use Rattle.olk_node.specs.Kit.{Kit}
+use Rattle.olk_node.specs.declared.node.SchemaNode.{SchemaNode, fold-SchemaNode}
+use Rattle.olk_node.specs.declared.node.SchemaNode.TheOpen.{SchemaNode-F}
+
+pub record Answers : Type 0 where
+  pub means : Data → Question
+  pub report : Bool → Data → Path → List Fault
+  -- those of the first step that refuses, of which `validate` tells one
+  pub first : Bool → Data → Path → List Fault
+  pub tree : Bool → Data → Path → Tree
+  pub location : Path
+
+module _ {K R : Type 0} (o : Kit K R) where
+  abbrev pub node_step : SchemaNode-F K R Answers → Answers
+  node_step n = record {
+    means = body_means (keyword_means o.finds (λ a. a.means)) n.body;
+    report = λ u. body_finds (keyword_finds o.finds (λ a. a.means) o.keyword_of (λ a. a.report) u) n.location n.body;
+    first = λ u. body_first (keyword_first o.finds (λ a. a.means) o.keyword_of (λ a. a.report) u (λ a. a.first)) n.location n.body;
+    tree = λ u. body_shows (keyword_shows o.finds (λ a. a.means) o.keyword_of (λ a. a.tree) u) n.location n.body;
+    location = n.location;
+  }
+
+  -- what a node answers, by recursion over it
+  unfoldable pub answers : SchemaNode K R → Answers
+  answers = fold-SchemaNode K R Answers node_step

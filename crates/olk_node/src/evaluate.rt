@@ -1,0 +1,36 @@
+//! What a place shows of a value.
+use crate::node::SchemaNode;
+use olk_base::{Leaf, Node, RegexEngine, ValidationContext};
+use olk_evaluate::node::evaluate_body;
+use olk_evaluate::{Evaluate, Located};
+use olk_reports::{EvaluationResult, InstancePath};
+use std::alloc::{AllocError, Global};
+
+impl<K, R> Located for SchemaNode<K, R> {
+    ghost use Rattle.olk_node.specs.declared.node.SchemaNode.{out-SchemaNode};
+
+    ghost place = { λ n. (out-SchemaNode K R n).location };
+
+    fn location(&self) -> &str {
+        self.location.as_str()
+    }
+}
+
+/// What the place's body shows.
+impl<'a, K: Leaf, R: RegexEngine> Evaluate<'a> for SchemaNode<K, R> {
+    ghost use Rattle.olk_node.specs.Kit.{kit};
+    ghost use Rattle.olk_node.specs.Nodes.{answers};
+
+    ghost shows = { λ n. (answers (kit K.Leaf R.RegexEngine) n).tree };
+
+    #[tactic(auto, using(crate::proofs::Layers::layers))]
+    fn evaluate(
+        &'a self,
+        alloc: Global,
+        node: Node<'a>,
+        path: &mut InstancePath,
+        ctx: &mut ValidationContext,
+    ) -> Result<EvaluationResult<'a>, AllocError> {
+        evaluate_body(&self.body, self.location.as_str(), alloc, node, path, ctx)
+    }
+}

@@ -1,0 +1,16 @@
+//! Places of a schema, and what can be asked of them.
+#![tactic(auto)]
+
+pub mod errors;
+pub mod evaluate;
+pub mod means;
+pub mod node;
+pub mod valid;
+
+pub use errors::{collect_errors_for, validate_for};
+pub use node::{
+    AllOfValidator, AnyOfValidator, Keyword, NotValidator, SchemaNode, SingleAnyOfValidator,
+    SingleValueAllOfValidator, SmallPropertiesValidator, SmallPropertiesWithRequired2Validator,
+    SmallValidatorsMap,
+};
+pub use valid::is_valid_for;

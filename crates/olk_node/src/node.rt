@@ -1,0 +1,71 @@
+//! Places of a schema.
+ghost use Rattle.std.specs.Prelude.{◌≡◌};
+
+use olk_reports::Location;
+use olk_tree::all_of::{AllOf, SingleValueAllOf};
+use olk_tree::any_of::{AnyOf, SingleAnyOf};
+use olk_tree::map::SmallMap;
+use olk_tree::node::{Body, KeywordOver};
+use olk_tree::not::Not;
+use olk_tree::properties::{SmallProperties, SmallPropertiesWithRequired2};
+use std::marker::PhantomData;
+
+/// A place of a schema.
+#[derive(Drop)]
+pub struct SchemaNode<K, R> {
+    pub location: Location,
+    pub body: Body<Keyword<K, R>>,
+    pub engine: PhantomData<R>,
+}
+
+impl<K, R> SchemaNode<K, R> {
+    ghost use Rattle.olk_node.specs.declared.node.SchemaNode.{out-SchemaNode};
+
+    /// A node at its place.
+    pub fn new(location: Location, body: Body<Keyword<K, R>>) -> Self
+        ensures place { (out-SchemaNode K R result).location ≡ location }
+        ensures body { (out-SchemaNode K R result).body ≡ body }
+    {
+        SchemaNode {
+            location,
+            body,
+            engine: PhantomData,
+        }
+    }
+
+    /// The place of the node in its schema, a JSON pointer (RFC 6901).
+    pub fn location(&self) -> &Location
+        ensures { result.now ≡ (out-SchemaNode K R self.now).location }
+    {
+        &self.location
+    }
+}
+
+/// A keyword of a schema object.
+pub type Keyword<K, R> = KeywordOver<K, SchemaNode<K, R>>;
+
+/// `allOf` of several branches, or of none, over nodes.
+pub type AllOfValidator<K, R> = AllOf<SchemaNode<K, R>>;
+
+/// `allOf` of one branch, over a node.
+pub type SingleValueAllOfValidator<K, R> = SingleValueAllOf<SchemaNode<K, R>>;
+
+/// `anyOf` of several branches, or of none, over nodes.
+pub type AnyOfValidator<K, R> = AnyOf<SchemaNode<K, R>>;
+
+/// `anyOf` of one branch, over a node.
+pub type SingleAnyOfValidator<K, R> = SingleAnyOf<SchemaNode<K, R>>;
+
+/// `not`, over a node.
+pub type NotValidator<K, R> = Not<SchemaNode<K, R>>;
+
+/// `properties`, over nodes.
+pub type SmallPropertiesValidator<K, R> = SmallProperties<SchemaNode<K, R>>;
+
+/// `properties` together with `required` of two different names, over nodes.
+pub type SmallPropertiesWithRequired2Validator<K, R> = SmallPropertiesWithRequired2<
+    SchemaNode<K, R>,
+>;
+
+/// Names in order, and beside each its node.
+pub type SmallValidatorsMap<K, R> = SmallMap<SchemaNode<K, R>>;
