@@ -1,6 +1,6 @@
 //! What a schema is asked about.
 ghost use Rattle.std.specs.Prelude.{◌≡◌, option_map};
-ghost use Rattle.olk_base.specs.Nodes.{tree_of, type_of};
+ghost use Rattle.olk_base.specs.Nodes.{data_of, type_of};
 ghost use Rattle.serde_json.specs.Find.{as_object};
 ghost use Rattle.serde_json.specs.View.{members_view};
 
@@ -28,7 +28,7 @@ pub enum Node<'a> {
 impl<'a> Node<'a> {
     /// The members, where the node is an object; a name is none.
     pub fn as_object(self) -> Option<&'a Map<String, Value>>
-        ensures { option_map (λ m. members_view m.now.entries) result ≡ as_object (tree_of self.entry) }
+        ensures { option_map (λ m. members_view m.now.entries) result ≡ as_object (data_of self.entry) }
     {
         match self {
             Node::Value(value) => value.as_object(),
@@ -38,7 +38,7 @@ impl<'a> Node<'a> {
 
     /// The type of the value (JSON Schema 2020-12 Core, 4.2.1); that of a name is `String`.
     pub fn json_type(self) -> JsonType
-        ensures { result ≡ type_of (tree_of self.entry) }
+        ensures { result ≡ type_of (data_of self.entry) }
     {
         match self {
             Node::Value(Value::Null) => JsonType::Null,

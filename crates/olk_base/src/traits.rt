@@ -89,7 +89,7 @@ pub trait Leaf: Drop {
     ghost use Rattle.serde_json.specs.Data.{Data};
     ghost use Rattle.olk_spec.specs.Names.{Text, Name, is_empty};
     ghost use Rattle.olk_base.specs.Lawful.{IsOneOf, texts_of};
-    ghost use Rattle.olk_base.specs.Nodes.{tree_of};
+    ghost use Rattle.olk_base.specs.Nodes.{data_of};
 
     // which names are keywords, which values fit them, and what a keyword with its value says of a tree
     ghost reads: { Name → Bool };
@@ -109,11 +109,11 @@ pub trait Leaf: Drop {
 
     /// Whether the node is accepted. Takes no memory.
     fn is_valid(&self, node: Node<'_>) -> bool
-        ensures { result ≡ is_empty (finds self.now (tree_of node.entry)) };
+        ensures { result ≡ is_empty (finds self.now (data_of node.entry)) };
 
     /// One of the texts, and none where the node is accepted. The only error is want of memory.
     fn validate(&self, alloc: Global, node: Node<'_>) -> Result<Option<String>, AllocError>
-        ensures { IfOk result (IsOneOf (finds self.now (tree_of node.entry))) };
+        ensures { IfOk result (IsOneOf (finds self.now (data_of node.entry))) };
 
     /// Appends all texts. The only error is want of memory, and then nothing is appended.
     fn collect_errors(
@@ -122,12 +122,12 @@ pub trait Leaf: Drop {
         node: Node<'_>,
         texts: &mut Vec<String>,
     ) -> Result<(), AllocError>
-        ensures ok { OnOk result (texts_of texts.new.items ≡ texts_of texts.old.items ++ finds self.now (tree_of node.entry)) }
+        ensures ok { OnOk result (texts_of texts.new.items ≡ texts_of texts.old.items ++ finds self.now (data_of node.entry)) }
         ensures err { OnErr result (texts.new.items ≡ texts.old.items) };
 
     /// All texts, in any order. The only error is want of memory.
     fn evaluate(&self, alloc: Global, node: Node<'_>) -> Result<Vec<String>, AllocError>
-        ensures { IfOk result (λ v. IsPermutation (finds self.now (tree_of node.entry)) (texts_of v.items)) };
+        ensures { IfOk result (λ v. IsPermutation (finds self.now (data_of node.entry)) (texts_of v.items)) };
 }
 
 /// Makes leaves from keywords and their values.

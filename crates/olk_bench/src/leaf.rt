@@ -3,7 +3,7 @@ ghost use Rattle.std.specs.Prelude.{◌≡◌, ◌++◌, IfOk, string_bytes, cod
 ghost use Rattle.serde_json.specs.Find.{as_str};
 ghost use Rattle.serde_json.specs.Data.{number, unsigned, string};
 ghost use Rattle.serde_json.specs.Written.{compact_text, number_text};
-ghost use Rattle.olk_base.specs.Nodes.{tree_of};
+ghost use Rattle.olk_base.specs.Nodes.{data_of};
 ghost use Rattle.olk_spec.specs.Names.{is_empty};
 ghost use Rattle.olk_spec.specs.Bench.{is_of_kind, is_same, shown, minimum_faults, maximum_faults, multiple_faults, shorter_faults, longer_faults};
 ghost use Rattle.olk_bench.specs.Numbers.{num_of, whole_in};
@@ -117,7 +117,7 @@ impl Leaf for BenchLeaf {
 impl BenchLeaf {
     // What is said of a value that is not accepted.
     fn text(&self, alloc: Global, node: Node<'_>) -> Result<String, AllocError>
-        ensures { IfOk result (λ s. string_bytes s ≡ leaf_text self.now (tree_of node.entry)) }
+        ensures { IfOk result (λ s. string_bytes s ≡ leaf_text self.now (data_of node.entry)) }
     {
         match self {
             BenchLeaf::Type(kind) => kind_text(alloc, *kind, node),
@@ -155,7 +155,7 @@ impl ValueKind {
 }
 
 fn is_of_kind(kind: ValueKind, node: Node<'_>) -> bool
-    ensures { result ≡ is_of_kind (kind_name kind) (tree_of node.entry) }
+    ensures { result ≡ is_of_kind (kind_name kind) (data_of node.entry) }
 {
     match kind {
         ValueKind::Null => matches!(node, Node::Value(Value::Null)),
@@ -169,7 +169,7 @@ fn is_of_kind(kind: ValueKind, node: Node<'_>) -> bool
 }
 
 fn whole_number(node: Node<'_>) -> Option<WholeNumber>
-    ensures { option_map num_of result ≡ whole_in (tree_of node.entry) }
+    ensures { option_map num_of result ≡ whole_in (data_of node.entry) }
 {
     match node {
         Node::Value(Value::Number(number)) => WholeNumber::of(number),
@@ -178,7 +178,7 @@ fn whole_number(node: Node<'_>) -> Option<WholeNumber>
 }
 
 fn text_of(node: Node<'_>) -> Option<&str>
-    ensures { option_map (λ s. s.now) result ≡ as_str (tree_of node.entry) }
+    ensures { option_map (λ s. s.now) result ≡ as_str (data_of node.entry) }
 {
     match node {
         Node::Value(value) => value.as_str(),
@@ -187,7 +187,7 @@ fn text_of(node: Node<'_>) -> Option<&str>
 }
 
 fn is_constant(constant: &Constant, node: Node<'_>) -> bool
-    ensures { result ≡ is_same (constant_value constant.now) (tree_of node.entry) }
+    ensures { result ≡ is_same (constant_value constant.now) (data_of node.entry) }
 {
     match constant {
         Constant::Number(number) => match whole_number(node) {
@@ -202,7 +202,7 @@ fn is_constant(constant: &Constant, node: Node<'_>) -> bool
 }
 
 fn is_at_least(minimum: WholeNumber, node: Node<'_>) -> bool
-    ensures { result ≡ is_empty (minimum_faults (number (num_of minimum)) (tree_of node.entry)) }
+    ensures { result ≡ is_empty (minimum_faults (number (num_of minimum)) (data_of node.entry)) }
 {
     match whole_number(node) {
         Some(n) => minimum.value() <= n.value(),
@@ -211,7 +211,7 @@ fn is_at_least(minimum: WholeNumber, node: Node<'_>) -> bool
 }
 
 fn is_at_most(maximum: WholeNumber, node: Node<'_>) -> bool
-    ensures { result ≡ is_empty (maximum_faults (number (num_of maximum)) (tree_of node.entry)) }
+    ensures { result ≡ is_empty (maximum_faults (number (num_of maximum)) (data_of node.entry)) }
 {
     match whole_number(node) {
         Some(n) => n.value() <= maximum.value(),
@@ -220,7 +220,7 @@ fn is_at_most(maximum: WholeNumber, node: Node<'_>) -> bool
 }
 
 fn is_multiple_of(divisor: Divisor, node: Node<'_>) -> bool
-    ensures { result ≡ is_empty (multiple_faults (number (unsigned divisor.value)) (tree_of node.entry)) }
+    ensures { result ≡ is_empty (multiple_faults (number (unsigned divisor.value)) (data_of node.entry)) }
 {
     match whole_number(node) {
         Some(n) => divisor.divides(n.magnitude()),
@@ -235,7 +235,7 @@ fn char_count(text: &str) -> u64
 }
 
 fn is_no_shorter(least: u64, node: Node<'_>) -> bool
-    ensures { result ≡ is_empty (shorter_faults (number (unsigned least)) (tree_of node.entry)) }
+    ensures { result ≡ is_empty (shorter_faults (number (unsigned least)) (data_of node.entry)) }
 {
     match text_of(node) {
         Some(text) => least <= char_count(text),
@@ -244,7 +244,7 @@ fn is_no_shorter(least: u64, node: Node<'_>) -> bool
 }
 
 fn is_no_longer(most: u64, node: Node<'_>) -> bool
-    ensures { result ≡ is_empty (longer_faults (number (unsigned most)) (tree_of node.entry)) }
+    ensures { result ≡ is_empty (longer_faults (number (unsigned most)) (data_of node.entry)) }
 {
     match text_of(node) {
         Some(text) => char_count(text) <= most,
@@ -253,7 +253,7 @@ fn is_no_longer(most: u64, node: Node<'_>) -> bool
 }
 
 fn kind_text(alloc: Global, kind: ValueKind, node: Node<'_>) -> Result<String, AllocError>
-    ensures { IfOk result (λ s. string_bytes s ≡ leaf_text (BenchLeaf.Type kind) (tree_of node.entry)) }
+    ensures { IfOk result (λ s. string_bytes s ≡ leaf_text (BenchLeaf.Type kind) (data_of node.entry)) }
 {
     let mut text = shown_text(alloc, node)?;
     text.push_str(" is not of type ")?;
@@ -279,7 +279,7 @@ fn length_text(
     middle: &str,
     length: u64,
 ) -> Result<String, AllocError>
-    ensures { IfOk result (λ s. string_bytes s ≡ shown (tree_of node.entry) ++ middle.now ++ number_text (unsigned length) ++ codes " characters") }
+    ensures { IfOk result (λ s. string_bytes s ≡ shown (data_of node.entry) ++ middle.now ++ number_text (unsigned length) ++ codes " characters") }
 {
     let mut text = compared_text(alloc, node, middle, WholeNumber::Unsigned(length))?;
     text.push_str(" characters")?;

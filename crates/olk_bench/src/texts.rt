@@ -3,7 +3,7 @@ ghost use Rattle.std.specs.Prelude.{◌≡◌, ◌++◌, IfOk, string_bytes, cod
 ghost use Rattle.serde_json.specs.Data.{string};
 ghost use Rattle.serde_json.specs.View.{view, items_view, members_view};
 ghost use Rattle.serde_json.specs.Written.{compact_text, number_text, has_float, items_have_float, members_have_float};
-ghost use Rattle.olk_base.specs.Nodes.{tree_of};
+ghost use Rattle.olk_base.specs.Nodes.{data_of};
 ghost use Rattle.olk_spec.specs.Bench.{shown};
 ghost use Rattle.olk_bench.specs.Numbers.{num_of};
 
@@ -58,7 +58,7 @@ pub(crate) fn quoted_text(alloc: Global, text: &str) -> Result<String, AllocErro
 
 // The value as JSON, and `value` where it has a number that is not whole.
 pub(crate) fn shown_text(alloc: Global, node: Node<'_>) -> Result<String, AllocError>
-    ensures { IfOk result (λ s. string_bytes s ≡ shown (tree_of node.entry)) }
+    ensures { IfOk result (λ s. string_bytes s ≡ shown (data_of node.entry)) }
 {
     match node {
         Node::Value(value) => if has_fraction(value) {
@@ -85,7 +85,7 @@ pub(crate) fn compared_text(
     middle: &str,
     number: WholeNumber,
 ) -> Result<String, AllocError>
-    ensures { IfOk result (λ s. string_bytes s ≡ shown (tree_of node.entry) ++ middle.now ++ number_text (num_of number)) }
+    ensures { IfOk result (λ s. string_bytes s ≡ shown (data_of node.entry) ++ middle.now ++ number_text (num_of number)) }
 {
     let mut text = shown_text(alloc, node)?;
     text.push_str(middle)?;

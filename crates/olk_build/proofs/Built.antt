@@ -32,7 +32,7 @@ use Rattle.olk_base.specs.Count.{Counts, count_compiled}
 use Rattle.olk_reports.specs.declared.error.BuildError.{BuildError}
 use Rattle.olk_node.specs.Kit.{Kit}
 use Rattle.olk_tree.specs.Questions.{Question, every}
-use Rattle.olk_tree.specs.Answers.{keyword_means, keyword_finds, body_means, body_finds, keyword_shows, body_shows}
+use Rattle.olk_tree.specs.Answers.{validator_means, validator_report, body_means, body_report, validator_tree, body_tree}
 use Rattle.olk_node.specs.Nodes.{answers}
 use Rattle.olk_build.specs.Claims.{claims}
 use Rattle.olk_build.specs.Forms.{taken_names}
@@ -206,10 +206,10 @@ module _ {K R : Type 0} (o : Kit K R) where
     unfolding meaning malformations_beside cost
     built_truth true b e = subst (λ x. IsBuilt o n x P a m) (sym e) record {
       stands = record {
-        verdict = λ u v. ap (λ q. q.accepts u) (node_means o n v ∙ ap (λ y. body_means (keyword_means o.finds (λ z. (answers o z).means)) y v) b);
-        asks_within = λ u v. let q = ap (λ q. q.asks u) (node_means o n v ∙ ap (λ y. body_means (keyword_means o.finds (λ z. (answers o z).means)) y v) b) in omega (arith, q);
-        faults = λ u v Q. ∼_same (node_finds o n u v Q ∙ ap (λ y. body_finds (keyword_finds o.finds (λ z. (answers o z).means) o.keyword_of (λ z. (answers o z).report) u) (out-SchemaNode K R n).location y v Q) b);
-        evaluation = λ u v Q. node_shows o n u v Q ∙ (λ i. body_shows (keyword_shows o.finds (λ z. (answers o z).means) o.keyword_of (λ z. (answers o z).tree) u) (at i) (b i) v Q);
+        verdict = λ u v. ap (λ q. q.accepts u) (node_means o n v ∙ ap (λ y. body_means (validator_means o.finds (λ z. (answers o z).means)) y v) b);
+        asks_within = λ u v. let q = ap (λ q. q.asks u) (node_means o n v ∙ ap (λ y. body_means (validator_means o.finds (λ z. (answers o z).means)) y v) b) in omega (arith, q);
+        faults = λ u v Q. ∼_same (node_finds o n u v Q ∙ ap (λ y. body_report (validator_report o.finds (λ z. (answers o z).means) o.keyword_of (λ z. (answers o z).report) u) (out-SchemaNode K R n).location y v Q) b);
+        evaluation = λ u v Q. node_shows o n u v Q ∙ (λ i. body_tree (validator_tree o.finds (λ z. (answers o z).means) o.keyword_of (λ z. (answers o z).tree) u) (at i) (b i) v Q);
         place = node_location o n ∙ at;
       };
       clean = refl;
@@ -217,10 +217,10 @@ module _ {K R : Type 0} (o : Kit K R) where
     }
     built_truth false b e = subst (λ x. IsBuilt o n x P a m) (sym e) record {
       stands = record {
-        verdict = λ u v. ap (λ q. q.accepts u) (node_means o n v ∙ ap (λ y. body_means (keyword_means o.finds (λ z. (answers o z).means)) y v) b);
-        asks_within = λ u v. let q = ap (λ q. q.asks u) (node_means o n v ∙ ap (λ y. body_means (keyword_means o.finds (λ z. (answers o z).means)) y v) b) in omega (arith, q);
-        faults = λ u v Q. ∼_same (node_finds o n u v Q ∙ (λ i. body_finds (keyword_finds o.finds (λ z. (answers o z).means) o.keyword_of (λ z. (answers o z).report) u) (at i) (b i) v Q));
-        evaluation = λ u v Q. node_shows o n u v Q ∙ (λ i. body_shows (keyword_shows o.finds (λ z. (answers o z).means) o.keyword_of (λ z. (answers o z).tree) u) (at i) (b i) v Q);
+        verdict = λ u v. ap (λ q. q.accepts u) (node_means o n v ∙ ap (λ y. body_means (validator_means o.finds (λ z. (answers o z).means)) y v) b);
+        asks_within = λ u v. let q = ap (λ q. q.asks u) (node_means o n v ∙ ap (λ y. body_means (validator_means o.finds (λ z. (answers o z).means)) y v) b) in omega (arith, q);
+        faults = λ u v Q. ∼_same (node_finds o n u v Q ∙ (λ i. body_report (validator_report o.finds (λ z. (answers o z).means) o.keyword_of (λ z. (answers o z).report) u) (at i) (b i) v Q));
+        evaluation = λ u v Q. node_shows o n u v Q ∙ (λ i. body_tree (validator_tree o.finds (λ z. (answers o z).means) o.keyword_of (λ z. (answers o z).tree) u) (at i) (b i) v Q);
         place = node_location o n ∙ at;
       };
       clean = refl;
@@ -230,10 +230,10 @@ module _ {K R : Type 0} (o : Kit K R) where
     pub built_object : (ms : Members) (ks : Vec (KeywordOver K (SchemaNode K R)) Global) (z : Counts) → (out-SchemaNode K R n).body ≡ Keywords ks → d ≡ object ms → KeywordsAreBuilt o ms ks.items (listed ms) (listed ms) P m z → IsBuilt o n d P a z
     built_object ms ks z b e h = subst (λ x. IsBuilt o n x P a z) (sym e) record {
       stands = record {
-        verdict = λ u v. ap (λ q. q.accepts u) (node_means o n v ∙ ap (λ y. body_means (keyword_means o.finds (λ z. (answers o z).means)) y v) b) ∙ h.covers.verdict u v ∙ sym (object_accepts o.world ms u v);
-        asks_within = λ u v. let q = ap (λ q. q.asks u) (node_means o n v ∙ ap (λ y. body_means (keyword_means o.finds (λ z. (answers o z).means)) y v) b) in let r = h.covers.asks_within u v in let t = object_asks o.world ms u v in omega (arith, q, r, t);
-        faults = λ u v Q. like_through (∼_same (node_finds o n u v Q ∙ ap (λ y. body_finds (keyword_finds o.finds (λ z. (answers o z).means) o.keyword_of (λ z. (answers o z).report) u) (out-SchemaNode K R n).location y v Q) b)) (like_through (h.covers.faults u v Q) (∼_same (sym (object_report o.world ms u v P Q))));
-        evaluation = λ u v Q. node_shows o n u v Q ∙ (λ i. body_shows (keyword_shows o.finds (λ z. (answers o z).means) o.keyword_of (λ z. (answers o z).tree) u) (at i) (b i) v Q) ∙ ap (plain P Q) (h.shows h.clean u v Q) ∙ sym (object_tree o.world ms u v P Q);
+        verdict = λ u v. ap (λ q. q.accepts u) (node_means o n v ∙ ap (λ y. body_means (validator_means o.finds (λ z. (answers o z).means)) y v) b) ∙ h.covers.verdict u v ∙ sym (object_accepts o.world ms u v);
+        asks_within = λ u v. let q = ap (λ q. q.asks u) (node_means o n v ∙ ap (λ y. body_means (validator_means o.finds (λ z. (answers o z).means)) y v) b) in let r = h.covers.asks_within u v in let t = object_asks o.world ms u v in omega (arith, q, r, t);
+        faults = λ u v Q. like_through (∼_same (node_finds o n u v Q ∙ ap (λ y. body_report (validator_report o.finds (λ z. (answers o z).means) o.keyword_of (λ z. (answers o z).report) u) (out-SchemaNode K R n).location y v Q) b)) (like_through (h.covers.faults u v Q) (∼_same (sym (object_report o.world ms u v P Q))));
+        evaluation = λ u v Q. node_shows o n u v Q ∙ (λ i. body_tree (validator_tree o.finds (λ z. (answers o z).means) o.keyword_of (λ z. (answers o z).tree) u) (at i) (b i) v Q) ∙ ap (plain P Q) (h.shows h.clean u v Q) ∙ sym (object_tree o.world ms u v P Q);
         place = node_location o n ∙ at;
       };
       clean = object_malformed o.world ms P ∙ h.clean;
@@ -289,10 +289,10 @@ module _ {K R : Type 0} (o : Kit K R) where
     more_keywords : (ks ls new : List (KeywordOver K (SchemaNode K R))) (rows more es fs : List (Name × Data)) (a m b : Counts) → new ≡ ks ++ ls → KeywordsAreBuilt o ms ks rows es P a m → KeywordsAreBuilt o ms ls more fs P m b → KeywordsAreBuilt o ms new (rows ++ more) (es ++ fs) P a b
     more_keywords ks ls new rows more es fs a m b q h k = subst (λ x. KeywordsAreBuilt o ms x (rows ++ more) (es ++ fs) P a b) (sym q) record {
       covers = record {
-        verdict = λ u v. (every-append (λ k. keyword_means o.finds (λ n. (answers o n).means) k v) ks ls u).0 ∙ (λ i. h.covers.verdict u v i && k.covers.verdict u v i) ∙ sym (list_all-append _ rows more);
+        verdict = λ u v. (every-append (λ k. validator_means o.finds (λ n. (answers o n).means) k v) ks ls u).0 ∙ (λ i. h.covers.verdict u v i && k.covers.verdict u v i) ∙ sym (list_all-append _ rows more);
         asks_within = λ u v.
             let f : Name × Data → ℕ = λ x. member_asks o.world ms x (which o ms x) u v in
-            let x = (every-append (λ k. keyword_means o.finds (λ n. (answers o n).means) k v) ks ls u).1 in
+            let x = (every-append (λ k. validator_means o.finds (λ n. (answers o n).means) k v) ks ls u).1 in
             let s = sum_by-append f rows more in
             let p = h.covers.asks_within u v in
             let q = k.covers.asks_within u v in

@@ -40,7 +40,7 @@ use Rattle.olk_reports.specs.declared.error.BuildError.{BuildError}
 use Rattle.olk_reports.specs.declared.error.BuildError.TheVariants.{Memory}
 use Rattle.olk_node.specs.Kit.{Kit}
 use Rattle.olk_tree.specs.Questions.{Question, every, some}
-use Rattle.olk_tree.specs.Answers.{beside, named, keyword_means, keyword_finds, keyword_shows}
+use Rattle.olk_tree.specs.Answers.{beside, named, validator_means, validator_report, validator_tree}
 use Rattle.olk_node.specs.Nodes.{answers}
 use Rattle.olk_tree.specs.Shown.{missing_trees, properties_tree, branch_trees, any_of_tree}
 use Rattle.olk_node.specs.Stands.{StandsFor}
@@ -138,13 +138,13 @@ not_pending k e = (neither (is_among k unsupported_names) (is_among k pending) (
 
 module _ {K R : Type 0} (o : Kit K R) where
   abbrev question : KeywordOver K (SchemaNode K R) → Data → Question
-  question k v = keyword_means o.finds (λ n. (answers o n).means) k v
+  question k v = validator_means o.finds (λ n. (answers o n).means) k v
 
   abbrev shown : Bool → KeywordOver K (SchemaNode K R) → Data → Path → Tree
-  shown u k v Q = keyword_shows o.finds (λ n. (answers o n).means) o.keyword_of (λ n. (answers o n).tree) u k v Q
+  shown u k v Q = validator_tree o.finds (λ n. (answers o n).means) o.keyword_of (λ n. (answers o n).tree) u k v Q
 
   abbrev found : Bool → KeywordOver K (SchemaNode K R) → Data → Path → List Fault
-  found u k v Q = keyword_finds o.finds (λ n. (answers o n).means) o.keyword_of (λ n. (answers o n).report) u k v Q
+  found u k v Q = validator_report o.finds (λ n. (answers o n).means) o.keyword_of (λ n. (answers o n).report) u k v Q
 
   -- ---- nodes that stand for schemas
 
@@ -297,22 +297,22 @@ module _ {K R : Type 0} (o : Kit K R) where
 
     module _ (u : Bool) (v : Data) where
       properties_accept : (question properties_keyword v).accepts u ≡ list_all (λ e. list_all (accepts o.world u e.1) (at e.0 v)) es
-      unfolding keyword_means
+      unfolding validator_means
       properties_accept = ap (λ ks. (every (each_at u v) (beside ks m.nodes.items)).accepts u) names ∙ members_accept u v m.nodes.items es L stand
 
       properties_ask : (question properties_keyword v).asks u ≤ sum_by (λ e. sum_by (asks o.world u e.1) (at e.0 v)) es
-      unfolding keyword_means
+      unfolding validator_means
       properties_ask = subst (λ ks. (every (each_at u v) (beside ks m.nodes.items)).asks u ≤ sum_by (λ e. sum_by (asks o.world u e.1) (at e.0 v)) es) (sym names) (members_ask u v m.nodes.items es L stand)
 
       properties_find : (Q : Path) → found u properties_keyword v Q ∼ flat_map (λ e. flat_map (λ x. report o.world u e.1 x (L // e.0) (Q // e.0)) (at e.0 v)) es
-      unfolding keyword_finds
+      unfolding validator_report
       properties_find Q = subst (λ ks. flat_map (λ e. flat_map (λ x. (answers o e.1).report u x (Q // e.0)) (at e.0 v)) (beside ks m.nodes.items) ∼ flat_map (λ e. flat_map (λ x. report o.world u e.1 x (L // e.0) (Q // e.0)) (at e.0 v)) es) (sym names) (members_find u v Q m.nodes.items es L stand)
 
       properties_show : (Q : Path) (more : List Tree) → properties_tree (λ n. (answers o n).tree u) v Q L (named m) more ≡ shown_declared o.world u v L Q es more
       properties_show Q more = ap (λ ks. properties_tree (λ n. (answers o n).tree u) v Q L (beside ks m.nodes.items) more) names ∙ declared_show u v Q more m.nodes.items es L stand
 
       alone_show : (Q : Path) → shown u properties_keyword v Q ≡ properties_tree (λ n. (answers o n).tree u) v Q L (named m) []
-      unfolding keyword_shows
+      unfolding validator_tree
       alone_show Q = refl
 
   pub holds_properties : (m : SmallMap (SchemaNode K R)) (L : Path) (fs : Members) (d : Data) (a b : Counts) → d ≡ object fs → m.names ≡ map (λ e. e.0) (listed fs) → AreBuilt o m.nodes.items (listed fs) L a b → HoldsMember o (keyword.Properties (record { properties = m; location = L }) ∷ []) (codes "properties") d properties L a b
@@ -342,19 +342,19 @@ module _ {K R : Type 0} (o : Kit K R) where
 
     module _ (u : Bool) (v : Data) where
       both_accept : (question (keyword.PropertiesWithRequired2 k) v).accepts u ≡ (is_empty (lacking v) && (question alone v).accepts u)
-      unfolding keyword_means
+      unfolding validator_means
       both_accept = λ i. is_empty (missing (form.2 i ∷ form.3 i ∷ []) v) && (question (keyword.Properties (record { properties = form.0 i; location = L })) v).accepts u
 
       both_ask : (question (keyword.PropertiesWithRequired2 k) v).asks u ≡ 0 + (question alone v).asks u
-      unfolding keyword_means
+      unfolding validator_means
       both_ask = λ i. 0 + (question (keyword.Properties (record { properties = form.0 i; location = L })) v).asks u
 
       both_find : (Q : Path) → found u (keyword.PropertiesWithRequired2 k) v Q ≡ required_faults (t.0 ∷ t.1 ∷ []) v (P // codes "required") Q ++ found u alone v Q
-      unfolding keyword_finds
+      unfolding validator_report
       both_find Q = λ i. required_faults (form.2 i ∷ form.3 i ∷ []) v (form.4 i) Q ++ found u (keyword.Properties (record { properties = form.0 i; location = L })) v Q
 
       both_show : (Q : Path) → shown u (keyword.PropertiesWithRequired2 k) v Q ≡ properties_tree (λ n. (answers o n).tree u) v Q L (named m) (missing_trees (t.0 ∷ t.1 ∷ []) v (P // codes "required") Q)
-      unfolding keyword_shows
+      unfolding validator_tree
       both_show Q = λ i. properties_tree (λ n. (answers o n).tree u) v Q (form.1 i) (named (form.0 i)) (missing_trees (form.2 i ∷ form.3 i ∷ []) v (form.4 i) Q)
 
     covers_both : (d : Data) → Holds o ms (alone ∷ []) (codes "properties", d) properties P → Covers o ms (keyword.PropertiesWithRequired2 k ∷ []) ((codes "properties", d) ∷ (codes "required", listing t) ∷ []) P
@@ -405,43 +405,43 @@ module _ {K R : Type 0} (o : Kit K R) where
 
   module _ (L : Path) (ns : List (SchemaNode K R)) (u : Bool) (v : Data) where
     all_form_accepts : (k : KeywordOver K (SchemaNode K R)) → IsFormOfAllOf L ns k → (question k v).accepts u ≡ (every (at_value u v) ns).accepts u
-    unfolding keyword_means
+    unfolding validator_means
     all_form_accepts (keyword.AllOf k) f = ap (λ xs. (every (at_value u v) xs).accepts u) f.0
     all_form_accepts (keyword.SingleValueAllOf k) f = sym (and_true (((answers o k.node).means v).accepts u)) ∙ ap (λ xs. (every (at_value u v) xs).accepts u) (sym f.0)
     all_form_accepts k f = absurd f
 
     all_form_asks : (k : KeywordOver K (SchemaNode K R)) → IsFormOfAllOf L ns k → (question k v).asks u ≤ (every (at_value u v) ns).asks u
-    unfolding keyword_means
+    unfolding validator_means
     all_form_asks (keyword.AllOf k) f = let e = ap (λ xs. (every (at_value u v) xs).asks u) f.0 in omega (arith, e)
     all_form_asks (keyword.SingleValueAllOf k) f = let e = ap (λ xs. (every (at_value u v) xs).asks u) f.0 in omega (arith, e)
     all_form_asks k f = absurd f
 
     all_form_finds : (Q : Path) (k : KeywordOver K (SchemaNode K R)) → IsFormOfAllOf L ns k → found u k v Q ≡ flat_map (λ n. (answers o n).report u v Q) ns
-    unfolding keyword_finds
+    unfolding validator_report
     all_form_finds Q (keyword.AllOf k) f = ap (flat_map (λ n. (answers o n).report u v Q)) f.0
     all_form_finds Q (keyword.SingleValueAllOf k) f = sym (append-nil ((answers o k.node).report u v Q)) ∙ ap (flat_map (λ n. (answers o n).report u v Q)) (sym f.0)
     all_form_finds Q k f = absurd f
 
     all_form_shows : (Q : Path) (k : KeywordOver K (SchemaNode K R)) → IsFormOfAllOf L ns k → shown u k v Q ≡ plain L Q (branch_trees (λ n. (answers o n).tree u) v Q ns)
-    unfolding keyword_shows
+    unfolding validator_tree
     all_form_shows Q (keyword.AllOf k) f = λ i. plain (f.2 i) Q (branch_trees (λ n. (answers o n).tree u) v Q (f.0 i))
     all_form_shows Q (keyword.SingleValueAllOf k) f = λ i. plain (f.1 i) Q (branch_trees (λ n. (answers o n).tree u) v Q (sym f.0 i))
     all_form_shows Q k f = absurd f
 
     any_form_shows : (Q : Path) (k : KeywordOver K (SchemaNode K R)) → IsFormOfAnyOf L ns k → shown u k v Q ≡ any_of_tree (λ n. (answers o n).tree u) v Q (accepts_value u v) L ns
-    unfolding keyword_shows
+    unfolding validator_tree
     any_form_shows Q (keyword.AnyOf k) f = λ i. any_of_tree (λ n. (answers o n).tree u) v Q (accepts_value u v) (f.2 i) (f.0 i)
     any_form_shows Q (keyword.SingleAnyOf k) f = λ i. any_of_tree (λ n. (answers o n).tree u) v Q (accepts_value u v) (f.1 i) (sym f.0 i)
     any_form_shows Q k f = absurd f
 
     any_form_accepts : (k : KeywordOver K (SchemaNode K R)) → IsFormOfAnyOf L ns k → (question k v).accepts u ≡ (some (at_value u v) ns).accepts u
-    unfolding keyword_means
+    unfolding validator_means
     any_form_accepts (keyword.AnyOf k) f = ap (λ xs. (some (at_value u v) xs).accepts u) f.0
     any_form_accepts (keyword.SingleAnyOf k) f = sym (or_false (((answers o k.node).means v).accepts u)) ∙ ap (λ xs. (some (at_value u v) xs).accepts u) (sym f.0)
     any_form_accepts k f = absurd f
 
     any_form_asks : (k : KeywordOver K (SchemaNode K R)) → IsFormOfAnyOf L ns k → (question k v).asks u ≤ (some (at_value u v) ns).asks u
-    unfolding keyword_means
+    unfolding validator_means
     any_form_asks (keyword.AnyOf k) f = let e = ap (λ xs. (some (at_value u v) xs).asks u) f.0 in omega (arith, e)
     any_form_asks (keyword.SingleAnyOf k) f = let e = ap (λ xs. (some (at_value u v) xs).asks u) f.0 in omega (arith, e)
     any_form_asks k f = absurd f
@@ -450,7 +450,7 @@ module _ {K R : Type 0} (o : Kit K R) where
     any_faults xs M Q = fault_if (not ((some (at_value u v) xs).accepts u)) (AnyOf (context (map (λ n. (answers o n).report u v Q) xs))) v M Q
 
     any_form_finds : (Q : Path) (k : KeywordOver K (SchemaNode K R)) → IsFormOfAnyOf L ns k → found u k v Q ≡ any_faults ns L Q
-    unfolding keyword_finds
+    unfolding validator_report
     any_form_finds Q (keyword.AnyOf k) f = λ i. any_faults (f.0 i) (f.2 i) Q
     any_form_finds Q (keyword.SingleAnyOf k) f =
         ap (λ b. fault_if (not b) (AnyOf (context ((answers o k.node).report u v Q ∷ []))) v k.location Q) (sym (or_false (((answers o k.node).means v).accepts u)))
@@ -503,19 +503,19 @@ module _ {K R : Type 0} (o : Kit K R) where
     not_of = keyword.Not (record { original = original; node = n; location = L })
 
     not_accept : (question not_of v).accepts u ≡ not (((answers o n).means v).accepts u)
-    unfolding keyword_means
+    unfolding validator_means
     not_accept = refl
 
     not_ask : (question not_of v).asks u ≡ ((answers o n).means v).asks u
-    unfolding keyword_means
+    unfolding validator_means
     not_ask = refl
 
     not_find : (Q : Path) → found u not_of v Q ≡ fault_if (((answers o n).means v).accepts u) (Not (view original)) v L Q
-    unfolding keyword_finds
+    unfolding validator_report
     not_find Q = refl
 
     not_show : (Q : Path) → shown u not_of v Q ≡ erring L Q (fault_if (((answers o n).means v).accepts u) (Not (view original)) v L Q)
-    unfolding keyword_shows
+    unfolding validator_tree
     not_show Q = refl
 
   pub holds_not : (original : Value) (n : SchemaNode K R) (L : Path) (d : Data) (a b : Counts) → view original ≡ d → IsBuilt o n d L a b → HoldsMember o (keyword.Not (record { original = original; node = n; location = L }) ∷ []) (codes "not") d not_keyword L a b
@@ -536,19 +536,19 @@ module _ {K R : Type 0} (o : Kit K R) where
     required_of = keyword.Required (record { required = names; location = L })
 
     required_accept : (question required_of v).accepts u ≡ is_empty (missing (map string_bytes names.items) v)
-    unfolding keyword_means
+    unfolding validator_means
     required_accept = refl
 
     required_ask : (question required_of v).asks u ≡ 0
-    unfolding keyword_means
+    unfolding validator_means
     required_ask = refl
 
     required_find : (Q : Path) → found u required_of v Q ≡ required_faults (map string_bytes names.items) v L Q
-    unfolding keyword_finds
+    unfolding validator_report
     required_find Q = refl
 
     required_show : (Q : Path) → shown u required_of v Q ≡ erring L Q (required_faults (map string_bytes names.items) v L Q)
-    unfolding keyword_shows
+    unfolding validator_tree
     required_show Q = refl
 
   pub holds_required : (names : Vec (String Global) Global) (L : Path) (ds : Items) (d : Data) (a : Counts) → d ≡ array ds → map string_bytes names.items ≡ texts_in ds → not_texts L ds ≡ [] → HoldsMember o (keyword.Required (record { required = names; location = L }) ∷ []) (codes "required") d required L a a
@@ -607,19 +607,19 @@ module _ {K R : Type 0} (o : Kit K R) where
 
   module _ (l : K) (L : Path) (u : Bool) (v : Data) where
     leaf_accept : (question (keyword.Leaf L l) v).accepts u ≡ is_empty (o.finds l v)
-    unfolding keyword_means
+    unfolding validator_means
     leaf_accept = refl
 
     leaf_ask : (question (keyword.Leaf L l) v).asks u ≡ 0
-    unfolding keyword_means
+    unfolding validator_means
     leaf_ask = refl
 
     leaf_find : (Q : Path) → found u (keyword.Leaf L l) v Q ≡ map (λ t. fault (Leaf (o.keyword_of l) t) v Q L) (o.finds l v)
-    unfolding keyword_finds
+    unfolding validator_report
     leaf_find Q = refl
 
     leaf_show : (Q : Path) → shown u (keyword.Leaf L l) v Q ≡ leaf_node L Q (described (map (λ t. fault (Leaf (o.keyword_of l) t) v Q L) (o.finds l v)))
-    unfolding keyword_shows
+    unfolding validator_tree
     leaf_show Q = refl
 
   pub holds_leaf : (l : K) (k : Name) (L : Path) (d : Data) (a b : Counts) → is_among k pending ≡ false → o.world.fits k d ≡ true → o.keyword_of l ≡ k → ((v : Data) → o.finds l v ≡ o.world.faults k d v) → b ≡ count_leaf a → HoldsMember o (keyword.Leaf L l ∷ []) k d leaf L a b

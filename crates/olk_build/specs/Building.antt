@@ -17,7 +17,7 @@ use Rattle.olk_node.specs.Kit.{Kit}
 use Rattle.olk_tree.specs.Questions.{every}
 use Rattle.olk_build.specs.Claims.{claims}
 use Rattle.olk_build.specs.Forms.{taken_names}
-use Rattle.olk_tree.specs.Answers.{keyword_means, keyword_finds, keyword_shows}
+use Rattle.olk_tree.specs.Answers.{validator_means, validator_report, validator_tree}
 use Rattle.olk_node.specs.Nodes.{answers}
 use Rattle.olk_node.specs.Stands.{StandsFor}
 use Rattle.olk_build.specs.Members.{malformations_at, member_accepts, member_asks, member_report, member_child, StandsAlone, member_malformations, member_cost}
@@ -97,16 +97,16 @@ module _ {K R : Type 0} (o : Kit K R) where
     module _ (ks : List (KeywordOver K (SchemaNode K R))) where
       -- what the keywords answer together
       abbrev pub means : Data → Bool → Bool
-      means v u = (every (λ k. keyword_means o.finds (λ n. (answers o n).means) k v) ks).accepts u
+      means v u = (every (λ k. validator_means o.finds (λ n. (answers o n).means) k v) ks).accepts u
 
       abbrev pub ask : Data → Bool → ℕ
-      ask v u = (every (λ k. keyword_means o.finds (λ n. (answers o n).means) k v) ks).asks u
+      ask v u = (every (λ k. validator_means o.finds (λ n. (answers o n).means) k v) ks).asks u
 
       abbrev pub find : Bool → Data → Path → List Fault
-      find u v Q = flat_map (λ k. keyword_finds o.finds (λ n. (answers o n).means) o.keyword_of (λ n. (answers o n).report) u k v Q) ks
+      find u v Q = flat_map (λ k. validator_report o.finds (λ n. (answers o n).means) o.keyword_of (λ n. (answers o n).report) u k v Q) ks
 
       abbrev pub show : Bool → Data → Path → List Tree
-      show u v Q = map (λ k. keyword_shows o.finds (λ n. (answers o n).means) o.keyword_of (λ n. (answers o n).tree) u k v Q) ks
+      show u v Q = map (λ k. validator_tree o.finds (λ n. (answers o n).means) o.keyword_of (λ n. (answers o n).tree) u k v Q) ks
 
       -- it is what one member means
       pub record Holds (m : Name × Data) (w : Keyword) (P : Path) : Type 0 where

@@ -2,7 +2,23 @@
 use Rattle.std.proofs.Common.{◌≡◌, ◌+◌, ◌≤◌, Bool, refl, ap, ◌∙◌, arith}
 use Rattle.olk_base.specs.Lawful.{Asking}
 use Rattle.olk_tree.specs.Questions.{Question, always}
-use Rattle.olk_check.specs.Asks.{Asks}
+use Rattle.olk_check.specs.Asks.{OnlyAsks, Asks}
+
+pub only_same : (a : Asking) → OnlyAsks a a
+only_same a = record { answer = refl; compiled = refl; leaves = refl; made = refl; asked = omega arith; unfinished = omega arith }
+
+pub only_then : {a b c : Asking} → OnlyAsks a b → OnlyAsks b c → OnlyAsks a c
+only_then h k = record {
+  answer = k.answer ∙ h.answer;
+  compiled = k.compiled ∙ h.compiled;
+  leaves = k.leaves ∙ h.leaves;
+  made = k.made ∙ h.made;
+  asked = let e = h.asked in let f = k.asked in omega arith;
+  unfinished = let e = h.unfinished in let f = k.unfinished in omega arith;
+}
+
+pub only_asked : {a b : Asking} {q : Question} {r : Bool} → Asks a b q r → OnlyAsks a b
+only_asked h = h.only
 
 module _ {a b c : Asking} {p q : Question} {r s : Bool} where
   -- two questions, one after the other, settle a third
@@ -11,15 +27,10 @@ module _ {a b c : Asking} {p q : Question} {r s : Bool} where
       → ((u : Bool) → r ≡ p.accepts u → p.asks u + q.asks u ≤ m.asks u)
       → Asks a c m t
   join m t h k verdict asks = record {
-    answer = k.answer ∙ h.answer;
-    compiled = k.compiled ∙ h.compiled;
-    leaves = k.leaves ∙ h.leaves;
-    made = k.made ∙ h.made;
-    asked_from = omega arith;
-    asked_to = let e = asks a.answer h.verdict in let f = ap q.asks h.answer in omega arith;
-    unfinished = omega arith;
-    verdict = verdict a.answer h.verdict (k.verdict ∙ ap q.accepts h.answer);
-    certain = λ e l u. verdict u (h.certain (omega arith) l u) (k.certain (omega arith) (omega arith) u);
+    only = only_then h.only k.only;
+    asked_to = let e = asks a.answer h.verdict in let f = ap q.asks h.only.answer in let x = h.asked_to in let y = k.asked_to in omega arith;
+    verdict = verdict a.answer h.verdict (k.verdict ∙ ap q.accepts h.only.answer);
+    certain = λ e l u. let x = h.only.unfinished in let y = k.only.unfinished in verdict u (h.certain (omega arith) l u) (k.certain (omega arith) (omega arith) u);
   }
 
 module _ {a b : Asking} {p : Question} {r : Bool} where
@@ -29,27 +40,12 @@ module _ {a b : Asking} {p : Question} {r : Bool} where
       → ((u : Bool) → r ≡ p.accepts u → p.asks u ≤ m.asks u)
       → Asks a b m t
   settles m t h verdict asks = record {
-    answer = h.answer;
-    compiled = h.compiled;
-    leaves = h.leaves;
-    made = h.made;
-    asked_from = h.asked_from;
-    asked_to = let e = asks a.answer h.verdict in omega arith;
-    unfinished = h.unfinished;
+    only = h.only;
+    asked_to = let e = asks a.answer h.verdict in let x = h.asked_to in omega arith;
     verdict = verdict a.answer h.verdict;
     certain = λ e l u. verdict u (h.certain e l u);
   }
 
 -- nothing is asked
 pub unasked : (a : Asking) (b : Bool) → Asks a a (always b) b
-unasked a b = record {
-  answer = refl;
-  compiled = refl;
-  leaves = refl;
-  made = refl;
-  asked_from = omega arith;
-  asked_to = omega arith;
-  unfinished = omega arith;
-  verdict = refl;
-  certain = λ e l u. refl;
-}
+unasked a b = record { only = only_same a; asked_to = omega arith; verdict = refl; certain = λ e l u. refl }

@@ -1,6 +1,3 @@
 pub mod Asked
 pub mod Walks
-pub mod Lookups
-pub mod Sides
-pub mod MemberWalks
-pub mod Merge
+pub mod Missing

@@ -7,27 +7,26 @@ use Rattle.olk_base.specs.Count.{raised}
 use Rattle.olk_base.specs.Lawful.{Asking}
 use Rattle.olk_tree.specs.Questions.{Question}
 
--- the answer to a question, with the context's answer for unfinished matches: nothing is built, no count falls, and no more matchers are asked than the question says
-pub record Asks (old new : Asking) (q : Question) (result : Bool) : Type 0 where
+-- nothing is built, the answer for unfinished matches is kept, and no count falls
+pub record OnlyAsks (old new : Asking) : Type 0 where
   pub answer : new.answer ≡ old.answer
   pub compiled : new.meter.compiled ≡ old.meter.compiled
   pub leaves : new.meter.leaves ≡ old.meter.leaves
   pub made : new.meter.made ≡ old.meter.made
-  pub asked_from : old.meter.asked ≤ new.meter.asked
-  pub asked_to : new.meter.asked ≤ raised old.meter.asked (q.asks old.answer)
+  pub asked : old.meter.asked ≤ new.meter.asked
   pub unfinished : old.meter.unfinished ≤ new.meter.unfinished
+
+-- the answer to a question, with the context's answer for unfinished matches; no more matchers are asked than the question says
+pub record Asks (old new : Asking) (q : Question) (result : Bool) : Type 0 where
+  pub only : OnlyAsks old new
+  pub asked_to : new.meter.asked ≤ raised old.meter.asked (q.asks old.answer)
   pub verdict : result ≡ q.accepts old.answer
   -- where no match was left unfinished, the verdict is that of both answers
   pub certain : new.meter.unfinished ≡ old.meter.unfinished → old.meter.unfinished < 2 ^ 64 - 1 → (u : Bool) → result ≡ q.accepts u
 
 -- the same, for what a schema says of a value
 pub record AsksSchema (W : World) (S v : Data) (old new : Asking) (result : Bool) : Type 0 where
-  pub answer : new.answer ≡ old.answer
-  pub compiled : new.meter.compiled ≡ old.meter.compiled
-  pub leaves : new.meter.leaves ≡ old.meter.leaves
-  pub made : new.meter.made ≡ old.meter.made
-  pub asked_from : old.meter.asked ≤ new.meter.asked
+  pub only : OnlyAsks old new
   pub asked_to : new.meter.asked ≤ raised old.meter.asked (asks W old.answer S v)
-  pub unfinished : old.meter.unfinished ≤ new.meter.unfinished
   pub verdict : result ≡ accepts W old.answer S v
   pub certain : new.meter.unfinished ≡ old.meter.unfinished → old.meter.unfinished < 2 ^ 64 - 1 → accepts W true S v ≡ accepts W false S v

@@ -6,7 +6,7 @@ use olk_tree::Means;
 
 /// What can be asked whether it accepts a value.
 pub trait IsValid: Means {
-    ghost use Rattle.olk_base.specs.Nodes.{tree_of};
+    ghost use Rattle.olk_base.specs.Nodes.{data_of};
     ghost use Rattle.olk_check.specs.Asks.{Asks};
 
     /// Whether the node is accepted, with the context's answer for matches that are left unfinished.
@@ -14,11 +14,13 @@ pub trait IsValid: Means {
     /// Takes no memory. The context keeps its answer; of the counts only those of matchers that
     /// were asked and of matches that were left unfinished rise.
     fn is_valid(&self, node: Node<'_>, ctx: &mut ValidationContext) -> bool
-        ensures { Asks ctx.old ctx.new (Self.means self.now (tree_of node.entry)) result };
+        ensures { Asks ctx.old ctx.new (Self.means self.now (data_of node.entry)) result };
 }
 
-pub mod logic;
-pub mod node;
-pub mod properties;
-pub mod required;
+mod all_of;
+mod any_of;
+mod node;
+mod not;
+mod properties;
+mod required;
 mod walk;

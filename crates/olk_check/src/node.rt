@@ -6,7 +6,7 @@ use olk_tree::node::{Body, KeywordOver};
 
 /// What the keyword asks of the value.
 impl<K: Leaf, N: IsValid> IsValid for KeywordOver<K, N> {
-    #[tactic(auto, unfolding(olk_tree::specs::Answers::keyword_means))]
+    #[tactic(auto, unfolding(olk_tree::specs::Answers::validator_means))]
     fn is_valid(&self, node: Node<'_>, ctx: &mut ValidationContext) -> bool {
         match self {
             KeywordOver::Properties(keyword) => keyword.is_valid(node, ctx),

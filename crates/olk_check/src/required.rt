@@ -23,7 +23,7 @@ impl IsValid for RequiredValidator {
 }
 
 // Whether there is a member at each name.
-#[tactic(auto, using(crate::proofs::Lookups::lacking))]
+#[tactic(auto, using(crate::proofs::Missing::lacking))]
 fn has_each(members: &Map<String, Value>, names: &Vec<String>) -> bool
     ensures { result ≡ is_empty (missing (texts_of names.now.items) (object (members_view members.now.entries))) }
 {

@@ -1,6 +1,3 @@
-pub mod Appending
-pub mod Steps
-pub mod Own
-pub mod Missing
-pub mod Sides
-pub mod Fused
+mod Appending
+mod Steps
+mod Own

@@ -10,7 +10,8 @@ use Rattle.olk_spec.specs.Faults.{Fault, fault, Kind, AnyOf, Leaf, itself, IsLik
 use Rattle.olk_spec.specs.Reports.{fault_if, cut_kind}
 use Rattle.olk_spec.proofs.Order.{faults_in-from}
 use Rattle.olk_reports.specs.declared.error.ValidationError.{ValidationError}
-use Rattle.olk_errors.specs.Found.{Appends, AreLike, Passes, IsTold}
+use Rattle.olk_errors.specs.Found.{Appends, AreLike, Passes, IsErrorOf}
+use Rattle.olk_errors.specs.Outcomes.{own}
 use Rattle.olk_errors.proofs.Appending.{appends_nothing, appends_like}
 
 pub contains_one : (f : Fault) → Contains (f ∷ []) f
@@ -30,10 +31,10 @@ like_at {k = k} {v} {P} {Q} e h q p = subst (λ f. IsLike f (fault k v Q P)) (sy
 
 module _ (k : Kind) (v : Data) (P Q : Path) where
   -- it accepts, and is not the case in which the fault stands
-  pub own_passes : {accepts case : Bool} → accepts ≡ true → case ≡ false → Passes accepts (fault_if case k v P Q)
+  pub own_passes : {accepts case : Bool} → accepts ≡ true → case ≡ false → Passes (own accepts case k v P Q)
   own_passes verdict absent = record { verdict = verdict; nothing = ap (λ b. fault_if b k v P Q) absent }
 
-  pub own_told : {accepts case : Bool} → accepts ≡ false → case ≡ true → cut_kind k ≡ k → {g : Fault} → IsLike g (fault k v Q P) → (f : Fault) → f ≡ g → IsTold accepts (fault_if case k v P Q) (fault_if case k v P Q) f
+  pub own_told : {accepts case : Bool} → accepts ≡ false → case ≡ true → cut_kind k ≡ k → {g : Fault} → IsLike g (fault k v Q P) → (f : Fault) → f ≡ g → IsErrorOf (own accepts case k v P Q) f
   own_told {accepts} {case} verdict present uncut near f is = record {
     verdict = verdict;
     of_first = record { one = fault k v Q P; among = among; like = alike };
@@ -85,7 +86,7 @@ module _ (k : Name) (v : Data) (P Q : Path) where
   contained [] t c = absurd (no_place (c.0) c.1)
   contained (u ∷ texts) t c = let p = mapped leaf_fault (u ∷ texts) t c.0 c.1 c.2 in (refl, (c.0, p.0, p.1))
 
-  pub leaf_told : (texts : List Text) (t : Text) → Contains texts t → (f : Fault) → f ≡ leaf_fault t → IsTold (is_empty texts) (map leaf_fault texts) (map leaf_fault texts) f
+  pub leaf_told : (texts : List Text) (t : Text) → Contains texts t → (f : Fault) → f ≡ leaf_fault t → IsErrorOf (record { accepts = is_empty texts; first = map leaf_fault texts; all = map leaf_fault texts }) f
   leaf_told texts t c f is = record {
     verdict = (contained texts t c).0;
     of_first = record { one = leaf_fault t; among = (contained texts t c).1; like = subst (λ g. IsLike g (leaf_fault t)) (sym is) (like itself) };

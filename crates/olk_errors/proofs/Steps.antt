@@ -11,16 +11,13 @@ use Rattle.olk_spec.specs.Faults.{Fault, ◌∼◌}
 use Rattle.olk_reports.specs.Errors.{fault_of}
 use Rattle.olk_reports.specs.declared.error.ValidationError.{ValidationError}
 use Rattle.olk_tree.specs.Answers.{or_else, first_of}
-use Rattle.olk_tree.specs.Questions.{Question, every, some}
-use Rattle.olk_errors.specs.Found.{Appends, AreLike, Passes, IsTold}
+use Rattle.olk_base.specs.Lawful.{Asking}
+use Rattle.olk_check.specs.Asks.{OnlyAsks}
+use Rattle.olk_check.proofs.Asked.{only_same, only_then}
+use Rattle.olk_errors.specs.Found.{Appends, AreLike, Outcome, Passes, IsErrorOf}
+use Rattle.olk_errors.specs.Outcomes.{of_each}
+use Rattle.olk_tree.specs.Questions.{Question, every}
 use Rattle.olk_errors.proofs.Appending.{appends_nothing, appends_more, cut_back}
-
--- the element at i, and those after it
-pub next_at : {X : Type 0} {xs ys : List X} {i : ℕ} {x : X} → ys ≡ xs → x ≡ get_or ys i x → i < length ys → drop i xs ≡ x ∷ drop (i + 1) xs
-next_at {X} {xs} {ys} {i} {x} same is lt = at_drop_more (λ l. l) xs i x (subst (λ l. i < length l) same lt) ∙ ap (λ y. y ∷ drop (i + 1) xs) (sym (is ∙ ap (λ l. get_or l i x) same))
-
-pub past_end : {X : Type 0} {xs ys : List X} {i : ℕ} → ys ≡ xs → length ys ≤ i → drop i xs ≡ []
-past_end {X} {xs} {ys} {i} same le = drop_all i xs (subst (λ l. length l ≤ i) same le)
 
 -- ---- collecting
 
@@ -54,29 +51,33 @@ pub contains_first : (fs gs : List Fault) (f : Fault) → Contains fs f → Cont
 contains_first [] gs f c = absurd (contains_none f c)
 contains_first (g ∷ fs) gs f c = c
 
--- those before the rest accept, and none of their steps refuses
-pub record Passed {X : Type 0} (q : X → Question) (u : Bool) (s f : X → List Fault) (all rest : List X) : Type 0 where
-  pub verdict : (every q all).accepts u ≡ (every q rest).accepts u
-  pub first : first_of s all ≡ first_of s rest
-  pub within : (g : Fault) → Contains (flat_map f rest) g → Contains (flat_map f all) g
+module _ {X : Type 0} (q : X → Question) (u : Bool) (s f : X → List Fault) where
+  abbrev pub of_one : X → Outcome
+  of_one x = record { accepts = (q x).accepts u; first = s x; all = f x }
+
+  -- those before the rest accept, and none of their steps refuses
+  pub record Passed (all rest : List X) : Type 0 where
+    pub verdict : (every q all).accepts u ≡ (every q rest).accepts u
+    pub first : first_of s all ≡ first_of s rest
+    pub within : (g : Fault) → Contains (flat_map f rest) g → Contains (flat_map f all) g
 
 module _ {X : Type 0} {q : X → Question} {u : Bool} {s f : X → List Fault} {all : List X} where
   pub passed_start : Passed q u s f all all
   passed_start = record { verdict = refl; first = refl; within = λ g c. c }
 
   module _ {rest : List X} (so_far : Passed q u s f all rest) where
-    pub passed_more : {x : X} {more : List X} → rest ≡ x ∷ more → Passes ((q x).accepts u) (s x) → Passed q u s f all more
+    pub passed_more : {x : X} {more : List X} → rest ≡ x ∷ more → Passes (of_one q u s f x) → Passed q u s f all more
     passed_more {x} {more} next passes = record {
       verdict = so_far.verdict ∙ ap (λ l. (every q l).accepts u) next ∙ ap (λ b. b && (every q more).accepts u) passes.verdict;
       first = so_far.first ∙ ap (first_of s) next ∙ ap (λ l. or_else l (first_of s more)) passes.nothing;
       within = λ g c. so_far.within g (subst (λ l. Contains (flat_map f l) g) (sym next) (Contains-append_right (f x) (flat_map f more) g c));
     }
 
-    pub passed_end : rest ≡ [] → Passes ((every q all).accepts u) (first_of s all)
+    pub passed_end : rest ≡ [] → Passes (of_each u q s f all)
     passed_end none = record { verdict = so_far.verdict ∙ ap (λ l. (every q l).accepts u) none; nothing = so_far.first ∙ ap (first_of s) none }
 
-    pub passed_told : {x : X} {more : List X} {g : Fault} → rest ≡ x ∷ more → IsTold ((q x).accepts u) (s x) (f x) g → IsTold ((every q all).accepts u) (first_of s all) (flat_map f all) g
-    passed_told {x} {more} {g} next told = record {
+    pub passed_error : {x : X} {more : List X} {g : Fault} → rest ≡ x ∷ more → IsErrorOf (of_one q u s f x) g → IsErrorOf (of_each u q s f all) g
+    passed_error {x} {more} {g} next told = record {
       verdict = so_far.verdict ∙ ap (λ l. (every q l).accepts u) next ∙ ap (λ b. b && (every q more).accepts u) told.verdict;
       of_first = record {
         one = told.of_first.one;
@@ -92,59 +93,53 @@ module _ {X : Type 0} {q : X → Question} {u : Bool} {s f : X → List Fault} {
 
 -- ---- with the path and the context's answer, which a walk keeps
 
--- those from the rest on are still to be collected; Q and u are the path and the answer at the start, R and w those now
-pub record Collecting {X : Type 0} (f : Bool → Path → X → List Fault) (all rest : List X) (old new : List ValidationError) (Q R : Path) (u w : Bool) : Type 0 where
-  pub so_far : Collected (f u Q) all rest old new
+-- those from the rest on are still to be collected; Q and R are the path at the start and now, a and b the context
+pub record Collecting {X : Type 0} (f : Bool → Path → X → List Fault) (all rest : List X) (old new : List ValidationError) (Q R : Path) (a b : Asking) : Type 0 where
+  pub so_far : Collected (f a.answer Q) all rest old new
   pub path : R ≡ Q
-  pub answer : w ≡ u
+  pub only : OnlyAsks a b
 
-module _ {X : Type 0} {f : Bool → Path → X → List Fault} {all : List X} {Q : Path} {u : Bool} where
-  pub collecting_start : {errors : List ValidationError} → Collecting f all all errors errors Q Q u u
-  collecting_start {errors} = record { so_far = collected_start errors; path = refl; answer = refl }
+module _ {X : Type 0} {f : Bool → Path → X → List Fault} {all : List X} {Q : Path} {a : Asking} where
+  pub collecting_start : {errors : List ValidationError} → Collecting f all all errors errors Q Q a a
+  collecting_start {errors} = record { so_far = collected_start errors; path = refl; only = only_same a }
 
-  pub collecting_from : {rest : List X} {errors : List ValidationError} → rest ≡ all → Collecting f all rest errors errors Q Q u u
-  collecting_from {errors = errors} whole = subst (λ l. Collecting f all l errors errors Q Q u u) (sym whole) collecting_start
-
-  module _ {rest : List X} {old new : List ValidationError} {R : Path} {w : Bool} (loop : Collecting f all rest old new Q R u w) where
-    pub collecting_more : {x : X} {more : List X} {newer : List ValidationError} {S : Path} {t : Bool} → rest ≡ x ∷ more → Appends new newer (f w R x) → S ≡ R → t ≡ w → Collecting f all more old newer Q S u t
-    collecting_more {x} {more} {newer} next found path answer = record {
-      so_far = collected_more loop.so_far next (subst₂ (λ a P. Appends new newer (f a P x)) loop.answer loop.path found);
+  module _ {rest : List X} {old new : List ValidationError} {R : Path} {b : Asking} (loop : Collecting f all rest old new Q R a b) where
+    pub collecting_more : {x : X} {more : List X} {newer : List ValidationError} {S : Path} {c : Asking} → rest ≡ x ∷ more → Appends new newer (f b.answer R x) → S ≡ R → OnlyAsks b c → Collecting f all more old newer Q S a c
+    collecting_more {x} {more} {newer} next found path only = record {
+      so_far = collected_more loop.so_far next (subst₂ (λ u P. Appends new newer (f u P x)) loop.only.answer loop.path found);
       path = path ∙ loop.path;
-      answer = answer ∙ loop.answer;
+      only = only_then loop.only only;
     }
 
-    pub collecting_end : rest ≡ [] → Appends old new (flat_map (f u Q) all)
+    pub collecting_end : rest ≡ [] → Appends old new (flat_map (f a.answer Q) all)
     collecting_end none = collected_end loop.so_far none
 
     -- after want of memory
     pub collecting_cut : {len : ℕ} {cut : List ValidationError} → len ≡ length old → cut ≡ take len new → cut ≡ old
     collecting_cut e is = is ∙ cut_back loop.so_far.found e
 
-pub record Passing {X : Type 0} (q : X → Question) (s f : Bool → Path → X → List Fault) (all rest : List X) (Q R : Path) (u w : Bool) : Type 0 where
-  pub so_far : Passed q u (s u Q) (f u Q) all rest
+pub record Passing {X : Type 0} (q : X → Question) (s f : Bool → Path → X → List Fault) (all rest : List X) (Q R : Path) (a b : Asking) : Type 0 where
+  pub so_far : Passed q a.answer (s a.answer Q) (f a.answer Q) all rest
   pub path : R ≡ Q
-  pub answer : w ≡ u
+  pub only : OnlyAsks a b
 
-module _ {X : Type 0} {q : X → Question} {s f : Bool → Path → X → List Fault} {all : List X} {Q : Path} {u : Bool} where
-  pub passing_start : Passing q s f all all Q Q u u
-  passing_start = record { so_far = passed_start; path = refl; answer = refl }
+module _ {X : Type 0} {q : X → Question} {s f : Bool → Path → X → List Fault} {all : List X} {Q : Path} {a : Asking} where
+  pub passing_start : Passing q s f all all Q Q a a
+  passing_start = record { so_far = passed_start; path = refl; only = only_same a }
 
-  pub passing_from : {rest : List X} → rest ≡ all → Passing q s f all rest Q Q u u
-  passing_from whole = subst (λ l. Passing q s f all l Q Q u u) (sym whole) passing_start
-
-  module _ {rest : List X} {R : Path} {w : Bool} (loop : Passing q s f all rest Q R u w) where
-    pub passing_more : {x : X} {more : List X} {S : Path} {t : Bool} → rest ≡ x ∷ more → Passes ((q x).accepts w) (s w R x) → S ≡ R → t ≡ w → Passing q s f all more Q S u t
-    passing_more {x} next passes path answer = record {
-      so_far = passed_more loop.so_far next (subst₂ (λ a P. Passes ((q x).accepts a) (s a P x)) loop.answer loop.path passes);
+  module _ {rest : List X} {R : Path} {b : Asking} (loop : Passing q s f all rest Q R a b) where
+    pub passing_more : {x : X} {more : List X} {S : Path} {c : Asking} → rest ≡ x ∷ more → Passes (of_one q b.answer (s b.answer R) (f b.answer R) x) → S ≡ R → OnlyAsks b c → Passing q s f all more Q S a c
+    passing_more {x} next passes path only = record {
+      so_far = passed_more loop.so_far next (subst₂ (λ u P. Passes (of_one q u (s u P) (f u P) x)) loop.only.answer loop.path passes);
       path = path ∙ loop.path;
-      answer = answer ∙ loop.answer;
+      only = only_then loop.only only;
     }
 
-    pub passing_end : rest ≡ [] → Passes ((every q all).accepts u) (first_of (s u Q) all)
+    pub passing_end : rest ≡ [] → Passes (of_each a.answer q (s a.answer Q) (f a.answer Q) all)
     passing_end none = passed_end loop.so_far none
 
-    pub passing_told : {x : X} {more : List X} → rest ≡ x ∷ more → (g : Fault) → IsTold ((q x).accepts w) (s w R x) (f w R x) g → IsTold ((every q all).accepts u) (first_of (s u Q) all) (flat_map (f u Q) all) g
-    passing_told {x} next g told = passed_told loop.so_far next (subst₂ (λ a P. IsTold ((q x).accepts a) (s a P x) (f a P x) g) loop.answer loop.path told)
+    pub passing_error : {x : X} {more : List X} → rest ≡ x ∷ more → (g : Fault) → IsErrorOf (of_one q b.answer (s b.answer R) (f b.answer R) x) g → IsErrorOf (of_each a.answer q (s a.answer Q) (f a.answer Q) all) g
+    passing_error {x} next g told = passed_error loop.so_far next (subst₂ (λ u P. IsErrorOf (of_one q u (s u P) (f u P) x) g) loop.only.answer loop.path told)
 
 -- ---- a list of errors for each
 
@@ -155,54 +150,28 @@ like_last (es ∷ fss) [] fs gs h e = absurd h
 like_last (es ∷ fss) (hs ∷ gss) fs gs h e = (h.0, like_last fss gss fs gs h.1 e)
 
 -- of all, some are done, each of which has its list
-pub record Branching {X : Type 0} (f : Bool → Path → X → List Fault) (all rest : List X) (lists : List (Vec ValidationError Global)) (Q R : Path) (u w : Bool) : Type 0 where
+pub record Branching {X : Type 0} (f : Bool → Path → X → List Fault) (all rest : List X) (lists : List (Vec ValidationError Global)) (Q R : Path) (a b : Asking) : Type 0 where
   pub done : List X
   pub split : done ++ rest ≡ all
-  pub alike : AreLike (map (λ l. map fault_of l.items) lists) (map (f u Q) done)
+  pub alike : AreLike (map (λ l. map fault_of l.items) lists) (map (f a.answer Q) done)
   pub path : R ≡ Q
-  pub answer : w ≡ u
+  pub only : OnlyAsks a b
 
-module _ {X : Type 0} {f : Bool → Path → X → List Fault} {all : List X} {Q : Path} {u : Bool} where
-  pub branching_start : Branching f all all [] Q Q u u
-  branching_start = record { done = []; split = refl; alike = tt; path = refl; answer = refl }
+module _ {X : Type 0} {f : Bool → Path → X → List Fault} {all : List X} {Q : Path} {a : Asking} where
+  pub branching_start : Branching f all all [] Q Q a a
+  branching_start = record { done = []; split = refl; alike = tt; path = refl; only = only_same a }
 
-  module _ {rest : List X} {lists : List (Vec ValidationError Global)} {R : Path} {w : Bool} (loop : Branching f all rest lists Q R u w) where
-    pub branching_more : {x : X} {more : List X} (list : Vec ValidationError Global) {longer : List (Vec ValidationError Global)} {S : Path} {t : Bool} → rest ≡ x ∷ more → Appends [] list.items (f w R x) → longer ≡ lists ++ list ∷ [] → S ≡ R → t ≡ w → Branching f all more longer Q S u t
-    branching_more {x} {more} list {longer} next found grown path answer = record {
+  module _ {rest : List X} {lists : List (Vec ValidationError Global)} {R : Path} {b : Asking} (loop : Branching f all rest lists Q R a b) where
+    pub branching_more : {x : X} {more : List X} (list : Vec ValidationError Global) {longer : List (Vec ValidationError Global)} {S : Path} {c : Asking} → rest ≡ x ∷ more → Appends [] list.items (f b.answer R x) → longer ≡ lists ++ list ∷ [] → S ≡ R → OnlyAsks b c → Branching f all more longer Q S a c
+    branching_more {x} {more} list {longer} next found grown path only = record {
       done = loop.done ++ x ∷ [];
       split = append_assoc loop.done (x ∷ []) more ∙ ap (λ l. loop.done ++ l) (sym next) ∙ loop.split;
-      alike = subst₂ AreLike (sym (ap (map (λ l. map fault_of l.items)) grown ∙ map-append (λ l. map fault_of l.items) lists (list ∷ []))) (sym (map-append (f u Q) loop.done (x ∷ [])))
-          (like_last (map (λ l. map fault_of l.items) lists) (map (f u Q) loop.done) (map fault_of list.items) (f u Q x) loop.alike
-          (subst₂ (λ a P. map fault_of list.items ∼ f a P x) loop.answer loop.path (subst (λ l. map fault_of l ∼ f w R x) (sym found.is) found.same)));
+      alike = subst₂ AreLike (sym (ap (map (λ l. map fault_of l.items)) grown ∙ map-append (λ l. map fault_of l.items) lists (list ∷ []))) (sym (map-append (f a.answer Q) loop.done (x ∷ [])))
+          (like_last (map (λ l. map fault_of l.items) lists) (map (f a.answer Q) loop.done) (map fault_of list.items) (f a.answer Q x) loop.alike
+          (subst₂ (λ u P. map fault_of list.items ∼ f u P x) loop.only.answer loop.path (subst (λ l. map fault_of l ∼ f b.answer R x) (sym found.is) found.same)));
       path = path ∙ loop.path;
-      answer = answer ∙ loop.answer;
+      only = only_then loop.only only;
     }
 
-    pub branching_end : rest ≡ [] → AreLike (map (λ l. map fault_of l.items) lists) (map (f u Q) all)
-    branching_end none = subst (λ l. AreLike (map (λ l. map fault_of l.items) lists) (map (f u Q) l)) (sym (append-nil loop.done) ∙ ap (λ l. loop.done ++ l) (sym none) ∙ loop.split) loop.alike
-
--- ---- one that accepts
-
--- none of those before the rest accepts
-pub record Trying {X : Type 0} (q : X → Question) (all rest : List X) (Q R : Path) (u w : Bool) : Type 0 where
-  pub verdict : (some q all).accepts u ≡ (some q rest).accepts u
-  pub path : R ≡ Q
-  pub answer : w ≡ u
-
-module _ {X : Type 0} {q : X → Question} {all : List X} {Q : Path} {u : Bool} where
-  pub trying_start : Trying q all all Q Q u u
-  trying_start = record { verdict = refl; path = refl; answer = refl }
-
-  module _ {rest : List X} {R : Path} {w : Bool} (loop : Trying q all rest Q R u w) where
-    pub trying_more : {x : X} {more : List X} {S : Path} {t : Bool} → rest ≡ x ∷ more → false ≡ (q x).accepts w → S ≡ R → t ≡ w → Trying q all more Q S u t
-    trying_more {x} {more} next refused path answer = record {
-      verdict = loop.verdict ∙ ap (λ l. (some q l).accepts u) next ∙ ap (λ b. b || (some q more).accepts u) (sym (refused ∙ ap (q x).accepts loop.answer));
-      path = path ∙ loop.path;
-      answer = answer ∙ loop.answer;
-    }
-
-    pub trying_found : {x : X} {more : List X} → rest ≡ x ∷ more → true ≡ (q x).accepts w → true ≡ (some q all).accepts u
-    trying_found {x} {more} next accepted = sym (loop.verdict ∙ ap (λ l. (some q l).accepts u) next ∙ ap (λ b. b || (some q more).accepts u) (sym (accepted ∙ ap (q x).accepts loop.answer)))
-
-    pub trying_end : rest ≡ [] → false ≡ (some q all).accepts u
-    trying_end none = sym (loop.verdict ∙ ap (λ l. (some q l).accepts u) none)
+    pub branching_end : rest ≡ [] → AreLike (map (λ l. map fault_of l.items) lists) (map (f a.answer Q) all)
+    branching_end none = subst (λ l. AreLike (map (λ l. map fault_of l.items) lists) (map (f a.answer Q) l)) (sym (append-nil loop.done) ∙ ap (λ l. loop.done ++ l) (sym none) ∙ loop.split) loop.alike

@@ -29,10 +29,16 @@ abbrev pub IfInvalid : ValidateError → (Fault → Type 0) → Type 0
 IfInvalid (Invalid e) So = So (fault_of e)
 IfInvalid (Memory m) So = ⊤
 
+-- what asking a value comes to: whether it is accepted, the faults of the first step that refuses, and all faults
+pub record Outcome : Type 0 where
+  pub accepts : Bool
+  pub first : List Fault
+  pub all : List Fault
+
 -- it accepts, and no step refuses
-pub record Passes (accepts : Bool) (first : List Fault) : Type 0 where
-  pub verdict : accepts ≡ true
-  pub nothing : first ≡ []
+pub record Passes (o : Outcome) : Type 0 where
+  pub verdict : o.accepts ≡ true
+  pub nothing : o.first ≡ []
 
 -- one of these, up to the order in its context
 pub record IsLikeOneOf (faults : List Fault) (f : Fault) : Type 0 where
@@ -47,10 +53,10 @@ pub record IsKeptOf (faults : List Fault) (f : Fault) : Type 0 where
   pub like : IsLike f (cut whole)
 
 -- it refuses, and f is a fault of its first step that refuses, and what is kept of one of all its faults
-pub record IsTold (accepts : Bool) (first all : List Fault) (f : Fault) : Type 0 where
-  pub verdict : accepts ≡ false
-  pub of_first : IsLikeOneOf first f
-  pub of_all : IsKeptOf all f
+pub record IsErrorOf (o : Outcome) (f : Fault) : Type 0 where
+  pub verdict : o.accepts ≡ false
+  pub of_first : IsLikeOneOf o.first f
+  pub of_all : IsKeptOf o.all f
 
 -- f is what is kept of a fault of some report of the schema over the value
 pub record IsOfReport (W : World) (u : Bool) (S v : Data) (P Q : Path) (f : Fault) : Type 0 where

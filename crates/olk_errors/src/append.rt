@@ -1,6 +1,6 @@
 // One error more, and errors taken back.
 ghost use Rattle.std.specs.Prelude.{◌≡◌, ◌∷◌, [], OnOk, OnErr, IfErr, take};
-ghost use Rattle.olk_base.specs.Nodes.{tree_of};
+ghost use Rattle.olk_base.specs.Nodes.{data_of};
 ghost use Rattle.olk_spec.specs.Faults.{fault};
 ghost use Rattle.olk_reports.specs.Errors.{kind_of};
 ghost use Rattle.olk_errors.specs.Found.{Appends, IfInvalid};
@@ -18,7 +18,8 @@ pub(crate) fn append_error<'a>(
     schema_path: &'a str,
     errors: &mut Vec<ValidationError<'a>>,
 ) -> Result<(), AllocError>
-    ensures report { OnOk result (Appends errors.old.items errors.new.items (fault (kind_of kind.entry) (tree_of node.entry) path.now schema_path.now ∷ [])) }
+    ensures report { OnOk result (Appends errors.old.items errors.new.items
+        (fault (kind_of kind.entry) (data_of node.entry) path.now schema_path.now ∷ [])) }
     ensures memory { OnErr result (errors.new.items ≡ errors.old.items) }
 {
     let text = String::from_str(alloc, path.as_str())?;
@@ -35,14 +36,15 @@ pub(crate) fn refuse<'a>(
     schema_path: &'a str,
 ) -> Result<(), ValidateError<'a>>
     ensures ok { OnOk result ⊥ }
-    ensures invalid { IfErr result (λ e. IfInvalid e (λ f. f ≡ fault (kind_of kind.entry) (tree_of node.entry) path.now schema_path.now)) }
+    ensures invalid { IfErr result (λ e. IfInvalid e (λ f.
+        f ≡ fault (kind_of kind.entry) (data_of node.entry) path.now schema_path.now)) }
 {
     let text = String::from_str(alloc, path.as_str())?;
     Err(ValidateError::Invalid(ValidationError::new(kind, node, text, schema_path)))
 }
 
 // After want of memory the list is cut back to its length before.
-pub(crate) fn or_cut<'a>(
+pub(crate) fn roll_back_on_err<'a>(
     answer: Result<(), AllocError>,
     errors: &mut Vec<ValidationError<'a>>,
     len: usize,

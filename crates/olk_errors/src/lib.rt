@@ -1,31 +1,28 @@
 //! What is wrong with a value: the first error, and all errors.
 #![tactic(auto)]
 
-ghost use Rattle.std.specs.Prelude.{Bool, List};
-ghost use Rattle.serde_json.specs.Data.{Data};
-ghost use Rattle.olk_spec.specs.Names.{Path};
-ghost use Rattle.olk_spec.specs.Faults.{Fault};
-
 use olk_base::{Node, ValidationContext};
 use olk_check::IsValid;
 use olk_reports::{InstancePath, ValidateError, ValidationError};
+use olk_tree::Reports;
 use std::alloc::{AllocError, Global};
 
 /// What can be asked what is wrong with a value.
-pub trait Errors<'a>: IsValid {
+pub trait Errors<'a>: IsValid + Reports {
     ghost use Rattle.std.specs.Prelude.{◌≡◌, OnOk, OnErr, IfErr};
-    ghost use Rattle.olk_base.specs.Nodes.{tree_of};
-    ghost use Rattle.olk_errors.specs.Found.{Appends, IfInvalid, Passes, IsTold};
-
-    // the faults that it finds in a value at a path, and those of its first step that refuses, for either answer for unfinished matches
-    ghost finds: { Self → Bool → Data → Path → List Fault };
-
-    ghost first: { Self → Bool → Data → Path → List Fault };
+    ghost use Rattle.olk_base.specs.Nodes.{data_of};
+    ghost use Rattle.olk_check.specs.Asks.{OnlyAsks};
+    ghost use Rattle.olk_errors.specs.Found.{Appends, IfInvalid, Passes, IsErrorOf};
+    ghost use Rattle.olk_errors.specs.Outcomes.{of_node};
 
     /// The first error of its walk over the node, which stands at the path; none where the node is accepted.
     ///
-    /// An error about members that nothing allows names the first of them alone. Otherwise the only error is want of
-    /// memory. The path and the context's answer are as before.
+    /// An error about members that nothing allows names the first of them alone. The path and the context's answer are
+    /// as before; of the counts only those of matchers that were asked and of matches that were left unfinished rise.
+    ///
+    /// # Errors
+    ///
+    /// That error, or want of memory.
     fn validate(
         &'a self,
         alloc: Global,
@@ -33,15 +30,21 @@ pub trait Errors<'a>: IsValid {
         path: &mut InstancePath,
         ctx: &mut ValidationContext,
     ) -> Result<(), ValidateError<'a>>
-        ensures ok { OnOk result (Passes ((Self.means self.now (tree_of node.entry)).accepts ctx.old.answer) (first self.now ctx.old.answer (tree_of node.entry) path.old)) }
-        ensures invalid { IfErr result (λ e. IfInvalid e (IsTold ((Self.means self.now (tree_of node.entry)).accepts ctx.old.answer) (first self.now ctx.old.answer (tree_of node.entry) path.old) (finds self.now ctx.old.answer (tree_of node.entry) path.old))) }
+        ensures ok { OnOk result (Passes
+            (of_node Self.Means Self.Reports ctx.old.answer self.now (data_of node.entry) path.old)) }
+        ensures invalid { IfErr result (λ e. IfInvalid e (IsErrorOf
+            (of_node Self.Means Self.Reports ctx.old.answer self.now (data_of node.entry) path.old))) }
         ensures path { path.new ≡ path.old }
-        ensures answer { ctx.new.answer ≡ ctx.old.answer };
+        ensures context { OnlyAsks ctx.old ctx.new };
 
-    /// Appends all errors that the node, which stands at the path, has.
+    /// Appends all errors that the node, which stands at the path, has; none exactly where it is accepted.
     ///
-    /// The only error is want of memory, and then the list is as before. So are the path and the context's answer, in
-    /// both cases.
+    /// The path and the context's answer are as before; of the counts only those of matchers that were asked and of
+    /// matches that were left unfinished rise.
+    ///
+    /// # Errors
+    ///
+    /// Want of memory, and then the list is as before.
     fn collect_errors(
         &'a self,
         alloc: Global,
@@ -50,15 +53,20 @@ pub trait Errors<'a>: IsValid {
         ctx: &mut ValidationContext,
         errors: &mut Vec<ValidationError<'a>>,
     ) -> Result<(), AllocError>
-        ensures report { OnOk result (Appends errors.old.items errors.new.items (finds self.now ctx.old.answer (tree_of node.entry) path.old)) }
+        ensures report { OnOk result (Appends errors.old.items errors.new.items
+            (Self.report self.now ctx.old.answer (data_of node.entry) path.old)) }
         ensures memory { OnErr result (errors.new.items ≡ errors.old.items) }
         ensures path { path.new ≡ path.old }
-        ensures answer { ctx.new.answer ≡ ctx.old.answer };
+        ensures context { OnlyAsks ctx.old ctx.new };
 }
 
+mod all_of;
+mod any_of;
 mod append;
-pub mod logic;
-pub mod node;
-pub mod properties;
-pub mod required;
+mod node;
+mod not;
+mod properties;
+mod required;
 mod walk;
+
+pub use node::{collect_body, validate_body};

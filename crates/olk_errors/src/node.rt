@@ -1,13 +1,12 @@
 //! Keywords and bodies.
-ghost use Rattle.std.specs.Prelude.{◌≡◌, map, OnOk, OnErr, IfErr};
-ghost use Rattle.olk_base.specs.Nodes.{tree_of};
-ghost use Rattle.olk_spec.specs.Names.{is_empty};
-ghost use Rattle.olk_spec.specs.Faults.{fault, Leaf, FalseSchema};
-ghost use Rattle.olk_tree.specs.Answers.{body_means, body_finds, body_first};
-ghost use Rattle.olk_errors.specs.Found.{Appends, IfInvalid, Passes, IsTold};
+ghost use Rattle.std.specs.Prelude.{◌≡◌, OnOk, OnErr, IfErr};
+ghost use Rattle.olk_base.specs.Nodes.{data_of};
+ghost use Rattle.olk_check.specs.Asks.{OnlyAsks};
+ghost use Rattle.olk_errors.specs.Found.{Appends, IfInvalid, Passes, IsErrorOf};
+ghost use Rattle.olk_errors.specs.Outcomes.{of_leaf, of_body};
 
 use crate::Errors;
-use crate::append::{append_error, or_cut, refuse};
+use crate::append::{append_error, refuse, roll_back_on_err};
 use crate::walk::{collect_all, validate_all};
 use olk_base::{Leaf, Node, ValidationContext};
 use olk_reports::{InstancePath, Location, ValidateError, ValidationError, ValidationErrorKind};
@@ -16,25 +15,22 @@ use std::alloc::{AllocError, Global};
 
 // One of the errors that a leaf finds.
 fn validate_leaf<'a, K: Leaf>(
+    alloc: Global,
     leaf: &'a K,
     location: &'a Location,
-    alloc: Global,
     node: Node<'a>,
     path: &InstancePath,
 ) -> Result<(), ValidateError<'a>>
-    ensures ok { OnOk result (Passes (is_empty (K.finds leaf.now (tree_of node.entry))) (map (λ t. fault (Leaf (K.keyword_of leaf.now) t) (tree_of node.entry) path.now location.now) (K.finds leaf.now (tree_of node.entry)))) }
-    ensures invalid { IfErr result (λ e. IfInvalid e (IsTold (is_empty (K.finds leaf.now (tree_of node.entry))) (map (λ t. fault (Leaf (K.keyword_of leaf.now) t) (tree_of node.entry) path.now location.now) (K.finds leaf.now (tree_of node.entry))) (map (λ t. fault (Leaf (K.keyword_of leaf.now) t) (tree_of node.entry) path.now location.now) (K.finds leaf.now (tree_of node.entry))))) }
+    ensures ok { OnOk result (Passes
+        (of_leaf K.Leaf leaf.now (data_of node.entry) location.now path.now)) }
+    ensures invalid { IfErr result (λ e. IfInvalid e (IsErrorOf
+        (of_leaf K.Leaf leaf.now (data_of node.entry) location.now path.now))) }
 {
     match leaf.validate(alloc, node)? {
         Some(text) => {
             let keyword = leaf.keyword();
-            refuse(
-                alloc,
-                ValidationErrorKind::Leaf { keyword, text },
-                node,
-                path,
-                location.as_str(),
-            )
+            let kind = ValidationErrorKind::Leaf { keyword, text };
+            refuse(alloc, kind, node, path, location.as_str())
         }
         None => Ok(()),
     }
@@ -42,14 +38,15 @@ fn validate_leaf<'a, K: Leaf>(
 
 // All errors that a leaf finds.
 fn collect_leaf<'a, K: Leaf>(
+    alloc: Global,
     leaf: &'a K,
     location: &'a Location,
-    alloc: Global,
     node: Node<'a>,
     path: &InstancePath,
     errors: &mut Vec<ValidationError<'a>>,
 ) -> Result<(), AllocError>
-    ensures report { OnOk result (Appends errors.old.items errors.new.items (map (λ t. fault (Leaf (K.keyword_of leaf.now) t) (tree_of node.entry) path.now location.now) (K.finds leaf.now (tree_of node.entry)))) }
+    ensures report { OnOk result (Appends errors.old.items errors.new.items
+        (of_leaf K.Leaf leaf.now (data_of node.entry) location.now path.now).all) }
     ensures memory { OnErr result (errors.new.items ≡ errors.old.items) }
 {
     let mut texts = Vec::new(alloc);
@@ -59,21 +56,13 @@ fn collect_leaf<'a, K: Leaf>(
         let keyword = leaf.keyword();
         let kind = ValidationErrorKind::Leaf { keyword, text };
         let answer = append_error(alloc, kind, node, path, location.as_str(), errors);
-        or_cut(answer, errors, len)?;
+        roll_back_on_err(answer, errors, len)?;
     }
     Ok(())
 }
 
-/// What the keyword finds in the value.
 impl<'a, K: Leaf, N: Errors<'a>> Errors<'a> for KeywordOver<K, N> {
-    ghost use Rattle.olk_tree.specs.Answers.{keyword_finds, keyword_first};
-    ghost use Rattle.olk_tree.specs.Answers.{keyword_means};
-
-    ghost finds = { λ k u. keyword_finds K.finds N.means K.keyword_of N.finds u k };
-
-    ghost first = { λ k u. keyword_first K.finds N.means K.keyword_of N.finds u N.first k };
-
-    #[tactic(auto, unfolding(olk_tree::specs::Answers::keyword_means, olk_tree::specs::Answers::keyword_finds, olk_tree::specs::Answers::keyword_first))]
+    #[tactic(auto, unfolding(olk_tree::specs::Answers::validator_means, olk_tree::specs::Answers::validator_report, olk_tree::specs::Answers::validator_first))]
     fn validate(
         &'a self,
         alloc: Global,
@@ -92,11 +81,11 @@ impl<'a, K: Leaf, N: Errors<'a>> Errors<'a> for KeywordOver<K, N> {
             KeywordOver::AnyOf(keyword) => keyword.validate(alloc, node, path, ctx),
             KeywordOver::SingleAnyOf(keyword) => keyword.validate(alloc, node, path, ctx),
             KeywordOver::Not(keyword) => keyword.validate(alloc, node, path, ctx),
-            KeywordOver::Leaf(location, leaf) => validate_leaf(leaf, location, alloc, node, path),
+            KeywordOver::Leaf(location, leaf) => validate_leaf(alloc, leaf, location, node, path),
         }
     }
 
-    #[tactic(auto, unfolding(olk_tree::specs::Answers::keyword_finds))]
+    #[tactic(auto, unfolding(olk_tree::specs::Answers::validator_report))]
     fn collect_errors(
         &'a self,
         alloc: Global,
@@ -125,25 +114,31 @@ impl<'a, K: Leaf, N: Errors<'a>> Errors<'a> for KeywordOver<K, N> {
             ),
             KeywordOver::Not(keyword) => keyword.collect_errors(alloc, node, path, ctx, errors),
             KeywordOver::Leaf(location, leaf) => {
-                collect_leaf(leaf, location, alloc, node, path, errors)
+                collect_leaf(alloc, leaf, location, node, path, errors)
             }
         }
     }
 }
 
-// The first error of a body at its place.
+/// The first error of a body at its place: of a false schema one, of a true one none, and otherwise that of its keywords.
+///
+/// # Errors
+///
+/// That error, or want of memory.
 pub fn validate_body<'a, W: Errors<'a>>(
+    alloc: Global,
     body: &'a Body<W>,
     location: &'a str,
-    alloc: Global,
     node: Node<'a>,
     path: &mut InstancePath,
     ctx: &mut ValidationContext,
 ) -> Result<(), ValidateError<'a>>
-    ensures ok { OnOk result (Passes ((body_means W.means body.now (tree_of node.entry)).accepts ctx.old.answer) (body_first (λ k. W.first k ctx.old.answer) location.now body.now (tree_of node.entry) path.old)) }
-    ensures invalid { IfErr result (λ e. IfInvalid e (IsTold ((body_means W.means body.now (tree_of node.entry)).accepts ctx.old.answer) (body_first (λ k. W.first k ctx.old.answer) location.now body.now (tree_of node.entry) path.old) (body_finds (λ k. W.finds k ctx.old.answer) location.now body.now (tree_of node.entry) path.old))) }
+    ensures ok { OnOk result (Passes (of_body W.Means W.Reports ctx.old.answer
+        location.now body.now (data_of node.entry) path.old)) }
+    ensures invalid { IfErr result (λ e. IfInvalid e (IsErrorOf (of_body W.Means W.Reports ctx.old.answer
+        location.now body.now (data_of node.entry) path.old))) }
     ensures path { path.new ≡ path.old }
-    ensures answer { ctx.new.answer ≡ ctx.old.answer }
+    ensures context { OnlyAsks ctx.old ctx.new }
 {
     match body {
         Body::True => Ok(()),
@@ -154,24 +149,29 @@ pub fn validate_body<'a, W: Errors<'a>>(
             path,
             location,
         ),
-        Body::Keywords(keywords) => validate_all(keywords, alloc, node, path, ctx),
+        Body::Keywords(keywords) => validate_all(alloc, keywords, node, path, ctx),
     }
 }
 
-// The errors of a body at its place.
+/// Appends the errors of a body at its place: of a false schema one, of a true one none, and otherwise those of its keywords.
+///
+/// # Errors
+///
+/// Want of memory, and then the list is as before.
 pub fn collect_body<'a, W: Errors<'a>>(
+    alloc: Global,
     body: &'a Body<W>,
     location: &'a str,
-    alloc: Global,
     node: Node<'a>,
     path: &mut InstancePath,
     ctx: &mut ValidationContext,
     errors: &mut Vec<ValidationError<'a>>,
 ) -> Result<(), AllocError>
-    ensures report { OnOk result (Appends errors.old.items errors.new.items (body_finds (λ k. W.finds k ctx.old.answer) location.now body.now (tree_of node.entry) path.old)) }
+    ensures report { OnOk result (Appends errors.old.items errors.new.items
+        (of_body W.Means W.Reports ctx.old.answer location.now body.now (data_of node.entry) path.old).all) }
     ensures memory { OnErr result (errors.new.items ≡ errors.old.items) }
     ensures path { path.new ≡ path.old }
-    ensures answer { ctx.new.answer ≡ ctx.old.answer }
+    ensures context { OnlyAsks ctx.old ctx.new }
 {
     match body {
         Body::True => Ok(()),
@@ -179,6 +179,6 @@ pub fn collect_body<'a, W: Errors<'a>>(
             let kind: ValidationErrorKind<'a> = ValidationErrorKind::FalseSchema;
             append_error(alloc, kind, node, path, location, errors)
         }
-        Body::Keywords(keywords) => collect_all(keywords, alloc, node, path, ctx, errors),
+        Body::Keywords(keywords) => collect_all(alloc, keywords, node, path, ctx, errors),
     }
 }

@@ -1,16 +1,13 @@
 //! `required`.
 ghost use Rattle.std.specs.Prelude.{◌≡◌, ◌∷◌, [], OnOk, OnErr, IfErr};
-ghost use Rattle.serde_json.specs.Data.{object};
-ghost use Rattle.serde_json.specs.View.{members_view};
-ghost use Rattle.olk_base.specs.Nodes.{tree_of};
-ghost use Rattle.olk_spec.specs.Names.{is_empty};
-ghost use Rattle.olk_spec.specs.Accepts.{missing};
-ghost use Rattle.olk_spec.specs.Reports.{required_faults};
-ghost use Rattle.olk_tree.specs.Answers.{texts_of, head_of};
-ghost use Rattle.olk_errors.specs.Found.{Appends, IfInvalid, Passes, IsTold};
+ghost use Rattle.olk_base.specs.Nodes.{data_of};
+ghost use Rattle.olk_tree.specs.Answers.{texts_of};
+ghost use Rattle.olk_tree.specs.Visited.{object_of};
+ghost use Rattle.olk_errors.specs.Found.{Appends, IfInvalid, Passes, IsErrorOf};
+ghost use Rattle.olk_errors.specs.Outcomes.{of_names};
 
 use crate::Errors;
-use crate::append::{append_error, or_cut, refuse};
+use crate::append::{append_error, refuse, roll_back_on_err};
 use olk_base::{Node, ValidationContext};
 use olk_reports::{InstancePath, ValidateError, ValidationError, ValidationErrorKind};
 use olk_tree::members::has_member;
@@ -18,15 +15,8 @@ use olk_tree::required::RequiredValidator;
 use serde_json::{Map, Value};
 use std::alloc::{AllocError, Global};
 
-/// One error for each listed name that is absent, in the order of the list (JSON Schema 2020-12 Validation, 6.5.3).
 impl<'a> Errors<'a> for RequiredValidator {
-    ghost use Rattle.olk_spec.specs.Reports.{required_faults};
-    ghost use Rattle.olk_tree.specs.Answers.{texts_of, head_of};
-
-    ghost finds = { λ k u v Q. required_faults (texts_of k.required.items) v k.location Q };
-
-    ghost first = { λ k u v Q. head_of (required_faults (texts_of k.required.items) v k.location Q) };
-
+    #[tactic(auto, using(olk_check::proofs::Asked::only_same))]
     fn validate(
         &'a self,
         alloc: Global,
@@ -34,19 +24,14 @@ impl<'a> Errors<'a> for RequiredValidator {
         path: &mut InstancePath,
         _ctx: &mut ValidationContext,
     ) -> Result<(), ValidateError<'a>> {
+        let location = self.location.as_str();
         match node.as_object() {
-            Some(members) => first_missing(
-                &self.required,
-                self.location.as_str(),
-                alloc,
-                members,
-                node,
-                path,
-            ),
+            Some(members) => refuse_missing(alloc, &self.required, location, members, node, path),
             None => Ok(()),
         }
     }
 
+    #[tactic(auto, using(olk_check::proofs::Asked::only_same))]
     fn collect_errors(
         &'a self,
         alloc: Global,
@@ -55,17 +40,10 @@ impl<'a> Errors<'a> for RequiredValidator {
         _ctx: &mut ValidationContext,
         errors: &mut Vec<ValidationError<'a>>,
     ) -> Result<(), AllocError> {
+        let location = self.location.as_str();
         match node.as_object() {
             Some(members) => {
-                collect_missing(
-                    &self.required,
-                    self.location.as_str(),
-                    alloc,
-                    members,
-                    node,
-                    path,
-                    errors,
-                )
+                collect_missing(alloc, &self.required, location, members, node, path, errors)
             }
             None => Ok(()),
         }
@@ -73,135 +51,132 @@ impl<'a> Errors<'a> for RequiredValidator {
 }
 
 // The error of the first name that is absent.
-pub(crate) fn first_missing<'a>(
-    names: &'a Vec<String>,
-    schema_path: &'a str,
+fn refuse_missing<'a>(
     alloc: Global,
+    names: &'a Vec<String>,
+    location: &'a str,
     members: &Map<String, Value>,
     node: Node<'a>,
     path: &InstancePath,
 ) -> Result<(), ValidateError<'a>>
-    requires { tree_of node ≡ object (members_view members.now.entries) }
-    ensures ok { OnOk result (Passes (is_empty (missing (texts_of names.now.items) (tree_of node.entry))) (head_of (required_faults (texts_of names.now.items) (tree_of node.entry) schema_path.now path.now))) }
-    ensures invalid { IfErr result (λ e. IfInvalid e (IsTold (is_empty (missing (texts_of names.now.items) (tree_of node.entry))) (head_of (required_faults (texts_of names.now.items) (tree_of node.entry) schema_path.now path.now)) (required_faults (texts_of names.now.items) (tree_of node.entry) schema_path.now path.now))) }
+    requires { data_of node ≡ object_of members.now.entries }
+    ensures ok { OnOk result (Passes
+        (of_names (texts_of names.now.items) (data_of node.entry) location.now path.now)) }
+    ensures invalid { IfErr result (λ e. IfInvalid e (IsErrorOf
+        (of_names (texts_of names.now.items) (data_of node.entry) location.now path.now))) }
 {
     for name in names {
-        refuse_if_missing(name.as_str(), schema_path, alloc, members, node, path)?;
+        refuse_if_missing(alloc, name.as_str(), location, members, node, path)?;
     }
     Ok(())
 }
 
 // The error of the name, if it is absent.
-pub(crate) fn refuse_if_missing<'a>(
-    name: &'a str,
-    schema_path: &'a str,
+fn refuse_if_missing<'a>(
     alloc: Global,
+    name: &'a str,
+    location: &'a str,
     members: &Map<String, Value>,
     node: Node<'a>,
     path: &InstancePath,
 ) -> Result<(), ValidateError<'a>>
-    requires { tree_of node ≡ object (members_view members.now.entries) }
-    ensures ok { OnOk result (Passes (is_empty (missing (name.now ∷ []) (tree_of node.entry))) (required_faults (name.now ∷ []) (tree_of node.entry) schema_path.now path.now)) }
-    ensures invalid { IfErr result (λ e. IfInvalid e (IsTold (is_empty (missing (name.now ∷ []) (tree_of node.entry))) (required_faults (name.now ∷ []) (tree_of node.entry) schema_path.now path.now) (required_faults (name.now ∷ []) (tree_of node.entry) schema_path.now path.now))) }
+    requires { data_of node ≡ object_of members.now.entries }
+    ensures ok { OnOk result (Passes
+        (of_names (name.now ∷ []) (data_of node.entry) location.now path.now)) }
+    ensures invalid { IfErr result (λ e. IfInvalid e (IsErrorOf
+        (of_names (name.now ∷ []) (data_of node.entry) location.now path.now))) }
 {
     if has_member(members, name) {
         return Ok(());
     }
-    refuse(
-        alloc,
-        ValidationErrorKind::Required { property: name },
-        node,
-        path,
-        schema_path,
-    )
+    let kind = ValidationErrorKind::Required { property: name };
+    refuse(alloc, kind, node, path, location)
 }
 
 // One error for each name that is absent.
-pub(crate) fn collect_missing<'a>(
-    names: &'a Vec<String>,
-    schema_path: &'a str,
+fn collect_missing<'a>(
     alloc: Global,
+    names: &'a Vec<String>,
+    location: &'a str,
     members: &Map<String, Value>,
     node: Node<'a>,
     path: &InstancePath,
     errors: &mut Vec<ValidationError<'a>>,
 ) -> Result<(), AllocError>
-    requires { tree_of node ≡ object (members_view members.now.entries) }
-    ensures report { OnOk result (Appends errors.old.items errors.new.items (required_faults (texts_of names.now.items) (tree_of node.entry) schema_path.now path.now)) }
+    requires { data_of node ≡ object_of members.now.entries }
+    ensures report { OnOk result (Appends errors.old.items errors.new.items
+        (of_names (texts_of names.now.items) (data_of node.entry) location.now path.now).all) }
     ensures memory { OnErr result (errors.new.items ≡ errors.old.items) }
 {
     let len = errors.len();
     for name in names {
-        let answer = collect_if_missing(
-            name.as_str(),
-            schema_path,
-            alloc,
-            members,
-            node,
-            path,
-            errors,
-        );
-        or_cut(answer, errors, len)?;
+        let name = name.as_str();
+        let answer = collect_if_missing(alloc, name, location, members, node, path, errors);
+        roll_back_on_err(answer, errors, len)?;
     }
     Ok(())
 }
 
 // One error, if the name is absent.
-pub(crate) fn collect_if_missing<'a>(
-    name: &'a str,
-    schema_path: &'a str,
+fn collect_if_missing<'a>(
     alloc: Global,
+    name: &'a str,
+    location: &'a str,
     members: &Map<String, Value>,
     node: Node<'a>,
     path: &InstancePath,
     errors: &mut Vec<ValidationError<'a>>,
 ) -> Result<(), AllocError>
-    requires { tree_of node ≡ object (members_view members.now.entries) }
-    ensures report { OnOk result (Appends errors.old.items errors.new.items (required_faults (name.now ∷ []) (tree_of node.entry) schema_path.now path.now)) }
+    requires { data_of node ≡ object_of members.now.entries }
+    ensures report { OnOk result (Appends errors.old.items errors.new.items
+        (of_names (name.now ∷ []) (data_of node.entry) location.now path.now).all) }
     ensures memory { OnErr result (errors.new.items ≡ errors.old.items) }
 {
     if has_member(members, name) {
         return Ok(());
     }
     let kind = ValidationErrorKind::Required { property: name };
-    append_error(alloc, kind, node, path, schema_path, errors)
+    append_error(alloc, kind, node, path, location, errors)
 }
 
 // The error of the first of two names that is absent.
-pub(crate) fn refuse_if_either_missing<'a>(
+pub(crate) fn refuse_missing_of_two<'a>(
+    alloc: Global,
     first: &'a str,
     second: &'a str,
-    schema_path: &'a str,
-    alloc: Global,
+    location: &'a str,
     members: &Map<String, Value>,
     node: Node<'a>,
     path: &InstancePath,
 ) -> Result<(), ValidateError<'a>>
-    requires { tree_of node ≡ object (members_view members.now.entries) }
-    ensures ok { OnOk result (Passes (is_empty (missing (first.now ∷ second.now ∷ []) (tree_of node.entry))) (head_of (required_faults (first.now ∷ second.now ∷ []) (tree_of node.entry) schema_path.now path.now))) }
-    ensures invalid { IfErr result (λ e. IfInvalid e (IsTold (is_empty (missing (first.now ∷ second.now ∷ []) (tree_of node.entry))) (head_of (required_faults (first.now ∷ second.now ∷ []) (tree_of node.entry) schema_path.now path.now)) (required_faults (first.now ∷ second.now ∷ []) (tree_of node.entry) schema_path.now path.now))) }
+    requires { data_of node ≡ object_of members.now.entries }
+    ensures ok { OnOk result (Passes
+        (of_names (first.now ∷ second.now ∷ []) (data_of node.entry) location.now path.now)) }
+    ensures invalid { IfErr result (λ e. IfInvalid e (IsErrorOf
+        (of_names (first.now ∷ second.now ∷ []) (data_of node.entry) location.now path.now))) }
 {
-    refuse_if_missing(first, schema_path, alloc, members, node, path)?;
-    refuse_if_missing(second, schema_path, alloc, members, node, path)
+    refuse_if_missing(alloc, first, location, members, node, path)?;
+    refuse_if_missing(alloc, second, location, members, node, path)
 }
 
 // One error for each of two names that is absent.
-pub(crate) fn collect_if_either_missing<'a>(
+pub(crate) fn collect_missing_of_two<'a>(
+    alloc: Global,
     first: &'a str,
     second: &'a str,
-    schema_path: &'a str,
-    alloc: Global,
+    location: &'a str,
     members: &Map<String, Value>,
     node: Node<'a>,
     path: &InstancePath,
     errors: &mut Vec<ValidationError<'a>>,
 ) -> Result<(), AllocError>
-    requires { tree_of node ≡ object (members_view members.now.entries) }
-    ensures report { OnOk result (Appends errors.old.items errors.new.items (required_faults (first.now ∷ second.now ∷ []) (tree_of node.entry) schema_path.now path.now)) }
+    requires { data_of node ≡ object_of members.now.entries }
+    ensures report { OnOk result (Appends errors.old.items errors.new.items
+        (of_names (first.now ∷ second.now ∷ []) (data_of node.entry) location.now path.now).all) }
     ensures memory { OnErr result (errors.new.items ≡ errors.old.items) }
 {
     let len = errors.len();
-    collect_if_missing(first, schema_path, alloc, members, node, path, errors)?;
-    let answer = collect_if_missing(second, schema_path, alloc, members, node, path, errors);
-    or_cut(answer, errors, len)
+    collect_if_missing(alloc, first, location, members, node, path, errors)?;
+    let answer = collect_if_missing(alloc, second, location, members, node, path, errors);
+    roll_back_on_err(answer, errors, len)
 }

@@ -1,6 +1,6 @@
 //! `anyOf`.
 ghost use Rattle.std.specs.Prelude.{◌≡◌, IfOk};
-ghost use Rattle.olk_base.specs.Nodes.{tree_of};
+ghost use Rattle.olk_base.specs.Nodes.{data_of};
 ghost use Rattle.olk_spec.specs.Names.{those};
 ghost use Rattle.olk_evaluate.specs.Wanted.{AreShown, each_wanted, trees_of};
 
@@ -77,7 +77,7 @@ fn accepting_children<'a, N: Evaluate<'a>>(
     path: &mut InstancePath,
     ctx: &mut ValidationContext,
 ) -> Result<Vec<EvaluationNode<'a>>, AllocError>
-    ensures shown { IfOk result (λ cs. AreShown (those (λ w. w.1) (each_wanted N.shows N.means ctx.old.answer schemas.now.items (tree_of node.entry) path.old)) (trees_of cs.items)) }
+    ensures shown { IfOk result (λ cs. AreShown (those (λ w. w.1) (each_wanted N.shows N.means ctx.old.answer schemas.now.items (data_of node.entry) path.old)) (trees_of cs.items)) }
     ensures path { path.new ≡ path.old }
     ensures answer { ctx.new.answer ≡ ctx.old.answer }
 {

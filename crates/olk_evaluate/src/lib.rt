@@ -23,7 +23,7 @@ pub trait Located {
 /// What can be asked what it shows of a value. What it shows stands at its place.
 pub trait Evaluate<'a>: Located + IsValid {
     ghost use Rattle.std.specs.Prelude.{◌≡◌, Bool, IfOk};
-    ghost use Rattle.olk_base.specs.Nodes.{tree_of};
+    ghost use Rattle.olk_base.specs.Nodes.{data_of};
     ghost use Rattle.olk_spec.specs.Names.{Path};
     ghost use Rattle.olk_spec.specs.Tree.{Tree, IsLikeTree, is_valid};
     ghost use Rattle.olk_reports.specs.Evaluations.{node_at, shown_of};
@@ -42,8 +42,8 @@ pub trait Evaluate<'a>: Located + IsValid {
         path: &mut InstancePath,
         ctx: &mut ValidationContext,
     ) -> Result<EvaluationResult<'a>, AllocError>
-        ensures shows { IfOk result (λ r. IsLikeTree (shows self.now ctx.old.answer (tree_of node.entry) path.old) (node_at (Self.place self.now) path.old (shown_of r))) }
-        ensures verdict { IfOk result (λ r. is_valid (node_at (Self.place self.now) path.old (shown_of r)) ≡ (Self.means self.now (tree_of node.entry)).accepts ctx.old.answer) }
+        ensures shows { IfOk result (λ r. IsLikeTree (shows self.now ctx.old.answer (data_of node.entry) path.old) (node_at (Self.place self.now) path.old (shown_of r))) }
+        ensures verdict { IfOk result (λ r. is_valid (node_at (Self.place self.now) path.old (shown_of r)) ≡ (Self.means self.now (data_of node.entry)).accepts ctx.old.answer) }
         ensures path { path.new ≡ path.old }
         ensures answer { ctx.new.answer ≡ ctx.old.answer };
 }

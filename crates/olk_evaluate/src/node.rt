@@ -1,9 +1,9 @@
 //! Keywords and bodies.
 ghost use Rattle.std.specs.Prelude.{◌≡◌, IfOk};
-ghost use Rattle.olk_base.specs.Nodes.{tree_of};
+ghost use Rattle.olk_base.specs.Nodes.{data_of};
 ghost use Rattle.olk_spec.specs.Tree.{IsLikeTree, is_valid};
 ghost use Rattle.olk_reports.specs.Evaluations.{node_at, shown_of};
-ghost use Rattle.olk_tree.specs.Answers.{body_means, body_shows};
+ghost use Rattle.olk_tree.specs.Answers.{body_means, body_tree};
 ghost use Rattle.olk_evaluate.specs.Wanted.{HasTexts};
 
 use crate::own::one_error;
@@ -37,12 +37,12 @@ impl<K, N> Located for KeywordOver<K, N> {
 
 /// What the keyword shows.
 impl<'a, K: Leaf, N: Evaluate<'a>> Evaluate<'a> for KeywordOver<K, N> {
-    ghost use Rattle.olk_tree.specs.Answers.{keyword_shows};
-    ghost use Rattle.olk_tree.specs.Answers.{keyword_means};
+    ghost use Rattle.olk_tree.specs.Answers.{validator_tree};
+    ghost use Rattle.olk_tree.specs.Answers.{validator_means};
 
-    ghost shows = { λ k u. keyword_shows K.finds N.means K.keyword_of N.shows u k };
+    ghost shows = { λ k u. validator_tree K.finds N.means K.keyword_of N.shows u k };
 
-    #[tactic(auto, unfolding(olk_tree::specs::Answers::keyword_shows, crate::specs::Keywords::keyword_place, olk_tree::specs::Answers::keyword_means))]
+    #[tactic(auto, unfolding(olk_tree::specs::Answers::validator_tree, crate::specs::Keywords::keyword_place, olk_tree::specs::Answers::validator_means))]
     fn evaluate(
         &'a self,
         alloc: Global,
@@ -72,7 +72,7 @@ fn leaf_errors<'a, K: Leaf>(
     alloc: Global,
     node: Node<'a>,
 ) -> Result<EvaluationResult<'a>, AllocError>
-    ensures { IfOk result (λ r. HasTexts (K.keyword_of leaf.now) (K.finds leaf.now (tree_of node.entry)) (shown_of r)) }
+    ensures { IfOk result (λ r. HasTexts (K.keyword_of leaf.now) (K.finds leaf.now (data_of node.entry)) (shown_of r)) }
 {
     let mut outcome = EvaluationResult::valid_empty(alloc);
     for text in leaf.evaluate(alloc, node)? {
@@ -91,8 +91,8 @@ pub fn evaluate_body<'a, W: Evaluate<'a>>(
     path: &mut InstancePath,
     ctx: &mut ValidationContext,
 ) -> Result<EvaluationResult<'a>, AllocError>
-    ensures shows { IfOk result (λ r. IsLikeTree (body_shows (λ k. W.shows k ctx.old.answer) location.now body.now (tree_of node.entry) path.old) (node_at location.now path.old (shown_of r))) }
-    ensures verdict { IfOk result (λ r. is_valid (node_at location.now path.old (shown_of r)) ≡ (body_means W.means body.now (tree_of node.entry)).accepts ctx.old.answer) }
+    ensures shows { IfOk result (λ r. IsLikeTree (body_tree (λ k. W.shows k ctx.old.answer) location.now body.now (data_of node.entry) path.old) (node_at location.now path.old (shown_of r))) }
+    ensures verdict { IfOk result (λ r. is_valid (node_at location.now path.old (shown_of r)) ≡ (body_means W.means body.now (data_of node.entry)).accepts ctx.old.answer) }
     ensures path { path.new ≡ path.old }
     ensures answer { ctx.new.answer ≡ ctx.old.answer }
 {

@@ -1,6 +1,6 @@
 // The errors that a keyword shows itself.
 ghost use Rattle.std.specs.Prelude.{◌≡◌, ◌++◌, ◌∷◌, [], List, IfOk, OnOk};
-ghost use Rattle.olk_base.specs.Nodes.{tree_of};
+ghost use Rattle.olk_base.specs.Nodes.{data_of};
 ghost use Rattle.olk_spec.specs.Names.{Path};
 ghost use Rattle.olk_spec.specs.Faults.{Fault, fault};
 ghost use Rattle.olk_spec.specs.Texts.{keyword as keyword_name};
@@ -49,7 +49,7 @@ pub(crate) fn mark<'a>(
     kind: ValidationErrorKind<'a>,
     node: Node<'a>,
 ) -> Result<(), AllocError>
-    ensures { OnOk result ((before : List Fault) (P Q : Path) → HasErrors before (shown_of outcome.old) → HasErrors (before ++ fault (kind_of kind.entry) (tree_of node.entry) Q P ∷ []) (shown_of outcome.new)) }
+    ensures { OnOk result ((before : List Fault) (P Q : Path) → HasErrors before (shown_of outcome.old) → HasErrors (before ++ fault (kind_of kind.entry) (data_of node.entry) Q P ∷ []) (shown_of outcome.new)) }
 {
     let error = ValidationError::new(kind, node, String::new(alloc), "");
     outcome.mark_errored(describe(alloc, error)?)?;
@@ -62,7 +62,7 @@ pub(crate) fn one_error<'a>(
     kind: ValidationErrorKind<'a>,
     node: Node<'a>,
 ) -> Result<EvaluationResult<'a>, AllocError>
-    ensures { IfOk result (λ r. (P Q : Path) → HasErrors (fault (kind_of kind.entry) (tree_of node.entry) Q P ∷ []) (shown_of r)) }
+    ensures { IfOk result (λ r. (P Q : Path) → HasErrors (fault (kind_of kind.entry) (data_of node.entry) Q P ∷ []) (shown_of r)) }
 {
     let mut outcome = EvaluationResult::valid_empty(alloc);
     mark(&mut outcome, alloc, kind, node)?;

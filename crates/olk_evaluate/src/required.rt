@@ -2,7 +2,7 @@
 ghost use Rattle.std.specs.Prelude.{◌≡◌, ◌++◌, ◌∷◌, [], not, map, List, IfOk, OnOk, option_to_list};
 ghost use Rattle.serde_json.specs.Data.{object};
 ghost use Rattle.serde_json.specs.View.{members_view};
-ghost use Rattle.olk_base.specs.Nodes.{tree_of};
+ghost use Rattle.olk_base.specs.Nodes.{data_of};
 ghost use Rattle.olk_spec.specs.Faults.{Fault, fault, Required};
 ghost use Rattle.olk_spec.specs.Schemas.{has};
 ghost use Rattle.olk_spec.specs.Accepts.{missing};
@@ -58,7 +58,7 @@ fn each_missing<'a>(
     members: &Map<String, Value>,
     node: Node<'a>,
 ) -> Result<EvaluationResult<'a>, AllocError>
-    ensures { IfOk result (λ r. (P Q : Path) → HasErrors (map (λ n. fault (Required n) (tree_of node.entry) Q P) (missing (texts_of names.now.items) (object (members_view members.now.entries)))) (shown_of r)) }
+    ensures { IfOk result (λ r. (P Q : Path) → HasErrors (map (λ n. fault (Required n) (data_of node.entry) Q P) (missing (texts_of names.now.items) (object (members_view members.now.entries)))) (shown_of r)) }
 {
     let mut outcome = EvaluationResult::valid_empty(alloc);
     for name in names {
@@ -75,7 +75,7 @@ pub(crate) fn mark_missing<'a>(
     members: &Map<String, Value>,
     node: Node<'a>,
 ) -> Result<(), AllocError>
-    ensures { OnOk result ((before : List Fault) (P Q : Path) → HasErrors before (shown_of outcome.old) → HasErrors (before ++ fault_if (not (has name.now (object (members_view members.now.entries)))) (Required name.now) (tree_of node.entry) P Q) (shown_of outcome.new)) }
+    ensures { OnOk result ((before : List Fault) (P Q : Path) → HasErrors before (shown_of outcome.old) → HasErrors (before ++ fault_if (not (has name.now (object (members_view members.now.entries)))) (Required name.now) (data_of node.entry) P Q) (shown_of outcome.new)) }
 {
     if has_member(members, name) {
         return Ok(());
@@ -107,7 +107,7 @@ fn both_missing<'a>(
     members: &Map<String, Value>,
     node: Node<'a>,
 ) -> Result<EvaluationResult<'a>, AllocError>
-    ensures { IfOk result (λ r. (P Q : Path) → HasErrors (map (λ n. fault (Required n) (tree_of node.entry) Q P) (missing (first.now ∷ second.now ∷ []) (object (members_view members.now.entries)))) (shown_of r)) }
+    ensures { IfOk result (λ r. (P Q : Path) → HasErrors (map (λ n. fault (Required n) (data_of node.entry) Q P) (missing (first.now ∷ second.now ∷ []) (object (members_view members.now.entries)))) (shown_of r)) }
 {
     let mut outcome = EvaluationResult::valid_empty(alloc);
     mark_missing(&mut outcome, first, alloc, members, node)?;
@@ -125,7 +125,7 @@ pub(crate) fn missing_child<'a>(
     node: Node<'a>,
     path: &InstancePath,
 ) -> Result<Option<EvaluationNode<'a>>, AllocError>
-    ensures { IfOk result (λ o. AreShown (refused (lacking_trees (first.now ∷ second.now ∷ []) (tree_of node.entry) (object (members_view members.now.entries)) location.now path.now)) (trees_of (option_to_list o))) }
+    ensures { IfOk result (λ o. AreShown (refused (lacking_trees (first.now ∷ second.now ∷ []) (data_of node.entry) (object (members_view members.now.entries)) location.now path.now)) (trees_of (option_to_list o))) }
 {
     if !lacks_one(members, first, second) {
         return Ok(None);

@@ -1,6 +1,6 @@
 // What the nodes of a keyword show.
 ghost use Rattle.std.specs.Prelude.{◌≡◌, IfOk};
-ghost use Rattle.olk_base.specs.Nodes.{tree_of};
+ghost use Rattle.olk_base.specs.Nodes.{data_of};
 ghost use Rattle.olk_reports.specs.Evaluations.{tree_of as shown_tree};
 ghost use Rattle.olk_evaluate.specs.Wanted.{IsShown, AreShown, wanted, each_wanted, trees_of};
 
@@ -17,7 +17,7 @@ pub fn child<'a, N: Evaluate<'a>>(
     path: &mut InstancePath,
     ctx: &mut ValidationContext,
 ) -> Result<EvaluationNode<'a>, AllocError>
-    ensures shown { IfOk result (λ c. IsShown (wanted N.shows N.means ctx.old.answer schema.now (tree_of node.entry) path.old) (shown_tree c)) }
+    ensures shown { IfOk result (λ c. IsShown (wanted N.shows N.means ctx.old.answer schema.now (data_of node.entry) path.old) (shown_tree c)) }
     ensures path { path.new ≡ path.old }
     ensures answer { ctx.new.answer ≡ ctx.old.answer }
 {
@@ -34,7 +34,7 @@ pub(crate) fn each_child<'a, N: Evaluate<'a>>(
     path: &mut InstancePath,
     ctx: &mut ValidationContext,
 ) -> Result<Vec<EvaluationNode<'a>>, AllocError>
-    ensures shown { IfOk result (λ cs. AreShown (each_wanted N.shows N.means ctx.old.answer schemas.now.items (tree_of node.entry) path.old) (trees_of cs.items)) }
+    ensures shown { IfOk result (λ cs. AreShown (each_wanted N.shows N.means ctx.old.answer schemas.now.items (data_of node.entry) path.old) (trees_of cs.items)) }
     ensures path { path.new ≡ path.old }
     ensures answer { ctx.new.answer ≡ ctx.old.answer }
 {

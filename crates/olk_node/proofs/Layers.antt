@@ -12,7 +12,7 @@ use Rattle.olk_spec.specs.Tree.{plain}
 use Rattle.olk_node.specs.Kit.{Kit}
 use Rattle.olk_tree.specs.Shown.{missing_trees}
 use Rattle.olk_tree.specs.Questions.{always, both, every}
-use Rattle.olk_tree.specs.Answers.{two_texts, or_else, head_of, first_of, keyword_means, body_means, keyword_finds, body_finds, keyword_first, body_first, keyword_shows, body_shows}
+use Rattle.olk_tree.specs.Answers.{two_texts, or_else, head_of, first_of, validator_means, body_means, validator_report, body_report, validator_first, body_first, validator_tree, body_tree}
 use Rattle.olk_node.specs.Nodes.{Answers, node_step, answers}
 use Rattle.olk_tree.specs.declared.node.KeywordOver.{KeywordOver}
 use Rattle.olk_tree.specs.declared.node.KeywordOver.TheVariants as keyword
@@ -27,11 +27,11 @@ module _ {K R : Type 0} (o : Kit K R) where
   opened n b = map-SchemaNode K R (SchemaNode K R) Answers (answers o) record n { body = b }
 
   means_layer : (n : SchemaNode-F K R (SchemaNode K R)) (b : Body (KeywordOver K (SchemaNode K R))) (v : Data)
-      → (node_step o (opened n b)).means v ≡ body_means (keyword_means o.finds (λ n. (answers o n).means)) b v
-  unfolding keyword_means
+      → (node_step o (opened n b)).means v ≡ body_means (validator_means o.finds (λ n. (answers o n).means)) b v
+  unfolding validator_means
   means_layer n True v = refl
   means_layer n False v = refl
-  means_layer n (Keywords ks) v = every-map (λ k. keyword_means o.finds (λ a. a.means) k v) (λ k. keyword_means o.finds (λ n. (answers o n).means) k v) _ (elim [
+  means_layer n (Keywords ks) v = every-map (λ k. validator_means o.finds (λ a. a.means) k v) (λ k. validator_means o.finds (λ n. (answers o n).means) k v) _ (elim [
     | keyword.Properties k ↦ every-beside (λ e. every e.1.means (at e.0 v)) (λ e. every (answers o e.1).means (at e.0 v)) (answers o) (λ a y. refl) k.properties.names k.properties.nodes.items
     | keyword.PropertiesWithRequired2 k ↦ ap (both (always (is_empty (missing (two_texts k.first k.second) v)))) (every-beside (λ e. every e.1.means (at e.0 v)) (λ e. every (answers o e.1).means (at e.0 v)) (answers o) (λ a y. refl) k.properties.names k.properties.nodes.items)
     | keyword.Required k ↦ refl
@@ -44,11 +44,11 @@ module _ {K R : Type 0} (o : Kit K R) where
   ]) ks.items
 
   finds_layer : (n : SchemaNode-F K R (SchemaNode K R)) (b : Body (KeywordOver K (SchemaNode K R))) (u : Bool) (v : Data) (Q : Path)
-      → (node_step o (opened n b)).report u v Q ≡ body_finds (keyword_finds o.finds (λ n. (answers o n).means) o.keyword_of (λ n. (answers o n).report) u) n.location b v Q
-  unfolding keyword_finds
+      → (node_step o (opened n b)).report u v Q ≡ body_report (validator_report o.finds (λ n. (answers o n).means) o.keyword_of (λ n. (answers o n).report) u) n.location b v Q
+  unfolding validator_report
   finds_layer n True u v Q = refl
   finds_layer n False u v Q = refl
-  finds_layer n (Keywords ks) u v Q = flat_map-map (λ k. keyword_finds o.finds (λ a. a.means) o.keyword_of (λ a. a.report) u k v Q) (λ k. keyword_finds o.finds (λ n. (answers o n).means) o.keyword_of (λ n. (answers o n).report) u k v Q) _ (elim [
+  finds_layer n (Keywords ks) u v Q = flat_map-map (λ k. validator_report o.finds (λ a. a.means) o.keyword_of (λ a. a.report) u k v Q) (λ k. validator_report o.finds (λ n. (answers o n).means) o.keyword_of (λ n. (answers o n).report) u k v Q) _ (elim [
     | keyword.Properties k ↦ flat_map-beside (λ e. flat_map (λ x. e.1.report u x (Q // e.0)) (at e.0 v)) (λ e. flat_map (λ x. (answers o e.1).report u x (Q // e.0)) (at e.0 v)) (answers o) (λ a y. refl) k.properties.names k.properties.nodes.items
     | keyword.PropertiesWithRequired2 k ↦ ap (λ fs. required_faults (two_texts k.first k.second) v k.required_location Q ++ fs) (flat_map-beside (λ e. flat_map (λ x. e.1.report u x (Q // e.0)) (at e.0 v)) (λ e. flat_map (λ x. (answers o e.1).report u x (Q // e.0)) (at e.0 v)) (answers o) (λ a y. refl) k.properties.names k.properties.nodes.items)
     | keyword.Required k ↦ refl
@@ -61,11 +61,11 @@ module _ {K R : Type 0} (o : Kit K R) where
   ]) ks.items
 
   first_layer : (n : SchemaNode-F K R (SchemaNode K R)) (b : Body (KeywordOver K (SchemaNode K R))) (u : Bool) (v : Data) (Q : Path)
-      → (node_step o (opened n b)).first u v Q ≡ body_first (keyword_first o.finds (λ n. (answers o n).means) o.keyword_of (λ n. (answers o n).report) u (λ n. (answers o n).first)) n.location b v Q
-  unfolding keyword_first
+      → (node_step o (opened n b)).first u v Q ≡ body_first (validator_first o.finds (λ n. (answers o n).means) o.keyword_of (λ n. (answers o n).report) u (λ n. (answers o n).first)) n.location b v Q
+  unfolding validator_first
   first_layer n True u v Q = refl
   first_layer n False u v Q = refl
-  first_layer n (Keywords ks) u v Q = first_of-map (λ k. keyword_first o.finds (λ a. a.means) o.keyword_of (λ a. a.report) u (λ a. a.first) k v Q) (λ k. keyword_first o.finds (λ n. (answers o n).means) o.keyword_of (λ n. (answers o n).report) u (λ n. (answers o n).first) k v Q) _ (elim [
+  first_layer n (Keywords ks) u v Q = first_of-map (λ k. validator_first o.finds (λ a. a.means) o.keyword_of (λ a. a.report) u (λ a. a.first) k v Q) (λ k. validator_first o.finds (λ n. (answers o n).means) o.keyword_of (λ n. (answers o n).report) u (λ n. (answers o n).first) k v Q) _ (elim [
     | keyword.Properties k ↦ first_of-beside (λ e. first_of (λ x. e.1.first u x (Q // e.0)) (at e.0 v)) (λ e. first_of (λ x. (answers o e.1).first u x (Q // e.0)) (at e.0 v)) (answers o) (λ a y. refl) k.properties.names k.properties.nodes.items
     | keyword.PropertiesWithRequired2 k ↦ ap (or_else (head_of (required_faults (two_texts k.first k.second) v k.required_location Q))) (first_of-beside (λ e. first_of (λ x. e.1.first u x (Q // e.0)) (at e.0 v)) (λ e. first_of (λ x. (answers o e.1).first u x (Q // e.0)) (at e.0 v)) (answers o) (λ a y. refl) k.properties.names k.properties.nodes.items)
     | keyword.Required k ↦ refl
@@ -78,11 +78,11 @@ module _ {K R : Type 0} (o : Kit K R) where
   ]) ks.items
 
   shows_layer : (n : SchemaNode-F K R (SchemaNode K R)) (b : Body (KeywordOver K (SchemaNode K R))) (u : Bool) (v : Data) (Q : Path)
-      → (node_step o (opened n b)).tree u v Q ≡ body_shows (keyword_shows o.finds (λ n. (answers o n).means) o.keyword_of (λ n. (answers o n).tree) u) n.location b v Q
-  unfolding keyword_shows
+      → (node_step o (opened n b)).tree u v Q ≡ body_tree (validator_tree o.finds (λ n. (answers o n).means) o.keyword_of (λ n. (answers o n).tree) u) n.location b v Q
+  unfolding validator_tree
   shows_layer n True u v Q = refl
   shows_layer n False u v Q = refl
-  shows_layer n (Keywords ks) u v Q = ap (plain n.location Q) (map-map (λ k. keyword_shows o.finds (λ a. a.means) o.keyword_of (λ a. a.tree) u k v Q) (λ k. keyword_shows o.finds (λ n. (answers o n).means) o.keyword_of (λ n. (answers o n).tree) u k v Q) _ (elim [
+  shows_layer n (Keywords ks) u v Q = ap (plain n.location Q) (map-map (λ k. validator_tree o.finds (λ a. a.means) o.keyword_of (λ a. a.tree) u k v Q) (λ k. validator_tree o.finds (λ n. (answers o n).means) o.keyword_of (λ n. (answers o n).tree) u k v Q) _ (elim [
     | keyword.Properties k ↦ properties_tree-map (λ a. a.tree u) (λ n. (answers o n).tree u) (answers o) (λ y w R. refl) v Q k.location k.properties.names k.properties.nodes.items []
     | keyword.PropertiesWithRequired2 k ↦ properties_tree-map (λ a. a.tree u) (λ n. (answers o n).tree u) (answers o) (λ y w R. refl) v Q k.location k.properties.names k.properties.nodes.items (missing_trees (two_texts k.first k.second) v k.required_location Q)
     | keyword.Required k ↦ refl
@@ -94,19 +94,19 @@ module _ {K R : Type 0} (o : Kit K R) where
     | keyword.Leaf p l ↦ refl
   ]) ks.items)
 
-  pub node_means : (n : SchemaNode K R) (v : Data) → (answers o n).means v ≡ body_means (keyword_means o.finds (λ n. (answers o n).means)) (out-SchemaNode K R n).body v
+  pub node_means : (n : SchemaNode K R) (v : Data) → (answers o n).means v ≡ body_means (validator_means o.finds (λ n. (answers o n).means)) (out-SchemaNode K R n).body v
   unfolding answers
   node_means n v = ap (λ a. a.means v) (fold_out-SchemaNode K R Answers (node_step o) n) ∙ means_layer (out-SchemaNode K R n) (out-SchemaNode K R n).body v
 
-  pub node_finds : (n : SchemaNode K R) (u : Bool) (v : Data) (Q : Path) → (answers o n).report u v Q ≡ body_finds (keyword_finds o.finds (λ n. (answers o n).means) o.keyword_of (λ n. (answers o n).report) u) (out-SchemaNode K R n).location (out-SchemaNode K R n).body v Q
+  pub node_finds : (n : SchemaNode K R) (u : Bool) (v : Data) (Q : Path) → (answers o n).report u v Q ≡ body_report (validator_report o.finds (λ n. (answers o n).means) o.keyword_of (λ n. (answers o n).report) u) (out-SchemaNode K R n).location (out-SchemaNode K R n).body v Q
   unfolding answers
   node_finds n u v Q = ap (λ a. a.report u v Q) (fold_out-SchemaNode K R Answers (node_step o) n) ∙ finds_layer (out-SchemaNode K R n) (out-SchemaNode K R n).body u v Q
 
-  pub node_first : (n : SchemaNode K R) (u : Bool) (v : Data) (Q : Path) → (answers o n).first u v Q ≡ body_first (keyword_first o.finds (λ n. (answers o n).means) o.keyword_of (λ n. (answers o n).report) u (λ n. (answers o n).first)) (out-SchemaNode K R n).location (out-SchemaNode K R n).body v Q
+  pub node_first : (n : SchemaNode K R) (u : Bool) (v : Data) (Q : Path) → (answers o n).first u v Q ≡ body_first (validator_first o.finds (λ n. (answers o n).means) o.keyword_of (λ n. (answers o n).report) u (λ n. (answers o n).first)) (out-SchemaNode K R n).location (out-SchemaNode K R n).body v Q
   unfolding answers
   node_first n u v Q = ap (λ a. a.first u v Q) (fold_out-SchemaNode K R Answers (node_step o) n) ∙ first_layer (out-SchemaNode K R n) (out-SchemaNode K R n).body u v Q
 
-  pub node_shows : (n : SchemaNode K R) (u : Bool) (v : Data) (Q : Path) → (answers o n).tree u v Q ≡ body_shows (keyword_shows o.finds (λ n. (answers o n).means) o.keyword_of (λ n. (answers o n).tree) u) (out-SchemaNode K R n).location (out-SchemaNode K R n).body v Q
+  pub node_shows : (n : SchemaNode K R) (u : Bool) (v : Data) (Q : Path) → (answers o n).tree u v Q ≡ body_tree (validator_tree o.finds (λ n. (answers o n).means) o.keyword_of (λ n. (answers o n).tree) u) (out-SchemaNode K R n).location (out-SchemaNode K R n).body v Q
   unfolding answers
   node_shows n u v Q = ap (λ a. a.tree u v Q) (fold_out-SchemaNode K R Answers (node_step o) n) ∙ shows_layer (out-SchemaNode K R n) (out-SchemaNode K R n).body u v Q
 

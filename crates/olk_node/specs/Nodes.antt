@@ -5,7 +5,7 @@ use Rattle.olk_spec.specs.Names.{Path}
 use Rattle.olk_spec.specs.Faults.{Fault}
 use Rattle.olk_spec.specs.Tree.{Tree}
 use Rattle.olk_tree.specs.Questions.{Question}
-use Rattle.olk_tree.specs.Answers.{keyword_means, keyword_finds, keyword_first, keyword_shows, body_means, body_finds, body_first, body_shows}
+use Rattle.olk_tree.specs.Answers.{validator_means, validator_report, validator_first, validator_tree, body_means, body_report, body_first, body_tree}
 use Rattle.olk_node.specs.Kit.{Kit}
 use Rattle.olk_node.specs.declared.node.SchemaNode.{SchemaNode, fold-SchemaNode}
 use Rattle.olk_node.specs.declared.node.SchemaNode.TheOpen.{SchemaNode-F}
@@ -21,10 +21,10 @@ pub record Answers : Type 0 where
 module _ {K R : Type 0} (o : Kit K R) where
   abbrev pub node_step : SchemaNode-F K R Answers → Answers
   node_step n = record {
-    means = body_means (keyword_means o.finds (λ a. a.means)) n.body;
-    report = λ u. body_finds (keyword_finds o.finds (λ a. a.means) o.keyword_of (λ a. a.report) u) n.location n.body;
-    first = λ u. body_first (keyword_first o.finds (λ a. a.means) o.keyword_of (λ a. a.report) u (λ a. a.first)) n.location n.body;
-    tree = λ u. body_shows (keyword_shows o.finds (λ a. a.means) o.keyword_of (λ a. a.tree) u) n.location n.body;
+    means = body_means (validator_means o.finds (λ a. a.means)) n.body;
+    report = λ u. body_report (validator_report o.finds (λ a. a.means) o.keyword_of (λ a. a.report) u) n.location n.body;
+    first = λ u. body_first (validator_first o.finds (λ a. a.means) o.keyword_of (λ a. a.report) u (λ a. a.first)) n.location n.body;
+    tree = λ u. body_tree (validator_tree o.finds (λ a. a.means) o.keyword_of (λ a. a.tree) u) n.location n.body;
     location = n.location;
   }
 

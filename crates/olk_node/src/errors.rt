@@ -1,7 +1,7 @@
 //! What is wrong with a value at a place.
 ghost use Rattle.std.specs.Prelude.{◌≡◌, true, OnOk, OnErr, IfErr};
 ghost use Rattle.serde_json.specs.Data.{Data};
-ghost use Rattle.olk_base.specs.Nodes.{tree_of};
+ghost use Rattle.olk_base.specs.Nodes.{data_of};
 ghost use Rattle.olk_spec.specs.Names.{Path};
 ghost use Rattle.olk_spec.specs.Meaning.{accepts, report};
 ghost use Rattle.olk_node.specs.Nodes.{answers};
@@ -70,9 +70,9 @@ pub fn validate_for<'a, K: Leaf, R: RegexEngine>(
     ctx: &mut ValidationContext,
 ) -> Result<(), ValidateError<'a>>
     ensures ok { OnOk result ((S : Data) (P : Path) → StandsFor (kit K.Leaf R.RegexEngine) place.now S P
-        → accepts (world K.Leaf R.RegexEngine) ctx.old.answer S (tree_of node.entry) ≡ true) }
+        → accepts (world K.Leaf R.RegexEngine) ctx.old.answer S (data_of node.entry) ≡ true) }
     ensures invalid { IfErr result (λ e. IfInvalid e (λ f. (S : Data) (P : Path) → StandsFor (kit K.Leaf R.RegexEngine) place.now S P
-        → IsRefusal (world K.Leaf R.RegexEngine) ctx.old.answer S (tree_of node.entry) P path.old f)) }
+        → IsRefusal (world K.Leaf R.RegexEngine) ctx.old.answer S (data_of node.entry) P path.old f)) }
     ensures path { path.new ≡ path.old }
     ensures context { ctx.new.answer ≡ ctx.old.answer }
 {
@@ -93,7 +93,7 @@ pub fn collect_errors_for<'a, K: Leaf, R: RegexEngine>(
     errors: &mut Vec<ValidationError<'a>>,
 ) -> Result<(), AllocError>
     ensures report { OnOk result ((S : Data) (P : Path) → StandsFor (kit K.Leaf R.RegexEngine) place.now S P
-        → Appends errors.old.items errors.new.items (report (world K.Leaf R.RegexEngine) ctx.old.answer S (tree_of node.entry) P path.old)) }
+        → Appends errors.old.items errors.new.items (report (world K.Leaf R.RegexEngine) ctx.old.answer S (data_of node.entry) P path.old)) }
     ensures memory { OnErr result (errors.new.items ≡ errors.old.items) }
     ensures path { path.new ≡ path.old }
     ensures context { ctx.new.answer ≡ ctx.old.answer }

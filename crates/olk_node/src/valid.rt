@@ -1,5 +1,5 @@
 //! Whether a place accepts a value.
-ghost use Rattle.olk_base.specs.Nodes.{tree_of};
+ghost use Rattle.olk_base.specs.Nodes.{data_of};
 ghost use Rattle.olk_spec.specs.Names.{Path};
 ghost use Rattle.olk_node.specs.Nodes.{answers};
 ghost use Rattle.olk_node.specs.Kit.{kit, world};
@@ -31,9 +31,9 @@ pub fn is_valid_for<K: Leaf, R: RegexEngine>(
     node: Node<'_>,
     ctx: &mut ValidationContext,
 ) -> bool
-    ensures place { Asks ctx.old ctx.new ((answers (kit K.Leaf R.RegexEngine) place.now).means (tree_of node.entry)) result }
+    ensures place { Asks ctx.old ctx.new ((answers (kit K.Leaf R.RegexEngine) place.now).means (data_of node.entry)) result }
     ensures schema { (S : Data) (P : Path) → StandsFor (kit K.Leaf R.RegexEngine) place.now S P
-        → AsksSchema (world K.Leaf R.RegexEngine) S (tree_of node.entry) ctx.old ctx.new result }
+        → AsksSchema (world K.Leaf R.RegexEngine) S (data_of node.entry) ctx.old ctx.new result }
 {
     place.is_valid(node, ctx)
 }

@@ -5,7 +5,7 @@ use Rattle.serde_json.specs.View.{view}
 use Rattle.olk_spec.specs.Names.{Path}
 use Rattle.olk_spec.specs.Faults as told
 use Rattle.olk_spec.specs.Faults.{Fault, fault, Kind, context, Type_name, null_type, boolean_type, number_type, string_type, array_type, object_type}
-use Rattle.olk_base.specs.Nodes.{tree_of}
+use Rattle.olk_base.specs.Nodes.{data_of}
 use Rattle.olk_base.specs.declared.node.JsonType.{JsonType}
 use Rattle.olk_base.specs.declared.node.JsonType.TheVariants as json
 use Rattle.olk_reports.specs.declared.error.SchemaPath.{SchemaPath}
@@ -65,7 +65,7 @@ kind_step (ValidationErrorKind-F.Unsupported k) = told.Unsupported k.now
 kind_step (ValidationErrorKind-F.LeafRefused k) = told.LeafRefused k.now
 
 abbrev pub error_step : ValidationError-F Kind Fault → Fault
-error_step e = fault e.kind (tree_of e.instance) (string_bytes e.instance_path) (schema_path_of e.kind e.schema_path)
+error_step e = fault e.kind (data_of e.instance) (string_bytes e.instance_path) (schema_path_of e.kind e.schema_path)
 
 abbrev pub kind_of : ValidationErrorKind → Kind
 kind_of = fold-ValidationErrorKind Kind Fault kind_step error_step

@@ -1,5 +1,5 @@
 ghost use Rattle.std.specs.Prelude.{◌≡◌, false, string_bytes, IfOk};
-ghost use Rattle.olk_base.specs.Nodes.{tree_of};
+ghost use Rattle.olk_base.specs.Nodes.{data_of};
 ghost use Rattle.olk_spec.specs.Faults.{fault};
 ghost use Rattle.olk_spec.specs.Reports.{wrapped};
 ghost use Rattle.olk_spec.specs.Texts.{text};
@@ -138,7 +138,7 @@ impl<'a> ValidationError<'a> {
         instance_path: String,
         schema_path: &'a str,
     ) -> Self
-        ensures { fault_of result ≡ fault (kind_of kind.entry) (tree_of instance.entry) (string_bytes instance_path) schema_path.now }
+        ensures { fault_of result ≡ fault (kind_of kind.entry) (data_of instance.entry) (string_bytes instance_path) schema_path.now }
     {
         let schema_path = SchemaPath::Borrowed(schema_path);
         ValidationError {
@@ -156,7 +156,7 @@ impl<'a> ValidationError<'a> {
         instance_path: String,
         schema_path: Location,
     ) -> Self
-        ensures { fault_of result ≡ fault (kind_of kind.entry) (tree_of instance.entry) (string_bytes instance_path) schema_path }
+        ensures { fault_of result ≡ fault (kind_of kind.entry) (data_of instance.entry) (string_bytes instance_path) schema_path }
     {
         let schema_path = SchemaPath::Owned(schema_path);
         ValidationError {
@@ -174,7 +174,7 @@ impl<'a> ValidationError<'a> {
         instance: Node<'a>,
         instance_path: String,
     ) -> Self
-        ensures { fault_of result ≡ wrapped (tree_of instance.entry) (string_bytes instance_path) (fault_of error.entry.value) }
+        ensures { fault_of result ≡ wrapped (data_of instance.entry) (string_bytes instance_path) (fault_of error.entry.value) }
     {
         ValidationError {
             kind: ValidationErrorKind::PropertyNames { error },
@@ -193,7 +193,7 @@ impl<'a> ValidationError<'a> {
 
     /// The value that it is about.
     pub fn instance(&self) -> Node<'a>
-        ensures { tree_of result ≡ fault_instance (fault_of self.now) }
+        ensures { data_of result ≡ fault_instance (fault_of self.now) }
     {
         self.instance
     }

@@ -1,7 +1,7 @@
 ghost use Rattle.std.specs.Prelude.{◌≡◌, ◌++◌, IfOk, OnOk, false, string_bytes, map, codes};
 ghost use Rattle.serde_json.specs.Data.{string};
 ghost use Rattle.serde_json.specs.Written.{compact_text, has_float};
-ghost use Rattle.olk_base.specs.Nodes.{tree_of};
+ghost use Rattle.olk_base.specs.Nodes.{data_of};
 ghost use Rattle.olk_spec.specs.Texts.{in_quotes, type_text, unexpected_text};
 ghost use Rattle.olk_reports.specs.Errors.{type_name_of};
 ghost use Rattle.olk_reports.specs.Messages.{later_name};
@@ -11,7 +11,7 @@ use serde_json::Value;
 use std::alloc::{AllocError, Global};
 
 fn node_text(alloc: Global, node: Node<'_>) -> Result<String, AllocError>
-    ensures { IfOk result (λ s. has_float (tree_of node.entry) ≡ false → string_bytes s ≡ compact_text (tree_of node.entry)) }
+    ensures { IfOk result (λ s. has_float (data_of node.entry) ≡ false → string_bytes s ≡ compact_text (data_of node.entry)) }
 {
     match node {
         Node::Value(value) => value.to_string(alloc),
@@ -24,7 +24,7 @@ fn node_text(alloc: Global, node: Node<'_>) -> Result<String, AllocError>
 
 // The node, and then the text.
 pub(crate) fn starting_text(alloc: Global, node: Node<'_>, rest: &str) -> Result<String, AllocError>
-    ensures { IfOk result (λ s. has_float (tree_of node.entry) ≡ false → string_bytes s ≡ compact_text (tree_of node.entry) ++ rest.now) }
+    ensures { IfOk result (λ s. has_float (data_of node.entry) ≡ false → string_bytes s ≡ compact_text (data_of node.entry) ++ rest.now) }
 {
     let mut text = node_text(alloc, node)?;
     text.push_str(rest)?;
@@ -33,7 +33,7 @@ pub(crate) fn starting_text(alloc: Global, node: Node<'_>, rest: &str) -> Result
 
 // The text, and then the node.
 pub(crate) fn ending_text(alloc: Global, start: &str, node: Node<'_>) -> Result<String, AllocError>
-    ensures { IfOk result (λ s. has_float (tree_of node.entry) ≡ false → string_bytes s ≡ start.now ++ compact_text (tree_of node.entry)) }
+    ensures { IfOk result (λ s. has_float (data_of node.entry) ≡ false → string_bytes s ≡ start.now ++ compact_text (data_of node.entry)) }
 {
     let mut text = String::from_str(alloc, start)?;
     let value = node_text(alloc, node)?;
@@ -48,8 +48,8 @@ pub(crate) fn joined_text(
     middle: &str,
     last: Node<'_>,
 ) -> Result<String, AllocError>
-    ensures { IfOk result (λ s. has_float (tree_of first.entry) ≡ false → has_float (tree_of last.entry) ≡ false
-        → string_bytes s ≡ compact_text (tree_of first.entry) ++ middle.now ++ compact_text (tree_of last.entry)) }
+    ensures { IfOk result (λ s. has_float (data_of first.entry) ≡ false → has_float (data_of last.entry) ≡ false
+        → string_bytes s ≡ compact_text (data_of first.entry) ++ middle.now ++ compact_text (data_of last.entry)) }
 {
     let mut text = starting_text(alloc, first, middle)?;
     let value = node_text(alloc, last)?;
@@ -84,8 +84,8 @@ pub(crate) fn type_error_text(
     node: Node<'_>,
     expected: JsonType,
 ) -> Result<String, AllocError>
-    ensures { IfOk result (λ s. has_float (tree_of node.entry) ≡ false
-        → string_bytes s ≡ compact_text (tree_of node.entry) ++ codes " is not of type \"" ++ type_text (type_name_of expected) ++ codes "\"") }
+    ensures { IfOk result (λ s. has_float (data_of node.entry) ≡ false
+        → string_bytes s ≡ compact_text (data_of node.entry) ++ codes " is not of type \"" ++ type_text (type_name_of expected) ++ codes "\"") }
 {
     let mut text = starting_text(alloc, node, " is not of type \"")?;
     text.push_str(type_name(expected))?;

@@ -7,7 +7,7 @@ ghost use Rattle.olk_spec.specs.Meanings.{pattern_says};
 ghost use Rattle.olk_base.specs.Compiled.{pattern_answers, pattern_builds, pattern_costs};
 ghost use Rattle.olk_base.specs.Count.{count_made};
 ghost use Rattle.olk_base.specs.Lawful.{matcher, IsRefused};
-ghost use Rattle.olk_base.specs.Nodes.{tree_of};
+ghost use Rattle.olk_base.specs.Nodes.{data_of};
 
 use crate::doubles::{Equality, NoTexts};
 use crate::tables::two;
@@ -265,7 +265,7 @@ fn asked_leaf<L: MakeLeaf>(
     node: Node<'_>,
     meter: &mut Meter,
 ) -> Result<(bool, Option<String>, Vec<String>, Vec<String>), MakeError>
-    ensures valid { IfOk result (λ r. r.0 ≡ is_empty (L.Leaf.faults keyword.now (view value.now) (tree_of node.entry))) }
+    ensures valid { IfOk result (λ r. r.0 ≡ is_empty (L.Leaf.faults keyword.now (view value.now) (data_of node.entry))) }
 {
     let leaf = leaves.make(alloc, keyword, value, meter)?;
     let mut texts = one_text(alloc, leaf.keyword())?;

@@ -1,5 +1,11 @@
-mod Search
+pub mod Lists
+pub mod Questions
+pub mod Faults
+pub mod Members_met
+mod Places
 mod Lookups
 mod MemberLookups
 mod Entries
+pub mod Merge
+mod Walked
 pub mod Maps

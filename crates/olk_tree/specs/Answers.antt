@@ -5,7 +5,7 @@ use Rattle.std.specs.List.{flat_map}
 use Rattle.serde_json.specs.Data.{Data}
 use Rattle.serde_json.specs.View.{view}
 use Rattle.olk_spec.specs.Names.{Name, Text, Path, ◌//◌, is_empty}
-use Rattle.olk_spec.specs.Faults.{Fault, fault, FalseSchema, Leaf, AnyOf, Not, context}
+use Rattle.olk_spec.specs.Faults.{Fault, Kind, fault, FalseSchema, Leaf, AnyOf, Not, context}
 use Rattle.olk_spec.specs.Schemas.{at}
 use Rattle.olk_spec.specs.Accepts.{missing}
 use Rattle.olk_spec.specs.Reports.{required_faults, fault_if}
@@ -40,6 +40,10 @@ abbrev pub first_of : {A : Type 0} → (A → List Fault) → List A → List Fa
 first_of f [] = []
 first_of f (x ∷ xs) = or_else (f x) (first_of f xs)
 
+-- one fault, unless it accepts
+abbrev pub unless : Bool → Kind → Data → Path → Path → List Fault
+unless b k v P Q = fault_if (not b) k v P Q
+
 -- the first fault alone
 abbrev pub head_of : List Fault → List Fault
 head_of [] = []
@@ -49,8 +53,12 @@ abbrev pub two_texts : String Global → String Global → List Text
 two_texts a b = string_bytes a ∷ string_bytes b ∷ []
 
 -- what the nodes of the declared names find at the members that have them
-abbrev pub properties_find : {N : Type 0} → (N → Bool → Data → Path → List Fault) → Bool → List (Name × N) → Data → Path → List Fault
-properties_find r u es v Q = flat_map (λ e. flat_map (λ x. r e.1 u x (Q // e.0)) (at e.0 v)) es
+abbrev pub properties_report : {N : Type 0} → (N → Bool → Data → Path → List Fault) → Bool → List (Name × N) → Data → Path → List Fault
+properties_report r u es v Q = flat_map (λ e. flat_map (λ x. r e.1 u x (Q // e.0)) (at e.0 v)) es
+
+-- and at the first of these members that is refused
+abbrev pub properties_first : {N : Type 0} → (N → Bool → Data → Path → List Fault) → Bool → List (Name × N) → Data → Path → List Fault
+properties_first s u es v Q = first_of (λ e. first_of (λ x. s e.1 u x (Q // e.0)) (at e.0 v)) es
 
 -- each declared name that is a member, with its node
 abbrev pub properties_mean : {N : Type 0} → (N → Data → Question) → List (Name × N) → Data → Question
@@ -58,58 +66,58 @@ properties_mean m es v = every (λ e. every (m e.1) (at e.0 v)) es
 
 module _ {K N : Type 0} (finds : K → Data → List Text) (m : N → Data → Question) where
   -- whether a keyword accepts, over what its nodes mean
-  unfoldable pub keyword_means : KeywordOver K N → Data → Question
-  keyword_means (keyword.Properties k) v = properties_mean m (named k.properties) v
-  keyword_means (keyword.PropertiesWithRequired2 k) v = both (always (is_empty (missing (two_texts k.first k.second) v))) (properties_mean m (named k.properties) v)
-  keyword_means (keyword.Required k) v = always (is_empty (missing (texts_of k.required.items) v))
-  keyword_means (keyword.AllOf k) v = every (λ n. m n v) k.schemas.items
-  keyword_means (keyword.SingleValueAllOf k) v = m k.node v
-  keyword_means (keyword.AnyOf k) v = some (λ n. m n v) k.schemas.items
-  keyword_means (keyword.SingleAnyOf k) v = m k.node v
-  keyword_means (keyword.Not k) v = opposite (m k.node v)
-  keyword_means (keyword.Leaf p l) v = always (is_empty (finds l v))
+  unfoldable pub validator_means : KeywordOver K N → Data → Question
+  validator_means (keyword.Properties k) v = properties_mean m (named k.properties) v
+  validator_means (keyword.PropertiesWithRequired2 k) v = both (always (is_empty (missing (two_texts k.first k.second) v))) (properties_mean m (named k.properties) v)
+  validator_means (keyword.Required k) v = always (is_empty (missing (texts_of k.required.items) v))
+  validator_means (keyword.AllOf k) v = every (λ n. m n v) k.schemas.items
+  validator_means (keyword.SingleValueAllOf k) v = m k.node v
+  validator_means (keyword.AnyOf k) v = some (λ n. m n v) k.schemas.items
+  validator_means (keyword.SingleAnyOf k) v = m k.node v
+  validator_means (keyword.Not k) v = opposite (m k.node v)
+  validator_means (keyword.Leaf p l) v = always (is_empty (finds l v))
 
   module _ (keyword_of : K → Name) (r : N → Bool → Data → Path → List Fault) (u : Bool) where
     -- what a keyword finds, over what its nodes find
-    unfoldable pub keyword_finds : KeywordOver K N → Data → Path → List Fault
-    keyword_finds (keyword.Properties k) v Q = properties_find r u (named k.properties) v Q
-    keyword_finds (keyword.PropertiesWithRequired2 k) v Q = required_faults (two_texts k.first k.second) v k.required_location Q ++ properties_find r u (named k.properties) v Q
-    keyword_finds (keyword.Required k) v Q = required_faults (texts_of k.required.items) v k.location Q
-    keyword_finds (keyword.AllOf k) v Q = flat_map (λ n. r n u v Q) k.schemas.items
-    keyword_finds (keyword.SingleValueAllOf k) v Q = r k.node u v Q
-    keyword_finds (keyword.AnyOf k) v Q = fault_if (not ((some (λ n. m n v) k.schemas.items).accepts u)) (AnyOf (context (map (λ n. r n u v Q) k.schemas.items))) v k.location Q
-    keyword_finds (keyword.SingleAnyOf k) v Q = fault_if (not ((m k.node v).accepts u)) (AnyOf (context (r k.node u v Q ∷ []))) v k.location Q
-    keyword_finds (keyword.Not k) v Q = fault_if ((m k.node v).accepts u) (Not (view k.original)) v k.location Q
-    keyword_finds (keyword.Leaf p l) v Q = map (λ t. fault (Leaf (keyword_of l) t) v Q p) (finds l v)
+    unfoldable pub validator_report : KeywordOver K N → Data → Path → List Fault
+    validator_report (keyword.Properties k) v Q = properties_report r u (named k.properties) v Q
+    validator_report (keyword.PropertiesWithRequired2 k) v Q = required_faults (two_texts k.first k.second) v k.required_location Q ++ properties_report r u (named k.properties) v Q
+    validator_report (keyword.Required k) v Q = required_faults (texts_of k.required.items) v k.location Q
+    validator_report (keyword.AllOf k) v Q = flat_map (λ n. r n u v Q) k.schemas.items
+    validator_report (keyword.SingleValueAllOf k) v Q = r k.node u v Q
+    validator_report (keyword.AnyOf k) v Q = unless ((some (λ n. m n v) k.schemas.items).accepts u) (AnyOf (context (map (λ n. r n u v Q) k.schemas.items))) v k.location Q
+    validator_report (keyword.SingleAnyOf k) v Q = unless ((m k.node v).accepts u) (AnyOf (context (r k.node u v Q ∷ []))) v k.location Q
+    validator_report (keyword.Not k) v Q = fault_if ((m k.node v).accepts u) (Not (view k.original)) v k.location Q
+    validator_report (keyword.Leaf p l) v Q = map (λ t. fault (Leaf (keyword_of l) t) v Q p) (finds l v)
 
     module _ (s : N → Bool → Data → Path → List Fault) where
       -- what it finds at the first step that refuses, over what its nodes find and find first
-      unfoldable pub keyword_first : KeywordOver K N → Data → Path → List Fault
-      keyword_first (keyword.Properties k) v Q = first_of (λ e. first_of (λ x. s e.1 u x (Q // e.0)) (at e.0 v)) (named k.properties)
-      keyword_first (keyword.PropertiesWithRequired2 k) v Q = or_else (head_of (required_faults (two_texts k.first k.second) v k.required_location Q)) (first_of (λ e. first_of (λ x. s e.1 u x (Q // e.0)) (at e.0 v)) (named k.properties))
-      keyword_first (keyword.Required k) v Q = head_of (required_faults (texts_of k.required.items) v k.location Q)
-      keyword_first (keyword.AllOf k) v Q = first_of (λ n. s n u v Q) k.schemas.items
-      keyword_first (keyword.SingleValueAllOf k) v Q = s k.node u v Q
-      keyword_first (keyword.AnyOf k) v Q = fault_if (not ((some (λ n. m n v) k.schemas.items).accepts u)) (AnyOf (context (map (λ n. r n u v Q) k.schemas.items))) v k.location Q
-      keyword_first (keyword.SingleAnyOf k) v Q = fault_if (not ((m k.node v).accepts u)) (AnyOf (context (r k.node u v Q ∷ []))) v k.location Q
-      keyword_first (keyword.Not k) v Q = fault_if ((m k.node v).accepts u) (Not (view k.original)) v k.location Q
-      keyword_first (keyword.Leaf p l) v Q = map (λ t. fault (Leaf (keyword_of l) t) v Q p) (finds l v)
+      unfoldable pub validator_first : KeywordOver K N → Data → Path → List Fault
+      validator_first (keyword.Properties k) v Q = properties_first s u (named k.properties) v Q
+      validator_first (keyword.PropertiesWithRequired2 k) v Q = or_else (head_of (required_faults (two_texts k.first k.second) v k.required_location Q)) (properties_first s u (named k.properties) v Q)
+      validator_first (keyword.Required k) v Q = head_of (required_faults (texts_of k.required.items) v k.location Q)
+      validator_first (keyword.AllOf k) v Q = first_of (λ n. s n u v Q) k.schemas.items
+      validator_first (keyword.SingleValueAllOf k) v Q = s k.node u v Q
+      validator_first (keyword.AnyOf k) v Q = unless ((some (λ n. m n v) k.schemas.items).accepts u) (AnyOf (context (map (λ n. r n u v Q) k.schemas.items))) v k.location Q
+      validator_first (keyword.SingleAnyOf k) v Q = unless ((m k.node v).accepts u) (AnyOf (context (r k.node u v Q ∷ []))) v k.location Q
+      validator_first (keyword.Not k) v Q = fault_if ((m k.node v).accepts u) (Not (view k.original)) v k.location Q
+      validator_first (keyword.Leaf p l) v Q = map (λ t. fault (Leaf (keyword_of l) t) v Q p) (finds l v)
 
   module _ (keyword_of : K → Name) (t : N → Bool → Data → Path → Tree) (u : Bool) where
     abbrev pub at_node : N → Data → Path → Tree
     at_node n = t n u
 
     -- what a keyword shows, over what its nodes show
-    unfoldable pub keyword_shows : KeywordOver K N → Data → Path → Tree
-    keyword_shows (keyword.Properties k) v Q = properties_tree at_node v Q k.location (named k.properties) []
-    keyword_shows (keyword.PropertiesWithRequired2 k) v Q = properties_tree at_node v Q k.location (named k.properties) (missing_trees (two_texts k.first k.second) v k.required_location Q)
-    keyword_shows (keyword.Required k) v Q = erring k.location Q (required_faults (texts_of k.required.items) v k.location Q)
-    keyword_shows (keyword.AllOf k) v Q = plain k.location Q (branch_trees at_node v Q k.schemas.items)
-    keyword_shows (keyword.SingleValueAllOf k) v Q = plain k.location Q (branch_trees at_node v Q (k.node ∷ []))
-    keyword_shows (keyword.AnyOf k) v Q = any_of_tree at_node v Q (λ n. (m n v).accepts u) k.location k.schemas.items
-    keyword_shows (keyword.SingleAnyOf k) v Q = any_of_tree at_node v Q (λ n. (m n v).accepts u) k.location (k.node ∷ [])
-    keyword_shows (keyword.Not k) v Q = erring k.location Q (fault_if ((m k.node v).accepts u) (Not (view k.original)) v k.location Q)
-    keyword_shows (keyword.Leaf p l) v Q = leaf_node p Q (described (map (λ x. fault (Leaf (keyword_of l) x) v Q p) (finds l v)))
+    unfoldable pub validator_tree : KeywordOver K N → Data → Path → Tree
+    validator_tree (keyword.Properties k) v Q = properties_tree at_node v Q k.location (named k.properties) []
+    validator_tree (keyword.PropertiesWithRequired2 k) v Q = properties_tree at_node v Q k.location (named k.properties) (missing_trees (two_texts k.first k.second) v k.required_location Q)
+    validator_tree (keyword.Required k) v Q = erring k.location Q (required_faults (texts_of k.required.items) v k.location Q)
+    validator_tree (keyword.AllOf k) v Q = plain k.location Q (branch_trees at_node v Q k.schemas.items)
+    validator_tree (keyword.SingleValueAllOf k) v Q = plain k.location Q (branch_trees at_node v Q (k.node ∷ []))
+    validator_tree (keyword.AnyOf k) v Q = any_of_tree at_node v Q (λ n. (m n v).accepts u) k.location k.schemas.items
+    validator_tree (keyword.SingleAnyOf k) v Q = any_of_tree at_node v Q (λ n. (m n v).accepts u) k.location (k.node ∷ [])
+    validator_tree (keyword.Not k) v Q = erring k.location Q (fault_if ((m k.node v).accepts u) (Not (view k.original)) v k.location Q)
+    validator_tree (keyword.Leaf p l) v Q = leaf_node p Q (described (map (λ x. fault (Leaf (keyword_of l) x) v Q p) (finds l v)))
 
 -- whether a body accepts
 abbrev pub body_means : {W : Type 0} → (W → Data → Question) → Body W → Data → Question
@@ -118,10 +126,10 @@ body_means f False v = always false
 body_means f (Keywords ks) v = every (λ k. f k v) ks.items
 
 -- what a body finds at its place
-abbrev pub body_finds : {W : Type 0} → (W → Data → Path → List Fault) → Path → Body W → Data → Path → List Fault
-body_finds f P True v Q = []
-body_finds f P False v Q = fault FalseSchema v Q P ∷ []
-body_finds f P (Keywords ks) v Q = flat_map (λ k. f k v Q) ks.items
+abbrev pub body_report : {W : Type 0} → (W → Data → Path → List Fault) → Path → Body W → Data → Path → List Fault
+body_report f P True v Q = []
+body_report f P False v Q = fault FalseSchema v Q P ∷ []
+body_report f P (Keywords ks) v Q = flat_map (λ k. f k v Q) ks.items
 
 -- and at its first step that refuses
 abbrev pub body_first : {W : Type 0} → (W → Data → Path → List Fault) → Path → Body W → Data → Path → List Fault
@@ -130,7 +138,7 @@ body_first f P False v Q = fault FalseSchema v Q P ∷ []
 body_first f P (Keywords ks) v Q = first_of (λ k. f k v Q) ks.items
 
 -- what a body shows at its place
-abbrev pub body_shows : {W : Type 0} → (W → Data → Path → Tree) → Path → Body W → Data → Path → Tree
-body_shows f P True v Q = plain P Q []
-body_shows f P False v Q = erring P Q (fault FalseSchema v Q P ∷ [])
-body_shows f P (Keywords ks) v Q = plain P Q (map (λ k. f k v Q) ks.items)
+abbrev pub body_tree : {W : Type 0} → (W → Data → Path → Tree) → Path → Body W → Data → Path → Tree
+body_tree f P True v Q = plain P Q []
+body_tree f P False v Q = erring P Q (fault FalseSchema v Q P ∷ [])
+body_tree f P (Keywords ks) v Q = plain P Q (map (λ k. f k v Q) ks.items)

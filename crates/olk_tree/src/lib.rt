@@ -3,6 +3,7 @@
 
 pub mod all_of;
 pub mod any_of;
+pub mod declared;
 pub mod map;
 pub mod means;
 pub mod members;
@@ -12,6 +13,6 @@ pub mod properties;
 pub mod required;
 
 pub use map::{SmallMap, SortedNames};
-pub use means::Means;
+pub use means::{Means, Reports};
 pub use node::{Body, KeywordOver};
 pub use required::RequiredValidator;

@@ -1,3 +1,4 @@
+//! Names in order, and what stands beside them.
 ghost use Rattle.std.specs.Ordering.{nat_cmp};
 ghost use Rattle.std.specs.Cmp.Lexicographic.{slice_cmp};
 ghost use Rattle.std.specs.Prelude.{◌≡◌, IfOk, bytes_eq, length, map, string_bytes, option_copied, position};
@@ -5,7 +6,7 @@ ghost use Rattle.serde_json.specs.View.{members_view};
 ghost use Rattle.olk_spec.specs.Schemas.{listed};
 ghost use Rattle.olk_spec.specs.Names.{lookup};
 ghost use Rattle.olk_tree.specs.Answers.{named};
-ghost use Rattle.olk_tree.specs.Ascending.{Ascend};
+ghost use Rattle.olk_tree.specs.Ascending.{Ascend, IsAfter, IsPlaceOf};
 
 use serde_json::{Map, Value};
 use std::alloc::{AllocError, Global};
@@ -31,6 +32,10 @@ impl Model for SortedNames {
 
 impl SortedNames {
     /// The names of an object's members.
+    ///
+    /// # Errors
+    ///
+    /// Want of memory.
     pub fn of(alloc: Global, object: &Map<String, Value>) -> Result<SortedNames, AllocError>
         ensures { IfOk result (λ names. names ≡ map (λ m. m.0) (listed (members_view object.now.entries))) }
     {
@@ -60,16 +65,65 @@ impl SortedNames {
     pub fn find(&self, name: &str) -> Option<usize>
         ensures { result ≡ position (λ k. bytes_eq k name.now) self.now }
     {
-        let found = self.names.binary_search_by(
-            |k: &String| -> Ordering
-                ensures { result ≡ slice_cmp nat_cmp (string_bytes k.now) name.entry.now }
-            { k.as_str().cmp(name) },
-        );
-        match found {
-            Ok(i) => Some(i),
+        match place_of(&self.names, name) {
+            Ok(place) => Some(place),
             Err(_) => None,
         }
     }
+
+    /// At which place the name stands, looked for at `hint` first, and where to look first for a later name.
+    ///
+    /// Names that are asked for in ascending order are found in step: the next one is compared first, then the rest is
+    /// bisected. A hint that is no good costs a bisection.
+    pub fn find_from(&self, hint: usize, name: &str) -> (usize, Option<usize>)
+        ensures { result.1 ≡ position (λ k. bytes_eq k name.now) self.now }
+    {
+        let names = self.names.as_slice();
+        if hint >= names.len() {
+            return find_before(names, hint, name);
+        }
+        match names[hint].as_str().cmp(name) {
+            Ordering::Equal => (hint + 1, Some(hint)),
+            Ordering::Greater => find_before(names, hint, name),
+            Ordering::Less => {
+                let later = hint + 1;
+                match place_of(&names[later..], name) {
+                    Ok(place) => (later + place + 1, Some(later + place)),
+                    Err(place) => (later + place, None),
+                }
+            }
+        }
+    }
+}
+
+// The same, where no name from `hint` on is the one that is looked for: the last one before is compared first.
+fn find_before(names: &[String], hint: usize, name: &str) -> (usize, Option<usize>)
+    requires ordered { Ascend (map string_bytes names.now) }
+    requires later { IsAfter (map string_bytes names.now) hint name.now }
+    ensures { result.1 ≡ position (λ k. bytes_eq k name.now) (map string_bytes names.now) }
+{
+    if hint == 0 {
+        return (0, None);
+    }
+    if hint <= names.len() && let Ordering::Less = names[hint - 1].as_str().cmp(name) {
+        return (hint, None);
+    }
+    match place_of(names, name) {
+        Ok(place) => (place + 1, Some(place)),
+        Err(place) => (place, None),
+    }
+}
+
+// Where the name stands, or else where it would stand, found by bisection.
+fn place_of(names: &[String], name: &str) -> Result<usize, usize>
+    requires { Ascend (map string_bytes names.now) }
+    ensures { IsPlaceOf (map string_bytes names.now) name.now result }
+{
+    names.binary_search_by(
+        |k: &String| -> Ordering
+            ensures { result ≡ slice_cmp nat_cmp (string_bytes k.now) name.entry.now }
+        { k.as_str().cmp(name) },
+    )
 }
 
 /// Names, and beside each what stands at it.
@@ -85,8 +139,19 @@ impl<N> SmallMap<N> {
         ensures { option_copied result ≡ lookup name.now (named self.now) }
     {
         match self.names.find(name) {
-            Some(index) => self.nodes.get(index),
+            Some(place) => self.nodes.get(place),
             None => None,
+        }
+    }
+
+    /// What stands at the name, looked for at `hint` first, and where to look first for a later name.
+    pub fn get_from(&self, hint: usize, name: &str) -> (usize, Option<&N>)
+        ensures { option_copied result.1 ≡ lookup name.now (named self.now) }
+    {
+        let (next, place) = self.names.find_from(hint, name);
+        match place {
+            Some(place) => (next, self.nodes.get(place)),
+            None => (next, None),
         }
     }
 }

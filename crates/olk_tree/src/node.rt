@@ -1,9 +1,11 @@
 //! Keywords, over the nodes that they hold.
 use crate::all_of::{AllOf, SingleValueAllOf};
 use crate::any_of::{AnyOf, SingleAnyOf};
+use crate::means::{Means, Reports};
 use crate::not::Not;
 use crate::properties::{SmallProperties, SmallPropertiesWithRequired2};
 use crate::required::RequiredValidator;
+use olk_base::Leaf;
 use olk_reports::Location;
 
 /// A keyword of a schema object, over the nodes that it holds.
@@ -20,10 +22,33 @@ pub enum KeywordOver<K, N> {
     Leaf(Location, K),
 }
 
+impl<K: Leaf, N: Means> Means for KeywordOver<K, N> {
+    ghost use Rattle.olk_tree.specs.Answers.{validator_means};
+
+    ghost means = { validator_means K.finds N.means };
+}
+
+impl<K: Leaf, N: Reports> Reports for KeywordOver<K, N> {
+    ghost use Rattle.olk_tree.specs.Answers.{validator_report, validator_first};
+    ghost use Rattle.olk_tree.specs.Agreement.{validator_agrees};
+
+    ghost report = { λ k u. validator_report K.finds N.means K.keyword_of N.report u k };
+
+    ghost first = { λ k u. validator_first K.finds N.means K.keyword_of N.report u N.first k };
+
+    ghost agrees = { λ k u v Q. validator_agrees K.finds N.means K.keyword_of N.report u (λ n w R. N.agrees n u w R) k v Q };
+}
+
 /// What stands at a place: true, false, or keywords.
 #[derive(Drop)]
 pub enum Body<W> {
     True,
     False,
     Keywords(Vec<W>),
+}
+
+impl<W: Means> Means for Body<W> {
+    ghost use Rattle.olk_tree.specs.Answers.{body_means};
+
+    ghost means = { body_means W.means };
 }

@@ -1,4 +1,4 @@
-use Rattle.olk_check.proofs.Lookups.{lacks_more, lacks_stop}
+use Rattle.olk_check.proofs.Missing.{lacks_more, lacks_stop}
 use Rattle.olk_check.proofs.required.has_each.Goals as goal
 
 pub returns-then-not-has_member : goal.returns-then-not-has_member

@@ -1,5 +1,5 @@
 use Rattle.serde_json.specs.View.{members_view}
-use Rattle.olk_check.proofs.Lookups.{Lacks}
+use Rattle.olk_check.proofs.Missing.{Lacks}
 use Rattle.olk_check.proofs.required.has_each.Given as goal
 
 abbrev pub invariant-loop-name : goal.invariant-loop-name

@@ -1,5 +1,5 @@
 use Rattle.std.proofs.Common.{◌≡◌, rules, string_bytes, ap, ◌∙◌}
-use Rattle.olk_base.specs.Nodes.{tree_of}
+use Rattle.olk_base.specs.Nodes.{data_of}
 use Rattle.olk_spec.specs.Faults.{fault}
 use Rattle.olk_reports.specs.Errors.{kind_of}
 use Rattle.olk_errors.proofs.Appending.{appends_one}
@@ -8,4 +8,4 @@ use Rattle.olk_errors.proofs.append.append_error.Goals as goal
 pub returns-clause-report : goal.returns-clause-report
 returns-clause-report c =
     let text : string_bytes c.in_ok-text.text ≡ c.args.path.now = search rules in
-    appends_one c.new.result c.in_ok-push.ensures.items (c.new.ensures ∙ ap (λ t. fault (kind_of c.args.kind) (tree_of c.args.node) t c.args.schema_path.now) text)
+    appends_one c.new.result c.in_ok-push.ensures.items (c.new.ensures ∙ ap (λ t. fault (kind_of c.args.kind) (data_of c.args.node) t c.args.schema_path.now) text)

@@ -1,5 +1,6 @@
 use Rattle.olk_errors.proofs.Appending.{at_ok, appends_same}
-use Rattle.olk_errors.proofs.Steps.{next_at, collecting_start, collecting_more}
+use Rattle.olk_tree.proofs.Lists.{next_at}
+use Rattle.olk_errors.proofs.Steps.{collecting_start, collecting_more}
 use Rattle.olk_errors.proofs.walk.collect_all.Goals as goal
 
 pub loop-n-init : goal.loop-n-init
@@ -7,5 +8,5 @@ loop-n-init g c = collecting_start
 
 pub loop-n-preserved : goal.loop-n-preserved
 loop-n-preserved g c = collecting_more c.loop-n.invariant (next_at c.deref-n-items.ensures.value c.n-item.is c.loop-n-test.true)
-    (appends_same c.in_ok-or_cut.ensures.ok (at_ok c.or_cut.ensures.same c.in_ok-or_cut.was c.collect_errors-answer.ensures.report))
-    c.collect_errors-answer.ensures.path c.collect_errors-answer.ensures.answer
+    (appends_same c.in_ok-roll_back_on_err.ensures.ok (at_ok c.roll_back_on_err.ensures.same c.in_ok-roll_back_on_err.was c.collect_errors-answer.ensures.report))
+    c.collect_errors-answer.ensures.path c.collect_errors-answer.ensures.context

@@ -1,5 +1,5 @@
 use Rattle.std.proofs.Common.{◌≡◌, drop}
-use Rattle.olk_base.specs.Nodes.{tree_of}
+use Rattle.olk_base.specs.Nodes.{data_of}
 use Rattle.olk_evaluate.specs.Wanted.{each_wanted, trees_of}
 use Rattle.olk_evaluate.proofs.Children.{ShownFrom}
 use Rattle.olk_evaluate.proofs.walk.each_child.Given as goal
@@ -8,5 +8,5 @@ abbrev pub invariant-loop-schema : goal.invariant-loop-schema
 invariant-loop-schema g l = record {
   path : l.path ≡ l.initial.path;
   answer : l.ctx.answer ≡ l.initial.ctx.answer;
-  shown : ShownFrom (each_wanted g.N.Evaluate.shows g.N.Means.means l.initial.ctx.answer l.schemas.items (tree_of l.node) l.initial.path) (each_wanted g.N.Evaluate.shows g.N.Means.means l.initial.ctx.answer (drop l.schema-index l.schemas.items) (tree_of l.node) l.initial.path) (trees_of l.children.items);
+  shown : ShownFrom (each_wanted g.N.Evaluate.shows g.N.Means.means l.initial.ctx.answer l.schemas.items (data_of l.node) l.initial.path) (each_wanted g.N.Evaluate.shows g.N.Means.means l.initial.ctx.answer (drop l.schema-index l.schemas.items) (data_of l.node) l.initial.path) (trees_of l.children.items);
 }

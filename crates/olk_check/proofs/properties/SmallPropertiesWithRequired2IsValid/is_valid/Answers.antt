@@ -1,15 +1,15 @@
 use Rattle.std.proofs.Common.{true, sym, subst, ◌∙◌}
-use Rattle.olk_base.specs.Nodes.{tree_of}
+use Rattle.olk_base.specs.Nodes.{data_of}
 use Rattle.olk_tree.specs.Questions.{always, both}
 use Rattle.olk_tree.specs.Answers.{named, two_texts}
+use Rattle.olk_tree.proofs.Questions.{both_last}
+use Rattle.olk_tree.proofs.Members_met.{means_nothing}
 use Rattle.olk_check.specs.Asks.{Asks}
 use Rattle.olk_check.proofs.Asked.{unasked}
-use Rattle.olk_check.proofs.Lookups.{lacks_nothing}
-use Rattle.olk_check.proofs.MemberWalks.{declared_nothing}
-use Rattle.olk_check.proofs.Sides.{both_last}
+use Rattle.olk_check.proofs.Missing.{lacks_nothing}
 use Rattle.olk_check.proofs.properties.SmallPropertiesWithRequired2IsValid.is_valid.Goals as goal
 
 pub returns-in-None : goal.returns-in-None
 returns-in-None g c = subst (λ q. Asks c.args.ctx.now c.args.ctx.now q true)
-    (sym ((λ i. both (always (lacks_nothing (two_texts c.args.self.now.first c.args.self.now.second) (tree_of c.args.node) c.in-None.ensures i)) (declared_nothing g.N.Means.means (named c.args.self.now.properties) (tree_of c.args.node) c.in-None.ensures i)) ∙ both_last (always true)))
+    (sym ((λ i. both (always (lacks_nothing (two_texts c.args.self.now.first c.args.self.now.second) (data_of c.args.node) c.in-None.ensures i)) (means_nothing (named c.args.self.now.properties) (data_of c.args.node) c.in-None.ensures g.N.Means.means i)) ∙ both_last (always true)))
     (unasked c.args.ctx.now true)

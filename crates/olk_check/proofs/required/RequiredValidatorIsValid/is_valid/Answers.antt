@@ -1,11 +1,11 @@
 use Rattle.std.proofs.Common.{true, sym, subst}
-use Rattle.olk_base.specs.Nodes.{tree_of}
+use Rattle.olk_base.specs.Nodes.{data_of}
 use Rattle.olk_tree.specs.Questions.{always}
 use Rattle.olk_tree.specs.Answers.{texts_of}
 use Rattle.olk_check.specs.Asks.{Asks}
 use Rattle.olk_check.proofs.Asked.{unasked}
-use Rattle.olk_check.proofs.Lookups.{lacks_nothing}
+use Rattle.olk_check.proofs.Missing.{lacks_nothing}
 use Rattle.olk_check.proofs.required.RequiredValidatorIsValid.is_valid.Goals as goal
 
 pub returns-in-None : goal.returns-in-None
-returns-in-None c = subst (λ b. Asks c.args._ctx.now c.args._ctx.now (always b) true) (sym (lacks_nothing (texts_of c.args.self.now.required.items) (tree_of c.args.node) c.in-None.ensures)) (unasked c.args._ctx.now true)
+returns-in-None c = subst (λ b. Asks c.args._ctx.now c.args._ctx.now (always b) true) (sym (lacks_nothing (texts_of c.args.self.now.required.items) (data_of c.args.node) c.in-None.ensures)) (unasked c.args._ctx.now true)

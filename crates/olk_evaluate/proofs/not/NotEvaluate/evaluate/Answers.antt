@@ -1,6 +1,6 @@
 use Rattle.std.proofs.Common.{not, [], ◌∷◌, ap, subst, ◌∙◌}
 use Rattle.serde_json.specs.View.{view}
-use Rattle.olk_base.specs.Nodes.{tree_of}
+use Rattle.olk_base.specs.Nodes.{data_of}
 use Rattle.olk_spec.specs.Faults.{fault, Not as Refuses}
 use Rattle.olk_spec.specs.Reports.{fault_if}
 use Rattle.olk_reports.specs.Evaluations.{shown_of}
@@ -11,9 +11,9 @@ use Rattle.olk_evaluate.proofs.not.NotEvaluate.evaluate.Goals as goal
 
 pub returns-clause-shows : goal.returns-clause-shows
 returns-clause-shows g c =
-    erring_like c.args.self.now.location c.args._path.now (fault_if ((g.N.Means.means c.args.self.now.node (tree_of c.args.node)).accepts c.args.ctx.now.answer) (Refuses (view c.args.self.now.original)) (tree_of c.args.node) c.args.self.now.location c.args._path.now)
-    (subst (λ b. HasErrors (fault_if b (Refuses (view c.args.self.now.original)) (tree_of c.args.node) c.args.self.now.location c.args._path.now) (shown_of c.in_ok-one_error.field-0)) c.if-not-is_valid.ensures.verdict
-    (subst (λ k. HasErrors (fault k (tree_of c.args.node) c.args._path.now c.args.self.now.location ∷ []) (shown_of c.in_ok-one_error.field-0)) (kind_of_not _) (c.in_ok-one_error.ensures c.args.self.now.location c.args._path.now)))
+    erring_like c.args.self.now.location c.args._path.now (fault_if ((g.N.Means.means c.args.self.now.node (data_of c.args.node)).accepts c.args.ctx.now.answer) (Refuses (view c.args.self.now.original)) (data_of c.args.node) c.args.self.now.location c.args._path.now)
+    (subst (λ b. HasErrors (fault_if b (Refuses (view c.args.self.now.original)) (data_of c.args.node) c.args.self.now.location c.args._path.now) (shown_of c.in_ok-one_error.field-0)) c.if-not-is_valid.ensures.verdict
+    (subst (λ k. HasErrors (fault k (data_of c.args.node) c.args._path.now c.args.self.now.location ∷ []) (shown_of c.in_ok-one_error.field-0)) (kind_of_not _) (c.in_ok-one_error.ensures c.args.self.now.location c.args._path.now)))
 
 pub returns-clause-verdict : goal.returns-clause-verdict
-returns-clause-verdict g c = erring_verdict c.args.self.now.location c.args._path.now (fault _ (tree_of c.args.node) c.args._path.now c.args.self.now.location ∷ []) (c.in_ok-one_error.ensures c.args.self.now.location c.args._path.now) ∙ ap not c.if-not-is_valid.ensures.verdict
+returns-clause-verdict g c = erring_verdict c.args.self.now.location c.args._path.now (fault _ (data_of c.args.node) c.args._path.now c.args.self.now.location ∷ []) (c.in_ok-one_error.ensures c.args.self.now.location c.args._path.now) ∙ ap not c.if-not-is_valid.ensures.verdict

@@ -5,7 +5,7 @@ use Rattle.olk_spec.specs.Names.{is_empty}
 use Rattle.olk_reports.specs.Evaluations.{shown_of}
 use Rattle.olk_check.proofs.MemberWalks.{object_of}
 use Rattle.olk_evaluate.specs.Wanted.{HasErrors}
-use Rattle.olk_base.specs.Nodes.{tree_of}
+use Rattle.olk_base.specs.Nodes.{data_of}
 use Rattle.olk_spec.specs.Faults.{fault, Required}
 use Rattle.olk_spec.specs.Accepts.{missing}
 use Rattle.olk_spec.specs.Reports.{required_faults}
@@ -14,21 +14,21 @@ use Rattle.olk_evaluate.proofs.OwnErrors.{erring_like, erring_verdict, lacks_non
 use Rattle.olk_evaluate.proofs.required.RequiredValidatorEvaluate.evaluate.Goals as goal
 
 pub returns-in-None-clause-shows : goal.returns-in-None-clause-shows
-returns-in-None-clause-shows c = erring_like c.args.self.now.location c.args._path.now (required_faults (texts_of c.args.self.now.required.items) (tree_of c.args.node) c.args.self.now.location c.args._path.now)
-    (lacks_none (λ n. fault (Required n) (tree_of c.args.node) c.args._path.now c.args.self.now.location) (texts_of c.args.self.now.required.items) (tree_of c.args.node) c.in-None.ensures c.valid_empty.ensures)
+returns-in-None-clause-shows c = erring_like c.args.self.now.location c.args._path.now (required_faults (texts_of c.args.self.now.required.items) (data_of c.args.node) c.args.self.now.location c.args._path.now)
+    (lacks_none (λ n. fault (Required n) (data_of c.args.node) c.args._path.now c.args.self.now.location) (texts_of c.args.self.now.required.items) (data_of c.args.node) c.in-None.ensures c.valid_empty.ensures)
 
 pub returns-in-None-clause-verdict : goal.returns-in-None-clause-verdict
-returns-in-None-clause-verdict c = erring_verdict c.args.self.now.location c.args._path.now (required_faults (texts_of c.args.self.now.required.items) (tree_of c.args.node) c.args.self.now.location c.args._path.now)
-    (lacks_none (λ n. fault (Required n) (tree_of c.args.node) c.args._path.now c.args.self.now.location) (texts_of c.args.self.now.required.items) (tree_of c.args.node) c.in-None.ensures c.valid_empty.ensures)
-    ∙ same_emptiness (λ n. fault (Required n) (tree_of c.args.node) c.args._path.now c.args.self.now.location) (missing (texts_of c.args.self.now.required.items) (tree_of c.args.node))
+returns-in-None-clause-verdict c = erring_verdict c.args.self.now.location c.args._path.now (required_faults (texts_of c.args.self.now.required.items) (data_of c.args.node) c.args.self.now.location c.args._path.now)
+    (lacks_none (λ n. fault (Required n) (data_of c.args.node) c.args._path.now c.args.self.now.location) (texts_of c.args.self.now.required.items) (data_of c.args.node) c.in-None.ensures c.valid_empty.ensures)
+    ∙ same_emptiness (λ n. fault (Required n) (data_of c.args.node) c.args._path.now c.args.self.now.location) (missing (texts_of c.args.self.now.required.items) (data_of c.args.node))
 
 pub returns-in_ok-each_missing-in-Some-clause-shows : goal.returns-in_ok-each_missing-in-Some-clause-shows
-returns-in_ok-each_missing-in-Some-clause-shows c = erring_like c.args.self.now.location c.args._path.now (required_faults (texts_of c.args.self.now.required.items) (tree_of c.args.node) c.args.self.now.location c.args._path.now)
-    (subst (λ w. HasErrors (map (λ n. fault (Required n) (tree_of c.args.node) c.args._path.now c.args.self.now.location) (missing (texts_of c.args.self.now.required.items) w)) (shown_of c.in_ok-each_missing-in-Some.field-0)) (object_of (tree_of c.args.node) (members_view c.in-Some.members.now.entries) c.in-Some.ensures)
+returns-in_ok-each_missing-in-Some-clause-shows c = erring_like c.args.self.now.location c.args._path.now (required_faults (texts_of c.args.self.now.required.items) (data_of c.args.node) c.args.self.now.location c.args._path.now)
+    (subst (λ w. HasErrors (map (λ n. fault (Required n) (data_of c.args.node) c.args._path.now c.args.self.now.location) (missing (texts_of c.args.self.now.required.items) w)) (shown_of c.in_ok-each_missing-in-Some.field-0)) (object_of (data_of c.args.node) (members_view c.in-Some.members.now.entries) c.in-Some.ensures)
     (c.in_ok-each_missing-in-Some.ensures c.args.self.now.location c.args._path.now))
 
 pub returns-in_ok-each_missing-in-Some-clause-verdict : goal.returns-in_ok-each_missing-in-Some-clause-verdict
 returns-in_ok-each_missing-in-Some-clause-verdict c =
-    erring_verdict c.args.self.now.location c.args._path.now (map (λ n. fault (Required n) (tree_of c.args.node) c.args._path.now c.args.self.now.location) (missing (texts_of c.args.self.now.required.items) (object (members_view c.in-Some.members.now.entries)))) (c.in_ok-each_missing-in-Some.ensures c.args.self.now.location c.args._path.now)
-    ∙ same_emptiness (λ n. fault (Required n) (tree_of c.args.node) c.args._path.now c.args.self.now.location) (missing (texts_of c.args.self.now.required.items) (object (members_view c.in-Some.members.now.entries)))
-    ∙ ap (λ w. is_empty (missing (texts_of c.args.self.now.required.items) w)) (object_of (tree_of c.args.node) (members_view c.in-Some.members.now.entries) c.in-Some.ensures)
+    erring_verdict c.args.self.now.location c.args._path.now (map (λ n. fault (Required n) (data_of c.args.node) c.args._path.now c.args.self.now.location) (missing (texts_of c.args.self.now.required.items) (object (members_view c.in-Some.members.now.entries)))) (c.in_ok-each_missing-in-Some.ensures c.args.self.now.location c.args._path.now)
+    ∙ same_emptiness (λ n. fault (Required n) (data_of c.args.node) c.args._path.now c.args.self.now.location) (missing (texts_of c.args.self.now.required.items) (object (members_view c.in-Some.members.now.entries)))
+    ∙ ap (λ w. is_empty (missing (texts_of c.args.self.now.required.items) w)) (object_of (data_of c.args.node) (members_view c.in-Some.members.now.entries) c.in-Some.ensures)

@@ -1,18 +1,14 @@
-use Rattle.std.proofs.Common.{rules, string_bytes, sym, Ok, Err}
-use Rattle.std.proofs.lemmas.Fn.{always_returns_same}
-use Rattle.std.specs.Ordering.{nat_cmp}
-use Rattle.std.specs.Cmp.Lexicographic.{slice_cmp}
-use Rattle.olk_tree.proofs.Search.{searched_as}
+use Rattle.std.proofs.Common.{sym, subst}
+use Rattle.olk_tree.specs.Ascending.{StandsAt, Parts}
+use Rattle.olk_tree.proofs.Places.{names_are, stands_some, parts_none}
 use Rattle.olk_tree.proofs.map.SortedNames.find.Goals as goal
 
 pub returns-in-Ok : goal.returns-in-Ok
 returns-in-Ok c =
-    let facts = c.binary_search_by-found.ensures in
-    let by_name = facts.position (λ k. slice_cmp nat_cmp (string_bytes k) c.args.name.now) (always_returns_same _ _ _ (λ a r g called. search rules)) in
-    searched_as _ _ _ c.args.name.now _ (Ok c.in-Ok.i) c.deref.ensures.value (sym c.self.view_is) c.self.invariant c.in-Ok.is facts.bound by_name
+    let h = names_are _ _ c.args.self.now c.deref.ensures.value (sym c.self.view_is) c.self.invariant in
+    stands_some c.args.self.now c.args.name.now h.ascend (subst (λ ks. StandsAt ks c.args.name.now c.in-Ok.place) (sym h.as_seen) c.in-Ok.ensures)
 
 pub returns-in-Err : goal.returns-in-Err
 returns-in-Err c =
-    let facts = c.binary_search_by-found.ensures in
-    let by_name = facts.position (λ k. slice_cmp nat_cmp (string_bytes k) c.args.name.now) (always_returns_same _ _ _ (λ a r g called. search rules)) in
-    searched_as _ _ _ c.args.name.now _ (Err c.in-Err.field-0) c.deref.ensures.value (sym c.self.view_is) c.self.invariant c.in-Err.is facts.bound by_name
+    let h = names_are _ _ c.args.self.now c.deref.ensures.value (sym c.self.view_is) c.self.invariant in
+    parts_none c.args.self.now c.args.name.now (subst (λ ks. Parts ks c.args.name.now c.in-Err.field-0) (sym h.as_seen) c.in-Err.ensures)

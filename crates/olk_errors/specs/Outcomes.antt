@@ -1,0 +1,44 @@
+-- What asking comes to: of a node, of branches, of declared members, of names that are wanted, of a leaf, of a body.
+use Rattle.std.specs.Prelude.{Bool, List, map}
+use Rattle.std.specs.List.{flat_map}
+use Rattle.serde_json.specs.Data.{Data}
+use Rattle.olk_spec.specs.Names.{Name, Text, Path, ◌//◌, is_empty}
+use Rattle.olk_spec.specs.Faults.{Fault, Kind, fault, Leaf}
+use Rattle.olk_spec.specs.Accepts.{missing}
+use Rattle.olk_spec.specs.Reports.{required_faults, fault_if}
+use Rattle.olk_base.specs.declared.traits.Leaf as leaf
+use Rattle.olk_tree.specs.Questions.{Question, every}
+use Rattle.olk_tree.specs.Answers.{first_of, head_of, properties_mean, properties_report, properties_first, body_means, body_report, body_first}
+use Rattle.olk_tree.specs.declared.means.Means as means
+use Rattle.olk_tree.specs.declared.means.Reports as reports
+use Rattle.olk_tree.specs.declared.node.Body.{Body}
+use Rattle.olk_errors.specs.Found.{Outcome}
+
+-- each of a list, one after the other
+abbrev pub of_each : {X : Type 0} → Bool → (X → Question) → (X → List Fault) → (X → List Fault) → List X → Outcome
+of_each u q s f xs = record { accepts = (every q xs).accepts u; first = first_of s xs; all = flat_map f xs }
+
+-- one fault of its own, in that case
+abbrev pub own : Bool → Bool → Kind → Data → Path → Path → Outcome
+own accepts case k v P Q = record { accepts = accepts; first = fault_if case k v P Q; all = fault_if case k v P Q }
+
+-- names that are wanted
+abbrev pub of_names : List Name → Data → Path → Path → Outcome
+of_names ns v P Q = record { accepts = is_empty (missing ns v); first = head_of (required_faults ns v P Q); all = required_faults ns v P Q }
+
+module _ {N : Type 0} (m : means.Ghosts N) (r : reports.Ghosts N) (u : Bool) where
+  abbrev pub of_node : N → Data → Path → Outcome
+  of_node n v Q = record { accepts = (m.means n v).accepts u; first = r.first n u v Q; all = r.report n u v Q }
+
+  abbrev pub of_branches : List N → Data → Path → Outcome
+  of_branches ns v Q = of_each u (λ n. m.means n v) (λ n. r.first n u v Q) (λ n. r.report n u v Q) ns
+
+  abbrev pub of_properties : List (Name × N) → Data → Path → Outcome
+  of_properties es v Q = record { accepts = (properties_mean m.means es v).accepts u; first = properties_first r.first u es v Q; all = properties_report r.report u es v Q }
+
+  abbrev pub of_body : Path → Body N → Data → Path → Outcome
+  of_body P b v Q = record { accepts = (body_means m.means b v).accepts u; first = body_first (λ k. r.first k u) P b v Q; all = body_report (λ k. r.report k u) P b v Q }
+
+module _ {K : Type 0} (l : leaf.Ghosts K) where
+  abbrev pub of_leaf : K → Data → Path → Path → Outcome
+  of_leaf k v P Q = record { accepts = is_empty (l.finds k v); first = map (λ t. fault (Leaf (l.keyword_of k) t) v Q P) (l.finds k v); all = map (λ t. fault (Leaf (l.keyword_of k) t) v Q P) (l.finds k v) }

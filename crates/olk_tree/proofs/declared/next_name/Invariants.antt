@@ -1,0 +1,8 @@
+use Rattle.std.proofs.Common.{◌≡◌}
+use Rattle.serde_json.specs.View.{members_view}
+use Rattle.olk_spec.specs.Schemas.{listed}
+use Rattle.olk_tree.specs.Visited.{names_met, pairs_of}
+use Rattle.olk_tree.proofs.declared.next_name.Given as goal
+
+abbrev pub invariant-loop-name : goal.invariant-loop-name
+invariant-loop-name g l = names_met (pairs_of l.initial.names) (listed (members_view l.members.entries)) ≡ names_met (pairs_of l.names) (listed (members_view l.members.entries))

@@ -1,0 +1,54 @@
+-- What a validator reports is empty exactly where it accepts, if that is so of its nodes.
+use Rattle.std.specs.Prelude.{◌≡◌, Bool, true, false, not, ◌&&◌, List, [], ◌∷◌, ◌++◌, map}
+use Rattle.std.specs.List.{flat_map}
+use Rattle.std.proofs.Common.{refl, sym, ◌∙◌}
+use Rattle.serde_json.specs.Data.{Data}
+use Rattle.serde_json.specs.View.{view}
+use Rattle.olk_spec.specs.Names.{Name, Text, Path, ◌//◌, is_empty}
+use Rattle.olk_spec.specs.Faults.{Fault, Kind, fault, Required, Leaf, AnyOf, Not, context}
+use Rattle.olk_spec.specs.Schemas.{at}
+use Rattle.olk_spec.specs.Accepts.{missing}
+use Rattle.olk_spec.specs.Reports.{required_faults, fault_if}
+use Rattle.olk_spec.proofs.Verdicts.{is_empty-append, is_empty-map, none_if}
+use Rattle.olk_tree.specs.Questions.{Question, every, some}
+use Rattle.olk_tree.specs.Answers.{named, texts_of, two_texts, unless, properties_mean, properties_report, validator_means, validator_report}
+use Rattle.olk_tree.specs.declared.node.KeywordOver.{KeywordOver}
+use Rattle.olk_tree.specs.declared.node.KeywordOver.TheVariants as keyword
+
+pub each_agrees : {X : Type 0} (f : X → List Fault) (q : X → Question) (u : Bool) → ((x : X) → is_empty (f x) ≡ (q x).accepts u) → (xs : List X) → is_empty (flat_map f xs) ≡ (every q xs).accepts u
+each_agrees f q u h [] = refl
+each_agrees f q u h (x ∷ xs) = is_empty-append (f x) (flat_map f xs) ∙ (λ i. h x i && each_agrees f q u h xs i)
+
+pub both_agree : (fs gs : List Fault) {a b : Bool} → is_empty fs ≡ a → is_empty gs ≡ b → is_empty (fs ++ gs) ≡ (a && b)
+both_agree fs gs e f = is_empty-append fs gs ∙ (λ i. e i && f i)
+
+not_not : (b : Bool) → not (not b) ≡ b
+not_not true = refl
+not_not false = refl
+
+module _ (b : Bool) (k : Kind) (v : Data) (P Q : Path) where
+  pub fault_if_agrees : is_empty (fault_if b k v P Q) ≡ not b
+  fault_if_agrees = sym (none_if b k v P Q)
+
+  pub unless_agrees : is_empty (unless b k v P Q) ≡ b
+  unless_agrees = sym (none_if (not b) k v P Q) ∙ not_not b
+
+pub required_agrees : (ns : List Name) (v : Data) (P Q : Path) → is_empty (required_faults ns v P Q) ≡ is_empty (missing ns v)
+required_agrees ns v P Q = is_empty-map (λ n. fault (Required n) v Q P) (missing ns v)
+
+module _ {N : Type 0} (m : N → Data → Question) (r : N → Bool → Data → Path → List Fault) (u : Bool) (h : (n : N) (v : Data) (Q : Path) → is_empty (r n u v Q) ≡ (m n v).accepts u) where
+  pub properties_agree : (es : List (Name × N)) (v : Data) (Q : Path) → is_empty (properties_report r u es v Q) ≡ (properties_mean m es v).accepts u
+  properties_agree es v Q = each_agrees (λ e. flat_map (λ x. r e.1 u x (Q // e.0)) (at e.0 v)) (λ e. every (m e.1) (at e.0 v)) u (λ e. each_agrees (λ x. r e.1 u x (Q // e.0)) (m e.1) u (λ x. h e.1 x (Q // e.0)) (at e.0 v)) es
+
+module _ {K N : Type 0} (finds : K → Data → List Text) (m : N → Data → Question) (keyword_of : K → Name) (r : N → Bool → Data → Path → List Fault) (u : Bool) (h : (n : N) (v : Data) (Q : Path) → is_empty (r n u v Q) ≡ (m n v).accepts u) where
+  pub validator_agrees : (k : KeywordOver K N) (v : Data) (Q : Path) → is_empty (validator_report finds m keyword_of r u k v Q) ≡ (validator_means finds m k v).accepts u
+  unfolding validator_means validator_report
+  validator_agrees (keyword.Properties k) v Q = properties_agree m r u h (named k.properties) v Q
+  validator_agrees (keyword.PropertiesWithRequired2 k) v Q = both_agree (required_faults (two_texts k.first k.second) v k.required_location Q) (properties_report r u (named k.properties) v Q) (required_agrees (two_texts k.first k.second) v k.required_location Q) (properties_agree m r u h (named k.properties) v Q)
+  validator_agrees (keyword.Required k) v Q = required_agrees (texts_of k.required.items) v k.location Q
+  validator_agrees (keyword.AllOf k) v Q = each_agrees (λ n. r n u v Q) (λ n. m n v) u (λ n. h n v Q) k.schemas.items
+  validator_agrees (keyword.SingleValueAllOf k) v Q = h k.node v Q
+  validator_agrees (keyword.AnyOf k) v Q = unless_agrees ((some (λ n. m n v) k.schemas.items).accepts u) (AnyOf (context (map (λ n. r n u v Q) k.schemas.items))) v k.location Q
+  validator_agrees (keyword.SingleAnyOf k) v Q = unless_agrees ((m k.node v).accepts u) (AnyOf (context (r k.node u v Q ∷ []))) v k.location Q
+  validator_agrees (keyword.Not k) v Q = fault_if_agrees ((m k.node v).accepts u) (Not (view k.original)) v k.location Q
+  validator_agrees (keyword.Leaf p l) v Q = is_empty-map (λ t. fault (Leaf (keyword_of l) t) v Q p) (finds l v)

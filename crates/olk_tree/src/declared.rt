@@ -1,0 +1,102 @@
+//! The members of an object whose names are declared.
+ghost use Rattle.std.specs.Prelude.{◌≡◌};
+ghost use Rattle.serde_json.specs.View.{members_view};
+ghost use Rattle.olk_spec.specs.Schemas.{listed};
+ghost use Rattle.olk_tree.specs.Answers.{named};
+ghost use Rattle.olk_tree.specs.Visited.{members_declared, names_met, Yields, left_of, pairs_of};
+
+use crate::map::SmallMap;
+use crate::members::member;
+use serde_json::{Map, Value};
+use std::collections::btree_map::Iter;
+use std::iter::Zip;
+use std::slice;
+
+/// The members of an object whose names are declared, in the order of their names: each with what stands at its name.
+///
+/// Where there are more members than declared names, each declared name is looked up among the members, and otherwise each
+/// member among the declared names, from the place of the last one on.
+#[derive(Drop)]
+pub struct DeclaredMembers<'a, N> {
+    properties: &'a SmallMap<N>,
+    members: &'a Map<String, Value>,
+    // whether the members are walked; otherwise the declared names are
+    by_members: bool,
+    left: Iter<'a, String, Value>,
+    // where the next name is looked for first
+    hint: usize,
+    names: Zip<slice::Iter<'a, String>, slice::Iter<'a, N>>,
+}
+
+impl<'a, N> Iterator for DeclaredMembers<'a, N> {
+    ghost use Rattle.std.specs.Iterator.{item_count};
+    ghost use Rattle.olk_tree.specs.Visited.{Yields, left_of};
+
+    type Item = (&'a str, &'a N, &'a Value);
+
+    ghost next_gives = { λ s r t. Yields r (left_of s) (left_of t) };
+
+    ghost remaining = { item_count left_of };
+
+    fn next(&mut self) -> Option<(&'a str, &'a N, &'a Value)> {
+        if self.by_members {
+            next_member(self.properties, &mut self.left, &mut self.hint)
+        } else {
+            next_name(self.members, &mut self.names)
+        }
+    }
+}
+
+impl<N> SmallMap<N> {
+    /// The members whose names are declared, each with what stands at its name.
+    pub fn declared_members<'a>(&'a self, members: &'a Map<String, Value>) -> DeclaredMembers<'a, N>
+        ensures by_members { left_of result ≡ members_declared (named self.now) (listed (members_view members.now.entries)) }
+        ensures by_names { left_of result ≡ names_met (named self.now) (listed (members_view members.now.entries)) }
+    {
+        DeclaredMembers {
+            properties: self,
+            members,
+            by_members: members.len() <= self.names.len(),
+            left: members.iter(),
+            hint: 0,
+            names: self.names.as_slice().iter().zip(&self.nodes),
+        }
+    }
+}
+
+// The next member whose name is declared.
+fn next_member<'a, N>(
+    properties: &'a SmallMap<N>,
+    left: &mut Iter<'a, String, Value>,
+    hint: &mut usize,
+) -> Option<(&'a str, &'a N, &'a Value)>
+    ensures { Yields result (members_declared (named properties.now) (listed (members_view left.old)))
+        (members_declared (named properties.now) (listed (members_view left.new))) }
+{
+    while let Some((name, value)) = left.next() {
+        let name = name.as_str();
+        let (next, found) = properties.get_from(*hint, name);
+        *hint = next;
+        if let Some(node) = found {
+            return Some((name, node, value));
+        }
+    }
+    None
+}
+
+// The next declared name at which there is a member.
+fn next_name<'a, N>(
+    members: &'a Map<String, Value>,
+    names: &mut Zip<slice::Iter<'a, String>, slice::Iter<'a, N>>,
+) -> Option<(&'a str, &'a N, &'a Value)>
+    ensures { Yields result (names_met (pairs_of names.old) (listed (members_view members.now.entries)))
+        (names_met (pairs_of names.new) (listed (members_view members.now.entries))) }
+{
+    while let Some((name, node)) = names.next() {
+        let name = name.as_str();
+        if let Some(value) = member(members, name) {
+            return Some((name, node, value));
+        }
+    }
+    None
+}
