@@ -2,7 +2,7 @@
 use Rattle.std.proofs.Common.{◌≡◌, ℕ, List, [], ◌∷◌, ◌++◌, length, take, sym, ap, subst, ◌∙◌}
 use Rattle.std.proofs.lemmas.List.{append_assoc, append-nil, map-append}
 use Rattle.std.proofs.Math.Seq.{take-append_seam}
-use Rattle.std.proofs.Common.{Result, Ok, Err, OnOk, IfErr, IsErrAnd}
+use Rattle.std.proofs.Common.{Result, Ok, Err, OnOk, OnErr, IfErr, IsErrAnd}
 use Rattle.std.proofs.lemmas.Result.{err_from_is_err_and, IfErr-weaker}
 use Rattle.olk_reports.specs.declared.error.ValidateError.{ValidateError}
 use Rattle.olk_reports.specs.declared.error.ValidateError.TheVariants.{Invalid, Memory}
@@ -60,3 +60,17 @@ after_cut {A} {E} {old} {mid} {fs} now new gs r a same ok found before = by r ok
     by : (x : Result A E) → OnOk x (new ≡ now) → OnOk x (Appends mid now gs) → OnOk x (Appends old new (fs ++ gs))
     by (Ok y) e f = appends_more before (appends_same e f)
     by (Err y) e f = tt
+
+-- ---- taken back
+
+on_err : {T E F : Type 0} (r : Result T E) → F → OnErr r F
+on_err (Ok x) f = tt
+on_err (Err e) f = f
+
+at_err : {T E F : Type 0} {r : Result T E} {e : E} → r ≡ Err e → OnErr r F → F
+at_err {F = F} is h = subst (λ s. OnErr s F) is h
+
+-- cut back after want of memory, the list is the one before
+pub rolled_back : {T A E : Type 0} (r : Result T E) {s a : Result A E} {e : E} {old mid : List ValidationError} (now new : List ValidationError) {fs : List Fault} {len : ℕ}
+    → s ≡ a → s ≡ Err e → OnErr s (new ≡ take len now) → OnErr a (now ≡ mid) → len ≡ length old → Appends old mid fs → OnErr r (new ≡ old)
+rolled_back r {s} {a} now new {len = len} same is cut kept e found = on_err r (at_err is cut ∙ ap (take len) (at_err (sym same ∙ is) kept) ∙ cut_back found e)

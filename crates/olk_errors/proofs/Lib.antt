@@ -1,3 +1,6 @@
 mod Appending
 mod Steps
 mod Own
+mod Missing
+mod Fused
+mod Members

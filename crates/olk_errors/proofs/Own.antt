@@ -34,8 +34,8 @@ module _ (k : Kind) (v : Data) (P Q : Path) where
   pub own_passes : {accepts case : Bool} → accepts ≡ true → case ≡ false → Passes (own accepts case k v P Q)
   own_passes verdict absent = record { verdict = verdict; nothing = ap (λ b. fault_if b k v P Q) absent }
 
-  pub own_told : {accepts case : Bool} → accepts ≡ false → case ≡ true → cut_kind k ≡ k → {g : Fault} → IsLike g (fault k v Q P) → (f : Fault) → f ≡ g → IsErrorOf (own accepts case k v P Q) f
-  own_told {accepts} {case} verdict present uncut near f is = record {
+  pub own_error : {accepts case : Bool} → accepts ≡ false → case ≡ true → cut_kind k ≡ k → {g : Fault} → IsLike g (fault k v Q P) → (f : Fault) → f ≡ g → IsErrorOf (own accepts case k v P Q) f
+  own_error {accepts} {case} verdict present uncut near f is = record {
     verdict = verdict;
     of_first = record { one = fault k v Q P; among = among; like = alike };
     of_all = record { whole = fault k v Q P; among = among; like = subst (λ l. IsLike f (fault l v Q P)) (sym uncut) alike };
@@ -86,8 +86,8 @@ module _ (k : Name) (v : Data) (P Q : Path) where
   contained [] t c = absurd (no_place (c.0) c.1)
   contained (u ∷ texts) t c = let p = mapped leaf_fault (u ∷ texts) t c.0 c.1 c.2 in (refl, (c.0, p.0, p.1))
 
-  pub leaf_told : (texts : List Text) (t : Text) → Contains texts t → (f : Fault) → f ≡ leaf_fault t → IsErrorOf (record { accepts = is_empty texts; first = map leaf_fault texts; all = map leaf_fault texts }) f
-  leaf_told texts t c f is = record {
+  pub leaf_error : (texts : List Text) (t : Text) → Contains texts t → (f : Fault) → f ≡ leaf_fault t → IsErrorOf (record { accepts = is_empty texts; first = map leaf_fault texts; all = map leaf_fault texts }) f
+  leaf_error texts t c f is = record {
     verdict = (contained texts t c).0;
     of_first = record { one = leaf_fault t; among = (contained texts t c).1; like = subst (λ g. IsLike g (leaf_fault t)) (sym is) (like itself) };
     of_all = record { whole = leaf_fault t; among = (contained texts t c).1; like = subst (λ g. IsLike g (leaf_fault t)) (sym is) (like itself) };

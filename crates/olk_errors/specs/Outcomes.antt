@@ -9,8 +9,6 @@ use Rattle.olk_spec.specs.Reports.{required_faults, fault_if}
 use Rattle.olk_base.specs.declared.traits.Leaf as leaf
 use Rattle.olk_tree.specs.Questions.{Question, every}
 use Rattle.olk_tree.specs.Answers.{first_of, head_of, properties_mean, properties_report, properties_first, body_means, body_report, body_first}
-use Rattle.olk_tree.specs.declared.means.Means as means
-use Rattle.olk_tree.specs.declared.means.Reports as reports
 use Rattle.olk_tree.specs.declared.node.Body.{Body}
 use Rattle.olk_errors.specs.Found.{Outcome}
 
@@ -26,18 +24,18 @@ own accepts case k v P Q = record { accepts = accepts; first = fault_if case k v
 abbrev pub of_names : List Name → Data → Path → Path → Outcome
 of_names ns v P Q = record { accepts = is_empty (missing ns v); first = head_of (required_faults ns v P Q); all = required_faults ns v P Q }
 
-module _ {N : Type 0} (m : means.Ghosts N) (r : reports.Ghosts N) (u : Bool) where
+module _ {N : Type 0} (m : N → Data → Question) (s r : N → Bool → Data → Path → List Fault) (u : Bool) where
   abbrev pub of_node : N → Data → Path → Outcome
-  of_node n v Q = record { accepts = (m.means n v).accepts u; first = r.first n u v Q; all = r.report n u v Q }
+  of_node n v Q = record { accepts = (m n v).accepts u; first = s n u v Q; all = r n u v Q }
 
   abbrev pub of_branches : List N → Data → Path → Outcome
-  of_branches ns v Q = of_each u (λ n. m.means n v) (λ n. r.first n u v Q) (λ n. r.report n u v Q) ns
+  of_branches ns v Q = of_each u (λ n. m n v) (λ n. s n u v Q) (λ n. r n u v Q) ns
 
   abbrev pub of_properties : List (Name × N) → Data → Path → Outcome
-  of_properties es v Q = record { accepts = (properties_mean m.means es v).accepts u; first = properties_first r.first u es v Q; all = properties_report r.report u es v Q }
+  of_properties es v Q = record { accepts = (properties_mean m es v).accepts u; first = properties_first s u es v Q; all = properties_report r u es v Q }
 
   abbrev pub of_body : Path → Body N → Data → Path → Outcome
-  of_body P b v Q = record { accepts = (body_means m.means b v).accepts u; first = body_first (λ k. r.first k u) P b v Q; all = body_report (λ k. r.report k u) P b v Q }
+  of_body P b v Q = record { accepts = (body_means m b v).accepts u; first = body_first (λ k. s k u) P b v Q; all = body_report (λ k. r k u) P b v Q }
 
 module _ {K : Type 0} (l : leaf.Ghosts K) where
   abbrev pub of_leaf : K → Data → Path → Path → Outcome

@@ -133,9 +133,10 @@ pub fn validate_body<'a, W: Errors<'a>>(
     path: &mut InstancePath,
     ctx: &mut ValidationContext,
 ) -> Result<(), ValidateError<'a>>
-    ensures ok { OnOk result (Passes (of_body W.Means W.Reports ctx.old.answer
+    ensures ok { OnOk result (Passes (of_body W.means W.first W.report ctx.old.answer
         location.now body.now (data_of node.entry) path.old)) }
-    ensures invalid { IfErr result (λ e. IfInvalid e (IsErrorOf (of_body W.Means W.Reports ctx.old.answer
+    ensures invalid { IfErr result (λ e. IfInvalid e (IsErrorOf
+        (of_body W.means W.first W.report ctx.old.answer
         location.now body.now (data_of node.entry) path.old))) }
     ensures path { path.new ≡ path.old }
     ensures context { OnlyAsks ctx.old ctx.new }
@@ -168,7 +169,8 @@ pub fn collect_body<'a, W: Errors<'a>>(
     errors: &mut Vec<ValidationError<'a>>,
 ) -> Result<(), AllocError>
     ensures report { OnOk result (Appends errors.old.items errors.new.items
-        (of_body W.Means W.Reports ctx.old.answer location.now body.now (data_of node.entry) path.old).all) }
+        (of_body W.means W.first W.report ctx.old.answer
+        location.now body.now (data_of node.entry) path.old).all) }
     ensures memory { OnErr result (errors.new.items ≡ errors.old.items) }
     ensures path { path.new ≡ path.old }
     ensures context { OnlyAsks ctx.old ctx.new }

@@ -79,7 +79,9 @@ impl<'a, N: Errors<'a>> Errors<'a> for SmallPropertiesWithRequired2<N> {
                 let len = errors.len();
                 let (first, second) = (self.first.as_str(), self.second.as_str());
                 let location = self.required_location.as_str();
-                collect_missing_of_two(alloc, first, second, location, members, node, path, errors)?;
+                collect_missing_of_two(
+                    alloc, first, second, location, members, node, path, errors,
+                )?;
                 let answer = collect_members(alloc, &self.properties, members, path, ctx, errors);
                 roll_back_on_err(answer, errors, len)
             }
@@ -96,9 +98,10 @@ fn validate_members<'a, N: Errors<'a>>(
     path: &mut InstancePath,
     ctx: &mut ValidationContext,
 ) -> Result<(), ValidateError<'a>>
-    ensures ok { OnOk result (Passes (of_properties N.Means N.Reports ctx.old.answer
+    ensures ok { OnOk result (Passes (of_properties N.means N.first N.report ctx.old.answer
         (named properties.now) (object_of members.now.entries) path.old)) }
-    ensures invalid { IfErr result (λ e. IfInvalid e (IsErrorOf (of_properties N.Means N.Reports ctx.old.answer
+    ensures invalid { IfErr result (λ e. IfInvalid e (IsErrorOf
+        (of_properties N.means N.first N.report ctx.old.answer
         (named properties.now) (object_of members.now.entries) path.old))) }
     ensures path { path.new ≡ path.old }
     ensures context { OnlyAsks ctx.old ctx.new }
@@ -118,9 +121,10 @@ fn validate_below<'a, N: Errors<'a>>(
     path: &mut InstancePath,
     ctx: &mut ValidationContext,
 ) -> Result<(), ValidateError<'a>>
-    ensures ok { OnOk result (Passes (of_node N.Means N.Reports ctx.old.answer
+    ensures ok { OnOk result (Passes (of_node N.means N.first N.report ctx.old.answer
         subschema.now (view value.now) (one_below path.old name.now))) }
-    ensures invalid { IfErr result (λ e. IfInvalid e (IsErrorOf (of_node N.Means N.Reports ctx.old.answer
+    ensures invalid { IfErr result (λ e. IfInvalid e (IsErrorOf
+        (of_node N.means N.first N.report ctx.old.answer
         subschema.now (view value.now) (one_below path.old name.now)))) }
     ensures path { path.new ≡ path.old }
     ensures context { OnlyAsks ctx.old ctx.new }
@@ -141,7 +145,7 @@ fn collect_members<'a, N: Errors<'a>>(
     errors: &mut Vec<ValidationError<'a>>,
 ) -> Result<(), AllocError>
     ensures report { OnOk result (Appends errors.old.items errors.new.items
-        (of_properties N.Means N.Reports ctx.old.answer (named properties.now)
+        (of_properties N.means N.first N.report ctx.old.answer (named properties.now)
         (object_of members.now.entries) path.old).all) }
     ensures memory { OnErr result (errors.new.items ≡ errors.old.items) }
     ensures path { path.new ≡ path.old }

@@ -172,7 +172,8 @@ pub(crate) fn collect_missing_of_two<'a>(
 ) -> Result<(), AllocError>
     requires { data_of node ≡ object_of members.now.entries }
     ensures report { OnOk result (Appends errors.old.items errors.new.items
-        (of_names (first.now ∷ second.now ∷ []) (data_of node.entry) location.now path.now).all) }
+        (of_names (first.now ∷ second.now ∷ [])
+        (data_of node.entry) location.now path.now).all) }
     ensures memory { OnErr result (errors.new.items ≡ errors.old.items) }
 {
     let len = errors.len();

@@ -21,9 +21,11 @@ pub(crate) fn validate_all<'a, N: Errors<'a>>(
     ctx: &mut ValidationContext,
 ) -> Result<(), ValidateError<'a>>
     ensures ok { OnOk result (Passes
-        (of_branches N.Means N.Reports ctx.old.answer nodes.now.items (data_of node.entry) path.old)) }
+        (of_branches N.means N.first N.report ctx.old.answer
+        nodes.now.items (data_of node.entry) path.old)) }
     ensures invalid { IfErr result (λ e. IfInvalid e (IsErrorOf
-        (of_branches N.Means N.Reports ctx.old.answer nodes.now.items (data_of node.entry) path.old))) }
+        (of_branches N.means N.first N.report ctx.old.answer
+        nodes.now.items (data_of node.entry) path.old))) }
     ensures path { path.new ≡ path.old }
     ensures context { OnlyAsks ctx.old ctx.new }
 {
@@ -43,7 +45,8 @@ pub(crate) fn collect_all<'a, N: Errors<'a>>(
     errors: &mut Vec<ValidationError<'a>>,
 ) -> Result<(), AllocError>
     ensures report { OnOk result (Appends errors.old.items errors.new.items
-        (of_branches N.Means N.Reports ctx.old.answer nodes.now.items (data_of node.entry) path.old).all) }
+        (of_branches N.means N.first N.report ctx.old.answer
+        nodes.now.items (data_of node.entry) path.old).all) }
     ensures memory { OnErr result (errors.new.items ≡ errors.old.items) }
     ensures path { path.new ≡ path.old }
     ensures context { OnlyAsks ctx.old ctx.new }

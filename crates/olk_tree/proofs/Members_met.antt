@@ -29,8 +29,6 @@ no_members (string s) e = refl
 no_members (array ds) e = refl
 no_members (object ms) e = cc
 
-
-
 module _ {N : Type 0} (ms : Members) where
   abbrev met_at : Name × N → Option Data → List (Declared N)
   met_at e o = flat_map (λ v. declared_as e.0 e.1 v) (option_to_list o)

@@ -105,7 +105,9 @@ fn find_before(names: &[String], hint: usize, name: &str) -> (usize, Option<usiz
     if hint == 0 {
         return (0, None);
     }
-    if hint <= names.len() && let Ordering::Less = names[hint - 1].as_str().cmp(name) {
+    if hint <= names.len()
+        && let Ordering::Less = names[hint - 1].as_str().cmp(name)
+    {
         return (hint, None);
     }
     match place_of(names, name) {

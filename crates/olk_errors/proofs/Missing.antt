@@ -1,0 +1,104 @@
+-- Names that an object lacks, one by one.
+use Rattle.std.proofs.Common.{◌≡◌, Bool, true, false, not, ◌&&◌, List, [], ◌∷◌, ◌++◌, map, String, Global, string_bytes, refl, sym, ap, subst, ◌∙◌}
+use Rattle.std.specs.List.{flat_map}
+use Rattle.serde_json.specs.Data.{Data, object, Members, null, boolean, number, string, array}
+use Rattle.serde_json.specs.Find.{as_object}
+use Rattle.std.proofs.Common.{None}
+use Rattle.olk_spec.specs.Names.{Name, Path, put_if, is_empty}
+use Rattle.olk_spec.specs.Faults.{Fault, fault, Required}
+use Rattle.olk_spec.specs.Schemas.{has, is_object}
+use Rattle.olk_spec.specs.Accepts.{missing}
+use Rattle.olk_spec.specs.Reports.{required_faults}
+use Rattle.olk_tree.specs.Answers.{texts_of, or_else, first_of, head_of}
+use Rattle.olk_tree.specs.Questions.{Question, always, every}
+use Rattle.olk_errors.specs.Outcomes.{of_each, of_names}
+use Rattle.olk_errors.specs.Found.{Passes, IsErrorOf}
+use Rattle.olk_errors.proofs.Steps.{of_one}
+
+module _ (v : Data) where
+  -- whether the one name is there
+  abbrev pub is_there : String Global → Question
+  is_there name = always (is_empty (missing (string_bytes name ∷ []) v))
+
+  put_empty : {X : Type 0} (b : Bool) (x : X) (xs : List X) → (is_empty (put_if b x []) && is_empty xs) ≡ is_empty (put_if b x xs)
+  put_empty true x xs = refl
+  put_empty false x xs = refl
+
+  pub all_there : (names : List (String Global)) (u : Bool) → (every is_there names).accepts u ≡ is_empty (missing (texts_of names) v)
+  all_there [] u = refl
+  all_there (name ∷ names) u = ap (λ b. is_empty (missing (string_bytes name ∷ []) v) && b) (all_there names u) ∙ put_empty (is_object v && not (has (string_bytes name) v)) (string_bytes name) (missing (texts_of names) v)
+
+  module _ (P Q : Path) where
+    -- the fault of the one name, where it is absent
+    abbrev pub lacked : String Global → List Fault
+    lacked name = required_faults (string_bytes name ∷ []) v P Q
+
+    abbrev told : Name → Fault
+    told n = fault (Required n) v Q P
+
+    pub put_map : (b : Bool) (n : Name) (ns : List Name) → map told (put_if b n []) ++ map told ns ≡ map told (put_if b n ns)
+    put_map true n ns = refl
+    put_map false n ns = refl
+
+    put_first : (b : Bool) (n : Name) (ns : List Name) → or_else (map told (put_if b n [])) (head_of (map told ns)) ≡ head_of (map told (put_if b n ns))
+    put_first true n ns = refl
+    put_first false n ns = refl
+
+    pub all_lacked : (names : List (String Global)) → flat_map lacked names ≡ required_faults (texts_of names) v P Q
+    all_lacked [] = refl
+    all_lacked (name ∷ names) = ap (λ fs. lacked name ++ fs) (all_lacked names) ∙ put_map (is_object v && not (has (string_bytes name) v)) (string_bytes name) (missing (texts_of names) v)
+
+    pub first_lacked : (names : List (String Global)) → first_of lacked names ≡ head_of (required_faults (texts_of names) v P Q)
+    first_lacked [] = refl
+    first_lacked (name ∷ names) = ap (or_else (lacked name)) (first_lacked names) ∙ put_first (is_object v && not (has (string_bytes name) v)) (string_bytes name) (missing (texts_of names) v)
+
+-- of an object, where it was looked whether it has the name
+module _ (ms : Members) (v : Data) (is : v ≡ object ms) (n : Name) {found : Bool} (looked : found ≡ has n (object ms)) where
+  absent_if : (is_object v && not (has n v)) ≡ not found
+  absent_if = (λ i. is_object (is i) && not (has n (is i))) ∙ ap not (sym looked)
+
+  pub there : found ≡ true → missing (n ∷ []) v ≡ []
+  there t = ap (λ c. put_if c n []) (absent_if ∙ ap not t)
+
+  pub not_there : found ≡ false → missing (n ∷ []) v ≡ n ∷ []
+  not_there f = ap (λ c. put_if c n []) (absent_if ∙ ap not f)
+
+module _ (v : Data) (P Q : Path) (names : List (String Global)) where
+  -- asking for each of the names is asking for all
+  pub names_together : of_each true (is_there v) (lacked v P Q) (lacked v P Q) names ≡ of_names (texts_of names) v P Q
+  names_together = λ i. record { accepts = all_there v names true i; first = first_lacked v P Q names i; all = all_lacked v P Q names i }
+
+-- what is no object lacks nothing
+pub nothing_missing : (ns : List Name) (v : Data) → None ≡ as_object v → missing ns v ≡ []
+nothing_missing [] v e = refl
+nothing_missing (n ∷ ns) null e = nothing_missing ns null e
+nothing_missing (n ∷ ns) (boolean b) e = nothing_missing ns (boolean b) e
+nothing_missing (n ∷ ns) (number x) e = nothing_missing ns (number x) e
+nothing_missing (n ∷ ns) (string s) e = nothing_missing ns (string s) e
+nothing_missing (n ∷ ns) (array ds) e = nothing_missing ns (array ds) e
+nothing_missing (n ∷ ns) (object ms) e = cc
+
+-- ---- one name
+
+module _ (v : Data) (P Q : Path) (name : String Global) where
+  one_first : (b : Bool) → head_of (map (λ n. fault (Required n) v Q P) (put_if b (string_bytes name) [])) ≡ map (λ n. fault (Required n) v Q P) (put_if b (string_bytes name) [])
+  one_first true = refl
+  one_first false = refl
+
+  same_one : of_names (string_bytes name ∷ []) v P Q ≡ of_one (is_there v) true (lacked v P Q) (lacked v P Q) name
+  same_one = λ i. record { accepts = is_empty (missing (string_bytes name ∷ []) v); first = one_first (is_object v && not (has (string_bytes name) v)) i; all = required_faults (string_bytes name ∷ []) v P Q }
+
+  pub one_passes : Passes (of_names (string_bytes name ∷ []) v P Q) → Passes (of_one (is_there v) true (lacked v P Q) (lacked v P Q) name)
+  one_passes h = subst Passes same_one h
+
+  pub one_errs : (f : Fault) → IsErrorOf (of_names (string_bytes name ∷ []) v P Q) f → IsErrorOf (of_one (is_there v) true (lacked v P Q) (lacked v P Q) name) f
+  one_errs f h = subst (λ o. IsErrorOf o f) same_one h
+
+-- ---- of what is no object
+
+module _ (ns : List Name) (v : Data) (P Q : Path) (none : None ≡ as_object v) where
+  pub other_lacks_none : Passes (of_names ns v P Q)
+  other_lacks_none = record { verdict = ap is_empty (nothing_missing ns v none); nothing = ap (λ ms. head_of (map (λ n. fault (Required n) v Q P) ms)) (nothing_missing ns v none) }
+
+  pub other_lacks_nothing : (of_names ns v P Q).all ≡ []
+  other_lacks_nothing = ap (map (λ n. fault (Required n) v Q P)) (nothing_missing ns v none)
