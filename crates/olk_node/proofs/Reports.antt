@@ -12,7 +12,7 @@ use Rattle.olk_node.specs.Kit.{Kit}
 use Rattle.olk_node.specs.Nodes.{answers}
 use Rattle.olk_node.specs.Stands.{StandsFor}
 use Rattle.olk_node.specs.declared.node.SchemaNode.{SchemaNode}
-use Rattle.olk_errors.specs.Found.{Appends, Passes, IsTold, IsRefusal}
+use Rattle.olk_errors.specs.Found.{Appends, Outcome, Passes, IsErrorOf, IsRefusal}
 use Rattle.olk_errors.proofs.Appending.{appends_like}
 
 -- f is what is kept of something like g
@@ -64,13 +64,16 @@ exchanged (f ∷ fs) g h (suc n) l e alike =
     record { list = f ∷ r.list; alike = like_next (like_itself f) r.alike; among = (suc r.among.0, omega (arith, m), r.among.2) }
 
 module _ {K R : Type 0} (o : Kit K R) (n : SchemaNode K R) (u : Bool) (v : Data) (Q : Path) where
+  abbrev pub node_outcome : Outcome
+  node_outcome = record { accepts = ((answers o n).means v).accepts u; first = (answers o n).first u v Q; all = (answers o n).report u v Q }
+
   pub report_of_schema : {old new : List ValidationError} → Appends old new ((answers o n).report u v Q) → (S : Data) (P : Path) → StandsFor o n S P → Appends old new (report o.world u S v P Q)
   report_of_schema a S P s = appends_like (s.faults u v Q) a
 
-  pub accepts_of_schema : Passes (((answers o n).means v).accepts u) ((answers o n).first u v Q) → (S : Data) (P : Path) → StandsFor o n S P → accepts o.world u S v ≡ true
+  pub accepts_of_schema : Passes node_outcome → (S : Data) (P : Path) → StandsFor o n S P → accepts o.world u S v ≡ true
   accepts_of_schema passes S P s = sym (s.verdict u v) ∙ passes.verdict
 
-  pub refusal_of_schema : (f : Fault) → IsTold (((answers o n).means v).accepts u) ((answers o n).first u v Q) ((answers o n).report u v Q) f → (S : Data) (P : Path) → StandsFor o n S P → IsRefusal o.world u S v P Q f
+  pub refusal_of_schema : (f : Fault) → IsErrorOf node_outcome f → (S : Data) (P : Path) → StandsFor o n S P → IsRefusal o.world u S v P Q f
   refusal_of_schema f told S P s =
       let k = kept f told.of_all.whole told.of_all.like in
       let x = exchanged ((answers o n).report u v Q) told.of_all.whole k.whole told.of_all.among.0 told.of_all.among.1 told.of_all.among.2 k.alike in

@@ -11,13 +11,8 @@ use Rattle.olk_check.specs.Asks.{Asks, AsksSchema}
 
 pub of_schema : {K R : Type 0} {o : Kit K R} {n : SchemaNode K R} {S : Data} {P : Path} {v : Data} {a b : Asking} {r : Bool} → StandsFor o n S P → Asks a b ((answers o n).means v) r → AsksSchema o.world S v a b r
 of_schema {v = v} {a = a} s h = record {
-  answer = h.answer;
-  compiled = h.compiled;
-  leaves = h.leaves;
-  made = h.made;
-  asked_from = h.asked_from;
-  asked_to = let within = s.asks_within a.answer v in omega arith;
-  unfinished = h.unfinished;
+  only = h.only;
+  asked_to = let within = s.asks_within a.answer v in let x = h.asked_to in omega arith;
   verdict = h.verdict ∙ s.verdict a.answer v;
   certain = λ e l. sym (s.verdict true v) ∙ sym (h.certain e l true) ∙ h.certain e l false ∙ s.verdict false v;
 }

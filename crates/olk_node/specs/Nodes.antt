@@ -1,11 +1,12 @@
 -- What a node answers: whether it accepts a value, the faults that it finds, and the tree that it shows.
-use Rattle.std.specs.Prelude.{Bool, List}
+use Rattle.std.specs.Prelude.{◌≡◌, Bool, List}
 use Rattle.serde_json.specs.Data.{Data}
-use Rattle.olk_spec.specs.Names.{Path}
+use Rattle.olk_spec.specs.Names.{Path, is_empty}
 use Rattle.olk_spec.specs.Faults.{Fault}
 use Rattle.olk_spec.specs.Tree.{Tree}
 use Rattle.olk_tree.specs.Questions.{Question}
 use Rattle.olk_tree.specs.Answers.{validator_means, validator_report, validator_first, validator_tree, body_means, body_report, body_first, body_tree}
+use Rattle.olk_tree.specs.Agreement.{validator_agrees, body_agrees}
 use Rattle.olk_node.specs.Kit.{Kit}
 use Rattle.olk_node.specs.declared.node.SchemaNode.{SchemaNode, fold-SchemaNode}
 use Rattle.olk_node.specs.declared.node.SchemaNode.TheOpen.{SchemaNode-F}
@@ -13,6 +14,8 @@ use Rattle.olk_node.specs.declared.node.SchemaNode.TheOpen.{SchemaNode-F}
 pub record Answers : Type 0 where
   pub means : Data → Question
   pub report : Bool → Data → Path → List Fault
+  -- none exactly where it accepts
+  pub agrees : (u : Bool) (v : Data) (Q : Path) → is_empty (report u v Q) ≡ (means v).accepts u
   -- those of the first step that refuses, of which `validate` tells one
   pub first : Bool → Data → Path → List Fault
   pub tree : Bool → Data → Path → Tree
@@ -23,6 +26,7 @@ module _ {K R : Type 0} (o : Kit K R) where
   node_step n = record {
     means = body_means (validator_means o.finds (λ a. a.means)) n.body;
     report = λ u. body_report (validator_report o.finds (λ a. a.means) o.keyword_of (λ a. a.report) u) n.location n.body;
+    agrees = λ u v Q. body_agrees (λ k. validator_means o.finds (λ a. a.means) k) (λ k. validator_report o.finds (λ a. a.means) o.keyword_of (λ a. a.report) u k) u (λ k w R. validator_agrees o.finds (λ a. a.means) o.keyword_of (λ a. a.report) u (λ a x S. a.agrees u x S) k w R) n.location n.body v Q;
     first = λ u. body_first (validator_first o.finds (λ a. a.means) o.keyword_of (λ a. a.report) u (λ a. a.first)) n.location n.body;
     tree = λ u. body_tree (validator_tree o.finds (λ a. a.means) o.keyword_of (λ a. a.tree) u) n.location n.body;
     location = n.location;

@@ -1,8 +1,7 @@
 //! What a place shows of a value.
 use crate::node::SchemaNode;
 use olk_base::{Leaf, Node, RegexEngine, ValidationContext};
-use olk_evaluate::node::evaluate_body;
-use olk_evaluate::{Evaluate, Located};
+use olk_evaluate::{Evaluate, Located, evaluate_body};
 use olk_reports::{EvaluationResult, InstancePath};
 use std::alloc::{AllocError, Global};
 
@@ -16,12 +15,11 @@ impl<K, R> Located for SchemaNode<K, R> {
     }
 }
 
-/// What the place's body shows.
 impl<'a, K: Leaf, R: RegexEngine> Evaluate<'a> for SchemaNode<K, R> {
     ghost use Rattle.olk_node.specs.Kit.{kit};
     ghost use Rattle.olk_node.specs.Nodes.{answers};
 
-    ghost shows = { λ n. (answers (kit K.Leaf R.RegexEngine) n).tree };
+    ghost tree = { λ n. (answers (kit K.Leaf R.RegexEngine) n).tree };
 
     #[tactic(auto, using(crate::proofs::Layers::layers))]
     fn evaluate(
@@ -31,6 +29,6 @@ impl<'a, K: Leaf, R: RegexEngine> Evaluate<'a> for SchemaNode<K, R> {
         path: &mut InstancePath,
         ctx: &mut ValidationContext,
     ) -> Result<EvaluationResult<'a>, AllocError> {
-        evaluate_body(&self.body, self.location.as_str(), alloc, node, path, ctx)
+        evaluate_body(alloc, &self.body, self.location.as_str(), node, path, ctx)
     }
 }

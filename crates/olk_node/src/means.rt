@@ -1,12 +1,22 @@
-//! What a place means.
+//! What a place means, and what it reports.
 use crate::node::SchemaNode;
 use olk_base::{Leaf, RegexEngine};
-use olk_tree::Means;
+use olk_tree::{Means, Reports};
 
-/// What its body means.
 impl<K: Leaf, R: RegexEngine> Means for SchemaNode<K, R> {
     ghost use Rattle.olk_node.specs.Kit.{kit};
     ghost use Rattle.olk_node.specs.Nodes.{answers};
 
     ghost means = { λ n. (answers (kit K.Leaf R.RegexEngine) n).means };
+}
+
+impl<K: Leaf, R: RegexEngine> Reports for SchemaNode<K, R> {
+    ghost use Rattle.olk_node.specs.Kit.{kit};
+    ghost use Rattle.olk_node.specs.Nodes.{answers};
+
+    ghost report = { λ n. (answers (kit K.Leaf R.RegexEngine) n).report };
+
+    ghost first = { λ n. (answers (kit K.Leaf R.RegexEngine) n).first };
+
+    ghost agrees = { λ n. (answers (kit K.Leaf R.RegexEngine) n).agrees };
 }

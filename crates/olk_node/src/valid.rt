@@ -11,7 +11,6 @@ use crate::node::SchemaNode;
 use olk_base::{Leaf, Node, RegexEngine, ValidationContext};
 use olk_check::IsValid;
 
-/// What the place's body asks.
 impl<K: Leaf, R: RegexEngine> IsValid for SchemaNode<K, R> {
     #[tactic(auto, using(crate::proofs::Layers::layers))]
     fn is_valid(&self, node: Node<'_>, ctx: &mut ValidationContext) -> bool {
@@ -31,8 +30,10 @@ pub fn is_valid_for<K: Leaf, R: RegexEngine>(
     node: Node<'_>,
     ctx: &mut ValidationContext,
 ) -> bool
-    ensures place { Asks ctx.old ctx.new ((answers (kit K.Leaf R.RegexEngine) place.now).means (data_of node.entry)) result }
-    ensures schema { (S : Data) (P : Path) → StandsFor (kit K.Leaf R.RegexEngine) place.now S P
+    ensures place { Asks ctx.old ctx.new
+        ((answers (kit K.Leaf R.RegexEngine) place.now).means (data_of node.entry)) result }
+    ensures schema { (S : Data) (P : Path)
+        → StandsFor (kit K.Leaf R.RegexEngine) place.now S P
         → AsksSchema (world K.Leaf R.RegexEngine) S (data_of node.entry) ctx.old ctx.new result }
 {
     place.is_valid(node, ctx)

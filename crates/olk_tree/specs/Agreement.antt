@@ -11,9 +11,11 @@ use Rattle.olk_spec.specs.Accepts.{missing}
 use Rattle.olk_spec.specs.Reports.{required_faults, fault_if}
 use Rattle.olk_spec.proofs.Verdicts.{is_empty-append, is_empty-map, none_if}
 use Rattle.olk_tree.specs.Questions.{Question, every, some}
-use Rattle.olk_tree.specs.Answers.{named, texts_of, two_texts, unless, properties_mean, properties_report, validator_means, validator_report}
+use Rattle.olk_tree.specs.Answers.{named, texts_of, two_texts, unless, properties_mean, properties_report, validator_means, validator_report, body_means, body_report}
 use Rattle.olk_tree.specs.declared.node.KeywordOver.{KeywordOver}
 use Rattle.olk_tree.specs.declared.node.KeywordOver.TheVariants as keyword
+use Rattle.olk_tree.specs.declared.node.Body.{Body}
+use Rattle.olk_tree.specs.declared.node.Body.TheVariants.{True, False, Keywords}
 
 pub each_agrees : {X : Type 0} (f : X → List Fault) (q : X → Question) (u : Bool) → ((x : X) → is_empty (f x) ≡ (q x).accepts u) → (xs : List X) → is_empty (flat_map f xs) ≡ (every q xs).accepts u
 each_agrees f q u h [] = refl
@@ -52,3 +54,8 @@ module _ {K N : Type 0} (finds : K → Data → List Text) (m : N → Data → Q
   validator_agrees (keyword.SingleAnyOf k) v Q = unless_agrees ((m k.node v).accepts u) (AnyOf (context (r k.node u v Q ∷ []))) v k.location Q
   validator_agrees (keyword.Not k) v Q = fault_if_agrees ((m k.node v).accepts u) (Not (view k.original)) v k.location Q
   validator_agrees (keyword.Leaf p l) v Q = is_empty-map (λ t. fault (Leaf (keyword_of l) t) v Q p) (finds l v)
+
+pub body_agrees : {W : Type 0} (q : W → Data → Question) (f : W → Data → Path → List Fault) (u : Bool) → ((k : W) (v : Data) (Q : Path) → is_empty (f k v Q) ≡ (q k v).accepts u) → (P : Path) (b : Body W) (v : Data) (Q : Path) → is_empty (body_report f P b v Q) ≡ (body_means q b v).accepts u
+body_agrees q f u h P True v Q = refl
+body_agrees q f u h P False v Q = refl
+body_agrees q f u h P (Keywords ks) v Q = each_agrees (λ k. f k v Q) (λ k. q k v) u (λ k. h k v Q) ks.items
