@@ -21,6 +21,8 @@ pub mod Rows_dependencies
 pub mod Rows_refusals
 pub mod Rows_costs
 pub mod Rows_evaluation
+pub mod Rows_trees
+pub mod Rows_faults
 pub mod Rows_bench
 pub mod Vectors_names
 pub mod Vectors_members
