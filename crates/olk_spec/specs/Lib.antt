@@ -19,6 +19,7 @@ pub mod Laws
 pub mod Json
 pub mod Bench
 pub mod Refused
+pub mod Refused_trees
 pub mod Answers
 pub mod Forms
 pub mod Rows_properties
