@@ -488,6 +488,7 @@ def costs():
     for name, schema in (("A_negation_asks", '{"not":{"patternProperties":{"a":false}}}'), ("A_branch_of_one_of_asks", '{"oneOf":[{"patternProperties":{"a":false}}]}'),
                          ("A_condition_asks", '{"if":{"patternProperties":{"a":false}},"then":true}')):
         g.asks(name, schema, '{"b":1}', 1)
+    g.costs("A_member_and_its_leaf_are_counted", '{"properties":{"a":{"type":"integer"}}}', 2, 1, 0, 0)
     g.costs("Else_alone_is_not_compiled", '{"else":false}', 1, 0, 0, 0)
     g.costs("A_schema_of_a_dependency_is_compiled", '{"dependencies":{"a":false}}', 2, 0, 0, 0)
     names = {"m%02d" % i: {} for i in range(65)}
