@@ -14,6 +14,7 @@ pub mod Truth
 pub mod Named
 pub mod Tree_verdicts
 pub mod Refused
+pub mod Refused_trees
 pub mod Rows_properties
 pub mod Rows_patterns
 pub mod Rows_branches
@@ -21,6 +22,8 @@ pub mod Rows_dependencies
 pub mod Rows_refusals
 pub mod Rows_costs
 pub mod Rows_evaluation
+pub mod Rows_trees
+pub mod Rows_faults
 pub mod Rows_bench
 pub mod Vectors_names
 pub mod Vectors_members

@@ -64,9 +64,13 @@ pub then_alone_builds : rows.Then_alone_builds
 unfolding literal chars digits meaning malformations_beside cost serde_json_on_literals
 then_alone_builds = refl
 
+pub else_alone_is_unread : rows.Else_alone_is_unread
+unfolding literal chars digits meaning malformations_beside cost serde_json_on_literals
+else_alone_is_unread = λ u. (refl, refl, refl)
+
 pub each_branch_of_all_of_is_asked : rows.Each_branch_of_all_of_is_asked
 unfolding literal chars digits meaning malformations_beside cost serde_json_on_literals
 each_branch_of_all_of_is_asked = λ u. (refl, refl, refl)
 
 pub rows_branches : rows.Rows_branches
-rows_branches = (any_of_none_refuses, one_of_none_refuses, all_of_none_accepts, two_accepting_branches_are_too_many, one_accepting_branch_is_enough, the_other_branch_is_enough, each_branch_tells_all_that_it_finds, branches_inside_a_branch_tell_theirs, a_negation_shows_its_schema, a_double_negation_shows_the_inner_one, where_the_condition_fails_else_applies, where_the_condition_holds_then_applies, then_alone_is_unread, then_alone_builds, each_branch_of_all_of_is_asked)
+rows_branches = (any_of_none_refuses, one_of_none_refuses, all_of_none_accepts, two_accepting_branches_are_too_many, one_accepting_branch_is_enough, the_other_branch_is_enough, each_branch_tells_all_that_it_finds, branches_inside_a_branch_tell_theirs, a_negation_shows_its_schema, a_double_negation_shows_the_inner_one, where_the_condition_fails_else_applies, where_the_condition_holds_then_applies, then_alone_is_unread, then_alone_builds, else_alone_is_unread, each_branch_of_all_of_is_asked)

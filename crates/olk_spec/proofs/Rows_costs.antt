@@ -84,6 +84,38 @@ pub each_member_asks_the_matcher : rows.Each_member_asks_the_matcher
 unfolding literal chars digits meaning malformations_beside cost serde_json_on_literals
 each_member_asks_the_matcher = (refl, refl)
 
+pub without_additional_properties_there_is_no_table : rows.Without_additional_properties_there_is_no_table
+unfolding literal chars digits meaning malformations_beside cost serde_json_on_literals
+without_additional_properties_there_is_no_table = (refl, refl, refl, refl)
+
+pub without_a_table_a_declared_name_asks : rows.Without_a_table_a_declared_name_asks
+unfolding literal chars digits meaning malformations_beside cost serde_json_on_literals
+without_a_table_a_declared_name_asks = (refl, refl)
+
+pub a_negation_asks : rows.A_negation_asks
+unfolding literal chars digits meaning malformations_beside cost serde_json_on_literals
+a_negation_asks = (refl, refl)
+
+pub a_branch_of_one_of_asks : rows.A_branch_of_one_of_asks
+unfolding literal chars digits meaning malformations_beside cost serde_json_on_literals
+a_branch_of_one_of_asks = (refl, refl)
+
+pub a_condition_asks : rows.A_condition_asks
+unfolding literal chars digits meaning malformations_beside cost serde_json_on_literals
+a_condition_asks = (refl, refl)
+
+pub a_member_and_its_leaf_are_counted : rows.A_member_and_its_leaf_are_counted
+unfolding literal chars digits meaning malformations_beside cost serde_json_on_literals
+a_member_and_its_leaf_are_counted = (refl, refl, refl, refl)
+
+pub else_alone_is_not_compiled : rows.Else_alone_is_not_compiled
+unfolding literal chars digits meaning malformations_beside cost serde_json_on_literals
+else_alone_is_not_compiled = (refl, refl, refl, refl)
+
+pub a_schema_of_a_dependency_is_compiled : rows.A_schema_of_a_dependency_is_compiled
+unfolding literal chars digits meaning malformations_beside cost serde_json_on_literals
+a_schema_of_a_dependency_is_compiled = (refl, refl, refl, refl)
+
 pub a_table_of_65_patterns : rows.A_table_of_65_patterns
 unfolding literal chars digits meaning malformations_beside cost serde_json_on_literals
 a_table_of_65_patterns = (refl, refl, refl, refl)
@@ -101,4 +133,4 @@ unfolding literal chars digits meaning malformations_beside cost serde_json_on_l
 one_entry_of_66_is_asked_again = (refl, refl)
 
 pub rows_costs : rows.Rows_costs
-rows_costs = (a_matcher_is_asked_for_a_declared_name, an_unfinished_entry_is_asked_again, tests_make_no_matcher, tests_ask_no_matcher, patterns_beside_true_are_compiled_once, a_table_of_tests_asks_no_matcher, declared_names_ask_no_matcher, other_names_ask_no_matcher, a_condition_that_is_read_is_compiled, a_condition_alone_is_not_compiled, true_for_names_is_not_compiled, false_for_names_is_not_compiled, a_name_list_is_not_compiled, one_of_three_patterns_makes_a_matcher, one_of_three_patterns_asks_a_matcher, schemas_chosen_by_a_text_are_compiled, patterns_inside_patterns_are_asked, each_branch_may_be_asked, each_member_asks_the_matcher, a_table_of_65_patterns, a_table_of_66_patterns, no_entry_of_65_is_asked_again, one_entry_of_66_is_asked_again)
+rows_costs = (a_matcher_is_asked_for_a_declared_name, an_unfinished_entry_is_asked_again, tests_make_no_matcher, tests_ask_no_matcher, patterns_beside_true_are_compiled_once, a_table_of_tests_asks_no_matcher, declared_names_ask_no_matcher, other_names_ask_no_matcher, a_condition_that_is_read_is_compiled, a_condition_alone_is_not_compiled, true_for_names_is_not_compiled, false_for_names_is_not_compiled, a_name_list_is_not_compiled, one_of_three_patterns_makes_a_matcher, one_of_three_patterns_asks_a_matcher, schemas_chosen_by_a_text_are_compiled, patterns_inside_patterns_are_asked, each_branch_may_be_asked, each_member_asks_the_matcher, without_additional_properties_there_is_no_table, without_a_table_a_declared_name_asks, a_negation_asks, a_branch_of_one_of_asks, a_condition_asks, a_member_and_its_leaf_are_counted, else_alone_is_not_compiled, a_schema_of_a_dependency_is_compiled, a_table_of_65_patterns, a_table_of_66_patterns, no_entry_of_65_is_asked_again, one_entry_of_66_is_asked_again)

@@ -28,6 +28,18 @@ pub no_name_is_allowed : rows.No_name_is_allowed
 unfolding literal chars digits meaning malformations_beside cost serde_json_on_literals
 no_name_is_allowed = λ u. (refl, refl, refl)
 
+pub true_allows_each_name : rows.True_allows_each_name
+unfolding literal chars digits meaning malformations_beside cost serde_json_on_literals
+true_allows_each_name = λ u. (refl, refl, refl)
+
+pub a_list_is_of_its_key_alone : rows.A_list_is_of_its_key_alone
+unfolding literal chars digits meaning malformations_beside cost serde_json_on_literals
+a_list_is_of_its_key_alone = λ u. (refl, refl, refl)
+
+pub a_schema_is_of_its_key_alone : rows.A_schema_is_of_its_key_alone
+unfolding literal chars digits meaning malformations_beside cost serde_json_on_literals
+a_schema_is_of_its_key_alone = λ u. (refl, refl, refl)
+
 pub no_names_are_none_refused : rows.No_names_are_none_refused
 unfolding literal chars digits meaning malformations_beside cost serde_json_on_literals
 no_names_are_none_refused = λ u. (refl, refl, refl)
@@ -65,4 +77,4 @@ unfolding literal chars digits meaning malformations_beside cost serde_json_on_l
 the_empty_text_chooses_too = λ u. (refl, refl, refl)
 
 pub rows_dependencies : rows.Rows_dependencies
-rows_dependencies = (a_name_listed_twice_is_told_twice, a_dependent_schema_is_asked_of_the_object, a_short_name_is_told_of_the_object, its_instance_is_the_object, no_name_is_allowed, no_names_are_none_refused, a_name_is_no_object, a_text_chooses_its_schema, a_text_chooses_a_false_schema, another_text_chooses_none, a_number_chooses_none, an_absent_member_chooses_none, another_value_chooses_none, the_empty_text_chooses_too)
+rows_dependencies = (a_name_listed_twice_is_told_twice, a_dependent_schema_is_asked_of_the_object, a_short_name_is_told_of_the_object, its_instance_is_the_object, no_name_is_allowed, true_allows_each_name, a_list_is_of_its_key_alone, a_schema_is_of_its_key_alone, no_names_are_none_refused, a_name_is_no_object, a_text_chooses_its_schema, a_text_chooses_a_false_schema, another_text_chooses_none, a_number_chooses_none, an_absent_member_chooses_none, another_value_chooses_none, the_empty_text_chooses_too)

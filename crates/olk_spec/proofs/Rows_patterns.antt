@@ -64,6 +64,38 @@ pub a_suffix_stands_at_the_end : rows.A_suffix_stands_at_the_end
 unfolding literal chars digits meaning malformations_beside cost serde_json_on_literals
 a_suffix_stands_at_the_end = λ u. (refl, refl, refl)
 
+pub next_line_is_no_white_space : rows.Next_line_is_no_white_space
+unfolding literal chars digits meaning malformations_beside cost serde_json_on_literals
+next_line_is_no_white_space = λ u. (refl, refl, refl)
+
+pub a_line_separator_is_white_space : rows.A_line_separator_is_white_space
+unfolding literal chars digits meaning malformations_beside cost serde_json_on_literals
+a_line_separator_is_white_space = λ u. (refl, refl, refl)
+
+pub the_first_and_last_of_each_run_are_white_space : rows.The_first_and_last_of_each_run_are_white_space
+unfolding literal chars digits meaning malformations_beside cost serde_json_on_literals
+the_first_and_last_of_each_run_are_white_space = refl
+
+pub their_neighbours_are_no_white_space : rows.Their_neighbours_are_no_white_space
+unfolding literal chars digits meaning malformations_beside cost serde_json_on_literals
+their_neighbours_are_no_white_space = refl
+
+pub an_exact_name_is_no_prefix : rows.An_exact_name_is_no_prefix
+unfolding literal chars digits meaning malformations_beside cost serde_json_on_literals
+an_exact_name_is_no_prefix = λ u. (refl, refl, refl)
+
+pub alternatives_are_no_prefixes : rows.Alternatives_are_no_prefixes
+unfolding literal chars digits meaning malformations_beside cost serde_json_on_literals
+alternatives_are_no_prefixes = λ u. (refl, refl, refl)
+
+pub an_unfinished_match_of_the_text_itself_counts : rows.An_unfinished_match_of_the_text_itself_counts
+unfolding literal chars digits meaning malformations_beside cost serde_json_on_literals
+an_unfinished_match_of_the_text_itself_counts = (refl, refl, refl)
+
+pub an_unfinished_match_inside_a_name_counts : rows.An_unfinished_match_inside_a_name_counts
+unfolding literal chars digits meaning malformations_beside cost serde_json_on_literals
+an_unfinished_match_inside_a_name_counts = (refl, refl, refl)
+
 pub two_patterns_are_both_asked : rows.Two_patterns_are_both_asked
 unfolding literal chars digits meaning malformations_beside cost serde_json_on_literals
 two_patterns_are_both_asked = λ u. (refl, refl, refl)
@@ -193,4 +225,4 @@ unfolding literal chars digits meaning malformations_beside cost serde_json_on_l
 a_dot_is_no_suffix = refl
 
 pub rows_patterns : rows.Rows_patterns
-rows_patterns = (all_four_faults_are_told, a_declared_name_meets_its_patterns_too, all_unexpected_names_are_told, the_first_unexpected_name_is_kept, an_unfinished_match_that_counts, an_unfinished_match_that_does_not_count, alone_an_unfinished_match_counts, alone_an_unfinished_match_does_not_count, a_finished_match_counts_under_both, a_space_is_white_space, a_byte_order_mark_is_white_space, a_name_without_white_space_matches, a_name_is_additional_if_nothing_holds_or_matches_it, a_suffix_stands_at_the_end, two_patterns_are_both_asked, declared_and_matching_names_are_expected, a_matching_name_is_expected, the_last_of_65_patterns_matches, the_first_of_66_patterns_does_not_count, the_first_of_66_patterns_counts, prefix_of_letters, prefix_with_a_hyphen, prefix_with_a_slash, prefix_with_an_escaped_slash, exact_letters, exact_with_an_escaped_dollar, prefix_that_ends_in_a_dollar, alternatives, no_white_space, suffix_of_letters, suffix_that_is_a_dollar, letters_alone_are_no_test, an_anchor_alone_is_no_test, two_anchors_are_no_test, one_alternative_is_no_test, a_star_is_no_test, a_plus_is_no_test, a_question_mark_is_no_test, a_class_is_no_test, open_alternatives_are_no_test, a_group_is_no_test, a_digit_is_no_test, an_escaped_dollar_is_no_suffix, a_dollar_alone_is_no_suffix, a_group_is_no_suffix, a_dot_is_no_suffix)
+rows_patterns = (all_four_faults_are_told, a_declared_name_meets_its_patterns_too, all_unexpected_names_are_told, the_first_unexpected_name_is_kept, an_unfinished_match_that_counts, an_unfinished_match_that_does_not_count, alone_an_unfinished_match_counts, alone_an_unfinished_match_does_not_count, a_finished_match_counts_under_both, a_space_is_white_space, a_byte_order_mark_is_white_space, a_name_without_white_space_matches, a_name_is_additional_if_nothing_holds_or_matches_it, a_suffix_stands_at_the_end, next_line_is_no_white_space, a_line_separator_is_white_space, the_first_and_last_of_each_run_are_white_space, their_neighbours_are_no_white_space, an_exact_name_is_no_prefix, alternatives_are_no_prefixes, an_unfinished_match_of_the_text_itself_counts, an_unfinished_match_inside_a_name_counts, two_patterns_are_both_asked, declared_and_matching_names_are_expected, a_matching_name_is_expected, the_last_of_65_patterns_matches, the_first_of_66_patterns_does_not_count, the_first_of_66_patterns_counts, prefix_of_letters, prefix_with_a_hyphen, prefix_with_a_slash, prefix_with_an_escaped_slash, exact_letters, exact_with_an_escaped_dollar, prefix_that_ends_in_a_dollar, alternatives, no_white_space, suffix_of_letters, suffix_that_is_a_dollar, letters_alone_are_no_test, an_anchor_alone_is_no_test, two_anchors_are_no_test, one_alternative_is_no_test, a_star_is_no_test, a_plus_is_no_test, a_question_mark_is_no_test, a_class_is_no_test, open_alternatives_are_no_test, a_group_is_no_test, a_digit_is_no_test, an_escaped_dollar_is_no_suffix, a_dollar_alone_is_no_suffix, a_group_is_no_suffix, a_dot_is_no_suffix)

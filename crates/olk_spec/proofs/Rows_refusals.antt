@@ -76,6 +76,14 @@ pub a_root_that_is_no_schema : rows.A_root_that_is_no_schema
 unfolding literal chars digits meaning malformations_beside cost serde_json_on_literals
 a_root_that_is_no_schema = refl
 
+pub the_first_of_two_items_that_are_no_texts : rows.The_first_of_two_items_that_are_no_texts
+unfolding literal chars digits meaning malformations_beside cost serde_json_on_literals
+the_first_of_two_items_that_are_no_texts = refl
+
+pub a_name_repeated_behind_another : rows.A_name_repeated_behind_another
+unfolding literal chars digits meaning malformations_beside cost serde_json_on_literals
+a_name_repeated_behind_another = refl
+
 pub at_the_root : rows.At_the_root
 unfolding literal chars digits meaning malformations_beside cost serde_json_on_literals
 at_the_root = refl
@@ -144,5 +152,21 @@ pub names_that_are_neither_false_nor_an_object_build : rows.Names_that_are_neith
 unfolding literal chars digits meaning malformations_beside cost serde_json_on_literals
 names_that_are_neither_false_nor_an_object_build = refl
 
+pub null_for_names_builds : rows.Null_for_names_builds
+unfolding literal chars digits meaning malformations_beside cost serde_json_on_literals
+null_for_names_builds = refl
+
+pub a_test_that_the_matcher_refuses_builds : rows.A_test_that_the_matcher_refuses_builds
+unfolding literal chars digits meaning malformations_beside cost serde_json_on_literals
+a_test_that_the_matcher_refuses_builds = refl
+
+pub else_alone_builds : rows.Else_alone_builds
+unfolding literal chars digits meaning malformations_beside cost serde_json_on_literals
+else_alone_builds = refl
+
+pub a_dependency_may_list_a_name_twice : rows.A_dependency_may_list_a_name_twice
+unfolding literal chars digits meaning malformations_beside cost serde_json_on_literals
+a_dependency_may_list_a_name_twice = refl
+
 pub rows_refusals : rows.Rows_refusals
-rows_refusals = (a_refused_pattern, declared_names_that_are_no_object, a_reference_inside, a_list_with_a_repeated_name, a_read_condition_that_is_no_schema, a_branch_that_is_no_schema, a_leaf_value_that_does_not_fit, a_listed_name_that_is_no_text, equal_items_that_are_no_texts, a_repeated_name_before_another_item, additional_properties_that_are_no_schema, a_required_item_that_is_no_text, a_reference_in_a_branch, property_dependencies_that_are_no_object, an_entry_of_property_dependencies_that_is_no_object, a_schema_of_property_dependencies_that_is_none, a_root_that_is_no_schema, at_the_root, in_properties, in_pattern_properties, in_additional_properties, in_property_names, in_dependent_schemas, in_dependencies, in_property_dependencies, in_all_of, in_any_of, in_one_of, in_not, in_if, in_then, in_else, a_condition_alone_builds, names_that_are_neither_false_nor_an_object_build)
+rows_refusals = (a_refused_pattern, declared_names_that_are_no_object, a_reference_inside, a_list_with_a_repeated_name, a_read_condition_that_is_no_schema, a_branch_that_is_no_schema, a_leaf_value_that_does_not_fit, a_listed_name_that_is_no_text, equal_items_that_are_no_texts, a_repeated_name_before_another_item, additional_properties_that_are_no_schema, a_required_item_that_is_no_text, a_reference_in_a_branch, property_dependencies_that_are_no_object, an_entry_of_property_dependencies_that_is_no_object, a_schema_of_property_dependencies_that_is_none, a_root_that_is_no_schema, the_first_of_two_items_that_are_no_texts, a_name_repeated_behind_another, at_the_root, in_properties, in_pattern_properties, in_additional_properties, in_property_names, in_dependent_schemas, in_dependencies, in_property_dependencies, in_all_of, in_any_of, in_one_of, in_not, in_if, in_then, in_else, a_condition_alone_builds, names_that_are_neither_false_nor_an_object_build, null_for_names_builds, a_test_that_the_matcher_refuses_builds, else_alone_builds, a_dependency_may_list_a_name_twice)

@@ -19,7 +19,9 @@ pub mod Laws
 pub mod Json
 pub mod Bench
 pub mod Refused
+pub mod Refused_trees
 pub mod Answers
+pub mod Forms
 pub mod Rows_properties
 pub mod Rows_patterns
 pub mod Rows_branches
@@ -27,6 +29,8 @@ pub mod Rows_dependencies
 pub mod Rows_refusals
 pub mod Rows_costs
 pub mod Rows_evaluation
+pub mod Rows_trees
+pub mod Rows_faults
 pub mod Rows_bench
 pub mod Vectors_names
 pub mod Vectors_members

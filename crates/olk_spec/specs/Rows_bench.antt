@@ -1,6 +1,8 @@
 -- The leaves of the bench.
 use Rattle.std.specs.Prelude.{◌∷◌, []}
+use Rattle.olk_spec.specs.World.{matched, unmatched}
 use Rattle.olk_spec.specs.Answers.{Holds, Fails, Refuses, Is_refused}
+use Rattle.olk_spec.specs.Forms.{Says_of}
 
 abbrev pub A_value_of_kind_null : Type 0
 A_value_of_kind_null = Holds "{\"type\":\"null\"}" "null"
@@ -119,6 +121,15 @@ An_empty_pattern_is_refused = Is_refused "{\"patternProperties\":{\"\":{}}}" ("\
 abbrev pub Two_anchors_is_refused : Type 0
 Two_anchors_is_refused = Is_refused "{\"patternProperties\":{\"^$\":{}}}" ("\"^$\" is not a \"regex\" @ \"\", /patternProperties/^$" ∷ [])
 
+abbrev pub The_end_is_not_the_start : Type 0
+The_end_is_not_the_start = Says_of "a$" "ab" unmatched unmatched
+
+abbrev pub The_end_is_the_end : Type 0
+The_end_is_the_end = Says_of "a$" "ba" matched matched
+
+abbrev pub A_test_needs_no_matcher : Type 0
+A_test_needs_no_matcher = Says_of "^(a|b)$" "b" unmatched matched
+
 abbrev pub A_body_stands_anywhere : Type 0
 A_body_stands_anywhere = Fails "{\"patternProperties\":{\"b\":false}}" "{\"abc\":1,\"ac\":2}" ("False schema does not allow 1 @ /abc, /patternProperties/b" ∷ [])
 
@@ -126,4 +137,4 @@ abbrev pub An_escaped_body_stands_anywhere : Type 0
 An_escaped_body_stands_anywhere = Fails "{\"patternProperties\":{\"\\\\.\":false}}" "{\"a.c\":1,\"abc\":2}" ("False schema does not allow 1 @ /a.c, /patternProperties/\\." ∷ [])
 
 abbrev pub Rows_bench : Type 0
-Rows_bench = A_value_of_kind_null × A_value_of_kind_boolean × A_value_of_kind_integer × A_value_of_kind_number × A_value_of_kind_string × A_value_of_kind_array × A_value_of_kind_object × A_fraction_is_a_number × A_fraction_is_no_integer × A_text_shows_no_fraction × A_constant_number × Another_number × A_text_for_a_number × A_constant_text × Another_text × The_minimum_itself × Less_than_the_minimum × The_maximum_itself × Greater_than_the_maximum × A_fraction_is_no_whole_number × A_text_is_no_whole_number × A_multiple_below_zero × No_multiple_below_zero × Two_characters_of_four_bytes × One_character_of_two_bytes × Three_characters × A_number_has_no_length × Kinds_have_names × A_constant_object × A_text_as_maximum × Multiples_of_zero × A_length_below_zero × Kind_is_unknown × An_unknown_keyword_is_ignored × A_class_is_refused × A_slow_nothing_is_refused × A_slow_anchor_is_refused × An_empty_pattern_is_refused × Two_anchors_is_refused × A_body_stands_anywhere × An_escaped_body_stands_anywhere
+Rows_bench = A_value_of_kind_null × A_value_of_kind_boolean × A_value_of_kind_integer × A_value_of_kind_number × A_value_of_kind_string × A_value_of_kind_array × A_value_of_kind_object × A_fraction_is_a_number × A_fraction_is_no_integer × A_text_shows_no_fraction × A_constant_number × Another_number × A_text_for_a_number × A_constant_text × Another_text × The_minimum_itself × Less_than_the_minimum × The_maximum_itself × Greater_than_the_maximum × A_fraction_is_no_whole_number × A_text_is_no_whole_number × A_multiple_below_zero × No_multiple_below_zero × Two_characters_of_four_bytes × One_character_of_two_bytes × Three_characters × A_number_has_no_length × Kinds_have_names × A_constant_object × A_text_as_maximum × Multiples_of_zero × A_length_below_zero × Kind_is_unknown × An_unknown_keyword_is_ignored × A_class_is_refused × A_slow_nothing_is_refused × A_slow_anchor_is_refused × An_empty_pattern_is_refused × Two_anchors_is_refused × The_end_is_not_the_start × The_end_is_the_end × A_test_needs_no_matcher × A_body_stands_anywhere × An_escaped_body_stands_anywhere

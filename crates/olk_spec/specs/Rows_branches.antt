@@ -44,8 +44,11 @@ Then_alone_is_unread = Holds "{\"then\":5}" "1"
 abbrev pub Then_alone_builds : Type 0
 Then_alone_builds = Builds "{\"then\":5}"
 
+abbrev pub Else_alone_is_unread : Type 0
+Else_alone_is_unread = Holds "{\"else\":false}" "1"
+
 abbrev pub Each_branch_of_all_of_is_asked : Type 0
 Each_branch_of_all_of_is_asked = Fails "{\"allOf\":[{\"type\":\"string\"},true,false]}" "1" ("1 is not of type \"string\" @ \"\", /allOf/0/type" ∷ "False schema does not allow 1 @ \"\", /allOf/2" ∷ [])
 
 abbrev pub Rows_branches : Type 0
-Rows_branches = Any_of_none_refuses × One_of_none_refuses × All_of_none_accepts × Two_accepting_branches_are_too_many × One_accepting_branch_is_enough × The_other_branch_is_enough × Each_branch_tells_all_that_it_finds × Branches_inside_a_branch_tell_theirs × A_negation_shows_its_schema × A_double_negation_shows_the_inner_one × Where_the_condition_fails_else_applies × Where_the_condition_holds_then_applies × Then_alone_is_unread × Then_alone_builds × Each_branch_of_all_of_is_asked
+Rows_branches = Any_of_none_refuses × One_of_none_refuses × All_of_none_accepts × Two_accepting_branches_are_too_many × One_accepting_branch_is_enough × The_other_branch_is_enough × Each_branch_tells_all_that_it_finds × Branches_inside_a_branch_tell_theirs × A_negation_shows_its_schema × A_double_negation_shows_the_inner_one × Where_the_condition_fails_else_applies × Where_the_condition_holds_then_applies × Then_alone_is_unread × Then_alone_builds × Else_alone_is_unread × Each_branch_of_all_of_is_asked

@@ -14,6 +14,9 @@ closed_suffix = "{\"properties\":{\"a\":{},\"bspam\":{}},\"patternProperties\":{
 abbrev pub three_patterns : Quoted
 three_patterns = "{\"additionalProperties\":false,\"properties\":{\"a\":{},\"b\":{}},\"patternProperties\":{\"x\":{},\"y$\":{},\"^z\":{}}}"
 
+abbrev pub one_name_and_one_pattern : Quoted
+one_name_and_one_pattern = "{\"properties\":{\"b\":{}},\"patternProperties\":{\"a\":{}}}"
+
 abbrev pub patterns_65 : Quoted
 patterns_65 = "{\"additionalProperties\":false,\"properties\":{\"m64\":{}},\"patternProperties\":{\"m00\":{},\"m01\":{},\"m02\":{},\"m03\":{},\"m04\":{},\"m05\":{},\"m06\":{},\"m07\":{},\"m08\":{},\"m09\":{},\"m10\":{},\"m11\":{},\"m12\":{},\"m13\":{},\"m14\":{},\"m15\":{},\"m16\":{},\"m17\":{},\"m18\":{},\"m19\":{},\"m20\":{},\"m21\":{},\"m22\":{},\"m23\":{},\"m24\":{},\"m25\":{},\"m26\":{},\"m27\":{},\"m28\":{},\"m29\":{},\"m30\":{},\"m31\":{},\"m32\":{},\"m33\":{},\"m34\":{},\"m35\":{},\"m36\":{},\"m37\":{},\"m38\":{},\"m39\":{},\"m40\":{},\"m41\":{},\"m42\":{},\"m43\":{},\"m44\":{},\"m45\":{},\"m46\":{},\"m47\":{},\"m48\":{},\"m49\":{},\"m50\":{},\"m51\":{},\"m52\":{},\"m53\":{},\"m54\":{},\"m55\":{},\"m56\":{},\"m57\":{},\"m58\":{},\"m59\":{},\"m60\":{},\"m61\":{},\"m62\":{},\"m63\":{},\"m64\":{}}}"
 
@@ -77,6 +80,30 @@ Each_branch_may_be_asked = Asks "{\"anyOf\":[true,{\"patternProperties\":{\"x\":
 abbrev pub Each_member_asks_the_matcher : Type 0
 Each_member_asks_the_matcher = Asks "{\"patternProperties\":{\"(slow)x\":{\"type\":\"integer\"}}}" "{\"ax\":\"t\",\"b\":\"t\"}" 2
 
+abbrev pub Without_additional_properties_there_is_no_table : Type 0
+Without_additional_properties_there_is_no_table = Costs one_name_and_one_pattern 3 0 1 0
+
+abbrev pub Without_a_table_a_declared_name_asks : Type 0
+Without_a_table_a_declared_name_asks = Asks one_name_and_one_pattern "{\"b\":1}" 1
+
+abbrev pub A_negation_asks : Type 0
+A_negation_asks = Asks "{\"not\":{\"patternProperties\":{\"a\":false}}}" "{\"b\":1}" 1
+
+abbrev pub A_branch_of_one_of_asks : Type 0
+A_branch_of_one_of_asks = Asks "{\"oneOf\":[{\"patternProperties\":{\"a\":false}}]}" "{\"b\":1}" 1
+
+abbrev pub A_condition_asks : Type 0
+A_condition_asks = Asks "{\"if\":{\"patternProperties\":{\"a\":false}},\"then\":true}" "{\"b\":1}" 1
+
+abbrev pub A_member_and_its_leaf_are_counted : Type 0
+A_member_and_its_leaf_are_counted = Costs "{\"properties\":{\"a\":{\"type\":\"integer\"}}}" 2 1 0 0
+
+abbrev pub Else_alone_is_not_compiled : Type 0
+Else_alone_is_not_compiled = Costs "{\"else\":false}" 1 0 0 0
+
+abbrev pub A_schema_of_a_dependency_is_compiled : Type 0
+A_schema_of_a_dependency_is_compiled = Costs "{\"dependencies\":{\"a\":false}}" 2 0 0 0
+
 abbrev pub A_table_of_65_patterns : Type 0
 A_table_of_65_patterns = Costs patterns_65 67 0 65 65
 
@@ -90,4 +117,4 @@ abbrev pub One_entry_of_66_is_asked_again : Type 0
 One_entry_of_66_is_asked_again = Asks patterns_66 "{\"m64\":1}" 1
 
 abbrev pub Rows_costs : Type 0
-Rows_costs = A_matcher_is_asked_for_a_declared_name × An_unfinished_entry_is_asked_again × Tests_make_no_matcher × Tests_ask_no_matcher × Patterns_beside_true_are_compiled_once × A_table_of_tests_asks_no_matcher × Declared_names_ask_no_matcher × Other_names_ask_no_matcher × A_condition_that_is_read_is_compiled × A_condition_alone_is_not_compiled × True_for_names_is_not_compiled × False_for_names_is_not_compiled × A_name_list_is_not_compiled × One_of_three_patterns_makes_a_matcher × One_of_three_patterns_asks_a_matcher × Schemas_chosen_by_a_text_are_compiled × Patterns_inside_patterns_are_asked × Each_branch_may_be_asked × Each_member_asks_the_matcher × A_table_of_65_patterns × A_table_of_66_patterns × No_entry_of_65_is_asked_again × One_entry_of_66_is_asked_again
+Rows_costs = A_matcher_is_asked_for_a_declared_name × An_unfinished_entry_is_asked_again × Tests_make_no_matcher × Tests_ask_no_matcher × Patterns_beside_true_are_compiled_once × A_table_of_tests_asks_no_matcher × Declared_names_ask_no_matcher × Other_names_ask_no_matcher × A_condition_that_is_read_is_compiled × A_condition_alone_is_not_compiled × True_for_names_is_not_compiled × False_for_names_is_not_compiled × A_name_list_is_not_compiled × One_of_three_patterns_makes_a_matcher × One_of_three_patterns_asks_a_matcher × Schemas_chosen_by_a_text_are_compiled × Patterns_inside_patterns_are_asked × Each_branch_may_be_asked × Each_member_asks_the_matcher × Without_additional_properties_there_is_no_table × Without_a_table_a_declared_name_asks × A_negation_asks × A_branch_of_one_of_asks × A_condition_asks × A_member_and_its_leaf_are_counted × Else_alone_is_not_compiled × A_schema_of_a_dependency_is_compiled × A_table_of_65_patterns × A_table_of_66_patterns × No_entry_of_65_is_asked_again × One_entry_of_66_is_asked_again

@@ -21,6 +21,15 @@ Its_instance_is_the_object = Is_about "{\"propertyNames\":{\"minLength\":2}}" "{
 abbrev pub No_name_is_allowed : Type 0
 No_name_is_allowed = Fails "{\"propertyNames\":false}" "{\"foo\":1}" ("False schema does not allow {\"foo\":1} @ \"\", /propertyNames" ∷ [])
 
+abbrev pub True_allows_each_name : Type 0
+True_allows_each_name = Holds "{\"propertyNames\":true}" "{\"a\":1}"
+
+abbrev pub A_list_is_of_its_key_alone : Type 0
+A_list_is_of_its_key_alone = Holds "{\"dependentRequired\":{\"a\":[\"b\"]}}" "{\"c\":1}"
+
+abbrev pub A_schema_is_of_its_key_alone : Type 0
+A_schema_is_of_its_key_alone = Holds "{\"dependencies\":{\"a\":false}}" "{}"
+
 abbrev pub No_names_are_none_refused : Type 0
 No_names_are_none_refused = Holds "{\"propertyNames\":false}" "{}"
 
@@ -49,4 +58,4 @@ abbrev pub The_empty_text_chooses_too : Type 0
 The_empty_text_chooses_too = Fails "{\"propertyDependencies\":{\"k\":{\"\":false}}}" "{\"k\":\"\"}" ("False schema does not allow {\"k\":\"\"} @ \"\", /propertyDependencies/k/" ∷ [])
 
 abbrev pub Rows_dependencies : Type 0
-Rows_dependencies = A_name_listed_twice_is_told_twice × A_dependent_schema_is_asked_of_the_object × A_short_name_is_told_of_the_object × Its_instance_is_the_object × No_name_is_allowed × No_names_are_none_refused × A_name_is_no_object × A_text_chooses_its_schema × A_text_chooses_a_false_schema × Another_text_chooses_none × A_number_chooses_none × An_absent_member_chooses_none × Another_value_chooses_none × The_empty_text_chooses_too
+Rows_dependencies = A_name_listed_twice_is_told_twice × A_dependent_schema_is_asked_of_the_object × A_short_name_is_told_of_the_object × Its_instance_is_the_object × No_name_is_allowed × True_allows_each_name × A_list_is_of_its_key_alone × A_schema_is_of_its_key_alone × No_names_are_none_refused × A_name_is_no_object × A_text_chooses_its_schema × A_text_chooses_a_false_schema × Another_text_chooses_none × A_number_chooses_none × An_absent_member_chooses_none × Another_value_chooses_none × The_empty_text_chooses_too

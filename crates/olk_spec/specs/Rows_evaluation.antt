@@ -47,6 +47,9 @@ A_condition_that_fails_is_not_shown = Has_nodes "{\"if\":false,\"then\":false,\"
 abbrev pub A_schema_chosen_by_a_text_is_shown : Type 0
 A_schema_chosen_by_a_text_is_shown = Has_nodes "{\"propertyDependencies\":{\"k\":{\"a\":true,\"b\":false}}}" "{\"k\":\"a\"}" "\"\"(/propertyDependencies(/propertyDependencies/k/a))"
 
+abbrev pub Errors_of_the_parent_come_first : Type 0
+Errors_of_the_parent_come_first = Evaluates "{\"properties\":{\"a\":false},\"additionalProperties\":false}" "{\"a\":1,\"b\":2}" "{\"annotations\":[],\"errors\":[{\"instancePath\":\"\",\"keyword\":\"additionalProperties\",\"message\":\"Additional properties are not allowed ('b' was unexpected)\",\"schemaPath\":\"/additionalProperties\"},{\"instancePath\":\"/a\",\"keyword\":\"falseSchema\",\"message\":\"False schema does not allow 1\",\"schemaPath\":\"/properties/a\"}],\"valid\":false}"
+
 abbrev pub Any_of_none_is_invalid_without_errors : Type 0
 Any_of_none_is_invalid_without_errors = Evaluates "{\"anyOf\":[]}" "1" "{\"annotations\":[],\"errors\":[],\"valid\":false}"
 
@@ -57,4 +60,4 @@ abbrev pub A_false_schema_is_an_error_of_its_place : Type 0
 A_false_schema_is_an_error_of_its_place = Evaluates "{\"properties\":{\"a\":false}}" "{\"a\":1}" "{\"annotations\":[],\"errors\":[{\"instancePath\":\"/a\",\"keyword\":\"falseSchema\",\"message\":\"False schema does not allow 1\",\"schemaPath\":\"/properties/a\"}],\"valid\":false}"
 
 abbrev pub Rows_evaluation : Type 0
-Rows_evaluation = The_names_met_are_shown × A_fused_validator_stands_at_its_keyword × Two_missing_names_are_two_errors × A_missing_name_is_a_child_at_required × A_name_for_each_match × More_than_one_branch_is_an_own_error × Matches_stand_in_a_child_of_their_own × Of_14_names_two_are_missing × Of_15_names_two_are_missing × One_missing_name_stands_in_the_closed_object × Beside_patterns_it_stands_alone × A_condition_that_holds_is_shown × A_condition_that_fails_is_not_shown × A_schema_chosen_by_a_text_is_shown × Any_of_none_is_invalid_without_errors × One_of_none_is_invalid_without_errors × A_false_schema_is_an_error_of_its_place
+Rows_evaluation = The_names_met_are_shown × A_fused_validator_stands_at_its_keyword × Two_missing_names_are_two_errors × A_missing_name_is_a_child_at_required × A_name_for_each_match × More_than_one_branch_is_an_own_error × Matches_stand_in_a_child_of_their_own × Of_14_names_two_are_missing × Of_15_names_two_are_missing × One_missing_name_stands_in_the_closed_object × Beside_patterns_it_stands_alone × A_condition_that_holds_is_shown × A_condition_that_fails_is_not_shown × A_schema_chosen_by_a_text_is_shown × Errors_of_the_parent_come_first × Any_of_none_is_invalid_without_errors × One_of_none_is_invalid_without_errors × A_false_schema_is_an_error_of_its_place

@@ -3,6 +3,7 @@
 ghost use Rattle.std.specs.Prelude.{codes};
 ghost use Rattle.olk_spec.specs.Laws.{Verdict_of_reports, Empty_report, Only_report, Not_not, One_branch, Passes, Verdict_of_trees};
 ghost use Rattle.olk_spec.specs.Refused.{One_length, All_names_are_told, First_name_alone_is_no_report, Order_in_a_branch_is_free, First_faults_alone_are_no_report, Exchanged_branches_are_no_report, No_branches_are_no_report};
+ghost use Rattle.olk_spec.specs.Refused_trees.{One_validity, One_list_of_annotations, Names_are_shown, Without_its_names_it_is_no_tree, At_another_member_it_is_no_tree, Errors_are_told, With_another_text_it_is_no_tree, Without_its_error_it_is_no_tree, Any_text_stands_for_a_fraction, Texts_of_a_leaf_stand_in_any_order, Without_one_of_its_texts_it_is_no_leaf};
 
 /// A schema accepts a value exactly where it finds no fault in it: exactly if the empty list is a report, and then it
 /// is the only one.
@@ -51,4 +52,21 @@ pub fn order()
     ensures first_faults { First_faults_alone_are_no_report }
     ensures exchanged { Exchanged_branches_are_no_report }
     ensures no_branches { No_branches_are_no_report }
+{}
+
+/// Every tree of a schema over a value has the validity and the annotations of the definition. A tree in which names, an
+/// error or a text are left out, or a member's path is another, is none; a leaf's texts stand in any order, and a text that
+/// prints a fraction may be any text.
+pub fn trees()
+    ensures one_validity { One_validity }
+    ensures one_list { One_list_of_annotations }
+    ensures names { Names_are_shown }
+    ensures no_names { Without_its_names_it_is_no_tree }
+    ensures another_member { At_another_member_it_is_no_tree }
+    ensures errors { Errors_are_told }
+    ensures another_text { With_another_text_it_is_no_tree }
+    ensures no_error { Without_its_error_it_is_no_tree }
+    ensures any_text { Any_text_stands_for_a_fraction }
+    ensures any_order { Texts_of_a_leaf_stand_in_any_order }
+    ensures one_of_two { Without_one_of_its_texts_it_is_no_leaf }
 {}

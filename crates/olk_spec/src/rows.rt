@@ -9,6 +9,8 @@ ghost use Rattle.olk_spec.specs.Rows_dependencies.{Rows_dependencies};
 ghost use Rattle.olk_spec.specs.Rows_refusals.{Rows_refusals};
 ghost use Rattle.olk_spec.specs.Rows_costs.{Rows_costs};
 ghost use Rattle.olk_spec.specs.Rows_evaluation.{Rows_evaluation};
+ghost use Rattle.olk_spec.specs.Rows_trees.{Rows_trees};
+ghost use Rattle.olk_spec.specs.Rows_faults.{Rows_faults};
 ghost use Rattle.olk_spec.specs.Rows_bench.{Rows_bench};
 ghost use Rattle.olk_spec.specs.Vectors_names.{Vectors_names};
 ghost use Rattle.olk_spec.specs.Vectors_members.{Vectors_members};
@@ -47,6 +49,16 @@ pub fn rows_of_costs()
 /// Evaluation trees show the annotations and errors that are expected.
 pub fn rows_of_evaluation()
     ensures { Rows_evaluation }
+{}
+
+/// Evaluation trees are, whole, those that are expected.
+pub fn rows_of_trees()
+    ensures { Rows_trees }
+{}
+
+/// Faults and malformations have the kinds and instances that are expected, and each branch of `oneOf` tells what it finds.
+pub fn rows_of_faults()
+    ensures { Rows_faults }
 {}
 
 /// The bench's leaves and matcher take and say what is expected.

@@ -27,6 +27,17 @@ FORMS = {
     "Is_no_pattern": "refl",
 }
 
+# those of specs/Forms.antt
+MORE_FORMS = {
+    "Has_tree": "λ u. refl",
+    "Tells": "λ u. refl",
+    "Is_refused_as": "refl",
+    "Says_of": "(refl, refl)",
+    "Are_white_space": "refl",
+    "Are_no_white_space": "refl",
+}
+PROOFS = {**FORMS, **MORE_FORMS}
+
 
 def quote(text):
     return '"' + text.replace("\\", "\\\\").replace('"', '\\"') + '"'
@@ -55,7 +66,7 @@ class Group:
         return name
 
     def add(self, name, form, *words):
-        assert form in FORMS
+        assert form in PROOFS
         assert name[0].isupper() and all(name != r[0] for r in self.rows), name
         self.rows.append((name, form, " ".join(words)))
 
@@ -114,6 +125,21 @@ class Group:
     def is_no_pattern(self, name, pattern):
         self.add(name, "Is_no_pattern", quote(pattern))
 
+    def has_tree(self, name, schema, value, tree):
+        self.add(name, "Has_tree", self.text_of(schema), quoted_json(value), quote(tree))
+
+    def tells(self, name, schema, value, lines):
+        self.add(name, "Tells", self.text_of(schema), quoted_json(value), texts(ordered(lines)))
+
+    def is_refused_as(self, name, schema, lines):
+        self.add(name, "Is_refused_as", self.text_of(schema), texts(ordered(lines)))
+
+    def says_of(self, name, pattern, member, matcher, answer):
+        self.add(name, "Says_of", quote(pattern), quote(member), matcher, answer)
+
+    def are_white_space(self, name, yes, characters):
+        self.add(name, "Are_white_space" if yes else "Are_no_white_space", "(" + " ∷ ".join("0x%x" % c for c in characters) + " ∷ [])")
+
     # ---- what is written
 
     def write(self):
@@ -126,7 +152,6 @@ class Group:
         prelude = [w for w in ("List", "[]", "true", "false", "codes") if w in words]
         if "∷" in code:
             prelude.insert(0, "◌∷◌")
-        forms = [f for f in FORMS if f in words]
         literals = [w for w in ("starts_with_text", "ends_with_text", "equals_text", "is_one_of", "has_no_whitespace") if w in words]
         head = f"-- {self.title}\n"
         if prelude:
@@ -135,7 +160,12 @@ class Group:
             head += "use Prim.Native.String.{String as Quoted}\n"
         if literals:
             head += f"use Rattle.olk_spec.specs.Literals.{{{', '.join(literals)}}}\n"
-        head += f"use Rattle.olk_spec.specs.Answers.{{{', '.join(forms)}}}\n"
+        says = [w for w in ("matched", "unmatched", "unfinished") if w in words]
+        if says:
+            head += f"use Rattle.olk_spec.specs.World.{{{', '.join(says)}}}\n"
+        for module, here in (("Answers", [f for f in FORMS if f in words]), ("Forms", [f for f in MORE_FORMS if f in words])):
+            if here:
+                head += f"use Rattle.olk_spec.specs.{module}.{{{', '.join(here)}}}\n"
         with open(f"specs/{self.module}.antt", "w") as out:
             out.write(head + body)
 
@@ -153,7 +183,7 @@ class Group:
         )
         for name, form, _ in self.rows:
             fact = name[0].lower() + name[1:]
-            proof += f"\npub {fact} : rows.{name}\n{opened}\n{fact} = {FORMS[form]}\n"
+            proof += f"\npub {fact} : rows.{name}\n{opened}\n{fact} = {PROOFS[form]}\n"
         joined = product[0].lower() + product[1:]
         facts = ", ".join(n[0].lower() + n[1:] for n, _, _ in self.rows)
         proof += f"\npub {joined} : rows.{product}\n{joined} = ({facts})\n"
@@ -256,6 +286,16 @@ def patterns():
     g.fails("A_name_is_additional_if_nothing_holds_or_matches_it", '{"properties":{"foo":{}},"patternProperties":{"^bar":{}},"additionalProperties":false}', '{"foo":1,"barn":2,"faz":3}',
             ["Additional properties are not allowed ('faz' was unexpected) @ \"\", /additionalProperties"])
     g.fails("A_suffix_stands_at_the_end", '{"patternProperties":{"spam$":false}}', '{"xspam":1,"spamx":2}', ["False schema does not allow 1 @ /xspam, /patternProperties/spam$"])
+    g.refuses("Next_line_is_no_white_space", blank, '{"\\u0085":1}')
+    g.holds("A_line_separator_is_white_space", blank, '{"\\u2028":1}')
+    g.are_white_space("The_first_and_last_of_each_run_are_white_space", True, (0x9, 0xD, 0x20, 0xA0, 0x1680, 0x2000, 0x200A, 0x2028, 0x2029, 0x202F, 0x205F, 0x3000, 0xFEFF))
+    g.are_white_space("Their_neighbours_are_no_white_space", False,
+                      (0x8, 0xE, 0x1F, 0x21, 0x85, 0x9F, 0xA1, 0x167F, 0x1681, 0x180E, 0x1FFF, 0x200B, 0x2027, 0x202A, 0x202E, 0x2030, 0x205E, 0x2060, 0x2FFF, 0x3001, 0xFEFE, 0xFF00))
+    g.holds("An_exact_name_is_no_prefix", '{"patternProperties":{"^a$":false}}', '{"ab":1}')
+    g.holds("Alternatives_are_no_prefixes", '{"patternProperties":{"^(a|b)$":false}}', '{"ab":1}')
+    once = g.schema("slow_false", '{"patternProperties":{"(slow)a":false}}')
+    for name, member in (("An_unfinished_match_of_the_text_itself_counts", "a"), ("An_unfinished_match_inside_a_name_counts", "ba")):
+        g.fails_under(name, "true", once, {member: 1}, ["False schema does not allow 1 @ /%s, /patternProperties/(slow)a" % member])
     g.holds("Two_patterns_are_both_asked", '{"patternProperties":{"^x":{},"spam$":{"type":"integer"}}}', '{"x1":"t"}')
     shut = g.schema("closed_suffix", '{"properties":{"a":{},"bspam":{}},"patternProperties":{"spam$":{}},"additionalProperties":false}')
     g.holds("Declared_and_matching_names_are_expected", shut, '{"a":1,"bspam":2}')
@@ -326,6 +366,7 @@ def branches():
             ['3 is not a multiple of 2 @ "", /then/multipleOf'])
     g.holds("Then_alone_is_unread", '{"then":5}', "1")
     g.builds("Then_alone_builds", '{"then":5}')
+    g.holds("Else_alone_is_unread", '{"else":false}', "1")
     g.fails("Each_branch_of_all_of_is_asked", '{"allOf":[{"type":"string"},true,false]}', "1",
             ['1 is not of type "string" @ "", /allOf/0/type', 'False schema does not allow 1 @ "", /allOf/2'])
     return g
@@ -342,6 +383,9 @@ def dependencies():
     g.fails("A_short_name_is_told_of_the_object", '{"propertyNames":{"minLength":2}}', '{"f":1}', ['"f" is shorter than 2 characters @ "", /propertyNames/minLength'])
     g.is_about("Its_instance_is_the_object", '{"propertyNames":{"minLength":2}}', '{"f":1}', ['{"f":1}'])
     g.fails("No_name_is_allowed", '{"propertyNames":false}', '{"foo":1}', ['False schema does not allow {"foo":1} @ "", /propertyNames'])
+    g.holds("True_allows_each_name", '{"propertyNames":true}', '{"a":1}')
+    g.holds("A_list_is_of_its_key_alone", '{"dependentRequired":{"a":["b"]}}', '{"c":1}')
+    g.holds("A_schema_is_of_its_key_alone", '{"dependencies":{"a":false}}', "{}")
     g.holds("No_names_are_none_refused", '{"propertyNames":false}', "{}")
     g.holds("A_name_is_no_object", '{"propertyNames":{"properties":{"a":false}}}', '{"a":1}')
     kind = g.schema("by_kind", '{"propertyDependencies":{"kind":{"a":{"required":["x"]},"b":false}}}')
@@ -377,6 +421,8 @@ def refusals():
         ("An_entry_of_property_dependencies_that_is_no_object", '{"propertyDependencies":{"k":5}}', '5 is not of type "object" @ "", /propertyDependencies/k'),
         ("A_schema_of_property_dependencies_that_is_none", '{"propertyDependencies":{"k":{"t/u":5}}}', '5 is not of types "boolean", "object" @ "", /propertyDependencies/k/t~1u'),
         ("A_root_that_is_no_schema", "5", '5 is not of types "boolean", "object" @ "", ""'),
+        ("The_first_of_two_items_that_are_no_texts", '{"required":[1,2]}', '1 is not of type "string" @ "", /required'),
+        ("A_name_repeated_behind_another", '{"dependentRequired":{"a":["b","c","b"]}}', '["b","c","b"] has non-unique elements @ "", /dependentRequired/a'),
     ):
         g.is_refused(n, s, [l])
     bad = [("5", '5 is not of types "boolean", "object"', "")]
@@ -401,6 +447,10 @@ def refusals():
         g.are_refused(label, pairs)
     g.builds("A_condition_alone_builds", '{"if":5}')
     g.builds("Names_that_are_neither_false_nor_an_object_build", '{"propertyNames":5}')
+    g.builds("Null_for_names_builds", '{"propertyNames":null}')
+    g.builds("A_test_that_the_matcher_refuses_builds", '{"patternProperties":{"^(a|b)$":{}}}')
+    g.builds("Else_alone_builds", '{"else":5}')
+    g.builds("A_dependency_may_list_a_name_twice", '{"dependencies":{"a":["b","b"]}}')
     return g
 
 
@@ -432,6 +482,15 @@ def costs():
     g.asks("Patterns_inside_patterns_are_asked", '{"patternProperties":{"a":{"patternProperties":{"b":{}}}}}', '{"a":{"b":1},"c":2}', 3)
     g.asks("Each_branch_may_be_asked", '{"anyOf":[true,{"patternProperties":{"x":{}}}]}', '{"x":1}', 1)
     g.asks("Each_member_asks_the_matcher", '{"patternProperties":{"(slow)x":{"type":"integer"}}}', '{"ax":"t","b":"t"}', 2)
+    open_object = g.schema("one_name_and_one_pattern", '{"properties":{"b":{}},"patternProperties":{"a":{}}}')
+    g.costs("Without_additional_properties_there_is_no_table", open_object, 3, 0, 1, 0)
+    g.asks("Without_a_table_a_declared_name_asks", open_object, '{"b":1}', 1)
+    for name, schema in (("A_negation_asks", '{"not":{"patternProperties":{"a":false}}}'), ("A_branch_of_one_of_asks", '{"oneOf":[{"patternProperties":{"a":false}}]}'),
+                         ("A_condition_asks", '{"if":{"patternProperties":{"a":false}},"then":true}')):
+        g.asks(name, schema, '{"b":1}', 1)
+    g.costs("A_member_and_its_leaf_are_counted", '{"properties":{"a":{"type":"integer"}}}', 2, 1, 0, 0)
+    g.costs("Else_alone_is_not_compiled", '{"else":false}', 1, 0, 0, 0)
+    g.costs("A_schema_of_a_dependency_is_compiled", '{"dependencies":{"a":false}}', 2, 0, 0, 0)
     names = {"m%02d" % i: {} for i in range(65)}
     wide = g.schema("patterns_65", {"additionalProperties": False, "properties": {"m64": {}}, "patternProperties": names})
     wider = g.schema("patterns_66", {"additionalProperties": False, "properties": {"m64": {}}, "patternProperties": {"(slow)m64": False, **names}})
@@ -472,11 +531,123 @@ def evaluation():
     g.has_nodes("A_condition_that_holds_is_shown", '{"if":true,"then":true,"else":false}', "1", '""(/if(/if)(/then))')
     g.has_nodes("A_condition_that_fails_is_not_shown", '{"if":false,"then":false,"else":true}', "1", '""(/if(/else))')
     g.has_nodes("A_schema_chosen_by_a_text_is_shown", '{"propertyDependencies":{"k":{"a":true,"b":false}}}', '{"k":"a"}', '""(/propertyDependencies(/propertyDependencies/k/a))')
+    g.evaluates("Errors_of_the_parent_come_first", '{"properties":{"a":false},"additionalProperties":false}', '{"a":1,"b":2}',
+                '{"annotations":[],"errors":[{"instancePath":"","keyword":"additionalProperties","message":"Additional properties are not allowed (\'b\' was unexpected)","schemaPath":"/additionalProperties"},'
+                '{"instancePath":"/a","keyword":"falseSchema","message":"False schema does not allow 1","schemaPath":"/properties/a"}],"valid":false}')
     nothing = '{"annotations":[],"errors":[],"valid":false}'
     g.evaluates("Any_of_none_is_invalid_without_errors", '{"anyOf":[]}', "1", nothing)
     g.evaluates("One_of_none_is_invalid_without_errors", '{"oneOf":[]}', "1", nothing)
     g.evaluates("A_false_schema_is_an_error_of_its_place", '{"properties":{"a":false}}', '{"a":1}',
                 '{"annotations":[],"errors":[{"instancePath":"/a","keyword":"falseSchema","message":"False schema does not allow 1","schemaPath":"/properties/a"}],"valid":false}')
+    return g
+
+
+# ---- evaluation trees, whole
+
+
+def trees():
+    g = Group("Rows_trees", "Whole evaluation trees: paths, validity, names, errors and children of each node.")
+
+    def required(*names):
+        return "".join(' error required: "%s" is a required property' % n for n in names)
+
+    false = " error falseSchema: False schema does not allow 1"
+    for name, schema, value, tree in (
+        ("Two_equal_required_names_are_not_fused", '{"properties":{},"required":["a","a"]}', "{}",
+         '"" @ "" invalid(/properties @ "" names [])(/required @ "" invalid' + required("a", "a") + ")"),
+        ("Beside_patterns_two_names_are_not_fused", '{"properties":{},"patternProperties":{},"required":["a","b"]}', "{}",
+         '"" @ "" invalid(/patternProperties @ "" names [])(/properties @ "" names [])(/required @ "" invalid' + required("a", "b") + ")"),
+        ("Beside_an_additional_schema_one_name_is_not_fused", '{"properties":{},"additionalProperties":{},"required":["a"]}', "{}",
+         '"" @ "" invalid(/additionalProperties @ "")(/required @ "" invalid' + required("a") + ")"),
+        ("In_a_closed_object_two_names_are_not_fused", '{"properties":{},"additionalProperties":false,"required":["a","b"]}', "{}",
+         '"" @ "" invalid(/additionalProperties @ "")(/required @ "" invalid' + required("a", "b") + ")"),
+        ("Two_fused_names_are_shown_inside", '{"properties":{},"required":["a","b"]}', "{}",
+         '"" @ "" invalid(/properties @ "" invalid(/required @ "" invalid' + required("a", "b") + "))"),
+        ("One_fused_name_is_shown_inside", '{"properties":{},"additionalProperties":false,"required":["a"]}', "{}",
+         '"" @ "" invalid(/additionalProperties @ "" invalid(/required @ "" invalid' + required("a") + "))"),
+        ("A_declared_name_shows_its_patterns_too", '{"properties":{"a":{}},"patternProperties":{"^a":{}},"additionalProperties":false}', '{"a":1}',
+         '"" @ ""(/additionalProperties @ ""(/properties/a @ /a)(/patternProperties/^a @ /a))'),
+        ("Beside_declared_names_matches_have_no_child", '{"properties":{},"patternProperties":{"^a":{}},"additionalProperties":false}', '{"a":1}',
+         '"" @ ""(/additionalProperties @ ""(/patternProperties/^a @ /a))'),
+        ("Without_a_match_there_is_no_child_of_matches", '{"patternProperties":{},"additionalProperties":{}}', "{}", '"" @ ""(/additionalProperties @ "")'),
+        ("The_child_of_matches_goes_member_by_member", '{"patternProperties":{"^a":{},"^ab":{}},"additionalProperties":{}}', '{"ab":1,"ac":2}',
+         '"" @ ""(/additionalProperties @ ""(/patternProperties/^a @ /ab)(/patternProperties/^ab @ /ab)(/patternProperties/^a @ /ac)(/patternProperties @ "" names ["ab","ab","ac"]))'),
+        ("A_matching_name_is_not_additional", '{"patternProperties":{"^a":{}},"additionalProperties":false}', '{"a":1}',
+         '"" @ ""(/additionalProperties @ ""(/patternProperties/^a @ /a)(/patternProperties @ "" names ["a"]))'),
+        ("Alone_an_additional_schema_shows_even_no_names", '{"additionalProperties":{}}', "{}", '"" @ ""(/additionalProperties @ "" names [])'),
+        ("Beside_declared_names_no_additional_names_are_not_shown", '{"properties":{},"additionalProperties":{}}', "{}", '"" @ ""(/additionalProperties @ "")'),
+        ("Of_another_value_no_names_are_shown", '{"properties":{}}', "1", '"" @ ""(/properties @ "")'),
+        ("Undeclared_names_are_not_shown", '{"properties":{}}', '{"a":1}', '"" @ ""(/properties @ "" names [])'),
+        ("Names_are_shown_pattern_by_pattern", '{"patternProperties":{"^a":{},"^ab":{}}}', '{"ab":1,"ac":2}',
+         '"" @ ""(/patternProperties @ "" names ["ab","ac","ab"](/patternProperties/^a @ /ab)(/patternProperties/^a @ /ac)(/patternProperties/^ab @ /ab))'),
+        ("A_choice_that_fails_shows_all_branches", '{"anyOf":[false]}', "1", '"" @ "" invalid(/anyOf @ "" invalid(/anyOf/0 @ "" invalid' + false + "))"),
+        ("Of_no_accepting_branch_all_are_shown", '{"oneOf":[false]}', "1", '"" @ "" invalid(/oneOf @ "" invalid(/oneOf/0 @ "" invalid' + false + "))"),
+        ("Of_too_many_branches_the_accepting_are_shown", '{"oneOf":[true,true,false]}', "1",
+         '"" @ "" invalid(/oneOf @ "" invalid error oneOf: more than one subschema succeeded(/oneOf/0 @ "")(/oneOf/1 @ ""))'),
+        ("A_dependent_list_stands_at_its_keyword", '{"dependentRequired":{"a":[]}}', '{"a":1}', '"" @ ""(/dependentRequired @ ""(/dependentRequired @ ""))'),
+        ("A_missing_dependent_name_stands_at_its_keyword", '{"dependentRequired":{"a":["b"]}}', '{"a":1}',
+         '"" @ "" invalid(/dependentRequired @ "" invalid(/dependentRequired @ "" invalid' + required("b") + "))"),
+        ("A_list_of_a_dependency_stands_at_its_keyword", '{"dependencies":{"a":[]}}', '{"a":1}', '"" @ ""(/dependencies @ ""(/dependencies @ ""))'),
+        ("The_tree_of_a_name_stands_at_the_object", '{"propertyNames":{}}', '{"a":1}', '"" @ ""(/propertyNames @ ""(/propertyNames @ ""))'),
+        ("The_error_of_a_name_stands_at_the_object", '{"propertyNames":{"minLength":1}}', '{"":1}',
+         '"" @ "" invalid(/propertyNames @ "" invalid(/propertyNames @ "" invalid(/propertyNames/minLength @ "" invalid error minLength: "" is shorter than 1 characters)))'),
+        ("True_for_names_is_not_shown", '{"propertyNames":true}', '{"a":1}', '"" @ ""'),
+        ("A_condition_that_refuses_is_not_shown", '{"if":false,"else":true}', "1", '"" @ ""(/if @ ""(/else @ ""))'),
+        ("Else_alone_is_not_shown", '{"else":false}', "1", '"" @ ""'),
+        ("An_invalid_node_shows_no_names", '{"properties":{"a":false}}', '{"a":1}', '"" @ "" invalid(/properties @ "" invalid(/properties/a @ /a invalid' + false + "))"),
+        ("The_error_of_a_leaf_has_its_keyword", '{"minimum":5}', "1", '"" @ "" invalid(/minimum @ "" invalid error minimum: 1 is less than the minimum of 5)'),
+        ("The_error_of_a_negation_has_its_keyword", '{"not":true}', "1", '"" @ "" invalid(/not @ "" invalid error not: true is not allowed for 1)'),
+        ("The_error_of_unexpected_names_has_their_keyword", '{"properties":{},"additionalProperties":false}', '{"a":1}',
+         '"" @ "" invalid(/additionalProperties @ "" invalid error additionalProperties: Additional properties are not allowed (\'a\' was unexpected))'),
+        ("A_negation_of_a_fraction_promises_no_text", '{"not":{"title":1.5}}', "1", '"" @ "" invalid(/not @ "" invalid error not: ~)'),
+        ("A_false_schema_over_a_fraction_promises_no_text", "false", "1.5", '"" @ "" invalid error falseSchema: ~'),
+    ):
+        g.has_tree(name, schema, value, tree)
+    return g
+
+
+# ---- kinds and instances
+
+
+def faults():
+    g = Group("Rows_faults", "Faults and malformations with their kinds and instances, and the contexts of `oneOf`.")
+    none, many = g.schema("one_of_false", '{"oneOf":[false]}'), g.schema("one_of_three", '{"oneOf":[true,true,false]}')
+    g.fails("Where_no_branch_accepts_each_tells_what_it_finds", none, "1",
+            ["1 is not valid under any of the schemas listed in the 'oneOf' keyword @ \"\", /oneOf [{False schema does not allow 1 @ \"\", /oneOf/0;}]"])
+    g.fails("Where_too_many_accept_each_tells_what_it_finds", many, "1",
+            ["1 is valid under more than one of the schemas listed in the 'oneOf' keyword @ \"\", /oneOf [{}{}{False schema does not allow 1 @ \"\", /oneOf/2;}]"])
+    shut = g.schema("closed", '{"properties":{},"additionalProperties":false}')
+    g.cuts_to("The_first_of_two_unexpected_names_is_kept", shut, '{"a":1,"b":2}', ["Additional properties are not allowed ('a' was unexpected) @ \"\", /additionalProperties"])
+    g.fails("Beside_patterns_names_are_told", '{"patternProperties":{},"additionalProperties":false}', '{"a":1}',
+            ["Additional properties are not allowed ('a' was unexpected) @ \"\", /additionalProperties"])
+    for name, schema, value, line in (
+        ("No_accepting_branch", none, "1", 'OneOfNotValid of 1 @ "", /oneOf'),
+        ("Too_many_accepting_branches", many, "1", 'OneOfMultipleValid of 1 @ "", /oneOf'),
+        ("No_choice", '{"anyOf":[false]}', "1", 'AnyOf of 1 @ "", /anyOf'),
+        ("A_negation", '{"not":true}', "1", 'Not of 1 @ "", /not'),
+        ("A_name_keeps_the_fault_inside", '{"propertyNames":{"minLength":1}}', '{"":1}', 'PropertyNames of {"":1} @ "", /propertyNames/minLength {Leaf of "" @ "", /propertyNames/minLength}'),
+        ("A_fault_inside_is_of_the_name", '{"propertyNames":{"not":true}}', '{"a":1}', 'PropertyNames of {"a":1} @ "", /propertyNames/not {Not of "a" @ "", /propertyNames/not}'),
+        ("Names_that_are_refused_are_told_of_the_object", '{"propertyNames":false}', '{"a":1}', 'FalseSchema of {"a":1} @ "", /propertyNames'),
+        ("Alone_it_is_told_at_the_object", '{"additionalProperties":false}', '{"a":1}', 'FalseSchema of 1 @ "", /additionalProperties'),
+        ("A_false_member", '{"properties":{"a":false}}', '{"a":1}', 'FalseSchema of 1 @ /a, /properties/a'),
+        ("An_unexpected_name_beside_patterns", '{"patternProperties":{},"additionalProperties":false}', '{"a":1}', 'AdditionalProperties of {"a":1} @ "", /additionalProperties'),
+        ("Two_unexpected_names_are_one_fault", shut, '{"a":1,"b":2}', 'AdditionalProperties of {"a":1,"b":2} @ "", /additionalProperties'),
+        ("A_dependent_name_is_told_at_the_keyword", '{"dependentRequired":{"a":["b"]}}', '{"a":1}', 'Required of {"a":1} @ "", /dependentRequired'),
+        ("A_name_of_a_dependency_is_told_at_the_keyword", '{"dependencies":{"a":["b"]}}', '{"a":1}', 'Required of {"a":1} @ "", /dependencies'),
+        ("A_required_name_is_told_of_the_object", '{"required":["a"]}', "{}", 'Required of {} @ "", /required'),
+        ("A_leaf_is_told_of_the_value", '{"minimum":5}', "1", 'Leaf of 1 @ "", /minimum'),
+    ):
+        g.tells(name, schema, value, [line])
+    for name, schema, line in (
+        ("A_name_that_is_refused", '{"$ref":1}', 'Unsupported of 1 @ "", /$ref'),
+        ("An_item_that_is_no_text", '{"required":[1,2]}', 'SingleType of 1 @ "", /required'),
+        ("A_repeated_text", '{"dependentRequired":{"a":["b","c","b"]}}', 'UniqueItems of ["b","c","b"] @ "", /dependentRequired/a'),
+        ("A_pattern_that_is_refused", '{"patternProperties":{"a(":{}}}', 'Regex of "a(" @ "", /patternProperties/a('),
+        ("A_value_that_a_leaf_refuses", '{"type":5}', 'LeafRefused of 5 @ "", /type'),
+        ("A_value_that_is_no_schema", '{"not":5}', 'MultipleTypes of 5 @ "", /not'),
+        ("Declared_names_in_a_list", '{"properties":[]}', 'SingleType of [] @ "", /properties'),
+    ):
+        g.is_refused_as(name, schema, [line])
     return g
 
 
@@ -516,6 +687,9 @@ def bench():
     g.holds("An_unknown_keyword_is_ignored", '{"enum":[]}', "1")
     for n, p in (("A_class", "[a-z]"), ("A_slow_nothing", "(slow)"), ("A_slow_anchor", "(slow)^a"), ("An_empty_pattern", ""), ("Two_anchors", "^$")):
         g.is_refused(n + "_is_refused", {"patternProperties": {p: {}}}, ['"%s" is not a "regex" @ "", /patternProperties/%s' % (p, p)])
+    g.says_of("The_end_is_not_the_start", "a$", "ab", "unmatched", "unmatched")
+    g.says_of("The_end_is_the_end", "a$", "ba", "matched", "matched")
+    g.says_of("A_test_needs_no_matcher", "^(a|b)$", "b", "unmatched", "matched")
     g.fails("A_body_stands_anywhere", '{"patternProperties":{"b":false}}', '{"abc":1,"ac":2}', ["False schema does not allow 1 @ /abc, /patternProperties/b"])
     g.fails("An_escaped_body_stands_anywhere", '{"patternProperties":{"\\\\.":false}}', '{"a.c":1,"abc":2}', ["False schema does not allow 1 @ /a.c, /patternProperties/\\."])
     return g
@@ -632,5 +806,5 @@ def refused_patterns():
 
 
 if __name__ == "__main__":
-    for group in (properties(), patterns(), branches(), dependencies(), refusals(), costs(), evaluation(), bench(), names(), members(), refused_patterns()):
+    for group in (properties(), patterns(), branches(), dependencies(), refusals(), costs(), evaluation(), trees(), faults(), bench(), names(), members(), refused_patterns()):
         group.write()

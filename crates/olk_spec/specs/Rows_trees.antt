@@ -1,0 +1,104 @@
+-- Whole evaluation trees: paths, validity, names, errors and children of each node.
+use Rattle.olk_spec.specs.Forms.{Has_tree}
+
+abbrev pub Two_equal_required_names_are_not_fused : Type 0
+Two_equal_required_names_are_not_fused = Has_tree "{\"properties\":{},\"required\":[\"a\",\"a\"]}" "{}" "\"\" @ \"\" invalid(/properties @ \"\" names [])(/required @ \"\" invalid error required: \"a\" is a required property error required: \"a\" is a required property)"
+
+abbrev pub Beside_patterns_two_names_are_not_fused : Type 0
+Beside_patterns_two_names_are_not_fused = Has_tree "{\"properties\":{},\"patternProperties\":{},\"required\":[\"a\",\"b\"]}" "{}" "\"\" @ \"\" invalid(/patternProperties @ \"\" names [])(/properties @ \"\" names [])(/required @ \"\" invalid error required: \"a\" is a required property error required: \"b\" is a required property)"
+
+abbrev pub Beside_an_additional_schema_one_name_is_not_fused : Type 0
+Beside_an_additional_schema_one_name_is_not_fused = Has_tree "{\"properties\":{},\"additionalProperties\":{},\"required\":[\"a\"]}" "{}" "\"\" @ \"\" invalid(/additionalProperties @ \"\")(/required @ \"\" invalid error required: \"a\" is a required property)"
+
+abbrev pub In_a_closed_object_two_names_are_not_fused : Type 0
+In_a_closed_object_two_names_are_not_fused = Has_tree "{\"properties\":{},\"additionalProperties\":false,\"required\":[\"a\",\"b\"]}" "{}" "\"\" @ \"\" invalid(/additionalProperties @ \"\")(/required @ \"\" invalid error required: \"a\" is a required property error required: \"b\" is a required property)"
+
+abbrev pub Two_fused_names_are_shown_inside : Type 0
+Two_fused_names_are_shown_inside = Has_tree "{\"properties\":{},\"required\":[\"a\",\"b\"]}" "{}" "\"\" @ \"\" invalid(/properties @ \"\" invalid(/required @ \"\" invalid error required: \"a\" is a required property error required: \"b\" is a required property))"
+
+abbrev pub One_fused_name_is_shown_inside : Type 0
+One_fused_name_is_shown_inside = Has_tree "{\"properties\":{},\"additionalProperties\":false,\"required\":[\"a\"]}" "{}" "\"\" @ \"\" invalid(/additionalProperties @ \"\" invalid(/required @ \"\" invalid error required: \"a\" is a required property))"
+
+abbrev pub A_declared_name_shows_its_patterns_too : Type 0
+A_declared_name_shows_its_patterns_too = Has_tree "{\"properties\":{\"a\":{}},\"patternProperties\":{\"^a\":{}},\"additionalProperties\":false}" "{\"a\":1}" "\"\" @ \"\"(/additionalProperties @ \"\"(/properties/a @ /a)(/patternProperties/^a @ /a))"
+
+abbrev pub Beside_declared_names_matches_have_no_child : Type 0
+Beside_declared_names_matches_have_no_child = Has_tree "{\"properties\":{},\"patternProperties\":{\"^a\":{}},\"additionalProperties\":false}" "{\"a\":1}" "\"\" @ \"\"(/additionalProperties @ \"\"(/patternProperties/^a @ /a))"
+
+abbrev pub Without_a_match_there_is_no_child_of_matches : Type 0
+Without_a_match_there_is_no_child_of_matches = Has_tree "{\"patternProperties\":{},\"additionalProperties\":{}}" "{}" "\"\" @ \"\"(/additionalProperties @ \"\")"
+
+abbrev pub The_child_of_matches_goes_member_by_member : Type 0
+The_child_of_matches_goes_member_by_member = Has_tree "{\"patternProperties\":{\"^a\":{},\"^ab\":{}},\"additionalProperties\":{}}" "{\"ab\":1,\"ac\":2}" "\"\" @ \"\"(/additionalProperties @ \"\"(/patternProperties/^a @ /ab)(/patternProperties/^ab @ /ab)(/patternProperties/^a @ /ac)(/patternProperties @ \"\" names [\"ab\",\"ab\",\"ac\"]))"
+
+abbrev pub A_matching_name_is_not_additional : Type 0
+A_matching_name_is_not_additional = Has_tree "{\"patternProperties\":{\"^a\":{}},\"additionalProperties\":false}" "{\"a\":1}" "\"\" @ \"\"(/additionalProperties @ \"\"(/patternProperties/^a @ /a)(/patternProperties @ \"\" names [\"a\"]))"
+
+abbrev pub Alone_an_additional_schema_shows_even_no_names : Type 0
+Alone_an_additional_schema_shows_even_no_names = Has_tree "{\"additionalProperties\":{}}" "{}" "\"\" @ \"\"(/additionalProperties @ \"\" names [])"
+
+abbrev pub Beside_declared_names_no_additional_names_are_not_shown : Type 0
+Beside_declared_names_no_additional_names_are_not_shown = Has_tree "{\"properties\":{},\"additionalProperties\":{}}" "{}" "\"\" @ \"\"(/additionalProperties @ \"\")"
+
+abbrev pub Of_another_value_no_names_are_shown : Type 0
+Of_another_value_no_names_are_shown = Has_tree "{\"properties\":{}}" "1" "\"\" @ \"\"(/properties @ \"\")"
+
+abbrev pub Undeclared_names_are_not_shown : Type 0
+Undeclared_names_are_not_shown = Has_tree "{\"properties\":{}}" "{\"a\":1}" "\"\" @ \"\"(/properties @ \"\" names [])"
+
+abbrev pub Names_are_shown_pattern_by_pattern : Type 0
+Names_are_shown_pattern_by_pattern = Has_tree "{\"patternProperties\":{\"^a\":{},\"^ab\":{}}}" "{\"ab\":1,\"ac\":2}" "\"\" @ \"\"(/patternProperties @ \"\" names [\"ab\",\"ac\",\"ab\"](/patternProperties/^a @ /ab)(/patternProperties/^a @ /ac)(/patternProperties/^ab @ /ab))"
+
+abbrev pub A_choice_that_fails_shows_all_branches : Type 0
+A_choice_that_fails_shows_all_branches = Has_tree "{\"anyOf\":[false]}" "1" "\"\" @ \"\" invalid(/anyOf @ \"\" invalid(/anyOf/0 @ \"\" invalid error falseSchema: False schema does not allow 1))"
+
+abbrev pub Of_no_accepting_branch_all_are_shown : Type 0
+Of_no_accepting_branch_all_are_shown = Has_tree "{\"oneOf\":[false]}" "1" "\"\" @ \"\" invalid(/oneOf @ \"\" invalid(/oneOf/0 @ \"\" invalid error falseSchema: False schema does not allow 1))"
+
+abbrev pub Of_too_many_branches_the_accepting_are_shown : Type 0
+Of_too_many_branches_the_accepting_are_shown = Has_tree "{\"oneOf\":[true,true,false]}" "1" "\"\" @ \"\" invalid(/oneOf @ \"\" invalid error oneOf: more than one subschema succeeded(/oneOf/0 @ \"\")(/oneOf/1 @ \"\"))"
+
+abbrev pub A_dependent_list_stands_at_its_keyword : Type 0
+A_dependent_list_stands_at_its_keyword = Has_tree "{\"dependentRequired\":{\"a\":[]}}" "{\"a\":1}" "\"\" @ \"\"(/dependentRequired @ \"\"(/dependentRequired @ \"\"))"
+
+abbrev pub A_missing_dependent_name_stands_at_its_keyword : Type 0
+A_missing_dependent_name_stands_at_its_keyword = Has_tree "{\"dependentRequired\":{\"a\":[\"b\"]}}" "{\"a\":1}" "\"\" @ \"\" invalid(/dependentRequired @ \"\" invalid(/dependentRequired @ \"\" invalid error required: \"b\" is a required property))"
+
+abbrev pub A_list_of_a_dependency_stands_at_its_keyword : Type 0
+A_list_of_a_dependency_stands_at_its_keyword = Has_tree "{\"dependencies\":{\"a\":[]}}" "{\"a\":1}" "\"\" @ \"\"(/dependencies @ \"\"(/dependencies @ \"\"))"
+
+abbrev pub The_tree_of_a_name_stands_at_the_object : Type 0
+The_tree_of_a_name_stands_at_the_object = Has_tree "{\"propertyNames\":{}}" "{\"a\":1}" "\"\" @ \"\"(/propertyNames @ \"\"(/propertyNames @ \"\"))"
+
+abbrev pub The_error_of_a_name_stands_at_the_object : Type 0
+The_error_of_a_name_stands_at_the_object = Has_tree "{\"propertyNames\":{\"minLength\":1}}" "{\"\":1}" "\"\" @ \"\" invalid(/propertyNames @ \"\" invalid(/propertyNames @ \"\" invalid(/propertyNames/minLength @ \"\" invalid error minLength: \"\" is shorter than 1 characters)))"
+
+abbrev pub True_for_names_is_not_shown : Type 0
+True_for_names_is_not_shown = Has_tree "{\"propertyNames\":true}" "{\"a\":1}" "\"\" @ \"\""
+
+abbrev pub A_condition_that_refuses_is_not_shown : Type 0
+A_condition_that_refuses_is_not_shown = Has_tree "{\"if\":false,\"else\":true}" "1" "\"\" @ \"\"(/if @ \"\"(/else @ \"\"))"
+
+abbrev pub Else_alone_is_not_shown : Type 0
+Else_alone_is_not_shown = Has_tree "{\"else\":false}" "1" "\"\" @ \"\""
+
+abbrev pub An_invalid_node_shows_no_names : Type 0
+An_invalid_node_shows_no_names = Has_tree "{\"properties\":{\"a\":false}}" "{\"a\":1}" "\"\" @ \"\" invalid(/properties @ \"\" invalid(/properties/a @ /a invalid error falseSchema: False schema does not allow 1))"
+
+abbrev pub The_error_of_a_leaf_has_its_keyword : Type 0
+The_error_of_a_leaf_has_its_keyword = Has_tree "{\"minimum\":5}" "1" "\"\" @ \"\" invalid(/minimum @ \"\" invalid error minimum: 1 is less than the minimum of 5)"
+
+abbrev pub The_error_of_a_negation_has_its_keyword : Type 0
+The_error_of_a_negation_has_its_keyword = Has_tree "{\"not\":true}" "1" "\"\" @ \"\" invalid(/not @ \"\" invalid error not: true is not allowed for 1)"
+
+abbrev pub The_error_of_unexpected_names_has_their_keyword : Type 0
+The_error_of_unexpected_names_has_their_keyword = Has_tree "{\"properties\":{},\"additionalProperties\":false}" "{\"a\":1}" "\"\" @ \"\" invalid(/additionalProperties @ \"\" invalid error additionalProperties: Additional properties are not allowed ('a' was unexpected))"
+
+abbrev pub A_negation_of_a_fraction_promises_no_text : Type 0
+A_negation_of_a_fraction_promises_no_text = Has_tree "{\"not\":{\"title\":1.5}}" "1" "\"\" @ \"\" invalid(/not @ \"\" invalid error not: ~)"
+
+abbrev pub A_false_schema_over_a_fraction_promises_no_text : Type 0
+A_false_schema_over_a_fraction_promises_no_text = Has_tree "false" "1.5" "\"\" @ \"\" invalid error falseSchema: ~"
+
+abbrev pub Rows_trees : Type 0
+Rows_trees = Two_equal_required_names_are_not_fused × Beside_patterns_two_names_are_not_fused × Beside_an_additional_schema_one_name_is_not_fused × In_a_closed_object_two_names_are_not_fused × Two_fused_names_are_shown_inside × One_fused_name_is_shown_inside × A_declared_name_shows_its_patterns_too × Beside_declared_names_matches_have_no_child × Without_a_match_there_is_no_child_of_matches × The_child_of_matches_goes_member_by_member × A_matching_name_is_not_additional × Alone_an_additional_schema_shows_even_no_names × Beside_declared_names_no_additional_names_are_not_shown × Of_another_value_no_names_are_shown × Undeclared_names_are_not_shown × Names_are_shown_pattern_by_pattern × A_choice_that_fails_shows_all_branches × Of_no_accepting_branch_all_are_shown × Of_too_many_branches_the_accepting_are_shown × A_dependent_list_stands_at_its_keyword × A_missing_dependent_name_stands_at_its_keyword × A_list_of_a_dependency_stands_at_its_keyword × The_tree_of_a_name_stands_at_the_object × The_error_of_a_name_stands_at_the_object × True_for_names_is_not_shown × A_condition_that_refuses_is_not_shown × Else_alone_is_not_shown × An_invalid_node_shows_no_names × The_error_of_a_leaf_has_its_keyword × The_error_of_a_negation_has_its_keyword × The_error_of_unexpected_names_has_their_keyword × A_negation_of_a_fraction_promises_no_text × A_false_schema_over_a_fraction_promises_no_text
