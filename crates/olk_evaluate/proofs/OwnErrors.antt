@@ -10,18 +10,18 @@ use Rattle.olk_spec.specs.Names.{Name, Text, Path, is_empty, put_if}
 use Rattle.olk_spec.specs.Faults.{Fault, Kind, fault, Leaf, Required}
 use Rattle.olk_spec.specs.Tree.{Tree, IsLikeTree, AreTold, Described, described, described_fault, leaf_node, is_valid, erring, no_tree}
 use Rattle.serde_json.specs.Find.{as_object}
-use Rattle.olk_check.proofs.Lookups.{lacks_nothing}
+use Rattle.olk_check.proofs.Missing.{lacks_nothing}
 use Rattle.olk_spec.specs.Schemas.{has}
 use Rattle.olk_spec.specs.Accepts.{missing}
 use Rattle.olk_tree.specs.Answers.{texts_of}
 use Rattle.olk_reports.specs.Evaluations.{Shown, shown, errored, node_at}
-use Rattle.olk_evaluate.specs.Wanted.{AreShown, refused, lacking_trees, HasErrors, HasTexts, IsTold}
+use Rattle.olk_evaluate.specs.Wanted.{AreShown, refused, lacking_trees, HasErrors, HasTexts, IsDescribedBy}
 use Rattle.olk_evaluate.proofs.Children.{like_result, valid_shown}
 
 pub no_error : {s : Shown} → s ≡ shown true None [] [] → HasErrors [] s
 no_error e = record { own = []; is = e; told = tt }
 
-told_more : (fs : List Fault) (ds : List Described) (f : Fault) (d : Described) → AreTold (described fs) ds → IsTold f d → AreTold (described (fs ++ f ∷ [])) (ds ++ d ∷ [])
+told_more : (fs : List Fault) (ds : List Described) (f : Fault) (d : Described) → AreTold (described fs) ds → IsDescribedBy f d → AreTold (described (fs ++ f ∷ [])) (ds ++ d ∷ [])
 told_more [] [] f d h t = (t.keyword, t.text, tt)
 told_more [] (e ∷ ds) f d h t = absurd h
 told_more (g ∷ fs) [] f d h t = absurd h
@@ -32,15 +32,15 @@ some_error [] f = refl
 some_error (g ∷ fs) f = refl
 
 -- the places of a fault are not shown
-placed : {k : Kind} {v : Data} {P Q R S : Path} {d : Described} → IsTold (fault k v Q P) d → IsTold (fault k v S R) d
+placed : {k : Kind} {v : Data} {P Q R S : Path} {d : Described} → IsDescribedBy (fault k v Q P) d → IsDescribedBy (fault k v S R) d
 placed t = record { keyword = t.keyword; text = t.text }
 
 -- one error more, at any places
-pub marked : (R S : Path) {before : List Fault} {k : Kind} {v : Data} {P Q : Path} {g : Fault} {d : Described} {s r : Shown} → HasErrors before s → IsTold g d → g ≡ fault k v Q P → r ≡ errored d s → HasErrors (before ++ fault k v S R ∷ []) r
+pub marked : (R S : Path) {before : List Fault} {k : Kind} {v : Data} {P Q : Path} {g : Fault} {d : Described} {s r : Shown} → HasErrors before s → IsDescribedBy g d → g ≡ fault k v Q P → r ≡ errored d s → HasErrors (before ++ fault k v S R ∷ []) r
 marked R S {before} {k} {v} {P} {Q} {g} {d} {s} {r} h t same e = record {
   own = h.own ++ d ∷ [];
   is = e ∙ ap (errored d) h.is ∙ ap (λ b. shown b None (h.own ++ d ∷ []) []) (sym (some_error before (fault k v S R)));
-  told = told_more before h.own (fault k v S R) d h.told (placed {P = P} {Q = Q} {R = R} {S = S} (subst (λ f. IsTold f d) same t));
+  told = told_more before h.own (fault k v S R) d h.told (placed {P = P} {Q = Q} {R = R} {S = S} (subst (λ f. IsDescribedBy f d) same t));
 }
 
 -- ---- the tree of own errors

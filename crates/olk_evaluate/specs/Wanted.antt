@@ -27,7 +27,7 @@ abbrev pub trees_of : List EvaluationNode → List Tree
 trees_of = map tree_of
 
 -- the error that shows a fault; a text that prints a fraction may be any text
-pub record IsTold (f : Fault) (d : Described) : Type 0 where
+pub record IsDescribedBy (f : Fault) (d : Described) : Type 0 where
   pub keyword : d.0 ≡ (described_fault f).0
   pub text : (described_fault f).2 ≡ false → d.1 ≡ (described_fault f).1
 

@@ -2,6 +2,7 @@
 ghost use Rattle.std.specs.Prelude.{◌≡◌, IfOk};
 ghost use Rattle.olk_base.specs.Nodes.{data_of};
 ghost use Rattle.olk_spec.specs.Names.{those};
+ghost use Rattle.olk_check.specs.Asks.{OnlyAsks};
 ghost use Rattle.olk_evaluate.specs.Wanted.{AreShown, each_wanted, trees_of};
 
 use crate::walk::{child, each_child};
@@ -25,7 +26,8 @@ impl<N> Located for AnyOf<N> {
 impl<'a, N: Evaluate<'a>> Evaluate<'a> for AnyOf<N> {
     ghost use Rattle.olk_tree.specs.Shown.{any_of_tree};
 
-    ghost shows = { λ k u v Q. any_of_tree (λ n. N.shows n u) v Q (λ n. (N.means n v).accepts u) k.location k.schemas.items };
+    ghost tree = { λ k u v Q. any_of_tree (λ n. N.tree n u) v Q (λ n. (N.means n v).accepts u)
+        k.location k.schemas.items };
 
     fn evaluate(
         &'a self,
@@ -34,9 +36,9 @@ impl<'a, N: Evaluate<'a>> Evaluate<'a> for AnyOf<N> {
         path: &mut InstancePath,
         ctx: &mut ValidationContext,
     ) -> Result<EvaluationResult<'a>, AllocError> {
-        let accepting = accepting_children(&self.schemas, alloc, node, path, ctx)?;
+        let accepting = accepting_children(alloc, &self.schemas, node, path, ctx)?;
         if accepting.is_empty() {
-            let children = each_child(&self.schemas, alloc, node, path, ctx)?;
+            let children = each_child(alloc, &self.schemas, node, path, ctx)?;
             return Ok(EvaluationResult::invalid_with(alloc, children));
         }
         Ok(EvaluationResult::from_children(alloc, accepting))
@@ -56,7 +58,8 @@ impl<'a, N: Evaluate<'a>> Evaluate<'a> for SingleAnyOf<N> {
     ghost use Rattle.std.specs.Prelude.{[], ◌∷◌};
     ghost use Rattle.olk_tree.specs.Shown.{any_of_tree};
 
-    ghost shows = { λ k u v Q. any_of_tree (λ n. N.shows n u) v Q (λ n. (N.means n v).accepts u) k.location (k.node ∷ []) };
+    ghost tree = { λ k u v Q. any_of_tree (λ n. N.tree n u) v Q (λ n. (N.means n v).accepts u)
+        k.location (k.node ∷ []) };
 
     fn evaluate(
         &'a self,
@@ -65,26 +68,29 @@ impl<'a, N: Evaluate<'a>> Evaluate<'a> for SingleAnyOf<N> {
         path: &mut InstancePath,
         ctx: &mut ValidationContext,
     ) -> Result<EvaluationResult<'a>, AllocError> {
-        Ok(EvaluationResult::from_node(alloc, child(&self.node, alloc, node, path, ctx)?)?)
+        Ok(EvaluationResult::from_node(alloc, child(alloc, &self.node, node, path, ctx)?)?)
     }
 }
 
 // What each branch shows that accepts; nothing is built for the others.
 fn accepting_children<'a, N: Evaluate<'a>>(
-    schemas: &'a Vec<N>,
     alloc: Global,
+    schemas: &'a Vec<N>,
     node: Node<'a>,
     path: &mut InstancePath,
     ctx: &mut ValidationContext,
 ) -> Result<Vec<EvaluationNode<'a>>, AllocError>
-    ensures shown { IfOk result (λ cs. AreShown (those (λ w. w.1) (each_wanted N.shows N.means ctx.old.answer schemas.now.items (data_of node.entry) path.old)) (trees_of cs.items)) }
+    ensures shown { IfOk result (λ cs. AreShown
+        (those (λ w. w.1)
+        (each_wanted N.tree N.means ctx.old.answer schemas.now.items (data_of node.entry) path.old))
+        (trees_of cs.items)) }
     ensures path { path.new ≡ path.old }
-    ensures answer { ctx.new.answer ≡ ctx.old.answer }
+    ensures context { OnlyAsks ctx.old ctx.new }
 {
     let mut children = Vec::new(alloc);
     for schema in schemas {
         if schema.is_valid(node, ctx) {
-            children.push(child(schema, alloc, node, path, ctx)?)?;
+            children.push(child(alloc, schema, node, path, ctx)?)?;
         }
     }
     Ok(children)

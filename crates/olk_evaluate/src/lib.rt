@@ -27,14 +27,19 @@ pub trait Evaluate<'a>: Located + IsValid {
     ghost use Rattle.olk_spec.specs.Names.{Path};
     ghost use Rattle.olk_spec.specs.Tree.{Tree, IsLikeTree, is_valid};
     ghost use Rattle.olk_reports.specs.Evaluations.{node_at, shown_of};
+    ghost use Rattle.olk_check.specs.Asks.{OnlyAsks};
 
     // the tree that it shows of a value, with either answer for unfinished matches
-    ghost shows: { Self → Bool → Data → Path → Tree };
+    ghost tree: { Self → Bool → Data → Path → Tree };
 
     /// What it shows of the node: the validity, an annotation, errors of its own and the nodes below, in order
     /// (JSON Schema 2020-12 Core, 7.7 and 12).
     ///
-    /// The path is left as it was, and the context keeps its answer. The only error is want of memory.
+    /// The path is left as it was, the context keeps its answer, and of the counts only those of asking rise.
+    ///
+    /// # Errors
+    ///
+    /// Want of memory.
     fn evaluate(
         &'a self,
         alloc: Global,
@@ -42,19 +47,24 @@ pub trait Evaluate<'a>: Located + IsValid {
         path: &mut InstancePath,
         ctx: &mut ValidationContext,
     ) -> Result<EvaluationResult<'a>, AllocError>
-        ensures shows { IfOk result (λ r. IsLikeTree (shows self.now ctx.old.answer (data_of node.entry) path.old) (node_at (Self.place self.now) path.old (shown_of r))) }
-        ensures verdict { IfOk result (λ r. is_valid (node_at (Self.place self.now) path.old (shown_of r)) ≡ (Self.means self.now (data_of node.entry)).accepts ctx.old.answer) }
+        ensures tree { IfOk result (λ r. IsLikeTree
+            (tree self.now ctx.old.answer (data_of node.entry) path.old)
+            (node_at (Self.place self.now) path.old (shown_of r))) }
+        ensures verdict { IfOk result (λ r.
+            is_valid (node_at (Self.place self.now) path.old (shown_of r))
+            ≡ (Self.means self.now (data_of node.entry)).accepts ctx.old.answer) }
         ensures path { path.new ≡ path.old }
-        ensures answer { ctx.new.answer ≡ ctx.old.answer };
+        ensures context { OnlyAsks ctx.old ctx.new };
 }
 
 mod all_of;
 mod any_of;
-pub mod node;
+mod node;
 mod not;
 mod own;
 mod properties;
 mod required;
 mod walk;
 
+pub use node::evaluate_body;
 pub use walk::child;

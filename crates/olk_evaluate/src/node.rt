@@ -4,6 +4,7 @@ ghost use Rattle.olk_base.specs.Nodes.{data_of};
 ghost use Rattle.olk_spec.specs.Tree.{IsLikeTree, is_valid};
 ghost use Rattle.olk_reports.specs.Evaluations.{node_at, shown_of};
 ghost use Rattle.olk_tree.specs.Answers.{body_means, body_tree};
+ghost use Rattle.olk_check.specs.Asks.{OnlyAsks};
 ghost use Rattle.olk_evaluate.specs.Wanted.{HasTexts};
 
 use crate::own::one_error;
@@ -35,14 +36,12 @@ impl<K, N> Located for KeywordOver<K, N> {
     }
 }
 
-/// What the keyword shows.
 impl<'a, K: Leaf, N: Evaluate<'a>> Evaluate<'a> for KeywordOver<K, N> {
     ghost use Rattle.olk_tree.specs.Answers.{validator_tree};
-    ghost use Rattle.olk_tree.specs.Answers.{validator_means};
 
-    ghost shows = { λ k u. validator_tree K.finds N.means K.keyword_of N.shows u k };
+    ghost tree = { λ k u. validator_tree K.finds N.means K.keyword_of N.tree u k };
 
-    #[tactic(auto, unfolding(olk_tree::specs::Answers::validator_tree, crate::specs::Keywords::keyword_place, olk_tree::specs::Answers::validator_means))]
+    #[tactic(auto, using(olk_check::proofs::Asked::only_same), unfolding(olk_tree::specs::Answers::validator_tree, crate::specs::Keywords::keyword_place, olk_tree::specs::Answers::validator_means))]
     fn evaluate(
         &'a self,
         alloc: Global,
@@ -61,18 +60,19 @@ impl<'a, K: Leaf, N: Evaluate<'a>> Evaluate<'a> for KeywordOver<K, N> {
             KeywordOver::AnyOf(keyword) => Ok(keyword.evaluate(alloc, node, path, ctx)?),
             KeywordOver::SingleAnyOf(keyword) => Ok(keyword.evaluate(alloc, node, path, ctx)?),
             KeywordOver::Not(keyword) => Ok(keyword.evaluate(alloc, node, path, ctx)?),
-            KeywordOver::Leaf(_, leaf) => Ok(leaf_errors(leaf, alloc, node)?),
+            KeywordOver::Leaf(_, leaf) => Ok(leaf_errors(alloc, leaf, node)?),
         }
     }
 }
 
 // The texts of a leaf as errors.
 fn leaf_errors<'a, K: Leaf>(
-    leaf: &'a K,
     alloc: Global,
+    leaf: &'a K,
     node: Node<'a>,
 ) -> Result<EvaluationResult<'a>, AllocError>
-    ensures { IfOk result (λ r. HasTexts (K.keyword_of leaf.now) (K.finds leaf.now (data_of node.entry)) (shown_of r)) }
+    ensures { IfOk result (λ r. HasTexts
+        (K.keyword_of leaf.now) (K.finds leaf.now (data_of node.entry)) (shown_of r)) }
 {
     let mut outcome = EvaluationResult::valid_empty(alloc);
     for text in leaf.evaluate(alloc, node)? {
@@ -83,24 +83,32 @@ fn leaf_errors<'a, K: Leaf>(
 
 /// What a body shows at its place: nothing where the schema is true, an error where it is false, and otherwise a child
 /// for each keyword.
+///
+/// # Errors
+///
+/// Want of memory.
+#[tactic(auto, using(olk_check::proofs::Asked::only_same))]
 pub fn evaluate_body<'a, W: Evaluate<'a>>(
+    alloc: Global,
     body: &'a Body<W>,
     location: &'a str,
-    alloc: Global,
     node: Node<'a>,
     path: &mut InstancePath,
     ctx: &mut ValidationContext,
 ) -> Result<EvaluationResult<'a>, AllocError>
-    ensures shows { IfOk result (λ r. IsLikeTree (body_tree (λ k. W.shows k ctx.old.answer) location.now body.now (data_of node.entry) path.old) (node_at location.now path.old (shown_of r))) }
-    ensures verdict { IfOk result (λ r. is_valid (node_at location.now path.old (shown_of r)) ≡ (body_means W.means body.now (data_of node.entry)).accepts ctx.old.answer) }
+    ensures tree { IfOk result (λ r. IsLikeTree
+        (body_tree (λ k. W.tree k ctx.old.answer) location.now body.now (data_of node.entry) path.old)
+        (node_at location.now path.old (shown_of r))) }
+    ensures verdict { IfOk result (λ r. is_valid (node_at location.now path.old (shown_of r))
+        ≡ (body_means W.means body.now (data_of node.entry)).accepts ctx.old.answer) }
     ensures path { path.new ≡ path.old }
-    ensures answer { ctx.new.answer ≡ ctx.old.answer }
+    ensures context { OnlyAsks ctx.old ctx.new }
 {
     match body {
         Body::True => Ok(EvaluationResult::valid_empty(alloc)),
         Body::False => Ok(one_error(alloc, ValidationErrorKind::FalseSchema, node)?),
         Body::Keywords(keywords) => {
-            let children = each_child(keywords, alloc, node, path, ctx)?;
+            let children = each_child(alloc, keywords, node, path, ctx)?;
             Ok(EvaluationResult::from_children(alloc, children))
         }
     }

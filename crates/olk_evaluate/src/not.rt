@@ -23,7 +23,8 @@ impl<'a, N: Evaluate<'a>> Evaluate<'a> for Not<N> {
     ghost use Rattle.olk_spec.specs.Reports.{fault_if};
     ghost use Rattle.olk_spec.specs.Tree.{erring};
 
-    ghost shows = { λ k u v Q. erring k.location Q (fault_if ((N.means k.node v).accepts u) (Refuses (view k.original)) v k.location Q) };
+    ghost tree = { λ k u v Q. erring k.location Q
+        (fault_if ((N.means k.node v).accepts u) (Refuses (view k.original)) v k.location Q) };
 
     fn evaluate(
         &'a self,

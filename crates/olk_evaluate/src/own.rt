@@ -6,7 +6,7 @@ ghost use Rattle.olk_spec.specs.Faults.{Fault, fault};
 ghost use Rattle.olk_spec.specs.Texts.{keyword as keyword_name};
 ghost use Rattle.olk_reports.specs.Errors.{kind_of, fault_of};
 ghost use Rattle.olk_reports.specs.Evaluations.{described_of, shown_of};
-ghost use Rattle.olk_evaluate.specs.Wanted.{HasErrors, IsTold};
+ghost use Rattle.olk_evaluate.specs.Wanted.{HasErrors, IsDescribedBy};
 
 use olk_base::Node;
 use olk_reports::{ErrorDescription, EvaluationResult, ValidationError, ValidationErrorKind};
@@ -36,20 +36,23 @@ fn describe<'a>(
     alloc: Global,
     error: ValidationError<'a>,
 ) -> Result<ErrorDescription<'a>, AllocError>
-    ensures { IfOk result (λ e. IsTold (fault_of error.entry) (described_of e)) }
+    ensures { IfOk result (λ e. IsDescribedBy (fault_of error.entry) (described_of e)) }
 {
     let message = error.message(alloc)?;
     Ok(ErrorDescription::new(keyword(error.kind()), message))
 }
 
 // Adds an error of its own about the node. An error is shown without its places, so none are asked for.
-pub(crate) fn mark<'a>(
-    outcome: &mut EvaluationResult<'a>,
+pub(crate) fn add_own_error<'a>(
     alloc: Global,
+    outcome: &mut EvaluationResult<'a>,
     kind: ValidationErrorKind<'a>,
     node: Node<'a>,
 ) -> Result<(), AllocError>
-    ensures { OnOk result ((before : List Fault) (P Q : Path) → HasErrors before (shown_of outcome.old) → HasErrors (before ++ fault (kind_of kind.entry) (data_of node.entry) Q P ∷ []) (shown_of outcome.new)) }
+    ensures { OnOk result ((before : List Fault) (P Q : Path) →
+        HasErrors before (shown_of outcome.old) →
+        HasErrors (before ++ fault (kind_of kind.entry) (data_of node.entry) Q P ∷ [])
+        (shown_of outcome.new)) }
 {
     let error = ValidationError::new(kind, node, String::new(alloc), "");
     outcome.mark_errored(describe(alloc, error)?)?;
@@ -62,9 +65,10 @@ pub(crate) fn one_error<'a>(
     kind: ValidationErrorKind<'a>,
     node: Node<'a>,
 ) -> Result<EvaluationResult<'a>, AllocError>
-    ensures { IfOk result (λ r. (P Q : Path) → HasErrors (fault (kind_of kind.entry) (data_of node.entry) Q P ∷ []) (shown_of r)) }
+    ensures { IfOk result (λ r. (P Q : Path) →
+        HasErrors (fault (kind_of kind.entry) (data_of node.entry) Q P ∷ []) (shown_of r)) }
 {
     let mut outcome = EvaluationResult::valid_empty(alloc);
-    mark(&mut outcome, alloc, kind, node)?;
+    add_own_error(alloc, &mut outcome, kind, node)?;
     Ok(outcome)
 }

@@ -1,12 +1,16 @@
 //! `properties`.
-ghost use Rattle.std.specs.Prelude.{◌≡◌, ◌++◌, [], IfOk, OnOk, option_to_list};
+ghost use Rattle.std.specs.Prelude.{◌≡◌, ◌++◌, ◌∷◌, [], IfOk, OnOk, option_to_list};
+ghost use Rattle.std.specs.List.{list_all};
 ghost use Rattle.serde_json.specs.View.{view, members_view};
-ghost use Rattle.olk_reports.specs.Paths.{one_below};
 ghost use Rattle.olk_spec.specs.Schemas.{listed};
-ghost use Rattle.olk_tree.specs.Answers.{named};
-ghost use Rattle.olk_evaluate.specs.Members.{Meets, HasMet, met_at, met_member, met_members, met_declaration, met_declared};
-ghost use Rattle.olk_evaluate.specs.Wanted.{IsShown, wanted};
-ghost use Rattle.olk_reports.specs.Evaluations.{tree_of as shown_tree};
+ghost use Rattle.olk_spec.specs.Tree.{is_valid};
+ghost use Rattle.olk_reports.specs.Evaluations.{tree_of};
+ghost use Rattle.olk_reports.specs.Paths.{one_below};
+ghost use Rattle.olk_tree.specs.Answers.{named, properties_mean};
+ghost use Rattle.olk_tree.specs.Visited.{members_declared, object_of};
+ghost use Rattle.olk_check.specs.Asks.{OnlyAsks};
+ghost use Rattle.olk_evaluate.specs.Members.{HasMet, wanted_at};
+ghost use Rattle.olk_evaluate.specs.Wanted.{IsShown, wanted, trees_of};
 
 use crate::required::missing_child;
 use crate::walk::child;
@@ -14,7 +18,6 @@ use crate::{Evaluate, Located};
 use olk_base::{Node, ValidationContext};
 use olk_reports::{EvaluationNode, EvaluationResult, InstancePath};
 use olk_tree::map::SmallMap;
-use olk_tree::members::member;
 use olk_tree::properties::{SmallProperties, SmallPropertiesWithRequired2};
 use serde_json::{Map, Value};
 use std::alloc::{AllocError, Global};
@@ -34,8 +37,9 @@ impl<'a, N: Evaluate<'a>> Evaluate<'a> for SmallProperties<N> {
     ghost use Rattle.olk_tree.specs.Shown.{properties_tree};
     ghost use Rattle.std.specs.Prelude.{[]};
 
-    ghost shows = { λ k u v Q. properties_tree (λ n. N.shows n u) v Q k.location (named k.properties) [] };
+    ghost tree = { λ k u v Q. properties_tree (λ n. N.tree n u) v Q k.location (named k.properties) [] };
 
+    #[tactic(auto, using(olk_check::proofs::Asked::only_same))]
     fn evaluate(
         &'a self,
         alloc: Global,
@@ -45,7 +49,7 @@ impl<'a, N: Evaluate<'a>> Evaluate<'a> for SmallProperties<N> {
     ) -> Result<EvaluationResult<'a>, AllocError> {
         match node.as_object() {
             Some(members) => {
-                let met = meet(&self.properties, members, alloc, path, ctx)?;
+                let met = meet(alloc, &self.properties, members, path, ctx)?;
                 Ok(met.outcome(alloc))
             }
             None => Ok(EvaluationResult::valid_empty(alloc)),
@@ -66,10 +70,11 @@ impl<N> Located for SmallPropertiesWithRequired2<N> {
 impl<'a, N: Evaluate<'a>> Evaluate<'a> for SmallPropertiesWithRequired2<N> {
     ghost use Rattle.olk_tree.specs.Answers.{named, two_texts};
     ghost use Rattle.olk_tree.specs.Shown.{properties_tree, missing_trees};
-    ghost use Rattle.olk_spec.specs.Accepts.{missing};
 
-    ghost shows = { λ k u v Q. properties_tree (λ n. N.shows n u) v Q k.location (named k.properties) (missing_trees (two_texts k.first k.second) v k.required_location Q) };
+    ghost tree = { λ k u v Q. properties_tree (λ n. N.tree n u) v Q k.location (named k.properties)
+        (missing_trees (two_texts k.first k.second) v k.required_location Q) };
 
+    #[tactic(auto, using(olk_check::proofs::Asked::only_same))]
     fn evaluate(
         &'a self,
         alloc: Global,
@@ -79,12 +84,12 @@ impl<'a, N: Evaluate<'a>> Evaluate<'a> for SmallPropertiesWithRequired2<N> {
     ) -> Result<EvaluationResult<'a>, AllocError> {
         match node.as_object() {
             Some(members) => {
-                let met = meet(&self.properties, members, alloc, path, ctx)?;
+                let met = meet(alloc, &self.properties, members, path, ctx)?;
                 let missing = missing_child(
+                    alloc,
                     self.first.as_str(),
                     self.second.as_str(),
                     self.required_location.as_str(),
-                    alloc,
                     members,
                     node,
                     path,
@@ -105,10 +110,7 @@ struct Met<'a> {
 
 impl<'a> Met<'a> {
     ghost use Rattle.std.specs.Prelude.{Some, map};
-    ghost use Rattle.std.specs.List.{list_all};
-    ghost use Rattle.olk_spec.specs.Tree.{is_valid};
     ghost use Rattle.olk_reports.specs.Evaluations.{shown, shown_of};
-    ghost use Rattle.olk_evaluate.specs.Wanted.{trees_of};
 
     fn new(alloc: Global) -> Met<'a>
         ensures names { result.names.items ≡ [] }
@@ -120,10 +122,22 @@ impl<'a> Met<'a> {
         }
     }
 
+    // One member more.
+    fn add(&mut self, name: &'a str, child: EvaluationNode<'a>) -> Result<(), AllocError>
+        ensures names { OnOk result (self.new.names.items ≡ self.old.names.items ++ name.entry ∷ []) }
+        ensures children { OnOk result
+            (self.new.children.items ≡ self.old.children.items ++ child.entry ∷ []) }
+    {
+        self.names.push(name)?;
+        self.children.push(child)?;
+        Ok(())
+    }
+
     // With one child more, or none.
     fn with(self, more: Option<EvaluationNode<'a>>) -> Result<Met<'a>, AllocError>
         ensures names { IfOk result (λ m. m.names.items ≡ self.entry.names.items) }
-        ensures children { IfOk result (λ m. m.children.items ≡ self.entry.children.items ++ option_to_list more.entry) }
+        ensures children { IfOk result (λ m.
+            m.children.items ≡ self.entry.children.items ++ option_to_list more.entry) }
     {
         let mut met = self;
         if let Some(child) = more {
@@ -134,7 +148,8 @@ impl<'a> Met<'a> {
 
     // The children, and the names as annotation.
     fn outcome(self, alloc: Global) -> EvaluationResult<'a>
-        ensures { shown_of result ≡ shown (list_all is_valid (trees_of self.entry.children.items)) (Some (map (λ n. n.now) self.entry.names.items)) [] (trees_of self.entry.children.items) }
+        ensures { shown_of result ≡ shown (list_all is_valid (trees_of self.entry.children.items))
+            (Some (map (λ n. n.now) self.entry.names.items)) [] (trees_of self.entry.children.items) }
     {
         let mut outcome = EvaluationResult::from_children(alloc, self.children);
         outcome.annotate(self.names);
@@ -142,137 +157,48 @@ impl<'a> Met<'a> {
     }
 }
 
+// The members that are declared, in the order of their names.
+fn meet<'a, N: Evaluate<'a>>(
+    alloc: Global,
+    properties: &'a SmallMap<N>,
+    members: &'a Map<String, Value>,
+    path: &mut InstancePath,
+    ctx: &mut ValidationContext,
+) -> Result<Met<'a>, AllocError>
+    ensures shown { IfOk result (λ m. HasMet (wanted_at N.tree N.means ctx.old.answer path.old)
+        (members_declared (named properties.now) (listed (members_view members.now.entries))) m) }
+    ensures verdict { IfOk result (λ m. list_all is_valid (trees_of m.children.items)
+        ≡ (properties_mean N.means (named properties.now) (object_of members.now.entries)).accepts
+        ctx.old.answer) }
+    ensures path { path.new ≡ path.old }
+    ensures context { OnlyAsks ctx.old ctx.new }
+{
+    let mut met: Met<'a> = Met::new(alloc);
+    for (name, subschema, value) in properties.declared_members(members) {
+        let child = child_below(alloc, subschema, name, value, path, ctx)?;
+        met.add(name, child)?;
+    }
+    Ok(met)
+}
+
 // What is shown of a member's value.
-fn below<'a, N: Evaluate<'a>>(
-    schema: &'a N,
+fn child_below<'a, N: Evaluate<'a>>(
+    alloc: Global,
+    subschema: &'a N,
     name: &str,
     value: &'a Value,
-    alloc: Global,
     path: &mut InstancePath,
     ctx: &mut ValidationContext,
 ) -> Result<EvaluationNode<'a>, AllocError>
-    ensures shown { IfOk result (λ c. IsShown (wanted N.shows N.means ctx.old.answer schema.now (view value.now) (one_below path.old name.now)) (shown_tree c)) }
+    ensures shown { IfOk result (λ c. IsShown
+        (wanted N.tree N.means ctx.old.answer
+        subschema.now (view value.now) (one_below path.old name.now))
+        (tree_of c)) }
     ensures path { path.new ≡ path.old }
-    ensures answer { ctx.new.answer ≡ ctx.old.answer }
+    ensures context { OnlyAsks ctx.old ctx.new }
 {
     let mark = path.push(name)?;
-    let shown = child(schema, alloc, Node::Value(value), path, ctx);
+    let shown = child(alloc, subschema, Node::Value(value), path, ctx);
     path.pop(mark);
     shown
-}
-
-// One member more.
-fn add<'a, N: Evaluate<'a>>(
-    schema: &'a N,
-    name: &'a str,
-    value: &'a Value,
-    alloc: Global,
-    path: &mut InstancePath,
-    ctx: &mut ValidationContext,
-    met: &mut Met<'a>,
-) -> Result<(), AllocError>
-    ensures met { OnOk result (Meets (met_at N.shows N.means ctx.old.answer path.old name.now schema.now (view value.now)) met.old met.new) }
-    ensures path { path.new ≡ path.old }
-    ensures answer { ctx.new.answer ≡ ctx.old.answer }
-{
-    let shown = below(schema, name, value, alloc, path, ctx)?;
-    met.names.push(name)?;
-    met.children.push(shown)?;
-    Ok(())
-}
-
-// The members that are declared, in the order of their names.
-fn meet<'a, N: Evaluate<'a>>(
-    properties: &'a SmallMap<N>,
-    members: &'a Map<String, Value>,
-    alloc: Global,
-    path: &mut InstancePath,
-    ctx: &mut ValidationContext,
-) -> Result<Met<'a>, AllocError>
-    ensures members { IfOk result (λ m. HasMet (met_members N.shows N.means ctx.old.answer path.old (named properties.now) (listed (members_view members.now.entries))) m) }
-    ensures declared { IfOk result (λ m. HasMet (met_declared N.shows N.means ctx.old.answer path.old (named properties.now) (listed (members_view members.now.entries))) m) }
-    ensures path { path.new ≡ path.old }
-    ensures answer { ctx.new.answer ≡ ctx.old.answer }
-{
-    if members.len() <= properties.names.len() {
-        Ok(meet_members(properties, members, alloc, path, ctx)?)
-    } else {
-        Ok(meet_declared(properties, members, alloc, path, ctx)?)
-    }
-}
-
-// Each member looked up among the declared names.
-fn meet_members<'a, N: Evaluate<'a>>(
-    properties: &'a SmallMap<N>,
-    members: &'a Map<String, Value>,
-    alloc: Global,
-    path: &mut InstancePath,
-    ctx: &mut ValidationContext,
-) -> Result<Met<'a>, AllocError>
-    ensures met { IfOk result (λ m. HasMet (met_members N.shows N.means ctx.old.answer path.old (named properties.now) (listed (members_view members.now.entries))) m) }
-    ensures path { path.new ≡ path.old }
-    ensures answer { ctx.new.answer ≡ ctx.old.answer }
-{
-    let mut met: Met<'a> = Met::new(alloc);
-    for (name, value) in members {
-        meet_member(properties, name.as_str(), value, alloc, path, ctx, &mut met)?;
-    }
-    Ok(met)
-}
-
-fn meet_member<'a, N: Evaluate<'a>>(
-    properties: &'a SmallMap<N>,
-    name: &'a str,
-    value: &'a Value,
-    alloc: Global,
-    path: &mut InstancePath,
-    ctx: &mut ValidationContext,
-    met: &mut Met<'a>,
-) -> Result<(), AllocError>
-    ensures met { OnOk result (Meets (met_member N.shows N.means ctx.old.answer path.old (named properties.now) name.now (view value.now)) met.old met.new) }
-    ensures path { path.new ≡ path.old }
-    ensures answer { ctx.new.answer ≡ ctx.old.answer }
-{
-    match properties.get(name) {
-        Some(schema) => Ok(add(schema, name, value, alloc, path, ctx, met)?),
-        None => Ok(()),
-    }
-}
-
-// Each declared name looked up among the members.
-fn meet_declared<'a, N: Evaluate<'a>>(
-    properties: &'a SmallMap<N>,
-    members: &'a Map<String, Value>,
-    alloc: Global,
-    path: &mut InstancePath,
-    ctx: &mut ValidationContext,
-) -> Result<Met<'a>, AllocError>
-    ensures met { IfOk result (λ m. HasMet (met_declared N.shows N.means ctx.old.answer path.old (named properties.now) (listed (members_view members.now.entries))) m) }
-    ensures path { path.new ≡ path.old }
-    ensures answer { ctx.new.answer ≡ ctx.old.answer }
-{
-    let mut met: Met<'a> = Met::new(alloc);
-    for (name, schema) in properties.names.as_slice().iter().zip(&properties.nodes) {
-        meet_declaration(schema, name.as_str(), members, alloc, path, ctx, &mut met)?;
-    }
-    Ok(met)
-}
-
-fn meet_declaration<'a, N: Evaluate<'a>>(
-    schema: &'a N,
-    name: &'a str,
-    members: &'a Map<String, Value>,
-    alloc: Global,
-    path: &mut InstancePath,
-    ctx: &mut ValidationContext,
-    met: &mut Met<'a>,
-) -> Result<(), AllocError>
-    ensures met { OnOk result (Meets (met_declaration N.shows N.means ctx.old.answer path.old (listed (members_view members.now.entries)) name.now schema.now) met.old met.new) }
-    ensures path { path.new ≡ path.old }
-    ensures answer { ctx.new.answer ≡ ctx.old.answer }
-{
-    match member(members, name) {
-        Some(value) => Ok(add(schema, name, value, alloc, path, ctx, met)?),
-        None => Ok(()),
-    }
 }

@@ -1,18 +1,17 @@
 //! `required`.
 ghost use Rattle.std.specs.Prelude.{◌≡◌, ◌++◌, ◌∷◌, [], not, map, List, IfOk, OnOk, option_to_list};
-ghost use Rattle.serde_json.specs.Data.{object};
-ghost use Rattle.serde_json.specs.View.{members_view};
 ghost use Rattle.olk_base.specs.Nodes.{data_of};
+ghost use Rattle.olk_spec.specs.Names.{Path, is_empty};
 ghost use Rattle.olk_spec.specs.Faults.{Fault, fault, Required};
 ghost use Rattle.olk_spec.specs.Schemas.{has};
 ghost use Rattle.olk_spec.specs.Accepts.{missing};
-ghost use Rattle.olk_spec.specs.Reports.{required_faults, fault_if};
+ghost use Rattle.olk_spec.specs.Reports.{fault_if};
 ghost use Rattle.olk_reports.specs.Evaluations.{shown_of};
 ghost use Rattle.olk_tree.specs.Answers.{texts_of};
+ghost use Rattle.olk_tree.specs.Visited.{object_of};
 ghost use Rattle.olk_evaluate.specs.Wanted.{HasErrors, AreShown, refused, lacking_trees, trees_of};
-ghost use Rattle.olk_spec.specs.Names.{Path, is_empty};
 
-use crate::own::mark;
+use crate::own::add_own_error;
 use crate::{Evaluate, Located};
 use olk_base::{Node, ValidationContext};
 use olk_reports::{EvaluationNode, EvaluationResult, InstancePath, ValidationErrorKind};
@@ -35,8 +34,9 @@ impl<'a> Evaluate<'a> for RequiredValidator {
     ghost use Rattle.olk_spec.specs.Tree.{erring};
     ghost use Rattle.olk_tree.specs.Answers.{texts_of};
 
-    ghost shows = { λ k u v Q. erring k.location Q (required_faults (texts_of k.required.items) v k.location Q) };
+    ghost tree = { λ k u v Q. erring k.location Q (required_faults (texts_of k.required.items) v k.location Q) };
 
+    #[tactic(auto, using(olk_check::proofs::Asked::only_same))]
     fn evaluate(
         &'a self,
         alloc: Global,
@@ -45,53 +45,58 @@ impl<'a> Evaluate<'a> for RequiredValidator {
         _ctx: &mut ValidationContext,
     ) -> Result<EvaluationResult<'a>, AllocError> {
         match node.as_object() {
-            Some(members) => { Ok(each_missing(&self.required, alloc, members, node)?) }
+            Some(members) => Ok(result_of_required(alloc, &self.required, members, node)?),
             None => Ok(EvaluationResult::valid_empty(alloc)),
         }
     }
 }
 
-// An error for each name that is no member.
-fn each_missing<'a>(
-    names: &'a Vec<String>,
+// The result with an error for each of the names that is no member.
+fn result_of_required<'a>(
     alloc: Global,
+    names: &'a Vec<String>,
     members: &Map<String, Value>,
     node: Node<'a>,
 ) -> Result<EvaluationResult<'a>, AllocError>
-    ensures { IfOk result (λ r. (P Q : Path) → HasErrors (map (λ n. fault (Required n) (data_of node.entry) Q P) (missing (texts_of names.now.items) (object (members_view members.now.entries)))) (shown_of r)) }
+    ensures { IfOk result (λ r. (P Q : Path) → HasErrors
+        (map (λ n. fault (Required n) (data_of node.entry) Q P)
+        (missing (texts_of names.now.items) (object_of members.now.entries)))
+        (shown_of r)) }
 {
     let mut outcome = EvaluationResult::valid_empty(alloc);
     for name in names {
-        mark_missing(&mut outcome, name.as_str(), alloc, members, node)?;
+        add_error_if_missing(alloc, &mut outcome, name.as_str(), members, node)?;
     }
     Ok(outcome)
 }
 
-// An error where the name is no member.
-pub(crate) fn mark_missing<'a>(
+// Adds an error where the name is no member.
+fn add_error_if_missing<'a>(
+    alloc: Global,
     outcome: &mut EvaluationResult<'a>,
     name: &'a str,
-    alloc: Global,
     members: &Map<String, Value>,
     node: Node<'a>,
 ) -> Result<(), AllocError>
-    ensures { OnOk result ((before : List Fault) (P Q : Path) → HasErrors before (shown_of outcome.old) → HasErrors (before ++ fault_if (not (has name.now (object (members_view members.now.entries)))) (Required name.now) (data_of node.entry) P Q) (shown_of outcome.new)) }
+    ensures { OnOk result ((before : List Fault) (P Q : Path) →
+        HasErrors before (shown_of outcome.old) →
+        HasErrors
+        (before ++ fault_if (not (has name.now (object_of members.now.entries)))
+        (Required name.now) (data_of node.entry) P Q)
+        (shown_of outcome.new)) }
 {
     if has_member(members, name) {
         return Ok(());
     }
-    mark(
-        outcome,
-        alloc,
-        ValidationErrorKind::Required { property: name },
-        node,
-    )?;
+    let kind = ValidationErrorKind::Required { property: name };
+    add_own_error(alloc, outcome, kind, node)?;
     Ok(())
 }
 
 // Whether one of the names is no member.
-pub(crate) fn lacks_one(members: &Map<String, Value>, first: &str, second: &str) -> bool
-    ensures { result ≡ not (is_empty (missing (first.now ∷ second.now ∷ []) (object (members_view members.now.entries)))) }
+fn lacks_either(members: &Map<String, Value>, first: &str, second: &str) -> bool
+    ensures { result ≡ not (is_empty
+        (missing (first.now ∷ second.now ∷ []) (object_of members.now.entries))) }
 {
     if !has_member(members, first) {
         return true;
@@ -99,38 +104,44 @@ pub(crate) fn lacks_one(members: &Map<String, Value>, first: &str, second: &str)
     !has_member(members, second)
 }
 
-// An error for each of two names that is no member.
-fn both_missing<'a>(
+// The result with an error for each of two names that is no member.
+fn result_of_two_required<'a>(
+    alloc: Global,
     first: &'a str,
     second: &'a str,
-    alloc: Global,
     members: &Map<String, Value>,
     node: Node<'a>,
 ) -> Result<EvaluationResult<'a>, AllocError>
-    ensures { IfOk result (λ r. (P Q : Path) → HasErrors (map (λ n. fault (Required n) (data_of node.entry) Q P) (missing (first.now ∷ second.now ∷ []) (object (members_view members.now.entries)))) (shown_of r)) }
+    ensures { IfOk result (λ r. (P Q : Path) → HasErrors
+        (map (λ n. fault (Required n) (data_of node.entry) Q P)
+        (missing (first.now ∷ second.now ∷ []) (object_of members.now.entries)))
+        (shown_of r)) }
 {
     let mut outcome = EvaluationResult::valid_empty(alloc);
-    mark_missing(&mut outcome, first, alloc, members, node)?;
-    mark_missing(&mut outcome, second, alloc, members, node)?;
+    add_error_if_missing(alloc, &mut outcome, first, members, node)?;
+    add_error_if_missing(alloc, &mut outcome, second, members, node)?;
     Ok(outcome)
 }
 
 // A child at the place of `required`, where one of the names is no member.
 pub(crate) fn missing_child<'a>(
+    alloc: Global,
     first: &'a str,
     second: &'a str,
     location: &'a str,
-    alloc: Global,
     members: &Map<String, Value>,
     node: Node<'a>,
     path: &InstancePath,
 ) -> Result<Option<EvaluationNode<'a>>, AllocError>
-    ensures { IfOk result (λ o. AreShown (refused (lacking_trees (first.now ∷ second.now ∷ []) (data_of node.entry) (object (members_view members.now.entries)) location.now path.now)) (trees_of (option_to_list o))) }
+    ensures { IfOk result (λ o. AreShown
+        (refused (lacking_trees (first.now ∷ second.now ∷ [])
+        (data_of node.entry) (object_of members.now.entries) location.now path.now))
+        (trees_of (option_to_list o))) }
 {
-    if !lacks_one(members, first, second) {
+    if !lacks_either(members, first, second) {
         return Ok(None);
     }
-    let outcome = both_missing(first, second, alloc, members, node)?;
+    let outcome = result_of_two_required(alloc, first, second, members, node)?;
     let text = String::from_str(alloc, path.as_str())?;
     Ok(Some(EvaluationNode::new(location, text, outcome)))
 }

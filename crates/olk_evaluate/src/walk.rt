@@ -1,7 +1,8 @@
 // What the nodes of a keyword show.
 ghost use Rattle.std.specs.Prelude.{◌≡◌, IfOk};
 ghost use Rattle.olk_base.specs.Nodes.{data_of};
-ghost use Rattle.olk_reports.specs.Evaluations.{tree_of as shown_tree};
+ghost use Rattle.olk_check.specs.Asks.{OnlyAsks};
+ghost use Rattle.olk_reports.specs.Evaluations.{tree_of};
 ghost use Rattle.olk_evaluate.specs.Wanted.{IsShown, AreShown, wanted, each_wanted, trees_of};
 
 use crate::Evaluate;
@@ -10,16 +11,22 @@ use olk_reports::{EvaluationNode, InstancePath};
 use std::alloc::{AllocError, Global};
 
 /// What one node shows, at its place and at the path.
+///
+/// # Errors
+///
+/// Want of memory.
 pub fn child<'a, N: Evaluate<'a>>(
-    schema: &'a N,
     alloc: Global,
+    schema: &'a N,
     node: Node<'a>,
     path: &mut InstancePath,
     ctx: &mut ValidationContext,
 ) -> Result<EvaluationNode<'a>, AllocError>
-    ensures shown { IfOk result (λ c. IsShown (wanted N.shows N.means ctx.old.answer schema.now (data_of node.entry) path.old) (shown_tree c)) }
+    ensures shown { IfOk result (λ c. IsShown
+        (wanted N.tree N.means ctx.old.answer schema.now (data_of node.entry) path.old)
+        (tree_of c)) }
     ensures path { path.new ≡ path.old }
-    ensures answer { ctx.new.answer ≡ ctx.old.answer }
+    ensures context { OnlyAsks ctx.old ctx.new }
 {
     let outcome = schema.evaluate(alloc, node, path, ctx)?;
     let text = String::from_str(alloc, path.as_str())?;
@@ -28,19 +35,21 @@ pub fn child<'a, N: Evaluate<'a>>(
 
 // What each of them shows.
 pub(crate) fn each_child<'a, N: Evaluate<'a>>(
-    schemas: &'a Vec<N>,
     alloc: Global,
+    schemas: &'a Vec<N>,
     node: Node<'a>,
     path: &mut InstancePath,
     ctx: &mut ValidationContext,
 ) -> Result<Vec<EvaluationNode<'a>>, AllocError>
-    ensures shown { IfOk result (λ cs. AreShown (each_wanted N.shows N.means ctx.old.answer schemas.now.items (data_of node.entry) path.old) (trees_of cs.items)) }
+    ensures shown { IfOk result (λ cs. AreShown
+        (each_wanted N.tree N.means ctx.old.answer schemas.now.items (data_of node.entry) path.old)
+        (trees_of cs.items)) }
     ensures path { path.new ≡ path.old }
-    ensures answer { ctx.new.answer ≡ ctx.old.answer }
+    ensures context { OnlyAsks ctx.old ctx.new }
 {
     let mut children = Vec::new(alloc);
     for schema in schemas {
-        children.push(child(schema, alloc, node, path, ctx)?)?;
+        children.push(child(alloc, schema, node, path, ctx)?)?;
     }
     Ok(children)
 }

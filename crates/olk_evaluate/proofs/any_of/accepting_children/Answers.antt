@@ -6,4 +6,4 @@ use Rattle.olk_evaluate.proofs.Children.{shown_end, none_left}
 use Rattle.olk_evaluate.proofs.any_of.accepting_children.Goals as goal
 
 pub returns-clause-shown : goal.returns-clause-shown
-returns-clause-shown g c = shown_end c.loop-schema.invariant.shown (ap (those (λ w. w.1)) (none_left (λ n. wanted g.N.Evaluate.shows g.N.Means.means c.args.ctx.now.answer n (data_of c.args.node) c.args.path.now) c.args.schemas.now.items c.deref-schema-items.result.now c.loop-schema.schema-index c.deref-schema-items.ensures.value c.loop-schema-test.false))
+returns-clause-shown g c = shown_end c.loop-schema.invariant.shown (ap (those (λ w. w.1)) (none_left (λ n. wanted g.N.Evaluate.tree g.N.Means.means c.args.ctx.now.answer n (data_of c.args.node) c.args.path.now) c.args.schemas.now.items c.deref-schema-items.result.now c.loop-schema.schema-index c.deref-schema-items.ensures.value c.loop-schema-test.false))

@@ -10,19 +10,19 @@ use Rattle.olk_tree.specs.Answers.{body_means, body_tree}
 use Rattle.olk_evaluate.proofs.Children.{branches_like, branches_verdict}
 use Rattle.olk_evaluate.proofs.node.evaluate_body.Goals as goal
 
-pub returns-in_ok-children-in-Keywords-clause-shows : goal.returns-in_ok-children-in-Keywords-clause-shows
-returns-in_ok-children-in-Keywords-clause-shows g c = subst (λ b. IsLikeTree (body_tree (λ k. g.W.Evaluate.shows k c.args.ctx.now.answer) c.args.location.now b (data_of c.args.node) c.args.path.now) (node_at c.args.location.now c.args.path.now (shown_of c.from_children.result))) (sym c.in-Keywords.is)
-    (branches_like g.W.Evaluate.shows g.W.Means.means c.args.ctx.now.answer (data_of c.args.node) c.args.location.now c.args.path.now c.in-Keywords.keywords.items c.in_ok-children-in-Keywords.ensures.shown c.from_children.ensures)
+pub returns-in_ok-children-in-Keywords-clause-tree : goal.returns-in_ok-children-in-Keywords-clause-tree
+returns-in_ok-children-in-Keywords-clause-tree g c = subst (λ b. IsLikeTree (body_tree (λ k. g.W.Evaluate.tree k c.args.ctx.now.answer) c.args.location.now b (data_of c.args.node) c.args.path.now) (node_at c.args.location.now c.args.path.now (shown_of c.from_children.result))) (sym c.in-Keywords.is)
+    (branches_like g.W.Evaluate.tree g.W.Means.means c.args.ctx.now.answer (data_of c.args.node) c.args.location.now c.args.path.now c.in-Keywords.keywords.items c.in_ok-children-in-Keywords.ensures.shown c.from_children.ensures)
 
 pub returns-in_ok-children-in-Keywords-clause-verdict : goal.returns-in_ok-children-in-Keywords-clause-verdict
 returns-in_ok-children-in-Keywords-clause-verdict g c =
-    branches_verdict g.W.Evaluate.shows g.W.Means.means c.args.ctx.now.answer (data_of c.args.node) c.args.location.now c.args.path.now c.in-Keywords.keywords.items c.in_ok-children-in-Keywords.ensures.shown c.from_children.ensures
+    branches_verdict g.W.Evaluate.tree g.W.Means.means c.args.ctx.now.answer (data_of c.args.node) c.args.location.now c.args.path.now c.in-Keywords.keywords.items c.in_ok-children-in-Keywords.ensures.shown c.from_children.ensures
     ∙ ap (λ b. (body_means g.W.Means.means b (data_of c.args.node)).accepts c.args.ctx.now.answer) (sym c.in-Keywords.is)
 
-pub returns-in_ok-one_error-in-False-clause-shows : goal.returns-in_ok-one_error-in-False-clause-shows
-returns-in_ok-one_error-in-False-clause-shows g c =
+pub returns-in_ok-one_error-in-False-clause-tree : goal.returns-in_ok-one_error-in-False-clause-tree
+returns-in_ok-one_error-in-False-clause-tree g c =
     let error = subst (λ k. HasErrors (fault k (data_of c.args.node) c.args.path.now c.args.location.now ∷ []) (shown_of c.in_ok-one_error-in-False.field-0)) kind_of_false_schema (c.in_ok-one_error-in-False.ensures c.args.location.now c.args.path.now) in
-    subst (λ b. IsLikeTree (body_tree (λ k. g.W.Evaluate.shows k c.args.ctx.now.answer) c.args.location.now b (data_of c.args.node) c.args.path.now) (node_at c.args.location.now c.args.path.now (shown_of c.in_ok-one_error-in-False.field-0))) (sym c.in-False.is)
+    subst (λ b. IsLikeTree (body_tree (λ k. g.W.Evaluate.tree k c.args.ctx.now.answer) c.args.location.now b (data_of c.args.node) c.args.path.now) (node_at c.args.location.now c.args.path.now (shown_of c.in_ok-one_error-in-False.field-0))) (sym c.in-False.is)
     (erring_like c.args.location.now c.args.path.now (fault FalseSchema (data_of c.args.node) c.args.path.now c.args.location.now ∷ []) error)
 
 pub returns-in_ok-one_error-in-False-clause-verdict : goal.returns-in_ok-one_error-in-False-clause-verdict

@@ -1,13 +1,30 @@
-use Rattle.std.proofs.Common.{sym, subst}
-use Rattle.serde_json.specs.View.{members_view}
-use Rattle.olk_spec.specs.Schemas.{listed}
+use mathlib.Core.Path.{subst₂}
+use Rattle.std.proofs.Common.{ap, ◌∙◌, subst}
+use Rattle.serde_json.specs.View.{view, members_view}
+use Rattle.olk_spec.specs.Names.{◌//◌}
 use Rattle.olk_tree.specs.Answers.{named}
-use Rattle.olk_check.proofs.Merge.{in_step, ascending_rising, sorted_rising}
-use Rattle.olk_evaluate.specs.Members.{HasMet, met_at}
+use Rattle.olk_tree.specs.Visited.{left_of}
+use Rattle.olk_tree.proofs.Members_met.{means_of_walk}
+use Rattle.olk_reports.specs.Evaluations.{tree_of}
+use Rattle.olk_check.proofs.Asked.{only_then}
+use Rattle.olk_evaluate.specs.Members.{HasMet, wanted_at}
+use Rattle.olk_evaluate.specs.Wanted.{IsShown, wanted}
+use Rattle.olk_evaluate.proofs.Members.{met_more, met_end, met_verdict}
 use Rattle.olk_evaluate.proofs.properties.meet.Goals as goal
 
-pub returns-in_ok-meet_members-clause-declared : goal.returns-in_ok-meet_members-clause-declared
-returns-in_ok-meet_members-clause-declared g c = subst (λ fs. HasMet fs c.in_ok-meet_members.field-0) (sym (in_step (met_at g.N.Evaluate.shows g.N.Means.means c.args.ctx.now.answer c.args.path.now) (named c.args.properties.now) (listed (members_view c.args.members.now.entries)) (ascending_rising c.args.properties.now.names c.args.properties.now.nodes.items c.len-2.ensures.ordered) (sorted_rising c.args.members.now.entries c.len.ensures.ordered))) c.in_ok-meet_members.ensures.met
+pub returns-clause-shown : goal.returns-clause-shown
+returns-clause-shown g c = subst (λ ds. HasMet (wanted_at g.N.Evaluate.tree g.N.Means.means c.args.ctx.now.answer c.args.path.now) ds c.loop-name.met)
+    (ap left_of c.into_iter-name-iterator.ensures.into_iter_gives ∙ c.declared_members-name-items.ensures.by_members)
+    (met_end c.loop-name.invariant.met c.in-None.ensures.steps)
 
-pub returns-in_ok-meet_declared-clause-members : goal.returns-in_ok-meet_declared-clause-members
-returns-in_ok-meet_declared-clause-members g c = subst (λ fs. HasMet fs c.in_ok-meet_declared.field-0) (in_step (met_at g.N.Evaluate.shows g.N.Means.means c.args.ctx.now.answer c.args.path.now) (named c.args.properties.now) (listed (members_view c.args.members.now.entries)) (ascending_rising c.args.properties.now.names c.args.properties.now.nodes.items c.len-2.ensures.ordered) (sorted_rising c.args.members.now.entries c.len.ensures.ordered)) c.in_ok-meet_declared.ensures.met
+pub returns-clause-verdict : goal.returns-clause-verdict
+returns-clause-verdict g c = met_verdict g.N.Evaluate.tree g.N.Means.means c.args.ctx.now.answer c.args.path.now (met_end c.loop-name.invariant.met c.in-None.ensures.steps)
+    (means_of_walk (members_view c.args.members.now.entries) (named c.args.properties.now) c.into_iter-name-iterator.ensures.into_iter_gives c.declared_members-name-items.ensures.by_names g.N.Means.means)
+
+pub loop-name-preserved : goal.loop-name-preserved
+loop-name-preserved g c = record {
+  path = c.child_below.ensures.path ∙ c.loop-name.invariant.path;
+  context = only_then c.loop-name.invariant.context c.child_below.ensures.context;
+  met = met_more (c.in-Some.name, c.in-Some.subschema, c.in-Some.value) c.in_ok-child.child c.loop-name.invariant.met c.in-Some.ensures.steps c.in_ok-add.ensures.names c.in_ok-add.ensures.children
+      (subst₂ (λ u Q. IsShown (wanted g.N.Evaluate.tree g.N.Means.means u c.in-Some.subschema.now (view c.in-Some.value.now) (Q // c.in-Some.name.now)) (tree_of c.in_ok-child.child)) c.loop-name.invariant.context.answer c.loop-name.invariant.path c.in_ok-child.ensures.shown);
+}

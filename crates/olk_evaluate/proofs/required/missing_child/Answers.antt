@@ -5,8 +5,8 @@ use Rattle.olk_base.specs.Nodes.{data_of}
 use Rattle.olk_evaluate.proofs.OwnErrors.{none_lacking, some_lacking}
 use Rattle.olk_evaluate.proofs.required.missing_child.Goals as goal
 
-pub returns-then-not-lacks_one : goal.returns-then-not-lacks_one
-returns-then-not-lacks_one c = none_lacking (c.args.first.now ∷ c.args.second.now ∷ []) (data_of c.args.node) (object (members_view c.args.members.now.entries)) c.args.location.now c.args.path.now c.if-not-lacks_one.ensures
+pub returns-then-not-lacks_either : goal.returns-then-not-lacks_either
+returns-then-not-lacks_either c = none_lacking (c.args.first.now ∷ c.args.second.now ∷ []) (data_of c.args.node) (object (members_view c.args.members.now.entries)) c.args.location.now c.args.path.now c.if-not-lacks_either.ensures
 
 pub returns : goal.returns
-returns c = some_lacking (c.args.first.now ∷ c.args.second.now ∷ []) (data_of c.args.node) (object (members_view c.args.members.now.entries)) c.args.location.now c.args.path.now c.if-not-lacks_one.ensures (c.in_ok-outcome.ensures c.args.location.now c.args.path.now) c.new.ensures (c.in_ok-text.ensures.ok ∙ c.as_str.ensures)
+returns c = some_lacking (c.args.first.now ∷ c.args.second.now ∷ []) (data_of c.args.node) (object (members_view c.args.members.now.entries)) c.args.location.now c.args.path.now c.if-not-lacks_either.ensures (c.in_ok-outcome.ensures c.args.location.now c.args.path.now) c.new.ensures (c.in_ok-text.ensures.ok ∙ c.as_str.ensures)

@@ -1,5 +1,6 @@
 use Rattle.std.proofs.Common.{◌≡◌, drop}
 use Rattle.olk_base.specs.Nodes.{data_of}
+use Rattle.olk_check.specs.Asks.{OnlyAsks}
 use Rattle.olk_evaluate.specs.Wanted.{each_wanted, trees_of}
 use Rattle.olk_evaluate.proofs.Children.{ShownFrom}
 use Rattle.olk_evaluate.proofs.walk.each_child.Given as goal
@@ -7,6 +8,6 @@ use Rattle.olk_evaluate.proofs.walk.each_child.Given as goal
 abbrev pub invariant-loop-schema : goal.invariant-loop-schema
 invariant-loop-schema g l = record {
   path : l.path ≡ l.initial.path;
-  answer : l.ctx.answer ≡ l.initial.ctx.answer;
-  shown : ShownFrom (each_wanted g.N.Evaluate.shows g.N.Means.means l.initial.ctx.answer l.schemas.items (data_of l.node) l.initial.path) (each_wanted g.N.Evaluate.shows g.N.Means.means l.initial.ctx.answer (drop l.schema-index l.schemas.items) (data_of l.node) l.initial.path) (trees_of l.children.items);
+  context : OnlyAsks l.initial.ctx l.ctx;
+  shown : ShownFrom (each_wanted g.N.Evaluate.tree g.N.Means.means l.initial.ctx.answer l.schemas.items (data_of l.node) l.initial.path) (each_wanted g.N.Evaluate.tree g.N.Means.means l.initial.ctx.answer (drop l.schema-index l.schemas.items) (data_of l.node) l.initial.path) (trees_of l.children.items);
 }

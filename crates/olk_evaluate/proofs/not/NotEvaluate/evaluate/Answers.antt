@@ -9,8 +9,8 @@ use Rattle.olk_evaluate.specs.Wanted.{HasErrors}
 use Rattle.olk_evaluate.proofs.OwnErrors.{erring_like, erring_verdict}
 use Rattle.olk_evaluate.proofs.not.NotEvaluate.evaluate.Goals as goal
 
-pub returns-clause-shows : goal.returns-clause-shows
-returns-clause-shows g c =
+pub returns-clause-tree : goal.returns-clause-tree
+returns-clause-tree g c =
     erring_like c.args.self.now.location c.args._path.now (fault_if ((g.N.Means.means c.args.self.now.node (data_of c.args.node)).accepts c.args.ctx.now.answer) (Refuses (view c.args.self.now.original)) (data_of c.args.node) c.args.self.now.location c.args._path.now)
     (subst (λ b. HasErrors (fault_if b (Refuses (view c.args.self.now.original)) (data_of c.args.node) c.args.self.now.location c.args._path.now) (shown_of c.in_ok-one_error.field-0)) c.if-not-is_valid.ensures.verdict
     (subst (λ k. HasErrors (fault k (data_of c.args.node) c.args._path.now c.args.self.now.location ∷ []) (shown_of c.in_ok-one_error.field-0)) (kind_of_not _) (c.in_ok-one_error.ensures c.args.self.now.location c.args._path.now)))

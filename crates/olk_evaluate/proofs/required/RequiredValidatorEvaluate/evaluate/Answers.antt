@@ -3,7 +3,7 @@ use Rattle.serde_json.specs.Data.{object}
 use Rattle.serde_json.specs.View.{members_view}
 use Rattle.olk_spec.specs.Names.{is_empty}
 use Rattle.olk_reports.specs.Evaluations.{shown_of}
-use Rattle.olk_check.proofs.MemberWalks.{object_of}
+use Rattle.olk_tree.proofs.Members_met.{object_is}
 use Rattle.olk_evaluate.specs.Wanted.{HasErrors}
 use Rattle.olk_base.specs.Nodes.{data_of}
 use Rattle.olk_spec.specs.Faults.{fault, Required}
@@ -13,8 +13,8 @@ use Rattle.olk_tree.specs.Answers.{texts_of}
 use Rattle.olk_evaluate.proofs.OwnErrors.{erring_like, erring_verdict, lacks_none, same_emptiness}
 use Rattle.olk_evaluate.proofs.required.RequiredValidatorEvaluate.evaluate.Goals as goal
 
-pub returns-in-None-clause-shows : goal.returns-in-None-clause-shows
-returns-in-None-clause-shows c = erring_like c.args.self.now.location c.args._path.now (required_faults (texts_of c.args.self.now.required.items) (data_of c.args.node) c.args.self.now.location c.args._path.now)
+pub returns-in-None-clause-tree : goal.returns-in-None-clause-tree
+returns-in-None-clause-tree c = erring_like c.args.self.now.location c.args._path.now (required_faults (texts_of c.args.self.now.required.items) (data_of c.args.node) c.args.self.now.location c.args._path.now)
     (lacks_none (λ n. fault (Required n) (data_of c.args.node) c.args._path.now c.args.self.now.location) (texts_of c.args.self.now.required.items) (data_of c.args.node) c.in-None.ensures c.valid_empty.ensures)
 
 pub returns-in-None-clause-verdict : goal.returns-in-None-clause-verdict
@@ -22,13 +22,13 @@ returns-in-None-clause-verdict c = erring_verdict c.args.self.now.location c.arg
     (lacks_none (λ n. fault (Required n) (data_of c.args.node) c.args._path.now c.args.self.now.location) (texts_of c.args.self.now.required.items) (data_of c.args.node) c.in-None.ensures c.valid_empty.ensures)
     ∙ same_emptiness (λ n. fault (Required n) (data_of c.args.node) c.args._path.now c.args.self.now.location) (missing (texts_of c.args.self.now.required.items) (data_of c.args.node))
 
-pub returns-in_ok-each_missing-in-Some-clause-shows : goal.returns-in_ok-each_missing-in-Some-clause-shows
-returns-in_ok-each_missing-in-Some-clause-shows c = erring_like c.args.self.now.location c.args._path.now (required_faults (texts_of c.args.self.now.required.items) (data_of c.args.node) c.args.self.now.location c.args._path.now)
-    (subst (λ w. HasErrors (map (λ n. fault (Required n) (data_of c.args.node) c.args._path.now c.args.self.now.location) (missing (texts_of c.args.self.now.required.items) w)) (shown_of c.in_ok-each_missing-in-Some.field-0)) (object_of (data_of c.args.node) (members_view c.in-Some.members.now.entries) c.in-Some.ensures)
-    (c.in_ok-each_missing-in-Some.ensures c.args.self.now.location c.args._path.now))
+pub returns-in_ok-result_of_required-in-Some-clause-tree : goal.returns-in_ok-result_of_required-in-Some-clause-tree
+returns-in_ok-result_of_required-in-Some-clause-tree c = erring_like c.args.self.now.location c.args._path.now (required_faults (texts_of c.args.self.now.required.items) (data_of c.args.node) c.args.self.now.location c.args._path.now)
+    (subst (λ w. HasErrors (map (λ n. fault (Required n) (data_of c.args.node) c.args._path.now c.args.self.now.location) (missing (texts_of c.args.self.now.required.items) w)) (shown_of c.in_ok-result_of_required-in-Some.field-0)) (object_is (data_of c.args.node) (members_view c.in-Some.members.now.entries) c.in-Some.ensures)
+    (c.in_ok-result_of_required-in-Some.ensures c.args.self.now.location c.args._path.now))
 
-pub returns-in_ok-each_missing-in-Some-clause-verdict : goal.returns-in_ok-each_missing-in-Some-clause-verdict
-returns-in_ok-each_missing-in-Some-clause-verdict c =
-    erring_verdict c.args.self.now.location c.args._path.now (map (λ n. fault (Required n) (data_of c.args.node) c.args._path.now c.args.self.now.location) (missing (texts_of c.args.self.now.required.items) (object (members_view c.in-Some.members.now.entries)))) (c.in_ok-each_missing-in-Some.ensures c.args.self.now.location c.args._path.now)
+pub returns-in_ok-result_of_required-in-Some-clause-verdict : goal.returns-in_ok-result_of_required-in-Some-clause-verdict
+returns-in_ok-result_of_required-in-Some-clause-verdict c =
+    erring_verdict c.args.self.now.location c.args._path.now (map (λ n. fault (Required n) (data_of c.args.node) c.args._path.now c.args.self.now.location) (missing (texts_of c.args.self.now.required.items) (object (members_view c.in-Some.members.now.entries)))) (c.in_ok-result_of_required-in-Some.ensures c.args.self.now.location c.args._path.now)
     ∙ same_emptiness (λ n. fault (Required n) (data_of c.args.node) c.args._path.now c.args.self.now.location) (missing (texts_of c.args.self.now.required.items) (object (members_view c.in-Some.members.now.entries)))
-    ∙ ap (λ w. is_empty (missing (texts_of c.args.self.now.required.items) w)) (object_of (data_of c.args.node) (members_view c.in-Some.members.now.entries) c.in-Some.ensures)
+    ∙ ap (λ w. is_empty (missing (texts_of c.args.self.now.required.items) w)) (object_is (data_of c.args.node) (members_view c.in-Some.members.now.entries) c.in-Some.ensures)
