@@ -1,4 +1,4 @@
-mod Appending
+pub mod Appending
 mod Steps
 mod Own
 mod Missing
