@@ -67,12 +67,12 @@ nothing_last n = omega arith
 -- ---- the places that a keyword reads
 
 module _ (W : World) (k : Name) where
-  each_malformations : (P : Path) (es : List (Name × Data)) → flat_map (λ r. r.0.answer (down P r.1)) (each k (map (entry (malformations_step W pending)) es)) ≡ flat_map (λ e. malformations_at W e.1 (P // k // e.0)) es
+  pub each_malformations : (P : Path) (es : List (Name × Data)) → flat_map (λ r. r.0.answer (down P r.1)) (each k (map (entry (malformations_step W pending)) es)) ≡ flat_map (λ e. malformations_at W e.1 (P // k // e.0)) es
   unfolding malformations_beside
   each_malformations P [] = refl
   each_malformations P (e ∷ es) = ap (λ l. malformations_at W e.1 (P // k // e.0) ++ l) (each_malformations P es)
 
-  each_costs : (es : List (Name × Data)) → total_cost (λ r. r.0.answer) (each k (map (entry (cost_step W)) es)) ≡ total_cost (λ e. cost W e.1) es
+  pub each_costs : (es : List (Name × Data)) → total_cost (λ r. r.0.answer) (each k (map (entry (cost_step W)) es)) ≡ total_cost (λ e. cost W e.1) es
   unfolding cost
   each_costs [] = refl
   each_costs (e ∷ es) = ap (λ c. cost W e.1 ⊕ c) (each_costs es)
