@@ -6,6 +6,7 @@ use Rattle.olk_spec.specs.Names.{Name, Path, ◌//◌}
 use Rattle.olk_spec.specs.Vocabulary.{Keyword, keyword_named}
 use Rattle.olk_spec.specs.Faults.{Fault, ◌∼◌}
 use Rattle.olk_spec.specs.Tree.{Tree}
+use Rattle.olk_spec.specs.Schemas.{listed}
 use Rattle.olk_spec.specs.Costs.{Cost, cost, total_cost}
 use Rattle.olk_base.specs.Count.{Counts, raised_by}
 use Rattle.olk_reports.specs.Errors.{fault_of}
@@ -59,6 +60,9 @@ module _ {K R : Type 0} (o : Kit K R) where
     pub clean : malformations_at o.world S P ≡ []
     pub spends : Spends old new (cost o.world S)
 
+  abbrev pub RefusesSchema : Data → Path → Counts → Counts → BuildError → Type 0
+  RefusesSchema S P old new e = Refuses (malformations_at o.world S P) (cost o.world S) old new e
+
   -- ---- nodes for schemas under names, below a place
 
   abbrev pub StandEach : List (SchemaNode K R) → List (Name × Data) → Path → Type 0
@@ -78,6 +82,9 @@ module _ {K R : Type 0} (o : Kit K R) where
     pub clean : each_malformed P es ≡ []
     pub spends : Spends old new (each_cost es)
 
+  abbrev pub RefusesEach : List (Name × Data) → Path → Counts → Counts → BuildError → Type 0
+  RefusesEach es P old new e = Refuses (each_malformed P es) (each_cost es) old new e
+
   -- ---- keywords for members of the schema object with the members ms at P
 
   module _ (ms : Members) where
@@ -89,6 +96,9 @@ module _ {K R : Type 0} (o : Kit K R) where
 
     abbrev pub all_cost : List (Name × Data) → Cost
     all_cost es = total_cost (λ m. member_cost o.world ms m (which m)) es
+
+    abbrev pub RefusesObject : Path → Counts → Counts → BuildError → Type 0
+    RefusesObject P old new e = Refuses (all_malformed P (listed ms)) (all_cost (listed ms)) old new e
 
     module _ (ks : List (KeywordOver K (SchemaNode K R))) where
       -- what the keywords answer together

@@ -21,6 +21,10 @@ module _ {K R : Type 0} (o : Kit K R) where
       pub covers : Covers o ms ks rows P
       pub shows : all_malformed o ms P (listed ms) ≡ [] → (u : Bool) (v : Data) (Q : Path) → show o ms ks u v Q ≡ flat_map (λ m. member_child o.world ms m (which o ms m) u v P Q) es
 
+    -- they mean what the object means
+    abbrev pub ObjectIsMade : Path → Type 0
+    ObjectIsMade P = KeywordsMean (listed ms) (listed ms) P
+
     -- the same for one member and no neighbours
     pub record KeywordMeans (m : Name × Data) (P : Path) : Type 0 where
       pub holds : Holds o ms ks m (which o ms m) P

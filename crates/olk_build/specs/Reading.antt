@@ -5,15 +5,16 @@ use Rattle.serde_json.specs.View.{view}
 use Rattle.olk_spec.specs.Names.{Name, Path, ◌//◌, put_if, is_among}
 use Rattle.olk_spec.specs.World.{World}
 use Rattle.olk_spec.specs.Vocabulary.{Keyword, leaf, unread, unsupported_names, keyword_named}
-use Rattle.olk_spec.specs.Schemas.{read, members, texts, numbered, is_object, is_array}
+use Rattle.olk_spec.specs.Schemas.{read, listed, members, texts, numbered, is_object, is_array}
 use Rattle.olk_spec.specs.Malformed.{pending, refusal, own_refusals, malformations_step, items_of_array}
 use Rattle.olk_spec.specs.Faults.{Fault, Unsupported}
 use Rattle.olk_spec.specs.Costs.{Cost, no_cost, cost}
 use Rattle.olk_base.specs.Count.{Counts}
+use Rattle.olk_reports.specs.declared.error.BuildError.{BuildError}
 use Rattle.olk_node.specs.Kit.{Kit}
 use Rattle.olk_node.specs.Stands.{StandsFor}
 use Rattle.olk_build.specs.Members.{malformations_at}
-use Rattle.olk_build.specs.Building.{Spends, StandEach, each_malformed, each_cost, all_malformed, all_cost}
+use Rattle.olk_build.specs.Building.{Spends, Refuses, StandEach, each_malformed, each_cost, all_malformed, all_cost}
 use Rattle.olk_node.specs.declared.node.SchemaNode.{SchemaNode}
 use Rattle.olk_build.specs.declared.reading.KeywordFor.{KeywordFor}
 use Rattle.olk_build.specs.declared.reading.KeywordFor.TheVariants as for
@@ -86,6 +87,9 @@ module _ {K R : Type 0} (o : Kit K R) where
   places_cost Entries d = each_cost o (members d)
   places_cost Branches d = each_cost o (numbered (items_of_array d))
 
+  abbrev pub RefusesPlaces : ReadPlaces → Data → Path → Counts → Counts → BuildError → Type 0
+  RefusesPlaces r d L old new e = Refuses (places_malformed r d L) (places_cost r d) old new e
+
   pub record PlacesAreBuilt (r : ReadPlaces) (ns : List (SchemaNode K R)) (d : Data) (L : Path) (old new : Counts) : Type 0 where
     pub stand : StandAt r ns d L
     pub clean : places_malformed r d L ≡ []
@@ -96,6 +100,10 @@ module _ {K R : Type 0} (o : Kit K R) where
     pub shape : IsShape k d x
     pub clean : own_faults o.world k d L ≡ []
     pub spends : Spends old new (own_cost_of (keyword_named o.world k))
+
+  -- or what is wrong with the keyword itself
+  abbrev pub RefusesKeyword : Name → Data → Path → Counts → Counts → BuildError → Type 0
+  RefusesKeyword k d L old new e = Refuses (own_faults o.world k d L) (own_cost_of (keyword_named o.world k)) old new e
 
   -- a part stands for the member m of the schema object at P
   pub record PartStands (p : Part K (SchemaNode K R)) (m : Name × Data) (P : Path) : Type 0 where
@@ -114,6 +122,10 @@ module _ {K R : Type 0} (o : Kit K R) where
     pub stand : PartsStand ps es P
     pub clean : all_malformed o ms P es ≡ []
     pub spends : Spends old new (all_cost o ms es)
+
+  -- parts for all members
+  abbrev pub ObjectIsParted : Members → List (Part K (SchemaNode K R)) → Path → Counts → Counts → Type 0
+  ObjectIsParted ms ps P old new = PartsAreBuilt ms ps (listed ms) P old new
 
   -- the part of the keyword of the name k and the value d at its place, in each object
   abbrev pub IsPart : Part K (SchemaNode K R) → Name → Data → Path → Counts → Counts → Type 0

@@ -60,7 +60,8 @@ pub fn compile<'a, L: MakeLeaf, M: MakeRegex>(
 ) -> Option<Result<Keyword<L::Leaf, M::Engine>, BuildError<'a>>>
     ensures gives { GivesMember (kit L.Leaf.Leaf M.Engine.RegexEngine) (codes "anyOf")
         (view schema.now) ctx.old.place ctx.old.meter.now ctx.new.meter.now result }
-    ensures form { Gives result (IsAnyOf (one_below ctx.old.place (codes "anyOf")) (view schema.now)) }
+    ensures form { Gives result (IsAnyOf (one_below ctx.old.place (codes "anyOf"))
+        (view schema.now)) }
     ensures place { ctx.new.place ≡ ctx.old.place }
     ensures same_meter { ctx.new.meter.ghost_name ≡ ctx.old.meter.ghost_name }
 {

@@ -8,8 +8,8 @@ ghost use Rattle.olk_reports.specs.Paths.{one_below};
 ghost use Rattle.olk_node.specs.Kit.{kit, world};
 ghost use Rattle.olk_node.specs.Stands.{StandsFor};
 ghost use Rattle.olk_build.specs.Members.{malformations_at};
-ghost use Rattle.olk_build.specs.Building.{IsBuilt, AreBuilt, Refuses, TellsOneOf, RefusesMember, each_malformed, each_cost, all_malformed, all_cost, Spends, SpendsWithin};
-ghost use Rattle.olk_build.specs.Reading.{PartsAreBuilt, IsPart, PlacesAreBuilt, places_malformed, places_cost};
+ghost use Rattle.olk_build.specs.Building.{IsBuilt, AreBuilt, TellsOneOf, RefusesSchema, RefusesEach, RefusesObject, RefusesMember, Spends, SpendsWithin};
+ghost use Rattle.olk_build.specs.Reading.{ObjectIsParted, IsPart, PlacesAreBuilt, RefusesPlaces};
 
 use crate::context::{Context, Makers};
 use crate::lists::{append, one};
@@ -47,10 +47,8 @@ fn compile_schema<'a, L: MakeLeaf, M: MakeRegex>(
 ) -> Result<SchemaNode<L::Leaf, M::Engine>, BuildError<'a>>
     ensures built { IfOk result (λ n. IsBuilt (kit L.Leaf.Leaf M.Engine.RegexEngine) n
         (view schema.now) location meter.old meter.new) }
-    ensures refused { IfErr result (Refuses
-        (malformations_at (world L.Leaf.Leaf M.Engine.RegexEngine) (view schema.now) location)
-        (cost (world L.Leaf.Leaf M.Engine.RegexEngine) (view schema.now))
-        meter.old meter.new) }
+    ensures refused { IfErr result (RefusesSchema (kit L.Leaf.Leaf M.Engine.RegexEngine)
+        (view schema.now) location meter.old meter.new) }
 {
     meter.tick_compiled();
     match schema {
@@ -80,15 +78,10 @@ fn compile_parts<'a, L: MakeLeaf, M: MakeRegex>(
     place: &Location,
     members: &'a Map<String, Value>,
 ) -> Result<Vec<Part<L::Leaf, SchemaNode<L::Leaf, M::Engine>>>, BuildError<'a>>
-    ensures built { IfOk result (λ ps. PartsAreBuilt (kit L.Leaf.Leaf M.Engine.RegexEngine)
-        (members_view members.now.entries) ps.items (listed (members_view members.now.entries))
-        place.now meter.old meter.new) }
-    ensures refused { IfErr result (Refuses
-        (all_malformed (kit L.Leaf.Leaf M.Engine.RegexEngine) (members_view members.now.entries)
-        place.now (listed (members_view members.now.entries)))
-        (all_cost (kit L.Leaf.Leaf M.Engine.RegexEngine) (members_view members.now.entries)
-        (listed (members_view members.now.entries)))
-        meter.old meter.new) }
+    ensures built { IfOk result (λ ps. ObjectIsParted (kit L.Leaf.Leaf M.Engine.RegexEngine)
+        (members_view members.now.entries) ps.items place.now meter.old meter.new) }
+    ensures refused { IfErr result (RefusesObject (kit L.Leaf.Leaf M.Engine.RegexEngine)
+        (members_view members.now.entries) place.now meter.old meter.new) }
 {
     let mut parts = Vec::new(alloc);
     for (name, value) in members {
@@ -141,12 +134,10 @@ fn compile_places<'a, L: MakeLeaf, M: MakeRegex>(
     reads: ReadPlaces,
     value: &'a Value,
 ) -> Result<Vec<SchemaNode<L::Leaf, M::Engine>>, BuildError<'a>>
-    ensures built { IfOk result (λ ns. PlacesAreBuilt (kit L.Leaf.Leaf M.Engine.RegexEngine) reads ns.items
-        (view value.now) location.now meter.old meter.new) }
-    ensures refused { IfErr result (Refuses
-        (places_malformed (kit L.Leaf.Leaf M.Engine.RegexEngine) reads (view value.now) location.now)
-        (places_cost (kit L.Leaf.Leaf M.Engine.RegexEngine) reads (view value.now))
-        meter.old meter.new) }
+    ensures built { IfOk result (λ ns. PlacesAreBuilt (kit L.Leaf.Leaf M.Engine.RegexEngine)
+        reads ns.items (view value.now) location.now meter.old meter.new) }
+    ensures refused { IfErr result (RefusesPlaces (kit L.Leaf.Leaf M.Engine.RegexEngine)
+        reads (view value.now) location.now meter.old meter.new) }
 {
     match reads {
         ReadPlaces::Nothing => Ok(Vec::new(alloc)),
@@ -185,11 +176,8 @@ fn compile_entries<'a, L: MakeLeaf, M: MakeRegex>(
 ) -> Result<Vec<SchemaNode<L::Leaf, M::Engine>>, BuildError<'a>>
     ensures built { IfOk result (λ ns. AreBuilt (kit L.Leaf.Leaf M.Engine.RegexEngine) ns.items
         (listed (members_view map.now.entries)) place.now meter.old meter.new) }
-    ensures refused { IfErr result (Refuses
-        (each_malformed (kit L.Leaf.Leaf M.Engine.RegexEngine) place.now
-        (listed (members_view map.now.entries)))
-        (each_cost (kit L.Leaf.Leaf M.Engine.RegexEngine) (listed (members_view map.now.entries)))
-        meter.old meter.new) }
+    ensures refused { IfErr result (RefusesEach (kit L.Leaf.Leaf M.Engine.RegexEngine)
+        (listed (members_view map.now.entries)) place.now meter.old meter.new) }
 {
     let mut nodes = Vec::new(alloc);
     for (name, schema) in map {
@@ -215,12 +203,8 @@ fn compile_branches<'a, L: MakeLeaf, M: MakeRegex>(
 ) -> Result<Vec<SchemaNode<L::Leaf, M::Engine>>, BuildError<'a>>
     ensures built { IfOk result (λ ns. AreBuilt (kit L.Leaf.Leaf M.Engine.RegexEngine) ns.items
         (numbered (items_list (items_view items.now.items))) place.now meter.old meter.new) }
-    ensures refused { IfErr result (Refuses
-        (each_malformed (kit L.Leaf.Leaf M.Engine.RegexEngine) place.now
-        (numbered (items_list (items_view items.now.items))))
-        (each_cost (kit L.Leaf.Leaf M.Engine.RegexEngine)
-        (numbered (items_list (items_view items.now.items))))
-        meter.old meter.new) }
+    ensures refused { IfErr result (RefusesEach (kit L.Leaf.Leaf M.Engine.RegexEngine)
+        (numbered (items_list (items_view items.now.items))) place.now meter.old meter.new) }
 {
     let mut nodes = Vec::new(alloc);
     for (i, schema) in items.iter().enumerate() {
@@ -270,7 +254,8 @@ pub fn compile<'a, L: MakeLeaf, M: MakeRegex>(
         (view schema.now) ctx.old.place) }
     ensures clean { OnOk result (malformations_at (world L.Leaf.Leaf M.Engine.RegexEngine)
         (view schema.now) ctx.old.place ≡ []) }
-    ensures refused { IfErr result (TellsOneOf (malformations_at (world L.Leaf.Leaf M.Engine.RegexEngine)
+    ensures refused { IfErr result (TellsOneOf
+        (malformations_at (world L.Leaf.Leaf M.Engine.RegexEngine)
         (view schema.now) ctx.old.place)) }
     ensures costs { OnOk result (Spends ctx.old.meter.now ctx.new.meter.now
         (cost (world L.Leaf.Leaf M.Engine.RegexEngine) (view schema.now))) }

@@ -5,7 +5,7 @@ ghost use Rattle.olk_spec.specs.Schemas.{listed};
 ghost use Rattle.olk_node.specs.Kit.{kit};
 ghost use Rattle.olk_build.specs.Plans.{planned};
 ghost use Rattle.olk_build.specs.Reading.{PartsStand};
-ghost use Rattle.olk_build.specs.Making.{MakesClaims, KeywordsMean};
+ghost use Rattle.olk_build.specs.Making.{MakesClaims, ObjectIsMade};
 
 use crate::lists::append;
 use crate::part::{Part, Shape};
@@ -63,9 +63,8 @@ pub(crate) fn make_keywords<K: Leaf, R: RegexEngine>(
 ) -> Result<Vec<Keyword<K, R>>, AllocError>
     requires { PartsStand (kit K.Leaf R.RegexEngine) parts.items
         (listed (members_view members.now.entries)) place.now }
-    ensures { IfOk result (λ ks. KeywordsMean (kit K.Leaf R.RegexEngine)
-        (members_view members.now.entries) ks.items (listed (members_view members.now.entries))
-        (listed (members_view members.now.entries)) place.now) }
+    ensures { IfOk result (λ ks. ObjectIsMade (kit K.Leaf R.RegexEngine)
+        (members_view members.now.entries) ks.items place.now) }
 {
     let plan = Plan::of(members);
     let mut keywords = Vec::new(alloc);

@@ -60,7 +60,8 @@ fn two_names(value: Option<&Value>) -> Option<(&str, &str)>
 /// The two names that `properties` fuses in an object with these members: it does where few names are declared, no other
 /// keyword tells members by their names, and `required` lists two names that differ.
 fn fused_names(members: &Map<String, Value>) -> Option<(&str, &str)>
-    ensures { option_map (λ t. (t.0.now, t.1.now)) result ≡ fused_names (members_view members.now.entries) }
+    ensures { option_map (λ t. (t.0.now, t.1.now)) result
+        ≡ fused_names (members_view members.now.entries) }
 {
     if declares_few(member(members, "properties"))
         && !has_member(members, "patternProperties")

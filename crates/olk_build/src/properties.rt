@@ -30,7 +30,8 @@ fn form<K, N: Drop>(
     location: Location,
     properties: SmallMap<N>,
 ) -> Result<KeywordOver<K, N>, AllocError>
-    ensures { IfOk result (IsFormOfProperties place.now location properties (planned plan.entry).fused) }
+    ensures { IfOk result (IsFormOfProperties place.now location properties
+        (planned plan.entry).fused) }
 {
     let Some((first, second)) = plan.fused else {
         return Ok(KeywordOver::Properties(SmallProperties {
@@ -64,8 +65,8 @@ pub(crate) fn make<K: Leaf, R: RegexEngine>(
     nodes: Vec<SchemaNode<K, R>>,
 ) -> Result<Keyword<K, R>, AllocError>
     ensures form { IfOk result (IsProperties place.now location (planned plan.entry).fused) }
-    ensures makes { IfOk result (λ k. MakesClaims (kit K.Leaf R.RegexEngine) (shape.Properties names)
-        location nodes.items place.now (planned plan.entry) (k ∷ [])) }
+    ensures makes { IfOk result (λ k. MakesClaims (kit K.Leaf R.RegexEngine)
+        (shape.Properties names) location nodes.items place.now (planned plan.entry) (k ∷ [])) }
 {
     let properties = SmallMap { names, nodes };
     Ok(form(alloc, plan, place, location, properties)?)
@@ -89,7 +90,8 @@ pub fn compile<'a, L: MakeLeaf, M: MakeRegex>(
     ensures gives { IsSomeAnd result (BuildsClaims (kit L.Leaf.Leaf M.Engine.RegexEngine)
         (members_view parent.now.entries) (codes "properties") (view schema.now)
         ctx.old.place ctx.old.meter.now ctx.new.meter.now) }
-    ensures form { Gives result (IsProperties ctx.old.place (one_below ctx.old.place (codes "properties"))
+    ensures form { Gives result (IsProperties ctx.old.place
+        (one_below ctx.old.place (codes "properties"))
         (plan_of (members_view parent.now.entries)).fused) }
     ensures place { ctx.new.place ≡ ctx.old.place }
     ensures same_meter { ctx.new.meter.ghost_name ≡ ctx.old.meter.ghost_name }

@@ -7,9 +7,9 @@ ghost use Rattle.olk_spec.specs.Vocabulary.{unsupported_names, keyword_named, le
 ghost use Rattle.olk_spec.specs.Schemas.{members, texts, texts_in, is_object, is_array};
 ghost use Rattle.olk_spec.specs.Malformed.{pending, unless_object, unless_array, not_a_text};
 ghost use Rattle.olk_node.specs.Kit.{kit, world};
-ghost use Rattle.olk_build.specs.Building.{TellsOneOf, Refuses};
+ghost use Rattle.olk_build.specs.Building.{TellsOneOf};
 ghost use Rattle.olk_build.specs.Lists.{not_texts};
-ghost use Rattle.olk_build.specs.Reading.{IsFor, IsOther, IsRead, own_faults, own_cost_of};
+ghost use Rattle.olk_build.specs.Reading.{IsFor, IsOther, IsRead, RefusesKeyword};
 
 use crate::context::Makers;
 use crate::lists::append;
@@ -129,7 +129,8 @@ fn texts_of_items<'a>(
     place: &Location,
     items: &'a Vec<Value>,
 ) -> Result<Vec<String>, BuildError<'a>>
-    ensures names { IfOk result (λ v. map string_bytes v.items ≡ texts_in (items_view items.now.items)) }
+    ensures names { IfOk result (λ v. map string_bytes v.items
+        ≡ texts_in (items_view items.now.items)) }
     ensures texts { IfOk result (λ v. not_texts place.now (items_view items.now.items) ≡ []) }
     ensures refused { IfErr result (TellsOneOf (not_texts place.now (items_view items.now.items))) }
 {
@@ -199,10 +200,8 @@ pub(crate) fn read_keyword<'a, L: MakeLeaf, M: MakeRegex>(
 ) -> Result<Shape<L::Leaf>, BuildError<'a>>
     ensures built { IfOk result (λ x. IsRead (kit L.Leaf.Leaf M.Engine.RegexEngine) x
         name.now (view value.now) location.now meter.old meter.new) }
-    ensures refused { IfErr result (Refuses
-        (own_faults (world L.Leaf.Leaf M.Engine.RegexEngine) name.now (view value.now) location.now)
-        (own_cost_of (keyword_named (world L.Leaf.Leaf M.Engine.RegexEngine) name.now))
-        meter.old meter.new) }
+    ensures refused { IfErr result (RefusesKeyword (kit L.Leaf.Leaf M.Engine.RegexEngine)
+        name.now (view value.now) location.now meter.old meter.new) }
 {
     match keyword_for(name) {
         KeywordFor::Properties => Ok(Shape::Properties(names_of_object(alloc, location, value)?)),
@@ -235,10 +234,8 @@ fn read_other<'a, L: MakeLeaf, M: MakeRegex>(
     requires let_through { is_among name.now (unsupported_names ++ pending) ≡ false }
     ensures built { IfOk result (λ x. IsRead (kit L.Leaf.Leaf M.Engine.RegexEngine) x
         name.now (view value.now) location.now meter.old meter.new) }
-    ensures refused { IfErr result (Refuses
-        (own_faults (world L.Leaf.Leaf M.Engine.RegexEngine) name.now (view value.now) location.now)
-        (own_cost_of (keyword_named (world L.Leaf.Leaf M.Engine.RegexEngine) name.now))
-        meter.old meter.new) }
+    ensures refused { IfErr result (RefusesKeyword (kit L.Leaf.Leaf M.Engine.RegexEngine)
+        name.now (view value.now) location.now meter.old meter.new) }
 {
     if !makers.leaves.reads(name) {
         return Ok(Shape::Unread);
@@ -263,10 +260,8 @@ fn read_leaf<'a, L: MakeLeaf, M: MakeRegex>(
     requires leaf { keyword_named (world L.Leaf.Leaf M.Engine.RegexEngine) name.now ≡ leaf }
     ensures built { IfOk result (λ x. IsRead (kit L.Leaf.Leaf M.Engine.RegexEngine) x
         name.now (view value.now) location.now meter.old meter.new) }
-    ensures refused { IfErr result (Refuses
-        (own_faults (world L.Leaf.Leaf M.Engine.RegexEngine) name.now (view value.now) location.now)
-        (own_cost_of (keyword_named (world L.Leaf.Leaf M.Engine.RegexEngine) name.now))
-        meter.old meter.new) }
+    ensures refused { IfErr result (RefusesKeyword (kit L.Leaf.Leaf M.Engine.RegexEngine)
+        name.now (view value.now) location.now meter.old meter.new) }
 {
     match makers.leaves.make(alloc, name, value, meter) {
         Ok(leaf) => Ok(Shape::Leaf(leaf)),

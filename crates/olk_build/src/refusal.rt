@@ -37,8 +37,8 @@ pub(crate) fn refuse_type<'a>(
     value: &'a Value,
     place: &Location,
 ) -> BuildError<'a>
-    ensures { TellsOneOf (fault (SingleType (type_name_of expected)) (view value.now) [] place.now ∷ [])
-        result }
+    ensures { TellsOneOf
+        (fault (SingleType (type_name_of expected)) (view value.now) [] place.now ∷ []) result }
 {
     refuse(
         alloc,

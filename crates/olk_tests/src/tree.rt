@@ -241,8 +241,16 @@ fn is_single_any_of(alloc: Global, branches: &Value) -> Result<bool, Fail> {
 fn one_branch_has_a_form_of_its_own(rt: HostRuntime) -> Result<(), Fail> {
     for (text, is_single) in [("[]", false), ("[true]", true), ("[true,{}]", false)] {
         let branches = Value::from_str(rt.alloc(), text)?;
-        assert_eq!(rt; is_single_all_of(rt.alloc(), &branches)?, is_single, "{text}");
-        assert_eq!(rt; is_single_any_of(rt.alloc(), &branches)?, is_single, "{text}");
+        assert_eq!(rt;
+            is_single_all_of(rt.alloc(), &branches)?,
+            is_single,
+            "{text}"
+        );
+        assert_eq!(rt;
+            is_single_any_of(rt.alloc(), &branches)?,
+            is_single,
+            "{text}"
+        );
     }
     Ok(())
 }
