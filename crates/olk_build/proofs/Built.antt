@@ -1,5 +1,5 @@
 -- What is built so far, and one more.
-use Rattle.std.specs.Prelude.{◌≡◌, ◌≤◌, ◌<◌, ◌+◌, ⊤, ℕ, Bool, true, false, ◌&&◌, List, [], ◌∷◌, ◌++◌, map, sum_by, take, drop, length, decimal, Option, IsPermutation, slice_index_or as get_or}
+use Rattle.std.specs.Prelude.{◌≡◌, ◌≤◌, ◌<◌, ◌+◌, ⊤, ℕ, Bool, true, false, ◌&&◌, List, [], ◌∷◌, ◌++◌, map, sum_by, take, drop, length, decimal, IsPermutation, slice_index_or as get_or}
 use Rattle.std.specs.List.{list_all, flat_map, enumerate_from}
 use Rattle.std.proofs.Common.{refl, sym, ◌∙◌, ap, subst, arith}
 use mathlib.Core.Path.{subst₂}

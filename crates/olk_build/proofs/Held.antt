@@ -39,10 +39,10 @@ use Rattle.olk_node.specs.Nodes.{answers}
 use Rattle.olk_tree.specs.Shown.{missing_trees, properties_tree, branch_trees, any_of_tree}
 use Rattle.olk_node.specs.Stands.{StandsFor}
 use Rattle.olk_build.specs.Members.{member_accepts, member_asks, member_report, member_child, StandsAlone}
-use Rattle.olk_build.specs.Plans.{Planned, plan_of, head, claims}
+use Rattle.olk_build.specs.Plans.{Planned, head, claims}
 use Rattle.olk_build.specs.Forms.{fused_names, IsFormOfProperties, IsFormOfAllOf, IsFormOfAnyOf}
 use Rattle.olk_build.specs.Reading.{IsOther}
-use Rattle.olk_build.specs.Building.{StandEach, all_malformed, which, Holds, Covers}
+use Rattle.olk_build.specs.Building.{StandEach, which, Holds, Covers}
 use Rattle.olk_build.specs.Making.{KeywordMeans, KeywordsMean}
 use Rattle.olk_tree.specs.declared.map.SmallMap.{SmallMap}
 use Rattle.olk_tree.specs.declared.properties.SmallPropertiesWithRequired2.{SmallPropertiesWithRequired2}
@@ -61,9 +61,6 @@ use Rattle.olk_tree.proofs.Maps.{is_empty-map}
 
 with_nothing : (a b : ℕ) → a ≤ b → a + 0 ≤ b
 with_nothing a b h = omega (arith, h)
-
-no_more : (a b : ℕ) → b ≡ 0 → 0 ≤ b
-no_more a b h = omega arith
 
 sum_within : (a b c d e : ℕ) → a ≤ b → c ≤ d → e ≡ b + d → a + c ≤ e
 sum_within a b c d e h k s = omega (arith, h, k, s)

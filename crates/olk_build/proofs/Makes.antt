@@ -1,5 +1,5 @@
 -- What is made of a part, and of all parts.
-use Rattle.std.specs.Prelude.{◌≡◌, Bool, true, false, List, [], ◌∷◌, ◌++◌, map, codes, bytes_eq, Option, Some, None, is_some, option_map, Vec, String}
+use Rattle.std.specs.Prelude.{◌≡◌, Bool, true, false, List, [], ◌∷◌, ◌++◌, map, codes, bytes_eq, Option, Some, None, is_some, Vec, String}
 use Rattle.std.specs.List.{flat_map}
 use Rattle.std.specs.declared.alloc.Global.{Global}
 use Rattle.std.proofs.Common.{refl, sym, ◌∙◌, ap, subst}
@@ -15,7 +15,7 @@ use Rattle.olk_spec.specs.Malformed.{has_repeat, items_of_array}
 use Rattle.olk_spec.proofs.Walks.{same_name}
 use Rattle.olk_node.specs.Kit.{Kit}
 use Rattle.olk_build.specs.Plans.{Planned, plan_of, head, claims}
-use Rattle.olk_build.specs.Forms.{fused_names, IsFormOfProperties, IsFormOfAllOf, IsFormOfAnyOf}
+use Rattle.olk_build.specs.Forms.{IsFormOfProperties, IsFormOfAllOf, IsFormOfAnyOf}
 use Rattle.olk_build.specs.Building.{StandEach}
 use Rattle.olk_build.specs.Reading.{reads_of, IsShape, StandAt, PartsStand}
 use Rattle.olk_build.specs.Making.{KeywordMeans, KeywordsMean, MakesMember, MakesClaims}

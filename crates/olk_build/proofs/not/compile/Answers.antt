@@ -1,4 +1,3 @@
-use Rattle.std.proofs.Common.{sym}
 use Rattle.serde_json.specs.View.{view}
 use Rattle.olk_node.specs.Kit.{kit}
 use Rattle.olk_build.proofs.Modules.{no_other_not, not_without_node, not_built, not_is_formed}

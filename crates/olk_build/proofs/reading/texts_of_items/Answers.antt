@@ -1,5 +1,4 @@
-use Rattle.std.proofs.Common.{[], ◌∷◌, map, string_bytes, sym}
-use Rattle.serde_json.specs.View.{view}
+use Rattle.std.proofs.Common.{map, string_bytes, sym}
 use Rattle.olk_build.proofs.Texts.{one_more_text, first_no_text, all_are_texts, none_is_no_text}
 use Rattle.olk_build.proofs.Spending.{tells_same}
 use Rattle.olk_build.proofs.reading.texts_of_items.Goals as goal
