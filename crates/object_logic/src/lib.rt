@@ -24,6 +24,7 @@ pub use olk_reports::{
     EvaluationNode, EvaluationResult, InstancePath, Location, Mark, ValidateError, ValidationError,
     ValidationErrorKind,
 };
+pub use olk_spec::HASHMAP_THRESHOLD;
 pub use olk_tree::{Means, RequiredValidator, SortedNames};
 pub use validate::Validate;
 pub use validator::Validator;

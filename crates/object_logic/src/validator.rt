@@ -55,7 +55,7 @@ impl<K: Leaf, R: RegexEngine> Validator<K, R> {
         ensures costs_at_most { OnErr result (SpendsWithin meter.old meter.new (cost (world K.Leaf R.RegexEngine) (view schema.now))) }
     {
         let mut ctx = Context::new(alloc, leaves, regexes, meter);
-        let built = compile(&mut ctx, alloc, schema);
+        let built = compile(alloc, &mut ctx, schema);
         let _meter = meter_of(ctx);
         Ok(Validator { root: built? })
     }

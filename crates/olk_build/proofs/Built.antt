@@ -1,9 +1,7 @@
 -- What is built so far, and one more.
-use Rattle.std.specs.Prelude.{◌≡◌, ◌≤◌, ◌<◌, ◌+◌, ⊤, ℕ, Bool, true, false, ◌&&◌, List, [], ◌∷◌, ◌++◌, map, sum_by, take, drop, length, decimal, Option, Some, IsPermutation, Result, Ok, Err, IfOk, IfErr, slice_index_or as get_or}
+use Rattle.std.specs.Prelude.{◌≡◌, ◌≤◌, ◌<◌, ◌+◌, ⊤, ℕ, Bool, true, false, ◌&&◌, List, [], ◌∷◌, ◌++◌, map, sum_by, take, drop, length, decimal, IsPermutation, slice_index_or as get_or}
 use Rattle.std.specs.List.{list_all, flat_map, enumerate_from}
-use Rattle.std.specs.List.Sorted.{IsStrictlySortedBy}
-use Rattle.std.specs.Map.{keys_of}
-use Rattle.std.proofs.Common.{refl, sym, ◌∙◌, ap, subst, arith, string_cmp, String}
+use Rattle.std.proofs.Common.{refl, sym, ◌∙◌, ap, subst, arith}
 use mathlib.Core.Path.{subst₂}
 use Rattle.std.proofs.lemmas.List.{append-nil, append_assoc, map-append, take_more, take-append-drop, length-map, length-take-le}
 use Rattle.std.proofs.lemmas.List.Folds.{list_all-append, list_all-map}
@@ -11,12 +9,12 @@ use Rattle.std.proofs.lemmas.List.Sorted.{sum_by-IsPermutation}
 use Rattle.std.proofs.lemmas.List.Sums.{sum_by-append, sum_by-cons}
 use Rattle.std.proofs.lemmas.Grind.{flat_map-append}
 use Rattle.serde_json.specs.Data.{Data, null, boolean, number, string, array, object, Members}
-use Rattle.serde_json.specs.View.{view, items_view, members_view}
+use Rattle.serde_json.specs.View.{view, items_view}
 use Rattle.serde_json.specs.declared.value.Value.{Value}
-use Rattle.olk_spec.specs.Names.{Name, Path, ◌//◌, lookup}
+use Rattle.olk_spec.specs.Names.{Name, Path, ◌//◌}
 use Rattle.olk_spec.specs.Faults.{fault, MultipleTypes, ◌∼◌, like_empty, like_through}
 use Rattle.olk_spec.specs.Schemas.{listed, numbered, read_members}
-use Rattle.olk_spec.specs.Vocabulary.{Keyword, keyword_named}
+use Rattle.olk_spec.specs.Vocabulary.{keyword_named}
 use Rattle.olk_spec.specs.Malformed.{has_repeat, malformations_beside, malformations_step, keyword_malformations, pending, items_list}
 use Rattle.olk_spec.specs.Meaning.{meaning, meaning_step, accepts, asks, report, tree}
 use Rattle.olk_spec.specs.Accepts.{keyword_accepts}
@@ -34,21 +32,23 @@ use Rattle.olk_node.specs.Kit.{Kit}
 use Rattle.olk_tree.specs.Questions.{Question, every}
 use Rattle.olk_tree.specs.Answers.{validator_means, validator_report, body_means, body_report, validator_tree, body_tree}
 use Rattle.olk_node.specs.Nodes.{answers}
-use Rattle.olk_build.specs.Claims.{claims}
-use Rattle.olk_build.specs.Forms.{taken_names}
+use Rattle.olk_build.specs.Plans.{claims}
 use Rattle.olk_node.specs.Stands.{StandsFor}
 use Rattle.olk_build.specs.Members.{malformations_at, member_accepts, member_asks, member_report, member_child, StandsAlone, member_malformations, member_cost}
 use Rattle.olk_tree.proofs.Maps.{flat_map-map}
 use Rattle.std.specs.Prelude.{Vec}
 use Rattle.std.specs.declared.alloc.Global.{Global}
 use Rattle.olk_spec.specs.World.{World}
-use Rattle.olk_build.specs.Building.{all_malformed, TellsOneOf, Refuses, IsBuilt, StandEach, AreBuilt, each_cost, KeywordIsBuilt, KeywordsAreBuilt, HoldsClaims, RefusesMember, all_cost, which, ask, find}
-use Rattle.olk_build.specs.Parts.{BuildsClaims}
+use Rattle.olk_spec.proofs.Each.{Each}
+use Rattle.olk_spec.specs.Names.{is_among}
+use Rattle.olk_build.specs.Building.{Spends, all_malformed, TellsOneOf, Refuses, IsBuilt, StandEach, AreBuilt, each_cost, all_cost, which, ask, find, Covers}
+use Rattle.olk_build.specs.Making.{KeywordMeans, KeywordsMean}
 use Rattle.olk_tree.specs.declared.node.KeywordOver.{KeywordOver}
 use Rattle.olk_tree.specs.declared.node.Body.{Body}
 use Rattle.olk_tree.specs.declared.node.Body.TheVariants.{True, False, Keywords}
 use Rattle.olk_node.specs.declared.node.SchemaNode.{SchemaNode, out-SchemaNode}
-use Rattle.olk_build.proofs.Claims.{list_all-permuted, claims_are_all, sorted_distinct, member_found}
+use Rattle.olk_build.proofs.Claims.{list_all-permuted}
+use Rattle.olk_build.proofs.Heads.{names_of, claims_are_all}
 use Rattle.olk_node.proofs.Layers.{node_means, node_finds, node_shows, node_location}
 use Rattle.olk_build.proofs.Spending.{sum_last, total_cost-append, total_cost-map, spends_nothing, spends_append, spends_same, spends_place, within_after, within_same, within_exactly, tells_same}
 
@@ -227,17 +227,17 @@ module _ {K R : Type 0} (o : Kit K R) where
       spends = spends_place a m c;
     }
 
-    pub built_object : (ms : Members) (ks : Vec (KeywordOver K (SchemaNode K R)) Global) (z : Counts) → (out-SchemaNode K R n).body ≡ Keywords ks → d ≡ object ms → KeywordsAreBuilt o ms ks.items (listed ms) (listed ms) P m z → IsBuilt o n d P a z
-    built_object ms ks z b e h = subst (λ x. IsBuilt o n x P a z) (sym e) record {
+    pub built_object : (ms : Members) (ks : Vec (KeywordOver K (SchemaNode K R)) Global) (z : Counts) → (out-SchemaNode K R n).body ≡ Keywords ks → d ≡ object ms → KeywordsMean o ms ks.items (listed ms) (listed ms) P → all_malformed o ms P (listed ms) ≡ [] → Spends m z (all_cost o ms (listed ms)) → IsBuilt o n d P a z
+    built_object ms ks z b e h clean spent = subst (λ x. IsBuilt o n x P a z) (sym e) record {
       stands = record {
         verdict = λ u v. ap (λ q. q.accepts u) (node_means o n v ∙ ap (λ y. body_means (validator_means o.finds (λ z. (answers o z).means)) y v) b) ∙ h.covers.verdict u v ∙ sym (object_accepts o.world ms u v);
         asks_within = λ u v. let q = ap (λ q. q.asks u) (node_means o n v ∙ ap (λ y. body_means (validator_means o.finds (λ z. (answers o z).means)) y v) b) in let r = h.covers.asks_within u v in let t = object_asks o.world ms u v in omega (arith, q, r, t);
         faults = λ u v Q. like_through (∼_same (node_finds o n u v Q ∙ ap (λ y. body_report (validator_report o.finds (λ z. (answers o z).means) o.keyword_of (λ z. (answers o z).report) u) (out-SchemaNode K R n).location y v Q) b)) (like_through (h.covers.faults u v Q) (∼_same (sym (object_report o.world ms u v P Q))));
-        evaluation = λ u v Q. node_shows o n u v Q ∙ (λ i. body_tree (validator_tree o.finds (λ z. (answers o z).means) o.keyword_of (λ z. (answers o z).tree) u) (at i) (b i) v Q) ∙ ap (plain P Q) (h.shows h.clean u v Q) ∙ sym (object_tree o.world ms u v P Q);
+        evaluation = λ u v Q. node_shows o n u v Q ∙ (λ i. body_tree (validator_tree o.finds (λ z. (answers o z).means) o.keyword_of (λ z. (answers o z).tree) u) (at i) (b i) v Q) ∙ ap (plain P Q) (h.shows clean u v Q) ∙ sym (object_tree o.world ms u v P Q);
         place = node_location o n ∙ at;
       };
-      clean = object_malformed o.world ms P ∙ h.clean;
-      spends = spends_same a z _ (cost o.world (object ms)) (sym (object_cost o.world ms)) (spends_append a m z one_place _ (spends_place a m c) h.spends);
+      clean = object_malformed o.world ms P ∙ clean;
+      spends = spends_same a z _ (cost o.world (object ms)) (sym (object_cost o.world ms)) (spends_append a m z one_place _ (spends_place a m c) spent);
     }
 
   -- ---- nodes for schemas under names
@@ -261,17 +261,15 @@ module _ {K R : Type 0} (o : Kit K R) where
   -- ---- keywords
 
   module _ (ms : Members) (P : Path) where
-    pub no_keywords_built : (a : Counts) (ks : List (KeywordOver K (SchemaNode K R))) → ks ≡ [] → KeywordsAreBuilt o ms ks [] [] P a a
-    no_keywords_built a ks e = subst (λ x. KeywordsAreBuilt o ms x [] [] P a a) (sym e) record {
+    pub no_keywords_mean : (ks : List (KeywordOver K (SchemaNode K R))) → ks ≡ [] → KeywordsMean o ms ks [] [] P
+    no_keywords_mean ks e = subst (λ x. KeywordsMean o ms x [] [] P) (sym e) record {
       covers = record { verdict = λ u v. refl; asks_within = λ u v. omega arith; faults = λ u v Q. like_empty };
-      shows = λ c u v Q. refl;
-      clean = refl;
-      spends = spends_nothing a;
+      shows = λ clean u v Q. refl;
     }
 
-    -- what is built for one member alone
-    pub built_alone : (ks : List (KeywordOver K (SchemaNode K R))) (e : Name × Data) (a b : Counts) → (all_malformed o ms P (listed ms) ≡ [] → (u : Bool) → StandsAlone o.world u ms e (which o ms e)) → KeywordIsBuilt o ms ks e (which o ms e) P a b → KeywordsAreBuilt o ms ks (e ∷ []) (e ∷ []) P a b
-    built_alone ks e a b alone k = record {
+    -- what one member means alone
+    pub means_alone : (ks : List (KeywordOver K (SchemaNode K R))) (e : Name × Data) → (all_malformed o ms P (listed ms) ≡ [] → (u : Bool) → StandsAlone o.world u ms e (which o ms e)) → KeywordMeans o ms ks e P → KeywordsMean o ms ks (e ∷ []) (e ∷ []) P
+    means_alone ks e alone k = record {
       covers = record {
         verdict = λ u v. k.holds.verdict u v ∙ sym (and_true (member_accepts o.world ms e (which o ms e) u v));
         asks_within = λ u v.
@@ -281,13 +279,11 @@ module _ {K R : Type 0} (o : Kit K R) where
             omega (arith, t, q);
         faults = λ u v Q. subst (λ l. find o ms ks u v Q ∼ l) (sym (append-nil _)) (k.holds.faults u v Q);
       };
-      shows = λ c u v Q. k.shows u (alone c u) v Q ∙ sym (append-nil _);
-      clean = append-nil _ ∙ k.clean;
-      spends = spends_same a b _ (all_cost o ms (e ∷ [])) (sym (sum_last (member_cost o.world ms e (which o ms e)))) k.spends;
+      shows = λ clean u v Q. k.shows u (alone clean u) v Q ∙ sym (append-nil _);
     }
 
-    more_keywords : (ks ls new : List (KeywordOver K (SchemaNode K R))) (rows more es fs : List (Name × Data)) (a m b : Counts) → new ≡ ks ++ ls → KeywordsAreBuilt o ms ks rows es P a m → KeywordsAreBuilt o ms ls more fs P m b → KeywordsAreBuilt o ms new (rows ++ more) (es ++ fs) P a b
-    more_keywords ks ls new rows more es fs a m b q h k = subst (λ x. KeywordsAreBuilt o ms x (rows ++ more) (es ++ fs) P a b) (sym q) record {
+    more_keywords : (ks ls new : List (KeywordOver K (SchemaNode K R))) (rows more es fs : List (Name × Data)) → new ≡ ks ++ ls → KeywordsMean o ms ks rows es P → KeywordsMean o ms ls more fs P → KeywordsMean o ms new (rows ++ more) (es ++ fs) P
+    more_keywords ks ls new rows more es fs q h k = subst (λ x. KeywordsMean o ms x (rows ++ more) (es ++ fs) P) (sym q) record {
       covers = record {
         verdict = λ u v. (every-append (λ k. validator_means o.finds (λ n. (answers o n).means) k v) ks ls u).0 ∙ (λ i. h.covers.verdict u v i && k.covers.verdict u v i) ∙ sym (list_all-append _ rows more);
         asks_within = λ u v.
@@ -299,57 +295,26 @@ module _ {K R : Type 0} (o : Kit K R) where
             omega (arith, x, s, p, q);
         faults = λ u v Q. subst₂ (λ x y. x ∼ y) (sym (flat_map-append _ ks ls)) (sym (flat_map-append _ rows more)) (∼_append (h.covers.faults u v Q) (k.covers.faults u v Q));
       };
-      shows = λ c u v Q. map-append _ ks ls ∙ (λ i. h.shows c u v Q i ++ k.shows c u v Q i) ∙ sym (flat_map-append _ es fs);
-      clean = flat_map-append (λ x. member_malformations o.world ms x (which o ms x) P) es fs ∙ (λ i. h.clean i ++ k.clean i);
-      spends = spends_same a b _ (all_cost o ms (es ++ fs)) (sym (total_cost-append (λ x. member_cost o.world ms x (which o ms x)) es fs)) (spends_append a m b (all_cost o ms es) (all_cost o ms fs) h.spends k.spends);
+      shows = λ clean u v Q. map-append _ ks ls ∙ (λ i. h.shows clean u v Q i ++ k.shows clean u v Q i) ∙ sym (flat_map-append _ es fs);
     }
 
-    module _ (t : Option (Name × Name)) where
-      pub one_more_keyword : (ks ls new : List (KeywordOver K (SchemaNode K R))) (es : List (Name × Data)) (e : Name × Data) (a m b : Counts) → new ≡ ks ++ ls → KeywordsAreBuilt o ms ks (flat_map (claims t ms) es) es P a m → KeywordsAreBuilt o ms ls (claims t ms e) (e ∷ []) P m b → KeywordsAreBuilt o ms new (flat_map (claims t ms) (es ++ e ∷ [])) (es ++ e ∷ []) P a b
-      one_more_keyword ks ls new es e a m b q h k = subst (λ rows. KeywordsAreBuilt o ms new rows (es ++ e ∷ []) P a b)
-          (sym (flat_map-append (claims t ms) es (e ∷ []) ∙ ap (λ l. flat_map (claims t ms) es ++ l) (append-nil (claims t ms e))))
-          (more_keywords ks ls new (flat_map (claims t ms) es) (claims t ms e) es (e ∷ []) a m b q h k)
+    -- the same rows in another order
+    covers_permuted : (ks : List (KeywordOver K (SchemaNode K R))) (rows others : List (Name × Data)) → IsPermutation rows others → Covers o ms ks rows P → Covers o ms ks others P
+    covers_permuted ks rows others same h = record {
+      verdict = λ u v. h.verdict u v ∙ list_all-permuted (λ m. member_accepts o.world ms m (which o ms m) u v) rows others same;
+      asks_within = λ u v. subst (λ n. ask o ms ks v u ≤ n) (sym (sum_by-IsPermutation (λ m. member_asks o.world ms m (which o ms m) u v) rows others same)) (h.asks_within u v);
+      faults = λ u v Q. like_through (h.faults u v Q) (∼_permuted (λ m. member_report o.world ms m (which o ms m) u v P Q) rows others same);
+    }
 
-      -- what all members claim are all members
-      pub all_keywords : (ks : List (KeywordOver K (SchemaNode K R))) (a b : Counts) → has_repeat (map (λ m. m.0) (listed ms)) ≡ false → t ≡ taken_names ms → KeywordsAreBuilt o ms ks (flat_map (claims t ms) (listed ms)) (listed ms) P a b → KeywordsAreBuilt o ms ks (listed ms) (listed ms) P a b
-      all_keywords ks a b distinct chosen h = record {
-        covers = record {
-          verdict = λ u v. h.covers.verdict u v ∙ list_all-permuted (λ m. member_accepts o.world ms m (which o ms m) u v) (flat_map (claims t ms) (listed ms)) (listed ms) all;
-          asks_within = λ u v. subst (λ n. ask o ms ks v u ≤ n) (sym (sum_by-IsPermutation (λ m. member_asks o.world ms m (which o ms m) u v) (flat_map (claims t ms) (listed ms)) (listed ms) all)) (h.covers.asks_within u v);
-          faults = λ u v Q. like_through (h.covers.faults u v Q) (∼_permuted (λ m. member_report o.world ms m (which o ms m) u v P Q) (flat_map (claims t ms) (listed ms)) (listed ms) all);
-        };
-        shows = h.shows;
-        clean = h.clean;
-        spends = h.spends;
-      }
-        where
-          all : IsPermutation (flat_map (claims t ms) (listed ms)) (listed ms)
-          all = claims_are_all ms distinct t chosen
+    pub means_permuted : (ks : List (KeywordOver K (SchemaNode K R))) (rows others es : List (Name × Data)) → IsPermutation rows others → KeywordsMean o ms ks rows es P → KeywordsMean o ms ks others es P
+    means_permuted ks rows others es same h = record { covers = covers_permuted ks rows others same h.covers; shows = h.shows }
 
-  -- ---- the members of an object, one after the other
+    module _ (heads : Name → Name) where
+      pub one_more_keyword : (ks ls new : List (KeywordOver K (SchemaNode K R))) (es : List (Name × Data)) (e : Name × Data) → new ≡ ks ++ ls → KeywordsMean o ms ks (flat_map (claims heads (listed ms)) es) es P → KeywordsMean o ms ls (claims heads (listed ms) e) (e ∷ []) P → KeywordsMean o ms new (flat_map (claims heads (listed ms)) (es ++ e ∷ [])) (es ++ e ∷ []) P
+      one_more_keyword ks ls new es e q h k = subst (λ rows. KeywordsMean o ms new rows (es ++ e ∷ []) P)
+          (sym (flat_map-append (claims heads (listed ms)) es (e ∷ []) ∙ ap (λ l. flat_map (claims heads (listed ms)) es ++ l) (append-nil (claims heads (listed ms) e))))
+          (more_keywords ks ls new (flat_map (claims heads (listed ms)) es) (claims heads (listed ms) e) es (e ∷ []) q h k)
 
-  module _ (entries : List (String Global × Value)) (sorted : IsStrictlySortedBy string_cmp (keys_of entries)) (P : Path) (t : Option (Name × Name)) (chosen : t ≡ taken_names (members_view entries)) where
-    abbrev object_members : Members
-    object_members = members_view entries
-
-    abbrev BuiltSoFar : List (KeywordOver K (SchemaNode K R)) → List (Name × Data) → Counts → Counts → Type 0
-    BuiltSoFar ks es a b = KeywordsAreBuilt o object_members ks (flat_map (claims (taken_names object_members) object_members) es) es P a b
-
-    pub next_keyword : (ks ls new : List (KeywordOver K (SchemaNode K R))) (done : List (Name × Data)) (n : Name) (d : Data) (rest : List (Name × Data)) (at : Path) (a m b : Counts) → new ≡ ks ++ ls → done ++ (n, d) ∷ rest ≡ listed object_members → at ≡ P // n
-        → BuiltSoFar ks done a m → HoldsClaims o ls t n d P at m b → BuiltSoFar new (done ++ (n, d) ∷ []) a b
-    next_keyword ks ls new done n d rest at a m b q whole place h k =
-        one_more_keyword object_members P (taken_names object_members) ks ls new done (n, d) a m b q h
-        (subst (λ s. KeywordsAreBuilt o object_members ls (claims s object_members (n, d)) ((n, d) ∷ []) P m b) chosen (k object_members place (sorted_distinct entries sorted) (member_found entries done (n, d) rest sorted whole) chosen))
-
-    pub last_keyword : (ks : List (KeywordOver K (SchemaNode K R))) (done : List (Name × Data)) (a b : Counts) → done ≡ listed object_members → BuiltSoFar ks done a b → KeywordsAreBuilt o object_members ks (listed object_members) (listed object_members) P a b
-    last_keyword ks done a b whole h = all_keywords object_members P (taken_names object_members) ks a b (sorted_distinct entries sorted) refl (subst (λ es. BuiltSoFar ks es a b) whole h)
-
-  -- the keyword of a member of one object
-  pub in_object : (ms : Members) (t : Option (Name × Name)) (chosen : t ≡ taken_names ms) (ks : List (KeywordOver K (SchemaNode K R))) (k : Name) (d : Data) (P : Path) (a b : Counts) → HoldsClaims o ks t k d P (P // k) a b
-      → has_repeat (map (λ m. m.0) (listed ms)) ≡ false → lookup k (listed ms) ≡ Some d → KeywordsAreBuilt o ms ks (claims (taken_names ms) ms (k, d)) ((k, d) ∷ []) P a b
-  in_object ms t chosen ks k d P a b h distinct there = subst (λ s. KeywordsAreBuilt o ms ks (claims s ms (k, d)) ((k, d) ∷ []) P a b) chosen (h ms refl distinct there chosen)
-
-  pub builds_claims : (ms : Members) (t : Option (Name × Name)) (chosen : t ≡ taken_names ms) (k : Name) (d : Data) (w : Keyword) (P L : Path) (a b : Counts) (r : Result (KeywordOver K (SchemaNode K R)) BuildError) → L ≡ P // k
-      → IfOk r (λ x. HoldsClaims o (x ∷ []) t k d P L a b) → IfErr r (RefusesMember o k d w L a b) → BuildsClaims o ms k d w P a b r
-  builds_claims ms t chosen k d w P L a b (Ok x) e h g = (λ distinct there. in_object ms t chosen (x ∷ []) k d P a b (subst (λ M. HoldsClaims o (x ∷ []) t k d P M a b) e h) distinct there, tt)
-  builds_claims ms t chosen k d w P L a b (Err x) e h g = (tt, subst (λ M. RefusesMember o k d w M a b x) e g)
+      -- where the head of each member is there, what the members claim is the object's meaning: its verdict, its report up to order, its tree in the order of names, and its asks at most
+      pub heads_mean_all : (ks : List (KeywordOver K (SchemaNode K R))) → has_repeat (names_of (listed ms)) ≡ false → Each (λ x. is_among (heads x.0) (names_of (listed ms)) ≡ true) (listed ms) → KeywordsMean o ms ks (flat_map (claims heads (listed ms)) (listed ms)) (listed ms) P → KeywordsMean o ms ks (listed ms) (listed ms) P
+      heads_mean_all ks distinct there h = means_permuted ks (flat_map (claims heads (listed ms)) (listed ms)) (listed ms) (listed ms) (claims_are_all heads (listed ms) distinct there) h

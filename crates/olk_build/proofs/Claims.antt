@@ -1,7 +1,7 @@
--- All claims together are all members.
-use Rattle.std.specs.Prelude.{◌≡◌, ⊤, ◌||◌, map, Bool, true, false, cond, not, ◌&&◌, List, [], ◌∷◌, ◌++◌, Option, Some, None, is_some, unwrap_or, codes, bytes_eq, IsPermutation, String}
+-- What the validators of an object stand for, by its plan.
+use Rattle.std.specs.Prelude.{◌≡◌, ⊤, ◌||◌, map, Bool, true, false, cond, ◌&&◌, List, [], ◌∷◌, ◌++◌, Option, Some, None, is_some, unwrap_or, codes, bytes_eq, IsPermutation, String}
 use Rattle.std.specs.declared.alloc.Global.{Global}
-use Rattle.std.specs.List.{list_all, flat_map, AllByRecursion}
+use Rattle.std.specs.List.{list_all, AllByRecursion}
 use Rattle.std.specs.List.Sorted.{IsStrictlySortedBy}
 use Rattle.std.specs.Map.{keys_of}
 use Rattle.std.specs.Ordering.{nat_cmp, is_eq}
@@ -9,20 +9,21 @@ use Rattle.std.specs.Cmp.Lexicographic.{slice_cmp}
 use Rattle.std.specs.declared.cmp.Ordering.{Ordering}
 use Rattle.std.specs.declared.cmp.Ordering.TheVariants.{Less, Equal, Greater}
 use Rattle.std.proofs.Common.{refl, sym, ◌∙◌, ap, subst, string_cmp, string_bytes}
-use Rattle.std.proofs.lemmas.List.Sorted.{IsPermutation-refl, IsPermutation-cons, IsPermutation-sym, IsPermutation-trans, IsPermutation-middle}
 use Rattle.std.proofs.lemmas.Map.Text.{is_eq-slice_cmp}
 use mathlib.Core.Bool.{true≢false}
+use mathlib.Core.Path.{subst₂}
 use Rattle.serde_json.specs.Data.{Data, string, array, no_items, item, Members}
 use Rattle.serde_json.specs.View.{members_view}
 use Rattle.serde_json.specs.declared.value.Value.{Value}
-use Rattle.olk_spec.specs.Names.{Name, lookup, first_if_equal, is_among, those, put_if, is_empty}
+use Rattle.olk_spec.specs.Names.{Name, lookup, first_if_equal, is_among, those, put_if}
 use Rattle.olk_spec.specs.Schemas.{listed}
 use Rattle.olk_spec.specs.Malformed.{has_repeat}
 use Rattle.olk_spec.proofs.Each.{Each}
 use Rattle.olk_spec.proofs.Order.{along_permutation}
-use Rattle.olk_spec.proofs.Walks.{same_name, Distinct, Distinct-from, Each-found}
-use Rattle.olk_build.specs.Claims.{members_named, claims}
-use Rattle.olk_build.specs.Forms.{declares_few, allows_others, two_names, taken_names}
+use Rattle.olk_spec.proofs.Walks.{same_name, bytes_eq-sym, Distinct, Distinct-from, Each-found}
+use Rattle.olk_build.specs.Plans.{Planned, plan_of, head, claims}
+use Rattle.olk_build.proofs.Heads.{those_split, those_none, those-same, names_of}
+use Rattle.olk_build.specs.Forms.{declares_few, allows_others, two_names, fused_names}
 
 -- ---- lists in another order
 
@@ -35,42 +36,24 @@ and_turned false false c = refl
 pub list_all-permuted : {X : Type 0} (p : X → Bool) (xs ys : List X) → IsPermutation xs ys → list_all p xs ≡ list_all p ys
 list_all-permuted p = along_permutation (λ xs ys. list_all p xs ≡ list_all p ys) (λ xs. refl) (λ x xs ys h. ap (λ b. p x && b) h) (λ x y xs. and_turned (p x) (p y) (list_all p xs)) (λ xs ys zs h k. h ∙ k)
 
-module _ {X : Type 0} (test : X → Bool) where
-  abbrev others : List X → List X
-  others xs = those (λ x. not (test x)) xs
+-- ---- what is fused
 
-  -- those of which a test holds, and the others
-  parts : (xs : List X) → IsPermutation (those test xs ++ others xs) xs
-  parts [] = IsPermutation-refl []
-  parts (x ∷ xs) = by (test x) (parts xs)
-    where
-      by : (b : Bool) → IsPermutation (those test xs ++ others xs) xs → IsPermutation (put_if b x (those test xs) ++ put_if (not b) x (others xs)) (x ∷ xs)
-      by true h = IsPermutation-cons x _ _ h
-      by false h = IsPermutation-trans _ _ _ (IsPermutation-middle (those test xs) x (others xs)) (IsPermutation-cons x _ _ h)
-
-none_more : {X : Type 0} (b : Bool) (x : X) (xs : List X) → put_if b x xs ≡ [] → (b ≡ false) × (xs ≡ [])
-none_more true x xs e = absurd (true≢false (sym (ap is_empty e)))
-none_more false x xs e = (refl, e)
-
-abbrev tail : {X : Type 0} → List X → List X
-tail [] = []
-tail (x ∷ xs) = xs
-
--- ---- what is taken over
+abbrev pub members_named : Name → List (Name × Data) → List (Name × Data)
+members_named k es = those (λ m. bytes_eq k m.0) es
 
 abbrev pub listing : Name × Name → Data
 listing t = array (item (string t.0) (item (string t.1) no_items))
 
 -- the names are those that `required` lists beside `properties`, and each of the two stands once
-pub record TakesOver (ms : Members) (t : Name × Name) : Type 0 where
+pub record Fuses (ms : Members) (t : Name × Name) : Type 0 where
   pub value : Data
-  pub declared : members_named (codes "properties") (listed ms) ≡ (codes "properties", value) ∷ []
+  pub declared : lookup (codes "properties") (listed ms) ≡ Some value
   pub listed_at : lookup (codes "required") (listed ms) ≡ Some (listing t)
   pub required : members_named (codes "required") (listed ms) ≡ (codes "required", listing t) ∷ []
 
-abbrev AreTaken : Members → Option (Name × Name) → Type 0
-AreTaken ms None = ⊤
-AreTaken ms (Some t) = TakesOver ms t
+abbrev AreFused : Members → Option (Name × Name) → Type 0
+AreFused ms None = ⊤
+AreFused ms (Some t) = Fuses ms t
 
 none_named : (k : Name) (es : List (Name × Data)) → Each (λ m. bytes_eq k m.0 ≡ false) es → members_named k es ≡ []
 none_named k [] h = refl
@@ -111,74 +94,97 @@ where_few true true false o t e = absurd (true≢false (sym (ap is_some e)))
 where_few true false c o t e = absurd (true≢false (sym (ap is_some e)))
 where_few false b c o t e = absurd (true≢false (sym (ap is_some e)))
 
-are_taken : (ms : Members) (o : Option (Name × Name)) → Distinct (listed ms) → o ≡ taken_names ms → AreTaken ms o
-are_taken ms None h e = tt
-are_taken ms (Some t) h e =
+are_fused : (ms : Members) (o : Option (Name × Name)) → Distinct (listed ms) → o ≡ fused_names ms → AreFused ms o
+are_fused ms None h e = tt
+are_fused ms (Some t) h e =
     let es = listed ms in
     let w = where_few _ _ (allows_others (lookup (codes "additionalProperties") es)) (two_names (lookup (codes "required") es)) t (sym e) in
     let d = declared_value (lookup (codes "properties") es) w.0 in
     let r = listed_names (lookup (codes "required") es) t w.1 in
     record {
       value = d.0;
-      declared = named_once (codes "properties") d.0 es h d.1;
+      declared = d.1;
       listed_at = r;
       required = named_once (codes "required") (listing t) es h r;
     }
 
 module _ (ms : Members) (distinct : has_repeat (map (λ m. m.0) (listed ms)) ≡ false) where
-  pub takes_over : (t : Name × Name) → Some t ≡ taken_names ms → TakesOver ms t
-  takes_over t e = are_taken ms (Some t) (Distinct-from (listed ms) distinct) e
+  pub fuses : (t : Name × Name) → Some t ≡ fused_names ms → Fuses ms t
+  fuses t e = are_fused ms (Some t) (Distinct-from (listed ms) distinct) e
 
--- ---- the claims
+-- ---- what a validator stands for by the object's plan
 
-module _ (rows : List (Name × Data)) where
-  abbrev row : Bool → Bool → Name × Data → List (Name × Data)
-  row p r m = cond p (m ∷ rows) (cond r [] (m ∷ []))
+-- a member that is found is there
+lookup_among : (k : Name) (d : Data) (es : List (Name × Data)) → lookup k es ≡ Some d → is_among k (names_of es) ≡ true
+lookup_among k d [] e = absurd (true≢false (sym (ap is_some e)))
+lookup_among k d (m ∷ es) e = by (slice_cmp nat_cmp k m.0) (is_eq-slice_cmp k m.0) e (lookup_among k d es)
+  where
+    by : (o : Ordering) → is_eq o ≡ bytes_eq k m.0 → first_if_equal o m.1 (lookup k es) ≡ Some d → (lookup k es ≡ Some d → is_among k (names_of es) ≡ true) → is_among k (names_of (m ∷ es)) ≡ true
+    by Less q f g = ap (λ b. b || is_among k (names_of es)) (sym q) ∙ g f
+    by Greater q f g = ap (λ b. b || is_among k (names_of es)) (sym q) ∙ g f
+    by Equal q f g = ap (λ b. b || is_among k (names_of es)) (sym q)
 
-  abbrev claimed : List (Name × Data) → List (Name × Data)
-  claimed es = flat_map (λ m. row (bytes_eq (codes "properties") m.0) (bytes_eq (codes "required") m.0) m) es
+-- another keyword than `properties` and `required` is its own head, and that of no other
+pub heads_elsewhere : (p : Planned) (k : Name) → bytes_eq (codes "properties") k ≡ false → bytes_eq (codes "required") k ≡ false → (n : Name) → bytes_eq k (head p n) ≡ bytes_eq k n
+heads_elsewhere p k e f n = by (is_some p.fused) (bytes_eq (codes "required") n) refl
+  where
+    by : (a b : Bool) → bytes_eq (codes "required") n ≡ b → bytes_eq k (cond (a && b) (codes "properties") n) ≡ bytes_eq k n
+    by false b q = refl
+    by true false q = refl
+    by true true q = bytes_eq-sym k (codes "properties") ∙ e ∙ sym f ∙ bytes_eq-sym (codes "required") k ∙ ap (bytes_eq k) (same_name (codes "required") n q)
 
-  abbrev not_required : List (Name × Data) → List (Name × Data)
-  not_required es = others (λ m. bytes_eq (codes "required") m.0) es
+abbrev fusing : Name × Name → Planned
+fusing t = record { fused = Some t }
 
-  claimed_alone : (es : List (Name × Data)) → members_named (codes "properties") es ≡ [] → claimed es ≡ not_required es
-  claimed_alone [] e = refl
-  claimed_alone (m ∷ es) e =
-      let h = none_more (bytes_eq (codes "properties") m.0) m (members_named (codes "properties") es) e in
-      ap (λ p. row p (bytes_eq (codes "required") m.0) m ++ claimed es) h.0 ∙ by (bytes_eq (codes "required") m.0) (claimed_alone es h.1)
+-- `properties` that fuses is the head of both, and `required` of none
+head_of_both : (t : Name × Name) (n : Name) → bytes_eq (codes "properties") (head (fusing t) n) ≡ (bytes_eq (codes "properties") n || bytes_eq (codes "required") n)
+head_of_both t n = by (bytes_eq (codes "required") n) (bytes_eq (codes "properties") n) refl
+  where
+    by : (b x : Bool) → bytes_eq (codes "properties") n ≡ x → bytes_eq (codes "properties") (cond b (codes "properties") n) ≡ (x || b)
+    by true true q = refl
+    by true false q = refl
+    by false true q = q
+    by false false q = q
+
+head_of_none : (t : Name × Name) (n : Name) → bytes_eq (codes "required") (head (fusing t) n) ≡ false
+head_of_none t n = by (bytes_eq (codes "required") n) refl
+  where
+    by : (b : Bool) → bytes_eq (codes "required") n ≡ b → bytes_eq (codes "required") (cond b (codes "properties") n) ≡ false
+    by true q = refl
+    by false q = q
+
+names_differ : (n : Name) → bytes_eq (codes "properties") n ≡ true → bytes_eq (codes "required") n ≡ false
+names_differ n e = ap (bytes_eq (codes "required")) (sym (same_name (codes "properties") n e))
+
+pub claims_nothing : (t : Name × Name) (es : List (Name × Data)) (d : Data) → claims (head (fusing t)) es (codes "required", d) ≡ []
+claims_nothing t es d = those-same (λ (x : Name × Data). bytes_eq (codes "required") (head (fusing t) x.0)) (λ x. false) (λ x. head_of_none t x.0) es ∙ those_none es
+
+module _ (ms : Members) (distinct : has_repeat (names_of (listed ms)) ≡ false) where
+  -- a keyword that is its own head and that of no other claims its own member
+  pub claims_itself : (heads : Name → Name) (m : Name × Data) → ((n : Name) → bytes_eq m.0 (heads n) ≡ bytes_eq m.0 n) → lookup m.0 (listed ms) ≡ Some m.1 → claims heads (listed ms) m ≡ m ∷ []
+  claims_itself heads m same there = those-same (λ (x : Name × Data). bytes_eq m.0 (heads x.0)) (λ x. bytes_eq m.0 x.0) (λ x. same x.0) (listed ms) ∙ named_once m.0 m.1 (listed ms) (Distinct-from (listed ms) distinct) there
+
+  pub claims_both : (t : Name × Name) (d : Data) → lookup (codes "properties") (listed ms) ≡ Some d → Some t ≡ fused_names ms → IsPermutation ((codes "properties", d) ∷ (codes "required", listing t) ∷ []) (claims (head (fusing t)) (listed ms) (codes "properties", d))
+  claims_both t d there e = subst₂ IsPermutation
+      (λ i. named_once (codes "properties") d (listed ms) (Distinct-from (listed ms) distinct) there i ++ (fuses ms distinct t e).required i)
+      (those-same (λ (x : Name × Data). bytes_eq (codes "properties") x.0 || bytes_eq (codes "required") x.0) (λ x. bytes_eq (codes "properties") (head (fusing t) x.0)) (λ x. sym (head_of_both t x.0)) (listed ms))
+      (those_split (λ x. bytes_eq (codes "properties") x.0) (λ x. bytes_eq (codes "required") x.0) (λ x. names_differ x.0) (listed ms))
+
+  -- the head of each member is there
+  head_there : (p : Planned) → p ≡ plan_of ms → (x : Name × Data) → lookup x.0 (listed ms) ≡ Some x.1 → is_among (head p x.0) (names_of (listed ms)) ≡ true
+  head_there p e x there = by p.fused (ap (λ q. q.fused) e) (bytes_eq (codes "required") x.0)
     where
-      by : (r : Bool) → claimed es ≡ not_required es → cond r [] (m ∷ []) ++ claimed es ≡ put_if (not r) m (not_required es)
-      by true h = h
-      by false h = ap (λ l. m ∷ l) h
+      by : (o : Option (Name × Name)) → o ≡ fused_names ms → (b : Bool) → is_among (cond (is_some o && b) (codes "properties") x.0) (names_of (listed ms)) ≡ true
+      by None f b = lookup_among x.0 x.1 (listed ms) there
+      by (Some t) f true = lookup_among (codes "properties") (fuses ms distinct t f).value (listed ms) (fuses ms distinct t f).declared
+      by (Some t) f false = lookup_among x.0 x.1 (listed ms) there
 
-  names_differ : (n : Name) → bytes_eq (codes "properties") n ≡ true → bytes_eq (codes "required") n ≡ false
-  names_differ n e = ap (bytes_eq (codes "required")) (sym (same_name (codes "properties") n e))
-
-  claimed_once : (es : List (Name × Data)) (x : Name × Data) → members_named (codes "properties") es ≡ x ∷ [] → IsPermutation (rows ++ not_required es) (claimed es)
-  claimed_once [] x e = absurd (true≢false (ap is_empty e))
-  claimed_once (m ∷ es) x e = by (bytes_eq (codes "properties") m.0) (bytes_eq (codes "required") m.0) (names_differ m.0) e (claimed_alone es) (claimed_once es x)
+  pub heads_there : (p : Planned) → p ≡ plan_of ms → Each (λ x. is_among (head p x.0) (names_of (listed ms)) ≡ true) (listed ms)
+  heads_there p e = along (listed ms) (Each-found (listed ms) (Distinct-from (listed ms) distinct))
     where
-      by : (p r : Bool) → (p ≡ true → r ≡ false) → put_if p m (members_named (codes "properties") es) ≡ x ∷ []
-          → (members_named (codes "properties") es ≡ [] → claimed es ≡ not_required es)
-          → (members_named (codes "properties") es ≡ x ∷ [] → IsPermutation (rows ++ not_required es) (claimed es))
-          → IsPermutation (rows ++ put_if (not r) m (not_required es)) (row p r m ++ claimed es)
-      by true true d q g h = absurd (true≢false (d refl))
-      by true false d q g h = subst (λ l. IsPermutation (rows ++ m ∷ not_required es) (m ∷ (rows ++ l))) (sym (g (ap tail q))) (IsPermutation-middle rows m (not_required es))
-      by false true d q g h = h q
-      by false false d q g h = IsPermutation-trans _ _ _ (IsPermutation-middle rows m (not_required es)) (IsPermutation-cons m _ _ (h q))
-
-alone : (es : List (Name × Data)) → flat_map (λ m. m ∷ []) es ≡ es
-alone [] = refl
-alone (m ∷ es) = ap (λ l. m ∷ l) (alone es)
-
-module _ (ms : Members) (distinct : has_repeat (map (λ m. m.0) (listed ms)) ≡ false) where
-  pub claims_are_all : (t : Option (Name × Name)) → t ≡ taken_names ms → IsPermutation (flat_map (claims t ms) (listed ms)) (listed ms)
-  claims_are_all None e = subst (λ es. IsPermutation es (listed ms)) (sym (alone (listed ms))) (IsPermutation-refl (listed ms))
-  claims_are_all (Some t) e =
-      let h = takes_over ms distinct t e in
-      IsPermutation-trans _ _ _
-      (IsPermutation-sym _ _ (claimed_once (members_named (codes "required") (listed ms)) (listed ms) (codes "properties", h.value) h.declared))
-      (parts (λ m. bytes_eq (codes "required") m.0) (listed ms))
+      along : (es : List (Name × Data)) → Each (λ x. lookup x.0 (listed ms) ≡ Some x.1) es → Each (λ x. is_among (head p x.0) (names_of (listed ms)) ≡ true) es
+      along [] h = tt
+      along (x ∷ es) h = (head_there p e x h.0, along es h.1)
 
 -- ---- the members of a map
 
@@ -196,6 +202,6 @@ one_of : {X : Type 0} (P : X → Type 0) (xs : List X) (x : X) (ys : List X) →
 one_of P [] x ys h = h.0
 one_of P (y ∷ xs) x ys h = one_of P xs x ys h.1
 
--- a look-up finds each member
-pub member_found : (es : List (String Global × Value)) (done : List (Name × Data)) (m : Name × Data) (rest : List (Name × Data)) → IsStrictlySortedBy string_cmp (keys_of es) → done ++ m ∷ rest ≡ listed (members_view es) → lookup m.0 (listed (members_view es)) ≡ Some m.1
-member_found es done m rest h e = one_of (λ x. lookup x.0 (listed (members_view es)) ≡ Some x.1) done m rest (subst (λ l. Each (λ x. lookup x.0 (listed (members_view es)) ≡ Some x.1) l) (sym e) (Each-found (listed (members_view es)) (Distinct-from (listed (members_view es)) (sorted_distinct es h))))
+-- a look-up finds each member, where no name stands twice
+pub found_each : (ms : Members) → has_repeat (map (λ m. m.0) (listed ms)) ≡ false → (done : List (Name × Data)) (m : Name × Data) (rest : List (Name × Data)) → done ++ m ∷ rest ≡ listed ms → lookup m.0 (listed ms) ≡ Some m.1
+found_each ms h done m rest e = one_of (λ x. lookup x.0 (listed ms) ≡ Some x.1) done m rest (subst (λ l. Each (λ x. lookup x.0 (listed ms) ≡ Some x.1) l) (sym e) (Each-found (listed ms) (Distinct-from (listed ms) h)))

@@ -21,7 +21,8 @@ use Rattle.olk_spec.specs.Trees.{declares, has_patterns, fuses_two, fuses_one, a
 use Rattle.olk_spec.proofs.Reading.{entry, lookup_listed, is_present_read, entries_at_read, names_at_read, names_there, wholes_absent}
 use Rattle.olk_spec.proofs.Walks.{same_name}
 use Rattle.olk_build.specs.Members.{member_malformations}
-use Rattle.olk_build.specs.Forms.{declares_few, allows_others, two_names, taken_names}
+use Rattle.olk_spec.specs.declared.TheConstants.{HASHMAP_THRESHOLD}
+use Rattle.olk_build.specs.Forms.{declares_few, allows_others, two_names, fused_names}
 use Rattle.olk_build.proofs.Claims.{listing}
 use Rattle.olk_build.proofs.Facts as fact
 
@@ -55,15 +56,15 @@ module _ {X : Type 0} (step : Schema X → X) where
   entry_count : (fs : Members) → length (flat_map (λ d. map (entry step) (members d)) (object fs ∷ [])) ≡ length (listed fs)
   entry_count fs = ap length (append-nil (map (entry step) (listed fs))) ∙ length-map (listed fs) (entry step)
 
-  are_taken_names : (L : Path) (p r : Option Data) → IsObject p → ListsTexts L r
-      → (is_some p && not false && not false && nat_lt (length (flat_map (λ d. map (entry step) (members d)) (option_to_list p))) 15 && are_two (flat_map texts (option_to_list r))) ≡ is_some (cond (declares_few p && true && true) (two_names r) None)
-  are_taken_names L None r h k = refl
-  are_taken_names L (Some (object fs)) r h k = ap (λ n. nat_lt n 15 && are_two (flat_map texts (option_to_list r))) (entry_count fs) ∙ by (nat_lt (length (listed fs)) 15)
+  are_fused_names : (L : Path) (p r : Option Data) → IsObject p → ListsTexts L r
+      → (is_some p && not false && not false && nat_lt (length (flat_map (λ d. map (entry step) (members d)) (option_to_list p))) HASHMAP_THRESHOLD && are_two (flat_map texts (option_to_list r))) ≡ is_some (cond (declares_few p && true && true) (two_names r) None)
+  are_fused_names L None r h k = refl
+  are_fused_names L (Some (object fs)) r h k = ap (λ n. nat_lt n HASHMAP_THRESHOLD && are_two (flat_map texts (option_to_list r))) (entry_count fs) ∙ by (nat_lt (length (listed fs)) HASHMAP_THRESHOLD)
     where
       by : (b : Bool) → (b && are_two (flat_map texts (option_to_list r))) ≡ is_some (cond (b && true && true) (two_names r) None)
       by true = are_two_names L r k
       by false = refl
-  are_taken_names L (Some d) r h k = absurd (true≢false (sym h))
+  are_fused_names L (Some d) r h k = absurd (true≢false (sym h))
 
 -- ---- an object in which nothing is malformed
 
@@ -124,11 +125,11 @@ module _ (W : World) (ms : Members) (P : Path) (clean : flat_map (λ m. member_m
         by true = refl
         by false = refl
 
-    -- it is fused exactly where names are taken over
-    pub fused : fuses_two (read_members step ms) ≡ is_some (taken_names ms)
+    -- it is fused exactly where the plan fuses names
+    pub fused : fuses_two (read_members step ms) ≡ is_some (fused_names ms)
     fused =
-        (λ i. here i && not (free i) && not (patternless i) && nat_lt (length (entries i)) 15 && are_two (listed_names i))
-        ∙ are_taken_names step (P // codes "required") (at_name (codes "properties")) (at_name (codes "required")) an_object texts_listed
+        (λ i. here i && not (free i) && not (patternless i) && nat_lt (length (entries i)) HASHMAP_THRESHOLD && are_two (listed_names i))
+        ∙ are_fused_names step (P // codes "required") (at_name (codes "properties")) (at_name (codes "required")) an_object texts_listed
         ∙ (λ i. is_some (cond (declares_few (at_name (codes "properties")) && is_none (sym (absent (codes "patternProperties") refl) i) && allows_others (sym (absent (codes "additionalProperties") refl) i)) (two_names (at_name (codes "required"))) None))
       where
         here : declares (read_members step ms) ≡ is_some (at_name (codes "properties"))
@@ -140,5 +141,5 @@ module _ (W : World) (ms : Members) (P : Path) (clean : flat_map (λ m. member_m
         listed_names : names_at (read_members step ms) (codes "required") ≡ flat_map texts (option_to_list (at_name (codes "required")))
         listed_names = names_at_read step ms (codes "required") ∙ ap (λ o. flat_map texts (option_to_list o)) (sym (lookup_listed (codes "required") ms))
 
-pub names_taken : {X : Type 0} (step : Schema X → X) (ms : Members) (t : Name × Name) → lookup (codes "required") (listed ms) ≡ Some (listing t) → names_at (read_members step ms) (codes "required") ≡ t.0 ∷ t.1 ∷ []
-names_taken step ms t e = names_there step ms (codes "required") (listing t) (sym (lookup_listed (codes "required") ms) ∙ e)
+pub names_fused : {X : Type 0} (step : Schema X → X) (ms : Members) (t : Name × Name) → lookup (codes "required") (listed ms) ≡ Some (listing t) → names_at (read_members step ms) (codes "required") ≡ t.0 ∷ t.1 ∷ []
+names_fused step ms t e = names_there step ms (codes "required") (listing t) (sym (lookup_listed (codes "required") ms) ∙ e)

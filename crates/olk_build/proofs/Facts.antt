@@ -10,20 +10,19 @@ use mathlib.Core.Bool.{true≢false}
 use Rattle.serde_json.specs.Data.{Data, null, boolean, number, string, object, array, Members, Items}
 use Rattle.olk_spec.specs.Names.{Name, Path, ◌//◌, down, is_empty, is_among, put_if}
 use Rattle.olk_spec.specs.World.{World}
-use Rattle.olk_spec.specs.Vocabulary.{Keyword, properties, required, all_of, any_of, not_keyword, leaf, unread, unsupported}
-use Rattle.olk_spec.specs.Faults.{Fault, AnyOf, Not, Leaf, LeafRefused, SingleType, Unsupported, array_type, object_type, fault, context}
-use Rattle.olk_spec.specs.Schemas.{Sub, Schema, read, read_members, answer_for, listed, numbered, at, texts, branches, is_object, is_array}
-use Rattle.olk_spec.specs.Malformed.{pending, items_list, unless_array, unless_kind, not_a_text, each, malformations_step, malformations_beside, own_refusals, read_places}
+use Rattle.olk_spec.specs.Vocabulary.{Keyword, properties, required, all_of, any_of, not_keyword, leaf, unread}
+use Rattle.olk_spec.specs.Faults.{Fault, AnyOf, Not, Leaf, SingleType, Unsupported, object_type, fault, context}
+use Rattle.olk_spec.specs.Schemas.{Sub, Schema, read, read_members, answer_for, listed, numbered, at, texts, branches, is_object}
+use Rattle.olk_spec.specs.Malformed.{pending, items_list, unless_array, not_a_text, each, malformations_step, malformations_beside, own_refusals, read_places}
 use Rattle.olk_spec.specs.Meanings.{Meaning, Subschema, Asked, asked, asked_whole}
 use Rattle.olk_spec.specs.Meaning.{accepts, asks, report, meaning, meaning_step}
 use Rattle.olk_spec.specs.Accepts.{missing}
 use Rattle.olk_spec.specs.Reports.{required_faults, fault_if}
-use Rattle.olk_spec.specs.Costs.{cost, cost_step, no_cost, ◌⊕◌, total_cost}
+use Rattle.olk_spec.specs.Costs.{cost, cost_step, ◌⊕◌, total_cost}
 use Rattle.olk_spec.proofs.Truth.{and_true}
 use Rattle.olk_spec.proofs.Reading.{entry, place, entries_read, items_read, branches_read, schema_of_read}
-use Rattle.olk_build.specs.Members.{malformations_at, member_accepts, member_asks, member_report, member_malformations, member_cost}
+use Rattle.olk_build.specs.Members.{malformations_at, member_accepts, member_asks, member_report, member_malformations}
 use Rattle.olk_tree.proofs.Maps.{flat_map-map, map-map}
-use Rattle.olk_build.proofs.Spending.{sum_first, sum_last}
 
 -- ---- walks
 
@@ -67,12 +66,12 @@ nothing_last n = omega arith
 -- ---- the places that a keyword reads
 
 module _ (W : World) (k : Name) where
-  each_malformations : (P : Path) (es : List (Name × Data)) → flat_map (λ r. r.0.answer (down P r.1)) (each k (map (entry (malformations_step W pending)) es)) ≡ flat_map (λ e. malformations_at W e.1 (P // k // e.0)) es
+  pub each_malformations : (P : Path) (es : List (Name × Data)) → flat_map (λ r. r.0.answer (down P r.1)) (each k (map (entry (malformations_step W pending)) es)) ≡ flat_map (λ e. malformations_at W e.1 (P // k // e.0)) es
   unfolding malformations_beside
   each_malformations P [] = refl
   each_malformations P (e ∷ es) = ap (λ l. malformations_at W e.1 (P // k // e.0) ++ l) (each_malformations P es)
 
-  each_costs : (es : List (Name × Data)) → total_cost (λ r. r.0.answer) (each k (map (entry (cost_step W)) es)) ≡ total_cost (λ e. cost W e.1) es
+  pub each_costs : (es : List (Name × Data)) → total_cost (λ r. r.0.answer) (each k (map (entry (cost_step W)) es)) ≡ total_cost (λ e. cost W e.1) es
   unfolding cost
   each_costs [] = refl
   each_costs (e ∷ es) = ap (λ c. cost W e.1 ⊕ c) (each_costs es)
@@ -121,12 +120,6 @@ module _ (W : World) (ms : Members) where
   -- ---- properties
 
   module _ (fs : Members) where
-    pub properties_malformations : (P : Path) → member_malformations W ms (codes "properties", object fs) properties P ≡ flat_map (λ e. malformations_at W e.1 (P // codes "properties" // e.0)) (listed fs)
-    properties_malformations P = ap (λ es. flat_map (λ r. r.0.answer (down P r.1)) (each (codes "properties") es)) (entries_read (malformations_step W pending) (object fs)) ∙ each_malformations W (codes "properties") P (listed fs)
-
-    pub properties_cost : member_cost W ms (codes "properties", object fs) properties ≡ total_cost (λ e. cost W e.1) (listed fs)
-    properties_cost = sum_first _ ∙ ap (λ es. total_cost (λ r. r.0.answer) (each (codes "properties") es)) (entries_read (cost_step W) (object fs)) ∙ each_costs W (codes "properties") (listed fs)
-
     module _ (u : Bool) (v : Data) where
       pub properties_accepts : member_accepts W ms (codes "properties", object fs) properties u v ≡ list_all (λ e. list_all (accepts W u e.1) (at e.0 v)) (listed fs)
       unfolding meaning
@@ -152,18 +145,6 @@ module _ (W : World) (ms : Members) where
   -- ---- branches
 
   module _ (ds : Items) where
-    pub all_of_malformations : (P : Path) → member_malformations W ms (codes "allOf", array ds) all_of P ≡ flat_map (λ e. malformations_at W e.1 (P // codes "allOf" // e.0)) (numbered (items_list ds))
-    all_of_malformations P = ap (λ es. flat_map (λ r. r.0.answer (down P r.1)) (each (codes "allOf") es)) (branch_entries (malformations_step W pending) ds) ∙ each_malformations W (codes "allOf") P (numbered (items_list ds))
-
-    pub any_of_malformations : (P : Path) → member_malformations W ms (codes "anyOf", array ds) any_of P ≡ flat_map (λ e. malformations_at W e.1 (P // codes "anyOf" // e.0)) (numbered (items_list ds))
-    any_of_malformations P = ap (λ es. flat_map (λ r. r.0.answer (down P r.1)) (each (codes "anyOf") es)) (branch_entries (malformations_step W pending) ds) ∙ each_malformations W (codes "anyOf") P (numbered (items_list ds))
-
-    pub all_of_cost : member_cost W ms (codes "allOf", array ds) all_of ≡ total_cost (λ e. cost W e.1) (numbered (items_list ds))
-    all_of_cost = sum_first _ ∙ ap (λ es. total_cost (λ r. r.0.answer) (each (codes "allOf") es)) (branch_entries (cost_step W) ds) ∙ each_costs W (codes "allOf") (numbered (items_list ds))
-
-    pub any_of_cost : member_cost W ms (codes "anyOf", array ds) any_of ≡ total_cost (λ e. cost W e.1) (numbered (items_list ds))
-    any_of_cost = sum_first _ ∙ ap (λ es. total_cost (λ r. r.0.answer) (each (codes "anyOf") es)) (branch_entries (cost_step W) ds) ∙ each_costs W (codes "anyOf") (numbered (items_list ds))
-
     module _ (u : Bool) (v : Data) where
       pub all_of_accepts : member_accepts W ms (codes "allOf", array ds) all_of u v ≡ list_all (λ e. accepts W u e.1 v) (numbered (items_list ds))
       unfolding meaning
@@ -213,14 +194,6 @@ module _ (W : World) (ms : Members) where
   -- ---- not
 
   module _ (d : Data) where
-    pub not_malformations : (P : Path) → member_malformations W ms (codes "not", d) not_keyword P ≡ malformations_at W d (P // codes "not")
-    unfolding malformations_beside
-    not_malformations P = append-nil _
-
-    pub not_cost : member_cost W ms (codes "not", d) not_keyword ≡ cost W d
-    unfolding cost
-    not_cost = sum_first _ ∙ sum_last _
-
     module _ (u : Bool) (v : Data) where
       pub not_accepts : member_accepts W ms (codes "not", d) not_keyword u v ≡ not (accepts W u d v)
       unfolding meaning
@@ -240,9 +213,6 @@ module _ (W : World) (ms : Members) where
     pub required_malformations : (P : Path) → member_malformations W ms (codes "required", d) required P ≡ unless_array d (P // codes "required") ++ not_a_text d (P // codes "required")
     required_malformations P = append-nil _ ∙ ap (λ s. unless_array s (P // codes "required") ++ not_a_text s (P // codes "required")) (schema_of_read (malformations_step W pending) d)
 
-    pub required_cost : member_cost W ms (codes "required", d) required ≡ no_cost
-    required_cost = sum_first _
-
     module _ (u : Bool) (v : Data) where
       pub required_accepts : member_accepts W ms (codes "required", d) required u v ≡ is_empty (missing (texts d) v)
       required_accepts = ap (λ s. is_empty (missing (texts s) v)) (schema_of_read (meaning_step W u) d)
@@ -255,23 +225,7 @@ module _ (W : World) (ms : Members) where
 
   -- ---- leaves, and names that nothing reads
 
-  module _ (k : Name) (d : Data) (e : is_among k pending ≡ false) where
-    pub leaf_malformations : (P : Path) → member_malformations W ms (k, d) leaf P ≡ unless_kind (W.fits k d) (LeafRefused k) d (P // k)
-    leaf_malformations P =
-        ap (λ b. put_if b (fault (Unsupported k) (read (malformations_step W pending) d).whole.schema [] (P // k)) [] ++ unless_kind (W.fits k (read (malformations_step W pending) d).whole.schema) (LeafRefused k) (read (malformations_step W pending) d).whole.schema (P // k) ++ []) e
-        ∙ append-nil _
-        ∙ ap (λ s. unless_kind (W.fits k s) (LeafRefused k) s (P // k)) (schema_of_read (malformations_step W pending) d)
-
-    pub unread_malformations : (P : Path) → member_malformations W ms (k, d) unread P ≡ []
-    unread_malformations P = ap (λ b. put_if b (fault (Unsupported k) (read (malformations_step W pending) d).whole.schema [] (P // k)) [] ++ [] ++ []) e
-
   module _ (k : Name) (d : Data) where
-    pub leaf_cost : member_cost W ms (k, d) leaf ≡ record no_cost { leaf_places = 1 }
-    leaf_cost = sum_last _
-
-    pub unread_cost : member_cost W ms (k, d) unread ≡ no_cost
-    unread_cost = sum_last _
-
     module _ (u : Bool) (v : Data) where
       pub leaf_accepts : member_accepts W ms (k, d) leaf u v ≡ is_empty (W.faults k d v)
       leaf_accepts = ap (λ s. is_empty (W.faults k s v)) (schema_of_read (meaning_step W u) d)
@@ -302,30 +256,6 @@ module _ (W : World) (ms : Members) where
     properties_kind (array ds) e = refl
     properties_kind (object fs) e = absurd (true≢false e)
 
-    pub all_of_kind : (d : Data) → is_array d ≡ false → member_malformations W ms (codes "allOf", d) all_of P ≡ fault (SingleType array_type) d [] (P // codes "allOf") ∷ []
-    all_of_kind null e = refl
-    all_of_kind (boolean b) e = refl
-    all_of_kind (number n) e = refl
-    all_of_kind (string s) e = refl
-    all_of_kind (array ds) e = absurd (true≢false e)
-    all_of_kind (object fs) e = refl
-
-    pub any_of_kind : (d : Data) → is_array d ≡ false → member_malformations W ms (codes "anyOf", d) any_of P ≡ fault (SingleType array_type) d [] (P // codes "anyOf") ∷ []
-    any_of_kind null e = refl
-    any_of_kind (boolean b) e = refl
-    any_of_kind (number n) e = refl
-    any_of_kind (string s) e = refl
-    any_of_kind (array ds) e = absurd (true≢false e)
-    any_of_kind (object fs) e = refl
-
-    pub required_kind : (d : Data) → is_array d ≡ false → member_malformations W ms (codes "required", d) required P ≡ fault (SingleType array_type) d [] (P // codes "required") ∷ []
-    required_kind null e = refl
-    required_kind (boolean b) e = refl
-    required_kind (number n) e = refl
-    required_kind (string s) e = refl
-    required_kind (array ds) e = absurd (true≢false e)
-    required_kind (object fs) e = refl
-
     -- ---- names that are refused
 
     first_is : (f : Fault) (b : Bool) (xs ys : List Fault) → b ≡ true → put_if b f [] ++ xs ++ ys ≡ f ∷ (xs ++ ys)
@@ -346,6 +276,3 @@ module _ (W : World) (ms : Members) where
             (own_refusals W k (read (malformations_step W pending) d) (P // k) w)
             (flat_map (λ r. r.0.answer (down P r.1)) (read_places k (read_members (malformations_step W pending) ms) (read (malformations_step W pending) d) w)) e,
       )
-
-      pub unsupported_malformations : (rest : List Fault) × (member_malformations W ms (k, d) unsupported P ≡ fault (Unsupported k) d [] (P // k) ∷ rest)
-      unsupported_malformations = at_data unsupported (either_is (fault (Unsupported k) (read (malformations_step W pending) d).whole.schema [] (P // k)) (is_among k pending))

@@ -1,12 +1,11 @@
 -- What holds a keyword, and what is told where none is built.
-use Rattle.std.specs.Prelude.{◌≡◌, cond, Option, Some, None, unwrap_or, is_some, option_map, option_to_list, ◌≤◌, ℕ, ◌+◌, Bool, true, false, not, ◌&&◌, ◌||◌, if◌then◌else◌, List, [], ◌∷◌, ◌++◌, map, sum_by, codes, Vec, String, string_bytes, bytes_eq}
+use Rattle.std.specs.Prelude.{◌≡◌, cond, Option, Some, None, is_some, option_to_list, ◌≤◌, ℕ, ◌+◌, Bool, true, false, not, ◌&&◌, ◌||◌, if◌then◌else◌, List, [], ◌∷◌, ◌++◌, map, sum_by, codes, Vec, String, string_bytes, bytes_eq}
 use Rattle.std.specs.List.{list_all, list_any, flat_map}
 use Rattle.std.specs.Ordering.{nat_cmp, is_eq}
 use Rattle.std.specs.Cmp.Lexicographic.{slice_cmp}
 use Rattle.std.specs.declared.cmp.Ordering.{Ordering}
 use Rattle.std.specs.declared.cmp.Ordering.TheVariants.{Less, Equal, Greater}
 use Rattle.std.proofs.lemmas.Map.Text.{is_eq-slice_cmp}
-use Rattle.std.specs.declared.alloc.AllocError.{AllocError}
 use Rattle.std.specs.declared.alloc.Global.{Global}
 use Rattle.std.proofs.Common.{refl, sym, ◌∙◌, ap, subst, arith, ◌⊎◌, inl, inr}
 use Rattle.std.proofs.lemmas.List.{append-nil}
@@ -20,67 +19,54 @@ use Rattle.serde_json.specs.declared.value.Value.{Value}
 use Rattle.olk_spec.specs.Names.{Name, Path, ◌//◌, lookup, first_if_equal, those, put_if, is_empty, is_among}
 use Rattle.olk_spec.specs.World.{World}
 use Rattle.olk_spec.specs.Vocabulary.{Keyword, properties, required, all_of, any_of, not_keyword, leaf, unread, unsupported, unsupported_names, leaf_or_unread, keyword_named}
-use Rattle.olk_spec.specs.Faults.{Fault, AnyOf, Not, Leaf, LeafRefused, SingleType, Unsupported, array_type, object_type, fault, Context, context, IsLikeContext, like_none, like_branch, like, like_any_of, ◌∼◌, like_empty, like_next, like_through}
-use Rattle.olk_spec.specs.Schemas.{read_members, listed, numbered, at, members, texts_in, is_object, is_array}
-use Rattle.olk_spec.specs.Malformed.{pending, items_list, unless_kind}
+use Rattle.olk_spec.specs.Faults.{Fault, AnyOf, Not, Leaf, fault, Context, context, IsLikeContext, like_none, like_branch, like, like_any_of, ◌∼◌, like_empty, like_next, like_through}
+use Rattle.olk_spec.specs.Schemas.{read_members, listed, numbered, at, members, texts, is_object}
+use Rattle.olk_spec.specs.Malformed.{pending, has_repeat, items_list}
 use Rattle.olk_spec.specs.Meaning.{accepts, asks, report, tree, meaning_step}
 use Rattle.olk_spec.specs.Accepts.{missing}
 use Rattle.olk_spec.specs.Reports.{required_faults, fault_if}
-use Rattle.olk_spec.specs.Costs.{Cost, cost, no_cost, ◌⊕◌}
 use Rattle.olk_spec.specs.Tree.{Tree, leaf_node, result, plain, erring, described}
 use Rattle.olk_spec.specs.Trees.{missing_child}
 use Rattle.olk_spec.proofs.Each.{Each}
 use Rattle.olk_spec.proofs.Named.{Named, named as is_named}
 use Rattle.olk_spec.proofs.Order.{∼_same, ∼_append, ∼_behind, ∼_swap, ∼_flat_map_any, faults_in-from}
 use Rattle.olk_spec.proofs.Truth.{and_true, or_false}
-use Rattle.olk_spec.proofs.Walks.{neither, same_name, bytes_eq-sym}
-use Rattle.olk_base.specs.Count.{Counts, count_leaf}
-use Rattle.olk_base.proofs.CountLemmas.{raised_zero}
-use Rattle.olk_reports.specs.declared.error.BuildError.{BuildError}
-use Rattle.olk_reports.specs.declared.error.BuildError.TheVariants.{Memory}
+use Rattle.olk_spec.proofs.Walks.{neither, same_name}
 use Rattle.olk_node.specs.Kit.{Kit}
 use Rattle.olk_tree.specs.Questions.{Question, every, some}
 use Rattle.olk_tree.specs.Answers.{beside, named, validator_means, validator_report, validator_tree}
 use Rattle.olk_node.specs.Nodes.{answers}
 use Rattle.olk_tree.specs.Shown.{missing_trees, properties_tree, branch_trees, any_of_tree}
 use Rattle.olk_node.specs.Stands.{StandsFor}
-use Rattle.olk_build.specs.Members.{malformations_at, member_accepts, member_asks, member_report, member_child, StandsAlone, member_malformations, member_cost}
-use Rattle.olk_build.specs.Claims.{claims, members_named}
-use Rattle.olk_build.specs.Forms.{IsFormOfProperties, IsFormOfAllOf, IsFormOfAnyOf, IsOther}
-use Rattle.olk_build.specs.Lists.{not_texts}
-use Rattle.olk_build.specs.Building.{Spends, SpendsWithin, TellsOneOf, Refuses, IsBuilt, StandEach, AreBuilt, each_malformed, each_cost, which, Holds, Covers, KeywordIsBuilt, KeywordsAreBuilt, HoldsMember, HoldsClaims, RefusesMember}
+use Rattle.olk_build.specs.Members.{member_accepts, member_asks, member_report, member_child, StandsAlone}
+use Rattle.olk_build.specs.Plans.{Planned, head, claims}
+use Rattle.olk_build.specs.Forms.{fused_names, IsFormOfProperties, IsFormOfAllOf, IsFormOfAnyOf}
+use Rattle.olk_build.specs.Reading.{IsOther}
+use Rattle.olk_build.specs.Building.{StandEach, which, Holds, Covers}
+use Rattle.olk_build.specs.Making.{KeywordMeans, KeywordsMean}
 use Rattle.olk_tree.specs.declared.map.SmallMap.{SmallMap}
 use Rattle.olk_tree.specs.declared.properties.SmallPropertiesWithRequired2.{SmallPropertiesWithRequired2}
 use Rattle.olk_tree.specs.declared.node.KeywordOver.{KeywordOver}
 use Rattle.olk_tree.specs.declared.node.KeywordOver.TheVariants as keyword
 use Rattle.olk_node.specs.declared.node.SchemaNode.{SchemaNode}
 use Rattle.olk_build.proofs.Facts as fact
-use Rattle.olk_build.proofs.Built.{built_alone}
-use Rattle.olk_build.proofs.Claims.{listing, takes_over}
-use Rattle.olk_build.proofs.Clean.{free, not_fused, fused, names_taken}
+use Rattle.olk_build.proofs.Built.{means_alone, means_permuted}
+use Rattle.olk_build.proofs.Claims.{listing, fuses, claims_itself, claims_both, claims_nothing, heads_elsewhere}
+use Rattle.olk_build.proofs.Heads.{names_of}
+use Rattle.olk_build.proofs.Clean.{free, not_fused, fused, names_fused}
 use Rattle.olk_build.proofs.Children.{shown_at, shown_declared, branches_shown, accepting_branches, any_shown, properties_child, required_child, no_required_child, all_of_child, any_of_child, not_child, leaf_child}
 use Rattle.olk_tree.proofs.Maps.{is_empty-map}
-use Rattle.olk_build.proofs.Spending.{sum_first, sum_last, spends_nothing, spends_same, refuses_memory, within_before, within_same, within_exactly, within_nothing, tells_left, tells_same, tells_memory}
 
 -- ---- numbers and counts
 
 with_nothing : (a b : ℕ) → a ≤ b → a + 0 ≤ b
 with_nothing a b h = omega (arith, h)
 
-no_more : (a b : ℕ) → b ≡ 0 → 0 ≤ b
-no_more a b h = omega arith
-
 sum_within : (a b c d e : ℕ) → a ≤ b → c ≤ d → e ≡ b + d → a + c ≤ e
 sum_within a b c d e h k s = omega (arith, h, k, s)
 
 same_within : (a b c : ℕ) → a ≤ b → c ≡ b → a ≤ c
 same_within a b c h e = omega (arith, h, e)
-
-spends_leaf : (a b : Counts) → b ≡ count_leaf a → Spends a b (record no_cost { leaf_places = 1 })
-spends_leaf a b e = e ∙ rw (raised_zero a.compiled, raised_zero a.made, raised_zero a.asked, raised_zero a.unfinished) refl
-
-refuses_same : (fs gs : List Fault) (c d : Cost) (a b : Counts) (e : BuildError) → fs ≡ gs → c ≡ d → Refuses fs c a b e → Refuses gs d a b e
-refuses_same fs gs c d a b e p q h = subst₂ (λ x y. Refuses x y a b e) p q h
 
 -- ---- names
 
@@ -315,20 +301,18 @@ module _ {K R : Type 0} (o : Kit K R) where
       unfolding validator_tree
       alone_show Q = refl
 
-  pub holds_properties : (m : SmallMap (SchemaNode K R)) (L : Path) (fs : Members) (d : Data) (a b : Counts) → d ≡ object fs → m.names ≡ map (λ e. e.0) (listed fs) → AreBuilt o m.nodes.items (listed fs) L a b → HoldsMember o (keyword.Properties (record { properties = m; location = L }) ∷ []) (codes "properties") d properties L a b
-  holds_properties m L fs d a b q names built ms P p = subst (λ x. KeywordIsBuilt o ms (properties_keyword m L (listed fs) names built.stand ∷ []) (codes "properties", x) properties P a b) (sym q) (record {
-    holds = one ms (properties_keyword m L (listed fs) names built.stand) (codes "properties", object fs) properties P
-        (λ u v. properties_accept m L (listed fs) names built.stand u v ∙ sym (fact.properties_accepts o.world ms fs u v))
-        (λ u v. same_within _ _ _ (properties_ask m L (listed fs) names built.stand u v) (fact.properties_asks o.world ms fs u v))
-        (λ u v Q. subst (λ l. found u (properties_keyword m L (listed fs) names built.stand) v Q ∼ l)
+  pub means_properties : (m : SmallMap (SchemaNode K R)) (L : Path) (fs : Members) (d : Data) → d ≡ object fs → m.names ≡ map (λ e. e.0) (listed fs) → StandEach o m.nodes.items (listed fs) L → (ms : Members) (P : Path) → L ≡ P // codes "properties" → KeywordMeans o ms (keyword.Properties (record { properties = m; location = L }) ∷ []) (codes "properties", d) P
+  means_properties m L fs d q names stand ms P p = subst (λ x. KeywordMeans o ms (properties_keyword m L (listed fs) names stand ∷ []) (codes "properties", x) P) (sym q) (record {
+    holds = one ms (properties_keyword m L (listed fs) names stand) (codes "properties", object fs) properties P
+        (λ u v. properties_accept m L (listed fs) names stand u v ∙ sym (fact.properties_accepts o.world ms fs u v))
+        (λ u v. same_within _ _ _ (properties_ask m L (listed fs) names stand u v) (fact.properties_asks o.world ms fs u v))
+        (λ u v Q. subst (λ l. found u (properties_keyword m L (listed fs) names stand) v Q ∼ l)
         (ap (λ M. flat_map (λ e. flat_map (λ x. report o.world u e.1 x (M // e.0) (Q // e.0)) (at e.0 v)) (listed fs)) p ∙ sym (fact.properties_report o.world ms fs u v P Q))
-        (properties_find m L (listed fs) names built.stand u v Q));
+        (properties_find m L (listed fs) names stand u v Q));
     shows = λ u h v Q.
-        ap (λ t. t ∷ []) (alone_show m L (listed fs) names built.stand u v Q ∙ properties_show m L (listed fs) names built.stand u v Q [] ∙ ap (λ M. shown_declared o.world u v M Q (listed fs) []) p)
+        ap (λ t. t ∷ []) (alone_show m L (listed fs) names stand u v Q ∙ properties_show m L (listed fs) names stand u v Q [] ∙ ap (λ M. shown_declared o.world u v M Q (listed fs) []) p)
         ∙ ap (λ b. shown_declared o.world u v (P // codes "properties") Q (listed fs) (missing_child o.world u (read_members (meaning_step o.world u) ms) v P Q b) ∷ []) (sym h.2)
         ∙ sym (properties_child o.world u v ms P Q fs h.0 h.1);
-    clean = fact.properties_malformations o.world ms fs P ∙ ap (λ M. each_malformed o M (listed fs)) (sym p) ∙ built.clean;
-    spends = subst (Spends a b) (sym (fact.properties_cost o.world ms fs)) built.spends;
   })
 
   -- ---- properties, with required or alone
@@ -379,27 +363,31 @@ module _ {K R : Type 0} (o : Kit K R) where
         turned false true = refl
         turned false false = refl
 
-  pub holds_form : (k : KeywordOver K (SchemaNode K R)) (m : SmallMap (SchemaNode K R)) (L P : Path) (t : Option (Name × Name)) (fs : Members) (d : Data) (a b : Counts) → d ≡ object fs → m.names ≡ map (λ e. e.0) (listed fs) → AreBuilt o m.nodes.items (listed fs) L a b → IsFormOfProperties P L m t k → HoldsClaims o (k ∷ []) t (codes "properties") d P L a b
-  holds_form (keyword.Properties k) m L P None fs d a b q names built form ms p distinct there chosen =
-      subst (λ x. KeywordsAreBuilt o ms (keyword.Properties x ∷ []) ((codes "properties", d) ∷ []) ((codes "properties", d) ∷ []) P a b) (λ i. record { properties = sym form.0 i; location = sym form.1 i })
-      (built_alone o ms P _ (codes "properties", d) a b
+  -- what is planned for an object, by its fused names
+  abbrev by_names : Option (Name × Name) → Planned
+  by_names t = record { fused = t }
+
+  pub means_form : (k : KeywordOver K (SchemaNode K R)) (m : SmallMap (SchemaNode K R)) (L P : Path) (t : Option (Name × Name)) (fs : Members) (d : Data) → d ≡ object fs → m.names ≡ map (λ e. e.0) (listed fs) → StandEach o m.nodes.items (listed fs) L → IsFormOfProperties P L m t k
+      → (ms : Members) → L ≡ P // codes "properties" → has_repeat (names_of (listed ms)) ≡ false → lookup (codes "properties") (listed ms) ≡ Some d → t ≡ fused_names ms → KeywordsMean o ms (k ∷ []) (claims (head (by_names t)) (listed ms) (codes "properties", d)) ((codes "properties", d) ∷ []) P
+  means_form (keyword.Properties k) m L P None fs d q names stand form ms p distinct there chosen =
+      subst (λ rows. KeywordsMean o ms (keyword.Properties k ∷ []) rows ((codes "properties", d) ∷ []) P) (sym (claims_itself ms distinct (head (by_names None)) (codes "properties", d) (λ n. refl) there))
+      (subst (λ x. KeywordsMean o ms (keyword.Properties x ∷ []) ((codes "properties", d) ∷ []) ((codes "properties", d) ∷ []) P) (λ i. record { properties = sym form.0 i; location = sym form.1 i })
+      (means_alone o ms P _ (codes "properties", d)
       (λ clean u. (there, free o.world ms P clean (meaning_step o.world u), fused o.world ms P clean (meaning_step o.world u) ∙ ap is_some (sym chosen)))
-      (holds_properties m L fs d a b q names built ms P p))
-  holds_form (keyword.PropertiesWithRequired2 k) m L P (Some t) fs d a b q names built form ms p distinct there chosen =
-      let taken = takes_over ms distinct t chosen in
-      let plain = holds_properties m L fs d a b q names built ms P p in
-      record {
-        covers = subst (λ rows. Covers o ms (keyword.PropertiesWithRequired2 k ∷ []) ((codes "properties", d) ∷ rows) P) (sym taken.required) (covers_both ms m L P k t form d plain.holds);
+      (means_properties m L fs d q names stand ms P p)))
+  means_form (keyword.PropertiesWithRequired2 k) m L P (Some t) fs d q names stand form ms p distinct there chosen =
+      let both = fuses ms distinct t chosen in
+      let plain = means_properties m L fs d q names stand ms P p in
+      means_permuted o ms P (keyword.PropertiesWithRequired2 k ∷ []) ((codes "properties", d) ∷ (codes "required", listing t) ∷ []) (claims (head (by_names (Some t))) (listed ms) (codes "properties", d)) ((codes "properties", d) ∷ []) (claims_both ms distinct t d there chosen) record {
+        covers = covers_both ms m L P k t form d plain.holds;
         shows = λ clean u v Q.
             let step = meaning_step o.world u in
-            ap (λ x. x ∷ []) (both_show ms m L P k t form u v Q ∙ properties_show m L (listed fs) names built.stand u v Q (missing_trees (t.0 ∷ t.1 ∷ []) v (P // codes "required") Q) ∙ ap (λ M. shown_declared o.world u v M Q (listed fs) (missing_trees (t.0 ∷ t.1 ∷ []) v (P // codes "required") Q)) p)
-            ∙ (λ i. shown_declared o.world u v (P // codes "properties") Q (listed fs) (put_if (sym (fused o.world ms P clean step ∙ ap is_some (sym chosen)) i && not (is_empty (missing (sym (names_taken step ms t taken.listed_at) i) v))) (erring (P // codes "required") Q (required_faults (sym (names_taken step ms t taken.listed_at) i) v (P // codes "required") Q)) []) ∷ [])
+            ap (λ x. x ∷ []) (both_show ms m L P k t form u v Q ∙ properties_show m L (listed fs) names stand u v Q (missing_trees (t.0 ∷ t.1 ∷ []) v (P // codes "required") Q) ∙ ap (λ M. shown_declared o.world u v M Q (listed fs) (missing_trees (t.0 ∷ t.1 ∷ []) v (P // codes "required") Q)) p)
+            ∙ (λ i. shown_declared o.world u v (P // codes "properties") Q (listed fs) (put_if (sym (fused o.world ms P clean step ∙ ap is_some (sym chosen)) i && not (is_empty (missing (sym (names_fused step ms t both.listed_at) i) v))) (erring (P // codes "required") Q (required_faults (sym (names_fused step ms t both.listed_at) i) v (P // codes "required") Q)) []) ∷ [])
             ∙ sym (append-nil _ ∙ ap (λ x. member_child o.world ms (codes "properties", x) properties u v P Q) q ∙ properties_child o.world u v ms P Q fs (there ∙ ap Some q) (free o.world ms P clean step));
-        clean = append-nil _ ∙ plain.clean;
-        spends = spends_same a b _ _ (sym (sum_last _)) plain.spends;
       }
-  holds_form k m L P None fs d a b q names built form ms p distinct there chosen = absurd form
-  holds_form k m L P (Some t) fs d a b q names built form ms p distinct there chosen = absurd form
+  means_form k m L P None fs d q names stand form ms p distinct there chosen = absurd form
+  means_form k m L P (Some t) fs d q names stand form ms p distinct there chosen = absurd form
 
   -- ---- branches
 
@@ -460,38 +448,34 @@ module _ {K R : Type 0} (o : Kit K R) where
   at_most_through : (a b c : ℕ) → a ≤ b → b ≤ c → a ≤ c
   at_most_through a b c h k = omega (arith, h, k)
 
-  pub holds_all_of : (k : KeywordOver K (SchemaNode K R)) (ns : List (SchemaNode K R)) (L : Path) (ds : Items) (d : Data) (a b : Counts) → d ≡ array ds → IsFormOfAllOf L ns k → AreBuilt o ns (numbered (items_list ds)) L a b → HoldsMember o (k ∷ []) (codes "allOf") d all_of L a b
-  holds_all_of k ns L ds d a b q form built ms P p = subst (λ x. KeywordIsBuilt o ms (k ∷ []) (codes "allOf", x) all_of P a b) (sym q) (record {
+  pub means_all_of : (k : KeywordOver K (SchemaNode K R)) (ns : List (SchemaNode K R)) (L : Path) (ds : Items) (d : Data) → d ≡ array ds → IsFormOfAllOf L ns k → StandEach o ns (numbered (items_list ds)) L → (ms : Members) (P : Path) → L ≡ P // codes "allOf" → KeywordMeans o ms (k ∷ []) (codes "allOf", d) P
+  means_all_of k ns L ds d q form stand ms P p = subst (λ x. KeywordMeans o ms (k ∷ []) (codes "allOf", x) P) (sym q) (record {
     holds = one ms k (codes "allOf", array ds) all_of P
-        (λ u v. all_form_accepts L ns u v k form ∙ all_accept u v ns (numbered (items_list ds)) L built.stand ∙ sym (fact.all_of_accepts o.world ms ds u v))
-        (λ u v. same_within _ _ _ (at_most_through _ _ _ (all_form_asks L ns u v k form) (all_ask u v ns (numbered (items_list ds)) L built.stand)) (fact.all_of_asks o.world ms ds u v))
+        (λ u v. all_form_accepts L ns u v k form ∙ all_accept u v ns (numbered (items_list ds)) L stand ∙ sym (fact.all_of_accepts o.world ms ds u v))
+        (λ u v. same_within _ _ _ (at_most_through _ _ _ (all_form_asks L ns u v k form) (all_ask u v ns (numbered (items_list ds)) L stand)) (fact.all_of_asks o.world ms ds u v))
         (λ u v Q. subst₂ (λ x y. x ∼ y) (sym (all_form_finds L ns u v Q k form))
         (ap (λ M. flat_map (λ e. report o.world u e.1 v (M // e.0) Q) (numbered (items_list ds))) p ∙ sym (fact.all_of_report o.world ms ds u v P Q))
-        (all_find u v Q ns (numbered (items_list ds)) L built.stand));
+        (all_find u v Q ns (numbered (items_list ds)) L stand));
     shows = λ u h v Q.
-        ap (λ t. t ∷ []) (all_form_shows L ns u v Q k form ∙ ap (plain L Q) (branches_show u v Q ns (numbered (items_list ds)) L built.stand) ∙ ap (λ M. plain M Q (branches_shown o.world u v M Q (numbered (items_list ds)))) p)
+        ap (λ t. t ∷ []) (all_form_shows L ns u v Q k form ∙ ap (plain L Q) (branches_show u v Q ns (numbered (items_list ds)) L stand) ∙ ap (λ M. plain M Q (branches_shown o.world u v M Q (numbered (items_list ds)))) p)
         ∙ sym (all_of_child o.world u v ms P Q ds);
-    clean = fact.all_of_malformations o.world ms ds P ∙ ap (λ M. each_malformed o M (numbered (items_list ds))) (sym p) ∙ built.clean;
-    spends = subst (Spends a b) (sym (fact.all_of_cost o.world ms ds)) built.spends;
   })
 
-  pub holds_any_of : (k : KeywordOver K (SchemaNode K R)) (ns : List (SchemaNode K R)) (L : Path) (ds : Items) (d : Data) (a b : Counts) → d ≡ array ds → IsFormOfAnyOf L ns k → AreBuilt o ns (numbered (items_list ds)) L a b → HoldsMember o (k ∷ []) (codes "anyOf") d any_of L a b
-  holds_any_of k ns L ds d a b q form built ms P p = subst (λ x. KeywordIsBuilt o ms (k ∷ []) (codes "anyOf", x) any_of P a b) (sym q) (record {
+  pub means_any_of : (k : KeywordOver K (SchemaNode K R)) (ns : List (SchemaNode K R)) (L : Path) (ds : Items) (d : Data) → d ≡ array ds → IsFormOfAnyOf L ns k → StandEach o ns (numbered (items_list ds)) L → (ms : Members) (P : Path) → L ≡ P // codes "anyOf" → KeywordMeans o ms (k ∷ []) (codes "anyOf", d) P
+  means_any_of k ns L ds d q form stand ms P p = subst (λ x. KeywordMeans o ms (k ∷ []) (codes "anyOf", x) P) (sym q) (record {
     holds = one ms k (codes "anyOf", array ds) any_of P
-        (λ u v. any_form_accepts L ns u v k form ∙ any_accept u v ns (numbered (items_list ds)) L built.stand ∙ sym (fact.any_of_accepts o.world ms ds u v))
-        (λ u v. same_within _ _ _ (at_most_through _ _ _ (any_form_asks L ns u v k form) (any_ask u v ns (numbered (items_list ds)) L built.stand)) (fact.any_of_asks o.world ms ds u v))
+        (λ u v. any_form_accepts L ns u v k form ∙ any_accept u v ns (numbered (items_list ds)) L stand ∙ sym (fact.any_of_accepts o.world ms ds u v))
+        (λ u v. same_within _ _ _ (at_most_through _ _ _ (any_form_asks L ns u v k form) (any_ask u v ns (numbered (items_list ds)) L stand)) (fact.any_of_asks o.world ms ds u v))
         (λ u v Q. subst₂ (λ x y. x ∼ y) (told u v Q) (meant u v Q) (any_fault (not (list_any (λ e. accepts o.world u e.1 v) (numbered (items_list ds))))
         (context (map (λ n. (answers o n).report u v Q) ns)) (context (map (λ e. report o.world u e.1 v (L // e.0) Q) (numbered (items_list ds)))) v L Q
-        (any_context u v Q ns (numbered (items_list ds)) L built.stand)));
+        (any_context u v Q ns (numbered (items_list ds)) L stand)));
     shows = λ u h v Q.
-        ap (λ t. t ∷ []) (any_form_shows L ns u v Q k form ∙ any_show u v Q ns (numbered (items_list ds)) L built.stand ∙ ap (λ M. any_shown o.world u v M Q (numbered (items_list ds))) p)
+        ap (λ t. t ∷ []) (any_form_shows L ns u v Q k form ∙ any_show u v Q ns (numbered (items_list ds)) L stand ∙ ap (λ M. any_shown o.world u v M Q (numbered (items_list ds))) p)
         ∙ sym (any_of_child o.world u v ms P Q ds);
-    clean = fact.any_of_malformations o.world ms ds P ∙ ap (λ M. each_malformed o M (numbered (items_list ds))) (sym p) ∙ built.clean;
-    spends = subst (Spends a b) (sym (fact.any_of_cost o.world ms ds)) built.spends;
   })
     where
       told : (u : Bool) (v : Data) (Q : Path) → fault_if (not (list_any (λ e. accepts o.world u e.1 v) (numbered (items_list ds)))) (AnyOf (context (map (λ n. (answers o n).report u v Q) ns))) v L Q ≡ found u k v Q
-      told u v Q = ap (λ b. fault_if (not b) (AnyOf (context (map (λ n. (answers o n).report u v Q) ns))) v L Q) (sym (any_accept u v ns (numbered (items_list ds)) L built.stand)) ∙ sym (any_form_finds L ns u v Q k form)
+      told u v Q = ap (λ b. fault_if (not b) (AnyOf (context (map (λ n. (answers o n).report u v Q) ns))) v L Q) (sym (any_accept u v ns (numbered (items_list ds)) L stand)) ∙ sym (any_form_finds L ns u v Q k form)
 
       meant : (u : Bool) (v : Data) (Q : Path) → fault_if (not (list_any (λ e. accepts o.world u e.1 v) (numbered (items_list ds)))) (AnyOf (context (map (λ e. report o.world u e.1 v (L // e.0) Q) (numbered (items_list ds))))) v L Q ≡ member_report o.world ms (codes "anyOf", array ds) any_of u v P Q
       meant u v Q = ap (λ M. fault_if (not (list_any (λ e. accepts o.world u e.1 v) (numbered (items_list ds)))) (AnyOf (context (map (λ e. report o.world u e.1 v (M // e.0) Q) (numbered (items_list ds))))) v M Q) p ∙ sym (fact.any_of_report o.world ms ds u v P Q)
@@ -518,15 +502,13 @@ module _ {K R : Type 0} (o : Kit K R) where
     unfolding validator_tree
     not_show Q = refl
 
-  pub holds_not : (original : Value) (n : SchemaNode K R) (L : Path) (d : Data) (a b : Counts) → view original ≡ d → IsBuilt o n d L a b → HoldsMember o (keyword.Not (record { original = original; node = n; location = L }) ∷ []) (codes "not") d not_keyword L a b
-  holds_not original n L d a b same built ms P p = record {
+  pub means_not : (original : Value) (n : SchemaNode K R) (L : Path) (d : Data) → view original ≡ d → StandsFor o n d L → (ms : Members) (P : Path) → L ≡ P // codes "not" → KeywordMeans o ms (keyword.Not (record { original = original; node = n; location = L }) ∷ []) (codes "not", d) P
+  means_not original n L d same stands ms P p = record {
     holds = one ms (keyword.Not (record { original = original; node = n; location = L })) (codes "not", d) not_keyword P
-        (λ u v. not_accept original n L u v ∙ ap not (built.stands.verdict u v) ∙ sym (fact.not_accepts o.world ms d u v))
-        (λ u v. subst₂ (λ x y. x ≤ y) (sym (not_ask original n L u v)) (sym (fact.not_asks o.world ms d u v)) (built.stands.asks_within u v))
-        (λ u v Q. ∼_same (not_find original n L u v Q ∙ (λ i. fault_if (built.stands.verdict u v i) (Not (same i)) v (p i) Q) ∙ sym (fact.not_report o.world ms d u v P Q)));
-    shows = λ u h v Q. ap (λ t. t ∷ []) (not_show original n L u v Q ∙ (λ i. erring (p i) Q (fault_if (built.stands.verdict u v i) (Not (same i)) v (p i) Q))) ∙ sym (not_child o.world u v ms P Q d);
-    clean = fact.not_malformations o.world ms d P ∙ ap (malformations_at o.world d) (sym p) ∙ built.clean;
-    spends = subst (Spends a b) (sym (fact.not_cost o.world ms d)) built.spends;
+        (λ u v. not_accept original n L u v ∙ ap not (stands.verdict u v) ∙ sym (fact.not_accepts o.world ms d u v))
+        (λ u v. subst₂ (λ x y. x ≤ y) (sym (not_ask original n L u v)) (sym (fact.not_asks o.world ms d u v)) (stands.asks_within u v))
+        (λ u v Q. ∼_same (not_find original n L u v Q ∙ (λ i. fault_if (stands.verdict u v i) (Not (same i)) v (p i) Q) ∙ sym (fact.not_report o.world ms d u v P Q)));
+    shows = λ u h v Q. ap (λ t. t ∷ []) (not_show original n L u v Q ∙ (λ i. erring (p i) Q (fault_if (stands.verdict u v i) (Not (same i)) v (p i) Q))) ∙ sym (not_child o.world u v ms P Q d);
   }
 
   -- ---- required
@@ -551,38 +533,27 @@ module _ {K R : Type 0} (o : Kit K R) where
     unfolding validator_tree
     required_show Q = refl
 
-  pub holds_required : (names : Vec (String Global) Global) (L : Path) (ds : Items) (d : Data) (a : Counts) → d ≡ array ds → map string_bytes names.items ≡ texts_in ds → not_texts L ds ≡ [] → HoldsMember o (keyword.Required (record { required = names; location = L }) ∷ []) (codes "required") d required L a a
-  holds_required names L ds d a q same clean ms P p = subst (λ x. KeywordIsBuilt o ms (keyword.Required (record { required = names; location = L }) ∷ []) (codes "required", x) required P a a) (sym q) (record {
-    holds = one ms (keyword.Required (record { required = names; location = L })) (codes "required", array ds) required P
-        (λ u v. required_accept names L u v ∙ ap (λ ns. is_empty (missing ns v)) same ∙ sym (fact.required_accepts o.world ms (array ds) u v))
-        (λ u v. subst₂ (λ x y. x ≤ y) (sym (required_ask names L u v)) (sym (fact.required_asks o.world ms (array ds) u v)) (omega arith))
-        (λ u v Q. ∼_same (required_find names L u v Q ∙ (λ i. required_faults (same i) v (p i) Q) ∙ sym (fact.required_report o.world ms (array ds) u v P Q)));
-    shows = λ u h v Q. ap (λ t. t ∷ []) (required_show names L u v Q ∙ (λ i. erring (p i) Q (required_faults (same i) v (p i) Q))) ∙ sym (required_child o.world u v ms P Q (array ds) h);
-    clean = fact.required_malformations o.world ms (array ds) P ∙ ap (λ M. not_texts M ds) (sym p) ∙ clean;
-    spends = subst (Spends a a) (sym (fact.required_cost o.world ms (array ds))) (spends_nothing a);
-  })
+  pub means_required : (names : Vec (String Global) Global) (L : Path) (d : Data) → map string_bytes names.items ≡ texts d → (ms : Members) (P : Path) → L ≡ P // codes "required" → KeywordMeans o ms (keyword.Required (record { required = names; location = L }) ∷ []) (codes "required", d) P
+  means_required names L d same ms P p = record {
+    holds = one ms (keyword.Required (record { required = names; location = L })) (codes "required", d) required P
+        (λ u v. required_accept names L u v ∙ ap (λ ns. is_empty (missing ns v)) same ∙ sym (fact.required_accepts o.world ms d u v))
+        (λ u v. subst₂ (λ x y. x ≤ y) (sym (required_ask names L u v)) (sym (fact.required_asks o.world ms d u v)) (omega arith))
+        (λ u v Q. ∼_same (required_find names L u v Q ∙ (λ i. required_faults (same i) v (p i) Q) ∙ sym (fact.required_report o.world ms d u v P Q)));
+    shows = λ u h v Q. ap (λ t. t ∷ []) (required_show names L u v Q ∙ (λ i. erring (p i) Q (required_faults (same i) v (p i) Q))) ∙ sym (required_child o.world u v ms P Q d h);
+  }
 
-  -- the names are taken over
-  pub holds_taken : (L P : Path) (t : Name × Name) (d : Data) (a : Counts) → HoldsClaims o [] (Some t) (codes "required") d P L a a
-  holds_taken L P t d a ms p distinct there chosen = record {
+  -- the names are fused
+  pub means_fused : (t : Name × Name) (d : Data) (ms : Members) (P : Path) → Some t ≡ fused_names ms → KeywordsMean o ms [] (claims (head (by_names (Some t))) (listed ms) (codes "required", d)) ((codes "required", d) ∷ []) P
+  means_fused t d ms P chosen = subst (λ rows. KeywordsMean o ms [] rows ((codes "required", d) ∷ []) P) (sym (claims_nothing t (listed ms) d)) record {
     covers = record { verdict = λ u v. refl; asks_within = λ u v. omega arith; faults = λ u v Q. like_empty };
     shows = λ clean u v Q. sym (append-nil _ ∙ no_required_child o.world u v ms P Q d (not_fused o.world ms P clean (meaning_step o.world u)) (fused o.world ms P clean (meaning_step o.world u) ∙ ap is_some (sym chosen)));
-    clean = append-nil _ ∙ ap (λ x. member_malformations o.world ms (codes "required", x) required P) same ∙ fact.required_malformations o.world ms (listing t) P;
-    spends = spends_same a a no_cost _ (sym (sum_last _ ∙ fact.required_cost o.world ms d)) (spends_nothing a);
   }
-    where
-      same : d ≡ listing t
-      same = ap (λ x. unwrap_or x d) (sym there ∙ (takes_over ms distinct t chosen).listed_at)
 
-  module _ {X : Type 0} (f : X → Name × Name) where
-    pub holds_required_elsewhere : (x : Option X) (L P : Path) (d : Data) (a : Counts) → is_some x ≡ true → HoldsClaims o [] (option_map f x) (codes "required") d P L a a
-    holds_required_elsewhere None L P d a e = absurd (true≢false (sym e))
-    holds_required_elsewhere (Some x) L P d a e = holds_taken L P (f x) d a
-
-    pub holds_required_alone : (x : Option X) (ks : List (KeywordOver K (SchemaNode K R))) (L P : Path) (d : Data) (a b : Counts) → is_some x ≡ false → HoldsMember o ks (codes "required") d required L a b → HoldsClaims o ks (option_map f x) (codes "required") d P L a b
-    holds_required_alone None ks L P d a b e h ms p distinct there chosen = built_alone o ms P ks (codes "required", d) a b
-        (λ clean u. (not_fused o.world ms P clean (meaning_step o.world u), fused o.world ms P clean (meaning_step o.world u) ∙ ap is_some (sym chosen))) (h ms P p)
-    holds_required_alone (Some x) ks L P d a b e h ms p distinct there chosen = absurd (true≢false e)
+  pub means_required_alone : (names : Vec (String Global) Global) (L : Path) (d : Data) → map string_bytes names.items ≡ texts d → (ms : Members) (P : Path) → L ≡ P // codes "required" → has_repeat (names_of (listed ms)) ≡ false → lookup (codes "required") (listed ms) ≡ Some d → None ≡ fused_names ms → KeywordsMean o ms (keyword.Required (record { required = names; location = L }) ∷ []) (claims (head (by_names None)) (listed ms) (codes "required", d)) ((codes "required", d) ∷ []) P
+  means_required_alone names L d same ms P p distinct there chosen =
+      subst (λ rows. KeywordsMean o ms (keyword.Required (record { required = names; location = L }) ∷ []) rows ((codes "required", d) ∷ []) P) (sym (claims_itself ms distinct (head (by_names None)) (codes "required", d) (λ n. refl) there))
+      (means_alone o ms P _ (codes "required", d)
+      (λ clean u. (not_fused o.world ms P clean (meaning_step o.world u), fused o.world ms P clean (meaning_step o.world u) ∙ ap is_some (sym chosen))) (means_required names L d same ms P p))
 
   -- a keyword that is neither has a child of its own, and claims its own member
   neither_of : (ms : Members) (u : Bool) (k : Name) (d : Data) → bytes_eq (codes "properties") k ≡ false → bytes_eq (codes "required") k ≡ false → (w : Keyword) → Named k w → StandsAlone o.world u ms (k, d) w
@@ -590,18 +561,9 @@ module _ {K R : Type 0} (o : Kit K R) where
   neither_of ms u k d e f required n = absurd (true≢false (ap (bytes_eq (codes "required")) (sym n) ∙ f))
   neither_of ms u k d e f w n = tt
 
-  pub holds_own : (ks : List (KeywordOver K (SchemaNode K R))) (t : Option (Name × Name)) (k : Name) (d : Data) (P L : Path) (a b : Counts) → bytes_eq (codes "properties") k ≡ false → bytes_eq (codes "required") k ≡ false → HoldsMember o ks k d (keyword_named o.world k) L a b → HoldsClaims o ks t k d P L a b
-  holds_own ks t k d P L a b e f h ms p distinct there chosen = subst (λ rows. KeywordsAreBuilt o ms ks rows ((k, d) ∷ []) P a b) (by t)
-      (built_alone o ms P ks (k, d) a b (λ clean u. neither_of ms u k d e f (keyword_named o.world k) (is_named k o.world)) (h ms P p))
-    where
-      by : (s : Option (Name × Name)) → (k, d) ∷ [] ≡ claims s ms (k, d)
-      by None = refl
-      by (Some s) = λ i. cond (sym e i) ((k, d) ∷ members_named (codes "required") (listed ms)) (cond (sym f i) [] ((k, d) ∷ []))
-
-  pub holds_other : (ks : List (KeywordOver K (SchemaNode K R))) (t : Option (Name × Name)) (k : Name) (d : Data) (P L : Path) (a b : Counts) → IsOther k → HoldsMember o ks k d (keyword_named o.world k) L a b → HoldsClaims o ks t k d P L a b
-  holds_other ks t k d P L a b other h =
-      let q = none_among k (codes "properties" ∷ codes "required" ∷ codes "allOf" ∷ codes "anyOf" ∷ codes "not" ∷ []) other in
-      holds_own ks t k d P L a b (bytes_eq-sym (codes "properties") k ∙ q.0) (bytes_eq-sym (codes "required") k ∙ q.1.0) h
+  pub means_own : (ks : List (KeywordOver K (SchemaNode K R))) (p : Planned) (ms : Members) (m : Name × Data) (P : Path) → has_repeat (names_of (listed ms)) ≡ false → lookup m.0 (listed ms) ≡ Some m.1 → bytes_eq (codes "properties") m.0 ≡ false → bytes_eq (codes "required") m.0 ≡ false → KeywordMeans o ms ks m P → KeywordsMean o ms ks (claims (head p) (listed ms) m) (m ∷ []) P
+  means_own ks p ms m P distinct there e f h = subst (λ rows. KeywordsMean o ms ks rows (m ∷ []) P) (sym (claims_itself ms distinct (head p) m (heads_elsewhere p m.0 e f) there))
+      (means_alone o ms P ks m (λ clean u. neither_of ms u m.0 m.1 e f (keyword_named o.world m.0) (is_named m.0 o.world)) h)
 
   -- ---- leaves, and names that nothing reads
 
@@ -622,97 +584,21 @@ module _ {K R : Type 0} (o : Kit K R) where
     unfolding validator_tree
     leaf_show Q = refl
 
-  pub holds_leaf : (l : K) (k : Name) (L : Path) (d : Data) (a b : Counts) → is_among k pending ≡ false → o.world.fits k d ≡ true → o.keyword_of l ≡ k → ((v : Data) → o.finds l v ≡ o.world.faults k d v) → b ≡ count_leaf a → HoldsMember o (keyword.Leaf L l ∷ []) k d leaf L a b
-  holds_leaf l k L d a b e fits name same count ms P p = record {
-    holds = one ms (keyword.Leaf L l) (k, d) leaf P
+  pub means_leaf : (l : K) (k : Name) (L : Path) (d : Data) → keyword_named o.world k ≡ leaf → o.keyword_of l ≡ k → ((v : Data) → o.finds l v ≡ o.world.faults k d v) → (ms : Members) (P : Path) → L ≡ P // k → KeywordMeans o ms (keyword.Leaf L l ∷ []) (k, d) P
+  means_leaf l k L d q name same ms P p = record {
+    holds = subst (λ w. Holds o ms (keyword.Leaf L l ∷ []) (k, d) w P) (sym q) (one ms (keyword.Leaf L l) (k, d) leaf P
         (λ u v. leaf_accept l L u v ∙ ap is_empty (same v) ∙ sym (fact.leaf_accepts o.world ms k d u v))
         (λ u v. subst₂ (λ x y. x ≤ y) (sym (leaf_ask l L u v)) (sym (fact.leaf_asks o.world ms k d u v)) (omega arith))
-        (λ u v Q. ∼_same (leaf_find l L u v Q ∙ (λ i. map (λ t. fault (Leaf (name i) t) v Q (p i)) (same v i)) ∙ sym (fact.leaf_report o.world ms k d u v P Q)));
-    shows = λ u h v Q. ap (λ t. t ∷ []) (leaf_show l L u v Q ∙ (λ i. leaf_node (p i) Q (described (map (λ t. fault (Leaf (name i) t) v Q (p i)) (same v i))))) ∙ sym (leaf_child o.world u v ms P Q d k);
-    clean = fact.leaf_malformations o.world ms k d e P ∙ ap (λ f. unless_kind f (LeafRefused k) d (P // k)) fits;
-    spends = subst (Spends a b) (sym (fact.leaf_cost o.world ms k d)) (spends_leaf a b count);
+        (λ u v Q. ∼_same (leaf_find l L u v Q ∙ (λ i. map (λ t. fault (Leaf (name i) t) v Q (p i)) (same v i)) ∙ sym (fact.leaf_report o.world ms k d u v P Q))));
+    shows = λ u h v Q. ap (λ t. t ∷ []) (leaf_show l L u v Q ∙ (λ i. leaf_node (p i) Q (described (map (λ t. fault (Leaf (name i) t) v Q (p i)) (same v i))))) ∙ sym (leaf_child o.world u v ms P Q d k) ∙ ap (λ w. member_child o.world ms (k, d) w u v P Q) (sym q);
   }
 
-  pub holds_unread : (k : Name) (L : Path) (d : Data) (a : Counts) → is_among k pending ≡ false → HoldsMember o [] k d unread L a a
-  holds_unread k L d a e ms P p = record {
-    holds = record {
+  pub means_unread : (k : Name) (d : Data) → keyword_named o.world k ≡ unread → (ms : Members) (P : Path) → KeywordMeans o ms [] (k, d) P
+  means_unread k d q ms P = record {
+    holds = subst (λ w. Holds o ms [] (k, d) w P) (sym q) (record {
       verdict = λ u v. sym (fact.unread_accepts o.world ms k d u v);
       asks_within = λ u v. subst (λ n. 0 ≤ n) (sym (fact.unread_asks o.world ms k d u v)) (omega arith);
       faults = λ u v Q. ∼_same (sym (fact.unread_report o.world ms k d u v P Q));
-    };
-    shows = λ u h v Q. refl;
-    clean = fact.unread_malformations o.world ms k d e P;
-    spends = subst (Spends a a) (sym (fact.unread_cost o.world ms k d)) (spends_nothing a);
+    });
+    shows = λ u h v Q. ap (λ w. member_child o.world ms (k, d) w u v P Q) (sym q);
   }
-
-  -- ---- refusals
-
-  refuses_at_once : (k : Name) (d : Data) (w : Keyword) (L : Path) (a : Counts) (e : BuildError) (f : Path → Fault) → TellsOneOf (f L ∷ []) e → ((ms : Members) (P : Path) → (rest : List Fault) × (member_malformations o.world ms (k, d) w P ≡ f (P // k) ∷ rest)) → RefusesMember o k d w L a a e
-  refuses_at_once k d w L a e f t h ms P p = record {
-    tells = tells_same (ap (λ M. f M ∷ (h ms P).0) p ∙ sym (h ms P).1) e (tells_left (f L ∷ []) (h ms P).0 e t);
-    spends = within_nothing a (member_cost o.world ms (k, d) w);
-  }
-
-  pub refuses_properties_kind : (L : Path) (d : Data) (a : Counts) (e : BuildError) → is_object d ≡ false → TellsOneOf (fault (SingleType object_type) d [] L ∷ []) e → RefusesMember o (codes "properties") d properties L a a e
-  refuses_properties_kind L d a e h t = refuses_at_once (codes "properties") d properties L a e (λ M. fault (SingleType object_type) d [] M) t (λ ms P. ([], fact.properties_kind o.world ms P d h))
-
-  pub refuses_all_of_kind : (L : Path) (d : Data) (a : Counts) (e : BuildError) → is_array d ≡ false → TellsOneOf (fault (SingleType array_type) d [] L ∷ []) e → RefusesMember o (codes "allOf") d all_of L a a e
-  refuses_all_of_kind L d a e h t = refuses_at_once (codes "allOf") d all_of L a e (λ M. fault (SingleType array_type) d [] M) t (λ ms P. ([], fact.all_of_kind o.world ms P d h))
-
-  pub refuses_any_of_kind : (L : Path) (d : Data) (a : Counts) (e : BuildError) → is_array d ≡ false → TellsOneOf (fault (SingleType array_type) d [] L ∷ []) e → RefusesMember o (codes "anyOf") d any_of L a a e
-  refuses_any_of_kind L d a e h t = refuses_at_once (codes "anyOf") d any_of L a e (λ M. fault (SingleType array_type) d [] M) t (λ ms P. ([], fact.any_of_kind o.world ms P d h))
-
-  pub refuses_required_kind : (L : Path) (d : Data) (a : Counts) (e : BuildError) → is_array d ≡ false → TellsOneOf (fault (SingleType array_type) d [] L ∷ []) e → RefusesMember o (codes "required") d required L a a e
-  refuses_required_kind L d a e h t = refuses_at_once (codes "required") d required L a e (λ M. fault (SingleType array_type) d [] M) t (λ ms P. ([], fact.required_kind o.world ms P d h))
-
-  pub refuses_items : (L : Path) (ds : Items) (d : Data) (a : Counts) (e : BuildError) → d ≡ array ds → TellsOneOf (not_texts L ds) e → RefusesMember o (codes "required") d required L a a e
-  refuses_items L ds d a e q t ms P p = subst (λ x. Refuses (member_malformations o.world ms (codes "required", x) required P) (member_cost o.world ms (codes "required", x) required) a a e) (sym q) (record {
-    tells = tells_same (ap (λ M. not_texts M ds) p ∙ sym (fact.required_malformations o.world ms (array ds) P)) e t;
-    spends = within_nothing a (member_cost o.world ms (codes "required", array ds) required);
-  })
-
-  pub refuses_properties_inside : (L : Path) (fs : Members) (d : Data) (a b : Counts) (e : BuildError) → d ≡ object fs → Refuses (each_malformed o L (listed fs)) (each_cost o (listed fs)) a b e → RefusesMember o (codes "properties") d properties L a b e
-  refuses_properties_inside L fs d a b e q h ms P p = subst (λ x. Refuses (member_malformations o.world ms (codes "properties", x) properties P) (member_cost o.world ms (codes "properties", x) properties) a b e) (sym q)
-      (refuses_same _ _ _ _ a b e (ap (λ M. each_malformed o M (listed fs)) p ∙ sym (fact.properties_malformations o.world ms fs P)) (sym (fact.properties_cost o.world ms fs)) h)
-
-  pub refuses_properties_memory : (L : Path) (fs : Members) (d : Data) (a b : Counts) (e : BuildError) (m : AllocError) → d ≡ object fs → e ≡ Memory m → Spends a b (each_cost o (listed fs)) → RefusesMember o (codes "properties") d properties L a b e
-  refuses_properties_memory L fs d a b e m q r h ms P p = subst (λ x. Refuses (member_malformations o.world ms (codes "properties", x) properties P) (member_cost o.world ms (codes "properties", x) properties) a b e) (sym q)
-      (refuses_memory _ _ a b e m r (within_same a b _ _ (sym (fact.properties_cost o.world ms fs)) (within_exactly a b (each_cost o (listed fs)) h)))
-
-  pub refuses_all_of_inside : (L : Path) (ds : Items) (d : Data) (a b : Counts) (e : BuildError) → d ≡ array ds → Refuses (each_malformed o L (numbered (items_list ds))) (each_cost o (numbered (items_list ds))) a b e → RefusesMember o (codes "allOf") d all_of L a b e
-  refuses_all_of_inside L ds d a b e q h ms P p = subst (λ x. Refuses (member_malformations o.world ms (codes "allOf", x) all_of P) (member_cost o.world ms (codes "allOf", x) all_of) a b e) (sym q)
-      (refuses_same _ _ _ _ a b e (ap (λ M. each_malformed o M (numbered (items_list ds))) p ∙ sym (fact.all_of_malformations o.world ms ds P)) (sym (fact.all_of_cost o.world ms ds)) h)
-
-  pub refuses_any_of_inside : (L : Path) (ds : Items) (d : Data) (a b : Counts) (e : BuildError) → d ≡ array ds → Refuses (each_malformed o L (numbered (items_list ds))) (each_cost o (numbered (items_list ds))) a b e → RefusesMember o (codes "anyOf") d any_of L a b e
-  refuses_any_of_inside L ds d a b e q h ms P p = subst (λ x. Refuses (member_malformations o.world ms (codes "anyOf", x) any_of P) (member_cost o.world ms (codes "anyOf", x) any_of) a b e) (sym q)
-      (refuses_same _ _ _ _ a b e (ap (λ M. each_malformed o M (numbered (items_list ds))) p ∙ sym (fact.any_of_malformations o.world ms ds P)) (sym (fact.any_of_cost o.world ms ds)) h)
-
-  pub refuses_not_inside : (L : Path) (d : Data) (a b : Counts) (e : BuildError) → Refuses (malformations_at o.world d L) (cost o.world d) a b e → RefusesMember o (codes "not") d not_keyword L a b e
-  refuses_not_inside L d a b e h ms P p = refuses_same _ _ _ _ a b e (ap (malformations_at o.world d) p ∙ sym (fact.not_malformations o.world ms d P)) (sym (fact.not_cost o.world ms d)) h
-
-  within_leaf : (k : Name) (d : Data) (a b : Counts) → b ≡ count_leaf a → (ms : Members) → SpendsWithin a b (member_cost o.world ms (k, d) leaf)
-  within_leaf k d a b c ms = within_same a b (record no_cost { leaf_places = 1 }) (member_cost o.world ms (k, d) leaf) (sym (fact.leaf_cost o.world ms k d)) (within_exactly a b (record no_cost { leaf_places = 1 }) (spends_leaf a b c))
-
-  pub refuses_leaf : (k : Name) (L : Path) (d : Data) (a b : Counts) (e : BuildError) → is_among k pending ≡ false → o.world.fits k d ≡ false → TellsOneOf (fault (LeafRefused k) d [] L ∷ []) e → b ≡ count_leaf a → RefusesMember o k d leaf L a b e
-  refuses_leaf k L d a b e h fits t c ms P p = record {
-    tells = tells_same (ap (λ M. fault (LeafRefused k) d [] M ∷ []) p ∙ ap (λ f. unless_kind f (LeafRefused k) d (P // k)) (sym fits) ∙ sym (fact.leaf_malformations o.world ms k d h P)) e t;
-    spends = within_leaf k d a b c ms;
-  }
-
-  pub refuses_name : (k : Name) (L : Path) (d : Data) (a : Counts) (e : BuildError) → IsOther k → is_among k (unsupported_names ++ pending) ≡ true → TellsOneOf (fault (Unsupported k) d [] L ∷ []) e → RefusesMember o k d (keyword_named o.world k) L a a e
-  refuses_name k L d a e other among t = by (refused_keyword o.world k other among)
-    where
-      by : (is_among k pending ≡ true) ⊎ (keyword_named o.world k ≡ unsupported) → RefusesMember o k d (keyword_named o.world k) L a a e
-      by (inl h) = refuses_at_once k d (keyword_named o.world k) L a e (λ M. fault (Unsupported k) d [] M) t (λ ms P. fact.pending_malformations o.world ms P k d h (keyword_named o.world k))
-      by (inr h) = subst (λ w. RefusesMember o k d w L a a e) (sym h) (refuses_at_once k d unsupported L a e (λ M. fault (Unsupported k) d [] M) t (λ ms P. fact.unsupported_malformations o.world ms P k d))
-
-  -- ---- want of memory
-
-  pub refuses_memory_member : (k : Name) (d : Data) (w : Keyword) (L : Path) (a b : Counts) (e : BuildError) (m : AllocError) → e ≡ Memory m → SpendsWithin a b no_cost → RefusesMember o k d w L a b e
-  refuses_memory_member k d w L a b e m q h ms P p = record {
-    tells = tells_memory (member_malformations o.world ms (k, d) w P) e m q;
-    spends = within_same a b (no_cost ⊕ member_cost o.world ms (k, d) w) (member_cost o.world ms (k, d) w) (sum_first (member_cost o.world ms (k, d) w)) (within_before a b no_cost (member_cost o.world ms (k, d) w) h);
-  }
-
-  pub refuses_memory_leaf : (k : Name) (d : Data) (L : Path) (a b : Counts) (e : BuildError) (m : AllocError) → e ≡ Memory m → b ≡ count_leaf a → RefusesMember o k d leaf L a b e
-  refuses_memory_leaf k d L a b e m q c ms P p = record { tells = tells_memory (member_malformations o.world ms (k, d) leaf P) e m q; spends = within_leaf k d a b c ms }

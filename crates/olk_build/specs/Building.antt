@@ -1,13 +1,12 @@
 -- What building a node, or a part of one, promises.
-use Rattle.std.specs.Prelude.{◌≡◌, ◌≤◌, ⊤, ℕ, Bool, false, List, [], ◌∷◌, map, Contains, Option, Some}
+use Rattle.std.specs.Prelude.{◌≡◌, ◌≤◌, ⊤, ℕ, Bool, List, [], ◌∷◌, map, Contains}
 use Rattle.std.specs.List.{list_all, flat_map, sum_by}
 use Rattle.serde_json.specs.Data.{Data, Members}
-use Rattle.olk_spec.specs.Names.{Name, Path, ◌//◌, lookup}
-use Rattle.olk_spec.specs.Schemas.{listed}
+use Rattle.olk_spec.specs.Names.{Name, Path, ◌//◌}
 use Rattle.olk_spec.specs.Vocabulary.{Keyword, keyword_named}
 use Rattle.olk_spec.specs.Faults.{Fault, ◌∼◌}
 use Rattle.olk_spec.specs.Tree.{Tree}
-use Rattle.olk_spec.specs.Malformed.{has_repeat}
+use Rattle.olk_spec.specs.Schemas.{listed}
 use Rattle.olk_spec.specs.Costs.{Cost, cost, total_cost}
 use Rattle.olk_base.specs.Count.{Counts, raised_by}
 use Rattle.olk_reports.specs.Errors.{fault_of}
@@ -15,12 +14,10 @@ use Rattle.olk_reports.specs.declared.error.BuildError.{BuildError}
 use Rattle.olk_reports.specs.declared.error.BuildError.TheVariants.{Refused, Memory}
 use Rattle.olk_node.specs.Kit.{Kit}
 use Rattle.olk_tree.specs.Questions.{every}
-use Rattle.olk_build.specs.Claims.{claims}
-use Rattle.olk_build.specs.Forms.{taken_names}
 use Rattle.olk_tree.specs.Answers.{validator_means, validator_report, validator_tree}
 use Rattle.olk_node.specs.Nodes.{answers}
 use Rattle.olk_node.specs.Stands.{StandsFor}
-use Rattle.olk_build.specs.Members.{malformations_at, member_accepts, member_asks, member_report, member_child, StandsAlone, member_malformations, member_cost}
+use Rattle.olk_build.specs.Members.{malformations_at, member_accepts, member_asks, member_report, member_malformations, member_cost}
 use Rattle.olk_node.specs.declared.node.SchemaNode.{SchemaNode}
 use Rattle.olk_tree.specs.declared.node.KeywordOver.{KeywordOver}
 
@@ -63,6 +60,9 @@ module _ {K R : Type 0} (o : Kit K R) where
     pub clean : malformations_at o.world S P ≡ []
     pub spends : Spends old new (cost o.world S)
 
+  abbrev pub RefusesSchema : Data → Path → Counts → Counts → BuildError → Type 0
+  RefusesSchema S P old new e = Refuses (malformations_at o.world S P) (cost o.world S) old new e
+
   -- ---- nodes for schemas under names, below a place
 
   abbrev pub StandEach : List (SchemaNode K R) → List (Name × Data) → Path → Type 0
@@ -82,6 +82,9 @@ module _ {K R : Type 0} (o : Kit K R) where
     pub clean : each_malformed P es ≡ []
     pub spends : Spends old new (each_cost es)
 
+  abbrev pub RefusesEach : List (Name × Data) → Path → Counts → Counts → BuildError → Type 0
+  RefusesEach es P old new e = Refuses (each_malformed P es) (each_cost es) old new e
+
   -- ---- keywords for members of the schema object with the members ms at P
 
   module _ (ms : Members) where
@@ -93,6 +96,9 @@ module _ {K R : Type 0} (o : Kit K R) where
 
     abbrev pub all_cost : List (Name × Data) → Cost
     all_cost es = total_cost (λ m. member_cost o.world ms m (which m)) es
+
+    abbrev pub RefusesObject : Path → Counts → Counts → BuildError → Type 0
+    RefusesObject P old new e = Refuses (all_malformed P (listed ms)) (all_cost (listed ms)) old new e
 
     module _ (ks : List (KeywordOver K (SchemaNode K R))) where
       -- what the keywords answer together
@@ -114,34 +120,13 @@ module _ {K R : Type 0} (o : Kit K R) where
         pub asks_within : (u : Bool) (v : Data) → ask v u ≤ member_asks o.world ms m w u v
         pub faults : (u : Bool) (v : Data) (Q : Path) → find u v Q ∼ member_report o.world ms m w u v P Q
 
-      pub record KeywordIsBuilt (m : Name × Data) (w : Keyword) (P : Path) (old new : Counts) : Type 0 where
-        pub holds : Holds m w P
-        pub shows : (u : Bool) → StandsAlone o.world u ms m w → (v : Data) (Q : Path) → show u v Q ≡ member_child o.world ms m w u v P Q
-        pub clean : member_malformations o.world ms m w P ≡ []
-        pub spends : Spends old new (member_cost o.world ms m w)
-
       -- it is what some members mean together
       pub record Covers (es : List (Name × Data)) (P : Path) : Type 0 where
         pub verdict : (u : Bool) (v : Data) → means v u ≡ list_all (λ m. member_accepts o.world ms m (which m) u v) es
         pub asks_within : (u : Bool) (v : Data) → ask v u ≤ sum_by (λ m. member_asks o.world ms m (which m) u v) es
         pub faults : (u : Bool) (v : Data) (Q : Path) → find u v Q ∼ flat_map (λ m. member_report o.world ms m (which m) u v P Q) es
 
-      -- it is built for the members es, whose keywords claim rows: it means what these mean together, and shows what those show
-      pub record KeywordsAreBuilt (rows es : List (Name × Data)) (P : Path) (old new : Counts) : Type 0 where
-        pub covers : Covers rows P
-        pub shows : all_malformed P (listed ms) ≡ [] → (u : Bool) (v : Data) (Q : Path) → show u v Q ≡ flat_map (λ m. member_child o.world ms m (which m) u v P Q) es
-        pub clean : all_malformed P es ≡ []
-        pub spends : Spends old new (all_cost es)
+  -- ---- what is told where nothing is built for a member of the name k and the value d at its place, in each object
 
-  -- ---- the same for the keyword of the name k and the value d at its place, in each object at P where no name stands twice and these names are taken over
-
-  abbrev pub HoldsClaims : List (KeywordOver K (SchemaNode K R)) → Option (Name × Name) → Name → Data → Path → Path → Counts → Counts → Type 0
-  HoldsClaims ks t k d P at old new = (ms : Members) → at ≡ P // k → has_repeat (map (λ m. m.0) (listed ms)) ≡ false → lookup k (listed ms) ≡ Some d → t ≡ taken_names ms → KeywordsAreBuilt ms ks (claims t ms (k, d)) ((k, d) ∷ []) P old new
-
-  -- ---- the same for a keyword that has no neighbours
-
-  abbrev pub HoldsMember : List (KeywordOver K (SchemaNode K R)) → Name → Data → Keyword → Path → Counts → Counts → Type 0
-  HoldsMember ks k d w at old new = (ms : Members) (P : Path) → at ≡ P // k → KeywordIsBuilt ms ks (k, d) w P old new
-
-  abbrev pub RefusesMember : Name → Data → Keyword → Path → Counts → Counts → BuildError → Type 0
-  RefusesMember k d w at old new e = (ms : Members) (P : Path) → at ≡ P // k → Refuses (member_malformations o.world ms (k, d) w P) (member_cost o.world ms (k, d) w) old new e
+  abbrev pub RefusesMember : Name → Data → Path → Counts → Counts → BuildError → Type 0
+  RefusesMember k d at old new e = (ms : Members) (P : Path) → at ≡ P // k → Refuses (member_malformations o.world ms (k, d) (which ms (k, d)) P) (member_cost o.world ms (k, d) (which ms (k, d))) old new e

@@ -1,38 +1,20 @@
--- Which form of a keyword is built.
-use Rattle.std.specs.Prelude.{◌≡◌, ◌≢◌, Bool, true, false, cond, ◌&&◌, nat_lt, List, [], ◌∷◌, length, Option, Some, None, is_none, codes, bytes_eq, string_bytes}
+-- Which form of a validator is built.
+use Rattle.std.specs.Prelude.{◌≡◌, ◌≢◌, Bool, true, false, cond, ◌&&◌, nat_lt, List, [], ◌∷◌, map, length, Option, Some, None, is_none, codes, bytes_eq, string_bytes}
 use Rattle.serde_json.specs.Data.{Data, boolean, string, object, array, Members, no_items, item}
-use Rattle.olk_spec.specs.Names.{Name, Path, ◌//◌, lookup, is_among}
-use Rattle.olk_spec.specs.Schemas.{listed}
+use Rattle.serde_json.specs.View.{view}
+use Rattle.olk_spec.specs.Names.{Name, Path, ◌//◌, lookup}
+use Rattle.olk_spec.specs.Schemas.{listed, texts}
+use Rattle.olk_spec.specs.Malformed.{items_of_array}
+use Rattle.olk_spec.specs.declared.TheConstants.{HASHMAP_THRESHOLD}
 use Rattle.olk_tree.specs.declared.map.SmallMap.{SmallMap}
 use Rattle.olk_tree.specs.declared.node.KeywordOver.{KeywordOver}
 use Rattle.olk_tree.specs.declared.node.KeywordOver.TheVariants as keyword
 
--- the single form of one branch, and the other one of none or several
-abbrev pub IsFormOfAllOf : {K N : Type 0} → Path → List N → KeywordOver K N → Type 0
-IsFormOfAllOf P ns (keyword.AllOf k) = (k.schemas.items ≡ ns) × (length ns ≢ 1) × (k.location ≡ P)
-IsFormOfAllOf P ns (keyword.SingleValueAllOf k) = (ns ≡ k.node ∷ []) × (k.location ≡ P)
-IsFormOfAllOf P ns k = ⊥
-
-abbrev pub IsFormOfAnyOf : {K N : Type 0} → Path → List N → KeywordOver K N → Type 0
-IsFormOfAnyOf P ns (keyword.AnyOf k) = (k.schemas.items ≡ ns) × (length ns ≢ 1) × (k.location ≡ P)
-IsFormOfAnyOf P ns (keyword.SingleAnyOf k) = (ns ≡ k.node ∷ []) × (k.location ≡ P)
-IsFormOfAnyOf P ns k = ⊥
-
--- the form at L in the object at P: with two names that are taken over, or alone
-abbrev pub IsFormOfProperties : {K N : Type 0} → Path → Path → SmallMap N → Option (Name × Name) → KeywordOver K N → Type 0
-IsFormOfProperties P L m None (keyword.Properties k) = (k.properties ≡ m) × (k.location ≡ L)
-IsFormOfProperties P L m (Some t) (keyword.PropertiesWithRequired2 k) = (k.properties ≡ m) × (k.location ≡ L) × (string_bytes k.first ≡ t.0) × (string_bytes k.second ≡ t.1) × (k.required_location ≡ P // codes "required")
-IsFormOfProperties P L m t k = ⊥
-
--- none of the keywords that are built by name
-abbrev pub IsOther : Name → Type 0
-IsOther n = is_among n (codes "properties" ∷ codes "required" ∷ codes "allOf" ∷ codes "anyOf" ∷ codes "not" ∷ []) ≡ false
-
 -- ---- `properties` with `required`
 
--- a value of `properties` that declares fewer than 15 names
+-- a value of `properties` that declares few names
 abbrev pub declares_few : Option Data → Bool
-declares_few (Some (object fs)) = nat_lt (length (listed fs)) 15
+declares_few (Some (object fs)) = nat_lt (length (listed fs)) HASHMAP_THRESHOLD
 declares_few o = false
 
 -- a value of `additionalProperties` that allows every other member, or none
@@ -46,6 +28,53 @@ abbrev pub two_names : Option Data → Option (Name × Name)
 two_names (Some (array (item (string a) (item (string b) no_items)))) = cond (bytes_eq a b) None (Some (a, b))
 two_names o = None
 
--- the two names that `properties` takes over from `required` in a schema object with these members
-abbrev pub taken_names : Members → Option (Name × Name)
-taken_names ms = cond (declares_few (lookup (codes "properties") (listed ms)) && is_none (lookup (codes "patternProperties") (listed ms)) && allows_others (lookup (codes "additionalProperties") (listed ms))) (two_names (lookup (codes "required") (listed ms))) None
+-- the two names that `properties` fuses from `required` in a schema object with these members
+abbrev pub fused_names : Members → Option (Name × Name)
+fused_names ms = cond (declares_few (lookup (codes "properties") (listed ms)) && is_none (lookup (codes "patternProperties") (listed ms)) && allows_others (lookup (codes "additionalProperties") (listed ms))) (two_names (lookup (codes "required") (listed ms))) None
+
+-- ---- the form over given nodes, at its place
+
+-- the single form of one branch, and the other one of none or several
+abbrev pub IsFormOfAllOf : {K N : Type 0} → Path → List N → KeywordOver K N → Type 0
+IsFormOfAllOf P ns (keyword.AllOf k) = (k.schemas.items ≡ ns) × (length ns ≢ 1) × (k.location ≡ P)
+IsFormOfAllOf P ns (keyword.SingleValueAllOf k) = (ns ≡ k.node ∷ []) × (k.location ≡ P)
+IsFormOfAllOf P ns k = ⊥
+
+abbrev pub IsFormOfAnyOf : {K N : Type 0} → Path → List N → KeywordOver K N → Type 0
+IsFormOfAnyOf P ns (keyword.AnyOf k) = (k.schemas.items ≡ ns) × (length ns ≢ 1) × (k.location ≡ P)
+IsFormOfAnyOf P ns (keyword.SingleAnyOf k) = (ns ≡ k.node ∷ []) × (k.location ≡ P)
+IsFormOfAnyOf P ns k = ⊥
+
+-- the form at L in the object at P: with two fused names, or alone
+abbrev pub IsFormOfProperties : {K N : Type 0} → Path → Path → SmallMap N → Option (Name × Name) → KeywordOver K N → Type 0
+IsFormOfProperties P L m None (keyword.Properties k) = (k.properties ≡ m) × (k.location ≡ L)
+IsFormOfProperties P L m (Some t) (keyword.PropertiesWithRequired2 k) = (k.properties ≡ m) × (k.location ≡ L) × (string_bytes k.first ≡ t.0) × (string_bytes k.second ≡ t.1) × (k.required_location ≡ P // codes "required")
+IsFormOfProperties P L m t k = ⊥
+
+-- ---- the form for a value, at its place L
+
+-- `allOf` of one branch is the single form, and of none or several the other
+abbrev pub IsAllOf : {K N : Type 0} → Path → Data → KeywordOver K N → Type 0
+IsAllOf L d (keyword.AllOf k) = (length (items_of_array d) ≢ 1) × (k.location ≡ L)
+IsAllOf L d (keyword.SingleValueAllOf k) = (length (items_of_array d) ≡ 1) × (k.location ≡ L)
+IsAllOf L d k = ⊥
+
+-- and so `anyOf`
+abbrev pub IsAnyOf : {K N : Type 0} → Path → Data → KeywordOver K N → Type 0
+IsAnyOf L d (keyword.AnyOf k) = (length (items_of_array d) ≢ 1) × (k.location ≡ L)
+IsAnyOf L d (keyword.SingleAnyOf k) = (length (items_of_array d) ≡ 1) × (k.location ≡ L)
+IsAnyOf L d k = ⊥
+
+abbrev pub IsNot : {K N : Type 0} → Path → Data → KeywordOver K N → Type 0
+IsNot L d (keyword.Not k) = (view k.original ≡ d) × (k.location ≡ L)
+IsNot L d k = ⊥
+
+abbrev pub IsRequired : {K N : Type 0} → Path → Data → KeywordOver K N → Type 0
+IsRequired L d (keyword.Required k) = (map string_bytes k.required.items ≡ texts d) × (k.location ≡ L)
+IsRequired L d k = ⊥
+
+-- `properties` at L in the object at P with these fused names has them, and without any stands alone
+abbrev pub IsProperties : {K N : Type 0} → Path → Path → Option (Name × Name) → KeywordOver K N → Type 0
+IsProperties P L None (keyword.Properties k) = k.location ≡ L
+IsProperties P L (Some t) (keyword.PropertiesWithRequired2 k) = (k.location ≡ L) × (string_bytes k.first ≡ t.0) × (string_bytes k.second ≡ t.1) × (k.required_location ≡ P // codes "required")
+IsProperties P L t k = ⊥

@@ -1,6 +1,8 @@
 pub mod Members
-pub mod Claims
 pub mod Building
 pub mod Forms
+pub mod Plans
 pub mod Lists
+pub mod Reading
+pub mod Making
 pub mod Parts

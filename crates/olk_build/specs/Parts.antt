@@ -1,29 +1,46 @@
 -- What a keyword's module builds.
-use Rattle.std.specs.Prelude.{◌≡◌, false, [], ◌∷◌, map, Option, Some, Result, IsSomeAnd, IfOk, IfErr}
+use Rattle.std.specs.Prelude.{◌≡◌, List, [], ◌∷◌, Option, Some, Result, IsSomeAnd, IfOk, IfErr}
+use Rattle.std.specs.Option.{IfSome}
 use Rattle.serde_json.specs.Data.{Data, Members}
 use Rattle.olk_spec.specs.Names.{Name, Path, ◌//◌, lookup}
-use Rattle.olk_spec.specs.Vocabulary.{Keyword}
 use Rattle.olk_spec.specs.Schemas.{listed}
-use Rattle.olk_spec.specs.Malformed.{has_repeat}
 use Rattle.olk_base.specs.Count.{Counts}
 use Rattle.olk_reports.specs.declared.error.BuildError.{BuildError}
 use Rattle.olk_node.specs.Kit.{Kit}
-use Rattle.olk_build.specs.Claims.{claims}
-use Rattle.olk_build.specs.Forms.{taken_names}
-use Rattle.olk_build.specs.Building.{KeywordsAreBuilt, HoldsMember, RefusesMember}
-use Rattle.olk_tree.specs.declared.node.KeywordOver.{KeywordOver}
 use Rattle.olk_node.specs.declared.node.SchemaNode.{SchemaNode}
+use Rattle.olk_tree.specs.declared.node.KeywordOver.{KeywordOver}
+use Rattle.olk_build.specs.Plans.{plan_of, head, claims}
+use Rattle.olk_build.specs.Members.{member_malformations, member_cost}
+use Rattle.olk_build.specs.Building.{Spends, which, RefusesMember}
+use Rattle.olk_build.specs.Making.{KeywordMeans, KeywordsMean}
 
--- the keyword of this name and value in the object at P, or why there is none
-abbrev pub Builds : {K R : Type 0} → Kit K R → Name → Data → Keyword → Path → Counts → Counts → Result (KeywordOver K (SchemaNode K R)) BuildError → Type 0
-Builds o k d w P old new r = IfOk r (λ x. HoldsMember o (x ∷ []) k d w (P // k) old new) × IfErr r (RefusesMember o k d w (P // k) old new)
+module _ {K R : Type 0} (o : Kit K R) where
+  -- keywords for the member m of the schema object with the members ms at P
+  pub record MemberIsBuilt (ms : Members) (ks : List (KeywordOver K (SchemaNode K R))) (m : Name × Data) (P : Path) (old new : Counts) : Type 0 where
+    pub means : KeywordMeans o ms ks m P
+    pub clean : member_malformations o.world ms m (which o ms m) P ≡ []
+    pub spends : Spends old new (member_cost o.world ms m (which o ms m))
 
--- there is an answer, and it is that
-abbrev pub GivesMember : {K R : Type 0} → Kit K R → Name → Data → Keyword → Path → Counts → Counts → Option (Result (KeywordOver K (SchemaNode K R)) BuildError) → Type 0
-GivesMember o k d w P old new r = IsSomeAnd r (Builds o k d w P old new)
+  -- for the member m, and what it claims by the object's plan
+  pub record ClaimsAreBuilt (ms : Members) (ks : List (KeywordOver K (SchemaNode K R))) (m : Name × Data) (P : Path) (old new : Counts) : Type 0 where
+    pub means : KeywordsMean o ms ks (claims (head (plan_of ms)) (listed ms) m) (m ∷ []) P
+    pub clean : member_malformations o.world ms m (which o ms m) P ≡ []
+    pub spends : Spends old new (member_cost o.world ms m (which o ms m))
 
--- the same where `properties` takes names over: for what the keyword claims in the object with the members ms at P, in which no name stands twice and this value stands at this name
-abbrev pub BuildsClaims : {K R : Type 0} → Kit K R → Members → Name → Data → Keyword → Path → Counts → Counts → Result (KeywordOver K (SchemaNode K R)) BuildError → Type 0
-BuildsClaims o ms k d w P old new r =
-    IfOk r (λ x. has_repeat (map (λ m. m.0) (listed ms)) ≡ false → lookup k (listed ms) ≡ Some d → KeywordsAreBuilt o ms (x ∷ []) (claims (taken_names ms) ms (k, d)) ((k, d) ∷ []) P old new)
-    × IfErr r (RefusesMember o k d w (P // k) old new)
+  -- the keyword of this name and value at P, in each object, or why there is none
+  abbrev pub Builds : Name → Data → Path → Counts → Counts → Result (KeywordOver K (SchemaNode K R)) BuildError → Type 0
+  Builds k d P old new r = IfOk r (λ x. (ms : Members) (Q : Path) → P // k ≡ Q // k → MemberIsBuilt ms (x ∷ []) (k, d) Q old new) × IfErr r (RefusesMember o k d (P // k) old new)
+
+  -- there is an answer, and it is that
+  abbrev pub GivesMember : Name → Data → Path → Counts → Counts → Option (Result (KeywordOver K (SchemaNode K R)) BuildError) → Type 0
+  GivesMember k d P old new r = IsSomeAnd r (Builds k d P old new)
+
+  -- the same with what the keyword claims, in the object with the members ms at P where this value stands at this name
+  abbrev pub BuildsClaims : Members → Name → Data → Path → Counts → Counts → Result (KeywordOver K (SchemaNode K R)) BuildError → Type 0
+  BuildsClaims ms k d P old new r =
+      IfOk r (λ x. lookup k (listed ms) ≡ Some d → ClaimsAreBuilt ms (x ∷ []) (k, d) P old new)
+      × IfErr r (RefusesMember o k d (P // k) old new)
+
+-- what is given is of this form
+abbrev pub Gives : {X E : Type 0} → Option (Result X E) → (X → Type 0) → Type 0
+Gives r form = IfSome r (λ x. IfOk x form)

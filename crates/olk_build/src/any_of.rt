@@ -1,14 +1,17 @@
-ghost use Rattle.std.specs.Prelude.{◌≡◌, codes};
+//! `anyOf`.
+ghost use Rattle.std.specs.Prelude.{◌≡◌, ◌∷◌, [], codes};
 ghost use Rattle.serde_json.specs.View.{view};
-ghost use Rattle.olk_spec.specs.Vocabulary.{any_of};
+ghost use Rattle.olk_reports.specs.Paths.{one_below};
 ghost use Rattle.olk_node.specs.Kit.{kit};
-ghost use Rattle.olk_build.specs.Parts.{GivesMember};
-ghost use Rattle.olk_build.specs.Forms.{IsFormOfAnyOf};
+ghost use Rattle.olk_build.specs.Forms.{IsFormOfAnyOf, IsAnyOf};
+ghost use Rattle.olk_build.specs.Making.{MakesMember};
+ghost use Rattle.olk_build.specs.Parts.{GivesMember, Gives};
+ghost use Rattle.olk_build.specs.declared.part.Shape.TheVariants as shape;
 
-use crate::build::build_any_of;
+use crate::build::compile_member;
 use crate::context::Context;
-use olk_base::{MakeLeaf, MakeRegex};
-use olk_node::Keyword;
+use olk_base::{Leaf, MakeLeaf, MakeRegex, RegexEngine};
+use olk_node::{Keyword, SchemaNode};
 use olk_reports::{BuildError, Location};
 use olk_tree::any_of::{AnyOf, SingleAnyOf};
 use olk_tree::node::KeywordOver;
@@ -16,7 +19,7 @@ use serde_json::{Map, Value};
 use std::alloc::Global;
 
 /// The form for so many branches.
-pub(crate) fn keyword<K, N: Drop>(location: Location, mut schemas: Vec<N>) -> KeywordOver<K, N>
+fn form<K, N: Drop>(location: Location, mut schemas: Vec<N>) -> KeywordOver<K, N>
     ensures { IsFormOfAnyOf location schemas.items result }
 {
     if schemas.len() == 1
@@ -28,22 +31,42 @@ pub(crate) fn keyword<K, N: Drop>(location: Location, mut schemas: Vec<N>) -> Ke
     }
 }
 
-/// The keyword of `anyOf` in the object at the context's place (JSON Schema 2020-12 Core, 10.2.1.2).
+/// The validator of the branches' nodes.
+pub(crate) fn make<K: Leaf, R: RegexEngine>(
+    location: Location,
+    nodes: Vec<SchemaNode<K, R>>,
+) -> Keyword<K, R>
+    ensures form { IsFormOfAnyOf location nodes.items result }
+    ensures makes { MakesMember (kit K.Leaf R.RegexEngine) shape.AnyOf location nodes.items
+        (result ∷ []) }
+{
+    form(location, nodes)
+}
+
+/// The keyword of `anyOf` in the object at the context's place (JSON Schema 2020-12 Core, 10.2.1.2): of one branch the
+/// single form, else the other.
 ///
-/// There always is an answer: the keyword, the refusal of a malformed value, or want of memory. The meter rises by the
-/// cost of the keyword, or by a part of it where nothing is built; the context's place is left as it was.
+/// The meter rises by the cost of the keyword, or by a part of it where nothing is built; the context's place is left as
+/// it was.
+///
+/// # Errors
+///
+/// One of the malformations of the keyword; else want of memory. There always is an answer.
 pub fn compile<'a, L: MakeLeaf, M: MakeRegex>(
-    ctx: &mut Context<'_, L, M>,
     alloc: Global,
+    ctx: &mut Context<'_, L, M>,
     _parent: &'a Map<String, Value>,
     schema: &'a Value,
 ) -> Option<Result<Keyword<L::Leaf, M::Engine>, BuildError<'a>>>
-    ensures gives { GivesMember (kit L.Leaf.Leaf M.Engine.RegexEngine) (codes "anyOf") (view schema.now) any_of ctx.old.place ctx.old.meter.now ctx.new.meter.now result }
+    ensures gives { GivesMember (kit L.Leaf.Leaf M.Engine.RegexEngine) (codes "anyOf")
+        (view schema.now) ctx.old.place ctx.old.meter.now ctx.new.meter.now result }
+    ensures form { Gives result (IsAnyOf (one_below ctx.old.place (codes "anyOf"))
+        (view schema.now)) }
     ensures place { ctx.new.place ≡ ctx.old.place }
     ensures same_meter { ctx.new.meter.ghost_name ≡ ctx.old.meter.ghost_name }
 {
-    match ctx.place.join(alloc, "anyOf") {
-        Ok(location) => Some(build_any_of(&ctx.makers, ctx.meter, alloc, location, schema)),
-        Err(error) => Some(Err(BuildError::Memory(error))),
+    match compile_member(alloc, ctx, "anyOf", schema) {
+        Ok(part) => Some(Ok(make(part.location, part.nodes))),
+        Err(error) => Some(Err(error)),
     }
 }

@@ -1,3 +1,4 @@
+//! What a build hands down.
 ghost use Rattle.std.specs.Prelude.{◌≡◌, []};
 
 use olk_base::Meter;
@@ -7,14 +8,14 @@ use std::alloc::Global;
 /// The makers of leaves and of matchers.
 #[derive(Drop)]
 pub struct Makers<'c, L, M> {
-    pub leaves: &'c L,
-    pub regexes: &'c M,
+    pub(crate) leaves: &'c L,
+    pub(crate) regexes: &'c M,
 }
 
 /// What a build hands down: the makers, the meter and the current place.
 #[derive(Drop)]
 pub struct Context<'c, L, M> {
-    pub makers: Makers<'c, L, M>,
+    pub(crate) makers: Makers<'c, L, M>,
     pub meter: &'c mut Meter,
     pub place: Location,
 }

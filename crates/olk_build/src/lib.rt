@@ -5,8 +5,14 @@ pub mod all_of;
 pub mod any_of;
 pub mod build;
 pub mod context;
+mod lists;
+mod making;
 pub mod not;
+mod part;
+mod plan;
 pub mod properties;
+mod reading;
+mod refusal;
 pub mod required;
 
 pub use build::compile;

@@ -1,90 +1,39 @@
-ghost use Rattle.std.specs.Prelude.{◌≡◌, codes, option_map, IfOk, IsSomeAnd};
+//! `properties`.
+ghost use Rattle.std.specs.Prelude.{◌≡◌, ◌∷◌, [], codes, IfOk, IsSomeAnd};
 ghost use Rattle.serde_json.specs.View.{view, members_view};
-ghost use Rattle.olk_spec.specs.Vocabulary.{properties};
+ghost use Rattle.olk_reports.specs.Paths.{one_below};
 ghost use Rattle.olk_node.specs.Kit.{kit};
-ghost use Rattle.olk_build.specs.Forms.{IsFormOfProperties, declares_few, allows_others, two_names, taken_names};
-ghost use Rattle.olk_build.specs.Parts.{BuildsClaims};
+ghost use Rattle.olk_build.specs.Forms.{IsFormOfProperties, IsProperties};
+ghost use Rattle.olk_build.specs.Plans.{plan_of, planned};
+ghost use Rattle.olk_build.specs.Making.{MakesClaims};
+ghost use Rattle.olk_build.specs.Parts.{BuildsClaims, Gives};
+ghost use Rattle.olk_build.specs.declared.part.Shape.TheVariants as shape;
 
-use crate::build::build_properties;
+use crate::build::compile_member;
 use crate::context::Context;
-use olk_base::{MakeLeaf, MakeRegex};
-use olk_node::Keyword;
+use crate::part::{Part, Shape};
+use crate::plan::Plan;
+use olk_base::{Leaf, MakeLeaf, MakeRegex, RegexEngine};
+use olk_node::{Keyword, SchemaNode};
 use olk_reports::{BuildError, Location};
-use olk_tree::map::SmallMap;
-use olk_tree::members::{has_member, member};
+use olk_tree::map::{SmallMap, SortedNames};
 use olk_tree::node::KeywordOver;
 use olk_tree::properties::{SmallProperties, SmallPropertiesWithRequired2};
 use serde_json::{Map, Value};
 use std::alloc::{AllocError, Global};
 
-/// From so many declared names on `required` isn't taken over.
-const FEWEST_WIDE: usize = 15;
-
-/// Whether few names are declared.
-fn declares_few(value: Option<&Value>) -> bool
-    ensures { result ≡ declares_few (option_map (λ v. view v.now) value.entry) }
-{
-    if let Some(value) = value
-        && let Some(declared) = value.as_object()
-    {
-        declared.len() < FEWEST_WIDE
-    } else {
-        false
-    }
-}
-
-/// Whether `additionalProperties` allows every other member.
-fn allows_others(value: Option<&Value>) -> bool
-    ensures { result ≡ allows_others (option_map (λ v. view v.now) value.entry) }
-{
-    match value {
-        Some(value) => value.as_bool() == Some(true),
-        None => true,
-    }
-}
-
-/// The two names that `required` lists, where it lists two that differ.
-fn two_names(value: Option<&Value>) -> Option<(&str, &str)>
-    ensures { option_map (λ t. (t.0.now, t.1.now)) result ≡ two_names (option_map (λ v. view v.now) value.entry) }
-{
-    let items = value?.as_array()?.as_slice();
-    if items.len() != 2 {
-        return None;
-    }
-    let first = items[0].as_str()?;
-    let second = items[1].as_str()?;
-    if first == second {
-        return None;
-    }
-    Some((first, second))
-}
-
-/// The two names that `properties` takes over from `required` in an object with these members: it does where few names
-/// are declared, no other keyword tells members by their names, and `required` lists two names that differ.
-pub(crate) fn taken_names(members: &Map<String, Value>) -> Option<(&str, &str)>
-    ensures { option_map (λ t. (t.0.now, t.1.now)) result ≡ taken_names (members_view members.now.entries) }
-{
-    if declares_few(member(members, "properties"))
-        && !has_member(members, "patternProperties")
-        && allows_others(member(members, "additionalProperties"))
-    {
-        two_names(member(members, "required"))
-    } else {
-        None
-    }
-}
-
-/// The form for the names that are taken over from `required` in the object at the place.
-pub(crate) fn keyword<K, N: Drop>(
+/// The form that the plan names, in the object at the place.
+fn form<K, N: Drop>(
     alloc: Global,
+    plan: Plan<'_>,
     place: &Location,
     location: Location,
     properties: SmallMap<N>,
-    taken: Option<(&str, &str)>,
 ) -> Result<KeywordOver<K, N>, AllocError>
-    ensures { IfOk result (IsFormOfProperties place.now location properties (option_map (λ t. (t.0.now, t.1.now)) taken.entry)) }
+    ensures { IfOk result (IsFormOfProperties place.now location properties
+        (planned plan.entry).fused) }
 {
-    let Some((first, second)) = taken else {
+    let Some((first, second)) = plan.fused else {
         return Ok(KeywordOver::Properties(SmallProperties {
             properties,
             location,
@@ -102,31 +51,66 @@ pub(crate) fn keyword<K, N: Drop>(
     }))
 }
 
-/// The keyword of `properties` in the object at the context's place (JSON Schema 2020-12 Core, 10.3.2.1).
+/// The validator of the declared names' nodes in the object at the place, and of the names that the plan fuses.
 ///
-/// There always is an answer: the keyword, the refusal of a malformed value, or want of memory. Where it takes over what
-/// `required` of the parent lists, the keyword stands for both. The meter rises by the cost of the keyword, or by a part
-/// of it where nothing is built; the context's place is left as it was.
-pub fn compile<'a, L: MakeLeaf, M: MakeRegex>(
-    ctx: &mut Context<'_, L, M>,
+/// # Errors
+///
+/// Want of memory.
+pub(crate) fn make<K: Leaf, R: RegexEngine>(
     alloc: Global,
+    plan: Plan<'_>,
+    place: &Location,
+    location: Location,
+    names: SortedNames,
+    nodes: Vec<SchemaNode<K, R>>,
+) -> Result<Keyword<K, R>, AllocError>
+    ensures form { IfOk result (IsProperties place.now location (planned plan.entry).fused) }
+    ensures makes { IfOk result (λ k. MakesClaims (kit K.Leaf R.RegexEngine)
+        (shape.Properties names) location nodes.items place.now (planned plan.entry) (k ∷ [])) }
+{
+    let properties = SmallMap { names, nodes };
+    Ok(form(alloc, plan, place, location, properties)?)
+}
+
+/// The keyword of `properties` in the object at the context's place (JSON Schema 2020-12 Core, 10.3.2.1): with the two
+/// names that it fuses from `required` of the parent, and then it stands for both, or alone.
+///
+/// The meter rises by the cost of the keyword, or by a part of it where nothing is built; the context's place is left as
+/// it was.
+///
+/// # Errors
+///
+/// One of the malformations of the keyword; else want of memory. There always is an answer.
+pub fn compile<'a, L: MakeLeaf, M: MakeRegex>(
+    alloc: Global,
+    ctx: &mut Context<'_, L, M>,
     parent: &'a Map<String, Value>,
     schema: &'a Value,
 ) -> Option<Result<Keyword<L::Leaf, M::Engine>, BuildError<'a>>>
-    ensures gives { IsSomeAnd result (BuildsClaims (kit L.Leaf.Leaf M.Engine.RegexEngine) (members_view parent.now.entries) (codes "properties") (view schema.now) properties ctx.old.place ctx.old.meter.now ctx.new.meter.now) }
+    ensures gives { IsSomeAnd result (BuildsClaims (kit L.Leaf.Leaf M.Engine.RegexEngine)
+        (members_view parent.now.entries) (codes "properties") (view schema.now)
+        ctx.old.place ctx.old.meter.now ctx.new.meter.now) }
+    ensures form { Gives result (IsProperties ctx.old.place
+        (one_below ctx.old.place (codes "properties"))
+        (plan_of (members_view parent.now.entries)).fused) }
     ensures place { ctx.new.place ≡ ctx.old.place }
     ensures same_meter { ctx.new.meter.ghost_name ≡ ctx.old.meter.ghost_name }
 {
-    match ctx.place.join(alloc, "properties") {
-        Ok(location) => Some(build_properties(
-            &ctx.makers,
-            ctx.meter,
-            alloc,
-            &ctx.place,
-            location,
-            schema,
-            taken_names(parent),
-        )),
-        Err(error) => Some(Err(BuildError::Memory(error))),
+    match compile_member(alloc, ctx, "properties", schema) {
+        Ok(part) => {
+            let Part {
+                location,
+                shape,
+                nodes,
+            } = part;
+            let Shape::Properties(names) = shape else {
+                unreachable!()
+            };
+            match make(alloc, Plan::of(parent), &ctx.place, location, names, nodes) {
+                Ok(keyword) => Some(Ok(keyword)),
+                Err(error) => Some(Err(BuildError::Memory(error))),
+            }
+        }
+        Err(error) => Some(Err(error)),
     }
 }

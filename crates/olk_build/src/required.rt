@@ -1,68 +1,83 @@
-ghost use Rattle.std.specs.Prelude.{◌≡◌, codes, [], IfOk, IfErr, is_some, is_none, map, string_bytes};
-ghost use Rattle.serde_json.specs.View.{items_view, members_view, view};
+//! `required`.
+ghost use Rattle.std.specs.Prelude.{◌≡◌, codes, is_some, is_none, option_to_list};
 ghost use Rattle.std.specs.Option.{IfSome, IfNone};
-ghost use Rattle.olk_spec.specs.Schemas.{texts_in};
-ghost use Rattle.olk_spec.specs.Vocabulary.{required};
-ghost use Rattle.olk_build.specs.Forms.{taken_names};
+ghost use Rattle.serde_json.specs.View.{members_view, view};
+ghost use Rattle.olk_spec.specs.Names.{Path};
+ghost use Rattle.olk_reports.specs.Paths.{one_below};
 ghost use Rattle.olk_node.specs.Kit.{kit};
-ghost use Rattle.olk_build.specs.Parts.{Builds};
-ghost use Rattle.olk_build.specs.Building.{TellsOneOf};
-ghost use Rattle.olk_build.specs.Lists.{not_texts};
+ghost use Rattle.olk_build.specs.Forms.{IsRequired};
+ghost use Rattle.olk_build.specs.Plans.{plan_of, planned};
+ghost use Rattle.olk_build.specs.Making.{MakesClaims};
+ghost use Rattle.olk_build.specs.Parts.{Builds, Gives};
+ghost use Rattle.olk_build.specs.declared.part.Shape.TheVariants as shape;
 
-use crate::build::{append, build_required, refuse};
+use crate::build::compile_member;
 use crate::context::Context;
-use crate::properties::taken_names;
-use olk_base::{JsonType, MakeLeaf, MakeRegex};
-use olk_node::Keyword;
-use olk_reports::{BuildError, Location, ValidationErrorKind};
+use crate::part::{Part, Shape};
+use crate::plan::Plan;
+use olk_base::{Leaf, MakeLeaf, MakeRegex, RegexEngine};
+use olk_node::{Keyword, SchemaNode};
+use olk_reports::{BuildError, Location};
+use olk_tree::node::KeywordOver;
+use olk_tree::required::RequiredValidator;
 use serde_json::{Map, Value};
 use std::alloc::Global;
 
-/// The names that an array lists, at its place; refused is the first item that is no text.
-pub(crate) fn names<'a>(
-    alloc: Global,
-    place: &Location,
-    items: &'a Vec<Value>,
-) -> Result<Vec<String>, BuildError<'a>>
-    ensures names { IfOk result (λ v. map string_bytes v.items ≡ texts_in (items_view items.now.items)) }
-    ensures texts { IfOk result (λ v. not_texts place.now (items_view items.now.items) ≡ []) }
-    ensures refused { IfErr result (TellsOneOf (not_texts place.now (items_view items.now.items))) }
+/// The validator of the names, unless the plan fuses them.
+pub(crate) fn make<K: Leaf, R: RegexEngine>(
+    plan: Plan<'_>,
+    location: Location,
+    required: Vec<String>,
+    nodes: Vec<SchemaNode<K, R>>,
+) -> Option<Keyword<K, R>>
+    ensures { (P : Path) → MakesClaims (kit K.Leaf R.RegexEngine) (shape.Required required)
+        location nodes.items P (planned plan.entry) (option_to_list result) }
 {
-    let mut names = Vec::new(alloc);
-    for item in items {
-        let Some(text) = item.as_str() else {
-            let kind = ValidationErrorKind::SingleType {
-                expected: JsonType::String,
-            };
-            return Err(refuse(alloc, kind, item, place.try_clone(alloc)?));
-        };
-        append(&mut names, String::from_str(alloc, text)?)?;
+    if plan.fuses() {
+        return None;
     }
-    Ok(names)
+    Some(KeywordOver::Required(RequiredValidator { required, location }))
 }
 
-/// The keyword of `required` in the object at the context's place (JSON Schema 2020-12 Validation, 6.5.3).
+/// The keyword of `required` in the object at the context's place (JSON Schema 2020-12 Validation, 6.5.3), and none
+/// where `properties` of the parent fuses the names.
 ///
-/// There is no answer where `properties` of the parent takes the names over, and else the keyword, the refusal of a
-/// malformed value, or want of memory. The meter rises by the cost of the keyword, or by a part of it where nothing is
-/// built; the context's place is left as it was.
+/// The meter rises by the cost of the keyword, or by a part of it where nothing is built; the context's place is left as
+/// it was.
+///
+/// # Errors
+///
+/// One of the malformations of the keyword; else want of memory.
 pub fn compile<'a, L: MakeLeaf, M: MakeRegex>(
-    ctx: &mut Context<'_, L, M>,
     alloc: Global,
+    ctx: &mut Context<'_, L, M>,
     parent: &'a Map<String, Value>,
     schema: &'a Value,
 ) -> Option<Result<Keyword<L::Leaf, M::Engine>, BuildError<'a>>>
-    ensures gives { IfSome result (Builds (kit L.Leaf.Leaf M.Engine.RegexEngine) (codes "required") (view schema.now) required ctx.old.place ctx.old.meter.now ctx.new.meter.now) }
-    ensures taken { is_none result ≡ is_some (taken_names (members_view parent.now.entries)) }
-    ensures taken_at_no_cost { IfNone result (ctx.new.meter.now ≡ ctx.old.meter.now) }
+    ensures gives { IfSome result (Builds (kit L.Leaf.Leaf M.Engine.RegexEngine) (codes "required")
+        (view schema.now) ctx.old.place ctx.old.meter.now ctx.new.meter.now) }
+    ensures form { Gives result (IsRequired (one_below ctx.old.place (codes "required"))
+        (view schema.now)) }
+    ensures fused { is_none result ≡ is_some (plan_of (members_view parent.now.entries)).fused }
+    ensures fused_at_no_cost { IfNone result (ctx.new.meter.now ≡ ctx.old.meter.now) }
     ensures place { ctx.new.place ≡ ctx.old.place }
     ensures same_meter { ctx.new.meter.ghost_name ≡ ctx.old.meter.ghost_name }
 {
-    if taken_names(parent).is_some() {
+    if Plan::of(parent).fuses() {
         return None;
     }
-    match ctx.place.join(alloc, "required") {
-        Ok(location) => Some(build_required(&ctx.makers, ctx.meter, alloc, location, schema)),
-        Err(error) => Some(Err(BuildError::Memory(error))),
+    match compile_member(alloc, ctx, "required", schema) {
+        Ok(part) => {
+            let Part {
+                location,
+                shape,
+                nodes: _,
+            } = part;
+            let Shape::Required(required) = shape else {
+                unreachable!()
+            };
+            Some(Ok(KeywordOver::Required(RequiredValidator { required, location })))
+        }
+        Err(error) => Some(Err(error)),
     }
 }

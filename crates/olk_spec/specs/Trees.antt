@@ -4,6 +4,7 @@ use Rattle.std.specs.List.{flat_map, list_any}
 use Rattle.serde_json.specs.Data.{Data, string}
 use Rattle.olk_spec.specs.Names.{Name, Path, ◌//◌, down, lookup, those, put_if, is_empty, is_among}
 use Rattle.olk_spec.specs.World.{World}
+use Rattle.olk_spec.specs.declared.TheConstants.{HASHMAP_THRESHOLD}
 use Rattle.olk_spec.specs.Vocabulary.{Keyword, properties, pattern_properties, additional_properties, property_names, required, dependent_required, dependent_schemas, dependencies, property_dependencies, all_of, any_of, one_of, not_keyword, if_keyword, leaf, keyword_named}
 use Rattle.olk_spec.specs.Schemas.{Schema, truth, keywords, no_schema, Keywords, Part, is_object, is_array, is_truth, members, has, texts, names, branches, is_present, entries_at, names_at, wholes_at}
 use Rattle.olk_spec.specs.Faults.{FalseSchema}
@@ -27,7 +28,7 @@ module _ {X : Type 0} (S : Keywords X) where
 
   -- the validator of `properties` takes `required`
   abbrev pub fuses_two : Bool
-  fuses_two = declares && not (restricts S) && not has_patterns && nat_lt (length (entries_at S (codes "properties"))) 15 && are_two (names_at S (codes "required"))
+  fuses_two = declares && not (restricts S) && not has_patterns && nat_lt (length (entries_at S (codes "properties"))) HASHMAP_THRESHOLD && are_two (names_at S (codes "required"))
 
   -- that of `additionalProperties` takes it
   abbrev pub fuses_one : Bool

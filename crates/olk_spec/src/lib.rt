@@ -1,6 +1,9 @@
 //! Definitions of what a schema means, and the laws that they keep.
 #![tactic(auto)]
 
+/// From so many declared names on `properties` looks names up by hash, and isn't fused with `required` of two names.
+pub const HASHMAP_THRESHOLD: usize = 15;
+
 pub mod laws;
 pub mod literals;
 pub mod rows;

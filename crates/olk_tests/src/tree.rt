@@ -2,7 +2,7 @@
 use crate::doubles::{Equality, NoTexts};
 use crate::tables::three;
 use olk_base::Meter;
-use olk_build::{Context, compile, properties, required};
+use olk_build::{Context, all_of, any_of, compile, not, properties, required};
 use olk_reports::{BuildError, ValidationError};
 use olk_tree::{Body, KeywordOver, SmallMap, SortedNames};
 use serde_json::{Map, Value};
@@ -30,7 +30,7 @@ fn refusal(error: BuildError<'_>) -> Result<ValidationError<'_>, Fail> {
 fn built_place(alloc: Global, schema: &Value, meter: &mut Meter) -> Result<String, Fail> {
     let mut ctx = Context::new(alloc, &NoTexts, &Equality, meter);
     ctx.place = ctx.place.join(alloc, "definitions")?;
-    let node = compile(&mut ctx, alloc, schema).map_err(failure)?;
+    let node = compile(alloc, &mut ctx, schema).map_err(failure)?;
     if ctx.location() != "/definitions" {
         return Err(Fail::from("the context's place moved"));
     }
@@ -94,7 +94,7 @@ const REFUSED: &str = r##"7 | . | 7 is not of types "boolean", "object"
 fn refused(alloc: Global, schema: &Value) -> Result<ValidationError<'_>, Fail> {
     let mut meter = Meter::new();
     let mut ctx = Context::new(alloc, &NoTexts, &Equality, &mut meter);
-    let Err(error) = compile(&mut ctx, alloc, schema) else {
+    let Err(error) = compile(alloc, &mut ctx, schema) else {
         return Err(Fail::from("built"));
     };
     if !ctx.location().is_empty() {
@@ -143,12 +143,12 @@ fn closed(alloc: Global, count: usize, required: &str) -> Result<Map<String, Val
     Ok(schema)
 }
 
-// Whether the keyword of `properties` takes over what `required` lists.
-fn takes_over(alloc: Global, parent: &Map<String, Value>) -> Result<bool, Fail> {
+// Whether the keyword of `properties` fuses what `required` lists.
+fn fuses(alloc: Global, parent: &Map<String, Value>) -> Result<bool, Fail> {
     let mut meter = Meter::new();
     let mut ctx = Context::new(alloc, &NoTexts, &Equality, &mut meter);
     let declared = parent.get("properties").unwrap_or(&Value::Null);
-    match properties::compile(&mut ctx, alloc, parent, declared) {
+    match properties::compile(alloc, &mut ctx, parent, declared) {
         Some(Ok(KeywordOver::PropertiesWithRequired2(keyword))) => {
             Ok(
                 keyword.location.as_str() == "/properties"
@@ -165,40 +165,40 @@ fn stands_alone(alloc: Global, parent: &Map<String, Value>) -> bool {
     let mut meter = Meter::new();
     let mut ctx = Context::new(alloc, &NoTexts, &Equality, &mut meter);
     let listed = parent.get("required").unwrap_or(&Value::Null);
-    required::compile(&mut ctx, alloc, parent, listed).is_some()
+    required::compile(alloc, &mut ctx, parent, listed).is_some()
 }
 
 // How many keywords the schema has.
 fn keyword_count(alloc: Global, schema: &Value) -> Result<usize, Fail> {
     let mut meter = Meter::new();
     let mut ctx = Context::new(alloc, &NoTexts, &Equality, &mut meter);
-    let node = compile(&mut ctx, alloc, schema).map_err(failure)?;
+    let node = compile(alloc, &mut ctx, schema).map_err(failure)?;
     match &node.body {
         Body::Keywords(keywords) => Ok(keywords.len()),
         _ => Err(Fail::from("no keywords")),
     }
 }
 
-fn expect_taken(
+fn expect_fused(
     rt: &impl Abort,
     alloc: Global,
     count: usize,
     required: &str,
-    is_taken: bool,
+    is_fused: bool,
 ) -> Result<(), Fail> {
     let parent = closed(alloc, count, required)?;
-    assert_eq!(rt; takes_over(alloc, &parent)?, is_taken, "{count} {required}");
+    assert_eq!(rt; fuses(alloc, &parent)?, is_fused, "{count} {required}");
     let alone = stands_alone(alloc, &parent);
-    assert_eq!(rt; alone, !is_taken, "{count} {required}");
-    let keywords = if is_taken { 1 } else { 2 };
+    assert_eq!(rt; alone, !is_fused, "{count} {required}");
+    let keywords = if is_fused { 1 } else { 2 };
     let found = keyword_count(alloc, &Value::Object(parent))?;
     assert_eq!(rt; found, keywords, "{count} {required}");
     Ok(())
 }
 
 #[test]
-fn required_names_that_are_taken_over(rt: HostRuntime) -> Result<(), Fail> {
-    for (count, required, is_taken) in [
+fn required_names_that_are_fused(rt: HostRuntime) -> Result<(), Fail> {
+    for (count, required, is_fused) in [
         (0, r#"["a","b"]"#, true),
         (14, r#"["a","b"]"#, true),
         (14, r#"["b","a"]"#, true),
@@ -208,8 +208,70 @@ fn required_names_that_are_taken_over(rt: HostRuntime) -> Result<(), Fail> {
         (14, r#"["a"]"#, false),
         (14, r#"["a","b","c"]"#, false),
     ] {
-        expect_taken(&rt, rt.alloc(), count, required, is_taken)?;
+        expect_fused(&rt, rt.alloc(), count, required, is_fused)?;
     }
+    Ok(())
+}
+
+// Whether the keyword of `allOf` is the single form.
+fn is_single_all_of(alloc: Global, branches: &Value) -> Result<bool, Fail> {
+    let parent = Map::new(alloc);
+    let mut meter = Meter::new();
+    let mut ctx = Context::new(alloc, &NoTexts, &Equality, &mut meter);
+    match all_of::compile(alloc, &mut ctx, &parent, branches) {
+        Some(Ok(KeywordOver::SingleValueAllOf(_))) => Ok(true),
+        Some(Ok(KeywordOver::AllOf(_))) => Ok(false),
+        _ => Err(Fail::from("not built")),
+    }
+}
+
+// Whether that of `anyOf` is.
+fn is_single_any_of(alloc: Global, branches: &Value) -> Result<bool, Fail> {
+    let parent = Map::new(alloc);
+    let mut meter = Meter::new();
+    let mut ctx = Context::new(alloc, &NoTexts, &Equality, &mut meter);
+    match any_of::compile(alloc, &mut ctx, &parent, branches) {
+        Some(Ok(KeywordOver::SingleAnyOf(_))) => Ok(true),
+        Some(Ok(KeywordOver::AnyOf(_))) => Ok(false),
+        _ => Err(Fail::from("not built")),
+    }
+}
+
+#[test]
+fn one_branch_has_a_form_of_its_own(rt: HostRuntime) -> Result<(), Fail> {
+    for (text, is_single) in [("[]", false), ("[true]", true), ("[true,{}]", false)] {
+        let branches = Value::from_str(rt.alloc(), text)?;
+        assert_eq!(rt;
+            is_single_all_of(rt.alloc(), &branches)?,
+            is_single,
+            "{text}"
+        );
+        assert_eq!(rt;
+            is_single_any_of(rt.alloc(), &branches)?,
+            is_single,
+            "{text}"
+        );
+    }
+    Ok(())
+}
+
+// The place of the keyword of `not`.
+fn place_of_not(alloc: Global, schema: &Value) -> Result<String, Fail> {
+    let parent = Map::new(alloc);
+    let mut meter = Meter::new();
+    let mut ctx = Context::new(alloc, &NoTexts, &Equality, &mut meter);
+    match not::compile(alloc, &mut ctx, &parent, schema) {
+        Some(Ok(KeywordOver::Not(keyword))) => {
+            Ok(String::from_str(alloc, keyword.location.as_str())?)
+        }
+        _ => Err(Fail::from("not built")),
+    }
+}
+
+#[test]
+fn a_schema_that_is_turned(rt: HostRuntime) -> Result<(), Fail> {
+    let place = place_of_not(rt.alloc(), &Value::Bool(true))?;
+    assert_eq!(rt; place.as_str(), "/not");
     Ok(())
 }
 

@@ -1,13 +1,11 @@
 use Rattle.std.proofs.Common.{◌≡◌, ◌++◌, List, map, take}
-use Rattle.std.specs.List.{flat_map}
 use Rattle.serde_json.specs.Data.{Data}
 use Rattle.serde_json.specs.View.{view, members_view}
 use Rattle.olk_spec.specs.Names.{Name}
 use Rattle.olk_spec.specs.Schemas.{listed, numbered}
 use Rattle.olk_node.specs.Kit.{kit}
-use Rattle.olk_build.specs.Claims.{claims}
-use Rattle.olk_build.specs.Forms.{taken_names}
-use Rattle.olk_build.specs.Building.{AreBuilt, KeywordsAreBuilt}
+use Rattle.olk_build.specs.Building.{AreBuilt}
+use Rattle.olk_build.specs.Reading.{PartsAreBuilt}
 use Rattle.olk_build.proofs.build.+compile.Given as goal
 
 -- the nodes so far are built for the entries so far
@@ -20,15 +18,15 @@ invariant-compile_entries-loop-name g l = record {
   ends : (goal.iterator-compile_entries-loop-name g).is_finite l.name-iterator;
 }
 
-abbrev pub invariant-compile_items-loop-i : goal.invariant-compile_items-loop-i
-invariant-compile_items-loop-i g l = AreBuilt (kit g.L.Leaf.Leaf g.M.Engine.RegexEngine) l.nodes.items (numbered (map view (take l.i l.schema-items))) l.fn.place l.fn.meter l.meter
+abbrev pub invariant-compile_branches-loop-i : goal.invariant-compile_branches-loop-i
+invariant-compile_branches-loop-i g l = AreBuilt (kit g.L.Leaf.Leaf g.M.Engine.RegexEngine) l.nodes.items (numbered (map view (take l.i l.schema-items))) l.fn.place l.fn.meter l.meter
 
--- the keywords so far are built for the members so far
-abbrev pub invariant-compile_members-loop-name : goal.invariant-compile_members-loop-name
-invariant-compile_members-loop-name g l = record {
+-- the parts so far are built for the members so far
+abbrev pub invariant-compile_parts-loop-name : goal.invariant-compile_parts-loop-name
+invariant-compile_parts-loop-name g l = record {
   done : List (Name × Data);
-  built : KeywordsAreBuilt (kit g.L.Leaf.Leaf g.M.Engine.RegexEngine) (members_view l.members.entries) l.keywords.items (flat_map (claims (taken_names (members_view l.members.entries)) (members_view l.members.entries)) done) done l.fn.place l.fn.meter l.meter;
+  built : PartsAreBuilt (kit g.L.Leaf.Leaf g.M.Engine.RegexEngine) (members_view l.members.entries) l.parts.items done l.fn.place l.fn.meter l.meter;
   rest : done ++ listed (members_view l.name-iterator) ≡ listed (members_view l.members.entries);
-  next : (goal.iterator-compile_members-loop-name g).can_next l.name-iterator;
-  ends : (goal.iterator-compile_members-loop-name g).is_finite l.name-iterator;
+  next : (goal.iterator-compile_parts-loop-name g).can_next l.name-iterator;
+  ends : (goal.iterator-compile_parts-loop-name g).is_finite l.name-iterator;
 }

@@ -1,19 +1,16 @@
-use Rattle.std.specs.Prelude.{IfOk, IfErr}
-use Rattle.std.proofs.Common.{[], ◌∷◌, codes, refl, subst}
 use Rattle.serde_json.specs.View.{view}
-use Rattle.olk_spec.specs.Names.{◌//◌}
-use Rattle.olk_spec.specs.Vocabulary.{not_keyword}
-use Rattle.olk_spec.specs.Costs.{no_cost}
 use Rattle.olk_node.specs.Kit.{kit}
-use Rattle.olk_build.proofs.Spending.{within_nothing}
-use Rattle.olk_build.proofs.Held.{refuses_memory_member}
-use Rattle.olk_build.specs.Building.{HoldsMember, RefusesMember}
+use Rattle.olk_build.proofs.Modules.{no_other_not, not_without_node, not_built, not_is_formed}
 use Rattle.olk_build.proofs.not.compile.Goals as goal
 
-pub returns-in-Ok-clause-gives : goal.returns-in-Ok-clause-gives
-returns-in-Ok-clause-gives g c =
-    subst (λ L. IfOk c.build_not.result (λ x. HoldsMember (kit g.L.Leaf.Leaf g.M.Engine.RegexEngine) (x ∷ []) (codes "not") (view c.args.schema.now) not_keyword L c.args.ctx.now.meter.now c.build_not.new.meter) × IfErr c.build_not.result (RefusesMember (kit g.L.Leaf.Leaf g.M.Engine.RegexEngine) (codes "not") (view c.args.schema.now) not_keyword L c.args.ctx.now.meter.now c.build_not.new.meter))
-    c.in-Ok.ensures (c.build_not.ensures.built, c.build_not.ensures.refused)
+pub unreachable-requires : goal.unreachable-requires
+unreachable-requires g c = no_other_not (kit g.L.Leaf.Leaf g.M.Engine.RegexEngine) c.in-Ok.part (view c.args.schema.now) _ _ _ c.in-Ok.ensures.built c.in_default.not-Not
 
-pub returns-in-Err-clause-gives : goal.returns-in-Err-clause-gives
-returns-in-Err-clause-gives g c = (tt, refuses_memory_member (kit g.L.Leaf.Leaf g.M.Engine.RegexEngine) (codes "not") (view c.args.schema.now) not_keyword (c.args.ctx.now.place // codes "not") c.args.ctx.now.meter.now c.args.ctx.now.meter.now _ c.in-Err.error refl (within_nothing c.args.ctx.now.meter.now no_cost))
+pub unreachable-requires-in_default-make : goal.unreachable-requires-in_default-make
+unreachable-requires-in_default-make g c = not_without_node (kit g.L.Leaf.Leaf g.M.Engine.RegexEngine) c.in-Ok.part (view c.args.schema.now) _ _ _ c.in-Ok.ensures.built c.in-Not.original c.in-Not.is c.in_default-make.ensures.none
+
+pub returns-in-Some-clause-gives : goal.returns-in-Some-clause-gives
+returns-in-Some-clause-gives g c = (not_built (kit g.L.Leaf.Leaf g.M.Engine.RegexEngine) c.in-Ok.part (view c.args.schema.now) _ _ _ c.in-Ok.ensures.built c.in-Not.original c.in-Not.is _ c.in-Some.ensures.makes, tt)
+
+pub returns-in-Some-clause-form : goal.returns-in-Some-clause-form
+returns-in-Some-clause-form g c = not_is_formed (kit g.L.Leaf.Leaf g.M.Engine.RegexEngine) c.in-Ok.part (view c.args.schema.now) _ _ _ c.in-Ok.ensures.built c.in-Not.original c.in-Not.is c.in-Some.keyword c.in-Some.ensures.form

@@ -1,16 +1,21 @@
-use Rattle.std.proofs.Common.{codes, option_map, refl}
+use Rattle.std.proofs.Common.{[], ◌∷◌, refl, subst}
 use Rattle.serde_json.specs.View.{view, members_view}
-use Rattle.olk_spec.specs.Names.{◌//◌}
-use Rattle.olk_spec.specs.Vocabulary.{properties}
-use Rattle.olk_spec.specs.Costs.{no_cost}
 use Rattle.olk_node.specs.Kit.{kit}
-use Rattle.olk_build.proofs.Spending.{within_nothing}
-use Rattle.olk_build.proofs.Built.{builds_claims}
-use Rattle.olk_build.proofs.Held.{refuses_memory_member}
+use Rattle.olk_build.specs.Plans.{planned}
+use Rattle.olk_build.specs.Forms.{IsProperties}
+use Rattle.olk_build.specs.Making.{MakesClaims}
+use Rattle.olk_build.specs.declared.part.Shape.TheVariants as shape
+use Rattle.olk_build.proofs.Modules.{no_other_properties, properties_built, properties_is_formed, properties_memory}
 use Rattle.olk_build.proofs.properties.compile.Goals as goal
 
-pub returns-in-Ok-clause-gives : goal.returns-in-Ok-clause-gives
-returns-in-Ok-clause-gives g c = builds_claims (kit g.L.Leaf.Leaf g.M.Engine.RegexEngine) (members_view c.args.parent.now.entries) (option_map (λ t. (t.0.now, t.1.now)) c.taken_names.result) c.taken_names.ensures (codes "properties") (view c.args.schema.now) properties c.args.ctx.now.place c.in-Ok.location c.args.ctx.now.meter.now c.build_properties.new.meter c.build_properties.result c.in-Ok.ensures c.build_properties.ensures.built c.build_properties.ensures.refused
+pub unreachable-requires : goal.unreachable-requires
+unreachable-requires g c = no_other_properties (kit g.L.Leaf.Leaf g.M.Engine.RegexEngine) c.in-Ok.part (view c.args.schema.now) _ _ _ c.in-Ok.ensures.built c.in_default.not-Properties
 
-pub returns-in-Err-clause-gives : goal.returns-in-Err-clause-gives
-returns-in-Err-clause-gives g c = (tt, refuses_memory_member (kit g.L.Leaf.Leaf g.M.Engine.RegexEngine) (codes "properties") (view c.args.schema.now) properties (c.args.ctx.now.place // codes "properties") c.args.ctx.now.meter.now c.args.ctx.now.meter.now _ c.in-Err.error refl (within_nothing c.args.ctx.now.meter.now no_cost))
+pub returns-in-Ok-make-clause-gives : goal.returns-in-Ok-make-clause-gives
+returns-in-Ok-make-clause-gives g c = (properties_built (kit g.L.Leaf.Leaf g.M.Engine.RegexEngine) c.in-Ok.part (view c.args.schema.now) _ _ _ c.in-Ok.ensures.built c.in-Properties.names c.in-Properties.is (members_view c.args.parent.now.entries) (planned c.of.result) c.of.ensures.plan (c.in-Ok-make.keyword ∷ []) (subst (λ P. MakesClaims (kit g.L.Leaf.Leaf g.M.Engine.RegexEngine) (shape.Properties c.in-Properties.names) c.in-Ok.part.location c.in-Ok.part.nodes.items P (planned c.of.result) (c.in-Ok-make.keyword ∷ [])) c.compile_member.ensures.place c.in-Ok-make.ensures.makes) c.of.ensures.distinct, tt)
+
+pub returns-in-Ok-make-clause-form : goal.returns-in-Ok-make-clause-form
+returns-in-Ok-make-clause-form g c = properties_is_formed (kit g.L.Leaf.Leaf g.M.Engine.RegexEngine) c.in-Ok.part (view c.args.schema.now) _ _ _ c.in-Ok.ensures.built c.in-Properties.names c.in-Properties.is (members_view c.args.parent.now.entries) (planned c.of.result) c.of.ensures.plan c.in-Ok-make.keyword (subst (λ P. IsProperties P c.in-Ok.part.location (planned c.of.result).fused c.in-Ok-make.keyword) c.compile_member.ensures.place c.in-Ok-make.ensures.form)
+
+pub returns-in-Err-make-clause-gives : goal.returns-in-Err-make-clause-gives
+returns-in-Err-make-clause-gives g c = (tt, properties_memory (kit g.L.Leaf.Leaf g.M.Engine.RegexEngine) c.in-Ok.part (view c.args.schema.now) _ _ _ c.in-Ok.ensures.built _ c.in-Err-make.error refl)

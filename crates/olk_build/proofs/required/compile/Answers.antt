@@ -1,19 +1,13 @@
-use Rattle.std.specs.Prelude.{IfOk, IfErr}
-use Rattle.std.proofs.Common.{[], ◌∷◌, codes, refl, subst}
 use Rattle.serde_json.specs.View.{view}
-use Rattle.olk_spec.specs.Names.{◌//◌}
-use Rattle.olk_spec.specs.Vocabulary.{required}
-use Rattle.olk_spec.specs.Costs.{no_cost}
 use Rattle.olk_node.specs.Kit.{kit}
-use Rattle.olk_build.proofs.Spending.{within_nothing}
-use Rattle.olk_build.proofs.Held.{refuses_memory_member}
-use Rattle.olk_build.specs.Building.{HoldsMember, RefusesMember}
+use Rattle.olk_build.proofs.Modules.{no_other_required, required_built, required_is_formed}
 use Rattle.olk_build.proofs.required.compile.Goals as goal
 
-pub returns-in-Ok-clause-gives : goal.returns-in-Ok-clause-gives
-returns-in-Ok-clause-gives g c =
-    subst (λ L. IfOk c.build_required.result (λ x. HoldsMember (kit g.L.Leaf.Leaf g.M.Engine.RegexEngine) (x ∷ []) (codes "required") (view c.args.schema.now) required L c.args.ctx.now.meter.now c.build_required.new.meter) × IfErr c.build_required.result (RefusesMember (kit g.L.Leaf.Leaf g.M.Engine.RegexEngine) (codes "required") (view c.args.schema.now) required L c.args.ctx.now.meter.now c.build_required.new.meter))
-    c.in-Ok.ensures (c.build_required.ensures.built, c.build_required.ensures.refused)
+pub unreachable-requires : goal.unreachable-requires
+unreachable-requires g c = no_other_required (kit g.L.Leaf.Leaf g.M.Engine.RegexEngine) c.in-Ok.part (view c.args.schema.now) _ _ _ c.in-Ok.ensures.built c.in_default.not-Required
 
-pub returns-in-Err-clause-gives : goal.returns-in-Err-clause-gives
-returns-in-Err-clause-gives g c = (tt, refuses_memory_member (kit g.L.Leaf.Leaf g.M.Engine.RegexEngine) (codes "required") (view c.args.schema.now) required (c.args.ctx.now.place // codes "required") c.args.ctx.now.meter.now c.args.ctx.now.meter.now _ c.in-Err.error refl (within_nothing c.args.ctx.now.meter.now no_cost))
+pub returns-in-Required-clause-gives : goal.returns-in-Required-clause-gives
+returns-in-Required-clause-gives g c = (required_built (kit g.L.Leaf.Leaf g.M.Engine.RegexEngine) c.in-Ok.part (view c.args.schema.now) _ _ _ c.in-Ok.ensures.built c.in-Required.required c.in-Required.is, tt)
+
+pub returns-in-Required-clause-form : goal.returns-in-Required-clause-form
+returns-in-Required-clause-form g c = required_is_formed (kit g.L.Leaf.Leaf g.M.Engine.RegexEngine) c.in-Ok.part (view c.args.schema.now) _ _ _ c.in-Ok.ensures.built c.in-Required.required c.in-Required.is

@@ -1,0 +1,234 @@
+-- What a keyword's module builds of the keyword's part.
+use Rattle.std.specs.Prelude.{◌≡◌, ℕ, suc, ◌+◌, Bool, true, false, List, [], ◌∷◌, map, length, codes, Some, Vec, String}
+use Rattle.std.specs.List.{enumerate_from}
+use Rattle.std.specs.declared.alloc.Global.{Global}
+use Rattle.std.specs.declared.alloc.AllocError.{AllocError}
+use Rattle.std.proofs.Common.{refl, sym, ◌∙◌, ap, subst}
+use Rattle.std.proofs.lemmas.List.{append-nil, length-map}
+use mathlib.Core.Bool.{true≢false}
+use mathlib.Core.Path.{subst₂}
+use Rattle.serde_json.specs.Data.{Data, Members, no_members}
+use Rattle.serde_json.specs.View.{view}
+use Rattle.serde_json.specs.declared.value.Value.{Value}
+use Rattle.olk_spec.specs.Names.{Name, Path, ◌//◌, lookup}
+use Rattle.olk_spec.specs.Vocabulary.{Keyword, properties, required, all_of, any_of, not_keyword, leaf, unread, keyword_named}
+use Rattle.olk_spec.specs.Schemas.{listed, numbered}
+use Rattle.olk_spec.specs.Malformed.{has_repeat, items_of_array}
+use Rattle.olk_base.specs.Count.{Counts}
+use Rattle.olk_reports.specs.declared.error.BuildError.{BuildError}
+use Rattle.olk_reports.specs.declared.error.BuildError.TheVariants.{Memory}
+use Rattle.olk_node.specs.Kit.{Kit}
+use Rattle.olk_node.specs.declared.node.SchemaNode.{SchemaNode}
+use Rattle.olk_tree.specs.declared.node.KeywordOver.{KeywordOver}
+use Rattle.olk_tree.specs.declared.node.KeywordOver.TheVariants as keyword
+use Rattle.olk_build.specs.Plans.{Planned, plan_of, head, claims}
+use Rattle.olk_build.specs.Forms.{IsFormOfAllOf, IsFormOfAnyOf, IsAllOf, IsAnyOf, IsNot, IsRequired, IsProperties}
+use Rattle.olk_build.specs.Building.{StandEach, RefusesMember}
+use Rattle.olk_build.specs.Reading.{reads_of, IsShape, StandAt, PartStands, IsPart}
+use Rattle.olk_build.specs.Making.{KeywordsMean, MakesMember, MakesClaims}
+use Rattle.olk_build.specs.Parts.{MemberIsBuilt, ClaimsAreBuilt}
+use Rattle.olk_build.specs.declared.part.Part.{Part}
+use Rattle.olk_build.specs.declared.part.Shape.{Shape}
+use Rattle.olk_build.specs.declared.part.ReadPlaces.TheVariants.{Itself}
+use Rattle.olk_build.specs.declared.part.Shape.TheVariants as shape
+use Rattle.olk_build.proofs.Spending.{sum_last, spends_same, refuses_memory, within_exactly}
+use Rattle.olk_build.proofs.Makes.{makes_required}
+
+abbrev is_properties : Keyword → Bool
+is_properties properties = true
+is_properties w = false
+
+abbrev is_required : Keyword → Bool
+is_required required = true
+is_required w = false
+
+abbrev is_all_of : Keyword → Bool
+is_all_of all_of = true
+is_all_of w = false
+
+abbrev is_any_of : Keyword → Bool
+is_any_of any_of = true
+is_any_of w = false
+
+abbrev is_not : Keyword → Bool
+is_not not_keyword = true
+is_not w = false
+
+-- ---- how many
+
+length-enumerated : {X : Type 0} (n : ℕ) (xs : List X) → length (enumerate_from n xs) ≡ length xs
+length-enumerated n [] = refl
+length-enumerated n (x ∷ xs) = ap (λ k. suc k) (length-enumerated (n + 1) xs)
+
+length-numbered : {X : Type 0} (xs : List X) → length (numbered xs) ≡ length xs
+length-numbered xs = length-map (enumerate_from 0 xs) _ ∙ length-enumerated 0 xs
+
+module _ {K N : Type 0} (L : Path) (ns : List N) (d : Data) (e : length ns ≡ length (items_of_array d)) where
+  all_of_form : (k : KeywordOver K N) → IsFormOfAllOf L ns k → IsAllOf L d k
+  all_of_form (keyword.AllOf k) f = ((λ q. f.1 (e ∙ q)), f.2)
+  all_of_form (keyword.SingleValueAllOf k) f = (sym e ∙ ap length f.0, f.1)
+  all_of_form k f = absurd f
+
+  any_of_form : (k : KeywordOver K N) → IsFormOfAnyOf L ns k → IsAnyOf L d k
+  any_of_form (keyword.AnyOf k) f = ((λ q. f.1 (e ∙ q)), f.2)
+  any_of_form (keyword.SingleAnyOf k) f = (sym e ∙ ap length f.0, f.1)
+  any_of_form k f = absurd f
+
+module _ {K R : Type 0} (o : Kit K R) where
+  stand_length : (ns : List (SchemaNode K R)) (es : List (Name × Data)) (P : Path) → StandEach o ns es P → length ns ≡ length es
+  stand_length [] [] P h = refl
+  stand_length [] (e ∷ es) P h = absurd h
+  stand_length (n ∷ ns) [] P h = absurd h
+  stand_length (n ∷ ns) (e ∷ es) P h = ap (λ k. suc k) (stand_length ns es P h.1)
+
+  -- ---- the shape, by the name
+
+  abbrev which_of : Shape K → Keyword
+  which_of (shape.Properties n) = properties
+  which_of (shape.Required v) = required
+  which_of shape.AllOf = all_of
+  which_of shape.AnyOf = any_of
+  which_of (shape.Not v) = not_keyword
+  which_of (shape.Leaf l) = leaf
+  which_of shape.Unread = unread
+
+  shape_named : (x : Shape K) (k : Name) (d : Data) → IsShape o k d x → keyword_named o.world k ≡ which_of x
+  shape_named (shape.Properties n) k d s = ap (keyword_named o.world) s.0
+  shape_named (shape.Required v) k d s = ap (keyword_named o.world) s.0
+  shape_named shape.AllOf k d s = ap (keyword_named o.world) s.0
+  shape_named shape.AnyOf k d s = ap (keyword_named o.world) s.0
+  shape_named (shape.Not v) k d s = ap (keyword_named o.world) s.0
+  shape_named (shape.Leaf l) k d s = s.0
+  shape_named shape.Unread k d s = s
+
+  only_all_of : (x : Shape K) → all_of ≡ which_of x → x ≡ shape.AllOf
+  only_all_of shape.AllOf e = refl
+  only_all_of x e = absurd (true≢false (ap is_all_of e))
+
+  only_any_of : (x : Shape K) → any_of ≡ which_of x → x ≡ shape.AnyOf
+  only_any_of shape.AnyOf e = refl
+  only_any_of x e = absurd (true≢false (ap is_any_of e))
+
+  only_not : (x : Shape K) → not_keyword ≡ which_of x → (v : Value) × (x ≡ shape.Not v)
+  only_not (shape.Not v) e = (v, refl)
+  only_not x e = absurd (true≢false (ap is_not e))
+
+  only_properties : (x : Shape K) → properties ≡ which_of x → (n : List Name) × (x ≡ shape.Properties n)
+  only_properties (shape.Properties n) e = (n, refl)
+  only_properties x e = absurd (true≢false (ap is_properties e))
+
+  only_required : (x : Shape K) → required ≡ which_of x → (v : Vec (String Global) Global) × (x ≡ shape.Required v)
+  only_required (shape.Required v) e = (v, refl)
+  only_required x e = absurd (true≢false (ap is_required e))
+
+  -- ---- a part at its name, below P
+
+  module _ (p : Part K (SchemaNode K R)) (k : Name) (d : Data) (P : Path) (a b : Counts) (h : IsPart o p k d (P // k) a b) where
+    stands : PartStands o p (k, d) P
+    stands = (h no_members P refl).stand.0
+
+    member_built : (ks : List (KeywordOver K (SchemaNode K R))) → MakesMember o p.shape p.location p.nodes.items ks → (ms : Members) (Q : Path) → P // k ≡ Q // k → MemberIsBuilt o ms ks (k, d) Q a b
+    member_built ks make ms Q e =
+        let built = h ms Q e in
+        let s = built.stand.0 in
+        record {
+          means = make ms (k, d) Q s.place s.shape (subst (StandAt o (reads_of p.shape) p.nodes.items d) (sym s.place) s.nodes);
+          clean = sym (append-nil _) ∙ built.clean;
+          spends = spends_same a b _ _ (sum_last _) built.spends;
+        }
+
+    claims_built : (ks : List (KeywordOver K (SchemaNode K R))) (q : Planned) → MakesClaims o p.shape p.location p.nodes.items P q ks → (ms : Members) → has_repeat (map (λ m. m.0) (listed ms)) ≡ false → q ≡ plan_of ms → lookup k (listed ms) ≡ Some d → ClaimsAreBuilt o ms ks (k, d) P a b
+    claims_built ks q make ms distinct chosen there =
+        let built = h ms P refl in
+        let s = built.stand.0 in
+        record {
+          means = subst (λ r. KeywordsMean o ms ks (claims (head r) (listed ms) (k, d)) ((k, d) ∷ []) P) chosen (make ms (k, d) s.place s.shape (subst (StandAt o (reads_of p.shape) p.nodes.items d) (sym s.place) s.nodes) distinct there chosen);
+          clean = sym (append-nil _) ∙ built.clean;
+          spends = spends_same a b _ _ (sum_last _) built.spends;
+        }
+
+    -- what is built is lost for want of memory
+    memory_after : (e : BuildError) (m : AllocError) → e ≡ Memory m → RefusesMember o k d (P // k) a b e
+    memory_after e m q ms Q f = refuses_memory _ _ a b e m q (within_exactly a b _ (spends_same a b _ _ (sum_last _) (h ms Q f).spends))
+
+  -- ---- keyword by keyword
+
+  module _ (p : Part K (SchemaNode K R)) (d : Data) (P : Path) (a b : Counts) where
+    module _ (h : IsPart o p (codes "allOf") d (P // codes "allOf") a b) where
+      all_of_shape : p.shape ≡ shape.AllOf
+      all_of_shape = only_all_of p.shape (shape_named p.shape (codes "allOf") d (stands p (codes "allOf") d P a b h).shape)
+
+      pub all_of_built : (ks : List (KeywordOver K (SchemaNode K R))) → MakesMember o shape.AllOf p.location p.nodes.items ks → (ms : Members) (Q : Path) → P // codes "allOf" ≡ Q // codes "allOf" → MemberIsBuilt o ms ks (codes "allOf", d) Q a b
+      all_of_built ks make = member_built p (codes "allOf") d P a b h ks (subst (λ x. MakesMember o x p.location p.nodes.items ks) (sym all_of_shape) make)
+
+      pub all_of_is_formed : (k : KeywordOver K (SchemaNode K R)) → IsFormOfAllOf p.location p.nodes.items k → IsAllOf (P // codes "allOf") d k
+      all_of_is_formed k f =
+          let s = stands p (codes "allOf") d P a b h in
+          subst (λ L. IsAllOf L d k) s.place (all_of_form p.location p.nodes.items d
+          (stand_length p.nodes.items (numbered (items_of_array d)) (P // codes "allOf") (subst (λ x. StandAt o (reads_of x) p.nodes.items d (P // codes "allOf")) all_of_shape s.nodes) ∙ length-numbered (items_of_array d)) k f)
+
+    module _ (h : IsPart o p (codes "anyOf") d (P // codes "anyOf") a b) where
+      any_of_shape : p.shape ≡ shape.AnyOf
+      any_of_shape = only_any_of p.shape (shape_named p.shape (codes "anyOf") d (stands p (codes "anyOf") d P a b h).shape)
+
+      pub any_of_built : (ks : List (KeywordOver K (SchemaNode K R))) → MakesMember o shape.AnyOf p.location p.nodes.items ks → (ms : Members) (Q : Path) → P // codes "anyOf" ≡ Q // codes "anyOf" → MemberIsBuilt o ms ks (codes "anyOf", d) Q a b
+      any_of_built ks make = member_built p (codes "anyOf") d P a b h ks (subst (λ x. MakesMember o x p.location p.nodes.items ks) (sym any_of_shape) make)
+
+      pub any_of_is_formed : (k : KeywordOver K (SchemaNode K R)) → IsFormOfAnyOf p.location p.nodes.items k → IsAnyOf (P // codes "anyOf") d k
+      any_of_is_formed k f =
+          let s = stands p (codes "anyOf") d P a b h in
+          subst (λ L. IsAnyOf L d k) s.place (any_of_form p.location p.nodes.items d
+          (stand_length p.nodes.items (numbered (items_of_array d)) (P // codes "anyOf") (subst (λ x. StandAt o (reads_of x) p.nodes.items d (P // codes "anyOf")) any_of_shape s.nodes) ∙ length-numbered (items_of_array d)) k f)
+
+    module _ (h : IsPart o p (codes "not") d (P // codes "not") a b) where
+      not_shape : (v : Value) × (p.shape ≡ shape.Not v)
+      not_shape = only_not p.shape (shape_named p.shape (codes "not") d (stands p (codes "not") d P a b h).shape)
+
+      pub no_other_not : ((v : Value) → p.shape ≡ shape.Not v → ⊥) → ⊥
+      no_other_not f = f not_shape.0 not_shape.1
+
+      module _ (v : Value) (q : p.shape ≡ shape.Not v) where
+        pub not_without_node : p.nodes.items ≡ [] → ⊥
+        not_without_node e = subst (λ ns. StandAt o Itself ns d (P // codes "not")) e (subst (λ x. StandAt o (reads_of x) p.nodes.items d (P // codes "not")) q (stands p (codes "not") d P a b h).nodes)
+
+        pub not_built : (ks : List (KeywordOver K (SchemaNode K R))) → MakesMember o (shape.Not v) p.location p.nodes.items ks → (ms : Members) (Q : Path) → P // codes "not" ≡ Q // codes "not" → MemberIsBuilt o ms ks (codes "not", d) Q a b
+        not_built ks make = member_built p (codes "not") d P a b h ks (subst (λ x. MakesMember o x p.location p.nodes.items ks) (sym q) make)
+
+        pub not_is_formed : (k : KeywordOver K (SchemaNode K R)) → IsNot p.location (view v) k → IsNot (P // codes "not") d k
+        not_is_formed k f =
+            let s = stands p (codes "not") d P a b h in
+            subst₂ (λ L x. IsNot L x k) s.place (subst (IsShape o (codes "not") d) q s.shape).1 f
+
+    module _ (h : IsPart o p (codes "required") d (P // codes "required") a b) where
+      required_shape : (v : Vec (String Global) Global) × (p.shape ≡ shape.Required v)
+      required_shape = only_required p.shape (shape_named p.shape (codes "required") d (stands p (codes "required") d P a b h).shape)
+
+      pub no_other_required : ((v : Vec (String Global) Global) → p.shape ≡ shape.Required v → ⊥) → ⊥
+      no_other_required f = f required_shape.0 required_shape.1
+
+      module _ (v : Vec (String Global) Global) (q : p.shape ≡ shape.Required v) where
+        abbrev required_keyword : KeywordOver K (SchemaNode K R)
+        required_keyword = keyword.Required (record { required = v; location = p.location })
+
+        pub required_built : (ms : Members) (Q : Path) → P // codes "required" ≡ Q // codes "required" → MemberIsBuilt o ms (required_keyword ∷ []) (codes "required", d) Q a b
+        required_built = member_built p (codes "required") d P a b h (required_keyword ∷ []) (subst (λ x. MakesMember o x p.location p.nodes.items (required_keyword ∷ [])) (sym q) (makes_required o v p.location p.nodes.items))
+
+        pub required_is_formed : IsRequired (P // codes "required") d required_keyword
+        required_is_formed = let s = stands p (codes "required") d P a b h in ((subst (IsShape o (codes "required") d) q s.shape).2, s.place)
+
+    module _ (h : IsPart o p (codes "properties") d (P // codes "properties") a b) where
+      properties_shape : (n : List Name) × (p.shape ≡ shape.Properties n)
+      properties_shape = only_properties p.shape (shape_named p.shape (codes "properties") d (stands p (codes "properties") d P a b h).shape)
+
+      pub no_other_properties : ((n : List Name) → p.shape ≡ shape.Properties n → ⊥) → ⊥
+      no_other_properties f = f properties_shape.0 properties_shape.1
+
+      pub properties_memory : (e : BuildError) (m : AllocError) → e ≡ Memory m → RefusesMember o (codes "properties") d (P // codes "properties") a b e
+      properties_memory = memory_after p (codes "properties") d P a b h
+
+      module _ (n : List Name) (q : p.shape ≡ shape.Properties n) (ms : Members) (r : Planned) (chosen : r ≡ plan_of ms) where
+        pub properties_built : (ks : List (KeywordOver K (SchemaNode K R))) → MakesClaims o (shape.Properties n) p.location p.nodes.items P r ks → has_repeat (map (λ m. m.0) (listed ms)) ≡ false → lookup (codes "properties") (listed ms) ≡ Some d → ClaimsAreBuilt o ms ks (codes "properties", d) P a b
+        properties_built ks make distinct there = claims_built p (codes "properties") d P a b h ks r (subst (λ x. MakesClaims o x p.location p.nodes.items P r ks) (sym q) make) ms distinct chosen there
+
+        pub properties_is_formed : (k : KeywordOver K (SchemaNode K R)) → IsProperties P p.location r.fused k → IsProperties P (P // codes "properties") (plan_of ms).fused k
+        properties_is_formed k f = subst₂ (λ L t. IsProperties P L t k) (stands p (codes "properties") d P a b h).place (ap (λ x. x.fused) chosen) f

@@ -1,0 +1,96 @@
+//! Whose validator stands for each keyword of an object.
+ghost use Rattle.std.specs.Prelude.{◌≡◌, false, is_some, map, option_map};
+ghost use Rattle.serde_json.specs.View.{view, members_view};
+ghost use Rattle.olk_spec.specs.Schemas.{listed};
+ghost use Rattle.olk_spec.specs.Malformed.{has_repeat};
+ghost use Rattle.olk_build.specs.Forms.{declares_few, allows_others, two_names, fused_names};
+ghost use Rattle.olk_build.specs.Plans.{plan_of, planned};
+
+use olk_spec::HASHMAP_THRESHOLD;
+use olk_tree::members::{has_member, member};
+use serde_json::{Map, Value};
+
+/// What is decided of an object's keywords once, from its members: the two names that `properties` fuses from
+/// `required`.
+#[derive(Clone, Copy)]
+pub struct Plan<'a> {
+    pub(crate) fused: Option<(&'a str, &'a str)>,
+}
+
+/// Whether few names are declared.
+fn declares_few(value: Option<&Value>) -> bool
+    ensures { result ≡ declares_few (option_map (λ v. view v.now) value.entry) }
+{
+    if let Some(value) = value
+        && let Some(declared) = value.as_object()
+    {
+        declared.len() < HASHMAP_THRESHOLD
+    } else {
+        false
+    }
+}
+
+/// Whether `additionalProperties` allows every other member.
+fn allows_others(value: Option<&Value>) -> bool
+    ensures { result ≡ allows_others (option_map (λ v. view v.now) value.entry) }
+{
+    match value {
+        Some(value) => value.as_bool() == Some(true),
+        None => true,
+    }
+}
+
+/// The two names that `required` lists, where it lists two that differ.
+fn two_names(value: Option<&Value>) -> Option<(&str, &str)>
+    ensures { option_map (λ t. (t.0.now, t.1.now)) result
+        ≡ two_names (option_map (λ v. view v.now) value.entry) }
+{
+    let items = value?.as_array()?.as_slice();
+    if items.len() != 2 {
+        return None;
+    }
+    let first = items[0].as_str()?;
+    let second = items[1].as_str()?;
+    if first == second {
+        return None;
+    }
+    Some((first, second))
+}
+
+/// The two names that `properties` fuses in an object with these members: it does where few names are declared, no other
+/// keyword tells members by their names, and `required` lists two names that differ.
+fn fused_names(members: &Map<String, Value>) -> Option<(&str, &str)>
+    ensures { option_map (λ t. (t.0.now, t.1.now)) result
+        ≡ fused_names (members_view members.now.entries) }
+{
+    if declares_few(member(members, "properties"))
+        && !has_member(members, "patternProperties")
+        && allows_others(member(members, "additionalProperties"))
+    {
+        two_names(member(members, "required"))
+    } else {
+        None
+    }
+}
+
+impl<'a> Plan<'a> {
+    /// The plan of an object with these members, of which no two have one name.
+    pub fn of(members: &'a Map<String, Value>) -> Plan<'a>
+        ensures plan { planned result ≡ plan_of (members_view members.now.entries) }
+        ensures distinct { has_repeat (map (λ m. m.0) (listed (members_view members.now.entries)))
+            ≡ false }
+    {
+        // Here for what it says of the names' order.
+        let _count = members.len();
+        Plan {
+            fused: fused_names(members),
+        }
+    }
+
+    /// Whether the validator of `properties` stands for `required` too.
+    pub fn fuses(self) -> bool
+        ensures { result ≡ is_some (planned self.entry).fused }
+    {
+        self.fused.is_some()
+    }
+}
