@@ -1,9 +1,9 @@
 //! Validation by the object and logic keywords of JSON Schema.
 #![tactic(auto)]
 
+mod numbers;
 mod validate;
 mod validator;
-mod whole;
 
 pub use olk_base::{
     CompiledPattern, JsonType, KeyHead, Leaf, MakeError, MakeLeaf, MakeRegex, Meter, Node,
@@ -25,7 +25,7 @@ pub use olk_reports::{
     ValidationErrorKind,
 };
 pub use olk_spec::HASHMAP_THRESHOLD;
-pub use olk_tree::{Means, RequiredValidator, SortedNames};
+pub use numbers::holds_whole_numbers;
+pub use olk_tree::{Means, Reports, RequiredValidator, SortedNames};
 pub use validate::Validate;
 pub use validator::Validator;
-pub use whole::holds_whole_numbers;

@@ -9,6 +9,7 @@ ghost use Rattle.olk_spec.specs.Malformed.{malformations};
 ghost use Rattle.olk_spec.specs.Costs.{cost};
 ghost use Rattle.olk_base.specs.Count.{raised};
 ghost use Rattle.olk_node.specs.Kit.{kit, world};
+ghost use Rattle.olk_check.specs.Asks.{OnlyAsks};
 ghost use Rattle.olk_build.specs.Building.{TellsOneOf, Spends, SpendsWithin};
 ghost use Rattle.olk_errors.specs.Found.{Appends, IfInvalid, IsRefusal};
 ghost use Rattle.object_logic.specs.Validators.{IsValidatorOf};
@@ -38,9 +39,13 @@ pub struct Validator<K, R> {
 impl<K: Leaf, R: RegexEngine> Validator<K, R> {
     /// Builds the validator of a schema, with the leaves and the matchers that the makers give.
     ///
+    /// The meter rises by what the schema costs, each subschema being compiled once, or by a part of it where nothing is
+    /// built.
+    ///
+    /// # Errors
+    ///
     /// A malformed schema is refused with one of its malformations (JSON Schema 2020-12 Core, 4.3, and the shapes of the
-    /// keywords), and only such a schema is. Without memory nothing is said of the schema. The meter rises by what the
-    /// schema costs, each subschema being compiled once, or by a part of it where nothing is built.
+    /// keywords), and only such a schema is. Without memory nothing is said of the schema.
     pub fn build<'s, L: MakeLeaf<Leaf = K>, M: MakeRegex<Engine = R>>(
         alloc: Global,
         leaves: &L,
@@ -49,10 +54,14 @@ impl<K: Leaf, R: RegexEngine> Validator<K, R> {
         meter: &mut Meter,
     ) -> Result<Validator<K, R>, BuildError<'s>>
         ensures stands { IfOk result (λ v. IsValidatorOf (kit K.Leaf R.RegexEngine) v (view schema.now)) }
-        ensures clean { OnOk result (malformations (world K.Leaf R.RegexEngine) (view schema.now) ≡ []) }
-        ensures refused { IfErr result (TellsOneOf (malformations (world K.Leaf R.RegexEngine) (view schema.now))) }
-        ensures costs { OnOk result (Spends meter.old meter.new (cost (world K.Leaf R.RegexEngine) (view schema.now))) }
-        ensures costs_at_most { OnErr result (SpendsWithin meter.old meter.new (cost (world K.Leaf R.RegexEngine) (view schema.now))) }
+        ensures clean { OnOk result
+            (malformations (world K.Leaf R.RegexEngine) (view schema.now) ≡ []) }
+        ensures refused { IfErr result (TellsOneOf
+            (malformations (world K.Leaf R.RegexEngine) (view schema.now))) }
+        ensures costs { OnOk result (Spends meter.old meter.new
+            (cost (world K.Leaf R.RegexEngine) (view schema.now))) }
+        ensures costs_at_most { OnErr result (SpendsWithin meter.old meter.new
+            (cost (world K.Leaf R.RegexEngine) (view schema.now))) }
     {
         let mut ctx = Context::new(alloc, leaves, regexes, meter);
         let built = compile(alloc, &mut ctx, schema);
@@ -67,18 +76,15 @@ impl<K: Leaf, R: RegexEngine> Validator<K, R> {
     /// what the schema asks, and that of matches that were left unfinished may rise; where it does not, and is below
     /// `u64::MAX`, the schema accepts with either answer or with neither.
     pub fn is_valid(&self, instance: &Value, ctx: &mut ValidationContext) -> bool
-        ensures answer { ctx.new.answer ≡ ctx.old.answer }
-        ensures compiled { ctx.new.meter.compiled ≡ ctx.old.meter.compiled }
-        ensures leaves { ctx.new.meter.leaves ≡ ctx.old.meter.leaves }
-        ensures made { ctx.new.meter.made ≡ ctx.old.meter.made }
-        ensures asked_from { ctx.old.meter.asked ≤ ctx.new.meter.asked }
-        ensures unfinished { ctx.old.meter.unfinished ≤ ctx.new.meter.unfinished }
+        ensures context { OnlyAsks ctx.old ctx.new }
         ensures verdict { (S : Data) → IsValidatorOf (kit K.Leaf R.RegexEngine) self.now S
             → result ≡ accepts (world K.Leaf R.RegexEngine) ctx.old.answer S (view instance.now) }
         ensures asked_to { (S : Data) → IsValidatorOf (kit K.Leaf R.RegexEngine) self.now S
-            → ctx.new.meter.asked ≤ raised ctx.old.meter.asked (asks (world K.Leaf R.RegexEngine) ctx.old.answer S (view instance.now)) }
+            → ctx.new.meter.asked ≤ raised ctx.old.meter.asked
+            (asks (world K.Leaf R.RegexEngine) ctx.old.answer S (view instance.now)) }
         ensures certain { (S : Data) → IsValidatorOf (kit K.Leaf R.RegexEngine) self.now S
-            → ctx.new.meter.unfinished ≡ ctx.old.meter.unfinished → ctx.old.meter.unfinished < 2 ^ 64 - 1
+            → ctx.new.meter.unfinished ≡ ctx.old.meter.unfinished
+            → ctx.old.meter.unfinished < 2 ^ 64 - 1
             → accepts (world K.Leaf R.RegexEngine) true S (view instance.now)
             ≡ accepts (world K.Leaf R.RegexEngine) false S (view instance.now) }
     {
@@ -88,29 +94,44 @@ impl<K: Leaf, R: RegexEngine> Validator<K, R> {
     /// The first error of the walk over the instance; none where the schema accepts it (JSON Schema 2020-12 Core, 4.3.2
     /// and 10), with the context's answer for matches that are left unfinished.
     ///
-    /// The error is one of a report of the schema over the instance; where members that nothing allows are told, the
-    /// first of them alone. Otherwise the only error is want of memory. The context keeps its answer.
+    /// An accepted instance costs a verdict and no memory. The context keeps its answer; of the counts only those of
+    /// matchers that were asked and of matches that were left unfinished rise.
+    ///
+    /// # Errors
+    ///
+    /// That error, which is one of a report of the schema over the instance (where members that nothing allows are told,
+    /// the first of them alone), or want of memory.
     pub fn validate<'a>(
         &'a self,
         alloc: Global,
         instance: &'a Value,
         ctx: &mut ValidationContext,
     ) -> Result<(), ValidateError<'a>>
-        ensures answer { ctx.new.answer ≡ ctx.old.answer }
+        ensures context { OnlyAsks ctx.old ctx.new }
         ensures ok { (S : Data) → IsValidatorOf (kit K.Leaf R.RegexEngine) self.now S
             → OnOk result (accepts (world K.Leaf R.RegexEngine) ctx.old.answer S (view instance.now) ≡ true) }
         ensures invalid { (S : Data) → IsValidatorOf (kit K.Leaf R.RegexEngine) self.now S
-            → IfErr result (λ e. IfInvalid e (IsRefusal (world K.Leaf R.RegexEngine) ctx.old.answer S (view instance.now) [] [])) }
+            → IfErr result (λ e. IfInvalid e
+            (IsRefusal (world K.Leaf R.RegexEngine) ctx.old.answer S (view instance.now) [] [])) }
     {
+        let node = Node::Value(instance);
+        if is_valid_for(&self.root, node, ctx) {
+            return Ok(());
+        }
         let mut path = InstancePath::new(alloc);
-        validate_for(&self.root, alloc, Node::Value(instance), &mut path, ctx)
+        validate_for(alloc, &self.root, node, &mut path, ctx)
     }
 
     /// Appends all errors of the instance: a report of the schema over it (JSON Schema 2020-12 Core, 4.3.2 and 10), with
     /// the context's answer for matches that are left unfinished. None is appended exactly where the schema accepts the
     /// instance.
     ///
-    /// The only error is want of memory, and then the list is as before. The context keeps its answer.
+    /// An accepted instance costs a verdict and no memory. The context keeps its answer; of the counts only those of
+    /// matchers that were asked and of matches that were left unfinished rise.
+    ///
+    /// # Errors
+    ///
+    /// Want of memory, and then the list is as before.
     pub fn collect_errors<'a>(
         &'a self,
         alloc: Global,
@@ -118,42 +139,48 @@ impl<K: Leaf, R: RegexEngine> Validator<K, R> {
         ctx: &mut ValidationContext,
         errors: &mut Vec<ValidationError<'a>>,
     ) -> Result<(), AllocError>
-        ensures answer { ctx.new.answer ≡ ctx.old.answer }
+        ensures context { OnlyAsks ctx.old ctx.new }
         ensures report { (S : Data) → IsValidatorOf (kit K.Leaf R.RegexEngine) self.now S
-            → OnOk result (Appends errors.old.items errors.new.items (report (world K.Leaf R.RegexEngine) ctx.old.answer S (view instance.now) [] [])) }
+            → OnOk result (Appends errors.old.items errors.new.items
+            (report (world K.Leaf R.RegexEngine) ctx.old.answer S (view instance.now) [] [])) }
         ensures verdict { (S : Data) → IsValidatorOf (kit K.Leaf R.RegexEngine) self.now S
-            → OnOk result (nat_eq (length errors.new.items) (length errors.old.items) ≡ accepts (world K.Leaf R.RegexEngine) ctx.old.answer S (view instance.now)) }
+            → OnOk result (nat_eq (length errors.new.items) (length errors.old.items)
+            ≡ accepts (world K.Leaf R.RegexEngine) ctx.old.answer S (view instance.now)) }
         ensures memory { OnErr result (errors.new.items ≡ errors.old.items) }
     {
+        let node = Node::Value(instance);
+        if is_valid_for(&self.root, node, ctx) {
+            return Ok(());
+        }
         let mut path = InstancePath::new(alloc);
-        collect_errors_for(
-            &self.root,
-            alloc,
-            Node::Value(instance),
-            &mut path,
-            ctx,
-            errors,
-        )
+        collect_errors_for(alloc, &self.root, node, &mut path, ctx, errors)
     }
 
     /// What the schema shows of the instance: a tree of results, with their annotations and errors (JSON Schema 2020-12
     /// Core, 7.7 and 12), with the context's answer for matches that are left unfinished.
     ///
-    /// The context keeps its answer. The only error is want of memory.
+    /// The context keeps its answer; of the counts only those of matchers that were asked and of matches that were left
+    /// unfinished rise.
+    ///
+    /// # Errors
+    ///
+    /// Want of memory.
     pub fn evaluate<'a>(
         &'a self,
         alloc: Global,
         instance: &'a Value,
         ctx: &mut ValidationContext,
     ) -> Result<Evaluation<'a>, AllocError>
-        ensures answer { ctx.new.answer ≡ ctx.old.answer }
+        ensures context { OnlyAsks ctx.old ctx.new }
         ensures tree { IfOk result (λ e. (S : Data) → IsValidatorOf (kit K.Leaf R.RegexEngine) self.now S
-            → IsTree (world K.Leaf R.RegexEngine) ctx.old.answer S (view instance.now) [] [] (evaluated e)) }
+            → IsTree (world K.Leaf R.RegexEngine) ctx.old.answer
+            S (view instance.now) [] [] (evaluated e)) }
         ensures verdict { IfOk result (λ e. (S : Data) → IsValidatorOf (kit K.Leaf R.RegexEngine) self.now S
-            → valid_tree (evaluated e) ≡ accepts (world K.Leaf R.RegexEngine) ctx.old.answer S (view instance.now)) }
+            → valid_tree (evaluated e)
+            ≡ accepts (world K.Leaf R.RegexEngine) ctx.old.answer S (view instance.now)) }
     {
         let mut path = InstancePath::new(alloc);
-        let root = child(&self.root, alloc, Node::Value(instance), &mut path, ctx)?;
+        let root = child(alloc, &self.root, Node::Value(instance), &mut path, ctx)?;
         Ok(Evaluation::new(root))
     }
 }

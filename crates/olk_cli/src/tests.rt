@@ -132,6 +132,73 @@ fn nested_arrays(rt: HostRuntime) -> Result<(), Fail> {
     expect_answer(&rt, alloc, line.as_str(), r#"{"refused":"not JSON"}"#)
 }
 
+// `anyOf` in `anyOf`, as deep as JSON is read: a leaf inside, and in each the branches that `rest` has beside the next one.
+fn nested_branches(alloc: Global, ask: &str, rest: &str) -> Result<String, AllocError> {
+    let mut line = format!(in alloc; r#"{{"ask":"{ask}","schema":"#)?;
+    for _ in 0..62 {
+        line.push_str(r#"{"anyOf":["#)?;
+    }
+    line.push_str(r#"{"type":"string"}"#)?;
+    for _ in 0..62 {
+        line.push_str(rest)?;
+        line.push_str("]}")?;
+    }
+    line.push_str(r#","instance":1}"#)?;
+    Ok(line)
+}
+
+const ONE_BRANCH: &str = "";
+
+const TWO_BRANCHES: &str = r#",{"type":"null"}"#;
+
+#[test]
+fn nested_branches_are_refused(rt: HostRuntime) -> Result<(), Fail> {
+    let alloc = rt.alloc();
+    for rest in [ONE_BRANCH, TWO_BRANCHES] {
+        let line = nested_branches(alloc, "valid", rest)?;
+        expect_answer(&rt, alloc, line.as_str(), r#"{"valid":false}"#)?;
+    }
+    Ok(())
+}
+
+#[test]
+fn nested_branches_have_a_first_error(rt: HostRuntime) -> Result<(), Fail> {
+    let alloc = rt.alloc();
+    let answer = r#"{"error":{"instancePath":"","message":"1 is not valid under any of the schemas listed in the 'anyOf' keyword","schemaPath":"/anyOf"},"valid":false}"#;
+    for rest in [ONE_BRANCH, TWO_BRANCHES] {
+        let line = nested_branches(alloc, "first", rest)?;
+        expect_answer(&rt, alloc, line.as_str(), answer)?;
+    }
+    Ok(())
+}
+
+#[test]
+fn nested_branches_have_one_error(rt: HostRuntime) -> Result<(), Fail> {
+    let alloc = rt.alloc();
+    let answer = r#"{"errors":[{"instancePath":"","message":"1 is not valid under any of the schemas listed in the 'anyOf' keyword","schemaPath":"/anyOf"}],"valid":false}"#;
+    for rest in [ONE_BRANCH, TWO_BRANCHES] {
+        let line = nested_branches(alloc, "errors", rest)?;
+        expect_answer(&rt, alloc, line.as_str(), answer)?;
+    }
+    Ok(())
+}
+
+// The error of the leaf inside, at the end of its path.
+#[test]
+fn nested_branches_are_evaluated(rt: HostRuntime) -> Result<(), Fail> {
+    let alloc = rt.alloc();
+    let mut answer = String::from_str(
+        alloc,
+        r#"{"annotations":[],"errors":[{"instancePath":"","keyword":"type","message":"1 is not of type \"string\"","schemaPath":""#,
+    )?;
+    for _ in 0..62 {
+        answer.push_str("/anyOf/0")?;
+    }
+    answer.push_str(r#"/type"}],"valid":false}"#)?;
+    let line = nested_branches(alloc, "evaluate", ONE_BRANCH)?;
+    expect_answer(&rt, alloc, line.as_str(), answer.as_str())
+}
+
 #[test]
 fn bytes_that_are_no_text(rt: HostRuntime) {
     let output = answers(&rt, rt.alloc(), b"\xff\n".as_slice());

@@ -8,7 +8,7 @@ use serde_json::{Map, Value};
 /// Whether each number in the value is a whole number of 64 bits, one that answers `as_i64` or `as_u64`.
 ///
 /// Takes no memory.
-#[cycle(whole)]
+#[cycle(numbers)]
 pub fn holds_whole_numbers(value: &Value) -> bool
     ensures { result ≡ not (has_float (view value.now)) }
 {
@@ -20,7 +20,7 @@ pub fn holds_whole_numbers(value: &Value) -> bool
     }
 }
 
-#[cycle(whole)]
+#[cycle(numbers)]
 fn items_hold_whole_numbers(items: &Vec<Value>) -> bool
     ensures { result ≡ not (items_have_float (items_view items.now.items)) }
 {
@@ -32,7 +32,7 @@ fn items_hold_whole_numbers(items: &Vec<Value>) -> bool
     true
 }
 
-#[cycle(whole)]
+#[cycle(numbers)]
 fn members_hold_whole_numbers(members: &Map<String, Value>) -> bool
     ensures { result ≡ not (members_have_float (members_view members.now.entries)) }
 {
