@@ -19,7 +19,8 @@ impl<'a, N: Evaluate<'a>> Evaluate<'a> for AllOf<N> {
     ghost use Rattle.olk_spec.specs.Tree.{plain};
     ghost use Rattle.olk_tree.specs.Shown.{branch_trees};
 
-    ghost tree = { λ k u v Q. plain k.location Q (branch_trees (λ n. N.tree n u) v Q k.schemas.items) };
+    ghost tree = { λ k u v Q. plain k.location Q
+        (branch_trees (λ n. N.tree n u) v Q k.schemas.items) };
 
     fn evaluate(
         &'a self,
@@ -47,7 +48,8 @@ impl<'a, N: Evaluate<'a>> Evaluate<'a> for SingleValueAllOf<N> {
     ghost use Rattle.olk_spec.specs.Tree.{plain};
     ghost use Rattle.olk_tree.specs.Shown.{branch_trees};
 
-    ghost tree = { λ k u v Q. plain k.location Q (branch_trees (λ n. N.tree n u) v Q (k.node ∷ [])) };
+    ghost tree = { λ k u v Q. plain k.location Q
+        (branch_trees (λ n. N.tree n u) v Q (k.node ∷ [])) };
 
     fn evaluate(
         &'a self,
@@ -56,6 +58,6 @@ impl<'a, N: Evaluate<'a>> Evaluate<'a> for SingleValueAllOf<N> {
         path: &mut InstancePath,
         ctx: &mut ValidationContext,
     ) -> Result<EvaluationResult<'a>, AllocError> {
-        Ok(EvaluationResult::from_node(alloc, child(alloc, &self.node, node, path, ctx)?)?)
+        EvaluationResult::from_node(alloc, child(alloc, &self.node, node, path, ctx)?)
     }
 }

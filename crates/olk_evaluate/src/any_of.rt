@@ -68,7 +68,7 @@ impl<'a, N: Evaluate<'a>> Evaluate<'a> for SingleAnyOf<N> {
         path: &mut InstancePath,
         ctx: &mut ValidationContext,
     ) -> Result<EvaluationResult<'a>, AllocError> {
-        Ok(EvaluationResult::from_node(alloc, child(alloc, &self.node, node, path, ctx)?)?)
+        EvaluationResult::from_node(alloc, child(alloc, &self.node, node, path, ctx)?)
     }
 }
 

@@ -50,17 +50,17 @@ impl<'a, K: Leaf, N: Evaluate<'a>> Evaluate<'a> for KeywordOver<K, N> {
         ctx: &mut ValidationContext,
     ) -> Result<EvaluationResult<'a>, AllocError> {
         match self {
-            KeywordOver::Properties(keyword) => Ok(keyword.evaluate(alloc, node, path, ctx)?),
+            KeywordOver::Properties(keyword) => keyword.evaluate(alloc, node, path, ctx),
             KeywordOver::PropertiesWithRequired2(keyword) => {
-                Ok(keyword.evaluate(alloc, node, path, ctx)?)
+                keyword.evaluate(alloc, node, path, ctx)
             }
-            KeywordOver::Required(keyword) => Ok(keyword.evaluate(alloc, node, path, ctx)?),
-            KeywordOver::AllOf(keyword) => Ok(keyword.evaluate(alloc, node, path, ctx)?),
-            KeywordOver::SingleValueAllOf(keyword) => Ok(keyword.evaluate(alloc, node, path, ctx)?),
-            KeywordOver::AnyOf(keyword) => Ok(keyword.evaluate(alloc, node, path, ctx)?),
-            KeywordOver::SingleAnyOf(keyword) => Ok(keyword.evaluate(alloc, node, path, ctx)?),
-            KeywordOver::Not(keyword) => Ok(keyword.evaluate(alloc, node, path, ctx)?),
-            KeywordOver::Leaf(_, leaf) => Ok(leaf_errors(alloc, leaf, node)?),
+            KeywordOver::Required(keyword) => keyword.evaluate(alloc, node, path, ctx),
+            KeywordOver::AllOf(keyword) => keyword.evaluate(alloc, node, path, ctx),
+            KeywordOver::SingleValueAllOf(keyword) => keyword.evaluate(alloc, node, path, ctx),
+            KeywordOver::AnyOf(keyword) => keyword.evaluate(alloc, node, path, ctx),
+            KeywordOver::SingleAnyOf(keyword) => keyword.evaluate(alloc, node, path, ctx),
+            KeywordOver::Not(keyword) => keyword.evaluate(alloc, node, path, ctx),
+            KeywordOver::Leaf(_, leaf) => leaf_errors(alloc, leaf, node),
         }
     }
 }
@@ -97,7 +97,8 @@ pub fn evaluate_body<'a, W: Evaluate<'a>>(
     ctx: &mut ValidationContext,
 ) -> Result<EvaluationResult<'a>, AllocError>
     ensures tree { IfOk result (λ r. IsLikeTree
-        (body_tree (λ k. W.tree k ctx.old.answer) location.now body.now (data_of node.entry) path.old)
+        (body_tree (λ k. W.tree k ctx.old.answer)
+        location.now body.now (data_of node.entry) path.old)
         (node_at location.now path.old (shown_of r))) }
     ensures verdict { IfOk result (λ r. is_valid (node_at location.now path.old (shown_of r))
         ≡ (body_means W.means body.now (data_of node.entry)).accepts ctx.old.answer) }
@@ -106,7 +107,7 @@ pub fn evaluate_body<'a, W: Evaluate<'a>>(
 {
     match body {
         Body::True => Ok(EvaluationResult::valid_empty(alloc)),
-        Body::False => Ok(one_error(alloc, ValidationErrorKind::FalseSchema, node)?),
+        Body::False => one_error(alloc, ValidationErrorKind::FalseSchema, node),
         Body::Keywords(keywords) => {
             let children = each_child(alloc, keywords, node, path, ctx)?;
             Ok(EvaluationResult::from_children(alloc, children))

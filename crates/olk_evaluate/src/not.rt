@@ -39,6 +39,6 @@ impl<'a, N: Evaluate<'a>> Evaluate<'a> for Not<N> {
         let kind = ValidationErrorKind::Not {
             schema: &self.original,
         };
-        Ok(one_error(alloc, kind, node)?)
+        one_error(alloc, kind, node)
     }
 }

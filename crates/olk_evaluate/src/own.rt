@@ -55,8 +55,7 @@ pub(crate) fn add_own_error<'a>(
         (shown_of outcome.new)) }
 {
     let error = ValidationError::new(kind, node, String::new(alloc), "");
-    outcome.mark_errored(describe(alloc, error)?)?;
-    Ok(())
+    outcome.mark_errored(describe(alloc, error)?)
 }
 
 // One error of its own about the node, and nothing else.

@@ -37,7 +37,8 @@ impl<'a, N: Evaluate<'a>> Evaluate<'a> for SmallProperties<N> {
     ghost use Rattle.olk_tree.specs.Shown.{properties_tree};
     ghost use Rattle.std.specs.Prelude.{[]};
 
-    ghost tree = { λ k u v Q. properties_tree (λ n. N.tree n u) v Q k.location (named k.properties) [] };
+    ghost tree = { λ k u v Q. properties_tree (λ n. N.tree n u) v Q
+        k.location (named k.properties) [] };
 
     #[tactic(auto, using(olk_check::proofs::Asked::only_same))]
     fn evaluate(
@@ -71,8 +72,8 @@ impl<'a, N: Evaluate<'a>> Evaluate<'a> for SmallPropertiesWithRequired2<N> {
     ghost use Rattle.olk_tree.specs.Answers.{named, two_texts};
     ghost use Rattle.olk_tree.specs.Shown.{properties_tree, missing_trees};
 
-    ghost tree = { λ k u v Q. properties_tree (λ n. N.tree n u) v Q k.location (named k.properties)
-        (missing_trees (two_texts k.first k.second) v k.required_location Q) };
+    ghost tree = { λ k u v Q. properties_tree (λ n. N.tree n u) v Q
+        k.location (named k.properties) (missing_trees (two_texts k.first k.second) v k.required_location Q) };
 
     #[tactic(auto, using(olk_check::proofs::Asked::only_same))]
     fn evaluate(
@@ -124,7 +125,8 @@ impl<'a> Met<'a> {
 
     // One member more.
     fn add(&mut self, name: &'a str, child: EvaluationNode<'a>) -> Result<(), AllocError>
-        ensures names { OnOk result (self.new.names.items ≡ self.old.names.items ++ name.entry ∷ []) }
+        ensures names { OnOk result
+            (self.new.names.items ≡ self.old.names.items ++ name.entry ∷ []) }
         ensures children { OnOk result
             (self.new.children.items ≡ self.old.children.items ++ child.entry ∷ []) }
     {
@@ -149,7 +151,8 @@ impl<'a> Met<'a> {
     // The children, and the names as annotation.
     fn outcome(self, alloc: Global) -> EvaluationResult<'a>
         ensures { shown_of result ≡ shown (list_all is_valid (trees_of self.entry.children.items))
-            (Some (map (λ n. n.now) self.entry.names.items)) [] (trees_of self.entry.children.items) }
+            (Some (map (λ n. n.now) self.entry.names.items)) []
+            (trees_of self.entry.children.items) }
     {
         let mut outcome = EvaluationResult::from_children(alloc, self.children);
         outcome.annotate(self.names);
@@ -168,8 +171,8 @@ fn meet<'a, N: Evaluate<'a>>(
     ensures shown { IfOk result (λ m. HasMet (wanted_at N.tree N.means ctx.old.answer path.old)
         (members_declared (named properties.now) (listed (members_view members.now.entries))) m) }
     ensures verdict { IfOk result (λ m. list_all is_valid (trees_of m.children.items)
-        ≡ (properties_mean N.means (named properties.now) (object_of members.now.entries)).accepts
-        ctx.old.answer) }
+        ≡ (properties_mean N.means (named properties.now)
+        (object_of members.now.entries)).accepts ctx.old.answer) }
     ensures path { path.new ≡ path.old }
     ensures context { OnlyAsks ctx.old ctx.new }
 {

@@ -34,7 +34,8 @@ impl<'a> Evaluate<'a> for RequiredValidator {
     ghost use Rattle.olk_spec.specs.Tree.{erring};
     ghost use Rattle.olk_tree.specs.Answers.{texts_of};
 
-    ghost tree = { λ k u v Q. erring k.location Q (required_faults (texts_of k.required.items) v k.location Q) };
+    ghost tree = { λ k u v Q. erring k.location Q
+        (required_faults (texts_of k.required.items) v k.location Q) };
 
     #[tactic(auto, using(olk_check::proofs::Asked::only_same))]
     fn evaluate(
@@ -45,7 +46,7 @@ impl<'a> Evaluate<'a> for RequiredValidator {
         _ctx: &mut ValidationContext,
     ) -> Result<EvaluationResult<'a>, AllocError> {
         match node.as_object() {
-            Some(members) => Ok(result_of_required(alloc, &self.required, members, node)?),
+            Some(members) => result_of_required(alloc, &self.required, members, node),
             None => Ok(EvaluationResult::valid_empty(alloc)),
         }
     }
@@ -89,8 +90,7 @@ fn add_error_if_missing<'a>(
         return Ok(());
     }
     let kind = ValidationErrorKind::Required { property: name };
-    add_own_error(alloc, outcome, kind, node)?;
-    Ok(())
+    add_own_error(alloc, outcome, kind, node)
 }
 
 // Whether one of the names is no member.

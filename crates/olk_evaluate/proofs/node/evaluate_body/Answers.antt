@@ -1,3 +1,4 @@
+use Rattle.std.proofs.lemmas.Result.{IfOk-weaker}
 use Rattle.olk_spec.specs.Faults.{fault, FalseSchema}
 use Rattle.olk_reports.proofs.Errors.{kind_of_false_schema}
 use Rattle.olk_evaluate.specs.Wanted.{HasErrors}
@@ -19,13 +20,13 @@ returns-in_ok-children-in-Keywords-clause-verdict g c =
     branches_verdict g.W.Evaluate.tree g.W.Means.means c.args.ctx.now.answer (data_of c.args.node) c.args.location.now c.args.path.now c.in-Keywords.keywords.items c.in_ok-children-in-Keywords.ensures.shown c.from_children.ensures
     ∙ ap (λ b. (body_means g.W.Means.means b (data_of c.args.node)).accepts c.args.ctx.now.answer) (sym c.in-Keywords.is)
 
-pub returns-in_ok-one_error-in-False-clause-tree : goal.returns-in_ok-one_error-in-False-clause-tree
-returns-in_ok-one_error-in-False-clause-tree g c =
-    let error = subst (λ k. HasErrors (fault k (data_of c.args.node) c.args.path.now c.args.location.now ∷ []) (shown_of c.in_ok-one_error-in-False.field-0)) kind_of_false_schema (c.in_ok-one_error-in-False.ensures c.args.location.now c.args.path.now) in
-    subst (λ b. IsLikeTree (body_tree (λ k. g.W.Evaluate.tree k c.args.ctx.now.answer) c.args.location.now b (data_of c.args.node) c.args.path.now) (node_at c.args.location.now c.args.path.now (shown_of c.in_ok-one_error-in-False.field-0))) (sym c.in-False.is)
-    (erring_like c.args.location.now c.args.path.now (fault FalseSchema (data_of c.args.node) c.args.path.now c.args.location.now ∷ []) error)
+pub returns-in-False-clause-tree : goal.returns-in-False-clause-tree
+returns-in-False-clause-tree g c = IfOk-weaker c.one_error.result _ _ (λ r error.
+    subst (λ b. IsLikeTree (body_tree (λ k. g.W.Evaluate.tree k c.args.ctx.now.answer) c.args.location.now b (data_of c.args.node) c.args.path.now) (node_at c.args.location.now c.args.path.now (shown_of r))) (sym c.in-False.is)
+    (erring_like c.args.location.now c.args.path.now (fault FalseSchema (data_of c.args.node) c.args.path.now c.args.location.now ∷ [])
+    (subst (λ k. HasErrors (fault k (data_of c.args.node) c.args.path.now c.args.location.now ∷ []) (shown_of r)) kind_of_false_schema (error c.args.location.now c.args.path.now)))) c.one_error.ensures
 
-pub returns-in_ok-one_error-in-False-clause-verdict : goal.returns-in_ok-one_error-in-False-clause-verdict
-returns-in_ok-one_error-in-False-clause-verdict g c =
-    erring_verdict c.args.location.now c.args.path.now (fault _ (data_of c.args.node) c.args.path.now c.args.location.now ∷ []) (c.in_ok-one_error-in-False.ensures c.args.location.now c.args.path.now)
-    ∙ ap (λ b. (body_means g.W.Means.means b (data_of c.args.node)).accepts c.args.ctx.now.answer) (sym c.in-False.is)
+pub returns-in-False-clause-verdict : goal.returns-in-False-clause-verdict
+returns-in-False-clause-verdict g c = IfOk-weaker c.one_error.result _ _ (λ r error.
+    erring_verdict c.args.location.now c.args.path.now (fault _ (data_of c.args.node) c.args.path.now c.args.location.now ∷ []) (error c.args.location.now c.args.path.now)
+    ∙ ap (λ b. (body_means g.W.Means.means b (data_of c.args.node)).accepts c.args.ctx.now.answer) (sym c.in-False.is)) c.one_error.ensures

@@ -1,4 +1,5 @@
 use Rattle.std.proofs.Common.{map, ap, subst, ◌∙◌}
+use Rattle.std.proofs.lemmas.Result.{IfOk-weaker}
 use Rattle.serde_json.specs.Data.{object}
 use Rattle.serde_json.specs.View.{members_view}
 use Rattle.olk_spec.specs.Names.{is_empty}
@@ -22,13 +23,14 @@ returns-in-None-clause-verdict c = erring_verdict c.args.self.now.location c.arg
     (lacks_none (λ n. fault (Required n) (data_of c.args.node) c.args._path.now c.args.self.now.location) (texts_of c.args.self.now.required.items) (data_of c.args.node) c.in-None.ensures c.valid_empty.ensures)
     ∙ same_emptiness (λ n. fault (Required n) (data_of c.args.node) c.args._path.now c.args.self.now.location) (missing (texts_of c.args.self.now.required.items) (data_of c.args.node))
 
-pub returns-in_ok-result_of_required-in-Some-clause-tree : goal.returns-in_ok-result_of_required-in-Some-clause-tree
-returns-in_ok-result_of_required-in-Some-clause-tree c = erring_like c.args.self.now.location c.args._path.now (required_faults (texts_of c.args.self.now.required.items) (data_of c.args.node) c.args.self.now.location c.args._path.now)
-    (subst (λ w. HasErrors (map (λ n. fault (Required n) (data_of c.args.node) c.args._path.now c.args.self.now.location) (missing (texts_of c.args.self.now.required.items) w)) (shown_of c.in_ok-result_of_required-in-Some.field-0)) (object_is (data_of c.args.node) (members_view c.in-Some.members.now.entries) c.in-Some.ensures)
-    (c.in_ok-result_of_required-in-Some.ensures c.args.self.now.location c.args._path.now))
+pub returns-in-Some-clause-tree : goal.returns-in-Some-clause-tree
+returns-in-Some-clause-tree c = IfOk-weaker c.result_of_required.result _ _ (λ r errors.
+    erring_like c.args.self.now.location c.args._path.now (required_faults (texts_of c.args.self.now.required.items) (data_of c.args.node) c.args.self.now.location c.args._path.now)
+    (subst (λ w. HasErrors (map (λ n. fault (Required n) (data_of c.args.node) c.args._path.now c.args.self.now.location) (missing (texts_of c.args.self.now.required.items) w)) (shown_of r)) (object_is (data_of c.args.node) (members_view c.in-Some.members.now.entries) c.in-Some.ensures)
+    (errors c.args.self.now.location c.args._path.now))) c.result_of_required.ensures
 
-pub returns-in_ok-result_of_required-in-Some-clause-verdict : goal.returns-in_ok-result_of_required-in-Some-clause-verdict
-returns-in_ok-result_of_required-in-Some-clause-verdict c =
-    erring_verdict c.args.self.now.location c.args._path.now (map (λ n. fault (Required n) (data_of c.args.node) c.args._path.now c.args.self.now.location) (missing (texts_of c.args.self.now.required.items) (object (members_view c.in-Some.members.now.entries)))) (c.in_ok-result_of_required-in-Some.ensures c.args.self.now.location c.args._path.now)
+pub returns-in-Some-clause-verdict : goal.returns-in-Some-clause-verdict
+returns-in-Some-clause-verdict c = IfOk-weaker c.result_of_required.result _ _ (λ r errors.
+    erring_verdict c.args.self.now.location c.args._path.now (map (λ n. fault (Required n) (data_of c.args.node) c.args._path.now c.args.self.now.location) (missing (texts_of c.args.self.now.required.items) (object (members_view c.in-Some.members.now.entries)))) (errors c.args.self.now.location c.args._path.now)
     ∙ same_emptiness (λ n. fault (Required n) (data_of c.args.node) c.args._path.now c.args.self.now.location) (missing (texts_of c.args.self.now.required.items) (object (members_view c.in-Some.members.now.entries)))
-    ∙ ap (λ w. is_empty (missing (texts_of c.args.self.now.required.items) w)) (object_is (data_of c.args.node) (members_view c.in-Some.members.now.entries) c.in-Some.ensures)
+    ∙ ap (λ w. is_empty (missing (texts_of c.args.self.now.required.items) w)) (object_is (data_of c.args.node) (members_view c.in-Some.members.now.entries) c.in-Some.ensures)) c.result_of_required.ensures
