@@ -108,27 +108,6 @@ impl Location {
         })
     }
 
-    /// Goes one segment further down, as `InstancePath::push` does.
-    ///
-    /// The mark leads back by `pop`. Without memory the place is left as it was.
-    pub fn push(&mut self, segment: &str) -> Result<Mark, AllocError>
-        ensures path { OnOk result (self.new ≡ one_below self.old segment.now) }
-        ensures mark { IfOk result (λ m. m.len ≡ length self.old) }
-        ensures last_slash { IfOk result (λ m. HasLastSlash self.new m.len) }
-        ensures back { IfOk result (λ m. take m.len self.new ≡ self.old) }
-        ensures refused { OnErr result (self.new ≡ self.old) }
-    {
-        descend(&mut self.pointer, segment)
-    }
-
-    /// Cuts the text at the mark, where the last `/` of the text has to stand: after a push it is the place before it.
-    pub fn pop(&mut self, mark: Mark)
-        requires { HasLastSlash self.old mark.len }
-        ensures { self.new ≡ take mark.len self.old }
-    {
-        self.pointer.truncate(mark.len);
-    }
-
     /// The text of the pointer.
     pub fn as_str(&self) -> &str
         ensures { result.now ≡ self.now }

@@ -15,6 +15,8 @@ pub mod doubles;
 #[cfg(test)]
 mod found;
 #[cfg(test)]
+mod nesting;
+#[cfg(test)]
 mod reports;
 #[cfg(test)]
 mod tables;

@@ -31,20 +31,6 @@ fn expect_path(rt: &impl Abort, alloc: Global, segment: &str, pointer: &str) -> 
     Ok(())
 }
 
-fn expect_location(
-    rt: &impl Abort,
-    alloc: Global,
-    segment: &str,
-    pointer: &str,
-) -> Result<(), Fail> {
-    let mut location = Location::new(alloc);
-    let mark = location.push(segment)?;
-    assert_eq!(rt; location.as_str(), pointer);
-    location.pop(mark);
-    assert_eq!(rt; location.as_str(), "");
-    Ok(())
-}
-
 fn expect_joined(rt: &impl Abort, alloc: Global, segment: &str, pointer: &str) -> Result<(), Fail> {
     let joined = Location::new(alloc).join(alloc, segment)?;
     assert_eq!(rt; joined.try_clone(alloc)?.as_str(), pointer);
@@ -56,7 +42,6 @@ fn paths_are_pointers(rt: HostRuntime) -> Result<(), Fail> {
     let alloc = rt.alloc();
     for (segment, pointer) in SEGMENTS {
         expect_path(&rt, alloc, segment, pointer)?;
-        expect_location(&rt, alloc, segment, pointer)?;
         expect_joined(&rt, alloc, segment, pointer)?;
     }
     Ok(())
