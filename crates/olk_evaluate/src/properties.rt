@@ -73,7 +73,8 @@ impl<'a, N: Evaluate<'a>> Evaluate<'a> for SmallPropertiesWithRequired2<N> {
     ghost use Rattle.olk_tree.specs.Shown.{properties_tree, missing_trees};
 
     ghost tree = { λ k u v Q. properties_tree (λ n. N.tree n u) v Q
-        k.location (named k.properties) (missing_trees (two_texts k.first k.second) v k.required_location Q) };
+        k.location (named k.properties)
+        (missing_trees (two_texts k.first k.second) v k.required_location Q) };
 
     #[tactic(auto, using(olk_check::proofs::Asked::only_same))]
     fn evaluate(
