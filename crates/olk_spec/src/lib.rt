@@ -1,7 +1,7 @@
 //! Definitions of what a schema means, and the laws that they keep.
 #![tactic(auto)]
 
-/// From so many declared names on `properties` looks names up by hash, and isn't fused with `required` of two names.
+/// From so many declared names on, `properties` is not fused with `required` of two names.
 pub const HASHMAP_THRESHOLD: usize = 15;
 
 pub mod laws;
