@@ -4,6 +4,7 @@ use Rattle.std.specs.List.{AllByRecursion, Contains}
 use Rattle.std.proofs.lemmas.List.Elements.{All-from_recursion, All-contains}
 use Rattle.serde_json.specs.Data.{Data, null, boolean, number, string, array, object, Items, no_items, item, Members, no_members, member}
 use Rattle.serde_json.specs.Written.{has_float, items_have_float, members_have_float}
+use Rattle.olk_spec.proofs.Walks.{neither}
 use Rattle.olk_spec.specs.Names.{Name, Path, ◌//◌, down, is_among, those, put_if}
 use Rattle.olk_spec.specs.World.{World}
 use Rattle.olk_spec.specs.Vocabulary.{Keyword, properties, pattern_properties, additional_properties, property_names, required, dependent_required, dependent_schemas, dependencies, property_dependencies, all_of, any_of, one_of, not_keyword, if_keyword, then_keyword, else_keyword, unsupported, leaf, unread, keyword_named}
@@ -31,10 +32,6 @@ Good d told = IsPlain d × ((P : Path) → Each PrintsNone (told P))
 
 abbrev GoodPlace : Sub Told × List Name → Type 0
 GoodPlace r = Good r.0.schema r.0.answer
-
-pub neither : (a b : Bool) → (a || b) ≡ false → (a ≡ false) × (b ≡ false)
-neither true b h = absurd (true≢false h)
-neither false b h = (refl, h)
 
 pub each_item : (ds : Items) → items_have_float ds ≡ false → EachItem IsPlain ds
 each_item no_items h = tt

@@ -21,7 +21,8 @@ use Rattle.olk_spec.proofs.Each.{Each, Each-append, Each-those, Each-any, Each-m
 use Rattle.olk_spec.proofs.Induction.{schema_read, GoodSub, GoodEntry, GoodPart, GoodKeywords, GoodSchema, sound_answer, branches_good, entries_at_good, wholes_at_good}
 use Rattle.olk_spec.proofs.Applied.{GoodAsked, applied_good}
 use Rattle.olk_answers.specs.Evaluated.{IsPromised}
-use Rattle.olk_answers.proofs.Fractions.{IsPlain, PrintsNone, neither, put_prints, each_item, each_member, by_recursion}
+use Rattle.olk_spec.proofs.Walks.{neither}
+use Rattle.olk_answers.proofs.Fractions.{IsPlain, PrintsNone, put_prints, each_item, each_member, by_recursion}
 
 abbrev ReportsNone : Meaning → Type 0
 ReportsNone m = (v : Data) → IsPlain v → (P Q : Path) → Each PrintsNone (m.report v P Q)

@@ -7,13 +7,14 @@ use Rattle.serde_json.specs.Data.{Data, string, item}
 use Rattle.serde_json.specs.View.{items_of}
 use Rattle.serde_json.specs.Written.{has_float, items_have_float}
 use Rattle.olk_spec.specs.Names.{Name, Path, is_empty}
-use Rattle.olk_spec.specs.Tree.{Tree, Described, annotations, errors}
+use Rattle.olk_spec.specs.Tree.{Tree, Described, is_valid, annotations, errors}
 use Rattle.olk_spec.specs.Answers as rows
 use Rattle.olk_spec.specs.Json.{items_from}
 use Rattle.olk_spec.specs.Texts.{prints_fraction}
 use Rattle.olk_reports.specs.Errors.{fault_of}
 use Rattle.olk_reports.specs.declared.error.ValidationError.{ValidationError}
-use Rattle.olk_answers.specs.Evaluated.{annotation_data, description_data, evaluation_data, tree_data}
+use Rattle.olk_answers.specs.Evaluated.{annotation_data, description_data, evaluation_data}
+use Rattle.olk_spec.specs.Answers.{tree_data}
 use Rattle.olk_answers.specs.Told.{Told, told, shown, told_cmp, error_data, errors_data, PrintNoFraction}
 use Rattle.olk_answers.specs.declared.errors.ToldError.{ToldError}
 
@@ -85,5 +86,5 @@ descriptions_same : (es : List (Path × Path × Described)) → items_of (map de
 descriptions_same [] = refl
 descriptions_same ((P, Q, (k, t, fraction)) ∷ es) = ap (item (rows.error_data (P, Q, (k, t, fraction)))) (descriptions_same es)
 
-pub tree_data_is : (t : Tree) → tree_data t ≡ rows.tree_data t
-tree_data_is t = rw (annotations_same (annotations t), descriptions_same (errors t)) refl
+pub evaluation_is_tree : (t : Tree) → evaluation_data (is_valid t) (annotations t) (errors t) ≡ tree_data t
+evaluation_is_tree t = rw (annotations_same (annotations t), descriptions_same (errors t)) refl

@@ -1,9 +1,9 @@
--- What is told of an evaluation: `tree_data` of the worked rows, as lists of annotations and errors.
+-- What is told of an evaluation, over lists of annotations and errors.
 use Rattle.std.specs.Prelude.{◌≡◌, Bool, false, List, codes, map}
 use Rattle.serde_json.specs.Data.{Data, boolean, string, array, object, no_members, member}
 use Rattle.serde_json.specs.View.{items_of}
 use Rattle.olk_spec.specs.Names.{Name, Path}
-use Rattle.olk_spec.specs.Tree.{Tree, Described, is_valid, annotations, errors}
+use Rattle.olk_spec.specs.Tree.{Described}
 
 -- schema path, instance path and names
 abbrev pub annotation_data : Path × Path × List Name → Data
@@ -15,10 +15,6 @@ description_data (P, Q, (k, t, fraction)) = object (member (codes "instancePath"
 
 abbrev pub evaluation_data : Bool → List (Path × Path × List Name) → List (Path × Path × Described) → Data
 evaluation_data valid ns es = object (member (codes "annotations") (array (items_of (map annotation_data ns))) (member (codes "errors") (array (items_of (map description_data es))) (member (codes "valid") (boolean valid) no_members)))
-
--- what a tree shows, parents first and children in order
-abbrev pub tree_data : Tree → Data
-tree_data t = evaluation_data (is_valid t) (annotations t) (errors t)
 
 -- the text of such an error is promised
 abbrev pub IsPromised : Path × Path × Described → Type 0

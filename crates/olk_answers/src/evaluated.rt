@@ -2,7 +2,8 @@ ghost use Rattle.std.specs.Prelude.{◌≡◌, IfOk, map};
 ghost use Rattle.serde_json.specs.Data.{string};
 ghost use Rattle.serde_json.specs.View.{view};
 ghost use Rattle.olk_reports.specs.Entries.{evaluated, error_of, annotation_of};
-ghost use Rattle.olk_answers.specs.Evaluated.{annotation_data, description_data, evaluation_data, tree_data};
+ghost use Rattle.olk_spec.specs.Answers.{tree_data};
+ghost use Rattle.olk_answers.specs.Evaluated.{annotation_data, description_data, evaluation_data};
 ghost use Rattle.olk_answers.specs.Texts.{json_text};
 
 use crate::texts::compact_text;
@@ -84,7 +85,10 @@ fn evaluation_value(
 
 /// The answer that tells an evaluation: its annotations and its errors, each in the order of the tree, and the verdict.
 ///
-/// The only error is want of memory.
+/// # Errors
+///
+/// Want of memory.
+#[tactic(auto, using(crate::proofs::ToldLemmas::evaluation_is_tree))]
 pub fn evaluation_text(alloc: Global, evaluation: &Evaluation<'_>) -> Result<Vec<u8>, AllocError>
     ensures { IfOk result (λ answer. answer.items ≡ json_text (tree_data (evaluated evaluation.now))) }
 {

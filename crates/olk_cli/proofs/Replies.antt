@@ -7,7 +7,8 @@ use Rattle.std.proofs.lemmas.List.Sorted.{IsPermutation-trans}
 use Rattle.olk_spec.specs.Names.{Text, Path, is_empty}
 use Rattle.olk_spec.specs.Tree.{Tree, Described, is_valid}
 use Rattle.olk_spec.proofs.Each.{Each}
-use Rattle.olk_answers.specs.Evaluated.{tree_data, IsPromised}
+use Rattle.olk_spec.specs.Answers.{tree_data}
+use Rattle.olk_answers.specs.Evaluated.{IsPromised}
 use Rattle.olk_spec.specs.Faults.{Fault, fault, IsLike, like, ◌∼◌}
 use Rattle.olk_spec.specs.Malformed.{malformations}
 use Rattle.olk_spec.specs.Meaning.{accepts, report, IsTree}
@@ -25,8 +26,8 @@ use Rattle.olk_answers.specs.Texts.{json_text}
 use Rattle.olk_answers.specs.Told.{told, errors_data, TellsFound, TellsSorted, PrintNoFraction}
 use Rattle.olk_answers.specs.Refusals.{fault_refusal}
 use Rattle.olk_cli.specs.Answers.{TellsFirst, TellsErrors, TellsEvaluation, IsReplyBy, IsReplyWhere, IsReply}
-use Rattle.olk_answers.proofs.ToldLemmas.{tree_data_is}
-use Rattle.olk_answers.proofs.Fractions.{IsPlain, PrintsNone, malformation_prints_no_fraction, neither, by_recursion}
+use Rattle.olk_spec.proofs.Walks.{neither}
+use Rattle.olk_answers.proofs.Fractions.{IsPlain, PrintsNone, malformation_prints_no_fraction, by_recursion}
 use Rattle.olk_answers.proofs.Plain.{same_faults_print_none, cut_fault_prints_none, tree_prints_none, errors_promised}
 
 -- where the schema is not malformed
@@ -98,5 +99,5 @@ module _ (r : Asked) (plain : has_fraction r ≡ false) where
       is_tree = subst (λ u. IsTree bench u r.schema r.instance [] [] t) is shows;
       verdict = valid ∙ ap (λ u. accepts bench u r.schema r.instance) is;
       promised = All-from_recursion IsPromised _ (promised_by_recursion _ (errors_promised _ (tree_prints_none bench r.unfinished r.schema r.instance schema_plain instance_plain [] [])));
-      is = tells ∙ ap json_text (tree_data_is t);
+      is = tells;
     }
