@@ -25,7 +25,8 @@ impl IsValid for RequiredValidator {
 // Whether there is a member at each name.
 #[tactic(auto, using(crate::proofs::Missing::lacking))]
 fn has_each(members: &Map<String, Value>, names: &Vec<String>) -> bool
-    ensures { result ≡ is_empty (missing (texts_of names.now.items) (object (members_view members.now.entries))) }
+    ensures { result ≡ is_empty
+        (missing (texts_of names.now.items) (object (members_view members.now.entries))) }
 {
     for name in names {
         if !has_member(members, name.as_str()) {
@@ -37,7 +38,8 @@ fn has_each(members: &Map<String, Value>, names: &Vec<String>) -> bool
 
 // Whether there is a member at both names.
 pub(crate) fn has_both(members: &Map<String, Value>, first: &str, second: &str) -> bool
-    ensures { result ≡ is_empty (missing (first.now ∷ second.now ∷ []) (object (members_view members.now.entries))) }
+    ensures { result ≡ is_empty
+        (missing (first.now ∷ second.now ∷ []) (object (members_view members.now.entries))) }
 {
     has_member(members, first) && has_member(members, second)
 }

@@ -12,7 +12,8 @@ pub(crate) fn all_accept<N: IsValid>(
     node: Node<'_>,
     ctx: &mut ValidationContext,
 ) -> bool
-    ensures { Asks ctx.old ctx.new (every (λ n. N.means n (data_of node.entry)) nodes.now.items) result }
+    ensures { Asks ctx.old ctx.new
+        (every (λ n. N.means n (data_of node.entry)) nodes.now.items) result }
 {
     for n in nodes {
         if !n.is_valid(node, ctx) {
@@ -29,7 +30,8 @@ pub(crate) fn any_accepts<N: IsValid>(
     node: Node<'_>,
     ctx: &mut ValidationContext,
 ) -> bool
-    ensures { Asks ctx.old ctx.new (some (λ n. N.means n (data_of node.entry)) nodes.now.items) result }
+    ensures { Asks ctx.old ctx.new
+        (some (λ n. N.means n (data_of node.entry)) nodes.now.items) result }
 {
     for n in nodes {
         if n.is_valid(node, ctx) {

@@ -50,8 +50,10 @@ impl<'a, N> Iterator for DeclaredMembers<'a, N> {
 impl<N> SmallMap<N> {
     /// The members whose names are declared, each with what stands at its name.
     pub fn declared_members<'a>(&'a self, members: &'a Map<String, Value>) -> DeclaredMembers<'a, N>
-        ensures by_members { left_of result ≡ members_declared (named self.now) (listed (members_view members.now.entries)) }
-        ensures by_names { left_of result ≡ names_met (named self.now) (listed (members_view members.now.entries)) }
+        ensures by_members { left_of result ≡ members_declared (named self.now)
+            (listed (members_view members.now.entries)) }
+        ensures by_names { left_of result ≡ names_met (named self.now)
+            (listed (members_view members.now.entries)) }
     {
         DeclaredMembers {
             properties: self,
@@ -70,7 +72,8 @@ fn next_member<'a, N>(
     left: &mut Iter<'a, String, Value>,
     hint: &mut usize,
 ) -> Option<(&'a str, &'a N, &'a Value)>
-    ensures { Yields result (members_declared (named properties.now) (listed (members_view left.old)))
+    ensures { Yields result
+        (members_declared (named properties.now) (listed (members_view left.old)))
         (members_declared (named properties.now) (listed (members_view left.new))) }
 {
     while let Some((name, value)) = left.next() {
@@ -89,7 +92,8 @@ fn next_name<'a, N>(
     members: &'a Map<String, Value>,
     names: &mut Zip<slice::Iter<'a, String>, slice::Iter<'a, N>>,
 ) -> Option<(&'a str, &'a N, &'a Value)>
-    ensures { Yields result (names_met (pairs_of names.old) (listed (members_view members.now.entries)))
+    ensures { Yields result
+        (names_met (pairs_of names.old) (listed (members_view members.now.entries)))
         (names_met (pairs_of names.new) (listed (members_view members.now.entries))) }
 {
     while let Some((name, node)) = names.next() {

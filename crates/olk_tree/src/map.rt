@@ -37,7 +37,8 @@ impl SortedNames {
     ///
     /// Want of memory.
     pub fn of(alloc: Global, object: &Map<String, Value>) -> Result<SortedNames, AllocError>
-        ensures { IfOk result (λ names. names ≡ map (λ m. m.0) (listed (members_view object.now.entries))) }
+        ensures { IfOk result (λ names. names ≡ map (λ m. m.0)
+            (listed (members_view object.now.entries))) }
     {
         let mut names = Vec::new(alloc);
         for (name, _) in object {

@@ -9,7 +9,8 @@ use serde_json::{Map, Value};
 
 /// The member at the name (RFC 8259, section 4).
 pub fn member<'v>(members: &'v Map<String, Value>, name: &str) -> Option<&'v Value>
-    ensures { option_map (λ v. view v.now) result ≡ lookup name.now (listed (members_view members.now.entries)) }
+    ensures { option_map (λ v. view v.now) result ≡ lookup name.now
+        (listed (members_view members.now.entries)) }
 {
     members.get(name)
 }
