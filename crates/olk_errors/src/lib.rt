@@ -31,9 +31,11 @@ pub trait Errors<'a>: IsValid + Reports {
         ctx: &mut ValidationContext,
     ) -> Result<(), ValidateError<'a>>
         ensures ok { OnOk result (Passes
-            (of_node Self.means Self.first Self.report ctx.old.answer self.now (data_of node.entry) path.old)) }
+            (of_node Self.means Self.first Self.report ctx.old.answer
+            self.now (data_of node.entry) path.old)) }
         ensures invalid { IfErr result (λ e. IfInvalid e (IsErrorOf
-            (of_node Self.means Self.first Self.report ctx.old.answer self.now (data_of node.entry) path.old))) }
+            (of_node Self.means Self.first Self.report ctx.old.answer
+            self.now (data_of node.entry) path.old))) }
         ensures path { path.new ≡ path.old }
         ensures context { OnlyAsks ctx.old ctx.new };
 
