@@ -5,6 +5,7 @@ mod numbers;
 mod validate;
 mod validator;
 
+pub use numbers::holds_whole_numbers;
 pub use olk_base::{
     CompiledPattern, JsonType, KeyHead, Leaf, MakeError, MakeLeaf, MakeRegex, Meter, Node,
     PatternOptimization, PropertyName, PropertyPattern, RegexEngine, Unfinished, ValidationContext,
@@ -25,7 +26,6 @@ pub use olk_reports::{
     ValidationErrorKind,
 };
 pub use olk_spec::HASHMAP_THRESHOLD;
-pub use numbers::holds_whole_numbers;
 pub use olk_tree::{Means, Reports, RequiredValidator, SortedNames};
 pub use validate::Validate;
 pub use validator::Validator;

@@ -164,7 +164,8 @@ fn nested_branches_are_refused(rt: HostRuntime) -> Result<(), Fail> {
 #[test]
 fn nested_branches_have_a_first_error(rt: HostRuntime) -> Result<(), Fail> {
     let alloc = rt.alloc();
-    let answer = r#"{"error":{"instancePath":"","message":"1 is not valid under any of the schemas listed in the 'anyOf' keyword","schemaPath":"/anyOf"},"valid":false}"#;
+    let answer =
+        r#"{"error":{"instancePath":"","message":"1 is not valid under any of the schemas listed in the 'anyOf' keyword","schemaPath":"/anyOf"},"valid":false}"#;
     for rest in [ONE_BRANCH, TWO_BRANCHES] {
         let line = nested_branches(alloc, "first", rest)?;
         expect_answer(&rt, alloc, line.as_str(), answer)?;
@@ -175,7 +176,8 @@ fn nested_branches_have_a_first_error(rt: HostRuntime) -> Result<(), Fail> {
 #[test]
 fn nested_branches_have_one_error(rt: HostRuntime) -> Result<(), Fail> {
     let alloc = rt.alloc();
-    let answer = r#"{"errors":[{"instancePath":"","message":"1 is not valid under any of the schemas listed in the 'anyOf' keyword","schemaPath":"/anyOf"}],"valid":false}"#;
+    let answer =
+        r#"{"errors":[{"instancePath":"","message":"1 is not valid under any of the schemas listed in the 'anyOf' keyword","schemaPath":"/anyOf"}],"valid":false}"#;
     for rest in [ONE_BRANCH, TWO_BRANCHES] {
         let line = nested_branches(alloc, "errors", rest)?;
         expect_answer(&rt, alloc, line.as_str(), answer)?;

@@ -1,5 +1,7 @@
 //! Branches in branches: what is asked before it is told costs no more than the square of the depth.
-use object_logic::{BuildError, Meter, ValidateError, ValidationContext, ValidationError, Validator};
+use object_logic::{
+    BuildError, Meter, ValidateError, ValidationContext, ValidationError, Validator,
+};
 use olk_bench::{BenchLeaf, BenchLeaves, BenchRegex, BenchRegexes};
 use serde_json::{Map, Value};
 use std::alloc::{AllocError, Global};
