@@ -2,7 +2,7 @@
 use Rattle.std.specs.Prelude.{Bool, List, map}
 use Rattle.std.specs.List.{flat_map}
 use Rattle.serde_json.specs.Data.{Data}
-use Rattle.olk_spec.specs.Names.{Name, Text, Path, ◌//◌, is_empty}
+use Rattle.olk_spec.specs.Names.{Name, Path, is_empty}
 use Rattle.olk_spec.specs.Faults.{Fault, Kind, fault, Leaf}
 use Rattle.olk_spec.specs.Accepts.{missing}
 use Rattle.olk_spec.specs.Reports.{required_faults, fault_if}

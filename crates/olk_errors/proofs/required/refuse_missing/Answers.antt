@@ -1,5 +1,4 @@
 use Rattle.std.proofs.Common.{[], ◌∷◌, subst}
-use Rattle.std.proofs.lemmas.Result.{on_ok_weaker}
 use Rattle.olk_base.specs.Nodes.{data_of}
 use Rattle.olk_tree.proofs.Lists.{next_at, past_end}
 use Rattle.olk_errors.specs.Found.{IfInvalid, Passes, IsErrorOf}

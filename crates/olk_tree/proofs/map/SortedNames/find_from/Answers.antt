@@ -1,5 +1,5 @@
-use Rattle.std.proofs.Common.{arith, sym, subst, map, string_bytes, Less, Equal, Greater}
-use Rattle.olk_tree.specs.Ascending.{StandsAt, IsAfter}
+use Rattle.std.proofs.Common.{arith, sym, subst, Less, Equal, Greater}
+use Rattle.olk_tree.specs.Ascending.{IsAfter}
 use Rattle.olk_tree.proofs.Places.{names_are, same_length, compared_at, behind_ascends, stands_in, parts_in, stands_some, parts_none, after_here}
 use Rattle.olk_tree.proofs.map.SortedNames.find_from.Goals as goal
 
