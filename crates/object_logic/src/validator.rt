@@ -53,7 +53,8 @@ impl<K: Leaf, R: RegexEngine> Validator<K, R> {
         schema: &'s Value,
         meter: &mut Meter,
     ) -> Result<Validator<K, R>, BuildError<'s>>
-        ensures stands { IfOk result (λ v. IsValidatorOf (kit K.Leaf R.RegexEngine) v (view schema.now)) }
+        ensures stands { IfOk result
+            (λ v. IsValidatorOf (kit K.Leaf R.RegexEngine) v (view schema.now)) }
         ensures clean { OnOk result
             (malformations (world K.Leaf R.RegexEngine) (view schema.now) ≡ []) }
         ensures refused { IfErr result (TellsOneOf
@@ -109,7 +110,8 @@ impl<K: Leaf, R: RegexEngine> Validator<K, R> {
     ) -> Result<(), ValidateError<'a>>
         ensures context { OnlyAsks ctx.old ctx.new }
         ensures ok { (S : Data) → IsValidatorOf (kit K.Leaf R.RegexEngine) self.now S
-            → OnOk result (accepts (world K.Leaf R.RegexEngine) ctx.old.answer S (view instance.now) ≡ true) }
+            → OnOk result
+            (accepts (world K.Leaf R.RegexEngine) ctx.old.answer S (view instance.now) ≡ true) }
         ensures invalid { (S : Data) → IsValidatorOf (kit K.Leaf R.RegexEngine) self.now S
             → IfErr result (λ e. IfInvalid e
             (IsRefusal (world K.Leaf R.RegexEngine) ctx.old.answer S (view instance.now) [] [])) }
@@ -172,10 +174,12 @@ impl<K: Leaf, R: RegexEngine> Validator<K, R> {
         ctx: &mut ValidationContext,
     ) -> Result<Evaluation<'a>, AllocError>
         ensures context { OnlyAsks ctx.old ctx.new }
-        ensures tree { IfOk result (λ e. (S : Data) → IsValidatorOf (kit K.Leaf R.RegexEngine) self.now S
+        ensures tree { IfOk result
+            (λ e. (S : Data) → IsValidatorOf (kit K.Leaf R.RegexEngine) self.now S
             → IsTree (world K.Leaf R.RegexEngine) ctx.old.answer
             S (view instance.now) [] [] (evaluated e)) }
-        ensures verdict { IfOk result (λ e. (S : Data) → IsValidatorOf (kit K.Leaf R.RegexEngine) self.now S
+        ensures verdict { IfOk result
+            (λ e. (S : Data) → IsValidatorOf (kit K.Leaf R.RegexEngine) self.now S
             → valid_tree (evaluated e)
             ≡ accepts (world K.Leaf R.RegexEngine) ctx.old.answer S (view instance.now)) }
     {

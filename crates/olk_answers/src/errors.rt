@@ -24,7 +24,8 @@ fn told_error<'e>(
     alloc: Global,
     error: &'e ValidationError<'_>,
 ) -> Result<ToldError<'e>, AllocError>
-    ensures { IfOk result (λ t. prints_fraction (fault_of error.now) ≡ false → shown t ≡ told (fault_of error.now)) }
+    ensures { IfOk result (λ t. prints_fraction (fault_of error.now) ≡ false
+        → shown t ≡ told (fault_of error.now)) }
 {
     let message = error.message(alloc)?;
     Ok(ToldError {
@@ -38,7 +39,8 @@ fn told_errors<'e>(
     alloc: Global,
     errors: &'e [ValidationError<'_>],
 ) -> Result<Vec<ToldError<'e>>, AllocError>
-    ensures { IfOk result (λ ts. PrintNoFraction (map fault_of errors.now) → map shown ts.items ≡ map told (map fault_of errors.now)) }
+    ensures { IfOk result (λ ts. PrintNoFraction (map fault_of errors.now)
+        → map shown ts.items ≡ map told (map fault_of errors.now)) }
 {
     let mut told = Vec::new(alloc);
     for error in errors {

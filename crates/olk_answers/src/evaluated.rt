@@ -23,7 +23,8 @@ fn description_value(alloc: Global, entry: &ErrorEntry<'_>) -> Result<Value, All
 }
 
 fn description_values(alloc: Global, entries: &[ErrorEntry<'_>]) -> Result<Vec<Value>, AllocError>
-    ensures { IfOk result (λ vs. map view vs.items ≡ map description_data (map error_of entries.now)) }
+    ensures { IfOk result (λ vs. map view vs.items
+        ≡ map description_data (map error_of entries.now)) }
 {
     let mut values = Vec::new(alloc);
     for entry in entries {
@@ -57,7 +58,8 @@ fn annotation_values(
     alloc: Global,
     entries: &[AnnotationEntry<'_>],
 ) -> Result<Vec<Value>, AllocError>
-    ensures { IfOk result (λ vs. map view vs.items ≡ map annotation_data (map annotation_of entries.now)) }
+    ensures { IfOk result (λ vs. map view vs.items
+        ≡ map annotation_data (map annotation_of entries.now)) }
 {
     let mut values = Vec::new(alloc);
     for entry in entries {
@@ -72,7 +74,8 @@ fn evaluation_value(
     annotations: &[AnnotationEntry<'_>],
     errors: &[ErrorEntry<'_>],
 ) -> Result<Value, AllocError>
-    ensures { IfOk result (λ v. view v ≡ evaluation_data valid (map annotation_of annotations.now) (map error_of errors.now)) }
+    ensures { IfOk result (λ v. view v
+        ≡ evaluation_data valid (map annotation_of annotations.now) (map error_of errors.now)) }
 {
     let annotations = annotation_values(alloc, annotations)?;
     let errors = description_values(alloc, errors)?;
@@ -90,7 +93,8 @@ fn evaluation_value(
 /// Want of memory.
 #[tactic(auto, using(crate::proofs::ToldLemmas::evaluation_is_tree))]
 pub fn evaluation_text(alloc: Global, evaluation: &Evaluation<'_>) -> Result<Vec<u8>, AllocError>
-    ensures { IfOk result (λ answer. answer.items ≡ json_text (tree_data (evaluated evaluation.now))) }
+    ensures { IfOk result (λ answer. answer.items
+        ≡ json_text (tree_data (evaluated evaluation.now))) }
 {
     let annotations = evaluation.iter_annotations(alloc)?;
     let errors = evaluation.iter_errors(alloc)?;

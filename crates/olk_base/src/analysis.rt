@@ -32,7 +32,8 @@ pub fn analyze_pattern(
     alloc: Global,
     pattern: &str,
 ) -> Result<Option<PatternOptimization>, AllocError>
-    ensures grammar { IfOk result (λ o. MatchOption o ((l : Literal) → ¬ IsPatternOf l (chars pattern.now))
+    ensures grammar { IfOk result
+        (λ o. MatchOption o ((l : Literal) → ¬ IsPatternOf l (chars pattern.now))
         (λ t. IsPatternOf (test_of t) (chars pattern.now))) }
     ensures value { IfOk result (λ o. option_map test_of o ≡ literal pattern.now) }
 {
@@ -113,7 +114,8 @@ fn scan_suffix(alloc: Global, pattern: &str) -> Result<Option<PatternOptimizatio
 
 // The bodies behind `^(`, with `|` between them and `)$` behind them.
 fn scan_alternation(alloc: Global, pattern: &str) -> Result<Option<Vec<String>>, AllocError>
-    ensures { IfOk result (λ o. option_map (λ v. is_one_of (map string_bytes v.items)) o ≡ alternation (bodies_of (chars pattern.now))) }
+    ensures { IfOk result (λ o. option_map (λ v. is_one_of (map string_bytes v.items)) o
+        ≡ alternation (bodies_of (chars pattern.now))) }
 {
     let mut texts = Vec::new(alloc);
     let mut rest = pattern;
@@ -141,7 +143,8 @@ fn scan_alternation(alloc: Global, pattern: &str) -> Result<Option<Vec<String>>,
 /// Items are those of [`analyze_pattern`]. Where the pattern does not begin with one, the text is
 /// empty and the whole pattern is left.
 pub fn scan_body<'a>(alloc: Global, pattern: &'a str) -> Result<(String, &'a str), AllocError>
-    ensures text { IfOk result (λ r. string_bytes r.0 ≡ encode_utf8_all (body_of (chars pattern.now)).0) }
+    ensures text { IfOk result
+        (λ r. string_bytes r.0 ≡ encode_utf8_all (body_of (chars pattern.now)).0) }
     ensures rest { IfOk result (λ r. chars r.1.now ≡ (body_of (chars pattern.now)).1) }
     ensures shorter { IfOk result (λ r. length r.1.now ≤ length pattern.now) }
 {
@@ -191,7 +194,8 @@ fn is_special(c: char) -> bool
 }
 
 fn strip_char(text: &str, c: char) -> Option<&str>
-    ensures cases { MatchOption result ((rest : List ℕ) → chars text.now ≢ c ∷ rest) (λ x. chars text.now ≡ c ∷ chars x.now) }
+    ensures cases { MatchOption result ((rest : List ℕ) → chars text.now ≢ c ∷ rest)
+        (λ x. chars text.now ≡ c ∷ chars x.now) }
     ensures shorter { IfSome result (λ x. length x.now < length text.now) }
 {
     let (first, rest) = split_char(text)?;
@@ -199,7 +203,8 @@ fn strip_char(text: &str, c: char) -> Option<&str>
 }
 
 fn split_char(text: &str) -> Option<(char, &str)>
-    ensures cases { MatchOption result (chars text.now ≡ []) (λ x. chars text.now ≡ x.0 ∷ chars x.1.now) }
+    ensures cases { MatchOption result (chars text.now ≡ [])
+        (λ x. chars text.now ≡ x.0 ∷ chars x.1.now) }
     ensures shorter { IfSome result (λ x. length x.1.now < length text.now) }
 {
     let mut chars = text.chars();

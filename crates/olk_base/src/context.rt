@@ -52,7 +52,8 @@ impl ValidationContext {
     /// is counted, and the context's own answer is given.
     pub fn is_match<R: RegexEngine>(&mut self, engine: &R, text: &str) -> bool
         ensures answer { result ≡ reads_as self.old.answer (R.answers engine.now text.now) }
-        ensures counts { self.new ≡ asked_of (R.costs engine.now) (R.answers engine.now text.now) self.old }
+        ensures counts { self.new
+            ≡ asked_of (R.costs engine.now) (R.answers engine.now text.now) self.old }
     {
         match engine.is_match(text, &mut self.meter) {
             Ok(found) => found,

@@ -28,7 +28,8 @@ pub enum Node<'a> {
 impl<'a> Node<'a> {
     /// The members, where the node is an object; a name is none.
     pub fn as_object(self) -> Option<&'a Map<String, Value>>
-        ensures { option_map (λ m. members_view m.now.entries) result ≡ as_object (data_of self.entry) }
+        ensures { option_map (λ m. members_view m.now.entries) result
+            ≡ as_object (data_of self.entry) }
     {
         match self {
             Node::Value(value) => value.as_object(),

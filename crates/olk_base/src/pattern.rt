@@ -74,7 +74,8 @@ pub trait PropertyPattern: RegexEngine {
     /// match is counted, and the context's answer is given.
     fn is_match_in(&self, text: &str, ctx: &mut ValidationContext) -> bool
         ensures answer { result ≡ reads_as ctx.old.answer (Self.answers self.now text.now) }
-        ensures counts { ctx.new ≡ asked_of (Self.costs self.now) (Self.answers self.now text.now) ctx.old };
+        ensures counts { ctx.new ≡ asked_of (Self.costs self.now)
+            (Self.answers self.now text.now) ctx.old };
 }
 
 impl<R: RegexEngine> PropertyPattern for CompiledPattern<R> {

@@ -74,7 +74,8 @@ pub trait MakeRegex {
         meter: &mut Meter,
     ) -> Result<Self::Engine, MakeError>
         ensures builds { IfOk result (λ e. Self.Engine.builds pattern.now ≡ true) }
-        ensures answers { IfOk result (λ e. (n : Name) → Self.Engine.answers e n ≡ Self.Engine.says pattern.now n) }
+        ensures answers { IfOk result
+            (λ e. (n : Name) → Self.Engine.answers e n ≡ Self.Engine.says pattern.now n) }
         ensures costs { IfOk result (λ e. Self.Engine.costs e ≡ true) }
         ensures refused { IfErr result (λ e. IsRefused e → Self.Engine.builds pattern.now ≡ false) }
         ensures counts { meter.new ≡ count_made meter.old };
@@ -122,12 +123,14 @@ pub trait Leaf: Drop {
         node: Node<'_>,
         texts: &mut Vec<String>,
     ) -> Result<(), AllocError>
-        ensures ok { OnOk result (texts_of texts.new.items ≡ texts_of texts.old.items ++ finds self.now (data_of node.entry)) }
+        ensures ok { OnOk result (texts_of texts.new.items
+            ≡ texts_of texts.old.items ++ finds self.now (data_of node.entry)) }
         ensures err { OnErr result (texts.new.items ≡ texts.old.items) };
 
     /// All texts, in any order. The only error is want of memory.
     fn evaluate(&self, alloc: Global, node: Node<'_>) -> Result<Vec<String>, AllocError>
-        ensures { IfOk result (λ v. IsPermutation (finds self.now (data_of node.entry)) (texts_of v.items)) };
+        ensures { IfOk result (λ v. IsPermutation (finds self.now (data_of node.entry))
+            (texts_of v.items)) };
 }
 
 /// Makes leaves from keywords and their values.
@@ -156,7 +159,10 @@ pub trait MakeLeaf {
     ) -> Result<Self::Leaf, MakeError>
         ensures fits { IfOk result (λ l. Self.Leaf.fits keyword.now (view value.now) ≡ true) }
         ensures keyword_of { IfOk result (λ l. Self.Leaf.keyword_of l ≡ keyword.now) }
-        ensures finds { IfOk result (λ l. (v : Data) → Self.Leaf.finds l v ≡ Self.Leaf.faults keyword.now (view value.now) v) }
-        ensures refused { IfErr result (λ e. IsRefused e → Self.Leaf.fits keyword.now (view value.now) ≡ false) }
+        ensures finds { IfOk result
+            (λ l. (v : Data) → Self.Leaf.finds l v
+            ≡ Self.Leaf.faults keyword.now (view value.now) v) }
+        ensures refused { IfErr result
+            (λ e. IsRefused e → Self.Leaf.fits keyword.now (view value.now) ≡ false) }
         ensures counts { meter.new ≡ count_leaf meter.old };
 }

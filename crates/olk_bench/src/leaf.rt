@@ -220,7 +220,8 @@ fn is_at_most(maximum: WholeNumber, node: Node<'_>) -> bool
 }
 
 fn is_multiple_of(divisor: Divisor, node: Node<'_>) -> bool
-    ensures { result ≡ is_empty (multiple_faults (number (unsigned divisor.value)) (data_of node.entry)) }
+    ensures { result ≡ is_empty
+        (multiple_faults (number (unsigned divisor.value)) (data_of node.entry)) }
 {
     match whole_number(node) {
         Some(n) => divisor.divides(n.magnitude()),
@@ -253,7 +254,8 @@ fn is_no_longer(most: u64, node: Node<'_>) -> bool
 }
 
 fn kind_text(alloc: Global, kind: ValueKind, node: Node<'_>) -> Result<String, AllocError>
-    ensures { IfOk result (λ s. string_bytes s ≡ leaf_text (BenchLeaf.Type kind) (data_of node.entry)) }
+    ensures { IfOk result (λ s. string_bytes s
+        ≡ leaf_text (BenchLeaf.Type kind) (data_of node.entry)) }
 {
     let mut text = shown_text(alloc, node)?;
     text.push_str(" is not of type ")?;
@@ -263,7 +265,8 @@ fn kind_text(alloc: Global, kind: ValueKind, node: Node<'_>) -> Result<String, A
 }
 
 fn constant_text(alloc: Global, constant: &Constant) -> Result<String, AllocError>
-    ensures { IfOk result (λ s. string_bytes s ≡ compact_text (constant_value constant.now) ++ codes " was expected") }
+    ensures { IfOk result (λ s. string_bytes s
+        ≡ compact_text (constant_value constant.now) ++ codes " was expected") }
 {
     let mut text = match constant {
         Constant::Number(number) => digits(alloc, *number)?,
@@ -279,7 +282,9 @@ fn length_text(
     middle: &str,
     length: u64,
 ) -> Result<String, AllocError>
-    ensures { IfOk result (λ s. string_bytes s ≡ shown (data_of node.entry) ++ middle.now ++ number_text (unsigned length) ++ codes " characters") }
+    ensures { IfOk result (λ s. string_bytes s
+        ≡ shown (data_of node.entry) ++ middle.now ++ number_text (unsigned length)
+        ++ codes " characters") }
 {
     let mut text = compared_text(alloc, node, middle, WholeNumber::Unsigned(length))?;
     text.push_str(" characters")?;

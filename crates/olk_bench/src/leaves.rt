@@ -108,7 +108,8 @@ fn type_leaf(value: &Value) -> Option<BenchLeaf>
 }
 
 fn kind_named(name: &str) -> Option<ValueKind>
-    ensures { MatchOption result (is_among name.now kind_names ≡ false) (λ k. (is_among name.now kind_names ≡ true) × (kind_name k ≡ name.now)) }
+    ensures { MatchOption result (is_among name.now kind_names ≡ false)
+        (λ k. (is_among name.now kind_names ≡ true) × (kind_name k ≡ name.now)) }
 {
     match name {
         "null" => Some(ValueKind::Null),

@@ -61,7 +61,8 @@ impl WholeNumber {
 
     // Appends the digits.
     pub(crate) fn write_to(self, text: &mut String) -> Result<(), AllocError>
-        ensures { OnOk result (string_bytes text.new ≡ string_bytes text.old ++ number_text (num_of self)) }
+        ensures { OnOk result (string_bytes text.new
+            ≡ string_bytes text.old ++ number_text (num_of self)) }
     {
         match self {
             WholeNumber::Unsigned(n) => write!(text, "{n}"),

@@ -121,14 +121,16 @@ fn read_pattern(alloc: Global, pattern: &str) -> Result<Option<BenchRegex>, Allo
 // What is left behind the prefix.
 fn strip_text<'a>(text: &'a str, prefix: &str) -> Option<&'a str>
     ensures { MatchOption result (starts_with nat_eq text.now prefix.now ≡ false)
-        (λ rest. (starts_with nat_eq text.now prefix.now ≡ true) × (rest.now ≡ drop (length prefix.now) text.now)) }
+        (λ rest. (starts_with nat_eq text.now prefix.now ≡ true)
+        × (rest.now ≡ drop (length prefix.now) text.now)) }
 {
     text.strip_prefix(prefix)
 }
 
 // A body behind `(slow)`.
 fn read_slow(alloc: Global, pattern: &str) -> Result<Option<BenchRegex>, AllocError>
-    ensures { IfOk result (λ o. option_map pattern_of o ≡ slow_pattern (body_of (chars pattern.now))) }
+    ensures { IfOk result (λ o. option_map pattern_of o
+        ≡ slow_pattern (body_of (chars pattern.now))) }
 {
     match read_body(alloc, pattern)? {
         Some((text, rest)) => if is_ascii_text(rest, "") {
@@ -142,7 +144,8 @@ fn read_slow(alloc: Global, pattern: &str) -> Result<Option<BenchRegex>, AllocEr
 
 // A body, with `$` behind it or not.
 fn read_text(alloc: Global, at_start: bool, pattern: &str) -> Result<Option<BenchRegex>, AllocError>
-    ensures { IfOk result (λ o. option_map pattern_of o ≡ text_pattern at_start (body_of (chars pattern.now))) }
+    ensures { IfOk result (λ o. option_map pattern_of o
+        ≡ text_pattern at_start (body_of (chars pattern.now))) }
 {
     match read_body(alloc, pattern)? {
         Some((text, rest)) => if is_ascii_text(rest, "") {
@@ -166,7 +169,8 @@ fn read_text(alloc: Global, at_start: bool, pattern: &str) -> Result<Option<Benc
 
 // The body at the start, and what is left behind it.
 fn read_body<'a>(alloc: Global, pattern: &'a str) -> Result<Option<(String, &'a str)>, AllocError>
-    ensures { IfOk result (λ o. MatchOption o (is_empty (body_of (chars pattern.now)).0 ≡ true) (λ r. IsBodyRead (body_of (chars pattern.now)) (string_bytes r.0) (chars r.1.now))) }
+    ensures { IfOk result (λ o. MatchOption o (is_empty (body_of (chars pattern.now)).0 ≡ true)
+        (λ r. IsBodyRead (body_of (chars pattern.now)) (string_bytes r.0) (chars r.1.now))) }
 {
     let (text, rest) = scan_body(alloc, pattern)?;
     if text.is_empty() {

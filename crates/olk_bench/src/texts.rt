@@ -85,7 +85,8 @@ pub(crate) fn compared_text(
     middle: &str,
     number: WholeNumber,
 ) -> Result<String, AllocError>
-    ensures { IfOk result (λ s. string_bytes s ≡ shown (data_of node.entry) ++ middle.now ++ number_text (num_of number)) }
+    ensures { IfOk result (λ s. string_bytes s
+        ≡ shown (data_of node.entry) ++ middle.now ++ number_text (num_of number)) }
 {
     let mut text = shown_text(alloc, node)?;
     text.push_str(middle)?;

@@ -50,7 +50,8 @@ pub enum Part {
 /// Appends to the line what the reader shows of it, and takes that and its line feed from the reader.
 fn take_part<I: BufRead>(reader: &mut I, line: &mut Vec<u8>) -> Result<Part, Stop>
     ensures taken { IfOk result (λ part. IfSome (I.remaining reader.old) (λ xs. (ys : List ℕ)
-        × (I.remaining reader.new ≡ Some ys) × TakesPart part line.old.items line.new.items xs ys)) }
+        × (I.remaining reader.new ≡ Some ys)
+        × TakesPart part line.old.items line.new.items xs ys)) }
     ensures plain { OnOk result (HasNoFeed line.old.items → HasNoFeed line.new.items) }
     ensures grows { result ≡ Ok Part.More → vec_len line.old < vec_len line.new }
 {

@@ -85,7 +85,8 @@ pub fn read_request(value: &Value) -> Option<Request<'_>>
 impl Request<'_> {
     /// Whether the numbers of the schema and of the instance are whole numbers of 64 bits.
     pub fn holds_whole_numbers(&self) -> bool
-        ensures { result ≡ not (has_float (seen self.now).schema || has_float (seen self.now).instance) }
+        ensures { result
+            ≡ not (has_float (seen self.now).schema || has_float (seen self.now).instance) }
     {
         holds_whole_numbers(self.schema) && holds_whole_numbers(self.instance)
     }

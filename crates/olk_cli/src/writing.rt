@@ -9,7 +9,8 @@ use std::io::Write;
 /// Writes all of the bytes, or fails with a beginning of them written.
 pub fn write_whole<O: Write>(writer: &mut O, bytes: &[u8]) -> Result<(), Stop>
     ensures ok { OnOk result (Appends (O.contents writer.old) (O.contents writer.new) bytes.now) }
-    ensures err { OnErr result (AppendsFront (O.contents writer.old) (O.contents writer.new) bytes.now) }
+    ensures err { OnErr result
+        (AppendsFront (O.contents writer.old) (O.contents writer.new) bytes.now) }
     ensures failed { IfErr result (λ stop. stop ≡ Stop.Failed) }
 {
     let mut written = 0;

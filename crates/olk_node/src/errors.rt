@@ -72,7 +72,8 @@ pub fn validate_for<'a, K: Leaf, R: RegexEngine>(
         → accepts (world K.Leaf R.RegexEngine) ctx.old.answer S (data_of node.entry) ≡ true) }
     ensures invalid { IfErr result (λ e. IfInvalid e (λ f. (S : Data) (P : Path)
         → StandsFor (kit K.Leaf R.RegexEngine) place.now S P
-        → IsRefusal (world K.Leaf R.RegexEngine) ctx.old.answer S (data_of node.entry) P path.old f)) }
+        → IsRefusal (world K.Leaf R.RegexEngine) ctx.old.answer S (data_of node.entry)
+        P path.old f)) }
     ensures path { path.new ≡ path.old }
     ensures context { OnlyAsks ctx.old ctx.new }
 {

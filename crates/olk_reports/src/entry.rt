@@ -75,7 +75,8 @@ impl<'a> Evaluation<'a> {
     ///
     /// Without memory there is no list.
     pub fn iter_annotations(&self, alloc: Global) -> Result<Vec<AnnotationEntry<'_>>, AllocError>
-        ensures { IfOk result (λ es. map annotation_of es.items ≡ annotations (evaluated self.now)) }
+        ensures { IfOk result (λ es. map annotation_of es.items
+            ≡ annotations (evaluated self.now)) }
     {
         let mut entries = Vec::new(alloc);
         push_annotations(&self.root, &mut entries)?;
@@ -87,7 +88,8 @@ fn push_own_errors<'b, 'a>(
     node: &'b EvaluationNode<'a>,
     entries: &mut Vec<ErrorEntry<'b>>,
 ) -> Result<(), AllocError>
-    ensures { OnOk result (map error_of entries.new.items ≡ map error_of entries.old.items ++ own_errors (tree_of node.now)) }
+    ensures { OnOk result (map error_of entries.new.items
+        ≡ map error_of entries.old.items ++ own_errors (tree_of node.now)) }
 {
     for error in node.errors() {
         entries.push(ErrorEntry {
@@ -103,7 +105,8 @@ fn push_errors<'b, 'a>(
     node: &'b EvaluationNode<'a>,
     entries: &mut Vec<ErrorEntry<'b>>,
 ) -> Result<(), AllocError>
-    ensures { OnOk result (map error_of entries.new.items ≡ map error_of entries.old.items ++ errors (tree_of node.now)) }
+    ensures { OnOk result (map error_of entries.new.items
+        ≡ map error_of entries.old.items ++ errors (tree_of node.now)) }
 {
     push_own_errors(node, entries)?;
     for child in &node.result.children {
@@ -116,7 +119,8 @@ fn push_own_annotation<'b, 'a>(
     node: &'b EvaluationNode<'a>,
     entries: &mut Vec<AnnotationEntry<'b>>,
 ) -> Result<(), AllocError>
-    ensures { OnOk result (map annotation_of entries.new.items ≡ map annotation_of entries.old.items ++ own_annotations (tree_of node.now)) }
+    ensures { OnOk result (map annotation_of entries.new.items
+        ≡ map annotation_of entries.old.items ++ own_annotations (tree_of node.now)) }
 {
     if let Some(annotations) = node.annotation() {
         entries.push(AnnotationEntry {
@@ -132,7 +136,8 @@ fn push_annotations<'b, 'a>(
     node: &'b EvaluationNode<'a>,
     entries: &mut Vec<AnnotationEntry<'b>>,
 ) -> Result<(), AllocError>
-    ensures { OnOk result (map annotation_of entries.new.items ≡ map annotation_of entries.old.items ++ annotations (tree_of node.now)) }
+    ensures { OnOk result (map annotation_of entries.new.items
+        ≡ map annotation_of entries.old.items ++ annotations (tree_of node.now)) }
 {
     push_own_annotation(node, entries)?;
     for child in &node.result.children {

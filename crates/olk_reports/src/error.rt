@@ -138,7 +138,9 @@ impl<'a> ValidationError<'a> {
         instance_path: String,
         schema_path: &'a str,
     ) -> Self
-        ensures { fault_of result ≡ fault (kind_of kind.entry) (data_of instance.entry) (string_bytes instance_path) schema_path.now }
+        ensures { fault_of result
+            ≡ fault (kind_of kind.entry) (data_of instance.entry)
+            (string_bytes instance_path) schema_path.now }
     {
         let schema_path = SchemaPath::Borrowed(schema_path);
         ValidationError {
@@ -156,7 +158,9 @@ impl<'a> ValidationError<'a> {
         instance_path: String,
         schema_path: Location,
     ) -> Self
-        ensures { fault_of result ≡ fault (kind_of kind.entry) (data_of instance.entry) (string_bytes instance_path) schema_path }
+        ensures { fault_of result
+            ≡ fault (kind_of kind.entry) (data_of instance.entry)
+            (string_bytes instance_path) schema_path }
     {
         let schema_path = SchemaPath::Owned(schema_path);
         ValidationError {
@@ -174,7 +178,9 @@ impl<'a> ValidationError<'a> {
         instance: Node<'a>,
         instance_path: String,
     ) -> Self
-        ensures { fault_of result ≡ wrapped (data_of instance.entry) (string_bytes instance_path) (fault_of error.entry.value) }
+        ensures { fault_of result
+            ≡ wrapped (data_of instance.entry) (string_bytes instance_path)
+            (fault_of error.entry.value) }
     {
         ValidationError {
             kind: ValidationErrorKind::PropertyNames { error },
@@ -224,7 +230,8 @@ impl<'a> ValidationError<'a> {
     /// Without memory there is none. Of a number that is not a whole number of 64 bits no text is promised.
     #[tactic(auto, using(crate::proofs::Errors::kinds))]
     pub fn message(&self, alloc: Global) -> Result<String, AllocError>
-        ensures { IfOk result (λ s. prints_fraction (fault_of self.now) ≡ false → string_bytes s ≡ text (fault_of self.now)) }
+        ensures { IfOk result (λ s. prints_fraction (fault_of self.now) ≡ false
+            → string_bytes s ≡ text (fault_of self.now)) }
     {
         match &self.kind {
             ValidationErrorKind::AdditionalProperties { unexpected } => Ok(names_text(

@@ -73,7 +73,9 @@ impl<'a> EvaluationResult<'a> {
 
     /// Valid exactly if all children are.
     pub fn from_children(alloc: Global, children: Vec<EvaluationNode<'a>>) -> Self
-        ensures { shown_of result ≡ shown (list_all is_valid (map tree_of children.entry.items)) None [] (map tree_of children.entry.items) }
+        ensures { shown_of result
+            ≡ shown (list_all is_valid (map tree_of children.entry.items)) None []
+            (map tree_of children.entry.items) }
     {
         let valid = all_valid(children.as_slice());
         EvaluationResult {
@@ -100,7 +102,8 @@ impl<'a> EvaluationResult<'a> {
     ///
     /// Without memory there is none.
     pub fn from_node(alloc: Global, node: EvaluationNode<'a>) -> Result<Self, AllocError>
-        ensures { IfOk result (λ r. shown_of r ≡ shown (is_valid (tree_of node.entry)) None [] (tree_of node.entry ∷ [])) }
+        ensures { IfOk result (λ r. shown_of r
+            ≡ shown (is_valid (tree_of node.entry)) None [] (tree_of node.entry ∷ [])) }
     {
         let mut children = Vec::new(alloc);
         children.push(node)?;
@@ -109,7 +112,8 @@ impl<'a> EvaluationResult<'a> {
 
     /// Takes these names as the annotation, which only a valid node shows (JSON Schema 2020-12 Core, 7.7).
     pub fn annotate(&mut self, names: Vec<&'a str>)
-        ensures { shown_of self.new ≡ annotated (map (λ n. n.now) names.entry.items) (shown_of self.old) }
+        ensures { shown_of self.new
+            ≡ annotated (map (λ n. n.now) names.entry.items) (shown_of self.old) }
     {
         self.annotation = Some(names);
     }
@@ -118,7 +122,8 @@ impl<'a> EvaluationResult<'a> {
     ///
     /// Without memory the result is left as it was.
     pub fn mark_errored(&mut self, error: ErrorDescription<'a>) -> Result<(), AllocError>
-        ensures ok { OnOk result (shown_of self.new ≡ errored (described_of error.entry) (shown_of self.old)) }
+        ensures ok { OnOk result (shown_of self.new
+            ≡ errored (described_of error.entry) (shown_of self.old)) }
         ensures refused { OnErr result (shown_of self.new ≡ shown_of self.old) }
     {
         self.errors.push(error)?;
@@ -132,7 +137,8 @@ impl<'a> EvaluationNode<'a> {
 
     /// The result at these places.
     pub fn new(schema_path: &'a str, instance_path: String, outcome: EvaluationResult<'a>) -> Self
-        ensures { tree_of result ≡ node_at schema_path.now (string_bytes instance_path) (shown_of outcome.entry) }
+        ensures { tree_of result ≡ node_at schema_path.now (string_bytes instance_path)
+            (shown_of outcome.entry) }
     {
         EvaluationNode {
             schema_path,
@@ -164,7 +170,8 @@ impl<'a> EvaluationNode<'a> {
 
     /// The names that it annotates; none where it is invalid.
     pub fn annotation(&self) -> Option<&[&'a str]>
-        ensures { option_map (λ ns. map (λ n. n.now) ns.now) result ≡ tree_annotation (tree_of self.now) }
+        ensures { option_map (λ ns. map (λ n. n.now) ns.now) result
+            ≡ tree_annotation (tree_of self.now) }
     {
         if self.valid() {
             self.result.annotation.as_deref()

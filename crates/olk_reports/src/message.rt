@@ -11,7 +11,8 @@ use serde_json::Value;
 use std::alloc::{AllocError, Global};
 
 fn node_text(alloc: Global, node: Node<'_>) -> Result<String, AllocError>
-    ensures { IfOk result (λ s. has_float (data_of node.entry) ≡ false → string_bytes s ≡ compact_text (data_of node.entry)) }
+    ensures { IfOk result (λ s. has_float (data_of node.entry) ≡ false
+        → string_bytes s ≡ compact_text (data_of node.entry)) }
 {
     match node {
         Node::Value(value) => value.to_string(alloc),
@@ -24,7 +25,8 @@ fn node_text(alloc: Global, node: Node<'_>) -> Result<String, AllocError>
 
 // The node, and then the text.
 pub(crate) fn starting_text(alloc: Global, node: Node<'_>, rest: &str) -> Result<String, AllocError>
-    ensures { IfOk result (λ s. has_float (data_of node.entry) ≡ false → string_bytes s ≡ compact_text (data_of node.entry) ++ rest.now) }
+    ensures { IfOk result (λ s. has_float (data_of node.entry) ≡ false
+        → string_bytes s ≡ compact_text (data_of node.entry) ++ rest.now) }
 {
     let mut text = node_text(alloc, node)?;
     text.push_str(rest)?;
@@ -33,7 +35,8 @@ pub(crate) fn starting_text(alloc: Global, node: Node<'_>, rest: &str) -> Result
 
 // The text, and then the node.
 pub(crate) fn ending_text(alloc: Global, start: &str, node: Node<'_>) -> Result<String, AllocError>
-    ensures { IfOk result (λ s. has_float (data_of node.entry) ≡ false → string_bytes s ≡ start.now ++ compact_text (data_of node.entry)) }
+    ensures { IfOk result (λ s. has_float (data_of node.entry) ≡ false
+        → string_bytes s ≡ start.now ++ compact_text (data_of node.entry)) }
 {
     let mut text = String::from_str(alloc, start)?;
     let value = node_text(alloc, node)?;
@@ -48,8 +51,10 @@ pub(crate) fn joined_text(
     middle: &str,
     last: Node<'_>,
 ) -> Result<String, AllocError>
-    ensures { IfOk result (λ s. has_float (data_of first.entry) ≡ false → has_float (data_of last.entry) ≡ false
-        → string_bytes s ≡ compact_text (data_of first.entry) ++ middle.now ++ compact_text (data_of last.entry)) }
+    ensures { IfOk result (λ s. has_float (data_of first.entry) ≡ false
+        → has_float (data_of last.entry) ≡ false
+        → string_bytes s ≡ compact_text (data_of first.entry) ++ middle.now
+        ++ compact_text (data_of last.entry)) }
 {
     let mut text = starting_text(alloc, first, middle)?;
     let value = node_text(alloc, last)?;
@@ -85,7 +90,8 @@ pub(crate) fn type_error_text(
     expected: JsonType,
 ) -> Result<String, AllocError>
     ensures { IfOk result (λ s. has_float (data_of node.entry) ≡ false
-        → string_bytes s ≡ compact_text (data_of node.entry) ++ codes " is not of type \"" ++ type_text (type_name_of expected) ++ codes "\"") }
+        → string_bytes s ≡ compact_text (data_of node.entry) ++ codes " is not of type \""
+        ++ type_text (type_name_of expected) ++ codes "\"") }
 {
     let mut text = starting_text(alloc, node, " is not of type \"")?;
     text.push_str(type_name(expected))?;

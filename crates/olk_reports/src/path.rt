@@ -117,7 +117,9 @@ impl Location {
 }
 
 fn push_char(text: &mut String, c: char) -> Result<(), AllocError>
-    ensures { string_bytes text.new ≡ (if is_ok result then string_bytes text.old ++ escaped_char c else string_bytes text.old) }
+    ensures { string_bytes text.new
+        ≡ (if is_ok result then string_bytes text.old ++ escaped_char c
+        else string_bytes text.old) }
 {
     match c {
         '~' => text.push_str("~0"),
@@ -127,8 +129,10 @@ fn push_char(text: &mut String, c: char) -> Result<(), AllocError>
 }
 
 fn push_escaped(text: &mut String, segment: &str) -> Result<(), AllocError>
-    ensures ok { OnOk result (string_bytes text.new ≡ string_bytes text.old ++ flat_map escaped segment.now) }
-    ensures err { OnErr result ((rest : List ℕ) × (string_bytes text.new ≡ string_bytes text.old ++ rest)) }
+    ensures ok { OnOk result (string_bytes text.new
+        ≡ string_bytes text.old ++ flat_map escaped segment.now) }
+    ensures err { OnErr result
+        ((rest : List ℕ) × (string_bytes text.new ≡ string_bytes text.old ++ rest)) }
 {
     for c in segment.chars() {
         push_char(text, c)?;
@@ -138,8 +142,11 @@ fn push_escaped(text: &mut String, segment: &str) -> Result<(), AllocError>
 
 // Where memory fails, what was there stays, with nothing or a slash and more behind it.
 fn push_segment(text: &mut String, segment: &str) -> Result<(), AllocError>
-    ensures ok { OnOk result (string_bytes text.new ≡ one_below (string_bytes text.old) segment.now) }
-    ensures err { OnErr result ((rest : List ℕ) × (string_bytes text.new ≡ string_bytes text.old ++ rest) × IsEmptyOrSlash rest) }
+    ensures ok { OnOk result (string_bytes text.new
+        ≡ one_below (string_bytes text.old) segment.now) }
+    ensures err { OnErr result
+        ((rest : List ℕ) × (string_bytes text.new ≡ string_bytes text.old ++ rest)
+        × IsEmptyOrSlash rest) }
 {
     text.push_str("/")?;
     push_escaped(text, segment)?;
@@ -149,7 +156,8 @@ fn push_segment(text: &mut String, segment: &str) -> Result<(), AllocError>
 // One segment further down; without memory the text is left as it was.
 #[tactic(auto, using(crate::proofs::Paths::pushed_paths))]
 fn descend(text: &mut String, segment: &str) -> Result<Mark, AllocError>
-    ensures path { OnOk result (string_bytes text.new ≡ one_below (string_bytes text.old) segment.now) }
+    ensures path { OnOk result
+        (string_bytes text.new ≡ one_below (string_bytes text.old) segment.now) }
     ensures mark { IfOk result (λ m. m.len ≡ length (string_bytes text.old)) }
     ensures last_slash { IfOk result (λ m. HasLastSlash (string_bytes text.new) m.len) }
     ensures back { IfOk result (λ m. take m.len (string_bytes text.new) ≡ string_bytes text.old) }

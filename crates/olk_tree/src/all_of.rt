@@ -24,7 +24,8 @@ impl<N: Reports> Reports for AllOf<N> {
 
     ghost first = { λ k u v Q. first_of (λ n. N.first n u v Q) k.schemas.items };
 
-    ghost agrees = { λ k u v Q. each_agrees (λ n. N.report n u v Q) (λ n. N.means n v) u (λ n. N.agrees n u v Q) k.schemas.items };
+    ghost agrees = { λ k u v Q. each_agrees (λ n. N.report n u v Q) (λ n. N.means n v) u
+        (λ n. N.agrees n u v Q) k.schemas.items };
 }
 
 /// `allOf` of one branch.

@@ -22,11 +22,14 @@ impl<N: Reports> Reports for AnyOf<N> {
     ghost use Rattle.olk_tree.specs.Answers.{unless};
     ghost use Rattle.olk_tree.specs.Agreement.{unless_agrees};
 
-    ghost report = { λ k u v Q. unless ((some (λ n. N.means n v) k.schemas.items).accepts u) (any_of (context (map (λ n. N.report n u v Q) k.schemas.items))) v k.location Q };
+    ghost report = { λ k u v Q. unless ((some (λ n. N.means n v) k.schemas.items).accepts u)
+        (any_of (context (map (λ n. N.report n u v Q) k.schemas.items))) v k.location Q };
 
-    ghost first = { λ k u v Q. unless ((some (λ n. N.means n v) k.schemas.items).accepts u) (any_of (context (map (λ n. N.report n u v Q) k.schemas.items))) v k.location Q };
+    ghost first = { λ k u v Q. unless ((some (λ n. N.means n v) k.schemas.items).accepts u)
+        (any_of (context (map (λ n. N.report n u v Q) k.schemas.items))) v k.location Q };
 
-    ghost agrees = { λ k u v Q. unless_agrees ((some (λ n. N.means n v) k.schemas.items).accepts u) (any_of (context (map (λ n. N.report n u v Q) k.schemas.items))) v k.location Q };
+    ghost agrees = { λ k u v Q. unless_agrees ((some (λ n. N.means n v) k.schemas.items).accepts u)
+        (any_of (context (map (λ n. N.report n u v Q) k.schemas.items))) v k.location Q };
 }
 
 /// `anyOf` of one branch.
@@ -46,9 +49,12 @@ impl<N: Reports> Reports for SingleAnyOf<N> {
     ghost use Rattle.olk_tree.specs.Answers.{unless};
     ghost use Rattle.olk_tree.specs.Agreement.{unless_agrees};
 
-    ghost report = { λ k u v Q. unless ((N.means k.node v).accepts u) (any_of (context (N.report k.node u v Q ∷ []))) v k.location Q };
+    ghost report = { λ k u v Q. unless ((N.means k.node v).accepts u)
+        (any_of (context (N.report k.node u v Q ∷ []))) v k.location Q };
 
-    ghost first = { λ k u v Q. unless ((N.means k.node v).accepts u) (any_of (context (N.report k.node u v Q ∷ []))) v k.location Q };
+    ghost first = { λ k u v Q. unless ((N.means k.node v).accepts u)
+        (any_of (context (N.report k.node u v Q ∷ []))) v k.location Q };
 
-    ghost agrees = { λ k u v Q. unless_agrees ((N.means k.node v).accepts u) (any_of (context (N.report k.node u v Q ∷ []))) v k.location Q };
+    ghost agrees = { λ k u v Q. unless_agrees ((N.means k.node v).accepts u)
+        (any_of (context (N.report k.node u v Q ∷ []))) v k.location Q };
 }

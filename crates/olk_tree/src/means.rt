@@ -22,5 +22,6 @@ pub trait Reports: Means {
 
     ghost first: { Self → Bool → Data → Path → List Fault };
 
-    ghost agrees: { (x : Self) (u : Bool) (v : Data) (Q : Path) → is_empty (report x u v Q) ≡ (Self.means x v).accepts u };
+    ghost agrees: { (x : Self) (u : Bool) (v : Data) (Q : Path)
+        → is_empty (report x u v Q) ≡ (Self.means x v).accepts u };
 }

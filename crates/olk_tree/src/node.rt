@@ -36,7 +36,8 @@ impl<K: Leaf, N: Reports> Reports for KeywordOver<K, N> {
 
     ghost first = { λ k u. validator_first K.finds N.means K.keyword_of N.report u N.first k };
 
-    ghost agrees = { λ k u v Q. validator_agrees K.finds N.means K.keyword_of N.report u (λ n w R. N.agrees n u w R) k v Q };
+    ghost agrees = { λ k u v Q. validator_agrees K.finds N.means K.keyword_of N.report u
+        (λ n w R. N.agrees n u w R) k v Q };
 }
 
 /// What stands at a place: true, false, or keywords.

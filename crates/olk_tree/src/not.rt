@@ -23,9 +23,12 @@ impl<N: Means> Reports for Not<N> {
     ghost use Rattle.olk_spec.specs.Reports.{fault_if};
     ghost use Rattle.olk_tree.specs.Agreement.{fault_if_agrees};
 
-    ghost report = { λ k u v Q. fault_if ((N.means k.node v).accepts u) (not_allowed (view k.original)) v k.location Q };
+    ghost report = { λ k u v Q. fault_if ((N.means k.node v).accepts u)
+        (not_allowed (view k.original)) v k.location Q };
 
-    ghost first = { λ k u v Q. fault_if ((N.means k.node v).accepts u) (not_allowed (view k.original)) v k.location Q };
+    ghost first = { λ k u v Q. fault_if ((N.means k.node v).accepts u)
+        (not_allowed (view k.original)) v k.location Q };
 
-    ghost agrees = { λ k u v Q. fault_if_agrees ((N.means k.node v).accepts u) (not_allowed (view k.original)) v k.location Q };
+    ghost agrees = { λ k u v Q. fault_if_agrees ((N.means k.node v).accepts u)
+        (not_allowed (view k.original)) v k.location Q };
 }

@@ -25,7 +25,8 @@ impl<N: Reports> Reports for SmallProperties<N> {
 
     ghost first = { λ k u v Q. properties_first N.first u (named k.properties) v Q };
 
-    ghost agrees = { λ k u v Q. properties_agree N.means N.report u (λ n w R. N.agrees n u w R) (named k.properties) v Q };
+    ghost agrees = { λ k u v Q. properties_agree N.means N.report u (λ n w R. N.agrees n u w R)
+        (named k.properties) v Q };
 }
 
 /// `properties` together with `required` of two different names: both are to be members, where the value is an object
@@ -45,7 +46,8 @@ impl<N: Means> Means for SmallPropertiesWithRequired2<N> {
     ghost use Rattle.olk_tree.specs.Questions.{always, both};
     ghost use Rattle.olk_tree.specs.Answers.{named, properties_mean, two_texts};
 
-    ghost means = { λ k v. both (always (is_empty (missing (two_texts k.first k.second) v))) (properties_mean N.means (named k.properties) v) };
+    ghost means = { λ k v. both (always (is_empty (missing (two_texts k.first k.second) v)))
+        (properties_mean N.means (named k.properties) v) };
 }
 
 impl<N: Reports> Reports for SmallPropertiesWithRequired2<N> {
@@ -54,9 +56,16 @@ impl<N: Reports> Reports for SmallPropertiesWithRequired2<N> {
     ghost use Rattle.olk_tree.specs.Answers.{named, two_texts, or_else, head_of, properties_report, properties_first};
     ghost use Rattle.olk_tree.specs.Agreement.{properties_agree, required_agrees, both_agree};
 
-    ghost report = { λ k u v Q. required_faults (two_texts k.first k.second) v k.required_location Q ++ properties_report N.report u (named k.properties) v Q };
+    ghost report = { λ k u v Q. required_faults (two_texts k.first k.second) v k.required_location Q
+        ++ properties_report N.report u (named k.properties) v Q };
 
-    ghost first = { λ k u v Q. or_else (head_of (required_faults (two_texts k.first k.second) v k.required_location Q)) (properties_first N.first u (named k.properties) v Q) };
+    ghost first = { λ k u v Q. or_else
+        (head_of (required_faults (two_texts k.first k.second) v k.required_location Q))
+        (properties_first N.first u (named k.properties) v Q) };
 
-    ghost agrees = { λ k u v Q. both_agree (required_faults (two_texts k.first k.second) v k.required_location Q) (properties_report N.report u (named k.properties) v Q) (required_agrees (two_texts k.first k.second) v k.required_location Q) (properties_agree N.means N.report u (λ n w R. N.agrees n u w R) (named k.properties) v Q) };
+    ghost agrees = { λ k u v Q. both_agree
+        (required_faults (two_texts k.first k.second) v k.required_location Q)
+        (properties_report N.report u (named k.properties) v Q)
+        (required_agrees (two_texts k.first k.second) v k.required_location Q)
+        (properties_agree N.means N.report u (λ n w R. N.agrees n u w R) (named k.properties) v Q) };
 }

@@ -25,7 +25,8 @@ impl Reports for RequiredValidator {
 
     ghost report = { λ k u v Q. required_faults (texts_of k.required.items) v k.location Q };
 
-    ghost first = { λ k u v Q. head_of (required_faults (texts_of k.required.items) v k.location Q) };
+    ghost first = { λ k u v Q. head_of
+        (required_faults (texts_of k.required.items) v k.location Q) };
 
     ghost agrees = { λ k u v Q. required_agrees (texts_of k.required.items) v k.location Q };
 }
