@@ -193,8 +193,7 @@ fn texts_of_building(rt: HostRuntime) -> Result<(), Fail> {
 #[test]
 fn text_of_a_pattern_that_is_refused(rt: HostRuntime) -> Result<(), Fail> {
     let alloc = rt.alloc();
-    let mut place = Location::new(alloc);
-    let _properties = place.push("patternProperties")?;
+    let place = Location::new(alloc).join(alloc, "patternProperties")?;
     let at_pattern = place.join(alloc, "a/b~(")?;
     let error = ValidationError::refusing(
         ValidationErrorKind::Regex,
