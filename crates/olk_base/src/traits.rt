@@ -77,7 +77,8 @@ pub trait MakeRegex {
         ensures answers { IfOk result
             (λ e. (n : Name) → Self.Engine.answers e n ≡ Self.Engine.says pattern.now n) }
         ensures costs { IfOk result (λ e. Self.Engine.costs e ≡ true) }
-        ensures refused { IfErr result (λ e. IsRefused e → Self.Engine.builds pattern.now ≡ false) }
+        ensures refused { IfErr result
+            (λ e. IsRefused e → Self.Engine.builds pattern.now ≡ false) }
         ensures counts { meter.new ≡ count_made meter.old };
 }
 

@@ -17,7 +17,8 @@ pub(crate) fn refuse<'a>(
     instance: &'a Value,
     place: &Location,
 ) -> BuildError<'a>
-    ensures { TellsOneOf (fault (kind_of kind.entry) (view instance.now) [] place.now ∷ []) result }
+    ensures { TellsOneOf
+        (fault (kind_of kind.entry) (view instance.now) [] place.now ∷ []) result }
 {
     match place.try_clone(alloc) {
         Ok(place) => BuildError::Refused(ValidationError::refusing(

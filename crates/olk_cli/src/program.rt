@@ -29,7 +29,8 @@ pub const MEMORY: u8 = 3;
 /// Lines end with a line feed; what stands after the last one is a line unless it is empty.
 pub fn run<I: BufRead, O: Write>(alloc: Global, reader: &mut I, writer: &mut O) -> u8
     ensures status { (result ≡ 0) ⊎ (result ≡ 2) ⊎ (result ≡ 3) }
-    ensures all { result ≡ 0 → AnswersAll IsAnswer (I.remaining reader.old) (I.remaining reader.new)
+    ensures all { result ≡ 0
+        → AnswersAll IsAnswer (I.remaining reader.old) (I.remaining reader.new)
         (O.contents writer.old) (O.contents writer.new) }
     ensures failed { result ≡ 2 → AnswersInPart IsAnswer (I.remaining reader.old)
         (O.contents writer.old) (O.contents writer.new) }

@@ -182,11 +182,17 @@ fn compile_pattern<M: MakeRegex>(
     pattern: &str,
     meter: &mut Meter,
 ) -> Result<CompiledPattern<M::Engine>, MakeError>
-    ensures answers { IfOk result (λ p. (n : Name) → pattern_answers M.Engine.answers p n ≡ pattern_says (matcher M.Engine.builds M.Engine.says) pattern.now n) }
-    ensures costs { IfOk result (λ p. pattern_costs M.Engine.costs p ≡ is_none (literal pattern.now)) }
-    ensures builds { IfOk result (λ p. pattern_builds (matcher M.Engine.builds M.Engine.says) pattern.now ≡ true) }
-    ensures refused { IfErr result (λ e. IsRefused e → pattern_builds (matcher M.Engine.builds M.Engine.says) pattern.now ≡ false) }
-    ensures counts { IfOk result (λ p. meter.new ≡ (if is_none (literal pattern.now) then count_made meter.old else meter.old)) }
+    ensures answers { IfOk result
+        (λ p. (n : Name) → pattern_answers M.Engine.answers p n
+        ≡ pattern_says (matcher M.Engine.builds M.Engine.says) pattern.now n) }
+    ensures costs { IfOk result
+        (λ p. pattern_costs M.Engine.costs p ≡ is_none (literal pattern.now)) }
+    ensures builds { IfOk result
+        (λ p. pattern_builds (matcher M.Engine.builds M.Engine.says) pattern.now ≡ true) }
+    ensures refused { IfErr result
+        (λ e. IsRefused e → pattern_builds (matcher M.Engine.builds M.Engine.says) pattern.now ≡ false) }
+    ensures counts { IfOk result
+        (λ p. meter.new ≡ (if is_none (literal pattern.now) then count_made meter.old else meter.old)) }
 {
     match analyze_pattern(alloc, pattern)? {
         Some(PatternOptimization::Prefix(text)) => Ok(CompiledPattern::Prefix(text)),
@@ -265,7 +271,8 @@ fn asked_leaf<L: MakeLeaf>(
     node: Node<'_>,
     meter: &mut Meter,
 ) -> Result<(bool, Option<String>, Vec<String>, Vec<String>), MakeError>
-    ensures valid { IfOk result (λ r. r.0 ≡ is_empty (L.Leaf.faults keyword.now (view value.now) (data_of node.entry))) }
+    ensures valid { IfOk result
+        (λ r. r.0 ≡ is_empty (L.Leaf.faults keyword.now (view value.now) (data_of node.entry))) }
 {
     let leaf = leaves.make(alloc, keyword, value, meter)?;
     let mut texts = one_text(alloc, leaf.keyword())?;

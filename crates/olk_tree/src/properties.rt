@@ -67,5 +67,6 @@ impl<N: Reports> Reports for SmallPropertiesWithRequired2<N> {
         (required_faults (two_texts k.first k.second) v k.required_location Q)
         (properties_report N.report u (named k.properties) v Q)
         (required_agrees (two_texts k.first k.second) v k.required_location Q)
-        (properties_agree N.means N.report u (λ n w R. N.agrees n u w R) (named k.properties) v Q) };
+        (properties_agree N.means N.report u (λ n w R. N.agrees n u w R)
+        (named k.properties) v Q) };
 }
