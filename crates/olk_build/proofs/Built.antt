@@ -32,10 +32,10 @@ use Rattle.olk_node.specs.Kit.{Kit}
 use Rattle.olk_tree.specs.Questions.{Question, every}
 use Rattle.olk_tree.specs.Answers.{validator_means, validator_report, body_means, body_report, validator_tree, body_tree}
 use Rattle.olk_node.specs.Nodes.{answers}
-use Rattle.olk_build.specs.Plans.{claims}
+use Rattle.olk_members.specs.Plans.{claims}
 use Rattle.olk_node.specs.Stands.{StandsFor}
-use Rattle.olk_build.specs.Members.{malformations_at, member_accepts, member_asks, member_report, member_child, StandsAlone, member_malformations, member_cost}
-use Rattle.olk_tree.proofs.Maps.{flat_map-map}
+use Rattle.olk_members.specs.Members.{malformations_at, member_accepts, member_asks, member_report, member_child, StandsAlone, member_malformations, member_cost}
+use Rattle.olk_spec.proofs.Maps.{flat_map-map}
 use Rattle.std.specs.Prelude.{Vec}
 use Rattle.std.specs.declared.alloc.Global.{Global}
 use Rattle.olk_spec.specs.World.{World}
@@ -47,8 +47,8 @@ use Rattle.olk_tree.specs.declared.node.KeywordOver.{KeywordOver}
 use Rattle.olk_tree.specs.declared.node.Body.{Body}
 use Rattle.olk_tree.specs.declared.node.Body.TheVariants.{True, False, Keywords}
 use Rattle.olk_node.specs.declared.node.SchemaNode.{SchemaNode, out-SchemaNode}
-use Rattle.olk_build.proofs.Claims.{list_all-permuted}
-use Rattle.olk_build.proofs.Heads.{names_of, claims_are_all}
+use Rattle.olk_members.proofs.Claims.{list_all-permuted}
+use Rattle.olk_members.proofs.Heads.{names_of, claims_are_all}
 use Rattle.olk_node.proofs.Layers.{node_means, node_finds, node_shows, node_location}
 use Rattle.olk_build.proofs.Spending.{sum_last, total_cost-append, total_cost-map, spends_nothing, spends_append, spends_same, spends_place, within_after, within_same, within_exactly, tells_same}
 

@@ -38,9 +38,10 @@ use Rattle.olk_tree.specs.Answers.{beside, named, validator_means, validator_rep
 use Rattle.olk_node.specs.Nodes.{answers}
 use Rattle.olk_tree.specs.Shown.{missing_trees, properties_tree, branch_trees, any_of_tree}
 use Rattle.olk_node.specs.Stands.{StandsFor}
-use Rattle.olk_build.specs.Members.{member_accepts, member_asks, member_report, member_child, StandsAlone}
-use Rattle.olk_build.specs.Plans.{Planned, head, claims}
-use Rattle.olk_build.specs.Forms.{fused_names, IsFormOfProperties, IsFormOfAllOf, IsFormOfAnyOf}
+use Rattle.olk_members.specs.Members.{member_accepts, member_asks, member_report, member_child, StandsAlone}
+use Rattle.olk_members.specs.Plans.{Planned, head, claims}
+use Rattle.olk_build.specs.Forms.{IsFormOfProperties, IsFormOfAllOf, IsFormOfAnyOf}
+use Rattle.olk_members.specs.Fused.{fused_names}
 use Rattle.olk_build.specs.Reading.{IsOther}
 use Rattle.olk_build.specs.Building.{StandEach, which, Holds, Covers}
 use Rattle.olk_build.specs.Making.{KeywordMeans, KeywordsMean}
@@ -49,13 +50,13 @@ use Rattle.olk_tree.specs.declared.properties.SmallPropertiesWithRequired2.{Smal
 use Rattle.olk_tree.specs.declared.node.KeywordOver.{KeywordOver}
 use Rattle.olk_tree.specs.declared.node.KeywordOver.TheVariants as keyword
 use Rattle.olk_node.specs.declared.node.SchemaNode.{SchemaNode}
-use Rattle.olk_build.proofs.Facts as fact
+use Rattle.olk_members.proofs.Facts as fact
 use Rattle.olk_build.proofs.Built.{means_alone, means_permuted}
-use Rattle.olk_build.proofs.Claims.{listing, fuses, claims_itself, claims_both, claims_nothing, heads_elsewhere}
-use Rattle.olk_build.proofs.Heads.{names_of}
-use Rattle.olk_build.proofs.Clean.{free, not_fused, fused, names_fused}
-use Rattle.olk_build.proofs.Children.{shown_at, shown_declared, branches_shown, accepting_branches, any_shown, properties_child, required_child, no_required_child, all_of_child, any_of_child, not_child, leaf_child}
-use Rattle.olk_tree.proofs.Maps.{is_empty-map}
+use Rattle.olk_members.proofs.Claims.{listing, fuses, claims_itself, claims_both, claims_nothing, heads_elsewhere}
+use Rattle.olk_members.proofs.Heads.{names_of}
+use Rattle.olk_members.proofs.Clean.{free, not_fused, fused, names_fused}
+use Rattle.olk_members.proofs.Children.{shown_at, shown_declared, branches_shown, accepting_branches, any_shown, properties_child, required_child, no_required_child, all_of_child, any_of_child, not_child, leaf_child}
+use Rattle.olk_spec.proofs.Maps.{is_empty-map}
 
 -- ---- numbers and counts
 

@@ -14,7 +14,7 @@ use Rattle.olk_spec.specs.Schemas.{listed, members, numbered, is_object}
 use Rattle.olk_spec.specs.Malformed.{has_repeat, items_of_array}
 use Rattle.olk_spec.proofs.Walks.{same_name}
 use Rattle.olk_node.specs.Kit.{Kit}
-use Rattle.olk_build.specs.Plans.{Planned, plan_of, head, claims}
+use Rattle.olk_members.specs.Plans.{Planned, plan_of, head, claims}
 use Rattle.olk_build.specs.Forms.{IsFormOfProperties, IsFormOfAllOf, IsFormOfAnyOf}
 use Rattle.olk_build.specs.Building.{StandEach}
 use Rattle.olk_build.specs.Reading.{reads_of, IsShape, StandAt, PartsStand}
@@ -27,7 +27,7 @@ use Rattle.olk_build.specs.declared.part.Part.{Part}
 use Rattle.olk_build.specs.declared.part.Shape.{Shape}
 use Rattle.olk_build.specs.declared.part.Shape.TheVariants as shape
 use Rattle.olk_build.proofs.Read.{array_of}
-use Rattle.olk_build.proofs.Claims.{found_each, heads_there}
+use Rattle.olk_members.proofs.Claims.{found_each, heads_there}
 use Rattle.olk_build.proofs.Built.{no_keywords_mean, one_more_keyword, heads_mean_all}
 use Rattle.olk_build.proofs.Held.{means_all_of, means_any_of, means_not, means_form, means_fused, means_own, means_leaf, means_unread, means_required, means_required_alone}
 

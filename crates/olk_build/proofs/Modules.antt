@@ -21,7 +21,7 @@ use Rattle.olk_node.specs.Kit.{Kit}
 use Rattle.olk_node.specs.declared.node.SchemaNode.{SchemaNode}
 use Rattle.olk_tree.specs.declared.node.KeywordOver.{KeywordOver}
 use Rattle.olk_tree.specs.declared.node.KeywordOver.TheVariants as keyword
-use Rattle.olk_build.specs.Plans.{Planned, plan_of, head, claims}
+use Rattle.olk_members.specs.Plans.{Planned, plan_of, head, claims}
 use Rattle.olk_build.specs.Forms.{IsFormOfAllOf, IsFormOfAnyOf, IsAllOf, IsAnyOf, IsNot, IsRequired, IsProperties}
 use Rattle.olk_build.specs.Building.{StandEach, RefusesMember}
 use Rattle.olk_build.specs.Reading.{reads_of, IsShape, StandAt, PartStands, IsPart}

@@ -20,14 +20,14 @@ use Rattle.olk_reports.specs.declared.error.BuildError.{BuildError}
 use Rattle.olk_reports.specs.declared.error.BuildError.TheVariants.{Memory}
 use Rattle.std.specs.declared.alloc.AllocError.{AllocError}
 use Rattle.olk_node.specs.Kit.{Kit}
-use Rattle.olk_build.specs.Members.{malformations_at, member_malformations, member_cost}
+use Rattle.olk_members.specs.Members.{malformations_at, member_malformations, member_cost}
 use Rattle.olk_build.specs.Building.{Spends, SpendsWithin, Refuses, RefusesMember, each_malformed, each_cost, all_cost}
 use Rattle.olk_build.specs.Reading.{reads_of, own_faults, own_cost_of, IsShape, IsRead, places_malformed, places_cost, StandAt, PlacesAreBuilt, PartStands, PartsStand, PartsAreBuilt, IsPart}
 use Rattle.olk_node.specs.declared.node.SchemaNode.{SchemaNode}
 use Rattle.olk_build.specs.declared.part.Part.{Part}
 use Rattle.olk_build.specs.declared.part.Shape.{Shape}
 use Rattle.olk_build.specs.declared.part.Shape.TheVariants as shape
-use Rattle.olk_build.proofs.Facts.{numbered-map, each_malformations, each_costs}
+use Rattle.olk_members.proofs.Facts.{numbered-map, each_malformations, each_costs}
 use Rattle.olk_build.proofs.Spending.{sum_first, sum_last, total_cost-append, spends_nothing, spends_append, spends_same, within_after, within_before, within_same, within_nothing, refuses_memory, tells_left, tells_right, tells_same}
 
 branch_entries : {X : Type 0} (step : Schema X → X) (d : Data) → branches (read step d) ≡ map (entry step) (numbered (items_of_array d))

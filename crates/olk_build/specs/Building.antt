@@ -17,7 +17,7 @@ use Rattle.olk_tree.specs.Questions.{every}
 use Rattle.olk_tree.specs.Answers.{validator_means, validator_report, validator_tree}
 use Rattle.olk_node.specs.Nodes.{answers}
 use Rattle.olk_node.specs.Stands.{StandsFor}
-use Rattle.olk_build.specs.Members.{malformations_at, member_accepts, member_asks, member_report, member_malformations, member_cost}
+use Rattle.olk_members.specs.Members.{malformations_at, member_accepts, member_asks, member_report, member_malformations, member_cost}
 use Rattle.olk_node.specs.declared.node.SchemaNode.{SchemaNode}
 use Rattle.olk_tree.specs.declared.node.KeywordOver.{KeywordOver}
 

@@ -8,8 +8,8 @@ use Rattle.olk_spec.specs.Malformed.{has_repeat}
 use Rattle.olk_node.specs.Kit.{Kit}
 use Rattle.olk_node.specs.declared.node.SchemaNode.{SchemaNode}
 use Rattle.olk_tree.specs.declared.node.KeywordOver.{KeywordOver}
-use Rattle.olk_build.specs.Plans.{Planned, plan_of, head, claims}
-use Rattle.olk_build.specs.Members.{member_child, StandsAlone}
+use Rattle.olk_members.specs.Plans.{Planned, plan_of, head, claims}
+use Rattle.olk_members.specs.Members.{member_child, StandsAlone}
 use Rattle.olk_build.specs.Building.{which, all_malformed, show, Holds, Covers}
 use Rattle.olk_build.specs.Reading.{reads_of, IsShape, StandAt}
 use Rattle.olk_build.specs.declared.part.Shape.{Shape}

@@ -9,8 +9,8 @@ use Rattle.olk_reports.specs.declared.error.BuildError.{BuildError}
 use Rattle.olk_node.specs.Kit.{Kit}
 use Rattle.olk_node.specs.declared.node.SchemaNode.{SchemaNode}
 use Rattle.olk_tree.specs.declared.node.KeywordOver.{KeywordOver}
-use Rattle.olk_build.specs.Plans.{plan_of, head, claims}
-use Rattle.olk_build.specs.Members.{member_malformations, member_cost}
+use Rattle.olk_members.specs.Plans.{plan_of, head, claims}
+use Rattle.olk_members.specs.Members.{member_malformations, member_cost}
 use Rattle.olk_build.specs.Building.{Spends, which, RefusesMember}
 use Rattle.olk_build.specs.Making.{KeywordMeans, KeywordsMean}
 

@@ -13,7 +13,7 @@ use Rattle.olk_base.specs.Count.{Counts}
 use Rattle.olk_reports.specs.declared.error.BuildError.{BuildError}
 use Rattle.olk_node.specs.Kit.{Kit}
 use Rattle.olk_node.specs.Stands.{StandsFor}
-use Rattle.olk_build.specs.Members.{malformations_at}
+use Rattle.olk_members.specs.Members.{malformations_at}
 use Rattle.olk_build.specs.Building.{Spends, Refuses, StandEach, each_malformed, each_cost, all_malformed, all_cost}
 use Rattle.olk_node.specs.declared.node.SchemaNode.{SchemaNode}
 use Rattle.olk_build.specs.declared.reading.KeywordFor.{KeywordFor}

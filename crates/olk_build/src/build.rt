@@ -7,7 +7,7 @@ ghost use Rattle.olk_spec.specs.Costs.{cost};
 ghost use Rattle.olk_reports.specs.Paths.{one_below};
 ghost use Rattle.olk_node.specs.Kit.{kit, world};
 ghost use Rattle.olk_node.specs.Stands.{StandsFor};
-ghost use Rattle.olk_build.specs.Members.{malformations_at};
+ghost use Rattle.olk_members.specs.Members.{malformations_at};
 ghost use Rattle.olk_build.specs.Building.{IsBuilt, AreBuilt, TellsOneOf, RefusesSchema, RefusesEach, RefusesObject, RefusesMember, Spends, SpendsWithin};
 ghost use Rattle.olk_build.specs.Reading.{ObjectIsParted, IsPart, PlacesAreBuilt, RefusesPlaces};
 

@@ -9,7 +9,6 @@ mod lists;
 mod making;
 pub mod not;
 mod part;
-mod plan;
 pub mod properties;
 mod reading;
 mod refusal;

@@ -3,15 +3,15 @@ ghost use Rattle.std.specs.Prelude.{false, ◌≡◌, map, option_to_list, IfOk}
 ghost use Rattle.serde_json.specs.View.{members_view};
 ghost use Rattle.olk_spec.specs.Schemas.{listed};
 ghost use Rattle.olk_node.specs.Kit.{kit};
-ghost use Rattle.olk_build.specs.Plans.{planned};
+ghost use Rattle.olk_members.specs.Plans.{planned};
 ghost use Rattle.olk_build.specs.Reading.{PartsStand};
 ghost use Rattle.olk_build.specs.Making.{MakesClaims, ObjectIsMade};
 
 use crate::lists::append;
 use crate::part::{Part, Shape};
-use crate::plan::Plan;
 use crate::{all_of, any_of, not, properties, required};
 use olk_base::{Leaf, RegexEngine};
+use olk_members::Plan;
 use olk_node::{Keyword, SchemaNode};
 use olk_reports::Location;
 use olk_tree::node::KeywordOver;

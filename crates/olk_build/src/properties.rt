@@ -4,7 +4,7 @@ ghost use Rattle.serde_json.specs.View.{view, members_view};
 ghost use Rattle.olk_reports.specs.Paths.{one_below};
 ghost use Rattle.olk_node.specs.Kit.{kit};
 ghost use Rattle.olk_build.specs.Forms.{IsFormOfProperties, IsProperties};
-ghost use Rattle.olk_build.specs.Plans.{plan_of, planned};
+ghost use Rattle.olk_members.specs.Plans.{plan_of, planned};
 ghost use Rattle.olk_build.specs.Making.{MakesClaims};
 ghost use Rattle.olk_build.specs.Parts.{BuildsClaims, Gives};
 ghost use Rattle.olk_build.specs.declared.part.Shape.TheVariants as shape;
@@ -12,8 +12,8 @@ ghost use Rattle.olk_build.specs.declared.part.Shape.TheVariants as shape;
 use crate::build::compile_member;
 use crate::context::Context;
 use crate::part::{Part, Shape};
-use crate::plan::Plan;
 use olk_base::{Leaf, MakeLeaf, MakeRegex, RegexEngine};
+use olk_members::Plan;
 use olk_node::{Keyword, SchemaNode};
 use olk_reports::{BuildError, Location};
 use olk_tree::map::{SmallMap, SortedNames};
@@ -33,7 +33,7 @@ fn form<K, N: Drop>(
     ensures { IfOk result (IsFormOfProperties place.now location properties
         (planned plan.entry).fused) }
 {
-    let Some((first, second)) = plan.fused else {
+    let Some((first, second)) = plan.fused() else {
         return Ok(KeywordOver::Properties(SmallProperties {
             properties,
             location,

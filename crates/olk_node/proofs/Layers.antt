@@ -20,7 +20,8 @@ use Rattle.olk_tree.specs.declared.node.Body.{Body}
 use Rattle.olk_tree.specs.declared.node.Body.TheVariants.{True, False, Keywords}
 use Rattle.olk_node.specs.declared.node.SchemaNode.{SchemaNode, map-SchemaNode, out-SchemaNode, fold_out-SchemaNode}
 use Rattle.olk_node.specs.declared.node.SchemaNode.TheOpen.{SchemaNode-F}
-use Rattle.olk_tree.proofs.Maps.{every-map, some-map, every-beside, flat_map-map, flat_map-beside, map-map, first_of-map, first_of-beside, properties_tree-map, branch_trees-map, any_of_tree-map}
+use Rattle.olk_spec.proofs.Maps.{flat_map-map, map-map}
+use Rattle.olk_tree.proofs.Maps.{every-map, some-map, every-beside, flat_map-beside, first_of-map, first_of-beside, properties_tree-map, branch_trees-map, any_of_tree-map}
 
 module _ {K R : Type 0} (o : Kit K R) where
   abbrev opened : SchemaNode-F K R (SchemaNode K R) → Body (KeywordOver K (SchemaNode K R)) → SchemaNode-F K R Answers

@@ -10,6 +10,7 @@ pub mod Passing
 pub mod Order
 pub mod Reading
 pub mod Walks
+pub mod Maps
 pub mod Truth
 pub mod Named
 pub mod Tree_verdicts

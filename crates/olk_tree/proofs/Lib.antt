@@ -4,7 +4,6 @@ pub mod Faults
 pub mod Members_met
 mod Places
 mod Lookups
-mod MemberLookups
 mod Entries
 pub mod Merge
 mod Walked

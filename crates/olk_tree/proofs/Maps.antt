@@ -11,6 +11,7 @@ use Rattle.olk_spec.specs.Faults.{Fault}
 use Rattle.olk_spec.specs.Names.{Name, Path, ◌//◌, lookup, first_if_equal, is_among, those, put_if, is_empty}
 use Rattle.olk_spec.specs.Schemas.{is_object, members}
 use Rattle.olk_spec.specs.Tree.{Tree, result, plain}
+use Rattle.olk_spec.proofs.Maps.{map-map, those-map, is_empty-map}
 use Rattle.olk_tree.specs.Shown.{properties_tree, branch_trees, any_of_tree}
 use Rattle.olk_tree.specs.Answers.{beside, or_else, first_of}
 use Rattle.olk_tree.specs.Questions.{Question, both, either, every, some}
@@ -29,14 +30,6 @@ every-beside p q h e [] ys = refl
 every-beside p q h e (a ∷ ks) [] = refl
 every-beside p q h e (a ∷ ks) (y ∷ ys) = λ i. both (e a y i) (every-beside p q h e ks ys i)
 
-pub flat_map-map : {X Y A : Type 0} (p : X → List A) (q : Y → List A) (h : Y → X) → ((y : Y) → p (h y) ≡ q y) → (ys : List Y) → flat_map p (map h ys) ≡ flat_map q ys
-flat_map-map p q h e [] = refl
-flat_map-map p q h e (y ∷ ys) = λ i. e y i ++ flat_map-map p q h e ys i
-
-pub map-map : {X Y A : Type 0} (p : X → A) (q : Y → A) (h : Y → X) → ((y : Y) → p (h y) ≡ q y) → (ys : List Y) → map p (map h ys) ≡ map q ys
-map-map p q h e [] = refl
-map-map p q h e (y ∷ ys) = λ i. e y i ∷ map-map p q h e ys i
-
 pub flat_map-beside : {A X Y B : Type 0} (p : A × X → List B) (q : A × Y → List B) (h : Y → X) → ((a : A) (y : Y) → p (a, h y) ≡ q (a, y)) → (ks : List A) (ys : List Y) → flat_map p (beside ks (map h ys)) ≡ flat_map q (beside ks ys)
 flat_map-beside p q h e [] ys = refl
 flat_map-beside p q h e (a ∷ ks) [] = refl
@@ -50,18 +43,6 @@ pub first_of-beside : {A X Y : Type 0} (p : A × X → List Fault) (q : A × Y �
 first_of-beside p q h e [] ys = refl
 first_of-beside p q h e (a ∷ ks) [] = refl
 first_of-beside p q h e (a ∷ ks) (y ∷ ys) = λ i. or_else (e a y i) (first_of-beside p q h e ks ys i)
-
-pub those-map : {X Y : Type 0} (p : X → Bool) (q : Y → Bool) (h : Y → X) → ((y : Y) → p (h y) ≡ q y) → (ys : List Y) → those p (map h ys) ≡ map h (those q ys)
-those-map p q h e [] = refl
-those-map p q h e (y ∷ ys) = (λ i. put_if (e y i) (h y) (those-map p q h e ys i)) ∙ by (q y)
-  where
-    by : (b : Bool) → put_if b (h y) (map h (those q ys)) ≡ map h (put_if b y (those q ys))
-    by true = refl
-    by false = refl
-
-pub is_empty-map : {X Y : Type 0} (h : Y → X) (ys : List Y) → is_empty (map h ys) ≡ is_empty ys
-is_empty-map h [] = refl
-is_empty-map h (y ∷ ys) = refl
 
 module _ {X Y : Type 0} (h : Y → X) where
   pub names-beside : (ks : List Name) (ys : List Y) → map {A = Name × X} (λ e. e.0) (beside ks (map h ys)) ≡ map {A = Name × Y} (λ e. e.0) (beside ks ys)

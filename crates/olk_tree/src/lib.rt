@@ -6,7 +6,6 @@ pub mod any_of;
 pub mod declared;
 pub mod map;
 pub mod means;
-pub mod members;
 pub mod node;
 pub mod not;
 pub mod properties;

@@ -12,7 +12,7 @@ use Rattle.olk_spec.specs.Costs.{cost}
 use Rattle.olk_spec.specs.Faults.{fault}
 use Rattle.olk_reports.proofs.Errors.{kind_of_multiple_types}
 use Rattle.olk_node.specs.Kit.{kit, world}
-use Rattle.olk_build.specs.Members.{malformations_at, member_malformations, member_cost}
+use Rattle.olk_members.specs.Members.{malformations_at, member_malformations, member_cost}
 use Rattle.olk_build.specs.Building.{AreBuilt, Refuses, RefusesMember, TellsOneOf, all_malformed, all_cost}
 use Rattle.olk_build.specs.Reading.{own_faults, own_cost_of, places_malformed, places_cost, PlacesAreBuilt, PartsAreBuilt, IsPart}
 use Rattle.olk_build.proofs.Spending.{exit, refuses_among, memory_among, refuses_memory, within_nothing, within_exactly}

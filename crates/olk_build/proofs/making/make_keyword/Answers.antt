@@ -1,5 +1,5 @@
 use Rattle.olk_node.specs.Kit.{kit}
-use Rattle.olk_build.specs.Plans.{planned}
+use Rattle.olk_members.specs.Plans.{planned}
 use Rattle.std.proofs.Common.{sym, subst, option_to_list}
 use Rattle.olk_build.specs.Making.{MakesClaims}
 use Rattle.olk_build.proofs.Makes.{claims_own, all_of_alone, any_of_alone, not_alone, leaf_alone, unread_alone, makes_leaf, makes_unread}

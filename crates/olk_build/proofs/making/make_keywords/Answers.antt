@@ -2,7 +2,7 @@ use Rattle.olk_node.specs.Kit.{kit}
 use Rattle.std.proofs.Common.{[], ◌∷◌, sym, ◌∙◌, ap, subst, option_to_list}
 use Rattle.serde_json.specs.View.{members_view}
 use Rattle.olk_spec.specs.Schemas.{listed}
-use Rattle.olk_build.specs.Plans.{planned}
+use Rattle.olk_members.specs.Plans.{planned}
 use Rattle.olk_build.specs.Reading.{PartsStand}
 use Rattle.olk_build.specs.Making.{MakesClaims}
 use Rattle.std.proofs.lemmas.List.{append-nil, nil_from_length}

@@ -1,7 +1,7 @@
 use Rattle.std.proofs.Common.{[], ◌∷◌, refl, subst}
 use Rattle.serde_json.specs.View.{view, members_view}
 use Rattle.olk_node.specs.Kit.{kit}
-use Rattle.olk_build.specs.Plans.{planned}
+use Rattle.olk_members.specs.Plans.{planned}
 use Rattle.olk_build.specs.Forms.{IsProperties}
 use Rattle.olk_build.specs.Making.{MakesClaims}
 use Rattle.olk_build.specs.declared.part.Shape.TheVariants as shape

@@ -1,5 +1,5 @@
 use Rattle.olk_node.specs.Kit.{kit}
-use Rattle.olk_build.specs.Plans.{planned}
+use Rattle.olk_members.specs.Plans.{planned}
 use Rattle.olk_build.proofs.Makes.{makes_properties}
 use Rattle.olk_build.proofs.properties.make.Goals as goal
 

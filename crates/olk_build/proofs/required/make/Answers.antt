@@ -1,6 +1,6 @@
 use Rattle.olk_node.specs.Kit.{kit}
 use Rattle.std.proofs.Common.{sym, ◌∙◌}
-use Rattle.olk_build.specs.Plans.{planned}
+use Rattle.olk_members.specs.Plans.{planned}
 use Rattle.olk_build.proofs.Makes.{makes_required_elsewhere, makes_required_alone}
 use Rattle.olk_build.proofs.required.make.Goals as goal
 

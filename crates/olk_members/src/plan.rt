@@ -3,18 +3,18 @@ ghost use Rattle.std.specs.Prelude.{◌≡◌, false, is_some, map, option_map};
 ghost use Rattle.serde_json.specs.View.{view, members_view};
 ghost use Rattle.olk_spec.specs.Schemas.{listed};
 ghost use Rattle.olk_spec.specs.Malformed.{has_repeat};
-ghost use Rattle.olk_build.specs.Forms.{declares_few, allows_others, two_names, fused_names};
-ghost use Rattle.olk_build.specs.Plans.{plan_of, planned};
+ghost use Rattle.olk_members.specs.Fused.{declares_few, allows_others, two_names, fused_names};
+ghost use Rattle.olk_members.specs.Plans.{plan_of, planned};
 
+use crate::members::{has_member, member};
 use olk_spec::HASHMAP_THRESHOLD;
-use olk_tree::members::{has_member, member};
 use serde_json::{Map, Value};
 
 /// What is decided of an object's keywords once, from its members: the two names that `properties` fuses from
 /// `required`.
 #[derive(Clone, Copy)]
 pub struct Plan<'a> {
-    pub(crate) fused: Option<(&'a str, &'a str)>,
+    fused: Option<(&'a str, &'a str)>,
 }
 
 /// Whether few names are declared.
@@ -85,6 +85,13 @@ impl<'a> Plan<'a> {
         Plan {
             fused: fused_names(members),
         }
+    }
+
+    /// The two names of `required` for which the validator of `properties` stands too, if any.
+    pub fn fused(self) -> Option<(&'a str, &'a str)>
+        ensures { option_map (λ t. (t.0.now, t.1.now)) result ≡ (planned self.entry).fused }
+    {
+        self.fused
     }
 
     /// Whether the validator of `properties` stands for `required` too.

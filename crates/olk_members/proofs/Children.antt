@@ -22,9 +22,9 @@ use Rattle.olk_spec.specs.Tree.{Tree, leaf_node, result, plain, erring, describe
 use Rattle.olk_spec.specs.Trees.{fuses_one, fuses_two, missing_child}
 use Rattle.olk_spec.proofs.Reading.{entry, place, lookup_listed, schema_of_read, entries_there}
 use Rattle.olk_spec.proofs.Truth.{and_true}
-use Rattle.olk_build.specs.Members.{member_child, StandsAlone}
-use Rattle.olk_build.proofs.Facts.{branch_entries, item_entries}
-use Rattle.olk_tree.proofs.Maps.{map-map, those-map, is_empty-map}
+use Rattle.olk_members.specs.Members.{member_child, StandsAlone}
+use Rattle.olk_members.proofs.Facts.{branch_entries, item_entries}
+use Rattle.olk_spec.proofs.Maps.{map-map, those-map, is_empty-map}
 
 -- ---- counting, and those that there are
 

@@ -2,8 +2,8 @@
 use Rattle.std.specs.Prelude.{cond, ◌&&◌, List, Option, codes, bytes_eq, is_some, option_map}
 use Rattle.serde_json.specs.Data.{Data, Members}
 use Rattle.olk_spec.specs.Names.{Name, those}
-use Rattle.olk_build.specs.Forms.{fused_names}
-use Rattle.olk_build.specs.declared.plan.Plan.{Plan}
+use Rattle.olk_members.specs.Fused.{fused_names}
+use Rattle.olk_members.specs.declared.plan.Plan.{Plan}
 
 -- what is decided once for an object: the two names that `properties` fuses from `required`
 pub record Planned : Type 0 where

@@ -10,7 +10,7 @@ use Rattle.serde_json.specs.View.{view, members_view, items_view}
 use Rattle.serde_json.specs.declared.value.Value.{Value}
 use Rattle.olk_spec.specs.Schemas.{listed}
 use Rattle.olk_spec.specs.declared.TheConstants.{HASHMAP_THRESHOLD}
-use Rattle.olk_build.specs.Forms.{declares_few, two_names}
+use Rattle.olk_members.specs.Fused.{declares_few, two_names}
 
 -- ---- how many
 

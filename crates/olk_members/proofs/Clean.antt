@@ -20,11 +20,11 @@ use Rattle.olk_spec.specs.Meanings.{restricts}
 use Rattle.olk_spec.specs.Trees.{declares, has_patterns, fuses_two, fuses_one, are_two}
 use Rattle.olk_spec.proofs.Reading.{entry, lookup_listed, is_present_read, entries_at_read, names_at_read, names_there, wholes_absent}
 use Rattle.olk_spec.proofs.Walks.{same_name}
-use Rattle.olk_build.specs.Members.{member_malformations}
+use Rattle.olk_members.specs.Members.{member_malformations}
 use Rattle.olk_spec.specs.declared.TheConstants.{HASHMAP_THRESHOLD}
-use Rattle.olk_build.specs.Forms.{declares_few, allows_others, two_names, fused_names}
-use Rattle.olk_build.proofs.Claims.{listing}
-use Rattle.olk_build.proofs.Facts as fact
+use Rattle.olk_members.specs.Fused.{declares_few, allows_others, two_names, fused_names}
+use Rattle.olk_members.proofs.Claims.{listing}
+use Rattle.olk_members.proofs.Facts as fact
 
 nothing_in : {X : Type 0} (xs ys : List X) → xs ++ ys ≡ [] → (xs ≡ []) × (ys ≡ [])
 nothing_in [] ys e = (refl, e)

@@ -21,8 +21,8 @@ use Rattle.olk_spec.specs.Reports.{required_faults, fault_if}
 use Rattle.olk_spec.specs.Costs.{cost, cost_step, ◌⊕◌, total_cost}
 use Rattle.olk_spec.proofs.Truth.{and_true}
 use Rattle.olk_spec.proofs.Reading.{entry, place, entries_read, items_read, branches_read, schema_of_read}
-use Rattle.olk_build.specs.Members.{malformations_at, member_accepts, member_asks, member_report, member_malformations}
-use Rattle.olk_tree.proofs.Maps.{flat_map-map, map-map}
+use Rattle.olk_members.specs.Members.{malformations_at, member_accepts, member_asks, member_report, member_malformations}
+use Rattle.olk_spec.proofs.Maps.{flat_map-map, map-map}
 
 -- ---- walks
 

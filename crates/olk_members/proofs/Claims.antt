@@ -21,9 +21,9 @@ use Rattle.olk_spec.specs.Malformed.{has_repeat}
 use Rattle.olk_spec.proofs.Each.{Each}
 use Rattle.olk_spec.proofs.Order.{along_permutation}
 use Rattle.olk_spec.proofs.Walks.{same_name, bytes_eq-sym, Distinct, Distinct-from, Each-found}
-use Rattle.olk_build.specs.Plans.{Planned, plan_of, head, claims}
-use Rattle.olk_build.proofs.Heads.{those_split, those_none, those-same, names_of}
-use Rattle.olk_build.specs.Forms.{declares_few, allows_others, two_names, fused_names}
+use Rattle.olk_members.specs.Plans.{Planned, plan_of, head, claims}
+use Rattle.olk_members.proofs.Heads.{those_split, those_none, those-same, names_of}
+use Rattle.olk_members.specs.Fused.{declares_few, allows_others, two_names, fused_names}
 
 -- ---- lists in another order
 

@@ -9,7 +9,7 @@ use Rattle.olk_spec.specs.Names.{Name, is_among, those, put_if}
 use Rattle.olk_spec.specs.Malformed.{has_repeat}
 use Rattle.olk_spec.proofs.Each.{Each}
 use Rattle.olk_spec.proofs.Walks.{neither, same_name, bytes_eq-sym}
-use Rattle.olk_build.specs.Plans.{claims}
+use Rattle.olk_members.specs.Plans.{claims}
 
 module _ {X : Type 0} where
   -- two tests of which no item passes both

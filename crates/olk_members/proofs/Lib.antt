@@ -1,0 +1,7 @@
+mod MemberLookups
+mod Fused
+pub mod Heads
+pub mod Claims
+pub mod Facts
+pub mod Children
+pub mod Clean

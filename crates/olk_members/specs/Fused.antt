@@ -1,0 +1,26 @@
+-- Which names of `required` the validator of `properties` fuses.
+use Rattle.std.specs.Prelude.{Bool, true, false, cond, ◌&&◌, nat_lt, length, Option, Some, None, is_none, codes, bytes_eq}
+use Rattle.serde_json.specs.Data.{Data, boolean, string, object, array, Members, no_items, item}
+use Rattle.olk_spec.specs.Names.{Name, lookup}
+use Rattle.olk_spec.specs.Schemas.{listed}
+use Rattle.olk_spec.specs.declared.TheConstants.{HASHMAP_THRESHOLD}
+
+-- a value of `properties` that declares few names
+abbrev pub declares_few : Option Data → Bool
+declares_few (Some (object fs)) = nat_lt (length (listed fs)) HASHMAP_THRESHOLD
+declares_few o = false
+
+-- a value of `additionalProperties` that allows every other member, or none
+abbrev pub allows_others : Option Data → Bool
+allows_others None = true
+allows_others (Some (boolean b)) = b
+allows_others o = false
+
+-- a value of `required` that lists two names, which differ
+abbrev pub two_names : Option Data → Option (Name × Name)
+two_names (Some (array (item (string a) (item (string b) no_items)))) = cond (bytes_eq a b) None (Some (a, b))
+two_names o = None
+
+-- the two names that `properties` fuses from `required` in a schema object with these members
+abbrev pub fused_names : Members → Option (Name × Name)
+fused_names ms = cond (declares_few (lookup (codes "properties") (listed ms)) && is_none (lookup (codes "patternProperties") (listed ms)) && allows_others (lookup (codes "additionalProperties") (listed ms))) (two_names (lookup (codes "required") (listed ms))) None

@@ -1,0 +1,25 @@
+-- Lists of what a function gives for each item of a list.
+use Rattle.std.specs.Prelude.{◌≡◌, Bool, true, false, List, [], ◌∷◌, ◌++◌, map}
+use Rattle.std.specs.List.{flat_map}
+use Rattle.std.proofs.Common.{refl, ◌∙◌}
+use Rattle.olk_spec.specs.Names.{those, put_if, is_empty}
+
+pub flat_map-map : {X Y A : Type 0} (p : X → List A) (q : Y → List A) (h : Y → X) → ((y : Y) → p (h y) ≡ q y) → (ys : List Y) → flat_map p (map h ys) ≡ flat_map q ys
+flat_map-map p q h e [] = refl
+flat_map-map p q h e (y ∷ ys) = λ i. e y i ++ flat_map-map p q h e ys i
+
+pub map-map : {X Y A : Type 0} (p : X → A) (q : Y → A) (h : Y → X) → ((y : Y) → p (h y) ≡ q y) → (ys : List Y) → map p (map h ys) ≡ map q ys
+map-map p q h e [] = refl
+map-map p q h e (y ∷ ys) = λ i. e y i ∷ map-map p q h e ys i
+
+pub those-map : {X Y : Type 0} (p : X → Bool) (q : Y → Bool) (h : Y → X) → ((y : Y) → p (h y) ≡ q y) → (ys : List Y) → those p (map h ys) ≡ map h (those q ys)
+those-map p q h e [] = refl
+those-map p q h e (y ∷ ys) = (λ i. put_if (e y i) (h y) (those-map p q h e ys i)) ∙ by (q y)
+  where
+    by : (b : Bool) → put_if b (h y) (map h (those q ys)) ≡ map h (put_if b y (those q ys))
+    by true = refl
+    by false = refl
+
+pub is_empty-map : {X Y : Type 0} (h : Y → X) (ys : List Y) → is_empty (map h ys) ≡ is_empty ys
+is_empty-map h [] = refl
+is_empty-map h (y ∷ ys) = refl
