@@ -1,7 +1,7 @@
 -- A validator stands for a schema.
 use Rattle.std.specs.Prelude.{[]}
 use Rattle.serde_json.specs.Data.{Data}
-use Rattle.olk_node.specs.Kit.{Kit}
+use Rattle.olk_base.specs.Kit.{Kit}
 use Rattle.olk_node.specs.Stands.{StandsFor}
 use Rattle.object_logic.specs.declared.validator.Validator.{Validator}
 

@@ -8,9 +8,9 @@ ghost use Rattle.olk_reports.specs.Entries.{evaluated};
 ghost use Rattle.olk_spec.specs.Malformed.{malformations};
 ghost use Rattle.olk_spec.specs.Costs.{cost};
 ghost use Rattle.olk_base.specs.Count.{raised};
-ghost use Rattle.olk_node.specs.Kit.{kit, world};
+ghost use Rattle.olk_base.specs.Kit.{kit, world};
 ghost use Rattle.olk_check.specs.Asks.{OnlyAsks};
-ghost use Rattle.olk_build.specs.Building.{TellsOneOf, Spends, SpendsWithin};
+ghost use Rattle.olk_read.specs.Refusing.{TellsOneOf, Spends, SpendsWithin};
 ghost use Rattle.olk_errors.specs.Found.{Appends, IfInvalid, IsRefusal};
 ghost use Rattle.object_logic.specs.Validators.{IsValidatorOf};
 

@@ -17,22 +17,26 @@ use Rattle.olk_spec.specs.Malformed.{has_repeat, items_of_array}
 use Rattle.olk_base.specs.Count.{Counts}
 use Rattle.olk_reports.specs.declared.error.BuildError.{BuildError}
 use Rattle.olk_reports.specs.declared.error.BuildError.TheVariants.{Memory}
-use Rattle.olk_node.specs.Kit.{Kit}
+use Rattle.olk_base.specs.Kit.{Kit}
 use Rattle.olk_node.specs.declared.node.SchemaNode.{SchemaNode}
 use Rattle.olk_tree.specs.declared.node.KeywordOver.{KeywordOver}
 use Rattle.olk_tree.specs.declared.node.KeywordOver.TheVariants as keyword
 use Rattle.olk_members.specs.Plans.{Planned, plan_of, head, claims}
-use Rattle.olk_build.specs.Forms.{IsFormOfAllOf, IsFormOfAnyOf, IsAllOf, IsAnyOf, IsNot, IsRequired, IsProperties}
-use Rattle.olk_build.specs.Building.{StandEach, RefusesMember}
-use Rattle.olk_build.specs.Reading.{reads_of, IsShape, StandAt, PartStands, IsPart}
-use Rattle.olk_build.specs.Making.{KeywordsMean, MakesMember, MakesClaims}
+use Rattle.olk_make.specs.Forms.{IsFormOfAllOf, IsFormOfAnyOf, IsAllOf, IsAnyOf, IsNot, IsRequired, IsProperties}
+use Rattle.olk_make.specs.Holding.{StandEach}
+use Rattle.olk_build.specs.Building.{RefusesMember}
+use Rattle.olk_read.specs.Reading.{reads_of, IsShape}
+use Rattle.olk_make.specs.Standing.{StandAt, PartStands}
+use Rattle.olk_build.specs.Placing.{IsPart}
+use Rattle.olk_make.specs.Making.{KeywordsMean, MakesMember, MakesClaims}
 use Rattle.olk_build.specs.Parts.{MemberIsBuilt, ClaimsAreBuilt}
-use Rattle.olk_build.specs.declared.part.Part.{Part}
-use Rattle.olk_build.specs.declared.part.Shape.{Shape}
-use Rattle.olk_build.specs.declared.part.ReadPlaces.TheVariants.{Itself}
-use Rattle.olk_build.specs.declared.part.Shape.TheVariants as shape
-use Rattle.olk_build.proofs.Spending.{sum_last, spends_same, refuses_memory, within_exactly}
-use Rattle.olk_build.proofs.Makes.{makes_required}
+use Rattle.olk_make.specs.declared.part.Part.{Part}
+use Rattle.olk_read.specs.declared.shape.Shape.{Shape}
+use Rattle.olk_read.specs.declared.shape.ReadPlaces.TheVariants.{Itself}
+use Rattle.olk_read.specs.declared.shape.Shape.TheVariants as shape
+use Rattle.olk_spec.proofs.CostSums.{sum_last}
+use Rattle.olk_read.proofs.Spending.{spends_same, refuses_memory, within_exactly}
+use Rattle.olk_make.proofs.Makes.{makes_required}
 
 abbrev is_properties : Keyword → Bool
 is_properties properties = true

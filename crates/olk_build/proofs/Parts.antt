@@ -19,16 +19,20 @@ use Rattle.olk_base.specs.Count.{Counts}
 use Rattle.olk_reports.specs.declared.error.BuildError.{BuildError}
 use Rattle.olk_reports.specs.declared.error.BuildError.TheVariants.{Memory}
 use Rattle.std.specs.declared.alloc.AllocError.{AllocError}
-use Rattle.olk_node.specs.Kit.{Kit}
+use Rattle.olk_base.specs.Kit.{Kit}
 use Rattle.olk_members.specs.Members.{malformations_at, member_malformations, member_cost}
-use Rattle.olk_build.specs.Building.{Spends, SpendsWithin, Refuses, RefusesMember, each_malformed, each_cost, all_cost}
-use Rattle.olk_build.specs.Reading.{reads_of, own_faults, own_cost_of, IsShape, IsRead, places_malformed, places_cost, StandAt, PlacesAreBuilt, PartStands, PartsStand, PartsAreBuilt, IsPart}
+use Rattle.olk_read.specs.Refusing.{Spends, SpendsWithin, Refuses}
+use Rattle.olk_build.specs.Building.{RefusesMember, each_malformed, each_cost, all_cost}
+use Rattle.olk_read.specs.Reading.{reads_of, own_faults, own_cost_of, IsShape, IsRead}
+use Rattle.olk_build.specs.Placing.{places_malformed, places_cost, PlacesAreBuilt, PartsAreBuilt, IsPart}
+use Rattle.olk_make.specs.Standing.{StandAt, PartStands, PartsStand}
 use Rattle.olk_node.specs.declared.node.SchemaNode.{SchemaNode}
-use Rattle.olk_build.specs.declared.part.Part.{Part}
-use Rattle.olk_build.specs.declared.part.Shape.{Shape}
-use Rattle.olk_build.specs.declared.part.Shape.TheVariants as shape
+use Rattle.olk_make.specs.declared.part.Part.{Part}
+use Rattle.olk_read.specs.declared.shape.Shape.{Shape}
+use Rattle.olk_read.specs.declared.shape.Shape.TheVariants as shape
 use Rattle.olk_members.proofs.Facts.{numbered-map, each_malformations, each_costs}
-use Rattle.olk_build.proofs.Spending.{sum_first, sum_last, total_cost-append, spends_nothing, spends_append, spends_same, within_after, within_before, within_same, within_nothing, refuses_memory, tells_left, tells_right, tells_same}
+use Rattle.olk_spec.proofs.CostSums.{sum_first, sum_last, total_cost-append}
+use Rattle.olk_read.proofs.Spending.{spends_nothing, spends_append, spends_same, within_after, within_before, within_same, within_nothing, refuses_memory, tells_left, tells_right, tells_same}
 
 branch_entries : {X : Type 0} (step : Schema X → X) (d : Data) → branches (read step d) ≡ map (entry step) (numbered (items_of_array d))
 branch_entries step d = branches_read step d ∙ numbered-map (place step) (items_of_array d)

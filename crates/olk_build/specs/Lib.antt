@@ -1,6 +1,3 @@
 pub mod Building
-pub mod Forms
-pub mod Lists
-pub mod Reading
-pub mod Making
+pub mod Placing
 pub mod Parts

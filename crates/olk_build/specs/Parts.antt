@@ -6,13 +6,15 @@ use Rattle.olk_spec.specs.Names.{Name, Path, ◌//◌, lookup}
 use Rattle.olk_spec.specs.Schemas.{listed}
 use Rattle.olk_base.specs.Count.{Counts}
 use Rattle.olk_reports.specs.declared.error.BuildError.{BuildError}
-use Rattle.olk_node.specs.Kit.{Kit}
+use Rattle.olk_base.specs.Kit.{Kit}
 use Rattle.olk_node.specs.declared.node.SchemaNode.{SchemaNode}
 use Rattle.olk_tree.specs.declared.node.KeywordOver.{KeywordOver}
 use Rattle.olk_members.specs.Plans.{plan_of, head, claims}
 use Rattle.olk_members.specs.Members.{member_malformations, member_cost}
-use Rattle.olk_build.specs.Building.{Spends, which, RefusesMember}
-use Rattle.olk_build.specs.Making.{KeywordMeans, KeywordsMean}
+use Rattle.olk_read.specs.Refusing.{Spends}
+use Rattle.olk_make.specs.Holding.{which}
+use Rattle.olk_build.specs.Building.{RefusesMember}
+use Rattle.olk_make.specs.Making.{KeywordMeans, KeywordsMean}
 
 module _ {K R : Type 0} (o : Kit K R) where
   -- keywords for the member m of the schema object with the members ms at P

@@ -1,47 +1,19 @@
 //! `anyOf`.
-ghost use Rattle.std.specs.Prelude.{◌≡◌, ◌∷◌, [], codes};
+ghost use Rattle.std.specs.Prelude.{◌≡◌, codes};
 ghost use Rattle.serde_json.specs.View.{view};
 ghost use Rattle.olk_reports.specs.Paths.{one_below};
-ghost use Rattle.olk_node.specs.Kit.{kit};
-ghost use Rattle.olk_build.specs.Forms.{IsFormOfAnyOf, IsAnyOf};
-ghost use Rattle.olk_build.specs.Making.{MakesMember};
+ghost use Rattle.olk_base.specs.Kit.{kit};
+ghost use Rattle.olk_make.specs.Forms.{IsAnyOf};
 ghost use Rattle.olk_build.specs.Parts.{GivesMember, Gives};
-ghost use Rattle.olk_build.specs.declared.part.Shape.TheVariants as shape;
 
 use crate::build::compile_member;
 use crate::context::Context;
 use olk_base::{Leaf, MakeLeaf, MakeRegex, RegexEngine};
-use olk_node::{Keyword, SchemaNode};
-use olk_reports::{BuildError, Location};
-use olk_tree::any_of::{AnyOf, SingleAnyOf};
-use olk_tree::node::KeywordOver;
+use olk_make::any_of::make;
+use olk_node::Keyword;
+use olk_reports::BuildError;
 use serde_json::{Map, Value};
 use std::alloc::Global;
-
-/// The form for so many branches.
-fn form<K, N: Drop>(location: Location, mut schemas: Vec<N>) -> KeywordOver<K, N>
-    ensures { IsFormOfAnyOf location schemas.items result }
-{
-    if schemas.len() == 1
-        && let Some(node) = schemas.pop()
-    {
-        KeywordOver::SingleAnyOf(SingleAnyOf { node, location })
-    } else {
-        KeywordOver::AnyOf(AnyOf { schemas, location })
-    }
-}
-
-/// The validator of the branches' nodes.
-pub(crate) fn make<K: Leaf, R: RegexEngine>(
-    location: Location,
-    nodes: Vec<SchemaNode<K, R>>,
-) -> Keyword<K, R>
-    ensures form { IsFormOfAnyOf location nodes.items result }
-    ensures makes { MakesMember (kit K.Leaf R.RegexEngine) shape.AnyOf location nodes.items
-        (result ∷ []) }
-{
-    form(location, nodes)
-}
 
 /// The keyword of `anyOf` in the object at the context's place (JSON Schema 2020-12 Core, 10.2.1.2): of one branch the
 /// single form, else the other.

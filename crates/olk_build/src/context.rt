@@ -2,15 +2,9 @@
 ghost use Rattle.std.specs.Prelude.{◌≡◌, []};
 
 use olk_base::Meter;
+use olk_read::Makers;
 use olk_reports::Location;
 use std::alloc::Global;
-
-/// The makers of leaves and of matchers.
-#[derive(Drop)]
-pub struct Makers<'c, L, M> {
-    pub(crate) leaves: &'c L,
-    pub(crate) regexes: &'c M,
-}
 
 /// What a build hands down: the makers, the meter and the current place.
 #[derive(Drop)]

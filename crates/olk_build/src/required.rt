@@ -1,43 +1,25 @@
 //! `required`.
-ghost use Rattle.std.specs.Prelude.{◌≡◌, codes, is_some, is_none, option_to_list};
+ghost use Rattle.std.specs.Prelude.{◌≡◌, codes, is_some, is_none};
 ghost use Rattle.std.specs.Option.{IfSome, IfNone};
 ghost use Rattle.serde_json.specs.View.{members_view, view};
-ghost use Rattle.olk_spec.specs.Names.{Path};
 ghost use Rattle.olk_reports.specs.Paths.{one_below};
-ghost use Rattle.olk_node.specs.Kit.{kit};
-ghost use Rattle.olk_build.specs.Forms.{IsRequired};
-ghost use Rattle.olk_members.specs.Plans.{plan_of, planned};
-ghost use Rattle.olk_build.specs.Making.{MakesClaims};
+ghost use Rattle.olk_base.specs.Kit.{kit};
+ghost use Rattle.olk_make.specs.Forms.{IsRequired};
+ghost use Rattle.olk_members.specs.Plans.{plan_of};
 ghost use Rattle.olk_build.specs.Parts.{Builds, Gives};
-ghost use Rattle.olk_build.specs.declared.part.Shape.TheVariants as shape;
 
 use crate::build::compile_member;
 use crate::context::Context;
-use crate::part::{Part, Shape};
 use olk_base::{Leaf, MakeLeaf, MakeRegex, RegexEngine};
+use olk_make::Part;
+use olk_read::Shape;
 use olk_members::Plan;
-use olk_node::{Keyword, SchemaNode};
-use olk_reports::{BuildError, Location};
+use olk_node::Keyword;
+use olk_reports::BuildError;
 use olk_tree::node::KeywordOver;
 use olk_tree::required::RequiredValidator;
 use serde_json::{Map, Value};
 use std::alloc::Global;
-
-/// The validator of the names, unless the plan fuses them.
-pub(crate) fn make<K: Leaf, R: RegexEngine>(
-    plan: Plan<'_>,
-    location: Location,
-    required: Vec<String>,
-    nodes: Vec<SchemaNode<K, R>>,
-) -> Option<Keyword<K, R>>
-    ensures { (P : Path) → MakesClaims (kit K.Leaf R.RegexEngine) (shape.Required required)
-        location nodes.items P (planned plan.entry) (option_to_list result) }
-{
-    if plan.fuses() {
-        return None;
-    }
-    Some(KeywordOver::Required(RequiredValidator { required, location }))
-}
 
 /// The keyword of `required` in the object at the context's place (JSON Schema 2020-12 Validation, 6.5.3), and none
 /// where `properties` of the parent fuses the names.

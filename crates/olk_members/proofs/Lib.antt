@@ -5,3 +5,4 @@ pub mod Claims
 pub mod Facts
 pub mod Children
 pub mod Clean
+pub mod Objects

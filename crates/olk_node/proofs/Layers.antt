@@ -9,7 +9,7 @@ use Rattle.olk_spec.specs.Schemas.{at}
 use Rattle.olk_spec.specs.Accepts.{missing}
 use Rattle.olk_spec.specs.Reports.{required_faults, fault_if}
 use Rattle.olk_spec.specs.Tree.{plain}
-use Rattle.olk_node.specs.Kit.{Kit}
+use Rattle.olk_base.specs.Kit.{Kit}
 use Rattle.olk_tree.specs.Shown.{missing_trees}
 use Rattle.olk_tree.specs.Questions.{always, both, every}
 use Rattle.olk_tree.specs.Answers.{two_texts, or_else, head_of, first_of, validator_means, body_means, validator_report, body_report, validator_first, body_first, validator_tree, body_tree}

@@ -8,7 +8,7 @@ use Rattle.olk_spec.specs.Meaning.{accepts, report}
 use Rattle.olk_spec.specs.Reports.{cut, cut_kind}
 use Rattle.olk_spec.proofs.Order.{like_itself, ∼_refl}
 use Rattle.olk_reports.specs.declared.error.ValidationError.{ValidationError}
-use Rattle.olk_node.specs.Kit.{Kit}
+use Rattle.olk_base.specs.Kit.{Kit}
 use Rattle.olk_node.specs.Nodes.{answers}
 use Rattle.olk_node.specs.Stands.{StandsFor}
 use Rattle.olk_node.specs.declared.node.SchemaNode.{SchemaNode}

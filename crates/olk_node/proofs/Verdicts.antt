@@ -3,7 +3,7 @@ use Rattle.std.proofs.Common.{Bool, true, false, sym, ◌∙◌, arith}
 use Rattle.serde_json.specs.Data.{Data}
 use Rattle.olk_spec.specs.Names.{Path}
 use Rattle.olk_base.specs.Lawful.{Asking}
-use Rattle.olk_node.specs.Kit.{Kit}
+use Rattle.olk_base.specs.Kit.{Kit}
 use Rattle.olk_node.specs.Nodes.{answers}
 use Rattle.olk_node.specs.Stands.{StandsFor}
 use Rattle.olk_node.specs.declared.node.SchemaNode.{SchemaNode}

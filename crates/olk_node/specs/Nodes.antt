@@ -7,7 +7,7 @@ use Rattle.olk_spec.specs.Tree.{Tree}
 use Rattle.olk_tree.specs.Questions.{Question}
 use Rattle.olk_tree.specs.Answers.{validator_means, validator_report, validator_first, validator_tree, body_means, body_report, body_first, body_tree}
 use Rattle.olk_tree.specs.Agreement.{validator_agrees, body_agrees}
-use Rattle.olk_node.specs.Kit.{Kit}
+use Rattle.olk_base.specs.Kit.{Kit}
 use Rattle.olk_node.specs.declared.node.SchemaNode.{SchemaNode, fold-SchemaNode}
 use Rattle.olk_node.specs.declared.node.SchemaNode.TheOpen.{SchemaNode-F}
 

@@ -4,7 +4,7 @@ use Rattle.serde_json.specs.Data.{Data}
 use Rattle.olk_spec.specs.Names.{Path}
 use Rattle.olk_spec.specs.Faults.{◌∼◌}
 use Rattle.olk_spec.specs.Meaning.{accepts, asks, report, tree}
-use Rattle.olk_node.specs.Kit.{Kit}
+use Rattle.olk_base.specs.Kit.{Kit}
 use Rattle.olk_node.specs.declared.node.SchemaNode.{SchemaNode}
 use Rattle.olk_node.specs.Nodes.{answers}
 

@@ -4,7 +4,7 @@ ghost use Rattle.serde_json.specs.Data.{Data};
 ghost use Rattle.olk_base.specs.Nodes.{data_of};
 ghost use Rattle.olk_spec.specs.Names.{Path};
 ghost use Rattle.olk_spec.specs.Meaning.{accepts, report};
-ghost use Rattle.olk_node.specs.Kit.{kit, world};
+ghost use Rattle.olk_base.specs.Kit.{kit, world};
 ghost use Rattle.olk_node.specs.Stands.{StandsFor};
 ghost use Rattle.olk_check.specs.Asks.{OnlyAsks};
 ghost use Rattle.olk_errors.specs.Found.{Appends, IfInvalid, IsRefusal};

@@ -16,7 +16,7 @@ impl<K, R> Located for SchemaNode<K, R> {
 }
 
 impl<'a, K: Leaf, R: RegexEngine> Evaluate<'a> for SchemaNode<K, R> {
-    ghost use Rattle.olk_node.specs.Kit.{kit};
+    ghost use Rattle.olk_base.specs.Kit.{kit};
     ghost use Rattle.olk_node.specs.Nodes.{answers};
 
     ghost tree = { λ n. (answers (kit K.Leaf R.RegexEngine) n).tree };

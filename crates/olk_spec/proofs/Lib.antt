@@ -11,6 +11,7 @@ pub mod Order
 pub mod Reading
 pub mod Walks
 pub mod Maps
+pub mod CostSums
 pub mod Truth
 pub mod Named
 pub mod Tree_verdicts

@@ -1,8 +1,11 @@
 -- Lists of what a function gives for each item of a list.
 use Rattle.std.specs.Prelude.{◌≡◌, Bool, true, false, List, [], ◌∷◌, ◌++◌, map}
 use Rattle.std.specs.List.{flat_map}
-use Rattle.std.proofs.Common.{refl, ◌∙◌}
+use Rattle.std.proofs.Common.{refl, ◌∙◌, ap}
+use Rattle.serde_json.specs.View.{view, items_view}
+use Rattle.serde_json.specs.declared.value.Value.{Value}
 use Rattle.olk_spec.specs.Names.{those, put_if, is_empty}
+use Rattle.olk_spec.specs.Malformed.{items_list}
 
 pub flat_map-map : {X Y A : Type 0} (p : X → List A) (q : Y → List A) (h : Y → X) → ((y : Y) → p (h y) ≡ q y) → (ys : List Y) → flat_map p (map h ys) ≡ flat_map q ys
 flat_map-map p q h e [] = refl
@@ -23,3 +26,7 @@ those-map p q h e (y ∷ ys) = (λ i. put_if (e y i) (h y) (those-map p q h e ys
 pub is_empty-map : {X Y : Type 0} (h : Y → X) (ys : List Y) → is_empty (map h ys) ≡ is_empty ys
 is_empty-map h [] = refl
 is_empty-map h (y ∷ ys) = refl
+
+pub items_list-view : (vs : List Value) → items_list (items_view vs) ≡ map view vs
+items_list-view [] = refl
+items_list-view (v ∷ vs) = ap (λ l. view v ∷ l) (items_list-view vs)

@@ -1,4 +1,4 @@
-use Rattle.olk_node.specs.Kit.{kit}
+use Rattle.olk_base.specs.Kit.{kit}
 use Rattle.serde_json.specs.View.{view}
 use Rattle.olk_build.proofs.Modules.{all_of_built, all_of_is_formed}
 use Rattle.olk_build.proofs.all_of.compile.Goals as goal

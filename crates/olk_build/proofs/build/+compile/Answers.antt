@@ -11,12 +11,17 @@ use Rattle.olk_spec.specs.Schemas.{listed, numbered}
 use Rattle.olk_spec.specs.Costs.{cost}
 use Rattle.olk_spec.specs.Faults.{fault}
 use Rattle.olk_reports.proofs.Errors.{kind_of_multiple_types}
-use Rattle.olk_node.specs.Kit.{kit, world}
+use Rattle.olk_base.specs.Kit.{kit, world}
 use Rattle.olk_members.specs.Members.{malformations_at, member_malformations, member_cost}
-use Rattle.olk_build.specs.Building.{AreBuilt, Refuses, RefusesMember, TellsOneOf, all_malformed, all_cost}
-use Rattle.olk_build.specs.Reading.{own_faults, own_cost_of, places_malformed, places_cost, PlacesAreBuilt, PartsAreBuilt, IsPart}
-use Rattle.olk_build.proofs.Spending.{exit, refuses_among, memory_among, refuses_memory, within_nothing, within_exactly}
-use Rattle.olk_build.proofs.Built.{items_list-view, items_after, items_more, items_whole, items_start, none_built, one_more_built, built_truth, built_object, refuses_object, refuses_no_schema, no_schema_is}
+use Rattle.olk_build.specs.Building.{AreBuilt, RefusesMember, all_cost}
+use Rattle.olk_read.specs.Refusing.{Refuses, TellsOneOf}
+use Rattle.olk_make.specs.Holding.{all_malformed}
+use Rattle.olk_read.specs.Reading.{own_faults, own_cost_of}
+use Rattle.olk_build.specs.Placing.{places_malformed, places_cost, PlacesAreBuilt, PartsAreBuilt, IsPart}
+use Rattle.olk_read.proofs.Spending.{exit, refuses_among, memory_among, refuses_memory, within_nothing, within_exactly}
+use Rattle.olk_spec.proofs.Maps.{items_list-view}
+use Rattle.olk_build.proofs.Built.{items_after, items_more, items_whole, items_start, none_built, one_more_built, built_truth, built_object, refuses_object, refuses_no_schema}
+use Rattle.olk_members.proofs.Objects.{no_schema_is}
 use Rattle.olk_build.proofs.Parts.{refuses_part_own, refuses_part_inside, part_is_built, no_parts, one_more_part}
 use Rattle.olk_build.proofs.build.+compile.Goals as goal
 

@@ -3,9 +3,9 @@ use Rattle.serde_json.specs.Data.{Data}
 use Rattle.serde_json.specs.View.{view, members_view}
 use Rattle.olk_spec.specs.Names.{Name}
 use Rattle.olk_spec.specs.Schemas.{listed, numbered}
-use Rattle.olk_node.specs.Kit.{kit}
+use Rattle.olk_base.specs.Kit.{kit}
 use Rattle.olk_build.specs.Building.{AreBuilt}
-use Rattle.olk_build.specs.Reading.{PartsAreBuilt}
+use Rattle.olk_build.specs.Placing.{PartsAreBuilt}
 use Rattle.olk_build.proofs.build.+compile.Given as goal
 
 -- the nodes so far are built for the entries so far

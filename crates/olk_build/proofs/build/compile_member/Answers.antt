@@ -2,9 +2,9 @@ use Rattle.std.specs.Prelude.{IfOk}
 use Rattle.std.proofs.Common.{subst}
 use Rattle.serde_json.specs.View.{view}
 use Rattle.olk_spec.specs.Names.{◌//◌}
-use Rattle.olk_node.specs.Kit.{kit}
-use Rattle.olk_build.specs.Reading.{IsPart}
-use Rattle.olk_build.proofs.Spending.{exit}
+use Rattle.olk_base.specs.Kit.{kit}
+use Rattle.olk_build.specs.Placing.{IsPart}
+use Rattle.olk_read.proofs.Spending.{exit}
 use Rattle.olk_build.proofs.Parts.{refuses_member_memory}
 use Rattle.olk_build.proofs.build.compile_member.Goals as goal
 

@@ -1,10 +1,10 @@
 use Rattle.std.proofs.Common.{[], ◌∷◌, refl, subst}
 use Rattle.serde_json.specs.View.{view, members_view}
-use Rattle.olk_node.specs.Kit.{kit}
+use Rattle.olk_base.specs.Kit.{kit}
 use Rattle.olk_members.specs.Plans.{planned}
-use Rattle.olk_build.specs.Forms.{IsProperties}
-use Rattle.olk_build.specs.Making.{MakesClaims}
-use Rattle.olk_build.specs.declared.part.Shape.TheVariants as shape
+use Rattle.olk_make.specs.Forms.{IsProperties}
+use Rattle.olk_make.specs.Making.{MakesClaims}
+use Rattle.olk_read.specs.declared.shape.Shape.TheVariants as shape
 use Rattle.olk_build.proofs.Modules.{no_other_properties, properties_built, properties_is_formed, properties_memory}
 use Rattle.olk_build.proofs.properties.compile.Goals as goal
 

@@ -1,5 +1,5 @@
 use Rattle.serde_json.specs.View.{view}
-use Rattle.olk_node.specs.Kit.{kit}
+use Rattle.olk_base.specs.Kit.{kit}
 use Rattle.olk_build.proofs.Modules.{no_other_required, required_built, required_is_formed}
 use Rattle.olk_build.proofs.required.compile.Goals as goal
 

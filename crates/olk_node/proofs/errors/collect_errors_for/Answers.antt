@@ -1,6 +1,6 @@
 use Rattle.std.proofs.lemmas.Result.{on_ok_weaker}
 use Rattle.olk_base.specs.Nodes.{data_of}
-use Rattle.olk_node.specs.Kit.{kit}
+use Rattle.olk_base.specs.Kit.{kit}
 use Rattle.olk_node.proofs.Reports.{report_of_schema}
 use Rattle.olk_node.proofs.errors.collect_errors_for.Goals as goal
 

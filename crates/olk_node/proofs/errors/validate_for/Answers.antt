@@ -1,6 +1,6 @@
 use Rattle.std.proofs.lemmas.Result.{on_ok_weaker}
 use Rattle.olk_base.specs.Nodes.{data_of}
-use Rattle.olk_node.specs.Kit.{kit}
+use Rattle.olk_base.specs.Kit.{kit}
 use Rattle.olk_errors.proofs.Appending.{told_so}
 use Rattle.olk_node.proofs.Reports.{accepts_of_schema, refusal_of_schema}
 use Rattle.olk_node.proofs.errors.validate_for.Goals as goal

@@ -3,7 +3,7 @@ use Rattle.std.proofs.lemmas.Result.{on_ok_weaker}
 use mathlib.Core.Path.{subst₂}
 use Rattle.serde_json.specs.View.{view}
 use Rattle.olk_spec.specs.Meaning.{report}
-use Rattle.olk_node.specs.Kit.{world}
+use Rattle.olk_base.specs.Kit.{world}
 use Rattle.olk_check.proofs.Asked.{only_then}
 use Rattle.olk_errors.specs.Found.{Appends}
 use Rattle.object_logic.proofs.Appended.{none_appended, none_reported}

@@ -3,7 +3,7 @@ use Rattle.std.proofs.lemmas.Result.{on_ok_weaker}
 use mathlib.Core.Path.{subst₂}
 use Rattle.serde_json.specs.View.{view}
 use Rattle.olk_spec.specs.Meaning.{accepts}
-use Rattle.olk_node.specs.Kit.{world}
+use Rattle.olk_base.specs.Kit.{world}
 use Rattle.olk_check.proofs.Asked.{only_then}
 use Rattle.olk_errors.specs.Found.{IsRefusal}
 use Rattle.olk_errors.proofs.Appending.{told_so}

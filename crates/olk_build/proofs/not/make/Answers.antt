@@ -1,6 +1,0 @@
-use Rattle.olk_node.specs.Kit.{kit}
-use Rattle.olk_build.proofs.Makes.{makes_not}
-use Rattle.olk_build.proofs.not.make.Goals as goal
-
-pub returns-clause-makes : goal.returns-clause-makes
-returns-clause-makes g c = makes_not (kit g.K.Leaf g.R.RegexEngine) c.args.original c.args.location c.in-Some.node c.pop.new.self.items c.args.nodes.items c.in-Some.ensures.items

@@ -1,0 +1,55 @@
+-- What the places of a keyword and the parts of a schema object are built of.
+use Rattle.std.specs.Prelude.{◌≡◌, List, [], ◌∷◌}
+use Rattle.serde_json.specs.Data.{Data, Members}
+use Rattle.olk_spec.specs.Names.{Name, Path, ◌//◌}
+use Rattle.olk_spec.specs.Schemas.{listed, members, numbered}
+use Rattle.olk_spec.specs.Malformed.{items_of_array}
+use Rattle.olk_spec.specs.Faults.{Fault}
+use Rattle.olk_spec.specs.Costs.{Cost, no_cost, cost}
+use Rattle.olk_base.specs.Count.{Counts}
+use Rattle.olk_reports.specs.declared.error.BuildError.{BuildError}
+use Rattle.olk_base.specs.Kit.{Kit}
+use Rattle.olk_members.specs.Members.{malformations_at}
+use Rattle.olk_read.specs.Refusing.{Spends, Refuses}
+use Rattle.olk_build.specs.Building.{each_malformed, each_cost, all_cost}
+use Rattle.olk_make.specs.Holding.{all_malformed}
+use Rattle.olk_node.specs.declared.node.SchemaNode.{SchemaNode}
+use Rattle.olk_read.specs.declared.shape.ReadPlaces.{ReadPlaces}
+use Rattle.olk_read.specs.declared.shape.ReadPlaces.TheVariants.{Nothing, Itself, Entries, Branches}
+use Rattle.olk_make.specs.declared.part.Part.{Part}
+use Rattle.olk_make.specs.Standing.{StandAt, PartsStand}
+
+module _ {K R : Type 0} (o : Kit K R) where
+  abbrev pub places_malformed : ReadPlaces → Data → Path → List Fault
+  places_malformed Nothing d L = []
+  places_malformed Itself d L = malformations_at o.world d L
+  places_malformed Entries d L = each_malformed o L (members d)
+  places_malformed Branches d L = each_malformed o L (numbered (items_of_array d))
+
+  abbrev pub places_cost : ReadPlaces → Data → Cost
+  places_cost Nothing d = no_cost
+  places_cost Itself d = cost o.world d
+  places_cost Entries d = each_cost o (members d)
+  places_cost Branches d = each_cost o (numbered (items_of_array d))
+
+  abbrev pub RefusesPlaces : ReadPlaces → Data → Path → Counts → Counts → BuildError → Type 0
+  RefusesPlaces r d L old new e = Refuses (places_malformed r d L) (places_cost r d) old new e
+
+  pub record PlacesAreBuilt (r : ReadPlaces) (ns : List (SchemaNode K R)) (d : Data) (L : Path) (old new : Counts) : Type 0 where
+    pub stand : StandAt o r ns d L
+    pub clean : places_malformed r d L ≡ []
+    pub spends : Spends old new (places_cost r d)
+
+  -- parts for the members es of the schema object with the members ms at P
+  pub record PartsAreBuilt (ms : Members) (ps : List (Part K (SchemaNode K R))) (es : List (Name × Data)) (P : Path) (old new : Counts) : Type 0 where
+    pub stand : PartsStand o ps es P
+    pub clean : all_malformed o ms P es ≡ []
+    pub spends : Spends old new (all_cost o ms es)
+
+  -- parts for all members
+  abbrev pub ObjectIsParted : Members → List (Part K (SchemaNode K R)) → Path → Counts → Counts → Type 0
+  ObjectIsParted ms ps P old new = PartsAreBuilt ms ps (listed ms) P old new
+
+  -- the part of the keyword of the name k and the value d at its place, in each object
+  abbrev pub IsPart : Part K (SchemaNode K R) → Name → Data → Path → Counts → Counts → Type 0
+  IsPart p k d L old new = (ms : Members) (P : Path) → L ≡ P // k → PartsAreBuilt ms (p ∷ []) ((k, d) ∷ []) P old new

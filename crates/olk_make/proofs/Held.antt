@@ -1,0 +1,547 @@
+-- What holds a keyword.
+use Rattle.std.specs.Prelude.{◌≡◌, cond, Option, Some, None, is_some, option_to_list, ◌≤◌, ℕ, ◌+◌, Bool, true, false, not, ◌&&◌, ◌||◌, List, [], ◌∷◌, ◌++◌, map, sum_by, codes, Vec, String, string_bytes, bytes_eq}
+use Rattle.std.specs.List.{list_all, list_any, flat_map}
+use Rattle.std.specs.Ordering.{nat_cmp, is_eq}
+use Rattle.std.specs.Cmp.Lexicographic.{slice_cmp}
+use Rattle.std.specs.declared.cmp.Ordering.{Ordering}
+use Rattle.std.specs.declared.cmp.Ordering.TheVariants.{Less, Equal, Greater}
+use Rattle.std.proofs.lemmas.Map.Text.{is_eq-slice_cmp}
+use Rattle.std.specs.declared.alloc.Global.{Global}
+use Rattle.std.proofs.Common.{refl, sym, ◌∙◌, ap, subst, arith}
+use Rattle.std.proofs.lemmas.List.{append-nil}
+use Rattle.std.proofs.lemmas.List.Sums.{sum_by-cons}
+use mathlib.Core.Bool.{true≢false}
+use mathlib.Core.Path.{subst₂}
+use Rattle.serde_json.specs.Data.{Data, object, array, Members, Items}
+use Rattle.serde_json.specs.View.{view}
+use Rattle.serde_json.specs.declared.value.Value.{Value}
+use Rattle.olk_spec.specs.Names.{Name, Path, ◌//◌, lookup, first_if_equal, those, put_if, is_empty, is_among}
+use Rattle.olk_spec.specs.Vocabulary.{Keyword, properties, required, all_of, any_of, not_keyword, leaf, unread, keyword_named}
+use Rattle.olk_spec.specs.Faults.{Fault, AnyOf, Not, Leaf, fault, Context, context, IsLikeContext, like_none, like_branch, like, like_any_of, ◌∼◌, like_empty, like_next, like_through}
+use Rattle.olk_spec.specs.Schemas.{read_members, listed, numbered, at, members, texts, is_object}
+use Rattle.olk_spec.specs.Malformed.{has_repeat, items_list}
+use Rattle.olk_spec.specs.Meaning.{accepts, asks, report, tree, meaning_step}
+use Rattle.olk_spec.specs.Accepts.{missing}
+use Rattle.olk_spec.specs.Reports.{required_faults, fault_if}
+use Rattle.olk_spec.specs.Tree.{Tree, leaf_node, result, plain, erring, described}
+use Rattle.olk_spec.specs.Trees.{missing_child}
+use Rattle.olk_spec.proofs.Named.{Named, named as is_named}
+use Rattle.olk_spec.proofs.Order.{∼_same, ∼_append, ∼_behind, ∼_swap, ∼_flat_map_any, faults_in-from}
+use Rattle.olk_spec.proofs.Truth.{and_true, or_false}
+use Rattle.olk_spec.proofs.Walks.{neither, same_name}
+use Rattle.olk_base.specs.Kit.{Kit}
+use Rattle.olk_tree.specs.Questions.{Question, every, some}
+use Rattle.olk_tree.specs.Answers.{beside, named, validator_means, validator_report, validator_tree}
+use Rattle.olk_node.specs.Nodes.{answers}
+use Rattle.olk_tree.specs.Shown.{missing_trees, properties_tree, branch_trees, any_of_tree}
+use Rattle.olk_node.specs.Stands.{StandsFor}
+use Rattle.olk_members.specs.Members.{member_accepts, member_asks, member_report, member_child, StandsAlone}
+use Rattle.olk_members.specs.Plans.{Planned, head, claims}
+use Rattle.olk_make.specs.Forms.{IsFormOfProperties, IsFormOfAllOf, IsFormOfAnyOf}
+use Rattle.olk_members.specs.Fused.{fused_names}
+use Rattle.olk_make.specs.Holding.{StandEach, which, Holds, Covers}
+use Rattle.olk_make.specs.Making.{KeywordMeans, KeywordsMean}
+use Rattle.olk_tree.specs.declared.map.SmallMap.{SmallMap}
+use Rattle.olk_tree.specs.declared.properties.SmallPropertiesWithRequired2.{SmallPropertiesWithRequired2}
+use Rattle.olk_tree.specs.declared.node.KeywordOver.{KeywordOver}
+use Rattle.olk_tree.specs.declared.node.KeywordOver.TheVariants as keyword
+use Rattle.olk_node.specs.declared.node.SchemaNode.{SchemaNode}
+use Rattle.olk_members.proofs.Facts as fact
+use Rattle.olk_make.proofs.Together.{means_alone, means_permuted}
+use Rattle.olk_members.proofs.Claims.{listing, fuses, claims_itself, claims_both, claims_nothing, heads_elsewhere}
+use Rattle.olk_members.proofs.Heads.{names_of}
+use Rattle.olk_members.proofs.Clean.{free, not_fused, fused, names_fused}
+use Rattle.olk_members.proofs.Children.{shown_at, shown_declared, branches_shown, accepting_branches, any_shown, properties_child, required_child, no_required_child, all_of_child, any_of_child, not_child, leaf_child}
+use Rattle.olk_spec.proofs.Maps.{is_empty-map}
+
+-- ---- numbers and counts
+
+with_nothing : (a b : ℕ) → a ≤ b → a + 0 ≤ b
+with_nothing a b h = omega (arith, h)
+
+sum_within : (a b c d e : ℕ) → a ≤ b → c ≤ d → e ≡ b + d → a + c ≤ e
+sum_within a b c d e h k s = omega (arith, h, k, s)
+
+same_within : (a b c : ℕ) → a ≤ b → c ≡ b → a ≤ c
+same_within a b c h e = omega (arith, h, e)
+
+module _ {K R : Type 0} (o : Kit K R) where
+  abbrev question : KeywordOver K (SchemaNode K R) → Data → Question
+  question k v = validator_means o.finds (λ n. (answers o n).means) k v
+
+  abbrev shown : Bool → KeywordOver K (SchemaNode K R) → Data → Path → Tree
+  shown u k v Q = validator_tree o.finds (λ n. (answers o n).means) o.keyword_of (λ n. (answers o n).tree) u k v Q
+
+  abbrev found : Bool → KeywordOver K (SchemaNode K R) → Data → Path → List Fault
+  found u k v Q = validator_report o.finds (λ n. (answers o n).means) o.keyword_of (λ n. (answers o n).report) u k v Q
+
+  -- ---- nodes that stand for schemas
+
+  module _ (n : SchemaNode K R) (S : Data) (L : Path) (h : StandsFor o n S L) (u : Bool) where
+    node_accepts : (xs : List Data) → (every (answers o n).means xs).accepts u ≡ list_all (accepts o.world u S) xs
+    node_accepts [] = refl
+    node_accepts (x ∷ xs) = λ i. h.verdict u x i && node_accepts xs i
+
+    node_asks : (xs : List Data) → (every (answers o n).means xs).asks u ≤ sum_by (asks o.world u S) xs
+    node_asks [] = omega arith
+    node_asks (x ∷ xs) = sum_within _ _ _ _ _ (h.asks_within u x) (node_asks xs) (sum_by-cons (asks o.world u S) x xs)
+
+    node_finds : (Q : Path) (xs : List Data) → flat_map (λ x. (answers o n).report u x Q) xs ∼ flat_map (λ x. report o.world u S x L Q) xs
+    node_finds Q xs = ∼_flat_map_any (λ x. (answers o n).report u x Q) (λ x. report o.world u S x L Q) (λ x. h.faults u x Q) xs
+
+  module _ (u : Bool) (v : Data) where
+    abbrev each_at : Name × SchemaNode K R → Question
+    each_at e = every (answers o e.1).means (at e.0 v)
+
+    members_accept : (ns : List (SchemaNode K R)) (es : List (Name × Data)) (L : Path) → StandEach o ns es L → (every each_at (beside (map (λ e. e.0) es) ns)).accepts u ≡ list_all (λ e. list_all (accepts o.world u e.1) (at e.0 v)) es
+    members_accept [] [] L h = refl
+    members_accept [] (e ∷ es) L h = absurd h
+    members_accept (n ∷ ns) [] L h = absurd h
+    members_accept (n ∷ ns) (e ∷ es) L h = λ i. node_accepts n e.1 (L // e.0) h.0 u (at e.0 v) i && members_accept ns es L h.1 i
+
+    members_ask : (ns : List (SchemaNode K R)) (es : List (Name × Data)) (L : Path) → StandEach o ns es L → (every each_at (beside (map (λ e. e.0) es) ns)).asks u ≤ sum_by (λ e. sum_by (asks o.world u e.1) (at e.0 v)) es
+    members_ask [] [] L h = omega arith
+    members_ask [] (e ∷ es) L h = absurd h
+    members_ask (n ∷ ns) [] L h = absurd h
+    members_ask (n ∷ ns) (e ∷ es) L h = sum_within _ _ _ _ _ (node_asks n e.1 (L // e.0) h.0 u (at e.0 v)) (members_ask ns es L h.1) (sum_by-cons (λ e. sum_by (asks o.world u e.1) (at e.0 v)) e es)
+
+    members_find : (Q : Path) (ns : List (SchemaNode K R)) (es : List (Name × Data)) (L : Path) → StandEach o ns es L → flat_map (λ e. flat_map (λ x. (answers o e.1).report u x (Q // e.0)) (at e.0 v)) (beside (map (λ e. e.0) es) ns) ∼ flat_map (λ e. flat_map (λ x. report o.world u e.1 x (L // e.0) (Q // e.0)) (at e.0 v)) es
+    members_find Q [] [] L h = like_empty
+    members_find Q [] (e ∷ es) L h = absurd h
+    members_find Q (n ∷ ns) [] L h = absurd h
+    members_find Q (n ∷ ns) (e ∷ es) L h = ∼_append (node_finds n e.1 (L // e.0) h.0 u (Q // e.0) (at e.0 v)) (members_find Q ns es L h.1)
+
+    abbrev at_value : SchemaNode K R → Question
+    at_value n = (answers o n).means v
+
+    all_accept : (ns : List (SchemaNode K R)) (es : List (Name × Data)) (L : Path) → StandEach o ns es L → (every at_value ns).accepts u ≡ list_all (λ e. accepts o.world u e.1 v) es
+    all_accept [] [] L h = refl
+    all_accept [] (e ∷ es) L h = absurd h
+    all_accept (n ∷ ns) [] L h = absurd h
+    all_accept (n ∷ ns) (e ∷ es) L h = λ i. h.0.verdict u v i && all_accept ns es L h.1 i
+
+    all_ask : (ns : List (SchemaNode K R)) (es : List (Name × Data)) (L : Path) → StandEach o ns es L → (every at_value ns).asks u ≤ sum_by (λ e. asks o.world u e.1 v) es
+    all_ask [] [] L h = omega arith
+    all_ask [] (e ∷ es) L h = absurd h
+    all_ask (n ∷ ns) [] L h = absurd h
+    all_ask (n ∷ ns) (e ∷ es) L h = sum_within _ _ _ _ _ (h.0.asks_within u v) (all_ask ns es L h.1) (sum_by-cons (λ e. asks o.world u e.1 v) e es)
+
+    all_find : (Q : Path) (ns : List (SchemaNode K R)) (es : List (Name × Data)) (L : Path) → StandEach o ns es L → flat_map (λ n. (answers o n).report u v Q) ns ∼ flat_map (λ e. report o.world u e.1 v (L // e.0) Q) es
+    all_find Q [] [] L h = like_empty
+    all_find Q [] (e ∷ es) L h = absurd h
+    all_find Q (n ∷ ns) [] L h = absurd h
+    all_find Q (n ∷ ns) (e ∷ es) L h = ∼_append (h.0.faults u v Q) (all_find Q ns es L h.1)
+
+    any_accept : (ns : List (SchemaNode K R)) (es : List (Name × Data)) (L : Path) → StandEach o ns es L → (some at_value ns).accepts u ≡ list_any (λ e. accepts o.world u e.1 v) es
+    any_accept [] [] L h = refl
+    any_accept [] (e ∷ es) L h = absurd h
+    any_accept (n ∷ ns) [] L h = absurd h
+    any_accept (n ∷ ns) (e ∷ es) L h = λ i. h.0.verdict u v i || any_accept ns es L h.1 i
+
+    any_ask : (ns : List (SchemaNode K R)) (es : List (Name × Data)) (L : Path) → StandEach o ns es L → (some at_value ns).asks u ≤ sum_by (λ e. asks o.world u e.1 v) es
+    any_ask [] [] L h = omega arith
+    any_ask [] (e ∷ es) L h = absurd h
+    any_ask (n ∷ ns) [] L h = absurd h
+    any_ask (n ∷ ns) (e ∷ es) L h = sum_within _ _ _ _ _ (h.0.asks_within u v) (any_ask ns es L h.1) (sum_by-cons (λ e. asks o.world u e.1 v) e es)
+
+    any_context : (Q : Path) (ns : List (SchemaNode K R)) (es : List (Name × Data)) (L : Path) → StandEach o ns es L → IsLikeContext (context (map (λ n. (answers o n).report u v Q) ns)) (context (map (λ e. report o.world u e.1 v (L // e.0) Q) es))
+    any_context Q [] [] L h = like_none
+    any_context Q [] (e ∷ es) L h = absurd h
+    any_context Q (n ∷ ns) [] L h = absurd h
+    any_context Q (n ∷ ns) (e ∷ es) L h = like_branch (subst₂ (λ x y. x ∼ y) (sym (faults_in-from ((answers o n).report u v Q))) (sym (faults_in-from (report o.world u e.1 v (L // e.0) Q))) (h.0.faults u v Q)) (any_context Q ns es L h.1)
+
+    branches_show : (Q : Path) (ns : List (SchemaNode K R)) (es : List (Name × Data)) (L : Path) → StandEach o ns es L → map (λ n. (answers o n).tree u v Q) ns ≡ branches_shown o.world u v L Q es
+    branches_show Q [] [] L h = refl
+    branches_show Q [] (e ∷ es) L h = absurd h
+    branches_show Q (n ∷ ns) [] L h = absurd h
+    branches_show Q (n ∷ ns) (e ∷ es) L h = λ i. h.0.evaluation u v Q i ∷ branches_show Q ns es L h.1 i
+
+    abbrev accepts_value : SchemaNode K R → Bool
+    accepts_value n = ((answers o n).means v).accepts u
+
+    accepting_show : (Q : Path) (ns : List (SchemaNode K R)) (es : List (Name × Data)) (L : Path) → StandEach o ns es L → map (λ n. (answers o n).tree u v Q) (those accepts_value ns) ≡ branches_shown o.world u v L Q (accepting_branches o.world u v es)
+    accepting_show Q [] [] L h = refl
+    accepting_show Q [] (e ∷ es) L h = absurd h
+    accepting_show Q (n ∷ ns) [] L h = absurd h
+    accepting_show Q (n ∷ ns) (e ∷ es) L h = ap (λ b. map (λ n. (answers o n).tree u v Q) (put_if b n (those accepts_value ns))) (h.0.verdict u v) ∙ by (accepts o.world u e.1 v) (accepting_show Q ns es L h.1)
+      where
+        by : (b : Bool) → map (λ n. (answers o n).tree u v Q) (those accepts_value ns) ≡ branches_shown o.world u v L Q (accepting_branches o.world u v es)
+            → map (λ n. (answers o n).tree u v Q) (put_if b n (those accepts_value ns)) ≡ branches_shown o.world u v L Q (put_if b e (accepting_branches o.world u v es))
+        by true g = λ i. h.0.evaluation u v Q i ∷ g i
+        by false g = g
+
+    any_show : (Q : Path) (ns : List (SchemaNode K R)) (es : List (Name × Data)) (L : Path) → StandEach o ns es L → any_of_tree (λ n. (answers o n).tree u) v Q accepts_value L ns ≡ any_shown o.world u v L Q es
+    any_show Q ns es L h = λ i. cond (none i) (result L Q None true [] (branches_show Q ns es L h i)) (plain L Q (accepting_show Q ns es L h i))
+      where
+        none : is_empty (those accepts_value ns) ≡ is_empty (accepting_branches o.world u v es)
+        none = sym (is_empty-map (λ n. (answers o n).tree u v Q) (those accepts_value ns)) ∙ ap is_empty (accepting_show Q ns es L h) ∙ is_empty-map (λ e. tree o.world u e.1 v (L // e.0) Q) (accepting_branches o.world u v es)
+
+    beside_names : (ns : List (SchemaNode K R)) (es : List (Name × Data)) (L : Path) → StandEach o ns es L → map {A = Name × SchemaNode K R} (λ e. e.0) (beside (map (λ e. e.0) es) ns) ≡ map {A = Name × Data} (λ e. e.0) es
+    beside_names [] [] L h = refl
+    beside_names [] (e ∷ es) L h = absurd h
+    beside_names (n ∷ ns) [] L h = absurd h
+    beside_names (n ∷ ns) (e ∷ es) L h = ap (λ ks. e.0 ∷ ks) (beside_names ns es L h.1)
+
+    member_shows : (Q : Path) (m : Name × Data) (ns : List (SchemaNode K R)) (es : List (Name × Data)) (L : Path) → StandEach o ns es L → map (λ n. (answers o n).tree u m.1 (Q // m.0)) (option_to_list (lookup m.0 (beside (map (λ e. e.0) es) ns))) ≡ shown_at o.world u v L Q es m
+    member_shows Q m [] [] L h = refl
+    member_shows Q m [] (e ∷ es) L h = absurd h
+    member_shows Q m (n ∷ ns) [] L h = absurd h
+    member_shows Q m (n ∷ ns) (e ∷ es) L h = by (slice_cmp nat_cmp m.0 e.0) (is_eq-slice_cmp m.0 e.0) (member_shows Q m ns es L h.1)
+      where
+        by : (c : Ordering) → is_eq c ≡ bytes_eq m.0 e.0 → map (λ n. (answers o n).tree u m.1 (Q // m.0)) (option_to_list (lookup m.0 (beside (map (λ e. e.0) es) ns))) ≡ shown_at o.world u v L Q es m
+            → map (λ n. (answers o n).tree u m.1 (Q // m.0)) (option_to_list (first_if_equal c n (lookup m.0 (beside (map (λ e. e.0) es) ns)))) ≡ map (λ d. tree o.world u d m.1 (L // m.0) (Q // m.0)) (option_to_list (first_if_equal c e.1 (lookup m.0 es)))
+        by Less q g = g
+        by Equal q g = (λ i. h.0.evaluation u m.1 (Q // m.0) i ∷ []) ∙ ap (λ k. tree o.world u e.1 m.1 (L // k) (Q // m.0) ∷ []) (sym (same_name m.0 e.0 (sym q)))
+        by Greater q g = g
+
+    members_show : (Q : Path) (ms : List (Name × Data)) (ns : List (SchemaNode K R)) (es : List (Name × Data)) (L : Path) → StandEach o ns es L → flat_map (λ m. map (λ n. (answers o n).tree u m.1 (Q // m.0)) (option_to_list (lookup m.0 (beside (map (λ e. e.0) es) ns)))) ms ≡ flat_map (shown_at o.world u v L Q es) ms
+    members_show Q [] ns es L h = refl
+    members_show Q (m ∷ ms) ns es L h = λ i. member_shows Q m ns es L h i ++ members_show Q ms ns es L h i
+
+    declared_show : (Q : Path) (more : List Tree) (ns : List (SchemaNode K R)) (es : List (Name × Data)) (L : Path) → StandEach o ns es L → properties_tree (λ n. (answers o n).tree u) v Q L (beside (map (λ e. e.0) es) ns) more ≡ shown_declared o.world u v L Q es more
+    declared_show Q more ns es L h = λ i. result L Q (cond (is_object v) (Some (map (λ m. m.0) (those (λ m. is_among m.0 (beside_names ns es L h i)) (members v)))) None) false [] (members_show Q (members v) ns es L h i ++ more)
+
+  any_fault : (b : Bool) (c d : Context) (v : Data) (P Q : Path) → IsLikeContext c d → fault_if b (AnyOf c) v P Q ∼ fault_if b (AnyOf d) v P Q
+  any_fault true c d v P Q h = like_next (like (like_any_of h)) like_empty
+  any_fault false c d v P Q h = like_empty
+
+  -- ---- one keyword
+
+  module _ (ms : Members) (k : KeywordOver K (SchemaNode K R)) (m : Name × Data) (w : Keyword) (P : Path) where
+    one : ((u : Bool) (v : Data) → (question k v).accepts u ≡ member_accepts o.world ms m w u v)
+        → ((u : Bool) (v : Data) → (question k v).asks u ≤ member_asks o.world ms m w u v)
+        → ((u : Bool) (v : Data) (Q : Path) → found u k v Q ∼ member_report o.world ms m w u v P Q)
+        → Holds o ms (k ∷ []) m w P
+    one a q f = record {
+      verdict = λ u v. and_true ((question k v).accepts u) ∙ a u v;
+      asks_within = λ u v. with_nothing ((question k v).asks u) (member_asks o.world ms m w u v) (q u v);
+      faults = λ u v Q. subst (λ fs. fs ∼ member_report o.world ms m w u v P Q) (sym (append-nil (found u k v Q))) (f u v Q);
+    }
+
+  -- ---- properties
+
+  module _ (m : SmallMap (SchemaNode K R)) (L : Path) (es : List (Name × Data)) (names : m.names ≡ map (λ e. e.0) es) (stand : StandEach o m.nodes.items es L) where
+    abbrev properties_keyword : KeywordOver K (SchemaNode K R)
+    properties_keyword = keyword.Properties (record { properties = m; location = L })
+
+    module _ (u : Bool) (v : Data) where
+      properties_accept : (question properties_keyword v).accepts u ≡ list_all (λ e. list_all (accepts o.world u e.1) (at e.0 v)) es
+      unfolding validator_means
+      properties_accept = ap (λ ks. (every (each_at u v) (beside ks m.nodes.items)).accepts u) names ∙ members_accept u v m.nodes.items es L stand
+
+      properties_ask : (question properties_keyword v).asks u ≤ sum_by (λ e. sum_by (asks o.world u e.1) (at e.0 v)) es
+      unfolding validator_means
+      properties_ask = subst (λ ks. (every (each_at u v) (beside ks m.nodes.items)).asks u ≤ sum_by (λ e. sum_by (asks o.world u e.1) (at e.0 v)) es) (sym names) (members_ask u v m.nodes.items es L stand)
+
+      properties_find : (Q : Path) → found u properties_keyword v Q ∼ flat_map (λ e. flat_map (λ x. report o.world u e.1 x (L // e.0) (Q // e.0)) (at e.0 v)) es
+      unfolding validator_report
+      properties_find Q = subst (λ ks. flat_map (λ e. flat_map (λ x. (answers o e.1).report u x (Q // e.0)) (at e.0 v)) (beside ks m.nodes.items) ∼ flat_map (λ e. flat_map (λ x. report o.world u e.1 x (L // e.0) (Q // e.0)) (at e.0 v)) es) (sym names) (members_find u v Q m.nodes.items es L stand)
+
+      properties_show : (Q : Path) (more : List Tree) → properties_tree (λ n. (answers o n).tree u) v Q L (named m) more ≡ shown_declared o.world u v L Q es more
+      properties_show Q more = ap (λ ks. properties_tree (λ n. (answers o n).tree u) v Q L (beside ks m.nodes.items) more) names ∙ declared_show u v Q more m.nodes.items es L stand
+
+      alone_show : (Q : Path) → shown u properties_keyword v Q ≡ properties_tree (λ n. (answers o n).tree u) v Q L (named m) []
+      unfolding validator_tree
+      alone_show Q = refl
+
+  pub means_properties : (m : SmallMap (SchemaNode K R)) (L : Path) (fs : Members) (d : Data) → d ≡ object fs → m.names ≡ map (λ e. e.0) (listed fs) → StandEach o m.nodes.items (listed fs) L → (ms : Members) (P : Path) → L ≡ P // codes "properties" → KeywordMeans o ms (keyword.Properties (record { properties = m; location = L }) ∷ []) (codes "properties", d) P
+  means_properties m L fs d q names stand ms P p = subst (λ x. KeywordMeans o ms (properties_keyword m L (listed fs) names stand ∷ []) (codes "properties", x) P) (sym q) (record {
+    holds = one ms (properties_keyword m L (listed fs) names stand) (codes "properties", object fs) properties P
+        (λ u v. properties_accept m L (listed fs) names stand u v ∙ sym (fact.properties_accepts o.world ms fs u v))
+        (λ u v. same_within _ _ _ (properties_ask m L (listed fs) names stand u v) (fact.properties_asks o.world ms fs u v))
+        (λ u v Q. subst (λ l. found u (properties_keyword m L (listed fs) names stand) v Q ∼ l)
+        (ap (λ M. flat_map (λ e. flat_map (λ x. report o.world u e.1 x (M // e.0) (Q // e.0)) (at e.0 v)) (listed fs)) p ∙ sym (fact.properties_report o.world ms fs u v P Q))
+        (properties_find m L (listed fs) names stand u v Q));
+    shows = λ u h v Q.
+        ap (λ t. t ∷ []) (alone_show m L (listed fs) names stand u v Q ∙ properties_show m L (listed fs) names stand u v Q [] ∙ ap (λ M. shown_declared o.world u v M Q (listed fs) []) p)
+        ∙ ap (λ b. shown_declared o.world u v (P // codes "properties") Q (listed fs) (missing_child o.world u (read_members (meaning_step o.world u) ms) v P Q b) ∷ []) (sym h.2)
+        ∙ sym (properties_child o.world u v ms P Q fs h.0 h.1);
+  })
+
+  -- ---- properties, with required or alone
+
+  module _ (ms : Members) (m : SmallMap (SchemaNode K R)) (L P : Path) (k : SmallPropertiesWithRequired2 (SchemaNode K R)) (t : Name × Name) (form : IsFormOfProperties {K = K} P L m (Some t) (keyword.PropertiesWithRequired2 k)) where
+    abbrev alone : KeywordOver K (SchemaNode K R)
+    alone = keyword.Properties (record { properties = m; location = L })
+
+    abbrev lacking : Data → List Name
+    lacking v = missing (t.0 ∷ t.1 ∷ []) v
+
+    module _ (u : Bool) (v : Data) where
+      both_accept : (question (keyword.PropertiesWithRequired2 k) v).accepts u ≡ (is_empty (lacking v) && (question alone v).accepts u)
+      unfolding validator_means
+      both_accept = λ i. is_empty (missing (form.2 i ∷ form.3 i ∷ []) v) && (question (keyword.Properties (record { properties = form.0 i; location = L })) v).accepts u
+
+      both_ask : (question (keyword.PropertiesWithRequired2 k) v).asks u ≡ 0 + (question alone v).asks u
+      unfolding validator_means
+      both_ask = λ i. 0 + (question (keyword.Properties (record { properties = form.0 i; location = L })) v).asks u
+
+      both_find : (Q : Path) → found u (keyword.PropertiesWithRequired2 k) v Q ≡ required_faults (t.0 ∷ t.1 ∷ []) v (P // codes "required") Q ++ found u alone v Q
+      unfolding validator_report
+      both_find Q = λ i. required_faults (form.2 i ∷ form.3 i ∷ []) v (form.4 i) Q ++ found u (keyword.Properties (record { properties = form.0 i; location = L })) v Q
+
+      both_show : (Q : Path) → shown u (keyword.PropertiesWithRequired2 k) v Q ≡ properties_tree (λ n. (answers o n).tree u) v Q L (named m) (missing_trees (t.0 ∷ t.1 ∷ []) v (P // codes "required") Q)
+      unfolding validator_tree
+      both_show Q = λ i. properties_tree (λ n. (answers o n).tree u) v Q (form.1 i) (named (form.0 i)) (missing_trees (form.2 i ∷ form.3 i ∷ []) v (form.4 i) Q)
+
+    covers_both : (d : Data) → Holds o ms (alone ∷ []) (codes "properties", d) properties P → Covers o ms (keyword.PropertiesWithRequired2 k ∷ []) ((codes "properties", d) ∷ (codes "required", listing t) ∷ []) P
+    covers_both d h = record {
+      verdict = λ u v. ap (λ b. b && true) (both_accept u v) ∙ turned (is_empty (lacking v)) ((question alone v).accepts u) ∙ (λ i. h.verdict u v i && (sym (fact.required_accepts o.world ms (listing t) u v) i && true));
+      asks_within = λ u v.
+          let f : Name × Data → ℕ = λ x. member_asks o.world ms x (which o ms x) u v in
+          let b = both_ask u v in
+          let s = sum_by-cons f (codes "properties", d) ((codes "required", listing t) ∷ []) in
+          let q = h.asks_within u v in
+          omega (arith, b, s, q);
+      faults = λ u v Q. subst₂ (λ x y. x ∼ y)
+          (sym (append-nil _ ∙ both_find u v Q))
+          (ap (λ l. member_report o.world ms (codes "properties", d) properties u v P Q ++ l) (sym (append-nil _ ∙ fact.required_report o.world ms (listing t) u v P Q)))
+          (like_through (∼_swap (required_faults (t.0 ∷ t.1 ∷ []) v (P // codes "required") Q) (found u alone v Q))
+          (∼_behind (required_faults (t.0 ∷ t.1 ∷ []) v (P // codes "required") Q) (subst (λ l. l ∼ member_report o.world ms (codes "properties", d) properties u v P Q) (append-nil (found u alone v Q)) (h.faults u v Q))));
+    }
+      where
+        turned : (a b : Bool) → ((a && b) && true) ≡ ((b && true) && (a && true))
+        turned true true = refl
+        turned true false = refl
+        turned false true = refl
+        turned false false = refl
+
+  -- what is planned for an object, by its fused names
+  abbrev by_names : Option (Name × Name) → Planned
+  by_names t = record { fused = t }
+
+  pub means_form : (k : KeywordOver K (SchemaNode K R)) (m : SmallMap (SchemaNode K R)) (L P : Path) (t : Option (Name × Name)) (fs : Members) (d : Data) → d ≡ object fs → m.names ≡ map (λ e. e.0) (listed fs) → StandEach o m.nodes.items (listed fs) L → IsFormOfProperties P L m t k
+      → (ms : Members) → L ≡ P // codes "properties" → has_repeat (names_of (listed ms)) ≡ false → lookup (codes "properties") (listed ms) ≡ Some d → t ≡ fused_names ms → KeywordsMean o ms (k ∷ []) (claims (head (by_names t)) (listed ms) (codes "properties", d)) ((codes "properties", d) ∷ []) P
+  means_form (keyword.Properties k) m L P None fs d q names stand form ms p distinct there chosen =
+      subst (λ rows. KeywordsMean o ms (keyword.Properties k ∷ []) rows ((codes "properties", d) ∷ []) P) (sym (claims_itself ms distinct (head (by_names None)) (codes "properties", d) (λ n. refl) there))
+      (subst (λ x. KeywordsMean o ms (keyword.Properties x ∷ []) ((codes "properties", d) ∷ []) ((codes "properties", d) ∷ []) P) (λ i. record { properties = sym form.0 i; location = sym form.1 i })
+      (means_alone o ms P _ (codes "properties", d)
+      (λ clean u. (there, free o.world ms P clean (meaning_step o.world u), fused o.world ms P clean (meaning_step o.world u) ∙ ap is_some (sym chosen)))
+      (means_properties m L fs d q names stand ms P p)))
+  means_form (keyword.PropertiesWithRequired2 k) m L P (Some t) fs d q names stand form ms p distinct there chosen =
+      let both = fuses ms distinct t chosen in
+      let plain = means_properties m L fs d q names stand ms P p in
+      means_permuted o ms P (keyword.PropertiesWithRequired2 k ∷ []) ((codes "properties", d) ∷ (codes "required", listing t) ∷ []) (claims (head (by_names (Some t))) (listed ms) (codes "properties", d)) ((codes "properties", d) ∷ []) (claims_both ms distinct t d there chosen) record {
+        covers = covers_both ms m L P k t form d plain.holds;
+        shows = λ clean u v Q.
+            let step = meaning_step o.world u in
+            ap (λ x. x ∷ []) (both_show ms m L P k t form u v Q ∙ properties_show m L (listed fs) names stand u v Q (missing_trees (t.0 ∷ t.1 ∷ []) v (P // codes "required") Q) ∙ ap (λ M. shown_declared o.world u v M Q (listed fs) (missing_trees (t.0 ∷ t.1 ∷ []) v (P // codes "required") Q)) p)
+            ∙ (λ i. shown_declared o.world u v (P // codes "properties") Q (listed fs) (put_if (sym (fused o.world ms P clean step ∙ ap is_some (sym chosen)) i && not (is_empty (missing (sym (names_fused step ms t both.listed_at) i) v))) (erring (P // codes "required") Q (required_faults (sym (names_fused step ms t both.listed_at) i) v (P // codes "required") Q)) []) ∷ [])
+            ∙ sym (append-nil _ ∙ ap (λ x. member_child o.world ms (codes "properties", x) properties u v P Q) q ∙ properties_child o.world u v ms P Q fs (there ∙ ap Some q) (free o.world ms P clean step));
+      }
+  means_form k m L P None fs d q names stand form ms p distinct there chosen = absurd form
+  means_form k m L P (Some t) fs d q names stand form ms p distinct there chosen = absurd form
+
+  -- ---- branches
+
+  module _ (L : Path) (ns : List (SchemaNode K R)) (u : Bool) (v : Data) where
+    all_form_accepts : (k : KeywordOver K (SchemaNode K R)) → IsFormOfAllOf L ns k → (question k v).accepts u ≡ (every (at_value u v) ns).accepts u
+    unfolding validator_means
+    all_form_accepts (keyword.AllOf k) f = ap (λ xs. (every (at_value u v) xs).accepts u) f.0
+    all_form_accepts (keyword.SingleValueAllOf k) f = sym (and_true (((answers o k.node).means v).accepts u)) ∙ ap (λ xs. (every (at_value u v) xs).accepts u) (sym f.0)
+    all_form_accepts k f = absurd f
+
+    all_form_asks : (k : KeywordOver K (SchemaNode K R)) → IsFormOfAllOf L ns k → (question k v).asks u ≤ (every (at_value u v) ns).asks u
+    unfolding validator_means
+    all_form_asks (keyword.AllOf k) f = let e = ap (λ xs. (every (at_value u v) xs).asks u) f.0 in omega (arith, e)
+    all_form_asks (keyword.SingleValueAllOf k) f = let e = ap (λ xs. (every (at_value u v) xs).asks u) f.0 in omega (arith, e)
+    all_form_asks k f = absurd f
+
+    all_form_finds : (Q : Path) (k : KeywordOver K (SchemaNode K R)) → IsFormOfAllOf L ns k → found u k v Q ≡ flat_map (λ n. (answers o n).report u v Q) ns
+    unfolding validator_report
+    all_form_finds Q (keyword.AllOf k) f = ap (flat_map (λ n. (answers o n).report u v Q)) f.0
+    all_form_finds Q (keyword.SingleValueAllOf k) f = sym (append-nil ((answers o k.node).report u v Q)) ∙ ap (flat_map (λ n. (answers o n).report u v Q)) (sym f.0)
+    all_form_finds Q k f = absurd f
+
+    all_form_shows : (Q : Path) (k : KeywordOver K (SchemaNode K R)) → IsFormOfAllOf L ns k → shown u k v Q ≡ plain L Q (branch_trees (λ n. (answers o n).tree u) v Q ns)
+    unfolding validator_tree
+    all_form_shows Q (keyword.AllOf k) f = λ i. plain (f.2 i) Q (branch_trees (λ n. (answers o n).tree u) v Q (f.0 i))
+    all_form_shows Q (keyword.SingleValueAllOf k) f = λ i. plain (f.1 i) Q (branch_trees (λ n. (answers o n).tree u) v Q (sym f.0 i))
+    all_form_shows Q k f = absurd f
+
+    any_form_shows : (Q : Path) (k : KeywordOver K (SchemaNode K R)) → IsFormOfAnyOf L ns k → shown u k v Q ≡ any_of_tree (λ n. (answers o n).tree u) v Q (accepts_value u v) L ns
+    unfolding validator_tree
+    any_form_shows Q (keyword.AnyOf k) f = λ i. any_of_tree (λ n. (answers o n).tree u) v Q (accepts_value u v) (f.2 i) (f.0 i)
+    any_form_shows Q (keyword.SingleAnyOf k) f = λ i. any_of_tree (λ n. (answers o n).tree u) v Q (accepts_value u v) (f.1 i) (sym f.0 i)
+    any_form_shows Q k f = absurd f
+
+    any_form_accepts : (k : KeywordOver K (SchemaNode K R)) → IsFormOfAnyOf L ns k → (question k v).accepts u ≡ (some (at_value u v) ns).accepts u
+    unfolding validator_means
+    any_form_accepts (keyword.AnyOf k) f = ap (λ xs. (some (at_value u v) xs).accepts u) f.0
+    any_form_accepts (keyword.SingleAnyOf k) f = sym (or_false (((answers o k.node).means v).accepts u)) ∙ ap (λ xs. (some (at_value u v) xs).accepts u) (sym f.0)
+    any_form_accepts k f = absurd f
+
+    any_form_asks : (k : KeywordOver K (SchemaNode K R)) → IsFormOfAnyOf L ns k → (question k v).asks u ≤ (some (at_value u v) ns).asks u
+    unfolding validator_means
+    any_form_asks (keyword.AnyOf k) f = let e = ap (λ xs. (some (at_value u v) xs).asks u) f.0 in omega (arith, e)
+    any_form_asks (keyword.SingleAnyOf k) f = let e = ap (λ xs. (some (at_value u v) xs).asks u) f.0 in omega (arith, e)
+    any_form_asks k f = absurd f
+
+    abbrev any_faults : List (SchemaNode K R) → Path → Path → List Fault
+    any_faults xs M Q = fault_if (not ((some (at_value u v) xs).accepts u)) (AnyOf (context (map (λ n. (answers o n).report u v Q) xs))) v M Q
+
+    any_form_finds : (Q : Path) (k : KeywordOver K (SchemaNode K R)) → IsFormOfAnyOf L ns k → found u k v Q ≡ any_faults ns L Q
+    unfolding validator_report
+    any_form_finds Q (keyword.AnyOf k) f = λ i. any_faults (f.0 i) (f.2 i) Q
+    any_form_finds Q (keyword.SingleAnyOf k) f =
+        ap (λ b. fault_if (not b) (AnyOf (context ((answers o k.node).report u v Q ∷ []))) v k.location Q) (sym (or_false (((answers o k.node).means v).accepts u)))
+        ∙ (λ i. any_faults (sym f.0 i) (f.1 i) Q)
+    any_form_finds Q k f = absurd f
+
+  at_most_through : (a b c : ℕ) → a ≤ b → b ≤ c → a ≤ c
+  at_most_through a b c h k = omega (arith, h, k)
+
+  pub means_all_of : (k : KeywordOver K (SchemaNode K R)) (ns : List (SchemaNode K R)) (L : Path) (ds : Items) (d : Data) → d ≡ array ds → IsFormOfAllOf L ns k → StandEach o ns (numbered (items_list ds)) L → (ms : Members) (P : Path) → L ≡ P // codes "allOf" → KeywordMeans o ms (k ∷ []) (codes "allOf", d) P
+  means_all_of k ns L ds d q form stand ms P p = subst (λ x. KeywordMeans o ms (k ∷ []) (codes "allOf", x) P) (sym q) (record {
+    holds = one ms k (codes "allOf", array ds) all_of P
+        (λ u v. all_form_accepts L ns u v k form ∙ all_accept u v ns (numbered (items_list ds)) L stand ∙ sym (fact.all_of_accepts o.world ms ds u v))
+        (λ u v. same_within _ _ _ (at_most_through _ _ _ (all_form_asks L ns u v k form) (all_ask u v ns (numbered (items_list ds)) L stand)) (fact.all_of_asks o.world ms ds u v))
+        (λ u v Q. subst₂ (λ x y. x ∼ y) (sym (all_form_finds L ns u v Q k form))
+        (ap (λ M. flat_map (λ e. report o.world u e.1 v (M // e.0) Q) (numbered (items_list ds))) p ∙ sym (fact.all_of_report o.world ms ds u v P Q))
+        (all_find u v Q ns (numbered (items_list ds)) L stand));
+    shows = λ u h v Q.
+        ap (λ t. t ∷ []) (all_form_shows L ns u v Q k form ∙ ap (plain L Q) (branches_show u v Q ns (numbered (items_list ds)) L stand) ∙ ap (λ M. plain M Q (branches_shown o.world u v M Q (numbered (items_list ds)))) p)
+        ∙ sym (all_of_child o.world u v ms P Q ds);
+  })
+
+  pub means_any_of : (k : KeywordOver K (SchemaNode K R)) (ns : List (SchemaNode K R)) (L : Path) (ds : Items) (d : Data) → d ≡ array ds → IsFormOfAnyOf L ns k → StandEach o ns (numbered (items_list ds)) L → (ms : Members) (P : Path) → L ≡ P // codes "anyOf" → KeywordMeans o ms (k ∷ []) (codes "anyOf", d) P
+  means_any_of k ns L ds d q form stand ms P p = subst (λ x. KeywordMeans o ms (k ∷ []) (codes "anyOf", x) P) (sym q) (record {
+    holds = one ms k (codes "anyOf", array ds) any_of P
+        (λ u v. any_form_accepts L ns u v k form ∙ any_accept u v ns (numbered (items_list ds)) L stand ∙ sym (fact.any_of_accepts o.world ms ds u v))
+        (λ u v. same_within _ _ _ (at_most_through _ _ _ (any_form_asks L ns u v k form) (any_ask u v ns (numbered (items_list ds)) L stand)) (fact.any_of_asks o.world ms ds u v))
+        (λ u v Q. subst₂ (λ x y. x ∼ y) (told u v Q) (meant u v Q) (any_fault (not (list_any (λ e. accepts o.world u e.1 v) (numbered (items_list ds))))
+        (context (map (λ n. (answers o n).report u v Q) ns)) (context (map (λ e. report o.world u e.1 v (L // e.0) Q) (numbered (items_list ds)))) v L Q
+        (any_context u v Q ns (numbered (items_list ds)) L stand)));
+    shows = λ u h v Q.
+        ap (λ t. t ∷ []) (any_form_shows L ns u v Q k form ∙ any_show u v Q ns (numbered (items_list ds)) L stand ∙ ap (λ M. any_shown o.world u v M Q (numbered (items_list ds))) p)
+        ∙ sym (any_of_child o.world u v ms P Q ds);
+  })
+    where
+      told : (u : Bool) (v : Data) (Q : Path) → fault_if (not (list_any (λ e. accepts o.world u e.1 v) (numbered (items_list ds)))) (AnyOf (context (map (λ n. (answers o n).report u v Q) ns))) v L Q ≡ found u k v Q
+      told u v Q = ap (λ b. fault_if (not b) (AnyOf (context (map (λ n. (answers o n).report u v Q) ns))) v L Q) (sym (any_accept u v ns (numbered (items_list ds)) L stand)) ∙ sym (any_form_finds L ns u v Q k form)
+
+      meant : (u : Bool) (v : Data) (Q : Path) → fault_if (not (list_any (λ e. accepts o.world u e.1 v) (numbered (items_list ds)))) (AnyOf (context (map (λ e. report o.world u e.1 v (L // e.0) Q) (numbered (items_list ds))))) v L Q ≡ member_report o.world ms (codes "anyOf", array ds) any_of u v P Q
+      meant u v Q = ap (λ M. fault_if (not (list_any (λ e. accepts o.world u e.1 v) (numbered (items_list ds)))) (AnyOf (context (map (λ e. report o.world u e.1 v (M // e.0) Q) (numbered (items_list ds))))) v M Q) p ∙ sym (fact.any_of_report o.world ms ds u v P Q)
+
+  -- ---- not
+
+  module _ (original : Value) (n : SchemaNode K R) (L : Path) (u : Bool) (v : Data) where
+    abbrev not_of : KeywordOver K (SchemaNode K R)
+    not_of = keyword.Not (record { original = original; node = n; location = L })
+
+    not_accept : (question not_of v).accepts u ≡ not (((answers o n).means v).accepts u)
+    unfolding validator_means
+    not_accept = refl
+
+    not_ask : (question not_of v).asks u ≡ ((answers o n).means v).asks u
+    unfolding validator_means
+    not_ask = refl
+
+    not_find : (Q : Path) → found u not_of v Q ≡ fault_if (((answers o n).means v).accepts u) (Not (view original)) v L Q
+    unfolding validator_report
+    not_find Q = refl
+
+    not_show : (Q : Path) → shown u not_of v Q ≡ erring L Q (fault_if (((answers o n).means v).accepts u) (Not (view original)) v L Q)
+    unfolding validator_tree
+    not_show Q = refl
+
+  pub means_not : (original : Value) (n : SchemaNode K R) (L : Path) (d : Data) → view original ≡ d → StandsFor o n d L → (ms : Members) (P : Path) → L ≡ P // codes "not" → KeywordMeans o ms (keyword.Not (record { original = original; node = n; location = L }) ∷ []) (codes "not", d) P
+  means_not original n L d same stands ms P p = record {
+    holds = one ms (keyword.Not (record { original = original; node = n; location = L })) (codes "not", d) not_keyword P
+        (λ u v. not_accept original n L u v ∙ ap not (stands.verdict u v) ∙ sym (fact.not_accepts o.world ms d u v))
+        (λ u v. subst₂ (λ x y. x ≤ y) (sym (not_ask original n L u v)) (sym (fact.not_asks o.world ms d u v)) (stands.asks_within u v))
+        (λ u v Q. ∼_same (not_find original n L u v Q ∙ (λ i. fault_if (stands.verdict u v i) (Not (same i)) v (p i) Q) ∙ sym (fact.not_report o.world ms d u v P Q)));
+    shows = λ u h v Q. ap (λ t. t ∷ []) (not_show original n L u v Q ∙ (λ i. erring (p i) Q (fault_if (stands.verdict u v i) (Not (same i)) v (p i) Q))) ∙ sym (not_child o.world u v ms P Q d);
+  }
+
+  -- ---- required
+
+  module _ (names : Vec (String Global) Global) (L : Path) (u : Bool) (v : Data) where
+    abbrev required_of : KeywordOver K (SchemaNode K R)
+    required_of = keyword.Required (record { required = names; location = L })
+
+    required_accept : (question required_of v).accepts u ≡ is_empty (missing (map string_bytes names.items) v)
+    unfolding validator_means
+    required_accept = refl
+
+    required_ask : (question required_of v).asks u ≡ 0
+    unfolding validator_means
+    required_ask = refl
+
+    required_find : (Q : Path) → found u required_of v Q ≡ required_faults (map string_bytes names.items) v L Q
+    unfolding validator_report
+    required_find Q = refl
+
+    required_show : (Q : Path) → shown u required_of v Q ≡ erring L Q (required_faults (map string_bytes names.items) v L Q)
+    unfolding validator_tree
+    required_show Q = refl
+
+  pub means_required : (names : Vec (String Global) Global) (L : Path) (d : Data) → map string_bytes names.items ≡ texts d → (ms : Members) (P : Path) → L ≡ P // codes "required" → KeywordMeans o ms (keyword.Required (record { required = names; location = L }) ∷ []) (codes "required", d) P
+  means_required names L d same ms P p = record {
+    holds = one ms (keyword.Required (record { required = names; location = L })) (codes "required", d) required P
+        (λ u v. required_accept names L u v ∙ ap (λ ns. is_empty (missing ns v)) same ∙ sym (fact.required_accepts o.world ms d u v))
+        (λ u v. subst₂ (λ x y. x ≤ y) (sym (required_ask names L u v)) (sym (fact.required_asks o.world ms d u v)) (omega arith))
+        (λ u v Q. ∼_same (required_find names L u v Q ∙ (λ i. required_faults (same i) v (p i) Q) ∙ sym (fact.required_report o.world ms d u v P Q)));
+    shows = λ u h v Q. ap (λ t. t ∷ []) (required_show names L u v Q ∙ (λ i. erring (p i) Q (required_faults (same i) v (p i) Q))) ∙ sym (required_child o.world u v ms P Q d h);
+  }
+
+  -- the names are fused
+  pub means_fused : (t : Name × Name) (d : Data) (ms : Members) (P : Path) → Some t ≡ fused_names ms → KeywordsMean o ms [] (claims (head (by_names (Some t))) (listed ms) (codes "required", d)) ((codes "required", d) ∷ []) P
+  means_fused t d ms P chosen = subst (λ rows. KeywordsMean o ms [] rows ((codes "required", d) ∷ []) P) (sym (claims_nothing t (listed ms) d)) record {
+    covers = record { verdict = λ u v. refl; asks_within = λ u v. omega arith; faults = λ u v Q. like_empty };
+    shows = λ clean u v Q. sym (append-nil _ ∙ no_required_child o.world u v ms P Q d (not_fused o.world ms P clean (meaning_step o.world u)) (fused o.world ms P clean (meaning_step o.world u) ∙ ap is_some (sym chosen)));
+  }
+
+  pub means_required_alone : (names : Vec (String Global) Global) (L : Path) (d : Data) → map string_bytes names.items ≡ texts d → (ms : Members) (P : Path) → L ≡ P // codes "required" → has_repeat (names_of (listed ms)) ≡ false → lookup (codes "required") (listed ms) ≡ Some d → None ≡ fused_names ms → KeywordsMean o ms (keyword.Required (record { required = names; location = L }) ∷ []) (claims (head (by_names None)) (listed ms) (codes "required", d)) ((codes "required", d) ∷ []) P
+  means_required_alone names L d same ms P p distinct there chosen =
+      subst (λ rows. KeywordsMean o ms (keyword.Required (record { required = names; location = L }) ∷ []) rows ((codes "required", d) ∷ []) P) (sym (claims_itself ms distinct (head (by_names None)) (codes "required", d) (λ n. refl) there))
+      (means_alone o ms P _ (codes "required", d)
+      (λ clean u. (not_fused o.world ms P clean (meaning_step o.world u), fused o.world ms P clean (meaning_step o.world u) ∙ ap is_some (sym chosen))) (means_required names L d same ms P p))
+
+  -- a keyword that is neither has a child of its own, and claims its own member
+  neither_of : (ms : Members) (u : Bool) (k : Name) (d : Data) → bytes_eq (codes "properties") k ≡ false → bytes_eq (codes "required") k ≡ false → (w : Keyword) → Named k w → StandsAlone o.world u ms (k, d) w
+  neither_of ms u k d e f properties n = absurd (true≢false (ap (bytes_eq (codes "properties")) (sym n) ∙ e))
+  neither_of ms u k d e f required n = absurd (true≢false (ap (bytes_eq (codes "required")) (sym n) ∙ f))
+  neither_of ms u k d e f w n = tt
+
+  pub means_own : (ks : List (KeywordOver K (SchemaNode K R))) (p : Planned) (ms : Members) (m : Name × Data) (P : Path) → has_repeat (names_of (listed ms)) ≡ false → lookup m.0 (listed ms) ≡ Some m.1 → bytes_eq (codes "properties") m.0 ≡ false → bytes_eq (codes "required") m.0 ≡ false → KeywordMeans o ms ks m P → KeywordsMean o ms ks (claims (head p) (listed ms) m) (m ∷ []) P
+  means_own ks p ms m P distinct there e f h = subst (λ rows. KeywordsMean o ms ks rows (m ∷ []) P) (sym (claims_itself ms distinct (head p) m (heads_elsewhere p m.0 e f) there))
+      (means_alone o ms P ks m (λ clean u. neither_of ms u m.0 m.1 e f (keyword_named o.world m.0) (is_named m.0 o.world)) h)
+
+  -- ---- leaves, and names that nothing reads
+
+  module _ (l : K) (L : Path) (u : Bool) (v : Data) where
+    leaf_accept : (question (keyword.Leaf L l) v).accepts u ≡ is_empty (o.finds l v)
+    unfolding validator_means
+    leaf_accept = refl
+
+    leaf_ask : (question (keyword.Leaf L l) v).asks u ≡ 0
+    unfolding validator_means
+    leaf_ask = refl
+
+    leaf_find : (Q : Path) → found u (keyword.Leaf L l) v Q ≡ map (λ t. fault (Leaf (o.keyword_of l) t) v Q L) (o.finds l v)
+    unfolding validator_report
+    leaf_find Q = refl
+
+    leaf_show : (Q : Path) → shown u (keyword.Leaf L l) v Q ≡ leaf_node L Q (described (map (λ t. fault (Leaf (o.keyword_of l) t) v Q L) (o.finds l v)))
+    unfolding validator_tree
+    leaf_show Q = refl
+
+  pub means_leaf : (l : K) (k : Name) (L : Path) (d : Data) → keyword_named o.world k ≡ leaf → o.keyword_of l ≡ k → ((v : Data) → o.finds l v ≡ o.world.faults k d v) → (ms : Members) (P : Path) → L ≡ P // k → KeywordMeans o ms (keyword.Leaf L l ∷ []) (k, d) P
+  means_leaf l k L d q name same ms P p = record {
+    holds = subst (λ w. Holds o ms (keyword.Leaf L l ∷ []) (k, d) w P) (sym q) (one ms (keyword.Leaf L l) (k, d) leaf P
+        (λ u v. leaf_accept l L u v ∙ ap is_empty (same v) ∙ sym (fact.leaf_accepts o.world ms k d u v))
+        (λ u v. subst₂ (λ x y. x ≤ y) (sym (leaf_ask l L u v)) (sym (fact.leaf_asks o.world ms k d u v)) (omega arith))
+        (λ u v Q. ∼_same (leaf_find l L u v Q ∙ (λ i. map (λ t. fault (Leaf (name i) t) v Q (p i)) (same v i)) ∙ sym (fact.leaf_report o.world ms k d u v P Q))));
+    shows = λ u h v Q. ap (λ t. t ∷ []) (leaf_show l L u v Q ∙ (λ i. leaf_node (p i) Q (described (map (λ t. fault (Leaf (name i) t) v Q (p i)) (same v i))))) ∙ sym (leaf_child o.world u v ms P Q d k) ∙ ap (λ w. member_child o.world ms (k, d) w u v P Q) (sym q);
+  }
+
+  pub means_unread : (k : Name) (d : Data) → keyword_named o.world k ≡ unread → (ms : Members) (P : Path) → KeywordMeans o ms [] (k, d) P
+  means_unread k d q ms P = record {
+    holds = subst (λ w. Holds o ms [] (k, d) w P) (sym q) (record {
+      verdict = λ u v. sym (fact.unread_accepts o.world ms k d u v);
+      asks_within = λ u v. subst (λ n. 0 ≤ n) (sym (fact.unread_asks o.world ms k d u v)) (omega arith);
+      faults = λ u v Q. ∼_same (sym (fact.unread_report o.world ms k d u v P Q));
+    });
+    shows = λ u h v Q. ap (λ w. member_child o.world ms (k, d) w u v P Q) (sym q);
+  }

@@ -1,0 +1,163 @@
+-- What is made of a part, and of all parts.
+use Rattle.std.specs.Prelude.{◌≡◌, Bool, true, false, List, [], ◌∷◌, ◌++◌, map, codes, bytes_eq, Option, Some, None, is_some, Vec, String}
+use Rattle.std.specs.List.{flat_map}
+use Rattle.std.specs.declared.alloc.Global.{Global}
+use Rattle.std.proofs.Common.{refl, sym, ◌∙◌, ap, subst}
+use Rattle.std.proofs.lemmas.List.{append-nil, append_assoc}
+use mathlib.Core.Bool.{true≢false}
+use Rattle.serde_json.specs.Data.{Data, object, Members}
+use Rattle.serde_json.specs.declared.value.Value.{Value}
+use Rattle.olk_spec.specs.Names.{Name, Path, ◌//◌, lookup}
+use Rattle.olk_spec.specs.World.{World}
+use Rattle.olk_spec.specs.Vocabulary.{Keyword, properties, required, keyword_named}
+use Rattle.olk_spec.specs.Schemas.{listed, members, numbered, is_object}
+use Rattle.olk_spec.specs.Malformed.{has_repeat, items_of_array}
+use Rattle.olk_spec.proofs.Walks.{same_name}
+use Rattle.olk_base.specs.Kit.{Kit}
+use Rattle.olk_members.specs.Plans.{Planned, plan_of, head, claims}
+use Rattle.olk_make.specs.Forms.{IsFormOfProperties, IsFormOfAllOf, IsFormOfAnyOf}
+use Rattle.olk_make.specs.Holding.{StandEach}
+use Rattle.olk_read.specs.Reading.{reads_of, IsShape}
+use Rattle.olk_make.specs.Standing.{StandAt, PartsStand}
+use Rattle.olk_make.specs.Making.{KeywordMeans, KeywordsMean, MakesMember, MakesClaims}
+use Rattle.olk_tree.specs.declared.map.SmallMap.{SmallMap}
+use Rattle.olk_tree.specs.declared.node.KeywordOver.{KeywordOver}
+use Rattle.olk_tree.specs.declared.node.KeywordOver.TheVariants as keyword
+use Rattle.olk_node.specs.declared.node.SchemaNode.{SchemaNode}
+use Rattle.olk_make.specs.declared.part.Part.{Part}
+use Rattle.olk_read.specs.declared.shape.Shape.{Shape}
+use Rattle.olk_read.specs.declared.shape.Shape.TheVariants as shape
+use Rattle.olk_read.proofs.Read.{array_of}
+use Rattle.olk_members.proofs.Claims.{found_each, heads_there}
+use Rattle.olk_make.proofs.Together.{no_keywords_mean, one_more_keyword, heads_mean_all}
+use Rattle.olk_make.proofs.Held.{means_all_of, means_any_of, means_not, means_form, means_fused, means_own, means_leaf, means_unread, means_required, means_required_alone}
+
+object_of : (d : Data) → is_object d ≡ true → (fs : Members) × (d ≡ object fs)
+object_of (object fs) e = (fs, refl)
+object_of d e = absurd (true≢false (sym e))
+
+-- keywords that `properties` may take over, and itself
+abbrev pub neighbours : Keyword → Bool
+neighbours properties = true
+neighbours required = true
+neighbours w = false
+
+pub apart : (W : World) (n k : Name) → neighbours (keyword_named W n) ≡ true → neighbours (keyword_named W k) ≡ false → bytes_eq n k ≡ false
+apart W n k h e = by (bytes_eq n k) refl
+  where
+    by : (b : Bool) → bytes_eq n k ≡ b → bytes_eq n k ≡ false
+    by false q = q
+    by true q = absurd (true≢false (sym h ∙ ap (λ x. neighbours (keyword_named W x)) (same_name n k q) ∙ e))
+
+module _ {K R : Type 0} (o : Kit K R) where
+  pub makes_all_of : (k : KeywordOver K (SchemaNode K R)) (L : Path) (ns : List (SchemaNode K R)) → IsFormOfAllOf L ns k → MakesMember o shape.AllOf L ns (k ∷ [])
+  makes_all_of k L ns form ms m P p s h =
+      let a = array_of m.1 s.1 in
+      subst (λ n. KeywordMeans o ms (k ∷ []) (n, m.1) P) (sym s.0) (means_all_of o k ns L a.0 m.1 a.1 form (subst (λ x. StandEach o ns (numbered (items_of_array x)) L) a.1 h) ms P (p ∙ ap (λ n. P // n) s.0))
+
+  pub makes_any_of : (k : KeywordOver K (SchemaNode K R)) (L : Path) (ns : List (SchemaNode K R)) → IsFormOfAnyOf L ns k → MakesMember o shape.AnyOf L ns (k ∷ [])
+  makes_any_of k L ns form ms m P p s h =
+      let a = array_of m.1 s.1 in
+      subst (λ n. KeywordMeans o ms (k ∷ []) (n, m.1) P) (sym s.0) (means_any_of o k ns L a.0 m.1 a.1 form (subst (λ x. StandEach o ns (numbered (items_of_array x)) L) a.1 h) ms P (p ∙ ap (λ n. P // n) s.0))
+
+  pub makes_not : (original : Value) (L : Path) (n : SchemaNode K R) (rest ns : List (SchemaNode K R)) → ns ≡ rest ++ n ∷ [] → MakesMember o (shape.Not original) L ns (keyword.Not (record { original = original; node = n; location = L }) ∷ [])
+  makes_not original L n rest ns e ms m P p s h = by rest (subst (λ l. StandAt o (reads_of {K = K} (shape.Not original)) l m.1 L) e h)
+    where
+      by : (rest : List (SchemaNode K R)) → StandAt o (reads_of {K = K} (shape.Not original)) (rest ++ n ∷ []) m.1 L → KeywordMeans o ms (keyword.Not (record { original = original; node = n; location = L }) ∷ []) m P
+      by [] g = subst (λ k. KeywordMeans o ms (keyword.Not (record { original = original; node = n; location = L }) ∷ []) (k, m.1) P) (sym s.0) (means_not o original n L m.1 s.1 g ms P (p ∙ ap (λ n. P // n) s.0))
+      by (x ∷ []) g = absurd g
+      by (x ∷ y ∷ rest) g = absurd g
+
+  pub makes_no_not : (original : Value) (L : Path) (ns : List (SchemaNode K R)) (ks : List (KeywordOver K (SchemaNode K R))) → ns ≡ [] → MakesMember o (shape.Not original) L ns ks
+  makes_no_not original L ns ks e ms m P p s h = absurd (subst (λ l. StandAt o (reads_of {K = K} (shape.Not original)) l m.1 L) e h)
+
+  pub makes_required : (v : Vec (String Global) Global) (L : Path) (ns : List (SchemaNode K R)) → MakesMember o (shape.Required v) L ns (keyword.Required (record { required = v; location = L }) ∷ [])
+  makes_required v L ns ms m P p s h = subst (λ n. KeywordMeans o ms (keyword.Required (record { required = v; location = L }) ∷ []) (n, m.1) P) (sym s.0) (means_required o v L m.1 s.2 ms P (p ∙ ap (λ n. P // n) s.0))
+
+  pub makes_leaf : (l : K) (L : Path) (ns : List (SchemaNode K R)) → MakesMember o (shape.Leaf l) L ns (keyword.Leaf L l ∷ [])
+  makes_leaf l L ns ms m P p s h = means_leaf o l m.0 L m.1 s.0 s.1 s.2 ms P p
+
+  pub makes_unread : (L : Path) (ns : List (SchemaNode K R)) → MakesMember o shape.Unread L ns []
+  makes_unread L ns ms m P p s h = means_unread o m.0 m.1 s ms P
+
+  -- what is planned for an object, by its fused names
+  abbrev by_names : Option (Name × Name) → Planned
+  by_names t = record { fused = t }
+
+  pub makes_properties : (k : KeywordOver K (SchemaNode K R)) (f : SmallMap (SchemaNode K R)) (L P : Path) (t : Option (Name × Name)) → IsFormOfProperties P L f t k → MakesClaims o (shape.Properties f.names) L f.nodes.items P (by_names t) (k ∷ [])
+  makes_properties k f L P t form ms m p s h distinct there chosen =
+      let a = object_of m.1 s.1 in
+      subst (λ n. KeywordsMean o ms (k ∷ []) (claims (head (by_names t)) (listed ms) (n, m.1)) ((n, m.1) ∷ []) P) (sym s.0)
+      (means_form o k f L P t a.0 m.1 a.1 (s.2 ∙ ap (λ x. map (λ e. e.0) (members x)) a.1) (subst (λ x. StandEach o f.nodes.items (members x) L) a.1 h) form ms (p ∙ ap (λ n. P // n) s.0) distinct (ap (λ n. lookup n (listed ms)) (sym s.0) ∙ there) (ap (λ q. q.fused) chosen))
+
+  module _ (v : Vec (String Global) Global) (L P : Path) (ns : List (SchemaNode K R)) where
+    pub makes_required_elsewhere : (t : Option (Name × Name)) → is_some t ≡ true → MakesClaims o (shape.Required v) L ns P (by_names t) []
+    makes_required_elsewhere None e ms m p s h distinct there chosen = absurd (true≢false (sym e))
+    makes_required_elsewhere (Some t) e ms m p s h distinct there chosen = subst (λ n. KeywordsMean o ms [] (claims (head (by_names (Some t))) (listed ms) (n, m.1)) ((n, m.1) ∷ []) P) (sym s.0) (means_fused o t m.1 ms P (ap (λ q. q.fused) chosen))
+
+    pub makes_required_alone : (t : Option (Name × Name)) → is_some t ≡ false → MakesClaims o (shape.Required v) L ns P (by_names t) (keyword.Required (record { required = v; location = L }) ∷ [])
+    makes_required_alone None e ms m p s h distinct there chosen = subst (λ n. KeywordsMean o ms (keyword.Required (record { required = v; location = L }) ∷ []) (claims (head (by_names None)) (listed ms) (n, m.1)) ((n, m.1) ∷ []) P) (sym s.0)
+        (means_required_alone o v L m.1 s.2 ms P (p ∙ ap (λ n. P // n) s.0) distinct (ap (λ n. lookup n (listed ms)) (sym s.0) ∙ there) (ap (λ q. q.fused) chosen))
+    makes_required_alone (Some t) e ms m p s h distinct there chosen = absurd (true≢false e)
+
+  -- a keyword that has no neighbours claims its own member
+  abbrev pub IsAlone : Shape K → Type 0
+  IsAlone x = (k : Name) (d : Data) → IsShape o k d x → neighbours (keyword_named o.world k) ≡ false
+
+  pub claims_own : (x y : Shape K) (L : Path) (ns : List (SchemaNode K R)) (ks : List (KeywordOver K (SchemaNode K R))) (P : Path) (p : Planned) → x ≡ y → IsAlone y → MakesMember o y L ns ks → MakesClaims o x L ns P p ks
+  claims_own x y L ns ks P p e alone make = subst (λ z. MakesClaims o z L ns P p ks) (sym e) (λ ms m l s h distinct there chosen.
+      means_own o ks p ms m P distinct there (apart o.world (codes "properties") m.0 refl (alone m.0 m.1 s)) (apart o.world (codes "required") m.0 refl (alone m.0 m.1 s)) (make ms m P l s h))
+
+  pub all_of_alone : IsAlone shape.AllOf
+  all_of_alone k d s = ap (λ n. neighbours (keyword_named o.world n)) s.0
+
+  pub any_of_alone : IsAlone shape.AnyOf
+  any_of_alone k d s = ap (λ n. neighbours (keyword_named o.world n)) s.0
+
+  pub not_alone : (v : Value) → IsAlone (shape.Not v)
+  not_alone v k d s = ap (λ n. neighbours (keyword_named o.world n)) s.0
+
+  pub leaf_alone : (l : K) → IsAlone (shape.Leaf l)
+  leaf_alone l k d s = ap neighbours s.0
+
+  pub unread_alone : IsAlone shape.Unread
+  unread_alone k d s = ap neighbours s
+
+  -- ---- the parts of an object, one after the other
+
+  module _ (ms : Members) (P : Path) where
+    abbrev heads : Name → Name
+    heads n = head (plan_of ms) n
+
+    -- the keywords so far mean what the members so far claim, and the parts that are left stand for the others
+    pub record MadeSoFar (ks : List (KeywordOver K (SchemaNode K R))) (ps : List (Part K (SchemaNode K R))) : Type 0 where
+      pub done : List (Name × Data)
+      pub left : List (Name × Data)
+      pub mean : KeywordsMean o ms ks (flat_map (claims heads (listed ms)) done) done P
+      pub stand : PartsStand o ps left P
+      pub whole : done ++ left ≡ listed ms
+
+    pub none_made : (ks : List (KeywordOver K (SchemaNode K R))) (ps : List (Part K (SchemaNode K R))) → ks ≡ [] → PartsStand o ps (listed ms) P → MadeSoFar ks ps
+    none_made ks ps e h = record { done = []; left = listed ms; mean = no_keywords_mean o ms P ks e; stand = h; whole = refl }
+
+    module _ (p : Planned) (chosen : p ≡ plan_of ms) (distinct : has_repeat (map (λ m. m.0) (listed ms)) ≡ false) where
+      pub one_more_made : (ks ls new : List (KeywordOver K (SchemaNode K R))) (part : Part K (SchemaNode K R)) (ps all : List (Part K (SchemaNode K R))) → new ≡ ks ++ ls → all ≡ part ∷ ps → MadeSoFar ks all → MakesClaims o part.shape part.location part.nodes.items P p ls → MadeSoFar new ps
+      one_more_made ks ls new part ps all q e h make = by h.left (subst (λ l. PartsStand o l h.left P) e h.stand) h.whole
+        where
+          by : (left : List (Name × Data)) → PartsStand o (part ∷ ps) left P → h.done ++ left ≡ listed ms → MadeSoFar new ps
+          by [] stand w = absurd stand
+          by (m ∷ left) stand w = record {
+            done = h.done ++ m ∷ [];
+            left = left;
+            mean = one_more_keyword o ms P heads ks ls new h.done m q h.mean (subst (λ s. KeywordsMean o ms ls (claims (head s) (listed ms) m) (m ∷ []) P) chosen
+                (make ms m stand.0.place stand.0.shape (subst (StandAt o (reads_of part.shape) part.nodes.items m.1) (sym stand.0.place) stand.0.nodes) distinct (found_each ms distinct h.done m left w) chosen));
+            stand = stand.1;
+            whole = append_assoc h.done (m ∷ []) left ∙ w;
+          }
+
+      pub all_made : (ks : List (KeywordOver K (SchemaNode K R))) (ps : List (Part K (SchemaNode K R))) → ps ≡ [] → MadeSoFar ks ps → KeywordsMean o ms ks (listed ms) (listed ms) P
+      all_made ks ps e h = by h.left (subst (λ l. PartsStand o l h.left P) e h.stand) h.whole
+        where
+          by : (left : List (Name × Data)) → PartsStand o [] left P → h.done ++ left ≡ listed ms → KeywordsMean o ms ks (listed ms) (listed ms) P
+          by [] stand w = heads_mean_all o ms P heads ks distinct (heads_there ms distinct (plan_of ms) refl) (subst (λ es. KeywordsMean o ms ks (flat_map (claims heads (listed ms)) es) es P) (sym (append-nil h.done) ∙ w) h.mean)
+          by (m ∷ left) stand w = absurd stand

@@ -1,0 +1,4 @@
+pub mod Holding
+pub mod Forms
+pub mod Standing
+pub mod Making

@@ -1,0 +1,42 @@
+-- What making the validators of a schema object from its parts promises.
+use Rattle.std.specs.Prelude.{◌≡◌, false, Bool, List, [], ◌∷◌, map, Some}
+use Rattle.std.specs.List.{flat_map}
+use Rattle.serde_json.specs.Data.{Data, Members}
+use Rattle.olk_spec.specs.Names.{Name, Path, ◌//◌, lookup}
+use Rattle.olk_spec.specs.Schemas.{listed}
+use Rattle.olk_spec.specs.Malformed.{has_repeat}
+use Rattle.olk_base.specs.Kit.{Kit}
+use Rattle.olk_node.specs.declared.node.SchemaNode.{SchemaNode}
+use Rattle.olk_tree.specs.declared.node.KeywordOver.{KeywordOver}
+use Rattle.olk_members.specs.Plans.{Planned, plan_of, head, claims}
+use Rattle.olk_members.specs.Members.{member_child, StandsAlone}
+use Rattle.olk_make.specs.Holding.{which, all_malformed, show, Holds, Covers}
+use Rattle.olk_read.specs.Reading.{reads_of, IsShape}
+use Rattle.olk_make.specs.Standing.{StandAt}
+use Rattle.olk_read.specs.declared.shape.Shape.{Shape}
+
+module _ {K R : Type 0} (o : Kit K R) where
+  module _ (ms : Members) (ks : List (KeywordOver K (SchemaNode K R))) where
+    -- in the schema object with the members ms at P, the keywords mean what the rows mean together, and show what the members es show
+    pub record KeywordsMean (rows es : List (Name × Data)) (P : Path) : Type 0 where
+      pub covers : Covers o ms ks rows P
+      pub shows : all_malformed o ms P (listed ms) ≡ [] → (u : Bool) (v : Data) (Q : Path) → show o ms ks u v Q ≡ flat_map (λ m. member_child o.world ms m (which o ms m) u v P Q) es
+
+    -- they mean what the object means
+    abbrev pub ObjectIsMade : Path → Type 0
+    ObjectIsMade P = KeywordsMean (listed ms) (listed ms) P
+
+    -- the same for one member and no neighbours
+    pub record KeywordMeans (m : Name × Data) (P : Path) : Type 0 where
+      pub holds : Holds o ms ks m (which o ms m) P
+      pub shows : (u : Bool) → StandsAlone o.world u ms m (which o ms m) → (v : Data) (Q : Path) → show o ms ks u v Q ≡ member_child o.world ms m (which o ms m) u v P Q
+
+  -- keywords that are made of a shape and nodes at L mean the member whose part these are, in each object
+  abbrev pub MakesMember : Shape K → Path → List (SchemaNode K R) → List (KeywordOver K (SchemaNode K R)) → Type 0
+  MakesMember x L ns ks = (ms : Members) (m : Name × Data) (P : Path) → L ≡ P // m.0 → IsShape o m.0 m.1 x → StandAt o (reads_of x) ns m.1 L → KeywordMeans ms ks m P
+
+  -- and what it claims in each object at P that has this plan
+  abbrev pub MakesClaims : Shape K → Path → List (SchemaNode K R) → Path → Planned → List (KeywordOver K (SchemaNode K R)) → Type 0
+  MakesClaims x L ns P p ks = (ms : Members) (m : Name × Data) → L ≡ P // m.0 → IsShape o m.0 m.1 x → StandAt o (reads_of x) ns m.1 L
+      → has_repeat (map (λ m. m.0) (listed ms)) ≡ false → lookup m.0 (listed ms) ≡ Some m.1 → p ≡ plan_of ms
+      → KeywordsMean ms ks (claims (head p) (listed ms) m) (m ∷ []) P

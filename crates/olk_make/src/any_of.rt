@@ -1,0 +1,37 @@
+//! `anyOf`.
+ghost use Rattle.std.specs.Prelude.{◌∷◌, []};
+ghost use Rattle.olk_base.specs.Kit.{kit};
+ghost use Rattle.olk_make.specs.Forms.{IsFormOfAnyOf};
+ghost use Rattle.olk_make.specs.Making.{MakesMember};
+ghost use Rattle.olk_read.specs.declared.shape.Shape.TheVariants as shape;
+
+use olk_base::{Leaf, RegexEngine};
+use olk_node::{Keyword, SchemaNode};
+use olk_reports::Location;
+use olk_tree::any_of::{AnyOf, SingleAnyOf};
+use olk_tree::node::KeywordOver;
+
+/// The form for so many branches.
+fn form<K, N: Drop>(location: Location, mut schemas: Vec<N>) -> KeywordOver<K, N>
+    ensures { IsFormOfAnyOf location schemas.items result }
+{
+    if schemas.len() == 1
+        && let Some(node) = schemas.pop()
+    {
+        KeywordOver::SingleAnyOf(SingleAnyOf { node, location })
+    } else {
+        KeywordOver::AnyOf(AnyOf { schemas, location })
+    }
+}
+
+/// The validator of the branches' nodes.
+pub fn make<K: Leaf, R: RegexEngine>(
+    location: Location,
+    nodes: Vec<SchemaNode<K, R>>,
+) -> Keyword<K, R>
+    ensures form { IsFormOfAnyOf location nodes.items result }
+    ensures makes { MakesMember (kit K.Leaf R.RegexEngine) shape.AnyOf location nodes.items
+        (result ∷ []) }
+{
+    form(location, nodes)
+}

@@ -1,0 +1,36 @@
+//! `not`.
+ghost use Rattle.std.specs.Prelude.{◌≡◌, [], option_to_list};
+ghost use Rattle.std.specs.Option.{IfSome, IfNone};
+ghost use Rattle.serde_json.specs.View.{view};
+ghost use Rattle.olk_base.specs.Kit.{kit};
+ghost use Rattle.olk_make.specs.Forms.{IsNot};
+ghost use Rattle.olk_make.specs.Making.{MakesMember};
+ghost use Rattle.olk_read.specs.declared.shape.Shape.TheVariants as shape;
+
+use olk_base::{Leaf, RegexEngine};
+use olk_node::{Keyword, SchemaNode};
+use olk_reports::Location;
+use olk_tree::node::KeywordOver;
+use olk_tree::not::Not;
+use serde_json::Value;
+
+/// The validator of a schema's node, and none where there is no node.
+pub fn make<K: Leaf, R: RegexEngine>(
+    location: Location,
+    original: Value,
+    mut nodes: Vec<SchemaNode<K, R>>,
+) -> Option<Keyword<K, R>>
+    ensures none { IfNone result (nodes.items ≡ []) }
+    ensures form { IfSome result (IsNot location (view original)) }
+    ensures makes { MakesMember (kit K.Leaf R.RegexEngine) (shape.Not original) location nodes.items
+        (option_to_list result) }
+{
+    let Some(node) = nodes.pop() else {
+        return None;
+    };
+    Some(KeywordOver::Not(Not {
+        original,
+        node,
+        location,
+    }))
+}

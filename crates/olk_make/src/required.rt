@@ -1,0 +1,30 @@
+//! `required`.
+ghost use Rattle.std.specs.Prelude.{option_to_list};
+ghost use Rattle.olk_spec.specs.Names.{Path};
+ghost use Rattle.olk_base.specs.Kit.{kit};
+ghost use Rattle.olk_members.specs.Plans.{planned};
+ghost use Rattle.olk_make.specs.Making.{MakesClaims};
+ghost use Rattle.olk_read.specs.declared.shape.Shape.TheVariants as shape;
+
+use olk_base::{Leaf, RegexEngine};
+use olk_members::Plan;
+use olk_node::{Keyword, SchemaNode};
+use olk_reports::Location;
+use olk_tree::node::KeywordOver;
+use olk_tree::required::RequiredValidator;
+
+/// The validator of the names, unless the plan fuses them.
+pub fn make<K: Leaf, R: RegexEngine>(
+    plan: Plan<'_>,
+    location: Location,
+    required: Vec<String>,
+    nodes: Vec<SchemaNode<K, R>>,
+) -> Option<Keyword<K, R>>
+    ensures { (P : Path) → MakesClaims (kit K.Leaf R.RegexEngine) (shape.Required required)
+        location nodes.items P (planned plan.entry) (option_to_list result) }
+{
+    if plan.fuses() {
+        return None;
+    }
+    Some(KeywordOver::Required(RequiredValidator { required, location }))
+}

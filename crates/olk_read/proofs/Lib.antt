@@ -1,0 +1,5 @@
+pub mod Spending
+pub mod KeywordNames
+pub mod Read
+mod Shapes
+mod Texts

@@ -1,0 +1,142 @@
+-- What is wrong with a keyword itself, and the shape that is read.
+use Rattle.std.specs.Prelude.{◌≡◌, Bool, true, false, List, [], ◌∷◌, ◌++◌, codes}
+use Rattle.std.specs.declared.alloc.AllocError.{AllocError}
+use Rattle.std.proofs.Common.{refl, sym, ◌∙◌, ap, subst, ◌⊎◌, inl, inr}
+use mathlib.Core.Bool.{true≢false}
+use Rattle.serde_json.specs.Data.{Data, null, boolean, number, string, array, object, Items}
+use Rattle.olk_spec.specs.Names.{Name, Path, is_among, put_if}
+use Rattle.olk_spec.specs.World.{World}
+use Rattle.olk_spec.specs.Vocabulary.{Keyword, leaf, unread, unsupported, unsupported_names, keyword_named}
+use Rattle.olk_spec.specs.Faults.{Fault, fault, LeafRefused, Unsupported, SingleType, object_type, array_type}
+use Rattle.olk_spec.specs.Schemas.{read, members, is_object, is_array}
+use Rattle.olk_spec.specs.Malformed.{pending, refusal, own_refusals, malformations_step, unless_object, unless_array, unless_kind, not_a_text, items_of_array}
+use Rattle.olk_spec.specs.Costs.{Cost, no_cost}
+use Rattle.olk_spec.proofs.Reading.{schema_of_read}
+use Rattle.olk_base.specs.Count.{Counts, count_leaf}
+use Rattle.olk_base.proofs.CountLemmas.{raised_zero}
+use Rattle.olk_reports.specs.declared.error.BuildError.{BuildError}
+use Rattle.olk_reports.specs.declared.error.BuildError.TheVariants.{Memory}
+use Rattle.olk_base.specs.Kit.{Kit}
+use Rattle.olk_read.specs.Refusing.{Spends, TellsOneOf, Refuses}
+use Rattle.olk_read.specs.Reading.{IsOther, IsShape, IsRead, own_faults, own_cost_of}
+use Rattle.olk_read.specs.declared.shape.Shape.{Shape}
+use Rattle.olk_read.specs.declared.shape.Shape.TheVariants as shape
+use Rattle.olk_read.proofs.KeywordNames.{refused_keyword}
+use Rattle.olk_read.proofs.Spending.{spends_nothing, within_nothing, within_exactly, tells_left, tells_right, tells_same, refuses_memory}
+
+pub spends_leaf : (a b : Counts) → b ≡ count_leaf a → Spends a b (record no_cost { leaf_places = 1 })
+spends_leaf a b e = e ∙ rw (raised_zero a.compiled, raised_zero a.made, raised_zero a.asked, raised_zero a.unfinished) refl
+
+-- ---- values of a kind
+
+pub array_of : (d : Data) → is_array d ≡ true → (ds : Items) × (d ≡ array ds)
+array_of (array ds) e = (ds, refl)
+array_of null e = absurd (true≢false (sym e))
+array_of (boolean b) e = absurd (true≢false (sym e))
+array_of (number n) e = absurd (true≢false (sym e))
+array_of (string s) e = absurd (true≢false (sym e))
+array_of (object ms) e = absurd (true≢false (sym e))
+
+pub no_members : (d : Data) → is_object d ≡ false → members d ≡ []
+no_members (array ds) e = refl
+no_members null e = refl
+no_members (boolean b) e = refl
+no_members (number n) e = refl
+no_members (string s) e = refl
+no_members (object ms) e = absurd (true≢false e)
+
+pub no_items_in : (d : Data) → is_array d ≡ false → items_of_array d ≡ []
+no_items_in (array ds) e = absurd (true≢false e)
+no_items_in null e = refl
+no_items_in (boolean b) e = refl
+no_items_in (number n) e = refl
+no_items_in (string s) e = refl
+no_items_in (object ms) e = refl
+
+module _ (W : World) (d : Data) (L : Path) where
+  abbrev whole : Data
+  whole = (read (malformations_step W pending) d).whole.schema
+
+  same : whole ≡ d
+  same = schema_of_read (malformations_step W pending) d
+
+  pub own_properties : own_faults W (codes "properties") d L ≡ unless_object d L
+  own_properties = ap (λ s. unless_object s L) same
+
+  pub own_required : own_faults W (codes "required") d L ≡ unless_array d L ++ not_a_text d L
+  own_required = ap (λ s. unless_array s L ++ not_a_text s L) same
+
+  pub own_all_of : own_faults W (codes "allOf") d L ≡ unless_array d L
+  own_all_of = ap (λ s. unless_array s L) same
+
+  pub own_any_of : own_faults W (codes "anyOf") d L ≡ unless_array d L
+  own_any_of = ap (λ s. unless_array s L) same
+
+  pub own_not : own_faults W (codes "not") d L ≡ []
+  own_not = refl
+
+  module _ (k : Name) where
+    own_of : (w : Keyword) → is_among k pending ≡ false → keyword_named W k ≡ w → own_faults W k d L ≡ own_refusals W k (read (malformations_step W pending) d) L w
+    own_of w e q = λ i. put_if (e i) (refusal (Unsupported k) whole L) [] ++ own_refusals W k (read (malformations_step W pending) d) L (q i)
+
+    pub own_leaf : is_among k pending ≡ false → keyword_named W k ≡ leaf → own_faults W k d L ≡ unless_kind (W.fits k d) (LeafRefused k) d L
+    own_leaf e q = own_of leaf e q ∙ ap (λ s. unless_kind (W.fits k s) (LeafRefused k) s L) same
+
+    pub own_unread : is_among k pending ≡ false → keyword_named W k ≡ unread → own_faults W k d L ≡ []
+    own_unread e q = own_of unread e q
+
+    -- a name that is refused whatever its value
+    first_told : (b : Bool) (xs : List Fault) (e : BuildError) → b ≡ true → TellsOneOf (fault (Unsupported k) d [] L ∷ []) e → TellsOneOf (put_if b (refusal (Unsupported k) whole L) [] ++ xs) e
+    first_told b xs e h t = tells_left (put_if b (refusal (Unsupported k) whole L) []) xs e (tells_same (λ i. put_if (sym h i) (refusal (Unsupported k) (sym same i) L) []) e t)
+
+    second_told : (xs : List Fault) (w : Keyword) (e : BuildError) → w ≡ unsupported → TellsOneOf (fault (Unsupported k) d [] L ∷ []) e → TellsOneOf (own_refusals W k (read (malformations_step W pending) d) L w) e
+    second_told xs w e h t = tells_same (ap (λ s. refusal (Unsupported k) s L ∷ []) (sym same) ∙ ap (own_refusals W k (read (malformations_step W pending) d) L) (sym h)) e t
+
+-- ---- what is told
+
+-- a keyword's own faults, where its name is known
+pub refuses_own : (W : World) (k n : Name) (d : Data) (L : Path) (fs : List Fault) (c : Cost) (a : Counts) (e : BuildError) → k ≡ n → own_faults W n d L ≡ fs → TellsOneOf fs e → Refuses (own_faults W k d L) c a a e
+refuses_own W k n d L fs c a e p q t = record { tells = tells_same (sym q ∙ ap (λ x. own_faults W x d L) (sym p)) e t; spends = within_nothing a c }
+
+pub refuses_without_memory : (fs : List Fault) (c : Cost) (a : Counts) (e : BuildError) (m : AllocError) → e ≡ Memory m → Refuses fs c a a e
+refuses_without_memory fs c a e m p = refuses_memory fs c a a e m p (within_nothing a c)
+
+module _ (W : World) (k : Name) (q : keyword_named W k ≡ leaf) (a b : Counts) (count : b ≡ count_leaf a) where
+  leaf_spent : Spends a b (own_cost_of (keyword_named W k))
+  leaf_spent = subst (λ w. Spends a b (own_cost_of w)) (sym q) (spends_leaf a b count)
+
+  pub refuses_leaf : (d : Data) (L : Path) (e : BuildError) → is_among k pending ≡ false → W.fits k d ≡ false → TellsOneOf (fault (LeafRefused k) d [] L ∷ []) e → Refuses (own_faults W k d L) (own_cost_of (keyword_named W k)) a b e
+  refuses_leaf d L e h fits t = record { tells = tells_same (ap (λ f. unless_kind f (LeafRefused k) d L) (sym fits) ∙ sym (own_leaf W d L k h q)) e t; spends = within_exactly a b _ leaf_spent }
+
+  pub refuses_leaf_memory : (fs : List Fault) (e : BuildError) (m : AllocError) → e ≡ Memory m → Refuses fs (own_cost_of (keyword_named W k)) a b e
+  refuses_leaf_memory fs e m p = refuses_memory fs _ a b e m p (within_exactly a b _ leaf_spent)
+
+pub refuses_name : (W : World) (k : Name) (d : Data) (L : Path) (c : Cost) (a : Counts) (e : BuildError) → IsOther k → is_among k (unsupported_names ++ pending) ≡ true → TellsOneOf (fault (Unsupported k) d [] L ∷ []) e → Refuses (own_faults W k d L) c a a e
+refuses_name W k d L c a e other among t = record { tells = by (refused_keyword W k other among); spends = within_nothing a c }
+  where
+    by : (is_among k pending ≡ true) ⊎ (keyword_named W k ≡ unsupported) → TellsOneOf (own_faults W k d L) e
+    by (inl h) = first_told W d L k (is_among k pending) (own_refusals W k (read (malformations_step W pending) d) L (keyword_named W k)) e h t
+    by (inr h) = tells_right (put_if (is_among k pending) (refusal (Unsupported k) (whole W d L) L) []) (own_refusals W k (read (malformations_step W pending) d) L (keyword_named W k)) e (second_told W d L k [] (keyword_named W k) e h t)
+
+-- ---- what is read
+
+module _ {K R : Type 0} (o : Kit K R) where
+  -- a keyword without own costs, by its name
+  pub is_read : (x : Shape K) (k n : Name) (d : Data) (L : Path) (a : Counts) → k ≡ n → IsShape o n d x → own_faults o.world n d L ≡ [] → own_cost_of (keyword_named o.world n) ≡ no_cost → IsRead o x k d L a a
+  is_read x k n d L a p s c z = subst (λ i. IsRead o x i d L a a) (sym p) (record { shape = s; clean = c; spends = subst (Spends a a) (sym z) (spends_nothing a) })
+
+  pub leaf_is_read : (l : K) (k : Name) (d : Data) (L : Path) (a b : Counts) → keyword_named o.world k ≡ leaf → is_among k pending ≡ false → o.world.fits k d ≡ true → o.keyword_of l ≡ k → ((v : Data) → o.finds l v ≡ o.world.faults k d v) → b ≡ count_leaf a → IsRead o (shape.Leaf l) k d L a b
+  leaf_is_read l k d L a b q h fits name same count = record {
+    shape = (q, name, same);
+    clean = own_leaf o.world d L k h q ∙ ap (λ f. unless_kind f (LeafRefused k) d L) fits;
+    spends = leaf_spent o.world k q a b count;
+  }
+
+  pub unread_is_read : (k : Name) (d : Data) (L : Path) (a : Counts) → keyword_named o.world k ≡ unread → is_among k pending ≡ false → IsRead o shape.Unread k d L a a
+  unread_is_read k d L a q h = record { shape = q; clean = own_unread o.world d L k h q; spends = subst (λ w. Spends a a (own_cost_of w)) (sym q) (spends_nothing a) }
+
+pub object_is_right : (d : Data) (L : Path) → is_object d ≡ true → unless_object d L ≡ []
+object_is_right d L e = ap (λ b. unless_kind b (SingleType object_type) d L) e
+
+pub array_is_right : (d : Data) (L : Path) → is_array d ≡ true → unless_array d L ≡ []
+array_is_right d L e = ap (λ b. unless_kind b (SingleType array_type) d L) e

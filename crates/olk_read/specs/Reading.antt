@@ -1,0 +1,73 @@
+-- What a member of a schema object is as a keyword, apart from the nodes inside it.
+use Rattle.std.specs.Prelude.{◌≡◌, true, false, List, [], ◌∷◌, ◌++◌, map, codes, string_bytes}
+use Rattle.serde_json.specs.Data.{Data}
+use Rattle.serde_json.specs.View.{view}
+use Rattle.olk_spec.specs.Names.{Name, Path, put_if, is_among}
+use Rattle.olk_spec.specs.World.{World}
+use Rattle.olk_spec.specs.Vocabulary.{Keyword, leaf, unread, unsupported_names, keyword_named}
+use Rattle.olk_spec.specs.Schemas.{read, members, texts, is_object, is_array}
+use Rattle.olk_spec.specs.Malformed.{pending, refusal, own_refusals, malformations_step}
+use Rattle.olk_spec.specs.Faults.{Fault, Unsupported}
+use Rattle.olk_spec.specs.Costs.{Cost, no_cost}
+use Rattle.olk_base.specs.Count.{Counts}
+use Rattle.olk_reports.specs.declared.error.BuildError.{BuildError}
+use Rattle.olk_base.specs.Kit.{Kit}
+use Rattle.olk_read.specs.Refusing.{Spends, Refuses}
+use Rattle.olk_read.specs.declared.reading.KeywordFor.{KeywordFor}
+use Rattle.olk_read.specs.declared.reading.KeywordFor.TheVariants as for
+use Rattle.olk_read.specs.declared.shape.Shape.{Shape}
+use Rattle.olk_read.specs.declared.shape.Shape.TheVariants as shape
+use Rattle.olk_read.specs.declared.shape.ReadPlaces.{ReadPlaces}
+use Rattle.olk_read.specs.declared.shape.ReadPlaces.TheVariants.{Nothing, Itself, Entries, Branches}
+
+-- which places are read
+abbrev pub reads_of : {K : Type 0} → Shape K → ReadPlaces
+reads_of (shape.Properties n) = Entries
+reads_of shape.AllOf = Branches
+reads_of shape.AnyOf = Branches
+reads_of (shape.Not v) = Itself
+reads_of x = Nothing
+
+-- none of the keywords that are read here by name
+abbrev pub IsOther : Name → Type 0
+IsOther n = is_among n (codes "properties" ∷ codes "required" ∷ codes "allOf" ∷ codes "anyOf" ∷ codes "not" ∷ []) ≡ false
+
+-- which keyword a name is
+abbrev pub IsFor : Name → KeywordFor → Type 0
+IsFor n for.Properties = n ≡ codes "properties"
+IsFor n for.Required = n ≡ codes "required"
+IsFor n for.AllOf = n ≡ codes "allOf"
+IsFor n for.AnyOf = n ≡ codes "anyOf"
+IsFor n for.Not = n ≡ codes "not"
+IsFor n for.Refused = IsOther n × (is_among n (unsupported_names ++ pending) ≡ true)
+IsFor n for.Other = IsOther n × (is_among n (unsupported_names ++ pending) ≡ false)
+
+-- what is wrong with a keyword itself, at its place L
+abbrev pub own_faults : World → Name → Data → Path → List Fault
+own_faults W k d L = put_if (is_among k pending) (refusal (Unsupported k) (read (malformations_step W pending) d).whole.schema L) [] ++ own_refusals W k (read (malformations_step W pending) d) L (keyword_named W k)
+
+-- what is counted for a keyword itself
+abbrev pub own_cost_of : Keyword → Cost
+own_cost_of leaf = record no_cost { leaf_places = 1 }
+own_cost_of w = no_cost
+
+module _ {K R : Type 0} (o : Kit K R) where
+  -- the shape of the keyword of the name k and the value d
+  abbrev pub IsShape : Name → Data → Shape K → Type 0
+  IsShape k d (shape.Properties n) = (k ≡ codes "properties") × (is_object d ≡ true) × (n ≡ map (λ e. e.0) (members d))
+  IsShape k d (shape.Required v) = (k ≡ codes "required") × (is_array d ≡ true) × (map string_bytes v.items ≡ texts d)
+  IsShape k d shape.AllOf = (k ≡ codes "allOf") × (is_array d ≡ true)
+  IsShape k d shape.AnyOf = (k ≡ codes "anyOf") × (is_array d ≡ true)
+  IsShape k d (shape.Not v) = (k ≡ codes "not") × (view v ≡ d)
+  IsShape k d (shape.Leaf l) = (keyword_named o.world k ≡ leaf) × (o.keyword_of l ≡ k) × ((v : Data) → o.finds l v ≡ o.world.faults k d v)
+  IsShape k d shape.Unread = keyword_named o.world k ≡ unread
+
+  -- a keyword's value is read
+  pub record IsRead (x : Shape K) (k : Name) (d : Data) (L : Path) (old new : Counts) : Type 0 where
+    pub shape : IsShape k d x
+    pub clean : own_faults o.world k d L ≡ []
+    pub spends : Spends old new (own_cost_of (keyword_named o.world k))
+
+  -- or what is wrong with the keyword itself
+  abbrev pub RefusesKeyword : Name → Data → Path → Counts → Counts → BuildError → Type 0
+  RefusesKeyword k d L old new e = Refuses (own_faults o.world k d L) (own_cost_of (keyword_named o.world k)) old new e

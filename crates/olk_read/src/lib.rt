@@ -1,0 +1,16 @@
+//! Reading the keywords of a schema object, as far as this needs no nodes: the first of three steps of building.
+//!
+//! A value becomes a shape, or is refused; nothing here recurs. Tested by `olk_tests` through building.
+#![tactic(auto)]
+
+mod lists;
+mod makers;
+mod reading;
+mod refusal;
+mod shape;
+
+pub use lists::{append, one};
+pub use makers::Makers;
+pub use reading::read_keyword;
+pub use refusal::{refuse, refuse_type};
+pub use shape::{ReadPlaces, Shape};
