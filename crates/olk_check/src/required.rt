@@ -8,7 +8,7 @@ ghost use Rattle.olk_tree.specs.Answers.{texts_of};
 
 use crate::IsValid;
 use olk_base::{Node, ValidationContext};
-use olk_tree::members::has_member;
+use olk_members::has_member;
 use olk_tree::required::RequiredValidator;
 use serde_json::{Map, Value};
 

@@ -10,7 +10,7 @@ use crate::Errors;
 use crate::append::{append_error, refuse, roll_back_on_err};
 use olk_base::{Node, ValidationContext};
 use olk_reports::{InstancePath, ValidateError, ValidationError, ValidationErrorKind};
-use olk_tree::members::has_member;
+use olk_members::has_member;
 use olk_tree::required::RequiredValidator;
 use serde_json::{Map, Value};
 use std::alloc::{AllocError, Global};

@@ -15,7 +15,7 @@ use crate::own::add_own_error;
 use crate::{Evaluate, Located};
 use olk_base::{Node, ValidationContext};
 use olk_reports::{EvaluationNode, EvaluationResult, InstancePath, ValidationErrorKind};
-use olk_tree::members::has_member;
+use olk_members::has_member;
 use olk_tree::required::RequiredValidator;
 use serde_json::{Map, Value};
 use std::alloc::{AllocError, Global};

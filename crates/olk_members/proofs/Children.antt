@@ -86,6 +86,19 @@ module _ (W : World) (u : Bool) (v : Data) where
   abbrev pub any_shown : Path → Path → List (Name × Data) → Tree
   any_shown L Q es = cond (is_empty (accepting_branches es)) (result L Q None true [] (branches_shown L Q es)) (plain L Q (branches_shown L Q (accepting_branches es)))
 
+  module _ (k : Name) (P Q : Path) (ds : Items) where
+    pub all_branches_shown : map (λ b. b.1.answer.tree v (P // k // b.0) Q) (those (λ b. true) (branches (read (meaning_step W u) (array ds)))) ≡ branches_shown (P // k) Q (numbered (items_list ds))
+    unfolding meaning
+    all_branches_shown = ap (λ bs. map (λ b. b.1.answer.tree v (P // k // b.0) Q) (those (λ b. true) bs)) (branch_entries (meaning_step W u) ds)
+        ∙ ap (map (λ b. b.1.answer.tree v (P // k // b.0) Q)) (all_those (map (entry (meaning_step W u)) (numbered (items_list ds))))
+        ∙ map-map (λ b. b.1.answer.tree v (P // k // b.0) Q) (λ e. tree W u e.1 v (P // k // e.0) Q) (entry (meaning_step W u)) (λ e. refl) (numbered (items_list ds))
+
+    pub accepting_branches_shown : map (λ b. b.1.answer.tree v (P // k // b.0) Q) (those (λ b. holds b.1 v) (branches (read (meaning_step W u) (array ds)))) ≡ branches_shown (P // k) Q (accepting_branches (numbered (items_list ds)))
+    unfolding meaning
+    accepting_branches_shown = ap (λ bs. map (λ b. b.1.answer.tree v (P // k // b.0) Q) (those (λ b. holds b.1 v) bs)) (branch_entries (meaning_step W u) ds)
+        ∙ ap (map (λ b. b.1.answer.tree v (P // k // b.0) Q)) (those-map (λ b. holds b.1 v) (λ e. accepts W u e.1 v) (entry (meaning_step W u)) (λ e. refl) (numbered (items_list ds)))
+        ∙ map-map (λ b. b.1.answer.tree v (P // k // b.0) Q) (λ e. tree W u e.1 v (P // k // e.0) Q) (entry (meaning_step W u)) (λ e. refl) (accepting_branches (numbered (items_list ds)))
+
   module _ (ms : Members) (P Q : Path) where
     pub properties_child : (fs : Members) → lookup (codes "properties") (listed ms) ≡ Some (object fs) → restricts (read_members (meaning_step W u) ms) ≡ false
         → member_child W ms (codes "properties", object fs) properties u v P Q ≡ shown_declared (P // codes "properties") Q (listed fs) (missing_child W u (read_members (meaning_step W u) ms) v P Q (fuses_two (read_members (meaning_step W u) ms))) ∷ []
@@ -116,23 +129,13 @@ module _ (W : World) (u : Bool) (v : Data) where
 
       pub any_of_child : member_child W ms (codes "anyOf", array ds) any_of u v P Q ≡ any_shown (P // codes "anyOf") Q (numbered (items_list ds)) ∷ []
       unfolding meaning
-      any_of_child = λ i. cond (count i) (result (P // codes "anyOf") Q None true [] (each i)) (plain (P // codes "anyOf") Q (some i)) ∷ []
+      any_of_child = λ i. cond (count i) (result (P // codes "anyOf") Q None true [] (all_branches_shown (codes "anyOf") P Q ds i)) (plain (P // codes "anyOf") Q (accepting_branches_shown (codes "anyOf") P Q ds i)) ∷ []
         where
           count : (accepting (read (meaning_step W u) (array ds)) v == 0) ≡ is_empty (accepting_branches (numbered (items_list ds)))
           count = none_counted (λ s. holds s v) ((read (meaning_step W u) (array ds)).items)
               ∙ ap (λ xs. is_empty (those (λ s. holds s v) xs)) (item_entries (meaning_step W u) ds)
               ∙ none_under (λ s. holds s v) (λ e. e.1) (map (entry (meaning_step W u)) (numbered (items_list ds)))
               ∙ none_under (λ e. holds e.1 v) (entry (meaning_step W u)) (numbered (items_list ds))
-
-          each : map (λ b. b.1.answer.tree v (P // codes "anyOf" // b.0) Q) (those (λ b. true) (branches (read (meaning_step W u) (array ds)))) ≡ branches_shown (P // codes "anyOf") Q (numbered (items_list ds))
-          each = ap (λ bs. map (λ b. b.1.answer.tree v (P // codes "anyOf" // b.0) Q) (those (λ b. true) bs)) (branch_entries (meaning_step W u) ds)
-              ∙ ap (map (λ b. b.1.answer.tree v (P // codes "anyOf" // b.0) Q)) (all_those (map (entry (meaning_step W u)) (numbered (items_list ds))))
-              ∙ map-map (λ b. b.1.answer.tree v (P // codes "anyOf" // b.0) Q) (λ e. tree W u e.1 v (P // codes "anyOf" // e.0) Q) (entry (meaning_step W u)) (λ e. refl) (numbered (items_list ds))
-
-          some : map (λ b. b.1.answer.tree v (P // codes "anyOf" // b.0) Q) (those (λ b. holds b.1 v) (branches (read (meaning_step W u) (array ds)))) ≡ branches_shown (P // codes "anyOf") Q (accepting_branches (numbered (items_list ds)))
-          some = ap (λ bs. map (λ b. b.1.answer.tree v (P // codes "anyOf" // b.0) Q) (those (λ b. holds b.1 v) bs)) (branch_entries (meaning_step W u) ds)
-              ∙ ap (map (λ b. b.1.answer.tree v (P // codes "anyOf" // b.0) Q)) (those-map (λ b. holds b.1 v) (λ e. accepts W u e.1 v) (entry (meaning_step W u)) (λ e. refl) (numbered (items_list ds)))
-              ∙ map-map (λ b. b.1.answer.tree v (P // codes "anyOf" // b.0) Q) (λ e. tree W u e.1 v (P // codes "anyOf" // e.0) Q) (entry (meaning_step W u)) (λ e. refl) (accepting_branches (numbered (items_list ds)))
 
     module _ (d : Data) where
       pub not_child : member_child W ms (codes "not", d) not_keyword u v P Q ≡ erring (P // codes "not") Q (fault_if (accepts W u d v) (Not d) v (P // codes "not") Q) ∷ []

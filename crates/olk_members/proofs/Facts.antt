@@ -31,7 +31,7 @@ module _ {X Y : Type 0} (h : Y → X) where
   list_any_under p [] = refl
   list_any_under p (y ∷ ys) = ap (λ b. p (h y) || b) (list_any_under p ys)
 
-  sum_by_under : (p : X → ℕ) (ys : List Y) → sum_by p (map h ys) ≡ sum_by (λ y. p (h y)) ys
+  pub sum_by_under : (p : X → ℕ) (ys : List Y) → sum_by p (map h ys) ≡ sum_by (λ y. p (h y)) ys
   sum_by_under p [] = refl
   sum_by_under p (y ∷ ys) = sum_by-cons p (h y) (map h ys) ∙ ap (λ n. p (h y) + n) (sum_by_under p ys) ∙ sym (sum_by-cons (λ z. p (h z)) y ys)
 
@@ -57,10 +57,10 @@ branch_entries step ds = branches_read step (array ds) ∙ numbered-map (place s
 pub item_entries : {X : Type 0} (step : Schema X → X) (ds : Items) → (read step (array ds)).items ≡ map {A = Name × Sub X} (λ e. e.1) (map (entry step) (numbered (items_list ds)))
 item_entries {X} step ds = items_read step (array ds) ∙ numbered_values (map (place step) (items_list ds)) ∙ ap (map {A = Name × Sub X} (λ e. e.1)) (numbered-map (place step) (items_list ds))
 
-nothing_first : (n : ℕ) → 0 + n ≡ n
+pub nothing_first : (n : ℕ) → 0 + n ≡ n
 nothing_first n = omega arith
 
-nothing_last : (n : ℕ) → n + 0 ≡ n
+pub nothing_last : (n : ℕ) → n + 0 ≡ n
 nothing_last n = omega arith
 
 -- ---- the places that a keyword reads
@@ -115,6 +115,15 @@ module _ (step : Schema Meaning → Meaning) (k : Name) (v : Data) where
   at_whole_find : (P Q : Path) (es : List (Name × Data)) → flat_map (λ a. a.sub.answer.report a.value (down P a.in_schema) (down Q a.in_instance)) (asked_whole k v (map (entry step) es)) ≡ flat_map (λ e. (answer_for step e.1).report v (P // k // e.0) Q) es
   at_whole_find P Q [] = refl
   at_whole_find P Q (e ∷ es) = ap (λ l. (answer_for step e.1).report v (P // k // e.0) Q ++ l) (at_whole_find P Q es)
+
+-- ---- what branches find
+
+module _ (W : World) (k : Name) (ds : Items) (u : Bool) (v : Data) (P Q : Path) where
+  pub branches_report : map (λ b. b.1.answer.report v (P // k // b.0) Q) (branches (read (meaning_step W u) (array ds))) ≡ map (λ e. report W u e.1 v (P // k // e.0) Q) (numbered (items_list ds))
+  unfolding meaning
+  branches_report =
+      ap (map (λ b. b.1.answer.report v (P // k // b.0) Q)) (branch_entries (meaning_step W u) ds)
+      ∙ map-map (λ b. b.1.answer.report v (P // k // b.0) Q) (λ e. report W u e.1 v (P // k // e.0) Q) (entry (meaning_step W u)) (λ e. refl) (numbered (items_list ds))
 
 module _ (W : World) (ms : Members) where
   -- ---- properties
@@ -184,12 +193,7 @@ module _ (W : World) (ms : Members) where
 
       pub any_of_report : (P Q : Path) → member_report W ms (codes "anyOf", array ds) any_of u v P Q ≡ fault_if (not (list_any (λ e. accepts W u e.1 v) (numbered (items_list ds)))) (AnyOf (context (map (λ e. report W u e.1 v (P // codes "anyOf" // e.0) Q) (numbered (items_list ds))))) v (P // codes "anyOf") Q
       unfolding meaning
-      any_of_report P Q = λ i. fault_if (not (any_of_accepts i)) (AnyOf (context (found i))) v (P // codes "anyOf") Q
-        where
-          found : map (λ b. b.1.answer.report v (P // codes "anyOf" // b.0) Q) (branches (read (meaning_step W u) (array ds))) ≡ map (λ e. report W u e.1 v (P // codes "anyOf" // e.0) Q) (numbered (items_list ds))
-          found =
-              ap (map (λ b. b.1.answer.report v (P // codes "anyOf" // b.0) Q)) (branch_entries (meaning_step W u) ds)
-              ∙ map-map (λ b. b.1.answer.report v (P // codes "anyOf" // b.0) Q) (λ e. report W u e.1 v (P // codes "anyOf" // e.0) Q) (entry (meaning_step W u)) (λ e. refl) (numbered (items_list ds))
+      any_of_report P Q = λ i. fault_if (not (any_of_accepts i)) (AnyOf (context (branches_report W (codes "anyOf") ds u v P Q i))) v (P // codes "anyOf") Q
 
   -- ---- not
 

@@ -6,3 +6,5 @@ pub mod Facts
 pub mod Children
 pub mod Clean
 pub mod Objects
+pub mod OneOf
+pub mod Conditions

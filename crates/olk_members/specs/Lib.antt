@@ -1,3 +1,4 @@
 pub mod Members
 pub mod Fused
 pub mod Plans
+pub mod Conditions

@@ -7,4 +7,5 @@
 mod members;
 mod plan;
 
+pub use members::{has_member, member};
 pub use plan::Plan;

@@ -8,7 +8,7 @@ ghost use Rattle.olk_spec.specs.Schemas.{listed, has};
 use serde_json::{Map, Value};
 
 /// The member at the name (RFC 8259, section 4).
-pub(crate) fn member<'v>(members: &'v Map<String, Value>, name: &str) -> Option<&'v Value>
+pub fn member<'v>(members: &'v Map<String, Value>, name: &str) -> Option<&'v Value>
     ensures { option_map (λ v. view v.now) result ≡ lookup name.now
         (listed (members_view members.now.entries)) }
 {
@@ -16,7 +16,7 @@ pub(crate) fn member<'v>(members: &'v Map<String, Value>, name: &str) -> Option<
 }
 
 /// Whether there is a member at the name (RFC 8259, section 4).
-pub(crate) fn has_member(members: &Map<String, Value>, name: &str) -> bool
+pub fn has_member(members: &Map<String, Value>, name: &str) -> bool
     ensures { result ≡ has name.now (object (members_view members.now.entries)) }
 {
     members.contains_key(name)

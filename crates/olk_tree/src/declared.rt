@@ -6,7 +6,7 @@ ghost use Rattle.olk_tree.specs.Answers.{named};
 ghost use Rattle.olk_tree.specs.Visited.{members_declared, names_met, Yields, left_of, pairs_of};
 
 use crate::map::SmallMap;
-use crate::members::member;
+use olk_members::member;
 use serde_json::{Map, Value};
 use std::collections::btree_map::Iter;
 use std::iter::Zip;

@@ -1,0 +1,146 @@
+-- `if`, `then` and `else`, over the raw data of their values.
+use Rattle.std.specs.Prelude.{◌≡◌, ℕ, ◌+◌, Bool, true, false, not, cond, ◌&&◌, ◌||◌, List, [], ◌∷◌, ◌++◌, map, codes, is_some, Option, Some, None, option_to_list, sum_by}
+use Rattle.std.specs.List.{list_all, list_any, flat_map}
+use Rattle.std.proofs.Common.{refl, sym, ap, ◌∙◌, arith}
+use Rattle.std.proofs.lemmas.List.{append-nil}
+use Rattle.std.proofs.lemmas.List.Sums.{sum_by-cons}
+use mathlib.Core.Bool.{true≢false}
+use Rattle.serde_json.specs.Data.{Data, Members}
+use Rattle.olk_spec.specs.Names.{Name, Path, ◌//◌, down, lookup, put_if}
+use Rattle.olk_spec.specs.World.{World}
+use Rattle.olk_spec.specs.Vocabulary.{if_keyword, then_keyword, else_keyword}
+use Rattle.olk_spec.specs.Faults.{Fault}
+use Rattle.olk_spec.specs.Schemas.{Schema, Keywords, read, read_members, answer_for, listed, wholes_at}
+use Rattle.olk_spec.specs.Meanings.{Meaning, is_conditional, if_accepts, if_refuses, Asked, asked}
+use Rattle.olk_spec.specs.Meaning.{accepts, asks, report, tree, meaning, meaning_step}
+use Rattle.olk_spec.specs.Tree.{Tree, plain}
+use Rattle.olk_spec.specs.Trees.{case_trees}
+use Rattle.olk_spec.proofs.Truth.{and_true, or_false}
+use Rattle.olk_spec.proofs.Reading.{place, lookup_listed, whole_read, is_present_read, wholes_there, wholes_absent, wholes_at_read}
+use Rattle.olk_members.specs.Members.{member_accepts, member_asks, member_report, member_child}
+use Rattle.olk_members.specs.Conditions.{is_condition}
+use Rattle.olk_members.proofs.Facts.{nothing_first, nothing_last}
+
+module _ {X : Type 0} (step : Schema X → X) (ms : Members) where
+  present : (k : Name) → is_some (lookup k (read_members step ms)) ≡ is_some (lookup k (listed ms))
+  present k = is_present_read step ms k ∙ ap is_some (sym (lookup_listed k ms))
+
+  pub condition_read : is_conditional (read_members step ms) ≡ is_condition ms
+  condition_read = λ i. present (codes "if") i && (present (codes "then") i || present (codes "else") i)
+
+-- what is shown where the test holds, of the schema that stands there
+module _ (W : World) (u : Bool) (v : Data) where
+  abbrev pub case_shown : Bool → Path → Path → Option Data → List Tree
+  case_shown b L Q None = []
+  case_shown b L Q (Some d) = put_if b (tree W u d v L Q) []
+
+module _ (W : World) (ms : Members) (u : Bool) (v : Data) where
+  abbrev neighbours : Keywords Meaning
+  neighbours = read_members (meaning_step W u) ms
+
+  -- ---- where `if` is not read
+
+  module _ (d : Data) (alone : is_condition ms ≡ false) where
+    pub if_accepts_alone : member_accepts W ms (codes "if", d) if_keyword u v ≡ true
+    if_accepts_alone = refl
+
+    pub if_asks_alone : member_asks W ms (codes "if", d) if_keyword u v ≡ 0
+    if_asks_alone = (let z : 0 + cond (is_conditional neighbours) ((read (meaning_step W u) d).whole.answer.asks v) 0 ≡ cond (is_conditional neighbours) ((read (meaning_step W u) d).whole.answer.asks v) 0 = omega arith in z) ∙ ap (λ b. cond b ((read (meaning_step W u) d).whole.answer.asks v) 0) (condition_read (meaning_step W u) ms ∙ alone)
+
+    pub if_shows_alone : (P Q : Path) → member_child W ms (codes "if", d) if_keyword u v P Q ≡ []
+    if_shows_alone P Q = ap (λ b. put_if b (plain (P // codes "if") Q (put_if ((read (meaning_step W u) d).whole.answer.accepts v) ((read (meaning_step W u) d).whole.answer.tree v (P // codes "if") Q) [] ++ case_trees W u neighbours v P Q (codes "if") (read (meaning_step W u) d) ((read (meaning_step W u) d).whole.answer.accepts v) (codes "then") ++ case_trees W u neighbours v P Q (codes "if") (read (meaning_step W u) d) (not ((read (meaning_step W u) d).whole.answer.accepts v)) (codes "else"))) []) (condition_read (meaning_step W u) ms ∙ alone)
+
+  -- `then` and `else` without `if`
+  module _ (d : Data) (absent : lookup (codes "if") (listed ms) ≡ None) where
+    none : wholes_at neighbours (codes "if") ≡ []
+    none = wholes_absent (meaning_step W u) ms (codes "if") (sym (lookup_listed (codes "if") ms) ∙ absent)
+
+    pub then_accepts_alone : member_accepts W ms (codes "then", d) then_keyword u v ≡ true
+    then_accepts_alone = ap (λ ss. list_all (λ a. a.sub.answer.accepts a.value) (put_if (list_any (λ s. s.answer.accepts v) ss) (asked (read (meaning_step W u) d).whole v (codes "then" ∷ []) []) []) && true) none
+
+    pub then_asks_alone : member_asks W ms (codes "then", d) then_keyword u v ≡ 0
+    then_asks_alone = ap (λ ss. sum_by (λ a. a.sub.answer.asks a.value) (put_if (list_any (λ s. s.answer.accepts v) ss) (asked (read (meaning_step W u) d).whole v (codes "then" ∷ []) []) []) + 0) none
+
+    pub else_accepts_alone : member_accepts W ms (codes "else", d) else_keyword u v ≡ true
+    else_accepts_alone = ap (λ ss. list_all (λ a. a.sub.answer.accepts a.value) (put_if (list_any (λ s. not (s.answer.accepts v)) ss) (asked (read (meaning_step W u) d).whole v (codes "else" ∷ []) []) []) && true) none
+
+    pub else_asks_alone : member_asks W ms (codes "else", d) else_keyword u v ≡ 0
+    else_asks_alone = ap (λ ss. sum_by (λ a. a.sub.answer.asks a.value) (put_if (list_any (λ s. not (s.answer.accepts v)) ss) (asked (read (meaning_step W u) d).whole v (codes "else" ∷ []) []) []) + 0) none
+
+  -- ---- where it is read
+
+  -- `if` is d
+  module _ (d : Data) (there : lookup (codes "if") (listed ms) ≡ Some d) where
+    at_if : wholes_at neighbours (codes "if") ≡ place (meaning_step W u) d ∷ []
+    at_if = wholes_there (meaning_step W u) ms (codes "if") d (sym (lookup_listed (codes "if") ms) ∙ there)
+
+    if_holds : if_accepts neighbours v ≡ accepts W u d v
+    unfolding meaning
+    if_holds = ap (list_any (λ s. s.answer.accepts v)) at_if ∙ or_false _
+
+    if_fails : if_refuses neighbours v ≡ not (accepts W u d v)
+    unfolding meaning
+    if_fails = ap (list_any (λ s. not (s.answer.accepts v))) at_if ∙ or_false _
+
+    module _ (read_here : is_condition ms ≡ true) where
+      pub if_accepts_beside : member_accepts W ms (codes "if", d) if_keyword u v ≡ true
+      if_accepts_beside = refl
+
+      pub if_asks_beside : member_asks W ms (codes "if", d) if_keyword u v ≡ asks W u d v
+      unfolding meaning
+      if_asks_beside = nothing_first _ ∙ ap (λ b. cond b ((read (meaning_step W u) d).whole.answer.asks v) 0) (condition_read (meaning_step W u) ms ∙ read_here)
+
+    -- `then` is e, and `else` is e
+    module _ (e : Data) where
+      abbrev asked_where : Bool → Name → List Asked
+      asked_where b k = put_if b (asked (read (meaning_step W u) e).whole v (k ∷ []) []) []
+
+      accepted_where : (b : Bool) (k : Name) → (list_all (λ a. a.sub.answer.accepts a.value) (asked_where b k) && true) ≡ cond b (accepts W u e v) true
+      unfolding meaning
+      accepted_where true k = and_true _ ∙ and_true _
+      accepted_where false k = refl
+
+      asks_where : (b : Bool) (k : Name) → sum_by (λ a. a.sub.answer.asks a.value) (asked_where b k) + 0 ≡ cond b (asks W u e v) 0
+      unfolding meaning
+      asks_where true k = nothing_last _ ∙ sum_by-cons (λ (a : Asked). a.sub.answer.asks a.value) (asked (read (meaning_step W u) e).whole v (k ∷ []) []) [] ∙ nothing_last _
+      asks_where false k = refl
+
+      found_where : (b : Bool) (k : Name) (P Q : Path) → flat_map (λ a. a.sub.answer.report a.value (down P a.in_schema) (down Q a.in_instance)) (asked_where b k) ++ [] ≡ cond b (report W u e v (P // k) Q) []
+      unfolding meaning
+      found_where true k P Q = append-nil _ ∙ append-nil _
+      found_where false k P Q = refl
+
+      pub then_accepts_beside : member_accepts W ms (codes "then", e) then_keyword u v ≡ cond (accepts W u d v) (accepts W u e v) true
+      then_accepts_beside = ap (λ b. list_all (λ a. a.sub.answer.accepts a.value) (asked_where b (codes "then")) && true) if_holds ∙ accepted_where (accepts W u d v) (codes "then")
+
+      pub then_asks_beside : member_asks W ms (codes "then", e) then_keyword u v ≡ cond (accepts W u d v) (asks W u e v) 0
+      then_asks_beside = ap (λ b. sum_by (λ a. a.sub.answer.asks a.value) (asked_where b (codes "then")) + 0) if_holds ∙ asks_where (accepts W u d v) (codes "then")
+
+      pub then_report_beside : (P Q : Path) → member_report W ms (codes "then", e) then_keyword u v P Q ≡ cond (accepts W u d v) (report W u e v (P // codes "then") Q) []
+      then_report_beside P Q = ap (λ b. flat_map (λ a. a.sub.answer.report a.value (down P a.in_schema) (down Q a.in_instance)) (asked_where b (codes "then")) ++ []) if_holds ∙ found_where (accepts W u d v) (codes "then") P Q
+
+      pub else_accepts_beside : member_accepts W ms (codes "else", e) else_keyword u v ≡ cond (not (accepts W u d v)) (accepts W u e v) true
+      else_accepts_beside = ap (λ b. list_all (λ a. a.sub.answer.accepts a.value) (asked_where b (codes "else")) && true) if_fails ∙ accepted_where (not (accepts W u d v)) (codes "else")
+
+      pub else_asks_beside : member_asks W ms (codes "else", e) else_keyword u v ≡ cond (not (accepts W u d v)) (asks W u e v) 0
+      else_asks_beside = ap (λ b. sum_by (λ a. a.sub.answer.asks a.value) (asked_where b (codes "else")) + 0) if_fails ∙ asks_where (not (accepts W u d v)) (codes "else")
+
+      pub else_report_beside : (P Q : Path) → member_report W ms (codes "else", e) else_keyword u v P Q ≡ cond (not (accepts W u d v)) (report W u e v (P // codes "else") Q) []
+      else_report_beside P Q = ap (λ b. flat_map (λ a. a.sub.answer.report a.value (down P a.in_schema) (down Q a.in_instance)) (asked_where b (codes "else")) ++ []) if_fails ∙ found_where (not (accepts W u d v)) (codes "else") P Q
+
+  -- what stands at a name, shown where the test holds
+  case_read : (d : Data) (b : Bool) (k : Name) (P Q : Path) → case_trees W u neighbours v P Q (codes "if") (read (meaning_step W u) d) b k ≡ case_shown W u v b (P // k) Q (lookup k (listed ms))
+  unfolding meaning
+  case_read d b k P Q = ap (flat_map (λ s. put_if b (s.answer.tree v (P // k) Q) [])) (wholes_at_read (meaning_step W u) ms k ∙ ap (λ o. map (place (meaning_step W u)) (option_to_list o)) (sym (lookup_listed k ms))) ∙ by (lookup k (listed ms))
+    where
+      by : (o : Option Data) → flat_map (λ s. put_if b (s.answer.tree v (P // k) Q) []) (map (place (meaning_step W u)) (option_to_list o)) ≡ case_shown W u v b (P // k) Q o
+      by None = refl
+      by (Some d) = append-nil _
+
+  pub if_shows_beside : (d : Data) → is_condition ms ≡ true → (P Q : Path) → member_child W ms (codes "if", d) if_keyword u v P Q
+      ≡ plain (P // codes "if") Q (put_if (accepts W u d v) (tree W u d v (P // codes "if") Q) [] ++ case_shown W u v (accepts W u d v) (P // codes "then") Q (lookup (codes "then") (listed ms)) ++ case_shown W u v (not (accepts W u d v)) (P // codes "else") Q (lookup (codes "else") (listed ms))) ∷ []
+  unfolding meaning
+  if_shows_beside d e P Q = λ i. put_if ((condition_read (meaning_step W u) ms ∙ e) i)
+      (plain (P // codes "if") Q (put_if ((whole_read (meaning_step W u) d i).answer.accepts v) ((whole_read (meaning_step W u) d i).answer.tree v (P // codes "if") Q) []
+      ++ case_read d ((whole_read (meaning_step W u) d i).answer.accepts v) (codes "then") P Q i
+      ++ case_read d (not ((whole_read (meaning_step W u) d i).answer.accepts v)) (codes "else") P Q i)) []
