@@ -11,7 +11,7 @@ use Rattle.serde_json.specs.Data.{Data, Members, no_members}
 use Rattle.serde_json.specs.View.{view}
 use Rattle.serde_json.specs.declared.value.Value.{Value}
 use Rattle.olk_spec.specs.Names.{Name, Path, ◌//◌, lookup}
-use Rattle.olk_spec.specs.Vocabulary.{Keyword, properties, required, all_of, any_of, not_keyword, leaf, unread, keyword_named}
+use Rattle.olk_spec.specs.Vocabulary.{Keyword, properties, required, all_of, any_of, one_of, not_keyword, leaf, unread, keyword_named}
 use Rattle.olk_spec.specs.Schemas.{listed, numbered}
 use Rattle.olk_spec.specs.Malformed.{has_repeat, items_of_array}
 use Rattle.olk_base.specs.Count.{Counts}
@@ -22,7 +22,7 @@ use Rattle.olk_node.specs.declared.node.SchemaNode.{SchemaNode}
 use Rattle.olk_tree.specs.declared.node.KeywordOver.{KeywordOver}
 use Rattle.olk_tree.specs.declared.node.KeywordOver.TheVariants as keyword
 use Rattle.olk_members.specs.Plans.{Planned, plan_of, head, claims}
-use Rattle.olk_make.specs.Forms.{IsFormOfAllOf, IsFormOfAnyOf, IsAllOf, IsAnyOf, IsNot, IsRequired, IsProperties}
+use Rattle.olk_make.specs.Forms.{IsFormOfAllOf, IsFormOfAnyOf, IsFormOfOneOf, IsAllOf, IsAnyOf, IsOneOf, IsNot, IsRequired, IsProperties}
 use Rattle.olk_make.specs.Holding.{StandEach}
 use Rattle.olk_build.specs.Building.{RefusesMember}
 use Rattle.olk_read.specs.Reading.{reads_of, IsShape}
@@ -54,6 +54,10 @@ abbrev is_any_of : Keyword → Bool
 is_any_of any_of = true
 is_any_of w = false
 
+abbrev is_one_of : Keyword → Bool
+is_one_of one_of = true
+is_one_of w = false
+
 abbrev is_not : Keyword → Bool
 is_not not_keyword = true
 is_not w = false
@@ -78,6 +82,11 @@ module _ {K N : Type 0} (L : Path) (ns : List N) (d : Data) (e : length ns ≡ l
   any_of_form (keyword.SingleAnyOf k) f = (sym e ∙ ap length f.0, f.1)
   any_of_form k f = absurd f
 
+  one_of_form : (k : KeywordOver K N) → IsFormOfOneOf L ns k → IsOneOf L d k
+  one_of_form (keyword.OneOf k) f = ((λ q. f.1 (e ∙ q)), f.2)
+  one_of_form (keyword.SingleOneOf k) f = (sym e ∙ ap length f.0, f.1)
+  one_of_form k f = absurd f
+
 module _ {K R : Type 0} (o : Kit K R) where
   stand_length : (ns : List (SchemaNode K R)) (es : List (Name × Data)) (P : Path) → StandEach o ns es P → length ns ≡ length es
   stand_length [] [] P h = refl
@@ -92,6 +101,7 @@ module _ {K R : Type 0} (o : Kit K R) where
   which_of (shape.Required v) = required
   which_of shape.AllOf = all_of
   which_of shape.AnyOf = any_of
+  which_of shape.OneOf = one_of
   which_of (shape.Not v) = not_keyword
   which_of (shape.Leaf l) = leaf
   which_of shape.Unread = unread
@@ -101,6 +111,7 @@ module _ {K R : Type 0} (o : Kit K R) where
   shape_named (shape.Required v) k d s = ap (keyword_named o.world) s.0
   shape_named shape.AllOf k d s = ap (keyword_named o.world) s.0
   shape_named shape.AnyOf k d s = ap (keyword_named o.world) s.0
+  shape_named shape.OneOf k d s = ap (keyword_named o.world) s.0
   shape_named (shape.Not v) k d s = ap (keyword_named o.world) s.0
   shape_named (shape.Leaf l) k d s = s.0
   shape_named shape.Unread k d s = s
@@ -112,6 +123,10 @@ module _ {K R : Type 0} (o : Kit K R) where
   only_any_of : (x : Shape K) → any_of ≡ which_of x → x ≡ shape.AnyOf
   only_any_of shape.AnyOf e = refl
   only_any_of x e = absurd (true≢false (ap is_any_of e))
+
+  only_one_of : (x : Shape K) → one_of ≡ which_of x → x ≡ shape.OneOf
+  only_one_of shape.OneOf e = refl
+  only_one_of x e = absurd (true≢false (ap is_one_of e))
 
   only_not : (x : Shape K) → not_keyword ≡ which_of x → (v : Value) × (x ≡ shape.Not v)
   only_not (shape.Not v) e = (v, refl)
@@ -175,14 +190,26 @@ module _ {K R : Type 0} (o : Kit K R) where
       any_of_shape : p.shape ≡ shape.AnyOf
       any_of_shape = only_any_of p.shape (shape_named p.shape (codes "anyOf") d (stands p (codes "anyOf") d P a b h).shape)
 
+      one_of_shape : p.shape ≡ shape.OneOf
+      one_of_shape = only_one_of p.shape (shape_named p.shape (codes "oneOf") d (stands p (codes "oneOf") d P a b h).shape)
+
       pub any_of_built : (ks : List (KeywordOver K (SchemaNode K R))) → MakesMember o shape.AnyOf p.location p.nodes.items ks → (ms : Members) (Q : Path) → P // codes "anyOf" ≡ Q // codes "anyOf" → MemberIsBuilt o ms ks (codes "anyOf", d) Q a b
       any_of_built ks make = member_built p (codes "anyOf") d P a b h ks (subst (λ x. MakesMember o x p.location p.nodes.items ks) (sym any_of_shape) make)
+
+      pub one_of_built : (ks : List (KeywordOver K (SchemaNode K R))) → MakesMember o shape.OneOf p.location p.nodes.items ks → (ms : Members) (Q : Path) → P // codes "oneOf" ≡ Q // codes "oneOf" → MemberIsBuilt o ms ks (codes "oneOf", d) Q a b
+      one_of_built ks make = member_built p (codes "oneOf") d P a b h ks (subst (λ x. MakesMember o x p.location p.nodes.items ks) (sym one_of_shape) make)
 
       pub any_of_is_formed : (k : KeywordOver K (SchemaNode K R)) → IsFormOfAnyOf p.location p.nodes.items k → IsAnyOf (P // codes "anyOf") d k
       any_of_is_formed k f =
           let s = stands p (codes "anyOf") d P a b h in
           subst (λ L. IsAnyOf L d k) s.place (any_of_form p.location p.nodes.items d
           (stand_length p.nodes.items (numbered (items_of_array d)) (P // codes "anyOf") (subst (λ x. StandAt o (reads_of x) p.nodes.items d (P // codes "anyOf")) any_of_shape s.nodes) ∙ length-numbered (items_of_array d)) k f)
+
+      pub one_of_is_formed : (k : KeywordOver K (SchemaNode K R)) → IsFormOfOneOf p.location p.nodes.items k → IsOneOf (P // codes "oneOf") d k
+      one_of_is_formed k f =
+          let s = stands p (codes "oneOf") d P a b h in
+          subst (λ L. IsOneOf L d k) s.place (one_of_form p.location p.nodes.items d
+          (stand_length p.nodes.items (numbered (items_of_array d)) (P // codes "oneOf") (subst (λ x. StandAt o (reads_of x) p.nodes.items d (P // codes "oneOf")) one_of_shape s.nodes) ∙ length-numbered (items_of_array d)) k f)
 
     module _ (h : IsPart o p (codes "not") d (P // codes "not") a b) where
       not_shape : (v : Value) × (p.shape ≡ shape.Not v)

@@ -56,6 +56,8 @@ module _ {K R : Type 0} (o : Kit K R) where
         (ap (λ es. flat_map (λ r. r.0.answer (down P r.1)) (each (codes "allOf") es)) (branch_entries (malformations_step o.world pending) d) ∙ each_malformations o.world (codes "allOf") P (numbered (items_of_array d)))
     places_found k P shape.AnyOf s = subst (λ n. found n P (keyword_named o.world n) ≡ each_malformed o (P // n) (numbered (items_of_array d))) (sym s.0)
         (ap (λ es. flat_map (λ r. r.0.answer (down P r.1)) (each (codes "anyOf") es)) (branch_entries (malformations_step o.world pending) d) ∙ each_malformations o.world (codes "anyOf") P (numbered (items_of_array d)))
+    places_found k P shape.OneOf s = subst (λ n. found n P (keyword_named o.world n) ≡ each_malformed o (P // n) (numbered (items_of_array d))) (sym s.0)
+        (ap (λ es. flat_map (λ r. r.0.answer (down P r.1)) (each (codes "oneOf") es)) (branch_entries (malformations_step o.world pending) d) ∙ each_malformations o.world (codes "oneOf") P (numbered (items_of_array d)))
     places_found k P (shape.Not v) s = subst (λ n. found n P (keyword_named o.world n) ≡ malformations_at o.world d (P // n)) (sym s.0) (append-nil _)
     places_found k P (shape.Leaf l) s = ap (found k P) s.0
     places_found k P shape.Unread s = ap (found k P) s
@@ -69,6 +71,8 @@ module _ {K R : Type 0} (o : Kit K R) where
         (ap (λ es. total_cost (λ r. r.0.answer) (each (codes "allOf") es)) (branch_entries (cost_step o.world) d) ∙ each_costs o.world (codes "allOf") (numbered (items_of_array d)))
     places_summed k shape.AnyOf s = subst (λ n. summed n (keyword_named o.world n) ≡ each_cost o (numbered (items_of_array d))) (sym s.0)
         (ap (λ es. total_cost (λ r. r.0.answer) (each (codes "anyOf") es)) (branch_entries (cost_step o.world) d) ∙ each_costs o.world (codes "anyOf") (numbered (items_of_array d)))
+    places_summed k shape.OneOf s = subst (λ n. summed n (keyword_named o.world n) ≡ each_cost o (numbered (items_of_array d))) (sym s.0)
+        (ap (λ es. total_cost (λ r. r.0.answer) (each (codes "oneOf") es)) (branch_entries (cost_step o.world) d) ∙ each_costs o.world (codes "oneOf") (numbered (items_of_array d)))
     places_summed k (shape.Not v) s = subst (λ n. summed n (keyword_named o.world n) ≡ cost o.world d) (sym s.0) (sum_last _)
     places_summed k (shape.Leaf l) s = ap (summed k) s.0
     places_summed k shape.Unread s = ap (summed k) s
@@ -81,6 +85,7 @@ module _ {K R : Type 0} (o : Kit K R) where
     own_of_shape k (shape.Required v) s = subst (λ n. owned (keyword_named o.world n) ≡ own_cost_of (keyword_named o.world n)) (sym s.0) refl
     own_of_shape k shape.AllOf s = subst (λ n. owned (keyword_named o.world n) ≡ own_cost_of (keyword_named o.world n)) (sym s.0) refl
     own_of_shape k shape.AnyOf s = subst (λ n. owned (keyword_named o.world n) ≡ own_cost_of (keyword_named o.world n)) (sym s.0) refl
+    own_of_shape k shape.OneOf s = subst (λ n. owned (keyword_named o.world n) ≡ own_cost_of (keyword_named o.world n)) (sym s.0) refl
     own_of_shape k (shape.Not v) s = subst (λ n. owned (keyword_named o.world n) ≡ own_cost_of (keyword_named o.world n)) (sym s.0) refl
     own_of_shape k (shape.Leaf l) s = subst (λ w. owned w ≡ own_cost_of w) (sym s.0) refl
     own_of_shape k shape.Unread s = subst (λ w. owned w ≡ own_cost_of w) (sym s) refl

@@ -6,6 +6,7 @@ pub mod any_of;
 pub mod build;
 pub mod context;
 pub mod not;
+pub mod one_of;
 pub mod properties;
 pub mod required;
 

@@ -62,17 +62,17 @@ with_nothing a b h = omega (arith, h)
 sum_within : (a b c d e : ℕ) → a ≤ b → c ≤ d → e ≡ b + d → a + c ≤ e
 sum_within a b c d e h k s = omega (arith, h, k, s)
 
-same_within : (a b c : ℕ) → a ≤ b → c ≡ b → a ≤ c
+pub same_within : (a b c : ℕ) → a ≤ b → c ≡ b → a ≤ c
 same_within a b c h e = omega (arith, h, e)
 
 module _ {K R : Type 0} (o : Kit K R) where
-  abbrev question : KeywordOver K (SchemaNode K R) → Data → Question
+  abbrev pub question : KeywordOver K (SchemaNode K R) → Data → Question
   question k v = validator_means o.finds (λ n. (answers o n).means) k v
 
-  abbrev shown : Bool → KeywordOver K (SchemaNode K R) → Data → Path → Tree
+  abbrev pub shown : Bool → KeywordOver K (SchemaNode K R) → Data → Path → Tree
   shown u k v Q = validator_tree o.finds (λ n. (answers o n).means) o.keyword_of (λ n. (answers o n).tree) u k v Q
 
-  abbrev found : Bool → KeywordOver K (SchemaNode K R) → Data → Path → List Fault
+  abbrev pub found : Bool → KeywordOver K (SchemaNode K R) → Data → Path → List Fault
   found u k v Q = validator_report o.finds (λ n. (answers o n).means) o.keyword_of (λ n. (answers o n).report) u k v Q
 
   -- ---- nodes that stand for schemas
@@ -111,7 +111,7 @@ module _ {K R : Type 0} (o : Kit K R) where
     members_find Q (n ∷ ns) [] L h = absurd h
     members_find Q (n ∷ ns) (e ∷ es) L h = ∼_append (node_finds n e.1 (L // e.0) h.0 u (Q // e.0) (at e.0 v)) (members_find Q ns es L h.1)
 
-    abbrev at_value : SchemaNode K R → Question
+    abbrev pub at_value : SchemaNode K R → Question
     at_value n = (answers o n).means v
 
     all_accept : (ns : List (SchemaNode K R)) (es : List (Name × Data)) (L : Path) → StandEach o ns es L → (every at_value ns).accepts u ≡ list_all (λ e. accepts o.world u e.1 v) es
@@ -138,28 +138,28 @@ module _ {K R : Type 0} (o : Kit K R) where
     any_accept (n ∷ ns) [] L h = absurd h
     any_accept (n ∷ ns) (e ∷ es) L h = λ i. h.0.verdict u v i || any_accept ns es L h.1 i
 
-    any_ask : (ns : List (SchemaNode K R)) (es : List (Name × Data)) (L : Path) → StandEach o ns es L → (some at_value ns).asks u ≤ sum_by (λ e. asks o.world u e.1 v) es
+    pub any_ask : (ns : List (SchemaNode K R)) (es : List (Name × Data)) (L : Path) → StandEach o ns es L → (some at_value ns).asks u ≤ sum_by (λ e. asks o.world u e.1 v) es
     any_ask [] [] L h = omega arith
     any_ask [] (e ∷ es) L h = absurd h
     any_ask (n ∷ ns) [] L h = absurd h
     any_ask (n ∷ ns) (e ∷ es) L h = sum_within _ _ _ _ _ (h.0.asks_within u v) (any_ask ns es L h.1) (sum_by-cons (λ e. asks o.world u e.1 v) e es)
 
-    any_context : (Q : Path) (ns : List (SchemaNode K R)) (es : List (Name × Data)) (L : Path) → StandEach o ns es L → IsLikeContext (context (map (λ n. (answers o n).report u v Q) ns)) (context (map (λ e. report o.world u e.1 v (L // e.0) Q) es))
+    pub any_context : (Q : Path) (ns : List (SchemaNode K R)) (es : List (Name × Data)) (L : Path) → StandEach o ns es L → IsLikeContext (context (map (λ n. (answers o n).report u v Q) ns)) (context (map (λ e. report o.world u e.1 v (L // e.0) Q) es))
     any_context Q [] [] L h = like_none
     any_context Q [] (e ∷ es) L h = absurd h
     any_context Q (n ∷ ns) [] L h = absurd h
     any_context Q (n ∷ ns) (e ∷ es) L h = like_branch (subst₂ (λ x y. x ∼ y) (sym (faults_in-from ((answers o n).report u v Q))) (sym (faults_in-from (report o.world u e.1 v (L // e.0) Q))) (h.0.faults u v Q)) (any_context Q ns es L h.1)
 
-    branches_show : (Q : Path) (ns : List (SchemaNode K R)) (es : List (Name × Data)) (L : Path) → StandEach o ns es L → map (λ n. (answers o n).tree u v Q) ns ≡ branches_shown o.world u v L Q es
+    pub branches_show : (Q : Path) (ns : List (SchemaNode K R)) (es : List (Name × Data)) (L : Path) → StandEach o ns es L → map (λ n. (answers o n).tree u v Q) ns ≡ branches_shown o.world u v L Q es
     branches_show Q [] [] L h = refl
     branches_show Q [] (e ∷ es) L h = absurd h
     branches_show Q (n ∷ ns) [] L h = absurd h
     branches_show Q (n ∷ ns) (e ∷ es) L h = λ i. h.0.evaluation u v Q i ∷ branches_show Q ns es L h.1 i
 
-    abbrev accepts_value : SchemaNode K R → Bool
+    abbrev pub accepts_value : SchemaNode K R → Bool
     accepts_value n = ((answers o n).means v).accepts u
 
-    accepting_show : (Q : Path) (ns : List (SchemaNode K R)) (es : List (Name × Data)) (L : Path) → StandEach o ns es L → map (λ n. (answers o n).tree u v Q) (those accepts_value ns) ≡ branches_shown o.world u v L Q (accepting_branches o.world u v es)
+    pub accepting_show : (Q : Path) (ns : List (SchemaNode K R)) (es : List (Name × Data)) (L : Path) → StandEach o ns es L → map (λ n. (answers o n).tree u v Q) (those accepts_value ns) ≡ branches_shown o.world u v L Q (accepting_branches o.world u v es)
     accepting_show Q [] [] L h = refl
     accepting_show Q [] (e ∷ es) L h = absurd h
     accepting_show Q (n ∷ ns) [] L h = absurd h
@@ -208,7 +208,7 @@ module _ {K R : Type 0} (o : Kit K R) where
   -- ---- one keyword
 
   module _ (ms : Members) (k : KeywordOver K (SchemaNode K R)) (m : Name × Data) (w : Keyword) (P : Path) where
-    one : ((u : Bool) (v : Data) → (question k v).accepts u ≡ member_accepts o.world ms m w u v)
+    pub one : ((u : Bool) (v : Data) → (question k v).accepts u ≡ member_accepts o.world ms m w u v)
         → ((u : Bool) (v : Data) → (question k v).asks u ≤ member_asks o.world ms m w u v)
         → ((u : Bool) (v : Data) (Q : Path) → found u k v Q ∼ member_report o.world ms m w u v P Q)
         → Holds o ms (k ∷ []) m w P
@@ -388,7 +388,7 @@ module _ {K R : Type 0} (o : Kit K R) where
         ∙ (λ i. any_faults (sym f.0 i) (f.1 i) Q)
     any_form_finds Q k f = absurd f
 
-  at_most_through : (a b c : ℕ) → a ≤ b → b ≤ c → a ≤ c
+  pub at_most_through : (a b c : ℕ) → a ≤ b → b ≤ c → a ≤ c
   at_most_through a b c h k = omega (arith, h, k)
 
   pub means_all_of : (k : KeywordOver K (SchemaNode K R)) (ns : List (SchemaNode K R)) (L : Path) (ds : Items) (d : Data) → d ≡ array ds → IsFormOfAllOf L ns k → StandEach o ns (numbered (items_list ds)) L → (ms : Members) (P : Path) → L ≡ P // codes "allOf" → KeywordMeans o ms (k ∷ []) (codes "allOf", d) P

@@ -1,3 +1,4 @@
 pub mod Together
 pub mod Held
+pub mod OneOf
 pub mod Makes

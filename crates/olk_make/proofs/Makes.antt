@@ -15,7 +15,7 @@ use Rattle.olk_spec.specs.Malformed.{has_repeat, items_of_array}
 use Rattle.olk_spec.proofs.Walks.{same_name}
 use Rattle.olk_base.specs.Kit.{Kit}
 use Rattle.olk_members.specs.Plans.{Planned, plan_of, head, claims}
-use Rattle.olk_make.specs.Forms.{IsFormOfProperties, IsFormOfAllOf, IsFormOfAnyOf}
+use Rattle.olk_make.specs.Forms.{IsFormOfProperties, IsFormOfAllOf, IsFormOfAnyOf, IsFormOfOneOf}
 use Rattle.olk_make.specs.Holding.{StandEach}
 use Rattle.olk_read.specs.Reading.{reads_of, IsShape}
 use Rattle.olk_make.specs.Standing.{StandAt, PartsStand}
@@ -31,6 +31,7 @@ use Rattle.olk_read.proofs.Read.{array_of}
 use Rattle.olk_members.proofs.Claims.{found_each, heads_there}
 use Rattle.olk_make.proofs.Together.{no_keywords_mean, one_more_keyword, heads_mean_all}
 use Rattle.olk_make.proofs.Held.{means_all_of, means_any_of, means_not, means_form, means_fused, means_own, means_leaf, means_unread, means_required, means_required_alone}
+use Rattle.olk_make.proofs.OneOf.{means_one_of}
 
 object_of : (d : Data) → is_object d ≡ true → (fs : Members) × (d ≡ object fs)
 object_of (object fs) e = (fs, refl)
@@ -59,6 +60,11 @@ module _ {K R : Type 0} (o : Kit K R) where
   makes_any_of k L ns form ms m P p s h =
       let a = array_of m.1 s.1 in
       subst (λ n. KeywordMeans o ms (k ∷ []) (n, m.1) P) (sym s.0) (means_any_of o k ns L a.0 m.1 a.1 form (subst (λ x. StandEach o ns (numbered (items_of_array x)) L) a.1 h) ms P (p ∙ ap (λ n. P // n) s.0))
+
+  pub makes_one_of : (k : KeywordOver K (SchemaNode K R)) (L : Path) (ns : List (SchemaNode K R)) → IsFormOfOneOf L ns k → MakesMember o shape.OneOf L ns (k ∷ [])
+  makes_one_of k L ns form ms m P p s h =
+      let a = array_of m.1 s.1 in
+      subst (λ n. KeywordMeans o ms (k ∷ []) (n, m.1) P) (sym s.0) (means_one_of o k ns L a.0 m.1 a.1 form (subst (λ x. StandEach o ns (numbered (items_of_array x)) L) a.1 h) ms P (p ∙ ap (λ n. P // n) s.0))
 
   pub makes_not : (original : Value) (L : Path) (n : SchemaNode K R) (rest ns : List (SchemaNode K R)) → ns ≡ rest ++ n ∷ [] → MakesMember o (shape.Not original) L ns (keyword.Not (record { original = original; node = n; location = L }) ∷ [])
   makes_not original L n rest ns e ms m P p s h = by rest (subst (λ l. StandAt o (reads_of {K = K} (shape.Not original)) l m.1 L) e h)
@@ -113,6 +119,9 @@ module _ {K R : Type 0} (o : Kit K R) where
 
   pub any_of_alone : IsAlone shape.AnyOf
   any_of_alone k d s = ap (λ n. neighbours (keyword_named o.world n)) s.0
+
+  pub one_of_alone : IsAlone shape.OneOf
+  one_of_alone k d s = ap (λ n. neighbours (keyword_named o.world n)) s.0
 
   pub not_alone : (v : Value) → IsAlone (shape.Not v)
   not_alone v k d s = ap (λ n. neighbours (keyword_named o.world n)) s.0

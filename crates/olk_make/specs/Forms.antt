@@ -23,6 +23,11 @@ IsFormOfAnyOf P ns (keyword.AnyOf k) = (k.schemas.items ≡ ns) × (length ns �
 IsFormOfAnyOf P ns (keyword.SingleAnyOf k) = (ns ≡ k.node ∷ []) × (k.location ≡ P)
 IsFormOfAnyOf P ns k = ⊥
 
+abbrev pub IsFormOfOneOf : {K N : Type 0} → Path → List N → KeywordOver K N → Type 0
+IsFormOfOneOf P ns (keyword.OneOf k) = (k.schemas.items ≡ ns) × (length ns ≢ 1) × (k.location ≡ P)
+IsFormOfOneOf P ns (keyword.SingleOneOf k) = (ns ≡ k.node ∷ []) × (k.location ≡ P)
+IsFormOfOneOf P ns k = ⊥
+
 -- the form at L in the object at P: with two fused names, or alone
 abbrev pub IsFormOfProperties : {K N : Type 0} → Path → Path → SmallMap N → Option (Name × Name) → KeywordOver K N → Type 0
 IsFormOfProperties P L m None (keyword.Properties k) = (k.properties ≡ m) × (k.location ≡ L)
@@ -37,11 +42,16 @@ IsAllOf L d (keyword.AllOf k) = (length (items_of_array d) ≢ 1) × (k.location
 IsAllOf L d (keyword.SingleValueAllOf k) = (length (items_of_array d) ≡ 1) × (k.location ≡ L)
 IsAllOf L d k = ⊥
 
--- and so `anyOf`
+-- and so `anyOf` and `oneOf`
 abbrev pub IsAnyOf : {K N : Type 0} → Path → Data → KeywordOver K N → Type 0
 IsAnyOf L d (keyword.AnyOf k) = (length (items_of_array d) ≢ 1) × (k.location ≡ L)
 IsAnyOf L d (keyword.SingleAnyOf k) = (length (items_of_array d) ≡ 1) × (k.location ≡ L)
 IsAnyOf L d k = ⊥
+
+abbrev pub IsOneOf : {K N : Type 0} → Path → Data → KeywordOver K N → Type 0
+IsOneOf L d (keyword.OneOf k) = (length (items_of_array d) ≢ 1) × (k.location ≡ L)
+IsOneOf L d (keyword.SingleOneOf k) = (length (items_of_array d) ≡ 1) × (k.location ≡ L)
+IsOneOf L d k = ⊥
 
 abbrev pub IsNot : {K N : Type 0} → Path → Data → KeywordOver K N → Type 0
 IsNot L d (keyword.Not k) = (view k.original ≡ d) × (k.location ≡ L)

@@ -8,6 +8,7 @@ pub mod all_of;
 pub mod any_of;
 mod making;
 pub mod not;
+pub mod one_of;
 mod part;
 pub mod properties;
 pub mod required;

@@ -8,7 +8,7 @@ ghost use Rattle.olk_make.specs.Standing.{PartsStand};
 ghost use Rattle.olk_make.specs.Making.{MakesClaims, ObjectIsMade};
 
 use crate::part::Part;
-use crate::{all_of, any_of, not, properties, required};
+use crate::{all_of, any_of, not, one_of, properties, required};
 use olk_base::{Leaf, RegexEngine};
 use olk_members::Plan;
 use olk_node::{Keyword, SchemaNode};
@@ -44,6 +44,7 @@ fn make_keyword<K: Leaf, R: RegexEngine>(
         Shape::Required(names) => Ok(required::make(plan, location, names, nodes)),
         Shape::AllOf => Ok(Some(all_of::make(location, nodes))),
         Shape::AnyOf => Ok(Some(any_of::make(location, nodes))),
+        Shape::OneOf => Ok(Some(one_of::make(location, nodes))),
         Shape::Not(original) => Ok(not::make(location, original, nodes)),
         Shape::Leaf(leaf) => Ok(Some(KeywordOver::Leaf(location, leaf))),
         Shape::Unread => Ok(None),

@@ -72,6 +72,9 @@ module _ (W : World) (d : Data) (L : Path) where
   pub own_any_of : own_faults W (codes "anyOf") d L ≡ unless_array d L
   own_any_of = ap (λ s. unless_array s L) same
 
+  pub own_one_of : own_faults W (codes "oneOf") d L ≡ unless_array d L
+  own_one_of = ap (λ s. unless_array s L) same
+
   pub own_not : own_faults W (codes "not") d L ≡ []
   own_not = refl
 

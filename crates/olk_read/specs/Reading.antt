@@ -25,12 +25,13 @@ abbrev pub reads_of : {K : Type 0} → Shape K → ReadPlaces
 reads_of (shape.Properties n) = Entries
 reads_of shape.AllOf = Branches
 reads_of shape.AnyOf = Branches
+reads_of shape.OneOf = Branches
 reads_of (shape.Not v) = Itself
 reads_of x = Nothing
 
 -- none of the keywords that are read here by name
 abbrev pub IsOther : Name → Type 0
-IsOther n = is_among n (codes "properties" ∷ codes "required" ∷ codes "allOf" ∷ codes "anyOf" ∷ codes "not" ∷ []) ≡ false
+IsOther n = is_among n (codes "properties" ∷ codes "required" ∷ codes "allOf" ∷ codes "anyOf" ∷ codes "oneOf" ∷ codes "not" ∷ []) ≡ false
 
 -- which keyword a name is
 abbrev pub IsFor : Name → KeywordFor → Type 0
@@ -38,6 +39,7 @@ IsFor n for.Properties = n ≡ codes "properties"
 IsFor n for.Required = n ≡ codes "required"
 IsFor n for.AllOf = n ≡ codes "allOf"
 IsFor n for.AnyOf = n ≡ codes "anyOf"
+IsFor n for.OneOf = n ≡ codes "oneOf"
 IsFor n for.Not = n ≡ codes "not"
 IsFor n for.Refused = IsOther n × (is_among n (unsupported_names ++ pending) ≡ true)
 IsFor n for.Other = IsOther n × (is_among n (unsupported_names ++ pending) ≡ false)
@@ -58,6 +60,7 @@ module _ {K R : Type 0} (o : Kit K R) where
   IsShape k d (shape.Required v) = (k ≡ codes "required") × (is_array d ≡ true) × (map string_bytes v.items ≡ texts d)
   IsShape k d shape.AllOf = (k ≡ codes "allOf") × (is_array d ≡ true)
   IsShape k d shape.AnyOf = (k ≡ codes "anyOf") × (is_array d ≡ true)
+  IsShape k d shape.OneOf = (k ≡ codes "oneOf") × (is_array d ≡ true)
   IsShape k d (shape.Not v) = (k ≡ codes "not") × (view v ≡ d)
   IsShape k d (shape.Leaf l) = (keyword_named o.world k ≡ leaf) × (o.keyword_of l ≡ k) × ((v : Data) → o.finds l v ≡ o.world.faults k d v)
   IsShape k d shape.Unread = keyword_named o.world k ≡ unread

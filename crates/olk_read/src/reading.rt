@@ -28,6 +28,7 @@ pub enum KeywordFor {
     Required,
     AllOf,
     AnyOf,
+    OneOf,
     Not,
     Refused,
     Other,
@@ -51,7 +52,6 @@ fn is_refused(name: &str) -> bool
             | "dependentSchemas"
             | "dependencies"
             | "propertyDependencies"
-            | "oneOf"
             | "if"
             | "then"
             | "else"
@@ -67,6 +67,7 @@ fn keyword_for(name: &str) -> KeywordFor
         "required" => KeywordFor::Required,
         "allOf" => KeywordFor::AllOf,
         "anyOf" => KeywordFor::AnyOf,
+        "oneOf" => KeywordFor::OneOf,
         "not" => KeywordFor::Not,
         _ => {
             if is_refused(name) {
@@ -208,6 +209,7 @@ pub fn read_keyword<'a, L: MakeLeaf, M: MakeRegex>(
         KeywordFor::Required => Ok(Shape::Required(texts_of_array(alloc, location, value)?)),
         KeywordFor::AllOf => Ok(shape_of_branches(alloc, location, Shape::AllOf, value)?),
         KeywordFor::AnyOf => Ok(shape_of_branches(alloc, location, Shape::AnyOf, value)?),
+        KeywordFor::OneOf => Ok(shape_of_branches(alloc, location, Shape::OneOf, value)?),
         KeywordFor::Not => Ok(Shape::Not(value.clone()?)),
         KeywordFor::Refused => {
             let kind = ValidationErrorKind::Unsupported { keyword: name };

@@ -13,6 +13,7 @@ pub enum Shape<K> {
     Required(Vec<String>),
     AllOf,
     AnyOf,
+    OneOf,
     Not(Value),
     Leaf(K),
     Unread,
@@ -34,7 +35,7 @@ impl<K> Shape<K> {
     {
         match self {
             Shape::Properties(_) => ReadPlaces::Entries,
-            Shape::AllOf | Shape::AnyOf => ReadPlaces::Branches,
+            Shape::AllOf | Shape::AnyOf | Shape::OneOf => ReadPlaces::Branches,
             Shape::Not(_) => ReadPlaces::Itself,
             Shape::Required(_) | Shape::Leaf(_) | Shape::Unread => ReadPlaces::Nothing,
         }

@@ -15,7 +15,7 @@ abbrev pub pending : List Name
 pending =
     codes "patternProperties" ∷ codes "additionalProperties" ∷ codes "propertyNames"
     ∷ codes "dependentRequired" ∷ codes "dependentSchemas" ∷ codes "dependencies" ∷ codes "propertyDependencies"
-    ∷ codes "oneOf" ∷ codes "if" ∷ codes "then" ∷ codes "else" ∷ []
+    ∷ codes "if" ∷ codes "then" ∷ codes "else" ∷ []
 
 -- ---- the places that a keyword reads, each with its path below the schema object
 

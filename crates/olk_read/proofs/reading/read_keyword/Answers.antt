@@ -6,7 +6,7 @@ use Rattle.olk_reports.proofs.Errors.{kind_of_unsupported}
 use Rattle.olk_read.specs.Refusing.{TellsOneOf}
 use Rattle.olk_read.specs.Reading.{IsFor}
 use Rattle.olk_read.proofs.Spending.{exit}
-use Rattle.olk_read.proofs.Read.{refuses_own, refuses_name, refuses_without_memory, own_properties, own_required, own_all_of, own_any_of}
+use Rattle.olk_read.proofs.Read.{refuses_own, refuses_name, refuses_without_memory, own_properties, own_required, own_all_of, own_any_of, own_one_of}
 use Rattle.olk_read.proofs.reading.read_keyword.Goals as goal
 
 pub returns-in_err-names_of_object-in-Properties-clause-refused : goal.returns-in_err-names_of_object-in-Properties-clause-refused
@@ -20,6 +20,9 @@ returns-in_err-shape_of_branches-in-AllOf-clause-refused g c = exit _ _ _ c.from
 
 pub returns-in_err-shape_of_branches-in-AnyOf-clause-refused : goal.returns-in_err-shape_of_branches-in-AnyOf-clause-refused
 returns-in_err-shape_of_branches-in-AnyOf-clause-refused g c = exit _ _ _ c.from_residual-in_err-shape_of_branches-in-AnyOf.ensures.1 (λ e q. refuses_own (world g.L.Leaf.Leaf g.M.Engine.RegexEngine) c.args.name.now (codes "anyOf") (view c.args.value.now) c.args.location.now _ _ c.args.meter.now e (subst (IsFor c.args.name.now) c.in-AnyOf.is c.keyword_for.ensures) (own_any_of (world g.L.Leaf.Leaf g.M.Engine.RegexEngine) (view c.args.value.now) c.args.location.now) (subst (TellsOneOf _) (sym q) c.in_err-shape_of_branches-in-AnyOf.ensures.refused))
+
+pub returns-in_err-shape_of_branches-in-OneOf-clause-refused : goal.returns-in_err-shape_of_branches-in-OneOf-clause-refused
+returns-in_err-shape_of_branches-in-OneOf-clause-refused g c = exit _ _ _ c.from_residual-in_err-shape_of_branches-in-OneOf.ensures.1 (λ e q. refuses_own (world g.L.Leaf.Leaf g.M.Engine.RegexEngine) c.args.name.now (codes "oneOf") (view c.args.value.now) c.args.location.now _ _ c.args.meter.now e (subst (IsFor c.args.name.now) c.in-OneOf.is c.keyword_for.ensures) (own_one_of (world g.L.Leaf.Leaf g.M.Engine.RegexEngine) (view c.args.value.now) c.args.location.now) (subst (TellsOneOf _) (sym q) c.in_err-shape_of_branches-in-OneOf.ensures.refused))
 
 pub returns-in_err-clone-in-Not-clause-refused : goal.returns-in_err-clone-in-Not-clause-refused
 returns-in_err-clone-in-Not-clause-refused g c = exit _ _ _ c.from_residual-in_err-clone-in-Not.ensures.1 (λ e q. refuses_without_memory _ _ c.args.meter.now e _ q)

@@ -1,0 +1,10 @@
+use Rattle.olk_base.specs.Kit.{kit}
+use Rattle.serde_json.specs.View.{view}
+use Rattle.olk_build.proofs.Modules.{one_of_built, one_of_is_formed}
+use Rattle.olk_build.proofs.one_of.compile.Goals as goal
+
+pub returns-in-Ok-clause-gives : goal.returns-in-Ok-clause-gives
+returns-in-Ok-clause-gives g c = (one_of_built (kit g.L.Leaf.Leaf g.M.Engine.RegexEngine) c.in-Ok.part (view c.args.schema.now) _ _ _ c.in-Ok.ensures.built _ c.make.ensures.makes, tt)
+
+pub returns-in-Ok-clause-form : goal.returns-in-Ok-clause-form
+returns-in-Ok-clause-form g c = one_of_is_formed (kit g.L.Leaf.Leaf g.M.Engine.RegexEngine) c.in-Ok.part (view c.args.schema.now) _ _ _ c.in-Ok.ensures.built c.make.result c.make.ensures.form

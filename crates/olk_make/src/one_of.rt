@@ -1,0 +1,37 @@
+//! `oneOf`.
+ghost use Rattle.std.specs.Prelude.{◌∷◌, []};
+ghost use Rattle.olk_base.specs.Kit.{kit};
+ghost use Rattle.olk_make.specs.Forms.{IsFormOfOneOf};
+ghost use Rattle.olk_make.specs.Making.{MakesMember};
+ghost use Rattle.olk_read.specs.declared.shape.Shape.TheVariants as shape;
+
+use olk_base::{Leaf, RegexEngine};
+use olk_node::{Keyword, SchemaNode};
+use olk_reports::Location;
+use olk_tree::one_of::{OneOf, SingleOneOf};
+use olk_tree::node::KeywordOver;
+
+/// The form for so many branches.
+fn form<K, N: Drop>(location: Location, mut schemas: Vec<N>) -> KeywordOver<K, N>
+    ensures { IsFormOfOneOf location schemas.items result }
+{
+    if schemas.len() == 1
+        && let Some(node) = schemas.pop()
+    {
+        KeywordOver::SingleOneOf(SingleOneOf { node, location })
+    } else {
+        KeywordOver::OneOf(OneOf { schemas, location })
+    }
+}
+
+/// The validator of the branches' nodes.
+pub fn make<K: Leaf, R: RegexEngine>(
+    location: Location,
+    nodes: Vec<SchemaNode<K, R>>,
+) -> Keyword<K, R>
+    ensures form { IsFormOfOneOf location nodes.items result }
+    ensures makes { MakesMember (kit K.Leaf R.RegexEngine) shape.OneOf location nodes.items
+        (result ∷ []) }
+{
+    form(location, nodes)
+}
