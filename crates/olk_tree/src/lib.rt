@@ -4,11 +4,13 @@
 pub mod all_of;
 pub mod any_of;
 pub mod declared;
+pub mod if_;
 pub mod map;
 pub mod means;
 pub mod members;
 pub mod node;
 pub mod not;
+pub mod one_of;
 pub mod properties;
 pub mod required;
 
