@@ -1,3 +1,4 @@
 pub mod Asked
 pub mod Walks
+pub mod Counting
 pub mod Missing

@@ -1,7 +1,7 @@
 -- Walks over lists of questions.
-use Rattle.std.proofs.Common.{◌≡◌, Bool, true, false, not, ◌&&◌, ◌||◌, List, [], ◌∷◌, sym, ap, subst, ◌∙◌, arith}
+use Rattle.std.proofs.Common.{◌≡◌, Bool, true, false, not, cond, ◌&&◌, ◌||◌, List, [], ◌∷◌, sym, ap, subst, ◌∙◌, arith}
 use Rattle.olk_base.specs.Lawful.{Asking}
-use Rattle.olk_tree.specs.Questions.{Question, both, either, opposite, every, some}
+use Rattle.olk_tree.specs.Questions.{Question, always, both, either, opposite, conditional, every, some}
 use Rattle.olk_check.specs.Asks.{Asks}
 use Rattle.olk_check.proofs.Asked.{join, settles, unasked}
 
@@ -21,6 +21,21 @@ module _ {a b : Asking} {p : Question} (q : Question) where
 
 pub opposite_answers : {a b : Asking} {p : Question} {r : Bool} → Asks a b p r → Asks a b (opposite p) (not r)
 opposite_answers {a} {b} {p} {r} h = settles (opposite p) (not r) h (λ u e. ap not e) (λ u e. omega arith)
+
+-- one question decides which is asked next
+module _ {a b : Asking} {p : Question} where
+  module _ {c : Asking} (q r : Question) {s : Bool} where
+    pub accepted_then : Asks a b p true → Asks b c q s → Asks a c (conditional p q r) s
+    accepted_then h k = join (conditional p q r) s h k (λ u e f. f ∙ ap (λ x. cond x (q.accepts u) (r.accepts u)) e) (λ u e. let n = ap (λ x. cond x (q.asks u) (r.asks u)) e in omega arith)
+
+    pub refused_then : Asks a b p false → Asks b c r s → Asks a c (conditional p q r) s
+    refused_then h k = join (conditional p q r) s h k (λ u e f. f ∙ ap (λ x. cond x (q.accepts u) (r.accepts u)) e) (λ u e. let n = ap (λ x. cond x (q.asks u) (r.asks u)) e in omega arith)
+
+  pub accepted_alone : (r : Question) → Asks a b p true → Asks a b (conditional p (always true) r) true
+  accepted_alone r h = accepted_then (always true) r h (unasked b true)
+
+  pub refused_alone : (q : Question) → Asks a b p false → Asks a b (conditional p q (always true)) true
+  refused_alone q h = refused_then q (always true) h (unasked b true)
 
 -- those that are left decide about all
 pub record AllLeft {X : Type 0} (f : X → Question) (all rest : List X) (a b : Asking) : Type 0 where
@@ -57,3 +72,5 @@ module _ {X : Type 0} {f : X → Question} {all : List X} where
       any_stop h next k = h.goes_on c true (subst (λ ys. Asks b c (some f ys) true) (sym next) (either_stops (some f more) k))
 
 pub ruleset list_walks = (all_start, any_start)
+
+pub ruleset conditional_answers = (accepted_then, refused_then, accepted_alone, refused_alone)

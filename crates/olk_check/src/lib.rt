@@ -19,8 +19,12 @@ pub trait IsValid: Means {
 
 mod all_of;
 mod any_of;
+mod if_;
 mod node;
 mod not;
+mod one_of;
 mod properties;
 mod required;
 mod walk;
+
+pub use one_of::{Accepting, how_many_accept};

@@ -16,7 +16,12 @@ impl<K: Leaf, N: IsValid> IsValid for KeywordOver<K, N> {
             KeywordOver::SingleValueAllOf(keyword) => keyword.is_valid(node, ctx),
             KeywordOver::AnyOf(keyword) => keyword.is_valid(node, ctx),
             KeywordOver::SingleAnyOf(keyword) => keyword.is_valid(node, ctx),
+            KeywordOver::OneOf(keyword) => keyword.is_valid(node, ctx),
+            KeywordOver::SingleOneOf(keyword) => keyword.is_valid(node, ctx),
             KeywordOver::Not(keyword) => keyword.is_valid(node, ctx),
+            KeywordOver::IfThen(keyword) => keyword.is_valid(node, ctx),
+            KeywordOver::IfElse(keyword) => keyword.is_valid(node, ctx),
+            KeywordOver::IfThenElse(keyword) => keyword.is_valid(node, ctx),
             KeywordOver::Leaf(_, leaf) => leaf.is_valid(node),
         }
     }

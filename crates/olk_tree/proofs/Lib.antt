@@ -8,3 +8,4 @@ mod Entries
 pub mod Merge
 mod Walked
 pub mod Maps
+pub mod OneOf

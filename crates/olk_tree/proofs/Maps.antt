@@ -1,20 +1,21 @@
 -- What is said of the answers of nodes is said of the nodes.
-use Rattle.std.specs.Prelude.{◌≡◌, Bool, true, false, cond, List, [], ◌∷◌, ◌++◌, map, Option, Some, None, option_map, option_to_list}
+use Rattle.std.specs.Prelude.{◌≡◌, ◌+◌, ◌==◌, nat_lt, count_by, Bool, true, false, cond, List, [], ◌∷◌, ◌++◌, map, Option, Some, None, option_map, option_to_list}
 use Rattle.std.specs.List.{flat_map}
 use Rattle.std.specs.Ordering.{nat_cmp}
 use Rattle.std.specs.Cmp.Lexicographic.{slice_cmp}
 use Rattle.std.specs.declared.cmp.Ordering.{Ordering}
 use Rattle.std.specs.declared.cmp.Ordering.TheVariants.{Less, Equal, Greater}
-use Rattle.std.proofs.Common.{refl, ap, ◌∙◌}
+use Rattle.std.proofs.Common.{refl, sym, ap, ◌∙◌}
+use Rattle.std.proofs.lemmas.List.Sums.{sum_by-cons}
 use Rattle.serde_json.specs.Data.{Data}
 use Rattle.olk_spec.specs.Faults.{Fault}
 use Rattle.olk_spec.specs.Names.{Name, Path, ◌//◌, lookup, first_if_equal, is_among, those, put_if, is_empty}
 use Rattle.olk_spec.specs.Schemas.{is_object, members}
 use Rattle.olk_spec.specs.Tree.{Tree, result, plain}
 use Rattle.olk_spec.proofs.Maps.{map-map, those-map, is_empty-map}
-use Rattle.olk_tree.specs.Shown.{properties_tree, branch_trees, any_of_tree}
+use Rattle.olk_tree.specs.Shown.{properties_tree, branch_trees, any_of_tree, several_accept, one_of_tree}
 use Rattle.olk_tree.specs.Answers.{beside, or_else, first_of}
-use Rattle.olk_tree.specs.Questions.{Question, both, either, every, some}
+use Rattle.olk_tree.specs.Questions.{Question, both, either, every, some, how_many, exactly_one}
 
 module _ {X Y : Type 0} (p : X → Question) (q : Y → Question) (h : Y → X) (same : (y : Y) → p (h y) ≡ q y) where
   pub every-map : (ys : List Y) → every p (map h ys) ≡ every q ys
@@ -24,6 +25,17 @@ module _ {X Y : Type 0} (p : X → Question) (q : Y → Question) (h : Y → X) 
   pub some-map : (ys : List Y) → some p (map h ys) ≡ some q ys
   some-map [] = refl
   some-map (y ∷ ys) = λ i. either (same y i) (some-map ys i)
+
+pub count_by-map : {X Y : Type 0} (p : X → Bool) (q : Y → Bool) (h : Y → X) → ((y : Y) → p (h y) ≡ q y) → (ys : List Y) → count_by p (map h ys) ≡ count_by q ys
+count_by-map p q h e [] = refl
+count_by-map p q h e (y ∷ ys) = sum_by-cons (λ x. cond (p x) 1 0) (h y) (map h ys) ∙ (λ i. cond (e y i) 1 0 + count_by-map p q h e ys i) ∙ sym (sum_by-cons (λ x. cond (q x) 1 0) y ys)
+
+module _ {X Y : Type 0} (p : X → Question) (q : Y → Question) (h : Y → X) (same : (y : Y) → p (h y) ≡ q y) where
+  pub how_many-map : (u : Bool) (ys : List Y) → how_many p u (map h ys) ≡ how_many q u ys
+  how_many-map u ys = count_by-map (λ x. (p x).accepts u) (λ y. (q y).accepts u) h (λ y. ap (λ z. z.accepts u) (same y)) ys
+
+  pub exactly_one-map : (ys : List Y) → exactly_one p (map h ys) ≡ exactly_one q ys
+  exactly_one-map ys = λ i. record { accepts = λ u. how_many-map u ys i == 1; asks = (some-map p q h same ys i).asks }
 
 pub every-beside : {A X Y : Type 0} (p : A × X → Question) (q : A × Y → Question) (h : Y → X) → ((a : A) (y : Y) → p (a, h y) ≡ q (a, y)) → (ks : List A) (ys : List Y) → every p (beside ks (map h ys)) ≡ every q (beside ks ys)
 every-beside p q h e [] ys = refl
@@ -82,3 +94,7 @@ module _ {X Y : Type 0} (t : X → Data → Path → Tree) (s : Y → Data → P
   any_of_tree-map a b e P ys =
       ap (λ xs. cond (is_empty xs) (result P Q None true [] (branch_trees t v Q (map h ys))) (plain P Q (branch_trees t v Q xs))) (those-map a b h e ys)
       ∙ (λ i. cond (is_empty-map h (those b ys) i) (result P Q None true [] (branch_trees-map ys i)) (plain P Q (branch_trees-map (those b ys) i)))
+
+  pub one_of_tree-map : (a : X → Bool) (b : Y → Bool) → ((y : Y) → a (h y) ≡ b y) → (P : Path) (ys : List Y) → one_of_tree t v Q a P (map h ys) ≡ one_of_tree s v Q b P ys
+  one_of_tree-map a b e P ys = λ i. cond (count_by-map a b h e ys i == 0) (result P Q None true [] (branch_trees-map ys i))
+      (result P Q None false (put_if (nat_lt 1 (count_by-map a b h e ys i)) several_accept []) ((ap (branch_trees t v Q) (those-map a b h e ys) ∙ branch_trees-map (those b ys)) i))

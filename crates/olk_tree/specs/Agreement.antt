@@ -1,17 +1,18 @@
 -- What a validator reports is empty exactly where it accepts, if that is so of its nodes.
-use Rattle.std.specs.Prelude.{◌≡◌, Bool, true, false, not, ◌&&◌, List, [], ◌∷◌, ◌++◌, map}
+use Rattle.std.specs.Prelude.{◌≡◌, ℕ, zero, suc, ◌==◌, nat_lt, Bool, true, false, not, cond, ◌&&◌, List, [], ◌∷◌, ◌++◌, map}
 use Rattle.std.specs.List.{flat_map}
-use Rattle.std.proofs.Common.{refl, sym, ◌∙◌}
+use Rattle.std.proofs.Common.{refl, sym, true≢false, ◌∙◌, arith}
+use Rattle.std.proofs.lemmas.Bool.Decides.{nat_tests}
 use Rattle.serde_json.specs.Data.{Data}
 use Rattle.serde_json.specs.View.{view}
 use Rattle.olk_spec.specs.Names.{Name, Text, Path, ◌//◌, is_empty}
-use Rattle.olk_spec.specs.Faults.{Fault, Kind, fault, Required, Leaf, AnyOf, Not, context}
+use Rattle.olk_spec.specs.Faults.{Fault, Kind, fault, Required, Leaf, AnyOf, OneOfNotValid, OneOfMultipleValid, Not, Context, context}
 use Rattle.olk_spec.specs.Schemas.{at}
 use Rattle.olk_spec.specs.Accepts.{missing}
 use Rattle.olk_spec.specs.Reports.{required_faults, fault_if}
 use Rattle.olk_spec.proofs.Verdicts.{is_empty-append, is_empty-map, none_if}
-use Rattle.olk_tree.specs.Questions.{Question, every, some}
-use Rattle.olk_tree.specs.Answers.{named, texts_of, two_texts, unless, properties_mean, properties_report, validator_means, validator_report, body_means, body_report}
+use Rattle.olk_tree.specs.Questions.{Question, every, some, how_many}
+use Rattle.olk_tree.specs.Answers.{named, texts_of, two_texts, unless, one_of_report, properties_mean, properties_report, validator_means, validator_report, body_means, body_report}
 use Rattle.olk_tree.specs.declared.node.KeywordOver.{KeywordOver}
 use Rattle.olk_tree.specs.declared.node.KeywordOver.TheVariants as keyword
 use Rattle.olk_tree.specs.declared.node.Body.{Body}
@@ -24,6 +25,10 @@ each_agrees f q u h (x ∷ xs) = is_empty-append (f x) (flat_map f xs) ∙ (λ i
 pub both_agree : (fs gs : List Fault) {a b : Bool} → is_empty fs ≡ a → is_empty gs ≡ b → is_empty (fs ++ gs) ≡ (a && b)
 both_agree fs gs e f = is_empty-append fs gs ∙ (λ i. e i && f i)
 
+pub cases_agree : (b : Bool) (fs gs : List Fault) {x y : Bool} → is_empty fs ≡ x → is_empty gs ≡ y → is_empty (cond b fs gs) ≡ cond b x y
+cases_agree true fs gs e f = e
+cases_agree false fs gs e f = f
+
 not_not : (b : Bool) → not (not b) ≡ b
 not_not true = refl
 not_not false = refl
@@ -34,6 +39,17 @@ module _ (b : Bool) (k : Kind) (v : Data) (P Q : Path) where
 
   pub unless_agrees : is_empty (unless b k v P Q) ≡ b
   unless_agrees = sym (none_if (not b) k v P Q) ∙ not_not b
+
+pub one_of_agrees : (n : ℕ) (c : Context) (v : Data) (P Q : Path) → is_empty (one_of_report n c v P Q) ≡ (n == 1)
+one_of_agrees zero c v P Q = refl
+one_of_agrees (suc zero) c v P Q = refl
+one_of_agrees (suc (suc n)) c v P Q = by (suc (suc n) == 0) (nat_lt 1 (suc (suc n))) (suc (suc n) == 1) (grind (arith, nat_tests)) (grind (arith, nat_tests)) (grind (arith, nat_tests))
+  where
+    by : (none several one : Bool) → none ≡ false → several ≡ true → one ≡ false → is_empty (fault_if none (OneOfNotValid c) v P Q ++ fault_if several (OneOfMultipleValid c) v P Q) ≡ one
+    by true several one e f g = absurd (true≢false e)
+    by false false one e f g = absurd (true≢false (sym f))
+    by false true true e f g = absurd (true≢false g)
+    by false true false e f g = refl
 
 pub required_agrees : (ns : List Name) (v : Data) (P Q : Path) → is_empty (required_faults ns v P Q) ≡ is_empty (missing ns v)
 required_agrees ns v P Q = is_empty-map (λ n. fault (Required n) v Q P) (missing ns v)
@@ -52,6 +68,11 @@ module _ {K N : Type 0} (finds : K → Data → List Text) (m : N → Data → Q
   validator_agrees (keyword.SingleValueAllOf k) v Q = h k.node v Q
   validator_agrees (keyword.AnyOf k) v Q = unless_agrees ((some (λ n. m n v) k.schemas.items).accepts u) (AnyOf (context (map (λ n. r n u v Q) k.schemas.items))) v k.location Q
   validator_agrees (keyword.SingleAnyOf k) v Q = unless_agrees ((m k.node v).accepts u) (AnyOf (context (r k.node u v Q ∷ []))) v k.location Q
+  validator_agrees (keyword.OneOf k) v Q = one_of_agrees (how_many (λ n. m n v) u k.schemas.items) (context (map (λ n. r n u v Q) k.schemas.items)) v k.location Q
+  validator_agrees (keyword.SingleOneOf k) v Q = unless_agrees ((m k.node v).accepts u) (OneOfNotValid (context (r k.node u v Q ∷ []))) v k.location Q
+  validator_agrees (keyword.IfThen k) v Q = cases_agree ((m k.schema v).accepts u) (r k.then_schema u v Q) [] (h k.then_schema v Q) refl
+  validator_agrees (keyword.IfElse k) v Q = cases_agree ((m k.schema v).accepts u) [] (r k.else_schema u v Q) refl (h k.else_schema v Q)
+  validator_agrees (keyword.IfThenElse k) v Q = cases_agree ((m k.schema v).accepts u) (r k.then_schema u v Q) (r k.else_schema u v Q) (h k.then_schema v Q) (h k.else_schema v Q)
   validator_agrees (keyword.Not k) v Q = fault_if_agrees ((m k.node v).accepts u) (Not (view k.original)) v k.location Q
   validator_agrees (keyword.Leaf p l) v Q = is_empty-map (λ t. fault (Leaf (keyword_of l) t) v Q p) (finds l v)
 

@@ -1,17 +1,17 @@
 -- What validators answer over what their nodes answer: whether they accept a value, the faults that they find, and the trees that they show.
-use Rattle.std.specs.Prelude.{Bool, true, false, not, List, [], ◌∷◌, ◌++◌, map, String, string_bytes}
+use Rattle.std.specs.Prelude.{ℕ, ◌==◌, nat_lt, Bool, true, false, not, cond, List, [], ◌∷◌, ◌++◌, map, String, string_bytes}
 use Rattle.std.specs.declared.alloc.Global.{Global}
 use Rattle.std.specs.List.{flat_map}
 use Rattle.serde_json.specs.Data.{Data}
 use Rattle.serde_json.specs.View.{view}
 use Rattle.olk_spec.specs.Names.{Name, Text, Path, ◌//◌, is_empty}
-use Rattle.olk_spec.specs.Faults.{Fault, Kind, fault, FalseSchema, Leaf, AnyOf, Not, context}
+use Rattle.olk_spec.specs.Faults.{Fault, Kind, fault, FalseSchema, Leaf, AnyOf, OneOfNotValid, OneOfMultipleValid, Not, Context, context}
 use Rattle.olk_spec.specs.Schemas.{at}
 use Rattle.olk_spec.specs.Accepts.{missing}
 use Rattle.olk_spec.specs.Reports.{required_faults, fault_if}
 use Rattle.olk_spec.specs.Tree.{Tree, leaf_node, plain, erring, described}
-use Rattle.olk_tree.specs.Questions.{Question, always, both, every, some, opposite}
-use Rattle.olk_tree.specs.Shown.{missing_trees, properties_tree, branch_trees, any_of_tree}
+use Rattle.olk_tree.specs.Questions.{Question, always, both, opposite, conditional, every, some, how_many, exactly_one}
+use Rattle.olk_tree.specs.Shown.{missing_trees, properties_tree, branch_trees, any_of_tree, one_of_tree, if_tree}
 use Rattle.olk_tree.specs.declared.map.SmallMap.{SmallMap}
 use Rattle.olk_tree.specs.declared.node.KeywordOver.{KeywordOver}
 use Rattle.olk_tree.specs.declared.node.KeywordOver.TheVariants as keyword
@@ -44,6 +44,10 @@ first_of f (x ∷ xs) = or_else (f x) (first_of f xs)
 abbrev pub unless : Bool → Kind → Data → Path → Path → List Fault
 unless b k v P Q = fault_if (not b) k v P Q
 
+-- the fault of `oneOf` where n branches accept, none where it is one
+abbrev pub one_of_report : ℕ → Context → Data → Path → Path → List Fault
+one_of_report n c v P Q = fault_if (n == 0) (OneOfNotValid c) v P Q ++ fault_if (nat_lt 1 n) (OneOfMultipleValid c) v P Q
+
 -- the first fault alone
 abbrev pub head_of : List Fault → List Fault
 head_of [] = []
@@ -74,7 +78,12 @@ module _ {K N : Type 0} (finds : K → Data → List Text) (m : N → Data → Q
   validator_means (keyword.SingleValueAllOf k) v = m k.node v
   validator_means (keyword.AnyOf k) v = some (λ n. m n v) k.schemas.items
   validator_means (keyword.SingleAnyOf k) v = m k.node v
+  validator_means (keyword.OneOf k) v = exactly_one (λ n. m n v) k.schemas.items
+  validator_means (keyword.SingleOneOf k) v = m k.node v
   validator_means (keyword.Not k) v = opposite (m k.node v)
+  validator_means (keyword.IfThen k) v = conditional (m k.schema v) (m k.then_schema v) (always true)
+  validator_means (keyword.IfElse k) v = conditional (m k.schema v) (always true) (m k.else_schema v)
+  validator_means (keyword.IfThenElse k) v = conditional (m k.schema v) (m k.then_schema v) (m k.else_schema v)
   validator_means (keyword.Leaf p l) v = always (is_empty (finds l v))
 
   module _ (keyword_of : K → Name) (r : N → Bool → Data → Path → List Fault) (u : Bool) where
@@ -87,7 +96,12 @@ module _ {K N : Type 0} (finds : K → Data → List Text) (m : N → Data → Q
     validator_report (keyword.SingleValueAllOf k) v Q = r k.node u v Q
     validator_report (keyword.AnyOf k) v Q = unless ((some (λ n. m n v) k.schemas.items).accepts u) (AnyOf (context (map (λ n. r n u v Q) k.schemas.items))) v k.location Q
     validator_report (keyword.SingleAnyOf k) v Q = unless ((m k.node v).accepts u) (AnyOf (context (r k.node u v Q ∷ []))) v k.location Q
+    validator_report (keyword.OneOf k) v Q = one_of_report (how_many (λ n. m n v) u k.schemas.items) (context (map (λ n. r n u v Q) k.schemas.items)) v k.location Q
+    validator_report (keyword.SingleOneOf k) v Q = unless ((m k.node v).accepts u) (OneOfNotValid (context (r k.node u v Q ∷ []))) v k.location Q
     validator_report (keyword.Not k) v Q = fault_if ((m k.node v).accepts u) (Not (view k.original)) v k.location Q
+    validator_report (keyword.IfThen k) v Q = cond ((m k.schema v).accepts u) (r k.then_schema u v Q) []
+    validator_report (keyword.IfElse k) v Q = cond ((m k.schema v).accepts u) [] (r k.else_schema u v Q)
+    validator_report (keyword.IfThenElse k) v Q = cond ((m k.schema v).accepts u) (r k.then_schema u v Q) (r k.else_schema u v Q)
     validator_report (keyword.Leaf p l) v Q = map (λ t. fault (Leaf (keyword_of l) t) v Q p) (finds l v)
 
     module _ (s : N → Bool → Data → Path → List Fault) where
@@ -100,7 +114,12 @@ module _ {K N : Type 0} (finds : K → Data → List Text) (m : N → Data → Q
       validator_first (keyword.SingleValueAllOf k) v Q = s k.node u v Q
       validator_first (keyword.AnyOf k) v Q = unless ((some (λ n. m n v) k.schemas.items).accepts u) (AnyOf (context (map (λ n. r n u v Q) k.schemas.items))) v k.location Q
       validator_first (keyword.SingleAnyOf k) v Q = unless ((m k.node v).accepts u) (AnyOf (context (r k.node u v Q ∷ []))) v k.location Q
+      validator_first (keyword.OneOf k) v Q = one_of_report (how_many (λ n. m n v) u k.schemas.items) (context (map (λ n. r n u v Q) k.schemas.items)) v k.location Q
+      validator_first (keyword.SingleOneOf k) v Q = unless ((m k.node v).accepts u) (OneOfNotValid (context (r k.node u v Q ∷ []))) v k.location Q
       validator_first (keyword.Not k) v Q = fault_if ((m k.node v).accepts u) (Not (view k.original)) v k.location Q
+      validator_first (keyword.IfThen k) v Q = cond ((m k.schema v).accepts u) (s k.then_schema u v Q) []
+      validator_first (keyword.IfElse k) v Q = cond ((m k.schema v).accepts u) [] (s k.else_schema u v Q)
+      validator_first (keyword.IfThenElse k) v Q = cond ((m k.schema v).accepts u) (s k.then_schema u v Q) (s k.else_schema u v Q)
       validator_first (keyword.Leaf p l) v Q = map (λ t. fault (Leaf (keyword_of l) t) v Q p) (finds l v)
 
   module _ (keyword_of : K → Name) (t : N → Bool → Data → Path → Tree) (u : Bool) where
@@ -116,6 +135,11 @@ module _ {K N : Type 0} (finds : K → Data → List Text) (m : N → Data → Q
     validator_tree (keyword.SingleValueAllOf k) v Q = plain k.location Q (branch_trees at_node v Q (k.node ∷ []))
     validator_tree (keyword.AnyOf k) v Q = any_of_tree at_node v Q (λ n. (m n v).accepts u) k.location k.schemas.items
     validator_tree (keyword.SingleAnyOf k) v Q = any_of_tree at_node v Q (λ n. (m n v).accepts u) k.location (k.node ∷ [])
+    validator_tree (keyword.OneOf k) v Q = one_of_tree at_node v Q (λ n. (m n v).accepts u) k.location k.schemas.items
+    validator_tree (keyword.SingleOneOf k) v Q = one_of_tree at_node v Q (λ n. (m n v).accepts u) k.location (k.node ∷ [])
+    validator_tree (keyword.IfThen k) v Q = if_tree at_node v Q ((m k.schema v).accepts u) k.location k.schema (k.then_schema ∷ []) []
+    validator_tree (keyword.IfElse k) v Q = if_tree at_node v Q ((m k.schema v).accepts u) k.location k.schema [] (k.else_schema ∷ [])
+    validator_tree (keyword.IfThenElse k) v Q = if_tree at_node v Q ((m k.schema v).accepts u) k.location k.schema (k.then_schema ∷ []) (k.else_schema ∷ [])
     validator_tree (keyword.Not k) v Q = erring k.location Q (fault_if ((m k.node v).accepts u) (Not (view k.original)) v k.location Q)
     validator_tree (keyword.Leaf p l) v Q = leaf_node p Q (described (map (λ x. fault (Leaf (keyword_of l) x) v Q p) (finds l v)))
 

@@ -1,5 +1,5 @@
 -- Questions about a value: the verdict, and how many matchers are asked at most, for either answer for unfinished matches.
-use Rattle.std.specs.Prelude.{ℕ, ◌+◌, Bool, true, false, not, ◌&&◌, ◌||◌, List, [], ◌∷◌}
+use Rattle.std.specs.Prelude.{ℕ, ◌+◌, ◌==◌, Bool, true, false, not, cond, ◌&&◌, ◌||◌, List, [], ◌∷◌, count_by}
 
 pub record Question : Type 0 where
   pub accepts : Bool → Bool
@@ -20,6 +20,10 @@ either p q = record { accepts = λ u. p.accepts u || q.accepts u; asks = λ u. p
 abbrev pub opposite : Question → Question
 opposite q = record { accepts = λ u. not (q.accepts u); asks = q.asks }
 
+-- the second is asked where the first accepts, and else the third
+abbrev pub conditional : Question → Question → Question → Question
+conditional p q r = record { accepts = λ u. cond (p.accepts u) (q.accepts u) (r.accepts u); asks = λ u. p.asks u + cond (p.accepts u) (q.asks u) (r.asks u) }
+
 -- each accepts, and one accepts
 abbrev pub every : {X : Type 0} → (X → Question) → List X → Question
 every f [] = always true
@@ -28,3 +32,11 @@ every f (x ∷ xs) = both (f x) (every f xs)
 abbrev pub some : {X : Type 0} → (X → Question) → List X → Question
 some f [] = always false
 some f (x ∷ xs) = either (f x) (some f xs)
+
+-- how many accept
+abbrev pub how_many : {X : Type 0} → (X → Question) → Bool → List X → ℕ
+how_many f u xs = count_by (λ x. (f x).accepts u) xs
+
+-- one accepts, and no other does
+abbrev pub exactly_one : {X : Type 0} → (X → Question) → List X → Question
+exactly_one f xs = record { accepts = λ u. how_many f u xs == 1; asks = (some f xs).asks }

@@ -1,16 +1,20 @@
 -- What validators show of a value at a path, over what their nodes show.
-use Rattle.std.specs.Prelude.{Bool, true, false, not, cond, List, [], ◌++◌, map, Some, None, option_to_list}
+use Rattle.std.specs.Prelude.{Bool, true, false, not, cond, ◌==◌, nat_lt, codes, List, [], ◌∷◌, ◌++◌, map, count_by, Some, None, option_to_list}
 use Rattle.std.specs.List.{flat_map}
 use Rattle.serde_json.specs.Data.{Data}
 use Rattle.olk_spec.specs.Names.{Name, Path, ◌//◌, lookup, those, put_if, is_empty, is_among}
 use Rattle.olk_spec.specs.Schemas.{is_object, members}
 use Rattle.olk_spec.specs.Accepts.{missing}
 use Rattle.olk_spec.specs.Reports.{required_faults}
-use Rattle.olk_spec.specs.Tree.{Tree, result, plain, erring}
+use Rattle.olk_spec.specs.Tree.{Tree, Described, result, plain, erring}
 
 -- `required` inside another validator: one more child where a name is missing
 abbrev pub missing_trees : List Name → Data → Path → Path → List Tree
 missing_trees ns v P Q = put_if (not (is_empty (missing ns v))) (erring P Q (required_faults ns v P Q)) []
+
+-- the own error of `oneOf`, where several branches accept
+abbrev pub several_accept : Described
+several_accept = (codes "oneOf", codes "more than one subschema succeeded", false)
 
 module _ {N : Type 0} (t : N → Data → Path → Tree) (v : Data) (Q : Path) where
   -- the nodes at the members' names, member by member
@@ -31,3 +35,13 @@ module _ {N : Type 0} (t : N → Data → Path → Tree) (v : Data) (Q : Path) w
   -- the accepting branches; where there is none, all branches, invalid
   abbrev pub any_of_tree : (N → Bool) → Path → List N → Tree
   any_of_tree accepts P ns = cond (is_empty (those accepts ns)) (result P Q None true [] (branch_trees ns)) (plain P Q (branch_trees (those accepts ns)))
+
+  -- the accepting branches, with an own error where they are several; where there is none, all branches, invalid
+  abbrev pub one_of_tree : (N → Bool) → Path → List N → Tree
+  one_of_tree accepts P ns = cond (count_by accepts ns == 0)
+      (result P Q None true [] (branch_trees ns))
+      (result P Q None false (put_if (nat_lt 1 (count_by accepts ns)) several_accept []) (branch_trees (those accepts ns)))
+
+  -- `if` beside what is asked where it accepts, or what is asked where it refuses
+  abbrev pub if_tree : Bool → Path → N → List N → List N → Tree
+  if_tree accepts P n thens elses = plain P Q (cond accepts (branch_trees (n ∷ thens)) (branch_trees elses))

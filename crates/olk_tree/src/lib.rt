@@ -4,10 +4,12 @@
 pub mod all_of;
 pub mod any_of;
 pub mod declared;
+pub mod if_;
 pub mod map;
 pub mod means;
 pub mod node;
 pub mod not;
+pub mod one_of;
 pub mod properties;
 pub mod required;
 

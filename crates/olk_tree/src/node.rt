@@ -1,8 +1,10 @@
 //! Keywords, over the nodes that they hold.
 use crate::all_of::{AllOf, SingleValueAllOf};
 use crate::any_of::{AnyOf, SingleAnyOf};
+use crate::if_::{IfElse, IfThen, IfThenElse};
 use crate::means::{Means, Reports};
 use crate::not::Not;
+use crate::one_of::{OneOf, SingleOneOf};
 use crate::properties::{SmallProperties, SmallPropertiesWithRequired2};
 use crate::required::RequiredValidator;
 use olk_base::Leaf;
@@ -18,7 +20,12 @@ pub enum KeywordOver<K, N> {
     SingleValueAllOf(SingleValueAllOf<N>),
     AnyOf(AnyOf<N>),
     SingleAnyOf(SingleAnyOf<N>),
+    OneOf(OneOf<N>),
+    SingleOneOf(SingleOneOf<N>),
     Not(Not<N>),
+    IfThen(IfThen<N>),
+    IfElse(IfElse<N>),
+    IfThenElse(IfThenElse<N>),
     Leaf(Location, K),
 }
 

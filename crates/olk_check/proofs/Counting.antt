@@ -1,0 +1,83 @@
+-- A walk that counts those that accept, up to two.
+use Rattle.std.proofs.Common.{◌≡◌, ℕ, suc, ◌+◌, ◌<◌, ◌==◌, Bool, true, false, cond, List, [], ◌∷◌, refl, sym, ap, subst, ◌∙◌, arith}
+use Rattle.std.proofs.lemmas.List.Sums.{sum_by-cons}
+use Rattle.std.proofs.lemmas.Bool.Decides.{nat_tests}
+use Rattle.olk_base.specs.Lawful.{Asking}
+use Rattle.olk_tree.specs.Questions.{Question, some, how_many, exactly_one}
+use Rattle.olk_check.specs.Asks.{Asks}
+use Rattle.olk_check.proofs.Asked.{join, settles, unasked}
+
+-- one more, where one was found
+abbrev pub with_found : Bool → ℕ → ℕ
+with_found found n = cond found (suc n) n
+
+module _ {X : Type 0} (f : X → Question) where
+  -- those that are left, and the one that was found, if one was, are exactly one
+  abbrev pub one_with : Bool → List X → Question
+  one_with found xs = record { accepts = λ u. with_found found (how_many f u xs) == 1; asks = (some f xs).asks }
+
+  count_first : (u : Bool) (x : X) (xs : List X) → how_many f u (x ∷ xs) ≡ with_found ((f x).accepts u) (how_many f u xs)
+  count_first u x xs = sum_by-cons (λ y. cond ((f y).accepts u) 1 0) x xs ∙ by ((f x).accepts u)
+    where
+      by : (b : Bool) → cond b 1 0 + how_many f u xs ≡ with_found b (how_many f u xs)
+      by true = omega arith
+      by false = omega arith
+
+  count_next : (u : Bool) (x : X) (xs : List X) (b : Bool) → b ≡ (f x).accepts u → how_many f u (x ∷ xs) ≡ with_found b (how_many f u xs)
+  count_next u x xs b e = count_first u x xs ∙ ap (λ r. with_found r (how_many f u xs)) (sym e)
+
+  module _ {a b : Asking} (x : X) (xs : List X) where
+    refused_next : {c : Asking} {r : Bool} (found : Bool) → Asks a b (f x) false → Asks b c (one_with found xs) r → Asks a c (one_with found (x ∷ xs)) r
+    refused_next {c} {r} found h k = join (one_with found (x ∷ xs)) r h k (λ u e g. g ∙ ap (λ n. with_found found n == 1) (sym (count_next u x xs false e))) (λ u e. omega arith)
+
+    accepted_next : {c : Asking} {r : Bool} → Asks a b (f x) true → Asks b c (one_with true xs) r → Asks a c (one_with false (x ∷ xs)) r
+    accepted_next {c} {r} h k = join (one_with false (x ∷ xs)) r h k (λ u e g. g ∙ ap (λ n. n == 1) (sym (count_next u x xs true e))) (λ u e. omega arith)
+
+    accepted_twice : Asks a b (f x) true → Asks a b (one_with true (x ∷ xs)) false
+    accepted_twice h = settles (one_with true (x ∷ xs)) false h (λ u e. let n = count_next u x xs true e in grind (arith, nat_tests)) (λ u e. omega arith)
+
+  none_next : (a : Asking) (found : Bool) → Asks a a (one_with found []) found
+  none_next a true = unasked a true
+  none_next a false = unasked a false
+
+  -- those that are left, and whether one was found before them, decide about all
+  pub record OneLeft (all rest : List X) (found : Bool) (a b : Asking) : Type 0 where
+    pub goes_on : (end : Asking) (result : Bool) → Asks b end (one_with found rest) result → Asks a end (exactly_one f all) result
+    pub count : how_many f a.answer all ≡ with_found found (how_many f a.answer rest)
+    pub answer : b.answer ≡ a.answer
+
+module _ {X : Type 0} {f : X → Question} {all : List X} where
+  pub one_start : {a : Asking} → OneLeft f all all false a a
+  one_start = record { goes_on = λ c r h. h; count = refl; answer = refl }
+
+  module _ {rest : List X} {found : Bool} {a b : Asking} (so_far : OneLeft f all rest found a b) where
+    module _ {r : Bool} (is : found ≡ r) (none : rest ≡ []) where
+      pub one_end : Asks a b (exactly_one f all) r
+      one_end = so_far.goes_on b r (subst (λ g. Asks b b (one_with f g rest) r) (sym is) (subst (λ l. Asks b b (one_with f r l) r) (sym none) (none_next f b r)))
+
+      pub count_end : how_many f a.answer all ≡ with_found r 0
+      count_end = so_far.count ∙ ap (λ g. with_found g (how_many f a.answer rest)) is ∙ ap (λ l. with_found r (how_many f a.answer l)) none
+
+    module _ {x : X} {more : List X} {c : Asking} (next : rest ≡ x ∷ more) where
+      count_on : (r : Bool) → Asks b c (f x) r → how_many f a.answer all ≡ with_found found (with_found r (how_many f a.answer more))
+      count_on r k = so_far.count ∙ ap (λ l. with_found found (how_many f a.answer l)) next ∙ ap (with_found found) (count_next f a.answer x more r (k.verdict ∙ ap (f x).accepts so_far.answer))
+
+      pub one_refused : Asks b c (f x) false → OneLeft f all more found a c
+      one_refused k = record {
+        goes_on = λ d r l. so_far.goes_on d r (subst (λ ys. Asks b d (one_with f found ys) r) (sym next) (refused_next f x more found k l));
+        count = count_on false k;
+        answer = k.only.answer ∙ so_far.answer;
+      }
+
+      pub one_found : found ≡ false → Asks b c (f x) true → OneLeft f all more true a c
+      one_found new k = record {
+        goes_on = λ d r l. so_far.goes_on d r (subst (λ g. Asks b d (one_with f g rest) r) (sym new) (subst (λ ys. Asks b d (one_with f false ys) r) (sym next) (accepted_next f x more k l)));
+        count = count_on true k ∙ ap (λ g. with_found g (suc (how_many f a.answer more))) new;
+        answer = k.only.answer ∙ so_far.answer;
+      }
+
+      pub second_found : found ≡ true → Asks b c (f x) true → Asks a c (exactly_one f all) false
+      second_found old k = so_far.goes_on c false (subst (λ g. Asks b c (one_with f g rest) false) (sym old) (subst (λ ys. Asks b c (one_with f true ys) false) (sym next) (accepted_twice f x more k)))
+
+      pub count_several : found ≡ true → Asks b c (f x) true → 1 < how_many f a.answer all
+      count_several old k = let n = count_on true k ∙ ap (λ g. with_found g (suc (how_many f a.answer more))) old in omega arith
