@@ -98,6 +98,6 @@ impl<'a> Plan<'a> {
     pub fn fuses(self) -> bool
         ensures { result ≡ is_some (planned self.entry).fused }
     {
-        self.fused.is_some()
+        Option::is_some(&self.fused)
     }
 }
