@@ -3,4 +3,5 @@ mod Steps
 mod Own
 mod Missing
 mod Fused
+mod OneOf
 mod Members

@@ -1,14 +1,16 @@
--- What asking comes to: of a node, of branches, of declared members, of names that are wanted, of a leaf, of a body.
-use Rattle.std.specs.Prelude.{Bool, List, map}
+-- What asking comes to: of a node, of branches, of branches of which one is to accept, of declared members, of names that are wanted, of a leaf, of a body.
+use Rattle.std.specs.Prelude.{◌≡◌, ◌⊎◌, ◌<◌, ℕ, ◌==◌, Bool, List, map, Option, Some, None}
 use Rattle.std.specs.List.{flat_map}
 use Rattle.serde_json.specs.Data.{Data}
 use Rattle.olk_spec.specs.Names.{Name, Path, is_empty}
-use Rattle.olk_spec.specs.Faults.{Fault, Kind, fault, Leaf}
+use Rattle.olk_spec.specs.Faults.{Fault, Kind, fault, Leaf, OneOfNotValid, OneOfMultipleValid, IsLikeKind, Context, context}
 use Rattle.olk_spec.specs.Accepts.{missing}
 use Rattle.olk_spec.specs.Reports.{required_faults, fault_if}
+use Rattle.olk_reports.specs.Errors.{kind_of}
+use Rattle.olk_reports.specs.declared.error.ValidationErrorKind.{ValidationErrorKind}
 use Rattle.olk_base.specs.declared.traits.Leaf as leaf
 use Rattle.olk_tree.specs.Questions.{Question, every}
-use Rattle.olk_tree.specs.Answers.{first_of, head_of, properties_mean, properties_report, properties_first, body_means, body_report, body_first}
+use Rattle.olk_tree.specs.Answers.{first_of, one_of_report, head_of, properties_mean, properties_report, properties_first, body_means, body_report, body_first}
 use Rattle.olk_tree.specs.declared.node.Body.{Body}
 use Rattle.olk_errors.specs.Found.{Outcome}
 
@@ -19,6 +21,15 @@ of_each u q s f xs = record { accepts = (every q xs).accepts u; first = first_of
 -- one fault of its own, in that case
 abbrev pub own : Bool → Bool → Kind → Data → Path → Path → Outcome
 own accepts case k v P Q = record { accepts = accepts; first = fault_if case k v P Q; all = fault_if case k v P Q }
+
+-- branches of which n accept, and just one is to
+abbrev pub of_one_of : ℕ → Context → Data → Path → Path → Outcome
+of_one_of n c v P Q = record { accepts = n == 1; first = one_of_report n c v P Q; all = one_of_report n c v P Q }
+
+-- the kind of error that these are told by, if by any; the branches find the faults in the lists
+abbrev pub IsKindOfOneOf : ℕ → List (List Fault) → Option ValidationErrorKind → Type 0
+IsKindOfOneOf n fss None = n ≡ 1
+IsKindOfOneOf n fss (Some k) = ((n ≡ 0) × IsLikeKind (kind_of k) (OneOfNotValid (context fss))) ⊎ ((1 < n) × IsLikeKind (kind_of k) (OneOfMultipleValid (context fss)))
 
 -- names that are wanted
 abbrev pub of_names : List Name → Data → Path → Path → Outcome

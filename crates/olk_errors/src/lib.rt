@@ -65,8 +65,10 @@ pub trait Errors<'a>: IsValid + Reports {
 mod all_of;
 mod any_of;
 mod append;
+mod if_;
 mod node;
 mod not;
+mod one_of;
 mod properties;
 mod required;
 mod walk;

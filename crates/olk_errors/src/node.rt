@@ -80,7 +80,12 @@ impl<'a, K: Leaf, N: Errors<'a>> Errors<'a> for KeywordOver<K, N> {
             KeywordOver::SingleValueAllOf(keyword) => keyword.validate(alloc, node, path, ctx),
             KeywordOver::AnyOf(keyword) => keyword.validate(alloc, node, path, ctx),
             KeywordOver::SingleAnyOf(keyword) => keyword.validate(alloc, node, path, ctx),
+            KeywordOver::OneOf(keyword) => keyword.validate(alloc, node, path, ctx),
+            KeywordOver::SingleOneOf(keyword) => keyword.validate(alloc, node, path, ctx),
             KeywordOver::Not(keyword) => keyword.validate(alloc, node, path, ctx),
+            KeywordOver::IfThen(keyword) => keyword.validate(alloc, node, path, ctx),
+            KeywordOver::IfElse(keyword) => keyword.validate(alloc, node, path, ctx),
+            KeywordOver::IfThenElse(keyword) => keyword.validate(alloc, node, path, ctx),
             KeywordOver::Leaf(location, leaf) => validate_leaf(alloc, leaf, location, node, path),
         }
     }
@@ -112,7 +117,16 @@ impl<'a, K: Leaf, N: Errors<'a>> Errors<'a> for KeywordOver<K, N> {
             KeywordOver::SingleAnyOf(keyword) => keyword.collect_errors(
                 alloc, node, path, ctx, errors,
             ),
+            KeywordOver::OneOf(keyword) => keyword.collect_errors(alloc, node, path, ctx, errors),
+            KeywordOver::SingleOneOf(keyword) => keyword.collect_errors(
+                alloc, node, path, ctx, errors,
+            ),
             KeywordOver::Not(keyword) => keyword.collect_errors(alloc, node, path, ctx, errors),
+            KeywordOver::IfThen(keyword) => keyword.collect_errors(alloc, node, path, ctx, errors),
+            KeywordOver::IfElse(keyword) => keyword.collect_errors(alloc, node, path, ctx, errors),
+            KeywordOver::IfThenElse(keyword) => keyword.collect_errors(
+                alloc, node, path, ctx, errors,
+            ),
             KeywordOver::Leaf(location, leaf) => {
                 collect_leaf(alloc, leaf, location, node, path, errors)
             }

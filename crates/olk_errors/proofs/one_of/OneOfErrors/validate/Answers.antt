@@ -1,0 +1,9 @@
+use Rattle.std.proofs.Common.{map}
+use Rattle.olk_base.specs.Nodes.{data_of}
+use Rattle.olk_tree.specs.Questions.{how_many}
+use Rattle.olk_errors.proofs.Appending.{told_so}
+use Rattle.olk_errors.proofs.OneOf.{one_of_error}
+use Rattle.olk_errors.proofs.one_of.OneOfErrors.validate.Goals as goal
+
+pub returns-in-Some-clause-invalid : goal.returns-in-Some-clause-invalid
+returns-in-Some-clause-invalid g c = told_so c.refuse.result (one_of_error (how_many (λ n. g.N.Means.means n (data_of c.args.node)) c.args.ctx.now.answer c.args.self.now.schemas.items) (map (λ n. g.N.Reports.report n c.args.ctx.now.answer (data_of c.args.node) c.args.path.now) c.args.self.now.schemas.items) (data_of c.args.node) c.args.self.now.location c.args.path.now c.in-Some.is c.in_ok-kind.ensures.kind c.one_of_kind.ensures.path c.as_str.ensures) c.refuse.ensures.invalid
