@@ -16,7 +16,7 @@ use serde_json::Value;
 use std::alloc::{AllocError, Global};
 
 /// The kinds of values that `type` names (JSON Schema 2020-12 Validation, 6.1.1).
-#[derive(Debug, Clone, Copy)]
+#[derive(Clone, Copy)]
 pub enum ValueKind {
     Null,
     Boolean,
@@ -28,7 +28,7 @@ pub enum ValueKind {
 }
 
 /// What `const` compares with (JSON Schema 2020-12 Validation, 6.1.3): a whole number or a text.
-#[derive(Debug, Drop)]
+#[derive(Drop)]
 pub enum Constant {
     Number(WholeNumber),
     Text(String),
@@ -38,7 +38,7 @@ pub enum Constant {
 ///
 /// `type` and `const` look at every value. `minimum`, `maximum` and `multipleOf` look at whole
 /// numbers alone, `minLength` and `maxLength` at texts alone, and accept everything else.
-#[derive(Debug, Drop)]
+#[derive(Drop)]
 pub enum BenchLeaf {
     Type(ValueKind),
     Const(Constant),

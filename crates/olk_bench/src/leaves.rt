@@ -18,7 +18,7 @@ use std::alloc::{AllocError, Global};
 /// `type` takes the name of a kind of values, `const` a whole number or a text, `minimum` and
 /// `maximum` a whole number, `multipleOf` a whole number from 1, `minLength` and `maxLength` one
 /// from 0.
-#[derive(Debug, Clone, Copy)]
+#[derive(Drop)]
 pub struct BenchLeaves;
 
 impl MakeLeaf for BenchLeaves {

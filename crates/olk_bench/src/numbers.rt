@@ -6,7 +6,7 @@ use std::alloc::AllocError;
 use std::fmt::Write;
 
 /// A JSON number that answers `as_u64`, or else `as_i64`.
-#[derive(Debug, Clone, Copy)]
+#[derive(Clone, Copy)]
 pub enum WholeNumber {
     Unsigned(u64),
     Negative(i64),
@@ -72,7 +72,7 @@ impl WholeNumber {
 }
 
 /// A number other than zero.
-#[derive(Debug, Clone, Copy)]
+#[derive(Clone, Copy)]
 pub struct Divisor {
     pub value: u64,
     ghost nonzero: { value ≢ 0 },

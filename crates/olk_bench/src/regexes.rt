@@ -10,7 +10,7 @@ use olk_base::{MakeError, MakeRegex, Meter, RegexEngine, Unfinished, scan_body};
 use std::alloc::{AllocError, Global};
 
 /// A text that a name is searched for. Asking it is counted.
-#[derive(Debug, Drop)]
+#[derive(Drop)]
 pub enum BenchRegex {
     /// The text is in the name: at its start, at its end, both, or anywhere.
     Text {
@@ -57,7 +57,7 @@ impl RegexEngine for BenchRegex {
 /// A pattern is a body, with `^` before it or not and `$` behind it or not, or `(slow)` and a body.
 /// A body is one item or more, of which each is a character other than `\ ^ $ . * + ? ( ) [ ] { } |`,
 /// or a backslash followed by one of these or by `/`. Every other pattern is refused.
-#[derive(Debug, Clone, Copy)]
+#[derive(Drop)]
 pub struct BenchRegexes;
 
 impl MakeRegex for BenchRegexes {

@@ -6,8 +6,6 @@ mod program;
 mod reading;
 mod request;
 #[cfg(test)]
-mod rows;
-#[cfg(test)]
 mod streams;
 #[cfg(test)]
 mod tests;
