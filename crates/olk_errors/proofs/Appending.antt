@@ -1,11 +1,12 @@
 -- Lists of errors that grow.
-use Rattle.std.proofs.Common.{◌≡◌, ℕ, List, [], ◌∷◌, ◌++◌, length, take, sym, ap, subst, ◌∙◌}
+use Rattle.std.proofs.Common.{◌≡◌, ℕ, true, true≢false, List, [], ◌∷◌, ◌++◌, length, take, sym, ap, subst, ◌∙◌}
 use Rattle.std.proofs.lemmas.List.{append_assoc, append-nil, map-append}
 use Rattle.std.proofs.Math.Seq.{take-append_seam}
 use Rattle.std.proofs.Common.{Result, Ok, Err, OnOk, OnErr, IfErr, IsErrAnd}
 use Rattle.std.proofs.lemmas.Result.{err_from_is_err_and, IfErr-weaker}
 use Rattle.olk_reports.specs.declared.error.ValidateError.{ValidateError}
 use Rattle.olk_reports.specs.declared.error.ValidateError.TheVariants.{Invalid, Memory}
+use Rattle.olk_spec.specs.Names.{is_empty}
 use Rattle.olk_spec.specs.Faults.{Fault, ◌∼◌, like_empty, like_through}
 use Rattle.olk_spec.proofs.Order.{∼_append, ∼_same}
 use Rattle.olk_reports.specs.Errors.{fault_of}
@@ -14,6 +15,11 @@ use Rattle.olk_errors.specs.Found.{Appends, IfInvalid}
 
 pub appends_nothing : (errors : List ValidationError) → Appends errors errors []
 appends_nothing errors = record { added = []; is = sym (append-nil errors); same = like_empty }
+
+-- of no faults
+pub appends_none : (fs : List Fault) (errors : List ValidationError) → is_empty fs ≡ true → Appends errors errors fs
+appends_none [] errors h = appends_nothing errors
+appends_none (f ∷ fs) errors h = absurd (true≢false (sym h))
 
 pub appends_one : {old new : List ValidationError} (e : ValidationError) {f : Fault} → new ≡ old ++ e ∷ [] → fault_of e ≡ f → Appends old new (f ∷ [])
 appends_one e grown told = record { added = e ∷ []; is = grown; same = ∼_same (ap (λ f. f ∷ []) told) }

@@ -12,6 +12,7 @@ use crate::Errors;
 use crate::append::roll_back_on_err;
 use crate::required::{collect_missing_of_two, refuse_missing_of_two};
 use olk_base::{Node, ValidationContext};
+use olk_check::IsValid;
 use olk_reports::{InstancePath, ValidateError, ValidationError};
 use olk_tree::map::SmallMap;
 use olk_tree::properties::{SmallProperties, SmallPropertiesWithRequired2};
@@ -159,7 +160,7 @@ fn collect_members<'a, N: Errors<'a>>(
     Ok(())
 }
 
-// The errors of a value one segment below the path.
+// The errors of a value one segment below the path. An accepted value has none, and its path is not written.
 fn collect_below<'a, N: Errors<'a>>(
     alloc: Global,
     subschema: &'a N,
@@ -175,8 +176,12 @@ fn collect_below<'a, N: Errors<'a>>(
     ensures path { path.new ≡ path.old }
     ensures context { OnlyAsks ctx.old ctx.new }
 {
+    let node = Node::Value(value);
+    if subschema.is_valid(node, ctx) {
+        return Ok(());
+    }
     let mark = path.push(name)?;
-    let answer = subschema.collect_errors(alloc, Node::Value(value), path, ctx, errors);
+    let answer = subschema.collect_errors(alloc, node, path, ctx, errors);
     path.pop(mark);
     answer
 }

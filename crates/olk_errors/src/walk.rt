@@ -96,7 +96,7 @@ pub(crate) fn one_context<'a, N: Errors<'a>>(
 {
     let mut errors: Vec<ValidationError<'a>> = Vec::new(alloc);
     branch.collect_errors(alloc, node, path, ctx, &mut errors)?;
-    let mut contexts: Vec<Vec<ValidationError<'a>>> = Vec::new(alloc);
+    let mut contexts: Vec<Vec<ValidationError<'a>>> = Vec::with_capacity(alloc, 1)?;
     contexts.push(errors)?;
     Ok(contexts)
 }

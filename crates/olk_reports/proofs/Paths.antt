@@ -1,6 +1,6 @@
 -- Facts on pushed paths.
-use Rattle.std.proofs.Common.{◌≡◌, ◌≢◌, ℕ, zero, suc, Bool, true, false, ◌+◌, ◌-◌, ◌<◌, ◌≤◌, List, [], ◌∷◌, ◌++◌, length, get_or, take, refl, sym, ap, ◌∙◌, cond, eqb, arith, ◌⊎◌, inl, inr, length-append}
-use Rattle.std.specs.List.{flat_map}
+use Rattle.std.proofs.Common.{◌≡◌, ◌≢◌, Result, Ok, Err, OnOk, is_ok, ℕ, zero, suc, Bool, true, false, ◌+◌, ◌-◌, ◌<◌, ◌≤◌, List, [], ◌∷◌, ◌++◌, length, get_or, take, refl, sym, ap, ◌∙◌, cond, eqb, arith, ◌⊎◌, inl, inr, length-append}
+use Rattle.std.specs.List.{flat_map, list_all}
 use Rattle.std.specs.Str.{IsUtf8, chars}
 use lib.Utf8.{encodes, encode}
 use Rattle.std.proofs.Math.Seq.{take-append_seam, get_or-append_seam}
@@ -9,7 +9,7 @@ use Rattle.std.proofs.lemmas.Str.{encode_ascii, encodes-chars, inside_one}
 use Rattle.std.proofs.lemmas.Bool.Decides.{nat_tests}
 use Rattle.std.proofs.lemmas.Grind.{flat_map-append}
 use Rattle.olk_spec.specs.Names.{◌//◌, escaped}
-use Rattle.olk_reports.specs.Paths.{HasLastSlash, escaped_char}
+use Rattle.olk_reports.specs.Paths.{HasLastSlash, escaped_char, is_plain_byte}
 
 escape_high : (xs : List ℕ) → ((k : ℕ) → k < length xs → 128 ≤ get_or xs k 0) → flat_map escaped xs ≡ xs
 escape_high [] h = refl
@@ -45,6 +45,19 @@ escape_encodes (c ∷ cs) =
 
 pub escaped_chars : (bs : List ℕ) → IsUtf8 bs → flat_map escaped_char (chars bs) ≡ flat_map escaped bs
 escaped_chars bs u = escape_encodes (chars bs) ∙ ap (flat_map escaped) (encodes-chars bs u)
+
+plain_escaped : (bs : List ℕ) → list_all is_plain_byte bs ≡ true → flat_map escaped bs ≡ bs
+plain_escaped [] h = refl
+plain_escaped (b ∷ bs) h =
+    let here : is_plain_byte b ≡ true = grind (arith, nat_tests) in
+    let rest : list_all is_plain_byte bs ≡ true = grind (arith, nat_tests) in
+    let more = plain_escaped bs rest in
+    grind (arith, nat_tests)
+
+-- what is appended as it is
+pub pushed_plain : {A E : Type 0} (r : Result A E) (old new segment : List ℕ) → new ≡ cond (is_ok r) (old ++ segment) old → list_all is_plain_byte segment ≡ true → OnOk r (new ≡ old ++ flat_map escaped segment)
+pushed_plain (Ok x) old new segment is plain = is ∙ ap (λ l. old ++ l) (sym (plain_escaped segment plain))
+pushed_plain (Err e) old new segment is plain = tt
 
 abbrev NoSlash : List ℕ → Type 0
 NoSlash xs = (k : ℕ) → k < length xs → get_or xs k 0 ≢ 47

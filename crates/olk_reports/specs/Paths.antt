@@ -1,5 +1,5 @@
 -- Paths as texts.
-use Rattle.std.specs.Prelude.{◌≡◌, ◌≢◌, ℕ, ◌<◌, [], ◌∷◌, length, slice_index, if◌then◌else◌, ◌==◌}
+use Rattle.std.specs.Prelude.{◌≡◌, ◌≢◌, ℕ, Bool, not, ◌&&◌, ◌<◌, [], ◌∷◌, length, slice_index, if◌then◌else◌, ◌==◌}
 use Rattle.std.specs.Char.{encode_utf8}
 use Rattle.olk_spec.specs.Names.{Text, Name, Path, ◌//◌}
 
@@ -20,3 +20,7 @@ IsEmptyOrSlash (b ∷ bs) = b ≡ 47
 -- what a character of a segment is written as
 abbrev pub escaped_char : ℕ → Text
 escaped_char c = if c == 126 then 126 ∷ 48 ∷ [] else (if c == 47 then 126 ∷ 49 ∷ [] else encode_utf8 c)
+
+-- a byte of a segment that is written as it is
+abbrev pub is_plain_byte : ℕ → Bool
+is_plain_byte b = not (b == 126) && not (b == 47)

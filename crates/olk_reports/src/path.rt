@@ -1,7 +1,7 @@
 ghost use Rattle.std.specs.Prelude.{◌≡◌, ◌++◌, [], List, ℕ, take, length, string_bytes, IfOk, OnOk, OnErr, is_ok, if◌then◌else◌};
-ghost use Rattle.std.specs.List.{flat_map};
+ghost use Rattle.std.specs.List.{flat_map, list_all};
 ghost use Rattle.olk_spec.specs.Names.{escaped};
-ghost use Rattle.olk_reports.specs.Paths.{HasLastSlash, IsEmptyOrSlash, escaped_char, one_below};
+ghost use Rattle.olk_reports.specs.Paths.{HasLastSlash, IsEmptyOrSlash, escaped_char, is_plain_byte, one_below};
 
 use std::alloc::{AllocError, Global};
 use std::marker::Model;
@@ -134,10 +134,20 @@ fn push_escaped(text: &mut String, segment: &str) -> Result<(), AllocError>
     ensures err { OnErr result
         ((rest : List ℕ) × (string_bytes text.new ≡ string_bytes text.old ++ rest)) }
 {
+    if is_plain(segment) {
+        return text.push_str(segment);
+    }
     for c in segment.chars() {
         push_char(text, c)?;
     }
     Ok(())
+}
+
+// Whether the segment is written as it is.
+fn is_plain(segment: &str) -> bool
+    ensures { result ≡ list_all is_plain_byte segment.now }
+{
+    segment.as_bytes().iter().all(|b| *b != b'~' && *b != b'/')
 }
 
 // Where memory fails, what was there stays, with nothing or a slash and more behind it.
