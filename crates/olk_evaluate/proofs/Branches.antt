@@ -19,7 +19,7 @@ module _ {X : Type 0} (p : X → Bool) where
   pass_first x xs true q rest = λ i. q i && rest i
   pass_first x xs false q rest = rest
 
-  those_pass : (xs : List X) → list_all p (those p xs) ≡ true
+  pub those_pass : (xs : List X) → list_all p (those p xs) ≡ true
   those_pass [] = refl
   those_pass (x ∷ xs) = pass_first x xs (p x) refl (those_pass xs)
 
@@ -50,7 +50,7 @@ module _ {N : Type 0} (t : N → Bool → Data → Path → Tree) (m : N → Dat
   abbrev wanted_here : List Wanted
   wanted_here = each_wanted t m u ns v Q
 
-  accepting_wanted : those (λ w. w.1) wanted_here ≡ each_wanted t m u (those accepts_here ns) v Q
+  pub accepting_wanted : those (λ w. w.1) wanted_here ≡ each_wanted t m u (those accepts_here ns) v Q
   accepting_wanted = those_map (λ n. wanted t m u n v Q) (λ w. w.1) ns
 
   some_first : (n : N) (ms : List N) (b : Bool) → (some (λ k. m k v) ms).accepts u ≡ not (is_empty (those accepts_here ms)) → (b || (some (λ k. m k v) ms).accepts u) ≡ not (is_empty (put_if b n (those accepts_here ms)))

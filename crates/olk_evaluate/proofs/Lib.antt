@@ -1,4 +1,5 @@
 pub mod Children
 pub mod OwnErrors
 pub mod Branches
+pub mod OneOf
 pub mod Members

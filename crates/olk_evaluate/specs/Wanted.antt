@@ -3,11 +3,12 @@ use Rattle.std.specs.Prelude.{◌≡◌, ⊤, Bool, false, not, List, [], ◌∷
 use Rattle.serde_json.specs.Data.{Data}
 use Rattle.olk_spec.specs.Names.{Name, Text, Path, put_if, is_empty}
 use Rattle.olk_spec.specs.Faults.{Fault, fault, Required}
-use Rattle.olk_spec.specs.Tree.{Tree, IsLikeTree, is_valid, Described, AreTold, described, described_fault, erring}
+use Rattle.olk_spec.specs.Tree.{Tree, IsLikeTree, is_valid, Described, AreTold, described, described_fault, plain, erring}
 use Rattle.olk_spec.specs.Accepts.{missing}
-use Rattle.olk_reports.specs.Evaluations.{Shown, shown, tree_of}
+use Rattle.olk_reports.specs.Evaluations.{Shown, shown, tree_of, node_at}
 use Rattle.olk_reports.specs.declared.evaluation.EvaluationNode.{EvaluationNode}
-use Rattle.olk_tree.specs.Questions.{Question}
+use Rattle.olk_tree.specs.Questions.{Question, every}
+use Rattle.olk_tree.specs.Shown.{branch_trees}
 
 -- a tree, and whether it is to be valid
 abbrev pub Wanted : Type 0
@@ -44,6 +45,11 @@ module _ {N : Type 0} (t : N → Bool → Data → Path → Tree) (m : N → Dat
 
   abbrev pub each_wanted : List N → Data → Path → List Wanted
   each_wanted ns v Q = map (λ n. wanted n v Q) ns
+
+  -- what each of these nodes shows, and nothing else
+  pub record ShowsEach (ns : List N) (v : Data) (Q : Path) (s : Shown) : Type 0 where
+    pub tree : (P : Path) → IsLikeTree (plain P Q (branch_trees (λ n. t n u) v Q ns)) (node_at P Q s)
+    pub verdict : (P : Path) → is_valid (node_at P Q s) ≡ (every (λ n. m n v) ns).accepts u
 
 -- trees that are to be invalid
 abbrev pub refused : List Tree → List Wanted

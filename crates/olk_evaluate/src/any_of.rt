@@ -73,7 +73,7 @@ impl<'a, N: Evaluate<'a>> Evaluate<'a> for SingleAnyOf<N> {
 }
 
 // What each branch shows that accepts; nothing is built for the others.
-fn accepting_children<'a, N: Evaluate<'a>>(
+pub(crate) fn accepting_children<'a, N: Evaluate<'a>>(
     alloc: Global,
     schemas: &'a Vec<N>,
     node: Node<'a>,

@@ -59,8 +59,10 @@ pub trait Evaluate<'a>: Located + IsValid {
 
 mod all_of;
 mod any_of;
+mod if_;
 mod node;
 mod not;
+mod one_of;
 mod own;
 mod properties;
 mod required;

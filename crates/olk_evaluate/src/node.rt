@@ -30,7 +30,12 @@ impl<K, N> Located for KeywordOver<K, N> {
             KeywordOver::SingleValueAllOf(keyword) => keyword.location(),
             KeywordOver::AnyOf(keyword) => keyword.location(),
             KeywordOver::SingleAnyOf(keyword) => keyword.location(),
+            KeywordOver::OneOf(keyword) => keyword.location(),
+            KeywordOver::SingleOneOf(keyword) => keyword.location(),
             KeywordOver::Not(keyword) => keyword.location(),
+            KeywordOver::IfThen(keyword) => keyword.location(),
+            KeywordOver::IfElse(keyword) => keyword.location(),
+            KeywordOver::IfThenElse(keyword) => keyword.location(),
             KeywordOver::Leaf(location, _) => location.as_str(),
         }
     }
@@ -59,7 +64,12 @@ impl<'a, K: Leaf, N: Evaluate<'a>> Evaluate<'a> for KeywordOver<K, N> {
             KeywordOver::SingleValueAllOf(keyword) => keyword.evaluate(alloc, node, path, ctx),
             KeywordOver::AnyOf(keyword) => keyword.evaluate(alloc, node, path, ctx),
             KeywordOver::SingleAnyOf(keyword) => keyword.evaluate(alloc, node, path, ctx),
+            KeywordOver::OneOf(keyword) => keyword.evaluate(alloc, node, path, ctx),
+            KeywordOver::SingleOneOf(keyword) => keyword.evaluate(alloc, node, path, ctx),
             KeywordOver::Not(keyword) => keyword.evaluate(alloc, node, path, ctx),
+            KeywordOver::IfThen(keyword) => keyword.evaluate(alloc, node, path, ctx),
+            KeywordOver::IfElse(keyword) => keyword.evaluate(alloc, node, path, ctx),
+            KeywordOver::IfThenElse(keyword) => keyword.evaluate(alloc, node, path, ctx),
             KeywordOver::Leaf(_, leaf) => leaf_errors(alloc, leaf, node),
         }
     }
