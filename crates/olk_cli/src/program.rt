@@ -50,7 +50,8 @@ fn answer_lines<I: BufRead, O: Write>(
     reader: &mut I,
     writer: &mut O,
 ) -> Result<(), Stop>
-    ensures all { OnOk result (AnswersAll IsAnswer (I.remaining reader.old) (I.remaining reader.new)
+    ensures all { OnOk result (AnswersAll IsAnswer
+        (I.remaining reader.old) (I.remaining reader.new)
         (O.contents writer.old) (O.contents writer.new)) }
     ensures stops { IfErr result (StopsBy IsAnswer (I.remaining reader.old)
         (O.contents writer.old) (O.contents writer.new)) }

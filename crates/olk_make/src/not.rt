@@ -22,8 +22,8 @@ pub fn make<K: Leaf, R: RegexEngine>(
 ) -> Option<Keyword<K, R>>
     ensures none { IfNone result (nodes.items ≡ []) }
     ensures form { IfSome result (IsNot location (view original)) }
-    ensures makes { MakesMember (kit K.Leaf R.RegexEngine) (shape.Not original) location nodes.items
-        (option_to_list result) }
+    ensures makes { MakesMember (kit K.Leaf R.RegexEngine) (shape.Not original) location
+        nodes.items (option_to_list result) }
 {
     let Some(node) = nodes.pop() else {
         return None;

@@ -133,7 +133,8 @@ fn texts_of_items<'a>(
     ensures names { IfOk result (λ v. map string_bytes v.items
         ≡ texts_in (items_view items.now.items)) }
     ensures texts { IfOk result (λ v. not_texts place.now (items_view items.now.items) ≡ []) }
-    ensures refused { IfErr result (TellsOneOf (not_texts place.now (items_view items.now.items))) }
+    ensures refused { IfErr result (TellsOneOf
+        (not_texts place.now (items_view items.now.items))) }
 {
     let mut names = Vec::new(alloc);
     for item in items {
