@@ -12,7 +12,7 @@ use Rattle.olk_spec.specs.Tree.{plain}
 use Rattle.olk_base.specs.Kit.{Kit}
 use Rattle.olk_tree.specs.Shown.{missing_trees}
 use Rattle.olk_tree.specs.Questions.{always, both, every}
-use Rattle.olk_tree.specs.Answers.{two_texts, or_else, head_of, first_of, validator_means, body_means, validator_report, body_report, validator_first, body_first, validator_tree, body_tree}
+use Rattle.olk_tree.specs.Answers.{one_of_report, two_texts, or_else, head_of, first_of, validator_means, body_means, validator_report, body_report, validator_first, body_first, validator_tree, body_tree}
 use Rattle.olk_node.specs.Nodes.{Answers, node_step, answers}
 use Rattle.olk_tree.specs.declared.node.KeywordOver.{KeywordOver}
 use Rattle.olk_tree.specs.declared.node.KeywordOver.TheVariants as keyword
@@ -21,7 +21,7 @@ use Rattle.olk_tree.specs.declared.node.Body.TheVariants.{True, False, Keywords}
 use Rattle.olk_node.specs.declared.node.SchemaNode.{SchemaNode, map-SchemaNode, out-SchemaNode, fold_out-SchemaNode}
 use Rattle.olk_node.specs.declared.node.SchemaNode.TheOpen.{SchemaNode-F}
 use Rattle.olk_spec.proofs.Maps.{flat_map-map, map-map}
-use Rattle.olk_tree.proofs.Maps.{every-map, some-map, every-beside, flat_map-beside, first_of-map, first_of-beside, properties_tree-map, branch_trees-map, any_of_tree-map}
+use Rattle.olk_tree.proofs.Maps.{every-map, some-map, every-beside, flat_map-beside, first_of-map, first_of-beside, properties_tree-map, branch_trees-map, any_of_tree-map, one_of_tree-map, how_many-map, exactly_one-map}
 
 module _ {K R : Type 0} (o : Kit K R) where
   abbrev opened : SchemaNode-F K R (SchemaNode K R) → Body (KeywordOver K (SchemaNode K R)) → SchemaNode-F K R Answers
@@ -40,7 +40,12 @@ module _ {K R : Type 0} (o : Kit K R) where
     | keyword.SingleValueAllOf k ↦ refl
     | keyword.AnyOf k ↦ some-map (λ a. a.means v) (λ n. (answers o n).means v) (answers o) (λ n. refl) k.schemas.items
     | keyword.SingleAnyOf k ↦ refl
+    | keyword.OneOf k ↦ exactly_one-map (λ a. a.means v) (λ n. (answers o n).means v) (answers o) (λ n. refl) k.schemas.items
+    | keyword.SingleOneOf k ↦ refl
     | keyword.Not k ↦ refl
+    | keyword.IfThen k ↦ refl
+    | keyword.IfElse k ↦ refl
+    | keyword.IfThenElse k ↦ refl
     | keyword.Leaf p l ↦ refl
   ]) ks.items
 
@@ -57,7 +62,12 @@ module _ {K R : Type 0} (o : Kit K R) where
     | keyword.SingleValueAllOf k ↦ refl
     | keyword.AnyOf k ↦ λ i. fault_if (not ((some-map (λ a. a.means v) (λ n. (answers o n).means v) (answers o) (λ n. refl) k.schemas.items i).accepts u)) (AnyOf (context (map-map (λ a. a.report u v Q) (λ n. (answers o n).report u v Q) (answers o) (λ n. refl) k.schemas.items i))) v k.location Q
     | keyword.SingleAnyOf k ↦ refl
+    | keyword.OneOf k ↦ λ i. one_of_report (how_many-map (λ a. a.means v) (λ n. (answers o n).means v) (answers o) (λ n. refl) u k.schemas.items i) (context (map-map (λ a. a.report u v Q) (λ n. (answers o n).report u v Q) (answers o) (λ n. refl) k.schemas.items i)) v k.location Q
+    | keyword.SingleOneOf k ↦ refl
     | keyword.Not k ↦ refl
+    | keyword.IfThen k ↦ refl
+    | keyword.IfElse k ↦ refl
+    | keyword.IfThenElse k ↦ refl
     | keyword.Leaf p l ↦ refl
   ]) ks.items
 
@@ -74,7 +84,12 @@ module _ {K R : Type 0} (o : Kit K R) where
     | keyword.SingleValueAllOf k ↦ refl
     | keyword.AnyOf k ↦ λ i. fault_if (not ((some-map (λ a. a.means v) (λ n. (answers o n).means v) (answers o) (λ n. refl) k.schemas.items i).accepts u)) (AnyOf (context (map-map (λ a. a.report u v Q) (λ n. (answers o n).report u v Q) (answers o) (λ n. refl) k.schemas.items i))) v k.location Q
     | keyword.SingleAnyOf k ↦ refl
+    | keyword.OneOf k ↦ λ i. one_of_report (how_many-map (λ a. a.means v) (λ n. (answers o n).means v) (answers o) (λ n. refl) u k.schemas.items i) (context (map-map (λ a. a.report u v Q) (λ n. (answers o n).report u v Q) (answers o) (λ n. refl) k.schemas.items i)) v k.location Q
+    | keyword.SingleOneOf k ↦ refl
     | keyword.Not k ↦ refl
+    | keyword.IfThen k ↦ refl
+    | keyword.IfElse k ↦ refl
+    | keyword.IfThenElse k ↦ refl
     | keyword.Leaf p l ↦ refl
   ]) ks.items
 
@@ -91,7 +106,12 @@ module _ {K R : Type 0} (o : Kit K R) where
     | keyword.SingleValueAllOf k ↦ refl
     | keyword.AnyOf k ↦ any_of_tree-map (λ a. a.tree u) (λ n. (answers o n).tree u) (answers o) (λ y w R. refl) v Q (λ a. (a.means v).accepts u) (λ n. ((answers o n).means v).accepts u) (λ n. refl) k.location k.schemas.items
     | keyword.SingleAnyOf k ↦ any_of_tree-map (λ a. a.tree u) (λ n. (answers o n).tree u) (answers o) (λ y w R. refl) v Q (λ a. (a.means v).accepts u) (λ n. ((answers o n).means v).accepts u) (λ n. refl) k.location (k.node ∷ [])
+    | keyword.OneOf k ↦ one_of_tree-map (λ a. a.tree u) (λ n. (answers o n).tree u) (answers o) (λ y w R. refl) v Q (λ a. (a.means v).accepts u) (λ n. ((answers o n).means v).accepts u) (λ n. refl) k.location k.schemas.items
+    | keyword.SingleOneOf k ↦ one_of_tree-map (λ a. a.tree u) (λ n. (answers o n).tree u) (answers o) (λ y w R. refl) v Q (λ a. (a.means v).accepts u) (λ n. ((answers o n).means v).accepts u) (λ n. refl) k.location (k.node ∷ [])
     | keyword.Not k ↦ refl
+    | keyword.IfThen k ↦ refl
+    | keyword.IfElse k ↦ refl
+    | keyword.IfThenElse k ↦ refl
     | keyword.Leaf p l ↦ refl
   ]) ks.items)
 

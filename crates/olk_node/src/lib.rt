@@ -9,7 +9,8 @@ pub mod valid;
 
 pub use errors::{collect_errors_for, validate_for};
 pub use node::{
-    AllOfValidator, AnyOfValidator, Keyword, NotValidator, SchemaNode, SingleAnyOfValidator,
+    AllOfValidator, AnyOfValidator, IfElseValidator, IfThenElseValidator, IfThenValidator, Keyword,
+    NotValidator, OneOfValidator, SchemaNode, SingleAnyOfValidator, SingleOneOfValidator,
     SingleValueAllOfValidator, SmallPropertiesValidator, SmallPropertiesWithRequired2Validator,
     SmallValidatorsMap,
 };

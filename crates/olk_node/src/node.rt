@@ -4,9 +4,11 @@ ghost use Rattle.std.specs.Prelude.{◌≡◌};
 use olk_reports::Location;
 use olk_tree::all_of::{AllOf, SingleValueAllOf};
 use olk_tree::any_of::{AnyOf, SingleAnyOf};
+use olk_tree::if_::{IfElse, IfThen, IfThenElse};
 use olk_tree::map::SmallMap;
 use olk_tree::node::{Body, KeywordOver};
 use olk_tree::not::Not;
+use olk_tree::one_of::{OneOf, SingleOneOf};
 use olk_tree::properties::{SmallProperties, SmallPropertiesWithRequired2};
 use std::marker::PhantomData;
 
@@ -56,8 +58,23 @@ pub type AnyOfValidator<K, R> = AnyOf<SchemaNode<K, R>>;
 /// `anyOf` of one branch, over a node.
 pub type SingleAnyOfValidator<K, R> = SingleAnyOf<SchemaNode<K, R>>;
 
+/// `oneOf` of several branches, or of none, over nodes.
+pub type OneOfValidator<K, R> = OneOf<SchemaNode<K, R>>;
+
+/// `oneOf` of one branch, over a node.
+pub type SingleOneOfValidator<K, R> = SingleOneOf<SchemaNode<K, R>>;
+
 /// `not`, over a node.
 pub type NotValidator<K, R> = Not<SchemaNode<K, R>>;
+
+/// `if` with `then`, over nodes.
+pub type IfThenValidator<K, R> = IfThen<SchemaNode<K, R>>;
+
+/// `if` with `else`, over nodes.
+pub type IfElseValidator<K, R> = IfElse<SchemaNode<K, R>>;
+
+/// `if` with `then` and `else`, over nodes.
+pub type IfThenElseValidator<K, R> = IfThenElse<SchemaNode<K, R>>;
 
 /// `properties`, over nodes.
 pub type SmallPropertiesValidator<K, R> = SmallProperties<SchemaNode<K, R>>;
