@@ -16,7 +16,8 @@ pub use olk_check::IsValid;
 pub use olk_errors::Errors;
 pub use olk_evaluate::{Evaluate, Located};
 pub use olk_node::{
-    AllOfValidator, AnyOfValidator, Keyword, NotValidator, SchemaNode, SingleAnyOfValidator,
+    AllOfValidator, AnyOfValidator, IfElseValidator, IfThenElseValidator, IfThenValidator, Keyword,
+    NotValidator, OneOfValidator, SchemaNode, SingleAnyOfValidator, SingleOneOfValidator,
     SingleValueAllOfValidator, SmallPropertiesValidator, SmallPropertiesWithRequired2Validator,
     SmallValidatorsMap,
 };
