@@ -14,9 +14,9 @@ ghost use Rattle.olk_build.specs.Placing.{ObjectIsParted, IsPart, PlacesAreBuilt
 
 use crate::context::Context;
 use olk_base::{MakeLeaf, MakeRegex, Meter};
-use olk_make::{make_keywords, Part};
+use olk_make::{Part, make_keywords};
 use olk_node::SchemaNode;
-use olk_read::{append, one, read_keyword, refuse, Makers, ReadPlaces};
+use olk_read::{Makers, ReadPlaces, append, one, read_keyword, refuse};
 use olk_reports::{BuildError, Location, ValidationErrorKind};
 use olk_tree::node::Body;
 use serde_json::{Map, Value};

@@ -14,8 +14,8 @@ ghost use Rattle.olk_evaluate.specs.Wanted.{HasErrors, AreShown, refused, lackin
 use crate::own::add_own_error;
 use crate::{Evaluate, Located};
 use olk_base::{Node, ValidationContext};
-use olk_reports::{EvaluationNode, EvaluationResult, InstancePath, ValidationErrorKind};
 use olk_members::has_member;
+use olk_reports::{EvaluationNode, EvaluationResult, InstancePath, ValidationErrorKind};
 use olk_tree::required::RequiredValidator;
 use serde_json::{Map, Value};
 use std::alloc::{AllocError, Global};

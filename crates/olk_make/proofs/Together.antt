@@ -44,7 +44,6 @@ every-append f (x ∷ xs) ys u = (
     around true b c = refl
     around false b c = refl
 
-
 module _ {K R : Type 0} (o : Kit K R) where
   -- ---- keywords
 

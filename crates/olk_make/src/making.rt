@@ -12,7 +12,7 @@ use crate::{all_of, any_of, not, one_of, properties, required};
 use olk_base::{Leaf, RegexEngine};
 use olk_members::Plan;
 use olk_node::{Keyword, SchemaNode};
-use olk_read::{append, Shape};
+use olk_read::{Shape, append};
 use olk_reports::Location;
 use olk_tree::node::KeywordOver;
 use serde_json::{Map, Value};

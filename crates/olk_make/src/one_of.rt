@@ -8,8 +8,8 @@ ghost use Rattle.olk_read.specs.declared.shape.Shape.TheVariants as shape;
 use olk_base::{Leaf, RegexEngine};
 use olk_node::{Keyword, SchemaNode};
 use olk_reports::Location;
-use olk_tree::one_of::{OneOf, SingleOneOf};
 use olk_tree::node::KeywordOver;
+use olk_tree::one_of::{OneOf, SingleOneOf};
 
 /// The form for so many branches.
 fn form<K, N: Drop>(location: Location, mut schemas: Vec<N>) -> KeywordOver<K, N>

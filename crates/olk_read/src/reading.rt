@@ -11,10 +11,10 @@ ghost use Rattle.olk_read.specs.Refusing.{TellsOneOf};
 ghost use Rattle.olk_read.specs.Lists.{not_texts};
 ghost use Rattle.olk_read.specs.Reading.{IsFor, IsOther, IsRead, RefusesKeyword};
 
-use crate::makers::Makers;
 use crate::lists::append;
-use crate::shape::Shape;
+use crate::makers::Makers;
 use crate::refusal::{refuse, refuse_type};
+use crate::shape::Shape;
 use olk_base::{JsonType, MakeError, MakeLeaf, MakeRegex, Meter};
 use olk_reports::{BuildError, Location, ValidationErrorKind};
 use olk_tree::map::SortedNames;
