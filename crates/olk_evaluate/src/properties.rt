@@ -114,14 +114,15 @@ impl<'a> Met<'a> {
     ghost use Rattle.std.specs.Prelude.{Some, map};
     ghost use Rattle.olk_reports.specs.Evaluations.{shown, shown_of};
 
-    fn new(alloc: Global) -> Met<'a>
-        ensures names { result.names.items ≡ [] }
-        ensures children { result.children.items ≡ [] }
+    // None yet, with room for so many.
+    fn with_capacity(alloc: Global, capacity: usize) -> Result<Met<'a>, AllocError>
+        ensures names { IfOk result (λ m. m.names.items ≡ []) }
+        ensures children { IfOk result (λ m. m.children.items ≡ []) }
     {
-        Met {
-            names: Vec::new(alloc),
-            children: Vec::new(alloc),
-        }
+        Ok(Met {
+            names: Vec::with_capacity(alloc, capacity)?,
+            children: Vec::with_capacity(alloc, capacity)?,
+        })
     }
 
     // One member more.
@@ -177,7 +178,8 @@ fn meet<'a, N: Evaluate<'a>>(
     ensures path { path.new ≡ path.old }
     ensures context { OnlyAsks ctx.old ctx.new }
 {
-    let mut met: Met<'a> = Met::new(alloc);
+    let most = members.len().min(properties.names.len());
+    let mut met: Met<'a> = Met::with_capacity(alloc, most)?;
     for (name, subschema, value) in properties.declared_members(members) {
         let child = child_below(alloc, subschema, name, value, path, ctx)?;
         met.add(name, child)?;

@@ -47,7 +47,7 @@ pub(crate) fn each_child<'a, N: Evaluate<'a>>(
     ensures path { path.new ≡ path.old }
     ensures context { OnlyAsks ctx.old ctx.new }
 {
-    let mut children = Vec::new(alloc);
+    let mut children = Vec::with_capacity(alloc, schemas.len())?;
     for schema in schemas {
         children.push(child(alloc, schema, node, path, ctx)?)?;
     }

@@ -105,7 +105,7 @@ impl<'a> EvaluationResult<'a> {
         ensures { IfOk result (λ r. shown_of r
             ≡ shown (is_valid (tree_of node.entry)) None [] (tree_of node.entry ∷ [])) }
     {
-        let mut children = Vec::new(alloc);
+        let mut children = Vec::with_capacity(alloc, 1)?;
         children.push(node)?;
         Ok(EvaluationResult::from_children(alloc, children))
     }

@@ -1,5 +1,5 @@
 -- Where a name stands among ascending names.
-use Rattle.std.proofs.Common.{◌≡◌, ℕ, suc, ◌+◌, ◌-◌, ◌<◌, ◌≤◌, Bool, true, false, List, [], ◌∷◌, length, map, take, drop, get_or, Some, None, Result, Ok, Err, String, Global, string_bytes, bytes_eq, refl, ap, sym, subst, ◌∙◌, arith, length-drop}
+use Rattle.std.proofs.Common.{◌≡◌, ℕ, true≢false, suc, ◌+◌, ◌-◌, ◌<◌, ◌≤◌, Bool, true, false, List, [], ◌∷◌, length, map, take, drop, get_or, Some, None, Result, Ok, Err, String, Global, string_bytes, bytes_eq, refl, ap, sym, subst, ◌∙◌, arith, length-drop}
 use Rattle.std.specs.List.{position, position_or_len}
 use Rattle.std.specs.List.Sorted.{IsBinarySearchResult, IsSearchInRange, IsNonDecreasingBy}
 use Rattle.std.specs.Ordering.{nat_cmp, ordering_index, is_eq, ordering_reverse}
@@ -106,6 +106,14 @@ module _ (ks : List Name) (n : Name) where
         some : p < length ks → position_or_len test ks ≡ p → Some p ≡ position test ks
         some lt e = grind (arith, nat_tests)
 
+    pub equal_here : (p : ℕ) → p < length ks → true ≡ bytes_eq (get_or ks p []) n → Some p ≡ position test ks
+    equal_here p lt e = stands_some record { inside = lt; here = equal_by (cmp (get_or ks p []) n) (is_eq-slice_cmp (get_or ks p []) n ∙ sym e) }
+      where
+        equal_by : (o : Ordering) → is_eq o ≡ true → o ≡ Equal
+        equal_by Equal h = refl
+        equal_by Less h = absurd (true≢false (sym h))
+        equal_by Greater h = absurd (true≢false (sym h))
+
     pub after_here : {p : ℕ} → p < length ks → cmp (get_or ks p []) n ≡ Greater → IsAfter ks p n
     after_here {p} lt e i l j = by (nat_lt p i) refl
       where
@@ -175,6 +183,9 @@ module _ {slice : List (String Global)} {ks : List Name} (h : Names slice ks) wh
 
   pub compared_at : (p : ℕ) (x : String Global) (t n : Name) (o : Ordering) → x ≡ get_or slice p x → t ≡ string_bytes x → p < length slice → o ≡ cmp t n → cmp (get_or ks p []) n ≡ o
   compared_at p x t n o is text lt e = ap (λ k. cmp k n) (ap (λ l. get_or l p []) h.as_seen ∙ get_or-map string_bytes slice p x [] lt ∙ ap string_bytes (sym is) ∙ sym text) ∙ sym e
+
+  pub equal_at : (p : ℕ) (x : String Global) (t n : Name) → x ≡ get_or slice p x → t ≡ string_bytes x → p < length slice → true ≡ bytes_eq t n → true ≡ bytes_eq (get_or ks p []) n
+  equal_at p x t n is text lt e = e ∙ ap (λ k. bytes_eq k n) (text ∙ ap string_bytes is ∙ sym (get_or-map string_bytes slice p x [] lt) ∙ ap (λ l. get_or l p []) (sym h.as_seen))
 
   behind_seen : (l : ℕ) → map string_bytes (take (length slice - l) (drop l slice)) ≡ drop l ks
   behind_seen l = behind_as slice l ∙ ap (drop l) (sym h.as_seen)

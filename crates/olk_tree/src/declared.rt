@@ -38,6 +38,7 @@ impl<'a, N> Iterator for DeclaredMembers<'a, N> {
 
     ghost remaining = { item_count left_of };
 
+    #[inline(always)]
     fn next(&mut self) -> Option<(&'a str, &'a N, &'a Value)> {
         if self.by_members {
             next_member(self.properties, &mut self.left, &mut self.hint)
@@ -67,6 +68,7 @@ impl<N> SmallMap<N> {
 }
 
 // The next member whose name is declared.
+#[inline(always)]
 fn next_member<'a, N>(
     properties: &'a SmallMap<N>,
     left: &mut Iter<'a, String, Value>,

@@ -1,7 +1,7 @@
 //! Names in order, and what stands beside them.
 ghost use Rattle.std.specs.Ordering.{nat_cmp};
 ghost use Rattle.std.specs.Cmp.Lexicographic.{slice_cmp};
-ghost use Rattle.std.specs.Prelude.{◌≡◌, IfOk, bytes_eq, length, map, string_bytes, option_copied, position};
+ghost use Rattle.std.specs.Prelude.{◌≡◌, ◌<◌, IfOk, IfSome, Some, bytes_eq, length, map, string_bytes, option_copied, position};
 ghost use Rattle.serde_json.specs.View.{members_view};
 ghost use Rattle.olk_spec.specs.Schemas.{listed};
 ghost use Rattle.olk_spec.specs.Names.{lookup};
@@ -29,6 +29,9 @@ impl Model for SortedNames {
 
     ghost invariant = { λ m. Ascend (map string_bytes m.names.items) };
 }
+
+// So many names are compared, before the rest is bisected.
+const NEAR: usize = 4;
 
 impl SortedNames {
     /// The names of an object's members.
@@ -76,7 +79,20 @@ impl SortedNames {
     ///
     /// Names that are asked for in ascending order are found in step: the next one is compared first, then the rest is
     /// bisected. A hint that is no good costs a bisection.
+    #[inline(always)]
     pub fn find_from(&self, hint: usize, name: &str) -> (usize, Option<usize>)
+        ensures { result.1 ≡ position (λ k. bytes_eq k name.now) self.now }
+    {
+        let names = self.names.as_slice();
+        if let Some(place) = find_near(names, hint, name) {
+            return (place + 1, Some(place));
+        }
+        self.find_about(hint, name)
+    }
+
+    // The same, where the name at `hint` is likely another.
+    #[inline(never)]
+    fn find_about(&self, hint: usize, name: &str) -> (usize, Option<usize>)
         ensures { result.1 ≡ position (λ k. bytes_eq k name.now) self.now }
     {
         let names = self.names.as_slice();
@@ -95,6 +111,22 @@ impl SortedNames {
             }
         }
     }
+}
+
+// At which of the next places from `hint` on the name stands, if it stands there.
+#[inline(always)]
+fn find_near(names: &[String], hint: usize, name: &str) -> Option<usize>
+    requires { Ascend (map string_bytes names.now) }
+    ensures { IfSome result (λ p. (p < length names.now)
+        × (Some p ≡ position (λ k. bytes_eq k name.now) (map string_bytes names.now))) }
+{
+    let end = names.len().min(hint.saturating_add(NEAR));
+    for place in hint..end {
+        if names[place].as_str() == name {
+            return Some(place);
+        }
+    }
+    None
 }
 
 // The same, where no name from `hint` on is the one that is looked for: the last one before is compared first.
@@ -148,6 +180,7 @@ impl<N> SmallMap<N> {
     }
 
     /// What stands at the name, looked for at `hint` first, and where to look first for a later name.
+    #[inline(always)]
     pub fn get_from(&self, hint: usize, name: &str) -> (usize, Option<&N>)
         ensures { option_copied result.1 ≡ lookup name.now (named self.now) }
     {

@@ -1,7 +1,7 @@
 use Rattle.std.proofs.Common.{arith, sym, subst, Less, Equal, Greater}
 use Rattle.olk_tree.specs.Ascending.{IsAfter}
 use Rattle.olk_tree.proofs.Places.{names_are, same_length, compared_at, behind_ascends, stands_in, parts_in, stands_some, parts_none, after_here}
-use Rattle.olk_tree.proofs.map.SortedNames.find_from.Goals as goal
+use Rattle.olk_tree.proofs.map.SortedNames.find_about.Goals as goal
 
 pub place_of-requires : goal.place_of-requires
 place_of-requires c =
