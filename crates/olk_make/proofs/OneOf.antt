@@ -29,11 +29,11 @@ use Rattle.olk_make.specs.Making.{KeywordMeans}
 use Rattle.olk_make.proofs.Held.{question, shown, found, at_value, accepts_value, any_ask, any_context, branches_show, accepting_show, one, same_within, at_most_through}
 
 -- one branch is counted where it accepts
-one_counted : (b : Bool) → (cond b 1 0 + 0 == 1) ≡ b
+one_counted : (b : Bool) → (0 + cond b 1 0 == 1) ≡ b
 one_counted true = refl
 one_counted false = refl
 
-one_reported : (b : Bool) (c : Context) (v : Data) (L Q : Path) → fault_if (not b) (OneOfNotValid c) v L Q ≡ one_of_report (cond b 1 0 + 0) c v L Q
+one_reported : (b : Bool) (c : Context) (v : Data) (L Q : Path) → fault_if (not b) (OneOfNotValid c) v L Q ≡ one_of_report (0 + cond b 1 0) c v L Q
 one_reported true c v L Q = refl
 one_reported false c v L Q = refl
 
@@ -98,18 +98,15 @@ module _ {K R : Type 0} (o : Kit K R) where
   pub means_one_of : (k : KeywordOver K (SchemaNode K R)) (ns : List (SchemaNode K R)) (L : Path) (ds : Items) (d : Data) → d ≡ array ds → IsFormOfOneOf L ns k → StandEach o ns (numbered (items_list ds)) L → (ms : Members) (P : Path) → L ≡ P // codes "oneOf" → KeywordMeans o ms (k ∷ []) (codes "oneOf", d) P
   means_one_of k ns L ds d q form stand ms P p = subst (λ x. KeywordMeans o ms (k ∷ []) (codes "oneOf", x) P) (sym q) (record {
     holds = one o ms k (codes "oneOf", array ds) one_of P
-        (λ u v. form_accepts L ns u v k form ∙ ap (λ n. n == 1) (counted u v ns es L stand) ∙ sym (fact.one_of_accepts o.world u v ms ds))
-        (λ u v. same_within _ _ _ (at_most_through o _ _ _ (form_asks L ns u v k form) (any_ask o u v ns es L stand)) (fact.one_of_asks o.world u v ms ds))
+        (λ u v. form_accepts L ns u v k form ∙ ap (λ n. n == 1) (counted u v ns (numbered (items_list ds)) L stand) ∙ sym (fact.one_of_accepts o.world u v ms ds))
+        (λ u v. same_within _ _ _ (at_most_through o _ _ _ (form_asks L ns u v k form) (any_ask o u v ns (numbered (items_list ds)) L stand)) (fact.one_of_asks o.world u v ms ds))
         (λ u v Q. subst₂ (λ x y. x ∼ y)
-        (sym (form_finds L ns u v Q k form ∙ ap (λ n. one_of_report n (context (map (λ x. (answers o x).report u v Q) ns)) v L Q) (counted u v ns es L stand)))
-        (ap (λ M. fact.one_of_faults o.world u v (fact.accepting_count o.world u v es) M Q es) p ∙ sym (fact.one_of_report o.world u v ms ds P Q))
+        (sym (form_finds L ns u v Q k form ∙ ap (λ n. one_of_report n (context (map (λ x. (answers o x).report u v Q) ns)) v L Q) (counted u v ns (numbered (items_list ds)) L stand)))
+        (ap (λ M. fact.one_of_faults o.world u v (fact.accepting_count o.world u v (numbered (items_list ds))) M Q (numbered (items_list ds))) p ∙ sym (fact.one_of_report o.world u v ms ds P Q))
         (∼_append
-        (not_valid (fact.accepting_count o.world u v es == 0) _ _ v L Q (any_context o u v Q ns es L stand))
-        (multiple_valid (nat_lt 1 (fact.accepting_count o.world u v es)) _ _ v L Q (any_context o u v Q ns es L stand))));
+        (not_valid (fact.accepting_count o.world u v (numbered (items_list ds)) == 0) _ _ v L Q (any_context o u v Q ns (numbered (items_list ds)) L stand))
+        (multiple_valid (nat_lt 1 (fact.accepting_count o.world u v (numbered (items_list ds)))) _ _ v L Q (any_context o u v Q ns (numbered (items_list ds)) L stand))));
     shows = λ u h v Q.
-        ap (λ t. t ∷ []) (form_shows L ns u v Q k form ∙ one_show u v Q ns es L stand ∙ ap (λ M. fact.one_shown o.world u v (fact.accepting_count o.world u v es) M Q es) p)
+        ap (λ t. t ∷ []) (form_shows L ns u v Q k form ∙ one_show u v Q ns (numbered (items_list ds)) L stand ∙ ap (λ M. fact.one_shown o.world u v (fact.accepting_count o.world u v (numbered (items_list ds))) M Q (numbered (items_list ds))) p)
         ∙ sym (fact.one_of_child o.world u v ms ds P Q);
   })
-    where
-      abbrev es : List (Name × Data)
-      es = numbered (items_list ds)
