@@ -1,5 +1,5 @@
 -- Nothing is appended exactly where the schema accepts.
-use Rattle.std.proofs.Common.{◌≡◌, ℕ, ◌+◌, Bool, true, true≢false, subst, List, [], ◌∷◌, length, map, refl, sym, ap, ◌∙◌, arith, length-append}
+use Rattle.std.proofs.Common.{◌≡◌, ℕ, ◌+◌, Bool, List, [], ◌∷◌, length, map, refl, sym, ap, ◌∙◌, arith, length-append}
 use Rattle.std.specs.Prelude.{nat_eq}
 use Rattle.std.proofs.lemmas.Bool.Decides.{nat_tests}
 use Rattle.serde_json.specs.Data.{Data}
@@ -11,7 +11,6 @@ use Rattle.olk_spec.proofs.Verdicts.{verdict_of_reports}
 use Rattle.olk_reports.specs.Errors.{fault_of}
 use Rattle.olk_reports.specs.declared.error.ValidationError.{ValidationError}
 use Rattle.olk_errors.specs.Found.{Appends}
-use Rattle.olk_errors.proofs.Appending.{appends_nothing}
 
 same_length : {X : Type 0} (m : ℕ) (ys : List X) → nat_eq (m + length ys) m ≡ is_empty ys
 same_length m [] = grind (arith, nat_tests)
@@ -28,11 +27,3 @@ none_appended W u S v P Q old new a =
     ∙ empty_map a.added
     ∙ ∼_is_empty a.same
     ∙ sym (verdict_of_reports W u S v P Q)
-
-nothing_in : {X : Type 0} (xs : List X) → is_empty xs ≡ true → xs ≡ []
-nothing_in [] e = refl
-nothing_in (x ∷ xs) e = absurd (true≢false (sym e))
-
--- of what is accepted nothing is reported
-pub none_reported : (W : World) (u : Bool) (S v : Data) (P Q : Path) (errors : List ValidationError) → true ≡ accepts W u S v → Appends errors errors (report W u S v P Q)
-none_reported W u S v P Q errors accepted = subst (Appends errors errors) (sym (nothing_in (report W u S v P Q) (sym (accepted ∙ verdict_of_reports W u S v P Q)))) (appends_nothing errors)

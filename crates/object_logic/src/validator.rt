@@ -128,8 +128,8 @@ impl<K: Leaf, R: RegexEngine> Validator<K, R> {
     /// the context's answer for matches that are left unfinished. None is appended exactly where the schema accepts the
     /// instance.
     ///
-    /// An accepted instance costs a verdict and no memory. The context keeps its answer; of the counts only those of
-    /// matchers that were asked and of matches that were left unfinished rise.
+    /// A member that is accepted costs a verdict, and its path is not written. The context keeps its answer; of the counts
+    /// only those of matchers that were asked and of matches that were left unfinished rise.
     ///
     /// # Errors
     ///
@@ -150,12 +150,15 @@ impl<K: Leaf, R: RegexEngine> Validator<K, R> {
             ≡ accepts (world K.Leaf R.RegexEngine) ctx.old.answer S (view instance.now)) }
         ensures memory { OnErr result (errors.new.items ≡ errors.old.items) }
     {
-        let node = Node::Value(instance);
-        if is_valid_for(&self.root, node, ctx) {
-            return Ok(());
-        }
         let mut path = InstancePath::new(alloc);
-        collect_errors_for(alloc, &self.root, node, &mut path, ctx, errors)
+        collect_errors_for(
+            alloc,
+            &self.root,
+            Node::Value(instance),
+            &mut path,
+            ctx,
+            errors,
+        )
     }
 
     /// What the schema shows of the instance: a tree of results, with their annotations and errors (JSON Schema 2020-12
