@@ -1,7 +1,7 @@
 //! Validators that are built by hand, over a leaf that refuses texts.
-use crate::doubles::{EqualTo, NoText};
 use olk_base::{Node, ValidationContext};
 use olk_check::IsValid;
+use olk_low_tests::doubles::{EqualTo, NoText};
 use olk_node::{Keyword, SchemaNode, is_valid_for};
 use olk_reports::Location;
 use olk_tree::all_of::{AllOf, SingleValueAllOf};

@@ -1,8 +1,7 @@
 //! Building from schemas, and looking up names, with a leaf set and a matcher.
-use crate::doubles::{Equality, NoTexts};
-use crate::tables::three;
 use olk_base::Meter;
 use olk_build::{Context, all_of, any_of, compile, not, properties, required};
+use olk_low_tests::doubles::{Equality, NoTexts};
 use olk_reports::{BuildError, ValidationError};
 use olk_tree::{Body, KeywordOver, SmallMap, SortedNames};
 use serde_json::{Map, Value};
@@ -88,7 +87,8 @@ const REFUSED: &str = r##"7 | . | 7 is not of types "boolean", "object"
 {"required":["a",5]} | ./required | 5 is not of type "string"
 {"required":true} | ./required | true is not of type "array"
 {"properties":{"a":{"$ref":"#"}}} | ./properties/a/$ref | "$ref" is not supported here
-{"oneOf":[]} | ./oneOf | "oneOf" is not supported here
+{"oneOf":{}} | ./oneOf | {} is not of type "array"
+{"if":true} | ./if | "if" is not supported here
 {"not":{"text":true}} | ./not/text | true is not a value for "text""##;
 
 fn refused(alloc: Global, schema: &Value) -> Result<ValidationError<'_>, Fail> {
@@ -104,7 +104,8 @@ fn refused(alloc: Global, schema: &Value) -> Result<ValidationError<'_>, Fail> {
 }
 
 fn expect_refused(rt: &impl Abort, alloc: Global, row: &str) -> Result<(), Fail> {
-    let (text, place, message) = three(row)?;
+    let (text, cells) = row.split_once(" | ").ok_or("a row of one cell")?;
+    let (place, message) = cells.split_once(" | ").ok_or("a row of two cells")?;
     let schema = Value::from_str(alloc, text)?;
     let error = refused(alloc, &schema)?;
     assert_eq!(rt;
@@ -214,10 +215,9 @@ fn required_names_that_are_fused(rt: HostRuntime) -> Result<(), Fail> {
 }
 
 // Whether the keyword of `allOf` is the single form.
-fn is_single_all_of(alloc: Global, branches: &Value) -> Result<bool, Fail> {
+fn is_single_all_of(alloc: Global, branches: &Value, meter: &mut Meter) -> Result<bool, Fail> {
     let parent = Map::new(alloc);
-    let mut meter = Meter::new();
-    let mut ctx = Context::new(alloc, &NoTexts, &Equality, &mut meter);
+    let mut ctx = Context::new(alloc, &NoTexts, &Equality, meter);
     match all_of::compile(alloc, &mut ctx, &parent, branches) {
         Some(Ok(KeywordOver::SingleValueAllOf(_))) => Ok(true),
         Some(Ok(KeywordOver::AllOf(_))) => Ok(false),
@@ -226,10 +226,9 @@ fn is_single_all_of(alloc: Global, branches: &Value) -> Result<bool, Fail> {
 }
 
 // Whether that of `anyOf` is.
-fn is_single_any_of(alloc: Global, branches: &Value) -> Result<bool, Fail> {
+fn is_single_any_of(alloc: Global, branches: &Value, meter: &mut Meter) -> Result<bool, Fail> {
     let parent = Map::new(alloc);
-    let mut meter = Meter::new();
-    let mut ctx = Context::new(alloc, &NoTexts, &Equality, &mut meter);
+    let mut ctx = Context::new(alloc, &NoTexts, &Equality, meter);
     match any_of::compile(alloc, &mut ctx, &parent, branches) {
         Some(Ok(KeywordOver::SingleAnyOf(_))) => Ok(true),
         Some(Ok(KeywordOver::AnyOf(_))) => Ok(false),
@@ -237,29 +236,47 @@ fn is_single_any_of(alloc: Global, branches: &Value) -> Result<bool, Fail> {
     }
 }
 
+// Whether both are the single form, and how many places and leaves each of them counts.
+fn expect_branches(
+    rt: &impl Abort,
+    alloc: Global,
+    text: &str,
+    is_single: bool,
+    spent: (u64, u64),
+) -> Result<(), Fail> {
+    let branches = Value::from_str(alloc, text)?;
+    let (mut all, mut any) = (Meter::new(), Meter::new());
+    assert_eq!(rt;
+        is_single_all_of(alloc, &branches, &mut all)?,
+        is_single,
+        "{text}"
+    );
+    assert_eq!(rt;
+        is_single_any_of(alloc, &branches, &mut any)?,
+        is_single,
+        "{text}"
+    );
+    assert_eq!(rt; (all.compiled(), all.leaves()), spent, "{text}");
+    assert_eq!(rt; (any.compiled(), any.leaves()), spent, "{text}");
+    Ok(())
+}
+
 #[test]
 fn one_branch_has_a_form_of_its_own(rt: HostRuntime) -> Result<(), Fail> {
-    for (text, is_single) in [("[]", false), ("[true]", true), ("[true,{}]", false)] {
-        let branches = Value::from_str(rt.alloc(), text)?;
-        assert_eq!(rt;
-            is_single_all_of(rt.alloc(), &branches)?,
-            is_single,
-            "{text}"
-        );
-        assert_eq!(rt;
-            is_single_any_of(rt.alloc(), &branches)?,
-            is_single,
-            "{text}"
-        );
+    for (text, is_single, spent) in [
+        ("[]", false, (0, 0)),
+        (r#"[{"text":false}]"#, true, (1, 1)),
+        (r#"[true,{"text":false}]"#, false, (2, 1)),
+    ] {
+        expect_branches(&rt, rt.alloc(), text, is_single, spent)?;
     }
     Ok(())
 }
 
 // The place of the keyword of `not`.
-fn place_of_not(alloc: Global, schema: &Value) -> Result<String, Fail> {
+fn place_of_not(alloc: Global, schema: &Value, meter: &mut Meter) -> Result<String, Fail> {
     let parent = Map::new(alloc);
-    let mut meter = Meter::new();
-    let mut ctx = Context::new(alloc, &NoTexts, &Equality, &mut meter);
+    let mut ctx = Context::new(alloc, &NoTexts, &Equality, meter);
     match not::compile(alloc, &mut ctx, &parent, schema) {
         Some(Ok(KeywordOver::Not(keyword))) => {
             Ok(String::from_str(alloc, keyword.location.as_str())?)
@@ -270,8 +287,10 @@ fn place_of_not(alloc: Global, schema: &Value) -> Result<String, Fail> {
 
 #[test]
 fn a_schema_that_is_turned(rt: HostRuntime) -> Result<(), Fail> {
-    let place = place_of_not(rt.alloc(), &Value::Bool(true))?;
+    let mut meter = Meter::new();
+    let place = place_of_not(rt.alloc(), &Value::Bool(true), &mut meter)?;
     assert_eq!(rt; place.as_str(), "/not");
+    assert_eq!(rt; (meter.compiled(), meter.leaves()), (1, 0));
     Ok(())
 }
 

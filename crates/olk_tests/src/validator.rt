@@ -1,7 +1,7 @@
 //! What schemas show of values, with a leaf set and a matcher.
-use crate::doubles::{EqualTo, Equality, NoText, NoTexts};
 use object_logic::Validator;
 use olk_base::{Meter, ValidationContext};
+use olk_low_tests::doubles::{EqualTo, Equality, NoText, NoTexts};
 use olk_reports::{BuildError, Evaluation};
 use serde_json::Value;
 use std::alloc::{AllocError, Global};

@@ -9,6 +9,7 @@ ghost use Rattle.olk_base.specs.Count.{count_made};
 ghost use Rattle.olk_base.specs.Lawful.{matcher, IsRefused};
 ghost use Rattle.olk_base.specs.Nodes.{data_of};
 
+use crate::counting::Counting;
 use crate::doubles::{Equality, NoTexts};
 use crate::tables::two;
 use olk_base::{
@@ -18,6 +19,7 @@ use olk_base::{
 };
 use serde_json::{Map, Value};
 use std::alloc::{AllocError, Global};
+use std::cell::Cell;
 use std::process::Abort;
 use std::test::Fail;
 
@@ -216,16 +218,26 @@ type Match<'a> = (&'a str, &'a str, bool, u64, u64);
 
 fn expect_match(rt: &impl Abort, alloc: Global, row: Match<'_>) -> Result<(), Fail> {
     let (pattern, name, found, asked, unfinished) = row;
+    let (engines, asks) = (Cell::new(0), Cell::new(0));
+    let counting = Counting {
+        maker: Equality,
+        made: &engines,
+        asked: &asks,
+    };
     let mut meter = Meter::new();
-    let compiled = compile_pattern(&Equality, alloc, pattern, &mut meter).map_err(plain_error)?;
-    assert_eq!(rt; meter.made(), asked, "{pattern}");
+    let compiled = compile_pattern(&counting, alloc, pattern, &mut meter).map_err(plain_error)?;
+    assert_eq!(rt; (meter.made(), engines.get()), (asked, asked), "{pattern}");
     let mut ctx = ValidationContext::new(true);
     assert_eq!(rt;
         compiled.is_match_in(name, &mut ctx),
         found,
         "{pattern} {name}"
     );
-    assert_eq!(rt; ctx.meter().asked(), asked, "{pattern}");
+    assert_eq!(rt;
+        (ctx.meter().asked(), asks.get()),
+        (asked, asked),
+        "{pattern}"
+    );
     assert_eq!(rt; ctx.meter().unfinished(), unfinished, "{pattern}");
     assert!(rt; ctx.answer());
     Ok(())
