@@ -38,18 +38,33 @@ fn sorted(alloc: Global, errors: &[ValidationError<'_>]) -> Result<Vec<String>, 
     Ok(lines)
 }
 
-// The line of an error, and what each branch finds in brackets.
+// What each branch finds, in brackets.
+fn push_branches(
+    alloc: Global,
+    text: &mut String,
+    context: &[Vec<ValidationError<'_>>],
+) -> Result<(), AllocError> {
+    for branch in context {
+        text.push_str(" {")?;
+        for line in &sorted(alloc, branch)? {
+            text.push_str(line.as_str())?;
+            text.push_str(";")?;
+        }
+        text.push_str("}")?;
+    }
+    Ok(())
+}
+
+// The line of an error, and what each branch finds.
 fn with_context(alloc: Global, error: &ValidationError<'_>) -> Result<String, AllocError> {
     let mut text = line(alloc, error)?;
-    if let ValidationErrorKind::AnyOf { context } = error.kind() {
-        for branch in context {
-            text.push_str(" {")?;
-            for line in &sorted(alloc, branch)? {
-                text.push_str(line.as_str())?;
-                text.push_str(";")?;
-            }
-            text.push_str("}")?;
+    match error.kind() {
+        ValidationErrorKind::AnyOf { context } => push_branches(alloc, &mut text, context)?,
+        ValidationErrorKind::OneOfNotValid { context } => push_branches(alloc, &mut text, context)?,
+        ValidationErrorKind::OneOfMultipleValid { context } => {
+            push_branches(alloc, &mut text, context)?;
         }
+        _ => {}
     }
     Ok(text)
 }
@@ -225,6 +240,35 @@ fn branches(rt: HostRuntime) -> Result<(), Fail> {
     ];
     for row in rows {
         expect_found(&rt, rt.alloc(), row)?;
+    }
+    Ok(())
+}
+
+// A name, a schema, an instance, and the one error with its context, or that the instance is accepted.
+const ONE_OF: &str =
+    r##"no branch, an empty context | {"oneOf":[]} | 1 | 1 is not valid under any of the schemas listed in the 'oneOf' keyword @ "", /oneOf
+two branches accept | {"oneOf":[{"type":"string"},{"maxLength":3}]} | "" | "" is valid under more than one of the schemas listed in the 'oneOf' keyword @ "", /oneOf {} {}
+the first and the last branch accept | {"oneOf":[true,{"type":"string"},true]} | 1 | 1 is valid under more than one of the schemas listed in the 'oneOf' keyword @ "", /oneOf {} {1 is not of type "string" @ "", /oneOf/1/type;} {}
+each branch has all that it finds in the context, in the order of branches | {"oneOf":[{"type":"integer"},{"required":["a","b"]}]} | {} | {} is not valid under any of the schemas listed in the 'oneOf' keyword @ "", /oneOf {{} is not of type "integer" @ "", /oneOf/0/type;} {"a" is a required property @ "", /oneOf/1/required;"b" is a required property @ "", /oneOf/1/required;}
+one branch refuses | {"oneOf":[{"type":"string"}]} | 1 | 1 is not valid under any of the schemas listed in the 'oneOf' keyword @ "", /oneOf {1 is not of type "string" @ "", /oneOf/0/type;}
+one branch accepts | {"oneOf":[{"type":"integer"}]} | 1 | accepted
+the second branch alone accepts | {"oneOf":[{"type":"string"},{"maxLength":3}]} | 5 | accepted"##;
+
+fn expect_one(rt: &impl Abort, alloc: Global, row: &str) -> Result<(), Fail> {
+    let (name, others) = row.split_once(" | ").ok_or("a row of one cell")?;
+    let (schema, others) = others.split_once(" | ").ok_or("a row of two cells")?;
+    let (instance, told) = others.split_once(" | ").ok_or("a row of three cells")?;
+    if told == "accepted" {
+        expect_found(rt, alloc, (name, schema, instance, "", &[]))
+    } else {
+        expect_found(rt, alloc, (name, schema, instance, told, &[told]))
+    }
+}
+
+#[test]
+fn exactly_one_branch(rt: HostRuntime) -> Result<(), Fail> {
+    for row in ONE_OF.lines() {
+        expect_one(&rt, rt.alloc(), row)?;
     }
     Ok(())
 }
