@@ -190,20 +190,21 @@ module _ {K R : Type 0} (o : Kit K R) where
       any_of_shape : p.shape ≡ shape.AnyOf
       any_of_shape = only_any_of p.shape (shape_named p.shape (codes "anyOf") d (stands p (codes "anyOf") d P a b h).shape)
 
-      one_of_shape : p.shape ≡ shape.OneOf
-      one_of_shape = only_one_of p.shape (shape_named p.shape (codes "oneOf") d (stands p (codes "oneOf") d P a b h).shape)
-
       pub any_of_built : (ks : List (KeywordOver K (SchemaNode K R))) → MakesMember o shape.AnyOf p.location p.nodes.items ks → (ms : Members) (Q : Path) → P // codes "anyOf" ≡ Q // codes "anyOf" → MemberIsBuilt o ms ks (codes "anyOf", d) Q a b
       any_of_built ks make = member_built p (codes "anyOf") d P a b h ks (subst (λ x. MakesMember o x p.location p.nodes.items ks) (sym any_of_shape) make)
-
-      pub one_of_built : (ks : List (KeywordOver K (SchemaNode K R))) → MakesMember o shape.OneOf p.location p.nodes.items ks → (ms : Members) (Q : Path) → P // codes "oneOf" ≡ Q // codes "oneOf" → MemberIsBuilt o ms ks (codes "oneOf", d) Q a b
-      one_of_built ks make = member_built p (codes "oneOf") d P a b h ks (subst (λ x. MakesMember o x p.location p.nodes.items ks) (sym one_of_shape) make)
 
       pub any_of_is_formed : (k : KeywordOver K (SchemaNode K R)) → IsFormOfAnyOf p.location p.nodes.items k → IsAnyOf (P // codes "anyOf") d k
       any_of_is_formed k f =
           let s = stands p (codes "anyOf") d P a b h in
           subst (λ L. IsAnyOf L d k) s.place (any_of_form p.location p.nodes.items d
           (stand_length p.nodes.items (numbered (items_of_array d)) (P // codes "anyOf") (subst (λ x. StandAt o (reads_of x) p.nodes.items d (P // codes "anyOf")) any_of_shape s.nodes) ∙ length-numbered (items_of_array d)) k f)
+
+    module _ (h : IsPart o p (codes "oneOf") d (P // codes "oneOf") a b) where
+      one_of_shape : p.shape ≡ shape.OneOf
+      one_of_shape = only_one_of p.shape (shape_named p.shape (codes "oneOf") d (stands p (codes "oneOf") d P a b h).shape)
+
+      pub one_of_built : (ks : List (KeywordOver K (SchemaNode K R))) → MakesMember o shape.OneOf p.location p.nodes.items ks → (ms : Members) (Q : Path) → P // codes "oneOf" ≡ Q // codes "oneOf" → MemberIsBuilt o ms ks (codes "oneOf", d) Q a b
+      one_of_built ks make = member_built p (codes "oneOf") d P a b h ks (subst (λ x. MakesMember o x p.location p.nodes.items ks) (sym one_of_shape) make)
 
       pub one_of_is_formed : (k : KeywordOver K (SchemaNode K R)) → IsFormOfOneOf p.location p.nodes.items k → IsOneOf (P // codes "oneOf") d k
       one_of_is_formed k f =
