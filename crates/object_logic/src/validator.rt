@@ -79,7 +79,8 @@ impl<K: Leaf, R: RegexEngine> Validator<K, R> {
     pub fn is_valid(&self, instance: &Value, ctx: &mut ValidationContext) -> bool
         ensures context { OnlyAsks ctx.old ctx.new }
         ensures verdict { (S : Data) → IsValidatorOf (kit K.Leaf R.RegexEngine) self.now S
-            → result ≡ accepts (world K.Leaf R.RegexEngine) ctx.old.answer S (view instance.now) }
+            → result
+            ≡ accepts (world K.Leaf R.RegexEngine) ctx.old.answer S (view instance.now) }
         ensures asked_to { (S : Data) → IsValidatorOf (kit K.Leaf R.RegexEngine) self.now S
             → ctx.new.meter.asked ≤ raised ctx.old.meter.asked
             (asks (world K.Leaf R.RegexEngine) ctx.old.answer S (view instance.now)) }

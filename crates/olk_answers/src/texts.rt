@@ -34,7 +34,8 @@ fn schema_refusal_value(alloc: Global, message: &str, path: &str) -> Result<Valu
 ///
 /// The only error is want of memory.
 pub fn schema_refusal_text(alloc: Global, message: &str, path: &str) -> Result<Vec<u8>, AllocError>
-    ensures { IfOk result (λ text. text.items ≡ json_text (schema_refusal message.now path.now)) }
+    ensures { IfOk result (λ text. text.items
+        ≡ json_text (schema_refusal message.now path.now)) }
 {
     let value = schema_refusal_value(alloc, message, path)?;
     compact_text(alloc, &value)

@@ -192,9 +192,11 @@ fn compile_pattern<M: MakeRegex>(
     ensures builds { IfOk result
         (λ p. pattern_builds (matcher M.Engine.builds M.Engine.says) pattern.now ≡ true) }
     ensures refused { IfErr result
-        (λ e. IsRefused e → pattern_builds (matcher M.Engine.builds M.Engine.says) pattern.now ≡ false) }
+        (λ e. IsRefused e
+        → pattern_builds (matcher M.Engine.builds M.Engine.says) pattern.now ≡ false) }
     ensures counts { IfOk result
-        (λ p. meter.new ≡ (if is_none (literal pattern.now) then count_made meter.old else meter.old)) }
+        (λ p. meter.new
+        ≡ (if is_none (literal pattern.now) then count_made meter.old else meter.old)) }
 {
     match analyze_pattern(alloc, pattern)? {
         Some(PatternOptimization::Prefix(text)) => Ok(CompiledPattern::Prefix(text)),

@@ -170,7 +170,8 @@ fn descend(text: &mut String, segment: &str) -> Result<Mark, AllocError>
         (string_bytes text.new ≡ one_below (string_bytes text.old) segment.now) }
     ensures mark { IfOk result (λ m. m.len ≡ length (string_bytes text.old)) }
     ensures last_slash { IfOk result (λ m. HasLastSlash (string_bytes text.new) m.len) }
-    ensures back { IfOk result (λ m. take m.len (string_bytes text.new) ≡ string_bytes text.old) }
+    ensures back { IfOk result (λ m. take m.len (string_bytes text.new)
+        ≡ string_bytes text.old) }
     ensures refused { OnErr result (string_bytes text.new ≡ string_bytes text.old) }
 {
     let len = text.len();
