@@ -11,7 +11,7 @@ pub use olk_base::{
     PatternOptimization, PropertyName, PropertyPattern, RegexEngine, Unfinished, ValidationContext,
     analyze_pattern, contains_ecma_whitespace,
 };
-pub use olk_build::{Context, all_of, any_of, compile, not, one_of, properties, required};
+pub use olk_build::{Context, all_of, any_of, compile, if_, not, one_of, properties, required};
 pub use olk_check::IsValid;
 pub use olk_errors::Errors;
 pub use olk_evaluate::{Evaluate, Located};

@@ -312,26 +312,30 @@ mutual
 
 -- ---- what `validate` keeps of a fault
 
-cut_kind_prints : (k : Kind) (v : Data) → kind_prints_fraction (cut_kind k) v ≡ kind_prints_fraction k v
-cut_kind_prints (AdditionalProperties []) v = refl
-cut_kind_prints (AdditionalProperties (n ∷ ns)) v = refl
-cut_kind_prints (AnyOf c) v = refl
-cut_kind_prints (OneOfNotValid c) v = refl
-cut_kind_prints (OneOfMultipleValid c) v = refl
-cut_kind_prints (Not d) v = refl
-cut_kind_prints (Required n) v = refl
-cut_kind_prints FalseSchema v = refl
-cut_kind_prints (PropertyNames f) v = refl
-cut_kind_prints (Leaf k t) v = refl
-cut_kind_prints (SingleType t) v = refl
-cut_kind_prints MultipleTypes v = refl
-cut_kind_prints UniqueItems v = refl
-cut_kind_prints Regex v = refl
-cut_kind_prints (Unsupported k) v = refl
-cut_kind_prints (LeafRefused k) v = refl
+mutual
+  cut_kind_prints : (k : Kind) (v : Data) → kind_prints_fraction (cut_kind k) v ≡ kind_prints_fraction k v
+  cut_kind_prints (AdditionalProperties []) v = refl
+  cut_kind_prints (AdditionalProperties (n ∷ ns)) v = refl
+  cut_kind_prints (AnyOf c) v = refl
+  cut_kind_prints (OneOfNotValid c) v = refl
+  cut_kind_prints (OneOfMultipleValid c) v = refl
+  cut_kind_prints (Not d) v = refl
+  cut_kind_prints (Required n) v = refl
+  cut_kind_prints FalseSchema v = refl
+  cut_kind_prints (PropertyNames f) v = cut_fault_prints f
+  cut_kind_prints (Leaf k t) v = refl
+  cut_kind_prints (SingleType t) v = refl
+  cut_kind_prints MultipleTypes v = refl
+  cut_kind_prints UniqueItems v = refl
+  cut_kind_prints Regex v = refl
+  cut_kind_prints (Unsupported k) v = refl
+  cut_kind_prints (LeafRefused k) v = refl
+
+  cut_fault_prints : (f : Fault) → prints_fraction (cut f) ≡ prints_fraction f
+  cut_fault_prints (fault k v Q P) = cut_kind_prints k v
 
 pub cut_prints : (f : Fault) → PrintsNone f → PrintsNone (cut f)
-cut_prints (fault k v Q P) h = cut_kind_prints k v ∙ h
+cut_prints f h = cut_fault_prints f ∙ h
 
 each_contained : (fs : List Fault) → Each PrintsNone fs → (f : Fault) → Contains fs f → PrintsNone f
 each_contained fs h f c = All-contains PrintsNone fs f (All-from_recursion PrintsNone fs (by_recursion fs h)) c

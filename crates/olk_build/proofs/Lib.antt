@@ -1,3 +1,4 @@
 pub mod Built
 mod Parts
 mod Modules
+pub mod Conditions

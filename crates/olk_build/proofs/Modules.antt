@@ -11,7 +11,7 @@ use Rattle.serde_json.specs.Data.{Data, Members, no_members}
 use Rattle.serde_json.specs.View.{view}
 use Rattle.serde_json.specs.declared.value.Value.{Value}
 use Rattle.olk_spec.specs.Names.{Name, Path, ◌//◌, lookup}
-use Rattle.olk_spec.specs.Vocabulary.{Keyword, properties, required, all_of, any_of, one_of, not_keyword, leaf, unread, keyword_named}
+use Rattle.olk_spec.specs.Vocabulary.{Keyword, properties, required, all_of, any_of, one_of, not_keyword, if_keyword, then_keyword, else_keyword, leaf, unread, keyword_named}
 use Rattle.olk_spec.specs.Schemas.{listed, numbered}
 use Rattle.olk_spec.specs.Malformed.{has_repeat, items_of_array}
 use Rattle.olk_base.specs.Count.{Counts}
@@ -21,6 +21,7 @@ use Rattle.olk_base.specs.Kit.{Kit}
 use Rattle.olk_node.specs.declared.node.SchemaNode.{SchemaNode}
 use Rattle.olk_tree.specs.declared.node.KeywordOver.{KeywordOver}
 use Rattle.olk_tree.specs.declared.node.KeywordOver.TheVariants as keyword
+use Rattle.olk_members.specs.Conditions.{is_condition, is_conditional_name, IsKnown}
 use Rattle.olk_members.specs.Plans.{Planned, plan_of, head, claims}
 use Rattle.olk_make.specs.Forms.{IsFormOfAllOf, IsFormOfAnyOf, IsFormOfOneOf, IsAllOf, IsAnyOf, IsOneOf, IsNot, IsRequired, IsProperties}
 use Rattle.olk_make.specs.Holding.{StandEach}
@@ -103,18 +104,26 @@ module _ {K R : Type 0} (o : Kit K R) where
   which_of shape.AnyOf = any_of
   which_of shape.OneOf = one_of
   which_of (shape.Not v) = not_keyword
+  which_of shape.If = if_keyword
+  which_of shape.Then = then_keyword
+  which_of shape.Else = else_keyword
+  which_of shape.Unpaired = unread
   which_of (shape.Leaf l) = leaf
   which_of shape.Unread = unread
 
-  shape_named : (x : Shape K) (k : Name) (d : Data) → IsShape o k d x → keyword_named o.world k ≡ which_of x
-  shape_named (shape.Properties n) k d s = ap (keyword_named o.world) s.0
-  shape_named (shape.Required v) k d s = ap (keyword_named o.world) s.0
-  shape_named shape.AllOf k d s = ap (keyword_named o.world) s.0
-  shape_named shape.AnyOf k d s = ap (keyword_named o.world) s.0
-  shape_named shape.OneOf k d s = ap (keyword_named o.world) s.0
-  shape_named (shape.Not v) k d s = ap (keyword_named o.world) s.0
-  shape_named (shape.Leaf l) k d s = s.0
-  shape_named shape.Unread k d s = s
+  shape_named : (x : Shape K) (k : Name) (d : Data) → IsShape o k d x → is_conditional_name k ≡ false → keyword_named o.world k ≡ which_of x
+  shape_named (shape.Properties n) k d s other = ap (keyword_named o.world) s.0
+  shape_named (shape.Required v) k d s other = ap (keyword_named o.world) s.0
+  shape_named shape.AllOf k d s other = ap (keyword_named o.world) s.0
+  shape_named shape.AnyOf k d s other = ap (keyword_named o.world) s.0
+  shape_named shape.OneOf k d s other = ap (keyword_named o.world) s.0
+  shape_named (shape.Not v) k d s other = ap (keyword_named o.world) s.0
+  shape_named shape.If k d s other = ap (keyword_named o.world) s
+  shape_named shape.Then k d s other = ap (keyword_named o.world) s
+  shape_named shape.Else k d s other = ap (keyword_named o.world) s
+  shape_named shape.Unpaired k d s other = absurd (true≢false (sym s ∙ other))
+  shape_named (shape.Leaf l) k d s other = s.0
+  shape_named shape.Unread k d s other = s
 
   only_all_of : (x : Shape K) → all_of ≡ which_of x → x ≡ shape.AllOf
   only_all_of shape.AllOf e = refl
@@ -142,13 +151,16 @@ module _ {K R : Type 0} (o : Kit K R) where
 
   -- ---- a part at its name, below P
 
-  module _ (p : Part K (SchemaNode K R)) (k : Name) (d : Data) (P : Path) (a b : Counts) (h : IsPart o p k d (P // k) a b) where
-    stands : PartStands o p (k, d) P
-    stands = (h no_members P refl).stand.0
+  module _ (p : Part K (SchemaNode K R)) (c : Bool) (k : Name) (d : Data) (P : Path) (a b : Counts) (h : IsPart o p c k d (P // k) a b) (other : is_conditional_name k ≡ false) where
+    known : (ms : Members) → IsKnown c ms k
+    known ms e = absurd (true≢false (sym e ∙ other))
+
+    stands : PartStands o (is_condition no_members) p (k, d) P
+    stands = (h no_members P refl (known no_members)).stand.0
 
     member_built : (ks : List (KeywordOver K (SchemaNode K R))) → MakesMember o p.shape p.location p.nodes.items ks → (ms : Members) (Q : Path) → P // k ≡ Q // k → MemberIsBuilt o ms ks (k, d) Q a b
     member_built ks make ms Q e =
-        let built = h ms Q e in
+        let built = h ms Q e (known ms) in
         let s = built.stand.0 in
         record {
           means = make ms (k, d) Q s.place s.shape (subst (StandAt o (reads_of p.shape) p.nodes.items d) (sym s.place) s.nodes);
@@ -158,7 +170,7 @@ module _ {K R : Type 0} (o : Kit K R) where
 
     claims_built : (ks : List (KeywordOver K (SchemaNode K R))) (q : Planned) → MakesClaims o p.shape p.location p.nodes.items P q ks → (ms : Members) → has_repeat (map (λ m. m.0) (listed ms)) ≡ false → q ≡ plan_of ms → lookup k (listed ms) ≡ Some d → ClaimsAreBuilt o ms ks (k, d) P a b
     claims_built ks q make ms distinct chosen there =
-        let built = h ms P refl in
+        let built = h ms P refl (known ms) in
         let s = built.stand.0 in
         record {
           means = subst (λ r. KeywordsMean o ms ks (claims (head r) (listed ms) (k, d)) ((k, d) ∷ []) P) chosen (make ms (k, d) s.place s.shape (subst (StandAt o (reads_of p.shape) p.nodes.items d) (sym s.place) s.nodes) distinct there chosen);
@@ -168,72 +180,72 @@ module _ {K R : Type 0} (o : Kit K R) where
 
     -- what is built is lost for want of memory
     memory_after : (e : BuildError) (m : AllocError) → e ≡ Memory m → RefusesMember o k d (P // k) a b e
-    memory_after e m q ms Q f = refuses_memory _ _ a b e m q (within_exactly a b _ (spends_same a b _ _ (sum_last _) (h ms Q f).spends))
+    memory_after e m q ms Q f = refuses_memory _ _ a b e m q (within_exactly a b _ (spends_same a b _ _ (sum_last _) (h ms Q f (known ms)).spends))
 
   -- ---- keyword by keyword
 
-  module _ (p : Part K (SchemaNode K R)) (d : Data) (P : Path) (a b : Counts) where
-    module _ (h : IsPart o p (codes "allOf") d (P // codes "allOf") a b) where
+  module _ (p : Part K (SchemaNode K R)) (c : Bool) (d : Data) (P : Path) (a b : Counts) where
+    module _ (h : IsPart o p c (codes "allOf") d (P // codes "allOf") a b) where
       all_of_shape : p.shape ≡ shape.AllOf
-      all_of_shape = only_all_of p.shape (shape_named p.shape (codes "allOf") d (stands p (codes "allOf") d P a b h).shape)
+      all_of_shape = only_all_of p.shape (shape_named p.shape (codes "allOf") d (stands p c (codes "allOf") d P a b h refl).shape refl)
 
       pub all_of_built : (ks : List (KeywordOver K (SchemaNode K R))) → MakesMember o shape.AllOf p.location p.nodes.items ks → (ms : Members) (Q : Path) → P // codes "allOf" ≡ Q // codes "allOf" → MemberIsBuilt o ms ks (codes "allOf", d) Q a b
-      all_of_built ks make = member_built p (codes "allOf") d P a b h ks (subst (λ x. MakesMember o x p.location p.nodes.items ks) (sym all_of_shape) make)
+      all_of_built ks make = member_built p c (codes "allOf") d P a b h refl ks (subst (λ x. MakesMember o x p.location p.nodes.items ks) (sym all_of_shape) make)
 
       pub all_of_is_formed : (k : KeywordOver K (SchemaNode K R)) → IsFormOfAllOf p.location p.nodes.items k → IsAllOf (P // codes "allOf") d k
       all_of_is_formed k f =
-          let s = stands p (codes "allOf") d P a b h in
+          let s = stands p c (codes "allOf") d P a b h refl in
           subst (λ L. IsAllOf L d k) s.place (all_of_form p.location p.nodes.items d
           (stand_length p.nodes.items (numbered (items_of_array d)) (P // codes "allOf") (subst (λ x. StandAt o (reads_of x) p.nodes.items d (P // codes "allOf")) all_of_shape s.nodes) ∙ length-numbered (items_of_array d)) k f)
 
-    module _ (h : IsPart o p (codes "anyOf") d (P // codes "anyOf") a b) where
+    module _ (h : IsPart o p c (codes "anyOf") d (P // codes "anyOf") a b) where
       any_of_shape : p.shape ≡ shape.AnyOf
-      any_of_shape = only_any_of p.shape (shape_named p.shape (codes "anyOf") d (stands p (codes "anyOf") d P a b h).shape)
+      any_of_shape = only_any_of p.shape (shape_named p.shape (codes "anyOf") d (stands p c (codes "anyOf") d P a b h refl).shape refl)
 
       pub any_of_built : (ks : List (KeywordOver K (SchemaNode K R))) → MakesMember o shape.AnyOf p.location p.nodes.items ks → (ms : Members) (Q : Path) → P // codes "anyOf" ≡ Q // codes "anyOf" → MemberIsBuilt o ms ks (codes "anyOf", d) Q a b
-      any_of_built ks make = member_built p (codes "anyOf") d P a b h ks (subst (λ x. MakesMember o x p.location p.nodes.items ks) (sym any_of_shape) make)
+      any_of_built ks make = member_built p c (codes "anyOf") d P a b h refl ks (subst (λ x. MakesMember o x p.location p.nodes.items ks) (sym any_of_shape) make)
 
       pub any_of_is_formed : (k : KeywordOver K (SchemaNode K R)) → IsFormOfAnyOf p.location p.nodes.items k → IsAnyOf (P // codes "anyOf") d k
       any_of_is_formed k f =
-          let s = stands p (codes "anyOf") d P a b h in
+          let s = stands p c (codes "anyOf") d P a b h refl in
           subst (λ L. IsAnyOf L d k) s.place (any_of_form p.location p.nodes.items d
           (stand_length p.nodes.items (numbered (items_of_array d)) (P // codes "anyOf") (subst (λ x. StandAt o (reads_of x) p.nodes.items d (P // codes "anyOf")) any_of_shape s.nodes) ∙ length-numbered (items_of_array d)) k f)
 
-    module _ (h : IsPart o p (codes "oneOf") d (P // codes "oneOf") a b) where
+    module _ (h : IsPart o p c (codes "oneOf") d (P // codes "oneOf") a b) where
       one_of_shape : p.shape ≡ shape.OneOf
-      one_of_shape = only_one_of p.shape (shape_named p.shape (codes "oneOf") d (stands p (codes "oneOf") d P a b h).shape)
+      one_of_shape = only_one_of p.shape (shape_named p.shape (codes "oneOf") d (stands p c (codes "oneOf") d P a b h refl).shape refl)
 
       pub one_of_built : (ks : List (KeywordOver K (SchemaNode K R))) → MakesMember o shape.OneOf p.location p.nodes.items ks → (ms : Members) (Q : Path) → P // codes "oneOf" ≡ Q // codes "oneOf" → MemberIsBuilt o ms ks (codes "oneOf", d) Q a b
-      one_of_built ks make = member_built p (codes "oneOf") d P a b h ks (subst (λ x. MakesMember o x p.location p.nodes.items ks) (sym one_of_shape) make)
+      one_of_built ks make = member_built p c (codes "oneOf") d P a b h refl ks (subst (λ x. MakesMember o x p.location p.nodes.items ks) (sym one_of_shape) make)
 
       pub one_of_is_formed : (k : KeywordOver K (SchemaNode K R)) → IsFormOfOneOf p.location p.nodes.items k → IsOneOf (P // codes "oneOf") d k
       one_of_is_formed k f =
-          let s = stands p (codes "oneOf") d P a b h in
+          let s = stands p c (codes "oneOf") d P a b h refl in
           subst (λ L. IsOneOf L d k) s.place (one_of_form p.location p.nodes.items d
           (stand_length p.nodes.items (numbered (items_of_array d)) (P // codes "oneOf") (subst (λ x. StandAt o (reads_of x) p.nodes.items d (P // codes "oneOf")) one_of_shape s.nodes) ∙ length-numbered (items_of_array d)) k f)
 
-    module _ (h : IsPart o p (codes "not") d (P // codes "not") a b) where
+    module _ (h : IsPart o p c (codes "not") d (P // codes "not") a b) where
       not_shape : (v : Value) × (p.shape ≡ shape.Not v)
-      not_shape = only_not p.shape (shape_named p.shape (codes "not") d (stands p (codes "not") d P a b h).shape)
+      not_shape = only_not p.shape (shape_named p.shape (codes "not") d (stands p c (codes "not") d P a b h refl).shape refl)
 
       pub no_other_not : ((v : Value) → p.shape ≡ shape.Not v → ⊥) → ⊥
       no_other_not f = f not_shape.0 not_shape.1
 
       module _ (v : Value) (q : p.shape ≡ shape.Not v) where
         pub not_without_node : p.nodes.items ≡ [] → ⊥
-        not_without_node e = subst (λ ns. StandAt o Itself ns d (P // codes "not")) e (subst (λ x. StandAt o (reads_of x) p.nodes.items d (P // codes "not")) q (stands p (codes "not") d P a b h).nodes)
+        not_without_node e = subst (λ ns. StandAt o Itself ns d (P // codes "not")) e (subst (λ x. StandAt o (reads_of x) p.nodes.items d (P // codes "not")) q (stands p c (codes "not") d P a b h refl).nodes)
 
         pub not_built : (ks : List (KeywordOver K (SchemaNode K R))) → MakesMember o (shape.Not v) p.location p.nodes.items ks → (ms : Members) (Q : Path) → P // codes "not" ≡ Q // codes "not" → MemberIsBuilt o ms ks (codes "not", d) Q a b
-        not_built ks make = member_built p (codes "not") d P a b h ks (subst (λ x. MakesMember o x p.location p.nodes.items ks) (sym q) make)
+        not_built ks make = member_built p c (codes "not") d P a b h refl ks (subst (λ x. MakesMember o x p.location p.nodes.items ks) (sym q) make)
 
         pub not_is_formed : (k : KeywordOver K (SchemaNode K R)) → IsNot p.location (view v) k → IsNot (P // codes "not") d k
         not_is_formed k f =
-            let s = stands p (codes "not") d P a b h in
+            let s = stands p c (codes "not") d P a b h refl in
             subst₂ (λ L x. IsNot L x k) s.place (subst (IsShape o (codes "not") d) q s.shape).1 f
 
-    module _ (h : IsPart o p (codes "required") d (P // codes "required") a b) where
+    module _ (h : IsPart o p c (codes "required") d (P // codes "required") a b) where
       required_shape : (v : Vec (String Global) Global) × (p.shape ≡ shape.Required v)
-      required_shape = only_required p.shape (shape_named p.shape (codes "required") d (stands p (codes "required") d P a b h).shape)
+      required_shape = only_required p.shape (shape_named p.shape (codes "required") d (stands p c (codes "required") d P a b h refl).shape refl)
 
       pub no_other_required : ((v : Vec (String Global) Global) → p.shape ≡ shape.Required v → ⊥) → ⊥
       no_other_required f = f required_shape.0 required_shape.1
@@ -243,24 +255,24 @@ module _ {K R : Type 0} (o : Kit K R) where
         required_keyword = keyword.Required (record { required = v; location = p.location })
 
         pub required_built : (ms : Members) (Q : Path) → P // codes "required" ≡ Q // codes "required" → MemberIsBuilt o ms (required_keyword ∷ []) (codes "required", d) Q a b
-        required_built = member_built p (codes "required") d P a b h (required_keyword ∷ []) (subst (λ x. MakesMember o x p.location p.nodes.items (required_keyword ∷ [])) (sym q) (makes_required o v p.location p.nodes.items))
+        required_built = member_built p c (codes "required") d P a b h refl (required_keyword ∷ []) (subst (λ x. MakesMember o x p.location p.nodes.items (required_keyword ∷ [])) (sym q) (makes_required o v p.location p.nodes.items))
 
         pub required_is_formed : IsRequired (P // codes "required") d required_keyword
-        required_is_formed = let s = stands p (codes "required") d P a b h in ((subst (IsShape o (codes "required") d) q s.shape).2, s.place)
+        required_is_formed = let s = stands p c (codes "required") d P a b h refl in ((subst (IsShape o (codes "required") d) q s.shape).2, s.place)
 
-    module _ (h : IsPart o p (codes "properties") d (P // codes "properties") a b) where
+    module _ (h : IsPart o p c (codes "properties") d (P // codes "properties") a b) where
       properties_shape : (n : List Name) × (p.shape ≡ shape.Properties n)
-      properties_shape = only_properties p.shape (shape_named p.shape (codes "properties") d (stands p (codes "properties") d P a b h).shape)
+      properties_shape = only_properties p.shape (shape_named p.shape (codes "properties") d (stands p c (codes "properties") d P a b h refl).shape refl)
 
       pub no_other_properties : ((n : List Name) → p.shape ≡ shape.Properties n → ⊥) → ⊥
       no_other_properties f = f properties_shape.0 properties_shape.1
 
       pub properties_memory : (e : BuildError) (m : AllocError) → e ≡ Memory m → RefusesMember o (codes "properties") d (P // codes "properties") a b e
-      properties_memory = memory_after p (codes "properties") d P a b h
+      properties_memory = memory_after p c (codes "properties") d P a b h refl
 
       module _ (n : List Name) (q : p.shape ≡ shape.Properties n) (ms : Members) (r : Planned) (chosen : r ≡ plan_of ms) where
         pub properties_built : (ks : List (KeywordOver K (SchemaNode K R))) → MakesClaims o (shape.Properties n) p.location p.nodes.items P r ks → has_repeat (map (λ m. m.0) (listed ms)) ≡ false → lookup (codes "properties") (listed ms) ≡ Some d → ClaimsAreBuilt o ms ks (codes "properties", d) P a b
-        properties_built ks make distinct there = claims_built p (codes "properties") d P a b h ks r (subst (λ x. MakesClaims o x p.location p.nodes.items P r ks) (sym q) make) ms distinct chosen there
+        properties_built ks make distinct there = claims_built p c (codes "properties") d P a b h refl ks r (subst (λ x. MakesClaims o x p.location p.nodes.items P r ks) (sym q) make) ms distinct chosen there
 
         pub properties_is_formed : (k : KeywordOver K (SchemaNode K R)) → IsProperties P p.location r.fused k → IsProperties P (P // codes "properties") (plan_of ms).fused k
-        properties_is_formed k f = subst₂ (λ L t. IsProperties P L t k) (stands p (codes "properties") d P a b h).place (ap (λ x. x.fused) chosen) f
+        properties_is_formed k f = subst₂ (λ L t. IsProperties P L t k) (stands p c (codes "properties") d P a b h refl).place (ap (λ x. x.fused) chosen) f

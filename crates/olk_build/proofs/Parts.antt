@@ -1,9 +1,10 @@
 -- The parts of a schema object: each is built, or why there is none.
-use Rattle.std.specs.Prelude.{◌≡◌, List, [], ◌∷◌, ◌++◌, map, codes}
+use Rattle.std.specs.Prelude.{◌≡◌, Bool, true, false, List, [], ◌∷◌, ◌++◌, map, codes}
 use Rattle.std.specs.List.{flat_map}
 use Rattle.std.specs.Prelude.{Vec}
 use Rattle.std.specs.declared.alloc.Global.{Global}
-use Rattle.std.proofs.Common.{refl, sym, ◌∙◌, ap, subst}
+use Rattle.std.proofs.Common.{refl, sym, ◌∙◌, ap, subst, ◌⊎◌, inl, inr}
+use mathlib.Core.Bool.{true≢false}
 use Rattle.std.proofs.lemmas.List.{append-nil}
 use Rattle.std.proofs.lemmas.Grind.{flat_map-append}
 use mathlib.Core.Path.{subst₂}
@@ -12,7 +13,7 @@ use Rattle.olk_spec.specs.Names.{Name, Path, ◌//◌, down}
 use Rattle.olk_spec.specs.Vocabulary.{Keyword, pattern_properties, keyword_named}
 use Rattle.olk_spec.specs.Faults.{Fault}
 use Rattle.olk_spec.specs.Schemas.{Schema, read, read_members, members, numbered, branches}
-use Rattle.olk_spec.specs.Malformed.{pending, each, read_places, malformations_beside, malformations_step, items_of_array}
+use Rattle.olk_spec.specs.Malformed.{pending, each, itself, places_where, read_places, malformations_beside, malformations_step, items_of_array}
 use Rattle.olk_spec.specs.Costs.{Cost, cost, cost_step, no_cost, own_cost, total_cost}
 use Rattle.olk_spec.proofs.Reading.{entry, place, entries_read, branches_read}
 use Rattle.olk_base.specs.Count.{Counts}
@@ -22,8 +23,10 @@ use Rattle.std.specs.declared.alloc.AllocError.{AllocError}
 use Rattle.olk_base.specs.Kit.{Kit}
 use Rattle.olk_members.specs.Members.{malformations_at, member_malformations, member_cost}
 use Rattle.olk_read.specs.Refusing.{Spends, SpendsWithin, Refuses}
-use Rattle.olk_build.specs.Building.{RefusesMember, each_malformed, each_cost, all_cost}
-use Rattle.olk_read.specs.Reading.{reads_of, own_faults, own_cost_of, IsShape, IsRead}
+use Rattle.olk_build.specs.Building.{RefusesMember, RefusesPart, each_malformed, each_cost, all_cost}
+use Rattle.olk_read.specs.Reading.{reads_of, own_faults, own_cost_of, IsShape, Fits, IsRead}
+use Rattle.olk_members.specs.Conditions.{is_condition, is_conditional_name, IsKnown}
+use Rattle.olk_members.proofs.Conditions.{conditional_named, places_by_condition}
 use Rattle.olk_build.specs.Placing.{places_malformed, places_cost, PlacesAreBuilt, PartsAreBuilt, IsPart}
 use Rattle.olk_make.specs.Standing.{StandAt, PartStands, PartsStand}
 use Rattle.olk_node.specs.declared.node.SchemaNode.{SchemaNode}
@@ -47,35 +50,52 @@ module _ {K R : Type 0} (o : Kit K R) where
     abbrev summed : Name → Keyword → Cost
     summed k w = total_cost (λ r. r.0.answer) (read_places k (read_members (cost_step o.world) ms) (read (cost_step o.world) d) w)
 
-    places_found : (k : Name) (P : Path) (x : Shape K) → IsShape o k d x → found k P (keyword_named o.world k) ≡ places_malformed o (reads_of x) d (P // k)
+    -- `if`, `then` and `else` where they are read
+    read_here_found : (k : Name) (P : Path) (c : Bool) → c ≡ true → IsKnown c ms k → is_conditional_name k ≡ true → found k P (keyword_named o.world k) ≡ malformations_at o.world d (P // k)
     unfolding malformations_beside
-    places_found k P (shape.Properties n) s = subst (λ n. found n P (keyword_named o.world n) ≡ each_malformed o (P // n) (members d)) (sym s.0)
-        (ap (λ es. flat_map (λ r. r.0.answer (down P r.1)) (each (codes "properties") es)) (entries_read (malformations_step o.world pending) d) ∙ each_malformations o.world (codes "properties") P (members d))
-    places_found k P (shape.Required v) s = subst (λ n. found n P (keyword_named o.world n) ≡ []) (sym s.0) refl
-    places_found k P shape.AllOf s = subst (λ n. found n P (keyword_named o.world n) ≡ each_malformed o (P // n) (numbered (items_of_array d))) (sym s.0)
-        (ap (λ es. flat_map (λ r. r.0.answer (down P r.1)) (each (codes "allOf") es)) (branch_entries (malformations_step o.world pending) d) ∙ each_malformations o.world (codes "allOf") P (numbered (items_of_array d)))
-    places_found k P shape.AnyOf s = subst (λ n. found n P (keyword_named o.world n) ≡ each_malformed o (P // n) (numbered (items_of_array d))) (sym s.0)
-        (ap (λ es. flat_map (λ r. r.0.answer (down P r.1)) (each (codes "anyOf") es)) (branch_entries (malformations_step o.world pending) d) ∙ each_malformations o.world (codes "anyOf") P (numbered (items_of_array d)))
-    places_found k P shape.OneOf s = subst (λ n. found n P (keyword_named o.world n) ≡ each_malformed o (P // n) (numbered (items_of_array d))) (sym s.0)
-        (ap (λ es. flat_map (λ r. r.0.answer (down P r.1)) (each (codes "oneOf") es)) (branch_entries (malformations_step o.world pending) d) ∙ each_malformations o.world (codes "oneOf") P (numbered (items_of_array d)))
-    places_found k P (shape.Not v) s = subst (λ n. found n P (keyword_named o.world n) ≡ malformations_at o.world d (P // n)) (sym s.0) (append-nil _)
-    places_found k P (shape.Leaf l) s = ap (found k P) s.0
-    places_found k P shape.Unread s = ap (found k P) s
+    read_here_found k P c f h e = ap (flat_map (λ r. r.0.answer (down P r.1))) (places_by_condition (malformations_step o.world pending) ms o.world k d c h e) ∙ ap (λ b. flat_map (λ r. r.0.answer (down P r.1)) (places_where k b (itself k (read (malformations_step o.world pending) d).whole))) f ∙ append-nil _
 
-    places_summed : (k : Name) (x : Shape K) → IsShape o k d x → summed k (keyword_named o.world k) ≡ places_cost o (reads_of x) d
+    places_found : (k : Name) (P : Path) (x : Shape K) → IsShape o k d x → (c : Bool) → Fits c x → IsKnown c ms k → found k P (keyword_named o.world k) ≡ places_malformed o (reads_of x) d (P // k)
+    unfolding malformations_beside
+    places_found k P (shape.Properties n) s c f h = subst (λ n. found n P (keyword_named o.world n) ≡ each_malformed o (P // n) (members d)) (sym s.0)
+        (ap (λ es. flat_map (λ r. r.0.answer (down P r.1)) (each (codes "properties") es)) (entries_read (malformations_step o.world pending) d) ∙ each_malformations o.world (codes "properties") P (members d))
+    places_found k P (shape.Required v) s c f h = subst (λ n. found n P (keyword_named o.world n) ≡ []) (sym s.0) refl
+    places_found k P shape.AllOf s c f h = subst (λ n. found n P (keyword_named o.world n) ≡ each_malformed o (P // n) (numbered (items_of_array d))) (sym s.0)
+        (ap (λ es. flat_map (λ r. r.0.answer (down P r.1)) (each (codes "allOf") es)) (branch_entries (malformations_step o.world pending) d) ∙ each_malformations o.world (codes "allOf") P (numbered (items_of_array d)))
+    places_found k P shape.AnyOf s c f h = subst (λ n. found n P (keyword_named o.world n) ≡ each_malformed o (P // n) (numbered (items_of_array d))) (sym s.0)
+        (ap (λ es. flat_map (λ r. r.0.answer (down P r.1)) (each (codes "anyOf") es)) (branch_entries (malformations_step o.world pending) d) ∙ each_malformations o.world (codes "anyOf") P (numbered (items_of_array d)))
+    places_found k P shape.OneOf s c f h = subst (λ n. found n P (keyword_named o.world n) ≡ each_malformed o (P // n) (numbered (items_of_array d))) (sym s.0)
+        (ap (λ es. flat_map (λ r. r.0.answer (down P r.1)) (each (codes "oneOf") es)) (branch_entries (malformations_step o.world pending) d) ∙ each_malformations o.world (codes "oneOf") P (numbered (items_of_array d)))
+    places_found k P (shape.Not v) s c f h = subst (λ n. found n P (keyword_named o.world n) ≡ malformations_at o.world d (P // n)) (sym s.0) (append-nil _)
+    places_found k P shape.If s c f h = read_here_found k P c f h (ap is_conditional_name s)
+    places_found k P shape.Then s c f h = read_here_found k P c f h (ap is_conditional_name s)
+    places_found k P shape.Else s c f h = read_here_found k P c f h (ap is_conditional_name s)
+    places_found k P shape.Unpaired s c f h = ap (flat_map (λ r. r.0.answer (down P r.1))) (places_by_condition (malformations_step o.world pending) ms o.world k d c h s) ∙ ap (λ b. flat_map (λ r. r.0.answer (down P r.1)) (places_where k b (itself k (read (malformations_step o.world pending) d).whole))) f
+    places_found k P (shape.Leaf l) s c f h = ap (found k P) s.0
+    places_found k P shape.Unread s c f h = ap (found k P) s
+
+    read_here_summed : (k : Name) (c : Bool) → c ≡ true → IsKnown c ms k → is_conditional_name k ≡ true → summed k (keyword_named o.world k) ≡ cost o.world d
     unfolding cost
-    places_summed k (shape.Properties n) s = subst (λ n. summed n (keyword_named o.world n) ≡ each_cost o (members d)) (sym s.0)
+    read_here_summed k c f h e = ap (total_cost (λ r. r.0.answer)) (places_by_condition (cost_step o.world) ms o.world k d c h e) ∙ ap (λ b. total_cost (λ r. r.0.answer) (places_where k b (itself k (read (cost_step o.world) d).whole))) f ∙ sum_last _
+
+    places_summed : (k : Name) (x : Shape K) → IsShape o k d x → (c : Bool) → Fits c x → IsKnown c ms k → summed k (keyword_named o.world k) ≡ places_cost o (reads_of x) d
+    unfolding cost
+    places_summed k (shape.Properties n) s c f h = subst (λ n. summed n (keyword_named o.world n) ≡ each_cost o (members d)) (sym s.0)
         (ap (λ es. total_cost (λ r. r.0.answer) (each (codes "properties") es)) (entries_read (cost_step o.world) d) ∙ each_costs o.world (codes "properties") (members d))
-    places_summed k (shape.Required v) s = subst (λ n. summed n (keyword_named o.world n) ≡ no_cost) (sym s.0) refl
-    places_summed k shape.AllOf s = subst (λ n. summed n (keyword_named o.world n) ≡ each_cost o (numbered (items_of_array d))) (sym s.0)
+    places_summed k (shape.Required v) s c f h = subst (λ n. summed n (keyword_named o.world n) ≡ no_cost) (sym s.0) refl
+    places_summed k shape.AllOf s c f h = subst (λ n. summed n (keyword_named o.world n) ≡ each_cost o (numbered (items_of_array d))) (sym s.0)
         (ap (λ es. total_cost (λ r. r.0.answer) (each (codes "allOf") es)) (branch_entries (cost_step o.world) d) ∙ each_costs o.world (codes "allOf") (numbered (items_of_array d)))
-    places_summed k shape.AnyOf s = subst (λ n. summed n (keyword_named o.world n) ≡ each_cost o (numbered (items_of_array d))) (sym s.0)
+    places_summed k shape.AnyOf s c f h = subst (λ n. summed n (keyword_named o.world n) ≡ each_cost o (numbered (items_of_array d))) (sym s.0)
         (ap (λ es. total_cost (λ r. r.0.answer) (each (codes "anyOf") es)) (branch_entries (cost_step o.world) d) ∙ each_costs o.world (codes "anyOf") (numbered (items_of_array d)))
-    places_summed k shape.OneOf s = subst (λ n. summed n (keyword_named o.world n) ≡ each_cost o (numbered (items_of_array d))) (sym s.0)
+    places_summed k shape.OneOf s c f h = subst (λ n. summed n (keyword_named o.world n) ≡ each_cost o (numbered (items_of_array d))) (sym s.0)
         (ap (λ es. total_cost (λ r. r.0.answer) (each (codes "oneOf") es)) (branch_entries (cost_step o.world) d) ∙ each_costs o.world (codes "oneOf") (numbered (items_of_array d)))
-    places_summed k (shape.Not v) s = subst (λ n. summed n (keyword_named o.world n) ≡ cost o.world d) (sym s.0) (sum_last _)
-    places_summed k (shape.Leaf l) s = ap (summed k) s.0
-    places_summed k shape.Unread s = ap (summed k) s
+    places_summed k (shape.Not v) s c f h = subst (λ n. summed n (keyword_named o.world n) ≡ cost o.world d) (sym s.0) (sum_last _)
+    places_summed k shape.If s c f h = read_here_summed k c f h (ap is_conditional_name s)
+    places_summed k shape.Then s c f h = read_here_summed k c f h (ap is_conditional_name s)
+    places_summed k shape.Else s c f h = read_here_summed k c f h (ap is_conditional_name s)
+    places_summed k shape.Unpaired s c f h = ap (total_cost (λ r. r.0.answer)) (places_by_condition (cost_step o.world) ms o.world k d c h s) ∙ ap (λ b. total_cost (λ r. r.0.answer) (places_where k b (itself k (read (cost_step o.world) d).whole))) f
+    places_summed k (shape.Leaf l) s c f h = ap (summed k) s.0
+    places_summed k shape.Unread s c f h = ap (summed k) s
 
     abbrev owned : Keyword → Cost
     owned w = own_cost o.world (read_members (cost_step o.world) ms) (read (cost_step o.world) d) w
@@ -87,6 +107,15 @@ module _ {K R : Type 0} (o : Kit K R) where
     own_of_shape k shape.AnyOf s = subst (λ n. owned (keyword_named o.world n) ≡ own_cost_of (keyword_named o.world n)) (sym s.0) refl
     own_of_shape k shape.OneOf s = subst (λ n. owned (keyword_named o.world n) ≡ own_cost_of (keyword_named o.world n)) (sym s.0) refl
     own_of_shape k (shape.Not v) s = subst (λ n. owned (keyword_named o.world n) ≡ own_cost_of (keyword_named o.world n)) (sym s.0) refl
+    own_of_shape k shape.If s = subst (λ n. owned (keyword_named o.world n) ≡ own_cost_of (keyword_named o.world n)) (sym s) refl
+    own_of_shape k shape.Then s = subst (λ n. owned (keyword_named o.world n) ≡ own_cost_of (keyword_named o.world n)) (sym s) refl
+    own_of_shape k shape.Else s = subst (λ n. owned (keyword_named o.world n) ≡ own_cost_of (keyword_named o.world n)) (sym s) refl
+    own_of_shape k shape.Unpaired s = by (conditional_named k s)
+      where
+        by : (k ≡ codes "if") ⊎ (k ≡ codes "then") ⊎ (k ≡ codes "else") → owned (keyword_named o.world k) ≡ own_cost_of (keyword_named o.world k)
+        by (inl q) = subst (λ n. owned (keyword_named o.world n) ≡ own_cost_of (keyword_named o.world n)) (sym q) refl
+        by (inr (inl q)) = subst (λ n. owned (keyword_named o.world n) ≡ own_cost_of (keyword_named o.world n)) (sym q) refl
+        by (inr (inr q)) = subst (λ n. owned (keyword_named o.world n) ≡ own_cost_of (keyword_named o.world n)) (sym q) refl
     own_of_shape k (shape.Leaf l) s = subst (λ w. owned w ≡ own_cost_of w) (sym s.0) refl
     own_of_shape k shape.Unread s = subst (λ w. owned w ≡ own_cost_of w) (sym s) refl
 
@@ -95,56 +124,69 @@ module _ {K R : Type 0} (o : Kit K R) where
     own_within a b pattern_properties h = within_same a b _ _ (sum_first (owned pattern_properties)) (within_before a b no_cost (owned pattern_properties) h)
     own_within a b w h = h
 
+  -- a shape that is read as it is to be is so in each object that has the keyword
+  fits_there : (ms : Members) (x : Shape K) (k : Name) (d : Data) (c : Bool) → IsShape o k d x → IsKnown c ms k → Fits c x → Fits (is_condition ms) x
+  fits_there ms shape.If k d c s h f = sym (h (ap is_conditional_name s)).0 ∙ f
+  fits_there ms shape.Then k d c s h f = sym (h (ap is_conditional_name s)).0 ∙ f
+  fits_there ms shape.Else k d c s h f = sym (h (ap is_conditional_name s)).0 ∙ f
+  fits_there ms shape.Unpaired k d c s h f = sym (h s).0 ∙ f
+  fits_there ms x k d c s h f = tt
+
   -- ---- one member
 
-  pub refuses_part_own : (k : Name) (d : Data) (L : Path) (a b : Counts) (e : BuildError) → Refuses (own_faults o.world k d L) (own_cost_of (keyword_named o.world k)) a b e → RefusesMember o k d L a b e
-  refuses_part_own k d L a b e h ms P p = record {
+  pub refuses_part_own : (c : Bool) (k : Name) (d : Data) (L : Path) (a b : Counts) (e : BuildError) → Refuses (own_faults o.world k d L) (own_cost_of (keyword_named o.world k)) a b e → RefusesPart o c k d L a b e
+  refuses_part_own c k d L a b e h ms P p known = record {
     tells = tells_left (own_faults o.world k d (P // k)) (found ms d k P (keyword_named o.world k)) e (tells_same (ap (own_faults o.world k d) p) e h.tells);
     spends = within_before a b _ (summed ms d k (keyword_named o.world k)) (own_within ms d a b (keyword_named o.world k) h.spends);
   }
 
-  pub refuses_member_memory : (k : Name) (d : Data) (L : Path) (a : Counts) (e : BuildError) (m : AllocError) → e ≡ Memory m → RefusesMember o k d L a a e
-  refuses_member_memory k d L a e m q ms P p = refuses_memory _ _ a a e m q (within_nothing a _)
+  pub refuses_part_memory : (c : Bool) (k : Name) (d : Data) (L : Path) (a : Counts) (e : BuildError) (m : AllocError) → e ≡ Memory m → RefusesPart o c k d L a a e
+  refuses_part_memory c k d L a e m q ms P p known = refuses_memory _ _ a a e m q (within_nothing a _)
 
-  module _ (x : Shape K) (k : Name) (d : Data) (L : Path) (a m : Counts) (h : IsRead o x k d L a m) where
+  -- of a keyword that is none of the three, in each object
+  pub refuses_member : (c : Bool) (k : Name) (d : Data) (L : Path) (a b : Counts) (e : BuildError) → is_conditional_name k ≡ false → RefusesPart o c k d L a b e → RefusesMember o k d L a b e
+  refuses_member c k d L a b e other h ms P p = h ms P p (λ q. absurd (true≢false (sym q ∙ other)))
+
+  module _ (x : Shape K) (c : Bool) (k : Name) (d : Data) (L : Path) (a m : Counts) (h : IsRead o x c k d L a m) where
     own_spent : (ms : Members) → Spends a m (owned ms d (keyword_named o.world k))
     own_spent ms = spends_same a m _ _ (sym (own_of_shape ms d k x h.shape)) h.spends
 
-    pub refuses_part_inside : (b : Counts) (e : BuildError) → Refuses (places_malformed o (reads_of x) d L) (places_cost o (reads_of x) d) m b e → RefusesMember o k d L a b e
-    refuses_part_inside b e r ms P p = record {
-      tells = tells_right (own_faults o.world k d (P // k)) (found ms d k P (keyword_named o.world k)) e (tells_same (ap (places_malformed o (reads_of x) d) p ∙ sym (places_found ms d k P x h.shape)) e r.tells);
-      spends = within_after a m b _ _ (own_spent ms) (within_same m b _ _ (sym (places_summed ms d k x h.shape)) r.spends);
+    pub refuses_part_inside : (b : Counts) (e : BuildError) → Refuses (places_malformed o (reads_of x) d L) (places_cost o (reads_of x) d) m b e → RefusesPart o c k d L a b e
+    refuses_part_inside b e r ms P p known = record {
+      tells = tells_right (own_faults o.world k d (P // k)) (found ms d k P (keyword_named o.world k)) e (tells_same (ap (places_malformed o (reads_of x) d) p ∙ sym (places_found ms d k P x h.shape c h.fits known)) e r.tells);
+      spends = within_after a m b _ _ (own_spent ms) (within_same m b _ _ (sym (places_summed ms d k x h.shape c h.fits known)) r.spends);
     }
 
-    pub part_is_built : (ns : Vec (SchemaNode K R) Global) (p : Part K (SchemaNode K R)) (b : Counts) → p.location ≡ L → p.shape ≡ x → p.nodes ≡ ns → PlacesAreBuilt o (reads_of x) ns.items d L m b → IsPart o p k d L a b
-    part_is_built ns p b at s n built ms P e = record {
+    pub part_is_built : (ns : Vec (SchemaNode K R) Global) (p : Part K (SchemaNode K R)) (b : Counts) → p.location ≡ L → p.shape ≡ x → p.nodes ≡ ns → PlacesAreBuilt o (reads_of x) ns.items d L m b → IsPart o p c k d L a b
+    part_is_built ns p b at s n built ms P e known = record {
       stand = (
         record {
           place = at ∙ e;
           shape = subst (IsShape o k d) (sym s) h.shape;
+          fits = subst (Fits (is_condition ms)) (sym s) (fits_there ms x k d c h.shape known h.fits);
           nodes = subst₂ (λ y l. StandAt o (reads_of y) l d (P // k)) (sym s) (ap (λ l. l.items) (sym n)) (subst (StandAt o (reads_of x) ns.items d) e built.stand);
         },
         tt,
       );
-      clean = append-nil _ ∙ (λ i. (ap (own_faults o.world k d) (sym e) ∙ h.clean) i ++ (places_found ms d k P x h.shape ∙ ap (places_malformed o (reads_of x) d) (sym e) ∙ built.clean) i);
-      spends = spends_same a b _ _ (sym (sum_last _)) (spends_append a m b _ _ (own_spent ms) (spends_same m b _ _ (sym (places_summed ms d k x h.shape)) built.spends));
+      clean = append-nil _ ∙ (λ i. (ap (own_faults o.world k d) (sym e) ∙ h.clean) i ++ (places_found ms d k P x h.shape c h.fits known ∙ ap (places_malformed o (reads_of x) d) (sym e) ∙ built.clean) i);
+      spends = spends_same a b _ _ (sym (sum_last _)) (spends_append a m b _ _ (own_spent ms) (spends_same m b _ _ (sym (places_summed ms d k x h.shape c h.fits known)) built.spends));
     }
 
   -- ---- one more member
 
-  pub parts_push : (P : Path) (ps : List (Part K (SchemaNode K R))) (es : List (Name × Data)) (p : Part K (SchemaNode K R)) (e : Name × Data) → PartsStand o ps es P → PartStands o p e P → PartsStand o (ps ++ p ∷ []) (es ++ e ∷ []) P
-  parts_push P [] [] p e h s = (s, tt)
-  parts_push P [] (x ∷ es) p e h s = absurd h
-  parts_push P (y ∷ ps) [] p e h s = absurd h
-  parts_push P (y ∷ ps) (x ∷ es) p e h s = (h.0, parts_push P ps es p e h.1 s)
+  pub parts_push : (c : Bool) (P : Path) (ps : List (Part K (SchemaNode K R))) (es : List (Name × Data)) (p : Part K (SchemaNode K R)) (e : Name × Data) → PartsStand o c ps es P → PartStands o c p e P → PartsStand o c (ps ++ p ∷ []) (es ++ e ∷ []) P
+  parts_push c P [] [] p e h s = (s, tt)
+  parts_push c P [] (x ∷ es) p e h s = absurd h
+  parts_push c P (y ∷ ps) [] p e h s = absurd h
+  parts_push c P (y ∷ ps) (x ∷ es) p e h s = (h.0, parts_push c P ps es p e h.1 s)
 
   module _ (ms : Members) (P : Path) where
     pub no_parts : (a : Counts) (ps : List (Part K (SchemaNode K R))) → ps ≡ [] → PartsAreBuilt o ms ps [] P a a
-    no_parts a ps e = record { stand = subst (λ x. PartsStand o x [] P) (sym e) tt; clean = refl; spends = spends_nothing a }
+    no_parts a ps e = record { stand = subst (λ x. PartsStand o (is_condition ms) x [] P) (sym e) tt; clean = refl; spends = spends_nothing a }
 
-    pub one_more_part : (ps new : List (Part K (SchemaNode K R))) (es : List (Name × Data)) (p : Part K (SchemaNode K R)) (k : Name) (d : Data) (a m b : Counts) (L : Path) → new ≡ ps ++ p ∷ [] → L ≡ P // k → PartsAreBuilt o ms ps es P a m → IsPart o p k d L m b → PartsAreBuilt o ms new (es ++ (k, d) ∷ []) P a b
-    one_more_part ps new es p k d a m b L q place h part = let one = part ms P place in record {
-      stand = subst (λ x. PartsStand o x (es ++ (k, d) ∷ []) P) (sym q) (parts_push P ps es p (k, d) h.stand one.stand.0);
+    pub one_more_part : (ps new : List (Part K (SchemaNode K R))) (es : List (Name × Data)) (p : Part K (SchemaNode K R)) (c : Bool) (k : Name) (d : Data) (a m b : Counts) (L : Path) → new ≡ ps ++ p ∷ [] → L ≡ P // k → PartsAreBuilt o ms ps es P a m → IsPart o p c k d L m b → IsKnown c ms k → PartsAreBuilt o ms new (es ++ (k, d) ∷ []) P a b
+    one_more_part ps new es p c k d a m b L q place h part known = let one = part ms P place known in record {
+      stand = subst (λ x. PartsStand o (is_condition ms) x (es ++ (k, d) ∷ []) P) (sym q) (parts_push (is_condition ms) P ps es p (k, d) h.stand one.stand.0);
       clean = flat_map-append (λ x. member_malformations o.world ms x (keyword_named o.world x.0) P) es ((k, d) ∷ []) ∙ (λ i. h.clean i ++ one.clean i);
       spends = spends_same a b _ (all_cost o ms (es ++ (k, d) ∷ [])) (sym (total_cost-append (λ x. member_cost o.world ms x (keyword_named o.world x.0)) es ((k, d) ∷ []))) (spends_append a m b (all_cost o ms es) (all_cost o ms ((k, d) ∷ [])) h.spends one.spends);
     }

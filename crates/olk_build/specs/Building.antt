@@ -1,5 +1,5 @@
 -- What building a node, or a part of one, promises.
-use Rattle.std.specs.Prelude.{◌≡◌, List, []}
+use Rattle.std.specs.Prelude.{◌≡◌, Bool, List, []}
 use Rattle.std.specs.List.{flat_map}
 use Rattle.serde_json.specs.Data.{Data, Members}
 use Rattle.olk_spec.specs.Names.{Name, Path, ◌//◌}
@@ -10,6 +10,7 @@ use Rattle.olk_base.specs.Count.{Counts}
 use Rattle.olk_reports.specs.declared.error.BuildError.{BuildError}
 use Rattle.olk_base.specs.Kit.{Kit}
 use Rattle.olk_node.specs.Stands.{StandsFor}
+use Rattle.olk_members.specs.Conditions.{IsKnown}
 use Rattle.olk_members.specs.Members.{malformations_at, member_malformations, member_cost}
 use Rattle.olk_node.specs.declared.node.SchemaNode.{SchemaNode}
 use Rattle.olk_read.specs.Refusing.{Spends, Refuses}
@@ -51,7 +52,10 @@ module _ {K R : Type 0} (o : Kit K R) where
     abbrev pub RefusesObject : Path → Counts → Counts → BuildError → Type 0
     RefusesObject P old new e = Refuses (all_malformed o ms P (listed ms)) (all_cost (listed ms)) old new e
 
-  -- ---- what is told where nothing is built for a member of the name k and the value d at its place, in each object
+  -- ---- what is told where nothing is built for a member of the name k and the value d at its place, in each object; where it is `if`, `then` or `else`, in each that has it and where c says whether `if` is read
+
+  abbrev pub RefusesPart : Bool → Name → Data → Path → Counts → Counts → BuildError → Type 0
+  RefusesPart c k d at old new e = (ms : Members) (P : Path) → at ≡ P // k → IsKnown c ms k → Refuses (member_malformations o.world ms (k, d) (which o ms (k, d)) P) (member_cost o.world ms (k, d) (which o ms (k, d))) old new e
 
   abbrev pub RefusesMember : Name → Data → Path → Counts → Counts → BuildError → Type 0
   RefusesMember k d at old new e = (ms : Members) (P : Path) → at ≡ P // k → Refuses (member_malformations o.world ms (k, d) (which o ms (k, d)) P) (member_cost o.world ms (k, d) (which o ms (k, d))) old new e

@@ -1,3 +1,4 @@
 pub mod Building
 pub mod Placing
 pub mod Parts
+pub mod Conditions

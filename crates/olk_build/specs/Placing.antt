@@ -1,5 +1,5 @@
 -- What the places of a keyword and the parts of a schema object are built of.
-use Rattle.std.specs.Prelude.{◌≡◌, List, [], ◌∷◌}
+use Rattle.std.specs.Prelude.{◌≡◌, Bool, List, [], ◌∷◌}
 use Rattle.serde_json.specs.Data.{Data, Members}
 use Rattle.olk_spec.specs.Names.{Name, Path, ◌//◌}
 use Rattle.olk_spec.specs.Schemas.{listed, members, numbered}
@@ -9,6 +9,7 @@ use Rattle.olk_spec.specs.Costs.{Cost, no_cost, cost}
 use Rattle.olk_base.specs.Count.{Counts}
 use Rattle.olk_reports.specs.declared.error.BuildError.{BuildError}
 use Rattle.olk_base.specs.Kit.{Kit}
+use Rattle.olk_members.specs.Conditions.{is_condition, IsKnown}
 use Rattle.olk_members.specs.Members.{malformations_at}
 use Rattle.olk_read.specs.Refusing.{Spends, Refuses}
 use Rattle.olk_build.specs.Building.{each_malformed, each_cost, all_cost}
@@ -42,7 +43,7 @@ module _ {K R : Type 0} (o : Kit K R) where
 
   -- parts for the members es of the schema object with the members ms at P
   pub record PartsAreBuilt (ms : Members) (ps : List (Part K (SchemaNode K R))) (es : List (Name × Data)) (P : Path) (old new : Counts) : Type 0 where
-    pub stand : PartsStand o ps es P
+    pub stand : PartsStand o (is_condition ms) ps es P
     pub clean : all_malformed o ms P es ≡ []
     pub spends : Spends old new (all_cost o ms es)
 
@@ -50,6 +51,6 @@ module _ {K R : Type 0} (o : Kit K R) where
   abbrev pub ObjectIsParted : Members → List (Part K (SchemaNode K R)) → Path → Counts → Counts → Type 0
   ObjectIsParted ms ps P old new = PartsAreBuilt ms ps (listed ms) P old new
 
-  -- the part of the keyword of the name k and the value d at its place, in each object
-  abbrev pub IsPart : Part K (SchemaNode K R) → Name → Data → Path → Counts → Counts → Type 0
-  IsPart p k d L old new = (ms : Members) (P : Path) → L ≡ P // k → PartsAreBuilt ms (p ∷ []) ((k, d) ∷ []) P old new
+  -- the part of the keyword of the name k and the value d at its place, in each object; where it is `if`, `then` or `else`, in each that has it and where c says whether `if` is read
+  abbrev pub IsPart : Part K (SchemaNode K R) → Bool → Name → Data → Path → Counts → Counts → Type 0
+  IsPart p c k d L old new = (ms : Members) (P : Path) → L ≡ P // k → IsKnown c ms k → PartsAreBuilt ms (p ∷ []) ((k, d) ∷ []) P old new

@@ -27,7 +27,7 @@ use std::alloc::Global;
 pub fn compile<'a, L: MakeLeaf, M: MakeRegex>(
     alloc: Global,
     ctx: &mut Context<'_, L, M>,
-    _parent: &'a Map<String, Value>,
+    parent: &'a Map<String, Value>,
     schema: &'a Value,
 ) -> Option<Result<Keyword<L::Leaf, M::Engine>, BuildError<'a>>>
     ensures gives { GivesMember (kit L.Leaf.Leaf M.Engine.RegexEngine) (codes "anyOf")
@@ -37,7 +37,7 @@ pub fn compile<'a, L: MakeLeaf, M: MakeRegex>(
     ensures place { ctx.new.place ≡ ctx.old.place }
     ensures same_meter { ctx.new.meter.ghost_name ≡ ctx.old.meter.ghost_name }
 {
-    match compile_member(alloc, ctx, "anyOf", schema) {
+    match compile_member(alloc, ctx, parent, "anyOf", schema) {
         Ok(part) => Some(Ok(make(part.location, part.nodes))),
         Err(error) => Some(Err(error)),
     }

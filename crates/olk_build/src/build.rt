@@ -8,13 +8,15 @@ ghost use Rattle.olk_reports.specs.Paths.{one_below};
 ghost use Rattle.olk_base.specs.Kit.{kit, world};
 ghost use Rattle.olk_node.specs.Stands.{StandsFor};
 ghost use Rattle.olk_members.specs.Members.{malformations_at};
-ghost use Rattle.olk_build.specs.Building.{IsBuilt, AreBuilt, RefusesSchema, RefusesEach, RefusesObject, RefusesMember};
+ghost use Rattle.olk_build.specs.Building.{IsBuilt, AreBuilt, RefusesSchema, RefusesEach, RefusesObject, RefusesPart};
+ghost use Rattle.olk_members.specs.Conditions.{is_condition};
 ghost use Rattle.olk_read.specs.Refusing.{TellsOneOf, Spends, SpendsWithin};
 ghost use Rattle.olk_build.specs.Placing.{ObjectIsParted, IsPart, PlacesAreBuilt, RefusesPlaces};
 
 use crate::context::Context;
 use olk_base::{MakeLeaf, MakeRegex, Meter};
 use olk_make::{Part, make_keywords};
+use olk_members::is_condition;
 use olk_node::SchemaNode;
 use olk_read::{Makers, ReadPlaces, append, one, read_keyword, refuse};
 use olk_reports::{BuildError, Location, ValidationErrorKind};
@@ -81,16 +83,25 @@ fn compile_parts<'a, L: MakeLeaf, M: MakeRegex>(
     ensures refused { IfErr result (RefusesObject (kit L.Leaf.Leaf M.Engine.RegexEngine)
         (members_view members.now.entries) place.now meter.old meter.new) }
 {
+    let condition = is_condition(members);
     let mut parts = Vec::new(alloc);
     for (name, value) in members {
         let location = place.join(alloc, name.as_str())?;
-        let part = compile_part(alloc, makers, meter, location, name.as_str(), value)?;
+        let part = compile_part(
+            alloc,
+            makers,
+            meter,
+            condition,
+            location,
+            name.as_str(),
+            value,
+        )?;
         append(&mut parts, part)?;
     }
     Ok(parts)
 }
 
-/// The part of a member of a schema object.
+/// The part of a member of a schema object, where the condition says whether `if` is read there.
 ///
 /// # Errors
 ///
@@ -100,16 +111,17 @@ fn compile_part<'a, L: MakeLeaf, M: MakeRegex>(
     alloc: Global,
     makers: &Makers<'_, L, M>,
     meter: &mut Meter,
+    condition: bool,
     location: Location,
     name: &'a str,
     value: &'a Value,
 ) -> Result<Part<L::Leaf, SchemaNode<L::Leaf, M::Engine>>, BuildError<'a>>
     ensures built { IfOk result (λ p. IsPart (kit L.Leaf.Leaf M.Engine.RegexEngine) p
-        name.now (view value.now) location meter.old meter.new) }
-    ensures refused { IfErr result (RefusesMember (kit L.Leaf.Leaf M.Engine.RegexEngine)
-        name.now (view value.now) location meter.old meter.new) }
+        condition name.now (view value.now) location meter.old meter.new) }
+    ensures refused { IfErr result (RefusesPart (kit L.Leaf.Leaf M.Engine.RegexEngine)
+        condition name.now (view value.now) location meter.old meter.new) }
 {
-    let shape = read_keyword(alloc, makers, meter, &location, name, value)?;
+    let shape = read_keyword(alloc, makers, meter, condition, &location, name, value)?;
     let nodes = compile_places(alloc, makers, meter, &location, shape.reads(), value)?;
     Ok(Part {
         location,
@@ -213,7 +225,8 @@ fn compile_branches<'a, L: MakeLeaf, M: MakeRegex>(
     Ok(nodes)
 }
 
-/// The part of a member of the schema object at the context's place, which is left as it was.
+/// The part of a member of the schema object at the context's place, which is left as it was; of `if`, `then` and
+/// `else` it is that of the parent's member.
 ///
 /// # Errors
 ///
@@ -221,18 +234,30 @@ fn compile_branches<'a, L: MakeLeaf, M: MakeRegex>(
 pub(crate) fn compile_member<'a, L: MakeLeaf, M: MakeRegex>(
     alloc: Global,
     ctx: &mut Context<'_, L, M>,
+    parent: &Map<String, Value>,
     name: &'a str,
     value: &'a Value,
 ) -> Result<Part<L::Leaf, SchemaNode<L::Leaf, M::Engine>>, BuildError<'a>>
-    ensures built { IfOk result (λ p. IsPart (kit L.Leaf.Leaf M.Engine.RegexEngine) p name.now
-        (view value.now) (one_below ctx.old.place name.now) ctx.old.meter.now ctx.new.meter.now) }
-    ensures refused { IfErr result (RefusesMember (kit L.Leaf.Leaf M.Engine.RegexEngine) name.now
-        (view value.now) (one_below ctx.old.place name.now) ctx.old.meter.now ctx.new.meter.now) }
+    ensures built { IfOk result (λ p. IsPart (kit L.Leaf.Leaf M.Engine.RegexEngine) p
+        (is_condition (members_view parent.now.entries)) name.now (view value.now)
+        (one_below ctx.old.place name.now) ctx.old.meter.now ctx.new.meter.now) }
+    ensures refused { IfErr result (RefusesPart (kit L.Leaf.Leaf M.Engine.RegexEngine)
+        (is_condition (members_view parent.now.entries)) name.now (view value.now)
+        (one_below ctx.old.place name.now) ctx.old.meter.now ctx.new.meter.now) }
     ensures place { ctx.new.place ≡ ctx.old.place }
     ensures same_meter { ctx.new.meter.ghost_name ≡ ctx.old.meter.ghost_name }
 {
     let location = ctx.place.join(alloc, name)?;
-    compile_part(alloc, &ctx.makers, ctx.meter, location, name, value)
+    let condition = is_condition(parent);
+    compile_part(
+        alloc,
+        &ctx.makers,
+        ctx.meter,
+        condition,
+        location,
+        name,
+        value,
+    )
 }
 
 /// The node of a schema at the context's place, with all that it reads inside.

@@ -5,6 +5,7 @@ pub mod all_of;
 pub mod any_of;
 pub mod build;
 pub mod context;
+pub mod if_;
 pub mod not;
 pub mod one_of;
 pub mod properties;

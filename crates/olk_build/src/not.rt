@@ -29,7 +29,7 @@ use std::alloc::Global;
 pub fn compile<'a, L: MakeLeaf, M: MakeRegex>(
     alloc: Global,
     ctx: &mut Context<'_, L, M>,
-    _parent: &'a Map<String, Value>,
+    parent: &'a Map<String, Value>,
     schema: &'a Value,
 ) -> Option<Result<Keyword<L::Leaf, M::Engine>, BuildError<'a>>>
     ensures gives { GivesMember (kit L.Leaf.Leaf M.Engine.RegexEngine) (codes "not")
@@ -38,7 +38,7 @@ pub fn compile<'a, L: MakeLeaf, M: MakeRegex>(
     ensures place { ctx.new.place ≡ ctx.old.place }
     ensures same_meter { ctx.new.meter.ghost_name ≡ ctx.old.meter.ghost_name }
 {
-    match compile_member(alloc, ctx, "not", schema) {
+    match compile_member(alloc, ctx, parent, "not", schema) {
         Ok(part) => {
             let Part {
                 location,

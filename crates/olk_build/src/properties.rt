@@ -43,7 +43,7 @@ pub fn compile<'a, L: MakeLeaf, M: MakeRegex>(
     ensures place { ctx.new.place ≡ ctx.old.place }
     ensures same_meter { ctx.new.meter.ghost_name ≡ ctx.old.meter.ghost_name }
 {
-    match compile_member(alloc, ctx, "properties", schema) {
+    match compile_member(alloc, ctx, parent, "properties", schema) {
         Ok(part) => {
             let Part {
                 location,

@@ -48,7 +48,7 @@ pub fn compile<'a, L: MakeLeaf, M: MakeRegex>(
     if Plan::of(parent).fuses() {
         return None;
     }
-    match compile_member(alloc, ctx, "required", schema) {
+    match compile_member(alloc, ctx, parent, "required", schema) {
         Ok(part) => {
             let Part {
                 location,

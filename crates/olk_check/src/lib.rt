@@ -19,11 +19,14 @@ pub trait IsValid: Means {
 
 mod all_of;
 mod any_of;
+mod dependencies;
 mod if_;
 mod node;
 mod not;
 mod one_of;
 mod properties;
+mod property_dependencies;
+mod property_names;
 mod required;
 mod walk;
 

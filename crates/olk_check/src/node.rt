@@ -22,18 +22,23 @@ impl<K: Leaf, N: IsValid> IsValid for KeywordOver<K, N> {
             KeywordOver::IfThen(keyword) => keyword.is_valid(node, ctx),
             KeywordOver::IfElse(keyword) => keyword.is_valid(node, ctx),
             KeywordOver::IfThenElse(keyword) => keyword.is_valid(node, ctx),
+            KeywordOver::Dependencies(keyword) => keyword.is_valid(node, ctx),
+            KeywordOver::PropertyNames(keyword) => keyword.is_valid(node, ctx),
+            KeywordOver::PropertyNamesFalse(keyword) => keyword.is_valid(node, ctx),
+            KeywordOver::PropertyDependencies(keyword) => keyword.is_valid(node, ctx),
             KeywordOver::Leaf(_, leaf) => leaf.is_valid(node),
         }
     }
 }
 
-/// What each of the keywords asks, or the verdict of a boolean schema.
+/// What each of the keywords asks, whether the required names are there, or the verdict of a boolean schema.
 impl<W: IsValid> IsValid for Body<W> {
     fn is_valid(&self, node: Node<'_>, ctx: &mut ValidationContext) -> bool {
         match self {
             Body::True => true,
             Body::False => false,
             Body::Keywords(keywords) => all_accept(keywords, node, ctx),
+            Body::RequiredNames(required) => required.is_valid(node, ctx),
         }
     }
 }

@@ -52,6 +52,10 @@ invalid_so : {So Then : Fault → Type 0} → ((f : Fault) → So f → Then f) 
 invalid_so k (Invalid e) h = k (fault_of e) h
 invalid_so k (Memory m) h = tt
 
+-- of the error that is told
+pub if_told : {e : ValidateError} {x : ValidationError} (So : Fault → Type 0) → e ≡ Invalid x → IfInvalid e So → So (fault_of x)
+if_told So is h = subst (λ e. IfInvalid e So) is h
+
 -- an error that leaves by a `?`
 pub left_by : {T : Type 0} (r : Result T ValidateError) (x : ValidateError) {So Then : Fault → Type 0} → IsErrAnd r (λ e. e ≡ x) → IfInvalid x So → ((f : Fault) → So f → Then f) → IfErr r (λ e. IfInvalid e Then)
 left_by r x {So} {Then} h told k = let p = err_from_is_err_and r h in subst (λ z. IfErr z (λ e. IfInvalid e Then)) (sym p.1) (invalid_so k p.0 (subst (λ e. IfInvalid e So) (sym p.2) told))

@@ -5,3 +5,5 @@ mod Missing
 mod Fused
 mod OneOf
 mod Members
+mod Due
+mod Names

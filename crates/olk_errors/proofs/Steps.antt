@@ -1,13 +1,14 @@
 -- Loops that collect, and loops that stop at the first error.
-use Rattle.std.proofs.Common.{◌≡◌, ℕ, map, Vec, Bool, ◌&&◌, List, [], ◌∷◌, ◌++◌, length, take, refl, sym, ap, subst, ◌∙◌, arith}
+use Rattle.std.proofs.Common.{◌≡◌, ℕ, map, Vec, Bool, true, ◌&&◌, List, [], ◌∷◌, ◌++◌, length, take, refl, sym, ap, subst, ◌∙◌, arith}
 use mathlib.Core.Path.{subst₂}
 use Rattle.std.specs.List.{flat_map, Contains}
 use Rattle.std.proofs.lemmas.List.{append_assoc, append-nil, map-append}
 use Rattle.std.specs.declared.alloc.Global.{Global}
 use Rattle.std.proofs.lemmas.List.Elements.{Contains-append_left, Contains-append_right}
 use Rattle.std.proofs.lemmas.Grind.{flat_map-append}
-use Rattle.olk_spec.specs.Names.{Path}
+use Rattle.olk_spec.specs.Names.{Path, is_empty}
 use Rattle.olk_spec.specs.Faults.{Fault, ◌∼◌}
+use Rattle.olk_spec.proofs.Logic.{nil_of_is_empty}
 use Rattle.olk_reports.specs.Errors.{fault_of}
 use Rattle.olk_reports.specs.declared.error.ValidationError.{ValidationError}
 use Rattle.olk_tree.specs.Answers.{or_else, first_of}
@@ -20,6 +21,10 @@ use Rattle.olk_tree.specs.Questions.{Question, every}
 use Rattle.olk_errors.proofs.Appending.{appends_nothing, appends_more, cut_back}
 
 -- ---- collecting
+
+pub nothing_left : {X : Type 0} (xs : List X) → length xs ≡ 0 → xs ≡ []
+nothing_left [] h = refl
+nothing_left (x ∷ xs) h = absurd (omega arith)
 
 -- of all, some are done, whose faults are appended, and the rest is left
 pub record Collected {X : Type 0} (f : X → List Fault) (all rest : List X) (old new : List ValidationError) : Type 0 where
@@ -43,6 +48,10 @@ module _ {X : Type 0} {f : X → List Fault} {all : List X} where
     collected_end none = subst (λ l. Appends old new (flat_map f l)) (sym (append-nil so_far.done) ∙ ap (λ l. so_far.done ++ l) (sym none) ∙ so_far.split) so_far.found
 
 -- ---- the first error
+
+-- what accepts has no step that refuses
+pub passes_accepted : {o : Outcome} → o.accepts ≡ true → is_empty o.first ≡ o.accepts → Passes o
+passes_accepted {o} accepted agrees = record { verdict = accepted; nothing = nil_of_is_empty o.first (agrees ∙ accepted) }
 
 contains_none : (f : Fault) → Contains [] f → ⊥
 contains_none f c = absurd (omega arith)
@@ -103,6 +112,9 @@ module _ {X : Type 0} {f : Bool → Path → X → List Fault} {all : List X} {Q
   pub collecting_start : {errors : List ValidationError} → Collecting f all all errors errors Q Q a a
   collecting_start {errors} = record { so_far = collected_start errors; path = refl; only = only_same a }
 
+  pub collecting_from : {rest : List X} {errors : List ValidationError} → rest ≡ all → Collecting f all rest errors errors Q Q a a
+  collecting_from {errors = errors} whole = subst (λ l. Collecting f all l errors errors Q Q a a) (sym whole) collecting_start
+
   module _ {rest : List X} {old new : List ValidationError} {R : Path} {b : Asking} (loop : Collecting f all rest old new Q R a b) where
     pub collecting_more : {x : X} {more : List X} {newer : List ValidationError} {S : Path} {c : Asking} → rest ≡ x ∷ more → Appends new newer (f b.answer R x) → S ≡ R → OnlyAsks b c → Collecting f all more old newer Q S a c
     collecting_more {x} {more} {newer} next found path only = record {
@@ -126,6 +138,9 @@ pub record Passing {X : Type 0} (q : X → Question) (s f : Bool → Path → X 
 module _ {X : Type 0} {q : X → Question} {s f : Bool → Path → X → List Fault} {all : List X} {Q : Path} {a : Asking} where
   pub passing_start : Passing q s f all all Q Q a a
   passing_start = record { so_far = passed_start; path = refl; only = only_same a }
+
+  pub passing_from : {rest : List X} → rest ≡ all → Passing q s f all rest Q Q a a
+  passing_from whole = subst (λ l. Passing q s f all l Q Q a a) (sym whole) passing_start
 
   module _ {rest : List X} {R : Path} {b : Asking} (loop : Passing q s f all rest Q R a b) where
     pub passing_more : {x : X} {more : List X} {S : Path} {c : Asking} → rest ≡ x ∷ more → Passes (of_one q b.answer (s b.answer R) (f b.answer R) x) → S ≡ R → OnlyAsks b c → Passing q s f all more Q S a c

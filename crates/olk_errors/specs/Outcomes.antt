@@ -1,16 +1,16 @@
--- What asking comes to: of a node, of branches, of branches of which one is to accept, of declared members, of names that are wanted, of a leaf, of a body.
+-- What asking comes to: of a node, of branches, of branches of which one is to accept, of declared members, of members' names, of names that are wanted, of a leaf, of a body.
 use Rattle.std.specs.Prelude.{◌≡◌, ◌⊎◌, ◌<◌, ℕ, ◌==◌, Bool, List, map, Option, Some, None}
 use Rattle.std.specs.List.{flat_map}
-use Rattle.serde_json.specs.Data.{Data}
+use Rattle.serde_json.specs.Data.{Data, string}
 use Rattle.olk_spec.specs.Names.{Name, Path, is_empty}
 use Rattle.olk_spec.specs.Faults.{Fault, Kind, fault, Leaf, OneOfNotValid, OneOfMultipleValid, IsLikeKind, Context, context}
 use Rattle.olk_spec.specs.Accepts.{missing}
-use Rattle.olk_spec.specs.Reports.{required_faults, fault_if}
+use Rattle.olk_spec.specs.Reports.{required_faults, fault_if, wrapped}
 use Rattle.olk_reports.specs.Errors.{kind_of}
 use Rattle.olk_reports.specs.declared.error.ValidationErrorKind.{ValidationErrorKind}
 use Rattle.olk_base.specs.declared.traits.Leaf as leaf
 use Rattle.olk_tree.specs.Questions.{Question, every}
-use Rattle.olk_tree.specs.Answers.{first_of, one_of_report, head_of, properties_mean, properties_report, properties_first, body_means, body_report, body_first}
+use Rattle.olk_tree.specs.Answers.{first_of, one_of_report, head_of, properties_mean, properties_report, properties_first, names_mean, names_report, names_first, body_means, body_report, body_first}
 use Rattle.olk_tree.specs.declared.node.Body.{Body}
 use Rattle.olk_errors.specs.Found.{Outcome}
 
@@ -44,6 +44,13 @@ module _ {N : Type 0} (m : N → Data → Question) (s r : N → Bool → Data �
 
   abbrev pub of_properties : List (Name × N) → Data → Path → Outcome
   of_properties es v Q = record { accepts = (properties_mean m es v).accepts u; first = properties_first s u es v Q; all = properties_report r u es v Q }
+
+  -- a member's name, and the names of all members, told of the object
+  abbrev pub of_asked_name : N → Data → Name → Path → Outcome
+  of_asked_name n v x Q = record { accepts = (m n (string x)).accepts u; first = map (wrapped v Q) (s n u (string x) Q); all = map (wrapped v Q) (r n u (string x) Q) }
+
+  abbrev pub of_asked_names : N → Data → Path → Outcome
+  of_asked_names n v Q = record { accepts = (names_mean m n v).accepts u; first = names_first s u n v Q; all = names_report r u n v Q }
 
   abbrev pub of_body : Path → Body N → Data → Path → Outcome
   of_body P b v Q = record { accepts = (body_means m b v).accepts u; first = body_first (λ k. s k u) P b v Q; all = body_report (λ k. r k u) P b v Q }

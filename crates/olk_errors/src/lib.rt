@@ -65,11 +65,14 @@ pub trait Errors<'a>: IsValid + Reports {
 mod all_of;
 mod any_of;
 mod append;
+mod dependencies;
 mod if_;
 mod node;
 mod not;
 mod one_of;
 mod properties;
+mod property_dependencies;
+mod property_names;
 mod required;
 mod walk;
 

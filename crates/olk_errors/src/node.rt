@@ -86,6 +86,10 @@ impl<'a, K: Leaf, N: Errors<'a>> Errors<'a> for KeywordOver<K, N> {
             KeywordOver::IfThen(keyword) => keyword.validate(alloc, node, path, ctx),
             KeywordOver::IfElse(keyword) => keyword.validate(alloc, node, path, ctx),
             KeywordOver::IfThenElse(keyword) => keyword.validate(alloc, node, path, ctx),
+            KeywordOver::Dependencies(keyword) => keyword.validate(alloc, node, path, ctx),
+            KeywordOver::PropertyNames(keyword) => keyword.validate(alloc, node, path, ctx),
+            KeywordOver::PropertyNamesFalse(keyword) => keyword.validate(alloc, node, path, ctx),
+            KeywordOver::PropertyDependencies(keyword) => keyword.validate(alloc, node, path, ctx),
             KeywordOver::Leaf(location, leaf) => validate_leaf(alloc, leaf, location, node, path),
         }
     }
@@ -127,6 +131,18 @@ impl<'a, K: Leaf, N: Errors<'a>> Errors<'a> for KeywordOver<K, N> {
             KeywordOver::IfThenElse(keyword) => keyword.collect_errors(
                 alloc, node, path, ctx, errors,
             ),
+            KeywordOver::Dependencies(keyword) => keyword.collect_errors(
+                alloc, node, path, ctx, errors,
+            ),
+            KeywordOver::PropertyNames(keyword) => keyword.collect_errors(
+                alloc, node, path, ctx, errors,
+            ),
+            KeywordOver::PropertyNamesFalse(keyword) => keyword.collect_errors(
+                alloc, node, path, ctx, errors,
+            ),
+            KeywordOver::PropertyDependencies(keyword) => keyword.collect_errors(
+                alloc, node, path, ctx, errors,
+            ),
             KeywordOver::Leaf(location, leaf) => {
                 collect_leaf(alloc, leaf, location, node, path, errors)
             }
@@ -134,7 +150,8 @@ impl<'a, K: Leaf, N: Errors<'a>> Errors<'a> for KeywordOver<K, N> {
     }
 }
 
-/// The first error of a body at its place: of a false schema one, of a true one none, and otherwise that of its keywords.
+/// The first error of a body at its place: of a false schema one, of a true one none, and otherwise that of its keywords,
+/// or of its names.
 ///
 /// # Errors
 ///
@@ -165,10 +182,12 @@ pub fn validate_body<'a, W: Errors<'a>>(
             location,
         ),
         Body::Keywords(keywords) => validate_all(alloc, keywords, node, path, ctx),
+        Body::RequiredNames(names) => names.validate(alloc, node, path, ctx),
     }
 }
 
-/// Appends the errors of a body at its place: of a false schema one, of a true one none, and otherwise those of its keywords.
+/// Appends the errors of a body at its place: of a false schema one, of a true one none, and otherwise those of its keywords,
+/// or of its names.
 ///
 /// # Errors
 ///
@@ -196,5 +215,6 @@ pub fn collect_body<'a, W: Errors<'a>>(
             append_error(alloc, kind, node, path, location, errors)
         }
         Body::Keywords(keywords) => collect_all(alloc, keywords, node, path, ctx, errors),
+        Body::RequiredNames(names) => names.collect_errors(alloc, node, path, ctx, errors),
     }
 }

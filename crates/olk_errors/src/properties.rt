@@ -113,7 +113,7 @@ fn validate_members<'a, N: Errors<'a>>(
     Ok(())
 }
 
-// The first error of a value one segment below the path.
+// The first error of a value one segment below the path. An accepted value has none, and its path is not written.
 fn validate_below<'a, N: Errors<'a>>(
     alloc: Global,
     subschema: &'a N,
@@ -130,8 +130,12 @@ fn validate_below<'a, N: Errors<'a>>(
     ensures path { path.new ≡ path.old }
     ensures context { OnlyAsks ctx.old ctx.new }
 {
+    let node = Node::Value(value);
+    if subschema.is_valid(node, ctx) {
+        return Ok(());
+    }
     let mark = path.push(name)?;
-    let answer = subschema.validate(alloc, Node::Value(value), path, ctx);
+    let answer = subschema.validate(alloc, node, path, ctx);
     path.pop(mark);
     answer
 }

@@ -1,15 +1,17 @@
 -- Children beside those that are wanted.
-use Rattle.std.proofs.Common.{◌≡◌, ℕ, ◌≤◌, Bool, true, false, ◌&&◌, List, [], ◌∷◌, ◌++◌, map, length, drop, Option, None, refl, sym, ap, subst, ◌∙◌}
+use Rattle.std.proofs.Common.{◌≡◌, ℕ, ◌≤◌, Bool, true, false, ◌&&◌, List, [], ◌∷◌, ◌++◌, map, length, drop, Option, None, append_assoc, refl, sym, ap, subst, ◌∙◌}
 use Rattle.std.specs.List.{list_all}
-use Rattle.std.proofs.lemmas.List.{append-nil, drop_all}
+use Rattle.std.proofs.lemmas.List.{append-nil, drop_all, map-append}
 use Rattle.std.proofs.lemmas.Simd.{map-map}
 use Rattle.olk_spec.specs.Names.{Name, Path}
 use Rattle.olk_spec.specs.Tree.{Tree, Trees, node, leaf_node, trees_from, IsLikeTree, AreLikeTrees, AreTold, Described, is_valid, result_node, plain}
-use Rattle.olk_reports.specs.Evaluations.{Shown, shown, node_at}
-use Rattle.serde_json.specs.Data.{Data}
+use Rattle.olk_reports.specs.Evaluations.{Shown, shown, node_at, tree_of}
+use Rattle.olk_reports.specs.declared.evaluation.EvaluationNode.{EvaluationNode}
+use Rattle.serde_json.specs.Data.{Data, string}
+use Rattle.olk_spec.specs.Schemas.{members}
 use Rattle.olk_tree.specs.Questions.{Question, every}
-use Rattle.olk_tree.specs.Shown.{branch_trees}
-use Rattle.olk_evaluate.specs.Wanted.{Wanted, AreShown, wanted, each_wanted}
+use Rattle.olk_tree.specs.Shown.{branch_trees, name_trees}
+use Rattle.olk_evaluate.specs.Wanted.{Wanted, IsShown, AreShown, wanted, each_wanted, names_wanted, trees_of}
 
 -- ---- the tree of a result
 
@@ -71,6 +73,15 @@ module _ {all : List Wanted} where
   pub shown_end : {left : List Wanted} {ts : List Tree} → ShownFrom all left ts → left ≡ [] → AreShown all ts
   shown_end {ts = ts} h e = subst (AreShown all) (append-nil ts) (h.goes_on [] (subst (λ ws. AreShown ws []) (sym e) tt))
 
+  pub shown_more : {left rest : List Wanted} {w : Wanted} {ys : List EvaluationNode} (xs : List EvaluationNode) (c : EvaluationNode) → ShownFrom all left (trees_of xs) → left ≡ w ∷ rest → ys ≡ xs ++ c ∷ [] → IsShown w (tree_of c) → ShownFrom all rest (trees_of ys)
+  shown_more xs c h next pushed is = record {
+    goes_on = λ more k. subst (AreShown all) (sym (ap (λ l. l ++ more) (ap trees_of pushed ∙ map-append tree_of xs (c ∷ [])) ∙ append_assoc (trees_of xs) (tree_of c ∷ []) more))
+        (h.goes_on (tree_of c ∷ more) (subst (λ ws. AreShown ws (tree_of c ∷ more)) (sym next) (is, k)));
+  }
+
+  pub shown_none_more : {left rest : List Wanted} {ts : List Tree} → ShownFrom all left ts → left ≡ rest → ShownFrom all rest ts
+  shown_none_more {ts = ts} h e = subst (λ ws. ShownFrom all ws ts) e h
+
 pub none_left : {X : Type 0} (g : X → Wanted) (xs ys : List X) (i : ℕ) → ys ≡ xs → length ys ≤ i → map g (drop i xs) ≡ []
 none_left g xs ys i same le = ap (map g) (drop_all i xs (subst (λ zs. length zs ≤ i) same le))
 
@@ -100,3 +111,31 @@ module _ {N : Type 0} (t : N → Bool → Data → Path → Tree) (m : N → Dat
         every_wanted : (ns : List N) → all_wanted (each_wanted t m u ns v Q) ≡ (every (λ n. m n v) ns).accepts u
         every_wanted [] = refl
         every_wanted (n ∷ ns) = ap (λ b. (m n v).accepts u && b) (every_wanted ns)
+
+  -- where there is no branch
+  module _ {s : Shown} (none : ns ≡ []) (h : s ≡ shown true None [] []) where
+    none_wanted : AreShown (each_wanted t m u ns v Q) []
+    none_wanted = subst (λ l. AreShown (each_wanted t m u l v Q) []) (sym none) tt
+
+    pub no_child_like : IsLikeTree (plain P Q (branch_trees (λ n. t n u) v Q ns)) (node_at P Q s)
+    no_child_like = branches_like none_wanted h
+
+    pub no_child_verdict : is_valid (node_at P Q s) ≡ (every (λ n. m n v) ns).accepts u
+    no_child_verdict = branches_verdict none_wanted h
+
+module _ {N : Type 0} (t : N → Bool → Data → Path → Tree) (m : N → Data → Question) (u : Bool) (n : N) (P Q : Path) where
+  names_verdicts : (ms : List (Name × Data)) → all_wanted (names_wanted t m u n Q ms) ≡ (every (λ x. m n (string x.0)) ms).accepts u
+  names_verdicts [] = refl
+  names_verdicts (x ∷ ms) = ap (λ b. (m n (string x.0)).accepts u && b) (names_verdicts ms)
+
+  -- a child for each name of w, which is v
+  module _ (v w : Data) (same : w ≡ v) {cs : List Tree} {s : Shown} (h : AreShown (names_wanted t m u n Q (members w)) cs) (e : s ≡ shown (list_all is_valid cs) None [] cs) where
+    pub names_like : IsLikeTree (plain P Q (name_trees (λ k. t k u) v Q n)) (node_at P Q s)
+    names_like = plain_like P Q (names_wanted t m u n Q (members w)) (name_trees (λ k. t k u) v Q n) (map-map (λ x. x.0) (λ x. wanted t m u n (string x.0) Q) (members w) ∙ ap (λ d. name_trees (λ k. t k u) d Q n) same) h e
+
+    pub names_verdict : is_valid (node_at P Q s) ≡ (every (λ x. m n (string x.0)) (members v)).accepts u
+    names_verdict = plain_verdict P Q (names_wanted t m u n Q (members w)) ((every (λ x. m n (string x.0)) (members v)).accepts u) (names_verdicts (members w) ∙ ap (λ d. (every (λ x. m n (string x.0)) (members d)).accepts u) same) h e
+
+  -- where there is no member
+  pub no_name_shown : (v : Data) → members v ≡ [] → AreShown (names_wanted t m u n Q (members v)) []
+  no_name_shown v none = subst (λ ms. AreShown (names_wanted t m u n Q ms) []) (sym none) tt

@@ -7,13 +7,13 @@ use Rattle.std.proofs.lemmas.Simd.{map-map}
 use Rattle.std.specs.List.Sorted.{IsPermutation}
 use Rattle.serde_json.specs.Data.{Data, Members, object}
 use Rattle.olk_spec.specs.Names.{Name, Text, Path, is_empty, put_if}
-use Rattle.olk_spec.specs.Faults.{Fault, Kind, fault, Leaf, Required}
+use Rattle.olk_spec.specs.Faults.{Fault, Kind, fault, Leaf, Required, FalseSchema}
 use Rattle.olk_spec.specs.Tree.{Tree, IsLikeTree, AreTold, Described, described, described_fault, leaf_node, is_valid, erring, no_tree}
 use Rattle.serde_json.specs.Find.{as_object}
 use Rattle.olk_check.proofs.Missing.{lacks_nothing}
-use Rattle.olk_spec.specs.Schemas.{has}
+use Rattle.olk_spec.specs.Schemas.{has, members}
 use Rattle.olk_spec.specs.Accepts.{missing}
-use Rattle.olk_tree.specs.Answers.{texts_of}
+use Rattle.olk_tree.specs.Answers.{texts_of, unless}
 use Rattle.olk_reports.specs.Evaluations.{Shown, shown, errored, node_at}
 use Rattle.olk_evaluate.specs.Wanted.{AreShown, refused, lacking_trees, HasErrors, HasTexts, IsDescribedBy}
 use Rattle.olk_evaluate.proofs.Children.{like_result, valid_shown}
@@ -194,3 +194,28 @@ module _ (ns : List Name) (v w : Data) (P Q : Path) where
 
 pub same_lacking : {a b c d : Name} {P R Q S : Path} (v w : Data) (ts : List Tree) → a ≡ c → b ≡ d → P ≡ R → Q ≡ S → AreShown (refused (lacking_trees (a ∷ b ∷ []) v w P Q)) ts → AreShown (refused (lacking_trees (c ∷ d ∷ []) v w R S)) ts
 same_lacking v w ts e f g h = subst (λ l. AreShown (refused l) ts) (λ i. lacking_trees (e i ∷ f i ∷ []) v w (g i) (h i))
+
+-- ---- an object that is to have no members
+
+module _ (v : Data) (P Q : Path) where
+  abbrev member_faults : List Fault
+  member_faults = unless (is_empty (members v)) FalseSchema v P Q
+
+  module _ {s : Shown} (b : Bool) (e : is_empty (members v) ≡ b) (h : HasErrors (unless b FalseSchema v P Q) s) where
+    members_like : IsLikeTree (erring P Q member_faults) (node_at P Q s)
+    members_like = subst (λ c. IsLikeTree (erring P Q (unless c FalseSchema v P Q)) (node_at P Q s)) (sym e) (erring_like P Q (unless b FalseSchema v P Q) h)
+
+    members_verdict : is_valid (node_at P Q s) ≡ is_empty (unless b FalseSchema v P Q)
+    members_verdict = erring_verdict P Q (unless b FalseSchema v P Q) h
+
+  pub no_member_like : {s : Shown} → is_empty (members v) ≡ true → s ≡ shown true None [] [] → IsLikeTree (erring P Q member_faults) (node_at P Q s)
+  no_member_like e h = members_like true e (no_error h)
+
+  pub no_member_verdict : {s : Shown} → is_empty (members v) ≡ true → s ≡ shown true None [] [] → is_valid (node_at P Q s) ≡ is_empty (members v)
+  no_member_verdict e h = members_verdict true e (no_error h) ∙ sym e
+
+  pub some_member_like : {s : Shown} → is_empty (members v) ≡ false → HasErrors (fault FalseSchema v Q P ∷ []) s → IsLikeTree (erring P Q member_faults) (node_at P Q s)
+  some_member_like e h = members_like false e h
+
+  pub some_member_verdict : {s : Shown} → is_empty (members v) ≡ false → HasErrors (fault FalseSchema v Q P ∷ []) s → is_valid (node_at P Q s) ≡ is_empty (members v)
+  some_member_verdict e h = members_verdict false e h ∙ sym e

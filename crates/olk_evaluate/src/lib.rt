@@ -59,12 +59,15 @@ pub trait Evaluate<'a>: Located + IsValid {
 
 mod all_of;
 mod any_of;
+mod dependencies;
 mod if_;
 mod node;
 mod not;
 mod one_of;
 mod own;
 mod properties;
+mod property_dependencies;
+mod property_names;
 mod required;
 mod walk;
 

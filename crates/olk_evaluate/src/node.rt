@@ -8,6 +8,7 @@ ghost use Rattle.olk_check.specs.Asks.{OnlyAsks};
 ghost use Rattle.olk_evaluate.specs.Wanted.{HasTexts};
 
 use crate::own::one_error;
+use crate::required::missing_errors;
 use crate::walk::each_child;
 use crate::{Evaluate, Located};
 use olk_base::{Leaf, Node, ValidationContext};
@@ -36,6 +37,10 @@ impl<K, N> Located for KeywordOver<K, N> {
             KeywordOver::IfThen(keyword) => keyword.location(),
             KeywordOver::IfElse(keyword) => keyword.location(),
             KeywordOver::IfThenElse(keyword) => keyword.location(),
+            KeywordOver::Dependencies(keyword) => keyword.location(),
+            KeywordOver::PropertyNames(keyword) => keyword.location(),
+            KeywordOver::PropertyNamesFalse(keyword) => keyword.location(),
+            KeywordOver::PropertyDependencies(keyword) => keyword.location(),
             KeywordOver::Leaf(location, _) => location.as_str(),
         }
     }
@@ -70,6 +75,10 @@ impl<'a, K: Leaf, N: Evaluate<'a>> Evaluate<'a> for KeywordOver<K, N> {
             KeywordOver::IfThen(keyword) => keyword.evaluate(alloc, node, path, ctx),
             KeywordOver::IfElse(keyword) => keyword.evaluate(alloc, node, path, ctx),
             KeywordOver::IfThenElse(keyword) => keyword.evaluate(alloc, node, path, ctx),
+            KeywordOver::Dependencies(keyword) => keyword.evaluate(alloc, node, path, ctx),
+            KeywordOver::PropertyNames(keyword) => keyword.evaluate(alloc, node, path, ctx),
+            KeywordOver::PropertyNamesFalse(keyword) => keyword.evaluate(alloc, node, path, ctx),
+            KeywordOver::PropertyDependencies(keyword) => keyword.evaluate(alloc, node, path, ctx),
             KeywordOver::Leaf(_, leaf) => leaf_errors(alloc, leaf, node),
         }
     }
@@ -91,8 +100,8 @@ fn leaf_errors<'a, K: Leaf>(
     Ok(outcome)
 }
 
-/// What a body shows at its place: nothing where the schema is true, an error where it is false, and otherwise a child
-/// for each keyword.
+/// What a body shows at its place: nothing where the schema is true, an error where it is false, an error for each
+/// listed name that an object lacks, and otherwise a child for each keyword.
 ///
 /// # Errors
 ///
@@ -122,5 +131,6 @@ pub fn evaluate_body<'a, W: Evaluate<'a>>(
             let children = each_child(alloc, keywords, node, path, ctx)?;
             Ok(EvaluationResult::from_children(alloc, children))
         }
+        Body::RequiredNames(required) => missing_errors(alloc, required, node),
     }
 }

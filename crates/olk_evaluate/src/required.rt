@@ -5,7 +5,7 @@ ghost use Rattle.olk_spec.specs.Names.{Path, is_empty};
 ghost use Rattle.olk_spec.specs.Faults.{Fault, fault, Required};
 ghost use Rattle.olk_spec.specs.Schemas.{has};
 ghost use Rattle.olk_spec.specs.Accepts.{missing};
-ghost use Rattle.olk_spec.specs.Reports.{fault_if};
+ghost use Rattle.olk_spec.specs.Reports.{fault_if, required_faults};
 ghost use Rattle.olk_reports.specs.Evaluations.{shown_of};
 ghost use Rattle.olk_tree.specs.Answers.{texts_of};
 ghost use Rattle.olk_tree.specs.Visited.{object_of};
@@ -30,9 +30,7 @@ impl Located for RequiredValidator {
 
 /// An error of its own for each listed name that an object lacks (JSON Schema 2020-12 Validation, 6.5.3).
 impl<'a> Evaluate<'a> for RequiredValidator {
-    ghost use Rattle.olk_spec.specs.Reports.{required_faults};
     ghost use Rattle.olk_spec.specs.Tree.{erring};
-    ghost use Rattle.olk_tree.specs.Answers.{texts_of};
 
     ghost tree = { λ k u v Q. erring k.location Q
         (required_faults (texts_of k.required.items) v k.location Q) };
@@ -45,10 +43,23 @@ impl<'a> Evaluate<'a> for RequiredValidator {
         _path: &mut InstancePath,
         _ctx: &mut ValidationContext,
     ) -> Result<EvaluationResult<'a>, AllocError> {
-        match node.as_object() {
-            Some(members) => result_of_required(alloc, &self.required, members, node),
-            None => Ok(EvaluationResult::valid_empty(alloc)),
-        }
+        missing_errors(alloc, self, node)
+    }
+}
+
+// The result with an error for each of the names that the value lacks.
+pub(crate) fn missing_errors<'a>(
+    alloc: Global,
+    required: &'a RequiredValidator,
+    node: Node<'a>,
+) -> Result<EvaluationResult<'a>, AllocError>
+    ensures { IfOk result (λ r. (P Q : Path) → HasErrors
+        (required_faults (texts_of required.now.required.items) (data_of node.entry) P Q)
+        (shown_of r)) }
+{
+    match node.as_object() {
+        Some(members) => result_of_required(alloc, &required.required, members, node),
+        None => Ok(EvaluationResult::valid_empty(alloc)),
     }
 }
 

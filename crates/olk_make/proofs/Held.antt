@@ -48,7 +48,7 @@ use Rattle.olk_tree.specs.declared.node.KeywordOver.TheVariants as keyword
 use Rattle.olk_node.specs.declared.node.SchemaNode.{SchemaNode}
 use Rattle.olk_members.proofs.Facts as fact
 use Rattle.olk_make.proofs.Together.{means_alone, means_permuted}
-use Rattle.olk_members.proofs.Claims.{listing, fuses, claims_itself, claims_both, claims_nothing, heads_elsewhere}
+use Rattle.olk_members.proofs.Claims.{listing, fuses, claims_itself, claims_both, claims_nothing, heads_elsewhere, past_cases, IsNoCase}
 use Rattle.olk_members.proofs.Heads.{names_of}
 use Rattle.olk_members.proofs.Clean.{free, not_fused, fused, names_fused}
 use Rattle.olk_members.proofs.Children.{shown_at, shown_declared, branches_shown, accepting_branches, any_shown, properties_child, required_child, no_required_child, all_of_child, any_of_child, not_child, leaf_child}
@@ -306,22 +306,22 @@ module _ {K R : Type 0} (o : Kit K R) where
         turned false true = refl
         turned false false = refl
 
-  -- what is planned for an object, by its fused names
-  abbrev by_names : Option (Name × Name) → Planned
-  by_names t = record { fused = t }
+  -- what is planned for an object, by its fused names and by whether `if` is read
+  abbrev pub by_names : Option (Name × Name) → Bool → Planned
+  by_names t c = record { fused = t; condition = c }
 
-  pub means_form : (k : KeywordOver K (SchemaNode K R)) (m : SmallMap (SchemaNode K R)) (L P : Path) (t : Option (Name × Name)) (fs : Members) (d : Data) → d ≡ object fs → m.names ≡ map (λ e. e.0) (listed fs) → StandEach o m.nodes.items (listed fs) L → IsFormOfProperties P L m t k
-      → (ms : Members) → L ≡ P // codes "properties" → has_repeat (names_of (listed ms)) ≡ false → lookup (codes "properties") (listed ms) ≡ Some d → t ≡ fused_names ms → KeywordsMean o ms (k ∷ []) (claims (head (by_names t)) (listed ms) (codes "properties", d)) ((codes "properties", d) ∷ []) P
-  means_form (keyword.Properties k) m L P None fs d q names stand form ms p distinct there chosen =
-      subst (λ rows. KeywordsMean o ms (keyword.Properties k ∷ []) rows ((codes "properties", d) ∷ []) P) (sym (claims_itself ms distinct (head (by_names None)) (codes "properties", d) (λ n. refl) there))
+  pub means_form : (k : KeywordOver K (SchemaNode K R)) (m : SmallMap (SchemaNode K R)) (L P : Path) (t : Option (Name × Name)) (c : Bool) (fs : Members) (d : Data) → d ≡ object fs → m.names ≡ map (λ e. e.0) (listed fs) → StandEach o m.nodes.items (listed fs) L → IsFormOfProperties P L m t k
+      → (ms : Members) → L ≡ P // codes "properties" → has_repeat (names_of (listed ms)) ≡ false → lookup (codes "properties") (listed ms) ≡ Some d → t ≡ fused_names ms → KeywordsMean o ms (k ∷ []) (claims (head (by_names t c)) (listed ms) (codes "properties", d)) ((codes "properties", d) ∷ []) P
+  means_form (keyword.Properties k) m L P None c fs d q names stand form ms p distinct there chosen =
+      subst (λ rows. KeywordsMean o ms (keyword.Properties k ∷ []) rows ((codes "properties", d) ∷ []) P) (sym (claims_itself ms distinct (head (by_names None c)) (codes "properties", d) (λ n. past_cases c (codes "properties") n (λ e. (refl, refl))) there))
       (subst (λ x. KeywordsMean o ms (keyword.Properties x ∷ []) ((codes "properties", d) ∷ []) ((codes "properties", d) ∷ []) P) (λ i. record { properties = sym form.0 i; location = sym form.1 i })
       (means_alone o ms P _ (codes "properties", d)
       (λ clean u. (there, free o.world ms P clean (meaning_step o.world u), fused o.world ms P clean (meaning_step o.world u) ∙ ap is_some (sym chosen)))
       (means_properties m L fs d q names stand ms P p)))
-  means_form (keyword.PropertiesWithRequired2 k) m L P (Some t) fs d q names stand form ms p distinct there chosen =
+  means_form (keyword.PropertiesWithRequired2 k) m L P (Some t) c fs d q names stand form ms p distinct there chosen =
       let both = fuses ms distinct t chosen in
       let plain = means_properties m L fs d q names stand ms P p in
-      means_permuted o ms P (keyword.PropertiesWithRequired2 k ∷ []) ((codes "properties", d) ∷ (codes "required", listing t) ∷ []) (claims (head (by_names (Some t))) (listed ms) (codes "properties", d)) ((codes "properties", d) ∷ []) (claims_both ms distinct t d there chosen) record {
+      means_permuted o ms P (keyword.PropertiesWithRequired2 k ∷ []) ((codes "properties", d) ∷ (codes "required", listing t) ∷ []) (claims (head (by_names (Some t) c)) (listed ms) (codes "properties", d)) ((codes "properties", d) ∷ []) (claims_both ms distinct t c d there chosen) record {
         covers = covers_both ms m L P k t form d plain.holds;
         shows = λ clean u v Q.
             let step = meaning_step o.world u in
@@ -329,8 +329,8 @@ module _ {K R : Type 0} (o : Kit K R) where
             ∙ (λ i. shown_declared o.world u v (P // codes "properties") Q (listed fs) (put_if (sym (fused o.world ms P clean step ∙ ap is_some (sym chosen)) i && not (is_empty (missing (sym (names_fused step ms t both.listed_at) i) v))) (erring (P // codes "required") Q (required_faults (sym (names_fused step ms t both.listed_at) i) v (P // codes "required") Q)) []) ∷ [])
             ∙ sym (append-nil _ ∙ ap (λ x. member_child o.world ms (codes "properties", x) properties u v P Q) q ∙ properties_child o.world u v ms P Q fs (there ∙ ap Some q) (free o.world ms P clean step));
       }
-  means_form k m L P None fs d q names stand form ms p distinct there chosen = absurd form
-  means_form k m L P (Some t) fs d q names stand form ms p distinct there chosen = absurd form
+  means_form k m L P None c fs d q names stand form ms p distinct there chosen = absurd form
+  means_form k m L P (Some t) c fs d q names stand form ms p distinct there chosen = absurd form
 
   -- ---- branches
 
@@ -486,15 +486,15 @@ module _ {K R : Type 0} (o : Kit K R) where
   }
 
   -- the names are fused
-  pub means_fused : (t : Name × Name) (d : Data) (ms : Members) (P : Path) → Some t ≡ fused_names ms → KeywordsMean o ms [] (claims (head (by_names (Some t))) (listed ms) (codes "required", d)) ((codes "required", d) ∷ []) P
-  means_fused t d ms P chosen = subst (λ rows. KeywordsMean o ms [] rows ((codes "required", d) ∷ []) P) (sym (claims_nothing t (listed ms) d)) record {
+  pub means_fused : (t : Name × Name) (c : Bool) (d : Data) (ms : Members) (P : Path) → Some t ≡ fused_names ms → KeywordsMean o ms [] (claims (head (by_names (Some t) c)) (listed ms) (codes "required", d)) ((codes "required", d) ∷ []) P
+  means_fused t c d ms P chosen = subst (λ rows. KeywordsMean o ms [] rows ((codes "required", d) ∷ []) P) (sym (claims_nothing t c (listed ms) d)) record {
     covers = record { verdict = λ u v. refl; asks_within = λ u v. omega arith; faults = λ u v Q. like_empty };
     shows = λ clean u v Q. sym (append-nil _ ∙ no_required_child o.world u v ms P Q d (not_fused o.world ms P clean (meaning_step o.world u)) (fused o.world ms P clean (meaning_step o.world u) ∙ ap is_some (sym chosen)));
   }
 
-  pub means_required_alone : (names : Vec (String Global) Global) (L : Path) (d : Data) → map string_bytes names.items ≡ texts d → (ms : Members) (P : Path) → L ≡ P // codes "required" → has_repeat (names_of (listed ms)) ≡ false → lookup (codes "required") (listed ms) ≡ Some d → None ≡ fused_names ms → KeywordsMean o ms (keyword.Required (record { required = names; location = L }) ∷ []) (claims (head (by_names None)) (listed ms) (codes "required", d)) ((codes "required", d) ∷ []) P
-  means_required_alone names L d same ms P p distinct there chosen =
-      subst (λ rows. KeywordsMean o ms (keyword.Required (record { required = names; location = L }) ∷ []) rows ((codes "required", d) ∷ []) P) (sym (claims_itself ms distinct (head (by_names None)) (codes "required", d) (λ n. refl) there))
+  pub means_required_alone : (names : Vec (String Global) Global) (L : Path) (c : Bool) (d : Data) → map string_bytes names.items ≡ texts d → (ms : Members) (P : Path) → L ≡ P // codes "required" → has_repeat (names_of (listed ms)) ≡ false → lookup (codes "required") (listed ms) ≡ Some d → None ≡ fused_names ms → KeywordsMean o ms (keyword.Required (record { required = names; location = L }) ∷ []) (claims (head (by_names None c)) (listed ms) (codes "required", d)) ((codes "required", d) ∷ []) P
+  means_required_alone names L c d same ms P p distinct there chosen =
+      subst (λ rows. KeywordsMean o ms (keyword.Required (record { required = names; location = L }) ∷ []) rows ((codes "required", d) ∷ []) P) (sym (claims_itself ms distinct (head (by_names None c)) (codes "required", d) (λ n. past_cases c (codes "required") n (λ e. (refl, refl))) there))
       (means_alone o ms P _ (codes "required", d)
       (λ clean u. (not_fused o.world ms P clean (meaning_step o.world u), fused o.world ms P clean (meaning_step o.world u) ∙ ap is_some (sym chosen))) (means_required names L d same ms P p))
 
@@ -504,8 +504,8 @@ module _ {K R : Type 0} (o : Kit K R) where
   neither_of ms u k d e f required n = absurd (true≢false (ap (bytes_eq (codes "required")) (sym n) ∙ f))
   neither_of ms u k d e f w n = tt
 
-  pub means_own : (ks : List (KeywordOver K (SchemaNode K R))) (p : Planned) (ms : Members) (m : Name × Data) (P : Path) → has_repeat (names_of (listed ms)) ≡ false → lookup m.0 (listed ms) ≡ Some m.1 → bytes_eq (codes "properties") m.0 ≡ false → bytes_eq (codes "required") m.0 ≡ false → KeywordMeans o ms ks m P → KeywordsMean o ms ks (claims (head p) (listed ms) m) (m ∷ []) P
-  means_own ks p ms m P distinct there e f h = subst (λ rows. KeywordsMean o ms ks rows (m ∷ []) P) (sym (claims_itself ms distinct (head p) m (heads_elsewhere p m.0 e f) there))
+  pub means_own : (ks : List (KeywordOver K (SchemaNode K R))) (p : Planned) (ms : Members) (m : Name × Data) (P : Path) → has_repeat (names_of (listed ms)) ≡ false → lookup m.0 (listed ms) ≡ Some m.1 → bytes_eq (codes "properties") m.0 ≡ false → bytes_eq (codes "required") m.0 ≡ false → IsNoCase p.condition m.0 → KeywordMeans o ms ks m P → KeywordsMean o ms ks (claims (head p) (listed ms) m) (m ∷ []) P
+  means_own ks p ms m P distinct there e f apart h = subst (λ rows. KeywordsMean o ms ks rows (m ∷ []) P) (sym (claims_itself ms distinct (head p) m (heads_elsewhere p m.0 e f apart) there))
       (means_alone o ms P ks m (λ clean u. neither_of ms u m.0 m.1 e f (keyword_named o.world m.0) (is_named m.0 o.world)) h)
 
   -- ---- leaves, and names that nothing reads

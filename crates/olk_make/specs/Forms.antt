@@ -34,6 +34,13 @@ IsFormOfProperties P L m None (keyword.Properties k) = (k.properties ≡ m) × (
 IsFormOfProperties P L m (Some t) (keyword.PropertiesWithRequired2 k) = (k.properties ≡ m) × (k.location ≡ L) × (string_bytes k.first ≡ t.0) × (string_bytes k.second ≡ t.1) × (k.required_location ≡ P // codes "required")
 IsFormOfProperties P L m t k = ⊥
 
+-- `if` over its node, and those of `then` and `else` that there are
+abbrev pub IsFormOfIf : {K N : Type 0} → Path → N → Option N → Option N → KeywordOver K N → Type 0
+IsFormOfIf L n (Some t) None (keyword.IfThen k) = (k.schema ≡ n) × (k.then_schema ≡ t) × (k.location ≡ L)
+IsFormOfIf L n None (Some e) (keyword.IfElse k) = (k.schema ≡ n) × (k.else_schema ≡ e) × (k.location ≡ L)
+IsFormOfIf L n (Some t) (Some e) (keyword.IfThenElse k) = (k.schema ≡ n) × (k.then_schema ≡ t) × (k.else_schema ≡ e) × (k.location ≡ L)
+IsFormOfIf L n t e k = ⊥
+
 -- ---- the form for a value, at its place L
 
 -- `allOf` of one branch is the single form, and of none or several the other
@@ -56,6 +63,13 @@ IsOneOf L d k = ⊥
 abbrev pub IsNot : {K N : Type 0} → Path → Data → KeywordOver K N → Type 0
 IsNot L d (keyword.Not k) = (view k.original ≡ d) × (k.location ≡ L)
 IsNot L d k = ⊥
+
+-- `if` beside `then`, beside `else`, or beside both
+abbrev pub IsIf : {K N : Type 0} → Path → Bool → Bool → KeywordOver K N → Type 0
+IsIf L true false (keyword.IfThen k) = k.location ≡ L
+IsIf L false true (keyword.IfElse k) = k.location ≡ L
+IsIf L true true (keyword.IfThenElse k) = k.location ≡ L
+IsIf L t e k = ⊥
 
 abbrev pub IsRequired : {K N : Type 0} → Path → Data → KeywordOver K N → Type 0
 IsRequired L d (keyword.Required k) = (map string_bytes k.required.items ≡ texts d) × (k.location ≡ L)

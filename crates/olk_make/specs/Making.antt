@@ -1,5 +1,5 @@
 -- What making the validators of a schema object from its parts promises.
-use Rattle.std.specs.Prelude.{◌≡◌, false, Bool, List, [], ◌∷◌, map, Some}
+use Rattle.std.specs.Prelude.{◌≡◌, true, false, Bool, List, [], ◌∷◌, map, codes, Some}
 use Rattle.std.specs.List.{flat_map}
 use Rattle.serde_json.specs.Data.{Data, Members}
 use Rattle.olk_spec.specs.Names.{Name, Path, ◌//◌, lookup}
@@ -11,8 +11,11 @@ use Rattle.olk_tree.specs.declared.node.KeywordOver.{KeywordOver}
 use Rattle.olk_members.specs.Plans.{Planned, plan_of, head, claims}
 use Rattle.olk_members.specs.Members.{member_child, StandsAlone}
 use Rattle.olk_make.specs.Holding.{which, all_malformed, show, Holds, Covers}
-use Rattle.olk_read.specs.Reading.{reads_of, IsShape}
-use Rattle.olk_make.specs.Standing.{StandAt}
+use Rattle.olk_members.specs.Conditions.{is_condition}
+use Rattle.olk_node.specs.Stands.{StandsFor}
+use Rattle.olk_read.specs.Reading.{reads_of, IsShape, Fits}
+use Rattle.olk_make.specs.Standing.{StandAt, is_case_shape, is_if_shape, CasesStand}
+use Rattle.olk_make.specs.declared.part.Cases.{Cases}
 use Rattle.olk_read.specs.declared.shape.Shape.{Shape}
 
 module _ {K R : Type 0} (o : Kit K R) where
@@ -38,5 +41,18 @@ module _ {K R : Type 0} (o : Kit K R) where
   -- and what it claims in each object at P that has this plan
   abbrev pub MakesClaims : Shape K → Path → List (SchemaNode K R) → Path → Planned → List (KeywordOver K (SchemaNode K R)) → Type 0
   MakesClaims x L ns P p ks = (ms : Members) (m : Name × Data) → L ≡ P // m.0 → IsShape o m.0 m.1 x → StandAt o (reads_of x) ns m.1 L
+      → has_repeat (map (λ m. m.0) (listed ms)) ≡ false → lookup m.0 (listed ms) ≡ Some m.1 → p ≡ plan_of ms
+      → KeywordsMean ms ks (claims (head p) (listed ms) m) (m ∷ []) P
+
+  -- keywords that are made of the nodes of `if`, `then` and `else` mean all three, in each object where `if` is read
+  abbrev pub MakesCondition : Path → SchemaNode K R → Cases (SchemaNode K R) → List (KeywordOver K (SchemaNode K R)) → Type 0
+  MakesCondition L n cs ks = (ms : Members) (d : Data) (P : Path) → L ≡ P // codes "if" → StandsFor o n d L → CasesStand o cs ms P
+      → has_repeat (map (λ m. m.0) (listed ms)) ≡ false → lookup (codes "if") (listed ms) ≡ Some d → is_condition ms ≡ true
+      → KeywordsMean ms ks (claims (head (plan_of ms)) (listed ms) (codes "if", d)) ((codes "if", d) ∷ []) P
+
+  -- keywords that are made of a part mean what its member claims, in each object at P that has this plan; `if` takes the nodes of `then` and `else`
+  abbrev pub MakesPart : Shape K → Path → List (SchemaNode K R) → Cases (SchemaNode K R) → Path → Planned → List (KeywordOver K (SchemaNode K R)) → Type 0
+  MakesPart x L ns cs P p ks = (ms : Members) (m : Name × Data) → L ≡ P // m.0 → IsShape o m.0 m.1 x → Fits p.condition x
+      → (is_case_shape x ≡ false → StandAt o (reads_of x) ns m.1 L) → (is_if_shape x ≡ true → CasesStand o cs ms P)
       → has_repeat (map (λ m. m.0) (listed ms)) ≡ false → lookup m.0 (listed ms) ≡ Some m.1 → p ≡ plan_of ms
       → KeywordsMean ms ks (claims (head p) (listed ms) m) (m ∷ []) P

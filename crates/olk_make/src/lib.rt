@@ -6,6 +6,7 @@
 
 pub mod all_of;
 pub mod any_of;
+pub mod if_;
 mod making;
 pub mod not;
 pub mod one_of;
@@ -14,4 +15,4 @@ pub mod properties;
 pub mod required;
 
 pub use making::make_keywords;
-pub use part::Part;
+pub use part::{Cases, Part};

@@ -1,14 +1,17 @@
 //! Making the validators of a schema object from its parts.
-ghost use Rattle.std.specs.Prelude.{option_to_list, IfOk};
+ghost use Rattle.std.specs.Prelude.{◌≡◌, false, List, option_to_list, IfOk};
 ghost use Rattle.serde_json.specs.View.{members_view};
+ghost use Rattle.serde_json.specs.Data.{Data};
+ghost use Rattle.olk_spec.specs.Names.{Name, Path};
 ghost use Rattle.olk_spec.specs.Schemas.{listed};
 ghost use Rattle.olk_base.specs.Kit.{kit};
+ghost use Rattle.olk_members.specs.Conditions.{is_condition};
 ghost use Rattle.olk_members.specs.Plans.{planned};
-ghost use Rattle.olk_make.specs.Standing.{PartsStand};
-ghost use Rattle.olk_make.specs.Making.{MakesClaims, ObjectIsMade};
+ghost use Rattle.olk_make.specs.Standing.{is_case_shape, is_if_shape, TakesCase, PartsStand, CasesAreTaken};
+ghost use Rattle.olk_make.specs.Making.{MakesPart, ObjectIsMade};
 
-use crate::part::Part;
-use crate::{all_of, any_of, not, one_of, properties, required};
+use crate::part::{Cases, Part};
+use crate::{all_of, any_of, if_, not, one_of, properties, required};
 use olk_base::{Leaf, RegexEngine};
 use olk_members::Plan;
 use olk_node::{Keyword, SchemaNode};
@@ -18,7 +21,57 @@ use olk_tree::node::KeywordOver;
 use serde_json::{Map, Value};
 use std::alloc::{AllocError, Global};
 
-/// The keyword of a part of the object at the place, if it is read and the plan names no other for it.
+/// The part without its node, where it is `then` or `else`, and else as it is.
+fn take_case<K, N: Drop>(cases: &mut Cases<N>, part: Part<K, N>) -> Part<K, N>
+    ensures takes { TakesCase part.shape part.nodes.items cases.old cases.new }
+    ensures location { result.location ≡ part.location }
+    ensures shape { result.shape ≡ part.shape }
+    ensures nodes { is_case_shape part.shape ≡ false → result.nodes.items ≡ part.nodes.items }
+{
+    let Part {
+        location,
+        shape,
+        mut nodes,
+    } = part;
+    match shape {
+        Shape::Then => cases.then_schema = nodes.pop(),
+        Shape::Else => cases.else_schema = nodes.pop(),
+        _ => {}
+    }
+    Part {
+        location,
+        shape,
+        nodes,
+    }
+}
+
+/// The nodes of `then` and `else`, and the parts without them; none, and the parts as they are, where `if` is not read.
+///
+/// # Errors
+///
+/// Want of memory.
+fn take_cases<K: Leaf, R: RegexEngine>(
+    alloc: Global,
+    condition: bool,
+    parts: Vec<Part<K, SchemaNode<K, R>>>,
+) -> Result<(Cases<SchemaNode<K, R>>, Vec<Part<K, SchemaNode<K, R>>>), AllocError>
+    ensures { IfOk result (λ r. (es : List (Name × Data)) (P : Path)
+        → PartsStand (kit K.Leaf R.RegexEngine) condition parts.items es P
+        → CasesAreTaken (kit K.Leaf R.RegexEngine) condition es P r.0 r.1.items) }
+{
+    let mut cases = Cases::none();
+    if !condition {
+        return Ok((cases, parts));
+    }
+    let mut left = Vec::new(alloc);
+    for part in parts {
+        append(&mut left, take_case(&mut cases, part))?;
+    }
+    Ok((cases, left))
+}
+
+/// The keyword of a part of the object at the place, if it is read and the plan names no other for it. `if` takes the
+/// nodes of `then` and `else`.
 ///
 /// # Errors
 ///
@@ -27,15 +80,18 @@ fn make_keyword<K: Leaf, R: RegexEngine>(
     alloc: Global,
     plan: Plan<'_>,
     place: &Location,
+    cases: &mut Cases<SchemaNode<K, R>>,
     part: Part<K, SchemaNode<K, R>>,
 ) -> Result<Option<Keyword<K, R>>, AllocError>
-    ensures { IfOk result (λ o. MakesClaims (kit K.Leaf R.RegexEngine) part.shape
-        part.location part.nodes.items place.now (planned plan.entry) (option_to_list o)) }
+    ensures makes { IfOk result (λ o. MakesPart (kit K.Leaf R.RegexEngine) part.shape
+        part.location part.nodes.items cases.old place.now (planned plan.entry)
+        (option_to_list o)) }
+    ensures kept { is_if_shape part.shape ≡ false → cases.new ≡ cases.old }
 {
     let Part {
         location,
         shape,
-        nodes,
+        mut nodes,
     } = part;
     match shape {
         Shape::Properties(names) => Ok(Some(properties::make(
@@ -46,6 +102,11 @@ fn make_keyword<K: Leaf, R: RegexEngine>(
         Shape::AnyOf => Ok(Some(any_of::make(location, nodes))),
         Shape::OneOf => Ok(Some(one_of::make(location, nodes))),
         Shape::Not(original) => Ok(not::make(location, original, nodes)),
+        Shape::If => match nodes.pop() {
+            Some(schema) => Ok(if_::make(location, schema, cases.take())),
+            None => Ok(None),
+        },
+        Shape::Then | Shape::Else | Shape::Unpaired => Ok(None),
         Shape::Leaf(leaf) => Ok(Some(KeywordOver::Leaf(location, leaf))),
         Shape::Unread => Ok(None),
     }
@@ -62,15 +123,17 @@ pub fn make_keywords<K: Leaf, R: RegexEngine>(
     members: &Map<String, Value>,
     parts: Vec<Part<K, SchemaNode<K, R>>>,
 ) -> Result<Vec<Keyword<K, R>>, AllocError>
-    requires { PartsStand (kit K.Leaf R.RegexEngine) parts.items
+    requires { PartsStand (kit K.Leaf R.RegexEngine)
+        (is_condition (members_view members.now.entries)) parts.items
         (listed (members_view members.now.entries)) place.now }
     ensures { IfOk result (λ ks. ObjectIsMade (kit K.Leaf R.RegexEngine)
         (members_view members.now.entries) ks.items place.now) }
 {
     let plan = Plan::of(members);
+    let (mut cases, parts) = take_cases(alloc, plan.is_condition(), parts)?;
     let mut keywords = Vec::new(alloc);
     for part in parts {
-        if let Some(keyword) = make_keyword(alloc, plan, place, part)? {
+        if let Some(keyword) = make_keyword(alloc, plan, place, &mut cases, part)? {
             append(&mut keywords, keyword)?;
         }
     }

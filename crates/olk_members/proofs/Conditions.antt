@@ -1,25 +1,55 @@
 -- `if`, `then` and `else`, over the raw data of their values.
 use Rattle.std.specs.Prelude.{◌≡◌, ℕ, ◌+◌, Bool, true, false, not, cond, ◌&&◌, ◌||◌, List, [], ◌∷◌, ◌++◌, map, codes, is_some, Option, Some, None, option_to_list, sum_by}
 use Rattle.std.specs.List.{list_all, list_any, flat_map}
-use Rattle.std.proofs.Common.{refl, sym, ap, ◌∙◌, arith}
+use Rattle.std.specs.Prelude.{bytes_eq}
+use Rattle.std.proofs.Common.{refl, sym, ap, subst, ◌∙◌, ◌⊎◌, inl, inr, arith}
 use Rattle.std.proofs.lemmas.List.{append-nil}
 use Rattle.std.proofs.lemmas.List.Sums.{sum_by-cons}
 use mathlib.Core.Bool.{true≢false}
 use Rattle.serde_json.specs.Data.{Data, Members}
 use Rattle.olk_spec.specs.Names.{Name, Path, ◌//◌, down, lookup, put_if}
 use Rattle.olk_spec.specs.World.{World}
-use Rattle.olk_spec.specs.Vocabulary.{if_keyword, then_keyword, else_keyword}
+use Rattle.olk_spec.specs.Vocabulary.{if_keyword, then_keyword, else_keyword, keyword_named}
 use Rattle.olk_spec.specs.Faults.{Fault}
 use Rattle.olk_spec.specs.Schemas.{Schema, Keywords, read, read_members, answer_for, listed, wholes_at}
+use Rattle.olk_spec.specs.Malformed.{read_places, places_where, itself}
 use Rattle.olk_spec.specs.Meanings.{Meaning, is_conditional, if_accepts, if_refuses, Asked, asked}
 use Rattle.olk_spec.specs.Meaning.{accepts, asks, report, tree, meaning, meaning_step}
 use Rattle.olk_spec.specs.Tree.{Tree, plain}
 use Rattle.olk_spec.specs.Trees.{case_trees}
 use Rattle.olk_spec.proofs.Truth.{and_true, or_false}
+use Rattle.olk_spec.proofs.Walks.{same_name}
 use Rattle.olk_spec.proofs.Reading.{place, lookup_listed, whole_read, is_present_read, wholes_there, wholes_absent, wholes_at_read}
 use Rattle.olk_members.specs.Members.{member_accepts, member_asks, member_report, member_child}
-use Rattle.olk_members.specs.Conditions.{is_condition}
+use Rattle.olk_members.specs.Conditions.{is_condition, is_conditional_name, IsKnown}
 use Rattle.olk_members.proofs.Facts.{nothing_first, nothing_last}
+
+-- ---- the three names
+
+pub conditional_named : (k : Name) → is_conditional_name k ≡ true → (k ≡ codes "if") ⊎ (k ≡ codes "then") ⊎ (k ≡ codes "else")
+conditional_named k e = by (bytes_eq k (codes "if")) (bytes_eq k (codes "then")) (bytes_eq k (codes "else")) refl refl refl e
+  where
+    by : (a b c : Bool) → bytes_eq k (codes "if") ≡ a → bytes_eq k (codes "then") ≡ b → bytes_eq k (codes "else") ≡ c → (a || (b || (c || false))) ≡ true → (k ≡ codes "if") ⊎ (k ≡ codes "then") ⊎ (k ≡ codes "else")
+    by true b c p q r h = inl (same_name k (codes "if") p)
+    by false true c p q r h = inr (inl (same_name k (codes "then") q))
+    by false false true p q r h = inr (inr (same_name k (codes "else") r))
+    by false false false p q r h = absurd (true≢false (sym h))
+
+or_true : (b : Bool) → (b || true) ≡ true
+or_true true = refl
+or_true false = refl
+
+absent_if : {X : Type 0} (o : Option X) → is_some o ≡ false → o ≡ None
+absent_if None e = refl
+absent_if (Some x) e = absurd (true≢false e)
+
+-- beside `then`, and beside `else`, `if` is read where it is there
+module _ (ms : Members) where
+  if_beside_then : is_some (lookup (codes "then") (listed ms)) ≡ true → is_condition ms ≡ is_some (lookup (codes "if") (listed ms))
+  if_beside_then there = ap (λ b. is_some (lookup (codes "if") (listed ms)) && (b || is_some (lookup (codes "else") (listed ms)))) there ∙ and_true _
+
+  if_beside_else : is_some (lookup (codes "else") (listed ms)) ≡ true → is_condition ms ≡ is_some (lookup (codes "if") (listed ms))
+  if_beside_else there = ap (λ b. is_some (lookup (codes "if") (listed ms)) && (is_some (lookup (codes "then") (listed ms)) || b)) there ∙ ap (λ b. is_some (lookup (codes "if") (listed ms)) && b) (or_true _) ∙ and_true _
 
 module _ {X : Type 0} (step : Schema X → X) (ms : Members) where
   present : (k : Name) → is_some (lookup k (read_members step ms)) ≡ is_some (lookup k (listed ms))
@@ -27,6 +57,21 @@ module _ {X : Type 0} (step : Schema X → X) (ms : Members) where
 
   pub condition_read : is_conditional (read_members step ms) ≡ is_condition ms
   condition_read = λ i. present (codes "if") i && (present (codes "then") i || present (codes "else") i)
+
+  -- ---- the places that are read
+
+  module _ (W : World) (k : Name) (d : Data) (c : Bool) (known : IsKnown c ms k) where
+    abbrev PlacesByCondition : Name → Type 0
+    PlacesByCondition n = read_places n (read_members step ms) (read step d) (keyword_named W n) ≡ places_where n c (itself n (read step d).whole)
+
+    -- itself, where `if` is read
+    pub places_by_condition : is_conditional_name k ≡ true → PlacesByCondition k
+    places_by_condition e = by (conditional_named k e)
+      where
+        by : (k ≡ codes "if") ⊎ (k ≡ codes "then") ⊎ (k ≡ codes "else") → PlacesByCondition k
+        by (inl q) = subst PlacesByCondition (sym q) (ap (λ b. places_where (codes "if") b (itself (codes "if") (read step d).whole)) (condition_read ∙ sym (known e).0))
+        by (inr (inl q)) = subst PlacesByCondition (sym q) (ap (λ b. places_where (codes "then") b (itself (codes "then") (read step d).whole)) (present (codes "if") ∙ sym (if_beside_then ms (ap (λ n. is_some (lookup n (listed ms))) (sym q) ∙ (known e).1)) ∙ sym (known e).0))
+        by (inr (inr q)) = subst PlacesByCondition (sym q) (ap (λ b. places_where (codes "else") b (itself (codes "else") (read step d).whole)) (present (codes "if") ∙ sym (if_beside_else ms (ap (λ n. is_some (lookup n (listed ms))) (sym q) ∙ (known e).1)) ∙ sym (known e).0))
 
 -- what is shown where the test holds, of the schema that stands there
 module _ (W : World) (u : Bool) (v : Data) where
@@ -66,6 +111,12 @@ module _ (W : World) (ms : Members) (u : Bool) (v : Data) where
 
     pub else_asks_alone : member_asks W ms (codes "else", d) else_keyword u v ≡ 0
     else_asks_alone = ap (λ ss. sum_by (λ a. a.sub.answer.asks a.value) (put_if (list_any (λ s. not (s.answer.accepts v)) ss) (asked (read (meaning_step W u) d).whole v (codes "else" ∷ []) []) []) + 0) none
+
+    pub then_report_alone : (P Q : Path) → member_report W ms (codes "then", d) then_keyword u v P Q ≡ []
+    then_report_alone P Q = ap (λ ss. flat_map (λ a. a.sub.answer.report a.value (down P a.in_schema) (down Q a.in_instance)) (put_if (list_any (λ s. s.answer.accepts v) ss) (asked (read (meaning_step W u) d).whole v (codes "then" ∷ []) []) []) ++ []) none
+
+    pub else_report_alone : (P Q : Path) → member_report W ms (codes "else", d) else_keyword u v P Q ≡ []
+    else_report_alone P Q = ap (λ ss. flat_map (λ a. a.sub.answer.report a.value (down P a.in_schema) (down Q a.in_instance)) (put_if (list_any (λ s. not (s.answer.accepts v)) ss) (asked (read (meaning_step W u) d).whole v (codes "else" ∷ []) []) []) ++ []) none
 
   -- ---- where it is read
 
@@ -144,3 +195,34 @@ module _ (W : World) (ms : Members) (u : Bool) (v : Data) where
       (plain (P // codes "if") Q (put_if ((whole_read (meaning_step W u) d i).answer.accepts v) ((whole_read (meaning_step W u) d i).answer.tree v (P // codes "if") Q) []
       ++ case_read d ((whole_read (meaning_step W u) d i).answer.accepts v) (codes "then") P Q i
       ++ case_read d (not ((whole_read (meaning_step W u) d i).answer.accepts v)) (codes "else") P Q i)) []
+
+-- ---- one of the three where none is read
+
+-- it accepts everything, finds nothing and shows nothing
+pub record MeansNothing (W : World) (ms : Members) (m : Name × Data) : Type 0 where
+  pub verdict : (u : Bool) (v : Data) → member_accepts W ms m (keyword_named W m.0) u v ≡ true
+  pub report : (u : Bool) (v : Data) (P Q : Path) → member_report W ms m (keyword_named W m.0) u v P Q ≡ []
+  pub child : (u : Bool) (v : Data) (P Q : Path) → member_child W ms m (keyword_named W m.0) u v P Q ≡ []
+
+pub unpaired_means_nothing : (W : World) (ms : Members) (m : Name × Data) → is_conditional_name m.0 ≡ true → is_condition ms ≡ false → is_some (lookup m.0 (listed ms)) ≡ true → MeansNothing W ms m
+unpaired_means_nothing W ms m e unread there = by (conditional_named m.0 e)
+  where
+    absent : (n : Name) → is_condition ms ≡ is_some (lookup n (listed ms)) → lookup n (listed ms) ≡ None
+    absent n q = absent_if (lookup n (listed ms)) (sym q ∙ unread)
+
+    by : (m.0 ≡ codes "if") ⊎ (m.0 ≡ codes "then") ⊎ (m.0 ≡ codes "else") → MeansNothing W ms m
+    by (inl q) = subst (λ n. MeansNothing W ms (n, m.1)) (sym q) record {
+      verdict = λ u v. refl;
+      report = λ u v P Q. refl;
+      child = λ u v P Q. if_shows_alone W ms u v m.1 unread P Q;
+    }
+    by (inr (inl q)) = let none = absent (codes "if") (if_beside_then ms (ap (λ n. is_some (lookup n (listed ms))) (sym q) ∙ there)) in subst (λ n. MeansNothing W ms (n, m.1)) (sym q) record {
+      verdict = λ u v. then_accepts_alone W ms u v m.1 none;
+      report = λ u v P Q. then_report_alone W ms u v m.1 none P Q;
+      child = λ u v P Q. refl;
+    }
+    by (inr (inr q)) = let none = absent (codes "if") (if_beside_else ms (ap (λ n. is_some (lookup n (listed ms))) (sym q) ∙ there)) in subst (λ n. MeansNothing W ms (n, m.1)) (sym q) record {
+      verdict = λ u v. else_accepts_alone W ms u v m.1 none;
+      report = λ u v P Q. else_report_alone W ms u v m.1 none P Q;
+      child = λ u v P Q. refl;
+    }

@@ -13,7 +13,7 @@ use Rattle.olk_spec.specs.World.{World}
 use Rattle.olk_spec.specs.Vocabulary.{Keyword, properties, required, all_of, any_of, not_keyword, leaf, unread}
 use Rattle.olk_spec.specs.Faults.{Fault, AnyOf, Not, Leaf, SingleType, Unsupported, object_type, fault, context}
 use Rattle.olk_spec.specs.Schemas.{Sub, Schema, read, read_members, answer_for, listed, numbered, at, texts, branches, is_object}
-use Rattle.olk_spec.specs.Malformed.{pending, items_list, unless_array, not_a_text, each, malformations_step, malformations_beside, own_refusals, read_places}
+use Rattle.olk_spec.specs.Malformed.{pending, refusal, items_list, unless_array, not_a_text, each, malformations_step, malformations_beside, own_refusals, read_places}
 use Rattle.olk_spec.specs.Meanings.{Meaning, Subschema, Asked, asked, asked_whole}
 use Rattle.olk_spec.specs.Meaning.{accepts, asks, report, meaning, meaning_step}
 use Rattle.olk_spec.specs.Accepts.{missing}
@@ -76,6 +76,13 @@ module _ (W : World) (k : Name) where
   each_costs [] = refl
   each_costs (e ∷ es) = ap (λ c. cost W e.1 ⊕ c) (each_costs es)
 
+-- a name that is refused whatever its value, at its place
+abbrev pub refused_name : Name → Data → Path → List Fault
+refused_name k d L = put_if (is_among k pending) (refusal (Unsupported k) d L) []
+
+pub name_refused : (W : World) (k : Name) (d : Data) (L : Path) → put_if (is_among k pending) (refusal (Unsupported k) (read (malformations_step W pending) d).whole.schema L) [] ≡ refused_name k d L
+name_refused W k d L = ap (λ s. refused_name k s L) (schema_of_read (malformations_step W pending) d)
+
 -- ---- what a keyword asks of subschemas
 
 module _ (step : Schema Meaning → Meaning) (k : Name) (v : Data) where
@@ -101,18 +108,18 @@ module _ (step : Schema Meaning → Meaning) (k : Name) (v : Data) where
       flat_map-append (λ a. a.sub.answer.report a.value (down P a.in_schema) (down Q a.in_instance)) (map (λ w. asked (place step e.1) w (k ∷ e.0 ∷ []) (e.0 ∷ [])) (at e.0 v)) (at_members (map (entry step) es))
       ∙ (λ i. flat_map-map (λ a. a.sub.answer.report a.value (down P a.in_schema) (down Q a.in_instance)) (λ w. (answer_for step e.1).report w (P // k // e.0) (Q // e.0)) (λ w. asked (place step e.1) w (k ∷ e.0 ∷ []) (e.0 ∷ [])) (λ w. refl) (at e.0 v) i ++ at_members_find P Q es i)
 
-  at_whole_accept : (es : List (Name × Data)) → list_all (λ a. a.sub.answer.accepts a.value) (asked_whole k v (map (entry step) es)) ≡ list_all (λ e. (answer_for step e.1).accepts v) es
+  pub at_whole_accept : (es : List (Name × Data)) → list_all (λ a. a.sub.answer.accepts a.value) (asked_whole k v (map (entry step) es)) ≡ list_all (λ e. (answer_for step e.1).accepts v) es
   at_whole_accept [] = refl
   at_whole_accept (e ∷ es) = ap (λ b. (answer_for step e.1).accepts v && b) (at_whole_accept es)
 
-  at_whole_ask : (es : List (Name × Data)) → sum_by (λ a. a.sub.answer.asks a.value) (asked_whole k v (map (entry step) es)) ≡ sum_by (λ e. (answer_for step e.1).asks v) es
+  pub at_whole_ask : (es : List (Name × Data)) → sum_by (λ a. a.sub.answer.asks a.value) (asked_whole k v (map (entry step) es)) ≡ sum_by (λ e. (answer_for step e.1).asks v) es
   at_whole_ask [] = refl
   at_whole_ask (e ∷ es) =
       sum_by-cons (λ a. a.sub.answer.asks a.value) (asked (place step e.1) v (k ∷ e.0 ∷ []) []) (asked_whole k v (map (entry step) es))
       ∙ ap (λ n. (answer_for step e.1).asks v + n) (at_whole_ask es)
       ∙ sym (sum_by-cons (λ e. (answer_for step e.1).asks v) e es)
 
-  at_whole_find : (P Q : Path) (es : List (Name × Data)) → flat_map (λ a. a.sub.answer.report a.value (down P a.in_schema) (down Q a.in_instance)) (asked_whole k v (map (entry step) es)) ≡ flat_map (λ e. (answer_for step e.1).report v (P // k // e.0) Q) es
+  pub at_whole_find : (P Q : Path) (es : List (Name × Data)) → flat_map (λ a. a.sub.answer.report a.value (down P a.in_schema) (down Q a.in_instance)) (asked_whole k v (map (entry step) es)) ≡ flat_map (λ e. (answer_for step e.1).report v (P // k // e.0) Q) es
   at_whole_find P Q [] = refl
   at_whole_find P Q (e ∷ es) = ap (λ l. (answer_for step e.1).report v (P // k // e.0) Q ++ l) (at_whole_find P Q es)
 

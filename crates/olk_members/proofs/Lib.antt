@@ -8,3 +8,7 @@ pub mod Clean
 pub mod Objects
 pub mod OneOf
 pub mod Conditions
+pub mod Dependencies
+pub mod Asking
+pub mod PropertyNames
+pub mod PropertyDependencies

@@ -1,4 +1,6 @@
 pub mod Members
 pub mod Fused
-pub mod Plans
 pub mod Conditions
+pub mod Dependencies
+pub mod PropertyDependencies
+pub mod Plans

@@ -3,6 +3,7 @@ ghost use Rattle.std.specs.Prelude.{◌≡◌, false, is_some, map, option_map};
 ghost use Rattle.serde_json.specs.View.{view, members_view};
 ghost use Rattle.olk_spec.specs.Schemas.{listed};
 ghost use Rattle.olk_spec.specs.Malformed.{has_repeat};
+ghost use Rattle.olk_members.specs.Conditions.{is_condition};
 ghost use Rattle.olk_members.specs.Fused.{declares_few, allows_others, two_names, fused_names};
 ghost use Rattle.olk_members.specs.Plans.{plan_of, planned};
 
@@ -11,10 +12,11 @@ use olk_spec::HASHMAP_THRESHOLD;
 use serde_json::{Map, Value};
 
 /// What is decided of an object's keywords once, from its members: the two names that `properties` fuses from
-/// `required`.
+/// `required`, and whether `if` is read.
 #[derive(Clone, Copy)]
 pub struct Plan<'a> {
     fused: Option<(&'a str, &'a str)>,
+    condition: bool,
 }
 
 /// Whether few names are declared.
@@ -73,6 +75,14 @@ fn fused_names(members: &Map<String, Value>) -> Option<(&str, &str)>
     }
 }
 
+/// Whether `if` is read in an object with these members: it is beside `then` or `else` alone (JSON Schema 2020-12 Core,
+/// 10.2.2).
+pub fn is_condition(members: &Map<String, Value>) -> bool
+    ensures { result ≡ is_condition (members_view members.now.entries) }
+{
+    has_member(members, "if") && (has_member(members, "then") || has_member(members, "else"))
+}
+
 impl<'a> Plan<'a> {
     /// The plan of an object with these members, of which no two have one name.
     pub fn of(members: &'a Map<String, Value>) -> Plan<'a>
@@ -84,6 +94,7 @@ impl<'a> Plan<'a> {
         let _count = members.len();
         Plan {
             fused: fused_names(members),
+            condition: is_condition(members),
         }
     }
 
@@ -99,5 +110,12 @@ impl<'a> Plan<'a> {
         ensures { result ≡ is_some (planned self.entry).fused }
     {
         Option::is_some(&self.fused)
+    }
+
+    /// Whether `if` is read, and its validator stands for `then` and `else` too.
+    pub fn is_condition(self) -> bool
+        ensures { result ≡ (planned self.entry).condition }
+    {
+        self.condition
     }
 }

@@ -10,18 +10,18 @@ use Rattle.olk_spec.specs.Accepts.{missing}
 use Rattle.olk_spec.specs.Reports.{required_faults, fault_if}
 use Rattle.olk_spec.specs.Tree.{plain}
 use Rattle.olk_base.specs.Kit.{Kit}
-use Rattle.olk_tree.specs.Shown.{missing_trees}
+use Rattle.olk_tree.specs.Shown.{missing_trees, branch_trees}
 use Rattle.olk_tree.specs.Questions.{always, both, every}
-use Rattle.olk_tree.specs.Answers.{one_of_report, two_texts, or_else, head_of, first_of, validator_means, body_means, validator_report, body_report, validator_first, body_first, validator_tree, body_tree}
+use Rattle.olk_tree.specs.Answers.{named, due_nodes, chosen_nodes, one_of_report, two_texts, or_else, head_of, first_of, validator_means, body_means, validator_report, body_report, validator_first, body_first, validator_tree, body_tree}
 use Rattle.olk_node.specs.Nodes.{Answers, node_step, answers}
 use Rattle.olk_tree.specs.declared.node.KeywordOver.{KeywordOver}
 use Rattle.olk_tree.specs.declared.node.KeywordOver.TheVariants as keyword
 use Rattle.olk_tree.specs.declared.node.Body.{Body}
-use Rattle.olk_tree.specs.declared.node.Body.TheVariants.{True, False, Keywords}
+use Rattle.olk_tree.specs.declared.node.Body.TheVariants.{True, False, Keywords, RequiredNames}
 use Rattle.olk_node.specs.declared.node.SchemaNode.{SchemaNode, map-SchemaNode, out-SchemaNode, fold_out-SchemaNode}
 use Rattle.olk_node.specs.declared.node.SchemaNode.TheOpen.{SchemaNode-F}
 use Rattle.olk_spec.proofs.Maps.{flat_map-map, map-map}
-use Rattle.olk_tree.proofs.Maps.{every-map, some-map, every-beside, flat_map-beside, first_of-map, first_of-beside, properties_tree-map, branch_trees-map, any_of_tree-map, one_of_tree-map, how_many-map, exactly_one-map}
+use Rattle.olk_tree.proofs.Maps.{due_nodes-map, chosen_nodes-map, every-map, some-map, every-beside, flat_map-beside, first_of-map, first_of-beside, properties_tree-map, branch_trees-map, any_of_tree-map, one_of_tree-map, how_many-map, exactly_one-map}
 
 module _ {K R : Type 0} (o : Kit K R) where
   abbrev opened : SchemaNode-F K R (SchemaNode K R) → Body (KeywordOver K (SchemaNode K R)) → SchemaNode-F K R Answers
@@ -32,6 +32,7 @@ module _ {K R : Type 0} (o : Kit K R) where
   unfolding validator_means
   means_layer n True v = refl
   means_layer n False v = refl
+  means_layer n (RequiredNames k) v = refl
   means_layer n (Keywords ks) v = every-map (λ k. validator_means o.finds (λ a. a.means) k v) (λ k. validator_means o.finds (λ n. (answers o n).means) k v) _ (elim [
     | keyword.Properties k ↦ every-beside (λ e. every e.1.means (at e.0 v)) (λ e. every (answers o e.1).means (at e.0 v)) (answers o) (λ a y. refl) k.properties.names k.properties.nodes.items
     | keyword.PropertiesWithRequired2 k ↦ ap (both (always (is_empty (missing (two_texts k.first k.second) v)))) (every-beside (λ e. every e.1.means (at e.0 v)) (λ e. every (answers o e.1).means (at e.0 v)) (answers o) (λ a y. refl) k.properties.names k.properties.nodes.items)
@@ -46,6 +47,10 @@ module _ {K R : Type 0} (o : Kit K R) where
     | keyword.IfThen k ↦ refl
     | keyword.IfElse k ↦ refl
     | keyword.IfThenElse k ↦ refl
+    | keyword.Dependencies k ↦ ap (every (λ a. a.means v)) (due_nodes-map (answers o) v k.dependencies.names k.dependencies.nodes.items) ∙ every-map (λ a. a.means v) (λ n. (answers o n).means v) (answers o) (λ n. refl) (due_nodes (named k.dependencies) v)
+    | keyword.PropertyNames k ↦ refl
+    | keyword.PropertyNamesFalse k ↦ refl
+    | keyword.PropertyDependencies k ↦ ap (every (λ a. a.means v)) (chosen_nodes-map (answers o) v _ (λ m. refl) k.dependencies.names k.dependencies.nodes.items) ∙ every-map (λ a. a.means v) (λ n. (answers o n).means v) (answers o) (λ n. refl) (chosen_nodes (named k.dependencies) v)
     | keyword.Leaf p l ↦ refl
   ]) ks.items
 
@@ -54,6 +59,7 @@ module _ {K R : Type 0} (o : Kit K R) where
   unfolding validator_report
   finds_layer n True u v Q = refl
   finds_layer n False u v Q = refl
+  finds_layer n (RequiredNames k) u v Q = refl
   finds_layer n (Keywords ks) u v Q = flat_map-map (λ k. validator_report o.finds (λ a. a.means) o.keyword_of (λ a. a.report) u k v Q) (λ k. validator_report o.finds (λ n. (answers o n).means) o.keyword_of (λ n. (answers o n).report) u k v Q) _ (elim [
     | keyword.Properties k ↦ flat_map-beside (λ e. flat_map (λ x. e.1.report u x (Q // e.0)) (at e.0 v)) (λ e. flat_map (λ x. (answers o e.1).report u x (Q // e.0)) (at e.0 v)) (answers o) (λ a y. refl) k.properties.names k.properties.nodes.items
     | keyword.PropertiesWithRequired2 k ↦ ap (λ fs. required_faults (two_texts k.first k.second) v k.required_location Q ++ fs) (flat_map-beside (λ e. flat_map (λ x. e.1.report u x (Q // e.0)) (at e.0 v)) (λ e. flat_map (λ x. (answers o e.1).report u x (Q // e.0)) (at e.0 v)) (answers o) (λ a y. refl) k.properties.names k.properties.nodes.items)
@@ -68,6 +74,10 @@ module _ {K R : Type 0} (o : Kit K R) where
     | keyword.IfThen k ↦ refl
     | keyword.IfElse k ↦ refl
     | keyword.IfThenElse k ↦ refl
+    | keyword.Dependencies k ↦ ap (flat_map (λ a. a.report u v Q)) (due_nodes-map (answers o) v k.dependencies.names k.dependencies.nodes.items) ∙ flat_map-map (λ a. a.report u v Q) (λ n. (answers o n).report u v Q) (answers o) (λ n. refl) (due_nodes (named k.dependencies) v)
+    | keyword.PropertyNames k ↦ refl
+    | keyword.PropertyNamesFalse k ↦ refl
+    | keyword.PropertyDependencies k ↦ ap (flat_map (λ a. a.report u v Q)) (chosen_nodes-map (answers o) v _ (λ m. refl) k.dependencies.names k.dependencies.nodes.items) ∙ flat_map-map (λ a. a.report u v Q) (λ n. (answers o n).report u v Q) (answers o) (λ n. refl) (chosen_nodes (named k.dependencies) v)
     | keyword.Leaf p l ↦ refl
   ]) ks.items
 
@@ -76,6 +86,7 @@ module _ {K R : Type 0} (o : Kit K R) where
   unfolding validator_first
   first_layer n True u v Q = refl
   first_layer n False u v Q = refl
+  first_layer n (RequiredNames k) u v Q = refl
   first_layer n (Keywords ks) u v Q = first_of-map (λ k. validator_first o.finds (λ a. a.means) o.keyword_of (λ a. a.report) u (λ a. a.first) k v Q) (λ k. validator_first o.finds (λ n. (answers o n).means) o.keyword_of (λ n. (answers o n).report) u (λ n. (answers o n).first) k v Q) _ (elim [
     | keyword.Properties k ↦ first_of-beside (λ e. first_of (λ x. e.1.first u x (Q // e.0)) (at e.0 v)) (λ e. first_of (λ x. (answers o e.1).first u x (Q // e.0)) (at e.0 v)) (answers o) (λ a y. refl) k.properties.names k.properties.nodes.items
     | keyword.PropertiesWithRequired2 k ↦ ap (or_else (head_of (required_faults (two_texts k.first k.second) v k.required_location Q))) (first_of-beside (λ e. first_of (λ x. e.1.first u x (Q // e.0)) (at e.0 v)) (λ e. first_of (λ x. (answers o e.1).first u x (Q // e.0)) (at e.0 v)) (answers o) (λ a y. refl) k.properties.names k.properties.nodes.items)
@@ -90,6 +101,10 @@ module _ {K R : Type 0} (o : Kit K R) where
     | keyword.IfThen k ↦ refl
     | keyword.IfElse k ↦ refl
     | keyword.IfThenElse k ↦ refl
+    | keyword.Dependencies k ↦ ap (first_of (λ a. a.first u v Q)) (due_nodes-map (answers o) v k.dependencies.names k.dependencies.nodes.items) ∙ first_of-map (λ a. a.first u v Q) (λ n. (answers o n).first u v Q) (answers o) (λ n. refl) (due_nodes (named k.dependencies) v)
+    | keyword.PropertyNames k ↦ refl
+    | keyword.PropertyNamesFalse k ↦ refl
+    | keyword.PropertyDependencies k ↦ ap (first_of (λ a. a.first u v Q)) (chosen_nodes-map (answers o) v _ (λ m. refl) k.dependencies.names k.dependencies.nodes.items) ∙ first_of-map (λ a. a.first u v Q) (λ n. (answers o n).first u v Q) (answers o) (λ n. refl) (chosen_nodes (named k.dependencies) v)
     | keyword.Leaf p l ↦ refl
   ]) ks.items
 
@@ -98,6 +113,7 @@ module _ {K R : Type 0} (o : Kit K R) where
   unfolding validator_tree
   shows_layer n True u v Q = refl
   shows_layer n False u v Q = refl
+  shows_layer n (RequiredNames k) u v Q = refl
   shows_layer n (Keywords ks) u v Q = ap (plain n.location Q) (map-map (λ k. validator_tree o.finds (λ a. a.means) o.keyword_of (λ a. a.tree) u k v Q) (λ k. validator_tree o.finds (λ n. (answers o n).means) o.keyword_of (λ n. (answers o n).tree) u k v Q) _ (elim [
     | keyword.Properties k ↦ properties_tree-map (λ a. a.tree u) (λ n. (answers o n).tree u) (answers o) (λ y w R. refl) v Q k.location k.properties.names k.properties.nodes.items []
     | keyword.PropertiesWithRequired2 k ↦ properties_tree-map (λ a. a.tree u) (λ n. (answers o n).tree u) (answers o) (λ y w R. refl) v Q k.location k.properties.names k.properties.nodes.items (missing_trees (two_texts k.first k.second) v k.required_location Q)
@@ -112,6 +128,10 @@ module _ {K R : Type 0} (o : Kit K R) where
     | keyword.IfThen k ↦ refl
     | keyword.IfElse k ↦ refl
     | keyword.IfThenElse k ↦ refl
+    | keyword.Dependencies k ↦ ap (λ ns. plain k.location Q (branch_trees (λ a. a.tree u) v Q ns)) (due_nodes-map (answers o) v k.dependencies.names k.dependencies.nodes.items) ∙ ap (plain k.location Q) (branch_trees-map (λ a. a.tree u) (λ n. (answers o n).tree u) (answers o) (λ y w R. refl) v Q (due_nodes (named k.dependencies) v))
+    | keyword.PropertyNames k ↦ refl
+    | keyword.PropertyNamesFalse k ↦ refl
+    | keyword.PropertyDependencies k ↦ ap (λ ns. plain k.location Q (branch_trees (λ a. a.tree u) v Q ns)) (chosen_nodes-map (answers o) v _ (λ m. refl) k.dependencies.names k.dependencies.nodes.items) ∙ ap (plain k.location Q) (branch_trees-map (λ a. a.tree u) (λ n. (answers o n).tree u) (answers o) (λ y w R. refl) v Q (chosen_nodes (named k.dependencies) v))
     | keyword.Leaf p l ↦ refl
   ]) ks.items)
 

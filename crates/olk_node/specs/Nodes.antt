@@ -6,7 +6,7 @@ use Rattle.olk_spec.specs.Faults.{Fault}
 use Rattle.olk_spec.specs.Tree.{Tree}
 use Rattle.olk_tree.specs.Questions.{Question}
 use Rattle.olk_tree.specs.Answers.{validator_means, validator_report, validator_first, validator_tree, body_means, body_report, body_first, body_tree}
-use Rattle.olk_tree.specs.Agreement.{validator_agrees, body_agrees}
+use Rattle.olk_tree.specs.Agreement.{validator_agrees, validator_first_agrees, body_agrees, body_first_agrees}
 use Rattle.olk_base.specs.Kit.{Kit}
 use Rattle.olk_node.specs.declared.node.SchemaNode.{SchemaNode, fold-SchemaNode}
 use Rattle.olk_node.specs.declared.node.SchemaNode.TheOpen.{SchemaNode-F}
@@ -18,6 +18,8 @@ pub record Answers : Type 0 where
   pub agrees : (u : Bool) (v : Data) (Q : Path) → is_empty (report u v Q) ≡ (means v).accepts u
   -- those of the first step that refuses, of which `validate` tells one
   pub first : Bool → Data → Path → List Fault
+  -- none exactly where it accepts
+  pub first_agrees : (u : Bool) (v : Data) (Q : Path) → is_empty (first u v Q) ≡ (means v).accepts u
   pub tree : Bool → Data → Path → Tree
   pub location : Path
 
@@ -28,6 +30,7 @@ module _ {K R : Type 0} (o : Kit K R) where
     report = λ u. body_report (validator_report o.finds (λ a. a.means) o.keyword_of (λ a. a.report) u) n.location n.body;
     agrees = λ u v Q. body_agrees (λ k. validator_means o.finds (λ a. a.means) k) (λ k. validator_report o.finds (λ a. a.means) o.keyword_of (λ a. a.report) u k) u (λ k w R. validator_agrees o.finds (λ a. a.means) o.keyword_of (λ a. a.report) u (λ a x S. a.agrees u x S) k w R) n.location n.body v Q;
     first = λ u. body_first (validator_first o.finds (λ a. a.means) o.keyword_of (λ a. a.report) u (λ a. a.first)) n.location n.body;
+    first_agrees = λ u v Q. body_first_agrees (λ k. validator_means o.finds (λ a. a.means) k) (λ k. validator_first o.finds (λ a. a.means) o.keyword_of (λ a. a.report) u (λ a. a.first) k) u (λ k w R. validator_first_agrees o.finds (λ a. a.means) o.keyword_of (λ a. a.report) (λ a. a.first) u (λ a x S. a.first_agrees u x S) k w R) n.location n.body v Q;
     tree = λ u. body_tree (validator_tree o.finds (λ a. a.means) o.keyword_of (λ a. a.tree) u) n.location n.body;
     location = n.location;
   }

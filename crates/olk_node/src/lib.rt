@@ -9,9 +9,10 @@ pub mod valid;
 
 pub use errors::{collect_errors_for, validate_for};
 pub use node::{
-    AllOfValidator, AnyOfValidator, IfElseValidator, IfThenElseValidator, IfThenValidator, Keyword,
-    NotValidator, OneOfValidator, SchemaNode, SingleAnyOfValidator, SingleOneOfValidator,
-    SingleValueAllOfValidator, SmallPropertiesValidator, SmallPropertiesWithRequired2Validator,
-    SmallValidatorsMap,
+    AllOfValidator, AnyOfValidator, DependenciesValidator, DependentRequiredValidator,
+    DependentSchemasValidator, IfElseValidator, IfThenElseValidator, IfThenValidator, Keyword,
+    NotValidator, OneOfValidator, PropertyDependenciesValidator, PropertyNamesObjectValidator,
+    SchemaNode, SingleAnyOfValidator, SingleOneOfValidator, SingleValueAllOfValidator,
+    SmallPropertiesValidator, SmallPropertiesWithRequired2Validator, SmallValidatorsMap,
 };
 pub use valid::is_valid_for;

@@ -19,4 +19,6 @@ impl<K: Leaf, R: RegexEngine> Reports for SchemaNode<K, R> {
     ghost first = { λ n. (answers (kit K.Leaf R.RegexEngine) n).first };
 
     ghost agrees = { λ n. (answers (kit K.Leaf R.RegexEngine) n).agrees };
+
+    ghost first_agrees = { λ n. (answers (kit K.Leaf R.RegexEngine) n).first_agrees };
 }

@@ -4,12 +4,15 @@ ghost use Rattle.std.specs.Prelude.{◌≡◌};
 use olk_reports::Location;
 use olk_tree::all_of::{AllOf, SingleValueAllOf};
 use olk_tree::any_of::{AnyOf, SingleAnyOf};
+use olk_tree::dependencies::{Dependencies, DependentRequired, DependentSchemas};
 use olk_tree::if_::{IfElse, IfThen, IfThenElse};
 use olk_tree::map::SmallMap;
 use olk_tree::node::{Body, KeywordOver};
 use olk_tree::not::Not;
 use olk_tree::one_of::{OneOf, SingleOneOf};
 use olk_tree::properties::{SmallProperties, SmallPropertiesWithRequired2};
+use olk_tree::property_dependencies::PropertyDependencies;
+use olk_tree::property_names::PropertyNames;
 use std::marker::PhantomData;
 
 /// A place of a schema.
@@ -86,3 +89,18 @@ pub type SmallPropertiesWithRequired2Validator<K, R> = SmallPropertiesWithRequir
 
 /// Names in order, and beside each its node.
 pub type SmallValidatorsMap<K, R> = SmallMap<SchemaNode<K, R>>;
+
+/// `dependencies`, over nodes.
+pub type DependenciesValidator<K, R> = Dependencies<SchemaNode<K, R>>;
+
+/// `dependentRequired`, over nodes that are lists of names.
+pub type DependentRequiredValidator<K, R> = DependentRequired<SchemaNode<K, R>>;
+
+/// `dependentSchemas`, over nodes.
+pub type DependentSchemasValidator<K, R> = DependentSchemas<SchemaNode<K, R>>;
+
+/// `propertyNames` of an object, over a node.
+pub type PropertyNamesObjectValidator<K, R> = PropertyNames<SchemaNode<K, R>>;
+
+/// `propertyDependencies`, over nodes.
+pub type PropertyDependenciesValidator<K, R> = PropertyDependencies<SchemaNode<K, R>>;

@@ -1,5 +1,5 @@
 -- What is wrong with a keyword itself, and the shape that is read.
-use Rattle.std.specs.Prelude.{◌≡◌, Bool, true, false, List, [], ◌∷◌, ◌++◌, codes}
+use Rattle.std.specs.Prelude.{◌≡◌, Bool, true, false, cond, List, [], ◌∷◌, ◌++◌, codes}
 use Rattle.std.specs.declared.alloc.AllocError.{AllocError}
 use Rattle.std.proofs.Common.{refl, sym, ◌∙◌, ap, subst, ◌⊎◌, inl, inr}
 use mathlib.Core.Bool.{true≢false}
@@ -18,7 +18,8 @@ use Rattle.olk_reports.specs.declared.error.BuildError.{BuildError}
 use Rattle.olk_reports.specs.declared.error.BuildError.TheVariants.{Memory}
 use Rattle.olk_base.specs.Kit.{Kit}
 use Rattle.olk_read.specs.Refusing.{Spends, TellsOneOf, Refuses}
-use Rattle.olk_read.specs.Reading.{IsOther, IsShape, IsRead, own_faults, own_cost_of}
+use Rattle.olk_members.specs.Conditions.{is_conditional_name}
+use Rattle.olk_read.specs.Reading.{IsOther, IsShape, Fits, IsRead, own_faults, own_cost_of}
 use Rattle.olk_read.specs.declared.shape.Shape.{Shape}
 use Rattle.olk_read.specs.declared.shape.Shape.TheVariants as shape
 use Rattle.olk_read.proofs.KeywordNames.{refused_keyword}
@@ -78,6 +79,15 @@ module _ (W : World) (d : Data) (L : Path) where
   pub own_not : own_faults W (codes "not") d L ≡ []
   own_not = refl
 
+  pub own_if : own_faults W (codes "if") d L ≡ []
+  own_if = refl
+
+  pub own_then : own_faults W (codes "then") d L ≡ []
+  own_then = refl
+
+  pub own_else : own_faults W (codes "else") d L ≡ []
+  own_else = refl
+
   module _ (k : Name) where
     own_of : (w : Keyword) → is_among k pending ≡ false → keyword_named W k ≡ w → own_faults W k d L ≡ own_refusals W k (read (malformations_step W pending) d) L w
     own_of w e q = λ i. put_if (e i) (refusal (Unsupported k) whole L) [] ++ own_refusals W k (read (malformations_step W pending) d) L (q i)
@@ -125,18 +135,24 @@ refuses_name W k d L c a e other among t = record { tells = by (refused_keyword 
 
 module _ {K R : Type 0} (o : Kit K R) where
   -- a keyword without own costs, by its name
-  pub is_read : (x : Shape K) (k n : Name) (d : Data) (L : Path) (a : Counts) → k ≡ n → IsShape o n d x → own_faults o.world n d L ≡ [] → own_cost_of (keyword_named o.world n) ≡ no_cost → IsRead o x k d L a a
-  is_read x k n d L a p s c z = subst (λ i. IsRead o x i d L a a) (sym p) (record { shape = s; clean = c; spends = subst (Spends a a) (sym z) (spends_nothing a) })
+  pub is_read : (x : Shape K) (c : Bool) (k n : Name) (d : Data) (L : Path) (a : Counts) → k ≡ n → IsShape o n d x → Fits c x → own_faults o.world n d L ≡ [] → own_cost_of (keyword_named o.world n) ≡ no_cost → IsRead o x c k d L a a
+  is_read x c k n d L a p s f clean z = subst (λ i. IsRead o x c i d L a a) (sym p) (record { shape = s; fits = f; clean = clean; spends = subst (Spends a a) (sym z) (spends_nothing a) })
 
-  pub leaf_is_read : (l : K) (k : Name) (d : Data) (L : Path) (a b : Counts) → keyword_named o.world k ≡ leaf → is_among k pending ≡ false → o.world.fits k d ≡ true → o.keyword_of l ≡ k → ((v : Data) → o.finds l v ≡ o.world.faults k d v) → b ≡ count_leaf a → IsRead o (shape.Leaf l) k d L a b
-  leaf_is_read l k d L a b q h fits name same count = record {
+  -- one of the three that are read together
+  pub conditional_is_read : (x : Shape K) (c : Bool) (k n : Name) (d : Data) (L : Path) (a : Counts) → k ≡ n → IsShape o n d x → (c ≡ true → Fits c x) → is_conditional_name n ≡ true → own_faults o.world n d L ≡ [] → own_cost_of (keyword_named o.world n) ≡ no_cost → IsRead o (cond c x shape.Unpaired) c k d L a a
+  conditional_is_read x true k n d L a p s f e clean z = is_read x true k n d L a p s (f refl) clean z
+  conditional_is_read x false k n d L a p s f e clean z = is_read shape.Unpaired false k n d L a p e refl clean z
+
+  pub leaf_is_read : (l : K) (k : Name) (d : Data) (L : Path) (a b : Counts) → keyword_named o.world k ≡ leaf → is_among k pending ≡ false → o.world.fits k d ≡ true → o.keyword_of l ≡ k → ((v : Data) → o.finds l v ≡ o.world.faults k d v) → b ≡ count_leaf a → (c : Bool) → IsRead o (shape.Leaf l) c k d L a b
+  leaf_is_read l k d L a b q h fits name same count c = record {
     shape = (q, name, same);
+    fits = tt;
     clean = own_leaf o.world d L k h q ∙ ap (λ f. unless_kind f (LeafRefused k) d L) fits;
     spends = leaf_spent o.world k q a b count;
   }
 
-  pub unread_is_read : (k : Name) (d : Data) (L : Path) (a : Counts) → keyword_named o.world k ≡ unread → is_among k pending ≡ false → IsRead o shape.Unread k d L a a
-  unread_is_read k d L a q h = record { shape = q; clean = own_unread o.world d L k h q; spends = subst (λ w. Spends a a (own_cost_of w)) (sym q) (spends_nothing a) }
+  pub unread_is_read : (k : Name) (d : Data) (L : Path) (a : Counts) → keyword_named o.world k ≡ unread → is_among k pending ≡ false → (c : Bool) → IsRead o shape.Unread c k d L a a
+  unread_is_read k d L a q h c = record { shape = q; fits = tt; clean = own_unread o.world d L k h q; spends = subst (λ w. Spends a a (own_cost_of w)) (sym q) (spends_nothing a) }
 
 pub object_is_right : (d : Data) (L : Path) → is_object d ≡ true → unless_object d L ≡ []
 object_is_right d L e = ap (λ b. unless_kind b (SingleType object_type) d L) e

@@ -1,5 +1,5 @@
 -- What a member of a schema object is as a keyword, apart from the nodes inside it.
-use Rattle.std.specs.Prelude.{◌≡◌, true, false, List, [], ◌∷◌, ◌++◌, map, codes, string_bytes}
+use Rattle.std.specs.Prelude.{◌≡◌, ⊤, Bool, true, false, List, [], ◌∷◌, ◌++◌, map, codes, string_bytes}
 use Rattle.serde_json.specs.Data.{Data}
 use Rattle.serde_json.specs.View.{view}
 use Rattle.olk_spec.specs.Names.{Name, Path, put_if, is_among}
@@ -12,6 +12,7 @@ use Rattle.olk_spec.specs.Costs.{Cost, no_cost}
 use Rattle.olk_base.specs.Count.{Counts}
 use Rattle.olk_reports.specs.declared.error.BuildError.{BuildError}
 use Rattle.olk_base.specs.Kit.{Kit}
+use Rattle.olk_members.specs.Conditions.{is_conditional_name}
 use Rattle.olk_read.specs.Refusing.{Spends, Refuses}
 use Rattle.olk_read.specs.declared.reading.KeywordFor.{KeywordFor}
 use Rattle.olk_read.specs.declared.reading.KeywordFor.TheVariants as for
@@ -27,11 +28,14 @@ reads_of shape.AllOf = Branches
 reads_of shape.AnyOf = Branches
 reads_of shape.OneOf = Branches
 reads_of (shape.Not v) = Itself
+reads_of shape.If = Itself
+reads_of shape.Then = Itself
+reads_of shape.Else = Itself
 reads_of x = Nothing
 
 -- none of the keywords that are read here by name
 abbrev pub IsOther : Name → Type 0
-IsOther n = is_among n (codes "properties" ∷ codes "required" ∷ codes "allOf" ∷ codes "anyOf" ∷ codes "oneOf" ∷ codes "not" ∷ []) ≡ false
+IsOther n = is_among n (codes "properties" ∷ codes "required" ∷ codes "allOf" ∷ codes "anyOf" ∷ codes "oneOf" ∷ codes "not" ∷ codes "if" ∷ codes "then" ∷ codes "else" ∷ []) ≡ false
 
 -- which keyword a name is
 abbrev pub IsFor : Name → KeywordFor → Type 0
@@ -41,6 +45,9 @@ IsFor n for.AllOf = n ≡ codes "allOf"
 IsFor n for.AnyOf = n ≡ codes "anyOf"
 IsFor n for.OneOf = n ≡ codes "oneOf"
 IsFor n for.Not = n ≡ codes "not"
+IsFor n for.If = n ≡ codes "if"
+IsFor n for.Then = n ≡ codes "then"
+IsFor n for.Else = n ≡ codes "else"
 IsFor n for.Refused = IsOther n × (is_among n (unsupported_names ++ pending) ≡ true)
 IsFor n for.Other = IsOther n × (is_among n (unsupported_names ++ pending) ≡ false)
 
@@ -53,6 +60,14 @@ abbrev pub own_cost_of : Keyword → Cost
 own_cost_of leaf = record no_cost { leaf_places = 1 }
 own_cost_of w = no_cost
 
+-- it is read as it is to be where c says whether `if` is read
+abbrev pub Fits : {K : Type 0} → Bool → Shape K → Type 0
+Fits c shape.If = c ≡ true
+Fits c shape.Then = c ≡ true
+Fits c shape.Else = c ≡ true
+Fits c shape.Unpaired = c ≡ false
+Fits c x = ⊤
+
 module _ {K R : Type 0} (o : Kit K R) where
   -- the shape of the keyword of the name k and the value d
   abbrev pub IsShape : Name → Data → Shape K → Type 0
@@ -62,12 +77,17 @@ module _ {K R : Type 0} (o : Kit K R) where
   IsShape k d shape.AnyOf = (k ≡ codes "anyOf") × (is_array d ≡ true)
   IsShape k d shape.OneOf = (k ≡ codes "oneOf") × (is_array d ≡ true)
   IsShape k d (shape.Not v) = (k ≡ codes "not") × (view v ≡ d)
+  IsShape k d shape.If = k ≡ codes "if"
+  IsShape k d shape.Then = k ≡ codes "then"
+  IsShape k d shape.Else = k ≡ codes "else"
+  IsShape k d shape.Unpaired = is_conditional_name k ≡ true
   IsShape k d (shape.Leaf l) = (keyword_named o.world k ≡ leaf) × (o.keyword_of l ≡ k) × ((v : Data) → o.finds l v ≡ o.world.faults k d v)
   IsShape k d shape.Unread = keyword_named o.world k ≡ unread
 
-  -- a keyword's value is read
-  pub record IsRead (x : Shape K) (k : Name) (d : Data) (L : Path) (old new : Counts) : Type 0 where
+  -- a keyword's value is read, where c says whether `if` is
+  pub record IsRead (x : Shape K) (c : Bool) (k : Name) (d : Data) (L : Path) (old new : Counts) : Type 0 where
     pub shape : IsShape k d x
+    pub fits : Fits c x
     pub clean : own_faults o.world k d L ≡ []
     pub spends : Spends old new (own_cost_of (keyword_named o.world k))
 

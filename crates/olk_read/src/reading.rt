@@ -1,5 +1,5 @@
 //! Reading the values of keywords, as far as this needs no nodes.
-ghost use Rattle.std.specs.Prelude.{false, true, ◌≡◌, ◌++◌, [], map, string_bytes, IfOk, IfErr};
+ghost use Rattle.std.specs.Prelude.{Bool, false, true, cond, ◌≡◌, ◌++◌, [], map, string_bytes, IfOk, IfErr};
 ghost use Rattle.serde_json.specs.Data.{array};
 ghost use Rattle.serde_json.specs.View.{view, items_view};
 ghost use Rattle.olk_spec.specs.Names.{is_among};
@@ -10,6 +10,7 @@ ghost use Rattle.olk_base.specs.Kit.{kit, world};
 ghost use Rattle.olk_read.specs.Refusing.{TellsOneOf};
 ghost use Rattle.olk_read.specs.Lists.{not_texts};
 ghost use Rattle.olk_read.specs.Reading.{IsFor, IsOther, IsRead, RefusesKeyword};
+ghost use Rattle.olk_read.specs.declared.shape.Shape.TheVariants.{Unpaired};
 
 use crate::lists::append;
 use crate::makers::Makers;
@@ -30,6 +31,9 @@ pub enum KeywordFor {
     AnyOf,
     OneOf,
     Not,
+    If,
+    Then,
+    Else,
     Refused,
     Other,
 }
@@ -52,9 +56,6 @@ fn is_refused(name: &str) -> bool
             | "dependentSchemas"
             | "dependencies"
             | "propertyDependencies"
-            | "if"
-            | "then"
-            | "else"
     )
 }
 
@@ -69,6 +70,9 @@ fn keyword_for(name: &str) -> KeywordFor
         "anyOf" => KeywordFor::AnyOf,
         "oneOf" => KeywordFor::OneOf,
         "not" => KeywordFor::Not,
+        "if" => KeywordFor::If,
+        "then" => KeywordFor::Then,
+        "else" => KeywordFor::Else,
         _ => {
             if is_refused(name) {
                 KeywordFor::Refused
@@ -185,9 +189,17 @@ fn shape_of_branches<'a, K: Drop>(
     Ok(shape)
 }
 
+/// The shape of `if`, `then` or `else`, unpaired where `if` is not read.
+fn shape_beside<K: Drop>(condition: bool, shape: Shape<K>) -> Shape<K>
+    ensures { result ≡ cond condition shape Unpaired }
+{
+    if condition { shape } else { Shape::Unpaired }
+}
+
 // ---- by the keyword
 
-/// A keyword's value, read: its shape, counted where it is a leaf.
+/// A keyword's value, read: its shape, counted where it is a leaf. `if`, `then` and `else` are read where the condition
+/// is.
 ///
 /// # Errors
 ///
@@ -196,12 +208,13 @@ pub fn read_keyword<'a, L: MakeLeaf, M: MakeRegex>(
     alloc: Global,
     makers: &Makers<'_, L, M>,
     meter: &mut Meter,
+    condition: bool,
     location: &Location,
     name: &'a str,
     value: &'a Value,
 ) -> Result<Shape<L::Leaf>, BuildError<'a>>
     ensures built { IfOk result (λ x. IsRead (kit L.Leaf.Leaf M.Engine.RegexEngine) x
-        name.now (view value.now) location.now meter.old meter.new) }
+        condition name.now (view value.now) location.now meter.old meter.new) }
     ensures refused { IfErr result (RefusesKeyword (kit L.Leaf.Leaf M.Engine.RegexEngine)
         name.now (view value.now) location.now meter.old meter.new) }
 {
@@ -212,6 +225,9 @@ pub fn read_keyword<'a, L: MakeLeaf, M: MakeRegex>(
         KeywordFor::AnyOf => Ok(shape_of_branches(alloc, location, Shape::AnyOf, value)?),
         KeywordFor::OneOf => Ok(shape_of_branches(alloc, location, Shape::OneOf, value)?),
         KeywordFor::Not => Ok(Shape::Not(value.clone()?)),
+        KeywordFor::If => Ok(shape_beside(condition, Shape::If)),
+        KeywordFor::Then => Ok(shape_beside(condition, Shape::Then)),
+        KeywordFor::Else => Ok(shape_beside(condition, Shape::Else)),
         KeywordFor::Refused => {
             let kind = ValidationErrorKind::Unsupported { keyword: name };
             Err(refuse(alloc, kind, value, location))
@@ -235,8 +251,9 @@ fn read_other<'a, L: MakeLeaf, M: MakeRegex>(
 ) -> Result<Shape<L::Leaf>, BuildError<'a>>
     requires other { IsOther name.now }
     requires let_through { is_among name.now (unsupported_names ++ pending) ≡ false }
-    ensures built { IfOk result (λ x. IsRead (kit L.Leaf.Leaf M.Engine.RegexEngine) x
-        name.now (view value.now) location.now meter.old meter.new) }
+    ensures built { IfOk result (λ x. (c : Bool)
+        → IsRead (kit L.Leaf.Leaf M.Engine.RegexEngine) x
+        c name.now (view value.now) location.now meter.old meter.new) }
     ensures refused { IfErr result (RefusesKeyword (kit L.Leaf.Leaf M.Engine.RegexEngine)
         name.now (view value.now) location.now meter.old meter.new) }
 {
@@ -261,8 +278,9 @@ fn read_leaf<'a, L: MakeLeaf, M: MakeRegex>(
 ) -> Result<Shape<L::Leaf>, BuildError<'a>>
     requires pending { is_among name.now pending ≡ false }
     requires leaf { keyword_named (world L.Leaf.Leaf M.Engine.RegexEngine) name.now ≡ leaf }
-    ensures built { IfOk result (λ x. IsRead (kit L.Leaf.Leaf M.Engine.RegexEngine) x
-        name.now (view value.now) location.now meter.old meter.new) }
+    ensures built { IfOk result (λ x. (c : Bool)
+        → IsRead (kit L.Leaf.Leaf M.Engine.RegexEngine) x
+        c name.now (view value.now) location.now meter.old meter.new) }
     ensures refused { IfErr result (RefusesKeyword (kit L.Leaf.Leaf M.Engine.RegexEngine)
         name.now (view value.now) location.now meter.old meter.new) }
 {

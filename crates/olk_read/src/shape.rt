@@ -6,7 +6,7 @@ use olk_tree::map::SortedNames;
 use serde_json::Value;
 
 /// A keyword that is read, with what its value holds apart from the schemas inside; `Unread` is a name that nothing
-/// reads.
+/// reads, and `Unpaired` is `if`, `then` or `else` where `if` is not read.
 #[derive(Drop)]
 pub enum Shape<K> {
     Properties(SortedNames),
@@ -15,6 +15,10 @@ pub enum Shape<K> {
     AnyOf,
     OneOf,
     Not(Value),
+    If,
+    Then,
+    Else,
+    Unpaired,
     Leaf(K),
     Unread,
 }
@@ -36,8 +40,10 @@ impl<K> Shape<K> {
         match self {
             Shape::Properties(_) => ReadPlaces::Entries,
             Shape::AllOf | Shape::AnyOf | Shape::OneOf => ReadPlaces::Branches,
-            Shape::Not(_) => ReadPlaces::Itself,
-            Shape::Required(_) | Shape::Leaf(_) | Shape::Unread => ReadPlaces::Nothing,
+            Shape::Not(_) | Shape::If | Shape::Then | Shape::Else => ReadPlaces::Itself,
+            Shape::Required(_) | Shape::Unpaired | Shape::Leaf(_) | Shape::Unread => {
+                ReadPlaces::Nothing
+            }
         }
     }
 }

@@ -10,13 +10,16 @@ use Rattle.olk_spec.specs.Names.{Path}
 use Rattle.olk_spec.specs.Faults as told
 use Rattle.olk_spec.specs.Faults.{Fault, fault, Kind, context}
 use Rattle.olk_spec.specs.Reports.{wrapped}
-use Rattle.olk_reports.specs.Errors.{kind_of, fault_of, kind_step, error_step, type_name_of, fault_schema_path}
-use Rattle.olk_reports.specs.declared.error.ValidationError.{ValidationError}
+use Rattle.olk_base.specs.Nodes.{data_of}
+use Rattle.olk_base.specs.declared.node.Node.{Node}
+use Rattle.olk_reports.specs.Errors.{kind_of, fault_of, kind_step, error_step, type_name_of, schema_path_of, fault_schema_path}
+use Rattle.olk_reports.specs.declared.error.SchemaPath.{SchemaPath}
+use Rattle.olk_reports.specs.declared.error.ValidationError.{ValidationError, roll-ValidationError, out-ValidationError}
 use Rattle.olk_reports.specs.declared.error.ValidationErrorKind.{ValidationErrorKind}
 use Rattle.olk_reports.specs.declared.error.ValidationErrorKind as the
 use Rattle.olk_reports.specs.declared.error.ValidationErrorKind.TheVariants.{rolls-AdditionalProperties, rolls-AnyOf, rolls-OneOfNotValid, rolls-OneOfMultipleValid, rolls-Not, rolls-Required, rolls-FalseSchema, rolls-PropertyNames, rolls-Leaf, rolls-SingleType, rolls-MultipleTypes, rolls-UniqueItems, rolls-Regex, rolls-Unsupported, rolls-LeafRefused}
 use Rattle.olk_reports.specs.declared.error.ValidationErrorKind.TheOpen.{ValidationErrorKind-F}
-use Rattle.olk_reports.specs.declared.error.ValidationErrorKind.TheFolds.{fold-roll-ValidationErrorKind}
+use Rattle.olk_reports.specs.declared.error.ValidationErrorKind.TheFolds.{fold-roll-ValidationErrorKind, fold-roll-ValidationError, fold_out-ValidationError}
 
 abbrev pub Contexts : Type 0
 Contexts = Vec (Vec ValidationError Global) Global
@@ -69,6 +72,12 @@ kind_of_unsupported k = ap kind_of (sym (rolls-Unsupported k)) ∙ fold-roll-Val
 
 pub kind_of_leaf_refused : (k : Bor (List ℕ)) → kind_of (the.LeafRefused k) ≡ told.LeafRefused k.now
 kind_of_leaf_refused k = ap kind_of (sym (rolls-LeafRefused k)) ∙ fold-roll-ValidationErrorKind Kind Fault kind_step error_step (ValidationErrorKind-F.LeafRefused k)
+
+pub fault_of_parts : (k : ValidationErrorKind) (n : Node) (t : String Global) (s : SchemaPath) → fault_of (roll-ValidationError record { kind = k; instance = n; instance_path = t; schema_path = s }) ≡ fault (kind_of k) (data_of n) (string_bytes t) (schema_path_of (kind_of k) s)
+fault_of_parts k n t s = fold-roll-ValidationError Kind Fault kind_step error_step record { kind = k; instance = n; instance_path = t; schema_path = s }
+
+pub parts_of_fault : (e : ValidationError) → fault_of e ≡ fault (kind_of (out-ValidationError e).kind) (data_of (out-ValidationError e).instance) (string_bytes (out-ValidationError e).instance_path) (schema_path_of (kind_of (out-ValidationError e).kind) (out-ValidationError e).schema_path)
+parts_of_fault e = fold_out-ValidationError Kind Fault kind_step error_step e
 
 pub wrapped_is : (v : Data) (Q : Path) (f : Fault) → wrapped v Q f ≡ fault (told.PropertyNames f) v Q (fault_schema_path f)
 wrapped_is v Q (fault k n R P) = refl

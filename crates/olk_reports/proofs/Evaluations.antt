@@ -1,15 +1,15 @@
 -- Facts on results and the trees that they show.
-use Rattle.std.proofs.Common.{◌≡◌, ℕ, Bool, true, false, Option, option_map, List, [], ◌∷◌, map, refl, ap, ◌∙◌, Vec, Bor}
+use Rattle.std.proofs.Common.{◌≡◌, ℕ, Bool, true, false, Option, option_map, List, [], ◌∷◌, map, refl, ap, ◌∙◌, Vec, Bor, String, string_bytes}
 use Rattle.std.specs.List.{list_all}
 use Rattle.std.specs.declared.alloc.Global.{Global}
 use Rattle.std.proofs.lemmas.List.Folds.{list_all-map}
 use Rattle.olk_spec.specs.Names.{Name, Path}
 use Rattle.olk_spec.specs.Tree.{Tree, Described, trees_from, result_node, is_valid}
-use Rattle.olk_reports.specs.Evaluations.{Shown, shown, shown_of, tree_of, node_at, described_of, node_step, result_step, trees_in, tree_children}
+use Rattle.olk_reports.specs.Evaluations.{Shown, shown, shown_of, tree_of, node_at, described_of, node_step, result_step, trees_in, tree_schema_path, tree_instance_path, tree_errors, tree_children}
 use Rattle.olk_reports.specs.declared.evaluation.ErrorDescription.{ErrorDescription}
-use Rattle.olk_reports.specs.declared.evaluation.EvaluationNode.{EvaluationNode, out-EvaluationNode}
-use Rattle.olk_reports.specs.declared.evaluation.EvaluationResult.{out-EvaluationResult, roll-EvaluationResult}
-use Rattle.olk_reports.specs.declared.evaluation.EvaluationNode.TheFolds.{fold_out-EvaluationNode, fold_out-EvaluationResult, fold-roll-EvaluationResult}
+use Rattle.olk_reports.specs.declared.evaluation.EvaluationNode.{EvaluationNode, out-EvaluationNode, roll-EvaluationNode}
+use Rattle.olk_reports.specs.declared.evaluation.EvaluationResult.{EvaluationResult, out-EvaluationResult, roll-EvaluationResult}
+use Rattle.olk_reports.specs.declared.evaluation.EvaluationNode.TheFolds.{fold_out-EvaluationNode, fold_out-EvaluationResult, fold-roll-EvaluationResult, fold-roll-EvaluationNode}
 
 pub each_valid : (ns : List EvaluationNode) → list_all is_valid (map tree_of ns) ≡ list_all (λ n. is_valid (tree_of n)) ns
 each_valid ns = list_all-map is_valid tree_of ns
@@ -32,3 +32,40 @@ children_of n =
 
 pub shown_of_parts : (b : Bool) (a : Option (Vec (Bor (List ℕ)) Global)) (es : Vec ErrorDescription Global) (ts : Vec EvaluationNode Global) → shown_of (roll-EvaluationResult record { valid = b; annotation = a; errors = es; children = ts }) ≡ shown b (option_map (λ ns. map (λ n. n.now) ns.items) a) (map described_of es.items) (map tree_of ts.items)
 shown_of_parts b a es ts = fold-roll-EvaluationResult Tree Shown node_step result_step record { valid = b; annotation = a; errors = es; children = ts }
+
+pub parts_of_shown : (r : EvaluationResult) → shown_of r ≡ shown (out-EvaluationResult r).valid (option_map (λ ns. map (λ n. n.now) ns.items) (out-EvaluationResult r).annotation) (map described_of (out-EvaluationResult r).errors.items) (map tree_of (out-EvaluationResult r).children.items)
+parts_of_shown r = fold_out-EvaluationResult Tree Shown node_step result_step r
+
+valid_of_parts : (P Q : Path) (b : Bool) (a : Option (List Name)) (es : List Described) (ts : List Tree) → is_valid (node_at P Q (shown b a es ts)) ≡ b
+valid_of_parts P Q true a es ts = refl
+valid_of_parts P Q false a es ts = refl
+
+errors_of_parts : (P Q : Path) (b : Bool) (a : Option (List Name)) (es : List Described) (ts : List Tree) → tree_errors (node_at P Q (shown b a es ts)) ≡ es
+errors_of_parts P Q true a es ts = refl
+errors_of_parts P Q false a es ts = refl
+
+schema_path_of_parts : (P Q : Path) (s : Shown) → tree_schema_path (node_at P Q s) ≡ P
+schema_path_of_parts P Q (shown true a es ts) = refl
+schema_path_of_parts P Q (shown false a es ts) = refl
+
+instance_path_of_parts : (P Q : Path) (s : Shown) → tree_instance_path (node_at P Q s) ≡ Q
+instance_path_of_parts P Q (shown true a es ts) = refl
+instance_path_of_parts P Q (shown false a es ts) = refl
+
+pub node_of_parts : (n : EvaluationNode) → tree_of n ≡ node_at (out-EvaluationNode n).schema_path.now (string_bytes (out-EvaluationNode n).instance_path) (shown_of (out-EvaluationNode n).result)
+node_of_parts n = fold_out-EvaluationNode Tree Shown node_step result_step n
+
+pub valid_of : (n : EvaluationNode) → is_valid (tree_of n) ≡ (out-EvaluationResult (out-EvaluationNode n).result).valid
+valid_of n = ap is_valid (node_of_parts n) ∙ ap (λ s. is_valid (node_at (out-EvaluationNode n).schema_path.now (string_bytes (out-EvaluationNode n).instance_path) s)) (parts_of_shown (out-EvaluationNode n).result) ∙ valid_of_parts _ _ _ _ _ _
+
+pub errors_of : (n : EvaluationNode) → tree_errors (tree_of n) ≡ map described_of (out-EvaluationResult (out-EvaluationNode n).result).errors.items
+errors_of n = ap tree_errors (node_of_parts n) ∙ ap (λ s. tree_errors (node_at (out-EvaluationNode n).schema_path.now (string_bytes (out-EvaluationNode n).instance_path) s)) (parts_of_shown (out-EvaluationNode n).result) ∙ errors_of_parts _ _ _ _ _ _
+
+pub schema_path_of : (n : EvaluationNode) → tree_schema_path (tree_of n) ≡ (out-EvaluationNode n).schema_path.now
+schema_path_of n = ap tree_schema_path (node_of_parts n) ∙ schema_path_of_parts _ _ (shown_of (out-EvaluationNode n).result)
+
+pub instance_path_of : (n : EvaluationNode) → tree_instance_path (tree_of n) ≡ string_bytes (out-EvaluationNode n).instance_path
+instance_path_of n = ap tree_instance_path (node_of_parts n) ∙ instance_path_of_parts _ _ (shown_of (out-EvaluationNode n).result)
+
+pub tree_of_parts : (P : Bor (List ℕ)) (Q : String Global) (r : EvaluationResult) → tree_of (roll-EvaluationNode record { schema_path = P; instance_path = Q; result = r }) ≡ node_at P.now (string_bytes Q) (shown_of r)
+tree_of_parts P Q r = fold-roll-EvaluationNode Tree Shown node_step result_step record { schema_path = P; instance_path = Q; result = r }

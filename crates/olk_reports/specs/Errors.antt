@@ -6,6 +6,7 @@ use Rattle.olk_spec.specs.Names.{Path}
 use Rattle.olk_spec.specs.Faults as told
 use Rattle.olk_spec.specs.Faults.{Fault, fault, Kind, context, Type_name, null_type, boolean_type, number_type, string_type, array_type, object_type}
 use Rattle.olk_base.specs.Nodes.{data_of}
+use Rattle.olk_base.specs.declared.node.Node.{Node}
 use Rattle.olk_base.specs.declared.node.JsonType.{JsonType}
 use Rattle.olk_base.specs.declared.node.JsonType.TheVariants as json
 use Rattle.olk_reports.specs.declared.error.SchemaPath.{SchemaPath}
@@ -72,3 +73,7 @@ kind_of = fold-ValidationErrorKind Kind Fault kind_step error_step
 
 abbrev pub fault_of : ValidationError → Fault
 fault_of = fold-ValidationError Kind Fault kind_step error_step
+
+-- what an error is about: the very value of the instance, or the very name
+abbrev pub value_of : ValidationError → Node
+value_of e = e.instance

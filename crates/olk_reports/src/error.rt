@@ -128,7 +128,7 @@ impl<'a> From<AllocError> for ValidateError<'a> {
 }
 
 impl<'a> ValidationError<'a> {
-    ghost use Rattle.olk_reports.specs.Errors.{kind_of, fault_of, fault_kind, fault_instance, fault_instance_path, fault_schema_path};
+    ghost use Rattle.olk_reports.specs.Errors.{kind_of, value_of, fault_of, fault_kind, fault_instance, fault_instance_path, fault_schema_path};
     ghost use Rattle.olk_spec.specs.Texts.{prints_fraction};
 
     /// An error of validating.
@@ -138,7 +138,8 @@ impl<'a> ValidationError<'a> {
         instance_path: String,
         schema_path: &'a str,
     ) -> Self
-        ensures { fault_of result
+        ensures value { value_of result ≡ instance.entry }
+        ensures fault { fault_of result
             ≡ fault (kind_of kind.entry) (data_of instance.entry)
             (string_bytes instance_path) schema_path.now }
     {
@@ -158,7 +159,8 @@ impl<'a> ValidationError<'a> {
         instance_path: String,
         schema_path: Location,
     ) -> Self
-        ensures { fault_of result
+        ensures value { value_of result ≡ instance.entry }
+        ensures fault { fault_of result
             ≡ fault (kind_of kind.entry) (data_of instance.entry)
             (string_bytes instance_path) schema_path }
     {
@@ -172,13 +174,13 @@ impl<'a> ValidationError<'a> {
     }
 
     /// An error of a member's name, told of the object: kind `PropertyNames`, with the schema path of the error inside.
-    #[tactic(auto, using(crate::proofs::Errors::wrapped_is))]
     pub fn wrapping(
         error: Box<ValidationError<'a>>,
         instance: Node<'a>,
         instance_path: String,
     ) -> Self
-        ensures { fault_of result
+        ensures value { value_of result ≡ instance.entry }
+        ensures fault { fault_of result
             ≡ wrapped (data_of instance.entry) (string_bytes instance_path)
             (fault_of error.entry.value) }
     {
@@ -199,7 +201,8 @@ impl<'a> ValidationError<'a> {
 
     /// The value that it is about.
     pub fn instance(&self) -> Node<'a>
-        ensures { data_of result ≡ fault_instance (fault_of self.now) }
+        ensures value { result ≡ value_of self.now }
+        ensures data { data_of result ≡ fault_instance (fault_of self.now) }
     {
         self.instance
     }

@@ -14,8 +14,7 @@ use Rattle.olk_spec.specs.Faults.{Fault, fault, Kind, SingleType, MultipleTypes,
 abbrev pub pending : List Name
 pending =
     codes "patternProperties" ∷ codes "additionalProperties" ∷ codes "propertyNames"
-    ∷ codes "dependentRequired" ∷ codes "dependentSchemas" ∷ codes "dependencies" ∷ codes "propertyDependencies"
-    ∷ codes "if" ∷ codes "then" ∷ codes "else" ∷ []
+    ∷ codes "dependentRequired" ∷ codes "dependentSchemas" ∷ codes "dependencies" ∷ codes "propertyDependencies" ∷ []
 
 -- ---- the places that a keyword reads, each with its path below the schema object
 

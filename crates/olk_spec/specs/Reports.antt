@@ -65,9 +65,11 @@ report_step W u (no_schema d) v P Q = []
 report_step W u (keywords S) v P Q = flat_map (λ m. keyword_report W u S m.0 m.1 v P Q (keyword_named W m.0)) S
 
 -- what `validate` keeps of a fault
-abbrev pub cut_kind : Kind → Kind
-cut_kind (AdditionalProperties (n ∷ ns)) = AdditionalProperties (n ∷ [])
-cut_kind k = k
+abbrev mutual
+  pub cut_kind : Kind → Kind
+  cut_kind (AdditionalProperties (n ∷ ns)) = AdditionalProperties (n ∷ [])
+  cut_kind (PropertyNames f) = PropertyNames (cut f)
+  cut_kind k = k
 
-abbrev pub cut : Fault → Fault
-cut (fault k v Q P) = fault (cut_kind k) v Q P
+  pub cut : Fault → Fault
+  cut (fault k v Q P) = fault (cut_kind k) v Q P

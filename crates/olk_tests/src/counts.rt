@@ -109,6 +109,7 @@ fn expect_no_counts(
 fn asking_counts_nothing(rt: HostRuntime) -> Result<(), Fail> {
     let schema = concat!(
         r#"{"allOf":[{"required":["a"]},{}],"anyOf":[{"type":"null"},{"type":"object"}],"not":{"required":["b"]},"#,
+        r#""else":{"required":["c"]},"if":{"required":["b"]},"oneOf":[{"required":["b"]},{"required":["c"]}],"then":false,"#,
         r#""properties":{"a":{"minimum":5},"c":true},"required":["a","c"]}"#
     );
     expect_no_counts(&rt, rt.alloc(), schema, r#"{"a":5,"c":1}"#)?;
@@ -183,6 +184,21 @@ fn each_leaf_is_made_once(rt: HostRuntime) -> Result<(), Fail> {
         ),
         (
             r#"{"allOf":[{"text":false},{"properties":{"a":{"text":false}}}],"text":false}"#,
+            3,
+        ),
+    ] {
+        expect_made(&rt, rt.alloc(), schema, leaves)?;
+    }
+    Ok(())
+}
+
+#[test]
+fn each_leaf_of_a_condition_is_made_once(rt: HostRuntime) -> Result<(), Fail> {
+    for (schema, leaves) in [
+        (r#"{"if":{"text":false}}"#, 0),
+        (r#"{"else":{"text":false},"then":{"text":false}}"#, 0),
+        (
+            r#"{"else":{"text":false},"if":{"text":false},"then":{"text":false}}"#,
             3,
         ),
     ] {

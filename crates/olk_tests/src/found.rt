@@ -273,6 +273,26 @@ fn exactly_one_branch(rt: HostRuntime) -> Result<(), Fail> {
     Ok(())
 }
 
+// The same for `if`, `then` and `else`.
+const CONDITIONS: &str =
+    r##"else refuses | {"else":{"multipleOf":2},"if":{"minimum":0},"then":{"multipleOf":2}} | -1 | -1 is not a multiple of 2 @ "", /else/multipleOf
+then refuses | {"else":{"multipleOf":2},"if":{"minimum":0},"then":{"multipleOf":2}} | 3 | 3 is not a multiple of 2 @ "", /then/multipleOf
+then alone, the condition refuses | {"if":{"type":"integer"},"then":false} | "x" | accepted
+else alone, the condition accepts | {"else":false,"if":{"type":"integer"}} | 1 | accepted
+a condition alone is not read | {"if":5} | 1 | accepted
+then and else without a condition are not read | {"else":5,"then":5} | 1 | accepted
+a condition in a condition | {"else":{"type":"null"},"if":{"if":{"type":"integer"},"then":{"minimum":5}},"then":{"maximum":9}} | 3 | 3 is not of type "null" @ "", /else/type
+then has a context | {"if":{},"then":{"anyOf":[{"type":"null"}]}} | 1 | 1 is not valid under any of the schemas listed in the 'anyOf' keyword @ "", /then/anyOf {1 is not of type "null" @ "", /then/anyOf/0/type;}
+a condition in a context | {"anyOf":[{"else":false,"if":{"type":"integer"},"then":{"minimum":5}},{"else":false,"if":{"type":"null"}}]} | 1 | 1 is not valid under any of the schemas listed in the 'anyOf' keyword @ "", /anyOf {1 is less than the minimum of 5 @ "", /anyOf/0/then/minimum;} {False schema does not allow 1 @ "", /anyOf/1/else;}"##;
+
+#[test]
+fn conditions(rt: HostRuntime) -> Result<(), Fail> {
+    for row in CONDITIONS.lines() {
+        expect_one(&rt, rt.alloc(), row)?;
+    }
+    Ok(())
+}
+
 // The errors in the contexts of errors, with their contexts.
 fn inner_lines(alloc: Global, errors: &[ValidationError<'_>]) -> Result<Vec<String>, AllocError> {
     let mut lines = Vec::new(alloc);
@@ -310,6 +330,33 @@ fn branches_of_a_branch(rt: HostRuntime) -> Result<(), Fail> {
     let schema = r#"{"anyOf":[{"anyOf":[{"type":"integer"},{"type":"array"}]}]}"#;
     let lines = lines_of_branches(rt.alloc(), schema, "\"x\"")?;
     expect_lines(&rt, &lines, &[TEXT_IN_BRANCHES], "a branch of a branch");
+    Ok(())
+}
+
+// A name, a schema, an instance, and the one error in the context of the one error of `anyOf`, with its context.
+const IN_A_BRANCH: &str =
+    r##"no branch of oneOf accepts | {"anyOf":[{"oneOf":[{"type":"integer"},{"type":"array"}]}]} | "x" | "x" is not valid under any of the schemas listed in the 'oneOf' keyword @ "", /anyOf/0/oneOf {"x" is not of type "integer" @ "", /anyOf/0/oneOf/0/type;} {"x" is not of type "array" @ "", /anyOf/0/oneOf/1/type;}
+two branches of oneOf accept | {"anyOf":[{"oneOf":[true,{"type":"array"},true]}]} | "x" | "x" is valid under more than one of the schemas listed in the 'oneOf' keyword @ "", /anyOf/0/oneOf {} {"x" is not of type "array" @ "", /anyOf/0/oneOf/1/type;} {}
+a context in else | {"anyOf":[{"else":{"oneOf":[]},"if":false}]} | "x" | "x" is not valid under any of the schemas listed in the 'oneOf' keyword @ "", /anyOf/0/else/oneOf"##;
+
+fn expect_in_a_branch(rt: &impl Abort, alloc: Global, row: &str) -> Result<(), Fail> {
+    let (name, others) = row.split_once(" | ").ok_or("a row of one cell")?;
+    let (schema, others) = others.split_once(" | ").ok_or("a row of two cells")?;
+    let (instance, told) = others.split_once(" | ").ok_or("a row of three cells")?;
+    expect_lines(
+        rt,
+        &lines_of_branches(alloc, schema, instance)?,
+        &[told],
+        name,
+    );
+    Ok(())
+}
+
+#[test]
+fn contexts_in_a_context(rt: HostRuntime) -> Result<(), Fail> {
+    for row in IN_A_BRANCH.lines() {
+        expect_in_a_branch(&rt, rt.alloc(), row)?;
+    }
     Ok(())
 }
 

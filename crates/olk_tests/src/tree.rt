@@ -1,6 +1,6 @@
 //! Building from schemas, and looking up names, with a leaf set and a matcher.
 use olk_base::Meter;
-use olk_build::{Context, all_of, any_of, compile, not, properties, required};
+use olk_build::{Context, all_of, any_of, compile, if_, not, properties, required};
 use olk_low_tests::doubles::{Equality, NoTexts};
 use olk_reports::{BuildError, ValidationError};
 use olk_tree::{Body, KeywordOver, SmallMap, SortedNames};
@@ -78,6 +78,25 @@ fn schemas_that_are_built(rt: HostRuntime) -> Result<(), Fail> {
     Ok(())
 }
 
+// What is read of a condition is counted once, and nothing else of it.
+#[test]
+fn conditions_that_are_built(rt: HostRuntime) -> Result<(), Fail> {
+    for (text, places, leaves) in [
+        (r#"{"if":5}"#, 1, 0),
+        (r#"{"else":{"text":false},"then":5}"#, 1, 0),
+        (r#"{"if":{"text":false},"then":{}}"#, 3, 1),
+        (
+            r#"{"else":{"text":false},"if":{"if":7},"then":{"text":false}}"#,
+            4,
+            2,
+        ),
+        (r#"{"allOf":[{"if":{},"then":{"text":false}},true]}"#, 5, 1),
+    ] {
+        expect_built(&rt, rt.alloc(), text, places, leaves)?;
+    }
+    Ok(())
+}
+
 // A schema, the place of what is refused, and the text; the root is `.` here.
 const REFUSED: &str = r##"7 | . | 7 is not of types "boolean", "object"
 {"allOf":[5]} | ./allOf/0 | 5 is not of types "boolean", "object"
@@ -88,7 +107,10 @@ const REFUSED: &str = r##"7 | . | 7 is not of types "boolean", "object"
 {"required":true} | ./required | true is not of type "array"
 {"properties":{"a":{"$ref":"#"}}} | ./properties/a/$ref | "$ref" is not supported here
 {"oneOf":{}} | ./oneOf | {} is not of type "array"
-{"if":true} | ./if | "if" is not supported here
+{"propertyNames":true} | ./propertyNames | "propertyNames" is not supported here
+{"if":5,"then":{}} | ./if | 5 is not of types "boolean", "object"
+{"if":{},"then":[]} | ./then | [] is not of types "boolean", "object"
+{"else":{"text":true},"if":{}} | ./else/text | true is not a value for "text"
 {"not":{"text":true}} | ./not/text | true is not a value for "text""##;
 
 fn refused(alloc: Global, schema: &Value) -> Result<ValidationError<'_>, Fail> {
@@ -214,61 +236,70 @@ fn required_names_that_are_fused(rt: HostRuntime) -> Result<(), Fail> {
     Ok(())
 }
 
-// Whether the keyword of `allOf` is the single form.
-fn is_single_all_of(alloc: Global, branches: &Value, meter: &mut Meter) -> Result<bool, Fail> {
+// Which form a keyword of branches has.
+fn form_of<K, N>(keyword: &KeywordOver<K, N>) -> &'static str {
+    match keyword {
+        KeywordOver::SingleValueAllOf(_) => "single allOf",
+        KeywordOver::AllOf(_) => "allOf",
+        KeywordOver::SingleAnyOf(_) => "single anyOf",
+        KeywordOver::AnyOf(_) => "anyOf",
+        _ => "another",
+    }
+}
+
+// That of `allOf`.
+fn form_of_all_of(
+    alloc: Global,
+    branches: &Value,
+    meter: &mut Meter,
+) -> Result<&'static str, Fail> {
     let parent = Map::new(alloc);
     let mut ctx = Context::new(alloc, &NoTexts, &Equality, meter);
     match all_of::compile(alloc, &mut ctx, &parent, branches) {
-        Some(Ok(KeywordOver::SingleValueAllOf(_))) => Ok(true),
-        Some(Ok(KeywordOver::AllOf(_))) => Ok(false),
+        Some(Ok(keyword)) => Ok(form_of(&keyword)),
         _ => Err(Fail::from("not built")),
     }
 }
 
-// Whether that of `anyOf` is.
-fn is_single_any_of(alloc: Global, branches: &Value, meter: &mut Meter) -> Result<bool, Fail> {
+fn expect_all_of(rt: &impl Abort, alloc: Global, text: &str, form: &str) -> Result<(), Fail> {
+    let branches = Value::from_str(alloc, text)?;
+    let mut meter = Meter::new();
+    let found = form_of_all_of(alloc, &branches, &mut meter)?;
+    assert_eq!(rt; found, form, "{text}");
+    Ok(())
+}
+
+// That of `anyOf`.
+fn form_of_any_of(
+    alloc: Global,
+    branches: &Value,
+    meter: &mut Meter,
+) -> Result<&'static str, Fail> {
     let parent = Map::new(alloc);
     let mut ctx = Context::new(alloc, &NoTexts, &Equality, meter);
     match any_of::compile(alloc, &mut ctx, &parent, branches) {
-        Some(Ok(KeywordOver::SingleAnyOf(_))) => Ok(true),
-        Some(Ok(KeywordOver::AnyOf(_))) => Ok(false),
+        Some(Ok(keyword)) => Ok(form_of(&keyword)),
         _ => Err(Fail::from("not built")),
     }
 }
 
-// Whether both are the single form, and how many places and leaves each of them counts.
-fn expect_branches(
-    rt: &impl Abort,
-    alloc: Global,
-    text: &str,
-    is_single: bool,
-    spent: (u64, u64),
-) -> Result<(), Fail> {
+fn expect_any_of(rt: &impl Abort, alloc: Global, text: &str, form: &str) -> Result<(), Fail> {
     let branches = Value::from_str(alloc, text)?;
-    let (mut all, mut any) = (Meter::new(), Meter::new());
-    assert_eq!(rt;
-        is_single_all_of(alloc, &branches, &mut all)?,
-        is_single,
-        "{text}"
-    );
-    assert_eq!(rt;
-        is_single_any_of(alloc, &branches, &mut any)?,
-        is_single,
-        "{text}"
-    );
-    assert_eq!(rt; (all.compiled(), all.leaves()), spent, "{text}");
-    assert_eq!(rt; (any.compiled(), any.leaves()), spent, "{text}");
+    let mut meter = Meter::new();
+    let found = form_of_any_of(alloc, &branches, &mut meter)?;
+    assert_eq!(rt; found, form, "{text}");
     Ok(())
 }
 
 #[test]
 fn one_branch_has_a_form_of_its_own(rt: HostRuntime) -> Result<(), Fail> {
-    for (text, is_single, spent) in [
-        ("[]", false, (0, 0)),
-        (r#"[{"text":false}]"#, true, (1, 1)),
-        (r#"[true,{"text":false}]"#, false, (2, 1)),
+    for (text, all_of, any_of) in [
+        ("[]", "allOf", "anyOf"),
+        ("[true]", "single allOf", "single anyOf"),
+        ("[true,{}]", "allOf", "anyOf"),
     ] {
-        expect_branches(&rt, rt.alloc(), text, is_single, spent)?;
+        expect_all_of(&rt, rt.alloc(), text, all_of)?;
+        expect_any_of(&rt, rt.alloc(), text, any_of)?;
     }
     Ok(())
 }
@@ -291,6 +322,55 @@ fn a_schema_that_is_turned(rt: HostRuntime) -> Result<(), Fail> {
     let place = place_of_not(rt.alloc(), &Value::Bool(true), &mut meter)?;
     assert_eq!(rt; place.as_str(), "/not");
     assert_eq!(rt; (meter.compiled(), meter.leaves()), (1, 0));
+    Ok(())
+}
+
+// Which form the keyword of `if` has in an object, if it has one.
+fn form_of_if(
+    alloc: Global,
+    parent: &Map<String, Value>,
+    meter: &mut Meter,
+) -> Result<&'static str, Fail> {
+    let Some(schema) = parent.get("if") else {
+        return Err(Fail::from("no condition"));
+    };
+    let mut ctx = Context::new(alloc, &NoTexts, &Equality, meter);
+    match if_::compile(alloc, &mut ctx, parent, schema) {
+        None => Ok("none"),
+        Some(Ok(KeywordOver::IfThen(_))) => Ok("then"),
+        Some(Ok(KeywordOver::IfElse(_))) => Ok("else"),
+        Some(Ok(KeywordOver::IfThenElse(_))) => Ok("both"),
+        _ => Err(Fail::from("not built")),
+    }
+}
+
+fn expect_condition(
+    rt: &impl Abort,
+    alloc: Global,
+    text: &str,
+    form: &str,
+    places: u64,
+) -> Result<(), Fail> {
+    let Value::Object(parent) = Value::from_str(alloc, text)? else {
+        return Err(Fail::from("no object"));
+    };
+    let mut meter = Meter::new();
+    let found = form_of_if(alloc, &parent, &mut meter)?;
+    assert_eq!(rt; found, form, "{text}");
+    assert_eq!(rt; meter.compiled(), places, "{text}");
+    Ok(())
+}
+
+#[test]
+fn a_condition_with_its_cases(rt: HostRuntime) -> Result<(), Fail> {
+    for (text, form, places) in [
+        (r#"{"if":true}"#, "none", 0u64),
+        (r#"{"if":true,"then":false}"#, "then", 2),
+        (r#"{"if":true,"else":false}"#, "else", 2),
+        (r#"{"if":true,"then":{"not":true},"else":false}"#, "both", 4),
+    ] {
+        expect_condition(&rt, rt.alloc(), text, form, places)?;
+    }
     Ok(())
 }
 

@@ -151,3 +151,30 @@ fn evaluations(rt: HostRuntime) -> Result<(), Fail> {
     }
     Ok(())
 }
+
+#[test]
+fn evaluations_of_conditions(rt: HostRuntime) -> Result<(), Fail> {
+    let alloc = rt.alloc();
+    for (schema, instance, expected) in [
+        (
+            r#"{"if":{"properties":{"a":true}},"then":{"properties":{"b":{"text":false}}}}"#,
+            r#"{"a":1,"b":"x"}"#,
+            "/then/properties/b/text@/b text: is a text\n/if/properties@ a,\n",
+        ),
+        (
+            r#"{"else":{"properties":{"a":true}},"if":{"text":false}}"#,
+            r#"{"a":1}"#,
+            "",
+        ),
+        (
+            r#"{"else":{"properties":{"a":true}},"if":{"required":["b"]},"then":false}"#,
+            r#"{"a":1}"#,
+            "/else/properties@ a,\n",
+        ),
+        (r#"{"if":{"properties":{}}}"#, "{}", ""),
+    ] {
+        let text = shown(alloc, schema, instance)?;
+        assert_eq!(rt; text.as_str(), expected, "{schema} {instance}");
+    }
+    Ok(())
+}

@@ -2,6 +2,7 @@ pub mod Lists
 pub mod Questions
 pub mod Faults
 pub mod Members_met
+pub mod Due
 mod Places
 mod Lookups
 mod Entries

@@ -5,16 +5,19 @@ use Rattle.std.specs.Ordering.{nat_cmp}
 use Rattle.std.specs.Cmp.Lexicographic.{slice_cmp}
 use Rattle.std.specs.declared.cmp.Ordering.{Ordering}
 use Rattle.std.specs.declared.cmp.Ordering.TheVariants.{Less, Equal, Greater}
+use Rattle.std.proofs.lemmas.List.{map-append}
 use Rattle.std.proofs.Common.{refl, sym, ap, ◌∙◌}
+use Rattle.std.proofs.lemmas.Grind.{flat_map-append}
 use Rattle.std.proofs.lemmas.List.Sums.{sum_by-cons}
 use Rattle.serde_json.specs.Data.{Data}
 use Rattle.olk_spec.specs.Faults.{Fault}
 use Rattle.olk_spec.specs.Names.{Name, Path, ◌//◌, lookup, first_if_equal, is_among, those, put_if, is_empty}
-use Rattle.olk_spec.specs.Schemas.{is_object, members}
+use Rattle.olk_spec.specs.Schemas.{is_object, members, has, at, as_text}
 use Rattle.olk_spec.specs.Tree.{Tree, result, plain}
 use Rattle.olk_spec.proofs.Maps.{map-map, those-map, is_empty-map}
 use Rattle.olk_tree.specs.Shown.{properties_tree, branch_trees, any_of_tree, several_accept, one_of_tree}
-use Rattle.olk_tree.specs.Answers.{beside, or_else, first_of}
+use Rattle.olk_tree.specs.Answers.{beside, named, or_else, first_of, due_nodes, chosen_at, chosen_nodes}
+use Rattle.olk_tree.specs.declared.map.SmallMap.{SmallMap}
 use Rattle.olk_tree.specs.Questions.{Question, both, either, every, some, how_many, exactly_one}
 
 module _ {X Y : Type 0} (p : X → Question) (q : Y → Question) (h : Y → X) (same : (y : Y) → p (h y) ≡ q y) where
@@ -71,6 +74,54 @@ module _ {X Y : Type 0} (h : Y → X) where
   lookup-beside n [] ys = refl
   lookup-beside n (k ∷ ks) [] = refl
   lookup-beside n (k ∷ ks) (y ∷ ys) = found_at (slice_cmp nat_cmp n k) y _ _ (lookup-beside n ks ys)
+
+-- ---- lists of lists
+
+module _ {X B : Type 0} where
+  pub map-flat_map : {C : Type 0} (g : B → C) (f : X → List B) (xs : List X) → flat_map (λ x. map g (f x)) xs ≡ map g (flat_map f xs)
+  map-flat_map g f [] = refl
+  map-flat_map g f (x ∷ xs) = ap (λ l. map g (f x) ++ l) (map-flat_map g f xs) ∙ sym (map-append g (f x) (flat_map f xs))
+
+  pub flat_map-of-flat_map : {Y : Type 0} (f : X → List B) (h : Y → List X) (ys : List Y) → flat_map f (flat_map h ys) ≡ flat_map (λ y. flat_map f (h y)) ys
+  flat_map-of-flat_map f h [] = refl
+  flat_map-of-flat_map f h (y ∷ ys) = flat_map-append f (h y) (flat_map h ys) ∙ ap (λ l. flat_map f (h y) ++ l) (flat_map-of-flat_map f h ys)
+
+-- ---- the nodes that a dependency asks
+
+module _ {X Y : Type 0} (h : Y → X) (v : Data) where
+  pub due_nodes-map : (ks : List Name) (ys : List Y) → due_nodes (beside ks (map h ys)) v ≡ map h (due_nodes (beside ks ys) v)
+  due_nodes-map [] ys = refl
+  due_nodes-map (k ∷ ks) [] = refl
+  due_nodes-map (k ∷ ks) (y ∷ ys) = by (has k v) (due_nodes-map ks ys)
+    where
+      by : (b : Bool) → due_nodes (beside ks (map h ys)) v ≡ map h (due_nodes (beside ks ys) v)
+          → map (λ e. e.1) (put_if b (k, h y) (those (λ e. has e.0 v) (beside ks (map h ys)))) ≡ map h (map (λ e. e.1) (put_if b (k, y) (those (λ e. has e.0 v) (beside ks ys))))
+      by true e = ap (λ l. h y ∷ l) e
+      by false e = e
+
+  listed-map : (o : Option Y) → option_to_list (option_map h o) ≡ map h (option_to_list o)
+  listed-map None = refl
+  listed-map (Some y) = refl
+
+  module _ (g : SmallMap Y → SmallMap X) (names : (m : SmallMap Y) → named (g m) ≡ beside m.names (map h m.nodes.items)) where
+    at_text-map : (m : SmallMap Y) (t : Name) → option_to_list (lookup t (named (g m))) ≡ map h (option_to_list (lookup t (named m)))
+    at_text-map m t = ap option_to_list (ap (lookup t) (names m) ∙ lookup-beside h t m.names m.nodes.items) ∙ listed-map (lookup t (named m))
+
+    at_texts-map : (m : SmallMap Y) (ts : List Name) → flat_map (λ t. option_to_list (lookup t (named (g m)))) ts ≡ map h (flat_map (λ t. option_to_list (lookup t (named m))) ts)
+    at_texts-map m [] = refl
+    at_texts-map m (t ∷ ts) = (λ i. at_text-map m t i ++ at_texts-map m ts i) ∙ sym (map-append h (option_to_list (lookup t (named m))) (flat_map (λ t. option_to_list (lookup t (named m))) ts))
+
+    chosen_at-map : (m : SmallMap Y) (w : Data) → chosen_at (g m) w ≡ map h (chosen_at m w)
+    chosen_at-map m w = at_texts-map m (as_text w)
+
+    chosen_in-map : (m : SmallMap Y) (ws : List Data) → flat_map (chosen_at (g m)) ws ≡ map h (flat_map (chosen_at m) ws)
+    chosen_in-map m [] = refl
+    chosen_in-map m (w ∷ ws) = (λ i. chosen_at-map m w i ++ chosen_in-map m ws i) ∙ sym (map-append h (chosen_at m w) (flat_map (chosen_at m) ws))
+
+    pub chosen_nodes-map : (ks : List Name) (ms : List (SmallMap Y)) → chosen_nodes (beside ks (map g ms)) v ≡ map h (chosen_nodes (beside ks ms) v)
+    chosen_nodes-map [] ms = refl
+    chosen_nodes-map (k ∷ ks) [] = refl
+    chosen_nodes-map (k ∷ ks) (m ∷ ms) = (λ i. chosen_in-map m (at k v) i ++ chosen_nodes-map ks ms i) ∙ sym (map-append h (flat_map (chosen_at m) (at k v)) (chosen_nodes (beside ks ms) v))
 
 -- ---- what is shown
 

@@ -1,22 +1,22 @@
--- What a validator reports is empty exactly where it accepts, if that is so of its nodes.
+-- What a validator reports is empty exactly where it accepts, and so is its first step that refuses, if that is so of its nodes.
 use Rattle.std.specs.Prelude.{◌≡◌, ℕ, zero, suc, ◌==◌, nat_lt, Bool, true, false, not, cond, ◌&&◌, List, [], ◌∷◌, ◌++◌, map}
 use Rattle.std.specs.List.{flat_map}
 use Rattle.std.proofs.Common.{refl, sym, true≢false, ◌∙◌, arith}
 use Rattle.std.proofs.lemmas.Bool.Decides.{nat_tests}
-use Rattle.serde_json.specs.Data.{Data}
+use Rattle.serde_json.specs.Data.{Data, string}
 use Rattle.serde_json.specs.View.{view}
 use Rattle.olk_spec.specs.Names.{Name, Text, Path, ◌//◌, is_empty}
-use Rattle.olk_spec.specs.Faults.{Fault, Kind, fault, Required, Leaf, AnyOf, OneOfNotValid, OneOfMultipleValid, Not, Context, context}
-use Rattle.olk_spec.specs.Schemas.{at}
+use Rattle.olk_spec.specs.Faults.{Fault, Kind, fault, Required, Leaf, AnyOf, OneOfNotValid, OneOfMultipleValid, Not, FalseSchema, Context, context}
+use Rattle.olk_spec.specs.Schemas.{members, at}
 use Rattle.olk_spec.specs.Accepts.{missing}
-use Rattle.olk_spec.specs.Reports.{required_faults, fault_if}
+use Rattle.olk_spec.specs.Reports.{required_faults, fault_if, wrapped}
 use Rattle.olk_spec.proofs.Verdicts.{is_empty-append, is_empty-map, none_if}
 use Rattle.olk_tree.specs.Questions.{Question, every, some, how_many}
-use Rattle.olk_tree.specs.Answers.{named, texts_of, two_texts, unless, one_of_report, properties_mean, properties_report, validator_means, validator_report, body_means, body_report}
+use Rattle.olk_tree.specs.Answers.{named, texts_of, two_texts, unless, one_of_report, or_else, first_of, head_of, properties_mean, properties_report, properties_first, due_nodes, chosen_nodes, names_mean, names_report, names_first, validator_means, validator_report, validator_first, body_means, body_report, body_first}
 use Rattle.olk_tree.specs.declared.node.KeywordOver.{KeywordOver}
 use Rattle.olk_tree.specs.declared.node.KeywordOver.TheVariants as keyword
 use Rattle.olk_tree.specs.declared.node.Body.{Body}
-use Rattle.olk_tree.specs.declared.node.Body.TheVariants.{True, False, Keywords}
+use Rattle.olk_tree.specs.declared.node.Body.TheVariants.{True, False, Keywords, RequiredNames}
 
 pub each_agrees : {X : Type 0} (f : X → List Fault) (q : X → Question) (u : Bool) → ((x : X) → is_empty (f x) ≡ (q x).accepts u) → (xs : List X) → is_empty (flat_map f xs) ≡ (every q xs).accepts u
 each_agrees f q u h [] = refl
@@ -58,6 +58,9 @@ module _ {N : Type 0} (m : N → Data → Question) (r : N → Bool → Data →
   pub properties_agree : (es : List (Name × N)) (v : Data) (Q : Path) → is_empty (properties_report r u es v Q) ≡ (properties_mean m es v).accepts u
   properties_agree es v Q = each_agrees (λ e. flat_map (λ x. r e.1 u x (Q // e.0)) (at e.0 v)) (λ e. every (m e.1) (at e.0 v)) u (λ e. each_agrees (λ x. r e.1 u x (Q // e.0)) (m e.1) u (λ x. h e.1 x (Q // e.0)) (at e.0 v)) es
 
+  pub names_agree : (n : N) (v : Data) (Q : Path) → is_empty (names_report r u n v Q) ≡ (names_mean m n v).accepts u
+  names_agree n v Q = each_agrees (λ x. map (wrapped v Q) (r n u (string x.0) Q)) (λ x. m n (string x.0)) u (λ x. is_empty-map (wrapped v Q) (r n u (string x.0) Q) ∙ h n (string x.0) Q) (members v)
+
 module _ {K N : Type 0} (finds : K → Data → List Text) (m : N → Data → Question) (keyword_of : K → Name) (r : N → Bool → Data → Path → List Fault) (u : Bool) (h : (n : N) (v : Data) (Q : Path) → is_empty (r n u v Q) ≡ (m n v).accepts u) where
   pub validator_agrees : (k : KeywordOver K N) (v : Data) (Q : Path) → is_empty (validator_report finds m keyword_of r u k v Q) ≡ (validator_means finds m k v).accepts u
   unfolding validator_means validator_report
@@ -74,9 +77,66 @@ module _ {K N : Type 0} (finds : K → Data → List Text) (m : N → Data → Q
   validator_agrees (keyword.IfElse k) v Q = cases_agree ((m k.schema v).accepts u) [] (r k.else_schema u v Q) refl (h k.else_schema v Q)
   validator_agrees (keyword.IfThenElse k) v Q = cases_agree ((m k.schema v).accepts u) (r k.then_schema u v Q) (r k.else_schema u v Q) (h k.then_schema v Q) (h k.else_schema v Q)
   validator_agrees (keyword.Not k) v Q = fault_if_agrees ((m k.node v).accepts u) (Not (view k.original)) v k.location Q
+  validator_agrees (keyword.Dependencies k) v Q = each_agrees (λ n. r n u v Q) (λ n. m n v) u (λ n. h n v Q) (due_nodes (named k.dependencies) v)
+  validator_agrees (keyword.PropertyNames k) v Q = names_agree m r u h k.node v Q
+  validator_agrees (keyword.PropertyNamesFalse k) v Q = unless_agrees (is_empty (members v)) FalseSchema v k.location Q
+  validator_agrees (keyword.PropertyDependencies k) v Q = each_agrees (λ n. r n u v Q) (λ n. m n v) u (λ n. h n v Q) (chosen_nodes (named k.dependencies) v)
   validator_agrees (keyword.Leaf p l) v Q = is_empty-map (λ t. fault (Leaf (keyword_of l) t) v Q p) (finds l v)
 
 pub body_agrees : {W : Type 0} (q : W → Data → Question) (f : W → Data → Path → List Fault) (u : Bool) → ((k : W) (v : Data) (Q : Path) → is_empty (f k v Q) ≡ (q k v).accepts u) → (P : Path) (b : Body W) (v : Data) (Q : Path) → is_empty (body_report f P b v Q) ≡ (body_means q b v).accepts u
 body_agrees q f u h P True v Q = refl
 body_agrees q f u h P False v Q = refl
 body_agrees q f u h P (Keywords ks) v Q = each_agrees (λ k. f k v Q) (λ k. q k v) u (λ k. h k v Q) ks.items
+body_agrees q f u h P (RequiredNames k) v Q = required_agrees (texts_of k.required.items) v k.location Q
+
+-- ---- the first step that refuses
+
+pub or_else_agrees : (fs gs : List Fault) {a b : Bool} → is_empty fs ≡ a → is_empty gs ≡ b → is_empty (or_else fs gs) ≡ (a && b)
+or_else_agrees fs gs e f = split fs ∙ (λ i. e i && f i)
+  where
+    split : (fs : List Fault) → is_empty (or_else fs gs) ≡ (is_empty fs && is_empty gs)
+    split [] = refl
+    split (x ∷ xs) = refl
+
+pub head_agrees : (fs : List Fault) {a : Bool} → is_empty fs ≡ a → is_empty (head_of fs) ≡ a
+head_agrees [] e = e
+head_agrees (f ∷ fs) e = e
+
+pub first_of_agrees : {X : Type 0} (f : X → List Fault) (q : X → Question) (u : Bool) → ((x : X) → is_empty (f x) ≡ (q x).accepts u) → (xs : List X) → is_empty (first_of f xs) ≡ (every q xs).accepts u
+first_of_agrees f q u h [] = refl
+first_of_agrees f q u h (x ∷ xs) = or_else_agrees (f x) (first_of f xs) (h x) (first_of_agrees f q u h xs)
+
+module _ {N : Type 0} (m : N → Data → Question) (s : N → Bool → Data → Path → List Fault) (u : Bool) (h : (n : N) (v : Data) (Q : Path) → is_empty (s n u v Q) ≡ (m n v).accepts u) where
+  pub properties_first_agrees : (es : List (Name × N)) (v : Data) (Q : Path) → is_empty (properties_first s u es v Q) ≡ (properties_mean m es v).accepts u
+  properties_first_agrees es v Q = first_of_agrees (λ e. first_of (λ x. s e.1 u x (Q // e.0)) (at e.0 v)) (λ e. every (m e.1) (at e.0 v)) u (λ e. first_of_agrees (λ x. s e.1 u x (Q // e.0)) (m e.1) u (λ x. h e.1 x (Q // e.0)) (at e.0 v)) es
+
+  pub names_first_agrees : (n : N) (v : Data) (Q : Path) → is_empty (names_first s u n v Q) ≡ (names_mean m n v).accepts u
+  names_first_agrees n v Q = first_of_agrees (λ x. map (wrapped v Q) (s n u (string x.0) Q)) (λ x. m n (string x.0)) u (λ x. is_empty-map (wrapped v Q) (s n u (string x.0) Q) ∙ h n (string x.0) Q) (members v)
+
+module _ {K N : Type 0} (finds : K → Data → List Text) (m : N → Data → Question) (keyword_of : K → Name) (r s : N → Bool → Data → Path → List Fault) (u : Bool) (h : (n : N) (v : Data) (Q : Path) → is_empty (s n u v Q) ≡ (m n v).accepts u) where
+  pub validator_first_agrees : (k : KeywordOver K N) (v : Data) (Q : Path) → is_empty (validator_first finds m keyword_of r u s k v Q) ≡ (validator_means finds m k v).accepts u
+  unfolding validator_means validator_first
+  validator_first_agrees (keyword.Properties k) v Q = properties_first_agrees m s u h (named k.properties) v Q
+  validator_first_agrees (keyword.PropertiesWithRequired2 k) v Q = or_else_agrees (head_of (required_faults (two_texts k.first k.second) v k.required_location Q)) (properties_first s u (named k.properties) v Q) (head_agrees (required_faults (two_texts k.first k.second) v k.required_location Q) (required_agrees (two_texts k.first k.second) v k.required_location Q)) (properties_first_agrees m s u h (named k.properties) v Q)
+  validator_first_agrees (keyword.Required k) v Q = head_agrees (required_faults (texts_of k.required.items) v k.location Q) (required_agrees (texts_of k.required.items) v k.location Q)
+  validator_first_agrees (keyword.AllOf k) v Q = first_of_agrees (λ n. s n u v Q) (λ n. m n v) u (λ n. h n v Q) k.schemas.items
+  validator_first_agrees (keyword.SingleValueAllOf k) v Q = h k.node v Q
+  validator_first_agrees (keyword.AnyOf k) v Q = unless_agrees ((some (λ n. m n v) k.schemas.items).accepts u) (AnyOf (context (map (λ n. r n u v Q) k.schemas.items))) v k.location Q
+  validator_first_agrees (keyword.SingleAnyOf k) v Q = unless_agrees ((m k.node v).accepts u) (AnyOf (context (r k.node u v Q ∷ []))) v k.location Q
+  validator_first_agrees (keyword.OneOf k) v Q = one_of_agrees (how_many (λ n. m n v) u k.schemas.items) (context (map (λ n. r n u v Q) k.schemas.items)) v k.location Q
+  validator_first_agrees (keyword.SingleOneOf k) v Q = unless_agrees ((m k.node v).accepts u) (OneOfNotValid (context (r k.node u v Q ∷ []))) v k.location Q
+  validator_first_agrees (keyword.IfThen k) v Q = cases_agree ((m k.schema v).accepts u) (s k.then_schema u v Q) [] (h k.then_schema v Q) refl
+  validator_first_agrees (keyword.IfElse k) v Q = cases_agree ((m k.schema v).accepts u) [] (s k.else_schema u v Q) refl (h k.else_schema v Q)
+  validator_first_agrees (keyword.IfThenElse k) v Q = cases_agree ((m k.schema v).accepts u) (s k.then_schema u v Q) (s k.else_schema u v Q) (h k.then_schema v Q) (h k.else_schema v Q)
+  validator_first_agrees (keyword.Not k) v Q = fault_if_agrees ((m k.node v).accepts u) (Not (view k.original)) v k.location Q
+  validator_first_agrees (keyword.Dependencies k) v Q = first_of_agrees (λ n. s n u v Q) (λ n. m n v) u (λ n. h n v Q) (due_nodes (named k.dependencies) v)
+  validator_first_agrees (keyword.PropertyNames k) v Q = names_first_agrees m s u h k.node v Q
+  validator_first_agrees (keyword.PropertyNamesFalse k) v Q = unless_agrees (is_empty (members v)) FalseSchema v k.location Q
+  validator_first_agrees (keyword.PropertyDependencies k) v Q = first_of_agrees (λ n. s n u v Q) (λ n. m n v) u (λ n. h n v Q) (chosen_nodes (named k.dependencies) v)
+  validator_first_agrees (keyword.Leaf p l) v Q = is_empty-map (λ t. fault (Leaf (keyword_of l) t) v Q p) (finds l v)
+
+pub body_first_agrees : {W : Type 0} (q : W → Data → Question) (f : W → Data → Path → List Fault) (u : Bool) → ((k : W) (v : Data) (Q : Path) → is_empty (f k v Q) ≡ (q k v).accepts u) → (P : Path) (b : Body W) (v : Data) (Q : Path) → is_empty (body_first f P b v Q) ≡ (body_means q b v).accepts u
+body_first_agrees q f u h P True v Q = refl
+body_first_agrees q f u h P False v Q = refl
+body_first_agrees q f u h P (Keywords ks) v Q = first_of_agrees (λ k. f k v Q) (λ k. q k v) u (λ k. h k v Q) ks.items
+body_first_agrees q f u h P (RequiredNames k) v Q = head_agrees (required_faults (texts_of k.required.items) v k.location Q) (required_agrees (texts_of k.required.items) v k.location Q)

@@ -1,22 +1,22 @@
 -- What validators answer over what their nodes answer: whether they accept a value, the faults that they find, and the trees that they show.
-use Rattle.std.specs.Prelude.{ℕ, ◌==◌, nat_lt, Bool, true, false, not, cond, List, [], ◌∷◌, ◌++◌, map, String, string_bytes}
+use Rattle.std.specs.Prelude.{ℕ, ◌==◌, nat_lt, Bool, true, false, not, cond, List, [], ◌∷◌, ◌++◌, map, String, string_bytes, option_to_list}
 use Rattle.std.specs.declared.alloc.Global.{Global}
 use Rattle.std.specs.List.{flat_map}
-use Rattle.serde_json.specs.Data.{Data}
+use Rattle.serde_json.specs.Data.{Data, string}
 use Rattle.serde_json.specs.View.{view}
-use Rattle.olk_spec.specs.Names.{Name, Text, Path, ◌//◌, is_empty}
+use Rattle.olk_spec.specs.Names.{Name, Text, Path, ◌//◌, lookup, those, is_empty}
 use Rattle.olk_spec.specs.Faults.{Fault, Kind, fault, FalseSchema, Leaf, AnyOf, OneOfNotValid, OneOfMultipleValid, Not, Context, context}
-use Rattle.olk_spec.specs.Schemas.{at}
+use Rattle.olk_spec.specs.Schemas.{members, has, at, as_text}
 use Rattle.olk_spec.specs.Accepts.{missing}
-use Rattle.olk_spec.specs.Reports.{required_faults, fault_if}
+use Rattle.olk_spec.specs.Reports.{required_faults, fault_if, wrapped}
 use Rattle.olk_spec.specs.Tree.{Tree, leaf_node, plain, erring, described}
 use Rattle.olk_tree.specs.Questions.{Question, always, both, opposite, conditional, every, some, how_many, exactly_one}
-use Rattle.olk_tree.specs.Shown.{missing_trees, properties_tree, branch_trees, any_of_tree, one_of_tree, if_tree}
+use Rattle.olk_tree.specs.Shown.{missing_trees, properties_tree, branch_trees, name_trees, any_of_tree, one_of_tree, if_tree}
 use Rattle.olk_tree.specs.declared.map.SmallMap.{SmallMap}
 use Rattle.olk_tree.specs.declared.node.KeywordOver.{KeywordOver}
 use Rattle.olk_tree.specs.declared.node.KeywordOver.TheVariants as keyword
 use Rattle.olk_tree.specs.declared.node.Body.{Body}
-use Rattle.olk_tree.specs.declared.node.Body.TheVariants.{True, False, Keywords}
+use Rattle.olk_tree.specs.declared.node.Body.TheVariants.{True, False, Keywords, RequiredNames}
 
 -- two lists, side by side
 abbrev pub beside : {A B : Type 0} → List A → List B → List (A × B)
@@ -68,6 +68,30 @@ properties_first s u es v Q = first_of (λ e. first_of (λ x. s e.1 u x (Q // e.
 abbrev pub properties_mean : {N : Type 0} → (N → Data → Question) → List (Name × N) → Data → Question
 properties_mean m es v = every (λ e. every (m e.1) (at e.0 v)) es
 
+-- the nodes of the keys that are members
+abbrev pub due_nodes : {N : Type 0} → List (Name × N) → Data → List N
+due_nodes es v = map (λ e. e.1) (those (λ e. has e.0 v) es)
+
+-- the node at the text that a value is, none or one
+abbrev pub chosen_at : {N : Type 0} → SmallMap N → Data → List N
+chosen_at m v = flat_map (λ t. option_to_list (lookup t (named m))) (as_text v)
+
+-- the nodes at the texts that the members at the keys are
+abbrev pub chosen_nodes : {N : Type 0} → List (Name × SmallMap N) → Data → List N
+chosen_nodes es v = flat_map (λ e. flat_map (chosen_at e.1) (at e.0 v)) es
+
+-- each member's name
+abbrev pub names_mean : {N : Type 0} → (N → Data → Question) → N → Data → Question
+names_mean m n v = every (λ x. m n (string x.0)) (members v)
+
+-- what a node finds at the members' names, told of the object
+abbrev pub names_report : {N : Type 0} → (N → Bool → Data → Path → List Fault) → Bool → N → Data → Path → List Fault
+names_report r u n v Q = flat_map (λ x. map (wrapped v Q) (r n u (string x.0) Q)) (members v)
+
+-- and at the first name that is refused
+abbrev pub names_first : {N : Type 0} → (N → Bool → Data → Path → List Fault) → Bool → N → Data → Path → List Fault
+names_first s u n v Q = first_of (λ x. map (wrapped v Q) (s n u (string x.0) Q)) (members v)
+
 module _ {K N : Type 0} (finds : K → Data → List Text) (m : N → Data → Question) where
   -- whether a keyword accepts, over what its nodes mean
   unfoldable pub validator_means : KeywordOver K N → Data → Question
@@ -84,6 +108,10 @@ module _ {K N : Type 0} (finds : K → Data → List Text) (m : N → Data → Q
   validator_means (keyword.IfThen k) v = conditional (m k.schema v) (m k.then_schema v) (always true)
   validator_means (keyword.IfElse k) v = conditional (m k.schema v) (always true) (m k.else_schema v)
   validator_means (keyword.IfThenElse k) v = conditional (m k.schema v) (m k.then_schema v) (m k.else_schema v)
+  validator_means (keyword.Dependencies k) v = every (λ n. m n v) (due_nodes (named k.dependencies) v)
+  validator_means (keyword.PropertyNames k) v = names_mean m k.node v
+  validator_means (keyword.PropertyNamesFalse k) v = always (is_empty (members v))
+  validator_means (keyword.PropertyDependencies k) v = every (λ n. m n v) (chosen_nodes (named k.dependencies) v)
   validator_means (keyword.Leaf p l) v = always (is_empty (finds l v))
 
   module _ (keyword_of : K → Name) (r : N → Bool → Data → Path → List Fault) (u : Bool) where
@@ -102,6 +130,10 @@ module _ {K N : Type 0} (finds : K → Data → List Text) (m : N → Data → Q
     validator_report (keyword.IfThen k) v Q = cond ((m k.schema v).accepts u) (r k.then_schema u v Q) []
     validator_report (keyword.IfElse k) v Q = cond ((m k.schema v).accepts u) [] (r k.else_schema u v Q)
     validator_report (keyword.IfThenElse k) v Q = cond ((m k.schema v).accepts u) (r k.then_schema u v Q) (r k.else_schema u v Q)
+    validator_report (keyword.Dependencies k) v Q = flat_map (λ n. r n u v Q) (due_nodes (named k.dependencies) v)
+    validator_report (keyword.PropertyNames k) v Q = names_report r u k.node v Q
+    validator_report (keyword.PropertyNamesFalse k) v Q = unless (is_empty (members v)) FalseSchema v k.location Q
+    validator_report (keyword.PropertyDependencies k) v Q = flat_map (λ n. r n u v Q) (chosen_nodes (named k.dependencies) v)
     validator_report (keyword.Leaf p l) v Q = map (λ t. fault (Leaf (keyword_of l) t) v Q p) (finds l v)
 
     module _ (s : N → Bool → Data → Path → List Fault) where
@@ -120,6 +152,10 @@ module _ {K N : Type 0} (finds : K → Data → List Text) (m : N → Data → Q
       validator_first (keyword.IfThen k) v Q = cond ((m k.schema v).accepts u) (s k.then_schema u v Q) []
       validator_first (keyword.IfElse k) v Q = cond ((m k.schema v).accepts u) [] (s k.else_schema u v Q)
       validator_first (keyword.IfThenElse k) v Q = cond ((m k.schema v).accepts u) (s k.then_schema u v Q) (s k.else_schema u v Q)
+      validator_first (keyword.Dependencies k) v Q = first_of (λ n. s n u v Q) (due_nodes (named k.dependencies) v)
+      validator_first (keyword.PropertyNames k) v Q = names_first s u k.node v Q
+      validator_first (keyword.PropertyNamesFalse k) v Q = unless (is_empty (members v)) FalseSchema v k.location Q
+      validator_first (keyword.PropertyDependencies k) v Q = first_of (λ n. s n u v Q) (chosen_nodes (named k.dependencies) v)
       validator_first (keyword.Leaf p l) v Q = map (λ t. fault (Leaf (keyword_of l) t) v Q p) (finds l v)
 
   module _ (keyword_of : K → Name) (t : N → Bool → Data → Path → Tree) (u : Bool) where
@@ -141,6 +177,10 @@ module _ {K N : Type 0} (finds : K → Data → List Text) (m : N → Data → Q
     validator_tree (keyword.IfElse k) v Q = if_tree at_node v Q ((m k.schema v).accepts u) k.location k.schema [] (k.else_schema ∷ [])
     validator_tree (keyword.IfThenElse k) v Q = if_tree at_node v Q ((m k.schema v).accepts u) k.location k.schema (k.then_schema ∷ []) (k.else_schema ∷ [])
     validator_tree (keyword.Not k) v Q = erring k.location Q (fault_if ((m k.node v).accepts u) (Not (view k.original)) v k.location Q)
+    validator_tree (keyword.Dependencies k) v Q = plain k.location Q (branch_trees at_node v Q (due_nodes (named k.dependencies) v))
+    validator_tree (keyword.PropertyNames k) v Q = plain k.location Q (name_trees at_node v Q k.node)
+    validator_tree (keyword.PropertyNamesFalse k) v Q = erring k.location Q (unless (is_empty (members v)) FalseSchema v k.location Q)
+    validator_tree (keyword.PropertyDependencies k) v Q = plain k.location Q (branch_trees at_node v Q (chosen_nodes (named k.dependencies) v))
     validator_tree (keyword.Leaf p l) v Q = leaf_node p Q (described (map (λ x. fault (Leaf (keyword_of l) x) v Q p) (finds l v)))
 
 -- whether a body accepts
@@ -148,21 +188,25 @@ abbrev pub body_means : {W : Type 0} → (W → Data → Question) → Body W �
 body_means f True v = always true
 body_means f False v = always false
 body_means f (Keywords ks) v = every (λ k. f k v) ks.items
+body_means f (RequiredNames k) v = always (is_empty (missing (texts_of k.required.items) v))
 
 -- what a body finds at its place
 abbrev pub body_report : {W : Type 0} → (W → Data → Path → List Fault) → Path → Body W → Data → Path → List Fault
 body_report f P True v Q = []
 body_report f P False v Q = fault FalseSchema v Q P ∷ []
 body_report f P (Keywords ks) v Q = flat_map (λ k. f k v Q) ks.items
+body_report f P (RequiredNames k) v Q = required_faults (texts_of k.required.items) v k.location Q
 
 -- and at its first step that refuses
 abbrev pub body_first : {W : Type 0} → (W → Data → Path → List Fault) → Path → Body W → Data → Path → List Fault
 body_first f P True v Q = []
 body_first f P False v Q = fault FalseSchema v Q P ∷ []
 body_first f P (Keywords ks) v Q = first_of (λ k. f k v Q) ks.items
+body_first f P (RequiredNames k) v Q = head_of (required_faults (texts_of k.required.items) v k.location Q)
 
 -- what a body shows at its place
 abbrev pub body_tree : {W : Type 0} → (W → Data → Path → Tree) → Path → Body W → Data → Path → Tree
 body_tree f P True v Q = plain P Q []
 body_tree f P False v Q = erring P Q (fault FalseSchema v Q P ∷ [])
 body_tree f P (Keywords ks) v Q = plain P Q (map (λ k. f k v Q) ks.items)
+body_tree f P (RequiredNames k) v Q = erring P Q (required_faults (texts_of k.required.items) v k.location Q)

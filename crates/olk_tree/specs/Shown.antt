@@ -1,7 +1,7 @@
 -- What validators show of a value at a path, over what their nodes show.
 use Rattle.std.specs.Prelude.{Bool, true, false, not, cond, ◌==◌, nat_lt, codes, List, [], ◌∷◌, ◌++◌, map, count_by, Some, None, option_to_list}
 use Rattle.std.specs.List.{flat_map}
-use Rattle.serde_json.specs.Data.{Data}
+use Rattle.serde_json.specs.Data.{Data, string}
 use Rattle.olk_spec.specs.Names.{Name, Path, ◌//◌, lookup, those, put_if, is_empty, is_among}
 use Rattle.olk_spec.specs.Schemas.{is_object, members}
 use Rattle.olk_spec.specs.Accepts.{missing}
@@ -31,6 +31,10 @@ module _ {N : Type 0} (t : N → Data → Path → Tree) (v : Data) (Q : Path) w
 
   abbrev pub branch_trees : List N → List Tree
   branch_trees ns = map (λ n. t n v Q) ns
+
+  -- the node at the members' names, member by member
+  abbrev pub name_trees : N → List Tree
+  name_trees n = map (λ m. t n (string m.0) Q) (members v)
 
   -- the accepting branches; where there is none, all branches, invalid
   abbrev pub any_of_tree : (N → Bool) → Path → List N → Tree

@@ -18,7 +18,7 @@ impl<N: Means> Means for AllOf<N> {
 impl<N: Reports> Reports for AllOf<N> {
     ghost use Rattle.std.specs.List.{flat_map};
     ghost use Rattle.olk_tree.specs.Answers.{first_of};
-    ghost use Rattle.olk_tree.specs.Agreement.{each_agrees};
+    ghost use Rattle.olk_tree.specs.Agreement.{each_agrees, first_of_agrees};
 
     ghost report = { λ k u v Q. flat_map (λ n. N.report n u v Q) k.schemas.items };
 
@@ -26,6 +26,9 @@ impl<N: Reports> Reports for AllOf<N> {
 
     ghost agrees = { λ k u v Q. each_agrees (λ n. N.report n u v Q) (λ n. N.means n v) u
         (λ n. N.agrees n u v Q) k.schemas.items };
+
+    ghost first_agrees = { λ k u v Q. first_of_agrees (λ n. N.first n u v Q) (λ n. N.means n v) u
+        (λ n. N.first_agrees n u v Q) k.schemas.items };
 }
 
 /// `allOf` of one branch.
@@ -45,4 +48,6 @@ impl<N: Reports> Reports for SingleValueAllOf<N> {
     ghost first = { λ k u v Q. N.first k.node u v Q };
 
     ghost agrees = { λ k u v Q. N.agrees k.node u v Q };
+
+    ghost first_agrees = { λ k u v Q. N.first_agrees k.node u v Q };
 }

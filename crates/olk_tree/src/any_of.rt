@@ -30,6 +30,9 @@ impl<N: Reports> Reports for AnyOf<N> {
 
     ghost agrees = { λ k u v Q. unless_agrees ((some (λ n. N.means n v) k.schemas.items).accepts u)
         (any_of (context (map (λ n. N.report n u v Q) k.schemas.items))) v k.location Q };
+
+    ghost first_agrees = { λ k u v Q. unless_agrees ((some (λ n. N.means n v) k.schemas.items).accepts u)
+        (any_of (context (map (λ n. N.report n u v Q) k.schemas.items))) v k.location Q };
 }
 
 /// `anyOf` of one branch.
@@ -56,5 +59,8 @@ impl<N: Reports> Reports for SingleAnyOf<N> {
         (any_of (context (N.report k.node u v Q ∷ []))) v k.location Q };
 
     ghost agrees = { λ k u v Q. unless_agrees ((N.means k.node v).accepts u)
+        (any_of (context (N.report k.node u v Q ∷ []))) v k.location Q };
+
+    ghost first_agrees = { λ k u v Q. unless_agrees ((N.means k.node v).accepts u)
         (any_of (context (N.report k.node u v Q ∷ []))) v k.location Q };
 }

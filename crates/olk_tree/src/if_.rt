@@ -32,6 +32,9 @@ impl<N: Reports> Reports for IfThen<N> {
 
     ghost agrees = { λ k u v Q. cases_agree ((N.means k.schema v).accepts u)
         (N.report k.then_schema u v Q) [] (N.agrees k.then_schema u v Q) refl };
+
+    ghost first_agrees = { λ k u v Q. cases_agree ((N.means k.schema v).accepts u)
+        (N.first k.then_schema u v Q) [] (N.first_agrees k.then_schema u v Q) refl };
 }
 
 /// `if` with `else`: where `schema` refuses, `else_schema` is to accept (JSON Schema 2020-12 Core, 10.2.2.1 and
@@ -64,6 +67,9 @@ impl<N: Reports> Reports for IfElse<N> {
 
     ghost agrees = { λ k u v Q. cases_agree ((N.means k.schema v).accepts u)
         [] (N.report k.else_schema u v Q) refl (N.agrees k.else_schema u v Q) };
+
+    ghost first_agrees = { λ k u v Q. cases_agree ((N.means k.schema v).accepts u)
+        [] (N.first k.else_schema u v Q) refl (N.first_agrees k.else_schema u v Q) };
 }
 
 /// `if` with `then` and `else`: where `schema` accepts, `then_schema` is to accept, and else `else_schema` (JSON Schema
@@ -96,4 +102,8 @@ impl<N: Reports> Reports for IfThenElse<N> {
     ghost agrees = { λ k u v Q. cases_agree ((N.means k.schema v).accepts u)
         (N.report k.then_schema u v Q) (N.report k.else_schema u v Q)
         (N.agrees k.then_schema u v Q) (N.agrees k.else_schema u v Q) };
+
+    ghost first_agrees = { λ k u v Q. cases_agree ((N.means k.schema v).accepts u)
+        (N.first k.then_schema u v Q) (N.first k.else_schema u v Q)
+        (N.first_agrees k.then_schema u v Q) (N.first_agrees k.else_schema u v Q) };
 }

@@ -4,6 +4,7 @@
 pub mod all_of;
 pub mod any_of;
 pub mod declared;
+pub mod dependencies;
 pub mod if_;
 pub mod map;
 pub mod means;
@@ -11,6 +12,8 @@ pub mod node;
 pub mod not;
 pub mod one_of;
 pub mod properties;
+pub mod property_dependencies;
+pub mod property_names;
 pub mod required;
 
 pub use map::{SmallMap, SortedNames};

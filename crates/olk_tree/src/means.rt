@@ -11,7 +11,7 @@ pub trait Means {
     ghost means: { Self → Data → Question };
 }
 
-/// What reports faults in values: none exactly in those that it accepts.
+/// What reports faults in values: none exactly in those that it accepts, and none first exactly in those.
 pub trait Reports: Means {
     ghost use Rattle.std.specs.Prelude.{◌≡◌, Bool, List};
     ghost use Rattle.olk_spec.specs.Names.{Path, is_empty};
@@ -24,4 +24,7 @@ pub trait Reports: Means {
 
     ghost agrees: { (x : Self) (u : Bool) (v : Data) (Q : Path)
         → is_empty (report x u v Q) ≡ (Self.means x v).accepts u };
+
+    ghost first_agrees: { (x : Self) (u : Bool) (v : Data) (Q : Path)
+        → is_empty (first x u v Q) ≡ (Self.means x v).accepts u };
 }

@@ -1,11 +1,14 @@
 //! Keywords, over the nodes that they hold.
 use crate::all_of::{AllOf, SingleValueAllOf};
 use crate::any_of::{AnyOf, SingleAnyOf};
+use crate::dependencies::Dependencies;
 use crate::if_::{IfElse, IfThen, IfThenElse};
 use crate::means::{Means, Reports};
 use crate::not::Not;
 use crate::one_of::{OneOf, SingleOneOf};
 use crate::properties::{SmallProperties, SmallPropertiesWithRequired2};
+use crate::property_dependencies::PropertyDependencies;
+use crate::property_names::{PropertyNames, PropertyNamesFalse};
 use crate::required::RequiredValidator;
 use olk_base::Leaf;
 use olk_reports::Location;
@@ -26,6 +29,10 @@ pub enum KeywordOver<K, N> {
     IfThen(IfThen<N>),
     IfElse(IfElse<N>),
     IfThenElse(IfThenElse<N>),
+    Dependencies(Dependencies<N>),
+    PropertyNames(PropertyNames<N>),
+    PropertyNamesFalse(PropertyNamesFalse),
+    PropertyDependencies(PropertyDependencies<N>),
     Leaf(Location, K),
 }
 
@@ -37,7 +44,7 @@ impl<K: Leaf, N: Means> Means for KeywordOver<K, N> {
 
 impl<K: Leaf, N: Reports> Reports for KeywordOver<K, N> {
     ghost use Rattle.olk_tree.specs.Answers.{validator_report, validator_first};
-    ghost use Rattle.olk_tree.specs.Agreement.{validator_agrees};
+    ghost use Rattle.olk_tree.specs.Agreement.{validator_agrees, validator_first_agrees};
 
     ghost report = { λ k u. validator_report K.finds N.means K.keyword_of N.report u k };
 
@@ -45,14 +52,18 @@ impl<K: Leaf, N: Reports> Reports for KeywordOver<K, N> {
 
     ghost agrees = { λ k u v Q. validator_agrees K.finds N.means K.keyword_of N.report u
         (λ n w R. N.agrees n u w R) k v Q };
+
+    ghost first_agrees = { λ k u v Q. validator_first_agrees K.finds N.means K.keyword_of N.report
+        N.first u (λ n w R. N.first_agrees n u w R) k v Q };
 }
 
-/// What stands at a place: true, false, or keywords.
+/// What stands at a place: true, false, keywords, or a list of names that an object is to have.
 #[derive(Drop)]
 pub enum Body<W> {
     True,
     False,
     Keywords(Vec<W>),
+    RequiredNames(RequiredValidator),
 }
 
 impl<W: Means> Means for Body<W> {

@@ -31,4 +31,7 @@ impl<N: Means> Reports for Not<N> {
 
     ghost agrees = { λ k u v Q. fault_if_agrees ((N.means k.node v).accepts u)
         (not_allowed (view k.original)) v k.location Q };
+
+    ghost first_agrees = { λ k u v Q. fault_if_agrees ((N.means k.node v).accepts u)
+        (not_allowed (view k.original)) v k.location Q };
 }

@@ -30,6 +30,9 @@ impl<N: Reports> Reports for OneOf<N> {
 
     ghost agrees = { λ k u v Q. one_of_agrees (how_many (λ n. N.means n v) u k.schemas.items)
         (context (map (λ n. N.report n u v Q) k.schemas.items)) v k.location Q };
+
+    ghost first_agrees = { λ k u v Q. one_of_agrees (how_many (λ n. N.means n v) u k.schemas.items)
+        (context (map (λ n. N.report n u v Q) k.schemas.items)) v k.location Q };
 }
 
 /// `oneOf` of one branch.
@@ -56,5 +59,8 @@ impl<N: Reports> Reports for SingleOneOf<N> {
         (OneOfNotValid (context (N.report k.node u v Q ∷ []))) v k.location Q };
 
     ghost agrees = { λ k u v Q. unless_agrees ((N.means k.node v).accepts u)
+        (OneOfNotValid (context (N.report k.node u v Q ∷ []))) v k.location Q };
+
+    ghost first_agrees = { λ k u v Q. unless_agrees ((N.means k.node v).accepts u)
         (OneOfNotValid (context (N.report k.node u v Q ∷ []))) v k.location Q };
 }

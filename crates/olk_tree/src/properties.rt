@@ -19,7 +19,7 @@ impl<N: Means> Means for SmallProperties<N> {
 
 impl<N: Reports> Reports for SmallProperties<N> {
     ghost use Rattle.olk_tree.specs.Answers.{named, properties_report, properties_first};
-    ghost use Rattle.olk_tree.specs.Agreement.{properties_agree};
+    ghost use Rattle.olk_tree.specs.Agreement.{properties_agree, properties_first_agrees};
 
     ghost report = { λ k u v Q. properties_report N.report u (named k.properties) v Q };
 
@@ -27,6 +27,9 @@ impl<N: Reports> Reports for SmallProperties<N> {
 
     ghost agrees = { λ k u v Q. properties_agree N.means N.report u (λ n w R. N.agrees n u w R)
         (named k.properties) v Q };
+
+    ghost first_agrees = { λ k u v Q. properties_first_agrees N.means N.first u
+        (λ n w R. N.first_agrees n u w R) (named k.properties) v Q };
 }
 
 /// `properties` together with `required` of two different names: both are to be members, where the value is an object
@@ -54,7 +57,7 @@ impl<N: Reports> Reports for SmallPropertiesWithRequired2<N> {
     ghost use Rattle.std.specs.Prelude.{◌++◌};
     ghost use Rattle.olk_spec.specs.Reports.{required_faults};
     ghost use Rattle.olk_tree.specs.Answers.{named, two_texts, or_else, head_of, properties_report, properties_first};
-    ghost use Rattle.olk_tree.specs.Agreement.{properties_agree, required_agrees, both_agree};
+    ghost use Rattle.olk_tree.specs.Agreement.{properties_agree, properties_first_agrees, required_agrees, both_agree, or_else_agrees, head_agrees};
 
     ghost report = { λ k u v Q. required_faults (two_texts k.first k.second) v k.required_location Q
         ++ properties_report N.report u (named k.properties) v Q };
@@ -68,5 +71,13 @@ impl<N: Reports> Reports for SmallPropertiesWithRequired2<N> {
         (properties_report N.report u (named k.properties) v Q)
         (required_agrees (two_texts k.first k.second) v k.required_location Q)
         (properties_agree N.means N.report u (λ n w R. N.agrees n u w R)
+        (named k.properties) v Q) };
+
+    ghost first_agrees = { λ k u v Q. or_else_agrees
+        (head_of (required_faults (two_texts k.first k.second) v k.required_location Q))
+        (properties_first N.first u (named k.properties) v Q)
+        (head_agrees (required_faults (two_texts k.first k.second) v k.required_location Q)
+        (required_agrees (two_texts k.first k.second) v k.required_location Q))
+        (properties_first_agrees N.means N.first u (λ n w R. N.first_agrees n u w R)
         (named k.properties) v Q) };
 }

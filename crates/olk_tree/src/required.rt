@@ -21,7 +21,7 @@ impl Means for RequiredValidator {
 impl Reports for RequiredValidator {
     ghost use Rattle.olk_spec.specs.Reports.{required_faults};
     ghost use Rattle.olk_tree.specs.Answers.{texts_of, head_of};
-    ghost use Rattle.olk_tree.specs.Agreement.{required_agrees};
+    ghost use Rattle.olk_tree.specs.Agreement.{required_agrees, head_agrees};
 
     ghost report = { λ k u v Q. required_faults (texts_of k.required.items) v k.location Q };
 
@@ -29,4 +29,8 @@ impl Reports for RequiredValidator {
         (required_faults (texts_of k.required.items) v k.location Q) };
 
     ghost agrees = { λ k u v Q. required_agrees (texts_of k.required.items) v k.location Q };
+
+    ghost first_agrees = { λ k u v Q. head_agrees
+        (required_faults (texts_of k.required.items) v k.location Q)
+        (required_agrees (texts_of k.required.items) v k.location Q) };
 }

@@ -1,4 +1,4 @@
-use Rattle.std.proofs.Common.{sym, ◌∙◌, ap, nat_eq, chars, string_bytes}
+use Rattle.std.proofs.Common.{rules, sym, ◌∙◌, ap, nat_eq, chars, string_bytes}
 use Rattle.olk_spec.specs.Literals.{body_of}
 use Rattle.olk_base.proofs.Forms.{anchored-body, single-none}
 use Rattle.olk_base.proofs.analysis.scan_anchored.Goals as goal
@@ -8,3 +8,6 @@ returns-then-is_empty c =
     let none = ap (λ n. nat_eq n 0) (sym c.in_ok-text.text.bytes.ok.0) ∙ sym c.is_empty.ensures ∙ c.if-is_empty.true in
     sym (anchored-body (chars c.args.pattern.now) c.in_default.ensures.cases
     ∙ single-none (body_of (chars c.args.pattern.now)) (string_bytes c.in_ok-text.text) c.in_ok-text.ensures.text none)
+
+pub returns-then-is_ascii_text-2 : goal.returns-then-is_ascii_text-2
+returns-then-is_ascii_text-2 c = search rules

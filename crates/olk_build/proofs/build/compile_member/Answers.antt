@@ -1,15 +1,15 @@
 use Rattle.std.specs.Prelude.{IfOk}
-use Rattle.std.proofs.Common.{subst}
+use mathlib.Core.Path.{subst₂}
 use Rattle.serde_json.specs.View.{view}
 use Rattle.olk_spec.specs.Names.{◌//◌}
 use Rattle.olk_base.specs.Kit.{kit}
 use Rattle.olk_build.specs.Placing.{IsPart}
 use Rattle.olk_read.proofs.Spending.{exit}
-use Rattle.olk_build.proofs.Parts.{refuses_member_memory}
+use Rattle.olk_build.proofs.Parts.{refuses_part_memory}
 use Rattle.olk_build.proofs.build.compile_member.Goals as goal
 
 pub returns-in_err-location-clause-refused : goal.returns-in_err-location-clause-refused
-returns-in_err-location-clause-refused g c = exit _ _ _ c.from_residual.ensures.1 (λ e q. refuses_member_memory (kit g.L.Leaf.Leaf g.M.Engine.RegexEngine) c.args.name.now (view c.args.value.now) (c.args.ctx.now.place // c.args.name.now) c.args.ctx.now.meter.now e _ q)
+returns-in_err-location-clause-refused g c = exit _ _ _ c.from_residual.ensures.1 (λ e q. refuses_part_memory (kit g.L.Leaf.Leaf g.M.Engine.RegexEngine) _ c.args.name.now (view c.args.value.now) (c.args.ctx.now.place // c.args.name.now) c.args.ctx.now.meter.now e _ q)
 
 pub returns-clause-built : goal.returns-clause-built
-returns-clause-built g c = subst (λ L. IfOk c.compile_part.result (λ p. IsPart (kit g.L.Leaf.Leaf g.M.Engine.RegexEngine) p c.args.name.now (view c.args.value.now) L c.args.ctx.now.meter.now c.compile_part.new.meter)) c.in_ok-location.ensures c.compile_part.ensures.built
+returns-clause-built g c = subst₂ (λ L b. IfOk c.compile_part.result (λ p. IsPart (kit g.L.Leaf.Leaf g.M.Engine.RegexEngine) p b c.args.name.now (view c.args.value.now) L c.args.ctx.now.meter.now c.compile_part.new.meter)) c.in_ok-location.ensures c.is_condition-condition.ensures c.compile_part.ensures.built

@@ -8,4 +8,4 @@ use Rattle.olk_errors.proofs.append.append_error.Goals as goal
 pub returns-clause-report : goal.returns-clause-report
 returns-clause-report c =
     let text : string_bytes c.in_ok-text.text ≡ c.args.path.now = search rules in
-    appends_one c.new.result c.in_ok-push.ensures.items (c.new.ensures ∙ ap (λ t. fault (kind_of c.args.kind) (data_of c.args.node) t c.args.schema_path.now) text)
+    appends_one c.new.result c.in_ok-push.ensures.items (c.new.ensures.fault ∙ ap (λ t. fault (kind_of c.args.kind) (data_of c.args.node) t c.args.schema_path.now) text)

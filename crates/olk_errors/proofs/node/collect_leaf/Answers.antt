@@ -1,17 +1,13 @@
-use Rattle.std.proofs.Common.{◌≡◌, rules, List, length, refl, arith, [], ◌∷◌, map, string_bytes, sym, ap, subst, ◌∙◌}
+use Rattle.std.proofs.Common.{◌≡◌, rules, length, arith, [], ◌∷◌, map, string_bytes, sym, ap, subst, ◌∙◌}
 use Rattle.std.specs.Vec.Iter.{into_iter_items}
 use Rattle.olk_base.specs.Nodes.{data_of}
 use Rattle.olk_spec.specs.Faults.{fault, Leaf}
 use Rattle.olk_reports.proofs.Errors.{kind_of_leaf}
 use Rattle.olk_errors.specs.Found.{Appends}
 use Rattle.olk_errors.proofs.Appending.{at_ok, appends_same, rolled_back}
-use Rattle.olk_errors.proofs.Steps.{collected_start, collected_more, collected_end}
+use Rattle.olk_errors.proofs.Steps.{collected_start, collected_more, collected_end, nothing_left}
 use Rattle.olk_errors.proofs.Own.{leaf_fault, texts_told}
 use Rattle.olk_errors.proofs.node.collect_leaf.Goals as goal
-
-nothing_left : {X : Type 0} (xs : List X) → length xs ≡ 0 → xs ≡ []
-nothing_left [] h = refl
-nothing_left (x ∷ xs) h = absurd (omega arith)
 
 pub loop-text-init : goal.loop-text-init
 loop-text-init g c = (collected_start c.args.errors.now.items, search rules)

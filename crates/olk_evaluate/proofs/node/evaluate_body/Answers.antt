@@ -1,13 +1,15 @@
 use Rattle.std.proofs.lemmas.Result.{IfOk-weaker}
-use Rattle.olk_spec.specs.Faults.{fault, FalseSchema}
+use Rattle.olk_spec.specs.Faults.{fault, FalseSchema, Required}
+use Rattle.olk_spec.specs.Accepts.{missing}
+use Rattle.olk_spec.specs.Reports.{required_faults}
 use Rattle.olk_reports.proofs.Errors.{kind_of_false_schema}
 use Rattle.olk_evaluate.specs.Wanted.{HasErrors}
-use Rattle.olk_evaluate.proofs.OwnErrors.{erring_like, erring_verdict}
+use Rattle.olk_evaluate.proofs.OwnErrors.{erring_like, erring_verdict, same_emptiness}
 use Rattle.std.proofs.Common.{[], ◌∷◌, sym, ap, subst, ◌∙◌}
 use Rattle.olk_base.specs.Nodes.{data_of}
 use Rattle.olk_spec.specs.Tree.{IsLikeTree}
 use Rattle.olk_reports.specs.Evaluations.{node_at, shown_of}
-use Rattle.olk_tree.specs.Answers.{body_means, body_tree}
+use Rattle.olk_tree.specs.Answers.{texts_of, body_means, body_tree}
 use Rattle.olk_evaluate.proofs.Children.{branches_like, branches_verdict}
 use Rattle.olk_evaluate.proofs.node.evaluate_body.Goals as goal
 
@@ -30,3 +32,14 @@ pub returns-in-False-clause-verdict : goal.returns-in-False-clause-verdict
 returns-in-False-clause-verdict g c = IfOk-weaker c.one_error.result _ _ (λ r error.
     erring_verdict c.args.location.now c.args.path.now (fault _ (data_of c.args.node) c.args.path.now c.args.location.now ∷ []) (error c.args.location.now c.args.path.now)
     ∙ ap (λ b. (body_means g.W.Means.means b (data_of c.args.node)).accepts c.args.ctx.now.answer) (sym c.in-False.is)) c.one_error.ensures
+
+pub returns-in-RequiredNames-clause-tree : goal.returns-in-RequiredNames-clause-tree
+returns-in-RequiredNames-clause-tree g c = IfOk-weaker c.missing_errors.result _ _ (λ r errors.
+    subst (λ b. IsLikeTree (body_tree (λ k. g.W.Evaluate.tree k c.args.ctx.now.answer) c.args.location.now b (data_of c.args.node) c.args.path.now) (node_at c.args.location.now c.args.path.now (shown_of r))) (sym c.in-RequiredNames.is)
+    (erring_like c.args.location.now c.args.path.now (required_faults (texts_of c.in-RequiredNames.required.required.items) (data_of c.args.node) c.in-RequiredNames.required.location c.args.path.now) (errors c.in-RequiredNames.required.location c.args.path.now))) c.missing_errors.ensures
+
+pub returns-in-RequiredNames-clause-verdict : goal.returns-in-RequiredNames-clause-verdict
+returns-in-RequiredNames-clause-verdict g c = IfOk-weaker c.missing_errors.result _ _ (λ r errors.
+    erring_verdict c.args.location.now c.args.path.now (required_faults (texts_of c.in-RequiredNames.required.required.items) (data_of c.args.node) c.in-RequiredNames.required.location c.args.path.now) (errors c.in-RequiredNames.required.location c.args.path.now)
+    ∙ same_emptiness (λ n. fault (Required n) (data_of c.args.node) c.args.path.now c.in-RequiredNames.required.location) (missing (texts_of c.in-RequiredNames.required.required.items) (data_of c.args.node))
+    ∙ ap (λ b. (body_means g.W.Means.means b (data_of c.args.node)).accepts c.args.ctx.now.answer) (sym c.in-RequiredNames.is)) c.missing_errors.ensures

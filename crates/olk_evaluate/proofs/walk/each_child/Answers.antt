@@ -1,3 +1,5 @@
+use Rattle.std.proofs.Common.{arith}
+use Rattle.std.proofs.lemmas.Grind.{common_steps}
 use Rattle.olk_base.specs.Nodes.{data_of}
 use Rattle.olk_evaluate.specs.Wanted.{wanted}
 use Rattle.olk_evaluate.proofs.Children.{shown_end, none_left}
@@ -5,3 +7,6 @@ use Rattle.olk_evaluate.proofs.walk.each_child.Goals as goal
 
 pub returns-clause-shown : goal.returns-clause-shown
 returns-clause-shown g c = shown_end c.loop-schema.invariant.shown (none_left (λ n. wanted g.N.Evaluate.tree g.N.Means.means c.args.ctx.now.answer n (data_of c.args.node) c.args.path.now) c.args.schemas.now.items c.deref-schema-items.result.now c.loop-schema.schema-index c.deref-schema-items.ensures.value c.loop-schema-test.false)
+
+pub loop-schema-preserved : goal.loop-schema-preserved
+loop-schema-preserved g c = grind (arith, common_steps)

@@ -1,23 +1,46 @@
 use Rattle.olk_base.specs.Kit.{kit}
-use Rattle.std.proofs.Common.{[], ◌∷◌, sym, ◌∙◌, ap, subst, option_to_list}
+use Rattle.std.proofs.Common.{[], ◌∷◌, length, sym, ◌∙◌, ap, subst, option_to_list, arith, rules}
+use Rattle.std.proofs.lemmas.List.{append-nil, nil_from_length}
 use Rattle.serde_json.specs.View.{members_view}
 use Rattle.olk_spec.specs.Schemas.{listed}
+use Rattle.olk_members.specs.Conditions.{is_condition}
 use Rattle.olk_members.specs.Plans.{planned}
-use Rattle.olk_make.specs.Standing.{PartsStand}
-use Rattle.olk_make.specs.Making.{MakesClaims}
-use Rattle.std.proofs.lemmas.List.{append-nil, nil_from_length}
-use Rattle.std.proofs.Common.{length, arith, rules}
+use Rattle.olk_make.specs.Standing.{PartsStand, PartsAreLeft, CasesAreTaken}
+use Rattle.olk_make.specs.Making.{MakesPart}
+use Rattle.olk_make.proofs.Taken.{cases_stand}
 use Rattle.olk_make.proofs.Makes.{none_made, one_more_made, all_made}
 use Rattle.olk_make.proofs.making.make_keywords.Goals as goal
 
 pub loop-part-init : goal.loop-part-init
-loop-part-init g c = record { made = none_made (kit g.K.Leaf g.R.RegexEngine) (members_view c.args.members.now.entries) c.args.place.now c.new-keywords.result.items c.into_iter-part-iterator.result.rest.items c.new-keywords.ensures.items (subst (λ l. PartsStand (kit g.K.Leaf g.R.RegexEngine) l (listed (members_view c.args.members.now.entries)) c.args.place.now) (sym c.into_iter-part-iterator.ensures.into_iter_gives.0) c.requires); count = ap length c.into_iter-part-iterator.ensures.into_iter_gives.0 ∙ search rules ∙ sym c.into_iter-part-iterator.ensures.into_iter_gives.1; next = tt; ends = tt }
+loop-part-init g c =
+    let known = c.is_condition.ensures ∙ ap (λ p. p.condition) c.of-plan.ensures.plan in
+    let taken = subst (λ b. CasesAreTaken (kit g.K.Leaf g.R.RegexEngine) b (listed (members_view c.args.members.now.entries)) c.args.place.now c.in_ok-cases.cases c.in_ok-cases.parts.items) known (c.in_ok-cases.ensures (listed (members_view c.args.members.now.entries)) c.args.place.now (subst (λ b. PartsStand (kit g.K.Leaf g.R.RegexEngine) b c.args.parts.items (listed (members_view c.args.members.now.entries)) c.args.place.now) (sym known) c.requires)) in
+    record {
+      made = none_made (kit g.K.Leaf g.R.RegexEngine) (members_view c.args.members.now.entries) c.args.place.now c.new-keywords.result.items c.into_iter-part-iterator.result.rest.items c.in_ok-cases.cases c.new-keywords.ensures.items
+          (subst (λ l. PartsAreLeft (kit g.K.Leaf g.R.RegexEngine) (is_condition (members_view c.args.members.now.entries)) l (listed (members_view c.args.members.now.entries)) c.args.place.now) (sym c.into_iter-part-iterator.ensures.into_iter_gives.0) taken.left)
+          (λ read. cases_stand (kit g.K.Leaf g.R.RegexEngine) (members_view c.args.members.now.entries) c.args.place.now (is_condition (members_view c.args.members.now.entries)) c.in_ok-cases.cases c.in_ok-cases.parts.items c.of-plan.ensures.distinct read taken);
+      count = ap length c.into_iter-part-iterator.ensures.into_iter_gives.0 ∙ search rules ∙ sym c.into_iter-part-iterator.ensures.into_iter_gives.1;
+      next = tt;
+      ends = tt;
+    }
 
-pub loop-part-preserved-in-Continue-branch-3 : goal.loop-part-preserved-in-Continue-branch-3
-loop-part-preserved-in-Continue-branch-3 g c = record { made = one_more_made (kit g.K.Leaf g.R.RegexEngine) (members_view c.args.members.now.entries) c.args.place.now (planned c.of-plan.result) c.of-plan.ensures.plan c.of-plan.ensures.distinct c.loop-part.keywords.items (c.in-Some-2.keyword ∷ []) c.append.new.items.items c.in-Some.part c.next.new.self.rest.items c.loop-part.part-iterator.rest.items c.in_ok-append.ensures c.in-Some.ensures.steps.0 c.loop-part.invariant.made (subst (λ x. MakesClaims (kit g.K.Leaf g.R.RegexEngine) c.in-Some.part.shape c.in-Some.part.location c.in-Some.part.nodes.items c.args.place.now (planned c.of-plan.result) (option_to_list x)) c.in-Some-2.is c.in_ok-keyword.ensures); count = let e = ap length c.in-Some.ensures.steps.0 in omega (arith, e, c.in-Some.ensures.steps.1, c.loop-part.invariant.count); next = tt; ends = tt }
+pub loop-part-preserved-in-Continue-branch-4 : goal.loop-part-preserved-in-Continue-branch-4
+loop-part-preserved-in-Continue-branch-4 g c = record {
+  made = one_more_made (kit g.K.Leaf g.R.RegexEngine) (members_view c.args.members.now.entries) c.args.place.now (planned c.of-plan.result) c.of-plan.ensures.plan c.of-plan.ensures.distinct c.loop-part.keywords.items (c.in-Some-2.keyword ∷ []) c.append.new.items.items c.in-Some.part c.next.new.self.rest.items c.loop-part.part-iterator.rest.items c.loop-part.cases c.make_keyword.new.cases c.in_ok-append.ensures c.in-Some.ensures.steps.0 c.loop-part.invariant.made
+      (subst (λ x. MakesPart (kit g.K.Leaf g.R.RegexEngine) c.in-Some.part.shape c.in-Some.part.location c.in-Some.part.nodes.items c.loop-part.cases c.args.place.now (planned c.of-plan.result) (option_to_list x)) c.in-Some-2.is c.in_ok-keyword.ensures.makes) c.in_ok-keyword.ensures.kept;
+  count = let e = ap length c.in-Some.ensures.steps.0 in omega (arith, e, c.in-Some.ensures.steps.1, c.loop-part.invariant.count);
+  next = tt;
+  ends = tt;
+}
 
 pub loop-part-preserved : goal.loop-part-preserved
-loop-part-preserved g c = record { made = one_more_made (kit g.K.Leaf g.R.RegexEngine) (members_view c.args.members.now.entries) c.args.place.now (planned c.of-plan.result) c.of-plan.ensures.plan c.of-plan.ensures.distinct c.loop-part.keywords.items [] c.loop-part.keywords.items c.in-Some.part c.next.new.self.rest.items c.loop-part.part-iterator.rest.items (sym (append-nil c.loop-part.keywords.items)) c.in-Some.ensures.steps.0 c.loop-part.invariant.made (subst (λ x. MakesClaims (kit g.K.Leaf g.R.RegexEngine) c.in-Some.part.shape c.in-Some.part.location c.in-Some.part.nodes.items c.args.place.now (planned c.of-plan.result) (option_to_list x)) c.in_default.is c.in_ok-keyword.ensures); count = let e = ap length c.in-Some.ensures.steps.0 in omega (arith, e, c.in-Some.ensures.steps.1, c.loop-part.invariant.count); next = tt; ends = tt }
+loop-part-preserved g c = record {
+  made = one_more_made (kit g.K.Leaf g.R.RegexEngine) (members_view c.args.members.now.entries) c.args.place.now (planned c.of-plan.result) c.of-plan.ensures.plan c.of-plan.ensures.distinct c.loop-part.keywords.items [] c.loop-part.keywords.items c.in-Some.part c.next.new.self.rest.items c.loop-part.part-iterator.rest.items c.loop-part.cases c.make_keyword.new.cases (sym (append-nil c.loop-part.keywords.items)) c.in-Some.ensures.steps.0 c.loop-part.invariant.made
+      (subst (λ x. MakesPart (kit g.K.Leaf g.R.RegexEngine) c.in-Some.part.shape c.in-Some.part.location c.in-Some.part.nodes.items c.loop-part.cases c.args.place.now (planned c.of-plan.result) (option_to_list x)) c.in_default.is c.in_ok-keyword.ensures.makes) c.in_ok-keyword.ensures.kept;
+  count = let e = ap length c.in-Some.ensures.steps.0 in omega (arith, e, c.in-Some.ensures.steps.1, c.loop-part.invariant.count);
+  next = tt;
+  ends = tt;
+}
 
 pub returns : goal.returns
-returns g c = all_made (kit g.K.Leaf g.R.RegexEngine) (members_view c.args.members.now.entries) c.args.place.now (planned c.of-plan.result) c.of-plan.ensures.plan c.of-plan.ensures.distinct c.loop-part.keywords.items c.loop-part.part-iterator.rest.items (nil_from_length _ (c.loop-part.invariant.count ∙ c.in-None.ensures.steps.0)) c.loop-part.invariant.made
+returns g c = all_made (kit g.K.Leaf g.R.RegexEngine) (members_view c.args.members.now.entries) c.args.place.now (planned c.of-plan.result) c.of-plan.ensures.plan c.of-plan.ensures.distinct c.loop-part.keywords.items c.loop-part.part-iterator.rest.items c.loop-part.cases (nil_from_length _ (c.loop-part.invariant.count ∙ c.in-None.ensures.steps.0)) c.loop-part.invariant.made

@@ -1,12 +1,15 @@
 use Rattle.olk_base.specs.Kit.{world}
-use Rattle.std.proofs.Common.{[], ◌∷◌, sym, subst, codes}
+use Rattle.std.proofs.Common.{[], ◌∷◌, refl, sym, subst, codes}
+use Rattle.olk_base.specs.Kit.{kit}
+use Rattle.olk_read.specs.Reading.{IsRead}
+use Rattle.olk_read.specs.declared.shape.Shape.TheVariants as shape
 use Rattle.serde_json.specs.View.{view}
 use Rattle.olk_spec.specs.Faults.{fault}
 use Rattle.olk_reports.proofs.Errors.{kind_of_unsupported}
 use Rattle.olk_read.specs.Refusing.{TellsOneOf}
 use Rattle.olk_read.specs.Reading.{IsFor}
 use Rattle.olk_read.proofs.Spending.{exit}
-use Rattle.olk_read.proofs.Read.{refuses_own, refuses_name, refuses_without_memory, own_properties, own_required, own_all_of, own_any_of, own_one_of}
+use Rattle.olk_read.proofs.Read.{conditional_is_read, own_if, own_then, own_else, refuses_own, refuses_name, refuses_without_memory, own_properties, own_required, own_all_of, own_any_of, own_one_of}
 use Rattle.olk_read.proofs.reading.read_keyword.Goals as goal
 
 pub returns-in_err-names_of_object-in-Properties-clause-refused : goal.returns-in_err-names_of_object-in-Properties-clause-refused
@@ -31,3 +34,18 @@ pub returns-in-Refused-clause-refused : goal.returns-in-Refused-clause-refused
 returns-in-Refused-clause-refused g c =
     let h = subst (IsFor c.args.name.now) c.in-Refused.is c.keyword_for.ensures in
     refuses_name (world g.L.Leaf.Leaf g.M.Engine.RegexEngine) c.args.name.now (view c.args.value.now) c.args.location.now _ c.args.meter.now c.refuse.result h.0 h.1 (subst (λ k. TellsOneOf (fault k (view c.args.value.now) [] c.args.location.now ∷ []) c.refuse.result) (kind_of_unsupported c.args.name) c.refuse.ensures)
+
+pub returns-in-If-clause-built : goal.returns-in-If-clause-built
+returns-in-If-clause-built g c = subst (λ x. IsRead (kit g.L.Leaf.Leaf g.M.Engine.RegexEngine) x c.args.condition c.args.name.now (view c.args.value.now) c.args.location.now c.args.meter.now c.args.meter.now) (sym c.shape_beside.ensures)
+    (conditional_is_read (kit g.L.Leaf.Leaf g.M.Engine.RegexEngine) shape.If c.args.condition c.args.name.now (codes "if") (view c.args.value.now) c.args.location.now c.args.meter.now (subst (IsFor c.args.name.now) c.in-If.is c.keyword_for.ensures) refl (λ e. e) refl (own_if (world g.L.Leaf.Leaf g.M.Engine.RegexEngine) (view c.args.value.now) c.args.location.now) refl)
+
+pub returns-in-Then-clause-built : goal.returns-in-Then-clause-built
+returns-in-Then-clause-built g c = subst (λ x. IsRead (kit g.L.Leaf.Leaf g.M.Engine.RegexEngine) x c.args.condition c.args.name.now (view c.args.value.now) c.args.location.now c.args.meter.now c.args.meter.now) (sym c.shape_beside-in-Then.ensures)
+    (conditional_is_read (kit g.L.Leaf.Leaf g.M.Engine.RegexEngine) shape.Then c.args.condition c.args.name.now (codes "then") (view c.args.value.now) c.args.location.now c.args.meter.now (subst (IsFor c.args.name.now) c.in-Then.is c.keyword_for.ensures) refl (λ e. e) refl (own_then (world g.L.Leaf.Leaf g.M.Engine.RegexEngine) (view c.args.value.now) c.args.location.now) refl)
+
+pub returns-in-Else-clause-built : goal.returns-in-Else-clause-built
+returns-in-Else-clause-built g c = subst (λ x. IsRead (kit g.L.Leaf.Leaf g.M.Engine.RegexEngine) x c.args.condition c.args.name.now (view c.args.value.now) c.args.location.now c.args.meter.now c.args.meter.now) (sym c.shape_beside-in-Else.ensures)
+    (conditional_is_read (kit g.L.Leaf.Leaf g.M.Engine.RegexEngine) shape.Else c.args.condition c.args.name.now (codes "else") (view c.args.value.now) c.args.location.now c.args.meter.now (subst (IsFor c.args.name.now) c.in-Else.is c.keyword_for.ensures) refl (λ e. e) refl (own_else (world g.L.Leaf.Leaf g.M.Engine.RegexEngine) (view c.args.value.now) c.args.location.now) refl)
+
+pub returns-in_ok-read_other-in-Other-clause-built : goal.returns-in_ok-read_other-in-Other-clause-built
+returns-in_ok-read_other-in-Other-clause-built g c = c.in_ok-read_other-in-Other.ensures.built c.args.condition

@@ -1,3 +1,5 @@
+use Rattle.std.proofs.Common.{arith}
+use Rattle.std.proofs.lemmas.Grind.{common_steps}
 use Rattle.olk_spec.specs.Tree.{errors}
 use Rattle.olk_reports.specs.Evaluations.{tree_of}
 use Rattle.olk_reports.proofs.Entries.{below_end, errors_below}
@@ -6,3 +8,6 @@ use Rattle.olk_reports.proofs.entry.+push_errors.Goals as goal
 pub returns : goal.returns
 returns t c =
     below_end (λ m. errors (tree_of m)) _ _ c.loop-child.child-index _ _ _ _ _ c.loop-child-test.false c.deref-child-items.ensures.value c.in_ok-push_own_errors.ensures c.loop-child.invariant (errors_below c.args.node.now)
+
+pub loop-child-preserved : goal.loop-child-preserved
+loop-child-preserved t c = grind (arith, common_steps)

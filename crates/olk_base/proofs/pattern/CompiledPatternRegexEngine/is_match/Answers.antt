@@ -1,4 +1,4 @@
-use Rattle.std.proofs.Common.{◌≡◌, ◌∙◌, ap, cond, bytes_eq, string_bytes, Bool, true, false, refl, Ok}
+use Rattle.std.proofs.Common.{rules, ◌≡◌, ◌∙◌, ap, cond, bytes_eq, string_bytes, Bool, true, false, refl, Ok}
 use Rattle.std.specs.List.{list_any}
 use Rattle.olk_spec.specs.World.{matched, unmatched}
 use Rattle.olk_base.specs.Lawful.{said}
@@ -15,3 +15,9 @@ returns-in-Alternation-clause-answer g c =
     c.is_among.ensures ∙ ap (list_any (λ s. bytes_eq (string_bytes s) c.args.text.now)) c.deref.ensures.value
     ∙ list_any_texts (λ t. bytes_eq t c.args.text.now) c.in-Alternation.texts.items in
     rw c.in-Alternation.is (said_ok c.is_among.result ∙ ap (λ b. cond b matched unmatched) among)
+
+pub returns-in-Regex-clause-answer : goal.returns-in-Regex-clause-answer
+returns-in-Regex-clause-answer g c = search rules
+
+pub returns-in-Regex-clause-counts : goal.returns-in-Regex-clause-counts
+returns-in-Regex-clause-counts g c = search rules

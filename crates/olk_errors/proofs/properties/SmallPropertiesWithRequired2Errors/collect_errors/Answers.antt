@@ -1,4 +1,5 @@
-use Rattle.std.proofs.Common.{[], ◌∷◌, ◌++◌, sym, subst}
+use Rattle.std.proofs.Common.{arith, [], ◌∷◌, ◌++◌, sym, subst}
+use Rattle.std.proofs.lemmas.Grind.{common_steps}
 use Rattle.std.proofs.lemmas.Result.{on_ok_weaker}
 use Rattle.serde_json.specs.View.{members_view}
 use Rattle.olk_spec.specs.Reports.{required_faults}
@@ -19,3 +20,6 @@ pub returns-in-None-clause-report : goal.returns-in-None-clause-report
 returns-in-None-clause-report g c = subst (Appends c.args.errors.now.items c.args.errors.now.items)
     (sym (λ i. other_lacks_nothing (two_texts c.args.self.now.first c.args.self.now.second) (data_of c.args.node) c.args.self.now.required_location c.args.path.now c.in-None.ensures i
     ++ reports_nothing (named c.args.self.now.properties) (data_of c.args.node) c.in-None.ensures g.N.Reports.report c.args.ctx.now.answer c.args.path.now i)) (appends_nothing c.args.errors.now.items)
+
+pub returns-in_ok-collect_missing_of_two-in-Some-clause-memory : goal.returns-in_ok-collect_missing_of_two-in-Some-clause-memory
+returns-in_ok-collect_missing_of_two-in-Some-clause-memory g c = grind (arith, common_steps)

@@ -1,4 +1,4 @@
-use Rattle.std.proofs.Common.{arith, sym, subst, Less, Equal, Greater}
+use Rattle.std.proofs.Common.{rules, arith, sym, subst, Less, Equal, Greater}
 use Rattle.olk_tree.specs.Ascending.{IsAfter}
 use Rattle.olk_tree.proofs.Places.{names_are, same_length, compared_at, behind_ascends, stands_in, parts_in, stands_some, parts_none, after_here}
 use Rattle.olk_tree.proofs.map.SortedNames.find_about.Goals as goal
@@ -28,3 +28,6 @@ pub returns-in-Err : goal.returns-in-Err
 returns-in-Err c =
     let h = names_are _ _ c.args.self.now c.as_slice-names.ensures.value (sym c.self.view_is) c.self.invariant in
     parts_none c.args.self.now c.args.name.now (parts_in h c.args.name.now c.args.hint c.in-Err.place (omega arith) (compared_at h c.args.hint _ _ c.args.name.now Less c.index-names-hint.is c.as_str.ensures.value (omega arith) c.in-Less.ensures) c.in-Err.ensures)
+
+pub returns-in-Greater : goal.returns-in-Greater
+returns-in-Greater c = search rules

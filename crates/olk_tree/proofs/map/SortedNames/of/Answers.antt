@@ -1,4 +1,5 @@
-use Rattle.std.proofs.Common.{◌∙◌}
+use Rattle.std.proofs.Common.{arith, ◌∙◌}
+use Rattle.std.proofs.lemmas.Grind.{common_steps}
 use Rattle.olk_tree.proofs.Entries.{names_listed, so_far_end, so_far_ascends}
 use Rattle.olk_tree.proofs.map.SortedNames.of.Goals as goal
 
@@ -7,3 +8,6 @@ invariant_of-result c = so_far_ascends c.loop-name.names.items c.args.object.now
 
 pub returns : goal.returns
 returns c = so_far_end c.loop-name.invariant c.in-None.ensures.steps.0 ∙ names_listed c.args.object.now.entries
+
+pub loop-name-preserved : goal.loop-name-preserved
+loop-name-preserved c = grind (arith, common_steps)

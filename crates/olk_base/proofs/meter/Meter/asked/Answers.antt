@@ -1,0 +1,5 @@
+use Rattle.std.proofs.Common.{rules}
+use Rattle.olk_base.proofs.meter.Meter.asked.Goals as goal
+
+pub returns : goal.returns
+returns c = search rules

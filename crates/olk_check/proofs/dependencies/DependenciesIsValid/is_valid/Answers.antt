@@ -1,0 +1,11 @@
+use Rattle.std.proofs.Common.{true, sym, ap, subst}
+use Rattle.olk_base.specs.Nodes.{data_of}
+use Rattle.olk_tree.specs.Questions.{every}
+use Rattle.olk_tree.specs.Answers.{named}
+use Rattle.olk_tree.proofs.Due.{none_due}
+use Rattle.olk_check.specs.Asks.{Asks}
+use Rattle.olk_check.proofs.Asked.{unasked}
+use Rattle.olk_check.proofs.dependencies.DependenciesIsValid.is_valid.Goals as goal
+
+pub returns-in-None : goal.returns-in-None
+returns-in-None g c = subst (λ q. Asks c.args.ctx.now c.args.ctx.now q true) (sym (ap (every (λ n. g.N.Means.means n (data_of c.args.node))) (none_due (data_of c.args.node) c.in-None.ensures (named c.args.self.now.dependencies)))) (unasked c.args.ctx.now true)

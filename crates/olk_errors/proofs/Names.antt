@@ -1,0 +1,76 @@
+-- The errors of members' names, told of the object.
+use Rattle.std.proofs.Common.{◌≡◌, ℕ, zero, suc, ◌<◌, length, get_or, Bool, List, [], ◌∷◌, map, refl, sym, ap, subst, arith}
+use Rattle.std.specs.List.{flat_map, Contains}
+use Rattle.serde_json.specs.Data.{Data, Members, string, object}
+use Rattle.olk_spec.specs.Names.{Name, Path}
+use Rattle.olk_spec.specs.Faults.{Fault, fault, IsLike, like, like_names, ◌∼◌, like_empty, like_next, like_swap, like_through}
+use Rattle.olk_spec.specs.Schemas.{listed, members}
+use Rattle.olk_spec.specs.Reports.{wrapped, cut}
+use Rattle.olk_reports.specs.Errors.{fault_of}
+use Rattle.olk_reports.specs.declared.error.ValidationError.{ValidationError}
+use Rattle.olk_tree.specs.Questions.{Question, every}
+use Rattle.olk_tree.specs.Answers.{first_of}
+use Rattle.olk_errors.specs.Outcomes.{of_each, of_asked_name, of_asked_names}
+use Rattle.olk_errors.specs.Found.{Appends, Outcome, Passes, IsErrorOf}
+use Rattle.olk_errors.proofs.Appending.{appends_like}
+
+no_place : (n : ℕ) → n < 0 → ⊥
+no_place n l = absurd (omega (arith, l))
+
+module _ (v : Data) (Q : Path) where
+  abbrev pub told_of : Outcome → Outcome
+  told_of o = record { accepts = o.accepts; first = map (wrapped v Q) o.first; all = map (wrapped v Q) o.all }
+
+  wrapped_like : {f g : Fault} → IsLike f g → IsLike (wrapped v Q f) (wrapped v Q g)
+  wrapped_like (like h) = like (like_names (like h))
+
+  ∼_wrapped : {fs gs : List Fault} → fs ∼ gs → map (wrapped v Q) fs ∼ map (wrapped v Q) gs
+  ∼_wrapped like_empty = like_empty
+  ∼_wrapped (like_next h k) = like_next (wrapped_like h) (∼_wrapped k)
+  ∼_wrapped like_swap = like_swap
+  ∼_wrapped (like_through h k) = like_through (∼_wrapped h) (∼_wrapped k)
+
+  cut_wrapped : (f : Fault) → wrapped v Q (cut f) ≡ cut (wrapped v Q f)
+  cut_wrapped (fault k w R P) = refl
+
+  mapped : (fs : List Fault) (f : Fault) (n : ℕ) → n < length fs → get_or fs n f ≡ f → (n < length (map (wrapped v Q) fs)) × (get_or (map (wrapped v Q) fs) n (wrapped v Q f) ≡ wrapped v Q f)
+  mapped [] f n l e = absurd (no_place n l)
+  mapped (g ∷ fs) f zero l e = (omega arith, ap (wrapped v Q) e)
+  mapped (g ∷ fs) f (suc n) l e = let p = mapped fs f n (omega (arith, l)) e in (omega (arith, p.0), p.1)
+
+  contains_wrapped : (fs : List Fault) (f : Fault) → Contains fs f → Contains (map (wrapped v Q) fs) (wrapped v Q f)
+  contains_wrapped fs f c = let p = mapped fs f c.0 c.1 c.2 in (c.0, p.0, p.1)
+
+  pub name_passes : {o : Outcome} → Passes o → Passes (told_of o)
+  name_passes h = record { verdict = h.verdict; nothing = ap (map (wrapped v Q)) h.nothing }
+
+  pub name_errs : {o : Outcome} (f g : Fault) → f ≡ wrapped v Q g → IsErrorOf o g → IsErrorOf (told_of o) f
+  name_errs {o} f g is told = subst (IsErrorOf (told_of o)) (sym is) (record {
+    verdict = told.verdict;
+    of_first = record { one = wrapped v Q told.of_first.one; among = contains_wrapped o.first told.of_first.one told.of_first.among; like = wrapped_like told.of_first.like };
+    of_all = record { whole = wrapped v Q told.of_all.whole; among = contains_wrapped o.all told.of_all.whole told.of_all.among; like = subst (IsLike (wrapped v Q g)) (cut_wrapped told.of_all.whole) (wrapped_like told.of_all.like) };
+  })
+
+  -- the errors that were found, each told of the object
+  pub wrapped_each : (es : List ValidationError) → flat_map (λ e. wrapped v Q (fault_of e) ∷ []) es ≡ map (λ e. wrapped v Q (fault_of e)) es
+  wrapped_each [] = refl
+  wrapped_each (e ∷ es) = ap (λ l. wrapped v Q (fault_of e) ∷ l) (wrapped_each es)
+
+  wrapped_both : (es : List ValidationError) → map (λ e. wrapped v Q (fault_of e)) es ≡ map (wrapped v Q) (map fault_of es)
+  wrapped_both [] = refl
+  wrapped_both (e ∷ es) = ap (λ l. wrapped v Q (fault_of e) ∷ l) (wrapped_both es)
+
+  pub name_appends : {found old new : List ValidationError} {fs : List Fault} → Appends [] found fs → Appends old new (map (λ e. wrapped v Q (fault_of e)) found) → Appends old new (map (wrapped v Q) fs)
+  name_appends {found} {fs = fs} inner outer = appends_like (subst (λ l. l ∼ map (wrapped v Q) fs) (sym (wrapped_both found)) (∼_wrapped (subst (λ l. map fault_of l ∼ fs) (sym inner.is) inner.same))) outer
+
+module _ (v : Data) (Q : Path) {N : Type 0} (m : N → Data → Question) (s r : N → Bool → Data → Path → List Fault) (u : Bool) (n : N) where
+  -- of the names one after the other, and of none
+  pub names_of_walk : (ms : Members) → v ≡ object ms
+      → of_each u (λ x. m n (string x.0)) (λ x. (of_asked_name m s r u n v x.0 Q).first) (λ x. (of_asked_name m s r u n v x.0 Q).all) (listed ms) ≡ of_asked_names m s r u n v Q
+  names_of_walk ms is = ap (λ d. of_each u (λ x. m n (string x.0)) (λ x. (of_asked_name m s r u n v x.0 Q).first) (λ x. (of_asked_name m s r u n v x.0 Q).all) (members d)) (sym is)
+
+  pub no_names_pass : members v ≡ [] → Passes (of_asked_names m s r u n v Q)
+  no_names_pass none = record {
+    verdict = ap (λ ms. (every {X = Name × Data} (λ x. m n (string x.0)) ms).accepts u) none;
+    nothing = ap (first_of {A = Name × Data} (λ x. map (wrapped v Q) (s n u (string x.0) Q))) none;
+  }

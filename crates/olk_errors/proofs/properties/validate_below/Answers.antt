@@ -1,0 +1,9 @@
+use Rattle.std.proofs.Common.{sym}
+use Rattle.serde_json.specs.View.{view}
+use Rattle.olk_spec.specs.Names.{◌//◌}
+use Rattle.olk_errors.proofs.Steps.{passes_accepted}
+use Rattle.olk_errors.proofs.properties.validate_below.Goals as goal
+
+pub returns-then-is_valid-clause-ok : goal.returns-then-is_valid-clause-ok
+returns-then-is_valid-clause-ok g c = passes_accepted (sym c.if-is_valid.ensures.verdict)
+    (g.met.N.Reports.first_agrees c.args.subschema.now c.args.ctx.now.answer (view c.args.value.now) (c.args.path.now // c.args.name.now))

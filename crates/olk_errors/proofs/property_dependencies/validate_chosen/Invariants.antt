@@ -1,0 +1,10 @@
+use Rattle.olk_base.specs.Nodes.{data_of}
+use Rattle.olk_tree.specs.Questions.{every}
+use Rattle.olk_tree.specs.Visited.{left_of}
+use Rattle.olk_tree.proofs.Due.{chosen}
+use Rattle.olk_errors.specs.Outcomes.{of_branches}
+use Rattle.olk_errors.proofs.Steps.{Passing}
+use Rattle.olk_errors.proofs.property_dependencies.validate_chosen.Given as goal
+
+abbrev pub invariant-loop-choices : goal.invariant-loop-choices
+invariant-loop-choices g l = Passing (λ d. every (λ n. g.N.Means.means n (data_of l.object)) (chosen d)) (λ u Q d. (of_branches g.N.Means.means g.N.Reports.first g.N.Reports.report u (chosen d) (data_of l.object) Q).first) (λ u Q d. (of_branches g.N.Means.means g.N.Reports.first g.N.Reports.report u (chosen d) (data_of l.object) Q).all) (left_of l.initial.choices-iterator) (left_of l.choices-iterator) l.initial.path l.path l.initial.ctx l.ctx

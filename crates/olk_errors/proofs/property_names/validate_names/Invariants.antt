@@ -1,0 +1,10 @@
+use Rattle.serde_json.specs.Data.{string}
+use Rattle.serde_json.specs.View.{members_view}
+use Rattle.olk_base.specs.Nodes.{data_of}
+use Rattle.olk_spec.specs.Schemas.{listed}
+use Rattle.olk_errors.specs.Outcomes.{of_asked_name}
+use Rattle.olk_errors.proofs.Steps.{Passing}
+use Rattle.olk_errors.proofs.property_names.validate_names.Given as goal
+
+abbrev pub invariant-loop-name : goal.invariant-loop-name
+invariant-loop-name g l = Passing (λ x. g.N.Means.means l.subschema (string x.0)) (λ u Q x. (of_asked_name g.N.Means.means g.N.Reports.first g.N.Reports.report u l.subschema (data_of l.object) x.0 Q).first) (λ u Q x. (of_asked_name g.N.Means.means g.N.Reports.first g.N.Reports.report u l.subschema (data_of l.object) x.0 Q).all) (listed (members_view l.members.entries)) (listed (members_view l.name-iterator)) l.initial.path l.path l.initial.ctx l.ctx

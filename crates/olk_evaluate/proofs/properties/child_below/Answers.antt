@@ -1,0 +1,5 @@
+use Rattle.std.proofs.Common.{rules}
+use Rattle.olk_evaluate.proofs.properties.child_below.Goals as goal
+
+pub returns-clause-path : goal.returns-clause-path
+returns-clause-path g c = search rules

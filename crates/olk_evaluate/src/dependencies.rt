@@ -1,0 +1,74 @@
+//! `dependentRequired`, `dependentSchemas` and `dependencies`.
+ghost use Rattle.std.specs.Prelude.{◌≡◌, IfOk};
+ghost use Rattle.olk_base.specs.Nodes.{data_of};
+ghost use Rattle.olk_tree.specs.Answers.{named, due_nodes};
+ghost use Rattle.olk_tree.specs.Visited.{object_of};
+ghost use Rattle.olk_check.specs.Asks.{OnlyAsks};
+ghost use Rattle.olk_evaluate.specs.Wanted.{AreShown, each_wanted, trees_of};
+
+use crate::walk::child;
+use crate::{Evaluate, Located};
+use olk_base::{Node, ValidationContext};
+use olk_reports::{EvaluationNode, EvaluationResult, InstancePath};
+use olk_tree::dependencies::Dependencies;
+use olk_tree::map::SmallMap;
+use serde_json::{Map, Value};
+use std::alloc::{AllocError, Global};
+
+impl<N> Located for Dependencies<N> {
+    ghost place = { λ k. k.location };
+
+    fn location(&self) -> &str {
+        self.location.as_str()
+    }
+}
+
+/// A child for each key that is a member of the object (JSON Schema 2020-12 Core, 10.2.2.4).
+impl<'a, N: Evaluate<'a>> Evaluate<'a> for Dependencies<N> {
+    ghost use Rattle.olk_spec.specs.Tree.{plain};
+    ghost use Rattle.olk_tree.specs.Shown.{branch_trees};
+
+    ghost tree = { λ k u v Q. plain k.location Q
+        (branch_trees (λ n. N.tree n u) v Q (due_nodes (named k.dependencies) v)) };
+
+    #[tactic(auto, using(olk_check::proofs::Asked::only_same))]
+    fn evaluate(
+        &'a self,
+        alloc: Global,
+        node: Node<'a>,
+        path: &mut InstancePath,
+        ctx: &mut ValidationContext,
+    ) -> Result<EvaluationResult<'a>, AllocError> {
+        match node.as_object() {
+            Some(members) => {
+                let children = due_children(alloc, &self.dependencies, members, node, path, ctx)?;
+                Ok(EvaluationResult::from_children(alloc, children))
+            }
+            None => Ok(EvaluationResult::valid_empty(alloc)),
+        }
+    }
+}
+
+// What the node of each key that is a member shows of the object.
+fn due_children<'a, N: Evaluate<'a>>(
+    alloc: Global,
+    dependencies: &'a SmallMap<N>,
+    members: &'a Map<String, Value>,
+    object: Node<'a>,
+    path: &mut InstancePath,
+    ctx: &mut ValidationContext,
+) -> Result<Vec<EvaluationNode<'a>>, AllocError>
+    requires { data_of object ≡ object_of members.now.entries }
+    ensures shown { IfOk result (λ cs. AreShown
+        (each_wanted N.tree N.means ctx.old.answer
+        (due_nodes (named dependencies.now) (data_of object.entry)) (data_of object.entry) path.old)
+        (trees_of cs.items)) }
+    ensures path { path.new ≡ path.old }
+    ensures context { OnlyAsks ctx.old ctx.new }
+{
+    let mut children = Vec::new(alloc);
+    for (_, dependency, _) in dependencies.declared_members(members) {
+        children.push(child(alloc, dependency, object, path, ctx)?)?;
+    }
+    Ok(children)
+}

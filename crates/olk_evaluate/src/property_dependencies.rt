@@ -1,0 +1,84 @@
+//! `propertyDependencies`.
+ghost use Rattle.std.specs.Prelude.{◌≡◌, IfOk};
+ghost use Rattle.olk_base.specs.Nodes.{data_of};
+ghost use Rattle.olk_tree.specs.Answers.{named, chosen_nodes};
+ghost use Rattle.olk_tree.specs.Visited.{object_of};
+ghost use Rattle.olk_check.specs.Asks.{OnlyAsks};
+ghost use Rattle.olk_evaluate.specs.Wanted.{AreShown, each_wanted, trees_of};
+
+use crate::walk::child;
+use crate::{Evaluate, Located};
+use olk_base::{Node, ValidationContext};
+use olk_reports::{EvaluationNode, EvaluationResult, InstancePath};
+use olk_tree::map::SmallMap;
+use olk_tree::property_dependencies::PropertyDependencies;
+use serde_json::{Map, Value};
+use std::alloc::{AllocError, Global};
+
+impl<N> Located for PropertyDependencies<N> {
+    ghost place = { λ k. k.location };
+
+    fn location(&self) -> &str {
+        self.location.as_str()
+    }
+}
+
+/// A child for each key at whose text there is a subschema. The keyword is in no published version of JSON Schema.
+impl<'a, N: Evaluate<'a>> Evaluate<'a> for PropertyDependencies<N> {
+    ghost use Rattle.olk_spec.specs.Tree.{plain};
+    ghost use Rattle.olk_tree.specs.Shown.{branch_trees};
+
+    ghost tree = { λ k u v Q. plain k.location Q
+        (branch_trees (λ n. N.tree n u) v Q (chosen_nodes (named k.dependencies) v)) };
+
+    #[tactic(auto, using(olk_check::proofs::Asked::only_same))]
+    fn evaluate(
+        &'a self,
+        alloc: Global,
+        node: Node<'a>,
+        path: &mut InstancePath,
+        ctx: &mut ValidationContext,
+    ) -> Result<EvaluationResult<'a>, AllocError> {
+        match node.as_object() {
+            Some(members) => {
+                let children = chosen_children(
+                    alloc,
+                    &self.dependencies,
+                    members,
+                    node,
+                    path,
+                    ctx,
+                )?;
+                Ok(EvaluationResult::from_children(alloc, children))
+            }
+            None => Ok(EvaluationResult::valid_empty(alloc)),
+        }
+    }
+}
+
+// What each node at the text of a member shows of the object.
+fn chosen_children<'a, N: Evaluate<'a>>(
+    alloc: Global,
+    dependencies: &'a SmallMap<SmallMap<N>>,
+    members: &'a Map<String, Value>,
+    object: Node<'a>,
+    path: &mut InstancePath,
+    ctx: &mut ValidationContext,
+) -> Result<Vec<EvaluationNode<'a>>, AllocError>
+    requires { data_of object ≡ object_of members.now.entries }
+    ensures shown { IfOk result (λ cs. AreShown
+        (each_wanted N.tree N.means ctx.old.answer
+        (chosen_nodes (named dependencies.now) (data_of object.entry))
+        (data_of object.entry) path.old)
+        (trees_of cs.items)) }
+    ensures path { path.new ≡ path.old }
+    ensures context { OnlyAsks ctx.old ctx.new }
+{
+    let mut children = Vec::new(alloc);
+    for (_, choices, value) in dependencies.declared_members(members) {
+        if let Some(dependency) = choices.chosen_by(value) {
+            children.push(child(alloc, dependency, object, path, ctx)?)?;
+        }
+    }
+    Ok(children)
+}

@@ -1,0 +1,109 @@
+//! `propertyNames`.
+ghost use Rattle.std.specs.Prelude.{◌≡◌, IfOk, map};
+ghost use Rattle.serde_json.specs.View.{members_view};
+ghost use Rattle.olk_spec.specs.Schemas.{listed};
+ghost use Rattle.olk_check.specs.Asks.{OnlyAsks};
+ghost use Rattle.olk_evaluate.specs.Wanted.{AreShown, names_wanted, trees_of};
+
+use crate::own::one_error;
+use crate::walk::child;
+use crate::{Evaluate, Located};
+use olk_base::{Node, ValidationContext};
+use olk_reports::{EvaluationNode, EvaluationResult, InstancePath, ValidationErrorKind};
+use olk_tree::property_names::{PropertyNames, PropertyNamesFalse};
+use serde_json::{Map, Value};
+use std::alloc::{AllocError, Global};
+
+impl<N> Located for PropertyNames<N> {
+    ghost place = { λ k. k.location };
+
+    fn location(&self) -> &str {
+        self.location.as_str()
+    }
+}
+
+/// A child for each member's name, at the path of the object (JSON Schema 2020-12 Core, 10.3.2.4).
+impl<'a, N: Evaluate<'a>> Evaluate<'a> for PropertyNames<N> {
+    ghost use Rattle.olk_spec.specs.Tree.{plain};
+    ghost use Rattle.olk_tree.specs.Shown.{name_trees};
+
+    ghost tree = { λ k u v Q. plain k.location Q (name_trees (λ n. N.tree n u) v Q k.node) };
+
+    #[tactic(auto, using(olk_check::proofs::Asked::only_same))]
+    fn evaluate(
+        &'a self,
+        alloc: Global,
+        node: Node<'a>,
+        path: &mut InstancePath,
+        ctx: &mut ValidationContext,
+    ) -> Result<EvaluationResult<'a>, AllocError> {
+        match node.as_object() {
+            Some(members) => {
+                let children = name_children(alloc, &self.node, members, path, ctx)?;
+                Ok(EvaluationResult::from_children(alloc, children))
+            }
+            None => Ok(EvaluationResult::valid_empty(alloc)),
+        }
+    }
+}
+
+impl Located for PropertyNamesFalse {
+    ghost place = { λ k. k.location };
+
+    fn location(&self) -> &str {
+        self.location.as_str()
+    }
+}
+
+/// An error of its own where the object has members.
+impl<'a> Evaluate<'a> for PropertyNamesFalse {
+    ghost use Rattle.olk_spec.specs.Names.{is_empty};
+    ghost use Rattle.olk_spec.specs.Faults.{FalseSchema};
+    ghost use Rattle.olk_spec.specs.Schemas.{members};
+    ghost use Rattle.olk_spec.specs.Tree.{erring};
+    ghost use Rattle.olk_tree.specs.Answers.{unless};
+
+    ghost tree = { λ k u v Q. erring k.location Q
+        (unless (is_empty (members v)) FalseSchema v k.location Q) };
+
+    #[tactic(auto, using(olk_check::proofs::Asked::only_same))]
+    fn evaluate(
+        &'a self,
+        alloc: Global,
+        node: Node<'a>,
+        _path: &mut InstancePath,
+        _ctx: &mut ValidationContext,
+    ) -> Result<EvaluationResult<'a>, AllocError> {
+        match node.as_object() {
+            Some(members) => {
+                if members.is_empty() {
+                    return Ok(EvaluationResult::valid_empty(alloc));
+                }
+                one_error(alloc, ValidationErrorKind::FalseSchema, node)
+            }
+            None => Ok(EvaluationResult::valid_empty(alloc)),
+        }
+    }
+}
+
+// What the subschema shows of each member's name.
+fn name_children<'a, N: Evaluate<'a>>(
+    alloc: Global,
+    subschema: &'a N,
+    members: &'a Map<String, Value>,
+    path: &mut InstancePath,
+    ctx: &mut ValidationContext,
+) -> Result<Vec<EvaluationNode<'a>>, AllocError>
+    ensures shown { IfOk result (λ cs. AreShown
+        (names_wanted N.tree N.means ctx.old.answer subschema.now path.old
+        (listed (members_view members.now.entries)))
+        (trees_of cs.items)) }
+    ensures path { path.new ≡ path.old }
+    ensures context { OnlyAsks ctx.old ctx.new }
+{
+    let mut children = Vec::with_capacity(alloc, members.len())?;
+    for (name, _) in members {
+        children.push(child(alloc, subschema, Node::Name(name.as_str()), path, ctx)?)?;
+    }
+    Ok(children)
+}

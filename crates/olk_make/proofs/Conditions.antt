@@ -1,0 +1,327 @@
+-- What holds `if`, with `then` and `else`.
+use Rattle.std.specs.Prelude.{◌≡◌, ◌≤◌, ℕ, ◌+◌, Bool, true, false, not, cond, ◌&&◌, ◌||◌, List, [], ◌∷◌, ◌++◌, map, codes, sum_by, is_some, Option, Some, None, option_to_list, IsPermutation}
+use Rattle.std.specs.List.{list_all, flat_map}
+use Rattle.std.specs.Prelude.{bytes_eq}
+use Rattle.std.specs.Option.{IfSome, IfNone}
+use Rattle.std.proofs.Common.{refl, sym, ◌∙◌, ap, subst, ◌⊎◌, inl, inr, arith}
+use Rattle.std.proofs.lemmas.List.{append-nil}
+use Rattle.std.proofs.lemmas.List.Folds.{list_all-append}
+use Rattle.std.proofs.lemmas.List.Sums.{sum_by-append, sum_by-cons}
+use Rattle.std.proofs.lemmas.Grind.{flat_map-append}
+use mathlib.Core.Bool.{true≢false}
+use mathlib.Core.Path.{subst₂}
+use Rattle.serde_json.specs.Data.{Data, Members}
+use Rattle.olk_spec.specs.Names.{Name, Path, ◌//◌, lookup, put_if}
+use Rattle.olk_spec.specs.Vocabulary.{if_keyword, then_keyword, else_keyword}
+use Rattle.olk_spec.specs.Faults.{Fault, ◌∼◌, like_empty}
+use Rattle.olk_spec.specs.Schemas.{listed}
+use Rattle.olk_spec.specs.Malformed.{has_repeat}
+use Rattle.olk_spec.specs.Meaning.{accepts, asks, report, tree}
+use Rattle.olk_spec.specs.Tree.{Tree, plain}
+use Rattle.olk_spec.proofs.Order.{∼_same}
+use Rattle.olk_spec.proofs.Truth.{and_true}
+use Rattle.olk_base.specs.Kit.{Kit}
+use Rattle.olk_tree.specs.Questions.{Question, always, conditional, every}
+use Rattle.olk_tree.specs.Answers.{validator_means, validator_report, validator_tree}
+use Rattle.olk_tree.specs.Shown.{branch_trees, if_tree}
+use Rattle.olk_tree.specs.declared.node.KeywordOver.{KeywordOver}
+use Rattle.olk_tree.specs.declared.node.KeywordOver.TheVariants as keyword
+use Rattle.olk_node.specs.Nodes.{answers}
+use Rattle.olk_node.specs.Stands.{StandsFor}
+use Rattle.olk_node.specs.declared.node.SchemaNode.{SchemaNode}
+use Rattle.olk_members.specs.Members.{member_accepts, member_asks, member_report, member_child}
+use Rattle.olk_members.specs.Conditions.{is_condition}
+use Rattle.olk_members.specs.Plans.{Planned, plan_of, is_case, head, claims}
+use Rattle.olk_members.proofs.Claims.{members_named, members_found, claims_condition, claims_no_case, claims_itself, heads_elsewhere}
+use Rattle.olk_members.proofs.Conditions as fact
+use Rattle.olk_members.proofs.Heads.{names_of}
+use Rattle.olk_make.specs.Forms.{IsFormOfIf, IsIf}
+use Rattle.olk_make.specs.Holding.{which, Covers}
+use Rattle.olk_make.specs.Making.{KeywordsMean, MakesCondition, MakesPart}
+use Rattle.olk_make.specs.Standing.{StandAt, CaseStands, CasesStand}
+use Rattle.olk_read.specs.declared.shape.Shape.TheVariants as shape
+use Rattle.olk_read.specs.declared.shape.ReadPlaces.TheVariants.{Itself}
+use Rattle.olk_make.specs.declared.part.Cases.{Cases}
+use Rattle.olk_make.proofs.Held.{question, shown, found}
+use Rattle.olk_make.proofs.Together.{means_permuted}
+
+pub form_is_if : {K N : Type 0} (L : Path) (n : N) (t e : Option N) (k : KeywordOver K N) → IsFormOfIf L n t e k → IsIf L (is_some t) (is_some e) k
+form_is_if L n (Some t) None (keyword.IfThen k) f = f.2
+form_is_if L n None (Some e) (keyword.IfElse k) f = f.2
+form_is_if L n (Some t) (Some e) (keyword.IfThenElse k) f = f.3
+form_is_if L n t e k f = absurd f
+
+pub if_of_form : {K N : Type 0} (r : Option (KeywordOver K N)) (L : Path) (n : N) (cs : Cases N) → IfSome r (IsFormOfIf L n cs.then_schema cs.else_schema) → IfSome r (IsIf L (is_some cs.then_schema) (is_some cs.else_schema))
+if_of_form None L n cs f = tt
+if_of_form (Some k) L n cs f = form_is_if L n cs.then_schema cs.else_schema k f
+
+module _ {K R : Type 0} (o : Kit K R) where
+  -- ---- what stands where the condition says, or nothing
+
+  abbrev case_question : Option (SchemaNode K R) → Data → Question
+  case_question None v = always true
+  case_question (Some n) v = (answers o n).means v
+
+  abbrev case_found : Bool → Option (SchemaNode K R) → Data → Path → List Fault
+  case_found u None v Q = []
+  case_found u (Some n) v Q = (answers o n).report u v Q
+
+  module _ (L : Path) (n : SchemaNode K R) where
+    form_means : (t e : Option (SchemaNode K R)) (k : KeywordOver K (SchemaNode K R)) → IsFormOfIf L n t e k → (v : Data) → question o k v ≡ conditional ((answers o n).means v) (case_question t v) (case_question e v)
+    unfolding validator_means
+    form_means (Some t) None (keyword.IfThen k) f v = λ i. conditional ((answers o (f.0 i)).means v) ((answers o (f.1 i)).means v) (always true)
+    form_means None (Some e) (keyword.IfElse k) f v = λ i. conditional ((answers o (f.0 i)).means v) (always true) ((answers o (f.1 i)).means v)
+    form_means (Some t) (Some e) (keyword.IfThenElse k) f v = λ i. conditional ((answers o (f.0 i)).means v) ((answers o (f.1 i)).means v) ((answers o (f.2 i)).means v)
+    form_means t e k f v = absurd f
+
+    form_finds : (t e : Option (SchemaNode K R)) (k : KeywordOver K (SchemaNode K R)) → IsFormOfIf L n t e k → (u : Bool) (v : Data) (Q : Path) → found o u k v Q ≡ cond (((answers o n).means v).accepts u) (case_found u t v Q) (case_found u e v Q)
+    unfolding validator_report
+    form_finds (Some t) None (keyword.IfThen k) f u v Q = λ i. cond (((answers o (f.0 i)).means v).accepts u) ((answers o (f.1 i)).report u v Q) []
+    form_finds None (Some e) (keyword.IfElse k) f u v Q = λ i. cond (((answers o (f.0 i)).means v).accepts u) [] ((answers o (f.1 i)).report u v Q)
+    form_finds (Some t) (Some e) (keyword.IfThenElse k) f u v Q = λ i. cond (((answers o (f.0 i)).means v).accepts u) ((answers o (f.1 i)).report u v Q) ((answers o (f.2 i)).report u v Q)
+    form_finds t e k f u v Q = absurd f
+
+    form_shows : (t e : Option (SchemaNode K R)) (k : KeywordOver K (SchemaNode K R)) → IsFormOfIf L n t e k → (u : Bool) (v : Data) (Q : Path) → shown o u k v Q ≡ if_tree (λ n. (answers o n).tree u) v Q (((answers o n).means v).accepts u) L n (option_to_list t) (option_to_list e)
+    unfolding validator_tree
+    form_shows (Some t) None (keyword.IfThen k) f u v Q = λ i. if_tree (λ n. (answers o n).tree u) v Q (((answers o (f.0 i)).means v).accepts u) (f.2 i) (f.0 i) (f.1 i ∷ []) []
+    form_shows None (Some e) (keyword.IfElse k) f u v Q = λ i. if_tree (λ n. (answers o n).tree u) v Q (((answers o (f.0 i)).means v).accepts u) (f.2 i) (f.0 i) [] (f.1 i ∷ [])
+    form_shows (Some t) (Some e) (keyword.IfThenElse k) f u v Q = λ i. if_tree (λ n. (answers o n).tree u) v Q (((answers o (f.0 i)).means v).accepts u) (f.3 i) (f.0 i) (f.1 i ∷ []) (f.2 i ∷ [])
+    form_shows t e k f u v Q = absurd f
+
+  -- ---- what the schema there says, or nothing
+
+  module _ (u : Bool) (v : Data) where
+    abbrev case_verdict : Option Data → Bool
+    case_verdict None = true
+    case_verdict (Some d) = accepts o.world u d v
+
+    abbrev case_asked : Option Data → ℕ
+    case_asked None = 0
+    case_asked (Some d) = asks o.world u d v
+
+    abbrev case_report : Option Data → Path → Path → List Fault
+    case_report None L Q = []
+    case_report (Some d) L Q = report o.world u d v L Q
+
+    abbrev case_trees : Option Data → Path → Path → List Tree
+    case_trees None L Q = []
+    case_trees (Some d) L Q = tree o.world u d v L Q ∷ []
+
+    case_accepts : (t : Option (SchemaNode K R)) (a : Option Data) (L : Path) → CaseStands o t a L → (case_question t v).accepts u ≡ case_verdict a
+    case_accepts None None L h = refl
+    case_accepts (Some n) (Some d) L h = h.verdict u v
+    case_accepts None (Some d) L h = absurd h
+    case_accepts (Some n) None L h = absurd h
+
+    case_asks : (t : Option (SchemaNode K R)) (a : Option Data) (L : Path) → CaseStands o t a L → (case_question t v).asks u ≤ case_asked a
+    case_asks None None L h = omega arith
+    case_asks (Some n) (Some d) L h = h.asks_within u v
+    case_asks None (Some d) L h = absurd h
+    case_asks (Some n) None L h = absurd h
+
+    case_finds : (t : Option (SchemaNode K R)) (a : Option Data) (L Q : Path) → CaseStands o t a L → case_found u t v Q ∼ case_report a L Q
+    case_finds None None L Q h = like_empty
+    case_finds (Some n) (Some d) L Q h = h.faults u v Q
+    case_finds None (Some d) L Q h = absurd h
+    case_finds (Some n) None L Q h = absurd h
+
+    case_shows : (t : Option (SchemaNode K R)) (a : Option Data) (L Q : Path) → CaseStands o t a L → branch_trees (λ n. (answers o n).tree u) v Q (option_to_list t) ≡ case_trees a L Q
+    case_shows None None L Q h = refl
+    case_shows (Some n) (Some d) L Q h = ap (λ t. t ∷ []) (h.evaluation u v Q)
+    case_shows None (Some d) L Q h = absurd h
+    case_shows (Some n) None L Q h = absurd h
+
+    shown_where : (b : Bool) (a : Option Data) (L Q : Path) → fact.case_shown o.world u v b L Q a ≡ cond b (case_trees a L Q) []
+    shown_where true None L Q = refl
+    shown_where false None L Q = refl
+    shown_where true (Some d) L Q = refl
+    shown_where false (Some d) L Q = refl
+
+  -- ---- the rows of the members that are there
+
+  abbrev rows : Name → Option Data → List (Name × Data)
+  rows k a = map (λ d. (k, d)) (option_to_list a)
+
+  same_either : {X : Type 0} (b : Bool) (x : X) → x ≡ cond b x x
+  same_either true x = refl
+  same_either false x = refl
+
+  module _ (ms : Members) (d : Data) (there : lookup (codes "if") (listed ms) ≡ Some d) (u : Bool) (v : Data) where
+    abbrev tested : Bool
+    tested = accepts o.world u d v
+
+    abbrev row_accepts : Name × Data → Bool
+    row_accepts m = member_accepts o.world ms m (which o ms m) u v
+
+    abbrev row_asks : Name × Data → ℕ
+    row_asks m = member_asks o.world ms m (which o ms m) u v
+
+    then_accepts : (a : Option Data) → list_all row_accepts (rows (codes "then") a) ≡ cond tested (case_verdict u v a) true
+    then_accepts None = same_either tested true
+    then_accepts (Some e) = and_true _ ∙ fact.then_accepts_beside o.world ms u v d there e
+
+    else_accepts : (a : Option Data) → list_all row_accepts (rows (codes "else") a) ≡ cond (not tested) (case_verdict u v a) true
+    else_accepts None = same_either (not tested) true
+    else_accepts (Some e) = and_true _ ∙ fact.else_accepts_beside o.world ms u v d there e
+
+    then_asks : (a : Option Data) → sum_by row_asks (rows (codes "then") a) ≡ cond tested (case_asked u v a) 0
+    then_asks None = same_either tested 0
+    then_asks (Some e) = let f = fact.then_asks_beside o.world ms u v d there e in let s = sum_by-cons row_asks (codes "then", e) [] in omega (arith, f, s)
+
+    else_asks : (a : Option Data) → sum_by row_asks (rows (codes "else") a) ≡ cond (not tested) (case_asked u v a) 0
+    else_asks None = same_either (not tested) 0
+    else_asks (Some e) = let f = fact.else_asks_beside o.world ms u v d there e in let s = sum_by-cons row_asks (codes "else", e) [] in omega (arith, f, s)
+
+    module _ (P Q : Path) where
+      abbrev row_report : Name × Data → List Fault
+      row_report m = member_report o.world ms m (which o ms m) u v P Q
+
+      then_report : (a : Option Data) → flat_map row_report (rows (codes "then") a) ≡ cond tested (case_report u v a (P // codes "then") Q) []
+      then_report None = same_either tested []
+      then_report (Some e) = append-nil _ ∙ fact.then_report_beside o.world ms u v d there e P Q
+
+      else_report : (a : Option Data) → flat_map row_report (rows (codes "else") a) ≡ cond (not tested) (case_report u v a (P // codes "else") Q) []
+      else_report None = same_either (not tested) []
+      else_report (Some e) = append-nil _ ∙ fact.else_report_beside o.world ms u v d there e P Q
+
+  -- ---- one of two, as what the test chooses
+
+  one_verdict : (c x y : Bool) → cond c x y ≡ (cond c x true && cond (not c) y true)
+  one_verdict true x y = sym (and_true x)
+  one_verdict false x y = refl
+
+  one_asked : (c : Bool) (n x y m a b : ℕ) → n ≤ m → x ≤ a → y ≤ b → n + cond c x y + 0 ≤ m + (cond c a 0 + cond (not c) b 0)
+  one_asked true n x y m a b p q r = omega (arith, p, q)
+  one_asked false n x y m a b p q r = omega (arith, p, r)
+
+  one_found : (c : Bool) (x y a b : List Fault) → x ∼ a → y ∼ b → (cond c x y ++ []) ∼ (cond c a [] ++ cond (not c) b [])
+  one_found true x y a b p q = subst₂ (λ l r. l ∼ r) (sym (append-nil x)) (sym (append-nil a)) p
+  one_found false x y a b p q = subst (λ l. l ∼ b) (sym (append-nil y)) q
+
+  one_shown : (c : Bool) (t : Tree) (x y : List Tree) → cond c (t ∷ x) y ≡ (put_if c t [] ++ cond c x [] ++ cond (not c) y [])
+  one_shown true t x y = sym (append-nil (t ∷ x))
+  one_shown false t x y = refl
+
+  -- ---- all three
+
+  module _ (ms : Members) (P : Path) (distinct : has_repeat (names_of (listed ms)) ≡ false) (d : Data) (there : lookup (codes "if") (listed ms) ≡ Some d) (read_here : is_condition ms ≡ true) where
+    abbrev at_then : Option Data
+    at_then = lookup (codes "then") (listed ms)
+
+    abbrev at_else : Option Data
+    at_else = lookup (codes "else") (listed ms)
+
+    abbrev three : List (Name × Data)
+    three = (codes "if", d) ∷ rows (codes "then") at_then ++ rows (codes "else") at_else
+
+    module _ (L : Path) (n : SchemaNode K R) (t e : Option (SchemaNode K R)) (k : KeywordOver K (SchemaNode K R)) (place : L ≡ P // codes "if") (form : IsFormOfIf L n t e k) (stands : StandsFor o n d L) (then_stands : CaseStands o t at_then (P // codes "then")) (else_stands : CaseStands o e at_else (P // codes "else")) where
+      mean_together : Covers o ms (k ∷ []) three P
+      mean_together = record {
+        verdict = λ u v. and_true _ ∙ ap (λ q. q.accepts u) (form_means L n t e k form v)
+            ∙ (λ i. cond (stands.verdict u v i) (case_accepts u v t at_then (P // codes "then") then_stands i) (case_accepts u v e at_else (P // codes "else") else_stands i))
+            ∙ one_verdict (tested ms d there u v) (case_verdict u v at_then) (case_verdict u v at_else)
+            ∙ (λ i. sym (then_accepts ms d there u v at_then) i && sym (else_accepts ms d there u v at_else) i)
+            ∙ sym (list_all-append (row_accepts ms d there u v) (rows (codes "then") at_then) (rows (codes "else") at_else));
+        asks_within = λ u v.
+            let q = ap (λ q. q.asks u) (form_means L n t e k form v) ∙ ap (λ b. ((answers o n).means v).asks u + cond b ((case_question t v).asks u) ((case_question e v).asks u)) (stands.verdict u v) in
+            let w = one_asked (tested ms d there u v) (((answers o n).means v).asks u) ((case_question t v).asks u) ((case_question e v).asks u) (asks o.world u d v) (case_asked u v at_then) (case_asked u v at_else) (stands.asks_within u v) (case_asks u v t at_then (P // codes "then") then_stands) (case_asks u v e at_else (P // codes "else") else_stands) in
+            let s = sum_by-cons (row_asks ms d there u v) (codes "if", d) (rows (codes "then") at_then ++ rows (codes "else") at_else) in
+            let r = sum_by-append (row_asks ms d there u v) (rows (codes "then") at_then) (rows (codes "else") at_else) in
+            let i = fact.if_asks_beside o.world ms u v d there read_here in
+            let x = then_asks ms d there u v at_then in
+            let y = else_asks ms d there u v at_else in
+            omega (arith, q, w, s, r, i, x, y);
+        faults = λ u v Q. subst₂ (λ l r. l ∼ r)
+            (ap (λ l. l ++ []) (sym (form_finds L n t e k form u v Q ∙ ap (λ b. cond b (case_found u t v Q) (case_found u e v Q)) (stands.verdict u v))))
+            ((λ i. sym (then_report ms d there u v P Q at_then) i ++ sym (else_report ms d there u v P Q at_else) i) ∙ sym (flat_map-append (row_report ms d there u v P Q) (rows (codes "then") at_then) (rows (codes "else") at_else)))
+            (one_found (tested ms d there u v) _ _ _ _ (case_finds u v t at_then (P // codes "then") Q then_stands) (case_finds u v e at_else (P // codes "else") Q else_stands));
+      }
+
+      shown_together : (u : Bool) (v : Data) (Q : Path) → shown o u k v Q ∷ [] ≡ flat_map (λ m. member_child o.world ms m (which o ms m) u v P Q) ((codes "if", d) ∷ [])
+      shown_together u v Q =
+          ap (λ t. t ∷ []) (form_shows L n t e k form u v Q
+          ∙ (λ i. plain (place i) Q (cond (stands.verdict u v i) (subst_tree u v Q i ∷ case_shows u v t at_then (P // codes "then") Q then_stands i) (case_shows u v e at_else (P // codes "else") Q else_stands i)))
+          ∙ ap (plain (P // codes "if") Q) (one_shown (tested ms d there u v) (tree o.world u d v (P // codes "if") Q) (case_trees u v at_then (P // codes "then") Q) (case_trees u v at_else (P // codes "else") Q)
+          ∙ (λ i. put_if (tested ms d there u v) (tree o.world u d v (P // codes "if") Q) [] ++ sym (shown_where u v (tested ms d there u v) at_then (P // codes "then") Q) i ++ sym (shown_where u v (not (tested ms d there u v)) at_else (P // codes "else") Q) i)))
+          ∙ sym (append-nil _ ∙ fact.if_shows_beside o.world ms u v d read_here P Q)
+        where
+          subst_tree : (u : Bool) (v : Data) (Q : Path) → (answers o n).tree u v Q ≡ tree o.world u d v (P // codes "if") Q
+          subst_tree u v Q = stands.evaluation u v Q ∙ ap (λ M. tree o.world u d v M Q) place
+
+      -- `if` means itself, `then` and `else`
+      pub means_condition : (p : Planned) → p.condition ≡ true → KeywordsMean o ms (k ∷ []) (claims (head p) (listed ms) (codes "if", d)) ((codes "if", d) ∷ []) P
+      means_condition p e = means_permuted o ms P (k ∷ []) three (claims (head p) (listed ms) (codes "if", d)) ((codes "if", d) ∷ [])
+          (subst (λ l. IsPermutation l (claims (head p) (listed ms) (codes "if", d)))
+          (λ i. (codes "if", d) ∷ members_found ms distinct (codes "then") at_then refl i ++ members_found ms distinct (codes "else") at_else refl i)
+          (claims_condition ms distinct p e d there))
+          (record { covers = mean_together; shows = λ clean u v Q. shown_together u v Q })
+
+  -- ---- what is made of the nodes
+
+  none_stands : (a : Option Data) (L : Path) → CaseStands o None a L → a ≡ None
+  none_stands None L h = refl
+  none_stands (Some d) L h = absurd h
+
+  pub makes_condition : (k : KeywordOver K (SchemaNode K R)) (L : Path) (n : SchemaNode K R) (cs : Cases (SchemaNode K R)) → IsFormOfIf L n cs.then_schema cs.else_schema k → MakesCondition o L n cs (k ∷ [])
+  makes_condition k L n cs form ms d P place stands cases distinct there read_here = means_condition ms P distinct d there read_here L n cs.then_schema cs.else_schema k place form stands cases.0 cases.1 (plan_of ms) read_here
+
+  -- where there is neither, `if` is not read
+  pub makes_no_condition : (L : Path) (n : SchemaNode K R) (cs : Cases (SchemaNode K R)) → cs.then_schema ≡ None → cs.else_schema ≡ None → MakesCondition o L n cs []
+  makes_no_condition L n cs p q ms d P place stands cases distinct there read_here =
+      let a = none_stands (lookup (codes "then") (listed ms)) (P // codes "then") (subst (λ t. CaseStands o t (lookup (codes "then") (listed ms)) (P // codes "then")) p cases.0) in
+      let b = none_stands (lookup (codes "else") (listed ms)) (P // codes "else") (subst (λ t. CaseStands o t (lookup (codes "else") (listed ms)) (P // codes "else")) q cases.1) in
+      absurd (true≢false (sym read_here ∙ (λ i. is_some (there i) && (is_some (a i) || is_some (b i)))))
+
+  pub makes_if : (r : Option (KeywordOver K (SchemaNode K R))) (L : Path) (n : SchemaNode K R) (cs : Cases (SchemaNode K R)) → IfNone r (cs.then_schema ≡ None) → IfNone r (cs.else_schema ≡ None) → IfSome r (IsFormOfIf L n cs.then_schema cs.else_schema) → MakesCondition o L n cs (option_to_list r)
+  makes_if None L n cs p q form = makes_no_condition L n cs p q
+  makes_if (Some k) L n cs p q form = makes_condition k L n cs form
+
+  -- the part of `if`, whose node this is
+  pub part_of_if : (L : Path) (before ns : List (SchemaNode K R)) (n : SchemaNode K R) (cs : Cases (SchemaNode K R)) (P : Path) (p : Planned) (ks : List (KeywordOver K (SchemaNode K R))) → ns ≡ before ++ n ∷ [] → MakesCondition o L n cs ks → MakesPart o shape.If L ns cs P p ks
+  part_of_if L before ns n cs P p ks split make ms m place named fits stand cases distinct there chosen =
+      subst (λ q. KeywordsMean o ms ks (claims (head q) (listed ms) m) (m ∷ []) P) (sym chosen)
+      (subst (λ k. KeywordsMean o ms ks (claims (head (plan_of ms)) (listed ms) (k, m.1)) ((k, m.1) ∷ []) P) (sym named)
+      (make ms m.1 P (place ∙ ap (λ k. P // k) named) (by before (subst (λ l. StandAt o Itself l m.1 L) split (stand refl))) (cases refl) distinct (ap (λ k. lookup k (listed ms)) (sym named) ∙ there) (ap (λ q. q.condition) (sym chosen) ∙ fits)))
+    where
+      by : (before : List (SchemaNode K R)) → StandAt o Itself (before ++ n ∷ []) m.1 L → StandsFor o n m.1 L
+      by [] h = h
+      by (x ∷ []) h = absurd h
+      by (x ∷ y ∷ before) h = absurd h
+
+  pub part_of_no_if : (L : Path) (ns : List (SchemaNode K R)) (cs : Cases (SchemaNode K R)) (P : Path) (p : Planned) (ks : List (KeywordOver K (SchemaNode K R))) → ns ≡ [] → MakesPart o shape.If L ns cs P p ks
+  part_of_no_if L ns cs P p ks none ms m place named fits stand cases distinct there chosen = absurd (subst (λ l. StandAt o Itself l m.1 L) none (stand refl))
+
+  -- `then` and `else` beside `if` have no keyword of their own, and show nothing of their own
+  module _ (L : Path) (ns : List (SchemaNode K R)) (cs : Cases (SchemaNode K R)) (P : Path) (p : Planned) where
+    case_means_nothing : (ms : Members) (m : Name × Data) → p.condition ≡ true → is_case m.0 ≡ true → ((u : Bool) (v : Data) (Q : Path) → member_child o.world ms m (which o ms m) u v P Q ≡ []) → KeywordsMean o ms [] (claims (head p) (listed ms) m) (m ∷ []) P
+    case_means_nothing ms m fits case child = subst (λ rows. KeywordsMean o ms [] rows (m ∷ []) P) (sym (claims_no_case p fits (listed ms) m case)) record {
+      covers = record { verdict = λ u v. refl; asks_within = λ u v. omega arith; faults = λ u v Q. like_empty };
+      shows = λ clean u v Q. sym (append-nil _ ∙ child u v Q);
+    }
+
+    pub part_of_then : MakesPart o shape.Then L ns cs P p []
+    part_of_then ms m place named fits stand cases distinct there chosen = subst (λ k. KeywordsMean o ms [] (claims (head p) (listed ms) (k, m.1)) ((k, m.1) ∷ []) P) (sym named) (case_means_nothing ms (codes "then", m.1) fits refl (λ u v Q. refl))
+
+    pub part_of_else : MakesPart o shape.Else L ns cs P p []
+    part_of_else ms m place named fits stand cases distinct there chosen = subst (λ k. KeywordsMean o ms [] (claims (head p) (listed ms) (k, m.1)) ((k, m.1) ∷ []) P) (sym named) (case_means_nothing ms (codes "else", m.1) fits refl (λ u v Q. refl))
+
+    -- nor has any of the three where `if` is not read
+    pub part_of_unpaired : MakesPart o shape.Unpaired L ns cs P p []
+    part_of_unpaired ms m place named fits stand cases distinct there chosen =
+        let nothing = fact.unpaired_means_nothing o.world ms m named (ap (λ q. q.condition) (sym chosen) ∙ fits) (ap is_some there) in
+        subst (λ rows. KeywordsMean o ms [] rows (m ∷ []) P) (sym (claims_itself ms distinct (head p) m (heads_elsewhere p m.0 (apart_from (codes "properties") refl refl refl) (apart_from (codes "required") refl refl refl) (λ e. absurd (true≢false (sym e ∙ fits)))) there)) record {
+          covers = record {
+            verdict = λ u v. sym (and_true _ ∙ nothing.verdict u v);
+            asks_within = λ u v. omega arith;
+            faults = λ u v Q. ∼_same (sym (append-nil _ ∙ nothing.report u v P Q));
+          };
+          shows = λ clean u v Q. sym (append-nil _ ∙ nothing.child u v P Q);
+        }
+      where
+        apart_from : (n : Name) → bytes_eq n (codes "if") ≡ false → bytes_eq n (codes "then") ≡ false → bytes_eq n (codes "else") ≡ false → bytes_eq n m.0 ≡ false
+        apart_from n a b c = by (fact.conditional_named m.0 named)
+          where
+            by : (m.0 ≡ codes "if") ⊎ (m.0 ≡ codes "then") ⊎ (m.0 ≡ codes "else") → bytes_eq n m.0 ≡ false
+            by (inl q) = ap (bytes_eq n) q ∙ a
+            by (inr (inl q)) = ap (bytes_eq n) q ∙ b
+            by (inr (inr q)) = ap (bytes_eq n) q ∙ c
