@@ -1,4 +1,6 @@
-//! Validation by the object and logic keywords of JSON Schema.
+//! Validation by the object and logic keywords of JSON Schema: what a user of the library calls.
+//!
+//! Stands on `olk_build`, and gives out what is below. Tested by `olk_tests`; `olk_example` is a caller.
 #![tactic(auto)]
 
 mod numbers;
@@ -7,19 +9,23 @@ mod validator;
 
 pub use numbers::holds_whole_numbers;
 pub use olk_base::{
-    CompiledPattern, JsonType, KeyHead, Leaf, MakeError, MakeLeaf, MakeRegex, Meter, Node,
-    PatternOptimization, PropertyName, PropertyPattern, RegexEngine, Unfinished, ValidationContext,
-    analyze_pattern, contains_ecma_whitespace,
+    CompiledPattern, JsonType, KeyHead, Leaf, MakeError, MakeLeaf, MakeRegex, Meter, NoRegex,
+    NoRegexes, Node, PatternOptimization, PropertyName, PropertyPattern, RegexEngine, Unfinished,
+    ValidationContext, analyze_pattern, contains_ecma_whitespace,
 };
-pub use olk_build::{Context, all_of, any_of, compile, if_, not, one_of, properties, required};
+pub use olk_build::{
+    Context, all_of, any_of, compile, dependencies, if_, not, one_of, properties,
+    property_dependencies, property_names, required,
+};
 pub use olk_check::IsValid;
 pub use olk_errors::Errors;
 pub use olk_evaluate::{Evaluate, Located};
 pub use olk_node::{
-    AllOfValidator, AnyOfValidator, IfElseValidator, IfThenElseValidator, IfThenValidator, Keyword,
-    NotValidator, OneOfValidator, SchemaNode, SingleAnyOfValidator, SingleOneOfValidator,
-    SingleValueAllOfValidator, SmallPropertiesValidator, SmallPropertiesWithRequired2Validator,
-    SmallValidatorsMap,
+    AllOfValidator, AnyOfValidator, DependenciesValidator, DependentRequiredValidator,
+    DependentSchemasValidator, IfElseValidator, IfThenElseValidator, IfThenValidator, Keyword,
+    NotValidator, OneOfValidator, PropertyDependenciesValidator, PropertyNamesObjectValidator,
+    SchemaNode, SingleAnyOfValidator, SingleOneOfValidator, SingleValueAllOfValidator,
+    SmallPropertiesValidator, SmallPropertiesWithRequired2Validator, SmallValidatorsMap,
 };
 pub use olk_reports::{
     AnnotationEntry, BuildError, ErrorDescription, ErrorEntry, Evaluation, EvaluationFlag,
@@ -27,6 +33,7 @@ pub use olk_reports::{
     ValidationErrorKind,
 };
 pub use olk_spec::HASHMAP_THRESHOLD;
+pub use olk_tree::property_names::PropertyNamesFalse as PropertyNamesBooleanValidator;
 pub use olk_tree::{Means, Reports, RequiredValidator, SortedNames};
 pub use validate::Validate;
 pub use validator::Validator;

@@ -1,4 +1,6 @@
 //! The texts of answers: refusals, verdicts, errors and evaluations as compact JSON.
+//!
+//! Stands on `olk_reports`. Tested by `olk_low_tests`.
 #![tactic(auto)]
 
 mod errors;

@@ -1,10 +1,13 @@
 //! Names, patterns, the traits of leaves and matchers, the meter and the context.
+//!
+//! Stands on the definitions alone. Tested by `olk_low_tests`.
 #![tactic(auto)]
 
 pub mod analysis;
 pub mod context;
 pub mod meter;
 pub mod names;
+pub mod no_regexes;
 pub mod node;
 pub mod pattern;
 pub mod traits;
@@ -13,6 +16,7 @@ pub use analysis::{PatternOptimization, analyze_pattern, contains_ecma_whitespac
 pub use context::ValidationContext;
 pub use meter::Meter;
 pub use names::{KeyHead, PropertyName};
+pub use no_regexes::{NoRegex, NoRegexes};
 pub use node::{JsonType, Node};
 pub use pattern::{CompiledPattern, PropertyPattern};
 pub use traits::{Leaf, MakeError, MakeLeaf, MakeRegex, RegexEngine, Unfinished};

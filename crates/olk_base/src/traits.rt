@@ -114,8 +114,15 @@ pub trait Leaf: Drop {
         ensures { result ≡ is_empty (finds self.now (data_of node.entry)) };
 
     /// One of the texts, and none where the node is accepted. The only error is want of memory.
+    ///
+    /// A leaf that writes none of its own collects all texts and gives the last.
     fn validate(&self, alloc: Global, node: Node<'_>) -> Result<Option<String>, AllocError>
-        ensures { IfOk result (IsOneOf (finds self.now (data_of node.entry))) };
+        ensures { IfOk result (IsOneOf (finds self.now (data_of node.entry))) }
+    {
+        let mut texts = Vec::new(alloc);
+        self.collect_errors(alloc, node, &mut texts)?;
+        Ok(texts.pop())
+    }
 
     /// Appends all texts. The only error is want of memory, and then nothing is appended.
     fn collect_errors(
@@ -129,9 +136,16 @@ pub trait Leaf: Drop {
         ensures err { OnErr result (texts.new.items ≡ texts.old.items) };
 
     /// All texts, in any order. The only error is want of memory.
+    ///
+    /// A leaf that writes none of its own collects them.
     fn evaluate(&self, alloc: Global, node: Node<'_>) -> Result<Vec<String>, AllocError>
         ensures { IfOk result (λ v. IsPermutation (finds self.now (data_of node.entry))
-            (texts_of v.items)) };
+            (texts_of v.items)) }
+    {
+        let mut texts = Vec::new(alloc);
+        self.collect_errors(alloc, node, &mut texts)?;
+        Ok(texts)
+    }
 }
 
 /// Makes leaves from keywords and their values.

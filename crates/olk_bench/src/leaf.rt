@@ -106,12 +106,6 @@ impl Leaf for BenchLeaf {
         texts.push(text)?;
         Ok(())
     }
-
-    fn evaluate(&self, alloc: Global, node: Node<'_>) -> Result<Vec<String>, AllocError> {
-        let mut texts = Vec::new(alloc);
-        self.collect_errors(alloc, node, &mut texts)?;
-        Ok(texts)
-    }
 }
 
 impl BenchLeaf {

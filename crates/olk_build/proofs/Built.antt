@@ -1,23 +1,27 @@
 -- What is built so far, and one more.
-use Rattle.std.specs.Prelude.{◌≡◌, ◌<◌, ◌+◌, ℕ, Bool, true, false, List, [], ◌∷◌, ◌++◌, map, take, drop, length, decimal, slice_index_or as get_or}
+use Rattle.std.specs.Prelude.{◌≡◌, ◌<◌, ◌≤◌, ◌+◌, ℕ, Bool, true, false, not, is_some, List, [], ◌∷◌, ◌++◌, map, drop, length, decimal, slice_index_or as get_or}
 use Rattle.std.specs.List.{flat_map, enumerate_from}
-use Rattle.std.proofs.Common.{refl, sym, ◌∙◌, ap, subst, arith}
-use Rattle.std.proofs.lemmas.List.{append_assoc, map-append, take_more, take-append-drop, length-map, length-take-le}
+use Rattle.std.proofs.Common.{refl, sym, ◌∙◌, ap, subst, arith, true≢false}
+use Rattle.std.proofs.lemmas.List.{append-nil, append_assoc, drop_more, drop_all}
 use Rattle.std.proofs.lemmas.Grind.{flat_map-append}
-use Rattle.serde_json.specs.Data.{Data, boolean, object, Members}
+use Rattle.serde_json.specs.Data.{Data, null, boolean, number, string, array, object, Members}
+use Rattle.serde_json.specs.Find.{as_array}
 use Rattle.serde_json.specs.View.{view}
 use Rattle.serde_json.specs.declared.value.Value.{Value}
-use Rattle.olk_spec.specs.Names.{Name, Path, ◌//◌}
-use Rattle.olk_spec.specs.Faults.{fault, MultipleTypes, ◌∼◌, like_through}
-use Rattle.olk_spec.specs.Schemas.{listed, numbered}
+use Rattle.olk_spec.specs.Names.{Name, Path, ◌//◌, put_if}
+use Rattle.olk_spec.specs.Faults.{Fault, fault, MultipleTypes, ◌∼◌, like_through}
+use Rattle.olk_spec.specs.Schemas.{listed, members, numbered, is_array}
 use Rattle.olk_spec.specs.Vocabulary.{keyword_named}
 use Rattle.olk_spec.specs.Malformed.{malformations_beside}
 use Rattle.olk_spec.specs.Meaning.{meaning, accepts, asks, report, tree}
-use Rattle.olk_spec.specs.Costs.{cost, ◌⊕◌, total_cost, one_place}
+use Rattle.olk_spec.specs.Costs.{Cost, cost, ◌⊕◌, total_cost, one_place}
 use Rattle.olk_spec.specs.Tree.{plain}
 use Rattle.olk_spec.proofs.Order.{∼_same}
 use Rattle.olk_base.specs.Count.{Counts, count_compiled}
 use Rattle.olk_reports.specs.declared.error.BuildError.{BuildError}
+use Rattle.olk_reports.specs.declared.error.BuildError.TheVariants.{Memory}
+use Rattle.std.specs.declared.alloc.AllocError.{AllocError}
+use mathlib.Core.Path.{subst₂}
 use Rattle.olk_base.specs.Kit.{Kit}
 use Rattle.olk_tree.specs.Answers.{validator_means, validator_report, body_means, body_report, validator_tree, body_tree}
 use Rattle.olk_node.specs.Nodes.{answers}
@@ -27,8 +31,11 @@ use Rattle.std.specs.Prelude.{Vec}
 use Rattle.std.specs.declared.alloc.Global.{Global}
 use Rattle.olk_spec.specs.World.{World}
 use Rattle.olk_read.specs.Refusing.{Spends, TellsOneOf, Refuses}
-use Rattle.olk_make.specs.Holding.{all_malformed, StandEach}
-use Rattle.olk_build.specs.Building.{IsBuilt, AreBuilt, each_cost, all_cost}
+use Rattle.olk_make.specs.Holding.{all_malformed, StandEach, StandInner}
+use Rattle.olk_build.specs.Building.{IsBuilt, AreBuilt, InnerAreBuilt, RefusesSchema, RefusesEach, RefusesInner, no_lists, entries_read, is_read, each_malformed, each_cost, inner_cost, all_cost}
+use Rattle.olk_build.specs.Placing.{PlacesAreBuilt, RefusesPlaces}
+use Rattle.olk_build.proofs.SoFar.{SoFar, none_so_far, all_so_far, memory_so_far, refused_so_far, one_more_so_far, memory_past}
+use Rattle.olk_read.specs.declared.shape.ReadPlaces.TheVariants.{Entries}
 use Rattle.olk_make.specs.Making.{KeywordsMean}
 use Rattle.olk_tree.specs.declared.node.KeywordOver.{KeywordOver}
 use Rattle.olk_tree.specs.declared.node.Body.{Body}
@@ -48,40 +55,16 @@ truth_body false = False
 abbrev numbered_from : ℕ → List Data → List (Name × Data)
 numbered_from n ds = map (λ e. (decimal e.0, e.1)) (enumerate_from n ds)
 
-numbered_from-append : (n : ℕ) (xs ys : List Data) → numbered_from n (xs ++ ys) ≡ numbered_from n xs ++ numbered_from (n + length xs) ys
-numbered_from-append n [] ys = let e : n ≡ n + 0 = omega arith in ap (λ m. numbered_from m ys) e
-numbered_from-append n (x ∷ xs) ys =
-    let e : n + 1 + length xs ≡ n + length (x ∷ xs) = omega arith in
-    ap (λ es. (decimal n, x) ∷ es) (numbered_from-append (n + 1) xs ys ∙ ap (λ m. numbered_from (n + 1) xs ++ numbered_from m ys) e)
+-- the branches from a position on
+abbrev pub branches_from : ℕ → List Value → List (Name × Data)
+branches_from i vs = numbered_from i (map view (drop i vs))
 
--- what the items after the one at i are numbered
-abbrev pub items_after : ℕ → List Value → List (Name × Data)
-items_after i vs = numbered_from (length (map view (take (i + 1) vs))) (map view (drop (i + 1) vs))
+module _ (i : ℕ) (vs : List Value) where
+  pub next_branch : (v : Value) → i < length vs → v ≡ get_or vs i v → branches_from i vs ≡ (decimal i, view v) ∷ branches_from (i + 1) vs
+  next_branch v l e = ap (λ xs. numbered_from i (map view xs)) (drop_more vs i v l ∙ ap (λ w. w ∷ drop (i + 1) vs) (sym e))
 
-module _ (i : ℕ) (vs : List Value) (v : Value) (l : i < length vs) (e : v ≡ get_or vs i v) where
-  taken : map view (take (i + 1) vs) ≡ map view (take i vs) ++ view v ∷ []
-  taken = ap (map view) (take_more vs i v l ∙ ap (λ w. take i vs ++ w ∷ []) (sym e)) ∙ map-append view (take i vs) (v ∷ [])
-
-  position : length (map view (take i vs)) ≡ i
-  position = length-map (take i vs) view ∙ length-take-le i vs (omega arith)
-
-  pub items_more : numbered (map view (take (i + 1) vs)) ≡ numbered (map view (take i vs)) ++ (decimal i, view v) ∷ []
-  items_more = ap numbered taken ∙ numbered_from-append 0 (map view (take i vs)) (view v ∷ [])
-      ∙ (let z : 0 + length (map view (take i vs)) ≡ i = omega (arith, position) in ap (λ n. numbered (map view (take i vs)) ++ (decimal n, view v) ∷ []) z)
-
-  pub items_whole : numbered (map view (take i vs)) ++ (decimal i, view v) ∷ items_after i vs ≡ numbered (map view vs)
-  items_whole =
-      sym (append_assoc (numbered (map view (take i vs))) ((decimal i, view v) ∷ []) (items_after i vs))
-      ∙ ap (λ es. es ++ items_after i vs) (sym items_more)
-      ∙ (let z : length (map view (take (i + 1) vs)) ≡ 0 + length (map view (take (i + 1) vs)) = omega arith in ap (λ n. numbered (map view (take (i + 1) vs)) ++ numbered_from n (map view (drop (i + 1) vs))) z)
-      ∙ sym (numbered_from-append 0 (map view (take (i + 1) vs)) (map view (drop (i + 1) vs)))
-      ∙ ap numbered (sym (map-append view (take (i + 1) vs) (drop (i + 1) vs)) ∙ ap (map view) (take-append-drop (i + 1) vs))
-
-pub items_start : (i : ℕ) (vs : List Value) → numbered (map view (take i vs)) ++ numbered_from (length (map view (take i vs))) (map view (drop i vs)) ≡ numbered (map view vs)
-items_start i vs =
-    (let z : length (map view (take i vs)) ≡ 0 + length (map view (take i vs)) = omega arith in ap (λ n. numbered (map view (take i vs)) ++ numbered_from n (map view (drop i vs))) z)
-    ∙ sym (numbered_from-append 0 (map view (take i vs)) (map view (drop i vs)))
-    ∙ ap numbered (sym (map-append view (take i vs) (drop i vs)) ∙ ap (map view) (take-append-drop i vs))
+  pub no_branch : length vs ≤ i → branches_from i vs ≡ []
+  no_branch l = ap (λ xs. numbered_from i (map view xs)) (drop_all i vs l)
 
 -- ---- no schema, and an object
 
@@ -148,12 +131,100 @@ module _ {K R : Type 0} (o : Kit K R) where
   each_push P (y ∷ ns) [] n e h s = absurd h
   each_push P (y ∷ ns) (x ∷ es) n e h s = (h.0, each_push P ns es n e h.1 s)
 
-  pub none_built : (P : Path) (a : Counts) (ns : List (SchemaNode K R)) → ns ≡ [] → AreBuilt o ns [] P a a
-  none_built P a ns e = record { stand = subst (λ x. StandEach o x [] P) (sym e) tt; clean = refl; spends = spends_nothing a }
+  -- what is wrong with an entry, what it costs, and what stands for entries
+  abbrev pub entry_wrong : Path → Name × Data → List Fault
+  entry_wrong P e = malformations_at o.world e.1 (P // e.0)
 
-  pub one_more_built : (P : Path) (ns new : List (SchemaNode K R)) (es : List (Name × Data)) (n : SchemaNode K R) (e : Name × Data) (a m b : Counts) (L : Path) → new ≡ ns ++ n ∷ [] → L ≡ P // e.0 → AreBuilt o ns es P a m → IsBuilt o n e.1 L m b → AreBuilt o new (es ++ e ∷ []) P a b
-  one_more_built P ns new es n e a m b L q p h k = record {
-    stand = subst (λ x. StandEach o x (es ++ e ∷ []) P) (sym q) (each_push P ns es n e h.stand (subst (StandsFor o n e.1) p k.stands));
-    clean = flat_map-append (λ (x : Name × Data). malformations_at o.world x.1 (P // x.0)) es (e ∷ []) ∙ (λ i. h.clean i ++ ((ap (malformations_at o.world e.1) (sym p) ∙ k.clean) i ++ []));
-    spends = spends_same a b _ (each_cost o (es ++ e ∷ [])) (sym (total_cost-append (λ e. cost o.world e.1) es (e ∷ []) ∙ ap (λ c. each_cost o es ⊕ c) (sum_last (cost o.world e.1)))) (spends_append a m b (each_cost o es) (cost o.world e.1) h.spends k.spends);
-  }
+  abbrev pub entry_costs : Name × Data → Cost
+  entry_costs e = cost o.world e.1
+
+  abbrev pub entries_stand : Path → List (SchemaNode K R) → List (Name × Data) → Type 0
+  entries_stand P ns es = StandEach o ns es P
+
+  -- nodes for the entries so far
+  abbrev pub EntriesSoFar : Path → List (Name × Data) → Counts → List (SchemaNode K R) → List (Name × Data) → Counts → Type 0
+  EntriesSoFar P all a ns left m = SoFar (entry_wrong P) entry_costs (entries_stand P) all a ns left m
+
+  module _ (P : Path) (all : List (Name × Data)) (a : Counts) where
+    pub no_entries : (ns : List (SchemaNode K R)) (left : List (Name × Data)) → ns ≡ [] → left ≡ all → EntriesSoFar P all a ns left a
+    no_entries ns left e w = none_so_far (entry_wrong P) entry_costs (entries_stand P) all a ns left (subst (λ x. StandEach o x [] P) (sym e) tt) w
+
+    pub entries_built : (ns : List (SchemaNode K R)) (left : List (Name × Data)) (m : Counts) → left ≡ [] → EntriesSoFar P all a ns left m → AreBuilt o ns all P a m
+    entries_built ns left m e h = let r = all_so_far (entry_wrong P) entry_costs (entries_stand P) all a ns left m e h in record { stand = r.stand; clean = r.clean; spends = r.spends }
+
+    pub entries_memory : (ns : List (SchemaNode K R)) (left : List (Name × Data)) (m : Counts) (e : BuildError) (w : AllocError) → e ≡ Memory w → EntriesSoFar P all a ns left m → RefusesEach o all P a m e
+    entries_memory ns left m e w q h = memory_so_far (entry_wrong P) entry_costs (entries_stand P) all a ns left m e w q h
+
+    module _ (x : Name × Data) (left rest : List (Name × Data)) (next : left ≡ x ∷ rest) (ns : List (SchemaNode K R)) (m b : Counts) (L : Path) (place : L ≡ P // x.0) (h : EntriesSoFar P all a ns left m) where
+      pub entry_refused : (e f : BuildError) → e ≡ f → RefusesSchema o x.1 L m b f → RefusesEach o all P a b e
+      entry_refused e f q r = refused_so_far (entry_wrong P) entry_costs (entries_stand P) all a x left rest next ns m b e h (subst₂ (λ M y. RefusesSchema o x.1 M m b y) place (sym q) r)
+
+      module _ (n : SchemaNode K R) (built : IsBuilt o n x.1 L m b) where
+        pub one_more_entry : (new : List (SchemaNode K R)) → new ≡ ns ++ n ∷ [] → EntriesSoFar P all a new rest b
+        one_more_entry new q = one_more_so_far (entry_wrong P) entry_costs (entries_stand P) all a x left rest next ns new m b h
+            (subst (λ y. StandEach o y (h.done ++ x ∷ []) P) (sym q) (each_push P ns h.done n x h.built.stand (subst (StandsFor o n x.1) place built.stands)))
+            (ap (malformations_at o.world x.1) (sym place) ∙ built.clean) built.spends
+
+        pub entry_memory : (e : BuildError) (w : AllocError) → e ≡ Memory w → RefusesEach o all P a b e
+        entry_memory e w q = memory_past (entry_wrong P) entry_costs (entries_stand P) all a x left rest next ns m b e w q h built.spends
+
+  -- ---- nodes for the entries of each of these
+
+  inner_push : (P : Path) (ns here : List (SchemaNode K R)) (es : List (Name × Data)) (e : Name × Data) → StandInner o ns es P → StandEach o here (members e.1) (P // e.0) → StandInner o (ns ++ here) (es ++ e ∷ []) P
+  inner_push P ns here [] e h s = (here, [], ap (λ l. l ++ here) h ∙ sym (append-nil here), s, refl)
+  inner_push P ns here (x ∷ es) e h s = (h.0, h.1 ++ here, ap (λ l. l ++ here) h.2 ∙ append_assoc h.0 h.1 here, h.3, inner_push P h.1 here es e h.4 s)
+
+  abbrev pub inner_wrong : Path → Name × Data → List Fault
+  inner_wrong P e = each_malformed o (P // e.0) (members e.1)
+
+  abbrev pub inner_costs : Name × Data → Cost
+  inner_costs e = each_cost o (members e.1)
+
+  abbrev pub inner_stand : Path → List (SchemaNode K R) → List (Name × Data) → Type 0
+  inner_stand P ns es = StandInner o ns es P
+
+  -- and for the entries of those so far
+  abbrev pub InnerSoFar : Path → List (Name × Data) → Counts → List (SchemaNode K R) → List (Name × Data) → Counts → Type 0
+  InnerSoFar P all a ns left m = SoFar (inner_wrong P) inner_costs (inner_stand P) all a ns left m
+
+  module _ (P : Path) (all : List (Name × Data)) (a : Counts) where
+    pub no_inner : (ns : List (SchemaNode K R)) (left : List (Name × Data)) → ns ≡ [] → left ≡ all → InnerSoFar P all a ns left a
+    no_inner ns left e w = none_so_far (inner_wrong P) inner_costs (inner_stand P) all a ns left e w
+
+    pub inner_built : (ns : List (SchemaNode K R)) (left : List (Name × Data)) (m : Counts) → left ≡ [] → InnerSoFar P all a ns left m → InnerAreBuilt o ns all P a m
+    inner_built ns left m e h = let r = all_so_far (inner_wrong P) inner_costs (inner_stand P) all a ns left m e h in record { stand = r.stand; clean = r.clean; spends = r.spends }
+
+    pub inner_memory : (ns : List (SchemaNode K R)) (left : List (Name × Data)) (m : Counts) (e : BuildError) (w : AllocError) → e ≡ Memory w → InnerSoFar P all a ns left m → RefusesInner o all P a m e
+    inner_memory ns left m e w q h = memory_so_far (inner_wrong P) inner_costs (inner_stand P) all a ns left m e w q h
+
+    module _ (x : Name × Data) (left rest : List (Name × Data)) (next : left ≡ x ∷ rest) (ns : List (SchemaNode K R)) (m b : Counts) (L : Path) (place : L ≡ P // x.0) (h : InnerSoFar P all a ns left m) where
+      pub inner_refused : (e f : BuildError) → e ≡ f → RefusesPlaces o Entries x.1 L m b f → RefusesInner o all P a b e
+      inner_refused e f q r = refused_so_far (inner_wrong P) inner_costs (inner_stand P) all a x left rest next ns m b e h (subst₂ (λ M y. RefusesPlaces o Entries x.1 M m b y) place (sym q) r)
+
+      module _ (here : List (SchemaNode K R)) (built : PlacesAreBuilt o Entries here x.1 L m b) where
+        pub one_more_inner : (new : List (SchemaNode K R)) → new ≡ ns ++ here → InnerSoFar P all a new rest b
+        one_more_inner new q = one_more_so_far (inner_wrong P) inner_costs (inner_stand P) all a x left rest next ns new m b h
+            (subst (λ y. StandInner o y (h.done ++ x ∷ []) P) (sym q) (inner_push P ns here h.done x h.built.stand (subst (StandEach o here (members x.1)) place built.stand)))
+            (ap (λ M. each_malformed o M (members x.1)) (sym place) ∙ built.clean) built.spends
+
+        pub more_inner_memory : (e : BuildError) (w : AllocError) → e ≡ Memory w → RefusesInner o all P a b e
+        more_inner_memory e w q = memory_past (inner_wrong P) inner_costs (inner_stand P) all a x left rest next ns m b e w q h built.spends
+
+-- ---- entries that are read
+
+module _ (e : Name × Data) (es : List (Name × Data)) where
+  pub past_an_entry : (passes : Bool) → is_read passes e.1 ≡ false → entries_read passes (e ∷ es) ≡ entries_read passes es
+  past_an_entry true r = ap (λ b. put_if b e (no_lists es)) r
+  past_an_entry false r = absurd (true≢false r)
+
+  pub at_an_entry : (passes : Bool) → is_read passes e.1 ≡ true → entries_read passes (e ∷ es) ≡ e ∷ entries_read passes es
+  at_an_entry true r = ap (λ b. put_if b e (no_lists es)) r
+  at_an_entry false r = refl
+
+pub array_known : (d : Data) → is_some (as_array d) ≡ is_array d
+array_known null = refl
+array_known (boolean b) = refl
+array_known (number n) = refl
+array_known (string s) = refl
+array_known (array ds) = refl
+array_known (object ms) = refl

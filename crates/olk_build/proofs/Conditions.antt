@@ -98,6 +98,12 @@ module _ {K R : Type 0} (o : Kit K R) (ms : Members) (read : is_condition ms ≡
       abbrev part_here : PartsAreBuilt o ms (p ∷ []) ((codes "if", d) ∷ []) P a m
       part_here = part ms P refl if_known
 
+      if_itself : reads_of p.shape ≡ Itself
+      if_itself = if_reads_itself o p.shape d part_here.stand.0.shape (subst (λ c. Fits c p.shape) read part_here.stand.0.fits)
+
+      pub if_without_node : p.nodes.items ≡ [] → ⊥
+      if_without_node e = subst (λ ns. StandAt o Itself ns d (P // codes "if")) e (subst (λ r. StandAt o r p.nodes.items d (P // codes "if")) if_itself part_here.stand.0.nodes)
+
       pub then_refused : (b : Counts) (e : BuildError) → RefusesCase (codes "then") m b e → RefusesCondition a b e
       then_refused b e h = refuses_later malformed_of cost_of ((codes "if", d) ∷ []) cases a m b e part_here.spends (refuses_first malformed_of cost_of (member_at (codes "then") ms) (member_at (codes "else") ms) m m b e h)
 
@@ -115,8 +121,7 @@ module _ {K R : Type 0} (o : Kit K R) (ms : Members) (read : is_condition ms ≡
         pub condition_is_built : (before : List (SchemaNode K R)) (schema : SchemaNode K R) (ks : List (KeywordOver K (SchemaNode K R))) → p.nodes.items ≡ before ++ schema ∷ [] → has_repeat (names_of (listed ms)) ≡ false → MakesCondition o p.location schema both_cases ks → lookup (codes "if") (listed ms) ≡ Some d → ConditionIsBuilt o ms ks d P a b
         condition_is_built before schema ks split distinct make there =
             let s = part_here.stand.0 in
-            let itself = if_reads_itself o p.shape d s.shape (subst (λ c. Fits c p.shape) read s.fits) in
-            let stands = taken_stands o p.nodes.items (Some schema) d (P // codes "if") (before, split) (subst (λ r. StandAt o r p.nodes.items d (P // codes "if")) itself s.nodes) in
+            let stands = taken_stands o p.nodes.items (Some schema) d (P // codes "if") (before, split) (subst (λ r. StandAt o r p.nodes.items d (P // codes "if")) if_itself s.nodes) in
             record {
               means = make ms d P s.place (subst (StandsFor o schema d) (sym s.place) stands) (at_then.stands, at_else.stands) distinct there read;
               clean = λ i. (sym (append-nil _) ∙ part_here.clean) i ++ (flat_map-append malformed_of (member_at (codes "then") ms) (member_at (codes "else") ms) ∙ (λ j. at_then.clean j ++ at_else.clean j)) i;

@@ -1,3 +1,4 @@
+mod SoFar
 pub mod Built
 mod Parts
 mod Modules

@@ -1,5 +1,5 @@
 -- What a keyword's module builds of the keyword's part.
-use Rattle.std.specs.Prelude.{◌≡◌, ℕ, suc, ◌+◌, Bool, true, false, List, [], ◌∷◌, map, length, codes, Some, Vec, String}
+use Rattle.std.specs.Prelude.{◌≡◌, ℕ, suc, ◌+◌, Bool, true, false, List, [], ◌∷◌, map, length, codes, Option, Some, Vec, String}
 use Rattle.std.specs.List.{enumerate_from}
 use Rattle.std.specs.declared.alloc.Global.{Global}
 use Rattle.std.specs.declared.alloc.AllocError.{AllocError}
@@ -11,8 +11,8 @@ use Rattle.serde_json.specs.Data.{Data, Members, no_members}
 use Rattle.serde_json.specs.View.{view}
 use Rattle.serde_json.specs.declared.value.Value.{Value}
 use Rattle.olk_spec.specs.Names.{Name, Path, ◌//◌, lookup}
-use Rattle.olk_spec.specs.Vocabulary.{Keyword, properties, required, all_of, any_of, one_of, not_keyword, if_keyword, then_keyword, else_keyword, leaf, unread, keyword_named}
-use Rattle.olk_spec.specs.Schemas.{listed, numbered}
+use Rattle.olk_spec.specs.Vocabulary.{Keyword, properties, required, dependent_required, dependent_schemas, dependencies, property_names, property_dependencies, all_of, any_of, one_of, not_keyword, if_keyword, then_keyword, else_keyword, leaf, unread, keyword_named}
+use Rattle.olk_spec.specs.Schemas.{listed, members, numbered}
 use Rattle.olk_spec.specs.Malformed.{has_repeat, items_of_array}
 use Rattle.olk_base.specs.Count.{Counts}
 use Rattle.olk_reports.specs.declared.error.BuildError.{BuildError}
@@ -23,7 +23,7 @@ use Rattle.olk_tree.specs.declared.node.KeywordOver.{KeywordOver}
 use Rattle.olk_tree.specs.declared.node.KeywordOver.TheVariants as keyword
 use Rattle.olk_members.specs.Conditions.{is_condition, is_conditional_name, IsKnown}
 use Rattle.olk_members.specs.Plans.{Planned, plan_of, head, claims}
-use Rattle.olk_make.specs.Forms.{IsFormOfAllOf, IsFormOfAnyOf, IsFormOfOneOf, IsAllOf, IsAnyOf, IsOneOf, IsNot, IsRequired, IsProperties}
+use Rattle.olk_make.specs.Forms.{IsFormOfAllOf, IsFormOfAnyOf, IsFormOfOneOf, IsAllOf, IsAnyOf, IsOneOf, IsNot, IsRequired, IsProperties, IsDependencies, IsPropertyDependencies}
 use Rattle.olk_make.specs.Holding.{StandEach}
 use Rattle.olk_build.specs.Building.{RefusesMember}
 use Rattle.olk_read.specs.Reading.{reads_of, IsShape}
@@ -33,7 +33,7 @@ use Rattle.olk_make.specs.Making.{KeywordsMean, MakesMember, MakesClaims}
 use Rattle.olk_build.specs.Parts.{MemberIsBuilt, ClaimsAreBuilt}
 use Rattle.olk_make.specs.declared.part.Part.{Part}
 use Rattle.olk_read.specs.declared.shape.Shape.{Shape}
-use Rattle.olk_read.specs.declared.shape.ReadPlaces.TheVariants.{Itself}
+use Rattle.olk_read.specs.declared.shape.ReadPlaces.TheVariants.{Nothing, Itself}
 use Rattle.olk_read.specs.declared.shape.Shape.TheVariants as shape
 use Rattle.olk_spec.proofs.CostSums.{sum_last}
 use Rattle.olk_read.proofs.Spending.{spends_same, refuses_memory, within_exactly}
@@ -62,6 +62,22 @@ is_one_of w = false
 abbrev is_not : Keyword → Bool
 is_not not_keyword = true
 is_not w = false
+
+abbrev is_dependent_required : Keyword → Bool
+is_dependent_required dependent_required = true
+is_dependent_required w = false
+
+abbrev is_dependent_schemas : Keyword → Bool
+is_dependent_schemas dependent_schemas = true
+is_dependent_schemas w = false
+
+abbrev is_dependencies : Keyword → Bool
+is_dependencies dependencies = true
+is_dependencies w = false
+
+abbrev is_property_dependencies : Keyword → Bool
+is_property_dependencies property_dependencies = true
+is_property_dependencies w = false
 
 -- ---- how many
 
@@ -100,6 +116,13 @@ module _ {K R : Type 0} (o : Kit K R) where
   abbrev which_of : Shape K → Keyword
   which_of (shape.Properties n) = properties
   which_of (shape.Required v) = required
+  which_of (shape.DependentRequired n v) = dependent_required
+  which_of (shape.DependentSchemas n) = dependent_schemas
+  which_of (shape.Dependencies n v) = dependencies
+  which_of (shape.PropertyDependencies n v) = property_dependencies
+  which_of shape.PropertyNames = property_names
+  which_of shape.NoNames = property_names
+  which_of shape.AnyNames = property_names
   which_of shape.AllOf = all_of
   which_of shape.AnyOf = any_of
   which_of shape.OneOf = one_of
@@ -114,6 +137,13 @@ module _ {K R : Type 0} (o : Kit K R) where
   shape_named : (x : Shape K) (k : Name) (d : Data) → IsShape o k d x → is_conditional_name k ≡ false → keyword_named o.world k ≡ which_of x
   shape_named (shape.Properties n) k d s other = ap (keyword_named o.world) s.0
   shape_named (shape.Required v) k d s other = ap (keyword_named o.world) s.0
+  shape_named (shape.DependentRequired n v) k d s other = ap (keyword_named o.world) s.0
+  shape_named (shape.DependentSchemas n) k d s other = ap (keyword_named o.world) s.0
+  shape_named (shape.Dependencies n v) k d s other = ap (keyword_named o.world) s.0
+  shape_named (shape.PropertyDependencies n v) k d s other = ap (keyword_named o.world) s.0
+  shape_named shape.PropertyNames k d s other = ap (keyword_named o.world) s.0
+  shape_named shape.NoNames k d s other = ap (keyword_named o.world) s.0
+  shape_named shape.AnyNames k d s other = ap (keyword_named o.world) s.0
   shape_named shape.AllOf k d s other = ap (keyword_named o.world) s.0
   shape_named shape.AnyOf k d s other = ap (keyword_named o.world) s.0
   shape_named shape.OneOf k d s other = ap (keyword_named o.world) s.0
@@ -149,6 +179,22 @@ module _ {K R : Type 0} (o : Kit K R) where
   only_required (shape.Required v) e = (v, refl)
   only_required x e = absurd (true≢false (ap is_required e))
 
+  only_dependent_required : (x : Shape K) → dependent_required ≡ which_of x → (n : List Name) × (v : Vec (Vec (String Global) Global) Global) × (x ≡ shape.DependentRequired n v)
+  only_dependent_required (shape.DependentRequired n v) e = (n, v, refl)
+  only_dependent_required x e = absurd (true≢false (ap is_dependent_required e))
+
+  only_dependent_schemas : (x : Shape K) → dependent_schemas ≡ which_of x → (n : List Name) × (x ≡ shape.DependentSchemas n)
+  only_dependent_schemas (shape.DependentSchemas n) e = (n, refl)
+  only_dependent_schemas x e = absurd (true≢false (ap is_dependent_schemas e))
+
+  only_dependencies : (x : Shape K) → dependencies ≡ which_of x → (n : List Name) × (v : Vec (Option (Vec (String Global) Global)) Global) × (x ≡ shape.Dependencies n v)
+  only_dependencies (shape.Dependencies n v) e = (n, v, refl)
+  only_dependencies x e = absurd (true≢false (ap is_dependencies e))
+
+  only_property_dependencies : (x : Shape K) → property_dependencies ≡ which_of x → (n : List Name) × (v : Vec (List Name) Global) × (x ≡ shape.PropertyDependencies n v)
+  only_property_dependencies (shape.PropertyDependencies n v) e = (n, v, refl)
+  only_property_dependencies x e = absurd (true≢false (ap is_property_dependencies e))
+
   -- ---- a part at its name, below P
 
   module _ (p : Part K (SchemaNode K R)) (c : Bool) (k : Name) (d : Data) (P : Path) (a b : Counts) (h : IsPart o p c k d (P // k) a b) (other : is_conditional_name k ≡ false) where
@@ -178,8 +224,22 @@ module _ {K R : Type 0} (o : Kit K R) where
           spends = spends_same a b _ _ (sum_last _) built.spends;
         }
 
+    -- the shape that the part has
+    module _ (x : Shape K) (q : p.shape ≡ x) where
+      pub shape_is : IsShape o k d x
+      shape_is = subst (IsShape o k d) q stands.shape
+
+      pub built_of_shape : (ks : List (KeywordOver K (SchemaNode K R))) → MakesMember o x p.location p.nodes.items ks → (ms : Members) (Q : Path) → P // k ≡ Q // k → MemberIsBuilt o ms ks (k, d) Q a b
+      built_of_shape ks make = member_built ks (subst (λ y. MakesMember o y p.location p.nodes.items ks) (sym q) make)
+
+      pub built_without_nodes : reads_of x ≡ Nothing → (ks : List (KeywordOver K (SchemaNode K R))) → MakesMember o x p.location [] ks → (ms : Members) (Q : Path) → P // k ≡ Q // k → MemberIsBuilt o ms ks (k, d) Q a b
+      built_without_nodes r ks make = built_of_shape ks (subst (λ ns. MakesMember o x p.location ns ks) (sym none) make)
+        where
+          none : p.nodes.items ≡ []
+          none = subst (λ y. StandAt o y p.nodes.items d (P // k)) (ap reads_of q ∙ r) stands.nodes
+
     -- what is built is lost for want of memory
-    memory_after : (e : BuildError) (m : AllocError) → e ≡ Memory m → RefusesMember o k d (P // k) a b e
+    pub memory_after : (e : BuildError) (m : AllocError) → e ≡ Memory m → RefusesMember o k d (P // k) a b e
     memory_after e m q ms Q f = refuses_memory _ _ a b e m q (within_exactly a b _ (spends_same a b _ _ (sum_last _) (h ms Q f (known ms)).spends))
 
   -- ---- keyword by keyword
@@ -276,3 +336,31 @@ module _ {K R : Type 0} (o : Kit K R) where
 
         pub properties_is_formed : (k : KeywordOver K (SchemaNode K R)) → IsProperties P p.location r.fused k → IsProperties P (P // codes "properties") (plan_of ms).fused k
         properties_is_formed k f = subst₂ (λ L t. IsProperties P L t k) (stands p c (codes "properties") d P a b h refl).place (ap (λ x. x.fused) chosen) f
+
+    module _ (h : IsPart o p c (codes "dependentRequired") d (P // codes "dependentRequired") a b) where
+      pub no_other_dependent_required : ((n : List Name) (v : Vec (Vec (String Global) Global) Global) → p.shape ≡ shape.DependentRequired n v → ⊥) → ⊥
+      no_other_dependent_required f = let r = only_dependent_required p.shape (shape_named p.shape (codes "dependentRequired") d (stands p c (codes "dependentRequired") d P a b h refl).shape refl) in f r.0 r.1 r.2
+
+      pub dependent_required_is_formed : (n : List Name) (v : Vec (Vec (String Global) Global) Global) → p.shape ≡ shape.DependentRequired n v → (k : KeywordOver K (SchemaNode K R)) → IsDependencies p.location n k → IsDependencies (P // codes "dependentRequired") (map (λ e. e.0) (members d)) k
+      dependent_required_is_formed n v q k f = subst₂ (λ L ns. IsDependencies L ns k) (stands p c (codes "dependentRequired") d P a b h refl).place (shape_is p c (codes "dependentRequired") d P a b h refl _ q).2 f
+
+    module _ (h : IsPart o p c (codes "dependentSchemas") d (P // codes "dependentSchemas") a b) where
+      pub no_other_dependent_schemas : ((n : List Name) → p.shape ≡ shape.DependentSchemas n → ⊥) → ⊥
+      no_other_dependent_schemas f = let r = only_dependent_schemas p.shape (shape_named p.shape (codes "dependentSchemas") d (stands p c (codes "dependentSchemas") d P a b h refl).shape refl) in f r.0 r.1
+
+      pub dependent_schemas_is_formed : (n : List Name) → p.shape ≡ shape.DependentSchemas n → (k : KeywordOver K (SchemaNode K R)) → IsDependencies p.location n k → IsDependencies (P // codes "dependentSchemas") (map (λ e. e.0) (members d)) k
+      dependent_schemas_is_formed n q k f = subst₂ (λ L ns. IsDependencies L ns k) (stands p c (codes "dependentSchemas") d P a b h refl).place (shape_is p c (codes "dependentSchemas") d P a b h refl _ q).2 f
+
+    module _ (h : IsPart o p c (codes "dependencies") d (P // codes "dependencies") a b) where
+      pub no_other_dependencies : ((n : List Name) (v : Vec (Option (Vec (String Global) Global)) Global) → p.shape ≡ shape.Dependencies n v → ⊥) → ⊥
+      no_other_dependencies f = let r = only_dependencies p.shape (shape_named p.shape (codes "dependencies") d (stands p c (codes "dependencies") d P a b h refl).shape refl) in f r.0 r.1 r.2
+
+      pub dependencies_is_formed : (n : List Name) (v : Vec (Option (Vec (String Global) Global)) Global) → p.shape ≡ shape.Dependencies n v → (k : KeywordOver K (SchemaNode K R)) → IsDependencies p.location n k → IsDependencies (P // codes "dependencies") (map (λ e. e.0) (members d)) k
+      dependencies_is_formed n v q k f = subst₂ (λ L ns. IsDependencies L ns k) (stands p c (codes "dependencies") d P a b h refl).place (shape_is p c (codes "dependencies") d P a b h refl _ q).2 f
+
+    module _ (h : IsPart o p c (codes "propertyDependencies") d (P // codes "propertyDependencies") a b) where
+      pub no_other_property_dependencies : ((n : List Name) (v : Vec (List Name) Global) → p.shape ≡ shape.PropertyDependencies n v → ⊥) → ⊥
+      no_other_property_dependencies f = let r = only_property_dependencies p.shape (shape_named p.shape (codes "propertyDependencies") d (stands p c (codes "propertyDependencies") d P a b h refl).shape refl) in f r.0 r.1 r.2
+
+      pub property_dependencies_is_formed : (n : List Name) (v : Vec (List Name) Global) → p.shape ≡ shape.PropertyDependencies n v → (k : KeywordOver K (SchemaNode K R)) → IsPropertyDependencies p.location n v.items k → IsPropertyDependencies (P // codes "propertyDependencies") (map (λ e. e.0) (members d)) (map (λ e. map (λ c. c.0) (members e.1)) (members d)) k
+      property_dependencies_is_formed n v q k f = let s = shape_is p c (codes "propertyDependencies") d P a b h refl _ q in subst (λ L. IsPropertyDependencies L (map (λ e. e.0) (members d)) (map (λ e. map (λ c. c.0) (members e.1)) (members d)) k) (stands p c (codes "propertyDependencies") d P a b h refl).place (subst₂ (λ ns ts. IsPropertyDependencies p.location ns ts k) s.2 s.3 f)

@@ -21,9 +21,10 @@ use Rattle.olk_reports.specs.declared.error.BuildError.{BuildError}
 use Rattle.olk_reports.specs.declared.error.BuildError.TheVariants.{Memory}
 use Rattle.std.specs.declared.alloc.AllocError.{AllocError}
 use Rattle.olk_base.specs.Kit.{Kit}
+use Rattle.olk_members.specs.Dependencies.{schema_entries}
 use Rattle.olk_members.specs.Members.{malformations_at, member_malformations, member_cost}
 use Rattle.olk_read.specs.Refusing.{Spends, SpendsWithin, Refuses}
-use Rattle.olk_build.specs.Building.{RefusesMember, RefusesPart, each_malformed, each_cost, all_cost}
+use Rattle.olk_build.specs.Building.{RefusesMember, RefusesPart, each_malformed, each_cost, inner_malformed, inner_cost, all_cost}
 use Rattle.olk_read.specs.Reading.{reads_of, own_faults, own_cost_of, IsShape, Fits, IsRead}
 use Rattle.olk_members.specs.Conditions.{is_condition, is_conditional_name, IsKnown}
 use Rattle.olk_members.proofs.Conditions.{conditional_named, places_by_condition}
@@ -34,6 +35,9 @@ use Rattle.olk_make.specs.declared.part.Part.{Part}
 use Rattle.olk_read.specs.declared.shape.Shape.{Shape}
 use Rattle.olk_read.specs.declared.shape.Shape.TheVariants as shape
 use Rattle.olk_members.proofs.Facts.{numbered-map, each_malformations, each_costs}
+use Rattle.olk_members.proofs.Dependencies.{dependent_schemas_places, dependencies_places}
+use Rattle.olk_members.proofs.PropertyNames.{false_is_no_object, property_names_places, other_names_places}
+use Rattle.olk_members.proofs.PropertyDependencies.{property_dependencies_places, inner_malformations, inner_costs}
 use Rattle.olk_spec.proofs.CostSums.{sum_first, sum_last, total_cost-append}
 use Rattle.olk_read.proofs.Spending.{spends_nothing, spends_append, spends_same, within_after, within_before, within_same, within_nothing, refuses_memory, tells_left, tells_right, tells_same}
 
@@ -60,6 +64,19 @@ module _ {K R : Type 0} (o : Kit K R) where
     places_found k P (shape.Properties n) s c f h = subst (λ n. found n P (keyword_named o.world n) ≡ each_malformed o (P // n) (members d)) (sym s.0)
         (ap (λ es. flat_map (λ r. r.0.answer (down P r.1)) (each (codes "properties") es)) (entries_read (malformations_step o.world pending) d) ∙ each_malformations o.world (codes "properties") P (members d))
     places_found k P (shape.Required v) s c f h = subst (λ n. found n P (keyword_named o.world n) ≡ []) (sym s.0) refl
+    places_found k P (shape.DependentRequired n v) s c f h = subst (λ n. found n P (keyword_named o.world n) ≡ []) (sym s.0) refl
+    places_found k P (shape.DependentSchemas n) s c f h = subst (λ n. found n P (keyword_named o.world n) ≡ each_malformed o (P // n) (members d)) (sym s.0)
+        (ap (flat_map (λ r. r.0.answer (down P r.1))) (dependent_schemas_places (malformations_step o.world pending) d (codes "dependentSchemas") (read_members (malformations_step o.world pending) ms)) ∙ each_malformations o.world (codes "dependentSchemas") P (members d))
+    places_found k P (shape.Dependencies n v) s c f h = subst (λ n. found n P (keyword_named o.world n) ≡ each_malformed o (P // n) (schema_entries d)) (sym s.0)
+        (ap (flat_map (λ r. r.0.answer (down P r.1))) (dependencies_places (malformations_step o.world pending) d (codes "dependencies") (read_members (malformations_step o.world pending) ms)) ∙ each_malformations o.world (codes "dependencies") P (schema_entries d))
+    places_found k P (shape.PropertyDependencies n v) s c f h = subst (λ n. found n P (keyword_named o.world n) ≡ inner_malformed o (P // n) (members d)) (sym s.0)
+        (ap (flat_map (λ r. r.0.answer (down P r.1))) (property_dependencies_places (malformations_step o.world pending) d (codes "propertyDependencies") (read_members (malformations_step o.world pending) ms)) ∙ inner_malformations o.world d (codes "propertyDependencies") P)
+    places_found k P shape.PropertyNames s c f h = subst (λ n. found n P (keyword_named o.world n) ≡ malformations_at o.world d (P // n)) (sym s.0)
+        (ap (flat_map (λ r. r.0.answer (down P r.1))) (property_names_places (malformations_step o.world pending) d (codes "propertyNames") (read_members (malformations_step o.world pending) ms) s.1) ∙ append-nil _)
+    places_found k P shape.NoNames s c f h = subst (λ n. found n P (keyword_named o.world n) ≡ []) (sym s.0)
+        (ap (flat_map (λ r. r.0.answer (down P r.1))) (other_names_places (malformations_step o.world pending) d (codes "propertyNames") (read_members (malformations_step o.world pending) ms) (false_is_no_object d s.1)))
+    places_found k P shape.AnyNames s c f h = subst (λ n. found n P (keyword_named o.world n) ≡ []) (sym s.0)
+        (ap (flat_map (λ r. r.0.answer (down P r.1))) (other_names_places (malformations_step o.world pending) d (codes "propertyNames") (read_members (malformations_step o.world pending) ms) s.1))
     places_found k P shape.AllOf s c f h = subst (λ n. found n P (keyword_named o.world n) ≡ each_malformed o (P // n) (numbered (items_of_array d))) (sym s.0)
         (ap (λ es. flat_map (λ r. r.0.answer (down P r.1)) (each (codes "allOf") es)) (branch_entries (malformations_step o.world pending) d) ∙ each_malformations o.world (codes "allOf") P (numbered (items_of_array d)))
     places_found k P shape.AnyOf s c f h = subst (λ n. found n P (keyword_named o.world n) ≡ each_malformed o (P // n) (numbered (items_of_array d))) (sym s.0)
@@ -83,6 +100,19 @@ module _ {K R : Type 0} (o : Kit K R) where
     places_summed k (shape.Properties n) s c f h = subst (λ n. summed n (keyword_named o.world n) ≡ each_cost o (members d)) (sym s.0)
         (ap (λ es. total_cost (λ r. r.0.answer) (each (codes "properties") es)) (entries_read (cost_step o.world) d) ∙ each_costs o.world (codes "properties") (members d))
     places_summed k (shape.Required v) s c f h = subst (λ n. summed n (keyword_named o.world n) ≡ no_cost) (sym s.0) refl
+    places_summed k (shape.DependentRequired n v) s c f h = subst (λ n. summed n (keyword_named o.world n) ≡ no_cost) (sym s.0) refl
+    places_summed k (shape.DependentSchemas n) s c f h = subst (λ n. summed n (keyword_named o.world n) ≡ each_cost o (members d)) (sym s.0)
+        (ap (total_cost (λ r. r.0.answer)) (dependent_schemas_places (cost_step o.world) d (codes "dependentSchemas") (read_members (cost_step o.world) ms)) ∙ each_costs o.world (codes "dependentSchemas") (members d))
+    places_summed k (shape.Dependencies n v) s c f h = subst (λ n. summed n (keyword_named o.world n) ≡ each_cost o (schema_entries d)) (sym s.0)
+        (ap (total_cost (λ r. r.0.answer)) (dependencies_places (cost_step o.world) d (codes "dependencies") (read_members (cost_step o.world) ms)) ∙ each_costs o.world (codes "dependencies") (schema_entries d))
+    places_summed k (shape.PropertyDependencies n v) s c f h = subst (λ n. summed n (keyword_named o.world n) ≡ inner_cost o (members d)) (sym s.0)
+        (ap (total_cost (λ r. r.0.answer)) (property_dependencies_places (cost_step o.world) d (codes "propertyDependencies") (read_members (cost_step o.world) ms)) ∙ inner_costs o.world d (codes "propertyDependencies"))
+    places_summed k shape.PropertyNames s c f h = subst (λ n. summed n (keyword_named o.world n) ≡ cost o.world d) (sym s.0)
+        (ap (total_cost (λ r. r.0.answer)) (property_names_places (cost_step o.world) d (codes "propertyNames") (read_members (cost_step o.world) ms) s.1) ∙ sum_last _)
+    places_summed k shape.NoNames s c f h = subst (λ n. summed n (keyword_named o.world n) ≡ no_cost) (sym s.0)
+        (ap (total_cost (λ r. r.0.answer)) (other_names_places (cost_step o.world) d (codes "propertyNames") (read_members (cost_step o.world) ms) (false_is_no_object d s.1)))
+    places_summed k shape.AnyNames s c f h = subst (λ n. summed n (keyword_named o.world n) ≡ no_cost) (sym s.0)
+        (ap (total_cost (λ r. r.0.answer)) (other_names_places (cost_step o.world) d (codes "propertyNames") (read_members (cost_step o.world) ms) s.1))
     places_summed k shape.AllOf s c f h = subst (λ n. summed n (keyword_named o.world n) ≡ each_cost o (numbered (items_of_array d))) (sym s.0)
         (ap (λ es. total_cost (λ r. r.0.answer) (each (codes "allOf") es)) (branch_entries (cost_step o.world) d) ∙ each_costs o.world (codes "allOf") (numbered (items_of_array d)))
     places_summed k shape.AnyOf s c f h = subst (λ n. summed n (keyword_named o.world n) ≡ each_cost o (numbered (items_of_array d))) (sym s.0)
@@ -103,6 +133,13 @@ module _ {K R : Type 0} (o : Kit K R) where
     own_of_shape : (k : Name) (x : Shape K) → IsShape o k d x → owned (keyword_named o.world k) ≡ own_cost_of (keyword_named o.world k)
     own_of_shape k (shape.Properties n) s = subst (λ n. owned (keyword_named o.world n) ≡ own_cost_of (keyword_named o.world n)) (sym s.0) refl
     own_of_shape k (shape.Required v) s = subst (λ n. owned (keyword_named o.world n) ≡ own_cost_of (keyword_named o.world n)) (sym s.0) refl
+    own_of_shape k (shape.DependentRequired n v) s = subst (λ n. owned (keyword_named o.world n) ≡ own_cost_of (keyword_named o.world n)) (sym s.0) refl
+    own_of_shape k (shape.DependentSchemas n) s = subst (λ n. owned (keyword_named o.world n) ≡ own_cost_of (keyword_named o.world n)) (sym s.0) refl
+    own_of_shape k (shape.Dependencies n v) s = subst (λ n. owned (keyword_named o.world n) ≡ own_cost_of (keyword_named o.world n)) (sym s.0) refl
+    own_of_shape k (shape.PropertyDependencies n v) s = subst (λ n. owned (keyword_named o.world n) ≡ own_cost_of (keyword_named o.world n)) (sym s.0) refl
+    own_of_shape k shape.PropertyNames s = subst (λ n. owned (keyword_named o.world n) ≡ own_cost_of (keyword_named o.world n)) (sym s.0) refl
+    own_of_shape k shape.NoNames s = subst (λ n. owned (keyword_named o.world n) ≡ own_cost_of (keyword_named o.world n)) (sym s.0) refl
+    own_of_shape k shape.AnyNames s = subst (λ n. owned (keyword_named o.world n) ≡ own_cost_of (keyword_named o.world n)) (sym s.0) refl
     own_of_shape k shape.AllOf s = subst (λ n. owned (keyword_named o.world n) ≡ own_cost_of (keyword_named o.world n)) (sym s.0) refl
     own_of_shape k shape.AnyOf s = subst (λ n. owned (keyword_named o.world n) ≡ own_cost_of (keyword_named o.world n)) (sym s.0) refl
     own_of_shape k shape.OneOf s = subst (λ n. owned (keyword_named o.world n) ≡ own_cost_of (keyword_named o.world n)) (sym s.0) refl

@@ -1,10 +1,10 @@
 -- What building a node, or a part of one, promises.
-use Rattle.std.specs.Prelude.{◌≡◌, Bool, List, []}
+use Rattle.std.specs.Prelude.{◌≡◌, Bool, true, false, not, List, []}
 use Rattle.std.specs.List.{flat_map}
 use Rattle.serde_json.specs.Data.{Data, Members}
-use Rattle.olk_spec.specs.Names.{Name, Path, ◌//◌}
+use Rattle.olk_spec.specs.Names.{Name, Path, ◌//◌, those}
 use Rattle.olk_spec.specs.Faults.{Fault}
-use Rattle.olk_spec.specs.Schemas.{listed}
+use Rattle.olk_spec.specs.Schemas.{listed, members, is_array}
 use Rattle.olk_spec.specs.Costs.{Cost, cost, total_cost}
 use Rattle.olk_base.specs.Count.{Counts}
 use Rattle.olk_reports.specs.declared.error.BuildError.{BuildError}
@@ -14,7 +14,20 @@ use Rattle.olk_members.specs.Conditions.{IsKnown}
 use Rattle.olk_members.specs.Members.{malformations_at, member_malformations, member_cost}
 use Rattle.olk_node.specs.declared.node.SchemaNode.{SchemaNode}
 use Rattle.olk_read.specs.Refusing.{Spends, Refuses}
-use Rattle.olk_make.specs.Holding.{StandEach, which, all_malformed}
+use Rattle.olk_make.specs.Holding.{StandEach, StandInner, which, all_malformed}
+
+-- the entries that are no lists
+abbrev pub no_lists : List (Name × Data) → List (Name × Data)
+no_lists es = those (λ e. not (is_array e.1)) es
+
+-- the entries that are read as schemas, and whether one is: each, but for lists where these are passed over
+abbrev pub entries_read : Bool → List (Name × Data) → List (Name × Data)
+entries_read true es = no_lists es
+entries_read false es = es
+
+abbrev pub is_read : Bool → Data → Bool
+is_read true d = not (is_array d)
+is_read false d = true
 
 module _ {K R : Type 0} (o : Kit K R) where
   -- ---- a node for a schema at a place
@@ -42,6 +55,22 @@ module _ {K R : Type 0} (o : Kit K R) where
 
   abbrev pub RefusesEach : List (Name × Data) → Path → Counts → Counts → BuildError → Type 0
   RefusesEach es P old new e = Refuses (each_malformed P es) (each_cost es) old new e
+
+  -- ---- nodes for the entries of each of these
+
+  abbrev pub inner_malformed : Path → List (Name × Data) → List Fault
+  inner_malformed P es = flat_map (λ e. each_malformed (P // e.0) (members e.1)) es
+
+  abbrev pub inner_cost : List (Name × Data) → Cost
+  inner_cost es = total_cost (λ e. each_cost (members e.1)) es
+
+  pub record InnerAreBuilt (ns : List (SchemaNode K R)) (es : List (Name × Data)) (P : Path) (old new : Counts) : Type 0 where
+    pub stand : StandInner o ns es P
+    pub clean : inner_malformed P es ≡ []
+    pub spends : Spends old new (inner_cost es)
+
+  abbrev pub RefusesInner : List (Name × Data) → Path → Counts → Counts → BuildError → Type 0
+  RefusesInner es P old new e = Refuses (inner_malformed P es) (inner_cost es) old new e
 
   -- ---- parts of the schema object with the members ms at P
 

@@ -12,11 +12,11 @@ use Rattle.olk_base.specs.Kit.{Kit}
 use Rattle.olk_members.specs.Conditions.{is_condition, IsKnown}
 use Rattle.olk_members.specs.Members.{malformations_at}
 use Rattle.olk_read.specs.Refusing.{Spends, Refuses}
-use Rattle.olk_build.specs.Building.{each_malformed, each_cost, all_cost}
+use Rattle.olk_build.specs.Building.{no_lists, each_malformed, each_cost, inner_malformed, inner_cost, all_cost}
 use Rattle.olk_make.specs.Holding.{all_malformed}
 use Rattle.olk_node.specs.declared.node.SchemaNode.{SchemaNode}
 use Rattle.olk_read.specs.declared.shape.ReadPlaces.{ReadPlaces}
-use Rattle.olk_read.specs.declared.shape.ReadPlaces.TheVariants.{Nothing, Itself, Entries, Branches}
+use Rattle.olk_read.specs.declared.shape.ReadPlaces.TheVariants.{Nothing, Itself, Entries, SchemaEntries, InnerEntries, Branches}
 use Rattle.olk_make.specs.declared.part.Part.{Part}
 use Rattle.olk_make.specs.Standing.{StandAt, PartsStand}
 
@@ -25,12 +25,16 @@ module _ {K R : Type 0} (o : Kit K R) where
   places_malformed Nothing d L = []
   places_malformed Itself d L = malformations_at o.world d L
   places_malformed Entries d L = each_malformed o L (members d)
+  places_malformed SchemaEntries d L = each_malformed o L (no_lists (members d))
+  places_malformed InnerEntries d L = inner_malformed o L (members d)
   places_malformed Branches d L = each_malformed o L (numbered (items_of_array d))
 
   abbrev pub places_cost : ReadPlaces → Data → Cost
   places_cost Nothing d = no_cost
   places_cost Itself d = cost o.world d
   places_cost Entries d = each_cost o (members d)
+  places_cost SchemaEntries d = each_cost o (no_lists (members d))
+  places_cost InnerEntries d = inner_cost o (members d)
   places_cost Branches d = each_cost o (numbered (items_of_array d))
 
   abbrev pub RefusesPlaces : ReadPlaces → Data → Path → Counts → Counts → BuildError → Type 0

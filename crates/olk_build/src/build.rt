@@ -8,7 +8,7 @@ ghost use Rattle.olk_reports.specs.Paths.{one_below};
 ghost use Rattle.olk_base.specs.Kit.{kit, world};
 ghost use Rattle.olk_node.specs.Stands.{StandsFor};
 ghost use Rattle.olk_members.specs.Members.{malformations_at};
-ghost use Rattle.olk_build.specs.Building.{IsBuilt, AreBuilt, RefusesSchema, RefusesEach, RefusesObject, RefusesPart};
+ghost use Rattle.olk_build.specs.Building.{IsBuilt, AreBuilt, InnerAreBuilt, is_read, entries_read, RefusesSchema, RefusesEach, RefusesInner, RefusesObject, RefusesPart};
 ghost use Rattle.olk_members.specs.Conditions.{is_condition};
 ghost use Rattle.olk_read.specs.Refusing.{TellsOneOf, Spends, SpendsWithin};
 ghost use Rattle.olk_build.specs.Placing.{ObjectIsParted, IsPart, PlacesAreBuilt, RefusesPlaces};
@@ -18,7 +18,7 @@ use olk_base::{MakeLeaf, MakeRegex, Meter};
 use olk_make::{Part, make_keywords};
 use olk_members::is_condition;
 use olk_node::SchemaNode;
-use olk_read::{Makers, ReadPlaces, append, one, read_keyword, refuse};
+use olk_read::{Makers, ReadPlaces, append, append_all, one, read_keyword, refuse};
 use olk_reports::{BuildError, Location, ValidationErrorKind};
 use olk_tree::node::Body;
 use serde_json::{Map, Value};
@@ -84,7 +84,7 @@ fn compile_parts<'a, L: MakeLeaf, M: MakeRegex>(
         (members_view members.now.entries) place.now meter.old meter.new) }
 {
     let condition = is_condition(members);
-    let mut parts = Vec::new(alloc);
+    let mut parts = Vec::with_capacity(alloc, members.len())?;
     for (name, value) in members {
         let location = place.join(alloc, name.as_str())?;
         let part = compile_part(
@@ -160,7 +160,19 @@ fn compile_places<'a, L: MakeLeaf, M: MakeRegex>(
             let Value::Object(map) = value else {
                 return Ok(Vec::new(alloc));
             };
-            Ok(compile_entries(alloc, makers, meter, location, map)?)
+            Ok(compile_entries(alloc, makers, meter, location, false, map)?)
+        }
+        ReadPlaces::SchemaEntries => {
+            let Value::Object(map) = value else {
+                return Ok(Vec::new(alloc));
+            };
+            Ok(compile_entries(alloc, makers, meter, location, true, map)?)
+        }
+        ReadPlaces::InnerEntries => {
+            let Value::Object(map) = value else {
+                return Ok(Vec::new(alloc));
+            };
+            Ok(compile_inner_entries(alloc, makers, meter, location, map)?)
         }
         ReadPlaces::Branches => {
             let Value::Array(items) = value else {
@@ -171,29 +183,69 @@ fn compile_places<'a, L: MakeLeaf, M: MakeRegex>(
     }
 }
 
-/// The nodes of the entries of an object, each below the place under its name.
+/// Whether an entry of an object is read as a schema: each is, but for arrays where these are passed over.
+fn is_read(passes_arrays: bool, entry: &Value) -> bool
+    ensures { result ≡ is_read passes_arrays (view entry.now) }
+{
+    !(passes_arrays && entry.is_array())
+}
+
+/// The nodes of the entries of an object that are read, each below the place under its name.
 ///
 /// # Errors
 ///
-/// One of the entries' malformations; else want of memory.
+/// One of these entries' malformations; else want of memory.
 #[cycle(compile)]
 fn compile_entries<'a, L: MakeLeaf, M: MakeRegex>(
     alloc: Global,
     makers: &Makers<'_, L, M>,
     meter: &mut Meter,
     place: &Location,
+    passes_arrays: bool,
     map: &'a Map<String, Value>,
 ) -> Result<Vec<SchemaNode<L::Leaf, M::Engine>>, BuildError<'a>>
     ensures built { IfOk result (λ ns. AreBuilt (kit L.Leaf.Leaf M.Engine.RegexEngine) ns.items
-        (listed (members_view map.now.entries)) place.now meter.old meter.new) }
+        (entries_read passes_arrays (listed (members_view map.now.entries)))
+        place.now meter.old meter.new) }
     ensures refused { IfErr result (RefusesEach (kit L.Leaf.Leaf M.Engine.RegexEngine)
+        (entries_read passes_arrays (listed (members_view map.now.entries)))
+        place.now meter.old meter.new) }
+{
+    let mut nodes = Vec::with_capacity(alloc, map.len())?;
+    for (name, schema) in map {
+        if is_read(passes_arrays, schema) {
+            let location = place.join(alloc, name.as_str())?;
+            let node = compile_schema(alloc, makers, meter, location, schema)?;
+            append(&mut nodes, node)?;
+        }
+    }
+    Ok(nodes)
+}
+
+/// The nodes of the entries of each entry of an object, below the place under both names.
+///
+/// # Errors
+///
+/// One of these inner entries' malformations; else want of memory.
+#[cycle(compile)]
+fn compile_inner_entries<'a, L: MakeLeaf, M: MakeRegex>(
+    alloc: Global,
+    makers: &Makers<'_, L, M>,
+    meter: &mut Meter,
+    place: &Location,
+    map: &'a Map<String, Value>,
+) -> Result<Vec<SchemaNode<L::Leaf, M::Engine>>, BuildError<'a>>
+    ensures built { IfOk result (λ ns. InnerAreBuilt (kit L.Leaf.Leaf M.Engine.RegexEngine)
+        ns.items (listed (members_view map.now.entries)) place.now meter.old meter.new) }
+    ensures refused { IfErr result (RefusesInner (kit L.Leaf.Leaf M.Engine.RegexEngine)
         (listed (members_view map.now.entries)) place.now meter.old meter.new) }
 {
     let mut nodes = Vec::new(alloc);
-    for (name, schema) in map {
+    for (name, entry) in map {
         let location = place.join(alloc, name.as_str())?;
-        let node = compile_schema(alloc, makers, meter, location, schema)?;
-        append(&mut nodes, node)?;
+        let reads = ReadPlaces::Entries;
+        let inner = compile_places(alloc, makers, meter, &location, reads, entry)?;
+        append_all(&mut nodes, inner)?;
     }
     Ok(nodes)
 }
@@ -216,7 +268,7 @@ fn compile_branches<'a, L: MakeLeaf, M: MakeRegex>(
     ensures refused { IfErr result (RefusesEach (kit L.Leaf.Leaf M.Engine.RegexEngine)
         (numbered (items_list (items_view items.now.items))) place.now meter.old meter.new) }
 {
-    let mut nodes = Vec::new(alloc);
+    let mut nodes = Vec::with_capacity(alloc, items.len())?;
     for (i, schema) in items.iter().enumerate() {
         let location = place_of_item(alloc, place, i)?;
         let node = compile_schema(alloc, makers, meter, location, schema)?;

@@ -1,4 +1,6 @@
-//! Whether a value is accepted.
+//! Whether a value is accepted: `is_valid` of each validator, over its nodes.
+//!
+//! Stands on `olk_tree`. Tested by `olk_tests`.
 #![tactic(auto)]
 
 use olk_base::{Node, ValidationContext};

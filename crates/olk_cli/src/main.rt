@@ -1,4 +1,6 @@
 //! Answers requests to validate, one a line.
+//!
+//! Stands on `object_logic`, `olk_bench` and `olk_answers`. Tested by `tests` and by its files `stdin` and `stdout`.
 #![tactic(auto)]
 
 mod answer;

@@ -1,4 +1,6 @@
-//! What is wrong with a value: the first error, and all errors.
+//! What is wrong with a value: the first error, and all errors, of each validator over its nodes.
+//!
+//! Stands on `olk_check`. Tested by `olk_tests`.
 #![tactic(auto)]
 
 use olk_base::{Node, ValidationContext};

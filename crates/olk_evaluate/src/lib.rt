@@ -1,4 +1,6 @@
-//! What a schema shows of a value.
+//! What a schema shows of a value: `evaluate` of each validator, over its nodes.
+//!
+//! Stands on `olk_check`. Tested by `olk_tests`.
 #![tactic(auto)]
 
 ghost use Rattle.serde_json.specs.Data.{Data};

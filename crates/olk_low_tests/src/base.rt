@@ -13,8 +13,8 @@ use crate::counting::Counting;
 use crate::doubles::{Equality, NoTexts};
 use crate::tables::two;
 use olk_base::{
-    CompiledPattern, JsonType, KeyHead, Leaf, MakeError, MakeLeaf, MakeRegex, Meter, Node,
-    PatternOptimization, PropertyName, PropertyPattern, ValidationContext, analyze_pattern,
+    CompiledPattern, JsonType, KeyHead, Leaf, MakeError, MakeLeaf, MakeRegex, Meter, NoRegexes,
+    Node, PatternOptimization, PropertyName, PropertyPattern, ValidationContext, analyze_pattern,
     contains_ecma_whitespace,
 };
 use serde_json::{Map, Value};
@@ -273,6 +273,17 @@ fn a_pattern_that_is_refused(rt: HostRuntime) {
     let mut meter = Meter::new();
     let refused = compile_pattern(&Equality, rt.alloc(), "(", &mut meter);
     assert!(rt; matches!(refused, Err(MakeError::Refused)));
+    assert_eq!(rt; meter.made(), 1);
+}
+
+#[test]
+fn a_matcher_that_refuses_all(rt: HostRuntime) {
+    let mut meter = Meter::new();
+    let refused = compile_pattern(&NoRegexes, rt.alloc(), "a", &mut meter);
+    assert!(rt; matches!(refused, Err(MakeError::Refused)));
+    assert_eq!(rt; meter.made(), 1);
+    let literal = compile_pattern(&NoRegexes, rt.alloc(), "^a", &mut meter);
+    assert!(rt; matches!(literal, Ok(CompiledPattern::Prefix(_))));
     assert_eq!(rt; meter.made(), 1);
 }
 

@@ -35,14 +35,6 @@ impl Leaf for NoText {
         }
     }
 
-    fn validate(&self, alloc: Global, node: Node<'_>) -> Result<Option<String>, AllocError> {
-        if self.is_valid(node) {
-            Ok(None)
-        } else {
-            Ok(Some(String::from_str(alloc, "is a text")?))
-        }
-    }
-
     fn collect_errors(
         &self,
         alloc: Global,
@@ -53,12 +45,6 @@ impl Leaf for NoText {
             texts.push(String::from_str(alloc, "is a text")?)?;
         }
         Ok(())
-    }
-
-    fn evaluate(&self, alloc: Global, node: Node<'_>) -> Result<Vec<String>, AllocError> {
-        let mut texts = Vec::new(alloc);
-        self.collect_errors(alloc, node, &mut texts)?;
-        Ok(texts)
     }
 }
 

@@ -47,6 +47,7 @@ use Rattle.olk_tree.specs.declared.node.KeywordOver.{KeywordOver}
 use Rattle.olk_tree.specs.declared.node.KeywordOver.TheVariants as keyword
 use Rattle.olk_node.specs.declared.node.SchemaNode.{SchemaNode}
 use Rattle.olk_members.proofs.Facts as fact
+use Rattle.olk_make.proofs.Entries.{sum_within, AnswerEach, each_accept, each_ask, each_find, each_show, schema_answers, schemas_answer}
 use Rattle.olk_make.proofs.Together.{means_alone, means_permuted}
 use Rattle.olk_members.proofs.Claims.{listing, fuses, claims_itself, claims_both, claims_nothing, heads_elsewhere, past_cases, IsNoCase}
 use Rattle.olk_members.proofs.Heads.{names_of}
@@ -58,9 +59,6 @@ use Rattle.olk_spec.proofs.Maps.{is_empty-map}
 
 with_nothing : (a b : ℕ) → a ≤ b → a + 0 ≤ b
 with_nothing a b h = omega (arith, h)
-
-sum_within : (a b c d e : ℕ) → a ≤ b → c ≤ d → e ≡ b + d → a + c ≤ e
-sum_within a b c d e h k s = omega (arith, h, k, s)
 
 pub same_within : (a b c : ℕ) → a ≤ b → c ≡ b → a ≤ c
 same_within a b c h e = omega (arith, h, e)
@@ -114,24 +112,6 @@ module _ {K R : Type 0} (o : Kit K R) where
     abbrev pub at_value : SchemaNode K R → Question
     at_value n = (answers o n).means v
 
-    all_accept : (ns : List (SchemaNode K R)) (es : List (Name × Data)) (L : Path) → StandEach o ns es L → (every at_value ns).accepts u ≡ list_all (λ e. accepts o.world u e.1 v) es
-    all_accept [] [] L h = refl
-    all_accept [] (e ∷ es) L h = absurd h
-    all_accept (n ∷ ns) [] L h = absurd h
-    all_accept (n ∷ ns) (e ∷ es) L h = λ i. h.0.verdict u v i && all_accept ns es L h.1 i
-
-    all_ask : (ns : List (SchemaNode K R)) (es : List (Name × Data)) (L : Path) → StandEach o ns es L → (every at_value ns).asks u ≤ sum_by (λ e. asks o.world u e.1 v) es
-    all_ask [] [] L h = omega arith
-    all_ask [] (e ∷ es) L h = absurd h
-    all_ask (n ∷ ns) [] L h = absurd h
-    all_ask (n ∷ ns) (e ∷ es) L h = sum_within _ _ _ _ _ (h.0.asks_within u v) (all_ask ns es L h.1) (sum_by-cons (λ e. asks o.world u e.1 v) e es)
-
-    all_find : (Q : Path) (ns : List (SchemaNode K R)) (es : List (Name × Data)) (L : Path) → StandEach o ns es L → flat_map (λ n. (answers o n).report u v Q) ns ∼ flat_map (λ e. report o.world u e.1 v (L // e.0) Q) es
-    all_find Q [] [] L h = like_empty
-    all_find Q [] (e ∷ es) L h = absurd h
-    all_find Q (n ∷ ns) [] L h = absurd h
-    all_find Q (n ∷ ns) (e ∷ es) L h = ∼_append (h.0.faults u v Q) (all_find Q ns es L h.1)
-
     any_accept : (ns : List (SchemaNode K R)) (es : List (Name × Data)) (L : Path) → StandEach o ns es L → (some at_value ns).accepts u ≡ list_any (λ e. accepts o.world u e.1 v) es
     any_accept [] [] L h = refl
     any_accept [] (e ∷ es) L h = absurd h
@@ -151,10 +131,7 @@ module _ {K R : Type 0} (o : Kit K R) where
     any_context Q (n ∷ ns) (e ∷ es) L h = like_branch (subst₂ (λ x y. x ∼ y) (sym (faults_in-from ((answers o n).report u v Q))) (sym (faults_in-from (report o.world u e.1 v (L // e.0) Q))) (h.0.faults u v Q)) (any_context Q ns es L h.1)
 
     pub branches_show : (Q : Path) (ns : List (SchemaNode K R)) (es : List (Name × Data)) (L : Path) → StandEach o ns es L → map (λ n. (answers o n).tree u v Q) ns ≡ branches_shown o.world u v L Q es
-    branches_show Q [] [] L h = refl
-    branches_show Q [] (e ∷ es) L h = absurd h
-    branches_show Q (n ∷ ns) [] L h = absurd h
-    branches_show Q (n ∷ ns) (e ∷ es) L h = λ i. h.0.evaluation u v Q i ∷ branches_show Q ns es L h.1 i
+    branches_show Q ns es L h = each_show o (schema_answers o) u v Q ns es L (schemas_answer o ns es L h)
 
     abbrev pub accepts_value : SchemaNode K R → Bool
     accepts_value n = ((answers o n).means v).accepts u
@@ -394,15 +371,18 @@ module _ {K R : Type 0} (o : Kit K R) where
   pub means_all_of : (k : KeywordOver K (SchemaNode K R)) (ns : List (SchemaNode K R)) (L : Path) (ds : Items) (d : Data) → d ≡ array ds → IsFormOfAllOf L ns k → StandEach o ns (numbered (items_list ds)) L → (ms : Members) (P : Path) → L ≡ P // codes "allOf" → KeywordMeans o ms (k ∷ []) (codes "allOf", d) P
   means_all_of k ns L ds d q form stand ms P p = subst (λ x. KeywordMeans o ms (k ∷ []) (codes "allOf", x) P) (sym q) (record {
     holds = one ms k (codes "allOf", array ds) all_of P
-        (λ u v. all_form_accepts L ns u v k form ∙ all_accept u v ns (numbered (items_list ds)) L stand ∙ sym (fact.all_of_accepts o.world ms ds u v))
-        (λ u v. same_within _ _ _ (at_most_through _ _ _ (all_form_asks L ns u v k form) (all_ask u v ns (numbered (items_list ds)) L stand)) (fact.all_of_asks o.world ms ds u v))
+        (λ u v. all_form_accepts L ns u v k form ∙ each_accept o (schema_answers o) u v ns (numbered (items_list ds)) L answer ∙ sym (fact.all_of_accepts o.world ms ds u v))
+        (λ u v. same_within _ _ _ (at_most_through _ _ _ (all_form_asks L ns u v k form) (each_ask o (schema_answers o) u v ns (numbered (items_list ds)) L answer)) (fact.all_of_asks o.world ms ds u v))
         (λ u v Q. subst₂ (λ x y. x ∼ y) (sym (all_form_finds L ns u v Q k form))
         (ap (λ M. flat_map (λ e. report o.world u e.1 v (M // e.0) Q) (numbered (items_list ds))) p ∙ sym (fact.all_of_report o.world ms ds u v P Q))
-        (all_find u v Q ns (numbered (items_list ds)) L stand));
+        (each_find o (schema_answers o) u v Q ns (numbered (items_list ds)) L answer));
     shows = λ u h v Q.
         ap (λ t. t ∷ []) (all_form_shows L ns u v Q k form ∙ ap (plain L Q) (branches_show u v Q ns (numbered (items_list ds)) L stand) ∙ ap (λ M. plain M Q (branches_shown o.world u v M Q (numbered (items_list ds)))) p)
         ∙ sym (all_of_child o.world u v ms P Q ds);
   })
+    where
+      answer : AnswerEach o (schema_answers o) ns (numbered (items_list ds)) L
+      answer = schemas_answer o ns (numbered (items_list ds)) L stand
 
   pub means_any_of : (k : KeywordOver K (SchemaNode K R)) (ns : List (SchemaNode K R)) (L : Path) (ds : Items) (d : Data) → d ≡ array ds → IsFormOfAnyOf L ns k → StandEach o ns (numbered (items_list ds)) L → (ms : Members) (P : Path) → L ≡ P // codes "anyOf" → KeywordMeans o ms (k ∷ []) (codes "anyOf", d) P
   means_any_of k ns L ds d q form stand ms P p = subst (λ x. KeywordMeans o ms (k ∷ []) (codes "anyOf", x) P) (sym q) (record {

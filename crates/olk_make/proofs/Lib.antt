@@ -1,6 +1,11 @@
 pub mod Together
+pub mod SoFar
+pub mod Entries
 pub mod Held
 pub mod OneOf
 pub mod Conditions
+pub mod DependencyKeywords
+pub mod PropertyNames
+pub mod PropertyDependencies
 pub mod Makes
 pub mod Taken

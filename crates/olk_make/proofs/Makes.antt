@@ -31,6 +31,7 @@ use Rattle.olk_node.specs.declared.node.SchemaNode.{SchemaNode}
 use Rattle.olk_make.specs.declared.part.Part.{Part}
 use Rattle.olk_read.specs.declared.shape.Shape.{Shape}
 use Rattle.olk_read.specs.declared.shape.Shape.TheVariants as shape
+use Rattle.olk_read.specs.declared.shape.ReadPlaces.TheVariants.{Nothing}
 use Rattle.olk_read.proofs.Read.{array_of}
 use Rattle.olk_members.proofs.Claims.{found_each, heads_there, IsNoCase}
 use Rattle.olk_make.proofs.Together.{no_keywords_mean, one_more_keyword, heads_mean_all}
@@ -135,6 +136,27 @@ module _ {K R : Type 0} (o : Kit K R) where
   pub one_of_alone : IsAlone shape.OneOf
   one_of_alone k d s = ap (λ n. neighbours (keyword_named o.world n)) s.0
 
+  pub property_names_alone : IsAlone shape.PropertyNames
+  property_names_alone k d s = ap (λ n. neighbours (keyword_named o.world n)) s.0
+
+  pub no_names_alone : IsAlone shape.NoNames
+  no_names_alone k d s = ap (λ n. neighbours (keyword_named o.world n)) s.0
+
+  pub any_names_alone : IsAlone shape.AnyNames
+  any_names_alone k d s = ap (λ n. neighbours (keyword_named o.world n)) s.0
+
+  pub dependent_required_alone : (keys : List Name) (lists : Vec (Vec (String Global) Global) Global) → IsAlone (shape.DependentRequired keys lists)
+  dependent_required_alone keys lists k d s = ap (λ n. neighbours (keyword_named o.world n)) s.0
+
+  pub dependent_schemas_alone : (keys : List Name) → IsAlone (shape.DependentSchemas keys)
+  dependent_schemas_alone keys k d s = ap (λ n. neighbours (keyword_named o.world n)) s.0
+
+  pub dependencies_alone : (keys : List Name) (lists : Vec (Option (Vec (String Global) Global)) Global) → IsAlone (shape.Dependencies keys lists)
+  dependencies_alone keys lists k d s = ap (λ n. neighbours (keyword_named o.world n)) s.0
+
+  pub property_dependencies_alone : (keys : List Name) (texts : Vec (List Name) Global) → IsAlone (shape.PropertyDependencies keys texts)
+  property_dependencies_alone keys texts k d s = ap (λ n. neighbours (keyword_named o.world n)) s.0
+
   pub not_alone : (v : Value) → IsAlone (shape.Not v)
   not_alone v k d s = ap (λ n. neighbours (keyword_named o.world n)) s.0
 
@@ -145,6 +167,10 @@ module _ {K R : Type 0} (o : Kit K R) where
   unread_alone k d s = ap neighbours s
 
   -- ---- what is made of a part
+
+  -- a keyword that reads no places has no nodes
+  pub without_nodes : (x : Shape K) (L : Path) (ns : List (SchemaNode K R)) (ks : List (KeywordOver K (SchemaNode K R))) → reads_of x ≡ Nothing → MakesMember o x L [] ks → MakesMember o x L ns ks
+  without_nodes x L ns ks none make ms m P place s stand = make ms m P place s (subst (λ r. StandAt o r [] m.1 L) (sym none) refl)
 
   -- all but `if`, `then` and `else` hold their own nodes alone
   pub part_of_claims : (x y : Shape K) (L : Path) (ns : List (SchemaNode K R)) (cs : Cases (SchemaNode K R)) (ks : List (KeywordOver K (SchemaNode K R))) (P : Path) (p : Planned) → x ≡ y → is_case_shape y ≡ false → MakesClaims o x L ns P p ks → MakesPart o x L ns cs P p ks

@@ -90,6 +90,13 @@ module _ {K R : Type 0} (o : Kit K R) where
   -- where `if` is read, no other shape has the name of `then` or `else`
   not_a_case : (x : Shape K) (k : Name) (d : Data) → IsShape o k d x → Fits true x → is_case_shape x ≡ false → is_case_keyword (keyword_named o.world k) ≡ false
   not_a_case (shape.Properties v) k d s f e = ap (λ n. is_case_keyword (keyword_named o.world n)) s.0
+  not_a_case shape.PropertyNames k d s f e = ap (λ n. is_case_keyword (keyword_named o.world n)) s.0
+  not_a_case shape.NoNames k d s f e = ap (λ n. is_case_keyword (keyword_named o.world n)) s.0
+  not_a_case shape.AnyNames k d s f e = ap (λ n. is_case_keyword (keyword_named o.world n)) s.0
+  not_a_case (shape.DependentRequired n v) k d s f e = ap (λ n. is_case_keyword (keyword_named o.world n)) s.0
+  not_a_case (shape.DependentSchemas n) k d s f e = ap (λ n. is_case_keyword (keyword_named o.world n)) s.0
+  not_a_case (shape.Dependencies n v) k d s f e = ap (λ n. is_case_keyword (keyword_named o.world n)) s.0
+  not_a_case (shape.PropertyDependencies n v) k d s f e = ap (λ n. is_case_keyword (keyword_named o.world n)) s.0
   not_a_case (shape.Required v) k d s f e = ap (λ n. is_case_keyword (keyword_named o.world n)) s.0
   not_a_case shape.AllOf k d s f e = ap (λ n. is_case_keyword (keyword_named o.world n)) s.0
   not_a_case shape.AnyOf k d s f e = ap (λ n. is_case_keyword (keyword_named o.world n)) s.0
@@ -118,6 +125,13 @@ module _ {K R : Type 0} (o : Kit K R) where
       by shape.If f s = refl
       by shape.Unpaired f s = absurd (true≢false f)
       by (shape.Properties v) f s = absurd (true≢false (ap (λ n. is_if_keyword (keyword_named o.world n)) s.0))
+      by shape.PropertyNames f s = refl
+      by shape.NoNames f s = absurd (true≢false (ap (λ n. is_if_keyword (keyword_named o.world n)) s.0))
+      by shape.AnyNames f s = absurd (true≢false (ap (λ n. is_if_keyword (keyword_named o.world n)) s.0))
+      by (shape.DependentRequired n v) f s = absurd (true≢false (ap (λ n. is_if_keyword (keyword_named o.world n)) s.0))
+      by (shape.DependentSchemas n) f s = absurd (true≢false (ap (λ n. is_if_keyword (keyword_named o.world n)) s.0))
+      by (shape.Dependencies n v) f s = absurd (true≢false (ap (λ n. is_if_keyword (keyword_named o.world n)) s.0))
+      by (shape.PropertyDependencies n v) f s = absurd (true≢false (ap (λ n. is_if_keyword (keyword_named o.world n)) s.0))
       by (shape.Required v) f s = absurd (true≢false (ap (λ n. is_if_keyword (keyword_named o.world n)) s.0))
       by shape.AllOf f s = absurd (true≢false (ap (λ n. is_if_keyword (keyword_named o.world n)) s.0))
       by shape.AnyOf f s = absurd (true≢false (ap (λ n. is_if_keyword (keyword_named o.world n)) s.0))

@@ -1,14 +1,16 @@
 -- Which form of a validator is built.
-use Rattle.std.specs.Prelude.{◌≡◌, ◌≢◌, Bool, true, false, cond, ◌&&◌, nat_lt, List, [], ◌∷◌, map, length, Option, Some, None, is_none, codes, bytes_eq, string_bytes}
-use Rattle.serde_json.specs.Data.{Data, boolean, string, object, array, Members, no_items, item}
+use Rattle.std.specs.Prelude.{◌≡◌, ◌≢◌, ⊤, Bool, true, false, List, [], ◌∷◌, map, length, take, drop, Option, Some, None, codes, Vec, String, string_bytes}
+use Rattle.std.specs.declared.alloc.Global.{Global}
+use Rattle.serde_json.specs.Data.{Data}
 use Rattle.serde_json.specs.View.{view}
-use Rattle.olk_spec.specs.Names.{Name, Path, ◌//◌, lookup}
-use Rattle.olk_spec.specs.Schemas.{listed, texts}
+use Rattle.olk_spec.specs.Names.{Name, Path, ◌//◌}
+use Rattle.olk_spec.specs.Schemas.{texts}
 use Rattle.olk_spec.specs.Malformed.{items_of_array}
-use Rattle.olk_spec.specs.declared.TheConstants.{HASHMAP_THRESHOLD}
 use Rattle.olk_tree.specs.declared.map.SmallMap.{SmallMap}
 use Rattle.olk_tree.specs.declared.node.KeywordOver.{KeywordOver}
 use Rattle.olk_tree.specs.declared.node.KeywordOver.TheVariants as keyword
+use Rattle.olk_tree.specs.declared.node.Body.TheVariants.{RequiredNames}
+use Rattle.olk_node.specs.declared.node.SchemaNode.{SchemaNode, out-SchemaNode}
 
 -- ---- the form over given nodes, at its place
 
@@ -40,6 +42,35 @@ IsFormOfIf L n (Some t) None (keyword.IfThen k) = (k.schema ≡ n) × (k.then_sc
 IsFormOfIf L n None (Some e) (keyword.IfElse k) = (k.schema ≡ n) × (k.else_schema ≡ e) × (k.location ≡ L)
 IsFormOfIf L n (Some t) (Some e) (keyword.IfThenElse k) = (k.schema ≡ n) × (k.then_schema ≡ t) × (k.else_schema ≡ e) × (k.location ≡ L)
 IsFormOfIf L n t e k = ⊥
+
+-- ---- nodes that are lists of names, and nodes that are cut into maps
+
+-- a node at L that is this list of names
+abbrev pub IsListAt : {K R : Type 0} → Path → Vec (String Global) Global → SchemaNode K R → Type 0
+IsListAt {K} {R} L v n = ((out-SchemaNode K R n).location ≡ L) × ((out-SchemaNode K R n).body ≡ RequiredNames (record { required = v; location = L }))
+
+-- for each list its node
+abbrev pub AreListsAt : {K R : Type 0} → Path → List (Vec (String Global) Global) → List (SchemaNode K R) → Type 0
+AreListsAt L [] [] = ⊤
+AreListsAt L [] (n ∷ ns) = ⊥
+AreListsAt L (v ∷ vs) [] = ⊥
+AreListsAt L (v ∷ vs) (n ∷ ns) = IsListAt L v n × AreListsAt L vs ns
+
+-- key by key, the node of its list, and where it has none the next of the schemas' nodes
+abbrev pub AreInOrder : {K R : Type 0} → Path → List (Option (Vec (String Global) Global)) → List (SchemaNode K R) → List (SchemaNode K R) → Type 0
+AreInOrder L [] schemas ns = ns ≡ []
+AreInOrder L (Some v ∷ vs) schemas [] = ⊥
+AreInOrder L (Some v ∷ vs) schemas (n ∷ ns) = IsListAt L v n × AreInOrder L vs schemas ns
+AreInOrder L (None ∷ vs) [] ns = AreInOrder L vs [] ns
+AreInOrder L (None ∷ vs) (s ∷ schemas) [] = ⊥
+AreInOrder L (None ∷ vs) (s ∷ schemas) (n ∷ ns) = (n ≡ s) × AreInOrder L vs schemas ns
+
+-- a map for each of these lists of names, with as many nodes as it has names, in their order
+abbrev pub AreCut : {N : Type 0} → List (List Name) → List N → List (SmallMap N) → Type 0
+AreCut [] ns [] = ⊤
+AreCut [] ns (m ∷ maps) = ⊥
+AreCut (t ∷ ts) ns [] = ⊥
+AreCut (t ∷ ts) ns (m ∷ maps) = (m.names ≡ t) × (m.nodes.items ≡ take (length t) ns) × AreCut ts (drop (length t) ns) maps
 
 -- ---- the form for a value, at its place L
 
@@ -80,3 +111,23 @@ abbrev pub IsProperties : {K N : Type 0} → Path → Path → Option (Name × N
 IsProperties P L None (keyword.Properties k) = k.location ≡ L
 IsProperties P L (Some t) (keyword.PropertiesWithRequired2 k) = (k.location ≡ L) × (string_bytes k.first ≡ t.0) × (string_bytes k.second ≡ t.1) × (k.required_location ≡ P // codes "required")
 IsProperties P L t k = ⊥
+
+-- `dependentRequired`, `dependentSchemas` or `dependencies` with these keys
+abbrev pub IsDependencies : {K N : Type 0} → Path → List Name → KeywordOver K N → Type 0
+IsDependencies L ns (keyword.Dependencies k) = (k.dependencies.names ≡ ns) × (k.location ≡ L)
+IsDependencies L ns k = ⊥
+
+-- `propertyNames` with a schema
+abbrev pub IsPropertyNames : {K N : Type 0} → Path → KeywordOver K N → Type 0
+IsPropertyNames L (keyword.PropertyNames k) = k.location ≡ L
+IsPropertyNames L k = ⊥
+
+-- `propertyNames` that is `false`
+abbrev pub IsPropertyNamesFalse : {K N : Type 0} → Path → KeywordOver K N → Type 0
+IsPropertyNamesFalse L (keyword.PropertyNamesFalse k) = k.location ≡ L
+IsPropertyNamesFalse L k = ⊥
+
+-- `propertyDependencies` with these keys, and these texts at each
+abbrev pub IsPropertyDependencies : {K N : Type 0} → Path → List Name → List (List Name) → KeywordOver K N → Type 0
+IsPropertyDependencies L ns ts (keyword.PropertyDependencies k) = (k.dependencies.names ≡ ns) × (map (λ m. m.names) k.dependencies.nodes.items ≡ ts) × (k.location ≡ L)
+IsPropertyDependencies L ns ts k = ⊥

@@ -1,11 +1,12 @@
 -- What nodes stand for, and what the validators of a schema object mean together.
-use Rattle.std.specs.Prelude.{◌≡◌, ◌≤◌, ⊤, ℕ, Bool, List, [], ◌∷◌, map}
+use Rattle.std.specs.Prelude.{◌≡◌, ◌≤◌, ⊤, ℕ, Bool, List, [], ◌∷◌, ◌++◌, map}
 use Rattle.std.specs.List.{list_all, flat_map, sum_by}
 use Rattle.serde_json.specs.Data.{Data, Members}
 use Rattle.olk_spec.specs.Names.{Name, Path, ◌//◌}
 use Rattle.olk_spec.specs.Vocabulary.{Keyword, keyword_named}
 use Rattle.olk_spec.specs.Faults.{Fault, ◌∼◌}
 use Rattle.olk_spec.specs.Tree.{Tree}
+use Rattle.olk_spec.specs.Schemas.{members}
 use Rattle.olk_base.specs.Kit.{Kit}
 use Rattle.olk_tree.specs.Questions.{every}
 use Rattle.olk_tree.specs.Answers.{validator_means, validator_report, validator_tree}
@@ -23,6 +24,11 @@ module _ {K R : Type 0} (o : Kit K R) where
   StandEach [] (e ∷ es) P = ⊥
   StandEach (n ∷ ns) [] P = ⊥
   StandEach (n ∷ ns) (e ∷ es) P = StandsFor o n e.1 (P // e.0) × StandEach ns es P
+
+  -- nodes for the entries of each of these, one list behind the other
+  abbrev pub StandInner : List (SchemaNode K R) → List (Name × Data) → Path → Type 0
+  StandInner ns [] P = ns ≡ []
+  StandInner ns (e ∷ es) P = (here : List (SchemaNode K R)) × (after : List (SchemaNode K R)) × (ns ≡ here ++ after) × StandEach here (members e.1) (P // e.0) × StandInner after es P
 
   -- ---- keywords for members of the schema object with the members ms at P
 

@@ -1,15 +1,15 @@
 -- What the nodes and the parts of a schema object stand for.
-use Rattle.std.specs.Prelude.{◌≡◌, ⊤, Bool, true, false, cond, List, [], ◌∷◌, ◌++◌, codes, bytes_eq, Option, Some, None}
+use Rattle.std.specs.Prelude.{◌≡◌, ⊤, Bool, true, false, not, cond, List, [], ◌∷◌, ◌++◌, codes, bytes_eq, Option, Some, None}
 use Rattle.serde_json.specs.Data.{Data, Members}
-use Rattle.olk_spec.specs.Names.{Name, Path, ◌//◌, lookup}
-use Rattle.olk_spec.specs.Schemas.{read, listed, members, numbered}
+use Rattle.olk_spec.specs.Names.{Name, Path, ◌//◌, lookup, those}
+use Rattle.olk_spec.specs.Schemas.{read, listed, members, numbered, is_array}
 use Rattle.olk_spec.specs.Malformed.{items_of_array}
 use Rattle.olk_base.specs.Kit.{Kit}
 use Rattle.olk_node.specs.Stands.{StandsFor}
-use Rattle.olk_make.specs.Holding.{StandEach}
+use Rattle.olk_make.specs.Holding.{StandEach, StandInner}
 use Rattle.olk_node.specs.declared.node.SchemaNode.{SchemaNode}
 use Rattle.olk_read.specs.declared.shape.ReadPlaces.{ReadPlaces}
-use Rattle.olk_read.specs.declared.shape.ReadPlaces.TheVariants.{Nothing, Itself, Entries, Branches}
+use Rattle.olk_read.specs.declared.shape.ReadPlaces.TheVariants.{Nothing, Itself, Entries, SchemaEntries, InnerEntries, Branches}
 use Rattle.olk_make.specs.declared.part.Part.{Part}
 use Rattle.olk_make.specs.declared.part.Cases.{Cases}
 use Rattle.olk_read.specs.Reading.{reads_of, IsShape, Fits}
@@ -50,6 +50,8 @@ module _ {K R : Type 0} (o : Kit K R) where
   StandAt Itself (n ∷ []) d L = StandsFor o n d L
   StandAt Itself (n ∷ m ∷ ns) d L = ⊥
   StandAt Entries ns d L = StandEach o ns (members d) L
+  StandAt SchemaEntries ns d L = StandEach o ns (those (λ e. not (is_array e.1)) (members d)) L
+  StandAt InnerEntries ns d L = StandInner o ns (members d) L
   StandAt Branches ns d L = StandEach o ns (numbered (items_of_array d)) L
 
   -- c says whether `if` is read in the schema object at P

@@ -11,7 +11,10 @@ ghost use Rattle.olk_make.specs.Standing.{is_case_shape, is_if_shape, TakesCase,
 ghost use Rattle.olk_make.specs.Making.{MakesPart, ObjectIsMade};
 
 use crate::part::{Cases, Part};
-use crate::{all_of, any_of, if_, not, one_of, properties, required};
+use crate::{
+    all_of, any_of, dependencies, if_, not, one_of, properties, property_dependencies,
+    property_names, required,
+};
 use olk_base::{Leaf, RegexEngine};
 use olk_members::Plan;
 use olk_node::{Keyword, SchemaNode};
@@ -97,7 +100,22 @@ fn make_keyword<K: Leaf, R: RegexEngine>(
         Shape::Properties(names) => Ok(Some(properties::make(
             alloc, plan, place, location, names, nodes,
         )?)),
+        Shape::PropertyNames => Ok(property_names::make(location, nodes)),
+        Shape::NoNames => Ok(Some(property_names::make_false(location))),
+        Shape::AnyNames => Ok(None),
         Shape::Required(names) => Ok(required::make(plan, location, names, nodes)),
+        Shape::DependentRequired(keys, lists) => Ok(Some(dependencies::make_required(
+            alloc, location, keys, lists,
+        )?)),
+        Shape::DependentSchemas(keys) => {
+            Ok(Some(dependencies::make_schemas(location, keys, nodes)))
+        }
+        Shape::Dependencies(keys, lists) => Ok(Some(dependencies::make(
+            alloc, location, keys, lists, nodes,
+        )?)),
+        Shape::PropertyDependencies(keys, texts) => Ok(Some(property_dependencies::make(
+            alloc, location, keys, texts, nodes,
+        )?)),
         Shape::AllOf => Ok(Some(all_of::make(location, nodes))),
         Shape::AnyOf => Ok(Some(any_of::make(location, nodes))),
         Shape::OneOf => Ok(Some(one_of::make(location, nodes))),
@@ -131,7 +149,7 @@ pub fn make_keywords<K: Leaf, R: RegexEngine>(
 {
     let plan = Plan::of(members);
     let (mut cases, parts) = take_cases(alloc, plan.is_condition(), parts)?;
-    let mut keywords = Vec::new(alloc);
+    let mut keywords = Vec::with_capacity(alloc, parts.len())?;
     for part in parts {
         if let Some(keyword) = make_keyword(alloc, plan, place, &mut cases, part)? {
             append(&mut keywords, keyword)?;

@@ -45,7 +45,7 @@ object_is_not_false (string s) e = refl
 object_is_not_false (array ds) e = refl
 object_is_not_false (object fs) e = refl
 
-false_is_no_object : (d : Data) → is_truth false d ≡ true → is_object d ≡ false
+pub false_is_no_object : (d : Data) → is_truth false d ≡ true → is_object d ≡ false
 false_is_no_object null e = refl
 false_is_no_object (boolean b) e = refl
 false_is_no_object (number n) e = refl

@@ -1,11 +1,11 @@
 -- Which keyword a name is that is none of those that are read here.
-use Rattle.std.specs.Prelude.{◌≡◌, ◌+◌, Bool, true, false, not, ◌||◌, if◌then◌else◌, List, [], ◌∷◌, ◌++◌, codes, bytes_eq}
+use Rattle.std.specs.Prelude.{◌≡◌, Bool, true, false, ◌||◌, if◌then◌else◌, List, [], ◌∷◌, ◌++◌, codes, bytes_eq}
 use Rattle.std.proofs.Common.{refl, sym, ◌∙◌, ap, ◌⊎◌, inl, inr}
 use Rattle.std.proofs.lemmas.List.Folds.{list_any-append}
 use mathlib.Core.Bool.{true≢false}
 use Rattle.olk_spec.specs.Names.{Name, is_among}
 use Rattle.olk_spec.specs.World.{World}
-use Rattle.olk_spec.specs.Vocabulary.{Keyword, properties, required, unsupported, unsupported_names, leaf_or_unread, keyword_named}
+use Rattle.olk_spec.specs.Vocabulary.{Keyword, unsupported, unsupported_names, leaf_or_unread, keyword_named}
 use Rattle.olk_spec.specs.Malformed.{pending}
 use Rattle.olk_spec.proofs.Each.{Each}
 use Rattle.olk_spec.proofs.Truth.{or_false}
@@ -30,24 +30,24 @@ among_first k e h = sym (or_false (is_among k unsupported_names)) ∙ ap (λ b. 
 module _ (W : World) (k : Name) (other : IsOther k) where
   keyword_rest : is_among k pending ≡ false → (w : Keyword) → (if is_among k unsupported_names then unsupported else leaf_or_unread (W.reads k)) ≡ w → keyword_named W k ≡ w
   keyword_rest e w h =
-      let q = none_among k (codes "properties" ∷ codes "required" ∷ codes "allOf" ∷ codes "anyOf" ∷ codes "oneOf" ∷ codes "not" ∷ codes "if" ∷ codes "then" ∷ codes "else" ∷ []) other in
+      let q = none_among k (codes "properties" ∷ codes "propertyNames" ∷ codes "required" ∷ codes "dependentRequired" ∷ codes "dependentSchemas" ∷ codes "dependencies" ∷ codes "propertyDependencies" ∷ codes "allOf" ∷ codes "anyOf" ∷ codes "oneOf" ∷ codes "not" ∷ codes "if" ∷ codes "then" ∷ codes "else" ∷ []) other in
       let p = none_among k pending e in
       else_side _ _ _ _ q.0
       (else_side _ _ _ _ p.0
       (else_side _ _ _ _ p.1.0
-      (else_side _ _ _ _ p.1.1.0
       (else_side _ _ _ _ q.1.0
-      (else_side _ _ _ _ p.1.1.1.0
-      (else_side _ _ _ _ p.1.1.1.1.0
-      (else_side _ _ _ _ p.1.1.1.1.1.0
-      (else_side _ _ _ _ p.1.1.1.1.1.1.0
       (else_side _ _ _ _ q.1.1.0
       (else_side _ _ _ _ q.1.1.1.0
       (else_side _ _ _ _ q.1.1.1.1.0
       (else_side _ _ _ _ q.1.1.1.1.1.0
       (else_side _ _ _ _ q.1.1.1.1.1.1.0
       (else_side _ _ _ _ q.1.1.1.1.1.1.1.0
-      (else_side _ _ _ _ q.1.1.1.1.1.1.1.1.0 h)))))))))))))))
+      (else_side _ _ _ _ q.1.1.1.1.1.1.1.1.0
+      (else_side _ _ _ _ q.1.1.1.1.1.1.1.1.1.0
+      (else_side _ _ _ _ q.1.1.1.1.1.1.1.1.1.1.0
+      (else_side _ _ _ _ q.1.1.1.1.1.1.1.1.1.1.1.0
+      (else_side _ _ _ _ q.1.1.1.1.1.1.1.1.1.1.1.1.0
+      (else_side _ _ _ _ q.1.1.1.1.1.1.1.1.1.1.1.1.1.0 h)))))))))))))))
 
   pub keyword_of_other : is_among k (unsupported_names ++ pending) ≡ false → keyword_named W k ≡ leaf_or_unread (W.reads k)
   keyword_of_other e =

@@ -2,4 +2,6 @@ pub mod Spending
 pub mod KeywordNames
 pub mod Read
 mod Shapes
+mod Entries
 mod Texts
+mod NameLists

@@ -8,7 +8,7 @@ use Rattle.olk_spec.specs.Names.{Name, Path, is_among, put_if}
 use Rattle.olk_spec.specs.World.{World}
 use Rattle.olk_spec.specs.Vocabulary.{Keyword, leaf, unread, unsupported, unsupported_names, keyword_named}
 use Rattle.olk_spec.specs.Faults.{Fault, fault, LeafRefused, Unsupported, SingleType, object_type, array_type}
-use Rattle.olk_spec.specs.Schemas.{read, members, is_object, is_array}
+use Rattle.olk_spec.specs.Schemas.{read, members, is_object, is_array, is_truth}
 use Rattle.olk_spec.specs.Malformed.{pending, refusal, own_refusals, malformations_step, unless_object, unless_array, unless_kind, not_a_text, items_of_array}
 use Rattle.olk_spec.specs.Costs.{Cost, no_cost}
 use Rattle.olk_spec.proofs.Reading.{schema_of_read}
@@ -17,6 +17,9 @@ use Rattle.olk_base.proofs.CountLemmas.{raised_zero}
 use Rattle.olk_reports.specs.declared.error.BuildError.{BuildError}
 use Rattle.olk_reports.specs.declared.error.BuildError.TheVariants.{Memory}
 use Rattle.olk_base.specs.Kit.{Kit}
+use Rattle.olk_read.specs.Lists.{name_list_faults, list_faults, no_object_faults}
+use Rattle.olk_members.proofs.Dependencies.{dependent_required_refusals, dependencies_refusals}
+use Rattle.olk_members.proofs.PropertyDependencies.{property_dependencies_refusals}
 use Rattle.olk_read.specs.Refusing.{Spends, TellsOneOf, Refuses}
 use Rattle.olk_members.specs.Conditions.{is_conditional_name}
 use Rattle.olk_read.specs.Reading.{IsOther, IsShape, Fits, IsRead, own_faults, own_cost_of}
@@ -64,8 +67,23 @@ module _ (W : World) (d : Data) (L : Path) where
   pub own_properties : own_faults W (codes "properties") d L ≡ unless_object d L
   own_properties = ap (λ s. unless_object s L) same
 
+  pub own_property_names : own_faults W (codes "propertyNames") d L ≡ []
+  own_property_names = refl
+
   pub own_required : own_faults W (codes "required") d L ≡ unless_array d L ++ not_a_text d L
   own_required = ap (λ s. unless_array s L ++ not_a_text s L) same
+
+  pub own_dependent_required : own_faults W (codes "dependentRequired") d L ≡ unless_object d L ++ name_list_faults L (members d)
+  own_dependent_required = dependent_required_refusals (malformations_step W pending) d (codes "dependentRequired") W L
+
+  pub own_dependent_schemas : own_faults W (codes "dependentSchemas") d L ≡ unless_object d L
+  own_dependent_schemas = ap (λ s. unless_object s L) same
+
+  pub own_dependencies : own_faults W (codes "dependencies") d L ≡ unless_object d L ++ list_faults L (members d)
+  own_dependencies = dependencies_refusals (malformations_step W pending) d (codes "dependencies") W L
+
+  pub own_property_dependencies : own_faults W (codes "propertyDependencies") d L ≡ unless_object d L ++ no_object_faults L (members d)
+  own_property_dependencies = property_dependencies_refusals (malformations_step W pending) d (codes "propertyDependencies") W L
 
   pub own_all_of : own_faults W (codes "allOf") d L ≡ unless_array d L
   own_all_of = ap (λ s. unless_array s L) same
@@ -143,6 +161,15 @@ module _ {K R : Type 0} (o : Kit K R) where
   conditional_is_read x true k n d L a p s f e clean z = is_read x true k n d L a p s (f refl) clean z
   conditional_is_read x false k n d L a p s f e clean z = is_read shape.Unpaired false k n d L a p e refl clean z
 
+  -- a schema for names
+  pub names_are_read : (c : Bool) (k : Name) (d : Data) (L : Path) (a : Counts) → k ≡ codes "propertyNames" → IsRead o (cond (is_object d) shape.PropertyNames (cond (is_truth false d) shape.NoNames shape.AnyNames)) c k d L a a
+  names_are_read c k d L a p = by (is_object d) (is_truth false d) refl refl
+    where
+      by : (x y : Bool) → is_object d ≡ x → is_truth false d ≡ y → IsRead o (cond x shape.PropertyNames (cond y shape.NoNames shape.AnyNames)) c k d L a a
+      by true y e f = is_read shape.PropertyNames c k (codes "propertyNames") d L a p (refl, e) tt (own_property_names o.world d L) refl
+      by false true e f = is_read shape.NoNames c k (codes "propertyNames") d L a p (refl, f) tt (own_property_names o.world d L) refl
+      by false false e f = is_read shape.AnyNames c k (codes "propertyNames") d L a p (refl, e, f) tt (own_property_names o.world d L) refl
+
   pub leaf_is_read : (l : K) (k : Name) (d : Data) (L : Path) (a b : Counts) → keyword_named o.world k ≡ leaf → is_among k pending ≡ false → o.world.fits k d ≡ true → o.keyword_of l ≡ k → ((v : Data) → o.finds l v ≡ o.world.faults k d v) → b ≡ count_leaf a → (c : Bool) → IsRead o (shape.Leaf l) c k d L a b
   leaf_is_read l k d L a b q h fits name same count c = record {
     shape = (q, name, same);
@@ -159,3 +186,13 @@ object_is_right d L e = ap (λ b. unless_kind b (SingleType object_type) d L) e
 
 pub array_is_right : (d : Data) (L : Path) → is_array d ≡ true → unless_array d L ≡ []
 array_is_right d L e = ap (λ b. unless_kind b (SingleType array_type) d L) e
+
+module _ (W : World) (d : Data) (L : Path) (object : is_object d ≡ true) where
+  pub right_dependent_required : name_list_faults L (members d) ≡ [] → own_faults W (codes "dependentRequired") d L ≡ []
+  right_dependent_required h = own_dependent_required W d L ∙ (λ i. object_is_right d L object i ++ h i)
+
+  pub right_dependencies : list_faults L (members d) ≡ [] → own_faults W (codes "dependencies") d L ≡ []
+  right_dependencies h = own_dependencies W d L ∙ (λ i. object_is_right d L object i ++ h i)
+
+  pub right_property_dependencies : no_object_faults L (members d) ≡ [] → own_faults W (codes "propertyDependencies") d L ≡ []
+  right_property_dependencies h = own_property_dependencies W d L ∙ (λ i. object_is_right d L object i ++ h i)

@@ -28,7 +28,7 @@ texts_push [] (m ∷ ns) d n h e = absurd h
 texts_push (c ∷ ds) [] d n h e = absurd h
 texts_push (c ∷ ds) (m ∷ ns) d n h e = (h.0, texts_push ds ns d n h.1 e)
 
-text_at : (d : Data) (s : Name) → as_str d ≡ Some s → d ≡ string s
+pub text_at : (d : Data) (s : Name) → as_str d ≡ Some s → d ≡ string s
 text_at null s e = absurd (true≢false (sym (ap is_some e)))
 text_at (boolean b) s e = absurd (true≢false (sym (ap is_some e)))
 text_at (number n) s e = absurd (true≢false (sym (ap is_some e)))

@@ -5,7 +5,7 @@ use Rattle.serde_json.specs.View.{view}
 use Rattle.olk_spec.specs.Names.{Name, Path, put_if, is_among}
 use Rattle.olk_spec.specs.World.{World}
 use Rattle.olk_spec.specs.Vocabulary.{Keyword, leaf, unread, unsupported_names, keyword_named}
-use Rattle.olk_spec.specs.Schemas.{read, members, texts, is_object, is_array}
+use Rattle.olk_spec.specs.Schemas.{read, members, texts, is_object, is_array, is_truth}
 use Rattle.olk_spec.specs.Malformed.{pending, refusal, own_refusals, malformations_step}
 use Rattle.olk_spec.specs.Faults.{Fault, Unsupported}
 use Rattle.olk_spec.specs.Costs.{Cost, no_cost}
@@ -13,17 +13,23 @@ use Rattle.olk_base.specs.Count.{Counts}
 use Rattle.olk_reports.specs.declared.error.BuildError.{BuildError}
 use Rattle.olk_base.specs.Kit.{Kit}
 use Rattle.olk_members.specs.Conditions.{is_conditional_name}
+use Rattle.olk_members.specs.Dependencies.{are_lists}
+use Rattle.olk_read.specs.Lists.{list_of, names_in, names_in_list, names_of}
 use Rattle.olk_read.specs.Refusing.{Spends, Refuses}
 use Rattle.olk_read.specs.declared.reading.KeywordFor.{KeywordFor}
 use Rattle.olk_read.specs.declared.reading.KeywordFor.TheVariants as for
 use Rattle.olk_read.specs.declared.shape.Shape.{Shape}
 use Rattle.olk_read.specs.declared.shape.Shape.TheVariants as shape
 use Rattle.olk_read.specs.declared.shape.ReadPlaces.{ReadPlaces}
-use Rattle.olk_read.specs.declared.shape.ReadPlaces.TheVariants.{Nothing, Itself, Entries, Branches}
+use Rattle.olk_read.specs.declared.shape.ReadPlaces.TheVariants.{Nothing, Itself, Entries, SchemaEntries, InnerEntries, Branches}
 
 -- which places are read
 abbrev pub reads_of : {K : Type 0} → Shape K → ReadPlaces
 reads_of (shape.Properties n) = Entries
+reads_of shape.PropertyNames = Itself
+reads_of (shape.DependentSchemas n) = Entries
+reads_of (shape.Dependencies n v) = SchemaEntries
+reads_of (shape.PropertyDependencies n v) = InnerEntries
 reads_of shape.AllOf = Branches
 reads_of shape.AnyOf = Branches
 reads_of shape.OneOf = Branches
@@ -35,12 +41,17 @@ reads_of x = Nothing
 
 -- none of the keywords that are read here by name
 abbrev pub IsOther : Name → Type 0
-IsOther n = is_among n (codes "properties" ∷ codes "required" ∷ codes "allOf" ∷ codes "anyOf" ∷ codes "oneOf" ∷ codes "not" ∷ codes "if" ∷ codes "then" ∷ codes "else" ∷ []) ≡ false
+IsOther n = is_among n (codes "properties" ∷ codes "propertyNames" ∷ codes "required" ∷ codes "dependentRequired" ∷ codes "dependentSchemas" ∷ codes "dependencies" ∷ codes "propertyDependencies" ∷ codes "allOf" ∷ codes "anyOf" ∷ codes "oneOf" ∷ codes "not" ∷ codes "if" ∷ codes "then" ∷ codes "else" ∷ []) ≡ false
 
 -- which keyword a name is
 abbrev pub IsFor : Name → KeywordFor → Type 0
 IsFor n for.Properties = n ≡ codes "properties"
+IsFor n for.PropertyNames = n ≡ codes "propertyNames"
 IsFor n for.Required = n ≡ codes "required"
+IsFor n for.DependentRequired = n ≡ codes "dependentRequired"
+IsFor n for.DependentSchemas = n ≡ codes "dependentSchemas"
+IsFor n for.Dependencies = n ≡ codes "dependencies"
+IsFor n for.PropertyDependencies = n ≡ codes "propertyDependencies"
 IsFor n for.AllOf = n ≡ codes "allOf"
 IsFor n for.AnyOf = n ≡ codes "anyOf"
 IsFor n for.OneOf = n ≡ codes "oneOf"
@@ -72,7 +83,14 @@ module _ {K R : Type 0} (o : Kit K R) where
   -- the shape of the keyword of the name k and the value d
   abbrev pub IsShape : Name → Data → Shape K → Type 0
   IsShape k d (shape.Properties n) = (k ≡ codes "properties") × (is_object d ≡ true) × (n ≡ map (λ e. e.0) (members d))
+  IsShape k d shape.PropertyNames = (k ≡ codes "propertyNames") × (is_object d ≡ true)
+  IsShape k d shape.NoNames = (k ≡ codes "propertyNames") × (is_truth false d ≡ true)
+  IsShape k d shape.AnyNames = (k ≡ codes "propertyNames") × (is_object d ≡ false) × (is_truth false d ≡ false)
   IsShape k d (shape.Required v) = (k ≡ codes "required") × (is_array d ≡ true) × (map string_bytes v.items ≡ texts d)
+  IsShape k d (shape.DependentRequired n v) = (k ≡ codes "dependentRequired") × (is_object d ≡ true) × (n ≡ map (λ e. e.0) (members d)) × (are_lists d ≡ true) × (map names_in v.items ≡ map (λ e. texts e.1) (members d))
+  IsShape k d (shape.DependentSchemas n) = (k ≡ codes "dependentSchemas") × (is_object d ≡ true) × (n ≡ map (λ e. e.0) (members d))
+  IsShape k d (shape.Dependencies n v) = (k ≡ codes "dependencies") × (is_object d ≡ true) × (n ≡ map (λ e. e.0) (members d)) × (map names_in_list v.items ≡ map (λ e. list_of e.1) (members d))
+  IsShape k d (shape.PropertyDependencies n v) = (k ≡ codes "propertyDependencies") × (is_object d ≡ true) × (n ≡ map (λ e. e.0) (members d)) × (v.items ≡ map (λ e. names_of e.1) (members d))
   IsShape k d shape.AllOf = (k ≡ codes "allOf") × (is_array d ≡ true)
   IsShape k d shape.AnyOf = (k ≡ codes "anyOf") × (is_array d ≡ true)
   IsShape k d shape.OneOf = (k ≡ codes "oneOf") × (is_array d ≡ true)

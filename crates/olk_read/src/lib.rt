@@ -1,6 +1,7 @@
 //! Reading the keywords of a schema object, as far as this needs no nodes: the first of three steps of building.
 //!
-//! A value becomes a shape, or is refused; nothing here recurs. Tested by `olk_tests` through building.
+//! A value becomes a shape, or is refused; nothing here recurs. Stands on `olk_tree`. Tested by `olk_tests` through
+//! building.
 #![tactic(auto)]
 
 mod lists;
@@ -9,7 +10,7 @@ mod reading;
 mod refusal;
 mod shape;
 
-pub use lists::{append, one};
+pub use lists::{append, append_all, one};
 pub use makers::Makers;
 pub use reading::read_keyword;
 pub use refusal::{refuse, refuse_type};

@@ -1,16 +1,17 @@
 //! Reading the values of keywords, as far as this needs no nodes.
 ghost use Rattle.std.specs.Prelude.{Bool, false, true, cond, ◌≡◌, ◌++◌, [], map, string_bytes, IfOk, IfErr};
-ghost use Rattle.serde_json.specs.Data.{array};
-ghost use Rattle.serde_json.specs.View.{view, items_view};
+ghost use Rattle.serde_json.specs.Data.{array, object};
+ghost use Rattle.serde_json.specs.View.{view, items_view, members_view};
+ghost use Rattle.std.specs.List.{list_any};
 ghost use Rattle.olk_spec.specs.Names.{is_among};
 ghost use Rattle.olk_spec.specs.Vocabulary.{unsupported_names, keyword_named, leaf};
-ghost use Rattle.olk_spec.specs.Schemas.{members, texts, texts_in, is_object, is_array};
-ghost use Rattle.olk_spec.specs.Malformed.{pending, unless_object, unless_array, not_a_text};
+ghost use Rattle.olk_spec.specs.Schemas.{listed, members, texts, texts_in, as_text, is_object, is_array, is_truth};
+ghost use Rattle.olk_spec.specs.Malformed.{pending, unless_object, unless_array, not_a_text, has_repeat, name_list_refusals};
 ghost use Rattle.olk_base.specs.Kit.{kit, world};
 ghost use Rattle.olk_read.specs.Refusing.{TellsOneOf};
-ghost use Rattle.olk_read.specs.Lists.{not_texts};
+ghost use Rattle.olk_read.specs.Lists.{not_texts, list_of, names_in, names_in_list, name_list_faults, list_faults, names_of, no_object_faults};
 ghost use Rattle.olk_read.specs.Reading.{IsFor, IsOther, IsRead, RefusesKeyword};
-ghost use Rattle.olk_read.specs.declared.shape.Shape.TheVariants.{Unpaired};
+ghost use Rattle.olk_read.specs.declared.shape.Shape.TheVariants.{Unpaired, PropertyNames, NoNames, AnyNames};
 
 use crate::lists::append;
 use crate::makers::Makers;
@@ -19,14 +20,19 @@ use crate::shape::Shape;
 use olk_base::{JsonType, MakeError, MakeLeaf, MakeRegex, Meter};
 use olk_reports::{BuildError, Location, ValidationErrorKind};
 use olk_tree::map::SortedNames;
-use serde_json::Value;
+use serde_json::{Map, Value};
 use std::alloc::Global;
 
 /// Which keyword a name is: one that is read here, one that is refused by its name, or any other.
 #[derive(Clone, Copy)]
 pub enum KeywordFor {
     Properties,
+    PropertyNames,
     Required,
+    DependentRequired,
+    DependentSchemas,
+    Dependencies,
+    PropertyDependencies,
     AllOf,
     AnyOf,
     OneOf,
@@ -51,11 +57,6 @@ fn is_refused(name: &str) -> bool
             | "unevaluatedItems"
             | "patternProperties"
             | "additionalProperties"
-            | "propertyNames"
-            | "dependentRequired"
-            | "dependentSchemas"
-            | "dependencies"
-            | "propertyDependencies"
     )
 }
 
@@ -65,7 +66,12 @@ fn keyword_for(name: &str) -> KeywordFor
 {
     match name {
         "properties" => KeywordFor::Properties,
+        "propertyNames" => KeywordFor::PropertyNames,
         "required" => KeywordFor::Required,
+        "dependentRequired" => KeywordFor::DependentRequired,
+        "dependentSchemas" => KeywordFor::DependentSchemas,
+        "dependencies" => KeywordFor::Dependencies,
+        "propertyDependencies" => KeywordFor::PropertyDependencies,
         "allOf" => KeywordFor::AllOf,
         "anyOf" => KeywordFor::AnyOf,
         "oneOf" => KeywordFor::OneOf,
@@ -140,7 +146,7 @@ fn texts_of_items<'a>(
     ensures refused { IfErr result (TellsOneOf
         (not_texts place.now (items_view items.now.items))) }
 {
-    let mut names = Vec::new(alloc);
+    let mut names = Vec::with_capacity(alloc, items.len())?;
     for item in items {
         let Some(text) = item.as_str() else {
             return Err(refuse_type(alloc, JsonType::String, item, place));
@@ -170,6 +176,260 @@ fn texts_of_array<'a>(
     texts_of_items(alloc, location, items)
 }
 
+/// The members of an object.
+///
+/// # Errors
+///
+/// What is no object is refused; else want of memory.
+fn members_of_object<'a>(
+    alloc: Global,
+    location: &Location,
+    value: &'a Value,
+) -> Result<&'a Map<String, Value>, BuildError<'a>>
+    ensures object { IfOk result (λ m. view value.now ≡ object (members_view m.now.entries)) }
+    ensures refused { IfErr result (TellsOneOf (unless_object (view value.now) location.now)) }
+{
+    let Value::Object(members) = value else {
+        return Err(refuse_type(alloc, JsonType::Object, value, location));
+    };
+    Ok(members)
+}
+
+/// Whether a value is the text.
+fn is_the_text(value: &Value, text: &str) -> bool
+    ensures { result ≡ is_among text.now (as_text (view value.now)) }
+{
+    value.as_str() == Some(text)
+}
+
+/// Whether the text is among items.
+fn is_among_items(text: &str, items: &[Value]) -> bool
+    ensures { result ≡ list_any (λ v. is_among text.now (as_text (view v))) items.now }
+{
+    items.iter().any(|item| is_the_text(item, text))
+}
+
+/// Whether an item is a text that stands among the items behind it.
+fn is_repeated(item: &Value, behind: &[Value]) -> bool
+    ensures { result ≡ list_any (λ t. is_among t (texts_in (items_view behind.now)))
+        (as_text (view item.now)) }
+{
+    match item.as_str() {
+        Some(text) => is_among_items(text, behind),
+        None => false,
+    }
+}
+
+/// Whether two items are equal texts.
+fn has_repeated_text(items: &[Value]) -> bool
+    ensures { result ≡ has_repeat (texts_in (items_view items.now)) }
+{
+    let mut left = items;
+    while let Some((item, behind)) = left.split_first() {
+        if is_repeated(item, behind) {
+            return true;
+        }
+        left = behind;
+    }
+    false
+}
+
+/// The names that an entry of `dependentRequired` lists.
+///
+/// # Errors
+///
+/// What is no array is refused, and an array with two equal texts, at the key below the keyword; then an array's first
+/// item that is no text, at the place of the keyword; else want of memory.
+fn names_of_entry<'a>(
+    alloc: Global,
+    location: &Location,
+    key: &str,
+    value: &'a Value,
+) -> Result<Vec<String>, BuildError<'a>>
+    ensures names { IfOk result (λ v. map string_bytes v.items ≡ texts (view value.now)) }
+    ensures right { IfOk result (λ v.
+        name_list_refusals key.now (view value.now) location.now ≡ []) }
+    ensures refused { IfErr result (TellsOneOf
+        (name_list_refusals key.now (view value.now) location.now)) }
+{
+    let place = location.join(alloc, key)?;
+    let items = items_of_array(alloc, &place, value)?;
+    if has_repeated_text(items) {
+        return Err(refuse(alloc, ValidationErrorKind::UniqueItems, value, &place));
+    }
+    texts_of_items(alloc, location, items)
+}
+
+/// The names that each entry of `dependentRequired` lists.
+///
+/// # Errors
+///
+/// The first entry that is no array of texts, each once, is refused, as [`names_of_entry`] says; else want of memory.
+fn names_of_entries<'a>(
+    alloc: Global,
+    location: &Location,
+    entries: &'a Map<String, Value>,
+) -> Result<Vec<Vec<String>>, BuildError<'a>>
+    ensures names { IfOk result (λ v. map names_in v.items
+        ≡ map (λ e. texts e.1) (listed (members_view entries.now.entries))) }
+    ensures right { IfOk result (λ v.
+        name_list_faults location.now (listed (members_view entries.now.entries)) ≡ []) }
+    ensures refused { IfErr result (TellsOneOf
+        (name_list_faults location.now (listed (members_view entries.now.entries)))) }
+{
+    let mut required = Vec::new(alloc);
+    for (key, value) in entries {
+        let names = names_of_entry(alloc, location, key.as_str(), value)?;
+        append(&mut required, names)?;
+    }
+    Ok(required)
+}
+
+/// The keys of `dependentRequired`, and the names that each entry lists.
+///
+/// # Errors
+///
+/// What is no object is refused, and the first entry that is no array of texts, each once; else want of memory.
+fn required_of_object<'a>(
+    alloc: Global,
+    location: &Location,
+    value: &'a Value,
+) -> Result<(SortedNames, Vec<Vec<String>>), BuildError<'a>>
+    ensures object { IfOk result (λ r. is_object (view value.now) ≡ true) }
+    ensures keys { IfOk result (λ r. r.0 ≡ map (λ e. e.0) (members (view value.now))) }
+    ensures names { IfOk result (λ r. map names_in r.1.items
+        ≡ map (λ e. texts e.1) (members (view value.now))) }
+    ensures right { IfOk result (λ r.
+        name_list_faults location.now (members (view value.now)) ≡ []) }
+    ensures refused { IfErr result (TellsOneOf (unless_object (view value.now) location.now
+        ++ name_list_faults location.now (members (view value.now)))) }
+{
+    let entries = members_of_object(alloc, location, value)?;
+    let keys = SortedNames::of(alloc, entries)?;
+    let required = names_of_entries(alloc, location, entries)?;
+    Ok((keys, required))
+}
+
+/// The names that an entry of `dependencies` lists; none where it is a schema.
+///
+/// # Errors
+///
+/// A list's first item that is no text is refused, at the place of the keyword; else want of memory.
+fn list_of_entry<'a>(
+    alloc: Global,
+    location: &Location,
+    value: &'a Value,
+) -> Result<Option<Vec<String>>, BuildError<'a>>
+    ensures list { IfOk result (λ l. names_in_list l ≡ list_of (view value.now)) }
+    ensures texts { IfOk result (λ l. not_a_text (view value.now) location.now ≡ []) }
+    ensures refused { IfErr result (TellsOneOf (not_a_text (view value.now) location.now)) }
+{
+    let Value::Array(items) = value else {
+        return Ok(None);
+    };
+    Ok(Some(texts_of_items(alloc, location, items)?))
+}
+
+/// The names that each entry of `dependencies` lists.
+///
+/// # Errors
+///
+/// A list's first item that is no text is refused, at the place of the keyword; else want of memory.
+fn lists_of_entries<'a>(
+    alloc: Global,
+    location: &Location,
+    entries: &'a Map<String, Value>,
+) -> Result<Vec<Option<Vec<String>>>, BuildError<'a>>
+    ensures lists { IfOk result (λ v. map names_in_list v.items
+        ≡ map (λ e. list_of e.1) (listed (members_view entries.now.entries))) }
+    ensures texts { IfOk result (λ v.
+        list_faults location.now (listed (members_view entries.now.entries)) ≡ []) }
+    ensures refused { IfErr result (TellsOneOf
+        (list_faults location.now (listed (members_view entries.now.entries)))) }
+{
+    let mut lists = Vec::new(alloc);
+    for (_, value) in entries {
+        let list = list_of_entry(alloc, location, value)?;
+        append(&mut lists, list)?;
+    }
+    Ok(lists)
+}
+
+/// The keys of `dependencies`, and the names that each entry lists.
+///
+/// # Errors
+///
+/// What is no object is refused, and a list's first item that is no text; else want of memory.
+fn lists_of_object<'a>(
+    alloc: Global,
+    location: &Location,
+    value: &'a Value,
+) -> Result<(SortedNames, Vec<Option<Vec<String>>>), BuildError<'a>>
+    ensures object { IfOk result (λ r. is_object (view value.now) ≡ true) }
+    ensures keys { IfOk result (λ r. r.0 ≡ map (λ e. e.0) (members (view value.now))) }
+    ensures lists { IfOk result (λ r. map names_in_list r.1.items
+        ≡ map (λ e. list_of e.1) (members (view value.now))) }
+    ensures texts { IfOk result (λ r. list_faults location.now (members (view value.now)) ≡ []) }
+    ensures refused { IfErr result (TellsOneOf (unless_object (view value.now) location.now
+        ++ list_faults location.now (members (view value.now)))) }
+{
+    let entries = members_of_object(alloc, location, value)?;
+    let keys = SortedNames::of(alloc, entries)?;
+    let lists = lists_of_entries(alloc, location, entries)?;
+    Ok((keys, lists))
+}
+
+/// The texts of each entry of `propertyDependencies`.
+///
+/// # Errors
+///
+/// An entry that is no object is refused, at its key below the keyword; else want of memory.
+fn texts_of_entries<'a>(
+    alloc: Global,
+    location: &Location,
+    entries: &'a Map<String, Value>,
+) -> Result<Vec<SortedNames>, BuildError<'a>>
+    ensures names { IfOk result (λ v. v.items
+        ≡ map (λ e. names_of e.1) (listed (members_view entries.now.entries))) }
+    ensures objects { IfOk result (λ v.
+        no_object_faults location.now (listed (members_view entries.now.entries)) ≡ []) }
+    ensures refused { IfErr result (TellsOneOf
+        (no_object_faults location.now (listed (members_view entries.now.entries)))) }
+{
+    let mut texts = Vec::new(alloc);
+    for (key, value) in entries {
+        let place = location.join(alloc, key.as_str())?;
+        let names = names_of_object(alloc, &place, value)?;
+        append(&mut texts, names)?;
+    }
+    Ok(texts)
+}
+
+/// The keys of `propertyDependencies`, and the texts of each entry.
+///
+/// # Errors
+///
+/// What is no object is refused, and an entry that is none; else want of memory.
+fn choices_of_object<'a>(
+    alloc: Global,
+    location: &Location,
+    value: &'a Value,
+) -> Result<(SortedNames, Vec<SortedNames>), BuildError<'a>>
+    ensures object { IfOk result (λ r. is_object (view value.now) ≡ true) }
+    ensures keys { IfOk result (λ r. r.0 ≡ map (λ e. e.0) (members (view value.now))) }
+    ensures texts { IfOk result (λ r. r.1.items
+        ≡ map (λ e. names_of e.1) (members (view value.now))) }
+    ensures objects { IfOk result (λ r.
+        no_object_faults location.now (members (view value.now)) ≡ []) }
+    ensures refused { IfErr result (TellsOneOf (unless_object (view value.now) location.now
+        ++ no_object_faults location.now (members (view value.now)))) }
+{
+    let entries = members_of_object(alloc, location, value)?;
+    let keys = SortedNames::of(alloc, entries)?;
+    let texts = texts_of_entries(alloc, location, entries)?;
+    Ok((keys, texts))
+}
+
 /// The shape of a keyword whose value is an array of branches.
 ///
 /// # Errors
@@ -196,6 +456,20 @@ fn shape_beside<K: Drop>(condition: bool, shape: Shape<K>) -> Shape<K>
     if condition { shape } else { Shape::Unpaired }
 }
 
+/// The shape of `propertyNames`: an object is a schema for each name, `false` allows no name, anything else any.
+fn shape_of_names<K: Drop>(value: &Value) -> Shape<K>
+    ensures { result ≡ cond (is_object (view value.now)) PropertyNames
+        (cond (is_truth false (view value.now)) NoNames AnyNames) }
+{
+    if value.is_object() {
+        Shape::PropertyNames
+    } else if value.as_bool() == Some(false) {
+        Shape::NoNames
+    } else {
+        Shape::AnyNames
+    }
+}
+
 // ---- by the keyword
 
 /// A keyword's value, read: its shape, counted where it is a leaf. `if`, `then` and `else` are read where the condition
@@ -220,7 +494,23 @@ pub fn read_keyword<'a, L: MakeLeaf, M: MakeRegex>(
 {
     match keyword_for(name) {
         KeywordFor::Properties => Ok(Shape::Properties(names_of_object(alloc, location, value)?)),
+        KeywordFor::PropertyNames => Ok(shape_of_names(value)),
         KeywordFor::Required => Ok(Shape::Required(texts_of_array(alloc, location, value)?)),
+        KeywordFor::DependentRequired => {
+            let (keys, required) = required_of_object(alloc, location, value)?;
+            Ok(Shape::DependentRequired(keys, required))
+        }
+        KeywordFor::DependentSchemas => {
+            Ok(Shape::DependentSchemas(names_of_object(alloc, location, value)?))
+        }
+        KeywordFor::Dependencies => {
+            let (keys, lists) = lists_of_object(alloc, location, value)?;
+            Ok(Shape::Dependencies(keys, lists))
+        }
+        KeywordFor::PropertyDependencies => {
+            let (keys, texts) = choices_of_object(alloc, location, value)?;
+            Ok(Shape::PropertyDependencies(keys, texts))
+        }
         KeywordFor::AllOf => Ok(shape_of_branches(alloc, location, Shape::AllOf, value)?),
         KeywordFor::AnyOf => Ok(shape_of_branches(alloc, location, Shape::AnyOf, value)?),
         KeywordFor::OneOf => Ok(shape_of_branches(alloc, location, Shape::OneOf, value)?),

@@ -6,11 +6,21 @@ use olk_tree::map::SortedNames;
 use serde_json::Value;
 
 /// A keyword that is read, with what its value holds apart from the schemas inside; `Unread` is a name that nothing
-/// reads, and `Unpaired` is `if`, `then` or `else` where `if` is not read.
+/// reads, and `Unpaired` is `if`, `then` or `else` where `if` is not read. `NoNames` is `propertyNames` that is `false`,
+/// and `AnyNames` one that is neither `false` nor an object. Beside the keys of `dependentRequired` and `dependencies`
+/// stand the names that each entry lists, none where it is a schema; beside those of `propertyDependencies` the texts of
+/// each entry.
 #[derive(Drop)]
 pub enum Shape<K> {
     Properties(SortedNames),
+    PropertyNames,
+    NoNames,
+    AnyNames,
     Required(Vec<String>),
+    DependentRequired(SortedNames, Vec<Vec<String>>),
+    DependentSchemas(SortedNames),
+    Dependencies(SortedNames, Vec<Option<Vec<String>>>),
+    PropertyDependencies(SortedNames, Vec<SortedNames>),
     AllOf,
     AnyOf,
     OneOf,
@@ -23,12 +33,15 @@ pub enum Shape<K> {
     Unread,
 }
 
-/// Which places a keyword reads in its value: none, the value itself, each entry of an object, each branch of an array.
+/// Which places a keyword reads in its value: none, the value itself, each entry of an object, or each
+/// that is no array, each entry of those entries, each branch of an array.
 #[derive(Clone, Copy)]
 pub enum ReadPlaces {
     Nothing,
     Itself,
     Entries,
+    SchemaEntries,
+    InnerEntries,
     Branches,
 }
 
@@ -38,12 +51,20 @@ impl<K> Shape<K> {
         ensures { result ≡ reads_of self.now }
     {
         match self {
-            Shape::Properties(_) => ReadPlaces::Entries,
+            Shape::Properties(_) | Shape::DependentSchemas(_) => ReadPlaces::Entries,
+            Shape::Dependencies(_, _) => ReadPlaces::SchemaEntries,
+            Shape::PropertyDependencies(_, _) => ReadPlaces::InnerEntries,
             Shape::AllOf | Shape::AnyOf | Shape::OneOf => ReadPlaces::Branches,
-            Shape::Not(_) | Shape::If | Shape::Then | Shape::Else => ReadPlaces::Itself,
-            Shape::Required(_) | Shape::Unpaired | Shape::Leaf(_) | Shape::Unread => {
-                ReadPlaces::Nothing
+            Shape::PropertyNames | Shape::Not(_) | Shape::If | Shape::Then | Shape::Else => {
+                ReadPlaces::Itself
             }
+            Shape::NoNames
+            | Shape::AnyNames
+            | Shape::Required(_)
+            | Shape::DependentRequired(_, _)
+            | Shape::Unpaired
+            | Shape::Leaf(_)
+            | Shape::Unread => ReadPlaces::Nothing,
         }
     }
 }

@@ -2,10 +2,12 @@ ghost use Rattle.std.specs.Prelude.{◌≡◌, false, string_bytes, IfOk};
 ghost use Rattle.olk_base.specs.Nodes.{data_of};
 ghost use Rattle.olk_spec.specs.Faults.{fault};
 ghost use Rattle.olk_spec.specs.Reports.{wrapped};
-ghost use Rattle.olk_spec.specs.Texts.{text};
+ghost use Rattle.olk_spec.specs.Texts.{text, kind_text, kind_prints_fraction};
+ghost use Rattle.olk_reports.specs.Errors.{kind_of};
+ghost use Rattle.olk_reports.specs.Messages.{has_error_inside};
 
 use crate::message::{
-    ending_text, joined_text, name_text, names_text, starting_text, type_error_text,
+    ending_text, joined_text, name_text, names_text, required_text, starting_text, type_error_text,
 };
 use crate::path::Location;
 use olk_base::{JsonType, Node};
@@ -128,7 +130,7 @@ impl<'a> From<AllocError> for ValidateError<'a> {
 }
 
 impl<'a> ValidationError<'a> {
-    ghost use Rattle.olk_reports.specs.Errors.{kind_of, value_of, fault_of, fault_kind, fault_instance, fault_instance_path, fault_schema_path};
+    ghost use Rattle.olk_reports.specs.Errors.{value_of, fault_of, fault_kind, fault_instance, fault_instance_path, fault_schema_path};
     ghost use Rattle.olk_spec.specs.Texts.{prints_fraction};
 
     /// An error of validating.
@@ -237,77 +239,84 @@ impl<'a> ValidationError<'a> {
             → string_bytes s ≡ text (fault_of self.now)) }
     {
         match &self.kind {
-            ValidationErrorKind::AdditionalProperties { unexpected } => Ok(names_text(
-                alloc,
-                unexpected.as_slice(),
-            )?),
-            ValidationErrorKind::AnyOf { context: _ } => Ok(starting_text(
-                alloc,
-                self.instance,
-                " is not valid under any of the schemas listed in the 'anyOf' keyword",
-            )?),
-            ValidationErrorKind::OneOfNotValid { context: _ } => Ok(starting_text(
-                alloc,
-                self.instance,
-                " is not valid under any of the schemas listed in the 'oneOf' keyword",
-            )?),
-            ValidationErrorKind::OneOfMultipleValid { context: _ } => Ok(starting_text(
-                alloc,
-                self.instance,
-                " is valid under more than one of the schemas listed in the 'oneOf' keyword",
-            )?),
-            ValidationErrorKind::Not { schema } => Ok(joined_text(
-                alloc,
-                Node::Value(schema),
-                " is not allowed for ",
-                self.instance,
-            )?),
-            ValidationErrorKind::Required { property } => Ok(name_text(
-                alloc,
-                property,
-                " is a required property",
-            )?),
-            ValidationErrorKind::FalseSchema => Ok(ending_text(
-                alloc,
-                "False schema does not allow ",
-                self.instance,
-            )?),
             ValidationErrorKind::PropertyNames { error } => Ok(error.message(alloc)?),
-            ValidationErrorKind::Leaf { keyword: _, text } => Ok(String::from_str(
-                alloc,
-                text.as_str(),
-            )?),
-            ValidationErrorKind::SingleType { expected } => Ok(type_error_text(
-                alloc,
-                self.instance,
-                *expected,
-            )?),
-            ValidationErrorKind::MultipleTypes => Ok(starting_text(
-                alloc,
-                self.instance,
-                " is not of types \"boolean\", \"object\"",
-            )?),
-            ValidationErrorKind::UniqueItems => Ok(starting_text(
-                alloc,
-                self.instance,
-                " has non-unique elements",
-            )?),
-            ValidationErrorKind::Regex => Ok(starting_text(
-                alloc,
-                self.instance,
-                " is not a \"regex\"",
-            )?),
-            ValidationErrorKind::Unsupported { keyword } => Ok(name_text(
-                alloc,
-                keyword,
-                " is not supported here",
-            )?),
-            ValidationErrorKind::LeafRefused { keyword } => Ok(joined_text(
-                alloc,
-                self.instance,
-                " is not a value for ",
-                Node::Name(keyword),
-            )?),
+            kind => own_text(alloc, kind, self.instance),
         }
+    }
+}
+
+// The text of a kind that has no error inside.
+#[tactic(auto, using(crate::proofs::Errors::kinds))]
+fn own_text(
+    alloc: Global,
+    kind: &ValidationErrorKind<'_>,
+    instance: Node<'_>,
+) -> Result<String, AllocError>
+    ensures { has_error_inside (kind_of kind.now) ≡ false → IfOk result (λ s.
+        kind_prints_fraction (kind_of kind.now) (data_of instance.entry) ≡ false
+        → string_bytes s ≡ kind_text (kind_of kind.now) (data_of instance.entry)) }
+{
+    match kind {
+        ValidationErrorKind::AdditionalProperties { unexpected } => Ok(names_text(
+            alloc,
+            unexpected.as_slice(),
+        )?),
+        ValidationErrorKind::AnyOf { context: _ } => Ok(starting_text(
+            alloc,
+            instance,
+            " is not valid under any of the schemas listed in the 'anyOf' keyword",
+        )?),
+        ValidationErrorKind::OneOfNotValid { context: _ } => Ok(starting_text(
+            alloc,
+            instance,
+            " is not valid under any of the schemas listed in the 'oneOf' keyword",
+        )?),
+        ValidationErrorKind::OneOfMultipleValid { context: _ } => Ok(starting_text(
+            alloc,
+            instance,
+            " is valid under more than one of the schemas listed in the 'oneOf' keyword",
+        )?),
+        ValidationErrorKind::Not { schema } => Ok(joined_text(
+            alloc,
+            Node::Value(schema),
+            " is not allowed for ",
+            instance,
+        )?),
+        ValidationErrorKind::Required { property } => Ok(required_text(alloc, property)?),
+        ValidationErrorKind::FalseSchema => Ok(ending_text(
+            alloc,
+            "False schema does not allow ",
+            instance,
+        )?),
+        ValidationErrorKind::PropertyNames { error: _ } => Ok(String::new(alloc)),
+        ValidationErrorKind::Leaf { keyword: _, text } => Ok(String::from_str(
+            alloc,
+            text.as_str(),
+        )?),
+        ValidationErrorKind::SingleType { expected } => Ok(type_error_text(
+            alloc, instance, *expected,
+        )?),
+        ValidationErrorKind::MultipleTypes => Ok(starting_text(
+            alloc,
+            instance,
+            " is not of types \"boolean\", \"object\"",
+        )?),
+        ValidationErrorKind::UniqueItems => Ok(starting_text(
+            alloc,
+            instance,
+            " has non-unique elements",
+        )?),
+        ValidationErrorKind::Regex => Ok(starting_text(alloc, instance, " is not a \"regex\"")?),
+        ValidationErrorKind::Unsupported { keyword } => Ok(name_text(
+            alloc,
+            keyword,
+            " is not supported here",
+        )?),
+        ValidationErrorKind::LeafRefused { keyword } => Ok(joined_text(
+            alloc,
+            instance,
+            " is not a value for ",
+            Node::Name(keyword),
+        )?),
     }
 }

@@ -1,4 +1,6 @@
 //! Where a value stands, what is wrong with it, and what an evaluation shows of it.
+//!
+//! Stands on `olk_base`. Tested by `olk_low_tests`.
 #![tactic(auto)]
 
 mod entry;

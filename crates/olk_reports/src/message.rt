@@ -71,6 +71,13 @@ pub(crate) fn name_text(alloc: Global, name: &str, rest: &str) -> Result<String,
     Ok(text)
 }
 
+pub(crate) fn required_text(alloc: Global, property: &str) -> Result<String, AllocError>
+    ensures { IfOk result (λ s. string_bytes s
+        ≡ compact_text (string property.now) ++ codes " is a required property") }
+{
+    name_text(alloc, property, " is a required property")
+}
+
 fn type_name(json_type: JsonType) -> &'static str
     ensures { result.now ≡ type_text (type_name_of json_type) }
 {

@@ -92,7 +92,10 @@ impl Location {
     pub fn join(&self, alloc: Global, segment: &str) -> Result<Location, AllocError>
         ensures { IfOk result (λ l. l ≡ one_below self.now segment.now) }
     {
-        let mut pointer = String::from_str(alloc, self.pointer.as_str())?;
+        let place = self.pointer.as_str();
+        let room = place.len().saturating_add(1).saturating_add(segment.len());
+        let mut pointer = String::with_capacity(alloc, room)?;
+        pointer.push_str(place)?;
         push_segment(&mut pointer, segment)?;
         Ok(Location { pointer })
     }

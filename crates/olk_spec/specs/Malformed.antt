@@ -12,9 +12,7 @@ use Rattle.olk_spec.specs.Faults.{Fault, fault, Kind, SingleType, MultipleTypes,
 
 -- the keywords that are defined here and not compiled yet
 abbrev pub pending : List Name
-pending =
-    codes "patternProperties" ∷ codes "additionalProperties" ∷ codes "propertyNames"
-    ∷ codes "dependentRequired" ∷ codes "dependentSchemas" ∷ codes "dependencies" ∷ codes "propertyDependencies" ∷ []
+pending = codes "patternProperties" ∷ codes "additionalProperties" ∷ []
 
 -- ---- the places that a keyword reads, each with its path below the schema object
 

@@ -1,10 +1,12 @@
 //! What building and asking count.
-use object_logic::{BuildError, Meter, ValidationContext, Validator, holds_whole_numbers};
+use object_logic::{
+    BuildError, Leaf, MakeError, MakeLeaf, Meter, Node, ValidationContext, Validator,
+    holds_whole_numbers,
+};
 use olk_bench::{BenchLeaf, BenchLeaves, BenchRegex, BenchRegexes};
 use olk_low_tests::counting::Counting;
-use olk_low_tests::doubles::{Equality, NoTexts};
 use serde_json::Value;
-use std::alloc::Global;
+use std::alloc::{AllocError, Global};
 use std::cell::Cell;
 use std::process::Abort;
 use std::test::Fail;
@@ -109,11 +111,13 @@ fn expect_no_counts(
 fn asking_counts_nothing(rt: HostRuntime) -> Result<(), Fail> {
     let schema = concat!(
         r#"{"allOf":[{"required":["a"]},{}],"anyOf":[{"type":"null"},{"type":"object"}],"not":{"required":["b"]},"#,
+        r#""dependencies":{"a":["c"],"c":{"required":["a"]}},"dependentRequired":{"a":["c"]},"#,
+        r#""dependentSchemas":{"a":{"required":["c"]}},"propertyDependencies":{"b":{"t":false}},"#,
         r#""else":{"required":["c"]},"if":{"required":["b"]},"oneOf":[{"required":["b"]},{"required":["c"]}],"then":false,"#,
-        r#""properties":{"a":{"minimum":5},"c":true},"required":["a","c"]}"#
+        r#""properties":{"a":{"minimum":5},"c":true},"propertyNames":{"maxLength":1},"required":["a","c"]}"#
     );
     expect_no_counts(&rt, rt.alloc(), schema, r#"{"a":5,"c":1}"#)?;
-    expect_no_counts(&rt, rt.alloc(), schema, r#"{"a":4,"b":1}"#)
+    expect_no_counts(&rt, rt.alloc(), schema, r#"{"a":4,"b":"t","dd":1}"#)
 }
 
 #[test]
@@ -146,12 +150,12 @@ fn counts_of_a_refused_build(rt: HostRuntime) -> Result<(), Fail> {
 fn made(alloc: Global, schema: &Value, meter: &mut Meter) -> Result<(u64, u64), Fail> {
     let (leaves, engines, asked) = (Cell::new(0), Cell::new(0), Cell::new(0));
     let texts = Counting {
-        maker: NoTexts,
+        maker: BenchLeaves,
         made: &leaves,
         asked: &asked,
     };
     let patterns = Counting {
-        maker: Equality,
+        maker: BenchRegexes,
         made: &engines,
         asked: &asked,
     };
@@ -163,46 +167,173 @@ fn made(alloc: Global, schema: &Value, meter: &mut Meter) -> Result<(u64, u64), 
     Ok((leaves.get(), engines.get()))
 }
 
-fn expect_made(rt: &impl Abort, alloc: Global, schema: &str, leaves: u64) -> Result<(), Fail> {
-    let schema = Value::from_str(alloc, schema)?;
+// A schema, and what building counts.
+const MADE: &str = r#"{"other":{"type":"null"}} | 1 places, 0 leaves
+{"type":5} | 1 places, 1 leaves
+{"anyOf":[{"not":{"type":"null"}}]} | 3 places, 1 leaves
+{"properties":{"a":{"type":"null"},"b":{}},"required":["a","b"]} | 3 places, 1 leaves
+{"allOf":[{"type":"null"},{"properties":{"a":{"type":"null"}}}],"type":"null"} | 4 places, 3 leaves
+{"if":{"type":"null"}} | 1 places, 0 leaves
+{"else":{"type":"null"},"then":{"type":"null"}} | 1 places, 0 leaves
+{"else":{"type":"null"},"if":{"type":"null"},"then":{"type":"null"}} | 4 places, 3 leaves
+{"allOf":[{"if":{"type":"integer"},"then":{"minimum":1}},true]} | 5 places, 2 leaves
+{"propertyNames":true} | 1 places, 0 leaves
+{"propertyNames":false} | 1 places, 0 leaves
+{"propertyNames":[{"type":"null"}]} | 1 places, 0 leaves
+{"propertyNames":{}} | 2 places, 0 leaves
+{"propertyNames":{"minLength":1}} | 2 places, 1 leaves
+{"propertyNames":{"not":true}} | 3 places, 0 leaves
+{"dependentRequired":{"a":[]}} | 1 places, 0 leaves
+{"dependentRequired":{"a":["b"],"b":["a"]}} | 1 places, 0 leaves
+{"dependencies":{"a":[]}} | 1 places, 0 leaves
+{"dependencies":{"a":false}} | 2 places, 0 leaves
+{"dependencies":{"a":["b"],"c":{}}} | 2 places, 0 leaves
+{"dependencies":{"a":["b"],"c":{"type":"null"},"d":{"maxLength":2,"minLength":1}}} | 3 places, 3 leaves
+{"dependentSchemas":{"a":{"type":"null"},"b":{"dependentSchemas":{"c":{"type":"null"}}}}} | 4 places, 2 leaves
+{"propertyDependencies":{"k":{"a":{"type":"string"},"b":{}}}} | 3 places, 1 leaves
+{"propertyDependencies":{"k":{},"l":{"t":{"type":"null"}},"m":{"t":{"type":"null"},"u":true}}} | 4 places, 2 leaves"#;
+
+fn expect_made(rt: &impl Abort, alloc: Global, row: &str) -> Result<(), Fail> {
+    let (text, counted) = row.split_once(" | ").ok_or("a row of one cell")?;
+    let schema = Value::from_str(alloc, text)?;
     let mut meter = Meter::new();
     let made = made(alloc, &schema, &mut meter)?;
-    assert_eq!(rt; made, (leaves, 0), "{leaves}");
-    assert_eq!(rt; (meter.leaves(), meter.made()), made, "{leaves}");
+    let [places, leaves, engines, asked, unfinished] = counts(&meter);
+    let found = format!(in alloc; "{places} places, {leaves} leaves")?;
+    assert_eq!(rt; found.as_str(), counted, "{text}");
+    assert_eq!(rt; made, (leaves, engines), "{text}");
+    assert_eq!(rt; (engines, asked, unfinished), (0, 0, 0), "{text}");
     Ok(())
 }
 
 #[test]
-fn each_leaf_is_made_once(rt: HostRuntime) -> Result<(), Fail> {
-    for (schema, leaves) in [
-        (r#"{"other":{"text":false}}"#, 0),
-        (r#"{"text":true}"#, 1),
-        (r#"{"anyOf":[{"not":{"text":false}}]}"#, 1),
-        (
-            r#"{"properties":{"a":{"text":false},"b":{}},"required":["a","b"]}"#,
-            1,
-        ),
-        (
-            r#"{"allOf":[{"text":false},{"properties":{"a":{"text":false}}}],"text":false}"#,
-            3,
-        ),
-    ] {
-        expect_made(&rt, rt.alloc(), schema, leaves)?;
+fn each_place_and_leaf_is_made_once(rt: HostRuntime) -> Result<(), Fail> {
+    for row in MADE.lines() {
+        expect_made(&rt, rt.alloc(), row)?;
     }
     Ok(())
 }
 
+// ---- leaves that are asked
+
+// Makes the leaves of its maker, which count in a cell how often they are asked whether they accept.
+#[derive(Drop)]
+struct Asking<'c, M> {
+    maker: M,
+    asked: &'c Cell<u64>,
+}
+
+// A leaf that counts so.
+#[derive(Drop)]
+struct Asked<'c, K> {
+    leaf: K,
+    asked: &'c Cell<u64>,
+}
+
+impl<K: Leaf> Leaf for Asked<'_, K> {
+    ghost reads = { K.reads };
+
+    ghost fits = { K.fits };
+
+    ghost faults = { K.faults };
+
+    ghost keyword_of = { λ l. K.keyword_of l.leaf };
+
+    ghost finds = { λ l v. K.finds l.leaf v };
+
+    fn keyword(&self) -> &str {
+        self.leaf.keyword()
+    }
+
+    fn is_valid(&self, node: Node<'_>) -> bool {
+        self.asked.set(self.asked.get().saturating_add(1));
+        self.leaf.is_valid(node)
+    }
+
+    fn validate(&self, alloc: Global, node: Node<'_>) -> Result<Option<String>, AllocError> {
+        self.leaf.validate(alloc, node)
+    }
+
+    fn collect_errors(
+        &self,
+        alloc: Global,
+        node: Node<'_>,
+        texts: &mut Vec<String>,
+    ) -> Result<(), AllocError> {
+        self.leaf.collect_errors(alloc, node, texts)
+    }
+
+    fn evaluate(&self, alloc: Global, node: Node<'_>) -> Result<Vec<String>, AllocError> {
+        self.leaf.evaluate(alloc, node)
+    }
+}
+
+impl<'c, M: MakeLeaf> MakeLeaf for Asking<'c, M> {
+    type Leaf = Asked<'c, M::Leaf>;
+
+    fn reads(&self, keyword: &str) -> bool {
+        self.maker.reads(keyword)
+    }
+
+    fn make(
+        &self,
+        alloc: Global,
+        keyword: &str,
+        value: &Value,
+        meter: &mut Meter,
+    ) -> Result<Asked<'c, M::Leaf>, MakeError> {
+        let leaf = self.maker.make(alloc, keyword, value, meter)?;
+        Ok(Asked {
+            leaf,
+            asked: self.asked,
+        })
+    }
+}
+
+// How often a verdict asks the leaves of a schema.
+fn asks_of_leaves(alloc: Global, schema: &Value, instance: &Value) -> Result<u64, Fail> {
+    let asked = Cell::new(0);
+    let leaves = Asking {
+        maker: BenchLeaves,
+        asked: &asked,
+    };
+    let Ok(validator) = Validator::build(alloc, &leaves, &BenchRegexes, schema, &mut Meter::new())
+    else {
+        return Err(Fail::new("not built"));
+    };
+    let mut ctx = ValidationContext::new(false);
+    let _valid = validator.is_valid(instance, &mut ctx);
+    Ok(asked.get())
+}
+
+// A schema, an instance, and how often a verdict asks a leaf.
+const ASKED: &str = r#"{"dependentSchemas":{"a":{"minLength":1}}} | {"b":1} | 0
+{"dependentSchemas":{"a":{"minLength":1}}} | {"a":1} | 1
+{"dependentSchemas":{"a":{"minLength":1},"b":{"minLength":1}}} | {"a":1,"b":2} | 2
+{"dependencies":{"a":{"minLength":1},"b":["c"],"d":{"minLength":1}}} | {"a":1,"b":2,"c":3} | 1
+{"dependencies":{"a":["b"],"c":{"minLength":1}}} | {"a":1,"c":2} | 0
+{"propertyNames":{"minLength":1}} | {} | 0
+{"propertyNames":{"minLength":1}} | {"a":1,"b":2,"c":3} | 3
+{"propertyNames":{"minLength":2}} | {"ab":1,"c":2,"de":3} | 2
+{"propertyNames":{"minLength":2}} | ["c"] | 0
+{"propertyDependencies":{"k":{"a":{"minLength":1},"b":{"minLength":1}},"l":{"a":{"minLength":1}}}} | {"k":"a","l":"c"} | 1
+{"propertyDependencies":{"k":{"a":{"minLength":1}},"l":{"b":{"minLength":1}}}} | {"k":"a","l":"b"} | 2
+{"propertyDependencies":{"k":{"a":{"minLength":1}}}} | {"k":1} | 0"#;
+
+fn expect_asked(rt: &impl Abort, alloc: Global, row: &str) -> Result<(), Fail> {
+    let (schema, others) = row.split_once(" | ").ok_or("a row of one cell")?;
+    let (instance, times) = others.split_once(" | ").ok_or("a row of two cells")?;
+    let schema = Value::from_str(alloc, schema)?;
+    let instance = Value::from_str(alloc, instance)?;
+    let asked = asks_of_leaves(alloc, &schema, &instance)?;
+    assert_eq!(rt; format!(in alloc; "{asked}")?.as_str(), times, "{row}");
+    Ok(())
+}
+
 #[test]
-fn each_leaf_of_a_condition_is_made_once(rt: HostRuntime) -> Result<(), Fail> {
-    for (schema, leaves) in [
-        (r#"{"if":{"text":false}}"#, 0),
-        (r#"{"else":{"text":false},"then":{"text":false}}"#, 0),
-        (
-            r#"{"else":{"text":false},"if":{"text":false},"then":{"text":false}}"#,
-            3,
-        ),
-    ] {
-        expect_made(&rt, rt.alloc(), schema, leaves)?;
+fn a_leaf_is_asked_where_it_is_due(rt: HostRuntime) -> Result<(), Fail> {
+    for row in ASKED.lines() {
+        expect_asked(&rt, rt.alloc(), row)?;
     }
     Ok(())
 }

@@ -1,7 +1,7 @@
 //! Contexts of errors, lists that are handed in, and children of evaluations. What is found without contexts is in the
 //! program's lines (tools/program_lines).
 use object_logic::{
-    BuildError, EvaluationNode, Meter, ValidateError, ValidationContext, ValidationError,
+    BuildError, EvaluationNode, Meter, Node, ValidateError, ValidationContext, ValidationError,
     ValidationErrorKind, Validator,
 };
 use olk_bench::{BenchLeaf, BenchLeaves, BenchRegex, BenchRegexes};
@@ -56,13 +56,50 @@ fn push_branches(
 }
 
 // The line of an error, and what each branch finds.
-fn with_context(alloc: Global, error: &ValidationError<'_>) -> Result<String, AllocError> {
+fn with_branches(alloc: Global, error: &ValidationError<'_>) -> Result<String, AllocError> {
     let mut text = line(alloc, error)?;
     match error.kind() {
         ValidationErrorKind::AnyOf { context } => push_branches(alloc, &mut text, context)?,
         ValidationErrorKind::OneOfNotValid { context } => push_branches(alloc, &mut text, context)?,
         ValidationErrorKind::OneOfMultipleValid { context } => {
             push_branches(alloc, &mut text, context)?;
+        }
+        _ => {}
+    }
+    Ok(text)
+}
+
+// What an error speaks of.
+fn push_instance(
+    alloc: Global,
+    text: &mut String,
+    error: &ValidationError<'_>,
+) -> Result<(), AllocError> {
+    match error.instance() {
+        Node::Value(value) => {
+            text.push_str(" of ")?;
+            text.push_str(value.to_string(alloc)?.as_str())?;
+        }
+        Node::Name(name) => {
+            text.push_str(" of the name ")?;
+            text.push_str(name)?;
+        }
+    }
+    Ok(())
+}
+
+// The line of an error with what each branch finds, what it speaks of where its text doesn't tell, and in brackets the error
+// inside.
+fn with_context(alloc: Global, error: &ValidationError<'_>) -> Result<String, AllocError> {
+    let mut text = with_branches(alloc, error)?;
+    match error.kind() {
+        ValidationErrorKind::Required { property: _ } => push_instance(alloc, &mut text, error)?,
+        ValidationErrorKind::PropertyNames { error: inside } => {
+            push_instance(alloc, &mut text, error)?;
+            text.push_str(" [")?;
+            text.push_str(with_branches(alloc, inside)?.as_str())?;
+            push_instance(alloc, &mut text, inside)?;
+            text.push_str("]")?;
         }
         _ => {}
     }
@@ -148,9 +185,6 @@ fn expect_found(rt: &impl Abort, alloc: Global, row: Row<'_>) -> Result<(), Fail
     assert_eq!(rt; told, (valid, valid), "{name}");
     Ok(())
 }
-
-const TWO: &str =
-    r#"{"properties":{"a":{"type":"integer"},"b":{"type":"string"}},"required":["a","b"]}"#;
 
 const NO_BRANCH: &str =
     "1 is not valid under any of the schemas listed in the 'anyOf' keyword @ \"\", /anyOf";
@@ -293,6 +327,31 @@ fn conditions(rt: HostRuntime) -> Result<(), Fail> {
     Ok(())
 }
 
+// The same for the dependency keywords, and for names.
+const DEPENDENCIES: &str =
+    r##"a key wants a name of the object | {"dependentRequired":{"a":["b"]}} | {"a":1} | "b" is a required property @ "", /dependentRequired of {"a":1}
+a key that is not there | {"dependentRequired":{"a":["b"]}} | {"c":1} | accepted
+a list in a member | {"properties":{"o/p":{"dependencies":{"a":["b"]}}}} | {"o/p":{"a":1}} | "b" is a required property @ "/o~1p", /properties/o~1p/dependencies of {"a":1}
+a schema of a key | {"dependentSchemas":{"a":{"required":["b"]}}} | {"a":1} | "b" is a required property @ "", /dependentSchemas/a/required of {"a":1}
+branches of a key | {"dependentSchemas":{"a":{"anyOf":[{"type":"null"},{"dependencies":{"a":["b"]}}]}}} | {"a":1} | {"a":1} is not valid under any of the schemas listed in the 'anyOf' keyword @ "", /dependentSchemas/a/anyOf {{"a":1} is not of type "null" @ "", /dependentSchemas/a/anyOf/0/type;} {"b" is a required property @ "", /dependentSchemas/a/anyOf/1/dependencies;}
+a schema that a text chooses | {"propertyDependencies":{"kind":{"a":{"required":["x"]},"b":false}}} | {"kind":"a"} | "x" is a required property @ "", /propertyDependencies/kind/a/required of {"kind":"a"}
+a list that is told twice, and a schema that is chosen, in branches | {"oneOf":[{"dependencies":{"a":["b","b"]}},{"propertyDependencies":{"a":{"":false}}}]} | {"a":""} | {"a":""} is not valid under any of the schemas listed in the 'oneOf' keyword @ "", /oneOf {"b" is a required property @ "", /oneOf/0/dependencies;"b" is a required property @ "", /oneOf/0/dependencies;} {False schema does not allow {"a":""} @ "", /oneOf/1/propertyDependencies/a/;}
+a name that is too short | {"propertyNames":{"minLength":2}} | {"f":1} | "f" is shorter than 2 characters @ "", /propertyNames/minLength of {"f":1} ["f" is shorter than 2 characters @ "", /propertyNames/minLength of the name f]
+the empty name | {"propertyNames":{"minLength":1}} | {"":1} | "" is shorter than 1 characters @ "", /propertyNames/minLength of {"":1} ["" is shorter than 1 characters @ "", /propertyNames/minLength of the name ]
+not of a name | {"propertyNames":{"not":true}} | {"a":1} | true is not allowed for "a" @ "", /propertyNames/not of {"a":1} [true is not allowed for "a" @ "", /propertyNames/not of the name a]
+a name of a member | {"properties":{"o/p":{"propertyNames":{"allOf":[false]}}}} | {"o/p":{"a":1}} | False schema does not allow "a" @ "/o~1p", /properties/o~1p/propertyNames/allOf/0 of {"a":1} [False schema does not allow "a" @ "/o~1p", /properties/o~1p/propertyNames/allOf/0 of the name a]
+branches of a name | {"propertyNames":{"oneOf":[{"const":"a"},true,{"maxLength":3}]}} | {"b":1} | "b" is valid under more than one of the schemas listed in the 'oneOf' keyword @ "", /propertyNames/oneOf of {"b":1} ["b" is valid under more than one of the schemas listed in the 'oneOf' keyword @ "", /propertyNames/oneOf {"a" was expected @ "", /propertyNames/oneOf/0/const;} {} {} of the name b]
+names in branches | {"anyOf":[{"propertyNames":{"maxLength":1}},{"propertyNames":false}]} | {"ab":1,"c":2,"de":3} | {"ab":1,"c":2,"de":3} is not valid under any of the schemas listed in the 'anyOf' keyword @ "", /anyOf {"ab" is longer than 1 characters @ "", /anyOf/0/propertyNames/maxLength;"de" is longer than 1 characters @ "", /anyOf/0/propertyNames/maxLength;} {False schema does not allow {"ab":1,"c":2,"de":3} @ "", /anyOf/1/propertyNames;}
+no name is allowed | {"propertyNames":false} | {"foo":1} | False schema does not allow {"foo":1} @ "", /propertyNames"##;
+
+#[test]
+fn dependencies_and_names(rt: HostRuntime) -> Result<(), Fail> {
+    for row in DEPENDENCIES.lines() {
+        expect_one(&rt, rt.alloc(), row)?;
+    }
+    Ok(())
+}
+
 // The errors in the contexts of errors, with their contexts.
 fn inner_lines(alloc: Global, errors: &[ValidationError<'_>]) -> Result<Vec<String>, AllocError> {
     let mut lines = Vec::new(alloc);
@@ -381,17 +440,44 @@ fn errors_before_are_kept(rt: HostRuntime) -> Result<(), Fail> {
     Ok(())
 }
 
-// The schema paths of a node and of those below it, in parentheses, down to the keywords of its members.
-fn push_paths(text: &mut String, keyword: &EvaluationNode<'_>) -> Result<(), AllocError> {
-    text.push_str(keyword.schema_path())?;
-    for member in keyword.children() {
+// A node: its two paths, a mark where it is invalid, its names in brackets, and its errors.
+fn push_node(text: &mut String, node: &EvaluationNode<'_>) -> Result<(), AllocError> {
+    text.push_str(node.schema_path())?;
+    text.push_str("@")?;
+    text.push_str(node.instance_path())?;
+    if !node.valid() {
+        text.push_str("!")?;
+    }
+    if let Some(names) = node.annotation() {
+        text.push_str(" [")?;
+        for name in names {
+            text.push_str(name)?;
+            text.push_str(",")?;
+        }
+        text.push_str("]")?;
+    }
+    for error in node.errors() {
+        text.push_str(" ")?;
+        text.push_str(error.keyword())?;
+        text.push_str(": ")?;
+        text.push_str(error.message())?;
+    }
+    Ok(())
+}
+
+// A node and those below it, in parentheses, down to the keywords of the schemas that a keyword asks, and `..` for what is
+// deeper.
+fn push_tree(text: &mut String, keyword: &EvaluationNode<'_>) -> Result<(), AllocError> {
+    push_node(text, keyword)?;
+    for place in keyword.children() {
         text.push_str(" (")?;
-        text.push_str(member.schema_path())?;
-        for leaf in member.children() {
+        push_node(text, place)?;
+        for inner in place.children() {
             text.push_str(" (")?;
-            text.push_str(leaf.schema_path())?;
-            text.push_str("@")?;
-            text.push_str(leaf.instance_path())?;
+            push_node(text, inner)?;
+            if !inner.children().is_empty() {
+                text.push_str(" ..")?;
+            }
             text.push_str(")")?;
         }
         text.push_str(")")?;
@@ -399,8 +485,8 @@ fn push_paths(text: &mut String, keyword: &EvaluationNode<'_>) -> Result<(), All
     Ok(())
 }
 
-// The paths of what an evaluation shows below its root.
-fn shown_paths(alloc: Global, schema: &str, instance: &str) -> Result<String, Fail> {
+// What an evaluation shows below its root.
+fn shown_tree(alloc: Global, schema: &str, instance: &str) -> Result<String, Fail> {
     let schema = Value::from_str(alloc, schema)?;
     let instance = Value::from_str(alloc, instance)?;
     let validator = built(alloc, &schema)?;
@@ -408,24 +494,57 @@ fn shown_paths(alloc: Global, schema: &str, instance: &str) -> Result<String, Fa
     let evaluation = validator.evaluate(alloc, &instance, &mut ctx)?;
     let mut text = String::new(alloc);
     for keyword in evaluation.root().children() {
-        push_paths(&mut text, keyword)?;
+        push_tree(&mut text, keyword)?;
+        text.push_str(";")?;
     }
     Ok(text)
 }
 
+// A name, a schema, an instance, and what an evaluation shows below its root.
+const TREES: &str =
+    r##"declared members | {"properties":{"a":{"type":"integer"},"b":{"type":"string"}},"required":["a","b"]} | {"a":1,"b":"x"} | /properties@ [a,b,] (/properties/a@/a (/properties/a/type@/a)) (/properties/b@/b (/properties/b/type@/b));
+an empty list of a key stands at the keyword | {"dependentRequired":{"a":[]}} | {"a":1} | /dependentRequired@ (/dependentRequired@);
+a list of a key, a name is missing | {"dependentRequired":{"a":["b"]}} | {"a":1} | /dependentRequired@! (/dependentRequired@! required: "b" is a required property);
+a list of a key that is not there | {"dependentRequired":{"a":["b"]}} | {"c":1} | /dependentRequired@;
+two lists in the order of keys, a third key is not there | {"dependentRequired":{"c":["a","y","x"],"b":["z"],"a":["c"]}} | {"a":1,"c":2} | /dependentRequired@! (/dependentRequired@) (/dependentRequired@! required: "y" is a required property required: "x" is a required property);
+an empty list as a dependency | {"dependencies":{"a":[]}} | {"a":1} | /dependencies@ (/dependencies@);
+a dependency that is false, its key is not there | {"dependencies":{"a":false}} | {} | /dependencies@;
+a list between two schemas | {"dependencies":{"c":{"required":["z"]},"b":["y"],"a":{"required":["b"]}}} | {"c":1,"b":2,"a":3} | /dependencies@! (/dependencies/a@ (/dependencies/a/required@)) (/dependencies@! required: "y" is a required property) (/dependencies/c@! (/dependencies/c/required@! required: "z" is a required property));
+a schema of a key, that of another key is not asked | {"dependentSchemas":{"a":{"properties":{"a":true}},"b":false}} | {"a":1} | /dependentSchemas@ (/dependentSchemas/a@ (/dependentSchemas/a/properties@ [a,] ..));
+a name of an empty schema | {"propertyNames":{}} | {"a":1} | /propertyNames@ (/propertyNames@);
+the empty name | {"propertyNames":{"minLength":1}} | {"":1} | /propertyNames@! (/propertyNames@! (/propertyNames/minLength@! minLength: "" is shorter than 1 characters));
+not of a name | {"propertyNames":{"not":true}} | {"a":1} | /propertyNames@! (/propertyNames@! (/propertyNames/not@! not: true is not allowed for "a"));
+each name in its order | {"propertyNames":{"maxLength":1}} | {"c":1,"ab":2} | /propertyNames@! (/propertyNames@! (/propertyNames/maxLength@! maxLength: "ab" is longer than 1 characters)) (/propertyNames@ (/propertyNames/maxLength@));
+no name is allowed | {"propertyNames":false} | {"foo":1} | /propertyNames@! falseSchema: False schema does not allow {"foo":1};
+no name is there | {"propertyNames":false} | {} | /propertyNames@;
+each name is allowed | {"propertyNames":true,"required":["a"]} | {"a":1} | /required@;
+two schemas that are chosen, in the order of names | {"propertyDependencies":{"l":{"b":{"required":["k"]}},"k":{"a":false,"b":true},"m":{"a":false}}} | {"k":"a","l":"b"} | /propertyDependencies@! (/propertyDependencies/k/a@! falseSchema: False schema does not allow {"k":"a","l":"b"}) (/propertyDependencies/l/b@ (/propertyDependencies/l/b/required@));
+a text that chooses none | {"propertyDependencies":{"k":{"a":false}}} | {"k":"b"} | /propertyDependencies@;
+no object | {"dependencies":{"a":["b"]},"dependentRequired":{"a":["b"]},"dependentSchemas":{"a":false},"propertyDependencies":{"a":{"a":false}},"propertyNames":{"type":"null"}} | "a" | /dependencies@;/dependentRequired@;/dependentSchemas@;/propertyDependencies@;/propertyNames@;"##;
+
+fn expect_tree(rt: &impl Abort, alloc: Global, row: &str) -> Result<(), Fail> {
+    let (name, others) = row.split_once(" | ").ok_or("a row of one cell")?;
+    let (schema, others) = others.split_once(" | ").ok_or("a row of two cells")?;
+    let (instance, tree) = others.split_once(" | ").ok_or("a row of three cells")?;
+    let shown = shown_tree(alloc, schema, instance)?;
+    assert_eq!(rt; shown.as_str(), tree, "{name}");
+    Ok(())
+}
+
 #[test]
-fn children_of_an_evaluation(rt: HostRuntime) -> Result<(), Fail> {
-    let text = shown_paths(rt.alloc(), TWO, r#"{"a":1,"b":"x"}"#)?;
-    assert_eq!(rt;
-        text.as_str(),
-        "/properties (/properties/a (/properties/a/type@/a)) (/properties/b (/properties/b/type@/b))"
-    );
+fn trees_of_evaluations(rt: HostRuntime) -> Result<(), Fail> {
+    for row in TREES.lines() {
+        expect_tree(&rt, rt.alloc(), row)?;
+    }
     Ok(())
 }
 
 const MANY_FAULTS: &str = concat!(
     r#"{"allOf":[{"required":["a","b"]},{"properties":{"c":{"type":"string"}}}],"#,
     r#""anyOf":[{"required":["a"]},{"properties":{"c":false}}],"not":{"required":["c"]},"#,
+    r#""dependencies":{"c":["e"],"d":{"required":["e"]}},"dependentRequired":{"c":["d","e"]},"#,
+    r#""dependentSchemas":{"d":{"required":["e"]}},"propertyDependencies":{"k":{"t":{"required":["e"]}}},"#,
+    r#""propertyNames":{"not":{"const":"k"}},"#,
     r#""properties":{"c":{"minimum":5},"d":{"type":"integer"}},"required":["a","b"]}"#
 );
 
@@ -498,13 +617,13 @@ fn two_counts_at_last(
 fn full_answers_after_a_refused_growth(rt: HostRuntime) -> Result<(), Fail> {
     let alloc = rt.alloc();
     let schema = Value::from_str(alloc, MANY_FAULTS)?;
-    let instance = Value::from_str(alloc, r#"{"c":1,"d":2}"#)?;
+    let instance = Value::from_str(alloc, r#"{"c":1,"d":2,"k":"t"}"#)?;
     let validator = built(alloc, &schema)?;
-    assert_eq!(rt; two_counts_at_last(&validator, alloc, &instance)?, (8, 16));
+    assert_eq!(rt; two_counts_at_last(&validator, alloc, &instance)?, (14, 28));
     assert_eq!(rt;
         first_line_at_last(&validator, alloc, &instance)?.as_str(),
-        r#""a" is a required property @ "", /allOf/0/required"#
+        r#""a" is a required property @ "", /allOf/0/required of {"c":1,"d":2,"k":"t"}"#
     );
-    assert_eq!(rt; evaluated_errors_at_last(&validator, alloc, &instance)?, 9);
+    assert_eq!(rt; evaluated_errors_at_last(&validator, alloc, &instance)?, 15);
     Ok(())
 }

@@ -1,4 +1,6 @@
 //! Tests of the validators, of building and of asking.
+//!
+//! Stands on all libraries, whose public calls alone it asks. The tests are in its modules.
 #![tactic(auto)]
 
 #[cfg(test)]

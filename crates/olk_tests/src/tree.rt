@@ -1,7 +1,11 @@
 //! Building from schemas, and looking up names, with a leaf set and a matcher.
 use olk_base::Meter;
-use olk_build::{Context, all_of, any_of, compile, if_, not, properties, required};
-use olk_low_tests::doubles::{Equality, NoTexts};
+use olk_build::{
+    Context, all_of, any_of, compile, dependencies, if_, not, properties, property_dependencies,
+    property_names, required,
+};
+use olk_low_tests::doubles::{EqualTo, Equality, NoText, NoTexts};
+use olk_node::{Keyword, SchemaNode};
 use olk_reports::{BuildError, ValidationError};
 use olk_tree::{Body, KeywordOver, SmallMap, SortedNames};
 use serde_json::{Map, Value};
@@ -72,6 +76,11 @@ fn schemas_that_are_built(rt: HostRuntime) -> Result<(), Fail> {
             6,
             1,
         ),
+        (
+            r#"{"dependencies":{"a":["b"],"c":{"text":false}},"propertyDependencies":{"k":{"t":{"propertyNames":{}}}}}"#,
+            4,
+            1,
+        ),
     ] {
         expect_built(&rt, rt.alloc(), text, places, leaves)?;
     }
@@ -107,11 +116,26 @@ const REFUSED: &str = r##"7 | . | 7 is not of types "boolean", "object"
 {"required":true} | ./required | true is not of type "array"
 {"properties":{"a":{"$ref":"#"}}} | ./properties/a/$ref | "$ref" is not supported here
 {"oneOf":{}} | ./oneOf | {} is not of type "array"
-{"propertyNames":true} | ./propertyNames | "propertyNames" is not supported here
+{"patternProperties":{}} | ./patternProperties | "patternProperties" is not supported here
 {"if":5,"then":{}} | ./if | 5 is not of types "boolean", "object"
 {"if":{},"then":[]} | ./then | [] is not of types "boolean", "object"
 {"else":{"text":true},"if":{}} | ./else/text | true is not a value for "text"
-{"not":{"text":true}} | ./not/text | true is not a value for "text""##;
+{"not":{"text":true}} | ./not/text | true is not a value for "text"
+{"propertyNames":{"text":true}} | ./propertyNames/text | true is not a value for "text"
+{"dependentRequired":[]} | ./dependentRequired | [] is not of type "object"
+{"dependentRequired":{"a/b":{}}} | ./dependentRequired/a~1b | {} is not of type "array"
+{"dependentRequired":{"a":["b","b"]}} | ./dependentRequired/a | ["b","b"] has non-unique elements
+{"dependentRequired":{"a":["b","c","b"]}} | ./dependentRequired/a | ["b","c","b"] has non-unique elements
+{"dependentRequired":{"a":["b","b",1]}} | ./dependentRequired/a | ["b","b",1] has non-unique elements
+{"dependentRequired":{"a":[1,1]}} | ./dependentRequired | 1 is not of type "string"
+{"dependentSchemas":5} | ./dependentSchemas | 5 is not of type "object"
+{"dependentSchemas":{"a~":["b"]}} | ./dependentSchemas/a~0 | ["b"] is not of types "boolean", "object"
+{"dependencies":true} | ./dependencies | true is not of type "object"
+{"dependencies":{"a":[1]}} | ./dependencies | 1 is not of type "string"
+{"dependencies":{"a":["b"],"c":"d"}} | ./dependencies/c | "d" is not of types "boolean", "object"
+{"propertyDependencies":5} | ./propertyDependencies | 5 is not of type "object"
+{"propertyDependencies":{"k":[]}} | ./propertyDependencies/k | [] is not of type "object"
+{"propertyDependencies":{"k":{"t/u":5}}} | ./propertyDependencies/k/t~1u | 5 is not of types "boolean", "object""##;
 
 fn refused(alloc: Global, schema: &Value) -> Result<ValidationError<'_>, Fail> {
     let mut meter = Meter::new();
@@ -370,6 +394,156 @@ fn a_condition_with_its_cases(rt: HostRuntime) -> Result<(), Fail> {
         (r#"{"if":true,"then":{"not":true},"else":false}"#, "both", 4),
     ] {
         expect_condition(&rt, rt.alloc(), text, form, places)?;
+    }
+    Ok(())
+}
+
+// ---- what keywords hold
+
+type PlainNode = SchemaNode<NoText, EqualTo>;
+
+type PlainKeyword = Keyword<NoText, EqualTo>;
+
+// Where a node stands, and its names where it is a list.
+fn push_node(text: &mut String, node: &PlainNode) -> Result<(), AllocError> {
+    text.push_str(" ")?;
+    text.push_str(node.location().as_str())?;
+    if let Body::RequiredNames(list) = &node.body {
+        text.push_str(" [")?;
+        for name in &list.required {
+            text.push_str(name.as_str())?;
+            text.push_str(",")?;
+        }
+        text.push_str("]")?;
+    }
+    Ok(())
+}
+
+// Each name with its node.
+fn push_nodes(text: &mut String, map: &SmallMap<PlainNode>) -> Result<(), AllocError> {
+    for (name, node) in map.names.as_slice().iter().zip(&map.nodes) {
+        text.push_str(" ")?;
+        text.push_str(name.as_str())?;
+        text.push_str(":")?;
+        push_node(text, node)?;
+    }
+    Ok(())
+}
+
+// Each name with the texts that choose, each with its node.
+fn push_choices(text: &mut String, map: &SmallMap<SmallMap<PlainNode>>) -> Result<(), AllocError> {
+    for (name, chosen) in map.names.as_slice().iter().zip(&map.nodes) {
+        text.push_str(" ")?;
+        text.push_str(name.as_str())?;
+        text.push_str(" {")?;
+        push_nodes(text, chosen)?;
+        text.push_str(" }")?;
+    }
+    Ok(())
+}
+
+// Where a keyword stands, and what it holds.
+fn push_keyword(text: &mut String, keyword: &PlainKeyword) -> Result<(), AllocError> {
+    match keyword {
+        KeywordOver::Dependencies(keyword) => {
+            text.push_str(keyword.location.as_str())?;
+            push_nodes(text, &keyword.dependencies)
+        }
+        KeywordOver::PropertyNames(keyword) => {
+            text.push_str(keyword.location.as_str())?;
+            text.push_str(" names:")?;
+            push_node(text, &keyword.node)
+        }
+        KeywordOver::PropertyNamesFalse(keyword) => {
+            text.push_str(keyword.location.as_str())?;
+            text.push_str(" no name")
+        }
+        KeywordOver::PropertyDependencies(keyword) => {
+            text.push_str(keyword.location.as_str())?;
+            push_choices(text, &keyword.dependencies)
+        }
+        _ => text.push_str("another"),
+    }
+}
+
+// What the module of a keyword compiles.
+fn compiled<'a>(
+    alloc: Global,
+    ctx: &mut Context<'_, NoTexts, Equality>,
+    parent: &'a Map<String, Value>,
+    name: &str,
+    value: &'a Value,
+) -> Option<Result<PlainKeyword, BuildError<'a>>> {
+    match name {
+        "dependencies" => dependencies::compile(alloc, ctx, parent, value),
+        "dependentRequired" => {
+            dependencies::compile_dependent_required(alloc, ctx, parent, value)
+        }
+        "dependentSchemas" => dependencies::compile_dependent_schemas(alloc, ctx, parent, value),
+        "propertyNames" => property_names::compile(alloc, ctx, parent, value),
+        "propertyDependencies" => property_dependencies::compile(alloc, ctx, parent, value),
+        _ => None,
+    }
+}
+
+fn keyword_line(alloc: Global, keyword: &PlainKeyword) -> Result<String, AllocError> {
+    let mut text = String::new(alloc);
+    push_keyword(&mut text, keyword)?;
+    Ok(text)
+}
+
+// What is made, as a line.
+fn line_of(
+    alloc: Global,
+    made: &Option<Result<PlainKeyword, BuildError<'_>>>,
+) -> Result<String, AllocError> {
+    match made {
+        None => String::from_str(alloc, "none"),
+        Some(Ok(keyword)) => keyword_line(alloc, keyword),
+        Some(Err(_)) => String::from_str(alloc, "not built"),
+    }
+}
+
+// What is compiled, as a line.
+fn compiled_line(
+    alloc: Global,
+    name: &str,
+    value: &Value,
+    meter: &mut Meter,
+) -> Result<String, AllocError> {
+    let parent = Map::new(alloc);
+    let mut ctx = Context::new(alloc, &NoTexts, &Equality, meter);
+    let made = compiled(alloc, &mut ctx, &parent, name, value);
+    line_of(alloc, &made)
+}
+
+// A keyword, its value, and what is compiled of it: how many places, where the keyword stands, and what it holds.
+const COMPILED: &str =
+    r#"dependencies | {"b":["x","x"],"a/c":{"text":false},"c":true,"":[]} | 2 /dependencies : /dependencies [] a/c: /dependencies/a~1c b: /dependencies [x,x,] c: /dependencies/c
+dependentRequired | {"b":["y","x"],"a":[]} | 0 /dependentRequired a: /dependentRequired [] b: /dependentRequired [y,x,]
+dependentSchemas | {"b":{},"a/~":{"not":true}} | 3 /dependentSchemas a/~: /dependentSchemas/a~1~0 b: /dependentSchemas/b
+propertyNames | {"text":false} | 1 /propertyNames names: /propertyNames
+propertyNames | false | 0 /propertyNames no name
+propertyNames | true | 0 none
+propertyNames | 5 | 0 none
+propertyDependencies | {"l":{},"k":{"u":true,"t/":{"not":true}}} | 3 /propertyDependencies k { t/: /propertyDependencies/k/t~1 u: /propertyDependencies/k/u } l { }"#;
+
+fn expect_compiled(rt: &impl Abort, alloc: Global, row: &str) -> Result<(), Fail> {
+    let (name, others) = row.split_once(" | ").ok_or("a row of one cell")?;
+    let (text, told) = others.split_once(" | ").ok_or("a row of two cells")?;
+    let value = Value::from_str(alloc, text)?;
+    let mut meter = Meter::new();
+    let line = compiled_line(alloc, name, &value, &mut meter)?;
+    let places = meter.compiled();
+    let found = format!(in alloc; "{places} {line}")?;
+    assert_eq!(rt; found.as_str(), told, "{row}");
+    Ok(())
+}
+
+#[test]
+fn keywords_of_dependencies_and_names(rt: HostRuntime) -> Result<(), Fail> {
+    for row in COMPILED.lines() {
+        expect_compiled(&rt, rt.alloc(), row)?;
     }
     Ok(())
 }

@@ -178,3 +178,44 @@ fn evaluations_of_conditions(rt: HostRuntime) -> Result<(), Fail> {
     }
     Ok(())
 }
+
+#[test]
+fn evaluations_of_dependencies_and_names(rt: HostRuntime) -> Result<(), Fail> {
+    let alloc = rt.alloc();
+    for (schema, instance, expected) in [
+        (
+            r#"{"dependencies":{"b":["y","x"],"a":{"properties":{"a":{"text":false}}},"c":false}}"#,
+            r#"{"a":"t","b":1}"#,
+            "/dependencies/a/properties/a/text@/a text: is a text\n/dependencies@ required: \"y\" is a required property\n/dependencies@ required: \"x\" is a required property\n",
+        ),
+        (
+            r#"{"dependentRequired":{"a":["b"]},"dependentSchemas":{"a":{"properties":{"b":true}}}}"#,
+            r#"{"a":1,"b":2}"#,
+            "/dependentSchemas/a/properties@ b,\n",
+        ),
+        (
+            r#"{"properties":{"o":{"propertyNames":{"text":false}}}}"#,
+            r#"{"o":{"a":1,"b":2}}"#,
+            "/properties/o/propertyNames/text@/o text: is a text\n/properties/o/propertyNames/text@/o text: is a text\n",
+        ),
+        (
+            r#"{"propertyNames":{"not":{"text":false}}}"#,
+            r#"{"a":1}"#,
+            "",
+        ),
+        (
+            r#"{"propertyDependencies":{"k":{"t":{"properties":{"k":true}},"u":false}}}"#,
+            r#"{"k":"t"}"#,
+            "/propertyDependencies/k/t/properties@ k,\n",
+        ),
+        (
+            r#"{"properties":{"a":true},"propertyDependencies":{"k":{"t":false}},"propertyNames":false}"#,
+            r#"{"k":"t"}"#,
+            "/propertyDependencies/k/t@ falseSchema: False schema does not allow {\"k\":\"t\"}\n/propertyNames@ falseSchema: False schema does not allow {\"k\":\"t\"}\n/properties@ \n",
+        ),
+    ] {
+        let text = shown(alloc, schema, instance)?;
+        assert_eq!(rt; text.as_str(), expected, "{schema} {instance}");
+    }
+    Ok(())
+}

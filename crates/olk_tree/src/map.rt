@@ -77,25 +77,28 @@ impl SortedNames {
 
     /// At which place the name stands, looked for at `hint` first, and where to look first for a later name.
     ///
-    /// Names that are asked for in ascending order are found in step: the next one is compared first, then the rest is
-    /// bisected. A hint that is no good costs a bisection.
+    /// Names that are asked for in ascending order are found in step: the next one is compared first, then a few behind
+    /// it, then the rest is bisected. A hint that is no good costs a bisection.
     #[inline(always)]
     pub fn find_from(&self, hint: usize, name: &str) -> (usize, Option<usize>)
         ensures { result.1 ≡ position (λ k. bytes_eq k name.now) self.now }
     {
         let names = self.names.as_slice();
-        if let Some(place) = find_near(names, hint, name) {
-            return (place + 1, Some(place));
+        if hint < names.len() && names[hint].as_str() == name {
+            return (hint + 1, Some(hint));
         }
         self.find_about(hint, name)
     }
 
-    // The same, where the name at `hint` is likely another.
+    // The same, where the name at `hint` is another.
     #[inline(never)]
     fn find_about(&self, hint: usize, name: &str) -> (usize, Option<usize>)
         ensures { result.1 ≡ position (λ k. bytes_eq k name.now) self.now }
     {
         let names = self.names.as_slice();
+        if let Some(place) = find_near(names, hint.saturating_add(1), name) {
+            return (place + 1, Some(place));
+        }
         if hint >= names.len() {
             return find_before(names, hint, name);
         }

@@ -1,4 +1,4 @@
-use Rattle.std.proofs.Common.{rules, true, false, inl, inr, ◌++◌, [], ◌∷◌, map, take, take_all, string_bytes, decimal, refl, sym, ap, subst, ◌∙◌}
+use Rattle.std.proofs.Common.{rules, true, false, inl, inr, ◌+◌, ◌++◌, [], ◌∷◌, map, take, take_all, string_bytes, decimal, refl, sym, ap, subst, ◌∙◌}
 use mathlib.Core.Path.{subst₂}
 use Rattle.std.proofs.lemmas.List.{append-nil, append_assoc}
 use Rattle.serde_json.specs.Data.{Data}
@@ -13,7 +13,7 @@ use Rattle.olk_spec.specs.Faults.{fault}
 use Rattle.olk_reports.proofs.Errors.{kind_of_multiple_types}
 use Rattle.olk_base.specs.Kit.{kit, world}
 use Rattle.olk_members.specs.Members.{malformations_at, member_malformations, member_cost}
-use Rattle.olk_build.specs.Building.{AreBuilt, RefusesPart, all_cost}
+use Rattle.olk_build.specs.Building.{AreBuilt, RefusesEach, RefusesPart, entries_read, all_cost}
 use Rattle.olk_members.proofs.Claims.{present_each}
 use Rattle.olk_read.specs.Refusing.{Refuses, TellsOneOf}
 use Rattle.olk_make.specs.Holding.{all_malformed}
@@ -21,46 +21,73 @@ use Rattle.olk_read.specs.Reading.{own_faults, own_cost_of}
 use Rattle.olk_build.specs.Placing.{places_malformed, places_cost, PlacesAreBuilt, PartsAreBuilt, IsPart}
 use Rattle.olk_read.proofs.Spending.{exit, refuses_among, memory_among, refuses_memory, within_nothing, within_exactly}
 use Rattle.olk_spec.proofs.Maps.{items_list-view}
-use Rattle.olk_build.proofs.Built.{items_after, items_more, items_whole, items_start, none_built, one_more_built, built_truth, built_object, refuses_object, refuses_no_schema}
+use Rattle.olk_build.proofs.Built.{EntriesSoFar, branches_from, next_branch, no_branch, no_entries, entries_built, entries_memory, entry_refused, entry_memory, one_more_entry, no_inner, inner_built, inner_memory, inner_refused, more_inner_memory, one_more_inner, at_an_entry, past_an_entry, built_truth, built_object, refuses_object, refuses_no_schema}
 use Rattle.olk_members.proofs.Objects.{no_schema_is}
 use Rattle.olk_build.proofs.Parts.{refuses_part_own, refuses_part_inside, part_is_built, no_parts, one_more_part}
 use Rattle.olk_build.proofs.build.+compile.Goals as goal
 
+pub compile_entries-returns-in_err-nodes-clause-refused : goal.compile_entries-returns-in_err-nodes-clause-refused
+compile_entries-returns-in_err-nodes-clause-refused g t c = exit _ _ _ c.from_residual.ensures.1 (λ e q. refuses_memory _ _ _ _ e _ q (within_nothing _ _))
+
 pub compile_entries-loop-name-init : goal.compile_entries-loop-name-init
-compile_entries-loop-name-init g t c = record { done = []; built = none_built (kit g.L.Leaf.Leaf g.M.Engine.RegexEngine) c.args.place.now c.args.meter.now c.new-nodes.result.items c.new-nodes.ensures.items; rest = ap (λ l. listed (members_view l)) c.into_iter-name-iterator.ensures.into_iter_gives.0; next = tt; ends = tt }
+compile_entries-loop-name-init g t c = record { so_far = no_entries (kit g.L.Leaf.Leaf g.M.Engine.RegexEngine) c.args.place.now (entries_read c.args.passes_arrays (listed (members_view c.args.map.now.entries))) c.args.meter.now c.in_ok-nodes.nodes.items _ c.in_ok-nodes.ensures.items (ap (λ l. entries_read c.args.passes_arrays (listed (members_view l))) c.into_iter-name-iterator.ensures.into_iter_gives.0); next = tt; ends = tt }
 
 pub compile_entries-returns-in_err-location-clause-refused : goal.compile_entries-returns-in_err-location-clause-refused
-compile_entries-returns-in_err-location-clause-refused g t c = exit _ _ _ c.from_residual.ensures.1 (λ e q. memory_among _ _ _ _ _ c.loop-name.invariant.done (listed (members_view c.loop-name.name-iterator)) e _ q c.loop-name.invariant.rest c.loop-name.invariant.built.spends)
+compile_entries-returns-in_err-location-clause-refused g t c = exit _ _ _ c.from_residual-in_err-location.ensures.1 (λ e q. entries_memory (kit g.L.Leaf.Leaf g.M.Engine.RegexEngine) c.args.place.now (entries_read c.args.passes_arrays (listed (members_view c.args.map.now.entries))) c.args.meter.now c.loop-name.nodes.items (entries_read c.args.passes_arrays (listed (members_view c.loop-name.name-iterator))) _ e _ q c.loop-name.invariant.so_far)
 
 pub compile_entries-returns-in_err-node-clause-refused : goal.compile_entries-returns-in_err-node-clause-refused
-compile_entries-returns-in_err-node-clause-refused g t c = exit _ _ _ c.from_residual-in_err-node.ensures.1 (λ e q. refuses_among (λ (x : Name × Data). malformations_at (world g.L.Leaf.Leaf g.M.Engine.RegexEngine) x.1 (c.args.place.now // x.0)) (λ (x : Name × Data). cost (world g.L.Leaf.Leaf g.M.Engine.RegexEngine) x.1) _ _ _ c.loop-name.invariant.done (string_bytes c.in-Some.name.now, view c.in-Some.schema.now) (listed (members_view c.next.new.self)) c.loop-name.meter e (ap (λ l. c.loop-name.invariant.done ++ listed (members_view l)) (sym c.in-Some.ensures.steps) ∙ c.loop-name.invariant.rest) c.loop-name.invariant.built.spends (subst₂ (λ P x. Refuses (malformations_at (world g.L.Leaf.Leaf g.M.Engine.RegexEngine) (view c.in-Some.schema.now) P) (cost (world g.L.Leaf.Leaf g.M.Engine.RegexEngine) (view c.in-Some.schema.now)) c.loop-name.meter c.compile_schema.new.meter x) (c.in_ok-location.ensures ∙ ap (λ n. c.args.place.now // n) c.as_str.ensures.value) (sym q) c.in_err-node.ensures.refused))
-
-pub compile_entries-loop-name-preserved : goal.compile_entries-loop-name-preserved
-compile_entries-loop-name-preserved g t c = record { done = c.loop-name.invariant.done ++ (string_bytes c.in-Some.name.now, view c.in-Some.schema.now) ∷ []; built = (one_more_built (kit g.L.Leaf.Leaf g.M.Engine.RegexEngine) c.args.place.now c.loop-name.nodes.items _ c.loop-name.invariant.done c.in_ok-node.node (string_bytes c.in-Some.name.now, view c.in-Some.schema.now) c.args.meter.now c.loop-name.meter c.compile_schema.new.meter c.in_ok-location.location c.in_ok-append.ensures (c.in_ok-location.ensures ∙ ap (λ n. c.args.place.now // n) c.as_str.ensures.value) c.loop-name.invariant.built c.in_ok-node.ensures.built); rest = (append_assoc c.loop-name.invariant.done ((string_bytes c.in-Some.name.now, view c.in-Some.schema.now) ∷ []) (listed (members_view c.next.new.self)) ∙ (ap (λ l. c.loop-name.invariant.done ++ listed (members_view l)) (sym c.in-Some.ensures.steps) ∙ c.loop-name.invariant.rest)); next = tt; ends = tt }
+compile_entries-returns-in_err-node-clause-refused g t c = exit _ _ _ c.from_residual-in_err-node.ensures.1 (λ e q. entry_refused (kit g.L.Leaf.Leaf g.M.Engine.RegexEngine) c.args.place.now (entries_read c.args.passes_arrays (listed (members_view c.args.map.now.entries))) c.args.meter.now (string_bytes c.in-Some.name.now, view c.in-Some.schema.now) (entries_read c.args.passes_arrays (listed (members_view c.loop-name.name-iterator))) (entries_read c.args.passes_arrays (listed (members_view c.next.new.self))) (ap (λ l. entries_read c.args.passes_arrays (listed (members_view l))) c.in-Some.ensures.steps ∙ at_an_entry (string_bytes c.in-Some.name.now, view c.in-Some.schema.now) (listed (members_view c.next.new.self)) c.args.passes_arrays (sym c.is_read.ensures ∙ c.if-is_read.true)) c.loop-name.nodes.items _ _ c.in_ok-location.location (c.in_ok-location.ensures ∙ ap (λ n. c.args.place.now // n) c.as_str.ensures.value) c.loop-name.invariant.so_far e _ q c.in_err-node.ensures.refused)
 
 pub compile_entries-returns-in_err-append-clause-refused : goal.compile_entries-returns-in_err-append-clause-refused
-compile_entries-returns-in_err-append-clause-refused g t c = exit _ _ _ c.from_residual-in_err-append.ensures.1 (λ e q. memory_among _ _ _ _ _ (c.loop-name.invariant.done ++ (string_bytes c.in-Some.name.now, view c.in-Some.schema.now) ∷ []) (listed (members_view c.next.new.self)) e _ q (append_assoc c.loop-name.invariant.done ((string_bytes c.in-Some.name.now, view c.in-Some.schema.now) ∷ []) (listed (members_view c.next.new.self)) ∙ (ap (λ l. c.loop-name.invariant.done ++ listed (members_view l)) (sym c.in-Some.ensures.steps) ∙ c.loop-name.invariant.rest)) (one_more_built (kit g.L.Leaf.Leaf g.M.Engine.RegexEngine) c.args.place.now c.loop-name.nodes.items _ c.loop-name.invariant.done c.in_ok-node.node (string_bytes c.in-Some.name.now, view c.in-Some.schema.now) c.args.meter.now c.loop-name.meter c.compile_schema.new.meter c.in_ok-location.location refl (c.in_ok-location.ensures ∙ ap (λ n. c.args.place.now // n) c.as_str.ensures.value) c.loop-name.invariant.built c.in_ok-node.ensures.built).spends)
+compile_entries-returns-in_err-append-clause-refused g t c = exit _ _ _ c.from_residual-in_err-append.ensures.1 (λ e q. entry_memory (kit g.L.Leaf.Leaf g.M.Engine.RegexEngine) c.args.place.now (entries_read c.args.passes_arrays (listed (members_view c.args.map.now.entries))) c.args.meter.now (string_bytes c.in-Some.name.now, view c.in-Some.schema.now) (entries_read c.args.passes_arrays (listed (members_view c.loop-name.name-iterator))) (entries_read c.args.passes_arrays (listed (members_view c.next.new.self))) (ap (λ l. entries_read c.args.passes_arrays (listed (members_view l))) c.in-Some.ensures.steps ∙ at_an_entry (string_bytes c.in-Some.name.now, view c.in-Some.schema.now) (listed (members_view c.next.new.self)) c.args.passes_arrays (sym c.is_read.ensures ∙ c.if-is_read.true)) c.loop-name.nodes.items _ _ c.in_ok-location.location (c.in_ok-location.ensures ∙ ap (λ n. c.args.place.now // n) c.as_str.ensures.value) c.loop-name.invariant.so_far c.in_ok-node.node c.in_ok-node.ensures.built e _ q)
+
+pub compile_entries-loop-name-preserved-in-Continue-branch-3 : goal.compile_entries-loop-name-preserved-in-Continue-branch-3
+compile_entries-loop-name-preserved-in-Continue-branch-3 g t c = record { so_far = one_more_entry (kit g.L.Leaf.Leaf g.M.Engine.RegexEngine) c.args.place.now (entries_read c.args.passes_arrays (listed (members_view c.args.map.now.entries))) c.args.meter.now (string_bytes c.in-Some.name.now, view c.in-Some.schema.now) (entries_read c.args.passes_arrays (listed (members_view c.loop-name.name-iterator))) (entries_read c.args.passes_arrays (listed (members_view c.next.new.self))) (ap (λ l. entries_read c.args.passes_arrays (listed (members_view l))) c.in-Some.ensures.steps ∙ at_an_entry (string_bytes c.in-Some.name.now, view c.in-Some.schema.now) (listed (members_view c.next.new.self)) c.args.passes_arrays (sym c.is_read.ensures ∙ c.if-is_read.true)) c.loop-name.nodes.items _ _ c.in_ok-location.location (c.in_ok-location.ensures ∙ ap (λ n. c.args.place.now // n) c.as_str.ensures.value) c.loop-name.invariant.so_far c.in_ok-node.node c.in_ok-node.ensures.built _ c.in_ok-append.ensures; next = tt; ends = tt }
 
 pub compile_entries-returns-clause-built : goal.compile_entries-returns-clause-built
-compile_entries-returns-clause-built g t c = subst (λ l. AreBuilt (kit g.L.Leaf.Leaf g.M.Engine.RegexEngine) c.loop-name.nodes.items l c.args.place.now c.args.meter.now c.loop-name.meter) (sym (append-nil c.loop-name.invariant.done) ∙ ap (λ l. c.loop-name.invariant.done ++ listed (members_view l)) (sym c.in-None.ensures.steps.0) ∙ c.loop-name.invariant.rest) c.loop-name.invariant.built
+compile_entries-returns-clause-built g t c = entries_built (kit g.L.Leaf.Leaf g.M.Engine.RegexEngine) c.args.place.now (entries_read c.args.passes_arrays (listed (members_view c.args.map.now.entries))) c.args.meter.now c.loop-name.nodes.items (entries_read c.args.passes_arrays (listed (members_view c.loop-name.name-iterator))) _ (ap (λ l. entries_read c.args.passes_arrays (listed (members_view l))) c.in-None.ensures.steps.0) c.loop-name.invariant.so_far
+
+pub compile_entries-loop-name-preserved : goal.compile_entries-loop-name-preserved
+compile_entries-loop-name-preserved g t c = record { so_far = subst (λ l. EntriesSoFar (kit g.L.Leaf.Leaf g.M.Engine.RegexEngine) c.args.place.now (entries_read c.args.passes_arrays (listed (members_view c.args.map.now.entries))) c.args.meter.now c.loop-name.nodes.items l c.loop-name.meter) (ap (λ l. entries_read c.args.passes_arrays (listed (members_view l))) c.in-Some.ensures.steps ∙ past_an_entry (string_bytes c.in-Some.name.now, view c.in-Some.schema.now) (listed (members_view c.next.new.self)) c.args.passes_arrays (sym c.is_read.ensures ∙ c.if-is_read.false)) c.loop-name.invariant.so_far; next = tt; ends = tt }
+
+pub compile_inner_entries-loop-name-init : goal.compile_inner_entries-loop-name-init
+compile_inner_entries-loop-name-init g t c = record { so_far = no_inner (kit g.L.Leaf.Leaf g.M.Engine.RegexEngine) c.args.place.now (listed (members_view c.args.map.now.entries)) c.args.meter.now c.new-nodes.result.items _ c.new-nodes.ensures.items (ap (λ l. listed (members_view l)) c.into_iter-name-iterator.ensures.into_iter_gives.0); next = tt; ends = tt }
+
+pub compile_inner_entries-returns-in_err-location-clause-refused : goal.compile_inner_entries-returns-in_err-location-clause-refused
+compile_inner_entries-returns-in_err-location-clause-refused g t c = exit _ _ _ c.from_residual.ensures.1 (λ e q. inner_memory (kit g.L.Leaf.Leaf g.M.Engine.RegexEngine) c.args.place.now (listed (members_view c.args.map.now.entries)) c.args.meter.now c.loop-name.nodes.items (listed (members_view c.loop-name.name-iterator)) _ e _ q c.loop-name.invariant.so_far)
+
+pub compile_inner_entries-returns-in_err-inner-clause-refused : goal.compile_inner_entries-returns-in_err-inner-clause-refused
+compile_inner_entries-returns-in_err-inner-clause-refused g t c = exit _ _ _ c.from_residual-in_err-inner.ensures.1 (λ e q. inner_refused (kit g.L.Leaf.Leaf g.M.Engine.RegexEngine) c.args.place.now (listed (members_view c.args.map.now.entries)) c.args.meter.now (string_bytes c.in-Some.name.now, view c.in-Some.entry.now) (listed (members_view c.loop-name.name-iterator)) (listed (members_view c.next.new.self)) (ap (λ l. listed (members_view l)) c.in-Some.ensures.steps) c.loop-name.nodes.items _ _ c.in_ok-location.location (c.in_ok-location.ensures ∙ ap (λ n. c.args.place.now // n) c.as_str.ensures.value) c.loop-name.invariant.so_far e _ q c.in_err-inner.ensures.refused)
+
+pub compile_inner_entries-returns-in_err-append_all-clause-refused : goal.compile_inner_entries-returns-in_err-append_all-clause-refused
+compile_inner_entries-returns-in_err-append_all-clause-refused g t c = exit _ _ _ c.from_residual-in_err-append_all.ensures.1 (λ e q. more_inner_memory (kit g.L.Leaf.Leaf g.M.Engine.RegexEngine) c.args.place.now (listed (members_view c.args.map.now.entries)) c.args.meter.now (string_bytes c.in-Some.name.now, view c.in-Some.entry.now) (listed (members_view c.loop-name.name-iterator)) (listed (members_view c.next.new.self)) (ap (λ l. listed (members_view l)) c.in-Some.ensures.steps) c.loop-name.nodes.items _ _ c.in_ok-location.location (c.in_ok-location.ensures ∙ ap (λ n. c.args.place.now // n) c.as_str.ensures.value) c.loop-name.invariant.so_far c.in_ok-inner.inner.items c.in_ok-inner.ensures.built e _ q)
+
+pub compile_inner_entries-loop-name-preserved : goal.compile_inner_entries-loop-name-preserved
+compile_inner_entries-loop-name-preserved g t c = record { so_far = one_more_inner (kit g.L.Leaf.Leaf g.M.Engine.RegexEngine) c.args.place.now (listed (members_view c.args.map.now.entries)) c.args.meter.now (string_bytes c.in-Some.name.now, view c.in-Some.entry.now) (listed (members_view c.loop-name.name-iterator)) (listed (members_view c.next.new.self)) (ap (λ l. listed (members_view l)) c.in-Some.ensures.steps) c.loop-name.nodes.items _ _ c.in_ok-location.location (c.in_ok-location.ensures ∙ ap (λ n. c.args.place.now // n) c.as_str.ensures.value) c.loop-name.invariant.so_far c.in_ok-inner.inner.items c.in_ok-inner.ensures.built _ c.in_ok-append_all.ensures; next = tt; ends = tt }
+
+pub compile_inner_entries-returns-clause-built : goal.compile_inner_entries-returns-clause-built
+compile_inner_entries-returns-clause-built g t c = inner_built (kit g.L.Leaf.Leaf g.M.Engine.RegexEngine) c.args.place.now (listed (members_view c.args.map.now.entries)) c.args.meter.now c.loop-name.nodes.items (listed (members_view c.loop-name.name-iterator)) _ (ap (λ l. listed (members_view l)) c.in-None.ensures.steps.0) c.loop-name.invariant.so_far
+
+pub compile_branches-returns-in_err-nodes-clause-refused : goal.compile_branches-returns-in_err-nodes-clause-refused
+compile_branches-returns-in_err-nodes-clause-refused g t c = exit _ _ _ c.from_residual.ensures.1 (λ e q. refuses_memory _ _ _ _ e _ q (within_nothing _ _))
 
 pub compile_branches-loop-i-init : goal.compile_branches-loop-i-init
-compile_branches-loop-i-init g t c = none_built (kit g.L.Leaf.Leaf g.M.Engine.RegexEngine) c.args.place.now c.args.meter.now c.new-nodes.result.items c.new-nodes.ensures.items
+compile_branches-loop-i-init g t c = no_entries (kit g.L.Leaf.Leaf g.M.Engine.RegexEngine) c.args.place.now (numbered (map view c.deref-schema-items.result.now)) c.args.meter.now c.in_ok-nodes.nodes.items _ c.in_ok-nodes.ensures.items refl
 
 pub compile_branches-returns-in_err-location-clause-refused : goal.compile_branches-returns-in_err-location-clause-refused
-compile_branches-returns-in_err-location-clause-refused g t c = exit _ _ _ c.from_residual.ensures.1 (λ e q. memory_among _ _ _ _ _ (numbered (map view (take c.loop-i.i c.deref-schema-items.result.now))) _ e _ q (items_start c.loop-i.i c.deref-schema-items.result.now ∙ (ap (λ l. numbered (map view l)) c.deref-schema-items.ensures.value ∙ ap numbered (sym (items_list-view c.args.items.now.items)))) c.loop-i.invariant.spends)
+compile_branches-returns-in_err-location-clause-refused g t c = exit _ _ _ c.from_residual-in_err-location.ensures.1 (λ e q. subst (λ all. RefusesEach (kit g.L.Leaf.Leaf g.M.Engine.RegexEngine) all c.args.place.now c.args.meter.now c.loop-i.meter e) (ap (λ l. numbered (map view l)) c.deref-schema-items.ensures.value ∙ ap numbered (sym (items_list-view c.args.items.now.items))) (entries_memory (kit g.L.Leaf.Leaf g.M.Engine.RegexEngine) c.args.place.now (numbered (map view c.deref-schema-items.result.now)) c.args.meter.now c.loop-i.nodes.items (branches_from c.loop-i.i c.deref-schema-items.result.now) _ e _ q c.loop-i.invariant))
 
 pub compile_branches-returns-in_err-node-clause-refused : goal.compile_branches-returns-in_err-node-clause-refused
-compile_branches-returns-in_err-node-clause-refused g t c = exit _ _ _ c.from_residual-in_err-node.ensures.1 (λ e q. refuses_among (λ (x : Name × Data). malformations_at (world g.L.Leaf.Leaf g.M.Engine.RegexEngine) x.1 (c.args.place.now // x.0)) (λ (x : Name × Data). cost (world g.L.Leaf.Leaf g.M.Engine.RegexEngine) x.1) _ _ _ (numbered (map view (take c.loop-i.i c.deref-schema-items.result.now))) (decimal c.loop-i.i, view c.schema-item.result) (items_after c.loop-i.i c.deref-schema-items.result.now) c.loop-i.meter e (items_whole c.loop-i.i c.deref-schema-items.result.now c.schema-item.result c.loop-i-test.true c.schema-item.is ∙ (ap (λ l. numbered (map view l)) c.deref-schema-items.ensures.value ∙ ap numbered (sym (items_list-view c.args.items.now.items)))) c.loop-i.invariant.spends (subst₂ (λ P x. Refuses (malformations_at (world g.L.Leaf.Leaf g.M.Engine.RegexEngine) (view c.schema-item.result) P) (cost (world g.L.Leaf.Leaf g.M.Engine.RegexEngine) (view c.schema-item.result)) c.loop-i.meter c.compile_schema.new.meter x) c.in_ok-location.ensures (sym q) c.in_err-node.ensures.refused))
+compile_branches-returns-in_err-node-clause-refused g t c = exit _ _ _ c.from_residual-in_err-node.ensures.1 (λ e q. subst (λ all. RefusesEach (kit g.L.Leaf.Leaf g.M.Engine.RegexEngine) all c.args.place.now c.args.meter.now c.compile_schema.new.meter e) (ap (λ l. numbered (map view l)) c.deref-schema-items.ensures.value ∙ ap numbered (sym (items_list-view c.args.items.now.items))) (entry_refused (kit g.L.Leaf.Leaf g.M.Engine.RegexEngine) c.args.place.now (numbered (map view c.deref-schema-items.result.now)) c.args.meter.now (decimal c.loop-i.i, view c.schema-item.result) (branches_from c.loop-i.i c.deref-schema-items.result.now) (branches_from (c.loop-i.i + 1) c.deref-schema-items.result.now) (next_branch c.loop-i.i c.deref-schema-items.result.now c.schema-item.result c.loop-i-test.true c.schema-item.is) c.loop-i.nodes.items _ _ c.in_ok-location.location c.in_ok-location.ensures c.loop-i.invariant e _ q c.in_err-node.ensures.refused))
 
 pub compile_branches-returns-in_err-append-clause-refused : goal.compile_branches-returns-in_err-append-clause-refused
-compile_branches-returns-in_err-append-clause-refused g t c = exit _ _ _ c.from_residual-in_err-append.ensures.1 (λ e q. memory_among _ _ _ _ _ ((numbered (map view (take c.loop-i.i c.deref-schema-items.result.now))) ++ (decimal c.loop-i.i, view c.schema-item.result) ∷ []) (items_after c.loop-i.i c.deref-schema-items.result.now) e _ q (append_assoc (numbered (map view (take c.loop-i.i c.deref-schema-items.result.now))) ((decimal c.loop-i.i, view c.schema-item.result) ∷ []) (items_after c.loop-i.i c.deref-schema-items.result.now) ∙ (items_whole c.loop-i.i c.deref-schema-items.result.now c.schema-item.result c.loop-i-test.true c.schema-item.is ∙ (ap (λ l. numbered (map view l)) c.deref-schema-items.ensures.value ∙ ap numbered (sym (items_list-view c.args.items.now.items))))) (one_more_built (kit g.L.Leaf.Leaf g.M.Engine.RegexEngine) c.args.place.now c.loop-i.nodes.items _ (numbered (map view (take c.loop-i.i c.deref-schema-items.result.now))) c.in_ok-node.node (decimal c.loop-i.i, view c.schema-item.result) c.args.meter.now c.loop-i.meter c.compile_schema.new.meter c.in_ok-location.location refl c.in_ok-location.ensures c.loop-i.invariant c.in_ok-node.ensures.built).spends)
+compile_branches-returns-in_err-append-clause-refused g t c = exit _ _ _ c.from_residual-in_err-append.ensures.1 (λ e q. subst (λ all. RefusesEach (kit g.L.Leaf.Leaf g.M.Engine.RegexEngine) all c.args.place.now c.args.meter.now c.compile_schema.new.meter e) (ap (λ l. numbered (map view l)) c.deref-schema-items.ensures.value ∙ ap numbered (sym (items_list-view c.args.items.now.items))) (entry_memory (kit g.L.Leaf.Leaf g.M.Engine.RegexEngine) c.args.place.now (numbered (map view c.deref-schema-items.result.now)) c.args.meter.now (decimal c.loop-i.i, view c.schema-item.result) (branches_from c.loop-i.i c.deref-schema-items.result.now) (branches_from (c.loop-i.i + 1) c.deref-schema-items.result.now) (next_branch c.loop-i.i c.deref-schema-items.result.now c.schema-item.result c.loop-i-test.true c.schema-item.is) c.loop-i.nodes.items _ _ c.in_ok-location.location c.in_ok-location.ensures c.loop-i.invariant c.in_ok-node.node c.in_ok-node.ensures.built e _ q))
 
 pub compile_branches-loop-i-preserved : goal.compile_branches-loop-i-preserved
-compile_branches-loop-i-preserved g t c = subst (λ l. AreBuilt (kit g.L.Leaf.Leaf g.M.Engine.RegexEngine) c.append.new.items.items l c.args.place.now c.args.meter.now c.compile_schema.new.meter) (sym (items_more c.loop-i.i c.deref-schema-items.result.now c.schema-item.result c.loop-i-test.true c.schema-item.is)) (one_more_built (kit g.L.Leaf.Leaf g.M.Engine.RegexEngine) c.args.place.now c.loop-i.nodes.items _ (numbered (map view (take c.loop-i.i c.deref-schema-items.result.now))) c.in_ok-node.node (decimal c.loop-i.i, view c.schema-item.result) c.args.meter.now c.loop-i.meter c.compile_schema.new.meter c.in_ok-location.location c.in_ok-append.ensures c.in_ok-location.ensures c.loop-i.invariant c.in_ok-node.ensures.built)
+compile_branches-loop-i-preserved g t c = one_more_entry (kit g.L.Leaf.Leaf g.M.Engine.RegexEngine) c.args.place.now (numbered (map view c.deref-schema-items.result.now)) c.args.meter.now (decimal c.loop-i.i, view c.schema-item.result) (branches_from c.loop-i.i c.deref-schema-items.result.now) (branches_from (c.loop-i.i + 1) c.deref-schema-items.result.now) (next_branch c.loop-i.i c.deref-schema-items.result.now c.schema-item.result c.loop-i-test.true c.schema-item.is) c.loop-i.nodes.items _ _ c.in_ok-location.location c.in_ok-location.ensures c.loop-i.invariant c.in_ok-node.node c.in_ok-node.ensures.built _ c.in_ok-append.ensures
 
 pub compile_branches-returns-clause-built : goal.compile_branches-returns-clause-built
-compile_branches-returns-clause-built g t c = subst (λ l. AreBuilt (kit g.L.Leaf.Leaf g.M.Engine.RegexEngine) c.loop-i.nodes.items l c.args.place.now c.args.meter.now c.loop-i.meter) (ap (λ l. numbered (map view l)) (take_all c.loop-i.i c.deref-schema-items.result.now c.loop-i-test.false) ∙ (ap (λ l. numbered (map view l)) c.deref-schema-items.ensures.value ∙ ap numbered (sym (items_list-view c.args.items.now.items)))) c.loop-i.invariant
+compile_branches-returns-clause-built g t c = subst (λ all. AreBuilt (kit g.L.Leaf.Leaf g.M.Engine.RegexEngine) c.loop-i.nodes.items all c.args.place.now c.args.meter.now c.loop-i.meter) (ap (λ l. numbered (map view l)) c.deref-schema-items.ensures.value ∙ ap numbered (sym (items_list-view c.args.items.now.items))) (entries_built (kit g.L.Leaf.Leaf g.M.Engine.RegexEngine) c.args.place.now (numbered (map view c.deref-schema-items.result.now)) c.args.meter.now c.loop-i.nodes.items (branches_from c.loop-i.i c.deref-schema-items.result.now) _ (no_branch c.loop-i.i c.deref-schema-items.result.now c.loop-i-test.false) c.loop-i.invariant)
 
 pub compile_part-returns-in_err-shape-clause-refused : goal.compile_part-returns-in_err-shape-clause-refused
 compile_part-returns-in_err-shape-clause-refused g t c = exit _ _ _ c.from_residual.ensures.1 (λ e q. refuses_part_own (kit g.L.Leaf.Leaf g.M.Engine.RegexEngine) c.args.condition c.args.name.now (view c.args.value.now) c.args.location c.args.meter.now c.read_keyword.new.meter e (subst (λ x. Refuses (own_faults (world g.L.Leaf.Leaf g.M.Engine.RegexEngine) c.args.name.now (view c.args.value.now) c.args.location) (own_cost_of (keyword_named (world g.L.Leaf.Leaf g.M.Engine.RegexEngine) c.args.name.now)) c.args.meter.now c.read_keyword.new.meter x) (sym q) c.in_err-shape.ensures.refused))
@@ -71,11 +98,14 @@ compile_part-returns-in_err-nodes-clause-refused g t c = exit _ _ _ c.from_resid
 pub compile_part-returns-clause-built : goal.compile_part-returns-clause-built
 compile_part-returns-clause-built g t c = part_is_built (kit g.L.Leaf.Leaf g.M.Engine.RegexEngine) c.in_ok-shape.shape c.args.condition c.args.name.now (view c.args.value.now) c.args.location c.args.meter.now c.read_keyword.new.meter c.in_ok-shape.ensures.built c.in_ok-nodes.nodes _ c.compile_places.new.meter refl refl refl (subst (λ r. PlacesAreBuilt (kit g.L.Leaf.Leaf g.M.Engine.RegexEngine) r c.in_ok-nodes.nodes.items (view c.args.value.now) c.args.location c.read_keyword.new.meter c.compile_places.new.meter) c.reads.ensures c.in_ok-nodes.ensures.built)
 
+pub compile_parts-returns-in_err-parts-clause-refused : goal.compile_parts-returns-in_err-parts-clause-refused
+compile_parts-returns-in_err-parts-clause-refused g t c = exit _ _ _ c.from_residual.ensures.1 (λ e q. refuses_memory _ _ _ _ e _ q (within_nothing _ _))
+
 pub compile_parts-loop-name-init : goal.compile_parts-loop-name-init
-compile_parts-loop-name-init g t c = record { done = []; built = no_parts (kit g.L.Leaf.Leaf g.M.Engine.RegexEngine) (members_view c.args.members.now.entries) c.args.place.now c.args.meter.now c.new-parts.result.items c.new-parts.ensures.items; rest = ap (λ l. listed (members_view l)) c.into_iter-name-iterator.ensures.into_iter_gives.0; next = tt; ends = tt }
+compile_parts-loop-name-init g t c = record { done = []; built = no_parts (kit g.L.Leaf.Leaf g.M.Engine.RegexEngine) (members_view c.args.members.now.entries) c.args.place.now c.args.meter.now c.in_ok-parts.parts.items c.in_ok-parts.ensures.items; rest = ap (λ l. listed (members_view l)) c.into_iter-name-iterator.ensures.into_iter_gives.0; next = tt; ends = tt }
 
 pub compile_parts-returns-in_err-location-clause-refused : goal.compile_parts-returns-in_err-location-clause-refused
-compile_parts-returns-in_err-location-clause-refused g t c = exit _ _ _ c.from_residual.ensures.1 (λ e q. memory_among (λ (x : Name × Data). member_malformations (world g.L.Leaf.Leaf g.M.Engine.RegexEngine) (members_view c.args.members.now.entries) x (keyword_named (world g.L.Leaf.Leaf g.M.Engine.RegexEngine) x.0) c.args.place.now) (λ (x : Name × Data). member_cost (world g.L.Leaf.Leaf g.M.Engine.RegexEngine) (members_view c.args.members.now.entries) x (keyword_named (world g.L.Leaf.Leaf g.M.Engine.RegexEngine) x.0)) _ _ _ c.loop-name.invariant.done (listed (members_view c.loop-name.name-iterator)) e _ q c.loop-name.invariant.rest c.loop-name.invariant.built.spends)
+compile_parts-returns-in_err-location-clause-refused g t c = exit _ _ _ c.from_residual-in_err-location.ensures.1 (λ e q. memory_among (λ (x : Name × Data). member_malformations (world g.L.Leaf.Leaf g.M.Engine.RegexEngine) (members_view c.args.members.now.entries) x (keyword_named (world g.L.Leaf.Leaf g.M.Engine.RegexEngine) x.0) c.args.place.now) (λ (x : Name × Data). member_cost (world g.L.Leaf.Leaf g.M.Engine.RegexEngine) (members_view c.args.members.now.entries) x (keyword_named (world g.L.Leaf.Leaf g.M.Engine.RegexEngine) x.0)) _ _ _ c.loop-name.invariant.done (listed (members_view c.loop-name.name-iterator)) e _ q c.loop-name.invariant.rest c.loop-name.invariant.built.spends)
 
 pub compile_parts-returns-in_err-part-clause-refused : goal.compile_parts-returns-in_err-part-clause-refused
 compile_parts-returns-in_err-part-clause-refused g t c = exit _ _ _ c.from_residual-in_err-part.ensures.1 (λ e q. refuses_among (λ (x : Name × Data). member_malformations (world g.L.Leaf.Leaf g.M.Engine.RegexEngine) (members_view c.args.members.now.entries) x (keyword_named (world g.L.Leaf.Leaf g.M.Engine.RegexEngine) x.0) c.args.place.now) (λ (x : Name × Data). member_cost (world g.L.Leaf.Leaf g.M.Engine.RegexEngine) (members_view c.args.members.now.entries) x (keyword_named (world g.L.Leaf.Leaf g.M.Engine.RegexEngine) x.0)) _ _ _ c.loop-name.invariant.done (string_bytes c.in-Some.name.now, view c.in-Some.value.now) (listed (members_view c.next.new.self)) c.loop-name.meter e (ap (λ l. c.loop-name.invariant.done ++ listed (members_view l)) (sym c.in-Some.ensures.steps) ∙ c.loop-name.invariant.rest) c.loop-name.invariant.built.spends (subst (λ x. Refuses ((λ (x : Name × Data). member_malformations (world g.L.Leaf.Leaf g.M.Engine.RegexEngine) (members_view c.args.members.now.entries) x (keyword_named (world g.L.Leaf.Leaf g.M.Engine.RegexEngine) x.0) c.args.place.now) (string_bytes c.in-Some.name.now, view c.in-Some.value.now)) ((λ (x : Name × Data). member_cost (world g.L.Leaf.Leaf g.M.Engine.RegexEngine) (members_view c.args.members.now.entries) x (keyword_named (world g.L.Leaf.Leaf g.M.Engine.RegexEngine) x.0)) (string_bytes c.in-Some.name.now, view c.in-Some.value.now)) c.loop-name.meter c.compile_part.new.meter x) (sym q) ((subst (λ n. RefusesPart (kit g.L.Leaf.Leaf g.M.Engine.RegexEngine) c.is_condition-condition.result n (view c.in-Some.value.now) c.in_ok-location.location c.loop-name.meter c.compile_part.new.meter c.in_err-part.field-0.0) c.as_str-in-loop-name.ensures.value c.in_err-part.ensures.refused) (members_view c.args.members.now.entries) c.args.place.now (c.in_ok-location.ensures ∙ ap (λ n. c.args.place.now // n) c.as_str.ensures.value) (λ e. (c.is_condition-condition.ensures, present_each (listed (members_view c.args.members.now.entries)) c.loop-name.invariant.done (string_bytes c.in-Some.name.now, view c.in-Some.value.now) (listed (members_view c.next.new.self)) (ap (λ l. c.loop-name.invariant.done ++ listed (members_view l)) (sym c.in-Some.ensures.steps) ∙ c.loop-name.invariant.rest))))))

@@ -1,12 +1,12 @@
 use Rattle.olk_base.specs.Kit.{kit}
-use Rattle.std.proofs.Common.{[], ◌∷◌, codes, refl, sym, ◌∙◌, subst}
+use Rattle.std.proofs.Common.{rules, [], ◌∷◌, codes, refl, sym, ◌∙◌, subst}
 use mathlib.Core.Path.{subst₂}
 use Rattle.serde_json.specs.View.{view, members_view}
 use Rattle.olk_spec.specs.Names.{◌//◌}
 use Rattle.olk_members.specs.Conditions.{is_condition}
 use Rattle.olk_build.specs.Building.{RefusesPart}
 use Rattle.olk_build.specs.Conditions.{CaseIsBuilt}
-use Rattle.olk_build.proofs.Conditions.{left_by, RefusesCase, if_refused, then_refused, else_refused, if_is_formed, condition_is_built}
+use Rattle.olk_build.proofs.Conditions.{left_by, RefusesCase, if_without_node, if_refused, then_refused, else_refused, if_is_formed, condition_is_built}
 use Rattle.olk_build.proofs.if_.compile_condition.Goals as goal
 
 pub returns-in_err-location-clause-builds : goal.returns-in_err-location-clause-builds
@@ -36,3 +36,6 @@ returns-clause-form g c = if_is_formed (kit g.L.Leaf.Leaf g.M.Engine.RegexEngine
     (subst (λ Q. CaseIsBuilt (kit g.L.Leaf.Leaf g.M.Engine.RegexEngine) (members_view c.args.parent.now.entries) c.in_ok-then_schema.then_schema (codes "then") Q c.compile_member.new.ctx.meter.now c.compile_case.new.ctx.meter.now) c.compile_member.ensures.place (c.in_ok-then_schema.ensures.builds refl c.requires.read).0)
     (subst (λ Q. CaseIsBuilt (kit g.L.Leaf.Leaf g.M.Engine.RegexEngine) (members_view c.args.parent.now.entries) c.in_ok-else_schema.else_schema (codes "else") Q c.compile_case.new.ctx.meter.now c.compile_case-2.new.ctx.meter.now) (c.compile_case.ensures.place ∙ c.compile_member.ensures.place) (c.in_ok-else_schema.ensures.builds refl c.requires.read).0)
     c.in-Some-make.keyword c.in-Some-make.ensures.form
+
+pub unreachable-requires : goal.unreachable-requires
+unreachable-requires g c = if_without_node (kit g.L.Leaf.Leaf g.M.Engine.RegexEngine) (members_view c.args.parent.now.entries) c.requires.read (view c.args.schema.now) c.args.ctx.now.place c.in_ok-location.field-0 _ _ c.in_ok-location.ensures.built (search rules)

@@ -1,4 +1,4 @@
-use Rattle.std.proofs.Common.{sym, ◌∙◌}
+use Rattle.std.proofs.Common.{rules, sym, ◌∙◌}
 use Rattle.serde_json.specs.View.{view}
 use Rattle.olk_spec.specs.Names.{◌//◌}
 use Rattle.olk_errors.proofs.Appending.{appends_none}
@@ -7,3 +7,6 @@ use Rattle.olk_errors.proofs.properties.collect_below.Goals as goal
 pub returns-then-is_valid-clause-report : goal.returns-then-is_valid-clause-report
 returns-then-is_valid-clause-report g c = appends_none (g.N.Reports.report c.args.subschema.now c.args.ctx.now.answer (view c.args.value.now) (c.args.path.now // c.args.name.now)) c.args.errors.now.items
     (g.met.N.Reports.agrees c.args.subschema.now c.args.ctx.now.answer (view c.args.value.now) (c.args.path.now // c.args.name.now) ∙ sym c.if-is_valid.ensures.verdict)
+
+pub returns-clause-report : goal.returns-clause-report
+returns-clause-report g c = search rules

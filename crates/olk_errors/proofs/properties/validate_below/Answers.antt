@@ -1,4 +1,4 @@
-use Rattle.std.proofs.Common.{sym}
+use Rattle.std.proofs.Common.{rules, sym}
 use Rattle.serde_json.specs.View.{view}
 use Rattle.olk_spec.specs.Names.{◌//◌}
 use Rattle.olk_errors.proofs.Steps.{passes_accepted}
@@ -7,3 +7,9 @@ use Rattle.olk_errors.proofs.properties.validate_below.Goals as goal
 pub returns-then-is_valid-clause-ok : goal.returns-then-is_valid-clause-ok
 returns-then-is_valid-clause-ok g c = passes_accepted (sym c.if-is_valid.ensures.verdict)
     (g.met.N.Reports.first_agrees c.args.subschema.now c.args.ctx.now.answer (view c.args.value.now) (c.args.path.now // c.args.name.now))
+
+pub returns-clause-ok : goal.returns-clause-ok
+returns-clause-ok g c = search rules
+
+pub returns-clause-invalid : goal.returns-clause-invalid
+returns-clause-invalid g c = search rules

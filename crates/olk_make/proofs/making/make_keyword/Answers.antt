@@ -1,8 +1,10 @@
 use Rattle.olk_base.specs.Kit.{kit}
 use Rattle.olk_members.specs.Plans.{planned}
 use Rattle.std.proofs.Common.{[], inl, inr, refl, sym, subst, option_to_list}
+use Rattle.olk_read.specs.declared.shape.Shape.TheVariants.{NoNames, DependentRequired}
 use Rattle.olk_make.specs.Making.{MakesClaims, MakesCondition, MakesPart}
-use Rattle.olk_make.proofs.Makes.{part_of_claims, part_of_own, all_of_alone, any_of_alone, one_of_alone, not_alone, leaf_alone, unread_alone, makes_leaf, makes_unread}
+use Rattle.olk_make.proofs.Makes.{part_of_claims, part_of_own, all_of_alone, any_of_alone, one_of_alone, not_alone, leaf_alone, unread_alone, property_names_alone, no_names_alone, any_names_alone, dependent_required_alone, dependent_schemas_alone, dependencies_alone, property_dependencies_alone, without_nodes, makes_leaf, makes_unread}
+use Rattle.olk_make.proofs.PropertyNames.{makes_any_names}
 use Rattle.olk_make.proofs.Conditions.{part_of_if, part_of_no_if, part_of_then, part_of_else, part_of_unpaired}
 use Rattle.olk_make.proofs.making.make_keyword.Goals as goal
 
@@ -41,3 +43,24 @@ returns-in-Then-clause-makes g c = elim c.in-Then.is [
     | inr h ↦ subst (λ x. MakesPart (kit g.K.Leaf g.R.RegexEngine) x c.args.part.location c.args.part.nodes.items c.args.cases.now c.args.place.now (planned c.args.plan) []) (sym h) (part_of_unpaired (kit g.K.Leaf g.R.RegexEngine) c.args.part.location c.args.part.nodes.items c.args.cases.now c.args.place.now (planned c.args.plan))
   ]
 ]
+
+pub returns-in-PropertyNames-clause-makes : goal.returns-in-PropertyNames-clause-makes
+returns-in-PropertyNames-clause-makes g c = part_of_own (kit g.K.Leaf g.R.RegexEngine) c.args.part.shape _ c.args.part.location c.args.part.nodes.items c.args.cases.now _ c.args.place.now (planned c.args.plan) c.in-PropertyNames.is refl (property_names_alone (kit g.K.Leaf g.R.RegexEngine)) c.make-in-PropertyNames.ensures.makes
+
+pub returns-in-NoNames-clause-makes : goal.returns-in-NoNames-clause-makes
+returns-in-NoNames-clause-makes g c = part_of_own (kit g.K.Leaf g.R.RegexEngine) c.args.part.shape _ c.args.part.location c.args.part.nodes.items c.args.cases.now _ c.args.place.now (planned c.args.plan) c.in-NoNames.is refl (no_names_alone (kit g.K.Leaf g.R.RegexEngine)) (without_nodes (kit g.K.Leaf g.R.RegexEngine) NoNames c.args.part.location c.args.part.nodes.items _ refl c.make_false.ensures.makes)
+
+pub returns-in-AnyNames-clause-makes : goal.returns-in-AnyNames-clause-makes
+returns-in-AnyNames-clause-makes g c = part_of_own (kit g.K.Leaf g.R.RegexEngine) c.args.part.shape _ c.args.part.location c.args.part.nodes.items c.args.cases.now _ c.args.place.now (planned c.args.plan) c.in-AnyNames.is refl (any_names_alone (kit g.K.Leaf g.R.RegexEngine)) (makes_any_names (kit g.K.Leaf g.R.RegexEngine) c.args.part.location c.args.part.nodes.items)
+
+pub returns-in-DependentSchemas-clause-makes : goal.returns-in-DependentSchemas-clause-makes
+returns-in-DependentSchemas-clause-makes g c = part_of_own (kit g.K.Leaf g.R.RegexEngine) c.args.part.shape _ c.args.part.location c.args.part.nodes.items c.args.cases.now _ c.args.place.now (planned c.args.plan) c.in-DependentSchemas.is refl (dependent_schemas_alone (kit g.K.Leaf g.R.RegexEngine) _) c.make_schemas.ensures.makes
+
+pub returns-in_ok-make_required-in-DependentRequired-clause-makes : goal.returns-in_ok-make_required-in-DependentRequired-clause-makes
+returns-in_ok-make_required-in-DependentRequired-clause-makes g c = part_of_own (kit g.K.Leaf g.R.RegexEngine) c.args.part.shape _ c.args.part.location c.args.part.nodes.items c.args.cases.now _ c.args.place.now (planned c.args.plan) c.in-DependentRequired.is refl (dependent_required_alone (kit g.K.Leaf g.R.RegexEngine) c.in-DependentRequired.keys c.in-DependentRequired.lists) (without_nodes (kit g.K.Leaf g.R.RegexEngine) (DependentRequired c.in-DependentRequired.keys c.in-DependentRequired.lists) c.args.part.location c.args.part.nodes.items _ refl c.in_ok-make_required-in-DependentRequired.ensures.makes)
+
+pub returns-in_ok-make-in-Dependencies-clause-makes : goal.returns-in_ok-make-in-Dependencies-clause-makes
+returns-in_ok-make-in-Dependencies-clause-makes g c = part_of_own (kit g.K.Leaf g.R.RegexEngine) c.args.part.shape _ c.args.part.location c.args.part.nodes.items c.args.cases.now _ c.args.place.now (planned c.args.plan) c.in-Dependencies.is refl (dependencies_alone (kit g.K.Leaf g.R.RegexEngine) c.in-Dependencies.keys c.in-Dependencies.lists) c.in_ok-make-in-Dependencies.ensures.makes
+
+pub returns-in_ok-make-in-PropertyDependencies-clause-makes : goal.returns-in_ok-make-in-PropertyDependencies-clause-makes
+returns-in_ok-make-in-PropertyDependencies-clause-makes g c = part_of_own (kit g.K.Leaf g.R.RegexEngine) c.args.part.shape _ c.args.part.location c.args.part.nodes.items c.args.cases.now _ c.args.place.now (planned c.args.plan) c.in-PropertyDependencies.is refl (property_dependencies_alone (kit g.K.Leaf g.R.RegexEngine) c.in-PropertyDependencies.keys c.in-PropertyDependencies.texts) c.in_ok-make-in-PropertyDependencies.ensures.makes

@@ -16,7 +16,7 @@ loop-part-init g c =
     let known = c.is_condition.ensures ∙ ap (λ p. p.condition) c.of-plan.ensures.plan in
     let taken = subst (λ b. CasesAreTaken (kit g.K.Leaf g.R.RegexEngine) b (listed (members_view c.args.members.now.entries)) c.args.place.now c.in_ok-cases.cases c.in_ok-cases.parts.items) known (c.in_ok-cases.ensures (listed (members_view c.args.members.now.entries)) c.args.place.now (subst (λ b. PartsStand (kit g.K.Leaf g.R.RegexEngine) b c.args.parts.items (listed (members_view c.args.members.now.entries)) c.args.place.now) (sym known) c.requires)) in
     record {
-      made = none_made (kit g.K.Leaf g.R.RegexEngine) (members_view c.args.members.now.entries) c.args.place.now c.new-keywords.result.items c.into_iter-part-iterator.result.rest.items c.in_ok-cases.cases c.new-keywords.ensures.items
+      made = none_made (kit g.K.Leaf g.R.RegexEngine) (members_view c.args.members.now.entries) c.args.place.now c.in_ok-keywords.keywords.items c.into_iter-part-iterator.result.rest.items c.in_ok-cases.cases c.in_ok-keywords.ensures.items
           (subst (λ l. PartsAreLeft (kit g.K.Leaf g.R.RegexEngine) (is_condition (members_view c.args.members.now.entries)) l (listed (members_view c.args.members.now.entries)) c.args.place.now) (sym c.into_iter-part-iterator.ensures.into_iter_gives.0) taken.left)
           (λ read. cases_stand (kit g.K.Leaf g.R.RegexEngine) (members_view c.args.members.now.entries) c.args.place.now (is_condition (members_view c.args.members.now.entries)) c.in_ok-cases.cases c.in_ok-cases.parts.items c.of-plan.ensures.distinct read taken);
       count = ap length c.into_iter-part-iterator.ensures.into_iter_gives.0 ∙ search rules ∙ sym c.into_iter-part-iterator.ensures.into_iter_gives.1;
@@ -24,8 +24,8 @@ loop-part-init g c =
       ends = tt;
     }
 
-pub loop-part-preserved-in-Continue-branch-4 : goal.loop-part-preserved-in-Continue-branch-4
-loop-part-preserved-in-Continue-branch-4 g c = record {
+pub loop-part-preserved-in-Continue-branch-5 : goal.loop-part-preserved-in-Continue-branch-5
+loop-part-preserved-in-Continue-branch-5 g c = record {
   made = one_more_made (kit g.K.Leaf g.R.RegexEngine) (members_view c.args.members.now.entries) c.args.place.now (planned c.of-plan.result) c.of-plan.ensures.plan c.of-plan.ensures.distinct c.loop-part.keywords.items (c.in-Some-2.keyword ∷ []) c.append.new.items.items c.in-Some.part c.next.new.self.rest.items c.loop-part.part-iterator.rest.items c.loop-part.cases c.make_keyword.new.cases c.in_ok-append.ensures c.in-Some.ensures.steps.0 c.loop-part.invariant.made
       (subst (λ x. MakesPart (kit g.K.Leaf g.R.RegexEngine) c.in-Some.part.shape c.in-Some.part.location c.in-Some.part.nodes.items c.loop-part.cases c.args.place.now (planned c.of-plan.result) (option_to_list x)) c.in-Some-2.is c.in_ok-keyword.ensures.makes) c.in_ok-keyword.ensures.kept;
   count = let e = ap length c.in-Some.ensures.steps.0 in omega (arith, e, c.in-Some.ensures.steps.1, c.loop-part.invariant.count);

@@ -9,7 +9,9 @@ use Rattle.olk_reports.proofs.Errors.{kind_of_unsupported}
 use Rattle.olk_read.specs.Refusing.{TellsOneOf}
 use Rattle.olk_read.specs.Reading.{IsFor}
 use Rattle.olk_read.proofs.Spending.{exit}
-use Rattle.olk_read.proofs.Read.{conditional_is_read, own_if, own_then, own_else, refuses_own, refuses_name, refuses_without_memory, own_properties, own_required, own_all_of, own_any_of, own_one_of}
+use Rattle.olk_read.proofs.Read.{conditional_is_read, own_if, own_then, own_else, refuses_own, refuses_name, refuses_without_memory, is_read, right_dependent_required, right_dependencies, right_property_dependencies, names_are_read, own_properties, own_required, own_dependent_required, own_dependent_schemas, own_dependencies, own_property_dependencies, own_all_of, own_any_of, own_one_of}
+use Rattle.olk_spec.specs.Schemas.{members}
+use Rattle.olk_read.proofs.NameLists.{name_lists_are_arrays}
 use Rattle.olk_read.proofs.reading.read_keyword.Goals as goal
 
 pub returns-in_err-names_of_object-in-Properties-clause-refused : goal.returns-in_err-names_of_object-in-Properties-clause-refused
@@ -17,6 +19,18 @@ returns-in_err-names_of_object-in-Properties-clause-refused g c = exit _ _ _ c.f
 
 pub returns-in_err-texts_of_array-in-Required-clause-refused : goal.returns-in_err-texts_of_array-in-Required-clause-refused
 returns-in_err-texts_of_array-in-Required-clause-refused g c = exit _ _ _ c.from_residual-in_err-texts_of_array-in-Required.ensures.1 (λ e q. refuses_own (world g.L.Leaf.Leaf g.M.Engine.RegexEngine) c.args.name.now (codes "required") (view c.args.value.now) c.args.location.now _ _ c.args.meter.now e (subst (IsFor c.args.name.now) c.in-Required.is c.keyword_for.ensures) (own_required (world g.L.Leaf.Leaf g.M.Engine.RegexEngine) (view c.args.value.now) c.args.location.now) (subst (TellsOneOf _) (sym q) c.in_err-texts_of_array-in-Required.ensures.refused))
+
+pub returns-in_err-keys-in-DependentRequired-clause-refused : goal.returns-in_err-keys-in-DependentRequired-clause-refused
+returns-in_err-keys-in-DependentRequired-clause-refused g c = exit _ _ _ c.from_residual-in_err-keys-in-DependentRequired.ensures.1 (λ e q. refuses_own (world g.L.Leaf.Leaf g.M.Engine.RegexEngine) c.args.name.now (codes "dependentRequired") (view c.args.value.now) c.args.location.now _ _ c.args.meter.now e (subst (IsFor c.args.name.now) c.in-DependentRequired.is c.keyword_for.ensures) (own_dependent_required (world g.L.Leaf.Leaf g.M.Engine.RegexEngine) (view c.args.value.now) c.args.location.now) (subst (TellsOneOf _) (sym q) c.in_err-keys-in-DependentRequired.ensures.refused))
+
+pub returns-in_err-names_of_object-in-DependentSchemas-clause-refused : goal.returns-in_err-names_of_object-in-DependentSchemas-clause-refused
+returns-in_err-names_of_object-in-DependentSchemas-clause-refused g c = exit _ _ _ c.from_residual-in_err-names_of_object-in-DependentSchemas.ensures.1 (λ e q. refuses_own (world g.L.Leaf.Leaf g.M.Engine.RegexEngine) c.args.name.now (codes "dependentSchemas") (view c.args.value.now) c.args.location.now _ _ c.args.meter.now e (subst (IsFor c.args.name.now) c.in-DependentSchemas.is c.keyword_for.ensures) (own_dependent_schemas (world g.L.Leaf.Leaf g.M.Engine.RegexEngine) (view c.args.value.now) c.args.location.now) (subst (TellsOneOf _) (sym q) c.in_err-names_of_object-in-DependentSchemas.ensures.refused))
+
+pub returns-in_err-keys-in-Dependencies-clause-refused : goal.returns-in_err-keys-in-Dependencies-clause-refused
+returns-in_err-keys-in-Dependencies-clause-refused g c = exit _ _ _ c.from_residual-in_err-keys-in-Dependencies.ensures.1 (λ e q. refuses_own (world g.L.Leaf.Leaf g.M.Engine.RegexEngine) c.args.name.now (codes "dependencies") (view c.args.value.now) c.args.location.now _ _ c.args.meter.now e (subst (IsFor c.args.name.now) c.in-Dependencies.is c.keyword_for.ensures) (own_dependencies (world g.L.Leaf.Leaf g.M.Engine.RegexEngine) (view c.args.value.now) c.args.location.now) (subst (TellsOneOf _) (sym q) c.in_err-keys-in-Dependencies.ensures.refused))
+
+pub returns-in_err-keys-in-PropertyDependencies-clause-refused : goal.returns-in_err-keys-in-PropertyDependencies-clause-refused
+returns-in_err-keys-in-PropertyDependencies-clause-refused g c = exit _ _ _ c.from_residual-in_err-keys-in-PropertyDependencies.ensures.1 (λ e q. refuses_own (world g.L.Leaf.Leaf g.M.Engine.RegexEngine) c.args.name.now (codes "propertyDependencies") (view c.args.value.now) c.args.location.now _ _ c.args.meter.now e (subst (IsFor c.args.name.now) c.in-PropertyDependencies.is c.keyword_for.ensures) (own_property_dependencies (world g.L.Leaf.Leaf g.M.Engine.RegexEngine) (view c.args.value.now) c.args.location.now) (subst (TellsOneOf _) (sym q) c.in_err-keys-in-PropertyDependencies.ensures.refused))
 
 pub returns-in_err-shape_of_branches-in-AllOf-clause-refused : goal.returns-in_err-shape_of_branches-in-AllOf-clause-refused
 returns-in_err-shape_of_branches-in-AllOf-clause-refused g c = exit _ _ _ c.from_residual-in_err-shape_of_branches-in-AllOf.ensures.1 (λ e q. refuses_own (world g.L.Leaf.Leaf g.M.Engine.RegexEngine) c.args.name.now (codes "allOf") (view c.args.value.now) c.args.location.now _ _ c.args.meter.now e (subst (IsFor c.args.name.now) c.in-AllOf.is c.keyword_for.ensures) (own_all_of (world g.L.Leaf.Leaf g.M.Engine.RegexEngine) (view c.args.value.now) c.args.location.now) (subst (TellsOneOf _) (sym q) c.in_err-shape_of_branches-in-AllOf.ensures.refused))
@@ -34,6 +48,25 @@ pub returns-in-Refused-clause-refused : goal.returns-in-Refused-clause-refused
 returns-in-Refused-clause-refused g c =
     let h = subst (IsFor c.args.name.now) c.in-Refused.is c.keyword_for.ensures in
     refuses_name (world g.L.Leaf.Leaf g.M.Engine.RegexEngine) c.args.name.now (view c.args.value.now) c.args.location.now _ c.args.meter.now c.refuse.result h.0 h.1 (subst (λ k. TellsOneOf (fault k (view c.args.value.now) [] c.args.location.now ∷ []) c.refuse.result) (kind_of_unsupported c.args.name) c.refuse.ensures)
+
+pub returns-in-PropertyNames-clause-built : goal.returns-in-PropertyNames-clause-built
+returns-in-PropertyNames-clause-built g c = subst (λ x. IsRead (kit g.L.Leaf.Leaf g.M.Engine.RegexEngine) x c.args.condition c.args.name.now (view c.args.value.now) c.args.location.now c.args.meter.now c.args.meter.now) (sym c.shape_of_names.ensures)
+    (names_are_read (kit g.L.Leaf.Leaf g.M.Engine.RegexEngine) c.args.condition c.args.name.now (view c.args.value.now) c.args.location.now c.args.meter.now (subst (IsFor c.args.name.now) c.in-PropertyNames.is c.keyword_for.ensures))
+
+pub returns-in_ok-keys-in-DependentRequired-clause-built : goal.returns-in_ok-keys-in-DependentRequired-clause-built
+returns-in_ok-keys-in-DependentRequired-clause-built g c = is_read (kit g.L.Leaf.Leaf g.M.Engine.RegexEngine) _ c.args.condition c.args.name.now (codes "dependentRequired") (view c.args.value.now) c.args.location.now c.args.meter.now (subst (IsFor c.args.name.now) c.in-DependentRequired.is c.keyword_for.ensures)
+    (refl, c.in_ok-keys-in-DependentRequired.ensures.object, c.in_ok-keys-in-DependentRequired.ensures.keys, name_lists_are_arrays c.args.location.now (members (view c.args.value.now)) c.in_ok-keys-in-DependentRequired.ensures.right, c.in_ok-keys-in-DependentRequired.ensures.names) tt
+    (right_dependent_required (world g.L.Leaf.Leaf g.M.Engine.RegexEngine) (view c.args.value.now) c.args.location.now c.in_ok-keys-in-DependentRequired.ensures.object c.in_ok-keys-in-DependentRequired.ensures.right) refl
+
+pub returns-in_ok-keys-in-Dependencies-clause-built : goal.returns-in_ok-keys-in-Dependencies-clause-built
+returns-in_ok-keys-in-Dependencies-clause-built g c = is_read (kit g.L.Leaf.Leaf g.M.Engine.RegexEngine) _ c.args.condition c.args.name.now (codes "dependencies") (view c.args.value.now) c.args.location.now c.args.meter.now (subst (IsFor c.args.name.now) c.in-Dependencies.is c.keyword_for.ensures)
+    (refl, c.in_ok-keys-in-Dependencies.ensures.object, c.in_ok-keys-in-Dependencies.ensures.keys, c.in_ok-keys-in-Dependencies.ensures.lists) tt
+    (right_dependencies (world g.L.Leaf.Leaf g.M.Engine.RegexEngine) (view c.args.value.now) c.args.location.now c.in_ok-keys-in-Dependencies.ensures.object c.in_ok-keys-in-Dependencies.ensures.texts) refl
+
+pub returns-in_ok-keys-in-PropertyDependencies-clause-built : goal.returns-in_ok-keys-in-PropertyDependencies-clause-built
+returns-in_ok-keys-in-PropertyDependencies-clause-built g c = is_read (kit g.L.Leaf.Leaf g.M.Engine.RegexEngine) _ c.args.condition c.args.name.now (codes "propertyDependencies") (view c.args.value.now) c.args.location.now c.args.meter.now (subst (IsFor c.args.name.now) c.in-PropertyDependencies.is c.keyword_for.ensures)
+    (refl, c.in_ok-keys-in-PropertyDependencies.ensures.object, c.in_ok-keys-in-PropertyDependencies.ensures.keys, c.in_ok-keys-in-PropertyDependencies.ensures.texts) tt
+    (right_property_dependencies (world g.L.Leaf.Leaf g.M.Engine.RegexEngine) (view c.args.value.now) c.args.location.now c.in_ok-keys-in-PropertyDependencies.ensures.object c.in_ok-keys-in-PropertyDependencies.ensures.objects) refl
 
 pub returns-in-If-clause-built : goal.returns-in-If-clause-built
 returns-in-If-clause-built g c = subst (λ x. IsRead (kit g.L.Leaf.Leaf g.M.Engine.RegexEngine) x c.args.condition c.args.name.now (view c.args.value.now) c.args.location.now c.args.meter.now c.args.meter.now) (sym c.shape_beside.ensures)

@@ -1,4 +1,4 @@
-use Rattle.std.proofs.Common.{sym, ap, subst}
+use Rattle.std.proofs.Common.{rules, sym, ap, subst}
 use Rattle.std.specs.List.{flat_map}
 use Rattle.olk_base.specs.Nodes.{data_of}
 use Rattle.olk_tree.specs.Answers.{named}
@@ -9,3 +9,6 @@ use Rattle.olk_errors.proofs.dependencies.DependenciesErrors.collect_errors.Goal
 
 pub returns-in-None-clause-report : goal.returns-in-None-clause-report
 returns-in-None-clause-report g c = subst (Appends c.args.errors.now.items c.args.errors.now.items) (sym (ap (flat_map (λ n. g.N.Reports.report n c.args.ctx.now.answer (data_of c.args.node) c.args.path.now)) (none_due (data_of c.args.node) c.in-None.ensures (named c.args.self.now.dependencies)))) (appends_nothing c.args.errors.now.items)
+
+pub returns-in-Some-clause-report : goal.returns-in-Some-clause-report
+returns-in-Some-clause-report g c = search rules

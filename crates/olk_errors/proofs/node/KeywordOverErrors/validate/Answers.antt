@@ -1,4 +1,4 @@
-use Rattle.std.proofs.Common.{IfErr, sym, subst}
+use Rattle.std.proofs.Common.{rules, IfErr, sym, subst}
 use Rattle.olk_base.specs.Nodes.{data_of}
 use Rattle.olk_tree.specs.Answers.{validator_means, validator_report, validator_first}
 use Rattle.olk_errors.specs.Found.{IfInvalid, IsErrorOf}
@@ -11,3 +11,7 @@ returns-in-Leaf-clause-invalid g c = subst (λ k. IfErr c.validate_leaf.result (
   first = validator_first g.K.Leaf.finds g.N.Means.means g.K.Leaf.keyword_of g.N.Reports.report c.args.ctx.now.answer g.N.Reports.first k (data_of c.args.node) c.args.path.now;
   all = validator_report g.K.Leaf.finds g.N.Means.means g.K.Leaf.keyword_of g.N.Reports.report c.args.ctx.now.answer k (data_of c.args.node) c.args.path.now;
 })))) (sym c.in-Leaf.is) c.validate_leaf.ensures.invalid
+
+pub returns-in-Not-clause-ok : goal.returns-in-Not-clause-ok
+unfolding validator_means validator_report validator_first
+returns-in-Not-clause-ok g c = search rules

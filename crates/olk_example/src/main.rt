@@ -1,0 +1,81 @@
+//! Callers of the library: with the bench's leaves and matcher, and with a leaf and a matcher of their own.
+//!
+//! Stands on `object_logic` and `olk_bench`. Tested by its file `stdout`.
+#![tactic(auto)]
+
+mod own;
+
+use object_logic::{
+    BuildError, Leaf, MakeLeaf, MakeRegex, Meter, RegexEngine, ValidationContext, ValidationError,
+    Validator,
+};
+use olk_bench::{BenchLeaves, BenchRegexes};
+use own::{EqualNames, Words};
+use serde_json::Value;
+use std::alloc::Global;
+use std::io::{self, ErrorKind};
+
+const SCHEMA: &str = r#"{"properties":{"age":{"minimum":18}},"required":["name"]}"#;
+
+const OWN: &str = r#"{"properties":{"kind":{"word":"cat"}}}"#;
+
+fn main(rt: HostRuntime) -> io::Result<()> {
+    ask(&rt, &BenchLeaves, &BenchRegexes, SCHEMA, r#"{"age":7}"#)?;
+    ask(
+        &rt,
+        &BenchLeaves,
+        &BenchRegexes,
+        SCHEMA,
+        r#"{"age":70,"name":"Ada"}"#,
+    )?;
+    ask(&rt, &Words, &EqualNames, OWN, r#"{"kind":"dog"}"#)
+}
+
+// The JSON value of a text.
+fn parse(alloc: Global, text: &str) -> io::Result<Value> {
+    Value::from_str(alloc, text).map_err(|_| io::Error::from(ErrorKind::InvalidData))
+}
+
+// Builds the validator of a schema, and asks it of an instance.
+fn ask<L: MakeLeaf, M: MakeRegex>(
+    rt: &HostRuntime,
+    leaves: &L,
+    regexes: &M,
+    schema: &str,
+    instance: &str,
+) -> io::Result<()> {
+    let schema = parse(rt.alloc(), schema)?;
+    let instance = parse(rt.alloc(), instance)?;
+    let mut meter = Meter::new();
+    match Validator::build(rt.alloc(), leaves, regexes, &schema, &mut meter) {
+        Ok(validator) => print(rt, &validator, &instance),
+        Err(BuildError::Refused(error)) => tell(rt, &error),
+        Err(BuildError::Memory(error)) => Err(error.into()),
+    }
+}
+
+// Prints the verdict, each error with its places, and the annotations.
+fn print<'a, K: Leaf, R: RegexEngine>(
+    rt: &HostRuntime,
+    validator: &'a Validator<K, R>,
+    instance: &'a Value,
+) -> io::Result<()> {
+    let mut ctx = ValidationContext::new(false);
+    println!(rt; "valid: {}", validator.is_valid(instance, &mut ctx))?;
+    let mut errors = Vec::new(rt.alloc());
+    validator.collect_errors(rt.alloc(), instance, &mut ctx, &mut errors)?;
+    for error in &errors {
+        tell(rt, error)?;
+    }
+    let evaluation = validator.evaluate(rt.alloc(), instance, &mut ctx)?;
+    for entry in &evaluation.iter_annotations(rt.alloc())? {
+        println!(rt; "{} shows {:?}", entry.schema_location, entry.annotations)?;
+    }
+    Ok(())
+}
+
+fn tell(rt: &HostRuntime, error: &ValidationError<'_>) -> io::Result<()> {
+    let (instance, schema) = (error.instance_path(), error.schema_path());
+    println!(rt; "{instance:?}: {} ({schema})", error.message(rt.alloc())?)?;
+    Ok(())
+}

@@ -1,0 +1,146 @@
+//! `dependentRequired`, `dependentSchemas` and `dependencies`.
+ghost use Rattle.std.specs.Prelude.{◌∷◌, [], IfOk};
+ghost use Rattle.olk_base.specs.Kit.{kit};
+ghost use Rattle.olk_make.specs.Forms.{IsDependencies, IsListAt, AreListsAt, AreInOrder};
+ghost use Rattle.olk_make.specs.Making.{MakesMember};
+ghost use Rattle.olk_read.specs.declared.shape.Shape.TheVariants as shape;
+
+use olk_base::{Leaf, RegexEngine};
+use olk_node::{Keyword, SchemaNode};
+use olk_read::append;
+use olk_reports::Location;
+use olk_tree::dependencies::Dependencies;
+use olk_tree::map::{SmallMap, SortedNames};
+use olk_tree::node::{Body, KeywordOver};
+use olk_tree::required::RequiredValidator;
+use std::alloc::{AllocError, Global};
+
+/// The node of a list of names, at the keyword's place.
+///
+/// # Errors
+///
+/// Want of memory.
+fn node_of_list<K: Leaf, R: RegexEngine>(
+    alloc: Global,
+    location: &Location,
+    required: Vec<String>,
+) -> Result<SchemaNode<K, R>, AllocError>
+    ensures { IfOk result (IsListAt location.now required) }
+{
+    let names = RequiredValidator {
+        required,
+        location: location.try_clone(alloc)?,
+    };
+    let place = location.try_clone(alloc)?;
+    Ok(SchemaNode::new(place, Body::RequiredNames(names)))
+}
+
+/// The nodes of lists of names.
+///
+/// # Errors
+///
+/// Want of memory.
+fn nodes_of_lists<K: Leaf, R: RegexEngine>(
+    alloc: Global,
+    location: &Location,
+    lists: Vec<Vec<String>>,
+) -> Result<Vec<SchemaNode<K, R>>, AllocError>
+    ensures { IfOk result (λ nodes. AreListsAt location.now lists.items nodes.items) }
+{
+    let mut nodes = Vec::new(alloc);
+    for list in lists {
+        let node = node_of_list(alloc, location, list)?;
+        append(&mut nodes, node)?;
+    }
+    Ok(nodes)
+}
+
+/// The nodes of entries, in their order: of a list of names its own, and else the next of the schemas' nodes.
+///
+/// # Errors
+///
+/// Want of memory.
+fn nodes_in_order<K: Leaf, R: RegexEngine>(
+    alloc: Global,
+    location: &Location,
+    lists: Vec<Option<Vec<String>>>,
+    schemas: Vec<SchemaNode<K, R>>,
+) -> Result<Vec<SchemaNode<K, R>>, AllocError>
+    ensures { IfOk result (λ nodes. AreInOrder location.now lists.items
+        schemas.items nodes.items) }
+{
+    let mut schemas = schemas.into_iter();
+    let mut nodes = Vec::new(alloc);
+    for list in lists {
+        match list {
+            Some(names) => append(&mut nodes, node_of_list(alloc, location, names)?)?,
+            None => {
+                if let Some(node) = schemas.next() {
+                    append(&mut nodes, node)?;
+                }
+            }
+        }
+    }
+    Ok(nodes)
+}
+
+/// The validator of `dependentRequired` with these keys, and the names that each lists.
+///
+/// # Errors
+///
+/// Want of memory.
+pub fn make_required<K: Leaf, R: RegexEngine>(
+    alloc: Global,
+    location: Location,
+    keys: SortedNames,
+    lists: Vec<Vec<String>>,
+) -> Result<Keyword<K, R>, AllocError>
+    ensures form { IfOk result (IsDependencies location keys) }
+    ensures makes { IfOk result (λ k. MakesMember (kit K.Leaf R.RegexEngine)
+        (shape.DependentRequired keys lists) location [] (k ∷ [])) }
+{
+    let nodes = nodes_of_lists(alloc, &location, lists)?;
+    Ok(KeywordOver::Dependencies(Dependencies {
+        dependencies: SmallMap { names: keys, nodes },
+        location,
+    }))
+}
+
+/// The validator of `dependentSchemas` with these keys, and the node of each.
+pub fn make_schemas<K: Leaf, R: RegexEngine>(
+    location: Location,
+    keys: SortedNames,
+    nodes: Vec<SchemaNode<K, R>>,
+) -> Keyword<K, R>
+    ensures form { IsDependencies location keys result }
+    ensures makes { MakesMember (kit K.Leaf R.RegexEngine) (shape.DependentSchemas keys)
+        location nodes.items (result ∷ []) }
+{
+    KeywordOver::Dependencies(Dependencies {
+        dependencies: SmallMap { names: keys, nodes },
+        location,
+    })
+}
+
+/// The validator of `dependencies` with these keys, the names that each lists, and the nodes of those that list none.
+///
+/// # Errors
+///
+/// Want of memory.
+pub fn make<K: Leaf, R: RegexEngine>(
+    alloc: Global,
+    location: Location,
+    keys: SortedNames,
+    lists: Vec<Option<Vec<String>>>,
+    schemas: Vec<SchemaNode<K, R>>,
+) -> Result<Keyword<K, R>, AllocError>
+    ensures form { IfOk result (IsDependencies location keys) }
+    ensures makes { IfOk result (λ k. MakesMember (kit K.Leaf R.RegexEngine)
+        (shape.Dependencies keys lists) location schemas.items (k ∷ [])) }
+{
+    let nodes = nodes_in_order(alloc, &location, lists, schemas)?;
+    Ok(KeywordOver::Dependencies(Dependencies {
+        dependencies: SmallMap { names: keys, nodes },
+        location,
+    }))
+}

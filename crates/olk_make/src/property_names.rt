@@ -1,0 +1,38 @@
+//! `propertyNames`.
+ghost use Rattle.std.specs.Prelude.{◌≡◌, ◌∷◌, [], option_to_list};
+ghost use Rattle.std.specs.Option.{IfSome, IfNone};
+ghost use Rattle.olk_base.specs.Kit.{kit};
+ghost use Rattle.olk_make.specs.Forms.{IsPropertyNames, IsPropertyNamesFalse};
+ghost use Rattle.olk_make.specs.Making.{MakesMember};
+ghost use Rattle.olk_read.specs.declared.shape.Shape.TheVariants as shape;
+
+use olk_base::{Leaf, RegexEngine};
+use olk_node::{Keyword, SchemaNode};
+use olk_reports::Location;
+use olk_tree::node::KeywordOver;
+use olk_tree::property_names::{PropertyNames, PropertyNamesFalse};
+
+/// The validator of a schema's node, and none where there is no node.
+pub fn make<K: Leaf, R: RegexEngine>(
+    location: Location,
+    mut nodes: Vec<SchemaNode<K, R>>,
+) -> Option<Keyword<K, R>>
+    ensures none { IfNone result (nodes.items ≡ []) }
+    ensures form { IfSome result (IsPropertyNames location) }
+    ensures makes { MakesMember (kit K.Leaf R.RegexEngine) shape.PropertyNames location
+        nodes.items (option_to_list result) }
+{
+    let Some(node) = nodes.pop() else {
+        return None;
+    };
+    Some(KeywordOver::PropertyNames(PropertyNames { node, location }))
+}
+
+/// The validator of `false`, which allows no name.
+pub fn make_false<K: Leaf, R: RegexEngine>(location: Location) -> Keyword<K, R>
+    ensures form { IsPropertyNamesFalse location result }
+    ensures makes { MakesMember (kit K.Leaf R.RegexEngine) shape.NoNames location []
+        (result ∷ []) }
+{
+    KeywordOver::PropertyNamesFalse(PropertyNamesFalse { location })
+}
