@@ -212,6 +212,10 @@ module _ {K R : Type 0} (o : Kit K R) where
 
 -- ---- entries that are read
 
+pub none_is_read : (passes : Bool) → entries_read passes [] ≡ []
+none_is_read true = refl
+none_is_read false = refl
+
 module _ (e : Name × Data) (es : List (Name × Data)) where
   pub past_an_entry : (passes : Bool) → is_read passes e.1 ≡ false → entries_read passes (e ∷ es) ≡ entries_read passes es
   past_an_entry true r = ap (λ b. put_if b e (no_lists es)) r

@@ -21,7 +21,7 @@ use Rattle.olk_read.specs.Reading.{own_faults, own_cost_of}
 use Rattle.olk_build.specs.Placing.{places_malformed, places_cost, PlacesAreBuilt, PartsAreBuilt, IsPart}
 use Rattle.olk_read.proofs.Spending.{exit, refuses_among, memory_among, refuses_memory, within_nothing, within_exactly}
 use Rattle.olk_spec.proofs.Maps.{items_list-view}
-use Rattle.olk_build.proofs.Built.{EntriesSoFar, branches_from, next_branch, no_branch, no_entries, entries_built, entries_memory, entry_refused, entry_memory, one_more_entry, no_inner, inner_built, inner_memory, inner_refused, more_inner_memory, one_more_inner, at_an_entry, past_an_entry, built_truth, built_object, refuses_object, refuses_no_schema}
+use Rattle.olk_build.proofs.Built.{EntriesSoFar, branches_from, next_branch, no_branch, no_entries, entries_built, entries_memory, entry_refused, entry_memory, one_more_entry, no_inner, inner_built, inner_memory, inner_refused, more_inner_memory, one_more_inner, at_an_entry, past_an_entry, none_is_read, built_truth, built_object, refuses_object, refuses_no_schema}
 use Rattle.olk_members.proofs.Objects.{no_schema_is}
 use Rattle.olk_build.proofs.Parts.{refuses_part_own, refuses_part_inside, part_is_built, no_parts, one_more_part}
 use Rattle.olk_build.proofs.build.+compile.Goals as goal
@@ -41,11 +41,11 @@ compile_entries-returns-in_err-node-clause-refused g t c = exit _ _ _ c.from_res
 pub compile_entries-returns-in_err-append-clause-refused : goal.compile_entries-returns-in_err-append-clause-refused
 compile_entries-returns-in_err-append-clause-refused g t c = exit _ _ _ c.from_residual-in_err-append.ensures.1 (λ e q. entry_memory (kit g.L.Leaf.Leaf g.M.Engine.RegexEngine) c.args.place.now (entries_read c.args.passes_arrays (listed (members_view c.args.map.now.entries))) c.args.meter.now (string_bytes c.in-Some.name.now, view c.in-Some.schema.now) (entries_read c.args.passes_arrays (listed (members_view c.loop-name.name-iterator))) (entries_read c.args.passes_arrays (listed (members_view c.next.new.self))) (ap (λ l. entries_read c.args.passes_arrays (listed (members_view l))) c.in-Some.ensures.steps ∙ at_an_entry (string_bytes c.in-Some.name.now, view c.in-Some.schema.now) (listed (members_view c.next.new.self)) c.args.passes_arrays (sym c.is_read.ensures ∙ c.if-is_read.true)) c.loop-name.nodes.items _ _ c.in_ok-location.location (c.in_ok-location.ensures ∙ ap (λ n. c.args.place.now // n) c.as_str.ensures.value) c.loop-name.invariant.so_far c.in_ok-node.node c.in_ok-node.ensures.built e _ q)
 
-pub compile_entries-loop-name-preserved-in-Continue-branch-3 : goal.compile_entries-loop-name-preserved-in-Continue-branch-3
-compile_entries-loop-name-preserved-in-Continue-branch-3 g t c = record { so_far = one_more_entry (kit g.L.Leaf.Leaf g.M.Engine.RegexEngine) c.args.place.now (entries_read c.args.passes_arrays (listed (members_view c.args.map.now.entries))) c.args.meter.now (string_bytes c.in-Some.name.now, view c.in-Some.schema.now) (entries_read c.args.passes_arrays (listed (members_view c.loop-name.name-iterator))) (entries_read c.args.passes_arrays (listed (members_view c.next.new.self))) (ap (λ l. entries_read c.args.passes_arrays (listed (members_view l))) c.in-Some.ensures.steps ∙ at_an_entry (string_bytes c.in-Some.name.now, view c.in-Some.schema.now) (listed (members_view c.next.new.self)) c.args.passes_arrays (sym c.is_read.ensures ∙ c.if-is_read.true)) c.loop-name.nodes.items _ _ c.in_ok-location.location (c.in_ok-location.ensures ∙ ap (λ n. c.args.place.now // n) c.as_str.ensures.value) c.loop-name.invariant.so_far c.in_ok-node.node c.in_ok-node.ensures.built _ c.in_ok-append.ensures; next = tt; ends = tt }
+pub compile_entries-loop-name-preserved-in-Continue-branch-4 : goal.compile_entries-loop-name-preserved-in-Continue-branch-4
+compile_entries-loop-name-preserved-in-Continue-branch-4 g t c = record { so_far = one_more_entry (kit g.L.Leaf.Leaf g.M.Engine.RegexEngine) c.args.place.now (entries_read c.args.passes_arrays (listed (members_view c.args.map.now.entries))) c.args.meter.now (string_bytes c.in-Some.name.now, view c.in-Some.schema.now) (entries_read c.args.passes_arrays (listed (members_view c.loop-name.name-iterator))) (entries_read c.args.passes_arrays (listed (members_view c.next.new.self))) (ap (λ l. entries_read c.args.passes_arrays (listed (members_view l))) c.in-Some.ensures.steps ∙ at_an_entry (string_bytes c.in-Some.name.now, view c.in-Some.schema.now) (listed (members_view c.next.new.self)) c.args.passes_arrays (sym c.is_read.ensures ∙ c.if-is_read.true)) c.loop-name.nodes.items _ _ c.in_ok-location.location (c.in_ok-location.ensures ∙ ap (λ n. c.args.place.now // n) c.as_str.ensures.value) c.loop-name.invariant.so_far c.in_ok-node.node c.in_ok-node.ensures.built _ c.in_ok-append.ensures; next = tt; ends = tt }
 
 pub compile_entries-returns-clause-built : goal.compile_entries-returns-clause-built
-compile_entries-returns-clause-built g t c = entries_built (kit g.L.Leaf.Leaf g.M.Engine.RegexEngine) c.args.place.now (entries_read c.args.passes_arrays (listed (members_view c.args.map.now.entries))) c.args.meter.now c.loop-name.nodes.items (entries_read c.args.passes_arrays (listed (members_view c.loop-name.name-iterator))) _ (ap (λ l. entries_read c.args.passes_arrays (listed (members_view l))) c.in-None.ensures.steps.0) c.loop-name.invariant.so_far
+compile_entries-returns-clause-built g t c = entries_built (kit g.L.Leaf.Leaf g.M.Engine.RegexEngine) c.args.place.now (entries_read c.args.passes_arrays (listed (members_view c.args.map.now.entries))) c.args.meter.now c.loop-name.nodes.items (entries_read c.args.passes_arrays (listed (members_view c.loop-name.name-iterator))) _ (ap (λ l. entries_read c.args.passes_arrays (listed (members_view l))) c.in-None.ensures.steps.0 ∙ none_is_read c.args.passes_arrays) c.loop-name.invariant.so_far
 
 pub compile_entries-loop-name-preserved : goal.compile_entries-loop-name-preserved
 compile_entries-loop-name-preserved g t c = record { so_far = subst (λ l. EntriesSoFar (kit g.L.Leaf.Leaf g.M.Engine.RegexEngine) c.args.place.now (entries_read c.args.passes_arrays (listed (members_view c.args.map.now.entries))) c.args.meter.now c.loop-name.nodes.items l c.loop-name.meter) (ap (λ l. entries_read c.args.passes_arrays (listed (members_view l))) c.in-Some.ensures.steps ∙ past_an_entry (string_bytes c.in-Some.name.now, view c.in-Some.schema.now) (listed (members_view c.next.new.self)) c.args.passes_arrays (sym c.is_read.ensures ∙ c.if-is_read.false)) c.loop-name.invariant.so_far; next = tt; ends = tt }
