@@ -11,11 +11,11 @@ pub use numbers::holds_whole_numbers;
 pub use olk_base::{
     CompiledPattern, JsonType, KeyHead, Leaf, MakeError, MakeLeaf, MakeRegex, Meter, NoRegex,
     NoRegexes, Node, PatternOptimization, PropertyName, PropertyPattern, RegexEngine, Unfinished,
-    ValidationContext, analyze_pattern, contains_ecma_whitespace,
+    ValidationContext, analyze_pattern, compile_pattern, contains_ecma_whitespace,
 };
 pub use olk_build::{
-    Context, all_of, any_of, compile, dependencies, if_, not, one_of, properties,
-    property_dependencies, property_names, required,
+    Context, all_of, any_of, compile, dependencies, if_, not, one_of, pattern_properties,
+    properties, property_dependencies, property_names, required,
 };
 pub use olk_check::IsValid;
 pub use olk_errors::Errors;
@@ -23,9 +23,10 @@ pub use olk_evaluate::{Evaluate, Located};
 pub use olk_node::{
     AllOfValidator, AnyOfValidator, DependenciesValidator, DependentRequiredValidator,
     DependentSchemasValidator, IfElseValidator, IfThenElseValidator, IfThenValidator, Keyword,
-    NotValidator, OneOfValidator, PropertyDependenciesValidator, PropertyNamesObjectValidator,
-    SchemaNode, SingleAnyOfValidator, SingleOneOfValidator, SingleValueAllOfValidator,
-    SmallPropertiesValidator, SmallPropertiesWithRequired2Validator, SmallValidatorsMap,
+    NotValidator, OneOfValidator, PatternPropertiesValidator, PropertyDependenciesValidator,
+    PropertyNamesObjectValidator, SchemaNode, SingleAnyOfValidator, SingleOneOfValidator,
+    SingleValueAllOfValidator, SingleValuePatternPropertiesValidator, SmallPropertiesValidator,
+    SmallPropertiesWithRequired2Validator, SmallValidatorsMap,
 };
 pub use olk_reports::{
     AnnotationEntry, BuildError, ErrorDescription, ErrorEntry, Evaluation, EvaluationFlag,

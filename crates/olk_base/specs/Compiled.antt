@@ -6,6 +6,9 @@ use Rattle.olk_spec.specs.World.{World, Says, matched, unmatched}
 use Rattle.olk_spec.specs.Literals.{Literal, literal, starts_with_text, ends_with_text, equals_text, is_one_of, has_no_whitespace, passes}
 use Rattle.olk_base.specs.declared.pattern.CompiledPattern.{CompiledPattern}
 use Rattle.olk_base.specs.declared.pattern.CompiledPattern.TheVariants.{Prefix, Suffix, Exact, Alternation, NoWhitespace, Regex}
+use Rattle.olk_base.specs.declared.analysis.PatternOptimization.{PatternOptimization}
+use Rattle.olk_base.specs.declared.analysis.PatternOptimization.TheVariants as test
+use Rattle.olk_base.specs.Count.{Counts, count_made}
 
 -- a pattern that stands for a test builds, and any other where the matcher builds it
 abbrev pub pattern_builds : World → Text → Bool
@@ -21,6 +24,18 @@ pattern_answers answers (Exact s) n = answer_by (equals_text (string_bytes s)) n
 pattern_answers answers (Alternation v) n = answer_by (is_one_of (map string_bytes v.items)) n
 pattern_answers answers NoWhitespace n = answer_by has_no_whitespace n
 pattern_answers answers (Regex r) n = answers r n
+
+-- a test that an analysed pattern is seen as
+abbrev pub compiled_test : {R : Type 0} → PatternOptimization → CompiledPattern R
+compiled_test (test.Prefix s) = Prefix s
+compiled_test (test.Suffix s) = Suffix s
+compiled_test (test.Exact s) = Exact s
+compiled_test (test.Alternation v) = Alternation v
+compiled_test test.NoWhitespace = NoWhitespace
+
+-- a pattern that stands for no test is made an engine of
+abbrev pub count_open : Text → Counts → Counts
+count_open p c = option_map_or (λ l. c) (literal p) (count_made c)
 
 -- only an engine costs
 abbrev pub pattern_costs : {R : Type 0} → (R → Bool) → CompiledPattern R → Bool

@@ -18,5 +18,5 @@ pub use meter::Meter;
 pub use names::{KeyHead, PropertyName};
 pub use no_regexes::{NoRegex, NoRegexes};
 pub use node::{JsonType, Node};
-pub use pattern::{CompiledPattern, PropertyPattern};
+pub use pattern::{CompiledPattern, PropertyPattern, compile_pattern};
 pub use traits::{Leaf, MakeError, MakeLeaf, MakeRegex, RegexEngine, Unfinished};

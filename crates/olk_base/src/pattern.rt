@@ -1,11 +1,16 @@
 //! Patterns, ready to be asked.
-ghost use Rattle.std.specs.Prelude.{◌≡◌, string_bytes, bytes_eq, nat_eq};
+ghost use Rattle.std.specs.Prelude.{◌≡◌, ◌⊎◌, true, false, IfOk, IfErr, OnOk, OnErr, string_bytes, bytes_eq, nat_eq};
 ghost use Rattle.std.specs.List.{list_any, starts_with, ends_with};
+ghost use Rattle.olk_spec.specs.Names.{Name};
+ghost use Rattle.olk_spec.specs.Meanings.{pattern_says, is_open};
+ghost use Rattle.olk_base.specs.Compiled.{pattern_answers, pattern_builds, pattern_costs, count_open};
+ghost use Rattle.olk_base.specs.Lawful.{matcher, IsRefused};
 
-use crate::analysis::contains_ecma_whitespace;
+use crate::analysis::{PatternOptimization, analyze_pattern, contains_ecma_whitespace};
 use crate::context::ValidationContext;
 use crate::meter::Meter;
-use crate::traits::{RegexEngine, Unfinished};
+use crate::traits::{MakeError, MakeRegex, RegexEngine, Unfinished};
+use std::alloc::Global;
 
 /// A pattern as the test that it stands for, or else as an engine.
 ///
@@ -18,6 +23,56 @@ pub enum CompiledPattern<R> {
     Alternation(Vec<String>),
     NoWhitespace,
     Regex(R),
+}
+
+impl<R> From<PatternOptimization> for CompiledPattern<R> {
+    ghost use Rattle.std.specs.Prelude.{◌≡◌};
+    ghost use Rattle.olk_base.specs.Compiled.{compiled_test};
+
+    ghost from_gives = { λ test p. p ≡ compiled_test test };
+
+    /// The test, which needs no engine.
+    fn from(test: PatternOptimization) -> CompiledPattern<R> {
+        match test {
+            PatternOptimization::Prefix(text) => CompiledPattern::Prefix(text),
+            PatternOptimization::Suffix(text) => CompiledPattern::Suffix(text),
+            PatternOptimization::Exact(text) => CompiledPattern::Exact(text),
+            PatternOptimization::Alternation(texts) => CompiledPattern::Alternation(texts),
+            PatternOptimization::NoWhitespace => CompiledPattern::NoWhitespace,
+        }
+    }
+}
+
+/// A pattern, ready to be asked: as the test that it stands for, which never reaches the maker, or else as an engine.
+///
+/// # Errors
+///
+/// `Refused` where the pattern stands for no test and does not build, and only there; else `Memory`.
+pub fn compile_pattern<M: MakeRegex>(
+    alloc: Global,
+    regexes: &M,
+    pattern: &str,
+    meter: &mut Meter,
+) -> Result<CompiledPattern<M::Engine>, MakeError>
+    ensures answers { IfOk result (λ p. (n : Name)
+        → pattern_answers M.Engine.RegexEngine.answers p n
+        ≡ pattern_says (matcher M.Engine.RegexEngine.builds M.Engine.RegexEngine.says)
+        pattern.now n) }
+    ensures costs { IfOk result (λ p. pattern_costs M.Engine.RegexEngine.costs p
+        ≡ is_open (matcher M.Engine.RegexEngine.builds M.Engine.RegexEngine.says)
+        pattern.now) }
+    ensures builds { IfOk result (λ p. pattern_builds
+        (matcher M.Engine.RegexEngine.builds M.Engine.RegexEngine.says) pattern.now ≡ true) }
+    ensures refused { IfErr result (λ e. IsRefused e → pattern_builds
+        (matcher M.Engine.RegexEngine.builds M.Engine.RegexEngine.says) pattern.now ≡ false) }
+    ensures made { OnOk result (meter.new ≡ count_open pattern.now meter.old) }
+    ensures made_at_most { OnErr result
+        ((meter.new ≡ meter.old) ⊎ (meter.new ≡ count_open pattern.now meter.old)) }
+{
+    match analyze_pattern(alloc, pattern)? {
+        Some(test) => Ok(CompiledPattern::from(test)),
+        None => Ok(CompiledPattern::Regex(regexes.make(alloc, pattern, meter)?)),
+    }
 }
 
 impl<R: RegexEngine> RegexEngine for CompiledPattern<R> {

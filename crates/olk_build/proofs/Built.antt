@@ -34,7 +34,7 @@ use Rattle.olk_read.specs.Refusing.{Spends, TellsOneOf, Refuses}
 use Rattle.olk_make.specs.Holding.{all_malformed, StandEach, StandInner}
 use Rattle.olk_build.specs.Building.{IsBuilt, AreBuilt, InnerAreBuilt, RefusesSchema, RefusesEach, RefusesInner, no_lists, entries_read, is_read, each_malformed, each_cost, inner_cost, all_cost}
 use Rattle.olk_build.specs.Placing.{PlacesAreBuilt, RefusesPlaces}
-use Rattle.olk_build.proofs.SoFar.{SoFar, none_so_far, all_so_far, memory_so_far, refused_so_far, one_more_so_far, memory_past}
+use Rattle.olk_read.proofs.SoFar.{SoFar, none_so_far, all_so_far, memory_so_far, refused_so_far, one_more_so_far, memory_past}
 use Rattle.olk_read.specs.declared.shape.ReadPlaces.TheVariants.{Entries}
 use Rattle.olk_make.specs.Making.{KeywordsMean}
 use Rattle.olk_tree.specs.declared.node.KeywordOver.{KeywordOver}
@@ -44,6 +44,7 @@ use Rattle.olk_node.specs.declared.node.SchemaNode.{SchemaNode, out-SchemaNode}
 use Rattle.olk_node.proofs.Layers.{node_means, node_finds, node_shows, node_location}
 use Rattle.olk_spec.proofs.CostSums.{sum_last, total_cost-append}
 use Rattle.olk_read.proofs.Spending.{spends_nothing, spends_append, spends_same, spends_place, within_after, within_same, within_exactly, tells_same}
+use Rattle.olk_members.proofs.Clean.{unrestricted}
 use Rattle.olk_members.proofs.Objects.{IsNoSchema, no_schema_malformed, no_schema_cost, object_accepts, object_asks, object_report, object_tree, object_malformed, object_cost}
 
 abbrev pub truth_body : {W : Type 0} → Bool → Body W
@@ -89,10 +90,10 @@ module _ {K R : Type 0} (o : Kit K R) where
     unfolding meaning malformations_beside cost
     built_truth true b e = subst (λ x. IsBuilt o n x P a m) (sym e) record {
       stands = record {
-        verdict = λ u v. ap (λ q. q.accepts u) (node_means o n v ∙ ap (λ y. body_means (validator_means o.finds (λ z. (answers o z).means)) y v) b);
-        asks_within = λ u v. let q = ap (λ q. q.asks u) (node_means o n v ∙ ap (λ y. body_means (validator_means o.finds (λ z. (answers o z).means)) y v) b) in omega (arith, q);
-        faults = λ u v Q. ∼_same (node_finds o n u v Q ∙ ap (λ y. body_report (validator_report o.finds (λ z. (answers o z).means) o.keyword_of (λ z. (answers o z).report) u) (out-SchemaNode K R n).location y v Q) b);
-        evaluation = λ u v Q. node_shows o n u v Q ∙ (λ i. body_tree (validator_tree o.finds (λ z. (answers o z).means) o.keyword_of (λ z. (answers o z).tree) u) (at i) (b i) v Q);
+        verdict = λ u v. ap (λ q. q.accepts u) (node_means o n v ∙ ap (λ y. body_means (validator_means o (λ z. (answers o z).means)) y v) b);
+        asks_within = λ u v. let q = ap (λ q. q.asks u) (node_means o n v ∙ ap (λ y. body_means (validator_means o (λ z. (answers o z).means)) y v) b) in omega (arith, q);
+        faults = λ u v Q. ∼_same (node_finds o n u v Q ∙ ap (λ y. body_report (validator_report o (λ z. (answers o z).means) (λ z. (answers o z).report) u) (out-SchemaNode K R n).location y v Q) b);
+        evaluation = λ u v Q. node_shows o n u v Q ∙ (λ i. body_tree (validator_tree o (λ z. (answers o z).means) (λ z. (answers o z).tree) u) (at i) (b i) v Q);
         place = node_location o n ∙ at;
       };
       clean = refl;
@@ -100,23 +101,23 @@ module _ {K R : Type 0} (o : Kit K R) where
     }
     built_truth false b e = subst (λ x. IsBuilt o n x P a m) (sym e) record {
       stands = record {
-        verdict = λ u v. ap (λ q. q.accepts u) (node_means o n v ∙ ap (λ y. body_means (validator_means o.finds (λ z. (answers o z).means)) y v) b);
-        asks_within = λ u v. let q = ap (λ q. q.asks u) (node_means o n v ∙ ap (λ y. body_means (validator_means o.finds (λ z. (answers o z).means)) y v) b) in omega (arith, q);
-        faults = λ u v Q. ∼_same (node_finds o n u v Q ∙ (λ i. body_report (validator_report o.finds (λ z. (answers o z).means) o.keyword_of (λ z. (answers o z).report) u) (at i) (b i) v Q));
-        evaluation = λ u v Q. node_shows o n u v Q ∙ (λ i. body_tree (validator_tree o.finds (λ z. (answers o z).means) o.keyword_of (λ z. (answers o z).tree) u) (at i) (b i) v Q);
+        verdict = λ u v. ap (λ q. q.accepts u) (node_means o n v ∙ ap (λ y. body_means (validator_means o (λ z. (answers o z).means)) y v) b);
+        asks_within = λ u v. let q = ap (λ q. q.asks u) (node_means o n v ∙ ap (λ y. body_means (validator_means o (λ z. (answers o z).means)) y v) b) in omega (arith, q);
+        faults = λ u v Q. ∼_same (node_finds o n u v Q ∙ (λ i. body_report (validator_report o (λ z. (answers o z).means) (λ z. (answers o z).report) u) (at i) (b i) v Q));
+        evaluation = λ u v Q. node_shows o n u v Q ∙ (λ i. body_tree (validator_tree o (λ z. (answers o z).means) (λ z. (answers o z).tree) u) (at i) (b i) v Q);
         place = node_location o n ∙ at;
       };
       clean = refl;
       spends = spends_place a m c;
     }
 
-    pub built_object : (ms : Members) (ks : Vec (KeywordOver K (SchemaNode K R)) Global) (z : Counts) → (out-SchemaNode K R n).body ≡ Keywords ks → d ≡ object ms → KeywordsMean o ms ks.items (listed ms) (listed ms) P → all_malformed o ms P (listed ms) ≡ [] → Spends m z (all_cost o ms (listed ms)) → IsBuilt o n d P a z
+    pub built_object : (ms : Members) (ks : Vec (KeywordOver K R (SchemaNode K R)) Global) (z : Counts) → (out-SchemaNode K R n).body ≡ Keywords ks → d ≡ object ms → KeywordsMean o ms ks.items (listed ms) (listed ms) P → all_malformed o ms P (listed ms) ≡ [] → Spends m z (all_cost o ms (listed ms)) → IsBuilt o n d P a z
     built_object ms ks z b e h clean spent = subst (λ x. IsBuilt o n x P a z) (sym e) record {
       stands = record {
-        verdict = λ u v. ap (λ q. q.accepts u) (node_means o n v ∙ ap (λ y. body_means (validator_means o.finds (λ z. (answers o z).means)) y v) b) ∙ h.covers.verdict u v ∙ sym (object_accepts o.world ms u v);
-        asks_within = λ u v. let q = ap (λ q. q.asks u) (node_means o n v ∙ ap (λ y. body_means (validator_means o.finds (λ z. (answers o z).means)) y v) b) in let r = h.covers.asks_within u v in let t = object_asks o.world ms u v in omega (arith, q, r, t);
-        faults = λ u v Q. like_through (∼_same (node_finds o n u v Q ∙ ap (λ y. body_report (validator_report o.finds (λ z. (answers o z).means) o.keyword_of (λ z. (answers o z).report) u) (out-SchemaNode K R n).location y v Q) b)) (like_through (h.covers.faults u v Q) (∼_same (sym (object_report o.world ms u v P Q))));
-        evaluation = λ u v Q. node_shows o n u v Q ∙ (λ i. body_tree (validator_tree o.finds (λ z. (answers o z).means) o.keyword_of (λ z. (answers o z).tree) u) (at i) (b i) v Q) ∙ ap (plain P Q) (h.shows clean u v Q) ∙ sym (object_tree o.world ms u v P Q);
+        verdict = λ u v. ap (λ q. q.accepts u) (node_means o n v ∙ ap (λ y. body_means (validator_means o (λ z. (answers o z).means)) y v) b) ∙ h.covers.verdict u v ∙ sym (object_accepts o.world ms u v);
+        asks_within = λ u v. let q = ap (λ q. q.asks u) (node_means o n v ∙ ap (λ y. body_means (validator_means o (λ z. (answers o z).means)) y v) b) in let r = h.covers.asks_within (unrestricted o.world ms P clean) u v in let t = object_asks o.world ms u v in omega (arith, q, r, t);
+        faults = λ u v Q. like_through (∼_same (node_finds o n u v Q ∙ ap (λ y. body_report (validator_report o (λ z. (answers o z).means) (λ z. (answers o z).report) u) (out-SchemaNode K R n).location y v Q) b)) (like_through (h.covers.faults u v Q) (∼_same (sym (object_report o.world ms u v P Q))));
+        evaluation = λ u v Q. node_shows o n u v Q ∙ (λ i. body_tree (validator_tree o (λ z. (answers o z).means) (λ z. (answers o z).tree) u) (at i) (b i) v Q) ∙ ap (plain P Q) (h.shows clean u v Q) ∙ sym (object_tree o.world ms u v P Q);
         place = node_location o n ∙ at;
       };
       clean = object_malformed o.world ms P ∙ clean;

@@ -1,5 +1,5 @@
 -- Building `if`, `then` and `else`.
-use Rattle.std.specs.Prelude.{◌≡◌, Bool, true, false, List, [], ◌∷◌, ◌++◌, codes, ◌&&◌, Option, Some, None, is_some, Result, IfOk, IfErr}
+use Rattle.std.specs.Prelude.{bytes_eq, ◌≡◌, Bool, true, false, List, [], ◌∷◌, ◌++◌, codes, ◌&&◌, Option, Some, None, is_some, Result, IfOk, IfErr}
 use Rattle.std.specs.Result.{IsErrAnd}
 use Rattle.std.proofs.lemmas.Result.{err_from_is_err_and}
 use Rattle.std.proofs.lemmas.List.{append-nil}
@@ -67,7 +67,7 @@ first_holds false b e = absurd (true≢false (sym e))
 
 module _ {K R : Type 0} (o : Kit K R) (ms : Members) (read : is_condition ms ≡ true) where
   if_known : IsKnown (is_condition ms) ms (codes "if")
-  if_known e = (refl, first_holds (is_some (lookup (codes "if") (listed ms))) _ read)
+  if_known = ((λ e. (refl, first_holds (is_some (lookup (codes "if") (listed ms))) _ read)), λ e. absurd (true≢false (ap (bytes_eq (codes "if")) e)))
 
   stands_as : (t : Option (SchemaNode K R)) (a : Option Data) (L : Path) → CaseStands o t a L → is_some t ≡ is_some a
   stands_as None None L h = refl
@@ -94,7 +94,7 @@ module _ {K R : Type 0} (o : Kit K R) (ms : Members) (read : is_condition ms ≡
     pub if_refused : (a b : Counts) (e : BuildError) → RefusesPart o (is_condition ms) (codes "if") d (P // codes "if") a b e → RefusesCondition a b e
     if_refused a b e h = refuses_among malformed_of cost_of (condition_members ms d) a b [] (codes "if", d) cases a e refl (spends_nothing a) (h ms P refl if_known)
 
-    module _ (p : Part K (SchemaNode K R)) (a m : Counts) (part : IsPart o p (is_condition ms) (codes "if") d (P // codes "if") a m) where
+    module _ (p : Part K R (SchemaNode K R)) (a m : Counts) (part : IsPart o p (is_condition ms) (codes "if") d (P // codes "if") a m) where
       abbrev part_here : PartsAreBuilt o ms (p ∷ []) ((codes "if", d) ∷ []) P a m
       part_here = part ms P refl if_known
 
@@ -114,11 +114,11 @@ module _ {K R : Type 0} (o : Kit K R) (ms : Members) (read : is_condition ms ≡
         abbrev both_cases : Cases (SchemaNode K R)
         both_cases = record { then_schema = then_schema; else_schema = else_schema }
 
-        pub if_is_formed : (k : KeywordOver K (SchemaNode K R)) → IsIf p.location (is_some then_schema) (is_some else_schema) k → IsIf (P // codes "if") (is_some (lookup (codes "then") (listed ms))) (is_some (lookup (codes "else") (listed ms))) k
+        pub if_is_formed : (k : KeywordOver K R (SchemaNode K R)) → IsIf p.location (is_some then_schema) (is_some else_schema) k → IsIf (P // codes "if") (is_some (lookup (codes "then") (listed ms))) (is_some (lookup (codes "else") (listed ms))) k
         if_is_formed k f = subst (λ L. IsIf L (is_some (lookup (codes "then") (listed ms))) (is_some (lookup (codes "else") (listed ms))) k) part_here.stand.0.place
             (subst₂ (λ t e. IsIf p.location t e k) (stands_as then_schema _ (P // codes "then") at_then.stands) (stands_as else_schema _ (P // codes "else") at_else.stands) f)
 
-        pub condition_is_built : (before : List (SchemaNode K R)) (schema : SchemaNode K R) (ks : List (KeywordOver K (SchemaNode K R))) → p.nodes.items ≡ before ++ schema ∷ [] → has_repeat (names_of (listed ms)) ≡ false → MakesCondition o p.location schema both_cases ks → lookup (codes "if") (listed ms) ≡ Some d → ConditionIsBuilt o ms ks d P a b
+        pub condition_is_built : (before : List (SchemaNode K R)) (schema : SchemaNode K R) (ks : List (KeywordOver K R (SchemaNode K R))) → p.nodes.items ≡ before ++ schema ∷ [] → has_repeat (names_of (listed ms)) ≡ false → MakesCondition o p.location schema both_cases ks → lookup (codes "if") (listed ms) ≡ Some d → ConditionIsBuilt o ms ks d P a b
         condition_is_built before schema ks split distinct make there =
             let s = part_here.stand.0 in
             let stands = taken_stands o p.nodes.items (Some schema) d (P // codes "if") (before, split) (subst (λ r. StandAt o r p.nodes.items d (P // codes "if")) if_itself s.nodes) in

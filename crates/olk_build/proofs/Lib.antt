@@ -1,4 +1,3 @@
-mod SoFar
 pub mod Built
 mod Parts
 mod Modules

@@ -9,10 +9,12 @@ use Rattle.std.proofs.lemmas.List.{append-nil}
 use Rattle.std.proofs.lemmas.Grind.{flat_map-append}
 use mathlib.Core.Path.{subst₂}
 use Rattle.serde_json.specs.Data.{Data, Members}
-use Rattle.olk_spec.specs.Names.{Name, Path, ◌//◌, down}
+use Rattle.olk_spec.specs.Names.{Name, Path, ◌//◌, down, lookup}
 use Rattle.olk_spec.specs.Vocabulary.{Keyword, pattern_properties, keyword_named}
 use Rattle.olk_spec.specs.Faults.{Fault}
-use Rattle.olk_spec.specs.Schemas.{Schema, read, read_members, members, numbered, branches}
+use Rattle.olk_spec.specs.Schemas.{Schema, read, read_members, listed, members, numbered, branches}
+use Rattle.std.specs.Ordering.{nat_cmp}
+use Rattle.std.specs.Cmp.Lexicographic.{slice_cmp}
 use Rattle.olk_spec.specs.Malformed.{pending, each, itself, places_where, read_places, malformations_beside, malformations_step, items_of_array}
 use Rattle.olk_spec.specs.Costs.{Cost, cost, cost_step, no_cost, own_cost, total_cost}
 use Rattle.olk_spec.proofs.Reading.{entry, place, entries_read, branches_read}
@@ -26,8 +28,13 @@ use Rattle.olk_members.specs.Members.{malformations_at, member_malformations, me
 use Rattle.olk_read.specs.Refusing.{Spends, SpendsWithin, Refuses}
 use Rattle.olk_build.specs.Building.{RefusesMember, RefusesPart, each_malformed, each_cost, inner_malformed, inner_cost, all_cost}
 use Rattle.olk_read.specs.Reading.{reads_of, own_faults, own_cost_of, IsShape, Fits, IsRead}
-use Rattle.olk_members.specs.Conditions.{is_condition, is_conditional_name, IsKnown}
-use Rattle.olk_members.proofs.Conditions.{conditional_named, places_by_condition}
+use Rattle.olk_members.specs.Conditions.{is_condition, is_conditional_name, is_read_beside, is_restriction, is_restricted, IsKnown}
+use Rattle.olk_members.specs.PatternProperties.{matchers_made}
+use Rattle.olk_members.proofs.Conditions.{conditional_named, places_by_condition, restricted_read, known_alone}
+use Rattle.olk_members.proofs.PatternProperties.{pattern_properties_places, pattern_properties_own_cost, pattern_properties_free_cost, tables_asked}
+use Rattle.olk_members.proofs.Claims.{present_each}
+use Rattle.olk_members.proofs.Clean.{none_pending}
+use Rattle.olk_tree.proofs.Merge.{Rising, found_before}
 use Rattle.olk_build.specs.Placing.{places_malformed, places_cost, PlacesAreBuilt, PartsAreBuilt, IsPart}
 use Rattle.olk_make.specs.Standing.{StandAt, PartStands, PartsStand}
 use Rattle.olk_node.specs.declared.node.SchemaNode.{SchemaNode}
@@ -59,10 +66,12 @@ module _ {K R : Type 0} (o : Kit K R) where
     unfolding malformations_beside
     read_here_found k P c f h e = ap (flat_map (λ r. r.0.answer (down P r.1))) (places_by_condition (malformations_step o.world pending) ms o.world k d c h e) ∙ ap (λ b. flat_map (λ r. r.0.answer (down P r.1)) (places_where k b (itself k (read (malformations_step o.world pending) d).whole))) f ∙ append-nil _
 
-    places_found : (k : Name) (P : Path) (x : Shape K) → IsShape o k d x → (c : Bool) → Fits c x → IsKnown c ms k → found k P (keyword_named o.world k) ≡ places_malformed o (reads_of x) d (P // k)
+    places_found : (k : Name) (P : Path) (x : Shape K R) → IsShape o k d x → (c : Bool) → Fits c x → IsKnown c ms k → found k P (keyword_named o.world k) ≡ places_malformed o (reads_of x) d (P // k)
     unfolding malformations_beside
     places_found k P (shape.Properties n) s c f h = subst (λ n. found n P (keyword_named o.world n) ≡ each_malformed o (P // n) (members d)) (sym s.0)
         (ap (λ es. flat_map (λ r. r.0.answer (down P r.1)) (each (codes "properties") es)) (entries_read (malformations_step o.world pending) d) ∙ each_malformations o.world (codes "properties") P (members d))
+    places_found k P (shape.PatternProperties v) s c f h = subst (λ n. found n P (keyword_named o.world n) ≡ each_malformed o (P // n) (members d)) (sym s.0)
+        (ap (flat_map (λ r. r.0.answer (down P r.1))) (pattern_properties_places (malformations_step o.world pending) d (codes "patternProperties") (read_members (malformations_step o.world pending) ms)) ∙ each_malformations o.world (codes "patternProperties") P (members d))
     places_found k P (shape.Required v) s c f h = subst (λ n. found n P (keyword_named o.world n) ≡ []) (sym s.0) refl
     places_found k P (shape.DependentRequired n v) s c f h = subst (λ n. found n P (keyword_named o.world n) ≡ []) (sym s.0) refl
     places_found k P (shape.DependentSchemas n) s c f h = subst (λ n. found n P (keyword_named o.world n) ≡ each_malformed o (P // n) (members d)) (sym s.0)
@@ -95,10 +104,12 @@ module _ {K R : Type 0} (o : Kit K R) where
     unfolding cost
     read_here_summed k c f h e = ap (total_cost (λ r. r.0.answer)) (places_by_condition (cost_step o.world) ms o.world k d c h e) ∙ ap (λ b. total_cost (λ r. r.0.answer) (places_where k b (itself k (read (cost_step o.world) d).whole))) f ∙ sum_last _
 
-    places_summed : (k : Name) (x : Shape K) → IsShape o k d x → (c : Bool) → Fits c x → IsKnown c ms k → summed k (keyword_named o.world k) ≡ places_cost o (reads_of x) d
+    places_summed : (k : Name) (x : Shape K R) → IsShape o k d x → (c : Bool) → Fits c x → IsKnown c ms k → summed k (keyword_named o.world k) ≡ places_cost o (reads_of x) d
     unfolding cost
     places_summed k (shape.Properties n) s c f h = subst (λ n. summed n (keyword_named o.world n) ≡ each_cost o (members d)) (sym s.0)
         (ap (λ es. total_cost (λ r. r.0.answer) (each (codes "properties") es)) (entries_read (cost_step o.world) d) ∙ each_costs o.world (codes "properties") (members d))
+    places_summed k (shape.PatternProperties v) s c f h = subst (λ n. summed n (keyword_named o.world n) ≡ each_cost o (members d)) (sym s.0)
+        (ap (total_cost (λ r. r.0.answer)) (pattern_properties_places (cost_step o.world) d (codes "patternProperties") (read_members (cost_step o.world) ms)) ∙ each_costs o.world (codes "patternProperties") (members d))
     places_summed k (shape.Required v) s c f h = subst (λ n. summed n (keyword_named o.world n) ≡ no_cost) (sym s.0) refl
     places_summed k (shape.DependentRequired n v) s c f h = subst (λ n. summed n (keyword_named o.world n) ≡ no_cost) (sym s.0) refl
     places_summed k (shape.DependentSchemas n) s c f h = subst (λ n. summed n (keyword_named o.world n) ≡ each_cost o (members d)) (sym s.0)
@@ -130,48 +141,49 @@ module _ {K R : Type 0} (o : Kit K R) where
     abbrev owned : Keyword → Cost
     owned w = own_cost o.world (read_members (cost_step o.world) ms) (read (cost_step o.world) d) w
 
-    own_of_shape : (k : Name) (x : Shape K) → IsShape o k d x → owned (keyword_named o.world k) ≡ own_cost_of (keyword_named o.world k)
-    own_of_shape k (shape.Properties n) s = subst (λ n. owned (keyword_named o.world n) ≡ own_cost_of (keyword_named o.world n)) (sym s.0) refl
-    own_of_shape k (shape.Required v) s = subst (λ n. owned (keyword_named o.world n) ≡ own_cost_of (keyword_named o.world n)) (sym s.0) refl
-    own_of_shape k (shape.DependentRequired n v) s = subst (λ n. owned (keyword_named o.world n) ≡ own_cost_of (keyword_named o.world n)) (sym s.0) refl
-    own_of_shape k (shape.DependentSchemas n) s = subst (λ n. owned (keyword_named o.world n) ≡ own_cost_of (keyword_named o.world n)) (sym s.0) refl
-    own_of_shape k (shape.Dependencies n v) s = subst (λ n. owned (keyword_named o.world n) ≡ own_cost_of (keyword_named o.world n)) (sym s.0) refl
-    own_of_shape k (shape.PropertyDependencies n v) s = subst (λ n. owned (keyword_named o.world n) ≡ own_cost_of (keyword_named o.world n)) (sym s.0) refl
-    own_of_shape k shape.PropertyNames s = subst (λ n. owned (keyword_named o.world n) ≡ own_cost_of (keyword_named o.world n)) (sym s.0) refl
-    own_of_shape k shape.NoNames s = subst (λ n. owned (keyword_named o.world n) ≡ own_cost_of (keyword_named o.world n)) (sym s.0) refl
-    own_of_shape k shape.AnyNames s = subst (λ n. owned (keyword_named o.world n) ≡ own_cost_of (keyword_named o.world n)) (sym s.0) refl
-    own_of_shape k shape.AllOf s = subst (λ n. owned (keyword_named o.world n) ≡ own_cost_of (keyword_named o.world n)) (sym s.0) refl
-    own_of_shape k shape.AnyOf s = subst (λ n. owned (keyword_named o.world n) ≡ own_cost_of (keyword_named o.world n)) (sym s.0) refl
-    own_of_shape k shape.OneOf s = subst (λ n. owned (keyword_named o.world n) ≡ own_cost_of (keyword_named o.world n)) (sym s.0) refl
-    own_of_shape k (shape.Not v) s = subst (λ n. owned (keyword_named o.world n) ≡ own_cost_of (keyword_named o.world n)) (sym s.0) refl
-    own_of_shape k shape.If s = subst (λ n. owned (keyword_named o.world n) ≡ own_cost_of (keyword_named o.world n)) (sym s) refl
-    own_of_shape k shape.Then s = subst (λ n. owned (keyword_named o.world n) ≡ own_cost_of (keyword_named o.world n)) (sym s) refl
-    own_of_shape k shape.Else s = subst (λ n. owned (keyword_named o.world n) ≡ own_cost_of (keyword_named o.world n)) (sym s) refl
-    own_of_shape k shape.Unpaired s = by (conditional_named k s)
+    own_of_shape : (k : Name) (x : Shape K R) → IsShape o k d x → (k ≡ codes "patternProperties" → is_restricted ms ≡ false) → owned (keyword_named o.world k) ≡ own_cost_of o.world d (keyword_named o.world k)
+    own_of_shape k (shape.Properties n) s free = subst (λ n. owned (keyword_named o.world n) ≡ own_cost_of o.world d (keyword_named o.world n)) (sym s.0) refl
+    own_of_shape k (shape.PatternProperties v) s free = subst (λ n. owned (keyword_named o.world n) ≡ own_cost_of o.world d (keyword_named o.world n)) (sym s.0) (pattern_properties_free_cost o.world ms d (restricted_read (cost_step o.world) ms ∙ free s.0))
+    own_of_shape k (shape.Required v) s free = subst (λ n. owned (keyword_named o.world n) ≡ own_cost_of o.world d (keyword_named o.world n)) (sym s.0) refl
+    own_of_shape k (shape.DependentRequired n v) s free = subst (λ n. owned (keyword_named o.world n) ≡ own_cost_of o.world d (keyword_named o.world n)) (sym s.0) refl
+    own_of_shape k (shape.DependentSchemas n) s free = subst (λ n. owned (keyword_named o.world n) ≡ own_cost_of o.world d (keyword_named o.world n)) (sym s.0) refl
+    own_of_shape k (shape.Dependencies n v) s free = subst (λ n. owned (keyword_named o.world n) ≡ own_cost_of o.world d (keyword_named o.world n)) (sym s.0) refl
+    own_of_shape k (shape.PropertyDependencies n v) s free = subst (λ n. owned (keyword_named o.world n) ≡ own_cost_of o.world d (keyword_named o.world n)) (sym s.0) refl
+    own_of_shape k shape.PropertyNames s free = subst (λ n. owned (keyword_named o.world n) ≡ own_cost_of o.world d (keyword_named o.world n)) (sym s.0) refl
+    own_of_shape k shape.NoNames s free = subst (λ n. owned (keyword_named o.world n) ≡ own_cost_of o.world d (keyword_named o.world n)) (sym s.0) refl
+    own_of_shape k shape.AnyNames s free = subst (λ n. owned (keyword_named o.world n) ≡ own_cost_of o.world d (keyword_named o.world n)) (sym s.0) refl
+    own_of_shape k shape.AllOf s free = subst (λ n. owned (keyword_named o.world n) ≡ own_cost_of o.world d (keyword_named o.world n)) (sym s.0) refl
+    own_of_shape k shape.AnyOf s free = subst (λ n. owned (keyword_named o.world n) ≡ own_cost_of o.world d (keyword_named o.world n)) (sym s.0) refl
+    own_of_shape k shape.OneOf s free = subst (λ n. owned (keyword_named o.world n) ≡ own_cost_of o.world d (keyword_named o.world n)) (sym s.0) refl
+    own_of_shape k (shape.Not v) s free = subst (λ n. owned (keyword_named o.world n) ≡ own_cost_of o.world d (keyword_named o.world n)) (sym s.0) refl
+    own_of_shape k shape.If s free = subst (λ n. owned (keyword_named o.world n) ≡ own_cost_of o.world d (keyword_named o.world n)) (sym s) refl
+    own_of_shape k shape.Then s free = subst (λ n. owned (keyword_named o.world n) ≡ own_cost_of o.world d (keyword_named o.world n)) (sym s) refl
+    own_of_shape k shape.Else s free = subst (λ n. owned (keyword_named o.world n) ≡ own_cost_of o.world d (keyword_named o.world n)) (sym s) refl
+    own_of_shape k shape.Unpaired s free = by (conditional_named k s)
       where
-        by : (k ≡ codes "if") ⊎ (k ≡ codes "then") ⊎ (k ≡ codes "else") → owned (keyword_named o.world k) ≡ own_cost_of (keyword_named o.world k)
-        by (inl q) = subst (λ n. owned (keyword_named o.world n) ≡ own_cost_of (keyword_named o.world n)) (sym q) refl
-        by (inr (inl q)) = subst (λ n. owned (keyword_named o.world n) ≡ own_cost_of (keyword_named o.world n)) (sym q) refl
-        by (inr (inr q)) = subst (λ n. owned (keyword_named o.world n) ≡ own_cost_of (keyword_named o.world n)) (sym q) refl
-    own_of_shape k (shape.Leaf l) s = subst (λ w. owned w ≡ own_cost_of w) (sym s.0) refl
-    own_of_shape k shape.Unread s = subst (λ w. owned w ≡ own_cost_of w) (sym s) refl
+        by : (k ≡ codes "if") ⊎ (k ≡ codes "then") ⊎ (k ≡ codes "else") → owned (keyword_named o.world k) ≡ own_cost_of o.world d (keyword_named o.world k)
+        by (inl q) = subst (λ n. owned (keyword_named o.world n) ≡ own_cost_of o.world d (keyword_named o.world n)) (sym q) refl
+        by (inr (inl q)) = subst (λ n. owned (keyword_named o.world n) ≡ own_cost_of o.world d (keyword_named o.world n)) (sym q) refl
+        by (inr (inr q)) = subst (λ n. owned (keyword_named o.world n) ≡ own_cost_of o.world d (keyword_named o.world n)) (sym q) refl
+    own_of_shape k (shape.Leaf l) s free = subst (λ w. owned w ≡ own_cost_of o.world d w) (sym s.0) refl
+    own_of_shape k shape.Unread s free = subst (λ w. owned w ≡ own_cost_of o.world d w) (sym s) refl
 
     -- what reading counts is a part of the keyword's own cost
-    own_within : (a b : Counts) (w : Keyword) → SpendsWithin a b (own_cost_of w) → SpendsWithin a b (owned w)
-    own_within a b pattern_properties h = within_same a b _ _ (sum_first (owned pattern_properties)) (within_before a b no_cost (owned pattern_properties) h)
+    own_within : (a b : Counts) (w : Keyword) → SpendsWithin a b (own_cost_of o.world d w) → SpendsWithin a b (owned w)
+    own_within a b pattern_properties h = within_same a b _ _ (sym (pattern_properties_own_cost o.world ms d)) (within_before a b (matchers_made o.world d) (tables_asked o.world ms d) h)
     own_within a b w h = h
 
   -- a shape that is read as it is to be is so in each object that has the keyword
-  fits_there : (ms : Members) (x : Shape K) (k : Name) (d : Data) (c : Bool) → IsShape o k d x → IsKnown c ms k → Fits c x → Fits (is_condition ms) x
-  fits_there ms shape.If k d c s h f = sym (h (ap is_conditional_name s)).0 ∙ f
-  fits_there ms shape.Then k d c s h f = sym (h (ap is_conditional_name s)).0 ∙ f
-  fits_there ms shape.Else k d c s h f = sym (h (ap is_conditional_name s)).0 ∙ f
-  fits_there ms shape.Unpaired k d c s h f = sym (h s).0 ∙ f
+  fits_there : (ms : Members) (x : Shape K R) (k : Name) (d : Data) (c : Bool) → IsShape o k d x → IsKnown c ms k → Fits c x → Fits (is_condition ms) x
+  fits_there ms shape.If k d c s h f = sym (h.0 (ap is_conditional_name s)).0 ∙ f
+  fits_there ms shape.Then k d c s h f = sym (h.0 (ap is_conditional_name s)).0 ∙ f
+  fits_there ms shape.Else k d c s h f = sym (h.0 (ap is_conditional_name s)).0 ∙ f
+  fits_there ms shape.Unpaired k d c s h f = sym (h.0 s).0 ∙ f
   fits_there ms x k d c s h f = tt
 
   -- ---- one member
 
-  pub refuses_part_own : (c : Bool) (k : Name) (d : Data) (L : Path) (a b : Counts) (e : BuildError) → Refuses (own_faults o.world k d L) (own_cost_of (keyword_named o.world k)) a b e → RefusesPart o c k d L a b e
+  pub refuses_part_own : (c : Bool) (k : Name) (d : Data) (L : Path) (a b : Counts) (e : BuildError) → Refuses (own_faults o.world k d L) (own_cost_of o.world d (keyword_named o.world k)) a b e → RefusesPart o c k d L a b e
   refuses_part_own c k d L a b e h ms P p known = record {
     tells = tells_left (own_faults o.world k d (P // k)) (found ms d k P (keyword_named o.world k)) e (tells_same (ap (own_faults o.world k d) p) e h.tells);
     spends = within_before a b _ (summed ms d k (keyword_named o.world k)) (own_within ms d a b (keyword_named o.world k) h.spends);
@@ -181,20 +193,20 @@ module _ {K R : Type 0} (o : Kit K R) where
   refuses_part_memory c k d L a e m q ms P p known = refuses_memory _ _ a a e m q (within_nothing a _)
 
   -- of a keyword that is none of the three, in each object
-  pub refuses_member : (c : Bool) (k : Name) (d : Data) (L : Path) (a b : Counts) (e : BuildError) → is_conditional_name k ≡ false → RefusesPart o c k d L a b e → RefusesMember o k d L a b e
-  refuses_member c k d L a b e other h ms P p = h ms P p (λ q. absurd (true≢false (sym q ∙ other)))
+  pub refuses_member : (c : Bool) (k : Name) (d : Data) (L : Path) (a b : Counts) (e : BuildError) → is_read_beside k ≡ false → RefusesPart o c k d L a b e → RefusesMember o k d L a b e
+  refuses_member c k d L a b e other h ms P p = h ms P p (known_alone c ms k other)
 
-  module _ (x : Shape K) (c : Bool) (k : Name) (d : Data) (L : Path) (a m : Counts) (h : IsRead o x c k d L a m) where
-    own_spent : (ms : Members) → Spends a m (owned ms d (keyword_named o.world k))
-    own_spent ms = spends_same a m _ _ (sym (own_of_shape ms d k x h.shape)) h.spends
+  module _ (x : Shape K R) (c : Bool) (k : Name) (d : Data) (L : Path) (a m : Counts) (h : IsRead o x c k d L a m) where
+    own_spent : (ms : Members) → IsKnown c ms k → Spends a m (owned ms d (keyword_named o.world k))
+    own_spent ms known = spends_same a m _ _ (sym (own_of_shape ms d k x h.shape known.1)) h.spends
 
     pub refuses_part_inside : (b : Counts) (e : BuildError) → Refuses (places_malformed o (reads_of x) d L) (places_cost o (reads_of x) d) m b e → RefusesPart o c k d L a b e
     refuses_part_inside b e r ms P p known = record {
       tells = tells_right (own_faults o.world k d (P // k)) (found ms d k P (keyword_named o.world k)) e (tells_same (ap (places_malformed o (reads_of x) d) p ∙ sym (places_found ms d k P x h.shape c h.fits known)) e r.tells);
-      spends = within_after a m b _ _ (own_spent ms) (within_same m b _ _ (sym (places_summed ms d k x h.shape c h.fits known)) r.spends);
+      spends = within_after a m b _ _ (own_spent ms known) (within_same m b _ _ (sym (places_summed ms d k x h.shape c h.fits known)) r.spends);
     }
 
-    pub part_is_built : (ns : Vec (SchemaNode K R) Global) (p : Part K (SchemaNode K R)) (b : Counts) → p.location ≡ L → p.shape ≡ x → p.nodes ≡ ns → PlacesAreBuilt o (reads_of x) ns.items d L m b → IsPart o p c k d L a b
+    pub part_is_built : (ns : Vec (SchemaNode K R) Global) (p : Part K R (SchemaNode K R)) (b : Counts) → p.location ≡ L → p.shape ≡ x → p.nodes ≡ ns → PlacesAreBuilt o (reads_of x) ns.items d L m b → IsPart o p c k d L a b
     part_is_built ns p b at s n built ms P e known = record {
       stand = (
         record {
@@ -206,22 +218,32 @@ module _ {K R : Type 0} (o : Kit K R) where
         tt,
       );
       clean = append-nil _ ∙ (λ i. (ap (own_faults o.world k d) (sym e) ∙ h.clean) i ++ (places_found ms d k P x h.shape c h.fits known ∙ ap (places_malformed o (reads_of x) d) (sym e) ∙ built.clean) i);
-      spends = spends_same a b _ _ (sym (sum_last _)) (spends_append a m b _ _ (own_spent ms) (spends_same m b _ _ (sym (places_summed ms d k x h.shape c h.fits known)) built.spends));
+      spends = spends_same a b _ _ (sym (sum_last _)) (spends_append a m b _ _ (own_spent ms known) (spends_same m b _ _ (sym (places_summed ms d k x h.shape c h.fits known)) built.spends));
     }
 
   -- ---- one more member
 
-  pub parts_push : (c : Bool) (P : Path) (ps : List (Part K (SchemaNode K R))) (es : List (Name × Data)) (p : Part K (SchemaNode K R)) (e : Name × Data) → PartsStand o c ps es P → PartStands o c p e P → PartsStand o c (ps ++ p ∷ []) (es ++ e ∷ []) P
+  pub parts_push : (c : Bool) (P : Path) (ps : List (Part K R (SchemaNode K R))) (es : List (Name × Data)) (p : Part K R (SchemaNode K R)) (e : Name × Data) → PartsStand o c ps es P → PartStands o c p e P → PartsStand o c (ps ++ p ∷ []) (es ++ e ∷ []) P
   parts_push c P [] [] p e h s = (s, tt)
   parts_push c P [] (x ∷ es) p e h s = absurd h
   parts_push c P (y ∷ ps) [] p e h s = absurd h
   parts_push c P (y ∷ ps) (x ∷ es) p e h s = (h.0, parts_push c P ps es p e h.1 s)
 
   module _ (ms : Members) (P : Path) where
-    pub no_parts : (a : Counts) (ps : List (Part K (SchemaNode K R))) → ps ≡ [] → PartsAreBuilt o ms ps [] P a a
+    -- what the next member has to know of its neighbours, of which those before it are built
+    pub known_there : (c : Bool) (ps : List (Part K R (SchemaNode K R))) (done rest : List (Name × Data)) (k : Name) (d : Data) (a m : Counts) → c ≡ is_condition ms → Rising (listed ms) → PartsAreBuilt o ms ps done P a m → done ++ (k, d) ∷ rest ≡ listed ms → IsKnown c ms k
+    known_there c ps done rest k d a m q up h w = (
+      (λ e. (q, present_each (listed ms) done (k, d) rest w)),
+      λ e. ap is_restriction (
+          ap (lookup (codes "additionalProperties")) (sym w)
+          ∙ found_before (codes "additionalProperties") (k, d) rest (ap (slice_cmp nat_cmp (codes "additionalProperties")) e) done (subst Rising (sym w) up)
+          ∙ none_pending o.world ms P done h.clean (codes "additionalProperties") refl),
+    )
+
+    pub no_parts : (a : Counts) (ps : List (Part K R (SchemaNode K R))) → ps ≡ [] → PartsAreBuilt o ms ps [] P a a
     no_parts a ps e = record { stand = subst (λ x. PartsStand o (is_condition ms) x [] P) (sym e) tt; clean = refl; spends = spends_nothing a }
 
-    pub one_more_part : (ps new : List (Part K (SchemaNode K R))) (es : List (Name × Data)) (p : Part K (SchemaNode K R)) (c : Bool) (k : Name) (d : Data) (a m b : Counts) (L : Path) → new ≡ ps ++ p ∷ [] → L ≡ P // k → PartsAreBuilt o ms ps es P a m → IsPart o p c k d L m b → IsKnown c ms k → PartsAreBuilt o ms new (es ++ (k, d) ∷ []) P a b
+    pub one_more_part : (ps new : List (Part K R (SchemaNode K R))) (es : List (Name × Data)) (p : Part K R (SchemaNode K R)) (c : Bool) (k : Name) (d : Data) (a m b : Counts) (L : Path) → new ≡ ps ++ p ∷ [] → L ≡ P // k → PartsAreBuilt o ms ps es P a m → IsPart o p c k d L m b → IsKnown c ms k → PartsAreBuilt o ms new (es ++ (k, d) ∷ []) P a b
     one_more_part ps new es p c k d a m b L q place h part known = let one = part ms P place known in record {
       stand = subst (λ x. PartsStand o (is_condition ms) x (es ++ (k, d) ∷ []) P) (sym q) (parts_push (is_condition ms) P ps es p (k, d) h.stand one.stand.0);
       clean = flat_map-append (λ x. member_malformations o.world ms x (keyword_named o.world x.0) P) es ((k, d) ∷ []) ∙ (λ i. h.clean i ++ one.clean i);

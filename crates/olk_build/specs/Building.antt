@@ -10,7 +10,7 @@ use Rattle.olk_base.specs.Count.{Counts}
 use Rattle.olk_reports.specs.declared.error.BuildError.{BuildError}
 use Rattle.olk_base.specs.Kit.{Kit}
 use Rattle.olk_node.specs.Stands.{StandsFor}
-use Rattle.olk_members.specs.Conditions.{IsKnown}
+use Rattle.olk_members.specs.Conditions.{is_restricted, IsKnown}
 use Rattle.olk_members.specs.Members.{malformations_at, member_malformations, member_cost}
 use Rattle.olk_node.specs.declared.node.SchemaNode.{SchemaNode}
 use Rattle.olk_read.specs.Refusing.{Spends, Refuses}
@@ -85,6 +85,10 @@ module _ {K R : Type 0} (o : Kit K R) where
 
   abbrev pub RefusesPart : Bool → Name → Data → Path → Counts → Counts → BuildError → Type 0
   RefusesPart c k d at old new e = (ms : Members) (P : Path) → at ≡ P // k → IsKnown c ms k → Refuses (member_malformations o.world ms (k, d) (which o ms (k, d)) P) (member_cost o.world ms (k, d) (which o ms (k, d))) old new e
+
+  -- the same in each object where nothing is restricted
+  abbrev pub RefusesFreeMember : Name → Data → Path → Counts → Counts → BuildError → Type 0
+  RefusesFreeMember k d at old new e = (ms : Members) (P : Path) → at ≡ P // k → is_restricted ms ≡ false → Refuses (member_malformations o.world ms (k, d) (which o ms (k, d)) P) (member_cost o.world ms (k, d) (which o ms (k, d))) old new e
 
   abbrev pub RefusesMember : Name → Data → Path → Counts → Counts → BuildError → Type 0
   RefusesMember k d at old new e = (ms : Members) (P : Path) → at ≡ P // k → Refuses (member_malformations o.world ms (k, d) (which o ms (k, d)) P) (member_cost o.world ms (k, d) (which o ms (k, d))) old new e

@@ -36,13 +36,13 @@ module _ {K R : Type 0} (o : Kit K R) (ms : Members) where
       IfOk r (λ t. CaseIsBuilt t k P old new) × IfErr r (Refuses (all_malformed o ms P (member_at k ms)) (all_cost o ms (member_at k ms)) old new)
 
   -- keywords for `if` with the value d, `then` and `else` in the object at P
-  pub record ConditionIsBuilt (ks : List (KeywordOver K (SchemaNode K R))) (d : Data) (P : Path) (old new : Counts) : Type 0 where
+  pub record ConditionIsBuilt (ks : List (KeywordOver K R (SchemaNode K R))) (d : Data) (P : Path) (old new : Counts) : Type 0 where
     pub means : KeywordsMean o ms ks (claims (head (plan_of ms)) (listed ms) (codes "if", d)) ((codes "if", d) ∷ []) P
     pub clean : all_malformed o ms P (condition_members ms d) ≡ []
     pub spends : Spends old new (all_cost o ms (condition_members ms d))
 
   -- the keyword, where this value stands at `if`, or why there is none
-  abbrev pub BuildsCondition : Data → Path → Counts → Counts → Result (KeywordOver K (SchemaNode K R)) BuildError → Type 0
+  abbrev pub BuildsCondition : Data → Path → Counts → Counts → Result (KeywordOver K R (SchemaNode K R)) BuildError → Type 0
   BuildsCondition d P old new r =
       IfOk r (λ x. lookup (codes "if") (listed ms) ≡ Some d → ConditionIsBuilt (x ∷ []) d P old new)
       × IfErr r (Refuses (all_malformed o ms P (condition_members ms d)) (all_cost o ms (condition_members ms d)) old new)

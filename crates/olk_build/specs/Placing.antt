@@ -46,15 +46,15 @@ module _ {K R : Type 0} (o : Kit K R) where
     pub spends : Spends old new (places_cost r d)
 
   -- parts for the members es of the schema object with the members ms at P
-  pub record PartsAreBuilt (ms : Members) (ps : List (Part K (SchemaNode K R))) (es : List (Name × Data)) (P : Path) (old new : Counts) : Type 0 where
+  pub record PartsAreBuilt (ms : Members) (ps : List (Part K R (SchemaNode K R))) (es : List (Name × Data)) (P : Path) (old new : Counts) : Type 0 where
     pub stand : PartsStand o (is_condition ms) ps es P
     pub clean : all_malformed o ms P es ≡ []
     pub spends : Spends old new (all_cost o ms es)
 
   -- parts for all members
-  abbrev pub ObjectIsParted : Members → List (Part K (SchemaNode K R)) → Path → Counts → Counts → Type 0
+  abbrev pub ObjectIsParted : Members → List (Part K R (SchemaNode K R)) → Path → Counts → Counts → Type 0
   ObjectIsParted ms ps P old new = PartsAreBuilt ms ps (listed ms) P old new
 
   -- the part of the keyword of the name k and the value d at its place, in each object; where it is `if`, `then` or `else`, in each that has it and where c says whether `if` is read
-  abbrev pub IsPart : Part K (SchemaNode K R) → Bool → Name → Data → Path → Counts → Counts → Type 0
+  abbrev pub IsPart : Part K R (SchemaNode K R) → Bool → Name → Data → Path → Counts → Counts → Type 0
   IsPart p c k d L old new = (ms : Members) (P : Path) → L ≡ P // k → IsKnown c ms k → PartsAreBuilt ms (p ∷ []) ((k, d) ∷ []) P old new

@@ -77,7 +77,7 @@ fn compile_parts<'a, L: MakeLeaf, M: MakeRegex>(
     meter: &mut Meter,
     place: &Location,
     members: &'a Map<String, Value>,
-) -> Result<Vec<Part<L::Leaf, SchemaNode<L::Leaf, M::Engine>>>, BuildError<'a>>
+) -> Result<Vec<Part<L::Leaf, M::Engine, SchemaNode<L::Leaf, M::Engine>>>, BuildError<'a>>
     ensures built { IfOk result (λ ps. ObjectIsParted (kit L.Leaf.Leaf M.Engine.RegexEngine)
         (members_view members.now.entries) ps.items place.now meter.old meter.new) }
     ensures refused { IfErr result (RefusesObject (kit L.Leaf.Leaf M.Engine.RegexEngine)
@@ -115,7 +115,7 @@ fn compile_part<'a, L: MakeLeaf, M: MakeRegex>(
     location: Location,
     name: &'a str,
     value: &'a Value,
-) -> Result<Part<L::Leaf, SchemaNode<L::Leaf, M::Engine>>, BuildError<'a>>
+) -> Result<Part<L::Leaf, M::Engine, SchemaNode<L::Leaf, M::Engine>>, BuildError<'a>>
     ensures built { IfOk result (λ p. IsPart (kit L.Leaf.Leaf M.Engine.RegexEngine) p
         condition name.now (view value.now) location meter.old meter.new) }
     ensures refused { IfErr result (RefusesPart (kit L.Leaf.Leaf M.Engine.RegexEngine)
@@ -289,7 +289,7 @@ pub(crate) fn compile_member<'a, L: MakeLeaf, M: MakeRegex>(
     parent: &Map<String, Value>,
     name: &'a str,
     value: &'a Value,
-) -> Result<Part<L::Leaf, SchemaNode<L::Leaf, M::Engine>>, BuildError<'a>>
+) -> Result<Part<L::Leaf, M::Engine, SchemaNode<L::Leaf, M::Engine>>, BuildError<'a>>
     ensures built { IfOk result (λ p. IsPart (kit L.Leaf.Leaf M.Engine.RegexEngine) p
         (is_condition (members_view parent.now.entries)) name.now (view value.now)
         (one_below ctx.old.place name.now) ctx.old.meter.now ctx.new.meter.now) }

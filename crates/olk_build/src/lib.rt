@@ -11,6 +11,7 @@ pub mod dependencies;
 pub mod if_;
 pub mod not;
 pub mod one_of;
+pub mod pattern_properties;
 pub mod properties;
 pub mod property_dependencies;
 pub mod property_names;

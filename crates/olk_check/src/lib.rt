@@ -26,6 +26,7 @@ mod if_;
 mod node;
 mod not;
 mod one_of;
+mod pattern_properties;
 mod properties;
 mod property_dependencies;
 mod property_names;
@@ -33,3 +34,4 @@ mod required;
 mod walk;
 
 pub use one_of::{Accepting, how_many_accept};
+pub use pattern_properties::matches;

@@ -1,15 +1,16 @@
 //! Keywords and bodies.
+ghost use Rattle.olk_base.specs.Kit.{kit};
 ghost use Rattle.olk_base.specs.Nodes.{data_of};
 ghost use Rattle.olk_tree.specs.Answers.{validator_means, body_means};
 ghost use Rattle.olk_check.specs.Asks.{Asks};
 
 use crate::IsValid;
 use crate::walk::all_accept;
-use olk_base::{Leaf, Node, ValidationContext};
+use olk_base::{Leaf, Node, RegexEngine, ValidationContext};
 use olk_tree::node::{Body, KeywordOver};
 
 /// What the keyword asks of the value.
-impl<K: Leaf, N: IsValid> IsValid for KeywordOver<K, N> {
+impl<K: Leaf, R: RegexEngine, N: IsValid> IsValid for KeywordOver<K, R, N> {
     #[inline(always)]
     #[tactic(auto, unfolding(olk_tree::specs::Answers::validator_means))]
     fn is_valid(&self, node: Node<'_>, ctx: &mut ValidationContext) -> bool {
@@ -23,13 +24,14 @@ impl<K: Leaf, N: IsValid> IsValid for KeywordOver<K, N> {
 // Whether the keyword accepts the value; apart, so that a walk over leaves stays small.
 #[inline(never)]
 #[tactic(auto, unfolding(olk_tree::specs::Answers::validator_means))]
-fn keyword_accepts<K: Leaf, N: IsValid>(
-    keyword: &KeywordOver<K, N>,
+fn keyword_accepts<K: Leaf, R: RegexEngine, N: IsValid>(
+    keyword: &KeywordOver<K, R, N>,
     node: Node<'_>,
     ctx: &mut ValidationContext,
 ) -> bool
     ensures { Asks ctx.old ctx.new
-        (validator_means K.finds N.means keyword.now (data_of node.entry)) result }
+        (validator_means (kit K.Leaf R.RegexEngine) N.means keyword.now (data_of node.entry))
+        result }
 {
     match keyword {
         KeywordOver::Properties(validator) => validator.is_valid(node, ctx),
@@ -49,6 +51,8 @@ fn keyword_accepts<K: Leaf, N: IsValid>(
         KeywordOver::PropertyNames(validator) => validator.is_valid(node, ctx),
         KeywordOver::PropertyNamesFalse(validator) => validator.is_valid(node, ctx),
         KeywordOver::PropertyDependencies(validator) => validator.is_valid(node, ctx),
+        KeywordOver::PatternProperties(validator) => validator.is_valid(node, ctx),
+        KeywordOver::SingleValuePatternProperties(validator) => validator.is_valid(node, ctx),
         KeywordOver::Leaf(_, leaf) => leaf.is_valid(node),
     }
 }

@@ -7,3 +7,4 @@ mod OneOf
 mod Members
 mod Due
 mod Names
+mod Patterns

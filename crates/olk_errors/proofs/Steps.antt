@@ -53,7 +53,7 @@ module _ {X : Type 0} {f : X → List Fault} {all : List X} where
 pub passes_accepted : {o : Outcome} → o.accepts ≡ true → is_empty o.first ≡ o.accepts → Passes o
 passes_accepted {o} accepted agrees = record { verdict = accepted; nothing = nil_of_is_empty o.first (agrees ∙ accepted) }
 
-contains_none : (f : Fault) → Contains [] f → ⊥
+pub contains_none : (f : Fault) → Contains [] f → ⊥
 contains_none f c = absurd (omega arith)
 
 pub contains_first : (fs gs : List Fault) (f : Fault) → Contains fs f → Contains (or_else fs gs) f

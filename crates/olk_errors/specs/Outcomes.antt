@@ -1,16 +1,19 @@
--- What asking comes to: of a node, of branches, of branches of which one is to accept, of declared members, of members' names, of names that are wanted, of a leaf, of a body.
-use Rattle.std.specs.Prelude.{◌≡◌, ◌⊎◌, ◌<◌, ℕ, ◌==◌, Bool, List, map, Option, Some, None}
+-- What asking comes to: of a node, of branches, of branches of which one is to accept, of declared members, of members' names, of members whose names patterns match, of names that are wanted, of a leaf, of a body.
+use Rattle.std.specs.Prelude.{◌≡◌, ◌⊎◌, ◌<◌, ℕ, ◌==◌, Bool, true, cond, List, [], map, Option, Some, None}
 use Rattle.std.specs.List.{flat_map}
 use Rattle.serde_json.specs.Data.{Data, string}
-use Rattle.olk_spec.specs.Names.{Name, Path, is_empty}
+use Rattle.olk_spec.specs.Names.{Name, Path, ◌//◌, is_empty}
+use Rattle.olk_spec.specs.World.{Says}
 use Rattle.olk_spec.specs.Faults.{Fault, Kind, fault, Leaf, OneOfNotValid, OneOfMultipleValid, IsLikeKind, Context, context}
 use Rattle.olk_spec.specs.Accepts.{missing}
 use Rattle.olk_spec.specs.Reports.{required_faults, fault_if, wrapped}
 use Rattle.olk_reports.specs.Errors.{kind_of}
 use Rattle.olk_reports.specs.declared.error.ValidationErrorKind.{ValidationErrorKind}
 use Rattle.olk_base.specs.declared.traits.Leaf as leaf
-use Rattle.olk_tree.specs.Questions.{Question, every}
-use Rattle.olk_tree.specs.Answers.{first_of, one_of_report, head_of, properties_mean, properties_report, properties_first, names_mean, names_report, names_first, body_means, body_report, body_first}
+use Rattle.olk_base.specs.declared.pattern.CompiledPattern.{CompiledPattern}
+use Rattle.olk_tree.specs.Questions.{Question, always, conditional, every}
+use Rattle.olk_tree.specs.Matched.{is_match, matching, match_question}
+use Rattle.olk_tree.specs.Answers.{first_of, one_of_report, head_of, properties_mean, properties_report, properties_first, names_mean, names_report, names_first, matched_mean, matched_report, matched_first, patterns_mean, patterns_report, patterns_first, body_means, body_report, body_first}
 use Rattle.olk_tree.specs.declared.node.Body.{Body}
 use Rattle.olk_errors.specs.Found.{Outcome}
 
@@ -54,6 +57,32 @@ module _ {N : Type 0} (m : N → Data → Question) (s r : N → Bool → Data �
 
   abbrev pub of_body : Path → Body N → Data → Path → Outcome
   of_body P b v Q = record { accepts = (body_means m b v).accepts u; first = body_first (λ k. s k u) P b v Q; all = body_report (λ k. r k u) P b v Q }
+
+-- members whose names patterns match, each asked of the pattern's node
+module _ {R N : Type 0} (answers : R → Name → Says) (costs : R → Bool) (m : N → Data → Question) (s r : N → Bool → Data → Path → List Fault) (u : Bool) where
+  -- a pattern and a member
+  abbrev pub of_match : CompiledPattern R → N → Name → Data → Path → Outcome
+  of_match p n x w Q = record {
+    accepts = (conditional (match_question answers costs p x) (m n w) (always true)).accepts u;
+    first = cond (is_match answers u p x) (s n u w (Q // x)) [];
+    all = cond (is_match answers u p x) (r n u w (Q // x)) [];
+  }
+
+  -- a pattern and all members
+  abbrev pub of_matched : CompiledPattern R → N → Data → Path → Outcome
+  of_matched p n v Q = record { accepts = (matched_mean answers costs m p n v).accepts u; first = matched_first answers s u p n v Q; all = matched_report answers r u p n v Q }
+
+  -- all patterns and a member
+  abbrev pub of_matching : List (CompiledPattern R × N) → Name → Data → Path → Outcome
+  of_matching es x w Q = record {
+    accepts = (every (λ e. conditional (match_question answers costs e.0 x) (m e.1 w) (always true)) es).accepts u;
+    first = first_of (λ e. s e.1 u w (Q // x)) (matching answers u es x);
+    all = flat_map (λ e. r e.1 u w (Q // x)) (matching answers u es x);
+  }
+
+  -- all patterns and all members
+  abbrev pub of_patterns : List (CompiledPattern R × N) → Data → Path → Outcome
+  of_patterns es v Q = record { accepts = (patterns_mean answers costs m es v).accepts u; first = patterns_first answers s u es v Q; all = patterns_report answers r u es v Q }
 
 module _ {K : Type 0} (l : leaf.Ghosts K) where
   abbrev pub of_leaf : K → Data → Path → Path → Outcome

@@ -72,6 +72,7 @@ mod if_;
 mod node;
 mod not;
 mod one_of;
+mod pattern_properties;
 mod properties;
 mod property_dependencies;
 mod property_names;

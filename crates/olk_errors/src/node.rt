@@ -8,7 +8,7 @@ ghost use Rattle.olk_errors.specs.Outcomes.{of_leaf, of_body};
 use crate::Errors;
 use crate::append::{append_error, refuse, roll_back_on_err};
 use crate::walk::{collect_all, validate_all};
-use olk_base::{Leaf, Node, ValidationContext};
+use olk_base::{Leaf, Node, RegexEngine, ValidationContext};
 use olk_reports::{InstancePath, Location, ValidateError, ValidationError, ValidationErrorKind};
 use olk_tree::node::{Body, KeywordOver};
 use std::alloc::{AllocError, Global};
@@ -61,7 +61,7 @@ fn collect_leaf<'a, K: Leaf>(
     Ok(())
 }
 
-impl<'a, K: Leaf, N: Errors<'a>> Errors<'a> for KeywordOver<K, N> {
+impl<'a, K: Leaf, R: RegexEngine, N: Errors<'a>> Errors<'a> for KeywordOver<K, R, N> {
     #[tactic(auto, unfolding(olk_tree::specs::Answers::validator_means, olk_tree::specs::Answers::validator_report, olk_tree::specs::Answers::validator_first))]
     fn validate(
         &'a self,
@@ -90,6 +90,10 @@ impl<'a, K: Leaf, N: Errors<'a>> Errors<'a> for KeywordOver<K, N> {
             KeywordOver::PropertyNames(keyword) => keyword.validate(alloc, node, path, ctx),
             KeywordOver::PropertyNamesFalse(keyword) => keyword.validate(alloc, node, path, ctx),
             KeywordOver::PropertyDependencies(keyword) => keyword.validate(alloc, node, path, ctx),
+            KeywordOver::PatternProperties(keyword) => keyword.validate(alloc, node, path, ctx),
+            KeywordOver::SingleValuePatternProperties(keyword) => keyword.validate(
+                alloc, node, path, ctx,
+            ),
             KeywordOver::Leaf(location, leaf) => validate_leaf(alloc, leaf, location, node, path),
         }
     }
@@ -141,6 +145,12 @@ impl<'a, K: Leaf, N: Errors<'a>> Errors<'a> for KeywordOver<K, N> {
                 alloc, node, path, ctx, errors,
             ),
             KeywordOver::PropertyDependencies(keyword) => keyword.collect_errors(
+                alloc, node, path, ctx, errors,
+            ),
+            KeywordOver::PatternProperties(keyword) => keyword.collect_errors(
+                alloc, node, path, ctx, errors,
+            ),
+            KeywordOver::SingleValuePatternProperties(keyword) => keyword.collect_errors(
                 alloc, node, path, ctx, errors,
             ),
             KeywordOver::Leaf(location, leaf) => {

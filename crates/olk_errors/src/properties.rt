@@ -114,7 +114,8 @@ fn validate_members<'a, N: Errors<'a>>(
 }
 
 // The first error of a value one segment below the path. An accepted value has none, and its path is not written.
-fn validate_below<'a, N: Errors<'a>>(
+#[inline(always)]
+pub(crate) fn validate_below<'a, N: Errors<'a>>(
     alloc: Global,
     subschema: &'a N,
     name: &str,
@@ -165,7 +166,8 @@ fn collect_members<'a, N: Errors<'a>>(
 }
 
 // The errors of a value one segment below the path. An accepted value has none, and its path is not written.
-fn collect_below<'a, N: Errors<'a>>(
+#[inline(always)]
+pub(crate) fn collect_below<'a, N: Errors<'a>>(
     alloc: Global,
     subschema: &'a N,
     name: &str,

@@ -3,3 +3,4 @@ pub mod OwnErrors
 pub mod Branches
 pub mod OneOf
 pub mod Members
+pub mod Patterns

@@ -30,7 +30,7 @@ use Rattle.olk_evaluate.proofs.OwnErrors.{all_there}
 abbrev pub names_in : Met → List Name
 names_in m = map (λ n. n.now) m.names.items
 
-shown_append : (ws vs : List Wanted) (ts us : List Tree) → AreShown ws ts → AreShown vs us → AreShown (ws ++ vs) (ts ++ us)
+pub shown_append : (ws vs : List Wanted) (ts us : List Tree) → AreShown ws ts → AreShown vs us → AreShown (ws ++ vs) (ts ++ us)
 shown_append [] vs [] us h k = k
 shown_append [] vs (t ∷ ts) us h k = absurd h
 shown_append (w ∷ ws) vs [] us h k = absurd h
@@ -85,7 +85,7 @@ module _ {N : Type 0} (t : N → Bool → Data → Path → Tree) (m : N → Dat
   abbrev tree_at : N → Data → Path → Tree
   tree_at n = t n u
 
-  wanted_each : (ds : List (Declared N)) → all_wanted (map (wanted_at t m u Q) ds) ≡ (every (λ d. m d.node d.value) ds).accepts u
+  pub wanted_each : (ds : List (Declared N)) → all_wanted (map (wanted_at t m u Q) ds) ≡ (every (λ d. m d.node d.value) ds).accepts u
   wanted_each [] = refl
   wanted_each (d ∷ ds) = ap (λ b. (m d.node d.value).accepts u && b) (wanted_each ds)
 

@@ -3,7 +3,7 @@ use Rattle.olk_spec.specs.Names.{Path}
 use Rattle.olk_tree.specs.declared.node.KeywordOver.{KeywordOver}
 use Rattle.olk_tree.specs.declared.node.KeywordOver.TheVariants as keyword
 
-unfoldable pub keyword_place : {K N : Type 0} → KeywordOver K N → Path
+unfoldable pub keyword_place : {K R N : Type 0} → KeywordOver K R N → Path
 keyword_place (keyword.Properties k) = k.location
 keyword_place (keyword.PropertiesWithRequired2 k) = k.location
 keyword_place (keyword.Required k) = k.location
@@ -21,4 +21,6 @@ keyword_place (keyword.Dependencies k) = k.location
 keyword_place (keyword.PropertyNames k) = k.location
 keyword_place (keyword.PropertyNamesFalse k) = k.location
 keyword_place (keyword.PropertyDependencies k) = k.location
+keyword_place (keyword.PatternProperties k) = k.location
+keyword_place (keyword.SingleValuePatternProperties k) = k.location
 keyword_place (keyword.Leaf p l) = p

@@ -1,3 +1,4 @@
 pub mod Wanted
 pub mod Members
+pub mod Patterns
 pub mod Keywords

@@ -1,5 +1,5 @@
--- The members that `properties` meets.
-use Rattle.std.specs.Prelude.{◌≡◌, Bool, List, map}
+-- The members that `properties` and `patternProperties` meet.
+use Rattle.std.specs.Prelude.{◌≡◌, ◌++◌, Bool, List, map}
 use Rattle.serde_json.specs.Data.{Data}
 use Rattle.olk_spec.specs.Names.{Path, ◌//◌}
 use Rattle.olk_spec.specs.Tree.{Tree}
@@ -17,3 +17,10 @@ module _ {N : Type 0} where
   pub record HasMet (want : Declared N → Wanted) (ds : List (Declared N)) (m : Met) : Type 0 where
     pub names : map (λ n. n.now) m.names.items ≡ map (λ d. d.name) ds
     pub shown : AreShown (map want ds) (trees_of m.children.items)
+
+  -- the members of new are those of old, and then these
+  pub record MeetsMore (want : Declared N → Wanted) (ds : List (Declared N)) (old new : Met) : Type 0 where
+    pub names : map (λ n. n.now) new.names.items ≡ map (λ n. n.now) old.names.items ++ map (λ d. d.name) ds
+    pub added : List Tree
+    pub children : trees_of new.children.items ≡ trees_of old.children.items ++ added
+    pub shown : AreShown (map want ds) added

@@ -67,6 +67,7 @@ mod node;
 mod not;
 mod one_of;
 mod own;
+mod pattern_properties;
 mod properties;
 mod property_dependencies;
 mod property_names;

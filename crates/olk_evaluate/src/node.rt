@@ -11,12 +11,12 @@ use crate::own::one_error;
 use crate::required::missing_errors;
 use crate::walk::each_child;
 use crate::{Evaluate, Located};
-use olk_base::{Leaf, Node, ValidationContext};
+use olk_base::{Leaf, Node, RegexEngine, ValidationContext};
 use olk_reports::{ErrorDescription, EvaluationResult, InstancePath, ValidationErrorKind};
 use olk_tree::node::{Body, KeywordOver};
 use std::alloc::{AllocError, Global};
 
-impl<K, N> Located for KeywordOver<K, N> {
+impl<K, R, N> Located for KeywordOver<K, R, N> {
     ghost use Rattle.olk_evaluate.specs.Keywords.{keyword_place};
 
     ghost place = { keyword_place };
@@ -41,15 +41,18 @@ impl<K, N> Located for KeywordOver<K, N> {
             KeywordOver::PropertyNames(keyword) => keyword.location(),
             KeywordOver::PropertyNamesFalse(keyword) => keyword.location(),
             KeywordOver::PropertyDependencies(keyword) => keyword.location(),
+            KeywordOver::PatternProperties(keyword) => keyword.location(),
+            KeywordOver::SingleValuePatternProperties(keyword) => keyword.location(),
             KeywordOver::Leaf(location, _) => location.as_str(),
         }
     }
 }
 
-impl<'a, K: Leaf, N: Evaluate<'a>> Evaluate<'a> for KeywordOver<K, N> {
+impl<'a, K: Leaf, R: RegexEngine, N: Evaluate<'a>> Evaluate<'a> for KeywordOver<K, R, N> {
+    ghost use Rattle.olk_base.specs.Kit.{kit};
     ghost use Rattle.olk_tree.specs.Answers.{validator_tree};
 
-    ghost tree = { λ k u. validator_tree K.finds N.means K.keyword_of N.tree u k };
+    ghost tree = { λ k u. validator_tree (kit K.Leaf R.RegexEngine) N.means N.tree u k };
 
     #[tactic(auto, using(olk_check::proofs::Asked::only_same), unfolding(olk_tree::specs::Answers::validator_tree, crate::specs::Keywords::keyword_place, olk_tree::specs::Answers::validator_means))]
     fn evaluate(
@@ -79,6 +82,10 @@ impl<'a, K: Leaf, N: Evaluate<'a>> Evaluate<'a> for KeywordOver<K, N> {
             KeywordOver::PropertyNames(keyword) => keyword.evaluate(alloc, node, path, ctx),
             KeywordOver::PropertyNamesFalse(keyword) => keyword.evaluate(alloc, node, path, ctx),
             KeywordOver::PropertyDependencies(keyword) => keyword.evaluate(alloc, node, path, ctx),
+            KeywordOver::PatternProperties(keyword) => keyword.evaluate(alloc, node, path, ctx),
+            KeywordOver::SingleValuePatternProperties(keyword) => {
+                keyword.evaluate(alloc, node, path, ctx)
+            }
             KeywordOver::Leaf(_, leaf) => leaf_errors(alloc, leaf, node),
         }
     }

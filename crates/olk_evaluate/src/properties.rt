@@ -103,9 +103,9 @@ impl<'a, N: Evaluate<'a>> Evaluate<'a> for SmallPropertiesWithRequired2<N> {
     }
 }
 
-// The members that are declared: their names, and what is shown of their values.
+// The members that are met: their names, and what is shown of their values.
 #[derive(Drop)]
-struct Met<'a> {
+pub(crate) struct Met<'a> {
     names: Vec<&'a str>,
     children: Vec<EvaluationNode<'a>>,
 }
@@ -115,7 +115,7 @@ impl<'a> Met<'a> {
     ghost use Rattle.olk_reports.specs.Evaluations.{shown, shown_of};
 
     // None yet, with room for so many.
-    fn with_capacity(alloc: Global, capacity: usize) -> Result<Met<'a>, AllocError>
+    pub(crate) fn with_capacity(alloc: Global, capacity: usize) -> Result<Met<'a>, AllocError>
         ensures names { IfOk result (λ m. m.names.items ≡ []) }
         ensures children { IfOk result (λ m. m.children.items ≡ []) }
     {
@@ -126,7 +126,8 @@ impl<'a> Met<'a> {
     }
 
     // One member more.
-    fn add(&mut self, name: &'a str, child: EvaluationNode<'a>) -> Result<(), AllocError>
+    #[inline(always)]
+    pub(crate) fn add(&mut self, name: &'a str, child: EvaluationNode<'a>) -> Result<(), AllocError>
         ensures names { OnOk result
             (self.new.names.items ≡ self.old.names.items ++ name.entry ∷ []) }
         ensures children { OnOk result
@@ -151,7 +152,7 @@ impl<'a> Met<'a> {
     }
 
     // The children, and the names as annotation.
-    fn outcome(self, alloc: Global) -> EvaluationResult<'a>
+    pub(crate) fn outcome(self, alloc: Global) -> EvaluationResult<'a>
         ensures { shown_of result ≡ shown (list_all is_valid (trees_of self.entry.children.items))
             (Some (map (λ n. n.now) self.entry.names.items)) []
             (trees_of self.entry.children.items) }
@@ -188,7 +189,8 @@ fn meet<'a, N: Evaluate<'a>>(
 }
 
 // What is shown of a member's value.
-fn child_below<'a, N: Evaluate<'a>>(
+#[inline(always)]
+pub(crate) fn child_below<'a, N: Evaluate<'a>>(
     alloc: Global,
     subschema: &'a N,
     name: &str,

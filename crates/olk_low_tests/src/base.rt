@@ -1,21 +1,16 @@
 //! The tables of names and patterns, and a leaf set and a matcher called through their bounds.
-ghost use Rattle.std.specs.Prelude.{◌≡◌, ◌∷◌, ◌++◌, List, true, false, IfOk, IfErr, is_none, string_bytes, codes, if◌then◌else◌};
+ghost use Rattle.std.specs.Prelude.{◌≡◌, ◌∷◌, ◌++◌, List, true, false, IfOk, string_bytes, codes};
 ghost use Rattle.serde_json.specs.View.{view};
-ghost use Rattle.olk_spec.specs.Names.{Name, is_empty};
-ghost use Rattle.olk_spec.specs.Literals.{literal};
-ghost use Rattle.olk_spec.specs.Meanings.{pattern_says};
-ghost use Rattle.olk_base.specs.Compiled.{pattern_answers, pattern_builds, pattern_costs};
-ghost use Rattle.olk_base.specs.Count.{count_made};
-ghost use Rattle.olk_base.specs.Lawful.{matcher, IsRefused};
+ghost use Rattle.olk_spec.specs.Names.{is_empty};
 ghost use Rattle.olk_base.specs.Nodes.{data_of};
 
 use crate::counting::Counting;
 use crate::doubles::{Equality, NoTexts};
 use crate::tables::two;
 use olk_base::{
-    CompiledPattern, JsonType, KeyHead, Leaf, MakeError, MakeLeaf, MakeRegex, Meter, NoRegexes,
-    Node, PatternOptimization, PropertyName, PropertyPattern, ValidationContext, analyze_pattern,
-    contains_ecma_whitespace,
+    CompiledPattern, JsonType, KeyHead, Leaf, MakeError, MakeLeaf, Meter, NoRegexes, Node,
+    PatternOptimization, PropertyName, PropertyPattern, ValidationContext, analyze_pattern,
+    compile_pattern, contains_ecma_whitespace,
 };
 use serde_json::{Map, Value};
 use std::alloc::{AllocError, Global};
@@ -137,6 +132,36 @@ fn literal_patterns(rt: HostRuntime) -> Result<(), Fail> {
     Ok(())
 }
 
+fn compiled_text<R>(alloc: Global, pattern: &CompiledPattern<R>) -> Result<String, AllocError> {
+    match pattern {
+        CompiledPattern::Prefix(text) => format!(in alloc; "Prefix {text}"),
+        CompiledPattern::Suffix(text) => format!(in alloc; "Suffix {text}"),
+        CompiledPattern::Exact(text) => format!(in alloc; "Exact {text}"),
+        CompiledPattern::Alternation(texts) => format!(in alloc; "Alternation {texts:?}"),
+        CompiledPattern::NoWhitespace => String::from_str(alloc, "NoWhitespace"),
+        CompiledPattern::Regex(_) => String::from_str(alloc, "none"),
+    }
+}
+
+// What is compiled of a pattern, and how many engines are made.
+fn compiled(alloc: Global, pattern: &str, meter: &mut Meter) -> Result<String, Fail> {
+    let compiled = compile_pattern(alloc, &Equality, pattern, meter).map_err(plain_error)?;
+    Ok(compiled_text(alloc, &compiled)?)
+}
+
+#[test]
+fn patterns_are_compiled_to_their_tests(rt: HostRuntime) -> Result<(), Fail> {
+    for row in LITERALS.lines() {
+        let (pattern, test) = two(row)?;
+        let mut meter = Meter::new();
+        let found = compiled(rt.alloc(), pattern, &mut meter)?;
+        assert_eq!(rt; found.as_str(), test, "{pattern}");
+        assert_eq!(rt; meter.made() == 1, test == "none", "{pattern}");
+        assert_eq!(rt; meter.made() == 0, test != "none", "{pattern}");
+    }
+    Ok(())
+}
+
 #[test]
 fn white_space(rt: HostRuntime) {
     for text in [
@@ -177,37 +202,6 @@ fn white_space(rt: HostRuntime) {
     }
 }
 
-// What building does with a pattern.
-fn compile_pattern<M: MakeRegex>(
-    maker: &M,
-    alloc: Global,
-    pattern: &str,
-    meter: &mut Meter,
-) -> Result<CompiledPattern<M::Engine>, MakeError>
-    ensures answers { IfOk result
-        (λ p. (n : Name) → pattern_answers M.Engine.answers p n
-        ≡ pattern_says (matcher M.Engine.builds M.Engine.says) pattern.now n) }
-    ensures costs { IfOk result
-        (λ p. pattern_costs M.Engine.costs p ≡ is_none (literal pattern.now)) }
-    ensures builds { IfOk result
-        (λ p. pattern_builds (matcher M.Engine.builds M.Engine.says) pattern.now ≡ true) }
-    ensures refused { IfErr result
-        (λ e. IsRefused e
-        → pattern_builds (matcher M.Engine.builds M.Engine.says) pattern.now ≡ false) }
-    ensures counts { IfOk result
-        (λ p. meter.new
-        ≡ (if is_none (literal pattern.now) then count_made meter.old else meter.old)) }
-{
-    match analyze_pattern(alloc, pattern)? {
-        Some(PatternOptimization::Prefix(text)) => Ok(CompiledPattern::Prefix(text)),
-        Some(PatternOptimization::Suffix(text)) => Ok(CompiledPattern::Suffix(text)),
-        Some(PatternOptimization::Exact(text)) => Ok(CompiledPattern::Exact(text)),
-        Some(PatternOptimization::Alternation(texts)) => Ok(CompiledPattern::Alternation(texts)),
-        Some(PatternOptimization::NoWhitespace) => Ok(CompiledPattern::NoWhitespace),
-        None => Ok(CompiledPattern::Regex(maker.make(alloc, pattern, meter)?)),
-    }
-}
-
 fn plain_error(error: MakeError) -> Fail {
     match error {
         MakeError::Refused => Fail::from("refused"),
@@ -227,7 +221,7 @@ fn expect_match(rt: &impl Abort, alloc: Global, row: Match<'_>) -> Result<(), Fa
         asked: &asks,
     };
     let mut meter = Meter::new();
-    let compiled = compile_pattern(&counting, alloc, pattern, &mut meter).map_err(plain_error)?;
+    let compiled = compile_pattern(alloc, &counting, pattern, &mut meter).map_err(plain_error)?;
     assert_eq!(rt; (meter.made(), engines.get()), (asked, asked), "{pattern}");
     let mut ctx = ValidationContext::new(true);
     assert_eq!(rt;
@@ -255,10 +249,12 @@ fn patterns(rt: HostRuntime) -> Result<(), Fail> {
         ("spam$", "am", false, 0, 0),
         ("^foo$", "foo", true, 0, 0),
         ("^foo$", "foobar", false, 0, 0),
+        ("^(a|b)$", "a", true, 0, 0),
         ("^(a|b)$", "b", true, 0, 0),
         ("^(a|b)$", "ab", false, 0, 0),
         ("^\\S*$", "ab", true, 0, 0),
         ("^\\S*$", "a b", false, 0, 0),
+        ("^\\S*$", "", true, 0, 0),
         ("foo", "foo", true, 1, 0),
         ("foo", "foobar", false, 1, 0),
         ("?", "foo", true, 1, 1),
@@ -268,10 +264,49 @@ fn patterns(rt: HostRuntime) -> Result<(), Fail> {
     Ok(())
 }
 
+// Whether an unfinished match counts, and how many of these are counted.
+fn unfinished(alloc: Global, answer: bool) -> Result<(bool, u64), Fail> {
+    let mut meter = Meter::new();
+    let pattern = compile_pattern(alloc, &Equality, "?", &mut meter).map_err(plain_error)?;
+    let mut ctx = ValidationContext::new(answer);
+    let found = pattern.is_match_in("foo", &mut ctx);
+    Ok((found, ctx.meter().unfinished()))
+}
+
+#[test]
+fn an_unfinished_match_is_the_answer(rt: HostRuntime) -> Result<(), Fail> {
+    for answer in [false, true] {
+        assert_eq!(rt; unfinished(rt.alloc(), answer)?, (answer, 1));
+    }
+    Ok(())
+}
+
+// How many engines are made of a pattern that is refused, as the maker counts and as the meter does.
+fn made_and_refused(alloc: Global, pattern: &str) -> Result<(u64, u64), Fail> {
+    let (engines, asks) = (Cell::new(0), Cell::new(0));
+    let counting = Counting {
+        maker: Equality,
+        made: &engines,
+        asked: &asks,
+    };
+    let mut meter = Meter::new();
+    match compile_pattern(alloc, &counting, pattern, &mut meter) {
+        Ok(_) => Err(Fail::from("built")),
+        Err(MakeError::Refused) => Ok((engines.get(), meter.made())),
+        Err(MakeError::Memory(error)) => Err(Fail::from(error)),
+    }
+}
+
+#[test]
+fn a_refused_engine_is_counted(rt: HostRuntime) -> Result<(), Fail> {
+    assert_eq!(rt; made_and_refused(rt.alloc(), "(")?, (1, 1));
+    Ok(())
+}
+
 #[test]
 fn a_pattern_that_is_refused(rt: HostRuntime) {
     let mut meter = Meter::new();
-    let refused = compile_pattern(&Equality, rt.alloc(), "(", &mut meter);
+    let refused = compile_pattern(rt.alloc(), &Equality, "(", &mut meter);
     assert!(rt; matches!(refused, Err(MakeError::Refused)));
     assert_eq!(rt; meter.made(), 1);
 }
@@ -279,10 +314,10 @@ fn a_pattern_that_is_refused(rt: HostRuntime) {
 #[test]
 fn a_matcher_that_refuses_all(rt: HostRuntime) {
     let mut meter = Meter::new();
-    let refused = compile_pattern(&NoRegexes, rt.alloc(), "a", &mut meter);
+    let refused = compile_pattern(rt.alloc(), &NoRegexes, "a", &mut meter);
     assert!(rt; matches!(refused, Err(MakeError::Refused)));
     assert_eq!(rt; meter.made(), 1);
-    let literal = compile_pattern(&NoRegexes, rt.alloc(), "^a", &mut meter);
+    let literal = compile_pattern(rt.alloc(), &NoRegexes, "^a", &mut meter);
     assert!(rt; matches!(literal, Ok(CompiledPattern::Prefix(_))));
     assert_eq!(rt; meter.made(), 1);
 }

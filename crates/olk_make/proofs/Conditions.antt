@@ -45,13 +45,13 @@ use Rattle.olk_make.specs.declared.part.Cases.{Cases}
 use Rattle.olk_make.proofs.Held.{question, shown, found}
 use Rattle.olk_make.proofs.Together.{means_permuted}
 
-pub form_is_if : {K N : Type 0} (L : Path) (n : N) (t e : Option N) (k : KeywordOver K N) → IsFormOfIf L n t e k → IsIf L (is_some t) (is_some e) k
+pub form_is_if : {K R N : Type 0} (L : Path) (n : N) (t e : Option N) (k : KeywordOver K R N) → IsFormOfIf L n t e k → IsIf L (is_some t) (is_some e) k
 form_is_if L n (Some t) None (keyword.IfThen k) f = f.2
 form_is_if L n None (Some e) (keyword.IfElse k) f = f.2
 form_is_if L n (Some t) (Some e) (keyword.IfThenElse k) f = f.3
 form_is_if L n t e k f = absurd f
 
-pub if_of_form : {K N : Type 0} (r : Option (KeywordOver K N)) (L : Path) (n : N) (cs : Cases N) → IfSome r (IsFormOfIf L n cs.then_schema cs.else_schema) → IfSome r (IsIf L (is_some cs.then_schema) (is_some cs.else_schema))
+pub if_of_form : {K R N : Type 0} (r : Option (KeywordOver K R N)) (L : Path) (n : N) (cs : Cases N) → IfSome r (IsFormOfIf L n cs.then_schema cs.else_schema) → IfSome r (IsIf L (is_some cs.then_schema) (is_some cs.else_schema))
 if_of_form None L n cs f = tt
 if_of_form (Some k) L n cs f = form_is_if L n cs.then_schema cs.else_schema k f
 
@@ -67,21 +67,21 @@ module _ {K R : Type 0} (o : Kit K R) where
   case_found u (Some n) v Q = (answers o n).report u v Q
 
   module _ (L : Path) (n : SchemaNode K R) where
-    form_means : (t e : Option (SchemaNode K R)) (k : KeywordOver K (SchemaNode K R)) → IsFormOfIf L n t e k → (v : Data) → question o k v ≡ conditional ((answers o n).means v) (case_question t v) (case_question e v)
+    form_means : (t e : Option (SchemaNode K R)) (k : KeywordOver K R (SchemaNode K R)) → IsFormOfIf L n t e k → (v : Data) → question o k v ≡ conditional ((answers o n).means v) (case_question t v) (case_question e v)
     unfolding validator_means
     form_means (Some t) None (keyword.IfThen k) f v = λ i. conditional ((answers o (f.0 i)).means v) ((answers o (f.1 i)).means v) (always true)
     form_means None (Some e) (keyword.IfElse k) f v = λ i. conditional ((answers o (f.0 i)).means v) (always true) ((answers o (f.1 i)).means v)
     form_means (Some t) (Some e) (keyword.IfThenElse k) f v = λ i. conditional ((answers o (f.0 i)).means v) ((answers o (f.1 i)).means v) ((answers o (f.2 i)).means v)
     form_means t e k f v = absurd f
 
-    form_finds : (t e : Option (SchemaNode K R)) (k : KeywordOver K (SchemaNode K R)) → IsFormOfIf L n t e k → (u : Bool) (v : Data) (Q : Path) → found o u k v Q ≡ cond (((answers o n).means v).accepts u) (case_found u t v Q) (case_found u e v Q)
+    form_finds : (t e : Option (SchemaNode K R)) (k : KeywordOver K R (SchemaNode K R)) → IsFormOfIf L n t e k → (u : Bool) (v : Data) (Q : Path) → found o u k v Q ≡ cond (((answers o n).means v).accepts u) (case_found u t v Q) (case_found u e v Q)
     unfolding validator_report
     form_finds (Some t) None (keyword.IfThen k) f u v Q = λ i. cond (((answers o (f.0 i)).means v).accepts u) ((answers o (f.1 i)).report u v Q) []
     form_finds None (Some e) (keyword.IfElse k) f u v Q = λ i. cond (((answers o (f.0 i)).means v).accepts u) [] ((answers o (f.1 i)).report u v Q)
     form_finds (Some t) (Some e) (keyword.IfThenElse k) f u v Q = λ i. cond (((answers o (f.0 i)).means v).accepts u) ((answers o (f.1 i)).report u v Q) ((answers o (f.2 i)).report u v Q)
     form_finds t e k f u v Q = absurd f
 
-    form_shows : (t e : Option (SchemaNode K R)) (k : KeywordOver K (SchemaNode K R)) → IsFormOfIf L n t e k → (u : Bool) (v : Data) (Q : Path) → shown o u k v Q ≡ if_tree (λ n. (answers o n).tree u) v Q (((answers o n).means v).accepts u) L n (option_to_list t) (option_to_list e)
+    form_shows : (t e : Option (SchemaNode K R)) (k : KeywordOver K R (SchemaNode K R)) → IsFormOfIf L n t e k → (u : Bool) (v : Data) (Q : Path) → shown o u k v Q ≡ if_tree (λ n. (answers o n).tree u) v Q (((answers o n).means v).accepts u) L n (option_to_list t) (option_to_list e)
     unfolding validator_tree
     form_shows (Some t) None (keyword.IfThen k) f u v Q = λ i. if_tree (λ n. (answers o n).tree u) v Q (((answers o (f.0 i)).means v).accepts u) (f.2 i) (f.0 i) (f.1 i ∷ []) []
     form_shows None (Some e) (keyword.IfElse k) f u v Q = λ i. if_tree (λ n. (answers o n).tree u) v Q (((answers o (f.0 i)).means v).accepts u) (f.2 i) (f.0 i) [] (f.1 i ∷ [])
@@ -214,7 +214,7 @@ module _ {K R : Type 0} (o : Kit K R) where
     abbrev three : List (Name × Data)
     three = (codes "if", d) ∷ rows (codes "then") at_then ++ rows (codes "else") at_else
 
-    module _ (L : Path) (n : SchemaNode K R) (t e : Option (SchemaNode K R)) (k : KeywordOver K (SchemaNode K R)) (place : L ≡ P // codes "if") (form : IsFormOfIf L n t e k) (stands : StandsFor o n d L) (then_stands : CaseStands o t at_then (P // codes "then")) (else_stands : CaseStands o e at_else (P // codes "else")) where
+    module _ (L : Path) (n : SchemaNode K R) (t e : Option (SchemaNode K R)) (k : KeywordOver K R (SchemaNode K R)) (place : L ≡ P // codes "if") (form : IsFormOfIf L n t e k) (stands : StandsFor o n d L) (then_stands : CaseStands o t at_then (P // codes "then")) (else_stands : CaseStands o e at_else (P // codes "else")) where
       mean_together : Covers o ms (k ∷ []) three P
       mean_together = record {
         verdict = λ u v. and_true _ ∙ ap (λ q. q.accepts u) (form_means L n t e k form v)
@@ -222,7 +222,7 @@ module _ {K R : Type 0} (o : Kit K R) where
             ∙ one_verdict (tested ms d there u v) (case_verdict u v at_then) (case_verdict u v at_else)
             ∙ (λ i. sym (then_accepts ms d there u v at_then) i && sym (else_accepts ms d there u v at_else) i)
             ∙ sym (list_all-append (row_accepts ms d there u v) (rows (codes "then") at_then) (rows (codes "else") at_else));
-        asks_within = λ u v.
+        asks_within = λ free u v.
             let q = ap (λ q. q.asks u) (form_means L n t e k form v) ∙ ap (λ b. ((answers o n).means v).asks u + cond b ((case_question t v).asks u) ((case_question e v).asks u)) (stands.verdict u v) in
             let w = one_asked (tested ms d there u v) (((answers o n).means v).asks u) ((case_question t v).asks u) ((case_question e v).asks u) (asks o.world u d v) (case_asked u v at_then) (case_asked u v at_else) (stands.asks_within u v) (case_asks u v t at_then (P // codes "then") then_stands) (case_asks u v e at_else (P // codes "else") else_stands) in
             let s = sum_by-cons (row_asks ms d there u v) (codes "if", d) (rows (codes "then") at_then ++ rows (codes "else") at_else) in
@@ -262,7 +262,7 @@ module _ {K R : Type 0} (o : Kit K R) where
   none_stands None L h = refl
   none_stands (Some d) L h = absurd h
 
-  pub makes_condition : (k : KeywordOver K (SchemaNode K R)) (L : Path) (n : SchemaNode K R) (cs : Cases (SchemaNode K R)) → IsFormOfIf L n cs.then_schema cs.else_schema k → MakesCondition o L n cs (k ∷ [])
+  pub makes_condition : (k : KeywordOver K R (SchemaNode K R)) (L : Path) (n : SchemaNode K R) (cs : Cases (SchemaNode K R)) → IsFormOfIf L n cs.then_schema cs.else_schema k → MakesCondition o L n cs (k ∷ [])
   makes_condition k L n cs form ms d P place stands cases distinct there read_here = means_condition ms P distinct d there read_here L n cs.then_schema cs.else_schema k place form stands cases.0 cases.1 (plan_of ms) read_here
 
   -- where there is neither, `if` is not read
@@ -272,12 +272,12 @@ module _ {K R : Type 0} (o : Kit K R) where
       let b = none_stands (lookup (codes "else") (listed ms)) (P // codes "else") (subst (λ t. CaseStands o t (lookup (codes "else") (listed ms)) (P // codes "else")) q cases.1) in
       absurd (true≢false (sym read_here ∙ (λ i. is_some (there i) && (is_some (a i) || is_some (b i)))))
 
-  pub makes_if : (r : Option (KeywordOver K (SchemaNode K R))) (L : Path) (n : SchemaNode K R) (cs : Cases (SchemaNode K R)) → IfNone r (cs.then_schema ≡ None) → IfNone r (cs.else_schema ≡ None) → IfSome r (IsFormOfIf L n cs.then_schema cs.else_schema) → MakesCondition o L n cs (option_to_list r)
+  pub makes_if : (r : Option (KeywordOver K R (SchemaNode K R))) (L : Path) (n : SchemaNode K R) (cs : Cases (SchemaNode K R)) → IfNone r (cs.then_schema ≡ None) → IfNone r (cs.else_schema ≡ None) → IfSome r (IsFormOfIf L n cs.then_schema cs.else_schema) → MakesCondition o L n cs (option_to_list r)
   makes_if None L n cs p q form = makes_no_condition L n cs p q
   makes_if (Some k) L n cs p q form = makes_condition k L n cs form
 
   -- the part of `if`, whose node this is
-  pub part_of_if : (L : Path) (before ns : List (SchemaNode K R)) (n : SchemaNode K R) (cs : Cases (SchemaNode K R)) (P : Path) (p : Planned) (ks : List (KeywordOver K (SchemaNode K R))) → ns ≡ before ++ n ∷ [] → MakesCondition o L n cs ks → MakesPart o shape.If L ns cs P p ks
+  pub part_of_if : (L : Path) (before ns : List (SchemaNode K R)) (n : SchemaNode K R) (cs : Cases (SchemaNode K R)) (P : Path) (p : Planned) (ks : List (KeywordOver K R (SchemaNode K R))) → ns ≡ before ++ n ∷ [] → MakesCondition o L n cs ks → MakesPart o shape.If L ns cs P p ks
   part_of_if L before ns n cs P p ks split make ms m place named fits stand cases distinct there chosen =
       subst (λ q. KeywordsMean o ms ks (claims (head q) (listed ms) m) (m ∷ []) P) (sym chosen)
       (subst (λ k. KeywordsMean o ms ks (claims (head (plan_of ms)) (listed ms) (k, m.1)) ((k, m.1) ∷ []) P) (sym named)
@@ -288,14 +288,14 @@ module _ {K R : Type 0} (o : Kit K R) where
       by (x ∷ []) h = absurd h
       by (x ∷ y ∷ before) h = absurd h
 
-  pub part_of_no_if : (L : Path) (ns : List (SchemaNode K R)) (cs : Cases (SchemaNode K R)) (P : Path) (p : Planned) (ks : List (KeywordOver K (SchemaNode K R))) → ns ≡ [] → MakesPart o shape.If L ns cs P p ks
+  pub part_of_no_if : (L : Path) (ns : List (SchemaNode K R)) (cs : Cases (SchemaNode K R)) (P : Path) (p : Planned) (ks : List (KeywordOver K R (SchemaNode K R))) → ns ≡ [] → MakesPart o shape.If L ns cs P p ks
   part_of_no_if L ns cs P p ks none ms m place named fits stand cases distinct there chosen = absurd (subst (λ l. StandAt o Itself l m.1 L) none (stand refl))
 
   -- `then` and `else` beside `if` have no keyword of their own, and show nothing of their own
   module _ (L : Path) (ns : List (SchemaNode K R)) (cs : Cases (SchemaNode K R)) (P : Path) (p : Planned) where
     case_means_nothing : (ms : Members) (m : Name × Data) → p.condition ≡ true → is_case m.0 ≡ true → ((u : Bool) (v : Data) (Q : Path) → member_child o.world ms m (which o ms m) u v P Q ≡ []) → KeywordsMean o ms [] (claims (head p) (listed ms) m) (m ∷ []) P
     case_means_nothing ms m fits case child = subst (λ rows. KeywordsMean o ms [] rows (m ∷ []) P) (sym (claims_no_case p fits (listed ms) m case)) record {
-      covers = record { verdict = λ u v. refl; asks_within = λ u v. omega arith; faults = λ u v Q. like_empty };
+      covers = record { verdict = λ u v. refl; asks_within = λ free u v. omega arith; faults = λ u v Q. like_empty };
       shows = λ clean u v Q. sym (append-nil _ ∙ child u v Q);
     }
 
@@ -312,7 +312,7 @@ module _ {K R : Type 0} (o : Kit K R) where
         subst (λ rows. KeywordsMean o ms [] rows (m ∷ []) P) (sym (claims_itself ms distinct (head p) m (heads_elsewhere p m.0 (apart_from (codes "properties") refl refl refl) (apart_from (codes "required") refl refl refl) (λ e. absurd (true≢false (sym e ∙ fits)))) there)) record {
           covers = record {
             verdict = λ u v. sym (and_true _ ∙ nothing.verdict u v);
-            asks_within = λ u v. omega arith;
+            asks_within = λ free u v. omega arith;
             faults = λ u v Q. ∼_same (sym (append-nil _ ∙ nothing.report u v P Q));
           };
           shows = λ clean u v Q. sym (append-nil _ ∙ nothing.child u v P Q);

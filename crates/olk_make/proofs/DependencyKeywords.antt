@@ -70,7 +70,7 @@ module _ {K R : Type 0} (o : Kit K R) where
 
   -- ---- the validator
 
-  abbrev pub dependencies_of : SmallMap (SchemaNode K R) → Path → KeywordOver K (SchemaNode K R)
+  abbrev pub dependencies_of : SmallMap (SchemaNode K R) → Path → KeywordOver K R (SchemaNode K R)
   dependencies_of m L = keyword.Dependencies (record { dependencies = m; location = L })
 
   module _ (w : EntryAnswers) (m : SmallMap (SchemaNode K R)) (L : Path) (es : List (Name × Data)) (names : m.names ≡ map (λ e. e.0) es) (each : AnswerEach o w m.nodes.items es L) (u : Bool) (v : Data) where
@@ -139,12 +139,12 @@ module _ {K R : Type 0} (o : Kit K R) where
   list_answer v n e L is same = record {
     verdict = λ u x. ap (λ q. q.accepts u) (means x);
     asks_within = λ u x. let q = ap (λ q. q.asks u) (means x) in omega (arith, q);
-    faults = λ u x Q. ∼_same (node_finds o n u x Q ∙ (λ i. body_report (validator_report o.finds (λ z. (answers o z).means) o.keyword_of (λ z. (answers o z).report) u) (is.0 i) (is.1 i) x Q) ∙ ap (λ ns. required_faults ns x L Q) same);
-    evaluation = λ u x Q. node_shows o n u x Q ∙ (λ i. body_tree (validator_tree o.finds (λ z. (answers o z).means) o.keyword_of (λ z. (answers o z).tree) u) (is.0 i) (is.1 i) x Q) ∙ ap (λ ns. erring L Q (required_faults ns x L Q)) same;
+    faults = λ u x Q. ∼_same (node_finds o n u x Q ∙ (λ i. body_report (validator_report o (λ z. (answers o z).means) (λ z. (answers o z).report) u) (is.0 i) (is.1 i) x Q) ∙ ap (λ ns. required_faults ns x L Q) same);
+    evaluation = λ u x Q. node_shows o n u x Q ∙ (λ i. body_tree (validator_tree o (λ z. (answers o z).means) (λ z. (answers o z).tree) u) (is.0 i) (is.1 i) x Q) ∙ ap (λ ns. erring L Q (required_faults ns x L Q)) same;
   }
     where
       means : (x : Data) → (answers o n).means x ≡ always (is_empty (missing (texts e.1) x))
-      means x = node_means o n x ∙ ap (λ b. body_means (validator_means o.finds (λ z. (answers o z).means)) b x) is.1 ∙ ap (λ ns. always (is_empty (missing ns x))) same
+      means x = node_means o n x ∙ ap (λ b. body_means (validator_means o (λ z. (answers o z).means)) b x) is.1 ∙ ap (λ ns. always (is_empty (missing ns x))) same
 
   lists_answer : (vs : List (Vec (String Global) Global)) (ns : List (SchemaNode K R)) (es : List (Name × Data)) (L : Path) → AreListsAt L vs ns → map names_in vs ≡ map (λ e. texts e.1) es → AnswerEach o list_answers ns es L
   lists_answer [] [] [] L h q = tt

@@ -16,10 +16,11 @@ use Rattle.serde_json.specs.Data.{Data, object, array, Members, Items}
 use Rattle.serde_json.specs.View.{view}
 use Rattle.serde_json.specs.declared.value.Value.{Value}
 use Rattle.olk_spec.specs.Names.{Name, Path, ◌//◌, lookup, first_if_equal, those, put_if, is_empty, is_among}
-use Rattle.olk_spec.specs.Vocabulary.{Keyword, properties, required, all_of, any_of, not_keyword, leaf, unread, keyword_named}
+use Rattle.olk_spec.specs.Vocabulary.{Keyword, properties, pattern_properties, required, all_of, any_of, not_keyword, leaf, unread, keyword_named}
 use Rattle.olk_spec.specs.Faults.{Fault, AnyOf, Not, Leaf, fault, Context, context, IsLikeContext, like_none, like_branch, like, like_any_of, ◌∼◌, like_empty, like_next, like_through}
 use Rattle.olk_spec.specs.Schemas.{read_members, listed, numbered, at, members, texts, is_object}
 use Rattle.olk_spec.specs.Malformed.{has_repeat, items_list}
+use Rattle.olk_spec.specs.Meanings.{restricts}
 use Rattle.olk_spec.specs.Meaning.{accepts, asks, report, tree, meaning_step}
 use Rattle.olk_spec.specs.Accepts.{missing}
 use Rattle.olk_spec.specs.Reports.{required_faults, fault_if}
@@ -35,6 +36,7 @@ use Rattle.olk_tree.specs.Answers.{beside, named, validator_means, validator_rep
 use Rattle.olk_node.specs.Nodes.{answers}
 use Rattle.olk_tree.specs.Shown.{missing_trees, properties_tree, branch_trees, any_of_tree}
 use Rattle.olk_node.specs.Stands.{StandsFor}
+use Rattle.olk_members.specs.Conditions.{is_restricted}
 use Rattle.olk_members.specs.Members.{member_accepts, member_asks, member_report, member_child, StandsAlone}
 use Rattle.olk_members.specs.Plans.{Planned, head, claims}
 use Rattle.olk_make.specs.Forms.{IsFormOfProperties, IsFormOfAllOf, IsFormOfAnyOf}
@@ -64,14 +66,14 @@ pub same_within : (a b c : ℕ) → a ≤ b → c ≡ b → a ≤ c
 same_within a b c h e = omega (arith, h, e)
 
 module _ {K R : Type 0} (o : Kit K R) where
-  abbrev pub question : KeywordOver K (SchemaNode K R) → Data → Question
-  question k v = validator_means o.finds (λ n. (answers o n).means) k v
+  abbrev pub question : KeywordOver K R (SchemaNode K R) → Data → Question
+  question k v = validator_means o (λ n. (answers o n).means) k v
 
-  abbrev pub shown : Bool → KeywordOver K (SchemaNode K R) → Data → Path → Tree
-  shown u k v Q = validator_tree o.finds (λ n. (answers o n).means) o.keyword_of (λ n. (answers o n).tree) u k v Q
+  abbrev pub shown : Bool → KeywordOver K R (SchemaNode K R) → Data → Path → Tree
+  shown u k v Q = validator_tree o (λ n. (answers o n).means) (λ n. (answers o n).tree) u k v Q
 
-  abbrev pub found : Bool → KeywordOver K (SchemaNode K R) → Data → Path → List Fault
-  found u k v Q = validator_report o.finds (λ n. (answers o n).means) o.keyword_of (λ n. (answers o n).report) u k v Q
+  abbrev pub found : Bool → KeywordOver K R (SchemaNode K R) → Data → Path → List Fault
+  found u k v Q = validator_report o (λ n. (answers o n).means) (λ n. (answers o n).report) u k v Q
 
   -- ---- nodes that stand for schemas
 
@@ -184,21 +186,27 @@ module _ {K R : Type 0} (o : Kit K R) where
 
   -- ---- one keyword
 
-  module _ (ms : Members) (k : KeywordOver K (SchemaNode K R)) (m : Name × Data) (w : Keyword) (P : Path) where
+  module _ (ms : Members) (k : KeywordOver K R (SchemaNode K R)) (m : Name × Data) (w : Keyword) (P : Path) where
+    pub one_if_free : ((u : Bool) (v : Data) → (question k v).accepts u ≡ member_accepts o.world ms m w u v)
+        → (is_restricted ms ≡ false → (u : Bool) (v : Data) → (question k v).asks u ≤ member_asks o.world ms m w u v)
+        → ((u : Bool) (v : Data) (Q : Path) → found u k v Q ∼ member_report o.world ms m w u v P Q)
+        → Holds o ms (k ∷ []) m w P
+    one_if_free a q f = record {
+      verdict = λ u v. and_true ((question k v).accepts u) ∙ a u v;
+      asks_within = λ free u v. with_nothing ((question k v).asks u) (member_asks o.world ms m w u v) (q free u v);
+      faults = λ u v Q. subst (λ fs. fs ∼ member_report o.world ms m w u v P Q) (sym (append-nil (found u k v Q))) (f u v Q);
+    }
+
     pub one : ((u : Bool) (v : Data) → (question k v).accepts u ≡ member_accepts o.world ms m w u v)
         → ((u : Bool) (v : Data) → (question k v).asks u ≤ member_asks o.world ms m w u v)
         → ((u : Bool) (v : Data) (Q : Path) → found u k v Q ∼ member_report o.world ms m w u v P Q)
         → Holds o ms (k ∷ []) m w P
-    one a q f = record {
-      verdict = λ u v. and_true ((question k v).accepts u) ∙ a u v;
-      asks_within = λ u v. with_nothing ((question k v).asks u) (member_asks o.world ms m w u v) (q u v);
-      faults = λ u v Q. subst (λ fs. fs ∼ member_report o.world ms m w u v P Q) (sym (append-nil (found u k v Q))) (f u v Q);
-    }
+    one a q f = one_if_free a (λ free. q) f
 
   -- ---- properties
 
   module _ (m : SmallMap (SchemaNode K R)) (L : Path) (es : List (Name × Data)) (names : m.names ≡ map (λ e. e.0) es) (stand : StandEach o m.nodes.items es L) where
-    abbrev properties_keyword : KeywordOver K (SchemaNode K R)
+    abbrev properties_keyword : KeywordOver K R (SchemaNode K R)
     properties_keyword = keyword.Properties (record { properties = m; location = L })
 
     module _ (u : Bool) (v : Data) where
@@ -237,8 +245,8 @@ module _ {K R : Type 0} (o : Kit K R) where
 
   -- ---- properties, with required or alone
 
-  module _ (ms : Members) (m : SmallMap (SchemaNode K R)) (L P : Path) (k : SmallPropertiesWithRequired2 (SchemaNode K R)) (t : Name × Name) (form : IsFormOfProperties {K = K} P L m (Some t) (keyword.PropertiesWithRequired2 k)) where
-    abbrev alone : KeywordOver K (SchemaNode K R)
+  module _ (ms : Members) (m : SmallMap (SchemaNode K R)) (L P : Path) (k : SmallPropertiesWithRequired2 (SchemaNode K R)) (t : Name × Name) (form : IsFormOfProperties {K = K} {R = R} P L m (Some t) (keyword.PropertiesWithRequired2 k)) where
+    abbrev alone : KeywordOver K R (SchemaNode K R)
     alone = keyword.Properties (record { properties = m; location = L })
 
     abbrev lacking : Data → List Name
@@ -264,11 +272,11 @@ module _ {K R : Type 0} (o : Kit K R) where
     covers_both : (d : Data) → Holds o ms (alone ∷ []) (codes "properties", d) properties P → Covers o ms (keyword.PropertiesWithRequired2 k ∷ []) ((codes "properties", d) ∷ (codes "required", listing t) ∷ []) P
     covers_both d h = record {
       verdict = λ u v. ap (λ b. b && true) (both_accept u v) ∙ turned (is_empty (lacking v)) ((question alone v).accepts u) ∙ (λ i. h.verdict u v i && (sym (fact.required_accepts o.world ms (listing t) u v) i && true));
-      asks_within = λ u v.
+      asks_within = λ free u v.
           let f : Name × Data → ℕ = λ x. member_asks o.world ms x (which o ms x) u v in
           let b = both_ask u v in
           let s = sum_by-cons f (codes "properties", d) ((codes "required", listing t) ∷ []) in
-          let q = h.asks_within u v in
+          let q = h.asks_within free u v in
           omega (arith, b, s, q);
       faults = λ u v Q. subst₂ (λ x y. x ∼ y)
           (sym (append-nil _ ∙ both_find u v Q))
@@ -287,7 +295,7 @@ module _ {K R : Type 0} (o : Kit K R) where
   abbrev pub by_names : Option (Name × Name) → Bool → Planned
   by_names t c = record { fused = t; condition = c }
 
-  pub means_form : (k : KeywordOver K (SchemaNode K R)) (m : SmallMap (SchemaNode K R)) (L P : Path) (t : Option (Name × Name)) (c : Bool) (fs : Members) (d : Data) → d ≡ object fs → m.names ≡ map (λ e. e.0) (listed fs) → StandEach o m.nodes.items (listed fs) L → IsFormOfProperties P L m t k
+  pub means_form : (k : KeywordOver K R (SchemaNode K R)) (m : SmallMap (SchemaNode K R)) (L P : Path) (t : Option (Name × Name)) (c : Bool) (fs : Members) (d : Data) → d ≡ object fs → m.names ≡ map (λ e. e.0) (listed fs) → StandEach o m.nodes.items (listed fs) L → IsFormOfProperties P L m t k
       → (ms : Members) → L ≡ P // codes "properties" → has_repeat (names_of (listed ms)) ≡ false → lookup (codes "properties") (listed ms) ≡ Some d → t ≡ fused_names ms → KeywordsMean o ms (k ∷ []) (claims (head (by_names t c)) (listed ms) (codes "properties", d)) ((codes "properties", d) ∷ []) P
   means_form (keyword.Properties k) m L P None c fs d q names stand form ms p distinct there chosen =
       subst (λ rows. KeywordsMean o ms (keyword.Properties k ∷ []) rows ((codes "properties", d) ∷ []) P) (sym (claims_itself ms distinct (head (by_names None c)) (codes "properties", d) (λ n. past_cases c (codes "properties") n (λ e. (refl, refl))) there))
@@ -312,43 +320,43 @@ module _ {K R : Type 0} (o : Kit K R) where
   -- ---- branches
 
   module _ (L : Path) (ns : List (SchemaNode K R)) (u : Bool) (v : Data) where
-    all_form_accepts : (k : KeywordOver K (SchemaNode K R)) → IsFormOfAllOf L ns k → (question k v).accepts u ≡ (every (at_value u v) ns).accepts u
+    all_form_accepts : (k : KeywordOver K R (SchemaNode K R)) → IsFormOfAllOf L ns k → (question k v).accepts u ≡ (every (at_value u v) ns).accepts u
     unfolding validator_means
     all_form_accepts (keyword.AllOf k) f = ap (λ xs. (every (at_value u v) xs).accepts u) f.0
     all_form_accepts (keyword.SingleValueAllOf k) f = sym (and_true (((answers o k.node).means v).accepts u)) ∙ ap (λ xs. (every (at_value u v) xs).accepts u) (sym f.0)
     all_form_accepts k f = absurd f
 
-    all_form_asks : (k : KeywordOver K (SchemaNode K R)) → IsFormOfAllOf L ns k → (question k v).asks u ≤ (every (at_value u v) ns).asks u
+    all_form_asks : (k : KeywordOver K R (SchemaNode K R)) → IsFormOfAllOf L ns k → (question k v).asks u ≤ (every (at_value u v) ns).asks u
     unfolding validator_means
     all_form_asks (keyword.AllOf k) f = let e = ap (λ xs. (every (at_value u v) xs).asks u) f.0 in omega (arith, e)
     all_form_asks (keyword.SingleValueAllOf k) f = let e = ap (λ xs. (every (at_value u v) xs).asks u) f.0 in omega (arith, e)
     all_form_asks k f = absurd f
 
-    all_form_finds : (Q : Path) (k : KeywordOver K (SchemaNode K R)) → IsFormOfAllOf L ns k → found u k v Q ≡ flat_map (λ n. (answers o n).report u v Q) ns
+    all_form_finds : (Q : Path) (k : KeywordOver K R (SchemaNode K R)) → IsFormOfAllOf L ns k → found u k v Q ≡ flat_map (λ n. (answers o n).report u v Q) ns
     unfolding validator_report
     all_form_finds Q (keyword.AllOf k) f = ap (flat_map (λ n. (answers o n).report u v Q)) f.0
     all_form_finds Q (keyword.SingleValueAllOf k) f = sym (append-nil ((answers o k.node).report u v Q)) ∙ ap (flat_map (λ n. (answers o n).report u v Q)) (sym f.0)
     all_form_finds Q k f = absurd f
 
-    all_form_shows : (Q : Path) (k : KeywordOver K (SchemaNode K R)) → IsFormOfAllOf L ns k → shown u k v Q ≡ plain L Q (branch_trees (λ n. (answers o n).tree u) v Q ns)
+    all_form_shows : (Q : Path) (k : KeywordOver K R (SchemaNode K R)) → IsFormOfAllOf L ns k → shown u k v Q ≡ plain L Q (branch_trees (λ n. (answers o n).tree u) v Q ns)
     unfolding validator_tree
     all_form_shows Q (keyword.AllOf k) f = λ i. plain (f.2 i) Q (branch_trees (λ n. (answers o n).tree u) v Q (f.0 i))
     all_form_shows Q (keyword.SingleValueAllOf k) f = λ i. plain (f.1 i) Q (branch_trees (λ n. (answers o n).tree u) v Q (sym f.0 i))
     all_form_shows Q k f = absurd f
 
-    any_form_shows : (Q : Path) (k : KeywordOver K (SchemaNode K R)) → IsFormOfAnyOf L ns k → shown u k v Q ≡ any_of_tree (λ n. (answers o n).tree u) v Q (accepts_value u v) L ns
+    any_form_shows : (Q : Path) (k : KeywordOver K R (SchemaNode K R)) → IsFormOfAnyOf L ns k → shown u k v Q ≡ any_of_tree (λ n. (answers o n).tree u) v Q (accepts_value u v) L ns
     unfolding validator_tree
     any_form_shows Q (keyword.AnyOf k) f = λ i. any_of_tree (λ n. (answers o n).tree u) v Q (accepts_value u v) (f.2 i) (f.0 i)
     any_form_shows Q (keyword.SingleAnyOf k) f = λ i. any_of_tree (λ n. (answers o n).tree u) v Q (accepts_value u v) (f.1 i) (sym f.0 i)
     any_form_shows Q k f = absurd f
 
-    any_form_accepts : (k : KeywordOver K (SchemaNode K R)) → IsFormOfAnyOf L ns k → (question k v).accepts u ≡ (some (at_value u v) ns).accepts u
+    any_form_accepts : (k : KeywordOver K R (SchemaNode K R)) → IsFormOfAnyOf L ns k → (question k v).accepts u ≡ (some (at_value u v) ns).accepts u
     unfolding validator_means
     any_form_accepts (keyword.AnyOf k) f = ap (λ xs. (some (at_value u v) xs).accepts u) f.0
     any_form_accepts (keyword.SingleAnyOf k) f = sym (or_false (((answers o k.node).means v).accepts u)) ∙ ap (λ xs. (some (at_value u v) xs).accepts u) (sym f.0)
     any_form_accepts k f = absurd f
 
-    any_form_asks : (k : KeywordOver K (SchemaNode K R)) → IsFormOfAnyOf L ns k → (question k v).asks u ≤ (some (at_value u v) ns).asks u
+    any_form_asks : (k : KeywordOver K R (SchemaNode K R)) → IsFormOfAnyOf L ns k → (question k v).asks u ≤ (some (at_value u v) ns).asks u
     unfolding validator_means
     any_form_asks (keyword.AnyOf k) f = let e = ap (λ xs. (some (at_value u v) xs).asks u) f.0 in omega (arith, e)
     any_form_asks (keyword.SingleAnyOf k) f = let e = ap (λ xs. (some (at_value u v) xs).asks u) f.0 in omega (arith, e)
@@ -357,7 +365,7 @@ module _ {K R : Type 0} (o : Kit K R) where
     abbrev any_faults : List (SchemaNode K R) → Path → Path → List Fault
     any_faults xs M Q = fault_if (not ((some (at_value u v) xs).accepts u)) (AnyOf (context (map (λ n. (answers o n).report u v Q) xs))) v M Q
 
-    any_form_finds : (Q : Path) (k : KeywordOver K (SchemaNode K R)) → IsFormOfAnyOf L ns k → found u k v Q ≡ any_faults ns L Q
+    any_form_finds : (Q : Path) (k : KeywordOver K R (SchemaNode K R)) → IsFormOfAnyOf L ns k → found u k v Q ≡ any_faults ns L Q
     unfolding validator_report
     any_form_finds Q (keyword.AnyOf k) f = λ i. any_faults (f.0 i) (f.2 i) Q
     any_form_finds Q (keyword.SingleAnyOf k) f =
@@ -368,7 +376,7 @@ module _ {K R : Type 0} (o : Kit K R) where
   pub at_most_through : (a b c : ℕ) → a ≤ b → b ≤ c → a ≤ c
   at_most_through a b c h k = omega (arith, h, k)
 
-  pub means_all_of : (k : KeywordOver K (SchemaNode K R)) (ns : List (SchemaNode K R)) (L : Path) (ds : Items) (d : Data) → d ≡ array ds → IsFormOfAllOf L ns k → StandEach o ns (numbered (items_list ds)) L → (ms : Members) (P : Path) → L ≡ P // codes "allOf" → KeywordMeans o ms (k ∷ []) (codes "allOf", d) P
+  pub means_all_of : (k : KeywordOver K R (SchemaNode K R)) (ns : List (SchemaNode K R)) (L : Path) (ds : Items) (d : Data) → d ≡ array ds → IsFormOfAllOf L ns k → StandEach o ns (numbered (items_list ds)) L → (ms : Members) (P : Path) → L ≡ P // codes "allOf" → KeywordMeans o ms (k ∷ []) (codes "allOf", d) P
   means_all_of k ns L ds d q form stand ms P p = subst (λ x. KeywordMeans o ms (k ∷ []) (codes "allOf", x) P) (sym q) (record {
     holds = one ms k (codes "allOf", array ds) all_of P
         (λ u v. all_form_accepts L ns u v k form ∙ each_accept o (schema_answers o) u v ns (numbered (items_list ds)) L answer ∙ sym (fact.all_of_accepts o.world ms ds u v))
@@ -384,7 +392,7 @@ module _ {K R : Type 0} (o : Kit K R) where
       answer : AnswerEach o (schema_answers o) ns (numbered (items_list ds)) L
       answer = schemas_answer o ns (numbered (items_list ds)) L stand
 
-  pub means_any_of : (k : KeywordOver K (SchemaNode K R)) (ns : List (SchemaNode K R)) (L : Path) (ds : Items) (d : Data) → d ≡ array ds → IsFormOfAnyOf L ns k → StandEach o ns (numbered (items_list ds)) L → (ms : Members) (P : Path) → L ≡ P // codes "anyOf" → KeywordMeans o ms (k ∷ []) (codes "anyOf", d) P
+  pub means_any_of : (k : KeywordOver K R (SchemaNode K R)) (ns : List (SchemaNode K R)) (L : Path) (ds : Items) (d : Data) → d ≡ array ds → IsFormOfAnyOf L ns k → StandEach o ns (numbered (items_list ds)) L → (ms : Members) (P : Path) → L ≡ P // codes "anyOf" → KeywordMeans o ms (k ∷ []) (codes "anyOf", d) P
   means_any_of k ns L ds d q form stand ms P p = subst (λ x. KeywordMeans o ms (k ∷ []) (codes "anyOf", x) P) (sym q) (record {
     holds = one ms k (codes "anyOf", array ds) any_of P
         (λ u v. any_form_accepts L ns u v k form ∙ any_accept u v ns (numbered (items_list ds)) L stand ∙ sym (fact.any_of_accepts o.world ms ds u v))
@@ -406,7 +414,7 @@ module _ {K R : Type 0} (o : Kit K R) where
   -- ---- not
 
   module _ (original : Value) (n : SchemaNode K R) (L : Path) (u : Bool) (v : Data) where
-    abbrev not_of : KeywordOver K (SchemaNode K R)
+    abbrev not_of : KeywordOver K R (SchemaNode K R)
     not_of = keyword.Not (record { original = original; node = n; location = L })
 
     not_accept : (question not_of v).accepts u ≡ not (((answers o n).means v).accepts u)
@@ -437,7 +445,7 @@ module _ {K R : Type 0} (o : Kit K R) where
   -- ---- required
 
   module _ (names : Vec (String Global) Global) (L : Path) (u : Bool) (v : Data) where
-    abbrev required_of : KeywordOver K (SchemaNode K R)
+    abbrev required_of : KeywordOver K R (SchemaNode K R)
     required_of = keyword.Required (record { required = names; location = L })
 
     required_accept : (question required_of v).accepts u ≡ is_empty (missing (map string_bytes names.items) v)
@@ -468,7 +476,7 @@ module _ {K R : Type 0} (o : Kit K R) where
   -- the names are fused
   pub means_fused : (t : Name × Name) (c : Bool) (d : Data) (ms : Members) (P : Path) → Some t ≡ fused_names ms → KeywordsMean o ms [] (claims (head (by_names (Some t) c)) (listed ms) (codes "required", d)) ((codes "required", d) ∷ []) P
   means_fused t c d ms P chosen = subst (λ rows. KeywordsMean o ms [] rows ((codes "required", d) ∷ []) P) (sym (claims_nothing t c (listed ms) d)) record {
-    covers = record { verdict = λ u v. refl; asks_within = λ u v. omega arith; faults = λ u v Q. like_empty };
+    covers = record { verdict = λ u v. refl; asks_within = λ free u v. omega arith; faults = λ u v Q. like_empty };
     shows = λ clean u v Q. sym (append-nil _ ∙ no_required_child o.world u v ms P Q d (not_fused o.world ms P clean (meaning_step o.world u)) (fused o.world ms P clean (meaning_step o.world u) ∙ ap is_some (sym chosen)));
   }
 
@@ -479,14 +487,15 @@ module _ {K R : Type 0} (o : Kit K R) where
       (λ clean u. (not_fused o.world ms P clean (meaning_step o.world u), fused o.world ms P clean (meaning_step o.world u) ∙ ap is_some (sym chosen))) (means_required names L d same ms P p))
 
   -- a keyword that is neither has a child of its own, and claims its own member
-  neither_of : (ms : Members) (u : Bool) (k : Name) (d : Data) → bytes_eq (codes "properties") k ≡ false → bytes_eq (codes "required") k ≡ false → (w : Keyword) → Named k w → StandsAlone o.world u ms (k, d) w
-  neither_of ms u k d e f properties n = absurd (true≢false (ap (bytes_eq (codes "properties")) (sym n) ∙ e))
-  neither_of ms u k d e f required n = absurd (true≢false (ap (bytes_eq (codes "required")) (sym n) ∙ f))
-  neither_of ms u k d e f w n = tt
+  neither_of : (ms : Members) (u : Bool) (k : Name) (d : Data) → restricts (read_members (meaning_step o.world u) ms) ≡ false → bytes_eq (codes "properties") k ≡ false → bytes_eq (codes "required") k ≡ false → (w : Keyword) → Named k w → StandsAlone o.world u ms (k, d) w
+  neither_of ms u k d r e f properties n = absurd (true≢false (ap (bytes_eq (codes "properties")) (sym n) ∙ e))
+  neither_of ms u k d r e f required n = absurd (true≢false (ap (bytes_eq (codes "required")) (sym n) ∙ f))
+  neither_of ms u k d r e f pattern_properties n = r
+  neither_of ms u k d r e f w n = tt
 
-  pub means_own : (ks : List (KeywordOver K (SchemaNode K R))) (p : Planned) (ms : Members) (m : Name × Data) (P : Path) → has_repeat (names_of (listed ms)) ≡ false → lookup m.0 (listed ms) ≡ Some m.1 → bytes_eq (codes "properties") m.0 ≡ false → bytes_eq (codes "required") m.0 ≡ false → IsNoCase p.condition m.0 → KeywordMeans o ms ks m P → KeywordsMean o ms ks (claims (head p) (listed ms) m) (m ∷ []) P
+  pub means_own : (ks : List (KeywordOver K R (SchemaNode K R))) (p : Planned) (ms : Members) (m : Name × Data) (P : Path) → has_repeat (names_of (listed ms)) ≡ false → lookup m.0 (listed ms) ≡ Some m.1 → bytes_eq (codes "properties") m.0 ≡ false → bytes_eq (codes "required") m.0 ≡ false → IsNoCase p.condition m.0 → KeywordMeans o ms ks m P → KeywordsMean o ms ks (claims (head p) (listed ms) m) (m ∷ []) P
   means_own ks p ms m P distinct there e f apart h = subst (λ rows. KeywordsMean o ms ks rows (m ∷ []) P) (sym (claims_itself ms distinct (head p) m (heads_elsewhere p m.0 e f apart) there))
-      (means_alone o ms P ks m (λ clean u. neither_of ms u m.0 m.1 e f (keyword_named o.world m.0) (is_named m.0 o.world)) h)
+      (means_alone o ms P ks m (λ clean u. neither_of ms u m.0 m.1 (free o.world ms P clean (meaning_step o.world u)) e f (keyword_named o.world m.0) (is_named m.0 o.world)) h)
 
   -- ---- leaves, and names that nothing reads
 
@@ -520,7 +529,7 @@ module _ {K R : Type 0} (o : Kit K R) where
   means_unread k d q ms P = record {
     holds = subst (λ w. Holds o ms [] (k, d) w P) (sym q) (record {
       verdict = λ u v. sym (fact.unread_accepts o.world ms k d u v);
-      asks_within = λ u v. subst (λ n. 0 ≤ n) (sym (fact.unread_asks o.world ms k d u v)) (omega arith);
+      asks_within = λ free u v. subst (λ n. 0 ≤ n) (sym (fact.unread_asks o.world ms k d u v)) (omega arith);
       faults = λ u v Q. ∼_same (sym (fact.unread_report o.world ms k d u v P Q));
     });
     shows = λ u h v Q. ap (λ w. member_child o.world ms (k, d) w u v P Q) (sym q);

@@ -7,5 +7,6 @@ pub mod Conditions
 pub mod DependencyKeywords
 pub mod PropertyNames
 pub mod PropertyDependencies
+pub mod PatternProperties
 pub mod Makes
 pub mod Taken

@@ -15,6 +15,7 @@ use Rattle.olk_spec.specs.Schemas.{listed, members, numbered, is_object}
 use Rattle.olk_spec.specs.Malformed.{has_repeat, items_of_array}
 use Rattle.olk_spec.proofs.Walks.{same_name, bytes_eq-sym, neither}
 use Rattle.olk_base.specs.Kit.{Kit}
+use Rattle.olk_base.specs.declared.pattern.CompiledPattern.{CompiledPattern}
 use Rattle.olk_members.specs.Plans.{Planned, plan_of, head, claims}
 use Rattle.olk_make.specs.Forms.{IsFormOfProperties, IsFormOfAllOf, IsFormOfAnyOf, IsFormOfOneOf}
 use Rattle.olk_make.specs.Holding.{StandEach}
@@ -68,31 +69,31 @@ no_case W c k e read_here = (
     away n h = bytes_eq-sym k n ∙ apart W n k h e
 
 module _ {K R : Type 0} (o : Kit K R) where
-  pub makes_all_of : (k : KeywordOver K (SchemaNode K R)) (L : Path) (ns : List (SchemaNode K R)) → IsFormOfAllOf L ns k → MakesMember o shape.AllOf L ns (k ∷ [])
+  pub makes_all_of : (k : KeywordOver K R (SchemaNode K R)) (L : Path) (ns : List (SchemaNode K R)) → IsFormOfAllOf L ns k → MakesMember o shape.AllOf L ns (k ∷ [])
   makes_all_of k L ns form ms m P p s h =
       let a = array_of m.1 s.1 in
       subst (λ n. KeywordMeans o ms (k ∷ []) (n, m.1) P) (sym s.0) (means_all_of o k ns L a.0 m.1 a.1 form (subst (λ x. StandEach o ns (numbered (items_of_array x)) L) a.1 h) ms P (p ∙ ap (λ n. P // n) s.0))
 
-  pub makes_any_of : (k : KeywordOver K (SchemaNode K R)) (L : Path) (ns : List (SchemaNode K R)) → IsFormOfAnyOf L ns k → MakesMember o shape.AnyOf L ns (k ∷ [])
+  pub makes_any_of : (k : KeywordOver K R (SchemaNode K R)) (L : Path) (ns : List (SchemaNode K R)) → IsFormOfAnyOf L ns k → MakesMember o shape.AnyOf L ns (k ∷ [])
   makes_any_of k L ns form ms m P p s h =
       let a = array_of m.1 s.1 in
       subst (λ n. KeywordMeans o ms (k ∷ []) (n, m.1) P) (sym s.0) (means_any_of o k ns L a.0 m.1 a.1 form (subst (λ x. StandEach o ns (numbered (items_of_array x)) L) a.1 h) ms P (p ∙ ap (λ n. P // n) s.0))
 
-  pub makes_one_of : (k : KeywordOver K (SchemaNode K R)) (L : Path) (ns : List (SchemaNode K R)) → IsFormOfOneOf L ns k → MakesMember o shape.OneOf L ns (k ∷ [])
+  pub makes_one_of : (k : KeywordOver K R (SchemaNode K R)) (L : Path) (ns : List (SchemaNode K R)) → IsFormOfOneOf L ns k → MakesMember o shape.OneOf L ns (k ∷ [])
   makes_one_of k L ns form ms m P p s h =
       let a = array_of m.1 s.1 in
       subst (λ n. KeywordMeans o ms (k ∷ []) (n, m.1) P) (sym s.0) (means_one_of o k ns L a.0 m.1 a.1 form (subst (λ x. StandEach o ns (numbered (items_of_array x)) L) a.1 h) ms P (p ∙ ap (λ n. P // n) s.0))
 
   pub makes_not : (original : Value) (L : Path) (n : SchemaNode K R) (rest ns : List (SchemaNode K R)) → ns ≡ rest ++ n ∷ [] → MakesMember o (shape.Not original) L ns (keyword.Not (record { original = original; node = n; location = L }) ∷ [])
-  makes_not original L n rest ns e ms m P p s h = by rest (subst (λ l. StandAt o (reads_of {K = K} (shape.Not original)) l m.1 L) e h)
+  makes_not original L n rest ns e ms m P p s h = by rest (subst (λ l. StandAt o (reads_of {K = K} {R = R} (shape.Not original)) l m.1 L) e h)
     where
-      by : (rest : List (SchemaNode K R)) → StandAt o (reads_of {K = K} (shape.Not original)) (rest ++ n ∷ []) m.1 L → KeywordMeans o ms (keyword.Not (record { original = original; node = n; location = L }) ∷ []) m P
+      by : (rest : List (SchemaNode K R)) → StandAt o (reads_of {K = K} {R = R} (shape.Not original)) (rest ++ n ∷ []) m.1 L → KeywordMeans o ms (keyword.Not (record { original = original; node = n; location = L }) ∷ []) m P
       by [] g = subst (λ k. KeywordMeans o ms (keyword.Not (record { original = original; node = n; location = L }) ∷ []) (k, m.1) P) (sym s.0) (means_not o original n L m.1 s.1 g ms P (p ∙ ap (λ n. P // n) s.0))
       by (x ∷ []) g = absurd g
       by (x ∷ y ∷ rest) g = absurd g
 
-  pub makes_no_not : (original : Value) (L : Path) (ns : List (SchemaNode K R)) (ks : List (KeywordOver K (SchemaNode K R))) → ns ≡ [] → MakesMember o (shape.Not original) L ns ks
-  makes_no_not original L ns ks e ms m P p s h = absurd (subst (λ l. StandAt o (reads_of {K = K} (shape.Not original)) l m.1 L) e h)
+  pub makes_no_not : (original : Value) (L : Path) (ns : List (SchemaNode K R)) (ks : List (KeywordOver K R (SchemaNode K R))) → ns ≡ [] → MakesMember o (shape.Not original) L ns ks
+  makes_no_not original L ns ks e ms m P p s h = absurd (subst (λ l. StandAt o (reads_of {K = K} {R = R} (shape.Not original)) l m.1 L) e h)
 
   pub makes_required : (v : Vec (String Global) Global) (L : Path) (ns : List (SchemaNode K R)) → MakesMember o (shape.Required v) L ns (keyword.Required (record { required = v; location = L }) ∷ [])
   makes_required v L ns ms m P p s h = subst (λ n. KeywordMeans o ms (keyword.Required (record { required = v; location = L }) ∷ []) (n, m.1) P) (sym s.0) (means_required o v L m.1 s.2 ms P (p ∙ ap (λ n. P // n) s.0))
@@ -103,7 +104,7 @@ module _ {K R : Type 0} (o : Kit K R) where
   pub makes_unread : (L : Path) (ns : List (SchemaNode K R)) → MakesMember o shape.Unread L ns []
   makes_unread L ns ms m P p s h = means_unread o m.0 m.1 s ms P
 
-  pub makes_properties : (k : KeywordOver K (SchemaNode K R)) (f : SmallMap (SchemaNode K R)) (L P : Path) (t : Option (Name × Name)) (c : Bool) → IsFormOfProperties P L f t k → MakesClaims o (shape.Properties f.names) L f.nodes.items P (by_names o t c) (k ∷ [])
+  pub makes_properties : (k : KeywordOver K R (SchemaNode K R)) (f : SmallMap (SchemaNode K R)) (L P : Path) (t : Option (Name × Name)) (c : Bool) → IsFormOfProperties P L f t k → MakesClaims o (shape.Properties f.names) L f.nodes.items P (by_names o t c) (k ∷ [])
   makes_properties k f L P t c form ms m p s h distinct there chosen =
       let a = object_of m.1 s.1 in
       subst (λ n. KeywordsMean o ms (k ∷ []) (claims (head (by_names o t c)) (listed ms) (n, m.1)) ((n, m.1) ∷ []) P) (sym s.0)
@@ -120,10 +121,10 @@ module _ {K R : Type 0} (o : Kit K R) where
     makes_required_alone (Some t) e ms m p s h distinct there chosen = absurd (true≢false e)
 
   -- a keyword that has no neighbours claims its own member
-  abbrev pub IsAlone : Shape K → Type 0
+  abbrev pub IsAlone : Shape K R → Type 0
   IsAlone x = (k : Name) (d : Data) → IsShape o k d x → neighbours (keyword_named o.world k) ≡ false
 
-  pub claims_own : (x y : Shape K) (L : Path) (ns : List (SchemaNode K R)) (ks : List (KeywordOver K (SchemaNode K R))) (P : Path) (p : Planned) → x ≡ y → IsAlone y → MakesMember o y L ns ks → MakesClaims o x L ns P p ks
+  pub claims_own : (x y : Shape K R) (L : Path) (ns : List (SchemaNode K R)) (ks : List (KeywordOver K R (SchemaNode K R))) (P : Path) (p : Planned) → x ≡ y → IsAlone y → MakesMember o y L ns ks → MakesClaims o x L ns P p ks
   claims_own x y L ns ks P p e alone make = subst (λ z. MakesClaims o z L ns P p ks) (sym e) (λ ms m l s h distinct there chosen.
       means_own o ks p ms m P distinct there (apart o.world (codes "properties") m.0 refl (alone m.0 m.1 s)) (apart o.world (codes "required") m.0 refl (alone m.0 m.1 s)) (no_case o.world p.condition m.0 (alone m.0 m.1 s)) (make ms m P l s h))
 
@@ -135,6 +136,9 @@ module _ {K R : Type 0} (o : Kit K R) where
 
   pub one_of_alone : IsAlone shape.OneOf
   one_of_alone k d s = ap (λ n. neighbours (keyword_named o.world n)) s.0
+
+  pub pattern_properties_alone : (v : Vec (CompiledPattern R) Global) → IsAlone (shape.PatternProperties v)
+  pattern_properties_alone v k d s = ap (λ n. neighbours (keyword_named o.world n)) s.0
 
   pub property_names_alone : IsAlone shape.PropertyNames
   property_names_alone k d s = ap (λ n. neighbours (keyword_named o.world n)) s.0
@@ -169,27 +173,27 @@ module _ {K R : Type 0} (o : Kit K R) where
   -- ---- what is made of a part
 
   -- a keyword that reads no places has no nodes
-  pub without_nodes : (x : Shape K) (L : Path) (ns : List (SchemaNode K R)) (ks : List (KeywordOver K (SchemaNode K R))) → reads_of x ≡ Nothing → MakesMember o x L [] ks → MakesMember o x L ns ks
+  pub without_nodes : (x : Shape K R) (L : Path) (ns : List (SchemaNode K R)) (ks : List (KeywordOver K R (SchemaNode K R))) → reads_of x ≡ Nothing → MakesMember o x L [] ks → MakesMember o x L ns ks
   without_nodes x L ns ks none make ms m P place s stand = make ms m P place s (subst (λ r. StandAt o r [] m.1 L) (sym none) refl)
 
   -- all but `if`, `then` and `else` hold their own nodes alone
-  pub part_of_claims : (x y : Shape K) (L : Path) (ns : List (SchemaNode K R)) (cs : Cases (SchemaNode K R)) (ks : List (KeywordOver K (SchemaNode K R))) (P : Path) (p : Planned) → x ≡ y → is_case_shape y ≡ false → MakesClaims o x L ns P p ks → MakesPart o x L ns cs P p ks
+  pub part_of_claims : (x y : Shape K R) (L : Path) (ns : List (SchemaNode K R)) (cs : Cases (SchemaNode K R)) (ks : List (KeywordOver K R (SchemaNode K R))) (P : Path) (p : Planned) → x ≡ y → is_case_shape y ≡ false → MakesClaims o x L ns P p ks → MakesPart o x L ns cs P p ks
   part_of_claims x y L ns cs ks P p e held make ms m place s fits stand cases distinct there chosen = make ms m place s (stand (ap is_case_shape e ∙ held)) distinct there chosen
 
-  pub part_of_own : (x y : Shape K) (L : Path) (ns : List (SchemaNode K R)) (cs : Cases (SchemaNode K R)) (ks : List (KeywordOver K (SchemaNode K R))) (P : Path) (p : Planned) → x ≡ y → is_case_shape y ≡ false → IsAlone y → MakesMember o y L ns ks → MakesPart o x L ns cs P p ks
+  pub part_of_own : (x y : Shape K R) (L : Path) (ns : List (SchemaNode K R)) (cs : Cases (SchemaNode K R)) (ks : List (KeywordOver K R (SchemaNode K R))) (P : Path) (p : Planned) → x ≡ y → is_case_shape y ≡ false → IsAlone y → MakesMember o y L ns ks → MakesPart o x L ns cs P p ks
   part_of_own x y L ns cs ks P p e held alone make = part_of_claims x y L ns cs ks P p e held (claims_own x y L ns ks P p e alone make)
 
   -- ---- the parts of an object, one after the other
 
-  if_named : (x : Shape K) (k : Name) (d : Data) → IsShape o k d x → is_if_shape x ≡ true → k ≡ codes "if"
+  if_named : (x : Shape K R) (k : Name) (d : Data) → IsShape o k d x → is_if_shape x ≡ true → k ≡ codes "if"
   if_named shape.If k d s e = s
   if_named x k d s e = absurd (true≢false (sym e))
 
-  if_fits : (x : Shape K) (c : Bool) → Fits c x → is_if_shape x ≡ true → c ≡ true
+  if_fits : (x : Shape K R) (c : Bool) → Fits c x → is_if_shape x ≡ true → c ≡ true
   if_fits shape.If c f e = f
   if_fits x c f e = absurd (true≢false (sym e))
 
-  not_if : (x : Shape K) (k : Name) (d : Data) → IsShape o k d x → bytes_eq (codes "if") k ≡ false → is_if_shape x ≡ false
+  not_if : (x : Shape K R) (k : Name) (d : Data) → IsShape o k d x → bytes_eq (codes "if") k ≡ false → is_if_shape x ≡ false
   not_if x k d s e = by (is_if_shape x) refl
     where
       by : (b : Bool) → is_if_shape x ≡ b → b ≡ false
@@ -212,7 +216,7 @@ module _ {K R : Type 0} (o : Kit K R) where
     heads n = head (plan_of ms) n
 
     -- the keywords so far mean what the members so far claim, and the parts that are left stand for the others; the nodes of `then` and `else` are there until `if` has taken them
-    pub record MadeSoFar (ks : List (KeywordOver K (SchemaNode K R))) (ps : List (Part K (SchemaNode K R))) (cs : Cases (SchemaNode K R)) : Type 0 where
+    pub record MadeSoFar (ks : List (KeywordOver K R (SchemaNode K R))) (ps : List (Part K R (SchemaNode K R))) (cs : Cases (SchemaNode K R)) : Type 0 where
       pub done : List (Name × Data)
       pub left : List (Name × Data)
       pub mean : KeywordsMean o ms ks (flat_map (claims heads (listed ms)) done) done P
@@ -220,11 +224,11 @@ module _ {K R : Type 0} (o : Kit K R) where
       pub cases : is_condition ms ≡ true → is_among (codes "if") (names_of done) ≡ false → CasesStand o cs ms P
       pub whole : done ++ left ≡ listed ms
 
-    pub none_made : (ks : List (KeywordOver K (SchemaNode K R))) (ps : List (Part K (SchemaNode K R))) (cs : Cases (SchemaNode K R)) → ks ≡ [] → PartsAreLeft o (is_condition ms) ps (listed ms) P → (is_condition ms ≡ true → CasesStand o cs ms P) → MadeSoFar ks ps cs
+    pub none_made : (ks : List (KeywordOver K R (SchemaNode K R))) (ps : List (Part K R (SchemaNode K R))) (cs : Cases (SchemaNode K R)) → ks ≡ [] → PartsAreLeft o (is_condition ms) ps (listed ms) P → (is_condition ms ≡ true → CasesStand o cs ms P) → MadeSoFar ks ps cs
     none_made ks ps cs e h cases = record { done = []; left = listed ms; mean = no_keywords_mean o ms P ks e; stand = h; cases = λ read none. cases read; whole = refl }
 
     module _ (p : Planned) (chosen : p ≡ plan_of ms) (distinct : has_repeat (map (λ m. m.0) (listed ms)) ≡ false) where
-      pub one_more_made : (ks ls new : List (KeywordOver K (SchemaNode K R))) (part : Part K (SchemaNode K R)) (ps all : List (Part K (SchemaNode K R))) (cs after : Cases (SchemaNode K R)) → new ≡ ks ++ ls → all ≡ part ∷ ps → MadeSoFar ks all cs → MakesPart o part.shape part.location part.nodes.items cs P p ls → (is_if_shape part.shape ≡ false → after ≡ cs) → MadeSoFar new ps after
+      pub one_more_made : (ks ls new : List (KeywordOver K R (SchemaNode K R))) (part : Part K R (SchemaNode K R)) (ps all : List (Part K R (SchemaNode K R))) (cs after : Cases (SchemaNode K R)) → new ≡ ks ++ ls → all ≡ part ∷ ps → MadeSoFar ks all cs → MakesPart o part.shape part.location part.nodes.items cs P p ls → (is_if_shape part.shape ≡ false → after ≡ cs) → MadeSoFar new ps after
       one_more_made ks ls new part ps all cs after q e h make kept = by h.left (subst (λ l. PartsAreLeft o (is_condition ms) l h.left P) e h.stand) h.whole
         where
           by : (left : List (Name × Data)) → PartsAreLeft o (is_condition ms) (part ∷ ps) left P → h.done ++ left ≡ listed ms → MadeSoFar new ps after
@@ -246,7 +250,7 @@ module _ {K R : Type 0} (o : Kit K R) where
               first : is_if_shape part.shape ≡ true → is_among (codes "if") (names_of h.done) ≡ false
               first taking = ap (λ k. is_among k (names_of h.done)) (sym (if_named part.shape m.0 m.1 stand.0.shape taking)) ∙ not_before h.done m left (ap (λ es. has_repeat (names_of es)) w ∙ distinct)
 
-      pub all_made : (ks : List (KeywordOver K (SchemaNode K R))) (ps : List (Part K (SchemaNode K R))) (cs : Cases (SchemaNode K R)) → ps ≡ [] → MadeSoFar ks ps cs → KeywordsMean o ms ks (listed ms) (listed ms) P
+      pub all_made : (ks : List (KeywordOver K R (SchemaNode K R))) (ps : List (Part K R (SchemaNode K R))) (cs : Cases (SchemaNode K R)) → ps ≡ [] → MadeSoFar ks ps cs → KeywordsMean o ms ks (listed ms) (listed ms) P
       all_made ks ps cs e h = by h.left (subst (λ l. PartsAreLeft o (is_condition ms) l h.left P) e h.stand) h.whole
         where
           by : (left : List (Name × Data)) → PartsAreLeft o (is_condition ms) [] left P → h.done ++ left ≡ listed ms → KeywordsMean o ms ks (listed ms) (listed ms) P

@@ -69,19 +69,19 @@ module _ {K R : Type 0} (o : Kit K R) where
     abbrev finding : List (SchemaNode K R) → Path → Context
     finding xs Q = context (map (λ n. (answers o n).report u v Q) xs)
 
-    form_accepts : (k : KeywordOver K (SchemaNode K R)) → IsFormOfOneOf L ns k → (question o k v).accepts u ≡ (accepting ns == 1)
+    form_accepts : (k : KeywordOver K R (SchemaNode K R)) → IsFormOfOneOf L ns k → (question o k v).accepts u ≡ (accepting ns == 1)
     unfolding validator_means
     form_accepts (keyword.OneOf k) f = ap (λ xs. accepting xs == 1) f.0
     form_accepts (keyword.SingleOneOf k) f = sym (one_counted (accepts_value o u v k.node)) ∙ ap (λ xs. accepting xs == 1) (sym f.0)
     form_accepts k f = absurd f
 
-    form_asks : (k : KeywordOver K (SchemaNode K R)) → IsFormOfOneOf L ns k → (question o k v).asks u ≤ (some (at_value o u v) ns).asks u
+    form_asks : (k : KeywordOver K R (SchemaNode K R)) → IsFormOfOneOf L ns k → (question o k v).asks u ≤ (some (at_value o u v) ns).asks u
     unfolding validator_means
     form_asks (keyword.OneOf k) f = let e = ap (λ xs. (some (at_value o u v) xs).asks u) f.0 in omega (arith, e)
     form_asks (keyword.SingleOneOf k) f = let e = ap (λ xs. (some (at_value o u v) xs).asks u) f.0 in omega (arith, e)
     form_asks k f = absurd f
 
-    form_finds : (Q : Path) (k : KeywordOver K (SchemaNode K R)) → IsFormOfOneOf L ns k → found o u k v Q ≡ one_of_report (accepting ns) (finding ns Q) v L Q
+    form_finds : (Q : Path) (k : KeywordOver K R (SchemaNode K R)) → IsFormOfOneOf L ns k → found o u k v Q ≡ one_of_report (accepting ns) (finding ns Q) v L Q
     unfolding validator_report
     form_finds Q (keyword.OneOf k) f = λ i. one_of_report (accepting (f.0 i)) (finding (f.0 i) Q) v (f.2 i) Q
     form_finds Q (keyword.SingleOneOf k) f =
@@ -89,13 +89,13 @@ module _ {K R : Type 0} (o : Kit K R) where
         ∙ (λ i. one_of_report (accepting (sym f.0 i)) (finding (sym f.0 i) Q) v (f.1 i) Q)
     form_finds Q k f = absurd f
 
-    form_shows : (Q : Path) (k : KeywordOver K (SchemaNode K R)) → IsFormOfOneOf L ns k → shown o u k v Q ≡ one_of_tree (λ n. (answers o n).tree u) v Q (accepts_value o u v) L ns
+    form_shows : (Q : Path) (k : KeywordOver K R (SchemaNode K R)) → IsFormOfOneOf L ns k → shown o u k v Q ≡ one_of_tree (λ n. (answers o n).tree u) v Q (accepts_value o u v) L ns
     unfolding validator_tree
     form_shows Q (keyword.OneOf k) f = λ i. one_of_tree (λ n. (answers o n).tree u) v Q (accepts_value o u v) (f.2 i) (f.0 i)
     form_shows Q (keyword.SingleOneOf k) f = λ i. one_of_tree (λ n. (answers o n).tree u) v Q (accepts_value o u v) (f.1 i) (sym f.0 i)
     form_shows Q k f = absurd f
 
-  pub means_one_of : (k : KeywordOver K (SchemaNode K R)) (ns : List (SchemaNode K R)) (L : Path) (ds : Items) (d : Data) → d ≡ array ds → IsFormOfOneOf L ns k → StandEach o ns (numbered (items_list ds)) L → (ms : Members) (P : Path) → L ≡ P // codes "oneOf" → KeywordMeans o ms (k ∷ []) (codes "oneOf", d) P
+  pub means_one_of : (k : KeywordOver K R (SchemaNode K R)) (ns : List (SchemaNode K R)) (L : Path) (ds : Items) (d : Data) → d ≡ array ds → IsFormOfOneOf L ns k → StandEach o ns (numbered (items_list ds)) L → (ms : Members) (P : Path) → L ≡ P // codes "oneOf" → KeywordMeans o ms (k ∷ []) (codes "oneOf", d) P
   means_one_of k ns L ds d q form stand ms P p = subst (λ x. KeywordMeans o ms (k ∷ []) (codes "oneOf", x) P) (sym q) (record {
     holds = one o ms k (codes "oneOf", array ds) one_of P
         (λ u v. form_accepts L ns u v k form ∙ ap (λ n. n == 1) (counted u v ns (numbered (items_list ds)) L stand) ∙ sym (fact.one_of_accepts o.world u v ms ds))

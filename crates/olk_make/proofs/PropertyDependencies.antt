@@ -144,7 +144,7 @@ module _ {K R : Type 0} (o : Kit K R) where
 
   -- ---- the validator
 
-  abbrev choices_of : SmallMap (SmallMap (SchemaNode K R)) → Path → KeywordOver K (SchemaNode K R)
+  abbrev choices_of : SmallMap (SmallMap (SchemaNode K R)) → Path → KeywordOver K R (SchemaNode K R)
   choices_of m L = keyword.PropertyDependencies (record { dependencies = m; location = L })
 
   module _ (m : SmallMap (SmallMap (SchemaNode K R))) (L : Path) (d : Data) (names : m.names ≡ names_of d) (stand : MapsAnswer m.nodes.items (members d) L) where

@@ -33,7 +33,7 @@ module _ {K R : Type 0} (o : Kit K R) where
   -- ---- a schema for each name
 
   module _ (n : SchemaNode K R) (L : Path) where
-    abbrev names_of : KeywordOver K (SchemaNode K R)
+    abbrev names_of : KeywordOver K R (SchemaNode K R)
     names_of = keyword.PropertyNames (record { node = n; location = L })
 
     module _ (d : Data) (stands : StandsFor o n d L) (u : Bool) (v : Data) where
@@ -82,13 +82,13 @@ module _ {K R : Type 0} (o : Kit K R) where
         by (x ∷ []) g = absurd g
         by (x ∷ y ∷ before) g = absurd g
 
-  pub makes_no_property_names : (L : Path) (ns : List (SchemaNode K R)) (ks : List (KeywordOver K (SchemaNode K R))) → ns ≡ [] → MakesMember o shape.PropertyNames L ns ks
+  pub makes_no_property_names : (L : Path) (ns : List (SchemaNode K R)) (ks : List (KeywordOver K R (SchemaNode K R))) → ns ≡ [] → MakesMember o shape.PropertyNames L ns ks
   makes_no_property_names L ns ks e ms m P p s h = absurd (subst (λ l. StandAt o Itself l m.1 L) e h)
 
   -- ---- no name at all
 
   module _ (L : Path) where
-    abbrev no_names : KeywordOver K (SchemaNode K R)
+    abbrev no_names : KeywordOver K R (SchemaNode K R)
     no_names = keyword.PropertyNamesFalse (record { location = L })
 
     module _ (u : Bool) (v : Data) where
@@ -126,7 +126,7 @@ module _ {K R : Type 0} (o : Kit K R) where
   means_any_names d no_schema not_false ms P = record {
     holds = record {
       verdict = λ u v. sym (fact.any_names_accepts o.world ms d u v no_schema not_false);
-      asks_within = λ u v. subst (λ n. 0 ≤ n) (sym (fact.any_names_asks o.world ms d u v no_schema not_false)) (omega arith);
+      asks_within = λ free u v. subst (λ n. 0 ≤ n) (sym (fact.any_names_asks o.world ms d u v no_schema not_false)) (omega arith);
       faults = λ u v Q. ∼_same (sym (fact.any_names_report o.world ms d u v no_schema not_false P Q));
     };
     shows = λ u h v Q. sym (fact.any_names_child o.world ms d u v no_schema not_false P Q);

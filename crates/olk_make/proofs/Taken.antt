@@ -57,19 +57,19 @@ is_if_keyword w = false
 module _ {K R : Type 0} (o : Kit K R) where
   -- ---- where nothing is taken
 
-  pub nothing_taken : (c : Bool) (ps : List (Part K (SchemaNode K R))) (es : List (Name × Data)) (P : Path) → PartsStand o c ps es P → PartsAreLeft o c ps es P
+  pub nothing_taken : (c : Bool) (ps : List (Part K R (SchemaNode K R))) (es : List (Name × Data)) (P : Path) → PartsStand o c ps es P → PartsAreLeft o c ps es P
   nothing_taken c [] [] P h = tt
   nothing_taken c [] (m ∷ es) P h = absurd h
   nothing_taken c (p ∷ ps) [] P h = absurd h
   nothing_taken c (p ∷ ps) (m ∷ es) P h = (record { place = h.0.place; shape = h.0.shape; fits = h.0.fits; nodes = λ own. h.0.nodes }, nothing_taken c ps es P h.1)
 
-  pub left_push : (c : Bool) (P : Path) (ps : List (Part K (SchemaNode K R))) (es : List (Name × Data)) (p : Part K (SchemaNode K R)) (m : Name × Data) → PartsAreLeft o c ps es P → PartIsLeft o c p m P → PartsAreLeft o c (ps ++ p ∷ []) (es ++ m ∷ []) P
+  pub left_push : (c : Bool) (P : Path) (ps : List (Part K R (SchemaNode K R))) (es : List (Name × Data)) (p : Part K R (SchemaNode K R)) (m : Name × Data) → PartsAreLeft o c ps es P → PartIsLeft o c p m P → PartsAreLeft o c (ps ++ p ∷ []) (es ++ m ∷ []) P
   left_push c P [] [] p m h s = (s, tt)
   left_push c P [] (x ∷ es) p m h s = absurd h
   left_push c P (y ∷ ps) [] p m h s = absurd h
   left_push c P (y ∷ ps) (x ∷ es) p m h s = (h.0, left_push c P ps es p m h.1 s)
 
-  pub nothing_to_take : (c : Bool) (ps : List (Part K (SchemaNode K R))) (es : List (Name × Data)) (P : Path) (cs : Cases (SchemaNode K R)) → c ≡ false → PartsStand o c ps es P → CasesAreTaken o c es P cs ps
+  pub nothing_to_take : (c : Bool) (ps : List (Part K R (SchemaNode K R))) (es : List (Name × Data)) (P : Path) (cs : Cases (SchemaNode K R)) → c ≡ false → PartsStand o c ps es P → CasesAreTaken o c es P cs ps
   nothing_to_take c ps es P cs unread h = record {
     left = nothing_taken c ps es P h;
     at_then = λ read. absurd (true≢false (sym read ∙ unread));
@@ -88,8 +88,9 @@ module _ {K R : Type 0} (o : Kit K R) where
       by (x ∷ y ∷ before) h = absurd h
 
   -- where `if` is read, no other shape has the name of `then` or `else`
-  not_a_case : (x : Shape K) (k : Name) (d : Data) → IsShape o k d x → Fits true x → is_case_shape x ≡ false → is_case_keyword (keyword_named o.world k) ≡ false
+  not_a_case : (x : Shape K R) (k : Name) (d : Data) → IsShape o k d x → Fits true x → is_case_shape x ≡ false → is_case_keyword (keyword_named o.world k) ≡ false
   not_a_case (shape.Properties v) k d s f e = ap (λ n. is_case_keyword (keyword_named o.world n)) s.0
+  not_a_case (shape.PatternProperties v) k d s f e = ap (λ n. is_case_keyword (keyword_named o.world n)) s.0
   not_a_case shape.PropertyNames k d s f e = ap (λ n. is_case_keyword (keyword_named o.world n)) s.0
   not_a_case shape.NoNames k d s f e = ap (λ n. is_case_keyword (keyword_named o.world n)) s.0
   not_a_case shape.AnyNames k d s f e = ap (λ n. is_case_keyword (keyword_named o.world n)) s.0
@@ -110,21 +111,22 @@ module _ {K R : Type 0} (o : Kit K R) where
   not_a_case shape.Unread k d s f e = ap is_case_keyword s
 
   -- so the place of `then`, of `else` and of `if` is read
-  pub case_reads_itself : (x : Shape K) (k : Name) (d : Data) → IsShape o k d x → Fits true x → is_case_keyword (keyword_named o.world k) ≡ true → reads_of x ≡ Itself
+  pub case_reads_itself : (x : Shape K R) (k : Name) (d : Data) → IsShape o k d x → Fits true x → is_case_keyword (keyword_named o.world k) ≡ true → reads_of x ≡ Itself
   case_reads_itself x k d s f e = by x (not_a_case x k d s f)
     where
-      by : (x : Shape K) → (is_case_shape x ≡ false → is_case_keyword (keyword_named o.world k) ≡ false) → reads_of x ≡ Itself
+      by : (x : Shape K R) → (is_case_shape x ≡ false → is_case_keyword (keyword_named o.world k) ≡ false) → reads_of x ≡ Itself
       by shape.Then h = refl
       by shape.Else h = refl
       by x h = absurd (true≢false (sym e ∙ h refl))
 
-  pub if_reads_itself : (x : Shape K) (d : Data) → IsShape o (codes "if") d x → Fits true x → reads_of x ≡ Itself
+  pub if_reads_itself : (x : Shape K R) (d : Data) → IsShape o (codes "if") d x → Fits true x → reads_of x ≡ Itself
   if_reads_itself x d s f = by x f s
     where
-      by : (x : Shape K) → Fits true x → IsShape o (codes "if") d x → reads_of x ≡ Itself
+      by : (x : Shape K R) → Fits true x → IsShape o (codes "if") d x → reads_of x ≡ Itself
       by shape.If f s = refl
       by shape.Unpaired f s = absurd (true≢false f)
       by (shape.Properties v) f s = absurd (true≢false (ap (λ n. is_if_keyword (keyword_named o.world n)) s.0))
+      by (shape.PatternProperties v) f s = absurd (true≢false (ap (λ n. is_if_keyword (keyword_named o.world n)) s.0))
       by shape.PropertyNames f s = refl
       by shape.NoNames f s = absurd (true≢false (ap (λ n. is_if_keyword (keyword_named o.world n)) s.0))
       by shape.AnyNames f s = absurd (true≢false (ap (λ n. is_if_keyword (keyword_named o.world n)) s.0))
@@ -150,7 +152,7 @@ module _ {K R : Type 0} (o : Kit K R) where
       by true q = absurd (true≢false (sym h ∙ ap (λ x. is_case_keyword (keyword_named o.world x)) (same_name n k q) ∙ e))
 
   -- of a shape that is none of the two nothing is taken
-  nothing_of : (x : Shape K) (ns : List (SchemaNode K R)) (cs after : Cases (SchemaNode K R)) → is_case_shape x ≡ false → TakesCase x ns cs after → after ≡ cs
+  nothing_of : (x : Shape K R) (ns : List (SchemaNode K R)) (cs after : Cases (SchemaNode K R)) → is_case_shape x ≡ false → TakesCase x ns cs after → after ≡ cs
   nothing_of shape.Then ns cs after e t = absurd (true≢false e)
   nothing_of shape.Else ns cs after e t = absurd (true≢false e)
   nothing_of x ns cs after e t = t
@@ -162,18 +164,18 @@ module _ {K R : Type 0} (o : Kit K R) where
     abbrev ElseAfter : Type 0
     ElseAfter = CaseStands o after.else_schema (cond (bytes_eq (codes "else") k) (Some d) before) (P // codes "else")
 
-    then_after_other : (x : Shape K) → IsShape o k d x → Fits true x → is_case_shape x ≡ false → TakesCase x ns cs after → CaseStands o cs.then_schema before (P // codes "then") → ThenAfter
+    then_after_other : (x : Shape K R) → IsShape o k d x → Fits true x → is_case_shape x ≡ false → TakesCase x ns cs after → CaseStands o cs.then_schema before (P // codes "then") → ThenAfter
     then_after_other x s f e t prior = subst₂ (λ b y. CaseStands o y (cond b (Some d) before) (P // codes "then")) (sym (apart_from_cases (codes "then") k refl (not_a_case x k d s f e))) (ap (λ y. y.then_schema) (sym (nothing_of x ns cs after e t))) prior
 
-    else_after_other : (x : Shape K) → IsShape o k d x → Fits true x → is_case_shape x ≡ false → TakesCase x ns cs after → CaseStands o cs.else_schema before (P // codes "else") → ElseAfter
+    else_after_other : (x : Shape K R) → IsShape o k d x → Fits true x → is_case_shape x ≡ false → TakesCase x ns cs after → CaseStands o cs.else_schema before (P // codes "else") → ElseAfter
     else_after_other x s f e t prior = subst₂ (λ b y. CaseStands o y (cond b (Some d) before) (P // codes "else")) (sym (apart_from_cases (codes "else") k refl (not_a_case x k d s f e))) (ap (λ y. y.else_schema) (sym (nothing_of x ns cs after e t))) prior
 
-    then_after : (x : Shape K) → IsShape o k d x → Fits true x → StandAt o (reads_of x) ns d (P // k) → TakesCase x ns cs after → CaseStands o cs.then_schema before (P // codes "then") → ThenAfter
+    then_after : (x : Shape K R) → IsShape o k d x → Fits true x → StandAt o (reads_of x) ns d (P // k) → TakesCase x ns cs after → CaseStands o cs.then_schema before (P // codes "then") → ThenAfter
     then_after shape.Then s f h t prior = subst (λ b. CaseStands o after.then_schema (cond b (Some d) before) (P // codes "then")) (sym (ap (bytes_eq (codes "then")) s)) (taken_stands ns after.then_schema d (P // codes "then") t.0 (subst (λ n. StandAt o Itself ns d (P // n)) s h))
     then_after shape.Else s f h t prior = subst₂ (λ b y. CaseStands o y (cond b (Some d) before) (P // codes "then")) (sym (ap (bytes_eq (codes "then")) s)) (sym t.1) prior
     then_after x s f h t prior = then_after_other x s f refl t prior
 
-    else_after : (x : Shape K) → IsShape o k d x → Fits true x → StandAt o (reads_of x) ns d (P // k) → TakesCase x ns cs after → CaseStands o cs.else_schema before (P // codes "else") → ElseAfter
+    else_after : (x : Shape K R) → IsShape o k d x → Fits true x → StandAt o (reads_of x) ns d (P // k) → TakesCase x ns cs after → CaseStands o cs.else_schema before (P // codes "else") → ElseAfter
     else_after shape.Else s f h t prior = subst (λ b. CaseStands o after.else_schema (cond b (Some d) before) (P // codes "else")) (sym (ap (bytes_eq (codes "else")) s)) (taken_stands ns after.else_schema d (P // codes "else") t.0 (subst (λ n. StandAt o Itself ns d (P // n)) s h))
     else_after shape.Then s f h t prior = subst₂ (λ b y. CaseStands o y (cond b (Some d) before) (P // codes "else")) (sym (ap (bytes_eq (codes "else")) s)) (sym t.1) prior
     else_after x s f h t prior = else_after_other x s f refl t prior
@@ -182,14 +184,14 @@ module _ {K R : Type 0} (o : Kit K R) where
 
   module _ (c : Bool) (es : List (Name × Data)) (P : Path) where
     -- taken out of those for the members so far, and those for the others stand
-    pub record TakenSoFar (cs : Cases (SchemaNode K R)) (ps rest : List (Part K (SchemaNode K R))) : Type 0 where
+    pub record TakenSoFar (cs : Cases (SchemaNode K R)) (ps rest : List (Part K R (SchemaNode K R))) : Type 0 where
       pub done : List (Name × Data)
       pub left : List (Name × Data)
       pub taken : CasesAreTaken o c done P cs ps
       pub stand : PartsStand o c rest left P
       pub whole : done ++ left ≡ es
 
-    pub none_taken : (cs : Cases (SchemaNode K R)) (ps rest : List (Part K (SchemaNode K R))) → cs.then_schema ≡ None → cs.else_schema ≡ None → ps ≡ [] → PartsStand o c rest es P → TakenSoFar cs ps rest
+    pub none_taken : (cs : Cases (SchemaNode K R)) (ps rest : List (Part K R (SchemaNode K R))) → cs.then_schema ≡ None → cs.else_schema ≡ None → ps ≡ [] → PartsStand o c rest es P → TakenSoFar cs ps rest
     none_taken cs ps rest p q e h = record {
       done = [];
       left = es;
@@ -202,7 +204,7 @@ module _ {K R : Type 0} (o : Kit K R) where
       whole = refl;
     }
 
-    pub one_more_taken : (cs after : Cases (SchemaNode K R)) (ps new rest all : List (Part K (SchemaNode K R))) (part left : Part K (SchemaNode K R)) → new ≡ ps ++ left ∷ [] → all ≡ part ∷ rest → TakesCase part.shape part.nodes.items cs after → left.location ≡ part.location → left.shape ≡ part.shape → (is_case_shape part.shape ≡ false → left.nodes.items ≡ part.nodes.items) → TakenSoFar cs ps all → TakenSoFar after new rest
+    pub one_more_taken : (cs after : Cases (SchemaNode K R)) (ps new rest all : List (Part K R (SchemaNode K R))) (part left : Part K R (SchemaNode K R)) → new ≡ ps ++ left ∷ [] → all ≡ part ∷ rest → TakesCase part.shape part.nodes.items cs after → left.location ≡ part.location → left.shape ≡ part.shape → (is_case_shape part.shape ≡ false → left.nodes.items ≡ part.nodes.items) → TakenSoFar cs ps all → TakenSoFar after new rest
     one_more_taken cs after ps new rest all part left q e takes place same kept h = by h.left (subst (λ l. PartsStand o c l h.left P) e h.stand) h.whole
       where
         by : (members : List (Name × Data)) → PartsStand o c (part ∷ rest) members P → h.done ++ members ≡ es → TakenSoFar after new rest
@@ -224,7 +226,7 @@ module _ {K R : Type 0} (o : Kit K R) where
           whole = append_assoc h.done (m ∷ []) members ∙ w;
         }
 
-    pub all_taken : (cs : Cases (SchemaNode K R)) (ps rest : List (Part K (SchemaNode K R))) → rest ≡ [] → TakenSoFar cs ps rest → CasesAreTaken o c es P cs ps
+    pub all_taken : (cs : Cases (SchemaNode K R)) (ps rest : List (Part K R (SchemaNode K R))) → rest ≡ [] → TakenSoFar cs ps rest → CasesAreTaken o c es P cs ps
     all_taken cs ps rest e h = by h.left (subst (λ l. PartsStand o c l h.left P) e h.stand) h.whole
       where
         by : (left : List (Name × Data)) → PartsStand o c [] left P → h.done ++ left ≡ es → CasesAreTaken o c es P cs ps
@@ -232,7 +234,7 @@ module _ {K R : Type 0} (o : Kit K R) where
         by (m ∷ left) stand w = absurd stand
 
   -- in an object, where no name stands twice
-  pub cases_stand : (ms : Members) (P : Path) (c : Bool) (cs : Cases (SchemaNode K R)) (ps : List (Part K (SchemaNode K R))) → has_repeat (names_of (listed ms)) ≡ false → c ≡ true → CasesAreTaken o c (listed ms) P cs ps → CasesStand o cs ms P
+  pub cases_stand : (ms : Members) (P : Path) (c : Bool) (cs : Cases (SchemaNode K R)) (ps : List (Part K R (SchemaNode K R))) → has_repeat (names_of (listed ms)) ≡ false → c ≡ true → CasesAreTaken o c (listed ms) P cs ps → CasesStand o cs ms P
   cases_stand ms P c cs ps distinct read h = (
     subst (λ d. CaseStands o cs.then_schema d (P // codes "then")) (last_is_found ms distinct (codes "then")) (h.at_then read),
     subst (λ d. CaseStands o cs.else_schema d (P // codes "else")) (last_is_found ms distinct (codes "else")) (h.at_else read),

@@ -1,11 +1,12 @@
 -- Which form of a validator is built.
-use Rattle.std.specs.Prelude.{◌≡◌, ◌≢◌, ⊤, Bool, true, false, List, [], ◌∷◌, map, length, take, drop, Option, Some, None, codes, Vec, String, string_bytes}
+use Rattle.std.specs.Prelude.{◌≡◌, ◌≢◌, ⊤, ℕ, Bool, true, false, List, [], ◌∷◌, map, length, take, drop, Option, Some, None, codes, Vec, String, string_bytes}
 use Rattle.std.specs.declared.alloc.Global.{Global}
 use Rattle.serde_json.specs.Data.{Data}
 use Rattle.serde_json.specs.View.{view}
 use Rattle.olk_spec.specs.Names.{Name, Path, ◌//◌}
 use Rattle.olk_spec.specs.Schemas.{texts}
 use Rattle.olk_spec.specs.Malformed.{items_of_array}
+use Rattle.olk_base.specs.declared.pattern.CompiledPattern.{CompiledPattern}
 use Rattle.olk_tree.specs.declared.map.SmallMap.{SmallMap}
 use Rattle.olk_tree.specs.declared.node.KeywordOver.{KeywordOver}
 use Rattle.olk_tree.specs.declared.node.KeywordOver.TheVariants as keyword
@@ -15,29 +16,35 @@ use Rattle.olk_node.specs.declared.node.SchemaNode.{SchemaNode, out-SchemaNode}
 -- ---- the form over given nodes, at its place
 
 -- the single form of one branch, and the other one of none or several
-abbrev pub IsFormOfAllOf : {K N : Type 0} → Path → List N → KeywordOver K N → Type 0
+abbrev pub IsFormOfAllOf : {K R N : Type 0} → Path → List N → KeywordOver K R N → Type 0
 IsFormOfAllOf P ns (keyword.AllOf k) = (k.schemas.items ≡ ns) × (length ns ≢ 1) × (k.location ≡ P)
 IsFormOfAllOf P ns (keyword.SingleValueAllOf k) = (ns ≡ k.node ∷ []) × (k.location ≡ P)
 IsFormOfAllOf P ns k = ⊥
 
-abbrev pub IsFormOfAnyOf : {K N : Type 0} → Path → List N → KeywordOver K N → Type 0
+abbrev pub IsFormOfAnyOf : {K R N : Type 0} → Path → List N → KeywordOver K R N → Type 0
 IsFormOfAnyOf P ns (keyword.AnyOf k) = (k.schemas.items ≡ ns) × (length ns ≢ 1) × (k.location ≡ P)
 IsFormOfAnyOf P ns (keyword.SingleAnyOf k) = (ns ≡ k.node ∷ []) × (k.location ≡ P)
 IsFormOfAnyOf P ns k = ⊥
 
-abbrev pub IsFormOfOneOf : {K N : Type 0} → Path → List N → KeywordOver K N → Type 0
+abbrev pub IsFormOfOneOf : {K R N : Type 0} → Path → List N → KeywordOver K R N → Type 0
 IsFormOfOneOf P ns (keyword.OneOf k) = (k.schemas.items ≡ ns) × (length ns ≢ 1) × (k.location ≡ P)
 IsFormOfOneOf P ns (keyword.SingleOneOf k) = (ns ≡ k.node ∷ []) × (k.location ≡ P)
 IsFormOfOneOf P ns k = ⊥
 
+-- patterns, each with its node
+abbrev pub IsFormOfPatternProperties : {K R N : Type 0} → Path → List (CompiledPattern R × N) → KeywordOver K R N → Type 0
+IsFormOfPatternProperties P es (keyword.PatternProperties k) = (k.patterns.items ≡ es) × (length es ≢ 1) × (k.location ≡ P)
+IsFormOfPatternProperties P es (keyword.SingleValuePatternProperties k) = (es ≡ (k.regex, k.node) ∷ []) × (k.location ≡ P)
+IsFormOfPatternProperties P es k = ⊥
+
 -- the form at L in the object at P: with two fused names, or alone
-abbrev pub IsFormOfProperties : {K N : Type 0} → Path → Path → SmallMap N → Option (Name × Name) → KeywordOver K N → Type 0
+abbrev pub IsFormOfProperties : {K R N : Type 0} → Path → Path → SmallMap N → Option (Name × Name) → KeywordOver K R N → Type 0
 IsFormOfProperties P L m None (keyword.Properties k) = (k.properties ≡ m) × (k.location ≡ L)
 IsFormOfProperties P L m (Some t) (keyword.PropertiesWithRequired2 k) = (k.properties ≡ m) × (k.location ≡ L) × (string_bytes k.first ≡ t.0) × (string_bytes k.second ≡ t.1) × (k.required_location ≡ P // codes "required")
 IsFormOfProperties P L m t k = ⊥
 
 -- `if` over its node, and those of `then` and `else` that there are
-abbrev pub IsFormOfIf : {K N : Type 0} → Path → N → Option N → Option N → KeywordOver K N → Type 0
+abbrev pub IsFormOfIf : {K R N : Type 0} → Path → N → Option N → Option N → KeywordOver K R N → Type 0
 IsFormOfIf L n (Some t) None (keyword.IfThen k) = (k.schema ≡ n) × (k.then_schema ≡ t) × (k.location ≡ L)
 IsFormOfIf L n None (Some e) (keyword.IfElse k) = (k.schema ≡ n) × (k.else_schema ≡ e) × (k.location ≡ L)
 IsFormOfIf L n (Some t) (Some e) (keyword.IfThenElse k) = (k.schema ≡ n) × (k.then_schema ≡ t) × (k.else_schema ≡ e) × (k.location ≡ L)
@@ -75,59 +82,65 @@ AreCut (t ∷ ts) ns (m ∷ maps) = (m.names ≡ t) × (m.nodes.items ≡ take (
 -- ---- the form for a value, at its place L
 
 -- `allOf` of one branch is the single form, and of none or several the other
-abbrev pub IsAllOf : {K N : Type 0} → Path → Data → KeywordOver K N → Type 0
+abbrev pub IsAllOf : {K R N : Type 0} → Path → Data → KeywordOver K R N → Type 0
 IsAllOf L d (keyword.AllOf k) = (length (items_of_array d) ≢ 1) × (k.location ≡ L)
 IsAllOf L d (keyword.SingleValueAllOf k) = (length (items_of_array d) ≡ 1) × (k.location ≡ L)
 IsAllOf L d k = ⊥
 
 -- and so `anyOf` and `oneOf`
-abbrev pub IsAnyOf : {K N : Type 0} → Path → Data → KeywordOver K N → Type 0
+abbrev pub IsAnyOf : {K R N : Type 0} → Path → Data → KeywordOver K R N → Type 0
 IsAnyOf L d (keyword.AnyOf k) = (length (items_of_array d) ≢ 1) × (k.location ≡ L)
 IsAnyOf L d (keyword.SingleAnyOf k) = (length (items_of_array d) ≡ 1) × (k.location ≡ L)
 IsAnyOf L d k = ⊥
 
-abbrev pub IsOneOf : {K N : Type 0} → Path → Data → KeywordOver K N → Type 0
+abbrev pub IsOneOf : {K R N : Type 0} → Path → Data → KeywordOver K R N → Type 0
 IsOneOf L d (keyword.OneOf k) = (length (items_of_array d) ≢ 1) × (k.location ≡ L)
 IsOneOf L d (keyword.SingleOneOf k) = (length (items_of_array d) ≡ 1) × (k.location ≡ L)
 IsOneOf L d k = ⊥
 
-abbrev pub IsNot : {K N : Type 0} → Path → Data → KeywordOver K N → Type 0
+abbrev pub IsNot : {K R N : Type 0} → Path → Data → KeywordOver K R N → Type 0
 IsNot L d (keyword.Not k) = (view k.original ≡ d) × (k.location ≡ L)
 IsNot L d k = ⊥
 
 -- `if` beside `then`, beside `else`, or beside both
-abbrev pub IsIf : {K N : Type 0} → Path → Bool → Bool → KeywordOver K N → Type 0
+abbrev pub IsIf : {K R N : Type 0} → Path → Bool → Bool → KeywordOver K R N → Type 0
 IsIf L true false (keyword.IfThen k) = k.location ≡ L
 IsIf L false true (keyword.IfElse k) = k.location ≡ L
 IsIf L true true (keyword.IfThenElse k) = k.location ≡ L
 IsIf L t e k = ⊥
 
-abbrev pub IsRequired : {K N : Type 0} → Path → Data → KeywordOver K N → Type 0
+abbrev pub IsRequired : {K R N : Type 0} → Path → Data → KeywordOver K R N → Type 0
 IsRequired L d (keyword.Required k) = (map string_bytes k.required.items ≡ texts d) × (k.location ≡ L)
 IsRequired L d k = ⊥
 
 -- `properties` at L in the object at P with these fused names has them, and without any stands alone
-abbrev pub IsProperties : {K N : Type 0} → Path → Path → Option (Name × Name) → KeywordOver K N → Type 0
+abbrev pub IsProperties : {K R N : Type 0} → Path → Path → Option (Name × Name) → KeywordOver K R N → Type 0
 IsProperties P L None (keyword.Properties k) = k.location ≡ L
 IsProperties P L (Some t) (keyword.PropertiesWithRequired2 k) = (k.location ≡ L) × (string_bytes k.first ≡ t.0) × (string_bytes k.second ≡ t.1) × (k.required_location ≡ P // codes "required")
 IsProperties P L t k = ⊥
 
+-- `patternProperties` of so many patterns
+abbrev pub IsPatternProperties : {K R N : Type 0} → Path → ℕ → KeywordOver K R N → Type 0
+IsPatternProperties L n (keyword.PatternProperties k) = (n ≢ 1) × (k.location ≡ L)
+IsPatternProperties L n (keyword.SingleValuePatternProperties k) = (n ≡ 1) × (k.location ≡ L)
+IsPatternProperties L n k = ⊥
+
 -- `dependentRequired`, `dependentSchemas` or `dependencies` with these keys
-abbrev pub IsDependencies : {K N : Type 0} → Path → List Name → KeywordOver K N → Type 0
+abbrev pub IsDependencies : {K R N : Type 0} → Path → List Name → KeywordOver K R N → Type 0
 IsDependencies L ns (keyword.Dependencies k) = (k.dependencies.names ≡ ns) × (k.location ≡ L)
 IsDependencies L ns k = ⊥
 
 -- `propertyNames` with a schema
-abbrev pub IsPropertyNames : {K N : Type 0} → Path → KeywordOver K N → Type 0
+abbrev pub IsPropertyNames : {K R N : Type 0} → Path → KeywordOver K R N → Type 0
 IsPropertyNames L (keyword.PropertyNames k) = k.location ≡ L
 IsPropertyNames L k = ⊥
 
 -- `propertyNames` that is `false`
-abbrev pub IsPropertyNamesFalse : {K N : Type 0} → Path → KeywordOver K N → Type 0
+abbrev pub IsPropertyNamesFalse : {K R N : Type 0} → Path → KeywordOver K R N → Type 0
 IsPropertyNamesFalse L (keyword.PropertyNamesFalse k) = k.location ≡ L
 IsPropertyNamesFalse L k = ⊥
 
 -- `propertyDependencies` with these keys, and these texts at each
-abbrev pub IsPropertyDependencies : {K N : Type 0} → Path → List Name → List (List Name) → KeywordOver K N → Type 0
+abbrev pub IsPropertyDependencies : {K R N : Type 0} → Path → List Name → List (List Name) → KeywordOver K R N → Type 0
 IsPropertyDependencies L ns ts (keyword.PropertyDependencies k) = (k.dependencies.names ≡ ns) × (map (λ m. m.names) k.dependencies.nodes.items ≡ ts) × (k.location ≡ L)
 IsPropertyDependencies L ns ts k = ⊥

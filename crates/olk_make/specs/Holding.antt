@@ -1,5 +1,5 @@
 -- What nodes stand for, and what the validators of a schema object mean together.
-use Rattle.std.specs.Prelude.{◌≡◌, ◌≤◌, ⊤, ℕ, Bool, List, [], ◌∷◌, ◌++◌, map}
+use Rattle.std.specs.Prelude.{◌≡◌, ◌≤◌, ⊤, ℕ, Bool, false, List, [], ◌∷◌, ◌++◌, map}
 use Rattle.std.specs.List.{list_all, flat_map, sum_by}
 use Rattle.serde_json.specs.Data.{Data, Members}
 use Rattle.olk_spec.specs.Names.{Name, Path, ◌//◌}
@@ -12,6 +12,7 @@ use Rattle.olk_tree.specs.Questions.{every}
 use Rattle.olk_tree.specs.Answers.{validator_means, validator_report, validator_tree}
 use Rattle.olk_node.specs.Nodes.{answers}
 use Rattle.olk_node.specs.Stands.{StandsFor}
+use Rattle.olk_members.specs.Conditions.{is_restricted}
 use Rattle.olk_members.specs.Members.{member_accepts, member_asks, member_report, member_malformations}
 use Rattle.olk_node.specs.declared.node.SchemaNode.{SchemaNode}
 use Rattle.olk_tree.specs.declared.node.KeywordOver.{KeywordOver}
@@ -39,28 +40,28 @@ module _ {K R : Type 0} (o : Kit K R) where
     abbrev pub all_malformed : Path → List (Name × Data) → List Fault
     all_malformed P es = flat_map (λ m. member_malformations o.world ms m (which m) P) es
 
-    module _ (ks : List (KeywordOver K (SchemaNode K R))) where
+    module _ (ks : List (KeywordOver K R (SchemaNode K R))) where
       -- what the keywords answer together
       abbrev pub means : Data → Bool → Bool
-      means v u = (every (λ k. validator_means o.finds (λ n. (answers o n).means) k v) ks).accepts u
+      means v u = (every (λ k. validator_means o (λ n. (answers o n).means) k v) ks).accepts u
 
       abbrev pub ask : Data → Bool → ℕ
-      ask v u = (every (λ k. validator_means o.finds (λ n. (answers o n).means) k v) ks).asks u
+      ask v u = (every (λ k. validator_means o (λ n. (answers o n).means) k v) ks).asks u
 
       abbrev pub find : Bool → Data → Path → List Fault
-      find u v Q = flat_map (λ k. validator_report o.finds (λ n. (answers o n).means) o.keyword_of (λ n. (answers o n).report) u k v Q) ks
+      find u v Q = flat_map (λ k. validator_report o (λ n. (answers o n).means) (λ n. (answers o n).report) u k v Q) ks
 
       abbrev pub show : Bool → Data → Path → List Tree
-      show u v Q = map (λ k. validator_tree o.finds (λ n. (answers o n).means) o.keyword_of (λ n. (answers o n).tree) u k v Q) ks
+      show u v Q = map (λ k. validator_tree o (λ n. (answers o n).means) (λ n. (answers o n).tree) u k v Q) ks
 
-      -- it is what one member means
+      -- it is what one member means; what is asked is bounded where nothing is restricted
       pub record Holds (m : Name × Data) (w : Keyword) (P : Path) : Type 0 where
         pub verdict : (u : Bool) (v : Data) → means v u ≡ member_accepts o.world ms m w u v
-        pub asks_within : (u : Bool) (v : Data) → ask v u ≤ member_asks o.world ms m w u v
+        pub asks_within : is_restricted ms ≡ false → (u : Bool) (v : Data) → ask v u ≤ member_asks o.world ms m w u v
         pub faults : (u : Bool) (v : Data) (Q : Path) → find u v Q ∼ member_report o.world ms m w u v P Q
 
       -- it is what some members mean together
       pub record Covers (es : List (Name × Data)) (P : Path) : Type 0 where
         pub verdict : (u : Bool) (v : Data) → means v u ≡ list_all (λ m. member_accepts o.world ms m (which m) u v) es
-        pub asks_within : (u : Bool) (v : Data) → ask v u ≤ sum_by (λ m. member_asks o.world ms m (which m) u v) es
+        pub asks_within : is_restricted ms ≡ false → (u : Bool) (v : Data) → ask v u ≤ sum_by (λ m. member_asks o.world ms m (which m) u v) es
         pub faults : (u : Bool) (v : Data) (Q : Path) → find u v Q ∼ flat_map (λ m. member_report o.world ms m (which m) u v P Q) es

@@ -19,7 +19,7 @@ use Rattle.olk_make.specs.declared.part.Cases.{Cases}
 use Rattle.olk_read.specs.declared.shape.Shape.{Shape}
 
 module _ {K R : Type 0} (o : Kit K R) where
-  module _ (ms : Members) (ks : List (KeywordOver K (SchemaNode K R))) where
+  module _ (ms : Members) (ks : List (KeywordOver K R (SchemaNode K R))) where
     -- in the schema object with the members ms at P, the keywords mean what the rows mean together, and show what the members es show
     pub record KeywordsMean (rows es : List (Name × Data)) (P : Path) : Type 0 where
       pub covers : Covers o ms ks rows P
@@ -35,23 +35,23 @@ module _ {K R : Type 0} (o : Kit K R) where
       pub shows : (u : Bool) → StandsAlone o.world u ms m (which o ms m) → (v : Data) (Q : Path) → show o ms ks u v Q ≡ member_child o.world ms m (which o ms m) u v P Q
 
   -- keywords that are made of a shape and nodes at L mean the member whose part these are, in each object
-  abbrev pub MakesMember : Shape K → Path → List (SchemaNode K R) → List (KeywordOver K (SchemaNode K R)) → Type 0
+  abbrev pub MakesMember : Shape K R → Path → List (SchemaNode K R) → List (KeywordOver K R (SchemaNode K R)) → Type 0
   MakesMember x L ns ks = (ms : Members) (m : Name × Data) (P : Path) → L ≡ P // m.0 → IsShape o m.0 m.1 x → StandAt o (reads_of x) ns m.1 L → KeywordMeans ms ks m P
 
   -- and what it claims in each object at P that has this plan
-  abbrev pub MakesClaims : Shape K → Path → List (SchemaNode K R) → Path → Planned → List (KeywordOver K (SchemaNode K R)) → Type 0
+  abbrev pub MakesClaims : Shape K R → Path → List (SchemaNode K R) → Path → Planned → List (KeywordOver K R (SchemaNode K R)) → Type 0
   MakesClaims x L ns P p ks = (ms : Members) (m : Name × Data) → L ≡ P // m.0 → IsShape o m.0 m.1 x → StandAt o (reads_of x) ns m.1 L
       → has_repeat (map (λ m. m.0) (listed ms)) ≡ false → lookup m.0 (listed ms) ≡ Some m.1 → p ≡ plan_of ms
       → KeywordsMean ms ks (claims (head p) (listed ms) m) (m ∷ []) P
 
   -- keywords that are made of the nodes of `if`, `then` and `else` mean all three, in each object where `if` is read
-  abbrev pub MakesCondition : Path → SchemaNode K R → Cases (SchemaNode K R) → List (KeywordOver K (SchemaNode K R)) → Type 0
+  abbrev pub MakesCondition : Path → SchemaNode K R → Cases (SchemaNode K R) → List (KeywordOver K R (SchemaNode K R)) → Type 0
   MakesCondition L n cs ks = (ms : Members) (d : Data) (P : Path) → L ≡ P // codes "if" → StandsFor o n d L → CasesStand o cs ms P
       → has_repeat (map (λ m. m.0) (listed ms)) ≡ false → lookup (codes "if") (listed ms) ≡ Some d → is_condition ms ≡ true
       → KeywordsMean ms ks (claims (head (plan_of ms)) (listed ms) (codes "if", d)) ((codes "if", d) ∷ []) P
 
   -- keywords that are made of a part mean what its member claims, in each object at P that has this plan; `if` takes the nodes of `then` and `else`
-  abbrev pub MakesPart : Shape K → Path → List (SchemaNode K R) → Cases (SchemaNode K R) → Path → Planned → List (KeywordOver K (SchemaNode K R)) → Type 0
+  abbrev pub MakesPart : Shape K R → Path → List (SchemaNode K R) → Cases (SchemaNode K R) → Path → Planned → List (KeywordOver K R (SchemaNode K R)) → Type 0
   MakesPart x L ns cs P p ks = (ms : Members) (m : Name × Data) → L ≡ P // m.0 → IsShape o m.0 m.1 x → Fits p.condition x
       → (is_case_shape x ≡ false → StandAt o (reads_of x) ns m.1 L) → (is_if_shape x ≡ true → CasesStand o cs ms P)
       → has_repeat (map (λ m. m.0) (listed ms)) ≡ false → lookup m.0 (listed ms) ≡ Some m.1 → p ≡ plan_of ms

@@ -17,12 +17,12 @@ use Rattle.olk_read.specs.declared.shape.Shape.{Shape}
 use Rattle.olk_read.specs.declared.shape.Shape.TheVariants as shape
 
 -- the keyword whose node `if` takes over
-abbrev pub is_case_shape : {K : Type 0} → Shape K → Bool
+abbrev pub is_case_shape : {K R : Type 0} → Shape K R → Bool
 is_case_shape shape.Then = true
 is_case_shape shape.Else = true
 is_case_shape x = false
 
-abbrev pub is_if_shape : {K : Type 0} → Shape K → Bool
+abbrev pub is_if_shape : {K R : Type 0} → Shape K R → Bool
 is_if_shape shape.If = true
 is_if_shape x = false
 
@@ -32,7 +32,7 @@ IsLast xs None = xs ≡ []
 IsLast {X} xs (Some x) = (before : List X) × (xs ≡ before ++ x ∷ [])
 
 -- what is taken of a part of this shape with these nodes
-abbrev pub TakesCase : {K N : Type 0} → Shape K → List N → Cases N → Cases N → Type 0
+abbrev pub TakesCase : {K R N : Type 0} → Shape K R → List N → Cases N → Cases N → Type 0
 TakesCase shape.Then ns old new = IsLast ns new.then_schema × (new.else_schema ≡ old.else_schema)
 TakesCase shape.Else ns old new = IsLast ns new.else_schema × (new.then_schema ≡ old.then_schema)
 TakesCase x ns old new = new ≡ old
@@ -57,26 +57,26 @@ module _ {K R : Type 0} (o : Kit K R) where
   -- c says whether `if` is read in the schema object at P
   module _ (c : Bool) where
     -- a part stands for the member m
-    pub record PartStands (p : Part K (SchemaNode K R)) (m : Name × Data) (P : Path) : Type 0 where
+    pub record PartStands (p : Part K R (SchemaNode K R)) (m : Name × Data) (P : Path) : Type 0 where
       pub place : p.location ≡ P // m.0
       pub shape : IsShape o m.0 m.1 p.shape
       pub fits : Fits c p.shape
       pub nodes : StandAt (reads_of p.shape) p.nodes.items m.1 (P // m.0)
 
-    abbrev pub PartsStand : List (Part K (SchemaNode K R)) → List (Name × Data) → Path → Type 0
+    abbrev pub PartsStand : List (Part K R (SchemaNode K R)) → List (Name × Data) → Path → Type 0
     PartsStand [] [] P = ⊤
     PartsStand [] (m ∷ es) P = ⊥
     PartsStand (p ∷ ps) [] P = ⊥
     PartsStand (p ∷ ps) (m ∷ es) P = PartStands p m P × PartsStand ps es P
 
     -- the same, where the nodes of `then` and `else` may be taken
-    pub record PartIsLeft (p : Part K (SchemaNode K R)) (m : Name × Data) (P : Path) : Type 0 where
+    pub record PartIsLeft (p : Part K R (SchemaNode K R)) (m : Name × Data) (P : Path) : Type 0 where
       pub place : p.location ≡ P // m.0
       pub shape : IsShape o m.0 m.1 p.shape
       pub fits : Fits c p.shape
       pub nodes : is_case_shape p.shape ≡ false → StandAt (reads_of p.shape) p.nodes.items m.1 (P // m.0)
 
-    abbrev pub PartsAreLeft : List (Part K (SchemaNode K R)) → List (Name × Data) → Path → Type 0
+    abbrev pub PartsAreLeft : List (Part K R (SchemaNode K R)) → List (Name × Data) → Path → Type 0
     PartsAreLeft [] [] P = ⊤
     PartsAreLeft [] (m ∷ es) P = ⊥
     PartsAreLeft (p ∷ ps) [] P = ⊥
@@ -94,7 +94,7 @@ module _ {K R : Type 0} (o : Kit K R) where
   CasesStand cs ms P = CaseStands cs.then_schema (lookup (codes "then") (listed ms)) (P // codes "then") × CaseStands cs.else_schema (lookup (codes "else") (listed ms)) (P // codes "else")
 
   -- taken out of the parts for the members es: the parts that are left, and where `if` is read the nodes of `then` and `else`
-  pub record CasesAreTaken (c : Bool) (es : List (Name × Data)) (P : Path) (cs : Cases (SchemaNode K R)) (ps : List (Part K (SchemaNode K R))) : Type 0 where
+  pub record CasesAreTaken (c : Bool) (es : List (Name × Data)) (P : Path) (cs : Cases (SchemaNode K R)) (ps : List (Part K R (SchemaNode K R))) : Type 0 where
     pub left : PartsAreLeft c ps es P
     pub at_then : c ≡ true → CaseStands cs.then_schema (last_named (codes "then") es None) (P // codes "then")
     pub at_else : c ≡ true → CaseStands cs.else_schema (last_named (codes "else") es None) (P // codes "else")

@@ -12,7 +12,7 @@ use olk_tree::all_of::{AllOf, SingleValueAllOf};
 use olk_tree::node::KeywordOver;
 
 /// The form for so many branches.
-fn form<K, N: Drop>(location: Location, mut schemas: Vec<N>) -> KeywordOver<K, N>
+fn form<K, R, N: Drop>(location: Location, mut schemas: Vec<N>) -> KeywordOver<K, R, N>
     ensures { IsFormOfAllOf location schemas.items result }
 {
     if schemas.len() == 1

@@ -13,7 +13,11 @@ use olk_tree::if_::{IfElse, IfThen, IfThenElse};
 use olk_tree::node::KeywordOver;
 
 /// The form for the nodes that there are.
-fn form<K, N: Drop>(location: Location, schema: N, cases: Cases<N>) -> Option<KeywordOver<K, N>>
+fn form<K, R, N: Drop>(
+    location: Location,
+    schema: N,
+    cases: Cases<N>,
+) -> Option<KeywordOver<K, R, N>>
     ensures no_then { IfNone result (cases.then_schema ≡ None) }
     ensures no_else { IfNone result (cases.else_schema ≡ None) }
     ensures form { IfSome result (IsFormOfIf location schema

@@ -12,6 +12,7 @@ mod making;
 pub mod not;
 pub mod one_of;
 mod part;
+pub mod pattern_properties;
 pub mod properties;
 pub mod property_dependencies;
 pub mod property_names;

@@ -12,8 +12,8 @@ ghost use Rattle.olk_make.specs.Making.{MakesPart, ObjectIsMade};
 
 use crate::part::{Cases, Part};
 use crate::{
-    all_of, any_of, dependencies, if_, not, one_of, properties, property_dependencies,
-    property_names, required,
+    all_of, any_of, dependencies, if_, not, one_of, pattern_properties, properties,
+    property_dependencies, property_names, required,
 };
 use olk_base::{Leaf, RegexEngine};
 use olk_members::Plan;
@@ -25,7 +25,7 @@ use serde_json::{Map, Value};
 use std::alloc::{AllocError, Global};
 
 /// The part without its node, where it is `then` or `else`, and else as it is.
-fn take_case<K, N: Drop>(cases: &mut Cases<N>, part: Part<K, N>) -> Part<K, N>
+fn take_case<K, R, N: Drop>(cases: &mut Cases<N>, part: Part<K, R, N>) -> Part<K, R, N>
     ensures takes { TakesCase part.shape part.nodes.items cases.old cases.new }
     ensures location { result.location ≡ part.location }
     ensures shape { result.shape ≡ part.shape }
@@ -56,8 +56,8 @@ fn take_case<K, N: Drop>(cases: &mut Cases<N>, part: Part<K, N>) -> Part<K, N>
 fn take_cases<K: Leaf, R: RegexEngine>(
     alloc: Global,
     condition: bool,
-    parts: Vec<Part<K, SchemaNode<K, R>>>,
-) -> Result<(Cases<SchemaNode<K, R>>, Vec<Part<K, SchemaNode<K, R>>>), AllocError>
+    parts: Vec<Part<K, R, SchemaNode<K, R>>>,
+) -> Result<(Cases<SchemaNode<K, R>>, Vec<Part<K, R, SchemaNode<K, R>>>), AllocError>
     ensures { IfOk result (λ r. (es : List (Name × Data)) (P : Path)
         → PartsStand (kit K.Leaf R.RegexEngine) condition parts.items es P
         → CasesAreTaken (kit K.Leaf R.RegexEngine) condition es P r.0 r.1.items) }
@@ -84,7 +84,7 @@ fn make_keyword<K: Leaf, R: RegexEngine>(
     plan: Plan<'_>,
     place: &Location,
     cases: &mut Cases<SchemaNode<K, R>>,
-    part: Part<K, SchemaNode<K, R>>,
+    part: Part<K, R, SchemaNode<K, R>>,
 ) -> Result<Option<Keyword<K, R>>, AllocError>
     ensures makes { IfOk result (λ o. MakesPart (kit K.Leaf R.RegexEngine) part.shape
         part.location part.nodes.items cases.old place.now (planned plan.entry)
@@ -99,6 +99,9 @@ fn make_keyword<K: Leaf, R: RegexEngine>(
     match shape {
         Shape::Properties(names) => Ok(Some(properties::make(
             alloc, plan, place, location, names, nodes,
+        )?)),
+        Shape::PatternProperties(patterns) => Ok(Some(pattern_properties::make(
+            alloc, location, patterns, nodes,
         )?)),
         Shape::PropertyNames => Ok(property_names::make(location, nodes)),
         Shape::NoNames => Ok(Some(property_names::make_false(location))),
@@ -139,7 +142,7 @@ pub fn make_keywords<K: Leaf, R: RegexEngine>(
     alloc: Global,
     place: &Location,
     members: &Map<String, Value>,
-    parts: Vec<Part<K, SchemaNode<K, R>>>,
+    parts: Vec<Part<K, R, SchemaNode<K, R>>>,
 ) -> Result<Vec<Keyword<K, R>>, AllocError>
     requires { PartsStand (kit K.Leaf R.RegexEngine)
         (is_condition (members_view members.now.entries)) parts.items

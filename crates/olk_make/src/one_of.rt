@@ -12,7 +12,7 @@ use olk_tree::node::KeywordOver;
 use olk_tree::one_of::{OneOf, SingleOneOf};
 
 /// The form for so many branches.
-fn form<K, N: Drop>(location: Location, mut schemas: Vec<N>) -> KeywordOver<K, N>
+fn form<K, R, N: Drop>(location: Location, mut schemas: Vec<N>) -> KeywordOver<K, R, N>
     ensures { IsFormOfOneOf location schemas.items result }
 {
     if schemas.len() == 1

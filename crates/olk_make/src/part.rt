@@ -6,9 +6,9 @@ use olk_reports::Location;
 
 /// A member of a schema object: its place, its shape, and the nodes of the places that it reads.
 #[derive(Drop)]
-pub struct Part<K, N> {
+pub struct Part<K, R, N> {
     pub location: Location,
-    pub shape: Shape<K>,
+    pub shape: Shape<K, R>,
     pub nodes: Vec<N>,
 }
 

@@ -16,13 +16,13 @@ use olk_tree::properties::{SmallProperties, SmallPropertiesWithRequired2};
 use std::alloc::{AllocError, Global};
 
 /// The form that the plan names, in the object at the place.
-fn form<K, N: Drop>(
+fn form<K, R, N: Drop>(
     alloc: Global,
     plan: Plan<'_>,
     place: &Location,
     location: Location,
     properties: SmallMap<N>,
-) -> Result<KeywordOver<K, N>, AllocError>
+) -> Result<KeywordOver<K, R, N>, AllocError>
     ensures { IfOk result (IsFormOfProperties place.now location properties
         (planned plan.entry).fused) }
 {

@@ -21,6 +21,7 @@ use Rattle.olk_spec.specs.Trees.{declares, has_patterns, fuses_two, fuses_one, a
 use Rattle.olk_spec.proofs.Reading.{entry, lookup_listed, is_present_read, entries_at_read, names_at_read, names_there, wholes_absent}
 use Rattle.olk_spec.proofs.Walks.{same_name}
 use Rattle.olk_members.specs.Members.{member_malformations}
+use Rattle.olk_members.specs.Conditions.{is_restriction, is_restricted}
 use Rattle.olk_spec.specs.declared.TheConstants.{HASHMAP_THRESHOLD}
 use Rattle.olk_members.specs.Fused.{declares_few, allows_others, two_names, fused_names}
 use Rattle.olk_members.proofs.Claims.{listing}
@@ -56,19 +57,25 @@ module _ {X : Type 0} (step : Schema X → X) where
   entry_count : (fs : Members) → length (flat_map (λ d. map (entry step) (members d)) (object fs ∷ [])) ≡ length (listed fs)
   entry_count fs = ap length (append-nil (map (entry step) (listed fs))) ∙ length-map (listed fs) (entry step)
 
-  are_fused_names : (L : Path) (p r : Option Data) → IsObject p → ListsTexts L r
-      → (is_some p && not false && not false && nat_lt (length (flat_map (λ d. map (entry step) (members d)) (option_to_list p))) HASHMAP_THRESHOLD && are_two (flat_map texts (option_to_list r))) ≡ is_some (cond (declares_few p && true && true) (two_names r) None)
-  are_fused_names L None r h k = refl
-  are_fused_names L (Some (object fs)) r h k = ap (λ n. nat_lt n HASHMAP_THRESHOLD && are_two (flat_map texts (option_to_list r))) (entry_count fs) ∙ by (nat_lt (length (listed fs)) HASHMAP_THRESHOLD)
+  -- t is what stands at `patternProperties`
+  are_fused_names : (L : Path) (p r t : Option Data) → IsObject p → ListsTexts L r
+      → (is_some p && not false && not (is_some t) && nat_lt (length (flat_map (λ d. map (entry step) (members d)) (option_to_list p))) HASHMAP_THRESHOLD && are_two (flat_map texts (option_to_list r))) ≡ is_some (cond (declares_few p && is_none t && true) (two_names r) None)
+  are_fused_names L None r t h k = refl
+  are_fused_names L (Some (object fs)) r None h k = ap (λ n. nat_lt n HASHMAP_THRESHOLD && are_two (flat_map texts (option_to_list r))) (entry_count fs) ∙ by (nat_lt (length (listed fs)) HASHMAP_THRESHOLD)
     where
       by : (b : Bool) → (b && are_two (flat_map texts (option_to_list r))) ≡ is_some (cond (b && true && true) (two_names r) None)
       by true = are_two_names L r k
       by false = refl
-  are_fused_names L (Some d) r h k = absurd (true≢false (sym h))
+  are_fused_names L (Some (object fs)) r (Some d) h k = by (nat_lt (length (listed fs)) HASHMAP_THRESHOLD)
+    where
+      by : (b : Bool) → false ≡ is_some (cond (b && false && true) (two_names r) None)
+      by true = refl
+      by false = refl
+  are_fused_names L (Some d) r t h k = absurd (true≢false (sym h))
 
 -- ---- an object in which nothing is malformed
 
-module _ (W : World) (ms : Members) (P : Path) (clean : flat_map (λ m. member_malformations W ms m (keyword_named W m.0) P) (listed ms) ≡ []) where
+module _ (W : World) (ms : Members) (P : Path) where
   clean_among : (es : List (Name × Data)) → flat_map (λ m. member_malformations W ms m (keyword_named W m.0) P) es ≡ [] → (k : Name) (d : Data) → lookup k es ≡ Some d → member_malformations W ms (k, d) (keyword_named W k) P ≡ []
   clean_among [] e k d f = absurd (true≢false (sym (ap is_some f)))
   clean_among (m ∷ es) e k d f =
@@ -81,22 +88,30 @@ module _ (W : World) (ms : Members) (P : Path) (clean : flat_map (λ m. member_m
       by Greater q g h rest = rest g
       by Equal q g h rest = let same = same_name k m.0 (sym q) in (λ i. member_malformations W ms (same i, unwrap_or (sym g i) d) (keyword_named W (same i)) P) ∙ h
 
+  -- a keyword that isn't compiled yet is not among members in which nothing is malformed
+  pub none_pending : (es : List (Name × Data)) → flat_map (λ m. member_malformations W ms m (keyword_named W m.0) P) es ≡ [] → (k : Name) → is_among k pending ≡ true → lookup k es ≡ None
+  none_pending es clean k e = by (lookup k es) refl
+    where
+      by : (o : Option Data) → lookup k es ≡ o → o ≡ None
+      by None q = refl
+      by (Some d) q = absurd (true≢false (ap is_empty (sym (clean_among es clean k d q) ∙ (fact.pending_malformations W ms P k d e (keyword_named W k)).1)))
+
+module _ (W : World) (ms : Members) (P : Path) (clean : flat_map (λ m. member_malformations W ms m (keyword_named W m.0) P) (listed ms) ≡ []) where
   abbrev at_name : Name → Option Data
   at_name k = lookup k (listed ms)
 
   absent : (k : Name) → is_among k pending ≡ true → at_name k ≡ None
-  absent k e = by (at_name k) refl
-    where
-      by : (o : Option Data) → at_name k ≡ o → o ≡ None
-      by None q = refl
-      by (Some d) q = absurd (true≢false (ap is_empty (sym (clean_among (listed ms) clean k d q) ∙ (fact.pending_malformations W ms P k d e (keyword_named W k)).1)))
+  absent = none_pending W ms P (listed ms) clean
+
+  pub unrestricted : is_restricted ms ≡ false
+  unrestricted = ap is_restriction (absent (codes "additionalProperties") refl)
 
   an_object : IsObject (at_name (codes "properties"))
   an_object = by (at_name (codes "properties")) refl
     where
       of : (d : Data) (b : Bool) → is_object d ≡ b → at_name (codes "properties") ≡ Some d → is_object d ≡ true
       of d true e q = e
-      of d false e q = absurd (true≢false (ap is_empty (sym (clean_among (listed ms) clean (codes "properties") d q) ∙ fact.properties_kind W ms P d e)))
+      of d false e q = absurd (true≢false (ap is_empty (sym (clean_among W ms P (listed ms) clean (codes "properties") d q) ∙ fact.properties_kind W ms P d e)))
 
       by : (o : Option Data) → at_name (codes "properties") ≡ o → IsObject o
       by None q = tt
@@ -107,14 +122,14 @@ module _ (W : World) (ms : Members) (P : Path) (clean : flat_map (λ m. member_m
     where
       by : (o : Option Data) → at_name (codes "required") ≡ o → ListsTexts (P // codes "required") o
       by None q = tt
-      by (Some d) q = sym (fact.required_malformations W ms d P) ∙ clean_among (listed ms) clean (codes "required") d q
+      by (Some d) q = sym (fact.required_malformations W ms d P) ∙ clean_among W ms P (listed ms) clean (codes "required") d q
 
   module _ {X : Type 0} (step : Schema X → X) where
     pub free : restricts (read_members step ms) ≡ false
     free = ap (list_any (λ s. is_truth false s.schema || is_object s.schema)) (wholes_absent step ms (codes "additionalProperties") (sym (lookup_listed (codes "additionalProperties") ms) ∙ absent (codes "additionalProperties") refl))
 
-    patternless : has_patterns (read_members step ms) ≡ false
-    patternless = is_present_read step ms (codes "patternProperties") ∙ ap is_some (sym (lookup_listed (codes "patternProperties") ms) ∙ absent (codes "patternProperties") refl)
+    patterned : has_patterns (read_members step ms) ≡ is_some (at_name (codes "patternProperties"))
+    patterned = is_present_read step ms (codes "patternProperties") ∙ ap is_some (sym (lookup_listed (codes "patternProperties") ms))
 
     pub not_fused : fuses_one (read_members step ms) ≡ false
     not_fused = ap (λ ws. declares (read_members step ms) && list_any (λ s. is_truth false s.schema) ws && not (has_patterns (read_members step ms)) && nat_eq (length (names_at (read_members step ms) (codes "required"))) 1)
@@ -128,9 +143,9 @@ module _ (W : World) (ms : Members) (P : Path) (clean : flat_map (λ m. member_m
     -- it is fused exactly where the plan fuses names
     pub fused : fuses_two (read_members step ms) ≡ is_some (fused_names ms)
     fused =
-        (λ i. here i && not (free i) && not (patternless i) && nat_lt (length (entries i)) HASHMAP_THRESHOLD && are_two (listed_names i))
-        ∙ are_fused_names step (P // codes "required") (at_name (codes "properties")) (at_name (codes "required")) an_object texts_listed
-        ∙ (λ i. is_some (cond (declares_few (at_name (codes "properties")) && is_none (sym (absent (codes "patternProperties") refl) i) && allows_others (sym (absent (codes "additionalProperties") refl) i)) (two_names (at_name (codes "required"))) None))
+        (λ i. here i && not (free i) && not (patterned i) && nat_lt (length (entries i)) HASHMAP_THRESHOLD && are_two (listed_names i))
+        ∙ are_fused_names step (P // codes "required") (at_name (codes "properties")) (at_name (codes "required")) (at_name (codes "patternProperties")) an_object texts_listed
+        ∙ (λ i. is_some (cond (declares_few (at_name (codes "properties")) && is_none (at_name (codes "patternProperties")) && allows_others (sym (absent (codes "additionalProperties") refl) i)) (two_names (at_name (codes "required"))) None))
       where
         here : declares (read_members step ms) ≡ is_some (at_name (codes "properties"))
         here = is_present_read step ms (codes "properties") ∙ ap is_some (sym (lookup_listed (codes "properties") ms))

@@ -11,17 +11,17 @@ use Rattle.olk_spec.specs.Names.{Name, Path, ◌//◌, down, lookup, put_if}
 use Rattle.olk_spec.specs.World.{World}
 use Rattle.olk_spec.specs.Vocabulary.{if_keyword, then_keyword, else_keyword, keyword_named}
 use Rattle.olk_spec.specs.Faults.{Fault}
-use Rattle.olk_spec.specs.Schemas.{Schema, Keywords, read, read_members, answer_for, listed, wholes_at}
+use Rattle.olk_spec.specs.Schemas.{Sub, Schema, Keywords, read, read_members, answer_for, listed, wholes_at, is_object, is_truth}
 use Rattle.olk_spec.specs.Malformed.{read_places, places_where, itself}
-use Rattle.olk_spec.specs.Meanings.{Meaning, is_conditional, if_accepts, if_refuses, Asked, asked}
+use Rattle.olk_spec.specs.Meanings.{Meaning, restricts, is_conditional, if_accepts, if_refuses, Asked, asked}
 use Rattle.olk_spec.specs.Meaning.{accepts, asks, report, tree, meaning, meaning_step}
 use Rattle.olk_spec.specs.Tree.{Tree, plain}
 use Rattle.olk_spec.specs.Trees.{case_trees}
 use Rattle.olk_spec.proofs.Truth.{and_true, or_false}
-use Rattle.olk_spec.proofs.Walks.{same_name}
+use Rattle.olk_spec.proofs.Walks.{same_name, neither}
 use Rattle.olk_spec.proofs.Reading.{place, lookup_listed, whole_read, is_present_read, wholes_there, wholes_absent, wholes_at_read}
 use Rattle.olk_members.specs.Members.{member_accepts, member_asks, member_report, member_child}
-use Rattle.olk_members.specs.Conditions.{is_condition, is_conditional_name, IsKnown}
+use Rattle.olk_members.specs.Conditions.{is_condition, is_conditional_name, is_read_beside, is_restriction, is_restricted, IsKnown}
 use Rattle.olk_members.proofs.Facts.{nothing_first, nothing_last}
 
 -- ---- the three names
@@ -43,6 +43,14 @@ absent_if : {X : Type 0} (o : Option X) → is_some o ≡ false → o ≡ None
 absent_if None e = refl
 absent_if (Some x) e = absurd (true≢false e)
 
+-- the others need not know their neighbours
+pub known_alone : (c : Bool) (ms : Members) (k : Name) → is_read_beside k ≡ false → IsKnown c ms k
+known_alone c ms k e =
+    let apart = neither (is_conditional_name k) (bytes_eq k (codes "patternProperties")) e in (
+      (λ q. absurd (true≢false (sym q ∙ apart.0))),
+      λ q. absurd (true≢false (sym (ap (λ n. bytes_eq n (codes "patternProperties")) q) ∙ apart.1)),
+    )
+
 -- beside `then`, and beside `else`, `if` is read where it is there
 module _ (ms : Members) where
   if_beside_then : is_some (lookup (codes "then") (listed ms)) ≡ true → is_condition ms ≡ is_some (lookup (codes "if") (listed ms))
@@ -58,6 +66,13 @@ module _ {X : Type 0} (step : Schema X → X) (ms : Members) where
   pub condition_read : is_conditional (read_members step ms) ≡ is_condition ms
   condition_read = λ i. present (codes "if") i && (present (codes "then") i || present (codes "else") i)
 
+  pub restricted_read : restricts (read_members step ms) ≡ is_restricted ms
+  restricted_read = ap (list_any (λ s. is_truth false s.schema || is_object s.schema)) (wholes_at_read step ms (codes "additionalProperties")) ∙ by _ ∙ ap is_restriction (sym (lookup_listed (codes "additionalProperties") ms))
+    where
+      by : (o : Option Data) → list_any (λ (s : Sub X). is_truth false s.schema || is_object s.schema) (map (place step) (option_to_list o)) ≡ is_restriction o
+      by None = refl
+      by (Some d) = or_false _
+
   -- ---- the places that are read
 
   module _ (W : World) (k : Name) (d : Data) (c : Bool) (known : IsKnown c ms k) where
@@ -69,9 +84,9 @@ module _ {X : Type 0} (step : Schema X → X) (ms : Members) where
     places_by_condition e = by (conditional_named k e)
       where
         by : (k ≡ codes "if") ⊎ (k ≡ codes "then") ⊎ (k ≡ codes "else") → PlacesByCondition k
-        by (inl q) = subst PlacesByCondition (sym q) (ap (λ b. places_where (codes "if") b (itself (codes "if") (read step d).whole)) (condition_read ∙ sym (known e).0))
-        by (inr (inl q)) = subst PlacesByCondition (sym q) (ap (λ b. places_where (codes "then") b (itself (codes "then") (read step d).whole)) (present (codes "if") ∙ sym (if_beside_then ms (ap (λ n. is_some (lookup n (listed ms))) (sym q) ∙ (known e).1)) ∙ sym (known e).0))
-        by (inr (inr q)) = subst PlacesByCondition (sym q) (ap (λ b. places_where (codes "else") b (itself (codes "else") (read step d).whole)) (present (codes "if") ∙ sym (if_beside_else ms (ap (λ n. is_some (lookup n (listed ms))) (sym q) ∙ (known e).1)) ∙ sym (known e).0))
+        by (inl q) = subst PlacesByCondition (sym q) (ap (λ b. places_where (codes "if") b (itself (codes "if") (read step d).whole)) (condition_read ∙ sym (known.0 e).0))
+        by (inr (inl q)) = subst PlacesByCondition (sym q) (ap (λ b. places_where (codes "then") b (itself (codes "then") (read step d).whole)) (present (codes "if") ∙ sym (if_beside_then ms (ap (λ n. is_some (lookup n (listed ms))) (sym q) ∙ (known.0 e).1)) ∙ sym (known.0 e).0))
+        by (inr (inr q)) = subst PlacesByCondition (sym q) (ap (λ b. places_where (codes "else") b (itself (codes "else") (read step d).whole)) (present (codes "if") ∙ sym (if_beside_else ms (ap (λ n. is_some (lookup n (listed ms))) (sym q) ∙ (known.0 e).1)) ∙ sym (known.0 e).0))
 
 -- what is shown where the test holds, of the schema that stands there
 module _ (W : World) (u : Bool) (v : Data) where

@@ -12,3 +12,4 @@ pub mod Dependencies
 pub mod Asking
 pub mod PropertyNames
 pub mod PropertyDependencies
+pub mod PatternProperties

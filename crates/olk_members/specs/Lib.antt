@@ -3,4 +3,5 @@ pub mod Fused
 pub mod Conditions
 pub mod Dependencies
 pub mod PropertyDependencies
+pub mod PatternProperties
 pub mod Plans

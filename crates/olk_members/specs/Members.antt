@@ -3,7 +3,7 @@ use Rattle.std.specs.Prelude.{◌≡◌, ⊤, false, Some, ℕ, Bool, List}
 use Rattle.serde_json.specs.Data.{Data, Members}
 use Rattle.olk_spec.specs.Names.{Name, Path, lookup}
 use Rattle.olk_spec.specs.World.{World}
-use Rattle.olk_spec.specs.Vocabulary.{properties, required, Keyword}
+use Rattle.olk_spec.specs.Vocabulary.{properties, pattern_properties, required, Keyword}
 use Rattle.olk_spec.specs.Faults.{Fault}
 use Rattle.olk_spec.specs.Schemas.{read, read_members, listed}
 use Rattle.olk_spec.specs.Tree.{Tree}
@@ -45,5 +45,6 @@ module _ (W : World) (ms : Members) (m : Name × Data) (w : Keyword) where
 module _ (W : World) (u : Bool) (ms : Members) (m : Name × Data) where
   abbrev pub StandsAlone : Keyword → Type 0
   StandsAlone properties = (lookup m.0 (listed ms) ≡ Some m.1) × (restricts (read_members (meaning_step W u) ms) ≡ false) × (fuses_two (read_members (meaning_step W u) ms) ≡ false)
+  StandsAlone pattern_properties = restricts (read_members (meaning_step W u) ms) ≡ false
   StandsAlone required = (fuses_one (read_members (meaning_step W u) ms) ≡ false) × (fuses_two (read_members (meaning_step W u) ms) ≡ false)
   StandsAlone w = ⊤

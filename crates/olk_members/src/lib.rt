@@ -8,4 +8,4 @@ mod members;
 mod plan;
 
 pub use members::{has_member, member};
-pub use plan::{Plan, is_condition};
+pub use plan::{Plan, is_condition, is_restricted};

@@ -1,9 +1,9 @@
 //! Whose validator stands for each keyword of an object.
-ghost use Rattle.std.specs.Prelude.{◌≡◌, false, is_some, map, option_map};
+ghost use Rattle.std.specs.Prelude.{◌≡◌, ◌||◌, false, is_some, map, option_map};
 ghost use Rattle.serde_json.specs.View.{view, members_view};
-ghost use Rattle.olk_spec.specs.Schemas.{listed};
+ghost use Rattle.olk_spec.specs.Schemas.{listed, is_object, is_truth};
 ghost use Rattle.olk_spec.specs.Malformed.{has_repeat};
-ghost use Rattle.olk_members.specs.Conditions.{is_condition};
+ghost use Rattle.olk_members.specs.Conditions.{is_condition, is_restricted};
 ghost use Rattle.olk_members.specs.Fused.{declares_few, allows_others, two_names, fused_names};
 ghost use Rattle.olk_members.specs.Plans.{plan_of, planned};
 
@@ -81,6 +81,24 @@ pub fn is_condition(members: &Map<String, Value>) -> bool
     ensures { result ≡ is_condition (members_view members.now.entries) }
 {
     has_member(members, "if") && (has_member(members, "then") || has_member(members, "else"))
+}
+
+/// Whether a value of `additionalProperties` holds other members to anything.
+fn is_restriction(value: &Value) -> bool
+    ensures { result ≡ (is_truth false (view value.now) || is_object (view value.now)) }
+{
+    value.as_bool() == Some(false) || value.is_object()
+}
+
+/// Whether the members of values that an object with these members neither declares nor matches are held to anything:
+/// `additionalProperties` is `false` or an object (JSON Schema 2020-12 Core, 10.3.2.3).
+pub fn is_restricted(members: &Map<String, Value>) -> bool
+    ensures { result ≡ is_restricted (members_view members.now.entries) }
+{
+    match member(members, "additionalProperties") {
+        Some(value) => is_restriction(value),
+        None => false,
+    }
 }
 
 impl<'a> Plan<'a> {

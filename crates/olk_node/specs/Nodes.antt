@@ -26,12 +26,12 @@ pub record Answers : Type 0 where
 module _ {K R : Type 0} (o : Kit K R) where
   abbrev pub node_step : SchemaNode-F K R Answers → Answers
   node_step n = record {
-    means = body_means (validator_means o.finds (λ a. a.means)) n.body;
-    report = λ u. body_report (validator_report o.finds (λ a. a.means) o.keyword_of (λ a. a.report) u) n.location n.body;
-    agrees = λ u v Q. body_agrees (λ k. validator_means o.finds (λ a. a.means) k) (λ k. validator_report o.finds (λ a. a.means) o.keyword_of (λ a. a.report) u k) u (λ k w R. validator_agrees o.finds (λ a. a.means) o.keyword_of (λ a. a.report) u (λ a x S. a.agrees u x S) k w R) n.location n.body v Q;
-    first = λ u. body_first (validator_first o.finds (λ a. a.means) o.keyword_of (λ a. a.report) u (λ a. a.first)) n.location n.body;
-    first_agrees = λ u v Q. body_first_agrees (λ k. validator_means o.finds (λ a. a.means) k) (λ k. validator_first o.finds (λ a. a.means) o.keyword_of (λ a. a.report) u (λ a. a.first) k) u (λ k w R. validator_first_agrees o.finds (λ a. a.means) o.keyword_of (λ a. a.report) (λ a. a.first) u (λ a x S. a.first_agrees u x S) k w R) n.location n.body v Q;
-    tree = λ u. body_tree (validator_tree o.finds (λ a. a.means) o.keyword_of (λ a. a.tree) u) n.location n.body;
+    means = body_means (validator_means o (λ a. a.means)) n.body;
+    report = λ u. body_report (validator_report o (λ a. a.means) (λ a. a.report) u) n.location n.body;
+    agrees = λ u v Q. body_agrees (λ k. validator_means o (λ a. a.means) k) (λ k. validator_report o (λ a. a.means) (λ a. a.report) u k) u (λ k w R. validator_agrees o (λ a. a.means) (λ a. a.report) u (λ a x S. a.agrees u x S) k w R) n.location n.body v Q;
+    first = λ u. body_first (validator_first o (λ a. a.means) (λ a. a.report) u (λ a. a.first)) n.location n.body;
+    first_agrees = λ u v Q. body_first_agrees (λ k. validator_means o (λ a. a.means) k) (λ k. validator_first o (λ a. a.means) (λ a. a.report) u (λ a. a.first) k) u (λ k w R. validator_first_agrees o (λ a. a.means) (λ a. a.report) (λ a. a.first) u (λ a x S. a.first_agrees u x S) k w R) n.location n.body v Q;
+    tree = λ u. body_tree (validator_tree o (λ a. a.means) (λ a. a.tree) u) n.location n.body;
     location = n.location;
   }
 

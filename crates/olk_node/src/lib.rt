@@ -13,8 +13,9 @@ pub use errors::{collect_errors_for, validate_for};
 pub use node::{
     AllOfValidator, AnyOfValidator, DependenciesValidator, DependentRequiredValidator,
     DependentSchemasValidator, IfElseValidator, IfThenElseValidator, IfThenValidator, Keyword,
-    NotValidator, OneOfValidator, PropertyDependenciesValidator, PropertyNamesObjectValidator,
-    SchemaNode, SingleAnyOfValidator, SingleOneOfValidator, SingleValueAllOfValidator,
-    SmallPropertiesValidator, SmallPropertiesWithRequired2Validator, SmallValidatorsMap,
+    NotValidator, OneOfValidator, PatternPropertiesValidator, PropertyDependenciesValidator,
+    PropertyNamesObjectValidator, SchemaNode, SingleAnyOfValidator, SingleOneOfValidator,
+    SingleValueAllOfValidator, SingleValuePatternPropertiesValidator, SmallPropertiesValidator,
+    SmallPropertiesWithRequired2Validator, SmallValidatorsMap,
 };
 pub use valid::is_valid_for;

@@ -10,17 +10,16 @@ use olk_tree::map::SmallMap;
 use olk_tree::node::{Body, KeywordOver};
 use olk_tree::not::Not;
 use olk_tree::one_of::{OneOf, SingleOneOf};
+use olk_tree::pattern_properties::{PatternProperties, SingleValuePatternProperties};
 use olk_tree::properties::{SmallProperties, SmallPropertiesWithRequired2};
 use olk_tree::property_dependencies::PropertyDependencies;
 use olk_tree::property_names::PropertyNames;
-use std::marker::PhantomData;
 
 /// A place of a schema.
 #[derive(Drop)]
 pub struct SchemaNode<K, R> {
     pub location: Location,
     pub body: Body<Keyword<K, R>>,
-    pub engine: PhantomData<R>,
 }
 
 impl<K, R> SchemaNode<K, R> {
@@ -31,11 +30,7 @@ impl<K, R> SchemaNode<K, R> {
         ensures place { (out-SchemaNode K R result).location ≡ location }
         ensures body { (out-SchemaNode K R result).body ≡ body }
     {
-        SchemaNode {
-            location,
-            body,
-            engine: PhantomData,
-        }
+        SchemaNode { location, body }
     }
 
     /// The place of the node in its schema, a JSON pointer (RFC 6901).
@@ -47,7 +42,7 @@ impl<K, R> SchemaNode<K, R> {
 }
 
 /// A keyword of a schema object.
-pub type Keyword<K, R> = KeywordOver<K, SchemaNode<K, R>>;
+pub type Keyword<K, R> = KeywordOver<K, R, SchemaNode<K, R>>;
 
 /// `allOf` of several branches, or of none, over nodes.
 pub type AllOfValidator<K, R> = AllOf<SchemaNode<K, R>>;
@@ -89,6 +84,15 @@ pub type SmallPropertiesWithRequired2Validator<K, R> = SmallPropertiesWithRequir
 
 /// Names in order, and beside each its node.
 pub type SmallValidatorsMap<K, R> = SmallMap<SchemaNode<K, R>>;
+
+/// `patternProperties` of several patterns, or of none, over nodes.
+pub type PatternPropertiesValidator<K, R> = PatternProperties<R, SchemaNode<K, R>>;
+
+/// `patternProperties` of one pattern, over a node.
+pub type SingleValuePatternPropertiesValidator<K, R> = SingleValuePatternProperties<
+    R,
+    SchemaNode<K, R>,
+>;
 
 /// `dependencies`, over nodes.
 pub type DependenciesValidator<K, R> = Dependencies<SchemaNode<K, R>>;

@@ -30,12 +30,11 @@ among_first k e h = sym (or_false (is_among k unsupported_names)) ∙ ap (λ b. 
 module _ (W : World) (k : Name) (other : IsOther k) where
   keyword_rest : is_among k pending ≡ false → (w : Keyword) → (if is_among k unsupported_names then unsupported else leaf_or_unread (W.reads k)) ≡ w → keyword_named W k ≡ w
   keyword_rest e w h =
-      let q = none_among k (codes "properties" ∷ codes "propertyNames" ∷ codes "required" ∷ codes "dependentRequired" ∷ codes "dependentSchemas" ∷ codes "dependencies" ∷ codes "propertyDependencies" ∷ codes "allOf" ∷ codes "anyOf" ∷ codes "oneOf" ∷ codes "not" ∷ codes "if" ∷ codes "then" ∷ codes "else" ∷ []) other in
+      let q = none_among k (codes "properties" ∷ codes "patternProperties" ∷ codes "propertyNames" ∷ codes "required" ∷ codes "dependentRequired" ∷ codes "dependentSchemas" ∷ codes "dependencies" ∷ codes "propertyDependencies" ∷ codes "allOf" ∷ codes "anyOf" ∷ codes "oneOf" ∷ codes "not" ∷ codes "if" ∷ codes "then" ∷ codes "else" ∷ []) other in
       let p = none_among k pending e in
       else_side _ _ _ _ q.0
-      (else_side _ _ _ _ p.0
-      (else_side _ _ _ _ p.1.0
       (else_side _ _ _ _ q.1.0
+      (else_side _ _ _ _ p.0
       (else_side _ _ _ _ q.1.1.0
       (else_side _ _ _ _ q.1.1.1.0
       (else_side _ _ _ _ q.1.1.1.1.0
@@ -47,7 +46,8 @@ module _ (W : World) (k : Name) (other : IsOther k) where
       (else_side _ _ _ _ q.1.1.1.1.1.1.1.1.1.1.0
       (else_side _ _ _ _ q.1.1.1.1.1.1.1.1.1.1.1.0
       (else_side _ _ _ _ q.1.1.1.1.1.1.1.1.1.1.1.1.0
-      (else_side _ _ _ _ q.1.1.1.1.1.1.1.1.1.1.1.1.1.0 h)))))))))))))))
+      (else_side _ _ _ _ q.1.1.1.1.1.1.1.1.1.1.1.1.1.0
+      (else_side _ _ _ _ q.1.1.1.1.1.1.1.1.1.1.1.1.1.1.0 h)))))))))))))))
 
   pub keyword_of_other : is_among k (unsupported_names ++ pending) ≡ false → keyword_named W k ≡ leaf_or_unread (W.reads k)
   keyword_of_other e =

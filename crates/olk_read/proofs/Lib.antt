@@ -1,7 +1,9 @@
 pub mod Spending
+pub mod SoFar
 pub mod KeywordNames
 pub mod Read
 mod Shapes
 mod Entries
 mod Texts
 mod NameLists
+mod PatternsSoFar

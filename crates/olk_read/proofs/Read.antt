@@ -1,5 +1,7 @@
 -- What is wrong with a keyword itself, and the shape that is read.
-use Rattle.std.specs.Prelude.{◌≡◌, Bool, true, false, cond, List, [], ◌∷◌, ◌++◌, codes}
+use Rattle.std.specs.Prelude.{◌≡◌, Bool, true, false, cond, List, [], ◌∷◌, ◌++◌, Vec, codes}
+use Rattle.std.specs.List.{flat_map}
+use Rattle.std.specs.declared.alloc.Global.{Global}
 use Rattle.std.specs.declared.alloc.AllocError.{AllocError}
 use Rattle.std.proofs.Common.{refl, sym, ◌∙◌, ap, subst, ◌⊎◌, inl, inr}
 use mathlib.Core.Bool.{true≢false}
@@ -17,6 +19,10 @@ use Rattle.olk_base.proofs.CountLemmas.{raised_zero}
 use Rattle.olk_reports.specs.declared.error.BuildError.{BuildError}
 use Rattle.olk_reports.specs.declared.error.BuildError.TheVariants.{Memory}
 use Rattle.olk_base.specs.Kit.{Kit}
+use Rattle.olk_base.specs.declared.pattern.CompiledPattern.{CompiledPattern}
+use Rattle.olk_members.specs.PatternProperties.{pattern_faults}
+use Rattle.olk_members.proofs.PatternProperties.{pattern_properties_refusals, made_together, unbuilt_together}
+use Rattle.olk_read.specs.Patterns.{PatternsAreRead, RefusesPatterns}
 use Rattle.olk_read.specs.Lists.{name_list_faults, list_faults, no_object_faults}
 use Rattle.olk_members.proofs.Dependencies.{dependent_required_refusals, dependencies_refusals}
 use Rattle.olk_members.proofs.PropertyDependencies.{property_dependencies_refusals}
@@ -26,7 +32,7 @@ use Rattle.olk_read.specs.Reading.{IsOther, IsShape, Fits, IsRead, own_faults, o
 use Rattle.olk_read.specs.declared.shape.Shape.{Shape}
 use Rattle.olk_read.specs.declared.shape.Shape.TheVariants as shape
 use Rattle.olk_read.proofs.KeywordNames.{refused_keyword}
-use Rattle.olk_read.proofs.Spending.{spends_nothing, within_nothing, within_exactly, tells_left, tells_right, tells_same, refuses_memory}
+use Rattle.olk_read.proofs.Spending.{spends_nothing, within_nothing, within_exactly, within_same, tells_left, tells_right, tells_same, refuses_memory}
 
 pub spends_leaf : (a b : Counts) → b ≡ count_leaf a → Spends a b (record no_cost { leaf_places = 1 })
 spends_leaf a b e = e ∙ rw (raised_zero a.compiled, raised_zero a.made, raised_zero a.asked, raised_zero a.unfinished) refl
@@ -66,6 +72,9 @@ module _ (W : World) (d : Data) (L : Path) where
 
   pub own_properties : own_faults W (codes "properties") d L ≡ unless_object d L
   own_properties = ap (λ s. unless_object s L) same
+
+  pub own_pattern_properties : own_faults W (codes "patternProperties") d L ≡ unless_object d L ++ flat_map (λ e. pattern_faults W L e.0) (members d)
+  own_pattern_properties = pattern_properties_refusals (malformations_step W pending) d (codes "patternProperties") W L ∙ ap (λ fs. unless_object d L ++ fs) (sym (unbuilt_together W L (members d)))
 
   pub own_property_names : own_faults W (codes "propertyNames") d L ≡ []
   own_property_names = refl
@@ -123,6 +132,12 @@ module _ (W : World) (d : Data) (L : Path) where
     second_told : (xs : List Fault) (w : Keyword) (e : BuildError) → w ≡ unsupported → TellsOneOf (fault (Unsupported k) d [] L ∷ []) e → TellsOneOf (own_refusals W k (read (malformations_step W pending) d) L w) e
     second_told xs w e h t = tells_same (ap (λ s. refusal (Unsupported k) s L ∷ []) (sym same) ∙ ap (own_refusals W k (read (malformations_step W pending) d) L) (sym h)) e t
 
+pub object_is_right : (d : Data) (L : Path) → is_object d ≡ true → unless_object d L ≡ []
+object_is_right d L e = ap (λ b. unless_kind b (SingleType object_type) d L) e
+
+pub array_is_right : (d : Data) (L : Path) → is_array d ≡ true → unless_array d L ≡ []
+array_is_right d L e = ap (λ b. unless_kind b (SingleType array_type) d L) e
+
 -- ---- what is told
 
 -- a keyword's own faults, where its name is known
@@ -132,14 +147,14 @@ refuses_own W k n d L fs c a e p q t = record { tells = tells_same (sym q ∙ ap
 pub refuses_without_memory : (fs : List Fault) (c : Cost) (a : Counts) (e : BuildError) (m : AllocError) → e ≡ Memory m → Refuses fs c a a e
 refuses_without_memory fs c a e m p = refuses_memory fs c a a e m p (within_nothing a c)
 
-module _ (W : World) (k : Name) (q : keyword_named W k ≡ leaf) (a b : Counts) (count : b ≡ count_leaf a) where
-  leaf_spent : Spends a b (own_cost_of (keyword_named W k))
-  leaf_spent = subst (λ w. Spends a b (own_cost_of w)) (sym q) (spends_leaf a b count)
+module _ (W : World) (k : Name) (d : Data) (q : keyword_named W k ≡ leaf) (a b : Counts) (count : b ≡ count_leaf a) where
+  leaf_spent : Spends a b (own_cost_of W d (keyword_named W k))
+  leaf_spent = subst (λ w. Spends a b (own_cost_of W d w)) (sym q) (spends_leaf a b count)
 
-  pub refuses_leaf : (d : Data) (L : Path) (e : BuildError) → is_among k pending ≡ false → W.fits k d ≡ false → TellsOneOf (fault (LeafRefused k) d [] L ∷ []) e → Refuses (own_faults W k d L) (own_cost_of (keyword_named W k)) a b e
-  refuses_leaf d L e h fits t = record { tells = tells_same (ap (λ f. unless_kind f (LeafRefused k) d L) (sym fits) ∙ sym (own_leaf W d L k h q)) e t; spends = within_exactly a b _ leaf_spent }
+  pub refuses_leaf : (L : Path) (e : BuildError) → is_among k pending ≡ false → W.fits k d ≡ false → TellsOneOf (fault (LeafRefused k) d [] L ∷ []) e → Refuses (own_faults W k d L) (own_cost_of W d (keyword_named W k)) a b e
+  refuses_leaf L e h fits t = record { tells = tells_same (ap (λ f. unless_kind f (LeafRefused k) d L) (sym fits) ∙ sym (own_leaf W d L k h q)) e t; spends = within_exactly a b _ leaf_spent }
 
-  pub refuses_leaf_memory : (fs : List Fault) (e : BuildError) (m : AllocError) → e ≡ Memory m → Refuses fs (own_cost_of (keyword_named W k)) a b e
+  pub refuses_leaf_memory : (fs : List Fault) (e : BuildError) (m : AllocError) → e ≡ Memory m → Refuses fs (own_cost_of W d (keyword_named W k)) a b e
   refuses_leaf_memory fs e m p = refuses_memory fs _ a b e m p (within_exactly a b _ leaf_spent)
 
 pub refuses_name : (W : World) (k : Name) (d : Data) (L : Path) (c : Cost) (a : Counts) (e : BuildError) → IsOther k → is_among k (unsupported_names ++ pending) ≡ true → TellsOneOf (fault (Unsupported k) d [] L ∷ []) e → Refuses (own_faults W k d L) c a a e
@@ -153,11 +168,20 @@ refuses_name W k d L c a e other among t = record { tells = by (refused_keyword 
 
 module _ {K R : Type 0} (o : Kit K R) where
   -- a keyword without own costs, by its name
-  pub is_read : (x : Shape K) (c : Bool) (k n : Name) (d : Data) (L : Path) (a : Counts) → k ≡ n → IsShape o n d x → Fits c x → own_faults o.world n d L ≡ [] → own_cost_of (keyword_named o.world n) ≡ no_cost → IsRead o x c k d L a a
+  pub is_read : (x : Shape K R) (c : Bool) (k n : Name) (d : Data) (L : Path) (a : Counts) → k ≡ n → IsShape o n d x → Fits c x → own_faults o.world n d L ≡ [] → own_cost_of o.world d (keyword_named o.world n) ≡ no_cost → IsRead o x c k d L a a
   is_read x c k n d L a p s f clean z = subst (λ i. IsRead o x c i d L a a) (sym p) (record { shape = s; fits = f; clean = clean; spends = subst (Spends a a) (sym z) (spends_nothing a) })
 
+  -- the patterns of an object's entries
+  pub patterns_are_read : (v : Vec (CompiledPattern R) Global) (c : Bool) (k : Name) (d : Data) (L : Path) (a b : Counts) → k ≡ codes "patternProperties" → is_object d ≡ true → PatternsAreRead o v.items (members d) L a b → IsRead o (shape.PatternProperties v) c k d L a b
+  patterns_are_read v c k d L a b p is_map h = subst (λ i. IsRead o (shape.PatternProperties v) c i d L a b) (sym p) (record {
+    shape = (refl, is_map, h.stand);
+    fits = tt;
+    clean = own_pattern_properties o.world d L ∙ (λ i. object_is_right d L is_map i ++ h.clean i);
+    spends = subst (Spends a b) (made_together o.world (members d)) h.spends;
+  })
+
   -- one of the three that are read together
-  pub conditional_is_read : (x : Shape K) (c : Bool) (k n : Name) (d : Data) (L : Path) (a : Counts) → k ≡ n → IsShape o n d x → (c ≡ true → Fits c x) → is_conditional_name n ≡ true → own_faults o.world n d L ≡ [] → own_cost_of (keyword_named o.world n) ≡ no_cost → IsRead o (cond c x shape.Unpaired) c k d L a a
+  pub conditional_is_read : (x : Shape K R) (c : Bool) (k n : Name) (d : Data) (L : Path) (a : Counts) → k ≡ n → IsShape o n d x → (c ≡ true → Fits c x) → is_conditional_name n ≡ true → own_faults o.world n d L ≡ [] → own_cost_of o.world d (keyword_named o.world n) ≡ no_cost → IsRead o (cond c x shape.Unpaired) c k d L a a
   conditional_is_read x true k n d L a p s f e clean z = is_read x true k n d L a p s (f refl) clean z
   conditional_is_read x false k n d L a p s f e clean z = is_read shape.Unpaired false k n d L a p e refl clean z
 
@@ -175,17 +199,11 @@ module _ {K R : Type 0} (o : Kit K R) where
     shape = (q, name, same);
     fits = tt;
     clean = own_leaf o.world d L k h q ∙ ap (λ f. unless_kind f (LeafRefused k) d L) fits;
-    spends = leaf_spent o.world k q a b count;
+    spends = leaf_spent o.world k d q a b count;
   }
 
   pub unread_is_read : (k : Name) (d : Data) (L : Path) (a : Counts) → keyword_named o.world k ≡ unread → is_among k pending ≡ false → (c : Bool) → IsRead o shape.Unread c k d L a a
-  unread_is_read k d L a q h c = record { shape = q; fits = tt; clean = own_unread o.world d L k h q; spends = subst (λ w. Spends a a (own_cost_of w)) (sym q) (spends_nothing a) }
-
-pub object_is_right : (d : Data) (L : Path) → is_object d ≡ true → unless_object d L ≡ []
-object_is_right d L e = ap (λ b. unless_kind b (SingleType object_type) d L) e
-
-pub array_is_right : (d : Data) (L : Path) → is_array d ≡ true → unless_array d L ≡ []
-array_is_right d L e = ap (λ b. unless_kind b (SingleType array_type) d L) e
+  unread_is_read k d L a q h c = record { shape = q; fits = tt; clean = own_unread o.world d L k h q; spends = subst (λ w. Spends a a (own_cost_of o.world d w)) (sym q) (spends_nothing a) }
 
 module _ (W : World) (d : Data) (L : Path) (object : is_object d ≡ true) where
   pub right_dependent_required : name_list_faults L (members d) ≡ [] → own_faults W (codes "dependentRequired") d L ≡ []
@@ -196,3 +214,10 @@ module _ (W : World) (d : Data) (L : Path) (object : is_object d ≡ true) where
 
   pub right_property_dependencies : no_object_faults L (members d) ≡ [] → own_faults W (codes "propertyDependencies") d L ≡ []
   right_property_dependencies h = own_property_dependencies W d L ∙ (λ i. object_is_right d L object i ++ h i)
+
+-- a refusal of an object's patterns is one of the keyword
+pub refuses_patterns : {K R : Type 0} (o : Kit K R) (k : Name) (d : Data) (L : Path) (a b : Counts) (e : BuildError) → k ≡ codes "patternProperties" → is_object d ≡ true → RefusesPatterns o (members d) L a b e → Refuses (own_faults o.world k d L) (own_cost_of o.world d (keyword_named o.world k)) a b e
+refuses_patterns o k d L a b e p is_map h = subst (λ n. Refuses (own_faults o.world n d L) (own_cost_of o.world d (keyword_named o.world n)) a b e) (sym p) (record {
+  tells = tells_same (sym (own_pattern_properties o.world d L ∙ (λ i. object_is_right d L is_map i ++ flat_map (λ x. pattern_faults o.world L x.0) (members d)))) e h.tells;
+  spends = within_same a b _ _ (made_together o.world (members d)) h.spends;
+})

@@ -1,3 +1,4 @@
 pub mod Refusing
 pub mod Lists
+pub mod Patterns
 pub mod Reading

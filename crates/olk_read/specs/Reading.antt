@@ -4,7 +4,7 @@ use Rattle.serde_json.specs.Data.{Data}
 use Rattle.serde_json.specs.View.{view}
 use Rattle.olk_spec.specs.Names.{Name, Path, put_if, is_among}
 use Rattle.olk_spec.specs.World.{World}
-use Rattle.olk_spec.specs.Vocabulary.{Keyword, leaf, unread, unsupported_names, keyword_named}
+use Rattle.olk_spec.specs.Vocabulary.{Keyword, pattern_properties, leaf, unread, unsupported_names, keyword_named}
 use Rattle.olk_spec.specs.Schemas.{read, members, texts, is_object, is_array, is_truth}
 use Rattle.olk_spec.specs.Malformed.{pending, refusal, own_refusals, malformations_step}
 use Rattle.olk_spec.specs.Faults.{Fault, Unsupported}
@@ -15,7 +15,9 @@ use Rattle.olk_base.specs.Kit.{Kit}
 use Rattle.olk_members.specs.Conditions.{is_conditional_name}
 use Rattle.olk_members.specs.Dependencies.{are_lists}
 use Rattle.olk_read.specs.Lists.{list_of, names_in, names_in_list, names_of}
+use Rattle.olk_members.specs.PatternProperties.{matchers_made}
 use Rattle.olk_read.specs.Refusing.{Spends, Refuses}
+use Rattle.olk_read.specs.Patterns.{ArePatterns}
 use Rattle.olk_read.specs.declared.reading.KeywordFor.{KeywordFor}
 use Rattle.olk_read.specs.declared.reading.KeywordFor.TheVariants as for
 use Rattle.olk_read.specs.declared.shape.Shape.{Shape}
@@ -24,8 +26,9 @@ use Rattle.olk_read.specs.declared.shape.ReadPlaces.{ReadPlaces}
 use Rattle.olk_read.specs.declared.shape.ReadPlaces.TheVariants.{Nothing, Itself, Entries, SchemaEntries, InnerEntries, Branches}
 
 -- which places are read
-abbrev pub reads_of : {K : Type 0} → Shape K → ReadPlaces
+abbrev pub reads_of : {K R : Type 0} → Shape K R → ReadPlaces
 reads_of (shape.Properties n) = Entries
+reads_of (shape.PatternProperties v) = Entries
 reads_of shape.PropertyNames = Itself
 reads_of (shape.DependentSchemas n) = Entries
 reads_of (shape.Dependencies n v) = SchemaEntries
@@ -41,11 +44,12 @@ reads_of x = Nothing
 
 -- none of the keywords that are read here by name
 abbrev pub IsOther : Name → Type 0
-IsOther n = is_among n (codes "properties" ∷ codes "propertyNames" ∷ codes "required" ∷ codes "dependentRequired" ∷ codes "dependentSchemas" ∷ codes "dependencies" ∷ codes "propertyDependencies" ∷ codes "allOf" ∷ codes "anyOf" ∷ codes "oneOf" ∷ codes "not" ∷ codes "if" ∷ codes "then" ∷ codes "else" ∷ []) ≡ false
+IsOther n = is_among n (codes "properties" ∷ codes "patternProperties" ∷ codes "propertyNames" ∷ codes "required" ∷ codes "dependentRequired" ∷ codes "dependentSchemas" ∷ codes "dependencies" ∷ codes "propertyDependencies" ∷ codes "allOf" ∷ codes "anyOf" ∷ codes "oneOf" ∷ codes "not" ∷ codes "if" ∷ codes "then" ∷ codes "else" ∷ []) ≡ false
 
 -- which keyword a name is
 abbrev pub IsFor : Name → KeywordFor → Type 0
 IsFor n for.Properties = n ≡ codes "properties"
+IsFor n for.PatternProperties = n ≡ codes "patternProperties"
 IsFor n for.PropertyNames = n ≡ codes "propertyNames"
 IsFor n for.Required = n ≡ codes "required"
 IsFor n for.DependentRequired = n ≡ codes "dependentRequired"
@@ -66,13 +70,14 @@ IsFor n for.Other = IsOther n × (is_among n (unsupported_names ++ pending) ≡ 
 abbrev pub own_faults : World → Name → Data → Path → List Fault
 own_faults W k d L = put_if (is_among k pending) (refusal (Unsupported k) (read (malformations_step W pending) d).whole.schema L) [] ++ own_refusals W k (read (malformations_step W pending) d) L (keyword_named W k)
 
--- what is counted for a keyword itself
-abbrev pub own_cost_of : Keyword → Cost
-own_cost_of leaf = record no_cost { leaf_places = 1 }
-own_cost_of w = no_cost
+-- what is counted for a keyword itself while its value is read
+abbrev pub own_cost_of : World → Data → Keyword → Cost
+own_cost_of W d leaf = record no_cost { leaf_places = 1 }
+own_cost_of W d pattern_properties = matchers_made W d
+own_cost_of W d w = no_cost
 
 -- it is read as it is to be where c says whether `if` is read
-abbrev pub Fits : {K : Type 0} → Bool → Shape K → Type 0
+abbrev pub Fits : {K R : Type 0} → Bool → Shape K R → Type 0
 Fits c shape.If = c ≡ true
 Fits c shape.Then = c ≡ true
 Fits c shape.Else = c ≡ true
@@ -81,8 +86,9 @@ Fits c x = ⊤
 
 module _ {K R : Type 0} (o : Kit K R) where
   -- the shape of the keyword of the name k and the value d
-  abbrev pub IsShape : Name → Data → Shape K → Type 0
+  abbrev pub IsShape : Name → Data → Shape K R → Type 0
   IsShape k d (shape.Properties n) = (k ≡ codes "properties") × (is_object d ≡ true) × (n ≡ map (λ e. e.0) (members d))
+  IsShape k d (shape.PatternProperties v) = (k ≡ codes "patternProperties") × (is_object d ≡ true) × ArePatterns o v.items (members d)
   IsShape k d shape.PropertyNames = (k ≡ codes "propertyNames") × (is_object d ≡ true)
   IsShape k d shape.NoNames = (k ≡ codes "propertyNames") × (is_truth false d ≡ true)
   IsShape k d shape.AnyNames = (k ≡ codes "propertyNames") × (is_object d ≡ false) × (is_truth false d ≡ false)
@@ -103,12 +109,12 @@ module _ {K R : Type 0} (o : Kit K R) where
   IsShape k d shape.Unread = keyword_named o.world k ≡ unread
 
   -- a keyword's value is read, where c says whether `if` is
-  pub record IsRead (x : Shape K) (c : Bool) (k : Name) (d : Data) (L : Path) (old new : Counts) : Type 0 where
+  pub record IsRead (x : Shape K R) (c : Bool) (k : Name) (d : Data) (L : Path) (old new : Counts) : Type 0 where
     pub shape : IsShape k d x
     pub fits : Fits c x
     pub clean : own_faults o.world k d L ≡ []
-    pub spends : Spends old new (own_cost_of (keyword_named o.world k))
+    pub spends : Spends old new (own_cost_of o.world d (keyword_named o.world k))
 
   -- or what is wrong with the keyword itself
   abbrev pub RefusesKeyword : Name → Data → Path → Counts → Counts → BuildError → Type 0
-  RefusesKeyword k d L old new e = Refuses (own_faults o.world k d L) (own_cost_of (keyword_named o.world k)) old new e
+  RefusesKeyword k d L old new e = Refuses (own_faults o.world k d L) (own_cost_of o.world d (keyword_named o.world k)) old new e

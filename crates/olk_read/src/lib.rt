@@ -6,6 +6,7 @@
 
 mod lists;
 mod makers;
+mod patterns;
 mod reading;
 mod refusal;
 mod shape;

@@ -15,6 +15,7 @@ ghost use Rattle.olk_read.specs.declared.shape.Shape.TheVariants.{Unpaired, Prop
 
 use crate::lists::append;
 use crate::makers::Makers;
+use crate::patterns::patterns_of_entries;
 use crate::refusal::{refuse, refuse_type};
 use crate::shape::Shape;
 use olk_base::{JsonType, MakeError, MakeLeaf, MakeRegex, Meter};
@@ -27,6 +28,7 @@ use std::alloc::Global;
 #[derive(Clone, Copy)]
 pub enum KeywordFor {
     Properties,
+    PatternProperties,
     PropertyNames,
     Required,
     DependentRequired,
@@ -45,6 +47,7 @@ pub enum KeywordFor {
 }
 
 /// Whether a keyword is refused by its name.
+#[inline(always)]
 fn is_refused(name: &str) -> bool
     ensures { result ≡ is_among name.now (unsupported_names ++ pending) }
 {
@@ -55,7 +58,6 @@ fn is_refused(name: &str) -> bool
             | "$recursiveRef"
             | "unevaluatedProperties"
             | "unevaluatedItems"
-            | "patternProperties"
             | "additionalProperties"
     )
 }
@@ -66,6 +68,7 @@ fn keyword_for(name: &str) -> KeywordFor
 {
     match name {
         "properties" => KeywordFor::Properties,
+        "patternProperties" => KeywordFor::PatternProperties,
         "propertyNames" => KeywordFor::PropertyNames,
         "required" => KeywordFor::Required,
         "dependentRequired" => KeywordFor::DependentRequired,
@@ -435,12 +438,12 @@ fn choices_of_object<'a>(
 /// # Errors
 ///
 /// What is no array is refused; else want of memory.
-fn shape_of_branches<'a, K: Drop>(
+fn shape_of_branches<'a, K: Drop, R: Drop>(
     alloc: Global,
     location: &Location,
-    shape: Shape<K>,
+    shape: Shape<K, R>,
     value: &'a Value,
-) -> Result<Shape<K>, BuildError<'a>>
+) -> Result<Shape<K, R>, BuildError<'a>>
     ensures array { IfOk result (λ x. is_array (view value.now) ≡ true) }
     ensures same { IfOk result (λ x. x ≡ shape) }
     ensures refused { IfErr result (TellsOneOf (unless_array (view value.now) location.now)) }
@@ -450,14 +453,14 @@ fn shape_of_branches<'a, K: Drop>(
 }
 
 /// The shape of `if`, `then` or `else`, unpaired where `if` is not read.
-fn shape_beside<K: Drop>(condition: bool, shape: Shape<K>) -> Shape<K>
+fn shape_beside<K: Drop, R: Drop>(condition: bool, shape: Shape<K, R>) -> Shape<K, R>
     ensures { result ≡ cond condition shape Unpaired }
 {
     if condition { shape } else { Shape::Unpaired }
 }
 
 /// The shape of `propertyNames`: an object is a schema for each name, `false` allows no name, anything else any.
-fn shape_of_names<K: Drop>(value: &Value) -> Shape<K>
+fn shape_of_names<K: Drop, R: Drop>(value: &Value) -> Shape<K, R>
     ensures { result ≡ cond (is_object (view value.now)) PropertyNames
         (cond (is_truth false (view value.now)) NoNames AnyNames) }
 {
@@ -478,6 +481,7 @@ fn shape_of_names<K: Drop>(value: &Value) -> Shape<K>
 /// # Errors
 ///
 /// What is wrong with the keyword itself, apart from the schemas inside; else want of memory.
+#[inline(always)]
 pub fn read_keyword<'a, L: MakeLeaf, M: MakeRegex>(
     alloc: Global,
     makers: &Makers<'_, L, M>,
@@ -486,7 +490,7 @@ pub fn read_keyword<'a, L: MakeLeaf, M: MakeRegex>(
     location: &Location,
     name: &'a str,
     value: &'a Value,
-) -> Result<Shape<L::Leaf>, BuildError<'a>>
+) -> Result<Shape<L::Leaf, M::Engine>, BuildError<'a>>
     ensures built { IfOk result (λ x. IsRead (kit L.Leaf.Leaf M.Engine.RegexEngine) x
         condition name.now (view value.now) location.now meter.old meter.new) }
     ensures refused { IfErr result (RefusesKeyword (kit L.Leaf.Leaf M.Engine.RegexEngine)
@@ -494,6 +498,11 @@ pub fn read_keyword<'a, L: MakeLeaf, M: MakeRegex>(
 {
     match keyword_for(name) {
         KeywordFor::Properties => Ok(Shape::Properties(names_of_object(alloc, location, value)?)),
+        KeywordFor::PatternProperties => {
+            let entries = members_of_object(alloc, location, value)?;
+            let patterns = patterns_of_entries(alloc, makers, meter, location, entries)?;
+            Ok(Shape::PatternProperties(patterns))
+        }
         KeywordFor::PropertyNames => Ok(shape_of_names(value)),
         KeywordFor::Required => Ok(Shape::Required(texts_of_array(alloc, location, value)?)),
         KeywordFor::DependentRequired => {
@@ -538,7 +547,7 @@ fn read_other<'a, L: MakeLeaf, M: MakeRegex>(
     location: &Location,
     name: &'a str,
     value: &'a Value,
-) -> Result<Shape<L::Leaf>, BuildError<'a>>
+) -> Result<Shape<L::Leaf, M::Engine>, BuildError<'a>>
     requires other { IsOther name.now }
     requires let_through { is_among name.now (unsupported_names ++ pending) ≡ false }
     ensures built { IfOk result (λ x. (c : Bool)
@@ -565,7 +574,7 @@ fn read_leaf<'a, L: MakeLeaf, M: MakeRegex>(
     location: &Location,
     name: &'a str,
     value: &'a Value,
-) -> Result<Shape<L::Leaf>, BuildError<'a>>
+) -> Result<Shape<L::Leaf, M::Engine>, BuildError<'a>>
     requires pending { is_among name.now pending ≡ false }
     requires leaf { keyword_named (world L.Leaf.Leaf M.Engine.RegexEngine) name.now ≡ leaf }
     ensures built { IfOk result (λ x. (c : Bool)

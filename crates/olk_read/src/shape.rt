@@ -2,17 +2,19 @@
 ghost use Rattle.std.specs.Prelude.{◌≡◌};
 ghost use Rattle.olk_read.specs.Reading.{reads_of};
 
+use olk_base::CompiledPattern;
 use olk_tree::map::SortedNames;
 use serde_json::Value;
 
 /// A keyword that is read, with what its value holds apart from the schemas inside; `Unread` is a name that nothing
-/// reads, and `Unpaired` is `if`, `then` or `else` where `if` is not read. `NoNames` is `propertyNames` that is `false`,
-/// and `AnyNames` one that is neither `false` nor an object. Beside the keys of `dependentRequired` and `dependencies`
-/// stand the names that each entry lists, none where it is a schema; beside those of `propertyDependencies` the texts of
-/// each entry.
+/// reads, and `Unpaired` is `if`, `then` or `else` where `if` is not read. `NoNames` is `propertyNames` that is
+/// `false`, and `AnyNames` one that is neither `false` nor an object. The patterns of `patternProperties` stand in the
+/// order of its entries. Beside the keys of `dependentRequired` and `dependencies` stand the names that each entry
+/// lists, none where it is a schema; beside those of `propertyDependencies` the texts of each entry.
 #[derive(Drop)]
-pub enum Shape<K> {
+pub enum Shape<K, R> {
     Properties(SortedNames),
+    PatternProperties(Vec<CompiledPattern<R>>),
     PropertyNames,
     NoNames,
     AnyNames,
@@ -45,13 +47,15 @@ pub enum ReadPlaces {
     Branches,
 }
 
-impl<K> Shape<K> {
+impl<K, R> Shape<K, R> {
     /// The places that are read.
     pub fn reads(&self) -> ReadPlaces
         ensures { result ≡ reads_of self.now }
     {
         match self {
-            Shape::Properties(_) | Shape::DependentSchemas(_) => ReadPlaces::Entries,
+            Shape::Properties(_) | Shape::PatternProperties(_) | Shape::DependentSchemas(_) => {
+                ReadPlaces::Entries
+            }
             Shape::Dependencies(_, _) => ReadPlaces::SchemaEntries,
             Shape::PropertyDependencies(_, _) => ReadPlaces::InnerEntries,
             Shape::AllOf | Shape::AnyOf | Shape::OneOf => ReadPlaces::Branches,

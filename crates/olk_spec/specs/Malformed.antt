@@ -12,7 +12,7 @@ use Rattle.olk_spec.specs.Faults.{Fault, fault, Kind, SingleType, MultipleTypes,
 
 -- the keywords that are defined here and not compiled yet
 abbrev pub pending : List Name
-pending = codes "patternProperties" ∷ codes "additionalProperties" ∷ []
+pending = codes "additionalProperties" ∷ []
 
 -- ---- the places that a keyword reads, each with its path below the schema object
 

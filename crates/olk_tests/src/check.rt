@@ -1,7 +1,7 @@
 //! Validators that are built by hand, over a leaf that refuses texts.
-use olk_base::{Node, ValidationContext};
-use olk_check::IsValid;
-use olk_low_tests::doubles::{EqualTo, NoText};
+use olk_base::{Meter, Node, ValidationContext, compile_pattern};
+use olk_check::{IsValid, matches};
+use olk_low_tests::doubles::{EqualTo, Equality, NoText};
 use olk_node::{Keyword, SchemaNode, is_valid_for};
 use olk_reports::Location;
 use olk_tree::all_of::{AllOf, SingleValueAllOf};
@@ -13,7 +13,6 @@ use olk_tree::properties::{SmallProperties, SmallPropertiesWithRequired2};
 use olk_tree::required::RequiredValidator;
 use serde_json::{Map, Value};
 use std::alloc::{AllocError, Global};
-use std::marker::PhantomData;
 use std::process::Abort;
 use std::test::Fail;
 
@@ -27,7 +26,6 @@ fn place(alloc: Global, body: Body<PlainKeyword>) -> PlainNode {
     SchemaNode {
         location: Location::new(alloc),
         body,
-        engine: PhantomData,
     }
 }
 
@@ -302,5 +300,37 @@ fn declared_names(rt: HostRuntime) -> Result<(), Fail> {
 fn declared_names_beside_no_object(rt: HostRuntime) -> Result<(), Fail> {
     let place = declared(rt.alloc(), 2)?;
     assert!(rt; accepts(&place, &Value::Null));
+    Ok(())
+}
+
+// Whether the pattern matches the name under the answer, with how many engines are asked and how many matches are left
+// unfinished.
+fn matched(
+    alloc: Global,
+    pattern: &str,
+    name: &str,
+    answer: bool,
+) -> Result<(bool, u64, u64), Fail> {
+    let Ok(pattern) = compile_pattern(alloc, &Equality, pattern, &mut Meter::new()) else {
+        return Err(Fail::from("not built"));
+    };
+    let mut ctx = ValidationContext::new(answer);
+    let found = matches(&pattern, name, &mut ctx);
+    Ok((found, ctx.meter().asked(), ctx.meter().unfinished()))
+}
+
+#[test]
+fn names_that_patterns_match(rt: HostRuntime) -> Result<(), Fail> {
+    for (pattern, name, answer, found, asked, unfinished) in [
+        ("^a", "ab", false, true, 0u64, 0u64),
+        ("^a", "ba", true, false, 0, 0),
+        ("a", "a", false, true, 1, 0),
+        ("a", "ab", true, false, 1, 0),
+        ("?", "a", false, false, 1, 1),
+        ("?", "a", true, true, 1, 1),
+    ] {
+        let told = matched(rt.alloc(), pattern, name, answer)?;
+        assert_eq!(rt; told, (found, asked, unfinished), "{pattern} {name}");
+    }
     Ok(())
 }

@@ -1,10 +1,10 @@
 //! What building and asking count.
 use object_logic::{
-    BuildError, Leaf, MakeError, MakeLeaf, Meter, Node, ValidationContext, Validator,
-    holds_whole_numbers,
+    BuildError, Leaf, MakeError, MakeLeaf, Meter, Node, ValidateError, ValidationContext,
+    Validator, holds_whole_numbers,
 };
 use olk_bench::{BenchLeaf, BenchLeaves, BenchRegex, BenchRegexes};
-use olk_low_tests::counting::Counting;
+use olk_low_tests::counting::{Counted, Counting};
 use serde_json::Value;
 use std::alloc::{AllocError, Global};
 use std::cell::Cell;
@@ -110,7 +110,7 @@ fn expect_no_counts(
 #[test]
 fn asking_counts_nothing(rt: HostRuntime) -> Result<(), Fail> {
     let schema = concat!(
-        r#"{"allOf":[{"required":["a"]},{}],"anyOf":[{"type":"null"},{"type":"object"}],"not":{"required":["b"]},"#,
+        r#"{"allOf":[{"required":["a"]},{"patternProperties":{"^a":{"minimum":5},"d$":false}}],"anyOf":[{"type":"null"},{"type":"object"}],"not":{"required":["b"]},"#,
         r#""dependencies":{"a":["c"],"c":{"required":["a"]}},"dependentRequired":{"a":["c"]},"#,
         r#""dependentSchemas":{"a":{"required":["c"]}},"propertyDependencies":{"b":{"t":false}},"#,
         r#""else":{"required":["c"]},"if":{"required":["b"]},"oneOf":[{"required":["b"]},{"required":["c"]}],"then":false,"#,
@@ -211,6 +211,47 @@ fn each_place_and_leaf_is_made_once(rt: HostRuntime) -> Result<(), Fail> {
     for row in MADE.lines() {
         expect_made(&rt, rt.alloc(), row)?;
     }
+    Ok(())
+}
+
+// A schema, and what building counts of its patterns.
+const PATTERNS_MADE: &str =
+    r#"{"patternProperties":{"a":{"type":"null"}}} | 2 places, 1 leaves, 1 engines
+{"patternProperties":{"a":{},"b":true,"^c":{"minLength":1}}} | 4 places, 1 leaves, 2 engines
+{"patternProperties":{"^a":{},"a$":{},"^a$":true,"^(a|b)$":false,"^\\S*$":{}}} | 6 places, 0 leaves, 0 engines
+{"patternProperties":{"a":{"patternProperties":{"a":{}}}}} | 3 places, 0 leaves, 2 engines
+{"allOf":[{"patternProperties":{"a":{}}},{"patternProperties":{"a":{},"(slow)b":{}}},{}]} | 7 places, 0 leaves, 3 engines
+{"patternProperties":{"a":{"type":"null"}},"properties":{"a":{},"b":{}},"required":["a","b"]} | 4 places, 1 leaves, 1 engines
+{"patternProperties":{}} | 1 places, 0 leaves, 0 engines"#;
+
+fn expect_patterns_made(rt: &impl Abort, alloc: Global, row: &str) -> Result<(), Fail> {
+    let (text, counted) = row.split_once(" | ").ok_or("a row of one cell")?;
+    let schema = Value::from_str(alloc, text)?;
+    let mut meter = Meter::new();
+    let made = made(alloc, &schema, &mut meter)?;
+    let [places, leaves, engines, asked, unfinished] = counts(&meter);
+    let found = format!(in alloc; "{places} places, {leaves} leaves, {engines} engines")?;
+    assert_eq!(rt; found.as_str(), counted, "{text}");
+    assert_eq!(rt; made, (leaves, engines), "{text}");
+    assert_eq!(rt; (asked, unfinished), (0, 0), "{text}");
+    Ok(())
+}
+
+#[test]
+fn each_engine_is_made_once(rt: HostRuntime) -> Result<(), Fail> {
+    for row in PATTERNS_MADE.lines() {
+        expect_patterns_made(&rt, rt.alloc(), row)?;
+    }
+    Ok(())
+}
+
+#[test]
+fn an_engine_that_is_refused(rt: HostRuntime) -> Result<(), Fail> {
+    let alloc = rt.alloc();
+    let schema = Value::from_str(alloc, r#"{"patternProperties":{"^a":{},"a(":{}}}"#)?;
+    let mut meter = Meter::new();
+    assert_eq!(rt; made(alloc, &schema, &mut meter)?, (0, 1));
+    assert_eq!(rt; (meter.leaves(), meter.made(), meter.asked()), (0, 1, 0));
     Ok(())
 }
 
@@ -334,6 +375,198 @@ fn expect_asked(rt: &impl Abort, alloc: Global, row: &str) -> Result<(), Fail> {
 fn a_leaf_is_asked_where_it_is_due(rt: HostRuntime) -> Result<(), Fail> {
     for row in ASKED.lines() {
         expect_asked(&rt, rt.alloc(), row)?;
+    }
+    Ok(())
+}
+
+// ---- engines that are asked
+
+type CountingValidator<'c> = Validator<BenchLeaf, Counted<'c, BenchRegex>>;
+
+// A validator whose engines count in cells how many they are, and how often they are asked.
+fn counting<'c>(
+    alloc: Global,
+    schema: &Value,
+    made: &'c Cell<u64>,
+    asked: &'c Cell<u64>,
+) -> Result<CountingValidator<'c>, Fail> {
+    let patterns = Counting {
+        maker: BenchRegexes,
+        made,
+        asked,
+    };
+    match Validator::build(alloc, &BenchLeaves, &patterns, schema, &mut Meter::new()) {
+        Ok(validator) => Ok(validator),
+        Err(_) => Err(Fail::new("not built")),
+    }
+}
+
+fn validate_accepts(
+    validator: &CountingValidator<'_>,
+    alloc: Global,
+    instance: &Value,
+    ctx: &mut ValidationContext,
+) -> Result<bool, AllocError> {
+    match validator.validate(alloc, instance, ctx) {
+        Ok(()) => Ok(true),
+        Err(ValidateError::Invalid(_)) => Ok(false),
+        Err(ValidateError::Memory(error)) => Err(error),
+    }
+}
+
+fn collect_errors_accepts<'a>(
+    validator: &'a CountingValidator<'_>,
+    alloc: Global,
+    instance: &'a Value,
+    ctx: &mut ValidationContext,
+) -> Result<bool, AllocError> {
+    let mut errors = Vec::new(alloc);
+    validator.collect_errors(alloc, instance, ctx, &mut errors)?;
+    Ok(errors.is_empty())
+}
+
+fn evaluate_accepts(
+    validator: &CountingValidator<'_>,
+    alloc: Global,
+    instance: &Value,
+    ctx: &mut ValidationContext,
+) -> Result<bool, AllocError> {
+    let evaluation = validator.evaluate(alloc, instance, ctx)?;
+    Ok(evaluation.flag().valid)
+}
+
+// The four ways of asking.
+const WAYS: [&str; 4] = ["is_valid", "validate", "collect_errors", "evaluate"];
+
+fn accepts_by<'a>(
+    way: &str,
+    validator: &'a CountingValidator<'_>,
+    alloc: Global,
+    instance: &'a Value,
+    ctx: &mut ValidationContext,
+) -> Result<bool, AllocError> {
+    match way {
+        "is_valid" => Ok(validator.is_valid(instance, ctx)),
+        "validate" => validate_accepts(validator, alloc, instance, ctx),
+        "collect_errors" => collect_errors_accepts(validator, alloc, instance, ctx),
+        _ => evaluate_accepts(validator, alloc, instance, ctx),
+    }
+}
+
+// What a way of asking comes to under an answer.
+#[derive(Drop)]
+struct Told {
+    accepted: bool,
+    // how often engines were asked, as they count it and as the context does
+    asked: (u64, u64),
+    unfinished: u64,
+}
+
+fn told_by(
+    way: &str,
+    alloc: Global,
+    schema: &Value,
+    instance: &Value,
+    answer: bool,
+) -> Result<Told, Fail> {
+    let (made, asked) = (Cell::new(0), Cell::new(0));
+    let validator = counting(alloc, schema, &made, &asked)?;
+    let mut ctx = ValidationContext::new(answer);
+    let accepted = accepts_by(way, &validator, alloc, instance, &mut ctx)?;
+    let [places, leaves, engines, asks, unfinished] = counts(ctx.meter());
+    if (places, leaves, engines, ctx.answer()) != (0, 0, 0, answer) {
+        return Err(Fail::new("another count rose, or the answer changed"));
+    }
+    Ok(Told {
+        accepted,
+        asked: (asked.get(), asks),
+        unfinished,
+    })
+}
+
+// What a row expects: whether the instance is accepted where an unfinished match is none, and where it is one; how often
+// a verdict asks the engines, and whether each of these asks is left unfinished.
+#[derive(Drop)]
+struct Wanted {
+    accepted: (bool, bool),
+    asked: u64,
+    unfinished: bool,
+}
+
+// Every way asks as often as it counts, and where a verdict asks; a verdict as often as the row says.
+fn expect_asks_of(
+    rt: &impl Abort,
+    row: &str,
+    way: &str,
+    told: &Told,
+    wanted: &Wanted,
+    accepted: bool,
+) {
+    let (asked, counted) = told.asked;
+    assert_eq!(rt; told.accepted, accepted, "{way} {row}");
+    assert_eq!(rt; asked, counted, "{way} {row}");
+    assert_eq!(rt; asked > 0, wanted.asked > 0, "{way} {row}");
+    let unfinished = if wanted.unfinished { asked } else { 0 };
+    assert_eq!(rt; told.unfinished, unfinished, "{way} {row}");
+    if way == "is_valid" {
+        assert_eq!(rt; asked, wanted.asked, "{row}");
+    }
+}
+
+fn read_wanted(verdicts: &str, asks: &str) -> Result<Wanted, Fail> {
+    let accepted = match verdicts {
+        "accepted" => (true, true),
+        "refused" => (false, false),
+        "accepted or refused" => (true, false),
+        "refused or accepted" => (false, true),
+        _ => return Err(Fail::new("no verdict")),
+    };
+    let (count, kind) = asks.split_once(" ").ok_or("no count")?;
+    Ok(Wanted {
+        accepted,
+        asked: count.parse().or(Err("no number"))?,
+        unfinished: kind == "unfinished",
+    })
+}
+
+// A schema, an instance, whether that is accepted (with `or` where an unfinished match is none, and where it is one), how
+// often a verdict asks the engines, and whether each ask is finished.
+const ENGINES: &str =
+    r#"{"patternProperties":{"a":{"patternProperties":{"b":{}}}}} | {"a":{"b":1},"c":2} | accepted | 3 finished
+{"patternProperties":{"a":{"type":"integer"}}} | {"a":1,"b":"t","c":null} | accepted | 3 finished
+{"patternProperties":{"a":{"type":"integer"},"b":{"minimum":1},"^c":{}}} | {"ab":1,"b":2,"c":3} | accepted | 6 finished
+{"patternProperties":{"a":{"type":"integer"}}} | {"a":"t"} | refused | 1 finished
+{"patternProperties":{"a":{},"b":{"type":"integer"}}} | {"ab":"t"} | refused | 2 finished
+{"patternProperties":{"^a":{},"b$":{},"^c$":true,"^(a|d)$":{},"^\\S*$":{}}} | {"a":1,"ab":2,"c":3,"d e":4} | accepted | 0 finished
+{"patternProperties":{"^a":{"type":"integer"}}} | {"a":"t"} | refused | 0 finished
+{"patternProperties":{"a":false,"b":false}} | {} | accepted | 0 finished
+{"patternProperties":{"a":false}} | ["a"] | accepted | 0 finished
+{"patternProperties":{"(slow)x":false}} | {"ax":1} | accepted or refused | 1 unfinished
+{"patternProperties":{"(slow)x":{"type":"integer"}}} | {"ax":1,"x":2} | accepted | 2 unfinished
+{"patternProperties":{"(slow)x":true,"(slow)y":{"type":"integer"},"^x":{}}} | {"xy":"t"} | accepted or refused | 2 unfinished
+{"not":{"patternProperties":{"(slow)x":false}}} | {"x":1} | refused or accepted | 1 unfinished
+{"patternProperties":{"(slow)x":false}} | {"a":1} | accepted | 1 finished"#;
+
+fn expect_engines(rt: &impl Abort, alloc: Global, row: &str) -> Result<(), Fail> {
+    let (schema, others) = row.split_once(" | ").ok_or("a row of one cell")?;
+    let (instance, others) = others.split_once(" | ").ok_or("a row of two cells")?;
+    let (verdicts, asks) = others.split_once(" | ").ok_or("a row of three cells")?;
+    let schema = Value::from_str(alloc, schema)?;
+    let instance = Value::from_str(alloc, instance)?;
+    let wanted = read_wanted(verdicts, asks)?;
+    for way in WAYS {
+        let told = told_by(way, alloc, &schema, &instance, false)?;
+        expect_asks_of(rt, row, way, &told, &wanted, wanted.accepted.0);
+        let told = told_by(way, alloc, &schema, &instance, true)?;
+        expect_asks_of(rt, row, way, &told, &wanted, wanted.accepted.1);
+    }
+    Ok(())
+}
+
+#[test]
+fn an_engine_is_asked_as_often_as_is_counted(rt: HostRuntime) -> Result<(), Fail> {
+    for row in ENGINES.lines() {
+        expect_engines(&rt, rt.alloc(), row)?;
     }
     Ok(())
 }

@@ -352,6 +352,139 @@ fn dependencies_and_names(rt: HostRuntime) -> Result<(), Fail> {
     Ok(())
 }
 
+// The same for patterns; the first ones after the examples of the standard's test suite.
+const PATTERNS: &str =
+    r##"a member that one pattern matches is accepted | {"patternProperties":{"a":{"type":"integer"},"aa":{"maximum":20}}} | {"a":21} | accepted
+a member that both match is accepted | {"patternProperties":{"a":{"type":"integer"},"aa":{"maximum":20}}} | {"aaaa":18} | accepted
+each is accepted by its own | {"patternProperties":{"a":{"type":"integer"},"aa":{"maximum":20}}} | {"a":21,"aaaa":18} | accepted
+the first pattern refuses | {"patternProperties":{"a":{"type":"integer"},"aa":{"maximum":20}}} | {"a":"bar"} | "bar" is not of type "integer" @ "/a", /patternProperties/a/type
+the second pattern refuses | {"patternProperties":{"a":{"type":"integer"},"aa":{"maximum":20}}} | {"aaaa":31} | 31 is greater than the maximum of 20 @ "/aaaa", /patternProperties/aa/maximum
+a true schema | {"patternProperties":{"b":false,"f":true}} | {"foo":1} | accepted
+a false schema | {"patternProperties":{"b":false,"f":true}} | {"bar":2} | False schema does not allow 2 @ "/bar", /patternProperties/b
+a true and a false schema | {"patternProperties":{"b":false,"f":true}} | {"foobar":1} | False schema does not allow 1 @ "/foobar", /patternProperties/b
+no member | {"patternProperties":{"b":false,"f":true}} | {} | accepted
+a null | {"patternProperties":{"bar$":{"type":"null"}}} | {"foobar":null} | accepted
+case matters | {"patternProperties":{"X_":{"type":"string"}}} | {"a_x_3":3} | accepted
+a pattern is not anchored | {"patternProperties":{"X_":{"type":"string"}}} | {"a_X_3":3} | 3 is not of type "string" @ "/a_X_3", /patternProperties/X_/type
+no object | {"patternProperties":{"f":{"type":"integer"}}} | ["foo"] | accepted
+paths are escaped | {"patternProperties":{"^a/~":{"required":["b"]}}} | {"a/~c":{}} | "b" is a required property @ "/a~1~0c", /patternProperties/^a~1~0/required of {}
+patterns in branches | {"anyOf":[{"patternProperties":{"a":false,"b":{"type":"null"}}},{"patternProperties":{"^a":{"minimum":2}}}]} | {"ab":1} | {"ab":1} is not valid under any of the schemas listed in the 'anyOf' keyword @ "", /anyOf {1 is not of type "null" @ "/ab", /anyOf/0/patternProperties/b/type;False schema does not allow 1 @ "/ab", /anyOf/0/patternProperties/a;} {1 is less than the minimum of 2 @ "/ab", /anyOf/1/patternProperties/^a/minimum;}"##;
+
+#[test]
+fn members_that_patterns_match(rt: HostRuntime) -> Result<(), Fail> {
+    for row in PATTERNS.lines() {
+        expect_one(&rt, rt.alloc(), row)?;
+    }
+    Ok(())
+}
+
+fn joined(alloc: Global, lines: &[String]) -> Result<String, AllocError> {
+    let mut text = String::new(alloc);
+    for line in lines {
+        if !text.is_empty() {
+            text.push_str(" & ")?;
+        }
+        text.push_str(line.as_str())?;
+    }
+    Ok(text)
+}
+
+// All errors in the order of their texts, as one line.
+fn joined_lines(
+    validator: &BenchValidator,
+    alloc: Global,
+    instance: &Value,
+) -> Result<String, AllocError> {
+    let lines = all_lines(validator, alloc, instance)?;
+    joined(alloc, &lines)
+}
+
+// Each way of asking refuses, with this error first, and with all of these.
+fn expect_refused(
+    rt: &impl Abort,
+    alloc: Global,
+    validator: &BenchValidator,
+    instance: &Value,
+    first: &str,
+    all: &str,
+) -> Result<(), Fail> {
+    assert_eq!(rt; joined_lines(validator, alloc, instance)?.as_str(), all);
+    assert_eq!(rt; first_line(validator, alloc, instance)?.as_str(), first);
+    assert_eq!(rt; verdicts(validator, alloc, instance)?, (false, false));
+    Ok(())
+}
+
+// A schema, an instance, the first error, and all errors in the order of their texts. The first is that of the first
+// member that is refused, and of the first pattern there.
+const SEVERAL: &str =
+    r##"{"patternProperties":{"a":{"type":"integer"},"b$":{"minLength":3}}} | {"ab":"x","c":1} | "x" is not of type "integer" @ "/ab", /patternProperties/a/type | "x" is not of type "integer" @ "/ab", /patternProperties/a/type & "x" is shorter than 3 characters @ "/ab", /patternProperties/b$/minLength
+{"patternProperties":{"a":{"type":"integer"},"aa":{"maximum":20}}} | {"aaa":"foo","aaaa":31} | "foo" is not of type "integer" @ "/aaa", /patternProperties/a/type | "foo" is not of type "integer" @ "/aaa", /patternProperties/a/type & 31 is greater than the maximum of 20 @ "/aaaa", /patternProperties/aa/maximum
+{"patternProperties":{"^b":{"maximum":1},"x$":{"minimum":5}}} | {"ax":3,"b":2,"bx":4} | 3 is less than the minimum of 5 @ "/ax", /patternProperties/x$/minimum | 2 is greater than the maximum of 1 @ "/b", /patternProperties/^b/maximum & 3 is less than the minimum of 5 @ "/ax", /patternProperties/x$/minimum & 4 is greater than the maximum of 1 @ "/bx", /patternProperties/^b/maximum & 4 is less than the minimum of 5 @ "/bx", /patternProperties/x$/minimum
+{"patternProperties":{"a":{"type":"integer"}}} | {"a":null,"ba":"t","c":"u"} | null is not of type "integer" @ "/a", /patternProperties/a/type | "t" is not of type "integer" @ "/ba", /patternProperties/a/type & null is not of type "integer" @ "/a", /patternProperties/a/type
+{"patternProperties":{"^a":{"minimum":5}},"properties":{"a":{"type":"null"}},"required":["b","c"]} | {"a":1} | 1 is less than the minimum of 5 @ "/a", /patternProperties/^a/minimum | "b" is a required property @ "", /required of {"a":1} & "c" is a required property @ "", /required of {"a":1} & 1 is less than the minimum of 5 @ "/a", /patternProperties/^a/minimum & 1 is not of type "null" @ "/a", /properties/a/type"##;
+
+fn expect_several(rt: &impl Abort, alloc: Global, row: &str) -> Result<(), Fail> {
+    let (schema, others) = row.split_once(" | ").ok_or("a row of one cell")?;
+    let (instance, others) = others.split_once(" | ").ok_or("a row of two cells")?;
+    let (first, all) = others.split_once(" | ").ok_or("a row of three cells")?;
+    let schema = Value::from_str(alloc, schema)?;
+    let instance = Value::from_str(alloc, instance)?;
+    let validator = built(alloc, &schema)?;
+    expect_refused(rt, alloc, &validator, &instance, first, all)
+}
+
+#[test]
+fn several_members_and_patterns(rt: HostRuntime) -> Result<(), Fail> {
+    for row in SEVERAL.lines() {
+        expect_several(&rt, rt.alloc(), row)?;
+    }
+    Ok(())
+}
+
+// So many declared names that want long texts, two required ones, and a pattern that wants whole numbers.
+fn declared_beside_patterns(alloc: Global, count: usize) -> Result<String, AllocError> {
+    let mut text = String::from_str(
+        alloc,
+        r#"{"patternProperties":{"^m":{"type":"integer"}},"required":["a","b"],"properties":{"m00":{"minLength":2}"#,
+    )?;
+    for i in 1..count {
+        text.push_str(format!(in alloc; ",\"m{i:02}\":{{\"minLength\":2}}")?.as_str())?;
+    }
+    text.push_str("}}")?;
+    Ok(text)
+}
+
+const OF_THE_PATTERN: &str = r#""x" is not of type "integer" @ "/m13", /patternProperties/^m/type"#;
+
+const OF_ALL_THREE: &str = concat!(
+    r#""a" is a required property @ "", /required of {"m13":"x"} & "b" is a required property @ "", /required of {"m13":"x"}"#,
+    r#" & "x" is not of type "integer" @ "/m13", /patternProperties/^m/type"#,
+    r#" & "x" is shorter than 2 characters @ "/m13", /properties/m13/minLength"#
+);
+
+fn expect_beside_patterns(rt: &impl Abort, alloc: Global, count: usize) -> Result<(), Fail> {
+    let schema = declared_beside_patterns(alloc, count)?;
+    let schema = Value::from_str(alloc, schema.as_str())?;
+    let instance = Value::from_str(alloc, r#"{"m13":"x"}"#)?;
+    let validator = built(alloc, &schema)?;
+    expect_refused(
+        rt,
+        alloc,
+        &validator,
+        &instance,
+        OF_THE_PATTERN,
+        OF_ALL_THREE,
+    )
+}
+
+#[test]
+fn declared_names_beside_patterns(rt: HostRuntime) -> Result<(), Fail> {
+    for count in [14, 15, 16] {
+        expect_beside_patterns(&rt, rt.alloc(), count)?;
+    }
+    Ok(())
+}
+
 // The errors in the contexts of errors, with their contexts.
 fn inner_lines(alloc: Global, errors: &[ValidationError<'_>]) -> Result<Vec<String>, AllocError> {
     let mut lines = Vec::new(alloc);
@@ -520,7 +653,17 @@ no name is there | {"propertyNames":false} | {} | /propertyNames@;
 each name is allowed | {"propertyNames":true,"required":["a"]} | {"a":1} | /required@;
 two schemas that are chosen, in the order of names | {"propertyDependencies":{"l":{"b":{"required":["k"]}},"k":{"a":false,"b":true},"m":{"a":false}}} | {"k":"a","l":"b"} | /propertyDependencies@! (/propertyDependencies/k/a@! falseSchema: False schema does not allow {"k":"a","l":"b"}) (/propertyDependencies/l/b@ (/propertyDependencies/l/b/required@));
 a text that chooses none | {"propertyDependencies":{"k":{"a":false}}} | {"k":"b"} | /propertyDependencies@;
-no object | {"dependencies":{"a":["b"]},"dependentRequired":{"a":["b"]},"dependentSchemas":{"a":false},"propertyDependencies":{"a":{"a":false}},"propertyNames":{"type":"null"}} | "a" | /dependencies@;/dependentRequired@;/dependentSchemas@;/propertyDependencies@;/propertyNames@;"##;
+no object | {"dependencies":{"a":["b"]},"dependentRequired":{"a":["b"]},"dependentSchemas":{"a":false},"propertyDependencies":{"a":{"a":false}},"propertyNames":{"type":"null"}} | "a" | /dependencies@;/dependentRequired@;/dependentSchemas@;/propertyDependencies@;/propertyNames@;
+one pattern | {"patternProperties":{"a":{"type":"integer"}}} | {"ab":1,"c":"x"} | /patternProperties@ [ab,] (/patternProperties/a@/ab (/patternProperties/a/type@/ab));
+two patterns, one name twice | {"patternProperties":{"a":{"type":"integer"},"b$":{"minimum":5}}} | {"ab":7,"b":6,"c":"x"} | /patternProperties@ [ab,ab,b,] (/patternProperties/a@/ab (/patternProperties/a/type@/ab)) (/patternProperties/b$@/ab (/patternProperties/b$/minimum@/ab)) (/patternProperties/b$@/b (/patternProperties/b$/minimum@/b));
+two patterns, one refuses | {"patternProperties":{"a":{"type":"integer"},"b$":{"minimum":5}}} | {"ab":"x"} | /patternProperties@! (/patternProperties/a@/ab! (/patternProperties/a/type@/ab! type: "x" is not of type "integer")) (/patternProperties/b$@/ab (/patternProperties/b$/minimum@/ab));
+one pattern over two names, one is refused | {"patternProperties":{"^a":{"type":"integer"}}} | {"a":1,"aa":null} | /patternProperties@! (/patternProperties/^a@/a (/patternProperties/^a/type@/a)) (/patternProperties/^a@/aa! (/patternProperties/^a/type@/aa! type: null is not of type "integer"));
+a false schema at a pattern | {"patternProperties":{"^a/":false}} | {"a/~":1} | /patternProperties@! (/patternProperties/^a~1@/a~1~0! falseSchema: False schema does not allow 1);
+no name is matched | {"patternProperties":{"a":false,"b":false}} | {"c":1} | /patternProperties@ [];
+no name is matched by one pattern | {"patternProperties":{"a":false}} | {} | /patternProperties@ [];
+no pattern | {"patternProperties":{}} | {"a":1} | /patternProperties@ [];
+no object for patterns | {"allOf":[{"patternProperties":{"a":false}}],"patternProperties":{"a":false,"b":false}} | ["a"] | /allOf@ (/allOf/0@ (/allOf/0/patternProperties@));/patternProperties@;
+declared and required names beside patterns | {"patternProperties":{"^a":true},"properties":{"a":true,"b":true},"required":["a","b"]} | {"a":1} | /patternProperties@ [a,] (/patternProperties/^a@/a);/properties@ [a,] (/properties/a@/a);/required@! required: "b" is a required property;"##;
 
 fn expect_tree(rt: &impl Abort, alloc: Global, row: &str) -> Result<(), Fail> {
     let (name, others) = row.split_once(" | ").ok_or("a row of one cell")?;
@@ -540,7 +683,8 @@ fn trees_of_evaluations(rt: HostRuntime) -> Result<(), Fail> {
 }
 
 const MANY_FAULTS: &str = concat!(
-    r#"{"allOf":[{"required":["a","b"]},{"properties":{"c":{"type":"string"}}}],"#,
+    r#"{"allOf":[{"required":["a","b"]},{"properties":{"c":{"type":"string"}}},"#,
+    r#"{"patternProperties":{"c":{"minimum":7},"^c":false}},{"patternProperties":{"^d":{"type":"null"}}}],"#,
     r#""anyOf":[{"required":["a"]},{"properties":{"c":false}}],"not":{"required":["c"]},"#,
     r#""dependencies":{"c":["e"],"d":{"required":["e"]}},"dependentRequired":{"c":["d","e"]},"#,
     r#""dependentSchemas":{"d":{"required":["e"]}},"propertyDependencies":{"k":{"t":{"required":["e"]}}},"#,
@@ -619,11 +763,11 @@ fn full_answers_after_a_refused_growth(rt: HostRuntime) -> Result<(), Fail> {
     let schema = Value::from_str(alloc, MANY_FAULTS)?;
     let instance = Value::from_str(alloc, r#"{"c":1,"d":2,"k":"t"}"#)?;
     let validator = built(alloc, &schema)?;
-    assert_eq!(rt; two_counts_at_last(&validator, alloc, &instance)?, (14, 28));
+    assert_eq!(rt; two_counts_at_last(&validator, alloc, &instance)?, (17, 34));
     assert_eq!(rt;
         first_line_at_last(&validator, alloc, &instance)?.as_str(),
         r#""a" is a required property @ "", /allOf/0/required of {"c":1,"d":2,"k":"t"}"#
     );
-    assert_eq!(rt; evaluated_errors_at_last(&validator, alloc, &instance)?, 15);
+    assert_eq!(rt; evaluated_errors_at_last(&validator, alloc, &instance)?, 18);
     Ok(())
 }

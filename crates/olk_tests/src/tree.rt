@@ -1,12 +1,13 @@
 //! Building from schemas, and looking up names, with a leaf set and a matcher.
-use olk_base::Meter;
+use olk_base::{CompiledPattern, Meter};
 use olk_build::{
-    Context, all_of, any_of, compile, dependencies, if_, not, properties, property_dependencies,
-    property_names, required,
+    Context, all_of, any_of, compile, dependencies, if_, not, pattern_properties, properties,
+    property_dependencies, property_names, required,
 };
 use olk_low_tests::doubles::{EqualTo, Equality, NoText, NoTexts};
 use olk_node::{Keyword, SchemaNode};
 use olk_reports::{BuildError, ValidationError};
+use olk_tree::pattern_properties::{PatternProperties, SingleValuePatternProperties};
 use olk_tree::{Body, KeywordOver, SmallMap, SortedNames};
 use serde_json::{Map, Value};
 use std::alloc::{AllocError, Global};
@@ -81,6 +82,11 @@ fn schemas_that_are_built(rt: HostRuntime) -> Result<(), Fail> {
             4,
             1,
         ),
+        (
+            r#"{"patternProperties":{"^a":{"text":false},"b$":true}}"#,
+            3,
+            1,
+        ),
     ] {
         expect_built(&rt, rt.alloc(), text, places, leaves)?;
     }
@@ -116,7 +122,10 @@ const REFUSED: &str = r##"7 | . | 7 is not of types "boolean", "object"
 {"required":true} | ./required | true is not of type "array"
 {"properties":{"a":{"$ref":"#"}}} | ./properties/a/$ref | "$ref" is not supported here
 {"oneOf":{}} | ./oneOf | {} is not of type "array"
-{"patternProperties":{}} | ./patternProperties | "patternProperties" is not supported here
+{"additionalProperties":{}} | ./additionalProperties | "additionalProperties" is not supported here
+{"patternProperties":5} | ./patternProperties | 5 is not of type "object"
+{"patternProperties":{"(":{}}} | ./patternProperties/( | "(" is not a "regex"
+{"patternProperties":{"^a/~":5}} | ./patternProperties/^a~1~0 | 5 is not of types "boolean", "object"
 {"if":5,"then":{}} | ./if | 5 is not of types "boolean", "object"
 {"if":{},"then":[]} | ./then | [] is not of types "boolean", "object"
 {"else":{"text":true},"if":{}} | ./else/text | true is not a value for "text"
@@ -260,8 +269,28 @@ fn required_names_that_are_fused(rt: HostRuntime) -> Result<(), Fail> {
     Ok(())
 }
 
+// Beside a pattern that matches every declared name, `required` is never fused.
+fn expect_apart(rt: &impl Abort, alloc: Global, count: usize) -> Result<(), Fail> {
+    let mut parent = closed(alloc, count, r#"["a","b"]"#)?;
+    let patterns = Value::from_str(alloc, r#"{"^m":true}"#)?;
+    parent.insert(String::from_str(alloc, "patternProperties")?, patterns)?;
+    assert!(rt; !fuses(alloc, &parent)?, "{count}");
+    assert!(rt; stands_alone(alloc, &parent), "{count}");
+    let found = keyword_count(alloc, &Value::Object(parent))?;
+    assert_eq!(rt; found, 3, "{count}");
+    Ok(())
+}
+
+#[test]
+fn required_names_beside_patterns(rt: HostRuntime) -> Result<(), Fail> {
+    for count in [0, 14, 15, 16] {
+        expect_apart(&rt, rt.alloc(), count)?;
+    }
+    Ok(())
+}
+
 // Which form a keyword of branches has.
-fn form_of<K, N>(keyword: &KeywordOver<K, N>) -> &'static str {
+fn form_of<K, R, N>(keyword: &KeywordOver<K, R, N>) -> &'static str {
     match keyword {
         KeywordOver::SingleValueAllOf(_) => "single allOf",
         KeywordOver::AllOf(_) => "allOf",
@@ -544,6 +573,116 @@ fn expect_compiled(rt: &impl Abort, alloc: Global, row: &str) -> Result<(), Fail
 fn keywords_of_dependencies_and_names(rt: HostRuntime) -> Result<(), Fail> {
     for row in COMPILED.lines() {
         expect_compiled(&rt, rt.alloc(), row)?;
+    }
+    Ok(())
+}
+
+// ---- patterns
+
+type PlainPattern = CompiledPattern<EqualTo>;
+
+fn pattern_form(pattern: &PlainPattern) -> &'static str {
+    match pattern {
+        CompiledPattern::Prefix(_) => "prefix",
+        CompiledPattern::Suffix(_) => "suffix",
+        CompiledPattern::Exact(_) => "exact",
+        CompiledPattern::Alternation(_) => "alternation",
+        CompiledPattern::NoWhitespace => "no white space",
+        CompiledPattern::Regex(_) => "engine",
+    }
+}
+
+// A pattern with its node.
+fn push_pattern(
+    text: &mut String,
+    pattern: &PlainPattern,
+    node: &PlainNode,
+) -> Result<(), AllocError> {
+    text.push_str(" ")?;
+    text.push_str(pattern_form(pattern))?;
+    text.push_str(":")?;
+    push_node(text, node)
+}
+
+fn single_line(
+    alloc: Global,
+    keyword: &SingleValuePatternProperties<EqualTo, PlainNode>,
+) -> Result<String, AllocError> {
+    let mut text = String::from_str(alloc, keyword.location.as_str())?;
+    text.push_str(" single")?;
+    push_pattern(&mut text, &keyword.regex, &keyword.node)?;
+    Ok(text)
+}
+
+fn patterns_line(
+    alloc: Global,
+    keyword: &PatternProperties<EqualTo, PlainNode>,
+) -> Result<String, AllocError> {
+    let mut text = String::from_str(alloc, keyword.location.as_str())?;
+    for entry in &keyword.patterns {
+        push_pattern(&mut text, &entry.0, &entry.1)?;
+    }
+    Ok(text)
+}
+
+// What is made of patterns, as a line.
+fn line_of_patterns(
+    alloc: Global,
+    made: &Option<Result<PlainKeyword, BuildError<'_>>>,
+) -> Result<String, Fail> {
+    match made {
+        None => Ok(String::from_str(alloc, "none")?),
+        Some(Ok(KeywordOver::SingleValuePatternProperties(keyword))) => {
+            Ok(single_line(alloc, keyword)?)
+        }
+        Some(Ok(KeywordOver::PatternProperties(keyword))) => Ok(patterns_line(alloc, keyword)?),
+        _ => Err(Fail::from("not built")),
+    }
+}
+
+// What is compiled of the patterns of an object, as a line.
+fn patterns_of(
+    alloc: Global,
+    parent: &Map<String, Value>,
+    meter: &mut Meter,
+) -> Result<String, Fail> {
+    let patterns = parent.get("patternProperties").unwrap_or(&Value::Null);
+    let mut ctx = Context::new(alloc, &NoTexts, &Equality, meter);
+    let made = pattern_properties::compile(alloc, &mut ctx, parent, patterns);
+    line_of_patterns(alloc, &made)
+}
+
+// An object, and what is compiled of its patterns: how many places, leaves and engines, where the keyword stands, and what
+// it holds.
+const PATTERNS: &str =
+    r#"{"patternProperties":{"a":{"text":false}}} | 1 1 1 /patternProperties single engine: /patternProperties/a
+{"patternProperties":{"^a/~":{"not":true}}} | 2 0 0 /patternProperties single prefix: /patternProperties/^a~1~0
+{"patternProperties":{"b":true,"a$":{"text":false}}} | 2 1 1 /patternProperties suffix: /patternProperties/a$ engine: /patternProperties/b
+{"patternProperties":{"a|b":{},"^a$":{},"^(a|b)$":{},"^\\S*$":{}}} | 4 0 1 /patternProperties alternation: /patternProperties/^(a|b)$ no white space: /patternProperties/^\S*$ exact: /patternProperties/^a$ engine: /patternProperties/a|b
+{"patternProperties":{}} | 0 0 0 /patternProperties
+{"additionalProperties":true,"patternProperties":{"a":{}}} | 1 0 1 /patternProperties single engine: /patternProperties/a
+{"additionalProperties":false,"patternProperties":{"a":{"text":false}}} | 0 0 0 none
+{"additionalProperties":{},"patternProperties":{"a":{"text":false}}} | 0 0 0 none
+{"additionalProperties":{"text":false},"patternProperties":{"(":5}} | 0 0 0 none"#;
+
+fn expect_patterns(rt: &impl Abort, alloc: Global, row: &str) -> Result<(), Fail> {
+    let (text, told) = row.split_once(" | ").ok_or("a row of one cell")?;
+    let Value::Object(parent) = Value::from_str(alloc, text)? else {
+        return Err(Fail::from("no object"));
+    };
+    let mut meter = Meter::new();
+    let line = patterns_of(alloc, &parent, &mut meter)?;
+    let (places, leaves, engines) = (meter.compiled(), meter.leaves(), meter.made());
+    let found = format!(in alloc; "{places} {leaves} {engines} {line}")?;
+    assert_eq!(rt; found.as_str(), told, "{row}");
+    assert_eq!(rt; (meter.asked(), meter.unfinished()), (0, 0), "{row}");
+    Ok(())
+}
+
+#[test]
+fn keywords_of_patterns(rt: HostRuntime) -> Result<(), Fail> {
+    for row in PATTERNS.lines() {
+        expect_patterns(&rt, rt.alloc(), row)?;
     }
     Ok(())
 }

@@ -9,4 +9,5 @@ mod Entries
 pub mod Merge
 mod Walked
 pub mod Maps
+pub mod Patterns
 pub mod OneOf

@@ -14,11 +14,14 @@ use Rattle.olk_spec.specs.Faults.{Fault}
 use Rattle.olk_spec.specs.Names.{Name, Path, ◌//◌, lookup, first_if_equal, is_among, those, put_if, is_empty}
 use Rattle.olk_spec.specs.Schemas.{is_object, members, has, at, as_text}
 use Rattle.olk_spec.specs.Tree.{Tree, result, plain}
-use Rattle.olk_spec.proofs.Maps.{map-map, those-map, is_empty-map}
-use Rattle.olk_tree.specs.Shown.{properties_tree, branch_trees, any_of_tree, several_accept, one_of_tree}
-use Rattle.olk_tree.specs.Answers.{beside, named, or_else, first_of, due_nodes, chosen_at, chosen_nodes}
+use Rattle.olk_spec.specs.World.{Says}
+use Rattle.olk_spec.proofs.Maps.{flat_map-map, map-map, those-map, is_empty-map}
+use Rattle.olk_base.specs.declared.pattern.CompiledPattern.{CompiledPattern}
+use Rattle.olk_tree.specs.Matched.{is_match, matched, matching, match_question}
+use Rattle.olk_tree.specs.Shown.{properties_tree, patterns_tree, branch_trees, any_of_tree, several_accept, one_of_tree}
+use Rattle.olk_tree.specs.Answers.{beside, named, or_else, first_of, due_nodes, chosen_at, chosen_nodes, matched_mean, matched_report, patterns_mean, patterns_report, patterns_first}
 use Rattle.olk_tree.specs.declared.map.SmallMap.{SmallMap}
-use Rattle.olk_tree.specs.Questions.{Question, both, either, every, some, how_many, exactly_one}
+use Rattle.olk_tree.specs.Questions.{Question, always, both, either, conditional, every, some, how_many, exactly_one}
 
 module _ {X Y : Type 0} (p : X → Question) (q : Y → Question) (h : Y → X) (same : (y : Y) → p (h y) ≡ q y) where
   pub every-map : (ys : List Y) → every p (map h ys) ≡ every q ys
@@ -149,3 +152,27 @@ module _ {X Y : Type 0} (t : X → Data → Path → Tree) (s : Y → Data → P
   pub one_of_tree-map : (a : X → Bool) (b : Y → Bool) → ((y : Y) → a (h y) ≡ b y) → (P : Path) (ys : List Y) → one_of_tree t v Q a P (map h ys) ≡ one_of_tree s v Q b P ys
   one_of_tree-map a b e P ys = λ i. cond (count_by-map a b h e ys i == 0) (result P Q None true [] (branch_trees-map ys i))
       (result P Q None false (put_if (nat_lt 1 (count_by-map a b h e ys i)) several_accept []) ((ap (branch_trees t v Q) (those-map a b h e ys) ∙ branch_trees-map (those b ys)) i))
+
+-- ---- the nodes of patterns
+
+module _ {R X Y : Type 0} (answers : R → Name → Says) (h : Y → X) where
+  -- a pattern beside what stands for its node
+  abbrev pub beside_pattern : CompiledPattern R × Y → CompiledPattern R × X
+  beside_pattern e = (e.0, h e.1)
+
+  module _ (v : Data) where
+    pub patterns_mean-map : (costs : R → Bool) (m : X → Data → Question) (k : Y → Data → Question) → ((y : Y) (w : Data) → m (h y) w ≡ k y w) → (es : List (CompiledPattern R × Y)) → patterns_mean answers costs m (map beside_pattern es) v ≡ patterns_mean answers costs k es v
+    patterns_mean-map costs m k same es = every-map (λ e. matched_mean answers costs m e.0 e.1 v) (λ e. matched_mean answers costs k e.0 e.1 v) beside_pattern (λ e i. every (λ x. conditional (match_question answers costs e.0 x.0) (same e.1 x.1 i) (always true)) (members v)) es
+
+  module _ (u : Bool) (v : Data) where
+    module _ (r : X → Bool → Data → Path → List Fault) (k : Y → Bool → Data → Path → List Fault) (same : (y : Y) (w : Data) (Q : Path) → r (h y) u w Q ≡ k y u w Q) (Q : Path) where
+      pub patterns_report-map : (es : List (CompiledPattern R × Y)) → patterns_report answers r u (map beside_pattern es) v Q ≡ patterns_report answers k u es v Q
+      patterns_report-map es = flat_map-map (λ e. matched_report answers r u e.0 e.1 v Q) (λ e. matched_report answers k u e.0 e.1 v Q) beside_pattern (λ e i. flat_map (λ x. same e.1 x.1 (Q // x.0) i) (matched answers u e.0 v)) es
+
+      pub patterns_first-map : (es : List (CompiledPattern R × Y)) → patterns_first answers r u (map beside_pattern es) v Q ≡ patterns_first answers k u es v Q
+      patterns_first-map es = λ i. first_of (λ x. (ap (first_of (λ e. r e.1 u x.1 (Q // x.0))) (those-map (λ e. is_match answers u e.0 x.0) (λ e. is_match answers u e.0 x.0) beside_pattern (λ e. refl) es)
+          ∙ first_of-map (λ e. r e.1 u x.1 (Q // x.0)) (λ e. k e.1 u x.1 (Q // x.0)) beside_pattern (λ e. same e.1 x.1 (Q // x.0)) (matching answers u es x.0)) i) (members v)
+
+    pub patterns_tree-map : (t : X → Data → Path → Tree) (s : Y → Data → Path → Tree) → ((y : Y) (w : Data) (Q : Path) → t (h y) w Q ≡ s y w Q) → (P Q : Path) (es : List (CompiledPattern R × Y)) → patterns_tree t v Q answers u P (map beside_pattern es) ≡ patterns_tree s v Q answers u P es
+    patterns_tree-map t s same P Q es = λ i. result P Q (cond (is_object v) (Some (flat_map-map (λ e. map (λ x. x.0) (matched answers u e.0 v)) (λ e. map (λ x. x.0) (matched answers u e.0 v)) beside_pattern (λ e. refl) es i)) None) false []
+        (flat_map-map (λ e. map (λ x. t e.1 x.1 (Q // x.0)) (matched answers u e.0 v)) (λ e. map (λ x. s e.1 x.1 (Q // x.0)) (matched answers u e.0 v)) beside_pattern (λ e i. map (λ x. same e.1 x.1 (Q // x.0) i) (matched answers u e.0 v)) es i)

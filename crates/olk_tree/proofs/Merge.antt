@@ -44,6 +44,11 @@ module _ {X : Type 0} where
   skips : (n : Name) (m : Name × X) (ms : List (Name × X)) → order m.0 n ≡ Less → lookup n (m ∷ ms) ≡ lookup n ms
   skips n m ms e = ap (λ o. first_if_equal o m.1 (lookup n ms)) (greater_from m.0 n e)
 
+  -- a name before that of m stands before m, if it stands anywhere
+  pub found_before : (n : Name) (m : Name × X) (rest : List (Name × X)) → slice_cmp nat_cmp n m.0 ≡ Less → (es : List (Name × X)) → Rising (es ++ m ∷ rest) → lookup n (es ++ m ∷ rest) ≡ lookup n es
+  found_before n m rest e [] h = none_after n (m ∷ rest) (e, after_after n m.0 e rest h.0)
+  found_before n m rest e (x ∷ es) h = ap (first_if_equal (slice_cmp nat_cmp n x.0) x.1) (found_before n m rest e es h.1)
+
 module _ {A C : Type 0} where
   -- walks over names after n, looked up in a list with n at its head, or without it
   walk_skips : {B : Type 0} (g : Name → A → B → List C) (m : Name × A) (ms : List (Name × A)) (es : List (Name × B)) → After m.0 es

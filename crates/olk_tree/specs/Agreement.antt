@@ -5,14 +5,18 @@ use Rattle.std.proofs.Common.{refl, sym, true≢false, ◌∙◌, arith}
 use Rattle.std.proofs.lemmas.Bool.Decides.{nat_tests}
 use Rattle.serde_json.specs.Data.{Data, string}
 use Rattle.serde_json.specs.View.{view}
-use Rattle.olk_spec.specs.Names.{Name, Text, Path, ◌//◌, is_empty}
+use Rattle.olk_spec.specs.Names.{Name, Path, ◌//◌, those, put_if, is_empty}
+use Rattle.olk_spec.specs.World.{Says}
 use Rattle.olk_spec.specs.Faults.{Fault, Kind, fault, Required, Leaf, AnyOf, OneOfNotValid, OneOfMultipleValid, Not, FalseSchema, Context, context}
 use Rattle.olk_spec.specs.Schemas.{members, at}
 use Rattle.olk_spec.specs.Accepts.{missing}
 use Rattle.olk_spec.specs.Reports.{required_faults, fault_if, wrapped}
 use Rattle.olk_spec.proofs.Verdicts.{is_empty-append, is_empty-map, none_if}
-use Rattle.olk_tree.specs.Questions.{Question, every, some, how_many}
-use Rattle.olk_tree.specs.Answers.{named, texts_of, two_texts, unless, one_of_report, or_else, first_of, head_of, properties_mean, properties_report, properties_first, due_nodes, chosen_nodes, names_mean, names_report, names_first, validator_means, validator_report, validator_first, body_means, body_report, body_first}
+use Rattle.olk_base.specs.Kit.{Kit}
+use Rattle.olk_base.specs.declared.pattern.CompiledPattern.{CompiledPattern}
+use Rattle.olk_tree.specs.Questions.{Question, always, both, conditional, every, some, how_many}
+use Rattle.olk_tree.specs.Matched.{matching, match_question}
+use Rattle.olk_tree.specs.Answers.{named, texts_of, two_texts, unless, one_of_report, or_else, first_of, head_of, properties_mean, properties_report, properties_first, due_nodes, chosen_nodes, names_mean, names_report, names_first, matched_mean, matched_report, matched_first, patterns_mean, patterns_report, patterns_first, validator_means, validator_report, validator_first, body_means, body_report, body_first}
 use Rattle.olk_tree.specs.declared.node.KeywordOver.{KeywordOver}
 use Rattle.olk_tree.specs.declared.node.KeywordOver.TheVariants as keyword
 use Rattle.olk_tree.specs.declared.node.Body.{Body}
@@ -61,8 +65,25 @@ module _ {N : Type 0} (m : N → Data → Question) (r : N → Bool → Data →
   pub names_agree : (n : N) (v : Data) (Q : Path) → is_empty (names_report r u n v Q) ≡ (names_mean m n v).accepts u
   names_agree n v Q = each_agrees (λ x. map (wrapped v Q) (r n u (string x.0) Q)) (λ x. m n (string x.0)) u (λ x. is_empty-map (wrapped v Q) (r n u (string x.0) Q) ∙ h n (string x.0) Q) (members v)
 
-module _ {K N : Type 0} (finds : K → Data → List Text) (m : N → Data → Question) (keyword_of : K → Name) (r : N → Bool → Data → Path → List Fault) (u : Bool) (h : (n : N) (v : Data) (Q : Path) → is_empty (r n u v Q) ≡ (m n v).accepts u) where
-  pub validator_agrees : (k : KeywordOver K N) (v : Data) (Q : Path) → is_empty (validator_report finds m keyword_of r u k v Q) ≡ (validator_means finds m k v).accepts u
+-- what is found in those that pass a test, where they are asked a question only if they pass
+pub those_agree : {X : Type 0} (f : X → List Fault) (p q : X → Question) (u : Bool) → ((x : X) → is_empty (f x) ≡ (q x).accepts u) → (xs : List X) → is_empty (flat_map f (those (λ x. (p x).accepts u) xs)) ≡ (every (λ x. conditional (p x) (q x) (always true)) xs).accepts u
+those_agree f p q u h [] = refl
+those_agree f p q u h (x ∷ xs) = by ((p x).accepts u) (those_agree f p q u h xs)
+  where
+    by : (b : Bool) → is_empty (flat_map f (those (λ x. (p x).accepts u) xs)) ≡ (every (λ x. conditional (p x) (q x) (always true)) xs).accepts u
+        → is_empty (flat_map f (put_if b x (those (λ x. (p x).accepts u) xs))) ≡ (cond b ((q x).accepts u) true && (every (λ x. conditional (p x) (q x) (always true)) xs).accepts u)
+    by true e = both_agree (f x) (flat_map f (those (λ x. (p x).accepts u) xs)) (h x) e
+    by false e = e
+
+module _ {R N : Type 0} (answers : R → Name → Says) (costs : R → Bool) (m : N → Data → Question) (r : N → Bool → Data → Path → List Fault) (u : Bool) (h : (n : N) (v : Data) (Q : Path) → is_empty (r n u v Q) ≡ (m n v).accepts u) where
+  pub matched_agree : (p : CompiledPattern R) (n : N) (v : Data) (Q : Path) → is_empty (matched_report answers r u p n v Q) ≡ (matched_mean answers costs m p n v).accepts u
+  matched_agree p n v Q = those_agree (λ x. r n u x.1 (Q // x.0)) (λ x. match_question answers costs p x.0) (λ x. m n x.1) u (λ x. h n x.1 (Q // x.0)) (members v)
+
+  pub patterns_agree : (es : List (CompiledPattern R × N)) (v : Data) (Q : Path) → is_empty (patterns_report answers r u es v Q) ≡ (patterns_mean answers costs m es v).accepts u
+  patterns_agree es v Q = each_agrees (λ e. matched_report answers r u e.0 e.1 v Q) (λ e. matched_mean answers costs m e.0 e.1 v) u (λ e. matched_agree e.0 e.1 v Q) es
+
+module _ {K R N : Type 0} (o : Kit K R) (m : N → Data → Question) (r : N → Bool → Data → Path → List Fault) (u : Bool) (h : (n : N) (v : Data) (Q : Path) → is_empty (r n u v Q) ≡ (m n v).accepts u) where
+  pub validator_agrees : (k : KeywordOver K R N) (v : Data) (Q : Path) → is_empty (validator_report o m r u k v Q) ≡ (validator_means o m k v).accepts u
   unfolding validator_means validator_report
   validator_agrees (keyword.Properties k) v Q = properties_agree m r u h (named k.properties) v Q
   validator_agrees (keyword.PropertiesWithRequired2 k) v Q = both_agree (required_faults (two_texts k.first k.second) v k.required_location Q) (properties_report r u (named k.properties) v Q) (required_agrees (two_texts k.first k.second) v k.required_location Q) (properties_agree m r u h (named k.properties) v Q)
@@ -81,7 +102,9 @@ module _ {K N : Type 0} (finds : K → Data → List Text) (m : N → Data → Q
   validator_agrees (keyword.PropertyNames k) v Q = names_agree m r u h k.node v Q
   validator_agrees (keyword.PropertyNamesFalse k) v Q = unless_agrees (is_empty (members v)) FalseSchema v k.location Q
   validator_agrees (keyword.PropertyDependencies k) v Q = each_agrees (λ n. r n u v Q) (λ n. m n v) u (λ n. h n v Q) (chosen_nodes (named k.dependencies) v)
-  validator_agrees (keyword.Leaf p l) v Q = is_empty-map (λ t. fault (Leaf (keyword_of l) t) v Q p) (finds l v)
+  validator_agrees (keyword.PatternProperties k) v Q = patterns_agree o.answers o.costs m r u h k.patterns.items v Q
+  validator_agrees (keyword.SingleValuePatternProperties k) v Q = matched_agree o.answers o.costs m r u h k.regex k.node v Q
+  validator_agrees (keyword.Leaf p l) v Q = is_empty-map (λ t. fault (Leaf (o.keyword_of l) t) v Q p) (o.finds l v)
 
 pub body_agrees : {W : Type 0} (q : W → Data → Question) (f : W → Data → Path → List Fault) (u : Bool) → ((k : W) (v : Data) (Q : Path) → is_empty (f k v Q) ≡ (q k v).accepts u) → (P : Path) (b : Body W) (v : Data) (Q : Path) → is_empty (body_report f P b v Q) ≡ (body_means q b v).accepts u
 body_agrees q f u h P True v Q = refl
@@ -113,8 +136,53 @@ module _ {N : Type 0} (m : N → Data → Question) (s : N → Bool → Data →
   pub names_first_agrees : (n : N) (v : Data) (Q : Path) → is_empty (names_first s u n v Q) ≡ (names_mean m n v).accepts u
   names_first_agrees n v Q = first_of_agrees (λ x. map (wrapped v Q) (s n u (string x.0) Q)) (λ x. m n (string x.0)) u (λ x. is_empty-map (wrapped v Q) (s n u (string x.0) Q) ∙ h n (string x.0) Q) (members v)
 
-module _ {K N : Type 0} (finds : K → Data → List Text) (m : N → Data → Question) (keyword_of : K → Name) (r s : N → Bool → Data → Path → List Fault) (u : Bool) (h : (n : N) (v : Data) (Q : Path) → is_empty (s n u v Q) ≡ (m n v).accepts u) where
-  pub validator_first_agrees : (k : KeywordOver K N) (v : Data) (Q : Path) → is_empty (validator_first finds m keyword_of r u s k v Q) ≡ (validator_means finds m k v).accepts u
+pub first_of_those_agree : {X : Type 0} (f : X → List Fault) (p q : X → Question) (u : Bool) → ((x : X) → is_empty (f x) ≡ (q x).accepts u) → (xs : List X) → is_empty (first_of f (those (λ x. (p x).accepts u) xs)) ≡ (every (λ x. conditional (p x) (q x) (always true)) xs).accepts u
+first_of_those_agree f p q u h [] = refl
+first_of_those_agree f p q u h (x ∷ xs) = by ((p x).accepts u) (first_of_those_agree f p q u h xs)
+  where
+    by : (b : Bool) → is_empty (first_of f (those (λ x. (p x).accepts u) xs)) ≡ (every (λ x. conditional (p x) (q x) (always true)) xs).accepts u
+        → is_empty (first_of f (put_if b x (those (λ x. (p x).accepts u) xs))) ≡ (cond b ((q x).accepts u) true && (every (λ x. conditional (p x) (q x) (always true)) xs).accepts u)
+    by true e = or_else_agrees (f x) (first_of f (those (λ x. (p x).accepts u) xs)) (h x) e
+    by false e = e
+
+and_between : (a b c d : Bool) → ((a && b) && (c && d)) ≡ ((a && c) && (b && d))
+and_between false b c d = refl
+and_between true false c d = by c
+  where
+    by : (c : Bool) → false ≡ (c && false)
+    by true = refl
+    by false = refl
+and_between true true c d = refl
+
+-- each of one list with each of another is accepted, whichever of the lists is walked outside
+module _ {X : Type 0} (u : Bool) where
+  both_each : (f g : X → Question) (xs : List X) → ((every f xs).accepts u && (every g xs).accepts u) ≡ (every (λ x. both (f x) (g x)) xs).accepts u
+  both_each f g [] = refl
+  both_each f g (x ∷ xs) = and_between ((f x).accepts u) ((every f xs).accepts u) ((g x).accepts u) ((every g xs).accepts u) ∙ (λ i. ((f x).accepts u && (g x).accepts u) && both_each f g xs i)
+
+  nothing_each : (xs : List X) → true ≡ (every (λ x. always true) xs).accepts u
+  nothing_each [] = refl
+  nothing_each (x ∷ xs) = nothing_each xs
+
+  pub inside_out : {Y : Type 0} (g : X → Y → Question) (xs : List X) (ys : List Y) → (every (λ y. every (λ x. g x y) xs) ys).accepts u ≡ (every (λ x. every (g x) ys) xs).accepts u
+  inside_out g xs [] = nothing_each xs
+  inside_out g xs (y ∷ ys) = (λ i. (every (λ x. g x y) xs).accepts u && inside_out g xs ys i) ∙ both_each (λ x. g x y) (λ x. every (g x) ys) xs
+
+module _ {R N : Type 0} (answers : R → Name → Says) (costs : R → Bool) (m : N → Data → Question) (s : N → Bool → Data → Path → List Fault) (u : Bool) (h : (n : N) (v : Data) (Q : Path) → is_empty (s n u v Q) ≡ (m n v).accepts u) where
+  pub matched_first_agree : (p : CompiledPattern R) (n : N) (v : Data) (Q : Path) → is_empty (matched_first answers s u p n v Q) ≡ (matched_mean answers costs m p n v).accepts u
+  matched_first_agree p n v Q = first_of_those_agree (λ x. s n u x.1 (Q // x.0)) (λ x. match_question answers costs p x.0) (λ x. m n x.1) u (λ x. h n x.1 (Q // x.0)) (members v)
+
+  abbrev member_asked : CompiledPattern R × N → Name × Data → Question
+  member_asked e x = conditional (match_question answers costs e.0 x.0) (m e.1 x.1) (always true)
+
+  pub patterns_first_agree : (es : List (CompiledPattern R × N)) (v : Data) (Q : Path) → is_empty (patterns_first answers s u es v Q) ≡ (patterns_mean answers costs m es v).accepts u
+  patterns_first_agree es v Q =
+      first_of_agrees (λ x. first_of (λ e. s e.1 u x.1 (Q // x.0)) (matching answers u es x.0)) (λ x. every (λ e. member_asked e x) es) u
+      (λ x. first_of_those_agree (λ e. s e.1 u x.1 (Q // x.0)) (λ e. match_question answers costs e.0 x.0) (λ e. m e.1 x.1) u (λ e. h e.1 x.1 (Q // x.0)) es) (members v)
+      ∙ inside_out u member_asked es (members v)
+
+module _ {K R N : Type 0} (o : Kit K R) (m : N → Data → Question) (r s : N → Bool → Data → Path → List Fault) (u : Bool) (h : (n : N) (v : Data) (Q : Path) → is_empty (s n u v Q) ≡ (m n v).accepts u) where
+  pub validator_first_agrees : (k : KeywordOver K R N) (v : Data) (Q : Path) → is_empty (validator_first o m r u s k v Q) ≡ (validator_means o m k v).accepts u
   unfolding validator_means validator_first
   validator_first_agrees (keyword.Properties k) v Q = properties_first_agrees m s u h (named k.properties) v Q
   validator_first_agrees (keyword.PropertiesWithRequired2 k) v Q = or_else_agrees (head_of (required_faults (two_texts k.first k.second) v k.required_location Q)) (properties_first s u (named k.properties) v Q) (head_agrees (required_faults (two_texts k.first k.second) v k.required_location Q) (required_agrees (two_texts k.first k.second) v k.required_location Q)) (properties_first_agrees m s u h (named k.properties) v Q)
@@ -133,7 +201,9 @@ module _ {K N : Type 0} (finds : K → Data → List Text) (m : N → Data → Q
   validator_first_agrees (keyword.PropertyNames k) v Q = names_first_agrees m s u h k.node v Q
   validator_first_agrees (keyword.PropertyNamesFalse k) v Q = unless_agrees (is_empty (members v)) FalseSchema v k.location Q
   validator_first_agrees (keyword.PropertyDependencies k) v Q = first_of_agrees (λ n. s n u v Q) (λ n. m n v) u (λ n. h n v Q) (chosen_nodes (named k.dependencies) v)
-  validator_first_agrees (keyword.Leaf p l) v Q = is_empty-map (λ t. fault (Leaf (keyword_of l) t) v Q p) (finds l v)
+  validator_first_agrees (keyword.PatternProperties k) v Q = patterns_first_agree o.answers o.costs m s u h k.patterns.items v Q
+  validator_first_agrees (keyword.SingleValuePatternProperties k) v Q = matched_first_agree o.answers o.costs m s u h k.regex k.node v Q
+  validator_first_agrees (keyword.Leaf p l) v Q = is_empty-map (λ t. fault (Leaf (o.keyword_of l) t) v Q p) (o.finds l v)
 
 pub body_first_agrees : {W : Type 0} (q : W → Data → Question) (f : W → Data → Path → List Fault) (u : Bool) → ((k : W) (v : Data) (Q : Path) → is_empty (f k v Q) ≡ (q k v).accepts u) → (P : Path) (b : Body W) (v : Data) (Q : Path) → is_empty (body_first f P b v Q) ≡ (body_means q b v).accepts u
 body_first_agrees q f u h P True v Q = refl

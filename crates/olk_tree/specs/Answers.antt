@@ -5,13 +5,17 @@ use Rattle.std.specs.List.{flat_map}
 use Rattle.serde_json.specs.Data.{Data, string}
 use Rattle.serde_json.specs.View.{view}
 use Rattle.olk_spec.specs.Names.{Name, Text, Path, ◌//◌, lookup, those, is_empty}
+use Rattle.olk_spec.specs.World.{Says}
 use Rattle.olk_spec.specs.Faults.{Fault, Kind, fault, FalseSchema, Leaf, AnyOf, OneOfNotValid, OneOfMultipleValid, Not, Context, context}
 use Rattle.olk_spec.specs.Schemas.{members, has, at, as_text}
 use Rattle.olk_spec.specs.Accepts.{missing}
 use Rattle.olk_spec.specs.Reports.{required_faults, fault_if, wrapped}
 use Rattle.olk_spec.specs.Tree.{Tree, leaf_node, plain, erring, described}
+use Rattle.olk_base.specs.Kit.{Kit}
+use Rattle.olk_base.specs.declared.pattern.CompiledPattern.{CompiledPattern}
+use Rattle.olk_tree.specs.Matched.{matched, matching, match_question}
 use Rattle.olk_tree.specs.Questions.{Question, always, both, opposite, conditional, every, some, how_many, exactly_one}
-use Rattle.olk_tree.specs.Shown.{missing_trees, properties_tree, branch_trees, name_trees, any_of_tree, one_of_tree, if_tree}
+use Rattle.olk_tree.specs.Shown.{missing_trees, properties_tree, patterns_tree, branch_trees, name_trees, any_of_tree, one_of_tree, if_tree}
 use Rattle.olk_tree.specs.declared.map.SmallMap.{SmallMap}
 use Rattle.olk_tree.specs.declared.node.KeywordOver.{KeywordOver}
 use Rattle.olk_tree.specs.declared.node.KeywordOver.TheVariants as keyword
@@ -92,9 +96,34 @@ names_report r u n v Q = flat_map (λ x. map (wrapped v Q) (r n u (string x.0) Q
 abbrev pub names_first : {N : Type 0} → (N → Bool → Data → Path → List Fault) → Bool → N → Data → Path → List Fault
 names_first s u n v Q = first_of (λ x. map (wrapped v Q) (s n u (string x.0) Q)) (members v)
 
-module _ {K N : Type 0} (finds : K → Data → List Text) (m : N → Data → Question) where
+module _ {R N : Type 0} (answers : R → Name → Says) where
+  -- each member whose name a pattern matches, with the pattern's node
+  module _ (costs : R → Bool) (m : N → Data → Question) where
+    abbrev pub matched_mean : CompiledPattern R → N → Data → Question
+    matched_mean p n v = every (λ x. conditional (match_question answers costs p x.0) (m n x.1) (always true)) (members v)
+
+    abbrev pub patterns_mean : List (CompiledPattern R × N) → Data → Question
+    patterns_mean es v = every (λ e. matched_mean e.0 e.1 v) es
+
+  -- what the nodes find at these members, pattern by pattern
+  module _ (r : N → Bool → Data → Path → List Fault) (u : Bool) where
+    abbrev pub matched_report : CompiledPattern R → N → Data → Path → List Fault
+    matched_report p n v Q = flat_map (λ x. r n u x.1 (Q // x.0)) (matched answers u p v)
+
+    abbrev pub patterns_report : List (CompiledPattern R × N) → Data → Path → List Fault
+    patterns_report es v Q = flat_map (λ e. matched_report e.0 e.1 v Q) es
+
+  -- and at the first of these members that is refused, by the first pattern whose node refuses it
+  module _ (s : N → Bool → Data → Path → List Fault) (u : Bool) where
+    abbrev pub matched_first : CompiledPattern R → N → Data → Path → List Fault
+    matched_first p n v Q = first_of (λ x. s n u x.1 (Q // x.0)) (matched answers u p v)
+
+    abbrev pub patterns_first : List (CompiledPattern R × N) → Data → Path → List Fault
+    patterns_first es v Q = first_of (λ x. first_of (λ e. s e.1 u x.1 (Q // x.0)) (matching answers u es x.0)) (members v)
+
+module _ {K R N : Type 0} (o : Kit K R) (m : N → Data → Question) where
   -- whether a keyword accepts, over what its nodes mean
-  unfoldable pub validator_means : KeywordOver K N → Data → Question
+  unfoldable pub validator_means : KeywordOver K R N → Data → Question
   validator_means (keyword.Properties k) v = properties_mean m (named k.properties) v
   validator_means (keyword.PropertiesWithRequired2 k) v = both (always (is_empty (missing (two_texts k.first k.second) v))) (properties_mean m (named k.properties) v)
   validator_means (keyword.Required k) v = always (is_empty (missing (texts_of k.required.items) v))
@@ -112,11 +141,13 @@ module _ {K N : Type 0} (finds : K → Data → List Text) (m : N → Data → Q
   validator_means (keyword.PropertyNames k) v = names_mean m k.node v
   validator_means (keyword.PropertyNamesFalse k) v = always (is_empty (members v))
   validator_means (keyword.PropertyDependencies k) v = every (λ n. m n v) (chosen_nodes (named k.dependencies) v)
-  validator_means (keyword.Leaf p l) v = always (is_empty (finds l v))
+  validator_means (keyword.PatternProperties k) v = patterns_mean o.answers o.costs m k.patterns.items v
+  validator_means (keyword.SingleValuePatternProperties k) v = matched_mean o.answers o.costs m k.regex k.node v
+  validator_means (keyword.Leaf p l) v = always (is_empty (o.finds l v))
 
-  module _ (keyword_of : K → Name) (r : N → Bool → Data → Path → List Fault) (u : Bool) where
+  module _ (r : N → Bool → Data → Path → List Fault) (u : Bool) where
     -- what a keyword finds, over what its nodes find
-    unfoldable pub validator_report : KeywordOver K N → Data → Path → List Fault
+    unfoldable pub validator_report : KeywordOver K R N → Data → Path → List Fault
     validator_report (keyword.Properties k) v Q = properties_report r u (named k.properties) v Q
     validator_report (keyword.PropertiesWithRequired2 k) v Q = required_faults (two_texts k.first k.second) v k.required_location Q ++ properties_report r u (named k.properties) v Q
     validator_report (keyword.Required k) v Q = required_faults (texts_of k.required.items) v k.location Q
@@ -134,11 +165,13 @@ module _ {K N : Type 0} (finds : K → Data → List Text) (m : N → Data → Q
     validator_report (keyword.PropertyNames k) v Q = names_report r u k.node v Q
     validator_report (keyword.PropertyNamesFalse k) v Q = unless (is_empty (members v)) FalseSchema v k.location Q
     validator_report (keyword.PropertyDependencies k) v Q = flat_map (λ n. r n u v Q) (chosen_nodes (named k.dependencies) v)
-    validator_report (keyword.Leaf p l) v Q = map (λ t. fault (Leaf (keyword_of l) t) v Q p) (finds l v)
+    validator_report (keyword.PatternProperties k) v Q = patterns_report o.answers r u k.patterns.items v Q
+    validator_report (keyword.SingleValuePatternProperties k) v Q = matched_report o.answers r u k.regex k.node v Q
+    validator_report (keyword.Leaf p l) v Q = map (λ t. fault (Leaf (o.keyword_of l) t) v Q p) (o.finds l v)
 
     module _ (s : N → Bool → Data → Path → List Fault) where
       -- what it finds at the first step that refuses, over what its nodes find and find first
-      unfoldable pub validator_first : KeywordOver K N → Data → Path → List Fault
+      unfoldable pub validator_first : KeywordOver K R N → Data → Path → List Fault
       validator_first (keyword.Properties k) v Q = properties_first s u (named k.properties) v Q
       validator_first (keyword.PropertiesWithRequired2 k) v Q = or_else (head_of (required_faults (two_texts k.first k.second) v k.required_location Q)) (properties_first s u (named k.properties) v Q)
       validator_first (keyword.Required k) v Q = head_of (required_faults (texts_of k.required.items) v k.location Q)
@@ -156,14 +189,16 @@ module _ {K N : Type 0} (finds : K → Data → List Text) (m : N → Data → Q
       validator_first (keyword.PropertyNames k) v Q = names_first s u k.node v Q
       validator_first (keyword.PropertyNamesFalse k) v Q = unless (is_empty (members v)) FalseSchema v k.location Q
       validator_first (keyword.PropertyDependencies k) v Q = first_of (λ n. s n u v Q) (chosen_nodes (named k.dependencies) v)
-      validator_first (keyword.Leaf p l) v Q = map (λ t. fault (Leaf (keyword_of l) t) v Q p) (finds l v)
+      validator_first (keyword.PatternProperties k) v Q = patterns_first o.answers s u k.patterns.items v Q
+      validator_first (keyword.SingleValuePatternProperties k) v Q = matched_first o.answers s u k.regex k.node v Q
+      validator_first (keyword.Leaf p l) v Q = map (λ t. fault (Leaf (o.keyword_of l) t) v Q p) (o.finds l v)
 
-  module _ (keyword_of : K → Name) (t : N → Bool → Data → Path → Tree) (u : Bool) where
+  module _ (t : N → Bool → Data → Path → Tree) (u : Bool) where
     abbrev pub at_node : N → Data → Path → Tree
     at_node n = t n u
 
     -- what a keyword shows, over what its nodes show
-    unfoldable pub validator_tree : KeywordOver K N → Data → Path → Tree
+    unfoldable pub validator_tree : KeywordOver K R N → Data → Path → Tree
     validator_tree (keyword.Properties k) v Q = properties_tree at_node v Q k.location (named k.properties) []
     validator_tree (keyword.PropertiesWithRequired2 k) v Q = properties_tree at_node v Q k.location (named k.properties) (missing_trees (two_texts k.first k.second) v k.required_location Q)
     validator_tree (keyword.Required k) v Q = erring k.location Q (required_faults (texts_of k.required.items) v k.location Q)
@@ -181,7 +216,9 @@ module _ {K N : Type 0} (finds : K → Data → List Text) (m : N → Data → Q
     validator_tree (keyword.PropertyNames k) v Q = plain k.location Q (name_trees at_node v Q k.node)
     validator_tree (keyword.PropertyNamesFalse k) v Q = erring k.location Q (unless (is_empty (members v)) FalseSchema v k.location Q)
     validator_tree (keyword.PropertyDependencies k) v Q = plain k.location Q (branch_trees at_node v Q (chosen_nodes (named k.dependencies) v))
-    validator_tree (keyword.Leaf p l) v Q = leaf_node p Q (described (map (λ x. fault (Leaf (keyword_of l) x) v Q p) (finds l v)))
+    validator_tree (keyword.PatternProperties k) v Q = patterns_tree at_node v Q o.answers u k.location k.patterns.items
+    validator_tree (keyword.SingleValuePatternProperties k) v Q = patterns_tree at_node v Q o.answers u k.location ((k.regex, k.node) ∷ [])
+    validator_tree (keyword.Leaf p l) v Q = leaf_node p Q (described (map (λ x. fault (Leaf (o.keyword_of l) x) v Q p) (o.finds l v)))
 
 -- whether a body accepts
 abbrev pub body_means : {W : Type 0} → (W → Data → Question) → Body W → Data → Question

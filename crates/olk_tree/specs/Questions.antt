@@ -1,5 +1,6 @@
 -- Questions about a value: the verdict, and how many matchers are asked at most, for either answer for unfinished matches.
 use Rattle.std.specs.Prelude.{ℕ, ◌+◌, ◌==◌, Bool, true, false, not, cond, ◌&&◌, ◌||◌, List, [], ◌∷◌, count_by}
+use Rattle.olk_spec.specs.World.{Says, reads_as}
 
 pub record Question : Type 0 where
   pub accepts : Bool → Bool
@@ -8,6 +9,10 @@ pub record Question : Type 0 where
 -- nothing is asked
 abbrev pub always : Bool → Question
 always b = record { accepts = λ u. b; asks = λ u. 0 }
+
+-- what a matcher says, where asking it counts or does not
+abbrev pub said_to : Bool → Says → Question
+said_to costs s = record { accepts = λ u. reads_as u s; asks = λ u. cond costs 1 0 }
 
 -- both accept; the second is asked where the first does
 abbrev pub both : Question → Question → Question

@@ -2,11 +2,14 @@
 use Rattle.std.specs.Prelude.{Bool, true, false, not, cond, ◌==◌, nat_lt, codes, List, [], ◌∷◌, ◌++◌, map, count_by, Some, None, option_to_list}
 use Rattle.std.specs.List.{flat_map}
 use Rattle.serde_json.specs.Data.{Data, string}
+use Rattle.olk_spec.specs.World.{Says}
 use Rattle.olk_spec.specs.Names.{Name, Path, ◌//◌, lookup, those, put_if, is_empty, is_among}
 use Rattle.olk_spec.specs.Schemas.{is_object, members}
 use Rattle.olk_spec.specs.Accepts.{missing}
 use Rattle.olk_spec.specs.Reports.{required_faults}
 use Rattle.olk_spec.specs.Tree.{Tree, Described, result, plain, erring}
+use Rattle.olk_base.specs.declared.pattern.CompiledPattern.{CompiledPattern}
+use Rattle.olk_tree.specs.Matched.{matched}
 
 -- `required` inside another validator: one more child where a name is missing
 abbrev pub missing_trees : List Name → Data → Path → Path → List Tree
@@ -28,6 +31,19 @@ module _ {N : Type 0} (t : N → Data → Path → Tree) (v : Data) (Q : Path) w
   -- annotated with the names that it met, where the value is an object
   abbrev pub properties_tree : Path → List (Name × N) → List Tree → Tree
   properties_tree P es more = result P Q (cond (is_object v) (Some (met_names es)) None) false [] (member_trees es ++ more)
+
+  module _ {R : Type 0} (answers : R → Name → Says) (u : Bool) where
+    -- the nodes of the patterns at the members whose names they match, pattern by pattern
+    abbrev pub match_trees : List (CompiledPattern R × N) → List Tree
+    match_trees es = flat_map (λ e. map (λ x. t e.1 x.1 (Q // x.0)) (matched answers u e.0 v)) es
+
+    -- a name for each match
+    abbrev pub match_names : List (CompiledPattern R × N) → List Name
+    match_names es = flat_map (λ e. map (λ x. x.0) (matched answers u e.0 v)) es
+
+    -- annotated with these, where the value is an object
+    abbrev pub patterns_tree : Path → List (CompiledPattern R × N) → Tree
+    patterns_tree P es = result P Q (cond (is_object v) (Some (match_names es)) None) false [] (match_trees es)
 
   abbrev pub branch_trees : List N → List Tree
   branch_trees ns = map (λ n. t n v Q) ns

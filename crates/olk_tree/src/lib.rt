@@ -13,6 +13,7 @@ pub mod means;
 pub mod node;
 pub mod not;
 pub mod one_of;
+pub mod pattern_properties;
 pub mod properties;
 pub mod property_dependencies;
 pub mod property_names;

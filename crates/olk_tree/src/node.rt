@@ -6,16 +6,17 @@ use crate::if_::{IfElse, IfThen, IfThenElse};
 use crate::means::{Means, Reports};
 use crate::not::Not;
 use crate::one_of::{OneOf, SingleOneOf};
+use crate::pattern_properties::{PatternProperties, SingleValuePatternProperties};
 use crate::properties::{SmallProperties, SmallPropertiesWithRequired2};
 use crate::property_dependencies::PropertyDependencies;
 use crate::property_names::{PropertyNames, PropertyNamesFalse};
 use crate::required::RequiredValidator;
-use olk_base::Leaf;
+use olk_base::{Leaf, RegexEngine};
 use olk_reports::Location;
 
 /// A keyword of a schema object, over the nodes that it holds.
 #[derive(Drop)]
-pub enum KeywordOver<K, N> {
+pub enum KeywordOver<K, R, N> {
     Properties(SmallProperties<N>),
     PropertiesWithRequired2(SmallPropertiesWithRequired2<N>),
     Required(RequiredValidator),
@@ -33,28 +34,33 @@ pub enum KeywordOver<K, N> {
     PropertyNames(PropertyNames<N>),
     PropertyNamesFalse(PropertyNamesFalse),
     PropertyDependencies(PropertyDependencies<N>),
+    PatternProperties(PatternProperties<R, N>),
+    SingleValuePatternProperties(SingleValuePatternProperties<R, N>),
     Leaf(Location, K),
 }
 
-impl<K: Leaf, N: Means> Means for KeywordOver<K, N> {
+impl<K: Leaf, R: RegexEngine, N: Means> Means for KeywordOver<K, R, N> {
+    ghost use Rattle.olk_base.specs.Kit.{kit};
     ghost use Rattle.olk_tree.specs.Answers.{validator_means};
 
-    ghost means = { validator_means K.finds N.means };
+    ghost means = { validator_means (kit K.Leaf R.RegexEngine) N.means };
 }
 
-impl<K: Leaf, N: Reports> Reports for KeywordOver<K, N> {
+impl<K: Leaf, R: RegexEngine, N: Reports> Reports for KeywordOver<K, R, N> {
+    ghost use Rattle.olk_base.specs.Kit.{kit};
     ghost use Rattle.olk_tree.specs.Answers.{validator_report, validator_first};
     ghost use Rattle.olk_tree.specs.Agreement.{validator_agrees, validator_first_agrees};
 
-    ghost report = { λ k u. validator_report K.finds N.means K.keyword_of N.report u k };
+    ghost report = { λ k u. validator_report (kit K.Leaf R.RegexEngine) N.means N.report u k };
 
-    ghost first = { λ k u. validator_first K.finds N.means K.keyword_of N.report u N.first k };
+    ghost first = { λ k u.
+        validator_first (kit K.Leaf R.RegexEngine) N.means N.report u N.first k };
 
-    ghost agrees = { λ k u v Q. validator_agrees K.finds N.means K.keyword_of N.report u
-        (λ n w R. N.agrees n u w R) k v Q };
+    ghost agrees = { λ k u v Q. validator_agrees (kit K.Leaf R.RegexEngine) N.means N.report u
+        (λ n w S. N.agrees n u w S) k v Q };
 
-    ghost first_agrees = { λ k u v Q. validator_first_agrees K.finds N.means K.keyword_of N.report
-        N.first u (λ n w R. N.first_agrees n u w R) k v Q };
+    ghost first_agrees = { λ k u v Q. validator_first_agrees (kit K.Leaf R.RegexEngine)
+        N.means N.report N.first u (λ n w S. N.first_agrees n u w S) k v Q };
 }
 
 /// What stands at a place: true, false, keywords, or a list of names that an object is to have.

@@ -3,7 +3,7 @@ use Rattle.olk_members.specs.Plans.{planned}
 use Rattle.std.proofs.Common.{[], inl, inr, refl, sym, subst, option_to_list}
 use Rattle.olk_read.specs.declared.shape.Shape.TheVariants.{NoNames, DependentRequired}
 use Rattle.olk_make.specs.Making.{MakesClaims, MakesCondition, MakesPart}
-use Rattle.olk_make.proofs.Makes.{part_of_claims, part_of_own, all_of_alone, any_of_alone, one_of_alone, not_alone, leaf_alone, unread_alone, property_names_alone, no_names_alone, any_names_alone, dependent_required_alone, dependent_schemas_alone, dependencies_alone, property_dependencies_alone, without_nodes, makes_leaf, makes_unread}
+use Rattle.olk_make.proofs.Makes.{part_of_claims, part_of_own, all_of_alone, any_of_alone, one_of_alone, not_alone, leaf_alone, unread_alone, pattern_properties_alone, property_names_alone, no_names_alone, any_names_alone, dependent_required_alone, dependent_schemas_alone, dependencies_alone, property_dependencies_alone, without_nodes, makes_leaf, makes_unread}
 use Rattle.olk_make.proofs.PropertyNames.{makes_any_names}
 use Rattle.olk_make.proofs.Conditions.{part_of_if, part_of_no_if, part_of_then, part_of_else, part_of_unpaired}
 use Rattle.olk_make.proofs.making.make_keyword.Goals as goal
@@ -64,3 +64,6 @@ returns-in_ok-make-in-Dependencies-clause-makes g c = part_of_own (kit g.K.Leaf 
 
 pub returns-in_ok-make-in-PropertyDependencies-clause-makes : goal.returns-in_ok-make-in-PropertyDependencies-clause-makes
 returns-in_ok-make-in-PropertyDependencies-clause-makes g c = part_of_own (kit g.K.Leaf g.R.RegexEngine) c.args.part.shape _ c.args.part.location c.args.part.nodes.items c.args.cases.now _ c.args.place.now (planned c.args.plan) c.in-PropertyDependencies.is refl (property_dependencies_alone (kit g.K.Leaf g.R.RegexEngine) c.in-PropertyDependencies.keys c.in-PropertyDependencies.texts) c.in_ok-make-in-PropertyDependencies.ensures.makes
+
+pub returns-in_ok-make-in-PatternProperties-clause-makes : goal.returns-in_ok-make-in-PatternProperties-clause-makes
+returns-in_ok-make-in-PatternProperties-clause-makes g c = part_of_own (kit g.K.Leaf g.R.RegexEngine) c.args.part.shape _ c.args.part.location c.args.part.nodes.items c.args.cases.now _ c.args.place.now (planned c.args.plan) c.in-PatternProperties.is refl (pattern_properties_alone (kit g.K.Leaf g.R.RegexEngine) c.in-PatternProperties.patterns) c.in_ok-make-in-PatternProperties.ensures.makes

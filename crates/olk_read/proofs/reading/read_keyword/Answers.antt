@@ -1,16 +1,17 @@
 use Rattle.olk_base.specs.Kit.{world}
-use Rattle.std.proofs.Common.{[], ◌∷◌, refl, sym, subst, codes}
+use Rattle.std.proofs.Common.{[], ◌∷◌, refl, sym, ap, subst, codes}
 use Rattle.olk_base.specs.Kit.{kit}
 use Rattle.olk_read.specs.Reading.{IsRead}
 use Rattle.olk_read.specs.declared.shape.Shape.TheVariants as shape
-use Rattle.serde_json.specs.View.{view}
+use Rattle.serde_json.specs.View.{view, members_view}
 use Rattle.olk_spec.specs.Faults.{fault}
 use Rattle.olk_reports.proofs.Errors.{kind_of_unsupported}
 use Rattle.olk_read.specs.Refusing.{TellsOneOf}
 use Rattle.olk_read.specs.Reading.{IsFor}
-use Rattle.olk_read.proofs.Spending.{exit}
-use Rattle.olk_read.proofs.Read.{conditional_is_read, own_if, own_then, own_else, refuses_own, refuses_name, refuses_without_memory, is_read, right_dependent_required, right_dependencies, right_property_dependencies, names_are_read, own_properties, own_required, own_dependent_required, own_dependent_schemas, own_dependencies, own_property_dependencies, own_all_of, own_any_of, own_one_of}
-use Rattle.olk_spec.specs.Schemas.{members}
+use Rattle.olk_read.specs.Patterns.{PatternsAreRead, RefusesPatterns}
+use Rattle.olk_read.proofs.Spending.{exit, tells_left}
+use Rattle.olk_read.proofs.Read.{conditional_is_read, own_if, own_then, own_else, refuses_own, refuses_name, refuses_without_memory, is_read, right_dependent_required, right_dependencies, right_property_dependencies, names_are_read, own_properties, own_pattern_properties, patterns_are_read, refuses_patterns, own_required, own_dependent_required, own_dependent_schemas, own_dependencies, own_property_dependencies, own_all_of, own_any_of, own_one_of}
+use Rattle.olk_spec.specs.Schemas.{members, listed, is_object}
 use Rattle.olk_read.proofs.NameLists.{name_lists_are_arrays}
 use Rattle.olk_read.proofs.reading.read_keyword.Goals as goal
 
@@ -82,3 +83,13 @@ returns-in-Else-clause-built g c = subst (λ x. IsRead (kit g.L.Leaf.Leaf g.M.En
 
 pub returns-in_ok-read_other-in-Other-clause-built : goal.returns-in_ok-read_other-in-Other-clause-built
 returns-in_ok-read_other-in-Other-clause-built g c = c.in_ok-read_other-in-Other.ensures.built c.args.condition
+
+pub returns-in_err-entries-in-PatternProperties-clause-refused : goal.returns-in_err-entries-in-PatternProperties-clause-refused
+returns-in_err-entries-in-PatternProperties-clause-refused g c = exit _ _ _ c.from_residual-in_err-entries-in-PatternProperties.ensures.1 (λ e q. refuses_own (world g.L.Leaf.Leaf g.M.Engine.RegexEngine) c.args.name.now (codes "patternProperties") (view c.args.value.now) c.args.location.now _ _ c.args.meter.now e (subst (IsFor c.args.name.now) c.in-PatternProperties.is c.keyword_for.ensures) (own_pattern_properties (world g.L.Leaf.Leaf g.M.Engine.RegexEngine) (view c.args.value.now) c.args.location.now) (tells_left _ _ e (subst (TellsOneOf _) (sym q) c.in_err-entries-in-PatternProperties.ensures.refused)))
+
+pub returns-in_err-patterns-in-PatternProperties-clause-refused : goal.returns-in_err-patterns-in-PatternProperties-clause-refused
+returns-in_err-patterns-in-PatternProperties-clause-refused g c = exit _ _ _ c.from_residual-in_err-patterns-in-PatternProperties.ensures.1 (λ e q. refuses_patterns (kit g.L.Leaf.Leaf g.M.Engine.RegexEngine) c.args.name.now (view c.args.value.now) c.args.location.now c.args.meter.now c.patterns_of_entries.new.meter e (subst (IsFor c.args.name.now) c.in-PatternProperties.is c.keyword_for.ensures) (ap is_object c.in_ok-entries-in-PatternProperties.ensures.object) (subst (λ d. RefusesPatterns (kit g.L.Leaf.Leaf g.M.Engine.RegexEngine) (members d) c.args.location.now c.args.meter.now c.patterns_of_entries.new.meter e) (sym c.in_ok-entries-in-PatternProperties.ensures.object) (subst (λ x. RefusesPatterns (kit g.L.Leaf.Leaf g.M.Engine.RegexEngine) (listed (members_view c.in_ok-entries-in-PatternProperties.entries.now.entries)) c.args.location.now c.args.meter.now c.patterns_of_entries.new.meter x) (sym q) c.in_err-patterns-in-PatternProperties.ensures.refused)))
+
+pub returns-in_ok-patterns-in-PatternProperties-clause-built : goal.returns-in_ok-patterns-in-PatternProperties-clause-built
+returns-in_ok-patterns-in-PatternProperties-clause-built g c = patterns_are_read (kit g.L.Leaf.Leaf g.M.Engine.RegexEngine) c.in_ok-patterns-in-PatternProperties.patterns c.args.condition c.args.name.now (view c.args.value.now) c.args.location.now c.args.meter.now c.patterns_of_entries.new.meter (subst (IsFor c.args.name.now) c.in-PatternProperties.is c.keyword_for.ensures) (ap is_object c.in_ok-entries-in-PatternProperties.ensures.object)
+    (subst (λ d. PatternsAreRead (kit g.L.Leaf.Leaf g.M.Engine.RegexEngine) c.in_ok-patterns-in-PatternProperties.patterns.items (members d) c.args.location.now c.args.meter.now c.patterns_of_entries.new.meter) (sym c.in_ok-entries-in-PatternProperties.ensures.object) c.in_ok-patterns-in-PatternProperties.ensures.read)

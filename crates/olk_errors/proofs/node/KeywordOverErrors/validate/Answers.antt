@@ -1,4 +1,5 @@
 use Rattle.std.proofs.Common.{rules, IfErr, sym, subst}
+use Rattle.olk_base.specs.Kit.{kit}
 use Rattle.olk_base.specs.Nodes.{data_of}
 use Rattle.olk_tree.specs.Answers.{validator_means, validator_report, validator_first}
 use Rattle.olk_errors.specs.Found.{IfInvalid, IsErrorOf}
@@ -7,9 +8,9 @@ use Rattle.olk_errors.proofs.node.KeywordOverErrors.validate.Goals as goal
 pub returns-in-Leaf-clause-invalid : goal.returns-in-Leaf-clause-invalid
 unfolding validator_means validator_report validator_first
 returns-in-Leaf-clause-invalid g c = subst (λ k. IfErr c.validate_leaf.result (λ e. IfInvalid e (IsErrorOf (record {
-  accepts = (validator_means g.K.Leaf.finds g.N.Means.means k (data_of c.args.node)).accepts c.args.ctx.now.answer;
-  first = validator_first g.K.Leaf.finds g.N.Means.means g.K.Leaf.keyword_of g.N.Reports.report c.args.ctx.now.answer g.N.Reports.first k (data_of c.args.node) c.args.path.now;
-  all = validator_report g.K.Leaf.finds g.N.Means.means g.K.Leaf.keyword_of g.N.Reports.report c.args.ctx.now.answer k (data_of c.args.node) c.args.path.now;
+  accepts = (validator_means (kit g.K.Leaf g.R.RegexEngine) g.N.Means.means k (data_of c.args.node)).accepts c.args.ctx.now.answer;
+  first = validator_first (kit g.K.Leaf g.R.RegexEngine) g.N.Means.means g.N.Reports.report c.args.ctx.now.answer g.N.Reports.first k (data_of c.args.node) c.args.path.now;
+  all = validator_report (kit g.K.Leaf g.R.RegexEngine) g.N.Means.means g.N.Reports.report c.args.ctx.now.answer k (data_of c.args.node) c.args.path.now;
 })))) (sym c.in-Leaf.is) c.validate_leaf.ensures.invalid
 
 pub returns-in-Not-clause-ok : goal.returns-in-Not-clause-ok

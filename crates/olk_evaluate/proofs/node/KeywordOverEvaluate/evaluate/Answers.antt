@@ -1,5 +1,6 @@
 use Rattle.std.proofs.Common.{sym, subst}
 use Rattle.std.proofs.lemmas.Result.{IfOk-weaker}
+use Rattle.olk_base.specs.Kit.{kit}
 use Rattle.olk_base.specs.Nodes.{data_of}
 use Rattle.olk_spec.specs.Tree.{IsLikeTree}
 use Rattle.olk_reports.specs.Evaluations.{node_at, shown_of}
@@ -11,5 +12,5 @@ use Rattle.olk_evaluate.proofs.node.KeywordOverEvaluate.evaluate.Goals as goal
 pub returns-in-Leaf-clause-tree : goal.returns-in-Leaf-clause-tree
 unfolding validator_tree keyword_place
 returns-in-Leaf-clause-tree g c = IfOk-weaker c.leaf_errors.result _ _ (λ r texts.
-    subst (λ k. IsLikeTree (validator_tree g.K.Leaf.finds g.N.Means.means g.K.Leaf.keyword_of g.N.Evaluate.tree c.args.ctx.now.answer k (data_of c.args.node) c.args.path.now) (node_at (keyword_place k) c.args.path.now (shown_of r))) (sym c.in-Leaf.is)
+    subst (λ k. IsLikeTree (validator_tree (kit g.K.Leaf g.R.RegexEngine) g.N.Means.means g.N.Evaluate.tree c.args.ctx.now.answer k (data_of c.args.node) c.args.path.now) (node_at (keyword_place k) c.args.path.now (shown_of r))) (sym c.in-Leaf.is)
     (leaf_like (g.K.Leaf.keyword_of c.in-Leaf.leaf) c.in-Leaf.field-0 c.args.path.now (data_of c.args.node) (g.K.Leaf.finds c.in-Leaf.leaf (data_of c.args.node)) texts)) c.leaf_errors.ensures

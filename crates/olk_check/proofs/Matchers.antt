@@ -1,0 +1,27 @@
+-- A matcher that is asked of a name answers a question.
+use Rattle.std.proofs.Common.{◌≡◌, Bool, true, false, refl, sym, subst, arith}
+use Rattle.olk_spec.specs.World.{Says, matched, unmatched, unfinished, reads_as}
+use Rattle.olk_base.specs.Lawful.{Asking, asked_of}
+use Rattle.olk_tree.specs.Questions.{said_to}
+use Rattle.olk_check.specs.Asks.{OnlyAsks, Asks}
+
+module _ (a : Asking) where
+  only_matches : (costs : Bool) (s : Says) → OnlyAsks a (asked_of costs s a)
+  only_matches true matched = record { answer = refl; compiled = refl; leaves = refl; made = refl; asked = omega arith; unfinished = omega arith }
+  only_matches true unmatched = record { answer = refl; compiled = refl; leaves = refl; made = refl; asked = omega arith; unfinished = omega arith }
+  only_matches true unfinished = record { answer = refl; compiled = refl; leaves = refl; made = refl; asked = omega arith; unfinished = omega arith }
+  only_matches false matched = record { answer = refl; compiled = refl; leaves = refl; made = refl; asked = omega arith; unfinished = omega arith }
+  only_matches false unmatched = record { answer = refl; compiled = refl; leaves = refl; made = refl; asked = omega arith; unfinished = omega arith }
+  only_matches false unfinished = record { answer = refl; compiled = refl; leaves = refl; made = refl; asked = omega arith; unfinished = omega arith }
+
+  asks_matcher : (costs : Bool) (s : Says) → Asks a (asked_of costs s a) (said_to costs s) (reads_as a.answer s)
+  asks_matcher true matched = record { only = only_matches true matched; asked_to = omega arith; verdict = refl; certain = λ e l u. refl }
+  asks_matcher true unmatched = record { only = only_matches true unmatched; asked_to = omega arith; verdict = refl; certain = λ e l u. refl }
+  asks_matcher true unfinished = record { only = only_matches true unfinished; asked_to = omega arith; verdict = refl; certain = λ e l u. absurd (omega arith) }
+  asks_matcher false matched = record { only = only_matches false matched; asked_to = omega arith; verdict = refl; certain = λ e l u. refl }
+  asks_matcher false unmatched = record { only = only_matches false unmatched; asked_to = omega arith; verdict = refl; certain = λ e l u. refl }
+  asks_matcher false unfinished = record { only = only_matches false unfinished; asked_to = omega arith; verdict = refl; certain = λ e l u. absurd (omega arith) }
+
+-- the answer of a call, with what it leaves of the context
+pub match_answers : (costs : Bool) (s : Says) (a b : Asking) (r : Bool) → r ≡ reads_as a.answer s → b ≡ asked_of costs s a → Asks a b (said_to costs s) r
+match_answers costs s a b r answer counts = subst (λ x. Asks a x (said_to costs s) r) (sym counts) (subst (λ x. Asks a (asked_of costs s a) (said_to costs s) x) (sym answer) (asks_matcher a costs s))

@@ -1,0 +1,98 @@
+//! `patternProperties`.
+ghost use Rattle.std.specs.Prelude.{true};
+ghost use Rattle.serde_json.specs.View.{view};
+ghost use Rattle.olk_tree.specs.Questions.{always, conditional};
+ghost use Rattle.olk_tree.specs.Matched.{match_question};
+ghost use Rattle.olk_tree.specs.Answers.{matched_mean, patterns_mean};
+ghost use Rattle.olk_tree.specs.Visited.{object_of};
+ghost use Rattle.olk_check.specs.Asks.{Asks};
+
+use crate::IsValid;
+use olk_base::{CompiledPattern, Node, PropertyPattern, RegexEngine, ValidationContext};
+use olk_tree::pattern_properties::{PatternProperties, SingleValuePatternProperties};
+use serde_json::{Map, Value};
+
+impl<R: RegexEngine, N: IsValid> IsValid for PatternProperties<R, N> {
+    fn is_valid(&self, node: Node<'_>, ctx: &mut ValidationContext) -> bool {
+        match node.as_object() {
+            Some(members) => patterns_accept(&self.patterns, members, ctx),
+            None => true,
+        }
+    }
+}
+
+impl<R: RegexEngine, N: IsValid> IsValid for SingleValuePatternProperties<R, N> {
+    fn is_valid(&self, node: Node<'_>, ctx: &mut ValidationContext) -> bool {
+        match node.as_object() {
+            Some(members) => matched_accepted(&self.regex, &self.node, members, ctx),
+            None => true,
+        }
+    }
+}
+
+/// Whether the pattern matches the name, with the context's answer for a match that is left unfinished (JSON Schema 2020-12
+/// Core, 10.3.2.2).
+///
+/// Takes no memory. The context keeps its answer; of the counts only those of matchers that were asked and of matches
+/// that were left unfinished rise, and none where the pattern stands for a test.
+pub fn matches<R: RegexEngine>(
+    pattern: &CompiledPattern<R>,
+    name: &str,
+    ctx: &mut ValidationContext,
+) -> bool
+    ensures { Asks ctx.old ctx.new
+        (match_question R.answers R.costs pattern.now name.now) result }
+{
+    pattern.is_match_in(name, ctx)
+}
+
+// Whether each node accepts the members whose names its pattern matches.
+fn patterns_accept<R: RegexEngine, N: IsValid>(
+    patterns: &Vec<(CompiledPattern<R>, N)>,
+    members: &Map<String, Value>,
+    ctx: &mut ValidationContext,
+) -> bool
+    ensures { Asks ctx.old ctx.new (patterns_mean R.answers R.costs N.means
+        patterns.now.items (object_of members.now.entries)) result }
+{
+    for entry in patterns {
+        if !matched_accepted(&entry.0, &entry.1, members, ctx) {
+            return false;
+        }
+    }
+    true
+}
+
+// Whether the node accepts each member whose name the pattern matches.
+fn matched_accepted<R: RegexEngine, N: IsValid>(
+    pattern: &CompiledPattern<R>,
+    subschema: &N,
+    members: &Map<String, Value>,
+    ctx: &mut ValidationContext,
+) -> bool
+    ensures { Asks ctx.old ctx.new (matched_mean R.answers R.costs N.means
+        pattern.now subschema.now (object_of members.now.entries)) result }
+{
+    for (name, value) in members {
+        if !accepted_if_matched(pattern, subschema, name.as_str(), value, ctx) {
+            return false;
+        }
+    }
+    true
+}
+
+// Whether the node accepts the value, if the pattern matches its name.
+#[tactic(auto, using(crate::proofs::Walks::conditional_answers))]
+fn accepted_if_matched<R: RegexEngine, N: IsValid>(
+    pattern: &CompiledPattern<R>,
+    subschema: &N,
+    name: &str,
+    value: &Value,
+    ctx: &mut ValidationContext,
+) -> bool
+    ensures { Asks ctx.old ctx.new (conditional
+        (match_question R.answers R.costs pattern.now name.now)
+        (N.means subschema.now (view value.now)) (always true)) result }
+{
+    !matches(pattern, name, ctx) || subschema.is_valid(Node::Value(value), ctx)
+}

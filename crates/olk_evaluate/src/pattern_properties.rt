@@ -1,0 +1,164 @@
+//! `patternProperties`.
+ghost use Rattle.std.specs.Prelude.{◌≡◌, OnOk};
+ghost use Rattle.serde_json.specs.View.{view};
+ghost use Rattle.olk_tree.specs.Visited.{object_of};
+ghost use Rattle.olk_check.specs.Asks.{OnlyAsks};
+ghost use Rattle.olk_evaluate.specs.Members.{MeetsMore, wanted_at};
+ghost use Rattle.olk_evaluate.specs.Patterns.{match_here, matches_of, matches_of_all};
+
+use crate::properties::{Met, child_below};
+use crate::{Evaluate, Located};
+use olk_base::{CompiledPattern, Node, RegexEngine, ValidationContext};
+use olk_check::matches;
+use olk_reports::{EvaluationResult, InstancePath};
+use olk_tree::pattern_properties::{PatternProperties, SingleValuePatternProperties};
+use serde_json::{Map, Value};
+use std::alloc::{AllocError, Global};
+
+impl<R, N> Located for PatternProperties<R, N> {
+    ghost place = { λ k. k.location };
+
+    fn location(&self) -> &str {
+        self.location.as_str()
+    }
+}
+
+/// A child for each match, pattern by pattern; where the value is an object, a name for each match is annotated
+/// (JSON Schema 2020-12 Core, 10.3.2.2).
+impl<'a, R: RegexEngine, N: Evaluate<'a>> Evaluate<'a> for PatternProperties<R, N> {
+    ghost use Rattle.olk_tree.specs.Shown.{patterns_tree};
+
+    ghost tree = { λ k u v Q. patterns_tree (λ n. N.tree n u) v Q R.answers u
+        k.location k.patterns.items };
+
+    #[tactic(auto, using(olk_check::proofs::Asked::only_same))]
+    fn evaluate(
+        &'a self,
+        alloc: Global,
+        node: Node<'a>,
+        path: &mut InstancePath,
+        ctx: &mut ValidationContext,
+    ) -> Result<EvaluationResult<'a>, AllocError> {
+        match node.as_object() {
+            Some(members) => {
+                let mut met: Met<'a> = Met::with_capacity(alloc, members.len())?;
+                meet_patterns(alloc, &self.patterns, members, path, ctx, &mut met)?;
+                Ok(met.outcome(alloc))
+            }
+            None => Ok(EvaluationResult::valid_empty(alloc)),
+        }
+    }
+}
+
+impl<R, N> Located for SingleValuePatternProperties<R, N> {
+    ghost place = { λ k. k.location };
+
+    fn location(&self) -> &str {
+        self.location.as_str()
+    }
+}
+
+/// A child for each match; where the value is an object, the names that match are annotated
+/// (JSON Schema 2020-12 Core, 10.3.2.2).
+impl<'a, R: RegexEngine, N: Evaluate<'a>> Evaluate<'a> for SingleValuePatternProperties<R, N> {
+    ghost use Rattle.std.specs.Prelude.{◌∷◌, []};
+    ghost use Rattle.olk_tree.specs.Shown.{patterns_tree};
+
+    ghost tree = { λ k u v Q. patterns_tree (λ n. N.tree n u) v Q
+        R.answers u k.location ((k.regex, k.node) ∷ []) };
+
+    #[tactic(auto, using(olk_check::proofs::Asked::only_same))]
+    fn evaluate(
+        &'a self,
+        alloc: Global,
+        node: Node<'a>,
+        path: &mut InstancePath,
+        ctx: &mut ValidationContext,
+    ) -> Result<EvaluationResult<'a>, AllocError> {
+        match node.as_object() {
+            Some(members) => {
+                let mut met: Met<'a> = Met::with_capacity(alloc, members.len())?;
+                meet_matched(alloc, &self.regex, &self.node, members, path, ctx, &mut met)?;
+                Ok(met.outcome(alloc))
+            }
+            None => Ok(EvaluationResult::valid_empty(alloc)),
+        }
+    }
+}
+
+// The members whose names patterns match, pattern by pattern.
+fn meet_patterns<'a, R: RegexEngine, N: Evaluate<'a>>(
+    alloc: Global,
+    patterns: &'a Vec<(CompiledPattern<R>, N)>,
+    members: &'a Map<String, Value>,
+    path: &mut InstancePath,
+    ctx: &mut ValidationContext,
+    met: &mut Met<'a>,
+) -> Result<(), AllocError>
+    ensures met { OnOk result (MeetsMore (wanted_at N.tree N.means ctx.old.answer path.old)
+        (matches_of_all R.answers ctx.old.answer
+        patterns.now.items (object_of members.now.entries)) met.old met.new) }
+    ensures path { path.new ≡ path.old }
+    ensures context { OnlyAsks ctx.old ctx.new }
+{
+    for entry in patterns {
+        meet_matched(alloc, &entry.0, &entry.1, members, path, ctx, met)?;
+    }
+    Ok(())
+}
+
+// The members whose names the pattern matches.
+fn meet_matched<'a, R: RegexEngine, N: Evaluate<'a>>(
+    alloc: Global,
+    pattern: &'a CompiledPattern<R>,
+    subschema: &'a N,
+    members: &'a Map<String, Value>,
+    path: &mut InstancePath,
+    ctx: &mut ValidationContext,
+    met: &mut Met<'a>,
+) -> Result<(), AllocError>
+    ensures met { OnOk result (MeetsMore (wanted_at N.tree N.means ctx.old.answer path.old)
+        (matches_of R.answers ctx.old.answer
+        pattern.now subschema.now (object_of members.now.entries)) met.old met.new) }
+    ensures path { path.new ≡ path.old }
+    ensures context { OnlyAsks ctx.old ctx.new }
+{
+    for (name, value) in members {
+        meet_if_matched(
+            alloc,
+            pattern,
+            subschema,
+            name.as_str(),
+            value,
+            path,
+            ctx,
+            met,
+        )?;
+    }
+    Ok(())
+}
+
+// A member, if the pattern matches its name.
+fn meet_if_matched<'a, R: RegexEngine, N: Evaluate<'a>>(
+    alloc: Global,
+    pattern: &'a CompiledPattern<R>,
+    subschema: &'a N,
+    name: &'a str,
+    value: &'a Value,
+    path: &mut InstancePath,
+    ctx: &mut ValidationContext,
+    met: &mut Met<'a>,
+) -> Result<(), AllocError>
+    ensures met { OnOk result (MeetsMore (wanted_at N.tree N.means ctx.old.answer path.old)
+        (match_here R.answers ctx.old.answer
+        pattern.now subschema.now name.now (view value.now)) met.old met.new) }
+    ensures path { path.new ≡ path.old }
+    ensures context { OnlyAsks ctx.old ctx.new }
+{
+    if !matches(pattern, name, ctx) {
+        return Ok(());
+    }
+    let child = child_below(alloc, subschema, name, value, path, ctx)?;
+    met.add(name, child)?;
+    Ok(())
+}

@@ -1,0 +1,212 @@
+-- What holds `patternProperties`.
+use Rattle.std.specs.Prelude.{◌≡◌, ◌≢◌, ◌≤◌, ◌+◌, ⊤, ℕ, Bool, true, false, cond, ◌&&◌, List, [], ◌∷◌, ◌++◌, map, zip, length, sum_by, codes, Vec, Some, None}
+use Rattle.std.specs.List.{list_all, flat_map}
+use Rattle.std.specs.declared.alloc.Global.{Global}
+use Rattle.std.proofs.Common.{refl, sym, ◌∙◌, ap, subst, arith}
+use Rattle.std.proofs.lemmas.List.{append-nil}
+use Rattle.std.proofs.lemmas.List.Sums.{sum_by-cons}
+use Rattle.serde_json.specs.Data.{Data, Members}
+use Rattle.olk_spec.specs.Names.{Name, Path, ◌//◌, those, put_if}
+use Rattle.olk_spec.specs.World.{reads_as}
+use Rattle.olk_spec.specs.Vocabulary.{pattern_properties}
+use Rattle.olk_spec.specs.Faults.{◌∼◌, like_empty, like_through}
+use Rattle.olk_spec.specs.Schemas.{is_object, members, read_members}
+use Rattle.olk_spec.specs.Meanings.{restricts, matches, is_open}
+use Rattle.olk_spec.specs.Meaning.{accepts, asks, report, tree, meaning_step}
+use Rattle.olk_spec.specs.Tree.{result}
+use Rattle.olk_spec.proofs.Order.{∼_same, ∼_append, ∼_flat_map_any}
+use Rattle.olk_base.specs.Kit.{Kit}
+use Rattle.olk_base.specs.Compiled.{pattern_answers, pattern_costs}
+use Rattle.olk_base.specs.declared.pattern.CompiledPattern.{CompiledPattern}
+use Rattle.olk_members.specs.Conditions.{is_restricted}
+use Rattle.olk_members.specs.PatternProperties.{matched_members, pattern_asks}
+use Rattle.olk_members.proofs.Conditions.{restricted_read}
+use Rattle.olk_members.proofs.PatternProperties as fact
+use Rattle.olk_tree.specs.Matched.{matched, match_question}
+use Rattle.olk_tree.specs.Questions.{every, conditional, always}
+use Rattle.olk_tree.specs.Shown.{match_trees, match_names, patterns_tree}
+use Rattle.olk_tree.specs.Answers.{matched_mean, patterns_mean, matched_report, patterns_report, validator_means, validator_report, validator_tree}
+use Rattle.olk_tree.specs.declared.node.KeywordOver.{KeywordOver}
+use Rattle.olk_tree.specs.declared.node.KeywordOver.TheVariants as keyword
+use Rattle.olk_node.specs.Nodes.{answers}
+use Rattle.olk_node.specs.Stands.{StandsFor}
+use Rattle.olk_node.specs.declared.node.SchemaNode.{SchemaNode}
+use Rattle.olk_read.specs.Patterns.{IsPattern, ArePatterns}
+use Rattle.olk_read.specs.declared.shape.Shape.TheVariants as shape
+use Rattle.olk_make.specs.Holding.{StandEach}
+use Rattle.olk_make.specs.Forms.{IsFormOfPatternProperties, IsPatternProperties}
+use Rattle.olk_make.specs.Making.{KeywordMeans, MakesMember}
+use Rattle.olk_make.proofs.Entries.{sum_within}
+use Rattle.olk_make.proofs.Held.{question, shown, found, one_if_free, same_within}
+
+-- ---- patterns and nodes side by side
+
+module _ {P N : Type 0} where
+  -- entries made of what is left of both
+  abbrev pub MadeOf : List P × List N → List (P × N) → Type 0
+  MadeOf left es = es ≡ zip left.0 left.1
+
+  pub both_next : (ps rest : List P) (ns after : List N) (e : P × N) → ps ≡ e.0 ∷ rest → ns ≡ e.1 ∷ after → (es : List (P × N)) → MadeOf (rest, after) es → MadeOf (ps, ns) (e ∷ es)
+  both_next ps rest ns after e p n es h = ap (λ l. e ∷ l) h ∙ sym (λ i. zip (p i) (n i))
+
+  pub no_pattern_left : (ps : List P) (ns : List N) → ps ≡ [] → MadeOf (ps, ns) []
+  no_pattern_left ps ns p = sym (λ i. zip (p i) ns)
+
+  pub no_node_left : (ps : List P) (ns : List N) → ns ≡ [] → MadeOf (ps, ns) []
+  no_node_left ps ns n = sym ((λ i. zip ps (n i)) ∙ none ps)
+    where
+      none : (ps : List P) → zip {K = P} {X = N} ps [] ≡ []
+      none [] = refl
+      none (p ∷ ps) = refl
+
+module _ {K R : Type 0} (o : Kit K R) where
+  abbrev Entry : Type 0
+  Entry = CompiledPattern R × SchemaNode K R
+
+  -- each entry stands for the pattern and the schema at its place
+  abbrev EntriesStand : List Entry → List (Name × Data) → Path → Type 0
+  EntriesStand [] [] L = ⊤
+  EntriesStand [] (d ∷ ds) L = ⊥
+  EntriesStand (e ∷ es) [] L = ⊥
+  EntriesStand (e ∷ es) (d ∷ ds) L = IsPattern o e.0 d.0 × StandsFor o e.1 d.1 (L // d.0) × EntriesStand es ds L
+
+  both_stand : (ps : List (CompiledPattern R)) (ns : List (SchemaNode K R)) (ds : List (Name × Data)) (L : Path) → ArePatterns o ps ds → StandEach o ns ds L → EntriesStand (zip ps ns) ds L
+  both_stand [] ns [] L h s = tt
+  both_stand [] ns (d ∷ ds) L h s = absurd h
+  both_stand (p ∷ ps) ns [] L h s = absurd h
+  both_stand (p ∷ ps) [] (d ∷ ds) L h s = absurd s
+  both_stand (p ∷ ps) (n ∷ ns) (d ∷ ds) L h s = (h.0, s.0, both_stand ps ns ds L h.1 s.1)
+
+  -- ---- one pattern
+
+  module _ (e : Entry) (d : Name × Data) (L : Path) (h : IsPattern o e.0 d.0) (s : StandsFor o e.1 d.1 (L // d.0)) (u : Bool) where
+    matched_same : (v : Data) → matched o.answers u e.0 v ≡ matched_members o.world u d.0 v
+    matched_same v = λ i. those (λ x. reads_as u (h.answers x.0 i)) (members v)
+
+    abbrev ask_member : Name × Data → Bool
+    ask_member x = matches o.world u d.0 x.0
+
+    matched_accept : (xs : List (Name × Data)) → (every (λ x. conditional (match_question o.answers o.costs e.0 x.0) ((answers o e.1).means x.1) (always true)) xs).accepts u ≡ list_all (λ x. accepts o.world u d.1 x.1) (those ask_member xs)
+    matched_accept [] = refl
+    matched_accept (x ∷ xs) = (λ i. cond (reads_as u (h.answers x.0 i)) (s.verdict u x.1 i) true && matched_accept xs i) ∙ by (ask_member x)
+      where
+        by : (b : Bool) → (cond b (accepts o.world u d.1 x.1) true && list_all (λ y. accepts o.world u d.1 y.1) (those ask_member xs)) ≡ list_all (λ y. accepts o.world u d.1 y.1) (put_if b x (those ask_member xs))
+        by true = refl
+        by false = refl
+
+    abbrev asked_member : Name × Data → ℕ
+    asked_member x = pattern_asks o.world d.0 + cond (matches o.world u d.0 x.0) (asks o.world u d.1 x.1) 0
+
+    one_asks : (x : Name × Data) → cond (pattern_costs o.costs e.0) 1 0 + cond (reads_as u (pattern_answers o.answers e.0 x.0)) (((answers o e.1).means x.1).asks u) 0 ≤ asked_member x
+    one_asks x = by (ask_member x) (ap (reads_as u) (h.answers x.0))
+      where
+        by : (b : Bool) → reads_as u (pattern_answers o.answers e.0 x.0) ≡ b → cond (pattern_costs o.costs e.0) 1 0 + cond (reads_as u (pattern_answers o.answers e.0 x.0)) (((answers o e.1).means x.1).asks u) 0 ≤ pattern_asks o.world d.0 + cond b (asks o.world u d.1 x.1) 0
+        by true q = let c = ap {B = ℕ} (λ b. cond b 1 0) h.costs in let a = ap {B = ℕ} (λ b. cond b (((answers o e.1).means x.1).asks u) 0) q in let w = s.asks_within u x.1 in omega (arith, c, a, w)
+        by false q = let c = ap {B = ℕ} (λ b. cond b 1 0) h.costs in let a = ap {B = ℕ} (λ b. cond b (((answers o e.1).means x.1).asks u) 0) q in omega (arith, c, a)
+
+    matched_ask : (xs : List (Name × Data)) → (every (λ x. conditional (match_question o.answers o.costs e.0 x.0) ((answers o e.1).means x.1) (always true)) xs).asks u ≤ sum_by asked_member xs
+    matched_ask [] = omega arith
+    matched_ask (x ∷ xs) = sum_within _ _ _ _ _ (one_asks x) (matched_ask xs) (sum_by-cons asked_member x xs)
+
+    module _ (v : Data) (Q : Path) where
+      matched_find : matched_report o.answers (λ n. (answers o n).report) u e.0 e.1 v Q ∼ flat_map (λ x. report o.world u d.1 x.1 (L // d.0) (Q // x.0)) (matched_members o.world u d.0 v)
+      matched_find = subst (λ xs. flat_map (λ x. (answers o e.1).report u x.1 (Q // x.0)) xs ∼ flat_map (λ x. report o.world u d.1 x.1 (L // d.0) (Q // x.0)) (matched_members o.world u d.0 v)) (sym (matched_same v))
+          (∼_flat_map_any (λ x. (answers o e.1).report u x.1 (Q // x.0)) (λ x. report o.world u d.1 x.1 (L // d.0) (Q // x.0)) (λ x. s.faults u x.1 (Q // x.0)) (matched_members o.world u d.0 v))
+
+      trees_at : (xs : List (Name × Data)) → map (λ x. (answers o e.1).tree u x.1 (Q // x.0)) xs ≡ map (λ x. tree o.world u d.1 x.1 (L // d.0) (Q // x.0)) xs
+      trees_at [] = refl
+      trees_at (x ∷ xs) = λ i. s.evaluation u x.1 (Q // x.0) i ∷ trees_at xs i
+
+      matched_show : map (λ x. (answers o e.1).tree u x.1 (Q // x.0)) (matched o.answers u e.0 v) ≡ map (λ x. tree o.world u d.1 x.1 (L // d.0) (Q // x.0)) (matched_members o.world u d.0 v)
+      matched_show = ap (map (λ x. (answers o e.1).tree u x.1 (Q // x.0))) (matched_same v) ∙ trees_at (matched_members o.world u d.0 v)
+
+  -- ---- all patterns
+
+  module _ (L : Path) (u : Bool) (v : Data) where
+    patterns_accept : (es : List Entry) (ds : List (Name × Data)) → EntriesStand es ds L → (patterns_mean o.answers o.costs (λ n. (answers o n).means) es v).accepts u ≡ list_all (λ d. list_all (λ x. accepts o.world u d.1 x.1) (matched_members o.world u d.0 v)) ds
+    patterns_accept [] [] h = refl
+    patterns_accept [] (d ∷ ds) h = absurd h
+    patterns_accept (e ∷ es) [] h = absurd h
+    patterns_accept (e ∷ es) (d ∷ ds) h = λ i. matched_accept e d L h.0 h.1 u (members v) i && patterns_accept es ds h.2 i
+
+    patterns_ask : (es : List Entry) (ds : List (Name × Data)) → EntriesStand es ds L → (patterns_mean o.answers o.costs (λ n. (answers o n).means) es v).asks u ≤ sum_by (λ d. sum_by (λ x. pattern_asks o.world d.0 + cond (matches o.world u d.0 x.0) (asks o.world u d.1 x.1) 0) (members v)) ds
+    patterns_ask [] [] h = omega arith
+    patterns_ask [] (d ∷ ds) h = absurd h
+    patterns_ask (e ∷ es) [] h = absurd h
+    patterns_ask (e ∷ es) (d ∷ ds) h = sum_within _ _ _ _ _ (matched_ask e d L h.0 h.1 u (members v)) (patterns_ask es ds h.2) (sum_by-cons (λ d. sum_by (λ x. pattern_asks o.world d.0 + cond (matches o.world u d.0 x.0) (asks o.world u d.1 x.1) 0) (members v)) d ds)
+
+    module _ (Q : Path) where
+      patterns_find : (es : List Entry) (ds : List (Name × Data)) → EntriesStand es ds L → patterns_report o.answers (λ n. (answers o n).report) u es v Q ∼ flat_map (λ d. flat_map (λ x. report o.world u d.1 x.1 (L // d.0) (Q // x.0)) (matched_members o.world u d.0 v)) ds
+      patterns_find [] [] h = like_empty
+      patterns_find [] (d ∷ ds) h = absurd h
+      patterns_find (e ∷ es) [] h = absurd h
+      patterns_find (e ∷ es) (d ∷ ds) h = ∼_append (matched_find e d L h.0 h.1 u v Q) (patterns_find es ds h.2)
+
+      patterns_show : (es : List Entry) (ds : List (Name × Data)) → EntriesStand es ds L → match_trees (λ n. (answers o n).tree u) v Q o.answers u es ≡ flat_map (λ d. map (λ x. tree o.world u d.1 x.1 (L // d.0) (Q // x.0)) (matched_members o.world u d.0 v)) ds
+      patterns_show [] [] h = refl
+      patterns_show [] (d ∷ ds) h = absurd h
+      patterns_show (e ∷ es) [] h = absurd h
+      patterns_show (e ∷ es) (d ∷ ds) h = λ i. matched_show e d L h.0 h.1 u v Q i ++ patterns_show es ds h.2 i
+
+      patterns_name : (es : List Entry) (ds : List (Name × Data)) → EntriesStand es ds L → match_names (λ n. (answers o n).tree u) v Q o.answers u es ≡ flat_map (λ d. map (λ x. x.0) (matched_members o.world u d.0 v)) ds
+      patterns_name [] [] h = refl
+      patterns_name [] (d ∷ ds) h = absurd h
+      patterns_name (e ∷ es) [] h = absurd h
+      patterns_name (e ∷ es) (d ∷ ds) h = λ i. map (λ x. x.0) (matched_same e d L h.0 h.1 u v i) ++ patterns_name es ds h.2 i
+
+  -- ---- the keyword, in either form
+
+  module _ (k : KeywordOver K R (SchemaNode K R)) (L : Path) (es : List Entry) (form : IsFormOfPatternProperties L es k) (u : Bool) (v : Data) where
+    of_patterns : (k : KeywordOver K R (SchemaNode K R)) → IsFormOfPatternProperties L es k → ((question o k v).accepts u ≡ (patterns_mean o.answers o.costs (λ n. (answers o n).means) es v).accepts u) × ((question o k v).asks u ≤ (patterns_mean o.answers o.costs (λ n. (answers o n).means) es v).asks u)
+    unfolding validator_means
+    of_patterns (keyword.PatternProperties p) f = (
+      ap (λ l. (patterns_mean o.answers o.costs (λ n. (answers o n).means) l v).accepts u) f.0,
+      let q = ap (λ l. (patterns_mean o.answers o.costs (λ n. (answers o n).means) l v).asks u) f.0 in omega (arith, q),
+    )
+    of_patterns (keyword.SingleValuePatternProperties p) f = (
+      sym (ap (λ l. (patterns_mean o.answers o.costs (λ n. (answers o n).means) l v).accepts u) f.0 ∙ alone ((matched_mean o.answers o.costs (λ n. (answers o n).means) p.regex p.node v).accepts u)),
+      let q = ap (λ l. (patterns_mean o.answers o.costs (λ n. (answers o n).means) l v).asks u) f.0 in omega (arith, q),
+    )
+      where
+        alone : (b : Bool) → (b && true) ≡ b
+        alone true = refl
+        alone false = refl
+    of_patterns x f = absurd f
+
+    form_finds : (Q : Path) (k : KeywordOver K R (SchemaNode K R)) → IsFormOfPatternProperties L es k → found o u k v Q ≡ patterns_report o.answers (λ n. (answers o n).report) u es v Q
+    unfolding validator_report
+    form_finds Q (keyword.PatternProperties p) f = ap (λ l. patterns_report o.answers (λ n. (answers o n).report) u l v Q) f.0
+    form_finds Q (keyword.SingleValuePatternProperties p) f = sym (ap (λ l. patterns_report o.answers (λ n. (answers o n).report) u l v Q) f.0 ∙ append-nil _)
+    form_finds Q x f = absurd f
+
+    form_shows : (Q : Path) (k : KeywordOver K R (SchemaNode K R)) → IsFormOfPatternProperties L es k → shown o u k v Q ≡ patterns_tree (λ n. (answers o n).tree u) v Q o.answers u L es
+    unfolding validator_tree
+    form_shows Q (keyword.PatternProperties p) f = λ i. patterns_tree (λ n. (answers o n).tree u) v Q o.answers u (f.2 i) (f.0 i)
+    form_shows Q (keyword.SingleValuePatternProperties p) f = λ i. patterns_tree (λ n. (answers o n).tree u) v Q o.answers u (f.1 i) (sym f.0 i)
+    form_shows Q x f = absurd f
+
+  module _ (k : KeywordOver K R (SchemaNode K R)) (L : Path) (es : List Entry) (form : IsFormOfPatternProperties L es k) (d : Data) (stand : EntriesStand es (members d) L) where
+    means_patterns : (ms : Members) (P : Path) → L ≡ P // codes "patternProperties" → KeywordMeans o ms (k ∷ []) (codes "patternProperties", d) P
+    means_patterns ms P p = record {
+      holds = one_if_free o ms k (codes "patternProperties", d) pattern_properties P
+          (λ u v. (of_patterns k L es form u v k form).0 ∙ patterns_accept L u v es (members d) stand ∙ sym (fact.pattern_properties_accepts o.world ms d u v))
+          (λ free u v. let f = (of_patterns k L es form u v k form).1 in let a = patterns_ask L u v es (members d) stand in let t = fact.pattern_properties_asks o.world ms d u v (restricted_read (meaning_step o.world u) ms ∙ free) in omega (arith, f, a, t))
+          (λ u v Q. like_through (∼_same (form_finds k L es form u v Q k form)) (subst (λ fs. patterns_report o.answers (λ n. (answers o n).report) u es v Q ∼ fs)
+          (ap (λ M. flat_map (λ e. flat_map (λ x. report o.world u e.1 x.1 (M // e.0) (Q // x.0)) (matched_members o.world u e.0 v)) (members d)) p ∙ sym (fact.pattern_properties_report o.world ms d u v P Q)) (patterns_find L u v Q es (members d) stand)));
+      shows = λ u alone v Q. ap (λ t. t ∷ []) (
+          form_shows k L es form u v Q k form
+          ∙ (λ i. result L Q (cond (is_object v) (Some (patterns_name L u v Q es (members d) stand i)) None) false [] (patterns_show L u v Q es (members d) stand i))
+          ∙ ap (λ M. result M Q (cond (is_object v) (Some (flat_map (λ e. map (λ x. x.0) (matched_members o.world u e.0 v)) (members d))) None) false [] (flat_map (λ e. map (λ x. tree o.world u e.1 x.1 (M // e.0) (Q // x.0)) (matched_members o.world u e.0 v)) (members d))) p)
+          ∙ sym (fact.pattern_properties_child o.world ms d u v alone P Q);
+    }
+
+  pub makes_pattern_properties : (k : KeywordOver K R (SchemaNode K R)) (L : Path) (v : Vec (CompiledPattern R) Global) (ns : List (SchemaNode K R)) (es : List Entry) → es ≡ zip v.items ns → IsFormOfPatternProperties L es k → MakesMember o (shape.PatternProperties v) L ns (k ∷ [])
+  makes_pattern_properties k L v ns es e form ms m P p s h = subst (λ n. KeywordMeans o ms (k ∷ []) (n, m.1) P) (sym s.0)
+      (means_patterns k L es form m.1 (subst (λ l. EntriesStand l (members m.1) L) (sym e) (both_stand v.items ns (members m.1) L s.2 h)) ms P (p ∙ ap (λ n. P // n) s.0))
+
+-- ---- the form, by how many patterns there are
+
+pub is_pattern_properties : {K R N : Type 0} (k : KeywordOver K R N) (L : Path) (es all : List (CompiledPattern R × N)) → es ≡ all → IsFormOfPatternProperties L es k → IsPatternProperties L (length all) k
+is_pattern_properties (keyword.PatternProperties p) L es all e f = (λ q. f.1 (ap length e ∙ q), f.2)
+is_pattern_properties (keyword.SingleValuePatternProperties p) L es all e f = (sym (ap length e) ∙ ap length f.0, f.1)
+is_pattern_properties x L es all e f = absurd f

@@ -1,0 +1,73 @@
+//! `patternProperties`.
+ghost use Rattle.std.specs.Prelude.{◌≡◌, ◌∷◌, [], IfOk, zip, length};
+ghost use Rattle.olk_base.specs.Kit.{kit};
+ghost use Rattle.olk_make.specs.Forms.{IsFormOfPatternProperties, IsPatternProperties};
+ghost use Rattle.olk_make.specs.Making.{MakesMember};
+ghost use Rattle.olk_read.specs.declared.shape.Shape.TheVariants as shape;
+
+use olk_base::{CompiledPattern, Leaf, RegexEngine};
+use olk_node::{Keyword, SchemaNode};
+use olk_read::append;
+use olk_reports::Location;
+use olk_tree::node::KeywordOver;
+use olk_tree::pattern_properties::{PatternProperties, SingleValuePatternProperties};
+use std::alloc::{AllocError, Global};
+
+/// Each pattern with its node, as far as there are both.
+///
+/// # Errors
+///
+/// Want of memory.
+fn with_nodes<R: Drop, N: Drop>(
+    alloc: Global,
+    patterns: Vec<CompiledPattern<R>>,
+    nodes: Vec<N>,
+) -> Result<Vec<(CompiledPattern<R>, N)>, AllocError>
+    ensures { IfOk result (λ es. es.items ≡ zip patterns.items nodes.items) }
+{
+    let mut entries = Vec::with_capacity(alloc, patterns.len())?;
+    for entry in patterns.into_iter().zip(nodes) {
+        append(&mut entries, entry)?;
+    }
+    Ok(entries)
+}
+
+/// The form over the patterns and their nodes: that of one pattern, or that of none or several.
+fn form<K, R: Drop, N: Drop>(
+    location: Location,
+    mut patterns: Vec<(CompiledPattern<R>, N)>,
+) -> KeywordOver<K, R, N>
+    ensures { IsFormOfPatternProperties location patterns.items result }
+{
+    if patterns.len() == 1
+        && let Some((regex, node)) = patterns.pop()
+    {
+        KeywordOver::SingleValuePatternProperties(SingleValuePatternProperties {
+            regex,
+            node,
+            location,
+        })
+    } else {
+        KeywordOver::PatternProperties(PatternProperties { patterns, location })
+    }
+}
+
+/// The validator of the patterns and their nodes.
+///
+/// # Errors
+///
+/// Want of memory.
+pub fn make<K: Leaf, R: RegexEngine>(
+    alloc: Global,
+    location: Location,
+    patterns: Vec<CompiledPattern<R>>,
+    nodes: Vec<SchemaNode<K, R>>,
+) -> Result<Keyword<K, R>, AllocError>
+    ensures form { IfOk result (IsPatternProperties location
+        (length (zip patterns.items nodes.items))) }
+    ensures makes { IfOk result (λ k. MakesMember (kit K.Leaf R.RegexEngine)
+        (shape.PatternProperties patterns) location nodes.items (k ∷ [])) }
+{
+    let entries = with_nodes(alloc, patterns, nodes)?;
+    Ok(form(location, entries))
+}

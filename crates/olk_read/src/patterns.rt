@@ -1,0 +1,89 @@
+//! Reading the patterns of `patternProperties`.
+ghost use Rattle.std.specs.Prelude.{◌≡◌, ◌∷◌, [], IfOk, IfErr, OnOk};
+ghost use Rattle.serde_json.specs.Data.{string};
+ghost use Rattle.serde_json.specs.View.{members_view};
+ghost use Rattle.olk_spec.specs.Faults.{fault, Regex};
+ghost use Rattle.olk_spec.specs.Schemas.{listed};
+ghost use Rattle.olk_reports.specs.Paths.{one_below};
+ghost use Rattle.olk_base.specs.Kit.{kit, world};
+ghost use Rattle.olk_members.specs.PatternProperties.{pattern_faults, matcher_made};
+ghost use Rattle.olk_read.specs.Refusing.{TellsOneOf, Spends, Refuses};
+ghost use Rattle.olk_read.specs.Patterns.{IsPattern, PatternsAreRead, RefusesPatterns};
+
+use crate::lists::append;
+use crate::makers::Makers;
+use olk_base::{CompiledPattern, MakeError, MakeLeaf, MakeRegex, Meter, Node, compile_pattern};
+use olk_reports::{BuildError, Location, ValidationError, ValidationErrorKind};
+use serde_json::{Map, Value};
+use std::alloc::Global;
+
+/// The refusal of a pattern, as a bare name below the keyword; want of memory where there is none for the place.
+fn refuse_pattern<'a>(alloc: Global, location: &Location, pattern: &'a str) -> BuildError<'a>
+    ensures { TellsOneOf
+        (fault Regex (string pattern.now) [] (one_below location.now pattern.now) ∷ []) result }
+{
+    match location.join(alloc, pattern) {
+        Ok(place) => BuildError::Refused(ValidationError::refusing(
+            ValidationErrorKind::Regex,
+            Node::Name(pattern),
+            String::new(alloc),
+            place,
+        )),
+        Err(error) => BuildError::Memory(error),
+    }
+}
+
+/// A pattern, ready to be asked; one that stands for a test costs nothing.
+///
+/// # Errors
+///
+/// One that does not build is refused, as a bare name below the keyword; else want of memory.
+fn read_pattern<'a, L: MakeLeaf, M: MakeRegex>(
+    alloc: Global,
+    makers: &Makers<'_, L, M>,
+    meter: &mut Meter,
+    location: &Location,
+    pattern: &'a str,
+) -> Result<CompiledPattern<M::Engine>, BuildError<'a>>
+    ensures pattern { IfOk result (λ p. IsPattern (kit L.Leaf.Leaf M.Engine.RegexEngine)
+        p pattern.now) }
+    ensures right { OnOk result (pattern_faults (world L.Leaf.Leaf M.Engine.RegexEngine)
+        location.now pattern.now ≡ []) }
+    ensures spends { OnOk result (Spends meter.old meter.new
+        (matcher_made (world L.Leaf.Leaf M.Engine.RegexEngine) pattern.now)) }
+    ensures refused { IfErr result (Refuses (pattern_faults
+        (world L.Leaf.Leaf M.Engine.RegexEngine) location.now pattern.now)
+        (matcher_made (world L.Leaf.Leaf M.Engine.RegexEngine) pattern.now)
+        meter.old meter.new) }
+{
+    match compile_pattern(alloc, makers.regexes, pattern, meter) {
+        Ok(compiled) => Ok(compiled),
+        Err(MakeError::Refused) => Err(refuse_pattern(alloc, location, pattern)),
+        Err(MakeError::Memory(error)) => Err(BuildError::Memory(error)),
+    }
+}
+
+/// The patterns of an object's entries.
+///
+/// # Errors
+///
+/// The first pattern that does not build is refused, as [`read_pattern`] says; else want of memory.
+pub(crate) fn patterns_of_entries<'a, L: MakeLeaf, M: MakeRegex>(
+    alloc: Global,
+    makers: &Makers<'_, L, M>,
+    meter: &mut Meter,
+    location: &Location,
+    entries: &'a Map<String, Value>,
+) -> Result<Vec<CompiledPattern<M::Engine>>, BuildError<'a>>
+    ensures read { IfOk result (λ v. PatternsAreRead (kit L.Leaf.Leaf M.Engine.RegexEngine)
+        v.items (listed (members_view entries.now.entries)) location.now meter.old meter.new) }
+    ensures refused { IfErr result (RefusesPatterns (kit L.Leaf.Leaf M.Engine.RegexEngine)
+        (listed (members_view entries.now.entries)) location.now meter.old meter.new) }
+{
+    let mut patterns = Vec::with_capacity(alloc, entries.len())?;
+    for (pattern, _) in entries {
+        let compiled = read_pattern(alloc, makers, meter, location, pattern.as_str())?;
+        append(&mut patterns, compiled)?;
+    }
+    Ok(patterns)
+}
