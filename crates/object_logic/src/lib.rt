@@ -21,9 +21,10 @@ pub use olk_check::IsValid;
 pub use olk_errors::Errors;
 pub use olk_evaluate::{Evaluate, Located};
 pub use olk_node::{
-    AllOfValidator, AnyOfValidator, DependenciesValidator, DependentRequiredValidator,
-    DependentSchemasValidator, IfElseValidator, IfThenElseValidator, IfThenValidator, Keyword,
-    NotValidator, OneOfValidator, PatternPropertiesValidator, PropertyDependenciesValidator,
+    AllOfValidator, AnyOfValidator, BigPropertiesValidator, BigValidatorsMap,
+    DependenciesValidator, DependentRequiredValidator, DependentSchemasValidator, IfElseValidator,
+    IfThenElseValidator, IfThenValidator, Keyword, NotValidator, OneOfValidator,
+    PatternPropertiesValidator, PropertiesMap, PropertyDependenciesValidator,
     PropertyNamesObjectValidator, SchemaNode, SingleAnyOfValidator, SingleOneOfValidator,
     SingleValueAllOfValidator, SingleValuePatternPropertiesValidator, SmallPropertiesValidator,
     SmallPropertiesWithRequired2Validator, SmallValidatorsMap,
@@ -35,6 +36,6 @@ pub use olk_reports::{
 };
 pub use olk_spec::HASHMAP_THRESHOLD;
 pub use olk_tree::property_names::PropertyNamesFalse as PropertyNamesBooleanValidator;
-pub use olk_tree::{Means, Reports, RequiredValidator, SortedNames};
+pub use olk_tree::{Means, PropertiesValidatorsMap, Reports, RequiredValidator, SortedNames};
 pub use validate::Validate;
 pub use validator::Validator;

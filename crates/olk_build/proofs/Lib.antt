@@ -1,4 +1,5 @@
 pub mod Built
 mod Parts
 mod Modules
+mod Patterns
 pub mod Conditions

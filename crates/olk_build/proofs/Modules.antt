@@ -333,8 +333,11 @@ module _ {K R : Type 0} (o : Kit K R) where
         pub properties_built : (ks : List (KeywordOver K R (SchemaNode K R))) → MakesClaims o (shape.Properties n) p.location p.nodes.items P r ks → has_repeat (map (λ m. m.0) (listed ms)) ≡ false → lookup (codes "properties") (listed ms) ≡ Some d → ClaimsAreBuilt o ms ks (codes "properties", d) P a b
         properties_built ks make distinct there = claims_built p c (codes "properties") d P a b h refl ks r (subst (λ x. MakesClaims o x p.location p.nodes.items P r ks) (sym q) make) ms distinct chosen there
 
-        pub properties_is_formed : (k : KeywordOver K R (SchemaNode K R)) → IsProperties P p.location r.fused k → IsProperties P (P // codes "properties") (plan_of ms).fused k
-        properties_is_formed k f = subst₂ (λ L t. IsProperties P L t k) (stands p c (codes "properties") d P a b h refl).place (ap (λ x. x.fused) chosen) f
+        properties_counted : length n ≡ length (members d)
+        properties_counted = ap length (shape_is p c (codes "properties") d P a b h refl _ q).2 ∙ length-map (members d) (λ e. e.0)
+
+        pub properties_is_formed : (k : KeywordOver K R (SchemaNode K R)) → IsProperties P p.location (length n) r.fused k → IsProperties P (P // codes "properties") (length (members d)) (plan_of ms).fused k
+        properties_is_formed k = subst (λ T. T) (λ i. IsProperties P ((stands p c (codes "properties") d P a b h refl).place i) (properties_counted i) ((chosen i).fused) k)
 
     module _ (h : IsPart o p c (codes "dependentRequired") d (P // codes "dependentRequired") a b) where
       pub no_other_dependent_required : ((n : List Name) (v : Vec (Vec (String Global) Global) Global) → p.shape ≡ shape.DependentRequired n v → ⊥) → ⊥

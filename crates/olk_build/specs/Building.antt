@@ -1,20 +1,23 @@
 -- What building a node, or a part of one, promises.
-use Rattle.std.specs.Prelude.{◌≡◌, Bool, true, false, not, List, []}
+use Rattle.std.specs.Prelude.{◌≡◌, Bool, true, false, not, List, [], ◌++◌}
 use Rattle.std.specs.List.{flat_map}
 use Rattle.serde_json.specs.Data.{Data, Members}
 use Rattle.olk_spec.specs.Names.{Name, Path, ◌//◌, those}
 use Rattle.olk_spec.specs.Faults.{Fault}
 use Rattle.olk_spec.specs.Schemas.{listed, members, is_array}
-use Rattle.olk_spec.specs.Costs.{Cost, cost, total_cost}
+use Rattle.olk_spec.specs.Costs.{Cost, cost, total_cost, ◌⊕◌}
 use Rattle.olk_base.specs.Count.{Counts}
 use Rattle.olk_reports.specs.declared.error.BuildError.{BuildError}
 use Rattle.olk_base.specs.Kit.{Kit}
+use Rattle.olk_base.specs.declared.pattern.CompiledPattern.{CompiledPattern}
 use Rattle.olk_node.specs.Stands.{StandsFor}
 use Rattle.olk_members.specs.Conditions.{is_restricted, IsKnown}
 use Rattle.olk_members.specs.Members.{malformations_at, member_malformations, member_cost}
 use Rattle.olk_node.specs.declared.node.SchemaNode.{SchemaNode}
 use Rattle.olk_read.specs.Refusing.{Spends, Refuses}
+use Rattle.olk_read.specs.Patterns.{patterns_wrong, patterns_cost}
 use Rattle.olk_make.specs.Holding.{StandEach, StandInner, which, all_malformed}
+use Rattle.olk_make.specs.Standing.{EntriesStand}
 
 -- the entries that are no lists
 abbrev pub no_lists : List (Name × Data) → List (Name × Data)
@@ -55,6 +58,16 @@ module _ {K R : Type 0} (o : Kit K R) where
 
   abbrev pub RefusesEach : List (Name × Data) → Path → Counts → Counts → BuildError → Type 0
   RefusesEach es P old new e = Refuses (each_malformed P es) (each_cost es) old new e
+
+  -- ---- patterns beside nodes, for entries below a place
+
+  pub record PatternsAreBuilt (ps : List (CompiledPattern R × SchemaNode K R)) (es : List (Name × Data)) (P : Path) (old new : Counts) : Type 0 where
+    pub stand : EntriesStand o ps es P
+    pub clean : patterns_wrong o P es ++ each_malformed P es ≡ []
+    pub spends : Spends old new (patterns_cost o es ⊕ each_cost es)
+
+  abbrev pub RefusesPatternEntries : List (Name × Data) → Path → Counts → Counts → BuildError → Type 0
+  RefusesPatternEntries es P old new e = Refuses (patterns_wrong o P es ++ each_malformed P es) (patterns_cost o es ⊕ each_cost es) old new e
 
   -- ---- nodes for the entries of each of these
 

@@ -312,6 +312,31 @@ pub(crate) fn compile_member<'a, L: MakeLeaf, M: MakeRegex>(
     )
 }
 
+/// The nodes of the entries of an object, each below the keyword of this name at the context's place, which is left as it
+/// was.
+///
+/// # Errors
+///
+/// One of these entries' malformations; else want of memory.
+pub(crate) fn compile_declared<'a, L: MakeLeaf, M: MakeRegex>(
+    alloc: Global,
+    ctx: &mut Context<'_, L, M>,
+    name: &str,
+    entries: &'a Map<String, Value>,
+) -> Result<Vec<SchemaNode<L::Leaf, M::Engine>>, BuildError<'a>>
+    ensures built { IfOk result (λ ns. AreBuilt (kit L.Leaf.Leaf M.Engine.RegexEngine) ns.items
+        (listed (members_view entries.now.entries)) (one_below ctx.old.place name.now)
+        ctx.old.meter.now ctx.new.meter.now) }
+    ensures refused { IfErr result (RefusesEach (kit L.Leaf.Leaf M.Engine.RegexEngine)
+        (listed (members_view entries.now.entries)) (one_below ctx.old.place name.now)
+        ctx.old.meter.now ctx.new.meter.now) }
+    ensures place { ctx.new.place ≡ ctx.old.place }
+    ensures same_meter { ctx.new.meter.ghost_name ≡ ctx.old.meter.ghost_name }
+{
+    let location = ctx.place.join(alloc, name)?;
+    compile_entries(alloc, &ctx.makers, ctx.meter, &location, false, entries)
+}
+
 /// The node of a schema at the context's place, with all that it reads inside.
 ///
 /// The meter rises by the cost of the schema, or by a part of it where nothing is built; the context's place is left as it was.

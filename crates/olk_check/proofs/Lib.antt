@@ -3,3 +3,7 @@ pub mod Walks
 pub mod Counting
 pub mod Missing
 pub mod Matchers
+pub mod Choices
+pub mod Deferred
+pub mod Unpatterned
+pub mod Together

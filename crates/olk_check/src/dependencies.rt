@@ -10,6 +10,7 @@ use crate::IsValid;
 use olk_base::{Node, ValidationContext};
 use olk_tree::dependencies::Dependencies;
 use olk_tree::map::SmallMap;
+use olk_tree::validators_map::PropertiesValidatorsMap;
 use serde_json::{Map, Value};
 
 impl<N: IsValid> IsValid for Dependencies<N> {

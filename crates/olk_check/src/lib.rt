@@ -19,6 +19,7 @@ pub trait IsValid: Means {
         ensures { Asks ctx.old ctx.new (Self.means self.now (data_of node.entry)) result };
 }
 
+mod additional_properties;
 mod all_of;
 mod any_of;
 mod dependencies;
@@ -33,5 +34,6 @@ mod property_names;
 mod required;
 mod walk;
 
+pub use additional_properties::{DEFERRED_MEMBERS, are_properties_valid, matches_unless_known};
 pub use one_of::{Accepting, how_many_accept};
 pub use pattern_properties::matches;

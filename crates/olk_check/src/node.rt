@@ -53,6 +53,7 @@ fn keyword_accepts<K: Leaf, R: RegexEngine, N: IsValid>(
         KeywordOver::PropertyDependencies(validator) => validator.is_valid(node, ctx),
         KeywordOver::PatternProperties(validator) => validator.is_valid(node, ctx),
         KeywordOver::SingleValuePatternProperties(validator) => validator.is_valid(node, ctx),
+        KeywordOver::AdditionalProperties(validator) => validator.is_valid(node, ctx),
         KeywordOver::Leaf(_, leaf) => leaf.is_valid(node),
     }
 }

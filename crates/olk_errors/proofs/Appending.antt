@@ -71,6 +71,14 @@ after_cut {A} {E} {old} {mid} {fs} now new gs r a same ok found before = by r ok
     by (Ok y) e f = appends_more before (appends_same e f)
     by (Err y) e f = tt
 
+-- what is appended last and kept
+pub then_kept : {A E Then : Type 0} {mid : List ValidationError} (now new : List ValidationError) (gs : List Fault) (r a : Result A E) → r ≡ a → OnOk r (new ≡ now) → OnOk a (Appends mid now gs) → (Appends mid new gs → Then) → OnOk r Then
+then_kept {A} {E} {Then} {mid} now new gs r a same ok found k = by r ok (subst (λ x. OnOk x (Appends mid now gs)) (sym same) found)
+  where
+    by : (x : Result A E) → OnOk x (new ≡ now) → OnOk x (Appends mid now gs) → OnOk x Then
+    by (Ok y) e f = k (appends_same e f)
+    by (Err y) e f = tt
+
 -- ---- taken back
 
 on_err : {T E F : Type 0} (r : Result T E) → F → OnErr r F
@@ -84,3 +92,11 @@ at_err {F = F} is h = subst (λ s. OnErr s F) is h
 pub rolled_back : {T A E : Type 0} (r : Result T E) {s a : Result A E} {e : E} {old mid : List ValidationError} (now new : List ValidationError) {fs : List Fault} {len : ℕ}
     → s ≡ a → s ≡ Err e → OnErr s (new ≡ take len now) → OnErr a (now ≡ mid) → len ≡ length old → Appends old mid fs → OnErr r (new ≡ old)
 rolled_back r {s} {a} now new {len = len} same is cut kept e found = on_err r (at_err is cut ∙ ap (take len) (at_err (sym same ∙ is) kept) ∙ cut_back found e)
+
+pub then_rolled_back : {A E : Type 0} (r a : Result A E) {old mid : List ValidationError} (now new : List ValidationError) {fs : List Fault} {len : ℕ}
+    → r ≡ a → OnErr r (new ≡ take len now) → OnErr a (now ≡ mid) → len ≡ length old → Appends old mid fs → OnErr r (new ≡ old)
+then_rolled_back {A} {E} r a {old} {mid} now new {len = len} same cut kept e found = by r cut (subst (λ x. OnErr x (now ≡ mid)) (sym same) kept)
+  where
+    by : (x : Result A E) → OnErr x (new ≡ take len now) → OnErr x (now ≡ mid) → OnErr x (new ≡ old)
+    by (Ok y) c k = tt
+    by (Err y) c k = c ∙ ap (take len) k ∙ cut_back found e

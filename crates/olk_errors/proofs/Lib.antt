@@ -8,3 +8,6 @@ mod Members
 mod Due
 mod Names
 mod Patterns
+mod Additional
+mod Unexpected
+mod AdditionalMembers

@@ -81,7 +81,7 @@ nothing_missing (n ∷ ns) (object ms) e = cc
 -- ---- one name
 
 module _ (v : Data) (P Q : Path) (name : String Global) where
-  one_first : (b : Bool) → head_of (map (λ n. fault (Required n) v Q P) (put_if b (string_bytes name) [])) ≡ map (λ n. fault (Required n) v Q P) (put_if b (string_bytes name) [])
+  pub one_first : (b : Bool) → head_of (map (λ n. fault (Required n) v Q P) (put_if b (string_bytes name) [])) ≡ map (λ n. fault (Required n) v Q P) (put_if b (string_bytes name) [])
   one_first true = refl
   one_first false = refl
 

@@ -1,5 +1,5 @@
 -- Loops that collect, and loops that stop at the first error.
-use Rattle.std.proofs.Common.{◌≡◌, ℕ, map, Vec, Bool, true, ◌&&◌, List, [], ◌∷◌, ◌++◌, length, take, refl, sym, ap, subst, ◌∙◌, arith}
+use Rattle.std.proofs.Common.{◌≡◌, ℕ, map, Vec, Bool, true, false, ◌&&◌, List, [], ◌∷◌, ◌++◌, length, take, refl, sym, ap, subst, ◌∙◌, arith}
 use mathlib.Core.Path.{subst₂}
 use Rattle.std.specs.List.{flat_map, Contains}
 use Rattle.std.proofs.lemmas.List.{append_assoc, append-nil, map-append}
@@ -15,9 +15,10 @@ use Rattle.olk_tree.specs.Answers.{or_else, first_of}
 use Rattle.olk_base.specs.Lawful.{Asking}
 use Rattle.olk_check.specs.Asks.{OnlyAsks}
 use Rattle.olk_check.proofs.Asked.{only_same, only_then}
-use Rattle.olk_errors.specs.Found.{Appends, AreLike, Outcome, Passes, IsErrorOf}
+use Rattle.olk_errors.specs.Found.{Appends, AreLike, Outcome, Passes, IsLikeOneOf, IsErrorOf}
 use Rattle.olk_errors.specs.Outcomes.{of_each}
 use Rattle.olk_tree.specs.Questions.{Question, every}
+use Rattle.olk_tree.proofs.Questions.{every-append}
 use Rattle.olk_errors.proofs.Appending.{appends_nothing, appends_more, cut_back}
 
 -- ---- collecting
@@ -44,6 +45,14 @@ module _ {X : Type 0} {f : X → List Fault} {all : List X} where
       found = subst (λ fs. Appends old newer fs) (ap (λ l. flat_map f so_far.done ++ l) (sym (append-nil (f x))) ∙ sym (flat_map-append f so_far.done (x ∷ []))) (appends_more so_far.found found);
     }
 
+    -- several of them
+    pub collected_each : (xs : List X) {more : List X} {newer : List ValidationError} → rest ≡ xs ++ more → Appends new newer (flat_map f xs) → Collected f all more old newer
+    collected_each xs {more} {newer} next found = record {
+      done = so_far.done ++ xs;
+      split = append_assoc so_far.done xs more ∙ ap (λ l. so_far.done ++ l) (sym next) ∙ so_far.split;
+      found = subst (λ fs. Appends old newer fs) (sym (flat_map-append f so_far.done xs)) (appends_more so_far.found found);
+    }
+
     pub collected_end : rest ≡ [] → Appends old new (flat_map f all)
     collected_end none = subst (λ l. Appends old new (flat_map f l)) (sym (append-nil so_far.done) ∙ ap (λ l. so_far.done ++ l) (sym none) ∙ so_far.split) so_far.found
 
@@ -59,6 +68,14 @@ contains_none f c = absurd (omega arith)
 pub contains_first : (fs gs : List Fault) (f : Fault) → Contains fs f → Contains (or_else fs gs) f
 contains_first [] gs f c = absurd (contains_none f c)
 contains_first (g ∷ fs) gs f c = c
+
+or_around : (fs gs hs : List Fault) → or_else (or_else fs gs) hs ≡ or_else fs (or_else gs hs)
+or_around [] gs hs = refl
+or_around (f ∷ fs) gs hs = refl
+
+first_of-both : {X : Type 0} (s : X → List Fault) (xs ys : List X) → first_of s (xs ++ ys) ≡ or_else (first_of s xs) (first_of s ys)
+first_of-both s [] ys = refl
+first_of-both s (x ∷ xs) ys = ap (or_else (s x)) (first_of-both s xs ys) ∙ sym (or_around (s x) (first_of s xs) (first_of s ys))
 
 module _ {X : Type 0} (q : X → Question) (u : Bool) (s f : X → List Fault) where
   abbrev pub of_one : X → Outcome
@@ -85,20 +102,60 @@ module _ {X : Type 0} {q : X → Question} {u : Bool} {s f : X → List Fault} {
     pub passed_end : rest ≡ [] → Passes (of_each u q s f all)
     passed_end none = record { verdict = so_far.verdict ∙ ap (λ l. (every q l).accepts u) none; nothing = so_far.first ∙ ap (first_of s) none }
 
+    -- the first of the rest refuses, or is to tell
+    pub passed_verdict : {x : X} {more : List X} → rest ≡ x ∷ more → (q x).accepts u ≡ false → (every q all).accepts u ≡ false
+    passed_verdict {x} {more} next refused = so_far.verdict ∙ ap (λ l. (every q l).accepts u) next ∙ ap (λ b. b && (every q more).accepts u) refused
+
+    pub passed_first : {x : X} {more : List X} {g : Fault} → rest ≡ x ∷ more → IsLikeOneOf (s x) g → IsLikeOneOf (first_of s all) g
+    passed_first {x} {more} next told = record {
+      one = told.one;
+      among = subst (λ l. Contains l told.one) (sym (so_far.first ∙ ap (first_of s) next)) (contains_first (s x) (first_of s more) told.one told.among);
+      like = told.like;
+    }
+
     pub passed_error : {x : X} {more : List X} {g : Fault} → rest ≡ x ∷ more → IsErrorOf (of_one q u s f x) g → IsErrorOf (of_each u q s f all) g
     passed_error {x} {more} {g} next told = record {
-      verdict = so_far.verdict ∙ ap (λ l. (every q l).accepts u) next ∙ ap (λ b. b && (every q more).accepts u) told.verdict;
-      of_first = record {
-        one = told.of_first.one;
-        among = subst (λ l. Contains l told.of_first.one) (sym (so_far.first ∙ ap (first_of s) next)) (contains_first (s x) (first_of s more) told.of_first.one told.of_first.among);
-        like = told.of_first.like;
-      };
+      verdict = passed_verdict next told.verdict;
+      of_first = passed_first next told.of_first;
       of_all = record {
         whole = told.of_all.whole;
         among = so_far.within told.of_all.whole (subst (λ l. Contains (flat_map f l) told.of_all.whole) (sym next) (Contains-append_left (f x) (flat_map f more) told.of_all.whole told.of_all.among));
         like = told.of_all.like;
       };
     }
+
+    -- several of the rest
+    module _ (xs more : List X) (next : rest ≡ xs ++ more) where
+      verdict_split : (every q all).accepts u ≡ ((every q xs).accepts u && (every q more).accepts u)
+      verdict_split = so_far.verdict ∙ ap (λ l. (every q l).accepts u) next ∙ ap (λ p. p.accepts u) (every-append q xs more)
+
+      first_split : first_of s all ≡ or_else (first_of s xs) (first_of s more)
+      first_split = so_far.first ∙ ap (first_of s) next ∙ first_of-both s xs more
+
+      all_split : (g : Fault) → Contains (flat_map f xs ++ flat_map f more) g → Contains (flat_map f all) g
+      all_split g c = so_far.within g (subst (λ l. Contains (flat_map f l) g) (sym next) (subst (λ l. Contains l g) (sym (flat_map-append f xs more)) c))
+
+      pub passed_each : Passes (of_each u q s f xs) → Passed q u s f all more
+      passed_each passes = record {
+        verdict = verdict_split ∙ ap (λ b. b && (every q more).accepts u) passes.verdict;
+        first = first_split ∙ ap (λ l. or_else l (first_of s more)) passes.nothing;
+        within = λ g c. all_split g (Contains-append_right (flat_map f xs) (flat_map f more) g c);
+      }
+
+      pub passed_each_error : {g : Fault} → IsErrorOf (of_each u q s f xs) g → IsErrorOf (of_each u q s f all) g
+      passed_each_error told = record {
+        verdict = verdict_split ∙ ap (λ b. b && (every q more).accepts u) told.verdict;
+        of_first = record {
+          one = told.of_first.one;
+          among = subst (λ l. Contains l told.of_first.one) (sym first_split) (contains_first (first_of s xs) (first_of s more) told.of_first.one told.of_first.among);
+          like = told.of_first.like;
+        };
+        of_all = record {
+          whole = told.of_all.whole;
+          among = all_split told.of_all.whole (Contains-append_left (flat_map f xs) (flat_map f more) told.of_all.whole told.of_all.among);
+          like = told.of_all.like;
+        };
+      }
 
 -- ---- with the path and the context's answer, which a walk keeps
 
@@ -119,6 +176,13 @@ module _ {X : Type 0} {f : Bool → Path → X → List Fault} {all : List X} {Q
     pub collecting_more : {x : X} {more : List X} {newer : List ValidationError} {S : Path} {c : Asking} → rest ≡ x ∷ more → Appends new newer (f b.answer R x) → S ≡ R → OnlyAsks b c → Collecting f all more old newer Q S a c
     collecting_more {x} {more} {newer} next found path only = record {
       so_far = collected_more loop.so_far next (subst₂ (λ u P. Appends new newer (f u P x)) loop.only.answer loop.path found);
+      path = path ∙ loop.path;
+      only = only_then loop.only only;
+    }
+
+    pub collecting_each : (xs : List X) {more : List X} {newer : List ValidationError} {S : Path} {c : Asking} → rest ≡ xs ++ more → Appends new newer (flat_map (f b.answer R) xs) → S ≡ R → OnlyAsks b c → Collecting f all more old newer Q S a c
+    collecting_each xs {more} {newer} next found path only = record {
+      so_far = collected_each loop.so_far xs next (subst₂ (λ u P. Appends new newer (flat_map (f u P) xs)) loop.only.answer loop.path found);
       path = path ∙ loop.path;
       only = only_then loop.only only;
     }
@@ -149,6 +213,16 @@ module _ {X : Type 0} {q : X → Question} {s f : Bool → Path → X → List F
       path = path ∙ loop.path;
       only = only_then loop.only only;
     }
+
+    pub passing_each : (xs : List X) {more : List X} {S : Path} {c : Asking} → rest ≡ xs ++ more → Passes (of_each b.answer q (s b.answer R) (f b.answer R) xs) → S ≡ R → OnlyAsks b c → Passing q s f all more Q S a c
+    passing_each xs {more} next passes path only = record {
+      so_far = passed_each loop.so_far xs more next (subst₂ (λ u P. Passes (of_each u q (s u P) (f u P) xs)) loop.only.answer loop.path passes);
+      path = path ∙ loop.path;
+      only = only_then loop.only only;
+    }
+
+    pub passing_each_error : (xs more : List X) → rest ≡ xs ++ more → (g : Fault) → IsErrorOf (of_each b.answer q (s b.answer R) (f b.answer R) xs) g → IsErrorOf (of_each a.answer q (s a.answer Q) (f a.answer Q) all) g
+    passing_each_error xs more next g told = passed_each_error loop.so_far xs more next (subst₂ (λ u P. IsErrorOf (of_each u q (s u P) (f u P) xs) g) loop.only.answer loop.path told)
 
     pub passing_end : rest ≡ [] → Passes (of_each a.answer q (s a.answer Q) (f a.answer Q) all)
     passing_end none = passed_end loop.so_far none

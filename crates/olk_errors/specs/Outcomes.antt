@@ -1,19 +1,22 @@
--- What asking comes to: of a node, of branches, of branches of which one is to accept, of declared members, of members' names, of members whose names patterns match, of names that are wanted, of a leaf, of a body.
-use Rattle.std.specs.Prelude.{◌≡◌, ◌⊎◌, ◌<◌, ℕ, ◌==◌, Bool, true, cond, List, [], map, Option, Some, None}
+-- What asking comes to: of a node, of branches, of branches of which one is to accept, of declared members, of members' names, of members whose names patterns match, of members that `additionalProperties` asks, of names that are wanted, of a leaf, of a body.
+use Rattle.std.specs.Prelude.{◌≡◌, ◌⊎◌, ◌<◌, ℕ, ◌==◌, Bool, true, not, ◌&&◌, cond, List, [], ◌∷◌, ◌++◌, map, Option, Some, None, is_none, is_some, option_map, option_to_list}
 use Rattle.std.specs.List.{flat_map}
 use Rattle.serde_json.specs.Data.{Data, string}
-use Rattle.olk_spec.specs.Names.{Name, Path, ◌//◌, is_empty}
-use Rattle.olk_spec.specs.World.{Says}
+use Rattle.olk_spec.specs.Names.{Name, Path, ◌//◌, put_if, is_empty}
+use Rattle.olk_spec.specs.World.{Says, reads_as}
 use Rattle.olk_spec.specs.Faults.{Fault, Kind, fault, Leaf, OneOfNotValid, OneOfMultipleValid, IsLikeKind, Context, context}
 use Rattle.olk_spec.specs.Accepts.{missing}
-use Rattle.olk_spec.specs.Reports.{required_faults, fault_if, wrapped}
+use Rattle.olk_spec.specs.Reports.{required_faults, unexpected_faults, fault_if, wrapped}
 use Rattle.olk_reports.specs.Errors.{kind_of}
 use Rattle.olk_reports.specs.declared.error.ValidationErrorKind.{ValidationErrorKind}
 use Rattle.olk_base.specs.declared.traits.Leaf as leaf
+use Rattle.olk_base.specs.Compiled.{pattern_answers}
 use Rattle.olk_base.specs.declared.pattern.CompiledPattern.{CompiledPattern}
 use Rattle.olk_tree.specs.Questions.{Question, always, conditional, every}
 use Rattle.olk_tree.specs.Matched.{is_match, matching, match_question}
-use Rattle.olk_tree.specs.Answers.{first_of, one_of_report, head_of, properties_mean, properties_report, properties_first, names_mean, names_report, names_first, matched_mean, matched_report, matched_first, patterns_mean, patterns_report, patterns_first, body_means, body_report, body_first}
+use Rattle.olk_tree.specs.Additional.{Sides, known_or, matching_from, means_in_turn, report_in_turn, first_in_turn, additional_means, additional_report, additional_first}
+use Rattle.olk_tree.specs.Answers.{sides_of, has_neighbours, or_else, first_of, one_of_report, head_of, properties_mean, properties_report, properties_first, names_mean, names_report, names_first, matched_mean, matched_report, matched_first, patterns_mean, patterns_report, patterns_first, body_means, body_report, body_first}
+use Rattle.olk_tree.specs.declared.additional_properties.AdditionalProperties.{AdditionalProperties}
 use Rattle.olk_tree.specs.declared.node.Body.{Body}
 use Rattle.olk_errors.specs.Found.{Outcome}
 
@@ -83,6 +86,52 @@ module _ {R N : Type 0} (answers : R → Name → Says) (costs : R → Bool) (m 
   -- all patterns and all members
   abbrev pub of_patterns : List (CompiledPattern R × N) → Data → Path → Outcome
   of_patterns es v Q = record { accepts = (patterns_mean answers costs m es v).accepts u; first = patterns_first answers s u es v Q; all = patterns_report answers r u es v Q }
+
+-- what is declared at a name, if anything is
+abbrev pub declared_nodes : {N : Type 0} → Option (ℕ × N) → List N
+declared_nodes d = option_to_list (option_map (λ f. f.1) d)
+
+-- a member with this declared at its name, and what else speaks of it
+module _ {R N : Type 0} (answers : R → Name → Says) (u : Bool) (S : Sides R N) (d : Option (ℕ × N)) (x : Name) where
+  -- nothing spoke of it, and of the patterns from this index on none does
+  abbrev pub unspoken_from : Bool → ℕ → List (CompiledPattern R × N) → Bool
+  unspoken_from spoken i es = not spoken && is_empty (matching_from answers S d x u i es)
+
+  abbrev pub asked_from : Bool → ℕ → List (CompiledPattern R × N) → List N
+  asked_from spoken i es = matching_from answers S d x u i es ++ cond (unspoken_from spoken i es) (option_to_list S.rest) []
+
+  abbrev pub asked_at : List N
+  asked_at = declared_nodes d ++ asked_from (is_some d) 0 S.patterns
+
+  abbrev pub unexpected_at : Bool
+  unexpected_at = is_none S.rest && unspoken_from (is_some d) 0 S.patterns
+
+module _ {R N : Type 0} (answers : R → Name → Says) (u : Bool) where
+  -- the node of a pattern of which this is known, if the pattern matches
+  abbrev pub if_matched : Says → CompiledPattern R → N → Name → List N
+  if_matched known p n x = put_if (reads_as u (known_or known (pattern_answers answers p x))) n []
+
+module _ {R N : Type 0} (k : AdditionalProperties R N) where
+  -- that a member is unexpected
+  abbrev pub unexpected_told : Bool → Name → Data → Data → Path → List Fault
+  unexpected_told unexpected x w v Q = cond unexpected (unexpected_faults (has_neighbours k) ((x, w) ∷ []) v k.location Q) []
+
+module _ {R N : Type 0} (answers : R → Name → Says) (m : N → Data → Question) (s r : N → Bool → Data → Path → List Fault) (u : Bool) (k : AdditionalProperties R N) where
+  -- a member of v
+  abbrev pub of_asked_member : Option (ℕ × N) → Name → Data → Data → Path → Outcome
+  of_asked_member d x w v Q = record {
+    accepts = (every (λ n. m n w) (asked_at answers u (sides_of k) d x)).accepts u && not (unexpected_at answers u (sides_of k) d x);
+    first = or_else (first_of (λ n. s n u w (Q // x)) (asked_at answers u (sides_of k) d x)) (unexpected_told k (unexpected_at answers u (sides_of k) d x) x w v Q);
+    all = flat_map (λ n. r n u w (Q // x)) (asked_at answers u (sides_of k) d x) ++ unexpected_told k (unexpected_at answers u (sides_of k) d x) x w v Q;
+  }
+
+  -- all members, one after the other
+  abbrev pub of_members_in_turn : (R → Bool) → Data → Path → Outcome
+  of_members_in_turn costs v Q = record { accepts = (means_in_turn answers costs m (sides_of k) v).accepts u; first = first_in_turn answers (sides_of k) u v Q (has_neighbours k) k.location s; all = report_in_turn answers (sides_of k) u v Q (has_neighbours k) k.location r }
+
+  -- the same, as it is meant of each value
+  abbrev pub of_asked_members : (R → Bool) → Data → Path → Outcome
+  of_asked_members costs v Q = record { accepts = (additional_means answers costs m (sides_of k) v).accepts u; first = additional_first answers (sides_of k) u v Q (has_neighbours k) k.location s; all = additional_report answers (sides_of k) u v Q (has_neighbours k) k.location r }
 
 module _ {K : Type 0} (l : leaf.Ghosts K) where
   abbrev pub of_leaf : K → Data → Path → Path → Outcome

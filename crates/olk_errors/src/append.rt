@@ -44,11 +44,11 @@ pub(crate) fn refuse<'a>(
 }
 
 // After want of memory the list is cut back to its length before.
-pub(crate) fn roll_back_on_err<'a>(
-    answer: Result<(), AllocError>,
+pub(crate) fn roll_back_on_err<'a, T: Drop>(
+    answer: Result<T, AllocError>,
     errors: &mut Vec<ValidationError<'a>>,
     len: usize,
-) -> Result<(), AllocError>
+) -> Result<T, AllocError>
     ensures same { result ≡ answer }
     ensures ok { OnOk result (errors.new.items ≡ errors.old.items) }
     ensures err { OnErr result (errors.new.items ≡ take len errors.old.items) }

@@ -13,6 +13,7 @@ use olk_base::{Node, ValidationContext};
 use olk_reports::{InstancePath, ValidateError, ValidationError};
 use olk_tree::dependencies::Dependencies;
 use olk_tree::map::SmallMap;
+use olk_tree::validators_map::PropertiesValidatorsMap;
 use serde_json::{Map, Value};
 use std::alloc::{AllocError, Global};
 

@@ -64,6 +64,7 @@ pub trait Errors<'a>: IsValid + Reports {
         ensures context { OnlyAsks ctx.old ctx.new };
 }
 
+mod additional_properties;
 mod all_of;
 mod any_of;
 mod append;

@@ -94,6 +94,7 @@ impl<'a, K: Leaf, R: RegexEngine, N: Errors<'a>> Errors<'a> for KeywordOver<K, R
             KeywordOver::SingleValuePatternProperties(keyword) => keyword.validate(
                 alloc, node, path, ctx,
             ),
+            KeywordOver::AdditionalProperties(keyword) => keyword.validate(alloc, node, path, ctx),
             KeywordOver::Leaf(location, leaf) => validate_leaf(alloc, leaf, location, node, path),
         }
     }
@@ -151,6 +152,9 @@ impl<'a, K: Leaf, R: RegexEngine, N: Errors<'a>> Errors<'a> for KeywordOver<K, R
                 alloc, node, path, ctx, errors,
             ),
             KeywordOver::SingleValuePatternProperties(keyword) => keyword.collect_errors(
+                alloc, node, path, ctx, errors,
+            ),
+            KeywordOver::AdditionalProperties(keyword) => keyword.collect_errors(
                 alloc, node, path, ctx, errors,
             ),
             KeywordOver::Leaf(location, leaf) => {

@@ -2,7 +2,7 @@
 ghost use Rattle.std.specs.Prelude.{◌≡◌, OnOk, OnErr, IfErr};
 ghost use Rattle.serde_json.specs.View.{view};
 ghost use Rattle.olk_reports.specs.Paths.{one_below};
-ghost use Rattle.olk_tree.specs.Answers.{named};
+ghost use Rattle.olk_tree.specs.Answers.{beside};
 ghost use Rattle.olk_tree.specs.Visited.{object_of};
 ghost use Rattle.olk_check.specs.Asks.{OnlyAsks};
 ghost use Rattle.olk_errors.specs.Found.{Appends, IfInvalid, Passes, IsErrorOf};
@@ -14,12 +14,12 @@ use crate::required::{collect_missing_of_two, refuse_missing_of_two};
 use olk_base::{Node, ValidationContext};
 use olk_check::IsValid;
 use olk_reports::{InstancePath, ValidateError, ValidationError};
-use olk_tree::map::SmallMap;
-use olk_tree::properties::{SmallProperties, SmallPropertiesWithRequired2};
+use olk_tree::properties::{Properties, SmallPropertiesWithRequired2};
+use olk_tree::validators_map::PropertiesValidatorsMap;
 use serde_json::{Map, Value};
 use std::alloc::{AllocError, Global};
 
-impl<'a, N: Errors<'a>> Errors<'a> for SmallProperties<N> {
+impl<'a, N: Errors<'a>> Errors<'a> for Properties<N> {
     fn validate(
         &'a self,
         alloc: Global,
@@ -92,18 +92,20 @@ impl<'a, N: Errors<'a>> Errors<'a> for SmallPropertiesWithRequired2<N> {
 }
 
 // The first error of the members whose names are declared.
-fn validate_members<'a, N: Errors<'a>>(
+fn validate_members<'a, M: PropertiesValidatorsMap<N>, N: Errors<'a> + 'a>(
     alloc: Global,
-    properties: &'a SmallMap<N>,
+    properties: &'a M,
     members: &'a Map<String, Value>,
     path: &mut InstancePath,
     ctx: &mut ValidationContext,
 ) -> Result<(), ValidateError<'a>>
     ensures ok { OnOk result (Passes (of_properties N.means N.first N.report ctx.old.answer
-        (named properties.now) (object_of members.now.entries) path.old)) }
+        (beside (M.names properties.now) (M.nodes properties.now))
+        (object_of members.now.entries) path.old)) }
     ensures invalid { IfErr result (λ e. IfInvalid e (IsErrorOf
         (of_properties N.means N.first N.report ctx.old.answer
-        (named properties.now) (object_of members.now.entries) path.old))) }
+        (beside (M.names properties.now) (M.nodes properties.now))
+        (object_of members.now.entries) path.old))) }
     ensures path { path.new ≡ path.old }
     ensures context { OnlyAsks ctx.old ctx.new }
 {
@@ -142,16 +144,17 @@ pub(crate) fn validate_below<'a, N: Errors<'a>>(
 }
 
 // The errors of the members whose names are declared.
-fn collect_members<'a, N: Errors<'a>>(
+fn collect_members<'a, M: PropertiesValidatorsMap<N>, N: Errors<'a> + 'a>(
     alloc: Global,
-    properties: &'a SmallMap<N>,
+    properties: &'a M,
     members: &'a Map<String, Value>,
     path: &mut InstancePath,
     ctx: &mut ValidationContext,
     errors: &mut Vec<ValidationError<'a>>,
 ) -> Result<(), AllocError>
     ensures report { OnOk result (Appends errors.old.items errors.new.items
-        (of_properties N.means N.first N.report ctx.old.answer (named properties.now)
+        (of_properties N.means N.first N.report ctx.old.answer
+        (beside (M.names properties.now) (M.nodes properties.now))
         (object_of members.now.entries) path.old).all) }
     ensures memory { OnErr result (errors.new.items ≡ errors.old.items) }
     ensures path { path.new ≡ path.old }

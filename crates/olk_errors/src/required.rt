@@ -72,7 +72,7 @@ fn refuse_missing<'a>(
 }
 
 // The error of the name, if it is absent.
-fn refuse_if_missing<'a>(
+pub(crate) fn refuse_if_missing<'a>(
     alloc: Global,
     name: &'a str,
     location: &'a str,
@@ -118,7 +118,7 @@ fn collect_missing<'a>(
 }
 
 // One error, if the name is absent.
-fn collect_if_missing<'a>(
+pub(crate) fn collect_if_missing<'a>(
     alloc: Global,
     name: &'a str,
     location: &'a str,

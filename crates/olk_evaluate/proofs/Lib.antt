@@ -4,3 +4,6 @@ pub mod Branches
 pub mod OneOf
 pub mod Members
 pub mod Patterns
+pub mod Collected
+pub mod Completed
+pub mod Additional

@@ -36,6 +36,12 @@ shown_append [] vs (t ∷ ts) us h k = absurd h
 shown_append (w ∷ ws) vs [] us h k = absurd h
 shown_append (w ∷ ws) vs (t ∷ ts) us h k = (h.0, shown_append ws vs ts us h.1 k)
 
+pub and_turned : (x y : Bool) → (x && y) ≡ (y && x)
+and_turned true true = refl
+and_turned true false = refl
+and_turned false true = refl
+and_turned false false = refl
+
 -- ---- one member after another
 
 module _ {N : Type 0} where
@@ -164,12 +170,6 @@ module _ {N : Type 0} (t : N → Bool → Data → Path → Tree) (m : N → Dat
     refused_trees : (ts : List Tree) → trees_wanted (refused ts) ≡ ts
     refused_trees [] = refl
     refused_trees (r ∷ ts) = ap (λ l. r ∷ l) (refused_trees ts)
-
-    and_turned : (x y : Bool) → (x && y) ≡ (y && x)
-    and_turned true true = refl
-    and_turned true false = refl
-    and_turned false true = refl
-    and_turned false false = refl
 
     module _ (P : Path) (v : Data) (ms : Members) (ns : List Name) (required : Path) (met : Met) (more : List EvaluationNode) (b : Met) where
       abbrev pub lacking : List Wanted

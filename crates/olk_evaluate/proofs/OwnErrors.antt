@@ -31,16 +31,12 @@ some_error : (fs : List Fault) (f : Fault) → is_empty (fs ++ f ∷ []) ≡ fal
 some_error [] f = refl
 some_error (g ∷ fs) f = refl
 
--- the places of a fault are not shown
-placed : {k : Kind} {v : Data} {P Q R S : Path} {d : Described} → IsDescribedBy (fault k v Q P) d → IsDescribedBy (fault k v S R) d
-placed t = record { keyword = t.keyword; text = t.text }
-
 -- one error more, at any places
-pub marked : (R S : Path) {before : List Fault} {k : Kind} {v : Data} {P Q : Path} {g : Fault} {d : Described} {s r : Shown} → HasErrors before s → IsDescribedBy g d → g ≡ fault k v Q P → r ≡ errored d s → HasErrors (before ++ fault k v S R ∷ []) r
-marked R S {before} {k} {v} {P} {Q} {g} {d} {s} {r} h t same e = record {
+pub marked : (P Q : Path) {before : List Fault} {k : Kind} {v : Data} {d : Described} {s r : Shown} → HasErrors before s → IsDescribedBy (fault k v Q P) d → r ≡ errored d s → HasErrors (before ++ fault k v Q P ∷ []) r
+marked P Q {before} {k} {v} {d} {s} {r} h t e = record {
   own = h.own ++ d ∷ [];
-  is = e ∙ ap (errored d) h.is ∙ ap (λ b. shown b None (h.own ++ d ∷ []) []) (sym (some_error before (fault k v S R)));
-  told = told_more before h.own (fault k v S R) d h.told (placed {P = P} {Q = Q} {R = R} {S = S} (subst (λ f. IsDescribedBy f d) same t));
+  is = e ∙ ap (errored d) h.is ∙ ap (λ b. shown b None (h.own ++ d ∷ []) []) (sym (some_error before (fault k v Q P)));
+  told = told_more before h.own (fault k v Q P) d h.told t;
 }
 
 -- ---- the tree of own errors
@@ -49,7 +45,7 @@ and_true : (b : Bool) → (b && true && true) ≡ b
 and_true true = refl
 and_true false = refl
 
-empty_described : (fs : List Fault) → is_empty (described fs) ≡ is_empty fs
+pub empty_described : (fs : List Fault) → is_empty (described fs) ≡ is_empty fs
 empty_described [] = refl
 empty_described (f ∷ fs) = refl
 
@@ -191,6 +187,18 @@ module _ (ns : List Name) (v w : Data) (P Q : Path) where
 
   pub all_there : list_all (λ x. x.1) (refused (lacking_trees ns v w P Q)) ≡ is_empty (missing ns w)
   all_there = lacking_wanted (is_empty (missing ns w)) (erring P Q (map (λ n. fault (Required n) v Q P) (missing ns w)))
+
+-- the same of one name
+lacks_one : (b : Bool) (n : Name) → false ≡ b → true ≡ not (is_empty (put_if (not b) n []))
+lacks_one true n e = cc
+lacks_one false n e = refl
+
+error_of_one : (f : Name → Fault) (b : Bool) (n : Name) {s : Shown} → false ≡ b → HasErrors (f n ∷ []) s → HasErrors (map f (put_if (not b) n [])) s
+error_of_one f true n e h = cc
+error_of_one f false n e h = h
+
+pub one_lacking : (n : Name) (v : Data) (ms : Members) (P Q : Path) {s : Shown} {r : Tree} {R : Path} → false ≡ has n (object ms) → HasErrors (fault (Required n) v Q P ∷ []) s → r ≡ node_at P R s → R ≡ Q → AreShown (refused (lacking_trees (n ∷ []) v (object ms) P Q)) (r ∷ [])
+one_lacking n v ms P Q e h place path = some_lacking (n ∷ []) v (object ms) P Q (lacks_one (has n (object ms)) n e) (error_of_one (λ k. fault (Required k) v Q P) (has n (object ms)) n e h) place path
 
 pub same_lacking : {a b c d : Name} {P R Q S : Path} (v w : Data) (ts : List Tree) → a ≡ c → b ≡ d → P ≡ R → Q ≡ S → AreShown (refused (lacking_trees (a ∷ b ∷ []) v w P Q)) ts → AreShown (refused (lacking_trees (c ∷ d ∷ []) v w R S)) ts
 same_lacking v w ts e f g h = subst (λ l. AreShown (refused l) ts) (λ i. lacking_trees (e i ∷ f i ∷ []) v w (g i) (h i))

@@ -1,4 +1,5 @@
 pub mod Wanted
 pub mod Members
 pub mod Patterns
+pub mod Additional
 pub mod Keywords

@@ -59,6 +59,8 @@ pub trait Evaluate<'a>: Located + IsValid {
         ensures context { OnlyAsks ctx.old ctx.new };
 }
 
+mod additional_members;
+mod additional_properties;
 mod all_of;
 mod any_of;
 mod dependencies;

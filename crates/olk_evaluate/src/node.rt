@@ -43,6 +43,7 @@ impl<K, R, N> Located for KeywordOver<K, R, N> {
             KeywordOver::PropertyDependencies(keyword) => keyword.location(),
             KeywordOver::PatternProperties(keyword) => keyword.location(),
             KeywordOver::SingleValuePatternProperties(keyword) => keyword.location(),
+            KeywordOver::AdditionalProperties(keyword) => keyword.location(),
             KeywordOver::Leaf(location, _) => location.as_str(),
         }
     }
@@ -86,6 +87,7 @@ impl<'a, K: Leaf, R: RegexEngine, N: Evaluate<'a>> Evaluate<'a> for KeywordOver<
             KeywordOver::SingleValuePatternProperties(keyword) => {
                 keyword.evaluate(alloc, node, path, ctx)
             }
+            KeywordOver::AdditionalProperties(keyword) => keyword.evaluate(alloc, node, path, ctx),
             KeywordOver::Leaf(_, leaf) => leaf_errors(alloc, leaf, node),
         }
     }

@@ -42,7 +42,20 @@ fn describe<'a>(
     Ok(ErrorDescription::new(keyword(error.kind()), message))
 }
 
-// Adds an error of its own about the node. An error is shown without its places, so none are asked for.
+// The error about the node, as an evaluation shows it: without its places, so none are asked for.
+pub(crate) fn own_error<'a>(
+    alloc: Global,
+    kind: ValidationErrorKind<'a>,
+    node: Node<'a>,
+) -> Result<ErrorDescription<'a>, AllocError>
+    ensures { IfOk result (λ e. (P Q : Path) →
+        IsDescribedBy (fault (kind_of kind.entry) (data_of node.entry) Q P) (described_of e)) }
+{
+    let error = ValidationError::new(kind, node, String::new(alloc), "");
+    describe(alloc, error)
+}
+
+// Adds an error of its own about the node.
 pub(crate) fn add_own_error<'a>(
     alloc: Global,
     outcome: &mut EvaluationResult<'a>,
@@ -54,8 +67,7 @@ pub(crate) fn add_own_error<'a>(
         HasErrors (before ++ fault (kind_of kind.entry) (data_of node.entry) Q P ∷ [])
         (shown_of outcome.new)) }
 {
-    let error = ValidationError::new(kind, node, String::new(alloc), "");
-    outcome.mark_errored(describe(alloc, error)?)
+    outcome.mark_errored(own_error(alloc, kind, node)?)
 }
 
 // One error of its own about the node, and nothing else.

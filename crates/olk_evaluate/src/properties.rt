@@ -6,7 +6,7 @@ ghost use Rattle.olk_spec.specs.Schemas.{listed};
 ghost use Rattle.olk_spec.specs.Tree.{is_valid};
 ghost use Rattle.olk_reports.specs.Evaluations.{tree_of};
 ghost use Rattle.olk_reports.specs.Paths.{one_below};
-ghost use Rattle.olk_tree.specs.Answers.{named, properties_mean};
+ghost use Rattle.olk_tree.specs.Answers.{beside, properties_mean};
 ghost use Rattle.olk_tree.specs.Visited.{members_declared, object_of};
 ghost use Rattle.olk_check.specs.Asks.{OnlyAsks};
 ghost use Rattle.olk_evaluate.specs.Members.{HasMet, wanted_at};
@@ -17,12 +17,12 @@ use crate::walk::child;
 use crate::{Evaluate, Located};
 use olk_base::{Node, ValidationContext};
 use olk_reports::{EvaluationNode, EvaluationResult, InstancePath};
-use olk_tree::map::SmallMap;
-use olk_tree::properties::{SmallProperties, SmallPropertiesWithRequired2};
+use olk_tree::properties::{Properties, SmallPropertiesWithRequired2};
+use olk_tree::validators_map::PropertiesValidatorsMap;
 use serde_json::{Map, Value};
 use std::alloc::{AllocError, Global};
 
-impl<N> Located for SmallProperties<N> {
+impl<N> Located for Properties<N> {
     ghost place = { λ k. k.location };
 
     fn location(&self) -> &str {
@@ -32,13 +32,13 @@ impl<N> Located for SmallProperties<N> {
 
 /// A child for each member whose name is declared; where the value is an object, these names are annotated
 /// (JSON Schema 2020-12 Core, 10.3.2.1).
-impl<'a, N: Evaluate<'a>> Evaluate<'a> for SmallProperties<N> {
-    ghost use Rattle.olk_tree.specs.Answers.{named};
+impl<'a, N: Evaluate<'a>> Evaluate<'a> for Properties<N> {
+    ghost use Rattle.olk_tree.specs.Answers.{mapped};
     ghost use Rattle.olk_tree.specs.Shown.{properties_tree};
     ghost use Rattle.std.specs.Prelude.{[]};
 
     ghost tree = { λ k u v Q. properties_tree (λ n. N.tree n u) v Q
-        k.location (named k.properties) [] };
+        k.location (mapped k.properties) [] };
 
     #[tactic(auto, using(olk_check::proofs::Asked::only_same))]
     fn evaluate(
@@ -164,22 +164,23 @@ impl<'a> Met<'a> {
 }
 
 // The members that are declared, in the order of their names.
-fn meet<'a, N: Evaluate<'a>>(
+fn meet<'a, M: PropertiesValidatorsMap<N>, N: Evaluate<'a> + 'a>(
     alloc: Global,
-    properties: &'a SmallMap<N>,
+    properties: &'a M,
     members: &'a Map<String, Value>,
     path: &mut InstancePath,
     ctx: &mut ValidationContext,
 ) -> Result<Met<'a>, AllocError>
     ensures shown { IfOk result (λ m. HasMet (wanted_at N.tree N.means ctx.old.answer path.old)
-        (members_declared (named properties.now) (listed (members_view members.now.entries))) m) }
+        (members_declared (beside (M.names properties.now) (M.nodes properties.now))
+        (listed (members_view members.now.entries))) m) }
     ensures verdict { IfOk result (λ m. list_all is_valid (trees_of m.children.items)
-        ≡ (properties_mean N.means (named properties.now)
+        ≡ (properties_mean N.means (beside (M.names properties.now) (M.nodes properties.now))
         (object_of members.now.entries)).accepts ctx.old.answer) }
     ensures path { path.new ≡ path.old }
     ensures context { OnlyAsks ctx.old ctx.new }
 {
-    let most = members.len().min(properties.names.len());
+    let most = members.len().min(properties.names().sorted().len());
     let mut met: Met<'a> = Met::with_capacity(alloc, most)?;
     for (name, subschema, value) in properties.declared_members(members) {
         let child = child_below(alloc, subschema, name, value, path, ctx)?;

@@ -11,7 +11,7 @@ ghost use Rattle.olk_tree.specs.Answers.{texts_of};
 ghost use Rattle.olk_tree.specs.Visited.{object_of};
 ghost use Rattle.olk_evaluate.specs.Wanted.{HasErrors, AreShown, refused, lacking_trees, trees_of};
 
-use crate::own::add_own_error;
+use crate::own::{add_own_error, one_error};
 use crate::{Evaluate, Located};
 use olk_base::{Node, ValidationContext};
 use olk_members::has_member;
@@ -153,6 +153,29 @@ pub(crate) fn missing_child<'a>(
         return Ok(None);
     }
     let outcome = result_of_two_required(alloc, first, second, members, node)?;
+    let text = String::from_str(alloc, path.as_str())?;
+    Ok(Some(EvaluationNode::new(location, text, outcome)))
+}
+
+// A child at the place of `required`, where the name is no member.
+pub(crate) fn missing_name_child<'a>(
+    alloc: Global,
+    name: &'a str,
+    location: &'a str,
+    members: &Map<String, Value>,
+    node: Node<'a>,
+    path: &InstancePath,
+) -> Result<Option<EvaluationNode<'a>>, AllocError>
+    ensures { IfOk result (λ o. AreShown
+        (refused (lacking_trees (name.now ∷ [])
+        (data_of node.entry) (object_of members.now.entries) location.now path.now))
+        (trees_of (option_to_list o))) }
+{
+    if has_member(members, name) {
+        return Ok(None);
+    }
+    let kind = ValidationErrorKind::Required { property: name };
+    let outcome = one_error(alloc, kind, node)?;
     let text = String::from_str(alloc, path.as_str())?;
     Ok(Some(EvaluationNode::new(location, text, outcome)))
 }

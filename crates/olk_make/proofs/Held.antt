@@ -32,7 +32,7 @@ use Rattle.olk_spec.proofs.Truth.{and_true, or_false}
 use Rattle.olk_spec.proofs.Walks.{neither, same_name}
 use Rattle.olk_base.specs.Kit.{Kit}
 use Rattle.olk_tree.specs.Questions.{Question, every, some}
-use Rattle.olk_tree.specs.Answers.{beside, named, validator_means, validator_report, validator_tree}
+use Rattle.olk_tree.specs.Answers.{beside, named, names_in, nodes_in, mapped, validator_means, validator_report, validator_tree}
 use Rattle.olk_node.specs.Nodes.{answers}
 use Rattle.olk_tree.specs.Shown.{missing_trees, properties_tree, branch_trees, any_of_tree}
 use Rattle.olk_node.specs.Stands.{StandsFor}
@@ -43,7 +43,8 @@ use Rattle.olk_make.specs.Forms.{IsFormOfProperties, IsFormOfAllOf, IsFormOfAnyO
 use Rattle.olk_members.specs.Fused.{fused_names}
 use Rattle.olk_make.specs.Holding.{StandEach, which, Holds, Covers}
 use Rattle.olk_make.specs.Making.{KeywordMeans, KeywordsMean}
-use Rattle.olk_tree.specs.declared.map.SmallMap.{SmallMap}
+use Rattle.olk_tree.specs.declared.properties_map.PropertiesMap.{PropertiesMap}
+use Rattle.olk_tree.specs.declared.properties_map.PropertiesMap.TheVariants.{Small}
 use Rattle.olk_tree.specs.declared.properties.SmallPropertiesWithRequired2.{SmallPropertiesWithRequired2}
 use Rattle.olk_tree.specs.declared.node.KeywordOver.{KeywordOver}
 use Rattle.olk_tree.specs.declared.node.KeywordOver.TheVariants as keyword
@@ -205,31 +206,31 @@ module _ {K R : Type 0} (o : Kit K R) where
 
   -- ---- properties
 
-  module _ (m : SmallMap (SchemaNode K R)) (L : Path) (es : List (Name × Data)) (names : m.names ≡ map (λ e. e.0) es) (stand : StandEach o m.nodes.items es L) where
+  module _ (m : PropertiesMap (SchemaNode K R)) (L : Path) (es : List (Name × Data)) (names : names_in m ≡ map (λ e. e.0) es) (stand : StandEach o (nodes_in m) es L) where
     abbrev properties_keyword : KeywordOver K R (SchemaNode K R)
     properties_keyword = keyword.Properties (record { properties = m; location = L })
 
     module _ (u : Bool) (v : Data) where
       properties_accept : (question properties_keyword v).accepts u ≡ list_all (λ e. list_all (accepts o.world u e.1) (at e.0 v)) es
       unfolding validator_means
-      properties_accept = ap (λ ks. (every (each_at u v) (beside ks m.nodes.items)).accepts u) names ∙ members_accept u v m.nodes.items es L stand
+      properties_accept = ap (λ ks. (every (each_at u v) (beside ks (nodes_in m))).accepts u) names ∙ members_accept u v (nodes_in m) es L stand
 
       properties_ask : (question properties_keyword v).asks u ≤ sum_by (λ e. sum_by (asks o.world u e.1) (at e.0 v)) es
       unfolding validator_means
-      properties_ask = subst (λ ks. (every (each_at u v) (beside ks m.nodes.items)).asks u ≤ sum_by (λ e. sum_by (asks o.world u e.1) (at e.0 v)) es) (sym names) (members_ask u v m.nodes.items es L stand)
+      properties_ask = subst (λ ks. (every (each_at u v) (beside ks (nodes_in m))).asks u ≤ sum_by (λ e. sum_by (asks o.world u e.1) (at e.0 v)) es) (sym names) (members_ask u v (nodes_in m) es L stand)
 
       properties_find : (Q : Path) → found u properties_keyword v Q ∼ flat_map (λ e. flat_map (λ x. report o.world u e.1 x (L // e.0) (Q // e.0)) (at e.0 v)) es
       unfolding validator_report
-      properties_find Q = subst (λ ks. flat_map (λ e. flat_map (λ x. (answers o e.1).report u x (Q // e.0)) (at e.0 v)) (beside ks m.nodes.items) ∼ flat_map (λ e. flat_map (λ x. report o.world u e.1 x (L // e.0) (Q // e.0)) (at e.0 v)) es) (sym names) (members_find u v Q m.nodes.items es L stand)
+      properties_find Q = subst (λ ks. flat_map (λ e. flat_map (λ x. (answers o e.1).report u x (Q // e.0)) (at e.0 v)) (beside ks (nodes_in m)) ∼ flat_map (λ e. flat_map (λ x. report o.world u e.1 x (L // e.0) (Q // e.0)) (at e.0 v)) es) (sym names) (members_find u v Q (nodes_in m) es L stand)
 
-      properties_show : (Q : Path) (more : List Tree) → properties_tree (λ n. (answers o n).tree u) v Q L (named m) more ≡ shown_declared o.world u v L Q es more
-      properties_show Q more = ap (λ ks. properties_tree (λ n. (answers o n).tree u) v Q L (beside ks m.nodes.items) more) names ∙ declared_show u v Q more m.nodes.items es L stand
+      properties_show : (Q : Path) (more : List Tree) → properties_tree (λ n. (answers o n).tree u) v Q L (mapped m) more ≡ shown_declared o.world u v L Q es more
+      properties_show Q more = ap (λ ks. properties_tree (λ n. (answers o n).tree u) v Q L (beside ks (nodes_in m)) more) names ∙ declared_show u v Q more (nodes_in m) es L stand
 
-      alone_show : (Q : Path) → shown u properties_keyword v Q ≡ properties_tree (λ n. (answers o n).tree u) v Q L (named m) []
+      alone_show : (Q : Path) → shown u properties_keyword v Q ≡ properties_tree (λ n. (answers o n).tree u) v Q L (mapped m) []
       unfolding validator_tree
       alone_show Q = refl
 
-  pub means_properties : (m : SmallMap (SchemaNode K R)) (L : Path) (fs : Members) (d : Data) → d ≡ object fs → m.names ≡ map (λ e. e.0) (listed fs) → StandEach o m.nodes.items (listed fs) L → (ms : Members) (P : Path) → L ≡ P // codes "properties" → KeywordMeans o ms (keyword.Properties (record { properties = m; location = L }) ∷ []) (codes "properties", d) P
+  pub means_properties : (m : PropertiesMap (SchemaNode K R)) (L : Path) (fs : Members) (d : Data) → d ≡ object fs → names_in m ≡ map (λ e. e.0) (listed fs) → StandEach o (nodes_in m) (listed fs) L → (ms : Members) (P : Path) → L ≡ P // codes "properties" → KeywordMeans o ms (keyword.Properties (record { properties = m; location = L }) ∷ []) (codes "properties", d) P
   means_properties m L fs d q names stand ms P p = subst (λ x. KeywordMeans o ms (properties_keyword m L (listed fs) names stand ∷ []) (codes "properties", x) P) (sym q) (record {
     holds = one ms (properties_keyword m L (listed fs) names stand) (codes "properties", object fs) properties P
         (λ u v. properties_accept m L (listed fs) names stand u v ∙ sym (fact.properties_accepts o.world ms fs u v))
@@ -245,9 +246,9 @@ module _ {K R : Type 0} (o : Kit K R) where
 
   -- ---- properties, with required or alone
 
-  module _ (ms : Members) (m : SmallMap (SchemaNode K R)) (L P : Path) (k : SmallPropertiesWithRequired2 (SchemaNode K R)) (t : Name × Name) (form : IsFormOfProperties {K = K} {R = R} P L m (Some t) (keyword.PropertiesWithRequired2 k)) where
+  module _ (ms : Members) (L P : Path) (k : SmallPropertiesWithRequired2 (SchemaNode K R)) (t : Name × Name) (names : List Name) (ns : List (SchemaNode K R)) (form : IsFormOfProperties {K = K} {R = R} P L names ns (Some t) (keyword.PropertiesWithRequired2 k)) where
     abbrev alone : KeywordOver K R (SchemaNode K R)
-    alone = keyword.Properties (record { properties = m; location = L })
+    alone = keyword.Properties (record { properties = Small k.properties; location = L })
 
     abbrev lacking : Data → List Name
     lacking v = missing (t.0 ∷ t.1 ∷ []) v
@@ -255,19 +256,19 @@ module _ {K R : Type 0} (o : Kit K R) where
     module _ (u : Bool) (v : Data) where
       both_accept : (question (keyword.PropertiesWithRequired2 k) v).accepts u ≡ (is_empty (lacking v) && (question alone v).accepts u)
       unfolding validator_means
-      both_accept = λ i. is_empty (missing (form.2 i ∷ form.3 i ∷ []) v) && (question (keyword.Properties (record { properties = form.0 i; location = L })) v).accepts u
+      both_accept = λ i. is_empty (missing (form.3 i ∷ form.4 i ∷ []) v) && (question alone v).accepts u
 
       both_ask : (question (keyword.PropertiesWithRequired2 k) v).asks u ≡ 0 + (question alone v).asks u
       unfolding validator_means
-      both_ask = λ i. 0 + (question (keyword.Properties (record { properties = form.0 i; location = L })) v).asks u
+      both_ask = refl
 
       both_find : (Q : Path) → found u (keyword.PropertiesWithRequired2 k) v Q ≡ required_faults (t.0 ∷ t.1 ∷ []) v (P // codes "required") Q ++ found u alone v Q
       unfolding validator_report
-      both_find Q = λ i. required_faults (form.2 i ∷ form.3 i ∷ []) v (form.4 i) Q ++ found u (keyword.Properties (record { properties = form.0 i; location = L })) v Q
+      both_find Q = λ i. required_faults (form.3 i ∷ form.4 i ∷ []) v (form.5 i) Q ++ found u alone v Q
 
-      both_show : (Q : Path) → shown u (keyword.PropertiesWithRequired2 k) v Q ≡ properties_tree (λ n. (answers o n).tree u) v Q L (named m) (missing_trees (t.0 ∷ t.1 ∷ []) v (P // codes "required") Q)
+      both_show : (Q : Path) → shown u (keyword.PropertiesWithRequired2 k) v Q ≡ properties_tree (λ n. (answers o n).tree u) v Q L (named k.properties) (missing_trees (t.0 ∷ t.1 ∷ []) v (P // codes "required") Q)
       unfolding validator_tree
-      both_show Q = λ i. properties_tree (λ n. (answers o n).tree u) v Q (form.1 i) (named (form.0 i)) (missing_trees (form.2 i ∷ form.3 i ∷ []) v (form.4 i) Q)
+      both_show Q = λ i. properties_tree (λ n. (answers o n).tree u) v Q (form.2 i) (named k.properties) (missing_trees (form.3 i ∷ form.4 i ∷ []) v (form.5 i) Q)
 
     covers_both : (d : Data) → Holds o ms (alone ∷ []) (codes "properties", d) properties P → Covers o ms (keyword.PropertiesWithRequired2 k ∷ []) ((codes "properties", d) ∷ (codes "required", listing t) ∷ []) P
     covers_both d h = record {
@@ -295,27 +296,29 @@ module _ {K R : Type 0} (o : Kit K R) where
   abbrev pub by_names : Option (Name × Name) → Bool → Planned
   by_names t c = record { fused = t; condition = c }
 
-  pub means_form : (k : KeywordOver K R (SchemaNode K R)) (m : SmallMap (SchemaNode K R)) (L P : Path) (t : Option (Name × Name)) (c : Bool) (fs : Members) (d : Data) → d ≡ object fs → m.names ≡ map (λ e. e.0) (listed fs) → StandEach o m.nodes.items (listed fs) L → IsFormOfProperties P L m t k
+  pub means_form : (k : KeywordOver K R (SchemaNode K R)) (names : List Name) (ns : List (SchemaNode K R)) (L P : Path) (t : Option (Name × Name)) (c : Bool) (fs : Members) (d : Data) → d ≡ object fs → names ≡ map (λ e. e.0) (listed fs) → StandEach o ns (listed fs) L → IsFormOfProperties P L names ns t k
       → (ms : Members) → L ≡ P // codes "properties" → has_repeat (names_of (listed ms)) ≡ false → lookup (codes "properties") (listed ms) ≡ Some d → t ≡ fused_names ms → KeywordsMean o ms (k ∷ []) (claims (head (by_names t c)) (listed ms) (codes "properties", d)) ((codes "properties", d) ∷ []) P
-  means_form (keyword.Properties k) m L P None c fs d q names stand form ms p distinct there chosen =
+  means_form (keyword.Properties k) names ns L P None c fs d q declared stand form ms p distinct there chosen =
       subst (λ rows. KeywordsMean o ms (keyword.Properties k ∷ []) rows ((codes "properties", d) ∷ []) P) (sym (claims_itself ms distinct (head (by_names None c)) (codes "properties", d) (λ n. past_cases c (codes "properties") n (λ e. (refl, refl))) there))
-      (subst (λ x. KeywordsMean o ms (keyword.Properties x ∷ []) ((codes "properties", d) ∷ []) ((codes "properties", d) ∷ []) P) (λ i. record { properties = sym form.0 i; location = sym form.1 i })
+      (subst (λ M. KeywordsMean o ms (keyword.Properties (record { properties = k.properties; location = M }) ∷ []) ((codes "properties", d) ∷ []) ((codes "properties", d) ∷ []) P) (sym form.3)
       (means_alone o ms P _ (codes "properties", d)
       (λ clean u. (there, free o.world ms P clean (meaning_step o.world u), fused o.world ms P clean (meaning_step o.world u) ∙ ap is_some (sym chosen)))
-      (means_properties m L fs d q names stand ms P p)))
-  means_form (keyword.PropertiesWithRequired2 k) m L P (Some t) c fs d q names stand form ms p distinct there chosen =
+      (means_properties k.properties L fs d q (form.0 ∙ declared) (subst (λ l. StandEach o l (listed fs) L) (sym form.1) stand) ms P p)))
+  means_form (keyword.PropertiesWithRequired2 k) names ns L P (Some t) c fs d q declared stand form ms p distinct there chosen =
       let both = fuses ms distinct t chosen in
-      let plain = means_properties m L fs d q names stand ms P p in
+      let same_names : k.properties.names ≡ map (λ e. e.0) (listed fs) = form.0 ∙ declared in
+      let same_nodes : StandEach o k.properties.nodes.items (listed fs) L = subst (λ l. StandEach o l (listed fs) L) (sym form.1) stand in
+      let plain = means_properties (Small k.properties) L fs d q same_names same_nodes ms P p in
       means_permuted o ms P (keyword.PropertiesWithRequired2 k ∷ []) ((codes "properties", d) ∷ (codes "required", listing t) ∷ []) (claims (head (by_names (Some t) c)) (listed ms) (codes "properties", d)) ((codes "properties", d) ∷ []) (claims_both ms distinct t c d there chosen) record {
-        covers = covers_both ms m L P k t form d plain.holds;
+        covers = covers_both ms L P k t names ns form d plain.holds;
         shows = λ clean u v Q.
             let step = meaning_step o.world u in
-            ap (λ x. x ∷ []) (both_show ms m L P k t form u v Q ∙ properties_show m L (listed fs) names stand u v Q (missing_trees (t.0 ∷ t.1 ∷ []) v (P // codes "required") Q) ∙ ap (λ M. shown_declared o.world u v M Q (listed fs) (missing_trees (t.0 ∷ t.1 ∷ []) v (P // codes "required") Q)) p)
+            ap (λ x. x ∷ []) (both_show ms L P k t names ns form u v Q ∙ properties_show (Small k.properties) L (listed fs) same_names same_nodes u v Q (missing_trees (t.0 ∷ t.1 ∷ []) v (P // codes "required") Q) ∙ ap (λ M. shown_declared o.world u v M Q (listed fs) (missing_trees (t.0 ∷ t.1 ∷ []) v (P // codes "required") Q)) p)
             ∙ (λ i. shown_declared o.world u v (P // codes "properties") Q (listed fs) (put_if (sym (fused o.world ms P clean step ∙ ap is_some (sym chosen)) i && not (is_empty (missing (sym (names_fused step ms t both.listed_at) i) v))) (erring (P // codes "required") Q (required_faults (sym (names_fused step ms t both.listed_at) i) v (P // codes "required") Q)) []) ∷ [])
             ∙ sym (append-nil _ ∙ ap (λ x. member_child o.world ms (codes "properties", x) properties u v P Q) q ∙ properties_child o.world u v ms P Q fs (there ∙ ap Some q) (free o.world ms P clean step));
       }
-  means_form k m L P None c fs d q names stand form ms p distinct there chosen = absurd form
-  means_form k m L P (Some t) c fs d q names stand form ms p distinct there chosen = absurd form
+  means_form k names ns L P None c fs d q declared stand form ms p distinct there chosen = absurd form
+  means_form k names ns L P (Some t) c fs d q declared stand form ms p distinct there chosen = absurd form
 
   -- ---- branches
 

@@ -25,7 +25,6 @@ use Rattle.olk_read.specs.Reading.{reads_of, IsShape, Fits}
 use Rattle.olk_make.specs.Standing.{StandAt, is_case_shape, is_if_shape, PartsAreLeft, CasesStand}
 use Rattle.olk_make.specs.Making.{KeywordMeans, KeywordsMean, MakesMember, MakesClaims, MakesPart}
 use Rattle.olk_make.specs.declared.part.Cases.{Cases}
-use Rattle.olk_tree.specs.declared.map.SmallMap.{SmallMap}
 use Rattle.olk_tree.specs.declared.node.KeywordOver.{KeywordOver}
 use Rattle.olk_tree.specs.declared.node.KeywordOver.TheVariants as keyword
 use Rattle.olk_node.specs.declared.node.SchemaNode.{SchemaNode}
@@ -104,11 +103,11 @@ module _ {K R : Type 0} (o : Kit K R) where
   pub makes_unread : (L : Path) (ns : List (SchemaNode K R)) → MakesMember o shape.Unread L ns []
   makes_unread L ns ms m P p s h = means_unread o m.0 m.1 s ms P
 
-  pub makes_properties : (k : KeywordOver K R (SchemaNode K R)) (f : SmallMap (SchemaNode K R)) (L P : Path) (t : Option (Name × Name)) (c : Bool) → IsFormOfProperties P L f t k → MakesClaims o (shape.Properties f.names) L f.nodes.items P (by_names o t c) (k ∷ [])
-  makes_properties k f L P t c form ms m p s h distinct there chosen =
+  pub makes_properties : (k : KeywordOver K R (SchemaNode K R)) (names : List Name) (ns : List (SchemaNode K R)) (L P : Path) (t : Option (Name × Name)) (c : Bool) → IsFormOfProperties P L names ns t k → MakesClaims o (shape.Properties names) L ns P (by_names o t c) (k ∷ [])
+  makes_properties k names ns L P t c form ms m p s h distinct there chosen =
       let a = object_of m.1 s.1 in
       subst (λ n. KeywordsMean o ms (k ∷ []) (claims (head (by_names o t c)) (listed ms) (n, m.1)) ((n, m.1) ∷ []) P) (sym s.0)
-      (means_form o k f L P t c a.0 m.1 a.1 (s.2 ∙ ap (λ x. map (λ e. e.0) (members x)) a.1) (subst (λ x. StandEach o f.nodes.items (members x) L) a.1 h) form ms (p ∙ ap (λ n. P // n) s.0) distinct (ap (λ n. lookup n (listed ms)) (sym s.0) ∙ there) (ap (λ q. q.fused) chosen))
+      (means_form o k names ns L P t c a.0 m.1 a.1 (s.2 ∙ ap (λ x. map (λ e. e.0) (members x)) a.1) (subst (λ x. StandEach o ns (members x) L) a.1 h) form ms (p ∙ ap (λ n. P // n) s.0) distinct (ap (λ n. lookup n (listed ms)) (sym s.0) ∙ there) (ap (λ q. q.fused) chosen))
 
   module _ (v : Vec (String Global) Global) (L P : Path) (ns : List (SchemaNode K R)) (c : Bool) where
     pub makes_required_elsewhere : (t : Option (Name × Name)) → is_some t ≡ true → MakesClaims o (shape.Required v) L ns P (by_names o t c) []

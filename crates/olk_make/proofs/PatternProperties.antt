@@ -35,6 +35,7 @@ use Rattle.olk_read.specs.Patterns.{IsPattern, ArePatterns}
 use Rattle.olk_read.specs.declared.shape.Shape.TheVariants as shape
 use Rattle.olk_make.specs.Holding.{StandEach}
 use Rattle.olk_make.specs.Forms.{IsFormOfPatternProperties, IsPatternProperties}
+use Rattle.olk_make.specs.Standing.{EntriesStand}
 use Rattle.olk_make.specs.Making.{KeywordMeans, MakesMember}
 use Rattle.olk_make.proofs.Entries.{sum_within}
 use Rattle.olk_make.proofs.Held.{question, shown, found, one_if_free, same_within}
@@ -63,14 +64,7 @@ module _ {K R : Type 0} (o : Kit K R) where
   abbrev Entry : Type 0
   Entry = CompiledPattern R × SchemaNode K R
 
-  -- each entry stands for the pattern and the schema at its place
-  abbrev EntriesStand : List Entry → List (Name × Data) → Path → Type 0
-  EntriesStand [] [] L = ⊤
-  EntriesStand [] (d ∷ ds) L = ⊥
-  EntriesStand (e ∷ es) [] L = ⊥
-  EntriesStand (e ∷ es) (d ∷ ds) L = IsPattern o e.0 d.0 × StandsFor o e.1 d.1 (L // d.0) × EntriesStand es ds L
-
-  both_stand : (ps : List (CompiledPattern R)) (ns : List (SchemaNode K R)) (ds : List (Name × Data)) (L : Path) → ArePatterns o ps ds → StandEach o ns ds L → EntriesStand (zip ps ns) ds L
+  pub both_stand : (ps : List (CompiledPattern R)) (ns : List (SchemaNode K R)) (ds : List (Name × Data)) (L : Path) → ArePatterns o ps ds → StandEach o ns ds L → EntriesStand o (zip ps ns) ds L
   both_stand [] ns [] L h s = tt
   both_stand [] ns (d ∷ ds) L h s = absurd h
   both_stand (p ∷ ps) ns [] L h s = absurd h
@@ -123,32 +117,32 @@ module _ {K R : Type 0} (o : Kit K R) where
   -- ---- all patterns
 
   module _ (L : Path) (u : Bool) (v : Data) where
-    patterns_accept : (es : List Entry) (ds : List (Name × Data)) → EntriesStand es ds L → (patterns_mean o.answers o.costs (λ n. (answers o n).means) es v).accepts u ≡ list_all (λ d. list_all (λ x. accepts o.world u d.1 x.1) (matched_members o.world u d.0 v)) ds
+    patterns_accept : (es : List Entry) (ds : List (Name × Data)) → EntriesStand o es ds L → (patterns_mean o.answers o.costs (λ n. (answers o n).means) es v).accepts u ≡ list_all (λ d. list_all (λ x. accepts o.world u d.1 x.1) (matched_members o.world u d.0 v)) ds
     patterns_accept [] [] h = refl
     patterns_accept [] (d ∷ ds) h = absurd h
     patterns_accept (e ∷ es) [] h = absurd h
     patterns_accept (e ∷ es) (d ∷ ds) h = λ i. matched_accept e d L h.0 h.1 u (members v) i && patterns_accept es ds h.2 i
 
-    patterns_ask : (es : List Entry) (ds : List (Name × Data)) → EntriesStand es ds L → (patterns_mean o.answers o.costs (λ n. (answers o n).means) es v).asks u ≤ sum_by (λ d. sum_by (λ x. pattern_asks o.world d.0 + cond (matches o.world u d.0 x.0) (asks o.world u d.1 x.1) 0) (members v)) ds
+    patterns_ask : (es : List Entry) (ds : List (Name × Data)) → EntriesStand o es ds L → (patterns_mean o.answers o.costs (λ n. (answers o n).means) es v).asks u ≤ sum_by (λ d. sum_by (λ x. pattern_asks o.world d.0 + cond (matches o.world u d.0 x.0) (asks o.world u d.1 x.1) 0) (members v)) ds
     patterns_ask [] [] h = omega arith
     patterns_ask [] (d ∷ ds) h = absurd h
     patterns_ask (e ∷ es) [] h = absurd h
     patterns_ask (e ∷ es) (d ∷ ds) h = sum_within _ _ _ _ _ (matched_ask e d L h.0 h.1 u (members v)) (patterns_ask es ds h.2) (sum_by-cons (λ d. sum_by (λ x. pattern_asks o.world d.0 + cond (matches o.world u d.0 x.0) (asks o.world u d.1 x.1) 0) (members v)) d ds)
 
     module _ (Q : Path) where
-      patterns_find : (es : List Entry) (ds : List (Name × Data)) → EntriesStand es ds L → patterns_report o.answers (λ n. (answers o n).report) u es v Q ∼ flat_map (λ d. flat_map (λ x. report o.world u d.1 x.1 (L // d.0) (Q // x.0)) (matched_members o.world u d.0 v)) ds
+      patterns_find : (es : List Entry) (ds : List (Name × Data)) → EntriesStand o es ds L → patterns_report o.answers (λ n. (answers o n).report) u es v Q ∼ flat_map (λ d. flat_map (λ x. report o.world u d.1 x.1 (L // d.0) (Q // x.0)) (matched_members o.world u d.0 v)) ds
       patterns_find [] [] h = like_empty
       patterns_find [] (d ∷ ds) h = absurd h
       patterns_find (e ∷ es) [] h = absurd h
       patterns_find (e ∷ es) (d ∷ ds) h = ∼_append (matched_find e d L h.0 h.1 u v Q) (patterns_find es ds h.2)
 
-      patterns_show : (es : List Entry) (ds : List (Name × Data)) → EntriesStand es ds L → match_trees (λ n. (answers o n).tree u) v Q o.answers u es ≡ flat_map (λ d. map (λ x. tree o.world u d.1 x.1 (L // d.0) (Q // x.0)) (matched_members o.world u d.0 v)) ds
+      patterns_show : (es : List Entry) (ds : List (Name × Data)) → EntriesStand o es ds L → match_trees (λ n. (answers o n).tree u) v Q o.answers u es ≡ flat_map (λ d. map (λ x. tree o.world u d.1 x.1 (L // d.0) (Q // x.0)) (matched_members o.world u d.0 v)) ds
       patterns_show [] [] h = refl
       patterns_show [] (d ∷ ds) h = absurd h
       patterns_show (e ∷ es) [] h = absurd h
       patterns_show (e ∷ es) (d ∷ ds) h = λ i. matched_show e d L h.0 h.1 u v Q i ++ patterns_show es ds h.2 i
 
-      patterns_name : (es : List Entry) (ds : List (Name × Data)) → EntriesStand es ds L → match_names (λ n. (answers o n).tree u) v Q o.answers u es ≡ flat_map (λ d. map (λ x. x.0) (matched_members o.world u d.0 v)) ds
+      patterns_name : (es : List Entry) (ds : List (Name × Data)) → EntriesStand o es ds L → match_names (λ n. (answers o n).tree u) v Q o.answers u es ≡ flat_map (λ d. map (λ x. x.0) (matched_members o.world u d.0 v)) ds
       patterns_name [] [] h = refl
       patterns_name [] (d ∷ ds) h = absurd h
       patterns_name (e ∷ es) [] h = absurd h
@@ -185,7 +179,7 @@ module _ {K R : Type 0} (o : Kit K R) where
     form_shows Q (keyword.SingleValuePatternProperties p) f = λ i. patterns_tree (λ n. (answers o n).tree u) v Q o.answers u (f.1 i) (sym f.0 i)
     form_shows Q x f = absurd f
 
-  module _ (k : KeywordOver K R (SchemaNode K R)) (L : Path) (es : List Entry) (form : IsFormOfPatternProperties L es k) (d : Data) (stand : EntriesStand es (members d) L) where
+  module _ (k : KeywordOver K R (SchemaNode K R)) (L : Path) (es : List Entry) (form : IsFormOfPatternProperties L es k) (d : Data) (stand : EntriesStand o es (members d) L) where
     means_patterns : (ms : Members) (P : Path) → L ≡ P // codes "patternProperties" → KeywordMeans o ms (k ∷ []) (codes "patternProperties", d) P
     means_patterns ms P p = record {
       holds = one_if_free o ms k (codes "patternProperties", d) pattern_properties P
@@ -202,7 +196,7 @@ module _ {K R : Type 0} (o : Kit K R) where
 
   pub makes_pattern_properties : (k : KeywordOver K R (SchemaNode K R)) (L : Path) (v : Vec (CompiledPattern R) Global) (ns : List (SchemaNode K R)) (es : List Entry) → es ≡ zip v.items ns → IsFormOfPatternProperties L es k → MakesMember o (shape.PatternProperties v) L ns (k ∷ [])
   makes_pattern_properties k L v ns es e form ms m P p s h = subst (λ n. KeywordMeans o ms (k ∷ []) (n, m.1) P) (sym s.0)
-      (means_patterns k L es form m.1 (subst (λ l. EntriesStand l (members m.1) L) (sym e) (both_stand v.items ns (members m.1) L s.2 h)) ms P (p ∙ ap (λ n. P // n) s.0))
+      (means_patterns k L es form m.1 (subst (λ l. EntriesStand o l (members m.1) L) (sym e) (both_stand v.items ns (members m.1) L s.2 h)) ms P (p ∙ ap (λ n. P // n) s.0))
 
 -- ---- the form, by how many patterns there are
 

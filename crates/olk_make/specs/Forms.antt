@@ -1,13 +1,17 @@
 -- Which form of a validator is built.
-use Rattle.std.specs.Prelude.{◌≡◌, ◌≢◌, ⊤, ℕ, Bool, true, false, List, [], ◌∷◌, map, length, take, drop, Option, Some, None, codes, Vec, String, string_bytes}
+use Rattle.std.specs.Prelude.{◌≡◌, ◌≢◌, ◌<◌, ◌≤◌, ⊤, ℕ, Bool, true, false, List, [], ◌∷◌, map, length, take, drop, Option, Some, None, codes, Vec, String, string_bytes}
 use Rattle.std.specs.declared.alloc.Global.{Global}
 use Rattle.serde_json.specs.Data.{Data}
 use Rattle.serde_json.specs.View.{view}
 use Rattle.olk_spec.specs.Names.{Name, Path, ◌//◌}
 use Rattle.olk_spec.specs.Schemas.{texts}
 use Rattle.olk_spec.specs.Malformed.{items_of_array}
+use Rattle.olk_spec.specs.declared.TheConstants.{HASHMAP_THRESHOLD}
 use Rattle.olk_base.specs.declared.pattern.CompiledPattern.{CompiledPattern}
+use Rattle.olk_tree.specs.Answers.{names_in, nodes_in}
 use Rattle.olk_tree.specs.declared.map.SmallMap.{SmallMap}
+use Rattle.olk_tree.specs.declared.properties_map.PropertiesMap.{PropertiesMap}
+use Rattle.olk_tree.specs.declared.properties_map.PropertiesMap.TheVariants.{Small, Big}
 use Rattle.olk_tree.specs.declared.node.KeywordOver.{KeywordOver}
 use Rattle.olk_tree.specs.declared.node.KeywordOver.TheVariants as keyword
 use Rattle.olk_tree.specs.declared.node.Body.TheVariants.{RequiredNames}
@@ -37,11 +41,16 @@ IsFormOfPatternProperties P es (keyword.PatternProperties k) = (k.patterns.items
 IsFormOfPatternProperties P es (keyword.SingleValuePatternProperties k) = (es ≡ (k.regex, k.node) ∷ []) × (k.location ≡ P)
 IsFormOfPatternProperties P es k = ⊥
 
--- the form at L in the object at P: with two fused names, or alone
-abbrev pub IsFormOfProperties : {K R N : Type 0} → Path → Path → SmallMap N → Option (Name × Name) → KeywordOver K R N → Type 0
-IsFormOfProperties P L m None (keyword.Properties k) = (k.properties ≡ m) × (k.location ≡ L)
-IsFormOfProperties P L m (Some t) (keyword.PropertiesWithRequired2 k) = (k.properties ≡ m) × (k.location ≡ L) × (string_bytes k.first ≡ t.0) × (string_bytes k.second ≡ t.1) × (k.required_location ≡ P // codes "required")
-IsFormOfProperties P L m t k = ⊥
+-- a map for so many names: from HASHMAP_THRESHOLD names on they are found by their hash
+abbrev pub IsMapFor : {N : Type 0} → ℕ → PropertiesMap N → Type 0
+IsMapFor n (Small m) = n < HASHMAP_THRESHOLD
+IsMapFor n (Big m) = HASHMAP_THRESHOLD ≤ n
+
+-- the form at L in the object at P, over these names and nodes: with two fused names, or alone
+abbrev pub IsFormOfProperties : {K R N : Type 0} → Path → Path → List Name → List N → Option (Name × Name) → KeywordOver K R N → Type 0
+IsFormOfProperties P L names ns None (keyword.Properties k) = (names_in k.properties ≡ names) × (nodes_in k.properties ≡ ns) × IsMapFor (length names) k.properties × (k.location ≡ L)
+IsFormOfProperties P L names ns (Some t) (keyword.PropertiesWithRequired2 k) = (k.properties.names ≡ names) × (k.properties.nodes.items ≡ ns) × (k.location ≡ L) × (string_bytes k.first ≡ t.0) × (string_bytes k.second ≡ t.1) × (k.required_location ≡ P // codes "required")
+IsFormOfProperties P L names ns t k = ⊥
 
 -- `if` over its node, and those of `then` and `else` that there are
 abbrev pub IsFormOfIf : {K R N : Type 0} → Path → N → Option N → Option N → KeywordOver K R N → Type 0
@@ -113,11 +122,11 @@ abbrev pub IsRequired : {K R N : Type 0} → Path → Data → KeywordOver K R N
 IsRequired L d (keyword.Required k) = (map string_bytes k.required.items ≡ texts d) × (k.location ≡ L)
 IsRequired L d k = ⊥
 
--- `properties` at L in the object at P with these fused names has them, and without any stands alone
-abbrev pub IsProperties : {K R N : Type 0} → Path → Path → Option (Name × Name) → KeywordOver K R N → Type 0
-IsProperties P L None (keyword.Properties k) = k.location ≡ L
-IsProperties P L (Some t) (keyword.PropertiesWithRequired2 k) = (k.location ≡ L) × (string_bytes k.first ≡ t.0) × (string_bytes k.second ≡ t.1) × (k.required_location ≡ P // codes "required")
-IsProperties P L t k = ⊥
+-- `properties` of so many names at L in the object at P: with two fused names it has them, and without any it stands alone
+abbrev pub IsProperties : {K R N : Type 0} → Path → Path → ℕ → Option (Name × Name) → KeywordOver K R N → Type 0
+IsProperties P L n None (keyword.Properties k) = IsMapFor n k.properties × (k.location ≡ L)
+IsProperties P L n (Some t) (keyword.PropertiesWithRequired2 k) = (k.location ≡ L) × (string_bytes k.first ≡ t.0) × (string_bytes k.second ≡ t.1) × (k.required_location ≡ P // codes "required")
+IsProperties P L n t k = ⊥
 
 -- `patternProperties` of so many patterns
 abbrev pub IsPatternProperties : {K R N : Type 0} → Path → ℕ → KeywordOver K R N → Type 0

@@ -5,6 +5,7 @@ use Rattle.olk_spec.specs.Names.{Name, Path, ◌//◌, lookup, those}
 use Rattle.olk_spec.specs.Schemas.{read, listed, members, numbered, is_array}
 use Rattle.olk_spec.specs.Malformed.{items_of_array}
 use Rattle.olk_base.specs.Kit.{Kit}
+use Rattle.olk_base.specs.declared.pattern.CompiledPattern.{CompiledPattern}
 use Rattle.olk_node.specs.Stands.{StandsFor}
 use Rattle.olk_make.specs.Holding.{StandEach, StandInner}
 use Rattle.olk_node.specs.declared.node.SchemaNode.{SchemaNode}
@@ -12,6 +13,7 @@ use Rattle.olk_read.specs.declared.shape.ReadPlaces.{ReadPlaces}
 use Rattle.olk_read.specs.declared.shape.ReadPlaces.TheVariants.{Nothing, Itself, Entries, SchemaEntries, InnerEntries, Branches}
 use Rattle.olk_make.specs.declared.part.Part.{Part}
 use Rattle.olk_make.specs.declared.part.Cases.{Cases}
+use Rattle.olk_read.specs.Patterns.{IsPattern}
 use Rattle.olk_read.specs.Reading.{reads_of, IsShape, Fits}
 use Rattle.olk_read.specs.declared.shape.Shape.{Shape}
 use Rattle.olk_read.specs.declared.shape.Shape.TheVariants as shape
@@ -53,6 +55,13 @@ module _ {K R : Type 0} (o : Kit K R) where
   StandAt SchemaEntries ns d L = StandEach o ns (those (λ e. not (is_array e.1)) (members d)) L
   StandAt InnerEntries ns d L = StandInner o ns (members d) L
   StandAt Branches ns d L = StandEach o ns (numbered (items_of_array d)) L
+
+  -- patterns beside nodes: each entry stands for the pattern and the schema at its place
+  abbrev pub EntriesStand : List (CompiledPattern R × SchemaNode K R) → List (Name × Data) → Path → Type 0
+  EntriesStand [] [] L = ⊤
+  EntriesStand [] (d ∷ ds) L = ⊥
+  EntriesStand (e ∷ es) [] L = ⊥
+  EntriesStand (e ∷ es) (d ∷ ds) L = IsPattern o e.0 d.0 × StandsFor o e.1 d.1 (L // d.0) × EntriesStand es ds L
 
   -- c says whether `if` is read in the schema object at P
   module _ (c : Bool) where

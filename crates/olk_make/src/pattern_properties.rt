@@ -18,7 +18,7 @@ use std::alloc::{AllocError, Global};
 /// # Errors
 ///
 /// Want of memory.
-fn with_nodes<R: Drop, N: Drop>(
+pub fn with_nodes<R: Drop, N: Drop>(
     alloc: Global,
     patterns: Vec<CompiledPattern<R>>,
     nodes: Vec<N>,

@@ -1,7 +1,8 @@
 //! `properties`.
-ghost use Rattle.std.specs.Prelude.{◌∷◌, [], IfOk};
+ghost use Rattle.std.specs.Prelude.{◌≡◌, ◌∷◌, [], IfOk, length};
 ghost use Rattle.olk_base.specs.Kit.{kit};
-ghost use Rattle.olk_make.specs.Forms.{IsFormOfProperties, IsProperties};
+ghost use Rattle.olk_tree.specs.Answers.{names_in, nodes_in};
+ghost use Rattle.olk_make.specs.Forms.{IsMapFor, IsFormOfProperties, IsProperties};
 ghost use Rattle.olk_members.specs.Plans.{planned};
 ghost use Rattle.olk_make.specs.Making.{MakesClaims};
 ghost use Rattle.olk_read.specs.declared.shape.Shape.TheVariants as shape;
@@ -10,10 +11,29 @@ use olk_base::{Leaf, RegexEngine};
 use olk_members::Plan;
 use olk_node::{Keyword, SchemaNode};
 use olk_reports::Location;
+use olk_spec::HASHMAP_THRESHOLD;
+use olk_tree::big_map::BigMap;
 use olk_tree::map::{SmallMap, SortedNames};
 use olk_tree::node::KeywordOver;
-use olk_tree::properties::{SmallProperties, SmallPropertiesWithRequired2};
+use olk_tree::properties::{Properties, SmallPropertiesWithRequired2};
+use olk_tree::properties_map::PropertiesMap;
 use std::alloc::{AllocError, Global};
+
+/// The map of these names, in which many are found by their hash.
+fn map_of<N: Drop>(
+    alloc: Global,
+    names: SortedNames,
+    nodes: Vec<N>,
+) -> Result<PropertiesMap<N>, AllocError>
+    ensures names { IfOk result (λ m. names_in m ≡ names) }
+    ensures nodes { IfOk result (λ m. nodes_in m ≡ nodes.items) }
+    ensures size { IfOk result (IsMapFor (length names)) }
+{
+    if names.len() < HASHMAP_THRESHOLD {
+        return Ok(PropertiesMap::Small(SmallMap { names, nodes }));
+    }
+    Ok(PropertiesMap::Big(BigMap::of(alloc, names, nodes)?))
+}
 
 /// The form that the plan names, in the object at the place.
 fn form<K, R, N: Drop>(
@@ -21,13 +41,15 @@ fn form<K, R, N: Drop>(
     plan: Plan<'_>,
     place: &Location,
     location: Location,
-    properties: SmallMap<N>,
+    names: SortedNames,
+    nodes: Vec<N>,
 ) -> Result<KeywordOver<K, R, N>, AllocError>
-    ensures { IfOk result (IsFormOfProperties place.now location properties
+    ensures { IfOk result (IsFormOfProperties place.now location names nodes.items
         (planned plan.entry).fused) }
 {
     let Some((first, second)) = plan.fused() else {
-        return Ok(KeywordOver::Properties(SmallProperties {
+        let properties = map_of(alloc, names, nodes)?;
+        return Ok(KeywordOver::Properties(Properties {
             properties,
             location,
         }));
@@ -35,6 +57,7 @@ fn form<K, R, N: Drop>(
     let first = String::from_str(alloc, first)?;
     let second = String::from_str(alloc, second)?;
     let required_location = place.join(alloc, "required")?;
+    let properties = SmallMap { names, nodes };
     Ok(KeywordOver::PropertiesWithRequired2(SmallPropertiesWithRequired2 {
         properties,
         first,
@@ -45,6 +68,8 @@ fn form<K, R, N: Drop>(
 }
 
 /// The validator of the declared names' nodes in the object at the place, and of the names that the plan fuses.
+///
+/// From [`HASHMAP_THRESHOLD`] names on they are found by their hash, where none are fused.
 ///
 /// # Errors
 ///
@@ -57,10 +82,10 @@ pub fn make<K: Leaf, R: RegexEngine>(
     names: SortedNames,
     nodes: Vec<SchemaNode<K, R>>,
 ) -> Result<Keyword<K, R>, AllocError>
-    ensures form { IfOk result (IsProperties place.now location (planned plan.entry).fused) }
+    ensures form { IfOk result (IsProperties place.now location (length names)
+        (planned plan.entry).fused) }
     ensures makes { IfOk result (λ k. MakesClaims (kit K.Leaf R.RegexEngine)
         (shape.Properties names) location nodes.items place.now (planned plan.entry) (k ∷ [])) }
 {
-    let properties = SmallMap { names, nodes };
-    Ok(form(alloc, plan, place, location, properties)?)
+    Ok(form(alloc, plan, place, location, names, nodes)?)
 }

@@ -7,5 +7,5 @@
 mod members;
 mod plan;
 
-pub use members::{has_member, member};
+pub use members::{has_member, law_of_names, member};
 pub use plan::{Plan, is_condition, is_restricted};

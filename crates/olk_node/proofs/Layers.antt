@@ -1,7 +1,8 @@
 -- One level of a node: its answers, over those of the nodes below it.
-use Rattle.std.specs.Prelude.{◌≡◌, [], ◌∷◌, Bool, not, ◌++◌}
+use Rattle.std.specs.Prelude.{◌≡◌, [], ◌∷◌, Bool, not, ◌++◌, ◌||◌, Option, Some, None, is_some, List, Vec}
+use Rattle.std.specs.declared.alloc.Global.{Global}
 use Rattle.std.specs.List.{flat_map}
-use Rattle.std.proofs.Common.{refl, ap, ◌∙◌}
+use Rattle.std.proofs.Common.{refl, ap, ◌∙◌, arith}
 use Rattle.serde_json.specs.Data.{Data}
 use Rattle.olk_spec.specs.Names.{Path, ◌//◌, is_empty}
 use Rattle.olk_spec.specs.Faults.{AnyOf, context}
@@ -12,8 +13,15 @@ use Rattle.olk_spec.specs.Tree.{plain}
 use Rattle.olk_base.specs.Kit.{Kit}
 use Rattle.olk_tree.specs.Shown.{missing_trees, branch_trees}
 use Rattle.olk_tree.specs.Questions.{always, both, every}
-use Rattle.olk_tree.specs.Answers.{named, due_nodes, chosen_nodes, one_of_report, two_texts, or_else, head_of, first_of, validator_means, body_means, validator_report, body_report, validator_first, body_first, validator_tree, body_tree}
+use Rattle.olk_tree.specs.Answers.{named, due_nodes, chosen_nodes, one_of_report, two_texts, sides_of, required_text, required_place, lacks, has_neighbours, or_else, head_of, first_of, validator_means, body_means, validator_report, body_report, validator_first, body_first, validator_tree, body_tree}
 use Rattle.olk_node.specs.Nodes.{Answers, node_step, answers}
+use Rattle.olk_tree.specs.declared.big_map.BigMap.{BigMap}
+use Rattle.olk_tree.specs.Tables.{no_table}
+use Rattle.olk_tree.specs.Additional.{additional_report, additional_first, additional_tree}
+use Rattle.olk_tree.specs.declared.additional_properties.AdditionalProperties.{AdditionalProperties}
+use Rattle.olk_tree.specs.declared.properties_map.PropertiesMap.{PropertiesMap}
+use Rattle.olk_tree.specs.declared.map.SmallMap.{SmallMap}
+use Rattle.olk_tree.specs.declared.properties_map.PropertiesMap.TheVariants.{Small, Big}
 use Rattle.olk_tree.specs.declared.node.KeywordOver.{KeywordOver}
 use Rattle.olk_tree.specs.declared.node.KeywordOver.TheVariants as keyword
 use Rattle.olk_tree.specs.declared.node.Body.{Body}
@@ -21,11 +29,68 @@ use Rattle.olk_tree.specs.declared.node.Body.TheVariants.{True, False, Keywords,
 use Rattle.olk_node.specs.declared.node.SchemaNode.{SchemaNode, map-SchemaNode, out-SchemaNode, fold_out-SchemaNode}
 use Rattle.olk_node.specs.declared.node.SchemaNode.TheOpen.{SchemaNode-F}
 use Rattle.olk_spec.proofs.Maps.{flat_map-map, map-map}
+use Rattle.olk_tree.proofs.AdditionalMaps.{Mapped, at-beside, declared-beside, additional_means-map, additional_report-map, additional_first-map, additional_tree-map}
 use Rattle.olk_tree.proofs.Maps.{due_nodes-map, chosen_nodes-map, every-map, some-map, every-beside, flat_map-beside, first_of-map, first_of-beside, properties_tree-map, branch_trees-map, any_of_tree-map, one_of_tree-map, how_many-map, exactly_one-map, patterns_mean-map, patterns_report-map, patterns_first-map, patterns_tree-map}
+
+-- what holds where a map is of few names, and where it is of many
+few_or_many : {N G : Type 0} (m : PropertiesMap N) → ((s : SmallMap N) → m ≡ Small s → G) → ((b : BigMap N) → m ≡ Big b → G) → G
+few_or_many (Small m) few many = few m refl
+few_or_many (Big m) few many = many m refl
+
+-- the same where there may be no map
+none_few_or_many : {N G : Type 0} (o : Option (PropertiesMap N)) → (o ≡ None → G) → ((s : SmallMap N) → o ≡ Some (Small s) → G) → ((b : BigMap N) → o ≡ Some (Big b) → G) → G
+none_few_or_many None none few many = none refl
+none_few_or_many (Some (Small m)) none few many = few m refl
+none_few_or_many (Some (Big m)) none few many = many m refl
+
+none_or_one : {X G : Type 0} (o : Option X) → (o ≡ None → G) → ((x : X) → o ≡ Some x → G) → G
+none_or_one None none one = none refl
+none_or_one (Some x) none one = one x refl
 
 module _ {K R : Type 0} (o : Kit K R) where
   abbrev opened : SchemaNode-F K R (SchemaNode K R) → Body (KeywordOver K R (SchemaNode K R)) → SchemaNode-F K R Answers
   opened n b = map-SchemaNode K R (SchemaNode K R) Answers (answers o) record n { body = b }
+
+  -- the keyword that the answers of nodes make of one that holds nodes
+  abbrev restriction_of : KeywordOver K R Answers → AdditionalProperties R Answers
+  restriction_of (keyword.AdditionalProperties k) = k
+  restriction_of k = record { properties = None; patterns = None; table = no_table; rest = None; required = None; location = []; patterns_location = [] }
+
+  abbrev first_in : List (KeywordOver K R Answers) → AdditionalProperties R Answers
+  first_in [] = restriction_of (keyword.PropertyNamesFalse record { location = [] })
+  first_in (k ∷ ks) = restriction_of k
+
+  abbrev first_restriction : Body (KeywordOver K R Answers) → AdditionalProperties R Answers
+  first_restriction (Keywords ks) = first_in ks.items
+  first_restriction b = restriction_of (keyword.PropertyNamesFalse record { location = [] })
+
+  module _ (n : SchemaNode-F K R (SchemaNode K R)) (ks : Vec (KeywordOver K R (SchemaNode K R)) Global) (k : AdditionalProperties R (SchemaNode K R)) where
+    abbrev answered : AdditionalProperties R Answers
+    answered = first_restriction (opened n (Keywords record ks { len = 1; cap = 1; items = keyword.AdditionalProperties k ∷ []; ok = (refl, omega arith); small = omega arith })).body
+
+    sides_answer : Mapped (answers o) (sides_of answered) (sides_of k)
+    sides_answer = record {
+      declared = none_few_or_many k.properties (λ e. rw e refl) (λ m e. rw e (declared-beside (answers o) m.names m.nodes.items)) (λ m e. rw e (declared-beside (answers o) m.names m.nodes.items));
+      at = λ x. none_few_or_many k.properties (λ e. rw e refl) (λ m e. rw e (at-beside (answers o) m.names m.nodes.items x)) (λ m e. rw e (at-beside (answers o) m.names m.nodes.items x));
+      patterns = none_or_one k.patterns (λ e. rw e refl) (λ ps e. rw e refl);
+      known = refl;
+      rest = none_or_one k.rest (λ e. rw e refl) (λ r e. rw e refl);
+    }
+
+    same_place : answered.location ≡ k.location
+    same_place = refl
+
+    same_patterns_place : answered.patterns_location ≡ k.patterns_location
+    same_patterns_place = refl
+
+    declares_alike : is_some answered.properties ≡ is_some k.properties
+    declares_alike = none_few_or_many k.properties (λ e. rw e refl) (λ m e. rw e refl) (λ m e. rw e refl)
+
+    matches_alike : is_some answered.patterns ≡ is_some k.patterns
+    matches_alike = none_or_one k.patterns (λ e. rw e refl) (λ ps e. rw e refl)
+
+    neighbours_alike : has_neighbours answered ≡ has_neighbours k
+    neighbours_alike = λ i. declares_alike i || matches_alike i
 
   means_layer : (n : SchemaNode-F K R (SchemaNode K R)) (b : Body (KeywordOver K R (SchemaNode K R))) (v : Data)
       → (node_step o (opened n b)).means v ≡ body_means (validator_means o (λ n. (answers o n).means)) b v
@@ -34,7 +99,7 @@ module _ {K R : Type 0} (o : Kit K R) where
   means_layer n False v = refl
   means_layer n (RequiredNames k) v = refl
   means_layer n (Keywords ks) v = every-map (λ k. validator_means o (λ a. a.means) k v) (λ k. validator_means o (λ n. (answers o n).means) k v) _ (elim [
-    | keyword.Properties k ↦ every-beside (λ e. every e.1.means (at e.0 v)) (λ e. every (answers o e.1).means (at e.0 v)) (answers o) (λ a y. refl) k.properties.names k.properties.nodes.items
+    | keyword.Properties k ↦ few_or_many k.properties (λ m e. rw e (every-beside (λ e. every e.1.means (at e.0 v)) (λ e. every (answers o e.1).means (at e.0 v)) (answers o) (λ a y. refl) m.names m.nodes.items)) (λ m e. rw e (every-beside (λ e. every e.1.means (at e.0 v)) (λ e. every (answers o e.1).means (at e.0 v)) (answers o) (λ a y. refl) m.names m.nodes.items))
     | keyword.PropertiesWithRequired2 k ↦ ap (both (always (is_empty (missing (two_texts k.first k.second) v)))) (every-beside (λ e. every e.1.means (at e.0 v)) (λ e. every (answers o e.1).means (at e.0 v)) (answers o) (λ a y. refl) k.properties.names k.properties.nodes.items)
     | keyword.Required k ↦ refl
     | keyword.AllOf k ↦ every-map (λ a. a.means v) (λ n. (answers o n).means v) (answers o) (λ n. refl) k.schemas.items
@@ -53,6 +118,7 @@ module _ {K R : Type 0} (o : Kit K R) where
     | keyword.PropertyDependencies k ↦ ap (every (λ a. a.means v)) (chosen_nodes-map (answers o) v _ (λ m. refl) k.dependencies.names k.dependencies.nodes.items) ∙ every-map (λ a. a.means v) (λ n. (answers o n).means v) (answers o) (λ n. refl) (chosen_nodes (named k.dependencies) v)
     | keyword.PatternProperties k ↦ patterns_mean-map o.answers (answers o) v o.costs (λ a. a.means) (λ n. (answers o n).means) (λ n w. refl) k.patterns.items
     | keyword.SingleValuePatternProperties k ↦ refl
+    | keyword.AdditionalProperties k ↦ ap (λ q. both q (always (is_empty (missing (required_text k.required) v)))) (additional_means-map (answers o) o.answers (sides_answer n ks k) o.costs (λ a. a.means) (λ n. (answers o n).means) (λ y w. refl) v)
     | keyword.Leaf p l ↦ refl
   ]) ks.items
 
@@ -63,7 +129,7 @@ module _ {K R : Type 0} (o : Kit K R) where
   finds_layer n False u v Q = refl
   finds_layer n (RequiredNames k) u v Q = refl
   finds_layer n (Keywords ks) u v Q = flat_map-map (λ k. validator_report o (λ a. a.means) (λ a. a.report) u k v Q) (λ k. validator_report o (λ n. (answers o n).means) (λ n. (answers o n).report) u k v Q) _ (elim [
-    | keyword.Properties k ↦ flat_map-beside (λ e. flat_map (λ x. e.1.report u x (Q // e.0)) (at e.0 v)) (λ e. flat_map (λ x. (answers o e.1).report u x (Q // e.0)) (at e.0 v)) (answers o) (λ a y. refl) k.properties.names k.properties.nodes.items
+    | keyword.Properties k ↦ few_or_many k.properties (λ m e. rw e (flat_map-beside (λ e. flat_map (λ x. e.1.report u x (Q // e.0)) (at e.0 v)) (λ e. flat_map (λ x. (answers o e.1).report u x (Q // e.0)) (at e.0 v)) (answers o) (λ a y. refl) m.names m.nodes.items)) (λ m e. rw e (flat_map-beside (λ e. flat_map (λ x. e.1.report u x (Q // e.0)) (at e.0 v)) (λ e. flat_map (λ x. (answers o e.1).report u x (Q // e.0)) (at e.0 v)) (answers o) (λ a y. refl) m.names m.nodes.items))
     | keyword.PropertiesWithRequired2 k ↦ ap (λ fs. required_faults (two_texts k.first k.second) v k.required_location Q ++ fs) (flat_map-beside (λ e. flat_map (λ x. e.1.report u x (Q // e.0)) (at e.0 v)) (λ e. flat_map (λ x. (answers o e.1).report u x (Q // e.0)) (at e.0 v)) (answers o) (λ a y. refl) k.properties.names k.properties.nodes.items)
     | keyword.Required k ↦ refl
     | keyword.AllOf k ↦ flat_map-map (λ a. a.report u v Q) (λ n. (answers o n).report u v Q) (answers o) (λ n. refl) k.schemas.items
@@ -82,6 +148,7 @@ module _ {K R : Type 0} (o : Kit K R) where
     | keyword.PropertyDependencies k ↦ ap (flat_map (λ a. a.report u v Q)) (chosen_nodes-map (answers o) v _ (λ m. refl) k.dependencies.names k.dependencies.nodes.items) ∙ flat_map-map (λ a. a.report u v Q) (λ n. (answers o n).report u v Q) (answers o) (λ n. refl) (chosen_nodes (named k.dependencies) v)
     | keyword.PatternProperties k ↦ patterns_report-map o.answers (answers o) u v (λ a. a.report) (λ n. (answers o n).report) (λ n w R. refl) Q k.patterns.items
     | keyword.SingleValuePatternProperties k ↦ refl
+    | keyword.AdditionalProperties k ↦ ap (λ b. additional_report o.answers (sides_of (answered n ks k)) u v Q b k.location (λ a. a.report) ++ lacks k.required v Q) (neighbours_alike n ks k) ∙ ap (λ fs. fs ++ lacks k.required v Q) (additional_report-map (answers o) o.answers (sides_answer n ks k) u v Q (λ a. a.report) (λ n. (answers o n).report) (λ y w R. refl) (has_neighbours k) k.location)
     | keyword.Leaf p l ↦ refl
   ]) ks.items
 
@@ -92,7 +159,7 @@ module _ {K R : Type 0} (o : Kit K R) where
   first_layer n False u v Q = refl
   first_layer n (RequiredNames k) u v Q = refl
   first_layer n (Keywords ks) u v Q = first_of-map (λ k. validator_first o (λ a. a.means) (λ a. a.report) u (λ a. a.first) k v Q) (λ k. validator_first o (λ n. (answers o n).means) (λ n. (answers o n).report) u (λ n. (answers o n).first) k v Q) _ (elim [
-    | keyword.Properties k ↦ first_of-beside (λ e. first_of (λ x. e.1.first u x (Q // e.0)) (at e.0 v)) (λ e. first_of (λ x. (answers o e.1).first u x (Q // e.0)) (at e.0 v)) (answers o) (λ a y. refl) k.properties.names k.properties.nodes.items
+    | keyword.Properties k ↦ few_or_many k.properties (λ m e. rw e (first_of-beside (λ e. first_of (λ x. e.1.first u x (Q // e.0)) (at e.0 v)) (λ e. first_of (λ x. (answers o e.1).first u x (Q // e.0)) (at e.0 v)) (answers o) (λ a y. refl) m.names m.nodes.items)) (λ m e. rw e (first_of-beside (λ e. first_of (λ x. e.1.first u x (Q // e.0)) (at e.0 v)) (λ e. first_of (λ x. (answers o e.1).first u x (Q // e.0)) (at e.0 v)) (answers o) (λ a y. refl) m.names m.nodes.items))
     | keyword.PropertiesWithRequired2 k ↦ ap (or_else (head_of (required_faults (two_texts k.first k.second) v k.required_location Q))) (first_of-beside (λ e. first_of (λ x. e.1.first u x (Q // e.0)) (at e.0 v)) (λ e. first_of (λ x. (answers o e.1).first u x (Q // e.0)) (at e.0 v)) (answers o) (λ a y. refl) k.properties.names k.properties.nodes.items)
     | keyword.Required k ↦ refl
     | keyword.AllOf k ↦ first_of-map (λ a. a.first u v Q) (λ n. (answers o n).first u v Q) (answers o) (λ n. refl) k.schemas.items
@@ -111,6 +178,7 @@ module _ {K R : Type 0} (o : Kit K R) where
     | keyword.PropertyDependencies k ↦ ap (first_of (λ a. a.first u v Q)) (chosen_nodes-map (answers o) v _ (λ m. refl) k.dependencies.names k.dependencies.nodes.items) ∙ first_of-map (λ a. a.first u v Q) (λ n. (answers o n).first u v Q) (answers o) (λ n. refl) (chosen_nodes (named k.dependencies) v)
     | keyword.PatternProperties k ↦ patterns_first-map o.answers (answers o) u v (λ a. a.first) (λ n. (answers o n).first) (λ n w R. refl) Q k.patterns.items
     | keyword.SingleValuePatternProperties k ↦ refl
+    | keyword.AdditionalProperties k ↦ ap (λ b. or_else (additional_first o.answers (sides_of (answered n ks k)) u v Q b k.location (λ a. a.first)) (lacks k.required v Q)) (neighbours_alike n ks k) ∙ ap (λ fs. or_else fs (lacks k.required v Q)) (additional_first-map (answers o) o.answers (sides_answer n ks k) u v Q (λ a. a.first) (λ n. (answers o n).first) (λ y w R. refl) (has_neighbours k) k.location)
     | keyword.Leaf p l ↦ refl
   ]) ks.items
 
@@ -121,7 +189,7 @@ module _ {K R : Type 0} (o : Kit K R) where
   shows_layer n False u v Q = refl
   shows_layer n (RequiredNames k) u v Q = refl
   shows_layer n (Keywords ks) u v Q = ap (plain n.location Q) (map-map (λ k. validator_tree o (λ a. a.means) (λ a. a.tree) u k v Q) (λ k. validator_tree o (λ n. (answers o n).means) (λ n. (answers o n).tree) u k v Q) _ (elim [
-    | keyword.Properties k ↦ properties_tree-map (λ a. a.tree u) (λ n. (answers o n).tree u) (answers o) (λ y w R. refl) v Q k.location k.properties.names k.properties.nodes.items []
+    | keyword.Properties k ↦ few_or_many k.properties (λ m e. rw e (properties_tree-map (λ a. a.tree u) (λ n. (answers o n).tree u) (answers o) (λ y w R. refl) v Q k.location m.names m.nodes.items [])) (λ m e. rw e (properties_tree-map (λ a. a.tree u) (λ n. (answers o n).tree u) (answers o) (λ y w R. refl) v Q k.location m.names m.nodes.items []))
     | keyword.PropertiesWithRequired2 k ↦ properties_tree-map (λ a. a.tree u) (λ n. (answers o n).tree u) (answers o) (λ y w R. refl) v Q k.location k.properties.names k.properties.nodes.items (missing_trees (two_texts k.first k.second) v k.required_location Q)
     | keyword.Required k ↦ refl
     | keyword.AllOf k ↦ ap (plain k.location Q) (branch_trees-map (λ a. a.tree u) (λ n. (answers o n).tree u) (answers o) (λ y w R. refl) v Q k.schemas.items)
@@ -140,6 +208,7 @@ module _ {K R : Type 0} (o : Kit K R) where
     | keyword.PropertyDependencies k ↦ ap (λ ns. plain k.location Q (branch_trees (λ a. a.tree u) v Q ns)) (chosen_nodes-map (answers o) v _ (λ m. refl) k.dependencies.names k.dependencies.nodes.items) ∙ ap (plain k.location Q) (branch_trees-map (λ a. a.tree u) (λ n. (answers o n).tree u) (answers o) (λ y w R. refl) v Q (chosen_nodes (named k.dependencies) v))
     | keyword.PatternProperties k ↦ patterns_tree-map o.answers (answers o) u v (λ a. a.tree u) (λ n. (answers o n).tree u) (λ n w R. refl) k.location Q k.patterns.items
     | keyword.SingleValuePatternProperties k ↦ refl
+    | keyword.AdditionalProperties k ↦ (λ i. additional_tree o.answers (sides_of (answered n ks k)) u v Q (declares_alike n ks k i) (matches_alike n ks k i) k.location k.patterns_location (λ a. a.tree u) (missing_trees (required_text k.required) v (required_place k.required) Q)) ∙ additional_tree-map (answers o) o.answers (sides_answer n ks k) u v Q (λ a. a.tree u) (λ n. (answers o n).tree u) (λ y w R. refl) (is_some k.properties) (is_some k.patterns) k.location k.patterns_location (missing_trees (required_text k.required) v (required_place k.required) Q)
     | keyword.Leaf p l ↦ refl
   ]) ks.items)
 

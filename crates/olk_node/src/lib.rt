@@ -11,9 +11,10 @@ pub mod valid;
 
 pub use errors::{collect_errors_for, validate_for};
 pub use node::{
-    AllOfValidator, AnyOfValidator, DependenciesValidator, DependentRequiredValidator,
-    DependentSchemasValidator, IfElseValidator, IfThenElseValidator, IfThenValidator, Keyword,
-    NotValidator, OneOfValidator, PatternPropertiesValidator, PropertyDependenciesValidator,
+    AllOfValidator, AnyOfValidator, BigPropertiesValidator, BigValidatorsMap,
+    DependenciesValidator, DependentRequiredValidator, DependentSchemasValidator, IfElseValidator,
+    IfThenElseValidator, IfThenValidator, Keyword, NotValidator, OneOfValidator,
+    PatternPropertiesValidator, PropertiesMap, PropertyDependenciesValidator,
     PropertyNamesObjectValidator, SchemaNode, SingleAnyOfValidator, SingleOneOfValidator,
     SingleValueAllOfValidator, SingleValuePatternPropertiesValidator, SmallPropertiesValidator,
     SmallPropertiesWithRequired2Validator, SmallValidatorsMap,

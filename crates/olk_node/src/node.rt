@@ -4,6 +4,7 @@ ghost use Rattle.std.specs.Prelude.{◌≡◌};
 use olk_reports::Location;
 use olk_tree::all_of::{AllOf, SingleValueAllOf};
 use olk_tree::any_of::{AnyOf, SingleAnyOf};
+use olk_tree::big_map::BigMap;
 use olk_tree::dependencies::{Dependencies, DependentRequired, DependentSchemas};
 use olk_tree::if_::{IfElse, IfThen, IfThenElse};
 use olk_tree::map::SmallMap;
@@ -11,7 +12,7 @@ use olk_tree::node::{Body, KeywordOver};
 use olk_tree::not::Not;
 use olk_tree::one_of::{OneOf, SingleOneOf};
 use olk_tree::pattern_properties::{PatternProperties, SingleValuePatternProperties};
-use olk_tree::properties::{SmallProperties, SmallPropertiesWithRequired2};
+use olk_tree::properties::{Properties, SmallPropertiesWithRequired2};
 use olk_tree::property_dependencies::PropertyDependencies;
 use olk_tree::property_names::PropertyNames;
 
@@ -74,8 +75,11 @@ pub type IfElseValidator<K, R> = IfElse<SchemaNode<K, R>>;
 /// `if` with `then` and `else`, over nodes.
 pub type IfThenElseValidator<K, R> = IfThenElse<SchemaNode<K, R>>;
 
-/// `properties`, over nodes.
-pub type SmallPropertiesValidator<K, R> = SmallProperties<SchemaNode<K, R>>;
+/// `properties`, over nodes: of few names, where its map is small.
+pub type SmallPropertiesValidator<K, R> = Properties<SchemaNode<K, R>>;
+
+/// `properties`, over nodes: of many names, where its map is big.
+pub type BigPropertiesValidator<K, R> = Properties<SchemaNode<K, R>>;
 
 /// `properties` together with `required` of two different names, over nodes.
 pub type SmallPropertiesWithRequired2Validator<K, R> = SmallPropertiesWithRequired2<
@@ -84,6 +88,12 @@ pub type SmallPropertiesWithRequired2Validator<K, R> = SmallPropertiesWithRequir
 
 /// Names in order, and beside each its node.
 pub type SmallValidatorsMap<K, R> = SmallMap<SchemaNode<K, R>>;
+
+/// Names that are found by their hash, and beside each its node.
+pub type BigValidatorsMap<K, R> = BigMap<SchemaNode<K, R>>;
+
+/// Few names or many, and beside each its node.
+pub type PropertiesMap<K, R> = olk_tree::PropertiesMap<SchemaNode<K, R>>;
 
 /// `patternProperties` of several patterns, or of none, over nodes.
 pub type PatternPropertiesValidator<K, R> = PatternProperties<R, SchemaNode<K, R>>;

@@ -13,6 +13,7 @@ mod shape;
 
 pub use lists::{append, append_all, one};
 pub use makers::Makers;
+pub use patterns::patterns_of_entries;
 pub use reading::read_keyword;
 pub use refusal::{refuse, refuse_type};
 pub use shape::{ReadPlaces, Shape};

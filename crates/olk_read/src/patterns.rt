@@ -63,12 +63,12 @@ fn read_pattern<'a, L: MakeLeaf, M: MakeRegex>(
     }
 }
 
-/// The patterns of an object's entries.
+/// The patterns of an object's entries, in the order of their bytes; each that stands for a test costs nothing.
 ///
 /// # Errors
 ///
-/// The first pattern that does not build is refused, as [`read_pattern`] says; else want of memory.
-pub(crate) fn patterns_of_entries<'a, L: MakeLeaf, M: MakeRegex>(
+/// The first pattern that does not build is refused, as a bare name below the keyword at the place; else want of memory.
+pub fn patterns_of_entries<'a, L: MakeLeaf, M: MakeRegex>(
     alloc: Global,
     makers: &Makers<'_, L, M>,
     meter: &mut Meter,

@@ -6,10 +6,12 @@ use olk_node::{Keyword, SchemaNode, is_valid_for};
 use olk_reports::Location;
 use olk_tree::all_of::{AllOf, SingleValueAllOf};
 use olk_tree::any_of::{AnyOf, SingleAnyOf};
+use olk_tree::big_map::BigMap;
 use olk_tree::map::{SmallMap, SortedNames};
 use olk_tree::node::{Body, KeywordOver};
 use olk_tree::not::Not;
-use olk_tree::properties::{SmallProperties, SmallPropertiesWithRequired2};
+use olk_tree::properties::{Properties, SmallPropertiesWithRequired2};
+use olk_tree::properties_map::PropertiesMap;
 use olk_tree::required::RequiredValidator;
 use serde_json::{Map, Value};
 use std::alloc::{AllocError, Global};
@@ -222,22 +224,33 @@ fn required_names_beside_declared_ones(rt: HostRuntime) -> Result<(), Fail> {
     Ok(())
 }
 
-// `properties` of so many names, each with the leaf.
-fn declared(alloc: Global, count: usize) -> Result<PlainNode, AllocError> {
+// So many names, each with the leaf, in a map of few names or of many.
+fn leaf_map(
+    alloc: Global,
+    count: usize,
+    many: bool,
+) -> Result<PropertiesMap<PlainNode>, AllocError> {
     let mut names = Map::new(alloc);
     let mut nodes = Vec::new(alloc);
     for i in 0..count {
         names.insert(format!(in alloc; "m{i:02}")?, Value::Null)?;
         nodes.push(no_text(alloc)?)?;
     }
-    let properties = SmallMap {
-        names: SortedNames::of(alloc, &names)?,
-        nodes,
-    };
+    let names = SortedNames::of(alloc, &names)?;
+    if many {
+        Ok(PropertiesMap::Big(BigMap::of(alloc, names, nodes)?))
+    } else {
+        Ok(PropertiesMap::Small(SmallMap { names, nodes }))
+    }
+}
+
+// `properties` of these names.
+fn declared(alloc: Global, count: usize, many: bool) -> Result<PlainNode, AllocError> {
+    let properties = leaf_map(alloc, count, many)?;
     let location = Location::new(alloc);
     keyword(
         alloc,
-        KeywordOver::Properties(SmallProperties {
+        KeywordOver::Properties(Properties {
             properties,
             location,
         }),
@@ -271,17 +284,18 @@ fn expect_declared(
     rt: &impl Abort,
     alloc: Global,
     count: usize,
+    many: bool,
     besides: usize,
 ) -> Result<(), Fail> {
-    let place = declared(alloc, count)?;
+    let place = declared(alloc, count, many)?;
     for i in 0..20 {
         let name = format!(in alloc; "m{i:02}")?;
         let accepted = accepts_text_at(&place, alloc, name.as_str(), besides)?;
-        assert_eq!(rt; accepted, i >= count, "{i} of {count}");
+        assert_eq!(rt; accepted, i >= count, "{i} of {count} {many}");
     }
     for name in ["", "l", "m", "m00a", "m005", "m12z", "n"] {
         let accepted = accepts_text_at(&place, alloc, name, besides)?;
-        assert!(rt; accepted, "{name} of {count}");
+        assert!(rt; accepted, "{name} of {count} {many}");
     }
     Ok(())
 }
@@ -290,7 +304,8 @@ fn expect_declared(
 fn declared_names(rt: HostRuntime) -> Result<(), Fail> {
     for count in [0, 1, 2, 13, 14, 15, 16] {
         for besides in [0, count, 20] {
-            expect_declared(&rt, rt.alloc(), count, besides)?;
+            expect_declared(&rt, rt.alloc(), count, false, besides)?;
+            expect_declared(&rt, rt.alloc(), count, true, besides)?;
         }
     }
     Ok(())
@@ -298,8 +313,10 @@ fn declared_names(rt: HostRuntime) -> Result<(), Fail> {
 
 #[test]
 fn declared_names_beside_no_object(rt: HostRuntime) -> Result<(), Fail> {
-    let place = declared(rt.alloc(), 2)?;
-    assert!(rt; accepts(&place, &Value::Null));
+    for many in [false, true] {
+        let place = declared(rt.alloc(), 2, many)?;
+        assert!(rt; accepts(&place, &Value::Null));
+    }
     Ok(())
 }
 

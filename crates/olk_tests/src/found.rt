@@ -22,14 +22,17 @@ fn built(alloc: Global, schema: &Value) -> Result<BenchValidator, Fail> {
 }
 
 // An error as a line: its text, its instance path and its schema path.
-fn line(alloc: Global, error: &ValidationError<'_>) -> Result<String, AllocError> {
+pub(crate) fn line(alloc: Global, error: &ValidationError<'_>) -> Result<String, AllocError> {
     let message = error.message(alloc)?;
     let (instance, schema) = (error.instance_path(), error.schema_path());
     format!(in alloc; "{message} @ \"{instance}\", {schema}")
 }
 
 // The lines of errors in the order of their texts.
-fn sorted(alloc: Global, errors: &[ValidationError<'_>]) -> Result<Vec<String>, AllocError> {
+pub(crate) fn sorted(
+    alloc: Global,
+    errors: &[ValidationError<'_>],
+) -> Result<Vec<String>, AllocError> {
     let mut lines = Vec::new(alloc);
     for error in errors {
         lines.push(line(alloc, error)?)?;
@@ -378,7 +381,7 @@ fn members_that_patterns_match(rt: HostRuntime) -> Result<(), Fail> {
     Ok(())
 }
 
-fn joined(alloc: Global, lines: &[String]) -> Result<String, AllocError> {
+pub(crate) fn joined(alloc: Global, lines: &[String]) -> Result<String, AllocError> {
     let mut text = String::new(alloc);
     for line in lines {
         if !text.is_empty() {
@@ -600,7 +603,7 @@ fn push_node(text: &mut String, node: &EvaluationNode<'_>) -> Result<(), AllocEr
 
 // A node and those below it, in parentheses, down to the keywords of the schemas that a keyword asks, and `..` for what is
 // deeper.
-fn push_tree(text: &mut String, keyword: &EvaluationNode<'_>) -> Result<(), AllocError> {
+pub(crate) fn push_tree(text: &mut String, keyword: &EvaluationNode<'_>) -> Result<(), AllocError> {
     push_node(text, keyword)?;
     for place in keyword.children() {
         text.push_str(" (")?;

@@ -4,6 +4,8 @@
 #![tactic(auto)]
 
 #[cfg(test)]
+mod additional;
+#[cfg(test)]
 mod check;
 #[cfg(test)]
 mod counts;
@@ -11,6 +13,8 @@ mod counts;
 mod found;
 #[cfg(test)]
 mod nesting;
+#[cfg(test)]
+mod pattern_tables;
 #[cfg(test)]
 mod tree;
 #[cfg(test)]

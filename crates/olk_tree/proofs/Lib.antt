@@ -4,10 +4,14 @@ pub mod Faults
 pub mod Members_met
 pub mod Due
 mod Places
+mod Hashed
 mod Lookups
 mod Entries
 pub mod Merge
 mod Walked
 pub mod Maps
 pub mod Patterns
+mod Bits
+pub mod Tables
 pub mod OneOf
+pub mod AdditionalMaps

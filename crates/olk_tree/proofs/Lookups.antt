@@ -1,7 +1,7 @@
 -- What stands beside a name.
-use Rattle.std.proofs.Common.{◌≡◌, ℕ, suc, ◌<◌, ◌≤◌, length, get_or, Bor, option_copied, Bool, true, false, List, [], ◌∷◌, Option, Some, None, option_map, bytes_eq, refl, ap, ◌∙◌, sym, arith}
+use Rattle.std.proofs.Common.{◌≡◌, ℕ, zero, suc, ◌+◌, ◌<◌, ◌≤◌, length, get_or, Bor, option_copied, Bool, true, false, List, [], ◌∷◌, Option, Some, None, option_map, bytes_eq, map, String, Global, string_bytes, refl, ap, ◌∙◌, sym, arith}
 use Rattle.std.specs.Option.{option_and_then, IfSome, MatchOption}
-use Rattle.std.specs.List.{position, slice_get, HoldsAt}
+use Rattle.std.specs.List.{position, slice_get, enumerate_from, HoldsAt}
 use Rattle.std.proofs.lemmas.Option.{slice_get_past, slice_get_read}
 use Rattle.std.specs.Ordering.{nat_cmp, is_eq, ordering_reverse}
 use Rattle.std.specs.Cmp.Lexicographic.{slice_cmp}
@@ -10,7 +10,11 @@ use Rattle.std.specs.declared.cmp.Ordering.TheVariants.{Less, Equal, Greater}
 use Rattle.std.proofs.lemmas.Cmp.{nat_list_cmp_total}
 use Rattle.std.proofs.lemmas.Map.Text.{is_eq-slice_cmp}
 use Rattle.std.proofs.lemmas.Grind.{common_steps}
+use Rattle.std.proofs.lemmas.List.{get_or-map, length-map}
+use Rattle.std.proofs.lemmas.List.Quantifiers.{position-Some}
+use Rattle.std.proofs.lemmas.Slice.Eq.{bytes_eq-Decides}
 use Rattle.olk_spec.specs.Names.{Name, lookup, first_if_equal}
+use Rattle.olk_tree.specs.Additional.{placed}
 use Rattle.olk_tree.specs.Answers.{beside}
 
 is_eq-turned : (o : Ordering) → is_eq (ordering_reverse o) ≡ is_eq o
@@ -53,3 +57,31 @@ module _ {X : Type 0} where
       by Less e h = ap (option_and_then (slice_get (x ∷ xs))) (position-later (λ k. bytes_eq k n) k ks e) ∙ later x xs (position (λ k. bytes_eq k n) ks) ∙ h
       by Equal e h = ap (option_and_then (slice_get (x ∷ xs))) (position-here (λ k. bytes_eq k n) k ks e)
       by Greater e h = ap (option_and_then (slice_get (x ∷ xs))) (position-later (λ k. bytes_eq k n) k ks e) ∙ later x xs (position (λ k. bytes_eq k n) ks) ∙ h
+
+  -- what is read at the place of a name, and where the name has no place
+  pub beside_found : (ks : List Name) (xs slice : List X) (n : Name) (i : ℕ) (o : Option (Bor X)) → slice ≡ xs → Some i ≡ position (λ k. bytes_eq k n) ks
+      → IfSome o (λ x. x.now ≡ get_or slice i x.now) → MatchOption o (length slice ≤ i) (λ x. (i < length slice) × HoldsAt (λ y. x.now ≡ y) slice i) → option_copied o ≡ lookup n (beside ks xs)
+  beside_found ks xs slice n i o same e h m = read_at slice i o h m ∙ ap (λ l. slice_get l i) same ∙ ap (option_and_then (slice_get xs)) e ∙ beside_place ks xs n
+
+  pub beside_none : (ks : List Name) (xs : List X) (n : Name) → None ≡ position (λ k. bytes_eq k n) ks → None ≡ lookup n (beside ks xs)
+  beside_none ks xs n e = ap (option_and_then (slice_get xs)) e ∙ beside_place ks xs n
+
+  numbered_get : (k : ℕ) (xs : List X) (i j : ℕ) → j ≡ k + i → slice_get (enumerate_from k xs) i ≡ option_map (λ x. (j, x)) (slice_get xs i)
+  numbered_get k [] i j e = refl
+  numbered_get k (x ∷ xs) zero j e = ap (λ p. Some (p, x)) (let f : k ≡ j = omega arith in f)
+  numbered_get k (x ∷ xs) (suc i) j e = numbered_get (k + 1) xs i j (omega arith)
+
+  -- what is read at an index, with the index
+  pub numbered_at : (xs : List X) (i : ℕ) (o : Option (Bor X)) → IfSome o (λ x. x.now ≡ get_or xs i x.now) → MatchOption o (length xs ≤ i) (λ x. (i < length xs) × HoldsAt (λ y. x.now ≡ y) xs i) → option_map {U = ℕ × X} (λ x. (i, x.now)) o ≡ slice_get (placed xs) i
+  numbered_at xs i o h m = with_index o ∙ ap (option_map {U = ℕ × X} (λ x. (i, x))) (read_at xs i o h m) ∙ sym (numbered_get 0 xs i i (omega arith))
+    where
+      with_index : (o : Option (Bor X)) → option_map {U = ℕ × X} (λ x. (i, x.now)) o ≡ option_map {U = ℕ × X} (λ x. (i, x)) (option_copied o)
+      with_index None = refl
+      with_index (Some x) = refl
+
+-- the name that is read at the place of a name
+pub name_read : (ks : List Name) (slice : List (String Global)) (n : Name) (i : ℕ) (x : String Global) → map string_bytes slice ≡ ks → x ≡ get_or slice i x → Some i ≡ position (λ k. bytes_eq k n) ks → string_bytes x ≡ n
+name_read ks slice n i x same is e =
+    let at = position-Some (λ k. bytes_eq k n) ks i [] (sym e) in
+    let inside : i < length slice = omega (arith, length-map slice string_bytes, ap length same, at.0) in
+    ap string_bytes is ∙ sym (get_or-map string_bytes slice i x [] inside) ∙ ap (λ l. get_or l i []) same ∙ (bytes_eq-Decides (get_or ks i []) n).0 at.1

@@ -184,8 +184,11 @@ module _ {slice : List (String Global)} {ks : List Name} (h : Names slice ks) wh
   pub compared_at : (p : ℕ) (x : String Global) (t n : Name) (o : Ordering) → x ≡ get_or slice p x → t ≡ string_bytes x → p < length slice → o ≡ cmp t n → cmp (get_or ks p []) n ≡ o
   compared_at p x t n o is text lt e = ap (λ k. cmp k n) (ap (λ l. get_or l p []) h.as_seen ∙ get_or-map string_bytes slice p x [] lt ∙ ap string_bytes (sym is) ∙ sym text) ∙ sym e
 
+  pub seen_at : (p : ℕ) (x : String Global) (t n : Name) → x ≡ get_or slice p x → t ≡ string_bytes x → p < length slice → bytes_eq t n ≡ bytes_eq (get_or ks p []) n
+  seen_at p x t n is text lt = ap (λ k. bytes_eq k n) (text ∙ ap string_bytes is ∙ sym (get_or-map string_bytes slice p x [] lt) ∙ ap (λ l. get_or l p []) (sym h.as_seen))
+
   pub equal_at : (p : ℕ) (x : String Global) (t n : Name) → x ≡ get_or slice p x → t ≡ string_bytes x → p < length slice → true ≡ bytes_eq t n → true ≡ bytes_eq (get_or ks p []) n
-  equal_at p x t n is text lt e = e ∙ ap (λ k. bytes_eq k n) (text ∙ ap string_bytes is ∙ sym (get_or-map string_bytes slice p x [] lt) ∙ ap (λ l. get_or l p []) (sym h.as_seen))
+  equal_at p x t n is text lt e = e ∙ seen_at p x t n is text lt
 
   behind_seen : (l : ℕ) → map string_bytes (take (length slice - l) (drop l slice)) ≡ drop l ks
   behind_seen l = behind_as slice l ∙ ap (drop l) (sym h.as_seen)

@@ -14,20 +14,16 @@ use Rattle.olk_spec.specs.Reports.{required_faults, fault_if, wrapped}
 use Rattle.olk_spec.proofs.Verdicts.{is_empty-append, is_empty-map, none_if}
 use Rattle.olk_base.specs.Kit.{Kit}
 use Rattle.olk_base.specs.declared.pattern.CompiledPattern.{CompiledPattern}
+pub use Rattle.olk_tree.specs.Emptiness.{each_agrees, both_agree, required_agrees, or_else_agrees, head_agrees, first_of_agrees}
+use Rattle.olk_tree.specs.Emptiness.{and_between}
+use Rattle.olk_tree.specs.AdditionalAgreement.{additional_agrees, additional_first_agrees}
 use Rattle.olk_tree.specs.Questions.{Question, always, both, conditional, every, some, how_many}
 use Rattle.olk_tree.specs.Matched.{matching, match_question}
-use Rattle.olk_tree.specs.Answers.{named, texts_of, two_texts, unless, one_of_report, or_else, first_of, head_of, properties_mean, properties_report, properties_first, due_nodes, chosen_nodes, names_mean, names_report, names_first, matched_mean, matched_report, matched_first, patterns_mean, patterns_report, patterns_first, validator_means, validator_report, validator_first, body_means, body_report, body_first}
+use Rattle.olk_tree.specs.Answers.{named, mapped, texts_of, two_texts, unless, one_of_report, or_else, first_of, head_of, properties_mean, properties_report, properties_first, due_nodes, chosen_nodes, names_mean, names_report, names_first, matched_mean, matched_report, matched_first, patterns_mean, patterns_report, patterns_first, validator_means, validator_report, validator_first, body_means, body_report, body_first}
 use Rattle.olk_tree.specs.declared.node.KeywordOver.{KeywordOver}
 use Rattle.olk_tree.specs.declared.node.KeywordOver.TheVariants as keyword
 use Rattle.olk_tree.specs.declared.node.Body.{Body}
 use Rattle.olk_tree.specs.declared.node.Body.TheVariants.{True, False, Keywords, RequiredNames}
-
-pub each_agrees : {X : Type 0} (f : X → List Fault) (q : X → Question) (u : Bool) → ((x : X) → is_empty (f x) ≡ (q x).accepts u) → (xs : List X) → is_empty (flat_map f xs) ≡ (every q xs).accepts u
-each_agrees f q u h [] = refl
-each_agrees f q u h (x ∷ xs) = is_empty-append (f x) (flat_map f xs) ∙ (λ i. h x i && each_agrees f q u h xs i)
-
-pub both_agree : (fs gs : List Fault) {a b : Bool} → is_empty fs ≡ a → is_empty gs ≡ b → is_empty (fs ++ gs) ≡ (a && b)
-both_agree fs gs e f = is_empty-append fs gs ∙ (λ i. e i && f i)
 
 pub cases_agree : (b : Bool) (fs gs : List Fault) {x y : Bool} → is_empty fs ≡ x → is_empty gs ≡ y → is_empty (cond b fs gs) ≡ cond b x y
 cases_agree true fs gs e f = e
@@ -54,9 +50,6 @@ one_of_agrees (suc (suc n)) c v P Q = by (suc (suc n) == 0) (nat_lt 1 (suc (suc 
     by false false one e f g = absurd (true≢false (sym f))
     by false true true e f g = absurd (true≢false g)
     by false true false e f g = refl
-
-pub required_agrees : (ns : List Name) (v : Data) (P Q : Path) → is_empty (required_faults ns v P Q) ≡ is_empty (missing ns v)
-required_agrees ns v P Q = is_empty-map (λ n. fault (Required n) v Q P) (missing ns v)
 
 module _ {N : Type 0} (m : N → Data → Question) (r : N → Bool → Data → Path → List Fault) (u : Bool) (h : (n : N) (v : Data) (Q : Path) → is_empty (r n u v Q) ≡ (m n v).accepts u) where
   pub properties_agree : (es : List (Name × N)) (v : Data) (Q : Path) → is_empty (properties_report r u es v Q) ≡ (properties_mean m es v).accepts u
@@ -85,7 +78,7 @@ module _ {R N : Type 0} (answers : R → Name → Says) (costs : R → Bool) (m 
 module _ {K R N : Type 0} (o : Kit K R) (m : N → Data → Question) (r : N → Bool → Data → Path → List Fault) (u : Bool) (h : (n : N) (v : Data) (Q : Path) → is_empty (r n u v Q) ≡ (m n v).accepts u) where
   pub validator_agrees : (k : KeywordOver K R N) (v : Data) (Q : Path) → is_empty (validator_report o m r u k v Q) ≡ (validator_means o m k v).accepts u
   unfolding validator_means validator_report
-  validator_agrees (keyword.Properties k) v Q = properties_agree m r u h (named k.properties) v Q
+  validator_agrees (keyword.Properties k) v Q = properties_agree m r u h (mapped k.properties) v Q
   validator_agrees (keyword.PropertiesWithRequired2 k) v Q = both_agree (required_faults (two_texts k.first k.second) v k.required_location Q) (properties_report r u (named k.properties) v Q) (required_agrees (two_texts k.first k.second) v k.required_location Q) (properties_agree m r u h (named k.properties) v Q)
   validator_agrees (keyword.Required k) v Q = required_agrees (texts_of k.required.items) v k.location Q
   validator_agrees (keyword.AllOf k) v Q = each_agrees (λ n. r n u v Q) (λ n. m n v) u (λ n. h n v Q) k.schemas.items
@@ -104,6 +97,7 @@ module _ {K R N : Type 0} (o : Kit K R) (m : N → Data → Question) (r : N →
   validator_agrees (keyword.PropertyDependencies k) v Q = each_agrees (λ n. r n u v Q) (λ n. m n v) u (λ n. h n v Q) (chosen_nodes (named k.dependencies) v)
   validator_agrees (keyword.PatternProperties k) v Q = patterns_agree o.answers o.costs m r u h k.patterns.items v Q
   validator_agrees (keyword.SingleValuePatternProperties k) v Q = matched_agree o.answers o.costs m r u h k.regex k.node v Q
+  validator_agrees (keyword.AdditionalProperties k) v Q = additional_agrees o.answers o.costs m u r h k v Q
   validator_agrees (keyword.Leaf p l) v Q = is_empty-map (λ t. fault (Leaf (o.keyword_of l) t) v Q p) (o.finds l v)
 
 pub body_agrees : {W : Type 0} (q : W → Data → Question) (f : W → Data → Path → List Fault) (u : Bool) → ((k : W) (v : Data) (Q : Path) → is_empty (f k v Q) ≡ (q k v).accepts u) → (P : Path) (b : Body W) (v : Data) (Q : Path) → is_empty (body_report f P b v Q) ≡ (body_means q b v).accepts u
@@ -113,21 +107,6 @@ body_agrees q f u h P (Keywords ks) v Q = each_agrees (λ k. f k v Q) (λ k. q k
 body_agrees q f u h P (RequiredNames k) v Q = required_agrees (texts_of k.required.items) v k.location Q
 
 -- ---- the first step that refuses
-
-pub or_else_agrees : (fs gs : List Fault) {a b : Bool} → is_empty fs ≡ a → is_empty gs ≡ b → is_empty (or_else fs gs) ≡ (a && b)
-or_else_agrees fs gs e f = split fs ∙ (λ i. e i && f i)
-  where
-    split : (fs : List Fault) → is_empty (or_else fs gs) ≡ (is_empty fs && is_empty gs)
-    split [] = refl
-    split (x ∷ xs) = refl
-
-pub head_agrees : (fs : List Fault) {a : Bool} → is_empty fs ≡ a → is_empty (head_of fs) ≡ a
-head_agrees [] e = e
-head_agrees (f ∷ fs) e = e
-
-pub first_of_agrees : {X : Type 0} (f : X → List Fault) (q : X → Question) (u : Bool) → ((x : X) → is_empty (f x) ≡ (q x).accepts u) → (xs : List X) → is_empty (first_of f xs) ≡ (every q xs).accepts u
-first_of_agrees f q u h [] = refl
-first_of_agrees f q u h (x ∷ xs) = or_else_agrees (f x) (first_of f xs) (h x) (first_of_agrees f q u h xs)
 
 module _ {N : Type 0} (m : N → Data → Question) (s : N → Bool → Data → Path → List Fault) (u : Bool) (h : (n : N) (v : Data) (Q : Path) → is_empty (s n u v Q) ≡ (m n v).accepts u) where
   pub properties_first_agrees : (es : List (Name × N)) (v : Data) (Q : Path) → is_empty (properties_first s u es v Q) ≡ (properties_mean m es v).accepts u
@@ -144,15 +123,6 @@ first_of_those_agree f p q u h (x ∷ xs) = by ((p x).accepts u) (first_of_those
         → is_empty (first_of f (put_if b x (those (λ x. (p x).accepts u) xs))) ≡ (cond b ((q x).accepts u) true && (every (λ x. conditional (p x) (q x) (always true)) xs).accepts u)
     by true e = or_else_agrees (f x) (first_of f (those (λ x. (p x).accepts u) xs)) (h x) e
     by false e = e
-
-and_between : (a b c d : Bool) → ((a && b) && (c && d)) ≡ ((a && c) && (b && d))
-and_between false b c d = refl
-and_between true false c d = by c
-  where
-    by : (c : Bool) → false ≡ (c && false)
-    by true = refl
-    by false = refl
-and_between true true c d = refl
 
 -- each of one list with each of another is accepted, whichever of the lists is walked outside
 module _ {X : Type 0} (u : Bool) where
@@ -184,7 +154,7 @@ module _ {R N : Type 0} (answers : R → Name → Says) (costs : R → Bool) (m 
 module _ {K R N : Type 0} (o : Kit K R) (m : N → Data → Question) (r s : N → Bool → Data → Path → List Fault) (u : Bool) (h : (n : N) (v : Data) (Q : Path) → is_empty (s n u v Q) ≡ (m n v).accepts u) where
   pub validator_first_agrees : (k : KeywordOver K R N) (v : Data) (Q : Path) → is_empty (validator_first o m r u s k v Q) ≡ (validator_means o m k v).accepts u
   unfolding validator_means validator_first
-  validator_first_agrees (keyword.Properties k) v Q = properties_first_agrees m s u h (named k.properties) v Q
+  validator_first_agrees (keyword.Properties k) v Q = properties_first_agrees m s u h (mapped k.properties) v Q
   validator_first_agrees (keyword.PropertiesWithRequired2 k) v Q = or_else_agrees (head_of (required_faults (two_texts k.first k.second) v k.required_location Q)) (properties_first s u (named k.properties) v Q) (head_agrees (required_faults (two_texts k.first k.second) v k.required_location Q) (required_agrees (two_texts k.first k.second) v k.required_location Q)) (properties_first_agrees m s u h (named k.properties) v Q)
   validator_first_agrees (keyword.Required k) v Q = head_agrees (required_faults (texts_of k.required.items) v k.location Q) (required_agrees (texts_of k.required.items) v k.location Q)
   validator_first_agrees (keyword.AllOf k) v Q = first_of_agrees (λ n. s n u v Q) (λ n. m n v) u (λ n. h n v Q) k.schemas.items
@@ -203,6 +173,7 @@ module _ {K R N : Type 0} (o : Kit K R) (m : N → Data → Question) (r s : N �
   validator_first_agrees (keyword.PropertyDependencies k) v Q = first_of_agrees (λ n. s n u v Q) (λ n. m n v) u (λ n. h n v Q) (chosen_nodes (named k.dependencies) v)
   validator_first_agrees (keyword.PatternProperties k) v Q = patterns_first_agree o.answers o.costs m s u h k.patterns.items v Q
   validator_first_agrees (keyword.SingleValuePatternProperties k) v Q = matched_first_agree o.answers o.costs m s u h k.regex k.node v Q
+  validator_first_agrees (keyword.AdditionalProperties k) v Q = additional_first_agrees o.answers o.costs m u s h k v Q
   validator_first_agrees (keyword.Leaf p l) v Q = is_empty-map (λ t. fault (Leaf (o.keyword_of l) t) v Q p) (o.finds l v)
 
 pub body_first_agrees : {W : Type 0} (q : W → Data → Question) (f : W → Data → Path → List Fault) (u : Bool) → ((k : W) (v : Data) (Q : Path) → is_empty (f k v Q) ≡ (q k v).accepts u) → (P : Path) (b : Body W) (v : Data) (Q : Path) → is_empty (body_first f P b v Q) ≡ (body_means q b v).accepts u

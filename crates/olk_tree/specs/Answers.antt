@@ -1,5 +1,5 @@
 -- What validators answer over what their nodes answer: whether they accept a value, the faults that they find, and the trees that they show.
-use Rattle.std.specs.Prelude.{ℕ, ◌==◌, nat_lt, Bool, true, false, not, cond, List, [], ◌∷◌, ◌++◌, map, String, string_bytes, option_to_list}
+use Rattle.std.specs.Prelude.{ℕ, ◌==◌, nat_lt, Bool, true, false, not, ◌||◌, cond, List, [], ◌∷◌, ◌++◌, map, String, string_bytes, Vec, Option, Some, None, is_some, option_to_list}
 use Rattle.std.specs.declared.alloc.Global.{Global}
 use Rattle.std.specs.List.{flat_map}
 use Rattle.serde_json.specs.Data.{Data, string}
@@ -13,10 +13,19 @@ use Rattle.olk_spec.specs.Reports.{required_faults, fault_if, wrapped}
 use Rattle.olk_spec.specs.Tree.{Tree, leaf_node, plain, erring, described}
 use Rattle.olk_base.specs.Kit.{Kit}
 use Rattle.olk_base.specs.declared.pattern.CompiledPattern.{CompiledPattern}
+pub use Rattle.olk_tree.specs.Firsts.{or_else, first_of}
+use Rattle.olk_tree.specs.Additional.{Sides, placed, additional_means, additional_report, additional_first, additional_tree}
+use Rattle.olk_tree.specs.Tables.{table_says}
 use Rattle.olk_tree.specs.Matched.{matched, matching, match_question}
 use Rattle.olk_tree.specs.Questions.{Question, always, both, opposite, conditional, every, some, how_many, exactly_one}
 use Rattle.olk_tree.specs.Shown.{missing_trees, properties_tree, patterns_tree, branch_trees, name_trees, any_of_tree, one_of_tree, if_tree}
 use Rattle.olk_tree.specs.declared.map.SmallMap.{SmallMap}
+use Rattle.olk_tree.specs.declared.additional_properties.AdditionalProperties.{AdditionalProperties}
+use Rattle.olk_tree.specs.declared.additional_properties.RequiredName.{RequiredName}
+use Rattle.olk_tree.specs.declared.properties_map.PropertiesMap.{PropertiesMap}
+use Rattle.olk_tree.specs.declared.properties_map.PropertiesMap.TheVariants.{Small, Big}
+use Rattle.olk_tree.specs.declared.validators_map.DeclaredNames.{DeclaredNames}
+use Rattle.olk_tree.specs.declared.validators_map.DeclaredNames.TheVariants.{Sorted, Hashed}
 use Rattle.olk_tree.specs.declared.node.KeywordOver.{KeywordOver}
 use Rattle.olk_tree.specs.declared.node.KeywordOver.TheVariants as keyword
 use Rattle.olk_tree.specs.declared.node.Body.{Body}
@@ -28,21 +37,41 @@ beside [] ys = []
 beside (x ∷ xs) [] = []
 beside (x ∷ xs) (y ∷ ys) = (x, y) ∷ beside xs ys
 
+-- the names, however they are found
+abbrev pub names_of : DeclaredNames → List Name
+names_of (Sorted names) = names.now
+names_of (Hashed names) = names.now
+
 abbrev pub named : {N : Type 0} → SmallMap N → List (Name × N)
 named m = beside m.names m.nodes.items
+
+-- what a map of few names or of many has
+abbrev pub names_in : {N : Type 0} → PropertiesMap N → List Name
+names_in (Small m) = m.names
+names_in (Big m) = m.names
+
+abbrev pub nodes_in : {N : Type 0} → PropertiesMap N → List N
+nodes_in (Small m) = m.nodes.items
+nodes_in (Big m) = m.nodes.items
+
+abbrev pub mapped : {N : Type 0} → PropertiesMap N → List (Name × N)
+mapped m = beside (names_in m) (nodes_in m)
+
+-- the same with their places, where there is a map
+abbrev pub mapped_places : {N : Type 0} → Option (PropertiesMap N) → List (Name × (ℕ × N))
+mapped_places None = []
+mapped_places (Some m) = beside (names_in m) (placed (nodes_in m))
+
+abbrev pub patterns_in : {R N : Type 0} → Option (Vec (CompiledPattern R × N) Global) → List (CompiledPattern R × N)
+patterns_in None = []
+patterns_in (Some v) = v.items
+
+abbrev pub sides_of : {R N : Type 0} → AdditionalProperties R N → Sides R N
+sides_of k = record { declared = mapped_places k.properties; patterns = patterns_in k.patterns; known = table_says k.table; rest = k.rest }
 
 -- the texts of owned names
 abbrev pub texts_of : List (String Global) → List Text
 texts_of = map string_bytes
-
--- the faults of the first step that has any
-abbrev pub or_else : List Fault → List Fault → List Fault
-or_else [] gs = gs
-or_else (f ∷ fs) gs = f ∷ fs
-
-abbrev pub first_of : {A : Type 0} → (A → List Fault) → List A → List Fault
-first_of f [] = []
-first_of f (x ∷ xs) = or_else (f x) (first_of f xs)
 
 -- one fault, unless it accepts
 abbrev pub unless : Bool → Kind → Data → Path → Path → List Fault
@@ -59,6 +88,22 @@ head_of (f ∷ fs) = f ∷ []
 
 abbrev pub two_texts : String Global → String Global → List Text
 two_texts a b = string_bytes a ∷ string_bytes b ∷ []
+
+-- `properties` or `patternProperties` stands beside it
+abbrev pub has_neighbours : {R N : Type 0} → AdditionalProperties R N → Bool
+has_neighbours k = is_some k.properties || is_some k.patterns
+
+-- the name that `required` wants beside `additionalProperties`, if it is held there
+abbrev pub required_text : Option RequiredName → List Text
+required_text None = []
+required_text (Some r) = string_bytes r.name ∷ []
+
+abbrev pub required_place : Option RequiredName → Path
+required_place None = []
+required_place (Some r) = r.location
+
+abbrev pub lacks : Option RequiredName → Data → Path → List Fault
+lacks r v Q = required_faults (required_text r) v (required_place r) Q
 
 -- what the nodes of the declared names find at the members that have them
 abbrev pub properties_report : {N : Type 0} → (N → Bool → Data → Path → List Fault) → Bool → List (Name × N) → Data → Path → List Fault
@@ -124,7 +169,7 @@ module _ {R N : Type 0} (answers : R → Name → Says) where
 module _ {K R N : Type 0} (o : Kit K R) (m : N → Data → Question) where
   -- whether a keyword accepts, over what its nodes mean
   unfoldable pub validator_means : KeywordOver K R N → Data → Question
-  validator_means (keyword.Properties k) v = properties_mean m (named k.properties) v
+  validator_means (keyword.Properties k) v = properties_mean m (mapped k.properties) v
   validator_means (keyword.PropertiesWithRequired2 k) v = both (always (is_empty (missing (two_texts k.first k.second) v))) (properties_mean m (named k.properties) v)
   validator_means (keyword.Required k) v = always (is_empty (missing (texts_of k.required.items) v))
   validator_means (keyword.AllOf k) v = every (λ n. m n v) k.schemas.items
@@ -143,12 +188,13 @@ module _ {K R N : Type 0} (o : Kit K R) (m : N → Data → Question) where
   validator_means (keyword.PropertyDependencies k) v = every (λ n. m n v) (chosen_nodes (named k.dependencies) v)
   validator_means (keyword.PatternProperties k) v = patterns_mean o.answers o.costs m k.patterns.items v
   validator_means (keyword.SingleValuePatternProperties k) v = matched_mean o.answers o.costs m k.regex k.node v
+  validator_means (keyword.AdditionalProperties k) v = both (additional_means o.answers o.costs m (sides_of k) v) (always (is_empty (missing (required_text k.required) v)))
   validator_means (keyword.Leaf p l) v = always (is_empty (o.finds l v))
 
   module _ (r : N → Bool → Data → Path → List Fault) (u : Bool) where
     -- what a keyword finds, over what its nodes find
     unfoldable pub validator_report : KeywordOver K R N → Data → Path → List Fault
-    validator_report (keyword.Properties k) v Q = properties_report r u (named k.properties) v Q
+    validator_report (keyword.Properties k) v Q = properties_report r u (mapped k.properties) v Q
     validator_report (keyword.PropertiesWithRequired2 k) v Q = required_faults (two_texts k.first k.second) v k.required_location Q ++ properties_report r u (named k.properties) v Q
     validator_report (keyword.Required k) v Q = required_faults (texts_of k.required.items) v k.location Q
     validator_report (keyword.AllOf k) v Q = flat_map (λ n. r n u v Q) k.schemas.items
@@ -167,12 +213,13 @@ module _ {K R N : Type 0} (o : Kit K R) (m : N → Data → Question) where
     validator_report (keyword.PropertyDependencies k) v Q = flat_map (λ n. r n u v Q) (chosen_nodes (named k.dependencies) v)
     validator_report (keyword.PatternProperties k) v Q = patterns_report o.answers r u k.patterns.items v Q
     validator_report (keyword.SingleValuePatternProperties k) v Q = matched_report o.answers r u k.regex k.node v Q
+    validator_report (keyword.AdditionalProperties k) v Q = additional_report o.answers (sides_of k) u v Q (has_neighbours k) k.location r ++ lacks k.required v Q
     validator_report (keyword.Leaf p l) v Q = map (λ t. fault (Leaf (o.keyword_of l) t) v Q p) (o.finds l v)
 
     module _ (s : N → Bool → Data → Path → List Fault) where
       -- what it finds at the first step that refuses, over what its nodes find and find first
       unfoldable pub validator_first : KeywordOver K R N → Data → Path → List Fault
-      validator_first (keyword.Properties k) v Q = properties_first s u (named k.properties) v Q
+      validator_first (keyword.Properties k) v Q = properties_first s u (mapped k.properties) v Q
       validator_first (keyword.PropertiesWithRequired2 k) v Q = or_else (head_of (required_faults (two_texts k.first k.second) v k.required_location Q)) (properties_first s u (named k.properties) v Q)
       validator_first (keyword.Required k) v Q = head_of (required_faults (texts_of k.required.items) v k.location Q)
       validator_first (keyword.AllOf k) v Q = first_of (λ n. s n u v Q) k.schemas.items
@@ -191,6 +238,7 @@ module _ {K R N : Type 0} (o : Kit K R) (m : N → Data → Question) where
       validator_first (keyword.PropertyDependencies k) v Q = first_of (λ n. s n u v Q) (chosen_nodes (named k.dependencies) v)
       validator_first (keyword.PatternProperties k) v Q = patterns_first o.answers s u k.patterns.items v Q
       validator_first (keyword.SingleValuePatternProperties k) v Q = matched_first o.answers s u k.regex k.node v Q
+      validator_first (keyword.AdditionalProperties k) v Q = or_else (additional_first o.answers (sides_of k) u v Q (has_neighbours k) k.location s) (lacks k.required v Q)
       validator_first (keyword.Leaf p l) v Q = map (λ t. fault (Leaf (o.keyword_of l) t) v Q p) (o.finds l v)
 
   module _ (t : N → Bool → Data → Path → Tree) (u : Bool) where
@@ -199,7 +247,7 @@ module _ {K R N : Type 0} (o : Kit K R) (m : N → Data → Question) where
 
     -- what a keyword shows, over what its nodes show
     unfoldable pub validator_tree : KeywordOver K R N → Data → Path → Tree
-    validator_tree (keyword.Properties k) v Q = properties_tree at_node v Q k.location (named k.properties) []
+    validator_tree (keyword.Properties k) v Q = properties_tree at_node v Q k.location (mapped k.properties) []
     validator_tree (keyword.PropertiesWithRequired2 k) v Q = properties_tree at_node v Q k.location (named k.properties) (missing_trees (two_texts k.first k.second) v k.required_location Q)
     validator_tree (keyword.Required k) v Q = erring k.location Q (required_faults (texts_of k.required.items) v k.location Q)
     validator_tree (keyword.AllOf k) v Q = plain k.location Q (branch_trees at_node v Q k.schemas.items)
@@ -218,6 +266,7 @@ module _ {K R N : Type 0} (o : Kit K R) (m : N → Data → Question) where
     validator_tree (keyword.PropertyDependencies k) v Q = plain k.location Q (branch_trees at_node v Q (chosen_nodes (named k.dependencies) v))
     validator_tree (keyword.PatternProperties k) v Q = patterns_tree at_node v Q o.answers u k.location k.patterns.items
     validator_tree (keyword.SingleValuePatternProperties k) v Q = patterns_tree at_node v Q o.answers u k.location ((k.regex, k.node) ∷ [])
+    validator_tree (keyword.AdditionalProperties k) v Q = additional_tree o.answers (sides_of k) u v Q (is_some k.properties) (is_some k.patterns) k.location k.patterns_location at_node (missing_trees (required_text k.required) v (required_place k.required) Q)
     validator_tree (keyword.Leaf p l) v Q = leaf_node p Q (described (map (λ x. fault (Leaf (o.keyword_of l) x) v Q p) (o.finds l v)))
 
 -- whether a body accepts

@@ -1,7 +1,12 @@
 pub mod Ascending
 pub mod Questions
 pub mod Matched
+pub mod Firsts
+pub mod Tables
+pub mod Additional
 pub mod Shown
 pub mod Answers
 pub mod Visited
+pub mod Emptiness
+pub mod AdditionalAgreement
 pub mod Agreement

@@ -2,10 +2,10 @@
 ghost use Rattle.std.specs.Prelude.{◌≡◌};
 ghost use Rattle.serde_json.specs.View.{members_view};
 ghost use Rattle.olk_spec.specs.Schemas.{listed};
-ghost use Rattle.olk_tree.specs.Answers.{named};
+ghost use Rattle.olk_tree.specs.Answers.{beside, names_of};
 ghost use Rattle.olk_tree.specs.Visited.{members_declared, names_met, Yields, left_of, pairs_of};
 
-use crate::map::SmallMap;
+use crate::validators_map::{DeclaredNames, node_from};
 use olk_members::member;
 use serde_json::{Map, Value};
 use std::collections::btree_map::Iter;
@@ -18,14 +18,15 @@ use std::slice;
 /// member among the declared names, from the place of the last one on.
 #[derive(Drop)]
 pub struct DeclaredMembers<'a, N> {
-    properties: &'a SmallMap<N>,
+    names: DeclaredNames<'a>,
+    nodes: &'a [N],
     members: &'a Map<String, Value>,
     // whether the members are walked; otherwise the declared names are
     by_members: bool,
     left: Iter<'a, String, Value>,
     // where the next name is looked for first
     hint: usize,
-    names: Zip<slice::Iter<'a, String>, slice::Iter<'a, N>>,
+    unasked: Zip<slice::Iter<'a, String>, slice::Iter<'a, N>>,
 }
 
 impl<'a, N> Iterator for DeclaredMembers<'a, N> {
@@ -41,28 +42,34 @@ impl<'a, N> Iterator for DeclaredMembers<'a, N> {
     #[inline(always)]
     fn next(&mut self) -> Option<(&'a str, &'a N, &'a Value)> {
         if self.by_members {
-            next_member(self.properties, &mut self.left, &mut self.hint)
+            next_member(self.names, self.nodes, &mut self.left, &mut self.hint)
         } else {
-            next_name(self.members, &mut self.names)
+            next_name(self.members, &mut self.unasked)
         }
     }
 }
 
-impl<N> SmallMap<N> {
-    /// The members whose names are declared, each with what stands at its name.
-    pub fn declared_members<'a>(&'a self, members: &'a Map<String, Value>) -> DeclaredMembers<'a, N>
-        ensures by_members { left_of result ≡ members_declared (named self.now)
-            (listed (members_view members.now.entries)) }
-        ensures by_names { left_of result ≡ names_met (named self.now)
-            (listed (members_view members.now.entries)) }
+impl<'a, N> DeclaredMembers<'a, N> {
+    /// The members whose names are declared, each with the node that stands beside its name.
+    pub fn of(
+        names: DeclaredNames<'a>,
+        nodes: &'a [N],
+        members: &'a Map<String, Value>,
+    ) -> DeclaredMembers<'a, N>
+        ensures by_members { left_of result ≡ members_declared
+            (beside (names_of names.entry) nodes.now) (listed (members_view members.now.entries)) }
+        ensures by_names { left_of result ≡ names_met
+            (beside (names_of names.entry) nodes.now) (listed (members_view members.now.entries)) }
     {
+        let sorted = names.sorted();
         DeclaredMembers {
-            properties: self,
+            names,
+            nodes,
             members,
-            by_members: members.len() <= self.names.len(),
+            by_members: members.len() <= sorted.len(),
             left: members.iter(),
             hint: 0,
-            names: self.names.as_slice().iter().zip(&self.nodes),
+            unasked: sorted.as_slice().iter().zip(nodes),
         }
     }
 }
@@ -70,17 +77,18 @@ impl<N> SmallMap<N> {
 // The next member whose name is declared.
 #[inline(always)]
 fn next_member<'a, N>(
-    properties: &'a SmallMap<N>,
+    names: DeclaredNames<'a>,
+    nodes: &'a [N],
     left: &mut Iter<'a, String, Value>,
     hint: &mut usize,
 ) -> Option<(&'a str, &'a N, &'a Value)>
-    ensures { Yields result
-        (members_declared (named properties.now) (listed (members_view left.old)))
-        (members_declared (named properties.now) (listed (members_view left.new))) }
+    ensures { let declared = beside (names_of names.entry) nodes.now in Yields result
+        (members_declared declared (listed (members_view left.old)))
+        (members_declared declared (listed (members_view left.new))) }
 {
     while let Some((name, value)) = left.next() {
         let name = name.as_str();
-        let (next, found) = properties.get_from(*hint, name);
+        let (next, found) = node_from(names, nodes, *hint, name);
         *hint = next;
         if let Some(node) = found {
             return Some((name, node, value));

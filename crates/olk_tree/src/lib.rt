@@ -3,8 +3,10 @@
 //! Stands on `olk_reports` and `olk_members`. Tested by `olk_tests`.
 #![tactic(auto)]
 
+pub mod additional_properties;
 pub mod all_of;
 pub mod any_of;
+pub mod big_map;
 pub mod declared;
 pub mod dependencies;
 pub mod if_;
@@ -14,12 +16,18 @@ pub mod node;
 pub mod not;
 pub mod one_of;
 pub mod pattern_properties;
+pub mod pattern_table;
 pub mod properties;
+pub mod properties_map;
 pub mod property_dependencies;
 pub mod property_names;
 pub mod required;
+pub mod validators_map;
 
+pub use big_map::{BigMap, HashedNames};
 pub use map::{SmallMap, SortedNames};
 pub use means::{Means, Reports};
 pub use node::{Body, KeywordOver};
+pub use properties_map::PropertiesMap;
 pub use required::RequiredValidator;
+pub use validators_map::{DeclaredNames, PropertiesValidatorsMap};

@@ -1,13 +1,12 @@
 //! Names in order, and what stands beside them.
 ghost use Rattle.std.specs.Ordering.{nat_cmp};
 ghost use Rattle.std.specs.Cmp.Lexicographic.{slice_cmp};
-ghost use Rattle.std.specs.Prelude.{◌≡◌, ◌<◌, IfOk, IfSome, Some, bytes_eq, length, map, string_bytes, option_copied, position};
+ghost use Rattle.std.specs.Prelude.{◌≡◌, ◌<◌, ◌↔◌, IsTrue, IfOk, IfSome, Some, bytes_eq, length, map, string_bytes, position};
 ghost use Rattle.serde_json.specs.View.{members_view};
 ghost use Rattle.olk_spec.specs.Schemas.{listed};
-ghost use Rattle.olk_spec.specs.Names.{lookup};
-ghost use Rattle.olk_tree.specs.Answers.{named};
 ghost use Rattle.olk_tree.specs.Ascending.{Ascend, IsAfter, IsPlaceOf};
 
+use crate::validators_map::{DeclaredNames, PropertiesValidatorsMap};
 use serde_json::{Map, Value};
 use std::alloc::{AllocError, Global};
 use std::cmp::Ordering;
@@ -34,6 +33,15 @@ impl Model for SortedNames {
 const NEAR: usize = 4;
 
 impl SortedNames {
+    /// No names.
+    pub fn none(alloc: Global) -> SortedNames
+        ensures { length result ≡ 0 }
+    {
+        SortedNames {
+            names: Vec::new(alloc),
+        }
+    }
+
     /// The names of an object's members.
     ///
     /// # Errors
@@ -73,6 +81,15 @@ impl SortedNames {
             Ok(place) => Some(place),
             Err(_) => None,
         }
+    }
+
+    /// Whether the name stands at the place.
+    #[inline(always)]
+    pub fn stands_at(&self, place: usize, name: &str) -> bool
+        ensures { IsTrue result ↔ (position (λ k. bytes_eq k name.now) self.now ≡ Some place) }
+    {
+        let names = self.names.as_slice();
+        place < names.len() && names[place].as_str() == name
     }
 
     /// At which place the name stands, looked for at `hint` first, and where to look first for a later name.
@@ -171,26 +188,16 @@ pub struct SmallMap<N> {
     pub nodes: Vec<N>,
 }
 
-impl<N> SmallMap<N> {
-    /// What stands at the name.
-    pub fn get(&self, name: &str) -> Option<&N>
-        ensures { option_copied result ≡ lookup name.now (named self.now) }
-    {
-        match self.names.find(name) {
-            Some(place) => self.nodes.get(place),
-            None => None,
-        }
+impl<N> PropertiesValidatorsMap<N> for SmallMap<N> {
+    ghost names = { λ m. m.names };
+
+    ghost nodes = { λ m. m.nodes.items };
+
+    fn names(&self) -> DeclaredNames<'_> {
+        DeclaredNames::Sorted(&self.names)
     }
 
-    /// What stands at the name, looked for at `hint` first, and where to look first for a later name.
-    #[inline(always)]
-    pub fn get_from(&self, hint: usize, name: &str) -> (usize, Option<&N>)
-        ensures { option_copied result.1 ≡ lookup name.now (named self.now) }
-    {
-        let (next, place) = self.names.find_from(hint, name);
-        match place {
-            Some(place) => (next, self.nodes.get(place)),
-            None => (next, None),
-        }
+    fn nodes(&self) -> &[N] {
+        &self.nodes
     }
 }

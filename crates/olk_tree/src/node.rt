@@ -1,4 +1,5 @@
 //! Keywords, over the nodes that they hold.
+use crate::additional_properties::AdditionalProperties;
 use crate::all_of::{AllOf, SingleValueAllOf};
 use crate::any_of::{AnyOf, SingleAnyOf};
 use crate::dependencies::Dependencies;
@@ -7,7 +8,7 @@ use crate::means::{Means, Reports};
 use crate::not::Not;
 use crate::one_of::{OneOf, SingleOneOf};
 use crate::pattern_properties::{PatternProperties, SingleValuePatternProperties};
-use crate::properties::{SmallProperties, SmallPropertiesWithRequired2};
+use crate::properties::{Properties, SmallPropertiesWithRequired2};
 use crate::property_dependencies::PropertyDependencies;
 use crate::property_names::{PropertyNames, PropertyNamesFalse};
 use crate::required::RequiredValidator;
@@ -17,7 +18,7 @@ use olk_reports::Location;
 /// A keyword of a schema object, over the nodes that it holds.
 #[derive(Drop)]
 pub enum KeywordOver<K, R, N> {
-    Properties(SmallProperties<N>),
+    Properties(Properties<N>),
     PropertiesWithRequired2(SmallPropertiesWithRequired2<N>),
     Required(RequiredValidator),
     AllOf(AllOf<N>),
@@ -36,6 +37,7 @@ pub enum KeywordOver<K, R, N> {
     PropertyDependencies(PropertyDependencies<N>),
     PatternProperties(PatternProperties<R, N>),
     SingleValuePatternProperties(SingleValuePatternProperties<R, N>),
+    AdditionalProperties(AdditionalProperties<R, N>),
     Leaf(Location, K),
 }
 

@@ -1,35 +1,36 @@
 //! `properties`.
 use crate::map::SmallMap;
 use crate::means::{Means, Reports};
+use crate::properties_map::PropertiesMap;
 use olk_reports::Location;
 
 /// `properties`: a member whose name is declared is to be accepted by that name's subschema
 /// (JSON Schema 2020-12 Core, 10.3.2.1).
 #[derive(Drop)]
-pub struct SmallProperties<N> {
-    pub properties: SmallMap<N>,
+pub struct Properties<N> {
+    pub properties: PropertiesMap<N>,
     pub location: Location,
 }
 
-impl<N: Means> Means for SmallProperties<N> {
-    ghost use Rattle.olk_tree.specs.Answers.{named, properties_mean};
+impl<N: Means> Means for Properties<N> {
+    ghost use Rattle.olk_tree.specs.Answers.{mapped, properties_mean};
 
-    ghost means = { λ k v. properties_mean N.means (named k.properties) v };
+    ghost means = { λ k v. properties_mean N.means (mapped k.properties) v };
 }
 
-impl<N: Reports> Reports for SmallProperties<N> {
-    ghost use Rattle.olk_tree.specs.Answers.{named, properties_report, properties_first};
+impl<N: Reports> Reports for Properties<N> {
+    ghost use Rattle.olk_tree.specs.Answers.{mapped, properties_report, properties_first};
     ghost use Rattle.olk_tree.specs.Agreement.{properties_agree, properties_first_agrees};
 
-    ghost report = { λ k u v Q. properties_report N.report u (named k.properties) v Q };
+    ghost report = { λ k u v Q. properties_report N.report u (mapped k.properties) v Q };
 
-    ghost first = { λ k u v Q. properties_first N.first u (named k.properties) v Q };
+    ghost first = { λ k u v Q. properties_first N.first u (mapped k.properties) v Q };
 
     ghost agrees = { λ k u v Q. properties_agree N.means N.report u (λ n w R. N.agrees n u w R)
-        (named k.properties) v Q };
+        (mapped k.properties) v Q };
 
     ghost first_agrees = { λ k u v Q. properties_first_agrees N.means N.first u
-        (λ n w R. N.first_agrees n u w R) (named k.properties) v Q };
+        (λ n w R. N.first_agrees n u w R) (mapped k.properties) v Q };
 }
 
 /// `properties` together with `required` of two different names: both are to be members, where the value is an object

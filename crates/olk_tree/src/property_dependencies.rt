@@ -5,6 +5,7 @@ ghost use Rattle.olk_tree.specs.Answers.{chosen_at};
 
 use crate::map::SmallMap;
 use crate::means::{Means, Reports};
+use crate::validators_map::PropertiesValidatorsMap;
 use olk_reports::Location;
 use serde_json::Value;
 
@@ -47,7 +48,7 @@ impl<N> SmallMap<N> {
         ensures { option_to_list (option_copied result) ≡ chosen_at self.now (view value.now) }
     {
         match value.as_str() {
-            Some(text) => self.get(text),
+            Some(text) => self.get_validator(text),
             None => None,
         }
     }

@@ -2,7 +2,7 @@ use mathlib.Core.Path.{subst₂}
 use Rattle.std.proofs.Common.{ap, ◌∙◌, subst}
 use Rattle.serde_json.specs.View.{view, members_view}
 use Rattle.olk_spec.specs.Names.{◌//◌}
-use Rattle.olk_tree.specs.Answers.{named}
+use Rattle.olk_tree.specs.Answers.{beside}
 use Rattle.olk_tree.specs.Visited.{left_of}
 use Rattle.olk_tree.proofs.Members_met.{means_of_walk}
 use Rattle.olk_reports.specs.Evaluations.{tree_of}
@@ -19,7 +19,7 @@ returns-clause-shown g c = subst (λ ds. HasMet (wanted_at g.N.Evaluate.tree g.N
 
 pub returns-clause-verdict : goal.returns-clause-verdict
 returns-clause-verdict g c = met_verdict g.N.Evaluate.tree g.N.Means.means c.args.ctx.now.answer c.args.path.now (met_end c.loop-name.invariant.met c.in-None.ensures.steps)
-    (means_of_walk (members_view c.args.members.now.entries) (named c.args.properties.now) c.into_iter-name-iterator.ensures.into_iter_gives c.declared_members-name-items.ensures.by_names g.N.Means.means)
+    (means_of_walk (members_view c.args.members.now.entries) (beside (g.M.PropertiesValidatorsMap.names c.args.properties.now) (g.M.PropertiesValidatorsMap.nodes c.args.properties.now)) c.into_iter-name-iterator.ensures.into_iter_gives c.declared_members-name-items.ensures.by_names g.N.Means.means)
 
 pub loop-name-preserved : goal.loop-name-preserved
 loop-name-preserved g c = record {

@@ -1,0 +1,49 @@
+-- Patterns beside the nodes of their entries.
+use Rattle.std.specs.Prelude.{◌≡◌, List, ◌++◌, zip}
+use Rattle.std.specs.declared.alloc.AllocError.{AllocError}
+use Rattle.std.proofs.Common.{sym, subst}
+use mathlib.Core.Path.{subst₂}
+use Rattle.serde_json.specs.Data.{Data}
+use Rattle.olk_spec.specs.Names.{Name, Path}
+use Rattle.olk_base.specs.Count.{Counts}
+use Rattle.olk_base.specs.Kit.{Kit}
+use Rattle.olk_base.specs.declared.pattern.CompiledPattern.{CompiledPattern}
+use Rattle.olk_reports.specs.declared.error.BuildError.{BuildError}
+use Rattle.olk_reports.specs.declared.error.BuildError.TheVariants.{Memory}
+use Rattle.olk_node.specs.declared.node.SchemaNode.{SchemaNode}
+use Rattle.olk_read.specs.Patterns.{PatternsAreRead, RefusesPatterns}
+use Rattle.olk_read.proofs.Spending.{tells_left, tells_right, within_before, within_after, within_exactly, spends_append, refuses_memory}
+use Rattle.olk_make.specs.Standing.{EntriesStand}
+use Rattle.olk_make.proofs.PatternProperties.{both_stand}
+use Rattle.olk_build.specs.Building.{AreBuilt, RefusesEach, PatternsAreBuilt, RefusesPatternEntries}
+
+module _ {K R : Type 0} (o : Kit K R) (es : List (Name × Data)) (l L : Path) (place : l ≡ L) (a : Counts) where
+  -- a pattern is refused
+  pub refuses_pattern : (b : Counts) (e x : BuildError) → e ≡ x → RefusesPatterns o es l a b x → RefusesPatternEntries o es L a b e
+  refuses_pattern b e x q h = subst₂ (λ M y. RefusesPatternEntries o es M a b y) place (sym q) record {
+    tells = tells_left _ _ x h.tells;
+    spends = within_before a b _ _ h.spends;
+  }
+
+  module _ (ps : List (CompiledPattern R)) (m b : Counts) (read : PatternsAreRead o ps es l a m) where
+    there : PatternsAreRead o ps es L a m
+    there = subst (λ M. PatternsAreRead o ps es M a m) place read
+
+    -- the patterns are read, and a subschema is refused
+    pub refuses_node : (e x : BuildError) → e ≡ x → RefusesEach o es L m b x → RefusesPatternEntries o es L a b e
+    refuses_node e x q h = subst (RefusesPatternEntries o es L a b) (sym q) record {
+      tells = tells_right _ _ x h.tells;
+      spends = within_after a m b _ _ there.spends h.spends;
+    }
+
+    module _ (ns : List (SchemaNode K R)) (built : AreBuilt o ns es L m b) where
+      pub patterns_built : (entries : List (CompiledPattern R × SchemaNode K R)) → entries ≡ zip ps ns → PatternsAreBuilt o entries es L a b
+      patterns_built entries e = record {
+        stand = subst (λ l. EntriesStand o l es L) (sym e) (both_stand o ps ns es L there.stand built.stand);
+        clean = λ i. there.clean i ++ built.clean i;
+        spends = spends_append a m b _ _ there.spends built.spends;
+      }
+
+      -- there is no memory for the entries
+      pub refuses_entries : (e : BuildError) (x : AllocError) → e ≡ Memory x → RefusesPatternEntries o es L a b e
+      refuses_entries e x q = refuses_memory _ _ a b e x q (within_exactly a b _ (spends_append a m b _ _ there.spends built.spends))

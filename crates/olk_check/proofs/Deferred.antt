@@ -1,0 +1,73 @@
+-- Walks that put some questions off.
+use Rattle.std.proofs.Common.{◌≡◌, ℕ, ◌+◌, Bool, true, false, ◌&&◌, List, [], ◌∷◌, ◌++◌, refl, sym, ap, subst, ◌∙◌, arith}
+use Rattle.olk_base.specs.Lawful.{Asking}
+use Rattle.olk_tree.specs.Questions.{Question, always, both, every}
+use Rattle.olk_check.specs.Asks.{Asks}
+use Rattle.olk_check.proofs.Asked.{settles}
+use Rattle.olk_check.proofs.Walks.{both_go_on, both_stop}
+
+-- the order of questions does not matter
+and_around : (x y z : Bool) → (x && (y && z)) ≡ ((x && y) && z)
+and_around true y z = refl
+and_around false y z = refl
+
+and_true : (x : Bool) → (x && true) ≡ x
+and_true true = refl
+and_true false = refl
+
+and_turned : (x y : Bool) → (x && y) ≡ (y && x)
+and_turned true y = sym (and_true y)
+and_turned false true = refl
+and_turned false false = refl
+
+module _ {X : Type 0} (h : X → Question) where
+  pushed_accepts : (x : X) (xs : List X) (u : Bool) → (every h (xs ++ x ∷ [])).accepts u ≡ ((h x).accepts u && (every h xs).accepts u)
+  pushed_accepts x [] u = refl
+  pushed_accepts x (y ∷ ys) u = ap (λ z. (h y).accepts u && z) (pushed_accepts x ys u) ∙ and_around ((h y).accepts u) ((h x).accepts u) ((every h ys).accepts u)
+      ∙ ap (λ z. z && (every h ys).accepts u) (and_turned ((h y).accepts u) ((h x).accepts u)) ∙ sym (and_around ((h x).accepts u) ((h y).accepts u) ((every h ys).accepts u))
+
+  pushed_asks : (x : X) (xs : List X) (u : Bool) → (every h (xs ++ x ∷ [])).asks u ≡ (h x).asks u + (every h xs).asks u
+  pushed_asks x [] u = refl
+  pushed_asks x (y ∷ ys) u = let e = pushed_asks x ys u in omega arith
+
+-- what is left, and what was put off, decide about all
+pub record LeftAndHeld {Y X : Type 0} (f : Y → Question) (h : X → Question) (all rest : List Y) (held : List X) (a b : Asking) : Type 0 where
+  pub goes_on : (end : Asking) (result : Bool) → Asks b end (both (every f rest) (every h held)) result → Asks a end (every f all) result
+
+module _ {Y X : Type 0} {f : Y → Question} {h : X → Question} {all : List Y} where
+  pub held_start : {a : Asking} → LeftAndHeld f h all all [] a a
+  held_start {a} = record { goes_on = λ c r l. settles (every f all) r l (λ u e. e ∙ and_true ((every f all).accepts u)) (λ u e. omega arith) }
+
+  module _ {left : List Y} {held : List X} {a b : Asking} (w : LeftAndHeld f h all left held a b) where
+    pub held_end : {xs : List X} {c : Asking} {r : Bool} → left ≡ [] → xs ≡ held → Asks b c (every h xs) r → Asks a c (every f all) r
+    held_end {xs} {c} {r} none same l = w.goes_on c r (subst (λ ys. Asks b c (both (every f ys) (every h held)) r) (sym none)
+        (settles (both (always true) (every h held)) r (subst (λ ys. Asks b c (every h ys) r) same l) (λ u e. e) (λ u e. omega arith)))
+
+    module _ {y : Y} {rest : List Y} (next : left ≡ y ∷ rest) where
+      at_next : {c : Asking} {r : Bool} → Asks b c (both (every f (y ∷ rest)) (every h held)) r → Asks a c (every f all) r
+      at_next {c} {r} l = w.goes_on c r (subst (λ ys. Asks b c (both (every f ys) (every h held)) r) (sym next) l)
+
+      -- a question is put off
+      pub held_more : {now : List X} (x : X) → h x ≡ f y → now ≡ held ++ x ∷ [] → LeftAndHeld f h all rest now a b
+      held_more {now} x same is = record {
+        goes_on = λ c r l. at_next (settles (both (every f (y ∷ rest)) (every h held)) r (subst (λ xs. Asks b c (both (every f rest) (every h xs)) r) is l)
+            (λ u e. e ∙ ap (λ z. R u && z) (pushed_accepts h x held u) ∙ and_around (R u) ((h x).accepts u) (H u) ∙ ap (λ z. z && H u) (and_turned (R u) ((h x).accepts u)) ∙ ap (λ q. (q.accepts u && R u) && H u) same)
+            (λ u e. let p = pushed_asks h x held u in let s = ap (λ q. q.asks u) same in omega arith));
+      }
+        where
+          R : Bool → Bool
+          R u = (every f rest).accepts u
+
+          H : Bool → Bool
+          H u = (every h held).accepts u
+
+      module _ {c : Asking} where
+        pub held_go_on : Asks b c (f y) true → LeftAndHeld f h all rest held a c
+        held_go_on q = record {
+          goes_on = λ d r l. at_next (settles (both (every f (y ∷ rest)) (every h held)) r (both_go_on q l)
+              (λ u e. e ∙ and_around ((f y).accepts u) ((every f rest).accepts u) ((every h held).accepts u))
+              (λ u e. omega arith));
+        }
+
+        pub held_stop : Asks b c (f y) false → Asks a c (every f all) false
+        held_stop q = at_next (both_stop (every h held) (both_stop (every f rest) q))

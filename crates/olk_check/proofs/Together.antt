@@ -1,0 +1,23 @@
+-- What is asked of the members of an object, whose names are distinct, and of the names that it is to have.
+use Rattle.std.proofs.Common.{◌≡◌, Bool, true, false, ◌&&◌, cond, List, map, sym, ap, refl, ◌∙◌, arith}
+use Rattle.serde_json.specs.Data.{Data}
+use Rattle.olk_spec.specs.Names.{Name}
+use Rattle.olk_spec.specs.World.{Says}
+use Rattle.olk_base.specs.Lawful.{Asking}
+use Rattle.olk_tree.specs.Questions.{Question, always, both}
+use Rattle.olk_tree.specs.Additional.{Sides, repeats, means_in_turn, named_means, additional_means}
+use Rattle.olk_check.specs.Asks.{Asks}
+use Rattle.olk_check.proofs.Asked.{settles}
+
+module _ {R N : Type 0} (answers : R → Name → Says) (costs : R → Bool) (m : N → Data → Question) (S : Sides R N) (v : Data) where
+  -- where no name is repeated, it is asked member by member
+  pub each_is_all : repeats v ≡ false → means_in_turn answers costs m S v ≡ additional_means answers costs m S v
+  each_is_all distinct = ap (λ b. cond b (named_means answers costs m S v) (means_in_turn answers costs m S v)) (sym distinct)
+
+and_true : (x : Bool) → x ≡ (x && true)
+and_true true = refl
+and_true false = refl
+
+-- a condition that holds, beside a question
+pub both_where : {a b : Asking} {q : Question} {r p : Bool} → Asks a b q r → p ≡ true → Asks a b (both q (always p)) r
+both_where {q = q} {r = r} {p = p} h is = settles (both q (always p)) r h (λ u e. e ∙ and_true (q.accepts u) ∙ ap (λ z. q.accepts u && z) (sym is)) (λ u e. omega arith)

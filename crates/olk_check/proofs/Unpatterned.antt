@@ -1,0 +1,54 @@
+-- Members that declared names and the rest speak of, and no patterns.
+use Rattle.std.proofs.Common.{◌≡◌, ℕ, ◌+◌, Bool, true, false, ◌&&◌, List, [], ◌∷◌, map, Option, Some, None, option_map, refl, sym, ap, subst, ◌∙◌, arith}
+use Rattle.std.specs.List.{enumerate_from}
+use Rattle.serde_json.specs.Data.{Data}
+use Rattle.olk_spec.specs.Names.{Name, lookup}
+use Rattle.olk_spec.specs.World.{Says}
+use Rattle.olk_spec.specs.Schemas.{members}
+use Rattle.olk_base.specs.Lawful.{Asking}
+use Rattle.olk_tree.specs.Questions.{Question, every}
+use Rattle.olk_tree.specs.Additional.{placed, rest_means, member_means, member_means_at, means_in_turn}
+use Rattle.olk_tree.specs.Answers.{beside, mapped, names_in, nodes_in}
+use Rattle.olk_tree.specs.declared.properties_map.PropertiesMap.{PropertiesMap}
+use Rattle.olk_tree.proofs.Maps.{lookup-beside}
+use Rattle.olk_check.specs.Asks.{Asks}
+use Rattle.olk_check.specs.Unpatterned.{unpatterned, declared_or_rest, names_mean}
+
+module _ {N : Type 0} (m : N → Data → Question) where
+  module _ (rest : Option N) (x : Data) {o : Option N} {a b : Asking} {r : Bool} where
+    -- the question about a name that was found, and about one that was not
+    pub found_asks : {n : N} → Some n ≡ o → Asks a b (m n x) r → Asks a b (declared_or_rest m rest x o) r
+    found_asks e q = subst (λ z. Asks a b (declared_or_rest m rest x z) r) e q
+
+    pub rest_asks : None ≡ o → Asks a b (rest_means m x rest) r → Asks a b (declared_or_rest m rest x o) r
+    rest_asks e q = subst (λ z. Asks a b (declared_or_rest m rest x z) r) e q
+
+  module _ {R : Type 0} (answers : R → Name → Says) (costs : R → Bool) (known : ℕ → ℕ → Says) where
+    without_places : (i : ℕ) (ns : List N) → map (λ f. f.1) (enumerate_from i ns) ≡ ns
+    without_places i [] = refl
+    without_places i (n ∷ ns) = ap (λ l. n ∷ l) (without_places (i + 1) ns)
+
+    and_true : (x : Bool) → (x && true) ≡ x
+    and_true true = refl
+    and_true false = refl
+
+    module _ (p : PropertiesMap N) (rest : Option N) where
+      at_declared : (d : Option (ℕ × N)) (n : Name) (x : Data) → member_means_at answers costs m (unpatterned p rest known) d n x ≡ declared_or_rest m rest x (option_map (λ f. f.1) d)
+      at_declared None n x = λ i. record { accepts = (rest_means m x rest).accepts; asks = λ u. nothing_before ((rest_means m x rest).asks u) i }
+        where
+          nothing_before : (k : ℕ) → 0 + k ≡ k
+          nothing_before k = omega arith
+      at_declared (Some f) n x = λ i. record { accepts = λ u. and_true ((m f.1 x).accepts u) i; asks = λ u. nothing_more ((m f.1 x).asks u) i }
+        where
+          nothing_more : (k : ℕ) → k + 0 ≡ k
+          nothing_more k = omega arith
+
+      found_beside : (n : Name) → lookup n (mapped p) ≡ option_map (λ f. f.1) (lookup n (beside (names_in p) (placed (nodes_in p))))
+      found_beside n = ap (λ l. lookup n (beside (names_in p) l)) (sym (without_places 0 (nodes_in p))) ∙ lookup-beside (λ f. f.1) n (names_in p) (placed (nodes_in p))
+
+      member_declared : (n : Name) (x : Data) → declared_or_rest m rest x (lookup n (mapped p)) ≡ member_means answers costs m (unpatterned p rest known) n x
+      member_declared n x = ap (declared_or_rest m rest x) (found_beside n) ∙ sym (at_declared (lookup n (beside (names_in p) (placed (nodes_in p)))) n x)
+
+      -- where no patterns stand there
+      pub unpatterned_means : (v : Data) → names_mean m (mapped p) rest v ≡ means_in_turn answers costs m (unpatterned p rest known) v
+      unpatterned_means v = λ i. every (λ x. member_declared x.0 x.1 i) (members v)

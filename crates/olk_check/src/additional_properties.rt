@@ -1,0 +1,302 @@
+//! `additionalProperties`, and what it takes over.
+ghost use Rattle.std.specs.Prelude.{◌≡◌, IfSome, None, option_map, option_copied, is_some};
+ghost use Rattle.serde_json.specs.View.{view};
+ghost use Rattle.olk_tree.specs.Matched.{match_question};
+ghost use Rattle.olk_tree.specs.Additional.{known_or_asked, declared_means, patterns_mean_from, rest_means, member_means_at, means_in_turn, additional_means};
+ghost use Rattle.olk_spec.specs.Names.{is_empty};
+ghost use Rattle.olk_spec.specs.Accepts.{missing};
+ghost use Rattle.olk_tree.specs.Questions.{every};
+ghost use Rattle.olk_tree.specs.Answers.{mapped, sides_of, required_text};
+ghost use Rattle.olk_tree.specs.Tables.{known_says, table_says};
+ghost use Rattle.olk_tree.specs.Visited.{object_of};
+ghost use Rattle.olk_check.specs.Asks.{Asks};
+ghost use Rattle.olk_check.specs.Unpatterned.{unpatterned, names_mean, declared_or_rest, held_means};
+
+use crate::IsValid;
+use crate::pattern_properties::matches;
+use arrayvec::ArrayVec;
+use olk_base::{CompiledPattern, Node, RegexEngine, ValidationContext};
+use olk_members::{has_member, law_of_names};
+use olk_tree::additional_properties::{AdditionalProperties, RequiredName};
+use olk_tree::properties_map::PropertiesMap;
+use olk_tree::validators_map::PropertiesValidatorsMap;
+use serde_json::{Map, Value};
+
+/// So many arrays and objects wait until the other members were asked.
+pub const DEFERRED_MEMBERS: usize = 4;
+
+/// Whether the pattern matches the name: what is known of it, and where nothing is, what it says (JSON Schema 2020-12
+/// Core, 10.3.2.2).
+///
+/// Takes no memory. The context keeps its answer; where something is known, no count rises.
+#[inline(always)]
+pub fn matches_unless_known<R: RegexEngine>(
+    known: Option<bool>,
+    pattern: &CompiledPattern<R>,
+    name: &str,
+    ctx: &mut ValidationContext,
+) -> bool
+    ensures { Asks ctx.old ctx.new (known_or_asked (known_says known)
+        (match_question R.answers R.costs pattern.now name.now)) result }
+{
+    match known {
+        Some(is_match) => is_match,
+        None => matches(pattern, name, ctx),
+    }
+}
+
+impl<R: RegexEngine, N: IsValid> IsValid for AdditionalProperties<R, N> {
+    fn is_valid(&self, node: Node<'_>, ctx: &mut ValidationContext) -> bool {
+        match node.as_object() {
+            Some(members) => {
+                has_required(&self.required, members) && members_accepted(self, members, ctx)
+            }
+            None => true,
+        }
+    }
+}
+
+// Whether there is a member at the name, if one is required.
+fn has_required(required: &Option<RequiredName>, members: &Map<String, Value>) -> bool
+    ensures { result
+        ≡ is_empty (missing (required_text required.now) (object_of members.now.entries)) }
+{
+    match required {
+        Some(required) => has_member(members, required.name.as_str()),
+        None => true,
+    }
+}
+
+// Whether each member is accepted by what speaks of it.
+fn members_accepted<R: RegexEngine, N: IsValid>(
+    keyword: &AdditionalProperties<R, N>,
+    members: &Map<String, Value>,
+    ctx: &mut ValidationContext,
+) -> bool
+    ensures { Asks ctx.old ctx.new (additional_means R.answers R.costs N.means
+        (sides_of keyword.now) (object_of members.now.entries)) result }
+{
+    law_of_names(members);
+    match without_patterns(keyword) {
+        Some((properties, rest)) => {
+            let holds_back = keyword.required.is_some();
+            declared_accept(properties, members, rest, holds_back, ctx)
+        }
+        None => each_accepted(keyword, members, ctx),
+    }
+}
+
+// The declared names and the rest, where no patterns stand beside them.
+fn without_patterns<R, N>(
+    keyword: &AdditionalProperties<R, N>,
+) -> Option<(&PropertiesMap<N>, Option<&N>)>
+    ensures { IfSome result (λ f. sides_of keyword.now
+        ≡ unpatterned f.0.now (option_copied f.1) (table_says keyword.now.table)) }
+{
+    match (&keyword.properties, &keyword.patterns) {
+        (Some(properties), None) => Some((properties, keyword.rest.as_ref())),
+        _ => None,
+    }
+}
+
+// The same as `are_properties_valid`; where nothing else is expected, arrays and objects may be held back.
+fn declared_accept<N: IsValid>(
+    properties: &PropertiesMap<N>,
+    members: &Map<String, Value>,
+    rest: Option<&N>,
+    holds_back: bool,
+    ctx: &mut ValidationContext,
+) -> bool
+    ensures { Asks ctx.old ctx.new (names_mean N.means (mapped properties.now)
+        (option_copied rest.entry) (object_of members.now.entries)) result }
+{
+    match rest {
+        None if holds_back => all_declared(properties, members, ctx),
+        _ => are_properties_valid(properties, members, rest, ctx),
+    }
+}
+
+/// Whether each member is accepted by what is declared at its name, and any other by `additional`; without that no other
+/// member is accepted (JSON Schema 2020-12 Core, 10.3.2.3).
+///
+/// Takes no memory. The context keeps its answer; of the counts only those of matchers that were asked and of matches
+/// that were left unfinished rise.
+pub fn are_properties_valid<N: IsValid>(
+    properties: &PropertiesMap<N>,
+    members: &Map<String, Value>,
+    additional: Option<&N>,
+    ctx: &mut ValidationContext,
+) -> bool
+    ensures { Asks ctx.old ctx.new (names_mean N.means (mapped properties.now)
+        (option_copied additional.entry) (object_of members.now.entries)) result }
+{
+    let mut hint = 0;
+    for (name, value) in members {
+        let (next, declared) = properties.validator_from(hint, name.as_str());
+        hint = next;
+        if !is_accepted(declared, additional, value, ctx) {
+            return false;
+        }
+    }
+    true
+}
+
+// Whether a member is accepted by what is declared at its name, or else by the rest.
+#[inline(always)]
+fn is_accepted<N: IsValid>(
+    declared: Option<&N>,
+    additional: Option<&N>,
+    value: &Value,
+    ctx: &mut ValidationContext,
+) -> bool
+    ensures { Asks ctx.old ctx.new (declared_or_rest N.means
+        (option_copied additional.entry) (view value.now) (option_copied declared.entry)) result }
+{
+    match declared.or(additional) {
+        Some(subschema) => subschema.is_valid(Node::Value(value), ctx),
+        None => false,
+    }
+}
+
+// Whether each member is declared, and accepted by what is declared at its name. Arrays and objects are asked last, as many
+// as can be held back.
+fn all_declared<N: IsValid>(
+    properties: &PropertiesMap<N>,
+    members: &Map<String, Value>,
+    ctx: &mut ValidationContext,
+) -> bool
+    ensures { Asks ctx.old ctx.new (names_mean N.means (mapped properties.now)
+        None (object_of members.now.entries)) result }
+{
+    let mut held: ArrayVec<Option<(&N, &Value)>, DEFERRED_MEMBERS> = ArrayVec::new();
+    let mut hint = 0;
+    for (name, value) in members {
+        let (next, declared) = properties.validator_from(hint, name.as_str());
+        hint = next;
+        let Some(subschema) = declared else {
+            return false;
+        };
+        if is_container(value) && !held.is_full() {
+            held.push(Some((subschema, value)));
+        } else if !subschema.is_valid(Node::Value(value), ctx) {
+            return false;
+        }
+    }
+    held_accept(&held, ctx)
+}
+
+fn is_container(value: &Value) -> bool {
+    matches!(value, Value::Array(_) | Value::Object(_))
+}
+
+// Whether what was held back is accepted.
+fn held_accept<N: IsValid>(held: &[Option<(&N, &Value)>], ctx: &mut ValidationContext) -> bool
+    ensures { Asks ctx.old ctx.new (every (held_means N.means) held.now) result }
+{
+    for entry in held {
+        if !one_held_accepts(entry, ctx) {
+            return false;
+        }
+    }
+    true
+}
+
+fn one_held_accepts<N: IsValid>(held: &Option<(&N, &Value)>, ctx: &mut ValidationContext) -> bool
+    ensures { Asks ctx.old ctx.new (held_means N.means held.now) result }
+{
+    match held {
+        Some((subschema, value)) => subschema.is_valid(Node::Value(value), ctx),
+        None => true,
+    }
+}
+
+// Whether each member is accepted by what speaks of it, one after the other.
+fn each_accepted<R: RegexEngine, N: IsValid>(
+    keyword: &AdditionalProperties<R, N>,
+    members: &Map<String, Value>,
+    ctx: &mut ValidationContext,
+) -> bool
+    ensures { Asks ctx.old ctx.new (means_in_turn R.answers R.costs N.means
+        (sides_of keyword.now) (object_of members.now.entries)) result }
+{
+    let mut hint = 0;
+    for (name, value) in members {
+        let name = name.as_str();
+        let (next, declared) = keyword.declared_from(hint, name);
+        hint = next;
+        if !member_accepted(keyword, declared, name, value, ctx) {
+            return false;
+        }
+    }
+    true
+}
+
+// Whether a member is accepted by what is declared at its name, by the patterns that match it, and else by the rest.
+#[inline(always)]
+fn member_accepted<R: RegexEngine, N: IsValid>(
+    keyword: &AdditionalProperties<R, N>,
+    declared: Option<(usize, &N)>,
+    name: &str,
+    value: &Value,
+    ctx: &mut ValidationContext,
+) -> bool
+    ensures { Asks ctx.old ctx.new (member_means_at R.answers R.costs N.means
+        (sides_of keyword.now) (option_map (λ f. (f.0, f.1.now)) declared.entry)
+        name.now (view value.now)) result }
+{
+    declared_accepts(declared, value, ctx) && patterns_accept(keyword, declared, name, value, ctx)
+}
+
+#[inline(always)]
+fn declared_accepts<N: IsValid>(
+    declared: Option<(usize, &N)>,
+    value: &Value,
+    ctx: &mut ValidationContext,
+) -> bool
+    ensures { Asks ctx.old ctx.new (declared_means N.means (view value.now)
+        (option_map (λ f. (f.0, f.1.now)) declared.entry)) result }
+{
+    match declared {
+        Some((_, subschema)) => subschema.is_valid(Node::Value(value), ctx),
+        None => true,
+    }
+}
+
+// Whether the patterns that match a member accept it, and, where neither they nor a declared name speak of it, the rest.
+#[inline(always)]
+fn patterns_accept<R: RegexEngine, N: IsValid>(
+    keyword: &AdditionalProperties<R, N>,
+    declared: Option<(usize, &N)>,
+    name: &str,
+    value: &Value,
+    ctx: &mut ValidationContext,
+) -> bool
+    ensures { Asks ctx.old ctx.new (patterns_mean_from R.answers R.costs N.means
+        (sides_of keyword.now) (option_map (λ f. (f.0, f.1.now)) declared.entry)
+        name.now (view value.now)
+        (is_some declared.entry) 0 (sides_of keyword.now).patterns) result }
+{
+    let mut spoken = declared.is_some();
+    for (index, entry) in keyword.patterns().iter().enumerate() {
+        let known = keyword.known(declared, index);
+        if !matches_unless_known(known, &entry.0, name, ctx) {
+            continue;
+        }
+        if !entry.1.is_valid(Node::Value(value), ctx) {
+            return false;
+        }
+        spoken = true;
+    }
+    spoken || rest_accepts(&keyword.rest, value, ctx)
+}
+
+// Whether a member is accepted that nothing else speaks of.
+fn rest_accepts<N: IsValid>(rest: &Option<N>, value: &Value, ctx: &mut ValidationContext) -> bool
+    ensures { Asks ctx.old ctx.new
+        (rest_means N.means (view value.now) rest.now) result }
+{
+    match rest {
+        Some(subschema) => subschema.is_valid(Node::Value(value), ctx),
+        None => false,
+    }
+}

@@ -1,0 +1,267 @@
+-- What is shown beside `additionalProperties`, of what is collected.
+use Rattle.std.proofs.Common.{◌≡◌, Bool, true, false, not, ◌&&◌, ◌||◌, cond, List, [], ◌∷◌, ◌++◌, map, Vec, Global, Option, Some, None, is_none, is_some, refl, sym, ap, subst, ◌∙◌}
+use Rattle.std.specs.List.{flat_map, list_all}
+use Rattle.std.proofs.lemmas.List.Folds.{list_all-append}
+use Rattle.std.proofs.lemmas.List.{map-append}
+use Rattle.std.proofs.lemmas.Simd.{map-map}
+use Rattle.serde_json.specs.Data.{Data, Members, object}
+use Rattle.serde_json.specs.Find.{as_object}
+use Rattle.olk_spec.specs.Names.{Name, Path, ◌//◌, those, put_if, is_empty}
+use Rattle.olk_spec.specs.World.{Says}
+use Rattle.olk_spec.specs.Faults.{Fault}
+use Rattle.olk_spec.specs.Reports.{unexpected_faults}
+use Rattle.olk_spec.specs.Schemas.{listed, members}
+use Rattle.olk_spec.specs.Accepts.{missing}
+use Rattle.olk_spec.specs.Tree.{Tree, node, no_tree, IsLikeTree, described, is_valid, result}
+use Rattle.olk_spec.proofs.Truth.{and_true}
+use Rattle.olk_base.specs.declared.pattern.CompiledPattern.{CompiledPattern}
+use Rattle.olk_tree.specs.Questions.{Question, every}
+use Rattle.olk_tree.specs.Additional.{Sides, matching_from, at_name, nodes_matching, nodes_asked, is_additional, is_unexpected, faults_of_unexpected, additional_names, matched_names, additional_annotation, matches_child, additional_tree, repeats, member_means, additional_means}
+use Rattle.olk_tree.specs.AdditionalAgreement.{member_accepted}
+use Rattle.olk_tree.specs.Answers.{sides_of, mapped_places, patterns_in, has_neighbours}
+use Rattle.olk_tree.specs.Emptiness.{and_between}
+use Rattle.olk_tree.specs.Shown.{missing_trees}
+use Rattle.olk_tree.specs.declared.properties_map.PropertiesMap.{PropertiesMap}
+use Rattle.olk_tree.specs.declared.additional_properties.AdditionalProperties as validator
+use Rattle.olk_tree.proofs.Members_met.{object_is}
+use Rattle.olk_reports.specs.Evaluations.{Shown, shown, node_at, tree_of}
+use Rattle.olk_reports.specs.declared.evaluation.EvaluationNode.{EvaluationNode}
+use Rattle.olk_evaluate.specs.Wanted.{Wanted, AreShown, wanted, refused, lacking_trees, trees_of}
+use Rattle.olk_check.proofs.Together.{each_is_all}
+use Rattle.olk_evaluate.specs.Additional.{Collects, names_of, nodes_wanted, members_found, matches_shown, rest_annotation, named_faults, faults_without_rest, Completes}
+use Rattle.olk_evaluate.specs.declared.additional_members.Collected.{Collected}
+use Rattle.olk_evaluate.proofs.Children.{trees_wanted, all_wanted}
+use Rattle.olk_evaluate.proofs.Members.{and_turned, shown_append}
+use Rattle.olk_evaluate.proofs.OwnErrors.{all_there}
+use Rattle.olk_evaluate.proofs.Completed.{complete_like, complete_verdict}
+
+-- ---- names, trees and verdicts of the members
+
+module _ {X : Type 0} (p : X → Bool) where
+  none_of_those : (xs : List X) → those (λ x. false && p x) xs ≡ []
+  none_of_those [] = refl
+  none_of_those (x ∷ xs) = none_of_those xs
+
+  all_of_those : ((x : X) → p x ≡ true) → (xs : List X) → those p xs ≡ xs
+  all_of_those h [] = refl
+  all_of_those h (x ∷ xs) = (λ i. put_if (h x i) x (all_of_those h xs i))
+
+  names_of_those : {B : Type 0} (f : X → B) (xs : List X) → flat_map (λ x. put_if (p x) (f x) []) xs ≡ map f (those p xs)
+  names_of_those f [] = refl
+  names_of_those f (x ∷ xs) = ap (λ l. put_if (p x) (f x) [] ++ l) (names_of_those f xs) ∙ by (p x)
+    where
+      by : (b : Bool) → put_if b (f x) [] ++ map f (those p xs) ≡ map f (put_if b x (those p xs))
+      by true = refl
+      by false = refl
+
+nothing_each : {X B : Type 0} (xs : List X) → flat_map (λ x. let none : List B = [] in none) xs ≡ []
+nothing_each [] = refl
+nothing_each (x ∷ xs) = nothing_each xs
+
+each_if : {X B : Type 0} (f : X → List B) (b : Bool) (xs : List X) → flat_map (λ x. cond b (f x) []) xs ≡ cond b (flat_map f xs) []
+each_if f true xs = refl
+each_if f false xs = nothing_each xs
+
+-- ---- trees that are to be valid
+
+abbrev accepted : List Tree → List Wanted
+accepted = map (λ t. (t, true))
+
+same_trees : (b : Bool) (ts : List Tree) → trees_wanted (map (λ t. (t, b)) ts) ≡ ts
+same_trees b [] = refl
+same_trees b (t ∷ ts) = ap (λ l. t ∷ l) (same_trees b ts)
+
+all_accepted : (ts : List Tree) → all_wanted (accepted ts) ≡ true
+all_accepted [] = refl
+all_accepted (t ∷ ts) = all_accepted ts
+
+matches_are_shown : (ns : List Name) (P Q : Path) → AreShown (accepted (matches_shown ns P Q)) (matches_shown ns P Q)
+matches_are_shown [] P Q = tt
+matches_are_shown (n ∷ ns) P Q = (record { like = (refl, refl, refl, refl, tt, tt); verdict = refl }, tt)
+
+faults_emptiness : (b : Bool) (xs : List (Name × Data)) (v : Data) (P Q : Path) → is_empty (unexpected_faults b xs v P Q) ≡ is_empty xs
+faults_emptiness b [] v P Q = refl
+faults_emptiness true (x ∷ xs) v P Q = refl
+faults_emptiness false (x ∷ xs) v P Q = refl
+
+and_assoc : (a b c : Bool) → (a && (b && c)) ≡ ((a && b) && c)
+and_assoc true b c = refl
+and_assoc false b c = refl
+
+module _ {R N : Type 0} (answers : R → Name → Says) (t : N → Bool → Data → Path → Tree) (m : N → Data → Question) (u : Bool) (Q : Path) (k : validator.AdditionalProperties R N) where
+  abbrev S : Sides R N
+  S = sides_of k
+
+  abbrev is_left : Name × Data → Bool
+  is_left x = is_additional answers S u x.0
+
+  abbrev nodes_at : Name × Data → List N
+  nodes_at x = nodes_asked answers S u x.0
+
+  names_left : (xs : List (Name × Data)) → (members_found answers t m u Q k xs).additional ≡ map (λ x. x.0) (those is_left xs)
+  names_left xs = names_of_those is_left (λ x. x.0) xs
+
+  names_matched : (xs : List (Name × Data)) → (members_found answers t m u Q k xs).matched ≡ cond (is_none k.properties) (flat_map (λ x. map (λ e. x.0) (nodes_matching answers S u x.0)) xs) []
+  names_matched xs = each_if (λ x. map (λ e. x.0) (nodes_matching answers S u x.0)) (is_none k.properties) xs
+
+  trees_there : (xs : List (Name × Data)) → trees_wanted (members_found answers t m u Q k xs).wanted ≡ flat_map (λ x. map (λ e. t e u x.1 (Q // x.0)) (nodes_at x)) xs
+  trees_there [] = refl
+  trees_there (x ∷ xs) = map-append (λ w. w.0) (nodes_wanted t m u Q x.0 x.1 (nodes_at x)) (members_found answers t m u Q k xs).wanted
+      ∙ (λ i. map-map (λ w. w.0) (λ e. wanted t m u e x.1 (Q // x.0)) (nodes_at x) i ++ trees_there xs i)
+
+  all_accept : (n : Name) (x : Data) (ns : List N) → all_wanted (nodes_wanted t m u Q n x ns) ≡ (every (λ e. m e x) ns).accepts u
+  all_accept n x [] = refl
+  all_accept n x (e ∷ ns) = ap (λ b. (m e x).accepts u && b) (all_accept n x ns)
+
+  module _ (costs : R → Bool) where
+    abbrev means_at : Name × Data → Question
+    means_at x = member_means answers costs m S x.0 x.1
+
+    members_accepted : (xs : List (Name × Data)) → (is_empty (those (λ x. is_unexpected answers S u x.0) xs) && all_wanted (members_found answers t m u Q k xs).wanted) ≡ (every means_at xs).accepts u
+    members_accepted [] = refl
+    members_accepted (x ∷ xs) =
+        (λ i. none_more (is_unexpected answers S u x.0) i && list_all-append (λ w. w.1) (nodes_wanted t m u Q x.0 x.1 (nodes_at x)) (members_found answers t m u Q k xs).wanted i)
+        ∙ and_between (not (is_unexpected answers S u x.0)) (is_empty (those (λ y. is_unexpected answers S u y.0) xs)) (all_wanted (nodes_wanted t m u Q x.0 x.1 (nodes_at x))) (all_wanted (members_found answers t m u Q k xs).wanted)
+        ∙ (λ i. (and_turned (not (is_unexpected answers S u x.0)) (all_wanted (nodes_wanted t m u Q x.0 x.1 (nodes_at x))) ∙ ap (λ b. b && not (is_unexpected answers S u x.0)) (all_accept x.0 x.1 (nodes_at x)) ∙ sym (member_accepted answers costs m S x.0 x.1 u)) i && members_accepted xs i)
+      where
+        none_more : (b : Bool) → is_empty (put_if b x (those (λ y. is_unexpected answers S u y.0) xs)) ≡ (not b && is_empty (those (λ y. is_unexpected answers S u y.0) xs))
+        none_more true = refl
+        none_more false = refl
+
+  -- ---- own errors
+
+  -- without neighbours nothing speaks of any member
+  alone : (n : Name) → has_neighbours k ≡ false → is_additional answers S u n ≡ true
+  alone n = by k.properties k.patterns
+    where
+      by : (ps : Option (PropertiesMap N)) (qs : Option (Vec (CompiledPattern R × N) Global)) → (is_some ps || is_some qs) ≡ false
+          → (is_none (at_name (record { declared = mapped_places ps; patterns = patterns_in qs; known = S.known; rest = k.rest }) n) && is_empty (matching_from answers S (at_name S n) n u 0 (patterns_in qs))) ≡ true
+      by None None e = refl
+      by None (Some q) e = cc
+      by (Some p) None e = cc
+      by (Some p) (Some q) e = cc
+
+  module _ (xs : List (Name × Data)) (v : Data) (P : Path) where
+    abbrev left_names : List Name
+    left_names = map (λ x. x.0) (those is_left xs)
+
+    beside_others : (b : Bool) → (b ≡ false → (x : Name × Data) → is_left x ≡ true) → cond b (named_faults left_names v P Q) (unexpected_faults false xs v P Q) ≡ unexpected_faults b (those is_left xs) v P Q
+    beside_others true h = by (those is_left xs)
+      where
+        by : (ys : List (Name × Data)) → named_faults (map (λ x. x.0) ys) v P Q ≡ unexpected_faults true ys v P Q
+        by [] = refl
+        by (y ∷ ys) = refl
+    beside_others false h = ap (λ l. unexpected_faults false l v P Q) (sym (all_of_those is_left (h refl) xs))
+
+    own_faults : cond (is_some k.rest) [] (faults_without_rest k left_names xs v P Q) ≡ unexpected_faults (has_neighbours k) (those (λ x. is_unexpected answers S u x.0) xs) v P Q
+    own_faults = by k.rest
+      where
+        by : (o : Option N) → cond (is_some o) [] (faults_without_rest k left_names xs v P Q) ≡ unexpected_faults (has_neighbours k) (those (λ x. is_none o && is_left x) xs) v P Q
+        by None = beside_others (has_neighbours k) (λ e x. alone x.0 e)
+        by (Some r) = ap (λ l. unexpected_faults (has_neighbours k) l v P Q) (sym (none_of_those is_left xs))
+
+  -- ---- what is shown besides
+
+  abbrev has_properties : Bool
+  has_properties = is_some k.properties
+
+  abbrev has_patterns : Bool
+  has_patterns = is_some k.patterns
+
+  no_match_without_patterns : (xs : List (Name × Data)) → has_patterns ≡ false → flat_map (λ x. map (λ e. x.0) (nodes_matching answers S u x.0)) xs ≡ []
+  no_match_without_patterns xs = by k.patterns
+    where
+      by : (qs : Option (Vec (CompiledPattern R × N) Global)) → is_some qs ≡ false → flat_map (λ x. map (λ e. x.0) (matching_from answers S (at_name S x.0) x.0 u 0 (patterns_in qs))) xs ≡ []
+      by None e = nothing_each xs
+      by (Some q) e = cc
+
+  module _ (v : Data) where
+    -- where `properties` stands there, matches are not shown
+    matches_there : (P : Path) → matches_shown (cond (is_none k.properties) (matched_names answers S u v Q) []) P Q ≡ matches_child answers S u v Q has_properties has_patterns P
+    matches_there P = by k.properties k.patterns (matched_names answers S u v Q) (no_match_without_patterns (members v))
+      where
+        by : (ps : Option (PropertiesMap N)) (qs : Option (Vec (CompiledPattern R × N) Global)) (ns : List Name) → (is_some qs ≡ false → ns ≡ [])
+            → matches_shown (cond (is_none ps) ns []) P Q ≡ put_if (is_some qs && not (is_some ps) && not (is_empty ns)) (node P Q true (Some ns) [] no_tree) []
+        by None None ns h = ap (λ l. matches_shown l P Q) (h refl)
+        by None (Some q) ns h = refl
+        by (Some p) None ns h = refl
+        by (Some p) (Some q) ns h = refl
+
+  -- of an object
+  module _ (ms : Members) (c : Collected) (collects : Collects (members_found answers t m u Q k (listed ms)) c) where
+    abbrev members_wanted : List Wanted
+    members_wanted = (members_found answers t m u Q k (listed ms)).wanted
+
+    abbrev matches_here : List Tree
+    matches_here = matches_shown (names_of c.matched.items) k.patterns_location Q
+
+    abbrev annotation_here : Option (List Name)
+    annotation_here = cond (is_some k.rest) (rest_annotation k (names_of c.additional.items)) None
+
+    abbrev faults_here : Path → List Fault
+    faults_here P = cond (is_some k.rest) [] (faults_without_rest k (names_of c.additional.items) (listed ms) (object ms) P Q)
+
+    left_is : names_of c.additional.items ≡ additional_names answers S u (object ms) Q
+    left_is = collects.additional ∙ names_left (listed ms)
+
+    annotation_is : annotation_here ≡ additional_annotation answers S u (object ms) Q has_properties has_patterns
+    annotation_is = ap (λ ns. cond (is_some k.rest) (rest_annotation k ns) None) left_is ∙ by (is_some k.rest)
+      where
+        by : (b : Bool) → cond b (rest_annotation k (additional_names answers S u (object ms) Q)) None ≡ cond (b && (cond has_properties has_patterns (not has_patterns) || not (is_empty (additional_names answers S u (object ms) Q)))) (Some (additional_names answers S u (object ms) Q)) None
+        by true = refl
+        by false = refl
+
+    faults_are : (P : Path) → faults_here P ≡ faults_of_unexpected answers S u (object ms) Q (has_neighbours k) P
+    faults_are P = ap (λ ns. cond (is_some k.rest) [] (faults_without_rest k ns (listed ms) (object ms) P Q)) left_is ∙ own_faults (listed ms) (object ms) P
+
+    matches_are : (P : Path) → matches_shown (names_of c.matched.items) P Q ≡ matches_child answers S u (object ms) Q has_properties has_patterns P
+    matches_are P = ap (λ ns. matches_shown ns P Q) (collects.matched ∙ names_matched (listed ms)) ∙ matches_there (object ms) P
+
+    module _ (matches missing_child : List EvaluationNode) (matches_shown_here : trees_of matches ≡ matches_here)
+        (names : List Name) (place : Path) (all : List EvaluationNode) (parts : all ≡ c.children.items ++ matches ++ missing_child) where
+      abbrev lacking : List Tree
+      lacking = lacking_trees names (object ms) (object ms) place Q
+
+      abbrev all_wants : List Wanted
+      all_wants = members_wanted ++ accepted matches_here ++ refused lacking
+
+      trees_are : trees_wanted all_wants ≡ flat_map (λ x. map (λ e. t e u x.1 (Q // x.0)) (nodes_at x)) (listed ms) ++ matches_child answers S u (object ms) Q has_properties has_patterns k.patterns_location ++ lacking
+      trees_are = map-append (λ w. w.0) (members_wanted ++ accepted matches_here) (refused lacking)
+          ∙ ap (λ l. l ++ trees_wanted (refused lacking)) (map-append (λ w. w.0) members_wanted (accepted matches_here))
+          ∙ (λ i. trees_there (listed ms) i ++ (same_trees true matches_here ∙ matches_are k.patterns_location) i ++ same_trees false lacking i)
+
+      abbrev tree_of_all : Data → Tree
+      tree_of_all w = additional_tree answers S u w Q has_properties has_patterns k.location k.patterns_location (λ n. t n u) (missing_trees names w place Q)
+
+      module _ (lacks : AreShown (refused lacking) (trees_of missing_child)) {s r : Shown} (same : s ≡ shown (list_all is_valid (trees_of all)) None [] (trees_of all)) (completes : Completes k (names_of c.additional.items) (listed ms) (object ms) s r) where
+        children_are : AreShown all_wants (trees_of all)
+        children_are = subst (AreShown all_wants) (sym (ap trees_of parts ∙ map-append tree_of (c.children.items ++ matches) missing_child ∙ ap (λ l. l ++ trees_of missing_child) (map-append tree_of c.children.items matches)))
+            (shown_append (members_wanted ++ accepted matches_here) (refused lacking) (trees_of c.children.items ++ trees_of matches) (trees_of missing_child)
+            (shown_append members_wanted (accepted matches_here) (trees_of c.children.items) (trees_of matches) collects.shown
+            (subst (AreShown (accepted matches_here)) (sym matches_shown_here) (matches_are_shown (names_of c.matched.items) k.patterns_location Q))) lacks)
+
+        object_like : IsLikeTree (tree_of_all (object ms)) (node_at k.location Q r)
+        object_like = subst (λ w. IsLikeTree w (node_at k.location Q r)) (λ i. result k.location Q (annotation_is i) false (described (faults_are k.location i)) (trees_are i))
+            (complete_like k.location Q annotation_here (faults_here k.location) all_wants (trees_of all) same (completes k.location Q) children_are (trees_wanted all_wants) refl)
+
+        wants_verdict : all_wanted all_wants ≡ (all_wanted members_wanted && is_empty (missing names (object ms)))
+        wants_verdict = list_all-append (λ w. w.1) (members_wanted ++ accepted matches_here) (refused lacking)
+            ∙ (λ i. (list_all-append (λ w. w.1) members_wanted (accepted matches_here) ∙ ap (λ b. all_wanted members_wanted && b) (all_accepted matches_here) ∙ and_true (all_wanted members_wanted)) i
+            && all_there names (object ms) (object ms) place Q i)
+
+        object_verdict : (costs : R → Bool) → repeats (object ms) ≡ false → is_valid (node_at k.location Q r) ≡ ((additional_means answers costs m S (object ms)).accepts u && is_empty (missing names (object ms)))
+        object_verdict costs distinct =
+            complete_verdict k.location Q annotation_here (faults_here k.location) all_wants (trees_of all) same (completes k.location Q) children_are
+            ∙ (λ i. (ap is_empty (faults_are k.location) ∙ faults_emptiness (has_neighbours k) (those (λ x. is_unexpected answers S u x.0) (listed ms)) (object ms) k.location Q) i && wants_verdict i)
+            ∙ and_assoc (is_empty (those (λ x. is_unexpected answers S u x.0) (listed ms))) (all_wanted members_wanted) (is_empty (missing names (object ms)))
+            ∙ ap (λ b. b && is_empty (missing names (object ms))) (members_accepted costs (listed ms) ∙ ap (λ q. q.accepts u) (each_is_all answers costs m S (object ms) distinct))
+
+      -- of v, which is that object
+      module _ (v : Data) (is : Some ms ≡ as_object v) (lacks : AreShown (refused (lacking_trees names v (object ms) place Q)) (trees_of missing_child)) {s r : Shown} (same : s ≡ shown (list_all is_valid (trees_of all)) None [] (trees_of all)) (completes : Completes k (names_of c.additional.items) (listed ms) v s r) where
+        pub additional_like : IsLikeTree (tree_of_all v) (node_at k.location Q r)
+        additional_like = subst (λ w. AreShown (refused (lacking_trees names w (object ms) place Q)) (trees_of missing_child) → Completes k (names_of c.additional.items) (listed ms) w s r → IsLikeTree (tree_of_all w) (node_at k.location Q r)) (object_is v ms is)
+            (λ l d. object_like l same d) lacks completes
+
+        pub additional_verdict : (costs : R → Bool) → repeats (object ms) ≡ false → is_valid (node_at k.location Q r) ≡ ((additional_means answers costs m S v).accepts u && is_empty (missing names v))
+        additional_verdict costs distinct = subst (λ w. AreShown (refused (lacking_trees names w (object ms) place Q)) (trees_of missing_child) → Completes k (names_of c.additional.items) (listed ms) w s r → is_valid (node_at k.location Q r) ≡ ((additional_means answers costs m S w).accepts u && is_empty (missing names w))) (object_is v ms is)
+            (λ l d. object_verdict l same d costs distinct) lacks completes

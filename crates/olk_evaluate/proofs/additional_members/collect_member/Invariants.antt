@@ -1,0 +1,19 @@
+use Rattle.std.proofs.Common.{ℕ, option_map}
+use Rattle.serde_json.specs.View.{view}
+use Rattle.olk_evaluate.proofs.Collected.{Member, OnTheWay}
+use Rattle.olk_evaluate.proofs.additional_members.collect_member.Given as goal
+
+abbrev pub invariant-loop-index : goal.invariant-loop-index
+invariant-loop-index g l =
+    let w : Member g.row.R.Denot g.row.N.Denot = record {
+      answers = g.R.RegexEngine.answers;
+      tree = g.N.Evaluate.tree;
+      means = g.N.Means.means;
+      asking = l.fn.ctx;
+      path = l.fn.path;
+      keyword = l.keyword;
+      declared = option_map {U = ℕ × g.row.N.Denot} (λ f. (f.0, f.1.now)) l.declared;
+      name = l.name;
+      value = view l.value;
+    } in
+    OnTheWay w l.spoken l.index l.path l.ctx l.fn.collected l.collected

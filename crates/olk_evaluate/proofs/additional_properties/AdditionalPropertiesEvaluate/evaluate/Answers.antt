@@ -1,0 +1,31 @@
+use Rattle.std.proofs.Common.{option_to_list, subst, ◌∙◌}
+use Rattle.serde_json.specs.Data.{object}
+use Rattle.serde_json.specs.View.{members_view}
+use Rattle.olk_base.specs.Nodes.{data_of}
+use Rattle.olk_tree.specs.Answers.{required_text, required_place}
+use Rattle.olk_evaluate.specs.Additional.{matches_shown, names_of}
+use Rattle.olk_evaluate.specs.Wanted.{AreShown, refused, lacking_trees, trees_of}
+use Rattle.olk_evaluate.proofs.Additional.{additional_like, additional_verdict}
+use Rattle.olk_evaluate.proofs.additional_properties.AdditionalPropertiesEvaluate.evaluate.Goals as goal
+
+pub returns-in_ok-complete-in-Some-clause-tree : goal.returns-in_ok-complete-in-Some-clause-tree
+returns-in_ok-complete-in-Some-clause-tree g c =
+    let required = c.args.self.now.required in
+    let collected = c.in_ok-collected-in-Some in
+    let missing = c.in_ok-missing-in-Some in
+    additional_like g.R.RegexEngine.answers g.N.Evaluate.tree g.N.Means.means c.args.ctx.now.answer c.args.path.now c.args.self.now (members_view c.in-Some.members.now.entries) collected.collected collected.ensures.collected
+    (option_to_list c.in_ok-matches-in-Some.matches) (option_to_list missing.missing) (c.in_ok-matches-in-Some.ensures ∙ (λ i. matches_shown (names_of collected.collected.matched.items) (c.as_str-at_patterns.ensures i) (collected.ensures.path i)))
+    (required_text required) (required_place required) c.in_ok-children-in-Some.children.items c.in_ok-children-in-Some.ensures (data_of c.args.node) c.in-Some.ensures
+    (subst (λ Q. AreShown (refused (lacking_trees (required_text required) (data_of c.args.node) (object (members_view c.in-Some.members.now.entries)) (required_place required) Q)) (trees_of (option_to_list missing.missing))) collected.ensures.path missing.ensures)
+    c.from_children-outcome.ensures c.in_ok-complete-in-Some.ensures
+
+pub returns-in_ok-complete-in-Some-clause-verdict : goal.returns-in_ok-complete-in-Some-clause-verdict
+returns-in_ok-complete-in-Some-clause-verdict g c =
+    let required = c.args.self.now.required in
+    let collected = c.in_ok-collected-in-Some in
+    let missing = c.in_ok-missing-in-Some in
+    additional_verdict g.R.RegexEngine.answers g.N.Evaluate.tree g.N.Means.means c.args.ctx.now.answer c.args.path.now c.args.self.now (members_view c.in-Some.members.now.entries) collected.collected collected.ensures.collected
+    (option_to_list c.in_ok-matches-in-Some.matches) (option_to_list missing.missing) (c.in_ok-matches-in-Some.ensures ∙ (λ i. matches_shown (names_of collected.collected.matched.items) (c.as_str-at_patterns.ensures i) (collected.ensures.path i)))
+    (required_text required) (required_place required) c.in_ok-children-in-Some.children.items c.in_ok-children-in-Some.ensures (data_of c.args.node) c.in-Some.ensures
+    (subst (λ Q. AreShown (refused (lacking_trees (required_text required) (data_of c.args.node) (object (members_view c.in-Some.members.now.entries)) (required_place required) Q)) (trees_of (option_to_list missing.missing))) collected.ensures.path missing.ensures)
+    c.from_children-outcome.ensures c.in_ok-complete-in-Some.ensures g.R.RegexEngine.costs c.law_of_names.ensures

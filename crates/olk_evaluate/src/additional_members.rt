@@ -1,0 +1,218 @@
+//! What `additionalProperties` and its neighbours meet of the members of an object.
+ghost use Rattle.std.specs.Prelude.{◌≡◌, ◌++◌, ◌∷◌, [], cond, option_map, is_none, IfOk, OnOk};
+ghost use Rattle.serde_json.specs.View.{view, members_view};
+ghost use Rattle.olk_base.specs.Compiled.{pattern_answers};
+ghost use Rattle.olk_spec.specs.Schemas.{listed};
+ghost use Rattle.olk_spec.specs.World.{reads_as};
+ghost use Rattle.olk_tree.specs.Additional.{known_or};
+ghost use Rattle.olk_tree.specs.Tables.{known_says};
+ghost use Rattle.olk_check.specs.Asks.{OnlyAsks};
+ghost use Rattle.olk_evaluate.specs.Additional.{Collects, CollectsMore, declared_found, match_found, rest_found, member_found, members_found, names_of};
+
+use crate::Evaluate;
+use crate::properties::child_below;
+use olk_base::{CompiledPattern, RegexEngine, ValidationContext};
+use olk_check::matches_unless_known;
+use olk_reports::{EvaluationNode, InstancePath};
+use olk_tree::additional_properties::AdditionalProperties;
+use serde_json::{Map, Value};
+use std::alloc::{AllocError, Global};
+
+// What is collected of the members of an object.
+#[derive(Drop)]
+pub(crate) struct Collected<'a> {
+    pub(crate) children: Vec<EvaluationNode<'a>>,
+    // The names that nothing else speaks of.
+    pub(crate) additional: Vec<&'a str>,
+    // A name for each match that is shown.
+    pub(crate) matched: Vec<&'a str>,
+}
+
+impl<'a> Collected<'a> {
+    // Nothing yet, with room for so many children.
+    fn with_capacity(alloc: Global, capacity: usize) -> Result<Collected<'a>, AllocError>
+        ensures children { IfOk result (λ c. c.children.items ≡ []) }
+        ensures additional { IfOk result (λ c. c.additional.items ≡ []) }
+        ensures matched { IfOk result (λ c. c.matched.items ≡ []) }
+    {
+        Ok(Collected {
+            children: Vec::with_capacity(alloc, capacity)?,
+            additional: Vec::new(alloc),
+            matched: Vec::new(alloc),
+        })
+    }
+
+    // What the node of a pattern shows of a member, with the member's name where matches are shown.
+    #[inline(always)]
+    fn add_match(
+        &mut self,
+        child: EvaluationNode<'a>,
+        name: &'a str,
+        is_shown: bool,
+    ) -> Result<(), AllocError>
+        ensures children { OnOk result
+            (self.new.children.items ≡ self.old.children.items ++ child.entry ∷ []) }
+        ensures additional { OnOk result (self.new.additional.items ≡ self.old.additional.items) }
+        ensures matched { OnOk result (names_of self.new.matched.items
+            ≡ names_of self.old.matched.items ++ cond is_shown (name.entry.now ∷ []) []) }
+    {
+        self.children.push(child)?;
+        if is_shown {
+            self.matched.push(name)?;
+        }
+        Ok(())
+    }
+}
+
+// What is met of the members, in their order.
+pub(crate) fn collect<'a, R: RegexEngine, N: Evaluate<'a>>(
+    alloc: Global,
+    keyword: &'a AdditionalProperties<R, N>,
+    members: &'a Map<String, Value>,
+    path: &mut InstancePath,
+    ctx: &mut ValidationContext,
+) -> Result<Collected<'a>, AllocError>
+    ensures collected { IfOk result (λ c. Collects
+        (members_found R.answers N.tree N.means ctx.old.answer path.old keyword.now
+        (listed (members_view members.now.entries))) c) }
+    ensures path { path.new ≡ path.old }
+    ensures context { OnlyAsks ctx.old ctx.new }
+{
+    let mut collected: Collected<'a> = Collected::with_capacity(alloc, members.len())?;
+    let mut hint = 0;
+    for (name, value) in members {
+        let name = name.as_str();
+        let (next, declared) = keyword.declared_from(hint, name);
+        hint = next;
+        collect_member(
+            alloc,
+            keyword,
+            declared,
+            name,
+            value,
+            path,
+            ctx,
+            &mut collected,
+        )?;
+    }
+    Ok(collected)
+}
+
+// A member: what is declared at its name, the patterns that match it, and, where neither speaks of it, the rest.
+fn collect_member<'a, R: RegexEngine, N: Evaluate<'a>>(
+    alloc: Global,
+    keyword: &'a AdditionalProperties<R, N>,
+    declared: Option<(usize, &'a N)>,
+    name: &'a str,
+    value: &'a Value,
+    path: &mut InstancePath,
+    ctx: &mut ValidationContext,
+    collected: &mut Collected<'a>,
+) -> Result<(), AllocError>
+    ensures collected { OnOk result (CollectsMore
+        (member_found R.answers N.tree N.means ctx.old.answer path.old keyword.now
+        (option_map (λ f. (f.0, f.1.now)) declared.entry) name.now (view value.now))
+        collected.old collected.new) }
+    ensures path { path.new ≡ path.old }
+    ensures context { OnlyAsks ctx.old ctx.new }
+{
+    collect_declared(alloc, declared, name, value, path, ctx, collected)?;
+    let are_shown = keyword.properties.is_none();
+    let mut spoken = declared.is_some();
+    for (index, entry) in keyword.patterns().iter().enumerate() {
+        let known = keyword.known(declared, index);
+        let is_match = collect_if_matched(
+            alloc, entry, known, are_shown, name, value, path, ctx, collected,
+        )?;
+        spoken |= is_match;
+    }
+    if spoken {
+        return Ok(());
+    }
+    collect_additional(alloc, &keyword.rest, name, value, path, ctx, collected)
+}
+
+// What is declared at a member's name, if anything is.
+#[inline(always)]
+fn collect_declared<'a, N: Evaluate<'a>>(
+    alloc: Global,
+    declared: Option<(usize, &'a N)>,
+    name: &'a str,
+    value: &'a Value,
+    path: &mut InstancePath,
+    ctx: &mut ValidationContext,
+    collected: &mut Collected<'a>,
+) -> Result<(), AllocError>
+    ensures collected { OnOk result (CollectsMore
+        (declared_found N.tree N.means ctx.old.answer path.old name.now (view value.now)
+        (option_map (λ f. (f.0, f.1.now)) declared.entry))
+        collected.old collected.new) }
+    ensures path { path.new ≡ path.old }
+    ensures context { OnlyAsks ctx.old ctx.new }
+{
+    match declared {
+        Some((_, subschema)) => {
+            let child = child_below(alloc, subschema, name, value, path, ctx)?;
+            collected.children.push(child)?;
+            Ok(())
+        }
+        None => Ok(()),
+    }
+}
+
+// A pattern's node, if the pattern matches the member's name, and whether it does.
+#[inline(always)]
+fn collect_if_matched<'a, R: RegexEngine, N: Evaluate<'a>>(
+    alloc: Global,
+    entry: &'a (CompiledPattern<R>, N),
+    known: Option<bool>,
+    is_shown: bool,
+    name: &'a str,
+    value: &'a Value,
+    path: &mut InstancePath,
+    ctx: &mut ValidationContext,
+    collected: &mut Collected<'a>,
+) -> Result<bool, AllocError>
+    ensures verdict { IfOk result (λ b. b ≡ reads_as ctx.old.answer
+        (known_or (known_says known) (pattern_answers R.answers entry.now.0 name.now))) }
+    ensures collected { IfOk result (λ b. CollectsMore
+        (match_found N.tree N.means ctx.old.answer path.old name.now (view value.now)
+        is_shown entry.now.1 b) collected.old collected.new) }
+    ensures path { path.new ≡ path.old }
+    ensures context { OnlyAsks ctx.old ctx.new }
+{
+    if !matches_unless_known(known, &entry.0, name, ctx) {
+        return Ok(false);
+    }
+    let child = child_below(alloc, &entry.1, name, value, path, ctx)?;
+    collected.add_match(child, name, is_shown)?;
+    Ok(true)
+}
+
+// A member that nothing else speaks of: its name, and what the rest shows of it, if there is a rest.
+#[inline(always)]
+fn collect_additional<'a, N: Evaluate<'a>>(
+    alloc: Global,
+    rest: &'a Option<N>,
+    name: &'a str,
+    value: &'a Value,
+    path: &mut InstancePath,
+    ctx: &mut ValidationContext,
+    collected: &mut Collected<'a>,
+) -> Result<(), AllocError>
+    ensures collected { OnOk result (CollectsMore
+        (rest_found N.tree N.means ctx.old.answer path.old name.now (view value.now) rest.now)
+        collected.old collected.new) }
+    ensures path { path.new ≡ path.old }
+    ensures context { OnlyAsks ctx.old ctx.new }
+{
+    collected.additional.push(name)?;
+    match rest {
+        Some(subschema) => {
+            let shown = child_below(alloc, subschema, name, value, path, ctx)?;
+            collected.children.push(shown)?;
+            Ok(())
+        }
+        None => Ok(()),
+    }
+}

@@ -1,0 +1,256 @@
+//! `additionalProperties`, and what it takes over.
+ghost use Rattle.std.specs.Prelude.{◌≡◌, ◌++◌, is_some, not, cond, option_to_list, false, IfOk};
+ghost use Rattle.serde_json.specs.Data.{Data};
+ghost use Rattle.serde_json.specs.View.{members_view};
+ghost use Rattle.olk_base.specs.Nodes.{data_of};
+ghost use Rattle.olk_spec.specs.Names.{Path};
+ghost use Rattle.olk_spec.specs.Reports.{unexpected_faults};
+ghost use Rattle.olk_spec.specs.Schemas.{listed};
+ghost use Rattle.olk_reports.specs.Evaluations.{shown_of};
+ghost use Rattle.olk_tree.specs.Answers.{has_neighbours, required_text, required_place};
+ghost use Rattle.olk_tree.specs.Visited.{object_of};
+ghost use Rattle.olk_evaluate.specs.Additional.{matches_shown, names_of, annotated_if, rest_annotation, AddsErrors, named_faults, faults_without_rest, Completes};
+ghost use Rattle.olk_evaluate.specs.Wanted.{AreShown, refused, lacking_trees, trees_of};
+
+use crate::additional_members::collect;
+use crate::own::own_error;
+use crate::required::missing_name_child;
+use crate::{Evaluate, Located};
+use olk_base::{Node, RegexEngine, ValidationContext};
+use olk_members::law_of_names;
+use olk_reports::{EvaluationNode, EvaluationResult, InstancePath, ValidationErrorKind};
+use olk_tree::additional_properties::{AdditionalProperties, RequiredName};
+use serde_json::{Map, Value};
+use std::alloc::{AllocError, Global};
+
+impl<R, N> Located for AdditionalProperties<R, N> {
+    ghost place = { λ k. k.location };
+
+    fn location(&self) -> &str {
+        self.location.as_str()
+    }
+}
+
+/// A child for each node that is asked of a member: what is declared at its name, the patterns that match it, or else the
+/// rest, whose names are annotated (JSON Schema 2020-12 Core, 10.3.2.3); where just one neighbour stands there, only if
+/// there are some. Without a subschema for the rest, the members that are left to it are an error of its own.
+///
+/// Behind these, where patterns stand there and `properties` does not, a child at their place with a name for each match,
+/// if there is one; and one at the place of `required` where its name is no member.
+impl<'a, R: RegexEngine, N: Evaluate<'a>> Evaluate<'a> for AdditionalProperties<R, N> {
+    ghost use Rattle.olk_tree.specs.Additional.{additional_tree};
+    ghost use Rattle.olk_tree.specs.Answers.{sides_of};
+    ghost use Rattle.olk_tree.specs.Shown.{missing_trees};
+
+    ghost tree = { λ k u v Q. additional_tree R.answers (sides_of k) u v Q
+        (is_some k.properties) (is_some k.patterns) k.location k.patterns_location
+        (λ n. N.tree n u)
+        (missing_trees (required_text k.required) v (required_place k.required) Q) };
+
+    #[tactic(auto, using(olk_check::proofs::Asked::only_same))]
+    fn evaluate(
+        &'a self,
+        alloc: Global,
+        node: Node<'a>,
+        path: &mut InstancePath,
+        ctx: &mut ValidationContext,
+    ) -> Result<EvaluationResult<'a>, AllocError> {
+        match node.as_object() {
+            Some(members) => {
+                law_of_names(members);
+                let collected = collect(alloc, self, members, path, ctx)?;
+                let at_patterns = self.patterns_location.as_str();
+                let matches = matches_child(alloc, collected.matched, at_patterns, path)?;
+                let missing = missing_required(alloc, &self.required, members, node, path)?;
+                let children = followed_by(collected.children, matches, missing)?;
+                let outcome = EvaluationResult::from_children(alloc, children);
+                let complete = completed(
+                    alloc,
+                    self,
+                    outcome,
+                    collected.additional,
+                    members,
+                    node,
+                )?;
+                Ok(complete)
+            }
+            None => Ok(EvaluationResult::valid_empty(alloc)),
+        }
+    }
+}
+
+// A child at the place of `patternProperties` with these names, if there are some.
+fn matches_child<'a>(
+    alloc: Global,
+    matched: Vec<&'a str>,
+    location: &'a str,
+    path: &InstancePath,
+) -> Result<Option<EvaluationNode<'a>>, AllocError>
+    ensures { IfOk result (λ o. trees_of (option_to_list o)
+        ≡ matches_shown (names_of matched.entry.items) location.now path.now) }
+{
+    if matched.is_empty() {
+        return Ok(None);
+    }
+    let mut outcome = EvaluationResult::valid_empty(alloc);
+    outcome.annotate(matched);
+    let text = String::from_str(alloc, path.as_str())?;
+    Ok(Some(EvaluationNode::new(location, text, outcome)))
+}
+
+// A child at the place of `required`, where a name is required that is no member.
+fn missing_required<'a>(
+    alloc: Global,
+    required: &'a Option<RequiredName>,
+    members: &Map<String, Value>,
+    node: Node<'a>,
+    path: &InstancePath,
+) -> Result<Option<EvaluationNode<'a>>, AllocError>
+    ensures { IfOk result (λ o. AreShown
+        (refused (lacking_trees (required_text required.now) (data_of node.entry)
+        (object_of members.now.entries) (required_place required.now) path.now))
+        (trees_of (option_to_list o))) }
+{
+    match required {
+        Some(required) => {
+            let name = required.name.as_str();
+            let location = required.location.as_str();
+            Ok(missing_name_child(alloc, name, location, members, node, path)?)
+        }
+        None => Ok(None),
+    }
+}
+
+// The children, and behind them two more, if they are there.
+fn followed_by<'a>(
+    children: Vec<EvaluationNode<'a>>,
+    first: Option<EvaluationNode<'a>>,
+    second: Option<EvaluationNode<'a>>,
+) -> Result<Vec<EvaluationNode<'a>>, AllocError>
+    ensures { IfOk result (λ cs. cs.items
+        ≡ children.entry.items ++ option_to_list first.entry ++ option_to_list second.entry) }
+{
+    let mut children = children;
+    if let Some(child) = first {
+        children.push(child)?;
+    }
+    if let Some(child) = second {
+        children.push(child)?;
+    }
+    Ok(children)
+}
+
+// The result with the annotation of the rest; where there is no rest, with an error if members are not expected.
+fn completed<'a, R, N>(
+    alloc: Global,
+    keyword: &AdditionalProperties<R, N>,
+    outcome: EvaluationResult<'a>,
+    additional: Vec<&'a str>,
+    members: &'a Map<String, Value>,
+    node: Node<'a>,
+) -> Result<EvaluationResult<'a>, AllocError>
+    ensures { IfOk result (λ r. Completes keyword.now (names_of additional.entry.items)
+        (listed (members_view members.now.entries)) (data_of node.entry)
+        (shown_of outcome.entry) (shown_of r)) }
+{
+    match &keyword.rest {
+        Some(_) => Ok(annotated(keyword, outcome, additional)),
+        None => Ok(with_unexpected(alloc, keyword, outcome, additional, members, node)?),
+    }
+}
+
+// The result with the names that the rest is asked of; where just one neighbour stands there, only if there are some.
+fn annotated<'a, R, N>(
+    keyword: &AdditionalProperties<R, N>,
+    outcome: EvaluationResult<'a>,
+    additional: Vec<&'a str>,
+) -> EvaluationResult<'a>
+    ensures { shown_of result ≡ annotated_if
+        (rest_annotation keyword.now (names_of additional.entry.items)) (shown_of outcome.entry) }
+{
+    if stands_beside_one(keyword) && additional.is_empty() {
+        return outcome;
+    }
+    let mut outcome = outcome;
+    outcome.annotate(additional);
+    outcome
+}
+
+// Whether just one of `properties` and `patternProperties` stands there.
+fn stands_beside_one<R, N>(keyword: &AdditionalProperties<R, N>) -> bool
+    ensures { result
+        ≡ cond (is_some keyword.now.properties) (not (is_some keyword.now.patterns))
+        (is_some keyword.now.patterns) }
+{
+    keyword.properties.is_some() != keyword.patterns.is_some()
+}
+
+// The result with an error if members are not expected: told by name where the keyword has a neighbour, else as a false
+// schema over the first.
+fn with_unexpected<'a, R, N>(
+    alloc: Global,
+    keyword: &AdditionalProperties<R, N>,
+    outcome: EvaluationResult<'a>,
+    unexpected: Vec<&'a str>,
+    members: &'a Map<String, Value>,
+    node: Node<'a>,
+) -> Result<EvaluationResult<'a>, AllocError>
+    ensures { IfOk result (λ r. (P Q : Path) → AddsErrors
+        (faults_without_rest keyword.now (names_of unexpected.entry.items)
+        (listed (members_view members.now.entries)) (data_of node.entry) P Q)
+        (shown_of outcome.entry) (shown_of r)) }
+{
+    if stands_beside_some(keyword) {
+        Ok(with_named(alloc, outcome, unexpected, node)?)
+    } else {
+        Ok(with_first(alloc, outcome, members)?)
+    }
+}
+
+// Whether `properties` or `patternProperties` stands there.
+fn stands_beside_some<R, N>(keyword: &AdditionalProperties<R, N>) -> bool
+    ensures { result ≡ has_neighbours keyword.now }
+{
+    keyword.properties.is_some() || keyword.patterns.is_some()
+}
+
+// The result with an error that has these names, if there are some.
+fn with_named<'a>(
+    alloc: Global,
+    outcome: EvaluationResult<'a>,
+    unexpected: Vec<&'a str>,
+    node: Node<'a>,
+) -> Result<EvaluationResult<'a>, AllocError>
+    ensures { IfOk result (λ r. (P Q : Path) → AddsErrors
+        (named_faults (names_of unexpected.entry.items) (data_of node.entry) P Q)
+        (shown_of outcome.entry) (shown_of r)) }
+{
+    if unexpected.is_empty() {
+        return Ok(outcome);
+    }
+    let mut outcome = outcome;
+    let kind = ValidationErrorKind::AdditionalProperties { unexpected };
+    outcome.mark_errored(own_error(alloc, kind, node)?)?;
+    Ok(outcome)
+}
+
+// The result with the error of a false schema over the first member's value, if there is one.
+fn with_first<'a>(
+    alloc: Global,
+    outcome: EvaluationResult<'a>,
+    members: &'a Map<String, Value>,
+) -> Result<EvaluationResult<'a>, AllocError>
+    ensures { IfOk result (λ r. (v : Data) (P Q : Path) → AddsErrors
+        (unexpected_faults false (listed (members_view members.now.entries)) v P Q)
+        (shown_of outcome.entry) (shown_of r)) }
+{
+    match members.iter().next() {
+        Some((_, value)) => {
+            let mut outcome = outcome;
+            let kind = ValidationErrorKind::FalseSchema;
+            outcome.mark_errored(own_error(alloc, kind, Node::Value(value))?)?;
+            Ok(outcome)
+        }
+        None => Ok(outcome),
+    }
+}

@@ -1,0 +1,109 @@
+//! `additionalProperties`, and what it takes over.
+ghost use Rattle.std.specs.Prelude.{◌≡◌, option_map};
+ghost use Rattle.olk_tree.specs.Additional.{at_name, known_at};
+ghost use Rattle.olk_tree.specs.Answers.{sides_of};
+ghost use Rattle.olk_tree.specs.Tables.{known_says};
+
+use crate::means::{Means, Reports};
+use crate::pattern_table::PatternTable;
+use crate::properties_map::PropertiesMap;
+use crate::validators_map::{PropertiesValidatorsMap, placed_from};
+use olk_base::{CompiledPattern, RegexEngine};
+use olk_reports::Location;
+
+/// `additionalProperties` that is `false` or a schema, with `properties` and `patternProperties` beside it: a member is to
+/// be accepted by the subschema that is declared at its name and by that of each pattern that matches it; where there is
+/// neither, by that of `additionalProperties`, and where that is `false` it is not expected
+/// (JSON Schema 2020-12 Core, 10.3.2.3).
+#[derive(Drop)]
+pub struct AdditionalProperties<R, N> {
+    /// `properties`, if it stands there.
+    pub properties: Option<PropertiesMap<N>>,
+    /// `patternProperties`, if it stands there.
+    pub patterns: Option<Vec<(CompiledPattern<R>, N)>>,
+    /// What is known of the patterns at the declared names.
+    pub table: PatternTable,
+    /// The subschema for the rest; without one no other member is expected.
+    pub rest: Option<N>,
+    /// `required` of one name, if it is held here.
+    pub required: Option<RequiredName>,
+    pub location: Location,
+    /// The place of `patternProperties`.
+    pub patterns_location: Location,
+}
+
+/// `required` of one name (JSON Schema 2020-12 Validation, 6.5.3).
+#[derive(Drop)]
+pub struct RequiredName {
+    pub name: String,
+    pub location: Location,
+}
+
+impl<R: RegexEngine, N: Means> Means for AdditionalProperties<R, N> {
+    ghost use Rattle.olk_spec.specs.Names.{is_empty};
+    ghost use Rattle.olk_spec.specs.Accepts.{missing};
+    ghost use Rattle.olk_tree.specs.Questions.{always, both};
+    ghost use Rattle.olk_tree.specs.Additional.{additional_means};
+    ghost use Rattle.olk_tree.specs.Answers.{sides_of, required_text};
+
+    ghost means = { λ k v. both (additional_means R.answers R.costs N.means (sides_of k) v)
+        (always (is_empty (missing (required_text k.required) v))) };
+}
+
+impl<R: RegexEngine, N: Reports> Reports for AdditionalProperties<R, N> {
+    ghost use Rattle.std.specs.Prelude.{◌++◌};
+    ghost use Rattle.olk_tree.specs.Additional.{additional_report, additional_first};
+    ghost use Rattle.olk_tree.specs.Answers.{sides_of, has_neighbours, lacks, or_else};
+    ghost use Rattle.olk_tree.specs.AdditionalAgreement.{additional_agrees, additional_first_agrees};
+
+    ghost report = { λ k u v Q.
+        additional_report R.answers (sides_of k) u v Q (has_neighbours k) k.location N.report
+        ++ lacks k.required v Q };
+
+    ghost first = { λ k u v Q. or_else
+        (additional_first R.answers (sides_of k) u v Q (has_neighbours k) k.location N.first)
+        (lacks k.required v Q) };
+
+    ghost agrees = { λ k u v Q. additional_agrees R.answers R.costs N.means u N.report
+        (λ n w S. N.agrees n u w S) k v Q };
+
+    ghost first_agrees = { λ k u v Q. additional_first_agrees R.answers R.costs N.means u N.first
+        (λ n w S. N.first_agrees n u w S) k v Q };
+}
+
+impl<R, N> AdditionalProperties<R, N> {
+    /// What is declared at the name, with its place, looked for at `hint` first, and where to look first for a later name.
+    #[inline(always)]
+    pub fn declared_from(&self, hint: usize, name: &str) -> (usize, Option<(usize, &N)>)
+        ensures { option_map (λ f. (f.0, f.1.now)) result.1
+            ≡ at_name (sides_of self.now) name.now }
+    {
+        match &self.properties {
+            Some(map) => placed_from(map.names(), map.nodes(), hint, name),
+            None => (hint, None),
+        }
+    }
+
+    /// The patterns, each with its node.
+    #[inline(always)]
+    pub fn patterns(&self) -> &[(CompiledPattern<R>, N)]
+        ensures { result.now ≡ (sides_of self.now).patterns }
+    {
+        match &self.patterns {
+            Some(patterns) => patterns,
+            None => &[],
+        }
+    }
+
+    /// Whether the pattern of the index matches a name, where that is known since it is declared.
+    #[inline(always)]
+    pub fn known(&self, declared: Option<(usize, &N)>, index: usize) -> Option<bool>
+        ensures { known_says result ≡ known_at (sides_of self.now)
+            (option_map (λ f. (f.0, f.1.now)) declared.entry) index }
+    {
+        match declared {
+            Some((place, _)) => self.table.known(place, index),
+            None => None,
+        }
+    }
+}

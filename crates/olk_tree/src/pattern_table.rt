@@ -1,0 +1,281 @@
+//! What patterns say of declared names (JSON Schema 2020-12 Core, 10.3.2.2 and 10.3.2.3).
+ghost use Rattle.std.specs.Prelude.{◌≡◌, ℕ, ◌/◌, ◌*◌, ◌<◌, ◌≤◌, ◌≢◌, true, IfOk, OnOk, OnErr, length, map, string_bytes};
+ghost use Rattle.std.specs.List.{AllZip};
+ghost use Rattle.serde_json.specs.View.{members_view};
+ghost use Rattle.olk_spec.specs.Schemas.{listed};
+ghost use Rattle.olk_spec.specs.World.{unmatched, unfinished};
+ghost use Rattle.olk_base.specs.Lawful.{said};
+ghost use Rattle.olk_tree.specs.Tables.{has_bit, row_says, HasWord, no_table, table_says, known_says, matched_in, unfinished_in, index_said, indices_below, indices_in, IsRowOf, IsTableOf, how_many_cost, count_asks, AsksAtMost};
+
+use crate::map::SortedNames;
+use olk_base::{CompiledPattern, Meter, RegexEngine, Unfinished};
+use serde_json::{Map, Value};
+use std::alloc::{AllocError, Global};
+use std::marker::Model;
+
+// So many patterns have their bits in one word.
+const WORD_BITS: usize = 64;
+
+/// A pattern that matches a name, or was left unfinished at it.
+#[derive(Clone, Copy)]
+pub struct PatternIndex {
+    /// Its place among the patterns.
+    pub index: usize,
+    /// Whether the match was decided, and so the pattern matches.
+    pub finished: bool,
+}
+
+/// Names, and beside each what patterns say of it, as far as that is known.
+#[derive(Drop)]
+pub struct PatternTable {
+    names: SortedNames,
+    patterns: usize,
+    rows: Vec<PatternRow>,
+}
+
+impl Model for PatternTable {
+    ghost use Rattle.olk_tree.specs.Tables.{Table};
+
+    ghost Value = { Table };
+
+    ghost view = { λ t. record { names = t.names; patterns = t.patterns; rows = t.rows.items } };
+}
+
+impl PatternTable {
+    /// A table of no names, in which nothing is known. Takes no memory.
+    pub fn none(alloc: Global) -> PatternTable
+        ensures { result ≡ no_table }
+    {
+        PatternTable {
+            names: SortedNames::none(alloc),
+            patterns: 0,
+            rows: Vec::new(alloc),
+        }
+    }
+
+    /// Whether the pattern matches the name at the place, and `None` where that is not known: the match was left
+    /// unfinished, or no name stands there. Takes no memory.
+    #[inline(always)]
+    pub fn known(&self, place: usize, index: usize) -> Option<bool>
+        ensures { known_says result ≡ table_says self.now place index }
+    {
+        match self.rows.get(place) {
+            Some(row) => row.known(index),
+            None => None,
+        }
+    }
+
+    /// Whether the name is one of the table and the pattern matches it. Takes no memory.
+    pub fn is_matched(&self, name: &str, index: usize) -> bool
+        ensures { result ≡ matched_in self.now name.now index }
+    {
+        match self.names.find(name) {
+            Some(place) => matches!(self.known(place, index), Some(true)),
+            None => false,
+        }
+    }
+
+    /// Whether the name is one of the table and the pattern was left unfinished at it. Takes no memory.
+    pub fn is_unfinished(&self, name: &str, index: usize) -> bool
+        ensures { result ≡ unfinished_in self.now name.now index }
+    {
+        match self.names.find(name) {
+            Some(place) => self.known(place, index).is_none(),
+            None => false,
+        }
+    }
+
+    /// The patterns that match the name and those that were left unfinished at it, in ascending order; none for a name
+    /// that is not one of the table.
+    ///
+    /// # Errors
+    ///
+    /// Want of memory.
+    pub fn indices(&self, alloc: Global, name: &str) -> Result<Vec<PatternIndex>, AllocError>
+        ensures { IfOk result (λ indices. indices.items ≡ indices_in self.now name.now) }
+    {
+        match self.names.find(name) {
+            Some(place) => Ok(self.indices_at(alloc, place)?),
+            None => Ok(Vec::new(alloc)),
+        }
+    }
+
+    // The patterns that match the name at the place, and those that were left unfinished at it.
+    fn indices_at(&self, alloc: Global, place: usize) -> Result<Vec<PatternIndex>, AllocError>
+        ensures { IfOk result (λ indices. indices.items
+            ≡ indices_below (table_says self.now place) self.now.patterns) }
+    {
+        let mut indices = Vec::new(alloc);
+        for index in 0..self.patterns {
+            if let Some(entry) = self.index_at(place, index) {
+                indices.push(entry)?;
+            }
+        }
+        Ok(indices)
+    }
+
+    // The pattern, if it matches the name at the place or was left unfinished at it.
+    fn index_at(&self, place: usize, index: usize) -> Option<PatternIndex>
+        ensures { result ≡ index_said index (table_says self.now place index) }
+    {
+        match self.known(place, index) {
+            Some(false) => None,
+            known => Some(PatternIndex {
+                index,
+                finished: known.is_some(),
+            }),
+        }
+    }
+}
+
+/// The table of the names of an object's members: each pattern is asked once of each name.
+///
+/// Of the counts only that of matchers that were asked rises: by the names times the patterns that cost.
+///
+/// # Errors
+///
+/// Want of memory. No more is counted then.
+pub fn precompute_property_pattern_indices<R: RegexEngine>(
+    alloc: Global,
+    properties: &Map<String, Value>,
+    patterns: &[CompiledPattern<R>],
+    meter: &mut Meter,
+) -> Result<PatternTable, AllocError>
+    ensures names { IfOk result (λ t. t.names ≡ map (λ m. m.0)
+        (listed (members_view properties.now.entries))) }
+    ensures patterns { IfOk result (λ t. t.patterns ≡ length patterns.now) }
+    ensures answers { IfOk result (λ t. IsTableOf R.answers patterns.now t) }
+    ensures nothing_else { IfOk result
+        (λ t. (p i : ℕ) → length t.names ≤ p → table_says t p i ≡ unfinished) }
+    ensures asked { OnOk result (meter.new ≡ count_asks
+        (length (listed (members_view properties.now.entries)) * how_many_cost R.costs patterns.now)
+        meter.old) }
+    ensures asked_at_most { OnErr result (AsksAtMost
+        (length (listed (members_view properties.now.entries)) * how_many_cost R.costs patterns.now)
+        meter.old meter.new) }
+{
+    let names = SortedNames::of(alloc, properties)?;
+    let rows = rows_of(alloc, names.as_slice(), patterns, meter)?;
+    Ok(PatternTable {
+        names,
+        patterns: patterns.len(),
+        rows,
+    })
+}
+
+// A row for each name: each pattern is asked once of each, on the meter.
+fn rows_of<R: RegexEngine>(
+    alloc: Global,
+    names: &[String],
+    patterns: &[CompiledPattern<R>],
+    meter: &mut Meter,
+) -> Result<Vec<PatternRow>, AllocError>
+    ensures answers { IfOk result (λ rows. AllZip (IsRowOf R.answers patterns.now)
+        (map string_bytes names.now) rows.items) }
+    ensures asked { OnOk result (meter.new
+        ≡ count_asks (length names.now * how_many_cost R.costs patterns.now) meter.old) }
+    ensures asked_at_most { OnErr result (AsksAtMost
+        (length names.now * how_many_cost R.costs patterns.now) meter.old meter.new) }
+{
+    let mut rows = Vec::with_capacity(alloc, names.len())?;
+    for name in names {
+        rows.push(row_of(alloc, name.as_str(), patterns, meter)?)?;
+    }
+    Ok(rows)
+}
+
+// The row of a name: each pattern is asked of it once, on the meter, once there is memory for the row.
+fn row_of<R: RegexEngine>(
+    alloc: Global,
+    name: &str,
+    patterns: &[CompiledPattern<R>],
+    meter: &mut Meter,
+) -> Result<PatternRow, AllocError>
+    ensures answers { IfOk result (IsRowOf R.answers patterns.now name.now) }
+    ensures asked { OnOk result
+        (meter.new ≡ count_asks (how_many_cost R.costs patterns.now) meter.old) }
+    ensures unasked { OnErr result (meter.new ≡ meter.old) }
+{
+    let mut row = PatternRow::unmatched(alloc, patterns.len())?;
+    for (index, pattern) in patterns.iter().enumerate() {
+        row.note(index, pattern.is_match(name, meter));
+    }
+    Ok(row)
+}
+
+// What patterns say of one name: those that match it, and those that were left unfinished at it.
+#[derive(Drop)]
+struct PatternRow {
+    matched: Vec<u64>,
+    unfinished: Vec<u64>,
+}
+
+impl Model for PatternRow {
+    ghost use Rattle.olk_tree.specs.Tables.{Row};
+
+    ghost Value = { Row };
+
+    ghost view = { λ r. record { matched = r.matched.items; unfinished = r.unfinished.items } };
+}
+
+impl PatternRow {
+    // So many patterns, none of which matches.
+    fn unmatched(alloc: Global, patterns: usize) -> Result<PatternRow, AllocError>
+        ensures unmatched { IfOk result (λ r. (i : ℕ) → row_says r i ≡ unmatched) }
+        ensures words { IfOk result (λ r. (i : ℕ) → i < patterns → HasWord i r) }
+    {
+        let words = patterns.div_ceil(WORD_BITS);
+        Ok(PatternRow {
+            matched: vec![in alloc; 0; words]?,
+            unfinished: vec![in alloc; 0; words]?,
+        })
+    }
+
+    // Whether the pattern matches. `None` where it was left unfinished.
+    #[inline(always)]
+    fn known(&self, index: usize) -> Option<bool>
+        ensures { known_says result ≡ row_says self.now index }
+    {
+        if has_bit(&self.unfinished, index) {
+            None
+        } else {
+            Some(has_bit(&self.matched, index))
+        }
+    }
+
+    // Notes what a pattern says of which nothing was noted.
+    fn note(&mut self, index: usize, answer: Result<bool, Unfinished>)
+        requires word { HasWord index self.old }
+        requires unmatched { row_says self.old index ≡ unmatched }
+        ensures noted { row_says self.new index ≡ said answer }
+        ensures others { (i : ℕ) → i ≢ index → row_says self.new i ≡ row_says self.old i }
+        ensures words { (i : ℕ) → HasWord i self.old → HasWord i self.new }
+    {
+        match answer {
+            Ok(true) => set_bit(&mut self.matched, index),
+            Ok(false) => {}
+            Err(_) => set_bit(&mut self.unfinished, index),
+        }
+    }
+}
+
+// Whether the pattern's bit is set.
+#[inline(always)]
+fn has_bit(words: &[u64], index: usize) -> bool
+    ensures { result ≡ has_bit words.now index }
+{
+    match words.get(index / WORD_BITS) {
+        Some(word) => (word >> (index % WORD_BITS)) & 1 == 1,
+        None => false,
+    }
+}
+
+// Sets the pattern's bit.
+fn set_bit(words: &mut [u64], index: usize)
+    requires { index / 64 < length words.old }
+    ensures length { length words.new ≡ length words.old }
+    ensures set { has_bit words.new index ≡ true }
+    ensures others { (i : ℕ) → i ≢ index → has_bit words.new i ≡ has_bit words.old i }
+{
+    words[index / WORD_BITS] |= 1 << (index % WORD_BITS);
+}
