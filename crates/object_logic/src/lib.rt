@@ -6,6 +6,7 @@
 mod numbers;
 mod validate;
 mod validator;
+mod validators;
 
 pub use numbers::holds_whole_numbers;
 pub use olk_base::{
@@ -14,10 +15,10 @@ pub use olk_base::{
     ValidationContext, analyze_pattern, compile_pattern, contains_ecma_whitespace,
 };
 pub use olk_build::{
-    Context, all_of, any_of, compile, dependencies, if_, not, one_of, pattern_properties,
-    properties, property_dependencies, property_names, required,
+    Context, additional_properties, all_of, any_of, compile, dependencies, if_, not, one_of,
+    pattern_properties, properties, property_dependencies, property_names, required,
 };
-pub use olk_check::IsValid;
+pub use olk_check::{DEFERRED_MEMBERS, IsValid, are_properties_valid};
 pub use olk_errors::Errors;
 pub use olk_evaluate::{Evaluate, Located};
 pub use olk_node::{
@@ -36,6 +37,15 @@ pub use olk_reports::{
 };
 pub use olk_spec::HASHMAP_THRESHOLD;
 pub use olk_tree::property_names::PropertyNamesFalse as PropertyNamesBooleanValidator;
-pub use olk_tree::{Means, PropertiesValidatorsMap, Reports, RequiredValidator, SortedNames};
+pub use olk_tree::{
+    Means, PropertiesValidatorsMap, Reports, RequiredValidator, SortedNames, pattern_table,
+};
 pub use validate::Validate;
 pub use validator::Validator;
+pub use validators::{
+    AdditionalPropertiesFalseValidator, AdditionalPropertiesNotEmptyFalseValidator,
+    AdditionalPropertiesNotEmptyFalseWithRequired1Validator, AdditionalPropertiesNotEmptyValidator,
+    AdditionalPropertiesValidator, AdditionalPropertiesWithPatternsFalseValidator,
+    AdditionalPropertiesWithPatternsNotEmptyFalseValidator,
+    AdditionalPropertiesWithPatternsNotEmptyValidator, AdditionalPropertiesWithPatternsValidator,
+};

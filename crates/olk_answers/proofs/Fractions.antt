@@ -1,18 +1,18 @@
 -- A malformation of a schema that has no fraction prints none.
-use Rattle.std.proofs.Common.{◌≡◌, Bool, true, false, not, List, [], ◌∷◌, ◌++◌, map, refl, codes}
+use Rattle.std.proofs.Common.{◌≡◌, Bool, true, false, not, List, [], ◌∷◌, map, refl, codes}
 use Rattle.std.specs.List.{AllByRecursion, Contains}
 use Rattle.std.proofs.lemmas.List.Elements.{All-from_recursion, All-contains}
 use Rattle.serde_json.specs.Data.{Data, null, boolean, number, string, array, object, Items, no_items, item, Members, no_members, member}
 use Rattle.serde_json.specs.Written.{has_float, items_have_float, members_have_float}
 use Rattle.olk_spec.proofs.Walks.{neither}
-use Rattle.olk_spec.specs.Names.{Name, Path, ◌//◌, down, is_among, those, put_if}
+use Rattle.olk_spec.specs.Names.{Name, Path, ◌//◌, down, those, put_if}
 use Rattle.olk_spec.specs.World.{World}
 use Rattle.olk_spec.specs.Vocabulary.{Keyword, properties, pattern_properties, additional_properties, property_names, required, dependent_required, dependent_schemas, dependencies, property_dependencies, all_of, any_of, one_of, not_keyword, if_keyword, then_keyword, else_keyword, unsupported, leaf, unread, keyword_named}
 use Rattle.olk_spec.specs.Schemas.{Sub, Part, Keywords, is_object, is_array, is_present, texts, read_members}
 use Rattle.olk_spec.specs.Meanings.{is_conditional}
 use Rattle.olk_spec.specs.Asks.{open_patterns}
-use Rattle.olk_spec.specs.Faults.{Fault, SingleType, UniqueItems, Regex, Unsupported, string_type}
-use Rattle.olk_spec.specs.Malformed.{each, places_where, read_places, refusal, first_of_list, items_list, items_of_array, is_text, not_a_text, has_repeat, or_else_list, unless_object, unless_array, name_list_refusals, own_refusals, keyword_malformations, malformations_step, malformations_beside, malformations, pending}
+use Rattle.olk_spec.specs.Faults.{Fault, SingleType, UniqueItems, Regex, string_type}
+use Rattle.olk_spec.specs.Malformed.{each, places_where, read_places, refusal, first_of_list, items_list, items_of_array, is_text, not_a_text, has_repeat, or_else_list, unless_object, unless_array, name_list_refusals, own_refusals, keyword_malformations, malformations_step, malformations_at, malformations}
 use Rattle.olk_spec.proofs.Each.{Each, Each-append, Each-those, Each-any, Each-map, Each-flat_map, Each-implies}
 use Rattle.olk_spec.proofs.Induction.{schema_read, EachItem, EachMember, GoodEntry, GoodInner, GoodPart, GoodSchema, sound_answer, branches_good}
 use Rattle.olk_spec.specs.Texts.{prints_fraction}
@@ -140,32 +140,29 @@ module _ (W : World) where
   own_prints k p P h else_keyword = tt
   own_prints k p P h unread = tt
 
-  module _ (refused : List Name) where
-    keyword_prints : (S : Keywords Told) (k : Name) (p : Part Told) (P : Path) → GoodPart Good p → (w : Keyword) → Each PrintsNone (keyword_malformations W refused S k p P w)
-    keyword_prints S k p P h w =
-        Each-append PrintsNone (put_if (is_among k refused) (refusal (Unsupported k) p.whole.schema (P // k)) [] ++ own_refusals W k p (P // k) w) _
-        (Each-append PrintsNone (put_if (is_among k refused) (refusal (Unsupported k) p.whole.schema (P // k)) []) _
-        (put_prints (is_among k refused) _ refl)
-        (own_prints k p (P // k) h w))
-        (Each-flat_map PrintsNone (λ r. r.0.answer (down P r.1)) (read_places k S p w)
-        (Each-implies GoodPlace _ (λ r g. g.1 (down P r.1)) (read_places k S p w) (places_good k S p h w)))
+  keyword_prints : (S : Keywords Told) (k : Name) (p : Part Told) (P : Path) → GoodPart Good p → (w : Keyword) → Each PrintsNone (keyword_malformations W S k p P w)
+  keyword_prints S k p P h w =
+      Each-append PrintsNone (own_refusals W k p (P // k) w) _
+      (own_prints k p (P // k) h w)
+      (Each-flat_map PrintsNone (λ r. r.0.answer (down P r.1)) (read_places k S p w)
+      (Each-implies GoodPlace _ (λ r g. g.1 (down P r.1)) (read_places k S p w) (places_good k S p h w)))
 
-    step_prints : (d : Data) → IsPlain d → GoodSchema Good (schema_read (malformations_step W refused) d) → Good d (malformations_step W refused (schema_read (malformations_step W refused) d))
-    step_prints null s g = (s, λ P. (refl, tt))
-    step_prints (boolean b) s g = (s, λ P. tt)
-    step_prints (number n) s g = (s, λ P. (s, tt))
-    step_prints (string t) s g = (s, λ P. (refl, tt))
-    step_prints (array ds) s g = (s, λ P. (s, tt))
-    step_prints (object ms) s g =
-        let S : Keywords Told = read_members (malformations_step W refused) ms in (
-          s,
-          λ P. Each-flat_map PrintsNone (λ m. keyword_malformations W refused S m.0 m.1 P (keyword_named W m.0)) S
-              (Each-implies (λ m. GoodPart Good m.1) _ (λ m h. keyword_prints S m.0 m.1 P h (keyword_named W m.0)) S g),
-        )
+  step_prints : (d : Data) → IsPlain d → GoodSchema Good (schema_read (malformations_step W) d) → Good d (malformations_step W (schema_read (malformations_step W) d))
+  step_prints null s g = (s, λ P. (refl, tt))
+  step_prints (boolean b) s g = (s, λ P. tt)
+  step_prints (number n) s g = (s, λ P. (s, tt))
+  step_prints (string t) s g = (s, λ P. (refl, tt))
+  step_prints (array ds) s g = (s, λ P. (s, tt))
+  step_prints (object ms) s g =
+      let S : Keywords Told = read_members (malformations_step W) ms in (
+        s,
+        λ P. Each-flat_map PrintsNone (λ m. keyword_malformations W S m.0 m.1 P (keyword_named W m.0)) S
+            (Each-implies (λ m. GoodPart Good m.1) _ (λ m h. keyword_prints S m.0 m.1 P h (keyword_named W m.0)) S g),
+      )
 
-    each_prints : (S : Data) → IsPlain S → (P : Path) → Each PrintsNone (malformations_beside W refused S P)
-    unfolding malformations_beside
-    each_prints S s P = (sound_answer Good IsPlain each_item each_member (malformations_step W refused) step_prints S s).1 P
+  each_prints : (S : Data) → IsPlain S → (P : Path) → Each PrintsNone (malformations_at W S P)
+  unfolding malformations_at
+  each_prints S s P = (sound_answer Good IsPlain each_item each_member (malformations_step W) step_prints S s).1 P
 
 pub by_recursion : (fs : List Fault) → Each PrintsNone fs → AllByRecursion PrintsNone fs
 by_recursion [] h = tt
@@ -173,4 +170,4 @@ by_recursion (f ∷ fs) h = (h.0, by_recursion fs h.1)
 
 pub malformation_prints_no_fraction : (W : World) (S : Data) → has_float S ≡ false → (f : Fault) → Contains (malformations W S) f → prints_fraction f ≡ false
 malformation_prints_no_fraction W S s f c =
-    All-contains PrintsNone (malformations W S) f (All-from_recursion PrintsNone (malformations W S) (by_recursion (malformations W S) (each_prints W pending S s []))) c
+    All-contains PrintsNone (malformations W S) f (All-from_recursion PrintsNone (malformations W S) (by_recursion (malformations W S) (each_prints W S s []))) c

@@ -12,7 +12,7 @@ use Rattle.olk_spec.specs.Names.{Name, Path, ◌//◌, put_if}
 use Rattle.olk_spec.specs.Faults.{Fault, fault, MultipleTypes, ◌∼◌, like_through}
 use Rattle.olk_spec.specs.Schemas.{listed, members, numbered, is_array}
 use Rattle.olk_spec.specs.Vocabulary.{keyword_named}
-use Rattle.olk_spec.specs.Malformed.{malformations_beside}
+use Rattle.olk_spec.specs.Malformed.{malformations_at}
 use Rattle.olk_spec.specs.Meaning.{meaning, accepts, asks, report, tree}
 use Rattle.olk_spec.specs.Costs.{Cost, cost, ◌⊕◌, total_cost, one_place}
 use Rattle.olk_spec.specs.Tree.{plain}
@@ -26,7 +26,7 @@ use Rattle.olk_base.specs.Kit.{Kit}
 use Rattle.olk_tree.specs.Answers.{validator_means, validator_report, body_means, body_report, validator_tree, body_tree}
 use Rattle.olk_node.specs.Nodes.{answers}
 use Rattle.olk_node.specs.Stands.{StandsFor}
-use Rattle.olk_members.specs.Members.{malformations_at, member_malformations, member_cost}
+use Rattle.olk_members.specs.Members.{member_malformations, member_cost}
 use Rattle.std.specs.Prelude.{Vec}
 use Rattle.std.specs.declared.alloc.Global.{Global}
 use Rattle.olk_spec.specs.World.{World}
@@ -44,7 +44,6 @@ use Rattle.olk_node.specs.declared.node.SchemaNode.{SchemaNode, out-SchemaNode}
 use Rattle.olk_node.proofs.Layers.{node_means, node_finds, node_shows, node_location}
 use Rattle.olk_spec.proofs.CostSums.{sum_last, total_cost-append}
 use Rattle.olk_read.proofs.Spending.{spends_nothing, spends_append, spends_same, spends_place, within_after, within_same, within_exactly, tells_same}
-use Rattle.olk_members.proofs.Clean.{unrestricted}
 use Rattle.olk_members.proofs.Objects.{IsNoSchema, no_schema_malformed, no_schema_cost, object_accepts, object_asks, object_report, object_tree, object_malformed, object_cost}
 
 abbrev pub truth_body : {W : Type 0} → Bool → Body W
@@ -87,7 +86,7 @@ module _ {K R : Type 0} (o : Kit K R) where
 
   module _ (n : SchemaNode K R) (P : Path) (d : Data) (a m : Counts) (at : (out-SchemaNode K R n).location ≡ P) (c : m ≡ count_compiled a) where
     pub built_truth : (t : Bool) → (out-SchemaNode K R n).body ≡ truth_body t → d ≡ boolean t → IsBuilt o n d P a m
-    unfolding meaning malformations_beside cost
+    unfolding meaning malformations_at cost
     built_truth true b e = subst (λ x. IsBuilt o n x P a m) (sym e) record {
       stands = record {
         verdict = λ u v. ap (λ q. q.accepts u) (node_means o n v ∙ ap (λ y. body_means (validator_means o (λ z. (answers o z).means)) y v) b);
@@ -115,7 +114,7 @@ module _ {K R : Type 0} (o : Kit K R) where
     built_object ms ks z b e h clean spent = subst (λ x. IsBuilt o n x P a z) (sym e) record {
       stands = record {
         verdict = λ u v. ap (λ q. q.accepts u) (node_means o n v ∙ ap (λ y. body_means (validator_means o (λ z. (answers o z).means)) y v) b) ∙ h.covers.verdict u v ∙ sym (object_accepts o.world ms u v);
-        asks_within = λ u v. let q = ap (λ q. q.asks u) (node_means o n v ∙ ap (λ y. body_means (validator_means o (λ z. (answers o z).means)) y v) b) in let r = h.covers.asks_within (unrestricted o.world ms P clean) u v in let t = object_asks o.world ms u v in omega (arith, q, r, t);
+        asks_within = λ u v. let q = ap (λ q. q.asks u) (node_means o n v ∙ ap (λ y. body_means (validator_means o (λ z. (answers o z).means)) y v) b) in let r = h.covers.asks_within u v in let t = object_asks o.world ms u v in omega (arith, q, r, t);
         faults = λ u v Q. like_through (∼_same (node_finds o n u v Q ∙ ap (λ y. body_report (validator_report o (λ z. (answers o z).means) (λ z. (answers o z).report) u) (out-SchemaNode K R n).location y v Q) b)) (like_through (h.covers.faults u v Q) (∼_same (sym (object_report o.world ms u v P Q))));
         evaluation = λ u v Q. node_shows o n u v Q ∙ (λ i. body_tree (validator_tree o (λ z. (answers o z).means) (λ z. (answers o z).tree) u) (at i) (b i) v Q) ∙ ap (plain P Q) (h.shows clean u v Q) ∙ sym (object_tree o.world ms u v P Q);
         place = node_location o n ∙ at;

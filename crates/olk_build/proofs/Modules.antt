@@ -1,5 +1,5 @@
 -- What a keyword's module builds of the keyword's part.
-use Rattle.std.specs.Prelude.{◌≡◌, ℕ, suc, ◌+◌, Bool, true, false, List, [], ◌∷◌, map, zip, length, codes, Option, Some, Vec, String}
+use Rattle.std.specs.Prelude.{◌≡◌, ℕ, suc, ◌+◌, ◌&&◌, ◌||◌, Bool, true, false, cond, List, [], ◌∷◌, map, zip, length, codes, Option, Some, Vec, String}
 use Rattle.std.specs.List.{enumerate_from}
 use Rattle.std.specs.declared.alloc.Global.{Global}
 use Rattle.std.specs.declared.alloc.AllocError.{AllocError}
@@ -11,7 +11,7 @@ use Rattle.serde_json.specs.Data.{Data, Members, no_members}
 use Rattle.serde_json.specs.View.{view}
 use Rattle.serde_json.specs.declared.value.Value.{Value}
 use Rattle.olk_spec.specs.Names.{Name, Path, ◌//◌, lookup}
-use Rattle.olk_spec.specs.Vocabulary.{Keyword, properties, pattern_properties, required, dependent_required, dependent_schemas, dependencies, property_names, property_dependencies, all_of, any_of, one_of, not_keyword, if_keyword, then_keyword, else_keyword, leaf, unread, keyword_named}
+use Rattle.olk_spec.specs.Vocabulary.{Keyword, properties, pattern_properties, additional_properties, required, dependent_required, dependent_schemas, dependencies, property_names, property_dependencies, all_of, any_of, one_of, not_keyword, if_keyword, then_keyword, else_keyword, leaf, unread, keyword_named}
 use Rattle.olk_spec.specs.Schemas.{listed, members, numbered}
 use Rattle.olk_spec.specs.Malformed.{has_repeat, items_of_array}
 use Rattle.olk_base.specs.Count.{Counts}
@@ -21,7 +21,9 @@ use Rattle.olk_base.specs.Kit.{Kit}
 use Rattle.olk_node.specs.declared.node.SchemaNode.{SchemaNode}
 use Rattle.olk_tree.specs.declared.node.KeywordOver.{KeywordOver}
 use Rattle.olk_tree.specs.declared.node.KeywordOver.TheVariants as keyword
-use Rattle.olk_members.specs.Conditions.{is_condition, is_conditional_name, is_read_beside, is_restricted, IsKnown}
+use Rattle.olk_members.specs.AdditionalProperties.{declared_beside}
+use Rattle.olk_members.specs.Conditions.{Known, known_of, is_conditional_name, is_read_beside, is_restricted, IsKnown}
+use Rattle.olk_tree.specs.Tables.{Table}
 use Rattle.olk_members.specs.Members.{member_malformations, member_cost}
 use Rattle.olk_members.proofs.Conditions.{known_alone}
 use Rattle.olk_base.specs.declared.pattern.CompiledPattern.{CompiledPattern}
@@ -32,7 +34,7 @@ use Rattle.olk_make.specs.Forms.{IsFormOfAllOf, IsFormOfAnyOf, IsFormOfOneOf, Is
 use Rattle.olk_make.specs.Holding.{StandEach, which}
 use Rattle.olk_build.specs.Building.{RefusesMember, RefusesPart, RefusesFreeMember}
 use Rattle.olk_read.specs.Reading.{reads_of, IsShape}
-use Rattle.olk_make.specs.Standing.{StandAt, PartStands}
+use Rattle.olk_make.specs.Standing.{StandAt, is_taken, PartStands}
 use Rattle.olk_build.specs.Placing.{IsPart}
 use Rattle.olk_make.specs.Making.{KeywordsMean, MakesMember, MakesClaims}
 use Rattle.olk_build.specs.Parts.{MemberIsBuilt, ClaimsAreBuilt}
@@ -45,7 +47,7 @@ use Rattle.olk_read.proofs.Spending.{spends_same, refuses_memory, within_exactly
 use Rattle.olk_make.proofs.Makes.{makes_required}
 
 -- keywords that differ have other numbers
-abbrev number_of : Keyword → ℕ
+abbrev pub number_of : Keyword → ℕ
 number_of properties = 0
 number_of pattern_properties = 1
 number_of required = 2
@@ -57,7 +59,8 @@ number_of all_of = 7
 number_of any_of = 8
 number_of one_of = 9
 number_of not_keyword = 10
-number_of w = 11
+number_of additional_properties = 11
+number_of w = 12
 
 -- ---- how many
 
@@ -93,9 +96,12 @@ module _ {K R : Type 0} (o : Kit K R) where
 
   -- ---- the shape, by the name
 
-  abbrev which_of : Shape K R → Keyword
+  abbrev pub which_of : Shape K R → Keyword
   which_of (shape.Properties n) = properties
-  which_of (shape.PatternProperties v) = pattern_properties
+  which_of (shape.PatternProperties v t) = pattern_properties
+  which_of shape.AdditionalProperties = additional_properties
+  which_of shape.NoOthers = additional_properties
+  which_of shape.AnyOthers = additional_properties
   which_of (shape.Required v) = required
   which_of (shape.DependentRequired n v) = dependent_required
   which_of (shape.DependentSchemas n) = dependent_schemas
@@ -115,9 +121,12 @@ module _ {K R : Type 0} (o : Kit K R) where
   which_of (shape.Leaf l) = leaf
   which_of shape.Unread = unread
 
-  shape_named : (x : Shape K R) (k : Name) (d : Data) → IsShape o k d x → is_conditional_name k ≡ false → keyword_named o.world k ≡ which_of x
+  pub shape_named : (x : Shape K R) (k : Name) (d : Data) → IsShape o k d x → is_conditional_name k ≡ false → keyword_named o.world k ≡ which_of x
   shape_named (shape.Properties n) k d s other = ap (keyword_named o.world) s.0
-  shape_named (shape.PatternProperties v) k d s other = ap (keyword_named o.world) s.0
+  shape_named (shape.PatternProperties v t) k d s other = ap (keyword_named o.world) s.0
+  shape_named shape.AdditionalProperties k d s other = ap (keyword_named o.world) s.0
+  shape_named shape.NoOthers k d s other = ap (keyword_named o.world) s.0
+  shape_named shape.AnyOthers k d s other = ap (keyword_named o.world) s.0
   shape_named (shape.Required v) k d s other = ap (keyword_named o.world) s.0
   shape_named (shape.DependentRequired n v) k d s other = ap (keyword_named o.world) s.0
   shape_named (shape.DependentSchemas n) k d s other = ap (keyword_named o.world) s.0
@@ -153,12 +162,12 @@ module _ {K R : Type 0} (o : Kit K R) where
   only_not (shape.Not v) e = (v, refl)
   only_not x e = absurd (let q = ap number_of e in omega (arith, q))
 
-  only_properties : (x : Shape K R) → properties ≡ which_of x → (n : List Name) × (x ≡ shape.Properties n)
+  pub only_properties : (x : Shape K R) → properties ≡ which_of x → (n : List Name) × (x ≡ shape.Properties n)
   only_properties (shape.Properties n) e = (n, refl)
   only_properties x e = absurd (let q = ap number_of e in omega (arith, q))
 
-  only_pattern_properties : (x : Shape K R) → pattern_properties ≡ which_of x → (v : Vec (CompiledPattern R) Global) × (x ≡ shape.PatternProperties v)
-  only_pattern_properties (shape.PatternProperties v) e = (v, refl)
+  pub only_pattern_properties : (x : Shape K R) → pattern_properties ≡ which_of x → (v : Vec (CompiledPattern R) Global) × (t : Table) × (x ≡ shape.PatternProperties v t)
+  only_pattern_properties (shape.PatternProperties v t) e = (v, t, refl)
   only_pattern_properties x e = absurd (let q = ap number_of e in omega (arith, q))
 
   only_required : (x : Shape K R) → required ≡ which_of x → (v : Vec (String Global) Global) × (x ≡ shape.Required v)
@@ -184,8 +193,8 @@ module _ {K R : Type 0} (o : Kit K R) where
   -- ---- a part at its name, below P
 
   -- in an object of which it knows enough
-  module _ (p : Part K R (SchemaNode K R)) (c : Bool) (k : Name) (d : Data) (P : Path) (a b : Counts) (h : IsPart o p c k d (P // k) a b) (ms : Members) (known : IsKnown c ms k) where
-    stands_there : PartStands o (is_condition ms) p (k, d) P
+  module _ (p : Part K R (SchemaNode K R)) (c : Known) (k : Name) (d : Data) (P : Path) (a b : Counts) (h : IsPart o p c k d (P // k) a b) (ms : Members) (known : IsKnown c ms k) where
+    stands_there : PartStands o (known_of ms) p (k, d) P
     stands_there = (h ms P refl known).stand.0
 
     built_there : (ks : List (KeywordOver K R (SchemaNode K R))) → MakesMember o p.shape p.location p.nodes.items ks → (Q : Path) → P // k ≡ Q // k → MemberIsBuilt o ms ks (k, d) Q a b
@@ -203,22 +212,22 @@ module _ {K R : Type 0} (o : Kit K R) where
     memory_there e m q Q f = refuses_memory _ _ a b e m q (within_exactly a b _ (spends_same a b _ _ (sum_last _) (h ms Q f known).spends))
 
   -- in any object
-  module _ (p : Part K R (SchemaNode K R)) (c : Bool) (k : Name) (d : Data) (P : Path) (a b : Counts) (h : IsPart o p c k d (P // k) a b) (other : is_read_beside k ≡ false) where
+  module _ (p : Part K R (SchemaNode K R)) (c : Known) (k : Name) (d : Data) (P : Path) (a b : Counts) (h : IsPart o p c k d (P // k) a b) (other : is_read_beside k ≡ false) where
     known : (ms : Members) → IsKnown c ms k
     known ms = known_alone c ms k other
 
-    stands : PartStands o (is_condition no_members) p (k, d) P
+    stands : PartStands o (known_of no_members) p (k, d) P
     stands = stands_there p c k d P a b h no_members (known no_members)
 
     member_built : (ks : List (KeywordOver K R (SchemaNode K R))) → MakesMember o p.shape p.location p.nodes.items ks → (ms : Members) (Q : Path) → P // k ≡ Q // k → MemberIsBuilt o ms ks (k, d) Q a b
     member_built ks make ms Q e = built_there p c k d P a b h ms (known ms) ks make Q e
 
-    claims_built : (ks : List (KeywordOver K R (SchemaNode K R))) (q : Planned) → MakesClaims o p.shape p.location p.nodes.items P q ks → (ms : Members) → has_repeat (map (λ m. m.0) (listed ms)) ≡ false → q ≡ plan_of ms → lookup k (listed ms) ≡ Some d → ClaimsAreBuilt o ms ks (k, d) P a b
-    claims_built ks q make ms distinct chosen there =
+    claims_built : (ks : List (KeywordOver K R (SchemaNode K R))) (q : Planned) → MakesClaims o p.shape p.location p.nodes.items P q ks → (ms : Members) → has_repeat (map (λ m. m.0) (listed ms)) ≡ false → q ≡ plan_of ms → is_taken q k ≡ false → lookup k (listed ms) ≡ Some d → ClaimsAreBuilt o ms ks (k, d) P a b
+    claims_built ks q make ms distinct chosen untaken there =
         let built = h ms P refl (known ms) in
         let s = built.stand.0 in
         record {
-          means = subst (λ r. KeywordsMean o ms ks (claims (head r) (listed ms) (k, d)) ((k, d) ∷ []) P) chosen (make ms (k, d) s.place s.shape (subst (StandAt o (reads_of p.shape) p.nodes.items d) (sym s.place) s.nodes) distinct there chosen);
+          means = subst (λ r. KeywordsMean o ms ks (claims (head r) (listed ms) (k, d)) ((k, d) ∷ []) P) chosen (make ms (k, d) s.place s.shape (subst (StandAt o (reads_of p.shape) p.nodes.items d) (sym s.place) s.nodes) distinct there chosen untaken);
           clean = sym (append-nil _) ∙ built.clean;
           spends = spends_same a b _ _ (sum_last _) built.spends;
         }
@@ -243,7 +252,7 @@ module _ {K R : Type 0} (o : Kit K R) where
 
   -- ---- keyword by keyword
 
-  module _ (p : Part K R (SchemaNode K R)) (c : Bool) (d : Data) (P : Path) (a b : Counts) where
+  module _ (p : Part K R (SchemaNode K R)) (c : Known) (d : Data) (P : Path) (a b : Counts) where
     module _ (h : IsPart o p c (codes "allOf") d (P // codes "allOf") a b) where
       all_of_shape : p.shape ≡ shape.AllOf
       all_of_shape = only_all_of p.shape (shape_named p.shape (codes "allOf") d (stands p c (codes "allOf") d P a b h refl).shape refl)
@@ -329,9 +338,16 @@ module _ {K R : Type 0} (o : Kit K R) where
       pub properties_memory : (e : BuildError) (m : AllocError) → e ≡ Memory m → RefusesMember o (codes "properties") d (P // codes "properties") a b e
       properties_memory = memory_after p c (codes "properties") d P a b h refl
 
-      module _ (n : List Name) (q : p.shape ≡ shape.Properties n) (ms : Members) (r : Planned) (chosen : r ≡ plan_of ms) where
+      module _ (n : List Name) (q : p.shape ≡ shape.Properties n) (ms : Members) (r : Planned) (chosen : r ≡ plan_of ms) (free : r.restricted ≡ false) where
+        untaken : is_taken r (codes "properties") ≡ false
+        untaken = (λ i. (free i && true) || (r.condition && false)) ∙ never r.condition
+          where
+            never : (b : Bool) → (b && false) ≡ false
+            never true = refl
+            never false = refl
+
         pub properties_built : (ks : List (KeywordOver K R (SchemaNode K R))) → MakesClaims o (shape.Properties n) p.location p.nodes.items P r ks → has_repeat (map (λ m. m.0) (listed ms)) ≡ false → lookup (codes "properties") (listed ms) ≡ Some d → ClaimsAreBuilt o ms ks (codes "properties", d) P a b
-        properties_built ks make distinct there = claims_built p c (codes "properties") d P a b h refl ks r (subst (λ x. MakesClaims o x p.location p.nodes.items P r ks) (sym q) make) ms distinct chosen there
+        properties_built ks make distinct there = claims_built p c (codes "properties") d P a b h refl ks r (subst (λ x. MakesClaims o x p.location p.nodes.items P r ks) (sym q) make) ms distinct chosen untaken there
 
         properties_counted : length n ≡ length (members d)
         properties_counted = ap length (shape_is p c (codes "properties") d P a b h refl _ q).2 ∙ length-map (members d) (λ e. e.0)
@@ -369,33 +385,36 @@ module _ {K R : Type 0} (o : Kit K R) where
 
   -- ---- patterns, where nothing is restricted
 
-  zip_length : (ps : List (CompiledPattern R)) (ns : List (SchemaNode K R)) (es : List (Name × Data)) (L : Path) → ArePatterns o ps es → StandEach o ns es L → length (zip ps ns) ≡ length es
+  pub zip_length : (ps : List (CompiledPattern R)) (ns : List (SchemaNode K R)) (es : List (Name × Data)) (L : Path) → ArePatterns o ps es → StandEach o ns es L → length (zip ps ns) ≡ length es
   zip_length [] ns [] L h s = refl
   zip_length [] ns (e ∷ es) L h s = absurd h
   zip_length (p ∷ ps) ns [] L h s = absurd h
   zip_length (p ∷ ps) [] (e ∷ es) L h s = absurd s
   zip_length (p ∷ ps) (n ∷ ns) (e ∷ es) L h s = ap (λ k. suc k) (zip_length ps ns es L h.1 s.1)
 
-  patterns_known : (c : Bool) (ms : Members) → is_restricted ms ≡ false → IsKnown c ms (codes "patternProperties")
-  patterns_known c ms free = ((λ e. absurd (true≢false (sym e))), λ e. free)
+  patterns_known : (c : Known) (ms : Members) → c.declared ≡ [] → is_restricted ms ≡ false → IsKnown c ms (codes "patternProperties")
+  patterns_known c ms none free = ((λ e. absurd (true≢false (sym e))), λ e. none ∙ sym (ap (λ b. cond b (declared_beside ms) []) free))
 
-  module _ (p : Part K R (SchemaNode K R)) (c : Bool) (d : Data) (P : Path) (a b : Counts) (h : IsPart o p c (codes "patternProperties") d (P // codes "patternProperties") a b) where
-    alone_stands : PartStands o (is_condition no_members) p (codes "patternProperties", d) P
-    alone_stands = stands_there p c (codes "patternProperties") d P a b h no_members (patterns_known c no_members refl)
+  pub none_known : (ms : Members) → is_restricted ms ≡ false → (known_of ms).declared ≡ []
+  none_known ms free = ap (λ b. cond b (declared_beside ms) []) free
 
-    pub no_other_pattern_properties : ((v : Vec (CompiledPattern R) Global) → p.shape ≡ shape.PatternProperties v → ⊥) → ⊥
-    no_other_pattern_properties f = let r = only_pattern_properties p.shape (shape_named p.shape (codes "patternProperties") d alone_stands.shape refl) in f r.0 r.1
+  module _ (p : Part K R (SchemaNode K R)) (c : Known) (none : c.declared ≡ []) (d : Data) (P : Path) (a b : Counts) (h : IsPart o p c (codes "patternProperties") d (P // codes "patternProperties") a b) where
+    alone_stands : PartStands o (known_of no_members) p (codes "patternProperties", d) P
+    alone_stands = stands_there p c (codes "patternProperties") d P a b h no_members (patterns_known c no_members none refl)
+
+    pub no_other_pattern_properties : ((v : Vec (CompiledPattern R) Global) (t : Table) → p.shape ≡ shape.PatternProperties v t → ⊥) → ⊥
+    no_other_pattern_properties f = let r = only_pattern_properties p.shape (shape_named p.shape (codes "patternProperties") d alone_stands.shape refl) in f r.0 r.1 r.2
 
     pub pattern_properties_memory : (e : BuildError) (m : AllocError) → e ≡ Memory m → RefusesFreeMember o (codes "patternProperties") d (P // codes "patternProperties") a b e
-    pattern_properties_memory e m q ms Q f free = memory_there p c (codes "patternProperties") d P a b h ms (patterns_known c ms free) e m q Q f
+    pattern_properties_memory e m q ms Q f free = memory_there p c (codes "patternProperties") d P a b h ms (patterns_known c ms none free) e m q Q f
 
-    module _ (v : Vec (CompiledPattern R) Global) (q : p.shape ≡ shape.PatternProperties v) where
-      pub pattern_properties_built : (ks : List (KeywordOver K R (SchemaNode K R))) → MakesMember o (shape.PatternProperties v) p.location p.nodes.items ks → (ms : Members) (Q : Path) → P // codes "patternProperties" ≡ Q // codes "patternProperties" → is_restricted ms ≡ false → MemberIsBuilt o ms ks (codes "patternProperties", d) Q a b
-      pattern_properties_built ks make ms Q e free = built_there p c (codes "patternProperties") d P a b h ms (patterns_known c ms free) ks (subst (λ x. MakesMember o x p.location p.nodes.items ks) (sym q) make) Q e
+    module _ (v : Vec (CompiledPattern R) Global) (t : Table) (q : p.shape ≡ shape.PatternProperties v t) where
+      pub pattern_properties_built : (ks : List (KeywordOver K R (SchemaNode K R))) → MakesMember o (shape.PatternProperties v t) p.location p.nodes.items ks → (ms : Members) (Q : Path) → P // codes "patternProperties" ≡ Q // codes "patternProperties" → is_restricted ms ≡ false → MemberIsBuilt o ms ks (codes "patternProperties", d) Q a b
+      pattern_properties_built ks make ms Q e free = built_there p c (codes "patternProperties") d P a b h ms (patterns_known c ms none free) ks (subst (λ x. MakesMember o x p.location p.nodes.items ks) (sym q) make) Q e
 
       pub pattern_properties_is_formed : (k : KeywordOver K R (SchemaNode K R)) → IsPatternProperties p.location (length (zip v.items p.nodes.items)) k → IsPatternProperties (P // codes "patternProperties") (length (members d)) k
       pattern_properties_is_formed k f = subst₂ (λ L n. IsPatternProperties L n k) alone_stands.place
           (zip_length v.items p.nodes.items (members d) (P // codes "patternProperties") (subst (IsShape o (codes "patternProperties") d) q alone_stands.shape).2 (subst (λ x. StandAt o (reads_of x) p.nodes.items d (P // codes "patternProperties")) q alone_stands.nodes)) f
 
-  pub refuses_free_member : (c : Bool) (d : Data) (P : Path) (a b : Counts) (e : BuildError) → RefusesPart o c (codes "patternProperties") d (P // codes "patternProperties") a b e → RefusesFreeMember o (codes "patternProperties") d (P // codes "patternProperties") a b e
-  refuses_free_member c d P a b e r ms Q f free = r ms Q f (patterns_known c ms free)
+  pub refuses_free_member : (c : Known) → c.declared ≡ [] → (d : Data) (P : Path) (a b : Counts) (e : BuildError) → RefusesPart o c (codes "patternProperties") d (P // codes "patternProperties") a b e → RefusesFreeMember o (codes "patternProperties") d (P // codes "patternProperties") a b e
+  refuses_free_member c none d P a b e r ms Q f free = r ms Q f (patterns_known c ms none free)

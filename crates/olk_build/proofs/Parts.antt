@@ -8,15 +8,15 @@ use mathlib.Core.Bool.{true≢false}
 use Rattle.std.proofs.lemmas.List.{append-nil}
 use Rattle.std.proofs.lemmas.Grind.{flat_map-append}
 use mathlib.Core.Path.{subst₂}
-use Rattle.serde_json.specs.Data.{Data, Members}
+use Rattle.serde_json.specs.Data.{Data, boolean, Members}
 use Rattle.olk_spec.specs.Names.{Name, Path, ◌//◌, down, lookup}
-use Rattle.olk_spec.specs.Vocabulary.{Keyword, pattern_properties, keyword_named}
+use Rattle.olk_spec.specs.Vocabulary.{Keyword, pattern_properties, additional_properties, keyword_named}
 use Rattle.olk_spec.specs.Faults.{Fault}
-use Rattle.olk_spec.specs.Schemas.{Schema, read, read_members, listed, members, numbered, branches}
+use Rattle.olk_spec.specs.Schemas.{Schema, read, read_members, listed, members, numbered, branches, is_object, is_truth}
 use Rattle.std.specs.Ordering.{nat_cmp}
 use Rattle.std.specs.Cmp.Lexicographic.{slice_cmp}
-use Rattle.olk_spec.specs.Malformed.{pending, each, itself, places_where, read_places, malformations_beside, malformations_step, items_of_array}
-use Rattle.olk_spec.specs.Costs.{Cost, cost, cost_step, no_cost, own_cost, total_cost}
+use Rattle.olk_spec.specs.Malformed.{each, itself, places_where, read_places, malformations_at, malformations_step, items_of_array}
+use Rattle.olk_spec.specs.Costs.{Cost, cost, cost_step, no_cost, own_cost, total_cost, ◌⊕◌}
 use Rattle.olk_spec.proofs.Reading.{entry, place, entries_read, branches_read}
 use Rattle.olk_base.specs.Count.{Counts}
 use Rattle.olk_reports.specs.declared.error.BuildError.{BuildError}
@@ -24,17 +24,17 @@ use Rattle.olk_reports.specs.declared.error.BuildError.TheVariants.{Memory}
 use Rattle.std.specs.declared.alloc.AllocError.{AllocError}
 use Rattle.olk_base.specs.Kit.{Kit}
 use Rattle.olk_members.specs.Dependencies.{schema_entries}
-use Rattle.olk_members.specs.Members.{malformations_at, member_malformations, member_cost}
+use Rattle.olk_members.specs.Members.{member_malformations, member_cost}
 use Rattle.olk_read.specs.Refusing.{Spends, SpendsWithin, Refuses}
 use Rattle.olk_build.specs.Building.{RefusesMember, RefusesPart, each_malformed, each_cost, inner_malformed, inner_cost, all_cost}
 use Rattle.olk_read.specs.Reading.{reads_of, own_faults, own_cost_of, IsShape, Fits, IsRead}
-use Rattle.olk_members.specs.Conditions.{is_condition, is_conditional_name, is_read_beside, is_restriction, is_restricted, IsKnown}
-use Rattle.olk_members.specs.PatternProperties.{matchers_made}
-use Rattle.olk_members.proofs.Conditions.{conditional_named, places_by_condition, restricted_read, known_alone}
-use Rattle.olk_members.proofs.PatternProperties.{pattern_properties_places, pattern_properties_own_cost, pattern_properties_free_cost, tables_asked}
+use Rattle.olk_members.specs.Conditions.{Known, known_of, is_conditional_name, is_read_beside, IsKnown}
+use Rattle.olk_members.specs.PatternProperties.{matchers_made, names_asked}
+use Rattle.olk_members.proofs.AdditionalPlaces.{additional_places}
+use Rattle.olk_spec.proofs.Named.{Named, named as is_named}
+use Rattle.olk_members.proofs.Conditions.{places_by_condition, known_alone}
+use Rattle.olk_members.proofs.PatternProperties.{pattern_properties_places, pattern_properties_known_cost}
 use Rattle.olk_members.proofs.Claims.{present_each}
-use Rattle.olk_members.proofs.Clean.{none_pending}
-use Rattle.olk_tree.proofs.Merge.{Rising, found_before}
 use Rattle.olk_build.specs.Placing.{places_malformed, places_cost, PlacesAreBuilt, PartsAreBuilt, IsPart}
 use Rattle.olk_make.specs.Standing.{StandAt, PartStands, PartsStand}
 use Rattle.olk_node.specs.declared.node.SchemaNode.{SchemaNode}
@@ -51,64 +51,81 @@ use Rattle.olk_read.proofs.Spending.{spends_nothing, spends_append, spends_same,
 branch_entries : {X : Type 0} (step : Schema X → X) (d : Data) → branches (read step d) ≡ map (entry step) (numbered (items_of_array d))
 branch_entries step d = branches_read step d ∙ numbered-map (place step) (items_of_array d)
 
+true_is_no_object : (d : Data) → is_truth true d ≡ true → is_object d ≡ false
+true_is_no_object (boolean b) e = refl
+true_is_no_object d e = absurd (true≢false (sym e))
+
 module _ {K R : Type 0} (o : Kit K R) where
   -- ---- the places of a shape, one line for each
 
   module _ (ms : Members) (d : Data) where
     abbrev found : Name → Path → Keyword → List Fault
-    found k P w = flat_map (λ r. r.0.answer (down P r.1)) (read_places k (read_members (malformations_step o.world pending) ms) (read (malformations_step o.world pending) d) w)
+    found k P w = flat_map (λ r. r.0.answer (down P r.1)) (read_places k (read_members (malformations_step o.world) ms) (read (malformations_step o.world) d) w)
 
     abbrev summed : Name → Keyword → Cost
     summed k w = total_cost (λ r. r.0.answer) (read_places k (read_members (cost_step o.world) ms) (read (cost_step o.world) d) w)
 
     -- `if`, `then` and `else` where they are read
-    read_here_found : (k : Name) (P : Path) (c : Bool) → c ≡ true → IsKnown c ms k → is_conditional_name k ≡ true → found k P (keyword_named o.world k) ≡ malformations_at o.world d (P // k)
-    unfolding malformations_beside
-    read_here_found k P c f h e = ap (flat_map (λ r. r.0.answer (down P r.1))) (places_by_condition (malformations_step o.world pending) ms o.world k d c h e) ∙ ap (λ b. flat_map (λ r. r.0.answer (down P r.1)) (places_where k b (itself k (read (malformations_step o.world pending) d).whole))) f ∙ append-nil _
+    read_here_found : (k : Name) (P : Path) (c : Known) → c.condition ≡ true → IsKnown c ms k → is_conditional_name k ≡ true → found k P (keyword_named o.world k) ≡ malformations_at o.world d (P // k)
+    unfolding malformations_at
+    read_here_found k P c f h e = ap (flat_map (λ r. r.0.answer (down P r.1))) (places_by_condition (malformations_step o.world) ms o.world k d c h e) ∙ ap (λ b. flat_map (λ r. r.0.answer (down P r.1)) (places_where k b (itself k (read (malformations_step o.world) d).whole))) f ∙ append-nil _
 
-    places_found : (k : Name) (P : Path) (x : Shape K R) → IsShape o k d x → (c : Bool) → Fits c x → IsKnown c ms k → found k P (keyword_named o.world k) ≡ places_malformed o (reads_of x) d (P // k)
-    unfolding malformations_beside
+    no_others_found : (P : Path) → is_object d ≡ false → found (codes "additionalProperties") P additional_properties ≡ []
+    no_others_found P e = ap (flat_map (λ r. r.0.answer (down P r.1))) (additional_places (malformations_step o.world) d (codes "additionalProperties") (read_members (malformations_step o.world) ms))
+        ∙ ap (λ b. flat_map (λ r. r.0.answer (down P r.1)) (places_where (codes "additionalProperties") b (itself (codes "additionalProperties") (place (malformations_step o.world) d)))) e
+
+    places_found : (k : Name) (P : Path) (x : Shape K R) → IsShape o k d x → (c : Known) → Fits o c x → IsKnown c ms k → found k P (keyword_named o.world k) ≡ places_malformed o (reads_of x) d (P // k)
+    unfolding malformations_at
     places_found k P (shape.Properties n) s c f h = subst (λ n. found n P (keyword_named o.world n) ≡ each_malformed o (P // n) (members d)) (sym s.0)
-        (ap (λ es. flat_map (λ r. r.0.answer (down P r.1)) (each (codes "properties") es)) (entries_read (malformations_step o.world pending) d) ∙ each_malformations o.world (codes "properties") P (members d))
-    places_found k P (shape.PatternProperties v) s c f h = subst (λ n. found n P (keyword_named o.world n) ≡ each_malformed o (P // n) (members d)) (sym s.0)
-        (ap (flat_map (λ r. r.0.answer (down P r.1))) (pattern_properties_places (malformations_step o.world pending) d (codes "patternProperties") (read_members (malformations_step o.world pending) ms)) ∙ each_malformations o.world (codes "patternProperties") P (members d))
+        (ap (λ es. flat_map (λ r. r.0.answer (down P r.1)) (each (codes "properties") es)) (entries_read (malformations_step o.world) d) ∙ each_malformations o.world (codes "properties") P (members d))
+    places_found k P (shape.PatternProperties v t) s c f h = subst (λ n. found n P (keyword_named o.world n) ≡ each_malformed o (P // n) (members d)) (sym s.0)
+        (ap (flat_map (λ r. r.0.answer (down P r.1))) (pattern_properties_places (malformations_step o.world) d (codes "patternProperties") (read_members (malformations_step o.world) ms)) ∙ each_malformations o.world (codes "patternProperties") P (members d))
     places_found k P (shape.Required v) s c f h = subst (λ n. found n P (keyword_named o.world n) ≡ []) (sym s.0) refl
     places_found k P (shape.DependentRequired n v) s c f h = subst (λ n. found n P (keyword_named o.world n) ≡ []) (sym s.0) refl
     places_found k P (shape.DependentSchemas n) s c f h = subst (λ n. found n P (keyword_named o.world n) ≡ each_malformed o (P // n) (members d)) (sym s.0)
-        (ap (flat_map (λ r. r.0.answer (down P r.1))) (dependent_schemas_places (malformations_step o.world pending) d (codes "dependentSchemas") (read_members (malformations_step o.world pending) ms)) ∙ each_malformations o.world (codes "dependentSchemas") P (members d))
+        (ap (flat_map (λ r. r.0.answer (down P r.1))) (dependent_schemas_places (malformations_step o.world) d (codes "dependentSchemas") (read_members (malformations_step o.world) ms)) ∙ each_malformations o.world (codes "dependentSchemas") P (members d))
     places_found k P (shape.Dependencies n v) s c f h = subst (λ n. found n P (keyword_named o.world n) ≡ each_malformed o (P // n) (schema_entries d)) (sym s.0)
-        (ap (flat_map (λ r. r.0.answer (down P r.1))) (dependencies_places (malformations_step o.world pending) d (codes "dependencies") (read_members (malformations_step o.world pending) ms)) ∙ each_malformations o.world (codes "dependencies") P (schema_entries d))
+        (ap (flat_map (λ r. r.0.answer (down P r.1))) (dependencies_places (malformations_step o.world) d (codes "dependencies") (read_members (malformations_step o.world) ms)) ∙ each_malformations o.world (codes "dependencies") P (schema_entries d))
     places_found k P (shape.PropertyDependencies n v) s c f h = subst (λ n. found n P (keyword_named o.world n) ≡ inner_malformed o (P // n) (members d)) (sym s.0)
-        (ap (flat_map (λ r. r.0.answer (down P r.1))) (property_dependencies_places (malformations_step o.world pending) d (codes "propertyDependencies") (read_members (malformations_step o.world pending) ms)) ∙ inner_malformations o.world d (codes "propertyDependencies") P)
+        (ap (flat_map (λ r. r.0.answer (down P r.1))) (property_dependencies_places (malformations_step o.world) d (codes "propertyDependencies") (read_members (malformations_step o.world) ms)) ∙ inner_malformations o.world d (codes "propertyDependencies") P)
+    places_found k P shape.AdditionalProperties s c f h = subst (λ n. found n P (keyword_named o.world n) ≡ malformations_at o.world d (P // n)) (sym s.0)
+        (ap (flat_map (λ r. r.0.answer (down P r.1))) (additional_places (malformations_step o.world) d (codes "additionalProperties") (read_members (malformations_step o.world) ms))
+        ∙ ap (λ b. flat_map (λ r. r.0.answer (down P r.1)) (places_where (codes "additionalProperties") b (itself (codes "additionalProperties") (place (malformations_step o.world) d)))) s.1 ∙ append-nil _)
+    places_found k P shape.NoOthers s c f h = subst (λ n. found n P (keyword_named o.world n) ≡ []) (sym s.0) (no_others_found P (false_is_no_object d s.1))
+    places_found k P shape.AnyOthers s c f h = subst (λ n. found n P (keyword_named o.world n) ≡ []) (sym s.0) (no_others_found P (true_is_no_object d s.1))
     places_found k P shape.PropertyNames s c f h = subst (λ n. found n P (keyword_named o.world n) ≡ malformations_at o.world d (P // n)) (sym s.0)
-        (ap (flat_map (λ r. r.0.answer (down P r.1))) (property_names_places (malformations_step o.world pending) d (codes "propertyNames") (read_members (malformations_step o.world pending) ms) s.1) ∙ append-nil _)
+        (ap (flat_map (λ r. r.0.answer (down P r.1))) (property_names_places (malformations_step o.world) d (codes "propertyNames") (read_members (malformations_step o.world) ms) s.1) ∙ append-nil _)
     places_found k P shape.NoNames s c f h = subst (λ n. found n P (keyword_named o.world n) ≡ []) (sym s.0)
-        (ap (flat_map (λ r. r.0.answer (down P r.1))) (other_names_places (malformations_step o.world pending) d (codes "propertyNames") (read_members (malformations_step o.world pending) ms) (false_is_no_object d s.1)))
+        (ap (flat_map (λ r. r.0.answer (down P r.1))) (other_names_places (malformations_step o.world) d (codes "propertyNames") (read_members (malformations_step o.world) ms) (false_is_no_object d s.1)))
     places_found k P shape.AnyNames s c f h = subst (λ n. found n P (keyword_named o.world n) ≡ []) (sym s.0)
-        (ap (flat_map (λ r. r.0.answer (down P r.1))) (other_names_places (malformations_step o.world pending) d (codes "propertyNames") (read_members (malformations_step o.world pending) ms) s.1))
+        (ap (flat_map (λ r. r.0.answer (down P r.1))) (other_names_places (malformations_step o.world) d (codes "propertyNames") (read_members (malformations_step o.world) ms) s.1))
     places_found k P shape.AllOf s c f h = subst (λ n. found n P (keyword_named o.world n) ≡ each_malformed o (P // n) (numbered (items_of_array d))) (sym s.0)
-        (ap (λ es. flat_map (λ r. r.0.answer (down P r.1)) (each (codes "allOf") es)) (branch_entries (malformations_step o.world pending) d) ∙ each_malformations o.world (codes "allOf") P (numbered (items_of_array d)))
+        (ap (λ es. flat_map (λ r. r.0.answer (down P r.1)) (each (codes "allOf") es)) (branch_entries (malformations_step o.world) d) ∙ each_malformations o.world (codes "allOf") P (numbered (items_of_array d)))
     places_found k P shape.AnyOf s c f h = subst (λ n. found n P (keyword_named o.world n) ≡ each_malformed o (P // n) (numbered (items_of_array d))) (sym s.0)
-        (ap (λ es. flat_map (λ r. r.0.answer (down P r.1)) (each (codes "anyOf") es)) (branch_entries (malformations_step o.world pending) d) ∙ each_malformations o.world (codes "anyOf") P (numbered (items_of_array d)))
+        (ap (λ es. flat_map (λ r. r.0.answer (down P r.1)) (each (codes "anyOf") es)) (branch_entries (malformations_step o.world) d) ∙ each_malformations o.world (codes "anyOf") P (numbered (items_of_array d)))
     places_found k P shape.OneOf s c f h = subst (λ n. found n P (keyword_named o.world n) ≡ each_malformed o (P // n) (numbered (items_of_array d))) (sym s.0)
-        (ap (λ es. flat_map (λ r. r.0.answer (down P r.1)) (each (codes "oneOf") es)) (branch_entries (malformations_step o.world pending) d) ∙ each_malformations o.world (codes "oneOf") P (numbered (items_of_array d)))
+        (ap (λ es. flat_map (λ r. r.0.answer (down P r.1)) (each (codes "oneOf") es)) (branch_entries (malformations_step o.world) d) ∙ each_malformations o.world (codes "oneOf") P (numbered (items_of_array d)))
     places_found k P (shape.Not v) s c f h = subst (λ n. found n P (keyword_named o.world n) ≡ malformations_at o.world d (P // n)) (sym s.0) (append-nil _)
     places_found k P shape.If s c f h = read_here_found k P c f h (ap is_conditional_name s)
     places_found k P shape.Then s c f h = read_here_found k P c f h (ap is_conditional_name s)
     places_found k P shape.Else s c f h = read_here_found k P c f h (ap is_conditional_name s)
-    places_found k P shape.Unpaired s c f h = ap (flat_map (λ r. r.0.answer (down P r.1))) (places_by_condition (malformations_step o.world pending) ms o.world k d c h s) ∙ ap (λ b. flat_map (λ r. r.0.answer (down P r.1)) (places_where k b (itself k (read (malformations_step o.world pending) d).whole))) f
+    places_found k P shape.Unpaired s c f h = ap (flat_map (λ r. r.0.answer (down P r.1))) (places_by_condition (malformations_step o.world) ms o.world k d c h s) ∙ ap (λ b. flat_map (λ r. r.0.answer (down P r.1)) (places_where k b (itself k (read (malformations_step o.world) d).whole))) f
     places_found k P (shape.Leaf l) s c f h = ap (found k P) s.0
     places_found k P shape.Unread s c f h = ap (found k P) s
 
-    read_here_summed : (k : Name) (c : Bool) → c ≡ true → IsKnown c ms k → is_conditional_name k ≡ true → summed k (keyword_named o.world k) ≡ cost o.world d
+    read_here_summed : (k : Name) (c : Known) → c.condition ≡ true → IsKnown c ms k → is_conditional_name k ≡ true → summed k (keyword_named o.world k) ≡ cost o.world d
     unfolding cost
     read_here_summed k c f h e = ap (total_cost (λ r. r.0.answer)) (places_by_condition (cost_step o.world) ms o.world k d c h e) ∙ ap (λ b. total_cost (λ r. r.0.answer) (places_where k b (itself k (read (cost_step o.world) d).whole))) f ∙ sum_last _
 
-    places_summed : (k : Name) (x : Shape K R) → IsShape o k d x → (c : Bool) → Fits c x → IsKnown c ms k → summed k (keyword_named o.world k) ≡ places_cost o (reads_of x) d
+    no_others_summed : is_object d ≡ false → summed (codes "additionalProperties") additional_properties ≡ no_cost
+    no_others_summed e = ap (total_cost (λ r. r.0.answer)) (additional_places (cost_step o.world) d (codes "additionalProperties") (read_members (cost_step o.world) ms))
+        ∙ ap (λ b. total_cost (λ r. r.0.answer) (places_where (codes "additionalProperties") b (itself (codes "additionalProperties") (place (cost_step o.world) d)))) e
+
+    places_summed : (k : Name) (x : Shape K R) → IsShape o k d x → (c : Known) → Fits o c x → IsKnown c ms k → summed k (keyword_named o.world k) ≡ places_cost o (reads_of x) d
     unfolding cost
     places_summed k (shape.Properties n) s c f h = subst (λ n. summed n (keyword_named o.world n) ≡ each_cost o (members d)) (sym s.0)
         (ap (λ es. total_cost (λ r. r.0.answer) (each (codes "properties") es)) (entries_read (cost_step o.world) d) ∙ each_costs o.world (codes "properties") (members d))
-    places_summed k (shape.PatternProperties v) s c f h = subst (λ n. summed n (keyword_named o.world n) ≡ each_cost o (members d)) (sym s.0)
+    places_summed k (shape.PatternProperties v t) s c f h = subst (λ n. summed n (keyword_named o.world n) ≡ each_cost o (members d)) (sym s.0)
         (ap (total_cost (λ r. r.0.answer)) (pattern_properties_places (cost_step o.world) d (codes "patternProperties") (read_members (cost_step o.world) ms)) ∙ each_costs o.world (codes "patternProperties") (members d))
     places_summed k (shape.Required v) s c f h = subst (λ n. summed n (keyword_named o.world n) ≡ no_cost) (sym s.0) refl
     places_summed k (shape.DependentRequired n v) s c f h = subst (λ n. summed n (keyword_named o.world n) ≡ no_cost) (sym s.0) refl
@@ -118,6 +135,11 @@ module _ {K R : Type 0} (o : Kit K R) where
         (ap (total_cost (λ r. r.0.answer)) (dependencies_places (cost_step o.world) d (codes "dependencies") (read_members (cost_step o.world) ms)) ∙ each_costs o.world (codes "dependencies") (schema_entries d))
     places_summed k (shape.PropertyDependencies n v) s c f h = subst (λ n. summed n (keyword_named o.world n) ≡ inner_cost o (members d)) (sym s.0)
         (ap (total_cost (λ r. r.0.answer)) (property_dependencies_places (cost_step o.world) d (codes "propertyDependencies") (read_members (cost_step o.world) ms)) ∙ inner_costs o.world d (codes "propertyDependencies"))
+    places_summed k shape.AdditionalProperties s c f h = subst (λ n. summed n (keyword_named o.world n) ≡ cost o.world d) (sym s.0)
+        (ap (total_cost (λ r. r.0.answer)) (additional_places (cost_step o.world) d (codes "additionalProperties") (read_members (cost_step o.world) ms))
+        ∙ ap (λ b. total_cost (λ r. r.0.answer) (places_where (codes "additionalProperties") b (itself (codes "additionalProperties") (place (cost_step o.world) d)))) s.1 ∙ sum_last _)
+    places_summed k shape.NoOthers s c f h = subst (λ n. summed n (keyword_named o.world n) ≡ no_cost) (sym s.0) (no_others_summed (false_is_no_object d s.1))
+    places_summed k shape.AnyOthers s c f h = subst (λ n. summed n (keyword_named o.world n) ≡ no_cost) (sym s.0) (no_others_summed (true_is_no_object d s.1))
     places_summed k shape.PropertyNames s c f h = subst (λ n. summed n (keyword_named o.world n) ≡ cost o.world d) (sym s.0)
         (ap (total_cost (λ r. r.0.answer)) (property_names_places (cost_step o.world) d (codes "propertyNames") (read_members (cost_step o.world) ms) s.1) ∙ sum_last _)
     places_summed k shape.NoNames s c f h = subst (λ n. summed n (keyword_named o.world n) ≡ no_cost) (sym s.0)
@@ -141,64 +163,41 @@ module _ {K R : Type 0} (o : Kit K R) where
     abbrev owned : Keyword → Cost
     owned w = own_cost o.world (read_members (cost_step o.world) ms) (read (cost_step o.world) d) w
 
-    own_of_shape : (k : Name) (x : Shape K R) → IsShape o k d x → (k ≡ codes "patternProperties" → is_restricted ms ≡ false) → owned (keyword_named o.world k) ≡ own_cost_of o.world d (keyword_named o.world k)
-    own_of_shape k (shape.Properties n) s free = subst (λ n. owned (keyword_named o.world n) ≡ own_cost_of o.world d (keyword_named o.world n)) (sym s.0) refl
-    own_of_shape k (shape.PatternProperties v) s free = subst (λ n. owned (keyword_named o.world n) ≡ own_cost_of o.world d (keyword_named o.world n)) (sym s.0) (pattern_properties_free_cost o.world ms d (restricted_read (cost_step o.world) ms ∙ free s.0))
-    own_of_shape k (shape.Required v) s free = subst (λ n. owned (keyword_named o.world n) ≡ own_cost_of o.world d (keyword_named o.world n)) (sym s.0) refl
-    own_of_shape k (shape.DependentRequired n v) s free = subst (λ n. owned (keyword_named o.world n) ≡ own_cost_of o.world d (keyword_named o.world n)) (sym s.0) refl
-    own_of_shape k (shape.DependentSchemas n) s free = subst (λ n. owned (keyword_named o.world n) ≡ own_cost_of o.world d (keyword_named o.world n)) (sym s.0) refl
-    own_of_shape k (shape.Dependencies n v) s free = subst (λ n. owned (keyword_named o.world n) ≡ own_cost_of o.world d (keyword_named o.world n)) (sym s.0) refl
-    own_of_shape k (shape.PropertyDependencies n v) s free = subst (λ n. owned (keyword_named o.world n) ≡ own_cost_of o.world d (keyword_named o.world n)) (sym s.0) refl
-    own_of_shape k shape.PropertyNames s free = subst (λ n. owned (keyword_named o.world n) ≡ own_cost_of o.world d (keyword_named o.world n)) (sym s.0) refl
-    own_of_shape k shape.NoNames s free = subst (λ n. owned (keyword_named o.world n) ≡ own_cost_of o.world d (keyword_named o.world n)) (sym s.0) refl
-    own_of_shape k shape.AnyNames s free = subst (λ n. owned (keyword_named o.world n) ≡ own_cost_of o.world d (keyword_named o.world n)) (sym s.0) refl
-    own_of_shape k shape.AllOf s free = subst (λ n. owned (keyword_named o.world n) ≡ own_cost_of o.world d (keyword_named o.world n)) (sym s.0) refl
-    own_of_shape k shape.AnyOf s free = subst (λ n. owned (keyword_named o.world n) ≡ own_cost_of o.world d (keyword_named o.world n)) (sym s.0) refl
-    own_of_shape k shape.OneOf s free = subst (λ n. owned (keyword_named o.world n) ≡ own_cost_of o.world d (keyword_named o.world n)) (sym s.0) refl
-    own_of_shape k (shape.Not v) s free = subst (λ n. owned (keyword_named o.world n) ≡ own_cost_of o.world d (keyword_named o.world n)) (sym s.0) refl
-    own_of_shape k shape.If s free = subst (λ n. owned (keyword_named o.world n) ≡ own_cost_of o.world d (keyword_named o.world n)) (sym s) refl
-    own_of_shape k shape.Then s free = subst (λ n. owned (keyword_named o.world n) ≡ own_cost_of o.world d (keyword_named o.world n)) (sym s) refl
-    own_of_shape k shape.Else s free = subst (λ n. owned (keyword_named o.world n) ≡ own_cost_of o.world d (keyword_named o.world n)) (sym s) refl
-    own_of_shape k shape.Unpaired s free = by (conditional_named k s)
+    -- what reading counts is the keyword's own cost, where enough is known of its neighbours
+    own_of_keyword : (c : Known) (k : Name) → IsKnown c ms k → owned (keyword_named o.world k) ≡ own_cost_of o.world c d (keyword_named o.world k)
+    own_of_keyword c k known = by (keyword_named o.world k) (is_named k o.world)
       where
-        by : (k ≡ codes "if") ⊎ (k ≡ codes "then") ⊎ (k ≡ codes "else") → owned (keyword_named o.world k) ≡ own_cost_of o.world d (keyword_named o.world k)
-        by (inl q) = subst (λ n. owned (keyword_named o.world n) ≡ own_cost_of o.world d (keyword_named o.world n)) (sym q) refl
-        by (inr (inl q)) = subst (λ n. owned (keyword_named o.world n) ≡ own_cost_of o.world d (keyword_named o.world n)) (sym q) refl
-        by (inr (inr q)) = subst (λ n. owned (keyword_named o.world n) ≡ own_cost_of o.world d (keyword_named o.world n)) (sym q) refl
-    own_of_shape k (shape.Leaf l) s free = subst (λ w. owned w ≡ own_cost_of o.world d w) (sym s.0) refl
-    own_of_shape k shape.Unread s free = subst (λ w. owned w ≡ own_cost_of o.world d w) (sym s) refl
-
-    -- what reading counts is a part of the keyword's own cost
-    own_within : (a b : Counts) (w : Keyword) → SpendsWithin a b (own_cost_of o.world d w) → SpendsWithin a b (owned w)
-    own_within a b pattern_properties h = within_same a b _ _ (sym (pattern_properties_own_cost o.world ms d)) (within_before a b (matchers_made o.world d) (tables_asked o.world ms d) h)
-    own_within a b w h = h
+        by : (w : Keyword) → Named k w → owned w ≡ own_cost_of o.world c d w
+        by pattern_properties n = pattern_properties_known_cost o.world ms d ∙ ap (λ fs. matchers_made o.world d ⊕ names_asked o.world fs d) (sym (known.1 n))
+        by w n = refl
 
   -- a shape that is read as it is to be is so in each object that has the keyword
-  fits_there : (ms : Members) (x : Shape K R) (k : Name) (d : Data) (c : Bool) → IsShape o k d x → IsKnown c ms k → Fits c x → Fits (is_condition ms) x
+  fits_there : (ms : Members) (x : Shape K R) (k : Name) (d : Data) (c : Known) → IsShape o k d x → IsKnown c ms k → Fits o c x → Fits o (known_of ms) x
   fits_there ms shape.If k d c s h f = sym (h.0 (ap is_conditional_name s)).0 ∙ f
   fits_there ms shape.Then k d c s h f = sym (h.0 (ap is_conditional_name s)).0 ∙ f
   fits_there ms shape.Else k d c s h f = sym (h.0 (ap is_conditional_name s)).0 ∙ f
   fits_there ms shape.Unpaired k d c s h f = sym (h.0 s).0 ∙ f
+  fits_there ms (shape.PatternProperties v t) k d c s h f = (f.0 ∙ ap (map (λ e. e.0)) (h.1 s.0), f.1)
   fits_there ms x k d c s h f = tt
 
   -- ---- one member
 
-  pub refuses_part_own : (c : Bool) (k : Name) (d : Data) (L : Path) (a b : Counts) (e : BuildError) → Refuses (own_faults o.world k d L) (own_cost_of o.world d (keyword_named o.world k)) a b e → RefusesPart o c k d L a b e
+  pub refuses_part_own : (c : Known) (k : Name) (d : Data) (L : Path) (a b : Counts) (e : BuildError) → Refuses (own_faults o.world k d L) (own_cost_of o.world c d (keyword_named o.world k)) a b e → RefusesPart o c k d L a b e
   refuses_part_own c k d L a b e h ms P p known = record {
     tells = tells_left (own_faults o.world k d (P // k)) (found ms d k P (keyword_named o.world k)) e (tells_same (ap (own_faults o.world k d) p) e h.tells);
-    spends = within_before a b _ (summed ms d k (keyword_named o.world k)) (own_within ms d a b (keyword_named o.world k) h.spends);
+    spends = within_before a b _ (summed ms d k (keyword_named o.world k)) (within_same a b _ _ (sym (own_of_keyword ms d c k known)) h.spends);
   }
 
-  pub refuses_part_memory : (c : Bool) (k : Name) (d : Data) (L : Path) (a : Counts) (e : BuildError) (m : AllocError) → e ≡ Memory m → RefusesPart o c k d L a a e
+  pub refuses_part_memory : (c : Known) (k : Name) (d : Data) (L : Path) (a : Counts) (e : BuildError) (m : AllocError) → e ≡ Memory m → RefusesPart o c k d L a a e
   refuses_part_memory c k d L a e m q ms P p known = refuses_memory _ _ a a e m q (within_nothing a _)
 
   -- of a keyword that is none of the three, in each object
-  pub refuses_member : (c : Bool) (k : Name) (d : Data) (L : Path) (a b : Counts) (e : BuildError) → is_read_beside k ≡ false → RefusesPart o c k d L a b e → RefusesMember o k d L a b e
+  pub refuses_member : (c : Known) (k : Name) (d : Data) (L : Path) (a b : Counts) (e : BuildError) → is_read_beside k ≡ false → RefusesPart o c k d L a b e → RefusesMember o k d L a b e
   refuses_member c k d L a b e other h ms P p = h ms P p (known_alone c ms k other)
 
-  module _ (x : Shape K R) (c : Bool) (k : Name) (d : Data) (L : Path) (a m : Counts) (h : IsRead o x c k d L a m) where
+  module _ (x : Shape K R) (c : Known) (k : Name) (d : Data) (L : Path) (a m : Counts) (h : IsRead o x c k d L a m) where
     own_spent : (ms : Members) → IsKnown c ms k → Spends a m (owned ms d (keyword_named o.world k))
-    own_spent ms known = spends_same a m _ _ (sym (own_of_shape ms d k x h.shape known.1)) h.spends
+    own_spent ms known = spends_same a m _ _ (sym (own_of_keyword ms d c k known)) h.spends
 
     pub refuses_part_inside : (b : Counts) (e : BuildError) → Refuses (places_malformed o (reads_of x) d L) (places_cost o (reads_of x) d) m b e → RefusesPart o c k d L a b e
     refuses_part_inside b e r ms P p known = record {
@@ -212,7 +211,7 @@ module _ {K R : Type 0} (o : Kit K R) where
         record {
           place = at ∙ e;
           shape = subst (IsShape o k d) (sym s) h.shape;
-          fits = subst (Fits (is_condition ms)) (sym s) (fits_there ms x k d c h.shape known h.fits);
+          fits = subst (Fits o (known_of ms)) (sym s) (fits_there ms x k d c h.shape known h.fits);
           nodes = subst₂ (λ y l. StandAt o (reads_of y) l d (P // k)) (sym s) (ap (λ l. l.items) (sym n)) (subst (StandAt o (reads_of x) ns.items d) e built.stand);
         },
         tt,
@@ -223,29 +222,23 @@ module _ {K R : Type 0} (o : Kit K R) where
 
   -- ---- one more member
 
-  pub parts_push : (c : Bool) (P : Path) (ps : List (Part K R (SchemaNode K R))) (es : List (Name × Data)) (p : Part K R (SchemaNode K R)) (e : Name × Data) → PartsStand o c ps es P → PartStands o c p e P → PartsStand o c (ps ++ p ∷ []) (es ++ e ∷ []) P
+  pub parts_push : (c : Known) (P : Path) (ps : List (Part K R (SchemaNode K R))) (es : List (Name × Data)) (p : Part K R (SchemaNode K R)) (e : Name × Data) → PartsStand o c ps es P → PartStands o c p e P → PartsStand o c (ps ++ p ∷ []) (es ++ e ∷ []) P
   parts_push c P [] [] p e h s = (s, tt)
   parts_push c P [] (x ∷ es) p e h s = absurd h
   parts_push c P (y ∷ ps) [] p e h s = absurd h
   parts_push c P (y ∷ ps) (x ∷ es) p e h s = (h.0, parts_push c P ps es p e h.1 s)
 
   module _ (ms : Members) (P : Path) where
-    -- what the next member has to know of its neighbours, of which those before it are built
-    pub known_there : (c : Bool) (ps : List (Part K R (SchemaNode K R))) (done rest : List (Name × Data)) (k : Name) (d : Data) (a m : Counts) → c ≡ is_condition ms → Rising (listed ms) → PartsAreBuilt o ms ps done P a m → done ++ (k, d) ∷ rest ≡ listed ms → IsKnown c ms k
-    known_there c ps done rest k d a m q up h w = (
-      (λ e. (q, present_each (listed ms) done (k, d) rest w)),
-      λ e. ap is_restriction (
-          ap (lookup (codes "additionalProperties")) (sym w)
-          ∙ found_before (codes "additionalProperties") (k, d) rest (ap (slice_cmp nat_cmp (codes "additionalProperties")) e) done (subst Rising (sym w) up)
-          ∙ none_pending o.world ms P done h.clean (codes "additionalProperties") refl),
-    )
+    -- what the next member has to know of its neighbours
+    pub known_there : (c : Known) (done rest : List (Name × Data)) (k : Name) (d : Data) → c ≡ known_of ms → done ++ (k, d) ∷ rest ≡ listed ms → IsKnown c ms k
+    known_there c done rest k d q w = ((λ e. (ap (λ x. x.condition) q, present_each (listed ms) done (k, d) rest w)), λ e. ap (λ x. x.declared) q)
 
     pub no_parts : (a : Counts) (ps : List (Part K R (SchemaNode K R))) → ps ≡ [] → PartsAreBuilt o ms ps [] P a a
-    no_parts a ps e = record { stand = subst (λ x. PartsStand o (is_condition ms) x [] P) (sym e) tt; clean = refl; spends = spends_nothing a }
+    no_parts a ps e = record { stand = subst (λ x. PartsStand o (known_of ms) x [] P) (sym e) tt; clean = refl; spends = spends_nothing a }
 
-    pub one_more_part : (ps new : List (Part K R (SchemaNode K R))) (es : List (Name × Data)) (p : Part K R (SchemaNode K R)) (c : Bool) (k : Name) (d : Data) (a m b : Counts) (L : Path) → new ≡ ps ++ p ∷ [] → L ≡ P // k → PartsAreBuilt o ms ps es P a m → IsPart o p c k d L m b → IsKnown c ms k → PartsAreBuilt o ms new (es ++ (k, d) ∷ []) P a b
+    pub one_more_part : (ps new : List (Part K R (SchemaNode K R))) (es : List (Name × Data)) (p : Part K R (SchemaNode K R)) (c : Known) (k : Name) (d : Data) (a m b : Counts) (L : Path) → new ≡ ps ++ p ∷ [] → L ≡ P // k → PartsAreBuilt o ms ps es P a m → IsPart o p c k d L m b → IsKnown c ms k → PartsAreBuilt o ms new (es ++ (k, d) ∷ []) P a b
     one_more_part ps new es p c k d a m b L q place h part known = let one = part ms P place known in record {
-      stand = subst (λ x. PartsStand o (is_condition ms) x (es ++ (k, d) ∷ []) P) (sym q) (parts_push (is_condition ms) P ps es p (k, d) h.stand one.stand.0);
+      stand = subst (λ x. PartsStand o (known_of ms) x (es ++ (k, d) ∷ []) P) (sym q) (parts_push (known_of ms) P ps es p (k, d) h.stand one.stand.0);
       clean = flat_map-append (λ x. member_malformations o.world ms x (keyword_named o.world x.0) P) es ((k, d) ∷ []) ∙ (λ i. h.clean i ++ one.clean i);
       spends = spends_same a b _ (all_cost o ms (es ++ (k, d) ∷ [])) (sym (total_cost-append (λ x. member_cost o.world ms x (keyword_named o.world x.0)) es ((k, d) ∷ []))) (spends_append a m b (all_cost o ms es) (all_cost o ms ((k, d) ∷ [])) h.spends one.spends);
     }

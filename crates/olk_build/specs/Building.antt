@@ -6,13 +6,14 @@ use Rattle.olk_spec.specs.Names.{Name, Path, ◌//◌, those}
 use Rattle.olk_spec.specs.Faults.{Fault}
 use Rattle.olk_spec.specs.Schemas.{listed, members, is_array}
 use Rattle.olk_spec.specs.Costs.{Cost, cost, total_cost, ◌⊕◌}
+use Rattle.olk_spec.specs.Malformed.{malformations_at}
 use Rattle.olk_base.specs.Count.{Counts}
 use Rattle.olk_reports.specs.declared.error.BuildError.{BuildError}
 use Rattle.olk_base.specs.Kit.{Kit}
 use Rattle.olk_base.specs.declared.pattern.CompiledPattern.{CompiledPattern}
 use Rattle.olk_node.specs.Stands.{StandsFor}
-use Rattle.olk_members.specs.Conditions.{is_restricted, IsKnown}
-use Rattle.olk_members.specs.Members.{malformations_at, member_malformations, member_cost}
+use Rattle.olk_members.specs.Conditions.{Known, is_restricted, IsKnown}
+use Rattle.olk_members.specs.Members.{member_malformations, member_cost}
 use Rattle.olk_node.specs.declared.node.SchemaNode.{SchemaNode}
 use Rattle.olk_read.specs.Refusing.{Spends, Refuses}
 use Rattle.olk_read.specs.Patterns.{patterns_wrong, patterns_cost}
@@ -94,9 +95,9 @@ module _ {K R : Type 0} (o : Kit K R) where
     abbrev pub RefusesObject : Path → Counts → Counts → BuildError → Type 0
     RefusesObject P old new e = Refuses (all_malformed o ms P (listed ms)) (all_cost (listed ms)) old new e
 
-  -- ---- what is told where nothing is built for a member of the name k and the value d at its place, in each object; where it is `if`, `then` or `else`, in each that has it and where c says whether `if` is read
+  -- ---- what is told where nothing is built for a member of the name k and the value d at its place, in each object of whose neighbours c is known as far as the keyword has to know them
 
-  abbrev pub RefusesPart : Bool → Name → Data → Path → Counts → Counts → BuildError → Type 0
+  abbrev pub RefusesPart : Known → Name → Data → Path → Counts → Counts → BuildError → Type 0
   RefusesPart c k d at old new e = (ms : Members) (P : Path) → at ≡ P // k → IsKnown c ms k → Refuses (member_malformations o.world ms (k, d) (which o ms (k, d)) P) (member_cost o.world ms (k, d) (which o ms (k, d))) old new e
 
   -- the same in each object where nothing is restricted

@@ -3,14 +3,13 @@ use Rattle.std.specs.Prelude.{◌≡◌, Bool, List, [], ◌∷◌}
 use Rattle.serde_json.specs.Data.{Data, Members}
 use Rattle.olk_spec.specs.Names.{Name, Path, ◌//◌}
 use Rattle.olk_spec.specs.Schemas.{listed, members, numbered}
-use Rattle.olk_spec.specs.Malformed.{items_of_array}
+use Rattle.olk_spec.specs.Malformed.{items_of_array, malformations_at}
 use Rattle.olk_spec.specs.Faults.{Fault}
 use Rattle.olk_spec.specs.Costs.{Cost, no_cost, cost}
 use Rattle.olk_base.specs.Count.{Counts}
 use Rattle.olk_reports.specs.declared.error.BuildError.{BuildError}
 use Rattle.olk_base.specs.Kit.{Kit}
-use Rattle.olk_members.specs.Conditions.{is_condition, IsKnown}
-use Rattle.olk_members.specs.Members.{malformations_at}
+use Rattle.olk_members.specs.Conditions.{Known, known_of, IsKnown}
 use Rattle.olk_read.specs.Refusing.{Spends, Refuses}
 use Rattle.olk_build.specs.Building.{no_lists, each_malformed, each_cost, inner_malformed, inner_cost, all_cost}
 use Rattle.olk_make.specs.Holding.{all_malformed}
@@ -47,7 +46,7 @@ module _ {K R : Type 0} (o : Kit K R) where
 
   -- parts for the members es of the schema object with the members ms at P
   pub record PartsAreBuilt (ms : Members) (ps : List (Part K R (SchemaNode K R))) (es : List (Name × Data)) (P : Path) (old new : Counts) : Type 0 where
-    pub stand : PartsStand o (is_condition ms) ps es P
+    pub stand : PartsStand o (known_of ms) ps es P
     pub clean : all_malformed o ms P es ≡ []
     pub spends : Spends old new (all_cost o ms es)
 
@@ -55,6 +54,6 @@ module _ {K R : Type 0} (o : Kit K R) where
   abbrev pub ObjectIsParted : Members → List (Part K R (SchemaNode K R)) → Path → Counts → Counts → Type 0
   ObjectIsParted ms ps P old new = PartsAreBuilt ms ps (listed ms) P old new
 
-  -- the part of the keyword of the name k and the value d at its place, in each object; where it is `if`, `then` or `else`, in each that has it and where c says whether `if` is read
-  abbrev pub IsPart : Part K R (SchemaNode K R) → Bool → Name → Data → Path → Counts → Counts → Type 0
+  -- the part of the keyword of the name k and the value d at its place, in each object of whose neighbours c is known as far as the keyword has to know them
+  abbrev pub IsPart : Part K R (SchemaNode K R) → Known → Name → Data → Path → Counts → Counts → Type 0
   IsPart p c k d L old new = (ms : Members) (P : Path) → L ≡ P // k → IsKnown c ms k → PartsAreBuilt ms (p ∷ []) ((k, d) ∷ []) P old new

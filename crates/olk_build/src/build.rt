@@ -2,21 +2,20 @@
 ghost use Rattle.std.specs.Prelude.{◌≡◌, [], IfOk, IfErr, OnOk, OnErr, decimal};
 ghost use Rattle.serde_json.specs.View.{view, members_view, items_view};
 ghost use Rattle.olk_spec.specs.Schemas.{listed, numbered};
-ghost use Rattle.olk_spec.specs.Malformed.{items_list};
+ghost use Rattle.olk_spec.specs.Malformed.{items_list, malformations_at};
 ghost use Rattle.olk_spec.specs.Costs.{cost};
 ghost use Rattle.olk_reports.specs.Paths.{one_below};
 ghost use Rattle.olk_base.specs.Kit.{kit, world};
 ghost use Rattle.olk_node.specs.Stands.{StandsFor};
-ghost use Rattle.olk_members.specs.Members.{malformations_at};
 ghost use Rattle.olk_build.specs.Building.{IsBuilt, AreBuilt, InnerAreBuilt, is_read, entries_read, RefusesSchema, RefusesEach, RefusesInner, RefusesObject, RefusesPart};
-ghost use Rattle.olk_members.specs.Conditions.{is_condition};
+ghost use Rattle.olk_members.specs.Conditions.{known, known_of};
 ghost use Rattle.olk_read.specs.Refusing.{TellsOneOf, Spends, SpendsWithin};
 ghost use Rattle.olk_build.specs.Placing.{ObjectIsParted, IsPart, PlacesAreBuilt, RefusesPlaces};
 
 use crate::context::Context;
 use olk_base::{MakeLeaf, MakeRegex, Meter};
 use olk_make::{Part, make_keywords};
-use olk_members::is_condition;
+use olk_members::Neighbours;
 use olk_node::SchemaNode;
 use olk_read::{Makers, ReadPlaces, append, append_all, one, read_keyword, refuse};
 use olk_reports::{BuildError, Location, ValidationErrorKind};
@@ -83,7 +82,7 @@ fn compile_parts<'a, L: MakeLeaf, M: MakeRegex>(
     ensures refused { IfErr result (RefusesObject (kit L.Leaf.Leaf M.Engine.RegexEngine)
         (members_view members.now.entries) place.now meter.old meter.new) }
 {
-    let condition = is_condition(members);
+    let neighbours = Neighbours::of(members);
     let mut parts = Vec::with_capacity(alloc, members.len())?;
     for (name, value) in members {
         let location = place.join(alloc, name.as_str())?;
@@ -91,7 +90,7 @@ fn compile_parts<'a, L: MakeLeaf, M: MakeRegex>(
             alloc,
             makers,
             meter,
-            condition,
+            neighbours,
             location,
             name.as_str(),
             value,
@@ -101,7 +100,7 @@ fn compile_parts<'a, L: MakeLeaf, M: MakeRegex>(
     Ok(parts)
 }
 
-/// The part of a member of a schema object, where the condition says whether `if` is read there.
+/// The part of a member of a schema object, by what it has to know of its neighbours.
 ///
 /// # Errors
 ///
@@ -111,17 +110,17 @@ fn compile_part<'a, L: MakeLeaf, M: MakeRegex>(
     alloc: Global,
     makers: &Makers<'_, L, M>,
     meter: &mut Meter,
-    condition: bool,
+    neighbours: Neighbours<'_>,
     location: Location,
     name: &'a str,
     value: &'a Value,
 ) -> Result<Part<L::Leaf, M::Engine, SchemaNode<L::Leaf, M::Engine>>, BuildError<'a>>
     ensures built { IfOk result (λ p. IsPart (kit L.Leaf.Leaf M.Engine.RegexEngine) p
-        condition name.now (view value.now) location meter.old meter.new) }
+        (known neighbours.entry) name.now (view value.now) location meter.old meter.new) }
     ensures refused { IfErr result (RefusesPart (kit L.Leaf.Leaf M.Engine.RegexEngine)
-        condition name.now (view value.now) location meter.old meter.new) }
+        (known neighbours.entry) name.now (view value.now) location meter.old meter.new) }
 {
-    let shape = read_keyword(alloc, makers, meter, condition, &location, name, value)?;
+    let shape = read_keyword(alloc, makers, meter, neighbours, &location, name, value)?;
     let nodes = compile_places(alloc, makers, meter, &location, shape.reads(), value)?;
     Ok(Part {
         location,
@@ -277,8 +276,8 @@ fn compile_branches<'a, L: MakeLeaf, M: MakeRegex>(
     Ok(nodes)
 }
 
-/// The part of a member of the schema object at the context's place, which is left as it was; of `if`, `then` and
-/// `else` it is that of the parent's member.
+/// The part of a member of the schema object at the context's place, which is left as it was; of `if`, `then`, `else` and
+/// `patternProperties` it is that of the parent's member.
 ///
 /// # Errors
 ///
@@ -291,21 +290,21 @@ pub(crate) fn compile_member<'a, L: MakeLeaf, M: MakeRegex>(
     value: &'a Value,
 ) -> Result<Part<L::Leaf, M::Engine, SchemaNode<L::Leaf, M::Engine>>, BuildError<'a>>
     ensures built { IfOk result (λ p. IsPart (kit L.Leaf.Leaf M.Engine.RegexEngine) p
-        (is_condition (members_view parent.now.entries)) name.now (view value.now)
+        (known_of (members_view parent.now.entries)) name.now (view value.now)
         (one_below ctx.old.place name.now) ctx.old.meter.now ctx.new.meter.now) }
     ensures refused { IfErr result (RefusesPart (kit L.Leaf.Leaf M.Engine.RegexEngine)
-        (is_condition (members_view parent.now.entries)) name.now (view value.now)
+        (known_of (members_view parent.now.entries)) name.now (view value.now)
         (one_below ctx.old.place name.now) ctx.old.meter.now ctx.new.meter.now) }
     ensures place { ctx.new.place ≡ ctx.old.place }
     ensures same_meter { ctx.new.meter.ghost_name ≡ ctx.old.meter.ghost_name }
 {
     let location = ctx.place.join(alloc, name)?;
-    let condition = is_condition(parent);
+    let neighbours = Neighbours::of(parent);
     compile_part(
         alloc,
         &ctx.makers,
         ctx.meter,
-        condition,
+        neighbours,
         location,
         name,
         value,

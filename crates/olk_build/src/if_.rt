@@ -9,7 +9,8 @@ ghost use Rattle.olk_reports.specs.Paths.{one_below};
 ghost use Rattle.olk_base.specs.Kit.{kit};
 ghost use Rattle.olk_members.specs.Conditions.{is_condition};
 ghost use Rattle.olk_make.specs.Forms.{IsIf};
-ghost use Rattle.olk_build.specs.Conditions.{BuildsCondition, BuildsCase};
+ghost use Rattle.olk_build.specs.Together.{condition_members, BuildsTogether};
+ghost use Rattle.olk_build.specs.Conditions.{BuildsCase};
 ghost use Rattle.olk_build.specs.Parts.{Gives};
 
 use crate::build::compile_member;
@@ -65,8 +66,9 @@ fn compile_condition<'a, L: MakeLeaf, M: MakeRegex>(
     requires read { is_condition (members_view parent.now.entries) ≡ true }
     requires distinct { has_repeat (map (λ m. m.0)
         (listed (members_view parent.now.entries))) ≡ false }
-    ensures builds { BuildsCondition (kit L.Leaf.Leaf M.Engine.RegexEngine)
-        (members_view parent.now.entries) (view schema.now) ctx.old.place
+    ensures builds { BuildsTogether (kit L.Leaf.Leaf M.Engine.RegexEngine)
+        (members_view parent.now.entries) (codes "if") (view schema.now)
+        (condition_members (members_view parent.now.entries) (view schema.now)) ctx.old.place
         ctx.old.meter.now ctx.new.meter.now result }
     ensures form { IfOk result (IsIf (one_below ctx.old.place (codes "if"))
         (is_some (lookup (codes "then") (listed (members_view parent.now.entries))))
@@ -109,8 +111,9 @@ pub fn compile<'a, L: MakeLeaf, M: MakeRegex>(
     parent: &'a Map<String, Value>,
     schema: &'a Value,
 ) -> Option<Result<Keyword<L::Leaf, M::Engine>, BuildError<'a>>>
-    ensures gives { IfSome result (BuildsCondition (kit L.Leaf.Leaf M.Engine.RegexEngine)
-        (members_view parent.now.entries) (view schema.now) ctx.old.place
+    ensures gives { IfSome result (BuildsTogether (kit L.Leaf.Leaf M.Engine.RegexEngine)
+        (members_view parent.now.entries) (codes "if") (view schema.now)
+        (condition_members (members_view parent.now.entries) (view schema.now)) ctx.old.place
         ctx.old.meter.now ctx.new.meter.now) }
     ensures form { Gives result (IsIf (one_below ctx.old.place (codes "if"))
         (is_some (lookup (codes "then") (listed (members_view parent.now.entries))))

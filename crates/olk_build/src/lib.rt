@@ -3,6 +3,7 @@
 //! Stands on `olk_read` and `olk_make`. Tested by `olk_tests`.
 #![tactic(auto)]
 
+pub mod additional_properties;
 pub mod all_of;
 pub mod any_of;
 pub mod build;

@@ -59,7 +59,7 @@ pub fn compile<'a, L: MakeLeaf, M: MakeRegex>(
                 shape,
                 nodes,
             } = part;
-            let Shape::PatternProperties(patterns) = shape else {
+            let Shape::PatternProperties(patterns, _table) = shape else {
                 unreachable!()
             };
             match make(alloc, location, patterns, nodes) {

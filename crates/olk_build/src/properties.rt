@@ -1,10 +1,12 @@
 //! `properties`.
-ghost use Rattle.std.specs.Prelude.{◌≡◌, codes, length, map, IfOk, IfErr, IsSomeAnd};
+ghost use Rattle.std.specs.Prelude.{◌≡◌, codes, is_none, length, map, IfOk, IfErr};
+ghost use Rattle.std.specs.Option.{IfSome, IfNone};
 ghost use Rattle.serde_json.specs.View.{view, members_view};
 ghost use Rattle.olk_spec.specs.Schemas.{listed, members};
 ghost use Rattle.olk_reports.specs.Paths.{one_below};
 ghost use Rattle.olk_base.specs.Kit.{kit};
 ghost use Rattle.olk_make.specs.Forms.{IsProperties};
+ghost use Rattle.olk_members.specs.Conditions.{is_restricted};
 ghost use Rattle.olk_members.specs.Plans.{plan_of};
 ghost use Rattle.olk_build.specs.Building.{AreBuilt, RefusesEach};
 ghost use Rattle.olk_build.specs.Parts.{BuildsClaims, Gives};
@@ -24,29 +26,36 @@ use serde_json::{Map, Value};
 use std::alloc::Global;
 
 /// The keyword of `properties` in the object at the context's place (JSON Schema 2020-12 Core, 10.3.2.1): with the two
-/// names that it fuses from `required` of the parent, and then it stands for both, or alone.
+/// names that it fuses from `required` of the parent, and then it stands for both, or alone; none where
+/// `additionalProperties` of the parent is `false` or an object, since that keyword then stands for the names too.
 ///
 /// The meter rises by the cost of the keyword, or by a part of it where nothing is built; the context's place is left as
 /// it was.
 ///
 /// # Errors
 ///
-/// One of the malformations of the keyword; else want of memory. There always is an answer.
+/// One of the malformations of the keyword; else want of memory.
 pub fn compile<'a, L: MakeLeaf, M: MakeRegex>(
     alloc: Global,
     ctx: &mut Context<'_, L, M>,
     parent: &'a Map<String, Value>,
     schema: &'a Value,
 ) -> Option<Result<Keyword<L::Leaf, M::Engine>, BuildError<'a>>>
-    ensures gives { IsSomeAnd result (BuildsClaims (kit L.Leaf.Leaf M.Engine.RegexEngine)
+    ensures gives { IfSome result (BuildsClaims (kit L.Leaf.Leaf M.Engine.RegexEngine)
         (members_view parent.now.entries) (codes "properties") (view schema.now)
         ctx.old.place ctx.old.meter.now ctx.new.meter.now) }
     ensures form { Gives result (IsProperties ctx.old.place
         (one_below ctx.old.place (codes "properties")) (length (members (view schema.now)))
         (plan_of (members_view parent.now.entries)).fused) }
+    ensures unread { is_none result ≡ is_restricted (members_view parent.now.entries) }
+    ensures unread_at_no_cost { IfNone result (ctx.new.meter.now ≡ ctx.old.meter.now) }
     ensures place { ctx.new.place ≡ ctx.old.place }
     ensures same_meter { ctx.new.meter.ghost_name ≡ ctx.old.meter.ghost_name }
 {
+    let plan = Plan::of(parent);
+    if plan.is_restricted() {
+        return None;
+    }
     match compile_member(alloc, ctx, parent, "properties", schema) {
         Ok(part) => {
             let Part {
@@ -57,7 +66,7 @@ pub fn compile<'a, L: MakeLeaf, M: MakeRegex>(
             let Shape::Properties(names) = shape else {
                 unreachable!()
             };
-            match make(alloc, Plan::of(parent), &ctx.place, location, names, nodes) {
+            match make(alloc, plan, &ctx.place, location, names, nodes) {
                 Ok(keyword) => Some(Ok(keyword)),
                 Err(error) => Some(Err(BuildError::Memory(error))),
             }

@@ -1,5 +1,5 @@
 //! `required`.
-ghost use Rattle.std.specs.Prelude.{◌≡◌, codes, is_some, is_none};
+ghost use Rattle.std.specs.Prelude.{◌≡◌, ◌||◌, codes, is_some, is_none};
 ghost use Rattle.std.specs.Option.{IfSome, IfNone};
 ghost use Rattle.serde_json.specs.View.{members_view, view};
 ghost use Rattle.olk_reports.specs.Paths.{one_below};
@@ -22,7 +22,7 @@ use serde_json::{Map, Value};
 use std::alloc::Global;
 
 /// The keyword of `required` in the object at the context's place (JSON Schema 2020-12 Validation, 6.5.3), and none
-/// where `properties` of the parent fuses the names.
+/// where `properties` of the parent fuses its two names, or `additionalProperties` its one.
 ///
 /// The meter rises by the cost of the keyword, or by a part of it where nothing is built; the context's place is left as
 /// it was.
@@ -40,12 +40,14 @@ pub fn compile<'a, L: MakeLeaf, M: MakeRegex>(
         (view schema.now) ctx.old.place ctx.old.meter.now ctx.new.meter.now) }
     ensures form { Gives result (IsRequired (one_below ctx.old.place (codes "required"))
         (view schema.now)) }
-    ensures fused { is_none result ≡ is_some (plan_of (members_view parent.now.entries)).fused }
+    ensures fused { is_none result ≡ (is_some (plan_of (members_view parent.now.entries)).fused
+        || is_some (plan_of (members_view parent.now.entries)).fused_one) }
     ensures fused_at_no_cost { IfNone result (ctx.new.meter.now ≡ ctx.old.meter.now) }
     ensures place { ctx.new.place ≡ ctx.old.place }
     ensures same_meter { ctx.new.meter.ghost_name ≡ ctx.old.meter.ghost_name }
 {
-    if Plan::of(parent).fuses() {
+    let plan = Plan::of(parent);
+    if plan.fuses() || plan.fused_one().is_some() {
         return None;
     }
     match compile_member(alloc, ctx, parent, "required", schema) {

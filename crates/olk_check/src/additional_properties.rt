@@ -68,6 +68,7 @@ fn has_required(required: &Option<RequiredName>, members: &Map<String, Value>) -
 }
 
 // Whether each member is accepted by what speaks of it.
+#[inline(never)]
 fn members_accepted<R: RegexEngine, N: IsValid>(
     keyword: &AdditionalProperties<R, N>,
     members: &Map<String, Value>,

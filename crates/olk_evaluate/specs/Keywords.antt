@@ -23,5 +23,5 @@ keyword_place (keyword.PropertyNamesFalse k) = k.location
 keyword_place (keyword.PropertyDependencies k) = k.location
 keyword_place (keyword.PatternProperties k) = k.location
 keyword_place (keyword.SingleValuePatternProperties k) = k.location
-keyword_place (keyword.AdditionalProperties k) = k.location
+keyword_place (keyword.AdditionalProperties k) = k.value.location
 keyword_place (keyword.Leaf p l) = p

@@ -31,17 +31,19 @@ use Rattle.olk_node.specs.Stands.{StandsFor}
 use Rattle.olk_node.specs.declared.node.SchemaNode.{SchemaNode}
 use Rattle.olk_members.specs.Members.{member_accepts, member_asks, member_report, member_child}
 use Rattle.olk_members.specs.Conditions.{is_condition}
-use Rattle.olk_members.specs.Plans.{Planned, plan_of, is_case, head, claims}
-use Rattle.olk_members.proofs.Claims.{members_named, members_found, claims_condition, claims_no_case, claims_itself, heads_elsewhere}
+use Rattle.olk_members.specs.Plans.{Planned, plan_of, is_case, tells_members, head, claims}
+use Rattle.olk_members.proofs.Claims.{members_named, members_found, claims_condition, claims_itself, heads_elsewhere}
+use Rattle.olk_members.proofs.TakenOver.{never_taken}
 use Rattle.olk_members.proofs.Conditions as fact
 use Rattle.olk_members.proofs.Heads.{names_of}
 use Rattle.olk_make.specs.Forms.{IsFormOfIf, IsIf}
 use Rattle.olk_make.specs.Holding.{which, Covers}
 use Rattle.olk_make.specs.Making.{KeywordsMean, MakesCondition, MakesPart}
-use Rattle.olk_make.specs.Standing.{StandAt, CaseStands, CasesStand}
+use Rattle.olk_make.specs.Standing.{StandAt, Fills, is_taken, CasesStand}
 use Rattle.olk_read.specs.declared.shape.Shape.TheVariants as shape
 use Rattle.olk_read.specs.declared.shape.ReadPlaces.TheVariants.{Itself}
 use Rattle.olk_make.specs.declared.part.Cases.{Cases}
+use Rattle.olk_make.specs.declared.part.Taken.{Taken}
 use Rattle.olk_make.proofs.Held.{question, shown, found}
 use Rattle.olk_make.proofs.Together.{means_permuted}
 
@@ -57,6 +59,9 @@ if_of_form (Some k) L n cs f = form_is_if L n cs.then_schema cs.else_schema k f
 
 module _ {K R : Type 0} (o : Kit K R) where
   -- ---- what stands where the condition says, or nothing
+
+  abbrev Case : Path → SchemaNode K R → Data → Type 0
+  Case L n d = StandsFor o n d L
 
   abbrev case_question : Option (SchemaNode K R) → Data → Question
   case_question None v = always true
@@ -107,25 +112,25 @@ module _ {K R : Type 0} (o : Kit K R) where
     case_trees None L Q = []
     case_trees (Some d) L Q = tree o.world u d v L Q ∷ []
 
-    case_accepts : (t : Option (SchemaNode K R)) (a : Option Data) (L : Path) → CaseStands o t a L → (case_question t v).accepts u ≡ case_verdict a
+    case_accepts : (t : Option (SchemaNode K R)) (a : Option Data) (L : Path) → Fills (Case L) t a → (case_question t v).accepts u ≡ case_verdict a
     case_accepts None None L h = refl
     case_accepts (Some n) (Some d) L h = h.verdict u v
     case_accepts None (Some d) L h = absurd h
     case_accepts (Some n) None L h = absurd h
 
-    case_asks : (t : Option (SchemaNode K R)) (a : Option Data) (L : Path) → CaseStands o t a L → (case_question t v).asks u ≤ case_asked a
+    case_asks : (t : Option (SchemaNode K R)) (a : Option Data) (L : Path) → Fills (Case L) t a → (case_question t v).asks u ≤ case_asked a
     case_asks None None L h = omega arith
     case_asks (Some n) (Some d) L h = h.asks_within u v
     case_asks None (Some d) L h = absurd h
     case_asks (Some n) None L h = absurd h
 
-    case_finds : (t : Option (SchemaNode K R)) (a : Option Data) (L Q : Path) → CaseStands o t a L → case_found u t v Q ∼ case_report a L Q
+    case_finds : (t : Option (SchemaNode K R)) (a : Option Data) (L Q : Path) → Fills (Case L) t a → case_found u t v Q ∼ case_report a L Q
     case_finds None None L Q h = like_empty
     case_finds (Some n) (Some d) L Q h = h.faults u v Q
     case_finds None (Some d) L Q h = absurd h
     case_finds (Some n) None L Q h = absurd h
 
-    case_shows : (t : Option (SchemaNode K R)) (a : Option Data) (L Q : Path) → CaseStands o t a L → branch_trees (λ n. (answers o n).tree u) v Q (option_to_list t) ≡ case_trees a L Q
+    case_shows : (t : Option (SchemaNode K R)) (a : Option Data) (L Q : Path) → Fills (Case L) t a → branch_trees (λ n. (answers o n).tree u) v Q (option_to_list t) ≡ case_trees a L Q
     case_shows None None L Q h = refl
     case_shows (Some n) (Some d) L Q h = ap (λ t. t ∷ []) (h.evaluation u v Q)
     case_shows None (Some d) L Q h = absurd h
@@ -214,7 +219,7 @@ module _ {K R : Type 0} (o : Kit K R) where
     abbrev three : List (Name × Data)
     three = (codes "if", d) ∷ rows (codes "then") at_then ++ rows (codes "else") at_else
 
-    module _ (L : Path) (n : SchemaNode K R) (t e : Option (SchemaNode K R)) (k : KeywordOver K R (SchemaNode K R)) (place : L ≡ P // codes "if") (form : IsFormOfIf L n t e k) (stands : StandsFor o n d L) (then_stands : CaseStands o t at_then (P // codes "then")) (else_stands : CaseStands o e at_else (P // codes "else")) where
+    module _ (L : Path) (n : SchemaNode K R) (t e : Option (SchemaNode K R)) (k : KeywordOver K R (SchemaNode K R)) (place : L ≡ P // codes "if") (form : IsFormOfIf L n t e k) (stands : StandsFor o n d L) (then_stands : Fills (Case (P // codes "then")) t at_then) (else_stands : Fills (Case (P // codes "else")) e at_else) where
       mean_together : Covers o ms (k ∷ []) three P
       mean_together = record {
         verdict = λ u v. and_true _ ∙ ap (λ q. q.accepts u) (form_means L n t e k form v)
@@ -222,7 +227,7 @@ module _ {K R : Type 0} (o : Kit K R) where
             ∙ one_verdict (tested ms d there u v) (case_verdict u v at_then) (case_verdict u v at_else)
             ∙ (λ i. sym (then_accepts ms d there u v at_then) i && sym (else_accepts ms d there u v at_else) i)
             ∙ sym (list_all-append (row_accepts ms d there u v) (rows (codes "then") at_then) (rows (codes "else") at_else));
-        asks_within = λ free u v.
+        asks_within = λ u v.
             let q = ap (λ q. q.asks u) (form_means L n t e k form v) ∙ ap (λ b. ((answers o n).means v).asks u + cond b ((case_question t v).asks u) ((case_question e v).asks u)) (stands.verdict u v) in
             let w = one_asked (tested ms d there u v) (((answers o n).means v).asks u) ((case_question t v).asks u) ((case_question e v).asks u) (asks o.world u d v) (case_asked u v at_then) (case_asked u v at_else) (stands.asks_within u v) (case_asks u v t at_then (P // codes "then") then_stands) (case_asks u v e at_else (P // codes "else") else_stands) in
             let s = sum_by-cons (row_asks ms d there u v) (codes "if", d) (rows (codes "then") at_then ++ rows (codes "else") at_else) in
@@ -258,7 +263,7 @@ module _ {K R : Type 0} (o : Kit K R) where
 
   -- ---- what is made of the nodes
 
-  none_stands : (a : Option Data) (L : Path) → CaseStands o None a L → a ≡ None
+  none_stands : (a : Option Data) (L : Path) → Fills (Case L) None a → a ≡ None
   none_stands None L h = refl
   none_stands (Some d) L h = absurd h
 
@@ -268,8 +273,8 @@ module _ {K R : Type 0} (o : Kit K R) where
   -- where there is neither, `if` is not read
   pub makes_no_condition : (L : Path) (n : SchemaNode K R) (cs : Cases (SchemaNode K R)) → cs.then_schema ≡ None → cs.else_schema ≡ None → MakesCondition o L n cs []
   makes_no_condition L n cs p q ms d P place stands cases distinct there read_here =
-      let a = none_stands (lookup (codes "then") (listed ms)) (P // codes "then") (subst (λ t. CaseStands o t (lookup (codes "then") (listed ms)) (P // codes "then")) p cases.0) in
-      let b = none_stands (lookup (codes "else") (listed ms)) (P // codes "else") (subst (λ t. CaseStands o t (lookup (codes "else") (listed ms)) (P // codes "else")) q cases.1) in
+      let a = none_stands (lookup (codes "then") (listed ms)) (P // codes "then") (subst (λ t. Fills (Case (P // codes "then")) t (lookup (codes "then") (listed ms))) p cases.0) in
+      let b = none_stands (lookup (codes "else") (listed ms)) (P // codes "else") (subst (λ t. Fills (Case (P // codes "else")) t (lookup (codes "else") (listed ms))) q cases.1) in
       absurd (true≢false (sym read_here ∙ (λ i. is_some (there i) && (is_some (a i) || is_some (b i)))))
 
   pub makes_if : (r : Option (KeywordOver K R (SchemaNode K R))) (L : Path) (n : SchemaNode K R) (cs : Cases (SchemaNode K R)) → IfNone r (cs.then_schema ≡ None) → IfNone r (cs.else_schema ≡ None) → IfSome r (IsFormOfIf L n cs.then_schema cs.else_schema) → MakesCondition o L n cs (option_to_list r)
@@ -277,51 +282,54 @@ module _ {K R : Type 0} (o : Kit K R) where
   makes_if (Some k) L n cs p q form = makes_condition k L n cs form
 
   -- the part of `if`, whose node this is
-  pub part_of_if : (L : Path) (before ns : List (SchemaNode K R)) (n : SchemaNode K R) (cs : Cases (SchemaNode K R)) (P : Path) (p : Planned) (ks : List (KeywordOver K R (SchemaNode K R))) → ns ≡ before ++ n ∷ [] → MakesCondition o L n cs ks → MakesPart o shape.If L ns cs P p ks
-  part_of_if L before ns n cs P p ks split make ms m place named fits stand cases distinct there chosen =
+  pub part_of_if : (L : Path) (before ns : List (SchemaNode K R)) (n : SchemaNode K R) (t : Taken R (SchemaNode K R)) (P : Path) (p : Planned) (ks : List (KeywordOver K R (SchemaNode K R))) → ns ≡ before ++ n ∷ [] → MakesCondition o L n t.cases ks → MakesPart o shape.If L ns t P p ks
+  part_of_if L before ns n t P p ks split make ms m place named fits stand cases beside distinct there chosen untaken =
       subst (λ q. KeywordsMean o ms ks (claims (head q) (listed ms) m) (m ∷ []) P) (sym chosen)
       (subst (λ k. KeywordsMean o ms ks (claims (head (plan_of ms)) (listed ms) (k, m.1)) ((k, m.1) ∷ []) P) (sym named)
-      (make ms m.1 P (place ∙ ap (λ k. P // k) named) (by before (subst (λ l. StandAt o Itself l m.1 L) split (stand refl))) (cases refl) distinct (ap (λ k. lookup k (listed ms)) (sym named) ∙ there) (ap (λ q. q.condition) (sym chosen) ∙ fits)))
+      (make ms m.1 P (place ∙ ap (λ k. P // k) named) (by before (subst (λ l. StandAt o Itself l m.1 L) split stand)) (cases refl) distinct (ap (λ k. lookup k (listed ms)) (sym named) ∙ there) fits))
     where
       by : (before : List (SchemaNode K R)) → StandAt o Itself (before ++ n ∷ []) m.1 L → StandsFor o n m.1 L
       by [] h = h
       by (x ∷ []) h = absurd h
       by (x ∷ y ∷ before) h = absurd h
 
-  pub part_of_no_if : (L : Path) (ns : List (SchemaNode K R)) (cs : Cases (SchemaNode K R)) (P : Path) (p : Planned) (ks : List (KeywordOver K R (SchemaNode K R))) → ns ≡ [] → MakesPart o shape.If L ns cs P p ks
-  part_of_no_if L ns cs P p ks none ms m place named fits stand cases distinct there chosen = absurd (subst (λ l. StandAt o Itself l m.1 L) none (stand refl))
+  pub part_of_no_if : (L : Path) (ns : List (SchemaNode K R)) (t : Taken R (SchemaNode K R)) (P : Path) (p : Planned) (ks : List (KeywordOver K R (SchemaNode K R))) → ns ≡ [] → MakesPart o shape.If L ns t P p ks
+  part_of_no_if L ns t P p ks none ms m place named fits stand cases beside distinct there chosen untaken = absurd (subst (λ l. StandAt o Itself l m.1 L) none stand)
 
-  -- `then` and `else` beside `if` have no keyword of their own, and show nothing of their own
-  module _ (L : Path) (ns : List (SchemaNode K R)) (cs : Cases (SchemaNode K R)) (P : Path) (p : Planned) where
-    case_means_nothing : (ms : Members) (m : Name × Data) → p.condition ≡ true → is_case m.0 ≡ true → ((u : Bool) (v : Data) (Q : Path) → member_child o.world ms m (which o ms m) u v P Q ≡ []) → KeywordsMean o ms [] (claims (head p) (listed ms) m) (m ∷ []) P
-    case_means_nothing ms m fits case child = subst (λ rows. KeywordsMean o ms [] rows (m ∷ []) P) (sym (claims_no_case p fits (listed ms) m case)) record {
-      covers = record { verdict = λ u v. refl; asks_within = λ free u v. omega arith; faults = λ u v Q. like_empty };
-      shows = λ clean u v Q. sym (append-nil _ ∙ child u v Q);
-    }
-
-    pub part_of_then : MakesPart o shape.Then L ns cs P p []
-    part_of_then ms m place named fits stand cases distinct there chosen = subst (λ k. KeywordsMean o ms [] (claims (head p) (listed ms) (k, m.1)) ((k, m.1) ∷ []) P) (sym named) (case_means_nothing ms (codes "then", m.1) fits refl (λ u v Q. refl))
-
-    pub part_of_else : MakesPart o shape.Else L ns cs P p []
-    part_of_else ms m place named fits stand cases distinct there chosen = subst (λ k. KeywordsMean o ms [] (claims (head p) (listed ms) (k, m.1)) ((k, m.1) ∷ []) P) (sym named) (case_means_nothing ms (codes "else", m.1) fits refl (λ u v Q. refl))
-
-    -- nor has any of the three where `if` is not read
-    pub part_of_unpaired : MakesPart o shape.Unpaired L ns cs P p []
-    part_of_unpaired ms m place named fits stand cases distinct there chosen =
-        let nothing = fact.unpaired_means_nothing o.world ms m named (ap (λ q. q.condition) (sym chosen) ∙ fits) (ap is_some there) in
-        subst (λ rows. KeywordsMean o ms [] rows (m ∷ []) P) (sym (claims_itself ms distinct (head p) m (heads_elsewhere p m.0 (apart_from (codes "properties") refl refl refl) (apart_from (codes "required") refl refl refl) (λ e. absurd (true≢false (sym e ∙ fits)))) there)) record {
-          covers = record {
-            verdict = λ u v. sym (and_true _ ∙ nothing.verdict u v);
-            asks_within = λ free u v. omega arith;
-            faults = λ u v Q. ∼_same (sym (append-nil _ ∙ nothing.report u v P Q));
-          };
-          shows = λ clean u v Q. sym (append-nil _ ∙ nothing.child u v P Q);
-        }
+  module _ (L : Path) (ns : List (SchemaNode K R)) (t : Taken R (SchemaNode K R)) (P : Path) (p : Planned) (ks : List (KeywordOver K R (SchemaNode K R))) where
+    case_is_taken : (ms : Members) (k : Name) → is_case k ≡ true → is_condition ms ≡ true → p ≡ plan_of ms → is_taken p k ≡ false → {X : Type 0} → X
+    case_is_taken ms k case fits chosen untaken = absurd (true≢false (sym ((λ i. (p.restricted && tells_members k) || (ap (λ q. q.condition) chosen ∙ fits) i && case i) ∙ or_true (p.restricted && tells_members k)) ∙ untaken))
       where
-        apart_from : (n : Name) → bytes_eq n (codes "if") ≡ false → bytes_eq n (codes "then") ≡ false → bytes_eq n (codes "else") ≡ false → bytes_eq n m.0 ≡ false
-        apart_from n a b c = by (fact.conditional_named m.0 named)
-          where
-            by : (m.0 ≡ codes "if") ⊎ (m.0 ≡ codes "then") ⊎ (m.0 ≡ codes "else") → bytes_eq n m.0 ≡ false
-            by (inl q) = ap (bytes_eq n) q ∙ a
-            by (inr (inl q)) = ap (bytes_eq n) q ∙ b
-            by (inr (inr q)) = ap (bytes_eq n) q ∙ c
+        or_true : (b : Bool) → (b || true) ≡ true
+        or_true true = refl
+        or_true false = refl
+
+    -- what `if` takes does not stay
+    pub part_of_then : MakesPart o shape.Then L ns t P p ks
+    part_of_then ms m place named fits stand cases beside distinct there chosen untaken = case_is_taken ms (codes "then") refl fits chosen (ap (is_taken p) (sym named) ∙ untaken)
+
+    pub part_of_else : MakesPart o shape.Else L ns t P p ks
+    part_of_else ms m place named fits stand cases beside distinct there chosen untaken = case_is_taken ms (codes "else") refl fits chosen (ap (is_taken p) (sym named) ∙ untaken)
+
+  -- none of the three has a keyword of its own where `if` is not read
+  pub part_of_unpaired : (L : Path) (ns : List (SchemaNode K R)) (t : Taken R (SchemaNode K R)) (P : Path) (p : Planned) → MakesPart o shape.Unpaired L ns t P p []
+  part_of_unpaired L ns t P p ms m place named fits stand cases beside distinct there chosen untaken =
+      let nothing = fact.unpaired_means_nothing o.world ms m named fits (ap is_some there) in
+      subst (λ q. KeywordsMean o ms [] (claims (head q) (listed ms) m) (m ∷ []) P) (sym chosen)
+      (subst (λ rows. KeywordsMean o ms [] rows (m ∷ []) P) (sym (claims_itself ms distinct (head (plan_of ms)) m (heads_elsewhere (plan_of ms) m.0 (apart_from (codes "properties") refl refl refl) (apart_from (codes "required") refl refl refl) (λ e. absurd (true≢false (sym e ∙ fits)))
+      (never_taken (plan_of ms) m.0 (apart_from (codes "additionalProperties") refl refl refl) (apart_from (codes "properties") refl refl refl) (apart_from (codes "patternProperties") refl refl refl) (apart_from (codes "required") refl refl refl))) there)) record {
+        covers = record {
+          verdict = λ u v. sym (and_true _ ∙ nothing.verdict u v);
+          asks_within = λ u v. omega arith;
+          faults = λ u v Q. ∼_same (sym (append-nil _ ∙ nothing.report u v P Q));
+        };
+        shows = λ clean u v Q. sym (append-nil _ ∙ nothing.child u v P Q);
+      })
+    where
+      apart_from : (n : Name) → bytes_eq n (codes "if") ≡ false → bytes_eq n (codes "then") ≡ false → bytes_eq n (codes "else") ≡ false → bytes_eq n m.0 ≡ false
+      apart_from n a b c = by (fact.conditional_named m.0 named)
+        where
+          by : (m.0 ≡ codes "if") ⊎ (m.0 ≡ codes "then") ⊎ (m.0 ≡ codes "else") → bytes_eq n m.0 ≡ false
+          by (inl q) = ap (bytes_eq n) q ∙ a
+          by (inr (inl q)) = ap (bytes_eq n) q ∙ b
+          by (inr (inr q)) = ap (bytes_eq n) q ∙ c

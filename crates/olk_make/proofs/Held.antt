@@ -1,5 +1,5 @@
 -- What holds a keyword.
-use Rattle.std.specs.Prelude.{◌≡◌, cond, Option, Some, None, is_some, option_to_list, ◌≤◌, ℕ, ◌+◌, Bool, true, false, not, ◌&&◌, ◌||◌, List, [], ◌∷◌, ◌++◌, map, sum_by, codes, Vec, String, string_bytes, bytes_eq}
+use Rattle.std.specs.Prelude.{◌≡◌, cond, Option, Some, None, is_some, option_to_list, ◌≤◌, ℕ, ◌+◌, Bool, true, false, not, ◌&&◌, ◌||◌, List, [], ◌∷◌, ◌++◌, map, sum_by, codes, Vec, String, string_bytes, bytes_eq, IsPermutation}
 use Rattle.std.specs.List.{list_all, list_any, flat_map}
 use Rattle.std.specs.Ordering.{nat_cmp, is_eq}
 use Rattle.std.specs.Cmp.Lexicographic.{slice_cmp}
@@ -36,12 +36,13 @@ use Rattle.olk_tree.specs.Answers.{beside, named, names_in, nodes_in, mapped, va
 use Rattle.olk_node.specs.Nodes.{answers}
 use Rattle.olk_tree.specs.Shown.{missing_trees, properties_tree, branch_trees, any_of_tree}
 use Rattle.olk_node.specs.Stands.{StandsFor}
-use Rattle.olk_members.specs.Conditions.{is_restricted}
+use Rattle.olk_members.specs.Conditions.{is_condition, is_restricted}
 use Rattle.olk_members.specs.Members.{member_accepts, member_asks, member_report, member_child, StandsAlone}
-use Rattle.olk_members.specs.Plans.{Planned, head, claims}
+use Rattle.olk_members.specs.Plans.{Planned, plan_of, is_case, tells_members, head, claims}
 use Rattle.olk_make.specs.Forms.{IsFormOfProperties, IsFormOfAllOf, IsFormOfAnyOf}
-use Rattle.olk_members.specs.Fused.{fused_names}
-use Rattle.olk_make.specs.Holding.{StandEach, which, Holds, Covers}
+use Rattle.olk_members.specs.Fused.{fused_names, fused_name}
+use Rattle.olk_make.specs.Holding.{StandEach, which, all_malformed, Holds, Covers}
+use Rattle.olk_make.specs.Standing.{is_taken}
 use Rattle.olk_make.specs.Making.{KeywordMeans, KeywordsMean}
 use Rattle.olk_tree.specs.declared.properties_map.PropertiesMap.{PropertiesMap}
 use Rattle.olk_tree.specs.declared.properties_map.PropertiesMap.TheVariants.{Small}
@@ -52,9 +53,14 @@ use Rattle.olk_node.specs.declared.node.SchemaNode.{SchemaNode}
 use Rattle.olk_members.proofs.Facts as fact
 use Rattle.olk_make.proofs.Entries.{sum_within, AnswerEach, each_accept, each_ask, each_find, each_show, schema_answers, schemas_answer}
 use Rattle.olk_make.proofs.Together.{means_alone, means_permuted}
-use Rattle.olk_members.proofs.Claims.{listing, fuses, claims_itself, claims_both, claims_nothing, heads_elsewhere, past_cases, IsNoCase}
+use Rattle.olk_members.proofs.Claims.{listing, fuses, claims_itself, claims_both, claims_nothing, head_itself, head_of_required, heads_elsewhere, plan_fusing, IsNoCase}
+use Rattle.olk_members.proofs.TakenOver.{IsNotTaken, free_takes_nothing, free_fuses_none, fusing_is_free, fused_is_restricted}
+use Rattle.olk_members.proofs.RestrictedClaims.{claims_no_fused}
+use Rattle.olk_members.proofs.RestrictionShown.{required_shows_none}
+use Rattle.olk_members.proofs.OneFused.{clean_one_fused}
+use Rattle.olk_members.proofs.Conditions.{restricted_read}
 use Rattle.olk_members.proofs.Heads.{names_of}
-use Rattle.olk_members.proofs.Clean.{free, not_fused, fused, names_fused}
+use Rattle.olk_members.proofs.Clean.{fused, names_fused}
 use Rattle.olk_members.proofs.Children.{shown_at, shown_declared, branches_shown, accepting_branches, any_shown, properties_child, required_child, no_required_child, all_of_child, any_of_child, not_child, leaf_child}
 use Rattle.olk_spec.proofs.Maps.{is_empty-map}
 
@@ -189,7 +195,7 @@ module _ {K R : Type 0} (o : Kit K R) where
 
   module _ (ms : Members) (k : KeywordOver K R (SchemaNode K R)) (m : Name × Data) (w : Keyword) (P : Path) where
     pub one_if_free : ((u : Bool) (v : Data) → (question k v).accepts u ≡ member_accepts o.world ms m w u v)
-        → (is_restricted ms ≡ false → (u : Bool) (v : Data) → (question k v).asks u ≤ member_asks o.world ms m w u v)
+        → ((is_restricted ms && tells_members m.0) ≡ false → (u : Bool) (v : Data) → (question k v).asks u ≤ member_asks o.world ms m w u v)
         → ((u : Bool) (v : Data) (Q : Path) → found u k v Q ∼ member_report o.world ms m w u v P Q)
         → Holds o ms (k ∷ []) m w P
     one_if_free a q f = record {
@@ -270,14 +276,14 @@ module _ {K R : Type 0} (o : Kit K R) where
       unfolding validator_tree
       both_show Q = λ i. properties_tree (λ n. (answers o n).tree u) v Q (form.2 i) (named k.properties) (missing_trees (form.3 i ∷ form.4 i ∷ []) v (form.5 i) Q)
 
-    covers_both : (d : Data) → Holds o ms (alone ∷ []) (codes "properties", d) properties P → Covers o ms (keyword.PropertiesWithRequired2 k ∷ []) ((codes "properties", d) ∷ (codes "required", listing t) ∷ []) P
-    covers_both d h = record {
+    covers_both : (d : Data) → is_restricted ms ≡ false → Holds o ms (alone ∷ []) (codes "properties", d) properties P → Covers o ms (keyword.PropertiesWithRequired2 k ∷ []) ((codes "properties", d) ∷ (codes "required", listing t) ∷ []) P
+    covers_both d unrestricted h = record {
       verdict = λ u v. ap (λ b. b && true) (both_accept u v) ∙ turned (is_empty (lacking v)) ((question alone v).accepts u) ∙ (λ i. h.verdict u v i && (sym (fact.required_accepts o.world ms (listing t) u v) i && true));
-      asks_within = λ free u v.
+      asks_within = λ u v.
           let f : Name × Data → ℕ = λ x. member_asks o.world ms x (which o ms x) u v in
           let b = both_ask u v in
           let s = sum_by-cons f (codes "properties", d) ((codes "required", listing t) ∷ []) in
-          let q = h.asks_within free u v in
+          let q = h.asks_within (ap (λ b. b && true) unrestricted) u v in
           omega (arith, b, s, q);
       faults = λ u v Q. subst₂ (λ x y. x ∼ y)
           (sym (append-nil _ ∙ both_find u v Q))
@@ -292,33 +298,38 @@ module _ {K R : Type 0} (o : Kit K R) where
         turned false true = refl
         turned false false = refl
 
-  -- what is planned for an object, by its fused names and by whether `if` is read
-  abbrev pub by_names : Option (Name × Name) → Bool → Planned
-  by_names t c = record { fused = t; condition = c }
+  -- where no other keyword takes the members that `additionalProperties` may take, nothing is restricted
+  pub unrestricted_if_untaken : (p : Planned) (k : Name) → tells_members k ≡ true → is_taken p k ≡ false → p.restricted ≡ false
+  unrestricted_if_untaken p k tells e = by p.restricted (ap (λ b. (p.restricted && b) || (p.condition && is_case k)) (sym tells) ∙ e)
+    where
+      by : (b : Bool) → ((b && true) || (p.condition && is_case k)) ≡ false → b ≡ false
+      by false h = refl
+      by true h = h
 
-  pub means_form : (k : KeywordOver K R (SchemaNode K R)) (names : List Name) (ns : List (SchemaNode K R)) (L P : Path) (t : Option (Name × Name)) (c : Bool) (fs : Members) (d : Data) → d ≡ object fs → names ≡ map (λ e. e.0) (listed fs) → StandEach o ns (listed fs) L → IsFormOfProperties P L names ns t k
-      → (ms : Members) → L ≡ P // codes "properties" → has_repeat (names_of (listed ms)) ≡ false → lookup (codes "properties") (listed ms) ≡ Some d → t ≡ fused_names ms → KeywordsMean o ms (k ∷ []) (claims (head (by_names t c)) (listed ms) (codes "properties", d)) ((codes "properties", d) ∷ []) P
-  means_form (keyword.Properties k) names ns L P None c fs d q declared stand form ms p distinct there chosen =
-      subst (λ rows. KeywordsMean o ms (keyword.Properties k ∷ []) rows ((codes "properties", d) ∷ []) P) (sym (claims_itself ms distinct (head (by_names None c)) (codes "properties", d) (λ n. past_cases c (codes "properties") n (λ e. (refl, refl))) there))
+  pub means_form : (k : KeywordOver K R (SchemaNode K R)) (names : List Name) (ns : List (SchemaNode K R)) (L P : Path) (t : Option (Name × Name)) (fs : Members) (d : Data) → d ≡ object fs → names ≡ map (λ e. e.0) (listed fs) → StandEach o ns (listed fs) L → IsFormOfProperties P L names ns t k
+      → (ms : Members) → L ≡ P // codes "properties" → has_repeat (names_of (listed ms)) ≡ false → lookup (codes "properties") (listed ms) ≡ Some d → t ≡ fused_names ms → is_restricted ms ≡ false → KeywordsMean o ms (k ∷ []) (claims (head (plan_of ms)) (listed ms) (codes "properties", d)) ((codes "properties", d) ∷ []) P
+  means_form (keyword.Properties k) names ns L P None fs d q declared stand form ms p distinct there chosen unrestricted =
+      subst (λ rows. KeywordsMean o ms (keyword.Properties k ∷ []) rows ((codes "properties", d) ∷ []) P) (sym (claims_itself ms distinct (head (plan_of ms)) (codes "properties", d) (head_itself (plan_of ms) (codes "properties") (λ e. absurd (true≢false (sym e ∙ ap is_some (sym chosen)))) (λ e. (refl, refl)) (free_takes_nothing ms (codes "properties") unrestricted)) there))
       (subst (λ M. KeywordsMean o ms (keyword.Properties (record { properties = k.properties; location = M }) ∷ []) ((codes "properties", d) ∷ []) ((codes "properties", d) ∷ []) P) (sym form.3)
-      (means_alone o ms P _ (codes "properties", d)
-      (λ clean u. (there, free o.world ms P clean (meaning_step o.world u), fused o.world ms P clean (meaning_step o.world u) ∙ ap is_some (sym chosen)))
+      (means_alone o ms P _ (codes "properties", d) (ap (λ b. b && true) unrestricted)
+      (λ clean u. (there, restricted_read (meaning_step o.world u) ms ∙ unrestricted, fused o.world ms P clean (meaning_step o.world u) ∙ ap is_some (sym chosen)))
       (means_properties k.properties L fs d q (form.0 ∙ declared) (subst (λ l. StandEach o l (listed fs) L) (sym form.1) stand) ms P p)))
-  means_form (keyword.PropertiesWithRequired2 k) names ns L P (Some t) c fs d q declared stand form ms p distinct there chosen =
+  means_form (keyword.PropertiesWithRequired2 k) names ns L P (Some t) fs d q declared stand form ms p distinct there chosen unrestricted =
       let both = fuses ms distinct t chosen in
       let same_names : k.properties.names ≡ map (λ e. e.0) (listed fs) = form.0 ∙ declared in
       let same_nodes : StandEach o k.properties.nodes.items (listed fs) L = subst (λ l. StandEach o l (listed fs) L) (sym form.1) stand in
       let plain = means_properties (Small k.properties) L fs d q same_names same_nodes ms P p in
-      means_permuted o ms P (keyword.PropertiesWithRequired2 k ∷ []) ((codes "properties", d) ∷ (codes "required", listing t) ∷ []) (claims (head (by_names (Some t) c)) (listed ms) (codes "properties", d)) ((codes "properties", d) ∷ []) (claims_both ms distinct t c d there chosen) record {
-        covers = covers_both ms L P k t names ns form d plain.holds;
+      means_permuted o ms P (keyword.PropertiesWithRequired2 k ∷ []) ((codes "properties", d) ∷ (codes "required", listing t) ∷ []) (claims (head (plan_of ms)) (listed ms) (codes "properties", d)) ((codes "properties", d) ∷ [])
+      (subst (λ s. IsPermutation ((codes "properties", d) ∷ (codes "required", listing t) ∷ []) (claims (head s) (listed ms) (codes "properties", d))) (sym (plan_fusing ms t chosen)) (claims_both ms distinct t (is_condition ms) d there chosen)) record {
+        covers = covers_both ms L P k t names ns form d unrestricted plain.holds;
         shows = λ clean u v Q.
             let step = meaning_step o.world u in
             ap (λ x. x ∷ []) (both_show ms L P k t names ns form u v Q ∙ properties_show (Small k.properties) L (listed fs) same_names same_nodes u v Q (missing_trees (t.0 ∷ t.1 ∷ []) v (P // codes "required") Q) ∙ ap (λ M. shown_declared o.world u v M Q (listed fs) (missing_trees (t.0 ∷ t.1 ∷ []) v (P // codes "required") Q)) p)
             ∙ (λ i. shown_declared o.world u v (P // codes "properties") Q (listed fs) (put_if (sym (fused o.world ms P clean step ∙ ap is_some (sym chosen)) i && not (is_empty (missing (sym (names_fused step ms t both.listed_at) i) v))) (erring (P // codes "required") Q (required_faults (sym (names_fused step ms t both.listed_at) i) v (P // codes "required") Q)) []) ∷ [])
-            ∙ sym (append-nil _ ∙ ap (λ x. member_child o.world ms (codes "properties", x) properties u v P Q) q ∙ properties_child o.world u v ms P Q fs (there ∙ ap Some q) (free o.world ms P clean step));
+            ∙ sym (append-nil _ ∙ ap (λ x. member_child o.world ms (codes "properties", x) properties u v P Q) q ∙ properties_child o.world u v ms P Q fs (there ∙ ap Some q) (restricted_read step ms ∙ unrestricted));
       }
-  means_form k names ns L P None c fs d q declared stand form ms p distinct there chosen = absurd form
-  means_form k names ns L P (Some t) c fs d q declared stand form ms p distinct there chosen = absurd form
+  means_form k names ns L P None fs d q declared stand form ms p distinct there chosen unrestricted = absurd form
+  means_form k names ns L P (Some t) fs d q declared stand form ms p distinct there chosen unrestricted = absurd form
 
   -- ---- branches
 
@@ -476,29 +487,52 @@ module _ {K R : Type 0} (o : Kit K R) where
     shows = λ u h v Q. ap (λ t. t ∷ []) (required_show names L u v Q ∙ (λ i. erring (p i) Q (required_faults (same i) v (p i) Q))) ∙ sym (required_child o.world u v ms P Q d h);
   }
 
-  -- the names are fused
-  pub means_fused : (t : Name × Name) (c : Bool) (d : Data) (ms : Members) (P : Path) → Some t ≡ fused_names ms → KeywordsMean o ms [] (claims (head (by_names (Some t) c)) (listed ms) (codes "required", d)) ((codes "required", d) ∷ []) P
-  means_fused t c d ms P chosen = subst (λ rows. KeywordsMean o ms [] rows ((codes "required", d) ∷ []) P) (sym (claims_nothing t c (listed ms) d)) record {
-    covers = record { verdict = λ u v. refl; asks_within = λ free u v. omega arith; faults = λ u v Q. like_empty };
-    shows = λ clean u v Q. sym (append-nil _ ∙ no_required_child o.world u v ms P Q d (not_fused o.world ms P clean (meaning_step o.world u)) (fused o.world ms P clean (meaning_step o.world u) ∙ ap is_some (sym chosen)));
+  -- no keyword means what claims nothing and shows nothing
+  pub nothing_means : (ms : Members) (m : Name × Data) (P : Path) (p : Planned) → claims (head p) (listed ms) m ≡ [] → (all_malformed o ms P (listed ms) ≡ [] → (u : Bool) (v : Data) (Q : Path) → member_child o.world ms m (which o ms m) u v P Q ≡ []) → KeywordsMean o ms [] (claims (head p) (listed ms) m) (m ∷ []) P
+  nothing_means ms m P p none child = subst (λ rows. KeywordsMean o ms [] rows (m ∷ []) P) (sym none) record {
+    covers = record { verdict = λ u v. refl; asks_within = λ u v. omega arith; faults = λ u v Q. like_empty };
+    shows = λ clean u v Q. sym (append-nil _ ∙ child clean u v Q);
   }
 
-  pub means_required_alone : (names : Vec (String Global) Global) (L : Path) (c : Bool) (d : Data) → map string_bytes names.items ≡ texts d → (ms : Members) (P : Path) → L ≡ P // codes "required" → has_repeat (names_of (listed ms)) ≡ false → lookup (codes "required") (listed ms) ≡ Some d → None ≡ fused_names ms → KeywordsMean o ms (keyword.Required (record { required = names; location = L }) ∷ []) (claims (head (by_names None c)) (listed ms) (codes "required", d)) ((codes "required", d) ∷ []) P
-  means_required_alone names L c d same ms P p distinct there chosen =
-      subst (λ rows. KeywordsMean o ms (keyword.Required (record { required = names; location = L }) ∷ []) rows ((codes "required", d) ∷ []) P) (sym (claims_itself ms distinct (head (by_names None c)) (codes "required", d) (λ n. past_cases c (codes "required") n (λ e. (refl, refl))) there))
-      (means_alone o ms P _ (codes "required", d)
-      (λ clean u. (not_fused o.world ms P clean (meaning_step o.world u), fused o.world ms P clean (meaning_step o.world u) ∙ ap is_some (sym chosen))) (means_required names L d same ms P p))
+  -- two names are fused, or one
+  pub means_fused : (t : Name × Name) (d : Data) (ms : Members) (P : Path) → Some t ≡ fused_names ms → KeywordsMean o ms [] (claims (head (plan_of ms)) (listed ms) (codes "required", d)) ((codes "required", d) ∷ []) P
+  means_fused t d ms P chosen = nothing_means ms (codes "required", d) P (plan_of ms) (ap (λ s. claims (head s) (listed ms) (codes "required", d)) (plan_fusing ms t chosen) ∙ claims_nothing t (is_condition ms) (listed ms) d)
+      (λ clean u v Q. no_required_child o.world u v ms P Q d (clean_one_fused o.world ms P clean (meaning_step o.world u) ∙ free_fuses_none ms (fusing_is_free ms (ap is_some (sym chosen)))) (fused o.world ms P clean (meaning_step o.world u) ∙ ap is_some (sym chosen)))
+
+  one_restricts : (ms : Members) → is_some (fused_name ms) ≡ true → is_restricted ms ≡ true
+  one_restricts ms e = by (fused_name ms) refl e
+    where
+      by : (t : Option Name) → fused_name ms ≡ t → is_some t ≡ true → is_restricted ms ≡ true
+      by None q f = absurd (true≢false (sym f))
+      by (Some n) q f = fused_is_restricted ms n q
+
+  pub means_fused_one : (d : Data) (ms : Members) (P : Path) → is_some (fused_name ms) ≡ true → KeywordsMean o ms [] (claims (head (plan_of ms)) (listed ms) (codes "required", d)) ((codes "required", d) ∷ []) P
+  means_fused_one d ms P chosen = nothing_means ms (codes "required", d) P (plan_of ms) (claims_no_fused ms (one_restricts ms chosen) (listed ms) d chosen) (λ clean u v Q. required_shows_none o.world ms u v P Q d chosen)
+
+  pub means_required_alone : (names : Vec (String Global) Global) (L : Path) (d : Data) → map string_bytes names.items ≡ texts d → (ms : Members) (P : Path) → L ≡ P // codes "required" → has_repeat (names_of (listed ms)) ≡ false → lookup (codes "required") (listed ms) ≡ Some d → is_some (fused_names ms) ≡ false → is_some (fused_name ms) ≡ false → KeywordsMean o ms (keyword.Required (record { required = names; location = L }) ∷ []) (claims (head (plan_of ms)) (listed ms) (codes "required", d)) ((codes "required", d) ∷ []) P
+  means_required_alone names L d same ms P p distinct there not_two not_one =
+      subst (λ rows. KeywordsMean o ms (keyword.Required (record { required = names; location = L }) ∷ []) rows ((codes "required", d) ∷ []) P) (sym (claims_itself ms distinct (head (plan_of ms)) (codes "required", d) (head_of_required (plan_of ms) not_two not_one) there))
+      (means_alone o ms P _ (codes "required", d) (never_both (is_restricted ms))
+      (λ clean u. (clean_one_fused o.world ms P clean (meaning_step o.world u) ∙ not_one, fused o.world ms P clean (meaning_step o.world u) ∙ not_two)) (means_required names L d same ms P p))
+    where
+      never_both : (b : Bool) → (b && false) ≡ false
+      never_both true = refl
+      never_both false = refl
 
   -- a keyword that is neither has a child of its own, and claims its own member
-  neither_of : (ms : Members) (u : Bool) (k : Name) (d : Data) → restricts (read_members (meaning_step o.world u) ms) ≡ false → bytes_eq (codes "properties") k ≡ false → bytes_eq (codes "required") k ≡ false → (w : Keyword) → Named k w → StandsAlone o.world u ms (k, d) w
+  neither_of : (ms : Members) (u : Bool) (k : Name) (d : Data) → (is_restricted ms && tells_members k) ≡ false → bytes_eq (codes "properties") k ≡ false → bytes_eq (codes "required") k ≡ false → (w : Keyword) → Named k w → StandsAlone o.world u ms (k, d) w
   neither_of ms u k d r e f properties n = absurd (true≢false (ap (bytes_eq (codes "properties")) (sym n) ∙ e))
   neither_of ms u k d r e f required n = absurd (true≢false (ap (bytes_eq (codes "required")) (sym n) ∙ f))
-  neither_of ms u k d r e f pattern_properties n = r
+  neither_of ms u k d r e f pattern_properties n = restricted_read (meaning_step o.world u) ms ∙ by (is_restricted ms) (ap (λ x. is_restricted ms && tells_members x) (sym n) ∙ r)
+    where
+      by : (b : Bool) → (b && true) ≡ false → b ≡ false
+      by false h = refl
+      by true h = h
   neither_of ms u k d r e f w n = tt
 
-  pub means_own : (ks : List (KeywordOver K R (SchemaNode K R))) (p : Planned) (ms : Members) (m : Name × Data) (P : Path) → has_repeat (names_of (listed ms)) ≡ false → lookup m.0 (listed ms) ≡ Some m.1 → bytes_eq (codes "properties") m.0 ≡ false → bytes_eq (codes "required") m.0 ≡ false → IsNoCase p.condition m.0 → KeywordMeans o ms ks m P → KeywordsMean o ms ks (claims (head p) (listed ms) m) (m ∷ []) P
-  means_own ks p ms m P distinct there e f apart h = subst (λ rows. KeywordsMean o ms ks rows (m ∷ []) P) (sym (claims_itself ms distinct (head p) m (heads_elsewhere p m.0 e f apart) there))
-      (means_alone o ms P ks m (λ clean u. neither_of ms u m.0 m.1 (free o.world ms P clean (meaning_step o.world u)) e f (keyword_named o.world m.0) (is_named m.0 o.world)) h)
+  pub means_own : (ks : List (KeywordOver K R (SchemaNode K R))) (ms : Members) (m : Name × Data) (P : Path) → has_repeat (names_of (listed ms)) ≡ false → lookup m.0 (listed ms) ≡ Some m.1 → bytes_eq (codes "properties") m.0 ≡ false → bytes_eq (codes "required") m.0 ≡ false → IsNoCase (is_condition ms) m.0 → IsNotTaken (plan_of ms) m.0 → (is_restricted ms && tells_members m.0) ≡ false → KeywordMeans o ms ks m P → KeywordsMean o ms ks (claims (head (plan_of ms)) (listed ms) m) (m ∷ []) P
+  means_own ks ms m P distinct there e f apart own untaken h = subst (λ rows. KeywordsMean o ms ks rows (m ∷ []) P) (sym (claims_itself ms distinct (head (plan_of ms)) m (heads_elsewhere (plan_of ms) m.0 e f apart own) there))
+      (means_alone o ms P ks m untaken (λ clean u. neither_of ms u m.0 m.1 untaken e f (keyword_named o.world m.0) (is_named m.0 o.world)) h)
 
   -- ---- leaves, and names that nothing reads
 

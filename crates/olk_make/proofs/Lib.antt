@@ -8,5 +8,6 @@ pub mod DependencyKeywords
 pub mod PropertyNames
 pub mod PropertyDependencies
 pub mod PatternProperties
+pub mod AdditionalProperties
 pub mod Makes
-pub mod Taken
+pub mod Taking

@@ -1,30 +1,38 @@
 -- What is made of a part, and of all parts.
-use Rattle.std.specs.Prelude.{◌≡◌, Bool, true, false, List, [], ◌∷◌, ◌++◌, ◌||◌, map, codes, bytes_eq, Option, Some, None, is_some, Vec, String}
+use Rattle.std.specs.Prelude.{◌≡◌, Bool, true, false, not, List, [], ◌∷◌, ◌++◌, ◌&&◌, ◌||◌, map, codes, bytes_eq, Option, Some, None, is_some, Vec, String, string_bytes}
 use Rattle.std.specs.List.{flat_map}
 use Rattle.std.specs.declared.alloc.Global.{Global}
-use Rattle.std.proofs.Common.{refl, sym, ◌∙◌, ap, subst}
+use Rattle.std.proofs.Common.{refl, sym, ◌∙◌, ap, subst, ◌⊎◌, inl, inr}
 use Rattle.std.proofs.lemmas.List.{append-nil, append_assoc, map-append}
 use Rattle.std.proofs.lemmas.List.Folds.{list_any-append}
 use mathlib.Core.Bool.{true≢false}
 use Rattle.serde_json.specs.Data.{Data, object, Members}
 use Rattle.serde_json.specs.declared.value.Value.{Value}
-use Rattle.olk_spec.specs.Names.{Name, Path, ◌//◌, lookup, is_among}
+use Rattle.olk_spec.specs.Names.{Name, Path, ◌//◌, lookup, those, put_if, is_among}
 use Rattle.olk_spec.specs.World.{World}
-use Rattle.olk_spec.specs.Vocabulary.{Keyword, properties, required, if_keyword, then_keyword, else_keyword, keyword_named}
-use Rattle.olk_spec.specs.Schemas.{listed, members, numbered, is_object}
+use Rattle.olk_spec.specs.Vocabulary.{Keyword, properties, pattern_properties, additional_properties, required, if_keyword, then_keyword, else_keyword, keyword_named}
+use Rattle.olk_spec.specs.Schemas.{listed, members, numbered, texts, is_object, is_truth}
 use Rattle.olk_spec.specs.Malformed.{has_repeat, items_of_array}
-use Rattle.olk_spec.proofs.Walks.{same_name, bytes_eq-sym, neither}
+use Rattle.olk_spec.specs.Tree.{Tree}
+use Rattle.olk_spec.proofs.Each.{Each, Each-those}
+use Rattle.olk_spec.proofs.Walks.{same_name, bytes_eq-sym, bytes_eq-itself, neither, Distinct, Distinct-from, Each-found}
 use Rattle.olk_base.specs.Kit.{Kit}
 use Rattle.olk_base.specs.declared.pattern.CompiledPattern.{CompiledPattern}
-use Rattle.olk_members.specs.Plans.{Planned, plan_of, head, claims}
+use Rattle.olk_members.specs.Plans.{Planned, plan_of, is_case, tells_members, head, claims}
 use Rattle.olk_make.specs.Forms.{IsFormOfProperties, IsFormOfAllOf, IsFormOfAnyOf, IsFormOfOneOf}
-use Rattle.olk_make.specs.Holding.{StandEach}
-use Rattle.olk_members.specs.Conditions.{is_condition}
+use Rattle.olk_make.specs.Holding.{StandEach, which, Covers}
+use Rattle.olk_members.specs.Conditions.{Known, known_of, is_condition, is_restriction, is_restricted}
+use Rattle.olk_members.specs.Fused.{fused_names}
+use Rattle.olk_members.specs.Members.{member_child}
+use Rattle.olk_members.proofs.TakenOver.{never_taken, free_takes_nothing}
+use Rattle.olk_members.proofs.RestrictedClaims.{claims_no_properties, claims_no_patterns}
+use Rattle.olk_members.proofs.RestrictionShown.{properties_show_none, patterns_show_none}
 use Rattle.olk_members.proofs.Heads.{names_of}
 use Rattle.olk_read.specs.Reading.{reads_of, IsShape, Fits}
-use Rattle.olk_make.specs.Standing.{StandAt, is_case_shape, is_if_shape, PartsAreLeft, CasesStand}
+use Rattle.olk_make.specs.Standing.{StandAt, is_taken, untaken, is_if_shape, is_restriction_shape, PartsStand, CasesStand, BesideStands}
 use Rattle.olk_make.specs.Making.{KeywordMeans, KeywordsMean, MakesMember, MakesClaims, MakesPart}
-use Rattle.olk_make.specs.declared.part.Cases.{Cases}
+use Rattle.olk_make.specs.declared.part.Taken.{Taken}
+use Rattle.olk_tree.specs.Tables.{Table}
 use Rattle.olk_tree.specs.declared.node.KeywordOver.{KeywordOver}
 use Rattle.olk_tree.specs.declared.node.KeywordOver.TheVariants as keyword
 use Rattle.olk_node.specs.declared.node.SchemaNode.{SchemaNode}
@@ -33,9 +41,9 @@ use Rattle.olk_read.specs.declared.shape.Shape.{Shape}
 use Rattle.olk_read.specs.declared.shape.Shape.TheVariants as shape
 use Rattle.olk_read.specs.declared.shape.ReadPlaces.TheVariants.{Nothing}
 use Rattle.olk_read.proofs.Read.{array_of}
-use Rattle.olk_members.proofs.Claims.{found_each, heads_there, IsNoCase}
+use Rattle.olk_members.proofs.Claims.{heads_there, claims_no_case, IsNoCase}
 use Rattle.olk_make.proofs.Together.{no_keywords_mean, one_more_keyword, heads_mean_all}
-use Rattle.olk_make.proofs.Held.{by_names, means_all_of, means_any_of, means_not, means_form, means_fused, means_own, means_leaf, means_unread, means_required, means_required_alone}
+use Rattle.olk_make.proofs.Held.{unrestricted_if_untaken, means_all_of, means_any_of, means_not, means_form, means_fused, means_fused_one, means_own, means_leaf, means_unread, means_required, means_required_alone}
 use Rattle.olk_make.proofs.OneOf.{means_one_of}
 
 object_of : (d : Data) → is_object d ≡ true → (fs : Members) × (d ≡ object fs)
@@ -45,6 +53,8 @@ object_of d e = absurd (true≢false (sym e))
 -- keywords that another may stand for, and those that may stand for another
 abbrev pub neighbours : Keyword → Bool
 neighbours properties = true
+neighbours pattern_properties = true
+neighbours additional_properties = true
 neighbours required = true
 neighbours if_keyword = true
 neighbours then_keyword = true
@@ -103,29 +113,58 @@ module _ {K R : Type 0} (o : Kit K R) where
   pub makes_unread : (L : Path) (ns : List (SchemaNode K R)) → MakesMember o shape.Unread L ns []
   makes_unread L ns ms m P p s h = means_unread o m.0 m.1 s ms P
 
-  pub makes_properties : (k : KeywordOver K R (SchemaNode K R)) (names : List Name) (ns : List (SchemaNode K R)) (L P : Path) (t : Option (Name × Name)) (c : Bool) → IsFormOfProperties P L names ns t k → MakesClaims o (shape.Properties names) L ns P (by_names o t c) (k ∷ [])
-  makes_properties k names ns L P t c form ms m p s h distinct there chosen =
+  pub makes_properties : (k : KeywordOver K R (SchemaNode K R)) (names : List Name) (ns : List (SchemaNode K R)) (L P : Path) (p : Planned) → IsFormOfProperties P L names ns p.fused k → MakesClaims o (shape.Properties names) L ns P p (k ∷ [])
+  makes_properties k names ns L P p form ms m l s h distinct there chosen untaken =
       let a = object_of m.1 s.1 in
-      subst (λ n. KeywordsMean o ms (k ∷ []) (claims (head (by_names o t c)) (listed ms) (n, m.1)) ((n, m.1) ∷ []) P) (sym s.0)
-      (means_form o k names ns L P t c a.0 m.1 a.1 (s.2 ∙ ap (λ x. map (λ e. e.0) (members x)) a.1) (subst (λ x. StandEach o ns (members x) L) a.1 h) form ms (p ∙ ap (λ n. P // n) s.0) distinct (ap (λ n. lookup n (listed ms)) (sym s.0) ∙ there) (ap (λ q. q.fused) chosen))
+      subst (λ n. KeywordsMean o ms (k ∷ []) (claims (head p) (listed ms) (n, m.1)) ((n, m.1) ∷ []) P) (sym s.0)
+      (subst (λ q. KeywordsMean o ms (k ∷ []) (claims (head q) (listed ms) (codes "properties", m.1)) ((codes "properties", m.1) ∷ []) P) (sym chosen)
+      (means_form o k names ns L P p.fused a.0 m.1 a.1 (s.2 ∙ ap (λ x. map (λ e. e.0) (members x)) a.1) (subst (λ x. StandEach o ns (members x) L) a.1 h) form ms (l ∙ ap (λ n. P // n) s.0) distinct (ap (λ n. lookup n (listed ms)) (sym s.0) ∙ there) (ap (λ q. q.fused) chosen)
+      (ap (λ q. q.restricted) (sym chosen) ∙ unrestricted_if_untaken o p (codes "properties") refl (ap (is_taken p) (sym s.0) ∙ untaken))))
 
-  module _ (v : Vec (String Global) Global) (L P : Path) (ns : List (SchemaNode K R)) (c : Bool) where
-    pub makes_required_elsewhere : (t : Option (Name × Name)) → is_some t ≡ true → MakesClaims o (shape.Required v) L ns P (by_names o t c) []
-    makes_required_elsewhere None e ms m p s h distinct there chosen = absurd (true≢false (sym e))
-    makes_required_elsewhere (Some t) e ms m p s h distinct there chosen = subst (λ n. KeywordsMean o ms [] (claims (head (by_names o (Some t) c)) (listed ms) (n, m.1)) ((n, m.1) ∷ []) P) (sym s.0) (means_fused o t c m.1 ms P (ap (λ q. q.fused) chosen))
+  module _ (v : Vec (String Global) Global) (L P : Path) (ns : List (SchemaNode K R)) (p : Planned) where
+    abbrev MakesRequired : List (KeywordOver K R (SchemaNode K R)) → Type 0
+    MakesRequired ks = MakesClaims o (shape.Required v) L ns P p ks
 
-    pub makes_required_alone : (t : Option (Name × Name)) → is_some t ≡ false → MakesClaims o (shape.Required v) L ns P (by_names o t c) (keyword.Required (record { required = v; location = L }) ∷ [])
-    makes_required_alone None e ms m p s h distinct there chosen = subst (λ n. KeywordsMean o ms (keyword.Required (record { required = v; location = L }) ∷ []) (claims (head (by_names o None c)) (listed ms) (n, m.1)) ((n, m.1) ∷ []) P) (sym s.0)
-        (means_required_alone o v L c m.1 s.2 ms P (p ∙ ap (λ n. P // n) s.0) distinct (ap (λ n. lookup n (listed ms)) (sym s.0) ∙ there) (ap (λ q. q.fused) chosen))
-    makes_required_alone (Some t) e ms m p s h distinct there chosen = absurd (true≢false e)
+    required_makes : (ks : List (KeywordOver K R (SchemaNode K R))) → ((ms : Members) (d : Data) → p ≡ plan_of ms → L ≡ P // codes "required" → map string_bytes v.items ≡ texts d → has_repeat (names_of (listed ms)) ≡ false → lookup (codes "required") (listed ms) ≡ Some d → KeywordsMean o ms ks (claims (head (plan_of ms)) (listed ms) (codes "required", d)) ((codes "required", d) ∷ []) P) → MakesRequired ks
+    required_makes ks make ms m l s h distinct there chosen untaken = subst (λ n. KeywordsMean o ms ks (claims (head p) (listed ms) (n, m.1)) ((n, m.1) ∷ []) P) (sym s.0)
+        (subst (λ q. KeywordsMean o ms ks (claims (head q) (listed ms) (codes "required", m.1)) ((codes "required", m.1) ∷ []) P) (sym chosen)
+        (make ms m.1 chosen (l ∙ ap (λ n. P // n) s.0) s.2 distinct (ap (λ n. lookup n (listed ms)) (sym s.0) ∙ there)))
+
+    pub makes_required_elsewhere : is_some p.fused ≡ true → MakesRequired []
+    makes_required_elsewhere e = required_makes [] (λ ms d chosen l same distinct there. by ms d (fused_names ms) refl (ap (λ q. is_some q.fused) (sym chosen) ∙ e))
+      where
+        by : (ms : Members) (d : Data) (t : Option (Name × Name)) → fused_names ms ≡ t → is_some t ≡ true → KeywordsMean o ms [] (claims (head (plan_of ms)) (listed ms) (codes "required", d)) ((codes "required", d) ∷ []) P
+        by ms d None q f = absurd (true≢false (sym f))
+        by ms d (Some t) q f = means_fused o t d ms P (sym q)
+
+    pub makes_required_inside : is_some p.fused_one ≡ true → MakesRequired []
+    makes_required_inside e = required_makes [] (λ ms d chosen l same distinct there. means_fused_one o d ms P (ap (λ q. is_some q.fused_one) (sym chosen) ∙ e))
+
+    pub makes_required_alone : is_some p.fused ≡ false → is_some p.fused_one ≡ false → MakesRequired (keyword.Required (record { required = v; location = L }) ∷ [])
+    makes_required_alone e f = required_makes (keyword.Required (record { required = v; location = L }) ∷ []) (λ ms d chosen l same distinct there. means_required_alone o v L d same ms P l distinct there (ap (λ q. is_some q.fused) (sym chosen) ∙ e) (ap (λ q. is_some q.fused_one) (sym chosen) ∙ f))
 
   -- a keyword that has no neighbours claims its own member
   abbrev pub IsAlone : Shape K R → Type 0
   IsAlone x = (k : Name) (d : Data) → IsShape o k d x → neighbours (keyword_named o.world k) ≡ false
 
+  -- `additionalProperties` does not take the part that stays
+  told_by_none : (ms : Members) (p : Planned) (k : Name) → p ≡ plan_of ms → is_taken p k ≡ false → (is_restricted ms && tells_members k) ≡ false
+  told_by_none ms p k chosen untaken = (neither (is_restricted ms && tells_members k) (is_condition ms && is_case k) (ap (λ q. is_taken q k) (sym chosen) ∙ untaken)).0
+
   pub claims_own : (x y : Shape K R) (L : Path) (ns : List (SchemaNode K R)) (ks : List (KeywordOver K R (SchemaNode K R))) (P : Path) (p : Planned) → x ≡ y → IsAlone y → MakesMember o y L ns ks → MakesClaims o x L ns P p ks
-  claims_own x y L ns ks P p e alone make = subst (λ z. MakesClaims o z L ns P p ks) (sym e) (λ ms m l s h distinct there chosen.
-      means_own o ks p ms m P distinct there (apart o.world (codes "properties") m.0 refl (alone m.0 m.1 s)) (apart o.world (codes "required") m.0 refl (alone m.0 m.1 s)) (no_case o.world p.condition m.0 (alone m.0 m.1 s)) (make ms m P l s h))
+  claims_own x y L ns ks P p e alone make = subst (λ z. MakesClaims o z L ns P p ks) (sym e) (λ ms m l s h distinct there chosen untaken.
+      subst (λ q. KeywordsMean o ms ks (claims (head q) (listed ms) m) (m ∷ []) P) (sym chosen)
+      (means_own o ks ms m P distinct there (apart o.world (codes "properties") m.0 refl (alone m.0 m.1 s)) (apart o.world (codes "required") m.0 refl (alone m.0 m.1 s)) (no_case o.world (is_condition ms) m.0 (alone m.0 m.1 s))
+      (never_taken (plan_of ms) m.0 (apart o.world (codes "additionalProperties") m.0 refl (alone m.0 m.1 s)) (apart o.world (codes "properties") m.0 refl (alone m.0 m.1 s)) (apart o.world (codes "patternProperties") m.0 refl (alone m.0 m.1 s)) (apart o.world (codes "required") m.0 refl (alone m.0 m.1 s)))
+      (told_by_none ms p m.0 chosen untaken) (make ms m P l s h)))
+
+  -- `patternProperties` does where nothing is restricted
+  pub patterns_claim_own : (x : Shape K R) (v : Vec (CompiledPattern R) Global) (t : Table) (L : Path) (ns : List (SchemaNode K R)) (ks : List (KeywordOver K R (SchemaNode K R))) (P : Path) (p : Planned) → x ≡ shape.PatternProperties v t → MakesMember o (shape.PatternProperties v t) L ns ks → MakesClaims o x L ns P p ks
+  patterns_claim_own x v t L ns ks P p e make = subst (λ z. MakesClaims o z L ns P p ks) (sym e) (λ ms m l s h distinct there chosen untaken.
+      subst (λ q. KeywordsMean o ms ks (claims (head q) (listed ms) m) (m ∷ []) P) (sym chosen)
+      (means_own o ks ms m P distinct there (ap (bytes_eq (codes "properties")) s.0) (ap (bytes_eq (codes "required")) s.0) (λ read_here. (ap (λ n. bytes_eq n (codes "if")) s.0, ap is_case s.0))
+      (free_takes_nothing ms m.0 (ap (λ q. q.restricted) (sym chosen) ∙ unrestricted_if_untaken o p m.0 (ap tells_members s.0) untaken))
+      (told_by_none ms p m.0 chosen untaken) (make ms m P l s h)))
 
   pub all_of_alone : IsAlone shape.AllOf
   all_of_alone k d s = ap (λ n. neighbours (keyword_named o.world n)) s.0
@@ -135,9 +174,6 @@ module _ {K R : Type 0} (o : Kit K R) where
 
   pub one_of_alone : IsAlone shape.OneOf
   one_of_alone k d s = ap (λ n. neighbours (keyword_named o.world n)) s.0
-
-  pub pattern_properties_alone : (v : Vec (CompiledPattern R) Global) → IsAlone (shape.PatternProperties v)
-  pattern_properties_alone v k d s = ap (λ n. neighbours (keyword_named o.world n)) s.0
 
   pub property_names_alone : IsAlone shape.PropertyNames
   property_names_alone k d s = ap (λ n. neighbours (keyword_named o.world n)) s.0
@@ -175,12 +211,12 @@ module _ {K R : Type 0} (o : Kit K R) where
   pub without_nodes : (x : Shape K R) (L : Path) (ns : List (SchemaNode K R)) (ks : List (KeywordOver K R (SchemaNode K R))) → reads_of x ≡ Nothing → MakesMember o x L [] ks → MakesMember o x L ns ks
   without_nodes x L ns ks none make ms m P place s stand = make ms m P place s (subst (λ r. StandAt o r [] m.1 L) (sym none) refl)
 
-  -- all but `if`, `then` and `else` hold their own nodes alone
-  pub part_of_claims : (x y : Shape K R) (L : Path) (ns : List (SchemaNode K R)) (cs : Cases (SchemaNode K R)) (ks : List (KeywordOver K R (SchemaNode K R))) (P : Path) (p : Planned) → x ≡ y → is_case_shape y ≡ false → MakesClaims o x L ns P p ks → MakesPart o x L ns cs P p ks
-  part_of_claims x y L ns cs ks P p e held make ms m place s fits stand cases distinct there chosen = make ms m place s (stand (ap is_case_shape e ∙ held)) distinct there chosen
+  -- all but `if` and `additionalProperties` hold their own nodes alone
+  pub part_of_claims : (x : Shape K R) (L : Path) (ns : List (SchemaNode K R)) (t : Taken R (SchemaNode K R)) (ks : List (KeywordOver K R (SchemaNode K R))) (P : Path) (p : Planned) → MakesClaims o x L ns P p ks → MakesPart o x L ns t P p ks
+  part_of_claims x L ns t ks P p make ms m place s fits stand cases beside distinct there chosen untaken = make ms m place s stand distinct there chosen untaken
 
-  pub part_of_own : (x y : Shape K R) (L : Path) (ns : List (SchemaNode K R)) (cs : Cases (SchemaNode K R)) (ks : List (KeywordOver K R (SchemaNode K R))) (P : Path) (p : Planned) → x ≡ y → is_case_shape y ≡ false → IsAlone y → MakesMember o y L ns ks → MakesPart o x L ns cs P p ks
-  part_of_own x y L ns cs ks P p e held alone make = part_of_claims x y L ns cs ks P p e held (claims_own x y L ns ks P p e alone make)
+  pub part_of_own : (x y : Shape K R) (L : Path) (ns : List (SchemaNode K R)) (t : Taken R (SchemaNode K R)) (ks : List (KeywordOver K R (SchemaNode K R))) (P : Path) (p : Planned) → x ≡ y → IsAlone y → MakesMember o y L ns ks → MakesPart o x L ns t P p ks
+  part_of_own x y L ns t ks P p e alone make = part_of_claims x L ns t ks P p (claims_own x y L ns ks P p e alone make)
 
   -- ---- the parts of an object, one after the other
 
@@ -188,70 +224,166 @@ module _ {K R : Type 0} (o : Kit K R) where
   if_named shape.If k d s e = s
   if_named x k d s e = absurd (true≢false (sym e))
 
-  if_fits : (x : Shape K R) (c : Bool) → Fits c x → is_if_shape x ≡ true → c ≡ true
+  if_fits : (x : Shape K R) (c : Known) → Fits o c x → is_if_shape x ≡ true → c.condition ≡ true
   if_fits shape.If c f e = f
   if_fits x c f e = absurd (true≢false (sym e))
 
-  not_if : (x : Shape K R) (k : Name) (d : Data) → IsShape o k d x → bytes_eq (codes "if") k ≡ false → is_if_shape x ≡ false
-  not_if x k d s e = by (is_if_shape x) refl
+  restriction_named : (x : Shape K R) (k : Name) (d : Data) → IsShape o k d x → is_restriction_shape x ≡ true → (k ≡ codes "additionalProperties") × (is_restriction (Some d) ≡ true)
+  restriction_named shape.AdditionalProperties k d s e = (s.0, ap (λ b. is_truth false d || b) s.1 ∙ or_true (is_truth false d))
     where
-      by : (b : Bool) → is_if_shape x ≡ b → b ≡ false
-      by false q = refl
-      by true q = absurd (true≢false (sym (ap (bytes_eq (codes "if")) (if_named x k d s q)) ∙ e))
+      or_true : (b : Bool) → (b || true) ≡ true
+      or_true true = refl
+      or_true false = refl
+  restriction_named shape.NoOthers k d s e = (s.0, ap (λ b. b || is_object d) s.1)
+  restriction_named x k d s e = absurd (true≢false (sym e))
+
+  -- a shape is not the one of a name that it doesn't have
+  not_so : (n k : Name) (b : Bool) → (b ≡ true → k ≡ n) → bytes_eq n k ≡ false → b ≡ false
+  not_so n k true named e = absurd (true≢false (sym (ap (bytes_eq n) (named refl) ∙ bytes_eq-itself n) ∙ e))
+  not_so n k false named e = refl
+
+  distinct_those : (test : Name × Data → Bool) (es : List (Name × Data)) → Distinct es → Distinct (those test es)
+  distinct_those test [] h = tt
+  distinct_those test (m ∷ es) h = by (test m) (distinct_those test es h.1)
+    where
+      by : (b : Bool) → Distinct (those test es) → Distinct (put_if b m (those test es))
+      by true later = (Each-those (λ x. bytes_eq m.0 x.0 ≡ false) test es h.0, later)
+      by false later = later
+
+  at_place : {X : Type 0} (Q : X → Type 0) (done : List X) (x : X) (rest : List X) → Each Q (done ++ x ∷ rest) → Q x
+  at_place Q [] x rest h = h.0
+  at_place Q (y ∷ done) x rest h = at_place Q done x rest h.1
 
   -- no earlier member has the name of a later one
-  not_before : (done : List (Name × Data)) (m : Name × Data) (rest : List (Name × Data)) → has_repeat (names_of (done ++ m ∷ rest)) ≡ false → is_among m.0 (names_of done) ≡ false
-  not_before [] m rest e = refl
-  not_before (x ∷ done) m rest e =
-      let h = neither (is_among x.0 (names_of (done ++ m ∷ rest))) (has_repeat (names_of (done ++ m ∷ rest))) e in
-      λ i. (bytes_eq-sym m.0 x.0 ∙ apart_here done h.0) i || not_before done m rest h.1 i
-    where
-      apart_here : (done : List (Name × Data)) → is_among x.0 (names_of (done ++ m ∷ rest)) ≡ false → bytes_eq x.0 m.0 ≡ false
-      apart_here [] e = (neither (bytes_eq x.0 m.0) (is_among x.0 (names_of rest)) e).0
-      apart_here (y ∷ done) e = apart_here done (neither (bytes_eq x.0 y.0) (is_among x.0 (names_of (done ++ m ∷ rest))) e).1
+  not_before : (done : List (Name × Data)) (m : Name × Data) (rest : List (Name × Data)) → Distinct (done ++ m ∷ rest) → is_among m.0 (names_of done) ≡ false
+  not_before [] m rest h = refl
+  not_before (x ∷ done) m rest h = λ i. (bytes_eq-sym m.0 x.0 ∙ at_place (λ y. bytes_eq x.0 y.0 ≡ false) done m rest h.0) i || not_before done m rest h.1 i
 
   module _ (ms : Members) (P : Path) where
     abbrev heads : Name → Name
     heads n = head (plan_of ms) n
 
-    -- the keywords so far mean what the members so far claim, and the parts that are left stand for the others; the nodes of `then` and `else` are there until `if` has taken them
-    pub record MadeSoFar (ks : List (KeywordOver K R (SchemaNode K R))) (ps : List (Part K R (SchemaNode K R))) (cs : Cases (SchemaNode K R)) : Type 0 where
+    abbrev stays : List (Name × Data)
+    stays = untaken (plan_of ms) (listed ms)
+
+    -- the keywords so far mean what the members so far claim, and the parts that are left stand for the others; what was taken is there until `if` and `additionalProperties` have it
+    pub record MadeSoFar (ks : List (KeywordOver K R (SchemaNode K R))) (ps : List (Part K R (SchemaNode K R))) (t : Taken R (SchemaNode K R)) : Type 0 where
       pub done : List (Name × Data)
       pub left : List (Name × Data)
       pub mean : KeywordsMean o ms ks (flat_map (claims heads (listed ms)) done) done P
-      pub stand : PartsAreLeft o (is_condition ms) ps left P
-      pub cases : is_condition ms ≡ true → is_among (codes "if") (names_of done) ≡ false → CasesStand o cs ms P
-      pub whole : done ++ left ≡ listed ms
+      pub stand : PartsStand o (known_of ms) ps left P
+      pub cases : is_condition ms ≡ true → is_among (codes "if") (names_of done) ≡ false → CasesStand o t.cases ms P
+      pub beside : is_restricted ms ≡ true → is_among (codes "additionalProperties") (names_of done) ≡ false → BesideStands o (known_of ms) t.beside ms P
+      pub whole : done ++ left ≡ stays
 
-    pub none_made : (ks : List (KeywordOver K R (SchemaNode K R))) (ps : List (Part K R (SchemaNode K R))) (cs : Cases (SchemaNode K R)) → ks ≡ [] → PartsAreLeft o (is_condition ms) ps (listed ms) P → (is_condition ms ≡ true → CasesStand o cs ms P) → MadeSoFar ks ps cs
-    none_made ks ps cs e h cases = record { done = []; left = listed ms; mean = no_keywords_mean o ms P ks e; stand = h; cases = λ read none. cases read; whole = refl }
+    pub none_made : (ks : List (KeywordOver K R (SchemaNode K R))) (ps : List (Part K R (SchemaNode K R))) (t : Taken R (SchemaNode K R)) → ks ≡ [] → PartsStand o (known_of ms) ps stays P → (is_condition ms ≡ true → CasesStand o t.cases ms P) → (is_restricted ms ≡ true → BesideStands o (known_of ms) t.beside ms P) → MadeSoFar ks ps t
+    none_made ks ps t e h cases beside = record { done = []; left = stays; mean = no_keywords_mean o ms P ks e; stand = h; cases = λ read none. cases read; beside = λ restricted none. beside restricted; whole = refl }
+
+    -- a name that is not among one more is among none
+    earlier : (k : Name) (done : List (Name × Data)) (m : Name × Data) → is_among k (names_of (done ++ m ∷ [])) ≡ false → (is_among k (names_of done) ≡ false) × (bytes_eq k m.0 ≡ false)
+    earlier k done m none =
+        let h = neither (is_among k (names_of done)) (bytes_eq k m.0 || false) (sym (ap (is_among k) (map-append (λ (x : Name × Data). x.0) done (m ∷ [])) ∙ list_any-append (bytes_eq k) (names_of done) (m.0 ∷ [])) ∙ none) in
+        (h.0, (neither (bytes_eq k m.0) false h.1).0)
+
+    -- where another keyword takes what a member holds, it claims nothing and shows nothing
+    module _ (m : Name × Data) (taken : is_taken (plan_of ms) m.0 ≡ true) where
+      taken_by : ((is_restricted ms ≡ true) × (m.0 ≡ codes "properties")) ⊎ ((is_restricted ms ≡ true) × (m.0 ≡ codes "patternProperties")) ⊎ ((is_condition ms ≡ true) × (m.0 ≡ codes "then")) ⊎ ((is_condition ms ≡ true) × (m.0 ≡ codes "else"))
+      taken_by = by (is_restricted ms) (bytes_eq m.0 (codes "properties")) (bytes_eq m.0 (codes "patternProperties")) (is_condition ms) (bytes_eq m.0 (codes "then")) (bytes_eq m.0 (codes "else")) refl refl refl refl refl refl taken
+        where
+          by : (r a b c t e : Bool) → is_restricted ms ≡ r → bytes_eq m.0 (codes "properties") ≡ a → bytes_eq m.0 (codes "patternProperties") ≡ b → is_condition ms ≡ c → bytes_eq m.0 (codes "then") ≡ t → bytes_eq m.0 (codes "else") ≡ e → ((r && (a || (b || false))) || (c && (t || (e || false)))) ≡ true
+              → ((is_restricted ms ≡ true) × (m.0 ≡ codes "properties")) ⊎ ((is_restricted ms ≡ true) × (m.0 ≡ codes "patternProperties")) ⊎ ((is_condition ms ≡ true) × (m.0 ≡ codes "then")) ⊎ ((is_condition ms ≡ true) × (m.0 ≡ codes "else"))
+          by true true b c t e q i j r k l h = inl (q, same_name m.0 (codes "properties") i)
+          by true false true c t e q i j r k l h = inr (inl (q, same_name m.0 (codes "patternProperties") j))
+          by true false false true true e q i j r k l h = inr (inr (inl (r, same_name m.0 (codes "then") k)))
+          by true false false true false true q i j r k l h = inr (inr (inr (r, same_name m.0 (codes "else") l)))
+          by true false false true false false q i j r k l h = absurd (true≢false (sym h))
+          by true false false false t e q i j r k l h = absurd (true≢false (sym h))
+          by false a b true true e q i j r k l h = inr (inr (inl (r, same_name m.0 (codes "then") k)))
+          by false a b true false true q i j r k l h = inr (inr (inr (r, same_name m.0 (codes "else") l)))
+          by false a b true false false q i j r k l h = absurd (true≢false (sym h))
+          by false a b false t e q i j r k l h = absurd (true≢false (sym h))
+
+      taken_claims_none : claims heads (listed ms) m ≡ []
+      taken_claims_none = by taken_by
+        where
+          by : ((is_restricted ms ≡ true) × (m.0 ≡ codes "properties")) ⊎ ((is_restricted ms ≡ true) × (m.0 ≡ codes "patternProperties")) ⊎ ((is_condition ms ≡ true) × (m.0 ≡ codes "then")) ⊎ ((is_condition ms ≡ true) × (m.0 ≡ codes "else")) → claims heads (listed ms) m ≡ []
+          by (inl h) = ap (λ k. claims heads (listed ms) (k, m.1)) h.1 ∙ claims_no_properties ms h.0 (listed ms) m.1
+          by (inr (inl h)) = ap (λ k. claims heads (listed ms) (k, m.1)) h.1 ∙ claims_no_patterns ms h.0 (listed ms) m.1
+          by (inr (inr (inl h))) = claims_no_case (plan_of ms) h.0 (listed ms) m (ap is_case h.1)
+          by (inr (inr (inr h))) = claims_no_case (plan_of ms) h.0 (listed ms) m (ap is_case h.1)
+
+      abbrev shown_as : Bool → Data → Path → Name → List Tree
+      shown_as u v Q k = member_child o.world ms (k, m.1) (which o ms (k, m.1)) u v P Q
+
+      taken_shows_none : (u : Bool) (v : Data) (Q : Path) → member_child o.world ms m (which o ms m) u v P Q ≡ []
+      taken_shows_none u v Q = by taken_by
+        where
+          by : ((is_restricted ms ≡ true) × (m.0 ≡ codes "properties")) ⊎ ((is_restricted ms ≡ true) × (m.0 ≡ codes "patternProperties")) ⊎ ((is_condition ms ≡ true) × (m.0 ≡ codes "then")) ⊎ ((is_condition ms ≡ true) × (m.0 ≡ codes "else")) → shown_as u v Q m.0 ≡ []
+          by (inl h) = ap (shown_as u v Q) h.1 ∙ properties_show_none o.world ms u v P Q m.1 h.0
+          by (inr (inl h)) = ap (shown_as u v Q) h.1 ∙ patterns_show_none o.world ms u v P Q m.1 h.0
+          by (inr (inr (inl h))) = ap (shown_as u v Q) h.1
+          by (inr (inr (inr h))) = ap (shown_as u v Q) h.1
+
+    flat_untaken : {Y : Type 0} (f : Name × Data → List Y) → ((m : Name × Data) → is_taken (plan_of ms) m.0 ≡ true → f m ≡ []) → (es : List (Name × Data)) → flat_map f (untaken (plan_of ms) es) ≡ flat_map f es
+    flat_untaken f none [] = refl
+    flat_untaken f none (m ∷ es) = by (is_taken (plan_of ms) m.0) refl (flat_untaken f none es)
+      where
+        by : (b : Bool) → is_taken (plan_of ms) m.0 ≡ b → flat_map f (untaken (plan_of ms) es) ≡ flat_map f es → flat_map f (put_if (not b) m (untaken (plan_of ms) es)) ≡ f m ++ flat_map f es
+        by true q later = later ∙ ap (λ l. l ++ flat_map f es) (sym (none m q))
+        by false q later = ap (λ l. f m ++ l) later
 
     module _ (p : Planned) (chosen : p ≡ plan_of ms) (distinct : has_repeat (map (λ m. m.0) (listed ms)) ≡ false) where
-      pub one_more_made : (ks ls new : List (KeywordOver K R (SchemaNode K R))) (part : Part K R (SchemaNode K R)) (ps all : List (Part K R (SchemaNode K R))) (cs after : Cases (SchemaNode K R)) → new ≡ ks ++ ls → all ≡ part ∷ ps → MadeSoFar ks all cs → MakesPart o part.shape part.location part.nodes.items cs P p ls → (is_if_shape part.shape ≡ false → after ≡ cs) → MadeSoFar new ps after
-      one_more_made ks ls new part ps all cs after q e h make kept = by h.left (subst (λ l. PartsAreLeft o (is_condition ms) l h.left P) e h.stand) h.whole
+      stays_distinct : Distinct stays
+      stays_distinct = distinct_those (λ m. not (is_taken (plan_of ms) m.0)) (listed ms) (Distinct-from (listed ms) distinct)
+
+      stays_found : Each (λ m. lookup m.0 (listed ms) ≡ Some m.1) stays
+      stays_found = Each-those (λ m. lookup m.0 (listed ms) ≡ Some m.1) (λ m. not (is_taken (plan_of ms) m.0)) (listed ms) (Each-found (listed ms) (Distinct-from (listed ms) distinct))
+
+      stays_untaken : (es : List (Name × Data)) → Each (λ m. is_taken (plan_of ms) m.0 ≡ false) (untaken (plan_of ms) es)
+      stays_untaken [] = tt
+      stays_untaken (m ∷ es) = by (is_taken (plan_of ms) m.0) refl (stays_untaken es)
         where
-          by : (left : List (Name × Data)) → PartsAreLeft o (is_condition ms) (part ∷ ps) left P → h.done ++ left ≡ listed ms → MadeSoFar new ps after
+          by : (b : Bool) → is_taken (plan_of ms) m.0 ≡ b → Each (λ m. is_taken (plan_of ms) m.0 ≡ false) (untaken (plan_of ms) es) → Each (λ m. is_taken (plan_of ms) m.0 ≡ false) (put_if (not b) m (untaken (plan_of ms) es))
+          by true q later = later
+          by false q later = (q, later)
+
+      pub one_more_made : (ks ls new : List (KeywordOver K R (SchemaNode K R))) (part : Part K R (SchemaNode K R)) (ps all : List (Part K R (SchemaNode K R))) (t after : Taken R (SchemaNode K R)) → new ≡ ks ++ ls → all ≡ part ∷ ps → MadeSoFar ks all t → MakesPart o part.shape part.location part.nodes.items t P p ls
+          → (is_if_shape part.shape ≡ false → after.cases ≡ t.cases) → (is_restriction_shape part.shape ≡ false → after.beside ≡ t.beside) → MadeSoFar new ps after
+      one_more_made ks ls new part ps all t after q e h make cases_kept beside_kept = by h.left (subst (λ l. PartsStand o (known_of ms) l h.left P) e h.stand) h.whole
+        where
+          by : (left : List (Name × Data)) → PartsStand o (known_of ms) (part ∷ ps) left P → h.done ++ left ≡ stays → MadeSoFar new ps after
           by [] stand w = absurd stand
           by (m ∷ left) stand w = record {
             done = h.done ++ m ∷ [];
             left = left;
             mean = one_more_keyword o ms P heads ks ls new h.done m q h.mean (subst (λ s. KeywordsMean o ms ls (claims (head s) (listed ms) m) (m ∷ []) P) chosen
-                (make ms m stand.0.place stand.0.shape (subst (λ c. Fits c part.shape) (sym known) stand.0.fits) (λ own. subst (λ L. StandAt o (reads_of part.shape) part.nodes.items m.1 L) (sym stand.0.place) (stand.0.nodes own)) (λ taking. h.cases (if_fits part.shape (is_condition ms) stand.0.fits taking) (first taking)) distinct (found_each ms distinct h.done m left w) chosen));
+                (make ms m stand.0.place stand.0.shape stand.0.fits (subst (λ L. StandAt o (reads_of part.shape) part.nodes.items m.1 L) (sym stand.0.place) stand.0.nodes)
+                (λ taking. h.cases (if_fits part.shape (known_of ms) stand.0.fits taking) (first (codes "if") (if_named part.shape m.0 m.1 stand.0.shape taking)))
+                (λ taking. let r = restriction_named part.shape m.0 m.1 stand.0.shape taking in h.beside (ap is_restriction (ap (λ k. lookup k (listed ms)) (sym r.0) ∙ found) ∙ r.1) (first (codes "additionalProperties") r.0))
+                distinct found chosen (ap (λ s. is_taken s m.0) chosen ∙ at_place (λ x. is_taken (plan_of ms) x.0 ≡ false) h.done m left (subst (Each (λ x. is_taken (plan_of ms) x.0 ≡ false)) (sym w) (stays_untaken (listed ms))))));
             stand = stand.1;
-            cases = λ read none. let apart = neither (is_among (codes "if") (names_of h.done)) (bytes_eq (codes "if") m.0 || false) (sym (ap (is_among (codes "if")) (map-append (λ (x : Name × Data). x.0) h.done (m ∷ [])) ∙ list_any-append (bytes_eq (codes "if")) (names_of h.done) (m.0 ∷ [])) ∙ none) in
-                subst (λ x. CasesStand o x ms P) (sym (kept (not_if part.shape m.0 m.1 stand.0.shape (neither (bytes_eq (codes "if") m.0) false apart.1).0))) (h.cases read apart.0);
+            cases = λ read none. let before = earlier (codes "if") h.done m none in
+                subst (λ x. CasesStand o x ms P) (sym (cases_kept (not_so (codes "if") m.0 (is_if_shape part.shape) (if_named part.shape m.0 m.1 stand.0.shape) before.1))) (h.cases read before.0);
+            beside = λ restricted none. let before = earlier (codes "additionalProperties") h.done m none in
+                subst (λ x. BesideStands o (known_of ms) x ms P) (sym (beside_kept (not_so (codes "additionalProperties") m.0 (is_restriction_shape part.shape) (λ r. (restriction_named part.shape m.0 m.1 stand.0.shape r).0) before.1))) (h.beside restricted before.0);
             whole = append_assoc h.done (m ∷ []) left ∙ w;
           }
             where
-              known : p.condition ≡ is_condition ms
-              known = ap (λ s. s.condition) chosen
+              first : (k : Name) → m.0 ≡ k → is_among k (names_of h.done) ≡ false
+              first k named = ap (λ n. is_among n (names_of h.done)) (sym named) ∙ not_before h.done m left (subst Distinct (sym w) stays_distinct)
 
-              first : is_if_shape part.shape ≡ true → is_among (codes "if") (names_of h.done) ≡ false
-              first taking = ap (λ k. is_among k (names_of h.done)) (sym (if_named part.shape m.0 m.1 stand.0.shape taking)) ∙ not_before h.done m left (ap (λ es. has_repeat (names_of es)) w ∙ distinct)
+              found : lookup m.0 (listed ms) ≡ Some m.1
+              found = at_place (λ x. lookup x.0 (listed ms) ≡ Some x.1) h.done m left (subst (Each (λ x. lookup x.0 (listed ms) ≡ Some x.1)) (sym w) stays_found)
 
-      pub all_made : (ks : List (KeywordOver K R (SchemaNode K R))) (ps : List (Part K R (SchemaNode K R))) (cs : Cases (SchemaNode K R)) → ps ≡ [] → MadeSoFar ks ps cs → KeywordsMean o ms ks (listed ms) (listed ms) P
-      all_made ks ps cs e h = by h.left (subst (λ l. PartsAreLeft o (is_condition ms) l h.left P) e h.stand) h.whole
+      pub all_made : (ks : List (KeywordOver K R (SchemaNode K R))) (ps : List (Part K R (SchemaNode K R))) (t : Taken R (SchemaNode K R)) → ps ≡ [] → MadeSoFar ks ps t → KeywordsMean o ms ks (listed ms) (listed ms) P
+      all_made ks ps t e h = by h.left (subst (λ l. PartsStand o (known_of ms) l h.left P) e h.stand) h.whole
         where
-          by : (left : List (Name × Data)) → PartsAreLeft o (is_condition ms) [] left P → h.done ++ left ≡ listed ms → KeywordsMean o ms ks (listed ms) (listed ms) P
-          by [] stand w = heads_mean_all o ms P heads ks distinct (heads_there ms distinct (plan_of ms) refl) (subst (λ es. KeywordsMean o ms ks (flat_map (claims heads (listed ms)) es) es P) (sym (append-nil h.done) ∙ w) h.mean)
+          with_taken : KeywordsMean o ms ks (flat_map (claims heads (listed ms)) stays) stays P → KeywordsMean o ms ks (flat_map (claims heads (listed ms)) (listed ms)) (listed ms) P
+          with_taken k = record {
+            covers = subst (λ rows. Covers o ms ks rows P) (flat_untaken (claims heads (listed ms)) taken_claims_none (listed ms)) k.covers;
+            shows = λ clean u v Q. k.shows clean u v Q ∙ flat_untaken (λ m. member_child o.world ms m (which o ms m) u v P Q) (λ m taken. taken_shows_none m taken u v Q) (listed ms);
+          }
+
+          by : (left : List (Name × Data)) → PartsStand o (known_of ms) [] left P → h.done ++ left ≡ stays → KeywordsMean o ms ks (listed ms) (listed ms) P
+          by [] stand w = heads_mean_all o ms P heads ks distinct (heads_there ms distinct (plan_of ms) refl) (with_taken (subst (λ es. KeywordsMean o ms ks (flat_map (claims heads (listed ms)) es) es P) (sym (append-nil h.done) ∙ w) h.mean))
           by (m ∷ left) stand w = absurd stand

@@ -15,6 +15,7 @@ use Rattle.olk_spec.specs.Meanings.{restricts, matches, is_open}
 use Rattle.olk_spec.specs.Meaning.{accepts, asks, report, tree, meaning_step}
 use Rattle.olk_spec.specs.Tree.{result}
 use Rattle.olk_spec.proofs.Order.{∼_same, ∼_append, ∼_flat_map_any}
+use Rattle.olk_spec.proofs.Truth.{and_true}
 use Rattle.olk_base.specs.Kit.{Kit}
 use Rattle.olk_base.specs.Compiled.{pattern_answers, pattern_costs}
 use Rattle.olk_base.specs.declared.pattern.CompiledPattern.{CompiledPattern}
@@ -23,6 +24,7 @@ use Rattle.olk_members.specs.PatternProperties.{matched_members, pattern_asks}
 use Rattle.olk_members.proofs.Conditions.{restricted_read}
 use Rattle.olk_members.proofs.PatternProperties as fact
 use Rattle.olk_tree.specs.Matched.{matched, match_question}
+use Rattle.olk_tree.specs.Tables.{Table}
 use Rattle.olk_tree.specs.Questions.{every, conditional, always}
 use Rattle.olk_tree.specs.Shown.{match_trees, match_names, patterns_tree}
 use Rattle.olk_tree.specs.Answers.{matched_mean, patterns_mean, matched_report, patterns_report, validator_means, validator_report, validator_tree}
@@ -179,12 +181,15 @@ module _ {K R : Type 0} (o : Kit K R) where
     form_shows Q (keyword.SingleValuePatternProperties p) f = λ i. patterns_tree (λ n. (answers o n).tree u) v Q o.answers u (f.1 i) (sym f.0 i)
     form_shows Q x f = absurd f
 
+  unrestricted : (ms : Members) → (is_restricted ms && true) ≡ false → is_restricted ms ≡ false
+  unrestricted ms e = sym (and_true (is_restricted ms)) ∙ e
+
   module _ (k : KeywordOver K R (SchemaNode K R)) (L : Path) (es : List Entry) (form : IsFormOfPatternProperties L es k) (d : Data) (stand : EntriesStand o es (members d) L) where
     means_patterns : (ms : Members) (P : Path) → L ≡ P // codes "patternProperties" → KeywordMeans o ms (k ∷ []) (codes "patternProperties", d) P
     means_patterns ms P p = record {
       holds = one_if_free o ms k (codes "patternProperties", d) pattern_properties P
           (λ u v. (of_patterns k L es form u v k form).0 ∙ patterns_accept L u v es (members d) stand ∙ sym (fact.pattern_properties_accepts o.world ms d u v))
-          (λ free u v. let f = (of_patterns k L es form u v k form).1 in let a = patterns_ask L u v es (members d) stand in let t = fact.pattern_properties_asks o.world ms d u v (restricted_read (meaning_step o.world u) ms ∙ free) in omega (arith, f, a, t))
+          (λ free u v. let f = (of_patterns k L es form u v k form).1 in let a = patterns_ask L u v es (members d) stand in let t = fact.pattern_properties_asks o.world ms d u v (restricted_read (meaning_step o.world u) ms ∙ unrestricted ms free) in omega (arith, f, a, t))
           (λ u v Q. like_through (∼_same (form_finds k L es form u v Q k form)) (subst (λ fs. patterns_report o.answers (λ n. (answers o n).report) u es v Q ∼ fs)
           (ap (λ M. flat_map (λ e. flat_map (λ x. report o.world u e.1 x.1 (M // e.0) (Q // x.0)) (matched_members o.world u e.0 v)) (members d)) p ∙ sym (fact.pattern_properties_report o.world ms d u v P Q)) (patterns_find L u v Q es (members d) stand)));
       shows = λ u alone v Q. ap (λ t. t ∷ []) (
@@ -194,8 +199,8 @@ module _ {K R : Type 0} (o : Kit K R) where
           ∙ sym (fact.pattern_properties_child o.world ms d u v alone P Q);
     }
 
-  pub makes_pattern_properties : (k : KeywordOver K R (SchemaNode K R)) (L : Path) (v : Vec (CompiledPattern R) Global) (ns : List (SchemaNode K R)) (es : List Entry) → es ≡ zip v.items ns → IsFormOfPatternProperties L es k → MakesMember o (shape.PatternProperties v) L ns (k ∷ [])
-  makes_pattern_properties k L v ns es e form ms m P p s h = subst (λ n. KeywordMeans o ms (k ∷ []) (n, m.1) P) (sym s.0)
+  pub makes_pattern_properties : (k : KeywordOver K R (SchemaNode K R)) (L : Path) (v : Vec (CompiledPattern R) Global) (t : Table) (ns : List (SchemaNode K R)) (es : List Entry) → es ≡ zip v.items ns → IsFormOfPatternProperties L es k → MakesMember o (shape.PatternProperties v t) L ns (k ∷ [])
+  makes_pattern_properties k L v t ns es e form ms m P p s h = subst (λ n. KeywordMeans o ms (k ∷ []) (n, m.1) P) (sym s.0)
       (means_patterns k L es form m.1 (subst (λ l. EntriesStand o l (members m.1) L) (sym e) (both_stand v.items ns (members m.1) L s.2 h)) ms P (p ∙ ap (λ n. P // n) s.0))
 
 -- ---- the form, by how many patterns there are

@@ -20,7 +20,8 @@ use Rattle.olk_base.specs.Kit.{Kit}
 use Rattle.olk_tree.specs.Questions.{Question, every}
 use Rattle.olk_tree.specs.Answers.{validator_means}
 use Rattle.olk_node.specs.Nodes.{answers}
-use Rattle.olk_members.specs.Plans.{claims}
+use Rattle.olk_members.specs.Conditions.{is_restricted}
+use Rattle.olk_members.specs.Plans.{tells_members, claims}
 use Rattle.olk_members.specs.Members.{member_accepts, member_asks, member_report, StandsAlone}
 use Rattle.olk_spec.proofs.Each.{Each}
 use Rattle.olk_spec.specs.Names.{is_among}
@@ -50,19 +51,19 @@ module _ {K R : Type 0} (o : Kit K R) where
   module _ (ms : Members) (P : Path) where
     pub no_keywords_mean : (ks : List (KeywordOver K R (SchemaNode K R))) → ks ≡ [] → KeywordsMean o ms ks [] [] P
     no_keywords_mean ks e = subst (λ x. KeywordsMean o ms x [] [] P) (sym e) record {
-      covers = record { verdict = λ u v. refl; asks_within = λ free u v. omega arith; faults = λ u v Q. like_empty };
+      covers = record { verdict = λ u v. refl; asks_within = λ u v. omega arith; faults = λ u v Q. like_empty };
       shows = λ clean u v Q. refl;
     }
 
     -- what one member means alone
-    pub means_alone : (ks : List (KeywordOver K R (SchemaNode K R))) (e : Name × Data) → (all_malformed o ms P (listed ms) ≡ [] → (u : Bool) → StandsAlone o.world u ms e (which o ms e)) → KeywordMeans o ms ks e P → KeywordsMean o ms ks (e ∷ []) (e ∷ []) P
-    means_alone ks e alone k = record {
+    pub means_alone : (ks : List (KeywordOver K R (SchemaNode K R))) (e : Name × Data) → (is_restricted ms && tells_members e.0) ≡ false → (all_malformed o ms P (listed ms) ≡ [] → (u : Bool) → StandsAlone o.world u ms e (which o ms e)) → KeywordMeans o ms ks e P → KeywordsMean o ms ks (e ∷ []) (e ∷ []) P
+    means_alone ks e untaken alone k = record {
       covers = record {
         verdict = λ u v. k.holds.verdict u v ∙ sym (and_true (member_accepts o.world ms e (which o ms e) u v));
-        asks_within = λ free u v.
+        asks_within = λ u v.
             let f : Name × Data → ℕ = λ x. member_asks o.world ms x (which o ms x) u v in
             let t = sum_by-cons f e [] in
-            let q = k.holds.asks_within free u v in
+            let q = k.holds.asks_within untaken u v in
             omega (arith, t, q);
         faults = λ u v Q. subst (λ l. find o ms ks u v Q ∼ l) (sym (append-nil _)) (k.holds.faults u v Q);
       };
@@ -73,12 +74,12 @@ module _ {K R : Type 0} (o : Kit K R) where
     more_keywords ks ls new rows more es fs q h k = subst (λ x. KeywordsMean o ms x (rows ++ more) (es ++ fs) P) (sym q) record {
       covers = record {
         verdict = λ u v. (every-append (λ k. validator_means o (λ n. (answers o n).means) k v) ks ls u).0 ∙ (λ i. h.covers.verdict u v i && k.covers.verdict u v i) ∙ sym (list_all-append _ rows more);
-        asks_within = λ free u v.
+        asks_within = λ u v.
             let f : Name × Data → ℕ = λ x. member_asks o.world ms x (which o ms x) u v in
             let x = (every-append (λ k. validator_means o (λ n. (answers o n).means) k v) ks ls u).1 in
             let s = sum_by-append f rows more in
-            let p = h.covers.asks_within free u v in
-            let q = k.covers.asks_within free u v in
+            let p = h.covers.asks_within u v in
+            let q = k.covers.asks_within u v in
             omega (arith, x, s, p, q);
         faults = λ u v Q. subst₂ (λ x y. x ∼ y) (sym (flat_map-append _ ks ls)) (sym (flat_map-append _ rows more)) (∼_append (h.covers.faults u v Q) (k.covers.faults u v Q));
       };
@@ -89,7 +90,7 @@ module _ {K R : Type 0} (o : Kit K R) where
     covers_permuted : (ks : List (KeywordOver K R (SchemaNode K R))) (rows others : List (Name × Data)) → IsPermutation rows others → Covers o ms ks rows P → Covers o ms ks others P
     covers_permuted ks rows others same h = record {
       verdict = λ u v. h.verdict u v ∙ list_all-permuted (λ m. member_accepts o.world ms m (which o ms m) u v) rows others same;
-      asks_within = λ free u v. subst (λ n. ask o ms ks v u ≤ n) (sym (sum_by-IsPermutation (λ m. member_asks o.world ms m (which o ms m) u v) rows others same)) (h.asks_within free u v);
+      asks_within = λ u v. subst (λ n. ask o ms ks v u ≤ n) (sym (sum_by-IsPermutation (λ m. member_asks o.world ms m (which o ms m) u v) rows others same)) (h.asks_within u v);
       faults = λ u v Q. like_through (h.faults u v Q) (∼_permuted (λ m. member_report o.world ms m (which o ms m) u v P Q) rows others same);
     }
 

@@ -1,5 +1,5 @@
 -- Which form of a validator is built.
-use Rattle.std.specs.Prelude.{◌≡◌, ◌≢◌, ◌<◌, ◌≤◌, ⊤, ℕ, Bool, true, false, List, [], ◌∷◌, map, length, take, drop, Option, Some, None, codes, Vec, String, string_bytes}
+use Rattle.std.specs.Prelude.{◌≡◌, ◌≢◌, ◌<◌, ◌≤◌, ⊤, ℕ, Bool, true, false, List, [], ◌∷◌, map, length, take, drop, zip, Option, Some, None, is_some, option_map, codes, Vec, String, string_bytes}
 use Rattle.std.specs.declared.alloc.Global.{Global}
 use Rattle.serde_json.specs.Data.{Data}
 use Rattle.serde_json.specs.View.{view}
@@ -9,13 +9,18 @@ use Rattle.olk_spec.specs.Malformed.{items_of_array}
 use Rattle.olk_spec.specs.declared.TheConstants.{HASHMAP_THRESHOLD}
 use Rattle.olk_base.specs.declared.pattern.CompiledPattern.{CompiledPattern}
 use Rattle.olk_tree.specs.Answers.{names_in, nodes_in}
+use Rattle.olk_tree.specs.Ascending.{Ascend}
 use Rattle.olk_tree.specs.declared.map.SmallMap.{SmallMap}
 use Rattle.olk_tree.specs.declared.properties_map.PropertiesMap.{PropertiesMap}
 use Rattle.olk_tree.specs.declared.properties_map.PropertiesMap.TheVariants.{Small, Big}
+use Rattle.olk_tree.specs.declared.additional_properties.AdditionalProperties.{AdditionalProperties}
+use Rattle.olk_tree.specs.declared.additional_properties.RequiredName.{RequiredName}
 use Rattle.olk_tree.specs.declared.node.KeywordOver.{KeywordOver}
 use Rattle.olk_tree.specs.declared.node.KeywordOver.TheVariants as keyword
 use Rattle.olk_tree.specs.declared.node.Body.TheVariants.{RequiredNames}
 use Rattle.olk_node.specs.declared.node.SchemaNode.{SchemaNode, out-SchemaNode}
+use Rattle.olk_make.specs.declared.part.Patterns.{Patterns}
+use Rattle.olk_make.specs.declared.part.Beside.{Beside}
 
 -- ---- the form over given nodes, at its place
 
@@ -51,6 +56,35 @@ abbrev pub IsFormOfProperties : {K R N : Type 0} → Path → Path → List Name
 IsFormOfProperties P L names ns None (keyword.Properties k) = (names_in k.properties ≡ names) × (nodes_in k.properties ≡ ns) × IsMapFor (length names) k.properties × (k.location ≡ L)
 IsFormOfProperties P L names ns (Some t) (keyword.PropertiesWithRequired2 k) = (k.properties.names ≡ names) × (k.properties.nodes.items ≡ ns) × (k.location ≡ L) × (string_bytes k.first ≡ t.0) × (string_bytes k.second ≡ t.1) × (k.required_location ≡ P // codes "required")
 IsFormOfProperties P L names ns t k = ⊥
+
+-- a map of these names, which ascend, and nodes, or none
+abbrev pub IsMapOf : {N : Type 0} → Option (SmallMap N) → Option (PropertiesMap N) → Type 0
+IsMapOf None None = ⊤
+IsMapOf None (Some m) = ⊥
+IsMapOf (Some d) None = ⊥
+IsMapOf (Some d) (Some m) = (names_in m ≡ d.names) × (nodes_in m ≡ d.nodes.items) × IsMapFor (length d.names) m × Ascend d.names
+
+-- the one name of `required` in the object at P, or none
+abbrev pub IsRequiredName : Path → Option Name → Option RequiredName → Type 0
+IsRequiredName P None None = ⊤
+IsRequiredName P None (Some r) = ⊥
+IsRequiredName P (Some n) None = ⊥
+IsRequiredName P (Some n) (Some r) = (string_bytes r.name ≡ n) × (r.location ≡ P // codes "required")
+
+-- patterns, each with its node, and their table, or none
+abbrev pub HasPatterns : {R N : Type 0} → Option (Patterns R N) → AdditionalProperties R N → Type 0
+HasPatterns None k = k.patterns ≡ None
+HasPatterns (Some x) k = (option_map (λ v. v.items) k.patterns ≡ Some (zip x.patterns.items x.nodes.items)) × (k.table ≡ x.table) × (k.patterns_location ≡ x.location)
+
+-- this validator as a keyword
+abbrev pub IsBoxed : {K R N : Type 0} → AdditionalProperties R N → KeywordOver K R N → Type 0
+IsBoxed v (keyword.AdditionalProperties k) = k.value ≡ v
+IsBoxed v k = ⊥
+
+-- `additionalProperties` at L in the object at P, over the node for the rest, what stands beside it and the name that it fuses
+abbrev pub IsFormOfAdditionalProperties : {K R N : Type 0} → Path → Path → Option N → Beside R N → Option Name → KeywordOver K R N → Type 0
+IsFormOfAdditionalProperties P L rest b n (keyword.AdditionalProperties k) = (k.value.rest ≡ rest) × IsMapOf b.properties k.value.properties × HasPatterns b.patterns k.value × IsRequiredName P n k.value.required × (k.value.location ≡ L)
+IsFormOfAdditionalProperties P L rest b n k = ⊥
 
 -- `if` over its node, and those of `then` and `else` that there are
 abbrev pub IsFormOfIf : {K R N : Type 0} → Path → N → Option N → Option N → KeywordOver K R N → Type 0
@@ -133,6 +167,18 @@ abbrev pub IsPatternProperties : {K R N : Type 0} → Path → ℕ → KeywordOv
 IsPatternProperties L n (keyword.PatternProperties k) = (n ≢ 1) × (k.location ≡ L)
 IsPatternProperties L n (keyword.SingleValuePatternProperties k) = (n ≡ 1) × (k.location ≡ L)
 IsPatternProperties L n k = ⊥
+
+-- a map for so many names, or none
+abbrev pub HasMapFor : {N : Type 0} → Option ℕ → Option (PropertiesMap N) → Type 0
+HasMapFor None None = ⊤
+HasMapFor None (Some m) = ⊥
+HasMapFor (Some n) None = ⊥
+HasMapFor (Some n) (Some m) = IsMapFor n m
+
+-- `additionalProperties` at L in the object at P, with a schema for the rest or without, with so many declared names and so many patterns, if they stand there, and with the name that it fuses
+abbrev pub IsAdditionalProperties : {K R N : Type 0} → Path → Path → Bool → Option ℕ → Option ℕ → Option Name → KeywordOver K R N → Type 0
+IsAdditionalProperties P L rest names patterns n (keyword.AdditionalProperties k) = (is_some k.value.rest ≡ rest) × HasMapFor names k.value.properties × (option_map (λ v. length v.items) k.value.patterns ≡ patterns) × IsRequiredName P n k.value.required × (k.value.location ≡ L)
+IsAdditionalProperties P L rest names patterns n k = ⊥
 
 -- `dependentRequired`, `dependentSchemas` or `dependencies` with these keys
 abbrev pub IsDependencies : {K R N : Type 0} → Path → List Name → KeywordOver K R N → Type 0

@@ -1,5 +1,5 @@
 -- What nodes stand for, and what the validators of a schema object mean together.
-use Rattle.std.specs.Prelude.{◌≡◌, ◌≤◌, ⊤, ℕ, Bool, false, List, [], ◌∷◌, ◌++◌, map}
+use Rattle.std.specs.Prelude.{◌≡◌, ◌≤◌, ◌&&◌, ⊤, ℕ, Bool, false, List, [], ◌∷◌, ◌++◌, map}
 use Rattle.std.specs.List.{list_all, flat_map, sum_by}
 use Rattle.serde_json.specs.Data.{Data, Members}
 use Rattle.olk_spec.specs.Names.{Name, Path, ◌//◌}
@@ -13,6 +13,7 @@ use Rattle.olk_tree.specs.Answers.{validator_means, validator_report, validator_
 use Rattle.olk_node.specs.Nodes.{answers}
 use Rattle.olk_node.specs.Stands.{StandsFor}
 use Rattle.olk_members.specs.Conditions.{is_restricted}
+use Rattle.olk_members.specs.Plans.{tells_members}
 use Rattle.olk_members.specs.Members.{member_accepts, member_asks, member_report, member_malformations}
 use Rattle.olk_node.specs.declared.node.SchemaNode.{SchemaNode}
 use Rattle.olk_tree.specs.declared.node.KeywordOver.{KeywordOver}
@@ -54,14 +55,14 @@ module _ {K R : Type 0} (o : Kit K R) where
       abbrev pub show : Bool → Data → Path → List Tree
       show u v Q = map (λ k. validator_tree o (λ n. (answers o n).means) (λ n. (answers o n).tree) u k v Q) ks
 
-      -- it is what one member means; what is asked is bounded where nothing is restricted
+      -- it is what one member means; what is asked is bounded where `additionalProperties` doesn't take the keyword over
       pub record Holds (m : Name × Data) (w : Keyword) (P : Path) : Type 0 where
         pub verdict : (u : Bool) (v : Data) → means v u ≡ member_accepts o.world ms m w u v
-        pub asks_within : is_restricted ms ≡ false → (u : Bool) (v : Data) → ask v u ≤ member_asks o.world ms m w u v
+        pub asks_within : (is_restricted ms && tells_members m.0) ≡ false → (u : Bool) (v : Data) → ask v u ≤ member_asks o.world ms m w u v
         pub faults : (u : Bool) (v : Data) (Q : Path) → find u v Q ∼ member_report o.world ms m w u v P Q
 
       -- it is what some members mean together
       pub record Covers (es : List (Name × Data)) (P : Path) : Type 0 where
         pub verdict : (u : Bool) (v : Data) → means v u ≡ list_all (λ m. member_accepts o.world ms m (which m) u v) es
-        pub asks_within : is_restricted ms ≡ false → (u : Bool) (v : Data) → ask v u ≤ sum_by (λ m. member_asks o.world ms m (which m) u v) es
+        pub asks_within : (u : Bool) (v : Data) → ask v u ≤ sum_by (λ m. member_asks o.world ms m (which m) u v) es
         pub faults : (u : Bool) (v : Data) (Q : Path) → find u v Q ∼ flat_map (λ m. member_report o.world ms m (which m) u v P Q) es

@@ -1,5 +1,5 @@
 -- What making the validators of a schema object from its parts promises.
-use Rattle.std.specs.Prelude.{◌≡◌, true, false, Bool, List, [], ◌∷◌, map, codes, Some}
+use Rattle.std.specs.Prelude.{◌≡◌, true, false, Bool, List, [], ◌∷◌, map, codes, Option, Some}
 use Rattle.std.specs.List.{flat_map}
 use Rattle.serde_json.specs.Data.{Data, Members}
 use Rattle.olk_spec.specs.Names.{Name, Path, ◌//◌, lookup}
@@ -11,11 +11,13 @@ use Rattle.olk_tree.specs.declared.node.KeywordOver.{KeywordOver}
 use Rattle.olk_members.specs.Plans.{Planned, plan_of, head, claims}
 use Rattle.olk_members.specs.Members.{member_child, StandsAlone}
 use Rattle.olk_make.specs.Holding.{which, all_malformed, show, Holds, Covers}
-use Rattle.olk_members.specs.Conditions.{is_condition}
+use Rattle.olk_members.specs.Conditions.{is_condition, known_of}
 use Rattle.olk_node.specs.Stands.{StandsFor}
 use Rattle.olk_read.specs.Reading.{reads_of, IsShape, Fits}
-use Rattle.olk_make.specs.Standing.{StandAt, is_case_shape, is_if_shape, CasesStand}
+use Rattle.olk_make.specs.Standing.{StandAt, is_taken, is_if_shape, is_restriction_shape, RestStands, CasesStand, BesideStands}
 use Rattle.olk_make.specs.declared.part.Cases.{Cases}
+use Rattle.olk_make.specs.declared.part.Beside.{Beside}
+use Rattle.olk_make.specs.declared.part.Taken.{Taken}
 use Rattle.olk_read.specs.declared.shape.Shape.{Shape}
 
 module _ {K R : Type 0} (o : Kit K R) where
@@ -38,10 +40,10 @@ module _ {K R : Type 0} (o : Kit K R) where
   abbrev pub MakesMember : Shape K R → Path → List (SchemaNode K R) → List (KeywordOver K R (SchemaNode K R)) → Type 0
   MakesMember x L ns ks = (ms : Members) (m : Name × Data) (P : Path) → L ≡ P // m.0 → IsShape o m.0 m.1 x → StandAt o (reads_of x) ns m.1 L → KeywordMeans ms ks m P
 
-  -- and what it claims in each object at P that has this plan
+  -- and what it claims in each object at P that has this plan, where no other keyword takes what it holds
   abbrev pub MakesClaims : Shape K R → Path → List (SchemaNode K R) → Path → Planned → List (KeywordOver K R (SchemaNode K R)) → Type 0
   MakesClaims x L ns P p ks = (ms : Members) (m : Name × Data) → L ≡ P // m.0 → IsShape o m.0 m.1 x → StandAt o (reads_of x) ns m.1 L
-      → has_repeat (map (λ m. m.0) (listed ms)) ≡ false → lookup m.0 (listed ms) ≡ Some m.1 → p ≡ plan_of ms
+      → has_repeat (map (λ m. m.0) (listed ms)) ≡ false → lookup m.0 (listed ms) ≡ Some m.1 → p ≡ plan_of ms → is_taken p m.0 ≡ false
       → KeywordsMean ms ks (claims (head p) (listed ms) m) (m ∷ []) P
 
   -- keywords that are made of the nodes of `if`, `then` and `else` mean all three, in each object where `if` is read
@@ -50,9 +52,15 @@ module _ {K R : Type 0} (o : Kit K R) where
       → has_repeat (map (λ m. m.0) (listed ms)) ≡ false → lookup (codes "if") (listed ms) ≡ Some d → is_condition ms ≡ true
       → KeywordsMean ms ks (claims (head (plan_of ms)) (listed ms) (codes "if", d)) ((codes "if", d) ∷ []) P
 
-  -- keywords that are made of a part mean what its member claims, in each object at P that has this plan; `if` takes the nodes of `then` and `else`
-  abbrev pub MakesPart : Shape K R → Path → List (SchemaNode K R) → Cases (SchemaNode K R) → Path → Planned → List (KeywordOver K R (SchemaNode K R)) → Type 0
-  MakesPart x L ns cs P p ks = (ms : Members) (m : Name × Data) → L ≡ P // m.0 → IsShape o m.0 m.1 x → Fits p.condition x
-      → (is_case_shape x ≡ false → StandAt o (reads_of x) ns m.1 L) → (is_if_shape x ≡ true → CasesStand o cs ms P)
-      → has_repeat (map (λ m. m.0) (listed ms)) ≡ false → lookup m.0 (listed ms) ≡ Some m.1 → p ≡ plan_of ms
+  -- keywords that are made of the node of `additionalProperties` and of what stands beside it mean all that it takes over, in each object at P that has this plan and where it restricts other members
+  abbrev pub MakesRestriction : Path → Option (SchemaNode K R) → Beside R (SchemaNode K R) → Path → Planned → List (KeywordOver K R (SchemaNode K R)) → Type 0
+  MakesRestriction L rest b P p ks = (ms : Members) (d : Data) → L ≡ P // codes "additionalProperties" → RestStands o rest d L → BesideStands o (known_of ms) b ms P
+      → has_repeat (map (λ m. m.0) (listed ms)) ≡ false → lookup (codes "additionalProperties") (listed ms) ≡ Some d → p ≡ plan_of ms
+      → KeywordsMean ms ks (claims (head p) (listed ms) (codes "additionalProperties", d)) ((codes "additionalProperties", d) ∷ []) P
+
+  -- keywords that are made of a part that stays mean what its member claims, in each object at P that has this plan; `if` and `additionalProperties` take what was taken for them
+  abbrev pub MakesPart : Shape K R → Path → List (SchemaNode K R) → Taken R (SchemaNode K R) → Path → Planned → List (KeywordOver K R (SchemaNode K R)) → Type 0
+  MakesPart x L ns t P p ks = (ms : Members) (m : Name × Data) → L ≡ P // m.0 → IsShape o m.0 m.1 x → Fits o (known_of ms) x → StandAt o (reads_of x) ns m.1 L
+      → (is_if_shape x ≡ true → CasesStand o t.cases ms P) → (is_restriction_shape x ≡ true → BesideStands o (known_of ms) t.beside ms P)
+      → has_repeat (map (λ m. m.0) (listed ms)) ≡ false → lookup m.0 (listed ms) ≡ Some m.1 → p ≡ plan_of ms → is_taken p m.0 ≡ false
       → KeywordsMean ms ks (claims (head p) (listed ms) m) (m ∷ []) P

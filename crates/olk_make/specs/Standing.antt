@@ -1,11 +1,13 @@
 -- What the nodes and the parts of a schema object stand for.
-use Rattle.std.specs.Prelude.{◌≡◌, ⊤, Bool, true, false, not, cond, List, [], ◌∷◌, ◌++◌, codes, bytes_eq, Option, Some, None}
+use Rattle.std.specs.Prelude.{◌≡◌, ⊤, ◌&&◌, ◌||◌, Bool, true, false, not, cond, List, [], ◌∷◌, ◌++◌, map, codes, bytes_eq, Option, Some, None}
 use Rattle.serde_json.specs.Data.{Data, Members}
 use Rattle.olk_spec.specs.Names.{Name, Path, ◌//◌, lookup, those}
-use Rattle.olk_spec.specs.Schemas.{read, listed, members, numbered, is_array}
+use Rattle.olk_spec.specs.Schemas.{listed, members, numbered, is_array, is_object, is_truth}
 use Rattle.olk_spec.specs.Malformed.{items_of_array}
 use Rattle.olk_base.specs.Kit.{Kit}
 use Rattle.olk_base.specs.declared.pattern.CompiledPattern.{CompiledPattern}
+use Rattle.olk_tree.specs.Tables.{IsTableOf}
+use Rattle.olk_tree.specs.declared.map.SmallMap.{SmallMap}
 use Rattle.olk_node.specs.Stands.{StandsFor}
 use Rattle.olk_make.specs.Holding.{StandEach, StandInner}
 use Rattle.olk_node.specs.declared.node.SchemaNode.{SchemaNode}
@@ -13,36 +15,63 @@ use Rattle.olk_read.specs.declared.shape.ReadPlaces.{ReadPlaces}
 use Rattle.olk_read.specs.declared.shape.ReadPlaces.TheVariants.{Nothing, Itself, Entries, SchemaEntries, InnerEntries, Branches}
 use Rattle.olk_make.specs.declared.part.Part.{Part}
 use Rattle.olk_make.specs.declared.part.Cases.{Cases}
-use Rattle.olk_read.specs.Patterns.{IsPattern}
+use Rattle.olk_make.specs.declared.part.Patterns.{Patterns}
+use Rattle.olk_make.specs.declared.part.Beside.{Beside}
+use Rattle.olk_make.specs.declared.part.Taken.{Taken}
+use Rattle.olk_members.specs.Conditions.{Known}
+use Rattle.olk_members.specs.Plans.{Planned, is_case, tells_members}
+use Rattle.olk_read.specs.Patterns.{ArePatterns, IsPattern}
 use Rattle.olk_read.specs.Reading.{reads_of, IsShape, Fits}
 use Rattle.olk_read.specs.declared.shape.Shape.{Shape}
 use Rattle.olk_read.specs.declared.shape.Shape.TheVariants as shape
 
--- the keyword whose node `if` takes over
-abbrev pub is_case_shape : {K R : Type 0} → Shape K R → Bool
-is_case_shape shape.Then = true
-is_case_shape shape.Else = true
-is_case_shape x = false
+-- another keyword takes what the part of the name k holds: `if` of `then` and `else`, and `additionalProperties` of the keywords that tell members by their names
+abbrev pub is_taken : Planned → Name → Bool
+is_taken p k = (p.restricted && tells_members k) || (p.condition && is_case k)
+
+-- the members whose parts stay: those that no other keyword takes
+abbrev pub untaken : Planned → List (Name × Data) → List (Name × Data)
+untaken p es = those (λ m. not (is_taken p m.0)) es
 
 abbrev pub is_if_shape : {K R : Type 0} → Shape K R → Bool
 is_if_shape shape.If = true
 is_if_shape x = false
+
+-- `additionalProperties` that is false or an object
+abbrev pub is_restriction_shape : {K R : Type 0} → Shape K R → Bool
+is_restriction_shape shape.AdditionalProperties = true
+is_restriction_shape shape.NoOthers = true
+is_restriction_shape x = false
 
 -- the last of these, if there is one
 abbrev pub IsLast : {X : Type 0} → List X → Option X → Type 0
 IsLast xs None = xs ≡ []
 IsLast {X} xs (Some x) = (before : List X) × (xs ≡ before ++ x ∷ [])
 
--- what is taken of a part of this shape with these nodes
-abbrev pub TakesCase : {K R N : Type 0} → Shape K R → List N → Cases N → Cases N → Type 0
-TakesCase shape.Then ns old new = IsLast ns new.then_schema × (new.else_schema ≡ old.else_schema)
-TakesCase shape.Else ns old new = IsLast ns new.else_schema × (new.then_schema ≡ old.then_schema)
-TakesCase x ns old new = new ≡ old
-
 -- the last member of the name, if there is one
 abbrev pub last_named : Name → List (Name × Data) → Option Data → Option Data
 last_named k [] d = d
 last_named k (m ∷ es) d = last_named k es (cond (bytes_eq k m.0) (Some m.1) d)
+
+-- something, or nothing, for the schema that is there, or for none
+abbrev pub Fills : {X : Type 0} → (X → Data → Type 0) → Option X → Option Data → Type 0
+Fills Stands None None = ⊤
+Fills Stands None (Some d) = ⊥
+Fills Stands (Some x) None = ⊥
+Fills Stands (Some x) (Some d) = Stands x d
+
+-- nothing is left of the part, and this was taken
+abbrev pub IsTaken : {K R N X : Type 0} → Option (Part K R N) → Option X → X → Type 0
+IsTaken left now x = (left ≡ None) × (now ≡ Some x)
+
+-- what is taken of a part of this shape, and what is left of it
+module _ {K R N : Type 0} (p : Planned) where
+  abbrev pub Takes : Shape K R → Part K R N → Taken R N → Taken R N → Option (Part K R N) → Type 0
+  Takes shape.Then part old new left = (left ≡ None) × IsLast part.nodes.items new.cases.then_schema × (new.cases.else_schema ≡ old.cases.else_schema) × (new.beside ≡ old.beside)
+  Takes shape.Else part old new left = (left ≡ None) × IsLast part.nodes.items new.cases.else_schema × (new.cases.then_schema ≡ old.cases.then_schema) × (new.beside ≡ old.beside)
+  Takes (shape.Properties names) part old new left = cond p.restricted ((left ≡ None) × (new ≡ record old { beside = record old.beside { properties = Some (record { names = names; nodes = part.nodes }) } })) ((left ≡ Some part) × (new ≡ old))
+  Takes (shape.PatternProperties v t) part old new left = cond p.restricted ((left ≡ None) × (new ≡ record old { beside = record old.beside { patterns = Some (record { location = part.location; patterns = v; table = t; nodes = part.nodes }) } })) ((left ≡ Some part) × (new ≡ old))
+  Takes x part old new left = (left ≡ Some part) × (new ≡ old)
 
 module _ {K R : Type 0} (o : Kit K R) where
   -- nodes for the places that are read in a value at L
@@ -63,13 +92,13 @@ module _ {K R : Type 0} (o : Kit K R) where
   EntriesStand (e ∷ es) [] L = ⊥
   EntriesStand (e ∷ es) (d ∷ ds) L = IsPattern o e.0 d.0 × StandsFor o e.1 d.1 (L // d.0) × EntriesStand es ds L
 
-  -- c says whether `if` is read in the schema object at P
-  module _ (c : Bool) where
+  -- c is known of the neighbours in the schema object at P
+  module _ (c : Known) where
     -- a part stands for the member m
     pub record PartStands (p : Part K R (SchemaNode K R)) (m : Name × Data) (P : Path) : Type 0 where
       pub place : p.location ≡ P // m.0
       pub shape : IsShape o m.0 m.1 p.shape
-      pub fits : Fits c p.shape
+      pub fits : Fits o c p.shape
       pub nodes : StandAt (reads_of p.shape) p.nodes.items m.1 (P // m.0)
 
     abbrev pub PartsStand : List (Part K R (SchemaNode K R)) → List (Name × Data) → Path → Type 0
@@ -78,32 +107,38 @@ module _ {K R : Type 0} (o : Kit K R) where
     PartsStand (p ∷ ps) [] P = ⊥
     PartsStand (p ∷ ps) (m ∷ es) P = PartStands p m P × PartsStand ps es P
 
-    -- the same, where the nodes of `then` and `else` may be taken
-    pub record PartIsLeft (p : Part K R (SchemaNode K R)) (m : Name × Data) (P : Path) : Type 0 where
-      pub place : p.location ≡ P // m.0
-      pub shape : IsShape o m.0 m.1 p.shape
-      pub fits : Fits c p.shape
-      pub nodes : is_case_shape p.shape ≡ false → StandAt (reads_of p.shape) p.nodes.items m.1 (P // m.0)
+    -- patterns with their nodes and their table stand for `patternProperties` at L
+    pub record PatternsStand (x : Patterns R (SchemaNode K R)) (L : Path) (d : Data) : Type 0 where
+      pub place : x.location ≡ L
+      pub kind : is_object d ≡ true
+      pub patterns : ArePatterns o x.patterns.items (members d)
+      pub names : x.table.names ≡ map (λ e. e.0) c.declared
+      pub table : IsTableOf o.answers x.patterns.items x.table
+      pub nodes : StandEach o x.nodes.items (members d) L
 
-    abbrev pub PartsAreLeft : List (Part K R (SchemaNode K R)) → List (Name × Data) → Path → Type 0
-    PartsAreLeft [] [] P = ⊤
-    PartsAreLeft [] (m ∷ es) P = ⊥
-    PartsAreLeft (p ∷ ps) [] P = ⊥
-    PartsAreLeft (p ∷ ps) (m ∷ es) P = PartIsLeft p m P × PartsAreLeft ps es P
+  -- names with their nodes stand for `properties` at L
+  pub record DeclaredStand (x : SmallMap (SchemaNode K R)) (L : Path) (d : Data) : Type 0 where
+    pub kind : is_object d ≡ true
+    pub names : x.names ≡ map (λ e. e.0) (members d)
+    pub nodes : StandEach o x.nodes.items (members d) L
 
-  -- a node, or none, for the schema that is there, or none
-  abbrev pub CaseStands : Option (SchemaNode K R) → Option Data → Path → Type 0
-  CaseStands None None L = ⊤
-  CaseStands None (Some d) L = ⊥
-  CaseStands (Some n) None L = ⊥
-  CaseStands (Some n) (Some d) L = StandsFor o n d L
+  -- the node of `additionalProperties` at L, and none where that is false
+  abbrev pub RestStands : Option (SchemaNode K R) → Data → Path → Type 0
+  RestStands None d L = is_truth false d ≡ true
+  RestStands (Some n) d L = (is_object d ≡ true) × StandsFor o n d L
 
-  -- for what stands at `then` and at `else`
+  -- in the schema object with the members ms at P, for what stands at `then` and at `else`
   abbrev pub CasesStand : Cases (SchemaNode K R) → Members → Path → Type 0
-  CasesStand cs ms P = CaseStands cs.then_schema (lookup (codes "then") (listed ms)) (P // codes "then") × CaseStands cs.else_schema (lookup (codes "else") (listed ms)) (P // codes "else")
+  CasesStand cs ms P = Fills (λ n d. StandsFor o n d (P // codes "then")) cs.then_schema (lookup (codes "then") (listed ms)) × Fills (λ n d. StandsFor o n d (P // codes "else")) cs.else_schema (lookup (codes "else") (listed ms))
 
-  -- taken out of the parts for the members es: the parts that are left, and where `if` is read the nodes of `then` and `else`
-  pub record CasesAreTaken (c : Bool) (es : List (Name × Data)) (P : Path) (cs : Cases (SchemaNode K R)) (ps : List (Part K R (SchemaNode K R))) : Type 0 where
-    pub left : PartsAreLeft c ps es P
-    pub at_then : c ≡ true → CaseStands cs.then_schema (last_named (codes "then") es None) (P // codes "then")
-    pub at_else : c ≡ true → CaseStands cs.else_schema (last_named (codes "else") es None) (P // codes "else")
+  -- and for what stands at `properties` and at `patternProperties`
+  abbrev pub BesideStands : Known → Beside R (SchemaNode K R) → Members → Path → Type 0
+  BesideStands c b ms P = Fills (λ x. DeclaredStand x (P // codes "properties")) b.properties (lookup (codes "properties") (listed ms)) × Fills (λ x. PatternsStand c x (P // codes "patternProperties")) b.patterns (lookup (codes "patternProperties") (listed ms))
+
+  -- taken out of the parts for the members es by the plan p: the parts that are left, and what was taken
+  pub record AreTaken (p : Planned) (c : Known) (es : List (Name × Data)) (P : Path) (t : Taken R (SchemaNode K R)) (ps : List (Part K R (SchemaNode K R))) : Type 0 where
+    pub left : PartsStand c ps (untaken p es) P
+    pub at_then : p.condition ≡ true → Fills (λ n d. StandsFor o n d (P // codes "then")) t.cases.then_schema (last_named (codes "then") es None)
+    pub at_else : p.condition ≡ true → Fills (λ n d. StandsFor o n d (P // codes "else")) t.cases.else_schema (last_named (codes "else") es None)
+    pub at_properties : p.restricted ≡ true → Fills (λ x. DeclaredStand x (P // codes "properties")) t.beside.properties (last_named (codes "properties") es None)
+    pub at_patterns : p.restricted ≡ true → Fills (λ x. PatternsStand c x (P // codes "patternProperties")) t.beside.patterns (last_named (codes "patternProperties") es None)

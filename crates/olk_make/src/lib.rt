@@ -4,6 +4,7 @@
 //! `olk_read` and `olk_node`. Tested by `olk_tests` through building.
 #![tactic(auto)]
 
+pub mod additional_properties;
 pub mod all_of;
 pub mod any_of;
 pub mod dependencies;
@@ -19,4 +20,4 @@ pub mod property_names;
 pub mod required;
 
 pub use making::make_keywords;
-pub use part::{Cases, Part};
+pub use part::{Beside, Cases, Part, Patterns, Taken};

@@ -5,31 +5,33 @@ ghost use Rattle.serde_json.specs.Data.{Data};
 ghost use Rattle.olk_spec.specs.Names.{Name, Path};
 ghost use Rattle.olk_spec.specs.Schemas.{listed};
 ghost use Rattle.olk_base.specs.Kit.{kit};
-ghost use Rattle.olk_members.specs.Conditions.{is_condition};
+ghost use Rattle.olk_members.specs.Conditions.{Known, known_of};
 ghost use Rattle.olk_members.specs.Plans.{planned};
-ghost use Rattle.olk_make.specs.Standing.{is_case_shape, is_if_shape, TakesCase, PartsStand, CasesAreTaken};
+ghost use Rattle.olk_make.specs.Standing.{is_if_shape, is_restriction_shape, Takes, PartsStand, AreTaken};
 ghost use Rattle.olk_make.specs.Making.{MakesPart, ObjectIsMade};
 
-use crate::part::{Cases, Part};
+use crate::part::{Part, Patterns, Taken};
 use crate::{
-    all_of, any_of, dependencies, if_, not, one_of, pattern_properties, properties,
-    property_dependencies, property_names, required,
+    additional_properties, all_of, any_of, dependencies, if_, not, one_of, pattern_properties,
+    properties, property_dependencies, property_names, required,
 };
 use olk_base::{Leaf, RegexEngine};
 use olk_members::Plan;
 use olk_node::{Keyword, SchemaNode};
 use olk_read::{Shape, append};
 use olk_reports::Location;
+use olk_tree::map::SmallMap;
 use olk_tree::node::KeywordOver;
 use serde_json::{Map, Value};
 use std::alloc::{AllocError, Global};
 
-/// The part without its node, where it is `then` or `else`, and else as it is.
-fn take_case<K, R, N: Drop>(cases: &mut Cases<N>, part: Part<K, R, N>) -> Part<K, R, N>
-    ensures takes { TakesCase part.shape part.nodes.items cases.old cases.new }
-    ensures location { result.location ≡ part.location }
-    ensures shape { result.shape ≡ part.shape }
-    ensures nodes { is_case_shape part.shape ≡ false → result.nodes.items ≡ part.nodes.items }
+/// The part, or nothing where another keyword takes what it holds.
+fn take<K, R: Drop, N: Drop>(
+    plan: Plan<'_>,
+    taken: &mut Taken<R, N>,
+    part: Part<K, R, N>,
+) -> Option<Part<K, R, N>>
+    ensures { Takes (planned plan.entry) part.shape part taken.old taken.new result }
 {
     let Part {
         location,
@@ -37,44 +39,72 @@ fn take_case<K, R, N: Drop>(cases: &mut Cases<N>, part: Part<K, R, N>) -> Part<K
         mut nodes,
     } = part;
     match shape {
-        Shape::Then => cases.then_schema = nodes.pop(),
-        Shape::Else => cases.else_schema = nodes.pop(),
-        _ => {}
-    }
-    Part {
-        location,
-        shape,
-        nodes,
+        Shape::Then => {
+            taken.cases.then_schema = nodes.pop();
+            None
+        }
+        Shape::Else => {
+            taken.cases.else_schema = nodes.pop();
+            None
+        }
+        Shape::Properties(names) if plan.is_restricted() => {
+            taken.beside.properties = Some(SmallMap { names, nodes });
+            None
+        }
+        Shape::PatternProperties(patterns, table) if plan.is_restricted() => {
+            taken.beside.patterns = Some(Patterns {
+                location,
+                patterns,
+                table,
+                nodes,
+            });
+            None
+        }
+        shape => Some(Part {
+            location,
+            shape,
+            nodes,
+        }),
     }
 }
 
-/// The nodes of `then` and `else`, and the parts without them; none, and the parts as they are, where `if` is not read.
+/// What `if` and `additionalProperties` take, and the other parts; nothing, and the parts as they are, where neither takes
+/// anything.
 ///
 /// # Errors
 ///
 /// Want of memory.
-fn take_cases<K: Leaf, R: RegexEngine>(
+fn take_all<K: Leaf, R: RegexEngine>(
     alloc: Global,
-    condition: bool,
+    plan: Plan<'_>,
     parts: Vec<Part<K, R, SchemaNode<K, R>>>,
-) -> Result<(Cases<SchemaNode<K, R>>, Vec<Part<K, R, SchemaNode<K, R>>>), AllocError>
-    ensures { IfOk result (λ r. (es : List (Name × Data)) (P : Path)
-        → PartsStand (kit K.Leaf R.RegexEngine) condition parts.items es P
-        → CasesAreTaken (kit K.Leaf R.RegexEngine) condition es P r.0 r.1.items) }
+) -> Result<
+    (
+        Taken<R, SchemaNode<K, R>>,
+        Vec<Part<K, R, SchemaNode<K, R>>>,
+    ),
+    AllocError,
+>
+    ensures { IfOk result (λ r. (es : List (Name × Data)) (P : Path) (c : Known)
+        → c.condition ≡ (planned plan.entry).condition
+        → PartsStand (kit K.Leaf R.RegexEngine) c parts.items es P
+        → AreTaken (kit K.Leaf R.RegexEngine) (planned plan.entry) c es P r.0 r.1.items) }
 {
-    let mut cases = Cases::none();
-    if !condition {
-        return Ok((cases, parts));
+    let mut taken = Taken::none();
+    if !plan.is_condition() && !plan.is_restricted() {
+        return Ok((taken, parts));
     }
-    let mut left = Vec::new(alloc);
+    let mut left = Vec::with_capacity(alloc, parts.len())?;
     for part in parts {
-        append(&mut left, take_case(&mut cases, part))?;
+        if let Some(part) = take(plan, &mut taken, part) {
+            append(&mut left, part)?;
+        }
     }
-    Ok((cases, left))
+    Ok((taken, left))
 }
 
-/// The keyword of a part of the object at the place, if it is read and the plan names no other for it. `if` takes the
-/// nodes of `then` and `else`.
+/// The keyword of a part of the object at the place, if it is read and the plan names no other for it. `if` and
+/// `additionalProperties` have what was taken for them.
 ///
 /// # Errors
 ///
@@ -83,13 +113,15 @@ fn make_keyword<K: Leaf, R: RegexEngine>(
     alloc: Global,
     plan: Plan<'_>,
     place: &Location,
-    cases: &mut Cases<SchemaNode<K, R>>,
+    taken: &mut Taken<R, SchemaNode<K, R>>,
     part: Part<K, R, SchemaNode<K, R>>,
 ) -> Result<Option<Keyword<K, R>>, AllocError>
     ensures makes { IfOk result (λ o. MakesPart (kit K.Leaf R.RegexEngine) part.shape
-        part.location part.nodes.items cases.old place.now (planned plan.entry)
+        part.location part.nodes.items taken.old place.now (planned plan.entry)
         (option_to_list o)) }
-    ensures kept { is_if_shape part.shape ≡ false → cases.new ≡ cases.old }
+    ensures cases { is_if_shape part.shape ≡ false → taken.new.cases ≡ taken.old.cases }
+    ensures beside { is_restriction_shape part.shape ≡ false
+        → taken.new.beside ≡ taken.old.beside }
 {
     let Part {
         location,
@@ -100,9 +132,29 @@ fn make_keyword<K: Leaf, R: RegexEngine>(
         Shape::Properties(names) => Ok(Some(properties::make(
             alloc, plan, place, location, names, nodes,
         )?)),
-        Shape::PatternProperties(patterns) => Ok(Some(pattern_properties::make(
+        Shape::PatternProperties(patterns, _table) => Ok(Some(pattern_properties::make(
             alloc, location, patterns, nodes,
         )?)),
+        Shape::AdditionalProperties => match nodes.pop() {
+            Some(rest) => Ok(Some(additional_properties::make(
+                alloc,
+                plan,
+                place,
+                location,
+                Some(rest),
+                taken.beside.take(),
+            )?)),
+            None => Ok(None),
+        },
+        Shape::NoOthers => Ok(Some(additional_properties::make(
+            alloc,
+            plan,
+            place,
+            location,
+            None,
+            taken.beside.take(),
+        )?)),
+        Shape::AnyOthers => Ok(None),
         Shape::PropertyNames => Ok(property_names::make(location, nodes)),
         Shape::NoNames => Ok(Some(property_names::make_false(location))),
         Shape::AnyNames => Ok(None),
@@ -124,7 +176,7 @@ fn make_keyword<K: Leaf, R: RegexEngine>(
         Shape::OneOf => Ok(Some(one_of::make(location, nodes))),
         Shape::Not(original) => Ok(not::make(location, original, nodes)),
         Shape::If => match nodes.pop() {
-            Some(schema) => Ok(if_::make(location, schema, cases.take())),
+            Some(schema) => Ok(if_::make(location, schema, taken.cases.take())),
             None => Ok(None),
         },
         Shape::Then | Shape::Else | Shape::Unpaired => Ok(None),
@@ -145,16 +197,16 @@ pub fn make_keywords<K: Leaf, R: RegexEngine>(
     parts: Vec<Part<K, R, SchemaNode<K, R>>>,
 ) -> Result<Vec<Keyword<K, R>>, AllocError>
     requires { PartsStand (kit K.Leaf R.RegexEngine)
-        (is_condition (members_view members.now.entries)) parts.items
+        (known_of (members_view members.now.entries)) parts.items
         (listed (members_view members.now.entries)) place.now }
     ensures { IfOk result (λ ks. ObjectIsMade (kit K.Leaf R.RegexEngine)
         (members_view members.now.entries) ks.items place.now) }
 {
     let plan = Plan::of(members);
-    let (mut cases, parts) = take_cases(alloc, plan.is_condition(), parts)?;
+    let (mut taken, parts) = take_all(alloc, plan, parts)?;
     let mut keywords = Vec::with_capacity(alloc, parts.len())?;
     for part in parts {
-        if let Some(keyword) = make_keyword(alloc, plan, place, &mut cases, part)? {
+        if let Some(keyword) = make_keyword(alloc, plan, place, &mut taken, part)? {
             append(&mut keywords, keyword)?;
         }
     }

@@ -1,8 +1,11 @@
 //! The parts of a schema object.
 ghost use Rattle.std.specs.Prelude.{◌≡◌, None};
 
+use olk_base::CompiledPattern;
 use olk_read::Shape;
 use olk_reports::Location;
+use olk_tree::map::SmallMap;
+use olk_tree::pattern_table::PatternTable;
 
 /// A member of a schema object: its place, its shape, and the nodes of the places that it reads.
 #[derive(Drop)]
@@ -40,6 +43,72 @@ impl<N> Cases<N> {
         Cases {
             then_schema: self.then_schema.take(),
             else_schema: self.else_schema.take(),
+        }
+    }
+}
+
+/// What `patternProperties` holds: its place, its patterns, what they say of the names that are declared beside it, and
+/// the nodes of its entries.
+#[derive(Drop)]
+pub struct Patterns<R, N> {
+    pub location: Location,
+    pub patterns: Vec<CompiledPattern<R>>,
+    pub table: PatternTable,
+    pub nodes: Vec<N>,
+}
+
+/// What stands beside `additionalProperties`: the declared names with their nodes, if `properties` does, and what
+/// `patternProperties` holds, if that does.
+#[derive(Drop)]
+pub struct Beside<R, N> {
+    pub properties: Option<SmallMap<N>>,
+    pub patterns: Option<Patterns<R, N>>,
+}
+
+impl<R, N> Beside<R, N> {
+    /// Neither.
+    pub fn none() -> Beside<R, N>
+        ensures properties { result.properties ≡ None }
+        ensures patterns { result.patterns ≡ None }
+    {
+        Beside {
+            properties: None,
+            patterns: None,
+        }
+    }
+
+    /// Both, and none is left.
+    pub fn take(&mut self) -> Beside<R, N>
+        ensures taken { result ≡ self.old }
+        ensures properties { self.new.properties ≡ None }
+        ensures patterns { self.new.patterns ≡ None }
+    {
+        Beside {
+            properties: self.properties.take(),
+            patterns: self.patterns.take(),
+        }
+    }
+}
+
+/// What validators take from the parts of their neighbours: `if` from `then` and `else`, and `additionalProperties`, where
+/// it restricts other members, from `properties` and `patternProperties`.
+#[derive(Drop)]
+pub struct Taken<R, N> {
+    pub cases: Cases<N>,
+    pub beside: Beside<R, N>,
+}
+
+impl<R, N> Taken<R, N> {
+    /// Nothing.
+    pub fn none() -> Taken<R, N>
+        ensures then_schema { result.cases.then_schema ≡ None }
+        ensures else_schema { result.cases.else_schema ≡ None }
+        ensures properties { result.beside.properties ≡ None }
+        ensures patterns { result.beside.patterns ≡ None }
+    {
+        Taken {
+            cases: Cases::none(),
+            beside: Beside::none(),
         }
     }
 }

@@ -2,6 +2,7 @@
 ghost use Rattle.std.specs.Prelude.{◌≡◌, ◌∷◌, [], IfOk, length};
 ghost use Rattle.olk_base.specs.Kit.{kit};
 ghost use Rattle.olk_tree.specs.Answers.{names_in, nodes_in};
+ghost use Rattle.olk_tree.specs.Ascending.{Ascend};
 ghost use Rattle.olk_make.specs.Forms.{IsMapFor, IsFormOfProperties, IsProperties};
 ghost use Rattle.olk_members.specs.Plans.{planned};
 ghost use Rattle.olk_make.specs.Making.{MakesClaims};
@@ -20,7 +21,7 @@ use olk_tree::properties_map::PropertiesMap;
 use std::alloc::{AllocError, Global};
 
 /// The map of these names, in which many are found by their hash.
-fn map_of<N: Drop>(
+pub(crate) fn map_of<N: Drop>(
     alloc: Global,
     names: SortedNames,
     nodes: Vec<N>,
@@ -28,6 +29,7 @@ fn map_of<N: Drop>(
     ensures names { IfOk result (λ m. names_in m ≡ names) }
     ensures nodes { IfOk result (λ m. nodes_in m ≡ nodes.items) }
     ensures size { IfOk result (IsMapFor (length names)) }
+    ensures ordered { IfOk result (λ m. Ascend names) }
 {
     if names.len() < HASHMAP_THRESHOLD {
         return Ok(PropertiesMap::Small(SmallMap { names, nodes }));

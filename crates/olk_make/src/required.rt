@@ -13,7 +13,7 @@ use olk_reports::Location;
 use olk_tree::node::KeywordOver;
 use olk_tree::required::RequiredValidator;
 
-/// The validator of the names, unless the plan fuses them.
+/// The validator of the names, unless the plan fuses them: two into `properties`, or one into `additionalProperties`.
 pub fn make<K: Leaf, R: RegexEngine>(
     plan: Plan<'_>,
     location: Location,
@@ -24,6 +24,9 @@ pub fn make<K: Leaf, R: RegexEngine>(
         location nodes.items P (planned plan.entry) (option_to_list result) }
 {
     if plan.fuses() {
+        return None;
+    }
+    if plan.fused_one().is_some() {
         return None;
     }
     Some(KeywordOver::Required(RequiredValidator { required, location }))

@@ -55,7 +55,7 @@ module _ (W : World) (u : Bool) (v : Data) where
     abbrev pub shown_declared : List (Name × Data) → List Tree → Tree
     shown_declared es more = result L Q (cond (is_object v) (Some (map (λ m. m.0) (those (λ m. is_among m.0 (map (λ e. e.0) es)) (members v)))) None) false [] (flat_map (shown_at es) (members v) ++ more)
 
-    entry_shown : (m : Name × Data) (es : List (Name × Data)) → map (λ s. s.answer.tree m.1 (L // m.0) (Q // m.0)) (option_to_list (lookup m.0 (map (entry (meaning_step W u)) es))) ≡ shown_at es m
+    pub entry_shown : (m : Name × Data) (es : List (Name × Data)) → map (λ s. s.answer.tree m.1 (L // m.0) (Q // m.0)) (option_to_list (lookup m.0 (map (entry (meaning_step W u)) es))) ≡ shown_at es m
     unfolding meaning
     entry_shown m [] = refl
     entry_shown m (e ∷ es) = by (slice_cmp nat_cmp m.0 e.0) (entry_shown m es)

@@ -1,32 +1,25 @@
 -- What the validators of an object stand for, by its plan.
-use Rattle.std.specs.Prelude.{◌≡◌, ⊤, ◌||◌, map, Bool, true, false, cond, ◌&&◌, List, [], ◌∷◌, ◌++◌, Option, Some, None, is_some, unwrap_or, codes, bytes_eq, IsPermutation, String}
-use Rattle.std.specs.declared.alloc.Global.{Global}
-use Rattle.std.specs.List.{list_all, AllByRecursion}
-use Rattle.std.specs.List.Sorted.{IsStrictlySortedBy}
-use Rattle.std.specs.Map.{keys_of}
-use Rattle.std.specs.Ordering.{nat_cmp, is_eq}
-use Rattle.std.specs.Cmp.Lexicographic.{slice_cmp}
-use Rattle.std.specs.declared.cmp.Ordering.{Ordering}
-use Rattle.std.specs.declared.cmp.Ordering.TheVariants.{Less, Equal, Greater}
-use Rattle.std.proofs.Common.{refl, sym, ◌∙◌, ap, subst, option_to_list, string_cmp, string_bytes, ◌⊎◌, inl, inr}
+use Rattle.std.specs.Prelude.{◌≡◌, ⊤, ◌||◌, map, Bool, true, false, cond, ◌&&◌, List, [], ◌∷◌, ◌++◌, Option, Some, None, is_some, unwrap_or, codes, bytes_eq, IsPermutation}
+use Rattle.std.specs.List.{list_all}
+use Rattle.std.proofs.Common.{refl, sym, ◌∙◌, ap, subst, ◌⊎◌, inl, inr}
 use Rattle.std.proofs.lemmas.List.Sorted.{IsPermutation-refl, IsPermutation-trans, IsPermutation-append}
 use Rattle.olk_spec.proofs.Truth.{or_false}
-use Rattle.std.proofs.lemmas.Map.Text.{is_eq-slice_cmp}
 use mathlib.Core.Bool.{true≢false}
 use mathlib.Core.Path.{subst₂}
 use Rattle.serde_json.specs.Data.{Data, string, array, no_items, item, Members}
-use Rattle.serde_json.specs.View.{members_view}
-use Rattle.serde_json.specs.declared.value.Value.{Value}
-use Rattle.olk_spec.specs.Names.{Name, lookup, first_if_equal, is_among, those, put_if}
+use Rattle.olk_spec.specs.Names.{Name, lookup, is_among, those}
 use Rattle.olk_spec.specs.Schemas.{listed}
 use Rattle.olk_spec.specs.Malformed.{has_repeat}
 use Rattle.olk_spec.proofs.Each.{Each}
 use Rattle.olk_spec.proofs.Order.{along_permutation}
-use Rattle.olk_spec.proofs.Walks.{same_name, bytes_eq-itself, bytes_eq-sym, Distinct, Distinct-from, Each-found}
-use Rattle.olk_members.specs.Conditions.{is_condition}
-use Rattle.olk_members.specs.Plans.{Planned, plan_of, is_case, head, claims}
+use Rattle.olk_spec.proofs.Walks.{same_name, bytes_eq-sym, Distinct, Distinct-from, Each-found}
+use Rattle.olk_members.specs.Conditions.{is_condition, is_restricted}
+use Rattle.olk_members.specs.Plans.{Planned, plan_of, is_case, tells_members, is_taken_over, head, claims}
 use Rattle.olk_members.proofs.Heads.{those_split, those_none, those-same, names_of}
-use Rattle.olk_members.specs.Fused.{declares_few, allows_others, two_names, fused_names}
+use Rattle.olk_members.specs.Fused.{declares_few, allows_others, two_names, fused_names, fused_name}
+pub use Rattle.olk_members.proofs.Listed.{members_named, members_found, named_once, found_each, present_each}
+use Rattle.olk_members.proofs.Listed.{lookup_among}
+use Rattle.olk_members.proofs.TakenOver.{IsNotTaken, past_taken, required_not_taken, taken_named, restriction_there, fused_is_restricted, fusing_is_free, free_fuses_none, absent_if}
 
 -- ---- lists in another order
 
@@ -41,9 +34,6 @@ list_all-permuted p = along_permutation (λ xs ys. list_all p xs ≡ list_all p 
 
 -- ---- what is fused
 
-abbrev pub members_named : Name → List (Name × Data) → List (Name × Data)
-members_named k es = those (λ m. bytes_eq k m.0) es
-
 abbrev pub listing : Name × Name → Data
 listing t = array (item (string t.0) (item (string t.1) no_items))
 
@@ -57,24 +47,6 @@ pub record Fuses (ms : Members) (t : Name × Name) : Type 0 where
 abbrev AreFused : Members → Option (Name × Name) → Type 0
 AreFused ms None = ⊤
 AreFused ms (Some t) = Fuses ms t
-
-none_named : (k : Name) (es : List (Name × Data)) → Each (λ m. bytes_eq k m.0 ≡ false) es → members_named k es ≡ []
-none_named k [] h = refl
-none_named k (m ∷ es) h = ap (λ b. put_if b m (members_named k es)) h.0 ∙ none_named k es h.1
-
--- the member that a look-up finds is the only one of its name
-named_once : (k : Name) (d : Data) (es : List (Name × Data)) → Distinct es → lookup k es ≡ Some d → members_named k es ≡ (k, d) ∷ []
-named_once k d [] h e = absurd (true≢false (sym (ap is_some e)))
-named_once k d (m ∷ es) h e = by (slice_cmp nat_cmp k m.0) (is_eq-slice_cmp k m.0) e (named_once k d es h.1)
-  where
-    by : (o : Ordering) → is_eq o ≡ bytes_eq k m.0 → first_if_equal o m.1 (lookup k es) ≡ Some d → (lookup k es ≡ Some d → members_named k es ≡ (k, d) ∷ []) → members_named k (m ∷ es) ≡ (k, d) ∷ []
-    by Less q f g = ap (λ b. put_if b m (members_named k es)) (sym q) ∙ g f
-    by Greater q f g = ap (λ b. put_if b m (members_named k es)) (sym q) ∙ g f
-    by Equal q f g =
-        let same = same_name k m.0 (sym q) in
-        ap (λ b. put_if b m (members_named k es)) (sym q)
-        ∙ ap (λ l. m ∷ l) (none_named k es (subst (λ n. Each (λ x. bytes_eq n x.0 ≡ false) es) (sym same) h.0))
-        ∙ (λ i. (sym same i, unwrap_or (f i) d) ∷ [])
 
 declared_value : (o : Option Data) → declares_few o ≡ true → (d : Data) × (o ≡ Some d)
 declared_value None e = absurd (true≢false (sym e))
@@ -115,18 +87,6 @@ module _ (ms : Members) (distinct : has_repeat (map (λ m. m.0) (listed ms)) ≡
   pub fuses : (t : Name × Name) → Some t ≡ fused_names ms → Fuses ms t
   fuses t e = are_fused ms (Some t) (Distinct-from (listed ms) distinct) e
 
--- ---- what a validator stands for by the object's plan
-
--- a member that is found is there
-lookup_among : (k : Name) (d : Data) (es : List (Name × Data)) → lookup k es ≡ Some d → is_among k (names_of es) ≡ true
-lookup_among k d [] e = absurd (true≢false (sym (ap is_some e)))
-lookup_among k d (m ∷ es) e = by (slice_cmp nat_cmp k m.0) (is_eq-slice_cmp k m.0) e (lookup_among k d es)
-  where
-    by : (o : Ordering) → is_eq o ≡ bytes_eq k m.0 → first_if_equal o m.1 (lookup k es) ≡ Some d → (lookup k es ≡ Some d → is_among k (names_of es) ≡ true) → is_among k (names_of (m ∷ es)) ≡ true
-    by Less q f g = ap (λ b. b || is_among k (names_of es)) (sym q) ∙ g f
-    by Greater q f g = ap (λ b. b || is_among k (names_of es)) (sym q) ∙ g f
-    by Equal q f g = ap (λ b. b || is_among k (names_of es)) (sym q)
-
 -- ---- `then` and `else`
 
 case_named : (n : Name) → is_case n ≡ true → (n ≡ codes "then") ⊎ (n ≡ codes "else")
@@ -156,19 +116,34 @@ past_cases true k n h = by (is_case n) refl
     by false q = refl
     by true q = (h refl).0 ∙ sym (cases_apart k n q (h refl).1)
 
--- another keyword than these, `properties` and `required` is its own head, and that of no other
-pub heads_elsewhere : (p : Planned) (k : Name) → bytes_eq (codes "properties") k ≡ false → bytes_eq (codes "required") k ≡ false → IsNoCase p.condition k → (n : Name) → bytes_eq k (head p n) ≡ bytes_eq k n
-heads_elsewhere p k e f h n = by (is_some p.fused) (bytes_eq (codes "required") n) refl
+-- ---- what a validator stands for by the object's plan
+
+-- a keyword that no other stands for is its own head, and that of no other
+pub head_itself : (p : Planned) (k : Name) → (is_some p.fused ≡ true → (bytes_eq (codes "properties") k ≡ false) × (bytes_eq (codes "required") k ≡ false)) → IsNoCase p.condition k → IsNotTaken p k → (n : Name) → bytes_eq k (head p n) ≡ bytes_eq k n
+head_itself p k apart h free n = past_taken p k n _ free (by (is_some p.fused) (bytes_eq (codes "required") n) refl refl)
   where
-    by : (a b : Bool) → bytes_eq (codes "required") n ≡ b → bytes_eq k (cond (a && b) (codes "properties") (cond (p.condition && is_case n) (codes "if") n)) ≡ bytes_eq k n
-    by false b q = past_cases p.condition k n h
-    by true false q = past_cases p.condition k n h
-    by true true q = bytes_eq-sym k (codes "properties") ∙ e ∙ sym f ∙ bytes_eq-sym (codes "required") k ∙ ap (bytes_eq k) (same_name (codes "required") n q)
+    by : (a b : Bool) → is_some p.fused ≡ a → bytes_eq (codes "required") n ≡ b → bytes_eq k (cond (a && b) (codes "properties") (cond (p.condition && is_case n) (codes "if") n)) ≡ bytes_eq k n
+    by false b f q = past_cases p.condition k n h
+    by true false f q = past_cases p.condition k n h
+    by true true f q = bytes_eq-sym k (codes "properties") ∙ (apart f).0 ∙ sym (apart f).1 ∙ bytes_eq-sym (codes "required") k ∙ ap (bytes_eq k) (same_name (codes "required") n q)
+
+pub heads_elsewhere : (p : Planned) (k : Name) → bytes_eq (codes "properties") k ≡ false → bytes_eq (codes "required") k ≡ false → IsNoCase p.condition k → IsNotTaken p k → (n : Name) → bytes_eq k (head p n) ≡ bytes_eq k n
+heads_elsewhere p k e f = head_itself p k (λ t. (e, f))
+
+-- `required` that neither fuses
+pub head_of_required : (p : Planned) → is_some p.fused ≡ false → is_some p.fused_one ≡ false → (n : Name) → bytes_eq (codes "required") (head p n) ≡ bytes_eq (codes "required") n
+head_of_required p e f = head_itself p (codes "required") (λ t. absurd (true≢false (sym t ∙ e))) (λ c. (refl, refl)) (required_not_taken p f)
 
 abbrev pub fusing : Name × Name → Bool → Planned
-fusing t c = record { fused = Some t; condition = c }
+fusing t c = record { fused = Some t; condition = c; restricted = false; fused_one = None }
 
-or_true : (x : Bool) → true ≡ (x || true)
+-- so is an object's plan that fuses these names
+pub plan_fusing : (ms : Members) (t : Name × Name) → Some t ≡ fused_names ms → plan_of ms ≡ fusing t (is_condition ms)
+plan_fusing ms t e =
+    let free = fusing_is_free ms (ap is_some (sym e)) in
+    λ i. record { fused = sym e i; condition = is_condition ms; restricted = free i; fused_one = absent_if (fused_name ms) (free_fuses_none ms free) i }
+
+pub or_true : (x : Bool) → true ≡ (x || true)
 or_true true = refl
 or_true false = refl
 
@@ -195,7 +170,7 @@ claims_nothing t c es d = those-same (λ (x : Name × Data). bytes_eq (codes "re
 
 -- `if` that is read is the head of `then` and `else` too, and these of none
 head_of_if : (p : Planned) → p.condition ≡ true → (n : Name) → bytes_eq (codes "if") (head p n) ≡ (bytes_eq (codes "if") n || is_case n)
-head_of_if p e n = ap (λ c. bytes_eq (codes "if") (cond (is_some p.fused && bytes_eq (codes "required") n) (codes "properties") (cond (c && is_case n) (codes "if") n))) e ∙ by (is_some p.fused) (bytes_eq (codes "required") n) refl
+head_of_if p e n = over (is_taken_over p n) refl
   where
     beside : (b : Bool) → bytes_eq (codes "if") (cond b (codes "if") n) ≡ (bytes_eq (codes "if") n || b)
     beside true = or_true (bytes_eq (codes "if") n)
@@ -206,8 +181,17 @@ head_of_if p e n = ap (λ c. bytes_eq (codes "if") (cond (is_some p.fused && byt
     by true false q = beside (is_case n)
     by true true q = ap (λ x. bytes_eq (codes "if") x || is_case x) (same_name (codes "required") n q)
 
+    taken : (n ≡ codes "properties") ⊎ (n ≡ codes "patternProperties") ⊎ (n ≡ codes "required") → false ≡ (bytes_eq (codes "if") n || is_case n)
+    taken (inl q) = ap (λ x. bytes_eq (codes "if") x || is_case x) (sym q)
+    taken (inr (inl q)) = ap (λ x. bytes_eq (codes "if") x || is_case x) (sym q)
+    taken (inr (inr q)) = ap (λ x. bytes_eq (codes "if") x || is_case x) (sym q)
+
+    over : (b : Bool) → is_taken_over p n ≡ b → bytes_eq (codes "if") (cond b (codes "additionalProperties") (cond (is_some p.fused && bytes_eq (codes "required") n) (codes "properties") (cond (p.condition && is_case n) (codes "if") n))) ≡ (bytes_eq (codes "if") n || is_case n)
+    over true q = taken (taken_named p n q)
+    over false q = ap (λ c. bytes_eq (codes "if") (cond (is_some p.fused && bytes_eq (codes "required") n) (codes "properties") (cond (c && is_case n) (codes "if") n))) e ∙ by (is_some p.fused) (bytes_eq (codes "required") n) refl
+
 case_heads_none : (p : Planned) → p.condition ≡ true → (k : Name) → is_case k ≡ true → (n : Name) → bytes_eq k (head p n) ≡ false
-case_heads_none p e k h n = ap (λ c. bytes_eq k (cond (is_some p.fused && bytes_eq (codes "required") n) (codes "properties") (cond (c && is_case n) (codes "if") n))) e ∙ by (is_some p.fused && bytes_eq (codes "required") n) (is_case n) refl
+case_heads_none p e k h n = ap (λ c. bytes_eq k (cond (is_taken_over p n) (codes "additionalProperties") (cond (is_some p.fused && bytes_eq (codes "required") n) (codes "properties") (cond (c && is_case n) (codes "if") n)))) e ∙ over (is_taken_over p n)
   where
     no_other : (x : Name) → is_case x ≡ false → bytes_eq k x ≡ false
     no_other x f = bytes_eq-sym k x ∙ cases_apart x k h f
@@ -216,6 +200,10 @@ case_heads_none p e k h n = ap (λ c. bytes_eq k (cond (is_some p.fused && bytes
     by true b q = no_other (codes "properties") refl
     by false true q = no_other (codes "if") refl
     by false false q = no_other n q
+
+    over : (t : Bool) → bytes_eq k (cond t (codes "additionalProperties") (cond (is_some p.fused && bytes_eq (codes "required") n) (codes "properties") (cond (is_case n) (codes "if") n))) ≡ false
+    over true = no_other (codes "additionalProperties") refl
+    over false = by (is_some p.fused && bytes_eq (codes "required") n) (is_case n) refl
 
 pub claims_no_case : (p : Planned) → p.condition ≡ true → (es : List (Name × Data)) (m : Name × Data) → is_case m.0 ≡ true → claims (head p) es m ≡ []
 claims_no_case p e es m h = those-same (λ (x : Name × Data). bytes_eq m.0 (head p x.0)) (λ x. false) (λ x. case_heads_none p e m.0 h x.0) es ∙ those_none es
@@ -239,20 +227,6 @@ module _ (ms : Members) (distinct : has_repeat (names_of (listed ms)) ≡ false)
       (those-same (λ (x : Name × Data). bytes_eq (codes "properties") x.0 || bytes_eq (codes "required") x.0) (λ x. bytes_eq (codes "properties") (head (fusing t c) x.0)) (λ x. sym (head_of_both t c x.0)) (listed ms))
       (those_split (λ x. bytes_eq (codes "properties") x.0) (λ x. bytes_eq (codes "required") x.0) (λ x. names_differ x.0) (listed ms))
 
-  -- the members of a name are what a look-up finds
-  pub members_found : (k : Name) (o : Option Data) → lookup k (listed ms) ≡ o → members_named k (listed ms) ≡ map (λ d. (k, d)) (option_to_list o)
-  members_found k (Some d) e = named_once k d (listed ms) (Distinct-from (listed ms) distinct) e
-  members_found k None e = none_found (listed ms) e
-    where
-      none_found : (es : List (Name × Data)) → lookup k es ≡ None → members_named k es ≡ []
-      none_found [] e = refl
-      none_found (m ∷ es) e = by (slice_cmp nat_cmp k m.0) (is_eq-slice_cmp k m.0) e (none_found es)
-        where
-          by : (o : Ordering) → is_eq o ≡ bytes_eq k m.0 → first_if_equal o m.1 (lookup k es) ≡ None → (lookup k es ≡ None → members_named k es ≡ []) → members_named k (m ∷ es) ≡ []
-          by Less q f g = ap (λ b. put_if b m (members_named k es)) (sym q) ∙ g f
-          by Greater q f g = ap (λ b. put_if b m (members_named k es)) (sym q) ∙ g f
-          by Equal q f g = absurd (true≢false (ap is_some f))
-
   -- `if` that is read stands for itself, `then` and `else`
   pub claims_condition : (p : Planned) → p.condition ≡ true → (d : Data) → lookup (codes "if") (listed ms) ≡ Some d
       → IsPermutation ((codes "if", d) ∷ members_named (codes "then") (listed ms) ++ members_named (codes "else") (listed ms)) (claims (head p) (listed ms) (codes "if", d))
@@ -270,7 +244,7 @@ module _ (ms : Members) (distinct : has_repeat (names_of (listed ms)) ≡ false)
 
   -- the head of each member is there
   head_there : (p : Planned) → p ≡ plan_of ms → (x : Name × Data) → lookup x.0 (listed ms) ≡ Some x.1 → is_among (head p x.0) (names_of (listed ms)) ≡ true
-  head_there p e x there = by p.fused (ap (λ q. q.fused) e) (bytes_eq (codes "required") x.0) (p.condition) (ap (λ q. q.condition) e) (is_case x.0)
+  head_there p e x there = over p.restricted (ap (λ q. q.restricted) e) p.fused_one (ap (λ q. q.fused_one) e) (tells_members x.0) (bytes_eq (codes "required") x.0)
     where
       there_itself : is_among x.0 (names_of (listed ms)) ≡ true
       there_itself = lookup_among x.0 x.1 (listed ms) there
@@ -285,47 +259,25 @@ module _ (ms : Members) (distinct : has_repeat (names_of (listed ms)) ≡ false)
       by (Some t) f true c g k = lookup_among (codes "properties") (fuses ms distinct t f).value (listed ms) (fuses ms distinct t f).declared
       by (Some t) f false c g k = past c g k
 
+      not_taken : is_among (cond (is_some p.fused && bytes_eq (codes "required") x.0) (codes "properties") (cond (p.condition && is_case x.0) (codes "if") x.0)) (names_of (listed ms)) ≡ true
+      not_taken = by p.fused (ap (λ q. q.fused) e) (bytes_eq (codes "required") x.0) (p.condition) (ap (λ q. q.condition) e) (is_case x.0)
+
+      at_restriction : is_restricted ms ≡ true → is_among (codes "additionalProperties") (names_of (listed ms)) ≡ true
+      at_restriction f = let r = restriction_there ms f in lookup_among (codes "additionalProperties") r.0 (listed ms) r.1
+
+      over : (r : Bool) → r ≡ is_restricted ms → (o : Option Name) → o ≡ fused_name ms → (a b : Bool)
+          → is_among (cond ((r && a) || (is_some o && b)) (codes "additionalProperties") (cond (is_some p.fused && bytes_eq (codes "required") x.0) (codes "properties") (cond (p.condition && is_case x.0) (codes "if") x.0))) (names_of (listed ms)) ≡ true
+      over true f o g true b = at_restriction (sym f)
+      over true f (Some n) g false true = at_restriction (sym f)
+      over true f (Some n) g false false = not_taken
+      over true f None g false b = not_taken
+      over false f (Some n) g a true = at_restriction (fused_is_restricted ms n (sym g))
+      over false f (Some n) g a false = not_taken
+      over false f None g a b = not_taken
+
   pub heads_there : (p : Planned) → p ≡ plan_of ms → Each (λ x. is_among (head p x.0) (names_of (listed ms)) ≡ true) (listed ms)
   heads_there p e = along (listed ms) (Each-found (listed ms) (Distinct-from (listed ms) distinct))
     where
       along : (es : List (Name × Data)) → Each (λ x. lookup x.0 (listed ms) ≡ Some x.1) es → Each (λ x. is_among (head p x.0) (names_of (listed ms)) ≡ true) es
       along [] h = tt
       along (x ∷ es) h = (head_there p e x h.0, along es h.1)
-
--- ---- the members of a map
-
-later_differ : (k : String Global) (es : List (String Global × Value)) → AllByRecursion (λ y. string_cmp k y ≡ Less) (keys_of es) → is_among (string_bytes k) (map (λ m. m.0) (listed (members_view es))) ≡ false
-later_differ k [] h = refl
-later_differ k (e ∷ es) h = λ i. (sym (is_eq-slice_cmp (string_bytes k) (string_bytes e.0)) ∙ ap is_eq h.0) i || later_differ k es h.1 i
-
--- no name stands twice
-pub sorted_distinct : (es : List (String Global × Value)) → IsStrictlySortedBy string_cmp (keys_of es) → has_repeat (map (λ m. m.0) (listed (members_view es))) ≡ false
-unfolding IsStrictlySortedBy
-sorted_distinct [] h = refl
-sorted_distinct (e ∷ es) h = λ i. later_differ e.0 es h.0 i || sorted_distinct es h.1 i
-
-one_of : {X : Type 0} (P : X → Type 0) (xs : List X) (x : X) (ys : List X) → Each P (xs ++ x ∷ ys) → P x
-one_of P [] x ys h = h.0
-one_of P (y ∷ xs) x ys h = one_of P xs x ys h.1
-
--- a look-up finds each member, where no name stands twice
-pub found_each : (ms : Members) → has_repeat (map (λ m. m.0) (listed ms)) ≡ false → (done : List (Name × Data)) (m : Name × Data) (rest : List (Name × Data)) → done ++ m ∷ rest ≡ listed ms → lookup m.0 (listed ms) ≡ Some m.1
-found_each ms h done m rest e = one_of (λ x. lookup x.0 (listed ms) ≡ Some x.1) done m rest (subst (λ l. Each (λ x. lookup x.0 (listed ms) ≡ Some x.1) l) (sym e) (Each-found (listed ms) (Distinct-from (listed ms) h)))
-
--- a look-up finds something at each member's name
-pub present_each : (es done : List (Name × Data)) (m : Name × Data) (rest : List (Name × Data)) → done ++ m ∷ rest ≡ es → is_some (lookup m.0 es) ≡ true
-present_each es done m rest e = ap (λ l. is_some (lookup m.0 l)) (sym e) ∙ along done
-  where
-    found : (o : Ordering) (d : Data) (x : Option Data) → is_eq o ≡ true → is_some (first_if_equal o d x) ≡ true
-    found Equal d x q = refl
-    found Less d x q = absurd (true≢false (sym q))
-    found Greater d x q = absurd (true≢false (sym q))
-
-    past : (o : Ordering) (d : Data) (x : Option Data) → is_some x ≡ true → is_some (first_if_equal o d x) ≡ true
-    past Equal d x q = refl
-    past Less d x q = q
-    past Greater d x q = q
-
-    along : (done : List (Name × Data)) → is_some (lookup m.0 (done ++ m ∷ rest)) ≡ true
-    along [] = found (slice_cmp nat_cmp m.0 m.0) m.1 (lookup m.0 rest) (is_eq-slice_cmp m.0 m.0 ∙ bytes_eq-itself m.0)
-    along (x ∷ done) = past (slice_cmp nat_cmp m.0 x.0) x.1 (lookup m.0 (done ++ m ∷ rest)) (along done)

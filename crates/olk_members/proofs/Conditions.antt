@@ -1,5 +1,5 @@
 -- `if`, `then` and `else`, over the raw data of their values.
-use Rattle.std.specs.Prelude.{◌≡◌, ℕ, ◌+◌, Bool, true, false, not, cond, ◌&&◌, ◌||◌, List, [], ◌∷◌, ◌++◌, map, codes, is_some, Option, Some, None, option_to_list, sum_by}
+use Rattle.std.specs.Prelude.{◌≡◌, ◌+◌, Bool, true, false, not, cond, ◌&&◌, ◌||◌, List, [], ◌∷◌, ◌++◌, map, codes, is_some, Option, Some, None, option_to_list, sum_by}
 use Rattle.std.specs.List.{list_all, list_any, flat_map}
 use Rattle.std.specs.Prelude.{bytes_eq}
 use Rattle.std.proofs.Common.{refl, sym, ap, subst, ◌∙◌, ◌⊎◌, inl, inr, arith}
@@ -10,8 +10,7 @@ use Rattle.serde_json.specs.Data.{Data, Members}
 use Rattle.olk_spec.specs.Names.{Name, Path, ◌//◌, down, lookup, put_if}
 use Rattle.olk_spec.specs.World.{World}
 use Rattle.olk_spec.specs.Vocabulary.{if_keyword, then_keyword, else_keyword, keyword_named}
-use Rattle.olk_spec.specs.Faults.{Fault}
-use Rattle.olk_spec.specs.Schemas.{Sub, Schema, Keywords, read, read_members, answer_for, listed, wholes_at, is_object, is_truth}
+use Rattle.olk_spec.specs.Schemas.{Sub, Schema, Keywords, read, read_members, listed, wholes_at, is_object, is_truth}
 use Rattle.olk_spec.specs.Malformed.{read_places, places_where, itself}
 use Rattle.olk_spec.specs.Meanings.{Meaning, restricts, is_conditional, if_accepts, if_refuses, Asked, asked}
 use Rattle.olk_spec.specs.Meaning.{accepts, asks, report, tree, meaning, meaning_step}
@@ -21,8 +20,9 @@ use Rattle.olk_spec.proofs.Truth.{and_true, or_false}
 use Rattle.olk_spec.proofs.Walks.{same_name, neither}
 use Rattle.olk_spec.proofs.Reading.{place, lookup_listed, whole_read, is_present_read, wholes_there, wholes_absent, wholes_at_read}
 use Rattle.olk_members.specs.Members.{member_accepts, member_asks, member_report, member_child}
-use Rattle.olk_members.specs.Conditions.{is_condition, is_conditional_name, is_read_beside, is_restriction, is_restricted, IsKnown}
+use Rattle.olk_members.specs.Conditions.{is_condition, is_conditional_name, is_read_beside, is_restriction, is_restricted, Known, IsKnown}
 use Rattle.olk_members.proofs.Facts.{nothing_first, nothing_last}
+use Rattle.olk_members.proofs.TakenOver.{absent_if}
 
 -- ---- the three names
 
@@ -39,12 +39,8 @@ or_true : (b : Bool) → (b || true) ≡ true
 or_true true = refl
 or_true false = refl
 
-absent_if : {X : Type 0} (o : Option X) → is_some o ≡ false → o ≡ None
-absent_if None e = refl
-absent_if (Some x) e = absurd (true≢false e)
-
 -- the others need not know their neighbours
-pub known_alone : (c : Bool) (ms : Members) (k : Name) → is_read_beside k ≡ false → IsKnown c ms k
+pub known_alone : (c : Known) (ms : Members) (k : Name) → is_read_beside k ≡ false → IsKnown c ms k
 known_alone c ms k e =
     let apart = neither (is_conditional_name k) (bytes_eq k (codes "patternProperties")) e in (
       (λ q. absurd (true≢false (sym q ∙ apart.0))),
@@ -60,7 +56,7 @@ module _ (ms : Members) where
   if_beside_else there = ap (λ b. is_some (lookup (codes "if") (listed ms)) && (is_some (lookup (codes "then") (listed ms)) || b)) there ∙ ap (λ b. is_some (lookup (codes "if") (listed ms)) && b) (or_true _) ∙ and_true _
 
 module _ {X : Type 0} (step : Schema X → X) (ms : Members) where
-  present : (k : Name) → is_some (lookup k (read_members step ms)) ≡ is_some (lookup k (listed ms))
+  pub present : (k : Name) → is_some (lookup k (read_members step ms)) ≡ is_some (lookup k (listed ms))
   present k = is_present_read step ms k ∙ ap is_some (sym (lookup_listed k ms))
 
   pub condition_read : is_conditional (read_members step ms) ≡ is_condition ms
@@ -75,9 +71,9 @@ module _ {X : Type 0} (step : Schema X → X) (ms : Members) where
 
   -- ---- the places that are read
 
-  module _ (W : World) (k : Name) (d : Data) (c : Bool) (known : IsKnown c ms k) where
+  module _ (W : World) (k : Name) (d : Data) (c : Known) (known : IsKnown c ms k) where
     abbrev PlacesByCondition : Name → Type 0
-    PlacesByCondition n = read_places n (read_members step ms) (read step d) (keyword_named W n) ≡ places_where n c (itself n (read step d).whole)
+    PlacesByCondition n = read_places n (read_members step ms) (read step d) (keyword_named W n) ≡ places_where n c.condition (itself n (read step d).whole)
 
     -- itself, where `if` is read
     pub places_by_condition : is_conditional_name k ≡ true → PlacesByCondition k

@@ -17,16 +17,16 @@ use Rattle.olk_spec.specs.Meaning.{accepts, asks, report, tree, meaning, meaning
 use Rattle.olk_spec.specs.Accepts.{missing, due}
 use Rattle.olk_spec.specs.Reports.{required_faults}
 use Rattle.olk_spec.specs.Tree.{plain, erring}
-use Rattle.olk_spec.specs.Malformed.{pending, each, own_refusals, read_places, unless_object, not_a_text, name_list_refusals, malformations_step}
+use Rattle.olk_spec.specs.Malformed.{each, own_refusals, read_places, unless_object, not_a_text, name_list_refusals, malformations_step, malformations_at}
 use Rattle.olk_spec.specs.Costs.{cost, cost_step, no_cost, total_cost}
 use Rattle.olk_spec.proofs.Truth.{and_true, and_first, and_second}
 use Rattle.olk_spec.proofs.Order.{∼_before, ∼_behind, ∼_swap}
 use Rattle.olk_spec.proofs.Maps.{flat_map-map, map-map, those-map}
 use Rattle.olk_spec.proofs.Reading.{entry, entries_read, schema_of_read}
-use Rattle.olk_members.specs.Members.{malformations_at, member_accepts, member_asks, member_report, member_child, member_malformations, member_cost}
+use Rattle.olk_members.specs.Members.{member_accepts, member_asks, member_report, member_child, member_malformations, member_cost}
 use Rattle.olk_members.specs.Dependencies.{due_entries, list_entries, schema_entries, are_lists, dependency_accepts, dependency_asks, dependency_report, dependency_shown}
 use Rattle.olk_spec.proofs.CostSums.{sum_first}
-use Rattle.olk_members.proofs.Facts.{refused_name, name_refused, at_whole_accept, at_whole_ask, at_whole_find, each_malformations, each_costs, nothing_first, nothing_last}
+use Rattle.olk_members.proofs.Facts.{at_whole_accept, at_whole_ask, at_whole_find, each_malformations, each_costs, nothing_first, nothing_last}
 use Rattle.olk_members.proofs.Children.{whole_shown}
 
 -- ---- those of a list, in two parts
@@ -237,18 +237,18 @@ module _ {X : Type 0} (step : Schema X → X) (d : Data) (k : Name) where
 module _ (W : World) (ms : Members) (d : Data) where
   module _ (P : Path) where
     pub dependent_required_malformations : member_malformations W ms (codes "dependentRequired", d) dependent_required P
-        ≡ refused_name (codes "dependentRequired") d (P // codes "dependentRequired") ++ (unless_object d (P // codes "dependentRequired") ++ flat_map (λ e. name_list_refusals e.0 e.1 (P // codes "dependentRequired")) (members d))
-    dependent_required_malformations = append-nil _ ∙ (λ i. name_refused W (codes "dependentRequired") d (P // codes "dependentRequired") i ++ dependent_required_refusals (malformations_step W pending) d (codes "dependentRequired") W (P // codes "dependentRequired") i)
+        ≡ unless_object d (P // codes "dependentRequired") ++ flat_map (λ e. name_list_refusals e.0 e.1 (P // codes "dependentRequired")) (members d)
+    dependent_required_malformations = append-nil _ ∙ dependent_required_refusals (malformations_step W) d (codes "dependentRequired") W (P // codes "dependentRequired")
 
     pub dependent_schemas_malformations : member_malformations W ms (codes "dependentSchemas", d) dependent_schemas P
-        ≡ (refused_name (codes "dependentSchemas") d (P // codes "dependentSchemas") ++ unless_object d (P // codes "dependentSchemas")) ++ flat_map (λ e. malformations_at W e.1 (P // codes "dependentSchemas" // e.0)) (members d)
-    dependent_schemas_malformations = λ i. (name_refused W (codes "dependentSchemas") d (P // codes "dependentSchemas") i ++ dependent_schemas_refusals (malformations_step W pending) d (codes "dependentSchemas") W (P // codes "dependentSchemas") i)
-        ++ (ap (flat_map (λ r. r.0.answer (down P r.1))) (dependent_schemas_places (malformations_step W pending) d (codes "dependentSchemas") (read_members (malformations_step W pending) ms)) ∙ each_malformations W (codes "dependentSchemas") P (members d)) i
+        ≡ unless_object d (P // codes "dependentSchemas") ++ flat_map (λ e. malformations_at W e.1 (P // codes "dependentSchemas" // e.0)) (members d)
+    dependent_schemas_malformations = λ i. dependent_schemas_refusals (malformations_step W) d (codes "dependentSchemas") W (P // codes "dependentSchemas") i
+        ++ (ap (flat_map (λ r. r.0.answer (down P r.1))) (dependent_schemas_places (malformations_step W) d (codes "dependentSchemas") (read_members (malformations_step W) ms)) ∙ each_malformations W (codes "dependentSchemas") P (members d)) i
 
     pub dependencies_malformations : member_malformations W ms (codes "dependencies", d) dependencies P
-        ≡ (refused_name (codes "dependencies") d (P // codes "dependencies") ++ (unless_object d (P // codes "dependencies") ++ flat_map (λ e. not_a_text e.1 (P // codes "dependencies")) (members d))) ++ flat_map (λ e. malformations_at W e.1 (P // codes "dependencies" // e.0)) (schema_entries d)
-    dependencies_malformations = λ i. (name_refused W (codes "dependencies") d (P // codes "dependencies") i ++ dependencies_refusals (malformations_step W pending) d (codes "dependencies") W (P // codes "dependencies") i)
-        ++ (ap (flat_map (λ r. r.0.answer (down P r.1))) (dependencies_places (malformations_step W pending) d (codes "dependencies") (read_members (malformations_step W pending) ms)) ∙ each_malformations W (codes "dependencies") P (schema_entries d)) i
+        ≡ (unless_object d (P // codes "dependencies") ++ flat_map (λ e. not_a_text e.1 (P // codes "dependencies")) (members d)) ++ flat_map (λ e. malformations_at W e.1 (P // codes "dependencies" // e.0)) (schema_entries d)
+    dependencies_malformations = λ i. dependencies_refusals (malformations_step W) d (codes "dependencies") W (P // codes "dependencies") i
+        ++ (ap (flat_map (λ r. r.0.answer (down P r.1))) (dependencies_places (malformations_step W) d (codes "dependencies") (read_members (malformations_step W) ms)) ∙ each_malformations W (codes "dependencies") P (schema_entries d)) i
 
   pub dependent_required_cost : member_cost W ms (codes "dependentRequired", d) dependent_required ≡ no_cost
   dependent_required_cost = sum_first no_cost

@@ -8,12 +8,12 @@ use Rattle.std.proofs.lemmas.List.Sums.{sum_by-cons, sum_by-append}
 use Rattle.std.proofs.lemmas.Grind.{flat_map-append}
 use mathlib.Core.Bool.{true≢false}
 use Rattle.serde_json.specs.Data.{Data, null, boolean, number, string, object, array, Members, Items}
-use Rattle.olk_spec.specs.Names.{Name, Path, ◌//◌, down, is_empty, is_among, put_if}
+use Rattle.olk_spec.specs.Names.{Name, Path, ◌//◌, down, is_empty}
 use Rattle.olk_spec.specs.World.{World}
-use Rattle.olk_spec.specs.Vocabulary.{Keyword, properties, required, all_of, any_of, not_keyword, leaf, unread}
-use Rattle.olk_spec.specs.Faults.{Fault, AnyOf, Not, Leaf, SingleType, Unsupported, object_type, fault, context}
-use Rattle.olk_spec.specs.Schemas.{Sub, Schema, read, read_members, answer_for, listed, numbered, at, texts, branches, is_object}
-use Rattle.olk_spec.specs.Malformed.{pending, refusal, items_list, unless_array, not_a_text, each, malformations_step, malformations_beside, own_refusals, read_places}
+use Rattle.olk_spec.specs.Vocabulary.{properties, required, all_of, any_of, not_keyword, leaf, unread}
+use Rattle.olk_spec.specs.Faults.{AnyOf, Not, Leaf, SingleType, object_type, fault, context}
+use Rattle.olk_spec.specs.Schemas.{Sub, Schema, read, answer_for, listed, numbered, at, members, texts, branches, is_object}
+use Rattle.olk_spec.specs.Malformed.{items_list, unless_array, not_a_text, each, malformations_step, malformations_at}
 use Rattle.olk_spec.specs.Meanings.{Meaning, Subschema, Asked, asked, asked_whole}
 use Rattle.olk_spec.specs.Meaning.{accepts, asks, report, meaning, meaning_step}
 use Rattle.olk_spec.specs.Accepts.{missing}
@@ -21,7 +21,7 @@ use Rattle.olk_spec.specs.Reports.{required_faults, fault_if}
 use Rattle.olk_spec.specs.Costs.{cost, cost_step, ◌⊕◌, total_cost}
 use Rattle.olk_spec.proofs.Truth.{and_true}
 use Rattle.olk_spec.proofs.Reading.{entry, place, entries_read, items_read, branches_read, schema_of_read}
-use Rattle.olk_members.specs.Members.{malformations_at, member_accepts, member_asks, member_report, member_malformations}
+use Rattle.olk_members.specs.Members.{member_accepts, member_asks, member_report, member_malformations}
 use Rattle.olk_spec.proofs.Maps.{flat_map-map, map-map}
 
 -- ---- walks
@@ -66,8 +66,8 @@ nothing_last n = omega arith
 -- ---- the places that a keyword reads
 
 module _ (W : World) (k : Name) where
-  pub each_malformations : (P : Path) (es : List (Name × Data)) → flat_map (λ r. r.0.answer (down P r.1)) (each k (map (entry (malformations_step W pending)) es)) ≡ flat_map (λ e. malformations_at W e.1 (P // k // e.0)) es
-  unfolding malformations_beside
+  pub each_malformations : (P : Path) (es : List (Name × Data)) → flat_map (λ r. r.0.answer (down P r.1)) (each k (map (entry (malformations_step W)) es)) ≡ flat_map (λ e. malformations_at W e.1 (P // k // e.0)) es
+  unfolding malformations_at
   each_malformations P [] = refl
   each_malformations P (e ∷ es) = ap (λ l. malformations_at W e.1 (P // k // e.0) ++ l) (each_malformations P es)
 
@@ -75,13 +75,6 @@ module _ (W : World) (k : Name) where
   unfolding cost
   each_costs [] = refl
   each_costs (e ∷ es) = ap (λ c. cost W e.1 ⊕ c) (each_costs es)
-
--- a name that is refused whatever its value, at its place
-abbrev pub refused_name : Name → Data → Path → List Fault
-refused_name k d L = put_if (is_among k pending) (refusal (Unsupported k) d L) []
-
-pub name_refused : (W : World) (k : Name) (d : Data) (L : Path) → put_if (is_among k pending) (refusal (Unsupported k) (read (malformations_step W pending) d).whole.schema L) [] ≡ refused_name k d L
-name_refused W k d L = ap (λ s. refused_name k s L) (schema_of_read (malformations_step W pending) d)
 
 -- ---- what a keyword asks of subschemas
 
@@ -135,28 +128,39 @@ module _ (W : World) (k : Name) (ds : Items) (u : Bool) (v : Data) (P Q : Path) 
 module _ (W : World) (ms : Members) where
   -- ---- properties
 
+  module _ (d : Data) where
+    module _ (u : Bool) (v : Data) where
+      pub declared_accept : member_accepts W ms (codes "properties", d) properties u v ≡ list_all (λ e. list_all (accepts W u e.1) (at e.0 v)) (members d)
+      unfolding meaning
+      declared_accept =
+          and_true _
+          ∙ ap (λ es. list_all (λ a. a.sub.answer.accepts a.value) (at_members (meaning_step W u) (codes "properties") v es)) (entries_read (meaning_step W u) d)
+          ∙ at_members_accept (meaning_step W u) (codes "properties") v (members d)
+
+      pub declared_ask : member_asks W ms (codes "properties", d) properties u v ≡ sum_by (λ e. sum_by (asks W u e.1) (at e.0 v)) (members d)
+      unfolding meaning
+      declared_ask =
+          nothing_last _
+          ∙ ap (λ es. sum_by (λ a. a.sub.answer.asks a.value) (at_members (meaning_step W u) (codes "properties") v es)) (entries_read (meaning_step W u) d)
+          ∙ at_members_ask (meaning_step W u) (codes "properties") v (members d)
+
+      pub declared_find : (P Q : Path) → member_report W ms (codes "properties", d) properties u v P Q ≡ flat_map (λ e. flat_map (λ x. report W u e.1 x (P // codes "properties" // e.0) (Q // e.0)) (at e.0 v)) (members d)
+      unfolding meaning
+      declared_find P Q =
+          append-nil _
+          ∙ ap (λ es. flat_map (λ a. a.sub.answer.report a.value (down P a.in_schema) (down Q a.in_instance)) (at_members (meaning_step W u) (codes "properties") v es)) (entries_read (meaning_step W u) d)
+          ∙ at_members_find (meaning_step W u) (codes "properties") v P Q (members d)
+
   module _ (fs : Members) where
     module _ (u : Bool) (v : Data) where
       pub properties_accepts : member_accepts W ms (codes "properties", object fs) properties u v ≡ list_all (λ e. list_all (accepts W u e.1) (at e.0 v)) (listed fs)
-      unfolding meaning
-      properties_accepts =
-          and_true _
-          ∙ ap (λ es. list_all (λ a. a.sub.answer.accepts a.value) (at_members (meaning_step W u) (codes "properties") v es)) (entries_read (meaning_step W u) (object fs))
-          ∙ at_members_accept (meaning_step W u) (codes "properties") v (listed fs)
+      properties_accepts = declared_accept (object fs) u v
 
       pub properties_asks : member_asks W ms (codes "properties", object fs) properties u v ≡ sum_by (λ e. sum_by (asks W u e.1) (at e.0 v)) (listed fs)
-      unfolding meaning
-      properties_asks =
-          nothing_last _
-          ∙ ap (λ es. sum_by (λ a. a.sub.answer.asks a.value) (at_members (meaning_step W u) (codes "properties") v es)) (entries_read (meaning_step W u) (object fs))
-          ∙ at_members_ask (meaning_step W u) (codes "properties") v (listed fs)
+      properties_asks = declared_ask (object fs) u v
 
       pub properties_report : (P Q : Path) → member_report W ms (codes "properties", object fs) properties u v P Q ≡ flat_map (λ e. flat_map (λ x. report W u e.1 x (P // codes "properties" // e.0) (Q // e.0)) (at e.0 v)) (listed fs)
-      unfolding meaning
-      properties_report P Q =
-          append-nil _
-          ∙ ap (λ es. flat_map (λ a. a.sub.answer.report a.value (down P a.in_schema) (down Q a.in_instance)) (at_members (meaning_step W u) (codes "properties") v es)) (entries_read (meaning_step W u) (object fs))
-          ∙ at_members_find (meaning_step W u) (codes "properties") v P Q (listed fs)
+      properties_report = declared_find (object fs) u v
 
   -- ---- branches
 
@@ -222,7 +226,7 @@ module _ (W : World) (ms : Members) where
 
   module _ (d : Data) where
     pub required_malformations : (P : Path) → member_malformations W ms (codes "required", d) required P ≡ unless_array d (P // codes "required") ++ not_a_text d (P // codes "required")
-    required_malformations P = append-nil _ ∙ ap (λ s. unless_array s (P // codes "required") ++ not_a_text s (P // codes "required")) (schema_of_read (malformations_step W pending) d)
+    required_malformations P = append-nil _ ∙ ap (λ s. unless_array s (P // codes "required") ++ not_a_text s (P // codes "required")) (schema_of_read (malformations_step W) d)
 
     module _ (u : Bool) (v : Data) where
       pub required_accepts : member_accepts W ms (codes "required", d) required u v ≡ is_empty (missing (texts d) v)
@@ -266,24 +270,3 @@ module _ (W : World) (ms : Members) where
     properties_kind (string s) e = refl
     properties_kind (array ds) e = refl
     properties_kind (object fs) e = absurd (true≢false e)
-
-    -- ---- names that are refused
-
-    first_is : (f : Fault) (b : Bool) (xs ys : List Fault) → b ≡ true → put_if b f [] ++ xs ++ ys ≡ f ∷ (xs ++ ys)
-    first_is f b xs ys e = ap (λ c. put_if c f [] ++ xs ++ ys) e
-
-    either_is : (f : Fault) (b : Bool) → (rest : List Fault) × (put_if b f [] ++ (f ∷ []) ++ [] ≡ f ∷ rest)
-    either_is f true = (f ∷ [], refl)
-    either_is f false = ([], refl)
-
-    module _ (k : Name) (d : Data) where
-      at_data : (w : Keyword) → (rest : List Fault) × (member_malformations W ms (k, d) w P ≡ fault (Unsupported k) (read (malformations_step W pending) d).whole.schema [] (P // k) ∷ rest) → (rest : List Fault) × (member_malformations W ms (k, d) w P ≡ fault (Unsupported k) d [] (P // k) ∷ rest)
-      at_data w h = (h.0, h.1 ∙ ap (λ s. fault (Unsupported k) s [] (P // k) ∷ h.0) (schema_of_read (malformations_step W pending) d))
-
-      pub pending_malformations : is_among k pending ≡ true → (w : Keyword) → (rest : List Fault) × (member_malformations W ms (k, d) w P ≡ fault (Unsupported k) d [] (P // k) ∷ rest)
-      pending_malformations e w = at_data w (
-        _,
-        first_is (fault (Unsupported k) (read (malformations_step W pending) d).whole.schema [] (P // k)) (is_among k pending)
-            (own_refusals W k (read (malformations_step W pending) d) (P // k) w)
-            (flat_map (λ r. r.0.answer (down P r.1)) (read_places k (read_members (malformations_step W pending) ms) (read (malformations_step W pending) d) w)) e,
-      )

@@ -10,7 +10,7 @@ use Rattle.serde_json.specs.View.{view, members_view, items_view}
 use Rattle.serde_json.specs.declared.value.Value.{Value}
 use Rattle.olk_spec.specs.Schemas.{listed}
 use Rattle.olk_spec.specs.declared.TheConstants.{HASHMAP_THRESHOLD}
-use Rattle.olk_members.specs.Fused.{declares_few, two_names}
+use Rattle.olk_members.specs.Fused.{declares_few, two_names, one_name}
 
 -- ---- how many
 
@@ -67,3 +67,19 @@ module _ (o : Option (Bor Value)) (v : Bor Value) (is : o ≡ Some v) where
       by (w ∷ []) h = one_item (view w)
       by (w ∷ x ∷ []) h = absurd (h refl)
       by (w ∷ x ∷ y ∷ ws) h = many_items (view w) (view x) (view y) (items_view ws)
+
+  pub not_one_item : (vs : List Value) → Some (items_view vs) ≡ as_array (view v.now) → (length vs ≡ 1 → ⊥) → None ≡ one_name (option_map (λ x. view x.now) o)
+  not_one_item vs e l = sym (by vs l) ∙ ap (λ d. one_name (Some d)) (sym (array_at (view v.now) (items_view vs) (sym e))) ∙ ap (λ p. one_name (option_map (λ x. view x.now) p)) (sym is)
+    where
+      two_items : (c d : Data) (ds : Items) → one_name (Some (array (item c (item d ds)))) ≡ None
+      two_items null d ds = refl
+      two_items (boolean b) d ds = refl
+      two_items (number n) d ds = refl
+      two_items (string s) d ds = refl
+      two_items (array es) d ds = refl
+      two_items (object ms) d ds = refl
+
+      by : (ws : List Value) → (length ws ≡ 1 → ⊥) → one_name (Some (array (items_view ws))) ≡ None
+      by [] h = refl
+      by (w ∷ []) h = absurd (h refl)
+      by (w ∷ x ∷ ws) h = two_items (view w) (view x) (items_view ws)

@@ -1,7 +1,11 @@
 mod MemberLookups
 mod Fused
 pub mod Heads
+pub mod Listed
+pub mod TakenOver
 pub mod Claims
+pub mod RestrictedClaims
+pub mod Exchanged
 pub mod Facts
 pub mod Children
 pub mod Clean
@@ -13,3 +17,9 @@ pub mod Asking
 pub mod PropertyNames
 pub mod PropertyDependencies
 pub mod PatternProperties
+pub mod Beside
+pub mod AdditionalProperties
+pub mod AdditionalPlaces
+pub mod Restriction
+pub mod OneFused
+pub mod RestrictionShown

@@ -9,7 +9,7 @@ use Rattle.olk_spec.specs.Names.{Path}
 use Rattle.olk_spec.specs.Faults.{fault, MultipleTypes}
 use Rattle.olk_spec.specs.Schemas.{listed, read_members}
 use Rattle.olk_spec.specs.Vocabulary.{keyword_named}
-use Rattle.olk_spec.specs.Malformed.{malformations_beside, malformations_step, keyword_malformations, pending}
+use Rattle.olk_spec.specs.Malformed.{malformations_at, malformations_step, keyword_malformations}
 use Rattle.olk_spec.specs.Meaning.{meaning, meaning_step, accepts, asks, report, tree}
 use Rattle.olk_spec.specs.Accepts.{keyword_accepts}
 use Rattle.olk_spec.specs.Asks.{keyword_asks}
@@ -18,7 +18,7 @@ use Rattle.olk_spec.specs.Costs.{cost, cost_step, ◌⊕◌, total_cost, one_pla
 use Rattle.olk_spec.specs.Tree.{plain}
 use Rattle.olk_spec.specs.Trees.{keyword_child}
 use Rattle.olk_spec.proofs.Reading.{members_read}
-use Rattle.olk_members.specs.Members.{malformations_at, member_accepts, member_asks, member_report, member_child, member_malformations, member_cost}
+use Rattle.olk_members.specs.Members.{member_accepts, member_asks, member_report, member_child, member_malformations, member_cost}
 use Rattle.olk_spec.proofs.Maps.{flat_map-map}
 use Rattle.olk_spec.specs.World.{World}
 use Rattle.olk_spec.proofs.CostSums.{total_cost-map}
@@ -47,8 +47,8 @@ module _ (W : World) (ms : Members) where
   object_tree u v P Q = ap (λ ps. plain P Q (flat_map (λ m. keyword_child W u (read_members (meaning_step W u) ms) v P Q m.0 m.1 (keyword_named W m.0)) ps)) (members_read (meaning_step W u) ms) ∙ ap (plain P Q) (flat_map-map _ _ _ (λ m. refl) (listed ms))
 
   pub object_malformed : (P : Path) → malformations_at W (object ms) P ≡ flat_map (λ m. member_malformations W ms m (keyword_named W m.0) P) (listed ms)
-  unfolding malformations_beside
-  object_malformed P = ap (flat_map (λ m. keyword_malformations W pending (read_members (malformations_step W pending) ms) m.0 m.1 P (keyword_named W m.0))) (members_read (malformations_step W pending) ms) ∙ flat_map-map _ _ _ (λ m. refl) (listed ms)
+  unfolding malformations_at
+  object_malformed P = ap (flat_map (λ m. keyword_malformations W (read_members (malformations_step W) ms) m.0 m.1 P (keyword_named W m.0))) (members_read (malformations_step W) ms) ∙ flat_map-map _ _ _ (λ m. refl) (listed ms)
 
   pub object_cost : cost W (object ms) ≡ one_place ⊕ total_cost (λ m. member_cost W ms m (keyword_named W m.0)) (listed ms)
   unfolding cost
@@ -78,7 +78,7 @@ no_schema_is (array ds) e = tt
 no_schema_is (object ms) e = absurd (let n : false ≡ true = e in cc)
 
 pub no_schema_malformed : (W : World) (d : Data) (P : Path) → IsNoSchema d → malformations_at W d P ≡ fault MultipleTypes d [] P ∷ []
-unfolding malformations_beside
+unfolding malformations_at
 no_schema_malformed W null P h = refl
 no_schema_malformed W (boolean b) P h = absurd h
 no_schema_malformed W (number n) P h = refl

@@ -2,7 +2,7 @@
 use Rattle.std.specs.Prelude.{◌≡◌, ℕ, ◌+◌, ◌*◌, Bool, true, false, not, cond, ◌&&◌, List, [], ◌∷◌, ◌++◌, map, length, sum_by, count_by, codes, Some, None}
 use Rattle.std.specs.List.{list_all, flat_map}
 use Rattle.std.proofs.Common.{refl, sym, ◌∙◌, ap, arith}
-use Rattle.std.proofs.lemmas.List.{append-nil, map-append}
+use Rattle.std.proofs.lemmas.List.{append-nil, length-map, map-append}
 use Rattle.std.proofs.lemmas.List.Folds.{list_all-append, list_all-map}
 use Rattle.std.proofs.lemmas.List.Sums.{sum_by-cons, sum_by-append}
 use Rattle.std.proofs.lemmas.Grind.{flat_map-append}
@@ -16,15 +16,20 @@ use Rattle.olk_spec.specs.Meanings.{Meaning, Subschema, Asked, asked, restricts,
 use Rattle.olk_spec.specs.Meaning.{accepts, asks, report, tree, meaning, meaning_step}
 use Rattle.olk_spec.specs.Asks.{open_patterns, asks_at}
 use Rattle.olk_spec.specs.Tree.{result}
-use Rattle.olk_spec.specs.Malformed.{pending, refusal, each, unless_object, own_refusals, read_places, malformations_step}
+use Rattle.olk_spec.specs.Malformed.{refusal, each, unless_object, own_refusals, read_places, malformations_step, malformations_at}
 use Rattle.olk_spec.specs.Costs.{Cost, cost_step, own_cost, no_cost, ◌⊕◌, total_cost}
 use Rattle.olk_spec.proofs.CostSums.{sum_last}
 use Rattle.olk_spec.proofs.Maps.{map-map}
 use Rattle.olk_spec.proofs.Truth.{and_true}
-use Rattle.olk_spec.proofs.Reading.{place, entry, entries_read, schema_of_read}
-use Rattle.olk_members.specs.Members.{malformations_at, member_accepts, member_asks, member_report, member_child, member_malformations}
-use Rattle.olk_members.specs.PatternProperties.{matched_members, pattern_asks, open_names, pattern_faults, matcher_made, matchers_made}
-use Rattle.olk_members.proofs.Facts.{refused_name, name_refused, each_malformations, sum_by_under}
+use Rattle.olk_spec.proofs.Reading.{entry, entries_read, schema_of_read}
+use Rattle.olk_members.specs.Members.{member_accepts, member_asks, member_report, member_child, member_malformations}
+use Rattle.olk_members.specs.PatternProperties.{matched_members, pattern_asks, open_names, pattern_faults, matcher_made, matchers_made, names_asked}
+use Rattle.olk_members.specs.AdditionalProperties.{declared_beside, matching_asks, patterns_asked}
+use Rattle.olk_members.proofs.Facts.{each_malformations, sum_by_under}
+use Rattle.olk_members.proofs.Exchanged.{sum_of_both, sum_of_those, sums_exchanged, sum_by-exchanged}
+use Rattle.olk_members.specs.Conditions.{is_restricted, known_of}
+use Rattle.olk_members.proofs.Beside.{entries_beside, declared_read}
+use Rattle.olk_members.proofs.Conditions.{restricted_read}
 
 -- ---- the members that are asked about
 
@@ -77,36 +82,6 @@ module _ (W : World) (u : Bool) (step : Schema Meaning → Meaning) (k : Name) (
 other_way : (a b : ℕ) → a + b ≡ b + a
 other_way a b = omega arith
 
-module _ {X : Type 0} where
-  sum_of_both : (f g : X → ℕ) (xs : List X) → sum_by (λ x. f x + g x) xs ≡ sum_by f xs + sum_by g xs
-  sum_of_both f g [] = refl
-  sum_of_both f g (x ∷ xs) =
-      let both = sum_by-cons (λ x. f x + g x) x xs in
-      let one = sum_by-cons f x xs in
-      let other = sum_by-cons g x xs in
-      let rest = sum_of_both f g xs in
-      omega arith
-
-  sum_of_none : (xs : List X) → sum_by (λ x. 0) xs ≡ 0
-  sum_of_none [] = refl
-  sum_of_none (x ∷ xs) = let next = sum_by-cons (λ x. 0) x xs in let rest = sum_of_none xs in omega arith
-
-  sum_of_those : (t : X → Bool) (f : X → ℕ) (xs : List X) → sum_by (λ x. cond (t x) (f x) 0) xs ≡ sum_by f (those t xs)
-  sum_of_those t f [] = refl
-  sum_of_those t f (x ∷ xs) = sum_by-cons (λ x. cond (t x) (f x) 0) x xs ∙ ap (λ n. cond (t x) (f x) 0 + n) (sum_of_those t f xs) ∙ by (t x)
-    where
-      by : (b : Bool) → cond b (f x) 0 + sum_by f (those t xs) ≡ sum_by f (put_if b x (those t xs))
-      by true = sym (sum_by-cons f x (those t xs))
-      by false = omega arith
-
--- each member's name is asked by each pattern in turn, or each pattern is asked each member's name
-sums_exchanged : {X Y : Type 0} (f : X → ℕ) (xs : List X) (ys : List Y) → sum_by (λ x. sum_by (λ y. f x) ys) xs ≡ sum_by (λ y. sum_by f xs) ys
-sums_exchanged f [] ys = sym (sum_of_none ys)
-sums_exchanged f (x ∷ xs) ys =
-    sum_by-cons (λ x. sum_by (λ y. f x) ys) x xs ∙ ap (λ n. sum_by (λ y. f x) ys + n) (sums_exchanged f xs ys)
-    ∙ sym (sum_of_both (λ y. f x) (λ y. sum_by f xs) ys)
-    ∙ ap (λ n. sum_by (λ y. n) ys) (sym (sum_by-cons f x xs))
-
 module _ (W : World) where
   open_counted : {X : Type 0} (es : List (Name × X)) → length (those (is_open W) (map (λ e. e.0) es)) ≡ sum_by (λ e. pattern_asks W e.0) es
   open_counted [] = refl
@@ -119,7 +94,7 @@ module _ (W : World) where
   names_of_entries : {X : Type 0} (step : Schema X → X) (es : List (Name × Data)) → map {A = Name × Sub X} (λ e. e.0) (map (entry step) es) ≡ map {A = Name × Data} (λ e. e.0) es
   names_of_entries step es = map-map (λ e. e.0) (λ e. e.0) (entry step) (λ e. refl) es
 
-  open_read : {X : Type 0} (step : Schema X → X) (d : Data) → open_patterns W (read step d) ≡ open_names W d
+  pub open_read : {X : Type 0} (step : Schema X → X) (d : Data) → open_patterns W (read step d) ≡ open_names W d
   open_read {X} step d = ap (λ es. those (is_open W) (map {A = Name × Sub X} (λ e. e.0) es)) (entries_read step d) ∙ ap (those (is_open W)) (names_of_entries step (members d))
 
 -- ---- what it means
@@ -146,7 +121,7 @@ module _ (W : World) (ms : Members) (d : Data) (u : Bool) (v : Data) where
     own_asked =
         (λ i. sum_by (λ m. cond (free i && is_declared (read_members (meaning_step W u) ms) m.0) (count_by (λ t. is_unfinished (W.says t m.0)) (open_patterns W (read (meaning_step W u) d))) (length (open_patterns W (read (meaning_step W u) d)))) (members v))
         ∙ ap (λ n. sum_by (λ (m : Name × Data). n) (members v)) (ap length (open_read W (meaning_step W u) d) ∙ open_counted W (members d))
-        ∙ sym (sums_exchanged (λ (e : Name × Data). pattern_asks W e.0) (members d) (members v))
+        ∙ sym (sums_exchanged (λ (e x : Name × Data). pattern_asks W e.0) (members d) (members v))
 
     asked_together : (e : Name × Data) → sum_by (λ x. pattern_asks W e.0 + cond (matches W u e.0 x.0) (asks W u e.1 x.1) 0) (members v) ≡ sum_by (λ x. pattern_asks W e.0) (members v) + sum_by (λ x. asks W u e.1 x.1) (matched_members W u e.0 v)
     asked_together e = sum_of_both (λ x. pattern_asks W e.0) (λ x. cond (matches W u e.0 x.0) (asks W u e.1 x.1) 0) (members v)
@@ -174,6 +149,22 @@ module _ (W : World) (ms : Members) (d : Data) (u : Bool) (v : Data) where
         trees : map (λ a. a.sub.answer.tree a.value (down P a.in_schema) (down Q a.in_instance)) (flat_map (asked_in W u (meaning_step W u) (codes "patternProperties") v) (read (meaning_step W u) d).entries) ≡ flat_map (λ e. map (λ x. tree W u e.1 x.1 (P // codes "patternProperties" // e.0) (Q // x.0)) (matched_members W u e.0 v)) (members d)
         trees = ap (λ es. map (λ a. a.sub.answer.tree a.value (down P a.in_schema) (down Q a.in_instance)) (flat_map (asked_in W u (meaning_step W u) (codes "patternProperties") v) es)) (entries_read (meaning_step W u) d) ∙ at_matched_show W u (meaning_step W u) (codes "patternProperties") v P Q (members d)
 
+  -- ---- where `additionalProperties` stands for it
+
+  module _ (restricted : restricts (read_members (meaning_step W u) ms) ≡ true) where
+    table_asked : sum_by (λ m. asks_at W (read_members (meaning_step W u) ms) (read (meaning_step W u) d) m.0) (members v) ≡ sum_by (λ x. patterns_asked W (declared_beside ms) (members d) x.0) (members v)
+    table_asked = λ i. sum_by (λ m. cond (restricted i && declared_read (meaning_step W u) ms m.0 i) (count_by (λ t. is_unfinished (W.says t m.0)) (open_read W (meaning_step W u) d i)) (length (open_read W (meaning_step W u) d i))) (members v)
+
+    -- member by member the schemas of the patterns that match, and the matchers that are asked of its name
+    pub pattern_properties_asks_beside : member_asks W ms (codes "patternProperties", d) pattern_properties u v ≡ sum_by (λ x. matching_asks W u (declared_beside ms) (members d) x + patterns_asked W (declared_beside ms) (members d) x.0) (members v)
+    unfolding meaning
+    pattern_properties_asks_beside =
+        (λ i. sum_by (λ a. a.sub.answer.asks a.value) (flat_map (asked_in W u (meaning_step W u) (codes "patternProperties") v) (entries_read (meaning_step W u) d i)) + table_asked i)
+        ∙ ap (λ n. n + sum_by (λ x. patterns_asked W (declared_beside ms) (members d) x.0) (members v))
+        (at_matched_ask W u (meaning_step W u) (codes "patternProperties") v (members d)
+        ∙ sum_by-exchanged (λ e x. matches W u e.0 x.0) (λ e x. asks W u e.1 x.1) (members d) (members v))
+        ∙ sym (sum_of_both (matching_asks W u (declared_beside ms) (members d)) (λ x. patterns_asked W (declared_beside ms) (members d) x.0) (members v))
+
 -- ---- what is wrong with it, and the places that it reads
 
 -- a pattern that does not build, at its place
@@ -189,12 +180,11 @@ module _ {X : Type 0} (step : Schema X → X) (d : Data) (k : Name) where
 
 module _ (W : World) (ms : Members) (d : Data) where
   pub pattern_properties_malformations : (P : Path) → member_malformations W ms (codes "patternProperties", d) pattern_properties P
-      ≡ (refused_name (codes "patternProperties") d (P // codes "patternProperties") ++ (unless_object d (P // codes "patternProperties") ++ unbuilt W d (P // codes "patternProperties")))
+      ≡ (unless_object d (P // codes "patternProperties") ++ unbuilt W d (P // codes "patternProperties"))
       ++ flat_map (λ e. malformations_at W e.1 (P // codes "patternProperties" // e.0)) (members d)
   pattern_properties_malformations P = λ i.
-      (name_refused W (codes "patternProperties") d (P // codes "patternProperties") i
-      ++ pattern_properties_refusals (malformations_step W pending) d (codes "patternProperties") W (P // codes "patternProperties") i)
-      ++ (ap (flat_map (λ r. r.0.answer (down P r.1))) (pattern_properties_places (malformations_step W pending) d (codes "patternProperties") (read_members (malformations_step W pending) ms)) ∙ each_malformations W (codes "patternProperties") P (members d)) i
+      pattern_properties_refusals (malformations_step W) d (codes "patternProperties") W (P // codes "patternProperties") i
+      ++ (ap (flat_map (λ r. r.0.answer (down P r.1))) (pattern_properties_places (malformations_step W) d (codes "patternProperties") (read_members (malformations_step W) ms)) ∙ each_malformations W (codes "patternProperties") P (members d)) i
 
   -- a matcher for each pattern that has no test, and what is asked for a table
   abbrev pub tables_asked : Cost
@@ -213,6 +203,25 @@ module _ (W : World) (ms : Members) (d : Data) where
   pattern_properties_free_cost free = pattern_properties_own_cost
       ∙ ap (λ b. matchers_made W d ⊕ record no_cost { table_asks = cond b (length (entries_at (read_members (cost_step W) ms) (codes "properties")) * length (open_patterns W (read (cost_step W) d))) 0 }) free
       ∙ sum_last (matchers_made W d)
+
+  -- each of its matchers is asked for each declared name
+  pub pattern_properties_table_cost : restricts (read_members (cost_step W) ms) ≡ true → own_cost W (read_members (cost_step W) ms) (read (cost_step W) d) pattern_properties
+      ≡ matchers_made W d ⊕ record no_cost { table_asks = length (declared_beside ms) * length (open_names W d) }
+  pattern_properties_table_cost restricted = pattern_properties_own_cost
+      ∙ ap (λ n. matchers_made W d ⊕ record no_cost { table_asks = n })
+      ((λ i. cond (restricted i) (length (entries_beside (cost_step W) ms (codes "properties") i) * length (open_read W (cost_step W) d i)) 0)
+      ∙ ap (λ n. n * length (open_names W d)) (length-map (declared_beside ms) (entry (cost_step W))))
+
+  -- of each name that is known to be declared
+  pub pattern_properties_known_cost : own_cost W (read_members (cost_step W) ms) (read (cost_step W) d) pattern_properties ≡ matchers_made W d ⊕ names_asked W (known_of ms).declared d
+  pattern_properties_known_cost = by (is_restricted ms) refl
+    where
+      by : (b : Bool) → is_restricted ms ≡ b → own_cost W (read_members (cost_step W) ms) (read (cost_step W) d) pattern_properties ≡ matchers_made W d ⊕ names_asked W (cond b (declared_beside ms) []) d
+      by true e = pattern_properties_table_cost (restricted_read (cost_step W) ms ∙ e)
+      by false e = pattern_properties_free_cost (restricted_read (cost_step W) ms ∙ e) ∙ sym (sum_last (matchers_made W d)) ∙ ap (λ n. matchers_made W d ⊕ record no_cost { table_asks = n }) of_no_names
+        where
+          of_no_names : 0 ≡ 0 * length (open_names W d)
+          of_no_names = omega arith
 
 -- ---- one pattern after another
 

@@ -1,5 +1,5 @@
 -- `propertyDependencies`, over the raw data of its entries.
-use Rattle.std.specs.Prelude.{◌≡◌, ℕ, ◌+◌, Bool, List, [], ◌∷◌, ◌++◌, map, sum_by, codes, option_to_list}
+use Rattle.std.specs.Prelude.{◌≡◌, Bool, List, [], ◌∷◌, ◌++◌, map, sum_by, codes, option_to_list}
 use Rattle.std.specs.List.{list_all, flat_map}
 use Rattle.std.specs.Ordering.{nat_cmp}
 use Rattle.std.specs.Cmp.Lexicographic.{slice_cmp}
@@ -8,7 +8,6 @@ use Rattle.std.specs.declared.cmp.Ordering.TheVariants.{Less, Equal, Greater}
 use Rattle.std.proofs.Common.{refl, sym, ◌∙◌, ap}
 use Rattle.std.proofs.lemmas.List.{append-nil, map-append}
 use Rattle.std.proofs.lemmas.List.Folds.{list_all-map}
-use Rattle.std.proofs.lemmas.List.Sums.{sum_by-cons, sum_by-append}
 use Rattle.std.proofs.lemmas.Grind.{flat_map-append}
 use Rattle.serde_json.specs.Data.{Data, Members}
 use Rattle.olk_spec.specs.Names.{Name, Path, ◌//◌, down, lookup, first_if_equal}
@@ -19,24 +18,21 @@ use Rattle.olk_spec.specs.Schemas.{Sub, Schema, Keywords, read, read_members, me
 use Rattle.olk_spec.specs.Meanings.{Meaning, Asked, asked, applied}
 use Rattle.olk_spec.specs.Meaning.{accepts, asks, report, tree, meaning, meaning_step}
 use Rattle.olk_spec.specs.Tree.{plain}
-use Rattle.olk_spec.specs.Malformed.{pending, own_refusals, read_places, unless_object, malformations_step, malformations_beside}
+use Rattle.olk_spec.specs.Malformed.{own_refusals, read_places, unless_object, malformations_step, malformations_at}
 use Rattle.olk_spec.specs.Costs.{Cost, cost, cost_step, ◌⊕◌, total_cost}
 use Rattle.olk_spec.proofs.CostSums.{sum_first, total_cost-append, total_cost-map}
 use Rattle.olk_spec.proofs.Maps.{flat_map-map, map-map}
 use Rattle.olk_spec.proofs.Truth.{and_true}
 use Rattle.olk_spec.proofs.Walks.{list_all-flat_map}
 use Rattle.olk_spec.proofs.Reading.{place, entry, inner_entry, inner_read, entries_read, schema_of_read}
-use Rattle.olk_members.specs.Members.{malformations_at, member_accepts, member_asks, member_report, member_child, member_malformations, member_cost}
+use Rattle.olk_members.specs.Members.{member_accepts, member_asks, member_report, member_child, member_malformations, member_cost}
 use Rattle.olk_members.specs.PropertyDependencies.{chosen}
-use Rattle.olk_members.proofs.Facts.{refused_name, name_refused, sum_by_under, nothing_last}
+use Rattle.olk_members.proofs.Facts.{sum_by_under, nothing_last}
+use Rattle.olk_members.proofs.Exchanged.{sum_by-flat_map}
 
 -- ---- walks over lists of lists
 
 module _ {X Y : Type 0} (g : X → List Y) where
-  sum_by-flat_map : (f : Y → ℕ) (xs : List X) → sum_by f (flat_map g xs) ≡ sum_by (λ x. sum_by f (g x)) xs
-  sum_by-flat_map f [] = refl
-  sum_by-flat_map f (x ∷ xs) = sum_by-append f (g x) (flat_map g xs) ∙ ap (λ n. sum_by f (g x) + n) (sum_by-flat_map f xs) ∙ sym (sum_by-cons (λ x. sum_by f (g x)) x xs)
-
   module _ {Z : Type 0} where
     flat_map-flat_map : (f : Y → List Z) (xs : List X) → flat_map f (flat_map g xs) ≡ flat_map (λ x. flat_map f (g x)) xs
     flat_map-flat_map f [] = refl
@@ -145,11 +141,11 @@ module _ {X : Type 0} (step : Schema X → X) (d : Data) (k : Name) where
       (λ e. map-map (λ i. (i.1, k ∷ e.0 ∷ i.0 ∷ [])) (λ c. (place step c.1, k ∷ e.0 ∷ c.0 ∷ [])) (entry step) (λ c. refl) (members e.1)) (members d)
 
 module _ (W : World) (d : Data) (k : Name) where
-  pub inner_malformations : (P : Path) → flat_map (λ r. r.0.answer (down P r.1)) (inner_places (malformations_step W pending) d k) ≡ flat_map (λ e. flat_map (λ c. malformations_at W c.1 (P // k // e.0 // c.0)) (members e.1)) (members d)
-  unfolding malformations_beside
+  pub inner_malformations : (P : Path) → flat_map (λ r. r.0.answer (down P r.1)) (inner_places (malformations_step W) d k) ≡ flat_map (λ e. flat_map (λ c. malformations_at W c.1 (P // k // e.0 // c.0)) (members e.1)) (members d)
+  unfolding malformations_at
   inner_malformations P =
-      flat_map-flat_map (λ e. map (λ c. (place (malformations_step W pending) c.1, k ∷ e.0 ∷ c.0 ∷ [])) (members e.1)) (λ r. r.0.answer (down P r.1)) (members d)
-      ∙ (λ i. flat_map (λ e. flat_map-map (λ (r : Sub (Path → List Fault) × List Name). r.0.answer (down P r.1)) (λ c. malformations_at W c.1 (P // k // e.0 // c.0)) (λ c. (place (malformations_step W pending) c.1, k ∷ e.0 ∷ c.0 ∷ [])) (λ c. refl) (members e.1) i) (members d))
+      flat_map-flat_map (λ e. map (λ c. (place (malformations_step W) c.1, k ∷ e.0 ∷ c.0 ∷ [])) (members e.1)) (λ r. r.0.answer (down P r.1)) (members d)
+      ∙ (λ i. flat_map (λ e. flat_map-map (λ (r : Sub (Path → List Fault) × List Name). r.0.answer (down P r.1)) (λ c. malformations_at W c.1 (P // k // e.0 // c.0)) (λ c. (place (malformations_step W) c.1, k ∷ e.0 ∷ c.0 ∷ [])) (λ c. refl) (members e.1) i) (members d))
 
   pub inner_costs : total_cost (λ r. r.0.answer) (inner_places (cost_step W) d k) ≡ total_cost (λ e. total_cost (λ c. cost W c.1) (members e.1)) (members d)
   unfolding cost
@@ -159,12 +155,11 @@ module _ (W : World) (d : Data) (k : Name) where
 
 module _ (W : World) (ms : Members) (d : Data) where
   pub property_dependencies_malformations : (P : Path) → member_malformations W ms (codes "propertyDependencies", d) property_dependencies P
-      ≡ (refused_name (codes "propertyDependencies") d (P // codes "propertyDependencies") ++ (unless_object d (P // codes "propertyDependencies") ++ flat_map (λ e. unless_object e.1 (P // codes "propertyDependencies" // e.0)) (members d)))
+      ≡ (unless_object d (P // codes "propertyDependencies") ++ flat_map (λ e. unless_object e.1 (P // codes "propertyDependencies" // e.0)) (members d))
       ++ flat_map (λ e. flat_map (λ c. malformations_at W c.1 (P // codes "propertyDependencies" // e.0 // c.0)) (members e.1)) (members d)
   property_dependencies_malformations P = λ i.
-      (name_refused W (codes "propertyDependencies") d (P // codes "propertyDependencies") i
-      ++ property_dependencies_refusals (malformations_step W pending) d (codes "propertyDependencies") W (P // codes "propertyDependencies") i)
-      ++ (ap (flat_map (λ r. r.0.answer (down P r.1))) (property_dependencies_places (malformations_step W pending) d (codes "propertyDependencies") (read_members (malformations_step W pending) ms)) ∙ inner_malformations W d (codes "propertyDependencies") P) i
+      property_dependencies_refusals (malformations_step W) d (codes "propertyDependencies") W (P // codes "propertyDependencies") i
+      ++ (ap (flat_map (λ r. r.0.answer (down P r.1))) (property_dependencies_places (malformations_step W) d (codes "propertyDependencies") (read_members (malformations_step W) ms)) ∙ inner_malformations W d (codes "propertyDependencies") P) i
 
   pub property_dependencies_cost : member_cost W ms (codes "propertyDependencies", d) property_dependencies ≡ total_cost (λ e. total_cost (λ c. cost W c.1) (members e.1)) (members d)
   property_dependencies_cost = sum_first _

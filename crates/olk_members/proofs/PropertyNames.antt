@@ -9,18 +9,18 @@ use Rattle.olk_spec.specs.Names.{Name, Path, ◌//◌, down, is_empty, put_if}
 use Rattle.olk_spec.specs.World.{World}
 use Rattle.olk_spec.specs.Vocabulary.{property_names}
 use Rattle.olk_spec.specs.Faults.{Fault, FalseSchema, IsLike, like, like_names, ◌∼◌, like_empty, like_next, like_swap, like_through}
-use Rattle.olk_spec.specs.Schemas.{Sub, Schema, Keywords, read, read_members, members, is_object, is_truth}
+use Rattle.olk_spec.specs.Schemas.{Schema, Keywords, read, read_members, members, is_object, is_truth}
 use Rattle.olk_spec.specs.Meaning.{accepts, asks, report, tree, meaning, meaning_step}
 use Rattle.olk_spec.specs.Reports.{fault_if, wrapped}
 use Rattle.olk_spec.specs.Tree.{plain, erring}
-use Rattle.olk_spec.specs.Malformed.{pending, itself, places_where, malformations_beside, own_refusals, read_places, malformations_step}
+use Rattle.olk_spec.specs.Malformed.{itself, places_where, malformations_at, own_refusals, read_places, malformations_step}
 use Rattle.olk_spec.specs.Costs.{cost, cost_step, no_cost, total_cost}
 use Rattle.olk_spec.proofs.CostSums.{sum_first, sum_last}
 use Rattle.olk_spec.proofs.Reading.{place, whole_read}
-use Rattle.olk_members.specs.Members.{malformations_at, member_accepts, member_asks, member_report, member_child, member_malformations, member_cost}
+use Rattle.olk_members.specs.Members.{member_accepts, member_asks, member_report, member_child, member_malformations, member_cost}
 use Rattle.olk_spec.proofs.Truth.{and_true}
 use Rattle.olk_members.proofs.Asking.{names_ask_nothing}
-use Rattle.olk_members.proofs.Facts.{refused_name, name_refused, nothing_first}
+use Rattle.olk_members.proofs.Facts.{nothing_first}
 
 -- ---- wrapped faults
 
@@ -142,16 +142,12 @@ module _ {X : Type 0} (step : Schema X → X) (d : Data) (k : Name) where
 
 module _ (W : World) (ms : Members) (d : Data) where
   module _ (P : Path) where
-    malformed_by : (r : List (Sub (Path → List Fault) × List Name)) → read_places (codes "propertyNames") (read_members (malformations_step W pending) ms) (read (malformations_step W pending) d) property_names ≡ r
-        → member_malformations W ms (codes "propertyNames", d) property_names P ≡ refused_name (codes "propertyNames") d (P // codes "propertyNames") ++ flat_map (λ r. r.0.answer (down P r.1)) r
-    malformed_by r e = λ i. (append-nil _ ∙ name_refused W (codes "propertyNames") d (P // codes "propertyNames")) i ++ flat_map (λ r. r.0.answer (down P r.1)) (e i)
+    pub property_names_malformations : is_object d ≡ true → member_malformations W ms (codes "propertyNames", d) property_names P ≡ malformations_at W d (P // codes "propertyNames")
+    unfolding malformations_at
+    property_names_malformations e = ap (flat_map (λ r. r.0.answer (down P r.1))) (property_names_places (malformations_step W) d (codes "propertyNames") (read_members (malformations_step W) ms) e) ∙ append-nil _
 
-    pub property_names_malformations : is_object d ≡ true → member_malformations W ms (codes "propertyNames", d) property_names P ≡ refused_name (codes "propertyNames") d (P // codes "propertyNames") ++ malformations_at W d (P // codes "propertyNames")
-    unfolding malformations_beside
-    property_names_malformations e = malformed_by _ (property_names_places (malformations_step W pending) d (codes "propertyNames") (read_members (malformations_step W pending) ms) e) ∙ ap (λ fs. refused_name (codes "propertyNames") d (P // codes "propertyNames") ++ fs) (append-nil _)
-
-    pub other_names_malformations : is_object d ≡ false → member_malformations W ms (codes "propertyNames", d) property_names P ≡ refused_name (codes "propertyNames") d (P // codes "propertyNames")
-    other_names_malformations e = malformed_by _ (other_names_places (malformations_step W pending) d (codes "propertyNames") (read_members (malformations_step W pending) ms) e) ∙ append-nil _
+    pub other_names_malformations : is_object d ≡ false → member_malformations W ms (codes "propertyNames", d) property_names P ≡ []
+    other_names_malformations e = ap (flat_map (λ r. r.0.answer (down P r.1))) (other_names_places (malformations_step W) d (codes "propertyNames") (read_members (malformations_step W) ms) e)
 
   pub property_names_cost : is_object d ≡ true → member_cost W ms (codes "propertyNames", d) property_names ≡ cost W d
   unfolding cost

@@ -1,5 +1,5 @@
--- Which names of `required` the validator of `properties` fuses.
-use Rattle.std.specs.Prelude.{Bool, true, false, cond, ◌&&◌, nat_lt, length, Option, Some, None, is_none, codes, bytes_eq}
+-- Which names of `required` the validators of `properties` and `additionalProperties` fuse.
+use Rattle.std.specs.Prelude.{Bool, true, false, cond, not, ◌&&◌, nat_lt, length, Option, Some, None, is_some, is_none, codes, bytes_eq}
 use Rattle.serde_json.specs.Data.{Data, boolean, string, object, array, Members, no_items, item}
 use Rattle.olk_spec.specs.Names.{Name, lookup}
 use Rattle.olk_spec.specs.Schemas.{listed}
@@ -24,3 +24,19 @@ two_names o = None
 -- the two names that `properties` fuses from `required` in a schema object with these members
 abbrev pub fused_names : Members → Option (Name × Name)
 fused_names ms = cond (declares_few (lookup (codes "properties") (listed ms)) && is_none (lookup (codes "patternProperties") (listed ms)) && allows_others (lookup (codes "additionalProperties") (listed ms))) (two_names (lookup (codes "required") (listed ms))) None
+
+-- ---- the name of one
+
+-- a value of `additionalProperties` that refuses every other member
+abbrev pub refuses_others : Option Data → Bool
+refuses_others (Some (boolean b)) = not b
+refuses_others o = false
+
+-- a value of `required` that lists one name
+abbrev pub one_name : Option Data → Option Name
+one_name (Some (array (item (string a) no_items))) = Some a
+one_name o = None
+
+-- the name that `additionalProperties` fuses from `required` in a schema object with these members
+abbrev pub fused_name : Members → Option Name
+fused_name ms = cond (is_some (lookup (codes "properties") (listed ms)) && is_none (lookup (codes "patternProperties") (listed ms)) && refuses_others (lookup (codes "additionalProperties") (listed ms))) (one_name (lookup (codes "required") (listed ms))) None

@@ -4,4 +4,5 @@ pub mod Conditions
 pub mod Dependencies
 pub mod PropertyDependencies
 pub mod PatternProperties
+pub mod AdditionalProperties
 pub mod Plans

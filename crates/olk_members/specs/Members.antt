@@ -13,12 +13,8 @@ use Rattle.olk_spec.specs.Trees.{fuses_two, fuses_one, keyword_child}
 use Rattle.olk_spec.specs.Accepts.{keyword_accepts}
 use Rattle.olk_spec.specs.Reports.{keyword_report}
 use Rattle.olk_spec.specs.Asks.{keyword_asks}
-use Rattle.olk_spec.specs.Malformed.{pending, malformations_step, malformations_beside, keyword_malformations}
+use Rattle.olk_spec.specs.Malformed.{malformations_step, keyword_malformations}
 use Rattle.olk_spec.specs.Costs.{Cost, cost_step, keyword_cost}
-
--- a schema's malformations, at its place
-abbrev pub malformations_at : World → Data → Path → List Fault
-malformations_at W S P = malformations_beside W pending S P
 
 -- m is a member of the schema object with the members ms, which stands at P
 module _ (W : World) (ms : Members) (m : Name × Data) (w : Keyword) where
@@ -36,7 +32,7 @@ module _ (W : World) (ms : Members) (m : Name × Data) (w : Keyword) where
     member_child v P Q = keyword_child W u (read_members (meaning_step W u) ms) v P Q m.0 (read (meaning_step W u) m.1) w
 
   abbrev pub member_malformations : Path → List Fault
-  member_malformations P = keyword_malformations W pending (read_members (malformations_step W pending) ms) m.0 (read (malformations_step W pending) m.1) P w
+  member_malformations P = keyword_malformations W (read_members (malformations_step W) ms) m.0 (read (malformations_step W) m.1) P w
 
   abbrev pub member_cost : Cost
   member_cost = keyword_cost W (read_members (cost_step W) ms) m.0 (read (cost_step W) m.1) w

@@ -1,5 +1,5 @@
 -- What the entries of `patternProperties` ask for, over their raw data.
-use Rattle.std.specs.Prelude.{ℕ, Bool, not, cond, ◌&&◌, List, [], map, length}
+use Rattle.std.specs.Prelude.{ℕ, ◌*◌, Bool, not, cond, ◌&&◌, List, [], map, length}
 use Rattle.serde_json.specs.Data.{Data, string}
 use Rattle.olk_spec.specs.Names.{Name, Text, Path, ◌//◌, those, put_if}
 use Rattle.olk_spec.specs.Faults.{Fault, Regex}
@@ -32,3 +32,7 @@ module _ (W : World) where
 
   abbrev pub matchers_made : Data → Cost
   matchers_made d = record no_cost { pattern_places = length (open_names d) }
+
+  -- and each of these matchers asked of each of the names that are declared beside them
+  abbrev pub names_asked : List (Name × Data) → Data → Cost
+  names_asked fs d = record no_cost { table_asks = length fs * length (open_names d) }

@@ -5,7 +5,9 @@
 #![tactic(auto)]
 
 mod members;
+mod neighbours;
 mod plan;
 
 pub use members::{has_member, law_of_names, member};
+pub use neighbours::Neighbours;
 pub use plan::{Plan, is_condition, is_restricted};

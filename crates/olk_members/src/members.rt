@@ -28,5 +28,5 @@ pub fn has_member(members: &Map<String, Value>, name: &str) -> bool
 pub fn law_of_names(members: &Map<String, Value>)
     ensures { has_repeat (map (λ m. m.0) (listed (members_view members.now.entries))) ≡ false }
 {
-    let _count = members.len();
+    let _members = members.iter();
 }

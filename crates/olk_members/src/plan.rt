@@ -4,7 +4,7 @@ ghost use Rattle.serde_json.specs.View.{view, members_view};
 ghost use Rattle.olk_spec.specs.Schemas.{listed, is_object, is_truth};
 ghost use Rattle.olk_spec.specs.Malformed.{has_repeat};
 ghost use Rattle.olk_members.specs.Conditions.{is_condition, is_restricted};
-ghost use Rattle.olk_members.specs.Fused.{declares_few, allows_others, two_names, fused_names};
+ghost use Rattle.olk_members.specs.Fused.{declares_few, allows_others, two_names, fused_names, refuses_others, one_name, fused_name};
 ghost use Rattle.olk_members.specs.Plans.{plan_of, planned};
 
 use crate::members::{has_member, member};
@@ -12,11 +12,13 @@ use olk_spec::HASHMAP_THRESHOLD;
 use serde_json::{Map, Value};
 
 /// What is decided of an object's keywords once, from its members: the two names that `properties` fuses from
-/// `required`, and whether `if` is read.
+/// `required`, whether `if` is read, whether `additionalProperties` restricts other members, and the name that it fuses.
 #[derive(Clone, Copy)]
 pub struct Plan<'a> {
     fused: Option<(&'a str, &'a str)>,
     condition: bool,
+    restricted: bool,
+    one_name: Option<&'a str>,
 }
 
 /// Whether few names are declared.
@@ -75,6 +77,43 @@ fn fused_names(members: &Map<String, Value>) -> Option<(&str, &str)>
     }
 }
 
+/// Whether `additionalProperties` refuses every other member.
+fn refuses_others(value: Option<&Value>) -> bool
+    ensures { result ≡ refuses_others (option_map (λ v. view v.now) value.entry) }
+{
+    match value {
+        Some(value) => value.as_bool() == Some(false),
+        None => false,
+    }
+}
+
+/// The name that `required` lists, where it lists one.
+fn one_name(value: Option<&Value>) -> Option<&str>
+    ensures { option_map (λ t. t.now) result
+        ≡ one_name (option_map (λ v. view v.now) value.entry) }
+{
+    let items = value?.as_array()?.as_slice();
+    if items.len() != 1 {
+        return None;
+    }
+    items[0].as_str()
+}
+
+/// The name that `additionalProperties` fuses in an object with these members: it does where it refuses every other
+/// member, names are declared, no patterns tell members by their names, and `required` lists one name.
+fn fused_name(members: &Map<String, Value>) -> Option<&str>
+    ensures { option_map (λ t. t.now) result ≡ fused_name (members_view members.now.entries) }
+{
+    if !has_member(members, "patternProperties")
+        && has_member(members, "properties")
+        && refuses_others(member(members, "additionalProperties"))
+    {
+        one_name(member(members, "required"))
+    } else {
+        None
+    }
+}
+
 /// Whether `if` is read in an object with these members: it is beside `then` or `else` alone (JSON Schema 2020-12 Core,
 /// 10.2.2).
 pub fn is_condition(members: &Map<String, Value>) -> bool
@@ -113,6 +152,8 @@ impl<'a> Plan<'a> {
         Plan {
             fused: fused_names(members),
             condition: is_condition(members),
+            restricted: is_restricted(members),
+            one_name: fused_name(members),
         }
     }
 
@@ -135,5 +176,19 @@ impl<'a> Plan<'a> {
         ensures { result ≡ (planned self.entry).condition }
     {
         self.condition
+    }
+
+    /// Whether the validator of `additionalProperties` stands for `properties` and `patternProperties` too.
+    pub fn is_restricted(self) -> bool
+        ensures { result ≡ (planned self.entry).restricted }
+    {
+        self.restricted
+    }
+
+    /// The name of `required` for which the validator of `additionalProperties` stands too, if any.
+    pub fn fused_one(self) -> Option<&'a str>
+        ensures { option_map (λ t. t.now) result ≡ (planned self.entry).fused_one }
+    {
+        self.one_name
     }
 }

@@ -1,5 +1,5 @@
 -- One level of a node: its answers, over those of the nodes below it.
-use Rattle.std.specs.Prelude.{◌≡◌, [], ◌∷◌, Bool, not, ◌++◌, ◌||◌, Option, Some, None, is_some, List, Vec}
+use Rattle.std.specs.Prelude.{◌≡◌, [], ◌∷◌, Bool, not, ◌++◌, ◌||◌, Option, Some, None, is_some, List, Vec, Box}
 use Rattle.std.specs.declared.alloc.Global.{Global}
 use Rattle.std.specs.List.{flat_map}
 use Rattle.std.proofs.Common.{refl, ap, ◌∙◌, arith}
@@ -53,7 +53,7 @@ module _ {K R : Type 0} (o : Kit K R) where
 
   -- the keyword that the answers of nodes make of one that holds nodes
   abbrev restriction_of : KeywordOver K R Answers → AdditionalProperties R Answers
-  restriction_of (keyword.AdditionalProperties k) = k
+  restriction_of (keyword.AdditionalProperties k) = k.value
   restriction_of k = record { properties = None; patterns = None; table = no_table; rest = None; required = None; location = []; patterns_location = [] }
 
   abbrev first_in : List (KeywordOver K R Answers) → AdditionalProperties R Answers
@@ -64,32 +64,32 @@ module _ {K R : Type 0} (o : Kit K R) where
   first_restriction (Keywords ks) = first_in ks.items
   first_restriction b = restriction_of (keyword.PropertyNamesFalse record { location = [] })
 
-  module _ (n : SchemaNode-F K R (SchemaNode K R)) (ks : Vec (KeywordOver K R (SchemaNode K R)) Global) (k : AdditionalProperties R (SchemaNode K R)) where
+  module _ (n : SchemaNode-F K R (SchemaNode K R)) (ks : Vec (KeywordOver K R (SchemaNode K R)) Global) (k : Box (AdditionalProperties R (SchemaNode K R)) Global) where
     abbrev answered : AdditionalProperties R Answers
     answered = first_restriction (opened n (Keywords record ks { len = 1; cap = 1; items = keyword.AdditionalProperties k ∷ []; ok = (refl, omega arith); small = omega arith })).body
 
-    sides_answer : Mapped (answers o) (sides_of answered) (sides_of k)
+    sides_answer : Mapped (answers o) (sides_of answered) (sides_of k.value)
     sides_answer = record {
-      declared = none_few_or_many k.properties (λ e. rw e refl) (λ m e. rw e (declared-beside (answers o) m.names m.nodes.items)) (λ m e. rw e (declared-beside (answers o) m.names m.nodes.items));
-      at = λ x. none_few_or_many k.properties (λ e. rw e refl) (λ m e. rw e (at-beside (answers o) m.names m.nodes.items x)) (λ m e. rw e (at-beside (answers o) m.names m.nodes.items x));
-      patterns = none_or_one k.patterns (λ e. rw e refl) (λ ps e. rw e refl);
+      declared = none_few_or_many k.value.properties (λ e. rw e refl) (λ m e. rw e (declared-beside (answers o) m.names m.nodes.items)) (λ m e. rw e (declared-beside (answers o) m.names m.nodes.items));
+      at = λ x. none_few_or_many k.value.properties (λ e. rw e refl) (λ m e. rw e (at-beside (answers o) m.names m.nodes.items x)) (λ m e. rw e (at-beside (answers o) m.names m.nodes.items x));
+      patterns = none_or_one k.value.patterns (λ e. rw e refl) (λ ps e. rw e refl);
       known = refl;
-      rest = none_or_one k.rest (λ e. rw e refl) (λ r e. rw e refl);
+      rest = none_or_one k.value.rest (λ e. rw e refl) (λ r e. rw e refl);
     }
 
-    same_place : answered.location ≡ k.location
+    same_place : answered.location ≡ k.value.location
     same_place = refl
 
-    same_patterns_place : answered.patterns_location ≡ k.patterns_location
+    same_patterns_place : answered.patterns_location ≡ k.value.patterns_location
     same_patterns_place = refl
 
-    declares_alike : is_some answered.properties ≡ is_some k.properties
-    declares_alike = none_few_or_many k.properties (λ e. rw e refl) (λ m e. rw e refl) (λ m e. rw e refl)
+    declares_alike : is_some answered.properties ≡ is_some k.value.properties
+    declares_alike = none_few_or_many k.value.properties (λ e. rw e refl) (λ m e. rw e refl) (λ m e. rw e refl)
 
-    matches_alike : is_some answered.patterns ≡ is_some k.patterns
-    matches_alike = none_or_one k.patterns (λ e. rw e refl) (λ ps e. rw e refl)
+    matches_alike : is_some answered.patterns ≡ is_some k.value.patterns
+    matches_alike = none_or_one k.value.patterns (λ e. rw e refl) (λ ps e. rw e refl)
 
-    neighbours_alike : has_neighbours answered ≡ has_neighbours k
+    neighbours_alike : has_neighbours answered ≡ has_neighbours k.value
     neighbours_alike = λ i. declares_alike i || matches_alike i
 
   means_layer : (n : SchemaNode-F K R (SchemaNode K R)) (b : Body (KeywordOver K R (SchemaNode K R))) (v : Data)
@@ -118,7 +118,7 @@ module _ {K R : Type 0} (o : Kit K R) where
     | keyword.PropertyDependencies k ↦ ap (every (λ a. a.means v)) (chosen_nodes-map (answers o) v _ (λ m. refl) k.dependencies.names k.dependencies.nodes.items) ∙ every-map (λ a. a.means v) (λ n. (answers o n).means v) (answers o) (λ n. refl) (chosen_nodes (named k.dependencies) v)
     | keyword.PatternProperties k ↦ patterns_mean-map o.answers (answers o) v o.costs (λ a. a.means) (λ n. (answers o n).means) (λ n w. refl) k.patterns.items
     | keyword.SingleValuePatternProperties k ↦ refl
-    | keyword.AdditionalProperties k ↦ ap (λ q. both q (always (is_empty (missing (required_text k.required) v)))) (additional_means-map (answers o) o.answers (sides_answer n ks k) o.costs (λ a. a.means) (λ n. (answers o n).means) (λ y w. refl) v)
+    | keyword.AdditionalProperties k ↦ ap (λ q. both q (always (is_empty (missing (required_text k.value.required) v)))) (additional_means-map (answers o) o.answers (sides_answer n ks k) o.costs (λ a. a.means) (λ n. (answers o n).means) (λ y w. refl) v)
     | keyword.Leaf p l ↦ refl
   ]) ks.items
 
@@ -148,7 +148,7 @@ module _ {K R : Type 0} (o : Kit K R) where
     | keyword.PropertyDependencies k ↦ ap (flat_map (λ a. a.report u v Q)) (chosen_nodes-map (answers o) v _ (λ m. refl) k.dependencies.names k.dependencies.nodes.items) ∙ flat_map-map (λ a. a.report u v Q) (λ n. (answers o n).report u v Q) (answers o) (λ n. refl) (chosen_nodes (named k.dependencies) v)
     | keyword.PatternProperties k ↦ patterns_report-map o.answers (answers o) u v (λ a. a.report) (λ n. (answers o n).report) (λ n w R. refl) Q k.patterns.items
     | keyword.SingleValuePatternProperties k ↦ refl
-    | keyword.AdditionalProperties k ↦ ap (λ b. additional_report o.answers (sides_of (answered n ks k)) u v Q b k.location (λ a. a.report) ++ lacks k.required v Q) (neighbours_alike n ks k) ∙ ap (λ fs. fs ++ lacks k.required v Q) (additional_report-map (answers o) o.answers (sides_answer n ks k) u v Q (λ a. a.report) (λ n. (answers o n).report) (λ y w R. refl) (has_neighbours k) k.location)
+    | keyword.AdditionalProperties k ↦ ap (λ b. additional_report o.answers (sides_of (answered n ks k)) u v Q b k.value.location (λ a. a.report) ++ lacks k.value.required v Q) (neighbours_alike n ks k) ∙ ap (λ fs. fs ++ lacks k.value.required v Q) (additional_report-map (answers o) o.answers (sides_answer n ks k) u v Q (λ a. a.report) (λ n. (answers o n).report) (λ y w R. refl) (has_neighbours k.value) k.value.location)
     | keyword.Leaf p l ↦ refl
   ]) ks.items
 
@@ -178,7 +178,7 @@ module _ {K R : Type 0} (o : Kit K R) where
     | keyword.PropertyDependencies k ↦ ap (first_of (λ a. a.first u v Q)) (chosen_nodes-map (answers o) v _ (λ m. refl) k.dependencies.names k.dependencies.nodes.items) ∙ first_of-map (λ a. a.first u v Q) (λ n. (answers o n).first u v Q) (answers o) (λ n. refl) (chosen_nodes (named k.dependencies) v)
     | keyword.PatternProperties k ↦ patterns_first-map o.answers (answers o) u v (λ a. a.first) (λ n. (answers o n).first) (λ n w R. refl) Q k.patterns.items
     | keyword.SingleValuePatternProperties k ↦ refl
-    | keyword.AdditionalProperties k ↦ ap (λ b. or_else (additional_first o.answers (sides_of (answered n ks k)) u v Q b k.location (λ a. a.first)) (lacks k.required v Q)) (neighbours_alike n ks k) ∙ ap (λ fs. or_else fs (lacks k.required v Q)) (additional_first-map (answers o) o.answers (sides_answer n ks k) u v Q (λ a. a.first) (λ n. (answers o n).first) (λ y w R. refl) (has_neighbours k) k.location)
+    | keyword.AdditionalProperties k ↦ ap (λ b. or_else (additional_first o.answers (sides_of (answered n ks k)) u v Q b k.value.location (λ a. a.first)) (lacks k.value.required v Q)) (neighbours_alike n ks k) ∙ ap (λ fs. or_else fs (lacks k.value.required v Q)) (additional_first-map (answers o) o.answers (sides_answer n ks k) u v Q (λ a. a.first) (λ n. (answers o n).first) (λ y w R. refl) (has_neighbours k.value) k.value.location)
     | keyword.Leaf p l ↦ refl
   ]) ks.items
 
@@ -208,7 +208,7 @@ module _ {K R : Type 0} (o : Kit K R) where
     | keyword.PropertyDependencies k ↦ ap (λ ns. plain k.location Q (branch_trees (λ a. a.tree u) v Q ns)) (chosen_nodes-map (answers o) v _ (λ m. refl) k.dependencies.names k.dependencies.nodes.items) ∙ ap (plain k.location Q) (branch_trees-map (λ a. a.tree u) (λ n. (answers o n).tree u) (answers o) (λ y w R. refl) v Q (chosen_nodes (named k.dependencies) v))
     | keyword.PatternProperties k ↦ patterns_tree-map o.answers (answers o) u v (λ a. a.tree u) (λ n. (answers o n).tree u) (λ n w R. refl) k.location Q k.patterns.items
     | keyword.SingleValuePatternProperties k ↦ refl
-    | keyword.AdditionalProperties k ↦ (λ i. additional_tree o.answers (sides_of (answered n ks k)) u v Q (declares_alike n ks k i) (matches_alike n ks k i) k.location k.patterns_location (λ a. a.tree u) (missing_trees (required_text k.required) v (required_place k.required) Q)) ∙ additional_tree-map (answers o) o.answers (sides_answer n ks k) u v Q (λ a. a.tree u) (λ n. (answers o n).tree u) (λ y w R. refl) (is_some k.properties) (is_some k.patterns) k.location k.patterns_location (missing_trees (required_text k.required) v (required_place k.required) Q)
+    | keyword.AdditionalProperties k ↦ (λ i. additional_tree o.answers (sides_of (answered n ks k)) u v Q (declares_alike n ks k i) (matches_alike n ks k i) k.value.location k.value.patterns_location (λ a. a.tree u) (missing_trees (required_text k.value.required) v (required_place k.value.required) Q)) ∙ additional_tree-map (answers o) o.answers (sides_answer n ks k) u v Q (λ a. a.tree u) (λ n. (answers o n).tree u) (λ y w R. refl) (is_some k.value.properties) (is_some k.value.patterns) k.value.location k.value.patterns_location (missing_trees (required_text k.value.required) v (required_place k.value.required) Q)
     | keyword.Leaf p l ↦ refl
   ]) ks.items)
 

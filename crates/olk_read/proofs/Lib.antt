@@ -7,3 +7,4 @@ mod Entries
 mod Texts
 mod NameLists
 mod PatternsSoFar
+mod PatternTables

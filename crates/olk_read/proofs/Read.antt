@@ -1,38 +1,38 @@
 -- What is wrong with a keyword itself, and the shape that is read.
-use Rattle.std.specs.Prelude.{◌≡◌, Bool, true, false, cond, List, [], ◌∷◌, ◌++◌, Vec, codes}
+use Rattle.std.specs.Prelude.{◌≡◌, ◌||◌, Bool, true, false, cond, List, [], ◌∷◌, ◌++◌, codes}
 use Rattle.std.specs.List.{flat_map}
-use Rattle.std.specs.declared.alloc.Global.{Global}
 use Rattle.std.specs.declared.alloc.AllocError.{AllocError}
-use Rattle.std.proofs.Common.{refl, sym, ◌∙◌, ap, subst, ◌⊎◌, inl, inr}
+use Rattle.std.proofs.Common.{refl, sym, ◌∙◌, ap, subst}
 use mathlib.Core.Bool.{true≢false}
 use Rattle.serde_json.specs.Data.{Data, null, boolean, number, string, array, object, Items}
-use Rattle.olk_spec.specs.Names.{Name, Path, is_among, put_if}
+use Rattle.olk_spec.specs.Names.{Name, Path, is_among}
 use Rattle.olk_spec.specs.World.{World}
 use Rattle.olk_spec.specs.Vocabulary.{Keyword, leaf, unread, unsupported, unsupported_names, keyword_named}
-use Rattle.olk_spec.specs.Faults.{Fault, fault, LeafRefused, Unsupported, SingleType, object_type, array_type}
+use Rattle.olk_spec.specs.Faults.{Fault, fault, MultipleTypes, LeafRefused, Unsupported, SingleType, object_type, array_type}
 use Rattle.olk_spec.specs.Schemas.{read, members, is_object, is_array, is_truth}
-use Rattle.olk_spec.specs.Malformed.{pending, refusal, own_refusals, malformations_step, unless_object, unless_array, unless_kind, not_a_text, items_of_array}
+use Rattle.olk_spec.specs.Malformed.{refusal, own_refusals, malformations_step, unless_object, unless_array, unless_kind, not_a_text, items_of_array}
 use Rattle.olk_spec.specs.Costs.{Cost, no_cost}
 use Rattle.olk_spec.proofs.Reading.{schema_of_read}
+use Rattle.olk_spec.proofs.Truth.{or_false}
 use Rattle.olk_base.specs.Count.{Counts, count_leaf}
 use Rattle.olk_base.proofs.CountLemmas.{raised_zero}
 use Rattle.olk_reports.specs.declared.error.BuildError.{BuildError}
 use Rattle.olk_reports.specs.declared.error.BuildError.TheVariants.{Memory}
 use Rattle.olk_base.specs.Kit.{Kit}
-use Rattle.olk_base.specs.declared.pattern.CompiledPattern.{CompiledPattern}
 use Rattle.olk_members.specs.PatternProperties.{pattern_faults}
-use Rattle.olk_members.proofs.PatternProperties.{pattern_properties_refusals, made_together, unbuilt_together}
-use Rattle.olk_read.specs.Patterns.{PatternsAreRead, RefusesPatterns}
+use Rattle.olk_members.proofs.PatternProperties.{pattern_properties_refusals, unbuilt_together}
 use Rattle.olk_read.specs.Lists.{name_list_faults, list_faults, no_object_faults}
 use Rattle.olk_members.proofs.Dependencies.{dependent_required_refusals, dependencies_refusals}
 use Rattle.olk_members.proofs.PropertyDependencies.{property_dependencies_refusals}
 use Rattle.olk_read.specs.Refusing.{Spends, TellsOneOf, Refuses}
-use Rattle.olk_members.specs.Conditions.{is_conditional_name}
+use Rattle.olk_members.specs.AdditionalProperties.{is_rule}
+use Rattle.olk_members.specs.Conditions.{is_conditional_name, Known}
+use Rattle.olk_members.proofs.AdditionalPlaces.{additional_refusals}
 use Rattle.olk_read.specs.Reading.{IsOther, IsShape, Fits, IsRead, own_faults, own_cost_of}
 use Rattle.olk_read.specs.declared.shape.Shape.{Shape}
 use Rattle.olk_read.specs.declared.shape.Shape.TheVariants as shape
 use Rattle.olk_read.proofs.KeywordNames.{refused_keyword}
-use Rattle.olk_read.proofs.Spending.{spends_nothing, within_nothing, within_exactly, within_same, tells_left, tells_right, tells_same, refuses_memory}
+use Rattle.olk_read.proofs.Spending.{spends_nothing, within_nothing, within_exactly, tells_same, refuses_memory}
 
 pub spends_leaf : (a b : Counts) → b ≡ count_leaf a → Spends a b (record no_cost { leaf_places = 1 })
 spends_leaf a b e = e ∙ rw (raised_zero a.compiled, raised_zero a.made, raised_zero a.asked, raised_zero a.unfinished) refl
@@ -65,16 +65,19 @@ no_items_in (object ms) e = refl
 
 module _ (W : World) (d : Data) (L : Path) where
   abbrev whole : Data
-  whole = (read (malformations_step W pending) d).whole.schema
+  whole = (read (malformations_step W) d).whole.schema
 
   same : whole ≡ d
-  same = schema_of_read (malformations_step W pending) d
+  same = schema_of_read (malformations_step W) d
 
   pub own_properties : own_faults W (codes "properties") d L ≡ unless_object d L
   own_properties = ap (λ s. unless_object s L) same
 
   pub own_pattern_properties : own_faults W (codes "patternProperties") d L ≡ unless_object d L ++ flat_map (λ e. pattern_faults W L e.0) (members d)
-  own_pattern_properties = pattern_properties_refusals (malformations_step W pending) d (codes "patternProperties") W L ∙ ap (λ fs. unless_object d L ++ fs) (sym (unbuilt_together W L (members d)))
+  own_pattern_properties = pattern_properties_refusals (malformations_step W) d (codes "patternProperties") W L ∙ ap (λ fs. unless_object d L ++ fs) (sym (unbuilt_together W L (members d)))
+
+  pub own_additional_properties : own_faults W (codes "additionalProperties") d L ≡ unless_kind (is_rule d) MultipleTypes d L
+  own_additional_properties = additional_refusals (malformations_step W) d (codes "additionalProperties") W L
 
   pub own_property_names : own_faults W (codes "propertyNames") d L ≡ []
   own_property_names = refl
@@ -83,16 +86,16 @@ module _ (W : World) (d : Data) (L : Path) where
   own_required = ap (λ s. unless_array s L ++ not_a_text s L) same
 
   pub own_dependent_required : own_faults W (codes "dependentRequired") d L ≡ unless_object d L ++ name_list_faults L (members d)
-  own_dependent_required = dependent_required_refusals (malformations_step W pending) d (codes "dependentRequired") W L
+  own_dependent_required = dependent_required_refusals (malformations_step W) d (codes "dependentRequired") W L
 
   pub own_dependent_schemas : own_faults W (codes "dependentSchemas") d L ≡ unless_object d L
   own_dependent_schemas = ap (λ s. unless_object s L) same
 
   pub own_dependencies : own_faults W (codes "dependencies") d L ≡ unless_object d L ++ list_faults L (members d)
-  own_dependencies = dependencies_refusals (malformations_step W pending) d (codes "dependencies") W L
+  own_dependencies = dependencies_refusals (malformations_step W) d (codes "dependencies") W L
 
   pub own_property_dependencies : own_faults W (codes "propertyDependencies") d L ≡ unless_object d L ++ no_object_faults L (members d)
-  own_property_dependencies = property_dependencies_refusals (malformations_step W pending) d (codes "propertyDependencies") W L
+  own_property_dependencies = property_dependencies_refusals (malformations_step W) d (codes "propertyDependencies") W L
 
   pub own_all_of : own_faults W (codes "allOf") d L ≡ unless_array d L
   own_all_of = ap (λ s. unless_array s L) same
@@ -116,21 +119,18 @@ module _ (W : World) (d : Data) (L : Path) where
   own_else = refl
 
   module _ (k : Name) where
-    own_of : (w : Keyword) → is_among k pending ≡ false → keyword_named W k ≡ w → own_faults W k d L ≡ own_refusals W k (read (malformations_step W pending) d) L w
-    own_of w e q = λ i. put_if (e i) (refusal (Unsupported k) whole L) [] ++ own_refusals W k (read (malformations_step W pending) d) L (q i)
+    own_of : (w : Keyword) → keyword_named W k ≡ w → own_faults W k d L ≡ own_refusals W k (read (malformations_step W) d) L w
+    own_of w q = ap (own_refusals W k (read (malformations_step W) d) L) q
 
-    pub own_leaf : is_among k pending ≡ false → keyword_named W k ≡ leaf → own_faults W k d L ≡ unless_kind (W.fits k d) (LeafRefused k) d L
-    own_leaf e q = own_of leaf e q ∙ ap (λ s. unless_kind (W.fits k s) (LeafRefused k) s L) same
+    pub own_leaf : keyword_named W k ≡ leaf → own_faults W k d L ≡ unless_kind (W.fits k d) (LeafRefused k) d L
+    own_leaf q = own_of leaf q ∙ ap (λ s. unless_kind (W.fits k s) (LeafRefused k) s L) same
 
-    pub own_unread : is_among k pending ≡ false → keyword_named W k ≡ unread → own_faults W k d L ≡ []
-    own_unread e q = own_of unread e q
+    pub own_unread : keyword_named W k ≡ unread → own_faults W k d L ≡ []
+    own_unread q = own_of unread q
 
     -- a name that is refused whatever its value
-    first_told : (b : Bool) (xs : List Fault) (e : BuildError) → b ≡ true → TellsOneOf (fault (Unsupported k) d [] L ∷ []) e → TellsOneOf (put_if b (refusal (Unsupported k) whole L) [] ++ xs) e
-    first_told b xs e h t = tells_left (put_if b (refusal (Unsupported k) whole L) []) xs e (tells_same (λ i. put_if (sym h i) (refusal (Unsupported k) (sym same i) L) []) e t)
-
-    second_told : (xs : List Fault) (w : Keyword) (e : BuildError) → w ≡ unsupported → TellsOneOf (fault (Unsupported k) d [] L ∷ []) e → TellsOneOf (own_refusals W k (read (malformations_step W pending) d) L w) e
-    second_told xs w e h t = tells_same (ap (λ s. refusal (Unsupported k) s L ∷ []) (sym same) ∙ ap (own_refusals W k (read (malformations_step W pending) d) L) (sym h)) e t
+    pub own_unsupported : keyword_named W k ≡ unsupported → own_faults W k d L ≡ refusal (Unsupported k) d L ∷ []
+    own_unsupported q = own_of unsupported q ∙ ap (λ s. refusal (Unsupported k) s L ∷ []) same
 
 pub object_is_right : (d : Data) (L : Path) → is_object d ≡ true → unless_object d L ≡ []
 object_is_right d L e = ap (λ b. unless_kind b (SingleType object_type) d L) e
@@ -147,46 +147,51 @@ refuses_own W k n d L fs c a e p q t = record { tells = tells_same (sym q ∙ ap
 pub refuses_without_memory : (fs : List Fault) (c : Cost) (a : Counts) (e : BuildError) (m : AllocError) → e ≡ Memory m → Refuses fs c a a e
 refuses_without_memory fs c a e m p = refuses_memory fs c a a e m p (within_nothing a c)
 
-module _ (W : World) (k : Name) (d : Data) (q : keyword_named W k ≡ leaf) (a b : Counts) (count : b ≡ count_leaf a) where
-  leaf_spent : Spends a b (own_cost_of W d (keyword_named W k))
-  leaf_spent = subst (λ w. Spends a b (own_cost_of W d w)) (sym q) (spends_leaf a b count)
+module _ (W : World) (k : Name) (d : Data) (q : keyword_named W k ≡ leaf) (a b : Counts) (count : b ≡ count_leaf a) (n : Known) where
+  leaf_spent : Spends a b (own_cost_of W n d (keyword_named W k))
+  leaf_spent = subst (λ w. Spends a b (own_cost_of W n d w)) (sym q) (spends_leaf a b count)
 
-  pub refuses_leaf : (L : Path) (e : BuildError) → is_among k pending ≡ false → W.fits k d ≡ false → TellsOneOf (fault (LeafRefused k) d [] L ∷ []) e → Refuses (own_faults W k d L) (own_cost_of W d (keyword_named W k)) a b e
-  refuses_leaf L e h fits t = record { tells = tells_same (ap (λ f. unless_kind f (LeafRefused k) d L) (sym fits) ∙ sym (own_leaf W d L k h q)) e t; spends = within_exactly a b _ leaf_spent }
+  pub refuses_leaf : (L : Path) (e : BuildError) → W.fits k d ≡ false → TellsOneOf (fault (LeafRefused k) d [] L ∷ []) e → Refuses (own_faults W k d L) (own_cost_of W n d (keyword_named W k)) a b e
+  refuses_leaf L e fits t = record { tells = tells_same (ap (λ f. unless_kind f (LeafRefused k) d L) (sym fits) ∙ sym (own_leaf W d L k q)) e t; spends = within_exactly a b _ leaf_spent }
 
-  pub refuses_leaf_memory : (fs : List Fault) (e : BuildError) (m : AllocError) → e ≡ Memory m → Refuses fs (own_cost_of W d (keyword_named W k)) a b e
+  pub refuses_leaf_memory : (fs : List Fault) (e : BuildError) (m : AllocError) → e ≡ Memory m → Refuses fs (own_cost_of W n d (keyword_named W k)) a b e
   refuses_leaf_memory fs e m p = refuses_memory fs _ a b e m p (within_exactly a b _ leaf_spent)
 
-pub refuses_name : (W : World) (k : Name) (d : Data) (L : Path) (c : Cost) (a : Counts) (e : BuildError) → IsOther k → is_among k (unsupported_names ++ pending) ≡ true → TellsOneOf (fault (Unsupported k) d [] L ∷ []) e → Refuses (own_faults W k d L) c a a e
-refuses_name W k d L c a e other among t = record { tells = by (refused_keyword W k other among); spends = within_nothing a c }
-  where
-    by : (is_among k pending ≡ true) ⊎ (keyword_named W k ≡ unsupported) → TellsOneOf (own_faults W k d L) e
-    by (inl h) = first_told W d L k (is_among k pending) (own_refusals W k (read (malformations_step W pending) d) L (keyword_named W k)) e h t
-    by (inr h) = tells_right (put_if (is_among k pending) (refusal (Unsupported k) (whole W d L) L) []) (own_refusals W k (read (malformations_step W pending) d) L (keyword_named W k)) e (second_told W d L k [] (keyword_named W k) e h t)
+pub refuses_name : (W : World) (k : Name) (d : Data) (L : Path) (c : Cost) (a : Counts) (e : BuildError) → IsOther k → is_among k unsupported_names ≡ true → TellsOneOf (fault (Unsupported k) d [] L ∷ []) e → Refuses (own_faults W k d L) c a a e
+refuses_name W k d L c a e other among t = record { tells = tells_same (sym (own_unsupported W d L k (refused_keyword W k other among))) e t; spends = within_nothing a c }
 
 -- ---- what is read
 
 module _ {K R : Type 0} (o : Kit K R) where
   -- a keyword without own costs, by its name
-  pub is_read : (x : Shape K R) (c : Bool) (k n : Name) (d : Data) (L : Path) (a : Counts) → k ≡ n → IsShape o n d x → Fits c x → own_faults o.world n d L ≡ [] → own_cost_of o.world d (keyword_named o.world n) ≡ no_cost → IsRead o x c k d L a a
+  pub is_read : (x : Shape K R) (c : Known) (k n : Name) (d : Data) (L : Path) (a : Counts) → k ≡ n → IsShape o n d x → Fits o c x → own_faults o.world n d L ≡ [] → own_cost_of o.world c d (keyword_named o.world n) ≡ no_cost → IsRead o x c k d L a a
   is_read x c k n d L a p s f clean z = subst (λ i. IsRead o x c i d L a a) (sym p) (record { shape = s; fits = f; clean = clean; spends = subst (Spends a a) (sym z) (spends_nothing a) })
 
-  -- the patterns of an object's entries
-  pub patterns_are_read : (v : Vec (CompiledPattern R) Global) (c : Bool) (k : Name) (d : Data) (L : Path) (a b : Counts) → k ≡ codes "patternProperties" → is_object d ≡ true → PatternsAreRead o v.items (members d) L a b → IsRead o (shape.PatternProperties v) c k d L a b
-  patterns_are_read v c k d L a b p is_map h = subst (λ i. IsRead o (shape.PatternProperties v) c i d L a b) (sym p) (record {
-    shape = (refl, is_map, h.stand);
-    fits = tt;
-    clean = own_pattern_properties o.world d L ∙ (λ i. object_is_right d L is_map i ++ h.clean i);
-    spends = subst (Spends a b) (made_together o.world (members d)) h.spends;
-  })
-
   -- one of the three that are read together
-  pub conditional_is_read : (x : Shape K R) (c : Bool) (k n : Name) (d : Data) (L : Path) (a : Counts) → k ≡ n → IsShape o n d x → (c ≡ true → Fits c x) → is_conditional_name n ≡ true → own_faults o.world n d L ≡ [] → own_cost_of o.world d (keyword_named o.world n) ≡ no_cost → IsRead o (cond c x shape.Unpaired) c k d L a a
-  conditional_is_read x true k n d L a p s f e clean z = is_read x true k n d L a p s (f refl) clean z
-  conditional_is_read x false k n d L a p s f e clean z = is_read shape.Unpaired false k n d L a p e refl clean z
+  pub conditional_is_read : (x : Shape K R) (c : Known) (k n : Name) (d : Data) (L : Path) (a : Counts) → k ≡ n → IsShape o n d x → (c.condition ≡ true → Fits o c x) → is_conditional_name n ≡ true → own_faults o.world n d L ≡ [] → own_cost_of o.world c d (keyword_named o.world n) ≡ no_cost → IsRead o (cond c.condition x shape.Unpaired) c k d L a a
+  conditional_is_read x c k n d L a p s f e clean z = by c.condition refl
+    where
+      by : (b : Bool) → c.condition ≡ b → IsRead o (cond b x shape.Unpaired) c k d L a a
+      by true q = is_read x c k n d L a p s (f q) clean z
+      by false q = is_read shape.Unpaired c k n d L a p e q clean z
+
+  -- a rule for other members
+  pub others_are_read : (c : Known) (k : Name) (d : Data) (L : Path) (a : Counts) → k ≡ codes "additionalProperties" → is_rule d ≡ true → IsRead o (cond (is_object d) shape.AdditionalProperties (cond (is_truth false d) shape.NoOthers shape.AnyOthers)) c k d L a a
+  others_are_read c k d L a p rule = by (is_object d) (is_truth false d) refl refl
+    where
+      right : own_faults o.world (codes "additionalProperties") d L ≡ []
+      right = own_additional_properties o.world d L ∙ ap (λ b. unless_kind b MultipleTypes d L) rule
+
+      true_left : is_object d ≡ false → is_truth false d ≡ false → is_truth true d ≡ true
+      true_left e f = sym (or_false (is_truth true d)) ∙ (λ i. sym e i || is_truth true d || sym f i) ∙ rule
+
+      by : (x y : Bool) → is_object d ≡ x → is_truth false d ≡ y → IsRead o (cond x shape.AdditionalProperties (cond y shape.NoOthers shape.AnyOthers)) c k d L a a
+      by true y e f = is_read shape.AdditionalProperties c k (codes "additionalProperties") d L a p (refl, e) tt right refl
+      by false true e f = is_read shape.NoOthers c k (codes "additionalProperties") d L a p (refl, f) tt right refl
+      by false false e f = is_read shape.AnyOthers c k (codes "additionalProperties") d L a p (refl, true_left e f) tt right refl
 
   -- a schema for names
-  pub names_are_read : (c : Bool) (k : Name) (d : Data) (L : Path) (a : Counts) → k ≡ codes "propertyNames" → IsRead o (cond (is_object d) shape.PropertyNames (cond (is_truth false d) shape.NoNames shape.AnyNames)) c k d L a a
+  pub names_are_read : (c : Known) (k : Name) (d : Data) (L : Path) (a : Counts) → k ≡ codes "propertyNames" → IsRead o (cond (is_object d) shape.PropertyNames (cond (is_truth false d) shape.NoNames shape.AnyNames)) c k d L a a
   names_are_read c k d L a p = by (is_object d) (is_truth false d) refl refl
     where
       by : (x y : Bool) → is_object d ≡ x → is_truth false d ≡ y → IsRead o (cond x shape.PropertyNames (cond y shape.NoNames shape.AnyNames)) c k d L a a
@@ -194,16 +199,16 @@ module _ {K R : Type 0} (o : Kit K R) where
       by false true e f = is_read shape.NoNames c k (codes "propertyNames") d L a p (refl, f) tt (own_property_names o.world d L) refl
       by false false e f = is_read shape.AnyNames c k (codes "propertyNames") d L a p (refl, e, f) tt (own_property_names o.world d L) refl
 
-  pub leaf_is_read : (l : K) (k : Name) (d : Data) (L : Path) (a b : Counts) → keyword_named o.world k ≡ leaf → is_among k pending ≡ false → o.world.fits k d ≡ true → o.keyword_of l ≡ k → ((v : Data) → o.finds l v ≡ o.world.faults k d v) → b ≡ count_leaf a → (c : Bool) → IsRead o (shape.Leaf l) c k d L a b
-  leaf_is_read l k d L a b q h fits name same count c = record {
+  pub leaf_is_read : (l : K) (k : Name) (d : Data) (L : Path) (a b : Counts) → keyword_named o.world k ≡ leaf → o.world.fits k d ≡ true → o.keyword_of l ≡ k → ((v : Data) → o.finds l v ≡ o.world.faults k d v) → b ≡ count_leaf a → (c : Known) → IsRead o (shape.Leaf l) c k d L a b
+  leaf_is_read l k d L a b q fits name same count c = record {
     shape = (q, name, same);
     fits = tt;
-    clean = own_leaf o.world d L k h q ∙ ap (λ f. unless_kind f (LeafRefused k) d L) fits;
-    spends = leaf_spent o.world k d q a b count;
+    clean = own_leaf o.world d L k q ∙ ap (λ f. unless_kind f (LeafRefused k) d L) fits;
+    spends = leaf_spent o.world k d q a b count c;
   }
 
-  pub unread_is_read : (k : Name) (d : Data) (L : Path) (a : Counts) → keyword_named o.world k ≡ unread → is_among k pending ≡ false → (c : Bool) → IsRead o shape.Unread c k d L a a
-  unread_is_read k d L a q h c = record { shape = q; fits = tt; clean = own_unread o.world d L k h q; spends = subst (λ w. Spends a a (own_cost_of o.world d w)) (sym q) (spends_nothing a) }
+  pub unread_is_read : (k : Name) (d : Data) (L : Path) (a : Counts) → keyword_named o.world k ≡ unread → (c : Known) → IsRead o shape.Unread c k d L a a
+  unread_is_read k d L a q c = record { shape = q; fits = tt; clean = own_unread o.world d L k q; spends = subst (λ w. Spends a a (own_cost_of o.world c d w)) (sym q) (spends_nothing a) }
 
 module _ (W : World) (d : Data) (L : Path) (object : is_object d ≡ true) where
   pub right_dependent_required : name_list_faults L (members d) ≡ [] → own_faults W (codes "dependentRequired") d L ≡ []
@@ -214,10 +219,3 @@ module _ (W : World) (d : Data) (L : Path) (object : is_object d ≡ true) where
 
   pub right_property_dependencies : no_object_faults L (members d) ≡ [] → own_faults W (codes "propertyDependencies") d L ≡ []
   right_property_dependencies h = own_property_dependencies W d L ∙ (λ i. object_is_right d L object i ++ h i)
-
--- a refusal of an object's patterns is one of the keyword
-pub refuses_patterns : {K R : Type 0} (o : Kit K R) (k : Name) (d : Data) (L : Path) (a b : Counts) (e : BuildError) → k ≡ codes "patternProperties" → is_object d ≡ true → RefusesPatterns o (members d) L a b e → Refuses (own_faults o.world k d L) (own_cost_of o.world d (keyword_named o.world k)) a b e
-refuses_patterns o k d L a b e p is_map h = subst (λ n. Refuses (own_faults o.world n d L) (own_cost_of o.world d (keyword_named o.world n)) a b e) (sym p) (record {
-  tells = tells_same (sym (own_pattern_properties o.world d L ∙ (λ i. object_is_right d L is_map i ++ flat_map (λ x. pattern_faults o.world L x.0) (members d)))) e h.tells;
-  spends = within_same a b _ _ (made_together o.world (members d)) h.spends;
-})

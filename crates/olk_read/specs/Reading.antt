@@ -1,21 +1,22 @@
 -- What a member of a schema object is as a keyword, apart from the nodes inside it.
-use Rattle.std.specs.Prelude.{◌≡◌, ⊤, Bool, true, false, List, [], ◌∷◌, ◌++◌, map, codes, string_bytes}
+use Rattle.std.specs.Prelude.{◌≡◌, ⊤, true, false, List, [], ◌∷◌, map, codes, string_bytes}
 use Rattle.serde_json.specs.Data.{Data}
 use Rattle.serde_json.specs.View.{view}
-use Rattle.olk_spec.specs.Names.{Name, Path, put_if, is_among}
+use Rattle.olk_spec.specs.Names.{Name, Path, is_among}
 use Rattle.olk_spec.specs.World.{World}
 use Rattle.olk_spec.specs.Vocabulary.{Keyword, pattern_properties, leaf, unread, unsupported_names, keyword_named}
 use Rattle.olk_spec.specs.Schemas.{read, members, texts, is_object, is_array, is_truth}
-use Rattle.olk_spec.specs.Malformed.{pending, refusal, own_refusals, malformations_step}
-use Rattle.olk_spec.specs.Faults.{Fault, Unsupported}
-use Rattle.olk_spec.specs.Costs.{Cost, no_cost}
+use Rattle.olk_spec.specs.Malformed.{own_refusals, malformations_step}
+use Rattle.olk_spec.specs.Faults.{Fault}
+use Rattle.olk_spec.specs.Costs.{Cost, no_cost, ◌⊕◌}
 use Rattle.olk_base.specs.Count.{Counts}
 use Rattle.olk_reports.specs.declared.error.BuildError.{BuildError}
 use Rattle.olk_base.specs.Kit.{Kit}
-use Rattle.olk_members.specs.Conditions.{is_conditional_name}
+use Rattle.olk_members.specs.Conditions.{is_conditional_name, Known}
 use Rattle.olk_members.specs.Dependencies.{are_lists}
 use Rattle.olk_read.specs.Lists.{list_of, names_in, names_in_list, names_of}
-use Rattle.olk_members.specs.PatternProperties.{matchers_made}
+use Rattle.olk_members.specs.PatternProperties.{matchers_made, names_asked}
+use Rattle.olk_tree.specs.Tables.{IsTableOf}
 use Rattle.olk_read.specs.Refusing.{Spends, Refuses}
 use Rattle.olk_read.specs.Patterns.{ArePatterns}
 use Rattle.olk_read.specs.declared.reading.KeywordFor.{KeywordFor}
@@ -28,7 +29,8 @@ use Rattle.olk_read.specs.declared.shape.ReadPlaces.TheVariants.{Nothing, Itself
 -- which places are read
 abbrev pub reads_of : {K R : Type 0} → Shape K R → ReadPlaces
 reads_of (shape.Properties n) = Entries
-reads_of (shape.PatternProperties v) = Entries
+reads_of (shape.PatternProperties v t) = Entries
+reads_of shape.AdditionalProperties = Itself
 reads_of shape.PropertyNames = Itself
 reads_of (shape.DependentSchemas n) = Entries
 reads_of (shape.Dependencies n v) = SchemaEntries
@@ -44,12 +46,13 @@ reads_of x = Nothing
 
 -- none of the keywords that are read here by name
 abbrev pub IsOther : Name → Type 0
-IsOther n = is_among n (codes "properties" ∷ codes "patternProperties" ∷ codes "propertyNames" ∷ codes "required" ∷ codes "dependentRequired" ∷ codes "dependentSchemas" ∷ codes "dependencies" ∷ codes "propertyDependencies" ∷ codes "allOf" ∷ codes "anyOf" ∷ codes "oneOf" ∷ codes "not" ∷ codes "if" ∷ codes "then" ∷ codes "else" ∷ []) ≡ false
+IsOther n = is_among n (codes "properties" ∷ codes "patternProperties" ∷ codes "additionalProperties" ∷ codes "propertyNames" ∷ codes "required" ∷ codes "dependentRequired" ∷ codes "dependentSchemas" ∷ codes "dependencies" ∷ codes "propertyDependencies" ∷ codes "allOf" ∷ codes "anyOf" ∷ codes "oneOf" ∷ codes "not" ∷ codes "if" ∷ codes "then" ∷ codes "else" ∷ []) ≡ false
 
 -- which keyword a name is
 abbrev pub IsFor : Name → KeywordFor → Type 0
 IsFor n for.Properties = n ≡ codes "properties"
 IsFor n for.PatternProperties = n ≡ codes "patternProperties"
+IsFor n for.AdditionalProperties = n ≡ codes "additionalProperties"
 IsFor n for.PropertyNames = n ≡ codes "propertyNames"
 IsFor n for.Required = n ≡ codes "required"
 IsFor n for.DependentRequired = n ≡ codes "dependentRequired"
@@ -63,32 +66,36 @@ IsFor n for.Not = n ≡ codes "not"
 IsFor n for.If = n ≡ codes "if"
 IsFor n for.Then = n ≡ codes "then"
 IsFor n for.Else = n ≡ codes "else"
-IsFor n for.Refused = IsOther n × (is_among n (unsupported_names ++ pending) ≡ true)
-IsFor n for.Other = IsOther n × (is_among n (unsupported_names ++ pending) ≡ false)
+IsFor n for.Refused = IsOther n × (is_among n unsupported_names ≡ true)
+IsFor n for.Other = IsOther n × (is_among n unsupported_names ≡ false)
 
 -- what is wrong with a keyword itself, at its place L
 abbrev pub own_faults : World → Name → Data → Path → List Fault
-own_faults W k d L = put_if (is_among k pending) (refusal (Unsupported k) (read (malformations_step W pending) d).whole.schema L) [] ++ own_refusals W k (read (malformations_step W pending) d) L (keyword_named W k)
+own_faults W k d L = own_refusals W k (read (malformations_step W) d) L (keyword_named W k)
 
--- what is counted for a keyword itself while its value is read
-abbrev pub own_cost_of : World → Data → Keyword → Cost
-own_cost_of W d leaf = record no_cost { leaf_places = 1 }
-own_cost_of W d pattern_properties = matchers_made W d
-own_cost_of W d w = no_cost
-
--- it is read as it is to be where c says whether `if` is read
-abbrev pub Fits : {K R : Type 0} → Bool → Shape K R → Type 0
-Fits c shape.If = c ≡ true
-Fits c shape.Then = c ≡ true
-Fits c shape.Else = c ≡ true
-Fits c shape.Unpaired = c ≡ false
-Fits c x = ⊤
+-- what is counted for a keyword itself while its value is read, where c is known of its neighbours
+abbrev pub own_cost_of : World → Known → Data → Keyword → Cost
+own_cost_of W c d leaf = record no_cost { leaf_places = 1 }
+own_cost_of W c d pattern_properties = matchers_made W d ⊕ names_asked W c.declared d
+own_cost_of W c d w = no_cost
 
 module _ {K R : Type 0} (o : Kit K R) where
+  -- it is read as it is to be where c is known of its neighbours
+  abbrev pub Fits : Known → Shape K R → Type 0
+  Fits c (shape.PatternProperties v t) = (t.names ≡ map (λ e. e.0) c.declared) × IsTableOf o.answers v.items t
+  Fits c shape.If = c.condition ≡ true
+  Fits c shape.Then = c.condition ≡ true
+  Fits c shape.Else = c.condition ≡ true
+  Fits c shape.Unpaired = c.condition ≡ false
+  Fits c x = ⊤
+
   -- the shape of the keyword of the name k and the value d
   abbrev pub IsShape : Name → Data → Shape K R → Type 0
   IsShape k d (shape.Properties n) = (k ≡ codes "properties") × (is_object d ≡ true) × (n ≡ map (λ e. e.0) (members d))
-  IsShape k d (shape.PatternProperties v) = (k ≡ codes "patternProperties") × (is_object d ≡ true) × ArePatterns o v.items (members d)
+  IsShape k d (shape.PatternProperties v t) = (k ≡ codes "patternProperties") × (is_object d ≡ true) × ArePatterns o v.items (members d)
+  IsShape k d shape.AdditionalProperties = (k ≡ codes "additionalProperties") × (is_object d ≡ true)
+  IsShape k d shape.NoOthers = (k ≡ codes "additionalProperties") × (is_truth false d ≡ true)
+  IsShape k d shape.AnyOthers = (k ≡ codes "additionalProperties") × (is_truth true d ≡ true)
   IsShape k d shape.PropertyNames = (k ≡ codes "propertyNames") × (is_object d ≡ true)
   IsShape k d shape.NoNames = (k ≡ codes "propertyNames") × (is_truth false d ≡ true)
   IsShape k d shape.AnyNames = (k ≡ codes "propertyNames") × (is_object d ≡ false) × (is_truth false d ≡ false)
@@ -108,13 +115,13 @@ module _ {K R : Type 0} (o : Kit K R) where
   IsShape k d (shape.Leaf l) = (keyword_named o.world k ≡ leaf) × (o.keyword_of l ≡ k) × ((v : Data) → o.finds l v ≡ o.world.faults k d v)
   IsShape k d shape.Unread = keyword_named o.world k ≡ unread
 
-  -- a keyword's value is read, where c says whether `if` is
-  pub record IsRead (x : Shape K R) (c : Bool) (k : Name) (d : Data) (L : Path) (old new : Counts) : Type 0 where
+  -- a keyword's value is read, where c is known of its neighbours
+  pub record IsRead (x : Shape K R) (c : Known) (k : Name) (d : Data) (L : Path) (old new : Counts) : Type 0 where
     pub shape : IsShape k d x
     pub fits : Fits c x
     pub clean : own_faults o.world k d L ≡ []
-    pub spends : Spends old new (own_cost_of o.world d (keyword_named o.world k))
+    pub spends : Spends old new (own_cost_of o.world c d (keyword_named o.world k))
 
   -- or what is wrong with the keyword itself
-  abbrev pub RefusesKeyword : Name → Data → Path → Counts → Counts → BuildError → Type 0
-  RefusesKeyword k d L old new e = Refuses (own_faults o.world k d L) (own_cost_of o.world d (keyword_named o.world k)) old new e
+  abbrev pub RefusesKeyword : Known → Name → Data → Path → Counts → Counts → BuildError → Type 0
+  RefusesKeyword c k d L old new e = Refuses (own_faults o.world k d L) (own_cost_of o.world c d (keyword_named o.world k)) old new e

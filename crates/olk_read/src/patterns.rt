@@ -1,5 +1,5 @@
-//! Reading the patterns of `patternProperties`.
-ghost use Rattle.std.specs.Prelude.{◌≡◌, ◌∷◌, [], IfOk, IfErr, OnOk};
+//! Reading the patterns of `patternProperties`, and what they say of the names that are declared beside them.
+ghost use Rattle.std.specs.Prelude.{◌≡◌, ◌*◌, ◌∷◌, [], IfOk, IfErr, OnOk, OnErr, map, length};
 ghost use Rattle.serde_json.specs.Data.{string};
 ghost use Rattle.serde_json.specs.View.{members_view};
 ghost use Rattle.olk_spec.specs.Faults.{fault, Regex};
@@ -7,15 +7,21 @@ ghost use Rattle.olk_spec.specs.Schemas.{listed};
 ghost use Rattle.olk_reports.specs.Paths.{one_below};
 ghost use Rattle.olk_base.specs.Kit.{kit, world};
 ghost use Rattle.olk_members.specs.PatternProperties.{pattern_faults, matcher_made};
+ghost use Rattle.olk_members.specs.Conditions.{known};
+ghost use Rattle.olk_tree.specs.Tables.{IsTableOf, how_many_cost, count_asks, AsksAtMost};
 ghost use Rattle.olk_read.specs.Refusing.{TellsOneOf, Spends, Refuses};
 ghost use Rattle.olk_read.specs.Patterns.{IsPattern, PatternsAreRead, RefusesPatterns};
 
 use crate::lists::append;
 use crate::makers::Makers;
-use olk_base::{CompiledPattern, MakeError, MakeLeaf, MakeRegex, Meter, Node, compile_pattern};
+use olk_base::{
+    CompiledPattern, MakeError, MakeLeaf, MakeRegex, Meter, Node, RegexEngine, compile_pattern,
+};
+use olk_members::Neighbours;
 use olk_reports::{BuildError, Location, ValidationError, ValidationErrorKind};
+use olk_tree::pattern_table::{PatternTable, precompute_property_pattern_indices};
 use serde_json::{Map, Value};
-use std::alloc::Global;
+use std::alloc::{AllocError, Global};
 
 /// The refusal of a pattern, as a bare name below the keyword; want of memory where there is none for the place.
 fn refuse_pattern<'a>(alloc: Global, location: &Location, pattern: &'a str) -> BuildError<'a>
@@ -86,4 +92,32 @@ pub fn patterns_of_entries<'a, L: MakeLeaf, M: MakeRegex>(
         append(&mut patterns, compiled)?;
     }
     Ok(patterns)
+}
+
+/// What the patterns say of the names that are declared beside them where other members are restricted; each is asked
+/// once of each name. A table of no names elsewhere.
+///
+/// # Errors
+///
+/// Want of memory. No more is counted then.
+pub(crate) fn table_of_declared<R: RegexEngine>(
+    alloc: Global,
+    meter: &mut Meter,
+    neighbours: Neighbours<'_>,
+    patterns: &[CompiledPattern<R>],
+) -> Result<PatternTable, AllocError>
+    ensures names { IfOk result (λ t. t.names ≡ map (λ e. e.0) (known neighbours.entry).declared) }
+    ensures answers { IfOk result (λ t. IsTableOf R.answers patterns.now t) }
+    ensures asked { OnOk result (meter.new ≡ count_asks
+        (length (known neighbours.entry).declared * how_many_cost R.costs patterns.now) meter.old) }
+    ensures asked_at_most { OnErr result (AsksAtMost
+        (length (known neighbours.entry).declared * how_many_cost R.costs patterns.now)
+        meter.old meter.new) }
+{
+    match neighbours.declared() {
+        Some(properties) => Ok(precompute_property_pattern_indices(
+            alloc, properties, patterns, meter,
+        )?),
+        None => Ok(PatternTable::none(alloc)),
+    }
 }

@@ -1,24 +1,28 @@
 //! Reading the values of keywords, as far as this needs no nodes.
-ghost use Rattle.std.specs.Prelude.{Bool, false, true, cond, ◌≡◌, ◌++◌, [], map, string_bytes, IfOk, IfErr};
+ghost use Rattle.std.specs.Prelude.{◌≡◌, ◌++◌, ◌||◌, Bool, false, true, cond, [], codes, map, string_bytes, IfOk, IfErr};
 ghost use Rattle.serde_json.specs.Data.{array, object};
 ghost use Rattle.serde_json.specs.View.{view, items_view, members_view};
 ghost use Rattle.std.specs.List.{list_any};
 ghost use Rattle.olk_spec.specs.Names.{is_among};
 ghost use Rattle.olk_spec.specs.Vocabulary.{unsupported_names, keyword_named, leaf};
 ghost use Rattle.olk_spec.specs.Schemas.{listed, members, texts, texts_in, as_text, is_object, is_array, is_truth};
-ghost use Rattle.olk_spec.specs.Malformed.{pending, unless_object, unless_array, not_a_text, has_repeat, name_list_refusals};
+ghost use Rattle.olk_spec.specs.Faults.{MultipleTypes};
+ghost use Rattle.olk_spec.specs.Malformed.{unless_kind, unless_object, unless_array, not_a_text, has_repeat, name_list_refusals};
 ghost use Rattle.olk_base.specs.Kit.{kit, world};
+ghost use Rattle.olk_members.specs.AdditionalProperties.{is_rule};
+ghost use Rattle.olk_members.specs.Conditions.{Known, known};
 ghost use Rattle.olk_read.specs.Refusing.{TellsOneOf};
 ghost use Rattle.olk_read.specs.Lists.{not_texts, list_of, names_in, names_in_list, name_list_faults, list_faults, names_of, no_object_faults};
 ghost use Rattle.olk_read.specs.Reading.{IsFor, IsOther, IsRead, RefusesKeyword};
-ghost use Rattle.olk_read.specs.declared.shape.Shape.TheVariants.{Unpaired, PropertyNames, NoNames, AnyNames};
+ghost use Rattle.olk_read.specs.declared.shape.Shape.TheVariants.{Unpaired, AdditionalProperties, NoOthers, AnyOthers, PropertyNames, NoNames, AnyNames};
 
 use crate::lists::append;
 use crate::makers::Makers;
-use crate::patterns::patterns_of_entries;
+use crate::patterns::{patterns_of_entries, table_of_declared};
 use crate::refusal::{refuse, refuse_type};
 use crate::shape::Shape;
 use olk_base::{JsonType, MakeError, MakeLeaf, MakeRegex, Meter};
+use olk_members::Neighbours;
 use olk_reports::{BuildError, Location, ValidationErrorKind};
 use olk_tree::map::SortedNames;
 use serde_json::{Map, Value};
@@ -29,6 +33,7 @@ use std::alloc::Global;
 pub enum KeywordFor {
     Properties,
     PatternProperties,
+    AdditionalProperties,
     PropertyNames,
     Required,
     DependentRequired,
@@ -49,16 +54,11 @@ pub enum KeywordFor {
 /// Whether a keyword is refused by its name.
 #[inline(always)]
 fn is_refused(name: &str) -> bool
-    ensures { result ≡ is_among name.now (unsupported_names ++ pending) }
+    ensures { result ≡ is_among name.now unsupported_names }
 {
     matches!(
         name,
-        "$ref"
-            | "$dynamicRef"
-            | "$recursiveRef"
-            | "unevaluatedProperties"
-            | "unevaluatedItems"
-            | "additionalProperties"
+        "$ref" | "$dynamicRef" | "$recursiveRef" | "unevaluatedProperties" | "unevaluatedItems"
     )
 }
 
@@ -69,6 +69,7 @@ fn keyword_for(name: &str) -> KeywordFor
     match name {
         "properties" => KeywordFor::Properties,
         "patternProperties" => KeywordFor::PatternProperties,
+        "additionalProperties" => KeywordFor::AdditionalProperties,
         "propertyNames" => KeywordFor::PropertyNames,
         "required" => KeywordFor::Required,
         "dependentRequired" => KeywordFor::DependentRequired,
@@ -453,10 +454,68 @@ fn shape_of_branches<'a, K: Drop, R: Drop>(
 }
 
 /// The shape of `if`, `then` or `else`, unpaired where `if` is not read.
-fn shape_beside<K: Drop, R: Drop>(condition: bool, shape: Shape<K, R>) -> Shape<K, R>
-    ensures { result ≡ cond condition shape Unpaired }
+fn shape_beside<K: Drop, R: Drop>(neighbours: Neighbours<'_>, shape: Shape<K, R>) -> Shape<K, R>
+    ensures { result ≡ cond (known neighbours.entry).condition shape Unpaired }
 {
-    if condition { shape } else { Shape::Unpaired }
+    if neighbours.is_condition() {
+        shape
+    } else {
+        Shape::Unpaired
+    }
+}
+
+/// The shape of `patternProperties`: its patterns, in the order of its entries, and the table of what they say of the
+/// names that are declared beside it, where other members are restricted.
+///
+/// # Errors
+///
+/// What is no object is refused, and the first pattern that does not build, as a bare name below the keyword; else want
+/// of memory.
+fn shape_of_patterns<'a, L: MakeLeaf, M: MakeRegex>(
+    alloc: Global,
+    makers: &Makers<'_, L, M>,
+    meter: &mut Meter,
+    neighbours: Neighbours<'_>,
+    location: &Location,
+    value: &'a Value,
+) -> Result<Shape<L::Leaf, M::Engine>, BuildError<'a>>
+    ensures built { IfOk result (λ x. IsRead (kit L.Leaf.Leaf M.Engine.RegexEngine) x
+        (known neighbours.entry) (codes "patternProperties") (view value.now) location.now
+        meter.old meter.new) }
+    ensures refused { IfErr result (RefusesKeyword (kit L.Leaf.Leaf M.Engine.RegexEngine)
+        (known neighbours.entry) (codes "patternProperties") (view value.now) location.now
+        meter.old meter.new) }
+{
+    let entries = members_of_object(alloc, location, value)?;
+    let patterns = patterns_of_entries(alloc, makers, meter, location, entries)?;
+    let table = table_of_declared(alloc, meter, neighbours, patterns.as_slice())?;
+    Ok(Shape::PatternProperties(patterns, table))
+}
+
+/// The shape of `additionalProperties`: an object is a schema for every other member, `false` allows none, `true` any.
+///
+/// # Errors
+///
+/// Anything else is refused; else want of memory.
+fn shape_of_others<'a, K: Drop, R: Drop>(
+    alloc: Global,
+    location: &Location,
+    value: &'a Value,
+) -> Result<Shape<K, R>, BuildError<'a>>
+    ensures rule { IfOk result (λ x. is_rule (view value.now) ≡ true) }
+    ensures shape { IfOk result (λ x. x ≡ cond (is_object (view value.now)) AdditionalProperties
+        (cond (is_truth false (view value.now)) NoOthers AnyOthers)) }
+    ensures refused { IfErr result (TellsOneOf (unless_kind (is_rule (view value.now))
+        MultipleTypes (view value.now) location.now)) }
+{
+    match value {
+        Value::Object(_) => Ok(Shape::AdditionalProperties),
+        Value::Bool(true) => Ok(Shape::AnyOthers),
+        Value::Bool(false) => Ok(Shape::NoOthers),
+        Value::Null | Value::Number(_) | Value::String(_) | Value::Array(_) => {
+            Err(refuse(alloc, ValidationErrorKind::MultipleTypes, value, location))
+        }
+    }
 }
 
 /// The shape of `propertyNames`: an object is a schema for each name, `false` allows no name, anything else any.
@@ -476,7 +535,8 @@ fn shape_of_names<K: Drop, R: Drop>(value: &Value) -> Shape<K, R>
 // ---- by the keyword
 
 /// A keyword's value, read: its shape, counted where it is a leaf. `if`, `then` and `else` are read where the condition
-/// is.
+/// is; of `patternProperties` each matcher is counted, and each that is asked of a name that is declared beside it where
+/// other members are restricted.
 ///
 /// # Errors
 ///
@@ -486,23 +546,22 @@ pub fn read_keyword<'a, L: MakeLeaf, M: MakeRegex>(
     alloc: Global,
     makers: &Makers<'_, L, M>,
     meter: &mut Meter,
-    condition: bool,
+    neighbours: Neighbours<'_>,
     location: &Location,
     name: &'a str,
     value: &'a Value,
 ) -> Result<Shape<L::Leaf, M::Engine>, BuildError<'a>>
     ensures built { IfOk result (λ x. IsRead (kit L.Leaf.Leaf M.Engine.RegexEngine) x
-        condition name.now (view value.now) location.now meter.old meter.new) }
+        (known neighbours.entry) name.now (view value.now) location.now meter.old meter.new) }
     ensures refused { IfErr result (RefusesKeyword (kit L.Leaf.Leaf M.Engine.RegexEngine)
-        name.now (view value.now) location.now meter.old meter.new) }
+        (known neighbours.entry) name.now (view value.now) location.now meter.old meter.new) }
 {
     match keyword_for(name) {
         KeywordFor::Properties => Ok(Shape::Properties(names_of_object(alloc, location, value)?)),
-        KeywordFor::PatternProperties => {
-            let entries = members_of_object(alloc, location, value)?;
-            let patterns = patterns_of_entries(alloc, makers, meter, location, entries)?;
-            Ok(Shape::PatternProperties(patterns))
-        }
+        KeywordFor::PatternProperties => Ok(shape_of_patterns(
+            alloc, makers, meter, neighbours, location, value,
+        )?),
+        KeywordFor::AdditionalProperties => Ok(shape_of_others(alloc, location, value)?),
         KeywordFor::PropertyNames => Ok(shape_of_names(value)),
         KeywordFor::Required => Ok(Shape::Required(texts_of_array(alloc, location, value)?)),
         KeywordFor::DependentRequired => {
@@ -524,9 +583,9 @@ pub fn read_keyword<'a, L: MakeLeaf, M: MakeRegex>(
         KeywordFor::AnyOf => Ok(shape_of_branches(alloc, location, Shape::AnyOf, value)?),
         KeywordFor::OneOf => Ok(shape_of_branches(alloc, location, Shape::OneOf, value)?),
         KeywordFor::Not => Ok(Shape::Not(value.clone()?)),
-        KeywordFor::If => Ok(shape_beside(condition, Shape::If)),
-        KeywordFor::Then => Ok(shape_beside(condition, Shape::Then)),
-        KeywordFor::Else => Ok(shape_beside(condition, Shape::Else)),
+        KeywordFor::If => Ok(shape_beside(neighbours, Shape::If)),
+        KeywordFor::Then => Ok(shape_beside(neighbours, Shape::Then)),
+        KeywordFor::Else => Ok(shape_beside(neighbours, Shape::Else)),
         KeywordFor::Refused => {
             let kind = ValidationErrorKind::Unsupported { keyword: name };
             Err(refuse(alloc, kind, value, location))
@@ -549,12 +608,13 @@ fn read_other<'a, L: MakeLeaf, M: MakeRegex>(
     value: &'a Value,
 ) -> Result<Shape<L::Leaf, M::Engine>, BuildError<'a>>
     requires other { IsOther name.now }
-    requires let_through { is_among name.now (unsupported_names ++ pending) ≡ false }
-    ensures built { IfOk result (λ x. (c : Bool)
+    requires let_through { is_among name.now unsupported_names ≡ false }
+    ensures built { IfOk result (λ x. (c : Known)
         → IsRead (kit L.Leaf.Leaf M.Engine.RegexEngine) x
         c name.now (view value.now) location.now meter.old meter.new) }
-    ensures refused { IfErr result (RefusesKeyword (kit L.Leaf.Leaf M.Engine.RegexEngine)
-        name.now (view value.now) location.now meter.old meter.new) }
+    ensures refused { IfErr result (λ e. (c : Known)
+        → RefusesKeyword (kit L.Leaf.Leaf M.Engine.RegexEngine)
+        c name.now (view value.now) location.now meter.old meter.new e) }
 {
     if !makers.leaves.reads(name) {
         return Ok(Shape::Unread);
@@ -575,13 +635,13 @@ fn read_leaf<'a, L: MakeLeaf, M: MakeRegex>(
     name: &'a str,
     value: &'a Value,
 ) -> Result<Shape<L::Leaf, M::Engine>, BuildError<'a>>
-    requires pending { is_among name.now pending ≡ false }
     requires leaf { keyword_named (world L.Leaf.Leaf M.Engine.RegexEngine) name.now ≡ leaf }
-    ensures built { IfOk result (λ x. (c : Bool)
+    ensures built { IfOk result (λ x. (c : Known)
         → IsRead (kit L.Leaf.Leaf M.Engine.RegexEngine) x
         c name.now (view value.now) location.now meter.old meter.new) }
-    ensures refused { IfErr result (RefusesKeyword (kit L.Leaf.Leaf M.Engine.RegexEngine)
-        name.now (view value.now) location.now meter.old meter.new) }
+    ensures refused { IfErr result (λ e. (c : Known)
+        → RefusesKeyword (kit L.Leaf.Leaf M.Engine.RegexEngine)
+        c name.now (view value.now) location.now meter.old meter.new e) }
 {
     match makers.leaves.make(alloc, name, value, meter) {
         Ok(leaf) => Ok(Shape::Leaf(leaf)),

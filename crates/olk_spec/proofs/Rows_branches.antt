@@ -3,73 +3,73 @@ use Rattle.std.specs.Fmt.{digits}
 use Rattle.std.specs.Str.{chars}
 use Rattle.olk_spec.specs.Literals.{literal}
 use Rattle.olk_spec.specs.Meaning.{meaning}
-use Rattle.olk_spec.specs.Malformed.{malformations_beside}
+use Rattle.olk_spec.specs.Malformed.{malformations_at}
 use Rattle.olk_spec.specs.Costs.{cost}
 use Rattle.serde_json.proofs.OnLiterals.{serde_json_on_literals}
 use Rattle.olk_spec.specs.Rows_branches as rows
 
 pub any_of_none_refuses : rows.Any_of_none_refuses
-unfolding literal chars digits meaning malformations_beside cost serde_json_on_literals
+unfolding literal chars digits meaning malformations_at cost serde_json_on_literals
 any_of_none_refuses = λ u. (refl, refl, refl)
 
 pub one_of_none_refuses : rows.One_of_none_refuses
-unfolding literal chars digits meaning malformations_beside cost serde_json_on_literals
+unfolding literal chars digits meaning malformations_at cost serde_json_on_literals
 one_of_none_refuses = λ u. (refl, refl, refl)
 
 pub all_of_none_accepts : rows.All_of_none_accepts
-unfolding literal chars digits meaning malformations_beside cost serde_json_on_literals
+unfolding literal chars digits meaning malformations_at cost serde_json_on_literals
 all_of_none_accepts = λ u. (refl, refl, refl)
 
 pub two_accepting_branches_are_too_many : rows.Two_accepting_branches_are_too_many
-unfolding literal chars digits meaning malformations_beside cost serde_json_on_literals
+unfolding literal chars digits meaning malformations_at cost serde_json_on_literals
 two_accepting_branches_are_too_many = λ u. (refl, refl, refl)
 
 pub one_accepting_branch_is_enough : rows.One_accepting_branch_is_enough
-unfolding literal chars digits meaning malformations_beside cost serde_json_on_literals
+unfolding literal chars digits meaning malformations_at cost serde_json_on_literals
 one_accepting_branch_is_enough = λ u. (refl, refl, refl)
 
 pub the_other_branch_is_enough : rows.The_other_branch_is_enough
-unfolding literal chars digits meaning malformations_beside cost serde_json_on_literals
+unfolding literal chars digits meaning malformations_at cost serde_json_on_literals
 the_other_branch_is_enough = λ u. (refl, refl, refl)
 
 pub each_branch_tells_all_that_it_finds : rows.Each_branch_tells_all_that_it_finds
-unfolding literal chars digits meaning malformations_beside cost serde_json_on_literals
+unfolding literal chars digits meaning malformations_at cost serde_json_on_literals
 each_branch_tells_all_that_it_finds = λ u. (refl, refl, refl)
 
 pub branches_inside_a_branch_tell_theirs : rows.Branches_inside_a_branch_tell_theirs
-unfolding literal chars digits meaning malformations_beside cost serde_json_on_literals
+unfolding literal chars digits meaning malformations_at cost serde_json_on_literals
 branches_inside_a_branch_tell_theirs = λ u. (refl, refl, refl)
 
 pub a_negation_shows_its_schema : rows.A_negation_shows_its_schema
-unfolding literal chars digits meaning malformations_beside cost serde_json_on_literals
+unfolding literal chars digits meaning malformations_at cost serde_json_on_literals
 a_negation_shows_its_schema = λ u. (refl, refl, refl)
 
 pub a_double_negation_shows_the_inner_one : rows.A_double_negation_shows_the_inner_one
-unfolding literal chars digits meaning malformations_beside cost serde_json_on_literals
+unfolding literal chars digits meaning malformations_at cost serde_json_on_literals
 a_double_negation_shows_the_inner_one = λ u. (refl, refl, refl)
 
 pub where_the_condition_fails_else_applies : rows.Where_the_condition_fails_else_applies
-unfolding literal chars digits meaning malformations_beside cost serde_json_on_literals
+unfolding literal chars digits meaning malformations_at cost serde_json_on_literals
 where_the_condition_fails_else_applies = λ u. (refl, refl, refl)
 
 pub where_the_condition_holds_then_applies : rows.Where_the_condition_holds_then_applies
-unfolding literal chars digits meaning malformations_beside cost serde_json_on_literals
+unfolding literal chars digits meaning malformations_at cost serde_json_on_literals
 where_the_condition_holds_then_applies = λ u. (refl, refl, refl)
 
 pub then_alone_is_unread : rows.Then_alone_is_unread
-unfolding literal chars digits meaning malformations_beside cost serde_json_on_literals
+unfolding literal chars digits meaning malformations_at cost serde_json_on_literals
 then_alone_is_unread = λ u. (refl, refl, refl)
 
 pub then_alone_builds : rows.Then_alone_builds
-unfolding literal chars digits meaning malformations_beside cost serde_json_on_literals
+unfolding literal chars digits meaning malformations_at cost serde_json_on_literals
 then_alone_builds = refl
 
 pub else_alone_is_unread : rows.Else_alone_is_unread
-unfolding literal chars digits meaning malformations_beside cost serde_json_on_literals
+unfolding literal chars digits meaning malformations_at cost serde_json_on_literals
 else_alone_is_unread = λ u. (refl, refl, refl)
 
 pub each_branch_of_all_of_is_asked : rows.Each_branch_of_all_of_is_asked
-unfolding literal chars digits meaning malformations_beside cost serde_json_on_literals
+unfolding literal chars digits meaning malformations_at cost serde_json_on_literals
 each_branch_of_all_of_is_asked = λ u. (refl, refl, refl)
 
 pub rows_branches : rows.Rows_branches

@@ -3,141 +3,141 @@ use Rattle.std.specs.Fmt.{digits}
 use Rattle.std.specs.Str.{chars}
 use Rattle.olk_spec.specs.Literals.{literal}
 use Rattle.olk_spec.specs.Meaning.{meaning}
-use Rattle.olk_spec.specs.Malformed.{malformations_beside}
+use Rattle.olk_spec.specs.Malformed.{malformations_at}
 use Rattle.olk_spec.specs.Costs.{cost}
 use Rattle.serde_json.proofs.OnLiterals.{serde_json_on_literals}
 use Rattle.olk_spec.specs.Rows_trees as rows
 
 pub two_equal_required_names_are_not_fused : rows.Two_equal_required_names_are_not_fused
-unfolding literal chars digits meaning malformations_beside cost serde_json_on_literals
+unfolding literal chars digits meaning malformations_at cost serde_json_on_literals
 two_equal_required_names_are_not_fused = λ u. refl
 
 pub beside_patterns_two_names_are_not_fused : rows.Beside_patterns_two_names_are_not_fused
-unfolding literal chars digits meaning malformations_beside cost serde_json_on_literals
+unfolding literal chars digits meaning malformations_at cost serde_json_on_literals
 beside_patterns_two_names_are_not_fused = λ u. refl
 
 pub beside_an_additional_schema_one_name_is_not_fused : rows.Beside_an_additional_schema_one_name_is_not_fused
-unfolding literal chars digits meaning malformations_beside cost serde_json_on_literals
+unfolding literal chars digits meaning malformations_at cost serde_json_on_literals
 beside_an_additional_schema_one_name_is_not_fused = λ u. refl
 
 pub in_a_closed_object_two_names_are_not_fused : rows.In_a_closed_object_two_names_are_not_fused
-unfolding literal chars digits meaning malformations_beside cost serde_json_on_literals
+unfolding literal chars digits meaning malformations_at cost serde_json_on_literals
 in_a_closed_object_two_names_are_not_fused = λ u. refl
 
 pub two_fused_names_are_shown_inside : rows.Two_fused_names_are_shown_inside
-unfolding literal chars digits meaning malformations_beside cost serde_json_on_literals
+unfolding literal chars digits meaning malformations_at cost serde_json_on_literals
 two_fused_names_are_shown_inside = λ u. refl
 
 pub one_fused_name_is_shown_inside : rows.One_fused_name_is_shown_inside
-unfolding literal chars digits meaning malformations_beside cost serde_json_on_literals
+unfolding literal chars digits meaning malformations_at cost serde_json_on_literals
 one_fused_name_is_shown_inside = λ u. refl
 
 pub a_declared_name_shows_its_patterns_too : rows.A_declared_name_shows_its_patterns_too
-unfolding literal chars digits meaning malformations_beside cost serde_json_on_literals
+unfolding literal chars digits meaning malformations_at cost serde_json_on_literals
 a_declared_name_shows_its_patterns_too = λ u. refl
 
 pub beside_declared_names_matches_have_no_child : rows.Beside_declared_names_matches_have_no_child
-unfolding literal chars digits meaning malformations_beside cost serde_json_on_literals
+unfolding literal chars digits meaning malformations_at cost serde_json_on_literals
 beside_declared_names_matches_have_no_child = λ u. refl
 
 pub without_a_match_there_is_no_child_of_matches : rows.Without_a_match_there_is_no_child_of_matches
-unfolding literal chars digits meaning malformations_beside cost serde_json_on_literals
+unfolding literal chars digits meaning malformations_at cost serde_json_on_literals
 without_a_match_there_is_no_child_of_matches = λ u. refl
 
 pub the_child_of_matches_goes_member_by_member : rows.The_child_of_matches_goes_member_by_member
-unfolding literal chars digits meaning malformations_beside cost serde_json_on_literals
+unfolding literal chars digits meaning malformations_at cost serde_json_on_literals
 the_child_of_matches_goes_member_by_member = λ u. refl
 
 pub a_matching_name_is_not_additional : rows.A_matching_name_is_not_additional
-unfolding literal chars digits meaning malformations_beside cost serde_json_on_literals
+unfolding literal chars digits meaning malformations_at cost serde_json_on_literals
 a_matching_name_is_not_additional = λ u. refl
 
 pub alone_an_additional_schema_shows_even_no_names : rows.Alone_an_additional_schema_shows_even_no_names
-unfolding literal chars digits meaning malformations_beside cost serde_json_on_literals
+unfolding literal chars digits meaning malformations_at cost serde_json_on_literals
 alone_an_additional_schema_shows_even_no_names = λ u. refl
 
 pub beside_declared_names_no_additional_names_are_not_shown : rows.Beside_declared_names_no_additional_names_are_not_shown
-unfolding literal chars digits meaning malformations_beside cost serde_json_on_literals
+unfolding literal chars digits meaning malformations_at cost serde_json_on_literals
 beside_declared_names_no_additional_names_are_not_shown = λ u. refl
 
 pub of_another_value_no_names_are_shown : rows.Of_another_value_no_names_are_shown
-unfolding literal chars digits meaning malformations_beside cost serde_json_on_literals
+unfolding literal chars digits meaning malformations_at cost serde_json_on_literals
 of_another_value_no_names_are_shown = λ u. refl
 
 pub undeclared_names_are_not_shown : rows.Undeclared_names_are_not_shown
-unfolding literal chars digits meaning malformations_beside cost serde_json_on_literals
+unfolding literal chars digits meaning malformations_at cost serde_json_on_literals
 undeclared_names_are_not_shown = λ u. refl
 
 pub names_are_shown_pattern_by_pattern : rows.Names_are_shown_pattern_by_pattern
-unfolding literal chars digits meaning malformations_beside cost serde_json_on_literals
+unfolding literal chars digits meaning malformations_at cost serde_json_on_literals
 names_are_shown_pattern_by_pattern = λ u. refl
 
 pub a_choice_that_fails_shows_all_branches : rows.A_choice_that_fails_shows_all_branches
-unfolding literal chars digits meaning malformations_beside cost serde_json_on_literals
+unfolding literal chars digits meaning malformations_at cost serde_json_on_literals
 a_choice_that_fails_shows_all_branches = λ u. refl
 
 pub of_no_accepting_branch_all_are_shown : rows.Of_no_accepting_branch_all_are_shown
-unfolding literal chars digits meaning malformations_beside cost serde_json_on_literals
+unfolding literal chars digits meaning malformations_at cost serde_json_on_literals
 of_no_accepting_branch_all_are_shown = λ u. refl
 
 pub of_too_many_branches_the_accepting_are_shown : rows.Of_too_many_branches_the_accepting_are_shown
-unfolding literal chars digits meaning malformations_beside cost serde_json_on_literals
+unfolding literal chars digits meaning malformations_at cost serde_json_on_literals
 of_too_many_branches_the_accepting_are_shown = λ u. refl
 
 pub a_dependent_list_stands_at_its_keyword : rows.A_dependent_list_stands_at_its_keyword
-unfolding literal chars digits meaning malformations_beside cost serde_json_on_literals
+unfolding literal chars digits meaning malformations_at cost serde_json_on_literals
 a_dependent_list_stands_at_its_keyword = λ u. refl
 
 pub a_missing_dependent_name_stands_at_its_keyword : rows.A_missing_dependent_name_stands_at_its_keyword
-unfolding literal chars digits meaning malformations_beside cost serde_json_on_literals
+unfolding literal chars digits meaning malformations_at cost serde_json_on_literals
 a_missing_dependent_name_stands_at_its_keyword = λ u. refl
 
 pub a_list_of_a_dependency_stands_at_its_keyword : rows.A_list_of_a_dependency_stands_at_its_keyword
-unfolding literal chars digits meaning malformations_beside cost serde_json_on_literals
+unfolding literal chars digits meaning malformations_at cost serde_json_on_literals
 a_list_of_a_dependency_stands_at_its_keyword = λ u. refl
 
 pub the_tree_of_a_name_stands_at_the_object : rows.The_tree_of_a_name_stands_at_the_object
-unfolding literal chars digits meaning malformations_beside cost serde_json_on_literals
+unfolding literal chars digits meaning malformations_at cost serde_json_on_literals
 the_tree_of_a_name_stands_at_the_object = λ u. refl
 
 pub the_error_of_a_name_stands_at_the_object : rows.The_error_of_a_name_stands_at_the_object
-unfolding literal chars digits meaning malformations_beside cost serde_json_on_literals
+unfolding literal chars digits meaning malformations_at cost serde_json_on_literals
 the_error_of_a_name_stands_at_the_object = λ u. refl
 
 pub true_for_names_is_not_shown : rows.True_for_names_is_not_shown
-unfolding literal chars digits meaning malformations_beside cost serde_json_on_literals
+unfolding literal chars digits meaning malformations_at cost serde_json_on_literals
 true_for_names_is_not_shown = λ u. refl
 
 pub a_condition_that_refuses_is_not_shown : rows.A_condition_that_refuses_is_not_shown
-unfolding literal chars digits meaning malformations_beside cost serde_json_on_literals
+unfolding literal chars digits meaning malformations_at cost serde_json_on_literals
 a_condition_that_refuses_is_not_shown = λ u. refl
 
 pub else_alone_is_not_shown : rows.Else_alone_is_not_shown
-unfolding literal chars digits meaning malformations_beside cost serde_json_on_literals
+unfolding literal chars digits meaning malformations_at cost serde_json_on_literals
 else_alone_is_not_shown = λ u. refl
 
 pub an_invalid_node_shows_no_names : rows.An_invalid_node_shows_no_names
-unfolding literal chars digits meaning malformations_beside cost serde_json_on_literals
+unfolding literal chars digits meaning malformations_at cost serde_json_on_literals
 an_invalid_node_shows_no_names = λ u. refl
 
 pub the_error_of_a_leaf_has_its_keyword : rows.The_error_of_a_leaf_has_its_keyword
-unfolding literal chars digits meaning malformations_beside cost serde_json_on_literals
+unfolding literal chars digits meaning malformations_at cost serde_json_on_literals
 the_error_of_a_leaf_has_its_keyword = λ u. refl
 
 pub the_error_of_a_negation_has_its_keyword : rows.The_error_of_a_negation_has_its_keyword
-unfolding literal chars digits meaning malformations_beside cost serde_json_on_literals
+unfolding literal chars digits meaning malformations_at cost serde_json_on_literals
 the_error_of_a_negation_has_its_keyword = λ u. refl
 
 pub the_error_of_unexpected_names_has_their_keyword : rows.The_error_of_unexpected_names_has_their_keyword
-unfolding literal chars digits meaning malformations_beside cost serde_json_on_literals
+unfolding literal chars digits meaning malformations_at cost serde_json_on_literals
 the_error_of_unexpected_names_has_their_keyword = λ u. refl
 
 pub a_negation_of_a_fraction_promises_no_text : rows.A_negation_of_a_fraction_promises_no_text
-unfolding literal chars digits meaning malformations_beside cost serde_json_on_literals
+unfolding literal chars digits meaning malformations_at cost serde_json_on_literals
 a_negation_of_a_fraction_promises_no_text = λ u. refl
 
 pub a_false_schema_over_a_fraction_promises_no_text : rows.A_false_schema_over_a_fraction_promises_no_text
-unfolding literal chars digits meaning malformations_beside cost serde_json_on_literals
+unfolding literal chars digits meaning malformations_at cost serde_json_on_literals
 a_false_schema_over_a_fraction_promises_no_text = λ u. refl
 
 pub rows_trees : rows.Rows_trees

@@ -16,7 +16,7 @@ use Rattle.olk_spec.specs.Texts.{kind_text}
 use Rattle.olk_spec.specs.Reports.{cut}
 use Rattle.olk_spec.specs.Tree.{Tree, node, leaf_node, Trees, no_tree, and_tree, Described, annotations, errors, is_valid}
 use Rattle.olk_spec.specs.Meaning.{accepts, report, asks, tree}
-use Rattle.olk_spec.specs.Malformed.{malformations_beside}
+use Rattle.olk_spec.specs.Malformed.{malformations_at}
 use Rattle.olk_spec.specs.Costs.{places, leaf_places, pattern_places, table_asks}
 
 -- ---- texts in byte order
@@ -117,9 +117,9 @@ abbrev pub Costs : Quoted → ℕ → ℕ → ℕ → ℕ → Type 0
 Costs S compiled leaves made asked =
     (places bench (json S) ≡ compiled) × (leaf_places bench (json S) ≡ leaves) × (pattern_places bench (json S) ≡ made) × (table_asks bench (json S) ≡ asked)
 
--- all malformations of a schema, over all keywords that are defined
+-- all malformations of a schema
 abbrev pub refusals : Data → List Text
-refusals S = lines (malformations_beside bench [] S [])
+refusals S = lines (malformations_at bench S [])
 
 abbrev pub Is_refused : Quoted → List Quoted → Type 0
 Is_refused S ls = refusals (json S) ≡ map codes ls

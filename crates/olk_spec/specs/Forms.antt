@@ -9,7 +9,7 @@ use Rattle.olk_spec.specs.World.{Says}
 use Rattle.olk_spec.specs.Bench.{bench}
 use Rattle.olk_spec.specs.Literals.{is_ecma_whitespace}
 use Rattle.olk_spec.specs.Meanings.{pattern_says}
-use Rattle.olk_spec.specs.Malformed.{malformations_beside}
+use Rattle.olk_spec.specs.Malformed.{malformations_at}
 use Rattle.olk_spec.specs.Faults.{Fault, fault, Kind, AdditionalProperties, AnyOf, OneOfNotValid, OneOfMultipleValid, Not, Required, FalseSchema, PropertyNames, Leaf, SingleType, MultipleTypes, UniqueItems, Regex, Unsupported, LeafRefused}
 use Rattle.olk_spec.specs.Tree.{Tree, node, leaf_node, Trees, no_tree, and_tree, Described, is_valid}
 use Rattle.olk_spec.specs.Answers.{path_text, sorted, found, tree_of}
@@ -67,7 +67,7 @@ abbrev pub Tells : Quoted → Quoted → List Quoted → Type 0
 Tells S v ls = (u : Bool) → sorted (map told (found u (json S) (json v))) ≡ map codes ls
 
 abbrev pub Is_refused_as : Quoted → List Quoted → Type 0
-Is_refused_as S ls = sorted (map told (malformations_beside bench [] (json S) [])) ≡ map codes ls
+Is_refused_as S ls = sorted (map told (malformations_at bench (json S) [])) ≡ map codes ls
 
 -- ---- what the bench's matcher says of a name, and what the pattern says, which may have a test of its own
 

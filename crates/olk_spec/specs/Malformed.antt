@@ -10,10 +10,6 @@ use Rattle.olk_spec.specs.Meanings.{is_conditional}
 use Rattle.olk_spec.specs.Asks.{open_patterns}
 use Rattle.olk_spec.specs.Faults.{Fault, fault, Kind, SingleType, MultipleTypes, UniqueItems, Regex, Unsupported, LeafRefused, array_type, object_type, string_type}
 
--- the keywords that are defined here and not compiled yet
-abbrev pub pending : List Name
-pending = codes "additionalProperties" ∷ []
-
 -- ---- the places that a keyword reads, each with its path below the schema object
 
 module _ {X : Type 0} (k : Name) where
@@ -113,22 +109,18 @@ module _ (W : World) where
     own_refusals leaf = unless_kind (W.fits k p.whole.schema) (LeafRefused k) p.whole.schema P
     own_refusals _ = []
 
-  -- the names in `refused` are refused whatever their value
-  module _ (refused : List Name) where
-    -- at the keyword itself, and at the places that it reads; P is the path of the schema object
-    abbrev pub keyword_malformations : Keywords (Path → List Fault) → Name → Part (Path → List Fault) → Path → Keyword → List Fault
-    keyword_malformations S k p P w =
-        put_if (is_among k refused) (refusal (Unsupported k) p.whole.schema (P // k)) []
-        ++ own_refusals k p (P // k) w
-        ++ flat_map (λ r. r.0.answer (down P r.1)) (read_places k S p w)
+  -- at the keyword itself, and at the places that it reads; P is the path of the schema object
+  abbrev pub keyword_malformations : Keywords (Path → List Fault) → Name → Part (Path → List Fault) → Path → Keyword → List Fault
+  keyword_malformations S k p P w = own_refusals k p (P // k) w ++ flat_map (λ r. r.0.answer (down P r.1)) (read_places k S p w)
 
-    abbrev pub malformations_step : Schema (Path → List Fault) → Path → List Fault
-    malformations_step (truth b) P = []
-    malformations_step (no_schema d) P = refusal MultipleTypes d P ∷ []
-    malformations_step (keywords S) P = flat_map (λ m. keyword_malformations S m.0 m.1 P (keyword_named W m.0)) S
+  abbrev pub malformations_step : Schema (Path → List Fault) → Path → List Fault
+  malformations_step (truth b) P = []
+  malformations_step (no_schema d) P = refusal MultipleTypes d P ∷ []
+  malformations_step (keywords S) P = flat_map (λ m. keyword_malformations S m.0 m.1 P (keyword_named W m.0)) S
 
-    unfoldable pub malformations_beside : Data → Path → List Fault
-    malformations_beside = answer_for malformations_step
+  -- of a schema that stands at a path
+  unfoldable pub malformations_at : Data → Path → List Fault
+  malformations_at = answer_for malformations_step
 
   abbrev pub malformations : Data → List Fault
-  malformations S = malformations_beside pending S []
+  malformations S = malformations_at S []

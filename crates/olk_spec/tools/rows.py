@@ -169,14 +169,14 @@ class Group:
         with open(f"specs/{self.module}.antt", "w") as out:
             out.write(head + body)
 
-        opened = "unfolding literal chars digits meaning malformations_beside cost serde_json_on_literals"
+        opened = "unfolding literal chars digits meaning malformations_at cost serde_json_on_literals"
         proof = (
             "use Rattle.std.proofs.Common.{refl}\n"
             "use Rattle.std.specs.Fmt.{digits}\n"
             "use Rattle.std.specs.Str.{chars}\n"
             "use Rattle.olk_spec.specs.Literals.{literal}\n"
             "use Rattle.olk_spec.specs.Meaning.{meaning}\n"
-            "use Rattle.olk_spec.specs.Malformed.{malformations_beside}\n"
+            "use Rattle.olk_spec.specs.Malformed.{malformations_at}\n"
             "use Rattle.olk_spec.specs.Costs.{cost}\n"
             "use Rattle.serde_json.proofs.OnLiterals.{serde_json_on_literals}\n"
             f"use Rattle.olk_spec.specs.{self.module} as rows\n"

@@ -146,8 +146,8 @@ fn counts_of_a_refused_build(rt: HostRuntime) -> Result<(), Fail> {
     Ok(())
 }
 
-// How many leaves and engines are made for a schema, whether it is built or refused.
-fn made(alloc: Global, schema: &Value, meter: &mut Meter) -> Result<(u64, u64), Fail> {
+// How many leaves and engines are made for a schema, and how often the engines are asked, whether it is built or refused.
+fn made(alloc: Global, schema: &Value, meter: &mut Meter) -> Result<(u64, u64, u64), Fail> {
     let (leaves, engines, asked) = (Cell::new(0), Cell::new(0), Cell::new(0));
     let texts = Counting {
         maker: BenchLeaves,
@@ -164,7 +164,7 @@ fn made(alloc: Global, schema: &Value, meter: &mut Meter) -> Result<(u64, u64), 
     ) {
         return Err(Fail::from(error));
     }
-    Ok((leaves.get(), engines.get()))
+    Ok((leaves.get(), engines.get(), asked.get()))
 }
 
 // A schema, and what building counts.
@@ -201,7 +201,7 @@ fn expect_made(rt: &impl Abort, alloc: Global, row: &str) -> Result<(), Fail> {
     let [places, leaves, engines, asked, unfinished] = counts(&meter);
     let found = format!(in alloc; "{places} places, {leaves} leaves")?;
     assert_eq!(rt; found.as_str(), counted, "{text}");
-    assert_eq!(rt; made, (leaves, engines), "{text}");
+    assert_eq!(rt; made, (leaves, engines, asked), "{text}");
     assert_eq!(rt; (engines, asked, unfinished), (0, 0, 0), "{text}");
     Ok(())
 }
@@ -232,7 +232,7 @@ fn expect_patterns_made(rt: &impl Abort, alloc: Global, row: &str) -> Result<(),
     let [places, leaves, engines, asked, unfinished] = counts(&meter);
     let found = format!(in alloc; "{places} places, {leaves} leaves, {engines} engines")?;
     assert_eq!(rt; found.as_str(), counted, "{text}");
-    assert_eq!(rt; made, (leaves, engines), "{text}");
+    assert_eq!(rt; made, (leaves, engines, asked), "{text}");
     assert_eq!(rt; (asked, unfinished), (0, 0), "{text}");
     Ok(())
 }
@@ -250,8 +250,87 @@ fn an_engine_that_is_refused(rt: HostRuntime) -> Result<(), Fail> {
     let alloc = rt.alloc();
     let schema = Value::from_str(alloc, r#"{"patternProperties":{"^a":{},"a(":{}}}"#)?;
     let mut meter = Meter::new();
-    assert_eq!(rt; made(alloc, &schema, &mut meter)?, (0, 1));
+    assert_eq!(rt; made(alloc, &schema, &mut meter)?, (0, 1, 0));
     assert_eq!(rt; (meter.leaves(), meter.made(), meter.asked()), (0, 1, 0));
+    Ok(())
+}
+
+// A schema, and what building counts where patterns are asked of declared names.
+const TABLES_MADE: &str =
+    r#"{"additionalProperties":false,"properties":{"a":{},"b":{}},"patternProperties":{"x":{},"y$":{},"^z":{}}} | 6 places, 0 leaves, 1 engines, 2 asks
+{"additionalProperties":false,"properties":{"ax":{}},"patternProperties":{"(slow)x":{"type":"integer"}}} | 3 places, 1 leaves, 1 engines, 1 asks
+{"additionalProperties":false,"properties":{"a":{},"bspam":{}},"patternProperties":{"spam$":{}}} | 4 places, 0 leaves, 0 engines, 0 asks
+{"additionalProperties":false,"properties":{"a":{},"b":{}},"patternProperties":{"x":{},"y":{}},"required":["a"]} | 5 places, 0 leaves, 2 engines, 4 asks
+{"additionalProperties":{"type":"null"},"properties":{"a":{}},"patternProperties":{"x":{}}} | 4 places, 1 leaves, 1 engines, 1 asks
+{"additionalProperties":{"additionalProperties":false,"properties":{"a":{}},"patternProperties":{"x":{}}},"properties":{"b":{}},"patternProperties":{"x":{},"y":{}}} | 7 places, 0 leaves, 3 engines, 3 asks
+{"additionalProperties":{},"patternProperties":{"x":{},"y":{}}} | 4 places, 0 leaves, 2 engines, 0 asks
+{"additionalProperties":false,"properties":{},"patternProperties":{"x":{}}} | 2 places, 0 leaves, 1 engines, 0 asks
+{"additionalProperties":true,"properties":{"a":{}},"patternProperties":{"x":{}}} | 3 places, 0 leaves, 1 engines, 0 asks
+{"additionalProperties":true,"patternProperties":{"^x":{"type":"integer"}}} | 2 places, 1 leaves, 0 engines, 0 asks
+{"additionalProperties":false,"properties":{"a":{"type":"null"}},"required":["a"]} | 2 places, 1 leaves, 0 engines, 0 asks
+{"additionalProperties":{"type":"null"}} | 2 places, 1 leaves, 0 engines, 0 asks
+{"additionalProperties":false} | 1 places, 0 leaves, 0 engines, 0 asks
+{"additionalProperties":5,"properties":{"a":{}}} | 1 places, 0 leaves, 0 engines, 0 asks"#;
+
+fn expect_tables_made(rt: &impl Abort, alloc: Global, row: &str) -> Result<(), Fail> {
+    let (text, counted) = row.split_once(" | ").ok_or("a row of one cell")?;
+    let schema = Value::from_str(alloc, text)?;
+    let mut meter = Meter::new();
+    let made = made(alloc, &schema, &mut meter)?;
+    let [places, leaves, engines, asks, unfinished] = counts(&meter);
+    let found = format!(in alloc;
+        "{places} places, {leaves} leaves, {engines} engines, {asks} asks"
+    )?;
+    assert_eq!(rt; found.as_str(), counted, "{text}");
+    assert_eq!(rt; (made, unfinished), ((leaves, engines, asks), 0), "{text}");
+    Ok(())
+}
+
+#[test]
+fn each_engine_is_asked_once_of_each_declared_name(rt: HostRuntime) -> Result<(), Fail> {
+    for row in TABLES_MADE.lines() {
+        expect_tables_made(&rt, rt.alloc(), row)?;
+    }
+    Ok(())
+}
+
+// ---- more patterns than the bits of a word
+
+// A closed object that declares `m64`, with the patterns `m00` to `m63` and with more.
+fn many_patterns(alloc: Global, more: &str) -> Result<Value, Fail> {
+    let mut text = String::from_str(
+        alloc,
+        r#"{"additionalProperties":false,"properties":{"m64":{}},"patternProperties":{"#,
+    )?;
+    for index in 0..64 {
+        text.push_str(format!(in alloc; "\"m{index:02}\":{{}},")?.as_str())?;
+    }
+    text.push_str(more)?;
+    text.push_str("}}")?;
+    Ok(Value::from_str(alloc, text.as_str())?)
+}
+
+// How many places, leaves and engines a build counts and how often it asks, and how many it makes and how often these say
+// that they are asked.
+fn counts_of_tables(alloc: Global, more: &str) -> Result<([u64; 5], (u64, u64, u64)), Fail> {
+    let schema = many_patterns(alloc, more)?;
+    let mut meter = Meter::new();
+    let made = made(alloc, &schema, &mut meter)?;
+    Ok((counts(&meter), made))
+}
+
+const LAST: &str = r#""m64":{}"#;
+
+const LAST_AND_SLOW: &str = r#""m64":{},"(slow)m64":false"#;
+
+#[test]
+fn a_table_of_65_patterns(rt: HostRuntime) -> Result<(), Fail> {
+    let (counted, made) = counts_of_tables(rt.alloc(), LAST)?;
+    assert_eq!(rt; counted, [67, 0, 65, 65, 0]);
+    assert_eq!(rt; made, (0, 65, 65));
+    let (counted, made) = counts_of_tables(rt.alloc(), LAST_AND_SLOW)?;
+    assert_eq!(rt; counted, [68, 0, 66, 66, 0]);
+    assert_eq!(rt; made, (0, 66, 66));
     Ok(())
 }
 
@@ -359,7 +438,15 @@ const ASKED: &str = r#"{"dependentSchemas":{"a":{"minLength":1}}} | {"b":1} | 0
 {"propertyNames":{"minLength":2}} | ["c"] | 0
 {"propertyDependencies":{"k":{"a":{"minLength":1},"b":{"minLength":1}},"l":{"a":{"minLength":1}}}} | {"k":"a","l":"c"} | 1
 {"propertyDependencies":{"k":{"a":{"minLength":1}},"l":{"b":{"minLength":1}}}} | {"k":"a","l":"b"} | 2
-{"propertyDependencies":{"k":{"a":{"minLength":1}}}} | {"k":1} | 0"#;
+{"propertyDependencies":{"k":{"a":{"minLength":1}}}} | {"k":1} | 0
+{"additionalProperties":{"minLength":1},"properties":{"a":{}}} | {"a":"x","b":"y","c":"z"} | 2
+{"additionalProperties":{"minLength":1},"patternProperties":{"^a":{"minLength":1},"b$":{"minLength":1}}} | {"ab":"x"} | 2
+{"additionalProperties":false,"properties":{"a":{"minLength":1},"id":{}},"required":["id"]} | {"a":"x","id":1,"z":1} | 1
+{"additionalProperties":false,"properties":{"a":{"minLength":1},"id":{}},"required":["id"]} | {"a":[],"id":1,"z":1} | 0
+{"additionalProperties":false,"properties":{"a":{"minLength":1},"id":{}},"required":["id"]} | {"a":[],"id":1} | 1
+{"additionalProperties":false,"properties":{"a":{},"b":{},"c":{},"d":{"minLength":1},"id":{}},"required":["id"]} | {"a":[],"b":{},"c":[],"d":{},"id":1,"z":1} | 0
+{"additionalProperties":false,"properties":{"a":{},"b":{},"c":{},"d":{},"e":{"minLength":1},"id":{}},"required":["id"]} | {"a":[],"b":{},"c":[],"d":{},"e":[],"id":1,"z":1} | 1
+{"additionalProperties":false,"properties":{"a":{"minLength":1}}} | {"a":[],"z":1} | 1"#;
 
 fn expect_asked(rt: &impl Abort, alloc: Global, row: &str) -> Result<(), Fail> {
     let (schema, others) = row.split_once(" | ").ok_or("a row of one cell")?;
@@ -471,6 +558,8 @@ fn told_by(
 ) -> Result<Told, Fail> {
     let (made, asked) = (Cell::new(0), Cell::new(0));
     let validator = counting(alloc, schema, &made, &asked)?;
+    // what building asked is another matter
+    asked.set(0);
     let mut ctx = ValidationContext::new(answer);
     let accepted = accepts_by(way, &validator, alloc, instance, &mut ctx)?;
     let [places, leaves, engines, asks, unfinished] = counts(ctx.meter());
@@ -545,7 +634,35 @@ const ENGINES: &str =
 {"patternProperties":{"(slow)x":{"type":"integer"}}} | {"ax":1,"x":2} | accepted | 2 unfinished
 {"patternProperties":{"(slow)x":true,"(slow)y":{"type":"integer"},"^x":{}}} | {"xy":"t"} | accepted or refused | 2 unfinished
 {"not":{"patternProperties":{"(slow)x":false}}} | {"x":1} | refused or accepted | 1 unfinished
-{"patternProperties":{"(slow)x":false}} | {"a":1} | accepted | 1 finished"#;
+{"patternProperties":{"(slow)x":false}} | {"a":1} | accepted | 1 finished
+{"additionalProperties":false,"properties":{"a":{},"b":{}},"patternProperties":{"x":{},"y$":{},"^z":{}}} | {"c":1} | refused | 1 finished
+{"additionalProperties":false,"properties":{"a":{},"b":{}},"patternProperties":{"x":{},"y$":{},"^z":{}}} | {"a":1,"b":2,"by":3} | accepted | 1 finished
+{"additionalProperties":false,"properties":{"a":{},"bspam":{}},"patternProperties":{"spam$":{}}} | {"a":1,"xspam":1} | accepted | 0 finished
+{"additionalProperties":false,"properties":{"a":{},"bspam":{}},"patternProperties":{"spam":{"minimum":2}}} | {"a":1,"bspam":2} | accepted | 0 finished
+{"additionalProperties":false,"properties":{"a":{},"bspam":{}},"patternProperties":{"spam":{"minimum":2}}} | {"a":1,"bspam":1} | refused | 0 finished
+{"additionalProperties":false,"properties":{"a":{},"bspam":{}},"patternProperties":{"spam":{}}} | {"a":1,"xspam":1} | accepted | 1 finished
+{"additionalProperties":false,"properties":{"ax":{}},"patternProperties":{"(slow)x":{"type":"integer"}}} | {"ax":"t"} | accepted or refused | 1 unfinished
+{"additionalProperties":false,"patternProperties":{"(slow)x":{}}} | {"ax":1} | refused or accepted | 1 unfinished
+{"additionalProperties":{"type":"integer"},"patternProperties":{"x":{},"y":{}}} | {"a":1,"b":2} | accepted | 4 finished
+{"additionalProperties":true,"properties":{"a":{}},"patternProperties":{"x":{}}} | {"a":1,"b":2} | accepted | 2 finished"#;
+
+// Both answers, in all four ways.
+fn expect_ways(
+    rt: &impl Abort,
+    alloc: Global,
+    row: &str,
+    schema: &Value,
+    instance: &Value,
+    wanted: &Wanted,
+) -> Result<(), Fail> {
+    for way in WAYS {
+        let told = told_by(way, alloc, schema, instance, false)?;
+        expect_asks_of(rt, row, way, &told, wanted, wanted.accepted.0);
+        let told = told_by(way, alloc, schema, instance, true)?;
+        expect_asks_of(rt, row, way, &told, wanted, wanted.accepted.1);
+    }
+    Ok(())
+}
 
 fn expect_engines(rt: &impl Abort, alloc: Global, row: &str) -> Result<(), Fail> {
     let (schema, others) = row.split_once(" | ").ok_or("a row of one cell")?;
@@ -554,13 +671,7 @@ fn expect_engines(rt: &impl Abort, alloc: Global, row: &str) -> Result<(), Fail>
     let schema = Value::from_str(alloc, schema)?;
     let instance = Value::from_str(alloc, instance)?;
     let wanted = read_wanted(verdicts, asks)?;
-    for way in WAYS {
-        let told = told_by(way, alloc, &schema, &instance, false)?;
-        expect_asks_of(rt, row, way, &told, &wanted, wanted.accepted.0);
-        let told = told_by(way, alloc, &schema, &instance, true)?;
-        expect_asks_of(rt, row, way, &told, &wanted, wanted.accepted.1);
-    }
-    Ok(())
+    expect_ways(rt, alloc, row, &schema, &instance, &wanted)
 }
 
 #[test]
@@ -568,5 +679,33 @@ fn an_engine_is_asked_as_often_as_is_counted(rt: HostRuntime) -> Result<(), Fail
     for row in ENGINES.lines() {
         expect_engines(&rt, rt.alloc(), row)?;
     }
+    Ok(())
+}
+
+// A declared name asks no pattern whose match was finished in building, and any other again.
+#[test]
+fn many_patterns_at_a_declared_name(rt: HostRuntime) -> Result<(), Fail> {
+    let alloc = rt.alloc();
+    let instance = Value::from_str(alloc, r#"{"m64":1}"#)?;
+    for (more, verdicts, asks) in [
+        (LAST, "accepted", "0 finished"),
+        (LAST_AND_SLOW, "accepted or refused", "1 unfinished"),
+    ] {
+        let schema = many_patterns(alloc, more)?;
+        let wanted = read_wanted(verdicts, asks)?;
+        expect_ways(&rt, alloc, more, &schema, &instance, &wanted)?;
+    }
+    Ok(())
+}
+
+// A branch that accepts spares the others, and what they would ask.
+#[test]
+fn a_branch_that_is_spared(rt: HostRuntime) -> Result<(), Fail> {
+    let alloc = rt.alloc();
+    let schema = Value::from_str(alloc, r#"{"anyOf":[true,{"patternProperties":{"x":{}}}]}"#)?;
+    let instance = Value::from_str(alloc, r#"{"x":1}"#)?;
+    let told = told_by("is_valid", alloc, &schema, &instance, false)?;
+    assert_eq!(rt; told.accepted, true);
+    assert_eq!(rt; told.asked, (0, 0));
     Ok(())
 }

@@ -10,9 +10,9 @@ use std::alloc::{AllocError, Global};
 use std::process::Abort;
 use std::test::Fail;
 
-type BenchValidator = Validator<BenchLeaf, BenchRegex>;
+pub(crate) type BenchValidator = Validator<BenchLeaf, BenchRegex>;
 
-fn built(alloc: Global, schema: &Value) -> Result<BenchValidator, Fail> {
+pub(crate) fn built(alloc: Global, schema: &Value) -> Result<BenchValidator, Fail> {
     let mut meter = Meter::new();
     match Validator::build(alloc, &BenchLeaves, &BenchRegexes, schema, &mut meter) {
         Ok(validator) => Ok(validator),
@@ -22,17 +22,14 @@ fn built(alloc: Global, schema: &Value) -> Result<BenchValidator, Fail> {
 }
 
 // An error as a line: its text, its instance path and its schema path.
-pub(crate) fn line(alloc: Global, error: &ValidationError<'_>) -> Result<String, AllocError> {
+fn line(alloc: Global, error: &ValidationError<'_>) -> Result<String, AllocError> {
     let message = error.message(alloc)?;
     let (instance, schema) = (error.instance_path(), error.schema_path());
     format!(in alloc; "{message} @ \"{instance}\", {schema}")
 }
 
 // The lines of errors in the order of their texts.
-pub(crate) fn sorted(
-    alloc: Global,
-    errors: &[ValidationError<'_>],
-) -> Result<Vec<String>, AllocError> {
+fn sorted(alloc: Global, errors: &[ValidationError<'_>]) -> Result<Vec<String>, AllocError> {
     let mut lines = Vec::new(alloc);
     for error in errors {
         lines.push(line(alloc, error)?)?;
@@ -73,7 +70,7 @@ fn with_branches(alloc: Global, error: &ValidationError<'_>) -> Result<String, A
 }
 
 // What an error speaks of.
-fn push_instance(
+pub(crate) fn push_instance(
     alloc: Global,
     text: &mut String,
     error: &ValidationError<'_>,
@@ -109,7 +106,7 @@ fn with_context(alloc: Global, error: &ValidationError<'_>) -> Result<String, Al
     Ok(text)
 }
 
-fn collect<'a>(
+pub(crate) fn collect<'a>(
     validator: &'a BenchValidator,
     alloc: Global,
     instance: &'a Value,
@@ -381,7 +378,7 @@ fn members_that_patterns_match(rt: HostRuntime) -> Result<(), Fail> {
     Ok(())
 }
 
-pub(crate) fn joined(alloc: Global, lines: &[String]) -> Result<String, AllocError> {
+fn joined(alloc: Global, lines: &[String]) -> Result<String, AllocError> {
     let mut text = String::new(alloc);
     for line in lines {
         if !text.is_empty() {
@@ -603,7 +600,7 @@ fn push_node(text: &mut String, node: &EvaluationNode<'_>) -> Result<(), AllocEr
 
 // A node and those below it, in parentheses, down to the keywords of the schemas that a keyword asks, and `..` for what is
 // deeper.
-pub(crate) fn push_tree(text: &mut String, keyword: &EvaluationNode<'_>) -> Result<(), AllocError> {
+fn push_tree(text: &mut String, keyword: &EvaluationNode<'_>) -> Result<(), AllocError> {
     push_node(text, keyword)?;
     for place in keyword.children() {
         text.push_str(" (")?;
@@ -668,7 +665,7 @@ no pattern | {"patternProperties":{}} | {"a":1} | /patternProperties@ [];
 no object for patterns | {"allOf":[{"patternProperties":{"a":false}}],"patternProperties":{"a":false,"b":false}} | ["a"] | /allOf@ (/allOf/0@ (/allOf/0/patternProperties@));/patternProperties@;
 declared and required names beside patterns | {"patternProperties":{"^a":true},"properties":{"a":true,"b":true},"required":["a","b"]} | {"a":1} | /patternProperties@ [a,] (/patternProperties/^a@/a);/properties@ [a,] (/properties/a@/a);/required@! required: "b" is a required property;"##;
 
-fn expect_tree(rt: &impl Abort, alloc: Global, row: &str) -> Result<(), Fail> {
+pub(crate) fn expect_tree(rt: &impl Abort, alloc: Global, row: &str) -> Result<(), Fail> {
     let (name, others) = row.split_once(" | ").ok_or("a row of one cell")?;
     let (schema, others) = others.split_once(" | ").ok_or("a row of two cells")?;
     let (instance, tree) = others.split_once(" | ").ok_or("a row of three cells")?;
@@ -687,7 +684,9 @@ fn trees_of_evaluations(rt: HostRuntime) -> Result<(), Fail> {
 
 const MANY_FAULTS: &str = concat!(
     r#"{"allOf":[{"required":["a","b"]},{"properties":{"c":{"type":"string"}}},"#,
-    r#"{"patternProperties":{"c":{"minimum":7},"^c":false}},{"patternProperties":{"^d":{"type":"null"}}}],"#,
+    r#"{"patternProperties":{"c":{"minimum":7},"^c":false}},{"patternProperties":{"^d":{"type":"null"}}},"#,
+    r#"{"additionalProperties":false,"patternProperties":{"c":{"minimum":7}},"properties":{"d":{"type":"string"}}},"#,
+    r#"{"additionalProperties":false,"properties":{"c":{}},"required":["z"]},{"additionalProperties":{"type":"null"}}],"#,
     r#""anyOf":[{"required":["a"]},{"properties":{"c":false}}],"not":{"required":["c"]},"#,
     r#""dependencies":{"c":["e"],"d":{"required":["e"]}},"dependentRequired":{"c":["d","e"]},"#,
     r#""dependentSchemas":{"d":{"required":["e"]}},"propertyDependencies":{"k":{"t":{"required":["e"]}}},"#,
@@ -766,11 +765,11 @@ fn full_answers_after_a_refused_growth(rt: HostRuntime) -> Result<(), Fail> {
     let schema = Value::from_str(alloc, MANY_FAULTS)?;
     let instance = Value::from_str(alloc, r#"{"c":1,"d":2,"k":"t"}"#)?;
     let validator = built(alloc, &schema)?;
-    assert_eq!(rt; two_counts_at_last(&validator, alloc, &instance)?, (17, 34));
+    assert_eq!(rt; two_counts_at_last(&validator, alloc, &instance)?, (25, 50));
     assert_eq!(rt;
         first_line_at_last(&validator, alloc, &instance)?.as_str(),
         r#""a" is a required property @ "", /allOf/0/required of {"c":1,"d":2,"k":"t"}"#
     );
-    assert_eq!(rt; evaluated_errors_at_last(&validator, alloc, &instance)?, 18);
+    assert_eq!(rt; evaluated_errors_at_last(&validator, alloc, &instance)?, 26);
     Ok(())
 }

@@ -1,12 +1,13 @@
 //! Building from schemas, and looking up names, with a leaf set and a matcher.
 use olk_base::{CompiledPattern, Meter};
 use olk_build::{
-    Context, all_of, any_of, compile, dependencies, if_, not, pattern_properties, properties,
-    property_dependencies, property_names, required,
+    Context, additional_properties, all_of, any_of, compile, dependencies, if_, not,
+    pattern_properties, properties, property_dependencies, property_names, required,
 };
 use olk_low_tests::doubles::{EqualTo, Equality, NoText, NoTexts};
 use olk_node::{Keyword, SchemaNode};
 use olk_reports::{BuildError, ValidationError};
+use olk_tree::additional_properties::AdditionalProperties;
 use olk_tree::pattern_properties::{PatternProperties, SingleValuePatternProperties};
 use olk_tree::{BigMap, Body, KeywordOver, PropertiesValidatorsMap, SmallMap, SortedNames};
 use serde_json::{Map, Value};
@@ -87,6 +88,11 @@ fn schemas_that_are_built(rt: HostRuntime) -> Result<(), Fail> {
             3,
             1,
         ),
+        (
+            r#"{"additionalProperties":{"text":false},"patternProperties":{"^a":{}},"properties":{"b":true},"required":["b"]}"#,
+            4,
+            1,
+        ),
     ] {
         expect_built(&rt, rt.alloc(), text, places, leaves)?;
     }
@@ -122,7 +128,11 @@ const REFUSED: &str = r##"7 | . | 7 is not of types "boolean", "object"
 {"required":true} | ./required | true is not of type "array"
 {"properties":{"a":{"$ref":"#"}}} | ./properties/a/$ref | "$ref" is not supported here
 {"oneOf":{}} | ./oneOf | {} is not of type "array"
-{"additionalProperties":{}} | ./additionalProperties | "additionalProperties" is not supported here
+{"additionalProperties":5,"properties":{"a":5}} | ./additionalProperties | 5 is not of types "boolean", "object"
+{"additionalProperties":{"text":true},"properties":{}} | ./additionalProperties/text | true is not a value for "text"
+{"additionalProperties":false,"properties":5} | ./properties | 5 is not of type "object"
+{"additionalProperties":{},"patternProperties":{"(":{}},"properties":{"a":{}}} | ./patternProperties/( | "(" is not a "regex"
+{"additionalProperties":false,"properties":{"a":{}},"required":[5]} | ./required | 5 is not of type "string"
 {"patternProperties":5} | ./patternProperties | 5 is not of type "object"
 {"patternProperties":{"(":{}}} | ./patternProperties/( | "(" is not a "regex"
 {"patternProperties":{"^a/~":5}} | ./patternProperties/^a~1~0 | 5 is not of types "boolean", "object"
@@ -686,6 +696,97 @@ fn expect_patterns(rt: &impl Abort, alloc: Global, row: &str) -> Result<(), Fail
 fn keywords_of_patterns(rt: HostRuntime) -> Result<(), Fail> {
     for row in PATTERNS.lines() {
         expect_patterns(&rt, rt.alloc(), row)?;
+    }
+    Ok(())
+}
+
+// ---- additional properties
+
+type Restriction = AdditionalProperties<EqualTo, PlainNode>;
+
+// What is declared, and each pattern with its node.
+fn push_neighbours(text: &mut String, keyword: &Restriction) -> Result<(), AllocError> {
+    if let Some(properties) = &keyword.properties {
+        push_nodes(text, properties)?;
+    }
+    if let Some(patterns) = &keyword.patterns {
+        text.push_str(" at ")?;
+        text.push_str(keyword.patterns_location.as_str())?;
+        for entry in patterns {
+            push_pattern(text, &entry.0, &entry.1)?;
+        }
+    }
+    Ok(())
+}
+
+// The node for the rest, and the name that is required.
+fn push_others(text: &mut String, keyword: &Restriction) -> Result<(), AllocError> {
+    if let Some(rest) = &keyword.rest {
+        text.push_str(" rest:")?;
+        push_node(text, rest)?;
+    }
+    if let Some(required) = &keyword.required {
+        text.push_str(" requires ")?;
+        text.push_str(required.name.as_str())?;
+        text.push_str(" at ")?;
+        text.push_str(required.location.as_str())?;
+    }
+    Ok(())
+}
+
+fn restriction_line(alloc: Global, keyword: &Restriction) -> Result<String, AllocError> {
+    let mut text = String::from_str(alloc, keyword.location.as_str())?;
+    push_neighbours(&mut text, keyword)?;
+    push_others(&mut text, keyword)?;
+    Ok(text)
+}
+
+// What is compiled of `additionalProperties` and all that it takes over, as a line.
+fn restriction_of(
+    alloc: Global,
+    parent: &Map<String, Value>,
+    meter: &mut Meter,
+) -> Result<String, Fail> {
+    let value = parent.get("additionalProperties").unwrap_or(&Value::Null);
+    let mut ctx = Context::new(alloc, &NoTexts, &Equality, meter);
+    match additional_properties::compile(alloc, &mut ctx, parent, value) {
+        None => Ok(String::from_str(alloc, "none")?),
+        Some(Ok(KeywordOver::AdditionalProperties(keyword))) => {
+            Ok(restriction_line(alloc, &keyword)?)
+        }
+        Some(Ok(_)) => Err(Fail::from("another keyword")),
+        Some(Err(_)) => Ok(String::from_str(alloc, "not built")?),
+    }
+}
+
+// An object, and what is compiled of its restriction: how many places, leaves and engines, how often these are asked, where
+// the keyword stands, and what it holds.
+const RESTRICTIONS: &str = r#"{"additionalProperties":false} | 0 0 0 0 /additionalProperties
+{"additionalProperties":{"not":true}} | 2 0 0 0 /additionalProperties rest: /additionalProperties
+{"additionalProperties":false,"properties":{"b":{"text":false},"a/~":true},"required":["b"]} | 2 1 0 0 /additionalProperties a/~: /properties/a~1~0 b: /properties/b requires b at /required
+{"additionalProperties":{},"patternProperties":{"b":true,"^a":{"text":false}},"properties":{"b":{}},"required":["b"]} | 4 1 1 1 /additionalProperties b: /properties/b at /patternProperties prefix: /patternProperties/^a engine: /patternProperties/b rest: /additionalProperties
+{"additionalProperties":false,"patternProperties":{}} | 0 0 0 0 /additionalProperties at /patternProperties
+{"additionalProperties":true,"patternProperties":{"(":5},"properties":{"a":5}} | 0 0 0 0 none
+{"additionalProperties":5,"patternProperties":{"b":{}},"properties":{"a":{"text":false}}} | 0 0 0 0 not built"#;
+
+fn expect_restriction(rt: &impl Abort, alloc: Global, row: &str) -> Result<(), Fail> {
+    let (text, told) = row.split_once(" | ").ok_or("a row of one cell")?;
+    let Value::Object(parent) = Value::from_str(alloc, text)? else {
+        return Err(Fail::from("no object"));
+    };
+    let mut meter = Meter::new();
+    let line = restriction_of(alloc, &parent, &mut meter)?;
+    let (places, leaves) = (meter.compiled(), meter.leaves());
+    let (engines, asks) = (meter.made(), meter.asked());
+    let found = format!(in alloc; "{places} {leaves} {engines} {asks} {line}")?;
+    assert_eq!(rt; found.as_str(), told, "{row}");
+    Ok(())
+}
+
+#[test]
+fn keywords_of_restrictions(rt: HostRuntime) -> Result<(), Fail> {
+    for row in RESTRICTIONS.lines() {
+        expect_restriction(&rt, rt.alloc(), row)?;
     }
     Ok(())
 }

@@ -15,3 +15,9 @@ mod Bits
 pub mod Tables
 pub mod OneOf
 pub mod AdditionalMaps
+pub mod Answering
+pub mod AskedSchemas
+pub mod Restricted
+pub mod RestrictedAsks
+pub mod RestrictedNames
+pub mod RestrictionMeans

@@ -97,7 +97,7 @@ module _ {K R N : Type 0} (o : Kit K R) (m : N → Data → Question) (r : N →
   validator_agrees (keyword.PropertyDependencies k) v Q = each_agrees (λ n. r n u v Q) (λ n. m n v) u (λ n. h n v Q) (chosen_nodes (named k.dependencies) v)
   validator_agrees (keyword.PatternProperties k) v Q = patterns_agree o.answers o.costs m r u h k.patterns.items v Q
   validator_agrees (keyword.SingleValuePatternProperties k) v Q = matched_agree o.answers o.costs m r u h k.regex k.node v Q
-  validator_agrees (keyword.AdditionalProperties k) v Q = additional_agrees o.answers o.costs m u r h k v Q
+  validator_agrees (keyword.AdditionalProperties k) v Q = additional_agrees o.answers o.costs m u r h k.value v Q
   validator_agrees (keyword.Leaf p l) v Q = is_empty-map (λ t. fault (Leaf (o.keyword_of l) t) v Q p) (o.finds l v)
 
 pub body_agrees : {W : Type 0} (q : W → Data → Question) (f : W → Data → Path → List Fault) (u : Bool) → ((k : W) (v : Data) (Q : Path) → is_empty (f k v Q) ≡ (q k v).accepts u) → (P : Path) (b : Body W) (v : Data) (Q : Path) → is_empty (body_report f P b v Q) ≡ (body_means q b v).accepts u
@@ -173,7 +173,7 @@ module _ {K R N : Type 0} (o : Kit K R) (m : N → Data → Question) (r s : N �
   validator_first_agrees (keyword.PropertyDependencies k) v Q = first_of_agrees (λ n. s n u v Q) (λ n. m n v) u (λ n. h n v Q) (chosen_nodes (named k.dependencies) v)
   validator_first_agrees (keyword.PatternProperties k) v Q = patterns_first_agree o.answers o.costs m s u h k.patterns.items v Q
   validator_first_agrees (keyword.SingleValuePatternProperties k) v Q = matched_first_agree o.answers o.costs m s u h k.regex k.node v Q
-  validator_first_agrees (keyword.AdditionalProperties k) v Q = additional_first_agrees o.answers o.costs m u s h k v Q
+  validator_first_agrees (keyword.AdditionalProperties k) v Q = additional_first_agrees o.answers o.costs m u s h k.value v Q
   validator_first_agrees (keyword.Leaf p l) v Q = is_empty-map (λ t. fault (Leaf (o.keyword_of l) t) v Q p) (o.finds l v)
 
 pub body_first_agrees : {W : Type 0} (q : W → Data → Question) (f : W → Data → Path → List Fault) (u : Bool) → ((k : W) (v : Data) (Q : Path) → is_empty (f k v Q) ≡ (q k v).accepts u) → (P : Path) (b : Body W) (v : Data) (Q : Path) → is_empty (body_first f P b v Q) ≡ (body_means q b v).accepts u

@@ -188,7 +188,7 @@ module _ {K R N : Type 0} (o : Kit K R) (m : N → Data → Question) where
   validator_means (keyword.PropertyDependencies k) v = every (λ n. m n v) (chosen_nodes (named k.dependencies) v)
   validator_means (keyword.PatternProperties k) v = patterns_mean o.answers o.costs m k.patterns.items v
   validator_means (keyword.SingleValuePatternProperties k) v = matched_mean o.answers o.costs m k.regex k.node v
-  validator_means (keyword.AdditionalProperties k) v = both (additional_means o.answers o.costs m (sides_of k) v) (always (is_empty (missing (required_text k.required) v)))
+  validator_means (keyword.AdditionalProperties k) v = both (additional_means o.answers o.costs m (sides_of k.value) v) (always (is_empty (missing (required_text k.value.required) v)))
   validator_means (keyword.Leaf p l) v = always (is_empty (o.finds l v))
 
   module _ (r : N → Bool → Data → Path → List Fault) (u : Bool) where
@@ -213,7 +213,7 @@ module _ {K R N : Type 0} (o : Kit K R) (m : N → Data → Question) where
     validator_report (keyword.PropertyDependencies k) v Q = flat_map (λ n. r n u v Q) (chosen_nodes (named k.dependencies) v)
     validator_report (keyword.PatternProperties k) v Q = patterns_report o.answers r u k.patterns.items v Q
     validator_report (keyword.SingleValuePatternProperties k) v Q = matched_report o.answers r u k.regex k.node v Q
-    validator_report (keyword.AdditionalProperties k) v Q = additional_report o.answers (sides_of k) u v Q (has_neighbours k) k.location r ++ lacks k.required v Q
+    validator_report (keyword.AdditionalProperties k) v Q = additional_report o.answers (sides_of k.value) u v Q (has_neighbours k.value) k.value.location r ++ lacks k.value.required v Q
     validator_report (keyword.Leaf p l) v Q = map (λ t. fault (Leaf (o.keyword_of l) t) v Q p) (o.finds l v)
 
     module _ (s : N → Bool → Data → Path → List Fault) where
@@ -238,7 +238,7 @@ module _ {K R N : Type 0} (o : Kit K R) (m : N → Data → Question) where
       validator_first (keyword.PropertyDependencies k) v Q = first_of (λ n. s n u v Q) (chosen_nodes (named k.dependencies) v)
       validator_first (keyword.PatternProperties k) v Q = patterns_first o.answers s u k.patterns.items v Q
       validator_first (keyword.SingleValuePatternProperties k) v Q = matched_first o.answers s u k.regex k.node v Q
-      validator_first (keyword.AdditionalProperties k) v Q = or_else (additional_first o.answers (sides_of k) u v Q (has_neighbours k) k.location s) (lacks k.required v Q)
+      validator_first (keyword.AdditionalProperties k) v Q = or_else (additional_first o.answers (sides_of k.value) u v Q (has_neighbours k.value) k.value.location s) (lacks k.value.required v Q)
       validator_first (keyword.Leaf p l) v Q = map (λ t. fault (Leaf (o.keyword_of l) t) v Q p) (o.finds l v)
 
   module _ (t : N → Bool → Data → Path → Tree) (u : Bool) where
@@ -266,7 +266,7 @@ module _ {K R N : Type 0} (o : Kit K R) (m : N → Data → Question) where
     validator_tree (keyword.PropertyDependencies k) v Q = plain k.location Q (branch_trees at_node v Q (chosen_nodes (named k.dependencies) v))
     validator_tree (keyword.PatternProperties k) v Q = patterns_tree at_node v Q o.answers u k.location k.patterns.items
     validator_tree (keyword.SingleValuePatternProperties k) v Q = patterns_tree at_node v Q o.answers u k.location ((k.regex, k.node) ∷ [])
-    validator_tree (keyword.AdditionalProperties k) v Q = additional_tree o.answers (sides_of k) u v Q (is_some k.properties) (is_some k.patterns) k.location k.patterns_location at_node (missing_trees (required_text k.required) v (required_place k.required) Q)
+    validator_tree (keyword.AdditionalProperties k) v Q = additional_tree o.answers (sides_of k.value) u v Q (is_some k.value.properties) (is_some k.value.patterns) k.value.location k.value.patterns_location at_node (missing_trees (required_text k.value.required) v (required_place k.value.required) Q)
     validator_tree (keyword.Leaf p l) v Q = leaf_node p Q (described (map (λ x. fault (Leaf (o.keyword_of l) x) v Q p) (o.finds l v)))
 
 -- whether a body accepts

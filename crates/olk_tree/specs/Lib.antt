@@ -6,6 +6,7 @@ pub mod Tables
 pub mod Additional
 pub mod Shown
 pub mod Answers
+pub mod Sides
 pub mod Visited
 pub mod Emptiness
 pub mod AdditionalAgreement

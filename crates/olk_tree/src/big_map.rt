@@ -61,13 +61,24 @@ impl HashedNames {
 
     /// At which place the name stands, looked for at `hint` first, and where to look first for a later name.
     ///
-    /// Only a name that isn't the one at `hint` is hashed.
+    /// Only a name that is none of the next few is hashed.
     #[inline(always)]
     pub fn find_from(&self, hint: usize, name: &str) -> (usize, Option<usize>)
         ensures { result.1 ≡ position (λ k. bytes_eq k name.now) self.now }
     {
         if self.names.stands_at(hint, name) {
             return (hint.saturating_add(1), Some(hint));
+        }
+        self.find_elsewhere(hint, name)
+    }
+
+    // The same, where the name at `hint` is another.
+    #[inline(never)]
+    fn find_elsewhere(&self, hint: usize, name: &str) -> (usize, Option<usize>)
+        ensures { result.1 ≡ position (λ k. bytes_eq k name.now) self.now }
+    {
+        if let Some(place) = self.names.find_among_next(hint.saturating_add(1), name) {
+            return (place.saturating_add(1), Some(place));
         }
         match self.find(name) {
             Some(place) => (place.saturating_add(1), Some(place)),

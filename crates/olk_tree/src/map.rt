@@ -92,6 +92,14 @@ impl SortedNames {
         place < names.len() && names[place].as_str() == name
     }
 
+    /// At which of the next places from `hint` on the name stands, if it stands at one of the first few.
+    #[inline(always)]
+    pub fn find_among_next(&self, hint: usize, name: &str) -> Option<usize>
+        ensures { IfSome result (λ p. Some p ≡ position (λ k. bytes_eq k name.now) self.now) }
+    {
+        find_near(&self.names, hint, name)
+    }
+
     /// At which place the name stands, looked for at `hint` first, and where to look first for a later name.
     ///
     /// Names that are asked for in ascending order are found in step: the next one is compared first, then a few behind

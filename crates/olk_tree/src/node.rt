@@ -37,7 +37,7 @@ pub enum KeywordOver<K, R, N> {
     PropertyDependencies(PropertyDependencies<N>),
     PatternProperties(PatternProperties<R, N>),
     SingleValuePatternProperties(SingleValuePatternProperties<R, N>),
-    AdditionalProperties(AdditionalProperties<R, N>),
+    AdditionalProperties(Box<AdditionalProperties<R, N>>),
     Leaf(Location, K),
 }
 

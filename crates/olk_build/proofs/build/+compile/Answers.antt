@@ -1,4 +1,5 @@
 use Rattle.std.proofs.Common.{rules, true, false, inl, inr, ◌+◌, ◌++◌, [], ◌∷◌, map, take, take_all, string_bytes, decimal, refl, sym, ap, subst, ◌∙◌}
+use Rattle.olk_members.specs.Conditions.{known}
 use mathlib.Core.Path.{subst₂}
 use Rattle.std.proofs.lemmas.List.{append-nil, append_assoc}
 use Rattle.serde_json.specs.Data.{Data}
@@ -10,11 +11,11 @@ use Rattle.olk_spec.specs.Vocabulary.{keyword_named}
 use Rattle.olk_spec.specs.Schemas.{listed, numbered}
 use Rattle.olk_spec.specs.Costs.{cost}
 use Rattle.olk_spec.specs.Faults.{fault}
+use Rattle.olk_spec.specs.Malformed.{malformations_at}
 use Rattle.olk_reports.proofs.Errors.{kind_of_multiple_types}
 use Rattle.olk_base.specs.Kit.{kit, world}
-use Rattle.olk_members.specs.Members.{malformations_at, member_malformations, member_cost}
+use Rattle.olk_members.specs.Members.{member_malformations, member_cost}
 use Rattle.olk_build.specs.Building.{AreBuilt, RefusesEach, RefusesPart, entries_read, all_cost}
-use Rattle.olk_tree.proofs.Merge.{sorted_rising}
 use Rattle.olk_read.specs.Refusing.{Refuses, TellsOneOf}
 use Rattle.olk_make.specs.Holding.{all_malformed}
 use Rattle.olk_read.specs.Reading.{own_faults, own_cost_of}
@@ -90,13 +91,13 @@ pub compile_branches-returns-clause-built : goal.compile_branches-returns-clause
 compile_branches-returns-clause-built g t c = subst (λ all. AreBuilt (kit g.L.Leaf.Leaf g.M.Engine.RegexEngine) c.loop-i.nodes.items all c.args.place.now c.args.meter.now c.loop-i.meter) (ap (λ l. numbered (map view l)) c.deref-schema-items.ensures.value ∙ ap numbered (sym (items_list-view c.args.items.now.items))) (entries_built (kit g.L.Leaf.Leaf g.M.Engine.RegexEngine) c.args.place.now (numbered (map view c.deref-schema-items.result.now)) c.args.meter.now c.loop-i.nodes.items (branches_from c.loop-i.i c.deref-schema-items.result.now) _ (no_branch c.loop-i.i c.deref-schema-items.result.now c.loop-i-test.false) c.loop-i.invariant)
 
 pub compile_part-returns-in_err-shape-clause-refused : goal.compile_part-returns-in_err-shape-clause-refused
-compile_part-returns-in_err-shape-clause-refused g t c = exit _ _ _ c.from_residual.ensures.1 (λ e q. refuses_part_own (kit g.L.Leaf.Leaf g.M.Engine.RegexEngine) c.args.condition c.args.name.now (view c.args.value.now) c.args.location c.args.meter.now c.read_keyword.new.meter e (subst (λ x. Refuses (own_faults (world g.L.Leaf.Leaf g.M.Engine.RegexEngine) c.args.name.now (view c.args.value.now) c.args.location) (own_cost_of (world g.L.Leaf.Leaf g.M.Engine.RegexEngine) (view c.args.value.now) (keyword_named (world g.L.Leaf.Leaf g.M.Engine.RegexEngine) c.args.name.now)) c.args.meter.now c.read_keyword.new.meter x) (sym q) c.in_err-shape.ensures.refused))
+compile_part-returns-in_err-shape-clause-refused g t c = exit _ _ _ c.from_residual.ensures.1 (λ e q. refuses_part_own (kit g.L.Leaf.Leaf g.M.Engine.RegexEngine) (known c.args.neighbours) c.args.name.now (view c.args.value.now) c.args.location c.args.meter.now c.read_keyword.new.meter e (subst (λ x. Refuses (own_faults (world g.L.Leaf.Leaf g.M.Engine.RegexEngine) c.args.name.now (view c.args.value.now) c.args.location) (own_cost_of (world g.L.Leaf.Leaf g.M.Engine.RegexEngine) (known c.args.neighbours) (view c.args.value.now) (keyword_named (world g.L.Leaf.Leaf g.M.Engine.RegexEngine) c.args.name.now)) c.args.meter.now c.read_keyword.new.meter x) (sym q) c.in_err-shape.ensures.refused))
 
 pub compile_part-returns-in_err-nodes-clause-refused : goal.compile_part-returns-in_err-nodes-clause-refused
-compile_part-returns-in_err-nodes-clause-refused g t c = exit _ _ _ c.from_residual-in_err-nodes.ensures.1 (λ e q. refuses_part_inside (kit g.L.Leaf.Leaf g.M.Engine.RegexEngine) c.in_ok-shape.shape c.args.condition c.args.name.now (view c.args.value.now) c.args.location c.args.meter.now c.read_keyword.new.meter c.in_ok-shape.ensures.built c.compile_places.new.meter e (subst₂ (λ r x. Refuses (places_malformed (kit g.L.Leaf.Leaf g.M.Engine.RegexEngine) r (view c.args.value.now) c.args.location) (places_cost (kit g.L.Leaf.Leaf g.M.Engine.RegexEngine) r (view c.args.value.now)) c.read_keyword.new.meter c.compile_places.new.meter x) c.reads.ensures (sym q) c.in_err-nodes.ensures.refused))
+compile_part-returns-in_err-nodes-clause-refused g t c = exit _ _ _ c.from_residual-in_err-nodes.ensures.1 (λ e q. refuses_part_inside (kit g.L.Leaf.Leaf g.M.Engine.RegexEngine) c.in_ok-shape.shape (known c.args.neighbours) c.args.name.now (view c.args.value.now) c.args.location c.args.meter.now c.read_keyword.new.meter c.in_ok-shape.ensures.built c.compile_places.new.meter e (subst₂ (λ r x. Refuses (places_malformed (kit g.L.Leaf.Leaf g.M.Engine.RegexEngine) r (view c.args.value.now) c.args.location) (places_cost (kit g.L.Leaf.Leaf g.M.Engine.RegexEngine) r (view c.args.value.now)) c.read_keyword.new.meter c.compile_places.new.meter x) c.reads.ensures (sym q) c.in_err-nodes.ensures.refused))
 
 pub compile_part-returns-clause-built : goal.compile_part-returns-clause-built
-compile_part-returns-clause-built g t c = part_is_built (kit g.L.Leaf.Leaf g.M.Engine.RegexEngine) c.in_ok-shape.shape c.args.condition c.args.name.now (view c.args.value.now) c.args.location c.args.meter.now c.read_keyword.new.meter c.in_ok-shape.ensures.built c.in_ok-nodes.nodes _ c.compile_places.new.meter refl refl refl (subst (λ r. PlacesAreBuilt (kit g.L.Leaf.Leaf g.M.Engine.RegexEngine) r c.in_ok-nodes.nodes.items (view c.args.value.now) c.args.location c.read_keyword.new.meter c.compile_places.new.meter) c.reads.ensures c.in_ok-nodes.ensures.built)
+compile_part-returns-clause-built g t c = part_is_built (kit g.L.Leaf.Leaf g.M.Engine.RegexEngine) c.in_ok-shape.shape (known c.args.neighbours) c.args.name.now (view c.args.value.now) c.args.location c.args.meter.now c.read_keyword.new.meter c.in_ok-shape.ensures.built c.in_ok-nodes.nodes _ c.compile_places.new.meter refl refl refl (subst (λ r. PlacesAreBuilt (kit g.L.Leaf.Leaf g.M.Engine.RegexEngine) r c.in_ok-nodes.nodes.items (view c.args.value.now) c.args.location c.read_keyword.new.meter c.compile_places.new.meter) c.reads.ensures c.in_ok-nodes.ensures.built)
 
 pub compile_parts-returns-in_err-parts-clause-refused : goal.compile_parts-returns-in_err-parts-clause-refused
 compile_parts-returns-in_err-parts-clause-refused g t c = exit _ _ _ c.from_residual.ensures.1 (λ e q. refuses_memory _ _ _ _ e _ q (within_nothing _ _))
@@ -108,13 +109,13 @@ pub compile_parts-returns-in_err-location-clause-refused : goal.compile_parts-re
 compile_parts-returns-in_err-location-clause-refused g t c = exit _ _ _ c.from_residual-in_err-location.ensures.1 (λ e q. memory_among (λ (x : Name × Data). member_malformations (world g.L.Leaf.Leaf g.M.Engine.RegexEngine) (members_view c.args.members.now.entries) x (keyword_named (world g.L.Leaf.Leaf g.M.Engine.RegexEngine) x.0) c.args.place.now) (λ (x : Name × Data). member_cost (world g.L.Leaf.Leaf g.M.Engine.RegexEngine) (members_view c.args.members.now.entries) x (keyword_named (world g.L.Leaf.Leaf g.M.Engine.RegexEngine) x.0)) _ _ _ c.loop-name.invariant.done (listed (members_view c.loop-name.name-iterator)) e _ q c.loop-name.invariant.rest c.loop-name.invariant.built.spends)
 
 pub compile_parts-returns-in_err-part-clause-refused : goal.compile_parts-returns-in_err-part-clause-refused
-compile_parts-returns-in_err-part-clause-refused g t c = exit _ _ _ c.from_residual-in_err-part.ensures.1 (λ e q. refuses_among (λ (x : Name × Data). member_malformations (world g.L.Leaf.Leaf g.M.Engine.RegexEngine) (members_view c.args.members.now.entries) x (keyword_named (world g.L.Leaf.Leaf g.M.Engine.RegexEngine) x.0) c.args.place.now) (λ (x : Name × Data). member_cost (world g.L.Leaf.Leaf g.M.Engine.RegexEngine) (members_view c.args.members.now.entries) x (keyword_named (world g.L.Leaf.Leaf g.M.Engine.RegexEngine) x.0)) _ _ _ c.loop-name.invariant.done (string_bytes c.in-Some.name.now, view c.in-Some.value.now) (listed (members_view c.next.new.self)) c.loop-name.meter e (ap (λ l. c.loop-name.invariant.done ++ listed (members_view l)) (sym c.in-Some.ensures.steps) ∙ c.loop-name.invariant.rest) c.loop-name.invariant.built.spends (subst (λ x. Refuses ((λ (x : Name × Data). member_malformations (world g.L.Leaf.Leaf g.M.Engine.RegexEngine) (members_view c.args.members.now.entries) x (keyword_named (world g.L.Leaf.Leaf g.M.Engine.RegexEngine) x.0) c.args.place.now) (string_bytes c.in-Some.name.now, view c.in-Some.value.now)) ((λ (x : Name × Data). member_cost (world g.L.Leaf.Leaf g.M.Engine.RegexEngine) (members_view c.args.members.now.entries) x (keyword_named (world g.L.Leaf.Leaf g.M.Engine.RegexEngine) x.0)) (string_bytes c.in-Some.name.now, view c.in-Some.value.now)) c.loop-name.meter c.compile_part.new.meter x) (sym q) ((subst (λ n. RefusesPart (kit g.L.Leaf.Leaf g.M.Engine.RegexEngine) c.is_condition-condition.result n (view c.in-Some.value.now) c.in_ok-location.location c.loop-name.meter c.compile_part.new.meter c.in_err-part.field-0.0) c.as_str-in-loop-name.ensures.value c.in_err-part.ensures.refused) (members_view c.args.members.now.entries) c.args.place.now (c.in_ok-location.ensures ∙ ap (λ n. c.args.place.now // n) c.as_str.ensures.value) (known_there (kit g.L.Leaf.Leaf g.M.Engine.RegexEngine) (members_view c.args.members.now.entries) c.args.place.now c.is_condition-condition.result c.loop-name.parts.items c.loop-name.invariant.done (listed (members_view c.next.new.self)) (string_bytes c.in-Some.name.now) (view c.in-Some.value.now) c.args.meter.now c.loop-name.meter c.is_condition-condition.ensures (sorted_rising c.args.members.now.entries c.into_iter-name-iterator.ensures.into_iter_gives.5) c.loop-name.invariant.built (ap (λ l. c.loop-name.invariant.done ++ listed (members_view l)) (sym c.in-Some.ensures.steps) ∙ c.loop-name.invariant.rest)))))
+compile_parts-returns-in_err-part-clause-refused g t c = exit _ _ _ c.from_residual-in_err-part.ensures.1 (λ e q. refuses_among (λ (x : Name × Data). member_malformations (world g.L.Leaf.Leaf g.M.Engine.RegexEngine) (members_view c.args.members.now.entries) x (keyword_named (world g.L.Leaf.Leaf g.M.Engine.RegexEngine) x.0) c.args.place.now) (λ (x : Name × Data). member_cost (world g.L.Leaf.Leaf g.M.Engine.RegexEngine) (members_view c.args.members.now.entries) x (keyword_named (world g.L.Leaf.Leaf g.M.Engine.RegexEngine) x.0)) _ _ _ c.loop-name.invariant.done (string_bytes c.in-Some.name.now, view c.in-Some.value.now) (listed (members_view c.next.new.self)) c.loop-name.meter e (ap (λ l. c.loop-name.invariant.done ++ listed (members_view l)) (sym c.in-Some.ensures.steps) ∙ c.loop-name.invariant.rest) c.loop-name.invariant.built.spends (subst (λ x. Refuses ((λ (x : Name × Data). member_malformations (world g.L.Leaf.Leaf g.M.Engine.RegexEngine) (members_view c.args.members.now.entries) x (keyword_named (world g.L.Leaf.Leaf g.M.Engine.RegexEngine) x.0) c.args.place.now) (string_bytes c.in-Some.name.now, view c.in-Some.value.now)) ((λ (x : Name × Data). member_cost (world g.L.Leaf.Leaf g.M.Engine.RegexEngine) (members_view c.args.members.now.entries) x (keyword_named (world g.L.Leaf.Leaf g.M.Engine.RegexEngine) x.0)) (string_bytes c.in-Some.name.now, view c.in-Some.value.now)) c.loop-name.meter c.compile_part.new.meter x) (sym q) ((subst (λ n. RefusesPart (kit g.L.Leaf.Leaf g.M.Engine.RegexEngine) (known c.of-neighbours.result) n (view c.in-Some.value.now) c.in_ok-location.location c.loop-name.meter c.compile_part.new.meter c.in_err-part.field-0.0) c.as_str-in-loop-name.ensures.value c.in_err-part.ensures.refused) (members_view c.args.members.now.entries) c.args.place.now (c.in_ok-location.ensures ∙ ap (λ n. c.args.place.now // n) c.as_str.ensures.value) (known_there (kit g.L.Leaf.Leaf g.M.Engine.RegexEngine) (members_view c.args.members.now.entries) c.args.place.now (known c.of-neighbours.result) c.loop-name.invariant.done (listed (members_view c.next.new.self)) (string_bytes c.in-Some.name.now) (view c.in-Some.value.now) c.of-neighbours.ensures (ap (λ l. c.loop-name.invariant.done ++ listed (members_view l)) (sym c.in-Some.ensures.steps) ∙ c.loop-name.invariant.rest)))))
 
 pub compile_parts-returns-in_err-append-clause-refused : goal.compile_parts-returns-in_err-append-clause-refused
-compile_parts-returns-in_err-append-clause-refused g t c = exit _ _ _ c.from_residual-in_err-append.ensures.1 (λ e q. memory_among (λ (x : Name × Data). member_malformations (world g.L.Leaf.Leaf g.M.Engine.RegexEngine) (members_view c.args.members.now.entries) x (keyword_named (world g.L.Leaf.Leaf g.M.Engine.RegexEngine) x.0) c.args.place.now) (λ (x : Name × Data). member_cost (world g.L.Leaf.Leaf g.M.Engine.RegexEngine) (members_view c.args.members.now.entries) x (keyword_named (world g.L.Leaf.Leaf g.M.Engine.RegexEngine) x.0)) _ _ _ (c.loop-name.invariant.done ++ (string_bytes c.in-Some.name.now, view c.in-Some.value.now) ∷ []) (listed (members_view c.next.new.self)) e _ q (append_assoc c.loop-name.invariant.done ((string_bytes c.in-Some.name.now, view c.in-Some.value.now) ∷ []) (listed (members_view c.next.new.self)) ∙ (ap (λ l. c.loop-name.invariant.done ++ listed (members_view l)) (sym c.in-Some.ensures.steps) ∙ c.loop-name.invariant.rest)) (one_more_part (kit g.L.Leaf.Leaf g.M.Engine.RegexEngine) (members_view c.args.members.now.entries) c.args.place.now c.loop-name.parts.items _ c.loop-name.invariant.done c.in_ok-part.part c.is_condition-condition.result (string_bytes c.in-Some.name.now) (view c.in-Some.value.now) c.args.meter.now c.loop-name.meter c.compile_part.new.meter c.in_ok-location.location refl (c.in_ok-location.ensures ∙ ap (λ n. c.args.place.now // n) c.as_str.ensures.value) c.loop-name.invariant.built (subst (λ n. IsPart (kit g.L.Leaf.Leaf g.M.Engine.RegexEngine) c.in_ok-part.part c.is_condition-condition.result n (view c.in-Some.value.now) c.in_ok-location.location c.loop-name.meter c.compile_part.new.meter) c.as_str-in-loop-name.ensures.value c.in_ok-part.ensures.built) (known_there (kit g.L.Leaf.Leaf g.M.Engine.RegexEngine) (members_view c.args.members.now.entries) c.args.place.now c.is_condition-condition.result c.loop-name.parts.items c.loop-name.invariant.done (listed (members_view c.next.new.self)) (string_bytes c.in-Some.name.now) (view c.in-Some.value.now) c.args.meter.now c.loop-name.meter c.is_condition-condition.ensures (sorted_rising c.args.members.now.entries c.into_iter-name-iterator.ensures.into_iter_gives.5) c.loop-name.invariant.built (ap (λ l. c.loop-name.invariant.done ++ listed (members_view l)) (sym c.in-Some.ensures.steps) ∙ c.loop-name.invariant.rest))).spends)
+compile_parts-returns-in_err-append-clause-refused g t c = exit _ _ _ c.from_residual-in_err-append.ensures.1 (λ e q. memory_among (λ (x : Name × Data). member_malformations (world g.L.Leaf.Leaf g.M.Engine.RegexEngine) (members_view c.args.members.now.entries) x (keyword_named (world g.L.Leaf.Leaf g.M.Engine.RegexEngine) x.0) c.args.place.now) (λ (x : Name × Data). member_cost (world g.L.Leaf.Leaf g.M.Engine.RegexEngine) (members_view c.args.members.now.entries) x (keyword_named (world g.L.Leaf.Leaf g.M.Engine.RegexEngine) x.0)) _ _ _ (c.loop-name.invariant.done ++ (string_bytes c.in-Some.name.now, view c.in-Some.value.now) ∷ []) (listed (members_view c.next.new.self)) e _ q (append_assoc c.loop-name.invariant.done ((string_bytes c.in-Some.name.now, view c.in-Some.value.now) ∷ []) (listed (members_view c.next.new.self)) ∙ (ap (λ l. c.loop-name.invariant.done ++ listed (members_view l)) (sym c.in-Some.ensures.steps) ∙ c.loop-name.invariant.rest)) (one_more_part (kit g.L.Leaf.Leaf g.M.Engine.RegexEngine) (members_view c.args.members.now.entries) c.args.place.now c.loop-name.parts.items _ c.loop-name.invariant.done c.in_ok-part.part (known c.of-neighbours.result) (string_bytes c.in-Some.name.now) (view c.in-Some.value.now) c.args.meter.now c.loop-name.meter c.compile_part.new.meter c.in_ok-location.location refl (c.in_ok-location.ensures ∙ ap (λ n. c.args.place.now // n) c.as_str.ensures.value) c.loop-name.invariant.built (subst (λ n. IsPart (kit g.L.Leaf.Leaf g.M.Engine.RegexEngine) c.in_ok-part.part (known c.of-neighbours.result) n (view c.in-Some.value.now) c.in_ok-location.location c.loop-name.meter c.compile_part.new.meter) c.as_str-in-loop-name.ensures.value c.in_ok-part.ensures.built) (known_there (kit g.L.Leaf.Leaf g.M.Engine.RegexEngine) (members_view c.args.members.now.entries) c.args.place.now (known c.of-neighbours.result) c.loop-name.invariant.done (listed (members_view c.next.new.self)) (string_bytes c.in-Some.name.now) (view c.in-Some.value.now) c.of-neighbours.ensures (ap (λ l. c.loop-name.invariant.done ++ listed (members_view l)) (sym c.in-Some.ensures.steps) ∙ c.loop-name.invariant.rest))).spends)
 
 pub compile_parts-loop-name-preserved : goal.compile_parts-loop-name-preserved
-compile_parts-loop-name-preserved g t c = record { done = c.loop-name.invariant.done ++ (string_bytes c.in-Some.name.now, view c.in-Some.value.now) ∷ []; built = (one_more_part (kit g.L.Leaf.Leaf g.M.Engine.RegexEngine) (members_view c.args.members.now.entries) c.args.place.now c.loop-name.parts.items _ c.loop-name.invariant.done c.in_ok-part.part c.is_condition-condition.result (string_bytes c.in-Some.name.now) (view c.in-Some.value.now) c.args.meter.now c.loop-name.meter c.compile_part.new.meter c.in_ok-location.location c.in_ok-append.ensures (c.in_ok-location.ensures ∙ ap (λ n. c.args.place.now // n) c.as_str.ensures.value) c.loop-name.invariant.built (subst (λ n. IsPart (kit g.L.Leaf.Leaf g.M.Engine.RegexEngine) c.in_ok-part.part c.is_condition-condition.result n (view c.in-Some.value.now) c.in_ok-location.location c.loop-name.meter c.compile_part.new.meter) c.as_str-in-loop-name.ensures.value c.in_ok-part.ensures.built) (known_there (kit g.L.Leaf.Leaf g.M.Engine.RegexEngine) (members_view c.args.members.now.entries) c.args.place.now c.is_condition-condition.result c.loop-name.parts.items c.loop-name.invariant.done (listed (members_view c.next.new.self)) (string_bytes c.in-Some.name.now) (view c.in-Some.value.now) c.args.meter.now c.loop-name.meter c.is_condition-condition.ensures (sorted_rising c.args.members.now.entries c.into_iter-name-iterator.ensures.into_iter_gives.5) c.loop-name.invariant.built (ap (λ l. c.loop-name.invariant.done ++ listed (members_view l)) (sym c.in-Some.ensures.steps) ∙ c.loop-name.invariant.rest))); rest = (append_assoc c.loop-name.invariant.done ((string_bytes c.in-Some.name.now, view c.in-Some.value.now) ∷ []) (listed (members_view c.next.new.self)) ∙ (ap (λ l. c.loop-name.invariant.done ++ listed (members_view l)) (sym c.in-Some.ensures.steps) ∙ c.loop-name.invariant.rest)); next = tt; ends = tt }
+compile_parts-loop-name-preserved g t c = record { done = c.loop-name.invariant.done ++ (string_bytes c.in-Some.name.now, view c.in-Some.value.now) ∷ []; built = (one_more_part (kit g.L.Leaf.Leaf g.M.Engine.RegexEngine) (members_view c.args.members.now.entries) c.args.place.now c.loop-name.parts.items _ c.loop-name.invariant.done c.in_ok-part.part (known c.of-neighbours.result) (string_bytes c.in-Some.name.now) (view c.in-Some.value.now) c.args.meter.now c.loop-name.meter c.compile_part.new.meter c.in_ok-location.location c.in_ok-append.ensures (c.in_ok-location.ensures ∙ ap (λ n. c.args.place.now // n) c.as_str.ensures.value) c.loop-name.invariant.built (subst (λ n. IsPart (kit g.L.Leaf.Leaf g.M.Engine.RegexEngine) c.in_ok-part.part (known c.of-neighbours.result) n (view c.in-Some.value.now) c.in_ok-location.location c.loop-name.meter c.compile_part.new.meter) c.as_str-in-loop-name.ensures.value c.in_ok-part.ensures.built) (known_there (kit g.L.Leaf.Leaf g.M.Engine.RegexEngine) (members_view c.args.members.now.entries) c.args.place.now (known c.of-neighbours.result) c.loop-name.invariant.done (listed (members_view c.next.new.self)) (string_bytes c.in-Some.name.now) (view c.in-Some.value.now) c.of-neighbours.ensures (ap (λ l. c.loop-name.invariant.done ++ listed (members_view l)) (sym c.in-Some.ensures.steps) ∙ c.loop-name.invariant.rest))); rest = (append_assoc c.loop-name.invariant.done ((string_bytes c.in-Some.name.now, view c.in-Some.value.now) ∷ []) (listed (members_view c.next.new.self)) ∙ (ap (λ l. c.loop-name.invariant.done ++ listed (members_view l)) (sym c.in-Some.ensures.steps) ∙ c.loop-name.invariant.rest)); next = tt; ends = tt }
 
 pub compile_parts-returns-clause-built : goal.compile_parts-returns-clause-built
 compile_parts-returns-clause-built g t c = subst (λ l. PartsAreBuilt (kit g.L.Leaf.Leaf g.M.Engine.RegexEngine) (members_view c.args.members.now.entries) c.loop-name.parts.items l c.args.place.now c.args.meter.now c.loop-name.meter) (sym (append-nil c.loop-name.invariant.done) ∙ ap (λ l. c.loop-name.invariant.done ++ listed (members_view l)) (sym c.in-None.ensures.steps.0) ∙ c.loop-name.invariant.rest) c.loop-name.invariant.built

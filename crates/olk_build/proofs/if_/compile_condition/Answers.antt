@@ -3,15 +3,16 @@ use Rattle.std.proofs.Common.{rules, [], ◌∷◌, codes, refl, sym, ◌∙◌,
 use mathlib.Core.Path.{subst₂}
 use Rattle.serde_json.specs.View.{view, members_view}
 use Rattle.olk_spec.specs.Names.{◌//◌}
-use Rattle.olk_members.specs.Conditions.{is_condition}
+use Rattle.olk_members.specs.Conditions.{known_of}
 use Rattle.olk_build.specs.Building.{RefusesPart}
 use Rattle.olk_build.specs.Conditions.{CaseIsBuilt}
-use Rattle.olk_build.proofs.Conditions.{left_by, RefusesCase, if_without_node, if_refused, then_refused, else_refused, if_is_formed, condition_is_built}
+use Rattle.olk_build.proofs.Conditions.{RefusesCase, if_without_node, if_refused, then_refused, else_refused, if_is_formed, condition_is_built}
+use Rattle.olk_build.proofs.Together.{left_by}
 use Rattle.olk_build.proofs.if_.compile_condition.Goals as goal
 
 pub returns-in_err-location-clause-builds : goal.returns-in_err-location-clause-builds
 returns-in_err-location-clause-builds g c = left_by _ _ _ _ c.from_residual.ensures.1 (λ e q. if_refused (kit g.L.Leaf.Leaf g.M.Engine.RegexEngine) (members_view c.args.parent.now.entries) c.requires.read (view c.args.schema.now) c.args.ctx.now.place _ _ e
-    (subst (RefusesPart (kit g.L.Leaf.Leaf g.M.Engine.RegexEngine) (is_condition (members_view c.args.parent.now.entries)) (codes "if") (view c.args.schema.now) (c.args.ctx.now.place // codes "if") _ _) (sym q) c.in_err-location.ensures.refused))
+    (subst (RefusesPart (kit g.L.Leaf.Leaf g.M.Engine.RegexEngine) (known_of (members_view c.args.parent.now.entries)) (codes "if") (view c.args.schema.now) (c.args.ctx.now.place // codes "if") _ _) (sym q) c.in_err-location.ensures.refused))
 
 pub returns-in_err-then_schema-clause-builds : goal.returns-in_err-then_schema-clause-builds
 returns-in_err-then_schema-clause-builds g c = left_by _ _ _ _ c.from_residual-in_err-then_schema.ensures.1 (λ e q. then_refused (kit g.L.Leaf.Leaf g.M.Engine.RegexEngine) (members_view c.args.parent.now.entries) c.requires.read (view c.args.schema.now) c.args.ctx.now.place c.in_ok-location.field-0 _ _ c.in_ok-location.ensures.built _ e

@@ -1,11 +1,14 @@
 use Rattle.olk_base.specs.Kit.{kit}
-use Rattle.std.proofs.Common.{sym, ◌∙◌}
+use Rattle.std.proofs.Common.{sym, ◌∙◌, rules}
 use Rattle.olk_members.specs.Plans.{planned}
-use Rattle.olk_make.proofs.Makes.{makes_required_elsewhere, makes_required_alone}
+use Rattle.olk_make.proofs.Makes.{makes_required_elsewhere, makes_required_inside, makes_required_alone}
 use Rattle.olk_make.proofs.required.make.Goals as goal
 
 pub returns-then-fuses : goal.returns-then-fuses
-returns-then-fuses g c P = makes_required_elsewhere (kit g.K.Leaf g.R.RegexEngine) c.args.required c.args.location P c.args.nodes.items (planned c.args.plan).condition (planned c.args.plan).fused (sym c.fuses.ensures ∙ c.if-fuses.true)
+returns-then-fuses g c P = makes_required_elsewhere (kit g.K.Leaf g.R.RegexEngine) c.args.required c.args.location P c.args.nodes.items (planned c.args.plan) (search rules)
+
+pub returns-then-is_some : goal.returns-then-is_some
+returns-then-is_some g c P = makes_required_inside (kit g.K.Leaf g.R.RegexEngine) c.args.required c.args.location P c.args.nodes.items (planned c.args.plan) (search rules)
 
 pub returns : goal.returns
-returns g c P = makes_required_alone (kit g.K.Leaf g.R.RegexEngine) c.args.required c.args.location P c.args.nodes.items (planned c.args.plan).condition (planned c.args.plan).fused (sym c.fuses.ensures ∙ c.if-fuses.false)
+returns g c P = makes_required_alone (kit g.K.Leaf g.R.RegexEngine) c.args.required c.args.location P c.args.nodes.items (planned c.args.plan) (search rules) (search rules)

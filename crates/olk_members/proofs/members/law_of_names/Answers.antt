@@ -1,5 +1,5 @@
-use Rattle.olk_members.proofs.Claims.{sorted_distinct}
+use Rattle.olk_members.proofs.Listed.{sorted_distinct}
 use Rattle.olk_members.proofs.members.law_of_names.Goals as goal
 
 pub returns : goal.returns
-returns c = sorted_distinct c.args.members.now.entries c.len-count.ensures.ordered
+returns c = sorted_distinct c.args.members.now.entries c.iter-members.ensures.ordered

@@ -1,4 +1,4 @@
-use Rattle.olk_members.proofs.Claims.{sorted_distinct}
+use Rattle.olk_members.proofs.Listed.{sorted_distinct}
 use Rattle.olk_members.proofs.plan.Plan.of.Goals as goal
 
 pub returns-clause-distinct : goal.returns-clause-distinct

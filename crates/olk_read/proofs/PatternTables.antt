@@ -1,0 +1,80 @@
+-- The patterns of `patternProperties`, read together with the table of what they say of declared names.
+use Rattle.std.specs.Prelude.{◌≡◌, ◌+◌, ◌*◌, ℕ, Bool, true, false, cond, List, [], ◌∷◌, ◌++◌, Vec, map, length, codes}
+use Rattle.std.specs.List.{flat_map}
+use Rattle.std.specs.declared.alloc.Global.{Global}
+use Rattle.std.specs.declared.alloc.AllocError.{AllocError}
+use Rattle.std.proofs.Common.{refl, sym, ◌∙◌, ap, subst, arith}
+use Rattle.std.proofs.lemmas.List.Sums.{sum_by-cons}
+use Rattle.serde_json.specs.Data.{Data}
+use Rattle.olk_spec.specs.Names.{Name, Path, those, put_if}
+use Rattle.olk_spec.specs.Schemas.{members, is_object}
+use Rattle.olk_spec.specs.Meanings.{is_open}
+use Rattle.olk_spec.specs.Costs.{no_cost}
+use Rattle.olk_base.specs.Count.{Counts}
+use Rattle.olk_base.specs.Compiled.{pattern_costs}
+use Rattle.olk_base.specs.Kit.{Kit}
+use Rattle.olk_base.specs.declared.pattern.CompiledPattern.{CompiledPattern}
+use Rattle.olk_reports.specs.declared.error.BuildError.{BuildError}
+use Rattle.olk_reports.specs.declared.error.BuildError.TheVariants.{Memory}
+use Rattle.olk_members.specs.Conditions.{Known}
+use Rattle.olk_members.specs.PatternProperties.{open_names, pattern_faults, matchers_made, names_asked}
+use Rattle.olk_members.proofs.PatternProperties.{made_together}
+use Rattle.olk_tree.specs.Tables.{Table, IsTableOf, how_many_cost, count_asks, AsksAtMost}
+use Rattle.olk_read.specs.Refusing.{Spends, SpendsWithin}
+use Rattle.olk_read.specs.Patterns.{ArePatterns, PatternsAreRead, RefusesPatterns}
+use Rattle.olk_read.specs.Reading.{IsRead, RefusesKeyword}
+use Rattle.olk_read.specs.declared.shape.Shape.TheVariants as shape
+use Rattle.olk_read.proofs.Read.{own_pattern_properties, object_is_right}
+use Rattle.olk_read.proofs.Spending.{spends_append, within_before, within_after, tells_same, refuses_memory}
+
+-- each that costs is one that is open
+module _ {K R : Type 0} (o : Kit K R) where
+  pub open_cost : (ps : List (CompiledPattern R)) (es : List (Name × Data)) → ArePatterns o ps es → how_many_cost o.costs ps ≡ length (those (is_open o.world) (map (λ e. e.0) es))
+  open_cost [] [] h = refl
+  open_cost [] (e ∷ es) h = absurd h
+  open_cost (p ∷ ps) [] h = absurd h
+  open_cost (p ∷ ps) (e ∷ es) h =
+      sum_by-cons (λ q. cond (pattern_costs o.costs q) 1 0) p ps
+      ∙ (λ i. cond (h.0.costs i) 1 0 + open_cost ps es h.1 i)
+      ∙ by (is_open o.world e.0)
+    where
+      by : (b : Bool) → cond b 1 0 + length (those (is_open o.world) (map (λ x. x.0) es)) ≡ length (put_if b e.0 (those (is_open o.world) (map (λ x. x.0) es)))
+      by true = omega arith
+      by false = omega arith
+
+spends_asks : (n m : ℕ) (a b : Counts) → n ≡ m → b ≡ count_asks n a → Spends a b (record no_cost { table_asks = m })
+spends_asks n m a b e h = h ∙ ap (λ x. count_asks x a) e
+
+within_asks : (n m : ℕ) (a b : Counts) → n ≡ m → AsksAtMost n a b → SpendsWithin a b (record no_cost { table_asks = m })
+within_asks n m a b e h = record {
+  spent = record no_cost { table_asks = h.times };
+  exactly = h.exactly;
+  within = record { places = omega arith; leaf_places = omega arith; pattern_places = omega arith; table_asks = omega (arith, h.within, e) };
+}
+
+-- d is the keyword's value, and stands at L
+module _ {K R : Type 0} (o : Kit K R) (c : Known) (d : Data) (L : Path) (is_map : is_object d ≡ true) (a m : Counts) where
+  pub refuses_patterns : (e : BuildError) → RefusesPatterns o (members d) L a m e → RefusesKeyword o c (codes "patternProperties") d L a m e
+  refuses_patterns e h = record {
+    tells = tells_same (sym (own_pattern_properties o.world d L ∙ (λ i. object_is_right d L is_map i ++ flat_map (λ x. pattern_faults o.world L x.0) (members d)))) e h.tells;
+    spends = within_before a m (matchers_made o.world d) (names_asked o.world c.declared d) (subst (SpendsWithin a m) (made_together o.world (members d)) h.spends);
+  }
+
+  -- the table is made of the patterns ps, which are those of v
+  module _ (v : Vec (CompiledPattern R) Global) (h : PatternsAreRead o v.items (members d) L a m) (ps : List (CompiledPattern R)) (all : ps ≡ v.items) (b : Counts) where
+    made : Spends a m (matchers_made o.world d)
+    made = subst (Spends a m) (made_together o.world (members d)) h.spends
+
+    times : length c.declared * how_many_cost o.costs ps ≡ length c.declared * length (open_names o.world d)
+    times = ap (λ n. length c.declared * n) (ap (how_many_cost o.costs) all ∙ open_cost o v.items (members d) h.stand)
+
+    pub patterns_are_read : (t : Table) → t.names ≡ map (λ e. e.0) c.declared → IsTableOf o.answers ps t → b ≡ count_asks (length c.declared * how_many_cost o.costs ps) m → IsRead o (shape.PatternProperties v t) c (codes "patternProperties") d L a b
+    patterns_are_read t names says asked = record {
+      shape = (refl, is_map, h.stand);
+      fits = (names, subst (λ qs. IsTableOf o.answers qs t) all says);
+      clean = own_pattern_properties o.world d L ∙ (λ i. object_is_right d L is_map i ++ h.clean i);
+      spends = spends_append a m b (matchers_made o.world d) (names_asked o.world c.declared d) made (spends_asks _ _ m b times asked);
+    }
+
+    pub table_without_memory : (e : BuildError) (w : AllocError) → e ≡ Memory w → AsksAtMost (length c.declared * how_many_cost o.costs ps) m b → RefusesKeyword o c (codes "patternProperties") d L a b e
+    table_without_memory e w q asked = refuses_memory _ _ a b e w q (within_after a m b (matchers_made o.world d) (names_asked o.world c.declared d) made (within_asks _ _ m b times asked))

@@ -1,0 +1,228 @@
+-- Which schemas the nodes stand for that `additionalProperties` asks of a member.
+use Rattle.std.specs.Prelude.{◌≡◌, ⊤, ℕ, ◌+◌, suc, Bool, true, false, not, cond, ◌&&◌, ◌||◌, List, [], ◌∷◌, ◌++◌, map, codes, bytes_eq, Option, Some, None, is_none, is_some, option_map, option_to_list, slice_get}
+use Rattle.std.specs.List.{enumerate_from}
+use Rattle.std.specs.Ordering.{nat_cmp, is_eq}
+use Rattle.std.specs.Cmp.Lexicographic.{slice_cmp}
+use Rattle.std.specs.declared.cmp.Ordering.{Ordering}
+use Rattle.std.specs.declared.cmp.Ordering.TheVariants.{Less, Equal, Greater}
+use Rattle.std.proofs.Common.{refl, sym, ap, ◌∙◌, subst, arith}
+use Rattle.std.proofs.lemmas.Map.Text.{is_eq-slice_cmp}
+use mathlib.Core.Bool.{true≢false}
+use Rattle.serde_json.specs.Data.{Data, boolean, null, number, string, array, object}
+use Rattle.olk_spec.specs.Names.{Name, Path, ◌//◌, lookup, first_if_equal, put_if, is_empty}
+use Rattle.olk_spec.specs.World.{Says, matched, unmatched, unfinished, reads_as}
+use Rattle.olk_spec.specs.Faults.{Fault}
+use Rattle.olk_spec.specs.Schemas.{is_object, is_truth}
+use Rattle.olk_spec.specs.Meanings.{matches}
+use Rattle.olk_spec.specs.Tree.{Tree}
+use Rattle.olk_spec.proofs.Maps.{is_empty-map}
+use Rattle.olk_spec.proofs.Walks.{same_name}
+use Rattle.olk_base.specs.Kit.{Kit}
+use Rattle.olk_base.specs.Compiled.{pattern_answers}
+use Rattle.olk_base.specs.declared.pattern.CompiledPattern.{CompiledPattern}
+use Rattle.olk_members.specs.AdditionalProperties.{is_declared_in, declared_at, matching_at, is_other}
+use Rattle.olk_tree.specs.Questions.{Question}
+use Rattle.olk_tree.specs.Additional.{Sides, known_at, known_or, is_matched_by, matching_from, at_name, nodes_matching, is_additional, others_asked, nodes_asked}
+use Rattle.olk_tree.specs.Answers.{beside}
+use Rattle.olk_tree.specs.Sides.{AnswersAs, EntriesAnswer, PatternsAnswer, RestAnswers, SidesStand}
+use Rattle.olk_tree.proofs.Answering.{AnswerAs, answer_append, both_empty}
+
+-- a look-up finds what is declared
+pub declared_found : (n : Name) (fs : List (Name × Data)) → is_declared_in fs n ≡ is_some (lookup n fs)
+declared_found n [] = refl
+declared_found n (e ∷ fs) = by (slice_cmp nat_cmp n e.0) (is_eq-slice_cmp n e.0) (declared_found n fs)
+  where
+    by : (c : Ordering) → is_eq c ≡ bytes_eq n e.0 → is_declared_in fs n ≡ is_some (lookup n fs) → (bytes_eq n e.0 || is_declared_in fs n) ≡ is_some (first_if_equal c e.1 (lookup n fs))
+    by Less q h = ap (λ b. b || is_declared_in fs n) (sym q) ∙ h
+    by Equal q h = ap (λ b. b || is_declared_in fs n) (sym q)
+    by Greater q h = ap (λ b. b || is_declared_in fs n) (sym q) ∙ h
+
+-- what a look-up may tell of a pattern: where the name isn't declared, nothing
+abbrev pub recalled : {X : Type 0} → Option X → Says → Says
+recalled None s = unfinished
+recalled (Some x) s = s
+
+recalled_is_said : {X : Type 0} (a : Option X) (s : Says) → known_or (recalled a s) s ≡ s
+recalled_is_said None s = refl
+recalled_is_said (Some x) matched = refl
+recalled_is_said (Some x) unmatched = refl
+recalled_is_said (Some x) unfinished = refl
+
+module _ {K R N : Type 0} (o : Kit K R) (m : N → Data → Question) (r : N → Bool → Data → Path → List Fault) (t : N → Bool → Data → Path → Tree) (n : Name) where
+  -- ---- what is declared at the name
+
+  module _ (L : Path) where
+    -- a node with its place from k on, for the schema of these that stands there
+    abbrev FoundFrom : ℕ → List (Name × Data) → Option (ℕ × N) → Option Data → Type 0
+    FoundFrom k fs None None = ⊤
+    FoundFrom k fs None (Some s) = ⊥
+    FoundFrom k fs (Some f) None = ⊥
+    FoundFrom k fs (Some f) (Some s) = AnswersAs o m r t f.1 s (L // n) × (i : ℕ) × (f.0 ≡ k + i) × (slice_get (map (λ e. e.0) fs) i ≡ Some n)
+
+    found_later : (k : ℕ) (e : Name × Data) (fs : List (Name × Data)) (a : Option (ℕ × N)) (b : Option Data) → FoundFrom (k + 1) fs a b → FoundFrom k (e ∷ fs) a b
+    found_later k e fs None None g = tt
+    found_later k e fs None (Some s) g = absurd g
+    found_later k e fs (Some f) None g = absurd g
+    found_later k e fs (Some f) (Some s) g = let p = g.2 in (g.0, suc g.1, omega (arith, p), g.3)
+
+    found : (k : ℕ) (ns : List N) (fs : List (Name × Data)) → EntriesAnswer o m r t ns fs L → FoundFrom k fs (lookup n (beside (map (λ e. e.0) fs) (enumerate_from k ns))) (lookup n fs)
+    found k [] [] h = tt
+    found k [] (e ∷ fs) h = absurd h
+    found k (x ∷ ns) [] h = absurd h
+    found k (x ∷ ns) (e ∷ fs) h = by (slice_cmp nat_cmp n e.0) (is_eq-slice_cmp n e.0) (found_later k e fs _ _ (found (k + 1) ns fs h.1))
+      where
+        by : (c : Ordering) → is_eq c ≡ bytes_eq n e.0 → FoundFrom k (e ∷ fs) (lookup n (beside (map (λ e. e.0) fs) (enumerate_from (k + 1) ns))) (lookup n fs)
+            → FoundFrom k (e ∷ fs) (first_if_equal c (k, x) (lookup n (beside (map (λ e. e.0) fs) (enumerate_from (k + 1) ns)))) (first_if_equal c e.1 (lookup n fs))
+        by Less q g = g
+        by Greater q g = g
+        by Equal q g = let same = same_name n e.0 (sym q) in (subst (λ k. AnswersAs o m r t x e.1 (L // k)) (sym same) h.0, 0, omega arith, ap Some (sym same))
+
+    found_answers : (fs : List (Name × Data)) (a : Option (ℕ × N)) (b : Option Data) → FoundFrom 0 fs a b → AnswerAs o m r t (option_to_list (option_map (λ f. f.1) a)) (map (λ s. (s, L // n)) (option_to_list b))
+    found_answers fs None None g = tt
+    found_answers fs None (Some s) g = absurd g
+    found_answers fs (Some f) None g = absurd g
+    found_answers fs (Some f) (Some s) g = (g.0, tt)
+
+    found_both : (fs : List (Name × Data)) (a : Option (ℕ × N)) (b : Option Data) → FoundFrom 0 fs a b → is_some a ≡ is_some b
+    found_both fs None None g = refl
+    found_both fs None (Some s) g = absurd g
+    found_both fs (Some f) None g = absurd g
+    found_both fs (Some f) (Some s) g = refl
+
+  -- ---- what the patterns match
+
+  module _ (S : Sides R N) (a : Option (ℕ × N)) where
+    -- what is known of these patterns, which stand from index i on
+    abbrev pub Recalls : ℕ → List (CompiledPattern R × N) → Type 0
+    Recalls i ps = (j q : ℕ) (c : CompiledPattern R) → q ≡ i + j → slice_get (map (λ p. p.0) ps) j ≡ Some c → known_at S a q ≡ recalled a (pattern_answers o.answers c n)
+
+    pub recalls_later : (i : ℕ) (p : CompiledPattern R × N) (ps : List (CompiledPattern R × N)) → Recalls i (p ∷ ps) → Recalls (i + 1) ps
+    recalls_later i p ps h j q c e g = h (suc j) q c (omega (arith, e)) g
+
+    pub recalls_here : (i : ℕ) (p : CompiledPattern R × N) (ps : List (CompiledPattern R × N)) → Recalls i (p ∷ ps) → known_at S a i ≡ recalled a (pattern_answers o.answers p.0 n)
+    recalls_here i p ps h = h 0 i p.0 (omega arith) refl
+
+    module _ (u : Bool) (L : Path) where
+      matching_answer : (i : ℕ) (ps : List (CompiledPattern R × N)) (es : List (Name × Data)) → PatternsAnswer o m r t ps es L → Recalls i ps → AnswerAs o m r t (matching_from o.answers S a n u i ps) (map (λ e. (e.1, L // e.0)) (matching_at o.world u es n))
+      matching_answer i [] [] h k = tt
+      matching_answer i [] (e ∷ es) h k = absurd h
+      matching_answer i (p ∷ ps) [] h k = absurd h
+      matching_answer i (p ∷ ps) (e ∷ es) h k = by (is_matched_by o.answers S a n u i p.0) (matches o.world u e.0 n) same (matching_answer (i + 1) ps es h.2 (recalls_later i p ps k))
+        where
+          same : is_matched_by o.answers S a n u i p.0 ≡ matches o.world u e.0 n
+          same = ap (reads_as u) (ap (λ s. known_or s (pattern_answers o.answers p.0 n)) (recalls_here i p ps k) ∙ recalled_is_said a (pattern_answers o.answers p.0 n) ∙ h.0.answers n)
+
+          by : (b c : Bool) → b ≡ c → AnswerAs o m r t (matching_from o.answers S a n u (i + 1) ps) (map (λ e. (e.1, L // e.0)) (matching_at o.world u es n))
+              → AnswerAs o m r t (put_if b p.1 (matching_from o.answers S a n u (i + 1) ps)) (map (λ e. (e.1, L // e.0)) (put_if c e (matching_at o.world u es n)))
+          by true true q g = (h.1, g)
+          by true false q g = absurd (true≢false q)
+          by false true q g = absurd (true≢false (sym q))
+          by false false q g = g
+
+-- ---- all that is asked of a member with this name
+
+pub false_is_no_object : (d : Data) → is_truth false d ≡ true → is_object d ≡ false
+false_is_no_object (object ms) e = absurd (true≢false (sym e))
+false_is_no_object null e = refl
+false_is_no_object (boolean b) e = refl
+false_is_no_object (number x) e = refl
+false_is_no_object (string s) e = refl
+false_is_no_object (array ds) e = refl
+
+module _ {K R N : Type 0} (o : Kit K R) (m : N → Data → Question) (r : N → Bool → Data → Path → List Fault) (t : N → Bool → Data → Path → Tree) {S : Sides R N} {fs es : List (Name × Data)} {d : Data} {P : Path} (h : SidesStand o m r t S fs es d P) where
+  pub is_rest : is_some S.rest ≡ is_object d
+  is_rest = by S.rest h.rest
+    where
+      by : (x : Option N) → RestAnswers o m r t x d (P // codes "additionalProperties") → is_some x ≡ is_object d
+      by None g = sym (false_is_no_object d g)
+      by (Some x) g = sym g.0
+
+  pub is_no_rest : is_none S.rest ≡ is_truth false d
+  is_no_rest = by S.rest h.rest
+    where
+      no_object_is_false : (d : Data) → is_object d ≡ true → is_truth false d ≡ false
+      no_object_is_false (object ms) e = refl
+      no_object_is_false null e = refl
+      no_object_is_false (boolean b) e = absurd (true≢false (sym e))
+      no_object_is_false (number x) e = refl
+      no_object_is_false (string s) e = refl
+      no_object_is_false (array ds) e = refl
+
+      by : (x : Option N) → RestAnswers o m r t x d (P // codes "additionalProperties") → is_none x ≡ is_truth false d
+      by None g = sym g
+      by (Some x) g = sym (no_object_is_false d g.0)
+
+  module _ (n : Name) where
+    at_name_found : FoundFrom o m r t n (P // codes "properties") 0 fs (at_name S n) (lookup n fs)
+    at_name_found = subst (λ l. FoundFrom o m r t n (P // codes "properties") 0 fs (lookup n l) (lookup n fs)) (sym h.placed_beside) (found o m r t n (P // codes "properties") 0 h.nodes fs h.declared)
+
+    -- the name is declared where it has a node
+    pub is_declared : is_some (at_name S n) ≡ is_declared_in fs n
+    is_declared = found_both o m r t n (P // codes "properties") fs (at_name S n) (lookup n fs) at_name_found ∙ sym (declared_found n fs)
+
+    recalls_if : (a : Option (ℕ × N)) (b : Option Data) → FoundFrom o m r t n (P // codes "properties") 0 fs a b → Recalls o m r t n S a 0 S.patterns
+    recalls_if None b g j q c e f = refl
+    recalls_if (Some x) None g j q c e f = absurd g
+    recalls_if (Some x) (Some s) g j q c e f =
+        let place : x.0 ≡ g.1 = (let p = g.2 in omega (arith, p)) in
+        let index : q ≡ j = omega (arith, e) in
+        h.known x.0 q n c (ap (slice_get (map (λ e. e.0) fs)) place ∙ g.3) (ap (slice_get (map (λ p. p.0) S.patterns)) index ∙ f)
+
+    -- what is known of the patterns at the name is what they say of it
+    pub recalls : Recalls o m r t n S (at_name S n) 0 S.patterns
+    recalls = recalls_if (at_name S n) (lookup n fs) at_name_found
+
+    module _ (u : Bool) where
+      pub nodes_matching_answer : AnswerAs o m r t (nodes_matching o.answers S u n) (map (λ e. (e.1, P // codes "patternProperties" // e.0)) (matching_at o.world u es n))
+      nodes_matching_answer = matching_answer o m r t n S (at_name S n) u (P // codes "patternProperties") 0 S.patterns es h.patterns recalls
+
+      pub is_additional_other : is_additional o.answers S u n ≡ is_other o.world u fs es n
+      is_additional_other = λ i. none_declared i && none_matching i
+        where
+          not_some : {X : Type 0} (x : Option X) → is_none x ≡ not (is_some x)
+          not_some None = refl
+          not_some (Some x) = refl
+
+          none_declared : is_none (at_name S n) ≡ not (is_declared_in fs n)
+          none_declared = not_some (at_name S n) ∙ ap not is_declared
+
+          none_matching : is_empty (nodes_matching o.answers S u n) ≡ is_empty (matching_at o.world u es n)
+          none_matching = both_empty o m r t (nodes_matching o.answers S u n) (map (λ e. (e.1, P // codes "patternProperties" // e.0)) (matching_at o.world u es n)) nodes_matching_answer ∙ is_empty-map _ (matching_at o.world u es n)
+
+      -- the schemas that are asked, each with its place: the declared one, those whose pattern matches, and where there is neither the rest
+      abbrev pub declared_schemas : List (Data × Path)
+      declared_schemas = map (λ s. (s, P // codes "properties" // n)) (declared_at fs n)
+
+      abbrev pub matching_schemas : List (Data × Path)
+      matching_schemas = map (λ e. (e.1, P // codes "patternProperties" // e.0)) (matching_at o.world u es n)
+
+      abbrev pub rest_schemas : List (Data × Path)
+      rest_schemas = put_if (is_object d && is_other o.world u fs es n) (d, P // codes "additionalProperties") []
+
+      rest_answers : AnswerAs o m r t (cond (is_additional o.answers S u n) (option_to_list S.rest) []) rest_schemas
+      rest_answers = by S.rest h.rest (is_additional o.answers S u n) (is_other o.world u fs es n) is_additional_other
+        where
+          by : (x : Option N) → RestAnswers o m r t x d (P // codes "additionalProperties") → (b c : Bool) → b ≡ c → AnswerAs o m r t (cond b (option_to_list x) []) (put_if (is_object d && c) (d, P // codes "additionalProperties") [])
+          by None g b c q = none (is_object d) (false_is_no_object d g) b
+            where
+              none : (object : Bool) → object ≡ false → (b : Bool) → AnswerAs o m r t (cond b [] []) (put_if (object && c) (d, P // codes "additionalProperties") [])
+              none true e b = absurd (true≢false e)
+              none false e true = tt
+              none false e false = tt
+          by (Some x) g b c q = one (is_object d) g.0 b c q
+            where
+              one : (object : Bool) → object ≡ true → (b c : Bool) → b ≡ c → AnswerAs o m r t (cond b (x ∷ []) []) (put_if (object && c) (d, P // codes "additionalProperties") [])
+              one false e b c q = absurd (true≢false (sym e))
+              one true e true true q = (g.1, tt)
+              one true e true false q = absurd (true≢false q)
+              one true e false true q = absurd (true≢false (sym q))
+              one true e false false q = tt
+
+      -- beside what is declared
+      pub others_answer : AnswerAs o m r t (others_asked o.answers S u n) (matching_schemas ++ rest_schemas)
+      others_answer = answer_append o m r t (nodes_matching o.answers S u n) matching_schemas _ rest_schemas nodes_matching_answer rest_answers
+
+      pub asked_answer : AnswerAs o m r t (nodes_asked o.answers S u n) (declared_schemas ++ (matching_schemas ++ rest_schemas))
+      asked_answer = answer_append o m r t _ declared_schemas _ (matching_schemas ++ rest_schemas)
+          (found_answers o m r t n (P // codes "properties") fs (at_name S n) (lookup n fs) at_name_found)
+          others_answer
