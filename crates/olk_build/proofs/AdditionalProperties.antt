@@ -1,19 +1,17 @@
 -- Building `additionalProperties`, `properties` and `patternProperties`.
-use Rattle.std.specs.Prelude.{◌≡◌, ◌+◌, ℕ, Bool, true, false, List, [], ◌∷◌, ◌++◌, map, zip, length, codes, Option, Some, None, is_some, option_map, Vec}
+use Rattle.std.specs.Prelude.{◌≡◌, true, false, List, [], ◌∷◌, ◌++◌, zip, length, codes, Option, Some, None, is_some, option_map, Vec}
 use Rattle.std.specs.declared.alloc.Global.{Global}
 use Rattle.std.proofs.Common.{refl, sym, ◌∙◌, ap, subst, arith}
 use Rattle.std.proofs.lemmas.List.{length-map}
 use mathlib.Core.Bool.{true≢false}
-use mathlib.Core.Path.{subst₂}
 use Rattle.serde_json.specs.Data.{Data, Members}
 use Rattle.olk_spec.specs.Names.{Name, Path, ◌//◌, lookup, is_empty}
 use Rattle.olk_spec.specs.Schemas.{listed, members, is_object, is_truth}
 use Rattle.olk_spec.specs.Malformed.{has_repeat}
-use Rattle.olk_spec.specs.Vocabulary.{additional_properties, keyword_named}
+use Rattle.olk_spec.specs.Vocabulary.{additional_properties}
 use Rattle.olk_base.specs.Count.{Counts}
 use Rattle.olk_base.specs.Kit.{Kit}
 use Rattle.olk_base.specs.declared.pattern.CompiledPattern.{CompiledPattern}
-use Rattle.olk_node.specs.Stands.{StandsFor}
 use Rattle.olk_node.specs.declared.node.SchemaNode.{SchemaNode}
 use Rattle.olk_tree.specs.Tables.{Table}
 use Rattle.olk_tree.specs.declared.map.SmallMap.{SmallMap}
@@ -29,12 +27,12 @@ use Rattle.olk_read.specs.declared.shape.Shape.{Shape}
 use Rattle.olk_read.specs.declared.shape.Shape.TheVariants as shape
 use Rattle.olk_make.specs.Forms.{IsAdditionalProperties}
 use Rattle.olk_make.specs.Making.{KeywordsMean, MakesRestriction}
-use Rattle.olk_make.specs.Standing.{StandAt, IsLast, Fills, PartStands, DeclaredStand, PatternsStand, RestStands, BesideStands}
+use Rattle.olk_make.specs.Standing.{StandAt, IsLast, Fills, DeclaredStand, PatternsStand, RestStands}
 use Rattle.olk_make.specs.declared.part.Beside.{Beside}
 use Rattle.olk_make.specs.declared.part.Part.{Part}
 use Rattle.olk_make.specs.declared.part.Patterns.{Patterns}
 use Rattle.olk_build.specs.Placing.{PartsAreBuilt, IsPart}
-use Rattle.olk_build.specs.Together.{member_at, restriction_members, NeighbourIsBuilt, TogetherAreBuilt}
+use Rattle.olk_build.specs.Together.{restriction_members, NeighbourIsBuilt, TogetherAreBuilt}
 use Rattle.olk_build.proofs.Modules.{number_of, which_of, shape_named, only_properties, only_pattern_properties, zip_length}
 use Rattle.olk_build.proofs.Together.{neighbour_built, all_clean, all_spent}
 

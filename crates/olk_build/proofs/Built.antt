@@ -1,20 +1,19 @@
 -- What is built so far, and one more.
-use Rattle.std.specs.Prelude.{◌≡◌, ◌<◌, ◌≤◌, ◌+◌, ℕ, Bool, true, false, not, is_some, List, [], ◌∷◌, ◌++◌, map, drop, length, decimal, slice_index_or as get_or}
+use Rattle.std.specs.Prelude.{◌≡◌, ◌<◌, ◌≤◌, ◌+◌, ℕ, Bool, true, false, is_some, List, [], ◌∷◌, ◌++◌, map, drop, length, decimal, slice_index_or as get_or}
 use Rattle.std.specs.List.{flat_map, enumerate_from}
 use Rattle.std.proofs.Common.{refl, sym, ◌∙◌, ap, subst, arith, true≢false}
 use Rattle.std.proofs.lemmas.List.{append-nil, append_assoc, drop_more, drop_all}
-use Rattle.std.proofs.lemmas.Grind.{flat_map-append}
 use Rattle.serde_json.specs.Data.{Data, null, boolean, number, string, array, object, Members}
 use Rattle.serde_json.specs.Find.{as_array}
 use Rattle.serde_json.specs.View.{view}
 use Rattle.serde_json.specs.declared.value.Value.{Value}
 use Rattle.olk_spec.specs.Names.{Name, Path, ◌//◌, put_if}
-use Rattle.olk_spec.specs.Faults.{Fault, fault, MultipleTypes, ◌∼◌, like_through}
-use Rattle.olk_spec.specs.Schemas.{listed, members, numbered, is_array}
+use Rattle.olk_spec.specs.Faults.{Fault, fault, MultipleTypes, like_through}
+use Rattle.olk_spec.specs.Schemas.{listed, members, is_array}
 use Rattle.olk_spec.specs.Vocabulary.{keyword_named}
 use Rattle.olk_spec.specs.Malformed.{malformations_at}
-use Rattle.olk_spec.specs.Meaning.{meaning, accepts, asks, report, tree}
-use Rattle.olk_spec.specs.Costs.{Cost, cost, ◌⊕◌, total_cost, one_place}
+use Rattle.olk_spec.specs.Meaning.{meaning}
+use Rattle.olk_spec.specs.Costs.{Cost, cost, total_cost, one_place}
 use Rattle.olk_spec.specs.Tree.{plain}
 use Rattle.olk_spec.proofs.Order.{∼_same}
 use Rattle.olk_base.specs.Count.{Counts, count_compiled}
@@ -32,7 +31,7 @@ use Rattle.std.specs.declared.alloc.Global.{Global}
 use Rattle.olk_spec.specs.World.{World}
 use Rattle.olk_read.specs.Refusing.{Spends, TellsOneOf, Refuses}
 use Rattle.olk_make.specs.Holding.{all_malformed, StandEach, StandInner}
-use Rattle.olk_build.specs.Building.{IsBuilt, AreBuilt, InnerAreBuilt, RefusesSchema, RefusesEach, RefusesInner, no_lists, entries_read, is_read, each_malformed, each_cost, inner_cost, all_cost}
+use Rattle.olk_build.specs.Building.{IsBuilt, AreBuilt, InnerAreBuilt, RefusesSchema, RefusesEach, RefusesInner, no_lists, entries_read, is_read, each_malformed, each_cost, all_cost}
 use Rattle.olk_build.specs.Placing.{PlacesAreBuilt, RefusesPlaces}
 use Rattle.olk_read.proofs.SoFar.{SoFar, none_so_far, all_so_far, memory_so_far, refused_so_far, one_more_so_far, memory_past}
 use Rattle.olk_read.specs.declared.shape.ReadPlaces.TheVariants.{Entries}
@@ -42,8 +41,7 @@ use Rattle.olk_tree.specs.declared.node.Body.{Body}
 use Rattle.olk_tree.specs.declared.node.Body.TheVariants.{True, False, Keywords}
 use Rattle.olk_node.specs.declared.node.SchemaNode.{SchemaNode, out-SchemaNode}
 use Rattle.olk_node.proofs.Layers.{node_means, node_finds, node_shows, node_location}
-use Rattle.olk_spec.proofs.CostSums.{sum_last, total_cost-append}
-use Rattle.olk_read.proofs.Spending.{spends_nothing, spends_append, spends_same, spends_place, within_after, within_same, within_exactly, tells_same}
+use Rattle.olk_read.proofs.Spending.{spends_append, spends_same, spends_place, within_after, within_same, within_exactly, tells_same}
 use Rattle.olk_members.proofs.Objects.{IsNoSchema, no_schema_malformed, no_schema_cost, object_accepts, object_asks, object_report, object_tree, object_malformed, object_cost}
 
 abbrev pub truth_body : {W : Type 0} → Bool → Body W

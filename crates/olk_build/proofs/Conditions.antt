@@ -1,6 +1,6 @@
 -- Building `if`, `then` and `else`.
 use Rattle.std.specs.Prelude.{bytes_eq, ◌≡◌, Bool, true, false, List, [], ◌∷◌, ◌++◌, codes, ◌&&◌, Option, Some, None, is_some}
-use Rattle.std.proofs.Common.{refl, sym, ◌∙◌, ap, subst}
+use Rattle.std.proofs.Common.{refl, sym, ap, subst}
 use mathlib.Core.Bool.{true≢false}
 use mathlib.Core.Path.{subst₂}
 use Rattle.serde_json.specs.Data.{Data, Members}

@@ -1,20 +1,18 @@
 -- The parts of a schema object: each is built, or why there is none.
-use Rattle.std.specs.Prelude.{◌≡◌, Bool, true, false, List, [], ◌∷◌, ◌++◌, map, codes}
+use Rattle.std.specs.Prelude.{◌≡◌, true, false, List, [], ◌∷◌, ◌++◌, map, codes}
 use Rattle.std.specs.List.{flat_map}
 use Rattle.std.specs.Prelude.{Vec}
 use Rattle.std.specs.declared.alloc.Global.{Global}
-use Rattle.std.proofs.Common.{refl, sym, ◌∙◌, ap, subst, ◌⊎◌, inl, inr}
+use Rattle.std.proofs.Common.{refl, sym, ◌∙◌, ap, subst}
 use mathlib.Core.Bool.{true≢false}
 use Rattle.std.proofs.lemmas.List.{append-nil}
 use Rattle.std.proofs.lemmas.Grind.{flat_map-append}
 use mathlib.Core.Path.{subst₂}
 use Rattle.serde_json.specs.Data.{Data, boolean, Members}
-use Rattle.olk_spec.specs.Names.{Name, Path, ◌//◌, down, lookup}
+use Rattle.olk_spec.specs.Names.{Name, Path, ◌//◌, down}
 use Rattle.olk_spec.specs.Vocabulary.{Keyword, pattern_properties, additional_properties, keyword_named}
 use Rattle.olk_spec.specs.Faults.{Fault}
 use Rattle.olk_spec.specs.Schemas.{Schema, read, read_members, listed, members, numbered, branches, is_object, is_truth}
-use Rattle.std.specs.Ordering.{nat_cmp}
-use Rattle.std.specs.Cmp.Lexicographic.{slice_cmp}
 use Rattle.olk_spec.specs.Malformed.{each, itself, places_where, read_places, malformations_at, malformations_step, items_of_array}
 use Rattle.olk_spec.specs.Costs.{Cost, cost, cost_step, no_cost, own_cost, total_cost, ◌⊕◌}
 use Rattle.olk_spec.proofs.Reading.{entry, place, entries_read, branches_read}
@@ -25,7 +23,7 @@ use Rattle.std.specs.declared.alloc.AllocError.{AllocError}
 use Rattle.olk_base.specs.Kit.{Kit}
 use Rattle.olk_members.specs.Dependencies.{schema_entries}
 use Rattle.olk_members.specs.Members.{member_malformations, member_cost}
-use Rattle.olk_read.specs.Refusing.{Spends, SpendsWithin, Refuses}
+use Rattle.olk_read.specs.Refusing.{Spends, Refuses}
 use Rattle.olk_build.specs.Building.{RefusesMember, RefusesPart, each_malformed, each_cost, inner_malformed, inner_cost, all_cost}
 use Rattle.olk_read.specs.Reading.{reads_of, own_faults, own_cost_of, IsShape, Fits, IsRead}
 use Rattle.olk_members.specs.Conditions.{Known, known_of, is_conditional_name, is_read_beside, IsKnown}
@@ -45,7 +43,7 @@ use Rattle.olk_members.proofs.Facts.{numbered-map, each_malformations, each_cost
 use Rattle.olk_members.proofs.Dependencies.{dependent_schemas_places, dependencies_places}
 use Rattle.olk_members.proofs.PropertyNames.{false_is_no_object, property_names_places, other_names_places}
 use Rattle.olk_members.proofs.PropertyDependencies.{property_dependencies_places, inner_malformations, inner_costs}
-use Rattle.olk_spec.proofs.CostSums.{sum_first, sum_last, total_cost-append}
+use Rattle.olk_spec.proofs.CostSums.{sum_last, total_cost-append}
 use Rattle.olk_read.proofs.Spending.{spends_nothing, spends_append, spends_same, within_after, within_before, within_same, within_nothing, refuses_memory, tells_left, tells_right, tells_same}
 
 branch_entries : {X : Type 0} (step : Schema X → X) (d : Data) → branches (read step d) ≡ map (entry step) (numbered (items_of_array d))

@@ -1,5 +1,5 @@
 -- Building a member together with two neighbours that its validator takes over.
-use Rattle.std.specs.Prelude.{◌≡◌, List, [], ◌∷◌, ◌++◌, map, Option, Some, None, option_to_list, Result, IfOk, IfErr}
+use Rattle.std.specs.Prelude.{◌≡◌, List, [], ◌∷◌, ◌++◌, map, Some, None, option_to_list, Result, IfOk, IfErr}
 use Rattle.std.specs.Result.{IsErrAnd}
 use Rattle.std.proofs.lemmas.Result.{err_from_is_err_and}
 use Rattle.std.proofs.lemmas.List.{append-nil}
@@ -26,7 +26,7 @@ use Rattle.olk_make.specs.Holding.{which, all_malformed}
 use Rattle.olk_make.specs.Standing.{Fills}
 use Rattle.olk_make.specs.declared.part.Part.{Part}
 use Rattle.olk_build.specs.Building.{RefusesPart, all_cost}
-use Rattle.olk_build.specs.Placing.{PartsAreBuilt, IsPart}
+use Rattle.olk_build.specs.Placing.{PartsAreBuilt}
 use Rattle.olk_build.specs.Together.{member_at, NeighbourIsBuilt}
 
 -- ---- lists of members, one after the other

@@ -1,6 +1,6 @@
 -- What is built of `then` and `else`.
 use Rattle.std.specs.Prelude.{◌≡◌, true, Option, Result}
-use Rattle.serde_json.specs.Data.{Data, Members}
+use Rattle.serde_json.specs.Data.{Members}
 use Rattle.olk_spec.specs.Names.{Name, Path, ◌//◌}
 use Rattle.olk_base.specs.Count.{Counts}
 use Rattle.olk_reports.specs.declared.error.BuildError.{BuildError}

@@ -45,7 +45,8 @@ fn all_accepted<M: PropertiesValidatorsMap<N>, N: IsValid>(
     }
 }
 
-// The same of an object's members.
+// The same of an object's members; apart, so that the function that asks a keyword stays small.
+#[inline(never)]
 fn members_accepted<M: PropertiesValidatorsMap<N>, N: IsValid>(
     properties: &M,
     members: &Map<String, Value>,

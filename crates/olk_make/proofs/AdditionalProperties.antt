@@ -1,5 +1,5 @@
 -- What holds `additionalProperties`, with all that it takes over.
-use Rattle.std.specs.Prelude.{◌≡◌, ◌≤◌, ◌<◌, ℕ, suc, Bool, true, false, ◌&&◌, ◌||◌, List, [], ◌∷◌, ◌++◌, map, zip, length, slice_get, slice_index_or as get_or, codes, bytes_eq, Option, Some, None, is_some, option_map, option_to_list, unwrap_or, cond, Vec, Box, string_bytes}
+use Rattle.std.specs.Prelude.{◌≡◌, ◌<◌, ℕ, suc, Bool, true, false, ◌||◌, List, [], ◌∷◌, ◌++◌, map, zip, length, slice_get, slice_index_or as get_or, codes, Option, Some, None, is_some, option_map, option_to_list, unwrap_or, cond, Vec, Box}
 use Rattle.std.specs.declared.alloc.Global.{Global}
 use Rattle.std.specs.Ordering.{nat_cmp, is_eq}
 use Rattle.std.specs.Cmp.Lexicographic.{slice_cmp}
@@ -21,7 +21,7 @@ use Rattle.olk_spec.proofs.Truth.{and_true}
 use Rattle.olk_base.specs.Kit.{Kit}
 use Rattle.olk_base.specs.Compiled.{pattern_answers}
 use Rattle.olk_base.specs.declared.pattern.CompiledPattern.{CompiledPattern}
-use Rattle.olk_members.specs.AdditionalProperties.{entries_in, declared_beside, patterns_beside, required_beside, declares_beside, matches_beside}
+use Rattle.olk_members.specs.AdditionalProperties.{entries_in, declared_beside}
 use Rattle.olk_members.specs.Conditions.{is_restriction, is_restricted, known_of}
 use Rattle.olk_members.specs.Fused.{fused_name}
 use Rattle.olk_members.specs.Members.{member_report}
@@ -32,12 +32,12 @@ use Rattle.olk_members.proofs.Claims.{claims_itself, heads_elsewhere}
 use Rattle.olk_members.proofs.Heads.{names_of}
 use Rattle.olk_members.proofs.OneFused.{clean_one_fused}
 use Rattle.olk_members.proofs.TakenOver.{free_takes_nothing}
-use Rattle.olk_tree.specs.Additional.{Sides, placed}
-use Rattle.olk_tree.specs.Answers.{beside, names_in, nodes_in, mapped_places, patterns_in, sides_of, required_text, required_place, validator_means}
+use Rattle.olk_tree.specs.Additional.{placed}
+use Rattle.olk_tree.specs.Answers.{beside, nodes_in, mapped_places, patterns_in, required_text, required_place}
 use Rattle.olk_tree.specs.Ascending.{Ascend}
 use Rattle.olk_tree.specs.Questions.{Question}
-use Rattle.olk_tree.specs.Sides.{AnswersAs, EntriesAnswer, PatternsAnswer, RestAnswers, SidesStand, RestrictionStands}
-use Rattle.olk_tree.specs.Tables.{IsTableOf, table_says}
+use Rattle.olk_tree.specs.Sides.{AnswersAs, EntriesAnswer, PatternsAnswer, RestAnswers, RestrictionStands}
+use Rattle.olk_tree.specs.Tables.{table_says}
 use Rattle.olk_tree.proofs.RestrictionMeans.{restriction_accepts, restriction_asks, restriction_finds, restriction_shows}
 use Rattle.olk_tree.specs.declared.additional_properties.AdditionalProperties.{AdditionalProperties}
 use Rattle.olk_tree.specs.declared.additional_properties.RequiredName.{RequiredName}
@@ -48,7 +48,7 @@ use Rattle.olk_tree.specs.declared.node.KeywordOver.TheVariants as keyword
 use Rattle.olk_node.specs.Nodes.{answers}
 use Rattle.olk_node.specs.Stands.{StandsFor}
 use Rattle.olk_node.specs.declared.node.SchemaNode.{SchemaNode}
-use Rattle.olk_read.specs.Patterns.{IsPattern, ArePatterns}
+use Rattle.olk_read.specs.Patterns.{ArePatterns}
 use Rattle.olk_read.specs.declared.shape.Shape.TheVariants as shape
 use Rattle.olk_read.specs.declared.shape.ReadPlaces.TheVariants.{Itself}
 use Rattle.olk_make.specs.Forms.{IsMapOf, HasPatterns, IsRequiredName, HasMapFor, IsFormOfAdditionalProperties, IsAdditionalProperties}

@@ -12,7 +12,6 @@ use mathlib.Core.Bool.{true≢false}
 use mathlib.Core.Path.{subst₂}
 use Rattle.serde_json.specs.Data.{Data, Members}
 use Rattle.olk_spec.specs.Names.{Name, Path, ◌//◌, lookup, put_if}
-use Rattle.olk_spec.specs.Vocabulary.{if_keyword, then_keyword, else_keyword}
 use Rattle.olk_spec.specs.Faults.{Fault, ◌∼◌, like_empty}
 use Rattle.olk_spec.specs.Schemas.{listed}
 use Rattle.olk_spec.specs.Malformed.{has_repeat}
@@ -21,7 +20,7 @@ use Rattle.olk_spec.specs.Tree.{Tree, plain}
 use Rattle.olk_spec.proofs.Order.{∼_same}
 use Rattle.olk_spec.proofs.Truth.{and_true}
 use Rattle.olk_base.specs.Kit.{Kit}
-use Rattle.olk_tree.specs.Questions.{Question, always, conditional, every}
+use Rattle.olk_tree.specs.Questions.{Question, always, conditional}
 use Rattle.olk_tree.specs.Answers.{validator_means, validator_report, validator_tree}
 use Rattle.olk_tree.specs.Shown.{branch_trees, if_tree}
 use Rattle.olk_tree.specs.declared.node.KeywordOver.{KeywordOver}
@@ -32,14 +31,14 @@ use Rattle.olk_node.specs.declared.node.SchemaNode.{SchemaNode}
 use Rattle.olk_members.specs.Members.{member_accepts, member_asks, member_report, member_child}
 use Rattle.olk_members.specs.Conditions.{is_condition}
 use Rattle.olk_members.specs.Plans.{Planned, plan_of, is_case, tells_members, head, claims}
-use Rattle.olk_members.proofs.Claims.{members_named, members_found, claims_condition, claims_itself, heads_elsewhere}
+use Rattle.olk_members.proofs.Claims.{members_found, claims_condition, claims_itself, heads_elsewhere}
 use Rattle.olk_members.proofs.TakenOver.{never_taken}
 use Rattle.olk_members.proofs.Conditions as fact
 use Rattle.olk_members.proofs.Heads.{names_of}
 use Rattle.olk_make.specs.Forms.{IsFormOfIf, IsIf}
 use Rattle.olk_make.specs.Holding.{which, Covers}
 use Rattle.olk_make.specs.Making.{KeywordsMean, MakesCondition, MakesPart}
-use Rattle.olk_make.specs.Standing.{StandAt, Fills, is_taken, CasesStand}
+use Rattle.olk_make.specs.Standing.{StandAt, Fills, is_taken}
 use Rattle.olk_read.specs.declared.shape.Shape.TheVariants as shape
 use Rattle.olk_read.specs.declared.shape.ReadPlaces.TheVariants.{Itself}
 use Rattle.olk_make.specs.declared.part.Cases.{Cases}

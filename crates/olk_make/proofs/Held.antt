@@ -20,7 +20,6 @@ use Rattle.olk_spec.specs.Vocabulary.{Keyword, properties, pattern_properties, r
 use Rattle.olk_spec.specs.Faults.{Fault, AnyOf, Not, Leaf, fault, Context, context, IsLikeContext, like_none, like_branch, like, like_any_of, ◌∼◌, like_empty, like_next, like_through}
 use Rattle.olk_spec.specs.Schemas.{read_members, listed, numbered, at, members, texts, is_object}
 use Rattle.olk_spec.specs.Malformed.{has_repeat, items_list}
-use Rattle.olk_spec.specs.Meanings.{restricts}
 use Rattle.olk_spec.specs.Meaning.{accepts, asks, report, tree, meaning_step}
 use Rattle.olk_spec.specs.Accepts.{missing}
 use Rattle.olk_spec.specs.Reports.{required_faults, fault_if}
@@ -29,7 +28,7 @@ use Rattle.olk_spec.specs.Trees.{missing_child}
 use Rattle.olk_spec.proofs.Named.{Named, named as is_named}
 use Rattle.olk_spec.proofs.Order.{∼_same, ∼_append, ∼_behind, ∼_swap, ∼_flat_map_any, faults_in-from}
 use Rattle.olk_spec.proofs.Truth.{and_true, or_false}
-use Rattle.olk_spec.proofs.Walks.{neither, same_name}
+use Rattle.olk_spec.proofs.Walks.{same_name}
 use Rattle.olk_base.specs.Kit.{Kit}
 use Rattle.olk_tree.specs.Questions.{Question, every, some}
 use Rattle.olk_tree.specs.Answers.{beside, named, names_in, nodes_in, mapped, validator_means, validator_report, validator_tree}

@@ -1,15 +1,15 @@
 -- What holds `oneOf`.
-use Rattle.std.specs.Prelude.{◌≡◌, ◌≤◌, ℕ, ◌+◌, ◌==◌, nat_lt, Bool, true, false, not, cond, List, [], ◌∷◌, ◌++◌, map, count_by, codes, None}
+use Rattle.std.specs.Prelude.{◌≡◌, ◌≤◌, ℕ, ◌+◌, ◌==◌, nat_lt, Bool, true, false, not, cond, List, [], ◌∷◌, map, count_by, codes, None}
 use Rattle.std.proofs.Common.{refl, sym, ◌∙◌, ap, subst, arith}
 use Rattle.std.proofs.lemmas.List.Sums.{sum_by-cons}
 use mathlib.Core.Path.{subst₂}
 use Rattle.serde_json.specs.Data.{Data, array, Members, Items}
 use Rattle.olk_spec.specs.Names.{Name, Path, ◌//◌, put_if}
 use Rattle.olk_spec.specs.Vocabulary.{one_of}
-use Rattle.olk_spec.specs.Faults.{Fault, Context, context, OneOfNotValid, OneOfMultipleValid, IsLikeContext, like, like_not_valid, like_multiple, ◌∼◌, like_empty, like_next}
+use Rattle.olk_spec.specs.Faults.{Context, context, OneOfNotValid, OneOfMultipleValid, IsLikeContext, like, like_not_valid, like_multiple, ◌∼◌, like_empty, like_next}
 use Rattle.olk_spec.specs.Schemas.{numbered}
 use Rattle.olk_spec.specs.Malformed.{items_list}
-use Rattle.olk_spec.specs.Meaning.{accepts, report}
+use Rattle.olk_spec.specs.Meaning.{accepts}
 use Rattle.olk_spec.specs.Reports.{fault_if}
 use Rattle.olk_spec.specs.Tree.{result}
 use Rattle.olk_spec.proofs.Order.{∼_append}
@@ -21,7 +21,6 @@ use Rattle.olk_tree.specs.declared.node.KeywordOver.{KeywordOver}
 use Rattle.olk_tree.specs.declared.node.KeywordOver.TheVariants as keyword
 use Rattle.olk_node.specs.Nodes.{answers}
 use Rattle.olk_node.specs.declared.node.SchemaNode.{SchemaNode}
-use Rattle.olk_members.specs.Members.{member_report}
 use Rattle.olk_members.proofs.OneOf as fact
 use Rattle.olk_make.specs.Forms.{IsFormOfOneOf}
 use Rattle.olk_make.specs.Holding.{StandEach}

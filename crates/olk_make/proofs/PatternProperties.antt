@@ -1,5 +1,5 @@
 -- What holds `patternProperties`.
-use Rattle.std.specs.Prelude.{◌≡◌, ◌≢◌, ◌≤◌, ◌+◌, ⊤, ℕ, Bool, true, false, cond, ◌&&◌, List, [], ◌∷◌, ◌++◌, map, zip, length, sum_by, codes, Vec, Some, None}
+use Rattle.std.specs.Prelude.{◌≡◌, ◌≤◌, ◌+◌, ℕ, Bool, true, false, cond, ◌&&◌, List, [], ◌∷◌, ◌++◌, map, zip, length, sum_by, codes, Vec, Some, None}
 use Rattle.std.specs.List.{list_all, flat_map}
 use Rattle.std.specs.declared.alloc.Global.{Global}
 use Rattle.std.proofs.Common.{refl, sym, ◌∙◌, ap, subst, arith}
@@ -10,8 +10,8 @@ use Rattle.olk_spec.specs.Names.{Name, Path, ◌//◌, those, put_if}
 use Rattle.olk_spec.specs.World.{reads_as}
 use Rattle.olk_spec.specs.Vocabulary.{pattern_properties}
 use Rattle.olk_spec.specs.Faults.{◌∼◌, like_empty, like_through}
-use Rattle.olk_spec.specs.Schemas.{is_object, members, read_members}
-use Rattle.olk_spec.specs.Meanings.{restricts, matches, is_open}
+use Rattle.olk_spec.specs.Schemas.{is_object, members}
+use Rattle.olk_spec.specs.Meanings.{matches}
 use Rattle.olk_spec.specs.Meaning.{accepts, asks, report, tree, meaning_step}
 use Rattle.olk_spec.specs.Tree.{result}
 use Rattle.olk_spec.proofs.Order.{∼_same, ∼_append, ∼_flat_map_any}
@@ -40,7 +40,7 @@ use Rattle.olk_make.specs.Forms.{IsFormOfPatternProperties, IsPatternProperties}
 use Rattle.olk_make.specs.Standing.{EntriesStand}
 use Rattle.olk_make.specs.Making.{KeywordMeans, MakesMember}
 use Rattle.olk_make.proofs.Entries.{sum_within}
-use Rattle.olk_make.proofs.Held.{question, shown, found, one_if_free, same_within}
+use Rattle.olk_make.proofs.Held.{question, shown, found, one_if_free}
 
 -- ---- patterns and nodes side by side
 

@@ -8,12 +8,11 @@ use Rattle.std.proofs.lemmas.List.Folds.{list_all-append}
 use Rattle.std.proofs.lemmas.List.Sorted.{sum_by-IsPermutation}
 use Rattle.std.proofs.lemmas.List.Sums.{sum_by-append, sum_by-cons}
 use Rattle.std.proofs.lemmas.Grind.{flat_map-append}
-use Rattle.serde_json.specs.Data.{Data, object, Members}
+use Rattle.serde_json.specs.Data.{Data, Members}
 use Rattle.olk_spec.specs.Names.{Name, Path}
 use Rattle.olk_spec.specs.Faults.{◌∼◌, like_empty, like_through}
 use Rattle.olk_spec.specs.Schemas.{listed}
 use Rattle.olk_spec.specs.Malformed.{has_repeat}
-use Rattle.olk_spec.specs.Meaning.{meaning, accepts, asks, report, tree}
 use Rattle.olk_spec.proofs.Order.{∼_append, ∼_permuted}
 use Rattle.olk_spec.proofs.Truth.{and_true}
 use Rattle.olk_base.specs.Kit.{Kit}

@@ -1,4 +1,4 @@
-use Rattle.std.proofs.Common.{rules, true, false, inl, inr, ◌+◌, ◌++◌, [], ◌∷◌, map, take, take_all, string_bytes, decimal, refl, sym, ap, subst, ◌∙◌}
+use Rattle.std.proofs.Common.{rules, true, false, inl, inr, ◌+◌, ◌++◌, [], ◌∷◌, map, string_bytes, decimal, refl, sym, ap, subst, ◌∙◌}
 use Rattle.olk_members.specs.Conditions.{known}
 use mathlib.Core.Path.{subst₂}
 use Rattle.std.proofs.lemmas.List.{append-nil, append_assoc}
@@ -9,9 +9,7 @@ use Rattle.serde_json.specs.declared.value.Value.{the_lemmas as value_lemmas}
 use Rattle.olk_spec.specs.Names.{Name, ◌//◌}
 use Rattle.olk_spec.specs.Vocabulary.{keyword_named}
 use Rattle.olk_spec.specs.Schemas.{listed, numbered}
-use Rattle.olk_spec.specs.Costs.{cost}
 use Rattle.olk_spec.specs.Faults.{fault}
-use Rattle.olk_spec.specs.Malformed.{malformations_at}
 use Rattle.olk_reports.proofs.Errors.{kind_of_multiple_types}
 use Rattle.olk_base.specs.Kit.{kit, world}
 use Rattle.olk_members.specs.Members.{member_malformations, member_cost}

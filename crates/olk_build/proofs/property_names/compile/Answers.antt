@@ -1,5 +1,5 @@
-use Rattle.std.specs.Prelude.{Some, codes, option_to_list}
-use Rattle.std.proofs.Common.{[], ◌∷◌, refl, ap, subst}
+use Rattle.std.specs.Prelude.{codes, option_to_list}
+use Rattle.std.proofs.Common.{[], ◌∷◌, refl, subst}
 use Rattle.serde_json.specs.View.{view}
 use Rattle.olk_base.specs.Kit.{kit}
 use Rattle.olk_make.specs.Making.{MakesMember}

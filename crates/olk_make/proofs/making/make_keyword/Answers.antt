@@ -6,7 +6,7 @@ use Rattle.olk_make.specs.Making.{MakesClaims, MakesCondition, MakesRestriction,
 use Rattle.olk_make.proofs.AdditionalProperties.{part_of_rest, part_of_no_others, part_of_any_others}
 use Rattle.olk_make.proofs.Makes.{part_of_claims, part_of_own, all_of_alone, any_of_alone, one_of_alone, not_alone, leaf_alone, unread_alone, patterns_claim_own, property_names_alone, no_names_alone, any_names_alone, dependent_required_alone, dependent_schemas_alone, dependencies_alone, property_dependencies_alone, without_nodes, makes_leaf, makes_unread}
 use Rattle.olk_make.proofs.PropertyNames.{makes_any_names}
-use Rattle.olk_make.proofs.Conditions.{part_of_if, part_of_no_if, part_of_then, part_of_else, part_of_unpaired}
+use Rattle.olk_make.proofs.Conditions.{part_of_if, part_of_then, part_of_else, part_of_unpaired}
 use Rattle.olk_make.proofs.making.make_keyword.Goals as goal
 
 pub returns-in-AllOf-clause-makes : goal.returns-in-AllOf-clause-makes

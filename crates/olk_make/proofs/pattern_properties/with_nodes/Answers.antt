@@ -1,4 +1,4 @@
-use Rattle.std.proofs.Common.{[], length, inl, inr, ◌∙◌, ap, arith}
+use Rattle.std.proofs.Common.{length, inl, inr, ◌∙◌, ap, arith}
 use Rattle.std.proofs.lemmas.List.{nil_from_length}
 use Rattle.olk_make.proofs.PatternProperties.{MadeOf, both_next, no_pattern_left, no_node_left}
 use Rattle.olk_make.proofs.SoFar.{one_made, all_made}

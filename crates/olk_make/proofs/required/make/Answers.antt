@@ -1,5 +1,5 @@
 use Rattle.olk_base.specs.Kit.{kit}
-use Rattle.std.proofs.Common.{sym, ◌∙◌, rules}
+use Rattle.std.proofs.Common.{rules}
 use Rattle.olk_members.specs.Plans.{planned}
 use Rattle.olk_make.proofs.Makes.{makes_required_elsewhere, makes_required_inside, makes_required_alone}
 use Rattle.olk_make.proofs.required.make.Goals as goal
