@@ -106,7 +106,8 @@ pub(crate) fn table_of_declared<R: RegexEngine>(
     neighbours: Neighbours<'_>,
     patterns: &[CompiledPattern<R>],
 ) -> Result<PatternTable, AllocError>
-    ensures names { IfOk result (λ t. t.names ≡ map (λ e. e.0) (known neighbours.entry).declared) }
+    ensures names { IfOk result (λ t. t.names
+        ≡ map (λ e. e.0) (known neighbours.entry).declared) }
     ensures answers { IfOk result (λ t. IsTableOf R.answers patterns.now t) }
     ensures asked { OnOk result (meter.new ≡ count_asks
         (length (known neighbours.entry).declared * how_many_cost R.costs patterns.now) meter.old) }
