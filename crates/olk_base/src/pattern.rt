@@ -103,7 +103,8 @@ impl<R: RegexEngine> RegexEngine for CompiledPattern<R> {
 fn begins_with(text: &str, prefix: &str) -> bool
     ensures { result ≡ starts_with nat_eq text.now prefix.now }
 {
-    text.starts_with(prefix)
+    let (text, prefix) = (text.as_bytes(), prefix.as_bytes());
+    prefix.len() <= text.len() && prefix == &text[..prefix.len()]
 }
 
 fn finishes_with(text: &str, suffix: &str) -> bool

@@ -6,7 +6,7 @@ ghost use Rattle.olk_tree.specs.Additional.{known_or_asked, declared_means, patt
 ghost use Rattle.olk_spec.specs.Names.{is_empty};
 ghost use Rattle.olk_spec.specs.Accepts.{missing};
 ghost use Rattle.olk_tree.specs.Questions.{every};
-ghost use Rattle.olk_tree.specs.Answers.{mapped, sides_of, required_text};
+ghost use Rattle.olk_tree.specs.Answers.{beside, mapped, sides_of, required_text};
 ghost use Rattle.olk_tree.specs.Tables.{known_says, table_says};
 ghost use Rattle.olk_tree.specs.Visited.{object_of};
 ghost use Rattle.olk_check.specs.Asks.{Asks};
@@ -81,7 +81,7 @@ fn members_accepted<R: RegexEngine, N: IsValid>(
     match without_patterns(keyword) {
         Some((properties, rest)) => {
             let holds_back = keyword.required.is_some();
-            declared_accept(properties, members, rest, holds_back, ctx)
+            mapped_accept(properties, members, rest, holds_back, ctx)
         }
         None => each_accepted(keyword, members, ctx),
     }
@@ -101,7 +101,8 @@ fn without_patterns<R, N>(
 }
 
 // The same as `are_properties_valid`; where nothing else is expected, arrays and objects may be held back.
-fn declared_accept<N: IsValid>(
+#[inline(always)]
+fn mapped_accept<N: IsValid>(
     properties: &PropertiesMap<N>,
     members: &Map<String, Value>,
     rest: Option<&N>,
@@ -109,6 +110,24 @@ fn declared_accept<N: IsValid>(
     ctx: &mut ValidationContext,
 ) -> bool
     ensures { Asks ctx.old ctx.new (names_mean N.means (mapped properties.now)
+        (option_copied rest.entry) (object_of members.now.entries)) result }
+{
+    match properties {
+        PropertiesMap::Small(map) => declared_accept(map, members, rest, holds_back, ctx),
+        PropertiesMap::Big(map) => declared_accept(map, members, rest, holds_back, ctx),
+    }
+}
+
+// The same of one kind of map.
+fn declared_accept<M: PropertiesValidatorsMap<N>, N: IsValid>(
+    properties: &M,
+    members: &Map<String, Value>,
+    rest: Option<&N>,
+    holds_back: bool,
+    ctx: &mut ValidationContext,
+) -> bool
+    ensures { Asks ctx.old ctx.new (names_mean N.means
+        (beside (M.names properties.now) (M.nodes properties.now))
         (option_copied rest.entry) (object_of members.now.entries)) result }
 {
     match rest {
@@ -122,13 +141,14 @@ fn declared_accept<N: IsValid>(
 ///
 /// Takes no memory. The context keeps its answer; of the counts only those of matchers that were asked and of matches
 /// that were left unfinished rise.
-pub fn are_properties_valid<N: IsValid>(
-    properties: &PropertiesMap<N>,
+pub fn are_properties_valid<M: PropertiesValidatorsMap<N>, N: IsValid>(
+    properties: &M,
     members: &Map<String, Value>,
     additional: Option<&N>,
     ctx: &mut ValidationContext,
 ) -> bool
-    ensures { Asks ctx.old ctx.new (names_mean N.means (mapped properties.now)
+    ensures { Asks ctx.old ctx.new (names_mean N.means
+        (beside (M.names properties.now) (M.nodes properties.now))
         (option_copied additional.entry) (object_of members.now.entries)) result }
 {
     let mut hint = 0;
@@ -161,12 +181,13 @@ fn is_accepted<N: IsValid>(
 
 // Whether each member is declared, and accepted by what is declared at its name. Arrays and objects are asked last, as many
 // as can be held back.
-fn all_declared<N: IsValid>(
-    properties: &PropertiesMap<N>,
+fn all_declared<M: PropertiesValidatorsMap<N>, N: IsValid>(
+    properties: &M,
     members: &Map<String, Value>,
     ctx: &mut ValidationContext,
 ) -> bool
-    ensures { Asks ctx.old ctx.new (names_mean N.means (mapped properties.now)
+    ensures { Asks ctx.old ctx.new (names_mean N.means
+        (beside (M.names properties.now) (M.nodes properties.now))
         None (object_of members.now.entries)) result }
 {
     let mut held: ArrayVec<Option<(&N, &Value)>, DEFERRED_MEMBERS> = ArrayVec::new();

@@ -1,7 +1,8 @@
 //! `patternProperties`.
 ghost use Rattle.std.specs.Prelude.{true};
 ghost use Rattle.serde_json.specs.View.{view};
-ghost use Rattle.olk_tree.specs.Questions.{always, conditional};
+ghost use Rattle.olk_spec.specs.Schemas.{at};
+ghost use Rattle.olk_tree.specs.Questions.{always, conditional, every};
 ghost use Rattle.olk_tree.specs.Matched.{match_question};
 ghost use Rattle.olk_tree.specs.Answers.{matched_mean, patterns_mean};
 ghost use Rattle.olk_tree.specs.Visited.{object_of};
@@ -9,6 +10,7 @@ ghost use Rattle.olk_check.specs.Asks.{Asks};
 
 use crate::IsValid;
 use olk_base::{CompiledPattern, Node, PropertyPattern, RegexEngine, ValidationContext};
+use olk_members::{law_of_names, member};
 use olk_tree::pattern_properties::{PatternProperties, SingleValuePatternProperties};
 use serde_json::{Map, Value};
 
@@ -63,8 +65,43 @@ fn patterns_accept<R: RegexEngine, N: IsValid>(
     true
 }
 
-// Whether the node accepts each member whose name the pattern matches.
+// Whether the node accepts each member whose name the pattern matches. An exact text is looked up.
 fn matched_accepted<R: RegexEngine, N: IsValid>(
+    pattern: &CompiledPattern<R>,
+    subschema: &N,
+    members: &Map<String, Value>,
+    ctx: &mut ValidationContext,
+) -> bool
+    ensures { Asks ctx.old ctx.new (matched_mean R.answers R.costs N.means
+        pattern.now subschema.now (object_of members.now.entries)) result }
+{
+    match pattern {
+        CompiledPattern::Exact(name) => {
+            law_of_names(members);
+            named_accepted(name.as_str(), subschema, members, ctx)
+        }
+        _ => each_accepted(pattern, subschema, members, ctx),
+    }
+}
+
+// Whether the node accepts the member at the name, if there is one.
+fn named_accepted<N: IsValid>(
+    name: &str,
+    subschema: &N,
+    members: &Map<String, Value>,
+    ctx: &mut ValidationContext,
+) -> bool
+    ensures { Asks ctx.old ctx.new (every (N.means subschema.now)
+        (at name.now (object_of members.now.entries))) result }
+{
+    match member(members, name) {
+        Some(value) => subschema.is_valid(Node::Value(value), ctx),
+        None => true,
+    }
+}
+
+// The same as `matched_accepted`, member by member.
+fn each_accepted<R: RegexEngine, N: IsValid>(
     pattern: &CompiledPattern<R>,
     subschema: &N,
     members: &Map<String, Value>,

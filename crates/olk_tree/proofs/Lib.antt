@@ -11,6 +11,7 @@ pub mod Merge
 mod Walked
 pub mod Maps
 pub mod Patterns
+pub mod Literals
 mod Bits
 pub mod Tables
 pub mod OneOf

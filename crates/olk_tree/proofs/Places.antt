@@ -13,7 +13,7 @@ use Rattle.std.proofs.lemmas.List.Sums.{position_or_len_is}
 use Rattle.std.proofs.lemmas.Map.Text.{is_eq-slice_cmp}
 use Rattle.std.proofs.lemmas.Bool.Decides.{nat_tests}
 use Rattle.olk_spec.specs.Names.{Name}
-use Rattle.olk_tree.specs.Ascending.{Ascend, IsAfter, StandsAt, Parts, IsPlaceOf}
+use Rattle.olk_tree.specs.Ascending.{Ascend, IsAfter, IsMissed, StandsAt, Parts, IsPlaceOf}
 
 abbrev cmp : Name → Name → Ordering
 cmp = slice_cmp nat_cmp
@@ -93,6 +93,24 @@ module _ (ks : List Name) (n : Name) where
       by : (k : ℕ) → k < length ks → (b : Bool) → nat_lt k p ≡ b → bytes_eq (get_or ks k []) n ≡ false
       by k l true e = differs (get_or ks k []) n Less (h.below k (grind (arith, nat_tests)) l) refl
       by k l false e = differs (get_or ks k []) n Greater (h.above k (grind (arith, nat_tests)) l) refl
+
+      none : position_or_len test ks ≡ length ks → None ≡ position test ks
+      none e = grind (arith, nat_tests)
+
+  pub missed_more : {from k : ℕ} → IsMissed ks from k n → false ≡ bytes_eq (get_or ks k []) n → IsMissed ks from (k + 1) n
+  missed_more {from} {k} h e i f l j = by (nat_lt i k) refl
+    where
+      by : (b : Bool) → nat_lt i k ≡ b → false ≡ bytes_eq (get_or ks i []) n
+      by true g = h i f (grind (arith, nat_tests)) j
+      by false g = let same : k ≡ i = grind (arith, nat_tests) in subst (λ z. false ≡ bytes_eq (get_or ks z []) n) same e
+
+  -- missed before a place and from there on
+  pub missed_none : {k end : ℕ} → length ks ≤ end → IsMissed ks 0 k n → IsMissed ks k end n → None ≡ position test ks
+  missed_none {k} {end} le before behind = none (position_or_len_is test ks (length ks) [] (omega arith) (λ i l. sym (by i l (nat_lt i k) refl)) (λ l. absurd (omega arith)))
+    where
+      by : (i : ℕ) → i < length ks → (b : Bool) → nat_lt i k ≡ b → false ≡ bytes_eq (get_or ks i []) n
+      by i l true f = before i (omega arith) (grind (arith, nat_tests)) l
+      by i l false f = behind i (grind (arith, nat_tests)) (omega arith) l
 
       none : position_or_len test ks ≡ length ks → None ≡ position test ks
       none e = grind (arith, nat_tests)
@@ -187,7 +205,7 @@ module _ {slice : List (String Global)} {ks : List Name} (h : Names slice ks) wh
   pub seen_at : (p : ℕ) (x : String Global) (t n : Name) → x ≡ get_or slice p x → t ≡ string_bytes x → p < length slice → bytes_eq t n ≡ bytes_eq (get_or ks p []) n
   seen_at p x t n is text lt = ap (λ k. bytes_eq k n) (text ∙ ap string_bytes is ∙ sym (get_or-map string_bytes slice p x [] lt) ∙ ap (λ l. get_or l p []) (sym h.as_seen))
 
-  pub equal_at : (p : ℕ) (x : String Global) (t n : Name) → x ≡ get_or slice p x → t ≡ string_bytes x → p < length slice → true ≡ bytes_eq t n → true ≡ bytes_eq (get_or ks p []) n
+  pub equal_at : {b : Bool} (p : ℕ) (x : String Global) (t n : Name) → x ≡ get_or slice p x → t ≡ string_bytes x → p < length slice → b ≡ bytes_eq t n → b ≡ bytes_eq (get_or ks p []) n
   equal_at p x t n is text lt e = e ∙ seen_at p x t n is text lt
 
   behind_seen : (l : ℕ) → map string_bytes (take (length slice - l) (drop l slice)) ≡ drop l ks

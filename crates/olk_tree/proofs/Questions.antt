@@ -5,7 +5,7 @@ use Rattle.olk_spec.proofs.Truth.{and_true}
 use Rattle.olk_tree.specs.Questions.{Question, always, both, every}
 
 -- two questions are one if they answer alike
-alike : {m n : Question} → ((u : Bool) → m.accepts u ≡ n.accepts u) → ((u : Bool) → m.asks u ≡ n.asks u) → m ≡ n
+pub alike : {m n : Question} → ((u : Bool) → m.accepts u ≡ n.accepts u) → ((u : Bool) → m.asks u ≡ n.asks u) → m ≡ n
 alike p q = λ i. record { accepts = λ u. p u i; asks = λ u. q u i }
 
 and_around : (x y z : Bool) → ((x && y) && z) ≡ (x && (y && z))

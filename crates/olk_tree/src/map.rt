@@ -1,12 +1,12 @@
 //! Names in order, and what stands beside them.
 ghost use Rattle.std.specs.Ordering.{nat_cmp};
 ghost use Rattle.std.specs.Cmp.Lexicographic.{slice_cmp};
-ghost use Rattle.std.specs.Prelude.{◌≡◌, ◌<◌, ◌↔◌, IsTrue, IfOk, IfSome, Some, bytes_eq, length, map, string_bytes, position};
+ghost use Rattle.std.specs.Prelude.{◌≡◌, ◌<◌, ◌≤◌, ◌↔◌, IsTrue, IfOk, IfSome, MatchOption, Some, bytes_eq, length, map, string_bytes, position};
 ghost use Rattle.serde_json.specs.View.{members_view};
 ghost use Rattle.olk_spec.specs.Schemas.{listed};
-ghost use Rattle.olk_tree.specs.Ascending.{Ascend, IsAfter, IsPlaceOf};
+ghost use Rattle.olk_tree.specs.Ascending.{Ascend, IsAfter, IsMissed, IsPlaceOf};
 
-use crate::validators_map::{DeclaredNames, PropertiesValidatorsMap};
+use crate::validators_map::{DeclaredNames, PropertiesValidatorsMap, node_from};
 use serde_json::{Map, Value};
 use std::alloc::{AllocError, Global};
 use std::cmp::Ordering;
@@ -31,6 +31,9 @@ impl Model for SortedNames {
 
 // So many names are compared, before the rest is bisected.
 const NEAR: usize = 4;
+
+// So many names are never bisected: comparing each for equality takes less, since most differ in their lengths.
+const FEW: usize = 14;
 
 impl SortedNames {
     /// No names.
@@ -121,6 +124,9 @@ impl SortedNames {
         ensures { result.1 ≡ position (λ k. bytes_eq k name.now) self.now }
     {
         let names = self.names.as_slice();
+        if names.len() <= FEW {
+            return find_equal(names, hint, name);
+        }
         if let Some(place) = find_near(names, hint.saturating_add(1), name) {
             return (place + 1, Some(place));
         }
@@ -149,12 +155,40 @@ fn find_near(names: &[String], hint: usize, name: &str) -> Option<usize>
         × (Some p ≡ position (λ k. bytes_eq k name.now) (map string_bytes names.now))) }
 {
     let end = names.len().min(hint.saturating_add(NEAR));
-    for place in hint..end {
+    find_between(names, hint, end, name)
+}
+
+// At which of these places the name stands, if it stands there.
+#[inline(always)]
+fn find_between(names: &[String], from: usize, to: usize, name: &str) -> Option<usize>
+    requires ordered { Ascend (map string_bytes names.now) }
+    requires inside { to ≤ length names.now }
+    ensures { MatchOption result (IsMissed (map string_bytes names.now) from to name.now)
+        (λ p. (p < length names.now)
+        × (Some p ≡ position (λ k. bytes_eq k name.now) (map string_bytes names.now))) }
+{
+    for place in from..to {
         if names[place].as_str() == name {
             return Some(place);
         }
     }
     None
+}
+
+// At which place the name stands, by comparing each: those behind `hint`, and then those before. A name that is found
+// nowhere leaves the hint.
+fn find_equal(names: &[String], hint: usize, name: &str) -> (usize, Option<usize>)
+    requires { Ascend (map string_bytes names.now) }
+    ensures { result.1 ≡ position (λ k. bytes_eq k name.now) (map string_bytes names.now) }
+{
+    let behind = names.len().min(hint.saturating_add(1));
+    if let Some(place) = find_between(names, behind, names.len(), name) {
+        return (place + 1, Some(place));
+    }
+    match find_between(names, 0, behind, name) {
+        Some(place) => (place + 1, Some(place)),
+        None => (hint, None),
+    }
 }
 
 // The same, where no name from `hint` on is the one that is looked for: the last one before is compared first.
@@ -207,5 +241,11 @@ impl<N> PropertiesValidatorsMap<N> for SmallMap<N> {
 
     fn nodes(&self) -> &[N] {
         &self.nodes
+    }
+
+    // As it is given, but inlined into walks.
+    #[inline(always)]
+    fn validator_from(&self, hint: usize, name: &str) -> (usize, Option<&N>) {
+        node_from(self.names(), self.nodes(), hint, name)
     }
 }

@@ -11,10 +11,10 @@ use Rattle.olk_check.proofs.additional_properties.members_accepted.Goals as goal
 pub returns-in-Some : goal.returns-in-Some
 returns-in-Some g c =
     let v = object_of c.args.members.now.entries in
-    subst (λ q. Asks c.args.ctx.now c.declared_accept.new.ctx q c.declared_accept.result)
+    subst (λ q. Asks c.args.ctx.now c.mapped_accept.new.ctx q c.mapped_accept.result)
     (unpatterned_means g.N.Means.means g.R.RegexEngine.answers g.R.RegexEngine.costs (table_says c.args.keyword.now.table) c.in-Some.properties.now (option_copied c.in-Some.rest) v
     ∙ ap (λ s. means_in_turn g.R.RegexEngine.answers g.R.RegexEngine.costs g.N.Means.means s v) (sym c.in-Some.ensures)
-    ∙ each_is_all g.R.RegexEngine.answers g.R.RegexEngine.costs g.N.Means.means (sides_of c.args.keyword.now) v c.law_of_names.ensures) c.declared_accept.ensures
+    ∙ each_is_all g.R.RegexEngine.answers g.R.RegexEngine.costs g.N.Means.means (sides_of c.args.keyword.now) v c.law_of_names.ensures) c.mapped_accept.ensures
 
 pub returns-in-None : goal.returns-in-None
 returns-in-None g c =

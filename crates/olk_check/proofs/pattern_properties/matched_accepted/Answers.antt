@@ -1,12 +1,18 @@
-use Rattle.olk_tree.proofs.Due.{name_next, no_name_next}
-use Rattle.olk_check.proofs.Walks.{all_go_on, all_stop, all_end}
+use Rattle.std.proofs.Common.{sym, ap, subst, ◌∙◌}
+use Rattle.serde_json.specs.View.{members_view}
+use Rattle.olk_spec.specs.Schemas.{at}
+use Rattle.olk_tree.specs.Questions.{every}
+use Rattle.olk_tree.specs.Answers.{matched_mean}
+use Rattle.olk_tree.specs.Visited.{object_of}
+use Rattle.olk_tree.proofs.Literals.{exact_mean}
+use Rattle.olk_check.specs.Asks.{Asks}
 use Rattle.olk_check.proofs.pattern_properties.matched_accepted.Goals as goal
 
-pub returns-then-not-accepted_if_matched : goal.returns-then-not-accepted_if_matched
-returns-then-not-accepted_if_matched g c = all_stop c.loop-name.invariant (name_next c.in-Some.ensures.steps c.as_str.ensures.value) c.if-not-accepted_if_matched.ensures
-
-pub loop-name-preserved : goal.loop-name-preserved
-loop-name-preserved g c = all_go_on c.loop-name.invariant (name_next c.in-Some.ensures.steps c.as_str.ensures.value) c.if-not-accepted_if_matched.ensures
-
-pub returns : goal.returns
-returns g c = all_end c.loop-name.invariant (no_name_next c.in-None.ensures.steps.0)
+pub returns-in-Exact : goal.returns-in-Exact
+returns-in-Exact g c =
+    let v = object_of c.args.members.now.entries in
+    subst (λ q. Asks c.args.ctx.now c.named_accepted.new.ctx q c.named_accepted.result)
+    (ap (λ n. every (g.N.Means.means c.args.subschema.now) (at n v)) c.as_str.ensures.value
+    ∙ exact_mean g.R.RegexEngine.answers g.R.RegexEngine.costs g.N.Means.means c.args.subschema.now (members_view c.args.members.now.entries) c.in-Exact.name c.law_of_names.ensures
+    ∙ ap (λ p. matched_mean g.R.RegexEngine.answers g.R.RegexEngine.costs g.N.Means.means p c.args.subschema.now v) (sym c.in-Exact.is))
+    c.named_accepted.ensures

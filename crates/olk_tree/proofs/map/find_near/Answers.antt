@@ -1,9 +1,0 @@
-use Rattle.std.proofs.Common.{◌<◌, arith, rules, length, map, string_bytes, refl}
-use Rattle.olk_tree.proofs.Places.{names_are, same_length, equal_at, equal_here}
-use Rattle.olk_tree.proofs.map.find_near.Goals as goal
-
-pub returns-then-eq : goal.returns-then-eq
-returns-then-eq c =
-    let lt : c.loop-place.place < length c.args.names.now = search rules in
-    let h = names_are c.args.names.now c.args.names.now (map string_bytes c.args.names.now) refl refl c.requires in
-    (lt, equal_here (map string_bytes c.args.names.now) c.args.name.now h.ascend c.loop-place.place (omega (arith, same_length h)) (equal_at h c.loop-place.place _ _ c.args.name.now c.index-names-place.is c.as_str.ensures.value lt c.if-eq.ensures))
