@@ -1,21 +1,16 @@
-//! Tests of the validators, of building and of asking.
+//! Tests of the whole: of what is found and shown, and of what building and asking count.
 //!
-//! Stands on all libraries, whose public calls alone it asks. The tests are in its modules.
+//! Stands on all libraries, whose public calls alone it asks. The tests are in its modules; those that need no `Validator`
+//! are in `olk_build_tests`.
 #![tactic(auto)]
 
 #[cfg(test)]
 mod additional;
-#[cfg(test)]
-mod check;
 #[cfg(test)]
 mod counts;
 #[cfg(test)]
 mod found;
 #[cfg(test)]
 mod nesting;
-#[cfg(test)]
-mod pattern_tables;
-#[cfg(test)]
-mod tree;
 #[cfg(test)]
 mod validator;
