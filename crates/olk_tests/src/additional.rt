@@ -1,7 +1,8 @@
-//! What `additionalProperties` shows with all that it takes over, what its errors speak of, and which patterns it asks. What
-//! it finds is in the program's lines (tools/program_lines).
-use crate::found::{built, collect, expect_tree, push_instance};
-use object_logic::{ValidationContext, ValidationError};
+//! What `additionalProperties` shows with all that it takes over, and what its errors speak of. What it finds is in the
+//! program's lines (tools/program_lines).
+use crate::found::{collect, expect_tree, push_instance};
+use crate::rows::{built, object};
+use object_logic::ValidationContext;
 use olk_base::Meter;
 use olk_bench::{BenchLeaf, BenchLeaves, BenchRegex, BenchRegexes};
 use olk_build::properties::compile_small_map;
@@ -9,7 +10,7 @@ use olk_build::{Context, compile};
 use olk_check::are_properties_valid;
 use olk_node::SchemaNode;
 use olk_tree::PropertiesMap;
-use serde_json::{Map, Value};
+use serde_json::Value;
 use std::alloc::Global;
 use std::process::Abort;
 use std::test::Fail;
@@ -48,10 +49,9 @@ fn trees_of_restrictions(rt: HostRuntime) -> Result<(), Fail> {
 
 // What the errors of an instance speak of.
 fn instances(alloc: Global, schema: &str, instance: &str) -> Result<String, Fail> {
-    let schema = Value::from_str(alloc, schema)?;
+    let validator = built(alloc, schema)?;
     let instance = Value::from_str(alloc, instance)?;
-    let validator = built(alloc, &schema)?;
-    let mut errors: Vec<ValidationError<'_>> = Vec::new(alloc);
+    let mut errors = Vec::new(alloc);
     collect(&validator, alloc, &instance, &mut errors)?;
     let mut text = String::new(alloc);
     for error in &errors {
@@ -75,46 +75,12 @@ fn an_error_speaks_of_the_object_or_of_its_first_member(rt: HostRuntime) -> Resu
     Ok(())
 }
 
-const SOME_UNFINISHED: &str =
-    r#"{"additionalProperties":{},"properties":{"ab":{},"c":{}},"patternProperties":{"(slow)a":{},"b":{},"^c":{}}}"#;
-
-// How often a verdict asks matchers, and how many matches are left unfinished.
-fn asked(alloc: Global, instance: &str) -> Result<(u64, u64), Fail> {
-    let schema = Value::from_str(alloc, SOME_UNFINISHED)?;
-    let instance = Value::from_str(alloc, instance)?;
-    let validator = built(alloc, &schema)?;
-    let mut ctx = ValidationContext::new(true);
-    let _accepted = validator.is_valid(&instance, &mut ctx);
-    Ok((ctx.meter().asked(), ctx.meter().unfinished()))
-}
-
-#[test]
-fn a_declared_name_asks_what_was_left_unfinished(rt: HostRuntime) -> Result<(), Fail> {
-    for (instance, counts) in [
-        (r#"{"ab":1}"#, (1, 1)),
-        (r#"{"c":1}"#, (0, 0)),
-        (r#"{"q":1}"#, (2, 0)),
-        (r#"{"aq":1}"#, (2, 1)),
-        (r#"{"ab":1,"c":1,"q":1}"#, (3, 1)),
-    ] {
-        assert_eq!(rt; asked(rt.alloc(), instance)?, counts, "{instance}");
-    }
-    Ok(())
-}
-
 // ---- without patterns
 
 type BenchNode = SchemaNode<BenchLeaf, BenchRegex>;
 
-fn parsed(alloc: Global, text: &str) -> Result<Map<String, Value>, Fail> {
-    match Value::from_str(alloc, text)? {
-        Value::Object(members) => Ok(members),
-        _ => Err(Fail::from("no object")),
-    }
-}
-
 fn declared(alloc: Global, text: &str) -> Result<PropertiesMap<BenchNode>, Fail> {
-    let names = parsed(alloc, text)?;
+    let names = object(alloc, text)?;
     let mut meter = Meter::new();
     let mut ctx = Context::new(alloc, &BenchLeaves, &BenchRegexes, &mut meter);
     match compile_small_map(alloc, &mut ctx, &names) {
@@ -140,7 +106,7 @@ fn accepted(
     rest: &BenchNode,
     instance: &str,
 ) -> Result<(bool, bool), Fail> {
-    let members = parsed(alloc, instance)?;
+    let members = object(alloc, instance)?;
     let mut ctx = ValidationContext::new(false);
     let with_rest = are_properties_valid(map, &members, Some(rest), &mut ctx);
     Ok((

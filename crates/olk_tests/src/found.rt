@@ -1,25 +1,13 @@
 //! Contexts of errors, lists that are handed in, and children of evaluations. What is found without contexts is in the
 //! program's lines (tools/program_lines).
+use crate::rows::{BenchValidator, built, four_cells};
 use object_logic::{
-    BuildError, EvaluationNode, Meter, Node, ValidateError, ValidationContext, ValidationError,
-    ValidationErrorKind, Validator,
+    EvaluationNode, Node, ValidateError, ValidationContext, ValidationError, ValidationErrorKind,
 };
-use olk_bench::{BenchLeaf, BenchLeaves, BenchRegex, BenchRegexes};
 use serde_json::Value;
 use std::alloc::{AllocError, Global};
 use std::process::Abort;
 use std::test::Fail;
-
-pub(crate) type BenchValidator = Validator<BenchLeaf, BenchRegex>;
-
-pub(crate) fn built(alloc: Global, schema: &Value) -> Result<BenchValidator, Fail> {
-    let mut meter = Meter::new();
-    match Validator::build(alloc, &BenchLeaves, &BenchRegexes, schema, &mut meter) {
-        Ok(validator) => Ok(validator),
-        Err(BuildError::Refused(_)) => Err(Fail::new("refused")),
-        Err(BuildError::Memory(error)) => Err(Fail::from(error)),
-    }
-}
 
 // An error as a line: its text, its instance path and its schema path.
 fn line(alloc: Global, error: &ValidationError<'_>) -> Result<String, AllocError> {
@@ -116,23 +104,35 @@ pub(crate) fn collect<'a>(
     validator.collect_errors(alloc, instance, &mut ctx, errors)
 }
 
-// All errors with their contexts, in the order of their texts.
+// Errors with their contexts, in the order of their texts, as one line.
+fn joined(alloc: Global, errors: &[ValidationError<'_>]) -> Result<String, AllocError> {
+    let mut lines = Vec::new(alloc);
+    for error in errors {
+        lines.push(with_context(alloc, error)?)?;
+    }
+    lines.sort_unstable();
+    let mut text = String::new(alloc);
+    for line in &lines {
+        if !text.is_empty() {
+            text.push_str(" & ")?;
+        }
+        text.push_str(line.as_str())?;
+    }
+    Ok(text)
+}
+
+// All errors, and no text where the instance is accepted.
 fn all_lines(
     validator: &BenchValidator,
     alloc: Global,
     instance: &Value,
-) -> Result<Vec<String>, AllocError> {
-    let mut errors: Vec<ValidationError<'_>> = Vec::new(alloc);
+) -> Result<String, AllocError> {
+    let mut errors = Vec::new(alloc);
     collect(validator, alloc, instance, &mut errors)?;
-    let mut lines = Vec::new(alloc);
-    for error in &errors {
-        lines.push(with_context(alloc, error)?)?;
-    }
-    lines.sort_unstable();
-    Ok(lines)
+    joined(alloc, &errors)
 }
 
-// The first error with its context, and an empty line where the instance is accepted.
+// The first error with its context, and no text where the instance is accepted.
 fn first_line(
     validator: &BenchValidator,
     alloc: Global,
@@ -158,127 +158,65 @@ fn verdicts(
     Ok((valid, evaluation.flag().valid))
 }
 
-// A name for the row, the schema, the instance, the first error, and all errors in the order of their texts.
-type Row<'a> = (&'a str, &'a str, &'a str, &'a str, &'a [&'a str]);
-
-fn expect_lines(rt: &impl Abort, lines: &[String], wanted: &[&str], name: &str) {
-    assert_eq!(rt; lines.len(), wanted.len(), "{name}");
-    for (line, wanted) in lines.iter().zip(wanted) {
-        assert_eq!(rt; line.as_str(), *wanted, "{name}");
-    }
-}
-
-// What is found is compared with what the row says, and each way of asking gives the same verdict.
-fn expect_found(rt: &impl Abort, alloc: Global, row: Row<'_>) -> Result<(), Fail> {
-    let (name, schema, instance, first, all) = row;
-    let schema = Value::from_str(alloc, schema)?;
-    let instance = Value::from_str(alloc, instance)?;
-    let validator = built(alloc, &schema)?;
-    expect_lines(rt, &all_lines(&validator, alloc, &instance)?, all, name);
+// What is found: the first error, and all errors where these are others; each way of asking gives the same verdict.
+pub(crate) fn expect_told(
+    rt: &impl Abort,
+    alloc: Global,
+    validator: &BenchValidator,
+    instance: &Value,
+    told: &str,
+) -> Result<(), Fail> {
+    let told = if told == "accepted" { "" } else { told };
+    let (first, all) = told.split_once(" | ").unwrap_or((told, told));
+    assert_eq!(rt; all_lines(validator, alloc, instance)?.as_str(), all);
+    assert_eq!(rt; first_line(validator, alloc, instance)?.as_str(), first);
+    let valid = told.is_empty();
     assert_eq!(rt;
-        first_line(&validator, alloc, &instance)?.as_str(),
-        first,
-        "{name}"
+        verdicts(validator, alloc, instance)?,
+        (valid, valid),
+        "{told}"
     );
-    let valid = all.is_empty();
-    let told = verdicts(&validator, alloc, &instance)?;
-    assert_eq!(rt; told, (valid, valid), "{name}");
     Ok(())
 }
 
-const NO_BRANCH: &str =
-    "1 is not valid under any of the schemas listed in the 'anyOf' keyword @ \"\", /anyOf";
+fn expect_of(
+    rt: &impl Abort,
+    alloc: Global,
+    schema: &str,
+    instance: &str,
+    told: &str,
+) -> Result<(), Fail> {
+    let validator = built(alloc, schema)?;
+    let instance = Value::from_str(alloc, instance)?;
+    expect_told(rt, alloc, &validator, &instance, told)
+}
 
-const EMPTY_IN_BRANCHES: &str = concat!(
-    "{} is not valid under any of the schemas listed in the 'anyOf' keyword @ \"\", /anyOf",
-    " {{} is not of type \"integer\" @ \"\", /anyOf/0/type;}",
-    " {\"a\" is a required property @ \"\", /anyOf/1/required;",
-    "\"b\" is a required property @ \"\", /anyOf/1/required;}"
-);
+fn expect_found(rt: &impl Abort, alloc: Global, row: &str) -> Result<(), Fail> {
+    let (_name, schema, instance, told) = four_cells(row)?;
+    expect_of(rt, alloc, schema, instance, told)
+}
 
-const NUMBER_IN_A_BRANCH: &str = concat!(
-    "1 is not valid under any of the schemas listed in the 'anyOf' keyword @ \"\", /anyOf",
-    " {1 is not of type \"string\" @ \"\", /anyOf/0/type;}"
-);
-
-const TOO_SMALL: &str = r#"1 is less than the minimum of 5 @ "", /allOf/1/minimum"#;
-
-const NUMBER_IN_ALL: &str = r#"1 is not of type "string" @ "", /allOf/0/type"#;
-
-const NOT_A_TEXT: &str = r#"{"type":"string"} is not allowed for "foo" @ "", /not"#;
-
-const NOT_NOT_A_TEXT: &str = r#"{"not":{"type":"string"}} is not allowed for 1 @ "", /not"#;
-
-const NEVER: &str = "False schema does not allow 1 @ \"\", ";
+// A name, a schema, an instance, and the one error with its context, or that the instance is accepted. Where there is more than
+// one error: the first, and all errors in the order of their texts.
+const BRANCHES: &str =
+    r##"no branch, an empty context | {"anyOf":[]} | 1 | 1 is not valid under any of the schemas listed in the 'anyOf' keyword @ "", /anyOf
+each branch has all that it finds in the context, in the order of branches | {"anyOf":[{"type":"integer"},{"required":["a","b"]}]} | {} | {} is not valid under any of the schemas listed in the 'anyOf' keyword @ "", /anyOf {{} is not of type "integer" @ "", /anyOf/0/type;} {"a" is a required property @ "", /anyOf/1/required;"b" is a required property @ "", /anyOf/1/required;}
+one branch | {"anyOf":[{"type":"string"}]} | 1 | 1 is not valid under any of the schemas listed in the 'anyOf' keyword @ "", /anyOf {1 is not of type "string" @ "", /anyOf/0/type;}
+a branch that accepts | {"anyOf":[{"type":"integer"},false]} | 1 | accepted
+nothing is wanted of all of none | {"allOf":[]} | 1 | accepted
+each branch of all | {"allOf":[{"type":"string"},{"minimum":5}]} | 1 | 1 is not of type "string" @ "", /allOf/0/type | 1 is less than the minimum of 5 @ "", /allOf/1/minimum & 1 is not of type "string" @ "", /allOf/0/type
+not | {"not":{"type":"string"}} | "foo" | {"type":"string"} is not allowed for "foo" @ "", /not
+not of not | {"not":{"not":{"type":"string"}}} | 1 | {"not":{"type":"string"}} is not allowed for 1 @ "", /not
+a false schema | false | 1 | False schema does not allow 1 @ "", "##;
 
 #[test]
 fn branches(rt: HostRuntime) -> Result<(), Fail> {
-    let rows: [Row<'_>; 9] = [
-        (
-            "no branch, an empty context",
-            r#"{"anyOf":[]}"#,
-            "1",
-            NO_BRANCH,
-            &[NO_BRANCH],
-        ),
-        (
-            "each branch has all that it finds in the context, in the order of branches",
-            r#"{"anyOf":[{"type":"integer"},{"required":["a","b"]}]}"#,
-            "{}",
-            EMPTY_IN_BRANCHES,
-            &[EMPTY_IN_BRANCHES],
-        ),
-        (
-            "one branch",
-            r#"{"anyOf":[{"type":"string"}]}"#,
-            "1",
-            NUMBER_IN_A_BRANCH,
-            &[NUMBER_IN_A_BRANCH],
-        ),
-        (
-            "a branch that accepts",
-            r#"{"anyOf":[{"type":"integer"},false]}"#,
-            "1",
-            "",
-            &[],
-        ),
-        (
-            "nothing is wanted of all of none",
-            r#"{"allOf":[]}"#,
-            "1",
-            "",
-            &[],
-        ),
-        (
-            "each branch of all",
-            r#"{"allOf":[{"type":"string"},{"minimum":5}]}"#,
-            "1",
-            NUMBER_IN_ALL,
-            &[TOO_SMALL, NUMBER_IN_ALL],
-        ),
-        (
-            "not",
-            r#"{"not":{"type":"string"}}"#,
-            r#""foo""#,
-            NOT_A_TEXT,
-            &[NOT_A_TEXT],
-        ),
-        (
-            "not of not",
-            r#"{"not":{"not":{"type":"string"}}}"#,
-            "1",
-            NOT_NOT_A_TEXT,
-            &[NOT_NOT_A_TEXT],
-        ),
-        ("a false schema", "false", "1", NEVER, &[NEVER]),
-    ];
-    for row in rows {
+    for row in BRANCHES.lines() {
         expect_found(&rt, rt.alloc(), row)?;
     }
     Ok(())
 }
 
-// A name, a schema, an instance, and the one error with its context, or that the instance is accepted.
 const ONE_OF: &str =
     r##"no branch, an empty context | {"oneOf":[]} | 1 | 1 is not valid under any of the schemas listed in the 'oneOf' keyword @ "", /oneOf
 two branches accept | {"oneOf":[{"type":"string"},{"maxLength":3}]} | "" | "" is valid under more than one of the schemas listed in the 'oneOf' keyword @ "", /oneOf {} {}
@@ -288,21 +226,10 @@ one branch refuses | {"oneOf":[{"type":"string"}]} | 1 | 1 is not valid under an
 one branch accepts | {"oneOf":[{"type":"integer"}]} | 1 | accepted
 the second branch alone accepts | {"oneOf":[{"type":"string"},{"maxLength":3}]} | 5 | accepted"##;
 
-fn expect_one(rt: &impl Abort, alloc: Global, row: &str) -> Result<(), Fail> {
-    let (name, others) = row.split_once(" | ").ok_or("a row of one cell")?;
-    let (schema, others) = others.split_once(" | ").ok_or("a row of two cells")?;
-    let (instance, told) = others.split_once(" | ").ok_or("a row of three cells")?;
-    if told == "accepted" {
-        expect_found(rt, alloc, (name, schema, instance, "", &[]))
-    } else {
-        expect_found(rt, alloc, (name, schema, instance, told, &[told]))
-    }
-}
-
 #[test]
 fn exactly_one_branch(rt: HostRuntime) -> Result<(), Fail> {
     for row in ONE_OF.lines() {
-        expect_one(&rt, rt.alloc(), row)?;
+        expect_found(&rt, rt.alloc(), row)?;
     }
     Ok(())
 }
@@ -322,7 +249,7 @@ a condition in a context | {"anyOf":[{"else":false,"if":{"type":"integer"},"then
 #[test]
 fn conditions(rt: HostRuntime) -> Result<(), Fail> {
     for row in CONDITIONS.lines() {
-        expect_one(&rt, rt.alloc(), row)?;
+        expect_found(&rt, rt.alloc(), row)?;
     }
     Ok(())
 }
@@ -347,12 +274,13 @@ no name is allowed | {"propertyNames":false} | {"foo":1} | False schema does not
 #[test]
 fn dependencies_and_names(rt: HostRuntime) -> Result<(), Fail> {
     for row in DEPENDENCIES.lines() {
-        expect_one(&rt, rt.alloc(), row)?;
+        expect_found(&rt, rt.alloc(), row)?;
     }
     Ok(())
 }
 
-// The same for patterns; the first ones after the examples of the standard's test suite.
+// The same for patterns; the first ones after the examples of the standard's test suite, the last ones with several members
+// and patterns, where the first error is that of the first member that is refused, and of the first pattern there.
 const PATTERNS: &str =
     r##"a member that one pattern matches is accepted | {"patternProperties":{"a":{"type":"integer"},"aa":{"maximum":20}}} | {"a":21} | accepted
 a member that both match is accepted | {"patternProperties":{"a":{"type":"integer"},"aa":{"maximum":20}}} | {"aaaa":18} | accepted
@@ -368,75 +296,17 @@ case matters | {"patternProperties":{"X_":{"type":"string"}}} | {"a_x_3":3} | ac
 a pattern is not anchored | {"patternProperties":{"X_":{"type":"string"}}} | {"a_X_3":3} | 3 is not of type "string" @ "/a_X_3", /patternProperties/X_/type
 no object | {"patternProperties":{"f":{"type":"integer"}}} | ["foo"] | accepted
 paths are escaped | {"patternProperties":{"^a/~":{"required":["b"]}}} | {"a/~c":{}} | "b" is a required property @ "/a~1~0c", /patternProperties/^a~1~0/required of {}
-patterns in branches | {"anyOf":[{"patternProperties":{"a":false,"b":{"type":"null"}}},{"patternProperties":{"^a":{"minimum":2}}}]} | {"ab":1} | {"ab":1} is not valid under any of the schemas listed in the 'anyOf' keyword @ "", /anyOf {1 is not of type "null" @ "/ab", /anyOf/0/patternProperties/b/type;False schema does not allow 1 @ "/ab", /anyOf/0/patternProperties/a;} {1 is less than the minimum of 2 @ "/ab", /anyOf/1/patternProperties/^a/minimum;}"##;
+patterns in branches | {"anyOf":[{"patternProperties":{"a":false,"b":{"type":"null"}}},{"patternProperties":{"^a":{"minimum":2}}}]} | {"ab":1} | {"ab":1} is not valid under any of the schemas listed in the 'anyOf' keyword @ "", /anyOf {1 is not of type "null" @ "/ab", /anyOf/0/patternProperties/b/type;False schema does not allow 1 @ "/ab", /anyOf/0/patternProperties/a;} {1 is less than the minimum of 2 @ "/ab", /anyOf/1/patternProperties/^a/minimum;}
+two patterns at one name | {"patternProperties":{"a":{"type":"integer"},"b$":{"minLength":3}}} | {"ab":"x","c":1} | "x" is not of type "integer" @ "/ab", /patternProperties/a/type | "x" is not of type "integer" @ "/ab", /patternProperties/a/type & "x" is shorter than 3 characters @ "/ab", /patternProperties/b$/minLength
+two names, two patterns | {"patternProperties":{"a":{"type":"integer"},"aa":{"maximum":20}}} | {"aaa":"foo","aaaa":31} | "foo" is not of type "integer" @ "/aaa", /patternProperties/a/type | "foo" is not of type "integer" @ "/aaa", /patternProperties/a/type & 31 is greater than the maximum of 20 @ "/aaaa", /patternProperties/aa/maximum
+the first name that is refused, and the first pattern there | {"patternProperties":{"^b":{"maximum":1},"x$":{"minimum":5}}} | {"ax":3,"b":2,"bx":4} | 3 is less than the minimum of 5 @ "/ax", /patternProperties/x$/minimum | 2 is greater than the maximum of 1 @ "/b", /patternProperties/^b/maximum & 3 is less than the minimum of 5 @ "/ax", /patternProperties/x$/minimum & 4 is greater than the maximum of 1 @ "/bx", /patternProperties/^b/maximum & 4 is less than the minimum of 5 @ "/bx", /patternProperties/x$/minimum
+one pattern over two names | {"patternProperties":{"a":{"type":"integer"}}} | {"a":null,"ba":"t","c":"u"} | null is not of type "integer" @ "/a", /patternProperties/a/type | "t" is not of type "integer" @ "/ba", /patternProperties/a/type & null is not of type "integer" @ "/a", /patternProperties/a/type
+beside declared and required names | {"patternProperties":{"^a":{"minimum":5}},"properties":{"a":{"type":"null"}},"required":["b","c"]} | {"a":1} | 1 is less than the minimum of 5 @ "/a", /patternProperties/^a/minimum | "b" is a required property @ "", /required of {"a":1} & "c" is a required property @ "", /required of {"a":1} & 1 is less than the minimum of 5 @ "/a", /patternProperties/^a/minimum & 1 is not of type "null" @ "/a", /properties/a/type"##;
 
 #[test]
 fn members_that_patterns_match(rt: HostRuntime) -> Result<(), Fail> {
     for row in PATTERNS.lines() {
-        expect_one(&rt, rt.alloc(), row)?;
-    }
-    Ok(())
-}
-
-fn joined(alloc: Global, lines: &[String]) -> Result<String, AllocError> {
-    let mut text = String::new(alloc);
-    for line in lines {
-        if !text.is_empty() {
-            text.push_str(" & ")?;
-        }
-        text.push_str(line.as_str())?;
-    }
-    Ok(text)
-}
-
-// All errors in the order of their texts, as one line.
-fn joined_lines(
-    validator: &BenchValidator,
-    alloc: Global,
-    instance: &Value,
-) -> Result<String, AllocError> {
-    let lines = all_lines(validator, alloc, instance)?;
-    joined(alloc, &lines)
-}
-
-// Each way of asking refuses, with this error first, and with all of these.
-fn expect_refused(
-    rt: &impl Abort,
-    alloc: Global,
-    validator: &BenchValidator,
-    instance: &Value,
-    first: &str,
-    all: &str,
-) -> Result<(), Fail> {
-    assert_eq!(rt; joined_lines(validator, alloc, instance)?.as_str(), all);
-    assert_eq!(rt; first_line(validator, alloc, instance)?.as_str(), first);
-    assert_eq!(rt; verdicts(validator, alloc, instance)?, (false, false));
-    Ok(())
-}
-
-// A schema, an instance, the first error, and all errors in the order of their texts. The first is that of the first
-// member that is refused, and of the first pattern there.
-const SEVERAL: &str =
-    r##"{"patternProperties":{"a":{"type":"integer"},"b$":{"minLength":3}}} | {"ab":"x","c":1} | "x" is not of type "integer" @ "/ab", /patternProperties/a/type | "x" is not of type "integer" @ "/ab", /patternProperties/a/type & "x" is shorter than 3 characters @ "/ab", /patternProperties/b$/minLength
-{"patternProperties":{"a":{"type":"integer"},"aa":{"maximum":20}}} | {"aaa":"foo","aaaa":31} | "foo" is not of type "integer" @ "/aaa", /patternProperties/a/type | "foo" is not of type "integer" @ "/aaa", /patternProperties/a/type & 31 is greater than the maximum of 20 @ "/aaaa", /patternProperties/aa/maximum
-{"patternProperties":{"^b":{"maximum":1},"x$":{"minimum":5}}} | {"ax":3,"b":2,"bx":4} | 3 is less than the minimum of 5 @ "/ax", /patternProperties/x$/minimum | 2 is greater than the maximum of 1 @ "/b", /patternProperties/^b/maximum & 3 is less than the minimum of 5 @ "/ax", /patternProperties/x$/minimum & 4 is greater than the maximum of 1 @ "/bx", /patternProperties/^b/maximum & 4 is less than the minimum of 5 @ "/bx", /patternProperties/x$/minimum
-{"patternProperties":{"a":{"type":"integer"}}} | {"a":null,"ba":"t","c":"u"} | null is not of type "integer" @ "/a", /patternProperties/a/type | "t" is not of type "integer" @ "/ba", /patternProperties/a/type & null is not of type "integer" @ "/a", /patternProperties/a/type
-{"patternProperties":{"^a":{"minimum":5}},"properties":{"a":{"type":"null"}},"required":["b","c"]} | {"a":1} | 1 is less than the minimum of 5 @ "/a", /patternProperties/^a/minimum | "b" is a required property @ "", /required of {"a":1} & "c" is a required property @ "", /required of {"a":1} & 1 is less than the minimum of 5 @ "/a", /patternProperties/^a/minimum & 1 is not of type "null" @ "/a", /properties/a/type"##;
-
-fn expect_several(rt: &impl Abort, alloc: Global, row: &str) -> Result<(), Fail> {
-    let (schema, others) = row.split_once(" | ").ok_or("a row of one cell")?;
-    let (instance, others) = others.split_once(" | ").ok_or("a row of two cells")?;
-    let (first, all) = others.split_once(" | ").ok_or("a row of three cells")?;
-    let schema = Value::from_str(alloc, schema)?;
-    let instance = Value::from_str(alloc, instance)?;
-    let validator = built(alloc, &schema)?;
-    expect_refused(rt, alloc, &validator, &instance, first, all)
-}
-
-#[test]
-fn several_members_and_patterns(rt: HostRuntime) -> Result<(), Fail> {
-    for row in SEVERAL.lines() {
-        expect_several(&rt, rt.alloc(), row)?;
+        expect_found(&rt, rt.alloc(), row)?;
     }
     Ok(())
 }
@@ -454,93 +324,50 @@ fn declared_beside_patterns(alloc: Global, count: usize) -> Result<String, Alloc
     Ok(text)
 }
 
-const OF_THE_PATTERN: &str = r#""x" is not of type "integer" @ "/m13", /patternProperties/^m/type"#;
-
-const OF_ALL_THREE: &str = concat!(
+const BESIDE_PATTERNS: &str = concat!(
+    r#""x" is not of type "integer" @ "/m13", /patternProperties/^m/type | "#,
     r#""a" is a required property @ "", /required of {"m13":"x"} & "b" is a required property @ "", /required of {"m13":"x"}"#,
     r#" & "x" is not of type "integer" @ "/m13", /patternProperties/^m/type"#,
     r#" & "x" is shorter than 2 characters @ "/m13", /properties/m13/minLength"#
 );
 
-fn expect_beside_patterns(rt: &impl Abort, alloc: Global, count: usize) -> Result<(), Fail> {
-    let schema = declared_beside_patterns(alloc, count)?;
-    let schema = Value::from_str(alloc, schema.as_str())?;
-    let instance = Value::from_str(alloc, r#"{"m13":"x"}"#)?;
-    let validator = built(alloc, &schema)?;
-    expect_refused(
-        rt,
-        alloc,
-        &validator,
-        &instance,
-        OF_THE_PATTERN,
-        OF_ALL_THREE,
-    )
-}
-
 #[test]
 fn declared_names_beside_patterns(rt: HostRuntime) -> Result<(), Fail> {
     for count in [14, 15, 16] {
-        expect_beside_patterns(&rt, rt.alloc(), count)?;
+        let schema = declared_beside_patterns(rt.alloc(), count)?;
+        let schema = schema.as_str();
+        expect_of(&rt, rt.alloc(), schema, r#"{"m13":"x"}"#, BESIDE_PATTERNS)?;
     }
     Ok(())
 }
 
 // The errors in the contexts of errors, with their contexts.
-fn inner_lines(alloc: Global, errors: &[ValidationError<'_>]) -> Result<Vec<String>, AllocError> {
-    let mut lines = Vec::new(alloc);
+fn inner_lines(alloc: Global, errors: &[ValidationError<'_>]) -> Result<String, AllocError> {
+    let mut text = String::new(alloc);
     for error in errors {
         if let ValidationErrorKind::AnyOf { context } = error.kind() {
             for branch in context {
-                for inner in branch {
-                    lines.push(with_context(alloc, inner)?)?;
-                }
+                text.push_str(joined(alloc, branch)?.as_str())?;
             }
         }
     }
-    Ok(lines)
-}
-
-const TEXT_IN_BRANCHES: &str = concat!(
-    "\"x\" is not valid under any of the schemas listed in the 'anyOf' keyword",
-    " @ \"\", /anyOf/0/anyOf",
-    " {\"x\" is not of type \"integer\" @ \"\", /anyOf/0/anyOf/0/type;}",
-    " {\"x\" is not of type \"array\" @ \"\", /anyOf/0/anyOf/1/type;}"
-);
-
-// The lines of the errors in the contexts of the errors of an instance.
-fn lines_of_branches(alloc: Global, schema: &str, instance: &str) -> Result<Vec<String>, Fail> {
-    let schema = Value::from_str(alloc, schema)?;
-    let instance = Value::from_str(alloc, instance)?;
-    let validator = built(alloc, &schema)?;
-    let mut errors: Vec<ValidationError<'_>> = Vec::new(alloc);
-    collect(&validator, alloc, &instance, &mut errors)?;
-    Ok(inner_lines(alloc, &errors)?)
-}
-
-#[test]
-fn branches_of_a_branch(rt: HostRuntime) -> Result<(), Fail> {
-    let schema = r#"{"anyOf":[{"anyOf":[{"type":"integer"},{"type":"array"}]}]}"#;
-    let lines = lines_of_branches(rt.alloc(), schema, "\"x\"")?;
-    expect_lines(&rt, &lines, &[TEXT_IN_BRANCHES], "a branch of a branch");
-    Ok(())
+    Ok(text)
 }
 
 // A name, a schema, an instance, and the one error in the context of the one error of `anyOf`, with its context.
 const IN_A_BRANCH: &str =
-    r##"no branch of oneOf accepts | {"anyOf":[{"oneOf":[{"type":"integer"},{"type":"array"}]}]} | "x" | "x" is not valid under any of the schemas listed in the 'oneOf' keyword @ "", /anyOf/0/oneOf {"x" is not of type "integer" @ "", /anyOf/0/oneOf/0/type;} {"x" is not of type "array" @ "", /anyOf/0/oneOf/1/type;}
+    r##"branches of a branch | {"anyOf":[{"anyOf":[{"type":"integer"},{"type":"array"}]}]} | "x" | "x" is not valid under any of the schemas listed in the 'anyOf' keyword @ "", /anyOf/0/anyOf {"x" is not of type "integer" @ "", /anyOf/0/anyOf/0/type;} {"x" is not of type "array" @ "", /anyOf/0/anyOf/1/type;}
+no branch of oneOf accepts | {"anyOf":[{"oneOf":[{"type":"integer"},{"type":"array"}]}]} | "x" | "x" is not valid under any of the schemas listed in the 'oneOf' keyword @ "", /anyOf/0/oneOf {"x" is not of type "integer" @ "", /anyOf/0/oneOf/0/type;} {"x" is not of type "array" @ "", /anyOf/0/oneOf/1/type;}
 two branches of oneOf accept | {"anyOf":[{"oneOf":[true,{"type":"array"},true]}]} | "x" | "x" is valid under more than one of the schemas listed in the 'oneOf' keyword @ "", /anyOf/0/oneOf {} {"x" is not of type "array" @ "", /anyOf/0/oneOf/1/type;} {}
 a context in else | {"anyOf":[{"else":{"oneOf":[]},"if":false}]} | "x" | "x" is not valid under any of the schemas listed in the 'oneOf' keyword @ "", /anyOf/0/else/oneOf"##;
 
 fn expect_in_a_branch(rt: &impl Abort, alloc: Global, row: &str) -> Result<(), Fail> {
-    let (name, others) = row.split_once(" | ").ok_or("a row of one cell")?;
-    let (schema, others) = others.split_once(" | ").ok_or("a row of two cells")?;
-    let (instance, told) = others.split_once(" | ").ok_or("a row of three cells")?;
-    expect_lines(
-        rt,
-        &lines_of_branches(alloc, schema, instance)?,
-        &[told],
-        name,
-    );
+    let (_name, schema, instance, told) = four_cells(row)?;
+    let validator = built(alloc, schema)?;
+    let instance = Value::from_str(alloc, instance)?;
+    let mut errors = Vec::new(alloc);
+    collect(&validator, alloc, &instance, &mut errors)?;
+    assert_eq!(rt; inner_lines(alloc, &errors)?.as_str(), told);
     Ok(())
 }
 
@@ -552,24 +379,21 @@ fn contexts_in_a_context(rt: HostRuntime) -> Result<(), Fail> {
     Ok(())
 }
 
-// The lines of a list that the errors of an instance are put into twice.
-fn lines_of_two(alloc: Global, schema: &str, instance: &str) -> Result<Vec<String>, Fail> {
-    let schema = Value::from_str(alloc, schema)?;
-    let instance = Value::from_str(alloc, instance)?;
-    let validator = built(alloc, &schema)?;
-    let mut errors: Vec<ValidationError<'_>> = Vec::new(alloc);
-    collect(&validator, alloc, &instance, &mut errors)?;
-    collect(&validator, alloc, &instance, &mut errors)?;
-    Ok(sorted(alloc, &errors)?)
-}
+const TWICE: &str = concat!(
+    r#"1 is less than the minimum of 5 @ "", /allOf/1/minimum & 1 is less than the minimum of 5 @ "", /allOf/1/minimum"#,
+    r#" & 1 is not of type "string" @ "", /allOf/0/type & 1 is not of type "string" @ "", /allOf/0/type"#
+);
 
 // What was in the list stays in it.
 #[test]
 fn errors_before_are_kept(rt: HostRuntime) -> Result<(), Fail> {
-    let schema = r#"{"allOf":[{"type":"string"},{"minimum":5}]}"#;
-    let lines = lines_of_two(rt.alloc(), schema, "1")?;
-    let wanted = [TOO_SMALL, TOO_SMALL, NUMBER_IN_ALL, NUMBER_IN_ALL];
-    expect_lines(&rt, &lines, &wanted, "errors before");
+    let alloc = rt.alloc();
+    let validator = built(alloc, r#"{"allOf":[{"type":"string"},{"minimum":5}]}"#)?;
+    let instance = Value::from_str(alloc, "1")?;
+    let mut errors = Vec::new(alloc);
+    collect(&validator, alloc, &instance, &mut errors)?;
+    collect(&validator, alloc, &instance, &mut errors)?;
+    assert_eq!(rt; joined(alloc, &errors)?.as_str(), TWICE);
     Ok(())
 }
 
@@ -619,12 +443,13 @@ fn push_tree(text: &mut String, keyword: &EvaluationNode<'_>) -> Result<(), Allo
 }
 
 // What an evaluation shows below its root.
-fn shown_tree(alloc: Global, schema: &str, instance: &str) -> Result<String, Fail> {
-    let schema = Value::from_str(alloc, schema)?;
-    let instance = Value::from_str(alloc, instance)?;
-    let validator = built(alloc, &schema)?;
+fn shown_tree(
+    validator: &BenchValidator,
+    alloc: Global,
+    instance: &Value,
+) -> Result<String, AllocError> {
     let mut ctx = ValidationContext::new(false);
-    let evaluation = validator.evaluate(alloc, &instance, &mut ctx)?;
+    let evaluation = validator.evaluate(alloc, instance, &mut ctx)?;
     let mut text = String::new(alloc);
     for keyword in evaluation.root().children() {
         push_tree(&mut text, keyword)?;
@@ -666,11 +491,10 @@ no object for patterns | {"allOf":[{"patternProperties":{"a":false}}],"patternPr
 declared and required names beside patterns | {"patternProperties":{"^a":true},"properties":{"a":true,"b":true},"required":["a","b"]} | {"a":1} | /patternProperties@ [a,] (/patternProperties/^a@/a);/properties@ [a,] (/properties/a@/a);/required@! required: "b" is a required property;"##;
 
 pub(crate) fn expect_tree(rt: &impl Abort, alloc: Global, row: &str) -> Result<(), Fail> {
-    let (name, others) = row.split_once(" | ").ok_or("a row of one cell")?;
-    let (schema, others) = others.split_once(" | ").ok_or("a row of two cells")?;
-    let (instance, tree) = others.split_once(" | ").ok_or("a row of three cells")?;
-    let shown = shown_tree(alloc, schema, instance)?;
-    assert_eq!(rt; shown.as_str(), tree, "{name}");
+    let (_name, schema, instance, tree) = four_cells(row)?;
+    let validator = built(alloc, schema)?;
+    let instance = Value::from_str(alloc, instance)?;
+    assert_eq!(rt; shown_tree(&validator, alloc, &instance)?.as_str(), tree);
     Ok(())
 }
 
@@ -762,9 +586,8 @@ fn two_counts_at_last(
 #[test]
 fn full_answers_after_a_refused_growth(rt: HostRuntime) -> Result<(), Fail> {
     let alloc = rt.alloc();
-    let schema = Value::from_str(alloc, MANY_FAULTS)?;
     let instance = Value::from_str(alloc, r#"{"c":1,"d":2,"k":"t"}"#)?;
-    let validator = built(alloc, &schema)?;
+    let validator = built(alloc, MANY_FAULTS)?;
     assert_eq!(rt; two_counts_at_last(&validator, alloc, &instance)?, (25, 50));
     assert_eq!(rt;
         first_line_at_last(&validator, alloc, &instance)?.as_str(),

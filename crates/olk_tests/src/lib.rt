@@ -13,4 +13,6 @@ mod found;
 #[cfg(test)]
 mod nesting;
 #[cfg(test)]
+mod rows;
+#[cfg(test)]
 mod validator;

@@ -1,13 +1,11 @@
 //! Branches in branches: what is asked before it is told costs no more than the square of the depth.
-use object_logic::{
-    BuildError, Meter, ValidateError, ValidationContext, ValidationError, Validator,
-};
-use olk_bench::{BenchLeaf, BenchLeaves, BenchRegex, BenchRegexes};
+use crate::found::expect_told;
+use crate::rows::{BenchValidator, built_of, three_cells};
+use object_logic::ValidationContext;
 use serde_json::{Map, Value};
 use std::alloc::{AllocError, Global};
+use std::process::Abort;
 use std::test::Fail;
-
-type BenchValidator = Validator<BenchLeaf, BenchRegex>;
 
 // A schema object with this one keyword.
 fn with_keyword(alloc: Global, name: &str, value: Value) -> Result<Value, Fail> {
@@ -35,43 +33,10 @@ fn nested(alloc: Global, depth: u8, with_leaf: bool) -> Result<Value, Fail> {
     Ok(schema)
 }
 
-fn built(alloc: Global, schema: &Value) -> Result<BenchValidator, Fail> {
-    let mut meter = Meter::new();
-    match Validator::build(alloc, &BenchLeaves, &BenchRegexes, schema, &mut meter) {
-        Ok(validator) => Ok(validator),
-        Err(BuildError::Refused(_)) => Err(Fail::new("refused")),
-        Err(BuildError::Memory(error)) => Err(Fail::from(error)),
-    }
-}
-
-// Where the first error stands in the schema; an empty text where there is none.
-fn first_path(
-    alloc: Global,
+// How many errors an evaluation lists.
+fn shown_errors(
     validator: &BenchValidator,
-    instance: &Value,
-) -> Result<String, AllocError> {
-    let mut ctx = ValidationContext::new(false);
-    match validator.validate(alloc, instance, &mut ctx) {
-        Ok(()) => Ok(String::new(alloc)),
-        Err(ValidateError::Invalid(error)) => String::from_str(alloc, error.schema_path()),
-        Err(ValidateError::Memory(error)) => Err(error),
-    }
-}
-
-fn error_count(
     alloc: Global,
-    validator: &BenchValidator,
-    instance: &Value,
-) -> Result<usize, AllocError> {
-    let mut ctx = ValidationContext::new(false);
-    let mut errors: Vec<ValidationError<'_>> = Vec::new(alloc);
-    validator.collect_errors(alloc, instance, &mut ctx, &mut errors)?;
-    Ok(errors.len())
-}
-
-fn shown_error_count(
-    alloc: Global,
-    validator: &BenchValidator,
     instance: &Value,
 ) -> Result<usize, AllocError> {
     let mut ctx = ValidationContext::new(false);
@@ -80,40 +45,26 @@ fn shown_error_count(
     Ok(errors.len())
 }
 
-#[test]
-fn a_hundred_branches_of_one_branch(rt: HostRuntime) -> Result<(), Fail> {
-    let alloc = rt.alloc();
-    let schema = nested(alloc, 100, false)?;
-    let validator = built(alloc, &schema)?;
-    let number = Value::from_str(alloc, "1")?;
-    assert_eq!(rt; first_path(alloc, &validator, &number)?.as_str(), "/anyOf");
-    assert_eq!(rt; error_count(alloc, &validator, &number)?, 1);
-    assert_eq!(rt; shown_error_count(alloc, &validator, &number)?, 1);
-    Ok(())
+// How many errors an evaluation lists of a hundred branches of one branch or of two, an instance, and what is found.
+const HUNDRED: &str =
+    r#"1 | 1 | 1 is not valid under any of the schemas listed in the 'anyOf' keyword @ "", /anyOf {1 is not valid under any of the schemas listed in the 'anyOf' keyword @ "", /anyOf/0/anyOf;}
+101 | 1 | 1 is not valid under any of the schemas listed in the 'anyOf' keyword @ "", /anyOf {1 is not valid under any of the schemas listed in the 'anyOf' keyword @ "", /anyOf/0/anyOf;} {1 is not of type "null" @ "", /anyOf/1/type;}
+0 | "a" | accepted"#;
+
+fn expect_nested(rt: &impl Abort, alloc: Global, row: &str) -> Result<(), Fail> {
+    let (shown, instance, told) = three_cells(row)?;
+    let schema = nested(alloc, 100, shown != "1")?;
+    let validator = built_of(alloc, &schema)?;
+    let instance = Value::from_str(alloc, instance)?;
+    let found = shown_errors(&validator, alloc, &instance)?;
+    assert_eq!(rt; Ok(found), shown.parse());
+    expect_told(rt, alloc, &validator, &instance, told)
 }
 
 #[test]
-fn a_hundred_branches_of_two_branches(rt: HostRuntime) -> Result<(), Fail> {
-    let alloc = rt.alloc();
-    let schema = nested(alloc, 100, true)?;
-    let validator = built(alloc, &schema)?;
-    let number = Value::from_str(alloc, "1")?;
-    assert_eq!(rt; first_path(alloc, &validator, &number)?.as_str(), "/anyOf");
-    assert_eq!(rt; error_count(alloc, &validator, &number)?, 1);
-    assert_eq!(rt; shown_error_count(alloc, &validator, &number)?, 101);
-    Ok(())
-}
-
-#[test]
-fn a_hundred_branches_that_accept(rt: HostRuntime) -> Result<(), Fail> {
-    let alloc = rt.alloc();
-    let schema = nested(alloc, 100, true)?;
-    let validator = built(alloc, &schema)?;
-    let text = Value::from_str(alloc, r#""a""#)?;
-    let mut ctx = ValidationContext::new(false);
-    assert!(rt; validator.is_valid(&text, &mut ctx));
-    assert_eq!(rt; first_path(alloc, &validator, &text)?.as_str(), "");
-    assert_eq!(rt; error_count(alloc, &validator, &text)?, 0);
-    assert_eq!(rt; shown_error_count(alloc, &validator, &text)?, 0);
+fn a_hundred_branches(rt: HostRuntime) -> Result<(), Fail> {
+    for row in HUNDRED.lines() {
+        expect_nested(&rt, rt.alloc(), row)?;
+    }
     Ok(())
 }
