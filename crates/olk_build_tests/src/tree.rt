@@ -15,14 +15,6 @@ use std::alloc::{AllocError, Global};
 use std::process::Abort;
 use std::test::Fail;
 
-type PlainNode = SchemaNode<NoText, EqualTo>;
-
-type PlainKeyword = Keyword<NoText, EqualTo>;
-
-// What the module of a keyword compiles; a type of its own, so that how it is dropped is proved once.
-#[derive(Drop)]
-struct Made<'s>(Option<Result<PlainKeyword, BuildError<'s>>>);
-
 // ---- building
 
 fn failure(error: BuildError<'_>) -> Fail {
@@ -222,8 +214,7 @@ fn fuses(alloc: Global, parent: &Map<String, Value>) -> Result<bool, Fail> {
     let mut meter = Meter::new();
     let mut ctx = Context::new(alloc, &NoTexts, &Equality, &mut meter);
     let declared = parent.get("properties").unwrap_or(&Value::Null);
-    let made = Made(properties::compile(alloc, &mut ctx, parent, declared));
-    match &made.0 {
+    match properties::compile(alloc, &mut ctx, parent, declared) {
         Some(Ok(KeywordOver::PropertiesWithRequired2(keyword))) => {
             Ok(
                 keyword.location.as_str() == "/properties"
@@ -240,8 +231,7 @@ fn stands_alone(alloc: Global, parent: &Map<String, Value>) -> bool {
     let mut meter = Meter::new();
     let mut ctx = Context::new(alloc, &NoTexts, &Equality, &mut meter);
     let listed = parent.get("required").unwrap_or(&Value::Null);
-    let made = Made(required::compile(alloc, &mut ctx, parent, listed));
-    made.0.is_some()
+    required::compile(alloc, &mut ctx, parent, listed).is_some()
 }
 
 // How many keywords the schema has.
@@ -320,13 +310,6 @@ fn form_of<K, R, N>(keyword: &KeywordOver<K, R, N>) -> &'static str {
     }
 }
 
-fn form_made(made: &Made<'_>) -> Result<&'static str, Fail> {
-    match &made.0 {
-        Some(Ok(keyword)) => Ok(form_of(keyword)),
-        _ => Err(Fail::from("not built")),
-    }
-}
-
 // That of `allOf`.
 fn form_of_all_of(
     alloc: Global,
@@ -335,7 +318,10 @@ fn form_of_all_of(
 ) -> Result<&'static str, Fail> {
     let parent = Map::new(alloc);
     let mut ctx = Context::new(alloc, &NoTexts, &Equality, meter);
-    form_made(&Made(all_of::compile(alloc, &mut ctx, &parent, branches)))
+    match all_of::compile(alloc, &mut ctx, &parent, branches) {
+        Some(Ok(keyword)) => Ok(form_of(&keyword)),
+        _ => Err(Fail::from("not built")),
+    }
 }
 
 fn expect_all_of(rt: &impl Abort, alloc: Global, text: &str, form: &str) -> Result<(), Fail> {
@@ -354,7 +340,10 @@ fn form_of_any_of(
 ) -> Result<&'static str, Fail> {
     let parent = Map::new(alloc);
     let mut ctx = Context::new(alloc, &NoTexts, &Equality, meter);
-    form_made(&Made(any_of::compile(alloc, &mut ctx, &parent, branches)))
+    match any_of::compile(alloc, &mut ctx, &parent, branches) {
+        Some(Ok(keyword)) => Ok(form_of(&keyword)),
+        _ => Err(Fail::from("not built")),
+    }
 }
 
 fn expect_any_of(rt: &impl Abort, alloc: Global, text: &str, form: &str) -> Result<(), Fail> {
@@ -382,8 +371,7 @@ fn one_branch_has_a_form_of_its_own(rt: HostRuntime) -> Result<(), Fail> {
 fn place_of_not(alloc: Global, schema: &Value, meter: &mut Meter) -> Result<String, Fail> {
     let parent = Map::new(alloc);
     let mut ctx = Context::new(alloc, &NoTexts, &Equality, meter);
-    let made = Made(not::compile(alloc, &mut ctx, &parent, schema));
-    match &made.0 {
+    match not::compile(alloc, &mut ctx, &parent, schema) {
         Some(Ok(KeywordOver::Not(keyword))) => {
             Ok(String::from_str(alloc, keyword.location.as_str())?)
         }
@@ -410,8 +398,7 @@ fn form_of_if(
         return Err(Fail::from("no condition"));
     };
     let mut ctx = Context::new(alloc, &NoTexts, &Equality, meter);
-    let made = Made(if_::compile(alloc, &mut ctx, parent, schema));
-    match &made.0 {
+    match if_::compile(alloc, &mut ctx, parent, schema) {
         None => Ok("none"),
         Some(Ok(KeywordOver::IfThen(_))) => Ok("then"),
         Some(Ok(KeywordOver::IfElse(_))) => Ok("else"),
@@ -451,6 +438,10 @@ fn a_condition_with_its_cases(rt: HostRuntime) -> Result<(), Fail> {
 }
 
 // ---- what keywords hold
+
+type PlainNode = SchemaNode<NoText, EqualTo>;
+
+type PlainKeyword = Keyword<NoText, EqualTo>;
 
 // Where a node stands, and its names where it is a list.
 fn push_node(text: &mut String, node: &PlainNode) -> Result<(), AllocError> {
@@ -524,8 +515,8 @@ fn compiled<'a>(
     parent: &'a Map<String, Value>,
     name: &str,
     value: &'a Value,
-) -> Made<'a> {
-    Made(match name {
+) -> Option<Result<PlainKeyword, BuildError<'a>>> {
+    match name {
         "dependencies" => dependencies::compile(alloc, ctx, parent, value),
         "dependentRequired" => {
             dependencies::compile_dependent_required(alloc, ctx, parent, value)
@@ -534,7 +525,7 @@ fn compiled<'a>(
         "propertyNames" => property_names::compile(alloc, ctx, parent, value),
         "propertyDependencies" => property_dependencies::compile(alloc, ctx, parent, value),
         _ => None,
-    })
+    }
 }
 
 fn keyword_line(alloc: Global, keyword: &PlainKeyword) -> Result<String, AllocError> {
@@ -544,8 +535,11 @@ fn keyword_line(alloc: Global, keyword: &PlainKeyword) -> Result<String, AllocEr
 }
 
 // What is made, as a line.
-fn line_of(alloc: Global, made: &Made<'_>) -> Result<String, AllocError> {
-    match &made.0 {
+fn line_of(
+    alloc: Global,
+    made: &Option<Result<PlainKeyword, BuildError<'_>>>,
+) -> Result<String, AllocError> {
+    match made {
         None => String::from_str(alloc, "none"),
         Some(Ok(keyword)) => keyword_line(alloc, keyword),
         Some(Err(_)) => String::from_str(alloc, "not built"),
@@ -645,8 +639,11 @@ fn patterns_line(
 }
 
 // What is made of patterns, as a line.
-fn line_of_patterns(alloc: Global, made: &Made<'_>) -> Result<String, Fail> {
-    match &made.0 {
+fn line_of_patterns(
+    alloc: Global,
+    made: &Option<Result<PlainKeyword, BuildError<'_>>>,
+) -> Result<String, Fail> {
+    match made {
         None => Ok(String::from_str(alloc, "none")?),
         Some(Ok(KeywordOver::SingleValuePatternProperties(keyword))) => {
             Ok(single_line(alloc, keyword)?)
@@ -664,7 +661,7 @@ fn patterns_of(
 ) -> Result<String, Fail> {
     let patterns = parent.get("patternProperties").unwrap_or(&Value::Null);
     let mut ctx = Context::new(alloc, &NoTexts, &Equality, meter);
-    let made = Made(pattern_properties::compile(alloc, &mut ctx, parent, patterns));
+    let made = pattern_properties::compile(alloc, &mut ctx, parent, patterns);
     line_of_patterns(alloc, &made)
 }
 
@@ -752,11 +749,10 @@ fn restriction_of(
 ) -> Result<String, Fail> {
     let value = parent.get("additionalProperties").unwrap_or(&Value::Null);
     let mut ctx = Context::new(alloc, &NoTexts, &Equality, meter);
-    let made = Made(additional_properties::compile(alloc, &mut ctx, parent, value));
-    match &made.0 {
+    match additional_properties::compile(alloc, &mut ctx, parent, value) {
         None => Ok(String::from_str(alloc, "none")?),
         Some(Ok(KeywordOver::AdditionalProperties(keyword))) => {
-            Ok(restriction_line(alloc, keyword)?)
+            Ok(restriction_line(alloc, &keyword)?)
         }
         Some(Ok(_)) => Err(Fail::from("another keyword")),
         Some(Err(_)) => Ok(String::from_str(alloc, "not built")?),
