@@ -209,12 +209,16 @@ fn closed(alloc: Global, count: usize, required: &str) -> Result<Map<String, Val
     Ok(schema)
 }
 
-// Whether the keyword of `properties` fuses what `required` lists.
-fn fuses(alloc: Global, parent: &Map<String, Value>) -> Result<bool, Fail> {
-    let mut meter = Meter::new();
-    let mut ctx = Context::new(alloc, &NoTexts, &Equality, &mut meter);
-    let declared = parent.get("properties").unwrap_or(&Value::Null);
-    match properties::compile(alloc, &mut ctx, parent, declared) {
+type PlainNode = SchemaNode<NoText, EqualTo>;
+
+type PlainKeyword = Keyword<NoText, EqualTo>;
+
+// What a keyword's module compiles. It is dropped by name: where it ends with its scope, the proof takes a minute longer.
+type Made<'a> = Option<Result<PlainKeyword, BuildError<'a>>>;
+
+// Whether it is a keyword of `properties` that fuses what `required` lists.
+fn is_fused(made: &Made<'_>) -> Result<bool, Fail> {
+    match made {
         Some(Ok(KeywordOver::PropertiesWithRequired2(keyword))) => {
             Ok(
                 keyword.location.as_str() == "/properties"
@@ -226,12 +230,26 @@ fn fuses(alloc: Global, parent: &Map<String, Value>) -> Result<bool, Fail> {
     }
 }
 
+// Whether the keyword of `properties` fuses what `required` lists.
+fn fuses(alloc: Global, parent: &Map<String, Value>) -> Result<bool, Fail> {
+    let mut meter = Meter::new();
+    let mut ctx = Context::new(alloc, &NoTexts, &Equality, &mut meter);
+    let declared = parent.get("properties").unwrap_or(&Value::Null);
+    let made = properties::compile(alloc, &mut ctx, parent, declared);
+    let is_fused = is_fused(&made);
+    drop(made);
+    is_fused
+}
+
 // Whether `required` has a keyword of its own.
 fn stands_alone(alloc: Global, parent: &Map<String, Value>) -> bool {
     let mut meter = Meter::new();
     let mut ctx = Context::new(alloc, &NoTexts, &Equality, &mut meter);
     let listed = parent.get("required").unwrap_or(&Value::Null);
-    required::compile(alloc, &mut ctx, parent, listed).is_some()
+    let made = required::compile(alloc, &mut ctx, parent, listed);
+    let is_some = made.is_some();
+    drop(made);
+    is_some
 }
 
 // How many keywords the schema has.
@@ -300,13 +318,14 @@ fn required_names_beside_patterns(rt: HostRuntime) -> Result<(), Fail> {
 }
 
 // Which form a keyword of branches has.
-fn form_of<K, R, N>(keyword: &KeywordOver<K, R, N>) -> &'static str {
-    match keyword {
-        KeywordOver::SingleValueAllOf(_) => "single allOf",
-        KeywordOver::AllOf(_) => "allOf",
-        KeywordOver::SingleAnyOf(_) => "single anyOf",
-        KeywordOver::AnyOf(_) => "anyOf",
-        _ => "another",
+fn form_of(made: &Made<'_>) -> Result<&'static str, Fail> {
+    match made {
+        Some(Ok(KeywordOver::SingleValueAllOf(_))) => Ok("single allOf"),
+        Some(Ok(KeywordOver::AllOf(_))) => Ok("allOf"),
+        Some(Ok(KeywordOver::SingleAnyOf(_))) => Ok("single anyOf"),
+        Some(Ok(KeywordOver::AnyOf(_))) => Ok("anyOf"),
+        Some(Ok(_)) => Ok("another"),
+        _ => Err(Fail::from("not built")),
     }
 }
 
@@ -318,10 +337,10 @@ fn form_of_all_of(
 ) -> Result<&'static str, Fail> {
     let parent = Map::new(alloc);
     let mut ctx = Context::new(alloc, &NoTexts, &Equality, meter);
-    match all_of::compile(alloc, &mut ctx, &parent, branches) {
-        Some(Ok(keyword)) => Ok(form_of(&keyword)),
-        _ => Err(Fail::from("not built")),
-    }
+    let made = all_of::compile(alloc, &mut ctx, &parent, branches);
+    let form = form_of(&made);
+    drop(made);
+    form
 }
 
 fn expect_all_of(rt: &impl Abort, alloc: Global, text: &str, form: &str) -> Result<(), Fail> {
@@ -340,10 +359,10 @@ fn form_of_any_of(
 ) -> Result<&'static str, Fail> {
     let parent = Map::new(alloc);
     let mut ctx = Context::new(alloc, &NoTexts, &Equality, meter);
-    match any_of::compile(alloc, &mut ctx, &parent, branches) {
-        Some(Ok(keyword)) => Ok(form_of(&keyword)),
-        _ => Err(Fail::from("not built")),
-    }
+    let made = any_of::compile(alloc, &mut ctx, &parent, branches);
+    let form = form_of(&made);
+    drop(made);
+    form
 }
 
 fn expect_any_of(rt: &impl Abort, alloc: Global, text: &str, form: &str) -> Result<(), Fail> {
@@ -439,10 +458,6 @@ fn a_condition_with_its_cases(rt: HostRuntime) -> Result<(), Fail> {
 
 // ---- what keywords hold
 
-type PlainNode = SchemaNode<NoText, EqualTo>;
-
-type PlainKeyword = Keyword<NoText, EqualTo>;
-
 // Where a node stands, and its names where it is a list.
 fn push_node(text: &mut String, node: &PlainNode) -> Result<(), AllocError> {
     text.push_str(" ")?;
@@ -515,7 +530,7 @@ fn compiled<'a>(
     parent: &'a Map<String, Value>,
     name: &str,
     value: &'a Value,
-) -> Option<Result<PlainKeyword, BuildError<'a>>> {
+) -> Made<'a> {
     match name {
         "dependencies" => dependencies::compile(alloc, ctx, parent, value),
         "dependentRequired" => {
@@ -535,10 +550,7 @@ fn keyword_line(alloc: Global, keyword: &PlainKeyword) -> Result<String, AllocEr
 }
 
 // What is made, as a line.
-fn line_of(
-    alloc: Global,
-    made: &Option<Result<PlainKeyword, BuildError<'_>>>,
-) -> Result<String, AllocError> {
+fn line_of(alloc: Global, made: &Made<'_>) -> Result<String, AllocError> {
     match made {
         None => String::from_str(alloc, "none"),
         Some(Ok(keyword)) => keyword_line(alloc, keyword),
@@ -556,7 +568,9 @@ fn compiled_line(
     let parent = Map::new(alloc);
     let mut ctx = Context::new(alloc, &NoTexts, &Equality, meter);
     let made = compiled(alloc, &mut ctx, &parent, name, value);
-    line_of(alloc, &made)
+    let line = line_of(alloc, &made);
+    drop(made);
+    line
 }
 
 // A keyword, its value, and what is compiled of it: how many places, where the keyword stands, and what it holds.
@@ -639,10 +653,7 @@ fn patterns_line(
 }
 
 // What is made of patterns, as a line.
-fn line_of_patterns(
-    alloc: Global,
-    made: &Option<Result<PlainKeyword, BuildError<'_>>>,
-) -> Result<String, Fail> {
+fn line_of_patterns(alloc: Global, made: &Made<'_>) -> Result<String, Fail> {
     match made {
         None => Ok(String::from_str(alloc, "none")?),
         Some(Ok(KeywordOver::SingleValuePatternProperties(keyword))) => {
@@ -662,7 +673,9 @@ fn patterns_of(
     let patterns = parent.get("patternProperties").unwrap_or(&Value::Null);
     let mut ctx = Context::new(alloc, &NoTexts, &Equality, meter);
     let made = pattern_properties::compile(alloc, &mut ctx, parent, patterns);
-    line_of_patterns(alloc, &made)
+    let line = line_of_patterns(alloc, &made);
+    drop(made);
+    line
 }
 
 // An object, and what is compiled of its patterns: how many places, leaves and engines, where the keyword stands, and what
