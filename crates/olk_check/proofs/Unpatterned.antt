@@ -1,6 +1,9 @@
 -- Members that declared names and the rest speak of, and no patterns.
-use Rattle.std.proofs.Common.{◌≡◌, ℕ, ◌+◌, Bool, true, false, ◌&&◌, List, [], ◌∷◌, map, Option, Some, None, option_map, refl, sym, ap, subst, ◌∙◌, arith}
+use Rattle.std.proofs.Common.{◌≡◌, ℕ, ◌+◌, ◌<◌, length, Bool, true, false, ◌&&◌, List, [], ◌∷◌, map, Option, Some, None, option_map, refl, sym, ap, subst, ◌∙◌, is_some, arith}
 use Rattle.std.specs.List.{enumerate_from}
+use denote.Ref.{Bor}
+use mathlib.Core.Bool.{true≢false}
+use Rattle.std.specs.Option.{option_copied}
 use Rattle.serde_json.specs.Data.{Data}
 use Rattle.olk_spec.specs.Names.{Name, lookup}
 use Rattle.olk_spec.specs.World.{Says}
@@ -11,10 +14,23 @@ use Rattle.olk_tree.specs.Additional.{placed, rest_means, member_means, member_m
 use Rattle.olk_tree.specs.Answers.{beside, mapped, names_in, nodes_in}
 use Rattle.olk_tree.specs.declared.properties_map.PropertiesMap.{PropertiesMap}
 use Rattle.olk_tree.proofs.Maps.{lookup-beside}
+use Rattle.olk_tree.proofs.Crowded.{one_too_many}
+use Rattle.olk_tree.proofs.Merge.{Rising}
 use Rattle.olk_check.specs.Asks.{Asks}
+use Rattle.olk_check.proofs.Asked.{settles, unasked}
 use Rattle.olk_check.specs.Unpatterned.{unpatterned, declared_or_rest, names_mean}
 
+pub nothing_else : {A : Type 0} (o : Option (Bor A)) → is_some o ≡ false → None ≡ option_copied o
+nothing_else None e = refl
+nothing_else (Some r) e = absurd (true≢false e)
+
 module _ {N : Type 0} (m : N → Data → Question) where
+  -- where nothing else is expected and members are more than declared names
+  pub crowded : (rest : Option N) → None ≡ rest → (es : List (Name × N)) (ms : List (Name × Data)) → Rising es → Rising ms → length es < length ms
+      → (a : Asking) → Asks a a (every (λ x. declared_or_rest m rest x.1 (lookup x.0 es)) ms) false
+  crowded rest none es ms r s l a = subst (λ o. Asks a a (every (λ x. declared_or_rest m o x.1 (lookup x.0 es)) ms) false) none
+      (settles (every (λ x. declared_or_rest m None x.1 (lookup x.0 es)) ms) false (unasked a false) (λ u e. sym (one_too_many (λ o x. declared_or_rest m None x o) u (λ x. refl) es ms r s l)) (λ u e. omega arith))
+
   module _ (rest : Option N) (x : Data) {o : Option N} {a b : Asking} {r : Bool} where
     -- the question about a name that was found, and about one that was not
     pub found_asks : {n : N} → Some n ≡ o → Asks a b (m n x) r → Asks a b (declared_or_rest m rest x o) r

@@ -118,7 +118,8 @@ fn mapped_accept<N: IsValid>(
     }
 }
 
-// The same of one kind of map.
+// The same of one kind of map. Where nothing else is expected, and there are more members than declared names, one of them
+// is not declared.
 fn declared_accept<M: PropertiesValidatorsMap<N>, N: IsValid>(
     properties: &M,
     members: &Map<String, Value>,
@@ -130,6 +131,9 @@ fn declared_accept<M: PropertiesValidatorsMap<N>, N: IsValid>(
         (beside (M.names properties.now) (M.nodes properties.now))
         (option_copied rest.entry) (object_of members.now.entries)) result }
 {
+    if rest.is_none() && members.len() > properties.names().sorted().len() {
+        return false;
+    }
     match rest {
         None if holds_back => all_declared(properties, members, ctx),
         _ => are_properties_valid(properties, members, rest, ctx),

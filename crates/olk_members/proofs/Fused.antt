@@ -10,6 +10,7 @@ use Rattle.serde_json.specs.View.{view, members_view, items_view}
 use Rattle.serde_json.specs.declared.value.Value.{Value}
 use Rattle.olk_spec.specs.Schemas.{listed}
 use Rattle.olk_spec.specs.declared.TheConstants.{HASHMAP_THRESHOLD}
+use Rattle.olk_members.proofs.Listed.{listed_length}
 use Rattle.olk_members.specs.Fused.{declares_few, two_names, one_name}
 
 -- ---- how many
@@ -29,10 +30,6 @@ array_at (number n) ds e = absurd (true≢false (sym (ap is_some e)))
 array_at (string s) ds e = absurd (true≢false (sym (ap is_some e)))
 array_at (array is) ds e = ap (λ o. array (unwrap_or o ds)) e
 array_at (object fs) ds e = absurd (true≢false (sym (ap is_some e)))
-
-listed_length : (es : List (String Global × Value)) → length (listed (members_view es)) ≡ length es
-listed_length [] = refl
-listed_length (e ∷ es) = let h = listed_length es in omega (arith, h)
 
 module _ (o : Option (Bor Value)) (v : Bor Value) (is : o ≡ Some v) where
   pub few_declared : (es : List (String Global × Value)) (n : ℕ) → Some (members_view es) ≡ as_object (view v.now) → n ≡ length es → nat_lt n HASHMAP_THRESHOLD ≡ declares_few (option_map (λ x. view x.now) o)

@@ -1,5 +1,5 @@
 -- The members of an object by their names, where no name stands twice.
-use Rattle.std.specs.Prelude.{◌≡◌, ◌||◌, map, true, false, List, [], ◌∷◌, ◌++◌, Option, Some, None, is_some, unwrap_or, bytes_eq, String}
+use Rattle.std.specs.Prelude.{◌≡◌, ◌||◌, map, true, false, List, [], ◌∷◌, ◌++◌, length, Option, Some, None, is_some, unwrap_or, bytes_eq, String}
 use Rattle.std.specs.declared.alloc.Global.{Global}
 use Rattle.std.specs.List.{AllByRecursion}
 use Rattle.std.specs.List.Sorted.{IsStrictlySortedBy}
@@ -8,7 +8,7 @@ use Rattle.std.specs.Ordering.{nat_cmp, is_eq}
 use Rattle.std.specs.Cmp.Lexicographic.{slice_cmp}
 use Rattle.std.specs.declared.cmp.Ordering.{Ordering}
 use Rattle.std.specs.declared.cmp.Ordering.TheVariants.{Less, Equal, Greater}
-use Rattle.std.proofs.Common.{refl, sym, ◌∙◌, ap, subst, option_to_list, string_cmp, string_bytes}
+use Rattle.std.proofs.Common.{refl, sym, ◌∙◌, ap, subst, option_to_list, string_cmp, string_bytes, arith}
 use Rattle.std.proofs.lemmas.Map.Text.{is_eq-slice_cmp}
 use mathlib.Core.Bool.{true≢false}
 use Rattle.serde_json.specs.Data.{Data, Members}
@@ -78,6 +78,10 @@ among_found k (e ∷ es) = by (slice_cmp nat_cmp k e.0) (is_eq-slice_cmp k e.0) 
     by Equal q h = ap (λ b. b || is_among k (map (λ e. e.0) es)) (sym q)
 
 -- ---- the members of a map
+
+pub listed_length : (es : List (String Global × Value)) → length (listed (members_view es)) ≡ length es
+listed_length [] = refl
+listed_length (e ∷ es) = let h = listed_length es in omega (arith, h)
 
 later_differ : (k : String Global) (es : List (String Global × Value)) → AllByRecursion (λ y. string_cmp k y ≡ Less) (keys_of es) → is_among (string_bytes k) (map (λ m. m.0) (listed (members_view es))) ≡ false
 later_differ k [] h = refl

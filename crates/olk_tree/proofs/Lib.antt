@@ -8,7 +8,8 @@ mod Hashed
 mod Lookups
 mod Entries
 pub mod Merge
-mod Walked
+pub mod Walked
+pub mod Crowded
 pub mod Maps
 pub mod Patterns
 pub mod Literals

@@ -1,5 +1,5 @@
 -- What `properties` means and reports, over the members that it meets.
-use Rattle.std.proofs.Common.{◌≡◌, Bool, List, [], ◌∷◌, ◌++◌, Option, Some, None, true, option_to_list, refl, ap, ◌∙◌}
+use Rattle.std.proofs.Common.{◌≡◌, Bool, List, [], ◌∷◌, ◌++◌, Option, Some, None, true, option_to_list, refl, sym, ap, ◌∙◌}
 use Rattle.std.specs.List.{flat_map}
 use Rattle.serde_json.specs.Data.{Data, Members, null, boolean, number, string, array, object}
 use Rattle.serde_json.specs.Find.{as_object}
@@ -8,7 +8,7 @@ use Rattle.olk_spec.specs.Faults.{Fault}
 use Rattle.olk_spec.specs.Schemas.{listed, members}
 use Rattle.olk_tree.specs.Questions.{Question, always, both, every}
 use Rattle.olk_tree.specs.Answers.{or_else, first_of, properties_mean, properties_report, properties_first}
-use Rattle.olk_tree.specs.Visited.{Declared, declared_as, names_met, left_of}
+use Rattle.olk_tree.specs.Visited.{Declared, declared_as, members_declared, names_met, left_of}
 use Rattle.olk_tree.specs.declared.declared.DeclaredMembers.{DeclaredMembers}
 use Rattle.olk_tree.proofs.Questions.{every-nothing, every-flat_map}
 use Rattle.olk_tree.proofs.Faults.{none_of, first_of-nothing, first_of-flat_map, flat_map-flat_map}
@@ -44,6 +44,18 @@ module _ {N : Type 0} (ms : Members) where
 
     means_of_met : (es : List (Name × N)) → every (λ d. m d.node d.value) (names_met es (listed ms)) ≡ properties_mean m es (object ms)
     means_of_met es = every-flat_map (λ d. m d.node d.value) (λ e. met_at e (lookup e.0 (listed ms))) es ∙ means_at es
+
+    -- the same member by member
+    module _ (es : List (Name × N)) where
+      mean_if_declared : (x : Name × Data) (o : Option N) → every (λ n. m n x.1) (option_to_list o) ≡ every (λ d. m d.node d.value) (flat_map (λ n. declared_as x.0 n x.1) (option_to_list o))
+      mean_if_declared x None = refl
+      mean_if_declared x (Some n) = refl
+
+      mean_each : (xs : List (Name × Data)) → every (λ x. every (λ n. m n x.1) (option_to_list (lookup x.0 es))) xs ≡ every (λ d. m d.node d.value) (members_declared es xs)
+      mean_each xs = (λ i. every (λ x. mean_if_declared x (lookup x.0 es) i) xs) ∙ sym (every-flat_map (λ d. m d.node d.value) (λ x. flat_map (λ n. declared_as x.0 n x.1) (option_to_list (lookup x.0 es))) xs)
+
+      pub means_of_members : names_met es (listed ms) ≡ members_declared es (listed ms) → every (λ x. every (λ n. m n x.1) (option_to_list (lookup x.0 es))) (listed ms) ≡ properties_mean m es (object ms)
+      means_of_members agree = mean_each (listed ms) ∙ ap (every (λ d. m d.node d.value)) (sym agree) ∙ means_of_met es
 
   module _ (f : N → Bool → Data → Path → List Fault) (u : Bool) (Q : Path) where
     abbrev pub fault_at : Declared N → List Fault

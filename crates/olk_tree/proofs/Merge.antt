@@ -32,16 +32,16 @@ greater_from : (n k : Name) → order n k ≡ Less → order k n ≡ Greater
 greater_from n k e = nat_list_cmp_total.antisymm k n ∙ ap ordering_reverse e
 
 module _ {X : Type 0} where
-  after_after : (n k : Name) → order n k ≡ Less → (ms : List (Name × X)) → After k ms → After n ms
+  pub after_after : (n k : Name) → order n k ≡ Less → (ms : List (Name × X)) → After k ms → After n ms
   after_after n k e [] h = tt
   after_after n k e (m ∷ ms) h = (nat_list_cmp_total.trans n k m.0 e h.0, after_after n k e ms h.1)
 
   -- what comes after a name is not at it
-  none_after : (n : Name) (ms : List (Name × X)) → After n ms → lookup n ms ≡ None
+  pub none_after : (n : Name) (ms : List (Name × X)) → After n ms → lookup n ms ≡ None
   none_after n [] h = refl
   none_after n (m ∷ ms) h = ap (λ o. first_if_equal o m.1 (lookup n ms)) h.0 ∙ none_after n ms h.1
 
-  skips : (n : Name) (m : Name × X) (ms : List (Name × X)) → order m.0 n ≡ Less → lookup n (m ∷ ms) ≡ lookup n ms
+  pub skips : (n : Name) (m : Name × X) (ms : List (Name × X)) → order m.0 n ≡ Less → lookup n (m ∷ ms) ≡ lookup n ms
   skips n m ms e = ap (λ o. first_if_equal o m.1 (lookup n ms)) (greater_from m.0 n e)
 
   -- a name before that of m stands before m, if it stands anywhere

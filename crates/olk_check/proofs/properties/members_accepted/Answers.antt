@@ -1,20 +1,17 @@
-use Rattle.std.proofs.Common.{true, false, subst}
+use Rattle.std.proofs.Common.{subst, ◌∙◌}
 use Rattle.serde_json.specs.View.{members_view}
 use Rattle.olk_tree.specs.Answers.{beside}
-use Rattle.olk_tree.proofs.Members_met.{means_of_walk}
+use Rattle.olk_tree.specs.Ascending.{Ascend}
+use Rattle.olk_tree.proofs.Members_met.{means_of_members}
+use Rattle.olk_tree.proofs.Walked.{walks_agree}
 use Rattle.olk_check.specs.Asks.{Asks}
-use Rattle.olk_check.proofs.Walks.{all_go_on, all_stop, all_end}
 use Rattle.olk_check.proofs.properties.members_accepted.Goals as goal
 
-pub returns-then-not-is_valid : goal.returns-then-not-is_valid
-returns-then-not-is_valid g c = subst (λ q. Asks c.args.ctx.now c.is_valid.new.ctx q false)
-    (means_of_walk (members_view c.args.members.now.entries) (beside (g.M.PropertiesValidatorsMap.names c.args.properties.now) (g.M.PropertiesValidatorsMap.nodes c.args.properties.now)) c.into_iter-subschema-iterator.ensures.into_iter_gives c.declared_members-subschema-items.ensures.by_names g.N.Means.means)
-    (all_stop c.loop-subschema.invariant c.in-Some.ensures.steps c.if-not-is_valid.ensures)
-
-pub loop-subschema-preserved : goal.loop-subschema-preserved
-loop-subschema-preserved g c = all_go_on c.loop-subschema.invariant c.in-Some.ensures.steps c.if-not-is_valid.ensures
-
-pub returns : goal.returns
-returns g c = subst (λ q. Asks c.args.ctx.now c.loop-subschema.ctx q true)
-    (means_of_walk (members_view c.args.members.now.entries) (beside (g.M.PropertiesValidatorsMap.names c.args.properties.now) (g.M.PropertiesValidatorsMap.nodes c.args.properties.now)) c.into_iter-subschema-iterator.ensures.into_iter_gives c.declared_members-subschema-items.ensures.by_names g.N.Means.means)
-    (all_end c.loop-subschema.invariant c.in-None.ensures.steps)
+pub returns-then-len : goal.returns-then-len
+returns-then-len g c =
+    let names = g.M.PropertiesValidatorsMap.names c.args.properties.now in
+    let nodes = g.M.PropertiesValidatorsMap.nodes c.args.properties.now in
+    let ascend = subst Ascend (c.sorted.ensures ∙ c.names.ensures) c.len-2.ensures.ordered in
+    subst (λ q. Asks c.args.ctx.now c.each_member_accepted.new.ctx q c.each_member_accepted.result)
+    (means_of_members (members_view c.args.members.now.entries) g.N.Means.means (beside names nodes) (walks_agree names nodes c.args.members.now.entries ascend c.len.ensures.ordered))
+    c.each_member_accepted.ensures

@@ -1,0 +1,27 @@
+use Rattle.std.proofs.Common.{◌≡◌, ◌<◌, length, not, ap, subst, ◌∙◌, option_copied, arith}
+use Rattle.serde_json.specs.View.{members_view}
+use Rattle.olk_spec.specs.Schemas.{listed}
+use Rattle.olk_members.proofs.Listed.{listed_length}
+use Rattle.olk_tree.specs.Answers.{beside}
+use Rattle.olk_tree.specs.Ascending.{Ascend}
+use Rattle.olk_tree.proofs.Crowded.{beside_length}
+use Rattle.olk_tree.proofs.Merge.{ascending_rising, sorted_rising}
+use Rattle.olk_check.proofs.Unpatterned.{crowded, nothing_else}
+use Rattle.olk_check.proofs.additional_properties.declared_accept.Goals as goal
+
+pub returns-then-len : goal.returns-then-len
+returns-then-len g c =
+    let names = g.M.PropertiesValidatorsMap.names c.args.properties.now in
+    let nodes = g.M.PropertiesValidatorsMap.nodes c.args.properties.now in
+    let entries = c.args.members.now.entries in
+    let same : c.sorted.result.now ≡ names = c.sorted.ensures ∙ c.names.ensures in
+    let ascend = subst Ascend same c.len-then-is_none.ensures.ordered in
+    let fewer : length (beside names nodes) < length (listed (members_view entries)) =
+    let declared = c.len-then-is_none.ensures.len ∙ ap length same in
+    let there = c.len.ensures.len in
+    let more = c.if-len.true in
+    let at_most = beside_length names nodes in
+    let listed_each = listed_length entries in
+    omega arith in
+    crowded g.N.Means.means (option_copied c.args.rest) (nothing_else c.args.rest (c.is_none.ensures ∙ ap not c.if-is_none.true)) (beside names nodes) (listed (members_view entries))
+    (ascending_rising names nodes ascend) (sorted_rising entries c.len.ensures.ordered) fewer c.args.ctx.now
