@@ -1,5 +1,3 @@
 pub mod Answers
-pub mod Lines
 pub mod Requests
 pub mod Seen
-pub mod Steps

@@ -1,25 +1,28 @@
 //! The program over a reader and a writer.
-ghost use Rattle.std.specs.Prelude.{◌≡◌, ◌⊎◌, OnOk, IfErr};
+ghost use Rattle.std.specs.Prelude.{◌≡◌, ◌⊎◌};
 ghost use Rattle.olk_cli.specs.Answers.{IsAnswer};
-ghost use Rattle.olk_cli.specs.Lines.{AnswersAll, AnswersSome, AnswersInPart};
-ghost use Rattle.olk_cli.specs.Steps.{StopsBy};
+ghost use Rattle.olk_lines.specs.Lines.{AnswersAll, AnswersSome, AnswersInPart};
 
 use crate::answer::answer_line;
-use crate::reading::{Stop, read_line};
-use crate::writing::write_whole;
-use std::alloc::Global;
+use olk_lines::AnswerLine;
+use std::alloc::{AllocError, Global};
 use std::io::{BufRead, Write};
 
-/// The status at the end of the input.
-pub const DONE: u8 = 0;
+/// Answers requests to validate.
+#[derive(Clone, Copy, Drop)]
+struct Validation;
 
-/// The status where a read or a write failed, and after `u64::MAX` lines.
-pub const FAILED: u8 = 2;
+impl AnswerLine for Validation {
+    ghost use Rattle.olk_cli.specs.Answers.{IsAnswer};
 
-/// The status for want of memory.
-pub const MEMORY: u8 = 3;
+    ghost gives = { IsAnswer };
 
-/// Answers each line of the input by one line, and gives the exit status.
+    fn answer(&self, alloc: Global, line: &[u8]) -> Result<Vec<u8>, AllocError> {
+        answer_line(alloc, line)
+    }
+}
+
+/// Answers each line of the input by one line, and gives the exit status, of `olk_lines`.
 ///
 /// - `DONE`: the input is read to its end, and each of its lines is answered, in order.
 /// - `FAILED`: a read or a write failed, or `u64::MAX` lines were answered. The first lines are answered, and after
@@ -37,33 +40,5 @@ pub fn run<I: BufRead, O: Write>(alloc: Global, reader: &mut I, writer: &mut O) 
     ensures memory { result ≡ 3 → AnswersSome IsAnswer (I.remaining reader.old)
         (O.contents writer.old) (O.contents writer.new) }
 {
-    match answer_lines(alloc, reader, writer) {
-        Ok(()) => DONE,
-        Err(Stop::Failed) => FAILED,
-        Err(Stop::Memory) => MEMORY,
-    }
-}
-
-/// Answers each line, to the end of the input.
-fn answer_lines<I: BufRead, O: Write>(
-    alloc: Global,
-    reader: &mut I,
-    writer: &mut O,
-) -> Result<(), Stop>
-    ensures all { OnOk result (AnswersAll IsAnswer
-        (I.remaining reader.old) (I.remaining reader.new)
-        (O.contents writer.old) (O.contents writer.new)) }
-    ensures stops { IfErr result (StopsBy IsAnswer (I.remaining reader.old)
-        (O.contents writer.old) (O.contents writer.new)) }
-{
-    let mut line = Vec::new(alloc);
-    for _ in 0..u64::MAX {
-        if !read_line(reader, &mut line)? {
-            return Ok(());
-        }
-        let mut text = answer_line(alloc, &line)?;
-        text.push(b'\n')?;
-        write_whole(writer, &text)?;
-    }
-    Err(Stop::Failed)
+    olk_lines::run(alloc, &Validation, reader, writer)
 }

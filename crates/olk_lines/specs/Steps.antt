@@ -3,11 +3,11 @@ use Rattle.std.specs.Prelude.{◌≡◌, ◌≢◌, ℕ, List, [], ◌∷◌, �
 use Rattle.std.specs.Io.{StartsWith}
 use Rattle.std.specs.Io.KnownBytes.{Appends}
 use Rattle.std.specs.List.{AllZip}
-use Rattle.olk_cli.specs.Lines.{lines_of, text_of, AnswersSome, AnswersInPart}
-use Rattle.olk_cli.specs.declared.reading.Part.{Part}
-use Rattle.olk_cli.specs.declared.reading.Part.TheVariants.{More, Feed, End}
-use Rattle.olk_cli.specs.declared.reading.Stop.{Stop}
-use Rattle.olk_cli.specs.declared.reading.Stop.TheVariants.{Failed, Memory}
+use Rattle.olk_lines.specs.Lines.{lines_of, text_of, AnswersSome, AnswersInPart}
+use Rattle.olk_lines.specs.declared.reading.Part.{Part}
+use Rattle.olk_lines.specs.declared.reading.Part.TheVariants.{More, Feed, End}
+use Rattle.olk_lines.specs.declared.reading.Stop.{Stop}
+use Rattle.olk_lines.specs.declared.reading.Stop.TheVariants.{Failed, Memory}
 
 abbrev pub HasNoFeed : List ℕ → Type 0
 HasNoFeed bytes = All (λ b. b ≢ 10) bytes

@@ -1,7 +1,7 @@
 -- What is written is a beginning of the bytes, and each turn writes some more.
 use Rattle.std.proofs.Common.{length, take, ◌-◌, ◌≤◌}
 use Rattle.std.specs.Io.KnownBytes.{Appends}
-use Rattle.olk_cli.proofs.writing.write_whole.Given as goal
+use Rattle.olk_lines.proofs.writing.write_whole.Given as goal
 
 abbrev pub invariant-loop-written : goal.invariant-loop-written
 invariant-loop-written g l = record {

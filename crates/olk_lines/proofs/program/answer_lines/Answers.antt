@@ -1,6 +1,6 @@
 use Rattle.std.proofs.lemmas.Result.{err_from_is_err_and}
-use Rattle.olk_cli.proofs.ProgressLemmas.{Progress-start, Progress-more, Progress-failed, Progress-stops, Progress-in_part}
-use Rattle.olk_cli.proofs.program.answer_lines.Goals as goal
+use Rattle.olk_lines.proofs.ProgressLemmas.{Progress-start, Progress-more, Progress-failed, Progress-stops, Progress-in_part}
+use Rattle.olk_lines.proofs.program.answer_lines.Goals as goal
 
 pub loop-init : goal.loop-init
 loop-init g c = Progress-start _ _ _

@@ -1,7 +1,7 @@
 -- What was taken so far is a part of the first line, and each step takes some of it.
 use Rattle.std.proofs.Common.{◌≡◌, List, ℕ, IfSome, Some, vec_len, ◌-◌, ◌^◌, ◌++◌}
-use Rattle.olk_cli.specs.Steps.{HasNoFeed}
-use Rattle.olk_cli.proofs.reading.read_line.Given as goal
+use Rattle.olk_lines.specs.Steps.{HasNoFeed}
+use Rattle.olk_lines.proofs.reading.read_line.Given as goal
 
 abbrev pub invariant-loop-line : goal.invariant-loop-line
 invariant-loop-line g l = record {

@@ -1,7 +1,7 @@
 use Rattle.std.proofs.Common.{◌-◌, ◌++◌, length, take, drop, sym, ap, subst, ◌∙◌, arith, length-take, take-add, take-take}
 use Rattle.std.specs.Io.KnownBytes.{Appends}
 use Rattle.std.proofs.KnownBytes.{Appends-trans}
-use Rattle.olk_cli.proofs.writing.write_whole.Goals as goal
+use Rattle.olk_lines.proofs.writing.write_whole.Goals as goal
 
 pub loop-written-preserved : goal.loop-written-preserved
 loop-written-preserved g c =

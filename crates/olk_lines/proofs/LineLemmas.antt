@@ -2,9 +2,9 @@
 use Rattle.std.proofs.Common.{◌≡◌, ◌≢◌, ℕ, Bool, not, ◌==◌, Option, None, Some, IfSome, ◌<◌, List, [], ◌∷◌, ◌++◌, cond, length, refl, ap, ◌∙◌, arith, append-nil}
 use Rattle.std.proofs.lemmas.Bool.{ne_eqb}
 use Rattle.std.proofs.lemmas.List.Elements.{All-head, All-tail}
-use Rattle.olk_cli.specs.Lines.{lines_of, onto_first}
-use Rattle.olk_cli.specs.Steps.{HasNoFeed, TakesPart, NextLine}
-use Rattle.olk_cli.specs.declared.reading.Part.TheVariants.{End}
+use Rattle.olk_lines.specs.Lines.{lines_of, onto_first}
+use Rattle.olk_lines.specs.Steps.{HasNoFeed, TakesPart, NextLine}
+use Rattle.olk_lines.specs.declared.reading.Part.TheVariants.{End}
 
 -- up to the first line feed it is a line
 pub lines_of-feed : (line rest : List ℕ) → HasNoFeed line → lines_of (line ++ 10 ∷ rest) ≡ line ∷ lines_of rest

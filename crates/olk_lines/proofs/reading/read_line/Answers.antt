@@ -1,6 +1,6 @@
 use Rattle.std.proofs.Common.{ap, ◌∙◌, not, ◌==◌}
-use Rattle.olk_cli.proofs.LineLemmas.{line_fed, line_ended}
-use Rattle.olk_cli.proofs.reading.read_line.Goals as goal
+use Rattle.olk_lines.proofs.LineLemmas.{line_fed, line_ended}
+use Rattle.olk_lines.proofs.reading.read_line.Goals as goal
 
 pub returns-in-Feed : goal.returns-in-Feed
 returns-in-Feed g c =

@@ -1,6 +1,6 @@
 // Reads one line of a reader.
 ghost use Rattle.std.specs.Prelude.{◌≡◌, ◌<◌, List, ℕ, Ok, IfOk, OnOk, IfSome, Some, vec_len};
-ghost use Rattle.olk_cli.specs.Steps.{HasNoFeed, TakesPart, NextLine};
+ghost use Rattle.olk_lines.specs.Steps.{HasNoFeed, TakesPart, NextLine};
 
 use std::alloc::{AllocError, AllocFailed};
 use std::io::BufRead;
@@ -15,7 +15,7 @@ pub enum Stop {
 }
 
 impl From<AllocError> for Stop {
-    ghost use Rattle.olk_cli.specs.declared.reading.Stop.TheVariants.{Memory};
+    ghost use Rattle.olk_lines.specs.declared.reading.Stop.TheVariants.{Memory};
     ghost use Rattle.std.specs.Prelude.{◌≡◌};
 
     ghost from_gives = { λ _ e. e ≡ Memory };
@@ -26,7 +26,7 @@ impl From<AllocError> for Stop {
 }
 
 impl<T: Drop> From<AllocFailed<T>> for Stop {
-    ghost use Rattle.olk_cli.specs.declared.reading.Stop.TheVariants.{Memory};
+    ghost use Rattle.olk_lines.specs.declared.reading.Stop.TheVariants.{Memory};
     ghost use Rattle.std.specs.Prelude.{◌≡◌};
 
     ghost from_gives = { λ _ e. e ≡ Memory };

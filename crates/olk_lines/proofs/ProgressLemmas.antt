@@ -3,10 +3,10 @@ use Rattle.std.proofs.Common.{◌≡◌, ℕ, inl, inr, List, [], ◌∷◌, ◌
 use Rattle.std.proofs.lemmas.List.Elements.{AllZip-push}
 use Rattle.std.specs.Io.KnownBytes.{Appends}
 use Rattle.std.proofs.KnownBytes.{Appends-nil, Appends-trans}
-use Rattle.olk_cli.specs.Lines.{lines_of, ended, text_of, Begins, AnswersSome, AnswersInPart}
-use Rattle.olk_cli.specs.Steps.{NextLine, AppendsFront, Progress, StopsBy}
-use Rattle.olk_cli.specs.declared.reading.Stop.{Stop}
-use Rattle.olk_cli.specs.declared.reading.Stop.TheVariants.{Failed, Memory}
+use Rattle.olk_lines.specs.Lines.{lines_of, ended, text_of, Begins, AnswersSome, AnswersInPart}
+use Rattle.olk_lines.specs.Steps.{NextLine, AppendsFront, Progress, StopsBy}
+use Rattle.olk_lines.specs.declared.reading.Stop.{Stop}
+use Rattle.olk_lines.specs.declared.reading.Stop.TheVariants.{Failed, Memory}
 
 text_of-push : (lines : List (List ℕ)) (line : List ℕ) → text_of (lines ++ line ∷ []) ≡ text_of lines ++ ended line
 text_of-push [] line = append-nil (ended line)

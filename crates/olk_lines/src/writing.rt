@@ -1,7 +1,7 @@
 // Writes one line to a writer.
 ghost use Rattle.std.specs.Prelude.{◌≡◌, ◌≤◌, List, ℕ, OnOk, OnErr, IfErr, length, take};
 ghost use Rattle.std.specs.Io.KnownBytes.{Appends};
-ghost use Rattle.olk_cli.specs.Steps.{AppendsFront};
+ghost use Rattle.olk_lines.specs.Steps.{AppendsFront};
 
 use crate::reading::Stop;
 use std::io::Write;

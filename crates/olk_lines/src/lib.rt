@@ -1,0 +1,16 @@
+//! Answers an input line by line, and says by a status how far it came.
+//!
+//! Stands on nothing. Tested by `tests`.
+#![tactic(auto)]
+
+mod answering;
+mod program;
+mod reading;
+#[cfg(test)]
+mod streams;
+#[cfg(test)]
+mod tests;
+mod writing;
+
+pub use answering::AnswerLine;
+pub use program::{DONE, FAILED, MEMORY, run};
