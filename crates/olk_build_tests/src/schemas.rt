@@ -35,78 +35,52 @@ fn built_place(alloc: Global, schema: &Value, meter: &mut Meter) -> Result<Strin
     place
 }
 
-fn expect_built(
-    rt: &impl Abort,
-    alloc: Global,
-    text: &str,
-    places: u64,
-    leaves: u64,
-) -> Result<(), Fail> {
-    let schema = Value::from_str(alloc, text)?;
+// The same behind what is counted: how many places, leaves and engines, and how often these are asked.
+fn counted_place(alloc: Global, schema: &Value) -> Result<String, Fail> {
     let mut meter = Meter::new();
-    let place = built_place(alloc, &schema, &mut meter)?;
-    assert_eq!(rt; place.as_str(), "/definitions", "{text}");
-    assert_eq!(rt;
-        (meter.compiled(), meter.leaves()),
-        (places, leaves),
-        "{text}"
-    );
-    assert_eq!(rt; (meter.made(), meter.asked()), (0, 0), "{text}");
+    let place = built_place(alloc, schema, &mut meter)?;
+    let (places, leaves) = (meter.compiled(), meter.leaves());
+    let (engines, asks) = (meter.made(), meter.asked());
+    Ok(format!(in alloc; "{places} {leaves} {engines} {asks} {place}")?)
+}
+
+fn expect_built(rt: &impl Abort, alloc: Global, row: &str) -> Result<(), Fail> {
+    let (text, told) = row.split_once(" | ").ok_or("a row of one cell")?;
+    let schema = Value::from_str(alloc, text)?;
+    let found = counted_place(alloc, &schema)?;
+    assert_eq!(rt; found.as_str(), told, "{text}");
     Ok(())
 }
 
+// A schema, what is counted of it, and where it is built.
+const BUILT: &str = r#"true | 1 0 0 0 /definitions
+{} | 1 0 0 0 /definitions
+{"other":{"properties":5}} | 1 0 0 0 /definitions
+{"properties":{"a":true,"b":{"text":false}},"required":["a"]} | 3 1 0 0 /definitions
+{"allOf":[{},{"anyOf":[true,false]}],"not":{"text":false}} | 6 1 0 0 /definitions
+{"dependencies":{"a":["b"],"c":{"text":false}},"propertyDependencies":{"k":{"t":{"propertyNames":{}}}}} | 4 1 0 0 /definitions
+{"patternProperties":{"^a":{"text":false},"b$":true}} | 3 1 0 0 /definitions
+{"additionalProperties":{"text":false},"patternProperties":{"^a":{}},"properties":{"b":true},"required":["b"]} | 4 1 0 0 /definitions"#;
+
 #[test]
 fn schemas_that_are_built(rt: HostRuntime) -> Result<(), Fail> {
-    for (text, places, leaves) in [
-        ("true", 1, 0),
-        ("{}", 1, 0),
-        (r#"{"other":{"properties":5}}"#, 1, 0),
-        (
-            r#"{"properties":{"a":true,"b":{"text":false}},"required":["a"]}"#,
-            3,
-            1,
-        ),
-        (
-            r#"{"allOf":[{},{"anyOf":[true,false]}],"not":{"text":false}}"#,
-            6,
-            1,
-        ),
-        (
-            r#"{"dependencies":{"a":["b"],"c":{"text":false}},"propertyDependencies":{"k":{"t":{"propertyNames":{}}}}}"#,
-            4,
-            1,
-        ),
-        (
-            r#"{"patternProperties":{"^a":{"text":false},"b$":true}}"#,
-            3,
-            1,
-        ),
-        (
-            r#"{"additionalProperties":{"text":false},"patternProperties":{"^a":{}},"properties":{"b":true},"required":["b"]}"#,
-            4,
-            1,
-        ),
-    ] {
-        expect_built(&rt, rt.alloc(), text, places, leaves)?;
+    for row in BUILT.lines() {
+        expect_built(&rt, rt.alloc(), row)?;
     }
     Ok(())
 }
 
 // What is read of a condition is counted once, and nothing else of it.
+const CONDITIONS: &str = r#"{"if":5} | 1 0 0 0 /definitions
+{"else":{"text":false},"then":5} | 1 0 0 0 /definitions
+{"if":{"text":false},"then":{}} | 3 1 0 0 /definitions
+{"else":{"text":false},"if":{"if":7},"then":{"text":false}} | 4 2 0 0 /definitions
+{"allOf":[{"if":{},"then":{"text":false}},true]} | 5 1 0 0 /definitions"#;
+
 #[test]
 fn conditions_that_are_built(rt: HostRuntime) -> Result<(), Fail> {
-    for (text, places, leaves) in [
-        (r#"{"if":5}"#, 1, 0),
-        (r#"{"else":{"text":false},"then":5}"#, 1, 0),
-        (r#"{"if":{"text":false},"then":{}}"#, 3, 1),
-        (
-            r#"{"else":{"text":false},"if":{"if":7},"then":{"text":false}}"#,
-            4,
-            2,
-        ),
-        (r#"{"allOf":[{"if":{},"then":{"text":false}},true]}"#, 5, 1),
-    ] {
-        expect_built(&rt, rt.alloc(), text, places, leaves)?;
+    for row in CONDITIONS.lines() {
+        expect_built(&rt, rt.alloc(), row)?;
     }
     Ok(())
 }

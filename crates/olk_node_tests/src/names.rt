@@ -40,35 +40,42 @@ fn first_hashed(alloc: Global, count: usize) -> Result<BigMap<usize>, AllocError
     BigMap::of(alloc, names, nodes)
 }
 
-fn expect_at<M: PropertiesValidatorsMap<usize>>(
-    rt: &impl Abort,
-    map: &M,
-    name: &str,
-    position: Option<usize>,
-) {
-    assert_eq!(rt; map.names().find(name), position, "{name}");
-    assert_eq!(rt; map.get_validator(name).copied(), position, "{name}");
-    match map.get_key_validator(name) {
-        Some((key, found)) => {
-            assert_eq!(rt; key, name);
-            assert_eq!(rt; Some(*found), position, "{name}");
-        }
-        None => assert_eq!(rt; None, position, "{name}"),
-    }
+// Whether each look-up finds the name at this position, or none does.
+fn is_at<M: PropertiesValidatorsMap<usize>>(map: &M, name: &str, position: Option<usize>) -> bool {
+    let is_keyed_so = match (map.get_key_validator(name), position) {
+        (Some((key, found)), Some(position)) => key == name && *found == position,
+        (None, None) => true,
+        _ => false,
+    };
+    is_keyed_so
+        && map.names().find(name) == position
+        && map.get_validator(name).copied() == position
 }
 
-// The first so many names are found, and no other.
-fn expect_found<M: PropertiesValidatorsMap<usize>>(rt: &impl Abort, map: &M, count: usize) {
-    assert_eq!(rt; map.names().sorted().len(), count);
-    assert_eq!(rt; map.names().sorted().as_slice().len(), count);
-    assert_eq!(rt; map.nodes().len(), count);
+fn has_length<M: PropertiesValidatorsMap<usize>>(map: &M, length: usize) -> bool {
+    let names = map.names().sorted();
+    names.len() == length && names.as_slice().len() == length && map.nodes().len() == length
+}
+
+// The first name that is not found as it is to be: the first so many stand in the map, and no other.
+fn wrong_look_up<M: PropertiesValidatorsMap<usize>>(map: &M, count: usize) -> Option<&'static str> {
     for (i, name) in DECLARED.split(" ").enumerate() {
         let position = if i < count { Some(i) } else { None };
-        expect_at(rt, map, name, position);
+        if !is_at(map, name, position) {
+            return Some(name);
+        }
     }
     for name in OTHERS.split(" ") {
-        expect_at(rt, map, name, None);
+        if !is_at(map, name, None) {
+            return Some(name);
+        }
     }
+    None
+}
+
+fn expect_found<M: PropertiesValidatorsMap<usize>>(rt: &impl Abort, map: &M, count: usize) {
+    assert!(rt; has_length(map, count), "{count}");
+    assert_eq!(rt; wrong_look_up(map, count), None, "{count}");
 }
 
 #[test]
@@ -94,7 +101,17 @@ fn is_the_text(value: &Value, text: &str) -> bool {
     }
 }
 
-// The walk over the members gives the first so many of these names, each with its position and its value, and ends.
+// Whether a walk gives this name, with its position and its value.
+fn is_met(member: Option<(&str, &usize, &Value)>, expected: &str) -> bool {
+    match member {
+        Some((name, position, value)) => {
+            name == expected && is_declared_at(*position, name) && is_the_text(value, name)
+        }
+        None => false,
+    }
+}
+
+// The walk over the members gives the first so many of these names, and ends.
 fn expect_walked<'a, M: PropertiesValidatorsMap<usize>>(
     rt: &impl Abort,
     map: &'a M,
@@ -104,13 +121,7 @@ fn expect_walked<'a, M: PropertiesValidatorsMap<usize>>(
 ) {
     let mut walk = map.declared_members(members);
     for expected in names.split(" ").take(count) {
-        let Some((name, position, value)) = walk.next() else {
-            assert!(rt; false, "{expected}");
-            return;
-        };
-        assert_eq!(rt; name, expected);
-        assert!(rt; is_declared_at(*position, name), "{name}");
-        assert!(rt; is_the_text(value, name), "{name}");
+        assert!(rt; is_met(walk.next(), expected), "{expected}");
     }
     assert!(rt; walk.next().is_none(), "{count} of {names}");
 }
