@@ -60,6 +60,11 @@ fn accepts(place: &PlainNode, value: &Value) -> bool {
     is_valid_for(place, Node::Value(value), &mut ctx)
 }
 
+fn accepts_json(place: &PlainNode, alloc: Global, text: &str) -> Result<bool, Fail> {
+    let value = Value::from_str(alloc, text)?;
+    Ok(accepts(place, &value))
+}
+
 // Whether null is accepted. The node is dropped by name, so that a test has none to drop.
 fn accepts_null(place: PlainNode) -> bool {
     let accepted = accepts(&place, &Value::Null);
@@ -180,6 +185,13 @@ fn required(alloc: Global, names: &[&str]) -> Result<PlainNode, AllocError> {
     )
 }
 
+fn required_accepts(alloc: Global, names: &[&str], text: &str) -> Result<bool, Fail> {
+    let place = required(alloc, names)?;
+    let accepted = accepts_json(&place, alloc, text);
+    drop(place);
+    accepted
+}
+
 #[test]
 fn required_names(rt: HostRuntime) -> Result<(), Fail> {
     let alloc = rt.alloc();
@@ -194,8 +206,7 @@ fn required_names(rt: HostRuntime) -> Result<(), Fail> {
         (&["a"], r#"["a"]"#, true),
     ];
     for (names, text, answer) in rows {
-        let value = Value::from_str(alloc, text)?;
-        let accepted = accepts(&required(alloc, names)?, &value);
+        let accepted = required_accepts(alloc, names, text)?;
         assert_eq!(rt; accepted, answer, "{names:?} {text}");
     }
     Ok(())
@@ -235,8 +246,8 @@ fn required_names_beside_declared_ones(rt: HostRuntime) -> Result<(), Fail> {
         (r#"{}"#, false),
         (r#"[]"#, true),
     ] {
-        let value = Value::from_str(alloc, text)?;
-        assert_eq!(rt; accepts(&place, &value), answer, "{text}");
+        let accepted = accepts_json(&place, alloc, text)?;
+        assert_eq!(rt; accepted, answer, "{text}");
     }
     Ok(())
 }

@@ -74,8 +74,9 @@ fn wrong_look_up<M: PropertiesValidatorsMap<usize>>(map: &M, count: usize) -> Op
 }
 
 fn expect_found<M: PropertiesValidatorsMap<usize>>(rt: &impl Abort, map: &M, count: usize) {
-    assert!(rt; has_length(map, count), "{count}");
-    assert_eq!(rt; wrong_look_up(map, count), None, "{count}");
+    assert!(rt; has_length(map, count));
+    let wrong = wrong_look_up(map, count).unwrap_or("no name");
+    assert_eq!(rt; wrong, "no name", "{count}");
 }
 
 #[test]
