@@ -1,11 +1,10 @@
-//! Tests of the validators as they are made by hand, of building, and of the tables of patterns.
+//! Tests of building whole schemas: what is counted, what is refused, and what is fused.
 //!
-//! Stands on `olk_build` and what is below, whose public calls alone it asks. The tests are in its modules.
+//! Stands on `olk_build` and what is below, whose public calls alone it asks. The tests are in its modules; those of the
+//! module of each keyword are in `olk_module_tests`.
 #![tactic(auto)]
 
 #[cfg(test)]
-mod check;
+mod fused;
 #[cfg(test)]
-mod pattern_tables;
-#[cfg(test)]
-mod tree;
+mod schemas;

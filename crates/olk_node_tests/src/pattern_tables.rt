@@ -44,9 +44,8 @@ fn table(alloc: Global, meter: &mut Meter) -> Result<PatternTable, Fail> {
 fn each_pattern_is_asked_once_for_each_name(rt: HostRuntime) -> Result<(), Fail> {
     let mut meter = Meter::new();
     let _table = table(rt.alloc(), &mut meter)?;
-    assert_eq!(rt; meter.asked(), 3 * 64);
-    assert_eq!(rt; (meter.compiled(), meter.leaves()), (0, 0));
-    assert_eq!(rt; (meter.made(), meter.unfinished()), (0, 0));
+    assert_eq!(rt; (meter.asked(), meter.unfinished()), (3 * 64, 0));
+    assert_eq!(rt; (meter.compiled(), meter.leaves(), meter.made()), (0, 0, 0));
     Ok(())
 }
 
@@ -82,12 +81,11 @@ fn what_is_known_by_name(rt: HostRuntime) -> Result<(), Fail> {
         ("bb", 2, false, false),
         ("a", 64, false, false),
     ] {
-        assert_eq!(rt; table.is_matched(name, index), matched, "{name} {index}");
-        assert_eq!(rt;
+        let found = (
+            table.is_matched(name, index),
             table.is_unfinished(name, index),
-            unfinished,
-            "{name} {index}"
         );
+        assert_eq!(rt; found, (matched, unfinished), "{name} {index}");
     }
     Ok(())
 }
@@ -109,26 +107,38 @@ fn expect_indices(
             left.push(entry.index)?;
         }
     }
-    assert_eq!(rt; found.len(), matched, "{name}");
-    assert!(rt; left.as_slice() == unfinished, "{name}");
+    assert!(rt;
+        found.len() == matched && left.as_slice() == unfinished,
+        "{name}"
+    );
     Ok(())
 }
 
 #[test]
 fn indices_of_a_name(rt: HostRuntime) -> Result<(), Fail> {
     let table = table(rt.alloc(), &mut Meter::new())?;
-    expect_indices(&rt, rt.alloc(), &table, "ab", 62, &[1, 64])?;
-    expect_indices(&rt, rt.alloc(), &table, "b", 62, &[])?;
-    expect_indices(&rt, rt.alloc(), &table, "cd", 1, &[])?;
-    expect_indices(&rt, rt.alloc(), &table, "bb", 0, &[])
+    let rows: [(&str, usize, &[usize]); 4] = [
+        ("ab", 62, &[1, 64]),
+        ("b", 62, &[]),
+        ("cd", 1, &[]),
+        ("bb", 0, &[]),
+    ];
+    for (name, matched, unfinished) in rows {
+        expect_indices(&rt, rt.alloc(), &table, name, matched, unfinished)?;
+    }
+    Ok(())
 }
 
 #[test]
 fn nothing_is_known_without_names(rt: HostRuntime) -> Result<(), Fail> {
     let table = PatternTable::none(rt.alloc());
-    assert_eq!(rt; table.known(0, 0), None);
-    assert!(rt; !table.is_matched("b", 0));
-    assert!(rt; !table.is_unfinished("b", 0));
+    let is_known = table.known(0, 0).is_some();
+    let found = (
+        is_known,
+        table.is_matched("b", 0),
+        table.is_unfinished("b", 0),
+    );
+    assert_eq!(rt; found, (false, false, false));
     assert!(rt; table.indices(rt.alloc(), "b")?.is_empty());
     Ok(())
 }

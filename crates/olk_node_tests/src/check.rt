@@ -60,6 +60,18 @@ fn accepts(place: &PlainNode, value: &Value) -> bool {
     is_valid_for(place, Node::Value(value), &mut ctx)
 }
 
+fn accepts_json(place: &PlainNode, alloc: Global, text: &str) -> Result<bool, Fail> {
+    let value = Value::from_str(alloc, text)?;
+    Ok(accepts(place, &value))
+}
+
+// Whether null is accepted. The node is dropped by name, so that a test has none to drop.
+fn accepts_null(place: PlainNode) -> bool {
+    let accepted = accepts(&place, &Value::Null);
+    drop(place);
+    accepted
+}
+
 // ---- the tables
 
 fn all_of(alloc: Global, answers: &[bool]) -> Result<PlainNode, AllocError> {
@@ -87,10 +99,11 @@ fn branches_of_logic(rt: HostRuntime) -> Result<(), Fail> {
         (&[false, false], false, false),
     ];
     for (answers, all, any) in rows {
-        let accepted = accepts(&all_of(alloc, answers)?, &Value::Null);
-        assert_eq!(rt; accepted, all, "allOf {answers:?}");
-        let accepted = accepts(&any_of(alloc, answers)?, &Value::Null);
-        assert_eq!(rt; accepted, any, "anyOf {answers:?}");
+        let found = (
+            accepts_null(all_of(alloc, answers)?),
+            accepts_null(any_of(alloc, answers)?),
+        );
+        assert_eq!(rt; found, (all, any), "{answers:?}");
     }
     Ok(())
 }
@@ -131,23 +144,32 @@ fn not(alloc: Global, answer: bool) -> Result<PlainNode, AllocError> {
 fn one_branch(rt: HostRuntime) -> Result<(), Fail> {
     let alloc = rt.alloc();
     for answer in [true, false] {
-        assert_eq!(rt; accepts(&truth(alloc, answer), &Value::Null), answer);
-        assert_eq!(rt; accepts(&all_of_one(alloc, answer)?, &Value::Null), answer);
-        assert_eq!(rt; accepts(&any_of_one(alloc, answer)?, &Value::Null), answer);
-        assert_eq!(rt; accepts(&not(alloc, answer)?, &Value::Null), !answer);
+        let alone = accepts_null(truth(alloc, answer));
+        let all = accepts_null(all_of_one(alloc, answer)?);
+        let any = accepts_null(any_of_one(alloc, answer)?);
+        let turned = accepts_null(not(alloc, answer)?);
+        assert_eq!(rt;
+            (alone, all, any, turned),
+            (answer, answer, answer, !answer)
+        );
     }
     Ok(())
+}
+
+// Whether the text, a name and null are accepted, and how many engines are asked.
+fn leaf_answers(node: &PlainNode, text: &Value) -> (bool, bool, bool, u64) {
+    let mut ctx = ValidationContext::new(true);
+    let is_text = node.is_valid(Node::Value(text), &mut ctx);
+    let is_name = node.is_valid(Node::Name("a"), &mut ctx);
+    let is_null = node.is_valid(Node::Value(&Value::Null), &mut ctx);
+    (is_text, is_name, is_null, ctx.meter().asked())
 }
 
 #[test]
 fn leaves(rt: HostRuntime) -> Result<(), Fail> {
     let node = no_text(rt.alloc())?;
-    let mut ctx = ValidationContext::new(true);
     let text = Value::String(String::from_str(rt.alloc(), "a")?);
-    assert!(rt; !node.is_valid(Node::Value(&text), &mut ctx));
-    assert!(rt; !node.is_valid(Node::Name("a"), &mut ctx));
-    assert!(rt; node.is_valid(Node::Value(&Value::Null), &mut ctx));
-    assert_eq!(rt; ctx.meter().asked(), 0);
+    assert_eq!(rt; leaf_answers(&node, &text), (false, false, true, 0));
     Ok(())
 }
 
@@ -161,6 +183,13 @@ fn required(alloc: Global, names: &[&str]) -> Result<PlainNode, AllocError> {
         alloc,
         KeywordOver::Required(RequiredValidator { required, location }),
     )
+}
+
+fn required_accepts(alloc: Global, names: &[&str], text: &str) -> Result<bool, Fail> {
+    let place = required(alloc, names)?;
+    let accepted = accepts_json(&place, alloc, text);
+    drop(place);
+    accepted
 }
 
 #[test]
@@ -177,8 +206,7 @@ fn required_names(rt: HostRuntime) -> Result<(), Fail> {
         (&["a"], r#"["a"]"#, true),
     ];
     for (names, text, answer) in rows {
-        let value = Value::from_str(alloc, text)?;
-        let accepted = accepts(&required(alloc, names)?, &value);
+        let accepted = required_accepts(alloc, names, text)?;
         assert_eq!(rt; accepted, answer, "{names:?} {text}");
     }
     Ok(())
@@ -218,8 +246,8 @@ fn required_names_beside_declared_ones(rt: HostRuntime) -> Result<(), Fail> {
         (r#"{}"#, false),
         (r#"[]"#, true),
     ] {
-        let value = Value::from_str(alloc, text)?;
-        assert_eq!(rt; accepts(&place, &value), answer, "{text}");
+        let accepted = accepts_json(&place, alloc, text)?;
+        assert_eq!(rt; accepted, answer, "{text}");
     }
     Ok(())
 }
@@ -278,6 +306,46 @@ fn accepts_text_at(
     Ok(accepts(place, &object(alloc, name, besides)?))
 }
 
+// The same of the name with this number.
+fn accepts_text_at_number(
+    place: &PlainNode,
+    alloc: Global,
+    number: usize,
+    besides: usize,
+) -> Result<bool, AllocError> {
+    let name = format!(in alloc; "m{number:02}")?;
+    accepts_text_at(place, alloc, name.as_str(), besides)
+}
+
+// The first number that is not answered as it is to be: below the count its name is declared, and refuses a text.
+fn wrong_number(
+    place: &PlainNode,
+    alloc: Global,
+    count: usize,
+    besides: usize,
+) -> Result<Option<usize>, AllocError> {
+    for number in 0..20 {
+        if accepts_text_at_number(place, alloc, number, besides)? != (number >= count) {
+            return Ok(Some(number));
+        }
+    }
+    Ok(None)
+}
+
+// The first name that refuses a text, of some that are not declared.
+fn wrong_name(
+    place: &PlainNode,
+    alloc: Global,
+    besides: usize,
+) -> Result<Option<&'static str>, AllocError> {
+    for name in ["", "l", "m", "m00a", "m005", "m12z", "n"] {
+        if !accepts_text_at(place, alloc, name, besides)? {
+            return Ok(Some(name));
+        }
+    }
+    Ok(None)
+}
+
 // With few members besides, these are looked up among the declared names, and with many the
 // declared names among them.
 fn expect_declared(
@@ -288,15 +356,9 @@ fn expect_declared(
     besides: usize,
 ) -> Result<(), Fail> {
     let place = declared(alloc, count, many)?;
-    for i in 0..20 {
-        let name = format!(in alloc; "m{i:02}")?;
-        let accepted = accepts_text_at(&place, alloc, name.as_str(), besides)?;
-        assert_eq!(rt; accepted, i >= count, "{i} of {count} {many}");
-    }
-    for name in ["", "l", "m", "m00a", "m005", "m12z", "n"] {
-        let accepted = accepts_text_at(&place, alloc, name, besides)?;
-        assert!(rt; accepted, "{name} of {count} {many}");
-    }
+    let number = wrong_number(&place, alloc, count, besides)?;
+    let name = wrong_name(&place, alloc, besides)?;
+    assert_eq!(rt; (number, name), (None, None), "{count} {many}");
     Ok(())
 }
 

@@ -1,0 +1,157 @@
+//! Maps and patterns that are compiled by themselves.
+use crate::lines::{PlainNode, PlainPattern, cells, push_nodes, push_patterns};
+use olk_base::Meter;
+use olk_build::{Context, pattern_properties, properties};
+use olk_low_tests::doubles::{Equality, NoTexts};
+use olk_reports::BuildError;
+use olk_tree::PropertiesValidatorsMap;
+use serde_json::{Map, Value};
+use std::alloc::{AllocError, Global};
+use std::process::Abort;
+use std::test::Fail;
+
+// ---- what is compiled, as a line
+
+// Where what is not built is refused.
+fn refused_line(alloc: Global, error: &BuildError<'_>) -> Result<String, AllocError> {
+    match error {
+        BuildError::Refused(error) => format!(in alloc; " refused {}", error.schema_path()),
+        BuildError::Memory(_) => Err(AllocError),
+    }
+}
+
+// The names of a map, each with its node.
+fn map_line<M: PropertiesValidatorsMap<PlainNode>>(
+    alloc: Global,
+    built: &Result<M, BuildError<'_>>,
+) -> Result<String, AllocError> {
+    match built {
+        Ok(map) => {
+            let mut text = String::new(alloc);
+            push_nodes(&mut text, map)?;
+            Ok(text)
+        }
+        Err(error) => refused_line(alloc, error),
+    }
+}
+
+// The patterns, each with its node.
+fn pattern_line(
+    alloc: Global,
+    built: &Result<Vec<(PlainPattern, PlainNode)>, BuildError<'_>>,
+) -> Result<String, AllocError> {
+    match built {
+        Ok(patterns) => {
+            let mut text = String::new(alloc);
+            push_patterns(&mut text, patterns.as_slice())?;
+            Ok(text)
+        }
+        Err(error) => refused_line(alloc, error),
+    }
+}
+
+fn line_of_small_map(
+    alloc: Global,
+    declared: &Map<String, Value>,
+    meter: &mut Meter,
+) -> Result<String, AllocError> {
+    let mut ctx = Context::new(alloc, &NoTexts, &Equality, meter);
+    let built = properties::compile_small_map(alloc, &mut ctx, declared);
+    let line = map_line(alloc, &built);
+    drop(built);
+    line
+}
+
+fn line_of_big_map(
+    alloc: Global,
+    declared: &Map<String, Value>,
+    meter: &mut Meter,
+) -> Result<String, AllocError> {
+    let mut ctx = Context::new(alloc, &NoTexts, &Equality, meter);
+    let built = properties::compile_big_map(alloc, &mut ctx, declared);
+    let line = map_line(alloc, &built);
+    drop(built);
+    line
+}
+
+fn line_of_patterns(
+    alloc: Global,
+    patterns: &Map<String, Value>,
+    meter: &mut Meter,
+) -> Result<String, AllocError> {
+    let mut ctx = Context::new(alloc, &NoTexts, &Equality, meter);
+    let built = pattern_properties::compile_patterns(alloc, &mut ctx, patterns);
+    let line = pattern_line(alloc, &built);
+    drop(built);
+    line
+}
+
+// What is compiled of an object, as a map of few names, a map of many, or patterns.
+fn line_of(alloc: Global, kind: &str, object: &Value, meter: &mut Meter) -> Result<String, Fail> {
+    let Some(entries) = object.as_object() else {
+        return Err(Fail::from("no object"));
+    };
+    let line = match kind {
+        "small" => line_of_small_map(alloc, entries, meter),
+        "big" => line_of_big_map(alloc, entries, meter),
+        _ => line_of_patterns(alloc, entries, meter),
+    };
+    Ok(line?)
+}
+
+// The same behind what is counted: how many places, leaves and engines.
+fn counted_line(alloc: Global, kind: &str, object: &Value) -> Result<String, Fail> {
+    let mut meter = Meter::new();
+    let line = line_of(alloc, kind, object, &mut meter)?;
+    let (places, leaves, engines) = (meter.compiled(), meter.leaves(), meter.made());
+    Ok(format!(in alloc; "{places} {leaves} {engines}{line}")?)
+}
+
+// ---- the tables
+
+// An object, and what is compiled of it: how many places, leaves and engines, and each name with its node.
+const ENTRIES: &str =
+    r#"small | {"b":{"text":false},"":{},"a/~":{"not":true}} | 4 1 0 : /properties/ a/~: /properties/a~1~0 b: /properties/b
+big | {"b":{"text":false},"":{},"a/~":{"not":true}} | 4 1 0 : /properties/ a/~: /properties/a~1~0 b: /properties/b
+patterns | {"b":{"text":false},"^a/~":{"not":true},"a$":true} | 4 1 1 prefix: /patternProperties/^a~1~0 suffix: /patternProperties/a$ engine: /patternProperties/b
+small | {} | 0 0 0
+big | {} | 0 0 0
+patterns | {} | 0 0 0"#;
+
+fn expect_entries(rt: &impl Abort, alloc: Global, row: &str) -> Result<(), Fail> {
+    let (kind, text, told) = cells(row)?;
+    let object = Value::from_str(alloc, text)?;
+    let found = counted_line(alloc, kind, &object)?;
+    assert_eq!(rt; found.as_str(), told, "{row}");
+    Ok(())
+}
+
+#[test]
+fn entries_that_are_compiled_by_themselves(rt: HostRuntime) -> Result<(), Fail> {
+    for row in ENTRIES.lines() {
+        expect_entries(&rt, rt.alloc(), row)?;
+    }
+    Ok(())
+}
+
+// An object, and the place of what is refused.
+const REFUSED: &str = r#"small | {"a/":5,"b":{}} | /properties/a~1
+big | {"a/":{},"b":{"text":true}} | /properties/b/text
+patterns | {"(":{},"a":5} | /patternProperties/(
+patterns | {"^a/":5} | /patternProperties/^a~1"#;
+
+fn expect_refused(rt: &impl Abort, alloc: Global, row: &str) -> Result<(), Fail> {
+    let (kind, text, place) = cells(row)?;
+    let object = Value::from_str(alloc, text)?;
+    let line = line_of(alloc, kind, &object, &mut Meter::new())?;
+    assert_eq!(rt; line.strip_prefix(" refused "), Some(place), "{row}");
+    Ok(())
+}
+
+#[test]
+fn entries_that_are_refused(rt: HostRuntime) -> Result<(), Fail> {
+    for row in REFUSED.lines() {
+        expect_refused(&rt, rt.alloc(), row)?;
+    }
+    Ok(())
+}

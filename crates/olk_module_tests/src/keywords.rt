@@ -1,0 +1,291 @@
+//! What the module of a keyword compiles of its member of an object.
+use crate::lines::{PlainNode, cells, push_node, push_nodes, push_pattern, push_patterns};
+use olk_base::Meter;
+use olk_build::{
+    Context, additional_properties, all_of, any_of, dependencies, if_, not, pattern_properties,
+    property_dependencies, property_names,
+};
+use olk_low_tests::doubles::{EqualTo, Equality, NoText, NoTexts};
+use olk_node::Keyword;
+use olk_reports::BuildError;
+use olk_tree::additional_properties::AdditionalProperties;
+use olk_tree::{KeywordOver, SmallMap};
+use serde_json::{Map, Value};
+use std::alloc::{AllocError, Global};
+use std::process::Abort;
+use std::test::Fail;
+
+// ---- a keyword as text
+
+type PlainKeyword = Keyword<NoText, EqualTo>;
+
+type Restriction = AdditionalProperties<EqualTo, PlainNode>;
+
+// Each name with the texts that choose, each with its node.
+fn push_choices(text: &mut String, map: &SmallMap<SmallMap<PlainNode>>) -> Result<(), AllocError> {
+    for (name, chosen) in map.names.as_slice().iter().zip(&map.nodes) {
+        text.push_str(" ")?;
+        text.push_str(name.as_str())?;
+        text.push_str(" {")?;
+        push_nodes(text, chosen)?;
+        text.push_str(" }")?;
+    }
+    Ok(())
+}
+
+// What is declared, and each pattern with its node.
+fn push_neighbours(text: &mut String, keyword: &Restriction) -> Result<(), AllocError> {
+    if let Some(properties) = &keyword.properties {
+        push_nodes(text, properties)?;
+    }
+    if let Some(patterns) = &keyword.patterns {
+        text.push_str(" at ")?;
+        text.push_str(keyword.patterns_location.as_str())?;
+        push_patterns(text, patterns.as_slice())?;
+    }
+    Ok(())
+}
+
+// The node for the rest, and the name that is required.
+fn push_others(text: &mut String, keyword: &Restriction) -> Result<(), AllocError> {
+    if let Some(rest) = &keyword.rest {
+        text.push_str(" rest:")?;
+        push_node(text, rest)?;
+    }
+    if let Some(required) = &keyword.required {
+        text.push_str(" requires ")?;
+        text.push_str(required.name.as_str())?;
+        text.push_str(" at ")?;
+        text.push_str(required.location.as_str())?;
+    }
+    Ok(())
+}
+
+// The form of a keyword of branches, or of a condition.
+fn form_of(keyword: &PlainKeyword) -> &'static str {
+    match keyword {
+        KeywordOver::SingleValueAllOf(_) => "single allOf",
+        KeywordOver::AllOf(_) => "allOf",
+        KeywordOver::SingleAnyOf(_) => "single anyOf",
+        KeywordOver::AnyOf(_) => "anyOf",
+        KeywordOver::IfThen(_) => "then",
+        KeywordOver::IfElse(_) => "else",
+        KeywordOver::IfThenElse(_) => "both",
+        _ => "another",
+    }
+}
+
+// Where a keyword stands, if its place is told.
+fn place_of(keyword: &PlainKeyword) -> &str {
+    match keyword {
+        KeywordOver::Not(keyword) => keyword.location.as_str(),
+        KeywordOver::Dependencies(keyword) => keyword.location.as_str(),
+        KeywordOver::PropertyNames(keyword) => keyword.location.as_str(),
+        KeywordOver::PropertyNamesFalse(keyword) => keyword.location.as_str(),
+        KeywordOver::PropertyDependencies(keyword) => keyword.location.as_str(),
+        KeywordOver::SingleValuePatternProperties(keyword) => keyword.location.as_str(),
+        KeywordOver::PatternProperties(keyword) => keyword.location.as_str(),
+        KeywordOver::AdditionalProperties(keyword) => keyword.location.as_str(),
+        _ => "",
+    }
+}
+
+// What a keyword holds.
+fn push_held(text: &mut String, keyword: &PlainKeyword) -> Result<(), AllocError> {
+    match keyword {
+        KeywordOver::Not(_) => Ok(()),
+        KeywordOver::Dependencies(keyword) => push_nodes(text, &keyword.dependencies),
+        KeywordOver::PropertyNames(keyword) => {
+            text.push_str(" names:")?;
+            push_node(text, &keyword.node)
+        }
+        KeywordOver::PropertyNamesFalse(_) => text.push_str(" no name"),
+        KeywordOver::PropertyDependencies(keyword) => push_choices(text, &keyword.dependencies),
+        KeywordOver::SingleValuePatternProperties(keyword) => {
+            text.push_str(" single")?;
+            push_pattern(text, &keyword.regex, &keyword.node)
+        }
+        KeywordOver::PatternProperties(keyword) => {
+            push_patterns(text, keyword.patterns.as_slice())
+        }
+        KeywordOver::AdditionalProperties(keyword) => {
+            push_neighbours(text, keyword)?;
+            push_others(text, keyword)
+        }
+        _ => text.push_str(form_of(keyword)),
+    }
+}
+
+fn keyword_line(alloc: Global, keyword: &PlainKeyword) -> Result<String, AllocError> {
+    let mut text = String::from_str(alloc, place_of(keyword))?;
+    push_held(&mut text, keyword)?;
+    Ok(text)
+}
+
+// ---- what is compiled
+
+// What a module compiles. It is dropped by name: where it ends with its scope, the proof takes a minute longer.
+type Made<'a> = Option<Result<PlainKeyword, BuildError<'a>>>;
+
+// What the module of the keyword compiles.
+fn compiled<'a>(
+    alloc: Global,
+    ctx: &mut Context<'_, NoTexts, Equality>,
+    parent: &'a Map<String, Value>,
+    name: &str,
+    value: &'a Value,
+) -> Made<'a> {
+    match name {
+        "additionalProperties" => additional_properties::compile(alloc, ctx, parent, value),
+        "allOf" => all_of::compile(alloc, ctx, parent, value),
+        "anyOf" => any_of::compile(alloc, ctx, parent, value),
+        "dependencies" => dependencies::compile(alloc, ctx, parent, value),
+        "dependentRequired" => {
+            dependencies::compile_dependent_required(alloc, ctx, parent, value)
+        }
+        "dependentSchemas" => dependencies::compile_dependent_schemas(alloc, ctx, parent, value),
+        "if" => if_::compile(alloc, ctx, parent, value),
+        "not" => not::compile(alloc, ctx, parent, value),
+        "patternProperties" => pattern_properties::compile(alloc, ctx, parent, value),
+        "propertyDependencies" => property_dependencies::compile(alloc, ctx, parent, value),
+        "propertyNames" => property_names::compile(alloc, ctx, parent, value),
+        _ => None,
+    }
+}
+
+// What is made, as a line.
+fn line_of(alloc: Global, made: &Made<'_>) -> Result<String, AllocError> {
+    match made {
+        None => String::from_str(alloc, "none"),
+        Some(Ok(keyword)) => keyword_line(alloc, keyword),
+        Some(Err(_)) => String::from_str(alloc, "not built"),
+    }
+}
+
+// What is compiled of the member of this name, as a line.
+fn compiled_line(
+    alloc: Global,
+    parent: &Map<String, Value>,
+    name: &str,
+    meter: &mut Meter,
+) -> Result<String, AllocError> {
+    let value = parent.get(name).unwrap_or(&Value::Null);
+    let mut ctx = Context::new(alloc, &NoTexts, &Equality, meter);
+    let made = compiled(alloc, &mut ctx, parent, name, value);
+    let line = line_of(alloc, &made);
+    drop(made);
+    line
+}
+
+// The same behind what is counted: how many places, leaves and engines, and how often these are asked.
+fn counted_line(alloc: Global, object: &Value, name: &str) -> Result<String, Fail> {
+    let Some(parent) = object.as_object() else {
+        return Err(Fail::from("no object"));
+    };
+    let mut meter = Meter::new();
+    let line = compiled_line(alloc, parent, name, &mut meter)?;
+    if meter.unfinished() != 0 {
+        return Err(Fail::from("left unfinished"));
+    }
+    let (places, leaves) = (meter.compiled(), meter.leaves());
+    let (engines, asks) = (meter.made(), meter.asked());
+    Ok(format!(in alloc; "{places} {leaves} {engines} {asks} {line}")?)
+}
+
+fn expect_compiled(rt: &impl Abort, alloc: Global, row: &str) -> Result<(), Fail> {
+    let (name, text, told) = cells(row)?;
+    let object = Value::from_str(alloc, text)?;
+    let found = counted_line(alloc, &object, name)?;
+    assert_eq!(rt; found.as_str(), told, "{row}");
+    Ok(())
+}
+
+// Tables: the keyword, the object that has it, and what is compiled of it: how many places, leaves and engines, how often
+// these are asked, where the keyword stands, and what it holds; of branches and conditions the form alone.
+
+const BRANCHES: &str = r#"allOf | {"allOf":[]} | 0 0 0 0 allOf
+allOf | {"allOf":[true]} | 1 0 0 0 single allOf
+allOf | {"allOf":[true,{}]} | 2 0 0 0 allOf
+anyOf | {"anyOf":[]} | 0 0 0 0 anyOf
+anyOf | {"anyOf":[true]} | 1 0 0 0 single anyOf
+anyOf | {"anyOf":[true,{}]} | 2 0 0 0 anyOf"#;
+
+#[test]
+fn one_branch_has_a_form_of_its_own(rt: HostRuntime) -> Result<(), Fail> {
+    for row in BRANCHES.lines() {
+        expect_compiled(&rt, rt.alloc(), row)?;
+    }
+    Ok(())
+}
+
+#[test]
+fn a_schema_that_is_turned(rt: HostRuntime) -> Result<(), Fail> {
+    expect_compiled(&rt, rt.alloc(), r#"not | {"not":true} | 1 0 0 0 /not"#)
+}
+
+const CONDITIONS: &str = r#"if | {"if":true} | 0 0 0 0 none
+if | {"if":true,"then":false} | 2 0 0 0 then
+if | {"if":true,"else":false} | 2 0 0 0 else
+if | {"if":true,"then":{"not":true},"else":false} | 4 0 0 0 both"#;
+
+#[test]
+fn a_condition_with_its_cases(rt: HostRuntime) -> Result<(), Fail> {
+    for row in CONDITIONS.lines() {
+        expect_compiled(&rt, rt.alloc(), row)?;
+    }
+    Ok(())
+}
+
+const DEPENDENCIES_AND_NAMES: &str =
+    r#"dependencies | {"dependencies":{"b":["x","x"],"a/c":{"text":false},"c":true,"":[]}} | 2 1 0 0 /dependencies : /dependencies [] a/c: /dependencies/a~1c b: /dependencies [x,x,] c: /dependencies/c
+dependentRequired | {"dependentRequired":{"b":["y","x"],"a":[]}} | 0 0 0 0 /dependentRequired a: /dependentRequired [] b: /dependentRequired [y,x,]
+dependentSchemas | {"dependentSchemas":{"b":{},"a/~":{"not":true}}} | 3 0 0 0 /dependentSchemas a/~: /dependentSchemas/a~1~0 b: /dependentSchemas/b
+propertyNames | {"propertyNames":{"text":false}} | 1 1 0 0 /propertyNames names: /propertyNames
+propertyNames | {"propertyNames":false} | 0 0 0 0 /propertyNames no name
+propertyNames | {"propertyNames":true} | 0 0 0 0 none
+propertyNames | {"propertyNames":5} | 0 0 0 0 none
+propertyDependencies | {"propertyDependencies":{"l":{},"k":{"u":true,"t/":{"not":true}}}} | 3 0 0 0 /propertyDependencies k { t/: /propertyDependencies/k/t~1 u: /propertyDependencies/k/u } l { }"#;
+
+#[test]
+fn keywords_of_dependencies_and_names(rt: HostRuntime) -> Result<(), Fail> {
+    for row in DEPENDENCIES_AND_NAMES.lines() {
+        expect_compiled(&rt, rt.alloc(), row)?;
+    }
+    Ok(())
+}
+
+const PATTERNS: &str =
+    r#"patternProperties | {"patternProperties":{"a":{"text":false}}} | 1 1 1 0 /patternProperties single engine: /patternProperties/a
+patternProperties | {"patternProperties":{"^a/~":{"not":true}}} | 2 0 0 0 /patternProperties single prefix: /patternProperties/^a~1~0
+patternProperties | {"patternProperties":{"b":true,"a$":{"text":false}}} | 2 1 1 0 /patternProperties suffix: /patternProperties/a$ engine: /patternProperties/b
+patternProperties | {"patternProperties":{"a|b":{},"^a$":{},"^(a|b)$":{},"^\\S*$":{}}} | 4 0 1 0 /patternProperties alternation: /patternProperties/^(a|b)$ no white space: /patternProperties/^\S*$ exact: /patternProperties/^a$ engine: /patternProperties/a|b
+patternProperties | {"patternProperties":{}} | 0 0 0 0 /patternProperties
+patternProperties | {"additionalProperties":true,"patternProperties":{"a":{}}} | 1 0 1 0 /patternProperties single engine: /patternProperties/a
+patternProperties | {"additionalProperties":false,"patternProperties":{"a":{"text":false}}} | 0 0 0 0 none
+patternProperties | {"additionalProperties":{},"patternProperties":{"a":{"text":false}}} | 0 0 0 0 none
+patternProperties | {"additionalProperties":{"text":false},"patternProperties":{"(":5}} | 0 0 0 0 none"#;
+
+#[test]
+fn keywords_of_patterns(rt: HostRuntime) -> Result<(), Fail> {
+    for row in PATTERNS.lines() {
+        expect_compiled(&rt, rt.alloc(), row)?;
+    }
+    Ok(())
+}
+
+const RESTRICTIONS: &str =
+    r#"additionalProperties | {"additionalProperties":false} | 0 0 0 0 /additionalProperties
+additionalProperties | {"additionalProperties":{"not":true}} | 2 0 0 0 /additionalProperties rest: /additionalProperties
+additionalProperties | {"additionalProperties":false,"properties":{"b":{"text":false},"a/~":true},"required":["b"]} | 2 1 0 0 /additionalProperties a/~: /properties/a~1~0 b: /properties/b requires b at /required
+additionalProperties | {"additionalProperties":{},"patternProperties":{"b":true,"^a":{"text":false}},"properties":{"b":{}},"required":["b"]} | 4 1 1 1 /additionalProperties b: /properties/b at /patternProperties prefix: /patternProperties/^a engine: /patternProperties/b rest: /additionalProperties
+additionalProperties | {"additionalProperties":false,"patternProperties":{}} | 0 0 0 0 /additionalProperties at /patternProperties
+additionalProperties | {"additionalProperties":true,"patternProperties":{"(":5},"properties":{"a":5}} | 0 0 0 0 none
+additionalProperties | {"additionalProperties":5,"patternProperties":{"b":{}},"properties":{"a":{"text":false}}} | 0 0 0 0 not built"#;
+
+#[test]
+fn keywords_of_restrictions(rt: HostRuntime) -> Result<(), Fail> {
+    for row in RESTRICTIONS.lines() {
+        expect_compiled(&rt, rt.alloc(), row)?;
+    }
+    Ok(())
+}
