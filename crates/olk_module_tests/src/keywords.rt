@@ -148,16 +148,29 @@ fn compiled<'a>(
     value: &'a Value,
 ) -> Made<'a> {
     match name {
-        "additionalProperties" => additional_properties::compile(alloc, ctx, parent, value),
         "allOf" => all_of::compile(alloc, ctx, parent, value),
         "anyOf" => any_of::compile(alloc, ctx, parent, value),
+        "if" => if_::compile(alloc, ctx, parent, value),
+        "not" => not::compile(alloc, ctx, parent, value),
+        _ => compiled_of_members(alloc, ctx, parent, name, value),
+    }
+}
+
+// The same of a keyword that speaks of members.
+fn compiled_of_members<'a>(
+    alloc: Global,
+    ctx: &mut Context<'_, NoTexts, Equality>,
+    parent: &'a Map<String, Value>,
+    name: &str,
+    value: &'a Value,
+) -> Made<'a> {
+    match name {
+        "additionalProperties" => additional_properties::compile(alloc, ctx, parent, value),
         "dependencies" => dependencies::compile(alloc, ctx, parent, value),
         "dependentRequired" => {
             dependencies::compile_dependent_required(alloc, ctx, parent, value)
         }
         "dependentSchemas" => dependencies::compile_dependent_schemas(alloc, ctx, parent, value),
-        "if" => if_::compile(alloc, ctx, parent, value),
-        "not" => not::compile(alloc, ctx, parent, value),
         "patternProperties" => pattern_properties::compile(alloc, ctx, parent, value),
         "propertyDependencies" => property_dependencies::compile(alloc, ctx, parent, value),
         "propertyNames" => property_names::compile(alloc, ctx, parent, value),
