@@ -300,12 +300,13 @@ const ASKED: &str = r#"{"dependentSchemas":{"a":{"minLength":1}}} | {"b":1} | 0
 {"propertyDependencies":{"k":{"a":{"minLength":1}}}} | {"k":1} | 0
 {"additionalProperties":{"minLength":1},"properties":{"a":{}}} | {"a":"x","b":"y","c":"z"} | 2
 {"additionalProperties":{"minLength":1},"patternProperties":{"^a":{"minLength":1},"b$":{"minLength":1}}} | {"ab":"x"} | 2
-{"additionalProperties":false,"properties":{"a":{"minLength":1},"id":{}},"required":["id"]} | {"a":"x","id":1,"z":1} | 1
-{"additionalProperties":false,"properties":{"a":{"minLength":1},"id":{}},"required":["id"]} | {"a":[],"id":1,"z":1} | 0
+{"additionalProperties":false,"properties":{"a":{"minLength":1},"id":{}},"required":["id"]} | {"a":"x","id":1,"z":1} | 0
+{"additionalProperties":false,"properties":{"a":{"minLength":1},"id":{},"q":{}},"required":["id"]} | {"a":"x","id":1,"z":1} | 1
+{"additionalProperties":false,"properties":{"a":{"minLength":1},"id":{},"q":{}},"required":["id"]} | {"a":[],"id":1,"z":1} | 0
 {"additionalProperties":false,"properties":{"a":{"minLength":1},"id":{}},"required":["id"]} | {"a":[],"id":1} | 1
-{"additionalProperties":false,"properties":{"a":{},"b":{},"c":{},"d":{"minLength":1},"id":{}},"required":["id"]} | {"a":[],"b":{},"c":[],"d":{},"id":1,"z":1} | 0
-{"additionalProperties":false,"properties":{"a":{},"b":{},"c":{},"d":{},"e":{"minLength":1},"id":{}},"required":["id"]} | {"a":[],"b":{},"c":[],"d":{},"e":[],"id":1,"z":1} | 1
-{"additionalProperties":false,"properties":{"a":{"minLength":1}}} | {"a":[],"z":1} | 1"#;
+{"additionalProperties":false,"properties":{"a":{},"b":{},"c":{},"d":{"minLength":1},"id":{},"q":{}},"required":["id"]} | {"a":[],"b":{},"c":[],"d":{},"id":1,"z":1} | 0
+{"additionalProperties":false,"properties":{"a":{},"b":{},"c":{},"d":{},"e":{"minLength":1},"id":{},"q":{}},"required":["id"]} | {"a":[],"b":{},"c":[],"d":{},"e":[],"id":1,"z":1} | 1
+{"additionalProperties":false,"properties":{"a":{"minLength":1},"q":{}}} | {"a":[],"z":1} | 1"#;
 
 fn expect_asked(rt: &impl Abort, alloc: Global, row: &str) -> Result<(), Fail> {
     let (schema, instance, times) = three_cells(row)?;
