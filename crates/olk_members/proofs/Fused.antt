@@ -2,13 +2,12 @@
 use Rattle.std.specs.Prelude.{◌≡◌, ℕ, nat_lt, List, [], ◌∷◌, length, Option, Some, None, option_map, is_some, unwrap_or, String}
 use Rattle.std.specs.Borrow.{Bor}
 use Rattle.std.specs.declared.alloc.Global.{Global}
-use Rattle.std.proofs.Common.{refl, sym, ◌∙◌, ap, arith}
+use Rattle.std.proofs.Common.{refl, sym, ◌∙◌, ap}
 use mathlib.Core.Bool.{true≢false}
 use Rattle.serde_json.specs.Data.{Data, null, boolean, number, string, array, object, Items, no_items, item, Members}
 use Rattle.serde_json.specs.Find.{as_object, as_array}
 use Rattle.serde_json.specs.View.{view, members_view, items_view}
 use Rattle.serde_json.specs.declared.value.Value.{Value}
-use Rattle.olk_spec.specs.Schemas.{listed}
 use Rattle.olk_spec.specs.declared.TheConstants.{HASHMAP_THRESHOLD}
 use Rattle.olk_members.proofs.Listed.{listed_length}
 use Rattle.olk_members.specs.Fused.{declares_few, two_names, one_name}

@@ -4,7 +4,7 @@ use olk_base::Meter;
 use olk_build::{Context, pattern_properties, properties};
 use olk_low_tests::doubles::{Equality, NoTexts};
 use olk_reports::BuildError;
-use olk_tree::PropertiesValidatorsMap;
+use olk_tree::{BigMap, SmallMap, SortedNames};
 use serde_json::{Map, Value};
 use std::alloc::{AllocError, Global};
 use std::process::Abort;
@@ -20,17 +20,33 @@ fn refused_line(alloc: Global, error: &BuildError<'_>) -> Result<String, AllocEr
     }
 }
 
-// The names of a map, each with its node.
-fn map_line<M: PropertiesValidatorsMap<PlainNode>>(
+// Names, each with its node.
+fn nodes_line(
     alloc: Global,
-    built: &Result<M, BuildError<'_>>,
+    names: &SortedNames,
+    nodes: &[PlainNode],
+) -> Result<String, AllocError> {
+    let mut text = String::new(alloc);
+    push_nodes(&mut text, names, nodes)?;
+    Ok(text)
+}
+
+fn small_map_line(
+    alloc: Global,
+    built: &Result<SmallMap<PlainNode>, BuildError<'_>>,
 ) -> Result<String, AllocError> {
     match built {
-        Ok(map) => {
-            let mut text = String::new(alloc);
-            push_nodes(&mut text, map)?;
-            Ok(text)
-        }
+        Ok(map) => nodes_line(alloc, &map.names, map.nodes.as_slice()),
+        Err(error) => refused_line(alloc, error),
+    }
+}
+
+fn big_map_line(
+    alloc: Global,
+    built: &Result<BigMap<PlainNode>, BuildError<'_>>,
+) -> Result<String, AllocError> {
+    match built {
+        Ok(map) => nodes_line(alloc, map.names.sorted(), map.nodes.as_slice()),
         Err(error) => refused_line(alloc, error),
     }
 }
@@ -57,7 +73,7 @@ fn line_of_small_map(
 ) -> Result<String, AllocError> {
     let mut ctx = Context::new(alloc, &NoTexts, &Equality, meter);
     let built = properties::compile_small_map(alloc, &mut ctx, declared);
-    let line = map_line(alloc, &built);
+    let line = small_map_line(alloc, &built);
     drop(built);
     line
 }
@@ -69,7 +85,7 @@ fn line_of_big_map(
 ) -> Result<String, AllocError> {
     let mut ctx = Context::new(alloc, &NoTexts, &Equality, meter);
     let built = properties::compile_big_map(alloc, &mut ctx, declared);
-    let line = map_line(alloc, &built);
+    let line = big_map_line(alloc, &built);
     drop(built);
     line
 }

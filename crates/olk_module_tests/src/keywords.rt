@@ -9,6 +9,7 @@ use olk_low_tests::doubles::{EqualTo, Equality, NoText, NoTexts};
 use olk_node::Keyword;
 use olk_reports::BuildError;
 use olk_tree::additional_properties::AdditionalProperties;
+use olk_tree::properties_map::PropertiesMap;
 use olk_tree::{KeywordOver, SmallMap};
 use serde_json::{Map, Value};
 use std::alloc::{AllocError, Global};
@@ -21,22 +22,33 @@ type PlainKeyword = Keyword<NoText, EqualTo>;
 
 type Restriction = AdditionalProperties<EqualTo, PlainNode>;
 
+fn push_small_map(text: &mut String, map: &SmallMap<PlainNode>) -> Result<(), AllocError> {
+    push_nodes(text, &map.names, map.nodes.as_slice())
+}
+
 // Each name with the texts that choose, each with its node.
 fn push_choices(text: &mut String, map: &SmallMap<SmallMap<PlainNode>>) -> Result<(), AllocError> {
     for (name, chosen) in map.names.as_slice().iter().zip(&map.nodes) {
         text.push_str(" ")?;
         text.push_str(name.as_str())?;
         text.push_str(" {")?;
-        push_nodes(text, chosen)?;
+        push_small_map(text, chosen)?;
         text.push_str(" }")?;
     }
     Ok(())
 }
 
+fn push_map(text: &mut String, map: &PropertiesMap<PlainNode>) -> Result<(), AllocError> {
+    match map {
+        PropertiesMap::Small(map) => push_small_map(text, map),
+        PropertiesMap::Big(map) => push_nodes(text, map.names.sorted(), map.nodes.as_slice()),
+    }
+}
+
 // What is declared, and each pattern with its node.
 fn push_neighbours(text: &mut String, keyword: &Restriction) -> Result<(), AllocError> {
     if let Some(properties) = &keyword.properties {
-        push_nodes(text, properties)?;
+        push_map(text, properties)?;
     }
     if let Some(patterns) = &keyword.patterns {
         text.push_str(" at ")?;
@@ -94,7 +106,7 @@ fn place_of(keyword: &PlainKeyword) -> &str {
 fn push_held(text: &mut String, keyword: &PlainKeyword) -> Result<(), AllocError> {
     match keyword {
         KeywordOver::Not(_) => Ok(()),
-        KeywordOver::Dependencies(keyword) => push_nodes(text, &keyword.dependencies),
+        KeywordOver::Dependencies(keyword) => push_small_map(text, &keyword.dependencies),
         KeywordOver::PropertyNames(keyword) => {
             text.push_str(" names:")?;
             push_node(text, &keyword.node)
@@ -136,16 +148,29 @@ fn compiled<'a>(
     value: &'a Value,
 ) -> Made<'a> {
     match name {
-        "additionalProperties" => additional_properties::compile(alloc, ctx, parent, value),
         "allOf" => all_of::compile(alloc, ctx, parent, value),
         "anyOf" => any_of::compile(alloc, ctx, parent, value),
+        "if" => if_::compile(alloc, ctx, parent, value),
+        "not" => not::compile(alloc, ctx, parent, value),
+        _ => compiled_of_members(alloc, ctx, parent, name, value),
+    }
+}
+
+// The same of a keyword that speaks of members.
+fn compiled_of_members<'a>(
+    alloc: Global,
+    ctx: &mut Context<'_, NoTexts, Equality>,
+    parent: &'a Map<String, Value>,
+    name: &str,
+    value: &'a Value,
+) -> Made<'a> {
+    match name {
+        "additionalProperties" => additional_properties::compile(alloc, ctx, parent, value),
         "dependencies" => dependencies::compile(alloc, ctx, parent, value),
         "dependentRequired" => {
             dependencies::compile_dependent_required(alloc, ctx, parent, value)
         }
         "dependentSchemas" => dependencies::compile_dependent_schemas(alloc, ctx, parent, value),
-        "if" => if_::compile(alloc, ctx, parent, value),
-        "not" => not::compile(alloc, ctx, parent, value),
         "patternProperties" => pattern_properties::compile(alloc, ctx, parent, value),
         "propertyDependencies" => property_dependencies::compile(alloc, ctx, parent, value),
         "propertyNames" => property_names::compile(alloc, ctx, parent, value),

@@ -1,4 +1,5 @@
 //! Looking up names, in maps of few and of many.
+use olk_tree::properties_map::PropertiesMap;
 use olk_tree::{BigMap, PropertiesValidatorsMap, SmallMap, SortedNames};
 use serde_json::{Map, Value};
 use std::alloc::{AllocError, Global};
@@ -85,6 +86,10 @@ fn names_are_found(rt: HostRuntime) -> Result<(), Fail> {
         expect_found(&rt, &first_names(rt.alloc(), count)?, count);
         expect_found(&rt, &first_hashed(rt.alloc(), count)?, count);
     }
+    let few = PropertiesMap::Small(first_names(rt.alloc(), 3)?);
+    expect_found(&rt, &few, 3);
+    let many = PropertiesMap::Big(first_hashed(rt.alloc(), 16)?);
+    expect_found(&rt, &many, 16);
     Ok(())
 }
 

@@ -1,5 +1,5 @@
 -- Where there are more members than declared names, one of them is not declared.
-use Rattle.std.proofs.Common.{◌≡◌, ℕ, ◌<◌, ◌≤◌, Bool, true, false, ◌&&◌, List, [], ◌∷◌, length, Option, None, Ordering, Less, Equal, Greater, refl, sym, ap, subst, ◌∙◌, arith}
+use Rattle.std.proofs.Common.{◌≡◌, ◌<◌, ◌≤◌, Bool, true, false, ◌&&◌, List, [], ◌∷◌, length, Option, None, Ordering, Less, Equal, Greater, refl, sym, ap, subst, ◌∙◌, arith}
 use Rattle.std.specs.Ordering.{nat_cmp, ordering_reverse}
 use Rattle.std.specs.Cmp.Lexicographic.{slice_cmp}
 use Rattle.std.specs.FinMap.{slice_cmp-IsAntisymmetric, nat_cmp-IsAntisymmetric}
@@ -7,7 +7,7 @@ use Rattle.std.proofs.lemmas.Cmp.{nat_list_cmp_total}
 use Rattle.serde_json.specs.Data.{Data}
 use Rattle.olk_spec.specs.Names.{Name, lookup}
 use Rattle.olk_tree.specs.Answers.{beside}
-use Rattle.olk_tree.specs.Questions.{Question, both, every}
+use Rattle.olk_tree.specs.Questions.{Question, every}
 use Rattle.olk_tree.proofs.Merge.{After, Rising, after_after, none_after, skips}
 
 pub beside_length : {N : Type 0} (ks : List Name) (xs : List N) → length (beside ks xs) ≤ length ks

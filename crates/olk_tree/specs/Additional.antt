@@ -1,7 +1,6 @@
 -- What is asked of a member beside `additionalProperties`: what is declared at its name, what stands at the patterns that match it, and where there is neither the rest.
-use Rattle.std.specs.Prelude.{ℕ, ◌+◌, Bool, true, false, not, ◌&&◌, ◌||◌, cond, List, [], ◌∷◌, ◌++◌, map, Option, Some, None, is_none, is_some, option_map, option_to_list, String, string_bytes}
+use Rattle.std.specs.Prelude.{ℕ, ◌+◌, Bool, true, false, not, ◌&&◌, ◌||◌, cond, List, [], ◌∷◌, ◌++◌, map, Option, Some, None, is_none, is_some, option_map, option_to_list}
 use Rattle.std.specs.List.{flat_map, enumerate_from}
-use Rattle.std.specs.declared.alloc.Global.{Global}
 use Rattle.serde_json.specs.Data.{Data}
 use Rattle.olk_spec.specs.Names.{Name, Path, ◌//◌, lookup, those, put_if, is_empty}
 use Rattle.olk_spec.specs.World.{Says, matched, unmatched, unfinished, reads_as}

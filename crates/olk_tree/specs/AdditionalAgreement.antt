@@ -14,7 +14,7 @@ use Rattle.olk_base.specs.Compiled.{pattern_answers, pattern_costs}
 use Rattle.olk_base.specs.declared.pattern.CompiledPattern.{CompiledPattern}
 use Rattle.olk_tree.specs.Questions.{Question, always, said_to, both, every}
 use Rattle.olk_tree.specs.Firsts.{or_else, first_of}
-use Rattle.olk_tree.specs.Additional.{Sides, known_at, known_or, known_or_asked, is_matched_by, matching_from, at_name, is_additional, others_asked, nodes_asked, is_unexpected, repeats, match_asked, rest_means, patterns_mean_from, member_means_at, member_means, means_in_turn, others_mean, named_means, additional_means, member_report, others_report, report_in_turn, named_report, additional_report, member_first, others_first, first_in_turn, named_first, additional_first}
+use Rattle.olk_tree.specs.Additional.{Sides, known_at, known_or, known_or_asked, is_matched_by, matching_from, at_name, others_asked, nodes_asked, is_unexpected, repeats, rest_means, patterns_mean_from, member_means_at, member_means, means_in_turn, others_mean, named_means, additional_means, member_report, others_report, report_in_turn, named_report, additional_report, member_first, others_first, first_in_turn, named_first, additional_first}
 use Rattle.olk_tree.specs.Answers.{sides_of, has_neighbours, required_text, required_place, lacks}
 use Rattle.olk_tree.specs.Emptiness.{each_agrees, both_agree, required_agrees, or_else_agrees, first_of_agrees, and_between}
 use Rattle.olk_tree.specs.declared.additional_properties.AdditionalProperties.{AdditionalProperties}

@@ -7,11 +7,10 @@ use Rattle.serde_json.specs.Data.{Data, string}
 use Rattle.serde_json.specs.View.{view}
 use Rattle.olk_spec.specs.Names.{Name, Path, ◌//◌, those, put_if, is_empty}
 use Rattle.olk_spec.specs.World.{Says}
-use Rattle.olk_spec.specs.Faults.{Fault, Kind, fault, Required, Leaf, AnyOf, OneOfNotValid, OneOfMultipleValid, Not, FalseSchema, Context, context}
+use Rattle.olk_spec.specs.Faults.{Fault, Kind, fault, Leaf, AnyOf, OneOfNotValid, OneOfMultipleValid, Not, FalseSchema, Context, context}
 use Rattle.olk_spec.specs.Schemas.{members, at}
-use Rattle.olk_spec.specs.Accepts.{missing}
 use Rattle.olk_spec.specs.Reports.{required_faults, fault_if, wrapped}
-use Rattle.olk_spec.proofs.Verdicts.{is_empty-append, is_empty-map, none_if}
+use Rattle.olk_spec.proofs.Verdicts.{is_empty-map, none_if}
 use Rattle.olk_base.specs.Kit.{Kit}
 use Rattle.olk_base.specs.declared.pattern.CompiledPattern.{CompiledPattern}
 pub use Rattle.olk_tree.specs.Emptiness.{each_agrees, both_agree, required_agrees, or_else_agrees, head_agrees, first_of_agrees}
@@ -19,7 +18,7 @@ use Rattle.olk_tree.specs.Emptiness.{and_between}
 use Rattle.olk_tree.specs.AdditionalAgreement.{additional_agrees, additional_first_agrees}
 use Rattle.olk_tree.specs.Questions.{Question, always, both, conditional, every, some, how_many}
 use Rattle.olk_tree.specs.Matched.{matching, match_question}
-use Rattle.olk_tree.specs.Answers.{named, mapped, texts_of, two_texts, unless, one_of_report, or_else, first_of, head_of, properties_mean, properties_report, properties_first, due_nodes, chosen_nodes, names_mean, names_report, names_first, matched_mean, matched_report, matched_first, patterns_mean, patterns_report, patterns_first, validator_means, validator_report, validator_first, body_means, body_report, body_first}
+use Rattle.olk_tree.specs.Answers.{named, mapped, texts_of, two_texts, unless, one_of_report, first_of, head_of, properties_mean, properties_report, properties_first, due_nodes, chosen_nodes, names_mean, names_report, names_first, matched_mean, matched_report, matched_first, patterns_mean, patterns_report, patterns_first, validator_means, validator_report, validator_first, body_means, body_report, body_first}
 use Rattle.olk_tree.specs.declared.node.KeywordOver.{KeywordOver}
 use Rattle.olk_tree.specs.declared.node.KeywordOver.TheVariants as keyword
 use Rattle.olk_tree.specs.declared.node.Body.{Body}

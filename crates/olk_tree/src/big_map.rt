@@ -6,7 +6,7 @@ ghost use Rattle.olk_spec.specs.Names.{Name};
 ghost use Rattle.olk_tree.specs.Ascending.{Ascend};
 
 use crate::map::SortedNames;
-use crate::validators_map::{DeclaredNames, PropertiesValidatorsMap};
+use crate::validators_map::{DeclaredNames, PropertiesValidatorsMap, node_from};
 use std::alloc::{AllocError, Global};
 use std::collections::HashMap;
 use std::marker::Model;
@@ -133,5 +133,11 @@ impl<N> PropertiesValidatorsMap<N> for BigMap<N> {
 
     fn nodes(&self) -> &[N] {
         &self.nodes
+    }
+
+    // As it is given, but inlined into walks.
+    #[inline(always)]
+    fn validator_from(&self, hint: usize, name: &str) -> (usize, Option<&N>) {
+        node_from(self.names(), self.nodes(), hint, name)
     }
 }

@@ -1,4 +1,4 @@
-use Rattle.std.proofs.Common.{◌≡◌, true, bytes_eq, sym, ◌∙◌, arith, []}
+use Rattle.std.proofs.Common.{bytes_eq, sym, ◌∙◌, arith, []}
 use Rattle.std.proofs.lemmas.List.Quantifiers.{position-Some}
 use Rattle.olk_tree.proofs.Places.{names_are, same_length, equal_at, equal_here, seen_at}
 use Rattle.olk_tree.proofs.map.SortedNames.stands_at.Goals as goal
