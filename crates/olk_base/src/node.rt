@@ -22,7 +22,7 @@ pub enum JsonType {
 #[derive(Clone, Copy)]
 pub enum Node<'a> {
     Value(&'a Value),
-    Name(&'a str),
+    Name(&'a String),
 }
 
 impl<'a> Node<'a> {

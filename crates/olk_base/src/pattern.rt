@@ -107,12 +107,14 @@ fn begins_with(text: &str, prefix: &str) -> bool
     prefix.len() <= text.len() && prefix == &text[..prefix.len()]
 }
 
+#[inline(never)]
 fn finishes_with(text: &str, suffix: &str) -> bool
     ensures { result ≡ ends_with nat_eq text.now suffix.now }
 {
     text.ends_with(suffix)
 }
 
+#[inline(never)]
 fn is_among(texts: &[String], text: &str) -> bool
     ensures { result ≡ list_any (λ s. bytes_eq (string_bytes s) text.now) texts.now }
 {

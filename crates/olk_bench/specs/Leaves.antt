@@ -7,6 +7,7 @@ use Rattle.olk_spec.specs.Bench.{Leaf_keyword, type_keyword, const_keyword, mini
 use Rattle.olk_bench.specs.Numbers.{num_of}
 use Rattle.olk_bench.specs.declared.leaf.ValueKind.{ValueKind}
 use Rattle.olk_bench.specs.declared.leaf.ValueKind.TheVariants as kind
+use Rattle.olk_base.specs.declared.node.JsonType.TheVariants as type
 use Rattle.olk_bench.specs.declared.leaf.Constant.{Constant}
 use Rattle.olk_bench.specs.declared.leaf.Constant.TheVariants as constant
 use Rattle.olk_bench.specs.declared.leaf.BenchLeaf.{BenchLeaf}
@@ -33,13 +34,13 @@ keyword_text min_length = codes "minLength"
 keyword_text max_length = codes "maxLength"
 
 abbrev pub kind_name : ValueKind → Name
-kind_name kind.Null = codes "null"
-kind_name kind.Boolean = codes "boolean"
+kind_name (kind.Of type.Null) = codes "null"
+kind_name (kind.Of type.Boolean) = codes "boolean"
 kind_name kind.Integer = codes "integer"
-kind_name kind.Number = codes "number"
-kind_name kind.String = codes "string"
-kind_name kind.Array = codes "array"
-kind_name kind.Object = codes "object"
+kind_name (kind.Of type.Number) = codes "number"
+kind_name (kind.Of type.String) = codes "string"
+kind_name (kind.Of type.Array) = codes "array"
+kind_name (kind.Of type.Object) = codes "object"
 
 abbrev pub constant_value : Constant → Data
 constant_value (constant.Number n) = number (num_of n)

@@ -11,20 +11,15 @@ ghost use Rattle.olk_bench.specs.Leaves.{kind_name, constant_value, leaf_name, l
 
 use crate::numbers::{Divisor, WholeNumber};
 use crate::texts::{compared_text, digits, quoted_text, shown_text};
-use olk_base::{Leaf, Node};
+use olk_base::{JsonType, Leaf, Node};
 use serde_json::Value;
 use std::alloc::{AllocError, Global};
 
-/// The kinds of values that `type` names (JSON Schema 2020-12 Validation, 6.1.1).
+/// The kinds of values that `type` names (JSON Schema 2020-12 Validation, 6.1.1): whole numbers, and those of each type.
 #[derive(Clone, Copy)]
 pub enum ValueKind {
-    Null,
-    Boolean,
     Integer,
-    Number,
-    String,
-    Array,
-    Object,
+    Of(JsonType),
 }
 
 /// What `const` compares with (JSON Schema 2020-12 Validation, 6.1.3): a whole number or a text.
@@ -75,15 +70,10 @@ impl Leaf for BenchLeaf {
     }
 
     fn is_valid(&self, node: Node<'_>) -> bool {
-        match self {
-            BenchLeaf::Type(kind) => is_of_kind(*kind, node),
-            BenchLeaf::Const(constant) => is_constant(constant, node),
-            BenchLeaf::Minimum(minimum) => is_at_least(*minimum, node),
-            BenchLeaf::Maximum(maximum) => is_at_most(*maximum, node),
-            BenchLeaf::MultipleOf(divisor) => is_multiple_of(*divisor, node),
-            BenchLeaf::MinLength(least) => is_no_shorter(*least, node),
-            BenchLeaf::MaxLength(most) => is_no_longer(*most, node),
+        if let BenchLeaf::Type(kind) = self {
+            return is_of_kind(*kind, node);
         }
+        self.accepts(node)
     }
 
     fn validate(&self, alloc: Global, node: Node<'_>) -> Result<Option<String>, AllocError> {
@@ -109,6 +99,22 @@ impl Leaf for BenchLeaf {
 }
 
 impl BenchLeaf {
+    // Whether the value is accepted; apart, so that asking for a type is inlined into walks.
+    #[inline(never)]
+    fn accepts(&self, node: Node<'_>) -> bool
+        ensures { result ≡ is_empty (leaf_finds self.now (data_of node.entry)) }
+    {
+        match self {
+            BenchLeaf::Type(kind) => is_of_kind(*kind, node),
+            BenchLeaf::Const(constant) => is_constant(constant, node),
+            BenchLeaf::Minimum(minimum) => is_at_least(*minimum, node),
+            BenchLeaf::Maximum(maximum) => is_at_most(*maximum, node),
+            BenchLeaf::MultipleOf(divisor) => is_multiple_of(*divisor, node),
+            BenchLeaf::MinLength(least) => is_no_shorter(*least, node),
+            BenchLeaf::MaxLength(most) => is_no_longer(*most, node),
+        }
+    }
+
     // What is said of a value that is not accepted.
     fn text(&self, alloc: Global, node: Node<'_>) -> Result<String, AllocError>
         ensures { IfOk result (λ s. string_bytes s ≡ leaf_text self.now (data_of node.entry)) }
@@ -137,13 +143,13 @@ impl ValueKind {
         ensures { result.now ≡ kind_name self }
     {
         match self {
-            ValueKind::Null => "null",
-            ValueKind::Boolean => "boolean",
             ValueKind::Integer => "integer",
-            ValueKind::Number => "number",
-            ValueKind::String => "string",
-            ValueKind::Array => "array",
-            ValueKind::Object => "object",
+            ValueKind::Of(JsonType::Null) => "null",
+            ValueKind::Of(JsonType::Boolean) => "boolean",
+            ValueKind::Of(JsonType::Number) => "number",
+            ValueKind::Of(JsonType::String) => "string",
+            ValueKind::Of(JsonType::Array) => "array",
+            ValueKind::Of(JsonType::Object) => "object",
         }
     }
 }
@@ -152,13 +158,8 @@ fn is_of_kind(kind: ValueKind, node: Node<'_>) -> bool
     ensures { result ≡ is_of_kind (kind_name kind) (data_of node.entry) }
 {
     match kind {
-        ValueKind::Null => matches!(node, Node::Value(Value::Null)),
-        ValueKind::Boolean => matches!(node, Node::Value(Value::Bool(_))),
         ValueKind::Integer => whole_number(node).is_some(),
-        ValueKind::Number => matches!(node, Node::Value(Value::Number(_))),
-        ValueKind::String => matches!(node, Node::Value(Value::String(_)) | Node::Name(_)),
-        ValueKind::Array => matches!(node, Node::Value(Value::Array(_))),
-        ValueKind::Object => matches!(node, Node::Value(Value::Object(_))),
+        ValueKind::Of(json_type) => json_type == node.json_type(),
     }
 }
 
@@ -176,7 +177,7 @@ fn text_of(node: Node<'_>) -> Option<&str>
 {
     match node {
         Node::Value(value) => value.as_str(),
-        Node::Name(name) => Some(name),
+        Node::Name(name) => Some(name.as_str()),
     }
 }
 

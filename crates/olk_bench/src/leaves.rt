@@ -9,7 +9,7 @@ ghost use Rattle.olk_bench.specs.Leaves.{keyword_named, kind_name, IsMade};
 
 use crate::leaf::{BenchLeaf, Constant, ValueKind};
 use crate::numbers::{Divisor, WholeNumber};
-use olk_base::{MakeError, MakeLeaf, Meter};
+use olk_base::{JsonType, MakeError, MakeLeaf, Meter};
 use serde_json::Value;
 use std::alloc::{AllocError, Global};
 
@@ -112,13 +112,13 @@ fn kind_named(name: &str) -> Option<ValueKind>
         (λ k. (is_among name.now kind_names ≡ true) × (kind_name k ≡ name.now)) }
 {
     match name {
-        "null" => Some(ValueKind::Null),
-        "boolean" => Some(ValueKind::Boolean),
+        "null" => Some(ValueKind::Of(JsonType::Null)),
+        "boolean" => Some(ValueKind::Of(JsonType::Boolean)),
         "integer" => Some(ValueKind::Integer),
-        "number" => Some(ValueKind::Number),
-        "string" => Some(ValueKind::String),
-        "array" => Some(ValueKind::Array),
-        "object" => Some(ValueKind::Object),
+        "number" => Some(ValueKind::Of(JsonType::Number)),
+        "string" => Some(ValueKind::Of(JsonType::String)),
+        "array" => Some(ValueKind::Of(JsonType::Array)),
+        "object" => Some(ValueKind::Of(JsonType::Object)),
         _ => None,
     }
 }

@@ -66,7 +66,7 @@ pub(crate) fn shown_text(alloc: Global, node: Node<'_>) -> Result<String, AllocE
         } else {
             value.to_string(alloc)
         },
-        Node::Name(name) => quoted_text(alloc, name),
+        Node::Name(name) => quoted_text(alloc, name.as_str()),
     }
 }
 

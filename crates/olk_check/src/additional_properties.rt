@@ -46,6 +46,7 @@ pub fn matches_unless_known<R: RegexEngine>(
 }
 
 impl<R: RegexEngine, N: IsValid> IsValid for AdditionalProperties<R, N> {
+    #[inline(never)]
     fn is_valid(&self, node: Node<'_>, ctx: &mut ValidationContext) -> bool {
         match node.as_object() {
             Some(members) => {

@@ -14,6 +14,7 @@ use olk_tree::validators_map::PropertiesValidatorsMap;
 use serde_json::{Map, Value};
 
 impl<N: IsValid> IsValid for Dependencies<N> {
+    #[inline(never)]
     fn is_valid(&self, node: Node<'_>, ctx: &mut ValidationContext) -> bool {
         match node.as_object() {
             Some(members) => due_accept(&self.dependencies, members, node, ctx),

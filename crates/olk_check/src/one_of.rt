@@ -47,6 +47,7 @@ pub fn how_many_accept<N: IsValid>(
 }
 
 impl<N: IsValid> IsValid for OneOf<N> {
+    #[inline(never)]
     fn is_valid(&self, node: Node<'_>, ctx: &mut ValidationContext) -> bool {
         match how_many_accept(&self.schemas, node, ctx) {
             Accepting::Zero => false,
@@ -57,6 +58,7 @@ impl<N: IsValid> IsValid for OneOf<N> {
 }
 
 impl<N: IsValid> IsValid for SingleOneOf<N> {
+    #[inline(never)]
     fn is_valid(&self, node: Node<'_>, ctx: &mut ValidationContext) -> bool {
         self.node.is_valid(node, ctx)
     }

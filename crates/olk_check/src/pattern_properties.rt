@@ -15,6 +15,7 @@ use olk_tree::pattern_properties::{PatternProperties, SingleValuePatternProperti
 use serde_json::{Map, Value};
 
 impl<R: RegexEngine, N: IsValid> IsValid for PatternProperties<R, N> {
+    #[inline(never)]
     fn is_valid(&self, node: Node<'_>, ctx: &mut ValidationContext) -> bool {
         match node.as_object() {
             Some(members) => patterns_accept(&self.patterns, members, ctx),
@@ -24,6 +25,7 @@ impl<R: RegexEngine, N: IsValid> IsValid for PatternProperties<R, N> {
 }
 
 impl<R: RegexEngine, N: IsValid> IsValid for SingleValuePatternProperties<R, N> {
+    #[inline(never)]
     fn is_valid(&self, node: Node<'_>, ctx: &mut ValidationContext) -> bool {
         match node.as_object() {
             Some(members) => matched_accepted(&self.regex, &self.node, members, ctx),

@@ -24,6 +24,7 @@ impl<N: IsValid> IsValid for Properties<N> {
 }
 
 impl<N: IsValid> IsValid for SmallPropertiesWithRequired2<N> {
+    #[inline(never)]
     fn is_valid(&self, node: Node<'_>, ctx: &mut ValidationContext) -> bool {
         match node.as_object() {
             Some(members) => {

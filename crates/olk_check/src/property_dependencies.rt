@@ -15,6 +15,7 @@ use olk_tree::validators_map::PropertiesValidatorsMap;
 use serde_json::{Map, Value};
 
 impl<N: IsValid> IsValid for PropertyDependencies<N> {
+    #[inline(never)]
     fn is_valid(&self, node: Node<'_>, ctx: &mut ValidationContext) -> bool {
         match node.as_object() {
             Some(members) => chosen_accept(&self.dependencies, members, node, ctx),

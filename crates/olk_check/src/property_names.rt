@@ -9,6 +9,7 @@ use olk_tree::property_names::{PropertyNames, PropertyNamesFalse};
 use serde_json::{Map, Value};
 
 impl<N: IsValid> IsValid for PropertyNames<N> {
+    #[inline(never)]
     fn is_valid(&self, node: Node<'_>, ctx: &mut ValidationContext) -> bool {
         match node.as_object() {
             Some(members) => names_accepted(&self.node, members, ctx),
@@ -19,6 +20,7 @@ impl<N: IsValid> IsValid for PropertyNames<N> {
 
 /// An object is to have no members.
 impl IsValid for PropertyNamesFalse {
+    #[inline(never)]
     fn is_valid(&self, node: Node<'_>, _ctx: &mut ValidationContext) -> bool {
         match node.as_object() {
             Some(members) => members.is_empty(),
@@ -37,7 +39,7 @@ fn names_accepted<N: IsValid>(
         (names_mean N.means subschema.now (object_of members.now.entries)) result }
 {
     for (name, _) in members {
-        if !subschema.is_valid(Node::Name(name.as_str()), ctx) {
+        if !subschema.is_valid(Node::Name(name), ctx) {
             return false;
         }
     }

@@ -14,6 +14,7 @@ use serde_json::{Map, Value};
 
 /// Each listed name is to be a member, where the value is an object (JSON Schema 2020-12 Validation, 6.5.3).
 impl IsValid for RequiredValidator {
+    #[inline(never)]
     fn is_valid(&self, node: Node<'_>, _ctx: &mut ValidationContext) -> bool {
         match node.as_object() {
             Some(members) => has_each(members, &self.required),

@@ -1,5 +1,5 @@
 //! `propertyNames`.
-ghost use Rattle.std.specs.Prelude.{◌≡◌, ◌∷◌, [], map, IfOk, OnOk, OnErr, IfErr};
+ghost use Rattle.std.specs.Prelude.{◌≡◌, ◌∷◌, [], map, IfOk, OnOk, OnErr, IfErr, string_bytes};
 ghost use Rattle.olk_base.specs.Nodes.{data_of};
 ghost use Rattle.olk_spec.specs.Reports.{wrapped};
 ghost use Rattle.olk_reports.specs.Errors.{fault_of};
@@ -96,7 +96,7 @@ fn validate_names<'a, N: Errors<'a>>(
     ensures context { OnlyAsks ctx.old ctx.new }
 {
     for (name, _) in members {
-        validate_name(alloc, subschema, name.as_str(), object, path, ctx)?;
+        validate_name(alloc, subschema, name, object, path, ctx)?;
     }
     Ok(())
 }
@@ -105,16 +105,16 @@ fn validate_names<'a, N: Errors<'a>>(
 fn validate_name<'a, N: Errors<'a>>(
     alloc: Global,
     subschema: &'a N,
-    name: &'a str,
+    name: &'a String,
     object: Node<'a>,
     path: &mut InstancePath,
     ctx: &mut ValidationContext,
 ) -> Result<(), ValidateError<'a>>
     ensures ok { OnOk result (Passes (of_asked_name N.means N.first N.report ctx.old.answer
-        subschema.now (data_of object.entry) name.now path.old)) }
+        subschema.now (data_of object.entry) (string_bytes name.now) path.old)) }
     ensures invalid { IfErr result (λ e. IfInvalid e (IsErrorOf
         (of_asked_name N.means N.first N.report ctx.old.answer
-        subschema.now (data_of object.entry) name.now path.old))) }
+        subschema.now (data_of object.entry) (string_bytes name.now) path.old))) }
     ensures path { path.new ≡ path.old }
     ensures context { OnlyAsks ctx.old ctx.new }
 {
@@ -145,7 +145,7 @@ fn collect_names<'a, N: Errors<'a>>(
 {
     let len = errors.len();
     for (name, _) in members {
-        let answer = collect_name(alloc, subschema, name.as_str(), object, path, ctx, errors);
+        let answer = collect_name(alloc, subschema, name, object, path, ctx, errors);
         roll_back_on_err(answer, errors, len)?;
     }
     Ok(())
@@ -155,7 +155,7 @@ fn collect_names<'a, N: Errors<'a>>(
 fn collect_name<'a, N: Errors<'a>>(
     alloc: Global,
     subschema: &'a N,
-    name: &'a str,
+    name: &'a String,
     object: Node<'a>,
     path: &mut InstancePath,
     ctx: &mut ValidationContext,
@@ -163,7 +163,7 @@ fn collect_name<'a, N: Errors<'a>>(
 ) -> Result<(), AllocError>
     ensures report { OnOk result (Appends errors.old.items errors.new.items
         (of_asked_name N.means N.first N.report ctx.old.answer
-        subschema.now (data_of object.entry) name.now path.old).all) }
+        subschema.now (data_of object.entry) (string_bytes name.now) path.old).all) }
     ensures memory { OnErr result (errors.new.items ≡ errors.old.items) }
     ensures path { path.new ≡ path.old }
     ensures context { OnlyAsks ctx.old ctx.new }

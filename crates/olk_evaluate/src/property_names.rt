@@ -103,7 +103,7 @@ fn name_children<'a, N: Evaluate<'a>>(
 {
     let mut children = Vec::with_capacity(alloc, members.len())?;
     for (name, _) in members {
-        children.push(child(alloc, subschema, Node::Name(name.as_str()), path, ctx)?)?;
+        children.push(child(alloc, subschema, Node::Name(name), path, ctx)?)?;
     }
     Ok(children)
 }

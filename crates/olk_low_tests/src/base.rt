@@ -373,7 +373,8 @@ fn expect_answers(
 fn leaves(rt: HostRuntime) -> Result<(), Fail> {
     let alloc = rt.alloc();
     let texts = "[\"text\", \"is a text\"]";
-    expect_answers(&rt, alloc, Node::Name("a"), "Some(\"is a text\")", texts)?;
+    let name = String::from_str(alloc, "a")?;
+    expect_answers(&rt, alloc, Node::Name(&name), "Some(\"is a text\")", texts)?;
     expect_answers(&rt, alloc, Node::Value(&Value::Null), "None", "[\"text\"]")?;
     Ok(())
 }
@@ -381,7 +382,8 @@ fn leaves(rt: HostRuntime) -> Result<(), Fail> {
 #[test]
 fn a_leaf_that_is_refused(rt: HostRuntime) {
     let mut meter = Meter::new();
-    let (value, node) = (Value::Null, Node::Name("a"));
+    let (value, name) = (Value::Null, String::new(rt.alloc()));
+    let node = Node::Name(&name);
     let refused = asked_leaf(&NoTexts, rt.alloc(), "text", &value, node, &mut meter);
     assert!(rt; matches!(refused, Err(MakeError::Refused)));
     assert_eq!(rt; meter.leaves(), 1);
@@ -401,8 +403,9 @@ fn nodes(rt: HostRuntime) {
     assert_eq!(rt; Node::Value(&object).json_type(), JsonType::Object);
     assert!(rt; Node::Value(&Value::Null).as_object().is_none());
     assert_eq!(rt; Node::Value(&Value::Null).json_type(), JsonType::Null);
-    assert!(rt; Node::Name("a").as_object().is_none());
-    assert_eq!(rt; Node::Name("a").json_type(), JsonType::String);
+    let name = String::new(rt.alloc());
+    assert!(rt; Node::Name(&name).as_object().is_none());
+    assert_eq!(rt; Node::Name(&name).json_type(), JsonType::String);
 }
 
 #[test]

@@ -75,6 +75,7 @@ fn unexpected<'a>(alloc: Global, names: &[&'a str]) -> Result<ValidationErrorKin
 #[test]
 fn texts_of_unexpected_names(rt: HostRuntime) -> Result<(), Fail> {
     let alloc = rt.alloc();
+    let name = String::new(alloc);
     let one = unexpected(alloc, &["z"])?;
     let two = unexpected(alloc, &["faz", "h\"z"])?;
     let three = unexpected(alloc, &["x", "y", "z"])?;
@@ -92,7 +93,7 @@ fn texts_of_unexpected_names(rt: HostRuntime) -> Result<(), Fail> {
             "Additional properties are not allowed ('x', 'y', 'z' were unexpected)",
         ),
     ] {
-        assert_eq!(rt; text_of(alloc, kind, Node::Name(""))?.as_str(), text);
+        assert_eq!(rt; text_of(alloc, kind, Node::Name(&name))?.as_str(), text);
     }
     Ok(())
 }
@@ -100,6 +101,7 @@ fn texts_of_unexpected_names(rt: HostRuntime) -> Result<(), Fail> {
 #[test]
 fn texts_of_validating(rt: HostRuntime) -> Result<(), Fail> {
     let alloc = rt.alloc();
+    let name = String::from_str(alloc, "k\"l")?;
     let schema = Value::Bool(true);
     let limit = String::from_str(alloc, "4 is less than the minimum of 5")?;
     for (kind, text) in [
@@ -141,7 +143,7 @@ fn texts_of_validating(rt: HostRuntime) -> Result<(), Fail> {
             "4 is less than the minimum of 5",
         ),
     ] {
-        assert_eq!(rt; text_of(alloc, kind, Node::Name("k\"l"))?.as_str(), text);
+        assert_eq!(rt; text_of(alloc, kind, Node::Name(&name))?.as_str(), text);
     }
     Ok(())
 }
@@ -149,6 +151,7 @@ fn texts_of_validating(rt: HostRuntime) -> Result<(), Fail> {
 #[test]
 fn texts_of_building(rt: HostRuntime) -> Result<(), Fail> {
     let alloc = rt.alloc();
+    let name = String::from_str(alloc, "k")?;
     for (kind, text) in [
         (
             ValidationErrorKind::SingleType {
@@ -185,7 +188,7 @@ fn texts_of_building(rt: HostRuntime) -> Result<(), Fail> {
             "\"k\" is not a value for \"minimum\"",
         ),
     ] {
-        assert_eq!(rt; text_of(alloc, kind, Node::Name("k"))?.as_str(), text);
+        assert_eq!(rt; text_of(alloc, kind, Node::Name(&name))?.as_str(), text);
     }
     Ok(())
 }
@@ -194,10 +197,11 @@ fn texts_of_building(rt: HostRuntime) -> Result<(), Fail> {
 fn text_of_a_pattern_that_is_refused(rt: HostRuntime) -> Result<(), Fail> {
     let alloc = rt.alloc();
     let place = Location::new(alloc).join(alloc, "patternProperties")?;
-    let at_pattern = place.join(alloc, "a/b~(")?;
+    let pattern = String::from_str(alloc, "a/b~(")?;
+    let at_pattern = place.join(alloc, pattern.as_str())?;
     let error = ValidationError::refusing(
         ValidationErrorKind::Regex,
-        Node::Name("a/b~("),
+        Node::Name(&pattern),
         String::new(alloc),
         at_pattern,
     );
@@ -211,14 +215,18 @@ fn text_of_a_pattern_that_is_refused(rt: HostRuntime) -> Result<(), Fail> {
 }
 
 // The error of a name, told of the object.
-fn error_of_name<'a>(alloc: Global, object: Node<'a>) -> Result<ValidationError<'a>, AllocError> {
+fn error_of_name<'a>(
+    alloc: Global,
+    name: &'a String,
+    object: Node<'a>,
+) -> Result<ValidationError<'a>, AllocError> {
     let text = String::from_str(alloc, "\"f\" is shorter than 2 characters")?;
     let of_name = ValidationError::new(
         ValidationErrorKind::Leaf {
             keyword: "minLength",
             text,
         },
-        Node::Name("f"),
+        Node::Name(name),
         String::from_str(alloc, "/a")?,
         "/anyOf/0/propertyNames/minLength",
     );
@@ -233,7 +241,8 @@ fn error_of_name<'a>(alloc: Global, object: Node<'a>) -> Result<ValidationError<
 fn an_error_of_a_name(rt: HostRuntime) -> Result<(), Fail> {
     let alloc = rt.alloc();
     let object = Value::Object(Map::new(alloc));
-    let wrapping = error_of_name(alloc, Node::Value(&object))?;
+    let name = String::from_str(alloc, "f")?;
+    let wrapping = error_of_name(alloc, &name, Node::Value(&object))?;
     assert_eq!(rt; wrapping.schema_path(), "/anyOf/0/propertyNames/minLength");
     assert_eq!(rt;
         wrapping.message(alloc)?.as_str(),
@@ -245,9 +254,10 @@ fn an_error_of_a_name(rt: HostRuntime) -> Result<(), Fail> {
 // An error with a context of one branch, which finds the error of a name.
 fn error_of_branches<'a>(
     alloc: Global,
+    name: &'a String,
     object: Node<'a>,
 ) -> Result<ValidationError<'a>, AllocError> {
-    let branch = vec![in alloc; error_of_name(alloc, object)?]?;
+    let branch = vec![in alloc; error_of_name(alloc, name, object)?]?;
     let context = vec![in alloc; branch]?;
     let kind = ValidationErrorKind::AnyOf { context };
     let path = String::from_str(alloc, "/a")?;
@@ -258,7 +268,8 @@ fn error_of_branches<'a>(
 fn errors_inside_errors(rt: HostRuntime) -> Result<(), Fail> {
     let alloc = rt.alloc();
     let object = Value::Object(Map::new(alloc));
-    let error = error_of_branches(alloc, Node::Value(&object))?;
+    let name = String::from_str(alloc, "f")?;
+    let error = error_of_branches(alloc, &name, Node::Value(&object))?;
     assert_eq!(rt; error.instance_path(), "/a");
     assert!(rt; error.instance().as_object().is_some());
     assert!(rt;
@@ -410,7 +421,8 @@ fn join_at_last(alloc: Global) -> Result<Location, AllocError> {
 
 fn text_at_last(alloc: Global) -> Result<String, AllocError> {
     let kind = ValidationErrorKind::LeafRefused { keyword: "minimum" };
-    let error = ValidationError::new(kind, Node::Name("x"), String::new(alloc), "");
+    let name = String::from_str(alloc, "x")?;
+    let error = ValidationError::new(kind, Node::Name(&name), String::new(alloc), "");
     error.message(alloc).or_else(|_| error.message(alloc))
 }
 

@@ -157,10 +157,10 @@ fn one_branch(rt: HostRuntime) -> Result<(), Fail> {
 }
 
 // Whether the text, a name and null are accepted, and how many engines are asked.
-fn leaf_answers(node: &PlainNode, text: &Value) -> (bool, bool, bool, u64) {
+fn leaf_answers(node: &PlainNode, text: &Value, name: &String) -> (bool, bool, bool, u64) {
     let mut ctx = ValidationContext::new(true);
     let is_text = node.is_valid(Node::Value(text), &mut ctx);
-    let is_name = node.is_valid(Node::Name("a"), &mut ctx);
+    let is_name = node.is_valid(Node::Name(name), &mut ctx);
     let is_null = node.is_valid(Node::Value(&Value::Null), &mut ctx);
     (is_text, is_name, is_null, ctx.meter().asked())
 }
@@ -169,7 +169,8 @@ fn leaf_answers(node: &PlainNode, text: &Value) -> (bool, bool, bool, u64) {
 fn leaves(rt: HostRuntime) -> Result<(), Fail> {
     let node = no_text(rt.alloc())?;
     let text = Value::String(String::from_str(rt.alloc(), "a")?);
-    assert_eq!(rt; leaf_answers(&node, &text), (false, false, true, 0));
+    let name = String::from_str(rt.alloc(), "a")?;
+    assert_eq!(rt; leaf_answers(&node, &text, &name), (false, false, true, 0));
     Ok(())
 }
 

@@ -1,5 +1,5 @@
 //! Reading the patterns of `patternProperties`, and what they say of the names that are declared beside them.
-ghost use Rattle.std.specs.Prelude.{◌≡◌, ◌*◌, ◌∷◌, [], IfOk, IfErr, OnOk, OnErr, map, length};
+ghost use Rattle.std.specs.Prelude.{◌≡◌, ◌*◌, ◌∷◌, [], IfOk, IfErr, OnOk, OnErr, map, length, string_bytes};
 ghost use Rattle.serde_json.specs.Data.{string};
 ghost use Rattle.serde_json.specs.View.{members_view};
 ghost use Rattle.olk_spec.specs.Faults.{fault, Regex};
@@ -24,11 +24,11 @@ use serde_json::{Map, Value};
 use std::alloc::{AllocError, Global};
 
 /// The refusal of a pattern, as a bare name below the keyword; want of memory where there is none for the place.
-fn refuse_pattern<'a>(alloc: Global, location: &Location, pattern: &'a str) -> BuildError<'a>
+fn refuse_pattern<'a>(alloc: Global, location: &Location, pattern: &'a String) -> BuildError<'a>
     ensures { TellsOneOf
-        (fault Regex (string pattern.now) [] (one_below location.now pattern.now) ∷ []) result }
+        (fault Regex (string (string_bytes pattern.now)) [] (one_below location.now (string_bytes pattern.now)) ∷ []) result }
 {
-    match location.join(alloc, pattern) {
+    match location.join(alloc, pattern.as_str()) {
         Ok(place) => BuildError::Refused(ValidationError::refusing(
             ValidationErrorKind::Regex,
             Node::Name(pattern),
@@ -49,20 +49,20 @@ fn read_pattern<'a, L: MakeLeaf, M: MakeRegex>(
     makers: &Makers<'_, L, M>,
     meter: &mut Meter,
     location: &Location,
-    pattern: &'a str,
+    pattern: &'a String,
 ) -> Result<CompiledPattern<M::Engine>, BuildError<'a>>
     ensures pattern { IfOk result (λ p. IsPattern (kit L.Leaf.Leaf M.Engine.RegexEngine)
-        p pattern.now) }
+        p (string_bytes pattern.now)) }
     ensures right { OnOk result (pattern_faults (world L.Leaf.Leaf M.Engine.RegexEngine)
-        location.now pattern.now ≡ []) }
+        location.now (string_bytes pattern.now) ≡ []) }
     ensures spends { OnOk result (Spends meter.old meter.new
-        (matcher_made (world L.Leaf.Leaf M.Engine.RegexEngine) pattern.now)) }
+        (matcher_made (world L.Leaf.Leaf M.Engine.RegexEngine) (string_bytes pattern.now))) }
     ensures refused { IfErr result (Refuses (pattern_faults
-        (world L.Leaf.Leaf M.Engine.RegexEngine) location.now pattern.now)
-        (matcher_made (world L.Leaf.Leaf M.Engine.RegexEngine) pattern.now)
+        (world L.Leaf.Leaf M.Engine.RegexEngine) location.now (string_bytes pattern.now))
+        (matcher_made (world L.Leaf.Leaf M.Engine.RegexEngine) (string_bytes pattern.now))
         meter.old meter.new) }
 {
-    match compile_pattern(alloc, makers.regexes, pattern, meter) {
+    match compile_pattern(alloc, makers.regexes, pattern.as_str(), meter) {
         Ok(compiled) => Ok(compiled),
         Err(MakeError::Refused) => Err(refuse_pattern(alloc, location, pattern)),
         Err(MakeError::Memory(error)) => Err(BuildError::Memory(error)),
@@ -88,7 +88,7 @@ pub fn patterns_of_entries<'a, L: MakeLeaf, M: MakeRegex>(
 {
     let mut patterns = Vec::with_capacity(alloc, entries.len())?;
     for (pattern, _) in entries {
-        let compiled = read_pattern(alloc, makers, meter, location, pattern.as_str())?;
+        let compiled = read_pattern(alloc, makers, meter, location, pattern)?;
         append(&mut patterns, compiled)?;
     }
     Ok(patterns)

@@ -7,7 +7,8 @@ ghost use Rattle.olk_reports.specs.Errors.{kind_of};
 ghost use Rattle.olk_reports.specs.Messages.{has_error_inside};
 
 use crate::message::{
-    ending_text, joined_text, name_text, names_text, required_text, starting_text, type_error_text,
+    ending_text, joined_text, name_text, names_text, naming_text, required_text, starting_text,
+    type_error_text,
 };
 use crate::path::Location;
 use olk_base::{JsonType, Node};
@@ -312,11 +313,11 @@ fn own_text(
             keyword,
             " is not supported here",
         )?),
-        ValidationErrorKind::LeafRefused { keyword } => Ok(joined_text(
+        ValidationErrorKind::LeafRefused { keyword } => Ok(naming_text(
             alloc,
             instance,
             " is not a value for ",
-            Node::Name(keyword),
+            keyword,
         )?),
     }
 }

@@ -16,11 +16,16 @@ fn node_text(alloc: Global, node: Node<'_>) -> Result<String, AllocError>
 {
     match node {
         Node::Value(value) => value.to_string(alloc),
-        Node::Name(name) => {
-            let value = Value::String(String::from_str(alloc, name)?);
-            value.to_string(alloc)
-        }
+        Node::Name(name) => quoted_text(alloc, name.as_str()),
     }
+}
+
+// The name as JSON.
+fn quoted_text(alloc: Global, name: &str) -> Result<String, AllocError>
+    ensures { IfOk result (λ s. string_bytes s ≡ compact_text (string name.now)) }
+{
+    let value = Value::String(String::from_str(alloc, name)?);
+    value.to_string(alloc)
 }
 
 // The node, and then the text.
@@ -62,11 +67,28 @@ pub(crate) fn joined_text(
     Ok(text)
 }
 
+// A node, the text and the name as JSON.
+pub(crate) fn naming_text(
+    alloc: Global,
+    first: Node<'_>,
+    middle: &str,
+    name: &str,
+) -> Result<String, AllocError>
+    ensures { IfOk result (λ s. has_float (data_of first.entry) ≡ false
+        → string_bytes s ≡ compact_text (data_of first.entry) ++ middle.now
+        ++ compact_text (string name.now)) }
+{
+    let mut text = starting_text(alloc, first, middle)?;
+    let name = quoted_text(alloc, name)?;
+    text.push_str(name.as_str())?;
+    Ok(text)
+}
+
 // The name as JSON, and then the text.
 pub(crate) fn name_text(alloc: Global, name: &str, rest: &str) -> Result<String, AllocError>
     ensures { IfOk result (λ s. string_bytes s ≡ compact_text (string name.now) ++ rest.now) }
 {
-    let mut text = node_text(alloc, Node::Name(name))?;
+    let mut text = quoted_text(alloc, name)?;
     text.push_str(rest)?;
     Ok(text)
 }

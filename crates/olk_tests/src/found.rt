@@ -70,7 +70,7 @@ pub(crate) fn push_instance(
         }
         Node::Name(name) => {
             text.push_str(" of the name ")?;
-            text.push_str(name)?;
+            text.push_str(name.as_str())?;
         }
     }
     Ok(())

@@ -4,6 +4,7 @@ use Rattle.std.specs.List.{position, position_or_len}
 use Rattle.std.specs.List.Sorted.{IsBinarySearchResult, IsSearchInRange, IsNonDecreasingBy}
 use Rattle.std.specs.Ordering.{nat_cmp, ordering_index, is_eq, ordering_reverse}
 use Rattle.std.specs.Bool.{nat_lt}
+use Rattle.std.specs.Result.{result_ok}
 use Rattle.std.specs.Cmp.Lexicographic.{slice_cmp}
 use Rattle.std.specs.declared.cmp.Ordering.{Ordering}
 use Rattle.std.specs.declared.cmp.Ordering.TheVariants.{Less, Equal, Greater}
@@ -123,6 +124,10 @@ module _ (ks : List Name) (n : Name) where
       where
         some : p < length ks → position_or_len test ks ≡ p → Some p ≡ position test ks
         some lt e = grind (arith, nat_tests)
+
+    pub place_told : (r : Result ℕ ℕ) → IsPlaceOf ks n r → result_ok r ≡ position test ks
+    place_told (Ok p) h = stands_some h
+    place_told (Err p) h = parts_none h
 
     pub equal_here : (p : ℕ) → p < length ks → true ≡ bytes_eq (get_or ks p []) n → Some p ≡ position test ks
     equal_here p lt e = stands_some record { inside = lt; here = equal_by (cmp (get_or ks p []) n) (is_eq-slice_cmp (get_or ks p []) n ∙ sym e) }

@@ -69,21 +69,21 @@ impl HashedNames {
         if self.names.stands_at(hint, name) {
             return (hint.saturating_add(1), Some(hint));
         }
-        self.find_elsewhere(hint, name)
-    }
-
-    // The same, where the name at `hint` is another.
-    #[inline(never)]
-    fn find_elsewhere(&self, hint: usize, name: &str) -> (usize, Option<usize>)
-        ensures { result.1 ≡ position (λ k. bytes_eq k name.now) self.now }
-    {
-        if let Some(place) = self.names.find_among_next(hint.saturating_add(1), name) {
-            return (place.saturating_add(1), Some(place));
-        }
-        match self.find(name) {
+        match self.find_elsewhere(hint, name) {
             Some(place) => (place.saturating_add(1), Some(place)),
             None => (hint, None),
         }
+    }
+
+    // At which place the name stands, where that at `hint` is another.
+    #[inline(never)]
+    fn find_elsewhere(&self, hint: usize, name: &str) -> Option<usize>
+        ensures { result ≡ position (λ k. bytes_eq k name.now) self.now }
+    {
+        if let Some(place) = self.names.find_among_next(hint.saturating_add(1), name) {
+            return Some(place);
+        }
+        self.find(name)
     }
 }
 

@@ -1,5 +1,6 @@
 //! Names in order, and what stands beside them.
 ghost use Rattle.std.specs.Ordering.{nat_cmp};
+ghost use Rattle.std.specs.Result.{result_ok};
 ghost use Rattle.std.specs.Cmp.Lexicographic.{slice_cmp};
 ghost use Rattle.std.specs.Prelude.{◌≡◌, ◌<◌, ◌≤◌, ◌↔◌, IsTrue, IfOk, IfSome, MatchOption, Some, bytes_eq, length, map, string_bytes, position};
 ghost use Rattle.serde_json.specs.View.{members_view};
@@ -115,32 +116,35 @@ impl SortedNames {
         if hint < names.len() && names[hint].as_str() == name {
             return (hint + 1, Some(hint));
         }
-        self.find_about(hint, name)
+        match self.find_about(hint, name) {
+            Ok(place) => (place + 1, Some(place)),
+            Err(next) => (next, None),
+        }
     }
 
-    // The same, where the name at `hint` is another.
+    // The same, where the name at `hint` is another: its place, or else where to look first for a later name.
     #[inline(never)]
-    fn find_about(&self, hint: usize, name: &str) -> (usize, Option<usize>)
-        ensures { result.1 ≡ position (λ k. bytes_eq k name.now) self.now }
+    fn find_about(&self, hint: usize, name: &str) -> Result<usize, usize>
+        ensures { result_ok result ≡ position (λ k. bytes_eq k name.now) self.now }
     {
         let names = self.names.as_slice();
         if names.len() <= FEW {
             return find_equal(names, hint, name);
         }
         if let Some(place) = find_near(names, hint.saturating_add(1), name) {
-            return (place + 1, Some(place));
+            return Ok(place);
         }
         if hint >= names.len() {
             return find_before(names, hint, name);
         }
         match names[hint].as_str().cmp(name) {
-            Ordering::Equal => (hint + 1, Some(hint)),
+            Ordering::Equal => Ok(hint),
             Ordering::Greater => find_before(names, hint, name),
             Ordering::Less => {
                 let later = hint + 1;
                 match place_of(&names[later..], name) {
-                    Ok(place) => (later + place + 1, Some(later + place)),
-                    Err(place) => (later + place, None),
+                    Ok(place) => Ok(later + place),
+                    Err(place) => Err(later + place),
                 }
             }
         }
@@ -177,38 +181,35 @@ fn find_between(names: &[String], from: usize, to: usize, name: &str) -> Option<
 
 // At which place the name stands, by comparing each: those behind `hint`, and then those before. A name that is found
 // nowhere leaves the hint.
-fn find_equal(names: &[String], hint: usize, name: &str) -> (usize, Option<usize>)
+fn find_equal(names: &[String], hint: usize, name: &str) -> Result<usize, usize>
     requires { Ascend (map string_bytes names.now) }
-    ensures { result.1 ≡ position (λ k. bytes_eq k name.now) (map string_bytes names.now) }
+    ensures { result_ok result ≡ position (λ k. bytes_eq k name.now) (map string_bytes names.now) }
 {
     let behind = names.len().min(hint.saturating_add(1));
     if let Some(place) = find_between(names, behind, names.len(), name) {
-        return (place + 1, Some(place));
+        return Ok(place);
     }
     match find_between(names, 0, behind, name) {
-        Some(place) => (place + 1, Some(place)),
-        None => (hint, None),
+        Some(place) => Ok(place),
+        None => Err(hint),
     }
 }
 
 // The same, where no name from `hint` on is the one that is looked for: the last one before is compared first.
-fn find_before(names: &[String], hint: usize, name: &str) -> (usize, Option<usize>)
+fn find_before(names: &[String], hint: usize, name: &str) -> Result<usize, usize>
     requires ordered { Ascend (map string_bytes names.now) }
     requires later { IsAfter (map string_bytes names.now) hint name.now }
-    ensures { result.1 ≡ position (λ k. bytes_eq k name.now) (map string_bytes names.now) }
+    ensures { result_ok result ≡ position (λ k. bytes_eq k name.now) (map string_bytes names.now) }
 {
     if hint == 0 {
-        return (0, None);
+        return Err(0);
     }
     if hint <= names.len()
         && let Ordering::Less = names[hint - 1].as_str().cmp(name)
     {
-        return (hint, None);
+        return Err(hint);
     }
-    match place_of(names, name) {
-        Ok(place) => (place + 1, Some(place)),
-        Err(place) => (place, None),
-    }
+    place_of(names, name)
 }
 
 // Where the name stands, or else where it would stand, found by bisection.

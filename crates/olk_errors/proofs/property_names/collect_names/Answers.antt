@@ -1,4 +1,4 @@
-use Rattle.std.proofs.Common.{length, rules, ◌≡◌, ap, subst, ◌∙◌}
+use Rattle.std.proofs.Common.{length, rules, ◌≡◌, refl, ap, subst, ◌∙◌}
 use Rattle.serde_json.specs.View.{members_view}
 use Rattle.olk_base.specs.Nodes.{data_of}
 use Rattle.olk_spec.specs.Schemas.{listed}
@@ -14,7 +14,7 @@ pub loop-name-init : goal.loop-name-init
 loop-name-init g c = collecting_from (ap (λ es. listed (members_view es)) c.into_iter-name-iterator.ensures.into_iter_gives.0)
 
 pub loop-name-preserved : goal.loop-name-preserved
-loop-name-preserved g c = collecting_more c.loop-name.invariant (name_next c.in-Some.ensures.steps c.as_str.ensures.value)
+loop-name-preserved g c = collecting_more c.loop-name.invariant (name_next c.in-Some.ensures.steps refl)
     (appends_same c.in_ok-roll_back_on_err.ensures.ok (at_ok c.roll_back_on_err.ensures.same c.in_ok-roll_back_on_err.was c.collect_name-answer.ensures.report))
     c.collect_name-answer.ensures.path c.collect_name-answer.ensures.context
 

@@ -1,5 +1,5 @@
 use mathlib.Core.Path.{subst₂}
-use Rattle.std.proofs.Common.{ap, ◌∙◌}
+use Rattle.std.proofs.Common.{string_bytes, refl, ap, ◌∙◌}
 use Rattle.serde_json.specs.Data.{string}
 use Rattle.olk_tree.proofs.Due.{name_next, no_name_next}
 use Rattle.olk_reports.specs.Evaluations.{tree_of}
@@ -13,9 +13,9 @@ loop-name-preserved g c = record {
   path = c.child.ensures.path ∙ c.loop-name.invariant.path;
   context = only_then c.loop-name.invariant.context c.child.ensures.context;
   shown = shown_more c.loop-name.children.items c.in_ok-child.field-0 c.loop-name.invariant.shown
-      (ap (names_wanted g.N.Evaluate.tree g.N.Means.means c.args.ctx.now.answer c.args.subschema.now c.args.path.now) (name_next c.in-Some.ensures.steps c.as_str.ensures.value))
+      (ap (names_wanted g.N.Evaluate.tree g.N.Means.means c.args.ctx.now.answer c.args.subschema.now c.args.path.now) (name_next c.in-Some.ensures.steps refl))
       c.in_ok-push.ensures.items
-      (subst₂ (λ u Q. IsShown (wanted g.N.Evaluate.tree g.N.Means.means u c.args.subschema.now (string c.as_str.result.now) Q) (tree_of c.in_ok-child.field-0)) c.loop-name.invariant.context.answer c.loop-name.invariant.path c.in_ok-child.ensures.shown);
+      (subst₂ (λ u Q. IsShown (wanted g.N.Evaluate.tree g.N.Means.means u c.args.subschema.now (string (string_bytes c.in-Some.name.now)) Q) (tree_of c.in_ok-child.field-0)) c.loop-name.invariant.context.answer c.loop-name.invariant.path c.in_ok-child.ensures.shown);
 }
 
 pub returns-clause-shown : goal.returns-clause-shown
