@@ -75,7 +75,6 @@ fn unexpected<'a>(alloc: Global, names: &[&'a str]) -> Result<ValidationErrorKin
 #[test]
 fn texts_of_unexpected_names(rt: HostRuntime) -> Result<(), Fail> {
     let alloc = rt.alloc();
-    let name = String::new(alloc);
     let one = unexpected(alloc, &["z"])?;
     let two = unexpected(alloc, &["faz", "h\"z"])?;
     let three = unexpected(alloc, &["x", "y", "z"])?;
@@ -93,7 +92,10 @@ fn texts_of_unexpected_names(rt: HostRuntime) -> Result<(), Fail> {
             "Additional properties are not allowed ('x', 'y', 'z' were unexpected)",
         ),
     ] {
-        assert_eq!(rt; text_of(alloc, kind, Node::Name(&name))?.as_str(), text);
+        assert_eq!(rt;
+            text_of(alloc, kind, Node::Value(&Value::Null))?.as_str(),
+            text
+        );
     }
     Ok(())
 }
@@ -151,33 +153,32 @@ fn texts_of_validating(rt: HostRuntime) -> Result<(), Fail> {
 #[test]
 fn texts_of_building(rt: HostRuntime) -> Result<(), Fail> {
     let alloc = rt.alloc();
-    let name = String::from_str(alloc, "k")?;
     for (kind, text) in [
         (
             ValidationErrorKind::SingleType {
                 expected: JsonType::Object,
             },
-            "\"k\" is not of type \"object\"",
+            "null is not of type \"object\"",
         ),
         (
             ValidationErrorKind::SingleType {
                 expected: JsonType::Array,
             },
-            "\"k\" is not of type \"array\"",
+            "null is not of type \"array\"",
         ),
         (
             ValidationErrorKind::SingleType {
                 expected: JsonType::String,
             },
-            "\"k\" is not of type \"string\"",
+            "null is not of type \"string\"",
         ),
         (
             ValidationErrorKind::MultipleTypes,
-            "\"k\" is not of types \"boolean\", \"object\"",
+            "null is not of types \"boolean\", \"object\"",
         ),
         (
             ValidationErrorKind::UniqueItems,
-            "\"k\" has non-unique elements",
+            "null has non-unique elements",
         ),
         (
             ValidationErrorKind::Unsupported { keyword: "$ref" },
@@ -185,10 +186,13 @@ fn texts_of_building(rt: HostRuntime) -> Result<(), Fail> {
         ),
         (
             ValidationErrorKind::LeafRefused { keyword: "minimum" },
-            "\"k\" is not a value for \"minimum\"",
+            "null is not a value for \"minimum\"",
         ),
     ] {
-        assert_eq!(rt; text_of(alloc, kind, Node::Name(&name))?.as_str(), text);
+        assert_eq!(rt;
+            text_of(alloc, kind, Node::Value(&Value::Null))?.as_str(),
+            text
+        );
     }
     Ok(())
 }
