@@ -1,7 +1,7 @@
 -- What a build counts, and what is told where nothing is built.
 use Rattle.std.specs.Prelude.{◌≡◌, ◌≤◌, ⊤, List, Contains}
 use Rattle.olk_spec.specs.Faults.{Fault}
-use Rattle.olk_spec.specs.Costs.{Cost, cost}
+use Rattle.olk_spec.specs.Costs.{Cost}
 use Rattle.olk_base.specs.Count.{Counts, raised_by}
 use Rattle.olk_reports.specs.Errors.{fault_of}
 use Rattle.olk_reports.specs.declared.error.BuildError.{BuildError}

@@ -1,17 +1,17 @@
 use Rattle.olk_base.specs.Kit.{world}
-use Rattle.std.proofs.Common.{[], ◌∷◌, refl, sym, ap, subst, codes}
+use Rattle.std.proofs.Common.{[], ◌∷◌, refl, sym, subst, codes}
 use Rattle.olk_base.specs.Kit.{kit}
 use Rattle.olk_read.specs.Reading.{IsRead}
 use Rattle.olk_read.specs.declared.shape.Shape.TheVariants as shape
-use Rattle.serde_json.specs.View.{view, members_view}
+use Rattle.serde_json.specs.View.{view}
 use Rattle.olk_spec.specs.Faults.{fault}
 use Rattle.olk_reports.proofs.Errors.{kind_of_unsupported}
 use Rattle.olk_members.specs.Conditions.{known}
 use Rattle.olk_read.specs.Refusing.{TellsOneOf}
 use Rattle.olk_read.specs.Reading.{IsFor}
-use Rattle.olk_read.proofs.Spending.{exit, tells_left}
+use Rattle.olk_read.proofs.Spending.{exit}
 use Rattle.olk_read.proofs.Read.{conditional_is_read, own_if, own_then, own_else, refuses_own, refuses_name, refuses_without_memory, is_read, right_dependent_required, right_dependencies, right_property_dependencies, names_are_read, own_properties, own_additional_properties, own_required, own_dependent_required, own_dependent_schemas, own_dependencies, own_property_dependencies, own_all_of, own_any_of, own_one_of}
-use Rattle.olk_spec.specs.Schemas.{members, listed, is_object}
+use Rattle.olk_spec.specs.Schemas.{members}
 use Rattle.olk_read.proofs.NameLists.{name_lists_are_arrays}
 use Rattle.olk_read.proofs.reading.read_keyword.Goals as goal
 
