@@ -64,39 +64,45 @@ fn text_of<'a>(
     ValidationError::new(kind, instance, String::new(alloc), "").message(alloc)
 }
 
-fn unexpected<'a>(alloc: Global, names: &[&'a str]) -> Result<ValidationErrorKind<'a>, AllocError> {
+fn strings(alloc: Global, texts: &[&str]) -> Result<Vec<String>, AllocError> {
+    let mut strings = Vec::new(alloc);
+    for text in texts {
+        strings.push(String::from_str(alloc, text)?)?;
+    }
+    Ok(strings)
+}
+
+fn unexpected<'a>(
+    alloc: Global,
+    names: &'a Vec<String>,
+) -> Result<ValidationErrorKind<'a>, AllocError> {
     let mut unexpected = Vec::new(alloc);
     for name in names {
-        unexpected.push(*name)?;
+        unexpected.push(name.as_str())?;
     }
     Ok(ValidationErrorKind::AdditionalProperties { unexpected })
+}
+
+fn unexpected_text(alloc: Global, names: &[&str]) -> Result<String, AllocError> {
+    let (object, names) = (Value::Null, strings(alloc, names)?);
+    let kind = unexpected(alloc, &names)?;
+    text_of(alloc, kind, Node::Value(&object))
 }
 
 #[test]
 fn texts_of_unexpected_names(rt: HostRuntime) -> Result<(), Fail> {
     let alloc = rt.alloc();
-    let one = unexpected(alloc, &["z"])?;
-    let two = unexpected(alloc, &["faz", "h\"z"])?;
-    let three = unexpected(alloc, &["x", "y", "z"])?;
-    for (kind, text) in [
+    let one = unexpected_text(alloc, &["z"])?;
+    let two = unexpected_text(alloc, &["faz", "h\"z"])?;
+    let three = unexpected_text(alloc, &["x", "y", "z"])?;
+    assert_eq!(rt;
+        (one.as_str(), two.as_str(), three.as_str()),
         (
-            one,
             "Additional properties are not allowed ('z' was unexpected)",
-        ),
-        (
-            two,
             "Additional properties are not allowed ('faz', 'h\"z' were unexpected)",
-        ),
-        (
-            three,
-            "Additional properties are not allowed ('x', 'y', 'z' were unexpected)",
-        ),
-    ] {
-        assert_eq!(rt;
-            text_of(alloc, kind, Node::Value(&Value::Null))?.as_str(),
-            text
-        );
-    }
+            "Additional properties are not allowed ('x', 'y', 'z' were unexpected)"
+        )
+    );
     Ok(())
 }
 
@@ -153,46 +159,48 @@ fn texts_of_validating(rt: HostRuntime) -> Result<(), Fail> {
 #[test]
 fn texts_of_building(rt: HostRuntime) -> Result<(), Fail> {
     let alloc = rt.alloc();
+    let name = String::from_str(alloc, "k")?;
     for (kind, text) in [
         (
             ValidationErrorKind::SingleType {
                 expected: JsonType::Object,
             },
-            "null is not of type \"object\"",
+            "\"k\" is not of type \"object\"",
         ),
         (
             ValidationErrorKind::SingleType {
                 expected: JsonType::Array,
             },
-            "null is not of type \"array\"",
+            "\"k\" is not of type \"array\"",
         ),
         (
             ValidationErrorKind::SingleType {
                 expected: JsonType::String,
             },
-            "null is not of type \"string\"",
+            "\"k\" is not of type \"string\"",
         ),
         (
             ValidationErrorKind::MultipleTypes,
-            "null is not of types \"boolean\", \"object\"",
+            "\"k\" is not of types \"boolean\", \"object\"",
         ),
         (
             ValidationErrorKind::UniqueItems,
-            "null has non-unique elements",
+            "\"k\" has non-unique elements",
         ),
         (
-            ValidationErrorKind::Unsupported { keyword: "$ref" },
-            "\"$ref\" is not supported here",
+            ValidationErrorKind::Unsupported {
+                keyword: name.as_str(),
+            },
+            "\"k\" is not supported here",
         ),
         (
-            ValidationErrorKind::LeafRefused { keyword: "minimum" },
-            "null is not a value for \"minimum\"",
+            ValidationErrorKind::LeafRefused {
+                keyword: name.as_str(),
+            },
+            "\"k\" is not a value for \"k\"",
         ),
     ] {
-        assert_eq!(rt;
-            text_of(alloc, kind, Node::Value(&Value::Null))?.as_str(),
-            text
-        );
+        assert_eq!(rt; text_of(alloc, kind, Node::Name(&name))?.as_str(), text);
     }
     Ok(())
 }
