@@ -100,6 +100,7 @@ impl<R: RegexEngine> RegexEngine for CompiledPattern<R> {
     }
 }
 
+#[inline(always)]
 fn begins_with(text: &str, prefix: &str) -> bool
     ensures { result ≡ starts_with nat_eq text.now prefix.now }
 {
@@ -118,7 +119,22 @@ fn finishes_with(text: &str, suffix: &str) -> bool
 fn is_among(texts: &[String], text: &str) -> bool
     ensures { result ≡ list_any (λ s. bytes_eq (string_bytes s) text.now) texts.now }
 {
-    texts.iter().any(|t| t.as_str() == text)
+    texts.iter().any(|t| is_text(t.as_str(), text))
+}
+
+// Whether the texts are equal; most differ in their lengths.
+#[inline(always)]
+fn is_text(one: &str, other: &str) -> bool
+    ensures { result ≡ bytes_eq one.now other.now }
+{
+    one.len() == other.len() && are_equal(one, other)
+}
+
+#[inline(never)]
+fn are_equal(one: &str, other: &str) -> bool
+    ensures { result ≡ bytes_eq one.now other.now }
+{
+    one == other
 }
 
 /// A pattern that is asked of the names of members within a call of a validator
@@ -137,7 +153,12 @@ pub trait PropertyPattern: RegexEngine {
 }
 
 impl<R: RegexEngine> PropertyPattern for CompiledPattern<R> {
+    // The commonest test is small enough to stand in walks.
+    #[inline(always)]
     fn is_match_in(&self, text: &str, ctx: &mut ValidationContext) -> bool {
-        ctx.is_match(self, text)
+        match self {
+            CompiledPattern::Prefix(prefix) => begins_with(text, prefix.as_str()),
+            _ => ctx.is_match(self, text),
+        }
     }
 }

@@ -39,6 +39,7 @@ impl<R: RegexEngine, N: IsValid> IsValid for SingleValuePatternProperties<R, N> 
 ///
 /// Takes no memory. The context keeps its answer; of the counts only those of matchers that were asked and of matches
 /// that were left unfinished rise, and none where the pattern stands for a test.
+#[inline(always)]
 pub fn matches<R: RegexEngine>(
     pattern: &CompiledPattern<R>,
     name: &str,

@@ -26,7 +26,8 @@ use std::alloc::{AllocError, Global};
 /// The refusal of a pattern, as a bare name below the keyword; want of memory where there is none for the place.
 fn refuse_pattern<'a>(alloc: Global, location: &Location, pattern: &'a String) -> BuildError<'a>
     ensures { TellsOneOf
-        (fault Regex (string (string_bytes pattern.now)) [] (one_below location.now (string_bytes pattern.now)) ∷ []) result }
+        (fault Regex (string (string_bytes pattern.now)) []
+        (one_below location.now (string_bytes pattern.now)) ∷ []) result }
 {
     match location.join(alloc, pattern.as_str()) {
         Ok(place) => BuildError::Refused(ValidationError::refusing(

@@ -7,8 +7,8 @@ ghost use Rattle.olk_reports.specs.Errors.{kind_of};
 ghost use Rattle.olk_reports.specs.Messages.{has_error_inside};
 
 use crate::message::{
-    ending_text, joined_text, name_text, names_text, naming_text, required_text, starting_text,
-    type_error_text,
+    ending_text, joined_text, name_text, names_text, node_text, quoted_text, required_text,
+    starting_text, type_error_text,
 };
 use crate::path::Location;
 use olk_base::{JsonType, Node};
@@ -281,7 +281,7 @@ fn own_text(
             alloc,
             Node::Value(schema),
             " is not allowed for ",
-            instance,
+            node_text(alloc, instance)?.as_str(),
         )?),
         ValidationErrorKind::Required { property } => Ok(required_text(alloc, property)?),
         ValidationErrorKind::FalseSchema => Ok(ending_text(
@@ -313,11 +313,11 @@ fn own_text(
             keyword,
             " is not supported here",
         )?),
-        ValidationErrorKind::LeafRefused { keyword } => Ok(naming_text(
+        ValidationErrorKind::LeafRefused { keyword } => Ok(joined_text(
             alloc,
             instance,
             " is not a value for ",
-            keyword,
+            quoted_text(alloc, keyword)?.as_str(),
         )?),
     }
 }

@@ -10,7 +10,7 @@ use olk_base::{JsonType, Node};
 use serde_json::Value;
 use std::alloc::{AllocError, Global};
 
-fn node_text(alloc: Global, node: Node<'_>) -> Result<String, AllocError>
+pub(crate) fn node_text(alloc: Global, node: Node<'_>) -> Result<String, AllocError>
     ensures { IfOk result (λ s. has_float (data_of node.entry) ≡ false
         → string_bytes s ≡ compact_text (data_of node.entry)) }
 {
@@ -21,7 +21,7 @@ fn node_text(alloc: Global, node: Node<'_>) -> Result<String, AllocError>
 }
 
 // The name as JSON.
-fn quoted_text(alloc: Global, name: &str) -> Result<String, AllocError>
+pub(crate) fn quoted_text(alloc: Global, name: &str) -> Result<String, AllocError>
     ensures { IfOk result (λ s. string_bytes s ≡ compact_text (string name.now)) }
 {
     let value = Value::String(String::from_str(alloc, name)?);
@@ -49,38 +49,18 @@ pub(crate) fn ending_text(alloc: Global, start: &str, node: Node<'_>) -> Result<
     Ok(text)
 }
 
-// A node, the text and another node.
+// A node, the text, and the text of another.
 pub(crate) fn joined_text(
     alloc: Global,
     first: Node<'_>,
     middle: &str,
-    last: Node<'_>,
+    last: &str,
 ) -> Result<String, AllocError>
     ensures { IfOk result (λ s. has_float (data_of first.entry) ≡ false
-        → has_float (data_of last.entry) ≡ false
-        → string_bytes s ≡ compact_text (data_of first.entry) ++ middle.now
-        ++ compact_text (data_of last.entry)) }
+        → string_bytes s ≡ compact_text (data_of first.entry) ++ middle.now ++ last.now) }
 {
     let mut text = starting_text(alloc, first, middle)?;
-    let value = node_text(alloc, last)?;
-    text.push_str(value.as_str())?;
-    Ok(text)
-}
-
-// A node, the text and the name as JSON.
-pub(crate) fn naming_text(
-    alloc: Global,
-    first: Node<'_>,
-    middle: &str,
-    name: &str,
-) -> Result<String, AllocError>
-    ensures { IfOk result (λ s. has_float (data_of first.entry) ≡ false
-        → string_bytes s ≡ compact_text (data_of first.entry) ++ middle.now
-        ++ compact_text (string name.now)) }
-{
-    let mut text = starting_text(alloc, first, middle)?;
-    let name = quoted_text(alloc, name)?;
-    text.push_str(name.as_str())?;
+    text.push_str(last)?;
     Ok(text)
 }
 

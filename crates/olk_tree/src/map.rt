@@ -183,7 +183,8 @@ fn find_between(names: &[String], from: usize, to: usize, name: &str) -> Option<
 // nowhere leaves the hint.
 fn find_equal(names: &[String], hint: usize, name: &str) -> Result<usize, usize>
     requires { Ascend (map string_bytes names.now) }
-    ensures { result_ok result ≡ position (λ k. bytes_eq k name.now) (map string_bytes names.now) }
+    ensures { result_ok result
+        ≡ position (λ k. bytes_eq k name.now) (map string_bytes names.now) }
 {
     let behind = names.len().min(hint.saturating_add(1));
     if let Some(place) = find_between(names, behind, names.len(), name) {
@@ -199,7 +200,8 @@ fn find_equal(names: &[String], hint: usize, name: &str) -> Result<usize, usize>
 fn find_before(names: &[String], hint: usize, name: &str) -> Result<usize, usize>
     requires ordered { Ascend (map string_bytes names.now) }
     requires later { IsAfter (map string_bytes names.now) hint name.now }
-    ensures { result_ok result ≡ position (λ k. bytes_eq k name.now) (map string_bytes names.now) }
+    ensures { result_ok result
+        ≡ position (λ k. bytes_eq k name.now) (map string_bytes names.now) }
 {
     if hint == 0 {
         return Err(0);
