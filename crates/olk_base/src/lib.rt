@@ -5,6 +5,7 @@
 
 pub mod analysis;
 pub mod context;
+pub mod equality;
 pub mod meter;
 pub mod names;
 pub mod no_regexes;
@@ -14,6 +15,7 @@ pub mod traits;
 
 pub use analysis::{PatternOptimization, analyze_pattern, contains_ecma_whitespace, scan_body};
 pub use context::ValidationContext;
+pub use equality::is_same_text;
 pub use meter::Meter;
 pub use names::{KeyHead, PropertyName};
 pub use no_regexes::{NoRegex, NoRegexes};

@@ -8,6 +8,7 @@ ghost use Rattle.olk_base.specs.Lawful.{matcher, IsRefused};
 
 use crate::analysis::{PatternOptimization, analyze_pattern, contains_ecma_whitespace};
 use crate::context::ValidationContext;
+use crate::equality::is_same_text;
 use crate::meter::Meter;
 use crate::traits::{MakeError, MakeRegex, RegexEngine, Unfinished};
 use std::alloc::Global;
@@ -112,29 +113,15 @@ fn begins_with(text: &str, prefix: &str) -> bool
 fn finishes_with(text: &str, suffix: &str) -> bool
     ensures { result ≡ ends_with nat_eq text.now suffix.now }
 {
-    text.ends_with(suffix)
+    let (text, suffix) = (text.as_bytes(), suffix.as_bytes());
+    suffix.len() <= text.len() && suffix == &text[text.len() - suffix.len()..]
 }
 
 #[inline(never)]
 fn is_among(texts: &[String], text: &str) -> bool
     ensures { result ≡ list_any (λ s. bytes_eq (string_bytes s) text.now) texts.now }
 {
-    texts.iter().any(|t| is_text(t.as_str(), text))
-}
-
-// Whether the texts are equal; most differ in their lengths.
-#[inline(always)]
-fn is_text(one: &str, other: &str) -> bool
-    ensures { result ≡ bytes_eq one.now other.now }
-{
-    one.len() == other.len() && are_equal(one, other)
-}
-
-#[inline(never)]
-fn are_equal(one: &str, other: &str) -> bool
-    ensures { result ≡ bytes_eq one.now other.now }
-{
-    one == other
+    texts.iter().any(|t| is_same_text(t.as_str(), text))
 }
 
 /// A pattern that is asked of the names of members within a call of a validator

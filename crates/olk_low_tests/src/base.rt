@@ -10,7 +10,7 @@ use crate::tables::two;
 use olk_base::{
     CompiledPattern, JsonType, KeyHead, Leaf, MakeError, MakeLeaf, Meter, NoRegexes, Node,
     PatternOptimization, PropertyName, PropertyPattern, ValidationContext, analyze_pattern,
-    compile_pattern, contains_ecma_whitespace,
+    compile_pattern, contains_ecma_whitespace, is_same_text,
 };
 use serde_json::{Map, Value};
 use std::alloc::{AllocError, Global};
@@ -78,6 +78,14 @@ fn other_names(rt: HostRuntime) -> Result<(), Fail> {
     ] {
         expect_same(&rt, rt.alloc(), name, key, false)?;
     }
+    Ok(())
+}
+
+#[test]
+fn same_texts(rt: HostRuntime) -> Result<(), Fail> {
+    assert!(rt; is_same_text("naïve", "naïve"));
+    assert!(rt; !is_same_text("abc", "abd"));
+    assert!(rt; !is_same_text("abc", "abcd"));
     Ok(())
 }
 

@@ -8,6 +8,7 @@ ghost use Rattle.olk_spec.specs.Schemas.{listed};
 ghost use Rattle.olk_tree.specs.Ascending.{Ascend, IsAfter, IsMissed, IsPlaceOf};
 
 use crate::validators_map::{DeclaredNames, PropertiesValidatorsMap, node_from};
+use olk_base::is_same_text;
 use serde_json::{Map, Value};
 use std::alloc::{AllocError, Global};
 use std::cmp::Ordering;
@@ -172,7 +173,7 @@ fn find_between(names: &[String], from: usize, to: usize, name: &str) -> Option<
         × (Some p ≡ position (λ k. bytes_eq k name.now) (map string_bytes names.now))) }
 {
     for place in from..to {
-        if names[place].as_str() == name {
+        if is_same_text(names[place].as_str(), name) {
             return Some(place);
         }
     }
