@@ -1,5 +1,6 @@
 pub mod Bodies
 pub mod CountLemmas
+pub mod Ends
 pub mod Forms
 pub mod Heads
 pub mod Scan

@@ -1,8 +1,8 @@
 -- What is left of a question that is asked in steps: of patterns, and what they leave to the rest.
-use Rattle.std.proofs.Common.{◌≡◌, ℕ, ◌+◌, Bool, true, false, cond, List, [], ◌∷◌, drop, Option, sym, subst}
+use Rattle.std.proofs.Common.{◌≡◌, ℕ, ◌+◌, Bool, true, false, cond, List, [], ◌∷◌, drop, Option, refl, ap, sym, subst, ◌∙◌}
 use Rattle.serde_json.specs.Data.{Data}
 use Rattle.olk_spec.specs.Names.{Name}
-use Rattle.olk_spec.specs.World.{Says}
+use Rattle.olk_spec.specs.World.{Says, unmatched}
 use Rattle.olk_base.specs.Lawful.{Asking}
 use Rattle.olk_base.specs.declared.pattern.CompiledPattern.{CompiledPattern}
 use Rattle.olk_tree.specs.Questions.{Question, always, both, conditional}
@@ -39,6 +39,17 @@ module _ {R N : Type 0} (w : Spoken R N) where
 
   abbrev rest_left : Bool → Question
   rest_left spoken = cond spoken (always true) (rest_means w.means w.value w.sides.rest)
+
+  -- where no pattern matches, what is spoken of is settled
+  module _ (blank : (i : ℕ) → known_at w.sides w.declared i ≡ unmatched) where
+    none_left : (i : ℕ) (es : List (CompiledPattern R × N)) → patterns_from true i es ≡ always true
+    none_left i [] = refl
+    none_left i (e ∷ es) =
+        let more : Question = patterns_from true (i + 1) es in
+        ap (λ s. conditional (known_or_asked s (match_question w.answers w.costs e.0 w.name)) (both (w.means e.1 w.value) more) more) (blank i) ∙ ap (conditional (always false) (both (w.means e.1 w.value) more)) (none_left (i + 1) es)
+
+    pub nothing_matches : {a : Asking} {spoken : Bool} → spoken ≡ true → Asks a a (patterns_from spoken 0 w.sides.patterns) true
+    nothing_matches {a} {spoken} e = subst (λ b. Asks a a (patterns_from b 0 w.sides.patterns) true) (sym e) (subst (λ q. Asks a a q true) (sym (none_left 0 w.sides.patterns)) (unasked a true))
 
   module _ (spoken : Bool) (i : ℕ) where
     module _ {e : CompiledPattern R × N} (here : drop i w.sides.patterns ≡ e ∷ drop (i + 1) w.sides.patterns) {known : Says} (is : known ≡ known_at w.sides w.declared i) where

@@ -2,6 +2,7 @@ pub mod Asked
 pub mod Walks
 pub mod Counting
 pub mod Missing
+pub mod Present
 pub mod Matchers
 pub mod Choices
 pub mod Deferred

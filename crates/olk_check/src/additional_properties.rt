@@ -1,10 +1,12 @@
 //! `additionalProperties`, and what it takes over.
 ghost use Rattle.std.specs.Prelude.{◌≡◌, IfSome, None, option_map, option_copied, is_some};
-ghost use Rattle.serde_json.specs.View.{view};
+ghost use Rattle.serde_json.specs.Data.{object};
+ghost use Rattle.serde_json.specs.View.{view, members_view};
 ghost use Rattle.olk_tree.specs.Matched.{match_question};
 ghost use Rattle.olk_tree.specs.Additional.{known_or_asked, declared_means, patterns_mean_from, rest_means, member_means_at, means_in_turn, additional_means};
 ghost use Rattle.olk_spec.specs.Names.{is_empty};
 ghost use Rattle.olk_spec.specs.Accepts.{missing};
+ghost use Rattle.olk_spec.specs.Schemas.{has};
 ghost use Rattle.olk_tree.specs.Questions.{every};
 ghost use Rattle.olk_tree.specs.Answers.{beside, mapped, sides_of, required_text};
 ghost use Rattle.olk_tree.specs.Tables.{known_says, table_says};
@@ -14,9 +16,10 @@ ghost use Rattle.olk_check.specs.Unpatterned.{unpatterned, names_mean, declared_
 
 use crate::IsValid;
 use crate::pattern_properties::matches;
+use crate::required::is_present;
 use arrayvec::ArrayVec;
 use olk_base::{CompiledPattern, Node, RegexEngine, ValidationContext};
-use olk_members::{has_member, law_of_names};
+use olk_members::law_of_names;
 use olk_tree::additional_properties::{AdditionalProperties, RequiredName};
 use olk_tree::properties_map::PropertiesMap;
 use olk_tree::validators_map::PropertiesValidatorsMap;
@@ -63,9 +66,17 @@ fn has_required(required: &Option<RequiredName>, members: &Map<String, Value>) -
         ≡ is_empty (missing (required_text required.now) (object_of members.now.entries)) }
 {
     match required {
-        Some(required) => has_member(members, required.name.as_str()),
+        Some(required) => is_present_apart(members, required.name.as_str()),
         None => true,
     }
+}
+
+// Apart, so that asking for no name stays small.
+#[inline(never)]
+fn is_present_apart(members: &Map<String, Value>, name: &str) -> bool
+    ensures { result ≡ has name.now (object (members_view members.now.entries)) }
+{
+    is_present(members, name)
 }
 
 // Whether each member is accepted by what speaks of it.
@@ -271,7 +282,13 @@ fn member_accepted<R: RegexEngine, N: IsValid>(
         (sides_of keyword.now) (option_map (λ f. (f.0, f.1.now)) declared.entry)
         name.now (view value.now)) result }
 {
-    declared_accepts(declared, value, ctx) && patterns_accept(keyword, declared, name, value, ctx)
+    match declared {
+        Some(_) => {
+            declared_accepts(declared, value, ctx)
+                && patterns_of_declared_accept(keyword, declared, name, value, ctx)
+        }
+        None => patterns_accept(keyword, declared, name, value, ctx),
+    }
 }
 
 #[inline(always)]
@@ -315,6 +332,42 @@ fn patterns_accept<R: RegexEngine, N: IsValid>(
         spoken = true;
     }
     spoken || rest_accepts(&keyword.rest, value, ctx)
+}
+
+// The same of a declared name: most are matched by no pattern, which the table tells at once.
+#[inline(always)]
+fn patterns_of_declared_accept<R: RegexEngine, N: IsValid>(
+    keyword: &AdditionalProperties<R, N>,
+    declared: Option<(usize, &N)>,
+    name: &str,
+    value: &Value,
+    ctx: &mut ValidationContext,
+) -> bool
+    ensures { Asks ctx.old ctx.new (patterns_mean_from R.answers R.costs N.means
+        (sides_of keyword.now) (option_map (λ f. (f.0, f.1.now)) declared.entry)
+        name.now (view value.now)
+        (is_some declared.entry) 0 (sides_of keyword.now).patterns) result }
+{
+    if keyword.matches_nothing(declared) {
+        return true;
+    }
+    patterns_accept_apart(keyword, declared, name, value, ctx)
+}
+
+#[inline(never)]
+fn patterns_accept_apart<R: RegexEngine, N: IsValid>(
+    keyword: &AdditionalProperties<R, N>,
+    declared: Option<(usize, &N)>,
+    name: &str,
+    value: &Value,
+    ctx: &mut ValidationContext,
+) -> bool
+    ensures { Asks ctx.old ctx.new (patterns_mean_from R.answers R.costs N.means
+        (sides_of keyword.now) (option_map (λ f. (f.0, f.1.now)) declared.entry)
+        name.now (view value.now)
+        (is_some declared.entry) 0 (sides_of keyword.now).patterns) result }
+{
+    patterns_accept(keyword, declared, name, value, ctx)
 }
 
 // Whether a member is accepted that nothing else speaks of.

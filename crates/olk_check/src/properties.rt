@@ -66,7 +66,8 @@ fn mapped_accepted<N: IsValid>(
     }
 }
 
-// The same of one kind of map, over the side that is shorter; apart, so that the function that asks a keyword stays small.
+// The same of one kind of map. A declared name that is looked up takes as long as two members that are walked; apart, so
+// that the function that asks a keyword stays small.
 #[inline(never)]
 fn members_accepted<M: PropertiesValidatorsMap<N>, N: IsValid>(
     properties: &M,
@@ -77,7 +78,7 @@ fn members_accepted<M: PropertiesValidatorsMap<N>, N: IsValid>(
         (beside (M.names properties.now) (M.nodes properties.now))
         (object_of members.now.entries)) result }
 {
-    if members.len() <= properties.names().sorted().len() {
+    if members.len() / 2 <= properties.names().sorted().len() {
         each_member_accepted(properties, members, ctx)
     } else {
         each_name_accepted(properties, members, ctx)

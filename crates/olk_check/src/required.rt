@@ -1,16 +1,20 @@
 //! `required`.
-ghost use Rattle.std.specs.Prelude.{◌≡◌, [], ◌∷◌};
+ghost use Rattle.std.specs.Prelude.{◌≡◌, ◌&&◌, ◌||◌, [], ◌∷◌, bytes_eq};
 ghost use Rattle.serde_json.specs.Data.{object};
 ghost use Rattle.serde_json.specs.View.{members_view};
 ghost use Rattle.olk_spec.specs.Names.{is_empty};
 ghost use Rattle.olk_spec.specs.Accepts.{missing};
+ghost use Rattle.olk_spec.specs.Schemas.{has};
 ghost use Rattle.olk_tree.specs.Answers.{texts_of};
 
 use crate::IsValid;
-use olk_base::{Node, ValidationContext};
+use olk_base::{Node, ValidationContext, is_same_text};
 use olk_members::has_member;
 use olk_tree::required::RequiredValidator;
 use serde_json::{Map, Value};
+
+// So few members are walked: a look-up takes longer.
+const FEW_MEMBERS: usize = 11;
 
 /// Each listed name is to be a member, where the value is an object (JSON Schema 2020-12 Validation, 6.5.3).
 impl IsValid for RequiredValidator {
@@ -30,7 +34,7 @@ fn has_each(members: &Map<String, Value>, names: &Vec<String>) -> bool
         (missing (texts_of names.now.items) (object (members_view members.now.entries))) }
 {
     for name in names {
-        if !has_member(members, name.as_str()) {
+        if !is_present(members, name.as_str()) {
             return false;
         }
     }
@@ -42,5 +46,50 @@ pub(crate) fn has_both(members: &Map<String, Value>, first: &str, second: &str) 
     ensures { result ≡ is_empty
         (missing (first.now ∷ second.now ∷ []) (object (members_view members.now.entries))) }
 {
-    has_member(members, first) && has_member(members, second)
+    if members.len() > FEW_MEMBERS {
+        has_member(members, first) && has_member(members, second)
+    } else {
+        has_both_of_few(members, first, second)
+    }
+}
+
+// Whether there is a member at the name.
+#[inline(always)]
+pub(crate) fn is_present(members: &Map<String, Value>, name: &str) -> bool
+    ensures { result ≡ has name.now (object (members_view members.now.entries)) }
+{
+    if members.len() > FEW_MEMBERS {
+        return has_member(members, name);
+    }
+    for (key, _) in members {
+        if is_same_text(key.as_str(), name) {
+            return true;
+        }
+    }
+    false
+}
+
+// The same at both names, in one walk.
+fn has_both_of_few(members: &Map<String, Value>, first: &str, second: &str) -> bool
+    ensures { result ≡ (has first.now (object (members_view members.now.entries))
+        && has second.now (object (members_view members.now.entries))) }
+{
+    let (mut has_first, mut has_second) = (false, false);
+    for (key, _) in members {
+        let key = key.as_str();
+        has_first = is_met(has_first, key, first);
+        has_second = is_met(has_second, key, second);
+        if has_first && has_second {
+            return true;
+        }
+    }
+    false
+}
+
+// Whether the name was met before, or is this key.
+#[inline(always)]
+fn is_met(met: bool, key: &str, name: &str) -> bool
+    ensures { result ≡ (bytes_eq key.now name.now || met) }
+{
+    is_same_text(key, name) || met
 }

@@ -81,11 +81,35 @@ fn other_names(rt: HostRuntime) -> Result<(), Fail> {
     Ok(())
 }
 
+// Texts of each kind of length: none, up to three bytes, up to 7, 16 and 32, and more.
+const TEXTS: [(&str, &str, bool); 12] = [
+    ("", "", true),
+    ("id", "id", true),
+    ("abc", "abd", false),
+    ("abc", "abcd", false),
+    ("naïve", "naïve", true),
+    ("title", "titre", false),
+    ("operationId", "operationId", true),
+    ("operationId", "operationIs", false),
+    ("additionalProperties", "additionalProperties", true),
+    ("additionalProperties", "additionalproperties", false),
+    (
+        "a name of more than thirty-two bytes",
+        "a name of more than thirty-two bytes",
+        true,
+    ),
+    (
+        "a name of more than thirty-two bytes",
+        "a name of more than thirty-six bytes",
+        false,
+    ),
+];
+
 #[test]
 fn same_texts(rt: HostRuntime) -> Result<(), Fail> {
-    assert!(rt; is_same_text("naïve", "naïve"));
-    assert!(rt; !is_same_text("abc", "abd"));
-    assert!(rt; !is_same_text("abc", "abcd"));
+    for (one, other, same) in TEXTS {
+        assert_eq!(rt; is_same_text(one, other), same, "{one} {other}");
+    }
     Ok(())
 }
 

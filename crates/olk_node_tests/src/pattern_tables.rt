@@ -32,7 +32,12 @@ fn patterns(alloc: Global) -> Result<Vec<CompiledPattern<BenchRegex>>, Fail> {
 
 // The table of the names `ab`, `b` and `cd`, which stand in that order.
 fn table(alloc: Global, meter: &mut Meter) -> Result<PatternTable, Fail> {
-    let schema = Value::from_str(alloc, r#"{"cd":true,"b":true,"ab":true}"#)?;
+    table_of(alloc, r#"{"cd":true,"b":true,"ab":true}"#, meter)
+}
+
+// The table of these declared names.
+fn table_of(alloc: Global, declared: &str, meter: &mut Meter) -> Result<PatternTable, Fail> {
+    let schema = Value::from_str(alloc, declared)?;
     let Some(properties) = schema.as_object() else {
         return Err(Fail::from("no object"));
     };
@@ -86,6 +91,17 @@ fn what_is_known_by_name(rt: HostRuntime) -> Result<(), Fail> {
             table.is_unfinished(name, index),
         );
         assert_eq!(rt; found, (matched, unfinished), "{name} {index}");
+    }
+    Ok(())
+}
+
+// At `a` two patterns are left unfinished, at `b` most match, and no pattern matches `dd`.
+#[test]
+fn a_name_that_nothing_matches(rt: HostRuntime) -> Result<(), Fail> {
+    let declared = r#"{"a":true,"b":true,"dd":true}"#;
+    let table = table_of(rt.alloc(), declared, &mut Meter::new())?;
+    for (place, nothing) in [(0, false), (1, false), (2, true), (3, false)] {
+        assert_eq!(rt; table.matches_nothing(place), nothing, "{place}");
     }
     Ok(())
 }

@@ -5,7 +5,7 @@ pub mod Members_met
 pub mod Due
 mod Places
 mod Hashed
-mod Lookups
+pub mod Lookups
 mod Entries
 pub mod Merge
 pub mod Walked

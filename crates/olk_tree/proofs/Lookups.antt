@@ -22,7 +22,7 @@ is_eq-turned Less = refl
 is_eq-turned Equal = refl
 is_eq-turned Greater = refl
 
-same_name : (k n : Name) → bytes_eq k n ≡ is_eq (slice_cmp nat_cmp n k)
+pub same_name : (k n : Name) → bytes_eq k n ≡ is_eq (slice_cmp nat_cmp n k)
 same_name k n = sym (is_eq-slice_cmp k n) ∙ ap is_eq (nat_list_cmp_total.antisymm k n) ∙ is_eq-turned (slice_cmp nat_cmp n k)
 
 module _ {A : Type 0} where

@@ -1,7 +1,7 @@
 -- What patterns say of the names of a table, kept in the bits of words.
-use Rattle.std.specs.Prelude.{◌≡◌, ℕ, ◌/◌, ◌%◌, ◌<◌, ◌≤◌, ◌==◌, Bool, true, false, List, [], get_or, length, Option, Some, None, bytes_eq, count_by, slice_get}
+use Rattle.std.specs.Prelude.{◌≡◌, ℕ, ◌/◌, ◌%◌, ◌<◌, ◌≤◌, ◌==◌, ◌&&◌, Bool, true, false, List, [], get_or, length, Option, Some, None, bytes_eq, count_by, slice_get}
 use Rattle.std.specs.Int.{bit_at}
-use Rattle.std.specs.List.{position, filter_map, range_with_len}
+use Rattle.std.specs.List.{position, filter_map, range_with_len, list_all}
 use Rattle.std.specs.Option.{option_map_or}
 use Rattle.olk_spec.specs.Names.{Name}
 use Rattle.olk_spec.specs.World.{Says, matched, unmatched, unfinished, reads_as, is_unfinished}
@@ -30,6 +30,10 @@ says_by false false = unmatched
 abbrev pub row_says : Row → ℕ → Says
 row_says r i = says_by (has_bit r.unfinished i) (has_bit r.matched i)
 
+-- no bit is set, of a pattern that matches or was left unfinished
+abbrev pub is_blank : Row → Bool
+is_blank r = list_all (λ w. w == 0) r.matched && list_all (λ w. w == 0) r.unfinished
+
 -- the bit of pattern i has a word
 abbrev pub HasWord : ℕ → Row → Type 0
 HasWord i r = (i / 64 < length r.matched) × (i / 64 < length r.unfinished)
@@ -48,6 +52,10 @@ no_table = record { names = []; patterns = 0; rows = [] }
 -- what is known of a pattern and the name at a place; where there is no row, that is nothing
 abbrev pub table_says : Table → ℕ → ℕ → Says
 table_says t p i = option_map_or (λ r. row_says r i) (slice_get t.rows p) unfinished
+
+-- the row of the name at a place is there, and blank
+abbrev pub is_blank_at : Table → ℕ → Bool
+is_blank_at t p = option_map_or is_blank (slice_get t.rows p) false
 
 -- what an answer says, where none is given for a match that was left unfinished
 abbrev pub known_says : Option Bool → Says

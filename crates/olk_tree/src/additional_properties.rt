@@ -1,8 +1,10 @@
 //! `additionalProperties`, and what it takes over.
-ghost use Rattle.std.specs.Prelude.{◌≡◌, option_map};
+ghost use Rattle.std.specs.Prelude.{◌≡◌, ℕ, IsTrue, true, false, is_some, option_map};
+ghost use Rattle.std.specs.Option.{option_map_or};
+ghost use Rattle.olk_spec.specs.World.{unmatched};
 ghost use Rattle.olk_tree.specs.Additional.{at_name, known_at};
 ghost use Rattle.olk_tree.specs.Answers.{sides_of};
-ghost use Rattle.olk_tree.specs.Tables.{known_says};
+ghost use Rattle.olk_tree.specs.Tables.{known_says, is_blank_at};
 
 use crate::means::{Means, Reports};
 use crate::pattern_table::PatternTable;
@@ -104,6 +106,21 @@ impl<R, N> AdditionalProperties<R, N> {
         match declared {
             Some((place, _)) => self.table.known(place, index),
             None => None,
+        }
+    }
+
+    /// Whether the name is declared, and it is known of each pattern that it does not match it.
+    #[inline(always)]
+    pub fn matches_nothing(&self, declared: Option<(usize, &N)>) -> bool
+        ensures value { result
+            ≡ option_map_or (λ f. is_blank_at self.now.table f.0) declared.entry false }
+        ensures declared { IsTrue result → is_some declared.entry ≡ true }
+        ensures unmatched { IsTrue result → (i : ℕ) → known_at (sides_of self.now)
+            (option_map (λ f. (f.0, f.1.now)) declared.entry) i ≡ unmatched }
+    {
+        match declared {
+            Some((place, _)) => self.table.matches_nothing(place),
+            None => false,
         }
     }
 }

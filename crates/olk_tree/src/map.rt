@@ -7,7 +7,7 @@ ghost use Rattle.serde_json.specs.View.{members_view};
 ghost use Rattle.olk_spec.specs.Schemas.{listed};
 ghost use Rattle.olk_tree.specs.Ascending.{Ascend, IsAfter, IsMissed, IsPlaceOf};
 
-use crate::validators_map::{DeclaredNames, PropertiesValidatorsMap, node_from};
+use crate::validators_map::{DeclaredNames, PropertiesValidatorsMap};
 use olk_base::is_same_text;
 use serde_json::{Map, Value};
 use std::alloc::{AllocError, Global};
@@ -94,7 +94,7 @@ impl SortedNames {
         ensures { IsTrue result ↔ (position (λ k. bytes_eq k name.now) self.now ≡ Some place) }
     {
         let names = self.names.as_slice();
-        place < names.len() && names[place].as_str() == name
+        place < names.len() && is_same_text(names[place].as_str(), name)
     }
 
     /// At which of the next places from `hint` on the name stands, if it stands at one of the first few.
@@ -114,7 +114,7 @@ impl SortedNames {
         ensures { result.1 ≡ position (λ k. bytes_eq k name.now) self.now }
     {
         let names = self.names.as_slice();
-        if hint < names.len() && names[hint].as_str() == name {
+        if hint < names.len() && is_same_text(names[hint].as_str(), name) {
             return (hint + 1, Some(hint));
         }
         match self.find_about(hint, name) {
@@ -132,21 +132,31 @@ impl SortedNames {
         if names.len() <= FEW {
             return find_equal(names, hint, name);
         }
-        if let Some(place) = find_near(names, hint.saturating_add(1), name) {
-            return Ok(place);
-        }
-        if hint >= names.len() {
-            return find_before(names, hint, name);
-        }
-        match names[hint].as_str().cmp(name) {
-            Ordering::Equal => Ok(hint),
-            Ordering::Greater => find_before(names, hint, name),
-            Ordering::Less => {
-                let later = hint + 1;
-                match place_of(&names[later..], name) {
-                    Ok(place) => Ok(later + place),
-                    Err(place) => Err(later + place),
-                }
+        find_among_many(names, hint, name)
+    }
+}
+
+// The same: the next few names are compared, and then the rest is bisected.
+#[inline(never)]
+fn find_among_many(names: &[String], hint: usize, name: &str) -> Result<usize, usize>
+    requires { Ascend (map string_bytes names.now) }
+    ensures { result_ok result
+        ≡ position (λ k. bytes_eq k name.now) (map string_bytes names.now) }
+{
+    if let Some(place) = find_near(names, hint.saturating_add(1), name) {
+        return Ok(place);
+    }
+    if hint >= names.len() {
+        return find_before(names, hint, name);
+    }
+    match names[hint].as_str().cmp(name) {
+        Ordering::Equal => Ok(hint),
+        Ordering::Greater => find_before(names, hint, name),
+        Ordering::Less => {
+            let later = hint + 1;
+            match place_of(&names[later..], name) {
+                Ok(place) => Ok(later + place),
+                Err(place) => Err(later + place),
             }
         }
     }
@@ -180,18 +190,14 @@ fn find_between(names: &[String], from: usize, to: usize, name: &str) -> Option<
     None
 }
 
-// At which place the name stands, by comparing each: those behind `hint`, and then those before. A name that is found
-// nowhere leaves the hint.
+// At which place the name stands, by comparing each. A name that is found nowhere leaves the hint.
+#[inline(always)]
 fn find_equal(names: &[String], hint: usize, name: &str) -> Result<usize, usize>
     requires { Ascend (map string_bytes names.now) }
     ensures { result_ok result
         ≡ position (λ k. bytes_eq k name.now) (map string_bytes names.now) }
 {
-    let behind = names.len().min(hint.saturating_add(1));
-    if let Some(place) = find_between(names, behind, names.len(), name) {
-        return Ok(place);
-    }
-    match find_between(names, 0, behind, name) {
+    match find_between(names, 0, names.len(), name) {
         Some(place) => Ok(place),
         None => Err(hint),
     }
@@ -250,6 +256,12 @@ impl<N> PropertiesValidatorsMap<N> for SmallMap<N> {
     // As it is given, but inlined into walks.
     #[inline(always)]
     fn validator_from(&self, hint: usize, name: &str) -> (usize, Option<&N>) {
-        node_from(self.names(), self.nodes(), hint, name)
+        if self.names.stands_at(hint, name) {
+            return (hint.saturating_add(1), self.nodes.get(hint));
+        }
+        match self.names.find_about(hint, name) {
+            Ok(place) => (place.saturating_add(1), self.nodes.get(place)),
+            Err(next) => (next, None),
+        }
     }
 }

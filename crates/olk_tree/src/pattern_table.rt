@@ -1,11 +1,11 @@
 //! What patterns say of declared names (JSON Schema 2020-12 Core, 10.3.2.2 and 10.3.2.3).
-ghost use Rattle.std.specs.Prelude.{◌≡◌, ℕ, ◌/◌, ◌*◌, ◌<◌, ◌≤◌, ◌≢◌, true, IfOk, OnOk, OnErr, length, map, string_bytes};
-ghost use Rattle.std.specs.List.{AllZip};
+ghost use Rattle.std.specs.Prelude.{◌≡◌, ℕ, ◌/◌, ◌*◌, ◌<◌, ◌≤◌, ◌≢◌, ◌==◌, IsTrue, true, IfOk, OnOk, OnErr, length, map, string_bytes};
+ghost use Rattle.std.specs.List.{AllZip, list_all};
 ghost use Rattle.serde_json.specs.View.{members_view};
 ghost use Rattle.olk_spec.specs.Schemas.{listed};
 ghost use Rattle.olk_spec.specs.World.{unmatched, unfinished};
 ghost use Rattle.olk_base.specs.Lawful.{said};
-ghost use Rattle.olk_tree.specs.Tables.{has_bit, row_says, HasWord, no_table, table_says, known_says, matched_in, unfinished_in, index_said, indices_below, indices_in, IsRowOf, IsTableOf, how_many_cost, count_asks, AsksAtMost};
+ghost use Rattle.olk_tree.specs.Tables.{has_bit, row_says, HasWord, no_table, table_says, known_says, matched_in, unfinished_in, index_said, indices_below, indices_in, IsRowOf, IsTableOf, how_many_cost, count_asks, AsksAtMost, is_blank, is_blank_at};
 
 use crate::map::SortedNames;
 use olk_base::{CompiledPattern, Meter, RegexEngine, Unfinished};
@@ -62,6 +62,18 @@ impl PatternTable {
         match self.rows.get(place) {
             Some(row) => row.known(index),
             None => None,
+        }
+    }
+
+    /// Whether it is known of each pattern that it does not match the name at the place. Takes no memory.
+    #[inline(always)]
+    pub fn matches_nothing(&self, place: usize) -> bool
+        ensures value { result ≡ is_blank_at self.now place }
+        ensures unmatched { IsTrue result → (i : ℕ) → table_says self.now place i ≡ unmatched }
+    {
+        match self.rows.get(place) {
+            Some(row) => row.is_blank(),
+            None => false,
         }
     }
 
@@ -243,6 +255,15 @@ impl PatternRow {
         }
     }
 
+    // Whether no pattern matches, and none was left unfinished.
+    #[inline(always)]
+    fn is_blank(&self) -> bool
+        ensures value { result ≡ is_blank self.now }
+        ensures unmatched { IsTrue result → (i : ℕ) → row_says self.now i ≡ unmatched }
+    {
+        are_zero(&self.matched) && are_zero(&self.unfinished)
+    }
+
     // Notes what a pattern says of which nothing was noted.
     fn note(&mut self, index: usize, answer: Result<bool, Unfinished>)
         requires word { HasWord index self.old }
@@ -268,6 +289,14 @@ fn has_bit(words: &[u64], index: usize) -> bool
         Some(word) => (word >> (index % WORD_BITS)) & 1 == 1,
         None => false,
     }
+}
+
+// Whether no bit is set.
+#[inline(always)]
+fn are_zero(words: &[u64]) -> bool
+    ensures { result ≡ list_all (λ w. w == 0) words.now }
+{
+    words.iter().all(|word| *word == 0)
 }
 
 // Sets the pattern's bit.

@@ -1,0 +1,8 @@
+use Rattle.std.proofs.Common.{false}
+use Rattle.serde_json.specs.View.{members_view}
+use Rattle.olk_spec.specs.Schemas.{listed}
+use Rattle.olk_check.proofs.Present.{Sought}
+use Rattle.olk_check.proofs.required.is_present.Given as goal
+
+abbrev pub invariant-loop-key : goal.invariant-loop-key
+invariant-loop-key l = Sought l.name (listed (members_view l.members.entries)) (listed (members_view l.key-iterator)) false
