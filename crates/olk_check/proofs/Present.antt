@@ -4,6 +4,7 @@ use Rattle.std.specs.Ordering.{nat_cmp, is_eq}
 use Rattle.std.specs.Cmp.Lexicographic.{slice_cmp}
 use Rattle.serde_json.specs.Data.{Data}
 use Rattle.olk_spec.specs.Names.{Name, lookup, first_if_equal}
+use Rattle.olk_spec.proofs.Truth.{or_false}
 use Rattle.olk_tree.proofs.Lookups.{same_name}
 
 -- whether the name was met, or else is still to come
@@ -20,10 +21,6 @@ or_in_turn true true c = refl
 or_in_turn true false c = refl
 or_in_turn false true c = refl
 or_in_turn false false c = refl
-
-pub or_false : (b : Bool) → (b || false) ≡ b
-or_false true = refl
-or_false false = refl
 
 pub and_false : (b : Bool) → (b && false) ≡ false
 and_false true = refl

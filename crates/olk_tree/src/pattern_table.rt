@@ -69,7 +69,8 @@ impl PatternTable {
     #[inline(always)]
     pub fn matches_nothing(&self, place: usize) -> bool
         ensures value { result ≡ is_blank_at self.now place }
-        ensures unmatched { IsTrue result → (i : ℕ) → table_says self.now place i ≡ unmatched }
+        ensures unmatched { IsTrue result
+            → (i : ℕ) → table_says self.now place i ≡ unmatched }
     {
         match self.rows.get(place) {
             Some(row) => row.is_blank(),

@@ -1,6 +1,7 @@
 use Rattle.std.proofs.Common.{refl, sym, ◌∙◌}
+use Rattle.olk_spec.proofs.Truth.{or_false}
 use Rattle.olk_tree.proofs.Due.{name_next, no_name_next}
-use Rattle.olk_check.proofs.Present.{or_false, sought_on, sought_end, sought_met}
+use Rattle.olk_check.proofs.Present.{sought_on, sought_end, sought_met}
 use Rattle.olk_check.proofs.required.is_present.Goals as goal
 
 pub returns-then-is_same_text : goal.returns-then-is_same_text
