@@ -3,7 +3,9 @@ use Rattle.std.proofs.Common.{◌≡◌, ◌+◌, Bool, true, false, ◌&&◌, L
 use Rattle.olk_base.specs.Lawful.{Asking}
 use Rattle.olk_tree.specs.Questions.{Question, always, both, every}
 use Rattle.olk_check.specs.Asks.{Asks}
-use Rattle.olk_check.proofs.Asked.{settles}
+use Rattle.olk_check.proofs.Asked.{settles, unasked}
+use Rattle.olk_check.proofs.Present.{and_false}
+use Rattle.olk_check.proofs.Together.{both_where}
 use Rattle.olk_check.proofs.Walks.{both_go_on, both_stop}
 
 -- the order of questions does not matter
@@ -30,28 +32,33 @@ module _ {X : Type 0} (h : X → Question) where
   pushed_asks x [] u = refl
   pushed_asks x (y ∷ ys) u = let e = pushed_asks x ys u in omega arith
 
--- what is left, and what was put off, decide about all
+-- what is left, and what was put off, decide about all, beside any other question
 pub record LeftAndHeld {Y X : Type 0} (f : Y → Question) (h : X → Question) (all rest : List Y) (held : List X) (a b : Asking) : Type 0 where
-  pub goes_on : (end : Asking) (result : Bool) → Asks b end (both (every f rest) (every h held)) result → Asks a end (every f all) result
+  pub goes_on : (t : Question) (end : Asking) (result : Bool) → Asks b end (both (both (every f rest) (every h held)) t) result → Asks a end (both (every f all) t) result
 
 module _ {Y X : Type 0} {f : Y → Question} {h : X → Question} {all : List Y} where
   pub held_start : {a : Asking} → LeftAndHeld f h all all [] a a
-  held_start {a} = record { goes_on = λ c r l. settles (every f all) r l (λ u e. e ∙ and_true ((every f all).accepts u)) (λ u e. omega arith) }
+  held_start {a} = record { goes_on = λ t c r l. settles (both (every f all) t) r l (λ u e. e ∙ ap (λ z. z && t.accepts u) (and_true ((every f all).accepts u))) (λ u e. omega arith) }
 
   module _ {left : List Y} {held : List X} {a b : Asking} (w : LeftAndHeld f h all left held a b) where
-    pub held_end : {xs : List X} {c : Asking} {r : Bool} → left ≡ [] → xs ≡ held → Asks b c (every h xs) r → Asks a c (every f all) r
-    held_end {xs} {c} {r} none same l = w.goes_on c r (subst (λ ys. Asks b c (both (every f ys) (every h held)) r) (sym none)
-        (settles (both (always true) (every h held)) r (subst (λ ys. Asks b c (every h ys) r) same l) (λ u e. e) (λ u e. omega arith)))
+    -- the other question decides alone, or what was put off does
+    pub held_refused : {r p : Bool} → r ≡ p → r ≡ false → Asks a b (both (every f all) (always p)) r
+    held_refused {r} {p} same not = w.goes_on (always p) b r (settles (both (both (every f left) (every h held)) (always p)) r (unasked b r)
+        (λ u e. not ∙ sym (and_false ((every f left).accepts u && (every h held).accepts u)) ∙ ap (λ z. ((every f left).accepts u && (every h held).accepts u) && z) (sym not ∙ same)) (λ u e. omega arith))
+
+    pub held_end : {xs : List X} {c : Asking} {r p : Bool} → left ≡ [] → xs ≡ held → Asks b c (every h xs) r → p ≡ true → Asks a c (both (every f all) (always p)) r
+    held_end {xs} {c} {r} {p} none same l is = w.goes_on (always p) c r (subst (λ ys. Asks b c (both (both (every f ys) (every h held)) (always p)) r) (sym none)
+        (both_where (settles (both (always true) (every h held)) r (subst (λ ys. Asks b c (every h ys) r) same l) (λ u e. e) (λ u e. omega arith)) is))
 
     module _ {y : Y} {rest : List Y} (next : left ≡ y ∷ rest) where
-      at_next : {c : Asking} {r : Bool} → Asks b c (both (every f (y ∷ rest)) (every h held)) r → Asks a c (every f all) r
-      at_next {c} {r} l = w.goes_on c r (subst (λ ys. Asks b c (both (every f ys) (every h held)) r) (sym next) l)
+      at_next : (t : Question) {c : Asking} {r : Bool} → Asks b c (both (both (every f (y ∷ rest)) (every h held)) t) r → Asks a c (both (every f all) t) r
+      at_next t {c} {r} l = w.goes_on t c r (subst (λ ys. Asks b c (both (both (every f ys) (every h held)) t) r) (sym next) l)
 
       -- a question is put off
       pub held_more : {now : List X} (x : X) → h x ≡ f y → now ≡ held ++ x ∷ [] → LeftAndHeld f h all rest now a b
       held_more {now} x same is = record {
-        goes_on = λ c r l. at_next (settles (both (every f (y ∷ rest)) (every h held)) r (subst (λ xs. Asks b c (both (every f rest) (every h xs)) r) is l)
-            (λ u e. e ∙ ap (λ z. R u && z) (pushed_accepts h x held u) ∙ and_around (R u) ((h x).accepts u) (H u) ∙ ap (λ z. z && H u) (and_turned (R u) ((h x).accepts u)) ∙ ap (λ q. (q.accepts u && R u) && H u) same)
+        goes_on = λ t c r l. at_next t (settles (both (both (every f (y ∷ rest)) (every h held)) t) r (subst (λ xs. Asks b c (both (both (every f rest) (every h xs)) t) r) is l)
+            (λ u e. e ∙ ap (λ z. z && t.accepts u) (ap (λ z. R u && z) (pushed_accepts h x held u) ∙ and_around (R u) ((h x).accepts u) (H u) ∙ ap (λ z. z && H u) (and_turned (R u) ((h x).accepts u)) ∙ ap (λ q. (q.accepts u && R u) && H u) same))
             (λ u e. let p = pushed_asks h x held u in let s = ap (λ q. q.asks u) same in omega arith));
       }
         where
@@ -64,10 +71,10 @@ module _ {Y X : Type 0} {f : Y → Question} {h : X → Question} {all : List Y}
       module _ {c : Asking} where
         pub held_go_on : Asks b c (f y) true → LeftAndHeld f h all rest held a c
         held_go_on q = record {
-          goes_on = λ d r l. at_next (settles (both (every f (y ∷ rest)) (every h held)) r (both_go_on q l)
-              (λ u e. e ∙ and_around ((f y).accepts u) ((every f rest).accepts u) ((every h held).accepts u))
+          goes_on = λ t d r l. at_next t (settles (both (both (every f (y ∷ rest)) (every h held)) t) r (both_go_on q l)
+              (λ u e. e ∙ and_around ((f y).accepts u) ((every f rest).accepts u && (every h held).accepts u) (t.accepts u) ∙ ap (λ z. z && t.accepts u) (and_around ((f y).accepts u) ((every f rest).accepts u) ((every h held).accepts u)))
               (λ u e. omega arith));
         }
 
-        pub held_stop : Asks b c (f y) false → Asks a c (every f all) false
-        held_stop q = at_next (both_stop (every h held) (both_stop (every f rest) q))
+        pub held_stop : (t : Question) → Asks b c (f y) false → Asks a c (both (every f all) t) false
+        held_stop t q = at_next t (both_stop t (both_stop (every h held) (both_stop (every f rest) q)))

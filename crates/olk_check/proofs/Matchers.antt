@@ -1,5 +1,5 @@
 -- A matcher that is asked of a name answers a question.
-use Rattle.std.proofs.Common.{◌≡◌, Bool, true, false, refl, sym, subst, arith}
+use Rattle.std.proofs.Common.{◌≡◌, Bool, true, false, cond, refl, sym, subst, arith}
 use Rattle.olk_spec.specs.World.{Says, matched, unmatched, unfinished, reads_as}
 use Rattle.olk_base.specs.Lawful.{Asking, asked_of}
 use Rattle.olk_tree.specs.Questions.{said_to}
@@ -25,3 +25,8 @@ module _ (a : Asking) where
 -- the answer of a call, with what it leaves of the context
 pub match_answers : (costs : Bool) (s : Says) (a b : Asking) (r : Bool) → r ≡ reads_as a.answer s → b ≡ asked_of costs s a → Asks a b (said_to costs s) r
 match_answers costs s a b r answer counts = subst (λ x. Asks a x (said_to costs s) r) (sym counts) (subst (λ x. Asks a (asked_of costs s a) (said_to costs s) x) (sym answer) (asks_matcher a costs s))
+
+-- a test answers at once, and is not counted
+pub test_answers : (a : Asking) (b r : Bool) → r ≡ b → Asks a a (said_to false (cond b matched unmatched)) r
+test_answers a true r is = match_answers false matched a a r is refl
+test_answers a false r is = match_answers false unmatched a a r is refl

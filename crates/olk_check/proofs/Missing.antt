@@ -1,5 +1,5 @@
 -- Names that an object lacks.
-use Rattle.std.proofs.Common.{◌≡◌, ℕ, ◌+◌, ◌<◌, ◌≤◌, true, false, not, List, [], ◌∷◌, length, get_or, drop, None, String, Global, string_bytes, refl, sym, ap, subst, ◌∙◌}
+use Rattle.std.proofs.Common.{◌≡◌, ℕ, ◌+◌, ◌<◌, ◌≤◌, Bool, true, false, not, ◌&&◌, List, [], ◌∷◌, length, get_or, drop, None, String, Global, string_bytes, refl, sym, ap, subst, ◌∙◌}
 use Rattle.std.proofs.lemmas.List.{at_drop_more, drop_all}
 use Rattle.serde_json.specs.Data.{Data, null, boolean, number, string, array, object, Members}
 use Rattle.serde_json.specs.Find.{as_object}
@@ -30,6 +30,22 @@ module _ {names : List (String Global)} {ms : Members} where
 
     pub lacks_stop : {x : String Global} {ys : List (String Global)} {n : Name} → Lacks names i ms → n ≡ string_bytes x → false ≡ has n (object ms) → ys ≡ names → x ≡ get_or ys i x → i < length ys → false ≡ is_empty (missing (texts_of names) (object ms))
     lacks_stop {x} {ys} {n} h name e same is lt = sym (h.as_left ∙ ap (λ l. is_empty (missing (texts_of l) (object ms))) (left_at same is lt) ∙ ap (λ b. is_empty (put_if (not b) (string_bytes x) (missing (texts_of (drop (i + 1) names)) (object ms)))) (ap (λ k. has k (object ms)) (sym name) ∙ sym e))
+
+-- of one name, and of two
+one_there : (p : Bool) (n : Name) → p ≡ is_empty (put_if (not p) n [])
+one_there true n = refl
+one_there false n = refl
+
+pub one_met : {p x : Bool} (n : Name) → x ≡ p → x ≡ is_empty (put_if (not p) n [])
+one_met {p} n e = e ∙ one_there p n
+
+both_there : (p q : Bool) (m n : Name) → (p && q) ≡ is_empty (put_if (not p) m (put_if (not q) n []))
+both_there true true m n = refl
+both_there true false m n = refl
+both_there false q m n = refl
+
+pub both_met : {p q x y : Bool} (m n : Name) → x ≡ p → y ≡ q → (x && y) ≡ is_empty (put_if (not p) m (put_if (not q) n []))
+both_met {p} {q} m n e f = (λ i. e i && f i) ∙ both_there p q m n
 
 -- what is no object lacks nothing
 pub lacks_nothing : (ns : List Name) (v : Data) → None ≡ as_object v → is_empty (missing ns v) ≡ true

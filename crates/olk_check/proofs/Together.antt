@@ -8,6 +8,7 @@ use Rattle.olk_tree.specs.Questions.{Question, always, both}
 use Rattle.olk_tree.specs.Additional.{Sides, repeats, means_in_turn, named_means, additional_means}
 use Rattle.olk_check.specs.Asks.{Asks}
 use Rattle.olk_check.proofs.Asked.{settles}
+use Rattle.olk_check.proofs.Present.{and_false}
 
 module _ {R N : Type 0} (answers : R → Name → Says) (costs : R → Bool) (m : N → Data → Question) (S : Sides R N) (v : Data) where
   -- where no name is repeated, it is asked member by member
@@ -21,3 +22,10 @@ and_true false = refl
 -- a condition that holds, beside a question
 pub both_where : {a b : Asking} {q : Question} {r p : Bool} → Asks a b q r → p ≡ true → Asks a b (both q (always p)) r
 both_where {q = q} {r = r} {p = p} h is = settles (both q (always p)) r h (λ u e. e ∙ and_true (q.accepts u) ∙ ap (λ z. q.accepts u && z) (sym is)) (λ u e. omega arith)
+
+-- a condition that was found out while the question was asked
+pub condition_and : {a b : Asking} {q : Question} {r p : Bool} → r ≡ p → Asks a b q true → Asks a b (both (always p) q) r
+condition_and {q = q} {r = r} {p = p} is h = settles (both (always p) q) r h (λ u e. is ∙ and_true p ∙ ap (λ z. p && z) e) (λ u e. omega arith)
+
+pub condition_and_refused : {a b : Asking} {q : Question} (p : Bool) → Asks a b q false → Asks a b (both (always p) q) false
+condition_and_refused {q = q} p h = settles (both (always p) q) false h (λ u e. sym (and_false p) ∙ ap (λ z. p && z) e) (λ u e. omega arith)

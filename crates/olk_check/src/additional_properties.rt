@@ -1,5 +1,5 @@
 //! `additionalProperties`, and what it takes over.
-ghost use Rattle.std.specs.Prelude.{◌≡◌, IfSome, None, option_map, option_copied, is_some};
+ghost use Rattle.std.specs.Prelude.{◌≡◌, [], ◌∷◌, IfSome, None, option_map, option_copied, is_some};
 ghost use Rattle.serde_json.specs.Data.{object};
 ghost use Rattle.serde_json.specs.View.{view, members_view};
 ghost use Rattle.olk_tree.specs.Matched.{match_question};
@@ -7,7 +7,7 @@ ghost use Rattle.olk_tree.specs.Additional.{known_or_asked, declared_means, patt
 ghost use Rattle.olk_spec.specs.Names.{is_empty};
 ghost use Rattle.olk_spec.specs.Accepts.{missing};
 ghost use Rattle.olk_spec.specs.Schemas.{has};
-ghost use Rattle.olk_tree.specs.Questions.{every};
+ghost use Rattle.olk_tree.specs.Questions.{always, both, every};
 ghost use Rattle.olk_tree.specs.Answers.{beside, mapped, sides_of, required_text};
 ghost use Rattle.olk_tree.specs.Tables.{known_says, table_says};
 ghost use Rattle.olk_tree.specs.Visited.{object_of};
@@ -16,7 +16,7 @@ ghost use Rattle.olk_check.specs.Unpatterned.{unpatterned, names_mean, declared_
 
 use crate::IsValid;
 use crate::pattern_properties::matches;
-use crate::required::is_present;
+use crate::required::{is_met, is_present};
 use arrayvec::ArrayVec;
 use olk_base::{CompiledPattern, Node, RegexEngine, ValidationContext};
 use olk_members::law_of_names;
@@ -49,12 +49,9 @@ pub fn matches_unless_known<R: RegexEngine>(
 }
 
 impl<R: RegexEngine, N: IsValid> IsValid for AdditionalProperties<R, N> {
-    #[inline(never)]
     fn is_valid(&self, node: Node<'_>, ctx: &mut ValidationContext) -> bool {
         match node.as_object() {
-            Some(members) => {
-                has_required(&self.required, members) && members_accepted(self, members, ctx)
-            }
+            Some(members) => members_accepted(self, members, ctx),
             None => true,
         }
     }
@@ -79,23 +76,23 @@ fn is_present_apart(members: &Map<String, Value>, name: &str) -> bool
     is_present(members, name)
 }
 
-// Whether each member is accepted by what speaks of it.
+// Whether each member is accepted by what speaks of it, and there is a member at the name, if one is required.
 #[inline(never)]
 fn members_accepted<R: RegexEngine, N: IsValid>(
     keyword: &AdditionalProperties<R, N>,
     members: &Map<String, Value>,
     ctx: &mut ValidationContext,
 ) -> bool
-    ensures { Asks ctx.old ctx.new (additional_means R.answers R.costs N.means
-        (sides_of keyword.now) (object_of members.now.entries)) result }
+    ensures { Asks ctx.old ctx.new (both (additional_means R.answers R.costs N.means
+        (sides_of keyword.now) (object_of members.now.entries)) (always (is_empty (missing
+        (required_text keyword.now.required) (object_of members.now.entries))))) result }
 {
     law_of_names(members);
     match without_patterns(keyword) {
         Some((properties, rest)) => {
-            let holds_back = keyword.required.is_some();
-            mapped_accept(properties, members, rest, holds_back, ctx)
+            mapped_accept(properties, members, rest, &keyword.required, ctx)
         }
-        None => each_accepted(keyword, members, ctx),
+        None => has_required(&keyword.required, members) && each_accepted(keyword, members, ctx),
     }
 }
 
@@ -112,21 +109,22 @@ fn without_patterns<R, N>(
     }
 }
 
-// The same as `are_properties_valid`; where nothing else is expected, arrays and objects may be held back.
+// The same as `are_properties_valid`, and whether there is a member at the name, if one is required.
 #[inline(always)]
 fn mapped_accept<N: IsValid>(
     properties: &PropertiesMap<N>,
     members: &Map<String, Value>,
     rest: Option<&N>,
-    holds_back: bool,
+    required: &Option<RequiredName>,
     ctx: &mut ValidationContext,
 ) -> bool
-    ensures { Asks ctx.old ctx.new (names_mean N.means (mapped properties.now)
-        (option_copied rest.entry) (object_of members.now.entries)) result }
+    ensures { Asks ctx.old ctx.new (both (names_mean N.means (mapped properties.now)
+        (option_copied rest.entry) (object_of members.now.entries)) (always (is_empty (missing
+        (required_text required.now) (object_of members.now.entries))))) result }
 {
     match properties {
-        PropertiesMap::Small(map) => declared_accept(map, members, rest, holds_back, ctx),
-        PropertiesMap::Big(map) => declared_accept(map, members, rest, holds_back, ctx),
+        PropertiesMap::Small(map) => declared_accept(map, members, rest, required, ctx),
+        PropertiesMap::Big(map) => declared_accept(map, members, rest, required, ctx),
     }
 }
 
@@ -136,19 +134,23 @@ fn declared_accept<M: PropertiesValidatorsMap<N>, N: IsValid>(
     properties: &M,
     members: &Map<String, Value>,
     rest: Option<&N>,
-    holds_back: bool,
+    required: &Option<RequiredName>,
     ctx: &mut ValidationContext,
 ) -> bool
-    ensures { Asks ctx.old ctx.new (names_mean N.means
+    ensures { Asks ctx.old ctx.new (both (names_mean N.means
         (beside (M.names properties.now) (M.nodes properties.now))
-        (option_copied rest.entry) (object_of members.now.entries)) result }
+        (option_copied rest.entry) (object_of members.now.entries)) (always (is_empty (missing
+        (required_text required.now) (object_of members.now.entries))))) result }
 {
     if rest.is_none() && members.len() > properties.names().sorted().len() {
         return false;
     }
-    match rest {
-        None if holds_back => all_declared(properties, members, ctx),
-        _ => are_properties_valid(properties, members, rest, ctx),
+    match (rest, required) {
+        (None, Some(required)) => all_declared(properties, members, required.name.as_str(), ctx),
+        _ => {
+            has_required(required, members)
+                && are_properties_valid(properties, members, rest, ctx)
+        }
     }
 }
 
@@ -195,21 +197,26 @@ fn is_accepted<N: IsValid>(
     }
 }
 
-// Whether each member is declared, and accepted by what is declared at its name. Arrays and objects are asked last, as many
-// as can be held back.
+// Whether each member is declared, and accepted by what is declared at its name, and there is a member at the required
+// name. Arrays and objects are asked last, as many as can be held back, and only where that name was met.
 fn all_declared<M: PropertiesValidatorsMap<N>, N: IsValid>(
     properties: &M,
     members: &Map<String, Value>,
+    required: &str,
     ctx: &mut ValidationContext,
 ) -> bool
-    ensures { Asks ctx.old ctx.new (names_mean N.means
+    ensures { Asks ctx.old ctx.new (both (names_mean N.means
         (beside (M.names properties.now) (M.nodes properties.now))
-        None (object_of members.now.entries)) result }
+        None (object_of members.now.entries)) (always (is_empty (missing
+        (required.now ∷ []) (object_of members.now.entries))))) result }
 {
+    let mut met = false;
     let mut held: ArrayVec<Option<(&N, &Value)>, DEFERRED_MEMBERS> = ArrayVec::new();
     let mut hint = 0;
     for (name, value) in members {
-        let (next, declared) = properties.validator_from(hint, name.as_str());
+        let name = name.as_str();
+        met = is_met(met, name, required);
+        let (next, declared) = properties.validator_from(hint, name);
         hint = next;
         let Some(subschema) = declared else {
             return false;
@@ -220,7 +227,7 @@ fn all_declared<M: PropertiesValidatorsMap<N>, N: IsValid>(
             return false;
         }
     }
-    held_accept(&held, ctx)
+    met && held_accept(&held, ctx)
 }
 
 fn is_container(value: &Value) -> bool {

@@ -1,5 +1,5 @@
 //! `patternProperties`.
-ghost use Rattle.std.specs.Prelude.{true};
+ghost use Rattle.std.specs.Prelude.{◌≡◌, true, bytes_eq};
 ghost use Rattle.serde_json.specs.View.{view};
 ghost use Rattle.olk_spec.specs.Schemas.{at};
 ghost use Rattle.olk_tree.specs.Questions.{always, conditional, every};
@@ -48,7 +48,18 @@ pub fn matches<R: RegexEngine>(
     ensures { Asks ctx.old ctx.new
         (match_question R.answers R.costs pattern.now name.now) result }
 {
-    pattern.is_match_in(name, ctx)
+    match pattern {
+        CompiledPattern::Exact(exact) => is_exactly(exact.as_str(), name),
+        _ => pattern.is_match_in(name, ctx),
+    }
+}
+
+// Most texts differ in their lengths.
+#[inline(always)]
+fn is_exactly(exact: &str, name: &str) -> bool
+    ensures { result ≡ bytes_eq exact.now name.now }
+{
+    exact.len() == name.len() && exact == name
 }
 
 // Whether each node accepts the members whose names its pattern matches.

@@ -1,16 +1,17 @@
 //! `properties`.
-ghost use Rattle.std.specs.Prelude.{option_copied, option_to_list};
+ghost use Rattle.std.specs.Prelude.{[], ◌∷◌, option_copied, option_to_list};
 ghost use Rattle.serde_json.specs.View.{view, members_view};
 ghost use Rattle.olk_base.specs.Nodes.{data_of};
-ghost use Rattle.olk_spec.specs.Names.{lookup};
+ghost use Rattle.olk_spec.specs.Names.{lookup, is_empty};
+ghost use Rattle.olk_spec.specs.Accepts.{missing};
 ghost use Rattle.olk_spec.specs.Schemas.{listed};
-ghost use Rattle.olk_tree.specs.Questions.{every};
+ghost use Rattle.olk_tree.specs.Questions.{always, both, every};
 ghost use Rattle.olk_tree.specs.Answers.{beside, mapped, properties_mean};
 ghost use Rattle.olk_tree.specs.Visited.{object_of};
 ghost use Rattle.olk_check.specs.Asks.{Asks};
 
 use crate::IsValid;
-use crate::required::has_both;
+use crate::required::{has_both, is_met};
 use olk_base::{Node, ValidationContext};
 use olk_tree::properties::{Properties, SmallPropertiesWithRequired2};
 use olk_tree::properties_map::PropertiesMap;
@@ -28,8 +29,8 @@ impl<N: IsValid> IsValid for SmallPropertiesWithRequired2<N> {
     fn is_valid(&self, node: Node<'_>, ctx: &mut ValidationContext) -> bool {
         match node.as_object() {
             Some(members) => {
-                has_both(members, self.first.as_str(), self.second.as_str())
-                    && members_accepted(&self.properties, members, ctx)
+                let (first, second) = (self.first.as_str(), self.second.as_str());
+                accepted_with_both(&self.properties, members, first, second, ctx)
             }
             None => true,
         }
@@ -104,6 +105,56 @@ fn each_member_accepted<M: PropertiesValidatorsMap<N>, N: IsValid>(
         }
     }
     true
+}
+
+// The same as `members_accepted`, and whether there is a member at both names, which few members are walked for once.
+#[inline(always)]
+fn accepted_with_both<M: PropertiesValidatorsMap<N>, N: IsValid>(
+    properties: &M,
+    members: &Map<String, Value>,
+    first: &str,
+    second: &str,
+    ctx: &mut ValidationContext,
+) -> bool
+    ensures { Asks ctx.old ctx.new (both
+        (always (is_empty (missing (first.now ∷ second.now ∷ []) (object_of members.now.entries))))
+        (properties_mean N.means (beside (M.names properties.now) (M.nodes properties.now))
+        (object_of members.now.entries))) result }
+{
+    if members.len() / 2 <= properties.names().sorted().len() {
+        each_member_accepted_with_both(properties, members, first, second, ctx)
+    } else {
+        has_both(members, first, second) && each_name_accepted(properties, members, ctx)
+    }
+}
+
+// The same as `each_member_accepted`, and whether there is a member at both names.
+fn each_member_accepted_with_both<M: PropertiesValidatorsMap<N>, N: IsValid>(
+    properties: &M,
+    members: &Map<String, Value>,
+    first: &str,
+    second: &str,
+    ctx: &mut ValidationContext,
+) -> bool
+    ensures { Asks ctx.old ctx.new (both
+        (always (is_empty (missing (first.now ∷ second.now ∷ []) (object_of members.now.entries))))
+        (every (λ x. every (λ n. N.means n x.1) (option_to_list
+        (lookup x.0 (beside (M.names properties.now) (M.nodes properties.now)))))
+        (listed (members_view members.now.entries)))) result }
+{
+    let mut hint = 0;
+    let (mut has_first, mut has_second) = (false, false);
+    for (name, value) in members {
+        let name = name.as_str();
+        has_first = is_met(has_first, name, first);
+        has_second = is_met(has_second, name, second);
+        let (next, declared) = properties.validator_from(hint, name);
+        hint = next;
+        if !accepted_if_declared(declared, value, ctx) {
+            return false;
+        }
+    }
+    has_first && has_second
 }
 
 #[inline(always)]

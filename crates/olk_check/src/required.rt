@@ -14,7 +14,7 @@ use olk_tree::required::RequiredValidator;
 use serde_json::{Map, Value};
 
 // So few members are walked: a look-up takes longer.
-const FEW_MEMBERS: usize = 11;
+const FEW_MEMBERS: usize = 16;
 
 /// Each listed name is to be a member, where the value is an object (JSON Schema 2020-12 Validation, 6.5.3).
 impl IsValid for RequiredValidator {
@@ -88,7 +88,7 @@ fn has_both_of_few(members: &Map<String, Value>, first: &str, second: &str) -> b
 
 // Whether the name was met before, or is this key.
 #[inline(always)]
-fn is_met(met: bool, key: &str, name: &str) -> bool
+pub(crate) fn is_met(met: bool, key: &str, name: &str) -> bool
     ensures { result ≡ (bytes_eq key.now name.now || met) }
 {
     is_same_text(key, name) || met

@@ -1,23 +1,44 @@
-use Rattle.std.proofs.Common.{Some, None, false, option_copied, sym, ap, ◌∙◌}
+use Rattle.std.proofs.Common.{Some, None, false, [], ◌∷◌, option_copied, sym, ap, ◌∙◌}
 use Rattle.serde_json.specs.View.{view}
+use Rattle.olk_spec.specs.Names.{is_empty}
+use Rattle.olk_spec.specs.Accepts.{missing}
+use Rattle.olk_tree.specs.Questions.{always}
+use Rattle.olk_tree.specs.Visited.{object_of}
 use Rattle.olk_tree.proofs.Due.{name_next, no_name_next}
 use Rattle.olk_check.specs.Unpatterned.{declared_or_rest}
 use Rattle.olk_check.proofs.Asked.{unasked}
-use Rattle.olk_check.proofs.Deferred.{held_more, held_go_on, held_stop, held_end}
+use Rattle.olk_check.proofs.Deferred.{held_more, held_go_on, held_stop, held_end, held_refused}
+use Rattle.olk_check.proofs.Missing.{one_met}
+use Rattle.olk_check.proofs.Present.{sought_on, sought_end}
 use Rattle.olk_check.proofs.Unpatterned.{found_asks, rest_asks}
 use Rattle.olk_check.proofs.additional_properties.all_declared.Goals as goal
 
 pub returns-in_default : goal.returns-in_default
-returns-in_default g c = held_stop c.loop-name.invariant (name_next c.in-Some.ensures.steps c.as_str.ensures.value) (rest_asks g.N.Means.means None (view c.in-Some.value.now) (sym (ap option_copied c.in_default.is) ∙ c.validator_from-next.ensures) (unasked c.loop-name.ctx false))
+returns-in_default g c = held_stop c.loop-name.invariant.0 (name_next c.in-Some.ensures.steps c.as_str-name.ensures.value) (always (is_empty (missing (c.args.required.now ∷ []) (object_of c.args.members.now.entries))))
+    (rest_asks g.N.Means.means None (view c.in-Some.value.now) (sym (ap option_copied c.in_default.is) ∙ c.validator_from-next.ensures) (unasked c.loop-name.ctx false))
 
 pub loop-name-preserved-then-not-is_full : goal.loop-name-preserved-then-not-is_full
-loop-name-preserved-then-not-is_full g c = held_more c.loop-name.invariant (name_next c.in-Some.ensures.steps c.as_str.ensures.value) (Some (c.in-Some-declared.subschema, c.in-Some.value)) (ap (declared_or_rest g.N.Means.means None (view c.in-Some.value.now)) (sym (ap option_copied c.in-Some-declared.is) ∙ c.validator_from-next.ensures)) c.push.ensures.items
+loop-name-preserved-then-not-is_full g c =
+    let next = name_next c.in-Some.ensures.steps c.as_str-name.ensures.value in
+    (held_more c.loop-name.invariant.0 next (Some (c.in-Some-declared.subschema, c.in-Some.value)) (ap (declared_or_rest g.N.Means.means None (view c.in-Some.value.now)) (sym (ap option_copied c.in-Some-declared.is) ∙ c.validator_from-next.ensures)) c.push.ensures.items,
+    sought_on _ c.loop-name.invariant.1 next c.is_met-met.ensures)
 
 pub returns-then-not-is_valid : goal.returns-then-not-is_valid
-returns-then-not-is_valid g c = held_stop c.loop-name.invariant (name_next c.in-Some.ensures.steps c.as_str.ensures.value) (found_asks g.N.Means.means None (view c.in-Some.value.now) (sym (ap option_copied c.in-Some-declared.is) ∙ c.validator_from-next.ensures) c.if-not-is_valid.ensures)
+returns-then-not-is_valid g c = held_stop c.loop-name.invariant.0 (name_next c.in-Some.ensures.steps c.as_str-name.ensures.value) (always (is_empty (missing (c.args.required.now ∷ []) (object_of c.args.members.now.entries))))
+    (found_asks g.N.Means.means None (view c.in-Some.value.now) (sym (ap option_copied c.in-Some-declared.is) ∙ c.validator_from-next.ensures) c.if-not-is_valid.ensures)
 
 pub loop-name-preserved : goal.loop-name-preserved
-loop-name-preserved g c = held_go_on c.loop-name.invariant (name_next c.in-Some.ensures.steps c.as_str.ensures.value) (found_asks g.N.Means.means None (view c.in-Some.value.now) (sym (ap option_copied c.in-Some-declared.is) ∙ c.validator_from-next.ensures) c.if-not-is_valid.ensures)
+loop-name-preserved g c =
+    let next = name_next c.in-Some.ensures.steps c.as_str-name.ensures.value in
+    (held_go_on c.loop-name.invariant.0 next (found_asks g.N.Means.means None (view c.in-Some.value.now) (sym (ap option_copied c.in-Some-declared.is) ∙ c.validator_from-next.ensures) c.if-not-is_valid.ensures),
+    sought_on _ c.loop-name.invariant.1 next c.is_met-met.ensures)
 
-pub returns : goal.returns
-returns g c = held_end c.loop-name.invariant (no_name_next c.in-None.ensures.steps.0) c.deref.ensures.0 c.held_accept.ensures
+pub returns-then-met : goal.returns-then-met
+returns-then-met g c =
+    let none = no_name_next c.in-None.ensures.steps.0 in
+    held_end c.loop-name.invariant.0 none c.deref.ensures.0 c.held_accept.ensures (sym (one_met c.args.required.now (sought_end c.loop-name.invariant.1 none)) ∙ c.if-met.true)
+
+pub returns-else-met : goal.returns-else-met
+returns-else-met g c =
+    let none = no_name_next c.in-None.ensures.steps.0 in
+    held_refused c.loop-name.invariant.0 (one_met c.args.required.now (sought_end c.loop-name.invariant.1 none)) c.if-met.false

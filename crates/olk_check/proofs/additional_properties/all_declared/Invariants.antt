@@ -5,7 +5,10 @@ use Rattle.olk_spec.specs.Schemas.{listed}
 use Rattle.olk_tree.specs.Answers.{beside}
 use Rattle.olk_check.specs.Unpatterned.{declared_or_rest, held_means}
 use Rattle.olk_check.proofs.Deferred.{LeftAndHeld}
+use Rattle.olk_check.proofs.Present.{Sought}
 use Rattle.olk_check.proofs.additional_properties.all_declared.Given as goal
 
 abbrev pub invariant-loop-name : goal.invariant-loop-name
-invariant-loop-name g l = LeftAndHeld (λ x. declared_or_rest g.N.Means.means None x.1 (lookup x.0 (beside (g.M.PropertiesValidatorsMap.names l.properties) (g.M.PropertiesValidatorsMap.nodes l.properties)))) (held_means g.N.Means.means) (listed (members_view l.members.entries)) (listed (members_view l.name-iterator)) l.held.items l.initial.ctx l.ctx
+invariant-loop-name g l =
+    LeftAndHeld (λ x. declared_or_rest g.N.Means.means None x.1 (lookup x.0 (beside (g.M.PropertiesValidatorsMap.names l.properties) (g.M.PropertiesValidatorsMap.nodes l.properties)))) (held_means g.N.Means.means) (listed (members_view l.members.entries)) (listed (members_view l.name-iterator)) l.held.items l.initial.ctx l.ctx
+    × Sought l.required (listed (members_view l.members.entries)) (listed (members_view l.name-iterator)) l.met

@@ -2,11 +2,16 @@ use Rattle.std.proofs.Common.{◌≡◌, ◌<◌, length, not, ap, subst, ◌∙
 use Rattle.serde_json.specs.View.{members_view}
 use Rattle.olk_spec.specs.Schemas.{listed}
 use Rattle.olk_members.proofs.Listed.{listed_length}
-use Rattle.olk_tree.specs.Answers.{beside}
+use Rattle.olk_spec.specs.Names.{is_empty}
+use Rattle.olk_spec.specs.Accepts.{missing}
+use Rattle.olk_tree.specs.Answers.{beside, required_text}
+use Rattle.olk_tree.specs.Questions.{always}
+use Rattle.olk_tree.specs.Visited.{object_of}
 use Rattle.olk_tree.specs.Ascending.{Ascend}
 use Rattle.olk_tree.proofs.Crowded.{beside_length}
 use Rattle.olk_tree.proofs.Merge.{ascending_rising, sorted_rising}
 use Rattle.olk_check.proofs.Unpatterned.{crowded, nothing_else}
+use Rattle.olk_check.proofs.Walks.{both_stop}
 use Rattle.olk_check.proofs.additional_properties.declared_accept.Goals as goal
 
 pub returns-then-len : goal.returns-then-len
@@ -23,5 +28,5 @@ returns-then-len g c =
     let at_most = beside_length names nodes in
     let listed_each = listed_length entries in
     omega arith in
-    crowded g.N.Means.means (option_copied c.args.rest) (nothing_else c.args.rest (c.is_none.ensures ∙ ap not c.if-is_none.true)) (beside names nodes) (listed (members_view entries))
-    (ascending_rising names nodes ascend) (sorted_rising entries c.len.ensures.ordered) fewer c.args.ctx.now
+    both_stop (always (is_empty (missing (required_text c.args.required.now) (object_of entries)))) (crowded g.N.Means.means (option_copied c.args.rest) (nothing_else c.args.rest (c.is_none.ensures ∙ ap not c.if-is_none.true)) (beside names nodes) (listed (members_view entries))
+    (ascending_rising names nodes ascend) (sorted_rising entries c.len.ensures.ordered) fewer c.args.ctx.now)

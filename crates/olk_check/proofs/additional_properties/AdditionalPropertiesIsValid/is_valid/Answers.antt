@@ -1,19 +1,18 @@
-use Rattle.std.proofs.Common.{sym, subst, ◌∙◌}
+use Rattle.std.proofs.Common.{subst}
 use Rattle.serde_json.specs.View.{members_view}
+use Rattle.olk_base.specs.Nodes.{data_of}
 use Rattle.olk_spec.specs.Names.{is_empty}
 use Rattle.olk_spec.specs.Accepts.{missing}
-use Rattle.olk_base.specs.Nodes.{data_of}
-use Rattle.olk_tree.specs.Questions.{always, both}
 use Rattle.olk_tree.specs.Additional.{additional_means}
 use Rattle.olk_tree.specs.Answers.{sides_of, required_text}
+use Rattle.olk_tree.specs.Questions.{always, both}
 use Rattle.olk_tree.proofs.Members_met.{object_is}
 use Rattle.olk_check.specs.Asks.{Asks}
-use Rattle.olk_check.proofs.Together.{both_where}
 use Rattle.olk_check.proofs.additional_properties.AdditionalPropertiesIsValid.is_valid.Goals as goal
 
-pub returns-then-has_required : goal.returns-then-has_required
-returns-then-has_required g c =
+pub returns-in-Some : goal.returns-in-Some
+returns-in-Some g c =
     subst (λ v. Asks c.args.ctx.now c.members_accepted.new.ctx
     (both (additional_means g.R.RegexEngine.answers g.R.RegexEngine.costs g.N.Means.means (sides_of c.args.self.now) v) (always (is_empty (missing (required_text c.args.self.now.required) v)))) c.members_accepted.result)
     (object_is (data_of c.args.node) (members_view c.in-Some.members.now.entries) c.in-Some.ensures)
-    (both_where c.members_accepted.ensures (sym c.has_required.ensures ∙ c.if-has_required.true))
+    c.members_accepted.ensures
