@@ -148,8 +148,7 @@ fn declared_accept<M: PropertiesValidatorsMap<N>, N: IsValid>(
     match (rest, required) {
         (None, Some(required)) => all_declared(properties, members, required.name.as_str(), ctx),
         _ => {
-            has_required(required, members)
-                && are_properties_valid(properties, members, rest, ctx)
+            has_required(required, members) && are_properties_valid(properties, members, rest, ctx)
         }
     }
 }

@@ -19,9 +19,10 @@ returns-in_default g c = held_stop c.loop-name.invariant.0 (name_next c.in-Some.
 
 pub loop-name-preserved-then-not-is_full : goal.loop-name-preserved-then-not-is_full
 loop-name-preserved-then-not-is_full g c =
-    let next = name_next c.in-Some.ensures.steps c.as_str-name.ensures.value in
-    (held_more c.loop-name.invariant.0 next (Some (c.in-Some-declared.subschema, c.in-Some.value)) (ap (declared_or_rest g.N.Means.means None (view c.in-Some.value.now)) (sym (ap option_copied c.in-Some-declared.is) ∙ c.validator_from-next.ensures)) c.push.ensures.items,
-    sought_on _ c.loop-name.invariant.1 next c.is_met-met.ensures)
+    let next = name_next c.in-Some.ensures.steps c.as_str-name.ensures.value in (
+      held_more c.loop-name.invariant.0 next (Some (c.in-Some-declared.subschema, c.in-Some.value)) (ap (declared_or_rest g.N.Means.means None (view c.in-Some.value.now)) (sym (ap option_copied c.in-Some-declared.is) ∙ c.validator_from-next.ensures)) c.push.ensures.items,
+      sought_on _ c.loop-name.invariant.1 next c.is_met-met.ensures,
+    )
 
 pub returns-then-not-is_valid : goal.returns-then-not-is_valid
 returns-then-not-is_valid g c = held_stop c.loop-name.invariant.0 (name_next c.in-Some.ensures.steps c.as_str-name.ensures.value) (always (is_empty (missing (c.args.required.now ∷ []) (object_of c.args.members.now.entries))))
@@ -29,9 +30,10 @@ returns-then-not-is_valid g c = held_stop c.loop-name.invariant.0 (name_next c.i
 
 pub loop-name-preserved : goal.loop-name-preserved
 loop-name-preserved g c =
-    let next = name_next c.in-Some.ensures.steps c.as_str-name.ensures.value in
-    (held_go_on c.loop-name.invariant.0 next (found_asks g.N.Means.means None (view c.in-Some.value.now) (sym (ap option_copied c.in-Some-declared.is) ∙ c.validator_from-next.ensures) c.if-not-is_valid.ensures),
-    sought_on _ c.loop-name.invariant.1 next c.is_met-met.ensures)
+    let next = name_next c.in-Some.ensures.steps c.as_str-name.ensures.value in (
+      held_go_on c.loop-name.invariant.0 next (found_asks g.N.Means.means None (view c.in-Some.value.now) (sym (ap option_copied c.in-Some-declared.is) ∙ c.validator_from-next.ensures) c.if-not-is_valid.ensures),
+      sought_on _ c.loop-name.invariant.1 next c.is_met-met.ensures,
+    )
 
 pub returns-then-met : goal.returns-then-met
 returns-then-met g c =
