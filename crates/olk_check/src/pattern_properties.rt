@@ -54,12 +54,19 @@ pub fn matches<R: RegexEngine>(
     }
 }
 
-// Most texts differ in their lengths.
+// Most texts differ in their lengths, and only others are compared by a call.
 #[inline(always)]
 fn is_exactly(exact: &str, name: &str) -> bool
     ensures { result ≡ bytes_eq exact.now name.now }
 {
-    exact.len() == name.len() && exact == name
+    exact.len() == name.len() && bytes_are_equal(exact, name)
+}
+
+#[inline(never)]
+fn bytes_are_equal(exact: &str, name: &str) -> bool
+    ensures { result ≡ bytes_eq exact.now name.now }
+{
+    exact == name
 }
 
 // Whether each node accepts the members whose names its pattern matches.
