@@ -117,7 +117,8 @@ fn accepted_with_both<M: PropertiesValidatorsMap<N>, N: IsValid>(
     ctx: &mut ValidationContext,
 ) -> bool
     ensures { Asks ctx.old ctx.new (both
-        (always (is_empty (missing (first.now ∷ second.now ∷ []) (object_of members.now.entries))))
+        (always (is_empty (missing (first.now ∷ second.now ∷ [])
+        (object_of members.now.entries))))
         (properties_mean N.means (beside (M.names properties.now) (M.nodes properties.now))
         (object_of members.now.entries))) result }
 {
@@ -137,7 +138,8 @@ fn each_member_accepted_with_both<M: PropertiesValidatorsMap<N>, N: IsValid>(
     ctx: &mut ValidationContext,
 ) -> bool
     ensures { Asks ctx.old ctx.new (both
-        (always (is_empty (missing (first.now ∷ second.now ∷ []) (object_of members.now.entries))))
+        (always (is_empty (missing (first.now ∷ second.now ∷ [])
+        (object_of members.now.entries))))
         (every (λ x. every (λ n. N.means n x.1) (option_to_list
         (lookup x.0 (beside (M.names properties.now) (M.nodes properties.now)))))
         (listed (members_view members.now.entries)))) result }
