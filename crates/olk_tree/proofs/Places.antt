@@ -22,6 +22,9 @@ cmp = slice_cmp nat_cmp
 turned : (x y : Name) → cmp x y ≡ ordering_reverse (cmp y x)
 turned x y = nat_list_cmp_total.antisymm x y
 
+pub comes_after : (x y : Name) → cmp y x ≡ Less → cmp x y ≡ Greater
+comes_after x y p = turned x y ∙ ap ordering_reverse p
+
 -- what is below an equal is below
 below_equal : (x y n : Name) → cmp x y ≡ Less → cmp y n ≡ Equal → cmp x n ≡ Less
 below_equal x y n p q = turned x n ∙ ap ordering_reverse (sym (nat_list_cmp_total.congr y n x q)) ∙ sym (turned x y) ∙ p

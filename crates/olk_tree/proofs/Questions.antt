@@ -18,7 +18,7 @@ both_first m = alike (λ u. refl) (λ u. omega arith)
 pub both_last : (m : Question) → both m (always true) ≡ m
 both_last m = alike (λ u. and_true (m.accepts u)) (λ u. omega arith)
 
-both_around : (m n p : Question) → both (both m n) p ≡ both m (both n p)
+pub both_around : (m n p : Question) → both (both m n) p ≡ both m (both n p)
 both_around m n p = alike (λ u. and_around (m.accepts u) (n.accepts u) (p.accepts u)) (λ u. omega arith)
 
 module _ {X : Type 0} where

@@ -2,7 +2,8 @@
 ghost use Rattle.std.specs.Ordering.{nat_cmp};
 ghost use Rattle.std.specs.Result.{result_ok};
 ghost use Rattle.std.specs.Cmp.Lexicographic.{slice_cmp};
-ghost use Rattle.std.specs.Prelude.{◌≡◌, ◌<◌, ◌≤◌, ◌↔◌, IsTrue, IfOk, IfSome, MatchOption, Some, bytes_eq, length, map, string_bytes, position};
+ghost use Rattle.std.specs.declared.cmp.Ordering.TheVariants.{Less};
+ghost use Rattle.std.specs.Prelude.{◌≡◌, ◌<◌, ◌≤◌, ◌↔◌, IsTrue, IfOk, IfSome, MatchOption, Some, None, bytes_eq, length, map, string_bytes, position};
 ghost use Rattle.serde_json.specs.View.{members_view};
 ghost use Rattle.olk_spec.specs.Schemas.{listed};
 ghost use Rattle.olk_tree.specs.Ascending.{Ascend, IsAfter, IsMissed, IsPlaceOf};
@@ -129,6 +130,9 @@ impl SortedNames {
         ensures { result_ok result ≡ position (λ k. bytes_eq k name.now) self.now }
     {
         let names = self.names.as_slice();
+        if would_stand_at(names, hint, name) {
+            return Err(hint);
+        }
         if names.len() <= FEW {
             return find_equal(names, hint, name);
         }
@@ -190,8 +194,8 @@ fn find_between(names: &[String], from: usize, to: usize, name: &str) -> Option<
     None
 }
 
-// At which place the name stands, by comparing each. A name that is found nowhere leaves the hint.
-#[inline(always)]
+// At which place the name stands, by comparing each.
+#[inline(never)]
 fn find_equal(names: &[String], hint: usize, name: &str) -> Result<usize, usize>
     requires { Ascend (map string_bytes names.now) }
     ensures { result_ok result
@@ -199,7 +203,68 @@ fn find_equal(names: &[String], hint: usize, name: &str) -> Result<usize, usize>
 {
     match find_between(names, 0, names.len(), name) {
         Some(place) => Ok(place),
-        None => Err(hint),
+        None => Err(later_hint(names, hint, name)),
+    }
+}
+
+// Where a name would stand that is found nowhere, looked for from the hint on.
+#[inline(never)]
+fn later_hint(names: &[String], hint: usize, name: &str) -> usize {
+    for place in hint..names.len() {
+        if !is_before(names[place].as_str(), name) {
+            return place;
+        }
+    }
+    names.len()
+}
+
+// Whether first bytes tell that the name stands nowhere, and would stand at the hint.
+#[inline(always)]
+fn would_stand_at(names: &[String], hint: usize, name: &str) -> bool
+    requires { Ascend (map string_bytes names.now) }
+    ensures { IsTrue result
+        → None ≡ position (λ k. bytes_eq k name.now) (map string_bytes names.now) }
+{
+    if hint > names.len() || !comes_before(names, hint, name) {
+        return false;
+    }
+    hint == 0 || starts_before(names[hint - 1].as_str(), name)
+}
+
+// Whether first bytes tell that the names from the hint on come after this one.
+#[inline(always)]
+fn comes_before(names: &[String], hint: usize, name: &str) -> bool
+    requires { Ascend (map string_bytes names.now) }
+    ensures { IsTrue result → IsAfter (map string_bytes names.now) hint name.now }
+{
+    if hint >= names.len() {
+        return true;
+    }
+    starts_before(name, names[hint].as_str())
+}
+
+// Whether the one is less than the other, in the order of their bytes. Most differ in the first.
+#[inline(always)]
+fn is_before(one: &str, other: &str) -> bool
+    ensures { IsTrue result → slice_cmp nat_cmp one.now other.now ≡ Less }
+{
+    if starts_before(one, other) {
+        return true;
+    }
+    if starts_before(other, one) {
+        return false;
+    }
+    matches!(one.cmp(other), Ordering::Less)
+}
+
+// Whether the first byte of the one is less than that of the other.
+#[inline(always)]
+fn starts_before(one: &str, other: &str) -> bool
+    ensures { IsTrue result → slice_cmp nat_cmp one.now other.now ≡ Less }
+{
+    match (one.as_bytes().first(), other.as_bytes().first()) {
+        (Some(first), Some(its_first)) => first < its_first,
+        _ => false,
     }
 }
 
