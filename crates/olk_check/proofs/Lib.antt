@@ -8,3 +8,4 @@ pub mod Choices
 pub mod Deferred
 pub mod Unpatterned
 pub mod Together
+pub mod Answered

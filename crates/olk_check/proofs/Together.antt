@@ -7,7 +7,7 @@ use Rattle.olk_base.specs.Lawful.{Asking}
 use Rattle.olk_tree.specs.Questions.{Question, always, both}
 use Rattle.olk_tree.specs.Additional.{Sides, repeats, means_in_turn, named_means, additional_means}
 use Rattle.olk_check.specs.Asks.{Asks}
-use Rattle.olk_check.proofs.Asked.{settles}
+use Rattle.olk_check.proofs.Asked.{settles, unasked}
 use Rattle.olk_check.proofs.Present.{and_false}
 
 module _ {R N : Type 0} (answers : R → Name → Says) (costs : R → Bool) (m : N → Data → Question) (S : Sides R N) (v : Data) where
@@ -29,3 +29,10 @@ condition_and {q = q} {r = r} {p = p} is h = settles (both (always p) q) r h (λ
 
 pub condition_and_refused : {a b : Asking} {q : Question} (p : Bool) → Asks a b q false → Asks a b (both (always p) q) false
 condition_and_refused {q = q} p h = settles (both (always p) q) false h (λ u e. sym (and_false p) ∙ ap (λ z. p && z) e) (λ u e. omega arith)
+
+pub and_condition : {a b : Asking} {q : Question} {r p : Bool} → r ≡ p → Asks a b q true → Asks a b (both q (always p)) r
+and_condition {q = q} {r = r} {p = p} is h = settles (both q (always p)) r h (λ u e. is ∙ ap (λ z. z && p) e) (λ u e. omega arith)
+
+-- a condition that does not hold, beside a question that is not asked
+pub refused_where : (a : Asking) (q : Question) {p : Bool} → p ≡ false → Asks a a (both q (always p)) false
+refused_where a q {p = p} is = settles (both q (always p)) false (unasked a false) (λ u e. sym (and_false (q.accepts u)) ∙ ap (λ z. q.accepts u && z) (sym is)) (λ u e. omega arith)

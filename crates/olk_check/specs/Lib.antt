@@ -1,3 +1,4 @@
 pub mod Asks
 pub mod Accepting
+pub mod Together
 pub mod Unpatterned

@@ -2,6 +2,7 @@
 ghost use Rattle.std.specs.Prelude.{◌≡◌, [], ◌∷◌, IfSome, None, option_map, option_copied, is_some};
 ghost use Rattle.serde_json.specs.Data.{object};
 ghost use Rattle.serde_json.specs.View.{view, members_view};
+ghost use Rattle.olk_base.specs.Nodes.{data_of};
 ghost use Rattle.olk_tree.specs.Matched.{match_question};
 ghost use Rattle.olk_tree.specs.Additional.{known_or_asked, declared_means, patterns_mean_from, rest_means, member_means_at, means_in_turn, additional_means};
 ghost use Rattle.olk_spec.specs.Names.{is_empty};
@@ -12,9 +13,11 @@ ghost use Rattle.olk_tree.specs.Answers.{beside, mapped, sides_of, required_text
 ghost use Rattle.olk_tree.specs.Tables.{known_says, table_says};
 ghost use Rattle.olk_tree.specs.Visited.{object_of};
 ghost use Rattle.olk_check.specs.Asks.{Asks};
+ghost use Rattle.olk_check.specs.Together.{AsksOne};
 ghost use Rattle.olk_check.specs.Unpatterned.{unpatterned, names_mean, declared_or_rest, held_means};
 
 use crate::IsValid;
+use crate::accepted::Accepted;
 use crate::pattern_properties::matches;
 use crate::required::{is_met, is_present};
 use arrayvec::ArrayVec;
@@ -50,10 +53,25 @@ pub fn matches_unless_known<R: RegexEngine>(
 
 impl<R: RegexEngine, N: IsValid> IsValid for AdditionalProperties<R, N> {
     fn is_valid(&self, node: Node<'_>, ctx: &mut ValidationContext) -> bool {
-        match node.as_object() {
-            Some(members) => members_accepted(self, members, ctx),
-            None => true,
-        }
+        additional_properties_accept(self, node, ctx).is_some()
+    }
+}
+
+// Whether each member is accepted by what speaks of it, and there is a member at the name, if one is required, where the
+// value is an object.
+#[inline(always)]
+pub(crate) fn additional_properties_accept<R: RegexEngine, N: IsValid>(
+    keyword: &AdditionalProperties<R, N>,
+    node: Node<'_>,
+    ctx: &mut ValidationContext,
+) -> Accepted
+    ensures { AsksOne ctx.old ctx.new (both (additional_means R.answers R.costs N.means
+        (sides_of keyword.now) (data_of node.entry)) (always (is_empty (missing
+        (required_text keyword.now.required) (data_of node.entry))))) result }
+{
+    match node.as_object() {
+        Some(members) => members_accepted(keyword, members, ctx),
+        None => Accepted::One,
     }
 }
 
@@ -76,14 +94,14 @@ fn is_present_apart(members: &Map<String, Value>, name: &str) -> bool
     is_present(members, name)
 }
 
-// Whether each member is accepted by what speaks of it, and there is a member at the name, if one is required.
+// The same of an object's members.
 #[inline(never)]
 fn members_accepted<R: RegexEngine, N: IsValid>(
     keyword: &AdditionalProperties<R, N>,
     members: &Map<String, Value>,
     ctx: &mut ValidationContext,
-) -> bool
-    ensures { Asks ctx.old ctx.new (both (additional_means R.answers R.costs N.means
+) -> Accepted
+    ensures { AsksOne ctx.old ctx.new (both (additional_means R.answers R.costs N.means
         (sides_of keyword.now) (object_of members.now.entries)) (always (is_empty (missing
         (required_text keyword.now.required) (object_of members.now.entries))))) result }
 {
@@ -92,8 +110,26 @@ fn members_accepted<R: RegexEngine, N: IsValid>(
         Some((properties, rest)) => {
             mapped_accept(properties, members, rest, &keyword.required, ctx)
         }
-        None => has_required(&keyword.required, members) && each_accepted(keyword, members, ctx),
+        None => in_turn_accepted(keyword, members, ctx),
     }
+}
+
+// The same, one member after the other.
+#[inline(never)]
+fn in_turn_accepted<R: RegexEngine, N: IsValid>(
+    keyword: &AdditionalProperties<R, N>,
+    members: &Map<String, Value>,
+    ctx: &mut ValidationContext,
+) -> Accepted
+    ensures { AsksOne ctx.old ctx.new (both (additional_means R.answers R.costs N.means
+        (sides_of keyword.now) (object_of members.now.entries)) (always (is_empty (missing
+        (required_text keyword.now.required) (object_of members.now.entries))))) result }
+{
+    law_of_names(members);
+    if !has_required(&keyword.required, members) {
+        return Accepted::None;
+    }
+    Accepted::one_if(each_accepted(keyword, members, ctx))
 }
 
 // The declared names and the rest, where no patterns stand beside them.
@@ -117,8 +153,8 @@ fn mapped_accept<N: IsValid>(
     rest: Option<&N>,
     required: &Option<RequiredName>,
     ctx: &mut ValidationContext,
-) -> bool
-    ensures { Asks ctx.old ctx.new (both (names_mean N.means (mapped properties.now)
+) -> Accepted
+    ensures { AsksOne ctx.old ctx.new (both (names_mean N.means (mapped properties.now)
         (option_copied rest.entry) (object_of members.now.entries)) (always (is_empty (missing
         (required_text required.now) (object_of members.now.entries))))) result }
 {
@@ -136,21 +172,70 @@ fn declared_accept<M: PropertiesValidatorsMap<N>, N: IsValid>(
     rest: Option<&N>,
     required: &Option<RequiredName>,
     ctx: &mut ValidationContext,
-) -> bool
-    ensures { Asks ctx.old ctx.new (both (names_mean N.means
+) -> Accepted
+    ensures { AsksOne ctx.old ctx.new (both (names_mean N.means
         (beside (M.names properties.now) (M.nodes properties.now))
         (option_copied rest.entry) (object_of members.now.entries)) (always (is_empty (missing
         (required_text required.now) (object_of members.now.entries))))) result }
 {
     if rest.is_none() && members.len() > properties.names().sorted().len() {
-        return false;
+        return Accepted::None;
     }
     match (rest, required) {
         (None, Some(required)) => all_declared(properties, members, required.name.as_str(), ctx),
-        _ => {
-            has_required(required, members) && are_properties_valid(properties, members, rest, ctx)
-        }
+        (None, None) => each_declared(properties, members, ctx),
+        (Some(_), _) => declared_or_rest_accept(properties, members, rest, required, ctx),
     }
+}
+
+// The same where something else is expected.
+#[inline(never)]
+fn declared_or_rest_accept<M: PropertiesValidatorsMap<N>, N: IsValid>(
+    properties: &M,
+    members: &Map<String, Value>,
+    rest: Option<&N>,
+    required: &Option<RequiredName>,
+    ctx: &mut ValidationContext,
+) -> Accepted
+    ensures { AsksOne ctx.old ctx.new (both (names_mean N.means
+        (beside (M.names properties.now) (M.nodes properties.now))
+        (option_copied rest.entry) (object_of members.now.entries)) (always (is_empty (missing
+        (required_text required.now) (object_of members.now.entries))))) result }
+{
+    if !has_required(required, members) {
+        return Accepted::None;
+    }
+    Accepted::one_if(are_properties_valid(properties, members, rest, ctx))
+}
+
+// Whether each member is declared, and accepted by what is declared at its name.
+#[inline(never)]
+fn each_declared<M: PropertiesValidatorsMap<N>, N: IsValid>(
+    properties: &M,
+    members: &Map<String, Value>,
+    ctx: &mut ValidationContext,
+) -> Accepted
+    ensures { AsksOne ctx.old ctx.new (names_mean N.means
+        (beside (M.names properties.now) (M.nodes properties.now))
+        None (object_of members.now.entries)) result }
+{
+    Accepted::one_if(each_declared_or_rest(properties, members, None, ctx))
+}
+
+// The same, and whether there is a member at the required name.
+#[inline(never)]
+fn all_declared<M: PropertiesValidatorsMap<N>, N: IsValid>(
+    properties: &M,
+    members: &Map<String, Value>,
+    required: &str,
+    ctx: &mut ValidationContext,
+) -> Accepted
+    ensures { AsksOne ctx.old ctx.new (both (names_mean N.means
+        (beside (M.names properties.now) (M.nodes properties.now))
+        None (object_of members.now.entries)) (always (is_empty (missing
+        (required.now ∷ []) (object_of members.now.entries))))) result }
+{
+    Accepted::one_if(each_declared_with(properties, members, required, ctx))
 }
 
 /// Whether each member is accepted by what is declared at its name, and any other by `additional`; without that no other
@@ -158,10 +243,25 @@ fn declared_accept<M: PropertiesValidatorsMap<N>, N: IsValid>(
 ///
 /// Takes no memory. The context keeps its answer; of the counts only those of matchers that were asked and of matches
 /// that were left unfinished rise.
-pub fn are_properties_valid<M: PropertiesValidatorsMap<N>, N: IsValid>(
-    properties: &M,
+pub fn are_properties_valid<'a, M: PropertiesValidatorsMap<N>, N: IsValid>(
+    properties: &'a M,
     members: &Map<String, Value>,
-    additional: Option<&N>,
+    additional: Option<&'a N>,
+    ctx: &mut ValidationContext,
+) -> bool
+    ensures { Asks ctx.old ctx.new (names_mean N.means
+        (beside (M.names properties.now) (M.nodes properties.now))
+        (option_copied additional.entry) (object_of members.now.entries)) result }
+{
+    each_declared_or_rest(properties, members, additional, ctx)
+}
+
+// The same; inlined, so that a walk for which nothing else is expected doesn't look for it.
+#[inline(always)]
+fn each_declared_or_rest<'a, M: PropertiesValidatorsMap<N>, N: IsValid>(
+    properties: &'a M,
+    members: &Map<String, Value>,
+    additional: Option<&'a N>,
     ctx: &mut ValidationContext,
 ) -> bool
     ensures { Asks ctx.old ctx.new (names_mean N.means
@@ -198,7 +298,8 @@ fn is_accepted<N: IsValid>(
 
 // Whether each member is declared, and accepted by what is declared at its name, and there is a member at the required
 // name. Arrays and objects are asked last, as many as can be held back, and only where that name was met.
-fn all_declared<M: PropertiesValidatorsMap<N>, N: IsValid>(
+#[inline(always)]
+fn each_declared_with<M: PropertiesValidatorsMap<N>, N: IsValid>(
     properties: &M,
     members: &Map<String, Value>,
     required: &str,
@@ -245,6 +346,7 @@ fn held_accept<N: IsValid>(held: &[Option<(&N, &Value)>], ctx: &mut ValidationCo
     true
 }
 
+#[inline(always)]
 fn one_held_accepts<N: IsValid>(held: &Option<(&N, &Value)>, ctx: &mut ValidationContext) -> bool
     ensures { Asks ctx.old ctx.new (held_means N.means held.now) result }
 {

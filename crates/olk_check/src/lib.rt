@@ -19,6 +19,7 @@ pub trait IsValid: Means {
         ensures { Asks ctx.old ctx.new (Self.means self.now (data_of node.entry)) result };
 }
 
+mod accepted;
 mod additional_properties;
 mod all_of;
 mod any_of;

@@ -1,5 +1,6 @@
 //! `patternProperties`.
-ghost use Rattle.std.specs.Prelude.{◌≡◌, true, bytes_eq};
+ghost use Rattle.std.specs.Prelude.{◌≡◌, true, bytes_eq, nat_eq};
+ghost use Rattle.std.specs.List.{ends_with};
 ghost use Rattle.serde_json.specs.View.{view};
 ghost use Rattle.olk_spec.specs.Schemas.{at};
 ghost use Rattle.olk_tree.specs.Questions.{always, conditional, every};
@@ -50,8 +51,17 @@ pub fn matches<R: RegexEngine>(
 {
     match pattern {
         CompiledPattern::Exact(exact) => is_exactly(exact.as_str(), name),
+        CompiledPattern::Suffix(suffix) => is_end_of(suffix.as_str(), name),
         _ => pattern.is_match_in(name, ctx),
     }
+}
+
+// Whether the text ends the name.
+#[inline(never)]
+fn is_end_of(suffix: &str, name: &str) -> bool
+    ensures { result ≡ ends_with nat_eq name.now suffix.now }
+{
+    name.as_bytes().ends_with(suffix.as_bytes())
 }
 
 // Most texts differ in their lengths, and only others are compared by a call.

@@ -6,12 +6,14 @@ ghost use Rattle.olk_spec.specs.Names.{lookup, is_empty};
 ghost use Rattle.olk_spec.specs.Accepts.{missing};
 ghost use Rattle.olk_spec.specs.Schemas.{listed};
 ghost use Rattle.olk_tree.specs.Questions.{always, both, every};
-ghost use Rattle.olk_tree.specs.Answers.{beside, mapped, properties_mean};
+ghost use Rattle.olk_tree.specs.Answers.{beside, mapped, named, properties_mean, two_texts};
 ghost use Rattle.olk_tree.specs.Visited.{object_of};
 ghost use Rattle.olk_check.specs.Asks.{Asks};
+ghost use Rattle.olk_check.specs.Together.{AsksOne, AsksTwo};
 
 use crate::IsValid;
-use crate::required::{has_both, is_met};
+use crate::accepted::Accepted;
+use crate::required::{has_both, is_met, is_present};
 use olk_base::{Node, ValidationContext};
 use olk_tree::properties::{Properties, SmallPropertiesWithRequired2};
 use olk_tree::properties_map::PropertiesMap;
@@ -20,57 +22,126 @@ use serde_json::{Map, Value};
 
 impl<N: IsValid> IsValid for Properties<N> {
     fn is_valid(&self, node: Node<'_>, ctx: &mut ValidationContext) -> bool {
-        all_accepted(&self.properties, node, ctx)
+        properties_accept(self, node, ctx).is_some()
     }
 }
 
 impl<N: IsValid> IsValid for SmallPropertiesWithRequired2<N> {
-    #[inline(never)]
     fn is_valid(&self, node: Node<'_>, ctx: &mut ValidationContext) -> bool {
-        match node.as_object() {
-            Some(members) => {
-                let (first, second) = (self.first.as_str(), self.second.as_str());
-                accepted_with_both(&self.properties, members, first, second, ctx)
-            }
-            None => true,
-        }
+        properties_with_required2_accept(self, node, ctx).is_some()
     }
 }
 
 // Whether each member whose name is declared is accepted, where the value is an object.
-fn all_accepted<N: IsValid>(
-    properties: &PropertiesMap<N>,
+#[inline(always)]
+pub(crate) fn properties_accept<N: IsValid>(
+    keyword: &Properties<N>,
     node: Node<'_>,
     ctx: &mut ValidationContext,
-) -> bool
-    ensures { Asks ctx.old ctx.new
-        (properties_mean N.means (mapped properties.now) (data_of node.entry)) result }
+) -> Accepted
+    ensures { AsksOne ctx.old ctx.new
+        (properties_mean N.means (mapped keyword.now.properties) (data_of node.entry)) result }
 {
     match node.as_object() {
-        Some(members) => mapped_accepted(properties, members, ctx),
-        None => true,
+        Some(members) => match &keyword.properties {
+            PropertiesMap::Small(map) => members_accepted(map, members, ctx),
+            PropertiesMap::Big(map) => members_accepted(map, members, ctx),
+        },
+        None => Accepted::One,
     }
 }
 
-// The same of an object's members.
-fn mapped_accepted<N: IsValid>(
-    properties: &PropertiesMap<N>,
-    members: &Map<String, Value>,
+// The same, and whether there is a member at the name.
+#[inline(always)]
+pub(crate) fn properties_with_required_accept<N: IsValid>(
+    keyword: &Properties<N>,
+    name: &str,
+    node: Node<'_>,
     ctx: &mut ValidationContext,
-) -> bool
-    ensures { Asks ctx.old ctx.new (properties_mean N.means
-        (mapped properties.now) (object_of members.now.entries)) result }
+) -> Accepted
+    ensures { AsksTwo ctx.old ctx.new
+        (properties_mean N.means (mapped keyword.now.properties) (data_of node.entry))
+        (always (is_empty (missing (name.now ∷ []) (data_of node.entry)))) result }
 {
-    match properties {
-        PropertiesMap::Small(map) => members_accepted(map, members, ctx),
-        PropertiesMap::Big(map) => members_accepted(map, members, ctx),
+    match node.as_object() {
+        Some(members) => match &keyword.properties {
+            PropertiesMap::Small(map) => members_accepted_with(map, members, name, ctx),
+            PropertiesMap::Big(map) => members_accepted_with(map, members, name, ctx),
+        },
+        None => Accepted::Two,
     }
 }
 
-// The same of one kind of map. A declared name that is looked up takes as long as two members that are walked; apart, so
-// that the function that asks a keyword stays small.
+// The same, and whether there is a member at both names that it holds.
+#[inline(always)]
+pub(crate) fn properties_with_required2_accept<N: IsValid>(
+    keyword: &SmallPropertiesWithRequired2<N>,
+    node: Node<'_>,
+    ctx: &mut ValidationContext,
+) -> Accepted
+    ensures { AsksOne ctx.old ctx.new (both
+        (always (is_empty (missing (two_texts keyword.now.first keyword.now.second)
+        (data_of node.entry))))
+        (properties_mean N.means (named keyword.now.properties) (data_of node.entry))) result }
+{
+    match node.as_object() {
+        Some(members) => members_accepted_with_both(keyword, members, ctx),
+        None => Accepted::One,
+    }
+}
+
+// Whether each member of an object is accepted whose name is declared in one kind of map; apart, so that the function that
+// asks a keyword stays small.
 #[inline(never)]
 fn members_accepted<M: PropertiesValidatorsMap<N>, N: IsValid>(
+    properties: &M,
+    members: &Map<String, Value>,
+    ctx: &mut ValidationContext,
+) -> Accepted
+    ensures { AsksOne ctx.old ctx.new (properties_mean N.means
+        (beside (M.names properties.now) (M.nodes properties.now))
+        (object_of members.now.entries)) result }
+{
+    Accepted::one_if(all_accepted(properties, members, ctx))
+}
+
+// The same, and whether there is a member at the name.
+#[inline(never)]
+fn members_accepted_with<M: PropertiesValidatorsMap<N>, N: IsValid>(
+    properties: &M,
+    members: &Map<String, Value>,
+    name: &str,
+    ctx: &mut ValidationContext,
+) -> Accepted
+    ensures { AsksTwo ctx.old ctx.new (properties_mean N.means
+        (beside (M.names properties.now) (M.nodes properties.now))
+        (object_of members.now.entries))
+        (always (is_empty (missing (name.now ∷ []) (object_of members.now.entries)))) result }
+{
+    Accepted::two_if(all_accepted_with(properties, members, name, ctx))
+}
+
+// The same, and whether there is a member at both names that the keyword holds.
+#[inline(never)]
+fn members_accepted_with_both<N: IsValid>(
+    keyword: &SmallPropertiesWithRequired2<N>,
+    members: &Map<String, Value>,
+    ctx: &mut ValidationContext,
+) -> Accepted
+    ensures { AsksOne ctx.old ctx.new (both
+        (always (is_empty (missing (two_texts keyword.now.first keyword.now.second)
+        (object_of members.now.entries))))
+        (properties_mean N.means (named keyword.now.properties)
+        (object_of members.now.entries))) result }
+{
+    let (first, second) = (keyword.first.as_str(), keyword.second.as_str());
+    Accepted::one_if(all_accepted_with_both(&keyword.properties, members, first, second, ctx))
+}
+
+// Whether each member whose name is declared is accepted. A declared name that is looked up takes as long as two members
+// that are walked.
+#[inline(always)]
+fn all_accepted<M: PropertiesValidatorsMap<N>, N: IsValid>(
     properties: &M,
     members: &Map<String, Value>,
     ctx: &mut ValidationContext,
@@ -107,9 +178,57 @@ fn each_member_accepted<M: PropertiesValidatorsMap<N>, N: IsValid>(
     true
 }
 
-// The same as `members_accepted`, and whether there is a member at both names, which few members are walked for once.
+// The same as `all_accepted`, and whether there is a member at the name, for which few members are walked once.
 #[inline(always)]
-fn accepted_with_both<M: PropertiesValidatorsMap<N>, N: IsValid>(
+fn all_accepted_with<M: PropertiesValidatorsMap<N>, N: IsValid>(
+    properties: &M,
+    members: &Map<String, Value>,
+    name: &str,
+    ctx: &mut ValidationContext,
+) -> bool
+    ensures { Asks ctx.old ctx.new (both
+        (properties_mean N.means (beside (M.names properties.now) (M.nodes properties.now))
+        (object_of members.now.entries))
+        (always (is_empty (missing (name.now ∷ []) (object_of members.now.entries))))) result }
+{
+    if members.len() / 2 <= properties.names().sorted().len() {
+        each_member_accepted_with(properties, members, name, ctx)
+    } else {
+        is_present(members, name) && each_name_accepted(properties, members, ctx)
+    }
+}
+
+// The same as `each_member_accepted`, and whether there is a member at the name.
+fn each_member_accepted_with<M: PropertiesValidatorsMap<N>, N: IsValid>(
+    properties: &M,
+    members: &Map<String, Value>,
+    required: &str,
+    ctx: &mut ValidationContext,
+) -> bool
+    ensures { Asks ctx.old ctx.new (both
+        (every (λ x. every (λ n. N.means n x.1) (option_to_list
+        (lookup x.0 (beside (M.names properties.now) (M.nodes properties.now)))))
+        (listed (members_view members.now.entries)))
+        (always (is_empty (missing (required.now ∷ [])
+        (object_of members.now.entries))))) result }
+{
+    let mut hint = 0;
+    let mut met = false;
+    for (name, value) in members {
+        let name = name.as_str();
+        met = is_met(met, name, required);
+        let (next, declared) = properties.validator_from(hint, name);
+        hint = next;
+        if !accepted_if_declared(declared, value, ctx) {
+            return false;
+        }
+    }
+    met
+}
+
+// The same as `all_accepted`, and whether there is a member at both names, for which few members are walked once.
+#[inline(always)]
+fn all_accepted_with_both<M: PropertiesValidatorsMap<N>, N: IsValid>(
     properties: &M,
     members: &Map<String, Value>,
     first: &str,

@@ -6,21 +6,15 @@ use Rattle.olk_tree.specs.Answers.{sides_of, required_text}
 use Rattle.olk_tree.specs.Questions.{always, both}
 use Rattle.olk_tree.specs.Tables.{table_says}
 use Rattle.olk_tree.specs.Visited.{object_of}
-use Rattle.olk_check.specs.Asks.{Asks}
-use Rattle.olk_check.proofs.Together.{each_is_all, both_where}
+use Rattle.olk_check.specs.Together.{AsksOne}
+use Rattle.olk_check.proofs.Together.{each_is_all}
 use Rattle.olk_check.proofs.Unpatterned.{unpatterned_means}
 use Rattle.olk_check.proofs.additional_properties.members_accepted.Goals as goal
 
 pub returns-in-Some : goal.returns-in-Some
 returns-in-Some g c =
     let v = object_of c.args.members.now.entries in
-    subst (λ q. Asks c.args.ctx.now c.mapped_accept.new.ctx (both q (always (is_empty (missing (required_text c.args.keyword.now.required) v)))) c.mapped_accept.result)
+    subst (λ q. AsksOne c.args.ctx.now c.mapped_accept.new.ctx (both q (always (is_empty (missing (required_text c.args.keyword.now.required) v)))) c.mapped_accept.result)
     (unpatterned_means g.N.Means.means g.R.RegexEngine.answers g.R.RegexEngine.costs (table_says c.args.keyword.now.table) c.in-Some.properties.now (option_copied c.in-Some.rest) v
     ∙ ap (λ s. means_in_turn g.R.RegexEngine.answers g.R.RegexEngine.costs g.N.Means.means s v) (sym c.in-Some.ensures)
     ∙ each_is_all g.R.RegexEngine.answers g.R.RegexEngine.costs g.N.Means.means (sides_of c.args.keyword.now) v c.law_of_names.ensures) c.mapped_accept.ensures
-
-pub returns-then-has_required : goal.returns-then-has_required
-returns-then-has_required g c =
-    both_where (subst (λ q. Asks c.args.ctx.now c.each_accepted.new.ctx q c.each_accepted.result)
-    (each_is_all g.R.RegexEngine.answers g.R.RegexEngine.costs g.N.Means.means (sides_of c.args.keyword.now) (object_of c.args.members.now.entries) c.law_of_names.ensures) c.each_accepted.ensures)
-    (sym c.has_required.ensures ∙ c.if-has_required.true)

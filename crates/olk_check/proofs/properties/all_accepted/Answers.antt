@@ -1,10 +1,17 @@
-use Rattle.std.proofs.Common.{true, sym, subst}
-use Rattle.olk_base.specs.Nodes.{data_of}
-use Rattle.olk_tree.specs.Answers.{mapped}
-use Rattle.olk_tree.proofs.Members_met.{means_nothing}
+use Rattle.std.proofs.Common.{subst, ◌∙◌}
+use Rattle.serde_json.specs.View.{members_view}
+use Rattle.olk_tree.specs.Answers.{beside}
+use Rattle.olk_tree.specs.Ascending.{Ascend}
+use Rattle.olk_tree.proofs.Members_met.{means_of_members}
+use Rattle.olk_tree.proofs.Walked.{walks_agree}
 use Rattle.olk_check.specs.Asks.{Asks}
-use Rattle.olk_check.proofs.Asked.{unasked}
 use Rattle.olk_check.proofs.properties.all_accepted.Goals as goal
 
-pub returns-in-None : goal.returns-in-None
-returns-in-None g c = subst (λ q. Asks c.args.ctx.now c.args.ctx.now q true) (sym (means_nothing (mapped c.args.properties.now) (data_of c.args.node) c.in-None.ensures g.N.Means.means)) (unasked c.args.ctx.now true)
+pub returns-then-len : goal.returns-then-len
+returns-then-len g c =
+    let names = g.M.PropertiesValidatorsMap.names c.args.properties.now in
+    let nodes = g.M.PropertiesValidatorsMap.nodes c.args.properties.now in
+    let ascend = subst Ascend (c.sorted.ensures ∙ c.names.ensures) c.len-2.ensures.ordered in
+    subst (λ q. Asks c.args.ctx.now c.each_member_accepted.new.ctx q c.each_member_accepted.result)
+    (means_of_members (members_view c.args.members.now.entries) g.N.Means.means (beside names nodes) (walks_agree names nodes c.args.members.now.entries ascend c.len.ensures.ordered))
+    c.each_member_accepted.ensures

@@ -6,7 +6,7 @@ use Rattle.olk_tree.specs.Answers.{beside}
 use Rattle.olk_check.specs.Unpatterned.{declared_or_rest, held_means}
 use Rattle.olk_check.proofs.Deferred.{LeftAndHeld}
 use Rattle.olk_check.proofs.Present.{Sought}
-use Rattle.olk_check.proofs.additional_properties.all_declared.Given as goal
+use Rattle.olk_check.proofs.additional_properties.each_declared_with.Given as goal
 
 abbrev pub invariant-loop-name : goal.invariant-loop-name
 invariant-loop-name g l =

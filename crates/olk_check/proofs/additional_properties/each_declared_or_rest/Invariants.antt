@@ -5,7 +5,7 @@ use Rattle.olk_spec.specs.Schemas.{listed}
 use Rattle.olk_tree.specs.Answers.{beside}
 use Rattle.olk_check.specs.Unpatterned.{declared_or_rest}
 use Rattle.olk_check.proofs.Walks.{AllLeft}
-use Rattle.olk_check.proofs.additional_properties.are_properties_valid.Given as goal
+use Rattle.olk_check.proofs.additional_properties.each_declared_or_rest.Given as goal
 
 abbrev pub invariant-loop-name : goal.invariant-loop-name
 invariant-loop-name g l = AllLeft (λ x. declared_or_rest g.N.Means.means (option_copied l.additional) x.1 (lookup x.0 (beside (g.M.PropertiesValidatorsMap.names l.properties) (g.M.PropertiesValidatorsMap.nodes l.properties)))) (listed (members_view l.members.entries)) (listed (members_view l.name-iterator)) l.initial.ctx l.ctx

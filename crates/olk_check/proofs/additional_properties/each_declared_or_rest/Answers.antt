@@ -4,7 +4,7 @@ use Rattle.olk_tree.proofs.Due.{name_next, no_name_next}
 use Rattle.olk_check.specs.Asks.{Asks}
 use Rattle.olk_check.specs.Unpatterned.{declared_or_rest}
 use Rattle.olk_check.proofs.Walks.{all_go_on, all_stop, all_end}
-use Rattle.olk_check.proofs.additional_properties.are_properties_valid.Goals as goal
+use Rattle.olk_check.proofs.additional_properties.each_declared_or_rest.Goals as goal
 
 pub returns-then-not-is_accepted : goal.returns-then-not-is_accepted
 returns-then-not-is_accepted g c = all_stop c.loop-name.invariant (name_next c.in-Some.ensures.steps c.as_str.ensures.value)

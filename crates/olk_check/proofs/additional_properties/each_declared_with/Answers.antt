@@ -11,7 +11,7 @@ use Rattle.olk_check.proofs.Deferred.{held_more, held_go_on, held_stop, held_end
 use Rattle.olk_check.proofs.Missing.{one_met}
 use Rattle.olk_check.proofs.Present.{sought_on, sought_end}
 use Rattle.olk_check.proofs.Unpatterned.{found_asks, rest_asks}
-use Rattle.olk_check.proofs.additional_properties.all_declared.Goals as goal
+use Rattle.olk_check.proofs.additional_properties.each_declared_with.Goals as goal
 
 pub returns-in_default : goal.returns-in_default
 returns-in_default g c = held_stop c.loop-name.invariant.0 (name_next c.in-Some.ensures.steps c.as_str-name.ensures.value) (always (is_empty (missing (c.args.required.now ∷ []) (object_of c.args.members.now.entries))))

@@ -1,0 +1,97 @@
+-- Answers to questions that are asked together.
+use Rattle.std.proofs.Common.{◌≡◌, ◌<◌, Bool, true, false, List, [], ◌∷◌, length, drop, get_or, refl, sym, ap, subst, ◌∙◌, arith}
+use Rattle.std.proofs.lemmas.List.{drop_all}
+use Rattle.olk_base.specs.Lawful.{Asking}
+use Rattle.olk_tree.specs.Questions.{Question, always, both, every}
+use Rattle.olk_tree.proofs.Lists.{next_at}
+use Rattle.olk_tree.proofs.Questions.{both_around}
+use Rattle.olk_check.specs.declared.accepted.Accepted.{Accepted}
+use Rattle.olk_check.specs.declared.accepted.Accepted.TheVariants.{None, One, Two}
+use Rattle.olk_check.specs.Asks.{Asks}
+use Rattle.olk_check.specs.Together.{is_accepted, one_if, two_if, AsksOne, AsksTwo, AsksFirst}
+use Rattle.olk_check.proofs.Asked.{unasked}
+use Rattle.olk_check.proofs.Walks.{AllLeft, both_go_on, both_stop, all_go_on}
+
+module _ {a b : Asking} where
+  module _ {q : Question} where
+    one_said : (r : Bool) → Asks a b q r → AsksOne a b q (one_if r)
+    one_said true h = h
+    one_said false h = h
+
+    pub answered_one : {r : Bool} {s : Accepted} → s ≡ one_if r → Asks a b q r → AsksOne a b q s
+    answered_one {r} e h = subst (AsksOne a b q) (sym e) (one_said r h)
+
+    pub answer_of_one : (s : Accepted) → AsksOne a b q s → Asks a b q (is_accepted s)
+    answer_of_one None h = h
+    answer_of_one One h = h
+    answer_of_one Two h = absurd h
+
+  module _ (p q : Question) where
+    two_said : (r : Bool) → Asks a b (both p q) r → AsksTwo a b p q (two_if r)
+    two_said true h = h
+    two_said false h = h
+
+    pub answered_two : {r : Bool} {s : Accepted} → s ≡ two_if r → Asks a b (both p q) r → AsksTwo a b p q s
+    answered_two {r} e h = subst (AsksTwo a b p q) (sym e) (two_said r h)
+
+-- the first of a list
+module _ {X : Type 0} (f : X → Question) (a b : Asking) where
+  one_first : (x : X) (xs : List X) (s : Accepted) → AsksOne a b (f x) s → AsksFirst a b f (x ∷ xs) s
+  one_first x xs None h = both_stop (every f xs) h
+  one_first x xs One h = h
+  one_first x xs Two h = absurd h
+
+  two_first : (x y : X) (xs : List X) (s : Accepted) → AsksTwo a b (f x) (f y) s → AsksFirst a b f (x ∷ y ∷ xs) s
+  two_first x y xs None h = subst (λ q. Asks a b q false) (both_around (f x) (f y) (every f xs)) (both_stop (every f xs) h)
+  two_first x y xs One h = absurd h
+  two_first x y xs Two h = h
+
+  pub first_one : {x : X} {xs ys : List X} (s : Accepted) → ys ≡ x ∷ xs → AsksOne a b (f x) s → AsksFirst a b f ys s
+  first_one {x} {xs} s e h = subst (λ l. AsksFirst a b f l s) (sym e) (one_first x xs s h)
+
+  pub first_two : {x y : X} {xs ys : List X} (s : Accepted) → ys ≡ x ∷ y ∷ xs → AsksTwo a b (f x) (f y) s → AsksFirst a b f ys s
+  first_two {x} {y} {xs} s e h = subst (λ l. AsksFirst a b f l s) (sym e) (two_first x y xs s h)
+
+-- a condition that was found out
+pub said : (a : Asking) {p r : Bool} → r ≡ p → Asks a a (always p) r
+said a {p} e = subst (λ r. Asks a a (always p) r) (sym e) (unasked a p)
+
+-- a walk over a list, whose first one or two are asked together
+module _ {X : Type 0} {f : X → Question} {all : List X} {a b c : Asking} where
+  pub refused_left : {rest : List X} {s : Accepted} → AllLeft f all rest a b → s ≡ None → AsksFirst b c f rest s → Asks a c (every f all) false
+  refused_left {rest} h is k = h.goes_on c false (subst (AsksFirst b c f rest) is k)
+
+  one_left : (rest : List X) → AllLeft f all rest a b → AsksFirst b c f rest One → AllLeft f all (drop 1 rest) a c
+  one_left [] h k = absurd k
+  one_left (x ∷ xs) h k = all_go_on h refl k
+
+  two_left : (rest : List X) → AllLeft f all rest a b → AsksFirst b c f rest Two → AllLeft f all (drop 1 (drop 1 rest)) a c
+  two_left [] h k = absurd k
+  two_left (x ∷ []) h k = absurd k
+  two_left (x ∷ y ∷ xs) h k = record { goes_on = λ d r l. h.goes_on d r (subst (λ q. Asks b d q r) (both_around (f x) (f y) (every f xs)) (both_go_on k l)) }
+
+  pub go_on_behind_one : {rest : List X} {s : Accepted} → AllLeft f all rest a b → s ≡ One → AsksFirst b c f rest s → AllLeft f all (drop 1 rest) a c
+  go_on_behind_one {rest} h is k = one_left rest h (subst (AsksFirst b c f rest) is k)
+
+  pub go_on_behind_two : {rest : List X} {s : Accepted} → AllLeft f all rest a b → s ≡ Two → AsksFirst b c f rest s → AllLeft f all (drop 1 (drop 1 rest)) a c
+  go_on_behind_two {rest} h is k = two_left rest h (subst (AsksFirst b c f rest) is k)
+
+module _ {X : Type 0} (f : X → Question) (b c : Asking) where
+  two_there : (rest : List X) → AsksFirst b c f rest Two → 1 < length rest
+  two_there [] k = absurd k
+  two_there (x ∷ []) k = absurd k
+  two_there (x ∷ y ∷ xs) k = omega arith
+
+  pub two_are_left : (rest : List X) {s : Accepted} → s ≡ Two → AsksFirst b c f rest s → 1 < length rest
+  two_are_left rest is k = two_there rest (subst (AsksFirst b c f rest) is k)
+
+-- what a list is, by its first, and by its first two
+module _ {X : Type 0} {xs : List X} {x : X} where
+  pub by_first : x ≡ get_or xs 0 x → 0 < length xs → xs ≡ x ∷ drop 1 xs
+  by_first is lt = next_at refl is lt
+
+  pub by_first_two : {y : X} → x ≡ get_or xs 0 x → y ≡ get_or xs 1 y → 1 < length xs → xs ≡ x ∷ y ∷ drop 2 xs
+  by_first_two first second lt = by_first first (omega arith) ∙ ap (λ l. x ∷ l) (next_at refl second lt)
+
+  pub by_only : x ≡ get_or xs 0 x → 0 < length xs → length xs < 2 → xs ≡ x ∷ []
+  by_only is lt few = by_first is lt ∙ ap (λ l. x ∷ l) (drop_all 1 xs (omega arith))
