@@ -243,10 +243,10 @@ fn all_declared<M: PropertiesValidatorsMap<N>, N: IsValid>(
 ///
 /// Takes no memory. The context keeps its answer; of the counts only those of matchers that were asked and of matches
 /// that were left unfinished rise.
-pub fn are_properties_valid<'a, M: PropertiesValidatorsMap<N>, N: IsValid>(
-    properties: &'a M,
+pub fn are_properties_valid<M: PropertiesValidatorsMap<N>, N: IsValid>(
+    properties: &M,
     members: &Map<String, Value>,
-    additional: Option<&'a N>,
+    additional: Option<&N>,
     ctx: &mut ValidationContext,
 ) -> bool
     ensures { Asks ctx.old ctx.new (names_mean N.means
