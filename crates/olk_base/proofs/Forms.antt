@@ -1,5 +1,5 @@
 -- What a pattern stands for, from the body at its start and what is left behind it.
-use Rattle.std.proofs.Common.{◌≡◌, ◌≢◌, ℕ, true, false, List, [], ◌∷◌, length, chars, encode_utf8_all, refl, sym, ◌∙◌, ap, bytes_eq, Option, Some, None, option_map, MatchOption}
+use Rattle.std.proofs.Common.{◌≡◌, ◌≢◌, ℕ, true, false, cond, List, [], ◌∷◌, length, chars, encode_utf8_all, refl, sym, ◌∙◌, ap, bytes_eq, Option, Some, None, option_map, MatchOption}
 use Rattle.std.specs.Bool.{◌==◌}
 use Rattle.std.specs.Prelude.{codes}
 use Rattle.std.proofs.lemmas.Bool.Decides.{Decides-eqb}
@@ -27,6 +27,13 @@ module _ (r : List ℕ × List ℕ) (text : List ℕ) (e : text ≡ encode_utf8_
 
   pub suffix-none : suffix r ≡ None
   suffix-none = rw no_item refl
+
+not_empty : (xs : List ℕ) → bytes_eq xs [] ≡ false → is_empty xs ≡ false
+not_empty [] e = cc
+not_empty (x ∷ xs) e = refl
+
+pub single-other : (r : List ℕ × List ℕ) → bytes_eq r.1 [] ≡ false → bytes_eq r.1 (codes "$") ≡ false → single r ≡ None
+single-other r e f = let some = not_empty r.1 e in rw (some, f) (elim (is_empty r.0) as (λ b. cond {A = Option Literal} b None None ≡ None) [ true ↦ refl | false ↦ refl ])
 
 -- what is read of a pattern is what the grammar has of it
 pub stands_for : {A : Type 0} (f : A → Literal) (p : Text) (o : Option A) → option_map f o ≡ literal p → MatchOption o ((l : Literal) → ¬ IsPatternOf l (chars p)) (λ t. IsPatternOf (f t) (chars p))

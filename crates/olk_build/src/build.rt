@@ -159,25 +159,25 @@ fn compile_places<'a, L: MakeLeaf, M: MakeRegex>(
             let Value::Object(map) = value else {
                 return Ok(Vec::new(alloc));
             };
-            Ok(compile_entries(alloc, makers, meter, location, false, map)?)
+            compile_entries(alloc, makers, meter, location, false, map)
         }
         ReadPlaces::SchemaEntries => {
             let Value::Object(map) = value else {
                 return Ok(Vec::new(alloc));
             };
-            Ok(compile_entries(alloc, makers, meter, location, true, map)?)
+            compile_entries(alloc, makers, meter, location, true, map)
         }
         ReadPlaces::InnerEntries => {
             let Value::Object(map) = value else {
                 return Ok(Vec::new(alloc));
             };
-            Ok(compile_inner_entries(alloc, makers, meter, location, map)?)
+            compile_inner_entries(alloc, makers, meter, location, map)
         }
         ReadPlaces::Branches => {
             let Value::Array(items) = value else {
                 return Ok(Vec::new(alloc));
             };
-            Ok(compile_branches(alloc, makers, meter, location, items)?)
+            compile_branches(alloc, makers, meter, location, items)
         }
     }
 }

@@ -4,15 +4,15 @@ use Rattle.std.specs.List.{flat_map, list_all}
 use Rattle.std.proofs.lemmas.List.Folds.{list_all-append}
 use Rattle.std.proofs.lemmas.List.{map-append}
 use Rattle.std.proofs.lemmas.Simd.{map-map}
-use Rattle.serde_json.specs.Data.{Data, Members, object}
+use Rattle.serde_json.specs.Data.{Data, Members, object, null, boolean, number, string, array}
 use Rattle.serde_json.specs.Find.{as_object}
 use Rattle.olk_spec.specs.Names.{Name, Path, ◌//◌, those, put_if, is_empty}
 use Rattle.olk_spec.specs.World.{Says}
 use Rattle.olk_spec.specs.Faults.{Fault}
-use Rattle.olk_spec.specs.Reports.{unexpected_faults}
-use Rattle.olk_spec.specs.Schemas.{listed, members}
+use Rattle.olk_spec.specs.Reports.{unexpected_faults, required_faults}
+use Rattle.olk_spec.specs.Schemas.{listed, members, has}
 use Rattle.olk_spec.specs.Accepts.{missing}
-use Rattle.olk_spec.specs.Tree.{Tree, node, no_tree, IsLikeTree, described, is_valid, result}
+use Rattle.olk_spec.specs.Tree.{Tree, node, no_tree, IsLikeTree, described, is_valid, result, plain, erring}
 use Rattle.olk_spec.proofs.Truth.{and_true}
 use Rattle.olk_base.specs.declared.pattern.CompiledPattern.{CompiledPattern}
 use Rattle.olk_tree.specs.Questions.{Question, every}
@@ -30,9 +30,10 @@ use Rattle.olk_evaluate.specs.Wanted.{Wanted, AreShown, wanted, refused, lacking
 use Rattle.olk_check.proofs.Together.{each_is_all}
 use Rattle.olk_evaluate.specs.Additional.{Collects, names_of, nodes_wanted, members_found, matches_shown, rest_annotation, named_faults, faults_without_rest, Completes}
 use Rattle.olk_evaluate.specs.declared.additional_members.Collected.{Collected}
-use Rattle.olk_evaluate.proofs.Children.{trees_wanted, all_wanted}
+use Rattle.olk_evaluate.proofs.Children.{trees_wanted, all_wanted, valid_shown}
 use Rattle.olk_evaluate.proofs.Members.{and_turned, shown_append}
 use Rattle.olk_evaluate.proofs.OwnErrors.{all_there}
+use Rattle.olk_evaluate.proofs.Patterns.{no_object}
 use Rattle.olk_evaluate.proofs.Completed.{complete_like, complete_verdict}
 
 -- ---- names, trees and verdicts of the members
@@ -265,3 +266,47 @@ module _ {R N : Type 0} (answers : R → Name → Says) (t : N → Bool → Data
         pub additional_verdict : (costs : R → Bool) → repeats (object ms) ≡ false → is_valid (node_at k.location Q r) ≡ ((additional_means answers costs m S v).accepts u && is_empty (missing names v))
         additional_verdict costs distinct = subst (λ w. AreShown (refused (lacking_trees names w (object ms) place Q)) (trees_of missing_child) → Completes k (names_of c.additional.items) (listed ms) w s r → is_valid (node_at k.location Q r) ≡ ((additional_means answers costs m S w).accepts u && is_empty (missing names w))) (object_is v ms is)
             (λ l d. object_verdict l same d costs distinct) lacks completes
+
+-- of what is no object
+module _ {R N : Type 0} (answers : R → Name → Says) (S : Sides R N) (u : Bool) (P M Q : Path) (names : List Name) (place : Path) (v : Data) (none : None ≡ as_object v) where
+  abbrev lacking_here : List Tree
+  lacking_here = missing_trees names v place Q
+
+  none_missing : missing names v ≡ []
+  none_missing = (λ i. those (λ n. no_object v none i && not (has n v)) names) ∙ none_of_those (λ n. not (has n v)) names
+
+  module _ {s : Shown} (h : s ≡ shown true None [] []) where
+    pub other_like : (declares has_patterns : Bool) (t : N → Data → Path → Tree) → IsLikeTree (additional_tree answers S u v Q declares has_patterns P M t lacking_here) (node_at P Q s)
+    other_like declares has_patterns t = subst (λ r. IsLikeTree (additional_tree answers S u v Q declares has_patterns P M t lacking_here) (node_at P Q r)) (sym h)
+        (subst (λ w. IsLikeTree w (node_at P Q (shown true None [] []))) (sym (nothing v none)) (refl, refl, refl, refl, tt, tt))
+      where
+        no_match : (b c : Bool) (w : Tree) → put_if (b && not c && false) w [] ≡ []
+        no_match true true w = refl
+        no_match true false w = refl
+        no_match false true w = refl
+        no_match false false w = refl
+
+        none_lacking : lacking_here ≡ []
+        none_lacking = ap (λ ns. put_if (not (is_empty ns)) (erring place Q (required_faults names v place Q)) []) none_missing
+
+        alone : result P Q None false [] (put_if (has_patterns && not declares && false) (node M Q true (Some []) [] no_tree) [] ++ lacking_here) ≡ plain P Q []
+        alone = λ i. result P Q None false [] (no_match has_patterns declares (node M Q true (Some []) [] no_tree) i ++ none_lacking i)
+
+        nothing : (w : Data) → None ≡ as_object w → additional_tree answers S u w Q declares has_patterns P M t lacking_here ≡ plain P Q []
+        nothing null e = alone
+        nothing (boolean b) e = alone
+        nothing (number x) e = alone
+        nothing (string x) e = alone
+        nothing (array ds) e = alone
+        nothing (object ms) e = cc
+
+    pub other_verdict : (costs : R → Bool) (m : N → Data → Question) → is_valid (node_at P Q s) ≡ ((additional_means answers costs m S v).accepts u && is_empty (missing names v))
+    other_verdict costs m = valid_shown P Q s true None [] [] h ∙ sym (λ i. accepted_all v none i && is_empty (none_missing i))
+      where
+        accepted_all : (w : Data) → None ≡ as_object w → (additional_means answers costs m S w).accepts u ≡ true
+        accepted_all null e = refl
+        accepted_all (boolean b) e = refl
+        accepted_all (number x) e = refl
+        accepted_all (string x) e = refl
+        accepted_all (array ds) e = refl
+        accepted_all (object ms) e = cc

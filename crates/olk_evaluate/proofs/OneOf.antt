@@ -1,18 +1,19 @@
 -- Branches of which one is to accept.
-use Rattle.std.proofs.Common.{◌≡◌, ℕ, ◌<◌, ◌≤◌, ◌==◌, nat_lt, length, arith, Bool, true, false, cond, List, [], ◌∷◌, None, refl, sym, ap, subst, ◌∙◌}
+use Rattle.std.proofs.Common.{◌≡◌, ℕ, ◌<◌, ◌≤◌, ◌==◌, nat_lt, length, arith, Bool, true, false, cond, List, [], ◌∷◌, None, refl, sym, ap, subst, ◌∙◌, ◌&&◌}
 use Rattle.std.proofs.lemmas.List.{length-map}
 use Rattle.std.specs.List.{list_all}
 use Rattle.std.proofs.lemmas.Bool.Decides.{nat_tests}
 use Rattle.serde_json.specs.Data.{Data}
 use Rattle.olk_spec.specs.Names.{Path, those, put_if}
 use Rattle.olk_spec.specs.Tree.{Tree, trees_from, IsLikeTree, is_valid, result}
+use Rattle.olk_spec.proofs.Truth.{and_true}
 use Rattle.olk_reports.specs.Evaluations.{Shown, shown, node_at, tree_of}
 use Rattle.olk_reports.specs.declared.evaluation.EvaluationNode.{EvaluationNode}
 use Rattle.olk_tree.specs.Questions.{Question, how_many}
 use Rattle.olk_tree.specs.Shown.{branch_trees, several_accept, one_of_tree}
 use Rattle.olk_tree.proofs.OneOf.{several_is_some, several_is_not_one, several_is_more, count_those}
-use Rattle.olk_evaluate.specs.Wanted.{Wanted, AreShown, trees_of, wanted, each_wanted}
-use Rattle.olk_evaluate.proofs.Children.{trees_wanted, plain_like, plain_verdict, valid_shown, like_result, like_children, branches_wanted}
+use Rattle.olk_evaluate.specs.Wanted.{Wanted, AreShown, trees_of, wanted, each_wanted, IsShown}
+use Rattle.olk_evaluate.proofs.Children.{trees_wanted, plain_like, plain_verdict, valid_shown, like_result, like_children, branches_wanted, all_wanted_valid}
 use Rattle.olk_evaluate.proofs.Branches.{accepts_here, accepting_wanted, those_pass}
 
 as_long : (ws : List Wanted) (ts : List Tree) → AreShown ws ts → length ws ≡ length ts
@@ -88,3 +89,16 @@ module _ (xs : List EvaluationNode) (n : ℕ) (len : n ≡ length xs) where
 
   pub one_node : false ≡ (n == 0) → n ≤ 1 → length (trees_of xs) ≡ 1
   one_node e l = length-map xs tree_of ∙ sym len ∙ grind (arith, nat_tests)
+
+-- one branch alone
+module _ {N : Type 0} (t : N → Bool → Data → Path → Tree) (m : N → Data → Question) (u : Bool) (v : Data) (P Q : Path) (n : N) {c : Tree} {s : Shown} (h : IsShown (wanted t m u n v Q) c) (e : s ≡ shown (is_valid c) None [] (c ∷ [])) where
+  pub single_like : IsLikeTree (one_of_tree (λ k. t k u) v Q (λ k. (m k v).accepts u) P (n ∷ [])) (node_at P Q s)
+  single_like = subst (λ r. IsLikeTree (one_of_tree (λ k. t k u) v Q (λ k. (m k v).accepts u) P (n ∷ [])) (node_at P Q r)) (sym e) (by ((m n v).accepts u) h.verdict)
+    where
+      by : (b : Bool) → is_valid c ≡ b → IsLikeTree (one_of_tree (λ k. t k u) v Q (λ k. b) P (n ∷ [])) (node_at P Q (shown (is_valid c) None [] (c ∷ [])))
+      by true valid = like_result P Q (is_valid (t n u v Q) && true) (is_valid c) None None [] [] (trees_from (t n u v Q ∷ [])) (trees_from (c ∷ []))
+          (sym (and_true (is_valid c)) ∙ all_wanted_valid (wanted t m u n v Q ∷ []) (c ∷ []) (h, tt)) refl tt (h.like, tt)
+      by false valid = like_result P Q false (is_valid c) None None [] [] (trees_from (t n u v Q ∷ [])) (trees_from (c ∷ [])) valid refl tt (h.like, tt)
+
+  pub single_verdict : is_valid (node_at P Q s) ≡ (m n v).accepts u
+  single_verdict = valid_shown P Q s (is_valid c) None [] (c ∷ []) e ∙ h.verdict

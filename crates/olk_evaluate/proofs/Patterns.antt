@@ -77,7 +77,7 @@ module _ {X N : Type 0} {want : Bool → Path → Declared N → Wanted} {g : Bo
 
 -- ---- the tree
 
-no_object : (v : Data) → None ≡ as_object v → is_object v ≡ false
+pub no_object : (v : Data) → None ≡ as_object v → is_object v ≡ false
 no_object null e = refl
 no_object (boolean b) e = refl
 no_object (number x) e = refl

@@ -115,7 +115,7 @@ fn missing_required<'a>(
         Some(required) => {
             let name = required.name.as_str();
             let location = required.location.as_str();
-            Ok(missing_name_child(alloc, name, location, members, node, path)?)
+            missing_name_child(alloc, name, location, members, node, path)
         }
         None => Ok(None),
     }
@@ -155,7 +155,7 @@ fn completed<'a, R, N>(
 {
     match &keyword.rest {
         Some(_) => Ok(annotated(keyword, outcome, additional)),
-        None => Ok(with_unexpected(alloc, keyword, outcome, additional, members, node)?),
+        None => with_unexpected(alloc, keyword, outcome, additional, members, node),
     }
 }
 
@@ -201,9 +201,9 @@ fn with_unexpected<'a, R, N>(
         (shown_of outcome.entry) (shown_of r)) }
 {
     if stands_beside_some(keyword) {
-        Ok(with_named(alloc, outcome, unexpected, node)?)
+        with_named(alloc, outcome, unexpected, node)
     } else {
-        Ok(with_first(alloc, outcome, members)?)
+        with_first(alloc, outcome, members)
     }
 }
 

@@ -1,9 +1,10 @@
 -- Lemmas on the lines that are answered so far.
 use Rattle.std.proofs.Common.{◌≡◌, ℕ, inl, inr, List, [], ◌∷◌, ◌++◌, Option, None, Some, IfSome, true, refl, sym, ap, subst, ◌∙◌, append_assoc, append-nil}
 use Rattle.std.proofs.lemmas.List.Elements.{AllZip-push}
+use Rattle.std.specs.List.{AllZip}
 use Rattle.std.specs.Io.KnownBytes.{Appends}
 use Rattle.std.proofs.KnownBytes.{Appends-nil, Appends-trans}
-use Rattle.olk_lines.specs.Lines.{lines_of, ended, text_of, Begins, AnswersSome, AnswersInPart}
+use Rattle.olk_lines.specs.Lines.{lines_of, ended, text_of, Begins, AnswersAll, AnswersSome, AnswersInPart}
 use Rattle.olk_lines.specs.Steps.{NextLine, AppendsFront, Progress, StopsBy}
 use Rattle.olk_lines.specs.declared.reading.Stop.{Stop}
 use Rattle.olk_lines.specs.declared.reading.Stop.TheVariants.{Failed, Memory}
@@ -34,6 +35,15 @@ module _ (Gives : List ℕ → List ℕ → Type 0) where
         AllZip-push Gives _ _ _ _ before.5 gives,
         subst (Appends old new) (sym (text_of-push before.2 answer)) (Appends-trans old mid new _ _ before.6 writes),
       )
+
+  -- at the end of the input each line is answered
+  pub Progress-all : (a b c old new : Option (List ℕ)) → Progress Gives a b old new
+      → IfSome b (λ xs. (ys : List ℕ) × (c ≡ Some ys) × ((xs ≡ []) × (ys ≡ []))) → AnswersAll Gives a c old new
+  Progress-all None b c old new before next = tt
+  Progress-all (Some bytes) b c old new before next =
+      let step = rw before.3 at next in
+      let whole = before.4 ∙ ap (λ xs. before.1 ++ lines_of xs) step.2.0 ∙ append-nil before.1 in
+      (step.1 ∙ ap Some step.2.1, (before.2, subst (λ lines. AllZip Gives lines before.2) (sym whole) before.5, before.6))
 
   -- the program may stop between two lines
   pub Progress-some : (a b old new : Option (List ℕ)) → Progress Gives a b old new → AnswersSome Gives a old new

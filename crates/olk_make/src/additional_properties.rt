@@ -137,5 +137,5 @@ pub fn make<K: Leaf, R: RegexEngine>(
     ensures makes { IfOk result (λ k. MakesRestriction (kit K.Leaf R.RegexEngine) location rest
         beside place.now (planned plan.entry) (k ∷ [])) }
 {
-    Ok(form(alloc, plan, place, location, rest, beside)?)
+    form(alloc, plan, place, location, rest, beside)
 }

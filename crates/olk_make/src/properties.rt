@@ -89,5 +89,5 @@ pub fn make<K: Leaf, R: RegexEngine>(
     ensures makes { IfOk result (λ k. MakesClaims (kit K.Leaf R.RegexEngine)
         (shape.Properties names) location nodes.items place.now (planned plan.entry) (k ∷ [])) }
 {
-    Ok(form(alloc, plan, place, location, names, nodes)?)
+    form(alloc, plan, place, location, names, nodes)
 }

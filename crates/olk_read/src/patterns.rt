@@ -117,9 +117,7 @@ pub(crate) fn table_of_declared<R: RegexEngine>(
         meter.old meter.new) }
 {
     match neighbours.declared() {
-        Some(properties) => Ok(precompute_property_pattern_indices(
-            alloc, properties, patterns, meter,
-        )?),
+        Some(properties) => precompute_property_pattern_indices(alloc, properties, patterns, meter),
         None => Ok(PatternTable::none(alloc)),
     }
 }

@@ -619,7 +619,7 @@ fn read_other<'a, L: MakeLeaf, M: MakeRegex>(
     if !makers.leaves.reads(name) {
         return Ok(Shape::Unread);
     }
-    Ok(read_leaf(alloc, makers, meter, location, name, value)?)
+    read_leaf(alloc, makers, meter, location, name, value)
 }
 
 /// A leaf, counted.

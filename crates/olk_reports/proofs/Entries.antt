@@ -1,7 +1,7 @@
 -- What a tree shows, node by node.
-use Rattle.std.proofs.Common.{◌≡◌, List, ◌++◌, map, refl, sym, ap, ◌∙◌, ◌≤◌, length, take, append_assoc, ℕ}
+use Rattle.std.proofs.Common.{◌≡◌, List, [], ◌∷◌, ◌++◌, map, refl, sym, ap, ◌∙◌, ◌<◌, ◌≤◌, ◌+◌, length, get_or, take, append_assoc, ℕ}
 use Rattle.std.specs.List.{flat_map}
-use Rattle.std.proofs.lemmas.List.{append-nil, take_all}
+use Rattle.std.proofs.lemmas.List.{append-nil, take_all, take_more, flat_map_more}
 use Rattle.std.proofs.lemmas.List.Folds.{flat_map-map}
 use Rattle.std.proofs.lemmas.Simd.{map-map}
 use Rattle.olk_spec.specs.Names.{Path}
@@ -51,6 +51,16 @@ below_end f items below i before between after own all past same start walked pa
     ∙ ap (λ l. l ++ flat_map f below) start
     ∙ append_assoc before own (flat_map f below)
     ∙ ap (λ l. before ++ l) (sym parts)
+
+-- one step of a walk over the nodes below
+pub below_more : {X Y : Type 0} (f : X → List Y) (items : List X) (i : ℕ) (x : X) (before between after : List Y) →
+    i < length items → x ≡ get_or items i x → between ≡ before ++ flat_map f (take i items) → after ≡ between ++ f x → after ≡ before ++ flat_map f (take (i + 1) items)
+below_more f items i x before between after inside is walked step =
+    step
+    ∙ ap (λ l. l ++ f x) walked
+    ∙ flat_map_more f before (take i items) x
+    ∙ ap (λ y. before ++ flat_map f (take i items ++ y ∷ [])) is
+    ∙ ap (λ xs. before ++ flat_map f xs) (sym (take_more items i x inside))
 
 -- a walk over a node's own errors that has come to its end
 pub own_end : (t : Tree) (items : List ErrorDescription) (i : ℕ) (before after : List (Path × Path × Described)) →

@@ -1,11 +1,12 @@
 -- Facts on results and the trees that they show.
-use Rattle.std.proofs.Common.{◌≡◌, ℕ, Bool, true, false, Option, option_map, List, [], ◌∷◌, map, refl, ap, ◌∙◌, Vec, Bor, String, string_bytes}
+use Rattle.std.proofs.Common.{◌≡◌, ℕ, Bool, true, false, Option, option_map, List, [], ◌∷◌, ◌++◌, map, refl, sym, ap, ◌∙◌, Vec, Bor, String, string_bytes}
 use Rattle.std.specs.List.{list_all}
 use Rattle.std.specs.declared.alloc.Global.{Global}
 use Rattle.std.proofs.lemmas.List.Folds.{list_all-map}
+use Rattle.std.proofs.lemmas.List.{map-append}
 use Rattle.olk_spec.specs.Names.{Name, Path}
 use Rattle.olk_spec.specs.Tree.{Tree, Described, trees_from, result_node, is_valid}
-use Rattle.olk_reports.specs.Evaluations.{Shown, shown, shown_of, tree_of, node_at, described_of, node_step, result_step, trees_in, tree_schema_path, tree_instance_path, tree_errors, tree_children}
+use Rattle.olk_reports.specs.Evaluations.{Shown, shown, shown_of, tree_of, node_at, errored, described_of, node_step, result_step, trees_in, tree_schema_path, tree_instance_path, tree_errors, tree_children}
 use Rattle.olk_reports.specs.declared.evaluation.ErrorDescription.{ErrorDescription}
 use Rattle.olk_reports.specs.declared.evaluation.EvaluationNode.{EvaluationNode, out-EvaluationNode, roll-EvaluationNode}
 use Rattle.olk_reports.specs.declared.evaluation.EvaluationResult.{EvaluationResult, out-EvaluationResult, roll-EvaluationResult}
@@ -35,6 +36,13 @@ shown_of_parts b a es ts = fold-roll-EvaluationResult Tree Shown node_step resul
 
 pub parts_of_shown : (r : EvaluationResult) → shown_of r ≡ shown (out-EvaluationResult r).valid (option_map (λ ns. map (λ n. n.now) ns.items) (out-EvaluationResult r).annotation) (map described_of (out-EvaluationResult r).errors.items) (map tree_of (out-EvaluationResult r).children.items)
 parts_of_shown r = fold_out-EvaluationResult Tree Shown node_step result_step r
+
+-- one more error, which makes it invalid
+pub shown_errored : (r : EvaluationResult) (es : Vec ErrorDescription Global) (e : ErrorDescription) → es.items ≡ (out-EvaluationResult r).errors.items ++ e ∷ [] → shown_of (roll-EvaluationResult record { valid = false; annotation = (out-EvaluationResult r).annotation; errors = es; children = (out-EvaluationResult r).children }) ≡ errored (described_of e) (shown_of r)
+shown_errored r es e more =
+    shown_of_parts false (out-EvaluationResult r).annotation es (out-EvaluationResult r).children
+    ∙ ap (λ l. shown false (option_map (λ ns. map (λ n. n.now) ns.items) (out-EvaluationResult r).annotation) l (map tree_of (out-EvaluationResult r).children.items)) (ap (map described_of) more ∙ map-append described_of (out-EvaluationResult r).errors.items (e ∷ []))
+    ∙ ap (errored (described_of e)) (sym (parts_of_shown r))
 
 valid_of_parts : (P Q : Path) (b : Bool) (a : Option (List Name)) (es : List Described) (ts : List Tree) → is_valid (node_at P Q (shown b a es ts)) ≡ b
 valid_of_parts P Q true a es ts = refl

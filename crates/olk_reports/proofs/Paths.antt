@@ -1,5 +1,5 @@
 -- Facts on pushed paths.
-use Rattle.std.proofs.Common.{◌≡◌, ◌≢◌, Result, Ok, Err, OnOk, is_ok, ℕ, zero, suc, Bool, true, false, ◌+◌, ◌-◌, ◌<◌, ◌≤◌, List, [], ◌∷◌, ◌++◌, length, get_or, take, refl, sym, ap, ◌∙◌, cond, eqb, arith, ◌⊎◌, inl, inr, length-append}
+use Rattle.std.proofs.Common.{◌≡◌, ◌≢◌, Result, Ok, Err, OnOk, OnErr, is_ok, ℕ, zero, suc, Bool, true, false, ◌+◌, ◌-◌, ◌<◌, ◌≤◌, List, [], ◌∷◌, ◌++◌, length, get_or, take, refl, sym, ap, ◌∙◌, cond, eqb, arith, ◌⊎◌, inl, inr, length-append}
 use Rattle.std.specs.List.{flat_map, list_all}
 use Rattle.std.specs.Str.{IsUtf8, chars}
 use lib.Utf8.{encodes, encode}
@@ -58,6 +58,14 @@ plain_escaped (b ∷ bs) h =
 pub pushed_plain : {A E : Type 0} (r : Result A E) (old new segment : List ℕ) → new ≡ cond (is_ok r) (old ++ segment) old → list_all is_plain_byte segment ≡ true → OnOk r (new ≡ old ++ flat_map escaped segment)
 pushed_plain (Ok x) old new segment is plain = is ∙ ap (λ l. old ++ l) (sym (plain_escaped segment plain))
 pushed_plain (Err e) old new segment is plain = tt
+
+pub kept_plain : {A E : Type 0} (r : Result A E) (old new segment : List ℕ) → new ≡ cond (is_ok r) (old ++ segment) old → OnErr r ((rest : List ℕ) × (new ≡ old ++ rest))
+kept_plain (Ok x) old new segment is = tt
+kept_plain (Err e) old new segment is = ([], is ∙ sym (append-nil old))
+
+pub on_err : {A E Q : Type 0} (r : Result A E) → Q → OnErr r Q
+on_err (Ok x) q = tt
+on_err (Err e) q = q
 
 abbrev NoSlash : List ℕ → Type 0
 NoSlash xs = (k : ℕ) → k < length xs → get_or xs k 0 ≢ 47

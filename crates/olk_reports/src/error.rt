@@ -1,6 +1,7 @@
 ghost use Rattle.std.specs.Prelude.{◌≡◌, false, string_bytes, IfOk};
+ghost use Rattle.serde_json.specs.View.{view};
 ghost use Rattle.olk_base.specs.Nodes.{data_of};
-ghost use Rattle.olk_spec.specs.Faults.{fault};
+ghost use Rattle.olk_spec.specs.Faults.{fault, Not, LeafRefused};
 ghost use Rattle.olk_spec.specs.Reports.{wrapped};
 ghost use Rattle.olk_spec.specs.Texts.{text, kind_text, kind_prints_fraction};
 ghost use Rattle.olk_reports.specs.Errors.{kind_of};
@@ -258,66 +259,73 @@ fn own_text(
         → string_bytes s ≡ kind_text (kind_of kind.now) (data_of instance.entry)) }
 {
     match kind {
-        ValidationErrorKind::AdditionalProperties { unexpected } => Ok(names_text(
-            alloc,
-            unexpected.as_slice(),
-        )?),
-        ValidationErrorKind::AnyOf { context: _ } => Ok(starting_text(
+        ValidationErrorKind::AdditionalProperties { unexpected } => {
+            names_text(alloc, unexpected.as_slice())
+        }
+        ValidationErrorKind::AnyOf { context: _ } => starting_text(
             alloc,
             instance,
             " is not valid under any of the schemas listed in the 'anyOf' keyword",
-        )?),
-        ValidationErrorKind::OneOfNotValid { context: _ } => Ok(starting_text(
+        ),
+        ValidationErrorKind::OneOfNotValid { context: _ } => starting_text(
             alloc,
             instance,
             " is not valid under any of the schemas listed in the 'oneOf' keyword",
-        )?),
-        ValidationErrorKind::OneOfMultipleValid { context: _ } => Ok(starting_text(
+        ),
+        ValidationErrorKind::OneOfMultipleValid { context: _ } => starting_text(
             alloc,
             instance,
             " is valid under more than one of the schemas listed in the 'oneOf' keyword",
-        )?),
-        ValidationErrorKind::Not { schema } => Ok(joined_text(
-            alloc,
-            Node::Value(schema),
-            " is not allowed for ",
-            node_text(alloc, instance)?.as_str(),
-        )?),
-        ValidationErrorKind::Required { property } => Ok(required_text(alloc, property)?),
-        ValidationErrorKind::FalseSchema => Ok(ending_text(
-            alloc,
-            "False schema does not allow ",
-            instance,
-        )?),
+        ),
+        ValidationErrorKind::Not { schema } => not_text(alloc, schema, instance),
+        ValidationErrorKind::Required { property } => required_text(alloc, property),
+        ValidationErrorKind::FalseSchema => {
+            ending_text(alloc, "False schema does not allow ", instance)
+        }
         ValidationErrorKind::PropertyNames { error: _ } => Ok(String::new(alloc)),
-        ValidationErrorKind::Leaf { keyword: _, text } => Ok(String::from_str(
-            alloc,
-            text.as_str(),
-        )?),
-        ValidationErrorKind::SingleType { expected } => Ok(type_error_text(
-            alloc, instance, *expected,
-        )?),
-        ValidationErrorKind::MultipleTypes => Ok(starting_text(
+        ValidationErrorKind::Leaf { keyword: _, text } => String::from_str(alloc, text.as_str()),
+        ValidationErrorKind::SingleType { expected } => type_error_text(alloc, instance, *expected),
+        ValidationErrorKind::MultipleTypes => starting_text(
             alloc,
             instance,
             " is not of types \"boolean\", \"object\"",
-        )?),
-        ValidationErrorKind::UniqueItems => Ok(starting_text(
+        ),
+        ValidationErrorKind::UniqueItems => starting_text(
             alloc,
             instance,
             " has non-unique elements",
-        )?),
-        ValidationErrorKind::Regex => Ok(starting_text(alloc, instance, " is not a \"regex\"")?),
-        ValidationErrorKind::Unsupported { keyword } => Ok(name_text(
+        ),
+        ValidationErrorKind::Regex => starting_text(alloc, instance, " is not a \"regex\""),
+        ValidationErrorKind::Unsupported { keyword } => name_text(
             alloc,
             keyword,
             " is not supported here",
-        )?),
-        ValidationErrorKind::LeafRefused { keyword } => Ok(joined_text(
-            alloc,
-            instance,
-            " is not a value for ",
-            quoted_text(alloc, keyword)?.as_str(),
-        )?),
+        ),
+        ValidationErrorKind::LeafRefused { keyword } => leaf_refused_text(alloc, keyword, instance),
     }
+}
+
+// The text of the kind `Not`.
+fn not_text(alloc: Global, schema: &Value, instance: Node<'_>) -> Result<String, AllocError>
+    ensures { IfOk result (λ s.
+        kind_prints_fraction (Not (view schema.now)) (data_of instance.entry) ≡ false
+        → string_bytes s ≡ kind_text (Not (view schema.now)) (data_of instance.entry)) }
+{
+    let value = node_text(alloc, instance)?;
+    joined_text(
+        alloc,
+        Node::Value(schema),
+        " is not allowed for ",
+        value.as_str(),
+    )
+}
+
+// The text of the kind `LeafRefused`.
+fn leaf_refused_text(alloc: Global, keyword: &str, instance: Node<'_>) -> Result<String, AllocError>
+    ensures { IfOk result (λ s.
+        kind_prints_fraction (LeafRefused keyword.now) (data_of instance.entry) ≡ false
+        → string_bytes s ≡ kind_text (LeafRefused keyword.now) (data_of instance.entry)) }
+{
+    let name = quoted_text(alloc, keyword)?;
+    joined_text(alloc, instance, " is not a value for ", name.as_str())
 }

@@ -1,4 +1,5 @@
 ghost use Rattle.std.specs.Prelude.{◌≡◌, ◌++◌, IfOk, OnOk, false, string_bytes, map, codes};
+ghost use Rattle.std.specs.List.{flat_map};
 ghost use Rattle.serde_json.specs.Data.{string};
 ghost use Rattle.serde_json.specs.Written.{compact_text, has_float};
 ghost use Rattle.olk_base.specs.Nodes.{data_of};
@@ -125,15 +126,23 @@ fn push_later(text: &mut String, name: &str) -> Result<(), AllocError>
     Ok(())
 }
 
+fn push_later_names(text: &mut String, names: &[&str]) -> Result<(), AllocError>
+    ensures { OnOk result (string_bytes text.new
+        ≡ string_bytes text.old ++ flat_map later_name (map (λ n. n.now) names.now)) }
+{
+    for name in names {
+        push_later(text, name)?;
+    }
+    Ok(())
+}
+
 pub(crate) fn names_text(alloc: Global, names: &[&str]) -> Result<String, AllocError>
     ensures { IfOk result (λ s. string_bytes s ≡ unexpected_text (map (λ n. n.now) names.now)) }
 {
     let mut text = String::from_str(alloc, "Additional properties are not allowed (")?;
     if let Some((first, rest)) = names.split_first() {
         push_quoted(&mut text, first)?;
-        for name in rest {
-            push_later(&mut text, name)?;
-        }
+        push_later_names(&mut text, rest)?;
     }
     let rest = if names.len() == 1 {
         " was unexpected)"

@@ -46,6 +46,9 @@ module _ {X : Type 0} where
   read_at xs i None h m = sym (slice_get_past xs i m)
   read_at xs i (Some x) h m = sym (slice_get_read xs (length xs) i x.now refl m.0 h)
 
+  pub read_in : (xs slice : List X) (i : ℕ) (o : Option (Bor X)) → slice ≡ xs → IfSome o (λ x. x.now ≡ get_or slice i x.now) → MatchOption o (length slice ≤ i) (λ x. (i < length slice) × HoldsAt (λ y. x.now ≡ y) slice i) → option_copied o ≡ slice_get xs i
+  read_in xs slice i o same h m = read_at slice i o h m ∙ ap (λ l. slice_get l i) same
+
   -- the place of a name leads to what stands beside it
   pub beside_place : (ks : List Name) (xs : List X) (n : Name) → option_and_then (slice_get xs) (position (λ k. bytes_eq k n) ks) ≡ lookup n (beside ks xs)
   beside_place [] xs n = refl
@@ -61,7 +64,7 @@ module _ {X : Type 0} where
   -- what is read at the place of a name, and where the name has no place
   pub beside_found : (ks : List Name) (xs slice : List X) (n : Name) (i : ℕ) (o : Option (Bor X)) → slice ≡ xs → Some i ≡ position (λ k. bytes_eq k n) ks
       → IfSome o (λ x. x.now ≡ get_or slice i x.now) → MatchOption o (length slice ≤ i) (λ x. (i < length slice) × HoldsAt (λ y. x.now ≡ y) slice i) → option_copied o ≡ lookup n (beside ks xs)
-  beside_found ks xs slice n i o same e h m = read_at slice i o h m ∙ ap (λ l. slice_get l i) same ∙ ap (option_and_then (slice_get xs)) e ∙ beside_place ks xs n
+  beside_found ks xs slice n i o same e h m = read_in xs slice i o same h m ∙ ap (option_and_then (slice_get xs)) e ∙ beside_place ks xs n
 
   pub beside_none : (ks : List Name) (xs : List X) (n : Name) → None ≡ position (λ k. bytes_eq k n) ks → None ≡ lookup n (beside ks xs)
   beside_none ks xs n e = ap (option_and_then (slice_get xs)) e ∙ beside_place ks xs n
@@ -79,9 +82,10 @@ module _ {X : Type 0} where
       with_index None = refl
       with_index (Some x) = refl
 
--- the name that is read at the place of a name
+-- the place of a name is in the slice, and the name is read there
+pub place_inside : (ks : List Name) (slice : List (String Global)) (n : Name) (i : ℕ) → map string_bytes slice ≡ ks → Some i ≡ position (λ k. bytes_eq k n) ks → i < length slice
+place_inside ks slice n i same e = omega (arith, length-map slice string_bytes, ap length same, (position-Some (λ k. bytes_eq k n) ks i [] (sym e)).0)
+
 pub name_read : (ks : List Name) (slice : List (String Global)) (n : Name) (i : ℕ) (x : String Global) → map string_bytes slice ≡ ks → x ≡ get_or slice i x → Some i ≡ position (λ k. bytes_eq k n) ks → string_bytes x ≡ n
 name_read ks slice n i x same is e =
-    let at = position-Some (λ k. bytes_eq k n) ks i [] (sym e) in
-    let inside : i < length slice = omega (arith, length-map slice string_bytes, ap length same, at.0) in
-    ap string_bytes is ∙ sym (get_or-map string_bytes slice i x [] inside) ∙ ap (λ l. get_or l i []) same ∙ (bytes_eq-Decides (get_or ks i []) n).0 at.1
+    ap string_bytes is ∙ sym (get_or-map string_bytes slice i x [] (place_inside ks slice n i same e)) ∙ ap (λ l. get_or l i []) same ∙ (bytes_eq-Decides (get_or ks i []) n).0 (position-Some (λ k. bytes_eq k n) ks i [] (sym e)).1

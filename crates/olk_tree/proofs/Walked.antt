@@ -1,5 +1,5 @@
 -- What is left of a walk over the members whose names are declared.
-use Rattle.std.proofs.Common.{◌≡◌, ◌⊎◌, inl, inr, Bool, true, false, cond, map, List, [], ◌∷◌, ◌++◌, Option, Some, None, option_to_list, String, Global, string_bytes, string_cmp, refl, sym, ap, ◌∙◌}
+use Rattle.std.proofs.Common.{◌≡◌, ◌⊎◌, inl, inr, Bool, true, false, cond, map, List, [], ◌∷◌, ◌++◌, Option, Some, None, option_to_list, Bor, String, Global, string_bytes, string_cmp, refl, sym, ap, ◌∙◌}
 use Rattle.std.specs.List.{flat_map}
 use Rattle.serde_json.specs.Data.{Data}
 use Rattle.serde_json.specs.View.{view, members_view}
@@ -8,10 +8,15 @@ use Rattle.olk_spec.specs.Names.{Name, lookup}
 use Rattle.olk_spec.specs.Schemas.{listed}
 use Rattle.std.specs.List.Sorted.{IsStrictlySortedBy}
 use Rattle.std.specs.Map.{keys_of}
+use Rattle.std.specs.declared.iter.Zip.{Zip}
+use Rattle.std.specs.declared.slice.Iter.{Iter}
+use Rattle.std.proofs.iter.Yields.{fronts}
+use Rattle.std.proofs.lemmas.Iterator.{zips}
+use Rattle.std.proofs.lemmas.Slice.Zip.{Zip-more}
 use Rattle.olk_tree.specs.Answers.{beside}
 use Rattle.olk_tree.specs.Ascending.{Ascend}
 use Rattle.olk_tree.proofs.Merge.{in_step, ascending_rising, sorted_rising}
-use Rattle.olk_tree.specs.Visited.{Declared, declared_as, members_declared, names_met}
+use Rattle.olk_tree.specs.Visited.{Declared, declared_as, members_declared, names_met, pairs_of}
 
 module _ {N : Type 0} where
   module _ (es : List (Name × N)) where
@@ -45,6 +50,12 @@ module _ {N : Type 0} where
 
     pub name_passed : None ≡ lookup n ms → names_met es ms ≡ names_met rest ms
     name_passed at = ap (λ l. names_met l ms) next ∙ ap (λ p. flat_map (λ w. declared_as n x w) (option_to_list p) ++ names_met rest ms) (sym at)
+
+  -- the pairs that are left, where the next is taken
+  pub pairs_more : (left rest : Zip (Iter (String Global)) (Iter N)) (r : Option (Bor (String Global) × Bor N)) (p : Bor (String Global) × Bor N) → r ≡ Some p → zips fronts fronts left r rest → (n : Name) → n ≡ string_bytes p.0.now → pairs_of left ≡ (n, p.1.now) ∷ pairs_of rest
+  pairs_more left rest r p is steps n name =
+      let here = Zip-more left rest r p is steps in
+      (λ i. beside (map string_bytes (here.0 i)) (here.1 i)) ∙ ap (λ m. (m, p.1.now) ∷ pairs_of rest) (sym name)
 
   beside_nothing : (ks : List Name) → beside {B = N} ks [] ≡ []
   beside_nothing [] = refl

@@ -108,7 +108,7 @@ impl PatternTable {
         ensures { IfOk result (λ indices. indices.items ≡ indices_in self.now name.now) }
     {
         match self.names.find(name) {
-            Some(place) => Ok(self.indices_at(alloc, place)?),
+            Some(place) => self.indices_at(alloc, place),
             None => Ok(Vec::new(alloc)),
         }
     }

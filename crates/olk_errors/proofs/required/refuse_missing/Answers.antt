@@ -22,3 +22,6 @@ pub returns-in_err-refuse_if_missing-clause-invalid : goal.returns-in_err-refuse
 returns-in_err-refuse_if_missing-clause-invalid c = left_by _ _ c.from_residual.ensures.1
     (subst (λ n. IfInvalid c.in_err-refuse_if_missing.field-0.0 (IsErrorOf (of_names (n ∷ []) (data_of c.args.node) c.args.location.now c.args.path.now))) c.as_str.ensures.value c.in_err-refuse_if_missing.ensures.invalid)
     (λ f told. subst (λ o. IsErrorOf o f) (names_together (data_of c.args.node) c.args.location.now c.args.path.now c.args.names.now.items) (passed_error c.loop-name.invariant (next_at c.deref-name-items.ensures.value c.name-item.is c.loop-name-test.true) (one_errs (data_of c.args.node) c.args.location.now c.args.path.now c.name-item.result f told)))
+
+pub refuse_if_missing-requires : goal.refuse_if_missing-requires
+refuse_if_missing-requires c = c.requires

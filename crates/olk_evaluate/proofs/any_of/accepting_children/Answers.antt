@@ -4,6 +4,7 @@ use Rattle.olk_base.specs.Nodes.{data_of}
 use Rattle.olk_spec.specs.Names.{those}
 use Rattle.olk_evaluate.specs.Wanted.{wanted}
 use Rattle.olk_evaluate.proofs.Children.{shown_end, none_left}
+use Rattle.olk_check.proofs.Asked.{only_then}
 use Rattle.olk_evaluate.proofs.any_of.accepting_children.Goals as goal
 
 pub returns-clause-shown : goal.returns-clause-shown
@@ -11,3 +12,9 @@ returns-clause-shown g c = shown_end c.loop-schema.invariant.shown (ap (those (Î
 
 pub loop-schema-preserved : goal.loop-schema-preserved
 loop-schema-preserved g c = grind (arith, common_steps)
+
+pub returns-in_err-child-clause-context : goal.returns-in_err-child-clause-context
+returns-in_err-child-clause-context g c = only_then c.loop-schema.invariant.context (only_then c.is_valid.ensures.only c.child.ensures.context)
+
+pub returns-in_err-push-clause-context : goal.returns-in_err-push-clause-context
+returns-in_err-push-clause-context g c = only_then c.loop-schema.invariant.context (only_then c.is_valid.ensures.only c.child.ensures.context)

@@ -24,3 +24,15 @@ pub returns-clause-shown : goal.returns-clause-shown
 returns-clause-shown g c = subst (λ ws. AreShown ws (trees_of c.loop-dependency.children.items))
     (all_due (members_view c.args.members.now.entries) (named c.args.dependencies.now) c.into_iter-dependency-iterator.ensures.into_iter_gives c.declared_members-dependency-items.ensures.by_names (data_of c.args.object) c.requires (λ n. wanted g.N.Evaluate.tree g.N.Means.means c.args.ctx.now.answer n (data_of c.args.object) c.args.path.now))
     (shown_end c.loop-dependency.invariant.shown (ap (map (λ d. wanted g.N.Evaluate.tree g.N.Means.means c.args.ctx.now.answer d.node (data_of c.args.object) c.args.path.now)) c.in-None.ensures.steps))
+
+pub returns-in_err-child-clause-path : goal.returns-in_err-child-clause-path
+returns-in_err-child-clause-path g c = c.child.ensures.path ∙ c.loop-dependency.invariant.path
+
+pub returns-in_err-child-clause-context : goal.returns-in_err-child-clause-context
+returns-in_err-child-clause-context g c = only_then c.loop-dependency.invariant.context c.child.ensures.context
+
+pub returns-in_err-push-clause-path : goal.returns-in_err-push-clause-path
+returns-in_err-push-clause-path g c = c.child.ensures.path ∙ c.loop-dependency.invariant.path
+
+pub returns-in_err-push-clause-context : goal.returns-in_err-push-clause-context
+returns-in_err-push-clause-context g c = only_then c.loop-dependency.invariant.context c.child.ensures.context

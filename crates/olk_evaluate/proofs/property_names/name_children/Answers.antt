@@ -20,3 +20,15 @@ loop-name-preserved g c = record {
 
 pub returns-clause-shown : goal.returns-clause-shown
 returns-clause-shown g c = shown_end c.loop-name.invariant.shown (ap (names_wanted g.N.Evaluate.tree g.N.Means.means c.args.ctx.now.answer c.args.subschema.now c.args.path.now) (no_name_next c.in-None.ensures.steps.0))
+
+pub returns-in_err-child-clause-path : goal.returns-in_err-child-clause-path
+returns-in_err-child-clause-path g c = c.child.ensures.path ∙ c.loop-name.invariant.path
+
+pub returns-in_err-child-clause-context : goal.returns-in_err-child-clause-context
+returns-in_err-child-clause-context g c = only_then c.loop-name.invariant.context c.child.ensures.context
+
+pub returns-in_err-push-clause-path : goal.returns-in_err-push-clause-path
+returns-in_err-push-clause-path g c = c.child.ensures.path ∙ c.loop-name.invariant.path
+
+pub returns-in_err-push-clause-context : goal.returns-in_err-push-clause-context
+returns-in_err-push-clause-context g c = only_then c.loop-name.invariant.context c.child.ensures.context

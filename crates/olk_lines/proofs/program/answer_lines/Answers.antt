@@ -1,5 +1,5 @@
 use Rattle.std.proofs.lemmas.Result.{err_from_is_err_and}
-use Rattle.olk_lines.proofs.ProgressLemmas.{Progress-start, Progress-more, Progress-failed, Progress-stops, Progress-in_part}
+use Rattle.olk_lines.proofs.ProgressLemmas.{Progress-start, Progress-more, Progress-all, Progress-failed, Progress-stops, Progress-in_part}
 use Rattle.olk_lines.proofs.program.answer_lines.Goals as goal
 
 pub loop-init : goal.loop-init
@@ -27,3 +27,18 @@ loop-preserved g c =
 
 pub returns-clause-stops : goal.returns-clause-stops
 returns-clause-stops g c = Progress-failed _ _ _ _ _ c.loop.invariant
+
+pub returns-then-not-branch-clause-all : goal.returns-then-not-branch-clause-all
+returns-then-not-branch-clause-all g c =
+    let ended = rw c.if-not-branch.true at c.in_ok-read_line.ensures in
+    Progress-all _ _ _ _ _ _ c.loop.invariant ended
+
+pub returns-in_err-text-clause-stops : goal.returns-in_err-text-clause-stops
+returns-in_err-text-clause-stops g c =
+    let p = err_from_is_err_and c.from_residual-in_err-text.result c.from_residual-in_err-text.ensures.1 in
+    rw p.1 (Progress-stops _ _ _ _ _ p.0 c.loop.invariant)
+
+pub returns-in_err-push-clause-stops : goal.returns-in_err-push-clause-stops
+returns-in_err-push-clause-stops g c =
+    let p = err_from_is_err_and c.from_residual-in_err-push.result c.from_residual-in_err-push.ensures.1 in
+    rw p.1 (Progress-stops _ _ _ _ _ p.0 c.loop.invariant)

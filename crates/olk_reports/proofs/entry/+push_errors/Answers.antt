@@ -1,8 +1,6 @@
-use Rattle.std.proofs.Common.{arith}
-use Rattle.std.proofs.lemmas.Grind.{common_steps}
 use Rattle.olk_spec.specs.Tree.{errors}
 use Rattle.olk_reports.specs.Evaluations.{tree_of}
-use Rattle.olk_reports.proofs.Entries.{below_end, errors_below}
+use Rattle.olk_reports.proofs.Entries.{below_end, below_more, errors_below}
 use Rattle.olk_reports.proofs.entry.+push_errors.Goals as goal
 
 pub returns : goal.returns
@@ -10,4 +8,5 @@ returns t c =
     below_end (λ m. errors (tree_of m)) _ _ c.loop-child.child-index _ _ _ _ _ c.loop-child-test.false c.deref-child-items.ensures.value c.in_ok-push_own_errors.ensures c.loop-child.invariant (errors_below c.args.node.now)
 
 pub loop-child-preserved : goal.loop-child-preserved
-loop-child-preserved t c = grind (arith, common_steps)
+loop-child-preserved t c =
+    below_more (λ m. errors (tree_of m)) c.deref-child-items.result.now c.loop-child.child-index c.child-item.result _ _ _ c.loop-child-test.true c.child-item.is c.loop-child.invariant c.in_ok-push_errors.ensures

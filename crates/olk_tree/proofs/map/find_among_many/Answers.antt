@@ -1,4 +1,5 @@
-use Rattle.std.proofs.Common.{rules, arith, map, string_bytes, refl, subst, Less, Equal, Greater}
+use Rattle.std.proofs.Common.{rules, arith, ℕ, ◌+◌, ◌-◌, ◌≤◌, List, String, Global, length, map, take, drop, string_bytes, refl, subst, Less, Equal, Greater, length-take, length-drop}
+use Rattle.std.proofs.lemmas.List.{length-map}
 use Rattle.olk_tree.specs.Ascending.{IsAfter}
 use Rattle.olk_tree.proofs.Places.{names_are, same_length, compared_at, behind_ascends, stands_in, parts_in, stands_some, parts_none, after_here}
 use Rattle.olk_tree.proofs.map.find_among_many.Goals as goal
@@ -31,3 +32,16 @@ returns-in-Err c =
 
 pub returns-in-Greater : goal.returns-in-Greater
 returns-in-Greater c = search rules
+
+behind_inside : (names : List (String Global)) (l i : ℕ) → l ≤ length names → i ≤ length (map string_bytes (take (length names - l) (drop l names))) → l + i ≤ length names
+behind_inside names l i le at = omega (arith, length-map (take (length names - l) (drop l names)) string_bytes, length-take (length names - l) (drop l names), length-drop l names)
+
+pub overflow_add-result : goal.overflow_add-result
+overflow_add-result c =
+    let inside : c.args.hint + 1 + c.in-Ok.place ≤ length c.args.names.now = behind_inside c.args.names.now (c.args.hint + 1) c.in-Ok.place (omega arith) (omega (arith, c.in-Ok.ensures.inside)) in
+    search rules
+
+pub overflow_add-result-in-Err : goal.overflow_add-result-in-Err
+overflow_add-result-in-Err c =
+    let inside : c.args.hint + 1 + c.in-Err.place ≤ length c.args.names.now = behind_inside c.args.names.now (c.args.hint + 1) c.in-Err.place (omega arith) c.in-Err.ensures.inside in
+    search rules

@@ -1,10 +1,12 @@
-use Rattle.std.proofs.Common.{◌≡◌, ◌*◌, length, string_bytes, sym, ap, subst, ◌∙◌}
+use Rattle.std.proofs.Common.{◌≡◌, ◌*◌, List, String, Global, length, map, string_bytes, sym, ap, subst, ◌∙◌}
 use Rattle.std.specs.List.{AllZip}
 use Rattle.std.proofs.lemmas.List.{length-map}
 use Rattle.serde_json.specs.View.{members_view}
+use Rattle.serde_json.specs.Data.{Data}
+use Rattle.olk_spec.specs.Names.{Name}
 use Rattle.olk_spec.specs.Schemas.{listed}
-use Rattle.olk_tree.specs.Tables.{IsRowOf, how_many_cost, count_asks}
-use Rattle.olk_tree.proofs.Tables.{is_table, nothing_else}
+use Rattle.olk_tree.specs.Tables.{IsRowOf, how_many_cost, count_asks, AsksAtMost}
+use Rattle.olk_tree.proofs.Tables.{is_table, nothing_else, on_err}
 use Rattle.olk_tree.proofs.pattern_table.precompute_property_pattern_indices.Goals as goal
 
 pub returns-clause-answers : goal.returns-clause-answers
@@ -17,9 +19,15 @@ returns-clause-nothing_else g c =
     nothing_else g.R.RegexEngine.answers c.args.patterns.now (record { names = c.in_ok-names.names; patterns = length c.args.patterns.now; rows = c.in_ok-rows.rows.items })
     (subst (λ ns. AllZip (IsRowOf g.R.RegexEngine.answers c.args.patterns.now) ns c.in_ok-rows.rows.items) c.as_slice.ensures c.in_ok-rows.ensures.answers)
 
+as_many : (names : List (String Global)) (seen : List Name) (members : List (Name × Data)) → map string_bytes names ≡ seen → seen ≡ map (λ m. m.0) members → length names ≡ length members
+as_many names seen members e f = sym (length-map names string_bytes) ∙ ap length (e ∙ f) ∙ length-map members (λ m. m.0)
+
 pub returns-clause-asked : goal.returns-clause-asked
 returns-clause-asked g c =
     let members = listed (members_view c.args.properties.now.entries) in
-    let as_many : length c.as_slice.result.now ≡ length members =
-    sym (length-map c.as_slice.result.now string_bytes) ∙ ap length (c.as_slice.ensures ∙ c.in_ok-names.ensures) ∙ length-map members (λ m. m.0) in
-    c.in_ok-rows.ensures.asked ∙ ap (λ n. count_asks (n * how_many_cost g.R.RegexEngine.costs c.args.patterns.now) c.args.meter.now) as_many
+    c.in_ok-rows.ensures.asked ∙ ap (λ n. count_asks (n * how_many_cost g.R.RegexEngine.costs c.args.patterns.now) c.args.meter.now) (as_many c.as_slice.result.now c.in_ok-names.names members c.as_slice.ensures c.in_ok-names.ensures)
+
+pub returns-in_err-rows-clause-asked_at_most : goal.returns-in_err-rows-clause-asked_at_most
+returns-in_err-rows-clause-asked_at_most g c =
+    let members = listed (members_view c.args.properties.now.entries) in
+    on_err _ (subst (λ n. AsksAtMost (n * how_many_cost g.R.RegexEngine.costs c.args.patterns.now) c.args.meter.now c.rows_of.new.meter) (as_many c.as_slice.result.now c.in_ok-names.names members c.as_slice.ensures c.in_ok-names.ensures) c.in_err-rows.ensures.asked_at_most)

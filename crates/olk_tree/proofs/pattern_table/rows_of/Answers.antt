@@ -1,6 +1,7 @@
-use Rattle.std.proofs.Common.{◌+◌, take, map, string_bytes, sym, subst}
+use Rattle.std.proofs.Common.{◌≡◌, ◌+◌, ◌*◌, length, take, map, string_bytes, ap, sym, subst, ◌∙◌, arith}
 use Rattle.std.specs.List.{AllZip}
-use Rattle.olk_tree.specs.Tables.{IsRowOf, how_many_cost}
+use Rattle.std.proofs.lemmas.List.{take_all}
+use Rattle.olk_tree.specs.Tables.{IsRowOf, how_many_cost, count_asks}
 use Rattle.olk_tree.proofs.Tables.{on_err, stops_before, stops_behind, asks_a_name, row_told}
 use Rattle.olk_tree.proofs.pattern_table.rows_of.Goals as goal
 
@@ -19,3 +20,11 @@ loop-name-preserved g c = record {
       (row_told g.R.RegexEngine.answers c.args.patterns.now c.args.names.now c.loop-name.name-index c.name-item.result c.loop-name.rows.items c.in_ok-row_of.field-0 c.loop-name-test.true c.name-item.is c.loop-name.invariant.rows (subst (λ n. IsRowOf g.R.RegexEngine.answers c.args.patterns.now n c.in_ok-row_of.field-0) c.as_str.ensures.value c.in_ok-row_of.ensures.answers));
   asked = asks_a_name (how_many_cost g.R.RegexEngine.costs c.args.patterns.now) 0 c.args.meter.now c.loop-name.meter c.row_of.new.meter c.loop-name.name-index c.loop-name.invariant.asked c.in_ok-row_of.ensures.asked;
 }
+
+pub returns-clause-answers : goal.returns-clause-answers
+returns-clause-answers g c = subst (λ ns. AllZip (IsRowOf g.R.RegexEngine.answers c.args.patterns.now) (map string_bytes ns) c.loop-name.rows.items) (take_all c.loop-name.name-index c.args.names.now (omega arith)) c.loop-name.invariant.rows
+
+pub returns-clause-asked : goal.returns-clause-asked
+returns-clause-asked g c =
+    let all : c.loop-name.name-index ≡ length c.args.names.now = omega arith in
+    c.loop-name.invariant.asked ∙ ap (λ n. count_asks (n * how_many_cost g.R.RegexEngine.costs c.args.patterns.now) c.args.meter.now) all

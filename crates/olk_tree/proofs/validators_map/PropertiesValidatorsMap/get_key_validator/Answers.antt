@@ -1,7 +1,7 @@
-use Rattle.std.proofs.Common.{Some, None, ap, ◌∙◌}
+use Rattle.std.proofs.Common.{◌<◌, length, Some, None, ap, ◌∙◌, rules}
 use Rattle.olk_spec.specs.Names.{lookup}
 use Rattle.olk_tree.specs.Answers.{beside, names_of}
-use Rattle.olk_tree.proofs.Lookups.{beside_found, beside_none, name_read}
+use Rattle.olk_tree.proofs.Lookups.{beside_found, beside_none, place_inside, name_read}
 use Rattle.olk_tree.proofs.validators_map.PropertiesValidatorsMap.get_key_validator.Goals as goal
 
 pub returns-in_err-place-clause-validator : goal.returns-in_err-place-clause-validator
@@ -23,3 +23,11 @@ returns-clause-validator g c =
     let nodes = g.Self.PropertiesValidatorsMap.nodes c.args.self.now in
     beside_found (names_of c.names-names.result) nodes c.nodes.result.now c.args.name.now c.in_ok-place.place (Some c.in_ok-node.node) c.nodes.ensures c.in_ok-place.ensures c.in_ok-node.ensures.lookup.1 c.in_ok-node.ensures.lookup.3
     ∙ ap (λ ks. lookup c.args.name.now (beside ks nodes)) c.names-names.ensures
+
+pub offset_bounds-as_slice-place : goal.offset_bounds-as_slice-place
+offset_bounds-as_slice-place g c =
+    let inside : c.in_ok-place.place < length c.as_slice.result.now = place_inside (names_of c.names-names.result) c.as_slice.result.now c.args.name.now c.in_ok-place.place (c.as_slice.ensures ∙ c.sorted.ensures) c.in_ok-place.ensures in
+    search rules
+
+pub bounds-as_slice-place : goal.bounds-as_slice-place
+bounds-as_slice-place g c = place_inside (names_of c.names-names.result) c.as_slice.result.now c.args.name.now c.in_ok-place.place (c.as_slice.ensures ∙ c.sorted.ensures) c.in_ok-place.ensures

@@ -1,0 +1,19 @@
+use Rattle.std.proofs.Common.{◌≡◌, Bool, not, true, false, Option, Some, None, refl, ap, ◌∙◌}
+use Rattle.std.specs.Option.{is_some, option_map_or}
+use Rattle.olk_spec.specs.World.{is_unfinished}
+use Rattle.olk_tree.specs.Tables.{known_says, table_says, place_in}
+use Rattle.olk_tree.proofs.pattern_table.PatternTable.is_unfinished.Goals as goal
+
+none_told : (o : Option Bool) (b : Bool) → is_some o ≡ not b → b ≡ is_unfinished (known_says o)
+none_told None true e = refl
+none_told None false e = cc
+none_told (Some true) true e = cc
+none_told (Some true) false e = refl
+none_told (Some false) true e = cc
+none_told (Some false) false e = refl
+
+pub returns-in-Some : goal.returns-in-Some
+returns-in-Some c =
+    none_told c.known.result c.is_none.result c.is_none.ensures
+    ∙ ap is_unfinished c.known.ensures
+    ∙ ap (λ o. option_map_or (λ p. is_unfinished (table_says c.args.self.now p c.args.index)) o false) (c.in-Some.ensures ∙ ap (λ t. place_in t c.args.name.now) c.self.view_is)
