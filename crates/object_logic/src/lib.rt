@@ -1,6 +1,6 @@
 //! Validation by the object and logic keywords of JSON Schema: what a user of the library calls.
 //!
-//! Stands on `olk_build`, and gives out what is below. Tested by `olk_tests`; `olk_example` is a caller.
+//! Stands on `olk_keywords`, and gives out what is below. Tested by `olk_tests`; `olk_example` is a caller.
 #![tactic(auto)]
 
 mod numbers;
@@ -14,13 +14,14 @@ pub use olk_base::{
     NoRegexes, Node, PatternOptimization, PropertyName, PropertyPattern, RegexEngine, Unfinished,
     ValidationContext, analyze_pattern, compile_pattern, contains_ecma_whitespace,
 };
-pub use olk_build::{
-    Context, additional_properties, all_of, any_of, compile, dependencies, if_, not, one_of,
-    pattern_properties, properties, property_dependencies, property_names, required,
-};
+pub use olk_build::{Context, compile};
 pub use olk_check::{DEFERRED_MEMBERS, IsValid, are_properties_valid};
 pub use olk_errors::Errors;
 pub use olk_evaluate::{Evaluate, Located};
+pub use olk_keywords::{
+    additional_properties, all_of, any_of, dependencies, if_, not, one_of, pattern_properties,
+    properties, property_dependencies, property_names, required,
+};
 pub use olk_node::{
     AllOfValidator, AnyOfValidator, BigPropertiesValidator, BigValidatorsMap,
     DependenciesValidator, DependentRequiredValidator, DependentSchemasValidator, IfElseValidator,

@@ -1,7 +1,2 @@
 pub mod Built
 mod Parts
-mod Modules
-mod Patterns
-pub mod Together
-pub mod Conditions
-pub mod AdditionalProperties

@@ -24,13 +24,13 @@ use Rattle.olk_base.specs.Kit.{Kit}
 use Rattle.olk_members.specs.Dependencies.{schema_entries}
 use Rattle.olk_members.specs.Members.{member_malformations, member_cost}
 use Rattle.olk_read.specs.Refusing.{Spends, Refuses}
-use Rattle.olk_build.specs.Building.{RefusesMember, RefusesPart, each_malformed, each_cost, inner_malformed, inner_cost, all_cost}
+use Rattle.olk_build.specs.Building.{RefusesPart, each_malformed, each_cost, inner_malformed, inner_cost, all_cost}
 use Rattle.olk_read.specs.Reading.{reads_of, own_faults, own_cost_of, IsShape, Fits, IsRead}
 use Rattle.olk_members.specs.Conditions.{Known, known_of, is_conditional_name, is_read_beside, IsKnown}
 use Rattle.olk_members.specs.PatternProperties.{matchers_made, names_asked}
 use Rattle.olk_members.proofs.AdditionalPlaces.{additional_places}
 use Rattle.olk_spec.proofs.Named.{Named, named as is_named}
-use Rattle.olk_members.proofs.Conditions.{places_by_condition, known_alone}
+use Rattle.olk_members.proofs.Conditions.{places_by_condition}
 use Rattle.olk_members.proofs.PatternProperties.{pattern_properties_places, pattern_properties_known_cost}
 use Rattle.olk_members.proofs.Claims.{present_each}
 use Rattle.olk_build.specs.Placing.{places_malformed, places_cost, PlacesAreBuilt, PartsAreBuilt, IsPart}
@@ -188,10 +188,6 @@ module _ {K R : Type 0} (o : Kit K R) where
 
   pub refuses_part_memory : (c : Known) (k : Name) (d : Data) (L : Path) (a : Counts) (e : BuildError) (m : AllocError) → e ≡ Memory m → RefusesPart o c k d L a a e
   refuses_part_memory c k d L a e m q ms P p known = refuses_memory _ _ a a e m q (within_nothing a _)
-
-  -- of a keyword that is none of the three, in each object
-  pub refuses_member : (c : Known) (k : Name) (d : Data) (L : Path) (a b : Counts) (e : BuildError) → is_read_beside k ≡ false → RefusesPart o c k d L a b e → RefusesMember o k d L a b e
-  refuses_member c k d L a b e other h ms P p = h ms P p (known_alone c ms k other)
 
   module _ (x : Shape K R) (c : Known) (k : Name) (d : Data) (L : Path) (a m : Counts) (h : IsRead o x c k d L a m) where
     own_spent : (ms : Members) → IsKnown c ms k → Spends a m (owned ms d (keyword_named o.world k))

@@ -282,7 +282,7 @@ fn compile_branches<'a, L: MakeLeaf, M: MakeRegex>(
 /// # Errors
 ///
 /// One of the member's malformations; else want of memory.
-pub(crate) fn compile_member<'a, L: MakeLeaf, M: MakeRegex>(
+pub fn compile_member<'a, L: MakeLeaf, M: MakeRegex>(
     alloc: Global,
     ctx: &mut Context<'_, L, M>,
     parent: &Map<String, Value>,
@@ -317,7 +317,7 @@ pub(crate) fn compile_member<'a, L: MakeLeaf, M: MakeRegex>(
 /// # Errors
 ///
 /// One of these entries' malformations; else want of memory.
-pub(crate) fn compile_declared<'a, L: MakeLeaf, M: MakeRegex>(
+pub fn compile_declared<'a, L: MakeLeaf, M: MakeRegex>(
     alloc: Global,
     ctx: &mut Context<'_, L, M>,
     name: &str,

@@ -1,6 +1,7 @@
 //! Whether `properties` fuses the names that `required` lists.
 use olk_base::Meter;
-use olk_build::{Context, compile, properties, required};
+use olk_build::{Context, compile};
+use olk_keywords::{properties, required};
 use olk_low_tests::doubles::{EqualTo, Equality, NoText, NoTexts};
 use olk_node::{Keyword, SchemaNode};
 use olk_reports::BuildError;

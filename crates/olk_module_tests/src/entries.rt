@@ -1,7 +1,8 @@
 //! Maps and patterns that are compiled by themselves.
 use crate::lines::{PlainNode, PlainPattern, cells, push_nodes, push_patterns};
 use olk_base::Meter;
-use olk_build::{Context, pattern_properties, properties};
+use olk_build::Context;
+use olk_keywords::{pattern_properties, properties};
 use olk_low_tests::doubles::{Equality, NoTexts};
 use olk_reports::BuildError;
 use olk_tree::{BigMap, SmallMap, SortedNames};

@@ -1,8 +1,9 @@
 //! What the module of a keyword compiles of its member of an object.
 use crate::lines::{PlainNode, cells, push_node, push_nodes, push_pattern, push_patterns};
 use olk_base::Meter;
-use olk_build::{
-    Context, additional_properties, all_of, any_of, dependencies, if_, not, pattern_properties,
+use olk_build::Context;
+use olk_keywords::{
+    additional_properties, all_of, any_of, dependencies, if_, not, pattern_properties,
     property_dependencies, property_names,
 };
 use olk_low_tests::doubles::{EqualTo, Equality, NoText, NoTexts};

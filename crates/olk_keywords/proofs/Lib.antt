@@ -1,0 +1,5 @@
+mod Modules
+mod Patterns
+pub mod Together
+pub mod Conditions
+pub mod AdditionalProperties

@@ -1,0 +1,424 @@
+-- What a keyword's module builds of the keyword's part.
+use Rattle.std.specs.Prelude.{◌≡◌, ℕ, suc, ◌+◌, ◌&&◌, ◌||◌, Bool, true, false, cond, List, [], ◌∷◌, map, zip, length, codes, Option, Some, Vec, String}
+use Rattle.std.specs.List.{enumerate_from}
+use Rattle.std.specs.declared.alloc.Global.{Global}
+use Rattle.std.specs.declared.alloc.AllocError.{AllocError}
+use Rattle.std.proofs.Common.{refl, sym, ◌∙◌, ap, subst, arith}
+use Rattle.std.proofs.lemmas.List.{append-nil, length-map}
+use mathlib.Core.Bool.{true≢false}
+use mathlib.Core.Path.{subst₂}
+use Rattle.serde_json.specs.Data.{Data, Members, no_members}
+use Rattle.serde_json.specs.View.{view}
+use Rattle.serde_json.specs.declared.value.Value.{Value}
+use Rattle.olk_spec.specs.Names.{Name, Path, ◌//◌, lookup}
+use Rattle.olk_spec.specs.Vocabulary.{Keyword, properties, pattern_properties, additional_properties, required, dependent_required, dependent_schemas, dependencies, property_names, property_dependencies, all_of, any_of, one_of, not_keyword, if_keyword, then_keyword, else_keyword, leaf, unread, keyword_named}
+use Rattle.olk_spec.specs.Schemas.{listed, members, numbered}
+use Rattle.olk_spec.specs.Malformed.{has_repeat, items_of_array}
+use Rattle.olk_base.specs.Count.{Counts}
+use Rattle.olk_reports.specs.declared.error.BuildError.{BuildError}
+use Rattle.olk_reports.specs.declared.error.BuildError.TheVariants.{Memory}
+use Rattle.olk_base.specs.Kit.{Kit}
+use Rattle.olk_node.specs.declared.node.SchemaNode.{SchemaNode}
+use Rattle.olk_tree.specs.declared.node.KeywordOver.{KeywordOver}
+use Rattle.olk_tree.specs.declared.node.KeywordOver.TheVariants as keyword
+use Rattle.olk_members.specs.AdditionalProperties.{declared_beside}
+use Rattle.olk_members.specs.Conditions.{Known, known_of, is_conditional_name, is_read_beside, is_restricted, IsKnown}
+use Rattle.olk_tree.specs.Tables.{Table}
+use Rattle.olk_members.specs.Members.{member_malformations, member_cost}
+use Rattle.olk_members.proofs.Conditions.{known_alone}
+use Rattle.olk_base.specs.declared.pattern.CompiledPattern.{CompiledPattern}
+use Rattle.olk_read.specs.Patterns.{ArePatterns}
+use Rattle.olk_read.specs.Refusing.{Refuses}
+use Rattle.olk_members.specs.Plans.{Planned, plan_of, head, claims}
+use Rattle.olk_make.specs.Forms.{IsFormOfAllOf, IsFormOfAnyOf, IsFormOfOneOf, IsAllOf, IsAnyOf, IsOneOf, IsNot, IsRequired, IsProperties, IsPatternProperties, IsDependencies, IsPropertyDependencies}
+use Rattle.olk_make.specs.Holding.{StandEach, which}
+use Rattle.olk_build.specs.Building.{RefusesMember, RefusesPart, RefusesFreeMember}
+use Rattle.olk_read.specs.Reading.{reads_of, IsShape}
+use Rattle.olk_make.specs.Standing.{StandAt, is_taken, PartStands}
+use Rattle.olk_build.specs.Placing.{IsPart}
+use Rattle.olk_make.specs.Making.{KeywordsMean, MakesMember, MakesClaims}
+use Rattle.olk_keywords.specs.Parts.{MemberIsBuilt, ClaimsAreBuilt}
+use Rattle.olk_make.specs.declared.part.Part.{Part}
+use Rattle.olk_read.specs.declared.shape.Shape.{Shape}
+use Rattle.olk_read.specs.declared.shape.ReadPlaces.TheVariants.{Nothing, Itself}
+use Rattle.olk_read.specs.declared.shape.Shape.TheVariants as shape
+use Rattle.olk_spec.proofs.CostSums.{sum_last}
+use Rattle.olk_read.proofs.Spending.{spends_same, refuses_memory, within_exactly}
+use Rattle.olk_make.proofs.Makes.{makes_required}
+
+-- keywords that differ have other numbers
+abbrev pub number_of : Keyword → ℕ
+number_of properties = 0
+number_of pattern_properties = 1
+number_of required = 2
+number_of dependent_required = 3
+number_of dependent_schemas = 4
+number_of dependencies = 5
+number_of property_dependencies = 6
+number_of all_of = 7
+number_of any_of = 8
+number_of one_of = 9
+number_of not_keyword = 10
+number_of additional_properties = 11
+number_of w = 12
+
+-- ---- how many
+
+length-enumerated : {X : Type 0} (n : ℕ) (xs : List X) → length (enumerate_from n xs) ≡ length xs
+length-enumerated n [] = refl
+length-enumerated n (x ∷ xs) = ap (λ k. suc k) (length-enumerated (n + 1) xs)
+
+length-numbered : {X : Type 0} (xs : List X) → length (numbered xs) ≡ length xs
+length-numbered xs = length-map (enumerate_from 0 xs) _ ∙ length-enumerated 0 xs
+
+module _ {K R N : Type 0} (L : Path) (ns : List N) (d : Data) (e : length ns ≡ length (items_of_array d)) where
+  all_of_form : (k : KeywordOver K R N) → IsFormOfAllOf L ns k → IsAllOf L d k
+  all_of_form (keyword.AllOf k) f = ((λ q. f.1 (e ∙ q)), f.2)
+  all_of_form (keyword.SingleValueAllOf k) f = (sym e ∙ ap length f.0, f.1)
+  all_of_form k f = absurd f
+
+  any_of_form : (k : KeywordOver K R N) → IsFormOfAnyOf L ns k → IsAnyOf L d k
+  any_of_form (keyword.AnyOf k) f = ((λ q. f.1 (e ∙ q)), f.2)
+  any_of_form (keyword.SingleAnyOf k) f = (sym e ∙ ap length f.0, f.1)
+  any_of_form k f = absurd f
+
+  one_of_form : (k : KeywordOver K R N) → IsFormOfOneOf L ns k → IsOneOf L d k
+  one_of_form (keyword.OneOf k) f = ((λ q. f.1 (e ∙ q)), f.2)
+  one_of_form (keyword.SingleOneOf k) f = (sym e ∙ ap length f.0, f.1)
+  one_of_form k f = absurd f
+
+module _ {K R : Type 0} (o : Kit K R) where
+  stand_length : (ns : List (SchemaNode K R)) (es : List (Name × Data)) (P : Path) → StandEach o ns es P → length ns ≡ length es
+  stand_length [] [] P h = refl
+  stand_length [] (e ∷ es) P h = absurd h
+  stand_length (n ∷ ns) [] P h = absurd h
+  stand_length (n ∷ ns) (e ∷ es) P h = ap (λ k. suc k) (stand_length ns es P h.1)
+
+  -- ---- the shape, by the name
+
+  abbrev pub which_of : Shape K R → Keyword
+  which_of (shape.Properties n) = properties
+  which_of (shape.PatternProperties v t) = pattern_properties
+  which_of shape.AdditionalProperties = additional_properties
+  which_of shape.NoOthers = additional_properties
+  which_of shape.AnyOthers = additional_properties
+  which_of (shape.Required v) = required
+  which_of (shape.DependentRequired n v) = dependent_required
+  which_of (shape.DependentSchemas n) = dependent_schemas
+  which_of (shape.Dependencies n v) = dependencies
+  which_of (shape.PropertyDependencies n v) = property_dependencies
+  which_of shape.PropertyNames = property_names
+  which_of shape.NoNames = property_names
+  which_of shape.AnyNames = property_names
+  which_of shape.AllOf = all_of
+  which_of shape.AnyOf = any_of
+  which_of shape.OneOf = one_of
+  which_of (shape.Not v) = not_keyword
+  which_of shape.If = if_keyword
+  which_of shape.Then = then_keyword
+  which_of shape.Else = else_keyword
+  which_of shape.Unpaired = unread
+  which_of (shape.Leaf l) = leaf
+  which_of shape.Unread = unread
+
+  pub shape_named : (x : Shape K R) (k : Name) (d : Data) → IsShape o k d x → is_conditional_name k ≡ false → keyword_named o.world k ≡ which_of x
+  shape_named (shape.Properties n) k d s other = ap (keyword_named o.world) s.0
+  shape_named (shape.PatternProperties v t) k d s other = ap (keyword_named o.world) s.0
+  shape_named shape.AdditionalProperties k d s other = ap (keyword_named o.world) s.0
+  shape_named shape.NoOthers k d s other = ap (keyword_named o.world) s.0
+  shape_named shape.AnyOthers k d s other = ap (keyword_named o.world) s.0
+  shape_named (shape.Required v) k d s other = ap (keyword_named o.world) s.0
+  shape_named (shape.DependentRequired n v) k d s other = ap (keyword_named o.world) s.0
+  shape_named (shape.DependentSchemas n) k d s other = ap (keyword_named o.world) s.0
+  shape_named (shape.Dependencies n v) k d s other = ap (keyword_named o.world) s.0
+  shape_named (shape.PropertyDependencies n v) k d s other = ap (keyword_named o.world) s.0
+  shape_named shape.PropertyNames k d s other = ap (keyword_named o.world) s.0
+  shape_named shape.NoNames k d s other = ap (keyword_named o.world) s.0
+  shape_named shape.AnyNames k d s other = ap (keyword_named o.world) s.0
+  shape_named shape.AllOf k d s other = ap (keyword_named o.world) s.0
+  shape_named shape.AnyOf k d s other = ap (keyword_named o.world) s.0
+  shape_named shape.OneOf k d s other = ap (keyword_named o.world) s.0
+  shape_named (shape.Not v) k d s other = ap (keyword_named o.world) s.0
+  shape_named shape.If k d s other = ap (keyword_named o.world) s
+  shape_named shape.Then k d s other = ap (keyword_named o.world) s
+  shape_named shape.Else k d s other = ap (keyword_named o.world) s
+  shape_named shape.Unpaired k d s other = absurd (true≢false (sym s ∙ other))
+  shape_named (shape.Leaf l) k d s other = s.0
+  shape_named shape.Unread k d s other = s
+
+  only_all_of : (x : Shape K R) → all_of ≡ which_of x → x ≡ shape.AllOf
+  only_all_of shape.AllOf e = refl
+  only_all_of x e = absurd (let q = ap number_of e in omega (arith, q))
+
+  only_any_of : (x : Shape K R) → any_of ≡ which_of x → x ≡ shape.AnyOf
+  only_any_of shape.AnyOf e = refl
+  only_any_of x e = absurd (let q = ap number_of e in omega (arith, q))
+
+  only_one_of : (x : Shape K R) → one_of ≡ which_of x → x ≡ shape.OneOf
+  only_one_of shape.OneOf e = refl
+  only_one_of x e = absurd (let q = ap number_of e in omega (arith, q))
+
+  only_not : (x : Shape K R) → not_keyword ≡ which_of x → (v : Value) × (x ≡ shape.Not v)
+  only_not (shape.Not v) e = (v, refl)
+  only_not x e = absurd (let q = ap number_of e in omega (arith, q))
+
+  pub only_properties : (x : Shape K R) → properties ≡ which_of x → (n : List Name) × (x ≡ shape.Properties n)
+  only_properties (shape.Properties n) e = (n, refl)
+  only_properties x e = absurd (let q = ap number_of e in omega (arith, q))
+
+  pub only_pattern_properties : (x : Shape K R) → pattern_properties ≡ which_of x → (v : Vec (CompiledPattern R) Global) × (t : Table) × (x ≡ shape.PatternProperties v t)
+  only_pattern_properties (shape.PatternProperties v t) e = (v, t, refl)
+  only_pattern_properties x e = absurd (let q = ap number_of e in omega (arith, q))
+
+  only_required : (x : Shape K R) → required ≡ which_of x → (v : Vec (String Global) Global) × (x ≡ shape.Required v)
+  only_required (shape.Required v) e = (v, refl)
+  only_required x e = absurd (let q = ap number_of e in omega (arith, q))
+
+  only_dependent_required : (x : Shape K R) → dependent_required ≡ which_of x → (n : List Name) × (v : Vec (Vec (String Global) Global) Global) × (x ≡ shape.DependentRequired n v)
+  only_dependent_required (shape.DependentRequired n v) e = (n, v, refl)
+  only_dependent_required x e = absurd (let q = ap number_of e in omega (arith, q))
+
+  only_dependent_schemas : (x : Shape K R) → dependent_schemas ≡ which_of x → (n : List Name) × (x ≡ shape.DependentSchemas n)
+  only_dependent_schemas (shape.DependentSchemas n) e = (n, refl)
+  only_dependent_schemas x e = absurd (let q = ap number_of e in omega (arith, q))
+
+  only_dependencies : (x : Shape K R) → dependencies ≡ which_of x → (n : List Name) × (v : Vec (Option (Vec (String Global) Global)) Global) × (x ≡ shape.Dependencies n v)
+  only_dependencies (shape.Dependencies n v) e = (n, v, refl)
+  only_dependencies x e = absurd (let q = ap number_of e in omega (arith, q))
+
+  only_property_dependencies : (x : Shape K R) → property_dependencies ≡ which_of x → (n : List Name) × (v : Vec (List Name) Global) × (x ≡ shape.PropertyDependencies n v)
+  only_property_dependencies (shape.PropertyDependencies n v) e = (n, v, refl)
+  only_property_dependencies x e = absurd (let q = ap number_of e in omega (arith, q))
+
+  -- ---- a part at its name, below P
+
+  -- in an object of which it knows enough
+  module _ (p : Part K R (SchemaNode K R)) (c : Known) (k : Name) (d : Data) (P : Path) (a b : Counts) (h : IsPart o p c k d (P // k) a b) (ms : Members) (known : IsKnown c ms k) where
+    stands_there : PartStands o (known_of ms) p (k, d) P
+    stands_there = (h ms P refl known).stand.0
+
+    built_there : (ks : List (KeywordOver K R (SchemaNode K R))) → MakesMember o p.shape p.location p.nodes.items ks → (Q : Path) → P // k ≡ Q // k → MemberIsBuilt o ms ks (k, d) Q a b
+    built_there ks make Q e =
+        let built = h ms Q e known in
+        let s = built.stand.0 in
+        record {
+          means = make ms (k, d) Q s.place s.shape (subst (StandAt o (reads_of p.shape) p.nodes.items d) (sym s.place) s.nodes);
+          clean = sym (append-nil _) ∙ built.clean;
+          spends = spends_same a b _ _ (sum_last _) built.spends;
+        }
+
+    -- what is built is lost for want of memory
+    memory_there : (e : BuildError) (m : AllocError) → e ≡ Memory m → (Q : Path) → P // k ≡ Q // k → Refuses (member_malformations o.world ms (k, d) (which o ms (k, d)) Q) (member_cost o.world ms (k, d) (which o ms (k, d))) a b e
+    memory_there e m q Q f = refuses_memory _ _ a b e m q (within_exactly a b _ (spends_same a b _ _ (sum_last _) (h ms Q f known).spends))
+
+  -- in any object
+  module _ (p : Part K R (SchemaNode K R)) (c : Known) (k : Name) (d : Data) (P : Path) (a b : Counts) (h : IsPart o p c k d (P // k) a b) (other : is_read_beside k ≡ false) where
+    known : (ms : Members) → IsKnown c ms k
+    known ms = known_alone c ms k other
+
+    stands : PartStands o (known_of no_members) p (k, d) P
+    stands = stands_there p c k d P a b h no_members (known no_members)
+
+    member_built : (ks : List (KeywordOver K R (SchemaNode K R))) → MakesMember o p.shape p.location p.nodes.items ks → (ms : Members) (Q : Path) → P // k ≡ Q // k → MemberIsBuilt o ms ks (k, d) Q a b
+    member_built ks make ms Q e = built_there p c k d P a b h ms (known ms) ks make Q e
+
+    claims_built : (ks : List (KeywordOver K R (SchemaNode K R))) (q : Planned) → MakesClaims o p.shape p.location p.nodes.items P q ks → (ms : Members) → has_repeat (map (λ m. m.0) (listed ms)) ≡ false → q ≡ plan_of ms → is_taken q k ≡ false → lookup k (listed ms) ≡ Some d → ClaimsAreBuilt o ms ks (k, d) P a b
+    claims_built ks q make ms distinct chosen untaken there =
+        let built = h ms P refl (known ms) in
+        let s = built.stand.0 in
+        record {
+          means = subst (λ r. KeywordsMean o ms ks (claims (head r) (listed ms) (k, d)) ((k, d) ∷ []) P) chosen (make ms (k, d) s.place s.shape (subst (StandAt o (reads_of p.shape) p.nodes.items d) (sym s.place) s.nodes) distinct there chosen untaken);
+          clean = sym (append-nil _) ∙ built.clean;
+          spends = spends_same a b _ _ (sum_last _) built.spends;
+        }
+
+    -- the shape that the part has
+    module _ (x : Shape K R) (q : p.shape ≡ x) where
+      pub shape_is : IsShape o k d x
+      shape_is = subst (IsShape o k d) q stands.shape
+
+      pub built_of_shape : (ks : List (KeywordOver K R (SchemaNode K R))) → MakesMember o x p.location p.nodes.items ks → (ms : Members) (Q : Path) → P // k ≡ Q // k → MemberIsBuilt o ms ks (k, d) Q a b
+      built_of_shape ks make = member_built ks (subst (λ y. MakesMember o y p.location p.nodes.items ks) (sym q) make)
+
+      pub built_without_nodes : reads_of x ≡ Nothing → (ks : List (KeywordOver K R (SchemaNode K R))) → MakesMember o x p.location [] ks → (ms : Members) (Q : Path) → P // k ≡ Q // k → MemberIsBuilt o ms ks (k, d) Q a b
+      built_without_nodes r ks make = built_of_shape ks (subst (λ ns. MakesMember o x p.location ns ks) (sym none) make)
+        where
+          none : p.nodes.items ≡ []
+          none = subst (λ y. StandAt o y p.nodes.items d (P // k)) (ap reads_of q ∙ r) stands.nodes
+
+    -- what is built is lost for want of memory
+    pub memory_after : (e : BuildError) (m : AllocError) → e ≡ Memory m → RefusesMember o k d (P // k) a b e
+    memory_after e m q ms Q f = memory_there p c k d P a b h ms (known ms) e m q Q f
+
+  -- ---- keyword by keyword
+
+  module _ (p : Part K R (SchemaNode K R)) (c : Known) (d : Data) (P : Path) (a b : Counts) where
+    module _ (h : IsPart o p c (codes "allOf") d (P // codes "allOf") a b) where
+      all_of_shape : p.shape ≡ shape.AllOf
+      all_of_shape = only_all_of p.shape (shape_named p.shape (codes "allOf") d (stands p c (codes "allOf") d P a b h refl).shape refl)
+
+      pub all_of_built : (ks : List (KeywordOver K R (SchemaNode K R))) → MakesMember o shape.AllOf p.location p.nodes.items ks → (ms : Members) (Q : Path) → P // codes "allOf" ≡ Q // codes "allOf" → MemberIsBuilt o ms ks (codes "allOf", d) Q a b
+      all_of_built ks make = member_built p c (codes "allOf") d P a b h refl ks (subst (λ x. MakesMember o x p.location p.nodes.items ks) (sym all_of_shape) make)
+
+      pub all_of_is_formed : (k : KeywordOver K R (SchemaNode K R)) → IsFormOfAllOf p.location p.nodes.items k → IsAllOf (P // codes "allOf") d k
+      all_of_is_formed k f =
+          let s = stands p c (codes "allOf") d P a b h refl in
+          subst (λ L. IsAllOf L d k) s.place (all_of_form p.location p.nodes.items d
+          (stand_length p.nodes.items (numbered (items_of_array d)) (P // codes "allOf") (subst (λ x. StandAt o (reads_of x) p.nodes.items d (P // codes "allOf")) all_of_shape s.nodes) ∙ length-numbered (items_of_array d)) k f)
+
+    module _ (h : IsPart o p c (codes "anyOf") d (P // codes "anyOf") a b) where
+      any_of_shape : p.shape ≡ shape.AnyOf
+      any_of_shape = only_any_of p.shape (shape_named p.shape (codes "anyOf") d (stands p c (codes "anyOf") d P a b h refl).shape refl)
+
+      pub any_of_built : (ks : List (KeywordOver K R (SchemaNode K R))) → MakesMember o shape.AnyOf p.location p.nodes.items ks → (ms : Members) (Q : Path) → P // codes "anyOf" ≡ Q // codes "anyOf" → MemberIsBuilt o ms ks (codes "anyOf", d) Q a b
+      any_of_built ks make = member_built p c (codes "anyOf") d P a b h refl ks (subst (λ x. MakesMember o x p.location p.nodes.items ks) (sym any_of_shape) make)
+
+      pub any_of_is_formed : (k : KeywordOver K R (SchemaNode K R)) → IsFormOfAnyOf p.location p.nodes.items k → IsAnyOf (P // codes "anyOf") d k
+      any_of_is_formed k f =
+          let s = stands p c (codes "anyOf") d P a b h refl in
+          subst (λ L. IsAnyOf L d k) s.place (any_of_form p.location p.nodes.items d
+          (stand_length p.nodes.items (numbered (items_of_array d)) (P // codes "anyOf") (subst (λ x. StandAt o (reads_of x) p.nodes.items d (P // codes "anyOf")) any_of_shape s.nodes) ∙ length-numbered (items_of_array d)) k f)
+
+    module _ (h : IsPart o p c (codes "oneOf") d (P // codes "oneOf") a b) where
+      one_of_shape : p.shape ≡ shape.OneOf
+      one_of_shape = only_one_of p.shape (shape_named p.shape (codes "oneOf") d (stands p c (codes "oneOf") d P a b h refl).shape refl)
+
+      pub one_of_built : (ks : List (KeywordOver K R (SchemaNode K R))) → MakesMember o shape.OneOf p.location p.nodes.items ks → (ms : Members) (Q : Path) → P // codes "oneOf" ≡ Q // codes "oneOf" → MemberIsBuilt o ms ks (codes "oneOf", d) Q a b
+      one_of_built ks make = member_built p c (codes "oneOf") d P a b h refl ks (subst (λ x. MakesMember o x p.location p.nodes.items ks) (sym one_of_shape) make)
+
+      pub one_of_is_formed : (k : KeywordOver K R (SchemaNode K R)) → IsFormOfOneOf p.location p.nodes.items k → IsOneOf (P // codes "oneOf") d k
+      one_of_is_formed k f =
+          let s = stands p c (codes "oneOf") d P a b h refl in
+          subst (λ L. IsOneOf L d k) s.place (one_of_form p.location p.nodes.items d
+          (stand_length p.nodes.items (numbered (items_of_array d)) (P // codes "oneOf") (subst (λ x. StandAt o (reads_of x) p.nodes.items d (P // codes "oneOf")) one_of_shape s.nodes) ∙ length-numbered (items_of_array d)) k f)
+
+    module _ (h : IsPart o p c (codes "not") d (P // codes "not") a b) where
+      not_shape : (v : Value) × (p.shape ≡ shape.Not v)
+      not_shape = only_not p.shape (shape_named p.shape (codes "not") d (stands p c (codes "not") d P a b h refl).shape refl)
+
+      pub no_other_not : ((v : Value) → p.shape ≡ shape.Not v → ⊥) → ⊥
+      no_other_not f = f not_shape.0 not_shape.1
+
+      module _ (v : Value) (q : p.shape ≡ shape.Not v) where
+        pub not_without_node : p.nodes.items ≡ [] → ⊥
+        not_without_node e = subst (λ ns. StandAt o Itself ns d (P // codes "not")) e (subst (λ x. StandAt o (reads_of x) p.nodes.items d (P // codes "not")) q (stands p c (codes "not") d P a b h refl).nodes)
+
+        pub not_built : (ks : List (KeywordOver K R (SchemaNode K R))) → MakesMember o (shape.Not v) p.location p.nodes.items ks → (ms : Members) (Q : Path) → P // codes "not" ≡ Q // codes "not" → MemberIsBuilt o ms ks (codes "not", d) Q a b
+        not_built ks make = member_built p c (codes "not") d P a b h refl ks (subst (λ x. MakesMember o x p.location p.nodes.items ks) (sym q) make)
+
+        pub not_is_formed : (k : KeywordOver K R (SchemaNode K R)) → IsNot p.location (view v) k → IsNot (P // codes "not") d k
+        not_is_formed k f =
+            let s = stands p c (codes "not") d P a b h refl in
+            subst₂ (λ L x. IsNot L x k) s.place (subst (IsShape o (codes "not") d) q s.shape).1 f
+
+    module _ (h : IsPart o p c (codes "required") d (P // codes "required") a b) where
+      required_shape : (v : Vec (String Global) Global) × (p.shape ≡ shape.Required v)
+      required_shape = only_required p.shape (shape_named p.shape (codes "required") d (stands p c (codes "required") d P a b h refl).shape refl)
+
+      pub no_other_required : ((v : Vec (String Global) Global) → p.shape ≡ shape.Required v → ⊥) → ⊥
+      no_other_required f = f required_shape.0 required_shape.1
+
+      module _ (v : Vec (String Global) Global) (q : p.shape ≡ shape.Required v) where
+        abbrev required_keyword : KeywordOver K R (SchemaNode K R)
+        required_keyword = keyword.Required (record { required = v; location = p.location })
+
+        pub required_built : (ms : Members) (Q : Path) → P // codes "required" ≡ Q // codes "required" → MemberIsBuilt o ms (required_keyword ∷ []) (codes "required", d) Q a b
+        required_built = member_built p c (codes "required") d P a b h refl (required_keyword ∷ []) (subst (λ x. MakesMember o x p.location p.nodes.items (required_keyword ∷ [])) (sym q) (makes_required o v p.location p.nodes.items))
+
+        pub required_is_formed : IsRequired (P // codes "required") d required_keyword
+        required_is_formed = let s = stands p c (codes "required") d P a b h refl in ((subst (IsShape o (codes "required") d) q s.shape).2, s.place)
+
+    module _ (h : IsPart o p c (codes "properties") d (P // codes "properties") a b) where
+      properties_shape : (n : List Name) × (p.shape ≡ shape.Properties n)
+      properties_shape = only_properties p.shape (shape_named p.shape (codes "properties") d (stands p c (codes "properties") d P a b h refl).shape refl)
+
+      pub no_other_properties : ((n : List Name) → p.shape ≡ shape.Properties n → ⊥) → ⊥
+      no_other_properties f = f properties_shape.0 properties_shape.1
+
+      pub properties_memory : (e : BuildError) (m : AllocError) → e ≡ Memory m → RefusesMember o (codes "properties") d (P // codes "properties") a b e
+      properties_memory = memory_after p c (codes "properties") d P a b h refl
+
+      module _ (n : List Name) (q : p.shape ≡ shape.Properties n) (ms : Members) (r : Planned) (chosen : r ≡ plan_of ms) (free : r.restricted ≡ false) where
+        untaken : is_taken r (codes "properties") ≡ false
+        untaken = (λ i. (free i && true) || (r.condition && false)) ∙ never r.condition
+          where
+            never : (b : Bool) → (b && false) ≡ false
+            never true = refl
+            never false = refl
+
+        pub properties_built : (ks : List (KeywordOver K R (SchemaNode K R))) → MakesClaims o (shape.Properties n) p.location p.nodes.items P r ks → has_repeat (map (λ m. m.0) (listed ms)) ≡ false → lookup (codes "properties") (listed ms) ≡ Some d → ClaimsAreBuilt o ms ks (codes "properties", d) P a b
+        properties_built ks make distinct there = claims_built p c (codes "properties") d P a b h refl ks r (subst (λ x. MakesClaims o x p.location p.nodes.items P r ks) (sym q) make) ms distinct chosen untaken there
+
+        properties_counted : length n ≡ length (members d)
+        properties_counted = ap length (shape_is p c (codes "properties") d P a b h refl _ q).2 ∙ length-map (members d) (λ e. e.0)
+
+        pub properties_is_formed : (k : KeywordOver K R (SchemaNode K R)) → IsProperties P p.location (length n) r.fused k → IsProperties P (P // codes "properties") (length (members d)) (plan_of ms).fused k
+        properties_is_formed k = subst (λ T. T) (λ i. IsProperties P ((stands p c (codes "properties") d P a b h refl).place i) (properties_counted i) ((chosen i).fused) k)
+
+    module _ (h : IsPart o p c (codes "dependentRequired") d (P // codes "dependentRequired") a b) where
+      pub no_other_dependent_required : ((n : List Name) (v : Vec (Vec (String Global) Global) Global) → p.shape ≡ shape.DependentRequired n v → ⊥) → ⊥
+      no_other_dependent_required f = let r = only_dependent_required p.shape (shape_named p.shape (codes "dependentRequired") d (stands p c (codes "dependentRequired") d P a b h refl).shape refl) in f r.0 r.1 r.2
+
+      pub dependent_required_is_formed : (n : List Name) (v : Vec (Vec (String Global) Global) Global) → p.shape ≡ shape.DependentRequired n v → (k : KeywordOver K R (SchemaNode K R)) → IsDependencies p.location n k → IsDependencies (P // codes "dependentRequired") (map (λ e. e.0) (members d)) k
+      dependent_required_is_formed n v q k f = subst₂ (λ L ns. IsDependencies L ns k) (stands p c (codes "dependentRequired") d P a b h refl).place (shape_is p c (codes "dependentRequired") d P a b h refl _ q).2 f
+
+    module _ (h : IsPart o p c (codes "dependentSchemas") d (P // codes "dependentSchemas") a b) where
+      pub no_other_dependent_schemas : ((n : List Name) → p.shape ≡ shape.DependentSchemas n → ⊥) → ⊥
+      no_other_dependent_schemas f = let r = only_dependent_schemas p.shape (shape_named p.shape (codes "dependentSchemas") d (stands p c (codes "dependentSchemas") d P a b h refl).shape refl) in f r.0 r.1
+
+      pub dependent_schemas_is_formed : (n : List Name) → p.shape ≡ shape.DependentSchemas n → (k : KeywordOver K R (SchemaNode K R)) → IsDependencies p.location n k → IsDependencies (P // codes "dependentSchemas") (map (λ e. e.0) (members d)) k
+      dependent_schemas_is_formed n q k f = subst₂ (λ L ns. IsDependencies L ns k) (stands p c (codes "dependentSchemas") d P a b h refl).place (shape_is p c (codes "dependentSchemas") d P a b h refl _ q).2 f
+
+    module _ (h : IsPart o p c (codes "dependencies") d (P // codes "dependencies") a b) where
+      pub no_other_dependencies : ((n : List Name) (v : Vec (Option (Vec (String Global) Global)) Global) → p.shape ≡ shape.Dependencies n v → ⊥) → ⊥
+      no_other_dependencies f = let r = only_dependencies p.shape (shape_named p.shape (codes "dependencies") d (stands p c (codes "dependencies") d P a b h refl).shape refl) in f r.0 r.1 r.2
+
+      pub dependencies_is_formed : (n : List Name) (v : Vec (Option (Vec (String Global) Global)) Global) → p.shape ≡ shape.Dependencies n v → (k : KeywordOver K R (SchemaNode K R)) → IsDependencies p.location n k → IsDependencies (P // codes "dependencies") (map (λ e. e.0) (members d)) k
+      dependencies_is_formed n v q k f = subst₂ (λ L ns. IsDependencies L ns k) (stands p c (codes "dependencies") d P a b h refl).place (shape_is p c (codes "dependencies") d P a b h refl _ q).2 f
+
+    module _ (h : IsPart o p c (codes "propertyDependencies") d (P // codes "propertyDependencies") a b) where
+      pub no_other_property_dependencies : ((n : List Name) (v : Vec (List Name) Global) → p.shape ≡ shape.PropertyDependencies n v → ⊥) → ⊥
+      no_other_property_dependencies f = let r = only_property_dependencies p.shape (shape_named p.shape (codes "propertyDependencies") d (stands p c (codes "propertyDependencies") d P a b h refl).shape refl) in f r.0 r.1 r.2
+
+      pub property_dependencies_is_formed : (n : List Name) (v : Vec (List Name) Global) → p.shape ≡ shape.PropertyDependencies n v → (k : KeywordOver K R (SchemaNode K R)) → IsPropertyDependencies p.location n v.items k → IsPropertyDependencies (P // codes "propertyDependencies") (map (λ e. e.0) (members d)) (map (λ e. map (λ c. c.0) (members e.1)) (members d)) k
+      property_dependencies_is_formed n v q k f = let s = shape_is p c (codes "propertyDependencies") d P a b h refl _ q in subst (λ L. IsPropertyDependencies L (map (λ e. e.0) (members d)) (map (λ e. map (λ c. c.0) (members e.1)) (members d)) k) (stands p c (codes "propertyDependencies") d P a b h refl).place (subst₂ (λ ns ts. IsPropertyDependencies p.location ns ts k) s.2 s.3 f)
+
+  -- ---- patterns, where nothing is restricted
+
+  pub zip_length : (ps : List (CompiledPattern R)) (ns : List (SchemaNode K R)) (es : List (Name × Data)) (L : Path) → ArePatterns o ps es → StandEach o ns es L → length (zip ps ns) ≡ length es
+  zip_length [] ns [] L h s = refl
+  zip_length [] ns (e ∷ es) L h s = absurd h
+  zip_length (p ∷ ps) ns [] L h s = absurd h
+  zip_length (p ∷ ps) [] (e ∷ es) L h s = absurd s
+  zip_length (p ∷ ps) (n ∷ ns) (e ∷ es) L h s = ap (λ k. suc k) (zip_length ps ns es L h.1 s.1)
+
+  patterns_known : (c : Known) (ms : Members) → c.declared ≡ [] → is_restricted ms ≡ false → IsKnown c ms (codes "patternProperties")
+  patterns_known c ms none free = ((λ e. absurd (true≢false (sym e))), λ e. none ∙ sym (ap (λ b. cond b (declared_beside ms) []) free))
+
+  pub none_known : (ms : Members) → is_restricted ms ≡ false → (known_of ms).declared ≡ []
+  none_known ms free = ap (λ b. cond b (declared_beside ms) []) free
+
+  module _ (p : Part K R (SchemaNode K R)) (c : Known) (none : c.declared ≡ []) (d : Data) (P : Path) (a b : Counts) (h : IsPart o p c (codes "patternProperties") d (P // codes "patternProperties") a b) where
+    alone_stands : PartStands o (known_of no_members) p (codes "patternProperties", d) P
+    alone_stands = stands_there p c (codes "patternProperties") d P a b h no_members (patterns_known c no_members none refl)
+
+    pub no_other_pattern_properties : ((v : Vec (CompiledPattern R) Global) (t : Table) → p.shape ≡ shape.PatternProperties v t → ⊥) → ⊥
+    no_other_pattern_properties f = let r = only_pattern_properties p.shape (shape_named p.shape (codes "patternProperties") d alone_stands.shape refl) in f r.0 r.1 r.2
+
+    pub pattern_properties_memory : (e : BuildError) (m : AllocError) → e ≡ Memory m → RefusesFreeMember o (codes "patternProperties") d (P // codes "patternProperties") a b e
+    pattern_properties_memory e m q ms Q f free = memory_there p c (codes "patternProperties") d P a b h ms (patterns_known c ms none free) e m q Q f
+
+    module _ (v : Vec (CompiledPattern R) Global) (t : Table) (q : p.shape ≡ shape.PatternProperties v t) where
+      pub pattern_properties_built : (ks : List (KeywordOver K R (SchemaNode K R))) → MakesMember o (shape.PatternProperties v t) p.location p.nodes.items ks → (ms : Members) (Q : Path) → P // codes "patternProperties" ≡ Q // codes "patternProperties" → is_restricted ms ≡ false → MemberIsBuilt o ms ks (codes "patternProperties", d) Q a b
+      pattern_properties_built ks make ms Q e free = built_there p c (codes "patternProperties") d P a b h ms (patterns_known c ms none free) ks (subst (λ x. MakesMember o x p.location p.nodes.items ks) (sym q) make) Q e
+
+      pub pattern_properties_is_formed : (k : KeywordOver K R (SchemaNode K R)) → IsPatternProperties p.location (length (zip v.items p.nodes.items)) k → IsPatternProperties (P // codes "patternProperties") (length (members d)) k
+      pattern_properties_is_formed k f = subst₂ (λ L n. IsPatternProperties L n k) alone_stands.place
+          (zip_length v.items p.nodes.items (members d) (P // codes "patternProperties") (subst (IsShape o (codes "patternProperties") d) q alone_stands.shape).2 (subst (λ x. StandAt o (reads_of x) p.nodes.items d (P // codes "patternProperties")) q alone_stands.nodes)) f
+
+  pub refuses_free_member : (c : Known) → c.declared ≡ [] → (d : Data) (P : Path) (a b : Counts) (e : BuildError) → RefusesPart o c (codes "patternProperties") d (P // codes "patternProperties") a b e → RefusesFreeMember o (codes "patternProperties") d (P // codes "patternProperties") a b e
+  refuses_free_member c none d P a b e r ms Q f free = r ms Q f (patterns_known c ms none free)
+
+  -- of a keyword that is read alike beside all neighbours, in each object
+  pub refuses_member : (c : Known) (k : Name) (d : Data) (L : Path) (a b : Counts) (e : BuildError) → is_read_beside k ≡ false → RefusesPart o c k d L a b e → RefusesMember o k d L a b e
+  refuses_member c k d L a b e other h ms P p = h ms P p (known_alone c ms k other)

@@ -1,0 +1,111 @@
+-- Building a member together with two neighbours that its validator takes over.
+use Rattle.std.specs.Prelude.{◌≡◌, List, [], ◌∷◌, ◌++◌, map, Some, None, option_to_list, Result, IfOk, IfErr}
+use Rattle.std.specs.Result.{IsErrAnd}
+use Rattle.std.proofs.lemmas.Result.{err_from_is_err_and}
+use Rattle.std.proofs.lemmas.List.{append-nil}
+use Rattle.std.specs.List.{flat_map}
+use Rattle.std.specs.declared.alloc.AllocError.{AllocError}
+use Rattle.std.proofs.Common.{refl, sym, ◌∙◌, ap, subst}
+use Rattle.std.proofs.lemmas.Grind.{flat_map-append}
+use Rattle.serde_json.specs.Data.{Data, Members}
+use Rattle.olk_spec.specs.Names.{Name, Path, ◌//◌, lookup}
+use Rattle.olk_spec.specs.Faults.{Fault}
+use Rattle.olk_spec.specs.Schemas.{listed}
+use Rattle.olk_spec.specs.Costs.{Cost, total_cost}
+use Rattle.olk_spec.proofs.CostSums.{total_cost-append}
+use Rattle.olk_base.specs.Count.{Counts}
+use Rattle.olk_base.specs.Kit.{Kit}
+use Rattle.olk_reports.specs.declared.error.BuildError.{BuildError}
+use Rattle.olk_reports.specs.declared.error.BuildError.TheVariants.{Memory}
+use Rattle.olk_node.specs.declared.node.SchemaNode.{SchemaNode}
+use Rattle.olk_members.specs.Conditions.{Known, IsKnown}
+use Rattle.olk_members.specs.Members.{member_malformations, member_cost}
+use Rattle.olk_read.specs.Refusing.{Spends, Refuses}
+use Rattle.olk_read.proofs.Spending.{spends_nothing, spends_append, spends_same, within_after, within_before, within_same, within_exactly, refuses_among, refuses_memory, tells_left, tells_right, tells_same}
+use Rattle.olk_make.specs.Holding.{which, all_malformed}
+use Rattle.olk_make.specs.Standing.{Fills}
+use Rattle.olk_make.specs.declared.part.Part.{Part}
+use Rattle.olk_build.specs.Building.{RefusesPart, all_cost}
+use Rattle.olk_build.specs.Placing.{PartsAreBuilt}
+use Rattle.olk_keywords.specs.Together.{member_at, NeighbourIsBuilt}
+
+-- ---- lists of members, one after the other
+
+module _ {X : Type 0} (f : X → List Fault) (c : X → Cost) (xs ys : List X) (a m b : Counts) (e : BuildError) where
+  refuses_first : Refuses (flat_map f xs) (total_cost c xs) a b e → Refuses (flat_map f (xs ++ ys)) (total_cost c (xs ++ ys)) a b e
+  refuses_first h = record {
+    tells = tells_same (sym (flat_map-append f xs ys)) e (tells_left (flat_map f xs) (flat_map f ys) e h.tells);
+    spends = within_same a b _ _ (sym (total_cost-append c xs ys)) (within_before a b (total_cost c xs) (total_cost c ys) h.spends);
+  }
+
+  refuses_later : Spends a m (total_cost c xs) → Refuses (flat_map f ys) (total_cost c ys) m b e → Refuses (flat_map f (xs ++ ys)) (total_cost c (xs ++ ys)) a b e
+  refuses_later s h = record {
+    tells = tells_same (sym (flat_map-append f xs ys)) e (tells_right (flat_map f xs) (flat_map f ys) e h.tells);
+    spends = within_same a b _ _ (sym (total_cost-append c xs ys)) (within_after a m b (total_cost c xs) (total_cost c ys) s h.spends);
+  }
+
+-- a result that leaves by a `?` is an error
+pub left_by : {T : Type 0} (A : T → Type 0) (G : BuildError → Type 0) (r : Result T BuildError) (Q : BuildError → Type 0) → IsErrAnd r Q → ((e : BuildError) → Q e → G e) → IfOk r A × IfErr r G
+left_by A G r Q h k = let p = err_from_is_err_and r h in subst (λ z. IfOk z A × IfErr z G) (sym p.1) (tt, k p.0 p.2)
+
+module _ {K R : Type 0} (o : Kit K R) (ms : Members) (P : Path) where
+  abbrev malformed_of : Name × Data → List Fault
+  malformed_of m = member_malformations o.world ms m (which o ms m) P
+
+  abbrev cost_of : Name × Data → Cost
+  cost_of m = member_cost o.world ms m (which o ms m)
+
+  abbrev pub RefusesAll : List (Name × Data) → Counts → Counts → BuildError → Type 0
+  RefusesAll es a b e = Refuses (all_malformed o ms P es) (all_cost o ms es) a b e
+
+  -- ---- one neighbour
+
+  module _ {X : Type 0} (Stands : X → Data → Type 0) (k : Name) where
+    pub no_neighbour : (a : Counts) → lookup k (listed ms) ≡ None → NeighbourIsBuilt o ms Stands None k P a a
+    no_neighbour a e = record {
+      stands = subst (Fills Stands None) (sym e) tt;
+      clean = ap (λ x. all_malformed o ms P (map (λ d. (k, d)) (option_to_list x))) e;
+      spends = subst (λ x. Spends a a (all_cost o ms (map (λ d. (k, d)) (option_to_list x)))) (sym e) (spends_nothing a);
+    }
+
+    pub neighbour_built : (x : X) (d : Data) (p : Part K R (SchemaNode K R)) (a b : Counts) → lookup k (listed ms) ≡ Some d → PartsAreBuilt o ms (p ∷ []) ((k, d) ∷ []) P a b → Stands x d → NeighbourIsBuilt o ms Stands (Some x) k P a b
+    neighbour_built x d p a b e built h = record {
+      stands = subst (Fills Stands (Some x)) (sym e) h;
+      clean = ap (λ y. all_malformed o ms P (map (λ d. (k, d)) (option_to_list y))) e ∙ built.clean;
+      spends = subst (λ y. Spends a b (all_cost o ms (map (λ d. (k, d)) (option_to_list y)))) (sym e) built.spends;
+    }
+
+  pub neighbour_refused : (c : Known) (k : Name) (d : Data) (a b : Counts) (e : BuildError) → IsKnown c ms k → lookup k (listed ms) ≡ Some d → RefusesPart o c k d (P // k) a b e → RefusesAll (member_at k ms) a b e
+  neighbour_refused c k d a b e known there h = refuses_among malformed_of cost_of (member_at k ms) a b [] (k, d) [] a e (ap (λ x. map (λ d. (k, d)) (option_to_list x)) (sym there)) (spends_nothing a) (h ms P refl known)
+
+  -- ---- all three
+
+  module _ (k x y : Name) (d : Data) where
+    abbrev both : List (Name × Data)
+    both = member_at x ms ++ member_at y ms
+
+    abbrev three : List (Name × Data)
+    three = (k, d) ∷ both
+
+    pub first_refused : (c : Known) (a b : Counts) (e : BuildError) → IsKnown c ms k → RefusesPart o c k d (P // k) a b e → RefusesAll three a b e
+    first_refused c a b e known h = refuses_among malformed_of cost_of three a b [] (k, d) both a e refl (spends_nothing a) (h ms P refl known)
+
+    module _ (a m : Counts) (first : Spends a m (all_cost o ms ((k, d) ∷ []))) where
+      pub second_refused : (b : Counts) (e : BuildError) → RefusesAll (member_at x ms) m b e → RefusesAll three a b e
+      second_refused b e h = refuses_later malformed_of cost_of ((k, d) ∷ []) both a m b e first (refuses_first malformed_of cost_of (member_at x ms) (member_at y ms) m m b e h)
+
+      module _ (n : Counts) (second : Spends m n (all_cost o ms (member_at x ms))) where
+        pub third_refused : (b : Counts) (e : BuildError) → RefusesAll (member_at y ms) n b e → RefusesAll three a b e
+        third_refused b e h = refuses_later malformed_of cost_of ((k, d) ∷ []) both a m b e first (refuses_later malformed_of cost_of (member_at x ms) (member_at y ms) m n b e second h)
+
+        module _ (b : Counts) (third : Spends n b (all_cost o ms (member_at y ms))) where
+          pub all_spent : Spends a b (all_cost o ms three)
+          all_spent = spends_same a b _ _ (sym (total_cost-append cost_of ((k, d) ∷ []) both)) (spends_append a m b _ _ first
+              (spends_same m b _ _ (sym (total_cost-append cost_of (member_at x ms) (member_at y ms))) (spends_append m n b _ _ second third)))
+
+          -- what is built is lost for want of memory
+          pub memory_lost : (e : BuildError) (w : AllocError) → e ≡ Memory w → RefusesAll three a b e
+          memory_lost e w q = refuses_memory _ _ a b e w q (within_exactly a b _ all_spent)
+
+    pub all_clean : all_malformed o ms P ((k, d) ∷ []) ≡ [] → all_malformed o ms P (member_at x ms) ≡ [] → all_malformed o ms P (member_at y ms) ≡ [] → all_malformed o ms P three ≡ []
+    all_clean f g h = λ i. (sym (append-nil _) ∙ f) i ++ (flat_map-append malformed_of (member_at x ms) (member_at y ms) ∙ (λ j. g j ++ h j)) i

@@ -1,0 +1,4 @@
+pub mod Parts
+pub mod Together
+pub mod Conditions
+pub mod AdditionalProperties

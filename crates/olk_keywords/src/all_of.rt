@@ -1,0 +1,43 @@
+//! `allOf`.
+ghost use Rattle.std.specs.Prelude.{◌≡◌, codes};
+ghost use Rattle.serde_json.specs.View.{view};
+ghost use Rattle.olk_reports.specs.Paths.{one_below};
+ghost use Rattle.olk_base.specs.Kit.{kit};
+ghost use Rattle.olk_make.specs.Forms.{IsAllOf};
+ghost use Rattle.olk_keywords.specs.Parts.{GivesMember, Gives};
+
+use olk_base::{Leaf, MakeLeaf, MakeRegex, RegexEngine};
+use olk_build::{Context, compile_member};
+use olk_make::all_of::make;
+use olk_node::Keyword;
+use olk_reports::BuildError;
+use serde_json::{Map, Value};
+use std::alloc::Global;
+
+/// The keyword of `allOf` in the object at the context's place (JSON Schema 2020-12 Core, 10.2.1.1): of one branch the
+/// single form, else the other.
+///
+/// The meter rises by the cost of the keyword, or by a part of it where nothing is built; the context's place is left as
+/// it was.
+///
+/// # Errors
+///
+/// One of the malformations of the keyword; else want of memory. There always is an answer.
+pub fn compile<'a, L: MakeLeaf, M: MakeRegex>(
+    alloc: Global,
+    ctx: &mut Context<'_, L, M>,
+    parent: &'a Map<String, Value>,
+    schema: &'a Value,
+) -> Option<Result<Keyword<L::Leaf, M::Engine>, BuildError<'a>>>
+    ensures gives { GivesMember (kit L.Leaf.Leaf M.Engine.RegexEngine) (codes "allOf")
+        (view schema.now) ctx.old.place ctx.old.meter.now ctx.new.meter.now result }
+    ensures form { Gives result (IsAllOf (one_below ctx.old.place (codes "allOf"))
+        (view schema.now)) }
+    ensures place { ctx.new.place ≡ ctx.old.place }
+    ensures same_meter { ctx.new.meter.ghost_name ≡ ctx.old.meter.ghost_name }
+{
+    match compile_member(alloc, ctx, parent, "allOf", schema) {
+        Ok(part) => Some(Ok(make(part.location, part.nodes))),
+        Err(error) => Some(Err(error)),
+    }
+}

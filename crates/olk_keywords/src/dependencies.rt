@@ -1,0 +1,136 @@
+//! `dependencies`, `dependentRequired` and `dependentSchemas`.
+ghost use Rattle.std.specs.Prelude.{◌≡◌, map, codes};
+ghost use Rattle.serde_json.specs.View.{view};
+ghost use Rattle.olk_spec.specs.Schemas.{members};
+ghost use Rattle.olk_reports.specs.Paths.{one_below};
+ghost use Rattle.olk_base.specs.Kit.{kit};
+ghost use Rattle.olk_make.specs.Forms.{IsDependencies};
+ghost use Rattle.olk_keywords.specs.Parts.{GivesMember, Gives};
+
+use olk_base::{Leaf, MakeLeaf, MakeRegex, RegexEngine};
+use olk_build::{Context, compile_member};
+use olk_make::Part;
+use olk_make::dependencies::{make, make_required, make_schemas};
+use olk_node::Keyword;
+use olk_read::Shape;
+use olk_reports::BuildError;
+use serde_json::{Map, Value};
+use std::alloc::Global;
+
+/// The keyword of `dependencies` in the object at the context's place (JSON Schema draft 7 Validation, 6.5.7): a key whose
+/// value is a list wants its names, any other has a schema.
+///
+/// The meter rises by the cost of the keyword, or by a part of it where nothing is built; the context's place is left as
+/// it was.
+///
+/// # Errors
+///
+/// One of the malformations of the keyword; else want of memory. There always is an answer.
+pub fn compile<'a, L: MakeLeaf, M: MakeRegex>(
+    alloc: Global,
+    ctx: &mut Context<'_, L, M>,
+    parent: &'a Map<String, Value>,
+    schema: &'a Value,
+) -> Option<Result<Keyword<L::Leaf, M::Engine>, BuildError<'a>>>
+    ensures gives { GivesMember (kit L.Leaf.Leaf M.Engine.RegexEngine) (codes "dependencies")
+        (view schema.now) ctx.old.place ctx.old.meter.now ctx.new.meter.now result }
+    ensures form { Gives result (IsDependencies (one_below ctx.old.place
+        (codes "dependencies")) (map (λ e. e.0) (members (view schema.now)))) }
+    ensures place { ctx.new.place ≡ ctx.old.place }
+    ensures same_meter { ctx.new.meter.ghost_name ≡ ctx.old.meter.ghost_name }
+{
+    match compile_member(alloc, ctx, parent, "dependencies", schema) {
+        Ok(part) => {
+            let Part {
+                location,
+                shape,
+                nodes,
+            } = part;
+            let Shape::Dependencies(keys, lists) = shape else {
+                unreachable!()
+            };
+            match make(alloc, location, keys, lists, nodes) {
+                Ok(keyword) => Some(Ok(keyword)),
+                Err(error) => Some(Err(BuildError::Memory(error))),
+            }
+        }
+        Err(error) => Some(Err(error)),
+    }
+}
+
+/// The keyword of `dependentRequired` in the object at the context's place (JSON Schema 2020-12 Validation, 6.5.4).
+///
+/// The meter rises by the cost of the keyword, or by a part of it where nothing is built; the context's place is left as
+/// it was.
+///
+/// # Errors
+///
+/// One of the malformations of the keyword; else want of memory. There always is an answer.
+pub fn compile_dependent_required<'a, L: MakeLeaf, M: MakeRegex>(
+    alloc: Global,
+    ctx: &mut Context<'_, L, M>,
+    parent: &'a Map<String, Value>,
+    schema: &'a Value,
+) -> Option<Result<Keyword<L::Leaf, M::Engine>, BuildError<'a>>>
+    ensures gives { GivesMember (kit L.Leaf.Leaf M.Engine.RegexEngine) (codes "dependentRequired")
+        (view schema.now) ctx.old.place ctx.old.meter.now ctx.new.meter.now result }
+    ensures form { Gives result (IsDependencies (one_below ctx.old.place
+        (codes "dependentRequired")) (map (λ e. e.0) (members (view schema.now)))) }
+    ensures place { ctx.new.place ≡ ctx.old.place }
+    ensures same_meter { ctx.new.meter.ghost_name ≡ ctx.old.meter.ghost_name }
+{
+    match compile_member(alloc, ctx, parent, "dependentRequired", schema) {
+        Ok(part) => {
+            let Part {
+                location,
+                shape,
+                nodes: _,
+            } = part;
+            let Shape::DependentRequired(keys, lists) = shape else {
+                unreachable!()
+            };
+            match make_required(alloc, location, keys, lists) {
+                Ok(keyword) => Some(Ok(keyword)),
+                Err(error) => Some(Err(BuildError::Memory(error))),
+            }
+        }
+        Err(error) => Some(Err(error)),
+    }
+}
+
+/// The keyword of `dependentSchemas` in the object at the context's place (JSON Schema 2020-12 Core, 10.2.2.4).
+///
+/// The meter rises by the cost of the keyword, or by a part of it where nothing is built; the context's place is left as
+/// it was.
+///
+/// # Errors
+///
+/// One of the malformations of the keyword; else want of memory. There always is an answer.
+pub fn compile_dependent_schemas<'a, L: MakeLeaf, M: MakeRegex>(
+    alloc: Global,
+    ctx: &mut Context<'_, L, M>,
+    parent: &'a Map<String, Value>,
+    schema: &'a Value,
+) -> Option<Result<Keyword<L::Leaf, M::Engine>, BuildError<'a>>>
+    ensures gives { GivesMember (kit L.Leaf.Leaf M.Engine.RegexEngine) (codes "dependentSchemas")
+        (view schema.now) ctx.old.place ctx.old.meter.now ctx.new.meter.now result }
+    ensures form { Gives result (IsDependencies (one_below ctx.old.place
+        (codes "dependentSchemas")) (map (λ e. e.0) (members (view schema.now)))) }
+    ensures place { ctx.new.place ≡ ctx.old.place }
+    ensures same_meter { ctx.new.meter.ghost_name ≡ ctx.old.meter.ghost_name }
+{
+    match compile_member(alloc, ctx, parent, "dependentSchemas", schema) {
+        Ok(part) => {
+            let Part {
+                location,
+                shape,
+                nodes,
+            } = part;
+            let Shape::DependentSchemas(keys) = shape else {
+                unreachable!()
+            };
+            Some(Ok(make_schemas(location, keys, nodes)))
+        }
+        Err(error) => Some(Err(error)),
+    }
+}

@@ -1,0 +1,135 @@
+//! `properties`.
+ghost use Rattle.std.specs.Prelude.{◌≡◌, codes, is_none, length, map, IfOk, IfErr};
+ghost use Rattle.std.specs.Option.{IfSome, IfNone};
+ghost use Rattle.serde_json.specs.View.{view, members_view};
+ghost use Rattle.olk_spec.specs.Schemas.{listed, members};
+ghost use Rattle.olk_reports.specs.Paths.{one_below};
+ghost use Rattle.olk_base.specs.Kit.{kit};
+ghost use Rattle.olk_make.specs.Forms.{IsProperties};
+ghost use Rattle.olk_members.specs.Conditions.{is_restricted};
+ghost use Rattle.olk_members.specs.Plans.{plan_of};
+ghost use Rattle.olk_build.specs.Building.{AreBuilt, RefusesEach};
+ghost use Rattle.olk_keywords.specs.Parts.{BuildsClaims, Gives};
+
+use olk_base::{Leaf, MakeLeaf, MakeRegex, RegexEngine};
+use olk_build::{Context, compile_declared, compile_member};
+use olk_make::Part;
+use olk_make::properties::make;
+use olk_members::Plan;
+use olk_node::{BigValidatorsMap, Keyword, SmallValidatorsMap};
+use olk_read::Shape;
+use olk_reports::BuildError;
+use olk_tree::big_map::{BigMap, HashedNames};
+use olk_tree::map::{SmallMap, SortedNames};
+use serde_json::{Map, Value};
+use std::alloc::Global;
+
+/// The keyword of `properties` in the object at the context's place (JSON Schema 2020-12 Core, 10.3.2.1): with the two
+/// names that it fuses from `required` of the parent, and then it stands for both, or alone; none where
+/// `additionalProperties` of the parent is `false` or an object, since that keyword then stands for the names too.
+///
+/// The meter rises by the cost of the keyword, or by a part of it where nothing is built; the context's place is left as
+/// it was.
+///
+/// # Errors
+///
+/// One of the malformations of the keyword; else want of memory.
+pub fn compile<'a, L: MakeLeaf, M: MakeRegex>(
+    alloc: Global,
+    ctx: &mut Context<'_, L, M>,
+    parent: &'a Map<String, Value>,
+    schema: &'a Value,
+) -> Option<Result<Keyword<L::Leaf, M::Engine>, BuildError<'a>>>
+    ensures gives { IfSome result (BuildsClaims (kit L.Leaf.Leaf M.Engine.RegexEngine)
+        (members_view parent.now.entries) (codes "properties") (view schema.now)
+        ctx.old.place ctx.old.meter.now ctx.new.meter.now) }
+    ensures form { Gives result (IsProperties ctx.old.place
+        (one_below ctx.old.place (codes "properties")) (length (members (view schema.now)))
+        (plan_of (members_view parent.now.entries)).fused) }
+    ensures unread { is_none result ≡ is_restricted (members_view parent.now.entries) }
+    ensures unread_at_no_cost { IfNone result (ctx.new.meter.now ≡ ctx.old.meter.now) }
+    ensures place { ctx.new.place ≡ ctx.old.place }
+    ensures same_meter { ctx.new.meter.ghost_name ≡ ctx.old.meter.ghost_name }
+{
+    let plan = Plan::of(parent);
+    if plan.is_restricted() {
+        return None;
+    }
+    match compile_member(alloc, ctx, parent, "properties", schema) {
+        Ok(part) => {
+            let Part {
+                location,
+                shape,
+                nodes,
+            } = part;
+            let Shape::Properties(names) = shape else {
+                unreachable!()
+            };
+            match make(alloc, plan, &ctx.place, location, names, nodes) {
+                Ok(keyword) => Some(Ok(keyword)),
+                Err(error) => Some(Err(BuildError::Memory(error))),
+            }
+        }
+        Err(error) => Some(Err(error)),
+    }
+}
+
+/// The declared names, found by bisection, and beside each the node of its subschema, below `properties` at the context's
+/// place (JSON Schema 2020-12 Core, 10.3.2.1).
+///
+/// The meter rises by the cost of the subschemas, or by a part of it where nothing is built; the context's place is left
+/// as it was.
+///
+/// # Errors
+///
+/// One of the subschemas' malformations; else want of memory.
+pub fn compile_small_map<'a, L: MakeLeaf, M: MakeRegex>(
+    alloc: Global,
+    ctx: &mut Context<'_, L, M>,
+    properties: &'a Map<String, Value>,
+) -> Result<SmallValidatorsMap<L::Leaf, M::Engine>, BuildError<'a>>
+    ensures names { IfOk result (λ m. m.names
+        ≡ map (λ e. e.0) (listed (members_view properties.now.entries))) }
+    ensures built { IfOk result (λ m. AreBuilt (kit L.Leaf.Leaf M.Engine.RegexEngine)
+        m.nodes.items (listed (members_view properties.now.entries))
+        (one_below ctx.old.place (codes "properties")) ctx.old.meter.now ctx.new.meter.now) }
+    ensures refused { IfErr result (RefusesEach (kit L.Leaf.Leaf M.Engine.RegexEngine)
+        (listed (members_view properties.now.entries))
+        (one_below ctx.old.place (codes "properties")) ctx.old.meter.now ctx.new.meter.now) }
+    ensures place { ctx.new.place ≡ ctx.old.place }
+    ensures same_meter { ctx.new.meter.ghost_name ≡ ctx.old.meter.ghost_name }
+{
+    let names = SortedNames::of(alloc, properties)?;
+    let nodes = compile_declared(alloc, ctx, "properties", properties)?;
+    Ok(SmallMap { names, nodes })
+}
+
+/// The same names and nodes as [`compile_small_map`] gives, and the names are found by their hash.
+///
+/// The meter rises by the cost of the subschemas, or by a part of it where nothing is built; the context's place is left
+/// as it was.
+///
+/// # Errors
+///
+/// One of the subschemas' malformations; else want of memory.
+pub fn compile_big_map<'a, L: MakeLeaf, M: MakeRegex>(
+    alloc: Global,
+    ctx: &mut Context<'_, L, M>,
+    properties: &'a Map<String, Value>,
+) -> Result<BigValidatorsMap<L::Leaf, M::Engine>, BuildError<'a>>
+    ensures names { IfOk result (λ m. m.names
+        ≡ map (λ e. e.0) (listed (members_view properties.now.entries))) }
+    ensures built { IfOk result (λ m. AreBuilt (kit L.Leaf.Leaf M.Engine.RegexEngine)
+        m.nodes.items (listed (members_view properties.now.entries))
+        (one_below ctx.old.place (codes "properties")) ctx.old.meter.now ctx.new.meter.now) }
+    ensures refused { IfErr result (RefusesEach (kit L.Leaf.Leaf M.Engine.RegexEngine)
+        (listed (members_view properties.now.entries))
+        (one_below ctx.old.place (codes "properties")) ctx.old.meter.now ctx.new.meter.now) }
+    ensures place { ctx.new.place ≡ ctx.old.place }
+    ensures same_meter { ctx.new.meter.ghost_name ≡ ctx.old.meter.ghost_name }
+{
+    let sorted = SortedNames::of(alloc, properties)?;
+    let names = HashedNames::of(alloc, sorted)?;
+    let nodes = compile_declared(alloc, ctx, "properties", properties)?;
+    Ok(BigMap { names, nodes })
+}

@@ -1,0 +1,62 @@
+//! `propertyDependencies`.
+ghost use Rattle.std.specs.Prelude.{◌≡◌, map, codes};
+ghost use Rattle.serde_json.specs.View.{view};
+ghost use Rattle.olk_spec.specs.Schemas.{members};
+ghost use Rattle.olk_reports.specs.Paths.{one_below};
+ghost use Rattle.olk_base.specs.Kit.{kit};
+ghost use Rattle.olk_make.specs.Forms.{IsPropertyDependencies};
+ghost use Rattle.olk_keywords.specs.Parts.{GivesMember, Gives};
+
+use olk_base::{Leaf, MakeLeaf, MakeRegex, RegexEngine};
+use olk_build::{Context, compile_member};
+use olk_make::Part;
+use olk_make::property_dependencies::make;
+use olk_node::Keyword;
+use olk_read::Shape;
+use olk_reports::BuildError;
+use serde_json::{Map, Value};
+use std::alloc::Global;
+
+/// The keyword of `propertyDependencies` in the object at the context's place (a proposal for JSON Schema, which is not
+/// part of a standard): for each key a map from the texts of its entry to their schemas.
+///
+/// The meter rises by the cost of the keyword, or by a part of it where nothing is built; the context's place is left as
+/// it was.
+///
+/// # Errors
+///
+/// One of the malformations of the keyword; else want of memory. There always is an answer.
+pub fn compile<'a, L: MakeLeaf, M: MakeRegex>(
+    alloc: Global,
+    ctx: &mut Context<'_, L, M>,
+    parent: &'a Map<String, Value>,
+    schema: &'a Value,
+) -> Option<Result<Keyword<L::Leaf, M::Engine>, BuildError<'a>>>
+    ensures gives { GivesMember (kit L.Leaf.Leaf M.Engine.RegexEngine)
+        (codes "propertyDependencies") (view schema.now)
+        ctx.old.place ctx.old.meter.now ctx.new.meter.now result }
+    ensures form { Gives result (IsPropertyDependencies
+        (one_below ctx.old.place (codes "propertyDependencies"))
+        (map (λ e. e.0) (members (view schema.now)))
+        (map (λ e. map (λ c. c.0) (members e.1)) (members (view schema.now)))) }
+    ensures place { ctx.new.place ≡ ctx.old.place }
+    ensures same_meter { ctx.new.meter.ghost_name ≡ ctx.old.meter.ghost_name }
+{
+    match compile_member(alloc, ctx, parent, "propertyDependencies", schema) {
+        Ok(part) => {
+            let Part {
+                location,
+                shape,
+                nodes,
+            } = part;
+            let Shape::PropertyDependencies(keys, texts) = shape else {
+                unreachable!()
+            };
+            match make(alloc, location, keys, texts, nodes) {
+                Ok(keyword) => Some(Ok(keyword)),
+                Err(error) => Some(Err(BuildError::Memory(error))),
+            }
+        }
+        Err(error) => Some(Err(error)),
+    }
+}

@@ -1,0 +1,77 @@
+//! `propertyNames`.
+ghost use Rattle.std.specs.Prelude.{◌≡◌, ◌||◌, true, false, not, is_none, codes};
+ghost use Rattle.std.specs.Option.{IfSome, IfNone};
+ghost use Rattle.serde_json.specs.View.{view};
+ghost use Rattle.olk_spec.specs.Schemas.{is_object, is_truth};
+ghost use Rattle.olk_reports.specs.Paths.{one_below};
+ghost use Rattle.olk_base.specs.Kit.{kit};
+ghost use Rattle.olk_make.specs.Forms.{IsPropertyNames, IsPropertyNamesFalse};
+ghost use Rattle.olk_keywords.specs.Parts.{Builds, Gives};
+
+use olk_base::{Leaf, MakeLeaf, MakeRegex, RegexEngine};
+use olk_build::{Context, compile_member};
+use olk_make::Part;
+use olk_make::property_names::{make, make_false};
+use olk_node::Keyword;
+use olk_read::Shape;
+use olk_reports::BuildError;
+use serde_json::{Map, Value};
+use std::alloc::Global;
+
+/// The keyword of `propertyNames` in the object at the context's place (JSON Schema 2020-12 Core, 10.3.2.4): an object is
+/// a schema for each name, `false` allows no name; none for anything else, which allows any.
+///
+/// The meter rises by the cost of the keyword, or by a part of it where nothing is built; the context's place is left as
+/// it was.
+///
+/// # Errors
+///
+/// One of the malformations of the keyword; else want of memory.
+pub fn compile<'a, L: MakeLeaf, M: MakeRegex>(
+    alloc: Global,
+    ctx: &mut Context<'_, L, M>,
+    parent: &'a Map<String, Value>,
+    schema: &'a Value,
+) -> Option<Result<Keyword<L::Leaf, M::Engine>, BuildError<'a>>>
+    ensures gives { IfSome result (Builds (kit L.Leaf.Leaf M.Engine.RegexEngine)
+        (codes "propertyNames") (view schema.now)
+        ctx.old.place ctx.old.meter.now ctx.new.meter.now) }
+    ensures form { is_object (view schema.now) ≡ true → Gives result
+        (IsPropertyNames (one_below ctx.old.place (codes "propertyNames"))) }
+    ensures form_of_false { is_truth false (view schema.now) ≡ true → Gives result
+        (IsPropertyNamesFalse (one_below ctx.old.place (codes "propertyNames"))) }
+    ensures unread { is_none result
+        ≡ not (is_object (view schema.now) || is_truth false (view schema.now)) }
+    ensures unread_at_no_cost { IfNone result (ctx.new.meter.now ≡ ctx.old.meter.now) }
+    ensures place { ctx.new.place ≡ ctx.old.place }
+    ensures same_meter { ctx.new.meter.ghost_name ≡ ctx.old.meter.ghost_name }
+{
+    if !restricts_names(schema) {
+        return None;
+    }
+    match compile_member(alloc, ctx, parent, "propertyNames", schema) {
+        Ok(part) => {
+            let Part {
+                location,
+                shape,
+                nodes,
+            } = part;
+            match shape {
+                Shape::PropertyNames => match make(location, nodes) {
+                    Some(keyword) => Some(Ok(keyword)),
+                    None => unreachable!(),
+                },
+                Shape::NoNames => Some(Ok(make_false(location))),
+                _ => unreachable!(),
+            }
+        }
+        Err(error) => Some(Err(error)),
+    }
+}
+
+/// Whether names are restricted at all: by a schema that is an object, or by `false`.
+fn restricts_names(schema: &Value) -> bool
+    ensures { result ≡ (is_object (view schema.now) || is_truth false (view schema.now)) }
+{
+    schema.is_object() || schema.as_bool() == Some(false)
+}

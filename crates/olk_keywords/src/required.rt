@@ -1,0 +1,66 @@
+//! `required`.
+ghost use Rattle.std.specs.Prelude.{◌≡◌, ◌||◌, codes, is_some, is_none};
+ghost use Rattle.std.specs.Option.{IfSome, IfNone};
+ghost use Rattle.serde_json.specs.View.{members_view, view};
+ghost use Rattle.olk_reports.specs.Paths.{one_below};
+ghost use Rattle.olk_base.specs.Kit.{kit};
+ghost use Rattle.olk_make.specs.Forms.{IsRequired};
+ghost use Rattle.olk_members.specs.Plans.{plan_of};
+ghost use Rattle.olk_keywords.specs.Parts.{Builds, Gives};
+
+use olk_base::{Leaf, MakeLeaf, MakeRegex, RegexEngine};
+use olk_build::{Context, compile_member};
+use olk_make::Part;
+use olk_members::Plan;
+use olk_node::Keyword;
+use olk_read::Shape;
+use olk_reports::BuildError;
+use olk_tree::node::KeywordOver;
+use olk_tree::required::RequiredValidator;
+use serde_json::{Map, Value};
+use std::alloc::Global;
+
+/// The keyword of `required` in the object at the context's place (JSON Schema 2020-12 Validation, 6.5.3), and none
+/// where `properties` of the parent fuses its two names, or `additionalProperties` its one.
+///
+/// The meter rises by the cost of the keyword, or by a part of it where nothing is built; the context's place is left as
+/// it was.
+///
+/// # Errors
+///
+/// One of the malformations of the keyword; else want of memory.
+pub fn compile<'a, L: MakeLeaf, M: MakeRegex>(
+    alloc: Global,
+    ctx: &mut Context<'_, L, M>,
+    parent: &'a Map<String, Value>,
+    schema: &'a Value,
+) -> Option<Result<Keyword<L::Leaf, M::Engine>, BuildError<'a>>>
+    ensures gives { IfSome result (Builds (kit L.Leaf.Leaf M.Engine.RegexEngine) (codes "required")
+        (view schema.now) ctx.old.place ctx.old.meter.now ctx.new.meter.now) }
+    ensures form { Gives result (IsRequired (one_below ctx.old.place (codes "required"))
+        (view schema.now)) }
+    ensures fused { is_none result ≡ (is_some (plan_of (members_view parent.now.entries)).fused
+        || is_some (plan_of (members_view parent.now.entries)).fused_one) }
+    ensures fused_at_no_cost { IfNone result (ctx.new.meter.now ≡ ctx.old.meter.now) }
+    ensures place { ctx.new.place ≡ ctx.old.place }
+    ensures same_meter { ctx.new.meter.ghost_name ≡ ctx.old.meter.ghost_name }
+{
+    let plan = Plan::of(parent);
+    if plan.fuses() || plan.fused_one().is_some() {
+        return None;
+    }
+    match compile_member(alloc, ctx, parent, "required", schema) {
+        Ok(part) => {
+            let Part {
+                location,
+                shape,
+                nodes: _,
+            } = part;
+            let Shape::Required(required) = shape else {
+                unreachable!()
+            };
+            Some(Ok(KeywordOver::Required(RequiredValidator { required, location })))
+        }
+        Err(error) => Some(Err(error)),
+    }
+}
