@@ -1,4 +1,5 @@
 //! The texts of answers, each whole.
+use crate::tables::{Asked, expect_rows};
 use olk_answers::{
     errors_text, evaluation_text, first_text, malformation_text, refusal_text, schema_refusal_text,
     verdict_text,
@@ -8,9 +9,8 @@ use olk_reports::{
     Evaluation, EvaluationNode, EvaluationResult, Location, ValidateError, ValidationError,
     ValidationErrorKind,
 };
-use serde_json::Value;
+use serde_json::{Map, Value};
 use std::alloc::{AllocError, Global};
-use std::process::Abort;
 use std::test::Fail;
 
 // A name that the value lacks.
@@ -19,95 +19,72 @@ fn missing<'a>(alloc: Global, property: &'a str, value: &'a Value) -> Validation
     ValidationError::new(kind, Node::Value(value), String::new(alloc), "/required")
 }
 
-// A value that is to be an object, and is none.
-fn malformed(alloc: Global, value: &Value) -> Result<ValidationError<'_>, AllocError> {
+// The number 5, which is to be an object.
+fn malformation(alloc: Global) -> Result<Vec<u8>, AllocError> {
+    let place = Location::new(alloc).join(alloc, "properties")?;
     let expected = JsonType::Object;
     let kind = ValidationErrorKind::SingleType { expected };
-    let place = Location::new(alloc).join(alloc, "properties")?;
-    Ok(ValidationError::refusing(kind, Node::Value(value), String::new(alloc), place))
+    let number = Value::from(5);
+    let node = Node::Value(&number);
+    let error = ValidationError::refusing(kind, node, String::new(alloc), place);
+    malformation_text(alloc, &error)
 }
 
-fn expect_text(rt: &impl Abort, answer: Vec<u8>, wanted: &str) {
-    assert!(rt; answer.as_slice() == wanted.as_bytes(), "{wanted}");
+fn first_error(alloc: Global) -> Result<Vec<u8>, AllocError> {
+    let empty = Value::Object(Map::new(alloc));
+    first_text(
+        alloc,
+        Err(ValidateError::Invalid(missing(alloc, "b", &empty))),
+    )
 }
 
-#[test]
-fn texts_of_refusals(rt: HostRuntime) -> Result<(), Fail> {
-    let alloc = rt.alloc();
-    let answer = refusal_text(alloc, "not JSON")?;
-    expect_text(&rt, answer, r#"{"refused":"not JSON"}"#);
-    let answer = schema_refusal_text(alloc, "5 is not a value", "/type")?;
-    expect_text(
-        &rt,
-        answer,
-        r#"{"refused":"5 is not a value","schemaPath":"/type"}"#,
-    );
-    Ok(())
+fn two_errors(alloc: Global) -> Result<Vec<u8>, AllocError> {
+    let empty = Value::Object(Map::new(alloc));
+    errors_text(
+        alloc,
+        &[missing(alloc, "b", &empty), missing(alloc, "a", &empty)],
+    )
 }
 
-#[test]
-fn text_of_a_malformation(rt: HostRuntime) -> Result<(), Fail> {
-    let alloc = rt.alloc();
-    let number = Value::from_str(alloc, "5")?;
-    let answer = malformation_text(alloc, &malformed(alloc, &number)?)?;
-    expect_text(
-        &rt,
-        answer,
-        r#"{"refused":"5 is not of type \"object\"","schemaPath":"/properties"}"#,
-    );
-    Ok(())
-}
-
-#[test]
-fn texts_of_verdicts(rt: HostRuntime) -> Result<(), Fail> {
-    let alloc = rt.alloc();
-    expect_text(&rt, verdict_text(alloc, true)?, r#"{"valid":true}"#);
-    expect_text(&rt, verdict_text(alloc, false)?, r#"{"valid":false}"#);
-    expect_text(&rt, first_text(alloc, Ok(()))?, r#"{"valid":true}"#);
-    Ok(())
-}
-
-#[test]
-fn text_of_a_first_error(rt: HostRuntime) -> Result<(), Fail> {
-    let alloc = rt.alloc();
-    let empty = Value::from_str(alloc, "{}")?;
-    let first = Err(ValidateError::Invalid(missing(alloc, "b", &empty)));
-    expect_text(
-        &rt,
-        first_text(alloc, first)?,
-        r#"{"error":{"instancePath":"","message":"\"b\" is a required property","schemaPath":"/required"},"valid":false}"#,
-    );
-    Ok(())
-}
-
-#[test]
-fn texts_of_errors(rt: HostRuntime) -> Result<(), Fail> {
-    let alloc = rt.alloc();
-    expect_text(
-        &rt,
-        errors_text(alloc, &[])?,
-        r#"{"errors":[],"valid":true}"#,
-    );
-    let empty = Value::from_str(alloc, "{}")?;
-    let errors = vec![in alloc; missing(alloc, "b", &empty), missing(alloc, "a", &empty)]?;
-    expect_text(
-        &rt,
-        errors_text(alloc, &errors)?,
-        r#"{"errors":[{"instancePath":"","message":"\"a\" is a required property","schemaPath":"/required"},{"instancePath":"","message":"\"b\" is a required property","schemaPath":"/required"}],"valid":false}"#,
-    );
-    Ok(())
-}
-
-#[test]
-fn text_of_an_evaluation(rt: HostRuntime) -> Result<(), Fail> {
-    let alloc = rt.alloc();
+fn evaluation(alloc: Global) -> Result<Vec<u8>, AllocError> {
     let shown = EvaluationResult::valid_empty(alloc);
     let shown = Evaluation::new(EvaluationNode::new("", String::new(alloc), shown));
-    let answer = evaluation_text(alloc, &shown)?;
-    expect_text(
-        &rt,
-        answer,
-        r#"{"annotations":[],"errors":[],"valid":true}"#,
-    );
-    Ok(())
+    evaluation_text(alloc, &shown)
+}
+
+fn bytes(alloc: Global, word: &str) -> Result<Vec<u8>, AllocError> {
+    match word {
+        "refusal" => refusal_text(alloc, "not JSON"),
+        "schema refusal" => schema_refusal_text(alloc, "5 is not a value", "/type"),
+        "malformation" => malformation(alloc),
+        "true" => verdict_text(alloc, true),
+        "false" => verdict_text(alloc, false),
+        "no first error" => first_text(alloc, Ok(())),
+        "first error" => first_error(alloc),
+        "no errors" => errors_text(alloc, &[]),
+        "two errors" => two_errors(alloc),
+        _ => evaluation(alloc),
+    }
+}
+
+/// The answer that a word names.
+pub(crate) fn answer(alloc: Global, word: &str) -> Result<String, Fail> {
+    Ok(String::from_utf8(bytes(alloc, word)?)?)
+}
+
+// What is answered, and its text.
+const ANSWERS: &str = r#"refusal | {"refused":"not JSON"}
+schema refusal | {"refused":"5 is not a value","schemaPath":"/type"}
+malformation | {"refused":"5 is not of type \"object\"","schemaPath":"/properties"}
+true | {"valid":true}
+false | {"valid":false}
+no first error | {"valid":true}
+first error | {"error":{"instancePath":"","message":"\"b\" is a required property","schemaPath":"/required"},"valid":false}
+no errors | {"errors":[],"valid":true}
+two errors | {"errors":[{"instancePath":"","message":"\"a\" is a required property","schemaPath":"/required"},{"instancePath":"","message":"\"b\" is a required property","schemaPath":"/required"}],"valid":false}
+evaluation | {"annotations":[],"errors":[],"valid":true}"#;
+
+#[test]
+fn texts_of_answers(rt: HostRuntime) -> Result<(), Fail> {
+    expect_rows(&rt, rt.alloc(), Asked::Answer, ANSWERS)
 }

@@ -6,19 +6,23 @@ ghost use Rattle.olk_base.specs.Nodes.{data_of};
 
 use crate::counting::Counting;
 use crate::doubles::{Equality, NoTexts};
-use crate::tables::two;
+use crate::tables::{Asked, expect_rows, two};
 use olk_base::{
-    CompiledPattern, JsonType, KeyHead, Leaf, MakeError, MakeLeaf, Meter, NoRegexes, Node,
+    CompiledPattern, KeyHead, Leaf, MakeError, MakeLeaf, MakeRegex, Meter, NoRegexes, Node,
     PatternOptimization, PropertyName, PropertyPattern, ValidationContext, analyze_pattern,
     compile_pattern, contains_ecma_whitespace, is_same_text,
 };
 use serde_json::{Map, Value};
 use std::alloc::{AllocError, Global};
 use std::cell::Cell;
-use std::process::Abort;
 use std::test::Fail;
 
 // ---- names
+
+/// The head of a name.
+pub(crate) fn head(alloc: Global, name: &str) -> Result<String, AllocError> {
+    format!(in alloc; "{:?}", KeyHead::of(name))
+}
 
 // A name and its head.
 const HEADS: &str = " | KeyHead { len: 0, first: 0, last: 0 }
@@ -30,291 +34,178 @@ abcdefgh | KeyHead { len: 8, first: 7523094288207667809, last: 75230942882076678
 
 #[test]
 fn heads(rt: HostRuntime) -> Result<(), Fail> {
-    for row in HEADS.lines() {
-        let (name, head) = two(row)?;
-        let shown = format!(in rt.alloc(); "{:?}", KeyHead::of(name))?;
-        assert_eq!(rt; shown.as_str(), head, "{name}");
-    }
-    Ok(())
+    expect_rows(&rt, rt.alloc(), Asked::Head, HEADS)
 }
 
-fn expect_same(
-    rt: &impl Abort,
-    alloc: Global,
-    name: &str,
-    key: &str,
-    same: bool,
-) -> Result<(), Fail> {
-    let name = PropertyName::new(alloc, name)?;
-    assert_eq!(rt; name.matches(KeyHead::of(key), key), same, "{key}");
-    assert_eq!(rt; name.as_str() == key, same, "{key}");
-    Ok(())
+/// Whether the names are the same, as each way of comparing says.
+pub(crate) fn same_name(alloc: Global, cells: &str) -> Result<String, AllocError> {
+    let (name, key) = two(cells);
+    let one = PropertyName::new(alloc, name)?;
+    let ways = (
+        one.matches(KeyHead::of(key), key),
+        one.as_str() == key,
+        is_same_text(name, key),
+    );
+    drop(one);
+    let text = match ways {
+        (true, true, true) => "same",
+        (false, false, false) => "other",
+        _ => "the ways differ",
+    };
+    String::from_str(alloc, text)
 }
+
+// Names with a difference at each place, and texts of each kind of length: none, up to three bytes, up to 7, 16 and 32,
+// and more.
+const NAMES: &str = "abcdefghijklX | abcdefghijklX | same
+abcdefghijkl | abcdefghijkl | same
+abcd | abcd | same
+ |  | same
+café-résumé-naïve | café-résumé-naïve | same
+abcdefghijklX | abcdefghijklY | other
+abcdefghijkl | abcdefghijkL | other
+abcdEFGHijkl | abcdefghijkl | other
+abcd | abce | other
+abcd | abcde | other
+ | a | other
+café-résumé-naïve | café-rÉsumé-naïve | other
+ |  | same
+id | id | same
+abc | abd | other
+abc | abcd | other
+naïve | naïve | same
+title | titre | other
+operationId | operationId | same
+operationId | operationIs | other
+additionalProperties | additionalProperties | same
+additionalProperties | additionalproperties | other
+a name of more than thirty-two bytes | a name of more than thirty-two bytes | same
+a name of more than thirty-two bytes | a name of more than thirty-six bytes | other";
 
 #[test]
-fn same_names(rt: HostRuntime) -> Result<(), Fail> {
-    for name in [
-        "abcdefghijklX",
-        "abcdefghijkl",
-        "abcd",
-        "",
-        "café-résumé-naïve",
-    ] {
-        expect_same(&rt, rt.alloc(), name, name, true)?;
-    }
-    Ok(())
-}
-
-#[test]
-fn other_names(rt: HostRuntime) -> Result<(), Fail> {
-    for (name, key) in [
-        ("abcdefghijklX", "abcdefghijklY"),
-        ("abcdefghijkl", "abcdefghijkL"),
-        ("abcdEFGHijkl", "abcdefghijkl"),
-        ("abcd", "abce"),
-        ("abcd", "abcde"),
-        ("", "a"),
-        ("café-résumé-naïve", "café-rÉsumé-naïve"),
-    ] {
-        expect_same(&rt, rt.alloc(), name, key, false)?;
-    }
-    Ok(())
-}
-
-// Texts of each kind of length: none, up to three bytes, up to 7, 16 and 32, and more.
-const TEXTS: [(&str, &str, bool); 12] = [
-    ("", "", true),
-    ("id", "id", true),
-    ("abc", "abd", false),
-    ("abc", "abcd", false),
-    ("naïve", "naïve", true),
-    ("title", "titre", false),
-    ("operationId", "operationId", true),
-    ("operationId", "operationIs", false),
-    ("additionalProperties", "additionalProperties", true),
-    ("additionalProperties", "additionalproperties", false),
-    (
-        "a name of more than thirty-two bytes",
-        "a name of more than thirty-two bytes",
-        true,
-    ),
-    (
-        "a name of more than thirty-two bytes",
-        "a name of more than thirty-six bytes",
-        false,
-    ),
-];
-
-#[test]
-fn same_texts(rt: HostRuntime) -> Result<(), Fail> {
-    for (one, other, same) in TEXTS {
-        assert_eq!(rt; is_same_text(one, other), same, "{one} {other}");
-    }
-    Ok(())
+fn same_and_other_names(rt: HostRuntime) -> Result<(), Fail> {
+    expect_rows(&rt, rt.alloc(), Asked::SameName, NAMES)
 }
 
 // ---- patterns
 
-fn test_text(alloc: Global, pattern: &str) -> Result<String, AllocError> {
-    match analyze_pattern(alloc, pattern)? {
-        Some(PatternOptimization::Prefix(text)) => format!(in alloc; "Prefix {text}"),
-        Some(PatternOptimization::Suffix(text)) => format!(in alloc; "Suffix {text}"),
-        Some(PatternOptimization::Exact(text)) => format!(in alloc; "Exact {text}"),
-        Some(PatternOptimization::Alternation(texts)) => format!(in alloc; "Alternation {texts:?}"),
-        Some(PatternOptimization::NoWhitespace) => String::from_str(alloc, "NoWhitespace"),
-        None => String::from_str(alloc, "none"),
-    }
+/// The test that a pattern is read as.
+pub(crate) fn read_pattern(alloc: Global, pattern: &str) -> Result<String, AllocError> {
+    let test = analyze_pattern(alloc, pattern)?;
+    format!(in alloc; "{test:?}")
 }
 
 // A pattern, and the test that it is read as.
-const LITERALS: &str = r#"^foo | Prefix foo
-^x- | Prefix x-
-^path/to | Prefix path/to
-^\/ | Prefix /
-^foo$ | Exact foo
-^\$ref$ | Exact $ref
-^foo\$ | Prefix foo$
-^(a|b)$ | Alternation ["a", "b"]
-^\S*$ | NoWhitespace
-spam$ | Suffix spam
-\$$ | Suffix $
-foo | none
-^ | none
-^$ | none
-^(a)$ | none
-^foo.* | none
-^foo+ | none
-^foo? | none
-^[a-z] | none
-^foo|bar | none
-^foo(bar) | none
-^foo\d | none
-foo\$ | none
-$ | none
-(a)$ | none
-fo.o$ | none"#;
+const LITERALS: &str = r#"^foo | Some(Prefix("foo"))
+^x- | Some(Prefix("x-"))
+^path/to | Some(Prefix("path/to"))
+^\/ | Some(Prefix("/"))
+^foo$ | Some(Exact("foo"))
+^\$ref$ | Some(Exact("$ref"))
+^foo\$ | Some(Prefix("foo$"))
+^(a|b)$ | Some(Alternation(["a", "b"]))
+^\S*$ | Some(NoWhitespace)
+spam$ | Some(Suffix("spam"))
+\$$ | Some(Suffix("$"))
+foo | None
+^ | None
+^$ | None
+^(a)$ | None
+^foo.* | None
+^foo+ | None
+^foo? | None
+^[a-z] | None
+^foo|bar | None
+^foo(bar) | None
+^foo\d | None
+foo\$ | None
+$ | None
+(a)$ | None
+fo.o$ | None"#;
 
 #[test]
 fn literal_patterns(rt: HostRuntime) -> Result<(), Fail> {
-    for row in LITERALS.lines() {
-        let (pattern, test) = two(row)?;
-        let found = test_text(rt.alloc(), pattern)?;
-        assert_eq!(rt; found.as_str(), test, "{pattern}");
-    }
-    Ok(())
+    expect_rows(&rt, rt.alloc(), Asked::ReadPattern, LITERALS)
 }
 
-fn compiled_text<R>(alloc: Global, pattern: &CompiledPattern<R>) -> Result<String, AllocError> {
+fn test_of<R: Drop>(pattern: CompiledPattern<R>) -> Option<PatternOptimization> {
     match pattern {
-        CompiledPattern::Prefix(text) => format!(in alloc; "Prefix {text}"),
-        CompiledPattern::Suffix(text) => format!(in alloc; "Suffix {text}"),
-        CompiledPattern::Exact(text) => format!(in alloc; "Exact {text}"),
-        CompiledPattern::Alternation(texts) => format!(in alloc; "Alternation {texts:?}"),
-        CompiledPattern::NoWhitespace => String::from_str(alloc, "NoWhitespace"),
-        CompiledPattern::Regex(_) => String::from_str(alloc, "none"),
+        CompiledPattern::Prefix(text) => Some(PatternOptimization::Prefix(text)),
+        CompiledPattern::Suffix(text) => Some(PatternOptimization::Suffix(text)),
+        CompiledPattern::Exact(text) => Some(PatternOptimization::Exact(text)),
+        CompiledPattern::Alternation(texts) => Some(PatternOptimization::Alternation(texts)),
+        CompiledPattern::NoWhitespace => Some(PatternOptimization::NoWhitespace),
+        CompiledPattern::Regex(_) => None,
     }
 }
 
-// What is compiled of a pattern, and how many engines are made.
-fn compiled(alloc: Global, pattern: &str, meter: &mut Meter) -> Result<String, Fail> {
-    let compiled = compile_pattern(alloc, &Equality, pattern, meter).map_err(plain_error)?;
-    Ok(compiled_text(alloc, &compiled)?)
+// The test; an engine is made where there is none, and only there.
+fn test_text(
+    alloc: Global,
+    test: &Option<PatternOptimization>,
+    made: u64,
+) -> Result<String, AllocError> {
+    if made == u64::from(test.is_none()) {
+        format!(in alloc; "{test:?}")
+    } else {
+        String::from_str(alloc, "another count")
+    }
+}
+
+fn compiled<M: MakeRegex>(alloc: Global, regexes: &M, pattern: &str) -> Result<String, AllocError> {
+    let mut meter = Meter::new();
+    match compile_pattern(alloc, regexes, pattern, &mut meter) {
+        Ok(compiled) => test_text(alloc, &test_of(compiled), meter.made()),
+        Err(MakeError::Refused) => format!(in alloc; "refused, {} made", meter.made()),
+        Err(MakeError::Memory(error)) => Err(error),
+    }
+}
+
+/// What a pattern is compiled to.
+pub(crate) fn compiled_pattern(alloc: Global, pattern: &str) -> Result<String, AllocError> {
+    compiled(alloc, &Equality, pattern)
+}
+
+/// What a pattern is compiled to by a maker that refuses all.
+pub(crate) fn pattern_without_regexes(alloc: Global, pattern: &str) -> Result<String, AllocError> {
+    compiled(alloc, &NoRegexes, pattern)
 }
 
 #[test]
 fn patterns_are_compiled_to_their_tests(rt: HostRuntime) -> Result<(), Fail> {
-    for row in LITERALS.lines() {
-        let (pattern, test) = two(row)?;
-        let mut meter = Meter::new();
-        let found = compiled(rt.alloc(), pattern, &mut meter)?;
-        assert_eq!(rt; found.as_str(), test, "{pattern}");
-        assert_eq!(rt; meter.made() == 1, test == "none", "{pattern}");
-        assert_eq!(rt; meter.made() == 0, test != "none", "{pattern}");
-    }
-    Ok(())
+    expect_rows(&rt, rt.alloc(), Asked::CompiledPattern, LITERALS)?;
+    expect_rows(
+        &rt,
+        rt.alloc(),
+        Asked::CompiledPattern,
+        "( | refused, 1 made",
+    )
 }
 
 #[test]
+fn a_matcher_that_refuses_all(rt: HostRuntime) -> Result<(), Fail> {
+    let rows = "a | refused, 1 made\n^a | Some(Prefix(\"a\"))";
+    expect_rows(&rt, rt.alloc(), Asked::PatternWithoutRegexes, rows)
+}
+
+// Between these stands `|`.
+const WHITE: &str =
+    "\u{9}|\u{a}|\u{b}|\u{c}|\u{d}|\u{20}|\u{a0}|\u{1680}|\u{2000}|\u{2001}|\u{2002}|\u{2003}|\u{2004}|\u{2005}|\u{2006}|\u{2007}|\u{2008}|\u{2009}|\u{200a}|\u{2028}|\u{2029}|\u{202f}|\u{205f}|\u{3000}|\u{feff}|a b|é\u{3000}y";
+
+const NOT_WHITE: &str = "|ab|\u{8}|\u{e}|\u{85}|\u{180e}|\u{200b}|\u{2060}|é";
+
+#[test]
 fn white_space(rt: HostRuntime) {
-    for text in [
-        "\u{9}",
-        "\u{a}",
-        "\u{b}",
-        "\u{c}",
-        "\u{d}",
-        "\u{20}",
-        "\u{a0}",
-        "\u{1680}",
-        "\u{2000}",
-        "\u{2001}",
-        "\u{2002}",
-        "\u{2003}",
-        "\u{2004}",
-        "\u{2005}",
-        "\u{2006}",
-        "\u{2007}",
-        "\u{2008}",
-        "\u{2009}",
-        "\u{200a}",
-        "\u{2028}",
-        "\u{2029}",
-        "\u{202f}",
-        "\u{205f}",
-        "\u{3000}",
-        "\u{feff}",
-        "a b",
-        "é\u{3000}y",
-    ] {
+    for text in WHITE.split("|") {
         assert!(rt; contains_ecma_whitespace(text));
     }
-    for text in [
-        "", "ab", "\u{8}", "\u{e}", "\u{85}", "\u{180e}", "\u{200b}", "\u{2060}", "é",
-    ] {
+    for text in NOT_WHITE.split("|") {
         assert!(rt; !contains_ecma_whitespace(text));
     }
 }
 
-fn plain_error(error: MakeError) -> Fail {
-    match error {
-        MakeError::Refused => Fail::from("refused"),
-        MakeError::Memory(error) => Fail::from(error),
-    }
-}
-
-// A pattern, a name, whether it matches, how many engines are asked, and how many matches are left unfinished.
-type Match<'a> = (&'a str, &'a str, bool, u64, u64);
-
-fn expect_match(rt: &impl Abort, alloc: Global, row: Match<'_>) -> Result<(), Fail> {
-    let (pattern, name, found, asked, unfinished) = row;
-    let (engines, asks) = (Cell::new(0), Cell::new(0));
-    let counting = Counting {
-        maker: Equality,
-        made: &engines,
-        asked: &asks,
-    };
-    let mut meter = Meter::new();
-    let compiled = compile_pattern(alloc, &counting, pattern, &mut meter).map_err(plain_error)?;
-    assert_eq!(rt; (meter.made(), engines.get()), (asked, asked), "{pattern}");
-    let mut ctx = ValidationContext::new(true);
-    assert_eq!(rt;
-        compiled.is_match_in(name, &mut ctx),
-        found,
-        "{pattern} {name}"
-    );
-    assert_eq!(rt;
-        (ctx.meter().asked(), asks.get()),
-        (asked, asked),
-        "{pattern}"
-    );
-    assert_eq!(rt; ctx.meter().unfinished(), unfinished, "{pattern}");
-    assert!(rt; ctx.answer());
-    Ok(())
-}
-
-#[test]
-fn patterns(rt: HostRuntime) -> Result<(), Fail> {
-    for row in [
-        ("^foo", "foobar", true, 0, 0),
-        ("^foo", "barfoo", false, 0, 0),
-        ("spam$", "xspam", true, 0, 0),
-        ("spam$", "spamx", false, 0, 0),
-        ("spam$", "am", false, 0, 0),
-        ("^foo$", "foo", true, 0, 0),
-        ("^foo$", "foobar", false, 0, 0),
-        ("^(a|b)$", "a", true, 0, 0),
-        ("^(a|b)$", "b", true, 0, 0),
-        ("^(a|b)$", "ab", false, 0, 0),
-        ("^\\S*$", "ab", true, 0, 0),
-        ("^\\S*$", "a b", false, 0, 0),
-        ("^\\S*$", "", true, 0, 0),
-        ("foo", "foo", true, 1, 0),
-        ("foo", "foobar", false, 1, 0),
-        ("?", "foo", true, 1, 1),
-    ] {
-        expect_match(&rt, rt.alloc(), row)?;
-    }
-    Ok(())
-}
-
-// Whether an unfinished match counts, and how many of these are counted.
-fn unfinished(alloc: Global, answer: bool) -> Result<(bool, u64), Fail> {
-    let mut meter = Meter::new();
-    let pattern = compile_pattern(alloc, &Equality, "?", &mut meter).map_err(plain_error)?;
-    let mut ctx = ValidationContext::new(answer);
-    let found = pattern.is_match_in("foo", &mut ctx);
-    Ok((found, ctx.meter().unfinished()))
-}
-
-#[test]
-fn an_unfinished_match_is_the_answer(rt: HostRuntime) -> Result<(), Fail> {
-    for answer in [false, true] {
-        assert_eq!(rt; unfinished(rt.alloc(), answer)?, (answer, 1));
-    }
-    Ok(())
-}
-
-// How many engines are made of a pattern that is refused, as the maker counts and as the meter does.
-fn made_and_refused(alloc: Global, pattern: &str) -> Result<(u64, u64), Fail> {
+// How a pattern matches a name, in a context that gives this answer where a match is unfinished.
+fn matched(alloc: Global, pattern: &str, name: &str, answer: bool) -> Result<String, AllocError> {
     let (engines, asks) = (Cell::new(0), Cell::new(0));
     let counting = Counting {
         maker: Equality,
@@ -323,36 +214,62 @@ fn made_and_refused(alloc: Global, pattern: &str) -> Result<(u64, u64), Fail> {
     };
     let mut meter = Meter::new();
     match compile_pattern(alloc, &counting, pattern, &mut meter) {
-        Ok(_) => Err(Fail::from("built")),
-        Err(MakeError::Refused) => Ok((engines.get(), meter.made())),
-        Err(MakeError::Memory(error)) => Err(Fail::from(error)),
+        Err(MakeError::Refused) => {
+            format!(in alloc; "refused, {:?}", [meter.made(), engines.get()])
+        }
+        Err(MakeError::Memory(error)) => Err(error),
+        Ok(compiled) => {
+            let mut ctx = ValidationContext::new(answer);
+            let found = compiled.is_match_in(name, &mut ctx);
+            drop(compiled);
+            let (made, asked) = (meter.made(), ctx.meter().asked());
+            let counts = [
+                made,
+                engines.get(),
+                asked,
+                asks.get(),
+                ctx.meter().unfinished(),
+            ];
+            format!(in alloc; "{found}, {}, {counts:?}", ctx.answer())
+        }
     }
 }
 
-#[test]
-fn a_refused_engine_is_counted(rt: HostRuntime) -> Result<(), Fail> {
-    assert_eq!(rt; made_and_refused(rt.alloc(), "(")?, (1, 1));
-    Ok(())
+/// How a pattern matches a name, of the answer where a match is unfinished, the pattern and the name.
+pub(crate) fn matched_pattern(alloc: Global, cells: &str) -> Result<String, AllocError> {
+    let (answer, cells) = two(cells);
+    let (pattern, name) = two(cells);
+    matched(alloc, pattern, name, answer == "true")
 }
 
-#[test]
-fn a_pattern_that_is_refused(rt: HostRuntime) {
-    let mut meter = Meter::new();
-    let refused = compile_pattern(rt.alloc(), &Equality, "(", &mut meter);
-    assert!(rt; matches!(refused, Err(MakeError::Refused)));
-    assert_eq!(rt; meter.made(), 1);
-}
+// The answer where a match is unfinished, a pattern, a name, whether it matches, and that answer again; then how many
+// engines are made, and how often they are asked, each as the meter and as the maker count; and how many matches are
+// left unfinished.
+const MATCHES: &str = r"true | ^foo | foobar | true, true, [0, 0, 0, 0, 0]
+true | ^foo | barfoo | false, true, [0, 0, 0, 0, 0]
+true | spam$ | xspam | true, true, [0, 0, 0, 0, 0]
+true | spam$ | spamx | false, true, [0, 0, 0, 0, 0]
+true | spam$ | am | false, true, [0, 0, 0, 0, 0]
+true | ^foo$ | foo | true, true, [0, 0, 0, 0, 0]
+true | ^foo$ | foobar | false, true, [0, 0, 0, 0, 0]
+true | ^(a|b)$ | a | true, true, [0, 0, 0, 0, 0]
+true | ^(a|b)$ | b | true, true, [0, 0, 0, 0, 0]
+true | ^(a|b)$ | ab | false, true, [0, 0, 0, 0, 0]
+true | ^\S*$ | ab | true, true, [0, 0, 0, 0, 0]
+true | ^\S*$ | a b | false, true, [0, 0, 0, 0, 0]
+true | ^\S*$ |  | true, true, [0, 0, 0, 0, 0]
+true | foo | foo | true, true, [1, 1, 1, 1, 0]
+true | foo | foobar | false, true, [1, 1, 1, 1, 0]
+true | ? | foo | true, true, [1, 1, 1, 1, 1]
+false | ? | foo | false, false, [1, 1, 1, 1, 1]
+true | ( | foo | refused, [1, 1]";
 
 #[test]
-fn a_matcher_that_refuses_all(rt: HostRuntime) {
-    let mut meter = Meter::new();
-    let refused = compile_pattern(rt.alloc(), &NoRegexes, "a", &mut meter);
-    assert!(rt; matches!(refused, Err(MakeError::Refused)));
-    assert_eq!(rt; meter.made(), 1);
-    let literal = compile_pattern(rt.alloc(), &NoRegexes, "^a", &mut meter);
-    assert!(rt; matches!(literal, Ok(CompiledPattern::Prefix(_))));
-    assert_eq!(rt; meter.made(), 1);
+fn patterns(rt: HostRuntime) -> Result<(), Fail> {
+    expect_rows(&rt, rt.alloc(), Asked::MatchedPattern, MATCHES)
 }
+
+// ---- leaves
 
 // A leaf that is made, and asked by each of its calls.
 fn asked_leaf<L: MakeLeaf>(
@@ -381,63 +298,62 @@ fn one_text(alloc: Global, text: &str) -> Result<Vec<String>, AllocError> {
     Ok(vec![in alloc; String::from_str(alloc, text)?]?)
 }
 
-// What each call of a leaf answers of the node.
-fn expect_answers(
-    rt: &impl Abort,
-    alloc: Global,
-    node: Node<'_>,
-    one: &str,
-    texts: &str,
-) -> Result<(), Fail> {
-    let (value, mut meter) = (Value::Bool(false), Meter::new());
-    let answers = asked_leaf(&NoTexts, alloc, "text", &value, node, &mut meter).map_err(
-        plain_error,
-    )?;
-    assert_eq!(rt; meter.leaves(), 1);
-    assert_eq!(rt; answers.0, one == "None");
-    assert_eq!(rt; format!(in alloc; "{:?}", answers.1)?.as_str(), one);
-    assert_eq!(rt; format!(in alloc; "{:?}", answers.2)?.as_str(), texts);
-    assert_eq!(rt; answers.3.is_empty(), one == "None");
-    Ok(())
+// What each call of a leaf with this value answers of the node.
+fn leaf_of(alloc: Global, value: &Value, node: Node<'_>) -> Result<String, AllocError> {
+    let mut meter = Meter::new();
+    match asked_leaf(&NoTexts, alloc, "text", value, node, &mut meter) {
+        Ok(answers) => format!(in alloc; "{answers:?}, {} made", meter.leaves()),
+        Err(MakeError::Refused) => format!(in alloc; "refused, {} made", meter.leaves()),
+        Err(MakeError::Memory(error)) => Err(error),
+    }
 }
+
+/// What a leaf answers, of its value, and a text or null.
+pub(crate) fn leaf(alloc: Global, cells: &str) -> Result<String, AllocError> {
+    let (value, node) = two(cells);
+    let value = if value == "false" {
+        Value::Bool(false)
+    } else {
+        Value::Null
+    };
+    if node == "null" {
+        return leaf_of(alloc, &value, Node::Value(&Value::Null));
+    }
+    let name = String::from_str(alloc, node)?;
+    leaf_of(alloc, &value, Node::Name(&name))
+}
+
+// The value of a leaf, a name or null, and what `is_valid`, `validate`, `collect_errors` after a text, and `evaluate`
+// answer.
+const LEAVES: &str =
+    r#"false | a | (false, Some("is a text"), ["text", "is a text"], ["is a text"]), 1 made
+false | null | (true, None, ["text"], []), 1 made
+null |  | refused, 1 made"#;
 
 #[test]
 fn leaves(rt: HostRuntime) -> Result<(), Fail> {
-    let alloc = rt.alloc();
-    let texts = "[\"text\", \"is a text\"]";
-    let name = String::from_str(alloc, "a")?;
-    expect_answers(&rt, alloc, Node::Name(&name), "Some(\"is a text\")", texts)?;
-    expect_answers(&rt, alloc, Node::Value(&Value::Null), "None", "[\"text\"]")?;
-    Ok(())
-}
-
-#[test]
-fn a_leaf_that_is_refused(rt: HostRuntime) {
-    let mut meter = Meter::new();
-    let (value, name) = (Value::Null, String::new(rt.alloc()));
-    let node = Node::Name(&name);
-    let refused = asked_leaf(&NoTexts, rt.alloc(), "text", &value, node, &mut meter);
-    assert!(rt; matches!(refused, Err(MakeError::Refused)));
-    assert_eq!(rt; meter.leaves(), 1);
-}
-
-#[test]
-fn keywords_of_leaves(rt: HostRuntime) {
-    assert!(rt; NoTexts.reads("text") && !NoTexts.reads("texts"));
+    expect_rows(&rt, rt.alloc(), Asked::Leaf, LEAVES)
 }
 
 // ---- nodes and counts
 
+fn node_text(alloc: Global, node: Node<'_>) -> Result<String, AllocError> {
+    format!(in alloc; "{}, {:?}", node.as_object().is_some(), node.json_type())
+}
+
+/// Whether a node is an object, and its type.
+pub(crate) fn node(alloc: Global, word: &str) -> Result<String, AllocError> {
+    match word {
+        "object" => node_text(alloc, Node::Value(&Value::Object(Map::new(alloc)))),
+        "null" => node_text(alloc, Node::Value(&Value::Null)),
+        _ => node_text(alloc, Node::Name(&String::new(alloc))),
+    }
+}
+
 #[test]
-fn nodes(rt: HostRuntime) {
-    let object = Value::Object(Map::new(rt.alloc()));
-    assert!(rt; Node::Value(&object).as_object().is_some());
-    assert_eq!(rt; Node::Value(&object).json_type(), JsonType::Object);
-    assert!(rt; Node::Value(&Value::Null).as_object().is_none());
-    assert_eq!(rt; Node::Value(&Value::Null).json_type(), JsonType::Null);
-    let name = String::new(rt.alloc());
-    assert!(rt; Node::Name(&name).as_object().is_none());
-    assert_eq!(rt; Node::Name(&name).json_type(), JsonType::String);
+fn nodes(rt: HostRuntime) -> Result<(), Fail> {
+    let rows = "object | true, Object\nnull | false, Null\nname | false, String";
+    expect_rows(&rt, rt.alloc(), Asked::Node, rows)
 }
 
 #[test]
@@ -446,7 +362,6 @@ fn counts(rt: HostRuntime) {
     meter.tick_compiled();
     meter.tick_unfinished();
     meter.tick_unfinished();
-    assert_eq!(rt; meter.compiled(), 1);
-    assert_eq!(rt; meter.unfinished(), 2);
-    assert_eq!(rt; meter.leaves() + meter.made() + meter.asked(), 0);
+    let others = meter.leaves() + meter.made() + meter.asked();
+    assert_eq!(rt; [meter.compiled(), meter.unfinished(), others], [1, 2, 0]);
 }

@@ -1,42 +1,87 @@
 //! What leaves of the bench accept and tell, and what its matcher answers.
-use crate::tables::{four, three};
+use crate::doubles::NoTexts;
+use crate::tables::{Asked, expect_rows, two};
 use olk_base::{Leaf, MakeError, MakeLeaf, MakeRegex, Meter, Node, RegexEngine};
 use olk_bench::{BenchLeaf, BenchLeaves, BenchRegexes};
 use serde_json::Value;
-use std::alloc::Global;
-use std::process::Abort;
+use std::alloc::{AllocError, Global};
 use std::test::Fail;
-
-// The leaf, or none where the value is refused.
-fn made(alloc: Global, keyword: &str, value: &str) -> Result<Option<BenchLeaf>, Fail> {
-    let value = Value::from_str(alloc, value)?;
-    let mut meter = Meter::new();
-    match BenchLeaves.make(alloc, keyword, &value, &mut meter) {
-        Ok(leaf) => Ok(Some(leaf)),
-        Err(MakeError::Refused) => Ok(None),
-        Err(MakeError::Memory(error)) => Err(error.into()),
-    }
-}
 
 // What `evaluate`, `collect_errors` and `validate` tell of the instance.
 fn told_in_turn(
     alloc: Global,
-    keyword: &str,
-    value: &str,
-    instance: &str,
-) -> Result<Vec<String>, Fail> {
-    let leaf = made(alloc, keyword, value)?.ok_or("refused")?;
-    let instance = Value::from_str(alloc, instance)?;
-    let node = Node::Value(&instance);
+    leaf: &BenchLeaf,
+    node: Node<'_>,
+) -> Result<Vec<String>, AllocError> {
     let mut told = leaf.evaluate(alloc, node)?;
     leaf.collect_errors(alloc, node, &mut told)?;
     if let Some(text) = leaf.validate(alloc, node)? {
         told.push(text)?;
     }
-    if leaf.is_valid(node) != told.is_empty() || leaf.keyword() != keyword {
-        return Err("the ways of asking differ".into());
-    }
     Ok(told)
+}
+
+// The text that all of them tell, or `-` where none tells one.
+fn one_text(told: &[String], is_valid: bool) -> &str {
+    match told {
+        [] if is_valid => "-",
+        [one, other, third] if one == other && other == third && !is_valid => one.as_str(),
+        _ => "the ways of asking differ",
+    }
+}
+
+fn told(alloc: Global, leaf: &BenchLeaf, node: Node<'_>) -> Result<String, AllocError> {
+    let told = told_in_turn(alloc, leaf, node)?;
+    String::from_str(alloc, one_text(told.as_slice(), leaf.is_valid(node)))
+}
+
+fn made(alloc: Global, keyword: &str, value: &Value) -> Result<BenchLeaf, MakeError> {
+    BenchLeaves.make(alloc, keyword, value, &mut Meter::new())
+}
+
+fn told_or_refused(
+    alloc: Global,
+    keyword: &str,
+    value: &Value,
+    instance: &Value,
+) -> Result<String, AllocError> {
+    match made(alloc, keyword, value) {
+        Ok(leaf) if leaf.keyword() == keyword => told(alloc, &leaf, Node::Value(instance)),
+        Ok(_) => String::from_str(alloc, "another keyword"),
+        Err(MakeError::Refused) => String::from_str(alloc, "refused"),
+        Err(MakeError::Memory(error)) => Err(error),
+    }
+}
+
+/// What is told of a leaf's keyword, its value and an instance.
+pub(crate) fn leaf(alloc: Global, cells: &str) -> Result<String, Fail> {
+    let (keyword, values) = two(cells);
+    let (value, instance) = two(values);
+    let value = Value::from_str(alloc, value)?;
+    let instance = Value::from_str(alloc, instance)?;
+    let told = told_or_refused(alloc, keyword, &value, &instance);
+    drop(instance);
+    drop(value);
+    Ok(told?)
+}
+
+fn matched(alloc: Global, pattern: &str, name: &str) -> &'static str {
+    let mut meter = Meter::new();
+    match BenchRegexes.make(alloc, pattern, &mut meter) {
+        Ok(regex) => match regex.is_match(name, &mut meter) {
+            Ok(true) => "yes",
+            Ok(false) => "no",
+            Err(_) => "unfinished",
+        },
+        Err(MakeError::Refused) => "refused",
+        Err(MakeError::Memory(_)) => "no memory",
+    }
+}
+
+/// Whether a pattern matches a name.
+pub(crate) fn matched_pattern(alloc: Global, cells: &str) -> Result<String, AllocError> {
+    let (pattern, name) = two(cells);
+    String::from_str(alloc, matched(alloc, pattern, name))
 }
 
 // A leaf's keyword and value, an instance, and what is told of it, or `-`.
@@ -57,65 +102,27 @@ multipleOf | 3 | -6 | -
 minLength | 2 | "é" | "é" is shorter than 2 characters
 minLength | 2 | [] | -
 maxLength | 3 | "cdef" | "cdef" is longer than 3 characters
-maxLength | 3 | "ééé" | -"#;
-
-fn expect_told(rt: &impl Abort, alloc: Global, row: &str) -> Result<(), Fail> {
-    let (keyword, value, instance, told) = four(row)?;
-    let texts = told_in_turn(alloc, keyword, value, instance)?;
-    let count = if told == "-" { 0 } else { 3 };
-    assert_eq!(rt; texts.len(), count, "{row}");
-    for text in &texts {
-        assert_eq!(rt; text.as_str(), told, "{row}");
-    }
-    Ok(())
-}
+maxLength | 3 | "ééé" | -
+type | "text" | 0 | refused
+type | 1 | 0 | refused
+const | 1.5 | 0 | refused
+const | true | 0 | refused
+minimum | "1" | 0 | refused
+maximum | 1.5 | 0 | refused
+multipleOf | 0 | 0 | refused
+minLength | -1 | 0 | refused
+maxLength | null | 0 | refused
+pattern | "a" | 0 | refused"#;
 
 #[test]
 fn leaves_accept_or_tell(rt: HostRuntime) -> Result<(), Fail> {
-    for row in LEAVES.lines() {
-        expect_told(&rt, rt.alloc(), row)?;
-    }
-    Ok(())
-}
-
-#[test]
-fn values_that_do_not_fit_are_refused(rt: HostRuntime) -> Result<(), Fail> {
-    for (keyword, value) in [
-        ("type", "\"text\""),
-        ("type", "1"),
-        ("const", "1.5"),
-        ("const", "true"),
-        ("minimum", "\"1\""),
-        ("maximum", "1.5"),
-        ("multipleOf", "0"),
-        ("minLength", "-1"),
-        ("maxLength", "null"),
-        ("pattern", "\"a\""),
-    ] {
-        let leaf = made(rt.alloc(), keyword, value)?;
-        assert!(rt; leaf.is_none(), "{keyword} {value}");
-    }
-    Ok(())
+    expect_rows(&rt, rt.alloc(), Asked::BenchLeaf, LEAVES)
 }
 
 #[test]
 fn keywords_are_read(rt: HostRuntime) {
-    assert!(rt; BenchLeaves.reads("minimum"));
-    assert!(rt; !BenchLeaves.reads("pattern"));
-}
-
-// The answer as a word.
-fn asked(alloc: Global, pattern: &str, name: &str) -> Result<&'static str, Fail> {
-    let mut meter = Meter::new();
-    match BenchRegexes.make(alloc, pattern, &mut meter) {
-        Ok(regex) => match regex.is_match(name, &mut meter) {
-            Ok(true) => Ok("yes"),
-            Ok(false) => Ok("no"),
-            Err(_) => Ok("unfinished"),
-        },
-        Err(MakeError::Refused) => Ok("refused"),
-        Err(MakeError::Memory(error)) => Err(error.into()),
-    }
+    assert!(rt; BenchLeaves.reads("minimum") && !BenchLeaves.reads("pattern"));
+    assert!(rt; NoTexts.reads("text") && !NoTexts.reads("texts"));
 }
 
 // A pattern, a name, and the answer.
@@ -142,9 +149,5 @@ a$b | a | refused";
 
 #[test]
 fn patterns_are_plain_texts(rt: HostRuntime) -> Result<(), Fail> {
-    for row in PATTERNS.lines() {
-        let (pattern, name, answer) = three(row)?;
-        assert_eq!(rt; asked(rt.alloc(), pattern, name)?, answer, "{row}");
-    }
-    Ok(())
+    expect_rows(&rt, rt.alloc(), Asked::BenchPattern, PATTERNS)
 }
