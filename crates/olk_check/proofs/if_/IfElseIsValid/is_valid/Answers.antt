@@ -1,7 +1,7 @@
-use Rattle.olk_base.specs.Nodes.{data_of}
-use Rattle.olk_check.proofs.Walks.{accepted_alone, refused_then}
-use Rattle.olk_tree.specs.Questions.{always}
 use Rattle.std.proofs.Common.{true}
+use Rattle.olk_base.specs.Nodes.{data_of}
+use Rattle.olk_tree.specs.Questions.{always}
+use Rattle.olk_check.proofs.Walks.{accepted_alone, refused_then}
 use Rattle.olk_check.proofs.if_.IfElseIsValid.is_valid.Goals as goal
 
 pub returns-then-is_valid : goal.returns-then-is_valid

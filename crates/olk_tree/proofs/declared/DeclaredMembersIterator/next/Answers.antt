@@ -6,3 +6,6 @@ returns-then-self-clause-steps g c = search rules
 
 pub returns-else-self-clause-steps : goal.returns-else-self-clause-steps
 returns-else-self-clause-steps g c = search rules
+
+pub returns-else-self-clause-goes : goal.returns-else-self-clause-goes
+returns-else-self-clause-goes g c = search rules
