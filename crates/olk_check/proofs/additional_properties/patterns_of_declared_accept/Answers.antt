@@ -16,3 +16,6 @@ returns-then-matches_nothing g c =
       value = view c.args.value.now;
     } in
     nothing_matches w (c.matches_nothing.ensures.unmatched c.if-matches_nothing.true) (c.matches_nothing.ensures.declared c.if-matches_nothing.true)
+
+pub returns : goal.returns
+returns g c = c.patterns_accept_apart.ensures

@@ -1,4 +1,4 @@
-use Rattle.std.proofs.Common.{true, sym, ap, subst}
+use Rattle.std.proofs.Common.{true, sym, ap, subst, rules}
 use Rattle.olk_base.specs.Nodes.{data_of}
 use Rattle.olk_tree.specs.Questions.{every}
 use Rattle.olk_tree.specs.Answers.{named}
@@ -9,3 +9,6 @@ use Rattle.olk_check.proofs.dependencies.DependenciesIsValid.is_valid.Goals as g
 
 pub returns-in-None : goal.returns-in-None
 returns-in-None g c = subst (λ q. Asks c.args.ctx.now c.args.ctx.now q true) (sym (ap (every (λ n. g.N.Means.means n (data_of c.args.node))) (none_due (data_of c.args.node) c.in-None.ensures (named c.args.self.now.dependencies)))) (unasked c.args.ctx.now true)
+
+pub returns-in-Some : goal.returns-in-Some
+returns-in-Some g c = search rules

@@ -1,4 +1,4 @@
-use Rattle.std.proofs.Common.{true, sym, ap, subst}
+use Rattle.std.proofs.Common.{true, sym, ap, subst, rules}
 use Rattle.serde_json.specs.Data.{string}
 use Rattle.olk_base.specs.Nodes.{data_of}
 use Rattle.olk_tree.specs.Questions.{every}
@@ -9,3 +9,6 @@ use Rattle.olk_check.proofs.property_names.PropertyNamesIsValid.is_valid.Goals a
 
 pub returns-in-None : goal.returns-in-None
 returns-in-None g c = subst (λ q. Asks c.args.ctx.now c.args.ctx.now q true) (sym (ap (every (λ m. g.N.Means.means c.args.self.now.node (string m.0))) (no_members (data_of c.args.node) c.in-None.ensures))) (unasked c.args.ctx.now true)
+
+pub returns-in-Some : goal.returns-in-Some
+returns-in-Some g c = search rules

@@ -32,6 +32,12 @@ returns-in-Ok-true-clause-words c i h =
     let in_both = subst (HasWord i) (sym c.self.view_is) h in
     (subst (λ n. i / 64 < n) (sym (ap length (matched_is c) ∙ c.set_bit.ensures.length ∙ ap length c.deref_mut.ensures.value)) in_both.0, in_both.1)
 
+pub returns-in-Err-clause-noted : goal.returns-in-Err-clause-noted
+returns-in-Err-clause-noted c =
+    ap (λ ws. says_by (has_bit ws c.args.index) (has_bit c.self.inside.matched.items c.args.index)) (unfinished_is c)
+    ∙ ap (λ b. says_by b (has_bit c.self.inside.matched.items c.args.index)) c.set_bit-in-Err.ensures.set
+    ∙ sym (ap said c.in-Err.is)
+
 pub returns-in-Err-clause-others : goal.returns-in-Err-clause-others
 returns-in-Err-clause-others c i other =
     ap (λ ws. says_by (has_bit ws i) (has_bit c.self.inside.matched.items i)) (unfinished_is c)
