@@ -9,7 +9,7 @@ use std::alloc::Global;
 /// What a build hands down: the makers, the meter and the current place.
 #[derive(Drop)]
 pub struct Context<'c, L, M> {
-    pub(crate) makers: Makers<'c, L, M>,
+    pub makers: Makers<'c, L, M>,
     pub meter: &'c mut Meter,
     pub place: Location,
 }
