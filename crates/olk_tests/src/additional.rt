@@ -1,18 +1,17 @@
 //! What `additionalProperties` shows with all that it takes over, and what its errors speak of. What it finds is in the
 //! program's lines (tools/program_lines).
-use crate::found::{collect, expect_tree, push_instance};
-use crate::rows::{built, object};
+use crate::found::Found;
+use crate::rows::{Form, Table, expect, value};
 use object_logic::ValidationContext;
 use olk_base::Meter;
 use olk_bench::{BenchLeaf, BenchLeaves, BenchRegex, BenchRegexes};
 use olk_build::{Context, compile};
-use olk_keywords::properties::compile_small_map;
 use olk_check::are_properties_valid;
+use olk_keywords::properties::compile_small_map;
 use olk_node::SchemaNode;
 use olk_tree::PropertiesMap;
-use serde_json::Value;
-use std::alloc::Global;
-use std::process::Abort;
+use serde_json::{Map, Value};
+use std::alloc::{AllocError, Global};
 use std::test::Fail;
 
 // A name, a schema, an instance, and what an evaluation shows below its root.
@@ -41,92 +40,109 @@ no object | {"additionalProperties":{},"patternProperties":{},"properties":{"a":
 
 #[test]
 fn trees_of_restrictions(rt: HostRuntime) -> Result<(), Fail> {
-    for row in TREES.lines() {
-        expect_tree(&rt, rt.alloc(), row)?;
-    }
-    Ok(())
+    expect(&Found::Trees, rt.alloc(), Table::Named(TREES))
 }
 
-// What the errors of an instance speak of.
-fn instances(alloc: Global, schema: &str, instance: &str) -> Result<String, Fail> {
-    let validator = built(alloc, schema)?;
-    let instance = Value::from_str(alloc, instance)?;
-    let mut errors = Vec::new(alloc);
-    collect(&validator, alloc, &instance, &mut errors)?;
-    let mut text = String::new(alloc);
-    for error in &errors {
-        push_instance(alloc, &mut text, error)?;
-    }
-    Ok(text)
-}
+// A schema, an instance, and what its errors speak of.
+const INSTANCES: &str = r#"{"additionalProperties":false} | {"b":2,"a":[1]} |  of [1]
+{"additionalProperties":false,"properties":{}} | {"b":2,"a":[1]} |  of {"a":[1],"b":2}"#;
 
 #[test]
 fn an_error_speaks_of_the_object_or_of_its_first_member(rt: HostRuntime) -> Result<(), Fail> {
-    for (schema, told) in [
-        (r#"{"additionalProperties":false}"#, " of [1]"),
-        (
-            r#"{"additionalProperties":false,"properties":{}}"#,
-            r#" of {"a":[1],"b":2}"#,
-        ),
-    ] {
-        let found = instances(rt.alloc(), schema, r#"{"b":2,"a":[1]}"#)?;
-        assert_eq!(rt; found.as_str(), told, "{schema}");
-    }
-    Ok(())
+    expect(&Found::Instances, rt.alloc(), Table::Asked(INSTANCES))
 }
 
 // ---- without patterns
 
 type BenchNode = SchemaNode<BenchLeaf, BenchRegex>;
 
-fn declared(alloc: Global, text: &str) -> Result<PropertiesMap<BenchNode>, Fail> {
-    let names = object(alloc, text)?;
+fn declared(alloc: Global, names: &Map<String, Value>) -> Result<PropertiesMap<BenchNode>, Fail> {
     let mut meter = Meter::new();
     let mut ctx = Context::new(alloc, &BenchLeaves, &BenchRegexes, &mut meter);
-    match compile_small_map(alloc, &mut ctx, &names) {
+    match compile_small_map(alloc, &mut ctx, names) {
         Ok(map) => Ok(PropertiesMap::Small(map)),
         Err(_) => Err(Fail::from("not built")),
     }
 }
 
-fn place(alloc: Global, text: &str) -> Result<BenchNode, Fail> {
-    let schema = Value::from_str(alloc, text)?;
+fn place(alloc: Global, schema: &Value) -> Result<BenchNode, Fail> {
     let mut meter = Meter::new();
     let mut ctx = Context::new(alloc, &BenchLeaves, &BenchRegexes, &mut meter);
-    match compile(alloc, &mut ctx, &schema) {
+    match compile(alloc, &mut ctx, schema) {
         Ok(place) => Ok(place),
         Err(_) => Err(Fail::from("not built")),
     }
 }
 
+fn object(value: &Value) -> Result<&Map<String, Value>, Fail> {
+    match value.as_object() {
+        Some(members) => Ok(members),
+        None => Err(Fail::new("no object")),
+    }
+}
+
+fn are_accepted(
+    map: &PropertiesMap<BenchNode>,
+    members: &Map<String, Value>,
+    rest: Option<&BenchNode>,
+) -> bool {
+    are_properties_valid(map, members, rest, &mut ValidationContext::new(false))
+}
+
 // Whether the members are accepted with a schema for the rest, and without one.
-fn accepted(
+fn verdicts(
     alloc: Global,
     map: &PropertiesMap<BenchNode>,
     rest: &BenchNode,
-    instance: &str,
-) -> Result<(bool, bool), Fail> {
-    let members = object(alloc, instance)?;
-    let mut ctx = ValidationContext::new(false);
-    let with_rest = are_properties_valid(map, &members, Some(rest), &mut ctx);
-    Ok((
-        with_rest,
-        are_properties_valid(map, &members, None, &mut ctx),
-    ))
+    members: &Map<String, Value>,
+) -> Result<String, AllocError> {
+    let with_rest = are_accepted(map, members, Some(rest));
+    let without = are_accepted(map, members, None);
+    format!(in alloc; "{with_rest}, {without}")
 }
+
+fn beside(
+    alloc: Global,
+    names: &Map<String, Value>,
+    rest: &BenchNode,
+    members: &Map<String, Value>,
+) -> Result<String, Fail> {
+    let map = declared(alloc, names)?;
+    let found = verdicts(alloc, &map, rest, members);
+    drop(map);
+    Ok(found?)
+}
+
+// The same of members beside names that are declared.
+fn beside_names(alloc: Global, rest: &BenchNode, members: &Value) -> Result<String, Fail> {
+    let names = value(alloc, r#"{"a":{"type":"integer"}}"#)?;
+    beside(alloc, object(&names)?, rest, object(members)?)
+}
+
+#[derive(Drop)]
+struct DeclaredAndRest;
+
+impl Form for DeclaredAndRest {
+    fn answer(&self, alloc: Global, members: &Value, _instance: &Value) -> Result<String, Fail> {
+        let schema = value(alloc, r#"{"type":"string"}"#)?;
+        let rest = place(alloc, &schema)?;
+        let found = beside_names(alloc, &rest, members);
+        drop(rest);
+        found
+    }
+}
+
+// An instance, and whether it is accepted with a schema for the rest, and without one.
+const DECLARED_AND_REST: &str = r#"{"a":1} | true, true
+{"a":"x"} | false, false
+{"a":1,"b":"x"} | true, false
+{"a":1,"b":2} | false, false"#;
 
 #[test]
 fn declared_members_and_others(rt: HostRuntime) -> Result<(), Fail> {
-    let map = declared(rt.alloc(), r#"{"a":{"type":"integer"}}"#)?;
-    let rest = place(rt.alloc(), r#"{"type":"string"}"#)?;
-    for (instance, verdicts) in [
-        (r#"{"a":1}"#, (true, true)),
-        (r#"{"a":"x"}"#, (false, false)),
-        (r#"{"a":1,"b":"x"}"#, (true, false)),
-        (r#"{"a":1,"b":2}"#, (false, false)),
-    ] {
-        let found = accepted(rt.alloc(), &map, &rest, instance)?;
-        assert_eq!(rt; found, verdicts, "{instance}");
-    }
-    Ok(())
+    expect(
+        &DeclaredAndRest,
+        rt.alloc(),
+        Table::Schemas(DECLARED_AND_REST),
+    )
 }

@@ -1,5 +1,5 @@
 //! What building and asking count.
-use crate::rows::{four_cells, three_cells, two_cells};
+use crate::rows::{Form, Table, built, expect};
 use object_logic::{
     BuildError, Leaf, MakeError, MakeLeaf, Meter, Node, ValidateError, ValidationContext,
     Validator, holds_whole_numbers,
@@ -9,77 +9,103 @@ use olk_low_tests::counting::{Counted, Counting};
 use serde_json::Value;
 use std::alloc::{AllocError, Global};
 use std::cell::Cell;
-use std::process::Abort;
 use std::test::Fail;
+
+#[derive(Drop)]
+struct WholeNumbers;
+
+impl Form for WholeNumbers {
+    fn answer(&self, alloc: Global, value: &Value, _instance: &Value) -> Result<String, Fail> {
+        Ok(format!(in alloc; "{}", holds_whole_numbers(value))?)
+    }
+}
+
+// A value, and whether it has only whole numbers.
+const WHOLE: &str = r#"{"a":1} | true
+{"a":"x"} | true
+[1.5] | false"#;
 
 #[test]
 fn whole_numbers(rt: HostRuntime) -> Result<(), Fail> {
-    for (text, whole) in [
-        (r#"{"a":1}"#, true),
-        (r#"{"a":"x"}"#, true),
-        ("[1.5]", false),
-    ] {
-        let value = Value::from_str(rt.alloc(), text)?;
-        assert_eq!(rt; holds_whole_numbers(&value), whole, "{text}");
-    }
-    Ok(())
+    expect(&WholeNumbers, rt.alloc(), Table::Schemas(WHOLE))
 }
 
 // ---- building
 
-// Where a schema is refused, if it is. The cells tell how many leaves and engines are made, and how often engines are asked.
+// Where a schema is refused, if it is.
 fn refused_at(
+    alloc: Global,
+    leaves: &Counting<'_, BenchLeaves>,
+    engines: &Counting<'_, BenchRegexes>,
+    schema: &Value,
+    meter: &mut Meter,
+) -> Result<String, AllocError> {
+    match Validator::build(alloc, leaves, engines, schema, meter) {
+        Ok(_) => Ok(String::new(alloc)),
+        Err(BuildError::Refused(error)) => {
+            format!(in alloc; ", refused at {}", error.schema_path())
+        }
+        Err(BuildError::Memory(error)) => Err(error),
+    }
+}
+
+// Where a schema is refused, if it is. The cells tell how many leaves and engines are made, and how often engines are asked.
+fn refused_with(
     alloc: Global,
     schema: &Value,
     meter: &mut Meter,
     cells: [&Cell<u64>; 3],
-) -> Result<String, Fail> {
+) -> Result<String, AllocError> {
     let [leaves, engines, asked] = cells;
-    let texts = Counting {
+    let leaves = Counting {
         maker: BenchLeaves,
         made: leaves,
         asked,
     };
-    let patterns = Counting {
+    let engines = Counting {
         maker: BenchRegexes,
         made: engines,
         asked,
     };
-    match Validator::build(alloc, &texts, &patterns, schema, meter) {
-        Ok(_) => Ok(String::new(alloc)),
-        Err(BuildError::Refused(error)) => {
-            Ok(format!(in alloc; ", refused at {}", error.schema_path())?)
-        }
-        Err(BuildError::Memory(error)) => Err(Fail::from(error)),
-    }
+    refused_at(alloc, &leaves, &engines, schema, meter)
 }
 
-// What building counts, and where the schema is refused. A meter has what the cells have, and no unfinished match.
-fn counted(alloc: Global, schema: &Value) -> Result<String, Fail> {
-    let (leaves, engines, asked) = (Cell::new(0), Cell::new(0), Cell::new(0));
-    let mut meter = Meter::new();
-    let refused = refused_at(alloc, schema, &mut meter, [&leaves, &engines, &asked])?;
-    let made = (leaves.get(), engines.get(), asked.get(), 0);
-    if (
+// A meter has what the cells have, and no unfinished match.
+fn unlike(meter: &Meter, made: (u64, u64, u64)) -> &'static str {
+    let (leaves, engines, asks) = made;
+    let counts = (
         meter.leaves(),
         meter.made(),
         meter.asked(),
         meter.unfinished(),
-    ) != made
-    {
-        return Err(Fail::new("another count than that of the meter"));
+    );
+    if counts == (leaves, engines, asks, 0) {
+        ""
+    } else {
+        ", and the meter has other counts"
     }
-    let (places, leaves, engines, asks) = (meter.compiled(), made.0, made.1, made.2);
-    Ok(format!(in alloc;
-        "{places} places, {leaves} leaves, {engines} engines, {asks} asks{refused}"
-    )?)
 }
 
-fn expect_made(rt: &impl Abort, alloc: Global, row: &str) -> Result<(), Fail> {
-    let (schema, wanted) = two_cells(row)?;
-    let schema = Value::from_str(alloc, schema)?;
-    assert_eq!(rt; counted(alloc, &schema)?.as_str(), wanted, "{row}");
-    Ok(())
+// What building counts, and where the schema is refused.
+fn counted(alloc: Global, schema: &Value) -> Result<String, AllocError> {
+    let (leaves, engines, asked) = (Cell::new(0), Cell::new(0), Cell::new(0));
+    let mut meter = Meter::new();
+    let refused = refused_with(alloc, schema, &mut meter, [&leaves, &engines, &asked])?;
+    let made = (leaves.get(), engines.get(), asked.get());
+    let unlike = unlike(&meter, made);
+    let (places, leaves, engines, asks) = (meter.compiled(), made.0, made.1, made.2);
+    format!(in alloc;
+        "{places} places, {leaves} leaves, {engines} engines, {asks} asks{refused}{unlike}"
+    )
+}
+
+#[derive(Drop)]
+struct Made;
+
+impl Form for Made {
+    fn answer(&self, alloc: Global, schema: &Value, _instance: &Value) -> Result<String, Fail> {
+        Ok(counted(alloc, schema)?)
+    }
 }
 
 // A schema, and what building counts.
@@ -113,10 +139,7 @@ const MADE: &str =
 
 #[test]
 fn each_place_and_leaf_is_made_once(rt: HostRuntime) -> Result<(), Fail> {
-    for row in MADE.lines() {
-        expect_made(&rt, rt.alloc(), row)?;
-    }
-    Ok(())
+    expect(&Made, rt.alloc(), Table::Schemas(MADE))
 }
 
 // The same for patterns. In the last row an engine is refused, and in the next table patterns are asked of declared names.
@@ -132,10 +155,7 @@ const PATTERNS_MADE: &str =
 
 #[test]
 fn each_engine_is_made_once(rt: HostRuntime) -> Result<(), Fail> {
-    for row in PATTERNS_MADE.lines() {
-        expect_made(&rt, rt.alloc(), row)?;
-    }
-    Ok(())
+    expect(&Made, rt.alloc(), Table::Schemas(PATTERNS_MADE))
 }
 
 const TABLES_MADE: &str =
@@ -156,41 +176,17 @@ const TABLES_MADE: &str =
 
 #[test]
 fn each_engine_is_asked_once_of_each_declared_name(rt: HostRuntime) -> Result<(), Fail> {
-    for row in TABLES_MADE.lines() {
-        expect_made(&rt, rt.alloc(), row)?;
-    }
-    Ok(())
+    expect(&Made, rt.alloc(), Table::Schemas(TABLES_MADE))
 }
 
-// ---- more patterns than the bits of a word
-
-// A closed object that declares `m64`, with the patterns `m00` to `m63` and with more, and what else a row has.
-fn many_patterns(alloc: Global, more: &str, others: &str) -> Result<String, AllocError> {
-    let mut text = String::from_str(
-        alloc,
-        r#"{"additionalProperties":false,"properties":{"m64":{}},"patternProperties":{"#,
-    )?;
-    for index in 0..64 {
-        text.push_str(format!(in alloc; "\"m{index:02}\":{{}},")?.as_str())?;
-    }
-    text.push_str(more)?;
-    text.push_str("}} | ")?;
-    text.push_str(others)?;
-    Ok(text)
-}
-
-// A last pattern or two, and what building counts.
-const MANY_MADE: &str = r#""m64":{} | 67 places, 0 leaves, 65 engines, 65 asks
-"m64":{},"(slow)m64":false | 68 places, 0 leaves, 66 engines, 66 asks"#;
+// The same for more patterns than the bits of a word, and for one or two that match the declared name.
+const MANY_MADE: &str =
+    r#"{"additionalProperties":false,"properties":{"m64":{}},"patternProperties":{"m00":{},"m01":{},"m02":{},"m03":{},"m04":{},"m05":{},"m06":{},"m07":{},"m08":{},"m09":{},"m10":{},"m11":{},"m12":{},"m13":{},"m14":{},"m15":{},"m16":{},"m17":{},"m18":{},"m19":{},"m20":{},"m21":{},"m22":{},"m23":{},"m24":{},"m25":{},"m26":{},"m27":{},"m28":{},"m29":{},"m30":{},"m31":{},"m32":{},"m33":{},"m34":{},"m35":{},"m36":{},"m37":{},"m38":{},"m39":{},"m40":{},"m41":{},"m42":{},"m43":{},"m44":{},"m45":{},"m46":{},"m47":{},"m48":{},"m49":{},"m50":{},"m51":{},"m52":{},"m53":{},"m54":{},"m55":{},"m56":{},"m57":{},"m58":{},"m59":{},"m60":{},"m61":{},"m62":{},"m63":{},"m64":{}}} | 67 places, 0 leaves, 65 engines, 65 asks
+{"additionalProperties":false,"properties":{"m64":{}},"patternProperties":{"m00":{},"m01":{},"m02":{},"m03":{},"m04":{},"m05":{},"m06":{},"m07":{},"m08":{},"m09":{},"m10":{},"m11":{},"m12":{},"m13":{},"m14":{},"m15":{},"m16":{},"m17":{},"m18":{},"m19":{},"m20":{},"m21":{},"m22":{},"m23":{},"m24":{},"m25":{},"m26":{},"m27":{},"m28":{},"m29":{},"m30":{},"m31":{},"m32":{},"m33":{},"m34":{},"m35":{},"m36":{},"m37":{},"m38":{},"m39":{},"m40":{},"m41":{},"m42":{},"m43":{},"m44":{},"m45":{},"m46":{},"m47":{},"m48":{},"m49":{},"m50":{},"m51":{},"m52":{},"m53":{},"m54":{},"m55":{},"m56":{},"m57":{},"m58":{},"m59":{},"m60":{},"m61":{},"m62":{},"m63":{},"m64":{},"(slow)m64":false}} | 68 places, 0 leaves, 66 engines, 66 asks"#;
 
 #[test]
 fn a_table_of_65_patterns(rt: HostRuntime) -> Result<(), Fail> {
-    for row in MANY_MADE.lines() {
-        let (more, wanted) = two_cells(row)?;
-        let row = many_patterns(rt.alloc(), more, wanted)?;
-        expect_made(&rt, rt.alloc(), row.as_str())?;
-    }
-    Ok(())
+    expect(&Made, rt.alloc(), Table::Schemas(MANY_MADE))
 }
 
 // ---- leaves that are asked
@@ -269,20 +265,21 @@ impl<'c, M: MakeLeaf> MakeLeaf for Asking<'c, M> {
     }
 }
 
-// How often a verdict asks the leaves of a schema.
-fn asks_of_leaves(alloc: Global, schema: &Value, instance: &Value) -> Result<u64, Fail> {
-    let asked = Cell::new(0);
-    let leaves = Asking {
-        maker: BenchLeaves,
-        asked: &asked,
-    };
-    let Ok(validator) = Validator::build(alloc, &leaves, &BenchRegexes, schema, &mut Meter::new())
-    else {
-        return Err(Fail::new("not built"));
-    };
-    let mut ctx = ValidationContext::new(false);
-    let _valid = validator.is_valid(instance, &mut ctx);
-    Ok(asked.get())
+#[derive(Drop)]
+struct AskedLeaves;
+
+impl Form for AskedLeaves {
+    fn answer(&self, alloc: Global, schema: &Value, instance: &Value) -> Result<String, Fail> {
+        let asked = Cell::new(0);
+        let leaves = Asking {
+            maker: BenchLeaves,
+            asked: &asked,
+        };
+        let validator = built(alloc, &leaves, &BenchRegexes, schema)?;
+        let _valid = validator.is_valid(instance, &mut ValidationContext::new(false));
+        drop(validator);
+        Ok(format!(in alloc; "{}", asked.get())?)
+    }
 }
 
 // A schema, an instance, and how often a verdict asks a leaf.
@@ -308,47 +305,14 @@ const ASKED: &str = r#"{"dependentSchemas":{"a":{"minLength":1}}} | {"b":1} | 0
 {"additionalProperties":false,"properties":{"a":{},"b":{},"c":{},"d":{},"e":{"minLength":1},"id":{},"q":{}},"required":["id"]} | {"a":[],"b":{},"c":[],"d":{},"e":[],"id":1,"z":1} | 1
 {"additionalProperties":false,"properties":{"a":{"minLength":1},"q":{}}} | {"a":[],"z":1} | 1"#;
 
-fn expect_asked(rt: &impl Abort, alloc: Global, row: &str) -> Result<(), Fail> {
-    let (schema, instance, times) = three_cells(row)?;
-    let schema = Value::from_str(alloc, schema)?;
-    let instance = Value::from_str(alloc, instance)?;
-    let asked = asks_of_leaves(alloc, &schema, &instance)?;
-    assert_eq!(rt; Ok(asked), times.parse(), "{row}");
-    Ok(())
-}
-
 #[test]
 fn a_leaf_is_asked_where_it_is_due(rt: HostRuntime) -> Result<(), Fail> {
-    for row in ASKED.lines() {
-        expect_asked(&rt, rt.alloc(), row)?;
-    }
-    Ok(())
+    expect(&AskedLeaves, rt.alloc(), Table::Asked(ASKED))
 }
 
 // ---- engines that are asked
 
 type CountingValidator<'c> = Validator<BenchLeaf, Counted<'c, BenchRegex>>;
-
-// A validator whose engines count in a cell how often they are asked; what building asked is another matter.
-fn counting<'c>(
-    alloc: Global,
-    schema: &Value,
-    cells: &'c [Cell<u64>; 2],
-) -> Result<CountingValidator<'c>, Fail> {
-    let [made, asked] = cells;
-    let patterns = Counting {
-        maker: BenchRegexes,
-        made,
-        asked,
-    };
-    match Validator::build(alloc, &BenchLeaves, &patterns, schema, &mut Meter::new()) {
-        Ok(validator) => {
-            asked.set(0);
-            Ok(validator)
-        }
-        Err(_) => Err(Fail::new("not built")),
-    }
-}
 
 fn validate_accepts(
     validator: &CountingValidator<'_>,
@@ -385,63 +349,137 @@ fn evaluate_accepts(
 }
 
 // The four ways of asking.
-const WAYS: [&str; 4] = ["is_valid", "validate", "collect_errors", "evaluate"];
+#[derive(Clone, Copy, Drop)]
+enum Way {
+    IsValid,
+    Validate,
+    CollectErrors,
+    Evaluate,
+}
 
 fn accepts_by<'a>(
-    way: &str,
+    way: Way,
     validator: &'a CountingValidator<'_>,
     alloc: Global,
     instance: &'a Value,
     ctx: &mut ValidationContext,
 ) -> Result<bool, AllocError> {
     match way {
-        "is_valid" => Ok(validator.is_valid(instance, ctx)),
-        "validate" => validate_accepts(validator, alloc, instance, ctx),
-        "collect_errors" => collect_errors_accepts(validator, alloc, instance, ctx),
-        _ => evaluate_accepts(validator, alloc, instance, ctx),
+        Way::IsValid => Ok(validator.is_valid(instance, ctx)),
+        Way::Validate => validate_accepts(validator, alloc, instance, ctx),
+        Way::CollectErrors => collect_errors_accepts(validator, alloc, instance, ctx),
+        Way::Evaluate => evaluate_accepts(validator, alloc, instance, ctx),
     }
 }
 
-// What a way of asking comes to under an answer: whether the instance is accepted, how often engines are asked, and how many
-// matches are left unfinished. The context has the same counts and no other, and keeps its answer.
-type Told = (bool, u64, u64);
+// What a way of asking comes to under an answer: whether the instance is accepted, how often engines are asked, how many
+// matches are left unfinished, and what is wrong beside these.
+#[derive(Clone, Copy, Drop)]
+struct Told {
+    accepted: bool,
+    asks: u64,
+    unfinished: u64,
+    wrong: &'static str,
+}
 
-fn told_by(
-    way: &str,
-    alloc: Global,
-    schema: &Value,
-    instance: &Value,
-    answer: bool,
-) -> Result<Told, Fail> {
-    let cells = [Cell::new(0), Cell::new(0)];
-    let validator = counting(alloc, schema, &cells)?;
-    let mut ctx = ValidationContext::new(answer);
-    let accepted = accepts_by(way, &validator, alloc, instance, &mut ctx)?;
-    let asked = cells[1].get();
+// The context has the same counts and no other, and keeps its answer.
+fn wrong_in(ctx: &ValidationContext, asks: u64, answer: bool) -> &'static str {
     let meter = ctx.meter();
-    if (
+    let counts = (
         meter.compiled(),
         meter.leaves(),
         meter.made(),
         meter.asked(),
-    ) != (0, 0, 0, asked)
-    {
-        return Err(Fail::new("another count rose"));
+    );
+    if counts != (0, 0, 0, asks) {
+        ", another count rose"
+    } else if ctx.answer() != answer {
+        ", the answer changed"
+    } else {
+        ""
     }
-    if ctx.answer() != answer {
-        return Err(Fail::new("the answer changed"));
-    }
-    Ok((accepted, asked, ctx.meter().unfinished()))
 }
 
-// Whether engines are asked at all, and whether some or all of these matches are left unfinished.
-fn kind(told: Told) -> (bool, bool, bool) {
-    let (_, asked, unfinished) = told;
-    (asked > 0, unfinished > 0, unfinished == asked)
+fn told_by<'a>(
+    way: Way,
+    validator: &'a CountingValidator<'_>,
+    asked: &Cell<u64>,
+    alloc: Global,
+    instance: &'a Value,
+    answer: bool,
+) -> Result<Told, AllocError> {
+    asked.set(0);
+    let mut ctx = ValidationContext::new(answer);
+    let accepted = accepts_by(way, validator, alloc, instance, &mut ctx)?;
+    let asks = asked.get();
+    Ok(Told {
+        accepted,
+        asks,
+        unfinished: ctx.meter().unfinished(),
+        wrong: wrong_in(&ctx, asks, answer),
+    })
+}
+
+// Whether the instance is accepted, whether engines are asked at all, and whether some or all of these matches are left
+// unfinished.
+fn kind(told: Told) -> (bool, bool, bool, bool) {
+    (
+        told.accepted,
+        told.asks > 0,
+        told.unfinished > 0,
+        told.unfinished == told.asks,
+    )
+}
+
+// Each other way gives the same verdict as `is_valid`, and asks where that asks.
+fn wrong_beside(told: Told, other: Told) -> &'static str {
+    if kind(told) == kind(other) {
+        other.wrong
+    } else {
+        ", another way tells otherwise"
+    }
+}
+
+// The first text that is not empty.
+fn first_of(texts: [&'static str; 4]) -> &'static str {
+    for text in texts {
+        if !text.is_empty() {
+            return text;
+        }
+    }
+    ""
+}
+
+// What a verdict under an answer comes to, and what is wrong with that or with another way of asking.
+fn told_by_all<'a>(
+    validator: &'a CountingValidator<'_>,
+    asked: &Cell<u64>,
+    alloc: Global,
+    instance: &'a Value,
+    answer: bool,
+) -> Result<Told, AllocError> {
+    let told = told_by(Way::IsValid, validator, asked, alloc, instance, answer)?;
+    let first = told_by(Way::Validate, validator, asked, alloc, instance, answer)?;
+    let all = told_by(
+        Way::CollectErrors,
+        validator,
+        asked,
+        alloc,
+        instance,
+        answer,
+    )?;
+    let shown = told_by(Way::Evaluate, validator, asked, alloc, instance, answer)?;
+    let wrong = first_of([
+        told.wrong,
+        wrong_beside(told, first),
+        wrong_beside(told, all),
+        wrong_beside(told, shown),
+    ]);
+    Ok(Told { wrong, ..told })
 }
 
 fn verdict_text(told: Told, told_where_matched: Told) -> &'static str {
-    match (told.0, told_where_matched.0) {
+    match (told.accepted, told_where_matched.accepted) {
         (true, true) => "accepted",
         (false, false) => "refused",
         (true, false) => "accepted or refused",
@@ -449,20 +487,66 @@ fn verdict_text(told: Told, told_where_matched: Told) -> &'static str {
     }
 }
 
-// A verdict under an answer asks as often as wanted, and each other way gives the same verdict and asks where a verdict asks.
-fn told_by_all(
-    rt: &impl Abort,
+// What a verdict comes to where an unfinished match is none, and where it is one: it asks as often.
+fn told_text(alloc: Global, told: Told, matched: Told) -> Result<String, AllocError> {
+    let (asks, unfinished) = (told.asks, told.unfinished);
+    let other = if (asks, unfinished) == (matched.asks, matched.unfinished) {
+        ""
+    } else {
+        ", other counts where an unfinished match is one"
+    };
+    format!(in alloc;
+        "{} | {asks} asks, {unfinished} unfinished{other}{}{}",
+        verdict_text(told, matched),
+        told.wrong,
+        matched.wrong
+    )
+}
+
+fn told_in_all_ways(
+    validator: &CountingValidator<'_>,
+    asked: &Cell<u64>,
     alloc: Global,
-    schema: &Value,
     instance: &Value,
-    answer: bool,
-) -> Result<Told, Fail> {
-    let told = told_by("is_valid", alloc, schema, instance, answer)?;
-    for way in ["validate", "collect_errors", "evaluate"] {
-        let other = told_by(way, alloc, schema, instance, answer)?;
-        assert_eq!(rt; (other.0, kind(other)), (told.0, kind(told)), "{way}");
+) -> Result<String, AllocError> {
+    let told = told_by_all(validator, asked, alloc, instance, false)?;
+    let matched = told_by_all(validator, asked, alloc, instance, true)?;
+    told_text(alloc, told, matched)
+}
+
+fn told_by_a_verdict(
+    validator: &CountingValidator<'_>,
+    asked: &Cell<u64>,
+    alloc: Global,
+    instance: &Value,
+) -> Result<String, AllocError> {
+    let told = told_by(Way::IsValid, validator, asked, alloc, instance, false)?;
+    told_text(alloc, told, told)
+}
+
+// What asking comes to in engines, whatever building asked.
+#[derive(Clone, Copy, Drop)]
+enum AskedEngines {
+    InAllWays,
+    ByAVerdict,
+}
+
+impl Form for AskedEngines {
+    fn answer(&self, alloc: Global, schema: &Value, instance: &Value) -> Result<String, Fail> {
+        let (made, asked) = (Cell::new(0), Cell::new(0));
+        let patterns = Counting {
+            maker: BenchRegexes,
+            made: &made,
+            asked: &asked,
+        };
+        let validator = built(alloc, &BenchLeaves, &patterns, schema)?;
+        let told = match self {
+            AskedEngines::InAllWays => told_in_all_ways(&validator, &asked, alloc, instance),
+            AskedEngines::ByAVerdict => told_by_a_verdict(&validator, &asked, alloc, instance),
+        };
+        drop(validator);
+        Ok(told?)
     }
-    Ok(told)
 }
 
 // A schema, an instance, whether that is accepted (with `or` where an unfinished match is none, and where it is one), and how
@@ -499,30 +583,9 @@ const ENGINES: &str =
 {"additionalProperties":{"type":"integer"},"patternProperties":{"x":{},"y":{}}} | {"a":1,"b":2} | accepted | 4 asks, 0 unfinished
 {"additionalProperties":true,"properties":{"a":{}},"patternProperties":{"x":{}}} | {"a":1,"b":2} | accepted | 2 asks, 0 unfinished"#;
 
-fn expect_engines(rt: &impl Abort, alloc: Global, row: &str) -> Result<(), Fail> {
-    let (schema, instance, verdicts, asks) = four_cells(row)?;
-    let schema = Value::from_str(alloc, schema)?;
-    let instance = Value::from_str(alloc, instance)?;
-    let told = told_by_all(rt, alloc, &schema, &instance, false)?;
-    let matched = told_by_all(rt, alloc, &schema, &instance, true)?;
-    assert_eq!(rt; verdict_text(told, matched), verdicts, "{row}");
-    expect_asks(rt, alloc, told, asks)?;
-    expect_asks(rt, alloc, matched, asks)
-}
-
-fn expect_asks(rt: &impl Abort, alloc: Global, told: Told, wanted: &str) -> Result<(), Fail> {
-    let (_, asks, unfinished) = told;
-    let found = format!(in alloc; "{asks} asks, {unfinished} unfinished")?;
-    assert_eq!(rt; found.as_str(), wanted);
-    Ok(())
-}
-
 #[test]
 fn an_engine_is_asked_as_often_as_is_counted(rt: HostRuntime) -> Result<(), Fail> {
-    for row in ENGINES.lines() {
-        expect_engines(&rt, rt.alloc(), row)?;
-    }
-    Ok(())
+    expect(&AskedEngines::InAllWays, rt.alloc(), Table::Asked(ENGINES))
 }
 
 // A declared name asks no pattern whose match was finished in building, and any other again.
@@ -535,33 +598,32 @@ const LEFT_UNFINISHED: &str =
 
 #[test]
 fn a_declared_name_asks_what_was_left_unfinished(rt: HostRuntime) -> Result<(), Fail> {
-    for row in LEFT_UNFINISHED.lines() {
-        expect_engines(&rt, rt.alloc(), row)?;
-    }
-    Ok(())
+    expect(
+        &AskedEngines::InAllWays,
+        rt.alloc(),
+        Table::Asked(LEFT_UNFINISHED),
+    )
 }
 
-// The same of 65 patterns.
-const MANY_ASKED: &str = r#""m64":{} | {"m64":1} | accepted | 0 asks, 0 unfinished
-"m64":{},"(slow)m64":false | {"m64":1} | accepted or refused | 1 asks, 1 unfinished"#;
+// The same of more patterns than the bits of a word.
+const MANY_ASKED: &str =
+    r#"{"additionalProperties":false,"properties":{"m64":{}},"patternProperties":{"m00":{},"m01":{},"m02":{},"m03":{},"m04":{},"m05":{},"m06":{},"m07":{},"m08":{},"m09":{},"m10":{},"m11":{},"m12":{},"m13":{},"m14":{},"m15":{},"m16":{},"m17":{},"m18":{},"m19":{},"m20":{},"m21":{},"m22":{},"m23":{},"m24":{},"m25":{},"m26":{},"m27":{},"m28":{},"m29":{},"m30":{},"m31":{},"m32":{},"m33":{},"m34":{},"m35":{},"m36":{},"m37":{},"m38":{},"m39":{},"m40":{},"m41":{},"m42":{},"m43":{},"m44":{},"m45":{},"m46":{},"m47":{},"m48":{},"m49":{},"m50":{},"m51":{},"m52":{},"m53":{},"m54":{},"m55":{},"m56":{},"m57":{},"m58":{},"m59":{},"m60":{},"m61":{},"m62":{},"m63":{},"m64":{}}} | {"m64":1} | accepted | 0 asks, 0 unfinished
+{"additionalProperties":false,"properties":{"m64":{}},"patternProperties":{"m00":{},"m01":{},"m02":{},"m03":{},"m04":{},"m05":{},"m06":{},"m07":{},"m08":{},"m09":{},"m10":{},"m11":{},"m12":{},"m13":{},"m14":{},"m15":{},"m16":{},"m17":{},"m18":{},"m19":{},"m20":{},"m21":{},"m22":{},"m23":{},"m24":{},"m25":{},"m26":{},"m27":{},"m28":{},"m29":{},"m30":{},"m31":{},"m32":{},"m33":{},"m34":{},"m35":{},"m36":{},"m37":{},"m38":{},"m39":{},"m40":{},"m41":{},"m42":{},"m43":{},"m44":{},"m45":{},"m46":{},"m47":{},"m48":{},"m49":{},"m50":{},"m51":{},"m52":{},"m53":{},"m54":{},"m55":{},"m56":{},"m57":{},"m58":{},"m59":{},"m60":{},"m61":{},"m62":{},"m63":{},"m64":{},"(slow)m64":false}} | {"m64":1} | accepted or refused | 1 asks, 1 unfinished"#;
 
 #[test]
 fn many_patterns_at_a_declared_name(rt: HostRuntime) -> Result<(), Fail> {
-    for row in MANY_ASKED.lines() {
-        let (more, others) = two_cells(row)?;
-        let row = many_patterns(rt.alloc(), more, others)?;
-        expect_engines(&rt, rt.alloc(), row.as_str())?;
-    }
-    Ok(())
+    expect(
+        &AskedEngines::InAllWays,
+        rt.alloc(),
+        Table::Asked(MANY_ASKED),
+    )
 }
 
 // A branch that accepts spares the others, and what they would ask.
+const SPARED: &str =
+    r#"{"anyOf":[true,{"patternProperties":{"x":{}}}]} | {"x":1} | accepted | 0 asks, 0 unfinished"#;
+
 #[test]
 fn a_branch_that_is_spared(rt: HostRuntime) -> Result<(), Fail> {
-    let alloc = rt.alloc();
-    let schema = Value::from_str(alloc, r#"{"anyOf":[true,{"patternProperties":{"x":{}}}]}"#)?;
-    let instance = Value::from_str(alloc, r#"{"x":1}"#)?;
-    let told = told_by("is_valid", alloc, &schema, &instance, false)?;
-    assert_eq!(rt; told, (true, 0, 0));
-    Ok(())
+    expect(&AskedEngines::ByAVerdict, rt.alloc(), Table::Asked(SPARED))
 }

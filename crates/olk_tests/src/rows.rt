@@ -1,49 +1,110 @@
-//! Rows of tables, whose cells stand between ` | `, and validators of the schemas in them.
-use object_logic::{BuildError, Meter, Validator};
+//! Tables, what is asked of each of their rows, and the first row that is answered otherwise.
+use object_logic::{BuildError, Leaf, MakeLeaf, MakeRegex, Meter, RegexEngine, Validator};
 use olk_bench::{BenchLeaf, BenchLeaves, BenchRegex, BenchRegexes};
-use serde_json::{Map, Value};
+use serde_json::Value;
 use std::alloc::Global;
 use std::test::Fail;
 
-pub(crate) fn two_cells(row: &str) -> Result<(&str, &str), Fail> {
-    match row.split_once(" | ") {
-        Some(cells) => Ok(cells),
-        None => Err(Fail::new("a cell is missing")),
+/// A table, whose rows have cells between ` | `: what is asked, and behind it the answer that is expected, which may have
+/// further cells in it.
+#[derive(Clone, Copy, Drop)]
+pub(crate) enum Table<'t> {
+    /// Rows of a schema.
+    Schemas(&'t str),
+    /// Rows of a schema and an instance.
+    Asked(&'t str),
+    /// Rows of a name, a schema and an instance.
+    Named(&'t str),
+}
+
+/// A form of rows: what is answered where a row is asked.
+pub(crate) trait Form {
+    fn answer(&self, alloc: Global, schema: &Value, instance: &Value) -> Result<String, Fail>;
+}
+
+// A cell, and those behind it.
+fn first_cell(row: &str) -> (&str, &str) {
+    row.split_once(" | ").unwrap_or((row, ""))
+}
+
+// A schema, an instance, and what is expected.
+fn three_cells(row: &str) -> (&str, &str, &str) {
+    let (schema, others) = first_cell(row);
+    let (instance, told) = first_cell(others);
+    (schema, instance, told)
+}
+
+// A schema, no instance, and what is expected.
+fn two_cells(row: &str) -> (&str, &str, &str) {
+    let (schema, told) = first_cell(row);
+    (schema, "null", told)
+}
+
+fn cells<'r>(table: Table<'_>, row: &'r str) -> (&'r str, &'r str, &'r str) {
+    match table {
+        Table::Schemas(_) => two_cells(row),
+        Table::Asked(_) => three_cells(row),
+        Table::Named(_) => three_cells(first_cell(row).1),
     }
 }
 
-pub(crate) fn three_cells(row: &str) -> Result<(&str, &str, &str), Fail> {
-    let (first, others) = two_cells(row)?;
-    let (second, third) = two_cells(others)?;
-    Ok((first, second, third))
-}
-
-// The last cell may have further ones in it.
-pub(crate) fn four_cells(row: &str) -> Result<(&str, &str, &str, &str), Fail> {
-    let (first, second, others) = three_cells(row)?;
-    let (third, fourth) = two_cells(others)?;
-    Ok((first, second, third, fourth))
-}
-
-pub(crate) fn object(alloc: Global, text: &str) -> Result<Map<String, Value>, Fail> {
-    match Value::from_str(alloc, text)? {
-        Value::Object(members) => Ok(members),
-        _ => Err(Fail::new("no object")),
+fn text<'t>(table: Table<'t>) -> &'t str {
+    match table {
+        Table::Schemas(text) => text,
+        Table::Asked(text) => text,
+        Table::Named(text) => text,
     }
 }
 
-pub(crate) type BenchValidator = Validator<BenchLeaf, BenchRegex>;
+pub(crate) fn value(alloc: Global, text: &str) -> Result<Value, Fail> {
+    Ok(Value::from_str(alloc, text)?)
+}
 
-pub(crate) fn built_of(alloc: Global, schema: &Value) -> Result<BenchValidator, Fail> {
-    let mut meter = Meter::new();
-    match Validator::build(alloc, &BenchLeaves, &BenchRegexes, schema, &mut meter) {
+fn answered<F: Form>(
+    form: &F,
+    alloc: Global,
+    schema: &str,
+    instance: &str,
+) -> Result<String, Fail> {
+    let schema = value(alloc, schema)?;
+    let instance = value(alloc, instance)?;
+    form.answer(alloc, &schema, &instance)
+}
+
+fn expect_row<F: Form>(form: &F, alloc: Global, table: Table<'_>, row: &str) -> Result<(), Fail> {
+    let (schema, instance, told) = cells(table, row);
+    let found = answered(form, alloc, schema, instance)?;
+    if found.as_str() == told {
+        Ok(())
+    } else {
+        Err(Fail::new(format_args!("found `{found}` in the row `{row}`")))
+    }
+}
+
+/// Fails at the first row that is answered otherwise than it expects, with that answer.
+pub(crate) fn expect<F: Form>(form: &F, alloc: Global, table: Table<'_>) -> Result<(), Fail> {
+    for row in text(table).lines() {
+        expect_row(form, alloc, table, row)?;
+    }
+    Ok(())
+}
+
+/// The validator of a schema, of the leaves and the matchers that are made.
+pub(crate) fn built<K: Leaf, R: RegexEngine, L: MakeLeaf<Leaf = K>, M: MakeRegex<Engine = R>>(
+    alloc: Global,
+    leaves: &L,
+    regexes: &M,
+    schema: &Value,
+) -> Result<Validator<K, R>, Fail> {
+    match Validator::build(alloc, leaves, regexes, schema, &mut Meter::new()) {
         Ok(validator) => Ok(validator),
         Err(BuildError::Refused(_)) => Err(Fail::new("refused")),
         Err(BuildError::Memory(error)) => Err(Fail::from(error)),
     }
 }
 
-pub(crate) fn built(alloc: Global, schema: &str) -> Result<BenchValidator, Fail> {
-    let schema = Value::from_str(alloc, schema)?;
-    built_of(alloc, &schema)
+pub(crate) type BenchValidator = Validator<BenchLeaf, BenchRegex>;
+
+pub(crate) fn bench_built(alloc: Global, schema: &Value) -> Result<BenchValidator, Fail> {
+    built(alloc, &BenchLeaves, &BenchRegexes, schema)
 }

@@ -1,99 +1,92 @@
 //! What schemas show of values, with a leaf set and a matcher.
-use crate::rows::three_cells;
+use crate::rows::{Form, Table, built, expect};
 use object_logic::Validator;
-use olk_base::{Meter, ValidationContext};
+use olk_base::ValidationContext;
 use olk_low_tests::doubles::{EqualTo, Equality, NoText, NoTexts};
-use olk_reports::{BuildError, Evaluation};
+use olk_reports::{AnnotationEntry, ErrorEntry, Evaluation};
 use serde_json::Value;
 use std::alloc::{AllocError, Global};
-use std::process::Abort;
 use std::test::Fail;
 
 type PlainValidator = Validator<NoText, EqualTo>;
 
-fn built(alloc: Global, schema: &str) -> Result<PlainValidator, Fail> {
-    let schema = Value::from_str(alloc, schema)?;
-    let mut meter = Meter::new();
-    match Validator::build(alloc, &NoTexts, &Equality, &schema, &mut meter) {
-        Ok(validator) => Ok(validator),
-        Err(BuildError::Refused(_error)) => Err(Fail::from("refused")),
-        Err(BuildError::Memory(error)) => Err(Fail::from(error)),
-    }
-}
-
-fn accepts(validator: &PlainValidator, instance: &Value) -> bool {
-    let mut ctx = ValidationContext::new(false);
-    validator.is_valid(instance, &mut ctx)
-}
-
-fn evaluated<'a>(
-    validator: &'a PlainValidator,
-    alloc: Global,
-    instance: &'a Value,
-) -> Result<Evaluation<'a>, AllocError> {
-    let mut ctx = ValidationContext::new(false);
-    validator.evaluate(alloc, instance, &mut ctx)
-}
-
 // A line of its own, with its two places.
 fn push_place(text: &mut String, schema: &str, instance: &str) -> Result<(), AllocError> {
-    if !text.is_empty() {
-        text.push_str(" & ")?;
+    let before = if text.is_empty() { "" } else { " & " };
+    text.write(format_args!("{before}{schema}@{instance} "))
+}
+
+fn push_error(text: &mut String, entry: &ErrorEntry<'_>) -> Result<(), AllocError> {
+    push_place(text, entry.schema_location, entry.instance_location)?;
+    let error = entry.error;
+    text.write(format_args!("{}: {}", error.keyword(), error.message()))
+}
+
+fn push_names(text: &mut String, names: &[&str]) -> Result<(), AllocError> {
+    for name in names {
+        text.write(format_args!("{name},"))?;
     }
-    text.push_str(schema)?;
-    text.push_str("@")?;
-    text.push_str(instance)?;
-    text.push_str(" ")?;
     Ok(())
 }
 
 // Each error with its two places.
-fn push_errors(
-    text: &mut String,
-    alloc: Global,
-    evaluation: &Evaluation<'_>,
-) -> Result<(), AllocError> {
-    for entry in &evaluation.iter_errors(alloc)? {
-        push_place(text, entry.schema_location, entry.instance_location)?;
-        text.push_str(entry.error.keyword())?;
-        text.push_str(": ")?;
-        text.push_str(entry.error.message())?;
+fn push_errors(text: &mut String, entries: &[ErrorEntry<'_>]) -> Result<(), AllocError> {
+    for entry in entries {
+        push_error(text, entry)?;
     }
     Ok(())
 }
 
 // Each annotation with its two places.
-fn push_annotations(
-    text: &mut String,
-    alloc: Global,
-    evaluation: &Evaluation<'_>,
-) -> Result<(), AllocError> {
-    for entry in &evaluation.iter_annotations(alloc)? {
+fn push_annotations(text: &mut String, entries: &[AnnotationEntry<'_>]) -> Result<(), AllocError> {
+    for entry in entries {
         push_place(text, entry.schema_location, entry.instance_location)?;
-        for name in entry.annotations {
-            text.push_str(name)?;
-            text.push_str(",")?;
-        }
+        push_names(text, entry.annotations)?;
     }
     Ok(())
 }
 
-fn shown(alloc: Global, evaluation: &Evaluation<'_>) -> Result<String, AllocError> {
+fn shown_errors(alloc: Global, evaluation: &Evaluation<'_>) -> Result<String, AllocError> {
+    let entries = evaluation.iter_errors(alloc)?;
     let mut text = String::new(alloc);
-    push_errors(&mut text, alloc, evaluation)?;
-    push_annotations(&mut text, alloc, evaluation)?;
+    push_errors(&mut text, &entries)?;
     Ok(text)
 }
 
-fn expect_shown(rt: &impl Abort, alloc: Global, row: &str) -> Result<(), Fail> {
-    let (schema, instance, told) = three_cells(row)?;
-    let validator = built(alloc, schema)?;
-    let instance = Value::from_str(alloc, instance)?;
-    let evaluation = evaluated(&validator, alloc, &instance)?;
-    let valid = accepts(&validator, &instance);
-    assert_eq!(rt; evaluation.flag().valid, valid, "{row}");
-    assert_eq!(rt; shown(alloc, &evaluation)?.as_str(), told, "{row}");
-    Ok(())
+// Each error and each annotation.
+fn shown_text(alloc: Global, evaluation: &Evaluation<'_>) -> Result<String, AllocError> {
+    let mut text = shown_errors(alloc, evaluation)?;
+    let entries = evaluation.iter_annotations(alloc)?;
+    push_annotations(&mut text, &entries)?;
+    Ok(text)
+}
+
+// What is shown, where an evaluation gives the same verdict as `is_valid`.
+fn evaluated(
+    validator: &PlainValidator,
+    alloc: Global,
+    instance: &Value,
+) -> Result<String, AllocError> {
+    let mut ctx = ValidationContext::new(false);
+    let valid = validator.is_valid(instance, &mut ctx);
+    let evaluation = validator.evaluate(alloc, instance, &mut ctx)?;
+    if evaluation.flag().valid == valid {
+        shown_text(alloc, &evaluation)
+    } else {
+        String::from_str(alloc, "another verdict")
+    }
+}
+
+#[derive(Drop)]
+struct Shown;
+
+impl Form for Shown {
+    fn answer(&self, alloc: Global, schema: &Value, instance: &Value) -> Result<String, Fail> {
+        let validator = built(alloc, &NoTexts, &Equality, schema)?;
+        let found = evaluated(&validator, alloc, instance);
+        drop(validator);
+        Ok(found?)
+    }
 }
 
 // A schema, an instance, and each error and each annotation of the evaluation with its two places.
@@ -114,10 +107,7 @@ false | 5 | @ falseSchema: False schema does not allow 5
 
 #[test]
 fn evaluations(rt: HostRuntime) -> Result<(), Fail> {
-    for row in EVALUATIONS.lines() {
-        expect_shown(&rt, rt.alloc(), row)?;
-    }
-    Ok(())
+    expect(&Shown, rt.alloc(), Table::Asked(EVALUATIONS))
 }
 
 // The same for conditions, and then for dependencies and names.
@@ -129,10 +119,7 @@ const OF_CONDITIONS: &str =
 
 #[test]
 fn evaluations_of_conditions(rt: HostRuntime) -> Result<(), Fail> {
-    for row in OF_CONDITIONS.lines() {
-        expect_shown(&rt, rt.alloc(), row)?;
-    }
-    Ok(())
+    expect(&Shown, rt.alloc(), Table::Asked(OF_CONDITIONS))
 }
 
 const OF_DEPENDENCIES: &str =
@@ -145,8 +132,5 @@ const OF_DEPENDENCIES: &str =
 
 #[test]
 fn evaluations_of_dependencies_and_names(rt: HostRuntime) -> Result<(), Fail> {
-    for row in OF_DEPENDENCIES.lines() {
-        expect_shown(&rt, rt.alloc(), row)?;
-    }
-    Ok(())
+    expect(&Shown, rt.alloc(), Table::Asked(OF_DEPENDENCIES))
 }
