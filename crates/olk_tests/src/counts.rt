@@ -1,8 +1,8 @@
 //! What building and asking count.
-use crate::rows::{Form, Table, built, expect};
+use crate::rows::{Form, Table, expect, refusal};
 use object_logic::{
-    BuildError, Leaf, MakeError, MakeLeaf, Meter, Node, ValidateError, ValidationContext,
-    Validator, holds_whole_numbers,
+    Leaf, MakeError, MakeLeaf, Meter, Node, ValidateError, ValidationContext, Validator,
+    holds_whole_numbers,
 };
 use olk_bench::{BenchLeaf, BenchLeaves, BenchRegex, BenchRegexes};
 use olk_low_tests::counting::{Counted, Counting};
@@ -15,8 +15,13 @@ use std::test::Fail;
 struct WholeNumbers;
 
 impl Form for WholeNumbers {
-    fn answer(&self, alloc: Global, value: &Value, _instance: &Value) -> Result<String, Fail> {
-        Ok(format!(in alloc; "{}", holds_whole_numbers(value))?)
+    fn answer(
+        &self,
+        alloc: Global,
+        value: &Value,
+        _instance: &Value,
+    ) -> Result<String, AllocError> {
+        format!(in alloc; "{}", holds_whole_numbers(value))
     }
 }
 
@@ -40,12 +45,9 @@ fn refused_at(
     schema: &Value,
     meter: &mut Meter,
 ) -> Result<String, AllocError> {
-    match Validator::build(alloc, leaves, engines, schema, meter) {
+    match &Validator::build(alloc, leaves, engines, schema, meter) {
         Ok(_) => Ok(String::new(alloc)),
-        Err(BuildError::Refused(error)) => {
-            format!(in alloc; ", refused at {}", error.schema_path())
-        }
-        Err(BuildError::Memory(error)) => Err(error),
+        Err(error) => refusal(alloc, error),
     }
 }
 
@@ -91,11 +93,12 @@ fn counted(alloc: Global, schema: &Value) -> Result<String, AllocError> {
     let (leaves, engines, asked) = (Cell::new(0), Cell::new(0), Cell::new(0));
     let mut meter = Meter::new();
     let refused = refused_with(alloc, schema, &mut meter, [&leaves, &engines, &asked])?;
+    let before = if refused.is_empty() { "" } else { ", " };
     let made = (leaves.get(), engines.get(), asked.get());
     let unlike = unlike(&meter, made);
     let (places, leaves, engines, asks) = (meter.compiled(), made.0, made.1, made.2);
     format!(in alloc;
-        "{places} places, {leaves} leaves, {engines} engines, {asks} asks{refused}{unlike}"
+        "{places} places, {leaves} leaves, {engines} engines, {asks} asks{before}{refused}{unlike}"
     )
 }
 
@@ -103,8 +106,13 @@ fn counted(alloc: Global, schema: &Value) -> Result<String, AllocError> {
 struct Made;
 
 impl Form for Made {
-    fn answer(&self, alloc: Global, schema: &Value, _instance: &Value) -> Result<String, Fail> {
-        Ok(counted(alloc, schema)?)
+    fn answer(
+        &self,
+        alloc: Global,
+        schema: &Value,
+        _instance: &Value,
+    ) -> Result<String, AllocError> {
+        counted(alloc, schema)
     }
 }
 
@@ -265,20 +273,41 @@ impl<'c, M: MakeLeaf> MakeLeaf for Asking<'c, M> {
     }
 }
 
+type AskedValidator<'c> = Validator<Asked<'c, BenchLeaf>, BenchRegex>;
+
+// How often a verdict asks leaves.
+fn told_leaves(
+    validator: &AskedValidator<'_>,
+    asked: &Cell<u64>,
+    alloc: Global,
+    instance: &Value,
+) -> Result<String, AllocError> {
+    let _valid = validator.is_valid(instance, &mut ValidationContext::new(false));
+    format!(in alloc; "{}", asked.get())
+}
+
 #[derive(Drop)]
 struct AskedLeaves;
 
 impl Form for AskedLeaves {
-    fn answer(&self, alloc: Global, schema: &Value, instance: &Value) -> Result<String, Fail> {
+    fn answer(
+        &self,
+        alloc: Global,
+        schema: &Value,
+        instance: &Value,
+    ) -> Result<String, AllocError> {
         let asked = Cell::new(0);
         let leaves = Asking {
             maker: BenchLeaves,
             asked: &asked,
         };
-        let validator = built(alloc, &leaves, &BenchRegexes, schema)?;
-        let _valid = validator.is_valid(instance, &mut ValidationContext::new(false));
-        drop(validator);
-        Ok(format!(in alloc; "{}", asked.get())?)
+        let built = Validator::build(alloc, &leaves, &BenchRegexes, schema, &mut Meter::new());
+        let told = match &built {
+            Ok(validator) => told_leaves(validator, &asked, alloc, instance),
+            Err(error) => refusal(alloc, error),
+        };
+        drop(built);
+        told
     }
 }
 
@@ -320,10 +349,10 @@ fn validate_accepts(
     instance: &Value,
     ctx: &mut ValidationContext,
 ) -> Result<bool, AllocError> {
-    match validator.validate(alloc, instance, ctx) {
+    match &validator.validate(alloc, instance, ctx) {
         Ok(()) => Ok(true),
         Err(ValidateError::Invalid(_)) => Ok(false),
-        Err(ValidateError::Memory(error)) => Err(error),
+        Err(ValidateError::Memory(_)) => Err(AllocError),
     }
 }
 
@@ -344,8 +373,10 @@ fn evaluate_accepts(
     instance: &Value,
     ctx: &mut ValidationContext,
 ) -> Result<bool, AllocError> {
-    let evaluation = validator.evaluate(alloc, instance, ctx)?;
-    Ok(evaluation.flag().valid)
+    match &validator.evaluate(alloc, instance, ctx) {
+        Ok(evaluation) => Ok(evaluation.flag().valid),
+        Err(_) => Err(AllocError),
+    }
 }
 
 // The four ways of asking.
@@ -531,21 +562,39 @@ enum AskedEngines {
     ByAVerdict,
 }
 
+fn told_engines(
+    form: AskedEngines,
+    validator: &CountingValidator<'_>,
+    asked: &Cell<u64>,
+    alloc: Global,
+    instance: &Value,
+) -> Result<String, AllocError> {
+    match form {
+        AskedEngines::InAllWays => told_in_all_ways(validator, asked, alloc, instance),
+        AskedEngines::ByAVerdict => told_by_a_verdict(validator, asked, alloc, instance),
+    }
+}
+
 impl Form for AskedEngines {
-    fn answer(&self, alloc: Global, schema: &Value, instance: &Value) -> Result<String, Fail> {
+    fn answer(
+        &self,
+        alloc: Global,
+        schema: &Value,
+        instance: &Value,
+    ) -> Result<String, AllocError> {
         let (made, asked) = (Cell::new(0), Cell::new(0));
         let patterns = Counting {
             maker: BenchRegexes,
             made: &made,
             asked: &asked,
         };
-        let validator = built(alloc, &BenchLeaves, &patterns, schema)?;
-        let told = match self {
-            AskedEngines::InAllWays => told_in_all_ways(&validator, &asked, alloc, instance),
-            AskedEngines::ByAVerdict => told_by_a_verdict(&validator, &asked, alloc, instance),
+        let built = Validator::build(alloc, &BenchLeaves, &patterns, schema, &mut Meter::new());
+        let told = match &built {
+            Ok(validator) => told_engines(*self, validator, &asked, alloc, instance),
+            Err(error) => refusal(alloc, error),
         };
-        drop(validator);
-        Ok(told?)
+        drop(built);
+        told
     }
 }
 

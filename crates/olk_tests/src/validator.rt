@@ -1,7 +1,7 @@
 //! What schemas show of values, with a leaf set and a matcher.
-use crate::rows::{Form, Table, built, expect};
+use crate::rows::{Form, Table, expect, refusal};
 use object_logic::Validator;
-use olk_base::ValidationContext;
+use olk_base::{Meter, ValidationContext};
 use olk_low_tests::doubles::{EqualTo, Equality, NoText, NoTexts};
 use olk_reports::{AnnotationEntry, ErrorEntry, Evaluation};
 use serde_json::Value;
@@ -62,6 +62,18 @@ fn shown_text(alloc: Global, evaluation: &Evaluation<'_>) -> Result<String, Allo
 }
 
 // What is shown, where an evaluation gives the same verdict as `is_valid`.
+fn shown_with(
+    alloc: Global,
+    evaluation: &Evaluation<'_>,
+    valid: bool,
+) -> Result<String, AllocError> {
+    if evaluation.flag().valid == valid {
+        shown_text(alloc, evaluation)
+    } else {
+        String::from_str(alloc, "another verdict")
+    }
+}
+
 fn evaluated(
     validator: &PlainValidator,
     alloc: Global,
@@ -69,11 +81,9 @@ fn evaluated(
 ) -> Result<String, AllocError> {
     let mut ctx = ValidationContext::new(false);
     let valid = validator.is_valid(instance, &mut ctx);
-    let evaluation = validator.evaluate(alloc, instance, &mut ctx)?;
-    if evaluation.flag().valid == valid {
-        shown_text(alloc, &evaluation)
-    } else {
-        String::from_str(alloc, "another verdict")
+    match &validator.evaluate(alloc, instance, &mut ctx) {
+        Ok(evaluation) => shown_with(alloc, evaluation, valid),
+        Err(_) => Err(AllocError),
     }
 }
 
@@ -81,11 +91,19 @@ fn evaluated(
 struct Shown;
 
 impl Form for Shown {
-    fn answer(&self, alloc: Global, schema: &Value, instance: &Value) -> Result<String, Fail> {
-        let validator = built(alloc, &NoTexts, &Equality, schema)?;
-        let found = evaluated(&validator, alloc, instance);
-        drop(validator);
-        Ok(found?)
+    fn answer(
+        &self,
+        alloc: Global,
+        schema: &Value,
+        instance: &Value,
+    ) -> Result<String, AllocError> {
+        let built = Validator::build(alloc, &NoTexts, &Equality, schema, &mut Meter::new());
+        let told = match &built {
+            Ok(validator) => evaluated(validator, alloc, instance),
+            Err(error) => refusal(alloc, error),
+        };
+        drop(built);
+        told
     }
 }
 
