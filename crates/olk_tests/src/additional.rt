@@ -131,6 +131,13 @@ fn with_rest(
     told
 }
 
+fn with_names(alloc: Global, names: &Value, members: &Value) -> Result<String, AllocError> {
+    let rest = constant(alloc, r#"{"type":"string"}"#)?;
+    let told = with_rest(alloc, names, &rest, members);
+    drop(rest);
+    told
+}
+
 #[derive(Drop)]
 struct DeclaredAndRest;
 
@@ -142,8 +149,9 @@ impl Form for DeclaredAndRest {
         _instance: &Value,
     ) -> Result<String, AllocError> {
         let names = constant(alloc, r#"{"a":{"type":"integer"}}"#)?;
-        let rest = constant(alloc, r#"{"type":"string"}"#)?;
-        with_rest(alloc, &names, &rest, members)
+        let told = with_names(alloc, &names, members);
+        drop(names);
+        told
     }
 }
 

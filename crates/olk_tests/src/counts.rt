@@ -45,10 +45,13 @@ fn refused_at(
     schema: &Value,
     meter: &mut Meter,
 ) -> Result<String, AllocError> {
-    match &Validator::build(alloc, leaves, engines, schema, meter) {
+    let built = Validator::build(alloc, leaves, engines, schema, meter);
+    let refused = match &built {
         Ok(_) => Ok(String::new(alloc)),
         Err(error) => refusal(alloc, error),
-    }
+    };
+    drop(built);
+    refused
 }
 
 // Where a schema is refused, if it is. The cells tell how many leaves and engines are made, and how often engines are asked.
@@ -97,9 +100,11 @@ fn counted(alloc: Global, schema: &Value) -> Result<String, AllocError> {
     let made = (leaves.get(), engines.get(), asked.get());
     let unlike = unlike(&meter, made);
     let (places, leaves, engines, asks) = (meter.compiled(), made.0, made.1, made.2);
-    format!(in alloc;
+    let text = format!(in alloc;
         "{places} places, {leaves} leaves, {engines} engines, {asks} asks{before}{refused}{unlike}"
-    )
+    );
+    drop(refused);
+    text
 }
 
 #[derive(Drop)]
@@ -349,11 +354,14 @@ fn validate_accepts(
     instance: &Value,
     ctx: &mut ValidationContext,
 ) -> Result<bool, AllocError> {
-    match &validator.validate(alloc, instance, ctx) {
+    let found = validator.validate(alloc, instance, ctx);
+    let accepts = match &found {
         Ok(()) => Ok(true),
         Err(ValidateError::Invalid(_)) => Ok(false),
         Err(ValidateError::Memory(_)) => Err(AllocError),
-    }
+    };
+    drop(found);
+    accepts
 }
 
 fn collect_errors_accepts<'a>(
@@ -363,8 +371,13 @@ fn collect_errors_accepts<'a>(
     ctx: &mut ValidationContext,
 ) -> Result<bool, AllocError> {
     let mut errors = Vec::new(alloc);
-    validator.collect_errors(alloc, instance, ctx, &mut errors)?;
-    Ok(errors.is_empty())
+    let collected = validator.collect_errors(alloc, instance, ctx, &mut errors);
+    let accepts = errors.is_empty();
+    drop(errors);
+    match collected {
+        Ok(()) => Ok(accepts),
+        Err(error) => Err(error),
+    }
 }
 
 fn evaluate_accepts(
@@ -373,10 +386,13 @@ fn evaluate_accepts(
     instance: &Value,
     ctx: &mut ValidationContext,
 ) -> Result<bool, AllocError> {
-    match &validator.evaluate(alloc, instance, ctx) {
+    let evaluated = validator.evaluate(alloc, instance, ctx);
+    let accepts = match &evaluated {
         Ok(evaluation) => Ok(evaluation.flag().valid),
         Err(_) => Err(AllocError),
-    }
+    };
+    drop(evaluated);
+    accepts
 }
 
 // The four ways of asking.

@@ -38,15 +38,21 @@ fn push_lines(text: &mut String, lines: &[String]) -> Result<(), AllocError> {
     Ok(())
 }
 
+fn push_in_brackets(text: &mut String, lines: &[String]) -> Result<(), AllocError> {
+    text.push_str(" {")?;
+    push_lines(text, lines)?;
+    text.push_str("}")
+}
+
 fn push_branch(
     alloc: Global,
     text: &mut String,
     branch: &[ValidationError<'_>],
 ) -> Result<(), AllocError> {
     let lines = sorted(alloc, branch)?;
-    text.push_str(" {")?;
-    push_lines(text, &lines)?;
-    text.push_str("}")
+    let pushed = push_in_brackets(text, &lines);
+    drop(lines);
+    pushed
 }
 
 // What each branch finds, in brackets.
@@ -86,16 +92,26 @@ fn push_instance(text: &mut String, error: &ValidationError<'_>) -> Result<(), A
     }
 }
 
-// What the error of a name speaks of, and in brackets the error inside.
+// The line of an error in brackets, and what it speaks of.
+fn push_inner_line(
+    text: &mut String,
+    line: &str,
+    error: &ValidationError<'_>,
+) -> Result<(), AllocError> {
+    text.write(format_args!(" [{line}"))?;
+    push_instance(text, error)?;
+    text.push_str("]")
+}
+
 fn push_inside(
     alloc: Global,
     text: &mut String,
     inside: &ValidationError<'_>,
 ) -> Result<(), AllocError> {
-    let inner = with_branches(alloc, inside)?;
-    text.write(format_args!(" [{inner}"))?;
-    push_instance(text, inside)?;
-    text.push_str("]")
+    let line = with_branches(alloc, inside)?;
+    let pushed = push_inner_line(text, line.as_str(), inside);
+    drop(line);
+    pushed
 }
 
 // What an error speaks of where its text doesn't tell, and in brackets the error inside.
@@ -145,12 +161,29 @@ fn push_joined(text: &mut String, lines: &[String]) -> Result<(), AllocError> {
     Ok(())
 }
 
+fn join(alloc: Global, lines: &[String]) -> Result<String, AllocError> {
+    let mut text = String::new(alloc);
+    push_joined(&mut text, lines)?;
+    Ok(text)
+}
+
 // Errors with their contexts, in the order of their texts, as one line.
 fn joined(alloc: Global, errors: &[ValidationError<'_>]) -> Result<String, AllocError> {
     let lines = sorted_with_contexts(alloc, errors)?;
-    let mut text = String::new(alloc);
-    push_joined(&mut text, &lines)?;
-    Ok(text)
+    let text = join(alloc, &lines);
+    drop(lines);
+    text
+}
+
+fn push_joined_branch(
+    alloc: Global,
+    text: &mut String,
+    branch: &[ValidationError<'_>],
+) -> Result<(), AllocError> {
+    let inner = joined(alloc, branch)?;
+    let pushed = text.push_str(inner.as_str());
+    drop(inner);
+    pushed
 }
 
 fn push_joined_branches(
@@ -159,8 +192,7 @@ fn push_joined_branches(
     branches: &[Vec<ValidationError<'_>>],
 ) -> Result<(), AllocError> {
     for branch in branches {
-        let inner = joined(alloc, branch)?;
-        text.push_str(inner.as_str())?;
+        push_joined_branch(alloc, text, branch)?;
     }
     Ok(())
 }
@@ -212,7 +244,9 @@ fn all_lines(
     instance: &Value,
 ) -> Result<String, AllocError> {
     let errors = collected(validator, alloc, instance)?;
-    joined(alloc, &errors)
+    let text = joined(alloc, &errors);
+    drop(errors);
+    text
 }
 
 // The first error with its context, and no text where the instance is accepted.
@@ -222,14 +256,25 @@ fn first_line(
     instance: &Value,
 ) -> Result<String, AllocError> {
     let mut ctx = ValidationContext::new(false);
-    match &validator.validate(alloc, instance, &mut ctx) {
+    let found = validator.validate(alloc, instance, &mut ctx);
+    let line = match &found {
         Ok(()) => Ok(String::new(alloc)),
         Err(ValidateError::Invalid(error)) => with_context(alloc, error),
         Err(ValidateError::Memory(_)) => Err(AllocError),
-    }
+    };
+    drop(found);
+    line
 }
 
 // All errors behind the first, where these are others.
+fn push_others(text: &mut String, all: &str) -> Result<(), AllocError> {
+    if all == text.as_str() {
+        Ok(())
+    } else {
+        text.write(format_args!(" | {all}"))
+    }
+}
+
 fn push_all(
     text: &mut String,
     validator: &BenchValidator,
@@ -237,11 +282,9 @@ fn push_all(
     instance: &Value,
 ) -> Result<(), AllocError> {
     let all = all_lines(validator, alloc, instance)?;
-    if all.as_str() == text.as_str() {
-        Ok(())
-    } else {
-        text.write(format_args!(" | {all}"))
-    }
+    let pushed = push_others(text, all.as_str());
+    drop(all);
+    pushed
 }
 
 fn is_valid(validator: &BenchValidator, instance: &Value) -> bool {
@@ -254,10 +297,13 @@ fn shows_valid(
     instance: &Value,
 ) -> Result<bool, AllocError> {
     let mut ctx = ValidationContext::new(false);
-    match &validator.evaluate(alloc, instance, &mut ctx) {
+    let evaluated = validator.evaluate(alloc, instance, &mut ctx);
+    let told = match &evaluated {
         Ok(evaluation) => Ok(evaluation.flag().valid),
         Err(_) => Err(AllocError),
-    }
+    };
+    drop(evaluated);
+    told
 }
 
 // Behind the errors, whether the instance is accepted, and the verdicts of `is_valid` and `evaluate` where these are others.
@@ -288,7 +334,10 @@ fn told(validator: &BenchValidator, alloc: Global, instance: &Value) -> Result<S
 }
 
 fn count_errors(alloc: Global, evaluation: &Evaluation<'_>) -> Result<usize, AllocError> {
-    Ok(evaluation.iter_errors(alloc)?.len())
+    let entries = evaluation.iter_errors(alloc)?;
+    let count = entries.len();
+    drop(entries);
+    Ok(count)
 }
 
 // How many errors an evaluation lists.
@@ -298,10 +347,13 @@ fn shown_errors(
     instance: &Value,
 ) -> Result<usize, AllocError> {
     let mut ctx = ValidationContext::new(false);
-    match &validator.evaluate(alloc, instance, &mut ctx) {
+    let evaluated = validator.evaluate(alloc, instance, &mut ctx);
+    let told = match &evaluated {
         Ok(evaluation) => count_errors(alloc, evaluation),
         Err(_) => Err(AllocError),
-    }
+    };
+    drop(evaluated);
+    told
 }
 
 // What is found, and how many errors an evaluation lists where these are others than so many.
@@ -326,7 +378,9 @@ fn told_inside(
     instance: &Value,
 ) -> Result<String, AllocError> {
     let errors = collected(validator, alloc, instance)?;
-    inner_lines(alloc, &errors)
+    let text = inner_lines(alloc, &errors);
+    drop(errors);
+    text
 }
 
 fn told_instances(
@@ -335,7 +389,9 @@ fn told_instances(
     instance: &Value,
 ) -> Result<String, AllocError> {
     let errors = collected(validator, alloc, instance)?;
-    instances(alloc, &errors)
+    let text = instances(alloc, &errors);
+    drop(errors);
+    text
 }
 
 // All errors behind those that were in the list.
@@ -345,8 +401,13 @@ fn told_twice(
     instance: &Value,
 ) -> Result<String, AllocError> {
     let mut errors = collected(validator, alloc, instance)?;
-    collect(validator, alloc, instance, &mut errors)?;
-    joined(alloc, &errors)
+    let again = collect(validator, alloc, instance, &mut errors);
+    let text = match again {
+        Ok(()) => joined(alloc, &errors),
+        Err(error) => Err(error),
+    };
+    drop(errors);
+    text
 }
 
 // ---- what an evaluation shows
@@ -427,10 +488,13 @@ fn shown_trees(
     instance: &Value,
 ) -> Result<String, AllocError> {
     let mut ctx = ValidationContext::new(false);
-    match &validator.evaluate(alloc, instance, &mut ctx) {
+    let evaluated = validator.evaluate(alloc, instance, &mut ctx);
+    let told = match &evaluated {
         Ok(evaluation) => trees(alloc, evaluation.root().children()),
         Err(_) => Err(AllocError),
-    }
+    };
+    drop(evaluated);
+    told
 }
 
 // ---- with a growth refused
@@ -458,11 +522,9 @@ fn two_counts_at_last(
     let once = collects_at_last(validator, alloc, instance, &mut errors);
     let count = errors.len();
     let twice = collects_at_last(validator, alloc, instance, &mut errors);
-    if once && twice {
-        Some((count, errors.len()))
-    } else {
-        None
-    }
+    let counts = (count, errors.len());
+    drop(errors);
+    if once && twice { Some(counts) } else { None }
 }
 
 // How many errors an evaluation lists, asked a second time where memory was wanting.
@@ -479,10 +541,13 @@ fn evaluated_count(
     instance: &Value,
 ) -> Result<Option<usize>, AllocError> {
     let mut ctx = ValidationContext::new(false);
-    match &validator.evaluate(alloc, instance, &mut ctx) {
+    let evaluated = validator.evaluate(alloc, instance, &mut ctx);
+    let told = match &evaluated {
         Ok(evaluation) => Ok(count_at_last(alloc, evaluation)),
         Err(_) => Err(AllocError),
-    }
+    };
+    drop(evaluated);
+    told
 }
 
 // The same of an evaluation that is asked for a second time.

@@ -46,7 +46,9 @@ impl Form for HundredBranches {
             TWO_BRANCHES
         };
         let schema = nested(alloc, outer)?;
-        Found::AndShown(errors).answer(alloc, &schema, instance)
+        let found = Found::AndShown(errors).answer(alloc, &schema, instance);
+        drop(schema);
+        found
     }
 }
 

@@ -67,6 +67,18 @@ pub(crate) fn constant(alloc: Global, text: &str) -> Result<Value, AllocError> {
     }
 }
 
+fn answered_of<F: Form>(
+    form: &F,
+    alloc: Global,
+    schema: &Value,
+    instance: &str,
+) -> Result<String, Fail> {
+    let instance = value(alloc, instance)?;
+    let found = form.answer(alloc, schema, &instance);
+    drop(instance);
+    Ok(found?)
+}
+
 fn answered<F: Form>(
     form: &F,
     alloc: Global,
@@ -74,18 +86,25 @@ fn answered<F: Form>(
     instance: &str,
 ) -> Result<String, Fail> {
     let schema = value(alloc, schema)?;
-    let instance = value(alloc, instance)?;
-    Ok(form.answer(alloc, &schema, &instance)?)
+    let found = answered_of(form, alloc, &schema, instance);
+    drop(schema);
+    found
+}
+
+fn expect_text(found: &str, told: &str, row: &str) -> Result<(), Fail> {
+    if found == told {
+        Ok(())
+    } else {
+        Err(Fail::new(format_args!("found `{found}` in the row `{row}`")))
+    }
 }
 
 fn expect_row<F: Form>(form: &F, alloc: Global, table: Table<'_>, row: &str) -> Result<(), Fail> {
     let (schema, instance, told) = cells(table, row);
     let found = answered(form, alloc, schema, instance)?;
-    if found.as_str() == told {
-        Ok(())
-    } else {
-        Err(Fail::new(format_args!("found `{found}` in the row `{row}`")))
-    }
+    let expected = expect_text(found.as_str(), told, row);
+    drop(found);
+    expected
 }
 
 /// Fails at the first row that is answered otherwise than it expects, with that answer.

@@ -46,18 +46,33 @@ fn push_annotations(text: &mut String, entries: &[AnnotationEntry<'_>]) -> Resul
     Ok(())
 }
 
-fn shown_errors(alloc: Global, evaluation: &Evaluation<'_>) -> Result<String, AllocError> {
+fn push_shown_errors(
+    alloc: Global,
+    text: &mut String,
+    evaluation: &Evaluation<'_>,
+) -> Result<(), AllocError> {
     let entries = evaluation.iter_errors(alloc)?;
-    let mut text = String::new(alloc);
-    push_errors(&mut text, &entries)?;
-    Ok(text)
+    let pushed = push_errors(text, &entries);
+    drop(entries);
+    pushed
+}
+
+fn push_shown_annotations(
+    alloc: Global,
+    text: &mut String,
+    evaluation: &Evaluation<'_>,
+) -> Result<(), AllocError> {
+    let entries = evaluation.iter_annotations(alloc)?;
+    let pushed = push_annotations(text, &entries);
+    drop(entries);
+    pushed
 }
 
 // Each error and each annotation.
 fn shown_text(alloc: Global, evaluation: &Evaluation<'_>) -> Result<String, AllocError> {
-    let mut text = shown_errors(alloc, evaluation)?;
-    let entries = evaluation.iter_annotations(alloc)?;
-    push_annotations(&mut text, &entries)?;
+    let mut text = String::new(alloc);
+    push_shown_errors(alloc, &mut text, evaluation)?;
+    push_shown_annotations(alloc, &mut text, evaluation)?;
     Ok(text)
 }
 
@@ -81,10 +96,13 @@ fn evaluated(
 ) -> Result<String, AllocError> {
     let mut ctx = ValidationContext::new(false);
     let valid = validator.is_valid(instance, &mut ctx);
-    match &validator.evaluate(alloc, instance, &mut ctx) {
+    let evaluated = validator.evaluate(alloc, instance, &mut ctx);
+    let shown = match &evaluated {
         Ok(evaluation) => shown_with(alloc, evaluation, valid),
         Err(_) => Err(AllocError),
-    }
+    };
+    drop(evaluated);
+    shown
 }
 
 #[derive(Drop)]
