@@ -1,7 +1,7 @@
 //! What `additionalProperties` shows with all that it takes over, and what its errors speak of. What it finds is in the
 //! program's lines (tools/program_lines).
 use crate::found::Found;
-use crate::rows::{Form, Table, expect, value};
+use crate::rows::{Form, Table, constant, expect, refusal};
 use object_logic::ValidationContext;
 use olk_base::Meter;
 use olk_bench::{BenchLeaf, BenchLeaves, BenchRegex, BenchRegexes};
@@ -56,28 +56,12 @@ fn an_error_speaks_of_the_object_or_of_its_first_member(rt: HostRuntime) -> Resu
 
 type BenchNode = SchemaNode<BenchLeaf, BenchRegex>;
 
-fn declared(alloc: Global, names: &Map<String, Value>) -> Result<PropertiesMap<BenchNode>, Fail> {
+fn declared(alloc: Global, names: &Map<String, Value>) -> Option<PropertiesMap<BenchNode>> {
     let mut meter = Meter::new();
     let mut ctx = Context::new(alloc, &BenchLeaves, &BenchRegexes, &mut meter);
     match compile_small_map(alloc, &mut ctx, names) {
-        Ok(map) => Ok(PropertiesMap::Small(map)),
-        Err(_) => Err(Fail::from("not built")),
-    }
-}
-
-fn place(alloc: Global, schema: &Value) -> Result<BenchNode, Fail> {
-    let mut meter = Meter::new();
-    let mut ctx = Context::new(alloc, &BenchLeaves, &BenchRegexes, &mut meter);
-    match compile(alloc, &mut ctx, schema) {
-        Ok(place) => Ok(place),
-        Err(_) => Err(Fail::from("not built")),
-    }
-}
-
-fn object(value: &Value) -> Result<&Map<String, Value>, Fail> {
-    match value.as_object() {
-        Some(members) => Ok(members),
-        None => Err(Fail::new("no object")),
+        Ok(map) => Some(PropertiesMap::Small(map)),
+        Err(_) => None,
     }
 }
 
@@ -106,29 +90,68 @@ fn beside(
     names: &Map<String, Value>,
     rest: &BenchNode,
     members: &Map<String, Value>,
-) -> Result<String, Fail> {
-    let map = declared(alloc, names)?;
-    let found = verdicts(alloc, &map, rest, members);
-    drop(map);
-    Ok(found?)
+) -> Result<String, AllocError> {
+    let declared = declared(alloc, names);
+    let told = match &declared {
+        Some(map) => verdicts(alloc, map, rest, members),
+        None => String::from_str(alloc, "not built"),
+    };
+    drop(declared);
+    told
 }
 
-// The same of members beside names that are declared.
-fn beside_names(alloc: Global, rest: &BenchNode, members: &Value) -> Result<String, Fail> {
-    let names = value(alloc, r#"{"a":{"type":"integer"}}"#)?;
-    beside(alloc, object(&names)?, rest, object(members)?)
+// The same beside these names.
+fn beside_names(
+    alloc: Global,
+    names: &Value,
+    rest: &BenchNode,
+    members: &Value,
+) -> Result<String, AllocError> {
+    match (names.as_object(), members.as_object()) {
+        (Some(names), Some(members)) => beside(alloc, names, rest, members),
+        _ => String::from_str(alloc, "no object"),
+    }
+}
+
+// The same with a schema for the rest.
+fn with_rest(
+    alloc: Global,
+    names: &Value,
+    rest: &Value,
+    members: &Value,
+) -> Result<String, AllocError> {
+    let mut meter = Meter::new();
+    let mut ctx = Context::new(alloc, &BenchLeaves, &BenchRegexes, &mut meter);
+    let rest = compile(alloc, &mut ctx, rest);
+    let told = match &rest {
+        Ok(rest) => beside_names(alloc, names, rest, members),
+        Err(error) => refusal(alloc, error),
+    };
+    drop(rest);
+    told
+}
+
+fn with_names(alloc: Global, names: &Value, members: &Value) -> Result<String, AllocError> {
+    let rest = constant(alloc, r#"{"type":"string"}"#)?;
+    let told = with_rest(alloc, names, &rest, members);
+    drop(rest);
+    told
 }
 
 #[derive(Drop)]
 struct DeclaredAndRest;
 
 impl Form for DeclaredAndRest {
-    fn answer(&self, alloc: Global, members: &Value, _instance: &Value) -> Result<String, Fail> {
-        let schema = value(alloc, r#"{"type":"string"}"#)?;
-        let rest = place(alloc, &schema)?;
-        let found = beside_names(alloc, &rest, members);
-        drop(rest);
-        found
+    fn answer(
+        &self,
+        alloc: Global,
+        members: &Value,
+        _instance: &Value,
+    ) -> Result<String, AllocError> {
+        let names = constant(alloc, r#"{"a":{"type":"integer"}}"#)?;
+        let told = with_names(alloc, &names, members);
+        drop(names);
+        told
     }
 }
 

@@ -1,8 +1,8 @@
 //! What building and asking count.
-use crate::rows::{Form, Table, built, expect};
+use crate::rows::{Form, Table, expect, refusal};
 use object_logic::{
-    BuildError, Leaf, MakeError, MakeLeaf, Meter, Node, ValidateError, ValidationContext,
-    Validator, holds_whole_numbers,
+    Leaf, MakeError, MakeLeaf, Meter, Node, ValidateError, ValidationContext, Validator,
+    holds_whole_numbers,
 };
 use olk_bench::{BenchLeaf, BenchLeaves, BenchRegex, BenchRegexes};
 use olk_low_tests::counting::{Counted, Counting};
@@ -15,8 +15,13 @@ use std::test::Fail;
 struct WholeNumbers;
 
 impl Form for WholeNumbers {
-    fn answer(&self, alloc: Global, value: &Value, _instance: &Value) -> Result<String, Fail> {
-        Ok(format!(in alloc; "{}", holds_whole_numbers(value))?)
+    fn answer(
+        &self,
+        alloc: Global,
+        value: &Value,
+        _instance: &Value,
+    ) -> Result<String, AllocError> {
+        format!(in alloc; "{}", holds_whole_numbers(value))
     }
 }
 
@@ -40,13 +45,13 @@ fn refused_at(
     schema: &Value,
     meter: &mut Meter,
 ) -> Result<String, AllocError> {
-    match Validator::build(alloc, leaves, engines, schema, meter) {
+    let built = Validator::build(alloc, leaves, engines, schema, meter);
+    let refused = match &built {
         Ok(_) => Ok(String::new(alloc)),
-        Err(BuildError::Refused(error)) => {
-            format!(in alloc; ", refused at {}", error.schema_path())
-        }
-        Err(BuildError::Memory(error)) => Err(error),
-    }
+        Err(error) => refusal(alloc, error),
+    };
+    drop(built);
+    refused
 }
 
 // Where a schema is refused, if it is. The cells tell how many leaves and engines are made, and how often engines are asked.
@@ -91,20 +96,28 @@ fn counted(alloc: Global, schema: &Value) -> Result<String, AllocError> {
     let (leaves, engines, asked) = (Cell::new(0), Cell::new(0), Cell::new(0));
     let mut meter = Meter::new();
     let refused = refused_with(alloc, schema, &mut meter, [&leaves, &engines, &asked])?;
+    let before = if refused.is_empty() { "" } else { ", " };
     let made = (leaves.get(), engines.get(), asked.get());
     let unlike = unlike(&meter, made);
     let (places, leaves, engines, asks) = (meter.compiled(), made.0, made.1, made.2);
-    format!(in alloc;
-        "{places} places, {leaves} leaves, {engines} engines, {asks} asks{refused}{unlike}"
-    )
+    let text = format!(in alloc;
+        "{places} places, {leaves} leaves, {engines} engines, {asks} asks{before}{refused}{unlike}"
+    );
+    drop(refused);
+    text
 }
 
 #[derive(Drop)]
 struct Made;
 
 impl Form for Made {
-    fn answer(&self, alloc: Global, schema: &Value, _instance: &Value) -> Result<String, Fail> {
-        Ok(counted(alloc, schema)?)
+    fn answer(
+        &self,
+        alloc: Global,
+        schema: &Value,
+        _instance: &Value,
+    ) -> Result<String, AllocError> {
+        counted(alloc, schema)
     }
 }
 
@@ -265,20 +278,41 @@ impl<'c, M: MakeLeaf> MakeLeaf for Asking<'c, M> {
     }
 }
 
+type AskedValidator<'c> = Validator<Asked<'c, BenchLeaf>, BenchRegex>;
+
+// How often a verdict asks leaves.
+fn told_leaves(
+    validator: &AskedValidator<'_>,
+    asked: &Cell<u64>,
+    alloc: Global,
+    instance: &Value,
+) -> Result<String, AllocError> {
+    let _valid = validator.is_valid(instance, &mut ValidationContext::new(false));
+    format!(in alloc; "{}", asked.get())
+}
+
 #[derive(Drop)]
 struct AskedLeaves;
 
 impl Form for AskedLeaves {
-    fn answer(&self, alloc: Global, schema: &Value, instance: &Value) -> Result<String, Fail> {
+    fn answer(
+        &self,
+        alloc: Global,
+        schema: &Value,
+        instance: &Value,
+    ) -> Result<String, AllocError> {
         let asked = Cell::new(0);
         let leaves = Asking {
             maker: BenchLeaves,
             asked: &asked,
         };
-        let validator = built(alloc, &leaves, &BenchRegexes, schema)?;
-        let _valid = validator.is_valid(instance, &mut ValidationContext::new(false));
-        drop(validator);
-        Ok(format!(in alloc; "{}", asked.get())?)
+        let built = Validator::build(alloc, &leaves, &BenchRegexes, schema, &mut Meter::new());
+        let told = match &built {
+            Ok(validator) => told_leaves(validator, &asked, alloc, instance),
+            Err(error) => refusal(alloc, error),
+        };
+        drop(built);
+        told
     }
 }
 
@@ -320,11 +354,14 @@ fn validate_accepts(
     instance: &Value,
     ctx: &mut ValidationContext,
 ) -> Result<bool, AllocError> {
-    match validator.validate(alloc, instance, ctx) {
+    let found = validator.validate(alloc, instance, ctx);
+    let accepts = match &found {
         Ok(()) => Ok(true),
         Err(ValidateError::Invalid(_)) => Ok(false),
-        Err(ValidateError::Memory(error)) => Err(error),
-    }
+        Err(ValidateError::Memory(_)) => Err(AllocError),
+    };
+    drop(found);
+    accepts
 }
 
 fn collect_errors_accepts<'a>(
@@ -334,8 +371,13 @@ fn collect_errors_accepts<'a>(
     ctx: &mut ValidationContext,
 ) -> Result<bool, AllocError> {
     let mut errors = Vec::new(alloc);
-    validator.collect_errors(alloc, instance, ctx, &mut errors)?;
-    Ok(errors.is_empty())
+    let collected = validator.collect_errors(alloc, instance, ctx, &mut errors);
+    let accepts = errors.is_empty();
+    drop(errors);
+    match collected {
+        Ok(()) => Ok(accepts),
+        Err(error) => Err(error),
+    }
 }
 
 fn evaluate_accepts(
@@ -344,8 +386,13 @@ fn evaluate_accepts(
     instance: &Value,
     ctx: &mut ValidationContext,
 ) -> Result<bool, AllocError> {
-    let evaluation = validator.evaluate(alloc, instance, ctx)?;
-    Ok(evaluation.flag().valid)
+    let evaluated = validator.evaluate(alloc, instance, ctx);
+    let accepts = match &evaluated {
+        Ok(evaluation) => Ok(evaluation.flag().valid),
+        Err(_) => Err(AllocError),
+    };
+    drop(evaluated);
+    accepts
 }
 
 // The four ways of asking.
@@ -531,21 +578,39 @@ enum AskedEngines {
     ByAVerdict,
 }
 
+fn told_engines(
+    form: AskedEngines,
+    validator: &CountingValidator<'_>,
+    asked: &Cell<u64>,
+    alloc: Global,
+    instance: &Value,
+) -> Result<String, AllocError> {
+    match form {
+        AskedEngines::InAllWays => told_in_all_ways(validator, asked, alloc, instance),
+        AskedEngines::ByAVerdict => told_by_a_verdict(validator, asked, alloc, instance),
+    }
+}
+
 impl Form for AskedEngines {
-    fn answer(&self, alloc: Global, schema: &Value, instance: &Value) -> Result<String, Fail> {
+    fn answer(
+        &self,
+        alloc: Global,
+        schema: &Value,
+        instance: &Value,
+    ) -> Result<String, AllocError> {
         let (made, asked) = (Cell::new(0), Cell::new(0));
         let patterns = Counting {
             maker: BenchRegexes,
             made: &made,
             asked: &asked,
         };
-        let validator = built(alloc, &BenchLeaves, &patterns, schema)?;
-        let told = match self {
-            AskedEngines::InAllWays => told_in_all_ways(&validator, &asked, alloc, instance),
-            AskedEngines::ByAVerdict => told_by_a_verdict(&validator, &asked, alloc, instance),
+        let built = Validator::build(alloc, &BenchLeaves, &patterns, schema, &mut Meter::new());
+        let told = match &built {
+            Ok(validator) => told_engines(*self, validator, &asked, alloc, instance),
+            Err(error) => refusal(alloc, error),
         };
-        drop(validator);
-        Ok(told?)
+        drop(built);
+        told
     }
 }
 

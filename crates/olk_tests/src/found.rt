@@ -1,13 +1,16 @@
 //! Contexts of errors, lists that are handed in, and children of evaluations. What is found without contexts is in the
 //! program's lines (tools/program_lines).
-use crate::rows::{BenchValidator, Form, Table, bench_built, expect};
+use crate::rows::{Form, Table, expect, refusal};
 use object_logic::{
-    ErrorDescription, EvaluationNode, Node, ValidateError, ValidationContext, ValidationError,
-    ValidationErrorKind,
+    ErrorDescription, Evaluation, EvaluationNode, Meter, Node, ValidateError, ValidationContext,
+    ValidationError, ValidationErrorKind, Validator,
 };
+use olk_bench::{BenchLeaf, BenchLeaves, BenchRegex, BenchRegexes};
 use serde_json::Value;
 use std::alloc::{AllocError, Global};
 use std::test::Fail;
+
+type BenchValidator = Validator<BenchLeaf, BenchRegex>;
 
 // ---- the text of an error
 
@@ -35,15 +38,21 @@ fn push_lines(text: &mut String, lines: &[String]) -> Result<(), AllocError> {
     Ok(())
 }
 
+fn push_in_brackets(text: &mut String, lines: &[String]) -> Result<(), AllocError> {
+    text.push_str(" {")?;
+    push_lines(text, lines)?;
+    text.push_str("}")
+}
+
 fn push_branch(
     alloc: Global,
     text: &mut String,
     branch: &[ValidationError<'_>],
 ) -> Result<(), AllocError> {
     let lines = sorted(alloc, branch)?;
-    text.push_str(" {")?;
-    push_lines(text, &lines)?;
-    text.push_str("}")
+    let pushed = push_in_brackets(text, &lines);
+    drop(lines);
+    pushed
 }
 
 // What each branch finds, in brackets.
@@ -83,16 +92,26 @@ fn push_instance(text: &mut String, error: &ValidationError<'_>) -> Result<(), A
     }
 }
 
-// What the error of a name speaks of, and in brackets the error inside.
+// The line of an error in brackets, and what it speaks of.
+fn push_inner_line(
+    text: &mut String,
+    line: &str,
+    error: &ValidationError<'_>,
+) -> Result<(), AllocError> {
+    text.write(format_args!(" [{line}"))?;
+    push_instance(text, error)?;
+    text.push_str("]")
+}
+
 fn push_inside(
     alloc: Global,
     text: &mut String,
     inside: &ValidationError<'_>,
 ) -> Result<(), AllocError> {
-    let inner = with_branches(alloc, inside)?;
-    text.write(format_args!(" [{inner}"))?;
-    push_instance(text, inside)?;
-    text.push_str("]")
+    let line = with_branches(alloc, inside)?;
+    let pushed = push_inner_line(text, line.as_str(), inside);
+    drop(line);
+    pushed
 }
 
 // What an error speaks of where its text doesn't tell, and in brackets the error inside.
@@ -142,12 +161,29 @@ fn push_joined(text: &mut String, lines: &[String]) -> Result<(), AllocError> {
     Ok(())
 }
 
+fn join(alloc: Global, lines: &[String]) -> Result<String, AllocError> {
+    let mut text = String::new(alloc);
+    push_joined(&mut text, lines)?;
+    Ok(text)
+}
+
 // Errors with their contexts, in the order of their texts, as one line.
 fn joined(alloc: Global, errors: &[ValidationError<'_>]) -> Result<String, AllocError> {
     let lines = sorted_with_contexts(alloc, errors)?;
-    let mut text = String::new(alloc);
-    push_joined(&mut text, &lines)?;
-    Ok(text)
+    let text = join(alloc, &lines);
+    drop(lines);
+    text
+}
+
+fn push_joined_branch(
+    alloc: Global,
+    text: &mut String,
+    branch: &[ValidationError<'_>],
+) -> Result<(), AllocError> {
+    let inner = joined(alloc, branch)?;
+    let pushed = text.push_str(inner.as_str());
+    drop(inner);
+    pushed
 }
 
 fn push_joined_branches(
@@ -156,8 +192,7 @@ fn push_joined_branches(
     branches: &[Vec<ValidationError<'_>>],
 ) -> Result<(), AllocError> {
     for branch in branches {
-        let inner = joined(alloc, branch)?;
-        text.push_str(inner.as_str())?;
+        push_joined_branch(alloc, text, branch)?;
     }
     Ok(())
 }
@@ -209,7 +244,9 @@ fn all_lines(
     instance: &Value,
 ) -> Result<String, AllocError> {
     let errors = collected(validator, alloc, instance)?;
-    joined(alloc, &errors)
+    let text = joined(alloc, &errors);
+    drop(errors);
+    text
 }
 
 // The first error with its context, and no text where the instance is accepted.
@@ -219,14 +256,25 @@ fn first_line(
     instance: &Value,
 ) -> Result<String, AllocError> {
     let mut ctx = ValidationContext::new(false);
-    match validator.validate(alloc, instance, &mut ctx) {
+    let found = validator.validate(alloc, instance, &mut ctx);
+    let line = match &found {
         Ok(()) => Ok(String::new(alloc)),
-        Err(ValidateError::Invalid(error)) => with_context(alloc, &error),
-        Err(ValidateError::Memory(error)) => Err(error),
-    }
+        Err(ValidateError::Invalid(error)) => with_context(alloc, error),
+        Err(ValidateError::Memory(_)) => Err(AllocError),
+    };
+    drop(found);
+    line
 }
 
 // All errors behind the first, where these are others.
+fn push_others(text: &mut String, all: &str) -> Result<(), AllocError> {
+    if all == text.as_str() {
+        Ok(())
+    } else {
+        text.write(format_args!(" | {all}"))
+    }
+}
+
 fn push_all(
     text: &mut String,
     validator: &BenchValidator,
@@ -234,11 +282,9 @@ fn push_all(
     instance: &Value,
 ) -> Result<(), AllocError> {
     let all = all_lines(validator, alloc, instance)?;
-    if all.as_str() == text.as_str() {
-        Ok(())
-    } else {
-        text.write(format_args!(" | {all}"))
-    }
+    let pushed = push_others(text, all.as_str());
+    drop(all);
+    pushed
 }
 
 fn is_valid(validator: &BenchValidator, instance: &Value) -> bool {
@@ -251,8 +297,13 @@ fn shows_valid(
     instance: &Value,
 ) -> Result<bool, AllocError> {
     let mut ctx = ValidationContext::new(false);
-    let evaluation = validator.evaluate(alloc, instance, &mut ctx)?;
-    Ok(evaluation.flag().valid)
+    let evaluated = validator.evaluate(alloc, instance, &mut ctx);
+    let told = match &evaluated {
+        Ok(evaluation) => Ok(evaluation.flag().valid),
+        Err(_) => Err(AllocError),
+    };
+    drop(evaluated);
+    told
 }
 
 // Behind the errors, whether the instance is accepted, and the verdicts of `is_valid` and `evaluate` where these are others.
@@ -282,6 +333,13 @@ fn told(validator: &BenchValidator, alloc: Global, instance: &Value) -> Result<S
     Ok(text)
 }
 
+fn count_errors(alloc: Global, evaluation: &Evaluation<'_>) -> Result<usize, AllocError> {
+    let entries = evaluation.iter_errors(alloc)?;
+    let count = entries.len();
+    drop(entries);
+    Ok(count)
+}
+
 // How many errors an evaluation lists.
 fn shown_errors(
     validator: &BenchValidator,
@@ -289,9 +347,13 @@ fn shown_errors(
     instance: &Value,
 ) -> Result<usize, AllocError> {
     let mut ctx = ValidationContext::new(false);
-    let evaluation = validator.evaluate(alloc, instance, &mut ctx)?;
-    let errors = evaluation.iter_errors(alloc)?;
-    Ok(errors.len())
+    let evaluated = validator.evaluate(alloc, instance, &mut ctx);
+    let told = match &evaluated {
+        Ok(evaluation) => count_errors(alloc, evaluation),
+        Err(_) => Err(AllocError),
+    };
+    drop(evaluated);
+    told
 }
 
 // What is found, and how many errors an evaluation lists where these are others than so many.
@@ -316,7 +378,9 @@ fn told_inside(
     instance: &Value,
 ) -> Result<String, AllocError> {
     let errors = collected(validator, alloc, instance)?;
-    inner_lines(alloc, &errors)
+    let text = inner_lines(alloc, &errors);
+    drop(errors);
+    text
 }
 
 fn told_instances(
@@ -325,7 +389,9 @@ fn told_instances(
     instance: &Value,
 ) -> Result<String, AllocError> {
     let errors = collected(validator, alloc, instance)?;
-    instances(alloc, &errors)
+    let text = instances(alloc, &errors);
+    drop(errors);
+    text
 }
 
 // All errors behind those that were in the list.
@@ -335,8 +401,13 @@ fn told_twice(
     instance: &Value,
 ) -> Result<String, AllocError> {
     let mut errors = collected(validator, alloc, instance)?;
-    collect(validator, alloc, instance, &mut errors)?;
-    joined(alloc, &errors)
+    let again = collect(validator, alloc, instance, &mut errors);
+    let text = match again {
+        Ok(()) => joined(alloc, &errors),
+        Err(error) => Err(error),
+    };
+    drop(errors);
+    text
 }
 
 // ---- what an evaluation shows
@@ -417,27 +488,78 @@ fn shown_trees(
     instance: &Value,
 ) -> Result<String, AllocError> {
     let mut ctx = ValidationContext::new(false);
-    let evaluation = validator.evaluate(alloc, instance, &mut ctx)?;
-    trees(alloc, evaluation.root().children())
+    let evaluated = validator.evaluate(alloc, instance, &mut ctx);
+    let told = match &evaluated {
+        Ok(evaluation) => trees(alloc, evaluation.root().children()),
+        Err(_) => Err(AllocError),
+    };
+    drop(evaluated);
+    told
 }
 
 // ---- with a growth refused
 
-// All errors, asked a second time where memory was wanting; a refused call leaves the list as it was.
-fn collect_at_last<'a>(
+// Whether all errors are put into the list, asked a second time where memory was wanting; a refused call leaves the list as it
+// was.
+fn collects_at_last<'a>(
     validator: &'a BenchValidator,
     alloc: Global,
     instance: &'a Value,
     errors: &mut Vec<ValidationError<'a>>,
-) -> Result<(), Fail> {
+) -> bool {
     let before = errors.len();
-    if collect(validator, alloc, instance, errors).is_ok() {
-        return Ok(());
+    collect(validator, alloc, instance, errors).is_ok()
+        || (errors.len() == before && collect(validator, alloc, instance, errors).is_ok())
+}
+
+// How many errors are in a list, and in one that they are put into twice.
+fn two_counts_at_last(
+    validator: &BenchValidator,
+    alloc: Global,
+    instance: &Value,
+) -> Option<(usize, usize)> {
+    let mut errors = Vec::new(alloc);
+    let once = collects_at_last(validator, alloc, instance, &mut errors);
+    let count = errors.len();
+    let twice = collects_at_last(validator, alloc, instance, &mut errors);
+    let counts = (count, errors.len());
+    drop(errors);
+    if once && twice { Some(counts) } else { None }
+}
+
+// How many errors an evaluation lists, asked a second time where memory was wanting.
+fn count_at_last(alloc: Global, evaluation: &Evaluation<'_>) -> Option<usize> {
+    match count_errors(alloc, evaluation) {
+        Ok(count) => Some(count),
+        Err(_) => count_errors(alloc, evaluation).ok(),
     }
-    if errors.len() != before {
-        return Err(Fail::new("the list is not as it was"));
+}
+
+fn evaluated_count(
+    validator: &BenchValidator,
+    alloc: Global,
+    instance: &Value,
+) -> Result<Option<usize>, AllocError> {
+    let mut ctx = ValidationContext::new(false);
+    let evaluated = validator.evaluate(alloc, instance, &mut ctx);
+    let told = match &evaluated {
+        Ok(evaluation) => Ok(count_at_last(alloc, evaluation)),
+        Err(_) => Err(AllocError),
+    };
+    drop(evaluated);
+    told
+}
+
+// The same of an evaluation that is asked for a second time.
+fn evaluated_count_at_last(
+    validator: &BenchValidator,
+    alloc: Global,
+    instance: &Value,
+) -> Option<usize> {
+    match evaluated_count(validator, alloc, instance) {
+        Ok(count) => count,
+        Err(_) => evaluated_count(validator, alloc, instance).unwrap_or(None),
     }
-    collect(validator, alloc, instance, errors).or_else(|_| Err(Fail::new("refused twice")))
 }
 
 // The first error's line, asked a second time where memory was wanting.
@@ -445,45 +567,14 @@ fn first_line_at_last(
     validator: &BenchValidator,
     alloc: Global,
     instance: &Value,
-) -> Result<String, Fail> {
-    first_line(validator, alloc, instance)
-        .or_else(|_| first_line(validator, alloc, instance))
-        .or_else(|_| Err(Fail::new("refused twice")))
-}
-
-// How many errors an evaluation lists; each call is asked a second time where memory was wanting.
-fn evaluated_errors_at_last(
-    validator: &BenchValidator,
-    alloc: Global,
-    instance: &Value,
-) -> Result<usize, Fail> {
-    let mut ctx = ValidationContext::new(false);
-    let Ok(evaluation) = validator
-        .evaluate(alloc, instance, &mut ctx)
-        .or_else(|_| validator.evaluate(alloc, instance, &mut ctx))
-    else {
-        return Err(Fail::new("refused twice"));
-    };
-    let Ok(entries) = evaluation
-        .iter_errors(alloc)
-        .or_else(|_| evaluation.iter_errors(alloc))
-    else {
-        return Err(Fail::new("refused twice"));
-    };
-    Ok(entries.len())
-}
-
-// How many errors are in a list that they are put into twice.
-fn two_counts_at_last(
-    validator: &BenchValidator,
-    alloc: Global,
-    instance: &Value,
-) -> Result<(usize, usize), Fail> {
-    let mut errors: Vec<ValidationError<'_>> = Vec::new(alloc);
-    collect_at_last(validator, alloc, instance, &mut errors)?;
-    let once = errors.len();
-    collect_at_last(validator, alloc, instance, &mut errors)?;
-    Ok((once, errors.len()))
+) -> Result<String, AllocError> {
+    match first_line(validator, alloc, instance) {
+        Ok(line) => Ok(line),
+        Err(_) => match first_line(validator, alloc, instance) {
+            Ok(line) => Ok(line),
+            Err(_) => String::from_str(alloc, "refused twice"),
+        },
+    }
 }
 
 // The first error's line, where there are 25 errors, and an evaluation lists 26.
@@ -491,14 +582,14 @@ fn told_at_last(
     validator: &BenchValidator,
     alloc: Global,
     instance: &Value,
-) -> Result<String, Fail> {
-    if two_counts_at_last(validator, alloc, instance)? != (25, 50) {
-        return Err(Fail::new("another count of errors"));
+) -> Result<String, AllocError> {
+    if two_counts_at_last(validator, alloc, instance) != Some((25, 50)) {
+        String::from_str(alloc, "another count of errors")
+    } else if evaluated_count_at_last(validator, alloc, instance) != Some(26) {
+        String::from_str(alloc, "another count of shown errors")
+    } else {
+        first_line_at_last(validator, alloc, instance)
     }
-    if evaluated_errors_at_last(validator, alloc, instance)? != 26 {
-        return Err(Fail::new("another count of shown errors"));
-    }
-    first_line_at_last(validator, alloc, instance)
 }
 
 // ---- forms of rows
@@ -518,6 +609,8 @@ pub(crate) enum Found {
     Twice,
     /// What an evaluation shows below its root.
     Trees,
+    /// The first error, each call being asked a second time where memory was wanting.
+    AtLast,
 }
 
 fn found_by(
@@ -533,29 +626,30 @@ fn found_by(
         Found::Instances => told_instances(validator, alloc, instance),
         Found::Twice => told_twice(validator, alloc, instance),
         Found::Trees => shown_trees(validator, alloc, instance),
+        Found::AtLast => told_at_last(validator, alloc, instance),
     }
 }
 
 impl Form for Found {
-    fn answer(&self, alloc: Global, schema: &Value, instance: &Value) -> Result<String, Fail> {
-        let validator = bench_built(alloc, schema)?;
-        let found = found_by(*self, &validator, alloc, instance);
-        drop(validator);
-        Ok(found?)
-    }
-}
-
-// With each growth refused in turn (tools/refused_growths), the second call gives the full answer; want
-// of memory is told by the schema, the instance and the building alone.
-#[derive(Drop)]
-struct AtLast;
-
-impl Form for AtLast {
-    fn answer(&self, alloc: Global, schema: &Value, instance: &Value) -> Result<String, Fail> {
-        let validator = bench_built(alloc, schema)?;
-        let found = told_at_last(&validator, alloc, instance);
-        drop(validator);
-        found
+    fn answer(
+        &self,
+        alloc: Global,
+        schema: &Value,
+        instance: &Value,
+    ) -> Result<String, AllocError> {
+        let built = Validator::build(
+            alloc,
+            &BenchLeaves,
+            &BenchRegexes,
+            schema,
+            &mut Meter::new(),
+        );
+        let told = match &built {
+            Ok(validator) => found_by(*self, validator, alloc, instance),
+            Err(error) => refusal(alloc, error),
+        };
+        drop(built);
+        told
     }
 }
 
@@ -731,7 +825,8 @@ fn trees_of_evaluations(rt: HostRuntime) -> Result<(), Fail> {
     expect(&Found::Trees, rt.alloc(), Table::Named(TREES))
 }
 
-// A schema, an instance, and its first error.
+// A schema, an instance, and its first error. With each growth refused in turn (tools/refused_growths), the second call gives
+// the full answer; want of memory is told by the row's two values and the building alone, and by the text that is told at last.
 const MANY_FAULTS: &str = concat!(
     r#"{"allOf":[{"required":["a","b"]},{"properties":{"c":{"type":"string"}}},"#,
     r#"{"patternProperties":{"c":{"minimum":7},"^c":false}},{"patternProperties":{"^d":{"type":"null"}}},"#,
@@ -747,5 +842,5 @@ const MANY_FAULTS: &str = concat!(
 
 #[test]
 fn full_answers_after_a_refused_growth(rt: HostRuntime) -> Result<(), Fail> {
-    expect(&AtLast, rt.alloc(), Table::Asked(MANY_FAULTS))
+    expect(&Found::AtLast, rt.alloc(), Table::Asked(MANY_FAULTS))
 }

@@ -1,32 +1,29 @@
 //! Branches in branches: what is asked before it is told costs no more than the square of the depth.
 use crate::found::Found;
-use crate::rows::{Form, Table, expect, value};
-use serde_json::{Map, Value};
+use crate::rows::{Form, Table, constant, expect};
+use serde_json::Value;
 use std::alloc::{AllocError, Global};
+use std::mem::replace;
 use std::test::Fail;
 
-// A schema object with this one keyword.
-fn with_keyword(alloc: Global, name: &str, value: Value) -> Result<Value, AllocError> {
-    let mut schema = Map::new(alloc);
-    schema.insert(String::from_str(alloc, name)?, value)?;
-    Ok(Value::Object(schema))
+// The place of the first branch of `anyOf`.
+fn first_branch(schema: &mut Value) -> Option<&mut Value> {
+    schema.get_mut("anyOf")?.get_mut(0)
 }
 
-// `anyOf` of this schema, and of a leaf that refuses numbers, if that is wanted beside it.
-fn branches(alloc: Global, schema: Value, with_leaf: bool) -> Result<Value, Fail> {
-    let mut items = Vec::new(alloc);
-    items.push(schema)?;
-    if with_leaf {
-        items.push(value(alloc, r#"{"type":"null"}"#)?)?;
+// Puts a schema into the first branch of another.
+fn wrap(schema: &mut Value, outer: Value) {
+    let inner = replace(schema, outer);
+    if let Some(place) = first_branch(schema) {
+        *place = inner;
     }
-    Ok(with_keyword(alloc, "anyOf", Value::Array(items))?)
 }
 
-// A hundred `anyOf`, each in the one before, around a leaf that refuses numbers.
-fn nested(alloc: Global, with_leaf: bool) -> Result<Value, Fail> {
-    let mut schema = value(alloc, r#"{"type":"string"}"#)?;
+// A hundred times a schema, each in the first branch of the one before, around a leaf that refuses numbers.
+fn nested(alloc: Global, outer: &str) -> Result<Value, AllocError> {
+    let mut schema = constant(alloc, r#"{"type":"string"}"#)?;
     for _ in 0..100 {
-        schema = branches(alloc, schema, with_leaf)?;
+        wrap(&mut schema, constant(alloc, outer)?);
     }
     Ok(schema)
 }
@@ -36,14 +33,29 @@ fn nested(alloc: Global, with_leaf: bool) -> Result<Value, Fail> {
 struct HundredBranches;
 
 impl Form for HundredBranches {
-    fn answer(&self, alloc: Global, errors: &Value, instance: &Value) -> Result<String, Fail> {
+    fn answer(
+        &self,
+        alloc: Global,
+        errors: &Value,
+        instance: &Value,
+    ) -> Result<String, AllocError> {
         let errors = errors.as_u64();
-        let schema = nested(alloc, errors != Some(1))?;
+        let outer = if errors == Some(1) {
+            ONE_BRANCH
+        } else {
+            TWO_BRANCHES
+        };
+        let schema = nested(alloc, outer)?;
         let found = Found::AndShown(errors).answer(alloc, &schema, instance);
         drop(schema);
         found
     }
 }
+
+const ONE_BRANCH: &str = r#"{"anyOf":[null]}"#;
+
+// The second refuses numbers.
+const TWO_BRANCHES: &str = r#"{"anyOf":[null,{"type":"null"}]}"#;
 
 // How many errors an evaluation lists of a hundred branches of one branch or of two, an instance, and what is found.
 const HUNDRED: &str =

@@ -1,8 +1,7 @@
 //! Tables, what is asked of each of their rows, and the first row that is answered otherwise.
-use object_logic::{BuildError, Leaf, MakeLeaf, MakeRegex, Meter, RegexEngine, Validator};
-use olk_bench::{BenchLeaf, BenchLeaves, BenchRegex, BenchRegexes};
+use object_logic::BuildError;
 use serde_json::Value;
-use std::alloc::Global;
+use std::alloc::{AllocError, Global};
 use std::test::Fail;
 
 /// A table, whose rows have cells between ` | `: what is asked, and behind it the answer that is expected, which may have
@@ -19,7 +18,7 @@ pub(crate) enum Table<'t> {
 
 /// A form of rows: what is answered where a row is asked.
 pub(crate) trait Form {
-    fn answer(&self, alloc: Global, schema: &Value, instance: &Value) -> Result<String, Fail>;
+    fn answer(&self, alloc: Global, schema: &Value, instance: &Value) -> Result<String, AllocError>;
 }
 
 // A cell, and those behind it.
@@ -56,8 +55,28 @@ fn text<'t>(table: Table<'t>) -> &'t str {
     }
 }
 
-pub(crate) fn value(alloc: Global, text: &str) -> Result<Value, Fail> {
+fn value(alloc: Global, text: &str) -> Result<Value, Fail> {
     Ok(Value::from_str(alloc, text)?)
+}
+
+/// The value of a text that is JSON, which only want of memory refuses.
+pub(crate) fn constant(alloc: Global, text: &str) -> Result<Value, AllocError> {
+    match Value::from_str(alloc, text) {
+        Ok(value) => Ok(value),
+        Err(_) => Err(AllocError),
+    }
+}
+
+fn answered_of<F: Form>(
+    form: &F,
+    alloc: Global,
+    schema: &Value,
+    instance: &str,
+) -> Result<String, Fail> {
+    let instance = value(alloc, instance)?;
+    let found = form.answer(alloc, schema, &instance);
+    drop(instance);
+    Ok(found?)
 }
 
 fn answered<F: Form>(
@@ -67,18 +86,25 @@ fn answered<F: Form>(
     instance: &str,
 ) -> Result<String, Fail> {
     let schema = value(alloc, schema)?;
-    let instance = value(alloc, instance)?;
-    form.answer(alloc, &schema, &instance)
+    let found = answered_of(form, alloc, &schema, instance);
+    drop(schema);
+    found
+}
+
+fn expect_text(found: &str, told: &str, row: &str) -> Result<(), Fail> {
+    if found == told {
+        Ok(())
+    } else {
+        Err(Fail::new(format_args!("found `{found}` in the row `{row}`")))
+    }
 }
 
 fn expect_row<F: Form>(form: &F, alloc: Global, table: Table<'_>, row: &str) -> Result<(), Fail> {
     let (schema, instance, told) = cells(table, row);
     let found = answered(form, alloc, schema, instance)?;
-    if found.as_str() == told {
-        Ok(())
-    } else {
-        Err(Fail::new(format_args!("found `{found}` in the row `{row}`")))
-    }
+    let expected = expect_text(found.as_str(), told, row);
+    drop(found);
+    expected
 }
 
 /// Fails at the first row that is answered otherwise than it expects, with that answer.
@@ -89,22 +115,10 @@ pub(crate) fn expect<F: Form>(form: &F, alloc: Global, table: Table<'_>) -> Resu
     Ok(())
 }
 
-/// The validator of a schema, of the leaves and the matchers that are made.
-pub(crate) fn built<K: Leaf, R: RegexEngine, L: MakeLeaf<Leaf = K>, M: MakeRegex<Engine = R>>(
-    alloc: Global,
-    leaves: &L,
-    regexes: &M,
-    schema: &Value,
-) -> Result<Validator<K, R>, Fail> {
-    match Validator::build(alloc, leaves, regexes, schema, &mut Meter::new()) {
-        Ok(validator) => Ok(validator),
-        Err(BuildError::Refused(_)) => Err(Fail::new("refused")),
-        Err(BuildError::Memory(error)) => Err(Fail::from(error)),
+/// What is told of a schema that isn't built.
+pub(crate) fn refusal(alloc: Global, error: &BuildError<'_>) -> Result<String, AllocError> {
+    match error {
+        BuildError::Refused(error) => format!(in alloc; "refused at {}", error.schema_path()),
+        BuildError::Memory(_) => Err(AllocError),
     }
-}
-
-pub(crate) type BenchValidator = Validator<BenchLeaf, BenchRegex>;
-
-pub(crate) fn bench_built(alloc: Global, schema: &Value) -> Result<BenchValidator, Fail> {
-    built(alloc, &BenchLeaves, &BenchRegexes, schema)
 }

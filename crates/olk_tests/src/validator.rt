@@ -1,7 +1,7 @@
 //! What schemas show of values, with a leaf set and a matcher.
-use crate::rows::{Form, Table, built, expect};
+use crate::rows::{Form, Table, expect, refusal};
 use object_logic::Validator;
-use olk_base::ValidationContext;
+use olk_base::{Meter, ValidationContext};
 use olk_low_tests::doubles::{EqualTo, Equality, NoText, NoTexts};
 use olk_reports::{AnnotationEntry, ErrorEntry, Evaluation};
 use serde_json::Value;
@@ -46,22 +46,49 @@ fn push_annotations(text: &mut String, entries: &[AnnotationEntry<'_>]) -> Resul
     Ok(())
 }
 
-fn shown_errors(alloc: Global, evaluation: &Evaluation<'_>) -> Result<String, AllocError> {
+fn push_shown_errors(
+    alloc: Global,
+    text: &mut String,
+    evaluation: &Evaluation<'_>,
+) -> Result<(), AllocError> {
     let entries = evaluation.iter_errors(alloc)?;
-    let mut text = String::new(alloc);
-    push_errors(&mut text, &entries)?;
-    Ok(text)
+    let pushed = push_errors(text, &entries);
+    drop(entries);
+    pushed
+}
+
+fn push_shown_annotations(
+    alloc: Global,
+    text: &mut String,
+    evaluation: &Evaluation<'_>,
+) -> Result<(), AllocError> {
+    let entries = evaluation.iter_annotations(alloc)?;
+    let pushed = push_annotations(text, &entries);
+    drop(entries);
+    pushed
 }
 
 // Each error and each annotation.
 fn shown_text(alloc: Global, evaluation: &Evaluation<'_>) -> Result<String, AllocError> {
-    let mut text = shown_errors(alloc, evaluation)?;
-    let entries = evaluation.iter_annotations(alloc)?;
-    push_annotations(&mut text, &entries)?;
+    let mut text = String::new(alloc);
+    push_shown_errors(alloc, &mut text, evaluation)?;
+    push_shown_annotations(alloc, &mut text, evaluation)?;
     Ok(text)
 }
 
 // What is shown, where an evaluation gives the same verdict as `is_valid`.
+fn shown_with(
+    alloc: Global,
+    evaluation: &Evaluation<'_>,
+    valid: bool,
+) -> Result<String, AllocError> {
+    if evaluation.flag().valid == valid {
+        shown_text(alloc, evaluation)
+    } else {
+        String::from_str(alloc, "another verdict")
+    }
+}
+
 fn evaluated(
     validator: &PlainValidator,
     alloc: Global,
@@ -69,23 +96,32 @@ fn evaluated(
 ) -> Result<String, AllocError> {
     let mut ctx = ValidationContext::new(false);
     let valid = validator.is_valid(instance, &mut ctx);
-    let evaluation = validator.evaluate(alloc, instance, &mut ctx)?;
-    if evaluation.flag().valid == valid {
-        shown_text(alloc, &evaluation)
-    } else {
-        String::from_str(alloc, "another verdict")
-    }
+    let evaluated = validator.evaluate(alloc, instance, &mut ctx);
+    let shown = match &evaluated {
+        Ok(evaluation) => shown_with(alloc, evaluation, valid),
+        Err(_) => Err(AllocError),
+    };
+    drop(evaluated);
+    shown
 }
 
 #[derive(Drop)]
 struct Shown;
 
 impl Form for Shown {
-    fn answer(&self, alloc: Global, schema: &Value, instance: &Value) -> Result<String, Fail> {
-        let validator = built(alloc, &NoTexts, &Equality, schema)?;
-        let found = evaluated(&validator, alloc, instance);
-        drop(validator);
-        Ok(found?)
+    fn answer(
+        &self,
+        alloc: Global,
+        schema: &Value,
+        instance: &Value,
+    ) -> Result<String, AllocError> {
+        let built = Validator::build(alloc, &NoTexts, &Equality, schema, &mut Meter::new());
+        let told = match &built {
+            Ok(validator) => evaluated(validator, alloc, instance),
+            Err(error) => refusal(alloc, error),
+        };
+        drop(built);
+        told
     }
 }
 
