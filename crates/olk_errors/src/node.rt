@@ -1,6 +1,8 @@
 //! Keywords and bodies.
-ghost use Rattle.std.specs.Prelude.{◌≡◌, OnOk, OnErr, IfErr};
+ghost use Rattle.std.specs.Prelude.{◌≡◌, OnOk, OnErr, IfErr, map};
+ghost use Rattle.olk_base.specs.Lawful.{texts_of};
 ghost use Rattle.olk_base.specs.Nodes.{data_of};
+ghost use Rattle.olk_spec.specs.Faults.{fault, Leaf};
 ghost use Rattle.olk_check.specs.Asks.{OnlyAsks};
 ghost use Rattle.olk_errors.specs.Found.{Appends, IfInvalid, Passes, IsErrorOf};
 ghost use Rattle.olk_errors.specs.Outcomes.{of_leaf, of_body};
@@ -51,11 +53,36 @@ fn collect_leaf<'a, K: Leaf>(
 {
     let mut texts = Vec::new(alloc);
     leaf.collect_errors(alloc, node, &mut texts)?;
+    append_texts(
+        alloc,
+        leaf.keyword(),
+        texts,
+        location.as_str(),
+        node,
+        path,
+        errors,
+    )
+}
+
+// Appends one error for each text of a leaf.
+fn append_texts<'a>(
+    alloc: Global,
+    keyword: &'a str,
+    texts: Vec<String>,
+    location: &'a str,
+    node: Node<'a>,
+    path: &InstancePath,
+    errors: &mut Vec<ValidationError<'a>>,
+) -> Result<(), AllocError>
+    ensures report { OnOk result (Appends errors.old.items errors.new.items
+        (map (λ t. fault (Leaf keyword.now t) (data_of node.entry) path.now location.now)
+        (texts_of texts.items))) }
+    ensures memory { OnErr result (errors.new.items ≡ errors.old.items) }
+{
     let len = errors.len();
     for text in texts {
-        let keyword = leaf.keyword();
         let kind = ValidationErrorKind::Leaf { keyword, text };
-        let answer = append_error(alloc, kind, node, path, location.as_str(), errors);
+        let answer = append_error(alloc, kind, node, path, location, errors);
         roll_back_on_err(answer, errors, len)?;
     }
     Ok(())

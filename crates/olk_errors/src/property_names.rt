@@ -234,6 +234,19 @@ fn wrap<'a>(
         ≡ wrapped (data_of object.entry) path.now (fault_of error.entry)) }
 {
     let text = String::from_str(alloc, path.as_str())?;
+    wrap_at(alloc, error, object, text)
+}
+
+// The error of a name, told of the object at the path that the text is.
+fn wrap_at<'a>(
+    alloc: Global,
+    error: ValidationError<'a>,
+    object: Node<'a>,
+    text: String,
+) -> Result<ValidationError<'a>, AllocError>
+    ensures { IfOk result (λ e. fault_of e
+        ≡ wrapped (data_of object.entry) (string_bytes text) (fault_of error.entry)) }
+{
     let error = Box::new(alloc, error)?;
     Ok(ValidationError::wrapping(error, object, text))
 }

@@ -74,8 +74,7 @@ pub(crate) fn contexts<'a, N: Errors<'a>>(
 {
     let mut contexts: Vec<Vec<ValidationError<'a>>> = Vec::new(alloc);
     for n in nodes {
-        let mut errors: Vec<ValidationError<'a>> = Vec::new(alloc);
-        n.collect_errors(alloc, node, path, ctx, &mut errors)?;
+        let errors = errors_of(alloc, n, node, path, ctx)?;
         contexts.push(errors)?;
     }
     Ok(contexts)
@@ -94,9 +93,26 @@ pub(crate) fn one_context<'a, N: Errors<'a>>(
     ensures path { path.new ≡ path.old }
     ensures context { OnlyAsks ctx.old ctx.new }
 {
-    let mut errors: Vec<ValidationError<'a>> = Vec::new(alloc);
-    branch.collect_errors(alloc, node, path, ctx, &mut errors)?;
+    let errors = errors_of(alloc, branch, node, path, ctx)?;
     let mut contexts: Vec<Vec<ValidationError<'a>>> = Vec::with_capacity(alloc, 1)?;
     contexts.push(errors)?;
     Ok(contexts)
+}
+
+// The errors of a node, in a list of their own.
+fn errors_of<'a, N: Errors<'a>>(
+    alloc: Global,
+    asked: &'a N,
+    node: Node<'a>,
+    path: &mut InstancePath,
+    ctx: &mut ValidationContext,
+) -> Result<Vec<ValidationError<'a>>, AllocError>
+    ensures errors { IfOk result (λ es. Appends [] es.items
+        (N.report asked.now ctx.old.answer (data_of node.entry) path.old)) }
+    ensures path { path.new ≡ path.old }
+    ensures context { OnlyAsks ctx.old ctx.new }
+{
+    let mut errors: Vec<ValidationError<'a>> = Vec::new(alloc);
+    asked.collect_errors(alloc, node, path, ctx, &mut errors)?;
+    Ok(errors)
 }

@@ -1,36 +1,11 @@
-use Rattle.std.proofs.Common.{◌≡◌, rules, length, arith, [], ◌∷◌, map, string_bytes, sym, ap, subst, ◌∙◌}
-use Rattle.std.specs.Vec.Iter.{into_iter_items}
+use Rattle.std.proofs.Common.{◌≡◌, OnOk, rules, map, subst}
+use Rattle.olk_base.specs.Lawful.{texts_of}
 use Rattle.olk_base.specs.Nodes.{data_of}
 use Rattle.olk_spec.specs.Faults.{fault, Leaf}
-use Rattle.olk_reports.proofs.Errors.{kind_of_leaf}
 use Rattle.olk_errors.specs.Found.{Appends}
-use Rattle.olk_errors.proofs.Appending.{at_ok, appends_same, rolled_back}
-use Rattle.olk_errors.proofs.Steps.{collected_start, collected_more, collected_end, nothing_left}
-use Rattle.olk_errors.proofs.Own.{leaf_fault, texts_told}
 use Rattle.olk_errors.proofs.node.collect_leaf.Goals as goal
-
-pub loop-text-init : goal.loop-text-init
-loop-text-init g c = (collected_start c.args.errors.now.items, search rules)
-
-pub loop-text-preserved : goal.loop-text-preserved
-loop-text-preserved g c =
-    let next : into_iter_items c.loop-text.text-iterator ≡ c.in-Some.text ∷ into_iter_items c.next.new.self = c.in-Some.ensures.steps.0 in (
-      collected_more c.loop-text.invariant.0 next (appends_same c.in_ok-roll_back_on_err.ensures.ok (subst (Appends c.loop-text.errors.items c.append_error-answer.new.errors.items)
-          (λ i. fault ((kind_of_leaf c.keyword-keyword.result c.in-Some.text ∙ ap (λ k. Leaf k (string_bytes c.in-Some.text)) c.keyword-keyword.ensures) i) (data_of c.args.node) c.args.path.now (c.as_str.ensures i) ∷ [])
-          (at_ok c.roll_back_on_err.ensures.same c.in_ok-roll_back_on_err.was c.append_error-answer.ensures.report))),
-      (let was = c.loop-text.invariant.1 in
-          let gone = c.in-Some.ensures.steps.1 in
-          let short = ap length next in
-          omega arith),
-    )
 
 pub returns-clause-report : goal.returns-clause-report
 returns-clause-report g c =
-    let none : into_iter_items c.loop-text.text-iterator ≡ [] = nothing_left _ (sym c.loop-text.invariant.1 ∙ c.in-None.ensures.steps.0) in
-    let texts : map string_bytes (into_iter_items c.into_iter-text-iterator.result) ≡ g.K.Leaf.finds c.args.leaf.now (data_of c.args.node) = search rules in
-    subst (Appends c.args.errors.now.items c.loop-text.errors.items)
-    (texts_told (leaf_fault (g.K.Leaf.keyword_of c.args.leaf.now) (data_of c.args.node) c.args.location.now c.args.path.now) string_bytes (into_iter_items c.into_iter-text-iterator.result) ∙ ap (map (leaf_fault (g.K.Leaf.keyword_of c.args.leaf.now) (data_of c.args.node) c.args.location.now c.args.path.now)) texts)
-    (collected_end c.loop-text.invariant.0 none)
-
-pub returns-in_err-roll_back_on_err-clause-memory : goal.returns-in_err-roll_back_on_err-clause-memory
-returns-in_err-roll_back_on_err-clause-memory g c = let long : c.len-len.result ≡ length c.args.errors.now.items = search rules in rolled_back c.from_residual-in_err-roll_back_on_err.result _ _ c.roll_back_on_err.ensures.same c.in_err-roll_back_on_err.was c.roll_back_on_err.ensures.err c.append_error-answer.ensures.memory long c.loop-text.invariant.0.found
+    let texts : texts_of c.collect_errors.new.texts.items ≡ g.K.Leaf.finds c.args.leaf.now (data_of c.args.node) = search rules in
+    subst (λ T. T) (λ i. OnOk c.append_texts.result (Appends c.args.errors.now.items c.append_texts.new.errors.items (map (λ t. fault (Leaf (c.keyword.ensures i) t) (data_of c.args.node) c.args.path.now (c.as_str.ensures i)) (texts i)))) c.append_texts.ensures.report

@@ -1,5 +1,4 @@
-use Rattle.std.proofs.Common.{rules}
 use Rattle.olk_errors.proofs.all_of.SingleValueAllOfErrors.validate.Goals as goal
 
 pub returns-clause-context : goal.returns-clause-context
-returns-clause-context g c = search rules
+returns-clause-context g c = c.validate.ensures.context
