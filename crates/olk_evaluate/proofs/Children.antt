@@ -11,7 +11,7 @@ use Rattle.serde_json.specs.Data.{Data, string}
 use Rattle.olk_spec.specs.Schemas.{members}
 use Rattle.olk_tree.specs.Questions.{Question, every}
 use Rattle.olk_tree.specs.Shown.{branch_trees, name_trees}
-use Rattle.olk_evaluate.specs.Wanted.{Wanted, IsShown, AreShown, wanted, each_wanted, names_wanted, trees_of}
+use Rattle.olk_evaluate.specs.Wanted.{Wanted, AreShown, ShowsMore, wanted, each_wanted, names_wanted, trees_of}
 
 -- ---- the tree of a result
 
@@ -73,10 +73,10 @@ module _ {all : List Wanted} where
   pub shown_end : {left : List Wanted} {ts : List Tree} → ShownFrom all left ts → left ≡ [] → AreShown all ts
   shown_end {ts = ts} h e = subst (AreShown all) (append-nil ts) (h.goes_on [] (subst (λ ws. AreShown ws []) (sym e) tt))
 
-  pub shown_more : {left rest : List Wanted} {w : Wanted} {ys : List EvaluationNode} (xs : List EvaluationNode) (c : EvaluationNode) → ShownFrom all left (trees_of xs) → left ≡ w ∷ rest → ys ≡ xs ++ c ∷ [] → IsShown w (tree_of c) → ShownFrom all rest (trees_of ys)
-  shown_more xs c h next pushed is = record {
-    goes_on = λ more k. subst (AreShown all) (sym (ap (λ l. l ++ more) (ap trees_of pushed ∙ map-append tree_of xs (c ∷ [])) ∙ append_assoc (trees_of xs) (tree_of c ∷ []) more))
-        (h.goes_on (tree_of c ∷ more) (subst (λ ws. AreShown ws (tree_of c ∷ more)) (sym next) (is, k)));
+  pub shown_more : {left rest : List Wanted} {w : Wanted} {xs ys : List EvaluationNode} → ShownFrom all left (trees_of xs) → left ≡ w ∷ rest → ShowsMore w xs ys → ShownFrom all rest (trees_of ys)
+  shown_more {xs = xs} h next m = record {
+    goes_on = λ more k. subst (AreShown all) (sym (ap (λ l. l ++ more) (ap trees_of m.added ∙ map-append tree_of xs (m.child ∷ [])) ∙ append_assoc (trees_of xs) (tree_of m.child ∷ []) more))
+        (h.goes_on (tree_of m.child ∷ more) (subst (λ ws. AreShown ws (tree_of m.child ∷ more)) (sym next) (m.shown, k)));
   }
 
   pub shown_none_more : {left rest : List Wanted} {ts : List Tree} → ShownFrom all left ts → left ≡ rest → ShownFrom all rest ts

@@ -16,8 +16,7 @@ use Rattle.olk_tree.specs.declared.additional_properties.AdditionalProperties.{A
 use Rattle.olk_check.specs.Asks.{OnlyAsks}
 use Rattle.olk_check.proofs.Asked.{only_then}
 use Rattle.olk_reports.specs.Evaluations.{tree_of}
-use Rattle.olk_reports.specs.declared.evaluation.EvaluationNode.{EvaluationNode}
-use Rattle.olk_evaluate.specs.Wanted.{Wanted, IsShown, AreShown, trees_of}
+use Rattle.olk_evaluate.specs.Wanted.{Wanted, AreShown, ShowsMore, trees_of}
 use Rattle.olk_evaluate.specs.Additional.{Found, Collects, CollectsMore, names_of, nodes_wanted, declared_found, match_found, rest_found, member_found, found_at, members_found}
 use Rattle.olk_evaluate.specs.declared.additional_members.Collected.{Collected}
 use Rattle.olk_evaluate.proofs.Members.{shown_append}
@@ -45,10 +44,10 @@ collects_both {f} {g} {a} h k = record {
 }
 
 -- one child more, and such names
-pub collects_child : {w : Wanted} {ns ms : List Name} {a b : Collected} (c : EvaluationNode)
-    → names_of b.additional.items ≡ names_of a.additional.items ++ ns → names_of b.matched.items ≡ names_of a.matched.items ++ ms → b.children.items ≡ a.children.items ++ c ∷ [] → IsShown w (tree_of c)
+pub collects_child : {w : Wanted} {ns ms : List Name} {a b : Collected}
+    → names_of b.additional.items ≡ names_of a.additional.items ++ ns → names_of b.matched.items ≡ names_of a.matched.items ++ ms → ShowsMore w a.children.items b.children.items
     → CollectsMore (record { wanted = w ∷ []; additional = ns; matched = ms }) a b
-collects_child {a = a} c additional matched children is = record { additional = additional; matched = matched; added = tree_of c ∷ []; children = ap trees_of children ∙ map-append tree_of a.children.items (c ∷ []); shown = (is, tt) }
+collects_child {a = a} additional matched more = record { additional = additional; matched = matched; added = tree_of more.child ∷ []; children = ap trees_of more.added ∙ map-append tree_of a.children.items (more.child ∷ []); shown = (more.shown, tt) }
 
 -- ---- what is left adds up to all
 

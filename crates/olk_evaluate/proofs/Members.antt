@@ -1,5 +1,5 @@
 -- Members that are met, one after another.
-use Rattle.std.proofs.Common.{◌≡◌, ℕ, Bool, true, false, ◌&&◌, List, [], ◌∷◌, ◌++◌, map, ◌||◌, bytes_eq, Ordering, Less, Equal, Greater, Option, Some, None, is_some, option_to_list, Bor, refl, sym, ap, subst, ◌∙◌, append_assoc}
+use Rattle.std.proofs.Common.{◌≡◌, Bool, true, false, ◌&&◌, List, [], ◌∷◌, ◌++◌, map, ◌||◌, bytes_eq, Ordering, Less, Equal, Greater, Option, Some, None, is_some, option_to_list, refl, sym, ap, subst, ◌∙◌, append_assoc}
 use Rattle.std.specs.List.{flat_map, list_all}
 use Rattle.std.specs.Ordering.{nat_cmp, is_eq}
 use Rattle.std.specs.Cmp.Lexicographic.{slice_cmp}
@@ -8,7 +8,6 @@ use Rattle.std.proofs.lemmas.List.Folds.{list_all-append}
 use Rattle.std.proofs.lemmas.List.{append-nil, map-append}
 use Rattle.serde_json.specs.Data.{Data, Members, object}
 use Rattle.serde_json.specs.Find.{as_object}
-use Rattle.serde_json.specs.declared.value.Value.{Value}
 use Rattle.olk_spec.specs.Names.{Name, Path, ◌//◌, lookup, first_if_equal, is_among, those, put_if, is_empty}
 use Rattle.olk_spec.specs.Schemas.{listed}
 use Rattle.olk_spec.specs.Tree.{Tree, IsLikeTree, AreLikeTrees, trees_from, is_valid}
@@ -16,13 +15,13 @@ use Rattle.olk_spec.specs.Accepts.{missing}
 use Rattle.olk_tree.specs.Questions.{Question, every}
 use Rattle.olk_tree.specs.Answers.{properties_mean}
 use Rattle.olk_tree.specs.Shown.{member_trees, met_names, properties_tree, missing_trees}
-use Rattle.olk_tree.specs.Visited.{Declared, declared_as, members_declared, seen}
+use Rattle.olk_tree.specs.Visited.{Declared, declared_as, members_declared}
 use Rattle.olk_tree.proofs.Members_met.{means_nothing, object_is}
 use Rattle.olk_check.proofs.Missing.{lacks_nothing}
 use Rattle.olk_reports.specs.Evaluations.{Shown, shown, node_at, tree_of}
 use Rattle.olk_reports.specs.declared.evaluation.EvaluationNode.{EvaluationNode}
-use Rattle.olk_evaluate.specs.Wanted.{Wanted, IsShown, AreShown, refused, lacking_trees, trees_of}
-use Rattle.olk_evaluate.specs.Members.{HasMet, wanted_at}
+use Rattle.olk_evaluate.specs.Wanted.{Wanted, AreShown, refused, lacking_trees, trees_of}
+use Rattle.olk_evaluate.specs.Members.{HasMet, MeetsMore, wanted_at}
 use Rattle.olk_evaluate.specs.declared.properties.Met.{Met}
 use Rattle.olk_evaluate.proofs.Children.{trees_wanted, all_wanted, like_result, valid_shown, like_children, all_valid, all_wanted_valid}
 use Rattle.olk_evaluate.proofs.OwnErrors.{all_there}
@@ -54,13 +53,11 @@ module _ {N : Type 0} where
     pub shown : (more : List Tree) → AreShown (map want left) more → AreShown (map want all) (trees_of b.children.items ++ more)
 
   module _ {want : Declared N → Wanted} {all : List (Declared N)} where
-    pub met_more : {left rest : List (Declared N)} {b c : Met} (d : Bor (List ℕ) × Bor N × Bor Value) (child : EvaluationNode)
-        → MetSoFar want all left b → left ≡ seen d ∷ rest → c.names.items ≡ b.names.items ++ d.0 ∷ [] → c.children.items ≡ b.children.items ++ child ∷ [] → IsShown (want (seen d)) (tree_of child) → MetSoFar want all rest c
-    met_more {rest = rest} {b} {c} d child h next names children is = record {
-      names = h.names ∙ ap (λ l. names_in b ++ declared_names l) next ∙ sym (append_assoc (names_in b) (d.0.now ∷ []) (declared_names rest))
-          ∙ ap (λ l. l ++ declared_names rest) (sym (ap (map (λ n. n.now)) names ∙ map-append (λ n. n.now) b.names.items (d.0 ∷ [])));
-      shown = λ more k. subst (AreShown (map want all)) (sym (ap (λ l. l ++ more) (ap trees_of children ∙ map-append tree_of b.children.items (child ∷ [])) ∙ append_assoc (trees_of b.children.items) (tree_of child ∷ []) more))
-          (h.shown (tree_of child ∷ more) (subst (λ l. AreShown (map want l) (tree_of child ∷ more)) (sym next) (is, k)));
+    pub met_more : {left rest : List (Declared N)} {b c : Met} (d : Declared N) → MetSoFar want all left b → left ≡ d ∷ rest → MeetsMore want (d ∷ []) b c → MetSoFar want all rest c
+    met_more {rest = rest} {b} d h next here = record {
+      names = h.names ∙ ap (λ l. names_in b ++ declared_names l) next ∙ sym (append_assoc (names_in b) (d.name ∷ []) (declared_names rest)) ∙ ap (λ l. l ++ declared_names rest) (sym here.names);
+      shown = λ more k. subst (AreShown (map want all)) (sym (ap (λ l. l ++ more) here.children ∙ append_assoc (trees_of b.children.items) here.added more))
+          (h.shown (here.added ++ more) (subst (λ l. AreShown (map want l) (here.added ++ more)) (sym next) (shown_append (want d ∷ []) (map want rest) here.added more here.shown k)));
     }
 
     pub met_end : {left : List (Declared N)} {b : Met} → MetSoFar want all left b → left ≡ [] → HasMet want all b

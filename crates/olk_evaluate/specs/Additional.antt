@@ -11,9 +11,10 @@ use Rattle.olk_spec.specs.Tree.{Tree, node, no_tree, Described, AreTold, describ
 use Rattle.olk_reports.specs.Evaluations.{Shown, annotated, errored}
 use Rattle.olk_tree.specs.Questions.{Question}
 use Rattle.olk_tree.specs.Additional.{matching_from, at_name}
-use Rattle.olk_tree.specs.Answers.{sides_of, has_neighbours}
+use Rattle.olk_tree.specs.Answers.{sides_of, has_neighbours, required_text, required_place}
 use Rattle.olk_tree.specs.declared.additional_properties.AdditionalProperties as validator
-use Rattle.olk_evaluate.specs.Wanted.{Wanted, AreShown, wanted, trees_of}
+use Rattle.olk_reports.specs.declared.evaluation.EvaluationNode.{EvaluationNode}
+use Rattle.olk_evaluate.specs.Wanted.{Wanted, AreShown, wanted, refused, lacking_trees, trees_of}
 use Rattle.olk_evaluate.specs.declared.additional_members.Collected.{Collected}
 
 abbrev pub names_of : List (Bor (List ℕ)) → List Name
@@ -93,6 +94,14 @@ module _ {R N : Type 0} (answers : R → Name → Says) (t : N → Bool → Data
 -- what patterns match, at their place
 abbrev pub matches_shown : List Name → Path → Path → List Tree
 matches_shown ns P Q = put_if (not (is_empty ns)) (node P Q true (Some ns) [] no_tree) []
+
+-- behind old, what patterns match at their place, and what is missing of v, which w is the object of, at the place of `required`
+pub record HasPlaces {R N : Type 0} (k : validator.AdditionalProperties R N) (ns : List Name) (v w : Data) (Q : Path) (old new : List EvaluationNode) : Type 0 where
+  pub matches : List EvaluationNode
+  pub missing : List EvaluationNode
+  pub parts : new ≡ old ++ matches ++ missing
+  pub matched : trees_of matches ≡ matches_shown ns k.patterns_location Q
+  pub lacking : AreShown (refused (lacking_trees (required_text k.required) v w (required_place k.required) Q)) (trees_of missing)
 
 abbrev pub annotated_if : Option (List Name) → Shown → Shown
 annotated_if None s = s

@@ -1,5 +1,5 @@
 -- What an evaluation is to show, and what it shows.
-use Rattle.std.specs.Prelude.{◌≡◌, ⊤, Bool, false, not, List, [], ◌∷◌, map, None, IsPermutation}
+use Rattle.std.specs.Prelude.{◌≡◌, ⊤, Bool, false, not, List, [], ◌∷◌, ◌++◌, map, None, IsPermutation}
 use Rattle.serde_json.specs.Data.{Data, string}
 use Rattle.olk_spec.specs.Names.{Name, Text, Path, put_if, is_empty}
 use Rattle.olk_spec.specs.Faults.{Fault, fault, Required}
@@ -26,6 +26,12 @@ AreShown (w ∷ ws) (t ∷ ts) = IsShown w t × AreShown ws ts
 
 abbrev pub trees_of : List EvaluationNode → List Tree
 trees_of = map tree_of
+
+-- the nodes of new are those of old, and then one that shows what is wanted
+pub record ShowsMore (w : Wanted) (old new : List EvaluationNode) : Type 0 where
+  pub child : EvaluationNode
+  pub added : new ≡ old ++ child ∷ []
+  pub shown : IsShown w (tree_of child)
 
 -- the error that shows a fault; a text that prints a fraction may be any text
 pub record IsDescribedBy (f : Fault) (d : Described) : Type 0 where

@@ -10,7 +10,7 @@ ghost use Rattle.olk_check.specs.Asks.{OnlyAsks};
 ghost use Rattle.olk_evaluate.specs.Additional.{Collects, CollectsMore, declared_found, match_found, rest_found, member_found, members_found, names_of};
 
 use crate::Evaluate;
-use crate::properties::child_below;
+use crate::properties::add_child_below;
 use olk_base::{CompiledPattern, RegexEngine, ValidationContext};
 use olk_check::matches_unless_known;
 use olk_reports::{EvaluationNode, InstancePath};
@@ -41,27 +41,18 @@ impl<'a> Collected<'a> {
             matched: Vec::new(alloc),
         })
     }
+}
 
-    // What the node of a pattern shows of a member, with the member's name where matches are shown.
-    #[inline(always)]
-    fn add_match(
-        &mut self,
-        child: EvaluationNode<'a>,
-        name: &'a str,
-        is_shown: bool,
-    ) -> Result<(), AllocError>
-        ensures children { OnOk result
-            (self.new.children.items ≡ self.old.children.items ++ child.entry ∷ []) }
-        ensures additional { OnOk result (self.new.additional.items ≡ self.old.additional.items) }
-        ensures matched { OnOk result (names_of self.new.matched.items
-            ≡ names_of self.old.matched.items ++ cond is_shown (name.entry.now ∷ []) []) }
-    {
-        self.children.push(child)?;
-        if is_shown {
-            self.matched.push(name)?;
-        }
-        Ok(())
+// The name behind these, where it is shown.
+#[inline(always)]
+fn push_if<'a>(names: &mut Vec<&'a str>, name: &'a str, is_shown: bool) -> Result<(), AllocError>
+    ensures { OnOk result (names_of names.new.items
+        ≡ names_of names.old.items ++ cond is_shown (name.entry.now ∷ []) []) }
+{
+    if is_shown {
+        names.push(name)?;
     }
+    Ok(())
 }
 
 // What is met of the members, in their order.
@@ -152,9 +143,15 @@ fn collect_declared<'a, N: Evaluate<'a>>(
 {
     match declared {
         Some((_, subschema)) => {
-            let child = child_below(alloc, subschema, name, value, path, ctx)?;
-            collected.children.push(child)?;
-            Ok(())
+            add_child_below(
+                alloc,
+                subschema,
+                name,
+                value,
+                path,
+                ctx,
+                &mut collected.children,
+            )
         }
         None => Ok(()),
     }
@@ -184,8 +181,16 @@ fn collect_if_matched<'a, R: RegexEngine, N: Evaluate<'a>>(
     if !matches_unless_known(known, &entry.0, name, ctx) {
         return Ok(false);
     }
-    let child = child_below(alloc, &entry.1, name, value, path, ctx)?;
-    collected.add_match(child, name, is_shown)?;
+    add_child_below(
+        alloc,
+        &entry.1,
+        name,
+        value,
+        path,
+        ctx,
+        &mut collected.children,
+    )?;
+    push_if(&mut collected.matched, name, is_shown)?;
     Ok(true)
 }
 
@@ -209,9 +214,15 @@ fn collect_additional<'a, N: Evaluate<'a>>(
     collected.additional.push(name)?;
     match rest {
         Some(subschema) => {
-            let shown = child_below(alloc, subschema, name, value, path, ctx)?;
-            collected.children.push(shown)?;
-            Ok(())
+            add_child_below(
+                alloc,
+                subschema,
+                name,
+                value,
+                path,
+                ctx,
+                &mut collected.children,
+            )
         }
         None => Ok(()),
     }

@@ -9,7 +9,7 @@ ghost use Rattle.olk_spec.specs.Schemas.{listed};
 ghost use Rattle.olk_reports.specs.Evaluations.{shown_of};
 ghost use Rattle.olk_tree.specs.Answers.{has_neighbours, required_text, required_place};
 ghost use Rattle.olk_tree.specs.Visited.{object_of};
-ghost use Rattle.olk_evaluate.specs.Additional.{matches_shown, names_of, annotated_if, rest_annotation, AddsErrors, named_faults, faults_without_rest, Completes};
+ghost use Rattle.olk_evaluate.specs.Additional.{matches_shown, names_of, annotated_if, rest_annotation, AddsErrors, named_faults, faults_without_rest, Completes, HasPlaces};
 ghost use Rattle.olk_evaluate.specs.Wanted.{AreShown, refused, lacking_trees, trees_of};
 
 use crate::additional_members::collect;
@@ -59,24 +59,41 @@ impl<'a, R: RegexEngine, N: Evaluate<'a>> Evaluate<'a> for AdditionalProperties<
             Some(members) => {
                 law_of_names(members);
                 let collected = collect(alloc, self, members, path, ctx)?;
-                let at_patterns = self.patterns_location.as_str();
-                let matches = matches_child(alloc, collected.matched, at_patterns, path)?;
-                let missing = missing_required(alloc, &self.required, members, node, path)?;
-                let children = followed_by(collected.children, matches, missing)?;
-                let outcome = EvaluationResult::from_children(alloc, children);
-                let complete = completed(
+                let children = with_places(
                     alloc,
                     self,
-                    outcome,
-                    collected.additional,
+                    collected.children,
+                    collected.matched,
                     members,
                     node,
+                    path,
                 )?;
-                Ok(complete)
+                let outcome = EvaluationResult::from_children(alloc, children);
+                completed(alloc, self, outcome, collected.additional, members, node)
             }
             None => Ok(EvaluationResult::valid_empty(alloc)),
         }
     }
+}
+
+// The children, and behind them one at the place of `patternProperties` and one at that of `required`, if they are there.
+fn with_places<'a, R, N>(
+    alloc: Global,
+    keyword: &'a AdditionalProperties<R, N>,
+    children: Vec<EvaluationNode<'a>>,
+    matched: Vec<&'a str>,
+    members: &Map<String, Value>,
+    node: Node<'a>,
+    path: &InstancePath,
+) -> Result<Vec<EvaluationNode<'a>>, AllocError>
+    ensures { IfOk result (λ cs. HasPlaces keyword.now (names_of matched.entry.items)
+        (data_of node.entry) (object_of members.now.entries) path.now
+        children.entry.items cs.items) }
+{
+    let at_patterns = keyword.patterns_location.as_str();
+    let matches = matches_child(alloc, matched, at_patterns, path)?;
+    let missing = missing_required(alloc, &keyword.required, members, node, path)?;
+    followed_by(children, matches, missing)
 }
 
 // A child at the place of `patternProperties` with these names, if there are some.

@@ -5,7 +5,7 @@ ghost use Rattle.olk_spec.specs.Names.{those};
 ghost use Rattle.olk_check.specs.Asks.{OnlyAsks};
 ghost use Rattle.olk_evaluate.specs.Wanted.{AreShown, each_wanted, trees_of};
 
-use crate::walk::{child, each_child};
+use crate::walk::{add_child, child, each_child};
 use crate::{Evaluate, Located};
 use olk_base::{Node, ValidationContext};
 use olk_check::IsValid;
@@ -90,7 +90,7 @@ pub(crate) fn accepting_children<'a, N: Evaluate<'a>>(
     let mut children = Vec::new(alloc);
     for schema in schemas {
         if schema.is_valid(node, ctx) {
-            children.push(child(alloc, schema, node, path, ctx)?)?;
+            add_child(alloc, schema, node, path, ctx, &mut children)?;
         }
     }
     Ok(children)

@@ -5,11 +5,11 @@ ghost use Rattle.olk_check.specs.Asks.{OnlyAsks};
 ghost use Rattle.olk_reports.specs.Evaluations.{shown_of};
 ghost use Rattle.olk_evaluate.specs.Wanted.{ShowsEach};
 
-use crate::walk::child;
+use crate::walk::{add_child, child};
 use crate::{Evaluate, Located};
 use olk_base::{Node, ValidationContext};
 use olk_check::IsValid;
-use olk_reports::{EvaluationResult, InstancePath};
+use olk_reports::{EvaluationNode, EvaluationResult, InstancePath};
 use olk_tree::if_::{IfElse, IfThen, IfThenElse};
 use std::alloc::{AllocError, Global};
 
@@ -132,8 +132,8 @@ fn both<'a, N: Evaluate<'a>>(
     ensures path { path.new ≡ path.old }
     ensures context { OnlyAsks ctx.old ctx.new }
 {
-    let mut children = Vec::new(alloc);
-    children.push(child(alloc, first, node, path, ctx)?)?;
-    children.push(child(alloc, second, node, path, ctx)?)?;
+    let mut children: Vec<EvaluationNode<'a>> = Vec::new(alloc);
+    add_child(alloc, first, node, path, ctx, &mut children)?;
+    add_child(alloc, second, node, path, ctx, &mut children)?;
     Ok(EvaluationResult::from_children(alloc, children))
 }

@@ -6,7 +6,7 @@ ghost use Rattle.olk_check.specs.Asks.{OnlyAsks};
 ghost use Rattle.olk_evaluate.specs.Members.{MeetsMore, wanted_at};
 ghost use Rattle.olk_evaluate.specs.Patterns.{match_here, matches_of, matches_of_all};
 
-use crate::properties::{Met, child_below};
+use crate::properties::{Met, meet_member};
 use crate::{Evaluate, Located};
 use olk_base::{CompiledPattern, Node, RegexEngine, ValidationContext};
 use olk_check::matches;
@@ -158,7 +158,5 @@ fn meet_if_matched<'a, R: RegexEngine, N: Evaluate<'a>>(
     if !matches(pattern, name, ctx) {
         return Ok(());
     }
-    let child = child_below(alloc, subschema, name, value, path, ctx)?;
-    met.add(name, child)?;
-    Ok(())
+    meet_member(alloc, subschema, name, value, path, ctx, met)
 }

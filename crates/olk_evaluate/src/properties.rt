@@ -7,10 +7,10 @@ ghost use Rattle.olk_spec.specs.Tree.{is_valid};
 ghost use Rattle.olk_reports.specs.Evaluations.{tree_of};
 ghost use Rattle.olk_reports.specs.Paths.{one_below};
 ghost use Rattle.olk_tree.specs.Answers.{beside, properties_mean};
-ghost use Rattle.olk_tree.specs.Visited.{members_declared, object_of};
+ghost use Rattle.olk_tree.specs.Visited.{declared_as, members_declared, object_of};
 ghost use Rattle.olk_check.specs.Asks.{OnlyAsks};
-ghost use Rattle.olk_evaluate.specs.Members.{HasMet, wanted_at};
-ghost use Rattle.olk_evaluate.specs.Wanted.{IsShown, wanted, trees_of};
+ghost use Rattle.olk_evaluate.specs.Members.{HasMet, MeetsMore, wanted_at};
+ghost use Rattle.olk_evaluate.specs.Wanted.{IsShown, ShowsMore, wanted, trees_of};
 
 use crate::required::missing_child;
 use crate::walk::child;
@@ -183,15 +183,57 @@ fn meet<'a, M: PropertiesValidatorsMap<N>, N: Evaluate<'a> + 'a>(
     let most = members.len().min(properties.names().sorted().len());
     let mut met: Met<'a> = Met::with_capacity(alloc, most)?;
     for (name, subschema, value) in properties.declared_members(members) {
-        let child = child_below(alloc, subschema, name, value, path, ctx)?;
-        met.add(name, child)?;
+        meet_member(alloc, subschema, name, value, path, ctx, &mut met)?;
     }
     Ok(met)
 }
 
+// One member more: its name, and what is shown of its value.
+#[inline(always)]
+pub(crate) fn meet_member<'a, N: Evaluate<'a>>(
+    alloc: Global,
+    subschema: &'a N,
+    name: &'a str,
+    value: &'a Value,
+    path: &mut InstancePath,
+    ctx: &mut ValidationContext,
+    met: &mut Met<'a>,
+) -> Result<(), AllocError>
+    ensures met { OnOk result (MeetsMore (wanted_at N.tree N.means ctx.old.answer path.old)
+        (declared_as name.now subschema.now (view value.now)) met.old met.new) }
+    ensures path { path.new ≡ path.old }
+    ensures context { OnlyAsks ctx.old ctx.new }
+{
+    let child = child_below(alloc, subschema, name, value, path, ctx)?;
+    met.add(name, child)?;
+    Ok(())
+}
+
+// One child more: what is shown of a member's value.
+#[inline(always)]
+pub(crate) fn add_child_below<'a, N: Evaluate<'a>>(
+    alloc: Global,
+    subschema: &'a N,
+    name: &str,
+    value: &'a Value,
+    path: &mut InstancePath,
+    ctx: &mut ValidationContext,
+    children: &mut Vec<EvaluationNode<'a>>,
+) -> Result<(), AllocError>
+    ensures shown { OnOk result (ShowsMore
+        (wanted N.tree N.means ctx.old.answer
+        subschema.now (view value.now) (one_below path.old name.now))
+        children.old.items children.new.items) }
+    ensures path { path.new ≡ path.old }
+    ensures context { OnlyAsks ctx.old ctx.new }
+{
+    children.push(child_below(alloc, subschema, name, value, path, ctx)?)?;
+    Ok(())
+}
+
 // What is shown of a member's value.
 #[inline(always)]
-pub(crate) fn child_below<'a, N: Evaluate<'a>>(
+fn child_below<'a, N: Evaluate<'a>>(
     alloc: Global,
     subschema: &'a N,
     name: &str,

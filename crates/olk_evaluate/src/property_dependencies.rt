@@ -6,7 +6,7 @@ ghost use Rattle.olk_tree.specs.Visited.{object_of};
 ghost use Rattle.olk_check.specs.Asks.{OnlyAsks};
 ghost use Rattle.olk_evaluate.specs.Wanted.{AreShown, each_wanted, trees_of};
 
-use crate::walk::child;
+use crate::walk::add_child;
 use crate::{Evaluate, Located};
 use olk_base::{Node, ValidationContext};
 use olk_reports::{EvaluationNode, EvaluationResult, InstancePath};
@@ -78,7 +78,7 @@ fn chosen_children<'a, N: Evaluate<'a>>(
     let mut children = Vec::new(alloc);
     for (_, choices, value) in dependencies.declared_members(members) {
         if let Some(dependency) = choices.chosen_by(value) {
-            children.push(child(alloc, dependency, object, path, ctx)?)?;
+            add_child(alloc, dependency, object, path, ctx, &mut children)?;
         }
     }
     Ok(children)

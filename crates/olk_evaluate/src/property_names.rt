@@ -6,7 +6,7 @@ ghost use Rattle.olk_check.specs.Asks.{OnlyAsks};
 ghost use Rattle.olk_evaluate.specs.Wanted.{AreShown, names_wanted, trees_of};
 
 use crate::own::one_error;
-use crate::walk::child;
+use crate::walk::add_child;
 use crate::{Evaluate, Located};
 use olk_base::{Node, ValidationContext};
 use olk_reports::{EvaluationNode, EvaluationResult, InstancePath, ValidationErrorKind};
@@ -103,7 +103,7 @@ fn name_children<'a, N: Evaluate<'a>>(
 {
     let mut children = Vec::with_capacity(alloc, members.len())?;
     for (name, _) in members {
-        children.push(child(alloc, subschema, Node::Name(name), path, ctx)?)?;
+        add_child(alloc, subschema, Node::Name(name), path, ctx, &mut children)?;
     }
     Ok(children)
 }

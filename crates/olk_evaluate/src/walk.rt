@@ -1,9 +1,9 @@
 // What the nodes of a keyword show.
-ghost use Rattle.std.specs.Prelude.{◌≡◌, IfOk};
+ghost use Rattle.std.specs.Prelude.{◌≡◌, IfOk, OnOk};
 ghost use Rattle.olk_base.specs.Nodes.{data_of};
 ghost use Rattle.olk_check.specs.Asks.{OnlyAsks};
 ghost use Rattle.olk_reports.specs.Evaluations.{tree_of};
-ghost use Rattle.olk_evaluate.specs.Wanted.{IsShown, AreShown, wanted, each_wanted, trees_of};
+ghost use Rattle.olk_evaluate.specs.Wanted.{IsShown, AreShown, ShowsMore, wanted, each_wanted, trees_of};
 
 use crate::Evaluate;
 use olk_base::{Node, ValidationContext};
@@ -33,6 +33,26 @@ pub fn child<'a, N: Evaluate<'a>>(
     Ok(EvaluationNode::new(schema.location(), text, outcome))
 }
 
+// One child more: what the node shows.
+#[inline(always)]
+pub(crate) fn add_child<'a, N: Evaluate<'a>>(
+    alloc: Global,
+    schema: &'a N,
+    node: Node<'a>,
+    path: &mut InstancePath,
+    ctx: &mut ValidationContext,
+    children: &mut Vec<EvaluationNode<'a>>,
+) -> Result<(), AllocError>
+    ensures shown { OnOk result (ShowsMore
+        (wanted N.tree N.means ctx.old.answer schema.now (data_of node.entry) path.old)
+        children.old.items children.new.items) }
+    ensures path { path.new ≡ path.old }
+    ensures context { OnlyAsks ctx.old ctx.new }
+{
+    children.push(child(alloc, schema, node, path, ctx)?)?;
+    Ok(())
+}
+
 // What each of them shows.
 pub(crate) fn each_child<'a, N: Evaluate<'a>>(
     alloc: Global,
@@ -49,7 +69,7 @@ pub(crate) fn each_child<'a, N: Evaluate<'a>>(
 {
     let mut children = Vec::with_capacity(alloc, schemas.len())?;
     for schema in schemas {
-        children.push(child(alloc, schema, node, path, ctx)?)?;
+        add_child(alloc, schema, node, path, ctx, &mut children)?;
     }
     Ok(children)
 }

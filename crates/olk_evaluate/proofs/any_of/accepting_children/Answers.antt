@@ -13,8 +13,5 @@ returns-clause-shown g c = shown_end c.loop-schema.invariant.shown (ap (those (Î
 pub loop-schema-preserved : goal.loop-schema-preserved
 loop-schema-preserved g c = grind (arith, common_steps)
 
-pub returns-in_err-child-clause-context : goal.returns-in_err-child-clause-context
-returns-in_err-child-clause-context g c = only_then c.loop-schema.invariant.context (only_then c.is_valid.ensures.only c.child.ensures.context)
-
-pub returns-in_err-push-clause-context : goal.returns-in_err-push-clause-context
-returns-in_err-push-clause-context g c = only_then c.loop-schema.invariant.context (only_then c.is_valid.ensures.only c.child.ensures.context)
+pub returns-in_err-add_child-clause-context : goal.returns-in_err-add_child-clause-context
+returns-in_err-add_child-clause-context g c = only_then c.loop-schema.invariant.context (only_then c.is_valid.ensures.only c.add_child.ensures.context)

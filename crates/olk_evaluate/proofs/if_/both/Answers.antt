@@ -8,9 +8,9 @@ use Rattle.olk_evaluate.proofs.if_.both.Goals as goal
 
 pub returns-clause-shown : goal.returns-clause-shown
 returns-clause-shown g c =
-    let both : c.push-2.new.self.items ≡ c.in_ok-child.field-0 ∷ c.in_ok-child-2.field-0 ∷ [] = c.in_ok-push-2.ensures.items ∙ ap (λ l. l ++ c.in_ok-child-2.field-0 ∷ []) (c.in_ok-push.ensures.items ∙ ap (λ l. l ++ c.in_ok-child.field-0 ∷ []) c.new-children.ensures.items) in
-    let second : IsShown (wanted g.N.Evaluate.tree g.N.Means.means c.args.ctx.now.answer c.args.second.now (data_of c.args.node) c.args.path.now) (tree_of c.in_ok-child-2.field-0) = subst₂ (λ u Q. IsShown (wanted g.N.Evaluate.tree g.N.Means.means u c.args.second.now (data_of c.args.node) Q) (tree_of c.in_ok-child-2.field-0)) c.child.ensures.context.answer c.child.ensures.path c.in_ok-child-2.ensures.shown in
-    let each : AreShown (each_wanted g.N.Evaluate.tree g.N.Means.means c.args.ctx.now.answer (c.args.first.now ∷ c.args.second.now ∷ []) (data_of c.args.node) c.args.path.now) (trees_of c.push-2.new.self.items) = subst (λ l. AreShown (each_wanted g.N.Evaluate.tree g.N.Means.means c.args.ctx.now.answer (c.args.first.now ∷ c.args.second.now ∷ []) (data_of c.args.node) c.args.path.now) (trees_of l)) (sym both) (c.in_ok-child.ensures.shown, (second, tt)) in
+    let both : c.add_child-2.new.children.items ≡ c.in_ok-add_child.ensures.shown.child ∷ c.in_ok-add_child-2.ensures.shown.child ∷ [] = c.in_ok-add_child-2.ensures.shown.added ∙ ap (λ l. l ++ c.in_ok-add_child-2.ensures.shown.child ∷ []) (c.in_ok-add_child.ensures.shown.added ∙ ap (λ l. l ++ c.in_ok-add_child.ensures.shown.child ∷ []) c.new-children.ensures.items) in
+    let second : IsShown (wanted g.N.Evaluate.tree g.N.Means.means c.args.ctx.now.answer c.args.second.now (data_of c.args.node) c.args.path.now) (tree_of c.in_ok-add_child-2.ensures.shown.child) = subst₂ (λ u Q. IsShown (wanted g.N.Evaluate.tree g.N.Means.means u c.args.second.now (data_of c.args.node) Q) (tree_of c.in_ok-add_child-2.ensures.shown.child)) c.add_child.ensures.context.answer c.add_child.ensures.path c.in_ok-add_child-2.ensures.shown.shown in
+    let each : AreShown (each_wanted g.N.Evaluate.tree g.N.Means.means c.args.ctx.now.answer (c.args.first.now ∷ c.args.second.now ∷ []) (data_of c.args.node) c.args.path.now) (trees_of c.add_child-2.new.children.items) = subst (λ l. AreShown (each_wanted g.N.Evaluate.tree g.N.Means.means c.args.ctx.now.answer (c.args.first.now ∷ c.args.second.now ∷ []) (data_of c.args.node) c.args.path.now) (trees_of l)) (sym both) (c.in_ok-add_child.ensures.shown.shown, (second, tt)) in
     record {
       tree = λ P. branches_like g.N.Evaluate.tree g.N.Means.means c.args.ctx.now.answer (data_of c.args.node) P c.args.path.now (c.args.first.now ∷ c.args.second.now ∷ []) each c.from_children.ensures;
       verdict = λ P. branches_verdict g.N.Evaluate.tree g.N.Means.means c.args.ctx.now.answer (data_of c.args.node) P c.args.path.now (c.args.first.now ∷ c.args.second.now ∷ []) each c.from_children.ensures;

@@ -1,14 +1,11 @@
 use mathlib.Core.Path.{subst₂}
 use Rattle.std.proofs.Common.{ap, ◌∙◌, subst}
 use Rattle.serde_json.specs.View.{view, members_view}
-use Rattle.olk_spec.specs.Names.{◌//◌}
 use Rattle.olk_tree.specs.Answers.{beside}
-use Rattle.olk_tree.specs.Visited.{left_of}
+use Rattle.olk_tree.specs.Visited.{declared_as, left_of, seen}
 use Rattle.olk_tree.proofs.Members_met.{means_of_walk}
-use Rattle.olk_reports.specs.Evaluations.{tree_of}
 use Rattle.olk_check.proofs.Asked.{only_then}
-use Rattle.olk_evaluate.specs.Members.{HasMet, wanted_at}
-use Rattle.olk_evaluate.specs.Wanted.{IsShown, wanted}
+use Rattle.olk_evaluate.specs.Members.{HasMet, MeetsMore, wanted_at}
 use Rattle.olk_evaluate.proofs.Members.{met_more, met_end, met_verdict}
 use Rattle.olk_evaluate.proofs.properties.meet.Goals as goal
 
@@ -23,8 +20,14 @@ returns-clause-verdict g c = met_verdict g.N.Evaluate.tree g.N.Means.means c.arg
 
 pub loop-name-preserved : goal.loop-name-preserved
 loop-name-preserved g c = record {
-  path = c.child_below.ensures.path ∙ c.loop-name.invariant.path;
-  context = only_then c.loop-name.invariant.context c.child_below.ensures.context;
-  met = met_more (c.in-Some.name, c.in-Some.subschema, c.in-Some.value) c.in_ok-child.child c.loop-name.invariant.met c.in-Some.ensures.steps c.in_ok-add.ensures.names c.in_ok-add.ensures.children
-      (subst₂ (λ u Q. IsShown (wanted g.N.Evaluate.tree g.N.Means.means u c.in-Some.subschema.now (view c.in-Some.value.now) (Q // c.in-Some.name.now)) (tree_of c.in_ok-child.child)) c.loop-name.invariant.context.answer c.loop-name.invariant.path c.in_ok-child.ensures.shown);
+  path = c.meet_member.ensures.path ∙ c.loop-name.invariant.path;
+  context = only_then c.loop-name.invariant.context c.meet_member.ensures.context;
+  met = met_more (seen (c.in-Some.name, c.in-Some.subschema, c.in-Some.value)) c.loop-name.invariant.met c.in-Some.ensures.steps
+      (subst₂ (λ u Q. MeetsMore (wanted_at g.N.Evaluate.tree g.N.Means.means u Q) (declared_as c.in-Some.name.now c.in-Some.subschema.now (view c.in-Some.value.now)) c.loop-name.met c.meet_member.new.met) c.loop-name.invariant.context.answer c.loop-name.invariant.path c.in_ok-meet_member.ensures.met);
 }
+
+pub returns-in_err-meet_member-clause-path : goal.returns-in_err-meet_member-clause-path
+returns-in_err-meet_member-clause-path g c = c.meet_member.ensures.path ∙ c.loop-name.invariant.path
+
+pub returns-in_err-meet_member-clause-context : goal.returns-in_err-meet_member-clause-context
+returns-in_err-meet_member-clause-context g c = only_then c.loop-name.invariant.context c.meet_member.ensures.context

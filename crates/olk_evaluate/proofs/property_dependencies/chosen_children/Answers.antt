@@ -4,12 +4,10 @@ use Rattle.serde_json.specs.View.{members_view}
 use Rattle.olk_base.specs.Nodes.{data_of}
 use Rattle.olk_tree.specs.Answers.{named}
 use Rattle.olk_tree.proofs.Due.{chosen, all_chosen}
-use Rattle.olk_evaluate.specs.Wanted.{AreShown, wanted, each_wanted, trees_of, Wanted, IsShown}
-use Rattle.olk_evaluate.proofs.Children.{shown_end, shown_none_more, shown_more}
+use Rattle.olk_evaluate.specs.Wanted.{Wanted, AreShown, wanted, each_wanted, trees_of}
+use Rattle.olk_evaluate.proofs.Children.{shown_end, shown_none_more}
 use Rattle.olk_tree.specs.Visited.{left_of}
 use Rattle.olk_check.proofs.Asked.{only_then}
-use mathlib.Core.Path.{subst₂}
-use Rattle.olk_reports.specs.Evaluations.{tree_of}
 use Rattle.olk_evaluate.proofs.property_dependencies.chosen_children.Goals as goal
 
 pub returns-clause-shown : goal.returns-clause-shown
@@ -28,27 +26,8 @@ loop-choices-preserved g c = record {
       ∙ ap (λ ns. of_nodes ns ++ flat_map (λ d. of_nodes (chosen d)) (left_of c.next.new.self)) (sym c.in_default.ensures));
 }
 
-pub returns-in_err-child-clause-path : goal.returns-in_err-child-clause-path
-returns-in_err-child-clause-path g c = c.child.ensures.path ∙ c.loop-choices.invariant.path
+pub returns-in_err-add_child-clause-path : goal.returns-in_err-add_child-clause-path
+returns-in_err-add_child-clause-path g c = c.add_child.ensures.path ∙ c.loop-choices.invariant.path
 
-pub returns-in_err-child-clause-context : goal.returns-in_err-child-clause-context
-returns-in_err-child-clause-context g c = only_then c.loop-choices.invariant.context c.child.ensures.context
-
-pub returns-in_err-push-clause-path : goal.returns-in_err-push-clause-path
-returns-in_err-push-clause-path g c = c.child.ensures.path ∙ c.loop-choices.invariant.path
-
-pub returns-in_err-push-clause-context : goal.returns-in_err-push-clause-context
-returns-in_err-push-clause-context g c = only_then c.loop-choices.invariant.context c.child.ensures.context
-
-pub loop-choices-preserved-in_ok-push : goal.loop-choices-preserved-in_ok-push
-loop-choices-preserved-in_ok-push g c = record {
-  path = c.child.ensures.path ∙ c.loop-choices.invariant.path;
-  context = only_then c.loop-choices.invariant.context c.child.ensures.context;
-  shown =
-      let of_nodes : List g.row.N.Denot → List Wanted = λ ns. each_wanted g.N.Evaluate.tree g.N.Means.means c.args.ctx.now.answer ns (data_of c.args.object) c.args.path.now in
-      shown_more c.loop-choices.children.items c.in_ok-child.field-0 c.loop-choices.invariant.shown
-      (ap (flat_map (λ d. of_nodes (chosen d))) c.in-Some.ensures.steps
-      ∙ ap (λ ns. of_nodes ns ++ flat_map (λ d. of_nodes (chosen d)) (left_of c.next.new.self)) (sym c.in-Some-chosen_by.ensures))
-      c.in_ok-push.ensures.items
-      (subst₂ (λ u Q. IsShown (wanted g.N.Evaluate.tree g.N.Means.means u c.in-Some-chosen_by.dependency.now (data_of c.args.object) Q) (tree_of c.in_ok-child.field-0)) c.loop-choices.invariant.context.answer c.loop-choices.invariant.path c.in_ok-child.ensures.shown);
-}
+pub returns-in_err-add_child-clause-context : goal.returns-in_err-add_child-clause-context
+returns-in_err-add_child-clause-context g c = only_then c.loop-choices.invariant.context c.add_child.ensures.context
