@@ -1,4 +1,5 @@
 //! Whether `properties` fuses the names that `required` lists.
+use crate::rows::expect_rows;
 use olk_base::Meter;
 use olk_build::{Context, compile};
 use olk_keywords::{properties, required};
@@ -8,26 +9,48 @@ use olk_reports::BuildError;
 use olk_tree::{Body, KeywordOver};
 use serde_json::{Map, Value};
 use std::alloc::{AllocError, Global};
-use std::process::Abort;
 use std::test::Fail;
+
+fn add_declared(
+    members: &mut Map<String, Value>,
+    alloc: Global,
+    count: usize,
+) -> Result<(), AllocError> {
+    for i in 0..count {
+        members.insert(format!(in alloc; "m{i:02}")?, Value::Bool(true))?;
+    }
+    Ok(())
+}
 
 // So many declared names.
 fn declared(alloc: Global, count: usize) -> Result<Value, AllocError> {
     let mut declared = Map::new(alloc);
-    for i in 0..count {
-        declared.insert(format!(in alloc; "m{i:02}")?, Value::Bool(true))?;
-    }
+    add_declared(&mut declared, alloc, count)?;
     Ok(Value::Object(declared))
+}
+
+fn add_properties(
+    members: &mut Map<String, Value>,
+    alloc: Global,
+    count: usize,
+) -> Result<(), AllocError> {
+    let declared = declared(alloc, count)?;
+    members.insert(String::from_str(alloc, "properties")?, declared)?;
+    Ok(())
+}
+
+// Adds so many declared names to a schema object.
+fn close(schema: &mut Value, alloc: Global, count: usize) -> Result<(), Fail> {
+    match schema.as_object_mut() {
+        Some(members) => Ok(add_properties(members, alloc, count)?),
+        None => Err(Fail::from("no object")),
+    }
 }
 
 // A schema object with so many declared names, beside these members.
 fn closed(alloc: Global, count: usize, others: &str) -> Result<Value, Fail> {
     let mut schema = Value::from_str(alloc, others)?;
-    let Some(members) = schema.as_object_mut() else {
-        return Err(Fail::from("no object"));
-    };
-    let properties = String::from_str(alloc, "properties")?;
-    members.insert(properties, declared(alloc, count)?)?;
+    close(&mut schema, alloc, count)?;
     Ok(schema)
 }
 
@@ -59,6 +82,7 @@ fn fuses(alloc: Global, parent: &Map<String, Value>) -> Result<bool, Fail> {
     let made = properties::compile(alloc, &mut ctx, parent, declared);
     let is_fused = is_fused(&made);
     drop(made);
+    drop(ctx);
     is_fused
 }
 
@@ -70,6 +94,7 @@ fn stands_alone(alloc: Global, parent: &Map<String, Value>) -> bool {
     let made = required::compile(alloc, &mut ctx, parent, listed);
     let is_some = made.is_some();
     drop(made);
+    drop(ctx);
     is_some
 }
 
@@ -91,58 +116,62 @@ fn keyword_count(alloc: Global, schema: &Value) -> Result<usize, Fail> {
     let built = compile(alloc, &mut ctx, schema);
     let count = count_of(&built);
     drop(built);
+    drop(ctx);
     count
 }
 
-// Whether `properties` fuses what `required` lists, whether `required` stands alone, and how many keywords there are.
-fn found(alloc: Global, schema: &Value) -> Result<(bool, bool, usize), Fail> {
-    let Some(parent) = schema.as_object() else {
-        return Err(Fail::from("no object"));
-    };
+fn line_of(alloc: Global, schema: &Value, parent: &Map<String, Value>) -> Result<String, Fail> {
+    let is_fused = fuses(alloc, parent)?;
+    let is_alone = stands_alone(alloc, parent);
     let count = keyword_count(alloc, schema)?;
-    Ok((fuses(alloc, parent)?, stands_alone(alloc, parent), count))
+    Ok(format!(in alloc; "{is_fused} {is_alone} {count}")?)
 }
 
-fn expect_fused(
-    rt: &impl Abort,
-    alloc: Global,
-    count: usize,
-    others: &str,
-    told: (bool, bool, usize),
-) -> Result<(), Fail> {
-    let schema = closed(alloc, count, others)?;
-    let found = found(alloc, &schema)?;
-    assert_eq!(rt; found, told, "{count} {others}");
-    Ok(())
+fn line_of_value(alloc: Global, schema: &Value) -> Result<String, Fail> {
+    match schema.as_object() {
+        Some(parent) => line_of(alloc, schema, parent),
+        None => Err(Fail::from("no object")),
+    }
 }
+
+fn line_beside(alloc: Global, count: usize, others: &str) -> Result<String, Fail> {
+    let schema = closed(alloc, count, others)?;
+    let line = line_of_value(alloc, &schema);
+    drop(schema);
+    line
+}
+
+// Of a number of declared names and the members beside them: whether `properties` fuses what `required` lists, whether
+// `required` stands alone, and how many keywords there are.
+fn found(alloc: Global, row: &str) -> Result<String, Fail> {
+    match row.split_once(" ") {
+        Some((count, others)) => line_beside(alloc, count.parse()?, others),
+        None => Err(Fail::new(row)),
+    }
+}
+
+const FUSED: &str = r#"0 {"required":["a","b"]} | true false 1
+14 {"required":["a","b"]} | true false 1
+14 {"required":["b","a"]} | true false 1
+15 {"required":["a","b"]} | false true 2
+14 {"required":["a","a"]} | false true 2
+14 {"required":[]} | false true 2
+14 {"required":["a"]} | false true 2
+14 {"required":["a","b","c"]} | false true 2"#;
 
 #[test]
 fn required_names_that_are_fused(rt: HostRuntime) -> Result<(), Fail> {
-    for (count, others) in [
-        (0, r#"{"required":["a","b"]}"#),
-        (14, r#"{"required":["a","b"]}"#),
-        (14, r#"{"required":["b","a"]}"#),
-    ] {
-        expect_fused(&rt, rt.alloc(), count, others, (true, false, 1))?;
-    }
-    for (count, others) in [
-        (15, r#"{"required":["a","b"]}"#),
-        (14, r#"{"required":["a","a"]}"#),
-        (14, r#"{"required":[]}"#),
-        (14, r#"{"required":["a"]}"#),
-        (14, r#"{"required":["a","b","c"]}"#),
-    ] {
-        expect_fused(&rt, rt.alloc(), count, others, (false, true, 2))?;
-    }
-    Ok(())
+    expect_rows(rt.alloc(), FUSED, found)
 }
 
 // Beside a pattern that matches every declared name, `required` is never fused.
+const BESIDE_PATTERNS: &str =
+    r#"0 {"patternProperties":{"^m":true},"required":["a","b"]} | false true 3
+14 {"patternProperties":{"^m":true},"required":["a","b"]} | false true 3
+15 {"patternProperties":{"^m":true},"required":["a","b"]} | false true 3
+16 {"patternProperties":{"^m":true},"required":["a","b"]} | false true 3"#;
+
 #[test]
 fn required_names_beside_patterns(rt: HostRuntime) -> Result<(), Fail> {
-    let others = r#"{"patternProperties":{"^m":true},"required":["a","b"]}"#;
-    for count in [0, 14, 15, 16] {
-        expect_fused(&rt, rt.alloc(), count, others, (false, true, 3))?;
-    }
-    Ok(())
+    expect_rows(rt.alloc(), BESIDE_PATTERNS, found)
 }

@@ -7,4 +7,6 @@
 #[cfg(test)]
 mod fused;
 #[cfg(test)]
+mod rows;
+#[cfg(test)]
 mod schemas;

@@ -1,12 +1,12 @@
 //! Whole schemas: what is counted of those that are built, and what is told of those that are refused.
+use crate::rows::expect_rows;
 use olk_base::Meter;
 use olk_build::{Context, compile};
 use olk_low_tests::doubles::{EqualTo, Equality, NoText, NoTexts};
 use olk_node::SchemaNode;
-use olk_reports::BuildError;
+use olk_reports::{BuildError, ValidationError};
 use serde_json::Value;
-use std::alloc::Global;
-use std::process::Abort;
+use std::alloc::{AllocError, Global};
 use std::test::Fail;
 
 // What is built of a schema. It is dropped by name: where it ends with its scope, the proof takes longer.
@@ -25,31 +25,47 @@ fn place_of(alloc: Global, context: &str, built: &Built<'_>) -> Result<String, F
     }
 }
 
-// The place of the node that is built below `definitions`.
-fn built_place(alloc: Global, schema: &Value, meter: &mut Meter) -> Result<String, Fail> {
+// A context whose place is below `definitions`.
+fn below_definitions<'c>(
+    alloc: Global,
+    meter: &'c mut Meter,
+) -> Result<Context<'c, NoTexts, Equality>, AllocError> {
     let mut ctx = Context::new(alloc, &NoTexts, &Equality, meter);
     ctx.place = ctx.place.join(alloc, "definitions")?;
+    Ok(ctx)
+}
+
+// The place of the node that is built there.
+fn built_place(alloc: Global, schema: &Value, meter: &mut Meter) -> Result<String, Fail> {
+    let mut ctx = below_definitions(alloc, meter)?;
     let built = compile(alloc, &mut ctx, schema);
     let place = place_of(alloc, ctx.location(), &built);
     drop(built);
+    drop(ctx);
     place
 }
 
-// The same behind what is counted: how many places, leaves and engines, and how often these are asked.
+// A place behind what is counted: how many places, leaves and engines, and how often these are asked.
+fn counted(alloc: Global, meter: &Meter, place: &str) -> Result<String, AllocError> {
+    let (places, leaves) = (meter.compiled(), meter.leaves());
+    let (engines, asks) = (meter.made(), meter.asked());
+    format!(in alloc; "{places} {leaves} {engines} {asks} {place}")
+}
+
 fn counted_place(alloc: Global, schema: &Value) -> Result<String, Fail> {
     let mut meter = Meter::new();
     let place = built_place(alloc, schema, &mut meter)?;
-    let (places, leaves) = (meter.compiled(), meter.leaves());
-    let (engines, asks) = (meter.made(), meter.asked());
-    Ok(format!(in alloc; "{places} {leaves} {engines} {asks} {place}")?)
+    let counted = counted(alloc, &meter, &place);
+    drop(place);
+    Ok(counted?)
 }
 
-fn expect_built(rt: &impl Abort, alloc: Global, row: &str) -> Result<(), Fail> {
-    let (text, told) = row.split_once(" | ").ok_or("a row of one cell")?;
+// What is counted of a schema that is built, and where.
+fn built(alloc: Global, text: &str) -> Result<String, Fail> {
     let schema = Value::from_str(alloc, text)?;
-    let found = counted_place(alloc, &schema)?;
-    assert_eq!(rt; found.as_str(), told, "{text}");
-    Ok(())
+    let counted = counted_place(alloc, &schema);
+    drop(schema);
+    counted
 }
 
 // A schema, what is counted of it, and where it is built.
@@ -64,10 +80,7 @@ const BUILT: &str = r#"true | 1 0 0 0 /definitions
 
 #[test]
 fn schemas_that_are_built(rt: HostRuntime) -> Result<(), Fail> {
-    for row in BUILT.lines() {
-        expect_built(&rt, rt.alloc(), row)?;
-    }
-    Ok(())
+    expect_rows(rt.alloc(), BUILT, built)
 }
 
 // What is read of a condition is counted once, and nothing else of it.
@@ -79,10 +92,7 @@ const CONDITIONS: &str = r#"{"if":5} | 1 0 0 0 /definitions
 
 #[test]
 fn conditions_that_are_built(rt: HostRuntime) -> Result<(), Fail> {
-    for row in CONDITIONS.lines() {
-        expect_built(&rt, rt.alloc(), row)?;
-    }
-    Ok(())
+    expect_rows(rt.alloc(), CONDITIONS, built)
 }
 
 // ---- schemas that are refused
@@ -125,6 +135,13 @@ const REFUSED: &str = r##"7 | . | 7 is not of types "boolean", "object"
 {"propertyDependencies":{"k":[]}} | ./propertyDependencies/k | [] is not of type "object"
 {"propertyDependencies":{"k":{"t/u":5}}} | ./propertyDependencies/k/t~1u | 5 is not of types "boolean", "object""##;
 
+fn told_of(alloc: Global, error: &ValidationError<'_>) -> Result<String, AllocError> {
+    let message = error.message(alloc)?;
+    let told = format!(in alloc; ".{} | {message}", error.schema_path());
+    drop(message);
+    told
+}
+
 // What is told, where the context's place stayed as it was.
 fn told(alloc: Global, context: &str, built: &Built<'_>) -> Result<String, Fail> {
     if !context.is_empty() {
@@ -136,32 +153,28 @@ fn told(alloc: Global, context: &str, built: &Built<'_>) -> Result<String, Fail>
     if !error.instance_path().is_empty() {
         return Err(Fail::from("a place in an instance"));
     }
-    let message = error.message(alloc)?;
-    Ok(format!(in alloc; ".{} | {message}", error.schema_path())?)
+    Ok(told_of(alloc, error)?)
 }
 
-// What is told of a schema that is refused.
-fn refused(alloc: Global, schema: &Value) -> Result<String, Fail> {
+fn told_of_value(alloc: Global, schema: &Value) -> Result<String, Fail> {
     let mut meter = Meter::new();
     let mut ctx = Context::new(alloc, &NoTexts, &Equality, &mut meter);
     let built = compile(alloc, &mut ctx, schema);
     let told = told(alloc, ctx.location(), &built);
     drop(built);
+    drop(ctx);
     told
 }
 
-fn expect_refused(rt: &impl Abort, alloc: Global, row: &str) -> Result<(), Fail> {
-    let (text, told) = row.split_once(" | ").ok_or("a row of one cell")?;
+// What is told of a schema that is refused.
+fn refused(alloc: Global, text: &str) -> Result<String, Fail> {
     let schema = Value::from_str(alloc, text)?;
-    let found = refused(alloc, &schema)?;
-    assert_eq!(rt; found.as_str(), told, "{text}");
-    Ok(())
+    let told = told_of_value(alloc, &schema);
+    drop(schema);
+    told
 }
 
 #[test]
 fn schemas_that_are_refused(rt: HostRuntime) -> Result<(), Fail> {
-    for row in REFUSED.lines() {
-        expect_refused(&rt, rt.alloc(), row)?;
-    }
-    Ok(())
+    expect_rows(rt.alloc(), REFUSED, refused)
 }

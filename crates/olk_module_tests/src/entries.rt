@@ -1,5 +1,6 @@
 //! Maps and patterns that are compiled by themselves.
-use crate::lines::{PlainNode, PlainPattern, cells, push_nodes, push_patterns};
+use crate::lines::{PlainNode, PlainPattern, push_nodes, push_patterns};
+use crate::rows::expect_rows;
 use olk_base::Meter;
 use olk_build::Context;
 use olk_keywords::{pattern_properties, properties};
@@ -8,7 +9,6 @@ use olk_reports::BuildError;
 use olk_tree::{BigMap, SmallMap, SortedNames};
 use serde_json::{Map, Value};
 use std::alloc::{AllocError, Global};
-use std::process::Abort;
 use std::test::Fail;
 
 // ---- what is compiled, as a line
@@ -52,17 +52,22 @@ fn big_map_line(
     }
 }
 
-// The patterns, each with its node.
+// Patterns, each with its node.
+fn patterns_line(
+    alloc: Global,
+    patterns: &[(PlainPattern, PlainNode)],
+) -> Result<String, AllocError> {
+    let mut text = String::new(alloc);
+    push_patterns(&mut text, patterns)?;
+    Ok(text)
+}
+
 fn pattern_line(
     alloc: Global,
     built: &Result<Vec<(PlainPattern, PlainNode)>, BuildError<'_>>,
 ) -> Result<String, AllocError> {
     match built {
-        Ok(patterns) => {
-            let mut text = String::new(alloc);
-            push_patterns(&mut text, patterns.as_slice())?;
-            Ok(text)
-        }
+        Ok(patterns) => patterns_line(alloc, patterns.as_slice()),
         Err(error) => refused_line(alloc, error),
     }
 }
@@ -76,6 +81,7 @@ fn line_of_small_map(
     let built = properties::compile_small_map(alloc, &mut ctx, declared);
     let line = small_map_line(alloc, &built);
     drop(built);
+    drop(ctx);
     line
 }
 
@@ -88,6 +94,7 @@ fn line_of_big_map(
     let built = properties::compile_big_map(alloc, &mut ctx, declared);
     let line = big_map_line(alloc, &built);
     drop(built);
+    drop(ctx);
     line
 }
 
@@ -100,28 +107,60 @@ fn line_of_patterns(
     let built = pattern_properties::compile_patterns(alloc, &mut ctx, patterns);
     let line = pattern_line(alloc, &built);
     drop(built);
+    drop(ctx);
     line
 }
 
-// What is compiled of an object, as a map of few names, a map of many, or patterns.
-fn line_of(alloc: Global, kind: &str, object: &Value, meter: &mut Meter) -> Result<String, Fail> {
-    let Some(entries) = object.as_object() else {
-        return Err(Fail::from("no object"));
-    };
-    let line = match kind {
+fn line_of(
+    alloc: Global,
+    kind: &str,
+    entries: &Map<String, Value>,
+    meter: &mut Meter,
+) -> Result<String, AllocError> {
+    match kind {
         "small" => line_of_small_map(alloc, entries, meter),
         "big" => line_of_big_map(alloc, entries, meter),
         _ => line_of_patterns(alloc, entries, meter),
-    };
-    Ok(line?)
+    }
 }
 
-// The same behind what is counted: how many places, leaves and engines.
-fn counted_line(alloc: Global, kind: &str, object: &Value) -> Result<String, Fail> {
-    let mut meter = Meter::new();
-    let line = line_of(alloc, kind, object, &mut meter)?;
+// A line behind what is counted, or the place of what is refused.
+fn counted(alloc: Global, meter: &Meter, line: &str) -> Result<String, AllocError> {
+    if let Some(place) = line.strip_prefix(" refused ") {
+        return String::from_str(alloc, place);
+    }
     let (places, leaves, engines) = (meter.compiled(), meter.leaves(), meter.made());
-    Ok(format!(in alloc; "{places} {leaves} {engines}{line}")?)
+    format!(in alloc; "{places} {leaves} {engines}{line}")
+}
+
+fn told_of(alloc: Global, kind: &str, entries: &Map<String, Value>) -> Result<String, AllocError> {
+    let mut meter = Meter::new();
+    let line = line_of(alloc, kind, entries, &mut meter)?;
+    let told = counted(alloc, &meter, &line);
+    drop(line);
+    told
+}
+
+fn told_of_value(alloc: Global, kind: &str, object: &Value) -> Result<String, Fail> {
+    match object.as_object() {
+        Some(entries) => Ok(told_of(alloc, kind, entries)?),
+        None => Err(Fail::new("no object")),
+    }
+}
+
+fn told_of_json(alloc: Global, kind: &str, json: &str) -> Result<String, Fail> {
+    let object = Value::from_str(alloc, json)?;
+    let told = told_of_value(alloc, kind, &object);
+    drop(object);
+    told
+}
+
+// What is compiled of an object, as a map of few names, a map of many, or patterns.
+fn compiled(alloc: Global, row: &str) -> Result<String, Fail> {
+    match row.split_once(" | ") {
+        Some((kind, json)) => told_of_json(alloc, kind, json),
+        None => Err(Fail::new(row)),
+    }
 }
 
 // ---- the tables
@@ -135,20 +174,9 @@ small | {} | 0 0 0
 big | {} | 0 0 0
 patterns | {} | 0 0 0"#;
 
-fn expect_entries(rt: &impl Abort, alloc: Global, row: &str) -> Result<(), Fail> {
-    let (kind, text, told) = cells(row)?;
-    let object = Value::from_str(alloc, text)?;
-    let found = counted_line(alloc, kind, &object)?;
-    assert_eq!(rt; found.as_str(), told, "{row}");
-    Ok(())
-}
-
 #[test]
 fn entries_that_are_compiled_by_themselves(rt: HostRuntime) -> Result<(), Fail> {
-    for row in ENTRIES.lines() {
-        expect_entries(&rt, rt.alloc(), row)?;
-    }
-    Ok(())
+    expect_rows(rt.alloc(), ENTRIES, compiled)
 }
 
 // An object, and the place of what is refused.
@@ -157,18 +185,7 @@ big | {"a/":{},"b":{"text":true}} | /properties/b/text
 patterns | {"(":{},"a":5} | /patternProperties/(
 patterns | {"^a/":5} | /patternProperties/^a~1"#;
 
-fn expect_refused(rt: &impl Abort, alloc: Global, row: &str) -> Result<(), Fail> {
-    let (kind, text, place) = cells(row)?;
-    let object = Value::from_str(alloc, text)?;
-    let line = line_of(alloc, kind, &object, &mut Meter::new())?;
-    assert_eq!(rt; line.strip_prefix(" refused "), Some(place), "{row}");
-    Ok(())
-}
-
 #[test]
 fn entries_that_are_refused(rt: HostRuntime) -> Result<(), Fail> {
-    for row in REFUSED.lines() {
-        expect_refused(&rt, rt.alloc(), row)?;
-    }
-    Ok(())
+    expect_rows(rt.alloc(), REFUSED, compiled)
 }

@@ -1,5 +1,8 @@
 //! What the module of a keyword compiles of its member of an object.
-use crate::lines::{PlainNode, cells, push_node, push_nodes, push_pattern, push_patterns};
+use crate::lines::{
+    PlainNode, PlainPattern, push_all, push_node, push_nodes, push_pattern, push_patterns,
+};
+use crate::rows::expect_rows;
 use olk_base::Meter;
 use olk_build::Context;
 use olk_keywords::{
@@ -14,7 +17,6 @@ use olk_tree::properties_map::PropertiesMap;
 use olk_tree::{KeywordOver, SmallMap};
 use serde_json::{Map, Value};
 use std::alloc::{AllocError, Global};
-use std::process::Abort;
 use std::test::Fail;
 
 // ---- a keyword as text
@@ -30,9 +32,7 @@ fn push_small_map(text: &mut String, map: &SmallMap<PlainNode>) -> Result<(), Al
 // Each name with the texts that choose, each with its node.
 fn push_choices(text: &mut String, map: &SmallMap<SmallMap<PlainNode>>) -> Result<(), AllocError> {
     for (name, chosen) in map.names.as_slice().iter().zip(&map.nodes) {
-        text.push_str(" ")?;
-        text.push_str(name.as_str())?;
-        text.push_str(" {")?;
+        push_all(text, &[" ", name.as_str(), " {"])?;
         push_small_map(text, chosen)?;
         text.push_str(" }")?;
     }
@@ -46,32 +46,51 @@ fn push_map(text: &mut String, map: &PropertiesMap<PlainNode>) -> Result<(), All
     }
 }
 
-// What is declared, and each pattern with its node.
-fn push_neighbours(text: &mut String, keyword: &Restriction) -> Result<(), AllocError> {
-    if let Some(properties) = &keyword.properties {
-        push_map(text, properties)?;
+fn push_declared(text: &mut String, keyword: &Restriction) -> Result<(), AllocError> {
+    match &keyword.properties {
+        Some(properties) => push_map(text, properties),
+        None => Ok(()),
     }
-    if let Some(patterns) = &keyword.patterns {
-        text.push_str(" at ")?;
-        text.push_str(keyword.patterns_location.as_str())?;
-        push_patterns(text, patterns.as_slice())?;
-    }
-    Ok(())
 }
 
-// The node for the rest, and the name that is required.
-fn push_others(text: &mut String, keyword: &Restriction) -> Result<(), AllocError> {
-    if let Some(rest) = &keyword.rest {
-        text.push_str(" rest:")?;
-        push_node(text, rest)?;
+// Where the patterns stand, and each with its node.
+fn push_beside(text: &mut String, keyword: &Restriction) -> Result<(), AllocError> {
+    match &keyword.patterns {
+        Some(patterns) => {
+            push_all(text, &[" at ", keyword.patterns_location.as_str()])?;
+            push_patterns(text, patterns.as_slice())
+        }
+        None => Ok(()),
     }
-    if let Some(required) = &keyword.required {
-        text.push_str(" requires ")?;
-        text.push_str(required.name.as_str())?;
-        text.push_str(" at ")?;
-        text.push_str(required.location.as_str())?;
+}
+
+// The node for the rest.
+fn push_rest(text: &mut String, keyword: &Restriction) -> Result<(), AllocError> {
+    match &keyword.rest {
+        Some(rest) => {
+            text.push_str(" rest:")?;
+            push_node(text, rest)
+        }
+        None => Ok(()),
     }
-    Ok(())
+}
+
+// The name that is required, and where.
+fn push_required(text: &mut String, keyword: &Restriction) -> Result<(), AllocError> {
+    match &keyword.required {
+        Some(required) => {
+            let (name, place) = (required.name.as_str(), required.location.as_str());
+            push_all(text, &[" requires ", name, " at ", place])
+        }
+        None => Ok(()),
+    }
+}
+
+fn push_restriction(text: &mut String, keyword: &Restriction) -> Result<(), AllocError> {
+    push_declared(text, keyword)?;
+    push_beside(text, keyword)?;
+    push_rest(text, keyword)?;
+    push_required(text, keyword)
 }
 
 // The form of a keyword of branches, or of a condition.
@@ -103,28 +122,35 @@ fn place_of(keyword: &PlainKeyword) -> &str {
     }
 }
 
+fn push_named(text: &mut String, node: &PlainNode) -> Result<(), AllocError> {
+    text.push_str(" names:")?;
+    push_node(text, node)
+}
+
+fn push_single(
+    text: &mut String,
+    pattern: &PlainPattern,
+    node: &PlainNode,
+) -> Result<(), AllocError> {
+    text.push_str(" single")?;
+    push_pattern(text, pattern, node)
+}
+
 // What a keyword holds.
 fn push_held(text: &mut String, keyword: &PlainKeyword) -> Result<(), AllocError> {
     match keyword {
         KeywordOver::Not(_) => Ok(()),
         KeywordOver::Dependencies(keyword) => push_small_map(text, &keyword.dependencies),
-        KeywordOver::PropertyNames(keyword) => {
-            text.push_str(" names:")?;
-            push_node(text, &keyword.node)
-        }
+        KeywordOver::PropertyNames(keyword) => push_named(text, &keyword.node),
         KeywordOver::PropertyNamesFalse(_) => text.push_str(" no name"),
         KeywordOver::PropertyDependencies(keyword) => push_choices(text, &keyword.dependencies),
         KeywordOver::SingleValuePatternProperties(keyword) => {
-            text.push_str(" single")?;
-            push_pattern(text, &keyword.regex, &keyword.node)
+            push_single(text, &keyword.regex, &keyword.node)
         }
         KeywordOver::PatternProperties(keyword) => {
             push_patterns(text, keyword.patterns.as_slice())
         }
-        KeywordOver::AdditionalProperties(keyword) => {
-            push_neighbours(text, keyword)?;
-            push_others(text, keyword)
-        }
+        KeywordOver::AdditionalProperties(keyword) => push_restriction(text, keyword),
         _ => text.push_str(form_of(keyword)),
     }
 }
@@ -200,30 +226,48 @@ fn compiled_line(
     let made = compiled(alloc, &mut ctx, parent, name, value);
     let line = line_of(alloc, &made);
     drop(made);
+    drop(ctx);
     line
 }
 
-// The same behind what is counted: how many places, leaves and engines, and how often these are asked.
-fn counted_line(alloc: Global, object: &Value, name: &str) -> Result<String, Fail> {
-    let Some(parent) = object.as_object() else {
-        return Err(Fail::from("no object"));
-    };
-    let mut meter = Meter::new();
-    let line = compiled_line(alloc, parent, name, &mut meter)?;
+// A line behind what is counted: how many places, leaves and engines, and how often these are asked.
+fn counted(alloc: Global, meter: &Meter, line: &str) -> Result<String, Fail> {
     if meter.unfinished() != 0 {
-        return Err(Fail::from("left unfinished"));
+        return Err(Fail::new("left unfinished"));
     }
     let (places, leaves) = (meter.compiled(), meter.leaves());
     let (engines, asks) = (meter.made(), meter.asked());
     Ok(format!(in alloc; "{places} {leaves} {engines} {asks} {line}")?)
 }
 
-fn expect_compiled(rt: &impl Abort, alloc: Global, row: &str) -> Result<(), Fail> {
-    let (name, text, told) = cells(row)?;
-    let object = Value::from_str(alloc, text)?;
-    let found = counted_line(alloc, &object, name)?;
-    assert_eq!(rt; found.as_str(), told, "{row}");
-    Ok(())
+fn counted_line(alloc: Global, parent: &Map<String, Value>, name: &str) -> Result<String, Fail> {
+    let mut meter = Meter::new();
+    let line = compiled_line(alloc, parent, name, &mut meter)?;
+    let counted = counted(alloc, &meter, &line);
+    drop(line);
+    counted
+}
+
+fn line_of_value(alloc: Global, object: &Value, name: &str) -> Result<String, Fail> {
+    match object.as_object() {
+        Some(parent) => counted_line(alloc, parent, name),
+        None => Err(Fail::new("no object")),
+    }
+}
+
+fn line_of_json(alloc: Global, name: &str, json: &str) -> Result<String, Fail> {
+    let object = Value::from_str(alloc, json)?;
+    let line = line_of_value(alloc, &object, name);
+    drop(object);
+    line
+}
+
+// What is compiled of the member of a name, in an object.
+fn compiled_of(alloc: Global, row: &str) -> Result<String, Fail> {
+    match row.split_once(" | ") {
+        Some((name, json)) => line_of_json(alloc, name, json),
+        None => Err(Fail::new(row)),
+    }
 }
 
 // Tables: the keyword, the object that has it, and what is compiled of it: how many places, leaves and engines, how often
@@ -238,15 +282,16 @@ anyOf | {"anyOf":[true,{}]} | 2 0 0 0 anyOf"#;
 
 #[test]
 fn one_branch_has_a_form_of_its_own(rt: HostRuntime) -> Result<(), Fail> {
-    for row in BRANCHES.lines() {
-        expect_compiled(&rt, rt.alloc(), row)?;
-    }
-    Ok(())
+    expect_rows(rt.alloc(), BRANCHES, compiled_of)
 }
 
 #[test]
 fn a_schema_that_is_turned(rt: HostRuntime) -> Result<(), Fail> {
-    expect_compiled(&rt, rt.alloc(), r#"not | {"not":true} | 1 0 0 0 /not"#)
+    expect_rows(
+        rt.alloc(),
+        r#"not | {"not":true} | 1 0 0 0 /not"#,
+        compiled_of,
+    )
 }
 
 const CONDITIONS: &str = r#"if | {"if":true} | 0 0 0 0 none
@@ -256,10 +301,7 @@ if | {"if":true,"then":{"not":true},"else":false} | 4 0 0 0 both"#;
 
 #[test]
 fn a_condition_with_its_cases(rt: HostRuntime) -> Result<(), Fail> {
-    for row in CONDITIONS.lines() {
-        expect_compiled(&rt, rt.alloc(), row)?;
-    }
-    Ok(())
+    expect_rows(rt.alloc(), CONDITIONS, compiled_of)
 }
 
 const DEPENDENCIES_AND_NAMES: &str =
@@ -274,10 +316,7 @@ propertyDependencies | {"propertyDependencies":{"l":{},"k":{"u":true,"t/":{"not"
 
 #[test]
 fn keywords_of_dependencies_and_names(rt: HostRuntime) -> Result<(), Fail> {
-    for row in DEPENDENCIES_AND_NAMES.lines() {
-        expect_compiled(&rt, rt.alloc(), row)?;
-    }
-    Ok(())
+    expect_rows(rt.alloc(), DEPENDENCIES_AND_NAMES, compiled_of)
 }
 
 const PATTERNS: &str =
@@ -293,10 +332,7 @@ patternProperties | {"additionalProperties":{"text":false},"patternProperties":{
 
 #[test]
 fn keywords_of_patterns(rt: HostRuntime) -> Result<(), Fail> {
-    for row in PATTERNS.lines() {
-        expect_compiled(&rt, rt.alloc(), row)?;
-    }
-    Ok(())
+    expect_rows(rt.alloc(), PATTERNS, compiled_of)
 }
 
 const RESTRICTIONS: &str =
@@ -310,8 +346,5 @@ additionalProperties | {"additionalProperties":5,"patternProperties":{"b":{}},"p
 
 #[test]
 fn keywords_of_restrictions(rt: HostRuntime) -> Result<(), Fail> {
-    for row in RESTRICTIONS.lines() {
-        expect_compiled(&rt, rt.alloc(), row)?;
-    }
-    Ok(())
+    expect_rows(rt.alloc(), RESTRICTIONS, compiled_of)
 }

@@ -10,3 +10,5 @@ mod entries;
 mod keywords;
 #[cfg(test)]
 mod lines;
+#[cfg(test)]
+mod rows;

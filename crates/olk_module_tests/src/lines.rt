@@ -1,35 +1,37 @@
-//! Nodes and what holds them, as text, and the cells of a row.
+//! Nodes and what holds them, as text.
 use olk_base::CompiledPattern;
 use olk_low_tests::doubles::{EqualTo, NoText};
 use olk_node::SchemaNode;
-use olk_tree::{Body, SortedNames};
+use olk_tree::{Body, RequiredValidator, SortedNames};
 use std::alloc::AllocError;
-use std::test::Fail;
 
 pub(crate) type PlainNode = SchemaNode<NoText, EqualTo>;
 
 pub(crate) type PlainPattern = CompiledPattern<EqualTo>;
 
-/// The three cells of a row, which stand between ` | `.
-pub(crate) fn cells(row: &str) -> Result<(&str, &str, &str), Fail> {
-    let (first, others) = row.split_once(" | ").ok_or("a row of one cell")?;
-    let (second, third) = others.split_once(" | ").ok_or("a row of two cells")?;
-    Ok((first, second, third))
+/// Adds these parts in turn.
+pub(crate) fn push_all(text: &mut String, parts: &[&str]) -> Result<(), AllocError> {
+    for part in parts {
+        text.push_str(part)?;
+    }
+    Ok(())
+}
+
+fn push_list(text: &mut String, list: &RequiredValidator) -> Result<(), AllocError> {
+    text.push_str(" [")?;
+    for name in &list.required {
+        push_all(text, &[name.as_str(), ","])?;
+    }
+    text.push_str("]")
 }
 
 /// Where a node stands, and its names where it is a list.
 pub(crate) fn push_node(text: &mut String, node: &PlainNode) -> Result<(), AllocError> {
-    text.push_str(" ")?;
-    text.push_str(node.location().as_str())?;
-    if let Body::RequiredNames(list) = &node.body {
-        text.push_str(" [")?;
-        for name in &list.required {
-            text.push_str(name.as_str())?;
-            text.push_str(",")?;
-        }
-        text.push_str("]")?;
+    push_all(text, &[" ", node.location().as_str()])?;
+    match &node.body {
+        Body::RequiredNames(list) => push_list(text, list),
+        _ => Ok(()),
     }
-    Ok(())
 }
 
 /// Each name with its node. It takes no map by its trait: a call that does takes 40 seconds more to prove.
@@ -39,9 +41,7 @@ pub(crate) fn push_nodes(
     nodes: &[PlainNode],
 ) -> Result<(), AllocError> {
     for (name, node) in names.as_slice().iter().zip(nodes) {
-        text.push_str(" ")?;
-        text.push_str(name.as_str())?;
-        text.push_str(":")?;
+        push_all(text, &[" ", name.as_str(), ":"])?;
         push_node(text, node)?;
     }
     Ok(())
@@ -64,9 +64,7 @@ pub(crate) fn push_pattern(
     pattern: &PlainPattern,
     node: &PlainNode,
 ) -> Result<(), AllocError> {
-    text.push_str(" ")?;
-    text.push_str(pattern_form(pattern))?;
-    text.push_str(":")?;
+    push_all(text, &[" ", pattern_form(pattern), ":"])?;
     push_node(text, node)
 }
 

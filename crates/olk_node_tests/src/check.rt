@@ -1,5 +1,7 @@
 //! Validators that are built by hand, over a leaf that refuses texts.
-use olk_base::{Meter, Node, ValidationContext, compile_pattern};
+use crate::objects::{add_names, add_text, sorted_names};
+use crate::rows::{expect_rows, three};
+use olk_base::{CompiledPattern, Meter, Node, ValidationContext, compile_pattern};
 use olk_check::{IsValid, matches};
 use olk_low_tests::doubles::{EqualTo, Equality, NoText};
 use olk_node::{Keyword, SchemaNode, is_valid_for};
@@ -15,7 +17,6 @@ use olk_tree::properties_map::PropertiesMap;
 use olk_tree::required::RequiredValidator;
 use serde_json::{Map, Value};
 use std::alloc::{AllocError, Global};
-use std::process::Abort;
 use std::test::Fail;
 
 // ---- places
@@ -31,8 +32,9 @@ fn place(alloc: Global, body: Body<PlainKeyword>) -> PlainNode {
     }
 }
 
-fn truth(alloc: Global, accepts: bool) -> PlainNode {
-    if accepts {
+// Accepts everything where the word is `true`, and nothing else.
+fn truth(alloc: Global, word: &str) -> PlainNode {
+    if word == "true" {
         place(alloc, Body::True)
     } else {
         place(alloc, Body::False)
@@ -40,76 +42,41 @@ fn truth(alloc: Global, accepts: bool) -> PlainNode {
 }
 
 fn keyword(alloc: Global, keyword: PlainKeyword) -> Result<PlainNode, AllocError> {
-    Ok(place(alloc, Body::Keywords(vec![in alloc; keyword]?)))
+    let mut keywords = Vec::new(alloc);
+    keywords.push(keyword)?;
+    Ok(place(alloc, Body::Keywords(keywords)))
 }
 
 fn no_text(alloc: Global) -> Result<PlainNode, AllocError> {
     keyword(alloc, KeywordOver::Leaf(Location::new(alloc), NoText))
 }
 
-fn branches(alloc: Global, answers: &[bool]) -> Result<Vec<PlainNode>, AllocError> {
+fn push_node(nodes: &mut Vec<PlainNode>, node: PlainNode) -> Result<(), AllocError> {
+    Ok(nodes.push(node)?)
+}
+
+fn branches(alloc: Global, words: &str) -> Result<Vec<PlainNode>, AllocError> {
     let mut nodes = Vec::new(alloc);
-    for answer in answers {
-        nodes.push(truth(alloc, *answer))?;
+    for word in words.split_terminator(" ") {
+        push_node(&mut nodes, truth(alloc, word))?;
     }
     Ok(nodes)
 }
 
-fn accepts(place: &PlainNode, value: &Value) -> bool {
-    let mut ctx = ValidationContext::new(false);
-    is_valid_for(place, Node::Value(value), &mut ctx)
-}
-
-fn accepts_json(place: &PlainNode, alloc: Global, text: &str) -> Result<bool, Fail> {
-    let value = Value::from_str(alloc, text)?;
-    Ok(accepts(place, &value))
-}
-
-// Whether null is accepted. The node is dropped by name, so that a test has none to drop.
-fn accepts_null(place: PlainNode) -> bool {
-    let accepted = accepts(&place, &Value::Null);
-    drop(place);
-    accepted
-}
-
-// ---- the tables
-
-fn all_of(alloc: Global, answers: &[bool]) -> Result<PlainNode, AllocError> {
-    let schemas = branches(alloc, answers)?;
+fn all_of(alloc: Global, words: &str) -> Result<PlainNode, AllocError> {
+    let schemas = branches(alloc, words)?;
     let location = Location::new(alloc);
     keyword(alloc, KeywordOver::AllOf(AllOf { schemas, location }))
 }
 
-fn any_of(alloc: Global, answers: &[bool]) -> Result<PlainNode, AllocError> {
-    let schemas = branches(alloc, answers)?;
+fn any_of(alloc: Global, words: &str) -> Result<PlainNode, AllocError> {
+    let schemas = branches(alloc, words)?;
     let location = Location::new(alloc);
     keyword(alloc, KeywordOver::AnyOf(AnyOf { schemas, location }))
 }
 
-#[test]
-fn branches_of_logic(rt: HostRuntime) -> Result<(), Fail> {
-    let alloc = rt.alloc();
-    let rows: [(&[bool], bool, bool); 7] = [
-        (&[], true, false),
-        (&[true], true, true),
-        (&[false], false, false),
-        (&[true, true], true, true),
-        (&[true, false], false, true),
-        (&[false, true], false, true),
-        (&[false, false], false, false),
-    ];
-    for (answers, all, any) in rows {
-        let found = (
-            accepts_null(all_of(alloc, answers)?),
-            accepts_null(any_of(alloc, answers)?),
-        );
-        assert_eq!(rt; found, (all, any), "{answers:?}");
-    }
-    Ok(())
-}
-
-fn all_of_one(alloc: Global, answer: bool) -> Result<PlainNode, AllocError> {
-    let node = truth(alloc, answer);
+fn all_of_one(alloc: Global, word: &str) -> Result<PlainNode, AllocError> {
+    let node = truth(alloc, word);
     let location = Location::new(alloc);
     keyword(
         alloc,
@@ -117,8 +84,8 @@ fn all_of_one(alloc: Global, answer: bool) -> Result<PlainNode, AllocError> {
     )
 }
 
-fn any_of_one(alloc: Global, answer: bool) -> Result<PlainNode, AllocError> {
-    let node = truth(alloc, answer);
+fn any_of_one(alloc: Global, word: &str) -> Result<PlainNode, AllocError> {
+    let node = truth(alloc, word);
     let location = Location::new(alloc);
     keyword(
         alloc,
@@ -126,10 +93,10 @@ fn any_of_one(alloc: Global, answer: bool) -> Result<PlainNode, AllocError> {
     )
 }
 
-fn not(alloc: Global, answer: bool) -> Result<PlainNode, AllocError> {
-    let node = truth(alloc, answer);
+fn not(alloc: Global, word: &str) -> Result<PlainNode, AllocError> {
+    let node = truth(alloc, word);
     let location = Location::new(alloc);
-    let original = Value::Bool(answer);
+    let original = Value::Bool(word == "true");
     keyword(
         alloc,
         KeywordOver::Not(Not {
@@ -140,45 +107,20 @@ fn not(alloc: Global, answer: bool) -> Result<PlainNode, AllocError> {
     )
 }
 
-#[test]
-fn one_branch(rt: HostRuntime) -> Result<(), Fail> {
-    let alloc = rt.alloc();
-    for answer in [true, false] {
-        let alone = accepts_null(truth(alloc, answer));
-        let all = accepts_null(all_of_one(alloc, answer)?);
-        let any = accepts_null(any_of_one(alloc, answer)?);
-        let turned = accepts_null(not(alloc, answer)?);
-        assert_eq!(rt;
-            (alone, all, any, turned),
-            (answer, answer, answer, !answer)
-        );
+fn push_text(texts: &mut Vec<String>, alloc: Global, text: &str) -> Result<(), AllocError> {
+    Ok(texts.push(String::from_str(alloc, text)?)?)
+}
+
+fn texts(alloc: Global, words: &str) -> Result<Vec<String>, AllocError> {
+    let mut texts = Vec::new(alloc);
+    for word in words.split_terminator(" ") {
+        push_text(&mut texts, alloc, word)?;
     }
-    Ok(())
+    Ok(texts)
 }
 
-// Whether the text, a name and null are accepted, and how many engines are asked.
-fn leaf_answers(node: &PlainNode, text: &Value, name: &String) -> (bool, bool, bool, u64) {
-    let mut ctx = ValidationContext::new(true);
-    let is_text = node.is_valid(Node::Value(text), &mut ctx);
-    let is_name = node.is_valid(Node::Name(name), &mut ctx);
-    let is_null = node.is_valid(Node::Value(&Value::Null), &mut ctx);
-    (is_text, is_name, is_null, ctx.meter().asked())
-}
-
-#[test]
-fn leaves(rt: HostRuntime) -> Result<(), Fail> {
-    let node = no_text(rt.alloc())?;
-    let text = Value::String(String::from_str(rt.alloc(), "a")?);
-    let name = String::from_str(rt.alloc(), "a")?;
-    assert_eq!(rt; leaf_answers(&node, &text, &name), (false, false, true, 0));
-    Ok(())
-}
-
-fn required(alloc: Global, names: &[&str]) -> Result<PlainNode, AllocError> {
-    let mut required = Vec::new(alloc);
-    for name in names {
-        required.push(String::from_str(alloc, name)?)?;
-    }
+fn required(alloc: Global, words: &str) -> Result<PlainNode, AllocError> {
+    let required = texts(alloc, words)?;
     let location = Location::new(alloc);
     keyword(
         alloc,
@@ -186,71 +128,36 @@ fn required(alloc: Global, names: &[&str]) -> Result<PlainNode, AllocError> {
     )
 }
 
-fn required_accepts(alloc: Global, names: &[&str], text: &str) -> Result<bool, Fail> {
-    let place = required(alloc, names)?;
-    let accepted = accepts_json(&place, alloc, text);
-    drop(place);
-    accepted
+// ---- declared names
+
+// A name with its number is declared where this is below how many are.
+const NUMBERED: &str =
+    "m00 m01 m02 m03 m04 m05 m06 m07 m08 m09 m10 m11 m12 m13 m14 m15 m16 m17 m18 m19";
+
+fn push_leaf(nodes: &mut Vec<PlainNode>, alloc: Global) -> Result<(), AllocError> {
+    push_node(nodes, no_text(alloc)?)
 }
 
-#[test]
-fn required_names(rt: HostRuntime) -> Result<(), Fail> {
-    let alloc = rt.alloc();
-    let rows: [(&[&str], &str, bool); 8] = [
-        (&[], "{}", true),
-        (&["a"], "{}", false),
-        (&["a"], r#"{"a":1}"#, true),
-        (&["a"], r#"{"b":1}"#, false),
-        (&["b", "a"], r#"{"a":1,"b":1,"c":1}"#, true),
-        (&["b", "a"], r#"{"a":1,"c":1}"#, false),
-        (&["b", "a"], r#"{"b":1,"c":1}"#, false),
-        (&["a"], r#"["a"]"#, true),
-    ];
-    for (names, text, answer) in rows {
-        let accepted = required_accepts(alloc, names, text)?;
-        assert_eq!(rt; accepted, answer, "{names:?} {text}");
+fn leaf_nodes(alloc: Global, count: usize) -> Result<Vec<PlainNode>, AllocError> {
+    let mut nodes = Vec::new(alloc);
+    for _ in 0..count {
+        push_leaf(&mut nodes, alloc)?;
     }
-    Ok(())
+    Ok(nodes)
 }
 
-// The name `a` with the leaf.
-fn one_name(alloc: Global) -> Result<SmallMap<PlainNode>, AllocError> {
-    let mut names = Map::new(alloc);
-    names.insert(String::from_str(alloc, "a")?, Value::Null)?;
-    let nodes = vec![in alloc; no_text(alloc)?]?;
-    let names = SortedNames::of(alloc, &names)?;
-    Ok(SmallMap { names, nodes })
-}
-
-// `properties` of that name, and two required names.
-fn beside_required(alloc: Global) -> Result<PlainNode, AllocError> {
-    let both = SmallPropertiesWithRequired2 {
-        properties: one_name(alloc)?,
-        first: String::from_str(alloc, "c")?,
-        second: String::from_str(alloc, "b")?,
-        location: Location::new(alloc),
-        required_location: Location::new(alloc),
-    };
-    keyword(alloc, KeywordOver::PropertiesWithRequired2(both))
-}
-
-#[test]
-fn required_names_beside_declared_ones(rt: HostRuntime) -> Result<(), Fail> {
-    let alloc = rt.alloc();
-    let place = beside_required(alloc)?;
-    for (text, answer) in [
-        (r#"{"b":"x","c":1}"#, true),
-        (r#"{"a":1,"b":"x","c":1}"#, true),
-        (r#"{"a":"x","b":"x","c":1}"#, false),
-        (r#"{"a":1,"b":"x"}"#, false),
-        (r#"{"a":1,"c":"x"}"#, false),
-        (r#"{}"#, false),
-        (r#"[]"#, true),
-    ] {
-        let accepted = accepts_json(&place, alloc, text)?;
-        assert_eq!(rt; accepted, answer, "{text}");
+// In a map of few names or of many.
+fn mapped(
+    alloc: Global,
+    names: SortedNames,
+    nodes: Vec<PlainNode>,
+    many: bool,
+) -> Result<PropertiesMap<PlainNode>, AllocError> {
+    if many {
+        BigMap::of(alloc, names, nodes).map(PropertiesMap::Big)
+    } else {
+        Ok(PropertiesMap::Small(SmallMap { names, nodes }))
     }
-    Ok(())
 }
 
 // So many names, each with the leaf, in a map of few names or of many.
@@ -259,18 +166,9 @@ fn leaf_map(
     count: usize,
     many: bool,
 ) -> Result<PropertiesMap<PlainNode>, AllocError> {
-    let mut names = Map::new(alloc);
-    let mut nodes = Vec::new(alloc);
-    for i in 0..count {
-        names.insert(format!(in alloc; "m{i:02}")?, Value::Null)?;
-        nodes.push(no_text(alloc)?)?;
-    }
-    let names = SortedNames::of(alloc, &names)?;
-    if many {
-        Ok(PropertiesMap::Big(BigMap::of(alloc, names, nodes)?))
-    } else {
-        Ok(PropertiesMap::Small(SmallMap { names, nodes }))
-    }
+    let names = sorted_names(alloc, NUMBERED, count)?;
+    let nodes = leaf_nodes(alloc, count)?;
+    mapped(alloc, names, nodes, many)
 }
 
 // `properties` of these names.
@@ -286,14 +184,255 @@ fn declared(alloc: Global, count: usize, many: bool) -> Result<PlainNode, AllocE
     )
 }
 
+// The name `a` with the leaf.
+fn one_name(alloc: Global) -> Result<SmallMap<PlainNode>, AllocError> {
+    let names = sorted_names(alloc, "a", 1)?;
+    let nodes = leaf_nodes(alloc, 1)?;
+    Ok(SmallMap { names, nodes })
+}
+
+fn two_names(alloc: Global) -> Result<(String, String), AllocError> {
+    let first = String::from_str(alloc, "c")?;
+    let second = String::from_str(alloc, "b")?;
+    Ok((first, second))
+}
+
+// `properties` of the name `a`, and the required names `c` and `b`.
+fn beside_required(alloc: Global) -> Result<PlainNode, AllocError> {
+    let (first, second) = two_names(alloc)?;
+    let properties = one_name(alloc)?;
+    let both = SmallPropertiesWithRequired2 {
+        properties,
+        first,
+        second,
+        location: Location::new(alloc),
+        required_location: Location::new(alloc),
+    };
+    keyword(alloc, KeywordOver::PropertiesWithRequired2(both))
+}
+
+// ---- what a validator accepts
+
+// The validator of this form, of these words.
+fn validator(alloc: Global, form: &str, words: &str) -> Result<PlainNode, AllocError> {
+    match form {
+        "allOf" => all_of(alloc, words),
+        "anyOf" => any_of(alloc, words),
+        "single allOf" => all_of_one(alloc, words),
+        "single anyOf" => any_of_one(alloc, words),
+        "not" => not(alloc, words),
+        "required" => required(alloc, words),
+        "properties with required" => beside_required(alloc),
+        "few properties" => declared(alloc, 2, false),
+        "many properties" => declared(alloc, 2, true),
+        _ => Ok(truth(alloc, words)),
+    }
+}
+
+fn accepts(place: &PlainNode, value: &Value) -> bool {
+    let mut ctx = ValidationContext::new(false);
+    let accepted = is_valid_for(place, Node::Value(value), &mut ctx);
+    drop(ctx);
+    accepted
+}
+
+// Whether a validator accepts a value. A node is dropped by name, so that none ends with its scope.
+fn accepts_value(
+    alloc: Global,
+    form: &str,
+    words: &str,
+    value: &Value,
+) -> Result<bool, AllocError> {
+    let place = validator(alloc, form, words)?;
+    let accepted = accepts(&place, value);
+    drop(place);
+    Ok(accepted)
+}
+
+fn accepts_line(
+    alloc: Global,
+    form: &str,
+    words: &str,
+    value: &Value,
+) -> Result<String, AllocError> {
+    let accepted = accepts_value(alloc, form, words, value)?;
+    String::from_str(alloc, if accepted { "true" } else { "false" })
+}
+
+fn accepts_json(alloc: Global, form: &str, words: &str, json: &str) -> Result<String, Fail> {
+    let value = Value::from_str(alloc, json)?;
+    let line = accepts_line(alloc, form, words, &value);
+    drop(value);
+    Ok(line?)
+}
+
+// Whether the validator of a form, of some words, accepts a value.
+fn accepted(alloc: Global, row: &str) -> Result<String, Fail> {
+    match three(row) {
+        Some((form, words, json)) => accepts_json(alloc, form, words, json),
+        None => Err(Fail::new(row)),
+    }
+}
+
+const BRANCHES: &str = "\
+allOf |  | null | true
+anyOf |  | null | false
+allOf | true | null | true
+anyOf | true | null | true
+allOf | false | null | false
+anyOf | false | null | false
+allOf | true true | null | true
+anyOf | true true | null | true
+allOf | true false | null | false
+anyOf | true false | null | true
+allOf | false true | null | false
+anyOf | false true | null | true
+allOf | false false | null | false
+anyOf | false false | null | false";
+
+#[test]
+fn branches_of_logic(rt: HostRuntime) -> Result<(), Fail> {
+    expect_rows(rt.alloc(), BRANCHES, accepted)
+}
+
+const ONE_BRANCH: &str = "\
+alone | true | null | true
+single allOf | true | null | true
+single anyOf | true | null | true
+not | true | null | false
+alone | false | null | false
+single allOf | false | null | false
+single anyOf | false | null | false
+not | false | null | true";
+
+#[test]
+fn one_branch(rt: HostRuntime) -> Result<(), Fail> {
+    expect_rows(rt.alloc(), ONE_BRANCH, accepted)
+}
+
+const REQUIRED: &str = r#"required |  | {} | true
+required | a | {} | false
+required | a | {"a":1} | true
+required | a | {"b":1} | false
+required | b a | {"a":1,"b":1,"c":1} | true
+required | b a | {"a":1,"c":1} | false
+required | b a | {"b":1,"c":1} | false
+required | a | ["a"] | true"#;
+
+#[test]
+fn required_names(rt: HostRuntime) -> Result<(), Fail> {
+    expect_rows(rt.alloc(), REQUIRED, accepted)
+}
+
+const BESIDE_REQUIRED: &str = r#"properties with required |  | {"b":"x","c":1} | true
+properties with required |  | {"a":1,"b":"x","c":1} | true
+properties with required |  | {"a":"x","b":"x","c":1} | false
+properties with required |  | {"a":1,"b":"x"} | false
+properties with required |  | {"a":1,"c":"x"} | false
+properties with required |  | {} | false
+properties with required |  | [] | true"#;
+
+#[test]
+fn required_names_beside_declared_ones(rt: HostRuntime) -> Result<(), Fail> {
+    expect_rows(rt.alloc(), BESIDE_REQUIRED, accepted)
+}
+
+const NO_OBJECT: &str = "\
+few properties |  | null | true
+many properties |  | null | true";
+
+#[test]
+fn declared_names_beside_no_object(rt: HostRuntime) -> Result<(), Fail> {
+    expect_rows(rt.alloc(), NO_OBJECT, accepted)
+}
+
+// ---- what is asked of a leaf, and of a pattern
+
+// Whether the text, a name and null are accepted, and how many engines are asked.
+fn leaf_answers(node: &PlainNode, text: &Value, name: &String) -> (bool, bool, bool, u64) {
+    let mut ctx = ValidationContext::new(true);
+    let is_text = node.is_valid(Node::Value(text), &mut ctx);
+    let is_name = node.is_valid(Node::Name(name), &mut ctx);
+    let is_null = node.is_valid(Node::Value(&Value::Null), &mut ctx);
+    (is_text, is_name, is_null, ctx.meter().asked())
+}
+
+fn leaf_line(alloc: Global, text: &Value, name: &String) -> Result<String, AllocError> {
+    let node = no_text(alloc)?;
+    let (is_text, is_name, is_null, asked) = leaf_answers(&node, text, name);
+    drop(node);
+    format!(in alloc; "{is_text} {is_name} {is_null} {asked}")
+}
+
+// Whether the leaf accepts a text, it as a name, and null, and how many engines are asked.
+fn asked_of_leaf(alloc: Global, name: &str) -> Result<String, Fail> {
+    let text = Value::String(String::from_str(alloc, name)?);
+    let name = String::from_str(alloc, name)?;
+    Ok(leaf_line(alloc, &text, &name)?)
+}
+
+#[test]
+fn leaves(rt: HostRuntime) -> Result<(), Fail> {
+    expect_rows(rt.alloc(), "a | false false true 0", asked_of_leaf)
+}
+
+fn pattern_line(
+    alloc: Global,
+    pattern: &CompiledPattern<EqualTo>,
+    name: &str,
+    answer: bool,
+) -> Result<String, AllocError> {
+    let mut ctx = ValidationContext::new(answer);
+    let found = matches(pattern, name, &mut ctx);
+    let (asked, unfinished) = (ctx.meter().asked(), ctx.meter().unfinished());
+    format!(in alloc; "{found} {asked} {unfinished}")
+}
+
+fn match_line(alloc: Global, pattern: &str, name: &str, answer: bool) -> Result<String, Fail> {
+    let Ok(pattern) = compile_pattern(alloc, &Equality, pattern, &mut Meter::new()) else {
+        return Err(Fail::new("not built"));
+    };
+    let line = pattern_line(alloc, &pattern, name, answer);
+    drop(pattern);
+    Ok(line?)
+}
+
+// Whether the pattern matches the name under the answer, with how many engines are asked and how many matches are left
+// unfinished.
+fn matched(alloc: Global, row: &str) -> Result<String, Fail> {
+    match three(row) {
+        Some((pattern, name, answer)) => match_line(alloc, pattern, name, answer == "true"),
+        None => Err(Fail::new(row)),
+    }
+}
+
+const MATCHED: &str = "\
+^a | ab | false | true 0 0
+^a | ba | true | false 0 0
+a | a | false | true 1 0
+a | ab | true | false 1 0
+? | a | false | false 1 1
+? | a | true | true 1 1";
+
+#[test]
+fn names_that_patterns_match(rt: HostRuntime) -> Result<(), Fail> {
+    expect_rows(rt.alloc(), MATCHED, matched)
+}
+
+// ---- what is declared, beside few and beside many members
+
+// What may stand beside a name.
+const BESIDES: &str =
+    "x00 x01 x02 x03 x04 x05 x06 x07 x08 x09 x10 x11 x12 x13 x14 x15 x16 x17 x18 x19";
+
+// Names that are never declared.
+const OTHERS: &str = " l m m00a m005 m12z n";
+
 // An object with a text at the name, and so many members besides.
 fn object(alloc: Global, name: &str, besides: usize) -> Result<Value, AllocError> {
     let mut members = Map::new(alloc);
-    for i in 0..besides {
-        members.insert(format!(in alloc; "x{i:02}")?, Value::Null)?;
-    }
-    let text = Value::String(String::from_str(alloc, "a")?);
-    members.insert(String::from_str(alloc, name)?, text)?;
+    add_names(&mut members, alloc, BESIDES, besides)?;
+    add_text(&mut members, alloc, name, "a")?;
     Ok(Value::Object(members))
 }
 
@@ -304,113 +443,60 @@ fn accepts_text_at(
     name: &str,
     besides: usize,
 ) -> Result<bool, AllocError> {
-    Ok(accepts(place, &object(alloc, name, besides)?))
+    let object = object(alloc, name, besides)?;
+    let accepted = accepts(place, &object);
+    drop(object);
+    Ok(accepted)
 }
 
-// The same of the name with this number.
-fn accepts_text_at_number(
+// The first so many of these names are declared, and refuse a text.
+fn expect_refused(
     place: &PlainNode,
     alloc: Global,
-    number: usize,
+    names: &'static str,
+    count: usize,
     besides: usize,
-) -> Result<bool, AllocError> {
-    let name = format!(in alloc; "m{number:02}")?;
-    accepts_text_at(place, alloc, name.as_str(), besides)
+) -> Result<(), Fail> {
+    for (number, name) in names.split(" ").enumerate() {
+        if accepts_text_at(place, alloc, name, besides)? != (number >= count) {
+            return Err(Fail::from((count, besides, name)));
+        }
+    }
+    Ok(())
 }
 
-// The first number that is not answered as it is to be: below the count its name is declared, and refuses a text.
-fn wrong_number(
+fn expect_names(
     place: &PlainNode,
     alloc: Global,
     count: usize,
     besides: usize,
-) -> Result<Option<usize>, AllocError> {
-    for number in 0..20 {
-        if accepts_text_at_number(place, alloc, number, besides)? != (number >= count) {
-            return Ok(Some(number));
-        }
-    }
-    Ok(None)
+) -> Result<(), Fail> {
+    expect_refused(place, alloc, NUMBERED, count, besides)?;
+    expect_refused(place, alloc, OTHERS, 0, besides)
 }
 
-// The first name that refuses a text, of some that are not declared.
-fn wrong_name(
-    place: &PlainNode,
-    alloc: Global,
-    besides: usize,
-) -> Result<Option<&'static str>, AllocError> {
-    for name in ["", "l", "m", "m00a", "m005", "m12z", "n"] {
-        if !accepts_text_at(place, alloc, name, besides)? {
-            return Ok(Some(name));
-        }
-    }
-    Ok(None)
+fn expect_declared(alloc: Global, count: usize, many: bool, besides: usize) -> Result<(), Fail> {
+    let place = declared(alloc, count, many)?;
+    let told = expect_names(&place, alloc, count, besides);
+    drop(place);
+    told
 }
 
 // With few members besides, these are looked up among the declared names, and with many the
 // declared names among them.
-fn expect_declared(
-    rt: &impl Abort,
-    alloc: Global,
-    count: usize,
-    many: bool,
-    besides: usize,
-) -> Result<(), Fail> {
-    let place = declared(alloc, count, many)?;
-    let number = wrong_number(&place, alloc, count, besides)?;
-    let name = wrong_name(&place, alloc, besides)?;
-    assert_eq!(rt; (number, name), (None, None), "{count} {many}");
+fn expect_beside(alloc: Global, count: usize, many: bool) -> Result<(), Fail> {
+    for besides in [0, count, 20] {
+        expect_declared(alloc, count, many, besides)?;
+    }
     Ok(())
 }
 
 #[test]
 fn declared_names(rt: HostRuntime) -> Result<(), Fail> {
+    let alloc = rt.alloc();
     for count in [0, 1, 2, 13, 14, 15, 16] {
-        for besides in [0, count, 20] {
-            expect_declared(&rt, rt.alloc(), count, false, besides)?;
-            expect_declared(&rt, rt.alloc(), count, true, besides)?;
-        }
-    }
-    Ok(())
-}
-
-#[test]
-fn declared_names_beside_no_object(rt: HostRuntime) -> Result<(), Fail> {
-    for many in [false, true] {
-        let place = declared(rt.alloc(), 2, many)?;
-        assert!(rt; accepts(&place, &Value::Null));
-    }
-    Ok(())
-}
-
-// Whether the pattern matches the name under the answer, with how many engines are asked and how many matches are left
-// unfinished.
-fn matched(
-    alloc: Global,
-    pattern: &str,
-    name: &str,
-    answer: bool,
-) -> Result<(bool, u64, u64), Fail> {
-    let Ok(pattern) = compile_pattern(alloc, &Equality, pattern, &mut Meter::new()) else {
-        return Err(Fail::from("not built"));
-    };
-    let mut ctx = ValidationContext::new(answer);
-    let found = matches(&pattern, name, &mut ctx);
-    Ok((found, ctx.meter().asked(), ctx.meter().unfinished()))
-}
-
-#[test]
-fn names_that_patterns_match(rt: HostRuntime) -> Result<(), Fail> {
-    for (pattern, name, answer, found, asked, unfinished) in [
-        ("^a", "ab", false, true, 0u64, 0u64),
-        ("^a", "ba", true, false, 0, 0),
-        ("a", "a", false, true, 1, 0),
-        ("a", "ab", true, false, 1, 0),
-        ("?", "a", false, false, 1, 1),
-        ("?", "a", true, true, 1, 1),
-    ] {
-        let told = matched(rt.alloc(), pattern, name, answer)?;
-        assert_eq!(rt; told, (found, asked, unfinished), "{pattern} {name}");
+        expect_beside(alloc, count, false)?;
+        expect_beside(alloc, count, true)?;
     }
     Ok(())
 }

@@ -9,4 +9,8 @@ mod check;
 #[cfg(test)]
 mod names;
 #[cfg(test)]
+mod objects;
+#[cfg(test)]
 mod pattern_tables;
+#[cfg(test)]
+mod rows;

@@ -1,9 +1,9 @@
 //! Looking up names, in maps of few and of many.
+use crate::objects::{add_names, add_text, sorted_names};
 use olk_tree::properties_map::PropertiesMap;
-use olk_tree::{BigMap, PropertiesValidatorsMap, SmallMap, SortedNames};
+use olk_tree::{BigMap, PropertiesValidatorsMap, SmallMap};
 use serde_json::{Map, Value};
 use std::alloc::{AllocError, Global};
-use std::process::Abort;
 use std::test::Fail;
 
 const DECLARED: &str =
@@ -15,23 +15,25 @@ const OTHERS: &str =
 
 // An object with these names, each with itself.
 fn object_of(alloc: Global, names: &str) -> Result<Map<String, Value>, AllocError> {
-    let mut object = Map::new(alloc);
+    let mut members = Map::new(alloc);
     for name in names.split(" ") {
-        let value = Value::String(String::from_str(alloc, name)?);
-        object.insert(String::from_str(alloc, name)?, value)?;
+        add_text(&mut members, alloc, name, name)?;
     }
-    Ok(object)
+    Ok(members)
+}
+
+fn positions(alloc: Global, count: usize) -> Result<Vec<usize>, AllocError> {
+    let mut positions = Vec::new(alloc);
+    for position in 0..count {
+        positions.push(position)?;
+    }
+    Ok(positions)
 }
 
 // The first so many names, each with its position.
 fn first_names(alloc: Global, count: usize) -> Result<SmallMap<usize>, AllocError> {
-    let mut object = Map::new(alloc);
-    let mut nodes = Vec::new(alloc);
-    for (i, name) in DECLARED.split(" ").take(count).enumerate() {
-        object.insert(String::from_str(alloc, name)?, Value::Null)?;
-        nodes.push(i)?;
-    }
-    let names = SortedNames::of(alloc, &object)?;
+    let names = sorted_names(alloc, DECLARED, count)?;
+    let nodes = positions(alloc, count)?;
     Ok(SmallMap { names, nodes })
 }
 
@@ -40,6 +42,8 @@ fn first_hashed(alloc: Global, count: usize) -> Result<BigMap<usize>, AllocError
     let SmallMap { names, nodes } = first_names(alloc, count)?;
     BigMap::of(alloc, names, nodes)
 }
+
+// ---- looking up
 
 // Whether each look-up finds the name at this position, or none does.
 fn is_at<M: PropertiesValidatorsMap<usize>>(map: &M, name: &str, position: Option<usize>) -> bool {
@@ -58,78 +62,99 @@ fn has_length<M: PropertiesValidatorsMap<usize>>(map: &M, length: usize) -> bool
     names.len() == length && names.as_slice().len() == length && map.nodes().len() == length
 }
 
-// The first name that is not found as it is to be: the first so many stand in the map, and no other.
-fn wrong_look_up<M: PropertiesValidatorsMap<usize>>(map: &M, count: usize) -> Option<&'static str> {
-    for (i, name) in DECLARED.split(" ").enumerate() {
+// The first of these names that is not found as it is to be: the first so many stand in the map, and no other.
+fn wrong_name<M: PropertiesValidatorsMap<usize>>(
+    map: &M,
+    names: &'static str,
+    count: usize,
+) -> Option<&'static str> {
+    for (i, name) in names.split(" ").enumerate() {
         let position = if i < count { Some(i) } else { None };
         if !is_at(map, name, position) {
-            return Some(name);
-        }
-    }
-    for name in OTHERS.split(" ") {
-        if !is_at(map, name, None) {
             return Some(name);
         }
     }
     None
 }
 
-fn expect_found<M: PropertiesValidatorsMap<usize>>(rt: &impl Abort, map: &M, count: usize) {
-    assert!(rt; has_length(map, count));
-    let wrong = wrong_look_up(map, count).unwrap_or("no name");
-    assert_eq!(rt; wrong, "no name", "{count}");
+// What is not found as it is to be in a map of the first so many names.
+fn wrong_look_up<M: PropertiesValidatorsMap<usize>>(map: &M, count: usize) -> Option<&'static str> {
+    if has_length(map, count) {
+        wrong_name(map, DECLARED, count).or(wrong_name(map, OTHERS, 0))
+    } else {
+        Some("another length")
+    }
+}
+
+// Nothing is wrong in a map of so many names.
+fn expect_none(wrong: Option<&str>, count: usize) -> Result<(), Fail> {
+    match wrong {
+        None => Ok(()),
+        Some(wrong) => Err(Fail::new(format_args!("{count}: {wrong}"))),
+    }
+}
+
+fn expect_found<M: PropertiesValidatorsMap<usize> + Drop>(
+    map: Result<M, AllocError>,
+    count: usize,
+) -> Result<(), Fail> {
+    let map = map?;
+    let wrong = wrong_look_up(&map, count);
+    drop(map);
+    expect_none(wrong, count)
 }
 
 #[test]
 fn names_are_found(rt: HostRuntime) -> Result<(), Fail> {
+    let alloc = rt.alloc();
     for count in [0usize, 1, 2, 13, 14, 15, 16, 40] {
-        expect_found(&rt, &first_names(rt.alloc(), count)?, count);
-        expect_found(&rt, &first_hashed(rt.alloc(), count)?, count);
+        expect_found(first_names(alloc, count), count)?;
+        expect_found(first_hashed(alloc, count), count)?;
     }
-    let few = PropertiesMap::Small(first_names(rt.alloc(), 3)?);
-    expect_found(&rt, &few, 3);
-    let many = PropertiesMap::Big(first_hashed(rt.alloc(), 16)?);
-    expect_found(&rt, &many, 16);
     Ok(())
 }
 
-fn is_declared_at(position: usize, name: &str) -> bool {
-    match DECLARED.split(" ").nth(position) {
-        Some(declared) => declared == name,
-        None => false,
-    }
+#[test]
+fn names_are_found_in_either_map(rt: HostRuntime) -> Result<(), Fail> {
+    let alloc = rt.alloc();
+    expect_found(first_names(alloc, 3).map(PropertiesMap::Small), 3)?;
+    expect_found(first_hashed(alloc, 16).map(PropertiesMap::Big), 16)
 }
 
-fn is_the_text(value: &Value, text: &str) -> bool {
-    match value.as_str() {
-        Some(found) => found == text,
-        None => false,
-    }
+// ---- walking
+
+fn is_declared_at(position: usize, name: &str) -> bool {
+    DECLARED.split(" ").nth(position) == Some(name)
 }
 
 // Whether a walk gives this name, with its position and its value.
 fn is_met(member: Option<(&str, &usize, &Value)>, expected: &str) -> bool {
     match member {
         Some((name, position, value)) => {
-            name == expected && is_declared_at(*position, name) && is_the_text(value, name)
+            name == expected && is_declared_at(*position, name) && value.as_str() == Some(name)
         }
         None => false,
     }
 }
 
-// The walk over the members gives the first so many of these names, and ends.
-fn expect_walked<'a, M: PropertiesValidatorsMap<usize>>(
-    rt: &impl Abort,
-    map: &'a M,
-    members: &'a Map<String, Value>,
-    names: &str,
+// What is not walked as it is to be: the walk over the members gives the first so many of these names, and ends.
+fn wrong_walk<M: PropertiesValidatorsMap<usize>>(
+    map: &M,
+    members: &Map<String, Value>,
+    names: &'static str,
     count: usize,
-) {
+) -> Option<&'static str> {
     let mut walk = map.declared_members(members);
     for expected in names.split(" ").take(count) {
-        assert!(rt; is_met(walk.next(), expected), "{expected}");
+        if !is_met(walk.next(), expected) {
+            return Some(expected);
+        }
     }
-    assert!(rt; walk.next().is_none(), "{count} of {names}");
+    if walk.next().is_none() {
+        None
+    } else {
+        Some("no end")
+    }
 }
 
 // So few that they are walked, and those of them that are declared.
@@ -140,34 +165,52 @@ const DECLARED_OF_FEW: &str = "03 27 29 31 79";
 // Every name, so that the declared ones are walked.
 fn all_members(alloc: Global) -> Result<Map<String, Value>, AllocError> {
     let mut members = object_of(alloc, DECLARED)?;
-    for name in OTHERS.split(" ") {
-        members.insert(String::from_str(alloc, name)?, Value::Null)?;
-    }
+    add_names(&mut members, alloc, OTHERS, 42)?;
     Ok(members)
 }
 
-// Of so many declared names so many are among the few.
-fn expect_walks<M: PropertiesValidatorsMap<usize>>(
-    rt: &impl Abort,
+// Over the few members, so many of those that are declared are given, and over all, so many declared ones.
+fn wrong_walks<M: PropertiesValidatorsMap<usize>>(
     alloc: Global,
     map: &M,
+    met: usize,
+    declared: usize,
+) -> Result<Option<&'static str>, AllocError> {
+    let few = object_of(alloc, FEW)?;
+    let wrong = wrong_walk(map, &few, DECLARED_OF_FEW, met);
+    drop(few);
+    if wrong.is_some() {
+        return Ok(wrong);
+    }
+    let all = all_members(alloc)?;
+    let wrong = wrong_walk(map, &all, DECLARED, declared);
+    drop(all);
+    Ok(wrong)
+}
+
+fn expect_walks<M: PropertiesValidatorsMap<usize> + Drop>(
+    alloc: Global,
+    map: Result<M, AllocError>,
     declared: usize,
     met: usize,
-) -> Result<(), AllocError> {
-    expect_walked(rt, map, &object_of(alloc, FEW)?, DECLARED_OF_FEW, met);
-    expect_walked(rt, map, &all_members(alloc)?, DECLARED, declared);
-    Ok(())
+) -> Result<(), Fail> {
+    let map = map?;
+    let wrong = wrong_walks(alloc, &map, met, declared);
+    drop(map);
+    expect_none(wrong?, declared)
 }
 
 #[test]
 fn declared_members_are_walked(rt: HostRuntime) -> Result<(), Fail> {
     let alloc = rt.alloc();
     for (declared, met) in [(14usize, 2usize), (15, 3), (16, 4), (40, 5)] {
-        expect_walks(&rt, alloc, &first_names(alloc, declared)?, declared, met)?;
-        expect_walks(&rt, alloc, &first_hashed(alloc, declared)?, declared, met)?;
+        expect_walks(alloc, first_names(alloc, declared), declared, met)?;
+        expect_walks(alloc, first_hashed(alloc, declared), declared, met)?;
     }
     Ok(())
 }
+
+// ---- a growth that is refused
 
 // A map of many names, made again where memory was wanting.
 fn hashed_at_last(alloc: Global) -> Result<BigMap<usize>, AllocError> {
@@ -178,6 +221,5 @@ fn hashed_at_last(alloc: Global) -> Result<BigMap<usize>, AllocError> {
 // With each growth refused in turn (tools/refused_growths), a map that is made again has every name.
 #[test]
 fn a_map_of_many_names_after_a_refused_growth(rt: HostRuntime) -> Result<(), Fail> {
-    expect_found(&rt, &hashed_at_last(rt.alloc())?, 40);
-    Ok(())
+    expect_found(hashed_at_last(rt.alloc()), 40)
 }

@@ -1,11 +1,13 @@
 //! The table of patterns, made with the bench's matcher.
 use olk_base::{CompiledPattern, MakeError, Meter, compile_pattern};
 use olk_bench::{BenchRegex, BenchRegexes};
-use olk_tree::pattern_table::{PatternTable, precompute_property_pattern_indices};
-use serde_json::Value;
-use std::alloc::Global;
-use std::process::Abort;
+use olk_tree::pattern_table::{PatternIndex, PatternTable, precompute_property_pattern_indices};
+use serde_json::{Map, Value};
+use std::alloc::{AllocError, Global};
+use std::fmt::Debug;
 use std::test::Fail;
+
+type Pattern = CompiledPattern<BenchRegex>;
 
 fn plain_error(error: MakeError) -> Fail {
     match error {
@@ -14,20 +16,50 @@ fn plain_error(error: MakeError) -> Fail {
     }
 }
 
-// 65 patterns: two are left unfinished at each name with `a`, one is the test `^c`, the others match each name with `b`.
-fn patterns(alloc: Global) -> Result<Vec<CompiledPattern<BenchRegex>>, Fail> {
+// One of 65: two are left unfinished at each name with `a`, one is the test `^c`, the others match each name with `b`.
+fn pattern(alloc: Global, index: usize, meter: &mut Meter) -> Result<Pattern, Fail> {
+    let text = match index {
+        1 | 64 => "(slow)a",
+        3 => "^c",
+        _ => "b",
+    };
+    compile_pattern(alloc, &BenchRegexes, text, meter).map_err(plain_error)
+}
+
+fn patterns(alloc: Global) -> Result<Vec<Pattern>, Fail> {
     let mut meter = Meter::new();
     let mut patterns = Vec::with_capacity(alloc, 65)?;
     for index in 0..65 {
-        let text = match index {
-            1 | 64 => "(slow)a",
-            3 => "^c",
-            _ => "b",
-        };
-        let pattern = compile_pattern(alloc, &BenchRegexes, text, &mut meter).map_err(plain_error)?;
-        patterns.push(pattern)?;
+        patterns.push(pattern(alloc, index, &mut meter)?)?;
     }
     Ok(patterns)
+}
+
+// The table of these names.
+fn table_over(
+    alloc: Global,
+    names: &Map<String, Value>,
+    meter: &mut Meter,
+) -> Result<PatternTable, Fail> {
+    let patterns = patterns(alloc)?;
+    let table = precompute_property_pattern_indices(alloc, names, &patterns, meter);
+    drop(patterns);
+    Ok(table?)
+}
+
+fn table_in(alloc: Global, declared: &Value, meter: &mut Meter) -> Result<PatternTable, Fail> {
+    match declared.as_object() {
+        Some(names) => table_over(alloc, names, meter),
+        None => Err(Fail::new("no object")),
+    }
+}
+
+// The table of these declared names.
+fn table_of(alloc: Global, declared: &str, meter: &mut Meter) -> Result<PatternTable, Fail> {
+    let declared = Value::from_str(alloc, declared)?;
+    let table = table_in(alloc, &declared, meter);
+    drop(declared);
+    table
 }
 
 // The table of the names `ab`, `b` and `cd`, which stand in that order.
@@ -35,64 +67,94 @@ fn table(alloc: Global, meter: &mut Meter) -> Result<PatternTable, Fail> {
     table_of(alloc, r#"{"cd":true,"b":true,"ab":true}"#, meter)
 }
 
-// The table of these declared names.
-fn table_of(alloc: Global, declared: &str, meter: &mut Meter) -> Result<PatternTable, Fail> {
-    let schema = Value::from_str(alloc, declared)?;
-    let Some(properties) = schema.as_object() else {
-        return Err(Fail::from("no object"));
-    };
-    let patterns = patterns(alloc)?;
-    Ok(precompute_property_pattern_indices(alloc, properties, &patterns, meter)?)
+// No row is answered otherwise than it says.
+fn expect_none<R: Debug + Drop>(wrong: Option<R>) -> Result<(), Fail> {
+    match wrong {
+        None => Ok(()),
+        Some(row) => Err(Fail::from(row)),
+    }
 }
 
 #[test]
 fn each_pattern_is_asked_once_for_each_name(rt: HostRuntime) -> Result<(), Fail> {
     let mut meter = Meter::new();
-    let _table = table(rt.alloc(), &mut meter)?;
-    assert_eq!(rt; (meter.asked(), meter.unfinished()), (3 * 64, 0));
-    assert_eq!(rt; (meter.compiled(), meter.leaves(), meter.made()), (0, 0, 0));
-    Ok(())
+    drop(table(rt.alloc(), &mut meter)?);
+    let others = (meter.compiled(), meter.leaves(), meter.made());
+    if (meter.asked(), meter.unfinished()) == (3 * 64, 0) && others == (0, 0, 0) {
+        Ok(())
+    } else {
+        Err(Fail::from((meter.asked(), meter.unfinished(), others)))
+    }
+}
+
+// A place of a name, a pattern, and what is known of them.
+const KNOWN: [(usize, usize, Option<bool>); 10] = [
+    (0, 0, Some(true)),
+    (0, 1, None),
+    (0, 3, Some(false)),
+    (0, 63, Some(true)),
+    (0, 64, None),
+    (1, 0, Some(true)),
+    (1, 64, Some(false)),
+    (2, 3, Some(true)),
+    (2, 64, Some(false)),
+    (3, 0, None),
+];
+
+fn wrong_known(table: &PatternTable) -> Option<(usize, usize, Option<bool>)> {
+    for (place, index, known) in KNOWN {
+        if table.known(place, index) != known {
+            return Some((place, index, known));
+        }
+    }
+    None
 }
 
 #[test]
 fn what_is_known(rt: HostRuntime) -> Result<(), Fail> {
     let table = table(rt.alloc(), &mut Meter::new())?;
-    for (place, index, known) in [
-        (0, 0, Some(true)),
-        (0, 1, None),
-        (0, 3, Some(false)),
-        (0, 63, Some(true)),
-        (0, 64, None),
-        (1, 0, Some(true)),
-        (1, 64, Some(false)),
-        (2, 3, Some(true)),
-        (2, 64, Some(false)),
-        (3, 0, None),
-    ] {
-        assert_eq!(rt; table.known(place, index), known, "{place} {index}");
+    let wrong = wrong_known(&table);
+    drop(table);
+    expect_none(wrong)
+}
+
+// A name, a pattern, whether it matches, and whether it is unfinished.
+const KNOWN_BY_NAME: [(&str, usize, bool, bool); 7] = [
+    ("ab", 2, true, false),
+    ("ab", 64, false, true),
+    ("b", 63, true, false),
+    ("b", 64, false, false),
+    ("cd", 3, true, false),
+    ("bb", 2, false, false),
+    ("a", 64, false, false),
+];
+
+fn wrong_by_name(table: &PatternTable) -> Option<(&'static str, usize)> {
+    for (name, index, matched, unfinished) in KNOWN_BY_NAME {
+        if table.is_matched(name, index) != matched
+            || table.is_unfinished(name, index) != unfinished
+        {
+            return Some((name, index));
+        }
     }
-    Ok(())
+    None
 }
 
 #[test]
 fn what_is_known_by_name(rt: HostRuntime) -> Result<(), Fail> {
     let table = table(rt.alloc(), &mut Meter::new())?;
-    for (name, index, matched, unfinished) in [
-        ("ab", 2, true, false),
-        ("ab", 64, false, true),
-        ("b", 63, true, false),
-        ("b", 64, false, false),
-        ("cd", 3, true, false),
-        ("bb", 2, false, false),
-        ("a", 64, false, false),
-    ] {
-        let found = (
-            table.is_matched(name, index),
-            table.is_unfinished(name, index),
-        );
-        assert_eq!(rt; found, (matched, unfinished), "{name} {index}");
+    let wrong = wrong_by_name(&table);
+    drop(table);
+    expect_none(wrong)
+}
+
+fn wrong_nothing(table: &PatternTable) -> Option<(usize, bool)> {
+    for (place, nothing) in [(0usize, false), (1, false), (2, true), (3, false)] {
+        if table.matches_nothing(place) != nothing {
+            return Some((place, nothing));
+        }
     }
-    Ok(())
+    None
 }
 
 // At `a` two patterns are left unfinished, at `b` most match, and no pattern matches `dd`.
@@ -100,61 +162,66 @@ fn what_is_known_by_name(rt: HostRuntime) -> Result<(), Fail> {
 fn a_name_that_nothing_matches(rt: HostRuntime) -> Result<(), Fail> {
     let declared = r#"{"a":true,"b":true,"dd":true}"#;
     let table = table_of(rt.alloc(), declared, &mut Meter::new())?;
-    for (place, nothing) in [(0, false), (1, false), (2, true), (3, false)] {
-        assert_eq!(rt; table.matches_nothing(place), nothing, "{place}");
-    }
-    Ok(())
+    let wrong = wrong_nothing(&table);
+    drop(table);
+    expect_none(wrong)
 }
 
-fn expect_indices(
-    rt: &impl Abort,
-    alloc: Global,
-    table: &PatternTable,
-    name: &str,
-    matched: usize,
-    unfinished: &[usize],
-) -> Result<(), Fail> {
-    let mut found = Vec::new(alloc);
-    let mut left = Vec::new(alloc);
-    for entry in &table.indices(alloc, name)? {
-        if entry.finished {
-            found.push(entry.index)?;
-        } else {
-            left.push(entry.index)?;
+// Whether the patterns at these places are left unfinished, and so many match.
+fn are_these(indices: &[PatternIndex], matched: usize, unfinished: &[usize]) -> bool {
+    let mut left = unfinished.iter();
+    for entry in indices {
+        if !entry.finished && left.next() != Some(&entry.index) {
+            return false;
         }
     }
-    assert!(rt;
-        found.len() == matched && left.as_slice() == unfinished,
-        "{name}"
-    );
-    Ok(())
+    left.next().is_none() && indices.len().checked_sub(unfinished.len()) == Some(matched)
+}
+
+// A name, how many patterns match it, and those that are left unfinished.
+const INDICES: [(&str, usize, &[usize]); 4] = [
+    ("ab", 62, &[1, 64]),
+    ("b", 62, &[]),
+    ("cd", 1, &[]),
+    ("bb", 0, &[]),
+];
+
+fn wrong_indices(alloc: Global, table: &PatternTable) -> Result<Option<&'static str>, AllocError> {
+    for (name, matched, unfinished) in INDICES {
+        let indices = table.indices(alloc, name)?;
+        if !are_these(&indices, matched, unfinished) {
+            return Ok(Some(name));
+        }
+    }
+    Ok(None)
 }
 
 #[test]
 fn indices_of_a_name(rt: HostRuntime) -> Result<(), Fail> {
     let table = table(rt.alloc(), &mut Meter::new())?;
-    let rows: [(&str, usize, &[usize]); 4] = [
-        ("ab", 62, &[1, 64]),
-        ("b", 62, &[]),
-        ("cd", 1, &[]),
-        ("bb", 0, &[]),
-    ];
-    for (name, matched, unfinished) in rows {
-        expect_indices(&rt, rt.alloc(), &table, name, matched, unfinished)?;
-    }
-    Ok(())
+    let wrong = wrong_indices(rt.alloc(), &table);
+    drop(table);
+    expect_none(wrong?)
+}
+
+fn knows_nothing(alloc: Global, table: &PatternTable) -> Result<bool, AllocError> {
+    let found = (
+        table.known(0, 0),
+        table.is_matched("b", 0),
+        table.is_unfinished("b", 0),
+    );
+    let indices = table.indices(alloc, "b")?;
+    Ok(found == (None, false, false) && indices.is_empty())
 }
 
 #[test]
 fn nothing_is_known_without_names(rt: HostRuntime) -> Result<(), Fail> {
     let table = PatternTable::none(rt.alloc());
-    let is_known = table.known(0, 0).is_some();
-    let found = (
-        is_known,
-        table.is_matched("b", 0),
-        table.is_unfinished("b", 0),
-    );
-    assert_eq!(rt; found, (false, false, false));
-    assert!(rt; table.indices(rt.alloc(), "b")?.is_empty());
-    Ok(())
+    let is_so = knows_nothing(rt.alloc(), &table);
+    drop(table);
+    if is_so? {
+        Ok(())
+    } else {
+        Err(Fail::new("something is known"))
+    }
 }
