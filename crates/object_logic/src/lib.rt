@@ -31,10 +31,10 @@ pub use olk_node::{
     SingleValueAllOfValidator, SingleValuePatternPropertiesValidator, SmallPropertiesValidator,
     SmallPropertiesWithRequired2Validator, SmallValidatorsMap,
 };
+pub use olk_paths::{InstancePath, Location, Mark};
 pub use olk_reports::{
     AnnotationEntry, BuildError, ErrorDescription, ErrorEntry, Evaluation, EvaluationFlag,
-    EvaluationNode, EvaluationResult, InstancePath, Location, Mark, ValidateError, ValidationError,
-    ValidationErrorKind,
+    EvaluationNode, EvaluationResult, ValidateError, ValidationError, ValidationErrorKind,
 };
 pub use olk_spec::HASHMAP_THRESHOLD;
 pub use olk_tree::property_names::PropertyNamesFalse as PropertyNamesBooleanValidator;

@@ -18,7 +18,8 @@ use olk_base::{Leaf, MakeLeaf, MakeRegex, Meter, Node, RegexEngine, ValidationCo
 use olk_build::{Context, compile};
 use olk_evaluate::child;
 use olk_node::{SchemaNode, collect_errors_for, is_valid_for, validate_for};
-use olk_reports::{BuildError, Evaluation, InstancePath, ValidateError, ValidationError};
+use olk_paths::InstancePath;
+use olk_reports::{BuildError, Evaluation, ValidateError, ValidationError};
 use serde_json::Value;
 use std::alloc::{AllocError, Global};
 

@@ -2,8 +2,8 @@
 ghost use Rattle.std.specs.Prelude.{◌≡◌, []};
 
 use olk_base::Meter;
+use olk_paths::Location;
 use olk_read::Makers;
-use olk_reports::Location;
 use std::alloc::Global;
 
 /// What a build hands down: the makers, the meter and the current place.

@@ -12,7 +12,7 @@ ghost use Rattle.olk_tree.specs.Additional.{known_or, member_report, unexpected}
 ghost use Rattle.olk_tree.specs.Answers.{sides_of, has_neighbours, required_text, required_place};
 ghost use Rattle.olk_tree.specs.Tables.{known_says};
 ghost use Rattle.olk_tree.specs.Visited.{object_of};
-ghost use Rattle.olk_reports.specs.Paths.{one_below};
+ghost use Rattle.olk_paths.specs.Paths.{one_below};
 ghost use Rattle.olk_check.specs.Asks.{OnlyAsks};
 ghost use Rattle.olk_errors.specs.Found.{Appends, IfInvalid, Passes, IsErrorOf};
 ghost use Rattle.olk_errors.specs.Outcomes.{of_branches, of_names, declared_nodes, asked_at, unexpected_at, if_matched, of_asked_member, of_asked_members};
@@ -24,7 +24,8 @@ use crate::required::{collect_if_missing, refuse_if_missing};
 use olk_base::{CompiledPattern, Node, RegexEngine, ValidationContext};
 use olk_check::matches_unless_known;
 use olk_members::law_of_names;
-use olk_reports::{InstancePath, ValidateError, ValidationError, ValidationErrorKind};
+use olk_paths::InstancePath;
+use olk_reports::{ValidateError, ValidationError, ValidationErrorKind};
 use olk_tree::additional_properties::{AdditionalProperties, RequiredName};
 use serde_json::{Map, Value};
 use std::alloc::{AllocError, Global};

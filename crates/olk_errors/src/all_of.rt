@@ -2,7 +2,8 @@
 use crate::Errors;
 use crate::walk::{collect_all, validate_all};
 use olk_base::{Node, ValidationContext};
-use olk_reports::{InstancePath, ValidateError, ValidationError};
+use olk_paths::InstancePath;
+use olk_reports::{ValidateError, ValidationError};
 use olk_tree::all_of::{AllOf, SingleValueAllOf};
 use std::alloc::{AllocError, Global};
 

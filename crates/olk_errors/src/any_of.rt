@@ -4,7 +4,8 @@ use crate::append::{append_error, refuse};
 use crate::walk::{contexts, one_context};
 use olk_base::{Node, ValidationContext};
 use olk_check::IsValid;
-use olk_reports::{InstancePath, ValidateError, ValidationError, ValidationErrorKind};
+use olk_paths::InstancePath;
+use olk_reports::{ValidateError, ValidationError, ValidationErrorKind};
 use olk_tree::any_of::{AnyOf, SingleAnyOf};
 use std::alloc::{AllocError, Global};
 

@@ -6,7 +6,8 @@ ghost use Rattle.olk_reports.specs.Errors.{kind_of};
 ghost use Rattle.olk_errors.specs.Found.{Appends, IfInvalid};
 
 use olk_base::Node;
-use olk_reports::{InstancePath, ValidateError, ValidationError, ValidationErrorKind};
+use olk_paths::InstancePath;
+use olk_reports::{ValidateError, ValidationError, ValidationErrorKind};
 use std::alloc::{AllocError, Global};
 
 // Appends one error; without memory the list is as before.

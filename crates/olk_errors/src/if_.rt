@@ -2,7 +2,8 @@
 use crate::Errors;
 use olk_base::{Node, ValidationContext};
 use olk_check::IsValid;
-use olk_reports::{InstancePath, ValidateError, ValidationError};
+use olk_paths::InstancePath;
+use olk_reports::{ValidateError, ValidationError};
 use olk_tree::if_::{IfElse, IfThen, IfThenElse};
 use std::alloc::{AllocError, Global};
 

@@ -5,7 +5,8 @@
 
 use olk_base::{Node, ValidationContext};
 use olk_check::IsValid;
-use olk_reports::{InstancePath, ValidateError, ValidationError};
+use olk_paths::InstancePath;
+use olk_reports::{ValidateError, ValidationError};
 use olk_tree::Reports;
 use std::alloc::{AllocError, Global};
 

@@ -11,7 +11,8 @@ use crate::Errors;
 use crate::append::{append_error, refuse, roll_back_on_err};
 use crate::walk::{collect_all, validate_all};
 use olk_base::{Leaf, Node, RegexEngine, ValidationContext};
-use olk_reports::{InstancePath, Location, ValidateError, ValidationError, ValidationErrorKind};
+use olk_paths::{InstancePath, Location};
+use olk_reports::{ValidateError, ValidationError, ValidationErrorKind};
 use olk_tree::node::{Body, KeywordOver};
 use std::alloc::{AllocError, Global};
 

@@ -3,7 +3,8 @@ use crate::Errors;
 use crate::append::{append_error, refuse};
 use olk_base::{Node, ValidationContext};
 use olk_check::IsValid;
-use olk_reports::{InstancePath, ValidateError, ValidationError, ValidationErrorKind};
+use olk_paths::InstancePath;
+use olk_reports::{ValidateError, ValidationError, ValidationErrorKind};
 use olk_tree::not::Not;
 use std::alloc::{AllocError, Global};
 

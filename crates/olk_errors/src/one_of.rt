@@ -10,7 +10,8 @@ use crate::append::{append_error, refuse};
 use crate::walk::{contexts, one_context};
 use olk_base::{Node, ValidationContext};
 use olk_check::{Accepting, IsValid, how_many_accept};
-use olk_reports::{InstancePath, ValidateError, ValidationError, ValidationErrorKind};
+use olk_paths::InstancePath;
+use olk_reports::{ValidateError, ValidationError, ValidationErrorKind};
 use olk_tree::one_of::{OneOf, SingleOneOf};
 use std::alloc::{AllocError, Global};
 

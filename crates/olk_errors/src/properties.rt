@@ -1,7 +1,7 @@
 //! `properties`.
 ghost use Rattle.std.specs.Prelude.{◌≡◌, OnOk, OnErr, IfErr};
 ghost use Rattle.serde_json.specs.View.{view};
-ghost use Rattle.olk_reports.specs.Paths.{one_below};
+ghost use Rattle.olk_paths.specs.Paths.{one_below};
 ghost use Rattle.olk_tree.specs.Answers.{beside};
 ghost use Rattle.olk_tree.specs.Visited.{object_of};
 ghost use Rattle.olk_check.specs.Asks.{OnlyAsks};
@@ -13,7 +13,8 @@ use crate::append::roll_back_on_err;
 use crate::required::{collect_missing_of_two, refuse_missing_of_two};
 use olk_base::{Node, ValidationContext};
 use olk_check::IsValid;
-use olk_reports::{InstancePath, ValidateError, ValidationError};
+use olk_paths::InstancePath;
+use olk_reports::{ValidateError, ValidationError};
 use olk_tree::properties::{Properties, SmallPropertiesWithRequired2};
 use olk_tree::validators_map::PropertiesValidatorsMap;
 use serde_json::{Map, Value};

@@ -9,7 +9,8 @@ ghost use Rattle.olk_errors.specs.Outcomes.{of_branches};
 use crate::Errors;
 use crate::append::roll_back_on_err;
 use olk_base::{Node, ValidationContext};
-use olk_reports::{InstancePath, ValidateError, ValidationError};
+use olk_paths::InstancePath;
+use olk_reports::{ValidateError, ValidationError};
 use std::alloc::{AllocError, Global};
 
 // The first error that one of them tells.

@@ -2,7 +2,8 @@
 use crate::walk::{child, each_child};
 use crate::{Evaluate, Located};
 use olk_base::{Node, ValidationContext};
-use olk_reports::{EvaluationResult, InstancePath};
+use olk_paths::InstancePath;
+use olk_reports::EvaluationResult;
 use olk_tree::all_of::{AllOf, SingleValueAllOf};
 use std::alloc::{AllocError, Global};
 

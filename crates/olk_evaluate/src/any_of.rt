@@ -9,7 +9,8 @@ use crate::walk::{add_child, child, each_child};
 use crate::{Evaluate, Located};
 use olk_base::{Node, ValidationContext};
 use olk_check::IsValid;
-use olk_reports::{EvaluationNode, EvaluationResult, InstancePath};
+use olk_paths::InstancePath;
+use olk_reports::{EvaluationNode, EvaluationResult};
 use olk_tree::any_of::{AnyOf, SingleAnyOf};
 use std::alloc::{AllocError, Global};
 

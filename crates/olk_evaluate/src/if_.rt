@@ -9,7 +9,8 @@ use crate::walk::{add_child, child};
 use crate::{Evaluate, Located};
 use olk_base::{Node, ValidationContext};
 use olk_check::IsValid;
-use olk_reports::{EvaluationNode, EvaluationResult, InstancePath};
+use olk_paths::InstancePath;
+use olk_reports::{EvaluationNode, EvaluationResult};
 use olk_tree::if_::{IfElse, IfThen, IfThenElse};
 use std::alloc::{AllocError, Global};
 

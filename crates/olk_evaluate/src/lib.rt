@@ -7,7 +7,8 @@ ghost use Rattle.serde_json.specs.Data.{Data};
 
 use olk_base::{Node, ValidationContext};
 use olk_check::IsValid;
-use olk_reports::{EvaluationResult, InstancePath};
+use olk_paths::InstancePath;
+use olk_reports::EvaluationResult;
 use std::alloc::{AllocError, Global};
 
 /// What stands at a place of a schema.

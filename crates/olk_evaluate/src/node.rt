@@ -12,7 +12,8 @@ use crate::required::missing_errors;
 use crate::walk::each_child;
 use crate::{Evaluate, Located};
 use olk_base::{Leaf, Node, RegexEngine, ValidationContext};
-use olk_reports::{ErrorDescription, EvaluationResult, InstancePath, ValidationErrorKind};
+use olk_paths::InstancePath;
+use olk_reports::{ErrorDescription, EvaluationResult, ValidationErrorKind};
 use olk_tree::node::{Body, KeywordOver};
 use std::alloc::{AllocError, Global};
 

@@ -3,7 +3,8 @@ use crate::own::one_error;
 use crate::{Evaluate, Located};
 use olk_base::{Node, ValidationContext};
 use olk_check::IsValid;
-use olk_reports::{EvaluationResult, InstancePath, ValidationErrorKind};
+use olk_paths::InstancePath;
+use olk_reports::{EvaluationResult, ValidationErrorKind};
 use olk_tree::not::Not;
 use std::alloc::{AllocError, Global};
 

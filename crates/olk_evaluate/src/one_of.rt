@@ -8,7 +8,8 @@ use crate::any_of::accepting_children;
 use crate::walk::{child, each_child};
 use crate::{Evaluate, Located};
 use olk_base::{Node, ValidationContext};
-use olk_reports::{ErrorDescription, EvaluationNode, EvaluationResult, InstancePath};
+use olk_paths::InstancePath;
+use olk_reports::{ErrorDescription, EvaluationNode, EvaluationResult};
 use olk_tree::one_of::{OneOf, SingleOneOf};
 use std::alloc::{AllocError, Global};
 

@@ -7,7 +7,8 @@ ghost use Rattle.olk_evaluate.specs.Wanted.{IsShown, AreShown, ShowsMore, wanted
 
 use crate::Evaluate;
 use olk_base::{Node, ValidationContext};
-use olk_reports::{EvaluationNode, InstancePath};
+use olk_paths::InstancePath;
+use olk_reports::EvaluationNode;
 use std::alloc::{AllocError, Global};
 
 /// What one node shows, at its place and at the path.

@@ -2,7 +2,7 @@
 ghost use Rattle.std.specs.Prelude.{◌≡◌, map, codes};
 ghost use Rattle.serde_json.specs.View.{view};
 ghost use Rattle.olk_spec.specs.Schemas.{members};
-ghost use Rattle.olk_reports.specs.Paths.{one_below};
+ghost use Rattle.olk_paths.specs.Paths.{one_below};
 ghost use Rattle.olk_base.specs.Kit.{kit};
 ghost use Rattle.olk_make.specs.Forms.{IsDependencies};
 ghost use Rattle.olk_keywords.specs.Parts.{GivesMember, Gives};

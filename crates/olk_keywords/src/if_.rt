@@ -5,7 +5,7 @@ ghost use Rattle.serde_json.specs.View.{members_view, view};
 ghost use Rattle.olk_spec.specs.Names.{lookup};
 ghost use Rattle.olk_spec.specs.Schemas.{listed};
 ghost use Rattle.olk_spec.specs.Malformed.{has_repeat};
-ghost use Rattle.olk_reports.specs.Paths.{one_below};
+ghost use Rattle.olk_paths.specs.Paths.{one_below};
 ghost use Rattle.olk_base.specs.Kit.{kit};
 ghost use Rattle.olk_members.specs.Conditions.{is_condition};
 ghost use Rattle.olk_make.specs.Forms.{IsIf};

@@ -3,7 +3,7 @@ ghost use Rattle.std.specs.Prelude.{◌≡◌, is_none, length, codes, IfOk, IfE
 ghost use Rattle.std.specs.Option.{IfSome, IfNone};
 ghost use Rattle.serde_json.specs.View.{view, members_view};
 ghost use Rattle.olk_spec.specs.Schemas.{listed, members};
-ghost use Rattle.olk_reports.specs.Paths.{one_below};
+ghost use Rattle.olk_paths.specs.Paths.{one_below};
 ghost use Rattle.olk_base.specs.Kit.{kit};
 ghost use Rattle.olk_members.specs.Conditions.{is_restricted};
 ghost use Rattle.olk_make.specs.Forms.{IsPatternProperties};

@@ -3,7 +3,7 @@ ghost use Rattle.std.specs.Prelude.{◌≡◌, ◌||◌, true, false, not, is_no
 ghost use Rattle.std.specs.Option.{IfSome, IfNone};
 ghost use Rattle.serde_json.specs.View.{view};
 ghost use Rattle.olk_spec.specs.Schemas.{is_object, is_truth};
-ghost use Rattle.olk_reports.specs.Paths.{one_below};
+ghost use Rattle.olk_paths.specs.Paths.{one_below};
 ghost use Rattle.olk_base.specs.Kit.{kit};
 ghost use Rattle.olk_make.specs.Forms.{IsPropertyNames, IsPropertyNamesFalse};
 ghost use Rattle.olk_keywords.specs.Parts.{Builds, Gives};

@@ -5,8 +5,9 @@ use olk_answers::{
     verdict_text,
 };
 use olk_base::{JsonType, Node};
+use olk_paths::Location;
 use olk_reports::{
-    Evaluation, EvaluationNode, EvaluationResult, Location, ValidateError, ValidationError,
+    Evaluation, EvaluationNode, EvaluationResult, ValidateError, ValidationError,
     ValidationErrorKind,
 };
 use serde_json::{Map, Value};

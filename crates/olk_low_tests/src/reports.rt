@@ -1,9 +1,10 @@
 //! Paths, texts of errors, contexts and evaluation trees.
 use crate::tables::{Asked, expect_rows, expect_text, two};
 use olk_base::{JsonType, Node};
+use olk_paths::{InstancePath, Location};
 use olk_reports::{
-    ErrorDescription, ErrorEntry, Evaluation, EvaluationNode, EvaluationResult, InstancePath,
-    Location, ValidationError, ValidationErrorKind,
+    ErrorDescription, ErrorEntry, Evaluation, EvaluationNode, EvaluationResult, ValidationError,
+    ValidationErrorKind,
 };
 use serde_json::{Map, Value};
 use std::alloc::{AllocError, Global};

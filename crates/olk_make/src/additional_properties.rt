@@ -11,7 +11,7 @@ use crate::properties::map_of;
 use olk_base::{Leaf, RegexEngine};
 use olk_members::Plan;
 use olk_node::{Keyword, SchemaNode};
-use olk_reports::Location;
+use olk_paths::Location;
 use olk_tree::additional_properties::{AdditionalProperties, RequiredName};
 use olk_tree::map::SmallMap;
 use olk_tree::node::KeywordOver;

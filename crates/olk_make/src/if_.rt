@@ -8,7 +8,7 @@ ghost use Rattle.olk_make.specs.Making.{MakesCondition};
 use crate::part::Cases;
 use olk_base::{Leaf, RegexEngine};
 use olk_node::{Keyword, SchemaNode};
-use olk_reports::Location;
+use olk_paths::Location;
 use olk_tree::if_::{IfElse, IfThen, IfThenElse};
 use olk_tree::node::KeywordOver;
 

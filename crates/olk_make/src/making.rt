@@ -18,8 +18,8 @@ use crate::{
 use olk_base::{Leaf, RegexEngine};
 use olk_members::Plan;
 use olk_node::{Keyword, SchemaNode};
+use olk_paths::Location;
 use olk_read::{Shape, append};
-use olk_reports::Location;
 use olk_tree::map::SmallMap;
 use olk_tree::node::KeywordOver;
 use serde_json::{Map, Value};

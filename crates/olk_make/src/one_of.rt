@@ -7,7 +7,7 @@ ghost use Rattle.olk_read.specs.declared.shape.Shape.TheVariants as shape;
 
 use olk_base::{Leaf, RegexEngine};
 use olk_node::{Keyword, SchemaNode};
-use olk_reports::Location;
+use olk_paths::Location;
 use olk_tree::node::KeywordOver;
 use olk_tree::one_of::{OneOf, SingleOneOf};
 

@@ -2,8 +2,8 @@
 ghost use Rattle.std.specs.Prelude.{◌≡◌, None};
 
 use olk_base::CompiledPattern;
+use olk_paths::Location;
 use olk_read::Shape;
-use olk_reports::Location;
 use olk_tree::map::SmallMap;
 use olk_tree::pattern_table::PatternTable;
 

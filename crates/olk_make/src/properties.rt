@@ -11,7 +11,7 @@ ghost use Rattle.olk_read.specs.declared.shape.Shape.TheVariants as shape;
 use olk_base::{Leaf, RegexEngine};
 use olk_members::Plan;
 use olk_node::{Keyword, SchemaNode};
-use olk_reports::Location;
+use olk_paths::Location;
 use olk_spec::HASHMAP_THRESHOLD;
 use olk_tree::big_map::BigMap;
 use olk_tree::map::{SmallMap, SortedNames};

@@ -8,8 +8,8 @@ ghost use Rattle.olk_read.specs.declared.shape.Shape.TheVariants as shape;
 
 use olk_base::{Leaf, RegexEngine};
 use olk_node::{Keyword, SchemaNode};
+use olk_paths::Location;
 use olk_read::append;
-use olk_reports::Location;
 use olk_tree::map::{SmallMap, SortedNames};
 use olk_tree::node::KeywordOver;
 use olk_tree::property_dependencies::PropertyDependencies;

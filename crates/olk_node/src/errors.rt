@@ -12,7 +12,8 @@ ghost use Rattle.olk_errors.specs.Found.{Appends, IfInvalid, IsRefusal};
 use crate::node::SchemaNode;
 use olk_base::{Leaf, Node, RegexEngine, ValidationContext};
 use olk_errors::{Errors, collect_body, validate_body};
-use olk_reports::{InstancePath, ValidateError, ValidationError};
+use olk_paths::InstancePath;
+use olk_reports::{ValidateError, ValidationError};
 use std::alloc::{AllocError, Global};
 
 impl<'a, K: Leaf, R: RegexEngine> Errors<'a> for SchemaNode<K, R> {

@@ -2,7 +2,8 @@
 use crate::node::SchemaNode;
 use olk_base::{Leaf, Node, RegexEngine, ValidationContext};
 use olk_evaluate::{Evaluate, Located, evaluate_body};
-use olk_reports::{EvaluationResult, InstancePath};
+use olk_paths::InstancePath;
+use olk_reports::EvaluationResult;
 use std::alloc::{AllocError, Global};
 
 impl<K, R> Located for SchemaNode<K, R> {

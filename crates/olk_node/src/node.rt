@@ -1,7 +1,7 @@
 //! Places of a schema.
 ghost use Rattle.std.specs.Prelude.{◌≡◌};
 
-use olk_reports::Location;
+use olk_paths::Location;
 use olk_tree::all_of::{AllOf, SingleValueAllOf};
 use olk_tree::any_of::{AnyOf, SingleAnyOf};
 use olk_tree::big_map::BigMap;

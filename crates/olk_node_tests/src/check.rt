@@ -5,7 +5,7 @@ use olk_base::{CompiledPattern, Meter, Node, ValidationContext, compile_pattern}
 use olk_check::{IsValid, matches};
 use olk_low_tests::doubles::{EqualTo, Equality, NoText};
 use olk_node::{Keyword, SchemaNode, is_valid_for};
-use olk_reports::Location;
+use olk_paths::Location;
 use olk_tree::all_of::{AllOf, SingleValueAllOf};
 use olk_tree::any_of::{AnyOf, SingleAnyOf};
 use olk_tree::big_map::BigMap;

@@ -4,7 +4,7 @@ ghost use Rattle.serde_json.specs.Data.{string};
 ghost use Rattle.serde_json.specs.View.{members_view};
 ghost use Rattle.olk_spec.specs.Faults.{fault, Regex};
 ghost use Rattle.olk_spec.specs.Schemas.{listed};
-ghost use Rattle.olk_reports.specs.Paths.{one_below};
+ghost use Rattle.olk_paths.specs.Paths.{one_below};
 ghost use Rattle.olk_base.specs.Kit.{kit, world};
 ghost use Rattle.olk_members.specs.PatternProperties.{pattern_faults, matcher_made};
 ghost use Rattle.olk_members.specs.Conditions.{known};
@@ -18,7 +18,8 @@ use olk_base::{
     CompiledPattern, MakeError, MakeLeaf, MakeRegex, Meter, Node, RegexEngine, compile_pattern,
 };
 use olk_members::Neighbours;
-use olk_reports::{BuildError, Location, ValidationError, ValidationErrorKind};
+use olk_paths::Location;
+use olk_reports::{BuildError, ValidationError, ValidationErrorKind};
 use olk_tree::pattern_table::{PatternTable, precompute_property_pattern_indices};
 use serde_json::{Map, Value};
 use std::alloc::{AllocError, Global};

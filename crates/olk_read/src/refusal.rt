@@ -6,7 +6,8 @@ ghost use Rattle.olk_reports.specs.Errors.{kind_of, type_name_of};
 ghost use Rattle.olk_read.specs.Refusing.{TellsOneOf};
 
 use olk_base::{JsonType, Node};
-use olk_reports::{BuildError, Location, ValidationError, ValidationErrorKind};
+use olk_paths::Location;
+use olk_reports::{BuildError, ValidationError, ValidationErrorKind};
 use serde_json::Value;
 use std::alloc::Global;
 

@@ -1,4 +1,3 @@
-pub mod Paths
 pub mod Errors
 pub mod Evaluations
 pub mod Entries

@@ -1,4 +1,3 @@
-pub mod Paths
 pub mod Errors
 pub mod Messages
 pub mod Evaluations

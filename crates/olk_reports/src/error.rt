@@ -11,8 +11,8 @@ use crate::message::{
     ending_text, joined_text, name_text, names_text, node_text, quoted_text, required_text,
     starting_text, type_error_text,
 };
-use crate::path::Location;
 use olk_base::{JsonType, Node};
+use olk_paths::Location;
 use serde_json::Value;
 use std::alloc::{AllocError, Global};
 

@@ -11,7 +11,7 @@ use crate::pattern_table::PatternTable;
 use crate::properties_map::PropertiesMap;
 use crate::validators_map::{PropertiesValidatorsMap, placed_from};
 use olk_base::{CompiledPattern, RegexEngine};
-use olk_reports::Location;
+use olk_paths::Location;
 
 /// `additionalProperties` that is `false` or a schema, with `properties` and `patternProperties` beside it: a member is to
 /// be accepted by the subschema that is declared at its name and by that of each pattern that matches it; where there is

@@ -1,6 +1,6 @@
 //! `allOf`.
 use crate::means::{Means, Reports};
-use olk_reports::Location;
+use olk_paths::Location;
 
 /// `allOf` of several branches, or of none: each is to accept (JSON Schema 2020-12 Core, 10.2.1.1).
 #[derive(Drop)]

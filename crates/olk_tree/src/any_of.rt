@@ -1,6 +1,6 @@
 //! `anyOf`.
 use crate::means::{Means, Reports};
-use olk_reports::Location;
+use olk_paths::Location;
 
 /// `anyOf` of several branches, or of none: one is to accept (JSON Schema 2020-12 Core, 10.2.1.2).
 #[derive(Drop)]

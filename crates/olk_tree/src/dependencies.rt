@@ -1,7 +1,7 @@
 //! `dependentRequired`, `dependentSchemas` and `dependencies`.
 use crate::map::SmallMap;
 use crate::means::{Means, Reports};
-use olk_reports::Location;
+use olk_paths::Location;
 
 /// What an object is to be where it has a member at a key: each key's node is then asked of the whole object.
 #[derive(Drop)]

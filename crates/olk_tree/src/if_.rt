@@ -1,6 +1,6 @@
 //! `if`, `then` and `else`.
 use crate::means::{Means, Reports};
-use olk_reports::Location;
+use olk_paths::Location;
 
 /// `if` with `then`: where `schema` accepts, `then_schema` is to accept too (JSON Schema 2020-12 Core, 10.2.2.1 and
 /// 10.2.2.2).

@@ -1,6 +1,6 @@
 //! Validators, and what they hold: what they mean and what they report, over the nodes that they are generic in.
 //!
-//! Stands on `olk_reports` and `olk_members`. Tested by `olk_tests`.
+//! Stands on `olk_paths` and `olk_members`. Tested by `olk_tests`.
 #![tactic(auto)]
 
 pub mod additional_properties;

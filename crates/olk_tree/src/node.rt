@@ -13,7 +13,7 @@ use crate::property_dependencies::PropertyDependencies;
 use crate::property_names::{PropertyNames, PropertyNamesFalse};
 use crate::required::RequiredValidator;
 use olk_base::{Leaf, RegexEngine};
-use olk_reports::Location;
+use olk_paths::Location;
 
 /// A keyword of a schema object, over the nodes that it holds.
 #[derive(Drop)]

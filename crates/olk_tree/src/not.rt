@@ -1,6 +1,6 @@
 //! `not`.
 use crate::means::{Means, Reports};
-use olk_reports::Location;
+use olk_paths::Location;
 use serde_json::Value;
 
 /// `not`: the subschema is to refuse (JSON Schema 2020-12 Core, 10.2.1.4).

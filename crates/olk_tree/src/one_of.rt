@@ -1,6 +1,6 @@
 //! `oneOf`.
 use crate::means::{Means, Reports};
-use olk_reports::Location;
+use olk_paths::Location;
 
 /// `oneOf` of several branches, or of none: exactly one is to accept (JSON Schema 2020-12 Core, 10.2.1.3).
 #[derive(Drop)]

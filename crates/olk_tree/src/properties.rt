@@ -2,7 +2,7 @@
 use crate::map::SmallMap;
 use crate::means::{Means, Reports};
 use crate::properties_map::PropertiesMap;
-use olk_reports::Location;
+use olk_paths::Location;
 
 /// `properties`: a member whose name is declared is to be accepted by that name's subschema
 /// (JSON Schema 2020-12 Core, 10.3.2.1).

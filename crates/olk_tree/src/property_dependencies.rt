@@ -6,7 +6,7 @@ ghost use Rattle.olk_tree.specs.Answers.{chosen_at};
 use crate::map::SmallMap;
 use crate::means::{Means, Reports};
 use crate::validators_map::PropertiesValidatorsMap;
-use olk_reports::Location;
+use olk_paths::Location;
 use serde_json::Value;
 
 /// `propertyDependencies`: where the member at a key is a text that the key's entry holds, the subschema at that text is to

@@ -1,6 +1,6 @@
 //! `propertyNames`.
 use crate::means::{Means, Reports};
-use olk_reports::Location;
+use olk_paths::Location;
 
 /// `propertyNames`: the subschema is to accept each member's name, as the text that it spells (JSON Schema 2020-12 Core,
 /// 10.3.2.4).

@@ -1,6 +1,6 @@
 //! `required`.
 use crate::means::{Means, Reports};
-use olk_reports::Location;
+use olk_paths::Location;
 
 /// `required`: each name is to be a member, where the value is an object (JSON Schema 2020-12 Validation, 6.5.3).
 #[derive(Drop)]

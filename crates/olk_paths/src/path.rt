@@ -1,7 +1,7 @@
 ghost use Rattle.std.specs.Prelude.{◌≡◌, ◌++◌, [], List, ℕ, take, length, string_bytes, IfOk, OnOk, OnErr, is_ok, if◌then◌else◌};
 ghost use Rattle.std.specs.List.{flat_map, list_all};
 ghost use Rattle.olk_spec.specs.Names.{escaped};
-ghost use Rattle.olk_reports.specs.Paths.{HasLastSlash, IsEmptyOrSlash, escaped_char, is_plain_byte, one_below};
+ghost use Rattle.olk_paths.specs.Paths.{HasLastSlash, IsEmptyOrSlash, escaped_char, is_plain_byte, one_below};
 
 use std::alloc::{AllocError, Global};
 use std::marker::Model;

@@ -1,5 +1,5 @@
 use Rattle.std.proofs.Common.{rules}
-use Rattle.olk_reports.proofs.path.InstancePath.pop.Goals as goal
+use Rattle.olk_paths.proofs.path.InstancePath.pop.Goals as goal
 
 pub truncate-requires : goal.truncate-requires
 truncate-requires c = search rules

@@ -9,7 +9,7 @@ use Rattle.std.proofs.lemmas.Str.{encode_ascii, encodes-chars, inside_one}
 use Rattle.std.proofs.lemmas.Bool.Decides.{nat_tests}
 use Rattle.std.proofs.lemmas.Grind.{flat_map-append}
 use Rattle.olk_spec.specs.Names.{◌//◌, escaped}
-use Rattle.olk_reports.specs.Paths.{HasLastSlash, escaped_char, is_plain_byte}
+use Rattle.olk_paths.specs.Paths.{HasLastSlash, escaped_char, is_plain_byte}
 
 escape_high : (xs : List ℕ) → ((k : ℕ) → k < length xs → 128 ≤ get_or xs k 0) → flat_map escaped xs ≡ xs
 escape_high [] h = refl

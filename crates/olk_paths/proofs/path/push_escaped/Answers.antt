@@ -3,9 +3,9 @@ use Rattle.std.proofs.lemmas.List.{append-nil, flat_map_more}
 use Rattle.std.proofs.lemmas.Iterator.{YieldsList-from_chars}
 use Rattle.std.proofs.lemmas.Iterator.Consumers.{YieldsList-end}
 use Rattle.std.specs.List.{flat_map}
-use Rattle.olk_reports.specs.Paths.{escaped_char}
-use Rattle.olk_reports.proofs.Paths.{escaped_chars, pushed_plain, kept_plain, on_err}
-use Rattle.olk_reports.proofs.path.push_escaped.Goals as goal
+use Rattle.olk_paths.specs.Paths.{escaped_char}
+use Rattle.olk_paths.proofs.Paths.{escaped_chars, pushed_plain, kept_plain, on_err}
+use Rattle.olk_paths.proofs.path.push_escaped.Goals as goal
 
 pub returns : goal.returns
 returns c =

@@ -1,5 +1,5 @@
 use Rattle.std.proofs.Common.{rules}
-use Rattle.olk_reports.proofs.path.Location.join.Goals as goal
+use Rattle.olk_paths.proofs.path.Location.new.Goals as goal
 
 pub returns : goal.returns
 returns c = search rules

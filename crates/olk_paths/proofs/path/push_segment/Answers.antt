@@ -2,8 +2,8 @@ use Rattle.std.proofs.Common.{◌++◌, [], ◌∷◌, string_bytes, append_asso
 use Rattle.std.specs.List.{flat_map}
 use Rattle.std.proofs.lemmas.List.{append-nil}
 use Rattle.olk_spec.specs.Names.{escaped}
-use Rattle.olk_reports.proofs.Paths.{on_err}
-use Rattle.olk_reports.proofs.path.push_segment.Goals as goal
+use Rattle.olk_paths.proofs.Paths.{on_err}
+use Rattle.olk_paths.proofs.path.push_segment.Goals as goal
 
 pub returns-clause-ok : goal.returns-clause-ok
 returns-clause-ok c = c.in_ok-push_escaped.ensures.ok ∙ ap (λ l. l ++ flat_map escaped c.args.segment.now) c.in_ok-push_str.ensures.bytes ∙ append_assoc (string_bytes c.args.text.now) (47 ∷ []) (flat_map escaped c.args.segment.now)
