@@ -487,14 +487,9 @@ fn wrong_beside(told: Told, other: Told) -> &'static str {
     }
 }
 
-// The first text that is not empty.
-fn first_of(texts: [&'static str; 4]) -> &'static str {
-    for text in texts {
-        if !text.is_empty() {
-            return text;
-        }
-    }
-    ""
+// The first of two texts that is not empty.
+fn first_of(text: &'static str, other: &'static str) -> &'static str {
+    if text.is_empty() { other } else { text }
 }
 
 // What a verdict under an answer comes to, and what is wrong with that or with another way of asking.
@@ -516,12 +511,9 @@ fn told_by_all<'a>(
         answer,
     )?;
     let shown = told_by(Way::Evaluate, validator, asked, alloc, instance, answer)?;
-    let wrong = first_of([
-        told.wrong,
-        wrong_beside(told, first),
-        wrong_beside(told, all),
-        wrong_beside(told, shown),
-    ]);
+    let wrong_in_first = first_of(told.wrong, wrong_beside(told, first));
+    let wrong_in_others = first_of(wrong_beside(told, all), wrong_beside(told, shown));
+    let wrong = first_of(wrong_in_first, wrong_in_others);
     Ok(Told { wrong, ..told })
 }
 
@@ -534,20 +526,29 @@ fn verdict_text(told: Told, told_where_matched: Told) -> &'static str {
     }
 }
 
-// What a verdict comes to where an unfinished match is none, and where it is one: it asks as often.
-fn told_text(alloc: Global, told: Told, matched: Told) -> Result<String, AllocError> {
-    let (asks, unfinished) = (told.asks, told.unfinished);
-    let other = if (asks, unfinished) == (matched.asks, matched.unfinished) {
-        ""
+// What is wrong with a verdict where an unfinished match is none, or where it is one: it asks as often.
+fn wrong_with(told: Told, matched: Told) -> &'static str {
+    if (told.asks, told.unfinished) == (matched.asks, matched.unfinished) {
+        first_of(told.wrong, matched.wrong)
     } else {
         ", other counts where an unfinished match is one"
-    };
-    format!(in alloc;
-        "{} | {asks} asks, {unfinished} unfinished{other}{}{}",
-        verdict_text(told, matched),
-        told.wrong,
-        matched.wrong
-    )
+    }
+}
+
+fn counts_text(
+    alloc: Global,
+    verdict: &str,
+    asks: u64,
+    unfinished: u64,
+    wrong: &str,
+) -> Result<String, AllocError> {
+    format!(in alloc; "{verdict} | {asks} asks, {unfinished} unfinished{wrong}")
+}
+
+// What a verdict comes to under both answers.
+fn told_text(alloc: Global, told: Told, matched: Told) -> Result<String, AllocError> {
+    let (verdict, wrong) = (verdict_text(told, matched), wrong_with(told, matched));
+    counts_text(alloc, verdict, told.asks, told.unfinished, wrong)
 }
 
 fn told_in_all_ways(
