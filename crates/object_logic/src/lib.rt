@@ -1,6 +1,7 @@
 //! Validation by the object and logic keywords of JSON Schema: what a user of the library calls.
 //!
-//! Stands on `olk_keywords`, and gives out what is below. Tested by `olk_tests`; `olk_example` is a caller.
+//! Stands on `olk_keywords` and `olk_node`, and gives out what is below. Tested by `olk_tests`; `olk_example` is a
+//! caller.
 #![tactic(auto)]
 
 mod numbers;
@@ -39,7 +40,7 @@ pub use olk_reports::{
 pub use olk_spec::HASHMAP_THRESHOLD;
 pub use olk_tree::property_names::PropertyNamesFalse as PropertyNamesBooleanValidator;
 pub use olk_tree::{
-    Means, PropertiesValidatorsMap, Reports, RequiredValidator, SortedNames, pattern_table,
+    Means, Place, PropertiesValidatorsMap, Reports, RequiredValidator, SortedNames, pattern_table,
 };
 pub use validate::Validate;
 pub use validator::Validator;

@@ -22,9 +22,7 @@ use Rattle.olk_reports.specs.declared.error.BuildError.TheVariants.{Memory}
 use Rattle.std.specs.declared.alloc.AllocError.{AllocError}
 use mathlib.Core.Path.{subst₂}
 use Rattle.olk_base.specs.Kit.{Kit}
-use Rattle.olk_tree.specs.Answers.{validator_means, validator_report, body_means, body_report, validator_tree, body_tree}
-use Rattle.olk_node.specs.Nodes.{answers}
-use Rattle.olk_node.specs.Stands.{StandsFor}
+use Rattle.olk_tree.specs.Places.{Answers, AnswersBy, Stands}
 use Rattle.olk_members.specs.Members.{member_malformations, member_cost}
 use Rattle.std.specs.Prelude.{Vec}
 use Rattle.std.specs.declared.alloc.Global.{Global}
@@ -39,8 +37,6 @@ use Rattle.olk_make.specs.Making.{KeywordsMean}
 use Rattle.olk_tree.specs.declared.node.KeywordOver.{KeywordOver}
 use Rattle.olk_tree.specs.declared.node.Body.{Body}
 use Rattle.olk_tree.specs.declared.node.Body.TheVariants.{True, False, Keywords}
-use Rattle.olk_node.specs.declared.node.SchemaNode.{SchemaNode, out-SchemaNode}
-use Rattle.olk_node.proofs.Layers.{node_means, node_finds, node_shows, node_location}
 use Rattle.olk_read.proofs.Spending.{spends_append, spends_same, spends_place, within_after, within_same, within_exactly, tells_same}
 use Rattle.olk_members.proofs.Objects.{IsNoSchema, no_schema_malformed, no_schema_cost, object_accepts, object_asks, object_report, object_tree, object_malformed, object_cost}
 
@@ -79,43 +75,43 @@ refuses_object W ms d P a m b e p c r = subst (λ x. Refuses (malformations_at W
   spends = within_same a b _ (cost W (object ms)) (sym (object_cost W ms)) (within_after a m b one_place _ (spends_place a m c) r.spends);
 }
 
-module _ {K R : Type 0} (o : Kit K R) where
+module _ {K R N : Type 0} (o : Kit K R) (answers : N → Answers) where
   -- ---- a node
 
-  module _ (n : SchemaNode K R) (P : Path) (d : Data) (a m : Counts) (at : (out-SchemaNode K R n).location ≡ P) (c : m ≡ count_compiled a) where
-    pub built_truth : (t : Bool) → (out-SchemaNode K R n).body ≡ truth_body t → d ≡ boolean t → IsBuilt o n d P a m
+  module _ (n : N) (P : Path) (d : Data) (a m : Counts) (c : m ≡ count_compiled a) where
+    pub built_truth : (t : Bool) → AnswersBy o answers P (truth_body t) n → d ≡ boolean t → IsBuilt o answers n d P a m
     unfolding meaning malformations_at cost
-    built_truth true b e = subst (λ x. IsBuilt o n x P a m) (sym e) record {
+    built_truth true is e = subst (λ x. IsBuilt o answers n x P a m) (sym e) record {
       stands = record {
-        verdict = λ u v. ap (λ q. q.accepts u) (node_means o n v ∙ ap (λ y. body_means (validator_means o (λ z. (answers o z).means)) y v) b);
-        asks_within = λ u v. let q = ap (λ q. q.asks u) (node_means o n v ∙ ap (λ y. body_means (validator_means o (λ z. (answers o z).means)) y v) b) in omega (arith, q);
-        faults = λ u v Q. ∼_same (node_finds o n u v Q ∙ ap (λ y. body_report (validator_report o (λ z. (answers o z).means) (λ z. (answers o z).report) u) (out-SchemaNode K R n).location y v Q) b);
-        evaluation = λ u v Q. node_shows o n u v Q ∙ (λ i. body_tree (validator_tree o (λ z. (answers o z).means) (λ z. (answers o z).tree) u) (at i) (b i) v Q);
-        place = node_location o n ∙ at;
+        verdict = λ u v. ap (λ q. q.accepts u) (is.verdict v);
+        asks_within = λ u v. let q = ap (λ q. q.asks u) (is.verdict v) in omega (arith, q);
+        faults = λ u v Q. ∼_same (is.faults u v Q);
+        evaluation = is.evaluation;
+        place = is.place;
       };
       clean = refl;
       spends = spends_place a m c;
     }
-    built_truth false b e = subst (λ x. IsBuilt o n x P a m) (sym e) record {
+    built_truth false is e = subst (λ x. IsBuilt o answers n x P a m) (sym e) record {
       stands = record {
-        verdict = λ u v. ap (λ q. q.accepts u) (node_means o n v ∙ ap (λ y. body_means (validator_means o (λ z. (answers o z).means)) y v) b);
-        asks_within = λ u v. let q = ap (λ q. q.asks u) (node_means o n v ∙ ap (λ y. body_means (validator_means o (λ z. (answers o z).means)) y v) b) in omega (arith, q);
-        faults = λ u v Q. ∼_same (node_finds o n u v Q ∙ (λ i. body_report (validator_report o (λ z. (answers o z).means) (λ z. (answers o z).report) u) (at i) (b i) v Q));
-        evaluation = λ u v Q. node_shows o n u v Q ∙ (λ i. body_tree (validator_tree o (λ z. (answers o z).means) (λ z. (answers o z).tree) u) (at i) (b i) v Q);
-        place = node_location o n ∙ at;
+        verdict = λ u v. ap (λ q. q.accepts u) (is.verdict v);
+        asks_within = λ u v. let q = ap (λ q. q.asks u) (is.verdict v) in omega (arith, q);
+        faults = λ u v Q. ∼_same (is.faults u v Q);
+        evaluation = is.evaluation;
+        place = is.place;
       };
       clean = refl;
       spends = spends_place a m c;
     }
 
-    pub built_object : (ms : Members) (ks : Vec (KeywordOver K R (SchemaNode K R)) Global) (z : Counts) → (out-SchemaNode K R n).body ≡ Keywords ks → d ≡ object ms → KeywordsMean o ms ks.items (listed ms) (listed ms) P → all_malformed o ms P (listed ms) ≡ [] → Spends m z (all_cost o ms (listed ms)) → IsBuilt o n d P a z
-    built_object ms ks z b e h clean spent = subst (λ x. IsBuilt o n x P a z) (sym e) record {
+    pub built_object : (ms : Members) (ks : Vec (KeywordOver K R N) Global) (z : Counts) → AnswersBy o answers P (Keywords ks) n → d ≡ object ms → KeywordsMean o answers ms ks.items (listed ms) (listed ms) P → all_malformed o ms P (listed ms) ≡ [] → Spends m z (all_cost o ms (listed ms)) → IsBuilt o answers n d P a z
+    built_object ms ks z is e h clean spent = subst (λ x. IsBuilt o answers n x P a z) (sym e) record {
       stands = record {
-        verdict = λ u v. ap (λ q. q.accepts u) (node_means o n v ∙ ap (λ y. body_means (validator_means o (λ z. (answers o z).means)) y v) b) ∙ h.covers.verdict u v ∙ sym (object_accepts o.world ms u v);
-        asks_within = λ u v. let q = ap (λ q. q.asks u) (node_means o n v ∙ ap (λ y. body_means (validator_means o (λ z. (answers o z).means)) y v) b) in let r = h.covers.asks_within u v in let t = object_asks o.world ms u v in omega (arith, q, r, t);
-        faults = λ u v Q. like_through (∼_same (node_finds o n u v Q ∙ ap (λ y. body_report (validator_report o (λ z. (answers o z).means) (λ z. (answers o z).report) u) (out-SchemaNode K R n).location y v Q) b)) (like_through (h.covers.faults u v Q) (∼_same (sym (object_report o.world ms u v P Q))));
-        evaluation = λ u v Q. node_shows o n u v Q ∙ (λ i. body_tree (validator_tree o (λ z. (answers o z).means) (λ z. (answers o z).tree) u) (at i) (b i) v Q) ∙ ap (plain P Q) (h.shows clean u v Q) ∙ sym (object_tree o.world ms u v P Q);
-        place = node_location o n ∙ at;
+        verdict = λ u v. ap (λ q. q.accepts u) (is.verdict v) ∙ h.covers.verdict u v ∙ sym (object_accepts o.world ms u v);
+        asks_within = λ u v. let q = ap (λ q. q.asks u) (is.verdict v) in let r = h.covers.asks_within u v in let t = object_asks o.world ms u v in omega (arith, q, r, t);
+        faults = λ u v Q. like_through (∼_same (is.faults u v Q)) (like_through (h.covers.faults u v Q) (∼_same (sym (object_report o.world ms u v P Q))));
+        evaluation = λ u v Q. is.evaluation u v Q ∙ ap (plain P Q) (h.shows clean u v Q) ∙ sym (object_tree o.world ms u v P Q);
+        place = is.place;
       };
       clean = object_malformed o.world ms P ∙ clean;
       spends = spends_same a z _ (cost o.world (object ms)) (sym (object_cost o.world ms)) (spends_append a m z one_place _ (spends_place a m c) spent);
@@ -123,7 +119,7 @@ module _ {K R : Type 0} (o : Kit K R) where
 
   -- ---- nodes for schemas under names
 
-  each_push : (P : Path) (ns : List (SchemaNode K R)) (es : List (Name × Data)) (n : SchemaNode K R) (e : Name × Data) → StandEach o ns es P → StandsFor o n e.1 (P // e.0) → StandEach o (ns ++ n ∷ []) (es ++ e ∷ []) P
+  each_push : (P : Path) (ns : List N) (es : List (Name × Data)) (n : N) (e : Name × Data) → StandEach o answers ns es P → Stands o answers n e.1 (P // e.0) → StandEach o answers (ns ++ n ∷ []) (es ++ e ∷ []) P
   each_push P [] [] n e h s = (s, tt)
   each_push P [] (x ∷ es) n e h s = absurd h
   each_push P (y ∷ ns) [] n e h s = absurd h
@@ -136,31 +132,31 @@ module _ {K R : Type 0} (o : Kit K R) where
   abbrev pub entry_costs : Name × Data → Cost
   entry_costs e = cost o.world e.1
 
-  abbrev pub entries_stand : Path → List (SchemaNode K R) → List (Name × Data) → Type 0
-  entries_stand P ns es = StandEach o ns es P
+  abbrev pub entries_stand : Path → List N → List (Name × Data) → Type 0
+  entries_stand P ns es = StandEach o answers ns es P
 
   -- nodes for the entries so far
-  abbrev pub EntriesSoFar : Path → List (Name × Data) → Counts → List (SchemaNode K R) → List (Name × Data) → Counts → Type 0
+  abbrev pub EntriesSoFar : Path → List (Name × Data) → Counts → List N → List (Name × Data) → Counts → Type 0
   EntriesSoFar P all a ns left m = SoFar (entry_wrong P) entry_costs (entries_stand P) all a ns left m
 
   module _ (P : Path) (all : List (Name × Data)) (a : Counts) where
-    pub no_entries : (ns : List (SchemaNode K R)) (left : List (Name × Data)) → ns ≡ [] → left ≡ all → EntriesSoFar P all a ns left a
-    no_entries ns left e w = none_so_far (entry_wrong P) entry_costs (entries_stand P) all a ns left (subst (λ x. StandEach o x [] P) (sym e) tt) w
+    pub no_entries : (ns : List N) (left : List (Name × Data)) → ns ≡ [] → left ≡ all → EntriesSoFar P all a ns left a
+    no_entries ns left e w = none_so_far (entry_wrong P) entry_costs (entries_stand P) all a ns left (subst (λ x. StandEach o answers x [] P) (sym e) tt) w
 
-    pub entries_built : (ns : List (SchemaNode K R)) (left : List (Name × Data)) (m : Counts) → left ≡ [] → EntriesSoFar P all a ns left m → AreBuilt o ns all P a m
+    pub entries_built : (ns : List N) (left : List (Name × Data)) (m : Counts) → left ≡ [] → EntriesSoFar P all a ns left m → AreBuilt o answers ns all P a m
     entries_built ns left m e h = let r = all_so_far (entry_wrong P) entry_costs (entries_stand P) all a ns left m e h in record { stand = r.stand; clean = r.clean; spends = r.spends }
 
-    pub entries_memory : (ns : List (SchemaNode K R)) (left : List (Name × Data)) (m : Counts) (e : BuildError) (w : AllocError) → e ≡ Memory w → EntriesSoFar P all a ns left m → RefusesEach o all P a m e
+    pub entries_memory : (ns : List N) (left : List (Name × Data)) (m : Counts) (e : BuildError) (w : AllocError) → e ≡ Memory w → EntriesSoFar P all a ns left m → RefusesEach o all P a m e
     entries_memory ns left m e w q h = memory_so_far (entry_wrong P) entry_costs (entries_stand P) all a ns left m e w q h
 
-    module _ (x : Name × Data) (left rest : List (Name × Data)) (next : left ≡ x ∷ rest) (ns : List (SchemaNode K R)) (m b : Counts) (L : Path) (place : L ≡ P // x.0) (h : EntriesSoFar P all a ns left m) where
+    module _ (x : Name × Data) (left rest : List (Name × Data)) (next : left ≡ x ∷ rest) (ns : List N) (m b : Counts) (L : Path) (place : L ≡ P // x.0) (h : EntriesSoFar P all a ns left m) where
       pub entry_refused : (e f : BuildError) → e ≡ f → RefusesSchema o x.1 L m b f → RefusesEach o all P a b e
       entry_refused e f q r = refused_so_far (entry_wrong P) entry_costs (entries_stand P) all a x left rest next ns m b e h (subst₂ (λ M y. RefusesSchema o x.1 M m b y) place (sym q) r)
 
-      module _ (n : SchemaNode K R) (built : IsBuilt o n x.1 L m b) where
-        pub one_more_entry : (new : List (SchemaNode K R)) → new ≡ ns ++ n ∷ [] → EntriesSoFar P all a new rest b
+      module _ (n : N) (built : IsBuilt o answers n x.1 L m b) where
+        pub one_more_entry : (new : List N) → new ≡ ns ++ n ∷ [] → EntriesSoFar P all a new rest b
         one_more_entry new q = one_more_so_far (entry_wrong P) entry_costs (entries_stand P) all a x left rest next ns new m b h
-            (subst (λ y. StandEach o y (h.done ++ x ∷ []) P) (sym q) (each_push P ns h.done n x h.built.stand (subst (StandsFor o n x.1) place built.stands)))
+            (subst (λ y. StandEach o answers y (h.done ++ x ∷ []) P) (sym q) (each_push P ns h.done n x h.built.stand (subst (Stands o answers n x.1) place built.stands)))
             (ap (malformations_at o.world x.1) (sym place) ∙ built.clean) built.spends
 
         pub entry_memory : (e : BuildError) (w : AllocError) → e ≡ Memory w → RefusesEach o all P a b e
@@ -168,7 +164,7 @@ module _ {K R : Type 0} (o : Kit K R) where
 
   -- ---- nodes for the entries of each of these
 
-  inner_push : (P : Path) (ns here : List (SchemaNode K R)) (es : List (Name × Data)) (e : Name × Data) → StandInner o ns es P → StandEach o here (members e.1) (P // e.0) → StandInner o (ns ++ here) (es ++ e ∷ []) P
+  inner_push : (P : Path) (ns here : List N) (es : List (Name × Data)) (e : Name × Data) → StandInner o answers ns es P → StandEach o answers here (members e.1) (P // e.0) → StandInner o answers (ns ++ here) (es ++ e ∷ []) P
   inner_push P ns here [] e h s = (here, [], ap (λ l. l ++ here) h ∙ sym (append-nil here), s, refl)
   inner_push P ns here (x ∷ es) e h s = (h.0, h.1 ++ here, ap (λ l. l ++ here) h.2 ∙ append_assoc h.0 h.1 here, h.3, inner_push P h.1 here es e h.4 s)
 
@@ -178,31 +174,31 @@ module _ {K R : Type 0} (o : Kit K R) where
   abbrev pub inner_costs : Name × Data → Cost
   inner_costs e = each_cost o (members e.1)
 
-  abbrev pub inner_stand : Path → List (SchemaNode K R) → List (Name × Data) → Type 0
-  inner_stand P ns es = StandInner o ns es P
+  abbrev pub inner_stand : Path → List N → List (Name × Data) → Type 0
+  inner_stand P ns es = StandInner o answers ns es P
 
   -- and for the entries of those so far
-  abbrev pub InnerSoFar : Path → List (Name × Data) → Counts → List (SchemaNode K R) → List (Name × Data) → Counts → Type 0
+  abbrev pub InnerSoFar : Path → List (Name × Data) → Counts → List N → List (Name × Data) → Counts → Type 0
   InnerSoFar P all a ns left m = SoFar (inner_wrong P) inner_costs (inner_stand P) all a ns left m
 
   module _ (P : Path) (all : List (Name × Data)) (a : Counts) where
-    pub no_inner : (ns : List (SchemaNode K R)) (left : List (Name × Data)) → ns ≡ [] → left ≡ all → InnerSoFar P all a ns left a
+    pub no_inner : (ns : List N) (left : List (Name × Data)) → ns ≡ [] → left ≡ all → InnerSoFar P all a ns left a
     no_inner ns left e w = none_so_far (inner_wrong P) inner_costs (inner_stand P) all a ns left e w
 
-    pub inner_built : (ns : List (SchemaNode K R)) (left : List (Name × Data)) (m : Counts) → left ≡ [] → InnerSoFar P all a ns left m → InnerAreBuilt o ns all P a m
+    pub inner_built : (ns : List N) (left : List (Name × Data)) (m : Counts) → left ≡ [] → InnerSoFar P all a ns left m → InnerAreBuilt o answers ns all P a m
     inner_built ns left m e h = let r = all_so_far (inner_wrong P) inner_costs (inner_stand P) all a ns left m e h in record { stand = r.stand; clean = r.clean; spends = r.spends }
 
-    pub inner_memory : (ns : List (SchemaNode K R)) (left : List (Name × Data)) (m : Counts) (e : BuildError) (w : AllocError) → e ≡ Memory w → InnerSoFar P all a ns left m → RefusesInner o all P a m e
+    pub inner_memory : (ns : List N) (left : List (Name × Data)) (m : Counts) (e : BuildError) (w : AllocError) → e ≡ Memory w → InnerSoFar P all a ns left m → RefusesInner o all P a m e
     inner_memory ns left m e w q h = memory_so_far (inner_wrong P) inner_costs (inner_stand P) all a ns left m e w q h
 
-    module _ (x : Name × Data) (left rest : List (Name × Data)) (next : left ≡ x ∷ rest) (ns : List (SchemaNode K R)) (m b : Counts) (L : Path) (place : L ≡ P // x.0) (h : InnerSoFar P all a ns left m) where
+    module _ (x : Name × Data) (left rest : List (Name × Data)) (next : left ≡ x ∷ rest) (ns : List N) (m b : Counts) (L : Path) (place : L ≡ P // x.0) (h : InnerSoFar P all a ns left m) where
       pub inner_refused : (e f : BuildError) → e ≡ f → RefusesPlaces o Entries x.1 L m b f → RefusesInner o all P a b e
       inner_refused e f q r = refused_so_far (inner_wrong P) inner_costs (inner_stand P) all a x left rest next ns m b e h (subst₂ (λ M y. RefusesPlaces o Entries x.1 M m b y) place (sym q) r)
 
-      module _ (here : List (SchemaNode K R)) (built : PlacesAreBuilt o Entries here x.1 L m b) where
-        pub one_more_inner : (new : List (SchemaNode K R)) → new ≡ ns ++ here → InnerSoFar P all a new rest b
+      module _ (here : List N) (built : PlacesAreBuilt o answers Entries here x.1 L m b) where
+        pub one_more_inner : (new : List N) → new ≡ ns ++ here → InnerSoFar P all a new rest b
         one_more_inner new q = one_more_so_far (inner_wrong P) inner_costs (inner_stand P) all a x left rest next ns new m b h
-            (subst (λ y. StandInner o y (h.done ++ x ∷ []) P) (sym q) (inner_push P ns here h.done x h.built.stand (subst (StandEach o here (members x.1)) place built.stand)))
+            (subst (λ y. StandInner o answers y (h.done ++ x ∷ []) P) (sym q) (inner_push P ns here h.done x h.built.stand (subst (StandEach o answers here (members x.1)) place built.stand)))
             (ap (λ M. each_malformed o M (members x.1)) (sym place) ∙ built.clean) built.spends
 
         pub more_inner_memory : (e : BuildError) (w : AllocError) → e ≡ Memory w → RefusesInner o all P a b e

@@ -26,7 +26,7 @@ use Rattle.olk_members.specs.Members.{member_malformations, member_cost}
 use Rattle.olk_read.specs.Refusing.{Spends, Refuses}
 use Rattle.olk_build.specs.Building.{RefusesPart, each_malformed, each_cost, inner_malformed, inner_cost, all_cost}
 use Rattle.olk_read.specs.Reading.{reads_of, own_faults, own_cost_of, IsShape, Fits, IsRead}
-use Rattle.olk_members.specs.Conditions.{Known, known_of, is_conditional_name, is_read_beside, IsKnown}
+use Rattle.olk_members.specs.Conditions.{Known, known_of, is_conditional_name, IsKnown}
 use Rattle.olk_members.specs.PatternProperties.{matchers_made, names_asked}
 use Rattle.olk_members.proofs.AdditionalPlaces.{additional_places}
 use Rattle.olk_spec.proofs.Named.{Named, named as is_named}
@@ -35,7 +35,7 @@ use Rattle.olk_members.proofs.PatternProperties.{pattern_properties_places, patt
 use Rattle.olk_members.proofs.Claims.{present_each}
 use Rattle.olk_build.specs.Placing.{places_malformed, places_cost, PlacesAreBuilt, PartsAreBuilt, IsPart}
 use Rattle.olk_make.specs.Standing.{StandAt, PartStands, PartsStand}
-use Rattle.olk_node.specs.declared.node.SchemaNode.{SchemaNode}
+use Rattle.olk_tree.specs.Places.{Answers}
 use Rattle.olk_make.specs.declared.part.Part.{Part}
 use Rattle.olk_read.specs.declared.shape.Shape.{Shape}
 use Rattle.olk_read.specs.declared.shape.Shape.TheVariants as shape
@@ -53,7 +53,7 @@ true_is_no_object : (d : Data) → is_truth true d ≡ true → is_object d ≡ 
 true_is_no_object (boolean b) e = refl
 true_is_no_object d e = absurd (true≢false (sym e))
 
-module _ {K R : Type 0} (o : Kit K R) where
+module _ {K R N : Type 0} (o : Kit K R) (answers : N → Answers) where
   -- ---- the places of a shape, one line for each
 
   module _ (ms : Members) (d : Data) where
@@ -199,14 +199,14 @@ module _ {K R : Type 0} (o : Kit K R) where
       spends = within_after a m b _ _ (own_spent ms known) (within_same m b _ _ (sym (places_summed ms d k x h.shape c h.fits known)) r.spends);
     }
 
-    pub part_is_built : (ns : Vec (SchemaNode K R) Global) (p : Part K R (SchemaNode K R)) (b : Counts) → p.location ≡ L → p.shape ≡ x → p.nodes ≡ ns → PlacesAreBuilt o (reads_of x) ns.items d L m b → IsPart o p c k d L a b
+    pub part_is_built : (ns : Vec N Global) (p : Part K R N) (b : Counts) → p.location ≡ L → p.shape ≡ x → p.nodes ≡ ns → PlacesAreBuilt o answers (reads_of x) ns.items d L m b → IsPart o answers p c k d L a b
     part_is_built ns p b at s n built ms P e known = record {
       stand = (
         record {
           place = at ∙ e;
           shape = subst (IsShape o k d) (sym s) h.shape;
           fits = subst (Fits o (known_of ms)) (sym s) (fits_there ms x k d c h.shape known h.fits);
-          nodes = subst₂ (λ y l. StandAt o (reads_of y) l d (P // k)) (sym s) (ap (λ l. l.items) (sym n)) (subst (StandAt o (reads_of x) ns.items d) e built.stand);
+          nodes = subst₂ (λ y l. StandAt o answers (reads_of y) l d (P // k)) (sym s) (ap (λ l. l.items) (sym n)) (subst (StandAt o answers (reads_of x) ns.items d) e built.stand);
         },
         tt,
       );
@@ -216,7 +216,7 @@ module _ {K R : Type 0} (o : Kit K R) where
 
   -- ---- one more member
 
-  pub parts_push : (c : Known) (P : Path) (ps : List (Part K R (SchemaNode K R))) (es : List (Name × Data)) (p : Part K R (SchemaNode K R)) (e : Name × Data) → PartsStand o c ps es P → PartStands o c p e P → PartsStand o c (ps ++ p ∷ []) (es ++ e ∷ []) P
+  pub parts_push : (c : Known) (P : Path) (ps : List (Part K R N)) (es : List (Name × Data)) (p : Part K R N) (e : Name × Data) → PartsStand o answers c ps es P → PartStands o answers c p e P → PartsStand o answers c (ps ++ p ∷ []) (es ++ e ∷ []) P
   parts_push c P [] [] p e h s = (s, tt)
   parts_push c P [] (x ∷ es) p e h s = absurd h
   parts_push c P (y ∷ ps) [] p e h s = absurd h
@@ -227,12 +227,12 @@ module _ {K R : Type 0} (o : Kit K R) where
     pub known_there : (c : Known) (done rest : List (Name × Data)) (k : Name) (d : Data) → c ≡ known_of ms → done ++ (k, d) ∷ rest ≡ listed ms → IsKnown c ms k
     known_there c done rest k d q w = ((λ e. (ap (λ x. x.condition) q, present_each (listed ms) done (k, d) rest w)), λ e. ap (λ x. x.declared) q)
 
-    pub no_parts : (a : Counts) (ps : List (Part K R (SchemaNode K R))) → ps ≡ [] → PartsAreBuilt o ms ps [] P a a
-    no_parts a ps e = record { stand = subst (λ x. PartsStand o (known_of ms) x [] P) (sym e) tt; clean = refl; spends = spends_nothing a }
+    pub no_parts : (a : Counts) (ps : List (Part K R N)) → ps ≡ [] → PartsAreBuilt o answers ms ps [] P a a
+    no_parts a ps e = record { stand = subst (λ x. PartsStand o answers (known_of ms) x [] P) (sym e) tt; clean = refl; spends = spends_nothing a }
 
-    pub one_more_part : (ps new : List (Part K R (SchemaNode K R))) (es : List (Name × Data)) (p : Part K R (SchemaNode K R)) (c : Known) (k : Name) (d : Data) (a m b : Counts) (L : Path) → new ≡ ps ++ p ∷ [] → L ≡ P // k → PartsAreBuilt o ms ps es P a m → IsPart o p c k d L m b → IsKnown c ms k → PartsAreBuilt o ms new (es ++ (k, d) ∷ []) P a b
+    pub one_more_part : (ps new : List (Part K R N)) (es : List (Name × Data)) (p : Part K R N) (c : Known) (k : Name) (d : Data) (a m b : Counts) (L : Path) → new ≡ ps ++ p ∷ [] → L ≡ P // k → PartsAreBuilt o answers ms ps es P a m → IsPart o answers p c k d L m b → IsKnown c ms k → PartsAreBuilt o answers ms new (es ++ (k, d) ∷ []) P a b
     one_more_part ps new es p c k d a m b L q place h part known = let one = part ms P place known in record {
-      stand = subst (λ x. PartsStand o (known_of ms) x (es ++ (k, d) ∷ []) P) (sym q) (parts_push (known_of ms) P ps es p (k, d) h.stand one.stand.0);
+      stand = subst (λ x. PartsStand o answers (known_of ms) x (es ++ (k, d) ∷ []) P) (sym q) (parts_push (known_of ms) P ps es p (k, d) h.stand one.stand.0);
       clean = flat_map-append (λ x. member_malformations o.world ms x (keyword_named o.world x.0) P) es ((k, d) ∷ []) ∙ (λ i. h.clean i ++ one.clean i);
       spends = spends_same a b _ (all_cost o ms (es ++ (k, d) ∷ [])) (sym (total_cost-append (λ x. member_cost o.world ms x (keyword_named o.world x.0)) es ((k, d) ∷ []))) (spends_append a m b (all_cost o ms es) (all_cost o ms ((k, d) ∷ [])) h.spends one.spends);
     }

@@ -11,10 +11,9 @@ use Rattle.olk_base.specs.Count.{Counts}
 use Rattle.olk_reports.specs.declared.error.BuildError.{BuildError}
 use Rattle.olk_base.specs.Kit.{Kit}
 use Rattle.olk_base.specs.declared.pattern.CompiledPattern.{CompiledPattern}
-use Rattle.olk_node.specs.Stands.{StandsFor}
+use Rattle.olk_tree.specs.Places.{Answers, Stands}
 use Rattle.olk_members.specs.Conditions.{Known, is_restricted, IsKnown}
 use Rattle.olk_members.specs.Members.{member_malformations, member_cost}
-use Rattle.olk_node.specs.declared.node.SchemaNode.{SchemaNode}
 use Rattle.olk_read.specs.Refusing.{Spends, Refuses}
 use Rattle.olk_read.specs.Patterns.{patterns_wrong, patterns_cost}
 use Rattle.olk_make.specs.Holding.{StandEach, StandInner, which, all_malformed}
@@ -36,8 +35,8 @@ is_read false d = true
 module _ {K R : Type 0} (o : Kit K R) where
   -- ---- a node for a schema at a place
 
-  pub record IsBuilt (n : SchemaNode K R) (S : Data) (P : Path) (old new : Counts) : Type 0 where
-    pub stands : StandsFor o n S P
+  pub record IsBuilt {N : Type 0} (answers : N → Answers) (n : N) (S : Data) (P : Path) (old new : Counts) : Type 0 where
+    pub stands : Stands o answers n S P
     pub clean : malformations_at o.world S P ≡ []
     pub spends : Spends old new (cost o.world S)
 
@@ -52,8 +51,8 @@ module _ {K R : Type 0} (o : Kit K R) where
   abbrev pub each_cost : List (Name × Data) → Cost
   each_cost es = total_cost (λ e. cost o.world e.1) es
 
-  pub record AreBuilt (ns : List (SchemaNode K R)) (es : List (Name × Data)) (P : Path) (old new : Counts) : Type 0 where
-    pub stand : StandEach o ns es P
+  pub record AreBuilt {N : Type 0} (answers : N → Answers) (ns : List N) (es : List (Name × Data)) (P : Path) (old new : Counts) : Type 0 where
+    pub stand : StandEach o answers ns es P
     pub clean : each_malformed P es ≡ []
     pub spends : Spends old new (each_cost es)
 
@@ -62,8 +61,8 @@ module _ {K R : Type 0} (o : Kit K R) where
 
   -- ---- patterns beside nodes, for entries below a place
 
-  pub record PatternsAreBuilt (ps : List (CompiledPattern R × SchemaNode K R)) (es : List (Name × Data)) (P : Path) (old new : Counts) : Type 0 where
-    pub stand : EntriesStand o ps es P
+  pub record PatternsAreBuilt {N : Type 0} (answers : N → Answers) (ps : List (CompiledPattern R × N)) (es : List (Name × Data)) (P : Path) (old new : Counts) : Type 0 where
+    pub stand : EntriesStand o answers ps es P
     pub clean : patterns_wrong o P es ++ each_malformed P es ≡ []
     pub spends : Spends old new (patterns_cost o es ⊕ each_cost es)
 
@@ -78,8 +77,8 @@ module _ {K R : Type 0} (o : Kit K R) where
   abbrev pub inner_cost : List (Name × Data) → Cost
   inner_cost es = total_cost (λ e. each_cost (members e.1)) es
 
-  pub record InnerAreBuilt (ns : List (SchemaNode K R)) (es : List (Name × Data)) (P : Path) (old new : Counts) : Type 0 where
-    pub stand : StandInner o ns es P
+  pub record InnerAreBuilt {N : Type 0} (answers : N → Answers) (ns : List N) (es : List (Name × Data)) (P : Path) (old new : Counts) : Type 0 where
+    pub stand : StandInner o answers ns es P
     pub clean : inner_malformed P es ≡ []
     pub spends : Spends old new (inner_cost es)
 

@@ -13,7 +13,7 @@ use Rattle.olk_members.specs.Conditions.{Known, known_of, IsKnown}
 use Rattle.olk_read.specs.Refusing.{Spends, Refuses}
 use Rattle.olk_build.specs.Building.{no_lists, each_malformed, each_cost, inner_malformed, inner_cost, all_cost}
 use Rattle.olk_make.specs.Holding.{all_malformed}
-use Rattle.olk_node.specs.declared.node.SchemaNode.{SchemaNode}
+use Rattle.olk_tree.specs.Places.{Answers}
 use Rattle.olk_read.specs.declared.shape.ReadPlaces.{ReadPlaces}
 use Rattle.olk_read.specs.declared.shape.ReadPlaces.TheVariants.{Nothing, Itself, Entries, SchemaEntries, InnerEntries, Branches}
 use Rattle.olk_make.specs.declared.part.Part.{Part}
@@ -39,21 +39,21 @@ module _ {K R : Type 0} (o : Kit K R) where
   abbrev pub RefusesPlaces : ReadPlaces → Data → Path → Counts → Counts → BuildError → Type 0
   RefusesPlaces r d L old new e = Refuses (places_malformed r d L) (places_cost r d) old new e
 
-  pub record PlacesAreBuilt (r : ReadPlaces) (ns : List (SchemaNode K R)) (d : Data) (L : Path) (old new : Counts) : Type 0 where
-    pub stand : StandAt o r ns d L
+  pub record PlacesAreBuilt {N : Type 0} (answers : N → Answers) (r : ReadPlaces) (ns : List N) (d : Data) (L : Path) (old new : Counts) : Type 0 where
+    pub stand : StandAt o answers r ns d L
     pub clean : places_malformed r d L ≡ []
     pub spends : Spends old new (places_cost r d)
 
   -- parts for the members es of the schema object with the members ms at P
-  pub record PartsAreBuilt (ms : Members) (ps : List (Part K R (SchemaNode K R))) (es : List (Name × Data)) (P : Path) (old new : Counts) : Type 0 where
-    pub stand : PartsStand o (known_of ms) ps es P
+  pub record PartsAreBuilt {N : Type 0} (answers : N → Answers) (ms : Members) (ps : List (Part K R N)) (es : List (Name × Data)) (P : Path) (old new : Counts) : Type 0 where
+    pub stand : PartsStand o answers (known_of ms) ps es P
     pub clean : all_malformed o ms P es ≡ []
     pub spends : Spends old new (all_cost o ms es)
 
   -- parts for all members
-  abbrev pub ObjectIsParted : Members → List (Part K R (SchemaNode K R)) → Path → Counts → Counts → Type 0
-  ObjectIsParted ms ps P old new = PartsAreBuilt ms ps (listed ms) P old new
+  abbrev pub ObjectIsParted : {N : Type 0} → (N → Answers) → Members → List (Part K R N) → Path → Counts → Counts → Type 0
+  ObjectIsParted answers ms ps P old new = PartsAreBuilt answers ms ps (listed ms) P old new
 
   -- the part of the keyword of the name k and the value d at its place, in each object of whose neighbours c is known as far as the keyword has to know them
-  abbrev pub IsPart : Part K R (SchemaNode K R) → Known → Name → Data → Path → Counts → Counts → Type 0
-  IsPart p c k d L old new = (ms : Members) (P : Path) → L ≡ P // k → IsKnown c ms k → PartsAreBuilt ms (p ∷ []) ((k, d) ∷ []) P old new
+  abbrev pub IsPart : {N : Type 0} → (N → Answers) → Part K R N → Known → Name → Data → Path → Counts → Counts → Type 0
+  IsPart answers p c k d L old new = (ms : Members) (P : Path) → L ≡ P // k → IsKnown c ms k → PartsAreBuilt answers ms (p ∷ []) ((k, d) ∷ []) P old new

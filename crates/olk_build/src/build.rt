@@ -6,7 +6,7 @@ ghost use Rattle.olk_spec.specs.Malformed.{items_list, malformations_at};
 ghost use Rattle.olk_spec.specs.Costs.{cost};
 ghost use Rattle.olk_paths.specs.Paths.{one_below};
 ghost use Rattle.olk_base.specs.Kit.{kit, world};
-ghost use Rattle.olk_node.specs.Stands.{StandsFor};
+ghost use Rattle.olk_tree.specs.Places.{Stands};
 ghost use Rattle.olk_build.specs.Building.{IsBuilt, AreBuilt, InnerAreBuilt, is_read, entries_read, RefusesSchema, RefusesEach, RefusesInner, RefusesObject, RefusesPart};
 ghost use Rattle.olk_members.specs.Conditions.{known, known_of};
 ghost use Rattle.olk_read.specs.Refusing.{TellsOneOf, Spends, SpendsWithin};
@@ -16,11 +16,11 @@ use crate::context::Context;
 use olk_base::{MakeLeaf, MakeRegex, Meter};
 use olk_make::{Part, make_keywords};
 use olk_members::Neighbours;
-use olk_node::SchemaNode;
 use olk_paths::Location;
 use olk_read::{Makers, ReadPlaces, append, append_all, one, read_keyword, refuse};
 use olk_reports::{BuildError, ValidationErrorKind};
 use olk_tree::node::Body;
+use olk_tree::place::Place;
 use serde_json::{Map, Value};
 use std::alloc::{AllocError, Global};
 
@@ -38,26 +38,26 @@ fn place_of_item(alloc: Global, place: &Location, index: usize) -> Result<Locati
 ///
 /// One of the schema's malformations; else want of memory.
 #[cycle(compile)]
-fn compile_schema<'a, L: MakeLeaf, M: MakeRegex>(
+fn compile_schema<'a, L: MakeLeaf, M: MakeRegex, N: Place<L::Leaf, M::Engine>>(
     alloc: Global,
     makers: &Makers<'_, L, M>,
     meter: &mut Meter,
     location: Location,
     schema: &'a Value,
-) -> Result<SchemaNode<L::Leaf, M::Engine>, BuildError<'a>>
-    ensures built { IfOk result (λ n. IsBuilt (kit L.Leaf.Leaf M.Engine.RegexEngine) n
+) -> Result<N, BuildError<'a>>
+    ensures built { IfOk result (λ n. IsBuilt (kit L.Leaf.Leaf M.Engine.RegexEngine) N.answers n
         (view schema.now) location meter.old meter.new) }
     ensures refused { IfErr result (RefusesSchema (kit L.Leaf.Leaf M.Engine.RegexEngine)
         (view schema.now) location meter.old meter.new) }
 {
     meter.tick_compiled();
     match schema {
-        Value::Bool(true) => Ok(SchemaNode::new(location, Body::True)),
-        Value::Bool(false) => Ok(SchemaNode::new(location, Body::False)),
+        Value::Bool(true) => Ok(N::new(location, Body::True)),
+        Value::Bool(false) => Ok(N::new(location, Body::False)),
         Value::Object(members) => {
             let parts = compile_parts(alloc, makers, meter, &location, members)?;
             let keywords = make_keywords(alloc, &location, members, parts)?;
-            Ok(SchemaNode::new(location, Body::Keywords(keywords)))
+            Ok(N::new(location, Body::Keywords(keywords)))
         }
         Value::Null | Value::Number(_) | Value::String(_) | Value::Array(_) => {
             Err(refuse(alloc, ValidationErrorKind::MultipleTypes, schema, &location))
@@ -71,15 +71,15 @@ fn compile_schema<'a, L: MakeLeaf, M: MakeRegex>(
 ///
 /// One of the members' malformations; else want of memory.
 #[cycle(compile)]
-fn compile_parts<'a, L: MakeLeaf, M: MakeRegex>(
+fn compile_parts<'a, L: MakeLeaf, M: MakeRegex, N: Place<L::Leaf, M::Engine>>(
     alloc: Global,
     makers: &Makers<'_, L, M>,
     meter: &mut Meter,
     place: &Location,
     members: &'a Map<String, Value>,
-) -> Result<Vec<Part<L::Leaf, M::Engine, SchemaNode<L::Leaf, M::Engine>>>, BuildError<'a>>
+) -> Result<Vec<Part<L::Leaf, M::Engine, N>>, BuildError<'a>>
     ensures built { IfOk result (λ ps. ObjectIsParted (kit L.Leaf.Leaf M.Engine.RegexEngine)
-        (members_view members.now.entries) ps.items place.now meter.old meter.new) }
+        N.answers (members_view members.now.entries) ps.items place.now meter.old meter.new) }
     ensures refused { IfErr result (RefusesObject (kit L.Leaf.Leaf M.Engine.RegexEngine)
         (members_view members.now.entries) place.now meter.old meter.new) }
 {
@@ -107,7 +107,7 @@ fn compile_parts<'a, L: MakeLeaf, M: MakeRegex>(
 ///
 /// One of the member's malformations; else want of memory.
 #[cycle(compile)]
-fn compile_part<'a, L: MakeLeaf, M: MakeRegex>(
+fn compile_part<'a, L: MakeLeaf, M: MakeRegex, N: Place<L::Leaf, M::Engine>>(
     alloc: Global,
     makers: &Makers<'_, L, M>,
     meter: &mut Meter,
@@ -115,8 +115,8 @@ fn compile_part<'a, L: MakeLeaf, M: MakeRegex>(
     location: Location,
     name: &'a str,
     value: &'a Value,
-) -> Result<Part<L::Leaf, M::Engine, SchemaNode<L::Leaf, M::Engine>>, BuildError<'a>>
-    ensures built { IfOk result (λ p. IsPart (kit L.Leaf.Leaf M.Engine.RegexEngine) p
+) -> Result<Part<L::Leaf, M::Engine, N>, BuildError<'a>>
+    ensures built { IfOk result (λ p. IsPart (kit L.Leaf.Leaf M.Engine.RegexEngine) N.answers p
         (known neighbours.entry) name.now (view value.now) location meter.old meter.new) }
     ensures refused { IfErr result (RefusesPart (kit L.Leaf.Leaf M.Engine.RegexEngine)
         (known neighbours.entry) name.now (view value.now) location meter.old meter.new) }
@@ -136,16 +136,16 @@ fn compile_part<'a, L: MakeLeaf, M: MakeRegex>(
 ///
 /// One of these places' malformations; else want of memory.
 #[cycle(compile)]
-fn compile_places<'a, L: MakeLeaf, M: MakeRegex>(
+fn compile_places<'a, L: MakeLeaf, M: MakeRegex, N: Place<L::Leaf, M::Engine>>(
     alloc: Global,
     makers: &Makers<'_, L, M>,
     meter: &mut Meter,
     location: &Location,
     reads: ReadPlaces,
     value: &'a Value,
-) -> Result<Vec<SchemaNode<L::Leaf, M::Engine>>, BuildError<'a>>
+) -> Result<Vec<N>, BuildError<'a>>
     ensures built { IfOk result (λ ns. PlacesAreBuilt (kit L.Leaf.Leaf M.Engine.RegexEngine)
-        reads ns.items (view value.now) location.now meter.old meter.new) }
+        N.answers reads ns.items (view value.now) location.now meter.old meter.new) }
     ensures refused { IfErr result (RefusesPlaces (kit L.Leaf.Leaf M.Engine.RegexEngine)
         reads (view value.now) location.now meter.old meter.new) }
 {
@@ -196,16 +196,16 @@ fn is_read(passes_arrays: bool, entry: &Value) -> bool
 ///
 /// One of these entries' malformations; else want of memory.
 #[cycle(compile)]
-fn compile_entries<'a, L: MakeLeaf, M: MakeRegex>(
+fn compile_entries<'a, L: MakeLeaf, M: MakeRegex, N: Place<L::Leaf, M::Engine>>(
     alloc: Global,
     makers: &Makers<'_, L, M>,
     meter: &mut Meter,
     place: &Location,
     passes_arrays: bool,
     map: &'a Map<String, Value>,
-) -> Result<Vec<SchemaNode<L::Leaf, M::Engine>>, BuildError<'a>>
-    ensures built { IfOk result (λ ns. AreBuilt (kit L.Leaf.Leaf M.Engine.RegexEngine) ns.items
-        (entries_read passes_arrays (listed (members_view map.now.entries)))
+) -> Result<Vec<N>, BuildError<'a>>
+    ensures built { IfOk result (λ ns. AreBuilt (kit L.Leaf.Leaf M.Engine.RegexEngine)
+        N.answers ns.items (entries_read passes_arrays (listed (members_view map.now.entries)))
         place.now meter.old meter.new) }
     ensures refused { IfErr result (RefusesEach (kit L.Leaf.Leaf M.Engine.RegexEngine)
         (entries_read passes_arrays (listed (members_view map.now.entries)))
@@ -228,15 +228,15 @@ fn compile_entries<'a, L: MakeLeaf, M: MakeRegex>(
 ///
 /// One of these inner entries' malformations; else want of memory.
 #[cycle(compile)]
-fn compile_inner_entries<'a, L: MakeLeaf, M: MakeRegex>(
+fn compile_inner_entries<'a, L: MakeLeaf, M: MakeRegex, N: Place<L::Leaf, M::Engine>>(
     alloc: Global,
     makers: &Makers<'_, L, M>,
     meter: &mut Meter,
     place: &Location,
     map: &'a Map<String, Value>,
-) -> Result<Vec<SchemaNode<L::Leaf, M::Engine>>, BuildError<'a>>
+) -> Result<Vec<N>, BuildError<'a>>
     ensures built { IfOk result (λ ns. InnerAreBuilt (kit L.Leaf.Leaf M.Engine.RegexEngine)
-        ns.items (listed (members_view map.now.entries)) place.now meter.old meter.new) }
+        N.answers ns.items (listed (members_view map.now.entries)) place.now meter.old meter.new) }
     ensures refused { IfErr result (RefusesInner (kit L.Leaf.Leaf M.Engine.RegexEngine)
         (listed (members_view map.now.entries)) place.now meter.old meter.new) }
 {
@@ -256,14 +256,15 @@ fn compile_inner_entries<'a, L: MakeLeaf, M: MakeRegex>(
 ///
 /// One of the branches' malformations; else want of memory.
 #[cycle(compile)]
-fn compile_branches<'a, L: MakeLeaf, M: MakeRegex>(
+fn compile_branches<'a, L: MakeLeaf, M: MakeRegex, N: Place<L::Leaf, M::Engine>>(
     alloc: Global,
     makers: &Makers<'_, L, M>,
     meter: &mut Meter,
     place: &Location,
     items: &'a Vec<Value>,
-) -> Result<Vec<SchemaNode<L::Leaf, M::Engine>>, BuildError<'a>>
-    ensures built { IfOk result (λ ns. AreBuilt (kit L.Leaf.Leaf M.Engine.RegexEngine) ns.items
+) -> Result<Vec<N>, BuildError<'a>>
+    ensures built { IfOk result (λ ns. AreBuilt (kit L.Leaf.Leaf M.Engine.RegexEngine)
+        N.answers ns.items
         (numbered (items_list (items_view items.now.items))) place.now meter.old meter.new) }
     ensures refused { IfErr result (RefusesEach (kit L.Leaf.Leaf M.Engine.RegexEngine)
         (numbered (items_list (items_view items.now.items))) place.now meter.old meter.new) }
@@ -283,14 +284,14 @@ fn compile_branches<'a, L: MakeLeaf, M: MakeRegex>(
 /// # Errors
 ///
 /// One of the member's malformations; else want of memory.
-pub fn compile_member<'a, L: MakeLeaf, M: MakeRegex>(
+pub fn compile_member<'a, L: MakeLeaf, M: MakeRegex, N: Place<L::Leaf, M::Engine>>(
     alloc: Global,
     ctx: &mut Context<'_, L, M>,
     parent: &Map<String, Value>,
     name: &'a str,
     value: &'a Value,
-) -> Result<Part<L::Leaf, M::Engine, SchemaNode<L::Leaf, M::Engine>>, BuildError<'a>>
-    ensures built { IfOk result (λ p. IsPart (kit L.Leaf.Leaf M.Engine.RegexEngine) p
+) -> Result<Part<L::Leaf, M::Engine, N>, BuildError<'a>>
+    ensures built { IfOk result (λ p. IsPart (kit L.Leaf.Leaf M.Engine.RegexEngine) N.answers p
         (known_of (members_view parent.now.entries)) name.now (view value.now)
         (one_below ctx.old.place name.now) ctx.old.meter.now ctx.new.meter.now) }
     ensures refused { IfErr result (RefusesPart (kit L.Leaf.Leaf M.Engine.RegexEngine)
@@ -318,13 +319,14 @@ pub fn compile_member<'a, L: MakeLeaf, M: MakeRegex>(
 /// # Errors
 ///
 /// One of these entries' malformations; else want of memory.
-pub fn compile_declared<'a, L: MakeLeaf, M: MakeRegex>(
+pub fn compile_declared<'a, L: MakeLeaf, M: MakeRegex, N: Place<L::Leaf, M::Engine>>(
     alloc: Global,
     ctx: &mut Context<'_, L, M>,
     name: &str,
     entries: &'a Map<String, Value>,
-) -> Result<Vec<SchemaNode<L::Leaf, M::Engine>>, BuildError<'a>>
-    ensures built { IfOk result (λ ns. AreBuilt (kit L.Leaf.Leaf M.Engine.RegexEngine) ns.items
+) -> Result<Vec<N>, BuildError<'a>>
+    ensures built { IfOk result (λ ns. AreBuilt (kit L.Leaf.Leaf M.Engine.RegexEngine)
+        N.answers ns.items
         (listed (members_view entries.now.entries)) (one_below ctx.old.place name.now)
         ctx.old.meter.now ctx.new.meter.now) }
     ensures refused { IfErr result (RefusesEach (kit L.Leaf.Leaf M.Engine.RegexEngine)
@@ -337,7 +339,8 @@ pub fn compile_declared<'a, L: MakeLeaf, M: MakeRegex>(
     compile_entries(alloc, &ctx.makers, ctx.meter, &location, false, entries)
 }
 
-/// The node of a schema at the context's place, with all that it reads inside.
+/// The node of a schema at the context's place, with all that it reads inside. It is of any type that is a place, as
+/// what is done with it tells.
 ///
 /// The meter rises by the cost of the schema, or by a part of it where nothing is built; the context's place is left as it was.
 ///
@@ -345,12 +348,12 @@ pub fn compile_declared<'a, L: MakeLeaf, M: MakeRegex>(
 ///
 /// A malformed schema is refused, with one of its malformations (JSON Schema 2020-12 Core, 4.3, and the shapes of the
 /// keywords). Without memory nothing is said of the schema.
-pub fn compile<'a, L: MakeLeaf, M: MakeRegex>(
+pub fn compile<'a, L: MakeLeaf, M: MakeRegex, N: Place<L::Leaf, M::Engine>>(
     alloc: Global,
     ctx: &mut Context<'_, L, M>,
     schema: &'a Value,
-) -> Result<SchemaNode<L::Leaf, M::Engine>, BuildError<'a>>
-    ensures stands { IfOk result (λ n. StandsFor (kit L.Leaf.Leaf M.Engine.RegexEngine) n
+) -> Result<N, BuildError<'a>>
+    ensures stands { IfOk result (λ n. Stands (kit L.Leaf.Leaf M.Engine.RegexEngine) N.answers n
         (view schema.now) ctx.old.place) }
     ensures clean { OnOk result (malformations_at (world L.Leaf.Leaf M.Engine.RegexEngine)
         (view schema.now) ctx.old.place ≡ []) }

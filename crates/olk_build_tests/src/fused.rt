@@ -91,7 +91,7 @@ fn stands_alone(alloc: Global, parent: &Map<String, Value>) -> bool {
     let mut meter = Meter::new();
     let mut ctx = Context::new(alloc, &NoTexts, &Equality, &mut meter);
     let listed = parent.get("required").unwrap_or(&Value::Null);
-    let made = required::compile(alloc, &mut ctx, parent, listed);
+    let made: Made<'_> = required::compile(alloc, &mut ctx, parent, listed);
     let is_some = made.is_some();
     drop(made);
     drop(ctx);

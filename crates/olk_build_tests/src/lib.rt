@@ -1,7 +1,7 @@
 //! Tests of building whole schemas: what is counted, what is refused, and what is fused.
 //!
-//! Stands on `olk_build` and what is below, whose public calls alone it asks. The tests are in its modules; those of the
-//! module of each keyword are in `olk_module_tests`.
+//! Stands on `olk_keywords`, `olk_node` and what is below, whose public calls alone it asks. The tests are in its
+//! modules; those of the module of each keyword are in `olk_module_tests`.
 #![tactic(auto)]
 
 #[cfg(test)]

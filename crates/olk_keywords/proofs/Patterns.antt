@@ -10,14 +10,14 @@ use Rattle.olk_base.specs.Kit.{Kit}
 use Rattle.olk_base.specs.declared.pattern.CompiledPattern.{CompiledPattern}
 use Rattle.olk_reports.specs.declared.error.BuildError.{BuildError}
 use Rattle.olk_reports.specs.declared.error.BuildError.TheVariants.{Memory}
-use Rattle.olk_node.specs.declared.node.SchemaNode.{SchemaNode}
+use Rattle.olk_tree.specs.Places.{Answers}
 use Rattle.olk_read.specs.Patterns.{PatternsAreRead, RefusesPatterns}
 use Rattle.olk_read.proofs.Spending.{tells_left, tells_right, within_before, within_after, within_exactly, spends_append, refuses_memory}
 use Rattle.olk_make.specs.Standing.{EntriesStand}
 use Rattle.olk_make.proofs.PatternProperties.{both_stand}
 use Rattle.olk_build.specs.Building.{AreBuilt, RefusesEach, PatternsAreBuilt, RefusesPatternEntries}
 
-module _ {K R : Type 0} (o : Kit K R) (es : List (Name × Data)) (l L : Path) (place : l ≡ L) (a : Counts) where
+module _ {K R N : Type 0} (o : Kit K R) (answers : N → Answers) (es : List (Name × Data)) (l L : Path) (place : l ≡ L) (a : Counts) where
   -- a pattern is refused
   pub refuses_pattern : (b : Counts) (e x : BuildError) → e ≡ x → RefusesPatterns o es l a b x → RefusesPatternEntries o es L a b e
   refuses_pattern b e x q h = subst₂ (λ M y. RefusesPatternEntries o es M a b y) place (sym q) record {
@@ -36,10 +36,10 @@ module _ {K R : Type 0} (o : Kit K R) (es : List (Name × Data)) (l L : Path) (p
       spends = within_after a m b _ _ there.spends h.spends;
     }
 
-    module _ (ns : List (SchemaNode K R)) (built : AreBuilt o ns es L m b) where
-      pub patterns_built : (entries : List (CompiledPattern R × SchemaNode K R)) → entries ≡ zip ps ns → PatternsAreBuilt o entries es L a b
+    module _ (ns : List N) (built : AreBuilt o answers ns es L m b) where
+      pub patterns_built : (entries : List (CompiledPattern R × N)) → entries ≡ zip ps ns → PatternsAreBuilt o answers entries es L a b
       patterns_built entries e = record {
-        stand = subst (λ l. EntriesStand o l es L) (sym e) (both_stand o ps ns es L there.stand built.stand);
+        stand = subst (λ l. EntriesStand o answers l es L) (sym e) (both_stand o answers ps ns es L there.stand built.stand);
         clean = λ i. there.clean i ++ built.clean i;
         spends = spends_append a m b _ _ there.spends built.spends;
       }

@@ -17,7 +17,7 @@ use Rattle.olk_base.specs.Count.{Counts}
 use Rattle.olk_base.specs.Kit.{Kit}
 use Rattle.olk_reports.specs.declared.error.BuildError.{BuildError}
 use Rattle.olk_reports.specs.declared.error.BuildError.TheVariants.{Memory}
-use Rattle.olk_node.specs.declared.node.SchemaNode.{SchemaNode}
+use Rattle.olk_tree.specs.Places.{Answers}
 use Rattle.olk_members.specs.Conditions.{Known, IsKnown}
 use Rattle.olk_members.specs.Members.{member_malformations, member_cost}
 use Rattle.olk_read.specs.Refusing.{Spends, Refuses}
@@ -48,7 +48,7 @@ module _ {X : Type 0} (f : X → List Fault) (c : X → Cost) (xs ys : List X) (
 pub left_by : {T : Type 0} (A : T → Type 0) (G : BuildError → Type 0) (r : Result T BuildError) (Q : BuildError → Type 0) → IsErrAnd r Q → ((e : BuildError) → Q e → G e) → IfOk r A × IfErr r G
 left_by A G r Q h k = let p = err_from_is_err_and r h in subst (λ z. IfOk z A × IfErr z G) (sym p.1) (tt, k p.0 p.2)
 
-module _ {K R : Type 0} (o : Kit K R) (ms : Members) (P : Path) where
+module _ {K R N : Type 0} (o : Kit K R) (answers : N → Answers) (ms : Members) (P : Path) where
   abbrev malformed_of : Name × Data → List Fault
   malformed_of m = member_malformations o.world ms m (which o ms m) P
 
@@ -68,7 +68,7 @@ module _ {K R : Type 0} (o : Kit K R) (ms : Members) (P : Path) where
       spends = subst (λ x. Spends a a (all_cost o ms (map (λ d. (k, d)) (option_to_list x)))) (sym e) (spends_nothing a);
     }
 
-    pub neighbour_built : (x : X) (d : Data) (p : Part K R (SchemaNode K R)) (a b : Counts) → lookup k (listed ms) ≡ Some d → PartsAreBuilt o ms (p ∷ []) ((k, d) ∷ []) P a b → Stands x d → NeighbourIsBuilt o ms Stands (Some x) k P a b
+    pub neighbour_built : (x : X) (d : Data) (p : Part K R N) (a b : Counts) → lookup k (listed ms) ≡ Some d → PartsAreBuilt o answers ms (p ∷ []) ((k, d) ∷ []) P a b → Stands x d → NeighbourIsBuilt o ms Stands (Some x) k P a b
     neighbour_built x d p a b e built h = record {
       stands = subst (Fills Stands (Some x)) (sym e) h;
       clean = ap (λ y. all_malformed o ms P (map (λ d. (k, d)) (option_to_list y))) e ∙ built.clean;

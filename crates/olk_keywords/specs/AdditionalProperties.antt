@@ -5,18 +5,18 @@ use Rattle.olk_spec.specs.Names.{Path, ◌//◌}
 use Rattle.olk_base.specs.Count.{Counts}
 use Rattle.olk_reports.specs.declared.error.BuildError.{BuildError}
 use Rattle.olk_base.specs.Kit.{Kit}
-use Rattle.olk_node.specs.declared.node.SchemaNode.{SchemaNode}
+use Rattle.olk_tree.specs.Places.{Answers}
 use Rattle.olk_tree.specs.declared.map.SmallMap.{SmallMap}
 use Rattle.olk_members.specs.Conditions.{known_of}
 use Rattle.olk_make.specs.Standing.{DeclaredStand, PatternsStand}
 use Rattle.olk_make.specs.declared.part.Patterns.{Patterns}
 use Rattle.olk_keywords.specs.Together.{BuildsNeighbour}
 
-module _ {K R : Type 0} (o : Kit K R) (ms : Members) where
+module _ {K R N : Type 0} (o : Kit K R) (answers : N → Answers) (ms : Members) where
   -- the declared names with their nodes
-  abbrev pub BuildsDeclared : Path → Counts → Counts → Result (Option (SmallMap (SchemaNode K R))) BuildError → Type 0
-  BuildsDeclared P old new r = BuildsNeighbour o ms (λ x. DeclaredStand o x (P // codes "properties")) (codes "properties") P old new r
+  abbrev pub BuildsDeclared : Path → Counts → Counts → Result (Option (SmallMap N)) BuildError → Type 0
+  BuildsDeclared P old new r = BuildsNeighbour o ms (λ x. DeclaredStand o answers x (P // codes "properties")) (codes "properties") P old new r
 
   -- and what `patternProperties` holds
-  abbrev pub BuildsPatterns : Path → Counts → Counts → Result (Option (Patterns R (SchemaNode K R))) BuildError → Type 0
-  BuildsPatterns P old new r = BuildsNeighbour o ms (λ x. PatternsStand o (known_of ms) x (P // codes "patternProperties")) (codes "patternProperties") P old new r
+  abbrev pub BuildsPatterns : Path → Counts → Counts → Result (Option (Patterns R N)) BuildError → Type 0
+  BuildsPatterns P old new r = BuildsNeighbour o ms (λ x. PatternsStand o answers (known_of ms) x (P // codes "patternProperties")) (codes "patternProperties") P old new r

@@ -6,7 +6,7 @@ use Rattle.olk_spec.specs.Schemas.{listed}
 use Rattle.olk_base.specs.Count.{Counts}
 use Rattle.olk_reports.specs.declared.error.BuildError.{BuildError}
 use Rattle.olk_base.specs.Kit.{Kit}
-use Rattle.olk_node.specs.declared.node.SchemaNode.{SchemaNode}
+use Rattle.olk_tree.specs.Places.{Answers}
 use Rattle.olk_tree.specs.declared.node.KeywordOver.{KeywordOver}
 use Rattle.olk_members.specs.Plans.{plan_of, head, claims}
 use Rattle.olk_read.specs.Refusing.{Spends, Refuses}
@@ -42,14 +42,14 @@ module _ {K R : Type 0} (o : Kit K R) (ms : Members) {X : Type 0} (Stands : X �
 -- ---- all together
 
 -- k is the name and d the value of the member, and es are all whose parts are read for it
-module _ {K R : Type 0} (o : Kit K R) (ms : Members) (k : Name) (d : Data) (es : List (Name × Data)) where
-  pub record TogetherAreBuilt (ks : List (KeywordOver K R (SchemaNode K R))) (P : Path) (old new : Counts) : Type 0 where
-    pub means : KeywordsMean o ms ks (claims (head (plan_of ms)) (listed ms) (k, d)) ((k, d) ∷ []) P
+module _ {K R N : Type 0} (o : Kit K R) (answers : N → Answers) (ms : Members) (k : Name) (d : Data) (es : List (Name × Data)) where
+  pub record TogetherAreBuilt (ks : List (KeywordOver K R N)) (P : Path) (old new : Counts) : Type 0 where
+    pub means : KeywordsMean o answers ms ks (claims (head (plan_of ms)) (listed ms) (k, d)) ((k, d) ∷ []) P
     pub clean : all_malformed o ms P es ≡ []
     pub spends : Spends old new (all_cost o ms es)
 
   -- the keyword, where this value stands at the name in the object at P, or why there is none
-  abbrev pub BuildsTogether : Path → Counts → Counts → Result (KeywordOver K R (SchemaNode K R)) BuildError → Type 0
+  abbrev pub BuildsTogether : Path → Counts → Counts → Result (KeywordOver K R N) BuildError → Type 0
   BuildsTogether P old new r =
       IfOk r (λ x. lookup k (listed ms) ≡ Some d → TogetherAreBuilt (x ∷ []) P old new)
       × IfErr r (Refuses (all_malformed o ms P es) (all_cost o ms es) old new)

@@ -17,10 +17,11 @@ use olk_build::{Context, compile_member};
 use olk_make::additional_properties::make;
 use olk_make::{Beside, Part, Patterns};
 use olk_members::{Plan, member};
-use olk_node::{Keyword, SchemaNode};
 use olk_read::Shape;
 use olk_reports::BuildError;
 use olk_tree::map::SmallMap;
+use olk_tree::node::KeywordOver;
+use olk_tree::place::Place;
 use serde_json::{Map, Value};
 use std::alloc::Global;
 
@@ -29,12 +30,12 @@ use std::alloc::Global;
 /// # Errors
 ///
 /// One of its malformations; else want of memory.
-fn compile_properties<'a, L: MakeLeaf, M: MakeRegex>(
+fn compile_properties<'a, L: MakeLeaf, M: MakeRegex, N: Place<L::Leaf, M::Engine>>(
     alloc: Global,
     ctx: &mut Context<'_, L, M>,
     parent: &'a Map<String, Value>,
-) -> Result<Option<SmallMap<SchemaNode<L::Leaf, M::Engine>>>, BuildError<'a>>
-    ensures builds { BuildsDeclared (kit L.Leaf.Leaf M.Engine.RegexEngine)
+) -> Result<Option<SmallMap<N>>, BuildError<'a>>
+    ensures builds { BuildsDeclared (kit L.Leaf.Leaf M.Engine.RegexEngine) N.answers
         (members_view parent.now.entries) ctx.old.place
         ctx.old.meter.now ctx.new.meter.now result }
     ensures place { ctx.new.place ≡ ctx.old.place }
@@ -60,12 +61,12 @@ fn compile_properties<'a, L: MakeLeaf, M: MakeRegex>(
 /// # Errors
 ///
 /// One of its malformations; else want of memory.
-fn compile_patterns<'a, L: MakeLeaf, M: MakeRegex>(
+fn compile_patterns<'a, L: MakeLeaf, M: MakeRegex, N: Place<L::Leaf, M::Engine>>(
     alloc: Global,
     ctx: &mut Context<'_, L, M>,
     parent: &'a Map<String, Value>,
-) -> Result<Option<Patterns<M::Engine, SchemaNode<L::Leaf, M::Engine>>>, BuildError<'a>>
-    ensures builds { BuildsPatterns (kit L.Leaf.Leaf M.Engine.RegexEngine)
+) -> Result<Option<Patterns<M::Engine, N>>, BuildError<'a>>
+    ensures builds { BuildsPatterns (kit L.Leaf.Leaf M.Engine.RegexEngine) N.answers
         (members_view parent.now.entries) ctx.old.place
         ctx.old.meter.now ctx.new.meter.now result }
     ensures place { ctx.new.place ≡ ctx.old.place }
@@ -96,14 +97,14 @@ fn compile_patterns<'a, L: MakeLeaf, M: MakeRegex>(
 ///
 /// One of the malformations of `additionalProperties`, whose kind is tested before anything beside it is compiled, of
 /// `properties` and of `patternProperties`; else want of memory.
-fn compile_restriction<'a, L: MakeLeaf, M: MakeRegex>(
+fn compile_restriction<'a, L: MakeLeaf, M: MakeRegex, N: Place<L::Leaf, M::Engine>>(
     alloc: Global,
     ctx: &mut Context<'_, L, M>,
     parent: &'a Map<String, Value>,
     schema: &'a Value,
-) -> Result<Keyword<L::Leaf, M::Engine>, BuildError<'a>>
+) -> Result<KeywordOver<L::Leaf, M::Engine, N>, BuildError<'a>>
     requires read { is_truth true (view schema.now) ≡ false }
-    ensures builds { BuildsTogether (kit L.Leaf.Leaf M.Engine.RegexEngine)
+    ensures builds { BuildsTogether (kit L.Leaf.Leaf M.Engine.RegexEngine) N.answers
         (members_view parent.now.entries) (codes "additionalProperties") (view schema.now)
         (restriction_members (members_view parent.now.entries) (view schema.now)) ctx.old.place
         ctx.old.meter.now ctx.new.meter.now result }
@@ -142,13 +143,13 @@ fn compile_restriction<'a, L: MakeLeaf, M: MakeRegex>(
 /// # Errors
 ///
 /// One of the malformations of the three; else want of memory.
-pub fn compile<'a, L: MakeLeaf, M: MakeRegex>(
+pub fn compile<'a, L: MakeLeaf, M: MakeRegex, N: Place<L::Leaf, M::Engine>>(
     alloc: Global,
     ctx: &mut Context<'_, L, M>,
     parent: &'a Map<String, Value>,
     schema: &'a Value,
-) -> Option<Result<Keyword<L::Leaf, M::Engine>, BuildError<'a>>>
-    ensures gives { IfSome result (BuildsTogether (kit L.Leaf.Leaf M.Engine.RegexEngine)
+) -> Option<Result<KeywordOver<L::Leaf, M::Engine, N>, BuildError<'a>>>
+    ensures gives { IfSome result (BuildsTogether (kit L.Leaf.Leaf M.Engine.RegexEngine) N.answers
         (members_view parent.now.entries) (codes "additionalProperties") (view schema.now)
         (restriction_members (members_view parent.now.entries) (view schema.now)) ctx.old.place
         ctx.old.meter.now ctx.new.meter.now) }

@@ -11,9 +11,10 @@ use olk_base::{Leaf, MakeLeaf, MakeRegex, RegexEngine};
 use olk_build::{Context, compile_member};
 use olk_make::Part;
 use olk_make::dependencies::{make, make_required, make_schemas};
-use olk_node::Keyword;
 use olk_read::Shape;
 use olk_reports::BuildError;
+use olk_tree::node::KeywordOver;
+use olk_tree::place::Place;
 use serde_json::{Map, Value};
 use std::alloc::Global;
 
@@ -26,13 +27,14 @@ use std::alloc::Global;
 /// # Errors
 ///
 /// One of the malformations of the keyword; else want of memory. There always is an answer.
-pub fn compile<'a, L: MakeLeaf, M: MakeRegex>(
+pub fn compile<'a, L: MakeLeaf, M: MakeRegex, N: Place<L::Leaf, M::Engine>>(
     alloc: Global,
     ctx: &mut Context<'_, L, M>,
     parent: &'a Map<String, Value>,
     schema: &'a Value,
-) -> Option<Result<Keyword<L::Leaf, M::Engine>, BuildError<'a>>>
-    ensures gives { GivesMember (kit L.Leaf.Leaf M.Engine.RegexEngine) (codes "dependencies")
+) -> Option<Result<KeywordOver<L::Leaf, M::Engine, N>, BuildError<'a>>>
+    ensures gives { GivesMember (kit L.Leaf.Leaf M.Engine.RegexEngine)
+        N.answers (codes "dependencies")
         (view schema.now) ctx.old.place ctx.old.meter.now ctx.new.meter.now result }
     ensures form { Gives result (IsDependencies (one_below ctx.old.place
         (codes "dependencies")) (map (λ e. e.0) (members (view schema.now)))) }
@@ -66,20 +68,21 @@ pub fn compile<'a, L: MakeLeaf, M: MakeRegex>(
 /// # Errors
 ///
 /// One of the malformations of the keyword; else want of memory. There always is an answer.
-pub fn compile_dependent_required<'a, L: MakeLeaf, M: MakeRegex>(
+pub fn compile_dependent_required<'a, L: MakeLeaf, M: MakeRegex, N: Place<L::Leaf, M::Engine>>(
     alloc: Global,
     ctx: &mut Context<'_, L, M>,
     parent: &'a Map<String, Value>,
     schema: &'a Value,
-) -> Option<Result<Keyword<L::Leaf, M::Engine>, BuildError<'a>>>
-    ensures gives { GivesMember (kit L.Leaf.Leaf M.Engine.RegexEngine) (codes "dependentRequired")
+) -> Option<Result<KeywordOver<L::Leaf, M::Engine, N>, BuildError<'a>>>
+    ensures gives { GivesMember (kit L.Leaf.Leaf M.Engine.RegexEngine)
+        N.answers (codes "dependentRequired")
         (view schema.now) ctx.old.place ctx.old.meter.now ctx.new.meter.now result }
     ensures form { Gives result (IsDependencies (one_below ctx.old.place
         (codes "dependentRequired")) (map (λ e. e.0) (members (view schema.now)))) }
     ensures place { ctx.new.place ≡ ctx.old.place }
     ensures same_meter { ctx.new.meter.ghost_name ≡ ctx.old.meter.ghost_name }
 {
-    match compile_member(alloc, ctx, parent, "dependentRequired", schema) {
+    match compile_member::<L, M, N>(alloc, ctx, parent, "dependentRequired", schema) {
         Ok(part) => {
             let Part {
                 location,
@@ -106,13 +109,14 @@ pub fn compile_dependent_required<'a, L: MakeLeaf, M: MakeRegex>(
 /// # Errors
 ///
 /// One of the malformations of the keyword; else want of memory. There always is an answer.
-pub fn compile_dependent_schemas<'a, L: MakeLeaf, M: MakeRegex>(
+pub fn compile_dependent_schemas<'a, L: MakeLeaf, M: MakeRegex, N: Place<L::Leaf, M::Engine>>(
     alloc: Global,
     ctx: &mut Context<'_, L, M>,
     parent: &'a Map<String, Value>,
     schema: &'a Value,
-) -> Option<Result<Keyword<L::Leaf, M::Engine>, BuildError<'a>>>
-    ensures gives { GivesMember (kit L.Leaf.Leaf M.Engine.RegexEngine) (codes "dependentSchemas")
+) -> Option<Result<KeywordOver<L::Leaf, M::Engine, N>, BuildError<'a>>>
+    ensures gives { GivesMember (kit L.Leaf.Leaf M.Engine.RegexEngine)
+        N.answers (codes "dependentSchemas")
         (view schema.now) ctx.old.place ctx.old.meter.now ctx.new.meter.now result }
     ensures form { Gives result (IsDependencies (one_below ctx.old.place
         (codes "dependentSchemas")) (map (λ e. e.0) (members (view schema.now)))) }

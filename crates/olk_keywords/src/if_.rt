@@ -18,8 +18,9 @@ use olk_build::{Context, compile_member};
 use olk_make::if_::make;
 use olk_make::{Cases, Part};
 use olk_members::{Plan, member};
-use olk_node::{Keyword, SchemaNode};
 use olk_reports::BuildError;
+use olk_tree::node::KeywordOver;
+use olk_tree::place::Place;
 use serde_json::{Map, Value};
 use std::alloc::Global;
 
@@ -28,13 +29,13 @@ use std::alloc::Global;
 /// # Errors
 ///
 /// One of its malformations; else want of memory.
-fn compile_case<'a, L: MakeLeaf, M: MakeRegex>(
+fn compile_case<'a, L: MakeLeaf, M: MakeRegex, N: Place<L::Leaf, M::Engine>>(
     alloc: Global,
     ctx: &mut Context<'_, L, M>,
     parent: &'a Map<String, Value>,
     name: &'static str,
-) -> Result<Option<SchemaNode<L::Leaf, M::Engine>>, BuildError<'a>>
-    ensures builds { BuildsCase (kit L.Leaf.Leaf M.Engine.RegexEngine)
+) -> Result<Option<N>, BuildError<'a>>
+    ensures builds { BuildsCase (kit L.Leaf.Leaf M.Engine.RegexEngine) N.answers
         (members_view parent.now.entries) name.now ctx.old.place
         ctx.old.meter.now ctx.new.meter.now result }
     ensures place { ctx.new.place ≡ ctx.old.place }
@@ -56,16 +57,16 @@ fn compile_case<'a, L: MakeLeaf, M: MakeRegex>(
 /// # Errors
 ///
 /// One of the malformations of `if`, `then` and `else`; else want of memory.
-fn compile_condition<'a, L: MakeLeaf, M: MakeRegex>(
+fn compile_condition<'a, L: MakeLeaf, M: MakeRegex, N: Place<L::Leaf, M::Engine>>(
     alloc: Global,
     ctx: &mut Context<'_, L, M>,
     parent: &'a Map<String, Value>,
     schema: &'a Value,
-) -> Result<Keyword<L::Leaf, M::Engine>, BuildError<'a>>
+) -> Result<KeywordOver<L::Leaf, M::Engine, N>, BuildError<'a>>
     requires read { is_condition (members_view parent.now.entries) ≡ true }
     requires distinct { has_repeat (map (λ m. m.0)
         (listed (members_view parent.now.entries))) ≡ false }
-    ensures builds { BuildsTogether (kit L.Leaf.Leaf M.Engine.RegexEngine)
+    ensures builds { BuildsTogether (kit L.Leaf.Leaf M.Engine.RegexEngine) N.answers
         (members_view parent.now.entries) (codes "if") (view schema.now)
         (condition_members (members_view parent.now.entries) (view schema.now)) ctx.old.place
         ctx.old.meter.now ctx.new.meter.now result }
@@ -104,13 +105,13 @@ fn compile_condition<'a, L: MakeLeaf, M: MakeRegex>(
 /// # Errors
 ///
 /// One of the malformations of the three; else want of memory.
-pub fn compile<'a, L: MakeLeaf, M: MakeRegex>(
+pub fn compile<'a, L: MakeLeaf, M: MakeRegex, N: Place<L::Leaf, M::Engine>>(
     alloc: Global,
     ctx: &mut Context<'_, L, M>,
     parent: &'a Map<String, Value>,
     schema: &'a Value,
-) -> Option<Result<Keyword<L::Leaf, M::Engine>, BuildError<'a>>>
-    ensures gives { IfSome result (BuildsTogether (kit L.Leaf.Leaf M.Engine.RegexEngine)
+) -> Option<Result<KeywordOver<L::Leaf, M::Engine, N>, BuildError<'a>>>
+    ensures gives { IfSome result (BuildsTogether (kit L.Leaf.Leaf M.Engine.RegexEngine) N.answers
         (members_view parent.now.entries) (codes "if") (view schema.now)
         (condition_members (members_view parent.now.entries) (view schema.now)) ctx.old.place
         ctx.old.meter.now ctx.new.meter.now) }

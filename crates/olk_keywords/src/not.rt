@@ -10,10 +10,11 @@ use olk_base::{Leaf, MakeLeaf, MakeRegex, RegexEngine};
 use olk_build::{Context, compile_member};
 use olk_make::Part;
 use olk_make::not::make;
-use olk_node::Keyword;
 use olk_read::Shape;
 use olk_reports::BuildError;
+use olk_tree::node::KeywordOver;
 use olk_tree::not::Not;
+use olk_tree::place::Place;
 use serde_json::{Map, Value};
 use std::alloc::Global;
 
@@ -25,13 +26,13 @@ use std::alloc::Global;
 /// # Errors
 ///
 /// One of the malformations of the keyword; else want of memory. There always is an answer.
-pub fn compile<'a, L: MakeLeaf, M: MakeRegex>(
+pub fn compile<'a, L: MakeLeaf, M: MakeRegex, N: Place<L::Leaf, M::Engine>>(
     alloc: Global,
     ctx: &mut Context<'_, L, M>,
     parent: &'a Map<String, Value>,
     schema: &'a Value,
-) -> Option<Result<Keyword<L::Leaf, M::Engine>, BuildError<'a>>>
-    ensures gives { GivesMember (kit L.Leaf.Leaf M.Engine.RegexEngine) (codes "not")
+) -> Option<Result<KeywordOver<L::Leaf, M::Engine, N>, BuildError<'a>>>
+    ensures gives { GivesMember (kit L.Leaf.Leaf M.Engine.RegexEngine) N.answers (codes "not")
         (view schema.now) ctx.old.place ctx.old.meter.now ctx.new.meter.now result }
     ensures form { Gives result (IsNot (one_below ctx.old.place (codes "not")) (view schema.now)) }
     ensures place { ctx.new.place ≡ ctx.old.place }

@@ -9,8 +9,9 @@ ghost use Rattle.olk_keywords.specs.Parts.{GivesMember, Gives};
 use olk_base::{Leaf, MakeLeaf, MakeRegex, RegexEngine};
 use olk_build::{Context, compile_member};
 use olk_make::one_of::make;
-use olk_node::Keyword;
 use olk_reports::BuildError;
+use olk_tree::node::KeywordOver;
+use olk_tree::place::Place;
 use serde_json::{Map, Value};
 use std::alloc::Global;
 
@@ -23,13 +24,13 @@ use std::alloc::Global;
 /// # Errors
 ///
 /// One of the malformations of the keyword; else want of memory. There always is an answer.
-pub fn compile<'a, L: MakeLeaf, M: MakeRegex>(
+pub fn compile<'a, L: MakeLeaf, M: MakeRegex, N: Place<L::Leaf, M::Engine>>(
     alloc: Global,
     ctx: &mut Context<'_, L, M>,
     parent: &'a Map<String, Value>,
     schema: &'a Value,
-) -> Option<Result<Keyword<L::Leaf, M::Engine>, BuildError<'a>>>
-    ensures gives { GivesMember (kit L.Leaf.Leaf M.Engine.RegexEngine) (codes "oneOf")
+) -> Option<Result<KeywordOver<L::Leaf, M::Engine, N>, BuildError<'a>>>
+    ensures gives { GivesMember (kit L.Leaf.Leaf M.Engine.RegexEngine) N.answers (codes "oneOf")
         (view schema.now) ctx.old.place ctx.old.meter.now ctx.new.meter.now result }
     ensures form { Gives result (IsOneOf (one_below ctx.old.place (codes "oneOf"))
         (view schema.now)) }

@@ -15,9 +15,10 @@ use olk_build::{Context, compile_declared, compile_member};
 use olk_make::Part;
 use olk_make::pattern_properties::{make, with_nodes};
 use olk_members::is_restricted;
-use olk_node::{Keyword, SchemaNode};
 use olk_read::{Shape, patterns_of_entries};
 use olk_reports::BuildError;
+use olk_tree::node::KeywordOver;
+use olk_tree::place::Place;
 use serde_json::{Map, Value};
 use std::alloc::Global;
 
@@ -31,14 +32,14 @@ use std::alloc::Global;
 /// # Errors
 ///
 /// One of the malformations of the keyword; else want of memory.
-pub fn compile<'a, L: MakeLeaf, M: MakeRegex>(
+pub fn compile<'a, L: MakeLeaf, M: MakeRegex, N: Place<L::Leaf, M::Engine>>(
     alloc: Global,
     ctx: &mut Context<'_, L, M>,
     parent: &'a Map<String, Value>,
     schema: &'a Value,
-) -> Option<Result<Keyword<L::Leaf, M::Engine>, BuildError<'a>>>
+) -> Option<Result<KeywordOver<L::Leaf, M::Engine, N>, BuildError<'a>>>
     ensures gives { IfSome result (BuildsWhereFree (kit L.Leaf.Leaf M.Engine.RegexEngine)
-        (codes "patternProperties") (view schema.now)
+        N.answers (codes "patternProperties") (view schema.now)
         ctx.old.place ctx.old.meter.now ctx.new.meter.now) }
     ensures form { Gives result (IsPatternProperties
         (one_below ctx.old.place (codes "patternProperties"))
@@ -79,13 +80,13 @@ pub fn compile<'a, L: MakeLeaf, M: MakeRegex>(
 /// # Errors
 ///
 /// A pattern that does not build, or one of the subschemas' malformations; else want of memory.
-pub fn compile_patterns<'a, L: MakeLeaf, M: MakeRegex>(
+pub fn compile_patterns<'a, L: MakeLeaf, M: MakeRegex, N: Place<L::Leaf, M::Engine>>(
     alloc: Global,
     ctx: &mut Context<'_, L, M>,
     patterns: &'a Map<String, Value>,
-) -> Result<Vec<(CompiledPattern<M::Engine>, SchemaNode<L::Leaf, M::Engine>)>, BuildError<'a>>
+) -> Result<Vec<(CompiledPattern<M::Engine>, N)>, BuildError<'a>>
     ensures built { IfOk result (λ v. PatternsAreBuilt (kit L.Leaf.Leaf M.Engine.RegexEngine)
-        v.items (listed (members_view patterns.now.entries))
+        N.answers v.items (listed (members_view patterns.now.entries))
         (one_below ctx.old.place (codes "patternProperties"))
         ctx.old.meter.now ctx.new.meter.now) }
     ensures refused { IfErr result (RefusesPatternEntries

@@ -16,11 +16,12 @@ use olk_build::{Context, compile_declared, compile_member};
 use olk_make::Part;
 use olk_make::properties::make;
 use olk_members::Plan;
-use olk_node::{BigValidatorsMap, Keyword, SmallValidatorsMap};
 use olk_read::Shape;
 use olk_reports::BuildError;
 use olk_tree::big_map::{BigMap, HashedNames};
 use olk_tree::map::{SmallMap, SortedNames};
+use olk_tree::node::KeywordOver;
+use olk_tree::place::Place;
 use serde_json::{Map, Value};
 use std::alloc::Global;
 
@@ -34,13 +35,13 @@ use std::alloc::Global;
 /// # Errors
 ///
 /// One of the malformations of the keyword; else want of memory.
-pub fn compile<'a, L: MakeLeaf, M: MakeRegex>(
+pub fn compile<'a, L: MakeLeaf, M: MakeRegex, N: Place<L::Leaf, M::Engine>>(
     alloc: Global,
     ctx: &mut Context<'_, L, M>,
     parent: &'a Map<String, Value>,
     schema: &'a Value,
-) -> Option<Result<Keyword<L::Leaf, M::Engine>, BuildError<'a>>>
-    ensures gives { IfSome result (BuildsClaims (kit L.Leaf.Leaf M.Engine.RegexEngine)
+) -> Option<Result<KeywordOver<L::Leaf, M::Engine, N>, BuildError<'a>>>
+    ensures gives { IfSome result (BuildsClaims (kit L.Leaf.Leaf M.Engine.RegexEngine) N.answers
         (members_view parent.now.entries) (codes "properties") (view schema.now)
         ctx.old.place ctx.old.meter.now ctx.new.meter.now) }
     ensures form { Gives result (IsProperties ctx.old.place
@@ -83,14 +84,14 @@ pub fn compile<'a, L: MakeLeaf, M: MakeRegex>(
 /// # Errors
 ///
 /// One of the subschemas' malformations; else want of memory.
-pub fn compile_small_map<'a, L: MakeLeaf, M: MakeRegex>(
+pub fn compile_small_map<'a, L: MakeLeaf, M: MakeRegex, N: Place<L::Leaf, M::Engine>>(
     alloc: Global,
     ctx: &mut Context<'_, L, M>,
     properties: &'a Map<String, Value>,
-) -> Result<SmallValidatorsMap<L::Leaf, M::Engine>, BuildError<'a>>
+) -> Result<SmallMap<N>, BuildError<'a>>
     ensures names { IfOk result (λ m. m.names
         ≡ map (λ e. e.0) (listed (members_view properties.now.entries))) }
-    ensures built { IfOk result (λ m. AreBuilt (kit L.Leaf.Leaf M.Engine.RegexEngine)
+    ensures built { IfOk result (λ m. AreBuilt (kit L.Leaf.Leaf M.Engine.RegexEngine) N.answers
         m.nodes.items (listed (members_view properties.now.entries))
         (one_below ctx.old.place (codes "properties")) ctx.old.meter.now ctx.new.meter.now) }
     ensures refused { IfErr result (RefusesEach (kit L.Leaf.Leaf M.Engine.RegexEngine)
@@ -112,14 +113,14 @@ pub fn compile_small_map<'a, L: MakeLeaf, M: MakeRegex>(
 /// # Errors
 ///
 /// One of the subschemas' malformations; else want of memory.
-pub fn compile_big_map<'a, L: MakeLeaf, M: MakeRegex>(
+pub fn compile_big_map<'a, L: MakeLeaf, M: MakeRegex, N: Place<L::Leaf, M::Engine>>(
     alloc: Global,
     ctx: &mut Context<'_, L, M>,
     properties: &'a Map<String, Value>,
-) -> Result<BigValidatorsMap<L::Leaf, M::Engine>, BuildError<'a>>
+) -> Result<BigMap<N>, BuildError<'a>>
     ensures names { IfOk result (λ m. m.names
         ≡ map (λ e. e.0) (listed (members_view properties.now.entries))) }
-    ensures built { IfOk result (λ m. AreBuilt (kit L.Leaf.Leaf M.Engine.RegexEngine)
+    ensures built { IfOk result (λ m. AreBuilt (kit L.Leaf.Leaf M.Engine.RegexEngine) N.answers
         m.nodes.items (listed (members_view properties.now.entries))
         (one_below ctx.old.place (codes "properties")) ctx.old.meter.now ctx.new.meter.now) }
     ensures refused { IfErr result (RefusesEach (kit L.Leaf.Leaf M.Engine.RegexEngine)

@@ -12,10 +12,10 @@ use olk_base::{Leaf, MakeLeaf, MakeRegex, RegexEngine};
 use olk_build::{Context, compile_member};
 use olk_make::Part;
 use olk_members::Plan;
-use olk_node::Keyword;
 use olk_read::Shape;
 use olk_reports::BuildError;
 use olk_tree::node::KeywordOver;
+use olk_tree::place::Place;
 use olk_tree::required::RequiredValidator;
 use serde_json::{Map, Value};
 use std::alloc::Global;
@@ -29,13 +29,14 @@ use std::alloc::Global;
 /// # Errors
 ///
 /// One of the malformations of the keyword; else want of memory.
-pub fn compile<'a, L: MakeLeaf, M: MakeRegex>(
+pub fn compile<'a, L: MakeLeaf, M: MakeRegex, N: Place<L::Leaf, M::Engine>>(
     alloc: Global,
     ctx: &mut Context<'_, L, M>,
     parent: &'a Map<String, Value>,
     schema: &'a Value,
-) -> Option<Result<Keyword<L::Leaf, M::Engine>, BuildError<'a>>>
-    ensures gives { IfSome result (Builds (kit L.Leaf.Leaf M.Engine.RegexEngine) (codes "required")
+) -> Option<Result<KeywordOver<L::Leaf, M::Engine, N>, BuildError<'a>>>
+    ensures gives { IfSome result (Builds (kit L.Leaf.Leaf M.Engine.RegexEngine)
+        N.answers (codes "required")
         (view schema.now) ctx.old.place ctx.old.meter.now ctx.new.meter.now) }
     ensures form { Gives result (IsRequired (one_below ctx.old.place (codes "required"))
         (view schema.now)) }
@@ -49,7 +50,7 @@ pub fn compile<'a, L: MakeLeaf, M: MakeRegex>(
     if plan.fuses() || plan.fused_one().is_some() {
         return None;
     }
-    match compile_member(alloc, ctx, parent, "required", schema) {
+    match compile_member::<L, M, N>(alloc, ctx, parent, "required", schema) {
         Ok(part) => {
             let Part {
                 location,

@@ -45,9 +45,7 @@ use Rattle.olk_tree.specs.declared.map.SmallMap.{SmallMap}
 use Rattle.olk_tree.specs.declared.properties_map.PropertiesMap.{PropertiesMap}
 use Rattle.olk_tree.specs.declared.node.KeywordOver.{KeywordOver}
 use Rattle.olk_tree.specs.declared.node.KeywordOver.TheVariants as keyword
-use Rattle.olk_node.specs.Nodes.{answers}
-use Rattle.olk_node.specs.Stands.{StandsFor}
-use Rattle.olk_node.specs.declared.node.SchemaNode.{SchemaNode}
+use Rattle.olk_tree.specs.Places.{Answers, Stands}
 use Rattle.olk_read.specs.Patterns.{ArePatterns}
 use Rattle.olk_read.specs.declared.shape.Shape.TheVariants as shape
 use Rattle.olk_read.specs.declared.shape.ReadPlaces.TheVariants.{Itself}
@@ -72,28 +70,28 @@ pub ascend_once : (ns : List Name) → Ascend ns → has_repeat ns ≡ false
 ascend_once [] h = refl
 ascend_once (n ∷ ns) h = λ i. first_is_apart n ns (λ j inside. h 0 (suc j) (omega arith) (omega (arith, inside))) i || ascend_once ns (ascend_tail n ns h) i
 
-module _ {K R : Type 0} (o : Kit K R) where
-  abbrev means : SchemaNode K R → Data → Question
-  means n = (answers o n).means
+module _ {K R N : Type 0} (o : Kit K R) (answers : N → Answers) where
+  abbrev means : N → Data → Question
+  means n = (answers n).means
 
-  abbrev report : SchemaNode K R → Bool → Data → Path → List Fault
-  report n = (answers o n).report
+  abbrev report : N → Bool → Data → Path → List Fault
+  report n = (answers n).report
 
-  abbrev tree : SchemaNode K R → Bool → Data → Path → Tree
-  tree n = (answers o n).tree
+  abbrev tree : N → Bool → Data → Path → Tree
+  tree n = (answers n).tree
 
   -- ---- nodes that stand for schemas answer as these
 
-  answers_as : (n : SchemaNode K R) (S : Data) (P : Path) → StandsFor o n S P → AnswersAs o means report tree n S P
+  answers_as : (n : N) (S : Data) (P : Path) → Stands o answers n S P → AnswersAs o means report tree n S P
   answers_as n S P h = record { verdict = h.verdict; asks_within = h.asks_within; faults = h.faults; shows = h.evaluation }
 
-  entries_answer : (ns : List (SchemaNode K R)) (es : List (Name × Data)) (L : Path) → StandEach o ns es L → EntriesAnswer o means report tree ns es L
+  entries_answer : (ns : List N) (es : List (Name × Data)) (L : Path) → StandEach o answers ns es L → EntriesAnswer o means report tree ns es L
   entries_answer [] [] L h = tt
   entries_answer [] (e ∷ es) L h = absurd h
   entries_answer (n ∷ ns) [] L h = absurd h
   entries_answer (n ∷ ns) (e ∷ es) L h = (answers_as n e.1 (L // e.0) h.0, entries_answer ns es L h.1)
 
-  patterns_answer : (ps : List (CompiledPattern R)) (ns : List (SchemaNode K R)) (es : List (Name × Data)) (L : Path) → ArePatterns o ps es → StandEach o ns es L → PatternsAnswer o means report tree (zip ps ns) es L
+  patterns_answer : (ps : List (CompiledPattern R)) (ns : List N) (es : List (Name × Data)) (L : Path) → ArePatterns o ps es → StandEach o answers ns es L → PatternsAnswer o means report tree (zip ps ns) es L
   patterns_answer [] [] [] L h k = tt
   patterns_answer (p ∷ ps) (n ∷ ns) (e ∷ es) L h k = (record { answers = h.0.answers; costs = h.0.costs }, answers_as n e.1 (L // e.0) k.0, patterns_answer ps ns es L h.1 k.1)
   patterns_answer [] ns (e ∷ es) L h k = absurd h
@@ -102,7 +100,7 @@ module _ {K R : Type 0} (o : Kit K R) where
   patterns_answer ps (n ∷ ns) [] L h k = absurd k
 
   -- as many patterns stand there as nodes
-  patterns_kept : (ps : List (CompiledPattern R)) (ns : List (SchemaNode K R)) (es : List (Name × Data)) (L : Path) → ArePatterns o ps es → StandEach o ns es L → map (λ e. e.0) (zip ps ns) ≡ ps
+  patterns_kept : (ps : List (CompiledPattern R)) (ns : List N) (es : List (Name × Data)) (L : Path) → ArePatterns o ps es → StandEach o answers ns es L → map (λ e. e.0) (zip ps ns) ≡ ps
   patterns_kept [] [] [] L h k = refl
   patterns_kept (p ∷ ps) (n ∷ ns) (e ∷ es) L h k = ap (λ l. p ∷ l) (patterns_kept ps ns es L h.1 k.1)
   patterns_kept [] ns (e ∷ es) L h k = absurd h
@@ -110,26 +108,26 @@ module _ {K R : Type 0} (o : Kit K R) where
   patterns_kept ps [] (e ∷ es) L h k = absurd k
   patterns_kept ps (n ∷ ns) [] L h k = absurd k
 
-  rest_answers : (x : Option (SchemaNode K R)) (d : Data) (L : Path) → RestStands o x d L → RestAnswers o means report tree x d L
+  rest_answers : (x : Option N) (d : Data) (L : Path) → RestStands o answers x d L → RestAnswers o means report tree x d L
   rest_answers None d L h = h
   rest_answers (Some n) d L h = (h.0, answers_as n d L h.1)
 
   -- ---- what stands beside it
 
   -- a map stands for what `properties` declares at L
-  record DeclaredSide (x : Option (PropertiesMap (SchemaNode K R))) (a : Option Data) (L : Path) : Type 0 where
-    nodes : List (SchemaNode K R)
+  record DeclaredSide (x : Option (PropertiesMap N)) (a : Option Data) (L : Path) : Type 0 where
+    nodes : List N
     placed_beside : mapped_places x ≡ beside (map (λ e. e.0) (entries_in a)) (placed nodes)
     declared : EntriesAnswer o means report tree nodes (entries_in a) L
     there : is_some x ≡ is_some a
     once : has_repeat (map (λ e. e.0) (entries_in a)) ≡ false
 
-  declared_side : (b : Option (SmallMap (SchemaNode K R))) (x : Option (PropertiesMap (SchemaNode K R))) (a : Option Data) (L : Path) → IsMapOf b x → Fills (λ m. DeclaredStand o m L) b a → DeclaredSide x a L
+  declared_side : (b : Option (SmallMap N)) (x : Option (PropertiesMap N)) (a : Option Data) (L : Path) → IsMapOf b x → Fills (λ m. DeclaredStand o answers m L) b a → DeclaredSide x a L
   declared_side None None None L form h = record { nodes = []; placed_beside = refl; declared = tt; there = refl; once = refl }
   declared_side (Some b) (Some m) (Some d) L form h = record {
     nodes = nodes_in m;
     placed_beside = ap (λ ks. beside ks (placed (nodes_in m))) (form.0 ∙ h.names);
-    declared = entries_answer (nodes_in m) (members d) L (subst (λ l. StandEach o l (members d) L) (sym form.1) h.nodes);
+    declared = entries_answer (nodes_in m) (members d) L (subst (λ l. StandEach o answers l (members d) L) (sym form.1) h.nodes);
     there = refl;
     once = ap has_repeat (sym h.names) ∙ ascend_once b.names form.3;
   }
@@ -139,17 +137,17 @@ module _ {K R : Type 0} (o : Kit K R) where
   declared_side (Some b) x None L form h = absurd h
 
   -- the patterns stand for what `patternProperties` holds at L, beside the names ns
-  record PatternsSide (k : AdditionalProperties R (SchemaNode K R)) (ns : List Name) (a : Option Data) (L : Path) : Type 0 where
+  record PatternsSide (k : AdditionalProperties R N) (ns : List Name) (a : Option Data) (L : Path) : Type 0 where
     patterns : PatternsAnswer o means report tree (patterns_in k.patterns) (entries_in a) L
     known : (p i : ℕ) (n : Name) (c : CompiledPattern R) → slice_get ns p ≡ Some n → slice_get (map (λ e. e.0) (patterns_in k.patterns)) i ≡ Some c → table_says k.table p i ≡ pattern_answers o.answers c n
     there : is_some k.patterns ≡ is_some a
     place : is_some k.patterns ≡ true → k.patterns_location ≡ L
 
-  module _ (k : AdditionalProperties R (SchemaNode K R)) (ms : Members) (restricted : is_restricted ms ≡ true) where
-    patterns_side : (b : Option (Patterns R (SchemaNode K R))) (a : Option Data) (L : Path) → HasPatterns b k → Fills (λ x. PatternsStand o (known_of ms) x L) b a → PatternsSide k (map (λ e. e.0) (declared_beside ms)) a L
+  module _ (k : AdditionalProperties R N) (ms : Members) (restricted : is_restricted ms ≡ true) where
+    patterns_side : (b : Option (Patterns R N)) (a : Option Data) (L : Path) → HasPatterns b k → Fills (λ x. PatternsStand o answers (known_of ms) x L) b a → PatternsSide k (map (λ e. e.0) (declared_beside ms)) a L
     patterns_side None None L form h = record {
       patterns = subst (λ v. PatternsAnswer o means report tree (patterns_in v) [] L) (sym form) tt;
-      known = λ p i n c at_name at_pattern. absurd (true≢false (sym (ap is_some at_pattern) ∙ ap (λ v. is_some (slice_get (map (λ (e : CompiledPattern R × SchemaNode K R). e.0) (patterns_in v)) i)) form));
+      known = λ p i n c at_name at_pattern. absurd (true≢false (sym (ap is_some at_pattern) ∙ ap (λ v. is_some (slice_get (map (λ (e : CompiledPattern R × N). e.0) (patterns_in v)) i)) form));
       there = ap is_some form;
       place = λ e. absurd (true≢false (sym e ∙ ap is_some form));
     }
@@ -161,7 +159,7 @@ module _ {K R : Type 0} (o : Kit K R) where
       place = λ e. form.2 ∙ h.place;
     }
       where
-        there_with : (v : Option (Vec (CompiledPattern R × SchemaNode K R) Global)) → option_map (λ (v : Vec (CompiledPattern R × SchemaNode K R) Global). v.items) v ≡ Some (zip x.patterns.items x.nodes.items) → (is_some v ≡ true) × (patterns_in v ≡ zip x.patterns.items x.nodes.items)
+        there_with : (v : Option (Vec (CompiledPattern R × N) Global)) → option_map (λ (v : Vec (CompiledPattern R × N) Global). v.items) v ≡ Some (zip x.patterns.items x.nodes.items) → (is_some v ≡ true) × (patterns_in v ≡ zip x.patterns.items x.nodes.items)
         there_with None q = absurd (true≢false (sym (ap is_some q)))
         there_with (Some v) q = (refl, ap (λ z. unwrap_or z []) q)
 
@@ -184,7 +182,7 @@ module _ {K R : Type 0} (o : Kit K R) where
 
   -- ---- the validator
 
-  module _ (k : Box (AdditionalProperties R (SchemaNode K R)) Global) (L P : Path) (rest : Option (SchemaNode K R)) (b : Beside R (SchemaNode K R)) (ms : Members) (form : IsFormOfAdditionalProperties {K = K} P L rest b (fused_name ms) (keyword.AdditionalProperties k)) (d : Data) (place : L ≡ P // codes "additionalProperties") (rest_stands : RestStands o rest d L) (stands : BesideStands o (known_of ms) b ms P) (restricted : is_restricted ms ≡ true) where
+  module _ (k : Box (AdditionalProperties R N) Global) (L P : Path) (rest : Option N) (b : Beside R N) (ms : Members) (form : IsFormOfAdditionalProperties {K = K} P L rest b (fused_name ms) (keyword.AdditionalProperties k)) (d : Data) (place : L ≡ P // codes "additionalProperties") (rest_stands : RestStands o answers rest d L) (stands : BesideStands o answers (known_of ms) b ms P) (restricted : is_restricted ms ≡ true) where
     restriction_stands : RestrictionStands o means report tree k.value ms d P
     restriction_stands =
         let declared : DeclaredSide k.value.properties (lookup (codes "properties") (listed ms)) (P // codes "properties") = declared_side b.properties k.value.properties (lookup (codes "properties") (listed ms)) (P // codes "properties") form.1 stands.0 in
@@ -208,7 +206,7 @@ module _ {K R : Type 0} (o : Kit K R) where
           declared_once = declared.once;
         }
 
-    restriction_means : has_repeat (names_of (listed ms)) ≡ false → lookup (codes "additionalProperties") (listed ms) ≡ Some d → KeywordsMean o ms (keyword.AdditionalProperties k ∷ []) (claims (head (plan_of ms)) (listed ms) (codes "additionalProperties", d)) ((codes "additionalProperties", d) ∷ []) P
+    restriction_means : has_repeat (names_of (listed ms)) ≡ false → lookup (codes "additionalProperties") (listed ms) ≡ Some d → KeywordsMean o answers ms (keyword.AdditionalProperties k ∷ []) (claims (head (plan_of ms)) (listed ms) (codes "additionalProperties", d)) ((codes "additionalProperties", d) ∷ []) P
     restriction_means distinct there = record {
       covers = record {
         verdict = λ u v. and_true _ ∙ restriction_accepts o means report tree k restriction_stands distinct there restricted u v;
@@ -218,7 +216,7 @@ module _ {K R : Type 0} (o : Kit K R) where
       shows = λ clean u v Q. restriction_shows o means report tree k restriction_stands distinct there restricted u v Q (clean_one_fused o.world ms P clean (meaning_step o.world u)) ∙ sym (append-nil _);
     }
 
-  restricted_there : (x : Option (SchemaNode K R)) (d : Data) (L : Path) → RestStands o x d L → is_restriction (Some d) ≡ true
+  restricted_there : (x : Option N) (d : Data) (L : Path) → RestStands o answers x d L → is_restriction (Some d) ≡ true
   restricted_there None d L h = ap (λ b. b || is_object d) h
   restricted_there (Some n) d L h = ap (λ b. is_truth false d || b) h.0 ∙ or_true (is_truth false d)
     where
@@ -226,63 +224,63 @@ module _ {K R : Type 0} (o : Kit K R) where
       or_true true = refl
       or_true false = refl
 
-  pub makes_restriction : (k : KeywordOver K R (SchemaNode K R)) (L P : Path) (rest : Option (SchemaNode K R)) (b : Beside R (SchemaNode K R)) (p : Planned) → IsFormOfAdditionalProperties P L rest b p.fused_one k → MakesRestriction o L rest b P p (k ∷ [])
+  pub makes_restriction : (k : KeywordOver K R N) (L P : Path) (rest : Option N) (b : Beside R N) (p : Planned) → IsFormOfAdditionalProperties P L rest b p.fused_one k → MakesRestriction o answers L rest b P p (k ∷ [])
   makes_restriction (keyword.AdditionalProperties k) L P rest b p form ms d place rest_stands stands distinct there chosen =
-      subst (λ q. KeywordsMean o ms (keyword.AdditionalProperties k ∷ []) (claims (head q) (listed ms) (codes "additionalProperties", d)) ((codes "additionalProperties", d) ∷ []) P) (sym chosen)
+      subst (λ q. KeywordsMean o answers ms (keyword.AdditionalProperties k ∷ []) (claims (head q) (listed ms) (codes "additionalProperties", d)) ((codes "additionalProperties", d) ∷ []) P) (sym chosen)
       (restriction_means k L P rest b ms (subst (λ n. IsFormOfAdditionalProperties {K = K} P L rest b n (keyword.AdditionalProperties k)) (ap (λ q. q.fused_one) chosen) form) d place rest_stands stands (ap is_restriction there ∙ restricted_there rest d L rest_stands) distinct there)
   makes_restriction k L P rest b p form ms d place rest_stands stands distinct there chosen = absurd form
 
   -- ---- the form, by what there is
 
-  map_for : (b : Option (SmallMap (SchemaNode K R))) (x : Option (PropertiesMap (SchemaNode K R))) → IsMapOf b x → HasMapFor (option_map (λ (m : SmallMap (SchemaNode K R)). length m.names) b) x
+  map_for : (b : Option (SmallMap N)) (x : Option (PropertiesMap N)) → IsMapOf b x → HasMapFor (option_map (λ (m : SmallMap N). length m.names) b) x
   map_for None None h = tt
   map_for (Some b) (Some m) h = h.2
   map_for None (Some m) h = absurd h
   map_for (Some b) None h = absurd h
 
-  many_patterns : (b : Option (Patterns R (SchemaNode K R))) (k : AdditionalProperties R (SchemaNode K R)) → HasPatterns b k → option_map (λ (v : Vec (CompiledPattern R × SchemaNode K R) Global). length v.items) k.patterns ≡ option_map (λ (x : Patterns R (SchemaNode K R)). length (zip x.patterns.items x.nodes.items)) b
-  many_patterns None k h = ap (option_map (λ (v : Vec (CompiledPattern R × SchemaNode K R) Global). length v.items)) h
+  many_patterns : (b : Option (Patterns R N)) (k : AdditionalProperties R N) → HasPatterns b k → option_map (λ (v : Vec (CompiledPattern R × N) Global). length v.items) k.patterns ≡ option_map (λ (x : Patterns R N). length (zip x.patterns.items x.nodes.items)) b
+  many_patterns None k h = ap (option_map (λ (v : Vec (CompiledPattern R × N) Global). length v.items)) h
   many_patterns (Some x) k h = by k.patterns h.0
     where
-      by : (v : Option (Vec (CompiledPattern R × SchemaNode K R) Global)) → option_map (λ (v : Vec (CompiledPattern R × SchemaNode K R) Global). v.items) v ≡ Some (zip x.patterns.items x.nodes.items) → option_map (λ (v : Vec (CompiledPattern R × SchemaNode K R) Global). length v.items) v ≡ Some (length (zip x.patterns.items x.nodes.items))
+      by : (v : Option (Vec (CompiledPattern R × N) Global)) → option_map (λ (v : Vec (CompiledPattern R × N) Global). v.items) v ≡ Some (zip x.patterns.items x.nodes.items) → option_map (λ (v : Vec (CompiledPattern R × N) Global). length v.items) v ≡ Some (length (zip x.patterns.items x.nodes.items))
       by None q = absurd (true≢false (sym (ap is_some q)))
       by (Some v) q = ap (option_map length) q
 
-  pub is_additional_properties : (k : KeywordOver K R (SchemaNode K R)) (P L : Path) (rest : Option (SchemaNode K R)) (b : Beside R (SchemaNode K R)) (n : Option Name) → IsFormOfAdditionalProperties P L rest b n k → IsAdditionalProperties P L (is_some rest) (option_map (λ (m : SmallMap (SchemaNode K R)). length m.names) b.properties) (option_map (λ (x : Patterns R (SchemaNode K R)). length (zip x.patterns.items x.nodes.items)) b.patterns) n k
+  pub is_additional_properties : (k : KeywordOver K R N) (P L : Path) (rest : Option N) (b : Beside R N) (n : Option Name) → IsFormOfAdditionalProperties P L rest b n k → IsAdditionalProperties P L (is_some rest) (option_map (λ (m : SmallMap N). length m.names) b.properties) (option_map (λ (x : Patterns R N). length (zip x.patterns.items x.nodes.items)) b.patterns) n k
   is_additional_properties (keyword.AdditionalProperties k) P L rest b n form = (ap is_some form.0, map_for b.properties k.value.properties form.1, many_patterns b.patterns k.value form.2, form.3, form.4)
   is_additional_properties k P L rest b n form = absurd form
 
   -- ---- the parts
 
-  module _ (L : Path) (t : Taken R (SchemaNode K R)) (P : Path) (p : Planned) where
+  module _ (L : Path) (t : Taken R N) (P : Path) (p : Planned) where
     -- of a schema, whose node this is
-    pub part_of_rest : (before ns : List (SchemaNode K R)) (n : SchemaNode K R) (ks : List (KeywordOver K R (SchemaNode K R))) → ns ≡ before ++ n ∷ [] → MakesRestriction o L (Some n) t.beside P p ks → MakesPart o shape.AdditionalProperties L ns t P p ks
+    pub part_of_rest : (before ns : List N) (n : N) (ks : List (KeywordOver K R N)) → ns ≡ before ++ n ∷ [] → MakesRestriction o answers L (Some n) t.beside P p ks → MakesPart o answers shape.AdditionalProperties L ns t P p ks
     part_of_rest before ns n ks split make ms m place named fits stand cases beside distinct there chosen untaken =
-        subst (λ k. KeywordsMean o ms ks (claims (head p) (listed ms) (k, m.1)) ((k, m.1) ∷ []) P) (sym named.0)
-        (make ms m.1 (place ∙ ap (λ k. P // k) named.0) (named.1, by before (subst (λ l. StandAt o Itself l m.1 L) split stand)) (beside refl) distinct (ap (λ k. lookup k (listed ms)) (sym named.0) ∙ there) chosen)
+        subst (λ k. KeywordsMean o answers ms ks (claims (head p) (listed ms) (k, m.1)) ((k, m.1) ∷ []) P) (sym named.0)
+        (make ms m.1 (place ∙ ap (λ k. P // k) named.0) (named.1, by before (subst (λ l. StandAt o answers Itself l m.1 L) split stand)) (beside refl) distinct (ap (λ k. lookup k (listed ms)) (sym named.0) ∙ there) chosen)
       where
-        by : (before : List (SchemaNode K R)) → StandAt o Itself (before ++ n ∷ []) m.1 L → StandsFor o n m.1 L
+        by : (before : List N) → StandAt o answers Itself (before ++ n ∷ []) m.1 L → Stands o answers n m.1 L
         by [] h = h
         by (x ∷ []) h = absurd h
         by (x ∷ y ∷ before) h = absurd h
 
-    pub part_of_no_rest : (ns : List (SchemaNode K R)) (ks : List (KeywordOver K R (SchemaNode K R))) → ns ≡ [] → MakesPart o shape.AdditionalProperties L ns t P p ks
-    part_of_no_rest ns ks none ms m place named fits stand cases beside distinct there chosen untaken = absurd (subst (λ l. StandAt o Itself l m.1 L) none stand)
+    pub part_of_no_rest : (ns : List N) (ks : List (KeywordOver K R N)) → ns ≡ [] → MakesPart o answers shape.AdditionalProperties L ns t P p ks
+    part_of_no_rest ns ks none ms m place named fits stand cases beside distinct there chosen untaken = absurd (subst (λ l. StandAt o answers Itself l m.1 L) none stand)
 
     -- of `false`
-    pub part_of_no_others : (ns : List (SchemaNode K R)) (ks : List (KeywordOver K R (SchemaNode K R))) → MakesRestriction o L None t.beside P p ks → MakesPart o shape.NoOthers L ns t P p ks
+    pub part_of_no_others : (ns : List N) (ks : List (KeywordOver K R N)) → MakesRestriction o answers L None t.beside P p ks → MakesPart o answers shape.NoOthers L ns t P p ks
     part_of_no_others ns ks make ms m place named fits stand cases beside distinct there chosen untaken =
-        subst (λ k. KeywordsMean o ms ks (claims (head p) (listed ms) (k, m.1)) ((k, m.1) ∷ []) P) (sym named.0)
+        subst (λ k. KeywordsMean o answers ms ks (claims (head p) (listed ms) (k, m.1)) ((k, m.1) ∷ []) P) (sym named.0)
         (make ms m.1 (place ∙ ap (λ k. P // k) named.0) named.1 (beside refl) distinct (ap (λ k. lookup k (listed ms)) (sym named.0) ∙ there) chosen)
 
     -- of `true`
-    pub part_of_any_others : (ns : List (SchemaNode K R)) → MakesPart o shape.AnyOthers L ns t P p []
+    pub part_of_any_others : (ns : List N) → MakesPart o answers shape.AnyOthers L ns t P p []
     part_of_any_others ns ms m place named fits stand cases beside distinct there chosen untaken =
         let allows = allowed m.1 named.1 in
         let free = ap is_restriction (ap (λ k. lookup k (listed ms)) (sym named.0) ∙ there) ∙ allows in
         let nothing = allowing_means_nothing o.world ms m.1 allows free in
-        subst₂ (λ q k. KeywordsMean o ms [] (claims (head q) (listed ms) (k, m.1)) ((k, m.1) ∷ []) P) (sym chosen) (sym named.0)
-        (subst (λ rows. KeywordsMean o ms [] rows ((codes "additionalProperties", m.1) ∷ []) P) (sym (claims_itself ms distinct (head (plan_of ms)) (codes "additionalProperties", m.1) (heads_elsewhere (plan_of ms) (codes "additionalProperties") refl refl (λ e. (refl, refl)) (free_takes_nothing ms (codes "additionalProperties") free)) (ap (λ k. lookup k (listed ms)) (sym named.0) ∙ there))) record {
+        subst₂ (λ q k. KeywordsMean o answers ms [] (claims (head q) (listed ms) (k, m.1)) ((k, m.1) ∷ []) P) (sym chosen) (sym named.0)
+        (subst (λ rows. KeywordsMean o answers ms [] rows ((codes "additionalProperties", m.1) ∷ []) P) (sym (claims_itself ms distinct (head (plan_of ms)) (codes "additionalProperties", m.1) (heads_elsewhere (plan_of ms) (codes "additionalProperties") refl refl (λ e. (refl, refl)) (free_takes_nothing ms (codes "additionalProperties") free)) (ap (λ k. lookup k (listed ms)) (sym named.0) ∙ there))) record {
           covers = record {
             verdict = λ u v. sym (and_true _ ∙ nothing.verdict u v);
             asks_within = λ u v. omega arith;

@@ -25,9 +25,7 @@ use Rattle.olk_tree.specs.Answers.{validator_means, validator_report, validator_
 use Rattle.olk_tree.specs.Shown.{branch_trees, if_tree}
 use Rattle.olk_tree.specs.declared.node.KeywordOver.{KeywordOver}
 use Rattle.olk_tree.specs.declared.node.KeywordOver.TheVariants as keyword
-use Rattle.olk_node.specs.Nodes.{answers}
-use Rattle.olk_node.specs.Stands.{StandsFor}
-use Rattle.olk_node.specs.declared.node.SchemaNode.{SchemaNode}
+use Rattle.olk_tree.specs.Places.{Answers, Stands}
 use Rattle.olk_members.specs.Members.{member_accepts, member_asks, member_report, member_child}
 use Rattle.olk_members.specs.Conditions.{is_condition}
 use Rattle.olk_members.specs.Plans.{Planned, plan_of, is_case, tells_members, head, claims}
@@ -56,40 +54,40 @@ pub if_of_form : {K R N : Type 0} (r : Option (KeywordOver K R N)) (L : Path) (n
 if_of_form None L n cs f = tt
 if_of_form (Some k) L n cs f = form_is_if L n cs.then_schema cs.else_schema k f
 
-module _ {K R : Type 0} (o : Kit K R) where
+module _ {K R N : Type 0} (o : Kit K R) (answers : N → Answers) where
   -- ---- what stands where the condition says, or nothing
 
-  abbrev Case : Path → SchemaNode K R → Data → Type 0
-  Case L n d = StandsFor o n d L
+  abbrev Case : Path → N → Data → Type 0
+  Case L n d = Stands o answers n d L
 
-  abbrev case_question : Option (SchemaNode K R) → Data → Question
+  abbrev case_question : Option N → Data → Question
   case_question None v = always true
-  case_question (Some n) v = (answers o n).means v
+  case_question (Some n) v = (answers n).means v
 
-  abbrev case_found : Bool → Option (SchemaNode K R) → Data → Path → List Fault
+  abbrev case_found : Bool → Option N → Data → Path → List Fault
   case_found u None v Q = []
-  case_found u (Some n) v Q = (answers o n).report u v Q
+  case_found u (Some n) v Q = (answers n).report u v Q
 
-  module _ (L : Path) (n : SchemaNode K R) where
-    form_means : (t e : Option (SchemaNode K R)) (k : KeywordOver K R (SchemaNode K R)) → IsFormOfIf L n t e k → (v : Data) → question o k v ≡ conditional ((answers o n).means v) (case_question t v) (case_question e v)
+  module _ (L : Path) (n : N) where
+    form_means : (t e : Option N) (k : KeywordOver K R N) → IsFormOfIf L n t e k → (v : Data) → question o answers k v ≡ conditional ((answers n).means v) (case_question t v) (case_question e v)
     unfolding validator_means
-    form_means (Some t) None (keyword.IfThen k) f v = λ i. conditional ((answers o (f.0 i)).means v) ((answers o (f.1 i)).means v) (always true)
-    form_means None (Some e) (keyword.IfElse k) f v = λ i. conditional ((answers o (f.0 i)).means v) (always true) ((answers o (f.1 i)).means v)
-    form_means (Some t) (Some e) (keyword.IfThenElse k) f v = λ i. conditional ((answers o (f.0 i)).means v) ((answers o (f.1 i)).means v) ((answers o (f.2 i)).means v)
+    form_means (Some t) None (keyword.IfThen k) f v = λ i. conditional ((answers (f.0 i)).means v) ((answers (f.1 i)).means v) (always true)
+    form_means None (Some e) (keyword.IfElse k) f v = λ i. conditional ((answers (f.0 i)).means v) (always true) ((answers (f.1 i)).means v)
+    form_means (Some t) (Some e) (keyword.IfThenElse k) f v = λ i. conditional ((answers (f.0 i)).means v) ((answers (f.1 i)).means v) ((answers (f.2 i)).means v)
     form_means t e k f v = absurd f
 
-    form_finds : (t e : Option (SchemaNode K R)) (k : KeywordOver K R (SchemaNode K R)) → IsFormOfIf L n t e k → (u : Bool) (v : Data) (Q : Path) → found o u k v Q ≡ cond (((answers o n).means v).accepts u) (case_found u t v Q) (case_found u e v Q)
+    form_finds : (t e : Option N) (k : KeywordOver K R N) → IsFormOfIf L n t e k → (u : Bool) (v : Data) (Q : Path) → found o answers u k v Q ≡ cond (((answers n).means v).accepts u) (case_found u t v Q) (case_found u e v Q)
     unfolding validator_report
-    form_finds (Some t) None (keyword.IfThen k) f u v Q = λ i. cond (((answers o (f.0 i)).means v).accepts u) ((answers o (f.1 i)).report u v Q) []
-    form_finds None (Some e) (keyword.IfElse k) f u v Q = λ i. cond (((answers o (f.0 i)).means v).accepts u) [] ((answers o (f.1 i)).report u v Q)
-    form_finds (Some t) (Some e) (keyword.IfThenElse k) f u v Q = λ i. cond (((answers o (f.0 i)).means v).accepts u) ((answers o (f.1 i)).report u v Q) ((answers o (f.2 i)).report u v Q)
+    form_finds (Some t) None (keyword.IfThen k) f u v Q = λ i. cond (((answers (f.0 i)).means v).accepts u) ((answers (f.1 i)).report u v Q) []
+    form_finds None (Some e) (keyword.IfElse k) f u v Q = λ i. cond (((answers (f.0 i)).means v).accepts u) [] ((answers (f.1 i)).report u v Q)
+    form_finds (Some t) (Some e) (keyword.IfThenElse k) f u v Q = λ i. cond (((answers (f.0 i)).means v).accepts u) ((answers (f.1 i)).report u v Q) ((answers (f.2 i)).report u v Q)
     form_finds t e k f u v Q = absurd f
 
-    form_shows : (t e : Option (SchemaNode K R)) (k : KeywordOver K R (SchemaNode K R)) → IsFormOfIf L n t e k → (u : Bool) (v : Data) (Q : Path) → shown o u k v Q ≡ if_tree (λ n. (answers o n).tree u) v Q (((answers o n).means v).accepts u) L n (option_to_list t) (option_to_list e)
+    form_shows : (t e : Option N) (k : KeywordOver K R N) → IsFormOfIf L n t e k → (u : Bool) (v : Data) (Q : Path) → shown o answers u k v Q ≡ if_tree (λ n. (answers n).tree u) v Q (((answers n).means v).accepts u) L n (option_to_list t) (option_to_list e)
     unfolding validator_tree
-    form_shows (Some t) None (keyword.IfThen k) f u v Q = λ i. if_tree (λ n. (answers o n).tree u) v Q (((answers o (f.0 i)).means v).accepts u) (f.2 i) (f.0 i) (f.1 i ∷ []) []
-    form_shows None (Some e) (keyword.IfElse k) f u v Q = λ i. if_tree (λ n. (answers o n).tree u) v Q (((answers o (f.0 i)).means v).accepts u) (f.2 i) (f.0 i) [] (f.1 i ∷ [])
-    form_shows (Some t) (Some e) (keyword.IfThenElse k) f u v Q = λ i. if_tree (λ n. (answers o n).tree u) v Q (((answers o (f.0 i)).means v).accepts u) (f.3 i) (f.0 i) (f.1 i ∷ []) (f.2 i ∷ [])
+    form_shows (Some t) None (keyword.IfThen k) f u v Q = λ i. if_tree (λ n. (answers n).tree u) v Q (((answers (f.0 i)).means v).accepts u) (f.2 i) (f.0 i) (f.1 i ∷ []) []
+    form_shows None (Some e) (keyword.IfElse k) f u v Q = λ i. if_tree (λ n. (answers n).tree u) v Q (((answers (f.0 i)).means v).accepts u) (f.2 i) (f.0 i) [] (f.1 i ∷ [])
+    form_shows (Some t) (Some e) (keyword.IfThenElse k) f u v Q = λ i. if_tree (λ n. (answers n).tree u) v Q (((answers (f.0 i)).means v).accepts u) (f.3 i) (f.0 i) (f.1 i ∷ []) (f.2 i ∷ [])
     form_shows t e k f u v Q = absurd f
 
   -- ---- what the schema there says, or nothing
@@ -111,25 +109,25 @@ module _ {K R : Type 0} (o : Kit K R) where
     case_trees None L Q = []
     case_trees (Some d) L Q = tree o.world u d v L Q ∷ []
 
-    case_accepts : (t : Option (SchemaNode K R)) (a : Option Data) (L : Path) → Fills (Case L) t a → (case_question t v).accepts u ≡ case_verdict a
+    case_accepts : (t : Option N) (a : Option Data) (L : Path) → Fills (Case L) t a → (case_question t v).accepts u ≡ case_verdict a
     case_accepts None None L h = refl
     case_accepts (Some n) (Some d) L h = h.verdict u v
     case_accepts None (Some d) L h = absurd h
     case_accepts (Some n) None L h = absurd h
 
-    case_asks : (t : Option (SchemaNode K R)) (a : Option Data) (L : Path) → Fills (Case L) t a → (case_question t v).asks u ≤ case_asked a
+    case_asks : (t : Option N) (a : Option Data) (L : Path) → Fills (Case L) t a → (case_question t v).asks u ≤ case_asked a
     case_asks None None L h = omega arith
     case_asks (Some n) (Some d) L h = h.asks_within u v
     case_asks None (Some d) L h = absurd h
     case_asks (Some n) None L h = absurd h
 
-    case_finds : (t : Option (SchemaNode K R)) (a : Option Data) (L Q : Path) → Fills (Case L) t a → case_found u t v Q ∼ case_report a L Q
+    case_finds : (t : Option N) (a : Option Data) (L Q : Path) → Fills (Case L) t a → case_found u t v Q ∼ case_report a L Q
     case_finds None None L Q h = like_empty
     case_finds (Some n) (Some d) L Q h = h.faults u v Q
     case_finds None (Some d) L Q h = absurd h
     case_finds (Some n) None L Q h = absurd h
 
-    case_shows : (t : Option (SchemaNode K R)) (a : Option Data) (L Q : Path) → Fills (Case L) t a → branch_trees (λ n. (answers o n).tree u) v Q (option_to_list t) ≡ case_trees a L Q
+    case_shows : (t : Option N) (a : Option Data) (L Q : Path) → Fills (Case L) t a → branch_trees (λ n. (answers n).tree u) v Q (option_to_list t) ≡ case_trees a L Q
     case_shows None None L Q h = refl
     case_shows (Some n) (Some d) L Q h = ap (λ t. t ∷ []) (h.evaluation u v Q)
     case_shows None (Some d) L Q h = absurd h
@@ -218,8 +216,8 @@ module _ {K R : Type 0} (o : Kit K R) where
     abbrev three : List (Name × Data)
     three = (codes "if", d) ∷ rows (codes "then") at_then ++ rows (codes "else") at_else
 
-    module _ (L : Path) (n : SchemaNode K R) (t e : Option (SchemaNode K R)) (k : KeywordOver K R (SchemaNode K R)) (place : L ≡ P // codes "if") (form : IsFormOfIf L n t e k) (stands : StandsFor o n d L) (then_stands : Fills (Case (P // codes "then")) t at_then) (else_stands : Fills (Case (P // codes "else")) e at_else) where
-      mean_together : Covers o ms (k ∷ []) three P
+    module _ (L : Path) (n : N) (t e : Option N) (k : KeywordOver K R N) (place : L ≡ P // codes "if") (form : IsFormOfIf L n t e k) (stands : Stands o answers n d L) (then_stands : Fills (Case (P // codes "then")) t at_then) (else_stands : Fills (Case (P // codes "else")) e at_else) where
+      mean_together : Covers o answers ms (k ∷ []) three P
       mean_together = record {
         verdict = λ u v. and_true _ ∙ ap (λ q. q.accepts u) (form_means L n t e k form v)
             ∙ (λ i. cond (stands.verdict u v i) (case_accepts u v t at_then (P // codes "then") then_stands i) (case_accepts u v e at_else (P // codes "else") else_stands i))
@@ -227,8 +225,8 @@ module _ {K R : Type 0} (o : Kit K R) where
             ∙ (λ i. sym (then_accepts ms d there u v at_then) i && sym (else_accepts ms d there u v at_else) i)
             ∙ sym (list_all-append (row_accepts ms d there u v) (rows (codes "then") at_then) (rows (codes "else") at_else));
         asks_within = λ u v.
-            let q = ap (λ q. q.asks u) (form_means L n t e k form v) ∙ ap (λ b. ((answers o n).means v).asks u + cond b ((case_question t v).asks u) ((case_question e v).asks u)) (stands.verdict u v) in
-            let w = one_asked (tested ms d there u v) (((answers o n).means v).asks u) ((case_question t v).asks u) ((case_question e v).asks u) (asks o.world u d v) (case_asked u v at_then) (case_asked u v at_else) (stands.asks_within u v) (case_asks u v t at_then (P // codes "then") then_stands) (case_asks u v e at_else (P // codes "else") else_stands) in
+            let q = ap (λ q. q.asks u) (form_means L n t e k form v) ∙ ap (λ b. ((answers n).means v).asks u + cond b ((case_question t v).asks u) ((case_question e v).asks u)) (stands.verdict u v) in
+            let w = one_asked (tested ms d there u v) (((answers n).means v).asks u) ((case_question t v).asks u) ((case_question e v).asks u) (asks o.world u d v) (case_asked u v at_then) (case_asked u v at_else) (stands.asks_within u v) (case_asks u v t at_then (P // codes "then") then_stands) (case_asks u v e at_else (P // codes "else") else_stands) in
             let s = sum_by-cons (row_asks ms d there u v) (codes "if", d) (rows (codes "then") at_then ++ rows (codes "else") at_else) in
             let r = sum_by-append (row_asks ms d there u v) (rows (codes "then") at_then) (rows (codes "else") at_else) in
             let i = fact.if_asks_beside o.world ms u v d there read_here in
@@ -241,7 +239,7 @@ module _ {K R : Type 0} (o : Kit K R) where
             (one_found (tested ms d there u v) _ _ _ _ (case_finds u v t at_then (P // codes "then") Q then_stands) (case_finds u v e at_else (P // codes "else") Q else_stands));
       }
 
-      shown_together : (u : Bool) (v : Data) (Q : Path) → shown o u k v Q ∷ [] ≡ flat_map (λ m. member_child o.world ms m (which o ms m) u v P Q) ((codes "if", d) ∷ [])
+      shown_together : (u : Bool) (v : Data) (Q : Path) → shown o answers u k v Q ∷ [] ≡ flat_map (λ m. member_child o.world ms m (which o ms m) u v P Q) ((codes "if", d) ∷ [])
       shown_together u v Q =
           ap (λ t. t ∷ []) (form_shows L n t e k form u v Q
           ∙ (λ i. plain (place i) Q (cond (stands.verdict u v i) (subst_tree u v Q i ∷ case_shows u v t at_then (P // codes "then") Q then_stands i) (case_shows u v e at_else (P // codes "else") Q else_stands i)))
@@ -249,12 +247,12 @@ module _ {K R : Type 0} (o : Kit K R) where
           ∙ (λ i. put_if (tested ms d there u v) (tree o.world u d v (P // codes "if") Q) [] ++ sym (shown_where u v (tested ms d there u v) at_then (P // codes "then") Q) i ++ sym (shown_where u v (not (tested ms d there u v)) at_else (P // codes "else") Q) i)))
           ∙ sym (append-nil _ ∙ fact.if_shows_beside o.world ms u v d read_here P Q)
         where
-          subst_tree : (u : Bool) (v : Data) (Q : Path) → (answers o n).tree u v Q ≡ tree o.world u d v (P // codes "if") Q
+          subst_tree : (u : Bool) (v : Data) (Q : Path) → (answers n).tree u v Q ≡ tree o.world u d v (P // codes "if") Q
           subst_tree u v Q = stands.evaluation u v Q ∙ ap (λ M. tree o.world u d v M Q) place
 
       -- `if` means itself, `then` and `else`
-      pub means_condition : (p : Planned) → p.condition ≡ true → KeywordsMean o ms (k ∷ []) (claims (head p) (listed ms) (codes "if", d)) ((codes "if", d) ∷ []) P
-      means_condition p e = means_permuted o ms P (k ∷ []) three (claims (head p) (listed ms) (codes "if", d)) ((codes "if", d) ∷ [])
+      pub means_condition : (p : Planned) → p.condition ≡ true → KeywordsMean o answers ms (k ∷ []) (claims (head p) (listed ms) (codes "if", d)) ((codes "if", d) ∷ []) P
+      means_condition p e = means_permuted o answers ms P (k ∷ []) three (claims (head p) (listed ms) (codes "if", d)) ((codes "if", d) ∷ [])
           (subst (λ l. IsPermutation l (claims (head p) (listed ms) (codes "if", d)))
           (λ i. (codes "if", d) ∷ members_found ms distinct (codes "then") at_then refl i ++ members_found ms distinct (codes "else") at_else refl i)
           (claims_condition ms distinct p e d there))
@@ -266,36 +264,36 @@ module _ {K R : Type 0} (o : Kit K R) where
   none_stands None L h = refl
   none_stands (Some d) L h = absurd h
 
-  pub makes_condition : (k : KeywordOver K R (SchemaNode K R)) (L : Path) (n : SchemaNode K R) (cs : Cases (SchemaNode K R)) → IsFormOfIf L n cs.then_schema cs.else_schema k → MakesCondition o L n cs (k ∷ [])
+  pub makes_condition : (k : KeywordOver K R N) (L : Path) (n : N) (cs : Cases N) → IsFormOfIf L n cs.then_schema cs.else_schema k → MakesCondition o answers L n cs (k ∷ [])
   makes_condition k L n cs form ms d P place stands cases distinct there read_here = means_condition ms P distinct d there read_here L n cs.then_schema cs.else_schema k place form stands cases.0 cases.1 (plan_of ms) read_here
 
   -- where there is neither, `if` is not read
-  pub makes_no_condition : (L : Path) (n : SchemaNode K R) (cs : Cases (SchemaNode K R)) → cs.then_schema ≡ None → cs.else_schema ≡ None → MakesCondition o L n cs []
+  pub makes_no_condition : (L : Path) (n : N) (cs : Cases N) → cs.then_schema ≡ None → cs.else_schema ≡ None → MakesCondition o answers L n cs []
   makes_no_condition L n cs p q ms d P place stands cases distinct there read_here =
       let a = none_stands (lookup (codes "then") (listed ms)) (P // codes "then") (subst (λ t. Fills (Case (P // codes "then")) t (lookup (codes "then") (listed ms))) p cases.0) in
       let b = none_stands (lookup (codes "else") (listed ms)) (P // codes "else") (subst (λ t. Fills (Case (P // codes "else")) t (lookup (codes "else") (listed ms))) q cases.1) in
       absurd (true≢false (sym read_here ∙ (λ i. is_some (there i) && (is_some (a i) || is_some (b i)))))
 
-  pub makes_if : (r : Option (KeywordOver K R (SchemaNode K R))) (L : Path) (n : SchemaNode K R) (cs : Cases (SchemaNode K R)) → IfNone r (cs.then_schema ≡ None) → IfNone r (cs.else_schema ≡ None) → IfSome r (IsFormOfIf L n cs.then_schema cs.else_schema) → MakesCondition o L n cs (option_to_list r)
+  pub makes_if : (r : Option (KeywordOver K R N)) (L : Path) (n : N) (cs : Cases N) → IfNone r (cs.then_schema ≡ None) → IfNone r (cs.else_schema ≡ None) → IfSome r (IsFormOfIf L n cs.then_schema cs.else_schema) → MakesCondition o answers L n cs (option_to_list r)
   makes_if None L n cs p q form = makes_no_condition L n cs p q
   makes_if (Some k) L n cs p q form = makes_condition k L n cs form
 
   -- the part of `if`, whose node this is
-  pub part_of_if : (L : Path) (before ns : List (SchemaNode K R)) (n : SchemaNode K R) (t : Taken R (SchemaNode K R)) (P : Path) (p : Planned) (ks : List (KeywordOver K R (SchemaNode K R))) → ns ≡ before ++ n ∷ [] → MakesCondition o L n t.cases ks → MakesPart o shape.If L ns t P p ks
+  pub part_of_if : (L : Path) (before ns : List N) (n : N) (t : Taken R N) (P : Path) (p : Planned) (ks : List (KeywordOver K R N)) → ns ≡ before ++ n ∷ [] → MakesCondition o answers L n t.cases ks → MakesPart o answers shape.If L ns t P p ks
   part_of_if L before ns n t P p ks split make ms m place named fits stand cases beside distinct there chosen untaken =
-      subst (λ q. KeywordsMean o ms ks (claims (head q) (listed ms) m) (m ∷ []) P) (sym chosen)
-      (subst (λ k. KeywordsMean o ms ks (claims (head (plan_of ms)) (listed ms) (k, m.1)) ((k, m.1) ∷ []) P) (sym named)
-      (make ms m.1 P (place ∙ ap (λ k. P // k) named) (by before (subst (λ l. StandAt o Itself l m.1 L) split stand)) (cases refl) distinct (ap (λ k. lookup k (listed ms)) (sym named) ∙ there) fits))
+      subst (λ q. KeywordsMean o answers ms ks (claims (head q) (listed ms) m) (m ∷ []) P) (sym chosen)
+      (subst (λ k. KeywordsMean o answers ms ks (claims (head (plan_of ms)) (listed ms) (k, m.1)) ((k, m.1) ∷ []) P) (sym named)
+      (make ms m.1 P (place ∙ ap (λ k. P // k) named) (by before (subst (λ l. StandAt o answers Itself l m.1 L) split stand)) (cases refl) distinct (ap (λ k. lookup k (listed ms)) (sym named) ∙ there) fits))
     where
-      by : (before : List (SchemaNode K R)) → StandAt o Itself (before ++ n ∷ []) m.1 L → StandsFor o n m.1 L
+      by : (before : List N) → StandAt o answers Itself (before ++ n ∷ []) m.1 L → Stands o answers n m.1 L
       by [] h = h
       by (x ∷ []) h = absurd h
       by (x ∷ y ∷ before) h = absurd h
 
-  pub part_of_no_if : (L : Path) (ns : List (SchemaNode K R)) (t : Taken R (SchemaNode K R)) (P : Path) (p : Planned) (ks : List (KeywordOver K R (SchemaNode K R))) → ns ≡ [] → MakesPart o shape.If L ns t P p ks
-  part_of_no_if L ns t P p ks none ms m place named fits stand cases beside distinct there chosen untaken = absurd (subst (λ l. StandAt o Itself l m.1 L) none stand)
+  pub part_of_no_if : (L : Path) (ns : List N) (t : Taken R N) (P : Path) (p : Planned) (ks : List (KeywordOver K R N)) → ns ≡ [] → MakesPart o answers shape.If L ns t P p ks
+  part_of_no_if L ns t P p ks none ms m place named fits stand cases beside distinct there chosen untaken = absurd (subst (λ l. StandAt o answers Itself l m.1 L) none stand)
 
-  module _ (L : Path) (ns : List (SchemaNode K R)) (t : Taken R (SchemaNode K R)) (P : Path) (p : Planned) (ks : List (KeywordOver K R (SchemaNode K R))) where
+  module _ (L : Path) (ns : List N) (t : Taken R N) (P : Path) (p : Planned) (ks : List (KeywordOver K R N)) where
     case_is_taken : (ms : Members) (k : Name) → is_case k ≡ true → is_condition ms ≡ true → p ≡ plan_of ms → is_taken p k ≡ false → {X : Type 0} → X
     case_is_taken ms k case fits chosen untaken = absurd (true≢false (sym ((λ i. (p.restricted && tells_members k) || (ap (λ q. q.condition) chosen ∙ fits) i && case i) ∙ or_true (p.restricted && tells_members k)) ∙ untaken))
       where
@@ -304,18 +302,18 @@ module _ {K R : Type 0} (o : Kit K R) where
         or_true false = refl
 
     -- what `if` takes does not stay
-    pub part_of_then : MakesPart o shape.Then L ns t P p ks
+    pub part_of_then : MakesPart o answers shape.Then L ns t P p ks
     part_of_then ms m place named fits stand cases beside distinct there chosen untaken = case_is_taken ms (codes "then") refl fits chosen (ap (is_taken p) (sym named) ∙ untaken)
 
-    pub part_of_else : MakesPart o shape.Else L ns t P p ks
+    pub part_of_else : MakesPart o answers shape.Else L ns t P p ks
     part_of_else ms m place named fits stand cases beside distinct there chosen untaken = case_is_taken ms (codes "else") refl fits chosen (ap (is_taken p) (sym named) ∙ untaken)
 
   -- none of the three has a keyword of its own where `if` is not read
-  pub part_of_unpaired : (L : Path) (ns : List (SchemaNode K R)) (t : Taken R (SchemaNode K R)) (P : Path) (p : Planned) → MakesPart o shape.Unpaired L ns t P p []
+  pub part_of_unpaired : (L : Path) (ns : List N) (t : Taken R N) (P : Path) (p : Planned) → MakesPart o answers shape.Unpaired L ns t P p []
   part_of_unpaired L ns t P p ms m place named fits stand cases beside distinct there chosen untaken =
       let nothing = fact.unpaired_means_nothing o.world ms m named fits (ap is_some there) in
-      subst (λ q. KeywordsMean o ms [] (claims (head q) (listed ms) m) (m ∷ []) P) (sym chosen)
-      (subst (λ rows. KeywordsMean o ms [] rows (m ∷ []) P) (sym (claims_itself ms distinct (head (plan_of ms)) m (heads_elsewhere (plan_of ms) m.0 (apart_from (codes "properties") refl refl refl) (apart_from (codes "required") refl refl refl) (λ e. absurd (true≢false (sym e ∙ fits)))
+      subst (λ q. KeywordsMean o answers ms [] (claims (head q) (listed ms) m) (m ∷ []) P) (sym chosen)
+      (subst (λ rows. KeywordsMean o answers ms [] rows (m ∷ []) P) (sym (claims_itself ms distinct (head (plan_of ms)) m (heads_elsewhere (plan_of ms) m.0 (apart_from (codes "properties") refl refl refl) (apart_from (codes "required") refl refl refl) (λ e. absurd (true≢false (sym e ∙ fits)))
       (never_taken (plan_of ms) m.0 (apart_from (codes "additionalProperties") refl refl refl) (apart_from (codes "properties") refl refl refl) (apart_from (codes "patternProperties") refl refl refl) (apart_from (codes "required") refl refl refl))) there)) record {
         covers = record {
           verdict = λ u v. sym (and_true _ ∙ nothing.verdict u v);

@@ -24,10 +24,7 @@ use Rattle.olk_tree.specs.Answers.{beside, due_nodes, validator_means, validator
 use Rattle.olk_tree.specs.declared.map.SmallMap.{SmallMap}
 use Rattle.olk_tree.specs.declared.node.KeywordOver.{KeywordOver}
 use Rattle.olk_tree.specs.declared.node.KeywordOver.TheVariants as keyword
-use Rattle.olk_node.specs.Nodes.{answers}
-use Rattle.olk_node.specs.Stands.{StandsFor}
-use Rattle.olk_node.specs.declared.node.SchemaNode.{SchemaNode}
-use Rattle.olk_node.proofs.Layers.{node_means, node_finds, node_shows}
+use Rattle.olk_tree.specs.Places.{Answers, Stands}
 use Rattle.olk_read.specs.Lists.{list_of, names_in, names_in_list}
 use Rattle.olk_make.specs.Forms.{IsListAt, AreListsAt, AreInOrder}
 use Rattle.olk_make.specs.Holding.{StandEach}
@@ -45,7 +42,7 @@ list_answers = record {
   shown = λ u e v L Q. erring L Q (required_faults (texts e.1) v L Q);
 }
 
-module _ {K R : Type 0} (o : Kit K R) where
+module _ {K R N : Type 0} (o : Kit K R) (answers : N → Answers) where
   -- an entry of `dependencies` is a list or a schema
   abbrev dependency_answers : EntryAnswers
   dependency_answers = record {
@@ -57,57 +54,57 @@ module _ {K R : Type 0} (o : Kit K R) where
 
   -- the nodes of the entries that are due
   module _ (w : EntryAnswers) where
-    due_answer : (v : Data) (ns : List (SchemaNode K R)) (es : List (Name × Data)) (L : Path) → AnswerEach o w ns es L → AnswerEach o w (due_nodes (beside (map (λ e. e.0) es) ns) v) (those (λ e. has e.0 v) es) L
+    due_answer : (v : Data) (ns : List N) (es : List (Name × Data)) (L : Path) → AnswerEach o answers w ns es L → AnswerEach o answers w (due_nodes (beside (map (λ e. e.0) es) ns) v) (those (λ e. has e.0 v) es) L
     due_answer v [] [] L h = tt
     due_answer v [] (e ∷ es) L h = absurd h
     due_answer v (n ∷ ns) [] L h = absurd h
     due_answer v (n ∷ ns) (e ∷ es) L h = by (has e.0 v) (due_answer v ns es L h.1)
       where
-        by : (b : Bool) → AnswerEach o w (due_nodes (beside (map (λ e. e.0) es) ns) v) (those (λ e. has e.0 v) es) L
-            → AnswerEach o w (map (λ e. e.1) (put_if b (e.0, n) (those (λ e. has e.0 v) (beside (map (λ e. e.0) es) ns)))) (put_if b e (those (λ e. has e.0 v) es)) L
+        by : (b : Bool) → AnswerEach o answers w (due_nodes (beside (map (λ e. e.0) es) ns) v) (those (λ e. has e.0 v) es) L
+            → AnswerEach o answers w (map (λ e. e.1) (put_if b (e.0, n) (those (λ e. has e.0 v) (beside (map (λ e. e.0) es) ns)))) (put_if b e (those (λ e. has e.0 v) es)) L
         by true k = (h.0, k)
         by false k = k
 
   -- ---- the validator
 
-  abbrev pub dependencies_of : SmallMap (SchemaNode K R) → Path → KeywordOver K R (SchemaNode K R)
+  abbrev pub dependencies_of : SmallMap N → Path → KeywordOver K R N
   dependencies_of m L = keyword.Dependencies (record { dependencies = m; location = L })
 
-  module _ (w : EntryAnswers) (m : SmallMap (SchemaNode K R)) (L : Path) (es : List (Name × Data)) (names : m.names ≡ map (λ e. e.0) es) (each : AnswerEach o w m.nodes.items es L) (u : Bool) (v : Data) where
-    abbrev due_of : List Name → List (SchemaNode K R)
+  module _ (w : EntryAnswers) (m : SmallMap N) (L : Path) (es : List (Name × Data)) (names : m.names ≡ map (λ e. e.0) es) (each : AnswerEach o answers w m.nodes.items es L) (u : Bool) (v : Data) where
+    abbrev due_of : List Name → List N
     due_of ks = due_nodes (beside ks m.nodes.items) v
 
     abbrev due : List (Name × Data)
     due = those (λ e. has e.0 v) es
 
-    dues : AnswerEach o w (due_of (map (λ e. e.0) es)) due L
+    dues : AnswerEach o answers w (due_of (map (λ e. e.0) es)) due L
     dues = due_answer w v m.nodes.items es L each
 
-    due_accept : (question o (dependencies_of m L) v).accepts u ≡ list_all (λ e. w.verdict u e v) due
+    due_accept : (question o answers (dependencies_of m L) v).accepts u ≡ list_all (λ e. w.verdict u e v) due
     unfolding validator_means
-    due_accept = ap (λ ks. (every (λ n. (answers o n).means v) (due_of ks)).accepts u) names ∙ each_accept o w u v (due_of (map (λ e. e.0) es)) due L dues
+    due_accept = ap (λ ks. (every (λ n. (answers n).means v) (due_of ks)).accepts u) names ∙ each_accept o answers w u v (due_of (map (λ e. e.0) es)) due L dues
 
-    due_ask : (question o (dependencies_of m L) v).asks u ≤ sum_by (λ e. w.asked u e v) due
+    due_ask : (question o answers (dependencies_of m L) v).asks u ≤ sum_by (λ e. w.asked u e v) due
     unfolding validator_means
-    due_ask = subst (λ ks. (every (λ n. (answers o n).means v) (due_of ks)).asks u ≤ sum_by (λ e. w.asked u e v) due) (sym names) (each_ask o w u v (due_of (map (λ e. e.0) es)) due L dues)
+    due_ask = subst (λ ks. (every (λ n. (answers n).means v) (due_of ks)).asks u ≤ sum_by (λ e. w.asked u e v) due) (sym names) (each_ask o answers w u v (due_of (map (λ e. e.0) es)) due L dues)
 
-    due_find : (Q : Path) → found o u (dependencies_of m L) v Q ∼ flat_map (λ e. w.faults u e v L Q) due
+    due_find : (Q : Path) → found o answers u (dependencies_of m L) v Q ∼ flat_map (λ e. w.faults u e v L Q) due
     unfolding validator_report
-    due_find Q = subst (λ ks. flat_map (λ n. (answers o n).report u v Q) (due_of ks) ∼ flat_map (λ e. w.faults u e v L Q) due) (sym names) (each_find o w u v Q (due_of (map (λ e. e.0) es)) due L dues)
+    due_find Q = subst (λ ks. flat_map (λ n. (answers n).report u v Q) (due_of ks) ∼ flat_map (λ e. w.faults u e v L Q) due) (sym names) (each_find o answers w u v Q (due_of (map (λ e. e.0) es)) due L dues)
 
-    due_show : (Q : Path) → shown o u (dependencies_of m L) v Q ≡ plain L Q (map (λ e. w.shown u e v L Q) due)
+    due_show : (Q : Path) → shown o answers u (dependencies_of m L) v Q ≡ plain L Q (map (λ e. w.shown u e v L Q) due)
     unfolding validator_tree
-    due_show Q = ap (λ ks. plain L Q (map (λ n. (answers o n).tree u v Q) (due_of ks))) names ∙ ap (plain L Q) (each_show o w u v Q (due_of (map (λ e. e.0) es)) due L dues)
+    due_show Q = ap (λ ks. plain L Q (map (λ n. (answers n).tree u v Q) (due_of ks))) names ∙ ap (plain L Q) (each_show o answers w u v Q (due_of (map (λ e. e.0) es)) due L dues)
 
   -- ---- the three keywords
 
-  module _ (m : SmallMap (SchemaNode K R)) (L : Path) (d : Data) (names : m.names ≡ map (λ e. e.0) (members d)) (ms : Members) (P : Path) where
-    pub means_dependent_required : are_lists d ≡ true → AnswerEach o list_answers m.nodes.items (members d) L → L ≡ P // codes "dependentRequired" → KeywordMeans o ms (dependencies_of m L ∷ []) (codes "dependentRequired", d) P
+  module _ (m : SmallMap N) (L : Path) (d : Data) (names : m.names ≡ map (λ e. e.0) (members d)) (ms : Members) (P : Path) where
+    pub means_dependent_required : are_lists d ≡ true → AnswerEach o answers list_answers m.nodes.items (members d) L → L ≡ P // codes "dependentRequired" → KeywordMeans o answers ms (dependencies_of m L ∷ []) (codes "dependentRequired", d) P
     means_dependent_required lists each p = record {
-      holds = one o ms (dependencies_of m L) (codes "dependentRequired", d) dependent_required P
+      holds = one o answers ms (dependencies_of m L) (codes "dependentRequired", d) dependent_required P
           (λ u v. due_accept list_answers m L (members d) names each u v ∙ sym (fact.dependent_required_accepts o.world ms d u v lists))
           (λ u v. same_within _ _ _ (due_ask list_answers m L (members d) names each u v) (fact.dependent_required_asks o.world ms d u v ∙ sym (no_sum (due_entries d v))))
-          (λ u v Q. subst (λ fs. found o u (dependencies_of m L) v Q ∼ fs) (ap (λ M. flat_map (λ e. required_faults (texts e.1) v M Q) (due_entries d v)) p ∙ sym (fact.dependent_required_report o.world ms d u v lists P Q)) (due_find list_answers m L (members d) names each u v Q));
+          (λ u v Q. subst (λ fs. found o answers u (dependencies_of m L) v Q ∼ fs) (ap (λ M. flat_map (λ e. required_faults (texts e.1) v M Q) (due_entries d v)) p ∙ sym (fact.dependent_required_report o.world ms d u v lists P Q)) (due_find list_answers m L (members d) names each u v Q));
       shows = λ u h v Q. ap (λ t. t ∷ []) (due_show list_answers m L (members d) names each u v Q ∙ ap (λ M. plain M Q (map (λ e. erring M Q (required_faults (texts e.1) v M Q)) (due_entries d v))) p) ∙ sym (fact.dependent_required_child o.world ms d u v lists P Q);
     }
       where
@@ -115,38 +112,38 @@ module _ {K R : Type 0} (o : Kit K R) where
         no_sum [] = refl
         no_sum (e ∷ es) = sum_by-cons (λ e. 0) e es ∙ ap (λ n. 0 + n) (no_sum es)
 
-    pub means_dependent_schemas : AnswerEach o (schema_answers o) m.nodes.items (members d) L → L ≡ P // codes "dependentSchemas" → KeywordMeans o ms (dependencies_of m L ∷ []) (codes "dependentSchemas", d) P
+    pub means_dependent_schemas : AnswerEach o answers (schema_answers o answers) m.nodes.items (members d) L → L ≡ P // codes "dependentSchemas" → KeywordMeans o answers ms (dependencies_of m L ∷ []) (codes "dependentSchemas", d) P
     means_dependent_schemas each p = record {
-      holds = one o ms (dependencies_of m L) (codes "dependentSchemas", d) dependent_schemas P
-          (λ u v. due_accept (schema_answers o) m L (members d) names each u v ∙ sym (fact.dependent_schemas_accepts o.world ms d u v))
-          (λ u v. same_within _ _ _ (due_ask (schema_answers o) m L (members d) names each u v) (fact.dependent_schemas_asks o.world ms d u v))
-          (λ u v Q. subst (λ fs. found o u (dependencies_of m L) v Q ∼ fs) (ap (λ M. flat_map (λ e. report o.world u e.1 v (M // e.0) Q) (due_entries d v)) p ∙ sym (fact.dependent_schemas_report o.world ms d u v P Q)) (due_find (schema_answers o) m L (members d) names each u v Q));
-      shows = λ u h v Q. ap (λ t. t ∷ []) (due_show (schema_answers o) m L (members d) names each u v Q ∙ ap (λ M. plain M Q (map (λ e. tree o.world u e.1 v (M // e.0) Q) (due_entries d v))) p) ∙ sym (fact.dependent_schemas_child o.world ms d u v P Q);
+      holds = one o answers ms (dependencies_of m L) (codes "dependentSchemas", d) dependent_schemas P
+          (λ u v. due_accept (schema_answers o answers) m L (members d) names each u v ∙ sym (fact.dependent_schemas_accepts o.world ms d u v))
+          (λ u v. same_within _ _ _ (due_ask (schema_answers o answers) m L (members d) names each u v) (fact.dependent_schemas_asks o.world ms d u v))
+          (λ u v Q. subst (λ fs. found o answers u (dependencies_of m L) v Q ∼ fs) (ap (λ M. flat_map (λ e. report o.world u e.1 v (M // e.0) Q) (due_entries d v)) p ∙ sym (fact.dependent_schemas_report o.world ms d u v P Q)) (due_find (schema_answers o answers) m L (members d) names each u v Q));
+      shows = λ u h v Q. ap (λ t. t ∷ []) (due_show (schema_answers o answers) m L (members d) names each u v Q ∙ ap (λ M. plain M Q (map (λ e. tree o.world u e.1 v (M // e.0) Q) (due_entries d v))) p) ∙ sym (fact.dependent_schemas_child o.world ms d u v P Q);
     }
 
-    pub means_dependencies : AnswerEach o dependency_answers m.nodes.items (members d) L → L ≡ P // codes "dependencies" → KeywordMeans o ms (dependencies_of m L ∷ []) (codes "dependencies", d) P
+    pub means_dependencies : AnswerEach o answers dependency_answers m.nodes.items (members d) L → L ≡ P // codes "dependencies" → KeywordMeans o answers ms (dependencies_of m L ∷ []) (codes "dependencies", d) P
     means_dependencies each p = record {
-      holds = one o ms (dependencies_of m L) (codes "dependencies", d) dependencies P
+      holds = one o answers ms (dependencies_of m L) (codes "dependencies", d) dependencies P
           (λ u v. due_accept dependency_answers m L (members d) names each u v ∙ sym (fact.dependencies_accepts o.world ms d u v))
           (λ u v. same_within _ _ _ (due_ask dependency_answers m L (members d) names each u v) (fact.dependencies_asks o.world ms d u v))
-          (λ u v Q. like_through (subst (λ fs. found o u (dependencies_of m L) v Q ∼ fs) (ap (λ M. flat_map (λ e. dependency_report o.world u e v M Q) (due_entries d v)) p) (due_find dependency_answers m L (members d) names each u v Q)) (∼_sym (fact.dependencies_report o.world ms d u v P Q)));
+          (λ u v Q. like_through (subst (λ fs. found o answers u (dependencies_of m L) v Q ∼ fs) (ap (λ M. flat_map (λ e. dependency_report o.world u e v M Q) (due_entries d v)) p) (due_find dependency_answers m L (members d) names each u v Q)) (∼_sym (fact.dependencies_report o.world ms d u v P Q)));
       shows = λ u h v Q. ap (λ t. t ∷ []) (due_show dependency_answers m L (members d) names each u v Q ∙ ap (λ M. plain M Q (map (λ e. dependency_shown o.world u e v M Q) (due_entries d v))) p) ∙ sym (fact.dependencies_child o.world ms d u v P Q);
     }
 
   -- ---- what is made of lists and nodes
 
-  list_answer : (v : Vec (String Global) Global) (n : SchemaNode K R) (e : Name × Data) (L : Path) → IsListAt L v n → names_in v ≡ texts e.1 → AnswersFor o list_answers n e L
+  list_answer : (v : Vec (String Global) Global) (n : N) (e : Name × Data) (L : Path) → IsListAt o answers L v n → names_in v ≡ texts e.1 → AnswersFor o answers list_answers n e L
   list_answer v n e L is same = record {
     verdict = λ u x. ap (λ q. q.accepts u) (means x);
     asks_within = λ u x. let q = ap (λ q. q.asks u) (means x) in omega (arith, q);
-    faults = λ u x Q. ∼_same (node_finds o n u x Q ∙ (λ i. body_report (validator_report o (λ z. (answers o z).means) (λ z. (answers o z).report) u) (is.0 i) (is.1 i) x Q) ∙ ap (λ ns. required_faults ns x L Q) same);
-    evaluation = λ u x Q. node_shows o n u x Q ∙ (λ i. body_tree (validator_tree o (λ z. (answers o z).means) (λ z. (answers o z).tree) u) (is.0 i) (is.1 i) x Q) ∙ ap (λ ns. erring L Q (required_faults ns x L Q)) same;
+    faults = λ u x Q. ∼_same (is.faults u x Q ∙ ap (λ ns. required_faults ns x L Q) same);
+    evaluation = λ u x Q. is.evaluation u x Q ∙ ap (λ ns. erring L Q (required_faults ns x L Q)) same;
   }
     where
-      means : (x : Data) → (answers o n).means x ≡ always (is_empty (missing (texts e.1) x))
-      means x = node_means o n x ∙ ap (λ b. body_means (validator_means o (λ z. (answers o z).means)) b x) is.1 ∙ ap (λ ns. always (is_empty (missing ns x))) same
+      means : (x : Data) → (answers n).means x ≡ always (is_empty (missing (texts e.1) x))
+      means x = is.verdict x ∙ ap (λ ns. always (is_empty (missing ns x))) same
 
-  lists_answer : (vs : List (Vec (String Global) Global)) (ns : List (SchemaNode K R)) (es : List (Name × Data)) (L : Path) → AreListsAt L vs ns → map names_in vs ≡ map (λ e. texts e.1) es → AnswerEach o list_answers ns es L
+  lists_answer : (vs : List (Vec (String Global) Global)) (ns : List N) (es : List (Name × Data)) (L : Path) → AreListsAt o answers L vs ns → map names_in vs ≡ map (λ e. texts e.1) es → AnswerEach o answers list_answers ns es L
   lists_answer [] [] [] L h q = tt
   lists_answer [] [] (e ∷ es) L h q = absurd (true≢false (ap is_empty q))
   lists_answer [] (n ∷ ns) es L h q = absurd h
@@ -155,66 +152,66 @@ module _ {K R : Type 0} (o : Kit K R) where
   lists_answer (v ∷ vs) (n ∷ ns) (e ∷ es) L h q = (list_answer v n e L h.0 (ap (λ l. get_or l 0 []) q), lists_answer vs ns es L h.1 (ap (drop 1) q))
 
   -- the node of a list, or of a schema, is that of an entry of `dependencies`
-  list_is_dependency : (n : SchemaNode K R) (e : Name × Data) (L : Path) → is_array e.1 ≡ true → AnswersFor o list_answers n e L → AnswersFor o dependency_answers n e L
+  list_is_dependency : (n : N) (e : Name × Data) (L : Path) → is_array e.1 ≡ true → AnswersFor o answers list_answers n e L → AnswersFor o answers dependency_answers n e L
   list_is_dependency n e L a h = record {
     verdict = λ u v. h.verdict u v ∙ ap (λ b. cond b (is_empty (missing (texts e.1) v)) (accepts o.world u e.1 v)) (sym a);
-    asks_within = λ u v. subst (λ b. ((answers o n).means v).asks u ≤ cond b 0 (asks o.world u e.1 v)) (sym a) (h.asks_within u v);
-    faults = λ u v Q. subst (λ b. (answers o n).report u v Q ∼ cond b (required_faults (texts e.1) v L Q) (report o.world u e.1 v (L // e.0) Q)) (sym a) (h.faults u v Q);
+    asks_within = λ u v. subst (λ b. ((answers n).means v).asks u ≤ cond b 0 (asks o.world u e.1 v)) (sym a) (h.asks_within u v);
+    faults = λ u v Q. subst (λ b. (answers n).report u v Q ∼ cond b (required_faults (texts e.1) v L Q) (report o.world u e.1 v (L // e.0) Q)) (sym a) (h.faults u v Q);
     evaluation = λ u v Q. h.evaluation u v Q ∙ ap (λ b. cond b (erring L Q (required_faults (texts e.1) v L Q)) (tree o.world u e.1 v (L // e.0) Q)) (sym a);
   }
 
-  schema_is_dependency : (n : SchemaNode K R) (e : Name × Data) (L : Path) → is_array e.1 ≡ false → AnswersFor o (schema_answers o) n e L → AnswersFor o dependency_answers n e L
+  schema_is_dependency : (n : N) (e : Name × Data) (L : Path) → is_array e.1 ≡ false → AnswersFor o answers (schema_answers o answers) n e L → AnswersFor o answers dependency_answers n e L
   schema_is_dependency n e L a h = record {
     verdict = λ u v. h.verdict u v ∙ ap (λ b. cond b (is_empty (missing (texts e.1) v)) (accepts o.world u e.1 v)) (sym a);
-    asks_within = λ u v. subst (λ b. ((answers o n).means v).asks u ≤ cond b 0 (asks o.world u e.1 v)) (sym a) (h.asks_within u v);
-    faults = λ u v Q. subst (λ b. (answers o n).report u v Q ∼ cond b (required_faults (texts e.1) v L Q) (report o.world u e.1 v (L // e.0) Q)) (sym a) (h.faults u v Q);
+    asks_within = λ u v. subst (λ b. ((answers n).means v).asks u ≤ cond b 0 (asks o.world u e.1 v)) (sym a) (h.asks_within u v);
+    faults = λ u v Q. subst (λ b. (answers n).report u v Q ∼ cond b (required_faults (texts e.1) v L Q) (report o.world u e.1 v (L // e.0) Q)) (sym a) (h.faults u v Q);
     evaluation = λ u v Q. h.evaluation u v Q ∙ ap (λ b. cond b (erring L Q (required_faults (texts e.1) v L Q)) (tree o.world u e.1 v (L // e.0) Q)) (sym a);
   }
 
   abbrev schemas_among : List (Name × Data) → List (Name × Data)
   schemas_among es = those (λ e. not (is_array e.1)) es
 
-  dependencies_answer : (vs : List (Option (Vec (String Global) Global))) (schemas ns : List (SchemaNode K R)) (es : List (Name × Data)) (L : Path) → AreInOrder L vs schemas ns → map names_in_list vs ≡ map (λ e. list_of e.1) es → StandEach o schemas (schemas_among es) L → AnswerEach o dependency_answers ns es L
-  dependencies_answer [] schemas ns [] L h q stand = subst (λ l. AnswerEach o dependency_answers l [] L) (sym h) tt
+  dependencies_answer : (vs : List (Option (Vec (String Global) Global))) (schemas ns : List N) (es : List (Name × Data)) (L : Path) → AreInOrder o answers L vs schemas ns → map names_in_list vs ≡ map (λ e. list_of e.1) es → StandEach o answers schemas (schemas_among es) L → AnswerEach o answers dependency_answers ns es L
+  dependencies_answer [] schemas ns [] L h q stand = subst (λ l. AnswerEach o answers dependency_answers l [] L) (sym h) tt
   dependencies_answer [] schemas ns (e ∷ es) L h q stand = absurd (true≢false (ap is_empty q))
   dependencies_answer (v ∷ vs) schemas ns [] L h q stand = absurd (true≢false (sym (ap is_empty q)))
   dependencies_answer (v ∷ vs) schemas ns (e ∷ es) L h q stand =
       by v (is_array e.1) refl schemas ns h (ap (λ l. get_or l 0 None) q) stand (λ rest others g k. dependencies_answer vs rest others es L g (ap (drop 1) q) k)
     where
-      by : (v : Option (Vec (String Global) Global)) (b : Bool) → is_array e.1 ≡ b → (schemas ns : List (SchemaNode K R)) → AreInOrder L (v ∷ vs) schemas ns → names_in_list v ≡ cond b (Some (texts e.1)) None → StandEach o schemas (put_if (not b) e (schemas_among es)) L
-          → ((schemas ns : List (SchemaNode K R)) → AreInOrder L vs schemas ns → StandEach o schemas (schemas_among es) L → AnswerEach o dependency_answers ns es L) → AnswerEach o dependency_answers ns (e ∷ es) L
+      by : (v : Option (Vec (String Global) Global)) (b : Bool) → is_array e.1 ≡ b → (schemas ns : List N) → AreInOrder o answers L (v ∷ vs) schemas ns → names_in_list v ≡ cond b (Some (texts e.1)) None → StandEach o answers schemas (put_if (not b) e (schemas_among es)) L
+          → ((schemas ns : List N) → AreInOrder o answers L vs schemas ns → StandEach o answers schemas (schemas_among es) L → AnswerEach o answers dependency_answers ns es L) → AnswerEach o answers dependency_answers ns (e ∷ es) L
       by (Some v) true a schemas [] h same stand later = absurd h
       by (Some v) true a schemas (n ∷ ns) h same stand later = (list_is_dependency n e L a (list_answer v n e L h.0 (ap (λ x. unwrap_or x []) same)), later schemas ns h.1 stand)
       by None false a [] ns h same stand later = absurd stand
       by None false a (s ∷ schemas) [] h same stand later = absurd h
-      by None false a (s ∷ schemas) (n ∷ ns) h same stand later = (schema_is_dependency n e L a (schema_answer o n e L (subst (λ x. StandsFor o x e.1 (L // e.0)) (sym h.0) stand.0)), later schemas ns h.1 stand.1)
+      by None false a (s ∷ schemas) (n ∷ ns) h same stand later = (schema_is_dependency n e L a (schema_answer o answers n e L (subst (λ x. Stands o answers x e.1 (L // e.0)) (sym h.0) stand.0)), later schemas ns h.1 stand.1)
       by (Some v) false a schemas ns h same stand later = absurd (true≢false (ap is_some same))
       by None true a schemas ns h same stand later = absurd (true≢false (sym (ap is_some same)))
 
-  pub makes_dependent_required : (m : SmallMap (SchemaNode K R)) (lists : Vec (Vec (String Global) Global) Global) (L : Path) → AreListsAt L lists.items m.nodes.items → MakesMember o (shape.DependentRequired m.names lists) L [] (dependencies_of m L ∷ [])
-  makes_dependent_required m lists L is ms x P p s h = subst (λ n. KeywordMeans o ms (dependencies_of m L ∷ []) (n, x.1) P) (sym s.0)
+  pub makes_dependent_required : (m : SmallMap N) (lists : Vec (Vec (String Global) Global) Global) (L : Path) → AreListsAt o answers L lists.items m.nodes.items → MakesMember o answers (shape.DependentRequired m.names lists) L [] (dependencies_of m L ∷ [])
+  makes_dependent_required m lists L is ms x P p s h = subst (λ n. KeywordMeans o answers ms (dependencies_of m L ∷ []) (n, x.1) P) (sym s.0)
       (means_dependent_required m L x.1 s.2 ms P s.3 (lists_answer lists.items m.nodes.items (members x.1) L is s.4) (p ∙ ap (λ n. P // n) s.0))
 
-  pub makes_dependent_schemas : (m : SmallMap (SchemaNode K R)) (L : Path) → MakesMember o (shape.DependentSchemas m.names) L m.nodes.items (dependencies_of m L ∷ [])
-  makes_dependent_schemas m L ms x P p s h = subst (λ n. KeywordMeans o ms (dependencies_of m L ∷ []) (n, x.1) P) (sym s.0)
-      (means_dependent_schemas m L x.1 s.2 ms P (schemas_answer o m.nodes.items (members x.1) L h) (p ∙ ap (λ n. P // n) s.0))
+  pub makes_dependent_schemas : (m : SmallMap N) (L : Path) → MakesMember o answers (shape.DependentSchemas m.names) L m.nodes.items (dependencies_of m L ∷ [])
+  makes_dependent_schemas m L ms x P p s h = subst (λ n. KeywordMeans o answers ms (dependencies_of m L ∷ []) (n, x.1) P) (sym s.0)
+      (means_dependent_schemas m L x.1 s.2 ms P (schemas_answer o answers m.nodes.items (members x.1) L h) (p ∙ ap (λ n. P // n) s.0))
 
-  pub makes_dependencies : (m : SmallMap (SchemaNode K R)) (lists : Vec (Option (Vec (String Global) Global)) Global) (schemas : List (SchemaNode K R)) (L : Path) → AreInOrder L lists.items schemas m.nodes.items → MakesMember o (shape.Dependencies m.names lists) L schemas (dependencies_of m L ∷ [])
-  makes_dependencies m lists schemas L is ms x P p s h = subst (λ n. KeywordMeans o ms (dependencies_of m L ∷ []) (n, x.1) P) (sym s.0)
+  pub makes_dependencies : (m : SmallMap N) (lists : Vec (Option (Vec (String Global) Global)) Global) (schemas : List N) (L : Path) → AreInOrder o answers L lists.items schemas m.nodes.items → MakesMember o answers (shape.Dependencies m.names lists) L schemas (dependencies_of m L ∷ [])
+  makes_dependencies m lists schemas L is ms x P p s h = subst (λ n. KeywordMeans o answers ms (dependencies_of m L ∷ []) (n, x.1) P) (sym s.0)
       (means_dependencies m L x.1 s.2 ms P (dependencies_answer lists.items schemas m.nodes.items (members x.1) L is s.3 h) (p ∙ ap (λ n. P // n) s.0))
 
 -- ---- nodes in order, made one after the other
 
 -- made of the lists and of the schemas' nodes that are left
-abbrev pub MadeInOrder : {K R : Type 0} → Path → List (Option (Vec (String Global) Global)) × List (SchemaNode K R) → List (SchemaNode K R) → Type 0
-MadeInOrder L x ns = AreInOrder L x.0 x.1 ns
+abbrev pub MadeInOrder : {K R N : Type 0} → Kit K R → (N → Answers) → Path → List (Option (Vec (String Global) Global)) × List N → List N → Type 0
+MadeInOrder o answers L x ns = AreInOrder o answers L x.0 x.1 ns
 
-module _ {K R : Type 0} (L : Path) (left after : List (Option (Vec (String Global) Global))) (schemas others rest : List (SchemaNode K R)) where
-  pub list_next : (v : Vec (String Global) Global) (n : SchemaNode K R) → left ≡ Some v ∷ after → IsListAt L v n → MadeInOrder L (after, schemas) rest → MadeInOrder L (left, schemas) (n ∷ rest)
-  list_next v n e is h = subst (λ ls. AreInOrder L ls schemas (n ∷ rest)) (sym e) (is, h)
+module _ {K R N : Type 0} (o : Kit K R) (answers : N → Answers) (L : Path) (left after : List (Option (Vec (String Global) Global))) (schemas others rest : List N) where
+  pub list_next : (v : Vec (String Global) Global) (n : N) → left ≡ Some v ∷ after → IsListAt o answers L v n → MadeInOrder o answers L (after, schemas) rest → MadeInOrder o answers L (left, schemas) (n ∷ rest)
+  list_next v n e is h = subst (λ ls. AreInOrder o answers L ls schemas (n ∷ rest)) (sym e) (is, h)
 
-  pub schema_next : (n : SchemaNode K R) → left ≡ None ∷ after → schemas ≡ n ∷ others → MadeInOrder L (after, others) rest → MadeInOrder L (left, schemas) (n ∷ rest)
-  schema_next n e s h = subst₂ (λ ls ns. AreInOrder L ls ns (n ∷ rest)) (sym e) (sym s) (refl, h)
+  pub schema_next : (n : N) → left ≡ None ∷ after → schemas ≡ n ∷ others → MadeInOrder o answers L (after, others) rest → MadeInOrder o answers L (left, schemas) (n ∷ rest)
+  schema_next n e s h = subst₂ (λ ls ns. AreInOrder o answers L ls ns (n ∷ rest)) (sym e) (sym s) (refl, h)
 
-  pub no_schema_next : left ≡ None ∷ after → schemas ≡ [] → others ≡ [] → MadeInOrder L (after, others) rest → MadeInOrder L (left, schemas) rest
-  no_schema_next e s o h = subst₂ (λ ls ns. AreInOrder L ls ns rest) (sym e) (sym s) (subst (λ ns. AreInOrder L after ns rest) o h)
+  pub no_schema_next : left ≡ None ∷ after → schemas ≡ [] → others ≡ [] → MadeInOrder o answers L (after, others) rest → MadeInOrder o answers L (left, schemas) rest
+  no_schema_next e s q h = subst₂ (λ ls ns. AreInOrder o answers L ls ns rest) (sym e) (sym s) (subst (λ ns. AreInOrder o answers L after ns rest) q h)

@@ -11,9 +11,7 @@ use Rattle.olk_spec.specs.Tree.{Tree}
 use Rattle.olk_spec.proofs.Order.{∼_append}
 use Rattle.olk_base.specs.Kit.{Kit}
 use Rattle.olk_tree.specs.Questions.{every}
-use Rattle.olk_node.specs.Nodes.{answers}
-use Rattle.olk_node.specs.Stands.{StandsFor}
-use Rattle.olk_node.specs.declared.node.SchemaNode.{SchemaNode}
+use Rattle.olk_tree.specs.Places.{Answers, Stands}
 use Rattle.olk_make.specs.Holding.{StandEach}
 
 pub sum_within : (a b c d e : ℕ) → a ≤ b → c ≤ d → e ≡ b + d → a + c ≤ e
@@ -26,40 +24,40 @@ pub record EntryAnswers : Type 0 where
   pub faults : Bool → Name × Data → Data → Path → Path → List Fault
   pub shown : Bool → Name × Data → Data → Path → Path → Tree
 
-module _ {K R : Type 0} (o : Kit K R) where
+module _ {K R N : Type 0} (o : Kit K R) (answers : N → Answers) where
   module _ (w : EntryAnswers) where
-    pub record AnswersFor (n : SchemaNode K R) (e : Name × Data) (L : Path) : Type 0 where
-      pub verdict : (u : Bool) (v : Data) → ((answers o n).means v).accepts u ≡ w.verdict u e v
-      pub asks_within : (u : Bool) (v : Data) → ((answers o n).means v).asks u ≤ w.asked u e v
-      pub faults : (u : Bool) (v : Data) (Q : Path) → (answers o n).report u v Q ∼ w.faults u e v L Q
-      pub evaluation : (u : Bool) (v : Data) (Q : Path) → (answers o n).tree u v Q ≡ w.shown u e v L Q
+    pub record AnswersFor (n : N) (e : Name × Data) (L : Path) : Type 0 where
+      pub verdict : (u : Bool) (v : Data) → ((answers n).means v).accepts u ≡ w.verdict u e v
+      pub asks_within : (u : Bool) (v : Data) → ((answers n).means v).asks u ≤ w.asked u e v
+      pub faults : (u : Bool) (v : Data) (Q : Path) → (answers n).report u v Q ∼ w.faults u e v L Q
+      pub evaluation : (u : Bool) (v : Data) (Q : Path) → (answers n).tree u v Q ≡ w.shown u e v L Q
 
-    abbrev pub AnswerEach : List (SchemaNode K R) → List (Name × Data) → Path → Type 0
+    abbrev pub AnswerEach : List N → List (Name × Data) → Path → Type 0
     AnswerEach [] [] L = ⊤
     AnswerEach [] (e ∷ es) L = ⊥
     AnswerEach (n ∷ ns) [] L = ⊥
     AnswerEach (n ∷ ns) (e ∷ es) L = AnswersFor n e L × AnswerEach ns es L
 
     module _ (u : Bool) (v : Data) where
-      pub each_accept : (ns : List (SchemaNode K R)) (es : List (Name × Data)) (L : Path) → AnswerEach ns es L → (every (λ n. (answers o n).means v) ns).accepts u ≡ list_all (λ e. w.verdict u e v) es
+      pub each_accept : (ns : List N) (es : List (Name × Data)) (L : Path) → AnswerEach ns es L → (every (λ n. (answers n).means v) ns).accepts u ≡ list_all (λ e. w.verdict u e v) es
       each_accept [] [] L h = refl
       each_accept [] (e ∷ es) L h = absurd h
       each_accept (n ∷ ns) [] L h = absurd h
       each_accept (n ∷ ns) (e ∷ es) L h = λ i. h.0.verdict u v i && each_accept ns es L h.1 i
 
-      pub each_ask : (ns : List (SchemaNode K R)) (es : List (Name × Data)) (L : Path) → AnswerEach ns es L → (every (λ n. (answers o n).means v) ns).asks u ≤ sum_by (λ e. w.asked u e v) es
+      pub each_ask : (ns : List N) (es : List (Name × Data)) (L : Path) → AnswerEach ns es L → (every (λ n. (answers n).means v) ns).asks u ≤ sum_by (λ e. w.asked u e v) es
       each_ask [] [] L h = omega arith
       each_ask [] (e ∷ es) L h = absurd h
       each_ask (n ∷ ns) [] L h = absurd h
       each_ask (n ∷ ns) (e ∷ es) L h = sum_within _ _ _ _ _ (h.0.asks_within u v) (each_ask ns es L h.1) (sum_by-cons (λ e. w.asked u e v) e es)
 
-      pub each_find : (Q : Path) (ns : List (SchemaNode K R)) (es : List (Name × Data)) (L : Path) → AnswerEach ns es L → flat_map (λ n. (answers o n).report u v Q) ns ∼ flat_map (λ e. w.faults u e v L Q) es
+      pub each_find : (Q : Path) (ns : List N) (es : List (Name × Data)) (L : Path) → AnswerEach ns es L → flat_map (λ n. (answers n).report u v Q) ns ∼ flat_map (λ e. w.faults u e v L Q) es
       each_find Q [] [] L h = like_empty
       each_find Q [] (e ∷ es) L h = absurd h
       each_find Q (n ∷ ns) [] L h = absurd h
       each_find Q (n ∷ ns) (e ∷ es) L h = ∼_append (h.0.faults u v Q) (each_find Q ns es L h.1)
 
-      pub each_show : (Q : Path) (ns : List (SchemaNode K R)) (es : List (Name × Data)) (L : Path) → AnswerEach ns es L → map (λ n. (answers o n).tree u v Q) ns ≡ map (λ e. w.shown u e v L Q) es
+      pub each_show : (Q : Path) (ns : List N) (es : List (Name × Data)) (L : Path) → AnswerEach ns es L → map (λ n. (answers n).tree u v Q) ns ≡ map (λ e. w.shown u e v L Q) es
       each_show Q [] [] L h = refl
       each_show Q [] (e ∷ es) L h = absurd h
       each_show Q (n ∷ ns) [] L h = absurd h
@@ -76,10 +74,10 @@ module _ {K R : Type 0} (o : Kit K R) where
     shown = λ u e v L Q. tree o.world u e.1 v (L // e.0) Q;
   }
 
-  pub schema_answer : (n : SchemaNode K R) (e : Name × Data) (L : Path) → StandsFor o n e.1 (L // e.0) → AnswersFor schema_answers n e L
+  pub schema_answer : (n : N) (e : Name × Data) (L : Path) → Stands o answers n e.1 (L // e.0) → AnswersFor schema_answers n e L
   schema_answer n e L h = record { verdict = h.verdict; asks_within = h.asks_within; faults = h.faults; evaluation = h.evaluation }
 
-  pub schemas_answer : (ns : List (SchemaNode K R)) (es : List (Name × Data)) (L : Path) → StandEach o ns es L → AnswerEach schema_answers ns es L
+  pub schemas_answer : (ns : List N) (es : List (Name × Data)) (L : Path) → StandEach o answers ns es L → AnswerEach schema_answers ns es L
   schemas_answer [] [] L h = tt
   schemas_answer [] (e ∷ es) L h = absurd h
   schemas_answer (n ∷ ns) [] L h = absurd h

@@ -32,9 +32,9 @@ use Rattle.olk_spec.proofs.Walks.{same_name}
 use Rattle.olk_base.specs.Kit.{Kit}
 use Rattle.olk_tree.specs.Questions.{Question, every, some}
 use Rattle.olk_tree.specs.Answers.{beside, named, names_in, nodes_in, mapped, validator_means, validator_report, validator_tree}
-use Rattle.olk_node.specs.Nodes.{answers}
+use Rattle.olk_tree.specs.Places.{Answers}
 use Rattle.olk_tree.specs.Shown.{missing_trees, properties_tree, branch_trees, any_of_tree}
-use Rattle.olk_node.specs.Stands.{StandsFor}
+use Rattle.olk_tree.specs.Places.{Stands}
 use Rattle.olk_members.specs.Conditions.{is_condition, is_restricted}
 use Rattle.olk_members.specs.Members.{member_accepts, member_asks, member_report, member_child, StandsAlone}
 use Rattle.olk_members.specs.Plans.{Planned, plan_of, is_case, tells_members, head, claims}
@@ -48,7 +48,6 @@ use Rattle.olk_tree.specs.declared.properties_map.PropertiesMap.TheVariants.{Sma
 use Rattle.olk_tree.specs.declared.properties.SmallPropertiesWithRequired2.{SmallPropertiesWithRequired2}
 use Rattle.olk_tree.specs.declared.node.KeywordOver.{KeywordOver}
 use Rattle.olk_tree.specs.declared.node.KeywordOver.TheVariants as keyword
-use Rattle.olk_node.specs.declared.node.SchemaNode.{SchemaNode}
 use Rattle.olk_members.proofs.Facts as fact
 use Rattle.olk_make.proofs.Entries.{sum_within, AnswerEach, each_accept, each_ask, each_find, each_show, schema_answers, schemas_answer}
 use Rattle.olk_make.proofs.Together.{means_alone, means_permuted}
@@ -71,119 +70,119 @@ with_nothing a b h = omega (arith, h)
 pub same_within : (a b c : ℕ) → a ≤ b → c ≡ b → a ≤ c
 same_within a b c h e = omega (arith, h, e)
 
-module _ {K R : Type 0} (o : Kit K R) where
-  abbrev pub question : KeywordOver K R (SchemaNode K R) → Data → Question
-  question k v = validator_means o (λ n. (answers o n).means) k v
+module _ {K R N : Type 0} (o : Kit K R) (answers : N → Answers) where
+  abbrev pub question : KeywordOver K R N → Data → Question
+  question k v = validator_means o (λ n. (answers n).means) k v
 
-  abbrev pub shown : Bool → KeywordOver K R (SchemaNode K R) → Data → Path → Tree
-  shown u k v Q = validator_tree o (λ n. (answers o n).means) (λ n. (answers o n).tree) u k v Q
+  abbrev pub shown : Bool → KeywordOver K R N → Data → Path → Tree
+  shown u k v Q = validator_tree o (λ n. (answers n).means) (λ n. (answers n).tree) u k v Q
 
-  abbrev pub found : Bool → KeywordOver K R (SchemaNode K R) → Data → Path → List Fault
-  found u k v Q = validator_report o (λ n. (answers o n).means) (λ n. (answers o n).report) u k v Q
+  abbrev pub found : Bool → KeywordOver K R N → Data → Path → List Fault
+  found u k v Q = validator_report o (λ n. (answers n).means) (λ n. (answers n).report) u k v Q
 
   -- ---- nodes that stand for schemas
 
-  module _ (n : SchemaNode K R) (S : Data) (L : Path) (h : StandsFor o n S L) (u : Bool) where
-    node_accepts : (xs : List Data) → (every (answers o n).means xs).accepts u ≡ list_all (accepts o.world u S) xs
+  module _ (n : N) (S : Data) (L : Path) (h : Stands o answers n S L) (u : Bool) where
+    node_accepts : (xs : List Data) → (every (answers n).means xs).accepts u ≡ list_all (accepts o.world u S) xs
     node_accepts [] = refl
     node_accepts (x ∷ xs) = λ i. h.verdict u x i && node_accepts xs i
 
-    node_asks : (xs : List Data) → (every (answers o n).means xs).asks u ≤ sum_by (asks o.world u S) xs
+    node_asks : (xs : List Data) → (every (answers n).means xs).asks u ≤ sum_by (asks o.world u S) xs
     node_asks [] = omega arith
     node_asks (x ∷ xs) = sum_within _ _ _ _ _ (h.asks_within u x) (node_asks xs) (sum_by-cons (asks o.world u S) x xs)
 
-    node_finds : (Q : Path) (xs : List Data) → flat_map (λ x. (answers o n).report u x Q) xs ∼ flat_map (λ x. report o.world u S x L Q) xs
-    node_finds Q xs = ∼_flat_map_any (λ x. (answers o n).report u x Q) (λ x. report o.world u S x L Q) (λ x. h.faults u x Q) xs
+    node_finds : (Q : Path) (xs : List Data) → flat_map (λ x. (answers n).report u x Q) xs ∼ flat_map (λ x. report o.world u S x L Q) xs
+    node_finds Q xs = ∼_flat_map_any (λ x. (answers n).report u x Q) (λ x. report o.world u S x L Q) (λ x. h.faults u x Q) xs
 
   module _ (u : Bool) (v : Data) where
-    abbrev each_at : Name × SchemaNode K R → Question
-    each_at e = every (answers o e.1).means (at e.0 v)
+    abbrev each_at : Name × N → Question
+    each_at e = every (answers e.1).means (at e.0 v)
 
-    members_accept : (ns : List (SchemaNode K R)) (es : List (Name × Data)) (L : Path) → StandEach o ns es L → (every each_at (beside (map (λ e. e.0) es) ns)).accepts u ≡ list_all (λ e. list_all (accepts o.world u e.1) (at e.0 v)) es
+    members_accept : (ns : List N) (es : List (Name × Data)) (L : Path) → StandEach o answers ns es L → (every each_at (beside (map (λ e. e.0) es) ns)).accepts u ≡ list_all (λ e. list_all (accepts o.world u e.1) (at e.0 v)) es
     members_accept [] [] L h = refl
     members_accept [] (e ∷ es) L h = absurd h
     members_accept (n ∷ ns) [] L h = absurd h
     members_accept (n ∷ ns) (e ∷ es) L h = λ i. node_accepts n e.1 (L // e.0) h.0 u (at e.0 v) i && members_accept ns es L h.1 i
 
-    members_ask : (ns : List (SchemaNode K R)) (es : List (Name × Data)) (L : Path) → StandEach o ns es L → (every each_at (beside (map (λ e. e.0) es) ns)).asks u ≤ sum_by (λ e. sum_by (asks o.world u e.1) (at e.0 v)) es
+    members_ask : (ns : List N) (es : List (Name × Data)) (L : Path) → StandEach o answers ns es L → (every each_at (beside (map (λ e. e.0) es) ns)).asks u ≤ sum_by (λ e. sum_by (asks o.world u e.1) (at e.0 v)) es
     members_ask [] [] L h = omega arith
     members_ask [] (e ∷ es) L h = absurd h
     members_ask (n ∷ ns) [] L h = absurd h
     members_ask (n ∷ ns) (e ∷ es) L h = sum_within _ _ _ _ _ (node_asks n e.1 (L // e.0) h.0 u (at e.0 v)) (members_ask ns es L h.1) (sum_by-cons (λ e. sum_by (asks o.world u e.1) (at e.0 v)) e es)
 
-    members_find : (Q : Path) (ns : List (SchemaNode K R)) (es : List (Name × Data)) (L : Path) → StandEach o ns es L → flat_map (λ e. flat_map (λ x. (answers o e.1).report u x (Q // e.0)) (at e.0 v)) (beside (map (λ e. e.0) es) ns) ∼ flat_map (λ e. flat_map (λ x. report o.world u e.1 x (L // e.0) (Q // e.0)) (at e.0 v)) es
+    members_find : (Q : Path) (ns : List N) (es : List (Name × Data)) (L : Path) → StandEach o answers ns es L → flat_map (λ e. flat_map (λ x. (answers e.1).report u x (Q // e.0)) (at e.0 v)) (beside (map (λ e. e.0) es) ns) ∼ flat_map (λ e. flat_map (λ x. report o.world u e.1 x (L // e.0) (Q // e.0)) (at e.0 v)) es
     members_find Q [] [] L h = like_empty
     members_find Q [] (e ∷ es) L h = absurd h
     members_find Q (n ∷ ns) [] L h = absurd h
     members_find Q (n ∷ ns) (e ∷ es) L h = ∼_append (node_finds n e.1 (L // e.0) h.0 u (Q // e.0) (at e.0 v)) (members_find Q ns es L h.1)
 
-    abbrev pub at_value : SchemaNode K R → Question
-    at_value n = (answers o n).means v
+    abbrev pub at_value : N → Question
+    at_value n = (answers n).means v
 
-    any_accept : (ns : List (SchemaNode K R)) (es : List (Name × Data)) (L : Path) → StandEach o ns es L → (some at_value ns).accepts u ≡ list_any (λ e. accepts o.world u e.1 v) es
+    any_accept : (ns : List N) (es : List (Name × Data)) (L : Path) → StandEach o answers ns es L → (some at_value ns).accepts u ≡ list_any (λ e. accepts o.world u e.1 v) es
     any_accept [] [] L h = refl
     any_accept [] (e ∷ es) L h = absurd h
     any_accept (n ∷ ns) [] L h = absurd h
     any_accept (n ∷ ns) (e ∷ es) L h = λ i. h.0.verdict u v i || any_accept ns es L h.1 i
 
-    pub any_ask : (ns : List (SchemaNode K R)) (es : List (Name × Data)) (L : Path) → StandEach o ns es L → (some at_value ns).asks u ≤ sum_by (λ e. asks o.world u e.1 v) es
+    pub any_ask : (ns : List N) (es : List (Name × Data)) (L : Path) → StandEach o answers ns es L → (some at_value ns).asks u ≤ sum_by (λ e. asks o.world u e.1 v) es
     any_ask [] [] L h = omega arith
     any_ask [] (e ∷ es) L h = absurd h
     any_ask (n ∷ ns) [] L h = absurd h
     any_ask (n ∷ ns) (e ∷ es) L h = sum_within _ _ _ _ _ (h.0.asks_within u v) (any_ask ns es L h.1) (sum_by-cons (λ e. asks o.world u e.1 v) e es)
 
-    pub any_context : (Q : Path) (ns : List (SchemaNode K R)) (es : List (Name × Data)) (L : Path) → StandEach o ns es L → IsLikeContext (context (map (λ n. (answers o n).report u v Q) ns)) (context (map (λ e. report o.world u e.1 v (L // e.0) Q) es))
+    pub any_context : (Q : Path) (ns : List N) (es : List (Name × Data)) (L : Path) → StandEach o answers ns es L → IsLikeContext (context (map (λ n. (answers n).report u v Q) ns)) (context (map (λ e. report o.world u e.1 v (L // e.0) Q) es))
     any_context Q [] [] L h = like_none
     any_context Q [] (e ∷ es) L h = absurd h
     any_context Q (n ∷ ns) [] L h = absurd h
-    any_context Q (n ∷ ns) (e ∷ es) L h = like_branch (subst₂ (λ x y. x ∼ y) (sym (faults_in-from ((answers o n).report u v Q))) (sym (faults_in-from (report o.world u e.1 v (L // e.0) Q))) (h.0.faults u v Q)) (any_context Q ns es L h.1)
+    any_context Q (n ∷ ns) (e ∷ es) L h = like_branch (subst₂ (λ x y. x ∼ y) (sym (faults_in-from ((answers n).report u v Q))) (sym (faults_in-from (report o.world u e.1 v (L // e.0) Q))) (h.0.faults u v Q)) (any_context Q ns es L h.1)
 
-    pub branches_show : (Q : Path) (ns : List (SchemaNode K R)) (es : List (Name × Data)) (L : Path) → StandEach o ns es L → map (λ n. (answers o n).tree u v Q) ns ≡ branches_shown o.world u v L Q es
-    branches_show Q ns es L h = each_show o (schema_answers o) u v Q ns es L (schemas_answer o ns es L h)
+    pub branches_show : (Q : Path) (ns : List N) (es : List (Name × Data)) (L : Path) → StandEach o answers ns es L → map (λ n. (answers n).tree u v Q) ns ≡ branches_shown o.world u v L Q es
+    branches_show Q ns es L h = each_show o answers (schema_answers o answers) u v Q ns es L (schemas_answer o answers ns es L h)
 
-    abbrev pub accepts_value : SchemaNode K R → Bool
-    accepts_value n = ((answers o n).means v).accepts u
+    abbrev pub accepts_value : N → Bool
+    accepts_value n = ((answers n).means v).accepts u
 
-    pub accepting_show : (Q : Path) (ns : List (SchemaNode K R)) (es : List (Name × Data)) (L : Path) → StandEach o ns es L → map (λ n. (answers o n).tree u v Q) (those accepts_value ns) ≡ branches_shown o.world u v L Q (accepting_branches o.world u v es)
+    pub accepting_show : (Q : Path) (ns : List N) (es : List (Name × Data)) (L : Path) → StandEach o answers ns es L → map (λ n. (answers n).tree u v Q) (those accepts_value ns) ≡ branches_shown o.world u v L Q (accepting_branches o.world u v es)
     accepting_show Q [] [] L h = refl
     accepting_show Q [] (e ∷ es) L h = absurd h
     accepting_show Q (n ∷ ns) [] L h = absurd h
-    accepting_show Q (n ∷ ns) (e ∷ es) L h = ap (λ b. map (λ n. (answers o n).tree u v Q) (put_if b n (those accepts_value ns))) (h.0.verdict u v) ∙ by (accepts o.world u e.1 v) (accepting_show Q ns es L h.1)
+    accepting_show Q (n ∷ ns) (e ∷ es) L h = ap (λ b. map (λ n. (answers n).tree u v Q) (put_if b n (those accepts_value ns))) (h.0.verdict u v) ∙ by (accepts o.world u e.1 v) (accepting_show Q ns es L h.1)
       where
-        by : (b : Bool) → map (λ n. (answers o n).tree u v Q) (those accepts_value ns) ≡ branches_shown o.world u v L Q (accepting_branches o.world u v es)
-            → map (λ n. (answers o n).tree u v Q) (put_if b n (those accepts_value ns)) ≡ branches_shown o.world u v L Q (put_if b e (accepting_branches o.world u v es))
+        by : (b : Bool) → map (λ n. (answers n).tree u v Q) (those accepts_value ns) ≡ branches_shown o.world u v L Q (accepting_branches o.world u v es)
+            → map (λ n. (answers n).tree u v Q) (put_if b n (those accepts_value ns)) ≡ branches_shown o.world u v L Q (put_if b e (accepting_branches o.world u v es))
         by true g = λ i. h.0.evaluation u v Q i ∷ g i
         by false g = g
 
-    any_show : (Q : Path) (ns : List (SchemaNode K R)) (es : List (Name × Data)) (L : Path) → StandEach o ns es L → any_of_tree (λ n. (answers o n).tree u) v Q accepts_value L ns ≡ any_shown o.world u v L Q es
+    any_show : (Q : Path) (ns : List N) (es : List (Name × Data)) (L : Path) → StandEach o answers ns es L → any_of_tree (λ n. (answers n).tree u) v Q accepts_value L ns ≡ any_shown o.world u v L Q es
     any_show Q ns es L h = λ i. cond (none i) (result L Q None true [] (branches_show Q ns es L h i)) (plain L Q (accepting_show Q ns es L h i))
       where
         none : is_empty (those accepts_value ns) ≡ is_empty (accepting_branches o.world u v es)
-        none = sym (is_empty-map (λ n. (answers o n).tree u v Q) (those accepts_value ns)) ∙ ap is_empty (accepting_show Q ns es L h) ∙ is_empty-map (λ e. tree o.world u e.1 v (L // e.0) Q) (accepting_branches o.world u v es)
+        none = sym (is_empty-map (λ n. (answers n).tree u v Q) (those accepts_value ns)) ∙ ap is_empty (accepting_show Q ns es L h) ∙ is_empty-map (λ e. tree o.world u e.1 v (L // e.0) Q) (accepting_branches o.world u v es)
 
-    beside_names : (ns : List (SchemaNode K R)) (es : List (Name × Data)) (L : Path) → StandEach o ns es L → map {A = Name × SchemaNode K R} (λ e. e.0) (beside (map (λ e. e.0) es) ns) ≡ map {A = Name × Data} (λ e. e.0) es
+    beside_names : (ns : List N) (es : List (Name × Data)) (L : Path) → StandEach o answers ns es L → map {A = Name × N} (λ e. e.0) (beside (map (λ e. e.0) es) ns) ≡ map {A = Name × Data} (λ e. e.0) es
     beside_names [] [] L h = refl
     beside_names [] (e ∷ es) L h = absurd h
     beside_names (n ∷ ns) [] L h = absurd h
     beside_names (n ∷ ns) (e ∷ es) L h = ap (λ ks. e.0 ∷ ks) (beside_names ns es L h.1)
 
-    member_shows : (Q : Path) (m : Name × Data) (ns : List (SchemaNode K R)) (es : List (Name × Data)) (L : Path) → StandEach o ns es L → map (λ n. (answers o n).tree u m.1 (Q // m.0)) (option_to_list (lookup m.0 (beside (map (λ e. e.0) es) ns))) ≡ shown_at o.world u v L Q es m
+    member_shows : (Q : Path) (m : Name × Data) (ns : List N) (es : List (Name × Data)) (L : Path) → StandEach o answers ns es L → map (λ n. (answers n).tree u m.1 (Q // m.0)) (option_to_list (lookup m.0 (beside (map (λ e. e.0) es) ns))) ≡ shown_at o.world u v L Q es m
     member_shows Q m [] [] L h = refl
     member_shows Q m [] (e ∷ es) L h = absurd h
     member_shows Q m (n ∷ ns) [] L h = absurd h
     member_shows Q m (n ∷ ns) (e ∷ es) L h = by (slice_cmp nat_cmp m.0 e.0) (is_eq-slice_cmp m.0 e.0) (member_shows Q m ns es L h.1)
       where
-        by : (c : Ordering) → is_eq c ≡ bytes_eq m.0 e.0 → map (λ n. (answers o n).tree u m.1 (Q // m.0)) (option_to_list (lookup m.0 (beside (map (λ e. e.0) es) ns))) ≡ shown_at o.world u v L Q es m
-            → map (λ n. (answers o n).tree u m.1 (Q // m.0)) (option_to_list (first_if_equal c n (lookup m.0 (beside (map (λ e. e.0) es) ns)))) ≡ map (λ d. tree o.world u d m.1 (L // m.0) (Q // m.0)) (option_to_list (first_if_equal c e.1 (lookup m.0 es)))
+        by : (c : Ordering) → is_eq c ≡ bytes_eq m.0 e.0 → map (λ n. (answers n).tree u m.1 (Q // m.0)) (option_to_list (lookup m.0 (beside (map (λ e. e.0) es) ns))) ≡ shown_at o.world u v L Q es m
+            → map (λ n. (answers n).tree u m.1 (Q // m.0)) (option_to_list (first_if_equal c n (lookup m.0 (beside (map (λ e. e.0) es) ns)))) ≡ map (λ d. tree o.world u d m.1 (L // m.0) (Q // m.0)) (option_to_list (first_if_equal c e.1 (lookup m.0 es)))
         by Less q g = g
         by Equal q g = (λ i. h.0.evaluation u m.1 (Q // m.0) i ∷ []) ∙ ap (λ k. tree o.world u e.1 m.1 (L // k) (Q // m.0) ∷ []) (sym (same_name m.0 e.0 (sym q)))
         by Greater q g = g
 
-    members_show : (Q : Path) (ms : List (Name × Data)) (ns : List (SchemaNode K R)) (es : List (Name × Data)) (L : Path) → StandEach o ns es L → flat_map (λ m. map (λ n. (answers o n).tree u m.1 (Q // m.0)) (option_to_list (lookup m.0 (beside (map (λ e. e.0) es) ns)))) ms ≡ flat_map (shown_at o.world u v L Q es) ms
+    members_show : (Q : Path) (ms : List (Name × Data)) (ns : List N) (es : List (Name × Data)) (L : Path) → StandEach o answers ns es L → flat_map (λ m. map (λ n. (answers n).tree u m.1 (Q // m.0)) (option_to_list (lookup m.0 (beside (map (λ e. e.0) es) ns)))) ms ≡ flat_map (shown_at o.world u v L Q es) ms
     members_show Q [] ns es L h = refl
     members_show Q (m ∷ ms) ns es L h = λ i. member_shows Q m ns es L h i ++ members_show Q ms ns es L h i
 
-    declared_show : (Q : Path) (more : List Tree) (ns : List (SchemaNode K R)) (es : List (Name × Data)) (L : Path) → StandEach o ns es L → properties_tree (λ n. (answers o n).tree u) v Q L (beside (map (λ e. e.0) es) ns) more ≡ shown_declared o.world u v L Q es more
+    declared_show : (Q : Path) (more : List Tree) (ns : List N) (es : List (Name × Data)) (L : Path) → StandEach o answers ns es L → properties_tree (λ n. (answers n).tree u) v Q L (beside (map (λ e. e.0) es) ns) more ≡ shown_declared o.world u v L Q es more
     declared_show Q more ns es L h = λ i. result L Q (cond (is_object v) (Some (map (λ m. m.0) (those (λ m. is_among m.0 (beside_names ns es L h i)) (members v)))) None) false [] (members_show Q (members v) ns es L h i ++ more)
 
   any_fault : (b : Bool) (c d : Context) (v : Data) (P Q : Path) → IsLikeContext c d → fault_if b (AnyOf c) v P Q ∼ fault_if b (AnyOf d) v P Q
@@ -192,11 +191,11 @@ module _ {K R : Type 0} (o : Kit K R) where
 
   -- ---- one keyword
 
-  module _ (ms : Members) (k : KeywordOver K R (SchemaNode K R)) (m : Name × Data) (w : Keyword) (P : Path) where
+  module _ (ms : Members) (k : KeywordOver K R N) (m : Name × Data) (w : Keyword) (P : Path) where
     pub one_if_free : ((u : Bool) (v : Data) → (question k v).accepts u ≡ member_accepts o.world ms m w u v)
         → ((is_restricted ms && tells_members m.0) ≡ false → (u : Bool) (v : Data) → (question k v).asks u ≤ member_asks o.world ms m w u v)
         → ((u : Bool) (v : Data) (Q : Path) → found u k v Q ∼ member_report o.world ms m w u v P Q)
-        → Holds o ms (k ∷ []) m w P
+        → Holds o answers ms (k ∷ []) m w P
     one_if_free a q f = record {
       verdict = λ u v. and_true ((question k v).accepts u) ∙ a u v;
       asks_within = λ free u v. with_nothing ((question k v).asks u) (member_asks o.world ms m w u v) (q free u v);
@@ -206,13 +205,13 @@ module _ {K R : Type 0} (o : Kit K R) where
     pub one : ((u : Bool) (v : Data) → (question k v).accepts u ≡ member_accepts o.world ms m w u v)
         → ((u : Bool) (v : Data) → (question k v).asks u ≤ member_asks o.world ms m w u v)
         → ((u : Bool) (v : Data) (Q : Path) → found u k v Q ∼ member_report o.world ms m w u v P Q)
-        → Holds o ms (k ∷ []) m w P
+        → Holds o answers ms (k ∷ []) m w P
     one a q f = one_if_free a (λ free. q) f
 
   -- ---- properties
 
-  module _ (m : PropertiesMap (SchemaNode K R)) (L : Path) (es : List (Name × Data)) (names : names_in m ≡ map (λ e. e.0) es) (stand : StandEach o (nodes_in m) es L) where
-    abbrev properties_keyword : KeywordOver K R (SchemaNode K R)
+  module _ (m : PropertiesMap N) (L : Path) (es : List (Name × Data)) (names : names_in m ≡ map (λ e. e.0) es) (stand : StandEach o answers (nodes_in m) es L) where
+    abbrev properties_keyword : KeywordOver K R N
     properties_keyword = keyword.Properties (record { properties = m; location = L })
 
     module _ (u : Bool) (v : Data) where
@@ -226,17 +225,17 @@ module _ {K R : Type 0} (o : Kit K R) where
 
       properties_find : (Q : Path) → found u properties_keyword v Q ∼ flat_map (λ e. flat_map (λ x. report o.world u e.1 x (L // e.0) (Q // e.0)) (at e.0 v)) es
       unfolding validator_report
-      properties_find Q = subst (λ ks. flat_map (λ e. flat_map (λ x. (answers o e.1).report u x (Q // e.0)) (at e.0 v)) (beside ks (nodes_in m)) ∼ flat_map (λ e. flat_map (λ x. report o.world u e.1 x (L // e.0) (Q // e.0)) (at e.0 v)) es) (sym names) (members_find u v Q (nodes_in m) es L stand)
+      properties_find Q = subst (λ ks. flat_map (λ e. flat_map (λ x. (answers e.1).report u x (Q // e.0)) (at e.0 v)) (beside ks (nodes_in m)) ∼ flat_map (λ e. flat_map (λ x. report o.world u e.1 x (L // e.0) (Q // e.0)) (at e.0 v)) es) (sym names) (members_find u v Q (nodes_in m) es L stand)
 
-      properties_show : (Q : Path) (more : List Tree) → properties_tree (λ n. (answers o n).tree u) v Q L (mapped m) more ≡ shown_declared o.world u v L Q es more
-      properties_show Q more = ap (λ ks. properties_tree (λ n. (answers o n).tree u) v Q L (beside ks (nodes_in m)) more) names ∙ declared_show u v Q more (nodes_in m) es L stand
+      properties_show : (Q : Path) (more : List Tree) → properties_tree (λ n. (answers n).tree u) v Q L (mapped m) more ≡ shown_declared o.world u v L Q es more
+      properties_show Q more = ap (λ ks. properties_tree (λ n. (answers n).tree u) v Q L (beside ks (nodes_in m)) more) names ∙ declared_show u v Q more (nodes_in m) es L stand
 
-      alone_show : (Q : Path) → shown u properties_keyword v Q ≡ properties_tree (λ n. (answers o n).tree u) v Q L (mapped m) []
+      alone_show : (Q : Path) → shown u properties_keyword v Q ≡ properties_tree (λ n. (answers n).tree u) v Q L (mapped m) []
       unfolding validator_tree
       alone_show Q = refl
 
-  pub means_properties : (m : PropertiesMap (SchemaNode K R)) (L : Path) (fs : Members) (d : Data) → d ≡ object fs → names_in m ≡ map (λ e. e.0) (listed fs) → StandEach o (nodes_in m) (listed fs) L → (ms : Members) (P : Path) → L ≡ P // codes "properties" → KeywordMeans o ms (keyword.Properties (record { properties = m; location = L }) ∷ []) (codes "properties", d) P
-  means_properties m L fs d q names stand ms P p = subst (λ x. KeywordMeans o ms (properties_keyword m L (listed fs) names stand ∷ []) (codes "properties", x) P) (sym q) (record {
+  pub means_properties : (m : PropertiesMap N) (L : Path) (fs : Members) (d : Data) → d ≡ object fs → names_in m ≡ map (λ e. e.0) (listed fs) → StandEach o answers (nodes_in m) (listed fs) L → (ms : Members) (P : Path) → L ≡ P // codes "properties" → KeywordMeans o answers ms (keyword.Properties (record { properties = m; location = L }) ∷ []) (codes "properties", d) P
+  means_properties m L fs d q names stand ms P p = subst (λ x. KeywordMeans o answers ms (properties_keyword m L (listed fs) names stand ∷ []) (codes "properties", x) P) (sym q) (record {
     holds = one ms (properties_keyword m L (listed fs) names stand) (codes "properties", object fs) properties P
         (λ u v. properties_accept m L (listed fs) names stand u v ∙ sym (fact.properties_accepts o.world ms fs u v))
         (λ u v. same_within _ _ _ (properties_ask m L (listed fs) names stand u v) (fact.properties_asks o.world ms fs u v))
@@ -251,8 +250,8 @@ module _ {K R : Type 0} (o : Kit K R) where
 
   -- ---- properties, with required or alone
 
-  module _ (ms : Members) (L P : Path) (k : SmallPropertiesWithRequired2 (SchemaNode K R)) (t : Name × Name) (names : List Name) (ns : List (SchemaNode K R)) (form : IsFormOfProperties {K = K} {R = R} P L names ns (Some t) (keyword.PropertiesWithRequired2 k)) where
-    abbrev alone : KeywordOver K R (SchemaNode K R)
+  module _ (ms : Members) (L P : Path) (k : SmallPropertiesWithRequired2 N) (t : Name × Name) (names : List Name) (ns : List N) (form : IsFormOfProperties {K = K} {R = R} P L names ns (Some t) (keyword.PropertiesWithRequired2 k)) where
+    abbrev alone : KeywordOver K R N
     alone = keyword.Properties (record { properties = Small k.properties; location = L })
 
     abbrev lacking : Data → List Name
@@ -271,11 +270,11 @@ module _ {K R : Type 0} (o : Kit K R) where
       unfolding validator_report
       both_find Q = λ i. required_faults (form.3 i ∷ form.4 i ∷ []) v (form.5 i) Q ++ found u alone v Q
 
-      both_show : (Q : Path) → shown u (keyword.PropertiesWithRequired2 k) v Q ≡ properties_tree (λ n. (answers o n).tree u) v Q L (named k.properties) (missing_trees (t.0 ∷ t.1 ∷ []) v (P // codes "required") Q)
+      both_show : (Q : Path) → shown u (keyword.PropertiesWithRequired2 k) v Q ≡ properties_tree (λ n. (answers n).tree u) v Q L (named k.properties) (missing_trees (t.0 ∷ t.1 ∷ []) v (P // codes "required") Q)
       unfolding validator_tree
-      both_show Q = λ i. properties_tree (λ n. (answers o n).tree u) v Q (form.2 i) (named k.properties) (missing_trees (form.3 i ∷ form.4 i ∷ []) v (form.5 i) Q)
+      both_show Q = λ i. properties_tree (λ n. (answers n).tree u) v Q (form.2 i) (named k.properties) (missing_trees (form.3 i ∷ form.4 i ∷ []) v (form.5 i) Q)
 
-    covers_both : (d : Data) → is_restricted ms ≡ false → Holds o ms (alone ∷ []) (codes "properties", d) properties P → Covers o ms (keyword.PropertiesWithRequired2 k ∷ []) ((codes "properties", d) ∷ (codes "required", listing t) ∷ []) P
+    covers_both : (d : Data) → is_restricted ms ≡ false → Holds o answers ms (alone ∷ []) (codes "properties", d) properties P → Covers o answers ms (keyword.PropertiesWithRequired2 k ∷ []) ((codes "properties", d) ∷ (codes "required", listing t) ∷ []) P
     covers_both d unrestricted h = record {
       verdict = λ u v. ap (λ b. b && true) (both_accept u v) ∙ turned (is_empty (lacking v)) ((question alone v).accepts u) ∙ (λ i. h.verdict u v i && (sym (fact.required_accepts o.world ms (listing t) u v) i && true));
       asks_within = λ u v.
@@ -305,20 +304,20 @@ module _ {K R : Type 0} (o : Kit K R) where
       by false h = refl
       by true h = h
 
-  pub means_form : (k : KeywordOver K R (SchemaNode K R)) (names : List Name) (ns : List (SchemaNode K R)) (L P : Path) (t : Option (Name × Name)) (fs : Members) (d : Data) → d ≡ object fs → names ≡ map (λ e. e.0) (listed fs) → StandEach o ns (listed fs) L → IsFormOfProperties P L names ns t k
-      → (ms : Members) → L ≡ P // codes "properties" → has_repeat (names_of (listed ms)) ≡ false → lookup (codes "properties") (listed ms) ≡ Some d → t ≡ fused_names ms → is_restricted ms ≡ false → KeywordsMean o ms (k ∷ []) (claims (head (plan_of ms)) (listed ms) (codes "properties", d)) ((codes "properties", d) ∷ []) P
+  pub means_form : (k : KeywordOver K R N) (names : List Name) (ns : List N) (L P : Path) (t : Option (Name × Name)) (fs : Members) (d : Data) → d ≡ object fs → names ≡ map (λ e. e.0) (listed fs) → StandEach o answers ns (listed fs) L → IsFormOfProperties P L names ns t k
+      → (ms : Members) → L ≡ P // codes "properties" → has_repeat (names_of (listed ms)) ≡ false → lookup (codes "properties") (listed ms) ≡ Some d → t ≡ fused_names ms → is_restricted ms ≡ false → KeywordsMean o answers ms (k ∷ []) (claims (head (plan_of ms)) (listed ms) (codes "properties", d)) ((codes "properties", d) ∷ []) P
   means_form (keyword.Properties k) names ns L P None fs d q declared stand form ms p distinct there chosen unrestricted =
-      subst (λ rows. KeywordsMean o ms (keyword.Properties k ∷ []) rows ((codes "properties", d) ∷ []) P) (sym (claims_itself ms distinct (head (plan_of ms)) (codes "properties", d) (head_itself (plan_of ms) (codes "properties") (λ e. absurd (true≢false (sym e ∙ ap is_some (sym chosen)))) (λ e. (refl, refl)) (free_takes_nothing ms (codes "properties") unrestricted)) there))
-      (subst (λ M. KeywordsMean o ms (keyword.Properties (record { properties = k.properties; location = M }) ∷ []) ((codes "properties", d) ∷ []) ((codes "properties", d) ∷ []) P) (sym form.3)
-      (means_alone o ms P _ (codes "properties", d) (ap (λ b. b && true) unrestricted)
+      subst (λ rows. KeywordsMean o answers ms (keyword.Properties k ∷ []) rows ((codes "properties", d) ∷ []) P) (sym (claims_itself ms distinct (head (plan_of ms)) (codes "properties", d) (head_itself (plan_of ms) (codes "properties") (λ e. absurd (true≢false (sym e ∙ ap is_some (sym chosen)))) (λ e. (refl, refl)) (free_takes_nothing ms (codes "properties") unrestricted)) there))
+      (subst (λ M. KeywordsMean o answers ms (keyword.Properties (record { properties = k.properties; location = M }) ∷ []) ((codes "properties", d) ∷ []) ((codes "properties", d) ∷ []) P) (sym form.3)
+      (means_alone o answers ms P _ (codes "properties", d) (ap (λ b. b && true) unrestricted)
       (λ clean u. (there, restricted_read (meaning_step o.world u) ms ∙ unrestricted, fused o.world ms P clean (meaning_step o.world u) ∙ ap is_some (sym chosen)))
-      (means_properties k.properties L fs d q (form.0 ∙ declared) (subst (λ l. StandEach o l (listed fs) L) (sym form.1) stand) ms P p)))
+      (means_properties k.properties L fs d q (form.0 ∙ declared) (subst (λ l. StandEach o answers l (listed fs) L) (sym form.1) stand) ms P p)))
   means_form (keyword.PropertiesWithRequired2 k) names ns L P (Some t) fs d q declared stand form ms p distinct there chosen unrestricted =
       let both = fuses ms distinct t chosen in
       let same_names : k.properties.names ≡ map (λ e. e.0) (listed fs) = form.0 ∙ declared in
-      let same_nodes : StandEach o k.properties.nodes.items (listed fs) L = subst (λ l. StandEach o l (listed fs) L) (sym form.1) stand in
+      let same_nodes : StandEach o answers k.properties.nodes.items (listed fs) L = subst (λ l. StandEach o answers l (listed fs) L) (sym form.1) stand in
       let plain = means_properties (Small k.properties) L fs d q same_names same_nodes ms P p in
-      means_permuted o ms P (keyword.PropertiesWithRequired2 k ∷ []) ((codes "properties", d) ∷ (codes "required", listing t) ∷ []) (claims (head (plan_of ms)) (listed ms) (codes "properties", d)) ((codes "properties", d) ∷ [])
+      means_permuted o answers ms P (keyword.PropertiesWithRequired2 k ∷ []) ((codes "properties", d) ∷ (codes "required", listing t) ∷ []) (claims (head (plan_of ms)) (listed ms) (codes "properties", d)) ((codes "properties", d) ∷ [])
       (subst (λ s. IsPermutation ((codes "properties", d) ∷ (codes "required", listing t) ∷ []) (claims (head s) (listed ms) (codes "properties", d))) (sym (plan_fusing ms t chosen)) (claims_both ms distinct t (is_condition ms) d there chosen)) record {
         covers = covers_both ms L P k t names ns form d unrestricted plain.holds;
         shows = λ clean u v Q.
@@ -332,121 +331,121 @@ module _ {K R : Type 0} (o : Kit K R) where
 
   -- ---- branches
 
-  module _ (L : Path) (ns : List (SchemaNode K R)) (u : Bool) (v : Data) where
-    all_form_accepts : (k : KeywordOver K R (SchemaNode K R)) → IsFormOfAllOf L ns k → (question k v).accepts u ≡ (every (at_value u v) ns).accepts u
+  module _ (L : Path) (ns : List N) (u : Bool) (v : Data) where
+    all_form_accepts : (k : KeywordOver K R N) → IsFormOfAllOf L ns k → (question k v).accepts u ≡ (every (at_value u v) ns).accepts u
     unfolding validator_means
     all_form_accepts (keyword.AllOf k) f = ap (λ xs. (every (at_value u v) xs).accepts u) f.0
-    all_form_accepts (keyword.SingleValueAllOf k) f = sym (and_true (((answers o k.node).means v).accepts u)) ∙ ap (λ xs. (every (at_value u v) xs).accepts u) (sym f.0)
+    all_form_accepts (keyword.SingleValueAllOf k) f = sym (and_true (((answers k.node).means v).accepts u)) ∙ ap (λ xs. (every (at_value u v) xs).accepts u) (sym f.0)
     all_form_accepts k f = absurd f
 
-    all_form_asks : (k : KeywordOver K R (SchemaNode K R)) → IsFormOfAllOf L ns k → (question k v).asks u ≤ (every (at_value u v) ns).asks u
+    all_form_asks : (k : KeywordOver K R N) → IsFormOfAllOf L ns k → (question k v).asks u ≤ (every (at_value u v) ns).asks u
     unfolding validator_means
     all_form_asks (keyword.AllOf k) f = let e = ap (λ xs. (every (at_value u v) xs).asks u) f.0 in omega (arith, e)
     all_form_asks (keyword.SingleValueAllOf k) f = let e = ap (λ xs. (every (at_value u v) xs).asks u) f.0 in omega (arith, e)
     all_form_asks k f = absurd f
 
-    all_form_finds : (Q : Path) (k : KeywordOver K R (SchemaNode K R)) → IsFormOfAllOf L ns k → found u k v Q ≡ flat_map (λ n. (answers o n).report u v Q) ns
+    all_form_finds : (Q : Path) (k : KeywordOver K R N) → IsFormOfAllOf L ns k → found u k v Q ≡ flat_map (λ n. (answers n).report u v Q) ns
     unfolding validator_report
-    all_form_finds Q (keyword.AllOf k) f = ap (flat_map (λ n. (answers o n).report u v Q)) f.0
-    all_form_finds Q (keyword.SingleValueAllOf k) f = sym (append-nil ((answers o k.node).report u v Q)) ∙ ap (flat_map (λ n. (answers o n).report u v Q)) (sym f.0)
+    all_form_finds Q (keyword.AllOf k) f = ap (flat_map (λ n. (answers n).report u v Q)) f.0
+    all_form_finds Q (keyword.SingleValueAllOf k) f = sym (append-nil ((answers k.node).report u v Q)) ∙ ap (flat_map (λ n. (answers n).report u v Q)) (sym f.0)
     all_form_finds Q k f = absurd f
 
-    all_form_shows : (Q : Path) (k : KeywordOver K R (SchemaNode K R)) → IsFormOfAllOf L ns k → shown u k v Q ≡ plain L Q (branch_trees (λ n. (answers o n).tree u) v Q ns)
+    all_form_shows : (Q : Path) (k : KeywordOver K R N) → IsFormOfAllOf L ns k → shown u k v Q ≡ plain L Q (branch_trees (λ n. (answers n).tree u) v Q ns)
     unfolding validator_tree
-    all_form_shows Q (keyword.AllOf k) f = λ i. plain (f.2 i) Q (branch_trees (λ n. (answers o n).tree u) v Q (f.0 i))
-    all_form_shows Q (keyword.SingleValueAllOf k) f = λ i. plain (f.1 i) Q (branch_trees (λ n. (answers o n).tree u) v Q (sym f.0 i))
+    all_form_shows Q (keyword.AllOf k) f = λ i. plain (f.2 i) Q (branch_trees (λ n. (answers n).tree u) v Q (f.0 i))
+    all_form_shows Q (keyword.SingleValueAllOf k) f = λ i. plain (f.1 i) Q (branch_trees (λ n. (answers n).tree u) v Q (sym f.0 i))
     all_form_shows Q k f = absurd f
 
-    any_form_shows : (Q : Path) (k : KeywordOver K R (SchemaNode K R)) → IsFormOfAnyOf L ns k → shown u k v Q ≡ any_of_tree (λ n. (answers o n).tree u) v Q (accepts_value u v) L ns
+    any_form_shows : (Q : Path) (k : KeywordOver K R N) → IsFormOfAnyOf L ns k → shown u k v Q ≡ any_of_tree (λ n. (answers n).tree u) v Q (accepts_value u v) L ns
     unfolding validator_tree
-    any_form_shows Q (keyword.AnyOf k) f = λ i. any_of_tree (λ n. (answers o n).tree u) v Q (accepts_value u v) (f.2 i) (f.0 i)
-    any_form_shows Q (keyword.SingleAnyOf k) f = λ i. any_of_tree (λ n. (answers o n).tree u) v Q (accepts_value u v) (f.1 i) (sym f.0 i)
+    any_form_shows Q (keyword.AnyOf k) f = λ i. any_of_tree (λ n. (answers n).tree u) v Q (accepts_value u v) (f.2 i) (f.0 i)
+    any_form_shows Q (keyword.SingleAnyOf k) f = λ i. any_of_tree (λ n. (answers n).tree u) v Q (accepts_value u v) (f.1 i) (sym f.0 i)
     any_form_shows Q k f = absurd f
 
-    any_form_accepts : (k : KeywordOver K R (SchemaNode K R)) → IsFormOfAnyOf L ns k → (question k v).accepts u ≡ (some (at_value u v) ns).accepts u
+    any_form_accepts : (k : KeywordOver K R N) → IsFormOfAnyOf L ns k → (question k v).accepts u ≡ (some (at_value u v) ns).accepts u
     unfolding validator_means
     any_form_accepts (keyword.AnyOf k) f = ap (λ xs. (some (at_value u v) xs).accepts u) f.0
-    any_form_accepts (keyword.SingleAnyOf k) f = sym (or_false (((answers o k.node).means v).accepts u)) ∙ ap (λ xs. (some (at_value u v) xs).accepts u) (sym f.0)
+    any_form_accepts (keyword.SingleAnyOf k) f = sym (or_false (((answers k.node).means v).accepts u)) ∙ ap (λ xs. (some (at_value u v) xs).accepts u) (sym f.0)
     any_form_accepts k f = absurd f
 
-    any_form_asks : (k : KeywordOver K R (SchemaNode K R)) → IsFormOfAnyOf L ns k → (question k v).asks u ≤ (some (at_value u v) ns).asks u
+    any_form_asks : (k : KeywordOver K R N) → IsFormOfAnyOf L ns k → (question k v).asks u ≤ (some (at_value u v) ns).asks u
     unfolding validator_means
     any_form_asks (keyword.AnyOf k) f = let e = ap (λ xs. (some (at_value u v) xs).asks u) f.0 in omega (arith, e)
     any_form_asks (keyword.SingleAnyOf k) f = let e = ap (λ xs. (some (at_value u v) xs).asks u) f.0 in omega (arith, e)
     any_form_asks k f = absurd f
 
-    abbrev any_faults : List (SchemaNode K R) → Path → Path → List Fault
-    any_faults xs M Q = fault_if (not ((some (at_value u v) xs).accepts u)) (AnyOf (context (map (λ n. (answers o n).report u v Q) xs))) v M Q
+    abbrev any_faults : List N → Path → Path → List Fault
+    any_faults xs M Q = fault_if (not ((some (at_value u v) xs).accepts u)) (AnyOf (context (map (λ n. (answers n).report u v Q) xs))) v M Q
 
-    any_form_finds : (Q : Path) (k : KeywordOver K R (SchemaNode K R)) → IsFormOfAnyOf L ns k → found u k v Q ≡ any_faults ns L Q
+    any_form_finds : (Q : Path) (k : KeywordOver K R N) → IsFormOfAnyOf L ns k → found u k v Q ≡ any_faults ns L Q
     unfolding validator_report
     any_form_finds Q (keyword.AnyOf k) f = λ i. any_faults (f.0 i) (f.2 i) Q
     any_form_finds Q (keyword.SingleAnyOf k) f =
-        ap (λ b. fault_if (not b) (AnyOf (context ((answers o k.node).report u v Q ∷ []))) v k.location Q) (sym (or_false (((answers o k.node).means v).accepts u)))
+        ap (λ b. fault_if (not b) (AnyOf (context ((answers k.node).report u v Q ∷ []))) v k.location Q) (sym (or_false (((answers k.node).means v).accepts u)))
         ∙ (λ i. any_faults (sym f.0 i) (f.1 i) Q)
     any_form_finds Q k f = absurd f
 
   pub at_most_through : (a b c : ℕ) → a ≤ b → b ≤ c → a ≤ c
   at_most_through a b c h k = omega (arith, h, k)
 
-  pub means_all_of : (k : KeywordOver K R (SchemaNode K R)) (ns : List (SchemaNode K R)) (L : Path) (ds : Items) (d : Data) → d ≡ array ds → IsFormOfAllOf L ns k → StandEach o ns (numbered (items_list ds)) L → (ms : Members) (P : Path) → L ≡ P // codes "allOf" → KeywordMeans o ms (k ∷ []) (codes "allOf", d) P
-  means_all_of k ns L ds d q form stand ms P p = subst (λ x. KeywordMeans o ms (k ∷ []) (codes "allOf", x) P) (sym q) (record {
+  pub means_all_of : (k : KeywordOver K R N) (ns : List N) (L : Path) (ds : Items) (d : Data) → d ≡ array ds → IsFormOfAllOf L ns k → StandEach o answers ns (numbered (items_list ds)) L → (ms : Members) (P : Path) → L ≡ P // codes "allOf" → KeywordMeans o answers ms (k ∷ []) (codes "allOf", d) P
+  means_all_of k ns L ds d q form stand ms P p = subst (λ x. KeywordMeans o answers ms (k ∷ []) (codes "allOf", x) P) (sym q) (record {
     holds = one ms k (codes "allOf", array ds) all_of P
-        (λ u v. all_form_accepts L ns u v k form ∙ each_accept o (schema_answers o) u v ns (numbered (items_list ds)) L answer ∙ sym (fact.all_of_accepts o.world ms ds u v))
-        (λ u v. same_within _ _ _ (at_most_through _ _ _ (all_form_asks L ns u v k form) (each_ask o (schema_answers o) u v ns (numbered (items_list ds)) L answer)) (fact.all_of_asks o.world ms ds u v))
+        (λ u v. all_form_accepts L ns u v k form ∙ each_accept o answers (schema_answers o answers) u v ns (numbered (items_list ds)) L answer ∙ sym (fact.all_of_accepts o.world ms ds u v))
+        (λ u v. same_within _ _ _ (at_most_through _ _ _ (all_form_asks L ns u v k form) (each_ask o answers (schema_answers o answers) u v ns (numbered (items_list ds)) L answer)) (fact.all_of_asks o.world ms ds u v))
         (λ u v Q. subst₂ (λ x y. x ∼ y) (sym (all_form_finds L ns u v Q k form))
         (ap (λ M. flat_map (λ e. report o.world u e.1 v (M // e.0) Q) (numbered (items_list ds))) p ∙ sym (fact.all_of_report o.world ms ds u v P Q))
-        (each_find o (schema_answers o) u v Q ns (numbered (items_list ds)) L answer));
+        (each_find o answers (schema_answers o answers) u v Q ns (numbered (items_list ds)) L answer));
     shows = λ u h v Q.
         ap (λ t. t ∷ []) (all_form_shows L ns u v Q k form ∙ ap (plain L Q) (branches_show u v Q ns (numbered (items_list ds)) L stand) ∙ ap (λ M. plain M Q (branches_shown o.world u v M Q (numbered (items_list ds)))) p)
         ∙ sym (all_of_child o.world u v ms P Q ds);
   })
     where
-      answer : AnswerEach o (schema_answers o) ns (numbered (items_list ds)) L
-      answer = schemas_answer o ns (numbered (items_list ds)) L stand
+      answer : AnswerEach o answers (schema_answers o answers) ns (numbered (items_list ds)) L
+      answer = schemas_answer o answers ns (numbered (items_list ds)) L stand
 
-  pub means_any_of : (k : KeywordOver K R (SchemaNode K R)) (ns : List (SchemaNode K R)) (L : Path) (ds : Items) (d : Data) → d ≡ array ds → IsFormOfAnyOf L ns k → StandEach o ns (numbered (items_list ds)) L → (ms : Members) (P : Path) → L ≡ P // codes "anyOf" → KeywordMeans o ms (k ∷ []) (codes "anyOf", d) P
-  means_any_of k ns L ds d q form stand ms P p = subst (λ x. KeywordMeans o ms (k ∷ []) (codes "anyOf", x) P) (sym q) (record {
+  pub means_any_of : (k : KeywordOver K R N) (ns : List N) (L : Path) (ds : Items) (d : Data) → d ≡ array ds → IsFormOfAnyOf L ns k → StandEach o answers ns (numbered (items_list ds)) L → (ms : Members) (P : Path) → L ≡ P // codes "anyOf" → KeywordMeans o answers ms (k ∷ []) (codes "anyOf", d) P
+  means_any_of k ns L ds d q form stand ms P p = subst (λ x. KeywordMeans o answers ms (k ∷ []) (codes "anyOf", x) P) (sym q) (record {
     holds = one ms k (codes "anyOf", array ds) any_of P
         (λ u v. any_form_accepts L ns u v k form ∙ any_accept u v ns (numbered (items_list ds)) L stand ∙ sym (fact.any_of_accepts o.world ms ds u v))
         (λ u v. same_within _ _ _ (at_most_through _ _ _ (any_form_asks L ns u v k form) (any_ask u v ns (numbered (items_list ds)) L stand)) (fact.any_of_asks o.world ms ds u v))
         (λ u v Q. subst₂ (λ x y. x ∼ y) (told u v Q) (meant u v Q) (any_fault (not (list_any (λ e. accepts o.world u e.1 v) (numbered (items_list ds))))
-        (context (map (λ n. (answers o n).report u v Q) ns)) (context (map (λ e. report o.world u e.1 v (L // e.0) Q) (numbered (items_list ds)))) v L Q
+        (context (map (λ n. (answers n).report u v Q) ns)) (context (map (λ e. report o.world u e.1 v (L // e.0) Q) (numbered (items_list ds)))) v L Q
         (any_context u v Q ns (numbered (items_list ds)) L stand)));
     shows = λ u h v Q.
         ap (λ t. t ∷ []) (any_form_shows L ns u v Q k form ∙ any_show u v Q ns (numbered (items_list ds)) L stand ∙ ap (λ M. any_shown o.world u v M Q (numbered (items_list ds))) p)
         ∙ sym (any_of_child o.world u v ms P Q ds);
   })
     where
-      told : (u : Bool) (v : Data) (Q : Path) → fault_if (not (list_any (λ e. accepts o.world u e.1 v) (numbered (items_list ds)))) (AnyOf (context (map (λ n. (answers o n).report u v Q) ns))) v L Q ≡ found u k v Q
-      told u v Q = ap (λ b. fault_if (not b) (AnyOf (context (map (λ n. (answers o n).report u v Q) ns))) v L Q) (sym (any_accept u v ns (numbered (items_list ds)) L stand)) ∙ sym (any_form_finds L ns u v Q k form)
+      told : (u : Bool) (v : Data) (Q : Path) → fault_if (not (list_any (λ e. accepts o.world u e.1 v) (numbered (items_list ds)))) (AnyOf (context (map (λ n. (answers n).report u v Q) ns))) v L Q ≡ found u k v Q
+      told u v Q = ap (λ b. fault_if (not b) (AnyOf (context (map (λ n. (answers n).report u v Q) ns))) v L Q) (sym (any_accept u v ns (numbered (items_list ds)) L stand)) ∙ sym (any_form_finds L ns u v Q k form)
 
       meant : (u : Bool) (v : Data) (Q : Path) → fault_if (not (list_any (λ e. accepts o.world u e.1 v) (numbered (items_list ds)))) (AnyOf (context (map (λ e. report o.world u e.1 v (L // e.0) Q) (numbered (items_list ds))))) v L Q ≡ member_report o.world ms (codes "anyOf", array ds) any_of u v P Q
       meant u v Q = ap (λ M. fault_if (not (list_any (λ e. accepts o.world u e.1 v) (numbered (items_list ds)))) (AnyOf (context (map (λ e. report o.world u e.1 v (M // e.0) Q) (numbered (items_list ds))))) v M Q) p ∙ sym (fact.any_of_report o.world ms ds u v P Q)
 
   -- ---- not
 
-  module _ (original : Value) (n : SchemaNode K R) (L : Path) (u : Bool) (v : Data) where
-    abbrev not_of : KeywordOver K R (SchemaNode K R)
+  module _ (original : Value) (n : N) (L : Path) (u : Bool) (v : Data) where
+    abbrev not_of : KeywordOver K R N
     not_of = keyword.Not (record { original = original; node = n; location = L })
 
-    not_accept : (question not_of v).accepts u ≡ not (((answers o n).means v).accepts u)
+    not_accept : (question not_of v).accepts u ≡ not (((answers n).means v).accepts u)
     unfolding validator_means
     not_accept = refl
 
-    not_ask : (question not_of v).asks u ≡ ((answers o n).means v).asks u
+    not_ask : (question not_of v).asks u ≡ ((answers n).means v).asks u
     unfolding validator_means
     not_ask = refl
 
-    not_find : (Q : Path) → found u not_of v Q ≡ fault_if (((answers o n).means v).accepts u) (Not (view original)) v L Q
+    not_find : (Q : Path) → found u not_of v Q ≡ fault_if (((answers n).means v).accepts u) (Not (view original)) v L Q
     unfolding validator_report
     not_find Q = refl
 
-    not_show : (Q : Path) → shown u not_of v Q ≡ erring L Q (fault_if (((answers o n).means v).accepts u) (Not (view original)) v L Q)
+    not_show : (Q : Path) → shown u not_of v Q ≡ erring L Q (fault_if (((answers n).means v).accepts u) (Not (view original)) v L Q)
     unfolding validator_tree
     not_show Q = refl
 
-  pub means_not : (original : Value) (n : SchemaNode K R) (L : Path) (d : Data) → view original ≡ d → StandsFor o n d L → (ms : Members) (P : Path) → L ≡ P // codes "not" → KeywordMeans o ms (keyword.Not (record { original = original; node = n; location = L }) ∷ []) (codes "not", d) P
+  pub means_not : (original : Value) (n : N) (L : Path) (d : Data) → view original ≡ d → Stands o answers n d L → (ms : Members) (P : Path) → L ≡ P // codes "not" → KeywordMeans o answers ms (keyword.Not (record { original = original; node = n; location = L }) ∷ []) (codes "not", d) P
   means_not original n L d same stands ms P p = record {
     holds = one ms (keyword.Not (record { original = original; node = n; location = L })) (codes "not", d) not_keyword P
         (λ u v. not_accept original n L u v ∙ ap not (stands.verdict u v) ∙ sym (fact.not_accepts o.world ms d u v))
@@ -458,7 +457,7 @@ module _ {K R : Type 0} (o : Kit K R) where
   -- ---- required
 
   module _ (names : Vec (String Global) Global) (L : Path) (u : Bool) (v : Data) where
-    abbrev required_of : KeywordOver K R (SchemaNode K R)
+    abbrev required_of : KeywordOver K R N
     required_of = keyword.Required (record { required = names; location = L })
 
     required_accept : (question required_of v).accepts u ≡ is_empty (missing (map string_bytes names.items) v)
@@ -477,7 +476,7 @@ module _ {K R : Type 0} (o : Kit K R) where
     unfolding validator_tree
     required_show Q = refl
 
-  pub means_required : (names : Vec (String Global) Global) (L : Path) (d : Data) → map string_bytes names.items ≡ texts d → (ms : Members) (P : Path) → L ≡ P // codes "required" → KeywordMeans o ms (keyword.Required (record { required = names; location = L }) ∷ []) (codes "required", d) P
+  pub means_required : (names : Vec (String Global) Global) (L : Path) (d : Data) → map string_bytes names.items ≡ texts d → (ms : Members) (P : Path) → L ≡ P // codes "required" → KeywordMeans o answers ms (keyword.Required (record { required = names; location = L }) ∷ []) (codes "required", d) P
   means_required names L d same ms P p = record {
     holds = one ms (keyword.Required (record { required = names; location = L })) (codes "required", d) required P
         (λ u v. required_accept names L u v ∙ ap (λ ns. is_empty (missing ns v)) same ∙ sym (fact.required_accepts o.world ms d u v))
@@ -487,14 +486,14 @@ module _ {K R : Type 0} (o : Kit K R) where
   }
 
   -- no keyword means what claims nothing and shows nothing
-  pub nothing_means : (ms : Members) (m : Name × Data) (P : Path) (p : Planned) → claims (head p) (listed ms) m ≡ [] → (all_malformed o ms P (listed ms) ≡ [] → (u : Bool) (v : Data) (Q : Path) → member_child o.world ms m (which o ms m) u v P Q ≡ []) → KeywordsMean o ms [] (claims (head p) (listed ms) m) (m ∷ []) P
-  nothing_means ms m P p none child = subst (λ rows. KeywordsMean o ms [] rows (m ∷ []) P) (sym none) record {
+  pub nothing_means : (ms : Members) (m : Name × Data) (P : Path) (p : Planned) → claims (head p) (listed ms) m ≡ [] → (all_malformed o ms P (listed ms) ≡ [] → (u : Bool) (v : Data) (Q : Path) → member_child o.world ms m (which o ms m) u v P Q ≡ []) → KeywordsMean o answers ms [] (claims (head p) (listed ms) m) (m ∷ []) P
+  nothing_means ms m P p none child = subst (λ rows. KeywordsMean o answers ms [] rows (m ∷ []) P) (sym none) record {
     covers = record { verdict = λ u v. refl; asks_within = λ u v. omega arith; faults = λ u v Q. like_empty };
     shows = λ clean u v Q. sym (append-nil _ ∙ child clean u v Q);
   }
 
   -- two names are fused, or one
-  pub means_fused : (t : Name × Name) (d : Data) (ms : Members) (P : Path) → Some t ≡ fused_names ms → KeywordsMean o ms [] (claims (head (plan_of ms)) (listed ms) (codes "required", d)) ((codes "required", d) ∷ []) P
+  pub means_fused : (t : Name × Name) (d : Data) (ms : Members) (P : Path) → Some t ≡ fused_names ms → KeywordsMean o answers ms [] (claims (head (plan_of ms)) (listed ms) (codes "required", d)) ((codes "required", d) ∷ []) P
   means_fused t d ms P chosen = nothing_means ms (codes "required", d) P (plan_of ms) (ap (λ s. claims (head s) (listed ms) (codes "required", d)) (plan_fusing ms t chosen) ∙ claims_nothing t (is_condition ms) (listed ms) d)
       (λ clean u v Q. no_required_child o.world u v ms P Q d (clean_one_fused o.world ms P clean (meaning_step o.world u) ∙ free_fuses_none ms (fusing_is_free ms (ap is_some (sym chosen)))) (fused o.world ms P clean (meaning_step o.world u) ∙ ap is_some (sym chosen)))
 
@@ -505,13 +504,13 @@ module _ {K R : Type 0} (o : Kit K R) where
       by None q f = absurd (true≢false (sym f))
       by (Some n) q f = fused_is_restricted ms n q
 
-  pub means_fused_one : (d : Data) (ms : Members) (P : Path) → is_some (fused_name ms) ≡ true → KeywordsMean o ms [] (claims (head (plan_of ms)) (listed ms) (codes "required", d)) ((codes "required", d) ∷ []) P
+  pub means_fused_one : (d : Data) (ms : Members) (P : Path) → is_some (fused_name ms) ≡ true → KeywordsMean o answers ms [] (claims (head (plan_of ms)) (listed ms) (codes "required", d)) ((codes "required", d) ∷ []) P
   means_fused_one d ms P chosen = nothing_means ms (codes "required", d) P (plan_of ms) (claims_no_fused ms (one_restricts ms chosen) (listed ms) d chosen) (λ clean u v Q. required_shows_none o.world ms u v P Q d chosen)
 
-  pub means_required_alone : (names : Vec (String Global) Global) (L : Path) (d : Data) → map string_bytes names.items ≡ texts d → (ms : Members) (P : Path) → L ≡ P // codes "required" → has_repeat (names_of (listed ms)) ≡ false → lookup (codes "required") (listed ms) ≡ Some d → is_some (fused_names ms) ≡ false → is_some (fused_name ms) ≡ false → KeywordsMean o ms (keyword.Required (record { required = names; location = L }) ∷ []) (claims (head (plan_of ms)) (listed ms) (codes "required", d)) ((codes "required", d) ∷ []) P
+  pub means_required_alone : (names : Vec (String Global) Global) (L : Path) (d : Data) → map string_bytes names.items ≡ texts d → (ms : Members) (P : Path) → L ≡ P // codes "required" → has_repeat (names_of (listed ms)) ≡ false → lookup (codes "required") (listed ms) ≡ Some d → is_some (fused_names ms) ≡ false → is_some (fused_name ms) ≡ false → KeywordsMean o answers ms (keyword.Required (record { required = names; location = L }) ∷ []) (claims (head (plan_of ms)) (listed ms) (codes "required", d)) ((codes "required", d) ∷ []) P
   means_required_alone names L d same ms P p distinct there not_two not_one =
-      subst (λ rows. KeywordsMean o ms (keyword.Required (record { required = names; location = L }) ∷ []) rows ((codes "required", d) ∷ []) P) (sym (claims_itself ms distinct (head (plan_of ms)) (codes "required", d) (head_of_required (plan_of ms) not_two not_one) there))
-      (means_alone o ms P _ (codes "required", d) (never_both (is_restricted ms))
+      subst (λ rows. KeywordsMean o answers ms (keyword.Required (record { required = names; location = L }) ∷ []) rows ((codes "required", d) ∷ []) P) (sym (claims_itself ms distinct (head (plan_of ms)) (codes "required", d) (head_of_required (plan_of ms) not_two not_one) there))
+      (means_alone o answers ms P _ (codes "required", d) (never_both (is_restricted ms))
       (λ clean u. (clean_one_fused o.world ms P clean (meaning_step o.world u) ∙ not_one, fused o.world ms P clean (meaning_step o.world u) ∙ not_two)) (means_required names L d same ms P p))
     where
       never_both : (b : Bool) → (b && false) ≡ false
@@ -529,9 +528,9 @@ module _ {K R : Type 0} (o : Kit K R) where
       by true h = h
   neither_of ms u k d r e f w n = tt
 
-  pub means_own : (ks : List (KeywordOver K R (SchemaNode K R))) (ms : Members) (m : Name × Data) (P : Path) → has_repeat (names_of (listed ms)) ≡ false → lookup m.0 (listed ms) ≡ Some m.1 → bytes_eq (codes "properties") m.0 ≡ false → bytes_eq (codes "required") m.0 ≡ false → IsNoCase (is_condition ms) m.0 → IsNotTaken (plan_of ms) m.0 → (is_restricted ms && tells_members m.0) ≡ false → KeywordMeans o ms ks m P → KeywordsMean o ms ks (claims (head (plan_of ms)) (listed ms) m) (m ∷ []) P
-  means_own ks ms m P distinct there e f apart own untaken h = subst (λ rows. KeywordsMean o ms ks rows (m ∷ []) P) (sym (claims_itself ms distinct (head (plan_of ms)) m (heads_elsewhere (plan_of ms) m.0 e f apart own) there))
-      (means_alone o ms P ks m untaken (λ clean u. neither_of ms u m.0 m.1 untaken e f (keyword_named o.world m.0) (is_named m.0 o.world)) h)
+  pub means_own : (ks : List (KeywordOver K R N)) (ms : Members) (m : Name × Data) (P : Path) → has_repeat (names_of (listed ms)) ≡ false → lookup m.0 (listed ms) ≡ Some m.1 → bytes_eq (codes "properties") m.0 ≡ false → bytes_eq (codes "required") m.0 ≡ false → IsNoCase (is_condition ms) m.0 → IsNotTaken (plan_of ms) m.0 → (is_restricted ms && tells_members m.0) ≡ false → KeywordMeans o answers ms ks m P → KeywordsMean o answers ms ks (claims (head (plan_of ms)) (listed ms) m) (m ∷ []) P
+  means_own ks ms m P distinct there e f apart own untaken h = subst (λ rows. KeywordsMean o answers ms ks rows (m ∷ []) P) (sym (claims_itself ms distinct (head (plan_of ms)) m (heads_elsewhere (plan_of ms) m.0 e f apart own) there))
+      (means_alone o answers ms P ks m untaken (λ clean u. neither_of ms u m.0 m.1 untaken e f (keyword_named o.world m.0) (is_named m.0 o.world)) h)
 
   -- ---- leaves, and names that nothing reads
 
@@ -552,18 +551,18 @@ module _ {K R : Type 0} (o : Kit K R) where
     unfolding validator_tree
     leaf_show Q = refl
 
-  pub means_leaf : (l : K) (k : Name) (L : Path) (d : Data) → keyword_named o.world k ≡ leaf → o.keyword_of l ≡ k → ((v : Data) → o.finds l v ≡ o.world.faults k d v) → (ms : Members) (P : Path) → L ≡ P // k → KeywordMeans o ms (keyword.Leaf L l ∷ []) (k, d) P
+  pub means_leaf : (l : K) (k : Name) (L : Path) (d : Data) → keyword_named o.world k ≡ leaf → o.keyword_of l ≡ k → ((v : Data) → o.finds l v ≡ o.world.faults k d v) → (ms : Members) (P : Path) → L ≡ P // k → KeywordMeans o answers ms (keyword.Leaf L l ∷ []) (k, d) P
   means_leaf l k L d q name same ms P p = record {
-    holds = subst (λ w. Holds o ms (keyword.Leaf L l ∷ []) (k, d) w P) (sym q) (one ms (keyword.Leaf L l) (k, d) leaf P
+    holds = subst (λ w. Holds o answers ms (keyword.Leaf L l ∷ []) (k, d) w P) (sym q) (one ms (keyword.Leaf L l) (k, d) leaf P
         (λ u v. leaf_accept l L u v ∙ ap is_empty (same v) ∙ sym (fact.leaf_accepts o.world ms k d u v))
         (λ u v. subst₂ (λ x y. x ≤ y) (sym (leaf_ask l L u v)) (sym (fact.leaf_asks o.world ms k d u v)) (omega arith))
         (λ u v Q. ∼_same (leaf_find l L u v Q ∙ (λ i. map (λ t. fault (Leaf (name i) t) v Q (p i)) (same v i)) ∙ sym (fact.leaf_report o.world ms k d u v P Q))));
     shows = λ u h v Q. ap (λ t. t ∷ []) (leaf_show l L u v Q ∙ (λ i. leaf_node (p i) Q (described (map (λ t. fault (Leaf (name i) t) v Q (p i)) (same v i))))) ∙ sym (leaf_child o.world u v ms P Q d k) ∙ ap (λ w. member_child o.world ms (k, d) w u v P Q) (sym q);
   }
 
-  pub means_unread : (k : Name) (d : Data) → keyword_named o.world k ≡ unread → (ms : Members) (P : Path) → KeywordMeans o ms [] (k, d) P
+  pub means_unread : (k : Name) (d : Data) → keyword_named o.world k ≡ unread → (ms : Members) (P : Path) → KeywordMeans o answers ms [] (k, d) P
   means_unread k d q ms P = record {
-    holds = subst (λ w. Holds o ms [] (k, d) w P) (sym q) (record {
+    holds = subst (λ w. Holds o answers ms [] (k, d) w P) (sym q) (record {
       verdict = λ u v. sym (fact.unread_accepts o.world ms k d u v);
       asks_within = λ free u v. subst (λ n. 0 ≤ n) (sym (fact.unread_asks o.world ms k d u v)) (omega arith);
       faults = λ u v Q. ∼_same (sym (fact.unread_report o.world ms k d u v P Q));

@@ -1,4 +1,5 @@
 -- What is made of a part, and of all parts.
+use Rattle.olk_tree.specs.Places.{Answers}
 use Rattle.std.specs.Prelude.{◌≡◌, Bool, true, false, not, List, [], ◌∷◌, ◌++◌, ◌&&◌, ◌||◌, map, codes, bytes_eq, Option, Some, None, is_some, Vec, String, string_bytes}
 use Rattle.std.specs.List.{flat_map}
 use Rattle.std.specs.declared.alloc.Global.{Global}
@@ -35,7 +36,6 @@ use Rattle.olk_make.specs.declared.part.Taken.{Taken}
 use Rattle.olk_tree.specs.Tables.{Table}
 use Rattle.olk_tree.specs.declared.node.KeywordOver.{KeywordOver}
 use Rattle.olk_tree.specs.declared.node.KeywordOver.TheVariants as keyword
-use Rattle.olk_node.specs.declared.node.SchemaNode.{SchemaNode}
 use Rattle.olk_make.specs.declared.part.Part.{Part}
 use Rattle.olk_read.specs.declared.shape.Shape.{Shape}
 use Rattle.olk_read.specs.declared.shape.Shape.TheVariants as shape
@@ -77,71 +77,71 @@ no_case W c k e read_here = (
     away : (n : Name) → neighbours (keyword_named W n) ≡ true → bytes_eq k n ≡ false
     away n h = bytes_eq-sym k n ∙ apart W n k h e
 
-module _ {K R : Type 0} (o : Kit K R) where
-  pub makes_all_of : (k : KeywordOver K R (SchemaNode K R)) (L : Path) (ns : List (SchemaNode K R)) → IsFormOfAllOf L ns k → MakesMember o shape.AllOf L ns (k ∷ [])
+module _ {K R N : Type 0} (o : Kit K R) (answers : N → Answers) where
+  pub makes_all_of : (k : KeywordOver K R N) (L : Path) (ns : List N) → IsFormOfAllOf L ns k → MakesMember o answers shape.AllOf L ns (k ∷ [])
   makes_all_of k L ns form ms m P p s h =
       let a = array_of m.1 s.1 in
-      subst (λ n. KeywordMeans o ms (k ∷ []) (n, m.1) P) (sym s.0) (means_all_of o k ns L a.0 m.1 a.1 form (subst (λ x. StandEach o ns (numbered (items_of_array x)) L) a.1 h) ms P (p ∙ ap (λ n. P // n) s.0))
+      subst (λ n. KeywordMeans o answers ms (k ∷ []) (n, m.1) P) (sym s.0) (means_all_of o answers k ns L a.0 m.1 a.1 form (subst (λ x. StandEach o answers ns (numbered (items_of_array x)) L) a.1 h) ms P (p ∙ ap (λ n. P // n) s.0))
 
-  pub makes_any_of : (k : KeywordOver K R (SchemaNode K R)) (L : Path) (ns : List (SchemaNode K R)) → IsFormOfAnyOf L ns k → MakesMember o shape.AnyOf L ns (k ∷ [])
+  pub makes_any_of : (k : KeywordOver K R N) (L : Path) (ns : List N) → IsFormOfAnyOf L ns k → MakesMember o answers shape.AnyOf L ns (k ∷ [])
   makes_any_of k L ns form ms m P p s h =
       let a = array_of m.1 s.1 in
-      subst (λ n. KeywordMeans o ms (k ∷ []) (n, m.1) P) (sym s.0) (means_any_of o k ns L a.0 m.1 a.1 form (subst (λ x. StandEach o ns (numbered (items_of_array x)) L) a.1 h) ms P (p ∙ ap (λ n. P // n) s.0))
+      subst (λ n. KeywordMeans o answers ms (k ∷ []) (n, m.1) P) (sym s.0) (means_any_of o answers k ns L a.0 m.1 a.1 form (subst (λ x. StandEach o answers ns (numbered (items_of_array x)) L) a.1 h) ms P (p ∙ ap (λ n. P // n) s.0))
 
-  pub makes_one_of : (k : KeywordOver K R (SchemaNode K R)) (L : Path) (ns : List (SchemaNode K R)) → IsFormOfOneOf L ns k → MakesMember o shape.OneOf L ns (k ∷ [])
+  pub makes_one_of : (k : KeywordOver K R N) (L : Path) (ns : List N) → IsFormOfOneOf L ns k → MakesMember o answers shape.OneOf L ns (k ∷ [])
   makes_one_of k L ns form ms m P p s h =
       let a = array_of m.1 s.1 in
-      subst (λ n. KeywordMeans o ms (k ∷ []) (n, m.1) P) (sym s.0) (means_one_of o k ns L a.0 m.1 a.1 form (subst (λ x. StandEach o ns (numbered (items_of_array x)) L) a.1 h) ms P (p ∙ ap (λ n. P // n) s.0))
+      subst (λ n. KeywordMeans o answers ms (k ∷ []) (n, m.1) P) (sym s.0) (means_one_of o answers k ns L a.0 m.1 a.1 form (subst (λ x. StandEach o answers ns (numbered (items_of_array x)) L) a.1 h) ms P (p ∙ ap (λ n. P // n) s.0))
 
-  pub makes_not : (original : Value) (L : Path) (n : SchemaNode K R) (rest ns : List (SchemaNode K R)) → ns ≡ rest ++ n ∷ [] → MakesMember o (shape.Not original) L ns (keyword.Not (record { original = original; node = n; location = L }) ∷ [])
-  makes_not original L n rest ns e ms m P p s h = by rest (subst (λ l. StandAt o (reads_of {K = K} {R = R} (shape.Not original)) l m.1 L) e h)
+  pub makes_not : (original : Value) (L : Path) (n : N) (rest ns : List N) → ns ≡ rest ++ n ∷ [] → MakesMember o answers (shape.Not original) L ns (keyword.Not (record { original = original; node = n; location = L }) ∷ [])
+  makes_not original L n rest ns e ms m P p s h = by rest (subst (λ l. StandAt o answers (reads_of {K = K} {R = R} (shape.Not original)) l m.1 L) e h)
     where
-      by : (rest : List (SchemaNode K R)) → StandAt o (reads_of {K = K} {R = R} (shape.Not original)) (rest ++ n ∷ []) m.1 L → KeywordMeans o ms (keyword.Not (record { original = original; node = n; location = L }) ∷ []) m P
-      by [] g = subst (λ k. KeywordMeans o ms (keyword.Not (record { original = original; node = n; location = L }) ∷ []) (k, m.1) P) (sym s.0) (means_not o original n L m.1 s.1 g ms P (p ∙ ap (λ n. P // n) s.0))
+      by : (rest : List N) → StandAt o answers (reads_of {K = K} {R = R} (shape.Not original)) (rest ++ n ∷ []) m.1 L → KeywordMeans o answers ms (keyword.Not (record { original = original; node = n; location = L }) ∷ []) m P
+      by [] g = subst (λ k. KeywordMeans o answers ms (keyword.Not (record { original = original; node = n; location = L }) ∷ []) (k, m.1) P) (sym s.0) (means_not o answers original n L m.1 s.1 g ms P (p ∙ ap (λ n. P // n) s.0))
       by (x ∷ []) g = absurd g
       by (x ∷ y ∷ rest) g = absurd g
 
-  pub makes_no_not : (original : Value) (L : Path) (ns : List (SchemaNode K R)) (ks : List (KeywordOver K R (SchemaNode K R))) → ns ≡ [] → MakesMember o (shape.Not original) L ns ks
-  makes_no_not original L ns ks e ms m P p s h = absurd (subst (λ l. StandAt o (reads_of {K = K} {R = R} (shape.Not original)) l m.1 L) e h)
+  pub makes_no_not : (original : Value) (L : Path) (ns : List N) (ks : List (KeywordOver K R N)) → ns ≡ [] → MakesMember o answers (shape.Not original) L ns ks
+  makes_no_not original L ns ks e ms m P p s h = absurd (subst (λ l. StandAt o answers (reads_of {K = K} {R = R} (shape.Not original)) l m.1 L) e h)
 
-  pub makes_required : (v : Vec (String Global) Global) (L : Path) (ns : List (SchemaNode K R)) → MakesMember o (shape.Required v) L ns (keyword.Required (record { required = v; location = L }) ∷ [])
-  makes_required v L ns ms m P p s h = subst (λ n. KeywordMeans o ms (keyword.Required (record { required = v; location = L }) ∷ []) (n, m.1) P) (sym s.0) (means_required o v L m.1 s.2 ms P (p ∙ ap (λ n. P // n) s.0))
+  pub makes_required : (v : Vec (String Global) Global) (L : Path) (ns : List N) → MakesMember o answers (shape.Required v) L ns (keyword.Required (record { required = v; location = L }) ∷ [])
+  makes_required v L ns ms m P p s h = subst (λ n. KeywordMeans o answers ms (keyword.Required (record { required = v; location = L }) ∷ []) (n, m.1) P) (sym s.0) (means_required o answers v L m.1 s.2 ms P (p ∙ ap (λ n. P // n) s.0))
 
-  pub makes_leaf : (l : K) (L : Path) (ns : List (SchemaNode K R)) → MakesMember o (shape.Leaf l) L ns (keyword.Leaf L l ∷ [])
-  makes_leaf l L ns ms m P p s h = means_leaf o l m.0 L m.1 s.0 s.1 s.2 ms P p
+  pub makes_leaf : (l : K) (L : Path) (ns : List N) → MakesMember o answers (shape.Leaf l) L ns (keyword.Leaf L l ∷ [])
+  makes_leaf l L ns ms m P p s h = means_leaf o answers l m.0 L m.1 s.0 s.1 s.2 ms P p
 
-  pub makes_unread : (L : Path) (ns : List (SchemaNode K R)) → MakesMember o shape.Unread L ns []
-  makes_unread L ns ms m P p s h = means_unread o m.0 m.1 s ms P
+  pub makes_unread : (L : Path) (ns : List N) → MakesMember o answers shape.Unread L ns []
+  makes_unread L ns ms m P p s h = means_unread o answers m.0 m.1 s ms P
 
-  pub makes_properties : (k : KeywordOver K R (SchemaNode K R)) (names : List Name) (ns : List (SchemaNode K R)) (L P : Path) (p : Planned) → IsFormOfProperties P L names ns p.fused k → MakesClaims o (shape.Properties names) L ns P p (k ∷ [])
+  pub makes_properties : (k : KeywordOver K R N) (names : List Name) (ns : List N) (L P : Path) (p : Planned) → IsFormOfProperties P L names ns p.fused k → MakesClaims o answers (shape.Properties names) L ns P p (k ∷ [])
   makes_properties k names ns L P p form ms m l s h distinct there chosen untaken =
       let a = object_of m.1 s.1 in
-      subst (λ n. KeywordsMean o ms (k ∷ []) (claims (head p) (listed ms) (n, m.1)) ((n, m.1) ∷ []) P) (sym s.0)
-      (subst (λ q. KeywordsMean o ms (k ∷ []) (claims (head q) (listed ms) (codes "properties", m.1)) ((codes "properties", m.1) ∷ []) P) (sym chosen)
-      (means_form o k names ns L P p.fused a.0 m.1 a.1 (s.2 ∙ ap (λ x. map (λ e. e.0) (members x)) a.1) (subst (λ x. StandEach o ns (members x) L) a.1 h) form ms (l ∙ ap (λ n. P // n) s.0) distinct (ap (λ n. lookup n (listed ms)) (sym s.0) ∙ there) (ap (λ q. q.fused) chosen)
-      (ap (λ q. q.restricted) (sym chosen) ∙ unrestricted_if_untaken o p (codes "properties") refl (ap (is_taken p) (sym s.0) ∙ untaken))))
+      subst (λ n. KeywordsMean o answers ms (k ∷ []) (claims (head p) (listed ms) (n, m.1)) ((n, m.1) ∷ []) P) (sym s.0)
+      (subst (λ q. KeywordsMean o answers ms (k ∷ []) (claims (head q) (listed ms) (codes "properties", m.1)) ((codes "properties", m.1) ∷ []) P) (sym chosen)
+      (means_form o answers k names ns L P p.fused a.0 m.1 a.1 (s.2 ∙ ap (λ x. map (λ e. e.0) (members x)) a.1) (subst (λ x. StandEach o answers ns (members x) L) a.1 h) form ms (l ∙ ap (λ n. P // n) s.0) distinct (ap (λ n. lookup n (listed ms)) (sym s.0) ∙ there) (ap (λ q. q.fused) chosen)
+      (ap (λ q. q.restricted) (sym chosen) ∙ unrestricted_if_untaken o answers p (codes "properties") refl (ap (is_taken p) (sym s.0) ∙ untaken))))
 
-  module _ (v : Vec (String Global) Global) (L P : Path) (ns : List (SchemaNode K R)) (p : Planned) where
-    abbrev MakesRequired : List (KeywordOver K R (SchemaNode K R)) → Type 0
-    MakesRequired ks = MakesClaims o (shape.Required v) L ns P p ks
+  module _ (v : Vec (String Global) Global) (L P : Path) (ns : List N) (p : Planned) where
+    abbrev MakesRequired : List (KeywordOver K R N) → Type 0
+    MakesRequired ks = MakesClaims o answers (shape.Required v) L ns P p ks
 
-    required_makes : (ks : List (KeywordOver K R (SchemaNode K R))) → ((ms : Members) (d : Data) → p ≡ plan_of ms → L ≡ P // codes "required" → map string_bytes v.items ≡ texts d → has_repeat (names_of (listed ms)) ≡ false → lookup (codes "required") (listed ms) ≡ Some d → KeywordsMean o ms ks (claims (head (plan_of ms)) (listed ms) (codes "required", d)) ((codes "required", d) ∷ []) P) → MakesRequired ks
-    required_makes ks make ms m l s h distinct there chosen untaken = subst (λ n. KeywordsMean o ms ks (claims (head p) (listed ms) (n, m.1)) ((n, m.1) ∷ []) P) (sym s.0)
-        (subst (λ q. KeywordsMean o ms ks (claims (head q) (listed ms) (codes "required", m.1)) ((codes "required", m.1) ∷ []) P) (sym chosen)
+    required_makes : (ks : List (KeywordOver K R N)) → ((ms : Members) (d : Data) → p ≡ plan_of ms → L ≡ P // codes "required" → map string_bytes v.items ≡ texts d → has_repeat (names_of (listed ms)) ≡ false → lookup (codes "required") (listed ms) ≡ Some d → KeywordsMean o answers ms ks (claims (head (plan_of ms)) (listed ms) (codes "required", d)) ((codes "required", d) ∷ []) P) → MakesRequired ks
+    required_makes ks make ms m l s h distinct there chosen untaken = subst (λ n. KeywordsMean o answers ms ks (claims (head p) (listed ms) (n, m.1)) ((n, m.1) ∷ []) P) (sym s.0)
+        (subst (λ q. KeywordsMean o answers ms ks (claims (head q) (listed ms) (codes "required", m.1)) ((codes "required", m.1) ∷ []) P) (sym chosen)
         (make ms m.1 chosen (l ∙ ap (λ n. P // n) s.0) s.2 distinct (ap (λ n. lookup n (listed ms)) (sym s.0) ∙ there)))
 
     pub makes_required_elsewhere : is_some p.fused ≡ true → MakesRequired []
     makes_required_elsewhere e = required_makes [] (λ ms d chosen l same distinct there. by ms d (fused_names ms) refl (ap (λ q. is_some q.fused) (sym chosen) ∙ e))
       where
-        by : (ms : Members) (d : Data) (t : Option (Name × Name)) → fused_names ms ≡ t → is_some t ≡ true → KeywordsMean o ms [] (claims (head (plan_of ms)) (listed ms) (codes "required", d)) ((codes "required", d) ∷ []) P
+        by : (ms : Members) (d : Data) (t : Option (Name × Name)) → fused_names ms ≡ t → is_some t ≡ true → KeywordsMean o answers ms [] (claims (head (plan_of ms)) (listed ms) (codes "required", d)) ((codes "required", d) ∷ []) P
         by ms d None q f = absurd (true≢false (sym f))
-        by ms d (Some t) q f = means_fused o t d ms P (sym q)
+        by ms d (Some t) q f = means_fused o answers t d ms P (sym q)
 
     pub makes_required_inside : is_some p.fused_one ≡ true → MakesRequired []
-    makes_required_inside e = required_makes [] (λ ms d chosen l same distinct there. means_fused_one o d ms P (ap (λ q. is_some q.fused_one) (sym chosen) ∙ e))
+    makes_required_inside e = required_makes [] (λ ms d chosen l same distinct there. means_fused_one o answers d ms P (ap (λ q. is_some q.fused_one) (sym chosen) ∙ e))
 
     pub makes_required_alone : is_some p.fused ≡ false → is_some p.fused_one ≡ false → MakesRequired (keyword.Required (record { required = v; location = L }) ∷ [])
-    makes_required_alone e f = required_makes (keyword.Required (record { required = v; location = L }) ∷ []) (λ ms d chosen l same distinct there. means_required_alone o v L d same ms P l distinct there (ap (λ q. is_some q.fused) (sym chosen) ∙ e) (ap (λ q. is_some q.fused_one) (sym chosen) ∙ f))
+    makes_required_alone e f = required_makes (keyword.Required (record { required = v; location = L }) ∷ []) (λ ms d chosen l same distinct there. means_required_alone o answers v L d same ms P l distinct there (ap (λ q. is_some q.fused) (sym chosen) ∙ e) (ap (λ q. is_some q.fused_one) (sym chosen) ∙ f))
 
   -- a keyword that has no neighbours claims its own member
   abbrev pub IsAlone : Shape K R → Type 0
@@ -151,19 +151,19 @@ module _ {K R : Type 0} (o : Kit K R) where
   told_by_none : (ms : Members) (p : Planned) (k : Name) → p ≡ plan_of ms → is_taken p k ≡ false → (is_restricted ms && tells_members k) ≡ false
   told_by_none ms p k chosen untaken = (neither (is_restricted ms && tells_members k) (is_condition ms && is_case k) (ap (λ q. is_taken q k) (sym chosen) ∙ untaken)).0
 
-  pub claims_own : (x y : Shape K R) (L : Path) (ns : List (SchemaNode K R)) (ks : List (KeywordOver K R (SchemaNode K R))) (P : Path) (p : Planned) → x ≡ y → IsAlone y → MakesMember o y L ns ks → MakesClaims o x L ns P p ks
-  claims_own x y L ns ks P p e alone make = subst (λ z. MakesClaims o z L ns P p ks) (sym e) (λ ms m l s h distinct there chosen untaken.
-      subst (λ q. KeywordsMean o ms ks (claims (head q) (listed ms) m) (m ∷ []) P) (sym chosen)
-      (means_own o ks ms m P distinct there (apart o.world (codes "properties") m.0 refl (alone m.0 m.1 s)) (apart o.world (codes "required") m.0 refl (alone m.0 m.1 s)) (no_case o.world (is_condition ms) m.0 (alone m.0 m.1 s))
+  pub claims_own : (x y : Shape K R) (L : Path) (ns : List N) (ks : List (KeywordOver K R N)) (P : Path) (p : Planned) → x ≡ y → IsAlone y → MakesMember o answers y L ns ks → MakesClaims o answers x L ns P p ks
+  claims_own x y L ns ks P p e alone make = subst (λ z. MakesClaims o answers z L ns P p ks) (sym e) (λ ms m l s h distinct there chosen untaken.
+      subst (λ q. KeywordsMean o answers ms ks (claims (head q) (listed ms) m) (m ∷ []) P) (sym chosen)
+      (means_own o answers ks ms m P distinct there (apart o.world (codes "properties") m.0 refl (alone m.0 m.1 s)) (apart o.world (codes "required") m.0 refl (alone m.0 m.1 s)) (no_case o.world (is_condition ms) m.0 (alone m.0 m.1 s))
       (never_taken (plan_of ms) m.0 (apart o.world (codes "additionalProperties") m.0 refl (alone m.0 m.1 s)) (apart o.world (codes "properties") m.0 refl (alone m.0 m.1 s)) (apart o.world (codes "patternProperties") m.0 refl (alone m.0 m.1 s)) (apart o.world (codes "required") m.0 refl (alone m.0 m.1 s)))
       (told_by_none ms p m.0 chosen untaken) (make ms m P l s h)))
 
   -- `patternProperties` does where nothing is restricted
-  pub patterns_claim_own : (x : Shape K R) (v : Vec (CompiledPattern R) Global) (t : Table) (L : Path) (ns : List (SchemaNode K R)) (ks : List (KeywordOver K R (SchemaNode K R))) (P : Path) (p : Planned) → x ≡ shape.PatternProperties v t → MakesMember o (shape.PatternProperties v t) L ns ks → MakesClaims o x L ns P p ks
-  patterns_claim_own x v t L ns ks P p e make = subst (λ z. MakesClaims o z L ns P p ks) (sym e) (λ ms m l s h distinct there chosen untaken.
-      subst (λ q. KeywordsMean o ms ks (claims (head q) (listed ms) m) (m ∷ []) P) (sym chosen)
-      (means_own o ks ms m P distinct there (ap (bytes_eq (codes "properties")) s.0) (ap (bytes_eq (codes "required")) s.0) (λ read_here. (ap (λ n. bytes_eq n (codes "if")) s.0, ap is_case s.0))
-      (free_takes_nothing ms m.0 (ap (λ q. q.restricted) (sym chosen) ∙ unrestricted_if_untaken o p m.0 (ap tells_members s.0) untaken))
+  pub patterns_claim_own : (x : Shape K R) (v : Vec (CompiledPattern R) Global) (t : Table) (L : Path) (ns : List N) (ks : List (KeywordOver K R N)) (P : Path) (p : Planned) → x ≡ shape.PatternProperties v t → MakesMember o answers (shape.PatternProperties v t) L ns ks → MakesClaims o answers x L ns P p ks
+  patterns_claim_own x v t L ns ks P p e make = subst (λ z. MakesClaims o answers z L ns P p ks) (sym e) (λ ms m l s h distinct there chosen untaken.
+      subst (λ q. KeywordsMean o answers ms ks (claims (head q) (listed ms) m) (m ∷ []) P) (sym chosen)
+      (means_own o answers ks ms m P distinct there (ap (bytes_eq (codes "properties")) s.0) (ap (bytes_eq (codes "required")) s.0) (λ read_here. (ap (λ n. bytes_eq n (codes "if")) s.0, ap is_case s.0))
+      (free_takes_nothing ms m.0 (ap (λ q. q.restricted) (sym chosen) ∙ unrestricted_if_untaken o answers p m.0 (ap tells_members s.0) untaken))
       (told_by_none ms p m.0 chosen untaken) (make ms m P l s h)))
 
   pub all_of_alone : IsAlone shape.AllOf
@@ -208,14 +208,14 @@ module _ {K R : Type 0} (o : Kit K R) where
   -- ---- what is made of a part
 
   -- a keyword that reads no places has no nodes
-  pub without_nodes : (x : Shape K R) (L : Path) (ns : List (SchemaNode K R)) (ks : List (KeywordOver K R (SchemaNode K R))) → reads_of x ≡ Nothing → MakesMember o x L [] ks → MakesMember o x L ns ks
-  without_nodes x L ns ks none make ms m P place s stand = make ms m P place s (subst (λ r. StandAt o r [] m.1 L) (sym none) refl)
+  pub without_nodes : (x : Shape K R) (L : Path) (ns : List N) (ks : List (KeywordOver K R N)) → reads_of x ≡ Nothing → MakesMember o answers x L [] ks → MakesMember o answers x L ns ks
+  without_nodes x L ns ks none make ms m P place s stand = make ms m P place s (subst (λ r. StandAt o answers r [] m.1 L) (sym none) refl)
 
   -- all but `if` and `additionalProperties` hold their own nodes alone
-  pub part_of_claims : (x : Shape K R) (L : Path) (ns : List (SchemaNode K R)) (t : Taken R (SchemaNode K R)) (ks : List (KeywordOver K R (SchemaNode K R))) (P : Path) (p : Planned) → MakesClaims o x L ns P p ks → MakesPart o x L ns t P p ks
+  pub part_of_claims : (x : Shape K R) (L : Path) (ns : List N) (t : Taken R N) (ks : List (KeywordOver K R N)) (P : Path) (p : Planned) → MakesClaims o answers x L ns P p ks → MakesPart o answers x L ns t P p ks
   part_of_claims x L ns t ks P p make ms m place s fits stand cases beside distinct there chosen untaken = make ms m place s stand distinct there chosen untaken
 
-  pub part_of_own : (x y : Shape K R) (L : Path) (ns : List (SchemaNode K R)) (t : Taken R (SchemaNode K R)) (ks : List (KeywordOver K R (SchemaNode K R))) (P : Path) (p : Planned) → x ≡ y → IsAlone y → MakesMember o y L ns ks → MakesPart o x L ns t P p ks
+  pub part_of_own : (x y : Shape K R) (L : Path) (ns : List N) (t : Taken R N) (ks : List (KeywordOver K R N)) (P : Path) (p : Planned) → x ≡ y → IsAlone y → MakesMember o answers y L ns ks → MakesPart o answers x L ns t P p ks
   part_of_own x y L ns t ks P p e alone make = part_of_claims x L ns t ks P p (claims_own x y L ns ks P p e alone make)
 
   -- ---- the parts of an object, one after the other
@@ -267,17 +267,17 @@ module _ {K R : Type 0} (o : Kit K R) where
     stays = untaken (plan_of ms) (listed ms)
 
     -- the keywords so far mean what the members so far claim, and the parts that are left stand for the others; what was taken is there until `if` and `additionalProperties` have it
-    pub record MadeSoFar (ks : List (KeywordOver K R (SchemaNode K R))) (ps : List (Part K R (SchemaNode K R))) (t : Taken R (SchemaNode K R)) : Type 0 where
+    pub record MadeSoFar (ks : List (KeywordOver K R N)) (ps : List (Part K R N)) (t : Taken R N) : Type 0 where
       pub done : List (Name × Data)
       pub left : List (Name × Data)
-      pub mean : KeywordsMean o ms ks (flat_map (claims heads (listed ms)) done) done P
-      pub stand : PartsStand o (known_of ms) ps left P
-      pub cases : is_condition ms ≡ true → is_among (codes "if") (names_of done) ≡ false → CasesStand o t.cases ms P
-      pub beside : is_restricted ms ≡ true → is_among (codes "additionalProperties") (names_of done) ≡ false → BesideStands o (known_of ms) t.beside ms P
+      pub mean : KeywordsMean o answers ms ks (flat_map (claims heads (listed ms)) done) done P
+      pub stand : PartsStand o answers (known_of ms) ps left P
+      pub cases : is_condition ms ≡ true → is_among (codes "if") (names_of done) ≡ false → CasesStand o answers t.cases ms P
+      pub beside : is_restricted ms ≡ true → is_among (codes "additionalProperties") (names_of done) ≡ false → BesideStands o answers (known_of ms) t.beside ms P
       pub whole : done ++ left ≡ stays
 
-    pub none_made : (ks : List (KeywordOver K R (SchemaNode K R))) (ps : List (Part K R (SchemaNode K R))) (t : Taken R (SchemaNode K R)) → ks ≡ [] → PartsStand o (known_of ms) ps stays P → (is_condition ms ≡ true → CasesStand o t.cases ms P) → (is_restricted ms ≡ true → BesideStands o (known_of ms) t.beside ms P) → MadeSoFar ks ps t
-    none_made ks ps t e h cases beside = record { done = []; left = stays; mean = no_keywords_mean o ms P ks e; stand = h; cases = λ read none. cases read; beside = λ restricted none. beside restricted; whole = refl }
+    pub none_made : (ks : List (KeywordOver K R N)) (ps : List (Part K R N)) (t : Taken R N) → ks ≡ [] → PartsStand o answers (known_of ms) ps stays P → (is_condition ms ≡ true → CasesStand o answers t.cases ms P) → (is_restricted ms ≡ true → BesideStands o answers (known_of ms) t.beside ms P) → MadeSoFar ks ps t
+    none_made ks ps t e h cases beside = record { done = []; left = stays; mean = no_keywords_mean o answers ms P ks e; stand = h; cases = λ read none. cases read; beside = λ restricted none. beside restricted; whole = refl }
 
     -- a name that is not among one more is among none
     earlier : (k : Name) (done : List (Name × Data)) (m : Name × Data) → is_among k (names_of (done ++ m ∷ [])) ≡ false → (is_among k (names_of done) ≡ false) × (bytes_eq k m.0 ≡ false)
@@ -347,25 +347,25 @@ module _ {K R : Type 0} (o : Kit K R) where
           by true q later = later
           by false q later = (q, later)
 
-      pub one_more_made : (ks ls new : List (KeywordOver K R (SchemaNode K R))) (part : Part K R (SchemaNode K R)) (ps all : List (Part K R (SchemaNode K R))) (t after : Taken R (SchemaNode K R)) → new ≡ ks ++ ls → all ≡ part ∷ ps → MadeSoFar ks all t → MakesPart o part.shape part.location part.nodes.items t P p ls
+      pub one_more_made : (ks ls new : List (KeywordOver K R N)) (part : Part K R N) (ps all : List (Part K R N)) (t after : Taken R N) → new ≡ ks ++ ls → all ≡ part ∷ ps → MadeSoFar ks all t → MakesPart o answers part.shape part.location part.nodes.items t P p ls
           → (is_if_shape part.shape ≡ false → after.cases ≡ t.cases) → (is_restriction_shape part.shape ≡ false → after.beside ≡ t.beside) → MadeSoFar new ps after
-      one_more_made ks ls new part ps all t after q e h make cases_kept beside_kept = by h.left (subst (λ l. PartsStand o (known_of ms) l h.left P) e h.stand) h.whole
+      one_more_made ks ls new part ps all t after q e h make cases_kept beside_kept = by h.left (subst (λ l. PartsStand o answers (known_of ms) l h.left P) e h.stand) h.whole
         where
-          by : (left : List (Name × Data)) → PartsStand o (known_of ms) (part ∷ ps) left P → h.done ++ left ≡ stays → MadeSoFar new ps after
+          by : (left : List (Name × Data)) → PartsStand o answers (known_of ms) (part ∷ ps) left P → h.done ++ left ≡ stays → MadeSoFar new ps after
           by [] stand w = absurd stand
           by (m ∷ left) stand w = record {
             done = h.done ++ m ∷ [];
             left = left;
-            mean = one_more_keyword o ms P heads ks ls new h.done m q h.mean (subst (λ s. KeywordsMean o ms ls (claims (head s) (listed ms) m) (m ∷ []) P) chosen
-                (make ms m stand.0.place stand.0.shape stand.0.fits (subst (λ L. StandAt o (reads_of part.shape) part.nodes.items m.1 L) (sym stand.0.place) stand.0.nodes)
+            mean = one_more_keyword o answers ms P heads ks ls new h.done m q h.mean (subst (λ s. KeywordsMean o answers ms ls (claims (head s) (listed ms) m) (m ∷ []) P) chosen
+                (make ms m stand.0.place stand.0.shape stand.0.fits (subst (λ L. StandAt o answers (reads_of part.shape) part.nodes.items m.1 L) (sym stand.0.place) stand.0.nodes)
                 (λ taking. h.cases (if_fits part.shape (known_of ms) stand.0.fits taking) (first (codes "if") (if_named part.shape m.0 m.1 stand.0.shape taking)))
                 (λ taking. let r = restriction_named part.shape m.0 m.1 stand.0.shape taking in h.beside (ap is_restriction (ap (λ k. lookup k (listed ms)) (sym r.0) ∙ found) ∙ r.1) (first (codes "additionalProperties") r.0))
                 distinct found chosen (ap (λ s. is_taken s m.0) chosen ∙ at_place (λ x. is_taken (plan_of ms) x.0 ≡ false) h.done m left (subst (Each (λ x. is_taken (plan_of ms) x.0 ≡ false)) (sym w) (stays_untaken (listed ms))))));
             stand = stand.1;
             cases = λ read none. let before = earlier (codes "if") h.done m none in
-                subst (λ x. CasesStand o x ms P) (sym (cases_kept (not_so (codes "if") m.0 (is_if_shape part.shape) (if_named part.shape m.0 m.1 stand.0.shape) before.1))) (h.cases read before.0);
+                subst (λ x. CasesStand o answers x ms P) (sym (cases_kept (not_so (codes "if") m.0 (is_if_shape part.shape) (if_named part.shape m.0 m.1 stand.0.shape) before.1))) (h.cases read before.0);
             beside = λ restricted none. let before = earlier (codes "additionalProperties") h.done m none in
-                subst (λ x. BesideStands o (known_of ms) x ms P) (sym (beside_kept (not_so (codes "additionalProperties") m.0 (is_restriction_shape part.shape) (λ r. (restriction_named part.shape m.0 m.1 stand.0.shape r).0) before.1))) (h.beside restricted before.0);
+                subst (λ x. BesideStands o answers (known_of ms) x ms P) (sym (beside_kept (not_so (codes "additionalProperties") m.0 (is_restriction_shape part.shape) (λ r. (restriction_named part.shape m.0 m.1 stand.0.shape r).0) before.1))) (h.beside restricted before.0);
             whole = append_assoc h.done (m ∷ []) left ∙ w;
           }
             where
@@ -375,15 +375,15 @@ module _ {K R : Type 0} (o : Kit K R) where
               found : lookup m.0 (listed ms) ≡ Some m.1
               found = at_place (λ x. lookup x.0 (listed ms) ≡ Some x.1) h.done m left (subst (Each (λ x. lookup x.0 (listed ms) ≡ Some x.1)) (sym w) stays_found)
 
-      pub all_made : (ks : List (KeywordOver K R (SchemaNode K R))) (ps : List (Part K R (SchemaNode K R))) (t : Taken R (SchemaNode K R)) → ps ≡ [] → MadeSoFar ks ps t → KeywordsMean o ms ks (listed ms) (listed ms) P
-      all_made ks ps t e h = by h.left (subst (λ l. PartsStand o (known_of ms) l h.left P) e h.stand) h.whole
+      pub all_made : (ks : List (KeywordOver K R N)) (ps : List (Part K R N)) (t : Taken R N) → ps ≡ [] → MadeSoFar ks ps t → KeywordsMean o answers ms ks (listed ms) (listed ms) P
+      all_made ks ps t e h = by h.left (subst (λ l. PartsStand o answers (known_of ms) l h.left P) e h.stand) h.whole
         where
-          with_taken : KeywordsMean o ms ks (flat_map (claims heads (listed ms)) stays) stays P → KeywordsMean o ms ks (flat_map (claims heads (listed ms)) (listed ms)) (listed ms) P
+          with_taken : KeywordsMean o answers ms ks (flat_map (claims heads (listed ms)) stays) stays P → KeywordsMean o answers ms ks (flat_map (claims heads (listed ms)) (listed ms)) (listed ms) P
           with_taken k = record {
-            covers = subst (λ rows. Covers o ms ks rows P) (flat_untaken (claims heads (listed ms)) taken_claims_none (listed ms)) k.covers;
+            covers = subst (λ rows. Covers o answers ms ks rows P) (flat_untaken (claims heads (listed ms)) taken_claims_none (listed ms)) k.covers;
             shows = λ clean u v Q. k.shows clean u v Q ∙ flat_untaken (λ m. member_child o.world ms m (which o ms m) u v P Q) (λ m taken. taken_shows_none m taken u v Q) (listed ms);
           }
 
-          by : (left : List (Name × Data)) → PartsStand o (known_of ms) [] left P → h.done ++ left ≡ stays → KeywordsMean o ms ks (listed ms) (listed ms) P
-          by [] stand w = heads_mean_all o ms P heads ks distinct (heads_there ms distinct (plan_of ms) refl) (with_taken (subst (λ es. KeywordsMean o ms ks (flat_map (claims heads (listed ms)) es) es P) (sym (append-nil h.done) ∙ w) h.mean))
+          by : (left : List (Name × Data)) → PartsStand o answers (known_of ms) [] left P → h.done ++ left ≡ stays → KeywordsMean o answers ms ks (listed ms) (listed ms) P
+          by [] stand w = heads_mean_all o answers ms P heads ks distinct (heads_there ms distinct (plan_of ms) refl) (with_taken (subst (λ es. KeywordsMean o answers ms ks (flat_map (claims heads (listed ms)) es) es P) (sym (append-nil h.done) ∙ w) h.mean))
           by (m ∷ left) stand w = absurd stand

@@ -19,8 +19,7 @@ use Rattle.olk_tree.specs.Answers.{one_of_report, validator_means, validator_rep
 use Rattle.olk_tree.specs.Shown.{several_accept, one_of_tree}
 use Rattle.olk_tree.specs.declared.node.KeywordOver.{KeywordOver}
 use Rattle.olk_tree.specs.declared.node.KeywordOver.TheVariants as keyword
-use Rattle.olk_node.specs.Nodes.{answers}
-use Rattle.olk_node.specs.declared.node.SchemaNode.{SchemaNode}
+use Rattle.olk_tree.specs.Places.{Answers}
 use Rattle.olk_members.proofs.OneOf as fact
 use Rattle.olk_make.specs.Forms.{IsFormOfOneOf}
 use Rattle.olk_make.specs.Holding.{StandEach}
@@ -44,67 +43,67 @@ multiple_valid : (b : Bool) (c d : Context) (v : Data) (P Q : Path) → IsLikeCo
 multiple_valid true c d v P Q h = like_next (like (like_multiple h)) like_empty
 multiple_valid false c d v P Q h = like_empty
 
-module _ {K R : Type 0} (o : Kit K R) where
+module _ {K R N : Type 0} (o : Kit K R) (answers : N → Answers) where
   module _ (u : Bool) (v : Data) where
     -- as many nodes accept as schemas
-    counted : (ns : List (SchemaNode K R)) (es : List (Name × Data)) (L : Path) → StandEach o ns es L → count_by (accepts_value o u v) ns ≡ fact.accepting_count o.world u v es
+    counted : (ns : List N) (es : List (Name × Data)) (L : Path) → StandEach o answers ns es L → count_by (accepts_value o answers u v) ns ≡ fact.accepting_count o.world u v es
     counted [] [] L h = refl
     counted [] (e ∷ es) L h = absurd h
     counted (n ∷ ns) [] L h = absurd h
     counted (n ∷ ns) (e ∷ es) L h =
-        sum_by-cons (λ x. cond (accepts_value o u v x) 1 0) n ns
+        sum_by-cons (λ x. cond (accepts_value o answers u v x) 1 0) n ns
         ∙ (λ i. cond (h.0.verdict u v i) 1 0 + counted ns es L h.1 i)
         ∙ sym (sum_by-cons (λ (x : Name × Data). cond (accepts o.world u x.1 v) 1 0) e es)
 
-    one_show : (Q : Path) (ns : List (SchemaNode K R)) (es : List (Name × Data)) (L : Path) → StandEach o ns es L → one_of_tree (λ n. (answers o n).tree u) v Q (accepts_value o u v) L ns ≡ fact.one_shown o.world u v (fact.accepting_count o.world u v es) L Q es
+    one_show : (Q : Path) (ns : List N) (es : List (Name × Data)) (L : Path) → StandEach o answers ns es L → one_of_tree (λ n. (answers n).tree u) v Q (accepts_value o answers u v) L ns ≡ fact.one_shown o.world u v (fact.accepting_count o.world u v es) L Q es
     one_show Q ns es L h = λ i. cond (counted ns es L h i == 0)
-        (result L Q None true [] (branches_show o u v Q ns es L h i))
-        (result L Q None false (put_if (nat_lt 1 (counted ns es L h i)) several_accept []) (accepting_show o u v Q ns es L h i))
+        (result L Q None true [] (branches_show o answers u v Q ns es L h i))
+        (result L Q None false (put_if (nat_lt 1 (counted ns es L h i)) several_accept []) (accepting_show o answers u v Q ns es L h i))
 
-  module _ (L : Path) (ns : List (SchemaNode K R)) (u : Bool) (v : Data) where
-    abbrev accepting : List (SchemaNode K R) → ℕ
-    accepting xs = count_by (accepts_value o u v) xs
+  module _ (L : Path) (ns : List N) (u : Bool) (v : Data) where
+    abbrev accepting : List N → ℕ
+    accepting xs = count_by (accepts_value o answers u v) xs
 
-    abbrev finding : List (SchemaNode K R) → Path → Context
-    finding xs Q = context (map (λ n. (answers o n).report u v Q) xs)
+    abbrev finding : List N → Path → Context
+    finding xs Q = context (map (λ n. (answers n).report u v Q) xs)
 
-    form_accepts : (k : KeywordOver K R (SchemaNode K R)) → IsFormOfOneOf L ns k → (question o k v).accepts u ≡ (accepting ns == 1)
+    form_accepts : (k : KeywordOver K R N) → IsFormOfOneOf L ns k → (question o answers k v).accepts u ≡ (accepting ns == 1)
     unfolding validator_means
     form_accepts (keyword.OneOf k) f = ap (λ xs. accepting xs == 1) f.0
-    form_accepts (keyword.SingleOneOf k) f = sym (one_counted (accepts_value o u v k.node)) ∙ ap (λ xs. accepting xs == 1) (sym f.0)
+    form_accepts (keyword.SingleOneOf k) f = sym (one_counted (accepts_value o answers u v k.node)) ∙ ap (λ xs. accepting xs == 1) (sym f.0)
     form_accepts k f = absurd f
 
-    form_asks : (k : KeywordOver K R (SchemaNode K R)) → IsFormOfOneOf L ns k → (question o k v).asks u ≤ (some (at_value o u v) ns).asks u
+    form_asks : (k : KeywordOver K R N) → IsFormOfOneOf L ns k → (question o answers k v).asks u ≤ (some (at_value o answers u v) ns).asks u
     unfolding validator_means
-    form_asks (keyword.OneOf k) f = let e = ap (λ xs. (some (at_value o u v) xs).asks u) f.0 in omega (arith, e)
-    form_asks (keyword.SingleOneOf k) f = let e = ap (λ xs. (some (at_value o u v) xs).asks u) f.0 in omega (arith, e)
+    form_asks (keyword.OneOf k) f = let e = ap (λ xs. (some (at_value o answers u v) xs).asks u) f.0 in omega (arith, e)
+    form_asks (keyword.SingleOneOf k) f = let e = ap (λ xs. (some (at_value o answers u v) xs).asks u) f.0 in omega (arith, e)
     form_asks k f = absurd f
 
-    form_finds : (Q : Path) (k : KeywordOver K R (SchemaNode K R)) → IsFormOfOneOf L ns k → found o u k v Q ≡ one_of_report (accepting ns) (finding ns Q) v L Q
+    form_finds : (Q : Path) (k : KeywordOver K R N) → IsFormOfOneOf L ns k → found o answers u k v Q ≡ one_of_report (accepting ns) (finding ns Q) v L Q
     unfolding validator_report
     form_finds Q (keyword.OneOf k) f = λ i. one_of_report (accepting (f.0 i)) (finding (f.0 i) Q) v (f.2 i) Q
     form_finds Q (keyword.SingleOneOf k) f =
-        one_reported (accepts_value o u v k.node) (finding (k.node ∷ []) Q) v k.location Q
+        one_reported (accepts_value o answers u v k.node) (finding (k.node ∷ []) Q) v k.location Q
         ∙ (λ i. one_of_report (accepting (sym f.0 i)) (finding (sym f.0 i) Q) v (f.1 i) Q)
     form_finds Q k f = absurd f
 
-    form_shows : (Q : Path) (k : KeywordOver K R (SchemaNode K R)) → IsFormOfOneOf L ns k → shown o u k v Q ≡ one_of_tree (λ n. (answers o n).tree u) v Q (accepts_value o u v) L ns
+    form_shows : (Q : Path) (k : KeywordOver K R N) → IsFormOfOneOf L ns k → shown o answers u k v Q ≡ one_of_tree (λ n. (answers n).tree u) v Q (accepts_value o answers u v) L ns
     unfolding validator_tree
-    form_shows Q (keyword.OneOf k) f = λ i. one_of_tree (λ n. (answers o n).tree u) v Q (accepts_value o u v) (f.2 i) (f.0 i)
-    form_shows Q (keyword.SingleOneOf k) f = λ i. one_of_tree (λ n. (answers o n).tree u) v Q (accepts_value o u v) (f.1 i) (sym f.0 i)
+    form_shows Q (keyword.OneOf k) f = λ i. one_of_tree (λ n. (answers n).tree u) v Q (accepts_value o answers u v) (f.2 i) (f.0 i)
+    form_shows Q (keyword.SingleOneOf k) f = λ i. one_of_tree (λ n. (answers n).tree u) v Q (accepts_value o answers u v) (f.1 i) (sym f.0 i)
     form_shows Q k f = absurd f
 
-  pub means_one_of : (k : KeywordOver K R (SchemaNode K R)) (ns : List (SchemaNode K R)) (L : Path) (ds : Items) (d : Data) → d ≡ array ds → IsFormOfOneOf L ns k → StandEach o ns (numbered (items_list ds)) L → (ms : Members) (P : Path) → L ≡ P // codes "oneOf" → KeywordMeans o ms (k ∷ []) (codes "oneOf", d) P
-  means_one_of k ns L ds d q form stand ms P p = subst (λ x. KeywordMeans o ms (k ∷ []) (codes "oneOf", x) P) (sym q) (record {
-    holds = one o ms k (codes "oneOf", array ds) one_of P
+  pub means_one_of : (k : KeywordOver K R N) (ns : List N) (L : Path) (ds : Items) (d : Data) → d ≡ array ds → IsFormOfOneOf L ns k → StandEach o answers ns (numbered (items_list ds)) L → (ms : Members) (P : Path) → L ≡ P // codes "oneOf" → KeywordMeans o answers ms (k ∷ []) (codes "oneOf", d) P
+  means_one_of k ns L ds d q form stand ms P p = subst (λ x. KeywordMeans o answers ms (k ∷ []) (codes "oneOf", x) P) (sym q) (record {
+    holds = one o answers ms k (codes "oneOf", array ds) one_of P
         (λ u v. form_accepts L ns u v k form ∙ ap (λ n. n == 1) (counted u v ns (numbered (items_list ds)) L stand) ∙ sym (fact.one_of_accepts o.world u v ms ds))
-        (λ u v. same_within _ _ _ (at_most_through o _ _ _ (form_asks L ns u v k form) (any_ask o u v ns (numbered (items_list ds)) L stand)) (fact.one_of_asks o.world u v ms ds))
+        (λ u v. same_within _ _ _ (at_most_through o answers _ _ _ (form_asks L ns u v k form) (any_ask o answers u v ns (numbered (items_list ds)) L stand)) (fact.one_of_asks o.world u v ms ds))
         (λ u v Q. subst₂ (λ x y. x ∼ y)
-        (sym (form_finds L ns u v Q k form ∙ ap (λ n. one_of_report n (context (map (λ x. (answers o x).report u v Q) ns)) v L Q) (counted u v ns (numbered (items_list ds)) L stand)))
+        (sym (form_finds L ns u v Q k form ∙ ap (λ n. one_of_report n (context (map (λ x. (answers x).report u v Q) ns)) v L Q) (counted u v ns (numbered (items_list ds)) L stand)))
         (ap (λ M. fact.one_of_faults o.world u v (fact.accepting_count o.world u v (numbered (items_list ds))) M Q (numbered (items_list ds))) p ∙ sym (fact.one_of_report o.world u v ms ds P Q))
         (∼_append
-        (not_valid (fact.accepting_count o.world u v (numbered (items_list ds)) == 0) _ _ v L Q (any_context o u v Q ns (numbered (items_list ds)) L stand))
-        (multiple_valid (nat_lt 1 (fact.accepting_count o.world u v (numbered (items_list ds)))) _ _ v L Q (any_context o u v Q ns (numbered (items_list ds)) L stand))));
+        (not_valid (fact.accepting_count o.world u v (numbered (items_list ds)) == 0) _ _ v L Q (any_context o answers u v Q ns (numbered (items_list ds)) L stand))
+        (multiple_valid (nat_lt 1 (fact.accepting_count o.world u v (numbered (items_list ds)))) _ _ v L Q (any_context o answers u v Q ns (numbered (items_list ds)) L stand))));
     shows = λ u h v Q.
         ap (λ t. t ∷ []) (form_shows L ns u v Q k form ∙ one_show u v Q ns (numbered (items_list ds)) L stand ∙ ap (λ M. fact.one_shown o.world u v (fact.accepting_count o.world u v (numbered (items_list ds))) M Q (numbered (items_list ds))) p)
         ∙ sym (fact.one_of_child o.world u v ms ds P Q);

@@ -30,9 +30,7 @@ use Rattle.olk_tree.specs.Shown.{match_trees, match_names, patterns_tree}
 use Rattle.olk_tree.specs.Answers.{matched_mean, patterns_mean, matched_report, patterns_report, validator_means, validator_report, validator_tree}
 use Rattle.olk_tree.specs.declared.node.KeywordOver.{KeywordOver}
 use Rattle.olk_tree.specs.declared.node.KeywordOver.TheVariants as keyword
-use Rattle.olk_node.specs.Nodes.{answers}
-use Rattle.olk_node.specs.Stands.{StandsFor}
-use Rattle.olk_node.specs.declared.node.SchemaNode.{SchemaNode}
+use Rattle.olk_tree.specs.Places.{Answers, Stands}
 use Rattle.olk_read.specs.Patterns.{IsPattern, ArePatterns}
 use Rattle.olk_read.specs.declared.shape.Shape.TheVariants as shape
 use Rattle.olk_make.specs.Holding.{StandEach}
@@ -62,11 +60,11 @@ module _ {P N : Type 0} where
       none [] = refl
       none (p ∷ ps) = refl
 
-module _ {K R : Type 0} (o : Kit K R) where
+module _ {K R N : Type 0} (o : Kit K R) (answers : N → Answers) where
   abbrev Entry : Type 0
-  Entry = CompiledPattern R × SchemaNode K R
+  Entry = CompiledPattern R × N
 
-  pub both_stand : (ps : List (CompiledPattern R)) (ns : List (SchemaNode K R)) (ds : List (Name × Data)) (L : Path) → ArePatterns o ps ds → StandEach o ns ds L → EntriesStand o (zip ps ns) ds L
+  pub both_stand : (ps : List (CompiledPattern R)) (ns : List N) (ds : List (Name × Data)) (L : Path) → ArePatterns o ps ds → StandEach o answers ns ds L → EntriesStand o answers (zip ps ns) ds L
   both_stand [] ns [] L h s = tt
   both_stand [] ns (d ∷ ds) L h s = absurd h
   both_stand (p ∷ ps) ns [] L h s = absurd h
@@ -75,14 +73,14 @@ module _ {K R : Type 0} (o : Kit K R) where
 
   -- ---- one pattern
 
-  module _ (e : Entry) (d : Name × Data) (L : Path) (h : IsPattern o e.0 d.0) (s : StandsFor o e.1 d.1 (L // d.0)) (u : Bool) where
+  module _ (e : Entry) (d : Name × Data) (L : Path) (h : IsPattern o e.0 d.0) (s : Stands o answers e.1 d.1 (L // d.0)) (u : Bool) where
     matched_same : (v : Data) → matched o.answers u e.0 v ≡ matched_members o.world u d.0 v
     matched_same v = λ i. those (λ x. reads_as u (h.answers x.0 i)) (members v)
 
     abbrev ask_member : Name × Data → Bool
     ask_member x = matches o.world u d.0 x.0
 
-    matched_accept : (xs : List (Name × Data)) → (every (λ x. conditional (match_question o.answers o.costs e.0 x.0) ((answers o e.1).means x.1) (always true)) xs).accepts u ≡ list_all (λ x. accepts o.world u d.1 x.1) (those ask_member xs)
+    matched_accept : (xs : List (Name × Data)) → (every (λ x. conditional (match_question o.answers o.costs e.0 x.0) ((answers e.1).means x.1) (always true)) xs).accepts u ≡ list_all (λ x. accepts o.world u d.1 x.1) (those ask_member xs)
     matched_accept [] = refl
     matched_accept (x ∷ xs) = (λ i. cond (reads_as u (h.answers x.0 i)) (s.verdict u x.1 i) true && matched_accept xs i) ∙ by (ask_member x)
       where
@@ -93,58 +91,58 @@ module _ {K R : Type 0} (o : Kit K R) where
     abbrev asked_member : Name × Data → ℕ
     asked_member x = pattern_asks o.world d.0 + cond (matches o.world u d.0 x.0) (asks o.world u d.1 x.1) 0
 
-    one_asks : (x : Name × Data) → cond (pattern_costs o.costs e.0) 1 0 + cond (reads_as u (pattern_answers o.answers e.0 x.0)) (((answers o e.1).means x.1).asks u) 0 ≤ asked_member x
+    one_asks : (x : Name × Data) → cond (pattern_costs o.costs e.0) 1 0 + cond (reads_as u (pattern_answers o.answers e.0 x.0)) (((answers e.1).means x.1).asks u) 0 ≤ asked_member x
     one_asks x = by (ask_member x) (ap (reads_as u) (h.answers x.0))
       where
-        by : (b : Bool) → reads_as u (pattern_answers o.answers e.0 x.0) ≡ b → cond (pattern_costs o.costs e.0) 1 0 + cond (reads_as u (pattern_answers o.answers e.0 x.0)) (((answers o e.1).means x.1).asks u) 0 ≤ pattern_asks o.world d.0 + cond b (asks o.world u d.1 x.1) 0
-        by true q = let c = ap {B = ℕ} (λ b. cond b 1 0) h.costs in let a = ap {B = ℕ} (λ b. cond b (((answers o e.1).means x.1).asks u) 0) q in let w = s.asks_within u x.1 in omega (arith, c, a, w)
-        by false q = let c = ap {B = ℕ} (λ b. cond b 1 0) h.costs in let a = ap {B = ℕ} (λ b. cond b (((answers o e.1).means x.1).asks u) 0) q in omega (arith, c, a)
+        by : (b : Bool) → reads_as u (pattern_answers o.answers e.0 x.0) ≡ b → cond (pattern_costs o.costs e.0) 1 0 + cond (reads_as u (pattern_answers o.answers e.0 x.0)) (((answers e.1).means x.1).asks u) 0 ≤ pattern_asks o.world d.0 + cond b (asks o.world u d.1 x.1) 0
+        by true q = let c = ap {B = ℕ} (λ b. cond b 1 0) h.costs in let a = ap {B = ℕ} (λ b. cond b (((answers e.1).means x.1).asks u) 0) q in let w = s.asks_within u x.1 in omega (arith, c, a, w)
+        by false q = let c = ap {B = ℕ} (λ b. cond b 1 0) h.costs in let a = ap {B = ℕ} (λ b. cond b (((answers e.1).means x.1).asks u) 0) q in omega (arith, c, a)
 
-    matched_ask : (xs : List (Name × Data)) → (every (λ x. conditional (match_question o.answers o.costs e.0 x.0) ((answers o e.1).means x.1) (always true)) xs).asks u ≤ sum_by asked_member xs
+    matched_ask : (xs : List (Name × Data)) → (every (λ x. conditional (match_question o.answers o.costs e.0 x.0) ((answers e.1).means x.1) (always true)) xs).asks u ≤ sum_by asked_member xs
     matched_ask [] = omega arith
     matched_ask (x ∷ xs) = sum_within _ _ _ _ _ (one_asks x) (matched_ask xs) (sum_by-cons asked_member x xs)
 
     module _ (v : Data) (Q : Path) where
-      matched_find : matched_report o.answers (λ n. (answers o n).report) u e.0 e.1 v Q ∼ flat_map (λ x. report o.world u d.1 x.1 (L // d.0) (Q // x.0)) (matched_members o.world u d.0 v)
-      matched_find = subst (λ xs. flat_map (λ x. (answers o e.1).report u x.1 (Q // x.0)) xs ∼ flat_map (λ x. report o.world u d.1 x.1 (L // d.0) (Q // x.0)) (matched_members o.world u d.0 v)) (sym (matched_same v))
-          (∼_flat_map_any (λ x. (answers o e.1).report u x.1 (Q // x.0)) (λ x. report o.world u d.1 x.1 (L // d.0) (Q // x.0)) (λ x. s.faults u x.1 (Q // x.0)) (matched_members o.world u d.0 v))
+      matched_find : matched_report o.answers (λ n. (answers n).report) u e.0 e.1 v Q ∼ flat_map (λ x. report o.world u d.1 x.1 (L // d.0) (Q // x.0)) (matched_members o.world u d.0 v)
+      matched_find = subst (λ xs. flat_map (λ x. (answers e.1).report u x.1 (Q // x.0)) xs ∼ flat_map (λ x. report o.world u d.1 x.1 (L // d.0) (Q // x.0)) (matched_members o.world u d.0 v)) (sym (matched_same v))
+          (∼_flat_map_any (λ x. (answers e.1).report u x.1 (Q // x.0)) (λ x. report o.world u d.1 x.1 (L // d.0) (Q // x.0)) (λ x. s.faults u x.1 (Q // x.0)) (matched_members o.world u d.0 v))
 
-      trees_at : (xs : List (Name × Data)) → map (λ x. (answers o e.1).tree u x.1 (Q // x.0)) xs ≡ map (λ x. tree o.world u d.1 x.1 (L // d.0) (Q // x.0)) xs
+      trees_at : (xs : List (Name × Data)) → map (λ x. (answers e.1).tree u x.1 (Q // x.0)) xs ≡ map (λ x. tree o.world u d.1 x.1 (L // d.0) (Q // x.0)) xs
       trees_at [] = refl
       trees_at (x ∷ xs) = λ i. s.evaluation u x.1 (Q // x.0) i ∷ trees_at xs i
 
-      matched_show : map (λ x. (answers o e.1).tree u x.1 (Q // x.0)) (matched o.answers u e.0 v) ≡ map (λ x. tree o.world u d.1 x.1 (L // d.0) (Q // x.0)) (matched_members o.world u d.0 v)
-      matched_show = ap (map (λ x. (answers o e.1).tree u x.1 (Q // x.0))) (matched_same v) ∙ trees_at (matched_members o.world u d.0 v)
+      matched_show : map (λ x. (answers e.1).tree u x.1 (Q // x.0)) (matched o.answers u e.0 v) ≡ map (λ x. tree o.world u d.1 x.1 (L // d.0) (Q // x.0)) (matched_members o.world u d.0 v)
+      matched_show = ap (map (λ x. (answers e.1).tree u x.1 (Q // x.0))) (matched_same v) ∙ trees_at (matched_members o.world u d.0 v)
 
   -- ---- all patterns
 
   module _ (L : Path) (u : Bool) (v : Data) where
-    patterns_accept : (es : List Entry) (ds : List (Name × Data)) → EntriesStand o es ds L → (patterns_mean o.answers o.costs (λ n. (answers o n).means) es v).accepts u ≡ list_all (λ d. list_all (λ x. accepts o.world u d.1 x.1) (matched_members o.world u d.0 v)) ds
+    patterns_accept : (es : List Entry) (ds : List (Name × Data)) → EntriesStand o answers es ds L → (patterns_mean o.answers o.costs (λ n. (answers n).means) es v).accepts u ≡ list_all (λ d. list_all (λ x. accepts o.world u d.1 x.1) (matched_members o.world u d.0 v)) ds
     patterns_accept [] [] h = refl
     patterns_accept [] (d ∷ ds) h = absurd h
     patterns_accept (e ∷ es) [] h = absurd h
     patterns_accept (e ∷ es) (d ∷ ds) h = λ i. matched_accept e d L h.0 h.1 u (members v) i && patterns_accept es ds h.2 i
 
-    patterns_ask : (es : List Entry) (ds : List (Name × Data)) → EntriesStand o es ds L → (patterns_mean o.answers o.costs (λ n. (answers o n).means) es v).asks u ≤ sum_by (λ d. sum_by (λ x. pattern_asks o.world d.0 + cond (matches o.world u d.0 x.0) (asks o.world u d.1 x.1) 0) (members v)) ds
+    patterns_ask : (es : List Entry) (ds : List (Name × Data)) → EntriesStand o answers es ds L → (patterns_mean o.answers o.costs (λ n. (answers n).means) es v).asks u ≤ sum_by (λ d. sum_by (λ x. pattern_asks o.world d.0 + cond (matches o.world u d.0 x.0) (asks o.world u d.1 x.1) 0) (members v)) ds
     patterns_ask [] [] h = omega arith
     patterns_ask [] (d ∷ ds) h = absurd h
     patterns_ask (e ∷ es) [] h = absurd h
     patterns_ask (e ∷ es) (d ∷ ds) h = sum_within _ _ _ _ _ (matched_ask e d L h.0 h.1 u (members v)) (patterns_ask es ds h.2) (sum_by-cons (λ d. sum_by (λ x. pattern_asks o.world d.0 + cond (matches o.world u d.0 x.0) (asks o.world u d.1 x.1) 0) (members v)) d ds)
 
     module _ (Q : Path) where
-      patterns_find : (es : List Entry) (ds : List (Name × Data)) → EntriesStand o es ds L → patterns_report o.answers (λ n. (answers o n).report) u es v Q ∼ flat_map (λ d. flat_map (λ x. report o.world u d.1 x.1 (L // d.0) (Q // x.0)) (matched_members o.world u d.0 v)) ds
+      patterns_find : (es : List Entry) (ds : List (Name × Data)) → EntriesStand o answers es ds L → patterns_report o.answers (λ n. (answers n).report) u es v Q ∼ flat_map (λ d. flat_map (λ x. report o.world u d.1 x.1 (L // d.0) (Q // x.0)) (matched_members o.world u d.0 v)) ds
       patterns_find [] [] h = like_empty
       patterns_find [] (d ∷ ds) h = absurd h
       patterns_find (e ∷ es) [] h = absurd h
       patterns_find (e ∷ es) (d ∷ ds) h = ∼_append (matched_find e d L h.0 h.1 u v Q) (patterns_find es ds h.2)
 
-      patterns_show : (es : List Entry) (ds : List (Name × Data)) → EntriesStand o es ds L → match_trees (λ n. (answers o n).tree u) v Q o.answers u es ≡ flat_map (λ d. map (λ x. tree o.world u d.1 x.1 (L // d.0) (Q // x.0)) (matched_members o.world u d.0 v)) ds
+      patterns_show : (es : List Entry) (ds : List (Name × Data)) → EntriesStand o answers es ds L → match_trees (λ n. (answers n).tree u) v Q o.answers u es ≡ flat_map (λ d. map (λ x. tree o.world u d.1 x.1 (L // d.0) (Q // x.0)) (matched_members o.world u d.0 v)) ds
       patterns_show [] [] h = refl
       patterns_show [] (d ∷ ds) h = absurd h
       patterns_show (e ∷ es) [] h = absurd h
       patterns_show (e ∷ es) (d ∷ ds) h = λ i. matched_show e d L h.0 h.1 u v Q i ++ patterns_show es ds h.2 i
 
-      patterns_name : (es : List Entry) (ds : List (Name × Data)) → EntriesStand o es ds L → match_names (λ n. (answers o n).tree u) v Q o.answers u es ≡ flat_map (λ d. map (λ x. x.0) (matched_members o.world u d.0 v)) ds
+      patterns_name : (es : List Entry) (ds : List (Name × Data)) → EntriesStand o answers es ds L → match_names (λ n. (answers n).tree u) v Q o.answers u es ≡ flat_map (λ d. map (λ x. x.0) (matched_members o.world u d.0 v)) ds
       patterns_name [] [] h = refl
       patterns_name [] (d ∷ ds) h = absurd h
       patterns_name (e ∷ es) [] h = absurd h
@@ -152,16 +150,16 @@ module _ {K R : Type 0} (o : Kit K R) where
 
   -- ---- the keyword, in either form
 
-  module _ (k : KeywordOver K R (SchemaNode K R)) (L : Path) (es : List Entry) (form : IsFormOfPatternProperties L es k) (u : Bool) (v : Data) where
-    of_patterns : (k : KeywordOver K R (SchemaNode K R)) → IsFormOfPatternProperties L es k → ((question o k v).accepts u ≡ (patterns_mean o.answers o.costs (λ n. (answers o n).means) es v).accepts u) × ((question o k v).asks u ≤ (patterns_mean o.answers o.costs (λ n. (answers o n).means) es v).asks u)
+  module _ (k : KeywordOver K R N) (L : Path) (es : List Entry) (form : IsFormOfPatternProperties L es k) (u : Bool) (v : Data) where
+    of_patterns : (k : KeywordOver K R N) → IsFormOfPatternProperties L es k → ((question o answers k v).accepts u ≡ (patterns_mean o.answers o.costs (λ n. (answers n).means) es v).accepts u) × ((question o answers k v).asks u ≤ (patterns_mean o.answers o.costs (λ n. (answers n).means) es v).asks u)
     unfolding validator_means
     of_patterns (keyword.PatternProperties p) f = (
-      ap (λ l. (patterns_mean o.answers o.costs (λ n. (answers o n).means) l v).accepts u) f.0,
-      let q = ap (λ l. (patterns_mean o.answers o.costs (λ n. (answers o n).means) l v).asks u) f.0 in omega (arith, q),
+      ap (λ l. (patterns_mean o.answers o.costs (λ n. (answers n).means) l v).accepts u) f.0,
+      let q = ap (λ l. (patterns_mean o.answers o.costs (λ n. (answers n).means) l v).asks u) f.0 in omega (arith, q),
     )
     of_patterns (keyword.SingleValuePatternProperties p) f = (
-      sym (ap (λ l. (patterns_mean o.answers o.costs (λ n. (answers o n).means) l v).accepts u) f.0 ∙ alone ((matched_mean o.answers o.costs (λ n. (answers o n).means) p.regex p.node v).accepts u)),
-      let q = ap (λ l. (patterns_mean o.answers o.costs (λ n. (answers o n).means) l v).asks u) f.0 in omega (arith, q),
+      sym (ap (λ l. (patterns_mean o.answers o.costs (λ n. (answers n).means) l v).accepts u) f.0 ∙ alone ((matched_mean o.answers o.costs (λ n. (answers n).means) p.regex p.node v).accepts u)),
+      let q = ap (λ l. (patterns_mean o.answers o.costs (λ n. (answers n).means) l v).asks u) f.0 in omega (arith, q),
     )
       where
         alone : (b : Bool) → (b && true) ≡ b
@@ -169,28 +167,28 @@ module _ {K R : Type 0} (o : Kit K R) where
         alone false = refl
     of_patterns x f = absurd f
 
-    form_finds : (Q : Path) (k : KeywordOver K R (SchemaNode K R)) → IsFormOfPatternProperties L es k → found o u k v Q ≡ patterns_report o.answers (λ n. (answers o n).report) u es v Q
+    form_finds : (Q : Path) (k : KeywordOver K R N) → IsFormOfPatternProperties L es k → found o answers u k v Q ≡ patterns_report o.answers (λ n. (answers n).report) u es v Q
     unfolding validator_report
-    form_finds Q (keyword.PatternProperties p) f = ap (λ l. patterns_report o.answers (λ n. (answers o n).report) u l v Q) f.0
-    form_finds Q (keyword.SingleValuePatternProperties p) f = sym (ap (λ l. patterns_report o.answers (λ n. (answers o n).report) u l v Q) f.0 ∙ append-nil _)
+    form_finds Q (keyword.PatternProperties p) f = ap (λ l. patterns_report o.answers (λ n. (answers n).report) u l v Q) f.0
+    form_finds Q (keyword.SingleValuePatternProperties p) f = sym (ap (λ l. patterns_report o.answers (λ n. (answers n).report) u l v Q) f.0 ∙ append-nil _)
     form_finds Q x f = absurd f
 
-    form_shows : (Q : Path) (k : KeywordOver K R (SchemaNode K R)) → IsFormOfPatternProperties L es k → shown o u k v Q ≡ patterns_tree (λ n. (answers o n).tree u) v Q o.answers u L es
+    form_shows : (Q : Path) (k : KeywordOver K R N) → IsFormOfPatternProperties L es k → shown o answers u k v Q ≡ patterns_tree (λ n. (answers n).tree u) v Q o.answers u L es
     unfolding validator_tree
-    form_shows Q (keyword.PatternProperties p) f = λ i. patterns_tree (λ n. (answers o n).tree u) v Q o.answers u (f.2 i) (f.0 i)
-    form_shows Q (keyword.SingleValuePatternProperties p) f = λ i. patterns_tree (λ n. (answers o n).tree u) v Q o.answers u (f.1 i) (sym f.0 i)
+    form_shows Q (keyword.PatternProperties p) f = λ i. patterns_tree (λ n. (answers n).tree u) v Q o.answers u (f.2 i) (f.0 i)
+    form_shows Q (keyword.SingleValuePatternProperties p) f = λ i. patterns_tree (λ n. (answers n).tree u) v Q o.answers u (f.1 i) (sym f.0 i)
     form_shows Q x f = absurd f
 
   unrestricted : (ms : Members) → (is_restricted ms && true) ≡ false → is_restricted ms ≡ false
   unrestricted ms e = sym (and_true (is_restricted ms)) ∙ e
 
-  module _ (k : KeywordOver K R (SchemaNode K R)) (L : Path) (es : List Entry) (form : IsFormOfPatternProperties L es k) (d : Data) (stand : EntriesStand o es (members d) L) where
-    means_patterns : (ms : Members) (P : Path) → L ≡ P // codes "patternProperties" → KeywordMeans o ms (k ∷ []) (codes "patternProperties", d) P
+  module _ (k : KeywordOver K R N) (L : Path) (es : List Entry) (form : IsFormOfPatternProperties L es k) (d : Data) (stand : EntriesStand o answers es (members d) L) where
+    means_patterns : (ms : Members) (P : Path) → L ≡ P // codes "patternProperties" → KeywordMeans o answers ms (k ∷ []) (codes "patternProperties", d) P
     means_patterns ms P p = record {
-      holds = one_if_free o ms k (codes "patternProperties", d) pattern_properties P
+      holds = one_if_free o answers ms k (codes "patternProperties", d) pattern_properties P
           (λ u v. (of_patterns k L es form u v k form).0 ∙ patterns_accept L u v es (members d) stand ∙ sym (fact.pattern_properties_accepts o.world ms d u v))
           (λ free u v. let f = (of_patterns k L es form u v k form).1 in let a = patterns_ask L u v es (members d) stand in let t = fact.pattern_properties_asks o.world ms d u v (restricted_read (meaning_step o.world u) ms ∙ unrestricted ms free) in omega (arith, f, a, t))
-          (λ u v Q. like_through (∼_same (form_finds k L es form u v Q k form)) (subst (λ fs. patterns_report o.answers (λ n. (answers o n).report) u es v Q ∼ fs)
+          (λ u v Q. like_through (∼_same (form_finds k L es form u v Q k form)) (subst (λ fs. patterns_report o.answers (λ n. (answers n).report) u es v Q ∼ fs)
           (ap (λ M. flat_map (λ e. flat_map (λ x. report o.world u e.1 x.1 (M // e.0) (Q // x.0)) (matched_members o.world u e.0 v)) (members d)) p ∙ sym (fact.pattern_properties_report o.world ms d u v P Q)) (patterns_find L u v Q es (members d) stand)));
       shows = λ u alone v Q. ap (λ t. t ∷ []) (
           form_shows k L es form u v Q k form
@@ -199,9 +197,9 @@ module _ {K R : Type 0} (o : Kit K R) where
           ∙ sym (fact.pattern_properties_child o.world ms d u v alone P Q);
     }
 
-  pub makes_pattern_properties : (k : KeywordOver K R (SchemaNode K R)) (L : Path) (v : Vec (CompiledPattern R) Global) (t : Table) (ns : List (SchemaNode K R)) (es : List Entry) → es ≡ zip v.items ns → IsFormOfPatternProperties L es k → MakesMember o (shape.PatternProperties v t) L ns (k ∷ [])
-  makes_pattern_properties k L v t ns es e form ms m P p s h = subst (λ n. KeywordMeans o ms (k ∷ []) (n, m.1) P) (sym s.0)
-      (means_patterns k L es form m.1 (subst (λ l. EntriesStand o l (members m.1) L) (sym e) (both_stand v.items ns (members m.1) L s.2 h)) ms P (p ∙ ap (λ n. P // n) s.0))
+  pub makes_pattern_properties : (k : KeywordOver K R N) (L : Path) (v : Vec (CompiledPattern R) Global) (t : Table) (ns : List N) (es : List Entry) → es ≡ zip v.items ns → IsFormOfPatternProperties L es k → MakesMember o answers (shape.PatternProperties v t) L ns (k ∷ [])
+  makes_pattern_properties k L v t ns es e form ms m P p s h = subst (λ n. KeywordMeans o answers ms (k ∷ []) (n, m.1) P) (sym s.0)
+      (means_patterns k L es form m.1 (subst (λ l. EntriesStand o answers l (members m.1) L) (sym e) (both_stand v.items ns (members m.1) L s.2 h)) ms P (p ∙ ap (λ n. P // n) s.0))
 
 -- ---- the form, by how many patterns there are
 

@@ -30,8 +30,7 @@ use Rattle.olk_tree.proofs.Questions.{every-append}
 use Rattle.olk_tree.specs.declared.map.SmallMap.{SmallMap}
 use Rattle.olk_tree.specs.declared.node.KeywordOver.{KeywordOver}
 use Rattle.olk_tree.specs.declared.node.KeywordOver.TheVariants as keyword
-use Rattle.olk_node.specs.Nodes.{answers}
-use Rattle.olk_node.specs.declared.node.SchemaNode.{SchemaNode}
+use Rattle.olk_tree.specs.Places.{Answers}
 use Rattle.olk_read.specs.Lists.{names_of}
 use Rattle.olk_read.specs.declared.shape.Shape.TheVariants as shape
 use Rattle.olk_make.specs.Forms.{AreCut}
@@ -62,28 +61,28 @@ module _ {N : Type 0} (n : ℕ) (ns taken left : List N) (parts : ns ≡ taken +
   pub one_cut : (names : List Name) → length names ≡ n → (nodes : Vec N Global) → nodes.items ≡ taken → (ts : List (List Name)) (maps : List (SmallMap N)) → AreCut ts left maps → AreCut (names ∷ ts) ns (record { names = names; nodes = nodes } ∷ maps)
   one_cut names len nodes same ts maps h = (refl, same ∙ taken_first ∙ ap (λ k. take k ns) (sym len), subst (λ l. AreCut ts l maps) (left_behind ∙ ap (λ k. drop k ns) (sym len)) h)
 
-module _ {K R : Type 0} (o : Kit K R) where
-  abbrev SchemaFor : SchemaNode K R → Name × Data → Path → Type 0
-  SchemaFor = AnswersFor o (schema_answers o)
+module _ {K R N : Type 0} (o : Kit K R) (answers : N → Answers) where
+  abbrev SchemaFor : N → Name × Data → Path → Type 0
+  SchemaFor = AnswersFor o answers (schema_answers o answers)
 
-  abbrev SchemaEach : List (SchemaNode K R) → List (Name × Data) → Path → Type 0
-  SchemaEach = AnswerEach o (schema_answers o)
+  abbrev SchemaEach : List N → List (Name × Data) → Path → Type 0
+  SchemaEach = AnswerEach o answers (schema_answers o answers)
 
   -- ---- the nodes that are chosen stand for the schemas that are
 
-  each_append : (ns rs : List (SchemaNode K R)) (es fs : List (Name × Data)) (L : Path) → SchemaEach ns es L → SchemaEach rs fs L → SchemaEach (ns ++ rs) (es ++ fs) L
+  each_append : (ns rs : List N) (es fs : List (Name × Data)) (L : Path) → SchemaEach ns es L → SchemaEach rs fs L → SchemaEach (ns ++ rs) (es ++ fs) L
   each_append [] rs [] fs L h k = k
   each_append [] rs (e ∷ es) fs L h k = absurd h
   each_append (n ∷ ns) rs [] fs L h k = absurd h
   each_append (n ∷ ns) rs (e ∷ es) fs L h k = (h.0, each_append ns rs es fs L h.1 k)
 
-  module _ {X : Type 0} (f : X → List (SchemaNode K R)) (g : X → List (Name × Data)) (L : Path) (each : (x : X) → SchemaEach (f x) (g x) L) where
+  module _ {X : Type 0} (f : X → List N) (g : X → List (Name × Data)) (L : Path) (each : (x : X) → SchemaEach (f x) (g x) L) where
     each_of_all : (xs : List X) → SchemaEach (flat_map f xs) (flat_map g xs) L
     each_of_all [] = tt
     each_of_all (x ∷ xs) = each_append (f x) (flat_map f xs) (g x) (flat_map g xs) L (each x) (each_of_all xs)
 
   -- what a look-up finds among the nodes, and among the entries
-  found_answers : (t : Name) (ns : List (SchemaNode K R)) (es : List (Name × Data)) (L : Path) → SchemaEach ns es L → SchemaEach (option_to_list (lookup t (beside (map (λ e. e.0) es) ns))) (map (λ s. (t, s)) (option_to_list (lookup t es))) L
+  found_answers : (t : Name) (ns : List N) (es : List (Name × Data)) (L : Path) → SchemaEach ns es L → SchemaEach (option_to_list (lookup t (beside (map (λ e. e.0) es) ns))) (map (λ s. (t, s)) (option_to_list (lookup t es))) L
   found_answers t [] [] L h = tt
   found_answers t [] (e ∷ es) L h = absurd h
   found_answers t (n ∷ ns) [] L h = absurd h
@@ -96,97 +95,97 @@ module _ {K R : Type 0} (o : Kit K R) where
       by Greater q k = k
 
   -- a map for each entry, whose nodes stand for what is in it
-  abbrev MapsAnswer : List (SmallMap (SchemaNode K R)) → List (Name × Data) → Path → Type 0
+  abbrev MapsAnswer : List (SmallMap N) → List (Name × Data) → Path → Type 0
   MapsAnswer [] [] L = ⊤
   MapsAnswer [] (e ∷ es) L = ⊥
   MapsAnswer (m ∷ maps) [] L = ⊥
   MapsAnswer (m ∷ maps) (e ∷ es) L = (m.names ≡ names_of e.1) × SchemaEach m.nodes.items (members e.1) (L // e.0) × MapsAnswer maps es L
 
   module _ (v : Data) where
-    chosen_answer : (m : SmallMap (SchemaNode K R)) (e : Name × Data) (L : Path) → m.names ≡ names_of e.1 → SchemaEach m.nodes.items (members e.1) L → SchemaEach (flat_map (chosen_at m) (at e.0 v)) (chosen v e) L
+    chosen_answer : (m : SmallMap N) (e : Name × Data) (L : Path) → m.names ≡ names_of e.1 → SchemaEach m.nodes.items (members e.1) L → SchemaEach (flat_map (chosen_at m) (at e.0 v)) (chosen v e) L
     chosen_answer m e L names h = each_of_all (chosen_at m) (chosen_by e.1) L
         (λ w. each_of_all (λ t. option_to_list (lookup t (named m))) (λ t. map (λ s. (t, s)) (at t e.1)) L
         (λ t. subst (λ ks. SchemaEach (option_to_list (lookup t (beside ks m.nodes.items))) (map (λ s. (t, s)) (at t e.1)) L) (sym names) (found_answers t m.nodes.items (members e.1) L h)) (as_text w)) (at e.0 v)
 
-    abbrev chosen_of : List (SmallMap (SchemaNode K R)) → List (Name × Data) → List (SchemaNode K R)
+    abbrev chosen_of : List (SmallMap N) → List (Name × Data) → List N
     chosen_of maps es = chosen_nodes (beside (map (λ e. e.0) es) maps) v
 
     module _ (u : Bool) where
-      choices_accept : (maps : List (SmallMap (SchemaNode K R))) (es : List (Name × Data)) (L : Path) → MapsAnswer maps es L → (every (λ n. (answers o n).means v) (chosen_of maps es)).accepts u ≡ list_all (λ e. list_all (λ c. accepts o.world u c.1 v) (chosen v e)) es
+      choices_accept : (maps : List (SmallMap N)) (es : List (Name × Data)) (L : Path) → MapsAnswer maps es L → (every (λ n. (answers n).means v) (chosen_of maps es)).accepts u ≡ list_all (λ e. list_all (λ c. accepts o.world u c.1 v) (chosen v e)) es
       choices_accept [] [] L h = refl
       choices_accept [] (e ∷ es) L h = absurd h
       choices_accept (m ∷ maps) [] L h = absurd h
       choices_accept (m ∷ maps) (e ∷ es) L h =
-          ap (λ q. q.accepts u) (every-append (λ n. (answers o n).means v) (flat_map (chosen_at m) (at e.0 v)) (chosen_of maps es))
-          ∙ (λ i. each_accept o (schema_answers o) u v (flat_map (chosen_at m) (at e.0 v)) (chosen v e) (L // e.0) (chosen_answer m e (L // e.0) h.0 h.1) i && choices_accept maps es L h.2 i)
+          ap (λ q. q.accepts u) (every-append (λ n. (answers n).means v) (flat_map (chosen_at m) (at e.0 v)) (chosen_of maps es))
+          ∙ (λ i. each_accept o answers (schema_answers o answers) u v (flat_map (chosen_at m) (at e.0 v)) (chosen v e) (L // e.0) (chosen_answer m e (L // e.0) h.0 h.1) i && choices_accept maps es L h.2 i)
 
-      choices_ask : (maps : List (SmallMap (SchemaNode K R))) (es : List (Name × Data)) (L : Path) → MapsAnswer maps es L → (every (λ n. (answers o n).means v) (chosen_of maps es)).asks u ≤ sum_by (λ e. sum_by (λ c. asks o.world u c.1 v) (chosen v e)) es
+      choices_ask : (maps : List (SmallMap N)) (es : List (Name × Data)) (L : Path) → MapsAnswer maps es L → (every (λ n. (answers n).means v) (chosen_of maps es)).asks u ≤ sum_by (λ e. sum_by (λ c. asks o.world u c.1 v) (chosen v e)) es
       choices_ask [] [] L h = omega arith
       choices_ask [] (e ∷ es) L h = absurd h
       choices_ask (m ∷ maps) [] L h = absurd h
-      choices_ask (m ∷ maps) (e ∷ es) L h = subst (λ q. q.asks u ≤ sum_by (λ e. sum_by (λ c. asks o.world u c.1 v) (chosen v e)) (e ∷ es)) (sym (every-append (λ n. (answers o n).means v) (flat_map (chosen_at m) (at e.0 v)) (chosen_of maps es)))
-          (sum_within _ _ _ _ _ (each_ask o (schema_answers o) u v (flat_map (chosen_at m) (at e.0 v)) (chosen v e) (L // e.0) (chosen_answer m e (L // e.0) h.0 h.1)) (choices_ask maps es L h.2) (sum_by-cons (λ e. sum_by (λ c. asks o.world u c.1 v) (chosen v e)) e es))
+      choices_ask (m ∷ maps) (e ∷ es) L h = subst (λ q. q.asks u ≤ sum_by (λ e. sum_by (λ c. asks o.world u c.1 v) (chosen v e)) (e ∷ es)) (sym (every-append (λ n. (answers n).means v) (flat_map (chosen_at m) (at e.0 v)) (chosen_of maps es)))
+          (sum_within _ _ _ _ _ (each_ask o answers (schema_answers o answers) u v (flat_map (chosen_at m) (at e.0 v)) (chosen v e) (L // e.0) (chosen_answer m e (L // e.0) h.0 h.1)) (choices_ask maps es L h.2) (sum_by-cons (λ e. sum_by (λ c. asks o.world u c.1 v) (chosen v e)) e es))
 
       module _ (Q : Path) where
-        choices_find : (maps : List (SmallMap (SchemaNode K R))) (es : List (Name × Data)) (L : Path) → MapsAnswer maps es L → flat_map (λ n. (answers o n).report u v Q) (chosen_of maps es) ∼ flat_map (λ e. flat_map (λ c. report o.world u c.1 v (L // e.0 // c.0) Q) (chosen v e)) es
+        choices_find : (maps : List (SmallMap N)) (es : List (Name × Data)) (L : Path) → MapsAnswer maps es L → flat_map (λ n. (answers n).report u v Q) (chosen_of maps es) ∼ flat_map (λ e. flat_map (λ c. report o.world u c.1 v (L // e.0 // c.0) Q) (chosen v e)) es
         choices_find [] [] L h = like_empty
         choices_find [] (e ∷ es) L h = absurd h
         choices_find (m ∷ maps) [] L h = absurd h
-        choices_find (m ∷ maps) (e ∷ es) L h = subst (λ fs. fs ∼ flat_map (λ e. flat_map (λ c. report o.world u c.1 v (L // e.0 // c.0) Q) (chosen v e)) (e ∷ es)) (sym (flat_map-append (λ n. (answers o n).report u v Q) (flat_map (chosen_at m) (at e.0 v)) (chosen_of maps es)))
-            (∼_append (each_find o (schema_answers o) u v Q (flat_map (chosen_at m) (at e.0 v)) (chosen v e) (L // e.0) (chosen_answer m e (L // e.0) h.0 h.1)) (choices_find maps es L h.2))
+        choices_find (m ∷ maps) (e ∷ es) L h = subst (λ fs. fs ∼ flat_map (λ e. flat_map (λ c. report o.world u c.1 v (L // e.0 // c.0) Q) (chosen v e)) (e ∷ es)) (sym (flat_map-append (λ n. (answers n).report u v Q) (flat_map (chosen_at m) (at e.0 v)) (chosen_of maps es)))
+            (∼_append (each_find o answers (schema_answers o answers) u v Q (flat_map (chosen_at m) (at e.0 v)) (chosen v e) (L // e.0) (chosen_answer m e (L // e.0) h.0 h.1)) (choices_find maps es L h.2))
 
-        choices_show : (maps : List (SmallMap (SchemaNode K R))) (es : List (Name × Data)) (L : Path) → MapsAnswer maps es L → map (λ n. (answers o n).tree u v Q) (chosen_of maps es) ≡ flat_map (λ e. map (λ c. tree o.world u c.1 v (L // e.0 // c.0) Q) (chosen v e)) es
+        choices_show : (maps : List (SmallMap N)) (es : List (Name × Data)) (L : Path) → MapsAnswer maps es L → map (λ n. (answers n).tree u v Q) (chosen_of maps es) ≡ flat_map (λ e. map (λ c. tree o.world u c.1 v (L // e.0 // c.0) Q) (chosen v e)) es
         choices_show [] [] L h = refl
         choices_show [] (e ∷ es) L h = absurd h
         choices_show (m ∷ maps) [] L h = absurd h
-        choices_show (m ∷ maps) (e ∷ es) L h = map-append (λ n. (answers o n).tree u v Q) (flat_map (chosen_at m) (at e.0 v)) (chosen_of maps es)
-            ∙ (λ i. each_show o (schema_answers o) u v Q (flat_map (chosen_at m) (at e.0 v)) (chosen v e) (L // e.0) (chosen_answer m e (L // e.0) h.0 h.1) i ++ choices_show maps es L h.2 i)
+        choices_show (m ∷ maps) (e ∷ es) L h = map-append (λ n. (answers n).tree u v Q) (flat_map (chosen_at m) (at e.0 v)) (chosen_of maps es)
+            ∙ (λ i. each_show o answers (schema_answers o answers) u v Q (flat_map (chosen_at m) (at e.0 v)) (chosen v e) (L // e.0) (chosen_answer m e (L // e.0) h.0 h.1) i ++ choices_show maps es L h.2 i)
 
   -- ---- the validator
 
-  abbrev choices_of : SmallMap (SmallMap (SchemaNode K R)) → Path → KeywordOver K R (SchemaNode K R)
+  abbrev choices_of : SmallMap (SmallMap N) → Path → KeywordOver K R N
   choices_of m L = keyword.PropertyDependencies (record { dependencies = m; location = L })
 
-  module _ (m : SmallMap (SmallMap (SchemaNode K R))) (L : Path) (d : Data) (names : m.names ≡ names_of d) (stand : MapsAnswer m.nodes.items (members d) L) where
+  module _ (m : SmallMap (SmallMap N)) (L : Path) (d : Data) (names : m.names ≡ names_of d) (stand : MapsAnswer m.nodes.items (members d) L) where
     module _ (u : Bool) (v : Data) where
-      abbrev chosen_among : List Name → List (SchemaNode K R)
+      abbrev chosen_among : List Name → List N
       chosen_among ks = chosen_nodes (beside ks m.nodes.items) v
 
-      choice_accepts : (question o (choices_of m L) v).accepts u ≡ list_all (λ e. list_all (λ c. accepts o.world u c.1 v) (chosen v e)) (members d)
+      choice_accepts : (question o answers (choices_of m L) v).accepts u ≡ list_all (λ e. list_all (λ c. accepts o.world u c.1 v) (chosen v e)) (members d)
       unfolding validator_means
-      choice_accepts = ap (λ ks. (every (λ n. (answers o n).means v) (chosen_among ks)).accepts u) names ∙ choices_accept v u m.nodes.items (members d) L stand
+      choice_accepts = ap (λ ks. (every (λ n. (answers n).means v) (chosen_among ks)).accepts u) names ∙ choices_accept v u m.nodes.items (members d) L stand
 
-      choice_asks : (question o (choices_of m L) v).asks u ≤ sum_by (λ e. sum_by (λ c. asks o.world u c.1 v) (chosen v e)) (members d)
+      choice_asks : (question o answers (choices_of m L) v).asks u ≤ sum_by (λ e. sum_by (λ c. asks o.world u c.1 v) (chosen v e)) (members d)
       unfolding validator_means
-      choice_asks = subst (λ ks. (every (λ n. (answers o n).means v) (chosen_among ks)).asks u ≤ sum_by (λ e. sum_by (λ c. asks o.world u c.1 v) (chosen v e)) (members d)) (sym names) (choices_ask v u m.nodes.items (members d) L stand)
+      choice_asks = subst (λ ks. (every (λ n. (answers n).means v) (chosen_among ks)).asks u ≤ sum_by (λ e. sum_by (λ c. asks o.world u c.1 v) (chosen v e)) (members d)) (sym names) (choices_ask v u m.nodes.items (members d) L stand)
 
-      choice_finds : (Q : Path) → found o u (choices_of m L) v Q ∼ flat_map (λ e. flat_map (λ c. report o.world u c.1 v (L // e.0 // c.0) Q) (chosen v e)) (members d)
+      choice_finds : (Q : Path) → found o answers u (choices_of m L) v Q ∼ flat_map (λ e. flat_map (λ c. report o.world u c.1 v (L // e.0 // c.0) Q) (chosen v e)) (members d)
       unfolding validator_report
-      choice_finds Q = subst (λ ks. flat_map (λ n. (answers o n).report u v Q) (chosen_among ks) ∼ flat_map (λ e. flat_map (λ c. report o.world u c.1 v (L // e.0 // c.0) Q) (chosen v e)) (members d)) (sym names) (choices_find v u Q m.nodes.items (members d) L stand)
+      choice_finds Q = subst (λ ks. flat_map (λ n. (answers n).report u v Q) (chosen_among ks) ∼ flat_map (λ e. flat_map (λ c. report o.world u c.1 v (L // e.0 // c.0) Q) (chosen v e)) (members d)) (sym names) (choices_find v u Q m.nodes.items (members d) L stand)
 
-      choice_shows : (Q : Path) → shown o u (choices_of m L) v Q ≡ plain L Q (flat_map (λ e. map (λ c. tree o.world u c.1 v (L // e.0 // c.0) Q) (chosen v e)) (members d))
+      choice_shows : (Q : Path) → shown o answers u (choices_of m L) v Q ≡ plain L Q (flat_map (λ e. map (λ c. tree o.world u c.1 v (L // e.0 // c.0) Q) (chosen v e)) (members d))
       unfolding validator_tree
-      choice_shows Q = ap (λ ks. plain L Q (map (λ n. (answers o n).tree u v Q) (chosen_among ks))) names ∙ ap (plain L Q) (choices_show v u Q m.nodes.items (members d) L stand)
+      choice_shows Q = ap (λ ks. plain L Q (map (λ n. (answers n).tree u v Q) (chosen_among ks))) names ∙ ap (plain L Q) (choices_show v u Q m.nodes.items (members d) L stand)
 
-    means_property_dependencies : (ms : Members) (P : Path) → L ≡ P // codes "propertyDependencies" → KeywordMeans o ms (choices_of m L ∷ []) (codes "propertyDependencies", d) P
+    means_property_dependencies : (ms : Members) (P : Path) → L ≡ P // codes "propertyDependencies" → KeywordMeans o answers ms (choices_of m L ∷ []) (codes "propertyDependencies", d) P
     means_property_dependencies ms P p = record {
-      holds = one o ms (choices_of m L) (codes "propertyDependencies", d) property_dependencies P
+      holds = one o answers ms (choices_of m L) (codes "propertyDependencies", d) property_dependencies P
           (λ u v. choice_accepts u v ∙ sym (fact.property_dependencies_accepts o.world ms d u v))
           (λ u v. same_within _ _ _ (choice_asks u v) (fact.property_dependencies_asks o.world ms d u v))
-          (λ u v Q. subst (λ fs. found o u (choices_of m L) v Q ∼ fs) (ap (λ M. flat_map (λ e. flat_map (λ c. report o.world u c.1 v (M // e.0 // c.0) Q) (chosen v e)) (members d)) p ∙ sym (fact.property_dependencies_report o.world ms d u v P Q)) (choice_finds u v Q));
+          (λ u v Q. subst (λ fs. found o answers u (choices_of m L) v Q ∼ fs) (ap (λ M. flat_map (λ e. flat_map (λ c. report o.world u c.1 v (M // e.0 // c.0) Q) (chosen v e)) (members d)) p ∙ sym (fact.property_dependencies_report o.world ms d u v P Q)) (choice_finds u v Q));
       shows = λ u h v Q. ap (λ t. t ∷ []) (choice_shows u v Q ∙ ap (λ M. plain M Q (flat_map (λ e. map (λ c. tree o.world u c.1 v (M // e.0 // c.0) Q) (chosen v e)) (members d))) p) ∙ sym (fact.property_dependencies_child o.world ms d u v P Q);
     }
 
   -- ---- what is made of the nodes
 
   -- as many nodes as entries
-  stand_count : (ns : List (SchemaNode K R)) (es : List (Name × Data)) (L : Path) → StandEach o ns es L → length (map {A = Name × Data} (λ e. e.0) es) ≡ length ns
+  stand_count : (ns : List N) (es : List (Name × Data)) (L : Path) → StandEach o answers ns es L → length (map {A = Name × Data} (λ e. e.0) es) ≡ length ns
   stand_count [] [] L h = refl
   stand_count [] (e ∷ es) L h = absurd h
   stand_count (n ∷ ns) [] L h = absurd h
   stand_count (n ∷ ns) (e ∷ es) L h = ap suc (stand_count ns es L h.1)
 
-  maps_answer : (ts : List (List Name)) (ns : List (SchemaNode K R)) (maps : List (SmallMap (SchemaNode K R))) (es : List (Name × Data)) (L : Path) → AreCut ts ns maps → ts ≡ map (λ e. names_of e.1) es → StandInner o ns es L → MapsAnswer maps es L
+  maps_answer : (ts : List (List Name)) (ns : List N) (maps : List (SmallMap N)) (es : List (Name × Data)) (L : Path) → AreCut ts ns maps → ts ≡ map (λ e. names_of e.1) es → StandInner o answers ns es L → MapsAnswer maps es L
   maps_answer [] ns [] [] L h q stand = tt
   maps_answer [] ns (m ∷ maps) es L h q stand = absurd h
   maps_answer [] ns [] (e ∷ es) L h q stand = absurd (true≢false (ap is_empty q))
@@ -198,10 +197,10 @@ module _ {K R : Type 0} (o : Kit K R) where
       let name : t ≡ names_of e.1 = ap (λ l. get_or l 0 []) q in
       let count : length here ≡ length t = sym (ap length name ∙ stand_count here (members e.1) (L // e.0) stand.3) in (
         h.0 ∙ name,
-        subst (λ l. SchemaEach l (members e.1) (L // e.0)) (sym (h.1 ∙ ap (take (length t)) stand.2 ∙ take_at here after (length t) count)) (schemas_answer o here (members e.1) (L // e.0) stand.3),
-        maps_answer ts (drop (length t) ns) maps es L h.2 (ap (drop 1) q) (subst (λ l. StandInner o l es L) (sym (ap (drop (length t)) stand.2 ∙ drop_at here after (length t) count)) stand.4),
+        subst (λ l. SchemaEach l (members e.1) (L // e.0)) (sym (h.1 ∙ ap (take (length t)) stand.2 ∙ take_at here after (length t) count)) (schemas_answer o answers here (members e.1) (L // e.0) stand.3),
+        maps_answer ts (drop (length t) ns) maps es L h.2 (ap (drop 1) q) (subst (λ l. StandInner o answers l es L) (sym (ap (drop (length t)) stand.2 ∙ drop_at here after (length t) count)) stand.4),
       )
 
-  pub makes_property_dependencies : (m : SmallMap (SmallMap (SchemaNode K R))) (texts : Vec (List Name) Global) (ns : List (SchemaNode K R)) (L : Path) → AreCut texts.items ns m.nodes.items → MakesMember o (shape.PropertyDependencies m.names texts) L ns (choices_of m L ∷ [])
-  makes_property_dependencies m texts ns L is ms x P p s h = subst (λ n. KeywordMeans o ms (choices_of m L ∷ []) (n, x.1) P) (sym s.0)
+  pub makes_property_dependencies : (m : SmallMap (SmallMap N)) (texts : Vec (List Name) Global) (ns : List N) (L : Path) → AreCut texts.items ns m.nodes.items → MakesMember o answers (shape.PropertyDependencies m.names texts) L ns (choices_of m L ∷ [])
+  makes_property_dependencies m texts ns L is ms x P p s h = subst (λ n. KeywordMeans o answers ms (choices_of m L ∷ []) (n, x.1) P) (sym s.0)
       (means_property_dependencies m L x.1 s.2 (maps_answer texts.items ns m.nodes.items (members x.1) L is s.3 h) ms P (p ∙ ap (λ n. P // n) s.0))

@@ -19,9 +19,7 @@ use Rattle.olk_tree.specs.Questions.{every}
 use Rattle.olk_tree.specs.Answers.{validator_means, validator_report, validator_tree}
 use Rattle.olk_tree.specs.declared.node.KeywordOver.{KeywordOver}
 use Rattle.olk_tree.specs.declared.node.KeywordOver.TheVariants as keyword
-use Rattle.olk_node.specs.Nodes.{answers}
-use Rattle.olk_node.specs.Stands.{StandsFor}
-use Rattle.olk_node.specs.declared.node.SchemaNode.{SchemaNode}
+use Rattle.olk_tree.specs.Places.{Answers, Stands}
 use Rattle.olk_read.specs.declared.shape.Shape.TheVariants as shape
 use Rattle.olk_read.specs.declared.shape.ReadPlaces.TheVariants.{Itself}
 use Rattle.olk_make.specs.Standing.{StandAt}
@@ -29,100 +27,100 @@ use Rattle.olk_make.specs.Making.{KeywordMeans, MakesMember}
 use Rattle.olk_make.proofs.Entries.{sum_within}
 use Rattle.olk_make.proofs.Held.{question, shown, found, one, same_within}
 
-module _ {K R : Type 0} (o : Kit K R) where
+module _ {K R N : Type 0} (o : Kit K R) (answers : N → Answers) where
   -- ---- a schema for each name
 
-  module _ (n : SchemaNode K R) (L : Path) where
-    abbrev names_of : KeywordOver K R (SchemaNode K R)
+  module _ (n : N) (L : Path) where
+    abbrev names_of : KeywordOver K R N
     names_of = keyword.PropertyNames (record { node = n; location = L })
 
-    module _ (d : Data) (stands : StandsFor o n d L) (u : Bool) (v : Data) where
-      names_accept : (es : List (Name × Data)) → (every (λ x. (answers o n).means (string x.0)) es).accepts u ≡ list_all (λ x. accepts o.world u d (string x.0)) es
+    module _ (d : Data) (stands : Stands o answers n d L) (u : Bool) (v : Data) where
+      names_accept : (es : List (Name × Data)) → (every (λ x. (answers n).means (string x.0)) es).accepts u ≡ list_all (λ x. accepts o.world u d (string x.0)) es
       names_accept [] = refl
       names_accept (e ∷ es) = λ i. stands.verdict u (string e.0) i && names_accept es i
 
-      names_ask : (es : List (Name × Data)) → (every (λ x. (answers o n).means (string x.0)) es).asks u ≤ sum_by (λ x. asks o.world u d (string x.0)) es
+      names_ask : (es : List (Name × Data)) → (every (λ x. (answers n).means (string x.0)) es).asks u ≤ sum_by (λ x. asks o.world u d (string x.0)) es
       names_ask [] = omega arith
       names_ask (e ∷ es) = sum_within _ _ _ _ _ (stands.asks_within u (string e.0)) (names_ask es) (sum_by-cons (λ x. asks o.world u d (string x.0)) e es)
 
-      names_show : (Q : Path) (es : List (Name × Data)) → map (λ x. (answers o n).tree u (string x.0) Q) es ≡ map (λ x. tree o.world u d (string x.0) L Q) es
+      names_show : (Q : Path) (es : List (Name × Data)) → map (λ x. (answers n).tree u (string x.0) Q) es ≡ map (λ x. tree o.world u d (string x.0) L Q) es
       names_show Q [] = refl
       names_show Q (e ∷ es) = λ i. stands.evaluation u (string e.0) Q i ∷ names_show Q es i
 
-      schema_accepts : (question o names_of v).accepts u ≡ list_all (λ x. accepts o.world u d (string x.0)) (members v)
+      schema_accepts : (question o answers names_of v).accepts u ≡ list_all (λ x. accepts o.world u d (string x.0)) (members v)
       unfolding validator_means
       schema_accepts = names_accept (members v)
 
-      schema_asks : (question o names_of v).asks u ≤ sum_by (λ x. asks o.world u d (string x.0)) (members v)
+      schema_asks : (question o answers names_of v).asks u ≤ sum_by (λ x. asks o.world u d (string x.0)) (members v)
       unfolding validator_means
       schema_asks = names_ask (members v)
 
-      schema_finds : (Q : Path) → found o u names_of v Q ∼ flat_map (λ x. map (wrapped v Q) (report o.world u d (string x.0) L Q)) (members v)
+      schema_finds : (Q : Path) → found o answers u names_of v Q ∼ flat_map (λ x. map (wrapped v Q) (report o.world u d (string x.0) L Q)) (members v)
       unfolding validator_report
-      schema_finds Q = ∼_flat_map_any (λ x. map (wrapped v Q) ((answers o n).report u (string x.0) Q)) (λ x. map (wrapped v Q) (report o.world u d (string x.0) L Q)) (λ x. fact.∼_wrapped v Q (stands.faults u (string x.0) Q)) (members v)
+      schema_finds Q = ∼_flat_map_any (λ x. map (wrapped v Q) ((answers n).report u (string x.0) Q)) (λ x. map (wrapped v Q) (report o.world u d (string x.0) L Q)) (λ x. fact.∼_wrapped v Q (stands.faults u (string x.0) Q)) (members v)
 
-      schema_shows : (Q : Path) → shown o u names_of v Q ≡ plain L Q (map (λ x. tree o.world u d (string x.0) L Q) (members v))
+      schema_shows : (Q : Path) → shown o answers u names_of v Q ≡ plain L Q (map (λ x. tree o.world u d (string x.0) L Q) (members v))
       unfolding validator_tree
       schema_shows Q = ap (plain L Q) (names_show Q (members v))
 
-    means_property_names : (d : Data) → is_object d ≡ true → StandsFor o n d L → (ms : Members) (P : Path) → L ≡ P // codes "propertyNames" → KeywordMeans o ms (names_of ∷ []) (codes "propertyNames", d) P
+    means_property_names : (d : Data) → is_object d ≡ true → Stands o answers n d L → (ms : Members) (P : Path) → L ≡ P // codes "propertyNames" → KeywordMeans o answers ms (names_of ∷ []) (codes "propertyNames", d) P
     means_property_names d is stands ms P p = record {
-      holds = one o ms names_of (codes "propertyNames", d) property_names P
+      holds = one o answers ms names_of (codes "propertyNames", d) property_names P
           (λ u v. schema_accepts d stands u v ∙ sym (fact.property_names_accepts o.world ms d u v is))
           (λ u v. same_within _ _ _ (schema_asks d stands u v) (fact.property_names_asks o.world ms d u v))
-          (λ u v Q. subst (λ fs. found o u names_of v Q ∼ fs) (ap (λ M. flat_map (λ x. map (wrapped v Q) (report o.world u d (string x.0) M Q)) (members v)) p ∙ sym (fact.property_names_report o.world ms d u v is P Q)) (schema_finds d stands u v Q));
+          (λ u v Q. subst (λ fs. found o answers u names_of v Q ∼ fs) (ap (λ M. flat_map (λ x. map (wrapped v Q) (report o.world u d (string x.0) M Q)) (members v)) p ∙ sym (fact.property_names_report o.world ms d u v is P Q)) (schema_finds d stands u v Q));
       shows = λ u h v Q. ap (λ t. t ∷ []) (schema_shows d stands u v Q ∙ ap (λ M. plain M Q (map (λ x. tree o.world u d (string x.0) M Q) (members v))) p) ∙ sym (fact.property_names_child o.world ms d u v is P Q);
     }
 
-    pub makes_property_names : (before ns : List (SchemaNode K R)) → ns ≡ before ++ n ∷ [] → MakesMember o shape.PropertyNames L ns (names_of ∷ [])
-    makes_property_names before ns e ms m P p s h = by before (subst (λ l. StandAt o Itself l m.1 L) e h)
+    pub makes_property_names : (before ns : List N) → ns ≡ before ++ n ∷ [] → MakesMember o answers shape.PropertyNames L ns (names_of ∷ [])
+    makes_property_names before ns e ms m P p s h = by before (subst (λ l. StandAt o answers Itself l m.1 L) e h)
       where
-        by : (before : List (SchemaNode K R)) → StandAt o Itself (before ++ n ∷ []) m.1 L → KeywordMeans o ms (names_of ∷ []) m P
-        by [] g = subst (λ k. KeywordMeans o ms (names_of ∷ []) (k, m.1) P) (sym s.0) (means_property_names m.1 s.1 g ms P (p ∙ ap (λ k. P // k) s.0))
+        by : (before : List N) → StandAt o answers Itself (before ++ n ∷ []) m.1 L → KeywordMeans o answers ms (names_of ∷ []) m P
+        by [] g = subst (λ k. KeywordMeans o answers ms (names_of ∷ []) (k, m.1) P) (sym s.0) (means_property_names m.1 s.1 g ms P (p ∙ ap (λ k. P // k) s.0))
         by (x ∷ []) g = absurd g
         by (x ∷ y ∷ before) g = absurd g
 
-  pub makes_no_property_names : (L : Path) (ns : List (SchemaNode K R)) (ks : List (KeywordOver K R (SchemaNode K R))) → ns ≡ [] → MakesMember o shape.PropertyNames L ns ks
-  makes_no_property_names L ns ks e ms m P p s h = absurd (subst (λ l. StandAt o Itself l m.1 L) e h)
+  pub makes_no_property_names : (L : Path) (ns : List N) (ks : List (KeywordOver K R N)) → ns ≡ [] → MakesMember o answers shape.PropertyNames L ns ks
+  makes_no_property_names L ns ks e ms m P p s h = absurd (subst (λ l. StandAt o answers Itself l m.1 L) e h)
 
   -- ---- no name at all
 
   module _ (L : Path) where
-    abbrev no_names : KeywordOver K R (SchemaNode K R)
+    abbrev no_names : KeywordOver K R N
     no_names = keyword.PropertyNamesFalse (record { location = L })
 
     module _ (u : Bool) (v : Data) where
-      none_accepts : (question o no_names v).accepts u ≡ is_empty (members v)
+      none_accepts : (question o answers no_names v).accepts u ≡ is_empty (members v)
       unfolding validator_means
       none_accepts = refl
 
-      none_asks : (question o no_names v).asks u ≡ 0
+      none_asks : (question o answers no_names v).asks u ≡ 0
       unfolding validator_means
       none_asks = refl
 
-      none_finds : (Q : Path) → found o u no_names v Q ≡ fault_if (not (is_empty (members v))) FalseSchema v L Q
+      none_finds : (Q : Path) → found o answers u no_names v Q ≡ fault_if (not (is_empty (members v))) FalseSchema v L Q
       unfolding validator_report
       none_finds Q = refl
 
-      none_shows : (Q : Path) → shown o u no_names v Q ≡ erring L Q (fault_if (not (is_empty (members v))) FalseSchema v L Q)
+      none_shows : (Q : Path) → shown o answers u no_names v Q ≡ erring L Q (fault_if (not (is_empty (members v))) FalseSchema v L Q)
       unfolding validator_tree
       none_shows Q = refl
 
-    means_no_names : (d : Data) → is_truth false d ≡ true → (ms : Members) (P : Path) → L ≡ P // codes "propertyNames" → KeywordMeans o ms (no_names ∷ []) (codes "propertyNames", d) P
+    means_no_names : (d : Data) → is_truth false d ≡ true → (ms : Members) (P : Path) → L ≡ P // codes "propertyNames" → KeywordMeans o answers ms (no_names ∷ []) (codes "propertyNames", d) P
     means_no_names d is ms P p = record {
-      holds = one o ms no_names (codes "propertyNames", d) property_names P
+      holds = one o answers ms no_names (codes "propertyNames", d) property_names P
           (λ u v. none_accepts u v ∙ sym (fact.no_names_accepts o.world ms d u v is))
           (λ u v. subst₂ (λ x y. x ≤ y) (sym (none_asks u v)) (sym (fact.no_names_asks o.world ms d u v is)) (omega arith))
           (λ u v Q. ∼_same (none_finds u v Q ∙ ap (λ M. fault_if (not (is_empty (members v))) FalseSchema v M Q) p ∙ sym (fact.no_names_report o.world ms d u v is P Q)));
       shows = λ u h v Q. ap (λ t. t ∷ []) (none_shows u v Q ∙ ap (λ M. erring M Q (fault_if (not (is_empty (members v))) FalseSchema v M Q)) p) ∙ sym (fact.no_names_child o.world ms d u v is P Q);
     }
 
-    pub makes_no_names : MakesMember o shape.NoNames L [] (no_names ∷ [])
-    makes_no_names ms m P p s h = subst (λ k. KeywordMeans o ms (no_names ∷ []) (k, m.1) P) (sym s.0) (means_no_names m.1 s.1 ms P (p ∙ ap (λ k. P // k) s.0))
+    pub makes_no_names : MakesMember o answers shape.NoNames L [] (no_names ∷ [])
+    makes_no_names ms m P p s h = subst (λ k. KeywordMeans o answers ms (no_names ∷ []) (k, m.1) P) (sym s.0) (means_no_names m.1 s.1 ms P (p ∙ ap (λ k. P // k) s.0))
 
   -- ---- any name
 
-  means_any_names : (d : Data) → is_object d ≡ false → is_truth false d ≡ false → (ms : Members) (P : Path) → KeywordMeans o ms [] (codes "propertyNames", d) P
+  means_any_names : (d : Data) → is_object d ≡ false → is_truth false d ≡ false → (ms : Members) (P : Path) → KeywordMeans o answers ms [] (codes "propertyNames", d) P
   means_any_names d no_schema not_false ms P = record {
     holds = record {
       verdict = λ u v. sym (fact.any_names_accepts o.world ms d u v no_schema not_false);
@@ -132,5 +130,5 @@ module _ {K R : Type 0} (o : Kit K R) where
     shows = λ u h v Q. sym (fact.any_names_child o.world ms d u v no_schema not_false P Q);
   }
 
-  pub makes_any_names : (L : Path) (ns : List (SchemaNode K R)) → MakesMember o shape.AnyNames L ns []
-  makes_any_names L ns ms m P p s h = subst (λ k. KeywordMeans o ms [] (k, m.1) P) (sym s.0) (means_any_names m.1 s.1 s.2 ms P)
+  pub makes_any_names : (L : Path) (ns : List N) → MakesMember o answers shape.AnyNames L ns []
+  makes_any_names L ns ms m P p s h = subst (λ k. KeywordMeans o answers ms [] (k, m.1) P) (sym s.0) (means_any_names m.1 s.1 s.2 ms P)

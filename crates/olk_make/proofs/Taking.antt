@@ -13,8 +13,7 @@ use Rattle.olk_spec.specs.Malformed.{has_repeat}
 use Rattle.olk_spec.proofs.Truth.{or_from}
 use Rattle.olk_spec.proofs.Walks.{same_name, bytes_eq-itself}
 use Rattle.olk_base.specs.Kit.{Kit}
-use Rattle.olk_node.specs.Stands.{StandsFor}
-use Rattle.olk_node.specs.declared.node.SchemaNode.{SchemaNode}
+use Rattle.olk_tree.specs.Places.{Answers, Stands}
 use Rattle.olk_members.specs.Conditions.{Known, known_of, is_conditional_name, is_condition, is_restricted}
 use Rattle.olk_members.specs.Plans.{Planned, plan_of, is_case, tells_members}
 use Rattle.olk_members.proofs.Claims.{members_named, members_found}
@@ -103,15 +102,15 @@ nameless_not_taken W p k h = not_taken p k (λ r i. away (codes "properties") re
 unpaired_not_taken : (p : Planned) (k : Name) → is_conditional_name k ≡ true → p.condition ≡ false → is_taken p k ≡ false
 unpaired_not_taken p k h off = not_taken p k (λ r i. apart_by is_conditional_name k (codes "properties") h refl i || (apart_by is_conditional_name k (codes "patternProperties") h refl i || false)) (λ c. absurd (true≢false (sym c ∙ off)))
 
-module _ {K R : Type 0} (o : Kit K R) where
+module _ {K R N : Type 0} (o : Kit K R) (answers : N → Answers) where
   -- ---- one part
 
   -- the last of the nodes for a place that is read stands for it
-  pub taken_stands : (ns : List (SchemaNode K R)) (t : Option (SchemaNode K R)) (d : Data) (L : Path) → IsLast ns t → StandAt o Itself ns d L → Fills (λ n x. StandsFor o n x L) t (Some d)
-  taken_stands ns None d L e h = subst (λ l. StandAt o Itself l d L) e h
-  taken_stands ns (Some n) d L e h = by e.0 (subst (λ l. StandAt o Itself l d L) e.1 h)
+  pub taken_stands : (ns : List N) (t : Option N) (d : Data) (L : Path) → IsLast ns t → StandAt o answers Itself ns d L → Fills (λ n x. Stands o answers n x L) t (Some d)
+  taken_stands ns None d L e h = subst (λ l. StandAt o answers Itself l d L) e h
+  taken_stands ns (Some n) d L e h = by e.0 (subst (λ l. StandAt o answers Itself l d L) e.1 h)
     where
-      by : (before : List (SchemaNode K R)) → StandAt o Itself (before ++ n ∷ []) d L → StandsFor o n d L
+      by : (before : List N) → StandAt o answers Itself (before ++ n ∷ []) d L → Stands o answers n d L
       by [] h = h
       by (x ∷ []) h = absurd h
       by (x ∷ y ∷ before) h = absurd h
@@ -127,20 +126,20 @@ module _ {K R : Type 0} (o : Kit K R) where
   if_reads_itself c x d s f read = absurd (true≢false (ap (bytes_eq (codes "if")) s.0))
 
   module _ (p : Planned) (c : Known) (P : Path) where
-    parts_append : (ps qs : List (Part K R (SchemaNode K R))) (es fs : List (Name × Data)) → PartsStand o c ps es P → PartsStand o c qs fs P → PartsStand o c (ps ++ qs) (es ++ fs) P
+    parts_append : (ps qs : List (Part K R N)) (es fs : List (Name × Data)) → PartsStand o answers c ps es P → PartsStand o answers c qs fs P → PartsStand o answers c (ps ++ qs) (es ++ fs) P
     parts_append [] qs [] fs h s = s
     parts_append [] qs (m ∷ es) fs h s = absurd h
     parts_append (x ∷ ps) qs [] fs h s = absurd h
     parts_append (x ∷ ps) qs (m ∷ es) fs h s = (h.0, parts_append ps qs es fs h.1 s)
 
-    module _ (same : c.condition ≡ p.condition) (ps : List (Part K R (SchemaNode K R))) (done : List (Name × Data)) (t after : Taken R (SchemaNode K R)) (h : AreTaken o p c done P t ps) (k : Name) (d : Data) (part : Part K R (SchemaNode K R)) (left : Option (Part K R (SchemaNode K R))) (stand : PartStands o c part (k, d) P) where
+    module _ (same : c.condition ≡ p.condition) (ps : List (Part K R N)) (done : List (Name × Data)) (t after : Taken R N) (h : AreTaken o answers p c done P t ps) (k : Name) (d : Data) (part : Part K R N) (left : Option (Part K R N)) (stand : PartStands o answers c part (k, d) P) where
       abbrev TakenAfter : Type 0
-      TakenAfter = AreTaken o p c (done ++ (k, d) ∷ []) P after (ps ++ option_to_list left)
+      TakenAfter = AreTaken o answers p c (done ++ (k, d) ∷ []) P after (ps ++ option_to_list left)
 
-      left_after : (b : Bool) → is_taken p k ≡ b → left ≡ cond b None (Some part) → PartsStand o c (ps ++ option_to_list left) (untaken p (done ++ (k, d) ∷ [])) P
-      left_after b e q = subst₂ (λ l es. PartsStand o c l es P) (ap (λ x. ps ++ option_to_list x) (sym q)) (sym (those_more (λ m. not (is_taken p m.0)) done (k, d) ∙ ap (λ x. untaken p done ++ put_if (not x) (k, d) []) e)) (parts_append ps (option_to_list (cond b None (Some part))) (untaken p done) (put_if (not b) (k, d) []) h.left (by b))
+      left_after : (b : Bool) → is_taken p k ≡ b → left ≡ cond b None (Some part) → PartsStand o answers c (ps ++ option_to_list left) (untaken p (done ++ (k, d) ∷ [])) P
+      left_after b e q = subst₂ (λ l es. PartsStand o answers c l es P) (ap (λ x. ps ++ option_to_list x) (sym q)) (sym (those_more (λ m. not (is_taken p m.0)) done (k, d) ∙ ap (λ x. untaken p done ++ put_if (not x) (k, d) []) e)) (parts_append ps (option_to_list (cond b None (Some part))) (untaken p done) (put_if (not b) (k, d) []) h.left (by b))
         where
-          by : (b : Bool) → PartsStand o c (option_to_list (cond b None (Some part))) (put_if (not b) (k, d) []) P
+          by : (b : Bool) → PartsStand o answers c (option_to_list (cond b None (Some part))) (put_if (not b) (k, d) []) P
           by true = tt
           by false = (stand, tt)
 
@@ -168,10 +167,10 @@ module _ {K R : Type 0} (o : Kit K R) where
           by true r q = f r q
           by false r q = kept (not_taken p k (λ restricted. absurd (true≢false (sym restricted ∙ r))) (λ read. e)) q
 
-      one_taken : (x : Shape K R) → IsShape o k d x → Fits o c x → StandAt o (reads_of x) part.nodes.items d (P // k) → Takes p x part t after left → TakenAfter
+      one_taken : (x : Shape K R) → IsShape o k d x → Fits o c x → StandAt o answers (reads_of x) part.nodes.items d (P // k) → Takes p x part t after left → TakenAfter
       one_taken shape.Then s f n q = record {
         left = left_after true (ap (is_taken p) s ∙ case_is_taken p (codes "then") (sym same ∙ f) refl) q.0;
-        at_then = λ read. slot_filled _ (codes "then") _ s (taken_stands part.nodes.items after.cases.then_schema d (P // codes "then") q.1 (subst (λ a. StandAt o Itself part.nodes.items d (P // a)) s n));
+        at_then = λ read. slot_filled _ (codes "then") _ s (taken_stands part.nodes.items after.cases.then_schema d (P // codes "then") q.1 (subst (λ a. StandAt o answers Itself part.nodes.items d (P // a)) s n));
         at_else = λ read. slot_kept _ (codes "else") q.2 (ap (bytes_eq (codes "else")) s) (h.at_else read);
         at_properties = λ restricted. slot_kept _ (codes "properties") (ap (λ b. b.properties) q.3) (ap (bytes_eq (codes "properties")) s) (h.at_properties restricted);
         at_patterns = λ restricted. slot_kept _ (codes "patternProperties") (ap (λ b. b.patterns) q.3) (ap (bytes_eq (codes "patternProperties")) s) (h.at_patterns restricted);
@@ -179,7 +178,7 @@ module _ {K R : Type 0} (o : Kit K R) where
       one_taken shape.Else s f n q = record {
         left = left_after true (ap (is_taken p) s ∙ case_is_taken p (codes "else") (sym same ∙ f) refl) q.0;
         at_then = λ read. slot_kept _ (codes "then") q.2 (ap (bytes_eq (codes "then")) s) (h.at_then read);
-        at_else = λ read. slot_filled _ (codes "else") _ s (taken_stands part.nodes.items after.cases.else_schema d (P // codes "else") q.1 (subst (λ a. StandAt o Itself part.nodes.items d (P // a)) s n));
+        at_else = λ read. slot_filled _ (codes "else") _ s (taken_stands part.nodes.items after.cases.else_schema d (P // codes "else") q.1 (subst (λ a. StandAt o answers Itself part.nodes.items d (P // a)) s n));
         at_properties = λ restricted. slot_kept _ (codes "properties") (ap (λ b. b.properties) q.3) (ap (bytes_eq (codes "properties")) s) (h.at_properties restricted);
         at_patterns = λ restricted. slot_kept _ (codes "patternProperties") (ap (λ b. b.patterns) q.3) (ap (bytes_eq (codes "patternProperties")) s) (h.at_patterns restricted);
       }
@@ -187,7 +186,7 @@ module _ {K R : Type 0} (o : Kit K R) where
         left = left_after true (telling_is_taken p k restricted (ap tells_members s.0)) e.0;
         at_then = λ read. slot_kept _ (codes "then") (ap (λ x. x.cases.then_schema) e.1) (ap (bytes_eq (codes "then")) s.0) (h.at_then read);
         at_else = λ read. slot_kept _ (codes "else") (ap (λ x. x.cases.else_schema) e.1) (ap (bytes_eq (codes "else")) s.0) (h.at_else read);
-        at_properties = λ r. slot_filled _ (codes "properties") _ s.0 (subst (λ x. Fills (λ y. DeclaredStand o y (P // codes "properties")) x (Some d)) (sym (ap (λ x. x.beside.properties) e.1)) (record { kind = s.1; names = s.2; nodes = subst (λ a. StandEach o part.nodes.items (members d) (P // a)) s.0 n }));
+        at_properties = λ r. slot_filled _ (codes "properties") _ s.0 (subst (λ x. Fills (λ y. DeclaredStand o answers y (P // codes "properties")) x (Some d)) (sym (ap (λ x. x.beside.properties) e.1)) (record { kind = s.1; names = s.2; nodes = subst (λ a. StandEach o answers part.nodes.items (members d) (P // a)) s.0 n }));
         at_patterns = λ r. slot_kept _ (codes "patternProperties") (ap (λ x. x.beside.patterns) e.1) (ap (bytes_eq (codes "patternProperties")) s.0) (h.at_patterns r);
       }
       one_taken (shape.PatternProperties v w) s f n q = where_restricted _ q (ap is_case s.0) λ restricted e. record {
@@ -195,7 +194,7 @@ module _ {K R : Type 0} (o : Kit K R) where
         at_then = λ read. slot_kept _ (codes "then") (ap (λ x. x.cases.then_schema) e.1) (ap (bytes_eq (codes "then")) s.0) (h.at_then read);
         at_else = λ read. slot_kept _ (codes "else") (ap (λ x. x.cases.else_schema) e.1) (ap (bytes_eq (codes "else")) s.0) (h.at_else read);
         at_properties = λ r. slot_kept _ (codes "properties") (ap (λ x. x.beside.properties) e.1) (ap (bytes_eq (codes "properties")) s.0) (h.at_properties r);
-        at_patterns = λ r. slot_filled _ (codes "patternProperties") _ s.0 (subst (λ x. Fills (λ y. PatternsStand o c y (P // codes "patternProperties")) x (Some d)) (sym (ap (λ x. x.beside.patterns) e.1)) (record { place = stand.place ∙ ap (λ a. P // a) s.0; kind = s.1; patterns = s.2; names = f.0; table = f.1; nodes = subst (λ a. StandEach o part.nodes.items (members d) (P // a)) s.0 n }));
+        at_patterns = λ r. slot_filled _ (codes "patternProperties") _ s.0 (subst (λ x. Fills (λ y. PatternsStand o answers c y (P // codes "patternProperties")) x (Some d)) (sym (ap (λ x. x.beside.patterns) e.1)) (record { place = stand.place ∙ ap (λ a. P // a) s.0; kind = s.1; patterns = s.2; names = f.0; table = f.1; nodes = subst (λ a. StandEach o answers part.nodes.items (members d) (P // a)) s.0 n }));
       }
       one_taken (shape.Leaf l) s f n q = kept (nameless_not_taken o.world p k (ap is_nameless s.0)) q
       one_taken shape.Unread s f n q = kept (nameless_not_taken o.world p k (ap is_nameless s)) q
@@ -206,9 +205,9 @@ module _ {K R : Type 0} (o : Kit K R) where
     -- ---- the parts of an object, one after the other
 
     -- nothing is taken by a plan that reads no `if` and restricts no members
-    pub nothing_to_take : (es : List (Name × Data)) (t : Taken R (SchemaNode K R)) (ps : List (Part K R (SchemaNode K R))) → p.condition ≡ false → p.restricted ≡ false → PartsStand o c ps es P → AreTaken o p c es P t ps
+    pub nothing_to_take : (es : List (Name × Data)) (t : Taken R N) (ps : List (Part K R N)) → p.condition ≡ false → p.restricted ≡ false → PartsStand o answers c ps es P → AreTaken o answers p c es P t ps
     nothing_to_take es t ps off free h = record {
-      left = subst (λ l. PartsStand o c ps l P) (sym (untaken_all p off free es)) h;
+      left = subst (λ l. PartsStand o answers c ps l P) (sym (untaken_all p off free es)) h;
       at_then = λ read. absurd (true≢false (sym read ∙ off));
       at_else = λ read. absurd (true≢false (sym read ∙ off));
       at_properties = λ restricted. absurd (true≢false (sym restricted ∙ free));
@@ -217,58 +216,58 @@ module _ {K R : Type 0} (o : Kit K R) where
 
     module _ (es : List (Name × Data)) where
       -- taken out of those for the members so far, and those for the others stand
-      pub record TakenSoFar (t : Taken R (SchemaNode K R)) (ps rest : List (Part K R (SchemaNode K R))) : Type 0 where
+      pub record TakenSoFar (t : Taken R N) (ps rest : List (Part K R N)) : Type 0 where
         pub done : List (Name × Data)
         pub left : List (Name × Data)
-        pub taken : AreTaken o p c done P t ps
-        pub stand : PartsStand o c rest left P
+        pub taken : AreTaken o answers p c done P t ps
+        pub stand : PartsStand o answers c rest left P
         pub whole : done ++ left ≡ es
 
-      pub none_taken : (t : Taken R (SchemaNode K R)) (ps rest : List (Part K R (SchemaNode K R))) → t.cases.then_schema ≡ None → t.cases.else_schema ≡ None → t.beside.properties ≡ None → t.beside.patterns ≡ None → ps ≡ [] → PartsStand o c rest es P → TakenSoFar t ps rest
+      pub none_taken : (t : Taken R N) (ps rest : List (Part K R N)) → t.cases.then_schema ≡ None → t.cases.else_schema ≡ None → t.beside.properties ≡ None → t.beside.patterns ≡ None → ps ≡ [] → PartsStand o answers c rest es P → TakenSoFar t ps rest
       none_taken t ps rest no_then no_else no_properties no_patterns e h = record {
         done = [];
         left = es;
         taken = record {
-          left = subst (λ l. PartsStand o c l [] P) (sym e) tt;
-          at_then = λ read. subst (λ x. Fills (λ n d. StandsFor o n d (P // codes "then")) x None) (sym no_then) tt;
-          at_else = λ read. subst (λ x. Fills (λ n d. StandsFor o n d (P // codes "else")) x None) (sym no_else) tt;
-          at_properties = λ restricted. subst (λ x. Fills (λ y. DeclaredStand o y (P // codes "properties")) x None) (sym no_properties) tt;
-          at_patterns = λ restricted. subst (λ x. Fills (λ y. PatternsStand o c y (P // codes "patternProperties")) x None) (sym no_patterns) tt;
+          left = subst (λ l. PartsStand o answers c l [] P) (sym e) tt;
+          at_then = λ read. subst (λ x. Fills (λ n d. Stands o answers n d (P // codes "then")) x None) (sym no_then) tt;
+          at_else = λ read. subst (λ x. Fills (λ n d. Stands o answers n d (P // codes "else")) x None) (sym no_else) tt;
+          at_properties = λ restricted. subst (λ x. Fills (λ y. DeclaredStand o answers y (P // codes "properties")) x None) (sym no_properties) tt;
+          at_patterns = λ restricted. subst (λ x. Fills (λ y. PatternsStand o answers c y (P // codes "patternProperties")) x None) (sym no_patterns) tt;
         };
         stand = h;
         whole = refl;
       }
 
-      pub one_more_taken : (t after : Taken R (SchemaNode K R)) (ps new rest all : List (Part K R (SchemaNode K R))) (part : Part K R (SchemaNode K R)) (left : Option (Part K R (SchemaNode K R))) → c.condition ≡ p.condition → new ≡ ps ++ option_to_list left → all ≡ part ∷ rest → Takes p part.shape part t after left → TakenSoFar t ps all → TakenSoFar after new rest
-      one_more_taken t after ps new rest all part left same q e takes h = by h.left (subst (λ l. PartsStand o c l h.left P) e h.stand) h.whole
+      pub one_more_taken : (t after : Taken R N) (ps new rest all : List (Part K R N)) (part : Part K R N) (left : Option (Part K R N)) → c.condition ≡ p.condition → new ≡ ps ++ option_to_list left → all ≡ part ∷ rest → Takes p part.shape part t after left → TakenSoFar t ps all → TakenSoFar after new rest
+      one_more_taken t after ps new rest all part left same q e takes h = by h.left (subst (λ l. PartsStand o answers c l h.left P) e h.stand) h.whole
         where
-          by : (members : List (Name × Data)) → PartsStand o c (part ∷ rest) members P → h.done ++ members ≡ es → TakenSoFar after new rest
+          by : (members : List (Name × Data)) → PartsStand o answers c (part ∷ rest) members P → h.done ++ members ≡ es → TakenSoFar after new rest
           by [] stand w = absurd stand
           by (m ∷ members) stand w = record {
             done = h.done ++ m ∷ [];
             left = members;
-            taken = subst (AreTaken o p c (h.done ++ m ∷ []) P after) (sym q) (one_taken same ps h.done t after h.taken m.0 m.1 part left stand.0 part.shape stand.0.shape stand.0.fits stand.0.nodes takes);
+            taken = subst (AreTaken o answers p c (h.done ++ m ∷ []) P after) (sym q) (one_taken same ps h.done t after h.taken m.0 m.1 part left stand.0 part.shape stand.0.shape stand.0.fits stand.0.nodes takes);
             stand = stand.1;
             whole = append_assoc h.done (m ∷ []) members ∙ w;
           }
 
-      pub all_taken : (t : Taken R (SchemaNode K R)) (ps rest : List (Part K R (SchemaNode K R))) → rest ≡ [] → TakenSoFar t ps rest → AreTaken o p c es P t ps
-      all_taken t ps rest e h = by h.left (subst (λ l. PartsStand o c l h.left P) e h.stand) h.whole
+      pub all_taken : (t : Taken R N) (ps rest : List (Part K R N)) → rest ≡ [] → TakenSoFar t ps rest → AreTaken o answers p c es P t ps
+      all_taken t ps rest e h = by h.left (subst (λ l. PartsStand o answers c l h.left P) e h.stand) h.whole
         where
-          by : (left : List (Name × Data)) → PartsStand o c [] left P → h.done ++ left ≡ es → AreTaken o p c es P t ps
-          by [] stand w = subst (λ l. AreTaken o p c l P t ps) (sym (append-nil h.done) ∙ w) h.taken
+          by : (left : List (Name × Data)) → PartsStand o answers c [] left P → h.done ++ left ≡ es → AreTaken o answers p c es P t ps
+          by [] stand w = subst (λ l. AreTaken o answers p c l P t ps) (sym (append-nil h.done) ∙ w) h.taken
           by (m ∷ left) stand w = absurd stand
 
   -- in an object, where no name stands twice
-  module _ (ms : Members) (P : Path) (t : Taken R (SchemaNode K R)) (ps : List (Part K R (SchemaNode K R))) (distinct : has_repeat (names_of (listed ms)) ≡ false) (h : AreTaken o (plan_of ms) (known_of ms) (listed ms) P t ps) where
-    pub cases_stand : is_condition ms ≡ true → CasesStand o t.cases ms P
+  module _ (ms : Members) (P : Path) (t : Taken R N) (ps : List (Part K R N)) (distinct : has_repeat (names_of (listed ms)) ≡ false) (h : AreTaken o answers (plan_of ms) (known_of ms) (listed ms) P t ps) where
+    pub cases_stand : is_condition ms ≡ true → CasesStand o answers t.cases ms P
     cases_stand read = (
-      subst (λ d. Fills (λ n x. StandsFor o n x (P // codes "then")) t.cases.then_schema d) (last_is_found ms distinct (codes "then")) (h.at_then read),
-      subst (λ d. Fills (λ n x. StandsFor o n x (P // codes "else")) t.cases.else_schema d) (last_is_found ms distinct (codes "else")) (h.at_else read),
+      subst (λ d. Fills (λ n x. Stands o answers n x (P // codes "then")) t.cases.then_schema d) (last_is_found ms distinct (codes "then")) (h.at_then read),
+      subst (λ d. Fills (λ n x. Stands o answers n x (P // codes "else")) t.cases.else_schema d) (last_is_found ms distinct (codes "else")) (h.at_else read),
     )
 
-    pub beside_stands : is_restricted ms ≡ true → BesideStands o (known_of ms) t.beside ms P
+    pub beside_stands : is_restricted ms ≡ true → BesideStands o answers (known_of ms) t.beside ms P
     beside_stands restricted = (
-      subst (λ d. Fills (λ x. DeclaredStand o x (P // codes "properties")) t.beside.properties d) (last_is_found ms distinct (codes "properties")) (h.at_properties restricted),
-      subst (λ d. Fills (λ x. PatternsStand o (known_of ms) x (P // codes "patternProperties")) t.beside.patterns d) (last_is_found ms distinct (codes "patternProperties")) (h.at_patterns restricted),
+      subst (λ d. Fills (λ x. DeclaredStand o answers x (P // codes "properties")) t.beside.properties d) (last_is_found ms distinct (codes "properties")) (h.at_properties restricted),
+      subst (λ d. Fills (λ x. PatternsStand o answers (known_of ms) x (P // codes "patternProperties")) t.beside.patterns d) (last_is_found ms distinct (codes "patternProperties")) (h.at_patterns restricted),
     )

@@ -18,7 +18,7 @@ use Rattle.olk_spec.proofs.Truth.{and_true}
 use Rattle.olk_base.specs.Kit.{Kit}
 use Rattle.olk_tree.specs.Questions.{Question, every}
 use Rattle.olk_tree.specs.Answers.{validator_means}
-use Rattle.olk_node.specs.Nodes.{answers}
+use Rattle.olk_tree.specs.Places.{Answers}
 use Rattle.olk_members.specs.Conditions.{is_restricted}
 use Rattle.olk_members.specs.Plans.{tells_members, claims}
 use Rattle.olk_members.specs.Members.{member_accepts, member_asks, member_report, StandsAlone}
@@ -27,7 +27,6 @@ use Rattle.olk_spec.specs.Names.{is_among}
 use Rattle.olk_make.specs.Holding.{all_malformed, which, ask, find, Covers}
 use Rattle.olk_make.specs.Making.{KeywordMeans, KeywordsMean}
 use Rattle.olk_tree.specs.declared.node.KeywordOver.{KeywordOver}
-use Rattle.olk_node.specs.declared.node.SchemaNode.{SchemaNode}
 use Rattle.olk_members.proofs.Claims.{list_all-permuted}
 use Rattle.olk_members.proofs.Heads.{names_of, claims_are_all}
 
@@ -44,18 +43,18 @@ every-append f (x ∷ xs) ys u = (
     around true b c = refl
     around false b c = refl
 
-module _ {K R : Type 0} (o : Kit K R) where
+module _ {K R N : Type 0} (o : Kit K R) (answers : N → Answers) where
   -- ---- keywords
 
   module _ (ms : Members) (P : Path) where
-    pub no_keywords_mean : (ks : List (KeywordOver K R (SchemaNode K R))) → ks ≡ [] → KeywordsMean o ms ks [] [] P
-    no_keywords_mean ks e = subst (λ x. KeywordsMean o ms x [] [] P) (sym e) record {
+    pub no_keywords_mean : (ks : List (KeywordOver K R N)) → ks ≡ [] → KeywordsMean o answers ms ks [] [] P
+    no_keywords_mean ks e = subst (λ x. KeywordsMean o answers ms x [] [] P) (sym e) record {
       covers = record { verdict = λ u v. refl; asks_within = λ u v. omega arith; faults = λ u v Q. like_empty };
       shows = λ clean u v Q. refl;
     }
 
     -- what one member means alone
-    pub means_alone : (ks : List (KeywordOver K R (SchemaNode K R))) (e : Name × Data) → (is_restricted ms && tells_members e.0) ≡ false → (all_malformed o ms P (listed ms) ≡ [] → (u : Bool) → StandsAlone o.world u ms e (which o ms e)) → KeywordMeans o ms ks e P → KeywordsMean o ms ks (e ∷ []) (e ∷ []) P
+    pub means_alone : (ks : List (KeywordOver K R N)) (e : Name × Data) → (is_restricted ms && tells_members e.0) ≡ false → (all_malformed o ms P (listed ms) ≡ [] → (u : Bool) → StandsAlone o.world u ms e (which o ms e)) → KeywordMeans o answers ms ks e P → KeywordsMean o answers ms ks (e ∷ []) (e ∷ []) P
     means_alone ks e untaken alone k = record {
       covers = record {
         verdict = λ u v. k.holds.verdict u v ∙ sym (and_true (member_accepts o.world ms e (which o ms e) u v));
@@ -64,18 +63,18 @@ module _ {K R : Type 0} (o : Kit K R) where
             let t = sum_by-cons f e [] in
             let q = k.holds.asks_within untaken u v in
             omega (arith, t, q);
-        faults = λ u v Q. subst (λ l. find o ms ks u v Q ∼ l) (sym (append-nil _)) (k.holds.faults u v Q);
+        faults = λ u v Q. subst (λ l. find o answers ms ks u v Q ∼ l) (sym (append-nil _)) (k.holds.faults u v Q);
       };
       shows = λ clean u v Q. k.shows u (alone clean u) v Q ∙ sym (append-nil _);
     }
 
-    more_keywords : (ks ls new : List (KeywordOver K R (SchemaNode K R))) (rows more es fs : List (Name × Data)) → new ≡ ks ++ ls → KeywordsMean o ms ks rows es P → KeywordsMean o ms ls more fs P → KeywordsMean o ms new (rows ++ more) (es ++ fs) P
-    more_keywords ks ls new rows more es fs q h k = subst (λ x. KeywordsMean o ms x (rows ++ more) (es ++ fs) P) (sym q) record {
+    more_keywords : (ks ls new : List (KeywordOver K R N)) (rows more es fs : List (Name × Data)) → new ≡ ks ++ ls → KeywordsMean o answers ms ks rows es P → KeywordsMean o answers ms ls more fs P → KeywordsMean o answers ms new (rows ++ more) (es ++ fs) P
+    more_keywords ks ls new rows more es fs q h k = subst (λ x. KeywordsMean o answers ms x (rows ++ more) (es ++ fs) P) (sym q) record {
       covers = record {
-        verdict = λ u v. (every-append (λ k. validator_means o (λ n. (answers o n).means) k v) ks ls u).0 ∙ (λ i. h.covers.verdict u v i && k.covers.verdict u v i) ∙ sym (list_all-append _ rows more);
+        verdict = λ u v. (every-append (λ k. validator_means o (λ n. (answers n).means) k v) ks ls u).0 ∙ (λ i. h.covers.verdict u v i && k.covers.verdict u v i) ∙ sym (list_all-append _ rows more);
         asks_within = λ u v.
             let f : Name × Data → ℕ = λ x. member_asks o.world ms x (which o ms x) u v in
-            let x = (every-append (λ k. validator_means o (λ n. (answers o n).means) k v) ks ls u).1 in
+            let x = (every-append (λ k. validator_means o (λ n. (answers n).means) k v) ks ls u).1 in
             let s = sum_by-append f rows more in
             let p = h.covers.asks_within u v in
             let q = k.covers.asks_within u v in
@@ -86,22 +85,22 @@ module _ {K R : Type 0} (o : Kit K R) where
     }
 
     -- the same rows in another order
-    covers_permuted : (ks : List (KeywordOver K R (SchemaNode K R))) (rows others : List (Name × Data)) → IsPermutation rows others → Covers o ms ks rows P → Covers o ms ks others P
+    covers_permuted : (ks : List (KeywordOver K R N)) (rows others : List (Name × Data)) → IsPermutation rows others → Covers o answers ms ks rows P → Covers o answers ms ks others P
     covers_permuted ks rows others same h = record {
       verdict = λ u v. h.verdict u v ∙ list_all-permuted (λ m. member_accepts o.world ms m (which o ms m) u v) rows others same;
-      asks_within = λ u v. subst (λ n. ask o ms ks v u ≤ n) (sym (sum_by-IsPermutation (λ m. member_asks o.world ms m (which o ms m) u v) rows others same)) (h.asks_within u v);
+      asks_within = λ u v. subst (λ n. ask o answers ms ks v u ≤ n) (sym (sum_by-IsPermutation (λ m. member_asks o.world ms m (which o ms m) u v) rows others same)) (h.asks_within u v);
       faults = λ u v Q. like_through (h.faults u v Q) (∼_permuted (λ m. member_report o.world ms m (which o ms m) u v P Q) rows others same);
     }
 
-    pub means_permuted : (ks : List (KeywordOver K R (SchemaNode K R))) (rows others es : List (Name × Data)) → IsPermutation rows others → KeywordsMean o ms ks rows es P → KeywordsMean o ms ks others es P
+    pub means_permuted : (ks : List (KeywordOver K R N)) (rows others es : List (Name × Data)) → IsPermutation rows others → KeywordsMean o answers ms ks rows es P → KeywordsMean o answers ms ks others es P
     means_permuted ks rows others es same h = record { covers = covers_permuted ks rows others same h.covers; shows = h.shows }
 
     module _ (heads : Name → Name) where
-      pub one_more_keyword : (ks ls new : List (KeywordOver K R (SchemaNode K R))) (es : List (Name × Data)) (e : Name × Data) → new ≡ ks ++ ls → KeywordsMean o ms ks (flat_map (claims heads (listed ms)) es) es P → KeywordsMean o ms ls (claims heads (listed ms) e) (e ∷ []) P → KeywordsMean o ms new (flat_map (claims heads (listed ms)) (es ++ e ∷ [])) (es ++ e ∷ []) P
-      one_more_keyword ks ls new es e q h k = subst (λ rows. KeywordsMean o ms new rows (es ++ e ∷ []) P)
+      pub one_more_keyword : (ks ls new : List (KeywordOver K R N)) (es : List (Name × Data)) (e : Name × Data) → new ≡ ks ++ ls → KeywordsMean o answers ms ks (flat_map (claims heads (listed ms)) es) es P → KeywordsMean o answers ms ls (claims heads (listed ms) e) (e ∷ []) P → KeywordsMean o answers ms new (flat_map (claims heads (listed ms)) (es ++ e ∷ [])) (es ++ e ∷ []) P
+      one_more_keyword ks ls new es e q h k = subst (λ rows. KeywordsMean o answers ms new rows (es ++ e ∷ []) P)
           (sym (flat_map-append (claims heads (listed ms)) es (e ∷ []) ∙ ap (λ l. flat_map (claims heads (listed ms)) es ++ l) (append-nil (claims heads (listed ms) e))))
           (more_keywords ks ls new (flat_map (claims heads (listed ms)) es) (claims heads (listed ms) e) es (e ∷ []) q h k)
 
       -- where the head of each member is there, what the members claim is the object's meaning: its verdict, its report up to order, its tree in the order of names, and its asks at most
-      pub heads_mean_all : (ks : List (KeywordOver K R (SchemaNode K R))) → has_repeat (names_of (listed ms)) ≡ false → Each (λ x. is_among (heads x.0) (names_of (listed ms)) ≡ true) (listed ms) → KeywordsMean o ms ks (flat_map (claims heads (listed ms)) (listed ms)) (listed ms) P → KeywordsMean o ms ks (listed ms) (listed ms) P
+      pub heads_mean_all : (ks : List (KeywordOver K R N)) → has_repeat (names_of (listed ms)) ≡ false → Each (λ x. is_among (heads x.0) (names_of (listed ms)) ≡ true) (listed ms) → KeywordsMean o answers ms ks (flat_map (claims heads (listed ms)) (listed ms)) (listed ms) P → KeywordsMean o answers ms ks (listed ms) (listed ms) P
       heads_mean_all ks distinct there h = means_permuted ks (flat_map (claims heads (listed ms)) (listed ms)) (listed ms) (listed ms) (claims_are_all heads (listed ms) distinct there) h

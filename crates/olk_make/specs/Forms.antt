@@ -7,6 +7,7 @@ use Rattle.olk_spec.specs.Names.{Name, Path, ◌//◌}
 use Rattle.olk_spec.specs.Schemas.{texts}
 use Rattle.olk_spec.specs.Malformed.{items_of_array}
 use Rattle.olk_spec.specs.declared.TheConstants.{HASHMAP_THRESHOLD}
+use Rattle.olk_base.specs.Kit.{Kit}
 use Rattle.olk_base.specs.declared.pattern.CompiledPattern.{CompiledPattern}
 use Rattle.olk_tree.specs.Answers.{names_in, nodes_in}
 use Rattle.olk_tree.specs.Ascending.{Ascend}
@@ -18,7 +19,7 @@ use Rattle.olk_tree.specs.declared.additional_properties.RequiredName.{RequiredN
 use Rattle.olk_tree.specs.declared.node.KeywordOver.{KeywordOver}
 use Rattle.olk_tree.specs.declared.node.KeywordOver.TheVariants as keyword
 use Rattle.olk_tree.specs.declared.node.Body.TheVariants.{RequiredNames}
-use Rattle.olk_node.specs.declared.node.SchemaNode.{SchemaNode, out-SchemaNode}
+use Rattle.olk_tree.specs.Places.{Answers, AnswersBy}
 use Rattle.olk_make.specs.declared.part.Patterns.{Patterns}
 use Rattle.olk_make.specs.declared.part.Beside.{Beside}
 
@@ -93,27 +94,28 @@ IsFormOfIf L n None (Some e) (keyword.IfElse k) = (k.schema ≡ n) × (k.else_sc
 IsFormOfIf L n (Some t) (Some e) (keyword.IfThenElse k) = (k.schema ≡ n) × (k.then_schema ≡ t) × (k.else_schema ≡ e) × (k.location ≡ L)
 IsFormOfIf L n t e k = ⊥
 
--- ---- nodes that are lists of names, and nodes that are cut into maps
+-- ---- nodes of lists of names, and nodes that are cut into maps
 
--- a node at L that is this list of names
-abbrev pub IsListAt : {K R : Type 0} → Path → Vec (String Global) Global → SchemaNode K R → Type 0
-IsListAt {K} {R} L v n = ((out-SchemaNode K R n).location ≡ L) × ((out-SchemaNode K R n).body ≡ RequiredNames (record { required = v; location = L }))
+module _ {K R N : Type 0} (o : Kit K R) (answers : N → Answers) (L : Path) where
+  -- a node at L that answers as this list of names
+  abbrev pub IsListAt : Vec (String Global) Global → N → Type 0
+  IsListAt v n = AnswersBy o answers L (RequiredNames (record { required = v; location = L })) n
 
--- for each list its node
-abbrev pub AreListsAt : {K R : Type 0} → Path → List (Vec (String Global) Global) → List (SchemaNode K R) → Type 0
-AreListsAt L [] [] = ⊤
-AreListsAt L [] (n ∷ ns) = ⊥
-AreListsAt L (v ∷ vs) [] = ⊥
-AreListsAt L (v ∷ vs) (n ∷ ns) = IsListAt L v n × AreListsAt L vs ns
+  -- for each list its node
+  abbrev pub AreListsAt : List (Vec (String Global) Global) → List N → Type 0
+  AreListsAt [] [] = ⊤
+  AreListsAt [] (n ∷ ns) = ⊥
+  AreListsAt (v ∷ vs) [] = ⊥
+  AreListsAt (v ∷ vs) (n ∷ ns) = IsListAt v n × AreListsAt vs ns
 
--- key by key, the node of its list, and where it has none the next of the schemas' nodes
-abbrev pub AreInOrder : {K R : Type 0} → Path → List (Option (Vec (String Global) Global)) → List (SchemaNode K R) → List (SchemaNode K R) → Type 0
-AreInOrder L [] schemas ns = ns ≡ []
-AreInOrder L (Some v ∷ vs) schemas [] = ⊥
-AreInOrder L (Some v ∷ vs) schemas (n ∷ ns) = IsListAt L v n × AreInOrder L vs schemas ns
-AreInOrder L (None ∷ vs) [] ns = AreInOrder L vs [] ns
-AreInOrder L (None ∷ vs) (s ∷ schemas) [] = ⊥
-AreInOrder L (None ∷ vs) (s ∷ schemas) (n ∷ ns) = (n ≡ s) × AreInOrder L vs schemas ns
+  -- key by key, the node of its list, and where it has none the next of the schemas' nodes
+  abbrev pub AreInOrder : List (Option (Vec (String Global) Global)) → List N → List N → Type 0
+  AreInOrder [] schemas ns = ns ≡ []
+  AreInOrder (Some v ∷ vs) schemas [] = ⊥
+  AreInOrder (Some v ∷ vs) schemas (n ∷ ns) = IsListAt v n × AreInOrder vs schemas ns
+  AreInOrder (None ∷ vs) [] ns = AreInOrder vs [] ns
+  AreInOrder (None ∷ vs) (s ∷ schemas) [] = ⊥
+  AreInOrder (None ∷ vs) (s ∷ schemas) (n ∷ ns) = (n ≡ s) × AreInOrder vs schemas ns
 
 -- a map for each of these lists of names, with as many nodes as it has names, in their order
 abbrev pub AreCut : {N : Type 0} → List (List Name) → List N → List (SmallMap N) → Type 0

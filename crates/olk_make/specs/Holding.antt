@@ -10,59 +10,58 @@ use Rattle.olk_spec.specs.Schemas.{members}
 use Rattle.olk_base.specs.Kit.{Kit}
 use Rattle.olk_tree.specs.Questions.{every}
 use Rattle.olk_tree.specs.Answers.{validator_means, validator_report, validator_tree}
-use Rattle.olk_node.specs.Nodes.{answers}
-use Rattle.olk_node.specs.Stands.{StandsFor}
+use Rattle.olk_tree.specs.Places.{Answers, Stands}
 use Rattle.olk_members.specs.Conditions.{is_restricted}
 use Rattle.olk_members.specs.Plans.{tells_members}
 use Rattle.olk_members.specs.Members.{member_accepts, member_asks, member_report, member_malformations}
-use Rattle.olk_node.specs.declared.node.SchemaNode.{SchemaNode}
 use Rattle.olk_tree.specs.declared.node.KeywordOver.{KeywordOver}
 
-module _ {K R : Type 0} (o : Kit K R) where
+module _ {K R : Type 0} (o : Kit K R) (ms : Members) where
+  -- which keyword a member is
+  abbrev pub which : Name × Data → Keyword
+  which m = keyword_named o.world m.0
+
+  abbrev pub all_malformed : Path → List (Name × Data) → List Fault
+  all_malformed P es = flat_map (λ m. member_malformations o.world ms m (which m) P) es
+
+module _ {K R N : Type 0} (o : Kit K R) (answers : N → Answers) where
   -- ---- nodes for schemas under names, below a place
 
-  abbrev pub StandEach : List (SchemaNode K R) → List (Name × Data) → Path → Type 0
+  abbrev pub StandEach : List N → List (Name × Data) → Path → Type 0
   StandEach [] [] P = ⊤
   StandEach [] (e ∷ es) P = ⊥
   StandEach (n ∷ ns) [] P = ⊥
-  StandEach (n ∷ ns) (e ∷ es) P = StandsFor o n e.1 (P // e.0) × StandEach ns es P
+  StandEach (n ∷ ns) (e ∷ es) P = Stands o answers n e.1 (P // e.0) × StandEach ns es P
 
   -- nodes for the entries of each of these, one list behind the other
-  abbrev pub StandInner : List (SchemaNode K R) → List (Name × Data) → Path → Type 0
+  abbrev pub StandInner : List N → List (Name × Data) → Path → Type 0
   StandInner ns [] P = ns ≡ []
-  StandInner ns (e ∷ es) P = (here : List (SchemaNode K R)) × (after : List (SchemaNode K R)) × (ns ≡ here ++ after) × StandEach here (members e.1) (P // e.0) × StandInner after es P
+  StandInner ns (e ∷ es) P = (here : List N) × (after : List N) × (ns ≡ here ++ after) × StandEach here (members e.1) (P // e.0) × StandInner after es P
 
   -- ---- keywords for members of the schema object with the members ms at P
 
-  module _ (ms : Members) where
-    abbrev pub which : Name × Data → Keyword
-    which m = keyword_named o.world m.0
+  module _ (ms : Members) (ks : List (KeywordOver K R N)) where
+    -- what the keywords answer together
+    abbrev pub means : Data → Bool → Bool
+    means v u = (every (λ k. validator_means o (λ n. (answers n).means) k v) ks).accepts u
 
-    abbrev pub all_malformed : Path → List (Name × Data) → List Fault
-    all_malformed P es = flat_map (λ m. member_malformations o.world ms m (which m) P) es
+    abbrev pub ask : Data → Bool → ℕ
+    ask v u = (every (λ k. validator_means o (λ n. (answers n).means) k v) ks).asks u
 
-    module _ (ks : List (KeywordOver K R (SchemaNode K R))) where
-      -- what the keywords answer together
-      abbrev pub means : Data → Bool → Bool
-      means v u = (every (λ k. validator_means o (λ n. (answers o n).means) k v) ks).accepts u
+    abbrev pub find : Bool → Data → Path → List Fault
+    find u v Q = flat_map (λ k. validator_report o (λ n. (answers n).means) (λ n. (answers n).report) u k v Q) ks
 
-      abbrev pub ask : Data → Bool → ℕ
-      ask v u = (every (λ k. validator_means o (λ n. (answers o n).means) k v) ks).asks u
+    abbrev pub show : Bool → Data → Path → List Tree
+    show u v Q = map (λ k. validator_tree o (λ n. (answers n).means) (λ n. (answers n).tree) u k v Q) ks
 
-      abbrev pub find : Bool → Data → Path → List Fault
-      find u v Q = flat_map (λ k. validator_report o (λ n. (answers o n).means) (λ n. (answers o n).report) u k v Q) ks
+    -- it is what one member means; what is asked is bounded where `additionalProperties` doesn't take the keyword over
+    pub record Holds (m : Name × Data) (w : Keyword) (P : Path) : Type 0 where
+      pub verdict : (u : Bool) (v : Data) → means v u ≡ member_accepts o.world ms m w u v
+      pub asks_within : (is_restricted ms && tells_members m.0) ≡ false → (u : Bool) (v : Data) → ask v u ≤ member_asks o.world ms m w u v
+      pub faults : (u : Bool) (v : Data) (Q : Path) → find u v Q ∼ member_report o.world ms m w u v P Q
 
-      abbrev pub show : Bool → Data → Path → List Tree
-      show u v Q = map (λ k. validator_tree o (λ n. (answers o n).means) (λ n. (answers o n).tree) u k v Q) ks
-
-      -- it is what one member means; what is asked is bounded where `additionalProperties` doesn't take the keyword over
-      pub record Holds (m : Name × Data) (w : Keyword) (P : Path) : Type 0 where
-        pub verdict : (u : Bool) (v : Data) → means v u ≡ member_accepts o.world ms m w u v
-        pub asks_within : (is_restricted ms && tells_members m.0) ≡ false → (u : Bool) (v : Data) → ask v u ≤ member_asks o.world ms m w u v
-        pub faults : (u : Bool) (v : Data) (Q : Path) → find u v Q ∼ member_report o.world ms m w u v P Q
-
-      -- it is what some members mean together
-      pub record Covers (es : List (Name × Data)) (P : Path) : Type 0 where
-        pub verdict : (u : Bool) (v : Data) → means v u ≡ list_all (λ m. member_accepts o.world ms m (which m) u v) es
-        pub asks_within : (u : Bool) (v : Data) → ask v u ≤ sum_by (λ m. member_asks o.world ms m (which m) u v) es
-        pub faults : (u : Bool) (v : Data) (Q : Path) → find u v Q ∼ flat_map (λ m. member_report o.world ms m (which m) u v P Q) es
+    -- it is what some members mean together
+    pub record Covers (es : List (Name × Data)) (P : Path) : Type 0 where
+      pub verdict : (u : Bool) (v : Data) → means v u ≡ list_all (λ m. member_accepts o.world ms m (which o ms m) u v) es
+      pub asks_within : (u : Bool) (v : Data) → ask v u ≤ sum_by (λ m. member_asks o.world ms m (which o ms m) u v) es
+      pub faults : (u : Bool) (v : Data) (Q : Path) → find u v Q ∼ flat_map (λ m. member_report o.world ms m (which o ms m) u v P Q) es

@@ -8,9 +8,8 @@ use Rattle.olk_base.specs.Kit.{Kit}
 use Rattle.olk_base.specs.declared.pattern.CompiledPattern.{CompiledPattern}
 use Rattle.olk_tree.specs.Tables.{IsTableOf}
 use Rattle.olk_tree.specs.declared.map.SmallMap.{SmallMap}
-use Rattle.olk_node.specs.Stands.{StandsFor}
+use Rattle.olk_tree.specs.Places.{Answers, Stands}
 use Rattle.olk_make.specs.Holding.{StandEach, StandInner}
-use Rattle.olk_node.specs.declared.node.SchemaNode.{SchemaNode}
 use Rattle.olk_read.specs.declared.shape.ReadPlaces.{ReadPlaces}
 use Rattle.olk_read.specs.declared.shape.ReadPlaces.TheVariants.{Nothing, Itself, Entries, SchemaEntries, InnerEntries, Branches}
 use Rattle.olk_make.specs.declared.part.Part.{Part}
@@ -73,72 +72,72 @@ module _ {K R N : Type 0} (p : Planned) where
   Takes (shape.PatternProperties v t) part old new left = cond p.restricted ((left ≡ None) × (new ≡ record old { beside = record old.beside { patterns = Some (record { location = part.location; patterns = v; table = t; nodes = part.nodes }) } })) ((left ≡ Some part) × (new ≡ old))
   Takes x part old new left = (left ≡ Some part) × (new ≡ old)
 
-module _ {K R : Type 0} (o : Kit K R) where
+module _ {K R N : Type 0} (o : Kit K R) (answers : N → Answers) where
   -- nodes for the places that are read in a value at L
-  abbrev pub StandAt : ReadPlaces → List (SchemaNode K R) → Data → Path → Type 0
+  abbrev pub StandAt : ReadPlaces → List N → Data → Path → Type 0
   StandAt Nothing ns d L = ns ≡ []
   StandAt Itself [] d L = ⊥
-  StandAt Itself (n ∷ []) d L = StandsFor o n d L
+  StandAt Itself (n ∷ []) d L = Stands o answers n d L
   StandAt Itself (n ∷ m ∷ ns) d L = ⊥
-  StandAt Entries ns d L = StandEach o ns (members d) L
-  StandAt SchemaEntries ns d L = StandEach o ns (those (λ e. not (is_array e.1)) (members d)) L
-  StandAt InnerEntries ns d L = StandInner o ns (members d) L
-  StandAt Branches ns d L = StandEach o ns (numbered (items_of_array d)) L
+  StandAt Entries ns d L = StandEach o answers ns (members d) L
+  StandAt SchemaEntries ns d L = StandEach o answers ns (those (λ e. not (is_array e.1)) (members d)) L
+  StandAt InnerEntries ns d L = StandInner o answers ns (members d) L
+  StandAt Branches ns d L = StandEach o answers ns (numbered (items_of_array d)) L
 
   -- patterns beside nodes: each entry stands for the pattern and the schema at its place
-  abbrev pub EntriesStand : List (CompiledPattern R × SchemaNode K R) → List (Name × Data) → Path → Type 0
+  abbrev pub EntriesStand : List (CompiledPattern R × N) → List (Name × Data) → Path → Type 0
   EntriesStand [] [] L = ⊤
   EntriesStand [] (d ∷ ds) L = ⊥
   EntriesStand (e ∷ es) [] L = ⊥
-  EntriesStand (e ∷ es) (d ∷ ds) L = IsPattern o e.0 d.0 × StandsFor o e.1 d.1 (L // d.0) × EntriesStand es ds L
+  EntriesStand (e ∷ es) (d ∷ ds) L = IsPattern o e.0 d.0 × Stands o answers e.1 d.1 (L // d.0) × EntriesStand es ds L
 
   -- c is known of the neighbours in the schema object at P
   module _ (c : Known) where
     -- a part stands for the member m
-    pub record PartStands (p : Part K R (SchemaNode K R)) (m : Name × Data) (P : Path) : Type 0 where
+    pub record PartStands (p : Part K R N) (m : Name × Data) (P : Path) : Type 0 where
       pub place : p.location ≡ P // m.0
       pub shape : IsShape o m.0 m.1 p.shape
       pub fits : Fits o c p.shape
       pub nodes : StandAt (reads_of p.shape) p.nodes.items m.1 (P // m.0)
 
-    abbrev pub PartsStand : List (Part K R (SchemaNode K R)) → List (Name × Data) → Path → Type 0
+    abbrev pub PartsStand : List (Part K R N) → List (Name × Data) → Path → Type 0
     PartsStand [] [] P = ⊤
     PartsStand [] (m ∷ es) P = ⊥
     PartsStand (p ∷ ps) [] P = ⊥
     PartsStand (p ∷ ps) (m ∷ es) P = PartStands p m P × PartsStand ps es P
 
     -- patterns with their nodes and their table stand for `patternProperties` at L
-    pub record PatternsStand (x : Patterns R (SchemaNode K R)) (L : Path) (d : Data) : Type 0 where
+    pub record PatternsStand (x : Patterns R N) (L : Path) (d : Data) : Type 0 where
       pub place : x.location ≡ L
       pub kind : is_object d ≡ true
       pub patterns : ArePatterns o x.patterns.items (members d)
       pub names : x.table.names ≡ map (λ e. e.0) c.declared
       pub table : IsTableOf o.answers x.patterns.items x.table
-      pub nodes : StandEach o x.nodes.items (members d) L
+      pub nodes : StandEach o answers x.nodes.items (members d) L
 
   -- names with their nodes stand for `properties` at L
-  pub record DeclaredStand (x : SmallMap (SchemaNode K R)) (L : Path) (d : Data) : Type 0 where
+  pub record DeclaredStand (x : SmallMap N) (L : Path) (d : Data) : Type 0 where
     pub kind : is_object d ≡ true
     pub names : x.names ≡ map (λ e. e.0) (members d)
-    pub nodes : StandEach o x.nodes.items (members d) L
+    pub nodes : StandEach o answers x.nodes.items (members d) L
 
   -- the node of `additionalProperties` at L, and none where that is false
-  abbrev pub RestStands : Option (SchemaNode K R) → Data → Path → Type 0
+  abbrev pub RestStands : Option N → Data → Path → Type 0
   RestStands None d L = is_truth false d ≡ true
-  RestStands (Some n) d L = (is_object d ≡ true) × StandsFor o n d L
+  RestStands (Some n) d L = (is_object d ≡ true) × Stands o answers n d L
 
   -- in the schema object with the members ms at P, for what stands at `then` and at `else`
-  abbrev pub CasesStand : Cases (SchemaNode K R) → Members → Path → Type 0
-  CasesStand cs ms P = Fills (λ n d. StandsFor o n d (P // codes "then")) cs.then_schema (lookup (codes "then") (listed ms)) × Fills (λ n d. StandsFor o n d (P // codes "else")) cs.else_schema (lookup (codes "else") (listed ms))
+  abbrev pub CasesStand : Cases N → Members → Path → Type 0
+  CasesStand cs ms P = Fills (λ n d. Stands o answers n d (P // codes "then")) cs.then_schema (lookup (codes "then") (listed ms)) × Fills (λ n d. Stands o answers n d (P // codes "else")) cs.else_schema (lookup (codes "else") (listed ms))
 
   -- and for what stands at `properties` and at `patternProperties`
-  abbrev pub BesideStands : Known → Beside R (SchemaNode K R) → Members → Path → Type 0
+  abbrev pub BesideStands : Known → Beside R N → Members → Path → Type 0
   BesideStands c b ms P = Fills (λ x. DeclaredStand x (P // codes "properties")) b.properties (lookup (codes "properties") (listed ms)) × Fills (λ x. PatternsStand c x (P // codes "patternProperties")) b.patterns (lookup (codes "patternProperties") (listed ms))
 
   -- taken out of the parts for the members es by the plan p: the parts that are left, and what was taken
-  pub record AreTaken (p : Planned) (c : Known) (es : List (Name × Data)) (P : Path) (t : Taken R (SchemaNode K R)) (ps : List (Part K R (SchemaNode K R))) : Type 0 where
+  pub record AreTaken (p : Planned) (c : Known) (es : List (Name × Data)) (P : Path) (t : Taken R N) (ps : List (Part K R N)) : Type 0 where
     pub left : PartsStand c ps (untaken p es) P
-    pub at_then : p.condition ≡ true → Fills (λ n d. StandsFor o n d (P // codes "then")) t.cases.then_schema (last_named (codes "then") es None)
-    pub at_else : p.condition ≡ true → Fills (λ n d. StandsFor o n d (P // codes "else")) t.cases.else_schema (last_named (codes "else") es None)
+    pub at_then : p.condition ≡ true → Fills (λ n d. Stands o answers n d (P // codes "then")) t.cases.then_schema (last_named (codes "then") es None)
+    pub at_else : p.condition ≡ true → Fills (λ n d. Stands o answers n d (P // codes "else")) t.cases.else_schema (last_named (codes "else") es None)
     pub at_properties : p.restricted ≡ true → Fills (λ x. DeclaredStand x (P // codes "properties")) t.beside.properties (last_named (codes "properties") es None)
     pub at_patterns : p.restricted ≡ true → Fills (λ x. PatternsStand c x (P // codes "patternProperties")) t.beside.patterns (last_named (codes "patternProperties") es None)

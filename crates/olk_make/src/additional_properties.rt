@@ -10,12 +10,12 @@ use crate::pattern_properties::with_nodes;
 use crate::properties::map_of;
 use olk_base::{Leaf, RegexEngine};
 use olk_members::Plan;
-use olk_node::{Keyword, SchemaNode};
 use olk_paths::Location;
 use olk_tree::additional_properties::{AdditionalProperties, RequiredName};
 use olk_tree::map::SmallMap;
 use olk_tree::node::KeywordOver;
 use olk_tree::pattern_table::PatternTable;
+use olk_tree::place::Place;
 use olk_tree::properties_map::PropertiesMap;
 use std::alloc::{AllocError, Global};
 
@@ -122,20 +122,20 @@ fn form<K, R: Drop, N: Drop>(
 /// # Errors
 ///
 /// Want of memory.
-pub fn make<K: Leaf, R: RegexEngine>(
+pub fn make<K: Leaf, R: RegexEngine, N: Place<K, R>>(
     alloc: Global,
     plan: Plan<'_>,
     place: &Location,
     location: Location,
-    rest: Option<SchemaNode<K, R>>,
-    beside: Beside<R, SchemaNode<K, R>>,
-) -> Result<Keyword<K, R>, AllocError>
+    rest: Option<N>,
+    beside: Beside<R, N>,
+) -> Result<KeywordOver<K, R, N>, AllocError>
     ensures form { IfOk result (IsAdditionalProperties place.now location (is_some rest)
         (option_map (λ m. length m.names) beside.properties)
         (option_map (λ x. length (zip x.patterns.items x.nodes.items)) beside.patterns)
         (planned plan.entry).fused_one) }
-    ensures makes { IfOk result (λ k. MakesRestriction (kit K.Leaf R.RegexEngine) location rest
-        beside place.now (planned plan.entry) (k ∷ [])) }
+    ensures makes { IfOk result (λ k. MakesRestriction (kit K.Leaf R.RegexEngine)
+        N.answers location rest beside place.now (planned plan.entry) (k ∷ [])) }
 {
     form(alloc, plan, place, location, rest, beside)
 }

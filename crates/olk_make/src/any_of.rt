@@ -6,10 +6,10 @@ ghost use Rattle.olk_make.specs.Making.{MakesMember};
 ghost use Rattle.olk_read.specs.declared.shape.Shape.TheVariants as shape;
 
 use olk_base::{Leaf, RegexEngine};
-use olk_node::{Keyword, SchemaNode};
 use olk_paths::Location;
 use olk_tree::any_of::{AnyOf, SingleAnyOf};
 use olk_tree::node::KeywordOver;
+use olk_tree::place::Place;
 
 /// The form for so many branches.
 fn form<K, R, N: Drop>(location: Location, mut schemas: Vec<N>) -> KeywordOver<K, R, N>
@@ -25,13 +25,13 @@ fn form<K, R, N: Drop>(location: Location, mut schemas: Vec<N>) -> KeywordOver<K
 }
 
 /// The validator of the branches' nodes.
-pub fn make<K: Leaf, R: RegexEngine>(
+pub fn make<K: Leaf, R: RegexEngine, N: Place<K, R>>(
     location: Location,
-    nodes: Vec<SchemaNode<K, R>>,
-) -> Keyword<K, R>
+    nodes: Vec<N>,
+) -> KeywordOver<K, R, N>
     ensures form { IsFormOfAnyOf location nodes.items result }
-    ensures makes { MakesMember (kit K.Leaf R.RegexEngine) shape.AnyOf location nodes.items
-        (result ∷ []) }
+    ensures makes { MakesMember (kit K.Leaf R.RegexEngine)
+        N.answers shape.AnyOf location nodes.items (result ∷ []) }
 {
     form(location, nodes)
 }

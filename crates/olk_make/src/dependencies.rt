@@ -6,12 +6,12 @@ ghost use Rattle.olk_make.specs.Making.{MakesMember};
 ghost use Rattle.olk_read.specs.declared.shape.Shape.TheVariants as shape;
 
 use olk_base::{Leaf, RegexEngine};
-use olk_node::{Keyword, SchemaNode};
 use olk_paths::Location;
 use olk_read::append;
 use olk_tree::dependencies::Dependencies;
 use olk_tree::map::{SmallMap, SortedNames};
 use olk_tree::node::{Body, KeywordOver};
+use olk_tree::place::Place;
 use olk_tree::required::RequiredValidator;
 use std::alloc::{AllocError, Global};
 
@@ -20,19 +20,19 @@ use std::alloc::{AllocError, Global};
 /// # Errors
 ///
 /// Want of memory.
-fn node_of_list<K: Leaf, R: RegexEngine>(
+fn node_of_list<K: Leaf, R: RegexEngine, N: Place<K, R>>(
     alloc: Global,
     location: &Location,
     required: Vec<String>,
-) -> Result<SchemaNode<K, R>, AllocError>
-    ensures { IfOk result (IsListAt location.now required) }
+) -> Result<N, AllocError>
+    ensures { IfOk result (IsListAt (kit K.Leaf R.RegexEngine) N.answers location.now required) }
 {
     let names = RequiredValidator {
         required,
         location: location.try_clone(alloc)?,
     };
     let place = location.try_clone(alloc)?;
-    Ok(SchemaNode::new(place, Body::RequiredNames(names)))
+    Ok(N::new(place, Body::RequiredNames(names)))
 }
 
 /// The nodes of lists of names.
@@ -40,12 +40,13 @@ fn node_of_list<K: Leaf, R: RegexEngine>(
 /// # Errors
 ///
 /// Want of memory.
-fn nodes_of_lists<K: Leaf, R: RegexEngine>(
+fn nodes_of_lists<K: Leaf, R: RegexEngine, N: Place<K, R>>(
     alloc: Global,
     location: &Location,
     lists: Vec<Vec<String>>,
-) -> Result<Vec<SchemaNode<K, R>>, AllocError>
-    ensures { IfOk result (λ nodes. AreListsAt location.now lists.items nodes.items) }
+) -> Result<Vec<N>, AllocError>
+    ensures { IfOk result (λ nodes. AreListsAt (kit K.Leaf R.RegexEngine) N.answers
+        location.now lists.items nodes.items) }
 {
     let mut nodes = Vec::new(alloc);
     for list in lists {
@@ -60,13 +61,14 @@ fn nodes_of_lists<K: Leaf, R: RegexEngine>(
 /// # Errors
 ///
 /// Want of memory.
-fn nodes_in_order<K: Leaf, R: RegexEngine>(
+fn nodes_in_order<K: Leaf, R: RegexEngine, N: Place<K, R>>(
     alloc: Global,
     location: &Location,
     lists: Vec<Option<Vec<String>>>,
-    schemas: Vec<SchemaNode<K, R>>,
-) -> Result<Vec<SchemaNode<K, R>>, AllocError>
-    ensures { IfOk result (λ nodes. AreInOrder location.now lists.items
+    schemas: Vec<N>,
+) -> Result<Vec<N>, AllocError>
+    ensures { IfOk result (λ nodes. AreInOrder (kit K.Leaf R.RegexEngine) N.answers
+        location.now lists.items
         schemas.items nodes.items) }
 {
     let mut schemas = schemas.into_iter();
@@ -89,14 +91,14 @@ fn nodes_in_order<K: Leaf, R: RegexEngine>(
 /// # Errors
 ///
 /// Want of memory.
-pub fn make_required<K: Leaf, R: RegexEngine>(
+pub fn make_required<K: Leaf, R: RegexEngine, N: Place<K, R>>(
     alloc: Global,
     location: Location,
     keys: SortedNames,
     lists: Vec<Vec<String>>,
-) -> Result<Keyword<K, R>, AllocError>
+) -> Result<KeywordOver<K, R, N>, AllocError>
     ensures form { IfOk result (IsDependencies location keys) }
-    ensures makes { IfOk result (λ k. MakesMember (kit K.Leaf R.RegexEngine)
+    ensures makes { IfOk result (λ k. MakesMember (kit K.Leaf R.RegexEngine) N.answers
         (shape.DependentRequired keys lists) location [] (k ∷ [])) }
 {
     let nodes = nodes_of_lists(alloc, &location, lists)?;
@@ -107,13 +109,13 @@ pub fn make_required<K: Leaf, R: RegexEngine>(
 }
 
 /// The validator of `dependentSchemas` with these keys, and the node of each.
-pub fn make_schemas<K: Leaf, R: RegexEngine>(
+pub fn make_schemas<K: Leaf, R: RegexEngine, N: Place<K, R>>(
     location: Location,
     keys: SortedNames,
-    nodes: Vec<SchemaNode<K, R>>,
-) -> Keyword<K, R>
+    nodes: Vec<N>,
+) -> KeywordOver<K, R, N>
     ensures form { IsDependencies location keys result }
-    ensures makes { MakesMember (kit K.Leaf R.RegexEngine) (shape.DependentSchemas keys)
+    ensures makes { MakesMember (kit K.Leaf R.RegexEngine) N.answers (shape.DependentSchemas keys)
         location nodes.items (result ∷ []) }
 {
     KeywordOver::Dependencies(Dependencies {
@@ -127,15 +129,15 @@ pub fn make_schemas<K: Leaf, R: RegexEngine>(
 /// # Errors
 ///
 /// Want of memory.
-pub fn make<K: Leaf, R: RegexEngine>(
+pub fn make<K: Leaf, R: RegexEngine, N: Place<K, R>>(
     alloc: Global,
     location: Location,
     keys: SortedNames,
     lists: Vec<Option<Vec<String>>>,
-    schemas: Vec<SchemaNode<K, R>>,
-) -> Result<Keyword<K, R>, AllocError>
+    schemas: Vec<N>,
+) -> Result<KeywordOver<K, R, N>, AllocError>
     ensures form { IfOk result (IsDependencies location keys) }
-    ensures makes { IfOk result (λ k. MakesMember (kit K.Leaf R.RegexEngine)
+    ensures makes { IfOk result (λ k. MakesMember (kit K.Leaf R.RegexEngine) N.answers
         (shape.Dependencies keys lists) location schemas.items (k ∷ [])) }
 {
     let nodes = nodes_in_order(alloc, &location, lists, schemas)?;

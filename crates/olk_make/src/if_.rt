@@ -7,10 +7,10 @@ ghost use Rattle.olk_make.specs.Making.{MakesCondition};
 
 use crate::part::Cases;
 use olk_base::{Leaf, RegexEngine};
-use olk_node::{Keyword, SchemaNode};
 use olk_paths::Location;
 use olk_tree::if_::{IfElse, IfThen, IfThenElse};
 use olk_tree::node::KeywordOver;
+use olk_tree::place::Place;
 
 /// The form for the nodes that there are.
 fn form<K, R, N: Drop>(
@@ -49,16 +49,16 @@ fn form<K, R, N: Drop>(
 }
 
 /// The validator of the node of `if` and of those of `then` and `else`, and none where there is neither.
-pub fn make<K: Leaf, R: RegexEngine>(
+pub fn make<K: Leaf, R: RegexEngine, N: Place<K, R>>(
     location: Location,
-    schema: SchemaNode<K, R>,
-    cases: Cases<SchemaNode<K, R>>,
-) -> Option<Keyword<K, R>>
+    schema: N,
+    cases: Cases<N>,
+) -> Option<KeywordOver<K, R, N>>
     ensures no_then { IfNone result (cases.then_schema ≡ None) }
     ensures no_else { IfNone result (cases.else_schema ≡ None) }
     ensures form { IfSome result (IsIf location
         (is_some cases.then_schema) (is_some cases.else_schema)) }
-    ensures makes { MakesCondition (kit K.Leaf R.RegexEngine) location schema cases
+    ensures makes { MakesCondition (kit K.Leaf R.RegexEngine) N.answers location schema cases
         (option_to_list result) }
 {
     form(location, schema, cases)

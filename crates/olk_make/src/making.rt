@@ -17,11 +17,11 @@ use crate::{
 };
 use olk_base::{Leaf, RegexEngine};
 use olk_members::Plan;
-use olk_node::{Keyword, SchemaNode};
 use olk_paths::Location;
 use olk_read::{Shape, append};
 use olk_tree::map::SmallMap;
 use olk_tree::node::KeywordOver;
+use olk_tree::place::Place;
 use serde_json::{Map, Value};
 use std::alloc::{AllocError, Global};
 
@@ -74,21 +74,16 @@ fn take<K, R: Drop, N: Drop>(
 /// # Errors
 ///
 /// Want of memory.
-fn take_all<K: Leaf, R: RegexEngine>(
+fn take_all<K: Leaf, R: RegexEngine, N: Place<K, R>>(
     alloc: Global,
     plan: Plan<'_>,
-    parts: Vec<Part<K, R, SchemaNode<K, R>>>,
-) -> Result<
-    (
-        Taken<R, SchemaNode<K, R>>,
-        Vec<Part<K, R, SchemaNode<K, R>>>,
-    ),
-    AllocError,
->
+    parts: Vec<Part<K, R, N>>,
+) -> Result<(Taken<R, N>, Vec<Part<K, R, N>>), AllocError>
     ensures { IfOk result (λ r. (es : List (Name × Data)) (P : Path) (c : Known)
         → c.condition ≡ (planned plan.entry).condition
-        → PartsStand (kit K.Leaf R.RegexEngine) c parts.items es P
-        → AreTaken (kit K.Leaf R.RegexEngine) (planned plan.entry) c es P r.0 r.1.items) }
+        → PartsStand (kit K.Leaf R.RegexEngine) N.answers c parts.items es P
+        → AreTaken (kit K.Leaf R.RegexEngine)
+        N.answers (planned plan.entry) c es P r.0 r.1.items) }
 {
     let mut taken = Taken::none();
     if !plan.is_condition() && !plan.is_restricted() {
@@ -109,14 +104,14 @@ fn take_all<K: Leaf, R: RegexEngine>(
 /// # Errors
 ///
 /// Want of memory.
-fn make_keyword<K: Leaf, R: RegexEngine>(
+fn make_keyword<K: Leaf, R: RegexEngine, N: Place<K, R>>(
     alloc: Global,
     plan: Plan<'_>,
     place: &Location,
-    taken: &mut Taken<R, SchemaNode<K, R>>,
-    part: Part<K, R, SchemaNode<K, R>>,
-) -> Result<Option<Keyword<K, R>>, AllocError>
-    ensures makes { IfOk result (λ o. MakesPart (kit K.Leaf R.RegexEngine) part.shape
+    taken: &mut Taken<R, N>,
+    part: Part<K, R, N>,
+) -> Result<Option<KeywordOver<K, R, N>>, AllocError>
+    ensures makes { IfOk result (λ o. MakesPart (kit K.Leaf R.RegexEngine) N.answers part.shape
         part.location part.nodes.items taken.old place.now (planned plan.entry)
         (option_to_list o)) }
     ensures cases { is_if_shape part.shape ≡ false → taken.new.cases ≡ taken.old.cases }
@@ -190,16 +185,16 @@ fn make_keyword<K: Leaf, R: RegexEngine>(
 /// # Errors
 ///
 /// Want of memory.
-pub fn make_keywords<K: Leaf, R: RegexEngine>(
+pub fn make_keywords<K: Leaf, R: RegexEngine, N: Place<K, R>>(
     alloc: Global,
     place: &Location,
     members: &Map<String, Value>,
-    parts: Vec<Part<K, R, SchemaNode<K, R>>>,
-) -> Result<Vec<Keyword<K, R>>, AllocError>
-    requires { PartsStand (kit K.Leaf R.RegexEngine)
+    parts: Vec<Part<K, R, N>>,
+) -> Result<Vec<KeywordOver<K, R, N>>, AllocError>
+    requires { PartsStand (kit K.Leaf R.RegexEngine) N.answers
         (known_of (members_view members.now.entries)) parts.items
         (listed (members_view members.now.entries)) place.now }
-    ensures { IfOk result (λ ks. ObjectIsMade (kit K.Leaf R.RegexEngine)
+    ensures { IfOk result (λ ks. ObjectIsMade (kit K.Leaf R.RegexEngine) N.answers
         (members_view members.now.entries) ks.items place.now) }
 {
     let plan = Plan::of(members);

@@ -8,21 +8,21 @@ ghost use Rattle.olk_make.specs.Making.{MakesMember};
 ghost use Rattle.olk_read.specs.declared.shape.Shape.TheVariants as shape;
 
 use olk_base::{Leaf, RegexEngine};
-use olk_node::{Keyword, SchemaNode};
 use olk_paths::Location;
 use olk_tree::node::KeywordOver;
 use olk_tree::not::Not;
+use olk_tree::place::Place;
 use serde_json::Value;
 
 /// The validator of a schema's node, and none where there is no node.
-pub fn make<K: Leaf, R: RegexEngine>(
+pub fn make<K: Leaf, R: RegexEngine, N: Place<K, R>>(
     location: Location,
     original: Value,
-    mut nodes: Vec<SchemaNode<K, R>>,
-) -> Option<Keyword<K, R>>
+    mut nodes: Vec<N>,
+) -> Option<KeywordOver<K, R, N>>
     ensures none { IfNone result (nodes.items ≡ []) }
     ensures form { IfSome result (IsNot location (view original)) }
-    ensures makes { MakesMember (kit K.Leaf R.RegexEngine) (shape.Not original) location
+    ensures makes { MakesMember (kit K.Leaf R.RegexEngine) N.answers (shape.Not original) location
         nodes.items (option_to_list result) }
 {
     let Some(node) = nodes.pop() else {

@@ -7,11 +7,11 @@ ghost use Rattle.olk_make.specs.Making.{MakesMember};
 ghost use Rattle.olk_read.specs.declared.shape.Shape.TheVariants as shape;
 
 use olk_base::{CompiledPattern, Leaf, RegexEngine};
-use olk_node::{Keyword, SchemaNode};
 use olk_paths::Location;
 use olk_read::append;
 use olk_tree::node::KeywordOver;
 use olk_tree::pattern_properties::{PatternProperties, SingleValuePatternProperties};
+use olk_tree::place::Place;
 use std::alloc::{AllocError, Global};
 
 /// Each pattern with its node, as far as there are both.
@@ -58,16 +58,16 @@ fn form<K, R: Drop, N: Drop>(
 /// # Errors
 ///
 /// Want of memory.
-pub fn make<K: Leaf, R: RegexEngine>(
+pub fn make<K: Leaf, R: RegexEngine, N: Place<K, R>>(
     alloc: Global,
     location: Location,
     patterns: Vec<CompiledPattern<R>>,
-    nodes: Vec<SchemaNode<K, R>>,
-) -> Result<Keyword<K, R>, AllocError>
+    nodes: Vec<N>,
+) -> Result<KeywordOver<K, R, N>, AllocError>
     ensures form { IfOk result (IsPatternProperties location
         (length (zip patterns.items nodes.items))) }
     ensures makes { IfOk result (λ k. (t : Table) → MakesMember (kit K.Leaf R.RegexEngine)
-        (shape.PatternProperties patterns t) location nodes.items (k ∷ [])) }
+        N.answers (shape.PatternProperties patterns t) location nodes.items (k ∷ [])) }
 {
     let entries = with_nodes(alloc, patterns, nodes)?;
     Ok(form(location, entries))

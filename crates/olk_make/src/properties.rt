@@ -10,12 +10,12 @@ ghost use Rattle.olk_read.specs.declared.shape.Shape.TheVariants as shape;
 
 use olk_base::{Leaf, RegexEngine};
 use olk_members::Plan;
-use olk_node::{Keyword, SchemaNode};
 use olk_paths::Location;
 use olk_spec::HASHMAP_THRESHOLD;
 use olk_tree::big_map::BigMap;
 use olk_tree::map::{SmallMap, SortedNames};
 use olk_tree::node::KeywordOver;
+use olk_tree::place::Place;
 use olk_tree::properties::{Properties, SmallPropertiesWithRequired2};
 use olk_tree::properties_map::PropertiesMap;
 use std::alloc::{AllocError, Global};
@@ -76,17 +76,17 @@ fn form<K, R, N: Drop>(
 /// # Errors
 ///
 /// Want of memory.
-pub fn make<K: Leaf, R: RegexEngine>(
+pub fn make<K: Leaf, R: RegexEngine, N: Place<K, R>>(
     alloc: Global,
     plan: Plan<'_>,
     place: &Location,
     location: Location,
     names: SortedNames,
-    nodes: Vec<SchemaNode<K, R>>,
-) -> Result<Keyword<K, R>, AllocError>
+    nodes: Vec<N>,
+) -> Result<KeywordOver<K, R, N>, AllocError>
     ensures form { IfOk result (IsProperties place.now location (length names)
         (planned plan.entry).fused) }
-    ensures makes { IfOk result (λ k. MakesClaims (kit K.Leaf R.RegexEngine)
+    ensures makes { IfOk result (λ k. MakesClaims (kit K.Leaf R.RegexEngine) N.answers
         (shape.Properties names) location nodes.items place.now (planned plan.entry) (k ∷ [])) }
 {
     form(alloc, plan, place, location, names, nodes)

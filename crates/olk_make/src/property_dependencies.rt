@@ -7,11 +7,11 @@ ghost use Rattle.olk_make.specs.Making.{MakesMember};
 ghost use Rattle.olk_read.specs.declared.shape.Shape.TheVariants as shape;
 
 use olk_base::{Leaf, RegexEngine};
-use olk_node::{Keyword, SchemaNode};
 use olk_paths::Location;
 use olk_read::append;
 use olk_tree::map::{SmallMap, SortedNames};
 use olk_tree::node::KeywordOver;
+use olk_tree::place::Place;
 use olk_tree::property_dependencies::PropertyDependencies;
 use std::alloc::{AllocError, Global};
 use std::vec::IntoIter;
@@ -69,15 +69,15 @@ fn cut<N: Drop>(
 /// # Errors
 ///
 /// Want of memory.
-pub fn make<K: Leaf, R: RegexEngine>(
+pub fn make<K: Leaf, R: RegexEngine, N: Place<K, R>>(
     alloc: Global,
     location: Location,
     keys: SortedNames,
     texts: Vec<SortedNames>,
-    nodes: Vec<SchemaNode<K, R>>,
-) -> Result<Keyword<K, R>, AllocError>
+    nodes: Vec<N>,
+) -> Result<KeywordOver<K, R, N>, AllocError>
     ensures form { IfOk result (IsPropertyDependencies location keys texts.items) }
-    ensures makes { IfOk result (λ k. MakesMember (kit K.Leaf R.RegexEngine)
+    ensures makes { IfOk result (λ k. MakesMember (kit K.Leaf R.RegexEngine) N.answers
         (shape.PropertyDependencies keys texts) location nodes.items (k ∷ [])) }
 {
     let maps = cut(alloc, texts, nodes)?;

@@ -7,19 +7,19 @@ ghost use Rattle.olk_make.specs.Making.{MakesMember};
 ghost use Rattle.olk_read.specs.declared.shape.Shape.TheVariants as shape;
 
 use olk_base::{Leaf, RegexEngine};
-use olk_node::{Keyword, SchemaNode};
 use olk_paths::Location;
 use olk_tree::node::KeywordOver;
+use olk_tree::place::Place;
 use olk_tree::property_names::{PropertyNames, PropertyNamesFalse};
 
 /// The validator of a schema's node, and none where there is no node.
-pub fn make<K: Leaf, R: RegexEngine>(
+pub fn make<K: Leaf, R: RegexEngine, N: Place<K, R>>(
     location: Location,
-    mut nodes: Vec<SchemaNode<K, R>>,
-) -> Option<Keyword<K, R>>
+    mut nodes: Vec<N>,
+) -> Option<KeywordOver<K, R, N>>
     ensures none { IfNone result (nodes.items ≡ []) }
     ensures form { IfSome result (IsPropertyNames location) }
-    ensures makes { MakesMember (kit K.Leaf R.RegexEngine) shape.PropertyNames location
+    ensures makes { MakesMember (kit K.Leaf R.RegexEngine) N.answers shape.PropertyNames location
         nodes.items (option_to_list result) }
 {
     let Some(node) = nodes.pop() else {
@@ -29,9 +29,11 @@ pub fn make<K: Leaf, R: RegexEngine>(
 }
 
 /// The validator of `false`, which allows no name.
-pub fn make_false<K: Leaf, R: RegexEngine>(location: Location) -> Keyword<K, R>
+pub fn make_false<K: Leaf, R: RegexEngine, N: Place<K, R>>(
+    location: Location,
+) -> KeywordOver<K, R, N>
     ensures form { IsPropertyNamesFalse location result }
-    ensures makes { MakesMember (kit K.Leaf R.RegexEngine) shape.NoNames location []
+    ensures makes { MakesMember (kit K.Leaf R.RegexEngine) N.answers shape.NoNames location []
         (result ∷ []) }
 {
     KeywordOver::PropertyNamesFalse(PropertyNamesFalse { location })

@@ -8,19 +8,20 @@ ghost use Rattle.olk_read.specs.declared.shape.Shape.TheVariants as shape;
 
 use olk_base::{Leaf, RegexEngine};
 use olk_members::Plan;
-use olk_node::{Keyword, SchemaNode};
 use olk_paths::Location;
 use olk_tree::node::KeywordOver;
+use olk_tree::place::Place;
 use olk_tree::required::RequiredValidator;
 
 /// The validator of the names, unless the plan fuses them: two into `properties`, or one into `additionalProperties`.
-pub fn make<K: Leaf, R: RegexEngine>(
+pub fn make<K: Leaf, R: RegexEngine, N: Place<K, R>>(
     plan: Plan<'_>,
     location: Location,
     required: Vec<String>,
-    nodes: Vec<SchemaNode<K, R>>,
-) -> Option<Keyword<K, R>>
-    ensures { (P : Path) → MakesClaims (kit K.Leaf R.RegexEngine) (shape.Required required)
+    nodes: Vec<N>,
+) -> Option<KeywordOver<K, R, N>>
+    ensures { (P : Path) → MakesClaims (kit K.Leaf R.RegexEngine)
+        N.answers (shape.Required required)
         location nodes.items P (planned plan.entry) (option_to_list result) }
 {
     if plan.fuses() {

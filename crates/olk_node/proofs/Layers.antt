@@ -3,6 +3,7 @@ use Rattle.std.specs.Prelude.{◌≡◌, [], ◌∷◌, Bool, not, ◌++◌, ◌
 use Rattle.std.specs.declared.alloc.Global.{Global}
 use Rattle.std.specs.List.{flat_map}
 use Rattle.std.proofs.Common.{refl, ap, ◌∙◌, arith}
+use mathlib.Core.Path.{subst₂}
 use Rattle.serde_json.specs.Data.{Data}
 use Rattle.olk_spec.specs.Names.{Path, ◌//◌, is_empty}
 use Rattle.olk_spec.specs.Faults.{AnyOf, context}
@@ -14,7 +15,8 @@ use Rattle.olk_base.specs.Kit.{Kit}
 use Rattle.olk_tree.specs.Shown.{missing_trees, branch_trees}
 use Rattle.olk_tree.specs.Questions.{always, both, every}
 use Rattle.olk_tree.specs.Answers.{named, due_nodes, chosen_nodes, one_of_report, two_texts, sides_of, required_text, required_place, lacks, has_neighbours, or_else, head_of, first_of, validator_means, body_means, validator_report, body_report, validator_first, body_first, validator_tree, body_tree}
-use Rattle.olk_node.specs.Nodes.{Answers, node_step, answers}
+use Rattle.olk_tree.specs.Places.{Answers, AnswersBy}
+use Rattle.olk_node.specs.Nodes.{node_step, answers}
 use Rattle.olk_tree.specs.declared.big_map.BigMap.{BigMap}
 use Rattle.olk_tree.specs.Tables.{no_table}
 use Rattle.olk_tree.specs.Additional.{additional_report, additional_first, additional_tree}
@@ -231,5 +233,15 @@ module _ {K R : Type 0} (o : Kit K R) where
   pub node_location : (n : SchemaNode K R) → (answers o n).location ≡ (out-SchemaNode K R n).location
   unfolding answers
   node_location n = ap (λ a. a.location) (fold_out-SchemaNode K R Answers (node_step o) n)
+
+  -- a node answers as what stands at its place
+  pub node_answers : (n : SchemaNode K R) (P : Path) (b : Body (KeywordOver K R (SchemaNode K R))) → (out-SchemaNode K R n).location ≡ P → (out-SchemaNode K R n).body ≡ b → AnswersBy o (answers o) P b n
+  node_answers n P b at is = subst₂ (λ P b. AnswersBy o (answers o) P b n) at is record {
+    verdict = node_means n;
+    faults = node_finds n;
+    first = node_first n;
+    evaluation = node_shows n;
+    place = node_location n;
+  }
 
 pub ruleset layers = (node_means, node_finds, node_first, node_shows, node_location)

@@ -1,27 +1,10 @@
 -- What a node answers: whether it accepts a value, the faults that it finds, and the tree that it shows.
-use Rattle.std.specs.Prelude.{◌≡◌, Bool, List}
-use Rattle.serde_json.specs.Data.{Data}
-use Rattle.olk_spec.specs.Names.{Path, is_empty}
-use Rattle.olk_spec.specs.Faults.{Fault}
-use Rattle.olk_spec.specs.Tree.{Tree}
-use Rattle.olk_tree.specs.Questions.{Question}
 use Rattle.olk_tree.specs.Answers.{validator_means, validator_report, validator_first, validator_tree, body_means, body_report, body_first, body_tree}
 use Rattle.olk_tree.specs.Agreement.{validator_agrees, validator_first_agrees, body_agrees, body_first_agrees}
+use Rattle.olk_tree.specs.Places.{Answers}
 use Rattle.olk_base.specs.Kit.{Kit}
 use Rattle.olk_node.specs.declared.node.SchemaNode.{SchemaNode, fold-SchemaNode}
 use Rattle.olk_node.specs.declared.node.SchemaNode.TheOpen.{SchemaNode-F}
-
-pub record Answers : Type 0 where
-  pub means : Data → Question
-  pub report : Bool → Data → Path → List Fault
-  -- none exactly where it accepts
-  pub agrees : (u : Bool) (v : Data) (Q : Path) → is_empty (report u v Q) ≡ (means v).accepts u
-  -- those of the first step that refuses, of which `validate` tells one
-  pub first : Bool → Data → Path → List Fault
-  -- none exactly where it accepts
-  pub first_agrees : (u : Bool) (v : Data) (Q : Path) → is_empty (first u v Q) ≡ (means v).accepts u
-  pub tree : Bool → Data → Path → Tree
-  pub location : Path
 
 module _ {K R : Type 0} (o : Kit K R) where
   abbrev pub node_step : SchemaNode-F K R Answers → Answers

@@ -1,6 +1,7 @@
 //! Places of a schema.
 ghost use Rattle.std.specs.Prelude.{◌≡◌};
 
+use olk_base::{Leaf, RegexEngine};
 use olk_paths::Location;
 use olk_tree::all_of::{AllOf, SingleValueAllOf};
 use olk_tree::any_of::{AnyOf, SingleAnyOf};
@@ -12,15 +13,25 @@ use olk_tree::node::{Body, KeywordOver};
 use olk_tree::not::Not;
 use olk_tree::one_of::{OneOf, SingleOneOf};
 use olk_tree::pattern_properties::{PatternProperties, SingleValuePatternProperties};
+use olk_tree::place::Place;
 use olk_tree::properties::{Properties, SmallPropertiesWithRequired2};
 use olk_tree::property_dependencies::PropertyDependencies;
 use olk_tree::property_names::PropertyNames;
 
 /// A place of a schema.
-#[derive(Drop)]
 pub struct SchemaNode<K, R> {
     pub location: Location,
     pub body: Body<Keyword<K, R>>,
+}
+
+// By hand, so that the crates above drop a node by one call, and what is below it is dropped here alone.
+impl<K: Drop, R: Drop> Drop for SchemaNode<K, R> {
+    fn drop(self) {
+        let SchemaNode {
+            location: _location,
+            body: _body,
+        } = self;
+    }
 }
 
 impl<K, R> SchemaNode<K, R> {
@@ -39,6 +50,21 @@ impl<K, R> SchemaNode<K, R> {
         ensures { result.now ≡ (out-SchemaNode K R self.now).location }
     {
         &self.location
+    }
+}
+
+impl<K: Leaf, R: RegexEngine> Place<K, R> for SchemaNode<K, R> {
+    ghost use Rattle.olk_base.specs.Kit.{kit};
+    ghost use Rattle.olk_tree.specs.Places.{AnswersBy};
+    ghost use Rattle.olk_node.specs.Nodes.{answers};
+
+    ghost answers = { answers (kit K.Leaf R.RegexEngine) };
+
+    fn new(location: Location, body: Body<Keyword<K, R>>) -> Self
+        ensures { AnswersBy (kit K.Leaf R.RegexEngine) (answers (kit K.Leaf R.RegexEngine))
+            location body result }
+    {
+        SchemaNode::new(location, body)
     }
 }
 

@@ -11,3 +11,4 @@ pub mod Visited
 pub mod Emptiness
 pub mod AdditionalAgreement
 pub mod Agreement
+pub mod Places

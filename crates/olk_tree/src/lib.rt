@@ -1,6 +1,6 @@
 //! Validators, and what they hold: what they mean and what they report, over the nodes that they are generic in.
 //!
-//! Stands on `olk_paths` and `olk_members`. Tested by `olk_tests`.
+//! `Place` is a node as building knows it. Stands on `olk_paths` and `olk_members`. Tested by `olk_tests`.
 #![tactic(auto)]
 
 pub mod additional_properties;
@@ -17,6 +17,7 @@ pub mod not;
 pub mod one_of;
 pub mod pattern_properties;
 pub mod pattern_table;
+pub mod place;
 pub mod properties;
 pub mod properties_map;
 pub mod property_dependencies;
@@ -28,6 +29,7 @@ pub use big_map::{BigMap, HashedNames};
 pub use map::{SmallMap, SortedNames};
 pub use means::{Means, Reports};
 pub use node::{Body, KeywordOver};
+pub use place::Place;
 pub use properties_map::PropertiesMap;
 pub use required::RequiredValidator;
 pub use validators_map::{DeclaredNames, PropertiesValidatorsMap};

@@ -1,11 +1,12 @@
 use Rattle.std.proofs.Common.{length, ◌≡◌}
+use Rattle.olk_base.specs.Kit.{kit}
 use Rattle.olk_make.proofs.DependencyKeywords.{MadeInOrder}
 use Rattle.olk_make.proofs.SoFar.{SoFar}
 use Rattle.olk_make.proofs.dependencies.nodes_in_order.Given as goal
 
 abbrev pub invariant-loop-list : goal.invariant-loop-list
 invariant-loop-list g l = record {
-  made : SoFar (MadeInOrder l.location) (l.fn.lists.items, l.fn.schemas.items) (l.list-iterator.rest.items, l.schemas.rest.items) l.nodes.items;
+  made : SoFar (MadeInOrder (kit g.K.Leaf g.R.RegexEngine) g.N.Place.answers l.location) (l.fn.lists.items, l.fn.schemas.items) (l.list-iterator.rest.items, l.schemas.rest.items) l.nodes.items;
   schemas : length l.schemas.rest.items ≡ l.schemas.rest.len;
   count : length l.list-iterator.rest.items ≡ l.list-iterator.rest.len;
   next : (goal.iterator-loop-list g).can_next l.list-iterator;

@@ -1,0 +1,42 @@
+-- What a place of a schema answers, and which schema it stands for.
+use Rattle.std.specs.Prelude.{◌≡◌, ◌≤◌, Bool, List}
+use Rattle.serde_json.specs.Data.{Data}
+use Rattle.olk_spec.specs.Names.{Path, is_empty}
+use Rattle.olk_spec.specs.Faults.{Fault, ◌∼◌}
+use Rattle.olk_spec.specs.Tree.{Tree}
+use Rattle.olk_spec.specs.Meaning.{accepts, asks, report, tree}
+use Rattle.olk_base.specs.Kit.{Kit}
+use Rattle.olk_tree.specs.Questions.{Question}
+use Rattle.olk_tree.specs.Answers.{validator_means, validator_report, validator_first, validator_tree, body_means, body_report, body_first, body_tree}
+use Rattle.olk_tree.specs.declared.node.KeywordOver.{KeywordOver}
+use Rattle.olk_tree.specs.declared.node.Body.{Body}
+
+-- whether it accepts a value, the faults that it finds, and the tree that it shows
+pub record Answers : Type 0 where
+  pub means : Data → Question
+  pub report : Bool → Data → Path → List Fault
+  -- none exactly where it accepts
+  pub agrees : (u : Bool) (v : Data) (Q : Path) → is_empty (report u v Q) ≡ (means v).accepts u
+  -- those of the first step that refuses, of which `validate` tells one
+  pub first : Bool → Data → Path → List Fault
+  -- none exactly where it accepts
+  pub first_agrees : (u : Bool) (v : Data) (Q : Path) → is_empty (first u v Q) ≡ (means v).accepts u
+  pub tree : Bool → Data → Path → Tree
+  pub location : Path
+
+module _ {K R N : Type 0} (o : Kit K R) (answers : N → Answers) where
+  -- the answers of the node n are those of the schema S at P, for every value and path and for either answer for unfinished matches
+  pub record Stands (n : N) (S : Data) (P : Path) : Type 0 where
+    pub verdict : (u : Bool) (v : Data) → ((answers n).means v).accepts u ≡ accepts o.world u S v
+    pub asks_within : (u : Bool) (v : Data) → ((answers n).means v).asks u ≤ asks o.world u S v
+    pub faults : (u : Bool) (v : Data) (Q : Path) → (answers n).report u v Q ∼ report o.world u S v P Q
+    pub evaluation : (u : Bool) (v : Data) (Q : Path) → (answers n).tree u v Q ≡ tree o.world u S v P Q
+    pub place : (answers n).location ≡ P
+
+  -- the node n at P answers as what stands there does, over the nodes that this holds
+  pub record AnswersBy (P : Path) (b : Body (KeywordOver K R N)) (n : N) : Type 0 where
+    pub verdict : (v : Data) → (answers n).means v ≡ body_means (validator_means o (λ z. (answers z).means)) b v
+    pub faults : (u : Bool) (v : Data) (Q : Path) → (answers n).report u v Q ≡ body_report (validator_report o (λ z. (answers z).means) (λ z. (answers z).report) u) P b v Q
+    pub first : (u : Bool) (v : Data) (Q : Path) → (answers n).first u v Q ≡ body_first (validator_first o (λ z. (answers z).means) (λ z. (answers z).report) u (λ z. (answers z).first)) P b v Q
+    pub evaluation : (u : Bool) (v : Data) (Q : Path) → (answers n).tree u v Q ≡ body_tree (validator_tree o (λ z. (answers z).means) (λ z. (answers z).tree) u) P b v Q
+    pub place : (answers n).location ≡ P

@@ -1,0 +1,17 @@
+//! Places of a schema.
+use crate::node::{Body, KeywordOver};
+use olk_base::{Leaf, RegexEngine};
+use olk_paths::Location;
+
+/// A place of a schema, as building knows it: it answers as what stands there does.
+pub trait Place<K: Leaf, R: RegexEngine>: Drop {
+    ghost use Rattle.olk_base.specs.Kit.{kit};
+    ghost use Rattle.olk_tree.specs.Places.{Answers, AnswersBy};
+
+    // what it answers
+    ghost answers: { Self → Answers };
+
+    /// The place with what stands there.
+    fn new(location: Location, body: Body<KeywordOver<K, R, Self>>) -> Self
+        ensures { AnswersBy (kit K.Leaf R.RegexEngine) answers location body result };
+}
