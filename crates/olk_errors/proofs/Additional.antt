@@ -11,16 +11,17 @@ use Rattle.olk_base.specs.Lawful.{Asking}
 use Rattle.olk_base.specs.Compiled.{pattern_answers}
 use Rattle.olk_base.specs.declared.pattern.CompiledPattern.{CompiledPattern}
 use Rattle.olk_reports.specs.declared.error.ValidationError.{ValidationError}
-use Rattle.olk_tree.specs.Questions.{Question}
-use Rattle.olk_tree.specs.Additional.{Sides, known_at, known_or, is_matched_by, matching_from}
+use Rattle.olk_tree.specs.Questions.{Question, said_to}
+use Rattle.olk_tree.specs.Additional.{Sides, known_at, known_or, known_or_asked, is_matched_by, matching_from}
+use Rattle.olk_tree.specs.AdditionalAgreement.{match_is_said}
 use Rattle.olk_check.specs.Asks.{OnlyAsks}
 use Rattle.olk_check.proofs.Asked.{only_same}
 use Rattle.olk_errors.specs.Found.{Appends, Outcome, Passes, IsErrorOf}
-use Rattle.olk_errors.specs.Outcomes.{of_branches, declared_nodes, unspoken_from, asked_from, asked_at, unexpected_at, if_matched}
+use Rattle.olk_errors.specs.Outcomes.{of_node, of_branches, declared_nodes, unspoken_from, asked_from, asked_at, unexpected_at, if_matched}
 use Rattle.olk_tree.specs.Answers.{lacks}
 use Rattle.olk_tree.specs.declared.additional_properties.RequiredName.{RequiredName}
 use Rattle.olk_errors.proofs.Appending.{appends_nothing}
-use Rattle.olk_errors.proofs.Steps.{Collecting, collecting_start, collecting_each, collecting_end, Passing, passing_start, passing_each, passing_each_error, passing_end}
+use Rattle.olk_errors.proofs.Steps.{passed_start, passed_more, passed_error, passed_end, Collecting, collecting_start, collecting_each, collecting_end, Passing, passing_start, passing_each, passing_each_error, passing_end}
 
 -- a member, and what its nodes answer
 pub record Asked (R N : Type 0) : Type 0 where
@@ -190,6 +191,23 @@ module _ {R N : Type 0} (w : Asked R N) where
 
         pub rest_found : {new : List ValidationError} → spoken ≡ false → Appends mid new (outcome b.answer P (option_to_list w.sides.rest)).all → Appends old new (outcome a.answer Q (asked a.answer)).all
         rest_found e found = collecting_end (collecting_each loop.collecting (option_to_list w.sides.rest) (rest_left a.answer spoken i none e) found refl (only_same b)) refl
+
+-- ---- of a single node, or of none
+
+-- where the pattern says b of the name
+pub if_matched_is : {N : Type 0} (u costs : Bool) (known s : Says) (n : N) {b : Bool} → b ≡ (known_or_asked known (said_to costs s)).accepts u → put_if (reads_as u (known_or known s)) n [] ≡ put_if b n []
+if_matched_is u costs known s n told = ap (λ b. put_if b n []) (sym (told ∙ match_is_said u costs known s))
+
+module _ {N : Type 0} (m : N → Data → Question) (s r : N → Bool → Data → Path → List Fault) (v : Data) (Q : Path) where
+  pub none_passes : (u : Bool) {ns : List N} → ns ≡ [] → Passes (of_branches m s r u ns v Q)
+  none_passes u none = passed_end (passed_start {q = λ n. m n v} {u = u} {s = λ n. s n u v Q} {f = λ n. r n u v Q}) none
+
+  module _ {t u : Bool} (same : t ≡ u) {n : N} {ns : List N} (one : ns ≡ n ∷ []) where
+    pub one_passes : Passes (of_node m s r t n v Q) → Passes (of_branches m s r u ns v Q)
+    one_passes passes = passed_end (passed_more (passed_start {q = λ n. m n v} {u = u} {s = λ n. s n u v Q} {f = λ n. r n u v Q}) one (subst (λ a. Passes (of_node m s r a n v Q)) same passes)) refl
+
+    pub one_refuses : (f : Fault) → IsErrorOf (of_node m s r t n v Q) f → IsErrorOf (of_branches m s r u ns v Q) f
+    one_refuses f told = passed_error (passed_start {q = λ n. m n v} {u = u} {s = λ n. s n u v Q} {f = λ n. r n u v Q}) one (subst (λ a. IsErrorOf (of_node m s r a n v Q) f) same told)
 
 -- ---- where nothing is asked
 

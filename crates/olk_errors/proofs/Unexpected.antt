@@ -1,6 +1,6 @@
 -- What is told of members that are not expected.
 use Rattle.std.proofs.Common.{◌≡◌, ℕ, zero, suc, ◌<◌, Bool, true, false, not, cond, List, [], ◌∷◌, ◌++◌, map, get_or, Some, None, slice_get, refl, sym, ap, subst, ◌∙◌, arith}
-use Rattle.std.proofs.lemmas.List.{map-append}
+use Rattle.std.proofs.lemmas.List.{append_assoc, append-nil, map-append}
 use Rattle.std.specs.List.{Contains}
 use Rattle.serde_json.specs.Data.{Data}
 use Rattle.olk_spec.specs.Names.{Name, Path, put_if}
@@ -53,6 +53,20 @@ put_mapped g false x = refl
 pub put_aside : {A B : Type 0} (g : A → B) (b : Bool) (x : A) (old : List A) {new : List A} → new ≡ old ++ put_if b x [] → map g new ≡ map g old ++ put_if b (g x) []
 put_aside g b x old grown = ap (map g) grown ∙ map-append g old (put_if b x []) ∙ ap (λ l. map g old ++ l) (put_mapped g b x)
 
+-- ---- their names, of which those before the rest are listed
+
+module _ {A B C : Type 0} (h : B → C) (g : A → C) (all : List A) where
+  pub one_name_more : (old : List B) {new : List B} {rest more : List A} {x : A} {y : B} → rest ≡ x ∷ more → new ≡ old ++ y ∷ [] → h y ≡ g x → map h old ++ map g rest ≡ map g all → map h new ++ map g more ≡ map g all
+  one_name_more old {more = more} {x} {y} next grown same so_far = ap (λ l. map h l ++ map g more) grown
+      ∙ ap (λ l. l ++ map g more) (map-append h old (y ∷ []))
+      ∙ append_assoc (map h old) (h y ∷ []) (map g more)
+      ∙ ap (λ c. map h old ++ c ∷ map g more) same
+      ∙ ap (λ l. map h old ++ map g l) (sym next)
+      ∙ so_far
+
+  pub all_names : (old : List B) {rest : List A} → rest ≡ [] → map h old ++ map g rest ≡ map g all → map h old ≡ map g all
+  all_names old none so_far = sym (append-nil (map h old)) ∙ ap (λ l. map h old ++ map g l) (sym none) ∙ so_far
+
 -- ---- the error of those that were put aside
 
 module _ {A : Type 0} (g : A → Name × Data) (name : A → Name) (same : (x : A) → (g x).0 ≡ name x) (v : Data) (P Q : Path) {old new : List ValidationError} where
@@ -66,6 +80,16 @@ module _ {A : Type 0} (g : A → Name × Data) (name : A → Name) (same : (x : 
       names_of_all : (zs : List A) → map (λ e. e.0) (map g zs) ≡ map name zs
       names_of_all [] = refl
       names_of_all (z ∷ zs) = λ i. same z i ∷ names_of_all zs i
+
+  pub told_by_value : {named : Bool} (xs : List A) {ys : List A} {y : A} → ys ≡ xs → Some y ≡ slice_get ys 0 → false ≡ named → Appends old new (fault FalseSchema (g y).1 Q P ∷ []) → Appends old new (unexpected_faults named (map g xs) v P Q)
+  told_by_value {named} [] {ys} {y} e some is a = absurd (no_first (some ∙ ap (λ l. slice_get l 0) e))
+    where
+      no_first : Some y ≡ (let none : List A = [] in slice_get none 0) → ⊥
+      no_first h = cc
+  told_by_value (x ∷ xs) {ys} {y} e some is a = subst (λ b. Appends old new (unexpected_faults b (map g (x ∷ xs)) v P Q)) is (subst (λ z. Appends old new (fault FalseSchema (g z).1 Q P ∷ [])) (first_is (some ∙ ap (λ l. slice_get l 0) e)) a)
+    where
+      first_is : Some y ≡ slice_get (x ∷ xs) 0 → y ≡ x
+      first_is h = cc
 
 pub none_told : {A : Type 0} (g : A → Name × Data) (v : Data) (P Q : Path) (errors : List ValidationError) (named : Bool) (xs : List A) {ys : List A} → ys ≡ xs → None ≡ slice_get ys 0 → Appends errors errors (unexpected_faults named (map g xs) v P Q)
 none_told g v P Q errors named [] e none = appends_nothing errors

@@ -18,7 +18,7 @@ ghost use Rattle.olk_errors.specs.Found.{Appends, IfInvalid, Passes, IsErrorOf};
 ghost use Rattle.olk_errors.specs.Outcomes.{of_branches, of_names, declared_nodes, asked_at, unexpected_at, if_matched, of_asked_member, of_asked_members};
 
 use crate::Errors;
-use crate::append::{append_error, refuse, roll_back_on_err};
+use crate::append::{append_error, push, refuse, roll_back_on_err, vec_of_one};
 use crate::properties::{collect_below, validate_below};
 use crate::required::{collect_if_missing, refuse_if_missing};
 use olk_base::{CompiledPattern, Node, RegexEngine, ValidationContext};
@@ -273,18 +273,9 @@ fn refuse_unexpected<'a, R, N>(
         let kind = ValidationErrorKind::FalseSchema;
         return refuse(alloc, kind, Node::Value(value), path, location);
     }
-    let unexpected = one_name(alloc, name)?;
+    let unexpected = vec_of_one(alloc, name)?;
     let kind = ValidationErrorKind::AdditionalProperties { unexpected };
     refuse(alloc, kind, object, path, location)
-}
-
-// The one name.
-fn one_name<'a>(alloc: Global, name: &'a str) -> Result<Vec<&'a str>, AllocError>
-    ensures { IfOk result (λ ns. ns.items ≡ name.entry ∷ []) }
-{
-    let mut names: Vec<&'a str> = Vec::with_capacity(alloc, 1)?;
-    names.push(name)?;
-    Ok(names)
 }
 
 // Whether `properties` or `patternProperties` stands beside it.
@@ -415,21 +406,8 @@ fn collect_member<'a, R: RegexEngine, N: Errors<'a>>(
     if !collect_asked(alloc, keyword, declared, name, value, path, ctx, errors)? {
         return Ok(());
     }
-    let answer = push_member(name, value, unexpected);
+    let answer = push(unexpected, (name, value));
     roll_back_on_err(answer, errors, len)
-}
-
-// One member more.
-fn push_member<'a>(
-    name: &'a str,
-    value: &'a Value,
-    members: &mut Vec<(&'a str, &'a Value)>,
-) -> Result<(), AllocError>
-    ensures { OnOk result (members.new.items
-        ≡ members.old.items ++ (name.entry, value.entry) ∷ []) }
-{
-    members.push((name, value))?;
-    Ok(())
 }
 
 // The errors of what is asked of a member; and whether that is nothing, so that it is not expected.

@@ -1,5 +1,5 @@
 // One error more, and errors taken back.
-ghost use Rattle.std.specs.Prelude.{◌≡◌, ◌∷◌, [], OnOk, OnErr, IfErr, take};
+ghost use Rattle.std.specs.Prelude.{◌≡◌, ◌∷◌, ◌++◌, [], IfOk, OnOk, OnErr, IfErr, take};
 ghost use Rattle.olk_base.specs.Nodes.{data_of};
 ghost use Rattle.olk_spec.specs.Faults.{fault};
 ghost use Rattle.olk_reports.specs.Errors.{kind_of};
@@ -24,8 +24,27 @@ pub(crate) fn append_error<'a>(
     ensures memory { OnErr result (errors.new.items ≡ errors.old.items) }
 {
     let text = String::from_str(alloc, path.as_str())?;
-    errors.push(ValidationError::new(kind, node, text, schema_path))?;
+    push(errors, ValidationError::new(kind, node, text, schema_path))
+}
+
+// One item more; without memory the list is as before.
+#[inline]
+pub(crate) fn push<T: Drop>(items: &mut Vec<T>, item: T) -> Result<(), AllocError>
+    ensures pushed { OnOk result (items.new.items ≡ items.old.items ++ item ∷ []) }
+    ensures memory { OnErr result (items.new.items ≡ items.old.items) }
+{
+    items.push(item)?;
     Ok(())
+}
+
+// A list of the one item.
+#[inline]
+pub(crate) fn vec_of_one<T: Drop>(alloc: Global, item: T) -> Result<Vec<T>, AllocError>
+    ensures { IfOk result (λ items. items.items ≡ item ∷ []) }
+{
+    let mut items = Vec::with_capacity(alloc, 1)?;
+    push(&mut items, item)?;
+    Ok(items)
 }
 
 // Refuses with one error.

@@ -9,7 +9,7 @@ ghost use Rattle.olk_errors.specs.Found.{Appends, IfInvalid, Passes, IsErrorOf};
 ghost use Rattle.olk_errors.specs.Outcomes.{of_asked_name, of_asked_names};
 
 use crate::Errors;
-use crate::append::{append_error, refuse, roll_back_on_err};
+use crate::append::{append_error, push, refuse, roll_back_on_err};
 use olk_base::{Node, ValidationContext};
 use olk_check::IsValid;
 use olk_paths::InstancePath;
@@ -206,8 +206,7 @@ fn append_one_wrapped<'a>(
         (wrapped (data_of object.entry) path.now (fault_of error.entry) ∷ [])) }
     ensures memory { OnErr result (errors.new.items ≡ errors.old.items) }
 {
-    errors.push(wrap(alloc, error, object, path)?)?;
-    Ok(())
+    push(errors, wrap(alloc, error, object, path)?)
 }
 
 // Refuses with the error of a name, told of the object.
@@ -234,20 +233,20 @@ fn wrap<'a>(
     ensures { IfOk result (λ e. fault_of e
         ≡ wrapped (data_of object.entry) path.now (fault_of error.entry)) }
 {
-    let text = String::from_str(alloc, path.as_str())?;
-    wrap_at(alloc, error, object, text)
+    let (error, text) = boxed_at(alloc, error, path)?;
+    Ok(ValidationError::wrapping(error, object, text))
 }
 
-// The error of a name, told of the object at the path that the text is.
-fn wrap_at<'a>(
+// The value in a box, and the text of the path.
+fn boxed_at<T: Drop>(
     alloc: Global,
-    error: ValidationError<'a>,
-    object: Node<'a>,
-    text: String,
-) -> Result<ValidationError<'a>, AllocError>
-    ensures { IfOk result (λ e. fault_of e
-        ≡ wrapped (data_of object.entry) (string_bytes text) (fault_of error.entry)) }
+    value: T,
+    path: &InstancePath,
+) -> Result<(Box<T>, String), AllocError>
+    ensures value { IfOk result (λ b. b.0.value ≡ value) }
+    ensures text { IfOk result (λ b. string_bytes b.1 ≡ path.now) }
 {
-    let error = Box::new(alloc, error)?;
-    Ok(ValidationError::wrapping(error, object, text))
+    let text = String::from_str(alloc, path.as_str())?;
+    let value = Box::new(alloc, value)?;
+    Ok((value, text))
 }

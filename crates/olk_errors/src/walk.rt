@@ -7,7 +7,7 @@ ghost use Rattle.olk_errors.specs.Found.{Appends, AreLike, IfInvalid, Passes, Is
 ghost use Rattle.olk_errors.specs.Outcomes.{of_branches};
 
 use crate::Errors;
-use crate::append::roll_back_on_err;
+use crate::append::{roll_back_on_err, vec_of_one};
 use olk_base::{Node, ValidationContext};
 use olk_paths::InstancePath;
 use olk_reports::{ValidateError, ValidationError};
@@ -95,9 +95,7 @@ pub(crate) fn one_context<'a, N: Errors<'a>>(
     ensures context { OnlyAsks ctx.old ctx.new }
 {
     let errors = errors_of(alloc, branch, node, path, ctx)?;
-    let mut contexts: Vec<Vec<ValidationError<'a>>> = Vec::with_capacity(alloc, 1)?;
-    contexts.push(errors)?;
-    Ok(contexts)
+    vec_of_one(alloc, errors)
 }
 
 // The errors of a node, in a list of their own.

@@ -1,4 +1,5 @@
 use Rattle.std.proofs.Common.{◌≡◌, rules, string_bytes, ap, ◌∙◌}
+use Rattle.std.proofs.lemmas.Result.{on_ok_weaker}
 use Rattle.olk_base.specs.Nodes.{data_of}
 use Rattle.olk_spec.specs.Faults.{fault}
 use Rattle.olk_reports.specs.Errors.{kind_of}
@@ -8,4 +9,4 @@ use Rattle.olk_errors.proofs.append.append_error.Goals as goal
 pub returns-clause-report : goal.returns-clause-report
 returns-clause-report c =
     let text : string_bytes c.in_ok-text.text ≡ c.args.path.now = search rules in
-    appends_one c.new.result c.in_ok-push.ensures.items (c.new.ensures.fault ∙ ap (λ t. fault (kind_of c.args.kind) (data_of c.args.node) t c.args.schema_path.now) text)
+    on_ok_weaker c.push.result (λ grown. appends_one c.new.result grown (c.new.ensures.fault ∙ ap (λ t. fault (kind_of c.args.kind) (data_of c.args.node) t c.args.schema_path.now) text)) c.push.ensures.pushed
