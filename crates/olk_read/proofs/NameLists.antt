@@ -1,20 +1,20 @@
 -- Lists of names, each name once.
-use Rattle.std.specs.Prelude.{◌≡◌, true, ◌&&◌, ◌||◌, List, [], ◌∷◌, ◌++◌, Some, bytes_eq}
+use Rattle.std.specs.Prelude.{◌≡◌, true, false, ◌&&◌, ◌||◌, List, [], ◌∷◌, ◌++◌, Some, bytes_eq}
 use Rattle.std.specs.List.{list_all, list_any}
-use Rattle.std.proofs.Common.{refl, sym, ◌∙◌, ap, true≢false}
+use Rattle.std.proofs.Common.{refl, sym, ◌∙◌, ap, subst, true≢false}
 use Rattle.serde_json.specs.Data.{Data, null, boolean, number, string, array, object, Items, item}
 use Rattle.serde_json.specs.Find.{as_str}
 use Rattle.serde_json.specs.View.{view, items_view}
 use Rattle.serde_json.specs.declared.value.Value.{Value}
-use Rattle.olk_spec.specs.Names.{Name, Path, ◌//◌, is_among, is_empty}
-use Rattle.olk_spec.specs.Faults.{Fault}
+use Rattle.olk_spec.specs.Names.{Name, Path, ◌//◌, is_among, is_empty, put_if}
+use Rattle.olk_spec.specs.Faults.{Fault, UniqueItems}
 use Rattle.olk_spec.specs.Schemas.{is_array, texts_in, as_text}
-use Rattle.olk_spec.specs.Malformed.{name_list_refusals, unless_array, or_else_list}
+use Rattle.olk_spec.specs.Malformed.{name_list_refusals, unless_array, or_else_list, refusal, has_repeat, not_a_text}
 use Rattle.olk_spec.proofs.Truth.{or_false}
 use Rattle.olk_reports.specs.declared.error.BuildError.{BuildError}
 use Rattle.olk_read.specs.Lists.{name_list_faults}
 use Rattle.olk_read.specs.Refusing.{TellsOneOf}
-use Rattle.olk_read.proofs.Spending.{tells_left}
+use Rattle.olk_read.proofs.Spending.{tells_left, tells_same}
 use Rattle.olk_read.proofs.Texts.{text_at}
 
 -- ---- names that are repeated
@@ -43,6 +43,18 @@ module _ (key : Name) (P : Path) where
       first_told : (xs ys : List Fault) → TellsOneOf xs e → TellsOneOf (or_else_list xs ys) e
       first_told [] ys h = tells_left [] ys e h
       first_told (x ∷ xs) ys h = h
+
+  -- an array with a name twice, and one with each name once
+  repeated : (d : Data) (ds : Items) → d ≡ array ds → has_repeat (texts_in ds) ≡ true → name_list_refusals key d P ≡ refusal UniqueItems d (P // key) ∷ []
+  repeated d ds is r = subst (λ x. name_list_refusals key x P ≡ refusal UniqueItems x (P // key) ∷ []) (sym is)
+      (ap (λ b. or_else_list (put_if b (refusal UniqueItems (array ds) (P // key)) []) (not_a_text (array ds) P)) r)
+
+  pub repeat_told : (d : Data) (ds : Items) (e : BuildError) → d ≡ array ds → has_repeat (texts_in ds) ≡ true → TellsOneOf (refusal UniqueItems d (P // key) ∷ []) e → TellsOneOf (name_list_refusals key d P) e
+  repeat_told d ds e is r t = tells_same (sym (repeated d ds is r)) e t
+
+  pub refused_as_texts : (d : Data) (ds : Items) → d ≡ array ds → has_repeat (texts_in ds) ≡ false → name_list_refusals key d P ≡ not_a_text (array ds) P
+  refused_as_texts d ds is r = ap (λ x. name_list_refusals key x P) is
+      ∙ ap (λ b. or_else_list (put_if b (refusal UniqueItems (array ds) (P // key)) []) (not_a_text (array ds) P)) r
 
 -- ---- entries with nothing wrong are arrays
 

@@ -63,6 +63,14 @@ no_items_in (number n) e = refl
 no_items_in (string s) e = refl
 no_items_in (object ms) e = refl
 
+pub no_text_missed : (d : Data) (L : Path) → is_array d ≡ false → not_a_text d L ≡ []
+no_text_missed (array ds) L e = absurd (true≢false e)
+no_text_missed null L e = refl
+no_text_missed (boolean b) L e = refl
+no_text_missed (number n) L e = refl
+no_text_missed (string s) L e = refl
+no_text_missed (object ms) L e = refl
+
 module _ (W : World) (d : Data) (L : Path) where
   abbrev whole : Data
   whole = (read (malformations_step W) d).whole.schema
@@ -219,3 +227,22 @@ module _ (W : World) (d : Data) (L : Path) (object : is_object d ≡ true) where
 
   pub right_property_dependencies : no_object_faults L (members d) ≡ [] → own_faults W (codes "propertyDependencies") d L ≡ []
   right_property_dependencies h = own_property_dependencies W d L ∙ (λ i. object_is_right d L object i ++ h i)
+
+  pub right_properties : own_faults W (codes "properties") d L ≡ []
+  right_properties = own_properties W d L ∙ object_is_right d L object
+
+  pub right_dependent_schemas : own_faults W (codes "dependentSchemas") d L ≡ []
+  right_dependent_schemas = own_dependent_schemas W d L ∙ object_is_right d L object
+
+module _ (W : World) (d : Data) (L : Path) (list : is_array d ≡ true) where
+  pub right_required : not_a_text d L ≡ [] → own_faults W (codes "required") d L ≡ []
+  right_required h = own_required W d L ∙ (λ i. array_is_right d L list i ++ h i)
+
+  pub right_all_of : own_faults W (codes "allOf") d L ≡ []
+  right_all_of = own_all_of W d L ∙ array_is_right d L list
+
+  pub right_any_of : own_faults W (codes "anyOf") d L ≡ []
+  right_any_of = own_any_of W d L ∙ array_is_right d L list
+
+  pub right_one_of : own_faults W (codes "oneOf") d L ≡ []
+  right_one_of = own_one_of W d L ∙ array_is_right d L list

@@ -1,9 +1,10 @@
--- Values that are no array, and no object.
+-- Values that are an array, or none, or no object.
 use Rattle.std.specs.Prelude.{◌≡◌, false, Vec, String}
 use Rattle.std.specs.declared.alloc.Global.{Global}
 use Rattle.std.specs.BTreeMap.{BTreeMap}
-use Rattle.std.proofs.Common.{subst, rules}
-use Rattle.serde_json.specs.View.{view}
+use Rattle.std.proofs.Common.{ap, ◌∙◌, subst, rules}
+use Rattle.serde_json.specs.Data.{array}
+use Rattle.serde_json.specs.View.{view, items_view}
 use Rattle.serde_json.specs.declared.value.Value.{Value, Array, Object, out-Value, roll-Value, the_lemmas}
 use Rattle.serde_json.specs.declared.value.Value.TheOpen.{Value-F}
 use Rattle.serde_json.specs.declared.value.Value.TheVariants.{rolls-Array, rolls-Object}
@@ -19,6 +20,12 @@ no_array_layer (Value-F.Bool b) h = search (rules, the_lemmas)
 no_array_layer (Value-F.Number n) h = search (rules, the_lemmas)
 no_array_layer (Value-F.String s) h = search (rules, the_lemmas)
 no_array_layer (Value-F.Object m) h = search (rules, the_lemmas)
+
+array_viewed : (ds : Vec Value Global) → view (Array ds) ≡ array (items_view ds.items)
+array_viewed ds = search (rules, the_lemmas)
+
+pub view_of_array : (v : Value) (ds : Vec Value Global) → v ≡ Array ds → view v ≡ array (items_view ds.items)
+view_of_array v ds e = ap view e ∙ array_viewed ds
 
 pub no_array : (v : Value) → ((ds : Vec Value Global) → v ≡ Array ds → ⊥) → is_array (view v) ≡ false
 no_array v = subst (λ x. ((ds : Vec Value Global) → x ≡ Array ds → ⊥) → is_array (view x) ≡ false) (rolled v) (no_array_layer (out-Value v))
