@@ -27,13 +27,24 @@ enum SchemaPath<'a> {
 
 /// What is wrong with a value, or with a schema that was to be built: a kind, the value, where it stands in the
 /// instance, and the keyword's place in the schema.
-#[derive(Drop)]
 #[cycle(error)]
 pub struct ValidationError<'a> {
     kind: ValidationErrorKind<'a>,
     instance: Node<'a>,
     instance_path: String,
     schema_path: SchemaPath<'a>,
+}
+
+// By hand, so that the crates above drop an error by one call.
+impl Drop for ValidationError<'_> {
+    fn drop(self) {
+        let ValidationError {
+            kind: _kind,
+            instance: _instance,
+            instance_path: _instance_path,
+            schema_path: _schema_path,
+        } = self;
+    }
 }
 
 /// What an error says. The last six kinds are of building, the others of validating.

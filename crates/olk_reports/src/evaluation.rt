@@ -48,12 +48,22 @@ pub struct EvaluationResult<'a> {
 }
 
 /// A result with its place in the schema and in the instance.
-#[derive(Drop)]
 #[cycle(evaluation)]
 pub struct EvaluationNode<'a> {
     schema_path: &'a str,
     instance_path: String,
     pub(crate) result: EvaluationResult<'a>,
+}
+
+// By hand, so that the crates above drop a node by one call.
+impl Drop for EvaluationNode<'_> {
+    fn drop(self) {
+        let EvaluationNode {
+            schema_path: _schema_path,
+            instance_path: _instance_path,
+            result: _result,
+        } = self;
+    }
 }
 
 impl<'a> EvaluationResult<'a> {
