@@ -1,12 +1,16 @@
 //! The answer to a line.
 ghost use Rattle.std.specs.Prelude.{◌≡◌, false, IfOk, option_map};
 ghost use Rattle.serde_json.specs.View.{view};
-ghost use Rattle.olk_cli.specs.Answers.{IsReply, IsAnswer};
+ghost use Rattle.olk_spec.specs.Bench.{bench};
+ghost use Rattle.olk_base.specs.Kit.{kit, world};
+ghost use Rattle.object_logic.specs.Validators.{IsValidatorOf};
+ghost use Rattle.olk_cli.specs.Answers.{IsReply, IsReplyBy, IsAnswer};
 ghost use Rattle.olk_cli.specs.Requests.{value_of, has_fraction};
 ghost use Rattle.olk_cli.specs.Seen.{seen};
+ghost use Rattle.olk_cli.specs.declared.request.Ask.TheVariants.{Valid, First, Errors, Evaluate};
 
 use crate::request::{Ask, Request, read_request};
-use object_logic::{BuildError, Meter, ValidationContext, Validator};
+use object_logic::{BuildError, Leaf, Meter, RegexEngine, ValidationContext, Validator};
 use olk_answers::{
     errors_text, evaluation_text, first_text, malformation_text, refusal_text, verdict_text,
 };
@@ -61,26 +65,92 @@ fn reply(alloc: Global, request: &Request<'_>) -> Result<Vec<u8>, AllocError>
         &mut meter,
     );
     match built {
-        Ok(validator) => {
-            let mut ctx = ValidationContext::new(request.unfinished);
-            match request.ask {
-                Ask::Valid => verdict_text(alloc, validator.is_valid(request.instance, &mut ctx)),
-                Ask::First => {
-                    let found = validator.validate(alloc, request.instance, &mut ctx);
-                    first_text(alloc, found)
-                }
-                Ask::Errors => {
-                    let mut errors = Vec::new(alloc);
-                    validator.collect_errors(alloc, request.instance, &mut ctx, &mut errors)?;
-                    errors_text(alloc, &errors)
-                }
-                Ask::Evaluate => {
-                    let evaluation = validator.evaluate(alloc, request.instance, &mut ctx)?;
-                    evaluation_text(alloc, &evaluation)
-                }
-            }
-        }
+        Ok(validator) => tell(alloc, request, &validator),
         Err(BuildError::Refused(error)) => malformation_text(alloc, &error),
         Err(BuildError::Memory(error)) => Err(error),
     }
+}
+
+/// The answer to what is asked of the validator of the request's schema.
+fn tell<K: Leaf, R: RegexEngine>(
+    alloc: Global,
+    request: &Request<'_>,
+    validator: &Validator<K, R>,
+) -> Result<Vec<u8>, AllocError>
+    requires plain { has_fraction (seen request.now) ≡ false }
+    requires bench { world K.Leaf R.RegexEngine ≡ bench }
+    requires stands { IsValidatorOf (kit K.Leaf R.RegexEngine) validator.now
+        (view request.now.schema.now) }
+    ensures { IfOk result
+        (λ answer. IsReplyBy request.now.ask (seen request.now) answer.items) }
+{
+    match request.ask {
+        Ask::Valid => tell_verdict(alloc, request, validator),
+        Ask::First => tell_first(alloc, request, validator),
+        Ask::Errors => tell_errors(alloc, request, validator),
+        Ask::Evaluate => tell_evaluation(alloc, request, validator),
+    }
+}
+
+fn tell_verdict<K: Leaf, R: RegexEngine>(
+    alloc: Global,
+    request: &Request<'_>,
+    validator: &Validator<K, R>,
+) -> Result<Vec<u8>, AllocError>
+    requires bench { world K.Leaf R.RegexEngine ≡ bench }
+    requires stands { IsValidatorOf (kit K.Leaf R.RegexEngine) validator.now
+        (view request.now.schema.now) }
+    ensures { IfOk result (λ answer. IsReplyBy Valid (seen request.now) answer.items) }
+{
+    let mut ctx = ValidationContext::new(request.unfinished);
+    verdict_text(alloc, validator.is_valid(request.instance, &mut ctx))
+}
+
+fn tell_first<K: Leaf, R: RegexEngine>(
+    alloc: Global,
+    request: &Request<'_>,
+    validator: &Validator<K, R>,
+) -> Result<Vec<u8>, AllocError>
+    requires plain { has_fraction (seen request.now) ≡ false }
+    requires bench { world K.Leaf R.RegexEngine ≡ bench }
+    requires stands { IsValidatorOf (kit K.Leaf R.RegexEngine) validator.now
+        (view request.now.schema.now) }
+    ensures { IfOk result (λ answer. IsReplyBy First (seen request.now) answer.items) }
+{
+    let mut ctx = ValidationContext::new(request.unfinished);
+    let found = validator.validate(alloc, request.instance, &mut ctx);
+    first_text(alloc, found)
+}
+
+fn tell_errors<K: Leaf, R: RegexEngine>(
+    alloc: Global,
+    request: &Request<'_>,
+    validator: &Validator<K, R>,
+) -> Result<Vec<u8>, AllocError>
+    requires plain { has_fraction (seen request.now) ≡ false }
+    requires bench { world K.Leaf R.RegexEngine ≡ bench }
+    requires stands { IsValidatorOf (kit K.Leaf R.RegexEngine) validator.now
+        (view request.now.schema.now) }
+    ensures { IfOk result (λ answer. IsReplyBy Errors (seen request.now) answer.items) }
+{
+    let mut ctx = ValidationContext::new(request.unfinished);
+    let mut errors = Vec::new(alloc);
+    validator.collect_errors(alloc, request.instance, &mut ctx, &mut errors)?;
+    errors_text(alloc, &errors)
+}
+
+fn tell_evaluation<K: Leaf, R: RegexEngine>(
+    alloc: Global,
+    request: &Request<'_>,
+    validator: &Validator<K, R>,
+) -> Result<Vec<u8>, AllocError>
+    requires plain { has_fraction (seen request.now) ≡ false }
+    requires bench { world K.Leaf R.RegexEngine ≡ bench }
+    requires stands { IsValidatorOf (kit K.Leaf R.RegexEngine) validator.now
+        (view request.now.schema.now) }
+    ensures { IfOk result (λ answer. IsReplyBy Evaluate (seen request.now) answer.items) }
+{
+    let mut ctx = ValidationContext::new(request.unfinished);
+    let evaluation = validator.evaluate(alloc, request.instance, &mut ctx)?;
+    evaluation_text(alloc, &evaluation)
 }

@@ -6,8 +6,8 @@
 mod own;
 
 use object_logic::{
-    BuildError, Leaf, MakeLeaf, MakeRegex, Meter, RegexEngine, ValidationContext, ValidationError,
-    Validator,
+    AnnotationEntry, BuildError, Leaf, MakeLeaf, MakeRegex, Meter, RegexEngine, ValidationContext,
+    ValidationError, Validator,
 };
 use olk_bench::{BenchLeaves, BenchRegexes};
 use own::{EqualNames, Words};
@@ -46,36 +46,76 @@ fn ask<L: MakeLeaf, M: MakeRegex>(
 ) -> io::Result<()> {
     let schema = parse(rt.alloc(), schema)?;
     let instance = parse(rt.alloc(), instance)?;
-    let mut meter = Meter::new();
-    match Validator::build(rt.alloc(), leaves, regexes, &schema, &mut meter) {
-        Ok(validator) => print(rt, &validator, &instance),
-        Err(BuildError::Refused(error)) => tell(rt, &error),
+    build_and_print(rt, leaves, regexes, &schema, &instance)
+}
+
+fn build_and_print<L: MakeLeaf, M: MakeRegex>(
+    rt: &HostRuntime,
+    leaves: &L,
+    regexes: &M,
+    schema: &Value,
+    instance: &Value,
+) -> io::Result<()> {
+    match Validator::build(rt.alloc(), leaves, regexes, schema, &mut Meter::new()) {
+        Ok(validator) => print(rt, &validator, instance),
+        Err(BuildError::Refused(error)) => print_error(rt, &error),
         Err(BuildError::Memory(error)) => Err(error.into()),
     }
 }
 
 // Prints the verdict, each error with its places, and the annotations.
-fn print<'a, K: Leaf, R: RegexEngine>(
+fn print<K: Leaf, R: RegexEngine>(
+    rt: &HostRuntime,
+    validator: &Validator<K, R>,
+    instance: &Value,
+) -> io::Result<()> {
+    let valid = validator.is_valid(instance, &mut ValidationContext::new(false));
+    println!(rt; "valid: {valid}")?;
+    print_errors(rt, validator, instance)?;
+    print_annotations(rt, validator, instance)
+}
+
+fn print_errors<'a, K: Leaf, R: RegexEngine>(
     rt: &HostRuntime,
     validator: &'a Validator<K, R>,
     instance: &'a Value,
 ) -> io::Result<()> {
     let mut ctx = ValidationContext::new(false);
-    println!(rt; "valid: {}", validator.is_valid(instance, &mut ctx))?;
     let mut errors = Vec::new(rt.alloc());
     validator.collect_errors(rt.alloc(), instance, &mut ctx, &mut errors)?;
-    for error in &errors {
-        tell(rt, error)?;
-    }
-    let evaluation = validator.evaluate(rt.alloc(), instance, &mut ctx)?;
-    for entry in &evaluation.iter_annotations(rt.alloc())? {
-        println!(rt; "{} shows {:?}", entry.schema_location, entry.annotations)?;
+    print_each_error(rt, &errors)
+}
+
+fn print_each_error(rt: &HostRuntime, errors: &[ValidationError<'_>]) -> io::Result<()> {
+    for error in errors {
+        print_error(rt, error)?;
     }
     Ok(())
 }
 
-fn tell(rt: &HostRuntime, error: &ValidationError<'_>) -> io::Result<()> {
+fn print_error(rt: &HostRuntime, error: &ValidationError<'_>) -> io::Result<()> {
+    let message = error.message(rt.alloc())?;
+    print_message(rt, error, &message)
+}
+
+fn print_message(rt: &HostRuntime, error: &ValidationError<'_>, message: &str) -> io::Result<()> {
     let (instance, schema) = (error.instance_path(), error.schema_path());
-    println!(rt; "{instance:?}: {} ({schema})", error.message(rt.alloc())?)?;
+    println!(rt; "{instance:?}: {message} ({schema})")
+}
+
+fn print_annotations<K: Leaf, R: RegexEngine>(
+    rt: &HostRuntime,
+    validator: &Validator<K, R>,
+    instance: &Value,
+) -> io::Result<()> {
+    let mut ctx = ValidationContext::new(false);
+    let evaluation = validator.evaluate(rt.alloc(), instance, &mut ctx)?;
+    print_entries(rt, &evaluation.iter_annotations(rt.alloc())?)
+}
+
+fn print_entries(rt: &HostRuntime, entries: &[AnnotationEntry<'_>]) -> io::Result<()> {
+    for entry in entries {
+        println!(rt; "{} shows {:?}", entry.schema_location, entry.annotations)?;
+    }
     Ok(())
 }

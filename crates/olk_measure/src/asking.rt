@@ -23,6 +23,14 @@ pub fn ask_often(alloc: Global, request: &Request<'_>) -> Option<bool>
         _ => (1, request.times),
     };
     build_often(alloc, request.schema, builds)?;
+    build_and_ask(alloc, request, asks)
+}
+
+// Builds once, and asks so often.
+fn build_and_ask(alloc: Global, request: &Request<'_>, times: u64) -> Option<bool>
+    ensures { IfSome result (λ valid. valid
+        ≡ accepts bench false (view request.now.schema.now) (view request.now.instance.now)) }
+{
     let mut meter = Meter::new();
     let built = Validator::build(
         alloc,
@@ -32,7 +40,7 @@ pub fn ask_often(alloc: Global, request: &Request<'_>) -> Option<bool>
         &mut meter,
     );
     let validator = built.ok()?;
-    ask_times(alloc, request, &validator, asks).ok()
+    ask_times(alloc, request, &validator, times).ok()
 }
 
 // All but the last of so many builds.
