@@ -1,15 +1,21 @@
 //! Whether `properties` fuses the names that `required` lists.
 use crate::rows::expect_rows;
+use crate::shown::{PlainNode, Shown};
 use olk_base::Meter;
 use olk_build::{Context, compile};
 use olk_keywords::{properties, required};
 use olk_low_tests::doubles::{EqualTo, Equality, NoText, NoTexts};
-use olk_node::{Keyword, SchemaNode};
 use olk_reports::BuildError;
-use olk_tree::{Body, KeywordOver};
+use olk_tree::KeywordOver;
+use olk_tree::place::Place;
 use serde_json::{Map, Value};
 use std::alloc::{AllocError, Global};
 use std::test::Fail;
+
+fn declare(members: &mut Map<String, Value>, name: String) -> Result<(), AllocError> {
+    members.insert(name, Value::Bool(true))?;
+    Ok(())
+}
 
 fn add_declared(
     members: &mut Map<String, Value>,
@@ -17,7 +23,7 @@ fn add_declared(
     count: usize,
 ) -> Result<(), AllocError> {
     for i in 0..count {
-        members.insert(format!(in alloc; "m{i:02}")?, Value::Bool(true))?;
+        declare(members, format!(in alloc; "m{i:02}")?)?;
     }
     Ok(())
 }
@@ -55,13 +61,10 @@ fn closed(alloc: Global, count: usize, others: &str) -> Result<Value, Fail> {
 }
 
 // What a keyword's module compiles. It is dropped by name: where it ends with its scope, the proof takes a minute longer.
-type Made<'a> = Option<Result<Keyword<NoText, EqualTo>, BuildError<'a>>>;
-
-// What is built of a schema, dropped by name as well.
-type Built<'a> = Result<SchemaNode<NoText, EqualTo>, BuildError<'a>>;
+type Made<'a, N> = Option<Result<KeywordOver<NoText, EqualTo, N>, BuildError<'a>>>;
 
 // Whether it is a keyword of `properties` that fuses what `required` lists.
-fn is_fused(made: &Made<'_>) -> Result<bool, Fail> {
+fn is_fused<N>(made: &Made<'_, N>) -> Result<bool, Fail> {
     match made {
         Some(Ok(KeywordOver::PropertiesWithRequired2(keyword))) => {
             Ok(
@@ -75,11 +78,14 @@ fn is_fused(made: &Made<'_>) -> Result<bool, Fail> {
 }
 
 // Whether the keyword of `properties` fuses what `required` lists.
-fn fuses(alloc: Global, parent: &Map<String, Value>) -> Result<bool, Fail> {
+fn fuses<N: Place<NoText, EqualTo>>(
+    alloc: Global,
+    parent: &Map<String, Value>,
+) -> Result<bool, Fail> {
     let mut meter = Meter::new();
     let mut ctx = Context::new(alloc, &NoTexts, &Equality, &mut meter);
     let declared = parent.get("properties").unwrap_or(&Value::Null);
-    let made = properties::compile(alloc, &mut ctx, parent, declared);
+    let made: Made<'_, N> = properties::compile(alloc, &mut ctx, parent, declared);
     let is_fused = is_fused(&made);
     drop(made);
     drop(ctx);
@@ -87,11 +93,11 @@ fn fuses(alloc: Global, parent: &Map<String, Value>) -> Result<bool, Fail> {
 }
 
 // Whether `required` has a keyword of its own.
-fn stands_alone(alloc: Global, parent: &Map<String, Value>) -> bool {
+fn stands_alone<N: Place<NoText, EqualTo>>(alloc: Global, parent: &Map<String, Value>) -> bool {
     let mut meter = Meter::new();
     let mut ctx = Context::new(alloc, &NoTexts, &Equality, &mut meter);
     let listed = parent.get("required").unwrap_or(&Value::Null);
-    let made: Made<'_> = required::compile(alloc, &mut ctx, parent, listed);
+    let made: Made<'_, N> = required::compile(alloc, &mut ctx, parent, listed);
     let is_some = made.is_some();
     drop(made);
     drop(ctx);
@@ -99,37 +105,41 @@ fn stands_alone(alloc: Global, parent: &Map<String, Value>) -> bool {
 }
 
 // How many keywords the node has.
-fn count_of(built: &Built<'_>) -> Result<usize, Fail> {
+fn count_of<N: Shown>(built: &Result<N, BuildError<'_>>) -> Result<usize, Fail> {
     match built {
-        Ok(node) => match &node.body {
-            Body::Keywords(keywords) => Ok(keywords.len()),
-            _ => Err(Fail::from("no keywords")),
-        },
+        Ok(node) => Ok(node.keyword_count().ok_or("no keywords")?),
         Err(_) => Err(Fail::from("not built")),
     }
 }
 
 // How many keywords the schema has.
-fn keyword_count(alloc: Global, schema: &Value) -> Result<usize, Fail> {
+fn keyword_count<N: Place<NoText, EqualTo> + Shown>(
+    alloc: Global,
+    schema: &Value,
+) -> Result<usize, Fail> {
     let mut meter = Meter::new();
     let mut ctx = Context::new(alloc, &NoTexts, &Equality, &mut meter);
-    let built = compile(alloc, &mut ctx, schema);
+    let built: Result<N, BuildError<'_>> = compile(alloc, &mut ctx, schema);
     let count = count_of(&built);
     drop(built);
     drop(ctx);
     count
 }
 
-fn line_of(alloc: Global, schema: &Value, parent: &Map<String, Value>) -> Result<String, Fail> {
-    let is_fused = fuses(alloc, parent)?;
-    let is_alone = stands_alone(alloc, parent);
-    let count = keyword_count(alloc, schema)?;
+fn line_of<N: Place<NoText, EqualTo> + Shown>(
+    alloc: Global,
+    schema: &Value,
+    parent: &Map<String, Value>,
+) -> Result<String, Fail> {
+    let is_fused = fuses::<N>(alloc, parent)?;
+    let is_alone = stands_alone::<N>(alloc, parent);
+    let count = keyword_count::<N>(alloc, schema)?;
     Ok(format!(in alloc; "{is_fused} {is_alone} {count}")?)
 }
 
 fn line_of_value(alloc: Global, schema: &Value) -> Result<String, Fail> {
     match schema.as_object() {
-        Some(parent) => line_of(alloc, schema, parent),
+        Some(parent) => line_of::<PlainNode>(alloc, schema, parent),
         None => Err(Fail::from("no object")),
     }
 }

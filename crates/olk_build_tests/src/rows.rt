@@ -1,4 +1,4 @@
-//! Tables: a row is a line, and behind ` | ` stands what is answered of what stands before it.
+//! Tables: a row is a line, its cells stand between ` | `, and the last says what is answered of the others.
 use std::alloc::Global;
 use std::test::Fail;
 
@@ -23,7 +23,7 @@ fn expect_row(
 ) -> Result<(), Fail>
     requires { IsAlwaysCallable answer }
 {
-    match row.split_once(" | ") {
+    match row.rsplit_once(" | ") {
         Some((asked, told)) => expect_told(row, answer(alloc, asked)?, told),
         None => Err(Fail::new(row)),
     }

@@ -1,6 +1,6 @@
 //! The module of each keyword that holds schemas or names: what it builds of a member of a schema object.
 //!
-//! Stands on `olk_build`. Tested by `olk_module_tests`.
+//! Stands on `olk_build`. Tested by `olk_build_tests`.
 #![tactic(auto)]
 
 pub mod additional_properties;

@@ -1,15 +1,11 @@
 //! Answers an input line by line, and says by a status how far it came.
 //!
-//! Stands on nothing. Tested by `tests`.
+//! Stands on nothing. Tested by `olk_low_tests`.
 #![tactic(auto)]
 
 mod answering;
 mod program;
 mod reading;
-#[cfg(test)]
-mod streams;
-#[cfg(test)]
-mod tests;
 mod writing;
 
 pub use answering::AnswerLine;

@@ -1,5 +1,5 @@
 //! The texts of answers, each whole.
-use crate::tables::{Asked, expect_rows};
+use crate::tables::expect_rows;
 use olk_answers::{
     errors_text, evaluation_text, first_text, malformation_text, refusal_text, schema_refusal_text,
     verdict_text,
@@ -12,7 +12,42 @@ use olk_reports::{
 };
 use serde_json::{Map, Value};
 use std::alloc::{AllocError, Global};
+use std::str::from_utf8;
 use std::test::Fail;
+
+// The value is to be an object.
+fn malformation_at(alloc: Global, value: &Value, place: Location) -> Result<Vec<u8>, AllocError> {
+    let expected = JsonType::Object;
+    let kind = ValidationErrorKind::SingleType { expected };
+    let error = ValidationError::refusing(kind, Node::Value(value), String::new(alloc), place);
+    let text = malformation_text(alloc, &error);
+    drop(error);
+    text
+}
+
+fn malformation(alloc: Global) -> Result<Vec<u8>, AllocError> {
+    let place = Location::new(alloc).join(alloc, "properties")?;
+    malformation_at(alloc, &Value::from(5), place)
+}
+
+fn evaluation(alloc: Global) -> Result<Vec<u8>, AllocError> {
+    let root = EvaluationResult::valid_empty(alloc);
+    let shown = Evaluation::new(EvaluationNode::new("", String::new(alloc), root));
+    let text = evaluation_text(alloc, &shown);
+    drop(shown);
+    text
+}
+
+fn plain(alloc: Global, word: &str) -> Result<Vec<u8>, AllocError> {
+    match word {
+        "refusal" => refusal_text(alloc, "not JSON"),
+        "schema refusal" => schema_refusal_text(alloc, "5 is not a value", "/type"),
+        "malformation" => malformation(alloc),
+        "true" => verdict_text(alloc, true),
+        "false" => verdict_text(alloc, false),
+        _ => evaluation(alloc),
+    }
+}
 
 // A name that the value lacks.
 fn missing<'a>(alloc: Global, property: &'a str, value: &'a Value) -> ValidationError<'a> {
@@ -20,57 +55,33 @@ fn missing<'a>(alloc: Global, property: &'a str, value: &'a Value) -> Validation
     ValidationError::new(kind, Node::Value(value), String::new(alloc), "/required")
 }
 
-// The number 5, which is to be an object.
-fn malformation(alloc: Global) -> Result<Vec<u8>, AllocError> {
-    let place = Location::new(alloc).join(alloc, "properties")?;
-    let expected = JsonType::Object;
-    let kind = ValidationErrorKind::SingleType { expected };
-    let number = Value::from(5);
-    let node = Node::Value(&number);
-    let error = ValidationError::refusing(kind, node, String::new(alloc), place);
-    malformation_text(alloc, &error)
+fn two_errors(alloc: Global, value: &Value) -> Result<Vec<u8>, AllocError> {
+    let errors = [missing(alloc, "b", value), missing(alloc, "a", value)];
+    let text = errors_text(alloc, &errors);
+    drop(errors);
+    text
 }
 
-fn first_error(alloc: Global) -> Result<Vec<u8>, AllocError> {
-    let empty = Value::Object(Map::new(alloc));
-    first_text(
-        alloc,
-        Err(ValidateError::Invalid(missing(alloc, "b", &empty))),
-    )
-}
-
-fn two_errors(alloc: Global) -> Result<Vec<u8>, AllocError> {
-    let empty = Value::Object(Map::new(alloc));
-    errors_text(
-        alloc,
-        &[missing(alloc, "b", &empty), missing(alloc, "a", &empty)],
-    )
-}
-
-fn evaluation(alloc: Global) -> Result<Vec<u8>, AllocError> {
-    let shown = EvaluationResult::valid_empty(alloc);
-    let shown = Evaluation::new(EvaluationNode::new("", String::new(alloc), shown));
-    evaluation_text(alloc, &shown)
-}
-
-fn bytes(alloc: Global, word: &str) -> Result<Vec<u8>, AllocError> {
+// An answer that may tell errors of a value.
+fn of_errors(alloc: Global, word: &str, value: &Value) -> Result<Vec<u8>, AllocError> {
     match word {
-        "refusal" => refusal_text(alloc, "not JSON"),
-        "schema refusal" => schema_refusal_text(alloc, "5 is not a value", "/type"),
-        "malformation" => malformation(alloc),
-        "true" => verdict_text(alloc, true),
-        "false" => verdict_text(alloc, false),
         "no first error" => first_text(alloc, Ok(())),
-        "first error" => first_error(alloc),
+        "first error" => first_text(
+            alloc,
+            Err(ValidateError::Invalid(missing(alloc, "b", value))),
+        ),
         "no errors" => errors_text(alloc, &[]),
-        "two errors" => two_errors(alloc),
-        _ => evaluation(alloc),
+        "two errors" => two_errors(alloc, value),
+        _ => plain(alloc, word),
     }
 }
 
-/// The answer that a word names.
-pub(crate) fn answer(alloc: Global, word: &str) -> Result<String, Fail> {
-    Ok(String::from_utf8(bytes(alloc, word)?)?)
+// The answer that a word names.
+fn answer(alloc: Global, word: &str) -> Result<String, AllocError> {
+    let bytes = of_errors(alloc, word, &Value::Object(Map::new(alloc)))?;
+    let text = String::from_str(alloc, from_utf8(&bytes).unwrap_or("no text"));
+    drop(bytes);
+    text
 }
 
 // What is answered, and its text.
@@ -87,5 +98,5 @@ evaluation | {"annotations":[],"errors":[],"valid":true}"#;
 
 #[test]
 fn texts_of_answers(rt: HostRuntime) -> Result<(), Fail> {
-    expect_rows(&rt, rt.alloc(), Asked::Answer, ANSWERS)
+    expect_rows(rt.alloc(), ANSWERS, answer)
 }

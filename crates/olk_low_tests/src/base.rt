@@ -6,7 +6,7 @@ ghost use Rattle.olk_base.specs.Nodes.{data_of};
 
 use crate::counting::Counting;
 use crate::doubles::{Equality, NoTexts};
-use crate::tables::{Asked, expect_rows, two};
+use crate::tables::{expect_rows, two};
 use olk_base::{
     CompiledPattern, KeyHead, Leaf, MakeError, MakeLeaf, MakeRegex, Meter, NoRegexes, Node,
     PatternOptimization, PropertyName, PropertyPattern, ValidationContext, analyze_pattern,
@@ -19,8 +19,8 @@ use std::test::Fail;
 
 // ---- names
 
-/// The head of a name.
-pub(crate) fn head(alloc: Global, name: &str) -> Result<String, AllocError> {
+// The head of a name.
+fn head(alloc: Global, name: &str) -> Result<String, AllocError> {
     format!(in alloc; "{:?}", KeyHead::of(name))
 }
 
@@ -34,11 +34,11 @@ abcdefgh | KeyHead { len: 8, first: 7523094288207667809, last: 75230942882076678
 
 #[test]
 fn heads(rt: HostRuntime) -> Result<(), Fail> {
-    expect_rows(&rt, rt.alloc(), Asked::Head, HEADS)
+    expect_rows(rt.alloc(), HEADS, head)
 }
 
-/// Whether the names are the same, as each way of comparing says.
-pub(crate) fn same_name(alloc: Global, cells: &str) -> Result<String, AllocError> {
+// Whether the names are the same, as each way of comparing says.
+fn same_name(alloc: Global, cells: &str) -> Result<String, AllocError> {
     let (name, key) = two(cells);
     let one = PropertyName::new(alloc, name)?;
     let ways = (
@@ -84,13 +84,13 @@ a name of more than thirty-two bytes | a name of more than thirty-six bytes | ot
 
 #[test]
 fn same_and_other_names(rt: HostRuntime) -> Result<(), Fail> {
-    expect_rows(&rt, rt.alloc(), Asked::SameName, NAMES)
+    expect_rows(rt.alloc(), NAMES, same_name)
 }
 
 // ---- patterns
 
-/// The test that a pattern is read as.
-pub(crate) fn read_pattern(alloc: Global, pattern: &str) -> Result<String, AllocError> {
+// The test that a pattern is read as.
+fn read_pattern(alloc: Global, pattern: &str) -> Result<String, AllocError> {
     let test = analyze_pattern(alloc, pattern)?;
     format!(in alloc; "{test:?}")
 }
@@ -125,7 +125,7 @@ fo.o$ | None"#;
 
 #[test]
 fn literal_patterns(rt: HostRuntime) -> Result<(), Fail> {
-    expect_rows(&rt, rt.alloc(), Asked::ReadPattern, LITERALS)
+    expect_rows(rt.alloc(), LITERALS, read_pattern)
 }
 
 fn test_of<R: Drop>(pattern: CompiledPattern<R>) -> Option<PatternOptimization> {
@@ -161,31 +161,26 @@ fn compiled<M: MakeRegex>(alloc: Global, regexes: &M, pattern: &str) -> Result<S
     }
 }
 
-/// What a pattern is compiled to.
-pub(crate) fn compiled_pattern(alloc: Global, pattern: &str) -> Result<String, AllocError> {
+// What a pattern is compiled to.
+fn compiled_pattern(alloc: Global, pattern: &str) -> Result<String, AllocError> {
     compiled(alloc, &Equality, pattern)
 }
 
-/// What a pattern is compiled to by a maker that refuses all.
-pub(crate) fn pattern_without_regexes(alloc: Global, pattern: &str) -> Result<String, AllocError> {
+// What a pattern is compiled to by a maker that refuses all.
+fn pattern_without_regexes(alloc: Global, pattern: &str) -> Result<String, AllocError> {
     compiled(alloc, &NoRegexes, pattern)
 }
 
 #[test]
 fn patterns_are_compiled_to_their_tests(rt: HostRuntime) -> Result<(), Fail> {
-    expect_rows(&rt, rt.alloc(), Asked::CompiledPattern, LITERALS)?;
-    expect_rows(
-        &rt,
-        rt.alloc(),
-        Asked::CompiledPattern,
-        "( | refused, 1 made",
-    )
+    expect_rows(rt.alloc(), LITERALS, compiled_pattern)?;
+    expect_rows(rt.alloc(), "( | refused, 1 made", compiled_pattern)
 }
 
 #[test]
 fn a_matcher_that_refuses_all(rt: HostRuntime) -> Result<(), Fail> {
     let rows = "a | refused, 1 made\n^a | Some(Prefix(\"a\"))";
-    expect_rows(&rt, rt.alloc(), Asked::PatternWithoutRegexes, rows)
+    expect_rows(rt.alloc(), rows, pattern_without_regexes)
 }
 
 // Between these stands `|`.
@@ -204,16 +199,17 @@ fn white_space(rt: HostRuntime) {
     }
 }
 
-// How a pattern matches a name, in a context that gives this answer where a match is unfinished.
-fn matched(alloc: Global, pattern: &str, name: &str, answer: bool) -> Result<String, AllocError> {
-    let (engines, asks) = (Cell::new(0), Cell::new(0));
-    let counting = Counting {
-        maker: Equality,
-        made: &engines,
-        asked: &asks,
-    };
+// How a pattern matches a name, in a context that gives this answer where a match is unfinished, by a maker that counts
+// in cells what it makes, and how often that is asked.
+fn matched<M: MakeRegex>(
+    alloc: Global,
+    regexes: &M,
+    [engines, asks]: [&Cell<u64>; 2],
+    [pattern, name]: [&str; 2],
+    answer: bool,
+) -> Result<String, AllocError> {
     let mut meter = Meter::new();
-    match compile_pattern(alloc, &counting, pattern, &mut meter) {
+    match compile_pattern(alloc, regexes, pattern, &mut meter) {
         Err(MakeError::Refused) => {
             format!(in alloc; "refused, {:?}", [meter.made(), engines.get()])
         }
@@ -235,11 +231,18 @@ fn matched(alloc: Global, pattern: &str, name: &str, answer: bool) -> Result<Str
     }
 }
 
-/// How a pattern matches a name, of the answer where a match is unfinished, the pattern and the name.
-pub(crate) fn matched_pattern(alloc: Global, cells: &str) -> Result<String, AllocError> {
+// How a pattern matches a name, of the answer where a match is unfinished, the pattern and the name.
+fn matched_pattern(alloc: Global, cells: &str) -> Result<String, AllocError> {
     let (answer, cells) = two(cells);
     let (pattern, name) = two(cells);
-    matched(alloc, pattern, name, answer == "true")
+    let (engines, asks) = (Cell::new(0), Cell::new(0));
+    let counting = Counting {
+        maker: Equality,
+        made: &engines,
+        asked: &asks,
+    };
+    let answer = answer == "true";
+    matched(alloc, &counting, [&engines, &asks], [pattern, name], answer)
 }
 
 // The answer where a match is unfinished, a pattern, a name, whether it matches, and that answer again; then how many
@@ -266,10 +269,28 @@ true | ( | foo | refused, [1, 1]";
 
 #[test]
 fn patterns(rt: HostRuntime) -> Result<(), Fail> {
-    expect_rows(&rt, rt.alloc(), Asked::MatchedPattern, MATCHES)
+    expect_rows(rt.alloc(), MATCHES, matched_pattern)
 }
 
 // ---- leaves
+
+fn one_text(alloc: Global, text: &str) -> Result<Vec<String>, AllocError> {
+    Ok(vec![in alloc; String::from_str(alloc, text)?]?)
+}
+
+// What `collect_errors` adds to the keyword.
+fn collected<L: Leaf>(alloc: Global, leaf: &L, node: Node<'_>) -> Result<Vec<String>, AllocError> {
+    let mut texts = one_text(alloc, leaf.keyword())?;
+    leaf.collect_errors(alloc, node, &mut texts)?;
+    Ok(texts)
+}
+
+fn told<L: Leaf>(alloc: Global, leaf: &L, node: Node<'_>) -> Result<String, AllocError> {
+    let first = leaf.validate(alloc, node)?;
+    let all = collected(alloc, leaf, node)?;
+    let shown = leaf.evaluate(alloc, node)?;
+    format!(in alloc; "{first:?}, {all:?}, {shown:?}")
+}
 
 // A leaf that is made, and asked by each of its calls.
 fn asked_leaf<L: MakeLeaf>(
@@ -279,37 +300,31 @@ fn asked_leaf<L: MakeLeaf>(
     value: &Value,
     node: Node<'_>,
     meter: &mut Meter,
-) -> Result<(bool, Option<String>, Vec<String>, Vec<String>), MakeError>
+) -> Result<(bool, String), MakeError>
     ensures valid { IfOk result
         (λ r. r.0 ≡ is_empty (L.Leaf.faults keyword.now (view value.now) (data_of node.entry))) }
 {
     let leaf = leaves.make(alloc, keyword, value, meter)?;
-    let mut texts = one_text(alloc, leaf.keyword())?;
-    leaf.collect_errors(alloc, node, &mut texts)?;
-    Ok((
-        leaf.is_valid(node),
-        leaf.validate(alloc, node)?,
-        texts,
-        leaf.evaluate(alloc, node)?,
-    ))
-}
-
-fn one_text(alloc: Global, text: &str) -> Result<Vec<String>, AllocError> {
-    Ok(vec![in alloc; String::from_str(alloc, text)?]?)
+    let is_valid = leaf.is_valid(node);
+    let told = told(alloc, &leaf, node);
+    drop(leaf);
+    Ok((is_valid, told?))
 }
 
 // What each call of a leaf with this value answers of the node.
 fn leaf_of(alloc: Global, value: &Value, node: Node<'_>) -> Result<String, AllocError> {
     let mut meter = Meter::new();
     match asked_leaf(&NoTexts, alloc, "text", value, node, &mut meter) {
-        Ok(answers) => format!(in alloc; "{answers:?}, {} made", meter.leaves()),
+        Ok((is_valid, told)) => {
+            format!(in alloc; "({is_valid}, {told}), {} made", meter.leaves())
+        }
         Err(MakeError::Refused) => format!(in alloc; "refused, {} made", meter.leaves()),
         Err(MakeError::Memory(error)) => Err(error),
     }
 }
 
-/// What a leaf answers, of its value, and a text or null.
-pub(crate) fn leaf(alloc: Global, cells: &str) -> Result<String, AllocError> {
+// What a leaf answers, of its value, and a text or null.
+fn leaf(alloc: Global, cells: &str) -> Result<String, AllocError> {
     let (value, node) = two(cells);
     let value = if value == "false" {
         Value::Bool(false)
@@ -332,7 +347,7 @@ null |  | refused, 1 made"#;
 
 #[test]
 fn leaves(rt: HostRuntime) -> Result<(), Fail> {
-    expect_rows(&rt, rt.alloc(), Asked::Leaf, LEAVES)
+    expect_rows(rt.alloc(), LEAVES, leaf)
 }
 
 // ---- nodes and counts
@@ -341,8 +356,8 @@ fn node_text(alloc: Global, node: Node<'_>) -> Result<String, AllocError> {
     format!(in alloc; "{}, {:?}", node.as_object().is_some(), node.json_type())
 }
 
-/// Whether a node is an object, and its type.
-pub(crate) fn node(alloc: Global, word: &str) -> Result<String, AllocError> {
+// Whether a node is an object, and its type.
+fn node(alloc: Global, word: &str) -> Result<String, AllocError> {
     match word {
         "object" => node_text(alloc, Node::Value(&Value::Object(Map::new(alloc)))),
         "null" => node_text(alloc, Node::Value(&Value::Null)),
@@ -353,7 +368,7 @@ pub(crate) fn node(alloc: Global, word: &str) -> Result<String, AllocError> {
 #[test]
 fn nodes(rt: HostRuntime) -> Result<(), Fail> {
     let rows = "object | true, Object\nnull | false, Null\nname | false, String";
-    expect_rows(&rt, rt.alloc(), Asked::Node, rows)
+    expect_rows(rt.alloc(), rows, node)
 }
 
 #[test]

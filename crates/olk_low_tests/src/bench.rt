@@ -1,16 +1,16 @@
 //! What leaves of the bench accept and tell, and what its matcher answers.
 use crate::doubles::NoTexts;
-use crate::tables::{Asked, expect_rows, two};
+use crate::tables::{expect_rows, two};
 use olk_base::{Leaf, MakeError, MakeLeaf, MakeRegex, Meter, Node, RegexEngine};
-use olk_bench::{BenchLeaf, BenchLeaves, BenchRegexes};
+use olk_bench::{BenchLeaves, BenchRegexes};
 use serde_json::Value;
 use std::alloc::{AllocError, Global};
 use std::test::Fail;
 
 // What `evaluate`, `collect_errors` and `validate` tell of the instance.
-fn told_in_turn(
+fn told_in_turn<L: Leaf>(
     alloc: Global,
-    leaf: &BenchLeaf,
+    leaf: &L,
     node: Node<'_>,
 ) -> Result<Vec<String>, AllocError> {
     let mut told = leaf.evaluate(alloc, node)?;
@@ -21,31 +21,38 @@ fn told_in_turn(
     Ok(told)
 }
 
+const DIFFER: &str = "the ways of asking differ";
+
+fn are_same(one: &str, other: &str, third: &str) -> bool {
+    one == other && other == third
+}
+
 // The text that all of them tell, or `-` where none tells one.
-fn one_text(told: &[String], is_valid: bool) -> &str {
+fn one_text(told: &[String]) -> &str {
     match told {
-        [] if is_valid => "-",
-        [one, other, third] if one == other && other == third && !is_valid => one.as_str(),
-        _ => "the ways of asking differ",
+        [] => "-",
+        [one, other, third] if are_same(one, other, third) => one,
+        _ => DIFFER,
     }
 }
 
-fn told(alloc: Global, leaf: &BenchLeaf, node: Node<'_>) -> Result<String, AllocError> {
+fn told<L: Leaf>(alloc: Global, leaf: &L, node: Node<'_>) -> Result<String, AllocError> {
     let told = told_in_turn(alloc, leaf, node)?;
-    String::from_str(alloc, one_text(told.as_slice(), leaf.is_valid(node)))
+    let is_agreed = leaf.is_valid(node) == told.is_empty();
+    let text = if is_agreed { one_text(&told) } else { DIFFER };
+    let text = String::from_str(alloc, text);
+    drop(told);
+    text
 }
 
-fn made(alloc: Global, keyword: &str, value: &Value) -> Result<BenchLeaf, MakeError> {
-    BenchLeaves.make(alloc, keyword, value, &mut Meter::new())
-}
-
-fn told_or_refused(
+fn told_or_refused<M: MakeLeaf>(
     alloc: Global,
+    leaves: &M,
     keyword: &str,
     value: &Value,
     instance: &Value,
 ) -> Result<String, AllocError> {
-    match made(alloc, keyword, value) {
+    match leaves.make(alloc, keyword, value, &mut Meter::new()) {
         Ok(leaf) if leaf.keyword() == keyword => told(alloc, &leaf, Node::Value(instance)),
         Ok(_) => String::from_str(alloc, "another keyword"),
         Err(MakeError::Refused) => String::from_str(alloc, "refused"),
@@ -53,21 +60,39 @@ fn told_or_refused(
     }
 }
 
-/// What is told of a leaf's keyword, its value and an instance.
-pub(crate) fn leaf(alloc: Global, cells: &str) -> Result<String, Fail> {
-    let (keyword, values) = two(cells);
-    let (value, instance) = two(values);
-    let value = Value::from_str(alloc, value)?;
-    let instance = Value::from_str(alloc, instance)?;
-    let told = told_or_refused(alloc, keyword, &value, &instance);
-    drop(instance);
-    drop(value);
-    Ok(told?)
+// A text that isn't JSON ends the test too.
+fn read(alloc: Global, text: &str) -> Result<Value, AllocError> {
+    match Value::from_str(alloc, text) {
+        Ok(value) => Ok(value),
+        Err(_) => Err(AllocError),
+    }
 }
 
-fn matched(alloc: Global, pattern: &str, name: &str) -> &'static str {
+fn told_of_values(
+    alloc: Global,
+    keyword: &str,
+    value: &Value,
+    instance: &str,
+) -> Result<String, AllocError> {
+    let instance = read(alloc, instance)?;
+    let told = told_or_refused(alloc, &BenchLeaves, keyword, value, &instance);
+    drop(instance);
+    told
+}
+
+// What is told of a leaf's keyword, its value and an instance.
+fn leaf(alloc: Global, cells: &str) -> Result<String, AllocError> {
+    let (keyword, values) = two(cells);
+    let (value, instance) = two(values);
+    let value = read(alloc, value)?;
+    let told = told_of_values(alloc, keyword, &value, instance);
+    drop(value);
+    told
+}
+
+fn matched<M: MakeRegex>(alloc: Global, regexes: &M, pattern: &str, name: &str) -> &'static str {
     let mut meter = Meter::new();
-    match BenchRegexes.make(alloc, pattern, &mut meter) {
+    match regexes.make(alloc, pattern, &mut meter) {
         Ok(regex) => match regex.is_match(name, &mut meter) {
             Ok(true) => "yes",
             Ok(false) => "no",
@@ -78,10 +103,10 @@ fn matched(alloc: Global, pattern: &str, name: &str) -> &'static str {
     }
 }
 
-/// Whether a pattern matches a name.
-pub(crate) fn matched_pattern(alloc: Global, cells: &str) -> Result<String, AllocError> {
+// Whether a pattern matches a name.
+fn matched_pattern(alloc: Global, cells: &str) -> Result<String, AllocError> {
     let (pattern, name) = two(cells);
-    String::from_str(alloc, matched(alloc, pattern, name))
+    String::from_str(alloc, matched(alloc, &BenchRegexes, pattern, name))
 }
 
 // A leaf's keyword and value, an instance, and what is told of it, or `-`.
@@ -116,7 +141,7 @@ pattern | "a" | 0 | refused"#;
 
 #[test]
 fn leaves_accept_or_tell(rt: HostRuntime) -> Result<(), Fail> {
-    expect_rows(&rt, rt.alloc(), Asked::BenchLeaf, LEAVES)
+    expect_rows(rt.alloc(), LEAVES, leaf)
 }
 
 #[test]
@@ -149,5 +174,5 @@ a$b | a | refused";
 
 #[test]
 fn patterns_are_plain_texts(rt: HostRuntime) -> Result<(), Fail> {
-    expect_rows(&rt, rt.alloc(), Asked::BenchPattern, PATTERNS)
+    expect_rows(rt.alloc(), PATTERNS, matched_pattern)
 }

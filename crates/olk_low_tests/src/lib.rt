@@ -1,7 +1,7 @@
-//! A leaf set and a matcher of few words, makers that count, and the tests of the names, patterns, reports, answers and
-//! the bench.
+//! A leaf set and a matcher of few words, makers that count, and the tests of the lines, names, patterns, reports,
+//! answers and the bench.
 //!
-//! Stands on `olk_bench` and `olk_answers`, and on no validator. The tests are in its modules.
+//! Stands on `olk_lines`, `olk_bench` and `olk_answers`, and on no validator. The tests are in its modules.
 #![tactic(auto)]
 
 #[cfg(test)]
@@ -13,6 +13,10 @@ mod bench;
 pub mod counting;
 pub mod doubles;
 #[cfg(test)]
+mod lines;
+#[cfg(test)]
 mod reports;
+#[cfg(test)]
+mod streams;
 #[cfg(test)]
 mod tables;

@@ -1,20 +1,20 @@
 //! Paths, texts of errors, contexts and evaluation trees.
-use crate::tables::{Asked, expect_rows, expect_text, two};
+use crate::tables::{expect_rows, two};
 use olk_base::{JsonType, Node};
 use olk_paths::{InstancePath, Location};
 use olk_reports::{
-    ErrorDescription, ErrorEntry, Evaluation, EvaluationNode, EvaluationResult, ValidationError,
-    ValidationErrorKind,
+    AnnotationEntry, ErrorDescription, ErrorEntry, Evaluation, EvaluationNode, EvaluationResult,
+    ValidationError, ValidationErrorKind,
 };
 use serde_json::{Map, Value};
 use std::alloc::{AllocError, Global};
-use std::process::Abort;
+use std::mem::replace;
 use std::test::Fail;
 
 // ---- paths
 
-/// The path of a segment, which is left empty again.
-pub(crate) fn pushed_path(alloc: Global, segment: &str) -> Result<String, AllocError> {
+// The path of a segment, which is left empty again.
+fn pushed_path(alloc: Global, segment: &str) -> Result<String, AllocError> {
     let mut path = InstancePath::new(alloc);
     let mark = path.push(segment)?;
     let pushed = String::from_str(alloc, path.as_str());
@@ -26,8 +26,8 @@ pub(crate) fn pushed_path(alloc: Global, segment: &str) -> Result<String, AllocE
     }
 }
 
-/// The location of a segment.
-pub(crate) fn joined_path(alloc: Global, segment: &str) -> Result<String, AllocError> {
+// The location of a segment.
+fn joined_path(alloc: Global, segment: &str) -> Result<String, AllocError> {
     let joined = Location::new(alloc).join(alloc, segment)?;
     let copy = joined.try_clone(alloc)?;
     String::from_str(alloc, copy.as_str())
@@ -46,17 +46,22 @@ m~n | /m~0n
 
 #[test]
 fn paths_are_pointers(rt: HostRuntime) -> Result<(), Fail> {
-    expect_rows(&rt, rt.alloc(), Asked::PushedPath, SEGMENTS)?;
-    expect_rows(&rt, rt.alloc(), Asked::JoinedPath, SEGMENTS)
+    expect_rows(rt.alloc(), SEGMENTS, pushed_path)?;
+    expect_rows(rt.alloc(), SEGMENTS, joined_path)
+}
+
+// The path of two segments.
+fn path_of_two(alloc: Global, cells: &str) -> Result<String, AllocError> {
+    let (outer, inner) = two(cells);
+    let mut path = InstancePath::new(alloc);
+    let _outer = path.push(outer)?;
+    let _inner = path.push(inner)?;
+    String::from_str(alloc, path.as_str())
 }
 
 #[test]
 fn paths_go_down(rt: HostRuntime) -> Result<(), Fail> {
-    let mut path = InstancePath::new(rt.alloc());
-    let _outer = path.push("a/b")?;
-    let _inner = path.push("0")?;
-    expect_text(&rt, path.as_str(), "/a~1b/0", "a/b, 0");
-    Ok(())
+    expect_rows(rt.alloc(), "a/b | 0 | /a~1b/0", path_of_two)
 }
 
 // ---- texts of errors
@@ -66,19 +71,26 @@ fn text_of<'a>(
     kind: ValidationErrorKind<'a>,
     instance: Node<'a>,
 ) -> Result<String, AllocError> {
-    ValidationError::new(kind, instance, String::new(alloc), "").message(alloc)
+    let error = ValidationError::new(kind, instance, String::new(alloc), "");
+    let text = error.message(alloc);
+    drop(error);
+    text
+}
+
+fn push<T: Drop>(items: &mut Vec<T>, item: T) -> Result<(), AllocError> {
+    Ok(items.push(item)?)
 }
 
 fn names_in<'a>(alloc: Global, cells: &'a str) -> Result<Vec<&'a str>, AllocError> {
     let mut names = Vec::new(alloc);
     for name in cells.split(" ") {
-        names.push(name)?;
+        push(&mut names, name)?;
     }
     Ok(names)
 }
 
-/// The text of names that no schema allows.
-pub(crate) fn unexpected(alloc: Global, cells: &str) -> Result<String, AllocError> {
+// The text of names that no schema allows.
+fn unexpected(alloc: Global, cells: &str) -> Result<String, AllocError> {
     let unexpected = names_in(alloc, cells)?;
     let kind = ValidationErrorKind::AdditionalProperties { unexpected };
     text_of(alloc, kind, Node::Value(&Value::Null))
@@ -89,7 +101,7 @@ fn texts_of_unexpected_names(rt: HostRuntime) -> Result<(), Fail> {
     let rows = r#"z | Additional properties are not allowed ('z' was unexpected)
 faz h"z | Additional properties are not allowed ('faz', 'h"z' were unexpected)
 x y z | Additional properties are not allowed ('x', 'y', 'z' were unexpected)"#;
-    expect_rows(&rt, rt.alloc(), Asked::Unexpected, rows)
+    expect_rows(rt.alloc(), rows, unexpected)
 }
 
 fn kind_of_building(word: &str) -> ValidationErrorKind<'_> {
@@ -132,27 +144,28 @@ fn kind_of_validating<'a>(
     }
 }
 
-fn kind_named<'a>(
-    alloc: Global,
-    word: &'a str,
-    schema: &'a Value,
-) -> Result<ValidationErrorKind<'a>, AllocError> {
+fn text_of_leaf(alloc: Global, instance: Node<'_>) -> Result<String, AllocError> {
+    let text = String::from_str(alloc, "4 is less than the minimum of 5")?;
+    let keyword = "minimum";
+    text_of(alloc, ValidationErrorKind::Leaf { keyword, text }, instance)
+}
+
+fn text_of_kind(alloc: Global, word: &str, instance: Node<'_>) -> Result<String, AllocError> {
     if word == "leaf" {
-        let text = String::from_str(alloc, "4 is less than the minimum of 5")?;
-        let keyword = "minimum";
-        Ok(ValidationErrorKind::Leaf { keyword, text })
+        text_of_leaf(alloc, instance)
     } else {
-        Ok(kind_of_validating(alloc, word, schema))
+        let kind = kind_of_validating(alloc, word, &Value::Bool(true));
+        text_of(alloc, kind, instance)
     }
 }
 
-/// The text of an error, of its kind and the name that it is of.
-pub(crate) fn kind(alloc: Global, cells: &str) -> Result<String, AllocError> {
+// The text of an error, of its kind and the name that it is of.
+fn kind(alloc: Global, cells: &str) -> Result<String, AllocError> {
     let (word, name) = two(cells);
     let name = String::from_str(alloc, name)?;
-    let schema = Value::Bool(true);
-    let kind = kind_named(alloc, word, &schema)?;
-    text_of(alloc, kind, Node::Name(&name))
+    let text = text_of_kind(alloc, word, Node::Name(&name));
+    drop(name);
+    text
 }
 
 // The kind of an error, the name that it is of, and its text.
@@ -174,7 +187,7 @@ leaf refused | k | "k" is not a value for "k""#;
 
 #[test]
 fn texts_of_kinds(rt: HostRuntime) -> Result<(), Fail> {
-    expect_rows(&rt, rt.alloc(), Asked::Kind, KINDS)
+    expect_rows(rt.alloc(), KINDS, kind)
 }
 
 // The text of an error, its places, and whether it is of an object.
@@ -185,6 +198,13 @@ fn shown(alloc: Global, error: &ValidationError<'_>) -> Result<String, AllocErro
     format!(in alloc; "{text} {places:?}")
 }
 
+// The text, and so on, of an error that is let go.
+fn shown_once(alloc: Global, error: ValidationError<'_>) -> Result<String, AllocError> {
+    let text = shown(alloc, &error);
+    drop(error);
+    text
+}
+
 fn place_of_pattern(alloc: Global, pattern: &str) -> Result<Location, AllocError> {
     let place = Location::new(alloc).join(alloc, "patternProperties")?;
     place.join(alloc, pattern)
@@ -193,10 +213,14 @@ fn place_of_pattern(alloc: Global, pattern: &str) -> Result<Location, AllocError
 fn refused_pattern(alloc: Global, pattern: &String) -> Result<String, AllocError> {
     let place = place_of_pattern(alloc, pattern.as_str())?;
     let (kind, node) = (ValidationErrorKind::Regex, Node::Name(pattern));
-    shown(
+    shown_once(
         alloc,
-        &ValidationError::refusing(kind, node, String::new(alloc), place),
+        ValidationError::refusing(kind, node, String::new(alloc), place),
     )
+}
+
+fn boxed<T: Drop>(alloc: Global, value: T) -> Result<Box<T>, AllocError> {
+    Ok(Box::new(alloc, value)?)
 }
 
 fn error_of_name<'a>(
@@ -208,64 +232,74 @@ fn error_of_name<'a>(
     let keyword = "minLength";
     let kind = ValidationErrorKind::Leaf { keyword, text };
     let schema_path = "/anyOf/0/propertyNames/minLength";
-    let error = ValidationError::new(kind, Node::Name(name), path, schema_path);
-    Ok(Box::new(alloc, error)?)
+    boxed(
+        alloc,
+        ValidationError::new(kind, Node::Name(name), path, schema_path),
+    )
 }
 
-// A branch that finds the error of a name, told of the object.
-fn branch<'a>(
-    alloc: Global,
-    name: &'a String,
-    object: Node<'a>,
-) -> Result<Vec<ValidationError<'a>>, AllocError> {
-    let of_name = error_of_name(alloc, name)?;
-    let path = String::from_str(alloc, "/a")?;
-    Ok(vec![in alloc; ValidationError::wrapping(of_name, object, path)]?)
+fn vec_of_one<T: Drop>(alloc: Global, item: T) -> Result<Vec<T>, AllocError> {
+    let mut items = Vec::new(alloc);
+    push(&mut items, item)?;
+    Ok(items)
 }
 
-fn shown_of_name(alloc: Global, name: &String, object: Node<'_>) -> Result<String, AllocError> {
-    let branch = branch(alloc, name, object)?;
-    match branch.as_slice() {
-        [error] => shown(alloc, error),
-        _ => String::from_str(alloc, "another branch"),
-    }
+// A context of one branch, which finds this.
+fn context_of_one<T: Drop>(alloc: Global, found: T) -> Result<Vec<Vec<T>>, AllocError> {
+    let branch = vec_of_one(alloc, found)?;
+    vec_of_one(alloc, branch)
 }
 
 // An error with a context of one branch.
-fn shown_of_branches(alloc: Global, name: &String, object: Node<'_>) -> Result<String, AllocError> {
-    let context = vec![in alloc; branch(alloc, name, object)?]?;
+fn shown_of_branches<'a>(
+    alloc: Global,
+    found: ValidationError<'a>,
+    object: Node<'a>,
+) -> Result<String, AllocError> {
+    let context = context_of_one(alloc, found)?;
     let path = String::from_str(alloc, "/a")?;
     let kind = ValidationErrorKind::AnyOf { context };
     let error = ValidationError::new(kind, object, path, "/anyOf");
-    match error.kind() {
-        ValidationErrorKind::AnyOf { context } if context.len() == 1 => shown(alloc, &error),
-        _ => String::from_str(alloc, "another context"),
-    }
+    let is_expected =
+        matches!(error.kind(), ValidationErrorKind::AnyOf { context } if context.len() == 1);
+    let text = if is_expected {
+        shown(alloc, &error)
+    } else {
+        String::from_str(alloc, "another context")
+    };
+    drop(error);
+    text
 }
 
-fn error_of(
+// The error of a name, told of the object, by itself or in a context.
+fn shown_of_name(
     alloc: Global,
     word: &str,
     name: &String,
     object: Node<'_>,
 ) -> Result<String, AllocError> {
-    match word {
-        "pattern" => refused_pattern(alloc, name),
-        "name" => shown_of_name(alloc, name, object),
-        _ => shown_of_branches(alloc, name, object),
+    let path = String::from_str(alloc, "/a")?;
+    let error = ValidationError::wrapping(error_of_name(alloc, name)?, object, path);
+    if word == "name" {
+        shown_once(alloc, error)
+    } else {
+        shown_of_branches(alloc, error, object)
     }
 }
 
-/// An error, by what it is of and a name.
-pub(crate) fn error(alloc: Global, cells: &str) -> Result<String, AllocError> {
+// An error, by what it is of and a name.
+fn error(alloc: Global, cells: &str) -> Result<String, AllocError> {
     let (word, name) = two(cells);
     let name = String::from_str(alloc, name)?;
-    error_of(
-        alloc,
-        word,
-        &name,
-        Node::Value(&Value::Object(Map::new(alloc))),
-    )
+    let object = Value::Object(Map::new(alloc));
+    let text = if word == "pattern" {
+        refused_pattern(alloc, &name)
+    } else {
+        shown_of_name(alloc, word, &name, Node::Value(&object))
+    };
+    drop(object);
+    drop(name);
+    text
 }
 
 // What an error is of, a name, the text, its place in the schema and in the instance, and whether it is told of an
@@ -277,83 +311,104 @@ branches | f | {} is not valid under any of the schemas listed in the 'anyOf' ke
 
 #[test]
 fn errors_inside_errors(rt: HostRuntime) -> Result<(), Fail> {
-    expect_rows(&rt, rt.alloc(), Asked::Error, ERRORS)
+    expect_rows(rt.alloc(), ERRORS, error)
 }
 
 // ---- evaluation trees
 
-fn mark(
-    alloc: Global,
-    outcome: &mut EvaluationResult<'_>,
-    message: &str,
-) -> Result<(), AllocError> {
-    if message.is_empty() {
-        Ok(())
-    } else {
-        let message = String::from_str(alloc, message)?;
-        outcome.mark_errored(ErrorDescription::new("required", message))
+// Whether the tree of this name has an error at the place.
+fn has_error(tree: &str, place: &str) -> bool {
+    match tree {
+        "four errors" => true,
+        "inner error" => place == "/allOf/0/x",
+        "outer error" => place == "/allOf/0",
+        _ => false,
     }
 }
 
-// Adds a node that annotates its place, with an error where there is a message.
+fn mark(alloc: Global, outcome: &mut EvaluationResult<'_>) -> Result<(), AllocError> {
+    let message = String::from_str(alloc, "m")?;
+    outcome.mark_errored(ErrorDescription::new("required", message))
+}
+
+// Annotates the place, has the error of the tree there, and gives the path.
+fn fill<'a>(
+    alloc: Global,
+    outcome: &mut EvaluationResult<'a>,
+    tree: &str,
+    place: &'a str,
+) -> Result<String, AllocError> {
+    outcome.annotate(vec_of_one(alloc, place)?);
+    if has_error(tree, place) {
+        mark(alloc, outcome)?;
+    }
+    String::from_str(alloc, "/i")
+}
+
+// Adds a node that annotates its place, with the error of the tree there.
 fn push_node<'a>(
     alloc: Global,
     nodes: &mut Vec<EvaluationNode<'a>>,
+    tree: &str,
     place: &'a str,
-    message: &str,
     children: Vec<EvaluationNode<'a>>,
 ) -> Result<(), AllocError> {
-    let path = String::from_str(alloc, "/i")?;
-    let names = vec![in alloc; place]?;
     let mut outcome = EvaluationResult::from_children(alloc, children);
-    outcome.annotate(names);
-    mark(alloc, &mut outcome, message)?;
-    Ok(nodes.push(EvaluationNode::new(place, path, outcome))?)
+    let path = fill(alloc, &mut outcome, tree, place)?;
+    push(nodes, EvaluationNode::new(place, path, outcome))
 }
 
-// A root of three levels, with these messages at the root, its first child, that one's child, and its second child.
-fn tree<'a>(alloc: Global, messages: [&str; 4]) -> Result<Vec<EvaluationNode<'a>>, AllocError> {
-    let mut below = Vec::new(alloc);
-    push_node(
-        alloc,
-        &mut below,
-        "/allOf/0/x",
-        messages[2],
-        Vec::new(alloc),
-    )?;
-    let mut children = Vec::new(alloc);
-    push_node(alloc, &mut children, "/allOf/0", messages[1], below)?;
-    push_node(
-        alloc,
-        &mut children,
-        "/allOf/1",
-        messages[3],
-        Vec::new(alloc),
-    )?;
-    let mut roots = Vec::new(alloc);
-    push_node(alloc, &mut roots, "/allOf", messages[0], children)?;
-    Ok(roots)
+// The same, above the nodes, in their place.
+fn push_above<'a>(
+    alloc: Global,
+    nodes: &mut Vec<EvaluationNode<'a>>,
+    tree: &str,
+    place: &'a str,
+) -> Result<(), AllocError> {
+    let children = replace(nodes, Vec::new(alloc));
+    push_node(alloc, nodes, tree, place, children)
+}
+
+// A root of three levels, with the errors of the tree.
+fn push_tree(
+    alloc: Global,
+    nodes: &mut Vec<EvaluationNode<'_>>,
+    tree: &str,
+) -> Result<(), AllocError> {
+    push_above(alloc, nodes, tree, "/allOf/0/x")?;
+    push_above(alloc, nodes, tree, "/allOf/0")?;
+    push_node(alloc, nodes, tree, "/allOf/1", Vec::new(alloc))?;
+    push_above(alloc, nodes, tree, "/allOf")
 }
 
 fn erring_place<'a>(entry: &ErrorEntry<'a>) -> &'a str {
-    let told = [
-        entry.instance_location,
-        entry.error.keyword(),
-        entry.error.message(),
-    ];
-    if told == ["/i", "required", "m"] {
+    let error = entry.error;
+    let is_as_made = error.keyword() == "required" && error.message() == "m";
+    if entry.instance_location == "/i" && is_as_made {
         entry.schema_location
     } else {
         "another error"
     }
 }
 
+fn annotating_place<'a>(entry: &AnnotationEntry<'a>) -> &'a str {
+    if entry.instance_location == "/i" && entry.annotations.len() == 1 {
+        entry.schema_location
+    } else {
+        "another"
+    }
+}
+
+fn push_place(places: &mut String, place: &str) -> Result<(), AllocError> {
+    places.push_str(place)?;
+    places.push_str(" ")
+}
+
 // The places of the errors, in their order.
 fn erring(alloc: Global, evaluation: &Evaluation<'_>) -> Result<String, AllocError> {
     let mut places = String::new(alloc);
     for entry in &evaluation.iter_errors(alloc)? {
-        places.push_str(erring_place(entry))?;
-        places.push_str(" ")?;
+        push_place(&mut places, erring_place(entry))?;
     }
     Ok(places)
 }
@@ -362,13 +417,7 @@ fn erring(alloc: Global, evaluation: &Evaluation<'_>) -> Result<String, AllocErr
 fn annotating(alloc: Global, evaluation: &Evaluation<'_>) -> Result<String, AllocError> {
     let mut places = String::new(alloc);
     for entry in &evaluation.iter_annotations(alloc)? {
-        let is_expected = entry.instance_location == "/i" && entry.annotations.len() == 1;
-        places.push_str(if is_expected {
-            entry.schema_location
-        } else {
-            "another"
-        })?;
-        places.push_str(" ")?;
+        push_place(&mut places, annotating_place(entry))?;
     }
     Ok(places)
 }
@@ -379,9 +428,18 @@ fn entries_of(alloc: Global, evaluation: &Evaluation<'_>) -> Result<String, Allo
     format!(in alloc; "{}: {errors}: {annotations}.", evaluation.flag().valid)
 }
 
-fn entries(alloc: Global, messages: [&str; 4]) -> Result<String, AllocError> {
-    match tree(alloc, messages)?.pop() {
-        Some(root) => entries_of(alloc, &Evaluation::new(root)),
+fn entries_of_root(alloc: Global, root: EvaluationNode<'_>) -> Result<String, AllocError> {
+    let evaluation = Evaluation::new(root);
+    let text = entries_of(alloc, &evaluation);
+    drop(evaluation);
+    text
+}
+
+fn entries(alloc: Global, tree: &str) -> Result<String, AllocError> {
+    let mut nodes = Vec::new(alloc);
+    push_tree(alloc, &mut nodes, tree)?;
+    match nodes.pop() {
+        Some(root) => entries_of_root(alloc, root),
         None => String::from_str(alloc, "no root"),
     }
 }
@@ -405,32 +463,32 @@ fn parts<'a>(
     outcome: EvaluationResult<'a>,
 ) -> Result<String, AllocError> {
     let root = EvaluationNode::new(place, String::new(alloc), outcome);
-    parts_of(alloc, &Evaluation::new(root))
+    let evaluation = Evaluation::new(root);
+    let text = parts_of(alloc, &evaluation);
+    drop(evaluation);
+    text
 }
 
 fn from_node(alloc: Global) -> Result<String, AllocError> {
     let mut nodes = Vec::new(alloc);
-    push_node(alloc, &mut nodes, "/oneOf/0", "", Vec::new(alloc))?;
+    push_node(alloc, &mut nodes, "node", "/oneOf/0", Vec::new(alloc))?;
     match nodes.pop() {
         Some(inner) => parts(alloc, "/oneOf", EvaluationResult::from_node(alloc, inner)?),
         None => String::from_str(alloc, "no node"),
     }
 }
 
-/// An evaluation, by what it is of.
-pub(crate) fn evaluation(alloc: Global, word: &str) -> Result<String, AllocError> {
+// An evaluation, by what it is of.
+fn evaluation(alloc: Global, word: &str) -> Result<String, AllocError> {
     match word {
-        "no error" => entries(alloc, ["", "", "", ""]),
-        "four errors" => entries(alloc, ["m", "m", "m", "m"]),
-        "inner error" => entries(alloc, ["", "", "m", ""]),
-        "outer error" => entries(alloc, ["", "m", "", ""]),
         "node" => from_node(alloc),
         "invalid" => parts(
             alloc,
             "/oneOf",
             EvaluationResult::invalid_with(alloc, Vec::new(alloc)),
         ),
-        _ => parts(alloc, "", EvaluationResult::valid_empty(alloc)),
+        "empty" => parts(alloc, "", EvaluationResult::valid_empty(alloc)),
+        _ => entries(alloc, word),
     }
 }
 
@@ -447,7 +505,7 @@ empty | (true, "", "") (false, 0, 0) 0"#;
 
 #[test]
 fn evaluations_show_their_parts(rt: HostRuntime) -> Result<(), Fail> {
-    expect_rows(&rt, rt.alloc(), Asked::Evaluation, EVALUATIONS)
+    expect_rows(rt.alloc(), EVALUATIONS, evaluation)
 }
 
 // ---- want of memory
@@ -455,23 +513,39 @@ fn evaluations_show_their_parts(rt: HostRuntime) -> Result<(), Fail> {
 const LONG: &str =
     "a segment that is longer than any text that a first growth makes room for, ~ and / with it";
 
-fn push_at_last(path: &mut InstancePath, segment: &str) -> Result<(), Fail> {
-    match path.push(segment) {
-        Ok(mark) => path.pop(mark),
-        Err(_) if path.as_str().is_empty() => {
-            let mark = path.push(segment)?;
-            path.pop(mark);
-        }
-        Err(_) => return Err("the path is not as it was".into()),
+// Whether the path is as it was, where there was no memory.
+fn push_at_last(path: &mut InstancePath, segment: &str) -> Result<bool, AllocError> {
+    if let Ok(mark) = path.push(segment) {
+        path.pop(mark);
+        return Ok(true);
     }
-    Ok(())
+    if !path.as_str().is_empty() {
+        return Ok(false);
+    }
+    let mark = path.push(segment)?;
+    path.pop(mark);
+    Ok(true)
 }
 
-fn join_at_last(alloc: Global) -> Result<Location, AllocError> {
+fn pushed_at_last(alloc: Global) -> Result<String, AllocError> {
+    let mut path = InstancePath::new(alloc);
+    let is_as_it_was = push_at_last(&mut path, "a/b")? && push_at_last(&mut path, LONG)?;
+    drop(path);
+    let text = if is_as_it_was {
+        "as it was"
+    } else {
+        "not as it was"
+    };
+    String::from_str(alloc, text)
+}
+
+fn join_at_last(alloc: Global) -> Result<String, AllocError> {
     let place = Location::new(alloc);
-    place
+    let joined = place
         .join(alloc, "m~n")
-        .or_else(|_| place.join(alloc, "m~n"))
+        .or_else(|_| place.join(alloc, "m~n"));
+    drop(place);
+    String::from_str(alloc, joined?.as_str())
 }
 
 fn text_at_last(alloc: Global) -> Result<String, AllocError> {
@@ -498,37 +572,32 @@ fn entries_at_last(alloc: Global, evaluation: &Evaluation<'_>) -> Result<usize, 
     Ok(errors.len())
 }
 
-fn pushed_at_last(alloc: Global) -> Result<(), Fail> {
-    let mut path = InstancePath::new(alloc);
-    push_at_last(&mut path, "a/b")?;
-    push_at_last(&mut path, LONG)
-}
-
-fn count_at_last(alloc: Global) -> Result<usize, AllocError> {
+fn count_at_last(alloc: Global) -> Result<String, AllocError> {
     let outcome = errored_at_last(alloc)?;
-    entries_at_last(
-        alloc,
-        &Evaluation::new(EvaluationNode::new("", String::new(alloc), outcome)),
-    )
+    let root = EvaluationNode::new("", String::new(alloc), outcome);
+    let evaluation = Evaluation::new(root);
+    let count = entries_at_last(alloc, &evaluation);
+    drop(evaluation);
+    format!(in alloc; "{}", count?)
 }
 
-fn expect_at_last(rt: &impl Abort, alloc: Global) -> Result<(), AllocError> {
-    expect_text(rt, join_at_last(alloc)?.as_str(), "/m~0n", "a location");
-    let text = text_at_last(alloc)?;
-    expect_text(
-        rt,
-        text.as_str(),
-        "\"x\" is not a value for \"minimum\"",
-        "a text",
-    );
-    drop(text);
-    assert!(rt; count_at_last(alloc)? == 1);
-    Ok(())
+fn at_last(alloc: Global, word: &str) -> Result<String, AllocError> {
+    match word {
+        "path" => pushed_at_last(alloc),
+        "location" => join_at_last(alloc),
+        "text" => text_at_last(alloc),
+        _ => count_at_last(alloc),
+    }
 }
+
+// A path, a location, the text of an error, and how many errors an evaluation has.
+const AT_LAST: &str = r#"path | as it was
+location | /m~0n
+text | "x" is not a value for "minimum"
+errors | 1"#;
 
 // With one growth refused, whichever it is, each value is as before, and the same call then gives its full answer.
 #[test]
 fn a_refused_growth_changes_nothing(rt: HostRuntime) -> Result<(), Fail> {
-    pushed_at_last(rt.alloc())?;
-    Ok(expect_at_last(&rt, rt.alloc())?)
+    expect_rows(rt.alloc(), AT_LAST, at_last)
 }

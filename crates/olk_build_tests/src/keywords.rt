@@ -1,18 +1,17 @@
 //! What the module of a keyword compiles of its member of an object.
-use crate::lines::{
-    PlainNode, PlainPattern, push_all, push_node, push_nodes, push_pattern, push_patterns,
-};
+use crate::lines::{push_all, push_node, push_nodes, push_pattern, push_patterns};
 use crate::rows::expect_rows;
-use olk_base::Meter;
+use crate::shown::{PlainNode, Shown};
+use olk_base::{CompiledPattern, Meter};
 use olk_build::Context;
 use olk_keywords::{
     additional_properties, all_of, any_of, dependencies, if_, not, pattern_properties,
     property_dependencies, property_names,
 };
 use olk_low_tests::doubles::{EqualTo, Equality, NoText, NoTexts};
-use olk_node::Keyword;
 use olk_reports::BuildError;
 use olk_tree::additional_properties::AdditionalProperties;
+use olk_tree::place::Place;
 use olk_tree::properties_map::PropertiesMap;
 use olk_tree::{KeywordOver, SmallMap};
 use serde_json::{Map, Value};
@@ -21,32 +20,42 @@ use std::test::Fail;
 
 // ---- a keyword as text
 
-type PlainKeyword = Keyword<NoText, EqualTo>;
-
-type Restriction = AdditionalProperties<EqualTo, PlainNode>;
-
-fn push_small_map(text: &mut String, map: &SmallMap<PlainNode>) -> Result<(), AllocError> {
+fn push_small_map<N: Shown>(text: &mut String, map: &SmallMap<N>) -> Result<(), AllocError> {
     push_nodes(text, &map.names, map.nodes.as_slice())
 }
 
-// Each name with the texts that choose, each with its node.
-fn push_choices(text: &mut String, map: &SmallMap<SmallMap<PlainNode>>) -> Result<(), AllocError> {
+// A name with the texts that choose, each with its node.
+fn push_choice<N: Shown>(
+    text: &mut String,
+    name: &str,
+    chosen: &SmallMap<N>,
+) -> Result<(), AllocError> {
+    push_all(text, &[" ", name, " {"])?;
+    push_small_map(text, chosen)?;
+    text.push_str(" }")
+}
+
+fn push_choices<N: Shown>(
+    text: &mut String,
+    map: &SmallMap<SmallMap<N>>,
+) -> Result<(), AllocError> {
     for (name, chosen) in map.names.as_slice().iter().zip(&map.nodes) {
-        push_all(text, &[" ", name.as_str(), " {"])?;
-        push_small_map(text, chosen)?;
-        text.push_str(" }")?;
+        push_choice(text, name.as_str(), chosen)?;
     }
     Ok(())
 }
 
-fn push_map(text: &mut String, map: &PropertiesMap<PlainNode>) -> Result<(), AllocError> {
+fn push_map<N: Shown>(text: &mut String, map: &PropertiesMap<N>) -> Result<(), AllocError> {
     match map {
         PropertiesMap::Small(map) => push_small_map(text, map),
         PropertiesMap::Big(map) => push_nodes(text, map.names.sorted(), map.nodes.as_slice()),
     }
 }
 
-fn push_declared(text: &mut String, keyword: &Restriction) -> Result<(), AllocError> {
+fn push_declared<R, N: Shown>(
+    text: &mut String,
+    keyword: &AdditionalProperties<R, N>,
+) -> Result<(), AllocError> {
     match &keyword.properties {
         Some(properties) => push_map(text, properties),
         None => Ok(()),
@@ -54,7 +63,10 @@ fn push_declared(text: &mut String, keyword: &Restriction) -> Result<(), AllocEr
 }
 
 // Where the patterns stand, and each with its node.
-fn push_beside(text: &mut String, keyword: &Restriction) -> Result<(), AllocError> {
+fn push_beside<R, N: Shown>(
+    text: &mut String,
+    keyword: &AdditionalProperties<R, N>,
+) -> Result<(), AllocError> {
     match &keyword.patterns {
         Some(patterns) => {
             push_all(text, &[" at ", keyword.patterns_location.as_str()])?;
@@ -65,7 +77,10 @@ fn push_beside(text: &mut String, keyword: &Restriction) -> Result<(), AllocErro
 }
 
 // The node for the rest.
-fn push_rest(text: &mut String, keyword: &Restriction) -> Result<(), AllocError> {
+fn push_rest<R, N: Shown>(
+    text: &mut String,
+    keyword: &AdditionalProperties<R, N>,
+) -> Result<(), AllocError> {
     match &keyword.rest {
         Some(rest) => {
             text.push_str(" rest:")?;
@@ -76,7 +91,10 @@ fn push_rest(text: &mut String, keyword: &Restriction) -> Result<(), AllocError>
 }
 
 // The name that is required, and where.
-fn push_required(text: &mut String, keyword: &Restriction) -> Result<(), AllocError> {
+fn push_required<R, N>(
+    text: &mut String,
+    keyword: &AdditionalProperties<R, N>,
+) -> Result<(), AllocError> {
     match &keyword.required {
         Some(required) => {
             let (name, place) = (required.name.as_str(), required.location.as_str());
@@ -86,7 +104,10 @@ fn push_required(text: &mut String, keyword: &Restriction) -> Result<(), AllocEr
     }
 }
 
-fn push_restriction(text: &mut String, keyword: &Restriction) -> Result<(), AllocError> {
+fn push_restriction<R, N: Shown>(
+    text: &mut String,
+    keyword: &AdditionalProperties<R, N>,
+) -> Result<(), AllocError> {
     push_declared(text, keyword)?;
     push_beside(text, keyword)?;
     push_rest(text, keyword)?;
@@ -94,7 +115,7 @@ fn push_restriction(text: &mut String, keyword: &Restriction) -> Result<(), Allo
 }
 
 // The form of a keyword of branches, or of a condition.
-fn form_of(keyword: &PlainKeyword) -> &'static str {
+fn form_of<K, R, N>(keyword: &KeywordOver<K, R, N>) -> &'static str {
     match keyword {
         KeywordOver::SingleValueAllOf(_) => "single allOf",
         KeywordOver::AllOf(_) => "allOf",
@@ -108,7 +129,7 @@ fn form_of(keyword: &PlainKeyword) -> &'static str {
 }
 
 // Where a keyword stands, if its place is told.
-fn place_of(keyword: &PlainKeyword) -> &str {
+fn place_of<K, R, N>(keyword: &KeywordOver<K, R, N>) -> &str {
     match keyword {
         KeywordOver::Not(keyword) => keyword.location.as_str(),
         KeywordOver::Dependencies(keyword) => keyword.location.as_str(),
@@ -122,22 +143,25 @@ fn place_of(keyword: &PlainKeyword) -> &str {
     }
 }
 
-fn push_named(text: &mut String, node: &PlainNode) -> Result<(), AllocError> {
+fn push_named<N: Shown>(text: &mut String, node: &N) -> Result<(), AllocError> {
     text.push_str(" names:")?;
     push_node(text, node)
 }
 
-fn push_single(
+fn push_single<R, N: Shown>(
     text: &mut String,
-    pattern: &PlainPattern,
-    node: &PlainNode,
+    pattern: &CompiledPattern<R>,
+    node: &N,
 ) -> Result<(), AllocError> {
     text.push_str(" single")?;
     push_pattern(text, pattern, node)
 }
 
 // What a keyword holds.
-fn push_held(text: &mut String, keyword: &PlainKeyword) -> Result<(), AllocError> {
+fn push_held<K, R, N: Shown>(
+    text: &mut String,
+    keyword: &KeywordOver<K, R, N>,
+) -> Result<(), AllocError> {
     match keyword {
         KeywordOver::Not(_) => Ok(()),
         KeywordOver::Dependencies(keyword) => push_small_map(text, &keyword.dependencies),
@@ -155,7 +179,10 @@ fn push_held(text: &mut String, keyword: &PlainKeyword) -> Result<(), AllocError
     }
 }
 
-fn keyword_line(alloc: Global, keyword: &PlainKeyword) -> Result<String, AllocError> {
+fn keyword_line<K, R, N: Shown>(
+    alloc: Global,
+    keyword: &KeywordOver<K, R, N>,
+) -> Result<String, AllocError> {
     let mut text = String::from_str(alloc, place_of(keyword))?;
     push_held(&mut text, keyword)?;
     Ok(text)
@@ -164,16 +191,16 @@ fn keyword_line(alloc: Global, keyword: &PlainKeyword) -> Result<String, AllocEr
 // ---- what is compiled
 
 // What a module compiles. It is dropped by name: where it ends with its scope, the proof takes a minute longer.
-type Made<'a> = Option<Result<PlainKeyword, BuildError<'a>>>;
+type Made<'a, N> = Option<Result<KeywordOver<NoText, EqualTo, N>, BuildError<'a>>>;
 
 // What the module of the keyword compiles.
-fn compiled<'a>(
+fn compiled<'a, N: Place<NoText, EqualTo>>(
     alloc: Global,
     ctx: &mut Context<'_, NoTexts, Equality>,
     parent: &'a Map<String, Value>,
     name: &str,
     value: &'a Value,
-) -> Made<'a> {
+) -> Made<'a, N> {
     match name {
         "allOf" => all_of::compile(alloc, ctx, parent, value),
         "anyOf" => any_of::compile(alloc, ctx, parent, value),
@@ -184,29 +211,42 @@ fn compiled<'a>(
 }
 
 // The same of a keyword that speaks of members.
-fn compiled_of_members<'a>(
+fn compiled_of_members<'a, N: Place<NoText, EqualTo>>(
     alloc: Global,
     ctx: &mut Context<'_, NoTexts, Equality>,
     parent: &'a Map<String, Value>,
     name: &str,
     value: &'a Value,
-) -> Made<'a> {
+) -> Made<'a, N> {
     match name {
         "additionalProperties" => additional_properties::compile(alloc, ctx, parent, value),
+        "patternProperties" => pattern_properties::compile(alloc, ctx, parent, value),
+        "propertyNames" => property_names::compile(alloc, ctx, parent, value),
+        _ => compiled_of_dependencies(alloc, ctx, parent, name, value),
+    }
+}
+
+// The same of a keyword that speaks of what a member wants of the others.
+fn compiled_of_dependencies<'a, N: Place<NoText, EqualTo>>(
+    alloc: Global,
+    ctx: &mut Context<'_, NoTexts, Equality>,
+    parent: &'a Map<String, Value>,
+    name: &str,
+    value: &'a Value,
+) -> Made<'a, N> {
+    match name {
         "dependencies" => dependencies::compile(alloc, ctx, parent, value),
         "dependentRequired" => {
             dependencies::compile_dependent_required(alloc, ctx, parent, value)
         }
         "dependentSchemas" => dependencies::compile_dependent_schemas(alloc, ctx, parent, value),
-        "patternProperties" => pattern_properties::compile(alloc, ctx, parent, value),
         "propertyDependencies" => property_dependencies::compile(alloc, ctx, parent, value),
-        "propertyNames" => property_names::compile(alloc, ctx, parent, value),
         _ => None,
     }
 }
 
 // What is made, as a line.
-fn line_of(alloc: Global, made: &Made<'_>) -> Result<String, AllocError> {
+fn line_of<N: Shown>(alloc: Global, made: &Made<'_, N>) -> Result<String, AllocError> {
     match made {
         None => String::from_str(alloc, "none"),
         Some(Ok(keyword)) => keyword_line(alloc, keyword),
@@ -215,7 +255,7 @@ fn line_of(alloc: Global, made: &Made<'_>) -> Result<String, AllocError> {
 }
 
 // What is compiled of the member of this name, as a line.
-fn compiled_line(
+fn compiled_line<N: Place<NoText, EqualTo> + Shown>(
     alloc: Global,
     parent: &Map<String, Value>,
     name: &str,
@@ -223,7 +263,7 @@ fn compiled_line(
 ) -> Result<String, AllocError> {
     let value = parent.get(name).unwrap_or(&Value::Null);
     let mut ctx = Context::new(alloc, &NoTexts, &Equality, meter);
-    let made = compiled(alloc, &mut ctx, parent, name, value);
+    let made: Made<'_, N> = compiled(alloc, &mut ctx, parent, name, value);
     let line = line_of(alloc, &made);
     drop(made);
     drop(ctx);
@@ -231,19 +271,24 @@ fn compiled_line(
 }
 
 // A line behind what is counted: how many places, leaves and engines, and how often these are asked.
-fn counted(alloc: Global, meter: &Meter, line: &str) -> Result<String, Fail> {
-    if meter.unfinished() != 0 {
-        return Err(Fail::new("left unfinished"));
-    }
+fn counted(alloc: Global, meter: &Meter, line: &str) -> Result<String, AllocError> {
     let (places, leaves) = (meter.compiled(), meter.leaves());
     let (engines, asks) = (meter.made(), meter.asked());
-    Ok(format!(in alloc; "{places} {leaves} {engines} {asks} {line}")?)
+    format!(in alloc; "{places} {leaves} {engines} {asks} {line}")
+}
+
+fn counted_if_finished(alloc: Global, meter: &Meter, line: &str) -> Result<String, Fail> {
+    if meter.unfinished() == 0 {
+        Ok(counted(alloc, meter, line)?)
+    } else {
+        Err(Fail::new("left unfinished"))
+    }
 }
 
 fn counted_line(alloc: Global, parent: &Map<String, Value>, name: &str) -> Result<String, Fail> {
     let mut meter = Meter::new();
-    let line = compiled_line(alloc, parent, name, &mut meter)?;
-    let counted = counted(alloc, &meter, &line);
+    let line = compiled_line::<PlainNode>(alloc, parent, name, &mut meter)?;
+    let counted = counted_if_finished(alloc, &meter, &line);
     drop(line);
     counted
 }

@@ -1,11 +1,13 @@
 //! Maps and patterns that are compiled by themselves.
-use crate::lines::{PlainNode, PlainPattern, push_nodes, push_patterns};
+use crate::lines::{push_nodes, push_patterns};
 use crate::rows::expect_rows;
-use olk_base::Meter;
+use crate::shown::{PlainNode, Shown};
+use olk_base::{CompiledPattern, Meter};
 use olk_build::Context;
 use olk_keywords::{pattern_properties, properties};
-use olk_low_tests::doubles::{Equality, NoTexts};
+use olk_low_tests::doubles::{EqualTo, Equality, NoText, NoTexts};
 use olk_reports::BuildError;
+use olk_tree::place::Place;
 use olk_tree::{BigMap, SmallMap, SortedNames};
 use serde_json::{Map, Value};
 use std::alloc::{AllocError, Global};
@@ -22,19 +24,19 @@ fn refused_line(alloc: Global, error: &BuildError<'_>) -> Result<String, AllocEr
 }
 
 // Names, each with its node.
-fn nodes_line(
+fn nodes_line<N: Shown>(
     alloc: Global,
     names: &SortedNames,
-    nodes: &[PlainNode],
+    nodes: &[N],
 ) -> Result<String, AllocError> {
     let mut text = String::new(alloc);
     push_nodes(&mut text, names, nodes)?;
     Ok(text)
 }
 
-fn small_map_line(
+fn small_map_line<N: Shown>(
     alloc: Global,
-    built: &Result<SmallMap<PlainNode>, BuildError<'_>>,
+    built: &Result<SmallMap<N>, BuildError<'_>>,
 ) -> Result<String, AllocError> {
     match built {
         Ok(map) => nodes_line(alloc, &map.names, map.nodes.as_slice()),
@@ -42,9 +44,9 @@ fn small_map_line(
     }
 }
 
-fn big_map_line(
+fn big_map_line<N: Shown>(
     alloc: Global,
-    built: &Result<BigMap<PlainNode>, BuildError<'_>>,
+    built: &Result<BigMap<N>, BuildError<'_>>,
 ) -> Result<String, AllocError> {
     match built {
         Ok(map) => nodes_line(alloc, map.names.sorted(), map.nodes.as_slice()),
@@ -53,18 +55,18 @@ fn big_map_line(
 }
 
 // Patterns, each with its node.
-fn patterns_line(
+fn patterns_line<R, N: Shown>(
     alloc: Global,
-    patterns: &[(PlainPattern, PlainNode)],
+    patterns: &[(CompiledPattern<R>, N)],
 ) -> Result<String, AllocError> {
     let mut text = String::new(alloc);
     push_patterns(&mut text, patterns)?;
     Ok(text)
 }
 
-fn pattern_line(
+fn pattern_line<R, N: Shown>(
     alloc: Global,
-    built: &Result<Vec<(PlainPattern, PlainNode)>, BuildError<'_>>,
+    built: &Result<Vec<(CompiledPattern<R>, N)>, BuildError<'_>>,
 ) -> Result<String, AllocError> {
     match built {
         Ok(patterns) => patterns_line(alloc, patterns.as_slice()),
@@ -72,55 +74,60 @@ fn pattern_line(
     }
 }
 
-fn line_of_small_map(
+fn line_of_small_map<N: Place<NoText, EqualTo> + Shown>(
     alloc: Global,
     declared: &Map<String, Value>,
     meter: &mut Meter,
 ) -> Result<String, AllocError> {
     let mut ctx = Context::new(alloc, &NoTexts, &Equality, meter);
-    let built = properties::compile_small_map(alloc, &mut ctx, declared);
+    let built: Result<SmallMap<N>, BuildError<'_>> = properties::compile_small_map(
+        alloc, &mut ctx, declared,
+    );
     let line = small_map_line(alloc, &built);
     drop(built);
     drop(ctx);
     line
 }
 
-fn line_of_big_map(
+fn line_of_big_map<N: Place<NoText, EqualTo> + Shown>(
     alloc: Global,
     declared: &Map<String, Value>,
     meter: &mut Meter,
 ) -> Result<String, AllocError> {
     let mut ctx = Context::new(alloc, &NoTexts, &Equality, meter);
-    let built = properties::compile_big_map(alloc, &mut ctx, declared);
+    let built: Result<BigMap<N>, BuildError<'_>> = properties::compile_big_map(
+        alloc, &mut ctx, declared,
+    );
     let line = big_map_line(alloc, &built);
     drop(built);
     drop(ctx);
     line
 }
 
-fn line_of_patterns(
+fn line_of_patterns<N: Place<NoText, EqualTo> + Shown>(
     alloc: Global,
     patterns: &Map<String, Value>,
     meter: &mut Meter,
 ) -> Result<String, AllocError> {
     let mut ctx = Context::new(alloc, &NoTexts, &Equality, meter);
-    let built = pattern_properties::compile_patterns(alloc, &mut ctx, patterns);
+    let built: Result<Vec<(CompiledPattern<EqualTo>, N)>, BuildError<'_>> =
+        pattern_properties::compile_patterns(alloc, &mut ctx, patterns);
     let line = pattern_line(alloc, &built);
     drop(built);
     drop(ctx);
     line
 }
 
-fn line_of(
+fn line_of<N: Place<NoText, EqualTo> + Shown>(
     alloc: Global,
     kind: &str,
     entries: &Map<String, Value>,
     meter: &mut Meter,
 ) -> Result<String, AllocError> {
     match kind {
-        "small" => line_of_small_map(alloc, entries, meter),
-        "big" => line_of_big_map(alloc, entries, meter),
-        _ => line_of_patterns(alloc, entries, meter),
+        "small" => line_of_small_map::<N>(alloc, entries, meter),
+        "big" => line_of_big_map::<N>(alloc, entries, meter),
+        _ => line_of_patterns::<N>(alloc, entries, meter),
     }
 }
 
@@ -135,7 +142,7 @@ fn counted(alloc: Global, meter: &Meter, line: &str) -> Result<String, AllocErro
 
 fn told_of(alloc: Global, kind: &str, entries: &Map<String, Value>) -> Result<String, AllocError> {
     let mut meter = Meter::new();
-    let line = line_of(alloc, kind, entries, &mut meter)?;
+    let line = line_of::<PlainNode>(alloc, kind, entries, &mut meter)?;
     let told = counted(alloc, &meter, &line);
     drop(line);
     told

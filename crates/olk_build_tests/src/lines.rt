@@ -1,13 +1,8 @@
 //! Nodes and what holds them, as text.
+use crate::shown::Shown;
 use olk_base::CompiledPattern;
-use olk_low_tests::doubles::{EqualTo, NoText};
-use olk_node::SchemaNode;
-use olk_tree::{Body, RequiredValidator, SortedNames};
+use olk_tree::{RequiredValidator, SortedNames};
 use std::alloc::AllocError;
-
-pub(crate) type PlainNode = SchemaNode<NoText, EqualTo>;
-
-pub(crate) type PlainPattern = CompiledPattern<EqualTo>;
 
 /// Adds these parts in turn.
 pub(crate) fn push_all(text: &mut String, parts: &[&str]) -> Result<(), AllocError> {
@@ -26,28 +21,32 @@ fn push_list(text: &mut String, list: &RequiredValidator) -> Result<(), AllocErr
 }
 
 /// Where a node stands, and its names where it is a list.
-pub(crate) fn push_node(text: &mut String, node: &PlainNode) -> Result<(), AllocError> {
-    push_all(text, &[" ", node.location().as_str()])?;
-    match &node.body {
-        Body::RequiredNames(list) => push_list(text, list),
-        _ => Ok(()),
+pub(crate) fn push_node<N: Shown>(text: &mut String, node: &N) -> Result<(), AllocError> {
+    push_all(text, &[" ", node.place()])?;
+    match node.names() {
+        Some(list) => push_list(text, list),
+        None => Ok(()),
     }
 }
 
-/// Each name with its node. It takes no map by its trait: a call that does takes 40 seconds more to prove.
-pub(crate) fn push_nodes(
+fn push_named<N: Shown>(text: &mut String, name: &str, node: &N) -> Result<(), AllocError> {
+    push_all(text, &[" ", name, ":"])?;
+    push_node(text, node)
+}
+
+/// Each name with its node.
+pub(crate) fn push_nodes<N: Shown>(
     text: &mut String,
     names: &SortedNames,
-    nodes: &[PlainNode],
+    nodes: &[N],
 ) -> Result<(), AllocError> {
     for (name, node) in names.as_slice().iter().zip(nodes) {
-        push_all(text, &[" ", name.as_str(), ":"])?;
-        push_node(text, node)?;
+        push_named(text, name.as_str(), node)?;
     }
     Ok(())
 }
 
-fn pattern_form(pattern: &PlainPattern) -> &'static str {
+fn pattern_form<R>(pattern: &CompiledPattern<R>) -> &'static str {
     match pattern {
         CompiledPattern::Prefix(_) => "prefix",
         CompiledPattern::Suffix(_) => "suffix",
@@ -59,19 +58,19 @@ fn pattern_form(pattern: &PlainPattern) -> &'static str {
 }
 
 /// A pattern with its node.
-pub(crate) fn push_pattern(
+pub(crate) fn push_pattern<R, N: Shown>(
     text: &mut String,
-    pattern: &PlainPattern,
-    node: &PlainNode,
+    pattern: &CompiledPattern<R>,
+    node: &N,
 ) -> Result<(), AllocError> {
     push_all(text, &[" ", pattern_form(pattern), ":"])?;
     push_node(text, node)
 }
 
 /// Each pattern with its node.
-pub(crate) fn push_patterns(
+pub(crate) fn push_patterns<R, N: Shown>(
     text: &mut String,
-    patterns: &[(PlainPattern, PlainNode)],
+    patterns: &[(CompiledPattern<R>, N)],
 ) -> Result<(), AllocError> {
     for (pattern, node) in patterns {
         push_pattern(text, pattern, node)?;
