@@ -1,10 +1,12 @@
 //! Validators that are built by hand, over a leaf that refuses texts.
-use crate::objects::{add_names, add_text, sorted_names};
+use crate::objects::{add_names, add_text, beside, both, sorted_names};
 use crate::rows::{expect_rows, three};
-use olk_base::{CompiledPattern, Meter, Node, ValidationContext, compile_pattern};
+use olk_base::{
+    CompiledPattern, MakeRegex, Meter, Node, RegexEngine, ValidationContext, compile_pattern,
+};
 use olk_check::{IsValid, matches};
 use olk_low_tests::doubles::{EqualTo, Equality, NoText};
-use olk_node::{Keyword, SchemaNode, is_valid_for};
+use olk_node::{SchemaNode, is_valid_for};
 use olk_paths::Location;
 use olk_tree::all_of::{AllOf, SingleValueAllOf};
 use olk_tree::any_of::{AnyOf, SingleAnyOf};
@@ -12,6 +14,7 @@ use olk_tree::big_map::BigMap;
 use olk_tree::map::{SmallMap, SortedNames};
 use olk_tree::node::{Body, KeywordOver};
 use olk_tree::not::Not;
+use olk_tree::place::Place;
 use olk_tree::properties::{Properties, SmallPropertiesWithRequired2};
 use olk_tree::properties_map::PropertiesMap;
 use olk_tree::required::RequiredValidator;
@@ -21,61 +24,72 @@ use std::test::Fail;
 
 // ---- places
 
-type PlainKeyword = Keyword<NoText, EqualTo>;
-
 type PlainNode = SchemaNode<NoText, EqualTo>;
 
-fn place(alloc: Global, body: Body<PlainKeyword>) -> PlainNode {
-    SchemaNode {
-        location: Location::new(alloc),
-        body,
+// Whether a value is accepted.
+trait Accepts {
+    fn accepts(&self, value: &Value) -> bool;
+}
+
+impl Accepts for PlainNode {
+    fn accepts(&self, value: &Value) -> bool {
+        let mut ctx = ValidationContext::new(false);
+        is_valid_for(self, Node::Value(value), &mut ctx)
     }
 }
 
 // Accepts everything where the word is `true`, and nothing else.
-fn truth(alloc: Global, word: &str) -> PlainNode {
-    if word == "true" {
-        place(alloc, Body::True)
+fn truth<N: Place<NoText, EqualTo>>(alloc: Global, word: &str) -> N {
+    let body = if word == "true" {
+        Body::True
     } else {
-        place(alloc, Body::False)
-    }
+        Body::False
+    };
+    N::new(Location::new(alloc), body)
 }
 
-fn keyword(alloc: Global, keyword: PlainKeyword) -> Result<PlainNode, AllocError> {
+fn keyword<N: Place<NoText, EqualTo>>(
+    alloc: Global,
+    keyword: KeywordOver<NoText, EqualTo, N>,
+) -> Result<N, AllocError> {
     let mut keywords = Vec::new(alloc);
     keywords.push(keyword)?;
-    Ok(place(alloc, Body::Keywords(keywords)))
+    Ok(N::new(Location::new(alloc), Body::Keywords(keywords)))
 }
 
-fn no_text(alloc: Global) -> Result<PlainNode, AllocError> {
+fn no_text<N: Place<NoText, EqualTo>>(alloc: Global) -> Result<N, AllocError> {
     keyword(alloc, KeywordOver::Leaf(Location::new(alloc), NoText))
 }
 
-fn push_node(nodes: &mut Vec<PlainNode>, node: PlainNode) -> Result<(), AllocError> {
-    Ok(nodes.push(node)?)
+fn push_truth<N: Place<NoText, EqualTo>>(
+    nodes: &mut Vec<N>,
+    alloc: Global,
+    word: &str,
+) -> Result<(), AllocError> {
+    Ok(nodes.push(truth(alloc, word))?)
 }
 
-fn branches(alloc: Global, words: &str) -> Result<Vec<PlainNode>, AllocError> {
+fn branches<N: Place<NoText, EqualTo>>(alloc: Global, words: &str) -> Result<Vec<N>, AllocError> {
     let mut nodes = Vec::new(alloc);
     for word in words.split_terminator(" ") {
-        push_node(&mut nodes, truth(alloc, word))?;
+        push_truth(&mut nodes, alloc, word)?;
     }
     Ok(nodes)
 }
 
-fn all_of(alloc: Global, words: &str) -> Result<PlainNode, AllocError> {
+fn all_of<N: Place<NoText, EqualTo>>(alloc: Global, words: &str) -> Result<N, AllocError> {
     let schemas = branches(alloc, words)?;
     let location = Location::new(alloc);
     keyword(alloc, KeywordOver::AllOf(AllOf { schemas, location }))
 }
 
-fn any_of(alloc: Global, words: &str) -> Result<PlainNode, AllocError> {
+fn any_of<N: Place<NoText, EqualTo>>(alloc: Global, words: &str) -> Result<N, AllocError> {
     let schemas = branches(alloc, words)?;
     let location = Location::new(alloc);
     keyword(alloc, KeywordOver::AnyOf(AnyOf { schemas, location }))
 }
 
-fn all_of_one(alloc: Global, word: &str) -> Result<PlainNode, AllocError> {
+fn all_of_one<N: Place<NoText, EqualTo>>(alloc: Global, word: &str) -> Result<N, AllocError> {
     let node = truth(alloc, word);
     let location = Location::new(alloc);
     keyword(
@@ -84,7 +98,7 @@ fn all_of_one(alloc: Global, word: &str) -> Result<PlainNode, AllocError> {
     )
 }
 
-fn any_of_one(alloc: Global, word: &str) -> Result<PlainNode, AllocError> {
+fn any_of_one<N: Place<NoText, EqualTo>>(alloc: Global, word: &str) -> Result<N, AllocError> {
     let node = truth(alloc, word);
     let location = Location::new(alloc);
     keyword(
@@ -93,7 +107,7 @@ fn any_of_one(alloc: Global, word: &str) -> Result<PlainNode, AllocError> {
     )
 }
 
-fn not(alloc: Global, word: &str) -> Result<PlainNode, AllocError> {
+fn not<N: Place<NoText, EqualTo>>(alloc: Global, word: &str) -> Result<N, AllocError> {
     let node = truth(alloc, word);
     let location = Location::new(alloc);
     let original = Value::Bool(word == "true");
@@ -119,7 +133,7 @@ fn texts(alloc: Global, words: &str) -> Result<Vec<String>, AllocError> {
     Ok(texts)
 }
 
-fn required(alloc: Global, words: &str) -> Result<PlainNode, AllocError> {
+fn required<N: Place<NoText, EqualTo>>(alloc: Global, words: &str) -> Result<N, AllocError> {
     let required = texts(alloc, words)?;
     let location = Location::new(alloc);
     keyword(
@@ -134,11 +148,17 @@ fn required(alloc: Global, words: &str) -> Result<PlainNode, AllocError> {
 const NUMBERED: &str =
     "m00 m01 m02 m03 m04 m05 m06 m07 m08 m09 m10 m11 m12 m13 m14 m15 m16 m17 m18 m19";
 
-fn push_leaf(nodes: &mut Vec<PlainNode>, alloc: Global) -> Result<(), AllocError> {
-    push_node(nodes, no_text(alloc)?)
+fn push_leaf<N: Place<NoText, EqualTo>>(
+    nodes: &mut Vec<N>,
+    alloc: Global,
+) -> Result<(), AllocError> {
+    Ok(nodes.push(no_text(alloc)?)?)
 }
 
-fn leaf_nodes(alloc: Global, count: usize) -> Result<Vec<PlainNode>, AllocError> {
+fn leaf_nodes<N: Place<NoText, EqualTo>>(
+    alloc: Global,
+    count: usize,
+) -> Result<Vec<N>, AllocError> {
     let mut nodes = Vec::new(alloc);
     for _ in 0..count {
         push_leaf(&mut nodes, alloc)?;
@@ -146,34 +166,35 @@ fn leaf_nodes(alloc: Global, count: usize) -> Result<Vec<PlainNode>, AllocError>
     Ok(nodes)
 }
 
-// In a map of few names or of many.
-fn mapped(
+// A map of few names, or one of many with the same.
+fn mapped<N: Drop>(
     alloc: Global,
-    names: SortedNames,
-    nodes: Vec<PlainNode>,
+    map: SmallMap<N>,
     many: bool,
-) -> Result<PropertiesMap<PlainNode>, AllocError> {
+) -> Result<PropertiesMap<N>, AllocError> {
     if many {
-        BigMap::of(alloc, names, nodes).map(PropertiesMap::Big)
+        BigMap::of(alloc, map.names, map.nodes).map(PropertiesMap::Big)
     } else {
-        Ok(PropertiesMap::Small(SmallMap { names, nodes }))
+        Ok(PropertiesMap::Small(map))
     }
 }
 
-// So many names, each with the leaf, in a map of few names or of many.
-fn leaf_map(
+// So many names, each with the leaf.
+fn leaf_names<N: Place<NoText, EqualTo>>(
     alloc: Global,
+    names: &str,
     count: usize,
-    many: bool,
-) -> Result<PropertiesMap<PlainNode>, AllocError> {
-    let names = sorted_names(alloc, NUMBERED, count)?;
-    let nodes = leaf_nodes(alloc, count)?;
-    mapped(alloc, names, nodes, many)
+) -> Result<SmallMap<N>, AllocError> {
+    beside(sorted_names(alloc, names, count), leaf_nodes(alloc, count))
 }
 
 // `properties` of these names.
-fn declared(alloc: Global, count: usize, many: bool) -> Result<PlainNode, AllocError> {
-    let properties = leaf_map(alloc, count, many)?;
+fn declared<N: Place<NoText, EqualTo>>(
+    alloc: Global,
+    count: usize,
+    many: bool,
+) -> Result<N, AllocError> {
+    let properties = mapped(alloc, leaf_names(alloc, NUMBERED, count)?, many)?;
     let location = Location::new(alloc);
     keyword(
         alloc,
@@ -184,23 +205,13 @@ fn declared(alloc: Global, count: usize, many: bool) -> Result<PlainNode, AllocE
     )
 }
 
-// The name `a` with the leaf.
-fn one_name(alloc: Global) -> Result<SmallMap<PlainNode>, AllocError> {
-    let names = sorted_names(alloc, "a", 1)?;
-    let nodes = leaf_nodes(alloc, 1)?;
-    Ok(SmallMap { names, nodes })
-}
-
 fn two_names(alloc: Global) -> Result<(String, String), AllocError> {
-    let first = String::from_str(alloc, "c")?;
-    let second = String::from_str(alloc, "b")?;
-    Ok((first, second))
+    both(String::from_str(alloc, "c"), String::from_str(alloc, "b"))
 }
 
 // `properties` of the name `a`, and the required names `c` and `b`.
-fn beside_required(alloc: Global) -> Result<PlainNode, AllocError> {
-    let (first, second) = two_names(alloc)?;
-    let properties = one_name(alloc)?;
+fn beside_required<N: Place<NoText, EqualTo>>(alloc: Global) -> Result<N, AllocError> {
+    let ((first, second), properties) = both(two_names(alloc), leaf_names(alloc, "a", 1))?;
     let both = SmallPropertiesWithRequired2 {
         properties,
         first,
@@ -214,7 +225,11 @@ fn beside_required(alloc: Global) -> Result<PlainNode, AllocError> {
 // ---- what a validator accepts
 
 // The validator of this form, of these words.
-fn validator(alloc: Global, form: &str, words: &str) -> Result<PlainNode, AllocError> {
+fn validator<N: Place<NoText, EqualTo>>(
+    alloc: Global,
+    form: &str,
+    words: &str,
+) -> Result<N, AllocError> {
     match form {
         "allOf" => all_of(alloc, words),
         "anyOf" => any_of(alloc, words),
@@ -229,39 +244,27 @@ fn validator(alloc: Global, form: &str, words: &str) -> Result<PlainNode, AllocE
     }
 }
 
-fn accepts(place: &PlainNode, value: &Value) -> bool {
-    let mut ctx = ValidationContext::new(false);
-    let accepted = is_valid_for(place, Node::Value(value), &mut ctx);
-    drop(ctx);
-    accepted
-}
-
 // Whether a validator accepts a value. A node is dropped by name, so that none ends with its scope.
-fn accepts_value(
-    alloc: Global,
-    form: &str,
-    words: &str,
-    value: &Value,
-) -> Result<bool, AllocError> {
-    let place = validator(alloc, form, words)?;
-    let accepted = accepts(&place, value);
-    drop(place);
-    Ok(accepted)
-}
-
-fn accepts_line(
+fn accepts_line<N: Place<NoText, EqualTo> + Accepts>(
     alloc: Global,
     form: &str,
     words: &str,
     value: &Value,
 ) -> Result<String, AllocError> {
-    let accepted = accepts_value(alloc, form, words, value)?;
+    let place: N = validator(alloc, form, words)?;
+    let accepted = place.accepts(value);
+    drop(place);
     String::from_str(alloc, if accepted { "true" } else { "false" })
 }
 
-fn accepts_json(alloc: Global, form: &str, words: &str, json: &str) -> Result<String, Fail> {
+fn accepts_json<N: Place<NoText, EqualTo> + Accepts>(
+    alloc: Global,
+    form: &str,
+    words: &str,
+    json: &str,
+) -> Result<String, Fail> {
     let value = Value::from_str(alloc, json)?;
-    let line = accepts_line(alloc, form, words, &value);
+    let line = accepts_line::<N>(alloc, form, words, &value);
     drop(value);
     Ok(line?)
 }
@@ -269,7 +272,7 @@ fn accepts_json(alloc: Global, form: &str, words: &str, json: &str) -> Result<St
 // Whether the validator of a form, of some words, accepts a value.
 fn accepted(alloc: Global, row: &str) -> Result<String, Fail> {
     match three(row) {
-        Some((form, words, json)) => accepts_json(alloc, form, words, json),
+        Some((form, words, json)) => accepts_json::<PlainNode>(alloc, form, words, json),
         None => Err(Fail::new(row)),
     }
 }
@@ -349,7 +352,7 @@ fn declared_names_beside_no_object(rt: HostRuntime) -> Result<(), Fail> {
 // ---- what is asked of a leaf, and of a pattern
 
 // Whether the text, a name and null are accepted, and how many engines are asked.
-fn leaf_answers(node: &PlainNode, text: &Value, name: &String) -> (bool, bool, bool, u64) {
+fn leaf_answers<N: IsValid>(node: &N, text: &Value, name: &String) -> (bool, bool, bool, u64) {
     let mut ctx = ValidationContext::new(true);
     let is_text = node.is_valid(Node::Value(text), &mut ctx);
     let is_name = node.is_valid(Node::Name(name), &mut ctx);
@@ -357,8 +360,12 @@ fn leaf_answers(node: &PlainNode, text: &Value, name: &String) -> (bool, bool, b
     (is_text, is_name, is_null, ctx.meter().asked())
 }
 
-fn leaf_line(alloc: Global, text: &Value, name: &String) -> Result<String, AllocError> {
-    let node = no_text(alloc)?;
+fn leaf_line<N: Place<NoText, EqualTo> + IsValid>(
+    alloc: Global,
+    text: &Value,
+    name: &String,
+) -> Result<String, AllocError> {
+    let node: N = no_text(alloc)?;
     let (is_text, is_name, is_null, asked) = leaf_answers(&node, text, name);
     drop(node);
     format!(in alloc; "{is_text} {is_name} {is_null} {asked}")
@@ -366,9 +373,12 @@ fn leaf_line(alloc: Global, text: &Value, name: &String) -> Result<String, Alloc
 
 // Whether the leaf accepts a text, it as a name, and null, and how many engines are asked.
 fn asked_of_leaf(alloc: Global, name: &str) -> Result<String, Fail> {
-    let text = Value::String(String::from_str(alloc, name)?);
-    let name = String::from_str(alloc, name)?;
-    Ok(leaf_line(alloc, &text, &name)?)
+    let (text, name) = both(String::from_str(alloc, name), String::from_str(alloc, name))?;
+    let text = Value::String(text);
+    let line = leaf_line::<PlainNode>(alloc, &text, &name);
+    drop(name);
+    drop(text);
+    Ok(line?)
 }
 
 #[test]
@@ -376,9 +386,9 @@ fn leaves(rt: HostRuntime) -> Result<(), Fail> {
     expect_rows(rt.alloc(), "a | false false true 0", asked_of_leaf)
 }
 
-fn pattern_line(
+fn pattern_line<R: RegexEngine>(
     alloc: Global,
-    pattern: &CompiledPattern<EqualTo>,
+    pattern: &CompiledPattern<R>,
     name: &str,
     answer: bool,
 ) -> Result<String, AllocError> {
@@ -388,8 +398,14 @@ fn pattern_line(
     format!(in alloc; "{found} {asked} {unfinished}")
 }
 
-fn match_line(alloc: Global, pattern: &str, name: &str, answer: bool) -> Result<String, Fail> {
-    let Ok(pattern) = compile_pattern(alloc, &Equality, pattern, &mut Meter::new()) else {
+fn match_line<M: MakeRegex>(
+    alloc: Global,
+    regexes: &M,
+    pattern: &str,
+    name: &str,
+    answer: bool,
+) -> Result<String, Fail> {
+    let Ok(pattern) = compile_pattern(alloc, regexes, pattern, &mut Meter::new()) else {
         return Err(Fail::new("not built"));
     };
     let line = pattern_line(alloc, &pattern, name, answer);
@@ -401,7 +417,9 @@ fn match_line(alloc: Global, pattern: &str, name: &str, answer: bool) -> Result<
 // unfinished.
 fn matched(alloc: Global, row: &str) -> Result<String, Fail> {
     match three(row) {
-        Some((pattern, name, answer)) => match_line(alloc, pattern, name, answer == "true"),
+        Some((pattern, name, answer)) => {
+            match_line(alloc, &Equality, pattern, name, answer == "true")
+        }
         None => Err(Fail::new(row)),
     }
 }
@@ -428,30 +446,36 @@ const BESIDES: &str =
 // Names that are never declared.
 const OTHERS: &str = " l m m00a m005 m12z n";
 
-// An object with a text at the name, and so many members besides.
-fn object(alloc: Global, name: &str, besides: usize) -> Result<Value, AllocError> {
-    let mut members = Map::new(alloc);
-    add_names(&mut members, alloc, BESIDES, besides)?;
-    add_text(&mut members, alloc, name, "a")?;
-    Ok(Value::Object(members))
+// A text at the name, and so many members besides.
+fn add_members(
+    members: &mut Map<String, Value>,
+    alloc: Global,
+    name: &str,
+    besides: usize,
+) -> Result<(), AllocError> {
+    add_names(members, alloc, BESIDES, besides)?;
+    add_text(members, alloc, name, "a")
 }
 
 // Whether an object with a text at this name is accepted.
-fn accepts_text_at(
-    place: &PlainNode,
+fn accepts_text_at<N: Accepts>(
+    place: &N,
     alloc: Global,
     name: &str,
     besides: usize,
 ) -> Result<bool, AllocError> {
-    let object = object(alloc, name, besides)?;
-    let accepted = accepts(place, &object);
+    let mut members = Map::new(alloc);
+    let added = add_members(&mut members, alloc, name, besides);
+    let object = Value::Object(members);
+    let accepted = place.accepts(&object);
     drop(object);
+    added?;
     Ok(accepted)
 }
 
 // The first so many of these names are declared, and refuse a text.
-fn expect_refused(
-    place: &PlainNode,
+fn expect_refused<N: Accepts>(
+    place: &N,
     alloc: Global,
     names: &'static str,
     count: usize,
@@ -465,8 +489,8 @@ fn expect_refused(
     Ok(())
 }
 
-fn expect_names(
-    place: &PlainNode,
+fn expect_names<N: Accepts>(
+    place: &N,
     alloc: Global,
     count: usize,
     besides: usize,
@@ -475,8 +499,13 @@ fn expect_names(
     expect_refused(place, alloc, OTHERS, 0, besides)
 }
 
-fn expect_declared(alloc: Global, count: usize, many: bool, besides: usize) -> Result<(), Fail> {
-    let place = declared(alloc, count, many)?;
+fn expect_declared<N: Place<NoText, EqualTo> + Accepts>(
+    alloc: Global,
+    count: usize,
+    many: bool,
+    besides: usize,
+) -> Result<(), Fail> {
+    let place: N = declared(alloc, count, many)?;
     let told = expect_names(&place, alloc, count, besides);
     drop(place);
     told
@@ -486,7 +515,7 @@ fn expect_declared(alloc: Global, count: usize, many: bool, besides: usize) -> R
 // declared names among them.
 fn expect_beside(alloc: Global, count: usize, many: bool) -> Result<(), Fail> {
     for besides in [0, count, 20] {
-        expect_declared(alloc, count, many, besides)?;
+        expect_declared::<PlainNode>(alloc, count, many, besides)?;
     }
     Ok(())
 }

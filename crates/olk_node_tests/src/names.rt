@@ -1,5 +1,5 @@
 //! Looking up names, in maps of few and of many.
-use crate::objects::{add_names, add_text, sorted_names};
+use crate::objects::{add_names, beside, sorted_names};
 use olk_tree::properties_map::PropertiesMap;
 use olk_tree::{BigMap, PropertiesValidatorsMap, SmallMap};
 use serde_json::{Map, Value};
@@ -13,15 +13,6 @@ const DECLARED: &str =
 const OTHERS: &str =
     " 00 02 04 06 08 10 12 14 16 18 20 22 24 26 28 30 32 34 36 38 40 42 44 46 48 50 52 54 56 58 60 62 64 66 68 70 72 74 76 78 80";
 
-// An object with these names, each with itself.
-fn object_of(alloc: Global, names: &str) -> Result<Map<String, Value>, AllocError> {
-    let mut members = Map::new(alloc);
-    for name in names.split(" ") {
-        add_text(&mut members, alloc, name, name)?;
-    }
-    Ok(members)
-}
-
 fn positions(alloc: Global, count: usize) -> Result<Vec<usize>, AllocError> {
     let mut positions = Vec::new(alloc);
     for position in 0..count {
@@ -32,9 +23,10 @@ fn positions(alloc: Global, count: usize) -> Result<Vec<usize>, AllocError> {
 
 // The first so many names, each with its position.
 fn first_names(alloc: Global, count: usize) -> Result<SmallMap<usize>, AllocError> {
-    let names = sorted_names(alloc, DECLARED, count)?;
-    let nodes = positions(alloc, count)?;
-    Ok(SmallMap { names, nodes })
+    beside(
+        sorted_names(alloc, DECLARED, count),
+        positions(alloc, count),
+    )
 }
 
 // The same, found by their hash.
@@ -163,10 +155,23 @@ const FEW: &str = "00 03 04 27 28 29 30 31 32 79 80";
 const DECLARED_OF_FEW: &str = "03 27 29 31 79";
 
 // Every name, so that the declared ones are walked.
-fn all_members(alloc: Global) -> Result<Map<String, Value>, AllocError> {
-    let mut members = object_of(alloc, DECLARED)?;
-    add_names(&mut members, alloc, OTHERS, 42)?;
-    Ok(members)
+const ALL: &str =
+    " 00 01 02 03 04 05 06 07 08 09 10 11 12 13 14 15 16 17 18 19 20 21 22 23 24 25 26 27 28 29 30 31 32 33 34 35 36 37 38 39 40 41 42 43 44 45 46 47 48 49 50 51 52 53 54 55 56 57 58 59 60 61 62 63 64 65 66 67 68 69 70 71 72 73 74 75 76 77 78 79 80";
+
+// What is not walked as it is to be over an object with these names, each with itself.
+fn wrong_walk_over<M: PropertiesValidatorsMap<usize>>(
+    alloc: Global,
+    map: &M,
+    names: &str,
+    expected: &'static str,
+    count: usize,
+) -> Result<Option<&'static str>, AllocError> {
+    let mut members = Map::new(alloc);
+    let added = add_names(&mut members, alloc, names, 82);
+    let wrong = wrong_walk(map, &members, expected, count);
+    drop(members);
+    added?;
+    Ok(wrong)
 }
 
 // Over the few members, so many of those that are declared are given, and over all, so many declared ones.
@@ -176,16 +181,9 @@ fn wrong_walks<M: PropertiesValidatorsMap<usize>>(
     met: usize,
     declared: usize,
 ) -> Result<Option<&'static str>, AllocError> {
-    let few = object_of(alloc, FEW)?;
-    let wrong = wrong_walk(map, &few, DECLARED_OF_FEW, met);
-    drop(few);
-    if wrong.is_some() {
-        return Ok(wrong);
-    }
-    let all = all_members(alloc)?;
-    let wrong = wrong_walk(map, &all, DECLARED, declared);
-    drop(all);
-    Ok(wrong)
+    let of_few = wrong_walk_over(alloc, map, FEW, DECLARED_OF_FEW, met)?;
+    let of_all = wrong_walk_over(alloc, map, ALL, DECLARED, declared)?;
+    Ok(of_few.or(of_all))
 }
 
 fn expect_walks<M: PropertiesValidatorsMap<usize> + Drop>(
@@ -214,8 +212,10 @@ fn declared_members_are_walked(rt: HostRuntime) -> Result<(), Fail> {
 
 // A map of many names, made again where memory was wanting.
 fn hashed_at_last(alloc: Global) -> Result<BigMap<usize>, AllocError> {
-    let SmallMap { names, nodes } = first_names(alloc, 40)?;
-    BigMap::of(alloc, names, nodes).or_else(|_| first_hashed(alloc, 40))
+    match first_hashed(alloc, 40) {
+        Ok(map) => Ok(map),
+        Err(_) => first_hashed(alloc, 40),
+    }
 }
 
 // With each growth refused in turn (tools/refused_growths), a map that is made again has every name.
