@@ -2,14 +2,14 @@
 //! program's lines (tools/program_lines).
 use crate::found::Found;
 use crate::rows::{Form, Table, constant, expect, refusal};
-use object_logic::ValidationContext;
+use object_logic::{BuildError, ValidationContext};
 use olk_base::Meter;
 use olk_bench::{BenchLeaf, BenchLeaves, BenchRegex, BenchRegexes};
 use olk_build::{Context, compile};
-use olk_check::are_properties_valid;
+use olk_check::{IsValid, are_properties_valid};
 use olk_keywords::properties::compile_small_map;
 use olk_node::SchemaNode;
-use olk_tree::PropertiesMap;
+use olk_tree::{Place, PropertiesMap};
 use serde_json::{Map, Value};
 use std::alloc::{AllocError, Global};
 use std::test::Fail;
@@ -56,7 +56,10 @@ fn an_error_speaks_of_the_object_or_of_its_first_member(rt: HostRuntime) -> Resu
 
 type BenchNode = SchemaNode<BenchLeaf, BenchRegex>;
 
-fn declared(alloc: Global, names: &Map<String, Value>) -> Option<PropertiesMap<BenchNode>> {
+fn declared<N: Place<BenchLeaf, BenchRegex>>(
+    alloc: Global,
+    names: &Map<String, Value>,
+) -> Option<PropertiesMap<N>> {
     let mut meter = Meter::new();
     let mut ctx = Context::new(alloc, &BenchLeaves, &BenchRegexes, &mut meter);
     match compile_small_map(alloc, &mut ctx, names) {
@@ -65,19 +68,19 @@ fn declared(alloc: Global, names: &Map<String, Value>) -> Option<PropertiesMap<B
     }
 }
 
-fn are_accepted(
-    map: &PropertiesMap<BenchNode>,
+fn are_accepted<N: IsValid>(
+    map: &PropertiesMap<N>,
     members: &Map<String, Value>,
-    rest: Option<&BenchNode>,
+    rest: Option<&N>,
 ) -> bool {
     are_properties_valid(map, members, rest, &mut ValidationContext::new(false))
 }
 
 // Whether the members are accepted with a schema for the rest, and without one.
-fn verdicts(
+fn verdicts<N: IsValid>(
     alloc: Global,
-    map: &PropertiesMap<BenchNode>,
-    rest: &BenchNode,
+    map: &PropertiesMap<N>,
+    rest: &N,
     members: &Map<String, Value>,
 ) -> Result<String, AllocError> {
     let with_rest = are_accepted(map, members, Some(rest));
@@ -85,13 +88,13 @@ fn verdicts(
     format!(in alloc; "{with_rest}, {without}")
 }
 
-fn beside(
+fn beside<N: Place<BenchLeaf, BenchRegex> + IsValid>(
     alloc: Global,
     names: &Map<String, Value>,
-    rest: &BenchNode,
+    rest: &N,
     members: &Map<String, Value>,
 ) -> Result<String, AllocError> {
-    let declared = declared(alloc, names);
+    let declared: Option<PropertiesMap<N>> = declared(alloc, names);
     let told = match &declared {
         Some(map) => verdicts(alloc, map, rest, members),
         None => String::from_str(alloc, "not built"),
@@ -101,10 +104,10 @@ fn beside(
 }
 
 // The same beside these names.
-fn beside_names(
+fn beside_names<N: Place<BenchLeaf, BenchRegex> + IsValid>(
     alloc: Global,
     names: &Value,
-    rest: &BenchNode,
+    rest: &N,
     members: &Value,
 ) -> Result<String, AllocError> {
     match (names.as_object(), members.as_object()) {
@@ -114,7 +117,7 @@ fn beside_names(
 }
 
 // The same with a schema for the rest.
-fn with_rest(
+fn with_rest<N: Place<BenchLeaf, BenchRegex> + IsValid>(
     alloc: Global,
     names: &Value,
     rest: &Value,
@@ -122,7 +125,7 @@ fn with_rest(
 ) -> Result<String, AllocError> {
     let mut meter = Meter::new();
     let mut ctx = Context::new(alloc, &BenchLeaves, &BenchRegexes, &mut meter);
-    let rest = compile(alloc, &mut ctx, rest);
+    let rest: Result<N, BuildError<'_>> = compile(alloc, &mut ctx, rest);
     let told = match &rest {
         Ok(rest) => beside_names(alloc, names, rest, members),
         Err(error) => refusal(alloc, error),
@@ -133,7 +136,7 @@ fn with_rest(
 
 fn with_names(alloc: Global, names: &Value, members: &Value) -> Result<String, AllocError> {
     let rest = constant(alloc, r#"{"type":"string"}"#)?;
-    let told = with_rest(alloc, names, &rest, members);
+    let told = with_rest::<BenchNode>(alloc, names, &rest, members);
     drop(rest);
     told
 }

@@ -1,11 +1,12 @@
 //! What building and asking count.
+use crate::asked::{Asked, Question, told_by};
 use crate::rows::{Form, Table, expect, refusal};
 use object_logic::{
     Leaf, MakeError, MakeLeaf, Meter, Node, ValidateError, ValidationContext, Validator,
     holds_whole_numbers,
 };
-use olk_bench::{BenchLeaf, BenchLeaves, BenchRegex, BenchRegexes};
-use olk_low_tests::counting::{Counted, Counting};
+use olk_bench::{BenchLeaves, BenchRegexes};
+use olk_low_tests::counting::Counting;
 use serde_json::Value;
 use std::alloc::{AllocError, Global};
 use std::cell::Cell;
@@ -213,12 +214,12 @@ struct Asking<'c, M> {
 
 // A leaf that counts so.
 #[derive(Drop)]
-struct Asked<'c, K> {
+struct AskedLeaf<'c, K> {
     leaf: K,
     asked: &'c Cell<u64>,
 }
 
-impl<K: Leaf> Leaf for Asked<'_, K> {
+impl<K: Leaf> Leaf for AskedLeaf<'_, K> {
     ghost reads = { K.reads };
 
     ghost fits = { K.fits };
@@ -257,7 +258,7 @@ impl<K: Leaf> Leaf for Asked<'_, K> {
 }
 
 impl<'c, M: MakeLeaf> MakeLeaf for Asking<'c, M> {
-    type Leaf = Asked<'c, M::Leaf>;
+    type Leaf = AskedLeaf<'c, M::Leaf>;
 
     fn reads(&self, keyword: &str) -> bool {
         self.maker.reads(keyword)
@@ -269,32 +270,37 @@ impl<'c, M: MakeLeaf> MakeLeaf for Asking<'c, M> {
         keyword: &str,
         value: &Value,
         meter: &mut Meter,
-    ) -> Result<Asked<'c, M::Leaf>, MakeError> {
+    ) -> Result<AskedLeaf<'c, M::Leaf>, MakeError> {
         let leaf = self.maker.make(alloc, keyword, value, meter)?;
-        Ok(Asked {
+        Ok(AskedLeaf {
             leaf,
             asked: self.asked,
         })
     }
 }
 
-type AskedValidator<'c> = Validator<Asked<'c, BenchLeaf>, BenchRegex>;
+// How often a verdict asks leaves, which count in the cell.
+#[derive(Drop)]
+struct AskedLeaves<'c> {
+    asked: &'c Cell<u64>,
+}
 
-// How often a verdict asks leaves.
-fn told_leaves(
-    validator: &AskedValidator<'_>,
-    asked: &Cell<u64>,
-    alloc: Global,
-    instance: &Value,
-) -> Result<String, AllocError> {
-    let _valid = validator.is_valid(instance, &mut ValidationContext::new(false));
-    format!(in alloc; "{}", asked.get())
+impl Question for AskedLeaves<'_> {
+    fn told<V: Asked>(
+        &self,
+        validator: &V,
+        alloc: Global,
+        instance: &Value,
+    ) -> Result<String, AllocError> {
+        let _valid = validator.is_valid(instance, &mut ValidationContext::new(false));
+        format!(in alloc; "{}", self.asked.get())
+    }
 }
 
 #[derive(Drop)]
-struct AskedLeaves;
+struct LeafAsks;
 
-impl Form for AskedLeaves {
+impl Form for LeafAsks {
     fn answer(
         &self,
         alloc: Global,
@@ -306,13 +312,8 @@ impl Form for AskedLeaves {
             maker: BenchLeaves,
             asked: &asked,
         };
-        let built = Validator::build(alloc, &leaves, &BenchRegexes, schema, &mut Meter::new());
-        let told = match &built {
-            Ok(validator) => told_leaves(validator, &asked, alloc, instance),
-            Err(error) => refusal(alloc, error),
-        };
-        drop(built);
-        told
+        let question = AskedLeaves { asked: &asked };
+        told_by(&question, &leaves, &BenchRegexes, alloc, schema, instance)
     }
 }
 
@@ -341,15 +342,13 @@ const ASKED: &str = r#"{"dependentSchemas":{"a":{"minLength":1}}} | {"b":1} | 0
 
 #[test]
 fn a_leaf_is_asked_where_it_is_due(rt: HostRuntime) -> Result<(), Fail> {
-    expect(&AskedLeaves, rt.alloc(), Table::Asked(ASKED))
+    expect(&LeafAsks, rt.alloc(), Table::Asked(ASKED))
 }
 
 // ---- engines that are asked
 
-type CountingValidator<'c> = Validator<BenchLeaf, Counted<'c, BenchRegex>>;
-
-fn validate_accepts(
-    validator: &CountingValidator<'_>,
+fn validate_accepts<V: Asked>(
+    validator: &V,
     alloc: Global,
     instance: &Value,
     ctx: &mut ValidationContext,
@@ -364,8 +363,8 @@ fn validate_accepts(
     accepts
 }
 
-fn collect_errors_accepts<'a>(
-    validator: &'a CountingValidator<'_>,
+fn collect_errors_accepts<'a, V: Asked>(
+    validator: &'a V,
     alloc: Global,
     instance: &'a Value,
     ctx: &mut ValidationContext,
@@ -380,8 +379,8 @@ fn collect_errors_accepts<'a>(
     }
 }
 
-fn evaluate_accepts(
-    validator: &CountingValidator<'_>,
+fn evaluate_accepts<V: Asked>(
+    validator: &V,
     alloc: Global,
     instance: &Value,
     ctx: &mut ValidationContext,
@@ -404,9 +403,9 @@ enum Way {
     Evaluate,
 }
 
-fn accepts_by<'a>(
+fn accepts_by<'a, V: Asked>(
     way: Way,
-    validator: &'a CountingValidator<'_>,
+    validator: &'a V,
     alloc: Global,
     instance: &'a Value,
     ctx: &mut ValidationContext,
@@ -447,9 +446,9 @@ fn wrong_in(ctx: &ValidationContext, asks: u64, answer: bool) -> &'static str {
     }
 }
 
-fn told_by<'a>(
+fn told_by_way<'a, V: Asked>(
     way: Way,
-    validator: &'a CountingValidator<'_>,
+    validator: &'a V,
     asked: &Cell<u64>,
     alloc: Global,
     instance: &'a Value,
@@ -493,16 +492,16 @@ fn first_of(text: &'static str, other: &'static str) -> &'static str {
 }
 
 // What a verdict under an answer comes to, and what is wrong with that or with another way of asking.
-fn told_by_all<'a>(
-    validator: &'a CountingValidator<'_>,
+fn told_by_all<'a, V: Asked>(
+    validator: &'a V,
     asked: &Cell<u64>,
     alloc: Global,
     instance: &'a Value,
     answer: bool,
 ) -> Result<Told, AllocError> {
-    let told = told_by(Way::IsValid, validator, asked, alloc, instance, answer)?;
-    let first = told_by(Way::Validate, validator, asked, alloc, instance, answer)?;
-    let all = told_by(
+    let told = told_by_way(Way::IsValid, validator, asked, alloc, instance, answer)?;
+    let first = told_by_way(Way::Validate, validator, asked, alloc, instance, answer)?;
+    let all = told_by_way(
         Way::CollectErrors,
         validator,
         asked,
@@ -510,7 +509,7 @@ fn told_by_all<'a>(
         instance,
         answer,
     )?;
-    let shown = told_by(Way::Evaluate, validator, asked, alloc, instance, answer)?;
+    let shown = told_by_way(Way::Evaluate, validator, asked, alloc, instance, answer)?;
     let wrong_in_first = first_of(told.wrong, wrong_beside(told, first));
     let wrong_in_others = first_of(wrong_beside(told, all), wrong_beside(told, shown));
     let wrong = first_of(wrong_in_first, wrong_in_others);
@@ -551,8 +550,8 @@ fn told_text(alloc: Global, told: Told, matched: Told) -> Result<String, AllocEr
     counts_text(alloc, verdict, told.asks, told.unfinished, wrong)
 }
 
-fn told_in_all_ways(
-    validator: &CountingValidator<'_>,
+fn told_in_all_ways<V: Asked>(
+    validator: &V,
     asked: &Cell<u64>,
     alloc: Global,
     instance: &Value,
@@ -562,13 +561,13 @@ fn told_in_all_ways(
     told_text(alloc, told, matched)
 }
 
-fn told_by_a_verdict(
-    validator: &CountingValidator<'_>,
+fn told_by_a_verdict<V: Asked>(
+    validator: &V,
     asked: &Cell<u64>,
     alloc: Global,
     instance: &Value,
 ) -> Result<String, AllocError> {
-    let told = told_by(Way::IsValid, validator, asked, alloc, instance, false)?;
+    let told = told_by_way(Way::IsValid, validator, asked, alloc, instance, false)?;
     told_text(alloc, told, told)
 }
 
@@ -579,16 +578,24 @@ enum AskedEngines {
     ByAVerdict,
 }
 
-fn told_engines(
+// How often engines are asked, which count in the cell.
+#[derive(Drop)]
+struct Engines<'c> {
     form: AskedEngines,
-    validator: &CountingValidator<'_>,
-    asked: &Cell<u64>,
-    alloc: Global,
-    instance: &Value,
-) -> Result<String, AllocError> {
-    match form {
-        AskedEngines::InAllWays => told_in_all_ways(validator, asked, alloc, instance),
-        AskedEngines::ByAVerdict => told_by_a_verdict(validator, asked, alloc, instance),
+    asked: &'c Cell<u64>,
+}
+
+impl Question for Engines<'_> {
+    fn told<V: Asked>(
+        &self,
+        validator: &V,
+        alloc: Global,
+        instance: &Value,
+    ) -> Result<String, AllocError> {
+        match self.form {
+            AskedEngines::InAllWays => told_in_all_ways(validator, self.asked, alloc, instance),
+            AskedEngines::ByAVerdict => told_by_a_verdict(validator, self.asked, alloc, instance),
+        }
     }
 }
 
@@ -605,13 +612,11 @@ impl Form for AskedEngines {
             made: &made,
             asked: &asked,
         };
-        let built = Validator::build(alloc, &BenchLeaves, &patterns, schema, &mut Meter::new());
-        let told = match &built {
-            Ok(validator) => told_engines(*self, validator, &asked, alloc, instance),
-            Err(error) => refusal(alloc, error),
+        let question = Engines {
+            form: *self,
+            asked: &asked,
         };
-        drop(built);
-        told
+        told_by(&question, &BenchLeaves, &patterns, alloc, schema, instance)
     }
 }
 

@@ -1,16 +1,15 @@
 //! Contexts of errors, lists that are handed in, and children of evaluations. What is found without contexts is in the
 //! program's lines (tools/program_lines).
-use crate::rows::{Form, Table, expect, refusal};
+use crate::asked::{Asked, Question, told_by};
+use crate::rows::{Form, Table, expect};
 use object_logic::{
-    ErrorDescription, Evaluation, EvaluationNode, Meter, Node, ValidateError, ValidationContext,
-    ValidationError, ValidationErrorKind, Validator,
+    ErrorDescription, Evaluation, EvaluationNode, Node, ValidateError, ValidationContext,
+    ValidationError, ValidationErrorKind,
 };
-use olk_bench::{BenchLeaf, BenchLeaves, BenchRegex, BenchRegexes};
+use olk_bench::{BenchLeaves, BenchRegexes};
 use serde_json::Value;
 use std::alloc::{AllocError, Global};
 use std::test::Fail;
-
-type BenchValidator = Validator<BenchLeaf, BenchRegex>;
 
 // ---- the text of an error
 
@@ -217,8 +216,8 @@ fn instances(alloc: Global, errors: &[ValidationError<'_>]) -> Result<String, Al
 
 // ---- what is found
 
-fn collect<'a>(
-    validator: &'a BenchValidator,
+fn collect<'a, V: Asked>(
+    validator: &'a V,
     alloc: Global,
     instance: &'a Value,
     errors: &mut Vec<ValidationError<'a>>,
@@ -227,8 +226,8 @@ fn collect<'a>(
     validator.collect_errors(alloc, instance, &mut ctx, errors)
 }
 
-fn collected<'a>(
-    validator: &'a BenchValidator,
+fn collected<'a, V: Asked>(
+    validator: &'a V,
     alloc: Global,
     instance: &'a Value,
 ) -> Result<Vec<ValidationError<'a>>, AllocError> {
@@ -238,8 +237,8 @@ fn collected<'a>(
 }
 
 // All errors, and no text where the instance is accepted.
-fn all_lines(
-    validator: &BenchValidator,
+fn all_lines<V: Asked>(
+    validator: &V,
     alloc: Global,
     instance: &Value,
 ) -> Result<String, AllocError> {
@@ -250,8 +249,8 @@ fn all_lines(
 }
 
 // The first error with its context, and no text where the instance is accepted.
-fn first_line(
-    validator: &BenchValidator,
+fn first_line<V: Asked>(
+    validator: &V,
     alloc: Global,
     instance: &Value,
 ) -> Result<String, AllocError> {
@@ -275,9 +274,9 @@ fn push_others(text: &mut String, all: &str) -> Result<(), AllocError> {
     }
 }
 
-fn push_all(
+fn push_all<V: Asked>(
     text: &mut String,
-    validator: &BenchValidator,
+    validator: &V,
     alloc: Global,
     instance: &Value,
 ) -> Result<(), AllocError> {
@@ -287,12 +286,12 @@ fn push_all(
     pushed
 }
 
-fn is_valid(validator: &BenchValidator, instance: &Value) -> bool {
+fn is_valid<V: Asked>(validator: &V, instance: &Value) -> bool {
     validator.is_valid(instance, &mut ValidationContext::new(false))
 }
 
-fn shows_valid(
-    validator: &BenchValidator,
+fn shows_valid<V: Asked>(
+    validator: &V,
     alloc: Global,
     instance: &Value,
 ) -> Result<bool, AllocError> {
@@ -307,9 +306,9 @@ fn shows_valid(
 }
 
 // Behind the errors, whether the instance is accepted, and the verdicts of `is_valid` and `evaluate` where these are others.
-fn push_verdicts(
+fn push_verdicts<V: Asked>(
     text: &mut String,
-    validator: &BenchValidator,
+    validator: &V,
     alloc: Global,
     instance: &Value,
 ) -> Result<(), AllocError> {
@@ -326,7 +325,7 @@ fn push_verdicts(
 }
 
 // The first error, and all errors where these are others; each way of asking gives the same verdict.
-fn told(validator: &BenchValidator, alloc: Global, instance: &Value) -> Result<String, AllocError> {
+fn told<V: Asked>(validator: &V, alloc: Global, instance: &Value) -> Result<String, AllocError> {
     let mut text = first_line(validator, alloc, instance)?;
     push_all(&mut text, validator, alloc, instance)?;
     push_verdicts(&mut text, validator, alloc, instance)?;
@@ -341,8 +340,8 @@ fn count_errors(alloc: Global, evaluation: &Evaluation<'_>) -> Result<usize, All
 }
 
 // How many errors an evaluation lists.
-fn shown_errors(
-    validator: &BenchValidator,
+fn shown_errors<V: Asked>(
+    validator: &V,
     alloc: Global,
     instance: &Value,
 ) -> Result<usize, AllocError> {
@@ -357,8 +356,8 @@ fn shown_errors(
 }
 
 // What is found, and how many errors an evaluation lists where these are others than so many.
-fn told_and_shown(
-    validator: &BenchValidator,
+fn told_and_shown<V: Asked>(
+    validator: &V,
     alloc: Global,
     instance: &Value,
     errors: Option<u64>,
@@ -372,8 +371,8 @@ fn told_and_shown(
 }
 
 // The errors in the context of the one error, with their contexts.
-fn told_inside(
-    validator: &BenchValidator,
+fn told_inside<V: Asked>(
+    validator: &V,
     alloc: Global,
     instance: &Value,
 ) -> Result<String, AllocError> {
@@ -383,8 +382,8 @@ fn told_inside(
     text
 }
 
-fn told_instances(
-    validator: &BenchValidator,
+fn told_instances<V: Asked>(
+    validator: &V,
     alloc: Global,
     instance: &Value,
 ) -> Result<String, AllocError> {
@@ -395,8 +394,8 @@ fn told_instances(
 }
 
 // All errors behind those that were in the list.
-fn told_twice(
-    validator: &BenchValidator,
+fn told_twice<V: Asked>(
+    validator: &V,
     alloc: Global,
     instance: &Value,
 ) -> Result<String, AllocError> {
@@ -482,8 +481,8 @@ fn trees(alloc: Global, keywords: &[EvaluationNode<'_>]) -> Result<String, Alloc
 }
 
 // What an evaluation shows below its root.
-fn shown_trees(
-    validator: &BenchValidator,
+fn shown_trees<V: Asked>(
+    validator: &V,
     alloc: Global,
     instance: &Value,
 ) -> Result<String, AllocError> {
@@ -501,8 +500,8 @@ fn shown_trees(
 
 // Whether all errors are put into the list, asked a second time where memory was wanting; a refused call leaves the list as it
 // was.
-fn collects_at_last<'a>(
-    validator: &'a BenchValidator,
+fn collects_at_last<'a, V: Asked>(
+    validator: &'a V,
     alloc: Global,
     instance: &'a Value,
     errors: &mut Vec<ValidationError<'a>>,
@@ -513,8 +512,8 @@ fn collects_at_last<'a>(
 }
 
 // How many errors are in a list, and in one that they are put into twice.
-fn two_counts_at_last(
-    validator: &BenchValidator,
+fn two_counts_at_last<V: Asked>(
+    validator: &V,
     alloc: Global,
     instance: &Value,
 ) -> Option<(usize, usize)> {
@@ -535,8 +534,8 @@ fn count_at_last(alloc: Global, evaluation: &Evaluation<'_>) -> Option<usize> {
     }
 }
 
-fn evaluated_count(
-    validator: &BenchValidator,
+fn evaluated_count<V: Asked>(
+    validator: &V,
     alloc: Global,
     instance: &Value,
 ) -> Result<Option<usize>, AllocError> {
@@ -551,8 +550,8 @@ fn evaluated_count(
 }
 
 // The same of an evaluation that is asked for a second time.
-fn evaluated_count_at_last(
-    validator: &BenchValidator,
+fn evaluated_count_at_last<V: Asked>(
+    validator: &V,
     alloc: Global,
     instance: &Value,
 ) -> Option<usize> {
@@ -563,8 +562,8 @@ fn evaluated_count_at_last(
 }
 
 // The first error's line, asked a second time where memory was wanting.
-fn first_line_at_last(
-    validator: &BenchValidator,
+fn first_line_at_last<V: Asked>(
+    validator: &V,
     alloc: Global,
     instance: &Value,
 ) -> Result<String, AllocError> {
@@ -578,8 +577,8 @@ fn first_line_at_last(
 }
 
 // The first error's line, where there are 25 errors, and an evaluation lists 26.
-fn told_at_last(
-    validator: &BenchValidator,
+fn told_at_last<V: Asked>(
+    validator: &V,
     alloc: Global,
     instance: &Value,
 ) -> Result<String, AllocError> {
@@ -613,20 +612,22 @@ pub(crate) enum Found {
     AtLast,
 }
 
-fn found_by(
-    form: Found,
-    validator: &BenchValidator,
-    alloc: Global,
-    instance: &Value,
-) -> Result<String, AllocError> {
-    match form {
-        Found::Told => told(validator, alloc, instance),
-        Found::AndShown(errors) => told_and_shown(validator, alloc, instance, errors),
-        Found::Inside => told_inside(validator, alloc, instance),
-        Found::Instances => told_instances(validator, alloc, instance),
-        Found::Twice => told_twice(validator, alloc, instance),
-        Found::Trees => shown_trees(validator, alloc, instance),
-        Found::AtLast => told_at_last(validator, alloc, instance),
+impl Question for Found {
+    fn told<V: Asked>(
+        &self,
+        validator: &V,
+        alloc: Global,
+        instance: &Value,
+    ) -> Result<String, AllocError> {
+        match self {
+            Found::Told => told(validator, alloc, instance),
+            Found::AndShown(errors) => told_and_shown(validator, alloc, instance, *errors),
+            Found::Inside => told_inside(validator, alloc, instance),
+            Found::Instances => told_instances(validator, alloc, instance),
+            Found::Twice => told_twice(validator, alloc, instance),
+            Found::Trees => shown_trees(validator, alloc, instance),
+            Found::AtLast => told_at_last(validator, alloc, instance),
+        }
     }
 }
 
@@ -637,19 +638,7 @@ impl Form for Found {
         schema: &Value,
         instance: &Value,
     ) -> Result<String, AllocError> {
-        let built = Validator::build(
-            alloc,
-            &BenchLeaves,
-            &BenchRegexes,
-            schema,
-            &mut Meter::new(),
-        );
-        let told = match &built {
-            Ok(validator) => found_by(*self, validator, alloc, instance),
-            Err(error) => refusal(alloc, error),
-        };
-        drop(built);
-        told
+        told_by(self, &BenchLeaves, &BenchRegexes, alloc, schema, instance)
     }
 }
 

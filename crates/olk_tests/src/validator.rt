@@ -1,14 +1,12 @@
 //! What schemas show of values, with a leaf set and a matcher.
-use crate::rows::{Form, Table, expect, refusal};
-use object_logic::Validator;
-use olk_base::{Meter, ValidationContext};
-use olk_low_tests::doubles::{EqualTo, Equality, NoText, NoTexts};
+use crate::asked::{Asked, Question, told_by};
+use crate::rows::{Form, Table, expect};
+use olk_base::ValidationContext;
+use olk_low_tests::doubles::{Equality, NoTexts};
 use olk_reports::{AnnotationEntry, ErrorEntry, Evaluation};
 use serde_json::Value;
 use std::alloc::{AllocError, Global};
 use std::test::Fail;
-
-type PlainValidator = Validator<NoText, EqualTo>;
 
 // A line of its own, with its two places.
 fn push_place(text: &mut String, schema: &str, instance: &str) -> Result<(), AllocError> {
@@ -89,8 +87,8 @@ fn shown_with(
     }
 }
 
-fn evaluated(
-    validator: &PlainValidator,
+fn evaluated<V: Asked>(
+    validator: &V,
     alloc: Global,
     instance: &Value,
 ) -> Result<String, AllocError> {
@@ -108,6 +106,17 @@ fn evaluated(
 #[derive(Drop)]
 struct Shown;
 
+impl Question for Shown {
+    fn told<V: Asked>(
+        &self,
+        validator: &V,
+        alloc: Global,
+        instance: &Value,
+    ) -> Result<String, AllocError> {
+        evaluated(validator, alloc, instance)
+    }
+}
+
 impl Form for Shown {
     fn answer(
         &self,
@@ -115,13 +124,7 @@ impl Form for Shown {
         schema: &Value,
         instance: &Value,
     ) -> Result<String, AllocError> {
-        let built = Validator::build(alloc, &NoTexts, &Equality, schema, &mut Meter::new());
-        let told = match &built {
-            Ok(validator) => evaluated(validator, alloc, instance),
-            Err(error) => refusal(alloc, error),
-        };
-        drop(built);
-        told
+        told_by(self, &NoTexts, &Equality, alloc, schema, instance)
     }
 }
 
