@@ -1,3 +1,4 @@
+use Rattle.olk_check.proofs.Asked.{only_then}
 use Rattle.std.proofs.Common.{ℕ, option_map, option_to_list, is_none, IfOk, arith, length, rules, ◌≡◌, subst, sym, ◌∙◌}
 use Rattle.std.proofs.lemmas.Result.{IfOk-weaker, IfOk-at_ok}
 use Rattle.serde_json.specs.View.{view}
@@ -104,3 +105,27 @@ returns-clause-report g c =
 
 pub returns-clause-memory : goal.returns-clause-memory
 returns-clause-memory g c = let long : c.len-len.result ≡ length c.args.errors.now.items = search rules in then_rolled_back c.roll_back_on_err-2.result c.collect_rest-answer.result c.collect_rest-answer.new.errors.items c.roll_back_on_err-2.new.errors.items c.roll_back_on_err-2.ensures.same c.roll_back_on_err-2.ensures.err c.collect_rest-answer.ensures.memory long c.loop-index.invariant.collecting.so_far.found
+
+pub returns-clause-context : goal.returns-clause-context
+returns-clause-context g c = only_then c.loop-index.invariant.collecting.only c.collect_rest-answer.ensures.context
+
+pub returns-clause-path : goal.returns-clause-path
+returns-clause-path g c = c.collect_rest-answer.ensures.path ∙ c.loop-index.invariant.collecting.path
+
+pub returns-in_err-collect_declared-clause-context : goal.returns-in_err-collect_declared-clause-context
+returns-in_err-collect_declared-clause-context g c = c.collect_declared.ensures.context
+
+pub returns-in_err-collect_declared-clause-path : goal.returns-in_err-collect_declared-clause-path
+returns-in_err-collect_declared-clause-path g c = c.collect_declared.ensures.path
+
+pub returns-in_err-is_match-clause-context : goal.returns-in_err-is_match-clause-context
+returns-in_err-is_match-clause-context g c = only_then c.loop-index.invariant.collecting.only c.collect_if_matched-answer.ensures.context
+
+pub returns-in_err-is_match-clause-path : goal.returns-in_err-is_match-clause-path
+returns-in_err-is_match-clause-path g c = c.collect_if_matched-answer.ensures.path ∙ c.loop-index.invariant.collecting.path
+
+pub returns-then-spoken-clause-context : goal.returns-then-spoken-clause-context
+returns-then-spoken-clause-context g c = c.loop-index.invariant.collecting.only
+
+pub returns-then-spoken-clause-path : goal.returns-then-spoken-clause-path
+returns-then-spoken-clause-path g c = c.loop-index.invariant.collecting.path

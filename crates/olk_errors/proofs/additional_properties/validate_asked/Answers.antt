@@ -1,3 +1,4 @@
+use Rattle.olk_check.proofs.Asked.{only_then}
 use Rattle.std.proofs.Common.{ℕ, option_map, arith, ◌∙◌}
 use Rattle.std.proofs.lemmas.Result.{IfOk-weaker, on_ok_weaker}
 use Rattle.serde_json.specs.View.{view}
@@ -132,3 +133,27 @@ returns-clause-invalid g c =
       value = view c.args.value.now;
     } in
     told_so c.validate_rest.result (rest_refuses w c.loop-index.invariant (past_end c.patterns-entry-items.ensures (omega arith)) c.if-spoken.false) c.validate_rest.ensures.invalid
+
+pub returns-clause-context : goal.returns-clause-context
+returns-clause-context g c = only_then c.loop-index.invariant.passing.only c.validate_rest.ensures.context
+
+pub returns-clause-path : goal.returns-clause-path
+returns-clause-path g c = c.validate_rest.ensures.path ∙ c.loop-index.invariant.passing.path
+
+pub returns-in_err-is_match-clause-context : goal.returns-in_err-is_match-clause-context
+returns-in_err-is_match-clause-context g c = only_then c.loop-index.invariant.passing.only c.validate_if_matched.ensures.context
+
+pub returns-in_err-is_match-clause-path : goal.returns-in_err-is_match-clause-path
+returns-in_err-is_match-clause-path g c = c.validate_if_matched.ensures.path ∙ c.loop-index.invariant.passing.path
+
+pub returns-in_err-validate_declared-clause-context : goal.returns-in_err-validate_declared-clause-context
+returns-in_err-validate_declared-clause-context g c = c.validate_declared.ensures.context
+
+pub returns-in_err-validate_declared-clause-path : goal.returns-in_err-validate_declared-clause-path
+returns-in_err-validate_declared-clause-path g c = c.validate_declared.ensures.path
+
+pub returns-then-spoken-clause-context : goal.returns-then-spoken-clause-context
+returns-then-spoken-clause-context g c = c.loop-index.invariant.passing.only
+
+pub returns-then-spoken-clause-path : goal.returns-then-spoken-clause-path
+returns-then-spoken-clause-path g c = c.loop-index.invariant.passing.path

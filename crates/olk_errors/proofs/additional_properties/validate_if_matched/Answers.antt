@@ -21,3 +21,12 @@ returns-clause-ok g c = one_passes g.N.Means.means g.N.Reports.first g.N.Reports
 
 pub returns-clause-context : goal.returns-clause-context
 returns-clause-context g c = only_then c.if-not-matches_unless_known.ensures.only c.validate_below.ensures.context
+
+pub returns-clause-path : goal.returns-clause-path
+returns-clause-path g c = c.validate_below.ensures.path
+
+pub returns-in_err-validate_below-clause-path : goal.returns-in_err-validate_below-clause-path
+returns-in_err-validate_below-clause-path g c = c.validate_below.ensures.path
+
+pub returns-then-not-matches_unless_known-clause-context : goal.returns-then-not-matches_unless_known-clause-context
+returns-then-not-matches_unless_known-clause-context g c = c.if-not-matches_unless_known.ensures.only

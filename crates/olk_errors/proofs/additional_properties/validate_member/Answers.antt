@@ -48,3 +48,21 @@ returns-clause-ok g c =
       value = view c.args.value.now;
     } in
     expected_passes c.args.keyword.now w c.args.ctx.now.answer (data_of c.args.object) c.args.path.now c.in_ok-validate_asked.ensures.ok c.in_ok-validate_asked.ensures.unexpected c.if-branch.false
+
+pub returns-clause-context : goal.returns-clause-context
+returns-clause-context g c = c.validate_asked.ensures.context
+
+pub returns-clause-path : goal.returns-clause-path
+returns-clause-path g c = c.validate_asked.ensures.path
+
+pub returns-in_err-validate_asked-clause-context : goal.returns-in_err-validate_asked-clause-context
+returns-in_err-validate_asked-clause-context g c = c.validate_asked.ensures.context
+
+pub returns-in_err-validate_asked-clause-path : goal.returns-in_err-validate_asked-clause-path
+returns-in_err-validate_asked-clause-path g c = c.validate_asked.ensures.path
+
+pub returns-then-branch-clause-context : goal.returns-then-branch-clause-context
+returns-then-branch-clause-context g c = c.validate_asked.ensures.context
+
+pub returns-then-branch-clause-path : goal.returns-then-branch-clause-path
+returns-then-branch-clause-path g c = c.validate_asked.ensures.path

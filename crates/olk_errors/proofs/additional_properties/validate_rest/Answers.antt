@@ -13,3 +13,15 @@ returns-in_ok-validate_below-in-Some-clause-ok g c = one_passes g.N.Means.means 
 
 pub returns-in-None-clause-ok : goal.returns-in-None-clause-ok
 returns-in-None-clause-ok g c = none_passes g.N.Means.means g.N.Reports.first g.N.Reports.report (view c.args.value.now) (c.args.path.now // c.args.name.now) c.args.ctx.now.answer (ap option_to_list c.in-None.is)
+
+pub returns-in_err-validate_below-in-Some-clause-path : goal.returns-in_err-validate_below-in-Some-clause-path
+returns-in_err-validate_below-in-Some-clause-path g c = c.validate_below.ensures.path
+
+pub returns-in_err-validate_below-in-Some-clause-context : goal.returns-in_err-validate_below-in-Some-clause-context
+returns-in_err-validate_below-in-Some-clause-context g c = c.validate_below.ensures.context
+
+pub returns-in_ok-validate_below-in-Some-clause-path : goal.returns-in_ok-validate_below-in-Some-clause-path
+returns-in_ok-validate_below-in-Some-clause-path g c = c.validate_below.ensures.path
+
+pub returns-in_ok-validate_below-in-Some-clause-context : goal.returns-in_ok-validate_below-in-Some-clause-context
+returns-in_ok-validate_below-in-Some-clause-context g c = c.validate_below.ensures.context

@@ -68,3 +68,9 @@ returns-in-False-clause-context g c = only_same c.args.ctx.now
 
 pub returns-in-RequiredNames-clause-context : goal.returns-in-RequiredNames-clause-context
 returns-in-RequiredNames-clause-context g c = only_same c.args.ctx.now
+
+pub returns-in_err-children-in-Keywords-clause-path : goal.returns-in_err-children-in-Keywords-clause-path
+returns-in_err-children-in-Keywords-clause-path g c = c.each_child.ensures.path
+
+pub returns-in_ok-children-in-Keywords-clause-path : goal.returns-in_ok-children-in-Keywords-clause-path
+returns-in_ok-children-in-Keywords-clause-path g c = c.each_child.ensures.path

@@ -19,3 +19,15 @@ pub returns-in-None-clause-report : goal.returns-in-None-clause-report
 returns-in-None-clause-report g c = subst (Appends c.args.errors.now.items c.args.errors.now.items)
     (sym (other_finds_nothing g.R.RegexEngine.answers g.R.RegexEngine.costs g.N.Means.means g.N.Reports.first g.N.Reports.report c.args.ctx.now.answer c.args.self.now (data_of c.args.node) c.args.path.now c.in-None.ensures))
     (appends_nothing c.args.errors.now.items)
+
+pub returns-in_err-collect_members-in-Some-clause-context : goal.returns-in_err-collect_members-in-Some-clause-context
+returns-in_err-collect_members-in-Some-clause-context g c = c.collect_members.ensures.context
+
+pub returns-in_err-collect_members-in-Some-clause-path : goal.returns-in_err-collect_members-in-Some-clause-path
+returns-in_err-collect_members-in-Some-clause-path g c = c.collect_members.ensures.path
+
+pub returns-in_ok-collect_members-in-Some-clause-context : goal.returns-in_ok-collect_members-in-Some-clause-context
+returns-in_ok-collect_members-in-Some-clause-context g c = c.collect_members.ensures.context
+
+pub returns-in_ok-collect_members-in-Some-clause-path : goal.returns-in_ok-collect_members-in-Some-clause-path
+returns-in_ok-collect_members-in-Some-clause-path g c = c.collect_members.ensures.path

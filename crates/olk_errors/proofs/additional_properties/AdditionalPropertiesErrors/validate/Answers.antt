@@ -20,3 +20,15 @@ returns-in_ok-validate_members-in-Some-clause-invalid g c = told_so c.validate_r
 
 pub returns-in-None-clause-ok : goal.returns-in-None-clause-ok
 returns-in-None-clause-ok g c = other_passes g.R.RegexEngine.answers g.R.RegexEngine.costs g.N.Means.means g.N.Reports.first g.N.Reports.report c.args.ctx.now.answer c.args.self.now (data_of c.args.node) c.args.path.now c.in-None.ensures
+
+pub returns-in_err-validate_members-in-Some-clause-context : goal.returns-in_err-validate_members-in-Some-clause-context
+returns-in_err-validate_members-in-Some-clause-context g c = c.validate_members.ensures.context
+
+pub returns-in_err-validate_members-in-Some-clause-path : goal.returns-in_err-validate_members-in-Some-clause-path
+returns-in_err-validate_members-in-Some-clause-path g c = c.validate_members.ensures.path
+
+pub returns-in_ok-validate_members-in-Some-clause-context : goal.returns-in_ok-validate_members-in-Some-clause-context
+returns-in_ok-validate_members-in-Some-clause-context g c = c.validate_members.ensures.context
+
+pub returns-in_ok-validate_members-in-Some-clause-path : goal.returns-in_ok-validate_members-in-Some-clause-path
+returns-in_ok-validate_members-in-Some-clause-path g c = c.validate_members.ensures.path

@@ -7,3 +7,21 @@ use Rattle.olk_errors.proofs.one_of.OneOfErrors.validate.Goals as goal
 
 pub returns-in-Some-clause-invalid : goal.returns-in-Some-clause-invalid
 returns-in-Some-clause-invalid g c = told_so c.refuse.result (one_of_error (how_many (λ n. g.N.Means.means n (data_of c.args.node)) c.args.ctx.now.answer c.args.self.now.schemas.items) (map (λ n. g.N.Reports.report n c.args.ctx.now.answer (data_of c.args.node) c.args.path.now) c.args.self.now.schemas.items) (data_of c.args.node) c.args.self.now.location c.args.path.now c.in-Some.is c.in_ok-kind.ensures.kind c.one_of_kind.ensures.path c.as_str.ensures) c.refuse.ensures.invalid
+
+pub returns-in-None-clause-context : goal.returns-in-None-clause-context
+returns-in-None-clause-context g c = c.one_of_kind.ensures.context
+
+pub returns-in-None-clause-path : goal.returns-in-None-clause-path
+returns-in-None-clause-path g c = c.one_of_kind.ensures.path
+
+pub returns-in-Some-clause-context : goal.returns-in-Some-clause-context
+returns-in-Some-clause-context g c = c.one_of_kind.ensures.context
+
+pub returns-in-Some-clause-path : goal.returns-in-Some-clause-path
+returns-in-Some-clause-path g c = c.one_of_kind.ensures.path
+
+pub returns-in_err-kind-clause-context : goal.returns-in_err-kind-clause-context
+returns-in_err-kind-clause-context g c = c.one_of_kind.ensures.context
+
+pub returns-in_err-kind-clause-path : goal.returns-in_err-kind-clause-path
+returns-in_err-kind-clause-path g c = c.one_of_kind.ensures.path

@@ -23,3 +23,9 @@ returns-in-None-clause-report g c = subst (Appends c.args.errors.now.items c.arg
 
 pub returns-in_ok-collect_missing_of_two-in-Some-clause-memory : goal.returns-in_ok-collect_missing_of_two-in-Some-clause-memory
 returns-in_ok-collect_missing_of_two-in-Some-clause-memory g c = grind (arith, common_steps)
+
+pub returns-in_ok-collect_missing_of_two-in-Some-clause-context : goal.returns-in_ok-collect_missing_of_two-in-Some-clause-context
+returns-in_ok-collect_missing_of_two-in-Some-clause-context g c = c.collect_members-answer.ensures.context
+
+pub returns-in_ok-collect_missing_of_two-in-Some-clause-path : goal.returns-in_ok-collect_missing_of_two-in-Some-clause-path
+returns-in_ok-collect_missing_of_two-in-Some-clause-path g c = c.collect_members-answer.ensures.path

@@ -18,3 +18,9 @@ pub returns-in-None-clause-ok : goal.returns-in-None-clause-ok
 returns-in-None-clause-ok g c = both_pass
     (other_lacks_none (two_texts c.args.self.now.first c.args.self.now.second) (data_of c.args.node) c.args.self.now.required_location c.args.path.now c.in-None.ensures)
     (other_passes g.N.Means.means g.N.Reports.first g.N.Reports.report c.args.ctx.now.answer (named c.args.self.now.properties) c.args.path.now (data_of c.args.node) c.in-None.ensures)
+
+pub returns-in_ok-refuse_missing_of_two-in-Some-clause-context : goal.returns-in_ok-refuse_missing_of_two-in-Some-clause-context
+returns-in_ok-refuse_missing_of_two-in-Some-clause-context g c = c.validate_members.ensures.context
+
+pub returns-in_ok-refuse_missing_of_two-in-Some-clause-path : goal.returns-in_ok-refuse_missing_of_two-in-Some-clause-path
+returns-in_ok-refuse_missing_of_two-in-Some-clause-path g c = c.validate_members.ensures.path

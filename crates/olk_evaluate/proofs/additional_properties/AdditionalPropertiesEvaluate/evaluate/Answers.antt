@@ -49,3 +49,9 @@ returns-in_ok-children-in-Some-clause-path g c = c.in_ok-collected-in-Some.ensur
 
 pub returns-in_ok-children-in-Some-clause-context : goal.returns-in_ok-children-in-Some-clause-context
 returns-in_ok-children-in-Some-clause-context g c = c.in_ok-collected-in-Some.ensures.context
+
+pub returns-in_err-collected-in-Some-clause-context : goal.returns-in_err-collected-in-Some-clause-context
+returns-in_err-collected-in-Some-clause-context g c = c.collect.ensures.context
+
+pub returns-in_err-collected-in-Some-clause-path : goal.returns-in_err-collected-in-Some-clause-path
+returns-in_err-collected-in-Some-clause-path g c = c.collect.ensures.path

@@ -1,3 +1,4 @@
+use Rattle.olk_check.proofs.Asked.{only_then}
 use Rattle.std.proofs.Common.{◌≤◌, subst, ◌∙◌}
 use Rattle.std.proofs.lemmas.Result.{IfOk-weaker}
 use mathlib.Core.Path.{subst₂}
@@ -24,3 +25,33 @@ returns-clause-tree g c = one_like g.N.Evaluate.tree g.N.Means.means c.args.ctx.
 
 pub returns-clause-verdict : goal.returns-clause-verdict
 returns-clause-verdict g c = one_verdict g.N.Evaluate.tree g.N.Means.means c.args.ctx.now.answer (data_of c.args.node) c.args.self.now.location c.args.path.now c.args.self.now.schemas.items (trees_of c.in_ok-accepting.accepting.items) c.in_ok-accepting.ensures.shown (one_node c.in_ok-accepting.accepting.items _ c.in_ok-accepting.accepting.ok.0 c.if-is_empty.ensures (subst (λ n. n ≤ 1) c.len.ensures c.if-len-gt1.false)) c.from_children.ensures
+
+pub returns-clause-context : goal.returns-clause-context
+returns-clause-context g c = c.accepting_children.ensures.context
+
+pub returns-clause-path : goal.returns-clause-path
+returns-clause-path g c = c.accepting_children.ensures.path
+
+pub returns-in_err-accepting-clause-context : goal.returns-in_err-accepting-clause-context
+returns-in_err-accepting-clause-context g c = c.accepting_children.ensures.context
+
+pub returns-in_err-accepting-clause-path : goal.returns-in_err-accepting-clause-path
+returns-in_err-accepting-clause-path g c = c.accepting_children.ensures.path
+
+pub returns-in_err-children-clause-context : goal.returns-in_err-children-clause-context
+returns-in_err-children-clause-context g c = only_then c.accepting_children.ensures.context c.each_child.ensures.context
+
+pub returns-in_err-children-clause-path : goal.returns-in_err-children-clause-path
+returns-in_err-children-clause-path g c = c.each_child.ensures.path ∙ c.accepting_children.ensures.path
+
+pub returns-then-is_empty-clause-context : goal.returns-then-is_empty-clause-context
+returns-then-is_empty-clause-context g c = only_then c.accepting_children.ensures.context c.each_child.ensures.context
+
+pub returns-then-is_empty-clause-path : goal.returns-then-is_empty-clause-path
+returns-then-is_empty-clause-path g c = c.each_child.ensures.path ∙ c.accepting_children.ensures.path
+
+pub returns-then-len-gt1-clause-context : goal.returns-then-len-gt1-clause-context
+returns-then-len-gt1-clause-context g c = c.accepting_children.ensures.context
+
+pub returns-then-len-gt1-clause-path : goal.returns-then-len-gt1-clause-path
+returns-then-len-gt1-clause-path g c = c.accepting_children.ensures.path

@@ -14,3 +14,15 @@ returns-in-None-clause-tree g c = other_like g.R.RegexEngine.answers g.N.Evaluat
 
 pub returns-in-None-clause-verdict : goal.returns-in-None-clause-verdict
 returns-in-None-clause-verdict g c = other_verdict g.R.RegexEngine.answers g.N.Evaluate.tree g.N.Means.means c.args.ctx.now.answer c.args.path.now c.args.self.now.patterns.items (data_of c.args.node) c.in-None.ensures c.valid_empty.ensures g.R.RegexEngine.costs c.args.self.now.location
+
+pub returns-in_err-meet_patterns-in-Some-clause-context : goal.returns-in_err-meet_patterns-in-Some-clause-context
+returns-in_err-meet_patterns-in-Some-clause-context g c = c.meet_patterns.ensures.context
+
+pub returns-in_err-meet_patterns-in-Some-clause-path : goal.returns-in_err-meet_patterns-in-Some-clause-path
+returns-in_err-meet_patterns-in-Some-clause-path g c = c.meet_patterns.ensures.path
+
+pub returns-in_ok-meet_patterns-in-Some-clause-context : goal.returns-in_ok-meet_patterns-in-Some-clause-context
+returns-in_ok-meet_patterns-in-Some-clause-context g c = c.meet_patterns.ensures.context
+
+pub returns-in_ok-meet_patterns-in-Some-clause-path : goal.returns-in_ok-meet_patterns-in-Some-clause-path
+returns-in_ok-meet_patterns-in-Some-clause-path g c = c.meet_patterns.ensures.path

@@ -20,3 +20,27 @@ returns-in_ok-with-in-Some-clause-verdict g c =
 
 pub returns-in-None-clause-verdict : goal.returns-in-None-clause-verdict
 returns-in-None-clause-verdict g c = nothing_missing g.N.Evaluate.tree g.N.Means.means c.args.ctx.now.answer c.args.path.now (named c.args.self.now.properties) c.args.self.now.location (data_of c.args.node) (two_texts c.args.self.now.first c.args.self.now.second) c.in-None.ensures c.valid_empty.ensures
+
+pub returns-in_err-met-in-Some-clause-context : goal.returns-in_err-met-in-Some-clause-context
+returns-in_err-met-in-Some-clause-context g c = c.meet.ensures.context
+
+pub returns-in_err-met-in-Some-clause-path : goal.returns-in_err-met-in-Some-clause-path
+returns-in_err-met-in-Some-clause-path g c = c.meet.ensures.path
+
+pub returns-in_err-missing-in-Some-clause-context : goal.returns-in_err-missing-in-Some-clause-context
+returns-in_err-missing-in-Some-clause-context g c = c.meet.ensures.context
+
+pub returns-in_err-missing-in-Some-clause-path : goal.returns-in_err-missing-in-Some-clause-path
+returns-in_err-missing-in-Some-clause-path g c = c.meet.ensures.path
+
+pub returns-in_err-with-in-Some-clause-context : goal.returns-in_err-with-in-Some-clause-context
+returns-in_err-with-in-Some-clause-context g c = c.meet.ensures.context
+
+pub returns-in_err-with-in-Some-clause-path : goal.returns-in_err-with-in-Some-clause-path
+returns-in_err-with-in-Some-clause-path g c = c.meet.ensures.path
+
+pub returns-in_ok-with-in-Some-clause-context : goal.returns-in_ok-with-in-Some-clause-context
+returns-in_ok-with-in-Some-clause-context g c = c.meet.ensures.context
+
+pub returns-in_ok-with-in-Some-clause-path : goal.returns-in_ok-with-in-Some-clause-path
+returns-in_ok-with-in-Some-clause-path g c = c.meet.ensures.path

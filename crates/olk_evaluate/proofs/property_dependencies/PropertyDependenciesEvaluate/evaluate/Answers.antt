@@ -15,3 +15,15 @@ returns-in-None-clause-tree g c = no_child_like g.N.Evaluate.tree g.N.Means.mean
 
 pub returns-in-None-clause-verdict : goal.returns-in-None-clause-verdict
 returns-in-None-clause-verdict g c = no_child_verdict g.N.Evaluate.tree g.N.Means.means c.args.ctx.now.answer (data_of c.args.node) c.args.self.now.location c.args.path.now (chosen_nodes (named c.args.self.now.dependencies) (data_of c.args.node)) (none_chosen (data_of c.args.node) c.in-None.ensures (named c.args.self.now.dependencies)) c.valid_empty.ensures
+
+pub returns-in_err-children-in-Some-clause-context : goal.returns-in_err-children-in-Some-clause-context
+returns-in_err-children-in-Some-clause-context g c = c.chosen_children.ensures.context
+
+pub returns-in_err-children-in-Some-clause-path : goal.returns-in_err-children-in-Some-clause-path
+returns-in_err-children-in-Some-clause-path g c = c.chosen_children.ensures.path
+
+pub returns-in_ok-children-in-Some-clause-context : goal.returns-in_ok-children-in-Some-clause-context
+returns-in_ok-children-in-Some-clause-context g c = c.chosen_children.ensures.context
+
+pub returns-in_ok-children-in-Some-clause-path : goal.returns-in_ok-children-in-Some-clause-path
+returns-in_ok-children-in-Some-clause-path g c = c.chosen_children.ensures.path
