@@ -40,3 +40,33 @@ returns-clause-builds g c = (
 pub returns-clause-form : goal.returns-clause-form
 returns-clause-form g c = restriction_is_formed (kit g.L.Leaf.Leaf g.M.Engine.RegexEngine) g.N.Place.answers (members_view c.args.parent.now.entries) c.args.ctx.now.place c.in_ok-location.field-0 (view c.args.schema.now) _ _ c.in_ok-location.ensures.built c.requires.read c.pop.result (search rules) (record { properties = c.in_ok-properties.properties; patterns = c.in_ok-patterns.patterns }) _ _ (subst (λ Q. NeighbourIsBuilt (kit g.L.Leaf.Leaf g.M.Engine.RegexEngine) (members_view c.args.parent.now.entries) (λ x. DeclaredStand (kit g.L.Leaf.Leaf g.M.Engine.RegexEngine) g.N.Place.answers x (Q // codes "properties")) c.in_ok-properties.properties (codes "properties") Q c.compile_member.new.ctx.meter.now c.compile_properties.new.ctx.meter.now) c.compile_member.ensures.place (c.in_ok-properties.ensures.builds.0)) (subst (λ Q. NeighbourIsBuilt (kit g.L.Leaf.Leaf g.M.Engine.RegexEngine) (members_view c.args.parent.now.entries) (λ x. PatternsStand (kit g.L.Leaf.Leaf g.M.Engine.RegexEngine) g.N.Place.answers (known_of (members_view c.args.parent.now.entries)) x (Q // codes "patternProperties")) c.in_ok-patterns.patterns (codes "patternProperties") Q c.compile_properties.new.ctx.meter.now c.compile_patterns.new.ctx.meter.now) (c.compile_properties.ensures.place ∙ c.compile_member.ensures.place) (c.in_ok-patterns.ensures.builds.0)) (planned c.of-plan.result) c.of-plan.ensures.plan c.in_ok-make.field-0
     (subst (λ Q. IsAdditionalProperties Q c.in_ok-location.field-0.location (is_some c.pop.result) (option_map (λ m. length m.names) c.in_ok-properties.properties) (option_map (λ x. length (zip x.patterns.items x.nodes.items)) c.in_ok-patterns.patterns) (planned c.of-plan.result).fused_one c.in_ok-make.field-0) (c.compile_patterns.ensures.place ∙ c.compile_properties.ensures.place ∙ c.compile_member.ensures.place) c.in_ok-make.ensures.form)
+
+pub returns-clause-place : goal.returns-clause-place
+returns-clause-place g c = c.compile_patterns.ensures.place ∙ c.compile_properties.ensures.place ∙ c.compile_member.ensures.place
+
+pub returns-clause-same_meter : goal.returns-clause-same_meter
+returns-clause-same_meter g c = c.compile_patterns.ensures.same_meter ∙ c.compile_properties.ensures.same_meter ∙ c.compile_member.ensures.same_meter
+
+pub returns-in_err-location-clause-place : goal.returns-in_err-location-clause-place
+returns-in_err-location-clause-place g c = c.compile_member.ensures.place
+
+pub returns-in_err-location-clause-same_meter : goal.returns-in_err-location-clause-same_meter
+returns-in_err-location-clause-same_meter g c = c.compile_member.ensures.same_meter
+
+pub returns-in_err-make-clause-place : goal.returns-in_err-make-clause-place
+returns-in_err-make-clause-place g c = c.compile_patterns.ensures.place ∙ c.compile_properties.ensures.place ∙ c.compile_member.ensures.place
+
+pub returns-in_err-make-clause-same_meter : goal.returns-in_err-make-clause-same_meter
+returns-in_err-make-clause-same_meter g c = c.compile_patterns.ensures.same_meter ∙ c.compile_properties.ensures.same_meter ∙ c.compile_member.ensures.same_meter
+
+pub returns-in_err-patterns-clause-place : goal.returns-in_err-patterns-clause-place
+returns-in_err-patterns-clause-place g c = c.compile_patterns.ensures.place ∙ c.compile_properties.ensures.place ∙ c.compile_member.ensures.place
+
+pub returns-in_err-patterns-clause-same_meter : goal.returns-in_err-patterns-clause-same_meter
+returns-in_err-patterns-clause-same_meter g c = c.compile_patterns.ensures.same_meter ∙ c.compile_properties.ensures.same_meter ∙ c.compile_member.ensures.same_meter
+
+pub returns-in_err-properties-clause-place : goal.returns-in_err-properties-clause-place
+returns-in_err-properties-clause-place g c = c.compile_properties.ensures.place ∙ c.compile_member.ensures.place
+
+pub returns-in_err-properties-clause-same_meter : goal.returns-in_err-properties-clause-same_meter
+returns-in_err-properties-clause-same_meter g c = c.compile_properties.ensures.same_meter ∙ c.compile_member.ensures.same_meter

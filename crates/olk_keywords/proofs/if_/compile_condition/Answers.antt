@@ -40,3 +40,27 @@ returns-clause-form g c = if_is_formed (kit g.L.Leaf.Leaf g.M.Engine.RegexEngine
 
 pub unreachable-requires : goal.unreachable-requires
 unreachable-requires g c = if_without_node (kit g.L.Leaf.Leaf g.M.Engine.RegexEngine) g.N.Place.answers (members_view c.args.parent.now.entries) c.requires.read (view c.args.schema.now) c.args.ctx.now.place c.in_ok-location.field-0 _ _ c.in_ok-location.ensures.built (search rules)
+
+pub returns-clause-place : goal.returns-clause-place
+returns-clause-place g c = c.compile_case-2.ensures.place ∙ c.compile_case.ensures.place ∙ c.compile_member.ensures.place
+
+pub returns-clause-same_meter : goal.returns-clause-same_meter
+returns-clause-same_meter g c = c.compile_case-2.ensures.same_meter ∙ c.compile_case.ensures.same_meter ∙ c.compile_member.ensures.same_meter
+
+pub returns-in_err-else_schema-clause-place : goal.returns-in_err-else_schema-clause-place
+returns-in_err-else_schema-clause-place g c = c.compile_case-2.ensures.place ∙ c.compile_case.ensures.place ∙ c.compile_member.ensures.place
+
+pub returns-in_err-else_schema-clause-same_meter : goal.returns-in_err-else_schema-clause-same_meter
+returns-in_err-else_schema-clause-same_meter g c = c.compile_case-2.ensures.same_meter ∙ c.compile_case.ensures.same_meter ∙ c.compile_member.ensures.same_meter
+
+pub returns-in_err-location-clause-place : goal.returns-in_err-location-clause-place
+returns-in_err-location-clause-place g c = c.compile_member.ensures.place
+
+pub returns-in_err-location-clause-same_meter : goal.returns-in_err-location-clause-same_meter
+returns-in_err-location-clause-same_meter g c = c.compile_member.ensures.same_meter
+
+pub returns-in_err-then_schema-clause-place : goal.returns-in_err-then_schema-clause-place
+returns-in_err-then_schema-clause-place g c = c.compile_case.ensures.place ∙ c.compile_member.ensures.place
+
+pub returns-in_err-then_schema-clause-same_meter : goal.returns-in_err-then_schema-clause-same_meter
+returns-in_err-then_schema-clause-same_meter g c = c.compile_case.ensures.same_meter ∙ c.compile_member.ensures.same_meter

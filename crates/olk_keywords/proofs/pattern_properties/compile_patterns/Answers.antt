@@ -21,3 +21,21 @@ returns-in_err-with_nodes-clause-refused g c = exit _ _ _ c.from_residual-in_err
 
 pub returns-clause-built : goal.returns-clause-built
 returns-clause-built g c = patterns_built (kit g.L.Leaf.Leaf g.M.Engine.RegexEngine) g.N.Place.answers (listed (members_view c.args.patterns.now.entries)) c.in_ok-location.location (c.args.ctx.now.place // codes "patternProperties") c.in_ok-location.ensures c.args.ctx.now.meter.now c.in_ok-compiled.compiled.items c.patterns_of_entries.new.meter c.compile_declared.new.ctx.meter.now c.in_ok-compiled.ensures.read c.in_ok-nodes.nodes.items c.in_ok-nodes.ensures.built c.in_ok-with_nodes.field-0.items c.in_ok-with_nodes.ensures
+
+pub returns-clause-place : goal.returns-clause-place
+returns-clause-place g c = c.compile_declared.ensures.place
+
+pub returns-clause-same_meter : goal.returns-clause-same_meter
+returns-clause-same_meter g c = c.compile_declared.ensures.same_meter
+
+pub returns-in_err-nodes-clause-place : goal.returns-in_err-nodes-clause-place
+returns-in_err-nodes-clause-place g c = c.compile_declared.ensures.place
+
+pub returns-in_err-nodes-clause-same_meter : goal.returns-in_err-nodes-clause-same_meter
+returns-in_err-nodes-clause-same_meter g c = c.compile_declared.ensures.same_meter
+
+pub returns-in_err-with_nodes-clause-place : goal.returns-in_err-with_nodes-clause-place
+returns-in_err-with_nodes-clause-place g c = c.compile_declared.ensures.place
+
+pub returns-in_err-with_nodes-clause-same_meter : goal.returns-in_err-with_nodes-clause-same_meter
+returns-in_err-with_nodes-clause-same_meter g c = c.compile_declared.ensures.same_meter

@@ -23,3 +23,21 @@ returns-in-Err-make-clause-gives g c = (tt, properties_memory (kit g.L.Leaf.Leaf
 
 pub returns-in-Err-clause-gives : goal.returns-in-Err-clause-gives
 returns-in-Err-clause-gives g c = (tt, refuses_member (kit g.L.Leaf.Leaf g.M.Engine.RegexEngine) g.N.Place.answers _ (codes "properties") (view c.args.schema.now) _ _ _ c.in-Err.error refl c.in-Err.ensures.refused)
+
+pub returns-in-Err-clause-place : goal.returns-in-Err-clause-place
+returns-in-Err-clause-place g c = c.compile_member.ensures.place
+
+pub returns-in-Err-clause-same_meter : goal.returns-in-Err-clause-same_meter
+returns-in-Err-clause-same_meter g c = c.compile_member.ensures.same_meter
+
+pub returns-in-Err-make-clause-place : goal.returns-in-Err-make-clause-place
+returns-in-Err-make-clause-place g c = c.compile_member.ensures.place
+
+pub returns-in-Err-make-clause-same_meter : goal.returns-in-Err-make-clause-same_meter
+returns-in-Err-make-clause-same_meter g c = c.compile_member.ensures.same_meter
+
+pub returns-in-Ok-make-clause-place : goal.returns-in-Ok-make-clause-place
+returns-in-Ok-make-clause-place g c = c.compile_member.ensures.place
+
+pub returns-in-Ok-make-clause-same_meter : goal.returns-in-Ok-make-clause-same_meter
+returns-in-Ok-make-clause-same_meter g c = c.compile_member.ensures.same_meter
