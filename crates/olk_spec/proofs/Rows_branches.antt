@@ -20,9 +20,17 @@ pub all_of_none_accepts : rows.All_of_none_accepts
 unfolding literal chars digits meaning malformations_at cost serde_json_on_literals
 all_of_none_accepts = λ u. (refl, refl, refl)
 
+pub one_accepting_branch_of_any_of_is_enough : rows.One_accepting_branch_of_any_of_is_enough
+unfolding literal chars digits meaning malformations_at cost serde_json_on_literals
+one_accepting_branch_of_any_of_is_enough = λ u. (refl, refl, refl)
+
 pub two_accepting_branches_are_too_many : rows.Two_accepting_branches_are_too_many
 unfolding literal chars digits meaning malformations_at cost serde_json_on_literals
 two_accepting_branches_are_too_many = λ u. (refl, refl, refl)
+
+pub three_accepting_branches_are_too_many : rows.Three_accepting_branches_are_too_many
+unfolding literal chars digits meaning malformations_at cost serde_json_on_literals
+three_accepting_branches_are_too_many = λ u. (refl, refl, refl)
 
 pub one_accepting_branch_is_enough : rows.One_accepting_branch_is_enough
 unfolding literal chars digits meaning malformations_at cost serde_json_on_literals
@@ -40,6 +48,14 @@ pub branches_inside_a_branch_tell_theirs : rows.Branches_inside_a_branch_tell_th
 unfolding literal chars digits meaning malformations_at cost serde_json_on_literals
 branches_inside_a_branch_tell_theirs = λ u. (refl, refl, refl)
 
+pub inside_a_member_a_choice_and_its_branches_are_told_there : rows.Inside_a_member_a_choice_and_its_branches_are_told_there
+unfolding literal chars digits meaning malformations_at cost serde_json_on_literals
+inside_a_member_a_choice_and_its_branches_are_told_there = λ u. (refl, refl, refl)
+
+pub one_of_in_a_branch_is_told_of_the_branch : rows.One_of_in_a_branch_is_told_of_the_branch
+unfolding literal chars digits meaning malformations_at cost serde_json_on_literals
+one_of_in_a_branch_is_told_of_the_branch = λ u. (refl, refl, refl)
+
 pub a_negation_shows_its_schema : rows.A_negation_shows_its_schema
 unfolding literal chars digits meaning malformations_at cost serde_json_on_literals
 a_negation_shows_its_schema = λ u. (refl, refl, refl)
@@ -47,6 +63,10 @@ a_negation_shows_its_schema = λ u. (refl, refl, refl)
 pub a_double_negation_shows_the_inner_one : rows.A_double_negation_shows_the_inner_one
 unfolding literal chars digits meaning malformations_at cost serde_json_on_literals
 a_double_negation_shows_the_inner_one = λ u. (refl, refl, refl)
+
+pub inside_a_member_a_negation_is_told_there : rows.Inside_a_member_a_negation_is_told_there
+unfolding literal chars digits meaning malformations_at cost serde_json_on_literals
+inside_a_member_a_negation_is_told_there = λ u. (refl, refl, refl)
 
 pub where_the_condition_fails_else_applies : rows.Where_the_condition_fails_else_applies
 unfolding literal chars digits meaning malformations_at cost serde_json_on_literals
@@ -72,5 +92,9 @@ pub each_branch_of_all_of_is_asked : rows.Each_branch_of_all_of_is_asked
 unfolding literal chars digits meaning malformations_at cost serde_json_on_literals
 each_branch_of_all_of_is_asked = λ u. (refl, refl, refl)
 
+pub the_eleventh_branch_has_position_10 : rows.The_eleventh_branch_has_position_10
+unfolding literal chars digits meaning malformations_at cost serde_json_on_literals
+the_eleventh_branch_has_position_10 = λ u. (refl, refl, refl)
+
 pub rows_branches : rows.Rows_branches
-rows_branches = (any_of_none_refuses, one_of_none_refuses, all_of_none_accepts, two_accepting_branches_are_too_many, one_accepting_branch_is_enough, the_other_branch_is_enough, each_branch_tells_all_that_it_finds, branches_inside_a_branch_tell_theirs, a_negation_shows_its_schema, a_double_negation_shows_the_inner_one, where_the_condition_fails_else_applies, where_the_condition_holds_then_applies, then_alone_is_unread, then_alone_builds, else_alone_is_unread, each_branch_of_all_of_is_asked)
+rows_branches = (any_of_none_refuses, one_of_none_refuses, all_of_none_accepts, one_accepting_branch_of_any_of_is_enough, two_accepting_branches_are_too_many, three_accepting_branches_are_too_many, one_accepting_branch_is_enough, the_other_branch_is_enough, each_branch_tells_all_that_it_finds, branches_inside_a_branch_tell_theirs, inside_a_member_a_choice_and_its_branches_are_told_there, one_of_in_a_branch_is_told_of_the_branch, a_negation_shows_its_schema, a_double_negation_shows_the_inner_one, inside_a_member_a_negation_is_told_there, where_the_condition_fails_else_applies, where_the_condition_holds_then_applies, then_alone_is_unread, then_alone_builds, else_alone_is_unread, each_branch_of_all_of_is_asked, the_eleventh_branch_has_position_10)

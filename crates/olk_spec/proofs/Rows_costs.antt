@@ -92,6 +92,14 @@ pub without_a_table_a_declared_name_asks : rows.Without_a_table_a_declared_name_
 unfolding literal chars digits meaning malformations_at cost serde_json_on_literals
 without_a_table_a_declared_name_asks = (refl, refl)
 
+pub beside_an_additional_schema_there_is_a_table : rows.Beside_an_additional_schema_there_is_a_table
+unfolding literal chars digits meaning malformations_at cost serde_json_on_literals
+beside_an_additional_schema_there_is_a_table = (refl, refl, refl, refl)
+
+pub beside_an_additional_schema_a_declared_name_asks_nothing : rows.Beside_an_additional_schema_a_declared_name_asks_nothing
+unfolding literal chars digits meaning malformations_at cost serde_json_on_literals
+beside_an_additional_schema_a_declared_name_asks_nothing = (refl, refl)
+
 pub a_negation_asks : rows.A_negation_asks
 unfolding literal chars digits meaning malformations_at cost serde_json_on_literals
 a_negation_asks = (refl, refl)
@@ -104,6 +112,34 @@ pub a_condition_asks : rows.A_condition_asks
 unfolding literal chars digits meaning malformations_at cost serde_json_on_literals
 a_condition_asks = (refl, refl)
 
+pub beside_else_a_condition_asks : rows.Beside_else_a_condition_asks
+unfolding literal chars digits meaning malformations_at cost serde_json_on_literals
+beside_else_a_condition_asks = (refl, refl)
+
+pub what_applies_where_the_condition_holds_asks : rows.What_applies_where_the_condition_holds_asks
+unfolding literal chars digits meaning malformations_at cost serde_json_on_literals
+what_applies_where_the_condition_holds_asks = (refl, refl)
+
+pub the_third_branch_of_any_of_asks : rows.The_third_branch_of_any_of_asks
+unfolding literal chars digits meaning malformations_at cost serde_json_on_literals
+the_third_branch_of_any_of_asks = (refl, refl)
+
+pub the_second_branch_of_one_of_asks : rows.The_second_branch_of_one_of_asks
+unfolding literal chars digits meaning malformations_at cost serde_json_on_literals
+the_second_branch_of_one_of_asks = (refl, refl)
+
+pub a_dependent_schema_asks : rows.A_dependent_schema_asks
+unfolding literal chars digits meaning malformations_at cost serde_json_on_literals
+a_dependent_schema_asks = (refl, refl)
+
+pub a_schema_chosen_by_a_text_asks : rows.A_schema_chosen_by_a_text_asks
+unfolding literal chars digits meaning malformations_at cost serde_json_on_literals
+a_schema_chosen_by_a_text_asks = (refl, refl)
+
+pub an_additional_schema_asks : rows.An_additional_schema_asks
+unfolding literal chars digits meaning malformations_at cost serde_json_on_literals
+an_additional_schema_asks = (refl, refl)
+
 pub a_member_and_its_leaf_are_counted : rows.A_member_and_its_leaf_are_counted
 unfolding literal chars digits meaning malformations_at cost serde_json_on_literals
 a_member_and_its_leaf_are_counted = (refl, refl, refl, refl)
@@ -115,6 +151,22 @@ else_alone_is_not_compiled = (refl, refl, refl, refl)
 pub a_schema_of_a_dependency_is_compiled : rows.A_schema_of_a_dependency_is_compiled
 unfolding literal chars digits meaning malformations_at cost serde_json_on_literals
 a_schema_of_a_dependency_is_compiled = (refl, refl, refl, refl)
+
+pub a_dependent_schema_is_compiled : rows.A_dependent_schema_is_compiled
+unfolding literal chars digits meaning malformations_at cost serde_json_on_literals
+a_dependent_schema_is_compiled = (refl, refl, refl, refl)
+
+pub an_additional_schema_is_compiled : rows.An_additional_schema_is_compiled
+unfolding literal chars digits meaning malformations_at cost serde_json_on_literals
+an_additional_schema_is_compiled = (refl, refl, refl, refl)
+
+pub each_branch_of_one_of_is_compiled : rows.Each_branch_of_one_of_is_compiled
+unfolding literal chars digits meaning malformations_at cost serde_json_on_literals
+each_branch_of_one_of_is_compiled = (refl, refl, refl, refl)
+
+pub patterns_in_a_branch_make_matchers : rows.Patterns_in_a_branch_make_matchers
+unfolding literal chars digits meaning malformations_at cost serde_json_on_literals
+patterns_in_a_branch_make_matchers = (refl, refl, refl, refl)
 
 pub a_table_of_65_patterns : rows.A_table_of_65_patterns
 unfolding literal chars digits meaning malformations_at cost serde_json_on_literals
@@ -133,4 +185,4 @@ unfolding literal chars digits meaning malformations_at cost serde_json_on_liter
 one_entry_of_66_is_asked_again = (refl, refl)
 
 pub rows_costs : rows.Rows_costs
-rows_costs = (a_matcher_is_asked_for_a_declared_name, an_unfinished_entry_is_asked_again, tests_make_no_matcher, tests_ask_no_matcher, patterns_beside_true_are_compiled_once, a_table_of_tests_asks_no_matcher, declared_names_ask_no_matcher, other_names_ask_no_matcher, a_condition_that_is_read_is_compiled, a_condition_alone_is_not_compiled, true_for_names_is_not_compiled, false_for_names_is_not_compiled, a_name_list_is_not_compiled, one_of_three_patterns_makes_a_matcher, one_of_three_patterns_asks_a_matcher, schemas_chosen_by_a_text_are_compiled, patterns_inside_patterns_are_asked, each_branch_may_be_asked, each_member_asks_the_matcher, without_additional_properties_there_is_no_table, without_a_table_a_declared_name_asks, a_negation_asks, a_branch_of_one_of_asks, a_condition_asks, a_member_and_its_leaf_are_counted, else_alone_is_not_compiled, a_schema_of_a_dependency_is_compiled, a_table_of_65_patterns, a_table_of_66_patterns, no_entry_of_65_is_asked_again, one_entry_of_66_is_asked_again)
+rows_costs = (a_matcher_is_asked_for_a_declared_name, an_unfinished_entry_is_asked_again, tests_make_no_matcher, tests_ask_no_matcher, patterns_beside_true_are_compiled_once, a_table_of_tests_asks_no_matcher, declared_names_ask_no_matcher, other_names_ask_no_matcher, a_condition_that_is_read_is_compiled, a_condition_alone_is_not_compiled, true_for_names_is_not_compiled, false_for_names_is_not_compiled, a_name_list_is_not_compiled, one_of_three_patterns_makes_a_matcher, one_of_three_patterns_asks_a_matcher, schemas_chosen_by_a_text_are_compiled, patterns_inside_patterns_are_asked, each_branch_may_be_asked, each_member_asks_the_matcher, without_additional_properties_there_is_no_table, without_a_table_a_declared_name_asks, beside_an_additional_schema_there_is_a_table, beside_an_additional_schema_a_declared_name_asks_nothing, a_negation_asks, a_branch_of_one_of_asks, a_condition_asks, beside_else_a_condition_asks, what_applies_where_the_condition_holds_asks, the_third_branch_of_any_of_asks, the_second_branch_of_one_of_asks, a_dependent_schema_asks, a_schema_chosen_by_a_text_asks, an_additional_schema_asks, a_member_and_its_leaf_are_counted, else_alone_is_not_compiled, a_schema_of_a_dependency_is_compiled, a_dependent_schema_is_compiled, an_additional_schema_is_compiled, each_branch_of_one_of_is_compiled, patterns_in_a_branch_make_matchers, a_table_of_65_patterns, a_table_of_66_patterns, no_entry_of_65_is_asked_again, one_entry_of_66_is_asked_again)

@@ -1,18 +1,19 @@
--- More forms of worked rows: whole trees, kinds and instances, and what patterns and characters are to the matcher and to a test.
-use Rattle.std.specs.Prelude.{◌≡◌, ℕ, Bool, true, not, cond, List, [], ◌++◌, map, codes, Option, Some, None}
+-- More forms of worked rows: whole trees, kinds and instances, which texts are promised, and what patterns and characters are to the matcher and to a test.
+use Rattle.std.specs.Prelude.{◌≡◌, ℕ, Bool, true, false, not, cond, List, [], ◌∷◌, ◌++◌, map, codes, Option, Some, None}
 use Rattle.std.specs.List.{flat_map, list_all}
 use Prim.Native.String.{String as Quoted}
 use Rattle.serde_json.specs.Written.{compact_text}
 use Rattle.olk_spec.specs.Names.{Text, Name}
 use Rattle.olk_spec.specs.Json.{json, arr, str}
-use Rattle.olk_spec.specs.World.{Says}
+use Rattle.olk_spec.specs.World.{World, Says}
 use Rattle.olk_spec.specs.Bench.{bench}
 use Rattle.olk_spec.specs.Literals.{is_ecma_whitespace}
 use Rattle.olk_spec.specs.Meanings.{pattern_says}
 use Rattle.olk_spec.specs.Malformed.{malformations_at}
 use Rattle.olk_spec.specs.Faults.{Fault, fault, Kind, AdditionalProperties, AnyOf, OneOfNotValid, OneOfMultipleValid, Not, Required, FalseSchema, PropertyNames, Leaf, SingleType, MultipleTypes, UniqueItems, Regex, Unsupported, LeafRefused}
 use Rattle.olk_spec.specs.Tree.{Tree, node, leaf_node, Trees, no_tree, and_tree, Described, is_valid}
-use Rattle.olk_spec.specs.Answers.{path_text, sorted, found, tree_of}
+use Rattle.olk_spec.specs.Texts.{prints_fraction}
+use Rattle.olk_spec.specs.Answers.{path_text, sorted, lines, found, tree_of}
 
 -- ---- a whole tree: of each node the schema path, the instance path, `invalid` where it is, the names that it shows, its own errors, and in parentheses each child
 
@@ -68,6 +69,21 @@ Tells S v ls = (u : Bool) → sorted (map told (found u (json S) (json v))) ≡ 
 
 abbrev pub Is_refused_as : Quoted → List Quoted → Type 0
 Is_refused_as S ls = sorted (map told (malformations_at bench (json S) [])) ≡ map codes ls
+
+-- this is all that is wrong with it, whatever the leaves and the matcher are
+abbrev pub Is_always_refused : Quoted → List Quoted → Type 0
+Is_always_refused S ls = (W : World) → lines (malformations_at W (json S) []) ≡ map codes ls
+
+-- ---- whether the text of the one fault, or malformation, is promised: where it prints no fraction
+
+abbrev pub Promises_its_text : Quoted → Quoted → Type 0
+Promises_its_text S v = (u : Bool) → map prints_fraction (found u (json S) (json v)) ≡ false ∷ []
+
+abbrev pub Promises_no_text : Quoted → Quoted → Type 0
+Promises_no_text S v = (u : Bool) → map prints_fraction (found u (json S) (json v)) ≡ true ∷ []
+
+abbrev pub Promises_its_refusal : Quoted → Type 0
+Promises_its_refusal S = map prints_fraction (malformations_at bench (json S) []) ≡ false ∷ []
 
 -- ---- what the bench's matcher says of a name, and what the pattern says, which may have a test of its own
 

@@ -2,7 +2,7 @@
 use Rattle.std.specs.Prelude.{◌∷◌, []}
 use Prim.Native.String.{String as Quoted}
 use Rattle.olk_spec.specs.Answers.{Fails, Cuts_to}
-use Rattle.olk_spec.specs.Forms.{Tells, Is_refused_as}
+use Rattle.olk_spec.specs.Forms.{Tells, Is_refused_as, Promises_its_text, Promises_no_text, Promises_its_refusal}
 
 abbrev pub one_of_false : Quoted
 one_of_false = "{\"oneOf\":[false]}"
@@ -91,5 +91,29 @@ A_value_that_is_no_schema = Is_refused_as "{\"not\":5}" ("MultipleTypes of 5 @ \
 abbrev pub Declared_names_in_a_list : Type 0
 Declared_names_in_a_list = Is_refused_as "{\"properties\":[]}" ("SingleType of [] @ \"\", /properties" ∷ [])
 
+abbrev pub A_choice_over_a_whole_number_promises_its_text : Type 0
+A_choice_over_a_whole_number_promises_its_text = Promises_its_text "{\"anyOf\":[false]}" "1"
+
+abbrev pub A_choice_over_a_fraction_promises_no_text : Type 0
+A_choice_over_a_fraction_promises_no_text = Promises_no_text "{\"anyOf\":[false]}" "1.5"
+
+abbrev pub No_accepting_branch_over_a_fraction_promises_no_text : Type 0
+No_accepting_branch_over_a_fraction_promises_no_text = Promises_no_text one_of_false "1.5"
+
+abbrev pub Too_many_accepting_branches_over_a_fraction_promise_no_text : Type 0
+Too_many_accepting_branches_over_a_fraction_promise_no_text = Promises_no_text one_of_three "1.5"
+
+abbrev pub A_negation_over_a_fraction_promises_no_text : Type 0
+A_negation_over_a_fraction_promises_no_text = Promises_no_text "{\"not\":true}" "1.5"
+
+abbrev pub A_name_of_an_object_with_a_fraction_promises_its_text : Type 0
+A_name_of_an_object_with_a_fraction_promises_its_text = Promises_its_text "{\"propertyNames\":{\"not\":true}}" "{\"a\":1.5}"
+
+abbrev pub A_name_whose_own_fault_prints_a_fraction_promises_no_text : Type 0
+A_name_whose_own_fault_prints_a_fraction_promises_no_text = Promises_no_text "{\"propertyNames\":{\"not\":{\"title\":1.5}}}" "{\"a\":1}"
+
+abbrev pub A_refused_name_with_a_fraction_promises_its_text : Type 0
+A_refused_name_with_a_fraction_promises_its_text = Promises_its_refusal "{\"$ref\":1.5}"
+
 abbrev pub Rows_faults : Type 0
-Rows_faults = Where_no_branch_accepts_each_tells_what_it_finds × Where_too_many_accept_each_tells_what_it_finds × The_first_of_two_unexpected_names_is_kept × Beside_patterns_names_are_told × No_accepting_branch × Too_many_accepting_branches × No_choice × A_negation × A_name_keeps_the_fault_inside × A_fault_inside_is_of_the_name × Names_that_are_refused_are_told_of_the_object × Alone_it_is_told_at_the_object × A_false_member × An_unexpected_name_beside_patterns × Two_unexpected_names_are_one_fault × A_dependent_name_is_told_at_the_keyword × A_name_of_a_dependency_is_told_at_the_keyword × A_required_name_is_told_of_the_object × A_leaf_is_told_of_the_value × A_name_that_is_refused × An_item_that_is_no_text × A_repeated_text × A_pattern_that_is_refused × A_value_that_a_leaf_refuses × A_value_that_is_no_schema × Declared_names_in_a_list
+Rows_faults = Where_no_branch_accepts_each_tells_what_it_finds × Where_too_many_accept_each_tells_what_it_finds × The_first_of_two_unexpected_names_is_kept × Beside_patterns_names_are_told × No_accepting_branch × Too_many_accepting_branches × No_choice × A_negation × A_name_keeps_the_fault_inside × A_fault_inside_is_of_the_name × Names_that_are_refused_are_told_of_the_object × Alone_it_is_told_at_the_object × A_false_member × An_unexpected_name_beside_patterns × Two_unexpected_names_are_one_fault × A_dependent_name_is_told_at_the_keyword × A_name_of_a_dependency_is_told_at_the_keyword × A_required_name_is_told_of_the_object × A_leaf_is_told_of_the_value × A_name_that_is_refused × An_item_that_is_no_text × A_repeated_text × A_pattern_that_is_refused × A_value_that_a_leaf_refuses × A_value_that_is_no_schema × Declared_names_in_a_list × A_choice_over_a_whole_number_promises_its_text × A_choice_over_a_fraction_promises_no_text × No_accepting_branch_over_a_fraction_promises_no_text × Too_many_accepting_branches_over_a_fraction_promise_no_text × A_negation_over_a_fraction_promises_no_text × A_name_of_an_object_with_a_fraction_promises_its_text × A_name_whose_own_fault_prints_a_fraction_promises_no_text × A_refused_name_with_a_fraction_promises_its_text

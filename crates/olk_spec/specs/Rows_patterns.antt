@@ -20,6 +20,9 @@ no_whitespace = "{\"patternProperties\":{\"^\\\\S*$\":false}}"
 abbrev pub slow_false : Quoted
 slow_false = "{\"patternProperties\":{\"(slow)a\":false}}"
 
+abbrev pub slow_closed : Quoted
+slow_closed = "{\"patternProperties\":{\"(slow)x\":{}},\"additionalProperties\":false}"
+
 abbrev pub closed_suffix : Quoted
 closed_suffix = "{\"properties\":{\"a\":{},\"bspam\":{}},\"patternProperties\":{\"spam$\":{}},\"additionalProperties\":false}"
 
@@ -80,6 +83,9 @@ A_line_separator_is_white_space = Holds no_whitespace "{\"\\u2028\":1}"
 abbrev pub The_first_and_last_of_each_run_are_white_space : Type 0
 The_first_and_last_of_each_run_are_white_space = Are_white_space (0x9 ∷ 0xd ∷ 0x20 ∷ 0xa0 ∷ 0x1680 ∷ 0x2000 ∷ 0x200a ∷ 0x2028 ∷ 0x2029 ∷ 0x202f ∷ 0x205f ∷ 0x3000 ∷ 0xfeff ∷ [])
 
+abbrev pub All_25_characters_are_white_space : Type 0
+All_25_characters_are_white_space = Are_white_space (0x9 ∷ 0xa ∷ 0xb ∷ 0xc ∷ 0xd ∷ 0x20 ∷ 0xa0 ∷ 0x1680 ∷ 0x2000 ∷ 0x2001 ∷ 0x2002 ∷ 0x2003 ∷ 0x2004 ∷ 0x2005 ∷ 0x2006 ∷ 0x2007 ∷ 0x2008 ∷ 0x2009 ∷ 0x200a ∷ 0x2028 ∷ 0x2029 ∷ 0x202f ∷ 0x205f ∷ 0x3000 ∷ 0xfeff ∷ [])
+
 abbrev pub Their_neighbours_are_no_white_space : Type 0
 Their_neighbours_are_no_white_space = Are_no_white_space (0x8 ∷ 0xe ∷ 0x1f ∷ 0x21 ∷ 0x85 ∷ 0x9f ∷ 0xa1 ∷ 0x167f ∷ 0x1681 ∷ 0x180e ∷ 0x1fff ∷ 0x200b ∷ 0x2027 ∷ 0x202a ∷ 0x202e ∷ 0x2030 ∷ 0x205e ∷ 0x2060 ∷ 0x2fff ∷ 0x3001 ∷ 0xfefe ∷ 0xff00 ∷ [])
 
@@ -89,11 +95,20 @@ An_exact_name_is_no_prefix = Holds "{\"patternProperties\":{\"^a$\":false}}" "{\
 abbrev pub Alternatives_are_no_prefixes : Type 0
 Alternatives_are_no_prefixes = Holds "{\"patternProperties\":{\"^(a|b)$\":false}}" "{\"ab\":1}"
 
+abbrev pub The_third_alternative_matches : Type 0
+The_third_alternative_matches = Fails "{\"patternProperties\":{\"^(a|b|c)$\":false}}" "{\"c\":1}" ("False schema does not allow 1 @ /c, /patternProperties/^(a|b|c)$" ∷ [])
+
 abbrev pub An_unfinished_match_of_the_text_itself_counts : Type 0
 An_unfinished_match_of_the_text_itself_counts = Fails_under true slow_false "{\"a\":1}" ("False schema does not allow 1 @ /a, /patternProperties/(slow)a" ∷ [])
 
 abbrev pub An_unfinished_match_inside_a_name_counts : Type 0
 An_unfinished_match_inside_a_name_counts = Fails_under true slow_false "{\"ba\":1}" ("False schema does not allow 1 @ /ba, /patternProperties/(slow)a" ∷ [])
+
+abbrev pub A_name_is_not_additional_if_an_unfinished_match_counts : Type 0
+A_name_is_not_additional_if_an_unfinished_match_counts = Holds_under true slow_closed "{\"x\":1}"
+
+abbrev pub A_name_is_additional_if_an_unfinished_match_does_not_count : Type 0
+A_name_is_additional_if_an_unfinished_match_does_not_count = Fails_under false slow_closed "{\"x\":1}" ("Additional properties are not allowed ('x' was unexpected) @ \"\", /additionalProperties" ∷ [])
 
 abbrev pub Two_patterns_are_both_asked : Type 0
 Two_patterns_are_both_asked = Holds "{\"patternProperties\":{\"^x\":{},\"spam$\":{\"type\":\"integer\"}}}" "{\"x1\":\"t\"}"
@@ -176,8 +191,17 @@ Open_alternatives_are_no_test = Is_no_pattern "^foo|bar"
 abbrev pub A_group_is_no_test : Type 0
 A_group_is_no_test = Is_no_pattern "^foo(bar)"
 
+abbrev pub A_number_in_braces_is_no_test : Type 0
+A_number_in_braces_is_no_test = Is_no_pattern "^a{2}"
+
 abbrev pub A_digit_is_no_test : Type 0
 A_digit_is_no_test = Is_no_pattern "^foo\\d"
+
+abbrev pub A_word_character_is_no_test : Type 0
+A_word_character_is_no_test = Is_no_pattern "^a\\w"
+
+abbrev pub An_escaped_hyphen_is_no_test : Type 0
+An_escaped_hyphen_is_no_test = Is_no_pattern "^a\\-"
 
 abbrev pub An_escaped_dollar_is_no_suffix : Type 0
 An_escaped_dollar_is_no_suffix = Is_no_pattern "foo\\$"
@@ -192,4 +216,4 @@ abbrev pub A_dot_is_no_suffix : Type 0
 A_dot_is_no_suffix = Is_no_pattern "fo.o$"
 
 abbrev pub Rows_patterns : Type 0
-Rows_patterns = All_four_faults_are_told × A_declared_name_meets_its_patterns_too × All_unexpected_names_are_told × The_first_unexpected_name_is_kept × An_unfinished_match_that_counts × An_unfinished_match_that_does_not_count × Alone_an_unfinished_match_counts × Alone_an_unfinished_match_does_not_count × A_finished_match_counts_under_both × A_space_is_white_space × A_byte_order_mark_is_white_space × A_name_without_white_space_matches × A_name_is_additional_if_nothing_holds_or_matches_it × A_suffix_stands_at_the_end × Next_line_is_no_white_space × A_line_separator_is_white_space × The_first_and_last_of_each_run_are_white_space × Their_neighbours_are_no_white_space × An_exact_name_is_no_prefix × Alternatives_are_no_prefixes × An_unfinished_match_of_the_text_itself_counts × An_unfinished_match_inside_a_name_counts × Two_patterns_are_both_asked × Declared_and_matching_names_are_expected × A_matching_name_is_expected × The_last_of_65_patterns_matches × The_first_of_66_patterns_does_not_count × The_first_of_66_patterns_counts × Prefix_of_letters × Prefix_with_a_hyphen × Prefix_with_a_slash × Prefix_with_an_escaped_slash × Exact_letters × Exact_with_an_escaped_dollar × Prefix_that_ends_in_a_dollar × Alternatives × No_white_space × Suffix_of_letters × Suffix_that_is_a_dollar × Letters_alone_are_no_test × An_anchor_alone_is_no_test × Two_anchors_are_no_test × One_alternative_is_no_test × A_star_is_no_test × A_plus_is_no_test × A_question_mark_is_no_test × A_class_is_no_test × Open_alternatives_are_no_test × A_group_is_no_test × A_digit_is_no_test × An_escaped_dollar_is_no_suffix × A_dollar_alone_is_no_suffix × A_group_is_no_suffix × A_dot_is_no_suffix
+Rows_patterns = All_four_faults_are_told × A_declared_name_meets_its_patterns_too × All_unexpected_names_are_told × The_first_unexpected_name_is_kept × An_unfinished_match_that_counts × An_unfinished_match_that_does_not_count × Alone_an_unfinished_match_counts × Alone_an_unfinished_match_does_not_count × A_finished_match_counts_under_both × A_space_is_white_space × A_byte_order_mark_is_white_space × A_name_without_white_space_matches × A_name_is_additional_if_nothing_holds_or_matches_it × A_suffix_stands_at_the_end × Next_line_is_no_white_space × A_line_separator_is_white_space × The_first_and_last_of_each_run_are_white_space × All_25_characters_are_white_space × Their_neighbours_are_no_white_space × An_exact_name_is_no_prefix × Alternatives_are_no_prefixes × The_third_alternative_matches × An_unfinished_match_of_the_text_itself_counts × An_unfinished_match_inside_a_name_counts × A_name_is_not_additional_if_an_unfinished_match_counts × A_name_is_additional_if_an_unfinished_match_does_not_count × Two_patterns_are_both_asked × Declared_and_matching_names_are_expected × A_matching_name_is_expected × The_last_of_65_patterns_matches × The_first_of_66_patterns_does_not_count × The_first_of_66_patterns_counts × Prefix_of_letters × Prefix_with_a_hyphen × Prefix_with_a_slash × Prefix_with_an_escaped_slash × Exact_letters × Exact_with_an_escaped_dollar × Prefix_that_ends_in_a_dollar × Alternatives × No_white_space × Suffix_of_letters × Suffix_that_is_a_dollar × Letters_alone_are_no_test × An_anchor_alone_is_no_test × Two_anchors_are_no_test × One_alternative_is_no_test × A_star_is_no_test × A_plus_is_no_test × A_question_mark_is_no_test × A_class_is_no_test × Open_alternatives_are_no_test × A_group_is_no_test × A_number_in_braces_is_no_test × A_digit_is_no_test × A_word_character_is_no_test × An_escaped_hyphen_is_no_test × An_escaped_dollar_is_no_suffix × A_dollar_alone_is_no_suffix × A_group_is_no_suffix × A_dot_is_no_suffix

@@ -78,6 +78,15 @@ Alone_its_instance_is_the_first_value = Is_about "{\"additionalProperties\":fals
 abbrev pub Additional_members_meet_their_schema : Type 0
 Additional_members_meet_their_schema = Fails "{\"additionalProperties\":{\"type\":\"integer\"},\"properties\":{\"foo\":{}}}" "{\"foo\":\"x\",\"bar\":\"a\"}" ("\"a\" is not of type \"integer\" @ /bar, /additionalProperties/type" ∷ [])
 
+abbrev pub An_unexpected_member_is_told_at_its_object : Type 0
+An_unexpected_member_is_told_at_its_object = Fails "{\"properties\":{\"a\":{\"properties\":{},\"additionalProperties\":false}}}" "{\"a\":{\"b\":1}}" ("Additional properties are not allowed ('b' was unexpected) @ /a, /properties/a/additionalProperties" ∷ [])
+
+abbrev pub A_missing_member_is_told_at_its_object : Type 0
+A_missing_member_is_told_at_its_object = Fails "{\"properties\":{\"a\":{\"required\":[\"b\"]}}}" "{\"a\":{}}" ("\"b\" is a required property @ /a, /properties/a/required" ∷ [])
+
+abbrev pub In_a_branch_an_unexpected_member_is_told_of_the_branch : Type 0
+In_a_branch_an_unexpected_member_is_told_of_the_branch = Fails "{\"allOf\":[{\"properties\":{},\"additionalProperties\":false}]}" "{\"b\":1}" ("Additional properties are not allowed ('b' was unexpected) @ \"\", /allOf/0/additionalProperties" ∷ [])
+
 abbrev pub A_fifth_container_is_asked : Type 0
 A_fifth_container_is_asked = Fails five_arrays "{\"a\":[],\"b\":[],\"c\":[],\"d\":[],\"e\":{},\"id\":1}" ("{} is not of type \"array\" @ /e, /properties/e/type" ∷ [])
 
@@ -109,4 +118,4 @@ abbrev pub Other_values_pass : Type 0
 Other_values_pass = Holds "{\"properties\":{\"a\":false},\"required\":[\"a\"],\"additionalProperties\":false,\"patternProperties\":{\"\":false},\"propertyNames\":false,\"dependentRequired\":{\"a\":[\"b\"]},\"dependentSchemas\":{\"a\":false},\"dependencies\":{\"a\":false},\"propertyDependencies\":{\"a\":{\"b\":false}}}" "[1]"
 
 abbrev pub Rows_properties : Type 0
-Rows_properties = Extra_members_are_accepted × Missing_and_wrong_are_both_told × A_wrong_member_alone_is_told × Names_that_differ_early_are_told_apart × Names_that_differ_in_the_middle_are_told_apart × A_near_name_is_not_refused × A_false_schema_refuses_its_name × A_name_required_twice_is_met_once × A_name_required_twice_is_missing_twice × A_required_name_may_be_unexpected × A_required_undeclared_name_is_missing × Unexpected_and_missing_are_both_told × A_required_undeclared_name_may_be_present × No_declared_names_are_still_declared × Alone_it_is_a_false_schema_over_the_first_member × Alone_its_instance_is_the_first_value × Additional_members_meet_their_schema × A_fifth_container_is_asked × Five_containers_are_accepted × The_last_of_14_names_is_asked × The_last_of_14_names_is_asked_alone × The_last_of_15_names_is_asked × The_last_of_15_names_is_asked_alone × The_last_of_16_names_is_asked × The_last_of_16_names_is_asked_alone × Paths_are_escaped × Other_values_pass
+Rows_properties = Extra_members_are_accepted × Missing_and_wrong_are_both_told × A_wrong_member_alone_is_told × Names_that_differ_early_are_told_apart × Names_that_differ_in_the_middle_are_told_apart × A_near_name_is_not_refused × A_false_schema_refuses_its_name × A_name_required_twice_is_met_once × A_name_required_twice_is_missing_twice × A_required_name_may_be_unexpected × A_required_undeclared_name_is_missing × Unexpected_and_missing_are_both_told × A_required_undeclared_name_may_be_present × No_declared_names_are_still_declared × Alone_it_is_a_false_schema_over_the_first_member × Alone_its_instance_is_the_first_value × Additional_members_meet_their_schema × An_unexpected_member_is_told_at_its_object × A_missing_member_is_told_at_its_object × In_a_branch_an_unexpected_member_is_told_of_the_branch × A_fifth_container_is_asked × Five_containers_are_accepted × The_last_of_14_names_is_asked × The_last_of_14_names_is_asked_alone × The_last_of_15_names_is_asked × The_last_of_15_names_is_asked_alone × The_last_of_16_names_is_asked × The_last_of_16_names_is_asked_alone × Paths_are_escaped × Other_values_pass

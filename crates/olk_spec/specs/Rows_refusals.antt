@@ -1,6 +1,7 @@
 -- Malformed schemas, each with all that is wrong with it.
 use Rattle.std.specs.Prelude.{◌∷◌, []}
 use Rattle.olk_spec.specs.Answers.{Is_refused, Builds, Are_refused}
+use Rattle.olk_spec.specs.Forms.{Is_always_refused}
 
 abbrev pub A_refused_pattern : Type 0
 A_refused_pattern = Is_refused "{\"patternProperties\":{\"a/b~(\":{}}}" ("\"a/b~(\" is not a \"regex\" @ \"\", /patternProperties/a~1b~0(" ∷ [])
@@ -59,6 +60,42 @@ The_first_of_two_items_that_are_no_texts = Is_refused "{\"required\":[1,2]}" ("1
 abbrev pub A_name_repeated_behind_another : Type 0
 A_name_repeated_behind_another = Is_refused "{\"dependentRequired\":{\"a\":[\"b\",\"c\",\"b\"]}}" ("[\"b\",\"c\",\"b\"] has non-unique elements @ \"\", /dependentRequired/a" ∷ [])
 
+abbrev pub A_name_repeated_after_another : Type 0
+A_name_repeated_after_another = Is_refused "{\"dependentRequired\":{\"a\":[\"c\",\"b\",\"b\"]}}" ("[\"c\",\"b\",\"b\"] has non-unique elements @ \"\", /dependentRequired/a" ∷ [])
+
+abbrev pub Beside_else_a_condition_is_read : Type 0
+Beside_else_a_condition_is_read = Is_refused "{\"if\":5,\"else\":{}}" ("5 is not of types \"boolean\", \"object\" @ \"\", /if" ∷ [])
+
+abbrev pub Beside_patterns_an_additional_schema_is_read : Type 0
+Beside_patterns_an_additional_schema_is_read = Is_refused "{\"patternProperties\":{},\"additionalProperties\":{\"not\":5}}" ("5 is not of types \"boolean\", \"object\" @ \"\", /additionalProperties/not" ∷ [])
+
+abbrev pub The_second_branch_of_one_of_is_read : Type 0
+The_second_branch_of_one_of_is_read = Is_refused "{\"oneOf\":[{},5]}" ("5 is not of types \"boolean\", \"object\" @ \"\", /oneOf/1" ∷ [])
+
+abbrev pub The_second_dependent_schema_is_read : Type 0
+The_second_dependent_schema_is_read = Is_refused "{\"dependentSchemas\":{\"a\":{},\"b\":5}}" ("5 is not of types \"boolean\", \"object\" @ \"\", /dependentSchemas/b" ∷ [])
+
+abbrev pub The_second_schema_of_dependencies_is_read : Type 0
+The_second_schema_of_dependencies_is_read = Is_refused "{\"dependencies\":{\"a\":{},\"b\":5}}" ("5 is not of types \"boolean\", \"object\" @ \"\", /dependencies/b" ∷ [])
+
+abbrev pub The_second_list_of_dependencies_is_checked : Type 0
+The_second_list_of_dependencies_is_checked = Is_refused "{\"dependencies\":{\"a\":[],\"b\":[5]}}" ("5 is not of type \"string\" @ \"\", /dependencies" ∷ [])
+
+abbrev pub The_second_entry_of_property_dependencies_is_checked : Type 0
+The_second_entry_of_property_dependencies_is_checked = Is_refused "{\"propertyDependencies\":{\"a\":{},\"b\":5}}" ("5 is not of type \"object\" @ \"\", /propertyDependencies/b" ∷ [])
+
+abbrev pub The_second_entry_of_property_dependencies_is_read : Type 0
+The_second_entry_of_property_dependencies_is_read = Is_refused "{\"propertyDependencies\":{\"a\":{},\"b\":{\"x\":5}}}" ("5 is not of types \"boolean\", \"object\" @ \"\", /propertyDependencies/b/x" ∷ [])
+
+abbrev pub Each_refused_pattern_is_told : Type 0
+Each_refused_pattern_is_told = Is_refused "{\"patternProperties\":{\"a(\":{},\"b(\":{}}}" ("\"a(\" is not a \"regex\" @ \"\", /patternProperties/a(" ∷ "\"b(\" is not a \"regex\" @ \"\", /patternProperties/b(" ∷ [])
+
+abbrev pub Each_entry_that_is_no_list_is_told : Type 0
+Each_entry_that_is_no_list_is_told = Is_refused "{\"dependentRequired\":{\"a\":5,\"b\":5}}" ("5 is not of type \"array\" @ \"\", /dependentRequired/a" ∷ "5 is not of type \"array\" @ \"\", /dependentRequired/b" ∷ [])
+
+abbrev pub A_reference_is_refused_whatever_the_leaves_read : Type 0
+A_reference_is_refused_whatever_the_leaves_read = Is_always_refused "{\"$ref\":\"#\"}" ("\"$ref\" is not supported here @ \"\", /$ref" ∷ [])
+
 abbrev pub At_the_root : Type 0
 At_the_root = Are_refused (("5", "5 is not of types \"boolean\", \"object\" @ \"\", \"\"") ∷ ("{\"properties\":5}", "5 is not of type \"object\" @ \"\", /properties") ∷ ("{\"patternProperties\":5}", "5 is not of type \"object\" @ \"\", /patternProperties") ∷ ("{\"dependentRequired\":5}", "5 is not of type \"object\" @ \"\", /dependentRequired") ∷ ("{\"dependentSchemas\":5}", "5 is not of type \"object\" @ \"\", /dependentSchemas") ∷ ("{\"dependencies\":5}", "5 is not of type \"object\" @ \"\", /dependencies") ∷ ("{\"propertyDependencies\":5}", "5 is not of type \"object\" @ \"\", /propertyDependencies") ∷ ("{\"required\":5}", "5 is not of type \"array\" @ \"\", /required") ∷ ("{\"allOf\":5}", "5 is not of type \"array\" @ \"\", /allOf") ∷ ("{\"anyOf\":5}", "5 is not of type \"array\" @ \"\", /anyOf") ∷ ("{\"oneOf\":5}", "5 is not of type \"array\" @ \"\", /oneOf") ∷ ("{\"$ref\":5}", "\"$ref\" is not supported here @ \"\", /$ref") ∷ ("{\"$dynamicRef\":5}", "\"$dynamicRef\" is not supported here @ \"\", /$dynamicRef") ∷ ("{\"$recursiveRef\":5}", "\"$recursiveRef\" is not supported here @ \"\", /$recursiveRef") ∷ ("{\"unevaluatedProperties\":5}", "\"unevaluatedProperties\" is not supported here @ \"\", /unevaluatedProperties") ∷ ("{\"unevaluatedItems\":5}", "\"unevaluatedItems\" is not supported here @ \"\", /unevaluatedItems") ∷ ("{\"additionalProperties\":5}", "5 is not of types \"boolean\", \"object\" @ \"\", /additionalProperties") ∷ ("{\"patternProperties\":{\"(\":{}}}", "\"(\" is not a \"regex\" @ \"\", /patternProperties/(") ∷ ("{\"required\":[5]}", "5 is not of type \"string\" @ \"\", /required") ∷ ("{\"dependentRequired\":{\"a\":5}}", "5 is not of type \"array\" @ \"\", /dependentRequired/a") ∷ ("{\"dependentRequired\":{\"a\":[\"b\",\"b\"]}}", "[\"b\",\"b\"] has non-unique elements @ \"\", /dependentRequired/a") ∷ ("{\"dependentRequired\":{\"a\":[5]}}", "5 is not of type \"string\" @ \"\", /dependentRequired") ∷ ("{\"dependencies\":{\"a\":[5]}}", "5 is not of type \"string\" @ \"\", /dependencies") ∷ ("{\"propertyDependencies\":{\"a\":5}}", "5 is not of type \"object\" @ \"\", /propertyDependencies/a") ∷ ("{\"type\":5}", "5 is not a value for \"type\" @ \"\", /type") ∷ [])
 
@@ -107,6 +144,9 @@ In_else = Are_refused (("{\"if\":{},\"else\":5}", "5 is not of types \"boolean\"
 abbrev pub A_condition_alone_builds : Type 0
 A_condition_alone_builds = Builds "{\"if\":5}"
 
+abbrev pub An_ignored_keyword_holds_no_schema : Type 0
+An_ignored_keyword_holds_no_schema = Builds "{\"x\":{\"$ref\":1}}"
+
 abbrev pub Names_that_are_neither_false_nor_an_object_build : Type 0
 Names_that_are_neither_false_nor_an_object_build = Builds "{\"propertyNames\":5}"
 
@@ -123,4 +163,4 @@ abbrev pub A_dependency_may_list_a_name_twice : Type 0
 A_dependency_may_list_a_name_twice = Builds "{\"dependencies\":{\"a\":[\"b\",\"b\"]}}"
 
 abbrev pub Rows_refusals : Type 0
-Rows_refusals = A_refused_pattern × Declared_names_that_are_no_object × A_reference_inside × A_list_with_a_repeated_name × A_read_condition_that_is_no_schema × A_branch_that_is_no_schema × A_leaf_value_that_does_not_fit × A_listed_name_that_is_no_text × Equal_items_that_are_no_texts × A_repeated_name_before_another_item × Additional_properties_that_are_no_schema × A_required_item_that_is_no_text × A_reference_in_a_branch × Property_dependencies_that_are_no_object × An_entry_of_property_dependencies_that_is_no_object × A_schema_of_property_dependencies_that_is_none × A_root_that_is_no_schema × The_first_of_two_items_that_are_no_texts × A_name_repeated_behind_another × At_the_root × In_properties × In_pattern_properties × In_additional_properties × In_property_names × In_dependent_schemas × In_dependencies × In_property_dependencies × In_all_of × In_any_of × In_one_of × In_not × In_if × In_then × In_else × A_condition_alone_builds × Names_that_are_neither_false_nor_an_object_build × Null_for_names_builds × A_test_that_the_matcher_refuses_builds × Else_alone_builds × A_dependency_may_list_a_name_twice
+Rows_refusals = A_refused_pattern × Declared_names_that_are_no_object × A_reference_inside × A_list_with_a_repeated_name × A_read_condition_that_is_no_schema × A_branch_that_is_no_schema × A_leaf_value_that_does_not_fit × A_listed_name_that_is_no_text × Equal_items_that_are_no_texts × A_repeated_name_before_another_item × Additional_properties_that_are_no_schema × A_required_item_that_is_no_text × A_reference_in_a_branch × Property_dependencies_that_are_no_object × An_entry_of_property_dependencies_that_is_no_object × A_schema_of_property_dependencies_that_is_none × A_root_that_is_no_schema × The_first_of_two_items_that_are_no_texts × A_name_repeated_behind_another × A_name_repeated_after_another × Beside_else_a_condition_is_read × Beside_patterns_an_additional_schema_is_read × The_second_branch_of_one_of_is_read × The_second_dependent_schema_is_read × The_second_schema_of_dependencies_is_read × The_second_list_of_dependencies_is_checked × The_second_entry_of_property_dependencies_is_checked × The_second_entry_of_property_dependencies_is_read × Each_refused_pattern_is_told × Each_entry_that_is_no_list_is_told × A_reference_is_refused_whatever_the_leaves_read × At_the_root × In_properties × In_pattern_properties × In_additional_properties × In_property_names × In_dependent_schemas × In_dependencies × In_property_dependencies × In_all_of × In_any_of × In_one_of × In_not × In_if × In_then × In_else × A_condition_alone_builds × An_ignored_keyword_holds_no_schema × Names_that_are_neither_false_nor_an_object_build × Null_for_names_builds × A_test_that_the_matcher_refuses_builds × Else_alone_builds × A_dependency_may_list_a_name_twice

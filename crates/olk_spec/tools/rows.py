@@ -32,6 +32,10 @@ MORE_FORMS = {
     "Has_tree": "λ u. refl",
     "Tells": "λ u. refl",
     "Is_refused_as": "refl",
+    "Is_always_refused": "λ W. refl",
+    "Promises_its_text": "λ u. refl",
+    "Promises_no_text": "λ u. refl",
+    "Promises_its_refusal": "refl",
     "Says_of": "(refl, refl)",
     "Are_white_space": "refl",
     "Are_no_white_space": "refl",
@@ -133,6 +137,15 @@ class Group:
 
     def is_refused_as(self, name, schema, lines):
         self.add(name, "Is_refused_as", self.text_of(schema), texts(ordered(lines)))
+
+    def is_always_refused(self, name, schema, lines):
+        self.add(name, "Is_always_refused", self.text_of(schema), texts(ordered(lines)))
+
+    def promises(self, name, schema, value, yes):
+        self.add(name, "Promises_its_text" if yes else "Promises_no_text", self.text_of(schema), quoted_json(value))
+
+    def promises_its_refusal(self, name, schema):
+        self.add(name, "Promises_its_refusal", self.text_of(schema))
 
     def says_of(self, name, pattern, member, matcher, answer):
         self.add(name, "Says_of", quote(pattern), quote(member), matcher, answer)
@@ -240,6 +253,13 @@ def properties():
     g.is_about("Alone_its_instance_is_the_first_value", '{"additionalProperties":false}', '{"y":2,"x":1}', ["1"])
     g.fails("Additional_members_meet_their_schema", '{"additionalProperties":{"type":"integer"},"properties":{"foo":{}}}', '{"foo":"x","bar":"a"}',
             ['"a" is not of type "integer" @ /bar, /additionalProperties/type'])
+    for name, inner, value, line in (
+        ("An_unexpected_member_is_told_at_its_object", '{"properties":{},"additionalProperties":false}', '{"b":1}', "Additional properties are not allowed ('b' was unexpected) @ /a, /properties/a/additionalProperties"),
+        ("A_missing_member_is_told_at_its_object", '{"required":["b"]}', "{}", '"b" is a required property @ /a, /properties/a/required'),
+    ):
+        g.fails(name, '{"properties":{"a":%s}}' % inner, '{"a":%s}' % value, [line])
+    g.fails("In_a_branch_an_unexpected_member_is_told_of_the_branch", '{"allOf":[{"properties":{},"additionalProperties":false}]}', '{"b":1}',
+            ["Additional properties are not allowed ('b' was unexpected) @ \"\", /allOf/0/additionalProperties"])
     five = g.schema("five_arrays", {"additionalProperties": False, "required": ["id"],
                                     "properties": {"id": {"type": "integer"}, **{k: {"type": "array"} for k in "abcde"}}})
     g.fails("A_fifth_container_is_asked", five, '{"a":[],"b":[],"c":[],"d":[],"e":{},"id":1}', ['{} is not of type "array" @ /e, /properties/e/type'])
@@ -289,13 +309,19 @@ def patterns():
     g.refuses("Next_line_is_no_white_space", blank, '{"\\u0085":1}')
     g.holds("A_line_separator_is_white_space", blank, '{"\\u2028":1}')
     g.are_white_space("The_first_and_last_of_each_run_are_white_space", True, (0x9, 0xD, 0x20, 0xA0, 0x1680, 0x2000, 0x200A, 0x2028, 0x2029, 0x202F, 0x205F, 0x3000, 0xFEFF))
+    g.are_white_space("All_25_characters_are_white_space", True, (*range(0x9, 0xE), 0x20, 0xA0, 0x1680, *range(0x2000, 0x200B), 0x2028, 0x2029, 0x202F, 0x205F, 0x3000, 0xFEFF))
     g.are_white_space("Their_neighbours_are_no_white_space", False,
                       (0x8, 0xE, 0x1F, 0x21, 0x85, 0x9F, 0xA1, 0x167F, 0x1681, 0x180E, 0x1FFF, 0x200B, 0x2027, 0x202A, 0x202E, 0x2030, 0x205E, 0x2060, 0x2FFF, 0x3001, 0xFEFE, 0xFF00))
     g.holds("An_exact_name_is_no_prefix", '{"patternProperties":{"^a$":false}}', '{"ab":1}')
     g.holds("Alternatives_are_no_prefixes", '{"patternProperties":{"^(a|b)$":false}}', '{"ab":1}')
+    g.fails("The_third_alternative_matches", '{"patternProperties":{"^(a|b|c)$":false}}', '{"c":1}', ["False schema does not allow 1 @ /c, /patternProperties/^(a|b|c)$"])
     once = g.schema("slow_false", '{"patternProperties":{"(slow)a":false}}')
     for name, member in (("An_unfinished_match_of_the_text_itself_counts", "a"), ("An_unfinished_match_inside_a_name_counts", "ba")):
         g.fails_under(name, "true", once, {member: 1}, ["False schema does not allow 1 @ /%s, /patternProperties/(slow)a" % member])
+    shut = g.schema("slow_closed", '{"patternProperties":{"(slow)x":{}},"additionalProperties":false}')
+    g.holds_under("A_name_is_not_additional_if_an_unfinished_match_counts", "true", shut, '{"x":1}')
+    g.fails_under("A_name_is_additional_if_an_unfinished_match_does_not_count", "false", shut, '{"x":1}',
+                  ["Additional properties are not allowed ('x' was unexpected) @ \"\", /additionalProperties"])
     g.holds("Two_patterns_are_both_asked", '{"patternProperties":{"^x":{},"spam$":{"type":"integer"}}}', '{"x1":"t"}')
     shut = g.schema("closed_suffix", '{"properties":{"a":{},"bspam":{}},"patternProperties":{"spam$":{}},"additionalProperties":false}')
     g.holds("Declared_and_matching_names_are_expected", shut, '{"a":1,"bspam":2}')
@@ -328,7 +354,8 @@ def patterns():
         ("Letters_alone_are_no_test", "foo"), ("An_anchor_alone_is_no_test", "^"), ("Two_anchors_are_no_test", "^$"),
         ("One_alternative_is_no_test", "^(a)$"), ("A_star_is_no_test", "^foo.*"), ("A_plus_is_no_test", "^foo+"),
         ("A_question_mark_is_no_test", "^foo?"), ("A_class_is_no_test", "^[a-z]"), ("Open_alternatives_are_no_test", "^foo|bar"),
-        ("A_group_is_no_test", "^foo(bar)"), ("A_digit_is_no_test", "^foo\\d"), ("An_escaped_dollar_is_no_suffix", "foo\\$"),
+        ("A_group_is_no_test", "^foo(bar)"), ("A_number_in_braces_is_no_test", "^a{2}"), ("A_digit_is_no_test", "^foo\\d"),
+        ("A_word_character_is_no_test", "^a\\w"), ("An_escaped_hyphen_is_no_test", "^a\\-"), ("An_escaped_dollar_is_no_suffix", "foo\\$"),
         ("A_dollar_alone_is_no_suffix", "$"), ("A_group_is_no_suffix", "(a)$"), ("A_dot_is_no_suffix", "fo.o$"),
     ):
         g.is_no_pattern(n, p)
@@ -348,8 +375,11 @@ def branches():
     g.fails("Any_of_none_refuses", '{"anyOf":[]}', "1", ["1 is not valid under any of the schemas listed in the 'anyOf' keyword @ \"\", /anyOf []"])
     g.fails("One_of_none_refuses", '{"oneOf":[]}', "1", ["1 is not valid under any of the schemas listed in the 'oneOf' keyword @ \"\", /oneOf []"])
     g.holds("All_of_none_accepts", '{"allOf":[]}', "1")
+    g.holds("One_accepting_branch_of_any_of_is_enough", '{"anyOf":[false,true]}', "1")
     g.fails("Two_accepting_branches_are_too_many", '{"oneOf":[{"type":"string"},{"maxLength":3}]}', '""',
             ["\"\" is valid under more than one of the schemas listed in the 'oneOf' keyword @ \"\", /oneOf [{}{}]"])
+    g.fails("Three_accepting_branches_are_too_many", '{"oneOf":[true,true,true]}', "1",
+            ["1 is valid under more than one of the schemas listed in the 'oneOf' keyword @ \"\", /oneOf [{}{}{}]"])
     g.holds("One_accepting_branch_is_enough", '{"oneOf":[{"type":"string"},{"maxLength":3}]}', '"long"')
     g.holds("The_other_branch_is_enough", '{"oneOf":[{"type":"string"},{"maxLength":3}]}', "5")
     g.fails("Each_branch_tells_all_that_it_finds", '{"anyOf":[{"type":"integer"},{"required":["a","b"]}]}', "{}",
@@ -358,8 +388,13 @@ def branches():
     inner = '"x" is not valid under any of the schemas listed in the \'anyOf\' keyword @ "", /anyOf/0/anyOf [{"x" is not of type "integer" @ "", /anyOf/0/anyOf/0/type;}{"x" is not of type "array" @ "", /anyOf/0/anyOf/1/type;}]'
     g.fails("Branches_inside_a_branch_tell_theirs", '{"anyOf":[{"anyOf":[{"type":"integer"},{"type":"array"}]}]}', '"x"',
             ['"x" is not valid under any of the schemas listed in the \'anyOf\' keyword @ "", /anyOf [{' + inner + ";}]"])
+    g.fails("Inside_a_member_a_choice_and_its_branches_are_told_there", '{"properties":{"a":{"anyOf":[false]}}}', '{"a":1}',
+            ["1 is not valid under any of the schemas listed in the 'anyOf' keyword @ /a, /properties/a/anyOf [{False schema does not allow 1 @ /a, /properties/a/anyOf/0;}]"])
+    g.fails("One_of_in_a_branch_is_told_of_the_branch", '{"not":{"not":{"oneOf":[]}},"allOf":[{"oneOf":[]}]}', "1",
+            ["1 is not valid under any of the schemas listed in the 'oneOf' keyword @ \"\", /allOf/0/oneOf []", '{"not":{"oneOf":[]}} is not allowed for 1 @ "", /not'])
     g.fails("A_negation_shows_its_schema", '{"not":{"type":"string"}}', '"foo"', ['{"type":"string"} is not allowed for "foo" @ "", /not'])
     g.fails("A_double_negation_shows_the_inner_one", '{"not":{"not":{"type":"string"}}}', "1", ['{"not":{"type":"string"}} is not allowed for 1 @ "", /not'])
+    g.fails("Inside_a_member_a_negation_is_told_there", '{"properties":{"a":{"not":true}}}', '{"a":1}', ["true is not allowed for 1 @ /a, /properties/a/not"])
     g.fails("Where_the_condition_fails_else_applies", '{"if":{"minimum":0},"then":{"multipleOf":2},"else":{"multipleOf":2}}', "-1",
             ['-1 is not a multiple of 2 @ "", /else/multipleOf'])
     g.fails("Where_the_condition_holds_then_applies", '{"if":{"minimum":0},"then":{"multipleOf":2},"else":{"multipleOf":3}}', "3",
@@ -369,6 +404,7 @@ def branches():
     g.holds("Else_alone_is_unread", '{"else":false}', "1")
     g.fails("Each_branch_of_all_of_is_asked", '{"allOf":[{"type":"string"},true,false]}', "1",
             ['1 is not of type "string" @ "", /allOf/0/type', 'False schema does not allow 1 @ "", /allOf/2'])
+    g.fails("The_eleventh_branch_has_position_10", {"allOf": [True] * 10 + [False]}, "1", ['False schema does not allow 1 @ "", /allOf/10'])
     return g
 
 
@@ -382,9 +418,20 @@ def dependencies():
             ['"b" is a required property @ "", /dependentSchemas/a/required'])
     g.fails("A_short_name_is_told_of_the_object", '{"propertyNames":{"minLength":2}}', '{"f":1}', ['"f" is shorter than 2 characters @ "", /propertyNames/minLength'])
     g.is_about("Its_instance_is_the_object", '{"propertyNames":{"minLength":2}}', '{"f":1}', ['{"f":1}'])
+    g.fails("Each_short_name_is_told", '{"propertyNames":{"minLength":2}}', '{"a":1,"b":2}', ['"%s" is shorter than 2 characters @ "", /propertyNames/minLength' % n for n in "ab"])
+    g.fails("All_faults_of_a_name_are_told", '{"propertyNames":{"minLength":2,"const":"b"}}', '{"a":1}',
+            ['"a" is shorter than 2 characters @ "", /propertyNames/minLength', '"b" was expected @ "", /propertyNames/const'])
+    for name, inner, line in (
+        ("Inside_a_member_a_long_name_is_told_there", '{"propertyNames":{"maxLength":0}}', '"b" is longer than 0 characters @ /a, /properties/a/propertyNames/maxLength'),
+        ("Inside_a_member_a_dependent_name_is_told_there", '{"dependentRequired":{"b":["c"]}}', '"c" is a required property @ /a, /properties/a/dependentRequired'),
+    ):
+        g.fails(name, '{"properties":{"a":%s}}' % inner, '{"a":{"b":1}}', [line])
     g.fails("No_name_is_allowed", '{"propertyNames":false}', '{"foo":1}', ['False schema does not allow {"foo":1} @ "", /propertyNames'])
+    g.fails("Two_names_that_are_not_allowed_are_one_fault", '{"propertyNames":false}', '{"a":1,"b":2}', ['False schema does not allow {"a":1,"b":2} @ "", /propertyNames'])
     g.holds("True_allows_each_name", '{"propertyNames":true}', '{"a":1}')
     g.holds("A_list_is_of_its_key_alone", '{"dependentRequired":{"a":["b"]}}', '{"c":1}')
+    g.holds("A_list_of_a_dependency_is_of_its_key_alone", '{"dependencies":{"a":["b"]}}', "{}")
+    g.holds("A_dependent_schema_is_of_its_key_alone", '{"dependentSchemas":{"a":false}}', "{}")
     g.holds("A_schema_is_of_its_key_alone", '{"dependencies":{"a":false}}', "{}")
     g.holds("No_names_are_none_refused", '{"propertyNames":false}', "{}")
     g.holds("A_name_is_no_object", '{"propertyNames":{"properties":{"a":false}}}', '{"a":1}')
@@ -393,6 +440,9 @@ def dependencies():
     g.fails("A_text_chooses_a_false_schema", kind, '{"kind":"b"}', ['False schema does not allow {"kind":"b"} @ "", /propertyDependencies/kind/b'])
     for n, v in (("Another_text_chooses_none", '{"kind":"c"}'), ("A_number_chooses_none", '{"kind":1}'), ("An_absent_member_chooses_none", "{}"), ("Another_value_chooses_none", '"a"')):
         g.holds(n, kind, v)
+    g.holds("Null_is_not_the_text_null", '{"propertyDependencies":{"k":{"null":false}}}', '{"k":null}')
+    g.holds("A_number_is_not_the_text_of_its_digits", '{"propertyDependencies":{"k":{"1":false}}}', '{"k":1}')
+    g.fails("The_second_key_chooses_too", '{"propertyDependencies":{"a":{},"b":{"x":false}}}', '{"b":"x"}', ['False schema does not allow {"b":"x"} @ "", /propertyDependencies/b/x'])
     g.fails("The_empty_text_chooses_too", '{"propertyDependencies":{"k":{"":false}}}', '{"k":""}',
             ['False schema does not allow {"k":""} @ "", /propertyDependencies/k/'])
     return g
@@ -423,8 +473,20 @@ def refusals():
         ("A_root_that_is_no_schema", "5", '5 is not of types "boolean", "object" @ "", ""'),
         ("The_first_of_two_items_that_are_no_texts", '{"required":[1,2]}', '1 is not of type "string" @ "", /required'),
         ("A_name_repeated_behind_another", '{"dependentRequired":{"a":["b","c","b"]}}', '["b","c","b"] has non-unique elements @ "", /dependentRequired/a'),
+        ("A_name_repeated_after_another", '{"dependentRequired":{"a":["c","b","b"]}}', '["c","b","b"] has non-unique elements @ "", /dependentRequired/a'),
+        ("Beside_else_a_condition_is_read", '{"if":5,"else":{}}', '5 is not of types "boolean", "object" @ "", /if'),
+        ("Beside_patterns_an_additional_schema_is_read", '{"patternProperties":{},"additionalProperties":{"not":5}}', '5 is not of types "boolean", "object" @ "", /additionalProperties/not'),
+        ("The_second_branch_of_one_of_is_read", '{"oneOf":[{},5]}', '5 is not of types "boolean", "object" @ "", /oneOf/1'),
+        ("The_second_dependent_schema_is_read", '{"dependentSchemas":{"a":{},"b":5}}', '5 is not of types "boolean", "object" @ "", /dependentSchemas/b'),
+        ("The_second_schema_of_dependencies_is_read", '{"dependencies":{"a":{},"b":5}}', '5 is not of types "boolean", "object" @ "", /dependencies/b'),
+        ("The_second_list_of_dependencies_is_checked", '{"dependencies":{"a":[],"b":[5]}}', '5 is not of type "string" @ "", /dependencies'),
+        ("The_second_entry_of_property_dependencies_is_checked", '{"propertyDependencies":{"a":{},"b":5}}', '5 is not of type "object" @ "", /propertyDependencies/b'),
+        ("The_second_entry_of_property_dependencies_is_read", '{"propertyDependencies":{"a":{},"b":{"x":5}}}', '5 is not of types "boolean", "object" @ "", /propertyDependencies/b/x'),
     ):
         g.is_refused(n, s, [l])
+    g.is_refused("Each_refused_pattern_is_told", '{"patternProperties":{"a(":{},"b(":{}}}', ['"%s(" is not a "regex" @ "", /patternProperties/%s(' % (n, n) for n in "ab"])
+    g.is_refused("Each_entry_that_is_no_list_is_told", '{"dependentRequired":{"a":5,"b":5}}', ['5 is not of type "array" @ "", /dependentRequired/%s' % n for n in "ab"])
+    g.is_always_refused("A_reference_is_refused_whatever_the_leaves_read", '{"$ref":"#"}', ['"$ref" is not supported here @ "", /$ref'])
     bad = [("5", '5 is not of types "boolean", "object"', "")]
     bad += [('{"%s":5}' % k, '5 is not of type "%s"' % t, "/" + k)
             for t, ks in (("object", ("properties", "patternProperties", "dependentRequired", "dependentSchemas", "dependencies", "propertyDependencies")),
@@ -446,6 +508,7 @@ def refusals():
         pairs = [(place.replace("%s", s), '%s @ "", %s' % (text, (path + tail) or '""')) for s, text, tail in bad if not (label == "In_property_names" and s == "5")]
         g.are_refused(label, pairs)
     g.builds("A_condition_alone_builds", '{"if":5}')
+    g.builds("An_ignored_keyword_holds_no_schema", '{"x":{"$ref":1}}')
     g.builds("Names_that_are_neither_false_nor_an_object_build", '{"propertyNames":5}')
     g.builds("Null_for_names_builds", '{"propertyNames":null}')
     g.builds("A_test_that_the_matcher_refuses_builds", '{"patternProperties":{"^(a|b)$":{}}}')
@@ -485,12 +548,23 @@ def costs():
     open_object = g.schema("one_name_and_one_pattern", '{"properties":{"b":{}},"patternProperties":{"a":{}}}')
     g.costs("Without_additional_properties_there_is_no_table", open_object, 3, 0, 1, 0)
     g.asks("Without_a_table_a_declared_name_asks", open_object, '{"b":1}', 1)
+    table = g.schema("beside_an_additional_schema", '{"properties":{"a":{}},"patternProperties":{"x":{}},"additionalProperties":{}}')
+    g.costs("Beside_an_additional_schema_there_is_a_table", table, 4, 0, 1, 1)
+    g.asks("Beside_an_additional_schema_a_declared_name_asks_nothing", table, '{"a":1}', 0)
     for name, schema in (("A_negation_asks", '{"not":{"patternProperties":{"a":false}}}'), ("A_branch_of_one_of_asks", '{"oneOf":[{"patternProperties":{"a":false}}]}'),
-                         ("A_condition_asks", '{"if":{"patternProperties":{"a":false}},"then":true}')):
+                         ("A_condition_asks", '{"if":{"patternProperties":{"a":false}},"then":true}'), ("Beside_else_a_condition_asks", '{"if":{"patternProperties":{"a":false}},"else":true}'),
+                         ("What_applies_where_the_condition_holds_asks", '{"if":true,"then":{"patternProperties":{"a":{}}}}'), ("The_third_branch_of_any_of_asks", '{"anyOf":[{},{},{"patternProperties":{"a":false}}]}'),
+                         ("The_second_branch_of_one_of_asks", '{"oneOf":[{},{"patternProperties":{"a":false}}]}'), ("A_dependent_schema_asks", '{"dependentSchemas":{"b":{"patternProperties":{"a":{}}}}}')):
         g.asks(name, schema, '{"b":1}', 1)
+    g.asks("A_schema_chosen_by_a_text_asks", '{"propertyDependencies":{"k":{"t":{"patternProperties":{"a":{}}}}}}', '{"k":"t"}', 1)
+    g.asks("An_additional_schema_asks", '{"additionalProperties":{"patternProperties":{"a":{}}}}', '{"b":{"c":1}}', 1)
     g.costs("A_member_and_its_leaf_are_counted", '{"properties":{"a":{"type":"integer"}}}', 2, 1, 0, 0)
     g.costs("Else_alone_is_not_compiled", '{"else":false}', 1, 0, 0, 0)
     g.costs("A_schema_of_a_dependency_is_compiled", '{"dependencies":{"a":false}}', 2, 0, 0, 0)
+    g.costs("A_dependent_schema_is_compiled", '{"dependentSchemas":{"a":{}}}', 2, 0, 0, 0)
+    g.costs("An_additional_schema_is_compiled", '{"additionalProperties":{}}', 2, 0, 0, 0)
+    g.costs("Each_branch_of_one_of_is_compiled", '{"oneOf":[{},{}]}', 3, 0, 0, 0)
+    g.costs("Patterns_in_a_branch_make_matchers", '{"allOf":[{"patternProperties":{"a":{}}}]}', 3, 0, 1, 0)
     names = {"m%02d" % i: {} for i in range(65)}
     wide = g.schema("patterns_65", {"additionalProperties": False, "properties": {"m64": {}}, "patternProperties": names})
     wider = g.schema("patterns_66", {"additionalProperties": False, "properties": {"m64": {}}, "patternProperties": {"(slow)m64": False, **names}})
@@ -565,25 +639,58 @@ def trees():
          '"" @ "" invalid(/properties @ "" invalid(/required @ "" invalid' + required("a", "b") + "))"),
         ("One_fused_name_is_shown_inside", '{"properties":{},"additionalProperties":false,"required":["a"]}', "{}",
          '"" @ "" invalid(/additionalProperties @ "" invalid(/required @ "" invalid' + required("a") + "))"),
+        ("In_an_open_object_one_name_is_not_fused", '{"properties":{},"required":["a"]}', "{}", '"" @ "" invalid(/properties @ "" names [])(/required @ "" invalid' + required("a") + ")"),
+        ("Three_names_are_not_fused", '{"properties":{},"required":["a","b","c"]}', "{}", '"" @ "" invalid(/properties @ "" names [])(/required @ "" invalid' + required("a", "b", "c") + ")"),
+        ("Beside_true_two_names_are_fused", '{"properties":{},"additionalProperties":true,"required":["a","b"]}', "{}",
+         '"" @ "" invalid(/properties @ "" invalid(/required @ "" invalid' + required("a", "b") + "))"),
+        ("Beside_15_declared_names_one_name_is_fused", {"properties": {"p%02d" % i: {} for i in range(15)}, "additionalProperties": False, "required": ["p00"]}, "{}",
+         '"" @ "" invalid(/additionalProperties @ "" invalid(/required @ "" invalid' + required("p00") + "))"),
+        ("One_of_two_fused_names_is_the_last_child", '{"properties":{"a":{}},"required":["a","b"]}', '{"a":1}',
+         '"" @ "" invalid(/properties @ "" invalid(/properties/a @ /a)(/required @ "" invalid' + required("b") + "))"),
+        ("One_fused_name_is_the_last_child", '{"properties":{"a":{}},"additionalProperties":false,"required":["b"]}', '{"a":1}',
+         '"" @ "" invalid(/additionalProperties @ "" invalid(/properties/a @ /a)(/required @ "" invalid' + required("b") + "))"),
+        ("Required_names_that_are_met_are_shown", '{"required":["a"]}', '{"a":1}', '"" @ ""(/required @ "")'),
         ("A_declared_name_shows_its_patterns_too", '{"properties":{"a":{}},"patternProperties":{"^a":{}},"additionalProperties":false}', '{"a":1}',
          '"" @ ""(/additionalProperties @ ""(/properties/a @ /a)(/patternProperties/^a @ /a))'),
+        ("Declared_and_additional_members_stand_in_their_order", '{"properties":{"b":{}},"additionalProperties":{}}', '{"a":1,"b":2}',
+         '"" @ ""(/additionalProperties @ "" names ["a"](/additionalProperties @ /a)(/properties/b @ /b))'),
+        ("An_additional_member_stands_at_its_own_path", '{"additionalProperties":{}}', '{"a":1}', '"" @ ""(/additionalProperties @ "" names ["a"](/additionalProperties @ /a))'),
+        ("A_declared_name_is_escaped_in_both_paths", '{"properties":{"a/b":{}}}', '{"a/b":1}', '"" @ ""(/properties @ "" names ["a/b"](/properties/a~1b @ /a~1b))'),
+        ("A_pattern_and_its_member_are_escaped", '{"patternProperties":{"a/":{}},"additionalProperties":false}', '{"a/":1}',
+         '"" @ ""(/additionalProperties @ ""(/patternProperties/a~1 @ /a~1)(/patternProperties @ "" names ["a/"]))'),
         ("Beside_declared_names_matches_have_no_child", '{"properties":{},"patternProperties":{"^a":{}},"additionalProperties":false}', '{"a":1}',
          '"" @ ""(/additionalProperties @ ""(/patternProperties/^a @ /a))'),
         ("Without_a_match_there_is_no_child_of_matches", '{"patternProperties":{},"additionalProperties":{}}', "{}", '"" @ ""(/additionalProperties @ "")'),
+        ("The_child_of_matches_is_valid_where_a_member_is_not", '{"patternProperties":{"^a":false},"additionalProperties":false}', '{"a":1}',
+         '"" @ "" invalid(/additionalProperties @ "" invalid(/patternProperties/^a @ /a invalid' + false + ')(/patternProperties @ "" names ["a"]))'),
         ("The_child_of_matches_goes_member_by_member", '{"patternProperties":{"^a":{},"^ab":{}},"additionalProperties":{}}', '{"ab":1,"ac":2}',
          '"" @ ""(/additionalProperties @ ""(/patternProperties/^a @ /ab)(/patternProperties/^ab @ /ab)(/patternProperties/^a @ /ac)(/patternProperties @ "" names ["ab","ab","ac"]))'),
         ("A_matching_name_is_not_additional", '{"patternProperties":{"^a":{}},"additionalProperties":false}', '{"a":1}',
          '"" @ ""(/additionalProperties @ ""(/patternProperties/^a @ /a)(/patternProperties @ "" names ["a"]))'),
         ("Alone_an_additional_schema_shows_even_no_names", '{"additionalProperties":{}}', "{}", '"" @ ""(/additionalProperties @ "" names [])'),
         ("Beside_declared_names_no_additional_names_are_not_shown", '{"properties":{},"additionalProperties":{}}', "{}", '"" @ ""(/additionalProperties @ "")'),
+        ("Beside_declared_names_and_patterns_even_no_names_are_shown", '{"properties":{},"patternProperties":{},"additionalProperties":{}}', "{}", '"" @ ""(/additionalProperties @ "" names [])'),
+        ("Beside_true_declared_names_are_shown", '{"properties":{},"additionalProperties":true}', "{}", '"" @ ""(/properties @ "" names [])'),
         ("Of_another_value_no_names_are_shown", '{"properties":{}}', "1", '"" @ ""(/properties @ "")'),
+        ("Patterns_are_shown_of_another_value", '{"patternProperties":{}}', "1", '"" @ ""(/patternProperties @ "")'),
+        ("False_for_additional_members_is_shown_of_another_value", '{"additionalProperties":false}', "1", '"" @ ""(/additionalProperties @ "")'),
+        ("A_schema_of_names_is_shown_of_another_value", '{"propertyNames":{}}', "1", '"" @ ""(/propertyNames @ "")'),
         ("Undeclared_names_are_not_shown", '{"properties":{}}', '{"a":1}', '"" @ ""(/properties @ "" names [])'),
         ("Names_are_shown_pattern_by_pattern", '{"patternProperties":{"^a":{},"^ab":{}}}', '{"ab":1,"ac":2}',
          '"" @ ""(/patternProperties @ "" names ["ab","ac","ab"](/patternProperties/^a @ /ab)(/patternProperties/^a @ /ac)(/patternProperties/^ab @ /ab))'),
+        ("Branches_of_all_of_stand_at_their_keyword", '{"allOf":[true]}', "1", '"" @ ""(/allOf @ ""(/allOf/0 @ ""))'),
+        ("A_choice_shows_each_accepting_branch", '{"anyOf":[true,true]}', "1", '"" @ ""(/anyOf @ ""(/anyOf/0 @ "")(/anyOf/1 @ ""))'),
+        ("The_one_accepting_branch_is_shown", '{"oneOf":[true]}', "1", '"" @ ""(/oneOf @ ""(/oneOf/0 @ ""))'),
         ("A_choice_that_fails_shows_all_branches", '{"anyOf":[false]}', "1", '"" @ "" invalid(/anyOf @ "" invalid(/anyOf/0 @ "" invalid' + false + "))"),
         ("Of_no_accepting_branch_all_are_shown", '{"oneOf":[false]}', "1", '"" @ "" invalid(/oneOf @ "" invalid(/oneOf/0 @ "" invalid' + false + "))"),
         ("Of_too_many_branches_the_accepting_are_shown", '{"oneOf":[true,true,false]}', "1",
          '"" @ "" invalid(/oneOf @ "" invalid error oneOf: more than one subschema succeeded(/oneOf/0 @ "")(/oneOf/1 @ ""))'),
+        ("A_negation_that_accepts_is_shown", '{"not":false}', "1", '"" @ ""(/not @ "")'),
+        ("Dependent_names_are_shown_without_their_key", '{"dependentRequired":{"a":[]}}', "{}", '"" @ ""(/dependentRequired @ "")'),
+        ("Dependent_schemas_are_shown_without_their_key", '{"dependentSchemas":{"a":{}}}', "{}", '"" @ ""(/dependentSchemas @ "")'),
+        ("Property_dependencies_are_shown_without_their_key", '{"propertyDependencies":{"k":{"a":{}}}}', "{}", '"" @ ""(/propertyDependencies @ "")'),
+        ("A_dependent_schema_stands_inside_its_keyword", '{"dependentSchemas":{"a":{}}}', '{"a":1}', '"" @ ""(/dependentSchemas @ ""(/dependentSchemas/a @ ""))'),
+        ("A_schema_of_a_dependency_stands_inside_its_keyword", '{"dependencies":{"a":{}}}', '{"a":1}', '"" @ ""(/dependencies @ ""(/dependencies/a @ ""))'),
         ("A_dependent_list_stands_at_its_keyword", '{"dependentRequired":{"a":[]}}', '{"a":1}', '"" @ ""(/dependentRequired @ ""(/dependentRequired @ ""))'),
         ("A_missing_dependent_name_stands_at_its_keyword", '{"dependentRequired":{"a":["b"]}}', '{"a":1}',
          '"" @ "" invalid(/dependentRequired @ "" invalid(/dependentRequired @ "" invalid' + required("b") + "))"),
@@ -592,7 +699,10 @@ def trees():
         ("The_error_of_a_name_stands_at_the_object", '{"propertyNames":{"minLength":1}}', '{"":1}',
          '"" @ "" invalid(/propertyNames @ "" invalid(/propertyNames @ "" invalid(/propertyNames/minLength @ "" invalid error minLength: "" is shorter than 1 characters)))'),
         ("True_for_names_is_not_shown", '{"propertyNames":true}', '{"a":1}', '"" @ ""'),
+        ("False_for_names_is_shown_where_it_accepts", '{"propertyNames":false}', "{}", '"" @ ""(/propertyNames @ "")'),
         ("A_condition_that_refuses_is_not_shown", '{"if":false,"else":true}', "1", '"" @ ""(/if @ ""(/else @ ""))'),
+        ("A_condition_without_then_is_shown", '{"if":true,"else":false}', "1", '"" @ ""(/if @ ""(/if @ ""))'),
+        ("A_condition_that_refuses_without_else_is_shown_empty", '{"if":false,"then":true}', "1", '"" @ ""(/if @ "")'),
         ("Else_alone_is_not_shown", '{"else":false}', "1", '"" @ ""'),
         ("An_invalid_node_shows_no_names", '{"properties":{"a":false}}', '{"a":1}', '"" @ "" invalid(/properties @ "" invalid(/properties/a @ /a invalid' + false + "))"),
         ("The_error_of_a_leaf_has_its_keyword", '{"minimum":5}', "1", '"" @ "" invalid(/minimum @ "" invalid error minimum: 1 is less than the minimum of 5)'),
@@ -648,6 +758,17 @@ def faults():
         ("Declared_names_in_a_list", '{"properties":[]}', 'SingleType of [] @ "", /properties'),
     ):
         g.is_refused_as(name, schema, [line])
+    for name, schema, value, yes in (
+        ("A_choice_over_a_whole_number_promises_its_text", '{"anyOf":[false]}', "1", True),
+        ("A_choice_over_a_fraction_promises_no_text", '{"anyOf":[false]}', "1.5", False),
+        ("No_accepting_branch_over_a_fraction_promises_no_text", none, "1.5", False),
+        ("Too_many_accepting_branches_over_a_fraction_promise_no_text", many, "1.5", False),
+        ("A_negation_over_a_fraction_promises_no_text", '{"not":true}', "1.5", False),
+        ("A_name_of_an_object_with_a_fraction_promises_its_text", '{"propertyNames":{"not":true}}', '{"a":1.5}', True),
+        ("A_name_whose_own_fault_prints_a_fraction_promises_no_text", '{"propertyNames":{"not":{"title":1.5}}}', '{"a":1}', False),
+    ):
+        g.promises(name, schema, value, yes)
+    g.promises_its_refusal("A_refused_name_with_a_fraction_promises_its_text", '{"$ref":1.5}')
     return g
 
 
