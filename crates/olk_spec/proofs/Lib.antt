@@ -8,6 +8,7 @@ pub mod Verdicts
 pub mod Logic
 pub mod Passing
 pub mod Order
+pub mod Lines
 pub mod Reading
 pub mod Walks
 pub mod Maps

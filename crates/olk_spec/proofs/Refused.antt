@@ -8,10 +8,25 @@ use Rattle.olk_spec.specs.Literals.{literal}
 use Rattle.olk_spec.specs.Meaning.{meaning}
 use Rattle.olk_spec.specs.Faults.{Fault, fault, Kind, AdditionalProperties, AnyOf, Context, no_branch, branch, IsLike, like, IsLikeKind, itself, like_any_of, like_not_valid, like_multiple, like_names, IsLikeContext, like_none, like_branch, ◌∼◌, like_empty, like_next, like_swap, like_through}
 use Rattle.olk_spec.specs.Refused as refused
-use Rattle.olk_spec.proofs.Order.{∼_length, ∼_refl, ∼_weight, faults_weight, in_list}
+use Rattle.olk_spec.specs.Forms.{told}
+use Rattle.olk_spec.specs.Refused.{place}
+use Rattle.olk_spec.proofs.Order.{∼_length, ∼_refl, ∼_map, ∼_weight, faults_weight, in_list}
+use Rattle.olk_spec.proofs.Lines.{same_lines, like_told}
 
 pub one_length : refused.One_length
 one_length W u S v P Q list h = ∼_length h
+
+same_place : (f g : Fault) → IsLike f g → place f ≡ place g
+same_place f g (like h) = refl
+
+pub one_list_of_places : refused.One_list_of_places
+one_list_of_places W u S v P Q list h = ∼_map place same_place h
+
+pub one_list_of_lines : refused.One_list_of_lines
+one_list_of_lines W u S v P Q list h = same_lines h
+
+pub one_list_of_kinds : refused.One_list_of_kinds
+one_list_of_kinds W u S v P Q list h = ∼_map told like_told h
 
 -- ---- how many names are told
 

@@ -1,5 +1,5 @@
--- Which lists are reports: the order is free, also inside a context, and nothing may be left out or change its branch.
-use Rattle.std.specs.Prelude.{◌≡◌, Bool, List, [], ◌∷◌, codes, length}
+-- Which lists are reports: the order is free, also inside a context, and nothing may be left out, be told elsewhere or change its branch.
+use Rattle.std.specs.Prelude.{◌≡◌, Bool, List, [], ◌∷◌, map, codes, length, IsPermutation}
 use Rattle.serde_json.specs.Data.{Data}
 use Rattle.olk_spec.specs.Names.{Name, Path}
 use Rattle.olk_spec.specs.World.{World}
@@ -7,10 +7,28 @@ use Rattle.olk_spec.specs.Bench.{bench}
 use Rattle.olk_spec.specs.Json.{json}
 use Rattle.olk_spec.specs.Faults.{Fault, fault, AdditionalProperties, AnyOf, Required, Leaf, context}
 use Rattle.olk_spec.specs.Meaning.{report, IsReport}
+use Rattle.olk_spec.specs.Answers.{lines}
+use Rattle.olk_spec.specs.Forms.{told}
 
 -- every report has as many faults as any other
 abbrev pub One_length : Type 0
 One_length = (W : World) (u : Bool) (S v : Data) (P Q : Path) (list : List Fault) → IsReport W u S v P Q list → length list ≡ length (report W u S v P Q)
+
+-- what a fault is about: the instance, its path and the path of the schema
+abbrev pub place : Fault → Data × Path × Path
+place (fault k v Q P) = (v, Q, P)
+
+-- the faults of every report are about the same instances at the same paths
+abbrev pub One_list_of_places : Type 0
+One_list_of_places = (W : World) (u : Bool) (S v : Data) (P Q : Path) (list : List Fault) → IsReport W u S v P Q list → IsPermutation (map place list) (map place (report W u S v P Q))
+
+-- every report has the same lines: texts and paths, and what each branch of a context finds, in the order of the branches
+abbrev pub One_list_of_lines : Type 0
+One_list_of_lines = (W : World) (u : Bool) (S v : Data) (P Q : Path) (list : List Fault) → IsReport W u S v P Q list → lines list ≡ lines (report W u S v P Q)
+
+-- every report tells the same kinds, and inside a fault of a name the same fault
+abbrev pub One_list_of_kinds : Type 0
+One_list_of_kinds = (W : World) (u : Bool) (S v : Data) (P Q : Path) (list : List Fault) → IsReport W u S v P Q list → IsPermutation (map told list) (map told (report W u S v P Q))
 
 -- ---- an object that takes no other members
 

@@ -1,11 +1,12 @@
 -- Which trees are the tree of a schema over a value: no path, validity, annotation, error or text may be left out or be another, but a leaf's texts stand in any order, and a text that prints a fraction may be any text.
-use Rattle.std.specs.Prelude.{◌≡◌, Bool, true, false, List, [], ◌∷◌, codes, Option, Some, None}
+use Rattle.std.specs.Prelude.{◌≡◌, Bool, true, false, not, List, [], ◌∷◌, map, codes, Option, Some, None, IsPermutation}
+use Rattle.std.specs.List.{list_all}
 use Rattle.serde_json.specs.Data.{Data}
-use Rattle.olk_spec.specs.Names.{Text, Name, Path}
+use Rattle.olk_spec.specs.Names.{Text, Name, Path, is_empty}
 use Rattle.olk_spec.specs.World.{World}
 use Rattle.olk_spec.specs.Bench.{bench}
 use Rattle.olk_spec.specs.Json.{json}
-use Rattle.olk_spec.specs.Tree.{Tree, node, leaf_node, no_tree, trees_from, Described, IsLikeTree, is_valid, annotations}
+use Rattle.olk_spec.specs.Tree.{Tree, node, leaf_node, Trees, no_tree, and_tree, trees_from, Described, IsLikeTree, is_valid, annotations, errors}
 use Rattle.olk_spec.specs.Meaning.{tree, IsTree}
 
 -- every tree of a schema has the validity and the annotations that the definition gives
@@ -14,6 +15,37 @@ One_validity = (W : World) (u : Bool) (S v : Data) (P Q : Path) (t : Tree) → I
 
 abbrev pub One_list_of_annotations : Type 0
 One_list_of_annotations = (W : World) (u : Bool) (S v : Data) (P Q : Path) (t : Tree) → IsTree W u S v P Q t → annotations t ≡ annotations (tree W u S v P Q)
+
+-- a tree with its own errors counted, and neither their keywords nor their texts
+abbrev pub counted : List Described → List Described
+counted es = map (λ e. ([], [], false)) es
+
+abbrev mutual
+  pub frame : Tree → Tree
+  frame (node P Q b a es ts) = node P Q b a (counted es) (frames ts)
+  frame (leaf_node P Q es) = node P Q (is_empty es) None (counted es) no_tree
+
+  pub frames : Trees → Trees
+  frames no_tree = no_tree
+  frames (and_tree t ts) = and_tree (frame t) (frames ts)
+
+-- every tree of a schema has the same nodes in the same order, each with the same paths, validity and annotation, and with as many own errors
+abbrev pub One_frame : Type 0
+One_frame = (W : World) (u : Bool) (S v : Data) (P Q : Path) (t : Tree) → IsTree W u S v P Q t → frame t ≡ frame (tree W u S v P Q)
+
+abbrev pub error_keyword : Path × Path × Described → Path × Path × Name
+error_keyword e = (e.0, e.1, e.2.0)
+
+abbrev pub error_text : Path × Path × Described → Path × Path × Name × Text
+error_text e = (e.0, e.1, e.2.0, e.2.1)
+
+-- every tree of a schema has errors of the same keywords at the same paths
+abbrev pub One_list_of_keywords : Type 0
+One_list_of_keywords = (W : World) (u : Bool) (S v : Data) (P Q : Path) (t : Tree) → IsTree W u S v P Q t → IsPermutation (map error_keyword (errors t)) (map error_keyword (errors (tree W u S v P Q)))
+
+-- and with the same texts, where no text prints a fraction
+abbrev pub One_list_of_texts : Type 0
+One_list_of_texts = (W : World) (u : Bool) (S v : Data) (P Q : Path) (t : Tree) → list_all (λ e. not e.2.2) (errors (tree W u S v P Q)) ≡ true → IsTree W u S v P Q t → IsPermutation (map error_text (errors t)) (map error_text (errors (tree W u S v P Q)))
 
 -- ---- a declared name that is met
 

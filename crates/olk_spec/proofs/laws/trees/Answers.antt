@@ -1,11 +1,20 @@
 use Rattle.olk_spec.proofs.laws.trees.Goals as goal
-use Rattle.olk_spec.proofs.Refused_trees.{one_validity, one_list_of_annotations, names_are_shown, without_its_names_it_is_no_tree, at_another_member_it_is_no_tree, errors_are_told, with_another_text_it_is_no_tree, without_its_error_it_is_no_tree, any_text_stands_for_a_fraction, texts_of_a_leaf_stand_in_any_order, without_one_of_its_texts_it_is_no_leaf}
+use Rattle.olk_spec.proofs.Refused_trees.{one_validity, one_list_of_annotations, one_frame, one_list_of_keywords, one_list_of_texts, names_are_shown, without_its_names_it_is_no_tree, at_another_member_it_is_no_tree, errors_are_told, with_another_text_it_is_no_tree, without_its_error_it_is_no_tree, any_text_stands_for_a_fraction, texts_of_a_leaf_stand_in_any_order, without_one_of_its_texts_it_is_no_leaf}
 
 pub returns-clause-one_validity : goal.returns-clause-one_validity
 returns-clause-one_validity c = one_validity
 
 pub returns-clause-one_list : goal.returns-clause-one_list
 returns-clause-one_list c = one_list_of_annotations
+
+pub returns-clause-one_frame : goal.returns-clause-one_frame
+returns-clause-one_frame c = one_frame
+
+pub returns-clause-one_list_of_keywords : goal.returns-clause-one_list_of_keywords
+returns-clause-one_list_of_keywords c = one_list_of_keywords
+
+pub returns-clause-one_list_of_texts : goal.returns-clause-one_list_of_texts
+returns-clause-one_list_of_texts c = one_list_of_texts
 
 pub returns-clause-names : goal.returns-clause-names
 returns-clause-names c = names_are_shown
