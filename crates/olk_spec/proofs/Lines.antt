@@ -44,7 +44,8 @@ module _ (s t : Text) (l : List Text) (first : insert_text s l ≡ s ∷ l) (sec
   heads = heads_by (slice_cmp nat_cmp s t) refl (nat_list_cmp_total.antisymm t s)
 
 -- one that comes behind x, and one that does not
-one_behind : (s t x : Text) (xs : List Text) → is_gt (slice_cmp nat_cmp s x) ≡ true → is_gt (slice_cmp nat_cmp t x) ≡ false → insert_text s (insert_text t (x ∷ xs)) ≡ insert_text t (insert_text s (x ∷ xs))
+one_behind : (s t x : Text) (xs : List Text) → is_gt (slice_cmp nat_cmp s x) ≡ true → is_gt (slice_cmp nat_cmp t x) ≡ false
+    → insert_text s (insert_text t (x ∷ xs)) ≡ insert_text t (insert_text s (x ∷ xs))
 one_behind s t x xs p q = by (is_gt (slice_cmp nat_cmp s t)) refl
   where
     by : (b : Bool) → is_gt (slice_cmp nat_cmp s t) ≡ b → insert_text s (insert_text t (x ∷ xs)) ≡ insert_text t (insert_text s (x ∷ xs))
@@ -56,7 +57,8 @@ either_order : (s t : Text) (l : List Text) → insert_text s (insert_text t l) 
 either_order s t [] = heads s t [] refl refl
 either_order s t (x ∷ xs) = by (either_order s t xs) (is_gt (slice_cmp nat_cmp s x)) (is_gt (slice_cmp nat_cmp t x)) refl refl
   where
-    by : insert_text s (insert_text t xs) ≡ insert_text t (insert_text s xs) → (a b : Bool) → is_gt (slice_cmp nat_cmp s x) ≡ a → is_gt (slice_cmp nat_cmp t x) ≡ b → insert_text s (insert_text t (x ∷ xs)) ≡ insert_text t (insert_text s (x ∷ xs))
+    by : insert_text s (insert_text t xs) ≡ insert_text t (insert_text s xs) → (a b : Bool) → is_gt (slice_cmp nat_cmp s x) ≡ a → is_gt (slice_cmp nat_cmp t x) ≡ b
+        → insert_text s (insert_text t (x ∷ xs)) ≡ insert_text t (insert_text s (x ∷ xs))
     by more true true p q =
         (ap (insert_text s) (behind t x xs q) ∙ behind s x (insert_text t xs) p) ∙ ap (λ r. x ∷ r) more
         ∙ sym (ap (insert_text t) (behind s x xs p) ∙ behind t x (insert_text s xs) q)

@@ -67,7 +67,8 @@ no_fraction false h = refl
 
 -- ---- errors with their paths: f is what is to be the same of an error and of the one that tells it, where ok holds of the first
 
-module _ {B : Type 0} (f : Path × Path × Described → B) (ok : Described → Bool) (same : (P Q : Path) (d e : Described) → ok d ≡ true → e.0 ≡ d.0 → (d.2 ≡ false → e.1 ≡ d.1) → f (P, Q, e) ≡ f (P, Q, d)) where
+module _ {B : Type 0} (f : Path × Path × Described → B) (ok : Described → Bool)
+    (same : (P Q : Path) (d e : Described) → ok d ≡ true → e.0 ≡ d.0 → (d.2 ≡ false → e.1 ≡ d.1) → f (P, Q, e) ≡ f (P, Q, d)) where
   abbrev at : Path → Path → List Described → List (Path × Path × Described)
   at P Q es = map (λ e. (P, Q, e)) es
 

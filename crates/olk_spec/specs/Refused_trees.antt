@@ -45,7 +45,9 @@ One_list_of_keywords = (W : World) (u : Bool) (S v : Data) (P Q : Path) (t : Tre
 
 -- and with the same texts, where no text prints a fraction
 abbrev pub One_list_of_texts : Type 0
-One_list_of_texts = (W : World) (u : Bool) (S v : Data) (P Q : Path) (t : Tree) → list_all (λ e. not e.2.2) (errors (tree W u S v P Q)) ≡ true → IsTree W u S v P Q t → IsPermutation (map error_text (errors t)) (map error_text (errors (tree W u S v P Q)))
+One_list_of_texts =
+    (W : World) (u : Bool) (S v : Data) (P Q : Path) (t : Tree) → list_all (λ e. not e.2.2) (errors (tree W u S v P Q)) ≡ true → IsTree W u S v P Q t
+    → IsPermutation (map error_text (errors t)) (map error_text (errors (tree W u S v P Q)))
 
 -- ---- a declared name that is met
 

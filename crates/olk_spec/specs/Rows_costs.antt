@@ -101,6 +101,12 @@ A_negation_asks = Asks "{\"not\":{\"patternProperties\":{\"a\":false}}}" "{\"b\"
 abbrev pub A_branch_of_one_of_asks : Type 0
 A_branch_of_one_of_asks = Asks "{\"oneOf\":[{\"patternProperties\":{\"a\":false}}]}" "{\"b\":1}" 1
 
+abbrev pub The_second_branch_of_one_of_asks : Type 0
+The_second_branch_of_one_of_asks = Asks "{\"oneOf\":[{},{\"patternProperties\":{\"a\":false}}]}" "{\"b\":1}" 1
+
+abbrev pub The_third_branch_of_any_of_asks : Type 0
+The_third_branch_of_any_of_asks = Asks "{\"anyOf\":[{},{},{\"patternProperties\":{\"a\":false}}]}" "{\"b\":1}" 1
+
 abbrev pub A_condition_asks : Type 0
 A_condition_asks = Asks "{\"if\":{\"patternProperties\":{\"a\":false}},\"then\":true}" "{\"b\":1}" 1
 
@@ -109,12 +115,6 @@ Beside_else_a_condition_asks = Asks "{\"if\":{\"patternProperties\":{\"a\":false
 
 abbrev pub What_applies_where_the_condition_holds_asks : Type 0
 What_applies_where_the_condition_holds_asks = Asks "{\"if\":true,\"then\":{\"patternProperties\":{\"a\":{}}}}" "{\"b\":1}" 1
-
-abbrev pub The_third_branch_of_any_of_asks : Type 0
-The_third_branch_of_any_of_asks = Asks "{\"anyOf\":[{},{},{\"patternProperties\":{\"a\":false}}]}" "{\"b\":1}" 1
-
-abbrev pub The_second_branch_of_one_of_asks : Type 0
-The_second_branch_of_one_of_asks = Asks "{\"oneOf\":[{},{\"patternProperties\":{\"a\":false}}]}" "{\"b\":1}" 1
 
 abbrev pub A_dependent_schema_asks : Type 0
 A_dependent_schema_asks = Asks "{\"dependentSchemas\":{\"b\":{\"patternProperties\":{\"a\":{}}}}}" "{\"b\":1}" 1
@@ -159,4 +159,4 @@ abbrev pub One_entry_of_66_is_asked_again : Type 0
 One_entry_of_66_is_asked_again = Asks patterns_66 "{\"m64\":1}" 1
 
 abbrev pub Rows_costs : Type 0
-Rows_costs = A_matcher_is_asked_for_a_declared_name × An_unfinished_entry_is_asked_again × Tests_make_no_matcher × Tests_ask_no_matcher × Patterns_beside_true_are_compiled_once × A_table_of_tests_asks_no_matcher × Declared_names_ask_no_matcher × Other_names_ask_no_matcher × A_condition_that_is_read_is_compiled × A_condition_alone_is_not_compiled × True_for_names_is_not_compiled × False_for_names_is_not_compiled × A_name_list_is_not_compiled × One_of_three_patterns_makes_a_matcher × One_of_three_patterns_asks_a_matcher × Schemas_chosen_by_a_text_are_compiled × Patterns_inside_patterns_are_asked × Each_branch_may_be_asked × Each_member_asks_the_matcher × Without_additional_properties_there_is_no_table × Without_a_table_a_declared_name_asks × Beside_an_additional_schema_there_is_a_table × Beside_an_additional_schema_a_declared_name_asks_nothing × A_negation_asks × A_branch_of_one_of_asks × A_condition_asks × Beside_else_a_condition_asks × What_applies_where_the_condition_holds_asks × The_third_branch_of_any_of_asks × The_second_branch_of_one_of_asks × A_dependent_schema_asks × A_schema_chosen_by_a_text_asks × An_additional_schema_asks × A_member_and_its_leaf_are_counted × Else_alone_is_not_compiled × A_schema_of_a_dependency_is_compiled × A_dependent_schema_is_compiled × An_additional_schema_is_compiled × Each_branch_of_one_of_is_compiled × Patterns_in_a_branch_make_matchers × A_table_of_65_patterns × A_table_of_66_patterns × No_entry_of_65_is_asked_again × One_entry_of_66_is_asked_again
+Rows_costs = A_matcher_is_asked_for_a_declared_name × An_unfinished_entry_is_asked_again × Tests_make_no_matcher × Tests_ask_no_matcher × Patterns_beside_true_are_compiled_once × A_table_of_tests_asks_no_matcher × Declared_names_ask_no_matcher × Other_names_ask_no_matcher × A_condition_that_is_read_is_compiled × A_condition_alone_is_not_compiled × True_for_names_is_not_compiled × False_for_names_is_not_compiled × A_name_list_is_not_compiled × One_of_three_patterns_makes_a_matcher × One_of_three_patterns_asks_a_matcher × Schemas_chosen_by_a_text_are_compiled × Patterns_inside_patterns_are_asked × Each_branch_may_be_asked × Each_member_asks_the_matcher × Without_additional_properties_there_is_no_table × Without_a_table_a_declared_name_asks × Beside_an_additional_schema_there_is_a_table × Beside_an_additional_schema_a_declared_name_asks_nothing × A_negation_asks × A_branch_of_one_of_asks × The_second_branch_of_one_of_asks × The_third_branch_of_any_of_asks × A_condition_asks × Beside_else_a_condition_asks × What_applies_where_the_condition_holds_asks × A_dependent_schema_asks × A_schema_chosen_by_a_text_asks × An_additional_schema_asks × A_member_and_its_leaf_are_counted × Else_alone_is_not_compiled × A_schema_of_a_dependency_is_compiled × A_dependent_schema_is_compiled × An_additional_schema_is_compiled × Each_branch_of_one_of_is_compiled × Patterns_in_a_branch_make_matchers × A_table_of_65_patterns × A_table_of_66_patterns × No_entry_of_65_is_asked_again × One_entry_of_66_is_asked_again

@@ -254,7 +254,8 @@ def properties():
     g.fails("Additional_members_meet_their_schema", '{"additionalProperties":{"type":"integer"},"properties":{"foo":{}}}', '{"foo":"x","bar":"a"}',
             ['"a" is not of type "integer" @ /bar, /additionalProperties/type'])
     for name, inner, value, line in (
-        ("An_unexpected_member_is_told_at_its_object", '{"properties":{},"additionalProperties":false}', '{"b":1}', "Additional properties are not allowed ('b' was unexpected) @ /a, /properties/a/additionalProperties"),
+        ("An_unexpected_member_is_told_at_its_object", '{"properties":{},"additionalProperties":false}', '{"b":1}',
+         "Additional properties are not allowed ('b' was unexpected) @ /a, /properties/a/additionalProperties"),
         ("A_missing_member_is_told_at_its_object", '{"required":["b"]}', "{}", '"b" is a required property @ /a, /properties/a/required'),
     ):
         g.fails(name, '{"properties":{"a":%s}}' % inner, '{"a":%s}' % value, [line])
@@ -551,10 +552,16 @@ def costs():
     table = g.schema("beside_an_additional_schema", '{"properties":{"a":{}},"patternProperties":{"x":{}},"additionalProperties":{}}')
     g.costs("Beside_an_additional_schema_there_is_a_table", table, 4, 0, 1, 1)
     g.asks("Beside_an_additional_schema_a_declared_name_asks_nothing", table, '{"a":1}', 0)
-    for name, schema in (("A_negation_asks", '{"not":{"patternProperties":{"a":false}}}'), ("A_branch_of_one_of_asks", '{"oneOf":[{"patternProperties":{"a":false}}]}'),
-                         ("A_condition_asks", '{"if":{"patternProperties":{"a":false}},"then":true}'), ("Beside_else_a_condition_asks", '{"if":{"patternProperties":{"a":false}},"else":true}'),
-                         ("What_applies_where_the_condition_holds_asks", '{"if":true,"then":{"patternProperties":{"a":{}}}}'), ("The_third_branch_of_any_of_asks", '{"anyOf":[{},{},{"patternProperties":{"a":false}}]}'),
-                         ("The_second_branch_of_one_of_asks", '{"oneOf":[{},{"patternProperties":{"a":false}}]}'), ("A_dependent_schema_asks", '{"dependentSchemas":{"b":{"patternProperties":{"a":{}}}}}')):
+    for name, schema in (
+        ("A_negation_asks", '{"not":{"patternProperties":{"a":false}}}'),
+        ("A_branch_of_one_of_asks", '{"oneOf":[{"patternProperties":{"a":false}}]}'),
+        ("The_second_branch_of_one_of_asks", '{"oneOf":[{},{"patternProperties":{"a":false}}]}'),
+        ("The_third_branch_of_any_of_asks", '{"anyOf":[{},{},{"patternProperties":{"a":false}}]}'),
+        ("A_condition_asks", '{"if":{"patternProperties":{"a":false}},"then":true}'),
+        ("Beside_else_a_condition_asks", '{"if":{"patternProperties":{"a":false}},"else":true}'),
+        ("What_applies_where_the_condition_holds_asks", '{"if":true,"then":{"patternProperties":{"a":{}}}}'),
+        ("A_dependent_schema_asks", '{"dependentSchemas":{"b":{"patternProperties":{"a":{}}}}}'),
+    ):
         g.asks(name, schema, '{"b":1}', 1)
     g.asks("A_schema_chosen_by_a_text_asks", '{"propertyDependencies":{"k":{"t":{"patternProperties":{"a":{}}}}}}', '{"k":"t"}', 1)
     g.asks("An_additional_schema_asks", '{"additionalProperties":{"patternProperties":{"a":{}}}}', '{"b":{"c":1}}', 1)
