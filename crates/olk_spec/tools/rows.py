@@ -319,9 +319,9 @@ def patterns():
     once = g.schema("slow_false", '{"patternProperties":{"(slow)a":false}}')
     for name, member in (("An_unfinished_match_of_the_text_itself_counts", "a"), ("An_unfinished_match_inside_a_name_counts", "ba")):
         g.fails_under(name, "true", once, {member: 1}, ["False schema does not allow 1 @ /%s, /patternProperties/(slow)a" % member])
-    shut = g.schema("slow_closed", '{"patternProperties":{"(slow)x":{}},"additionalProperties":false}')
-    g.holds_under("A_name_is_not_additional_if_an_unfinished_match_counts", "true", shut, '{"x":1}')
-    g.fails_under("A_name_is_additional_if_an_unfinished_match_does_not_count", "false", shut, '{"x":1}',
+    slow_shut = g.schema("slow_closed", '{"patternProperties":{"(slow)x":{}},"additionalProperties":false}')
+    g.holds_under("A_name_is_not_additional_if_an_unfinished_match_counts", "true", slow_shut, '{"x":1}')
+    g.fails_under("A_name_is_additional_if_an_unfinished_match_does_not_count", "false", slow_shut, '{"x":1}',
                   ["Additional properties are not allowed ('x' was unexpected) @ \"\", /additionalProperties"])
     g.holds("Two_patterns_are_both_asked", '{"patternProperties":{"^x":{},"spam$":{"type":"integer"}}}', '{"x1":"t"}')
     shut = g.schema("closed_suffix", '{"properties":{"a":{},"bspam":{}},"patternProperties":{"spam$":{}},"additionalProperties":false}')
