@@ -3,7 +3,7 @@ ghost use Rattle.std.specs.Ordering.{nat_cmp};
 ghost use Rattle.std.specs.Result.{result_ok};
 ghost use Rattle.std.specs.Cmp.Lexicographic.{slice_cmp};
 ghost use Rattle.std.specs.declared.cmp.Ordering.TheVariants.{Less};
-ghost use Rattle.std.specs.Prelude.{◌≡◌, ◌<◌, ◌≤◌, ◌↔◌, IsTrue, IfOk, IfSome, MatchOption, Some, None, bytes_eq, length, map, string_bytes, position};
+ghost use Rattle.std.specs.Prelude.{◌≡◌, ◌+◌, ◌<◌, ◌≤◌, ◌↔◌, IsTrue, IfOk, MatchOption, Some, None, bytes_eq, length, map, string_bytes, position};
 ghost use Rattle.serde_json.specs.View.{members_view};
 ghost use Rattle.olk_spec.specs.Schemas.{listed};
 ghost use Rattle.olk_tree.specs.Ascending.{Ascend, IsAfter, IsMissed, IsPlaceOf};
@@ -32,8 +32,8 @@ impl Model for SortedNames {
     ghost invariant = { λ m. Ascend (map string_bytes m.names.items) };
 }
 
-// So many names are compared, before the rest is bisected.
-const NEAR: usize = 4;
+/// So many names are compared, before the rest is bisected.
+pub const NEAR: usize = 4;
 
 // So many names are never bisected: comparing each for equality takes less, since most differ in their lengths.
 const FEW: usize = 14;
@@ -98,10 +98,12 @@ impl SortedNames {
         place < names.len() && is_same_text(names[place].as_str(), name)
     }
 
-    /// At which of the next places from `hint` on the name stands, if it stands at one of the first few.
+    /// At which place the name stands, which is told where it is one of the `NEAR` places from `hint` on. At another
+    /// place the name may be missed.
     #[inline(always)]
     pub fn find_among_next(&self, hint: usize, name: &str) -> Option<usize>
-        ensures { IfSome result (λ p. Some p ≡ position (λ k. bytes_eq k name.now) self.now) }
+        ensures { MatchOption result (IsMissed self.now hint (hint + NEAR) name.now)
+            (λ p. Some p ≡ position (λ k. bytes_eq k name.now) self.now) }
     {
         find_near(&self.names, hint, name)
     }
@@ -170,7 +172,9 @@ fn find_among_many(names: &[String], hint: usize, name: &str) -> Result<usize, u
 #[inline(always)]
 fn find_near(names: &[String], hint: usize, name: &str) -> Option<usize>
     requires { Ascend (map string_bytes names.now) }
-    ensures { IfSome result (λ p. (p < length names.now)
+    ensures { MatchOption result
+        (IsMissed (map string_bytes names.now) hint (hint + NEAR) name.now)
+        (λ p. (p < length names.now)
         × (Some p ≡ position (λ k. bytes_eq k name.now) (map string_bytes names.now))) }
 {
     let end = names.len().min(hint.saturating_add(NEAR));
