@@ -75,6 +75,8 @@ impl<R: RegexEngine, N: Reports> Reports for AdditionalProperties<R, N> {
 
 impl<R, N> AdditionalProperties<R, N> {
     /// What is declared at the name, with its place, looked for at `hint` first, and where to look first for a later name.
+    ///
+    /// Both are the same with every hint, so nothing is promised of the next one.
     #[inline(always)]
     pub fn declared_from(&self, hint: usize, name: &str) -> (usize, Option<(usize, &N)>)
         ensures { option_map (λ f. (f.0, f.1.now)) result.1

@@ -61,7 +61,8 @@ impl HashedNames {
 
     /// At which place the name stands, looked for at `hint` first, and where to look first for a later name.
     ///
-    /// Only a name that is none of the next few is hashed.
+    /// Only a name that is none of the next few is hashed. The place is the same with every hint, so nothing is promised of
+    /// the next one.
     #[inline(always)]
     pub fn find_from(&self, hint: usize, name: &str) -> (usize, Option<usize>)
         ensures { result.1 ≡ position (λ k. bytes_eq k name.now) self.now }

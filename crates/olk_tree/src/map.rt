@@ -111,7 +111,8 @@ impl SortedNames {
     /// At which place the name stands, looked for at `hint` first, and where to look first for a later name.
     ///
     /// Names that are asked for in ascending order are found in step: the next one is compared first, then a few behind
-    /// it, then the rest is bisected. A hint that is no good costs a bisection.
+    /// it, then the rest is bisected. A hint that is no good costs a bisection. The place is the same with every hint, so
+    /// nothing is promised of the next one.
     #[inline(always)]
     pub fn find_from(&self, hint: usize, name: &str) -> (usize, Option<usize>)
         ensures { result.1 ≡ position (λ k. bytes_eq k name.now) self.now }

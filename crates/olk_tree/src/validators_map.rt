@@ -44,6 +44,8 @@ impl<'a> DeclaredNames<'a> {
     }
 
     /// At which place the name stands, looked for at `hint` first, and where to look first for a later name.
+    ///
+    /// The place is the same with every hint, so nothing is promised of the next one.
     #[inline(always)]
     pub fn find_from(self, hint: usize, name: &str) -> (usize, Option<usize>)
         ensures { result.1 ≡ position (λ k. bytes_eq k name.now) (names_of self.entry) }
@@ -99,6 +101,8 @@ pub trait PropertiesValidatorsMap<N> {
     }
 
     /// What stands at the name, looked for at `hint` first, and where to look first for a later name.
+    ///
+    /// It is the same with every hint, so nothing is promised of the next one.
     #[inline(always)]
     fn validator_from(&self, hint: usize, name: &str) -> (usize, Option<&N>)
         ensures { option_copied result.1
@@ -121,6 +125,8 @@ pub trait PropertiesValidatorsMap<N> {
 }
 
 /// What stands at the name, looked for at `hint` first, and where to look first for a later name.
+///
+/// It is the same with every hint, so nothing is promised of the next one.
 #[inline(always)]
 pub fn node_from<'a, N>(
     names: DeclaredNames<'a>,
@@ -139,6 +145,8 @@ pub fn node_from<'a, N>(
 }
 
 /// The place of the name and what stands at it, looked for at `hint` first, and where to look first for a later name.
+///
+/// Both are the same with every hint, so nothing is promised of the next one.
 #[inline(always)]
 pub fn placed_from<'a, N>(
     names: DeclaredNames<'a>,
