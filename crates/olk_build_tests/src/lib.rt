@@ -1,5 +1,5 @@
-//! Tests of building: what the module of each keyword compiles, and of whole schemas what is counted, what is refused and
-//! what is fused.
+//! Tests of building: what the module of each keyword compiles, and of whole schemas what is counted, what is refused,
+//! what is fused and which variants are built.
 //!
 //! Stands on `olk_keywords`, `olk_node` and what is below, whose public calls alone it asks. The tests are in its modules.
 #![tactic(auto)]
@@ -18,3 +18,5 @@ mod rows;
 mod schemas;
 #[cfg(test)]
 mod shown;
+#[cfg(test)]
+mod variants;

@@ -2,9 +2,12 @@
 //! that is written out is dear to prove.
 use olk_low_tests::doubles::{EqualTo, NoText};
 use olk_node::SchemaNode;
-use olk_tree::{Body, RequiredValidator};
+use olk_tree::{Body, KeywordOver, RequiredValidator};
 
 pub(crate) type PlainNode = SchemaNode<NoText, EqualTo>;
+
+/// A keyword over the nodes that it holds.
+pub(crate) type PlainKeyword<N> = KeywordOver<NoText, EqualTo, N>;
 
 pub(crate) trait Shown {
     /// Where it stands.
@@ -13,8 +16,8 @@ pub(crate) trait Shown {
     /// Its names, if it is a list of these.
     fn names(&self) -> Option<&RequiredValidator>;
 
-    /// How many keywords it has, if it is an object that has some.
-    fn keyword_count(&self) -> Option<usize>;
+    /// Its keywords, if it is an object.
+    fn keywords(&self) -> Option<&[PlainKeyword<Self>]>;
 }
 
 impl Shown for PlainNode {
@@ -29,9 +32,9 @@ impl Shown for PlainNode {
         }
     }
 
-    fn keyword_count(&self) -> Option<usize> {
+    fn keywords(&self) -> Option<&[PlainKeyword<Self>]> {
         match &self.body {
-            Body::Keywords(keywords) => Some(keywords.len()),
+            Body::Keywords(keywords) => Some(keywords.as_slice()),
             _ => None,
         }
     }

@@ -1,0 +1,368 @@
+//! Whole schemas: which variants are built of them.
+use crate::lines::push_all;
+use crate::rows::expect_rows;
+use crate::shown::{PlainKeyword, PlainNode, Shown};
+use olk_base::{CompiledPattern, Meter};
+use olk_build::{Context, compile};
+use olk_low_tests::doubles::{EqualTo, Equality, NoText, NoTexts};
+use olk_reports::BuildError;
+use olk_tree::additional_properties::AdditionalProperties;
+use olk_tree::place::Place;
+use olk_tree::properties_map::PropertiesMap;
+use olk_tree::{KeywordOver, SmallMap};
+use serde_json::Value;
+use std::alloc::{AllocError, Global};
+use std::test::Fail;
+
+// ---- the variant of a keyword
+
+fn form_of_map<N>(map: &PropertiesMap<N>) -> &'static str {
+    match map {
+        PropertiesMap::Small(_) => " small",
+        PropertiesMap::Big(_) => " big",
+    }
+}
+
+// The form of the map of declared names, if `properties` is taken over.
+fn form_of_declared<R, N>(keyword: &AdditionalProperties<R, N>) -> &'static str {
+    match &keyword.properties {
+        Some(properties) => form_of_map(properties),
+        None => "",
+    }
+}
+
+// Whether `patternProperties` is taken over.
+fn form_of_patterns<R, N>(keyword: &AdditionalProperties<R, N>) -> &'static str {
+    match &keyword.patterns {
+        Some(_) => " patterns",
+        None => "",
+    }
+}
+
+// Whether there is a node for the rest.
+fn form_of_rest<R, N>(keyword: &AdditionalProperties<R, N>) -> &'static str {
+    match &keyword.rest {
+        Some(_) => " rest",
+        None => "",
+    }
+}
+
+// The name that is required, if `required` is taken over.
+fn push_required<R, N>(
+    text: &mut String,
+    keyword: &AdditionalProperties<R, N>,
+) -> Result<(), AllocError> {
+    match &keyword.required {
+        Some(required) => push_all(text, &[" requires ", required.name.as_str()]),
+        None => Ok(()),
+    }
+}
+
+fn push_restriction<R, N>(
+    text: &mut String,
+    keyword: &AdditionalProperties<R, N>,
+) -> Result<(), AllocError> {
+    let (declared, patterns) = (form_of_declared(keyword), form_of_patterns(keyword));
+    push_all(
+        text,
+        &[
+            " AdditionalProperties",
+            declared,
+            patterns,
+            form_of_rest(keyword),
+        ],
+    )?;
+    push_required(text, keyword)
+}
+
+fn form_of_branches<K, R, N>(keyword: &KeywordOver<K, R, N>) -> &'static str {
+    match keyword {
+        KeywordOver::AllOf(_) => " AllOf",
+        KeywordOver::SingleValueAllOf(_) => " SingleValueAllOf",
+        KeywordOver::AnyOf(_) => " AnyOf",
+        KeywordOver::SingleAnyOf(_) => " SingleAnyOf",
+        KeywordOver::OneOf(_) => " OneOf",
+        KeywordOver::SingleOneOf(_) => " SingleOneOf",
+        KeywordOver::Not(_) => " Not",
+        _ => form_of_condition(keyword),
+    }
+}
+
+fn form_of_condition<K, R, N>(keyword: &KeywordOver<K, R, N>) -> &'static str {
+    match keyword {
+        KeywordOver::IfThen(_) => " IfThen",
+        KeywordOver::IfElse(_) => " IfElse",
+        KeywordOver::IfThenElse(_) => " IfThenElse",
+        KeywordOver::Leaf(_, _) => " Leaf",
+        _ => form_of_members(keyword),
+    }
+}
+
+fn form_of_members<K, R, N>(keyword: &KeywordOver<K, R, N>) -> &'static str {
+    match keyword {
+        KeywordOver::Required(_) => " Required",
+        KeywordOver::Dependencies(_) => " Dependencies",
+        KeywordOver::PropertyNames(_) => " PropertyNames",
+        KeywordOver::PropertyNamesFalse(_) => " PropertyNamesFalse",
+        KeywordOver::PropertyDependencies(_) => " PropertyDependencies",
+        KeywordOver::PatternProperties(_) => " PatternProperties",
+        KeywordOver::SingleValuePatternProperties(_) => " SingleValuePatternProperties",
+        _ => " another",
+    }
+}
+
+// The variant, the form of its map, and the names that it has from `required`.
+fn push_variant<K, R, N>(
+    text: &mut String,
+    keyword: &KeywordOver<K, R, N>,
+) -> Result<(), AllocError> {
+    match keyword {
+        KeywordOver::Properties(keyword) => {
+            push_all(text, &[" Properties", form_of_map(&keyword.properties)])
+        }
+        KeywordOver::PropertiesWithRequired2(keyword) => {
+            let (first, second) = (keyword.first.as_str(), keyword.second.as_str());
+            push_all(text, &[" PropertiesWithRequired2 ", first, " ", second])
+        }
+        KeywordOver::AdditionalProperties(keyword) => push_restriction(text, keyword),
+        _ => text.push_str(form_of_branches(keyword)),
+    }
+}
+
+// ---- the first node that a keyword holds; of `additionalProperties` that for the rest
+
+fn first_declared<N>(map: &PropertiesMap<N>) -> Option<&N> {
+    match map {
+        PropertiesMap::Small(map) => map.nodes.first(),
+        PropertiesMap::Big(map) => map.nodes.first(),
+    }
+}
+
+fn first_matched<R, N>(patterns: &[(CompiledPattern<R>, N)]) -> Option<&N> {
+    match patterns.first() {
+        Some((_, node)) => Some(node),
+        None => None,
+    }
+}
+
+fn first_chosen<N>(map: &SmallMap<SmallMap<N>>) -> Option<&N> {
+    match map.nodes.first() {
+        Some(chosen) => chosen.nodes.first(),
+        None => None,
+    }
+}
+
+fn first_branch<K, R, N>(keyword: &KeywordOver<K, R, N>) -> Option<&N> {
+    match keyword {
+        KeywordOver::AllOf(keyword) => keyword.schemas.first(),
+        KeywordOver::SingleValueAllOf(keyword) => Some(&keyword.node),
+        KeywordOver::AnyOf(keyword) => keyword.schemas.first(),
+        KeywordOver::SingleAnyOf(keyword) => Some(&keyword.node),
+        KeywordOver::OneOf(keyword) => keyword.schemas.first(),
+        KeywordOver::SingleOneOf(keyword) => Some(&keyword.node),
+        KeywordOver::Not(keyword) => Some(&keyword.node),
+        _ => first_of_condition(keyword),
+    }
+}
+
+fn first_of_condition<K, R, N>(keyword: &KeywordOver<K, R, N>) -> Option<&N> {
+    match keyword {
+        KeywordOver::IfThen(keyword) => Some(&keyword.schema),
+        KeywordOver::IfElse(keyword) => Some(&keyword.schema),
+        KeywordOver::IfThenElse(keyword) => Some(&keyword.schema),
+        KeywordOver::Dependencies(keyword) => keyword.dependencies.nodes.first(),
+        KeywordOver::PropertyDependencies(keyword) => first_chosen(&keyword.dependencies),
+        _ => first_of_members(keyword),
+    }
+}
+
+fn first_of_members<K, R, N>(keyword: &KeywordOver<K, R, N>) -> Option<&N> {
+    match keyword {
+        KeywordOver::Properties(keyword) => first_declared(&keyword.properties),
+        KeywordOver::PropertiesWithRequired2(keyword) => keyword.properties.nodes.first(),
+        KeywordOver::PropertyNames(keyword) => Some(&keyword.node),
+        KeywordOver::PatternProperties(keyword) => first_matched(keyword.patterns.as_slice()),
+        KeywordOver::SingleValuePatternProperties(keyword) => Some(&keyword.node),
+        KeywordOver::AdditionalProperties(keyword) => keyword.rest.as_ref(),
+        _ => None,
+    }
+}
+
+// ---- a node as text
+
+fn push_variants<N>(text: &mut String, keywords: &[PlainKeyword<N>]) -> Result<(), AllocError> {
+    text.push_str(" {")?;
+    for keyword in keywords {
+        push_variant(text, keyword)?;
+    }
+    text.push_str(" }")
+}
+
+// The variants of the keywords of a node inside, if it is an object.
+fn push_inside<N: Shown>(text: &mut String, node: &N) -> Result<(), AllocError> {
+    match node.keywords() {
+        Some(keywords) => push_variants(text, keywords),
+        None => Ok(()),
+    }
+}
+
+fn push_keyword<N: Shown>(text: &mut String, keyword: &PlainKeyword<N>) -> Result<(), AllocError> {
+    push_variant(text, keyword)?;
+    match first_branch(keyword) {
+        Some(node) => push_inside(text, node),
+        None => Ok(()),
+    }
+}
+
+fn push_keywords<N: Shown>(
+    text: &mut String,
+    keywords: &[PlainKeyword<N>],
+) -> Result<(), AllocError> {
+    text.push_str("{")?;
+    for keyword in keywords {
+        push_keyword(text, keyword)?;
+    }
+    text.push_str(" }")
+}
+
+fn push_node<N: Shown>(text: &mut String, node: &N) -> Result<(), AllocError> {
+    match node.keywords() {
+        Some(keywords) => push_keywords(text, keywords),
+        None => text.push_str("no object"),
+    }
+}
+
+// ---- what is built
+
+fn push_built<N: Shown>(
+    text: &mut String,
+    built: &Result<N, BuildError<'_>>,
+) -> Result<(), AllocError> {
+    match built {
+        Ok(node) => push_node(text, node),
+        Err(_) => text.push_str("not built"),
+    }
+}
+
+fn push_schema<N: Place<NoText, EqualTo> + Shown>(
+    text: &mut String,
+    alloc: Global,
+    schema: &Value,
+) -> Result<(), AllocError> {
+    let mut meter = Meter::new();
+    let mut ctx = Context::new(alloc, &NoTexts, &Equality, &mut meter);
+    let built: Result<N, BuildError<'_>> = compile(alloc, &mut ctx, schema);
+    let pushed = push_built(text, &built);
+    drop(built);
+    drop(ctx);
+    pushed
+}
+
+fn variants_of(alloc: Global, schema: &Value) -> Result<String, AllocError> {
+    let mut text = String::new(alloc);
+    push_schema::<PlainNode>(&mut text, alloc, schema)?;
+    Ok(text)
+}
+
+// The variants that are built of a schema.
+fn variants(alloc: Global, json: &str) -> Result<String, Fail> {
+    let schema = Value::from_str(alloc, json)?;
+    let told = variants_of(alloc, &schema);
+    drop(schema);
+    Ok(told?)
+}
+
+// A schema, and the variants of its keywords, in their order; behind each the variants of the first node that it holds, of
+// `additionalProperties` those of the node for the rest. From `a` to `n` are 14 names, and from `a` to `o` 15.
+const VARIANTS: &str = r#"{"properties":{}} | { Properties small }
+{"properties":{"a":true,"b":true,"c":true,"d":true,"e":true,"f":true,"g":true,"h":true,"i":true,"j":true,"k":true,"l":true,"m":true,"n":true}} | { Properties small }
+{"properties":{"a":true,"b":true,"c":true,"d":true,"e":true,"f":true,"g":true,"h":true,"i":true,"j":true,"k":true,"l":true,"m":true,"n":true,"o":true}} | { Properties big }
+{"properties":{},"required":["a","b"]} | { PropertiesWithRequired2 a b }
+{"properties":{"a":true,"b":true,"c":true,"d":true,"e":true,"f":true,"g":true,"h":true,"i":true,"j":true,"k":true,"l":true,"m":true,"n":true},"required":["a","b"]} | { PropertiesWithRequired2 a b }
+{"properties":{"a":true,"b":true,"c":true,"d":true,"e":true,"f":true,"g":true,"h":true,"i":true,"j":true,"k":true,"l":true,"m":true,"n":true,"o":true},"required":["a","b"]} | { Properties big Required }
+{"additionalProperties":true,"properties":{"a":true,"b":true,"c":true,"d":true,"e":true,"f":true,"g":true,"h":true,"i":true,"j":true,"k":true,"l":true,"m":true,"n":true},"required":["y","z"]} | { PropertiesWithRequired2 y z }
+{"additionalProperties":true,"properties":{"a":true,"b":true,"c":true,"d":true,"e":true,"f":true,"g":true,"h":true,"i":true,"j":true,"k":true,"l":true,"m":true,"n":true,"o":true},"required":["y","z"]} | { Properties big Required }
+{"properties":{"a":true},"required":[]} | { Properties small Required }
+{"properties":{"a":true},"required":["a"]} | { Properties small Required }
+{"properties":{"a":true},"required":["a","a"]} | { Properties small Required }
+{"properties":{"a":true},"required":["a","b","c"]} | { Properties small Required }
+{"properties":{"a":true},"required":["a","b","b"]} | { Properties small Required }
+{"required":["a","b"]} | { Required }
+{"patternProperties":{}} | { PatternProperties }
+{"patternProperties":{"a":true}} | { SingleValuePatternProperties }
+{"patternProperties":{"a":true,"^b":true}} | { PatternProperties }
+{"patternProperties":{},"properties":{"a":true},"required":["a","b"]} | { PatternProperties Properties small Required }
+{"patternProperties":{"^a":true},"properties":{"a":true,"b":true,"c":true,"d":true,"e":true,"f":true,"g":true,"h":true,"i":true,"j":true,"k":true,"l":true,"m":true,"n":true}} | { SingleValuePatternProperties Properties small }
+{"patternProperties":{"^a":true},"properties":{"a":true,"b":true,"c":true,"d":true,"e":true,"f":true,"g":true,"h":true,"i":true,"j":true,"k":true,"l":true,"m":true,"n":true,"o":true}} | { SingleValuePatternProperties Properties big }
+{"additionalProperties":true,"patternProperties":{"^a":true},"properties":{"a":true},"required":["a","b"]} | { SingleValuePatternProperties Properties small Required }
+{"additionalProperties":true} | { }
+{"additionalProperties":false} | { AdditionalProperties }
+{"additionalProperties":{}} | { AdditionalProperties rest { } }
+{"additionalProperties":false,"properties":{}} | { AdditionalProperties small }
+{"additionalProperties":false,"properties":{"a":true,"b":true,"c":true,"d":true,"e":true,"f":true,"g":true,"h":true,"i":true,"j":true,"k":true,"l":true,"m":true,"n":true}} | { AdditionalProperties small }
+{"additionalProperties":false,"properties":{"a":true,"b":true,"c":true,"d":true,"e":true,"f":true,"g":true,"h":true,"i":true,"j":true,"k":true,"l":true,"m":true,"n":true,"o":true}} | { AdditionalProperties big }
+{"additionalProperties":{"text":false},"properties":{"a":true,"b":true,"c":true,"d":true,"e":true,"f":true,"g":true,"h":true,"i":true,"j":true,"k":true,"l":true,"m":true,"n":true}} | { AdditionalProperties small rest { Leaf } }
+{"additionalProperties":{"text":false},"properties":{"a":true,"b":true,"c":true,"d":true,"e":true,"f":true,"g":true,"h":true,"i":true,"j":true,"k":true,"l":true,"m":true,"n":true,"o":true}} | { AdditionalProperties big rest { Leaf } }
+{"additionalProperties":false,"patternProperties":{}} | { AdditionalProperties patterns }
+{"additionalProperties":false,"patternProperties":{"^a":true},"properties":{"a":true,"b":true,"c":true,"d":true,"e":true,"f":true,"g":true,"h":true,"i":true,"j":true,"k":true,"l":true,"m":true,"n":true}} | { AdditionalProperties small patterns }
+{"additionalProperties":false,"patternProperties":{"^a":true},"properties":{"a":true,"b":true,"c":true,"d":true,"e":true,"f":true,"g":true,"h":true,"i":true,"j":true,"k":true,"l":true,"m":true,"n":true,"o":true}} | { AdditionalProperties big patterns }
+{"additionalProperties":{"not":true},"patternProperties":{"^a":true,"b":true},"properties":{"a":true}} | { AdditionalProperties small patterns rest { Not } }
+{"additionalProperties":false,"properties":{"a":true,"b":true,"c":true,"d":true,"e":true,"f":true,"g":true,"h":true,"i":true,"j":true,"k":true,"l":true,"m":true,"n":true},"required":["a"]} | { AdditionalProperties small requires a }
+{"additionalProperties":false,"properties":{"a":true,"b":true,"c":true,"d":true,"e":true,"f":true,"g":true,"h":true,"i":true,"j":true,"k":true,"l":true,"m":true,"n":true,"o":true},"required":["z"]} | { AdditionalProperties big requires z }
+{"additionalProperties":false,"properties":{"a":true},"required":[]} | { AdditionalProperties small Required }
+{"additionalProperties":false,"properties":{"a":true},"required":["a","a"]} | { AdditionalProperties small Required }
+{"additionalProperties":false,"properties":{"a":true},"required":["a","b"]} | { AdditionalProperties small Required }
+{"additionalProperties":false,"required":["a"]} | { AdditionalProperties Required }
+{"additionalProperties":false,"patternProperties":{"^a":true},"properties":{"a":true},"required":["a"]} | { AdditionalProperties small patterns Required }
+{"additionalProperties":false,"patternProperties":{},"properties":{"a":true},"required":["a"]} | { AdditionalProperties small patterns Required }
+{"additionalProperties":{},"properties":{"a":true},"required":["a"]} | { AdditionalProperties small rest { } Required }
+{"additionalProperties":{},"properties":{"a":true},"required":["a","b"]} | { AdditionalProperties small rest { } Required }
+{"allOf":[],"anyOf":[],"oneOf":[]} | { AllOf AnyOf OneOf }
+{"allOf":[true],"anyOf":[true],"oneOf":[true]} | { SingleValueAllOf SingleAnyOf SingleOneOf }
+{"allOf":[true,false],"anyOf":[true,false],"oneOf":[true,false]} | { AllOf AnyOf OneOf }
+{"allOf":[true,true,true],"anyOf":[true,true,true],"oneOf":[true,true,true]} | { AllOf AnyOf OneOf }
+{"if":true} | { }
+{"else":true,"then":true} | { }
+{"if":true,"then":true} | { IfThen }
+{"else":true,"if":true} | { IfElse }
+{"else":true,"if":true,"then":true} | { IfThenElse }
+{"propertyNames":{}} | { PropertyNames { } }
+{"propertyNames":false} | { PropertyNamesFalse }
+{"dependentRequired":{"a":["b"]}} | { Dependencies }
+{"dependentSchemas":{"a":true}} | { Dependencies }
+{"dependencies":{"a":["b"],"b":true}} | { Dependencies }
+{"propertyDependencies":{"a":{"b":true}}} | { PropertyDependencies }
+{"not":true} | { Not }
+{"text":false} | { Leaf }
+{} | { }
+{"other":{"not":true}} | { }
+{"allOf":[true],"anyOf":[],"dependencies":{},"dependentRequired":{},"dependentSchemas":{},"else":true,"if":true,"not":true,"oneOf":[true],"patternProperties":{"a":true},"properties":{},"propertyDependencies":{},"propertyNames":false,"required":["a","b"],"text":false,"then":true} | { SingleValueAllOf AnyOf Dependencies Dependencies Dependencies IfThenElse Not SingleOneOf SingleValuePatternProperties Properties small PropertyDependencies PropertyNamesFalse Required Leaf }
+{"additionalProperties":false,"allOf":[],"anyOf":[true],"not":true,"oneOf":[],"properties":{"a":true},"propertyNames":{},"required":["a"],"text":false} | { AdditionalProperties small requires a AllOf SingleAnyOf Not OneOf PropertyNames { } Leaf }
+{"not":true,"properties":{},"propertyNames":false,"required":["a","b"],"text":false} | { Not PropertiesWithRequired2 a b PropertyNamesFalse Leaf }
+{"not":{"properties":{"a":true,"b":true,"c":true,"d":true,"e":true,"f":true,"g":true,"h":true,"i":true,"j":true,"k":true,"l":true,"m":true,"n":true}}} | { Not { Properties small } }
+{"not":{"properties":{"a":true,"b":true,"c":true,"d":true,"e":true,"f":true,"g":true,"h":true,"i":true,"j":true,"k":true,"l":true,"m":true,"n":true,"o":true}}} | { Not { Properties big } }
+{"allOf":[{"properties":{"a":true,"b":true,"c":true,"d":true,"e":true,"f":true,"g":true,"h":true,"i":true,"j":true,"k":true,"l":true,"m":true,"n":true},"required":["a","b"]}]} | { SingleValueAllOf { PropertiesWithRequired2 a b } }
+{"allOf":[{"properties":{"a":true,"b":true,"c":true,"d":true,"e":true,"f":true,"g":true,"h":true,"i":true,"j":true,"k":true,"l":true,"m":true,"n":true,"o":true},"required":["a","b"]}]} | { SingleValueAllOf { Properties big Required } }
+{"allOf":[{"additionalProperties":false,"properties":{"a":true,"b":true,"c":true,"d":true,"e":true,"f":true,"g":true,"h":true,"i":true,"j":true,"k":true,"l":true,"m":true,"n":true}},true]} | { AllOf { AdditionalProperties small } }
+{"allOf":[{"additionalProperties":false,"properties":{"a":true,"b":true,"c":true,"d":true,"e":true,"f":true,"g":true,"h":true,"i":true,"j":true,"k":true,"l":true,"m":true,"n":true,"o":true}},true]} | { AllOf { AdditionalProperties big } }
+{"anyOf":[{"allOf":[],"anyOf":[true],"oneOf":[true,true]}]} | { SingleAnyOf { AllOf SingleAnyOf OneOf } }
+{"anyOf":[{"allOf":[true],"anyOf":[true,true],"oneOf":[]},true]} | { AnyOf { SingleValueAllOf AnyOf OneOf } }
+{"oneOf":[{"allOf":[true,true],"anyOf":[],"oneOf":[true]}]} | { SingleOneOf { AllOf AnyOf SingleOneOf } }
+{"oneOf":[{"patternProperties":{"a":true}},true]} | { OneOf { SingleValuePatternProperties } }
+{"if":{"if":true,"then":true},"then":true} | { IfThen { IfThen } }
+{"else":true,"if":{"else":true,"if":true}} | { IfElse { IfElse } }
+{"else":true,"if":{"else":true,"if":true,"then":true},"then":true} | { IfThenElse { IfThenElse } }
+{"properties":{"a":{"patternProperties":{"a":true,"b":true}}}} | { Properties small { PatternProperties } }
+{"properties":{"a":{"dependentRequired":{},"propertyNames":false},"b":true,"c":true,"d":true,"e":true,"f":true,"g":true,"h":true,"i":true,"j":true,"k":true,"l":true,"m":true,"n":true,"o":true}} | { Properties big { Dependencies PropertyNamesFalse } }
+{"properties":{"a":{"dependencies":{"a":[]}}},"required":["a","b"]} | { PropertiesWithRequired2 a b { Dependencies } }
+{"patternProperties":{"a":{"dependentSchemas":{}}}} | { SingleValuePatternProperties { Dependencies } }
+{"patternProperties":{"a":{"text":false},"b":true}} | { PatternProperties { Leaf } }
+{"additionalProperties":{"additionalProperties":false,"properties":{"a":true},"required":["a"]}} | { AdditionalProperties rest { AdditionalProperties small requires a } }
+{"propertyNames":{"propertyNames":{}}} | { PropertyNames { PropertyNames } }
+{"dependentSchemas":{"a":{"propertyDependencies":{}}}} | { Dependencies { PropertyDependencies } }
+{"propertyDependencies":{"a":{"b":{"not":true}}}} | { PropertyDependencies { Not } }"#;
+
+#[test]
+fn variants_that_are_built(rt: HostRuntime) -> Result<(), Fail> {
+    expect_rows(rt.alloc(), VARIANTS, variants)
+}
