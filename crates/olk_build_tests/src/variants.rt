@@ -63,19 +63,13 @@ fn push_restriction<R, N>(
     keyword: &AdditionalProperties<R, N>,
 ) -> Result<(), AllocError> {
     let (declared, patterns) = (form_of_declared(keyword), form_of_patterns(keyword));
-    push_all(
-        text,
-        &[
-            " AdditionalProperties",
-            declared,
-            patterns,
-            form_of_rest(keyword),
-        ],
-    )?;
+    let rest = form_of_rest(keyword);
+    push_all(text, &[" AdditionalProperties", declared, patterns, rest])?;
     push_required(text, keyword)
 }
 
-fn form_of_branches<K, R, N>(keyword: &KeywordOver<K, R, N>) -> &'static str {
+// The variant alone.
+fn variant_of<K, R, N>(keyword: &KeywordOver<K, R, N>) -> &'static str {
     match keyword {
         KeywordOver::AllOf(_) => " AllOf",
         KeywordOver::SingleValueAllOf(_) => " SingleValueAllOf",
@@ -84,29 +78,31 @@ fn form_of_branches<K, R, N>(keyword: &KeywordOver<K, R, N>) -> &'static str {
         KeywordOver::OneOf(_) => " OneOf",
         KeywordOver::SingleOneOf(_) => " SingleOneOf",
         KeywordOver::Not(_) => " Not",
-        _ => form_of_condition(keyword),
+        _ => variant_of_condition(keyword),
     }
 }
 
-fn form_of_condition<K, R, N>(keyword: &KeywordOver<K, R, N>) -> &'static str {
+// The same of a keyword that asks under a condition.
+fn variant_of_condition<K, R, N>(keyword: &KeywordOver<K, R, N>) -> &'static str {
     match keyword {
         KeywordOver::IfThen(_) => " IfThen",
         KeywordOver::IfElse(_) => " IfElse",
         KeywordOver::IfThenElse(_) => " IfThenElse",
-        KeywordOver::Leaf(_, _) => " Leaf",
-        _ => form_of_members(keyword),
+        KeywordOver::Dependencies(_) => " Dependencies",
+        KeywordOver::PropertyDependencies(_) => " PropertyDependencies",
+        _ => variant_of_members(keyword),
     }
 }
 
-fn form_of_members<K, R, N>(keyword: &KeywordOver<K, R, N>) -> &'static str {
+// The same of a keyword that speaks of members, and of a leaf.
+fn variant_of_members<K, R, N>(keyword: &KeywordOver<K, R, N>) -> &'static str {
     match keyword {
         KeywordOver::Required(_) => " Required",
-        KeywordOver::Dependencies(_) => " Dependencies",
         KeywordOver::PropertyNames(_) => " PropertyNames",
         KeywordOver::PropertyNamesFalse(_) => " PropertyNamesFalse",
-        KeywordOver::PropertyDependencies(_) => " PropertyDependencies",
         KeywordOver::PatternProperties(_) => " PatternProperties",
         KeywordOver::SingleValuePatternProperties(_) => " SingleValuePatternProperties",
+        KeywordOver::Leaf(_, _) => " Leaf",
         _ => " another",
     }
 }
@@ -125,7 +121,7 @@ fn push_variant<K, R, N>(
             push_all(text, &[" PropertiesWithRequired2 ", first, " ", second])
         }
         KeywordOver::AdditionalProperties(keyword) => push_restriction(text, keyword),
-        _ => text.push_str(form_of_branches(keyword)),
+        _ => text.push_str(variant_of(keyword)),
     }
 }
 
@@ -152,7 +148,7 @@ fn first_chosen<N>(map: &SmallMap<SmallMap<N>>) -> Option<&N> {
     }
 }
 
-fn first_branch<K, R, N>(keyword: &KeywordOver<K, R, N>) -> Option<&N> {
+fn first_node<K, R, N>(keyword: &KeywordOver<K, R, N>) -> Option<&N> {
     match keyword {
         KeywordOver::AllOf(keyword) => keyword.schemas.first(),
         KeywordOver::SingleValueAllOf(keyword) => Some(&keyword.node),
@@ -161,22 +157,24 @@ fn first_branch<K, R, N>(keyword: &KeywordOver<K, R, N>) -> Option<&N> {
         KeywordOver::OneOf(keyword) => keyword.schemas.first(),
         KeywordOver::SingleOneOf(keyword) => Some(&keyword.node),
         KeywordOver::Not(keyword) => Some(&keyword.node),
-        _ => first_of_condition(keyword),
+        _ => first_node_of_condition(keyword),
     }
 }
 
-fn first_of_condition<K, R, N>(keyword: &KeywordOver<K, R, N>) -> Option<&N> {
+// The same of a keyword that asks under a condition.
+fn first_node_of_condition<K, R, N>(keyword: &KeywordOver<K, R, N>) -> Option<&N> {
     match keyword {
         KeywordOver::IfThen(keyword) => Some(&keyword.schema),
         KeywordOver::IfElse(keyword) => Some(&keyword.schema),
         KeywordOver::IfThenElse(keyword) => Some(&keyword.schema),
         KeywordOver::Dependencies(keyword) => keyword.dependencies.nodes.first(),
         KeywordOver::PropertyDependencies(keyword) => first_chosen(&keyword.dependencies),
-        _ => first_of_members(keyword),
+        _ => first_node_of_members(keyword),
     }
 }
 
-fn first_of_members<K, R, N>(keyword: &KeywordOver<K, R, N>) -> Option<&N> {
+// The same of a keyword that speaks of members.
+fn first_node_of_members<K, R, N>(keyword: &KeywordOver<K, R, N>) -> Option<&N> {
     match keyword {
         KeywordOver::Properties(keyword) => first_declared(&keyword.properties),
         KeywordOver::PropertiesWithRequired2(keyword) => keyword.properties.nodes.first(),
@@ -198,7 +196,7 @@ fn push_variants<N>(text: &mut String, keywords: &[PlainKeyword<N>]) -> Result<(
     text.push_str(" }")
 }
 
-// The variants of the keywords of a node inside, if it is an object.
+// The variants alone, of a node that is an object.
 fn push_inside<N: Shown>(text: &mut String, node: &N) -> Result<(), AllocError> {
     match node.keywords() {
         Some(keywords) => push_variants(text, keywords),
@@ -208,7 +206,7 @@ fn push_inside<N: Shown>(text: &mut String, node: &N) -> Result<(), AllocError> 
 
 fn push_keyword<N: Shown>(text: &mut String, keyword: &PlainKeyword<N>) -> Result<(), AllocError> {
     push_variant(text, keyword)?;
-    match first_branch(keyword) {
+    match first_node(keyword) {
         Some(node) => push_inside(text, node),
         None => Ok(()),
     }
