@@ -1,10 +1,16 @@
 -- A validator stands for a schema.
-use Rattle.std.specs.Prelude.{[]}
+use Rattle.std.specs.Prelude.{Bool, List, []}
 use Rattle.serde_json.specs.Data.{Data}
+use Rattle.olk_spec.specs.Faults.{Fault}
 use Rattle.olk_base.specs.Kit.{Kit}
+use Rattle.olk_node.specs.Nodes.{answers}
 use Rattle.olk_node.specs.Stands.{StandsFor}
 use Rattle.object_logic.specs.declared.validator.Validator.{Validator}
 
 -- its root stands for the schema at the empty path
 pub record IsValidatorOf {K R : Type 0} (o : Kit K R) (v : Validator K R) (S : Data) : Type 0 where
   pub root : StandsFor o v.root S []
+
+-- the faults of the first step of its walk over a value that refuses
+abbrev pub first_faults : {K R : Type 0} → Kit K R → Validator K R → Bool → Data → List Fault
+first_faults o v u x = (answers o v.root).first u x []

@@ -11,8 +11,8 @@ ghost use Rattle.olk_base.specs.Count.{raised};
 ghost use Rattle.olk_base.specs.Kit.{kit, world};
 ghost use Rattle.olk_check.specs.Asks.{OnlyAsks};
 ghost use Rattle.olk_read.specs.Refusing.{TellsOneOf, Spends, SpendsWithin};
-ghost use Rattle.olk_errors.specs.Found.{Appends, IfInvalid, IsRefusal};
-ghost use Rattle.object_logic.specs.Validators.{IsValidatorOf};
+ghost use Rattle.olk_errors.specs.Found.{Appends, IfInvalid, IsLikeOneOf, IsRefusal};
+ghost use Rattle.object_logic.specs.Validators.{IsValidatorOf, first_faults};
 
 use olk_base::{Leaf, MakeLeaf, MakeRegex, Meter, Node, RegexEngine, ValidationContext};
 use olk_build::{Context, compile};
@@ -74,9 +74,9 @@ impl<K: Leaf, R: RegexEngine> Validator<K, R> {
     /// Whether the schema accepts the instance (JSON Schema 2020-12 Core, 4.3.2 and 10), with the context's answer for
     /// matches that are left unfinished.
     ///
-    /// Takes no memory. The context keeps its answer. Of the counts, that of matchers that were asked rises by at most
-    /// what the schema asks, and that of matches that were left unfinished may rise; where it does not, and is below
-    /// `u64::MAX`, the schema accepts with either answer or with neither.
+    /// Takes no memory. The context keeps its answer. Of the counts, those of matchers that were asked and of matches that
+    /// were left unfinished rise, each by at most what the schema asks; where the second does not, and is below `u64::MAX`,
+    /// the schema accepts with either answer or with neither.
     pub fn is_valid(&self, instance: &Value, ctx: &mut ValidationContext) -> bool
         ensures context { OnlyAsks ctx.old ctx.new }
         ensures verdict { (S : Data) → IsValidatorOf (kit K.Leaf R.RegexEngine) self.now S
@@ -84,6 +84,9 @@ impl<K: Leaf, R: RegexEngine> Validator<K, R> {
             ≡ accepts (world K.Leaf R.RegexEngine) ctx.old.answer S (view instance.now) }
         ensures asked_to { (S : Data) → IsValidatorOf (kit K.Leaf R.RegexEngine) self.now S
             → ctx.new.meter.asked ≤ raised ctx.old.meter.asked
+            (asks (world K.Leaf R.RegexEngine) ctx.old.answer S (view instance.now)) }
+        ensures unfinished_to { (S : Data) → IsValidatorOf (kit K.Leaf R.RegexEngine) self.now S
+            → ctx.new.meter.unfinished ≤ raised ctx.old.meter.unfinished
             (asks (world K.Leaf R.RegexEngine) ctx.old.answer S (view instance.now)) }
         ensures certain { (S : Data) → IsValidatorOf (kit K.Leaf R.RegexEngine) self.now S
             → ctx.new.meter.unfinished ≡ ctx.old.meter.unfinished
@@ -102,8 +105,8 @@ impl<K: Leaf, R: RegexEngine> Validator<K, R> {
     ///
     /// # Errors
     ///
-    /// That error, which is one of a report of the schema over the instance (where members that nothing allows are told,
-    /// the first of them alone), or want of memory.
+    /// That error, which is of the first step that refuses, and is one of a report of the schema over the instance (where
+    /// members that nothing allows are told, the first of them alone); or want of memory.
     pub fn validate<'a>(
         &'a self,
         alloc: Global,
@@ -117,6 +120,8 @@ impl<K: Leaf, R: RegexEngine> Validator<K, R> {
         ensures invalid { (S : Data) → IsValidatorOf (kit K.Leaf R.RegexEngine) self.now S
             → IfErr result (λ e. IfInvalid e
             (IsRefusal (world K.Leaf R.RegexEngine) ctx.old.answer S (view instance.now) [] [])) }
+        ensures first { IfErr result (λ e. IfInvalid e (IsLikeOneOf (first_faults
+            (kit K.Leaf R.RegexEngine) self.now ctx.old.answer (view instance.now)))) }
     {
         let node = Node::Value(instance);
         if is_valid_for(&self.root, node, ctx) {

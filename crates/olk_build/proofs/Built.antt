@@ -88,6 +88,7 @@ module _ {K R N : Type 0} (o : Kit K R) (answers : N → Answers) where
         faults = λ u v Q. ∼_same (is.faults u v Q);
         evaluation = is.evaluation;
         place = is.place;
+        formed = is.formed;
       };
       clean = refl;
       spends = spends_place a m c;
@@ -99,6 +100,7 @@ module _ {K R N : Type 0} (o : Kit K R) (answers : N → Answers) where
         faults = λ u v Q. ∼_same (is.faults u v Q);
         evaluation = is.evaluation;
         place = is.place;
+        formed = is.formed;
       };
       clean = refl;
       spends = spends_place a m c;
@@ -112,6 +114,7 @@ module _ {K R N : Type 0} (o : Kit K R) (answers : N → Answers) where
         faults = λ u v Q. like_through (∼_same (is.faults u v Q)) (like_through (h.covers.faults u v Q) (∼_same (sym (object_report o.world ms u v P Q))));
         evaluation = λ u v Q. is.evaluation u v Q ∙ ap (plain P Q) (h.shows clean u v Q) ∙ sym (object_tree o.world ms u v P Q);
         place = is.place;
+        formed = is.formed ∙ h.formed;
       };
       clean = object_malformed o.world ms P ∙ clean;
       spends = spends_same a z _ (cost o.world (object ms)) (sym (object_cost o.world ms)) (spends_append a m z one_place _ (spends_place a m c) spent);

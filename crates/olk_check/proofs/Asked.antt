@@ -29,6 +29,7 @@ module _ {a b c : Asking} {p q : Question} {r s : Bool} where
   join m t h k verdict asks = record {
     only = only_then h.only k.only;
     asked_to = let e = asks a.answer h.verdict in let f = ap q.asks h.only.answer in let x = h.asked_to in let y = k.asked_to in omega arith;
+    unfinished_to = let e = asks a.answer h.verdict in let f = ap q.asks h.only.answer in let x = h.unfinished_to in let y = k.unfinished_to in omega arith;
     verdict = verdict a.answer h.verdict (k.verdict ∙ ap q.accepts h.only.answer);
     certain = λ e l u. let x = h.only.unfinished in let y = k.only.unfinished in verdict u (h.certain (omega arith) l u) (k.certain (omega arith) (omega arith) u);
   }
@@ -42,10 +43,11 @@ module _ {a b : Asking} {p : Question} {r : Bool} where
   settles m t h verdict asks = record {
     only = h.only;
     asked_to = let e = asks a.answer h.verdict in let x = h.asked_to in omega arith;
+    unfinished_to = let e = asks a.answer h.verdict in let x = h.unfinished_to in omega arith;
     verdict = verdict a.answer h.verdict;
     certain = λ e l u. verdict u (h.certain e l u);
   }
 
 -- nothing is asked
 pub unasked : (a : Asking) (b : Bool) → Asks a a (always b) b
-unasked a b = record { only = only_same a; asked_to = omega arith; verdict = refl; certain = λ e l u. refl }
+unasked a b = record { only = only_same a; asked_to = omega arith; unfinished_to = omega arith; verdict = refl; certain = λ e l u. refl }

@@ -15,12 +15,12 @@ module _ (a : Asking) where
   only_matches false unfinished = record { answer = refl; compiled = refl; leaves = refl; made = refl; asked = omega arith; unfinished = omega arith }
 
   asks_matcher : (costs : Bool) (s : Says) → Asks a (asked_of costs s a) (said_to costs s) (reads_as a.answer s)
-  asks_matcher true matched = record { only = only_matches true matched; asked_to = omega arith; verdict = refl; certain = λ e l u. refl }
-  asks_matcher true unmatched = record { only = only_matches true unmatched; asked_to = omega arith; verdict = refl; certain = λ e l u. refl }
-  asks_matcher true unfinished = record { only = only_matches true unfinished; asked_to = omega arith; verdict = refl; certain = λ e l u. absurd (omega arith) }
-  asks_matcher false matched = record { only = only_matches false matched; asked_to = omega arith; verdict = refl; certain = λ e l u. refl }
-  asks_matcher false unmatched = record { only = only_matches false unmatched; asked_to = omega arith; verdict = refl; certain = λ e l u. refl }
-  asks_matcher false unfinished = record { only = only_matches false unfinished; asked_to = omega arith; verdict = refl; certain = λ e l u. absurd (omega arith) }
+  asks_matcher true matched = record { only = only_matches true matched; asked_to = omega arith; unfinished_to = omega arith; verdict = refl; certain = λ e l u. refl }
+  asks_matcher true unmatched = record { only = only_matches true unmatched; asked_to = omega arith; unfinished_to = omega arith; verdict = refl; certain = λ e l u. refl }
+  asks_matcher true unfinished = record { only = only_matches true unfinished; asked_to = omega arith; unfinished_to = omega arith; verdict = refl; certain = λ e l u. absurd (omega arith) }
+  asks_matcher false matched = record { only = only_matches false matched; asked_to = omega arith; unfinished_to = omega arith; verdict = refl; certain = λ e l u. refl }
+  asks_matcher false unmatched = record { only = only_matches false unmatched; asked_to = omega arith; unfinished_to = omega arith; verdict = refl; certain = λ e l u. refl }
+  asks_matcher false unfinished = record { only = only_matches false unfinished; asked_to = omega arith; unfinished_to = omega arith; verdict = refl; certain = λ e l u. absurd (omega arith) }
 
 -- the answer of a call, with what it leaves of the context
 pub match_answers : (costs : Bool) (s : Says) (a b : Asking) (r : Bool) → r ≡ reads_as a.answer s → b ≡ asked_of costs s a → Asks a b (said_to costs s) r

@@ -16,10 +16,11 @@ pub record OnlyAsks (old new : Asking) : Type 0 where
   pub asked : old.meter.asked ≤ new.meter.asked
   pub unfinished : old.meter.unfinished ≤ new.meter.unfinished
 
--- the answer to a question, with the context's answer for unfinished matches; no more matchers are asked than the question says
+-- the answer to a question, with the context's answer for unfinished matches; no more matchers are asked than the question says, and no more matches are counted as left unfinished
 pub record Asks (old new : Asking) (q : Question) (result : Bool) : Type 0 where
   pub only : OnlyAsks old new
   pub asked_to : new.meter.asked ≤ raised old.meter.asked (q.asks old.answer)
+  pub unfinished_to : new.meter.unfinished ≤ raised old.meter.unfinished (q.asks old.answer)
   pub verdict : result ≡ q.accepts old.answer
   -- where no match was left unfinished, the verdict is that of both answers
   pub certain : new.meter.unfinished ≡ old.meter.unfinished → old.meter.unfinished < 2 ^ 64 - 1 → (u : Bool) → result ≡ q.accepts u
@@ -28,5 +29,6 @@ pub record Asks (old new : Asking) (q : Question) (result : Bool) : Type 0 where
 pub record AsksSchema (W : World) (S v : Data) (old new : Asking) (result : Bool) : Type 0 where
   pub only : OnlyAsks old new
   pub asked_to : new.meter.asked ≤ raised old.meter.asked (asks W old.answer S v)
+  pub unfinished_to : new.meter.unfinished ≤ raised old.meter.unfinished (asks W old.answer S v)
   pub verdict : result ≡ accepts W old.answer S v
   pub certain : new.meter.unfinished ≡ old.meter.unfinished → old.meter.unfinished < 2 ^ 64 - 1 → accepts W true S v ≡ accepts W false S v

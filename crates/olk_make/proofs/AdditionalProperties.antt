@@ -1,5 +1,5 @@
 -- What holds `additionalProperties`, with all that it takes over.
-use Rattle.std.specs.Prelude.{◌≡◌, ◌<◌, ℕ, suc, Bool, true, false, ◌||◌, List, [], ◌∷◌, ◌++◌, map, zip, length, slice_get, slice_index_or as get_or, codes, Option, Some, None, is_some, option_map, option_to_list, unwrap_or, cond, Vec, Box}
+use Rattle.std.specs.Prelude.{◌≡◌, ◌<◌, ℕ, suc, Bool, true, false, ◌||◌, List, [], ◌∷◌, ◌++◌, map, zip, length, slice_get, slice_index_or as get_or, codes, Option, Some, None, is_some, option_map, option_to_list, unwrap_or, cond, Vec, Box, ◌&&◌}
 use Rattle.std.specs.declared.alloc.Global.{Global}
 use Rattle.std.specs.Ordering.{nat_cmp, is_eq}
 use Rattle.std.specs.Cmp.Lexicographic.{slice_cmp}
@@ -17,7 +17,7 @@ use Rattle.olk_spec.specs.Malformed.{has_repeat}
 use Rattle.olk_spec.specs.Meaning.{meaning_step}
 use Rattle.olk_spec.specs.Tree.{Tree}
 use Rattle.olk_spec.proofs.Order.{∼_same}
-use Rattle.olk_spec.proofs.Truth.{and_true}
+use Rattle.olk_spec.proofs.Truth.{and_true, and_from, and_first, and_second}
 use Rattle.olk_base.specs.Kit.{Kit}
 use Rattle.olk_base.specs.Compiled.{pattern_answers}
 use Rattle.olk_base.specs.declared.pattern.CompiledPattern.{CompiledPattern}
@@ -25,7 +25,7 @@ use Rattle.olk_members.specs.AdditionalProperties.{entries_in, declared_beside}
 use Rattle.olk_members.specs.Conditions.{is_restriction, is_restricted, known_of}
 use Rattle.olk_members.specs.Fused.{fused_name}
 use Rattle.olk_members.specs.Members.{member_report}
-use Rattle.std.specs.List.{flat_map}
+use Rattle.std.specs.List.{flat_map, list_all}
 use Rattle.olk_members.specs.Plans.{Planned, plan_of, head, claims}
 use Rattle.olk_members.proofs.AdditionalPlaces.{allowing_means_nothing}
 use Rattle.olk_members.proofs.Claims.{claims_itself, heads_elsewhere}
@@ -56,6 +56,10 @@ use Rattle.olk_make.specs.Standing.{StandAt, Fills, DeclaredStand, PatternsStand
 use Rattle.olk_make.specs.declared.part.Beside.{Beside}
 use Rattle.olk_make.specs.declared.part.Patterns.{Patterns}
 use Rattle.olk_make.specs.declared.part.Taken.{Taken}
+use Rattle.olk_make.proofs.Formed.{has_form, is_formed, just_one_formed, stand_formed, map_formed, entry_formed, case_formed}
+use Rattle.olk_tree.specs.Formed.{is_map_formed, names_beside, is_table_formed, validator_formed}
+use Rattle.olk_tree.proofs.Formed.{table_formed}
+use Rattle.std.specs.Option.{option_map_or}
 
 -- ---- names that ascend are distinct
 
@@ -154,7 +158,7 @@ module _ {K R N : Type 0} (o : Kit K R) (answers : N → Answers) where
     patterns_side (Some x) (Some d) L form h = record {
       patterns = subst (λ l. PatternsAnswer o means report tree l (members d) L) (sym same) (patterns_answer x.patterns.items x.nodes.items (members d) L h.patterns h.nodes);
       known = λ p i n c at_name at_pattern. ap (λ t. table_says t p i) form.1
-          ∙ h.table p i n c (ap (λ ns. slice_get ns p) names ∙ at_name) (ap (λ ps. slice_get ps i) (sym (ap (map (λ e. e.0)) same ∙ patterns_kept x.patterns.items x.nodes.items (members d) L h.patterns h.nodes)) ∙ at_pattern);
+          ∙ h.table.says p i n c (ap (λ ns. slice_get ns p) names ∙ at_name) (ap (λ ps. slice_get ps i) (sym (ap (map (λ e. e.0)) same ∙ patterns_kept x.patterns.items x.nodes.items (members d) L h.patterns h.nodes)) ∙ at_pattern);
       there = of_items.0;
       place = λ e. form.2 ∙ h.place;
     }
@@ -173,6 +177,53 @@ module _ {K R N : Type 0} (o : Kit K R) (answers : N → Answers) where
         names = h.names ∙ ap (λ b. map (λ (e : Name × Data). e.0) (cond b (declared_beside ms) [])) restricted
     patterns_side None (Some d) L form h = absurd h
     patterns_side (Some x) None L form h = absurd h
+
+  -- ---- the form of what stands beside it
+
+  declared_names : (b : Option (SmallMap N)) (x : Option (PropertiesMap N)) (a : Option Data) (L : Path) → IsMapOf b x → Fills (λ m. DeclaredStand o answers m L) b a → names_beside x ≡ map (λ e. e.0) (entries_in a)
+  declared_names None None None L form h = refl
+  declared_names (Some b) (Some m) (Some d) L form h = form.0 ∙ h.names
+  declared_names None (Some m) a L form h = absurd form
+  declared_names (Some b) None a L form h = absurd form
+  declared_names None x (Some d) L form h = absurd h
+  declared_names (Some b) x None L form h = absurd h
+
+  declared_formed : (b : Option (SmallMap N)) (x : Option (PropertiesMap N)) (a : Option Data) (L : Path) → IsMapOf b x → Fills (λ m. DeclaredStand o answers m L) b a → option_map_or (λ m. is_map_formed m && list_all (has_form o answers) (nodes_in m)) x true ≡ true
+  declared_formed None None None L form h = refl
+  declared_formed (Some b) (Some m) (Some d) L form h = and_from _ _ (map_formed m (length b.names) (ap length form.0) form.2) (stand_formed o answers (nodes_in m) (members d) L (subst (λ l. StandEach o answers l (members d) L) (sym form.1) h.nodes))
+  declared_formed None (Some m) a L form h = absurd form
+  declared_formed (Some b) None a L form h = absurd form
+  declared_formed None x (Some d) L form h = absurd h
+  declared_formed (Some b) x None L form h = absurd h
+
+  zipped_formed : (ps : List (CompiledPattern R)) (ns : List N) → list_all (has_form o answers) ns ≡ true → list_all (entry_formed o answers) (zip ps ns) ≡ true
+  zipped_formed [] ns h = refl
+  zipped_formed (p ∷ ps) [] h = refl
+  zipped_formed (p ∷ ps) (n ∷ ns) h = and_from (has_form o answers n) (list_all (entry_formed o answers) (zip ps ns)) (and_first (has_form o answers n) (list_all (has_form o answers) ns) h) (zipped_formed ps ns (and_second (has_form o answers n) (list_all (has_form o answers) ns) h))
+
+  module _ (k : AdditionalProperties R N) (ms : Members) (restricted : is_restricted ms ≡ true) (names : List Name) (declared : names ≡ map (λ e. e.0) (declared_beside ms)) where
+    abbrev are_formed_beside : Vec (CompiledPattern R × N) Global → Bool
+    are_formed_beside es = is_table_formed o.answers names (map (λ e. e.0) es.items) k.table && list_all (entry_formed o answers) es.items
+
+    beside_formed : (b : Option (Patterns R N)) (a : Option Data) (L : Path) → HasPatterns b k → Fills (λ x. PatternsStand o answers (known_of ms) x L) b a → option_map_or are_formed_beside k.patterns true ≡ true
+    beside_formed None None L form h = ap (λ v. option_map_or are_formed_beside v true) form
+    beside_formed (Some x) (Some d) L form h = by k.patterns form.0
+      where
+        by : (v : Option (Vec (CompiledPattern R × N) Global)) → option_map (λ (v : Vec (CompiledPattern R × N) Global). v.items) v ≡ Some (zip x.patterns.items x.nodes.items) → option_map_or are_formed_beside v true ≡ true
+        by None q = absurd (true≢false (sym (ap is_some q)))
+        by (Some v) q =
+            let items : v.items ≡ zip x.patterns.items x.nodes.items = ap (λ z. unwrap_or z []) q in
+            let patterns : map (λ e. e.0) v.items ≡ x.patterns.items = ap (map (λ e. e.0)) items ∙ patterns_kept x.patterns.items x.nodes.items (members d) L h.patterns h.nodes in
+            let same_names : x.table.names ≡ names = h.names ∙ ap (λ b. map (λ (e : Name × Data). e.0) (cond b (declared_beside ms) [])) restricted ∙ sym declared in
+            and_from _ _
+            ((λ i. is_table_formed o.answers names (patterns i) (form.1 i)) ∙ table_formed o.answers names x.patterns.items x.table same_names h.table)
+            (ap (list_all (entry_formed o answers)) items ∙ zipped_formed x.patterns.items x.nodes.items (stand_formed o answers x.nodes.items (members d) L h.nodes))
+    beside_formed None (Some d) L form h = absurd h
+    beside_formed (Some x) None L form h = absurd h
+
+  rest_formed : (x : Option N) (d : Data) (L : Path) → RestStands o answers x d L → case_formed o answers x ≡ true
+  rest_formed None d L h = refl
+  rest_formed (Some n) d L h = h.1.formed
 
   required_there : (P : Path) (n : Option Name) (r : Option RequiredName) → IsRequiredName P n r → (required_text r ≡ option_to_list n) × (is_some r ≡ true → required_place r ≡ P // codes "required")
   required_there P None None h = (refl, λ e. absurd (true≢false (sym e)))
@@ -206,6 +257,15 @@ module _ {K R N : Type 0} (o : Kit K R) (answers : N → Answers) where
           declared_once = declared.once;
         }
 
+    restriction_formed : is_formed o answers (keyword.AdditionalProperties k) ≡ true
+    unfolding validator_formed
+    restriction_formed =
+        let properties : Option Data = lookup (codes "properties") (listed ms) in
+        and_from _ _ (and_from _ _
+        (declared_formed b.properties k.value.properties properties (P // codes "properties") form.1 stands.0)
+        (beside_formed k.value ms restricted (names_beside k.value.properties) (declared_names b.properties k.value.properties properties (P // codes "properties") form.1 stands.0) b.patterns (lookup (codes "patternProperties") (listed ms)) (P // codes "patternProperties") form.2 stands.1))
+        (ap (case_formed o answers) form.0 ∙ rest_formed rest d L rest_stands)
+
     restriction_means : has_repeat (names_of (listed ms)) ≡ false → lookup (codes "additionalProperties") (listed ms) ≡ Some d → KeywordsMean o answers ms (keyword.AdditionalProperties k ∷ []) (claims (head (plan_of ms)) (listed ms) (codes "additionalProperties", d)) ((codes "additionalProperties", d) ∷ []) P
     restriction_means distinct there = record {
       covers = record {
@@ -214,6 +274,7 @@ module _ {K R N : Type 0} (o : Kit K R) (answers : N → Answers) where
         faults = λ u v Q. subst (λ l. l ∼ flat_map (λ x. member_report o.world ms x (which o ms x) u v P Q) (claims (head (plan_of ms)) (listed ms) (codes "additionalProperties", d))) (sym (append-nil _)) (restriction_finds o means report tree k restriction_stands distinct there restricted u v Q);
       };
       shows = λ clean u v Q. restriction_shows o means report tree k restriction_stands distinct there restricted u v Q (clean_one_fused o.world ms P clean (meaning_step o.world u)) ∙ sym (append-nil _);
+      formed = just_one_formed o answers (keyword.AdditionalProperties k) restriction_formed;
     }
 
   restricted_there : (x : Option N) (d : Data) (L : Path) → RestStands o answers x d L → is_restriction (Some d) ≡ true
@@ -287,6 +348,7 @@ module _ {K R N : Type 0} (o : Kit K R) (answers : N → Answers) where
             faults = λ u v Q. ∼_same (sym (append-nil _ ∙ nothing.report u v P Q));
           };
           shows = λ clean u v Q. sym (append-nil _ ∙ nothing.child u v P Q);
+          formed = refl;
         })
       where
         allowed : (d : Data) → is_truth true d ≡ true → is_restriction (Some d) ≡ false

@@ -43,6 +43,7 @@ use Rattle.olk_make.specs.declared.part.Cases.{Cases}
 use Rattle.olk_make.specs.declared.part.Taken.{Taken}
 use Rattle.olk_make.proofs.Held.{question, shown, found}
 use Rattle.olk_make.proofs.Together.{means_permuted}
+use Rattle.olk_make.proofs.Formed.{just_one_formed, case_formed, if_formed}
 
 pub form_is_if : {K R N : Type 0} (L : Path) (n : N) (t e : Option N) (k : KeywordOver K R N) → IsFormOfIf L n t e k → IsIf L (is_some t) (is_some e) k
 form_is_if L n (Some t) None (keyword.IfThen k) f = f.2
@@ -59,6 +60,12 @@ module _ {K R N : Type 0} (o : Kit K R) (answers : N → Answers) where
 
   abbrev Case : Path → N → Data → Type 0
   Case L n d = Stands o answers n d L
+
+  filled_formed : (c : Option N) (a : Option Data) (L : Path) → Fills (Case L) c a → case_formed o answers c ≡ true
+  filled_formed None None L h = refl
+  filled_formed (Some n) (Some d) L h = h.formed
+  filled_formed None (Some d) L h = absurd h
+  filled_formed (Some n) None L h = absurd h
 
   abbrev case_question : Option N → Data → Question
   case_question None v = always true
@@ -252,11 +259,15 @@ module _ {K R N : Type 0} (o : Kit K R) (answers : N → Answers) where
 
       -- `if` means itself, `then` and `else`
       pub means_condition : (p : Planned) → p.condition ≡ true → KeywordsMean o answers ms (k ∷ []) (claims (head p) (listed ms) (codes "if", d)) ((codes "if", d) ∷ []) P
-      means_condition p e = means_permuted o answers ms P (k ∷ []) three (claims (head p) (listed ms) (codes "if", d)) ((codes "if", d) ∷ [])
+      means_condition p plans = means_permuted o answers ms P (k ∷ []) three (claims (head p) (listed ms) (codes "if", d)) ((codes "if", d) ∷ [])
           (subst (λ l. IsPermutation l (claims (head p) (listed ms) (codes "if", d)))
           (λ i. (codes "if", d) ∷ members_found ms distinct (codes "then") at_then refl i ++ members_found ms distinct (codes "else") at_else refl i)
-          (claims_condition ms distinct p e d there))
-          (record { covers = mean_together; shows = λ clean u v Q. shown_together u v Q })
+          (claims_condition ms distinct p plans d there))
+          (record {
+            covers = mean_together;
+            shows = λ clean u v Q. shown_together u v Q;
+            formed = just_one_formed o answers k (if_formed o answers L n t e k form stands.formed (filled_formed t at_then (P // codes "then") then_stands) (filled_formed e at_else (P // codes "else") else_stands));
+          })
 
   -- ---- what is made of the nodes
 
@@ -321,6 +332,7 @@ module _ {K R N : Type 0} (o : Kit K R) (answers : N → Answers) where
           faults = λ u v Q. ∼_same (sym (append-nil _ ∙ nothing.report u v P Q));
         };
         shows = λ clean u v Q. sym (append-nil _ ∙ nothing.child u v P Q);
+        formed = refl;
       })
     where
       apart_from : (n : Name) → bytes_eq n (codes "if") ≡ false → bytes_eq n (codes "then") ≡ false → bytes_eq n (codes "else") ≡ false → bytes_eq n m.0 ≡ false

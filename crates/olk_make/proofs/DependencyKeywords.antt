@@ -32,6 +32,8 @@ use Rattle.olk_read.specs.declared.shape.Shape.TheVariants as shape
 use Rattle.olk_make.specs.Making.{KeywordMeans, MakesMember}
 use Rattle.olk_make.proofs.Entries.{EntryAnswers, AnswersFor, AnswerEach, each_accept, each_ask, each_find, each_show, schema_answers, schema_answer, schemas_answer}
 use Rattle.olk_make.proofs.Held.{question, shown, found, one, same_within}
+use Rattle.olk_make.proofs.Formed.{has_form, is_formed, just_one_formed, each_formed}
+use Rattle.olk_tree.specs.Formed.{validator_formed}
 
 -- an entry that is a list of names wants each of them, at the keyword itself
 abbrev list_answers : EntryAnswers
@@ -70,6 +72,10 @@ module _ {K R N : Type 0} (o : Kit K R) (answers : N → Answers) where
   abbrev pub dependencies_of : SmallMap N → Path → KeywordOver K R N
   dependencies_of m L = keyword.Dependencies (record { dependencies = m; location = L })
 
+  dependencies_formed : (m : SmallMap N) (L : Path) → list_all (has_form o answers) m.nodes.items ≡ true → is_formed o answers (dependencies_of m L) ≡ true
+  unfolding validator_formed
+  dependencies_formed m L h = h
+
   module _ (w : EntryAnswers) (m : SmallMap N) (L : Path) (es : List (Name × Data)) (names : m.names ≡ map (λ e. e.0) es) (each : AnswerEach o answers w m.nodes.items es L) (u : Bool) (v : Data) where
     abbrev due_of : List Name → List N
     due_of ks = due_nodes (beside ks m.nodes.items) v
@@ -106,6 +112,7 @@ module _ {K R N : Type 0} (o : Kit K R) (answers : N → Answers) where
           (λ u v. same_within _ _ _ (due_ask list_answers m L (members d) names each u v) (fact.dependent_required_asks o.world ms d u v ∙ sym (no_sum (due_entries d v))))
           (λ u v Q. subst (λ fs. found o answers u (dependencies_of m L) v Q ∼ fs) (ap (λ M. flat_map (λ e. required_faults (texts e.1) v M Q) (due_entries d v)) p ∙ sym (fact.dependent_required_report o.world ms d u v lists P Q)) (due_find list_answers m L (members d) names each u v Q));
       shows = λ u h v Q. ap (λ t. t ∷ []) (due_show list_answers m L (members d) names each u v Q ∙ ap (λ M. plain M Q (map (λ e. erring M Q (required_faults (texts e.1) v M Q)) (due_entries d v))) p) ∙ sym (fact.dependent_required_child o.world ms d u v lists P Q);
+      formed = just_one_formed o answers (dependencies_of m L) (dependencies_formed m L (each_formed o answers list_answers m.nodes.items (members d) L each));
     }
       where
         no_sum : (es : List (Name × Data)) → sum_by (λ e. 0) es ≡ 0
@@ -119,6 +126,7 @@ module _ {K R N : Type 0} (o : Kit K R) (answers : N → Answers) where
           (λ u v. same_within _ _ _ (due_ask (schema_answers o answers) m L (members d) names each u v) (fact.dependent_schemas_asks o.world ms d u v))
           (λ u v Q. subst (λ fs. found o answers u (dependencies_of m L) v Q ∼ fs) (ap (λ M. flat_map (λ e. report o.world u e.1 v (M // e.0) Q) (due_entries d v)) p ∙ sym (fact.dependent_schemas_report o.world ms d u v P Q)) (due_find (schema_answers o answers) m L (members d) names each u v Q));
       shows = λ u h v Q. ap (λ t. t ∷ []) (due_show (schema_answers o answers) m L (members d) names each u v Q ∙ ap (λ M. plain M Q (map (λ e. tree o.world u e.1 v (M // e.0) Q) (due_entries d v))) p) ∙ sym (fact.dependent_schemas_child o.world ms d u v P Q);
+      formed = just_one_formed o answers (dependencies_of m L) (dependencies_formed m L (each_formed o answers (schema_answers o answers) m.nodes.items (members d) L each));
     }
 
     pub means_dependencies : AnswerEach o answers dependency_answers m.nodes.items (members d) L → L ≡ P // codes "dependencies" → KeywordMeans o answers ms (dependencies_of m L ∷ []) (codes "dependencies", d) P
@@ -128,6 +136,7 @@ module _ {K R N : Type 0} (o : Kit K R) (answers : N → Answers) where
           (λ u v. same_within _ _ _ (due_ask dependency_answers m L (members d) names each u v) (fact.dependencies_asks o.world ms d u v))
           (λ u v Q. like_through (subst (λ fs. found o answers u (dependencies_of m L) v Q ∼ fs) (ap (λ M. flat_map (λ e. dependency_report o.world u e v M Q) (due_entries d v)) p) (due_find dependency_answers m L (members d) names each u v Q)) (∼_sym (fact.dependencies_report o.world ms d u v P Q)));
       shows = λ u h v Q. ap (λ t. t ∷ []) (due_show dependency_answers m L (members d) names each u v Q ∙ ap (λ M. plain M Q (map (λ e. dependency_shown o.world u e v M Q) (due_entries d v))) p) ∙ sym (fact.dependencies_child o.world ms d u v P Q);
+      formed = just_one_formed o answers (dependencies_of m L) (dependencies_formed m L (each_formed o answers dependency_answers m.nodes.items (members d) L each));
     }
 
   -- ---- what is made of lists and nodes
@@ -138,6 +147,7 @@ module _ {K R N : Type 0} (o : Kit K R) (answers : N → Answers) where
     asks_within = λ u x. let q = ap (λ q. q.asks u) (means x) in omega (arith, q);
     faults = λ u x Q. ∼_same (is.faults u x Q ∙ ap (λ ns. required_faults ns x L Q) same);
     evaluation = λ u x Q. is.evaluation u x Q ∙ ap (λ ns. erring L Q (required_faults ns x L Q)) same;
+    formed = is.formed;
   }
     where
       means : (x : Data) → (answers n).means x ≡ always (is_empty (missing (texts e.1) x))
@@ -158,6 +168,7 @@ module _ {K R N : Type 0} (o : Kit K R) (answers : N → Answers) where
     asks_within = λ u v. subst (λ b. ((answers n).means v).asks u ≤ cond b 0 (asks o.world u e.1 v)) (sym a) (h.asks_within u v);
     faults = λ u v Q. subst (λ b. (answers n).report u v Q ∼ cond b (required_faults (texts e.1) v L Q) (report o.world u e.1 v (L // e.0) Q)) (sym a) (h.faults u v Q);
     evaluation = λ u v Q. h.evaluation u v Q ∙ ap (λ b. cond b (erring L Q (required_faults (texts e.1) v L Q)) (tree o.world u e.1 v (L // e.0) Q)) (sym a);
+    formed = h.formed;
   }
 
   schema_is_dependency : (n : N) (e : Name × Data) (L : Path) → is_array e.1 ≡ false → AnswersFor o answers (schema_answers o answers) n e L → AnswersFor o answers dependency_answers n e L
@@ -166,6 +177,7 @@ module _ {K R N : Type 0} (o : Kit K R) (answers : N → Answers) where
     asks_within = λ u v. subst (λ b. ((answers n).means v).asks u ≤ cond b 0 (asks o.world u e.1 v)) (sym a) (h.asks_within u v);
     faults = λ u v Q. subst (λ b. (answers n).report u v Q ∼ cond b (required_faults (texts e.1) v L Q) (report o.world u e.1 v (L // e.0) Q)) (sym a) (h.faults u v Q);
     evaluation = λ u v Q. h.evaluation u v Q ∙ ap (λ b. cond b (erring L Q (required_faults (texts e.1) v L Q)) (tree o.world u e.1 v (L // e.0) Q)) (sym a);
+    formed = h.formed;
   }
 
   abbrev schemas_among : List (Name × Data) → List (Name × Data)

@@ -1,5 +1,5 @@
 -- Nodes that answer as entries of a keyword's value are to be answered.
-use Rattle.std.specs.Prelude.{◌≡◌, ◌≤◌, ⊤, ℕ, ◌+◌, Bool, ◌&&◌, List, [], ◌∷◌, map, sum_by}
+use Rattle.std.specs.Prelude.{◌≡◌, ◌≤◌, ⊤, ℕ, ◌+◌, Bool, ◌&&◌, List, [], ◌∷◌, map, sum_by, true}
 use Rattle.std.specs.List.{list_all, flat_map}
 use Rattle.std.proofs.Common.{refl, arith}
 use Rattle.std.proofs.lemmas.List.Sums.{sum_by-cons}
@@ -31,6 +31,7 @@ module _ {K R N : Type 0} (o : Kit K R) (answers : N → Answers) where
       pub asks_within : (u : Bool) (v : Data) → ((answers n).means v).asks u ≤ w.asked u e v
       pub faults : (u : Bool) (v : Data) (Q : Path) → (answers n).report u v Q ∼ w.faults u e v L Q
       pub evaluation : (u : Bool) (v : Data) (Q : Path) → (answers n).tree u v Q ≡ w.shown u e v L Q
+      pub formed : (answers n).formed ≡ true
 
     abbrev pub AnswerEach : List N → List (Name × Data) → Path → Type 0
     AnswerEach [] [] L = ⊤
@@ -75,7 +76,7 @@ module _ {K R N : Type 0} (o : Kit K R) (answers : N → Answers) where
   }
 
   pub schema_answer : (n : N) (e : Name × Data) (L : Path) → Stands o answers n e.1 (L // e.0) → AnswersFor schema_answers n e L
-  schema_answer n e L h = record { verdict = h.verdict; asks_within = h.asks_within; faults = h.faults; evaluation = h.evaluation }
+  schema_answer n e L h = record { verdict = h.verdict; asks_within = h.asks_within; faults = h.faults; evaluation = h.evaluation; formed = h.formed }
 
   pub schemas_answer : (ns : List N) (es : List (Name × Data)) (L : Path) → StandEach o answers ns es L → AnswerEach schema_answers ns es L
   schemas_answer [] [] L h = tt

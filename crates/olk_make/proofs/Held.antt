@@ -1,5 +1,5 @@
 -- What holds a keyword.
-use Rattle.std.specs.Prelude.{◌≡◌, cond, Option, Some, None, is_some, option_to_list, ◌≤◌, ℕ, ◌+◌, Bool, true, false, not, ◌&&◌, ◌||◌, List, [], ◌∷◌, ◌++◌, map, sum_by, codes, Vec, String, string_bytes, bytes_eq, IsPermutation}
+use Rattle.std.specs.Prelude.{◌≡◌, cond, Option, Some, None, is_some, option_to_list, ◌≤◌, ℕ, ◌+◌, Bool, true, false, not, ◌&&◌, ◌||◌, List, [], ◌∷◌, ◌++◌, map, sum_by, codes, Vec, String, string_bytes, bytes_eq, IsPermutation, length, nat_lt}
 use Rattle.std.specs.List.{list_all, list_any, flat_map}
 use Rattle.std.specs.Ordering.{nat_cmp, is_eq}
 use Rattle.std.specs.Cmp.Lexicographic.{slice_cmp}
@@ -8,7 +8,7 @@ use Rattle.std.specs.declared.cmp.Ordering.TheVariants.{Less, Equal, Greater}
 use Rattle.std.proofs.lemmas.Map.Text.{is_eq-slice_cmp}
 use Rattle.std.specs.declared.alloc.Global.{Global}
 use Rattle.std.proofs.Common.{refl, sym, ◌∙◌, ap, subst, arith}
-use Rattle.std.proofs.lemmas.List.{append-nil}
+use Rattle.std.proofs.lemmas.List.{append-nil, length-map}
 use Rattle.std.proofs.lemmas.List.Sums.{sum_by-cons}
 use mathlib.Core.Bool.{true≢false}
 use mathlib.Core.Path.{subst₂}
@@ -39,7 +39,7 @@ use Rattle.olk_members.specs.Conditions.{is_condition, is_restricted}
 use Rattle.olk_members.specs.Members.{member_accepts, member_asks, member_report, member_child, StandsAlone}
 use Rattle.olk_members.specs.Plans.{Planned, plan_of, is_case, tells_members, head, claims}
 use Rattle.olk_make.specs.Forms.{IsFormOfProperties, IsFormOfAllOf, IsFormOfAnyOf}
-use Rattle.olk_members.specs.Fused.{fused_names, fused_name}
+use Rattle.olk_members.specs.Fused.{fused_names, fused_name, declares_few}
 use Rattle.olk_make.specs.Holding.{StandEach, which, all_malformed, Holds, Covers}
 use Rattle.olk_make.specs.Standing.{is_taken}
 use Rattle.olk_make.specs.Making.{KeywordMeans, KeywordsMean}
@@ -61,6 +61,9 @@ use Rattle.olk_members.proofs.Heads.{names_of}
 use Rattle.olk_members.proofs.Clean.{fused, names_fused}
 use Rattle.olk_members.proofs.Children.{shown_at, shown_declared, branches_shown, accepting_branches, any_shown, properties_child, required_child, no_required_child, all_of_child, any_of_child, not_child, leaf_child}
 use Rattle.olk_spec.proofs.Maps.{is_empty-map}
+use Rattle.olk_make.proofs.Formed.{has_form, is_formed, just_one_formed, stand_formed, map_formed, properties_formed, required2_formed, all_of_formed, any_of_formed}
+use Rattle.olk_tree.specs.Formed.{is_map_formed, validator_formed}
+use Rattle.olk_spec.specs.declared.TheConstants.{HASHMAP_THRESHOLD}
 
 -- ---- numbers and counts
 
@@ -234,8 +237,8 @@ module _ {K R N : Type 0} (o : Kit K R) (answers : N → Answers) where
       unfolding validator_tree
       alone_show Q = refl
 
-  pub means_properties : (m : PropertiesMap N) (L : Path) (fs : Members) (d : Data) → d ≡ object fs → names_in m ≡ map (λ e. e.0) (listed fs) → StandEach o answers (nodes_in m) (listed fs) L → (ms : Members) (P : Path) → L ≡ P // codes "properties" → KeywordMeans o answers ms (keyword.Properties (record { properties = m; location = L }) ∷ []) (codes "properties", d) P
-  means_properties m L fs d q names stand ms P p = subst (λ x. KeywordMeans o answers ms (properties_keyword m L (listed fs) names stand ∷ []) (codes "properties", x) P) (sym q) (record {
+  pub means_properties : (m : PropertiesMap N) (L : Path) (fs : Members) (d : Data) → d ≡ object fs → is_map_formed m ≡ true → names_in m ≡ map (λ e. e.0) (listed fs) → StandEach o answers (nodes_in m) (listed fs) L → (ms : Members) (P : Path) → L ≡ P // codes "properties" → KeywordMeans o answers ms (keyword.Properties (record { properties = m; location = L }) ∷ []) (codes "properties", d) P
+  means_properties m L fs d q sized names stand ms P p = subst (λ x. KeywordMeans o answers ms (properties_keyword m L (listed fs) names stand ∷ []) (codes "properties", x) P) (sym q) (record {
     holds = one ms (properties_keyword m L (listed fs) names stand) (codes "properties", object fs) properties P
         (λ u v. properties_accept m L (listed fs) names stand u v ∙ sym (fact.properties_accepts o.world ms fs u v))
         (λ u v. same_within _ _ _ (properties_ask m L (listed fs) names stand u v) (fact.properties_asks o.world ms fs u v))
@@ -246,6 +249,7 @@ module _ {K R N : Type 0} (o : Kit K R) (answers : N → Answers) where
         ap (λ t. t ∷ []) (alone_show m L (listed fs) names stand u v Q ∙ properties_show m L (listed fs) names stand u v Q [] ∙ ap (λ M. shown_declared o.world u v M Q (listed fs) []) p)
         ∙ ap (λ b. shown_declared o.world u v (P // codes "properties") Q (listed fs) (missing_child o.world u (read_members (meaning_step o.world u) ms) v P Q b) ∷ []) (sym h.2)
         ∙ sym (properties_child o.world u v ms P Q fs h.0 h.1);
+    formed = just_one_formed o answers (properties_keyword m L (listed fs) names stand) (properties_formed o answers m L sized (stand_formed o answers (nodes_in m) (listed fs) L stand));
   })
 
   -- ---- properties, with required or alone
@@ -304,6 +308,9 @@ module _ {K R N : Type 0} (o : Kit K R) (answers : N → Answers) where
       by false h = refl
       by true h = h
 
+  few_formed : (k : SmallPropertiesWithRequired2 N) (fs : Members) (d : Data) → d ≡ object fs → k.properties.names ≡ map (λ e. e.0) (listed fs) → declares_few (Some d) ≡ true → is_map_formed (Small k.properties) ≡ true
+  few_formed k fs d q names few = ap (λ n. nat_lt n HASHMAP_THRESHOLD) (ap length names ∙ length-map (listed fs) (λ e. e.0)) ∙ ap (λ x. declares_few (Some x)) (sym q) ∙ few
+
   pub means_form : (k : KeywordOver K R N) (names : List Name) (ns : List N) (L P : Path) (t : Option (Name × Name)) (fs : Members) (d : Data) → d ≡ object fs → names ≡ map (λ e. e.0) (listed fs) → StandEach o answers ns (listed fs) L → IsFormOfProperties P L names ns t k
       → (ms : Members) → L ≡ P // codes "properties" → has_repeat (names_of (listed ms)) ≡ false → lookup (codes "properties") (listed ms) ≡ Some d → t ≡ fused_names ms → is_restricted ms ≡ false → KeywordsMean o answers ms (k ∷ []) (claims (head (plan_of ms)) (listed ms) (codes "properties", d)) ((codes "properties", d) ∷ []) P
   means_form (keyword.Properties k) names ns L P None fs d q declared stand form ms p distinct there chosen unrestricted =
@@ -311,12 +318,13 @@ module _ {K R N : Type 0} (o : Kit K R) (answers : N → Answers) where
       (subst (λ M. KeywordsMean o answers ms (keyword.Properties (record { properties = k.properties; location = M }) ∷ []) ((codes "properties", d) ∷ []) ((codes "properties", d) ∷ []) P) (sym form.3)
       (means_alone o answers ms P _ (codes "properties", d) (ap (λ b. b && true) unrestricted)
       (λ clean u. (there, restricted_read (meaning_step o.world u) ms ∙ unrestricted, fused o.world ms P clean (meaning_step o.world u) ∙ ap is_some (sym chosen)))
-      (means_properties k.properties L fs d q (form.0 ∙ declared) (subst (λ l. StandEach o answers l (listed fs) L) (sym form.1) stand) ms P p)))
+      (means_properties k.properties L fs d q (map_formed k.properties (length names) (ap length form.0) form.2) (form.0 ∙ declared) (subst (λ l. StandEach o answers l (listed fs) L) (sym form.1) stand) ms P p)))
   means_form (keyword.PropertiesWithRequired2 k) names ns L P (Some t) fs d q declared stand form ms p distinct there chosen unrestricted =
       let both = fuses ms distinct t chosen in
       let same_names : k.properties.names ≡ map (λ e. e.0) (listed fs) = form.0 ∙ declared in
       let same_nodes : StandEach o answers k.properties.nodes.items (listed fs) L = subst (λ l. StandEach o answers l (listed fs) L) (sym form.1) stand in
-      let plain = means_properties (Small k.properties) L fs d q same_names same_nodes ms P p in
+      let few : is_map_formed (Small k.properties) ≡ true = few_formed k fs d q same_names (ap declares_few (sym there ∙ both.declared) ∙ both.few) in
+      let plain = means_properties (Small k.properties) L fs d q few same_names same_nodes ms P p in
       means_permuted o answers ms P (keyword.PropertiesWithRequired2 k ∷ []) ((codes "properties", d) ∷ (codes "required", listing t) ∷ []) (claims (head (plan_of ms)) (listed ms) (codes "properties", d)) ((codes "properties", d) ∷ [])
       (subst (λ s. IsPermutation ((codes "properties", d) ∷ (codes "required", listing t) ∷ []) (claims (head s) (listed ms) (codes "properties", d))) (sym (plan_fusing ms t chosen)) (claims_both ms distinct t (is_condition ms) d there chosen)) record {
         covers = covers_both ms L P k t names ns form d unrestricted plain.holds;
@@ -325,6 +333,7 @@ module _ {K R N : Type 0} (o : Kit K R) (answers : N → Answers) where
             ap (λ x. x ∷ []) (both_show ms L P k t names ns form u v Q ∙ properties_show (Small k.properties) L (listed fs) same_names same_nodes u v Q (missing_trees (t.0 ∷ t.1 ∷ []) v (P // codes "required") Q) ∙ ap (λ M. shown_declared o.world u v M Q (listed fs) (missing_trees (t.0 ∷ t.1 ∷ []) v (P // codes "required") Q)) p)
             ∙ (λ i. shown_declared o.world u v (P // codes "properties") Q (listed fs) (put_if (sym (fused o.world ms P clean step ∙ ap is_some (sym chosen)) i && not (is_empty (missing (sym (names_fused step ms t both.listed_at) i) v))) (erring (P // codes "required") Q (required_faults (sym (names_fused step ms t both.listed_at) i) v (P // codes "required") Q)) []) ∷ [])
             ∙ sym (append-nil _ ∙ ap (λ x. member_child o.world ms (codes "properties", x) properties u v P Q) q ∙ properties_child o.world u v ms P Q fs (there ∙ ap Some q) (restricted_read step ms ∙ unrestricted));
+        formed = just_one_formed o answers (keyword.PropertiesWithRequired2 k) (required2_formed o answers k few ((λ i. bytes_eq (form.3 i) (form.4 i)) ∙ both.differ) (stand_formed o answers k.properties.nodes.items (listed fs) L same_nodes));
       }
   means_form k names ns L P None fs d q declared stand form ms p distinct there chosen unrestricted = absurd form
   means_form k names ns L P (Some t) fs d q declared stand form ms p distinct there chosen unrestricted = absurd form
@@ -399,6 +408,7 @@ module _ {K R N : Type 0} (o : Kit K R) (answers : N → Answers) where
     shows = λ u h v Q.
         ap (λ t. t ∷ []) (all_form_shows L ns u v Q k form ∙ ap (plain L Q) (branches_show u v Q ns (numbered (items_list ds)) L stand) ∙ ap (λ M. plain M Q (branches_shown o.world u v M Q (numbered (items_list ds)))) p)
         ∙ sym (all_of_child o.world u v ms P Q ds);
+    formed = just_one_formed o answers k (all_of_formed o answers k L ns form (stand_formed o answers ns (numbered (items_list ds)) L stand));
   })
     where
       answer : AnswerEach o answers (schema_answers o answers) ns (numbered (items_list ds)) L
@@ -415,6 +425,7 @@ module _ {K R N : Type 0} (o : Kit K R) (answers : N → Answers) where
     shows = λ u h v Q.
         ap (λ t. t ∷ []) (any_form_shows L ns u v Q k form ∙ any_show u v Q ns (numbered (items_list ds)) L stand ∙ ap (λ M. any_shown o.world u v M Q (numbered (items_list ds))) p)
         ∙ sym (any_of_child o.world u v ms P Q ds);
+    formed = just_one_formed o answers k (any_of_formed o answers k L ns form (stand_formed o answers ns (numbered (items_list ds)) L stand));
   })
     where
       told : (u : Bool) (v : Data) (Q : Path) → fault_if (not (list_any (λ e. accepts o.world u e.1 v) (numbered (items_list ds)))) (AnyOf (context (map (λ n. (answers n).report u v Q) ns))) v L Q ≡ found u k v Q
@@ -445,6 +456,10 @@ module _ {K R N : Type 0} (o : Kit K R) (answers : N → Answers) where
     unfolding validator_tree
     not_show Q = refl
 
+    not_formed : is_formed o answers not_of ≡ has_form o answers n
+    unfolding validator_formed
+    not_formed = refl
+
   pub means_not : (original : Value) (n : N) (L : Path) (d : Data) → view original ≡ d → Stands o answers n d L → (ms : Members) (P : Path) → L ≡ P // codes "not" → KeywordMeans o answers ms (keyword.Not (record { original = original; node = n; location = L }) ∷ []) (codes "not", d) P
   means_not original n L d same stands ms P p = record {
     holds = one ms (keyword.Not (record { original = original; node = n; location = L })) (codes "not", d) not_keyword P
@@ -452,6 +467,7 @@ module _ {K R N : Type 0} (o : Kit K R) (answers : N → Answers) where
         (λ u v. subst₂ (λ x y. x ≤ y) (sym (not_ask original n L u v)) (sym (fact.not_asks o.world ms d u v)) (stands.asks_within u v))
         (λ u v Q. ∼_same (not_find original n L u v Q ∙ (λ i. fault_if (stands.verdict u v i) (Not (same i)) v (p i) Q) ∙ sym (fact.not_report o.world ms d u v P Q)));
     shows = λ u h v Q. ap (λ t. t ∷ []) (not_show original n L u v Q ∙ (λ i. erring (p i) Q (fault_if (stands.verdict u v i) (Not (same i)) v (p i) Q))) ∙ sym (not_child o.world u v ms P Q d);
+    formed = just_one_formed o answers (not_of original n L true d) (not_formed original n L true d ∙ stands.formed);
   }
 
   -- ---- required
@@ -476,6 +492,10 @@ module _ {K R N : Type 0} (o : Kit K R) (answers : N → Answers) where
     unfolding validator_tree
     required_show Q = refl
 
+    required_formed : is_formed o answers required_of ≡ true
+    unfolding validator_formed
+    required_formed = refl
+
   pub means_required : (names : Vec (String Global) Global) (L : Path) (d : Data) → map string_bytes names.items ≡ texts d → (ms : Members) (P : Path) → L ≡ P // codes "required" → KeywordMeans o answers ms (keyword.Required (record { required = names; location = L }) ∷ []) (codes "required", d) P
   means_required names L d same ms P p = record {
     holds = one ms (keyword.Required (record { required = names; location = L })) (codes "required", d) required P
@@ -483,6 +503,7 @@ module _ {K R N : Type 0} (o : Kit K R) (answers : N → Answers) where
         (λ u v. subst₂ (λ x y. x ≤ y) (sym (required_ask names L u v)) (sym (fact.required_asks o.world ms d u v)) (omega arith))
         (λ u v Q. ∼_same (required_find names L u v Q ∙ (λ i. required_faults (same i) v (p i) Q) ∙ sym (fact.required_report o.world ms d u v P Q)));
     shows = λ u h v Q. ap (λ t. t ∷ []) (required_show names L u v Q ∙ (λ i. erring (p i) Q (required_faults (same i) v (p i) Q))) ∙ sym (required_child o.world u v ms P Q d h);
+    formed = just_one_formed o answers (required_of names L true d) (required_formed names L true d);
   }
 
   -- no keyword means what claims nothing and shows nothing
@@ -490,6 +511,7 @@ module _ {K R N : Type 0} (o : Kit K R) (answers : N → Answers) where
   nothing_means ms m P p none child = subst (λ rows. KeywordsMean o answers ms [] rows (m ∷ []) P) (sym none) record {
     covers = record { verdict = λ u v. refl; asks_within = λ u v. omega arith; faults = λ u v Q. like_empty };
     shows = λ clean u v Q. sym (append-nil _ ∙ child clean u v Q);
+    formed = refl;
   }
 
   -- two names are fused, or one
@@ -551,6 +573,10 @@ module _ {K R N : Type 0} (o : Kit K R) (answers : N → Answers) where
     unfolding validator_tree
     leaf_show Q = refl
 
+    leaf_formed : is_formed o answers (keyword.Leaf L l) ≡ true
+    unfolding validator_formed
+    leaf_formed = refl
+
   pub means_leaf : (l : K) (k : Name) (L : Path) (d : Data) → keyword_named o.world k ≡ leaf → o.keyword_of l ≡ k → ((v : Data) → o.finds l v ≡ o.world.faults k d v) → (ms : Members) (P : Path) → L ≡ P // k → KeywordMeans o answers ms (keyword.Leaf L l ∷ []) (k, d) P
   means_leaf l k L d q name same ms P p = record {
     holds = subst (λ w. Holds o answers ms (keyword.Leaf L l ∷ []) (k, d) w P) (sym q) (one ms (keyword.Leaf L l) (k, d) leaf P
@@ -558,6 +584,7 @@ module _ {K R N : Type 0} (o : Kit K R) (answers : N → Answers) where
         (λ u v. subst₂ (λ x y. x ≤ y) (sym (leaf_ask l L u v)) (sym (fact.leaf_asks o.world ms k d u v)) (omega arith))
         (λ u v Q. ∼_same (leaf_find l L u v Q ∙ (λ i. map (λ t. fault (Leaf (name i) t) v Q (p i)) (same v i)) ∙ sym (fact.leaf_report o.world ms k d u v P Q))));
     shows = λ u h v Q. ap (λ t. t ∷ []) (leaf_show l L u v Q ∙ (λ i. leaf_node (p i) Q (described (map (λ t. fault (Leaf (name i) t) v Q (p i)) (same v i))))) ∙ sym (leaf_child o.world u v ms P Q d k) ∙ ap (λ w. member_child o.world ms (k, d) w u v P Q) (sym q);
+    formed = just_one_formed o answers (keyword.Leaf L l) (leaf_formed l L true d);
   }
 
   pub means_unread : (k : Name) (d : Data) → keyword_named o.world k ≡ unread → (ms : Members) (P : Path) → KeywordMeans o answers ms [] (k, d) P
@@ -568,4 +595,5 @@ module _ {K R N : Type 0} (o : Kit K R) (answers : N → Answers) where
       faults = λ u v Q. ∼_same (sym (fact.unread_report o.world ms k d u v P Q));
     });
     shows = λ u h v Q. ap (λ w. member_child o.world ms (k, d) w u v P Q) (sym q);
+    formed = refl;
   }

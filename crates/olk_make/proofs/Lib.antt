@@ -1,6 +1,7 @@
 pub mod Together
 pub mod SoFar
 pub mod Entries
+pub mod Formed
 pub mod Held
 pub mod OneOf
 pub mod Conditions

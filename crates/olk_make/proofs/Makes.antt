@@ -382,6 +382,7 @@ module _ {K R N : Type 0} (o : Kit K R) (answers : N → Answers) where
           with_taken k = record {
             covers = subst (λ rows. Covers o answers ms ks rows P) (flat_untaken (claims heads (listed ms)) taken_claims_none (listed ms)) k.covers;
             shows = λ clean u v Q. k.shows clean u v Q ∙ flat_untaken (λ m. member_child o.world ms m (which o ms m) u v P Q) (λ m taken. taken_shows_none m taken u v Q) (listed ms);
+            formed = k.formed;
           }
 
           by : (left : List (Name × Data)) → PartsStand o answers (known_of ms) [] left P → h.done ++ left ≡ stays → KeywordsMean o answers ms ks (listed ms) (listed ms) P

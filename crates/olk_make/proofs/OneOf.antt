@@ -25,6 +25,7 @@ use Rattle.olk_make.specs.Forms.{IsFormOfOneOf}
 use Rattle.olk_make.specs.Holding.{StandEach}
 use Rattle.olk_make.specs.Making.{KeywordMeans}
 use Rattle.olk_make.proofs.Held.{question, shown, found, at_value, accepts_value, any_ask, any_context, branches_show, accepting_show, one, same_within, at_most_through}
+use Rattle.olk_make.proofs.Formed.{just_one_formed, stand_formed, one_of_formed}
 
 -- one branch is counted where it accepts
 one_counted : (b : Bool) → (0 + cond b 1 0 == 1) ≡ b
@@ -107,4 +108,5 @@ module _ {K R N : Type 0} (o : Kit K R) (answers : N → Answers) where
     shows = λ u h v Q.
         ap (λ t. t ∷ []) (form_shows L ns u v Q k form ∙ one_show u v Q ns (numbered (items_list ds)) L stand ∙ ap (λ M. fact.one_shown o.world u v (fact.accepting_count o.world u v (numbered (items_list ds))) M Q (numbered (items_list ds))) p)
         ∙ sym (fact.one_of_child o.world u v ms ds P Q);
+    formed = just_one_formed o answers k (one_of_formed o answers k L ns form (stand_formed o answers ns (numbered (items_list ds)) L stand));
   })

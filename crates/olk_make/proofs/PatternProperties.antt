@@ -1,5 +1,5 @@
 -- What holds `patternProperties`.
-use Rattle.std.specs.Prelude.{◌≡◌, ◌≤◌, ◌+◌, ℕ, Bool, true, false, cond, ◌&&◌, List, [], ◌∷◌, ◌++◌, map, zip, length, sum_by, codes, Vec, Some, None}
+use Rattle.std.specs.Prelude.{◌≡◌, ◌≤◌, ◌+◌, ℕ, Bool, true, false, cond, ◌&&◌, ◌||◌, List, [], ◌∷◌, ◌++◌, map, zip, length, sum_by, codes, Vec, Some, None}
 use Rattle.std.specs.List.{list_all, flat_map}
 use Rattle.std.specs.declared.alloc.Global.{Global}
 use Rattle.std.proofs.Common.{refl, sym, ◌∙◌, ap, subst, arith}
@@ -7,15 +7,16 @@ use Rattle.std.proofs.lemmas.List.{append-nil}
 use Rattle.std.proofs.lemmas.List.Sums.{sum_by-cons}
 use Rattle.serde_json.specs.Data.{Data, Members}
 use Rattle.olk_spec.specs.Names.{Name, Path, ◌//◌, those, put_if}
-use Rattle.olk_spec.specs.World.{reads_as}
+use Rattle.olk_spec.specs.World.{reads_as, is_unfinished}
 use Rattle.olk_spec.specs.Vocabulary.{pattern_properties}
 use Rattle.olk_spec.specs.Faults.{◌∼◌, like_empty, like_through}
 use Rattle.olk_spec.specs.Schemas.{is_object, members}
-use Rattle.olk_spec.specs.Meanings.{matches}
+use Rattle.olk_spec.specs.Meanings.{matches, is_open}
+use Rattle.olk_tree.proofs.RestrictedAsks.{open_counts}
 use Rattle.olk_spec.specs.Meaning.{accepts, asks, report, tree, meaning_step}
 use Rattle.olk_spec.specs.Tree.{result}
 use Rattle.olk_spec.proofs.Order.{∼_same, ∼_append, ∼_flat_map_any}
-use Rattle.olk_spec.proofs.Truth.{and_true}
+use Rattle.olk_spec.proofs.Truth.{and_true, and_from}
 use Rattle.olk_base.specs.Kit.{Kit}
 use Rattle.olk_base.specs.Compiled.{pattern_answers, pattern_costs}
 use Rattle.olk_base.specs.declared.pattern.CompiledPattern.{CompiledPattern}
@@ -39,6 +40,7 @@ use Rattle.olk_make.specs.Standing.{EntriesStand}
 use Rattle.olk_make.specs.Making.{KeywordMeans, MakesMember}
 use Rattle.olk_make.proofs.Entries.{sum_within}
 use Rattle.olk_make.proofs.Held.{question, shown, found, one_if_free}
+use Rattle.olk_make.proofs.Formed.{just_one_formed, entry_formed, patterns_formed}
 
 -- ---- patterns and nodes side by side
 
@@ -91,12 +93,16 @@ module _ {K R N : Type 0} (o : Kit K R) (answers : N → Answers) where
     abbrev asked_member : Name × Data → ℕ
     asked_member x = pattern_asks o.world d.0 + cond (matches o.world u d.0 x.0) (asks o.world u d.1 x.1) 0
 
-    one_asks : (x : Name × Data) → cond (pattern_costs o.costs e.0) 1 0 + cond (reads_as u (pattern_answers o.answers e.0 x.0)) (((answers e.1).means x.1).asks u) 0 ≤ asked_member x
+    -- a match is counted where the pattern is open
+    counted : (x : Name × Data) → cond {A = ℕ} (pattern_costs o.costs e.0 || is_unfinished (pattern_answers o.answers e.0 x.0)) 1 0 ≡ cond {A = ℕ} (is_open o.world d.0) 1 0
+    counted x = (λ i. cond {A = ℕ} (h.costs i || is_unfinished (h.answers x.0 i)) 1 0) ∙ open_counts o.world d.0 x.0
+
+    one_asks : (x : Name × Data) → cond {A = ℕ} (pattern_costs o.costs e.0 || is_unfinished (pattern_answers o.answers e.0 x.0)) 1 0 + cond (reads_as u (pattern_answers o.answers e.0 x.0)) (((answers e.1).means x.1).asks u) 0 ≤ asked_member x
     one_asks x = by (ask_member x) (ap (reads_as u) (h.answers x.0))
       where
-        by : (b : Bool) → reads_as u (pattern_answers o.answers e.0 x.0) ≡ b → cond (pattern_costs o.costs e.0) 1 0 + cond (reads_as u (pattern_answers o.answers e.0 x.0)) (((answers e.1).means x.1).asks u) 0 ≤ pattern_asks o.world d.0 + cond b (asks o.world u d.1 x.1) 0
-        by true q = let c = ap {B = ℕ} (λ b. cond b 1 0) h.costs in let a = ap {B = ℕ} (λ b. cond b (((answers e.1).means x.1).asks u) 0) q in let w = s.asks_within u x.1 in omega (arith, c, a, w)
-        by false q = let c = ap {B = ℕ} (λ b. cond b 1 0) h.costs in let a = ap {B = ℕ} (λ b. cond b (((answers e.1).means x.1).asks u) 0) q in omega (arith, c, a)
+        by : (b : Bool) → reads_as u (pattern_answers o.answers e.0 x.0) ≡ b → cond {A = ℕ} (pattern_costs o.costs e.0 || is_unfinished (pattern_answers o.answers e.0 x.0)) 1 0 + cond (reads_as u (pattern_answers o.answers e.0 x.0)) (((answers e.1).means x.1).asks u) 0 ≤ pattern_asks o.world d.0 + cond b (asks o.world u d.1 x.1) 0
+        by true q = let c = counted x in let a = ap {B = ℕ} (λ b. cond b (((answers e.1).means x.1).asks u) 0) q in let w = s.asks_within u x.1 in omega (arith, c, a, w)
+        by false q = let c = counted x in let a = ap {B = ℕ} (λ b. cond b (((answers e.1).means x.1).asks u) 0) q in omega (arith, c, a)
 
     matched_ask : (xs : List (Name × Data)) → (every (λ x. conditional (match_question o.answers o.costs e.0 x.0) ((answers e.1).means x.1) (always true)) xs).asks u ≤ sum_by asked_member xs
     matched_ask [] = omega arith
@@ -179,6 +185,12 @@ module _ {K R N : Type 0} (o : Kit K R) (answers : N → Answers) where
     form_shows Q (keyword.SingleValuePatternProperties p) f = λ i. patterns_tree (λ n. (answers n).tree u) v Q o.answers u (f.1 i) (sym f.0 i)
     form_shows Q x f = absurd f
 
+  entries_formed : (es : List Entry) (ds : List (Name × Data)) (L : Path) → EntriesStand o answers es ds L → list_all (entry_formed o answers) es ≡ true
+  entries_formed [] [] L h = refl
+  entries_formed [] (d ∷ ds) L h = absurd h
+  entries_formed (e ∷ es) [] L h = absurd h
+  entries_formed (e ∷ es) (d ∷ ds) L h = and_from _ _ h.1.formed (entries_formed es ds L h.2)
+
   unrestricted : (ms : Members) → (is_restricted ms && true) ≡ false → is_restricted ms ≡ false
   unrestricted ms e = sym (and_true (is_restricted ms)) ∙ e
 
@@ -195,6 +207,7 @@ module _ {K R N : Type 0} (o : Kit K R) (answers : N → Answers) where
           ∙ (λ i. result L Q (cond (is_object v) (Some (patterns_name L u v Q es (members d) stand i)) None) false [] (patterns_show L u v Q es (members d) stand i))
           ∙ ap (λ M. result M Q (cond (is_object v) (Some (flat_map (λ e. map (λ x. x.0) (matched_members o.world u e.0 v)) (members d))) None) false [] (flat_map (λ e. map (λ x. tree o.world u e.1 x.1 (M // e.0) (Q // x.0)) (matched_members o.world u e.0 v)) (members d))) p)
           ∙ sym (fact.pattern_properties_child o.world ms d u v alone P Q);
+      formed = just_one_formed o answers k (patterns_formed o answers k L es form (entries_formed es (members d) L stand));
     }
 
   pub makes_pattern_properties : (k : KeywordOver K R N) (L : Path) (v : Vec (CompiledPattern R) Global) (t : Table) (ns : List N) (es : List Entry) → es ≡ zip v.items ns → IsFormOfPatternProperties L es k → MakesMember o answers (shape.PatternProperties v t) L ns (k ∷ [])

@@ -1,5 +1,5 @@
 -- What holds `propertyDependencies`.
-use Rattle.std.specs.Prelude.{◌≡◌, ◌≤◌, ⊤, ℕ, min, Bool, ◌&&◌, List, [], ◌∷◌, ◌++◌, map, length, get_or, take, drop, sum_by, codes, option_to_list, bytes_eq, Vec}
+use Rattle.std.specs.Prelude.{◌≡◌, ◌≤◌, ⊤, ℕ, min, Bool, ◌&&◌, List, [], ◌∷◌, ◌++◌, map, length, get_or, take, drop, sum_by, codes, option_to_list, bytes_eq, Vec, true}
 use Rattle.std.specs.List.{list_all, flat_map}
 use Rattle.std.specs.Ordering.{nat_cmp, is_eq}
 use Rattle.std.specs.Cmp.Lexicographic.{slice_cmp}
@@ -38,6 +38,9 @@ use Rattle.olk_make.specs.Holding.{StandEach, StandInner}
 use Rattle.olk_make.specs.Making.{KeywordMeans, MakesMember}
 use Rattle.olk_make.proofs.Entries.{sum_within, AnswersFor, AnswerEach, each_accept, each_ask, each_find, each_show, schema_answers, schemas_answer}
 use Rattle.olk_make.proofs.Held.{question, shown, found, one, same_within}
+use Rattle.olk_make.proofs.Formed.{has_form, is_formed, just_one_formed, each_formed}
+use Rattle.olk_tree.specs.Formed.{validator_formed}
+use Rattle.olk_spec.proofs.Truth.{and_from}
 
 -- maps, made of the lists of names and the nodes that are left
 abbrev pub MadeByCutting : {N : Type 0} → List (List Name) × List N → List (SmallMap N) → Type 0
@@ -100,6 +103,12 @@ module _ {K R N : Type 0} (o : Kit K R) (answers : N → Answers) where
   MapsAnswer [] (e ∷ es) L = ⊥
   MapsAnswer (m ∷ maps) [] L = ⊥
   MapsAnswer (m ∷ maps) (e ∷ es) L = (m.names ≡ names_of e.1) × SchemaEach m.nodes.items (members e.1) (L // e.0) × MapsAnswer maps es L
+
+  maps_formed : (maps : List (SmallMap N)) (es : List (Name × Data)) (L : Path) → MapsAnswer maps es L → list_all (λ m. list_all (has_form o answers) m.nodes.items) maps ≡ true
+  maps_formed [] [] L h = refl
+  maps_formed [] (e ∷ es) L h = absurd h
+  maps_formed (m ∷ maps) [] L h = absurd h
+  maps_formed (m ∷ maps) (e ∷ es) L h = and_from _ _ (each_formed o answers (schema_answers o answers) m.nodes.items (members e.1) (L // e.0) h.1) (maps_formed maps es L h.2)
 
   module _ (v : Data) where
     chosen_answer : (m : SmallMap N) (e : Name × Data) (L : Path) → m.names ≡ names_of e.1 → SchemaEach m.nodes.items (members e.1) L → SchemaEach (flat_map (chosen_at m) (at e.0 v)) (chosen v e) L
@@ -167,6 +176,10 @@ module _ {K R N : Type 0} (o : Kit K R) (answers : N → Answers) where
       unfolding validator_tree
       choice_shows Q = ap (λ ks. plain L Q (map (λ n. (answers n).tree u v Q) (chosen_among ks))) names ∙ ap (plain L Q) (choices_show v u Q m.nodes.items (members d) L stand)
 
+    choices_formed : is_formed o answers (choices_of m L) ≡ true
+    unfolding validator_formed
+    choices_formed = maps_formed m.nodes.items (members d) L stand
+
     means_property_dependencies : (ms : Members) (P : Path) → L ≡ P // codes "propertyDependencies" → KeywordMeans o answers ms (choices_of m L ∷ []) (codes "propertyDependencies", d) P
     means_property_dependencies ms P p = record {
       holds = one o answers ms (choices_of m L) (codes "propertyDependencies", d) property_dependencies P
@@ -174,6 +187,7 @@ module _ {K R N : Type 0} (o : Kit K R) (answers : N → Answers) where
           (λ u v. same_within _ _ _ (choice_asks u v) (fact.property_dependencies_asks o.world ms d u v))
           (λ u v Q. subst (λ fs. found o answers u (choices_of m L) v Q ∼ fs) (ap (λ M. flat_map (λ e. flat_map (λ c. report o.world u c.1 v (M // e.0 // c.0) Q) (chosen v e)) (members d)) p ∙ sym (fact.property_dependencies_report o.world ms d u v P Q)) (choice_finds u v Q));
       shows = λ u h v Q. ap (λ t. t ∷ []) (choice_shows u v Q ∙ ap (λ M. plain M Q (flat_map (λ e. map (λ c. tree o.world u c.1 v (M // e.0 // c.0) Q) (chosen v e)) (members d))) p) ∙ sym (fact.property_dependencies_child o.world ms d u v P Q);
+      formed = just_one_formed o answers (choices_of m L) choices_formed;
     }
 
   -- ---- what is made of the nodes

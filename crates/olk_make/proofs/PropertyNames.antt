@@ -26,6 +26,8 @@ use Rattle.olk_make.specs.Standing.{StandAt}
 use Rattle.olk_make.specs.Making.{KeywordMeans, MakesMember}
 use Rattle.olk_make.proofs.Entries.{sum_within}
 use Rattle.olk_make.proofs.Held.{question, shown, found, one, same_within}
+use Rattle.olk_make.proofs.Formed.{has_form, is_formed, just_one_formed}
+use Rattle.olk_tree.specs.Formed.{validator_formed}
 
 module _ {K R N : Type 0} (o : Kit K R) (answers : N → Answers) where
   -- ---- a schema for each name
@@ -63,6 +65,10 @@ module _ {K R N : Type 0} (o : Kit K R) (answers : N → Answers) where
       unfolding validator_tree
       schema_shows Q = ap (plain L Q) (names_show Q (members v))
 
+    names_formed : is_formed o answers names_of ≡ has_form o answers n
+    unfolding validator_formed
+    names_formed = refl
+
     means_property_names : (d : Data) → is_object d ≡ true → Stands o answers n d L → (ms : Members) (P : Path) → L ≡ P // codes "propertyNames" → KeywordMeans o answers ms (names_of ∷ []) (codes "propertyNames", d) P
     means_property_names d is stands ms P p = record {
       holds = one o answers ms names_of (codes "propertyNames", d) property_names P
@@ -70,6 +76,7 @@ module _ {K R N : Type 0} (o : Kit K R) (answers : N → Answers) where
           (λ u v. same_within _ _ _ (schema_asks d stands u v) (fact.property_names_asks o.world ms d u v))
           (λ u v Q. subst (λ fs. found o answers u names_of v Q ∼ fs) (ap (λ M. flat_map (λ x. map (wrapped v Q) (report o.world u d (string x.0) M Q)) (members v)) p ∙ sym (fact.property_names_report o.world ms d u v is P Q)) (schema_finds d stands u v Q));
       shows = λ u h v Q. ap (λ t. t ∷ []) (schema_shows d stands u v Q ∙ ap (λ M. plain M Q (map (λ x. tree o.world u d (string x.0) M Q) (members v))) p) ∙ sym (fact.property_names_child o.world ms d u v is P Q);
+      formed = just_one_formed o answers names_of (names_formed ∙ stands.formed);
     }
 
     pub makes_property_names : (before ns : List N) → ns ≡ before ++ n ∷ [] → MakesMember o answers shape.PropertyNames L ns (names_of ∷ [])
@@ -106,6 +113,10 @@ module _ {K R N : Type 0} (o : Kit K R) (answers : N → Answers) where
       unfolding validator_tree
       none_shows Q = refl
 
+    none_formed : is_formed o answers no_names ≡ true
+    unfolding validator_formed
+    none_formed = refl
+
     means_no_names : (d : Data) → is_truth false d ≡ true → (ms : Members) (P : Path) → L ≡ P // codes "propertyNames" → KeywordMeans o answers ms (no_names ∷ []) (codes "propertyNames", d) P
     means_no_names d is ms P p = record {
       holds = one o answers ms no_names (codes "propertyNames", d) property_names P
@@ -113,6 +124,7 @@ module _ {K R N : Type 0} (o : Kit K R) (answers : N → Answers) where
           (λ u v. subst₂ (λ x y. x ≤ y) (sym (none_asks u v)) (sym (fact.no_names_asks o.world ms d u v is)) (omega arith))
           (λ u v Q. ∼_same (none_finds u v Q ∙ ap (λ M. fault_if (not (is_empty (members v))) FalseSchema v M Q) p ∙ sym (fact.no_names_report o.world ms d u v is P Q)));
       shows = λ u h v Q. ap (λ t. t ∷ []) (none_shows u v Q ∙ ap (λ M. erring M Q (fault_if (not (is_empty (members v))) FalseSchema v M Q)) p) ∙ sym (fact.no_names_child o.world ms d u v is P Q);
+      formed = just_one_formed o answers no_names none_formed;
     }
 
     pub makes_no_names : MakesMember o answers shape.NoNames L [] (no_names ∷ [])
@@ -128,6 +140,7 @@ module _ {K R N : Type 0} (o : Kit K R) (answers : N → Answers) where
       faults = λ u v Q. ∼_same (sym (fact.any_names_report o.world ms d u v no_schema not_false P Q));
     };
     shows = λ u h v Q. sym (fact.any_names_child o.world ms d u v no_schema not_false P Q);
+    formed = refl;
   }
 
   pub makes_any_names : (L : Path) (ns : List N) → MakesMember o answers shape.AnyNames L ns []

@@ -14,7 +14,7 @@ use Rattle.olk_spec.specs.Faults.{◌∼◌, like_empty, like_through}
 use Rattle.olk_spec.specs.Schemas.{listed}
 use Rattle.olk_spec.specs.Malformed.{has_repeat}
 use Rattle.olk_spec.proofs.Order.{∼_append, ∼_permuted}
-use Rattle.olk_spec.proofs.Truth.{and_true}
+use Rattle.olk_spec.proofs.Truth.{and_true, and_from}
 use Rattle.olk_base.specs.Kit.{Kit}
 use Rattle.olk_tree.specs.Questions.{Question, every}
 use Rattle.olk_tree.specs.Answers.{validator_means}
@@ -51,6 +51,7 @@ module _ {K R N : Type 0} (o : Kit K R) (answers : N → Answers) where
     no_keywords_mean ks e = subst (λ x. KeywordsMean o answers ms x [] [] P) (sym e) record {
       covers = record { verdict = λ u v. refl; asks_within = λ u v. omega arith; faults = λ u v Q. like_empty };
       shows = λ clean u v Q. refl;
+      formed = refl;
     }
 
     -- what one member means alone
@@ -66,6 +67,7 @@ module _ {K R N : Type 0} (o : Kit K R) (answers : N → Answers) where
         faults = λ u v Q. subst (λ l. find o answers ms ks u v Q ∼ l) (sym (append-nil _)) (k.holds.faults u v Q);
       };
       shows = λ clean u v Q. k.shows u (alone clean u) v Q ∙ sym (append-nil _);
+      formed = k.formed;
     }
 
     more_keywords : (ks ls new : List (KeywordOver K R N)) (rows more es fs : List (Name × Data)) → new ≡ ks ++ ls → KeywordsMean o answers ms ks rows es P → KeywordsMean o answers ms ls more fs P → KeywordsMean o answers ms new (rows ++ more) (es ++ fs) P
@@ -82,6 +84,7 @@ module _ {K R N : Type 0} (o : Kit K R) (answers : N → Answers) where
         faults = λ u v Q. subst₂ (λ x y. x ∼ y) (sym (flat_map-append _ ks ls)) (sym (flat_map-append _ rows more)) (∼_append (h.covers.faults u v Q) (k.covers.faults u v Q));
       };
       shows = λ clean u v Q. map-append _ ks ls ∙ (λ i. h.shows clean u v Q i ++ k.shows clean u v Q i) ∙ sym (flat_map-append _ es fs);
+      formed = list_all-append _ ks ls ∙ and_from _ _ h.formed k.formed;
     }
 
     -- the same rows in another order
@@ -93,7 +96,7 @@ module _ {K R N : Type 0} (o : Kit K R) (answers : N → Answers) where
     }
 
     pub means_permuted : (ks : List (KeywordOver K R N)) (rows others es : List (Name × Data)) → IsPermutation rows others → KeywordsMean o answers ms ks rows es P → KeywordsMean o answers ms ks others es P
-    means_permuted ks rows others es same h = record { covers = covers_permuted ks rows others same h.covers; shows = h.shows }
+    means_permuted ks rows others es same h = record { covers = covers_permuted ks rows others same h.covers; shows = h.shows; formed = h.formed }
 
     module _ (heads : Name → Name) where
       pub one_more_keyword : (ks ls new : List (KeywordOver K R N)) (es : List (Name × Data)) (e : Name × Data) → new ≡ ks ++ ls → KeywordsMean o answers ms ks (flat_map (claims heads (listed ms)) es) es P → KeywordsMean o answers ms ls (claims heads (listed ms) e) (e ∷ []) P → KeywordsMean o answers ms new (flat_map (claims heads (listed ms)) (es ++ e ∷ [])) (es ++ e ∷ []) P

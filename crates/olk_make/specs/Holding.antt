@@ -15,6 +15,7 @@ use Rattle.olk_members.specs.Conditions.{is_restricted}
 use Rattle.olk_members.specs.Plans.{tells_members}
 use Rattle.olk_members.specs.Members.{member_accepts, member_asks, member_report, member_malformations}
 use Rattle.olk_tree.specs.declared.node.KeywordOver.{KeywordOver}
+use Rattle.olk_tree.specs.Formed.{validator_formed}
 
 module _ {K R : Type 0} (o : Kit K R) (ms : Members) where
   -- which keyword a member is
@@ -53,6 +54,10 @@ module _ {K R N : Type 0} (o : Kit K R) (answers : N → Answers) where
 
     abbrev pub show : Bool → Data → Path → List Tree
     show u v Q = map (λ k. validator_tree o (λ n. (answers n).means) (λ n. (answers n).tree) u k v Q) ks
+
+    -- whether each has the form that is chosen for what it holds, and so have all nodes inside
+    abbrev pub all_formed : Bool
+    all_formed = list_all (λ k. validator_formed o (λ n. (answers n).formed) k) ks
 
     -- it is what one member means; what is asked is bounded where `additionalProperties` doesn't take the keyword over
     pub record Holds (m : Name × Data) (w : Keyword) (P : Path) : Type 0 where

@@ -9,7 +9,7 @@ use Rattle.olk_base.specs.Kit.{Kit}
 use Rattle.olk_tree.specs.declared.node.KeywordOver.{KeywordOver}
 use Rattle.olk_members.specs.Plans.{Planned, plan_of, head, claims}
 use Rattle.olk_members.specs.Members.{member_child, StandsAlone}
-use Rattle.olk_make.specs.Holding.{which, all_malformed, show, Holds, Covers}
+use Rattle.olk_make.specs.Holding.{which, all_malformed, show, all_formed, Holds, Covers}
 use Rattle.olk_members.specs.Conditions.{is_condition, known_of}
 use Rattle.olk_tree.specs.Places.{Answers, Stands}
 use Rattle.olk_read.specs.Reading.{reads_of, IsShape, Fits}
@@ -21,10 +21,11 @@ use Rattle.olk_read.specs.declared.shape.Shape.{Shape}
 
 module _ {K R N : Type 0} (o : Kit K R) (answers : N → Answers) where
   module _ (ms : Members) (ks : List (KeywordOver K R N)) where
-    -- in the schema object with the members ms at P, the keywords mean what the rows mean together, and show what the members es show
+    -- in the schema object with the members ms at P, the keywords mean what the rows mean together, show what the members es show, and have their form
     pub record KeywordsMean (rows es : List (Name × Data)) (P : Path) : Type 0 where
       pub covers : Covers o answers ms ks rows P
       pub shows : all_malformed o ms P (listed ms) ≡ [] → (u : Bool) (v : Data) (Q : Path) → show o answers ms ks u v Q ≡ flat_map (λ m. member_child o.world ms m (which o ms m) u v P Q) es
+      pub formed : all_formed o answers ms ks ≡ true
 
     -- they mean what the object means
     abbrev pub ObjectIsMade : Path → Type 0
@@ -34,6 +35,7 @@ module _ {K R N : Type 0} (o : Kit K R) (answers : N → Answers) where
     pub record KeywordMeans (m : Name × Data) (P : Path) : Type 0 where
       pub holds : Holds o answers ms ks m (which o ms m) P
       pub shows : (u : Bool) → StandsAlone o.world u ms m (which o ms m) → (v : Data) (Q : Path) → show o answers ms ks u v Q ≡ member_child o.world ms m (which o ms m) u v P Q
+      pub formed : all_formed o answers ms ks ≡ true
 
   -- keywords that are made of a shape and nodes at L mean the member whose part these are, in each object
   abbrev pub MakesMember : Shape K R → Path → List N → List (KeywordOver K R N) → Type 0

@@ -37,10 +37,12 @@ list_all-permuted p = along_permutation (λ xs ys. list_all p xs ≡ list_all p 
 abbrev pub listing : Name × Name → Data
 listing t = array (item (string t.0) (item (string t.1) no_items))
 
--- the names are those that `required` lists beside `properties`, and each of the two stands once
+-- the names are two that `required` lists beside `properties` of few names, and each of the two keywords stands once
 pub record Fuses (ms : Members) (t : Name × Name) : Type 0 where
   pub value : Data
   pub declared : lookup (codes "properties") (listed ms) ≡ Some value
+  pub few : declares_few (Some value) ≡ true
+  pub differ : bytes_eq t.0 t.1 ≡ false
   pub listed_at : lookup (codes "required") (listed ms) ≡ Some (listing t)
   pub required : members_named (codes "required") (listed ms) ≡ (codes "required", listing t) ∷ []
 
@@ -52,16 +54,16 @@ declared_value : (o : Option Data) → declares_few o ≡ true → (d : Data) ×
 declared_value None e = absurd (true≢false (sym e))
 declared_value (Some d) e = (d, refl)
 
-differing : (b : Bool) (s t : Name × Name) → cond b None (Some s) ≡ Some t → s ≡ t
+differing : (b : Bool) (s t : Name × Name) → cond b None (Some s) ≡ Some t → (s ≡ t) × (b ≡ false)
 differing true s t e = absurd (true≢false (sym (ap is_some e)))
-differing false s t e = ap (λ o. unwrap_or o s) e
+differing false s t e = (ap (λ o. unwrap_or o s) e, refl)
 
-no_pair : (o : Option Data) (t : Name × Name) (p : Option (Name × Name)) → is_some p ≡ false → p ≡ Some t → o ≡ Some (listing t)
-no_pair o t p h e = absurd (true≢false (sym (ap is_some e) ∙ h))
+no_pair : {G : Type 0} (t : Name × Name) (p : Option (Name × Name)) → is_some p ≡ false → p ≡ Some t → G
+no_pair t p h e = absurd (true≢false (sym (ap is_some e) ∙ h))
 
-listed_names : (o : Option Data) (t : Name × Name) → two_names o ≡ Some t → o ≡ Some (listing t)
-listed_names (Some (array (item (string a) (item (string b) no_items)))) t e = ap (λ s. Some (listing s)) (differing (bytes_eq a b) (a, b) t e)
-listed_names o t e = no_pair o t None refl e
+listed_names : (o : Option Data) (t : Name × Name) → two_names o ≡ Some t → (o ≡ Some (listing t)) × (bytes_eq t.0 t.1 ≡ false)
+listed_names (Some (array (item (string a) (item (string b) no_items)))) t e = let d = differing (bytes_eq a b) (a, b) t e in (ap (λ s. Some (listing s)) d.0, ap (λ s. bytes_eq s.0 s.1) (sym d.0) ∙ d.1)
+listed_names o t e = no_pair t None refl e
 
 where_few : (a b c : Bool) (o : Option (Name × Name)) (t : Name × Name) → cond (a && b && c) o None ≡ Some t → (a ≡ true) × (o ≡ Some t)
 where_few true true true o t e = (refl, e)
@@ -79,8 +81,10 @@ are_fused ms (Some t) h e =
     record {
       value = d.0;
       declared = d.1;
-      listed_at = r;
-      required = named_once (codes "required") (listing t) es h r;
+      few = ap declares_few (sym d.1) ∙ w.0;
+      differ = r.1;
+      listed_at = r.0;
+      required = named_once (codes "required") (listing t) es h r.0;
     }
 
 module _ (ms : Members) (distinct : has_repeat (map (λ m. m.0) (listed ms)) ≡ false) where

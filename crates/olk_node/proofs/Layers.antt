@@ -1,20 +1,25 @@
 -- One level of a node: its answers, over those of the nodes below it.
-use Rattle.std.specs.Prelude.{◌≡◌, [], ◌∷◌, Bool, not, ◌++◌, ◌||◌, Option, Some, None, is_some, List, Vec, Box}
+use Rattle.std.specs.Prelude.{◌≡◌, ◌==◌, [], ◌∷◌, Bool, true, not, ◌++◌, ◌||◌, ◌&&◌, map, Option, Some, None, is_some, List, Vec, Box, bytes_eq, string_bytes}
 use Rattle.std.specs.declared.alloc.Global.{Global}
-use Rattle.std.specs.List.{flat_map}
+use Rattle.std.specs.List.{flat_map, list_all}
+use Rattle.std.specs.Option.{option_map_or}
 use Rattle.std.proofs.Common.{refl, ap, ◌∙◌, arith}
+use Rattle.std.proofs.lemmas.List.{length-map}
+use Rattle.std.proofs.lemmas.List.Folds.{list_all-map}
 use mathlib.Core.Path.{subst₂}
 use Rattle.serde_json.specs.Data.{Data}
-use Rattle.olk_spec.specs.Names.{Path, ◌//◌, is_empty}
+use Rattle.olk_spec.specs.Names.{Name, Path, ◌//◌, is_empty}
 use Rattle.olk_spec.specs.Faults.{AnyOf, context}
 use Rattle.olk_spec.specs.Schemas.{at}
 use Rattle.olk_spec.specs.Accepts.{missing}
 use Rattle.olk_spec.specs.Reports.{required_faults, fault_if}
 use Rattle.olk_spec.specs.Tree.{plain}
 use Rattle.olk_base.specs.Kit.{Kit}
+use Rattle.olk_base.specs.declared.pattern.CompiledPattern.{CompiledPattern}
 use Rattle.olk_tree.specs.Shown.{missing_trees, branch_trees}
 use Rattle.olk_tree.specs.Questions.{always, both, every}
-use Rattle.olk_tree.specs.Answers.{named, due_nodes, chosen_nodes, one_of_report, two_texts, sides_of, required_text, required_place, lacks, has_neighbours, or_else, head_of, first_of, validator_means, body_means, validator_report, body_report, validator_first, body_first, validator_tree, body_tree}
+use Rattle.olk_tree.specs.Answers.{named, nodes_in, due_nodes, chosen_nodes, one_of_report, two_texts, sides_of, required_text, required_place, lacks, has_neighbours, or_else, head_of, first_of, validator_means, body_means, validator_report, body_report, validator_first, body_first, validator_tree, body_tree}
+use Rattle.olk_tree.specs.Formed.{is_map_formed, names_beside, is_table_formed, validator_formed, body_formed}
 use Rattle.olk_tree.specs.Places.{Answers, AnswersBy}
 use Rattle.olk_node.specs.Nodes.{node_step, answers}
 use Rattle.olk_tree.specs.declared.big_map.BigMap.{BigMap}
@@ -32,7 +37,7 @@ use Rattle.olk_node.specs.declared.node.SchemaNode.{SchemaNode, map-SchemaNode, 
 use Rattle.olk_node.specs.declared.node.SchemaNode.TheOpen.{SchemaNode-F}
 use Rattle.olk_spec.proofs.Maps.{flat_map-map, map-map}
 use Rattle.olk_tree.proofs.AdditionalMaps.{Mapped, at-beside, declared-beside, additional_means-map, additional_report-map, additional_first-map, additional_tree-map}
-use Rattle.olk_tree.proofs.Maps.{due_nodes-map, chosen_nodes-map, every-map, some-map, every-beside, flat_map-beside, first_of-map, first_of-beside, properties_tree-map, branch_trees-map, any_of_tree-map, one_of_tree-map, how_many-map, exactly_one-map, patterns_mean-map, patterns_report-map, patterns_first-map, patterns_tree-map}
+use Rattle.olk_tree.proofs.Maps.{all-map, due_nodes-map, chosen_nodes-map, every-map, some-map, every-beside, flat_map-beside, first_of-map, first_of-beside, properties_tree-map, branch_trees-map, any_of_tree-map, one_of_tree-map, how_many-map, exactly_one-map, patterns_mean-map, patterns_report-map, patterns_first-map, patterns_tree-map}
 
 -- what holds where a map is of few names, and where it is of many
 few_or_many : {N G : Type 0} (m : PropertiesMap N) → ((s : SmallMap N) → m ≡ Small s → G) → ((b : BigMap N) → m ≡ Big b → G) → G
@@ -214,6 +219,54 @@ module _ {K R : Type 0} (o : Kit K R) where
     | keyword.Leaf p l ↦ refl
   ]) ks.items)
 
+  abbrev entry_answers : CompiledPattern R × SchemaNode K R → CompiledPattern R × Answers
+  entry_answers e = (e.0, answers o e.1)
+
+  nodes_formed : (ns : List (SchemaNode K R)) → list_all (λ a. a.formed) (map (answers o) ns) ≡ list_all (λ n. (answers o n).formed) ns
+  nodes_formed ns = list_all-map (λ a. a.formed) (answers o) ns
+
+  module _ (n : SchemaNode-F K R (SchemaNode K R)) (ks : Vec (KeywordOver K R (SchemaNode K R)) Global) (k : Box (AdditionalProperties R (SchemaNode K R)) Global) where
+    names_alike : names_beside (answered n ks k).properties ≡ names_beside k.value.properties
+    names_alike = none_few_or_many k.value.properties (λ e. rw e refl) (λ m e. rw e refl) (λ m e. rw e refl)
+
+    maps_alike : option_map_or (λ m. is_map_formed m && list_all (λ a. a.formed) (nodes_in m)) (answered n ks k).properties true ≡ option_map_or (λ m. is_map_formed m && list_all (λ n. (answers o n).formed) (nodes_in m)) k.value.properties true
+    maps_alike = none_few_or_many k.value.properties (λ e. rw e refl) (λ m e. rw e (ap (λ b. is_map_formed (Small m) && b) (nodes_formed m.nodes.items))) (λ m e. rw e (ap (λ b. is_map_formed (Big m) && b) (nodes_formed m.nodes.items)))
+
+    tables_alike : (names : List Name) → option_map_or (λ es. is_table_formed o.answers names (map (λ e. e.0) es.items) k.value.table && list_all (λ e. e.1.formed) es.items) (answered n ks k).patterns true ≡ option_map_or (λ es. is_table_formed o.answers names (map (λ e. e.0) es.items) k.value.table && list_all (λ e. (answers o e.1).formed) es.items) k.value.patterns true
+    tables_alike names = none_or_one k.value.patterns (λ e. rw e refl) (λ es e. rw e (λ i. is_table_formed o.answers names (map-map (λ e. e.0) (λ e. e.0) entry_answers (λ e. refl) es.items i) k.value.table && list_all-map (λ e. e.1.formed) entry_answers es.items i))
+
+    rest_alike : option_map_or (λ a. a.formed) (answered n ks k).rest true ≡ option_map_or (λ n. (answers o n).formed) k.value.rest true
+    rest_alike = none_or_one k.value.rest (λ e. rw e refl) (λ r e. rw e refl)
+
+  formed_layer : (n : SchemaNode-F K R (SchemaNode K R)) (b : Body (KeywordOver K R (SchemaNode K R))) → (node_step o (opened n b)).formed ≡ body_formed (validator_formed o (λ n. (answers o n).formed)) b
+  unfolding validator_formed
+  formed_layer n True = refl
+  formed_layer n False = refl
+  formed_layer n (RequiredNames k) = refl
+  formed_layer n (Keywords ks) = all-map (λ k. validator_formed o (λ a. a.formed) k) (λ k. validator_formed o (λ n. (answers o n).formed) k) _ (elim [
+    | keyword.Properties k ↦ few_or_many k.properties (λ m e. rw e (ap (λ b. is_map_formed (Small m) && b) (nodes_formed m.nodes.items))) (λ m e. rw e (ap (λ b. is_map_formed (Big m) && b) (nodes_formed m.nodes.items)))
+    | keyword.PropertiesWithRequired2 k ↦ ap (λ b. is_map_formed (Small k.properties) && not (bytes_eq (string_bytes k.first) (string_bytes k.second)) && b) (nodes_formed k.properties.nodes.items)
+    | keyword.Required k ↦ refl
+    | keyword.AllOf k ↦ λ i. not (length-map k.schemas.items (answers o) i == 1) && nodes_formed k.schemas.items i
+    | keyword.SingleValueAllOf k ↦ refl
+    | keyword.AnyOf k ↦ λ i. not (length-map k.schemas.items (answers o) i == 1) && nodes_formed k.schemas.items i
+    | keyword.SingleAnyOf k ↦ refl
+    | keyword.OneOf k ↦ λ i. not (length-map k.schemas.items (answers o) i == 1) && nodes_formed k.schemas.items i
+    | keyword.SingleOneOf k ↦ refl
+    | keyword.Not k ↦ refl
+    | keyword.IfThen k ↦ refl
+    | keyword.IfElse k ↦ refl
+    | keyword.IfThenElse k ↦ refl
+    | keyword.Dependencies k ↦ nodes_formed k.dependencies.nodes.items
+    | keyword.PropertyNames k ↦ refl
+    | keyword.PropertyNamesFalse k ↦ refl
+    | keyword.PropertyDependencies k ↦ all-map (λ m. list_all (λ a. a.formed) m.nodes.items) (λ m. list_all (λ n. (answers o n).formed) m.nodes.items) _ (λ m. nodes_formed m.nodes.items) k.dependencies.nodes.items
+    | keyword.PatternProperties k ↦ λ i. not (length-map k.patterns.items entry_answers i == 1) && list_all-map (λ e. e.1.formed) entry_answers k.patterns.items i
+    | keyword.SingleValuePatternProperties k ↦ refl
+    | keyword.AdditionalProperties k ↦ (λ i. maps_alike n ks k i && tables_alike n ks k (names_alike n ks k i) i && rest_alike n ks k i)
+    | keyword.Leaf p l ↦ refl
+  ]) ks.items
+
   pub node_means : (n : SchemaNode K R) (v : Data) → (answers o n).means v ≡ body_means (validator_means o (λ n. (answers o n).means)) (out-SchemaNode K R n).body v
   unfolding answers
   node_means n v = ap (λ a. a.means v) (fold_out-SchemaNode K R Answers (node_step o) n) ∙ means_layer (out-SchemaNode K R n) (out-SchemaNode K R n).body v
@@ -234,6 +287,10 @@ module _ {K R : Type 0} (o : Kit K R) where
   unfolding answers
   node_location n = ap (λ a. a.location) (fold_out-SchemaNode K R Answers (node_step o) n)
 
+  pub node_formed : (n : SchemaNode K R) → (answers o n).formed ≡ body_formed (validator_formed o (λ n. (answers o n).formed)) (out-SchemaNode K R n).body
+  unfolding answers
+  node_formed n = ap (λ a. a.formed) (fold_out-SchemaNode K R Answers (node_step o) n) ∙ formed_layer (out-SchemaNode K R n) (out-SchemaNode K R n).body
+
   -- a node answers as what stands at its place
   pub node_answers : (n : SchemaNode K R) (P : Path) (b : Body (KeywordOver K R (SchemaNode K R))) → (out-SchemaNode K R n).location ≡ P → (out-SchemaNode K R n).body ≡ b → AnswersBy o (answers o) P b n
   node_answers n P b at is = subst₂ (λ P b. AnswersBy o (answers o) P b n) at is record {
@@ -242,6 +299,7 @@ module _ {K R : Type 0} (o : Kit K R) where
     first = node_first n;
     evaluation = node_shows n;
     place = node_location n;
+    formed = node_formed n;
   }
 
 pub ruleset layers = (node_means, node_finds, node_first, node_shows, node_location)

@@ -13,6 +13,7 @@ pub of_schema : {K R : Type 0} {o : Kit K R} {n : SchemaNode K R} {S : Data} {P 
 of_schema {v = v} {a = a} s h = record {
   only = h.only;
   asked_to = let within = s.asks_within a.answer v in let x = h.asked_to in omega arith;
+  unfinished_to = let within = s.asks_within a.answer v in let x = h.unfinished_to in omega arith;
   verdict = h.verdict ∙ s.verdict a.answer v;
   certain = λ e l. sym (s.verdict true v) ∙ sym (h.certain e l true) ∙ h.certain e l false ∙ s.verdict false v;
 }

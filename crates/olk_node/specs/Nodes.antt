@@ -1,6 +1,7 @@
--- What a node answers: whether it accepts a value, the faults that it finds, and the tree that it shows.
+-- What a node answers: whether it accepts a value, the faults that it finds, the tree that it shows, and whether all in it has its form.
 use Rattle.olk_tree.specs.Answers.{validator_means, validator_report, validator_first, validator_tree, body_means, body_report, body_first, body_tree}
 use Rattle.olk_tree.specs.Agreement.{validator_agrees, validator_first_agrees, body_agrees, body_first_agrees}
+use Rattle.olk_tree.specs.Formed.{validator_formed, body_formed}
 use Rattle.olk_tree.specs.Places.{Answers}
 use Rattle.olk_base.specs.Kit.{Kit}
 use Rattle.olk_node.specs.declared.node.SchemaNode.{SchemaNode, fold-SchemaNode}
@@ -16,6 +17,7 @@ module _ {K R : Type 0} (o : Kit K R) where
     first_agrees = λ u v Q. body_first_agrees (λ k. validator_means o (λ a. a.means) k) (λ k. validator_first o (λ a. a.means) (λ a. a.report) u (λ a. a.first) k) u (λ k w R. validator_first_agrees o (λ a. a.means) (λ a. a.report) (λ a. a.first) u (λ a x S. a.first_agrees u x S) k w R) n.location n.body v Q;
     tree = λ u. body_tree (validator_tree o (λ a. a.means) (λ a. a.tree) u) n.location n.body;
     location = n.location;
+    formed = body_formed (validator_formed o (λ a. a.formed)) n.body;
   }
 
   -- what a node answers, by recursion over it

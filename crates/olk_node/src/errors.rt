@@ -5,9 +5,10 @@ ghost use Rattle.olk_base.specs.Nodes.{data_of};
 ghost use Rattle.olk_spec.specs.Names.{Path};
 ghost use Rattle.olk_spec.specs.Meaning.{accepts, report};
 ghost use Rattle.olk_base.specs.Kit.{kit, world};
+ghost use Rattle.olk_node.specs.Nodes.{answers};
 ghost use Rattle.olk_node.specs.Stands.{StandsFor};
 ghost use Rattle.olk_check.specs.Asks.{OnlyAsks};
-ghost use Rattle.olk_errors.specs.Found.{Appends, IfInvalid, IsRefusal};
+ghost use Rattle.olk_errors.specs.Found.{Appends, IfInvalid, IsLikeOneOf, IsRefusal};
 
 use crate::node::SchemaNode;
 use olk_base::{Leaf, Node, RegexEngine, ValidationContext};
@@ -59,8 +60,8 @@ impl<'a, K: Leaf, R: RegexEngine> Errors<'a> for SchemaNode<K, R> {
 ///
 /// # Errors
 ///
-/// That error, which is one of a report of the schema over the node, at the schema's place and the path (where members
-/// that nothing allows are told, the first of them alone), or want of memory.
+/// That error, which is of the first step that refuses, and is one of a report of the schema over the node, at the
+/// schema's place and the path (where members that nothing allows are told, the first of them alone); or want of memory.
 pub fn validate_for<'a, K: Leaf, R: RegexEngine>(
     alloc: Global,
     place: &'a SchemaNode<K, R>,
@@ -75,6 +76,9 @@ pub fn validate_for<'a, K: Leaf, R: RegexEngine>(
         → StandsFor (kit K.Leaf R.RegexEngine) place.now S P
         → IsRefusal (world K.Leaf R.RegexEngine) ctx.old.answer S (data_of node.entry)
         P path.old f)) }
+    ensures first { IfErr result (λ e. IfInvalid e (IsLikeOneOf
+        ((answers (kit K.Leaf R.RegexEngine) place.now).first ctx.old.answer
+        (data_of node.entry) path.old))) }
     ensures path { path.new ≡ path.old }
     ensures context { OnlyAsks ctx.old ctx.new }
 {

@@ -22,9 +22,9 @@ impl<K: Leaf, R: RegexEngine> IsValid for SchemaNode<K, R> {
 /// Whether the schema that the place stands for accepts the node, with the context's answer for
 /// matches that are left unfinished (JSON Schema 2020-12 Core, 4.3.2 and 10).
 ///
-/// Takes no memory. The context keeps its answer. Of the counts, that of matchers that were asked
-/// rises by at most what the schema asks, and that of matches that were left unfinished may rise;
-/// where it does not, and is below `u64::MAX`, the verdict is the same with either answer.
+/// Takes no memory. The context keeps its answer. Of the counts, those of matchers that were asked
+/// and of matches that were left unfinished rise, each by at most what the schema asks; where the
+/// second does not, and is below `u64::MAX`, the verdict is the same with either answer.
 #[tactic(auto, using(crate::proofs::Verdicts::of_schema))]
 pub fn is_valid_for<K: Leaf, R: RegexEngine>(
     place: &SchemaNode<K, R>,

@@ -23,3 +23,4 @@ pub mod Restricted
 pub mod RestrictedAsks
 pub mod RestrictedNames
 pub mod RestrictionMeans
+pub mod Formed

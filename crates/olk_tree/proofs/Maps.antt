@@ -1,6 +1,6 @@
 -- What is said of the answers of nodes is said of the nodes.
-use Rattle.std.specs.Prelude.{◌≡◌, ◌+◌, ◌==◌, nat_lt, count_by, Bool, true, false, cond, List, [], ◌∷◌, ◌++◌, map, Option, Some, None, option_map, option_to_list}
-use Rattle.std.specs.List.{flat_map}
+use Rattle.std.specs.Prelude.{◌≡◌, ◌&&◌, ◌+◌, ◌==◌, nat_lt, count_by, Bool, true, false, cond, List, [], ◌∷◌, ◌++◌, map, Option, Some, None, option_map, option_to_list}
+use Rattle.std.specs.List.{flat_map, list_all}
 use Rattle.std.specs.Ordering.{nat_cmp}
 use Rattle.std.specs.Cmp.Lexicographic.{slice_cmp}
 use Rattle.std.specs.declared.cmp.Ordering.{Ordering}
@@ -22,6 +22,10 @@ use Rattle.olk_tree.specs.Shown.{properties_tree, patterns_tree, branch_trees, a
 use Rattle.olk_tree.specs.Answers.{beside, named, or_else, first_of, due_nodes, chosen_at, chosen_nodes, matched_mean, matched_report, patterns_mean, patterns_report, patterns_first}
 use Rattle.olk_tree.specs.declared.map.SmallMap.{SmallMap}
 use Rattle.olk_tree.specs.Questions.{Question, always, both, either, conditional, every, some, how_many, exactly_one}
+
+pub all-map : {X Y : Type 0} (p : X → Bool) (q : Y → Bool) (h : Y → X) → ((y : Y) → p (h y) ≡ q y) → (ys : List Y) → list_all p (map h ys) ≡ list_all q ys
+all-map p q h same [] = refl
+all-map p q h same (y ∷ ys) = λ i. same y i && all-map p q h same ys i
 
 module _ {X Y : Type 0} (p : X → Question) (q : Y → Question) (h : Y → X) (same : (y : Y) → p (h y) ≡ q y) where
   pub every-map : (ys : List Y) → every p (map h ys) ≡ every q ys

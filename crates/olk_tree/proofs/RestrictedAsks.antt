@@ -1,5 +1,5 @@
 -- `additionalProperties` over nodes that stand for schemas asks no more matchers than the raw data asks for.
-use Rattle.std.specs.Prelude.{◌≡◌, ◌≤◌, ℕ, ◌+◌, Bool, true, false, not, cond, ◌&&◌, List, [], ◌∷◌, ◌++◌, map, length, codes, sum_by, count_by, Option, Some, None, is_none, is_some, option_map, option_to_list}
+use Rattle.std.specs.Prelude.{◌≡◌, ◌≤◌, ℕ, ◌+◌, Bool, true, false, not, cond, ◌&&◌, ◌||◌, List, [], ◌∷◌, ◌++◌, map, length, codes, sum_by, count_by, Option, Some, None, is_none, is_some, option_map, option_to_list}
 use Rattle.std.specs.Option.{option_map_or}
 use Rattle.std.proofs.Common.{refl, sym, ap, ◌∙◌, arith}
 use Rattle.std.proofs.lemmas.List.Sums.{sum_by-cons, sum_by-append}
@@ -8,7 +8,7 @@ use Rattle.olk_spec.specs.Names.{Name, Text, Path, ◌//◌, put_if, is_empty}
 use Rattle.olk_spec.specs.World.{World, Says, matched, unmatched, unfinished, is_unfinished}
 use Rattle.olk_spec.specs.Faults.{Fault}
 use Rattle.olk_spec.specs.Schemas.{is_object, members}
-use Rattle.olk_spec.specs.Literals.{Literal, literal}
+use Rattle.olk_spec.specs.Literals.{Literal, literal, passes}
 use Rattle.olk_spec.specs.Meanings.{literal_says, pattern_says, is_open}
 use Rattle.olk_spec.specs.Meaning.{asks}
 use Rattle.olk_spec.specs.Tree.{Tree}
@@ -79,12 +79,23 @@ asked_if_unfinished W u text n = by (literal text) (W.says text n)
     by None matched = refl
     by None unmatched = refl
     by None unfinished = refl
-    by (Some l) s = test (literal_says W l n)
+    by (Some l) s = test (passes l n)
       where
-        test : (s : Says) → (known_or_asked s (said_to false s)).asks u ≡ 0
-        test matched = refl
-        test unmatched = refl
-        test unfinished = refl
+        test : (b : Bool) → (known_or_asked (cond b matched unmatched) (said_to false (cond b matched unmatched))).asks u ≡ 0
+        test true = refl
+        test false = refl
+
+-- a test is never left unfinished, so that it counts exactly where its matcher is asked
+pub open_counts : (W : World) (text : Text) (n : Name) → cond {A = ℕ} (is_open W text || is_unfinished (pattern_says W text n)) 1 0 ≡ cond (is_open W text) 1 0
+open_counts W text n = by (literal text) (W.says text n)
+  where
+    by : (l : Option Literal) (s : Says) → cond {A = ℕ} (is_none l || is_unfinished (option_map_or (λ l. literal_says W l n) l s)) 1 0 ≡ cond (is_none l) 1 0
+    by None s = refl
+    by (Some l) s = test (passes l n)
+      where
+        test : (b : Bool) → cond {A = ℕ} (false || is_unfinished (cond b matched unmatched)) 1 0 ≡ 0
+        test true = refl
+        test false = refl
 
 module _ {K R N : Type 0} (o : Kit K R) (m : N → Data → Question) (r : N → Bool → Data → Path → List Fault) (t : N → Bool → Data → Path → Tree) (n : Name) (u : Bool) (S : Sides R N) (L : Path) where
   -- of a name that isn't declared, each
@@ -92,7 +103,7 @@ module _ {K R N : Type 0} (o : Kit K R) (m : N → Data → Question) (r : N →
   all_asked i [] [] h = refl
   all_asked i [] (e ∷ es) h = absurd h
   all_asked i (p ∷ ps) [] h = absurd h
-  all_asked i (p ∷ ps) (e ∷ es) h = (λ j. cond (h.0.costs j) 1 0 + all_asked (i + 1) ps es h.2 j) ∙ by (is_open o.world e.0)
+  all_asked i (p ∷ ps) (e ∷ es) h = (λ j. cond (h.0.costs j || is_unfinished (h.0.answers n j)) 1 0 + all_asked (i + 1) ps es h.2 j) ∙ ap (λ c. c + length (open_among o.world es)) (open_counts o.world e.0 n) ∙ by (is_open o.world e.0)
     where
       by : (b : Bool) → cond b 1 0 + length (open_among o.world es) ≡ length (put_if b e.0 (open_among o.world es))
       by true = omega arith

@@ -106,8 +106,11 @@ module _ {R : Type 0} (answers : R → Name → Says) (patterns : List (Compiled
   says_of_row i n e (Some r) h at = h i e at
   says_of_row i n e None h at = absurd h
 
-  pub is_table : IsTableOf answers patterns t
-  is_table p i n e name at = says_of_row i n e (slice_get t.rows p) (MatchOption-at_some (Unit {0}) (λ x. IsSomeAnd (slice_get t.rows p) (IsRowOf answers patterns x)) n name (AllZip-left (IsRowOf answers patterns) t.names t.rows rows p)) at
+  says : (p i : ℕ) (n : Name) (e : CompiledPattern R) → slice_get t.names p ≡ Some n → slice_get patterns i ≡ Some e → table_says t p i ≡ pattern_answers answers e n
+  says p i n e name at = says_of_row i n e (slice_get t.rows p) (MatchOption-at_some (Unit {0}) (λ x. IsSomeAnd (slice_get t.rows p) (IsRowOf answers patterns x)) n name (AllZip-left (IsRowOf answers patterns) t.names t.rows rows p)) at
+
+  pub is_table : t.patterns ≡ length patterns → IsTableOf answers patterns t
+  is_table count = record { says = says; count = λ some. count }
 
   pub nothing_else : (p i : ℕ) → length t.names ≤ p → table_says t p i ≡ unfinished
   nothing_else p i le = ap (λ o. option_map_or (λ r. row_says r i) o unfinished) (slice_get_past t.rows p (omega (arith, AllZip-long (IsRowOf answers patterns) t.names t.rows rows)))

@@ -11,4 +11,5 @@ pub mod Visited
 pub mod Emptiness
 pub mod AdditionalAgreement
 pub mod Agreement
+pub mod Formed
 pub mod Places

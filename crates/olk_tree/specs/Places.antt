@@ -1,5 +1,5 @@
 -- What a place of a schema answers, and which schema it stands for.
-use Rattle.std.specs.Prelude.{◌≡◌, ◌≤◌, Bool, List}
+use Rattle.std.specs.Prelude.{◌≡◌, ◌≤◌, Bool, true, List}
 use Rattle.serde_json.specs.Data.{Data}
 use Rattle.olk_spec.specs.Names.{Path, is_empty}
 use Rattle.olk_spec.specs.Faults.{Fault, ◌∼◌}
@@ -8,10 +8,11 @@ use Rattle.olk_spec.specs.Meaning.{accepts, asks, report, tree}
 use Rattle.olk_base.specs.Kit.{Kit}
 use Rattle.olk_tree.specs.Questions.{Question}
 use Rattle.olk_tree.specs.Answers.{validator_means, validator_report, validator_first, validator_tree, body_means, body_report, body_first, body_tree}
+use Rattle.olk_tree.specs.Formed.{validator_formed, body_formed}
 use Rattle.olk_tree.specs.declared.node.KeywordOver.{KeywordOver}
 use Rattle.olk_tree.specs.declared.node.Body.{Body}
 
--- whether it accepts a value, the faults that it finds, and the tree that it shows
+-- whether it accepts a value, the faults that it finds, the tree that it shows, and whether all that it holds has its form
 pub record Answers : Type 0 where
   pub means : Data → Question
   pub report : Bool → Data → Path → List Fault
@@ -23,15 +24,17 @@ pub record Answers : Type 0 where
   pub first_agrees : (u : Bool) (v : Data) (Q : Path) → is_empty (first u v Q) ≡ (means v).accepts u
   pub tree : Bool → Data → Path → Tree
   pub location : Path
+  pub formed : Bool
 
 module _ {K R N : Type 0} (o : Kit K R) (answers : N → Answers) where
-  -- the answers of the node n are those of the schema S at P, for every value and path and for either answer for unfinished matches
+  -- the answers of the node n are those of the schema S at P, for every value and path and for either answer for unfinished matches; and it and all nodes inside have the form that is chosen for what they hold
   pub record Stands (n : N) (S : Data) (P : Path) : Type 0 where
     pub verdict : (u : Bool) (v : Data) → ((answers n).means v).accepts u ≡ accepts o.world u S v
     pub asks_within : (u : Bool) (v : Data) → ((answers n).means v).asks u ≤ asks o.world u S v
     pub faults : (u : Bool) (v : Data) (Q : Path) → (answers n).report u v Q ∼ report o.world u S v P Q
     pub evaluation : (u : Bool) (v : Data) (Q : Path) → (answers n).tree u v Q ≡ tree o.world u S v P Q
     pub place : (answers n).location ≡ P
+    pub formed : (answers n).formed ≡ true
 
   -- the node n at P answers as what stands there does, over the nodes that this holds
   pub record AnswersBy (P : Path) (b : Body (KeywordOver K R N)) (n : N) : Type 0 where
@@ -40,3 +43,4 @@ module _ {K R N : Type 0} (o : Kit K R) (answers : N → Answers) where
     pub first : (u : Bool) (v : Data) (Q : Path) → (answers n).first u v Q ≡ body_first (validator_first o (λ z. (answers z).means) (λ z. (answers z).report) u (λ z. (answers z).first)) P b v Q
     pub evaluation : (u : Bool) (v : Data) (Q : Path) → (answers n).tree u v Q ≡ body_tree (validator_tree o (λ z. (answers z).means) (λ z. (answers z).tree) u) P b v Q
     pub place : (answers n).location ≡ P
+    pub formed : (answers n).formed ≡ body_formed (validator_formed o (λ z. (answers z).formed)) b

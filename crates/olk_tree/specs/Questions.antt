@@ -1,6 +1,6 @@
 -- Questions about a value: the verdict, and how many matchers are asked at most, for either answer for unfinished matches.
 use Rattle.std.specs.Prelude.{ℕ, ◌+◌, ◌==◌, Bool, true, false, not, cond, ◌&&◌, ◌||◌, List, [], ◌∷◌, count_by}
-use Rattle.olk_spec.specs.World.{Says, reads_as}
+use Rattle.olk_spec.specs.World.{Says, reads_as, is_unfinished}
 
 pub record Question : Type 0 where
   pub accepts : Bool → Bool
@@ -10,9 +10,9 @@ pub record Question : Type 0 where
 abbrev pub always : Bool → Question
 always b = record { accepts = λ u. b; asks = λ u. 0 }
 
--- what a matcher says, where asking it counts or does not
+-- what a matcher says, where asking it counts or does not; an unfinished match counts
 abbrev pub said_to : Bool → Says → Question
-said_to costs s = record { accepts = λ u. reads_as u s; asks = λ u. cond costs 1 0 }
+said_to costs s = record { accepts = λ u. reads_as u s; asks = λ u. cond (costs || is_unfinished s) 1 0 }
 
 -- both accept; the second is asked where the first does
 abbrev pub both : Question → Question → Question

@@ -1,9 +1,9 @@
 -- What patterns say of the names of a table, kept in the bits of words.
-use Rattle.std.specs.Prelude.{◌≡◌, ℕ, ◌/◌, ◌%◌, ◌<◌, ◌≤◌, ◌==◌, ◌&&◌, Bool, true, false, List, [], get_or, length, Option, Some, None, bytes_eq, count_by, slice_get}
+use Rattle.std.specs.Prelude.{◌≡◌, ℕ, ◌/◌, ◌%◌, ◌<◌, ◌≤◌, ◌==◌, ◌&&◌, nat_lt, Bool, true, false, List, [], get_or, length, Option, Some, None, bytes_eq, count_by, slice_get}
 use Rattle.std.specs.Int.{bit_at}
 use Rattle.std.specs.List.{position, filter_map, range_with_len, list_all}
 use Rattle.std.specs.Option.{option_map_or}
-use Rattle.olk_spec.specs.Names.{Name}
+use Rattle.olk_spec.specs.Names.{Name, is_empty}
 use Rattle.olk_spec.specs.World.{Says, matched, unmatched, unfinished, reads_as, is_unfinished}
 use Rattle.olk_base.specs.Count.{Counts, no_counts, raised_by}
 use Rattle.olk_base.specs.Compiled.{pattern_answers, pattern_costs}
@@ -68,11 +68,12 @@ known_says None = unfinished
 abbrev pub place_in : Table → Name → Option ℕ
 place_in t n = position (λ k. bytes_eq k n) t.names
 
+-- the name is one of the table's, and i one of its patterns
 abbrev pub matched_in : Table → Name → ℕ → Bool
-matched_in t n i = option_map_or (λ p. reads_as false (table_says t p i)) (place_in t n) false
+matched_in t n i = nat_lt i t.patterns && option_map_or (λ p. reads_as false (table_says t p i)) (place_in t n) false
 
 abbrev pub unfinished_in : Table → Name → ℕ → Bool
-unfinished_in t n i = option_map_or (λ p. is_unfinished (table_says t p i)) (place_in t n) false
+unfinished_in t n i = nat_lt i t.patterns && option_map_or (λ p. is_unfinished (table_says t p i)) (place_in t n) false
 
 -- a pattern that matches, or was left unfinished
 abbrev pub index_said : ℕ → Says → Option PatternIndex
@@ -94,9 +95,10 @@ module _ {R : Type 0} (answers : R → Name → Says) (patterns : List (Compiled
   abbrev pub IsRowOf : Name → Row → Type 0
   IsRowOf n r = (i : ℕ) (e : CompiledPattern R) → slice_get patterns i ≡ Some e → row_says r i ≡ pattern_answers answers e n
 
-  -- a table has what each pattern says of each of its names
-  abbrev pub IsTableOf : Table → Type 0
-  IsTableOf t = (p i : ℕ) (n : Name) (e : CompiledPattern R) → slice_get t.names p ≡ Some n → slice_get patterns i ≡ Some e → table_says t p i ≡ pattern_answers answers e n
+  -- a table has what each pattern says of each of its names; and where there are names, it counts so many patterns
+  pub record IsTableOf (t : Table) : Type 0 where
+    pub says : (p i : ℕ) (n : Name) (e : CompiledPattern R) → slice_get t.names p ≡ Some n → slice_get patterns i ≡ Some e → table_says t p i ≡ pattern_answers answers e n
+    pub count : is_empty t.names ≡ false → t.patterns ≡ length patterns
 
 -- how many matchers are asked for one name
 abbrev pub how_many_cost : {R : Type 0} → (R → Bool) → List (CompiledPattern R) → ℕ

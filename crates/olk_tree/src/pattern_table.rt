@@ -78,23 +78,25 @@ impl PatternTable {
         }
     }
 
-    /// Whether the name is one of the table and the pattern matches it. Takes no memory.
+    /// Whether the name is one of the table and the pattern matches it; none matches where no pattern has this index. Takes
+    /// no memory.
     pub fn is_matched(&self, name: &str, index: usize) -> bool
         ensures { result ≡ matched_in self.now name.now index }
     {
         match self.names.find(name) {
-            Some(place) => matches!(self.known(place, index), Some(true)),
-            None => false,
+            Some(place) if index < self.patterns => matches!(self.known(place, index), Some(true)),
+            _ => false,
         }
     }
 
-    /// Whether the name is one of the table and the pattern was left unfinished at it. Takes no memory.
+    /// Whether the name is one of the table and the pattern was left unfinished at it; none was where no pattern has this
+    /// index. Takes no memory.
     pub fn is_unfinished(&self, name: &str, index: usize) -> bool
         ensures { result ≡ unfinished_in self.now name.now index }
     {
         match self.names.find(name) {
-            Some(place) => self.known(place, index).is_none(),
-            None => false,
+            Some(place) if index < self.patterns => self.known(place, index).is_none(),
+            _ => false,
         }
     }
 

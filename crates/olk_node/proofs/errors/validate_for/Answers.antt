@@ -10,3 +10,6 @@ returns-clause-ok g c = on_ok_weaker c.validate.result (accepts_of_schema (kit g
 
 pub returns-clause-invalid : goal.returns-clause-invalid
 returns-clause-invalid g c = told_so c.validate.result (refusal_of_schema (kit g.K.Leaf g.R.RegexEngine) c.args.place.now c.args.ctx.now.answer (data_of c.args.node) c.args.path.now) c.validate.ensures.invalid
+
+pub returns-clause-first : goal.returns-clause-first
+returns-clause-first g c = told_so c.validate.result (λ f h. h.of_first) c.validate.ensures.invalid

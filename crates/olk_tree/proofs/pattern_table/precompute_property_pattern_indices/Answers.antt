@@ -1,4 +1,4 @@
-use Rattle.std.proofs.Common.{◌≡◌, ◌*◌, List, String, Global, length, map, string_bytes, sym, ap, subst, ◌∙◌}
+use Rattle.std.proofs.Common.{◌≡◌, ◌*◌, List, String, Global, length, map, string_bytes, refl, sym, ap, subst, ◌∙◌}
 use Rattle.std.specs.List.{AllZip}
 use Rattle.std.proofs.lemmas.List.{length-map}
 use Rattle.serde_json.specs.View.{members_view}
@@ -12,7 +12,7 @@ use Rattle.olk_tree.proofs.pattern_table.precompute_property_pattern_indices.Goa
 pub returns-clause-answers : goal.returns-clause-answers
 returns-clause-answers g c =
     is_table g.R.RegexEngine.answers c.args.patterns.now (record { names = c.in_ok-names.names; patterns = length c.args.patterns.now; rows = c.in_ok-rows.rows.items })
-    (subst (λ ns. AllZip (IsRowOf g.R.RegexEngine.answers c.args.patterns.now) ns c.in_ok-rows.rows.items) c.as_slice.ensures c.in_ok-rows.ensures.answers)
+    (subst (λ ns. AllZip (IsRowOf g.R.RegexEngine.answers c.args.patterns.now) ns c.in_ok-rows.rows.items) c.as_slice.ensures c.in_ok-rows.ensures.answers) refl
 
 pub returns-clause-nothing_else : goal.returns-clause-nothing_else
 returns-clause-nothing_else g c =

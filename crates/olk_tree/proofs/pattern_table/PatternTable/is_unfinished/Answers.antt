@@ -1,4 +1,5 @@
-use Rattle.std.proofs.Common.{◌≡◌, Bool, not, true, false, Option, Some, None, refl, ap, ◌∙◌}
+use Rattle.std.proofs.Common.{◌≡◌, ◌<◌, ◌&&◌, Bool, not, true, false, Option, Some, None, refl, sym, ap, subst, ◌∙◌, arith}
+use Rattle.std.proofs.lemmas.Bool.{lt-ltb}
 use Rattle.std.specs.Option.{is_some, option_map_or}
 use Rattle.olk_spec.specs.World.{is_unfinished}
 use Rattle.olk_tree.specs.Tables.{known_says, table_says, place_in}
@@ -17,3 +18,4 @@ returns-in-Some c =
     none_told c.known.result c.is_none.result c.is_none.ensures
     ∙ ap is_unfinished c.known.ensures
     ∙ ap (λ o. option_map_or (λ p. is_unfinished (table_says c.args.self.now p c.args.index)) o false) (c.in-Some.ensures ∙ ap (λ t. place_in t c.args.name.now) c.self.view_is)
+    ∙ ap (λ b. b && option_map_or (λ p. is_unfinished (table_says c.args.self.now p c.args.index)) (place_in c.args.self.now c.args.name.now) false) (sym (lt-ltb c.args.index c.args.self.now.patterns (subst (λ t. c.args.index < t.patterns) c.self.view_is (omega (arith, c.if-index-self.true)))))
