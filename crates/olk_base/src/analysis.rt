@@ -79,7 +79,7 @@ fn scan_pattern(alloc: Global, pattern: &str) -> Result<Option<PatternOptimizati
     }
 }
 
-// What stands behind `^`.
+/// What stands behind `^`.
 fn scan_anchored(alloc: Global, pattern: &str) -> Result<Option<PatternOptimization>, AllocError>
     ensures { IfOk result (λ o. option_map test_of o ≡ anchored (chars pattern.now)) }
 {
@@ -112,7 +112,7 @@ fn scan_suffix(alloc: Global, pattern: &str) -> Result<Option<PatternOptimizatio
     }
 }
 
-// The bodies behind `^(`, with `|` between them and `)$` behind them.
+/// The bodies behind `^(`, with `|` between them and `)$` behind them.
 fn scan_alternation(alloc: Global, pattern: &str) -> Result<Option<Vec<String>>, AllocError>
     ensures { IfOk result (λ o. option_map (λ v. is_one_of (map string_bytes v.items)) o
         ≡ alternation (bodies_of (chars pattern.now))) }
@@ -157,7 +157,7 @@ pub fn scan_body<'a>(alloc: Global, pattern: &'a str) -> Result<(String, &'a str
     Ok((text, rest))
 }
 
-// The item at the start, as the character that it stands for.
+/// The item at the start, as the character that it stands for.
 fn split_item(pattern: &str) -> Option<(char, &str)>
     ensures body { MatchOption result (body_of (chars pattern.now) ≡ ([], chars pattern.now))
         (λ x. body_of (chars pattern.now) ≡ put_front x.0 (body_of (chars x.1.now))) }
@@ -212,7 +212,7 @@ fn split_char(text: &str) -> Option<(char, &str)>
     Some((first, chars.as_str()))
 }
 
-// Whether the text has these characters.
+/// Whether the text has these characters.
 fn is_ascii_text(text: &str, ascii: &str) -> bool
     requires { IsTrue (list_all (λ b. nat_lt b 128) ascii.now) }
     ensures { result ≡ bytes_eq (chars text.now) ascii.now }

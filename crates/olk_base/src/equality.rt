@@ -3,7 +3,8 @@ ghost use Rattle.std.specs.Prelude.{◌≡◌, ◌+◌, ◌≤◌, bytes_eq, len
 
 /// Whether the texts have the same bytes. Takes no memory.
 ///
-/// Small enough to stand in walks: most texts that are compared in a search differ in their lengths, and names are short.
+/// Small enough to stand in walks: most texts that are compared in a search differ in their
+/// lengths, and names are short.
 #[inline(always)]
 pub fn is_same_text(one: &str, other: &str) -> bool
     ensures { result ≡ bytes_eq one.now other.now }
@@ -11,7 +12,7 @@ pub fn is_same_text(one: &str, other: &str) -> bool
     one.len() == other.len() && bytes_are_equal(one, other)
 }
 
-// Two runs that may overlap cover a short text.
+/// Two runs that may overlap cover a short text.
 #[inline(always)]
 fn bytes_are_equal(one: &str, other: &str) -> bool
     requires { length one.now ≡ length other.now }
@@ -32,7 +33,7 @@ fn bytes_are_equal(one: &str, other: &str) -> bool
     }
 }
 
-// The first, the middle and the last of at most three bytes are all of them.
+/// The first, the middle and the last of at most three bytes are all of them.
 #[inline(always)]
 fn few_are_equal(one: &[u8], other: &[u8]) -> bool
     requires same { length one.now ≡ length other.now }

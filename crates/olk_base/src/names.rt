@@ -47,7 +47,7 @@ impl KeyHead {
     }
 }
 
-// Up to eight bytes as a number, the lowest byte first.
+/// Up to eight bytes as a number, the lowest byte first.
 fn little_endian(bytes: &[u8]) -> u64
     requires { length bytes.now ≤ 8 }
     ensures { result ≡ low_first bytes.now }
@@ -105,7 +105,7 @@ impl PropertyName {
     }
 }
 
-// Whether two names with one head are the same.
+/// Whether two names with one head are the same.
 fn same_middle(name: &[u8], key: &[u8]) -> bool
     requires { head_of name.now ≡ head_of key.now }
     ensures { IsTrue result ↔ (name.now ≡ key.now) }

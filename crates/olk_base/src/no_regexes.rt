@@ -25,7 +25,8 @@ impl RegexEngine for NoRegex {
     }
 }
 
-/// Refuses every pattern, for schemas that have none, or literal ones alone: of those no engine is made.
+/// Refuses every pattern, for schemas that have none, or literal ones alone: of those no engine is
+/// made.
 #[derive(Drop)]
 pub struct NoRegexes;
 

@@ -9,19 +9,27 @@ use serde_json::{Map, Value};
 /// The six types of JSON values (JSON Schema 2020-12 Core, 4.2.1). A whole number is a number.
 #[derive(Debug, Clone, Copy, PartialEq, Eq)]
 pub enum JsonType {
+    /// `null`.
     Null,
+    /// `true` or `false`.
     Boolean,
+    /// A number, whole or not.
     Number,
+    /// A text.
     String,
+    /// An array.
     Array,
+    /// An object.
     Object,
 }
 
-/// A JSON value, or the name of a member, which is asked as the text that it spells
-/// (JSON Schema 2020-12 Core, 10.3.2.4).
+/// A JSON value, or the name of a member, which is asked as the text that it spells (JSON Schema
+/// 2020-12 Core, 10.3.2.4).
 #[derive(Clone, Copy)]
 pub enum Node<'a> {
+    /// A JSON value.
     Value(&'a Value),
+    /// The name of a member, as the text that it spells.
     Name(&'a String),
 }
 

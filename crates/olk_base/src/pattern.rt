@@ -18,11 +18,17 @@ use std::alloc::Global;
 /// A test costs nothing and is never left unfinished; an engine has its own costs and answers.
 #[derive(Drop)]
 pub enum CompiledPattern<R> {
+    /// The name starts with the text.
     Prefix(String),
+    /// The name ends with the text.
     Suffix(String),
+    /// The name is the text.
     Exact(String),
+    /// The name is one of the texts.
     Alternation(Vec<String>),
+    /// The name has no white space.
     NoWhitespace,
+    /// An engine, which is asked.
     Regex(R),
 }
 
@@ -44,11 +50,13 @@ impl<R> From<PatternOptimization> for CompiledPattern<R> {
     }
 }
 
-/// A pattern, ready to be asked: as the test that it stands for, which never reaches the maker, or else as an engine.
+/// A pattern, ready to be asked: as the test that it stands for, which never reaches the maker, or
+/// else as an engine.
 ///
 /// # Errors
 ///
-/// `Refused` where the pattern stands for no test and does not build, and only there; else `Memory`.
+/// `Refused` where the pattern stands for no test and does not build, and only there; else
+/// `Memory`.
 pub fn compile_pattern<M: MakeRegex>(
     alloc: Global,
     regexes: &M,
@@ -124,8 +132,8 @@ fn is_among(texts: &[String], text: &str) -> bool
     texts.iter().any(|t| is_same_text(t.as_str(), text))
 }
 
-/// A pattern that is asked of the names of members within a call of a validator
-/// (JSON Schema 2020-12 Core, 10.3.2.2).
+/// A pattern that is asked of the names of members within a call of a validator (JSON Schema
+/// 2020-12 Core, 10.3.2.2).
 pub trait PropertyPattern: RegexEngine {
     ghost use Rattle.std.specs.Prelude.{◌≡◌};
     ghost use Rattle.olk_spec.specs.World.{reads_as};
@@ -140,7 +148,7 @@ pub trait PropertyPattern: RegexEngine {
 }
 
 impl<R: RegexEngine> PropertyPattern for CompiledPattern<R> {
-    // The commonest test is small enough to stand in walks.
+    /// The commonest test is small enough to stand in walks.
     #[inline(always)]
     fn is_match_in(&self, text: &str, ctx: &mut ValidationContext) -> bool {
         match self {

@@ -12,7 +12,9 @@ pub struct Unfinished;
 /// memory for it.
 #[derive(Drop)]
 pub enum MakeError {
+    /// What it was to be made of is refused.
     Refused,
+    /// There is no memory for it.
     Memory(AllocError),
 }
 
@@ -93,7 +95,8 @@ pub trait Leaf: Drop {
     ghost use Rattle.olk_base.specs.Lawful.{IsOneOf, texts_of};
     ghost use Rattle.olk_base.specs.Nodes.{data_of};
 
-    // which names are keywords, which values fit them, and what a keyword with its value says of a tree
+    // which names are keywords, which values fit them, and what a keyword with its value says of a
+    // tree
     ghost reads: { Name → Bool };
 
     ghost fits: { Name → Data → Bool };

@@ -1,4 +1,4 @@
-// Reads one line of a reader.
+//! Reads one line of a reader.
 ghost use Rattle.std.specs.Prelude.{◌≡◌, ◌<◌, List, ℕ, Ok, IfOk, OnOk, IfSome, Some, vec_len};
 ghost use Rattle.olk_lines.specs.Steps.{HasNoFeed, TakesPart, NextLine};
 
@@ -47,7 +47,8 @@ pub enum Part {
     End,
 }
 
-/// Appends to the line what the reader shows of it, and takes that and its line feed from the reader.
+/// Appends to the line what the reader shows of it, and takes that and its line feed from the
+/// reader.
 fn take_part<I: BufRead>(reader: &mut I, line: &mut Vec<u8>) -> Result<Part, Stop>
     ensures taken { IfOk result (λ part. IfSome (I.remaining reader.old) (λ xs. (ys : List ℕ)
         × (I.remaining reader.new ≡ Some ys)
@@ -78,7 +79,8 @@ fn take_part<I: BufRead>(reader: &mut I, line: &mut Vec<u8>) -> Result<Part, Sto
     }
 }
 
-/// Reads the next line, without its line feed, in place of what `line` holds. The answer is false at the end of the input.
+/// Reads the next line, without its line feed, in place of what `line` holds. The answer is false
+/// at the end of the input.
 pub fn read_line<I: BufRead>(reader: &mut I, line: &mut Vec<u8>) -> Result<bool, Stop>
     ensures { IfOk result (λ some. IfSome (I.remaining reader.old) (λ xs. (ys : List ℕ)
         × (I.remaining reader.new ≡ Some ys) × NextLine some xs line.new.items ys)) }

@@ -1,4 +1,4 @@
-// Writes one line to a writer.
+//! Writes one line to a writer.
 ghost use Rattle.std.specs.Prelude.{◌≡◌, ◌≤◌, List, ℕ, OnOk, OnErr, IfErr, length, take};
 ghost use Rattle.std.specs.Io.KnownBytes.{Appends};
 ghost use Rattle.olk_lines.specs.Steps.{AppendsFront};

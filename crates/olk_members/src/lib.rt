@@ -1,5 +1,5 @@
-//! The members of a schema object as keywords: what each means, shows, refuses and costs over the raw data of its
-//! value, and whose validator stands for it.
+//! The members of a schema object as keywords: what each means, shows, refuses and costs over the
+//! raw data of its value, and whose validator stands for it.
 //!
 //! Stands on the definitions alone. Tested by `olk_tests` through building.
 #![tactic(auto)]

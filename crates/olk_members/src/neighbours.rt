@@ -8,8 +8,9 @@ use crate::members::member;
 use crate::plan::{is_condition, is_restricted};
 use serde_json::{Map, Value};
 
-/// What a keyword of a schema object has to know of the other members when its value is read: whether `if` is read
-/// there, and where `additionalProperties` restricts other members, the entries of `properties`.
+/// What a keyword of a schema object has to know of the other members when its value is read:
+/// whether `if` is read there, and where `additionalProperties` restricts other members, the
+/// entries of `properties`.
 #[derive(Clone, Copy)]
 pub struct Neighbours<'a> {
     condition: bool,
@@ -39,15 +40,16 @@ impl<'a> Neighbours<'a> {
         }
     }
 
-    /// Whether `if` is read: it is beside `then` or `else` alone (JSON Schema 2020-12 Core, 10.2.2).
+    /// Whether `if` is read: it is beside `then` or `else` alone (JSON Schema 2020-12 Core,
+    /// 10.2.2).
     pub fn is_condition(self) -> bool
         ensures { result ≡ (known self.entry).condition }
     {
         self.condition
     }
 
-    /// The entries of `properties`, where other members are restricted (JSON Schema 2020-12 Core, 10.3.2.3) and it is
-    /// an object.
+    /// The entries of `properties`, where other members are restricted (JSON Schema 2020-12 Core,
+    /// 10.3.2.3) and it is an object.
     pub fn declared(self) -> Option<&'a Map<String, Value>>
         ensures { declared_in (option_map (λ m. m.now) result) ≡ (known self.entry).declared }
     {

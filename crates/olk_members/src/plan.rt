@@ -11,8 +11,9 @@ use crate::members::{has_member, member};
 use olk_spec::HASHMAP_THRESHOLD;
 use serde_json::{Map, Value};
 
-/// What is decided of an object's keywords once, from its members: the two names that `properties` fuses from
-/// `required`, whether `if` is read, whether `additionalProperties` restricts other members, and the name that it fuses.
+/// What is decided of an object's keywords once, from its members: the two names that `properties`
+/// fuses from `required`, whether `if` is read, whether `additionalProperties` restricts other
+/// members, and the name that it fuses.
 #[derive(Clone, Copy)]
 pub struct Plan<'a> {
     fused: Option<(&'a str, &'a str)>,
@@ -61,8 +62,9 @@ fn two_names(value: Option<&Value>) -> Option<(&str, &str)>
     Some((first, second))
 }
 
-/// The two names that `properties` fuses in an object with these members: it does where few names are declared, no other
-/// keyword tells members by their names, and `required` lists two names that differ.
+/// The two names that `properties` fuses in an object with these members: it does where few names
+/// are declared, no other keyword tells members by their names, and `required` lists two names that
+/// differ.
 fn fused_names(members: &Map<String, Value>) -> Option<(&str, &str)>
     ensures { option_map (λ t. (t.0.now, t.1.now)) result
         ≡ fused_names (members_view members.now.entries) }
@@ -99,8 +101,9 @@ fn one_name(value: Option<&Value>) -> Option<&str>
     items[0].as_str()
 }
 
-/// The name that `additionalProperties` fuses in an object with these members: it does where it refuses every other
-/// member, names are declared, no patterns tell members by their names, and `required` lists one name.
+/// The name that `additionalProperties` fuses in an object with these members: it does where it
+/// refuses every other member, names are declared, no patterns tell members by their names, and
+/// `required` lists one name.
 fn fused_name(members: &Map<String, Value>) -> Option<&str>
     ensures { option_map (λ t. t.now) result ≡ fused_name (members_view members.now.entries) }
 {
@@ -114,8 +117,8 @@ fn fused_name(members: &Map<String, Value>) -> Option<&str>
     }
 }
 
-/// Whether `if` is read in an object with these members: it is beside `then` or `else` alone (JSON Schema 2020-12 Core,
-/// 10.2.2).
+/// Whether `if` is read in an object with these members: it is beside `then` or `else` alone (JSON
+/// Schema 2020-12 Core, 10.2.2).
 pub fn is_condition(members: &Map<String, Value>) -> bool
     ensures { result ≡ is_condition (members_view members.now.entries) }
 {
@@ -129,8 +132,9 @@ fn is_restriction(value: &Value) -> bool
     value.as_bool() == Some(false) || value.is_object()
 }
 
-/// Whether the members of values that an object with these members neither declares nor matches are held to anything:
-/// `additionalProperties` is `false` or an object (JSON Schema 2020-12 Core, 10.3.2.3).
+/// Whether the members of values that an object with these members neither declares nor matches are
+/// held to anything: `additionalProperties` is `false` or an object (JSON Schema 2020-12 Core,
+/// 10.3.2.3).
 pub fn is_restricted(members: &Map<String, Value>) -> bool
     ensures { result ≡ is_restricted (members_view members.now.entries) }
 {
@@ -178,7 +182,8 @@ impl<'a> Plan<'a> {
         self.condition
     }
 
-    /// Whether the validator of `additionalProperties` stands for `properties` and `patternProperties` too.
+    /// Whether the validator of `additionalProperties` stands for `properties` and
+    /// `patternProperties` too.
     pub fn is_restricted(self) -> bool
         ensures { result ≡ (planned self.entry).restricted }
     {

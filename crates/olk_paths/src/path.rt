@@ -1,3 +1,4 @@
+//! The places of values and of subschemas, as the texts of JSON pointers.
 ghost use Rattle.std.specs.Prelude.{◌≡◌, ◌++◌, [], List, ℕ, take, length, string_bytes, IfOk, OnOk, OnErr, is_ok, if◌then◌else◌};
 ghost use Rattle.std.specs.List.{flat_map, list_all};
 ghost use Rattle.olk_spec.specs.Names.{escaped};
@@ -34,8 +35,8 @@ impl InstancePath {
         }
     }
 
-    /// Goes one segment further down: adds `/` and the segment, with `~` written `~0` and `/` written `~1`
-    /// (RFC 6901, section 3).
+    /// Goes one segment further down: adds `/` and the segment, with `~` written `~0` and `/`
+    /// written `~1` (RFC 6901, section 3).
     ///
     /// The mark leads back by `pop`. Without memory the path is left as it was.
     pub fn push(&mut self, segment: &str) -> Result<Mark, AllocError>
@@ -48,7 +49,8 @@ impl InstancePath {
         descend(&mut self.text, segment)
     }
 
-    /// Cuts the text at the mark, where the last `/` of the text has to stand: after a push it is the path before it.
+    /// Cuts the text at the mark, where the last `/` of the text has to stand: after a push it is
+    /// the path before it.
     pub fn pop(&mut self, mark: Mark)
         requires { HasLastSlash self.old mark.len }
         ensures { self.new ≡ take mark.len self.old }
@@ -100,7 +102,7 @@ impl Location {
         Ok(Location { pointer })
     }
 
-    /// The same place, as a text of its own.
+    /// A copy of the place, as a text of its own.
     ///
     /// Without memory there is none.
     pub fn try_clone(&self, alloc: Global) -> Result<Location, AllocError>
@@ -146,14 +148,14 @@ fn push_escaped(text: &mut String, segment: &str) -> Result<(), AllocError>
     Ok(())
 }
 
-// Whether the segment is written as it is.
+/// Whether the segment is written as it is.
 fn is_plain(segment: &str) -> bool
     ensures { result ≡ list_all is_plain_byte segment.now }
 {
     segment.as_bytes().iter().all(|b| *b != b'~' && *b != b'/')
 }
 
-// Where memory fails, what was there stays, with nothing or a slash and more behind it.
+/// Where memory fails, what was there stays, with nothing or a slash and more behind it.
 fn push_segment(text: &mut String, segment: &str) -> Result<(), AllocError>
     ensures ok { OnOk result (string_bytes text.new
         ≡ one_below (string_bytes text.old) segment.now) }
@@ -166,7 +168,7 @@ fn push_segment(text: &mut String, segment: &str) -> Result<(), AllocError>
     Ok(())
 }
 
-// One segment further down; without memory the text is left as it was.
+/// One segment further down; without memory the text is left as it was.
 #[tactic(auto, using(crate::proofs::Paths::pushed_paths))]
 fn descend(text: &mut String, segment: &str) -> Result<Mark, AllocError>
     ensures path { OnOk result

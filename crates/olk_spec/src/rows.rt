@@ -1,6 +1,8 @@
-//! Worked rows: small schemas and values with what is expected of them, compared with the definitions over the bench's leaves and matcher.
+//! Worked rows: small schemas and values with what is expected of them, compared with the
+//! definitions over the bench's leaves and matcher.
 //!
-//! Each function has no body to speak of. Its contract is the rows of one file of `specs`, and the check computes them.
+//! Each function has no body to speak of. Its contract is the rows of one file of `specs`, and the
+//! check computes them.
 
 ghost use Rattle.olk_spec.specs.Rows_properties.{Rows_properties};
 ghost use Rattle.olk_spec.specs.Rows_patterns.{Rows_patterns};
@@ -21,7 +23,8 @@ pub fn rows_of_properties()
     ensures { Rows_properties }
 {}
 
-/// Patterns match as expected, by a test of their own, by the matcher, and where it leaves a match unfinished.
+/// Patterns match as expected, by a test of their own, by the matcher, and where it leaves a match
+/// unfinished.
 pub fn rows_of_patterns()
     ensures { Rows_patterns }
 {}
@@ -56,7 +59,8 @@ pub fn rows_of_trees()
     ensures { Rows_trees }
 {}
 
-/// Faults and malformations have the kinds and instances that are expected, and each branch of `oneOf` tells what it finds.
+/// Faults and malformations have the kinds and instances that are expected, and each branch of
+/// `oneOf` tells what it finds.
 pub fn rows_of_faults()
     ensures { Rows_faults }
 {}
