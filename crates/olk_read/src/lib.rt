@@ -1,7 +1,8 @@
-//! Reading the keywords of a schema object, as far as this needs no nodes: the first of three steps of building.
+//! Reading the keywords of a schema object, as far as this needs no nodes: the first of three steps
+//! of building.
 //!
-//! A value becomes a shape, or is refused; nothing here recurs. Stands on `olk_tree`. Tested by `olk_tests` through
-//! building.
+//! A value becomes a shape, or is refused; nothing here recurs. Stands on `olk_tree`. Tested by
+//! `olk_tests` through building.
 #![tactic(auto)]
 
 mod lists;

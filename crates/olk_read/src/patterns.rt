@@ -1,4 +1,5 @@
-//! Reading the patterns of `patternProperties`, and what they say of the names that are declared beside them.
+//! Reading the patterns of `patternProperties`, and what they say of the names that are declared
+//! beside them.
 ghost use Rattle.std.specs.Prelude.{◌≡◌, ◌*◌, ◌∷◌, [], IfOk, IfErr, OnOk, OnErr, map, length, string_bytes};
 ghost use Rattle.serde_json.specs.Data.{string};
 ghost use Rattle.serde_json.specs.View.{members_view};
@@ -24,7 +25,8 @@ use olk_tree::pattern_table::{PatternTable, precompute_property_pattern_indices}
 use serde_json::{Map, Value};
 use std::alloc::{AllocError, Global};
 
-/// The refusal of a pattern, as a bare name below the keyword; want of memory where there is none for the place.
+/// The refusal of a pattern, as a bare name below the keyword; want of memory where there is none
+/// for the place.
 fn refuse_pattern<'a>(alloc: Global, location: &Location, pattern: &'a String) -> BuildError<'a>
     ensures { TellsOneOf
         (fault Regex (string (string_bytes pattern.now)) []
@@ -71,11 +73,13 @@ fn read_pattern<'a, L: MakeLeaf, M: MakeRegex>(
     }
 }
 
-/// The patterns of an object's entries, in the order of their bytes; each that stands for a test costs nothing.
+/// The patterns of an object's entries, in the order of their bytes; each that stands for a test
+/// costs nothing.
 ///
 /// # Errors
 ///
-/// The first pattern that does not build is refused, as a bare name below the keyword at the place; else want of memory.
+/// The first pattern that does not build is refused, as a bare name below the keyword at the place;
+/// else want of memory.
 pub fn patterns_of_entries<'a, L: MakeLeaf, M: MakeRegex>(
     alloc: Global,
     makers: &Makers<'_, L, M>,
@@ -96,8 +100,8 @@ pub fn patterns_of_entries<'a, L: MakeLeaf, M: MakeRegex>(
     Ok(patterns)
 }
 
-/// What the patterns say of the names that are declared beside them where other members are restricted; each is asked
-/// once of each name. A table of no names elsewhere.
+/// What the patterns say of the names that are declared beside them where other members are
+/// restricted; each is asked once of each name. A table of no names elsewhere.
 ///
 /// # Errors
 ///

@@ -32,23 +32,41 @@ use std::alloc::Global;
 /// Which keyword a name is: one that is read here, one that is refused by its name, or any other.
 #[derive(Clone, Copy)]
 pub enum KeywordFor {
+    /// `properties`.
     Properties,
+    /// `patternProperties`.
     PatternProperties,
+    /// `additionalProperties`.
     AdditionalProperties,
+    /// `propertyNames`.
     PropertyNames,
+    /// `required`.
     Required,
+    /// `dependentRequired`.
     DependentRequired,
+    /// `dependentSchemas`.
     DependentSchemas,
+    /// `dependencies`.
     Dependencies,
+    /// `propertyDependencies`.
     PropertyDependencies,
+    /// `allOf`.
     AllOf,
+    /// `anyOf`.
     AnyOf,
+    /// `oneOf`.
     OneOf,
+    /// `not`.
     Not,
+    /// `if`.
     If,
+    /// `then`.
     Then,
+    /// `else`.
     Else,
+    /// A keyword that is refused by its name.
     Refused,
+    /// Any other name.
     Other,
 }
 
@@ -243,8 +261,8 @@ fn has_repeated_text(items: &[Value]) -> bool
 ///
 /// # Errors
 ///
-/// What is no array is refused, and an array with two equal texts, at the key below the keyword; then an array's first
-/// item that is no text, at the place of the keyword; else want of memory.
+/// What is no array is refused, and an array with two equal texts, at the key below the keyword;
+/// then an array's first item that is no text, at the place of the keyword; else want of memory.
 fn names_of_entry<'a>(
     alloc: Global,
     location: &Location,
@@ -269,7 +287,8 @@ fn names_of_entry<'a>(
 ///
 /// # Errors
 ///
-/// The first entry that is no array of texts, each once, is refused, as [`names_of_entry`] says; else want of memory.
+/// The first entry that is no array of texts, each once, is refused, as [`names_of_entry`] says;
+/// else want of memory.
 fn names_of_entries<'a>(
     alloc: Global,
     location: &Location,
@@ -294,7 +313,8 @@ fn names_of_entries<'a>(
 ///
 /// # Errors
 ///
-/// What is no object is refused, and the first entry that is no array of texts, each once; else want of memory.
+/// What is no object is refused, and the first entry that is no array of texts, each once; else
+/// want of memory.
 fn required_of_object<'a>(
     alloc: Global,
     location: &Location,
@@ -319,7 +339,8 @@ fn required_of_object<'a>(
 ///
 /// # Errors
 ///
-/// A list's first item that is no text is refused, at the place of the keyword; else want of memory.
+/// A list's first item that is no text is refused, at the place of the keyword; else want of
+/// memory.
 fn list_of_entry<'a>(
     alloc: Global,
     location: &Location,
@@ -339,7 +360,8 @@ fn list_of_entry<'a>(
 ///
 /// # Errors
 ///
-/// A list's first item that is no text is refused, at the place of the keyword; else want of memory.
+/// A list's first item that is no text is refused, at the place of the keyword; else want of
+/// memory.
 fn lists_of_entries<'a>(
     alloc: Global,
     location: &Location,
@@ -465,13 +487,13 @@ fn shape_beside<K: Drop, R: Drop>(neighbours: Neighbours<'_>, shape: Shape<K, R>
     }
 }
 
-/// The shape of `patternProperties`: its patterns, in the order of its entries, and the table of what they say of the
-/// names that are declared beside it, where other members are restricted.
+/// The shape of `patternProperties`: its patterns, in the order of its entries, and the table of
+/// what they say of the names that are declared beside it, where other members are restricted.
 ///
 /// # Errors
 ///
-/// What is no object is refused, and the first pattern that does not build, as a bare name below the keyword; else want
-/// of memory.
+/// What is no object is refused, and the first pattern that does not build, as a bare name below
+/// the keyword; else want of memory.
 fn shape_of_patterns<'a, L: MakeLeaf, M: MakeRegex>(
     alloc: Global,
     makers: &Makers<'_, L, M>,
@@ -493,7 +515,8 @@ fn shape_of_patterns<'a, L: MakeLeaf, M: MakeRegex>(
     Ok(Shape::PatternProperties(patterns, table))
 }
 
-/// The shape of `additionalProperties`: an object is a schema for every other member, `false` allows none, `true` any.
+/// The shape of `additionalProperties`: an object is a schema for every other member, `false`
+/// allows none, `true` any.
 ///
 /// # Errors
 ///
@@ -519,7 +542,8 @@ fn shape_of_others<'a, K: Drop, R: Drop>(
     }
 }
 
-/// The shape of `propertyNames`: an object is a schema for each name, `false` allows no name, anything else any.
+/// The shape of `propertyNames`: an object is a schema for each name, `false` allows no name,
+/// anything else any.
 fn shape_of_names<K: Drop, R: Drop>(value: &Value) -> Shape<K, R>
     ensures { result ≡ cond (is_object (view value.now)) PropertyNames
         (cond (is_truth false (view value.now)) NoNames AnyNames) }
@@ -535,9 +559,9 @@ fn shape_of_names<K: Drop, R: Drop>(value: &Value) -> Shape<K, R>
 
 // ---- by the keyword
 
-/// A keyword's value, read: its shape, counted where it is a leaf. `if`, `then` and `else` are read where the condition
-/// is; of `patternProperties` each matcher is counted, and each that is asked of a name that is declared beside it where
-/// other members are restricted.
+/// A keyword's value, read: its shape, counted where it is a leaf. `if`, `then` and `else` are read
+/// where the condition is; of `patternProperties` each matcher is counted, and each that is asked
+/// of a name that is declared beside it where other members are restricted.
 ///
 /// # Errors
 ///

@@ -7,48 +7,73 @@ use olk_tree::map::SortedNames;
 use olk_tree::pattern_table::PatternTable;
 use serde_json::Value;
 
-/// A keyword that is read, with what its value holds apart from the schemas inside; `Unread` is a name that nothing
-/// reads, and `Unpaired` is `if`, `then` or `else` where `if` is not read. `NoNames` is `propertyNames` that is
-/// `false`, and `AnyNames` one that is neither `false` nor an object; `NoOthers` and `AnyOthers` are
-/// `additionalProperties` that is `false` and `true`. The patterns of `patternProperties` stand in the order of its
-/// entries, beside what they say of the names that are declared where other members are restricted. Beside the keys of `dependentRequired` and `dependencies` stand the names that each entry
-/// lists, none where it is a schema; beside those of `propertyDependencies` the texts of each entry.
+/// A keyword that is read, with what its value holds apart from the schemas inside.
 #[derive(Drop)]
 pub enum Shape<K, R> {
+    /// `properties`: the names that it declares.
     Properties(SortedNames),
+    /// `patternProperties`: its patterns, in the order of its entries, beside what they say of the
+    /// names that are declared where other members are restricted.
     PatternProperties(Vec<CompiledPattern<R>>, PatternTable),
+    /// `additionalProperties` that is an object.
     AdditionalProperties,
+    /// `additionalProperties` that is `false`.
     NoOthers,
+    /// `additionalProperties` that is `true`.
     AnyOthers,
+    /// `propertyNames` that is an object.
     PropertyNames,
+    /// `propertyNames` that is `false`.
     NoNames,
+    /// `propertyNames` that is neither `false` nor an object.
     AnyNames,
+    /// `required`: the names that it lists.
     Required(Vec<String>),
+    /// `dependentRequired`: its keys, and beside them the names that each entry lists.
     DependentRequired(SortedNames, Vec<Vec<String>>),
+    /// `dependentSchemas`: its keys.
     DependentSchemas(SortedNames),
+    /// `dependencies`: its keys, and beside them the names that each entry lists, none where it is
+    /// a schema.
     Dependencies(SortedNames, Vec<Option<Vec<String>>>),
+    /// `propertyDependencies`: its keys, and beside them the texts of each entry.
     PropertyDependencies(SortedNames, Vec<SortedNames>),
+    /// `allOf`.
     AllOf,
+    /// `anyOf`.
     AnyOf,
+    /// `oneOf`.
     OneOf,
+    /// `not`, and its value.
     Not(Value),
+    /// `if`, where it is read.
     If,
+    /// `then`, where `if` is read.
     Then,
+    /// `else`, where `if` is read.
     Else,
+    /// `if`, `then` or `else`, where `if` is not read.
     Unpaired,
+    /// A leaf.
     Leaf(K),
+    /// A name that nothing reads.
     Unread,
 }
 
-/// Which places a keyword reads in its value: none, the value itself, each entry of an object, or each
-/// that is no array, each entry of those entries, each branch of an array.
+/// Which places a keyword reads in its value.
 #[derive(Clone, Copy)]
 pub enum ReadPlaces {
+    /// None.
     Nothing,
+    /// The value itself.
     Itself,
+    /// Each entry of an object.
     Entries,
+    /// Each entry of an object, but for those that are arrays.
     SchemaEntries,
+    /// Each entry of an object's entries.
     InnerEntries,
+    /// Each branch of an array.
     Branches,
 }
 

@@ -1,3 +1,4 @@
+//! Evaluations, and their entries: the flag, the errors and the annotations.
 ghost use Rattle.std.specs.Prelude.{◌≡◌, ◌++◌, IfOk, OnOk, map};
 ghost use Rattle.olk_spec.specs.Tree.{errors, annotations, is_valid};
 ghost use Rattle.olk_reports.specs.Evaluations.{tree_of};

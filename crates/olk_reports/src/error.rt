@@ -1,3 +1,4 @@
+//! What is wrong with a value or with a schema, and its text.
 ghost use Rattle.std.specs.Prelude.{◌≡◌, false, string_bytes, IfOk};
 ghost use Rattle.serde_json.specs.View.{view};
 ghost use Rattle.olk_base.specs.Nodes.{data_of};
@@ -16,17 +17,17 @@ use olk_paths::Location;
 use serde_json::Value;
 use std::alloc::{AllocError, Global};
 
-// Where the text of a schema path is kept.
+/// Where the text of a schema path is kept.
 #[derive(Drop)]
 enum SchemaPath<'a> {
     Borrowed(&'a str),
     Owned(Location),
-    // In the error inside.
+    /// In the error inside.
     Inner,
 }
 
-/// What is wrong with a value, or with a schema that was to be built: a kind, the value, where it stands in the
-/// instance, and the keyword's place in the schema.
+/// What is wrong with a value, or with a schema that was to be built: a kind, the value, where it
+/// stands in the instance, and the keyword's place in the schema.
 #[cycle(error)]
 pub struct ValidationError<'a> {
     kind: ValidationErrorKind<'a>,
@@ -109,14 +110,18 @@ pub enum ValidationErrorKind<'a> {
 /// Why there is no validator: the schema is refused, or there was no memory.
 #[derive(Drop)]
 pub enum BuildError<'a> {
+    /// The schema is refused.
     Refused(ValidationError<'a>),
+    /// There was no memory.
     Memory(AllocError),
 }
 
 /// Why a value was not found valid: something is wrong with it, or there was no memory.
 #[derive(Drop)]
 pub enum ValidateError<'a> {
+    /// Something is wrong with the value.
     Invalid(ValidationError<'a>),
+    /// There was no memory.
     Memory(AllocError),
 }
 
@@ -188,7 +193,8 @@ impl<'a> ValidationError<'a> {
         }
     }
 
-    /// An error of a member's name, told of the object: kind `PropertyNames`, with the schema path of the error inside.
+    /// An error of a member's name, told of the object: kind `PropertyNames`, with the schema path
+    /// of the error inside.
     pub fn wrapping(
         error: Box<ValidationError<'a>>,
         instance: Node<'a>,
@@ -222,7 +228,8 @@ impl<'a> ValidationError<'a> {
         self.instance
     }
 
-    /// Where that value stands, as a JSON pointer (RFC 6901); of an error of building the empty text.
+    /// Where that value stands, as a JSON pointer (RFC 6901); of an error of building the empty
+    /// text.
     pub fn instance_path(&self) -> &str
         ensures { result.now ≡ fault_instance_path (fault_of self.now) }
     {
@@ -245,7 +252,8 @@ impl<'a> ValidationError<'a> {
 
     /// The error in words; values are written as compact JSON text (RFC 8259).
     ///
-    /// Without memory there is none. Of a number that is not a whole number of 64 bits no text is promised.
+    /// Without memory there is none. Of a number that is not a whole number of 64 bits no text is
+    /// promised.
     #[tactic(auto, using(crate::proofs::Errors::kinds))]
     pub fn message(&self, alloc: Global) -> Result<String, AllocError>
         ensures { IfOk result (λ s. prints_fraction (fault_of self.now) ≡ false
@@ -258,7 +266,7 @@ impl<'a> ValidationError<'a> {
     }
 }
 
-// The text of a kind that has no error inside.
+/// The text of a kind that has no error inside.
 #[tactic(auto, using(crate::proofs::Errors::kinds))]
 fn own_text(
     alloc: Global,
@@ -316,7 +324,7 @@ fn own_text(
     }
 }
 
-// The text of the kind `Not`.
+/// The text of the kind `Not`.
 fn not_text(alloc: Global, schema: &Value, instance: Node<'_>) -> Result<String, AllocError>
     ensures { IfOk result (λ s.
         kind_prints_fraction (Not (view schema.now)) (data_of instance.entry) ≡ false
@@ -331,7 +339,7 @@ fn not_text(alloc: Global, schema: &Value, instance: Node<'_>) -> Result<String,
     )
 }
 
-// The text of the kind `LeafRefused`.
+/// The text of the kind `LeafRefused`.
 fn leaf_refused_text(alloc: Global, keyword: &str, instance: Node<'_>) -> Result<String, AllocError>
     ensures { IfOk result (λ s.
         kind_prints_fraction (LeafRefused keyword.now) (data_of instance.entry) ≡ false

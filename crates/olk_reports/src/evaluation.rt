@@ -1,3 +1,4 @@
+//! What a validator shows of a value: results, and nodes that have their places.
 ghost use Rattle.std.specs.Prelude.{◌≡◌, ◌++◌, ◌∷◌, [], ℕ, List, IfOk, OnOk, OnErr, Some, None, true, false, string_bytes, map, option_map};
 ghost use Rattle.olk_spec.specs.Tree.{trees_from, errors, annotations, is_valid, result_node};
 ghost use Rattle.std.specs.List.{list_all};
@@ -37,7 +38,8 @@ impl<'a> ErrorDescription<'a> {
     }
 }
 
-/// What a validator shows of a value: whether it is valid, an annotation, errors of its own and the nodes below.
+/// What a validator shows of a value: whether it is valid, an annotation, errors of its own and the
+/// nodes below.
 #[derive(Drop)]
 #[cycle(evaluation)]
 pub struct EvaluationResult<'a> {
@@ -120,7 +122,8 @@ impl<'a> EvaluationResult<'a> {
         Ok(EvaluationResult::from_children(alloc, children))
     }
 
-    /// Takes these names as the annotation, which only a valid node shows (JSON Schema 2020-12 Core, 7.7).
+    /// Takes these names as the annotation, which only a valid node shows (JSON Schema 2020-12
+    /// Core, 7.7).
     pub fn annotate(&mut self, names: Vec<&'a str>)
         ensures { shown_of self.new
             ≡ annotated (map (λ n. n.now) names.entry.items) (shown_of self.old) }

@@ -1,3 +1,4 @@
+//! The parts of the texts of errors.
 ghost use Rattle.std.specs.Prelude.{◌≡◌, ◌++◌, IfOk, OnOk, false, string_bytes, map, codes};
 ghost use Rattle.std.specs.List.{flat_map};
 ghost use Rattle.serde_json.specs.Data.{string};
@@ -21,7 +22,7 @@ pub(crate) fn node_text(alloc: Global, node: Node<'_>) -> Result<String, AllocEr
     }
 }
 
-// The name as JSON.
+/// The name as JSON.
 pub(crate) fn quoted_text(alloc: Global, name: &str) -> Result<String, AllocError>
     ensures { IfOk result (λ s. string_bytes s ≡ compact_text (string name.now)) }
 {
@@ -29,7 +30,7 @@ pub(crate) fn quoted_text(alloc: Global, name: &str) -> Result<String, AllocErro
     value.to_string(alloc)
 }
 
-// The node, and then the text.
+/// The node, and then the text.
 pub(crate) fn starting_text(alloc: Global, node: Node<'_>, rest: &str) -> Result<String, AllocError>
     ensures { IfOk result (λ s. has_float (data_of node.entry) ≡ false
         → string_bytes s ≡ compact_text (data_of node.entry) ++ rest.now) }
@@ -39,7 +40,7 @@ pub(crate) fn starting_text(alloc: Global, node: Node<'_>, rest: &str) -> Result
     Ok(text)
 }
 
-// The text, and then the node.
+/// The text, and then the node.
 pub(crate) fn ending_text(alloc: Global, start: &str, node: Node<'_>) -> Result<String, AllocError>
     ensures { IfOk result (λ s. has_float (data_of node.entry) ≡ false
         → string_bytes s ≡ start.now ++ compact_text (data_of node.entry)) }
@@ -50,7 +51,7 @@ pub(crate) fn ending_text(alloc: Global, start: &str, node: Node<'_>) -> Result<
     Ok(text)
 }
 
-// A node, the text, and the text of another.
+/// A node, the text, and the text of another.
 pub(crate) fn joined_text(
     alloc: Global,
     first: Node<'_>,
@@ -65,7 +66,7 @@ pub(crate) fn joined_text(
     Ok(text)
 }
 
-// The name as JSON, and then the text.
+/// The name as JSON, and then the text.
 pub(crate) fn name_text(alloc: Global, name: &str, rest: &str) -> Result<String, AllocError>
     ensures { IfOk result (λ s. string_bytes s ≡ compact_text (string name.now) ++ rest.now) }
 {

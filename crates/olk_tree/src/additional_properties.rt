@@ -1,4 +1,4 @@
-//! `additionalProperties`, and what it takes over.
+//! `additionalProperties`, and what it takes over: what the validator holds, means and reports.
 ghost use Rattle.std.specs.Prelude.{◌≡◌, ℕ, IsTrue, true, false, is_some, option_map};
 ghost use Rattle.std.specs.Option.{option_map_or};
 ghost use Rattle.olk_spec.specs.World.{unmatched};
@@ -13,10 +13,10 @@ use crate::validators_map::{PropertiesValidatorsMap, placed_from};
 use olk_base::{CompiledPattern, RegexEngine};
 use olk_paths::Location;
 
-/// `additionalProperties` that is `false` or a schema, with `properties` and `patternProperties` beside it: a member is to
-/// be accepted by the subschema that is declared at its name and by that of each pattern that matches it; where there is
-/// neither, by that of `additionalProperties`, and where that is `false` it is not expected
-/// (JSON Schema 2020-12 Core, 10.3.2.3).
+/// `additionalProperties` that is `false` or a schema, with `properties` and `patternProperties`
+/// beside it: a member is to be accepted by the subschema that is declared at its name and by that
+/// of each pattern that matches it; where there is neither, by that of `additionalProperties`, and
+/// where that is `false` it is not expected (JSON Schema 2020-12 Core, 10.3.2.3).
 #[derive(Drop)]
 pub struct AdditionalProperties<R, N> {
     /// `properties`, if it stands there.
@@ -74,7 +74,8 @@ impl<R: RegexEngine, N: Reports> Reports for AdditionalProperties<R, N> {
 }
 
 impl<R, N> AdditionalProperties<R, N> {
-    /// What is declared at the name, with its place, looked for at `hint` first, and where to look first for a later name.
+    /// What is declared at the name, with its place, looked for at `hint` first, and where to look
+    /// first for a later name.
     ///
     /// Both are the same with every hint, so nothing is promised of the next one.
     #[inline(always)]

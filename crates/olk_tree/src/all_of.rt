@@ -1,4 +1,4 @@
-//! `allOf`.
+//! `allOf`: what its validators hold, mean and report.
 use crate::means::{Means, Reports};
 use olk_paths::Location;
 

@@ -1,4 +1,4 @@
-//! `anyOf`.
+//! `anyOf`: what its validators hold, mean and report.
 use crate::means::{Means, Reports};
 use olk_paths::Location;
 

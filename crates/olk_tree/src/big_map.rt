@@ -59,10 +59,11 @@ impl HashedNames {
         self.places.get(name).copied()
     }
 
-    /// At which place the name stands, looked for at `hint` first, and where to look first for a later name.
+    /// At which place the name stands, looked for at `hint` first, and where to look first for a
+    /// later name.
     ///
-    /// Only a name that is none of the next few is hashed. The place is the same with every hint, so nothing is promised of
-    /// the next one.
+    /// Only a name that is none of the next few is hashed. The place is the same with every hint,
+    /// so nothing is promised of the next one.
     #[inline(always)]
     pub fn find_from(&self, hint: usize, name: &str) -> (usize, Option<usize>)
         ensures { result.1 ≡ position (λ k. bytes_eq k name.now) self.now }
@@ -76,7 +77,7 @@ impl HashedNames {
         }
     }
 
-    // At which place the name stands, where that at `hint` is another.
+    /// At which place the name stands, where that at `hint` is another.
     #[inline(never)]
     fn find_elsewhere(&self, hint: usize, name: &str) -> Option<usize>
         ensures { result ≡ position (λ k. bytes_eq k name.now) self.now }
@@ -88,7 +89,7 @@ impl HashedNames {
     }
 }
 
-// At which place each name stands.
+/// At which place each name stands.
 fn places_of(alloc: Global, names: &[String]) -> Result<HashMap<String, usize>, AllocError>
     requires { Ascend (map string_bytes names.now) }
     ensures { IfOk result (λ places. (n : Name) → get_by_text places n
@@ -136,7 +137,7 @@ impl<N> PropertiesValidatorsMap<N> for BigMap<N> {
         &self.nodes
     }
 
-    // As it is given, but inlined into walks.
+    /// As it is given, but inlined into walks.
     #[inline(always)]
     fn validator_from(&self, hint: usize, name: &str) -> (usize, Option<&N>) {
         node_from(self.names(), self.nodes(), hint, name)

@@ -12,10 +12,11 @@ use std::collections::btree_map::Iter;
 use std::iter::Zip;
 use std::slice;
 
-/// The members of an object whose names are declared, in the order of their names: each with what stands at its name.
+/// The members of an object whose names are declared, in the order of their names: each with what
+/// stands at its name.
 ///
-/// Where there are more members than declared names, each declared name is looked up among the members, and otherwise each
-/// member among the declared names, from the place of the last one on.
+/// Where there are more members than declared names, each declared name is looked up among the
+/// members, and otherwise each member among the declared names, from the place of the last one on.
 #[derive(Drop)]
 pub struct DeclaredMembers<'a, N> {
     names: DeclaredNames<'a>,
@@ -74,7 +75,7 @@ impl<'a, N> DeclaredMembers<'a, N> {
     }
 }
 
-// The next member whose name is declared.
+/// The next member whose name is declared.
 #[inline(always)]
 fn next_member<'a, N>(
     names: DeclaredNames<'a>,
@@ -97,7 +98,7 @@ fn next_member<'a, N>(
     None
 }
 
-// The next declared name at which there is a member.
+/// The next declared name at which there is a member.
 fn next_name<'a, N>(
     members: &'a Map<String, Value>,
     names: &mut Zip<slice::Iter<'a, String>, slice::Iter<'a, N>>,

@@ -1,9 +1,9 @@
-//! `if`, `then` and `else`.
+//! `if`, `then` and `else`: what their validators hold, mean and report.
 use crate::means::{Means, Reports};
 use olk_paths::Location;
 
-/// `if` with `then`: where `schema` accepts, `then_schema` is to accept too (JSON Schema 2020-12 Core, 10.2.2.1 and
-/// 10.2.2.2).
+/// `if` with `then`: where `schema` accepts, `then_schema` is to accept too (JSON Schema 2020-12
+/// Core, 10.2.2.1 and 10.2.2.2).
 #[derive(Drop)]
 pub struct IfThen<N> {
     pub schema: N,
@@ -37,8 +37,8 @@ impl<N: Reports> Reports for IfThen<N> {
         (N.first k.then_schema u v Q) [] (N.first_agrees k.then_schema u v Q) refl };
 }
 
-/// `if` with `else`: where `schema` refuses, `else_schema` is to accept (JSON Schema 2020-12 Core, 10.2.2.1 and
-/// 10.2.2.3).
+/// `if` with `else`: where `schema` refuses, `else_schema` is to accept (JSON Schema 2020-12 Core,
+/// 10.2.2.1 and 10.2.2.3).
 #[derive(Drop)]
 pub struct IfElse<N> {
     pub schema: N,
@@ -72,8 +72,8 @@ impl<N: Reports> Reports for IfElse<N> {
         [] (N.first k.else_schema u v Q) refl (N.first_agrees k.else_schema u v Q) };
 }
 
-/// `if` with `then` and `else`: where `schema` accepts, `then_schema` is to accept, and else `else_schema` (JSON Schema
-/// 2020-12 Core, 10.2.2).
+/// `if` with `then` and `else`: where `schema` accepts, `then_schema` is to accept, and else
+/// `else_schema` (JSON Schema 2020-12 Core, 10.2.2).
 #[derive(Drop)]
 pub struct IfThenElse<N> {
     pub schema: N,

@@ -35,7 +35,8 @@ impl Model for SortedNames {
 /// So many names are compared, before the rest is bisected.
 pub const NEAR: usize = 4;
 
-// So many names are never bisected: comparing each for equality takes less, since most differ in their lengths.
+// So many names are never bisected: comparing each for equality takes less, since most differ in
+// their lengths.
 const FEW: usize = 14;
 
 impl SortedNames {
@@ -98,8 +99,8 @@ impl SortedNames {
         place < names.len() && is_same_text(names[place].as_str(), name)
     }
 
-    /// At which place the name stands, which is told where it is one of the `NEAR` places from `hint` on. At another
-    /// place the name may be missed.
+    /// At which place the name stands, which is told where it is one of the `NEAR` places from
+    /// `hint` on. At another place the name may be missed.
     #[inline(always)]
     pub fn find_among_next(&self, hint: usize, name: &str) -> Option<usize>
         ensures { MatchOption result (IsMissed self.now hint (hint + NEAR) name.now)
@@ -108,11 +109,12 @@ impl SortedNames {
         find_near(&self.names, hint, name)
     }
 
-    /// At which place the name stands, looked for at `hint` first, and where to look first for a later name.
+    /// At which place the name stands, looked for at `hint` first, and where to look first for a
+    /// later name.
     ///
-    /// Names that are asked for in ascending order are found in step: the next one is compared first, then a few behind
-    /// it, then the rest is bisected. A hint that is no good costs a bisection. The place is the same with every hint, so
-    /// nothing is promised of the next one.
+    /// Names that are asked for in ascending order are found in step: the next one is compared
+    /// first, then a few behind it, then the rest is bisected. A hint that is no good costs a
+    /// bisection. The place is the same with every hint, so nothing is promised of the next one.
     #[inline(always)]
     pub fn find_from(&self, hint: usize, name: &str) -> (usize, Option<usize>)
         ensures { result.1 ≡ position (λ k. bytes_eq k name.now) self.now }
@@ -127,7 +129,8 @@ impl SortedNames {
         }
     }
 
-    // The same, where the name at `hint` is another: its place, or else where to look first for a later name.
+    /// What `find_from` tells where the name at `hint` is another: its place, or else where to look
+    /// first for a later name.
     #[inline(never)]
     fn find_about(&self, hint: usize, name: &str) -> Result<usize, usize>
         ensures { result_ok result ≡ position (λ k. bytes_eq k name.now) self.now }
@@ -143,7 +146,7 @@ impl SortedNames {
     }
 }
 
-// The same: the next few names are compared, and then the rest is bisected.
+/// What `find_about` tells of many names: the next few are compared, and then the rest is bisected.
 #[inline(never)]
 fn find_among_many(names: &[String], hint: usize, name: &str) -> Result<usize, usize>
     requires { Ascend (map string_bytes names.now) }
@@ -169,7 +172,7 @@ fn find_among_many(names: &[String], hint: usize, name: &str) -> Result<usize, u
     }
 }
 
-// At which of the next places from `hint` on the name stands, if it stands there.
+/// At which of the next places from `hint` on the name stands, if it stands there.
 #[inline(always)]
 fn find_near(names: &[String], hint: usize, name: &str) -> Option<usize>
     requires { Ascend (map string_bytes names.now) }
@@ -182,7 +185,7 @@ fn find_near(names: &[String], hint: usize, name: &str) -> Option<usize>
     find_between(names, hint, end, name)
 }
 
-// At which of these places the name stands, if it stands there.
+/// At which of these places the name stands, if it stands there.
 #[inline(always)]
 fn find_between(names: &[String], from: usize, to: usize, name: &str) -> Option<usize>
     requires ordered { Ascend (map string_bytes names.now) }
@@ -199,7 +202,7 @@ fn find_between(names: &[String], from: usize, to: usize, name: &str) -> Option<
     None
 }
 
-// At which place the name stands, by comparing each.
+/// At which place the name stands, by comparing each.
 #[inline(never)]
 fn find_equal(names: &[String], hint: usize, name: &str) -> Result<usize, usize>
     requires { Ascend (map string_bytes names.now) }
@@ -212,7 +215,7 @@ fn find_equal(names: &[String], hint: usize, name: &str) -> Result<usize, usize>
     }
 }
 
-// Where a name would stand that is found nowhere, looked for from the hint on.
+/// Where a name would stand that is found nowhere, looked for from the hint on.
 #[inline(never)]
 fn later_hint(names: &[String], hint: usize, name: &str) -> usize {
     for place in hint..names.len() {
@@ -223,7 +226,7 @@ fn later_hint(names: &[String], hint: usize, name: &str) -> usize {
     names.len()
 }
 
-// Whether first bytes tell that the name stands nowhere, and would stand at the hint.
+/// Whether first bytes tell that the name stands nowhere, and would stand at the hint.
 #[inline(always)]
 fn would_stand_at(names: &[String], hint: usize, name: &str) -> bool
     requires { Ascend (map string_bytes names.now) }
@@ -236,7 +239,7 @@ fn would_stand_at(names: &[String], hint: usize, name: &str) -> bool
     hint == 0 || starts_before(names[hint - 1].as_str(), name)
 }
 
-// Whether first bytes tell that the names from the hint on come after this one.
+/// Whether first bytes tell that the names from the hint on come after this one.
 #[inline(always)]
 fn comes_before(names: &[String], hint: usize, name: &str) -> bool
     requires { Ascend (map string_bytes names.now) }
@@ -248,7 +251,7 @@ fn comes_before(names: &[String], hint: usize, name: &str) -> bool
     starts_before(name, names[hint].as_str())
 }
 
-// Whether the one is less than the other, in the order of their bytes. Most differ in the first.
+/// Whether the one is less than the other, in the order of their bytes. Most differ in the first.
 #[inline(always)]
 fn is_before(one: &str, other: &str) -> bool
     ensures { IsTrue result → slice_cmp nat_cmp one.now other.now ≡ Less }
@@ -262,7 +265,7 @@ fn is_before(one: &str, other: &str) -> bool
     matches!(one.cmp(other), Ordering::Less)
 }
 
-// Whether the first byte of the one is less than that of the other.
+/// Whether the first byte of the one is less than that of the other.
 #[inline(always)]
 fn starts_before(one: &str, other: &str) -> bool
     ensures { IsTrue result → slice_cmp nat_cmp one.now other.now ≡ Less }
@@ -273,7 +276,8 @@ fn starts_before(one: &str, other: &str) -> bool
     }
 }
 
-// The same, where no name from `hint` on is the one that is looked for: the last one before is compared first.
+/// What `find_about` tells where no name from `hint` on is the one that is looked for: the last one
+/// before is compared first.
 fn find_before(names: &[String], hint: usize, name: &str) -> Result<usize, usize>
     requires ordered { Ascend (map string_bytes names.now) }
     requires later { IsAfter (map string_bytes names.now) hint name.now }
@@ -291,7 +295,7 @@ fn find_before(names: &[String], hint: usize, name: &str) -> Result<usize, usize
     place_of(names, name)
 }
 
-// Where the name stands, or else where it would stand, found by bisection.
+/// Where the name stands, or else where it would stand, found by bisection.
 fn place_of(names: &[String], name: &str) -> Result<usize, usize>
     requires { Ascend (map string_bytes names.now) }
     ensures { IsPlaceOf (map string_bytes names.now) name.now result }
@@ -323,7 +327,7 @@ impl<N> PropertiesValidatorsMap<N> for SmallMap<N> {
         &self.nodes
     }
 
-    // As it is given, but inlined into walks.
+    /// As it is given, but inlined into walks.
     #[inline(always)]
     fn validator_from(&self, hint: usize, name: &str) -> (usize, Option<&N>) {
         if self.names.stands_at(hint, name) {

@@ -11,13 +11,15 @@ pub trait Means {
     ghost means: { Self → Data → Question };
 }
 
-/// What reports faults in values: none exactly in those that it accepts, and none first exactly in those.
+/// What reports faults in values: none exactly in those that it accepts, and none first exactly in
+/// those.
 pub trait Reports: Means {
     ghost use Rattle.std.specs.Prelude.{◌≡◌, Bool, List};
     ghost use Rattle.olk_spec.specs.Names.{Path, is_empty};
     ghost use Rattle.olk_spec.specs.Faults.{Fault};
 
-    // the faults in a value at a path, and those of its first step that refuses, for either answer for unfinished matches
+    // the faults in a value at a path, and those of its first step that refuses, for either answer
+    // for unfinished matches
     ghost report: { Self → Bool → Data → Path → List Fault };
 
     ghost first: { Self → Bool → Data → Path → List Fault };

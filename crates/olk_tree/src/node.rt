@@ -18,26 +18,47 @@ use olk_paths::Location;
 /// A keyword of a schema object, over the nodes that it holds.
 #[derive(Drop)]
 pub enum KeywordOver<K, R, N> {
+    /// `properties`.
     Properties(Properties<N>),
+    /// `properties` together with `required` of two names.
     PropertiesWithRequired2(SmallPropertiesWithRequired2<N>),
+    /// `required`.
     Required(RequiredValidator),
+    /// `allOf` of several branches, or of none.
     AllOf(AllOf<N>),
+    /// `allOf` of one branch.
     SingleValueAllOf(SingleValueAllOf<N>),
+    /// `anyOf` of several branches, or of none.
     AnyOf(AnyOf<N>),
+    /// `anyOf` of one branch.
     SingleAnyOf(SingleAnyOf<N>),
+    /// `oneOf` of several branches, or of none.
     OneOf(OneOf<N>),
+    /// `oneOf` of one branch.
     SingleOneOf(SingleOneOf<N>),
+    /// `not`.
     Not(Not<N>),
+    /// `if` with `then`.
     IfThen(IfThen<N>),
+    /// `if` with `else`.
     IfElse(IfElse<N>),
+    /// `if` with `then` and `else`.
     IfThenElse(IfThenElse<N>),
+    /// `dependentRequired`, `dependentSchemas` or `dependencies`.
     Dependencies(Dependencies<N>),
+    /// `propertyNames` with a subschema.
     PropertyNames(PropertyNames<N>),
+    /// `propertyNames` with `false`.
     PropertyNamesFalse(PropertyNamesFalse),
+    /// `propertyDependencies`.
     PropertyDependencies(PropertyDependencies<N>),
+    /// `patternProperties` of several patterns, or of none.
     PatternProperties(PatternProperties<R, N>),
+    /// `patternProperties` of one pattern.
     SingleValuePatternProperties(SingleValuePatternProperties<R, N>),
+    /// `additionalProperties` that is `false` or a schema, with what it takes over.
     AdditionalProperties(Box<AdditionalProperties<R, N>>),
+    /// A leaf, and its place.
     Leaf(Location, K),
 }
 
@@ -68,9 +89,13 @@ impl<K: Leaf, R: RegexEngine, N: Reports> Reports for KeywordOver<K, R, N> {
 /// What stands at a place: true, false, keywords, or a list of names that an object is to have.
 #[derive(Drop)]
 pub enum Body<W> {
+    /// `true`.
     True,
+    /// `false`.
     False,
+    /// Keywords.
     Keywords(Vec<W>),
+    /// A list of names that an object is to have.
     RequiredNames(RequiredValidator),
 }
 

@@ -1,4 +1,4 @@
-//! `not`.
+//! `not`: what its validator holds, means and reports.
 use crate::means::{Means, Reports};
 use olk_paths::Location;
 use serde_json::Value;

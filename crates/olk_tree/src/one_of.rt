@@ -1,8 +1,9 @@
-//! `oneOf`.
+//! `oneOf`: what its validators hold, mean and report.
 use crate::means::{Means, Reports};
 use olk_paths::Location;
 
-/// `oneOf` of several branches, or of none: exactly one is to accept (JSON Schema 2020-12 Core, 10.2.1.3).
+/// `oneOf` of several branches, or of none: exactly one is to accept (JSON Schema 2020-12 Core,
+/// 10.2.1.3).
 #[derive(Drop)]
 pub struct OneOf<N> {
     pub schemas: Vec<N>,

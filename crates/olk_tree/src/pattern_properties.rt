@@ -1,10 +1,10 @@
-//! `patternProperties`.
+//! `patternProperties`: what its validators hold, mean and report.
 use crate::means::{Means, Reports};
 use olk_base::{CompiledPattern, RegexEngine};
 use olk_paths::Location;
 
-/// `patternProperties` of several patterns, or of none: a member whose name a pattern matches is to be accepted by that
-/// pattern's subschema (JSON Schema 2020-12 Core, 10.3.2.2).
+/// `patternProperties` of several patterns, or of none: a member whose name a pattern matches is to
+/// be accepted by that pattern's subschema (JSON Schema 2020-12 Core, 10.3.2.2).
 #[derive(Drop)]
 pub struct PatternProperties<R, N> {
     pub patterns: Vec<(CompiledPattern<R>, N)>,

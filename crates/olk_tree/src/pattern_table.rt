@@ -53,8 +53,8 @@ impl PatternTable {
         }
     }
 
-    /// Whether the pattern matches the name at the place, and `None` where that is not known: the match was left
-    /// unfinished, or no name stands there. Takes no memory.
+    /// Whether the pattern matches the name at the place, and `None` where that is not known: the
+    /// match was left unfinished, or no name stands there. Takes no memory.
     #[inline(always)]
     pub fn known(&self, place: usize, index: usize) -> Option<bool>
         ensures { known_says result ≡ table_says self.now place index }
@@ -65,7 +65,8 @@ impl PatternTable {
         }
     }
 
-    /// Whether it is known of each pattern that it does not match the name at the place. Takes no memory.
+    /// Whether it is known of each pattern that it does not match the name at the place. Takes no
+    /// memory.
     #[inline(always)]
     pub fn matches_nothing(&self, place: usize) -> bool
         ensures value { result ≡ is_blank_at self.now place }
@@ -78,8 +79,8 @@ impl PatternTable {
         }
     }
 
-    /// Whether the name is one of the table and the pattern matches it; none matches where no pattern has this index. Takes
-    /// no memory.
+    /// Whether the name is one of the table and the pattern matches it; none matches where no
+    /// pattern has this index. Takes no memory.
     pub fn is_matched(&self, name: &str, index: usize) -> bool
         ensures { result ≡ matched_in self.now name.now index }
     {
@@ -89,8 +90,8 @@ impl PatternTable {
         }
     }
 
-    /// Whether the name is one of the table and the pattern was left unfinished at it; none was where no pattern has this
-    /// index. Takes no memory.
+    /// Whether the name is one of the table and the pattern was left unfinished at it; none was
+    /// where no pattern has this index. Takes no memory.
     pub fn is_unfinished(&self, name: &str, index: usize) -> bool
         ensures { result ≡ unfinished_in self.now name.now index }
     {
@@ -100,8 +101,8 @@ impl PatternTable {
         }
     }
 
-    /// The patterns that match the name and those that were left unfinished at it, in ascending order; none for a name
-    /// that is not one of the table.
+    /// The patterns that match the name and those that were left unfinished at it, in ascending
+    /// order; none for a name that is not one of the table.
     ///
     /// # Errors
     ///
@@ -115,7 +116,7 @@ impl PatternTable {
         }
     }
 
-    // The patterns that match the name at the place, and those that were left unfinished at it.
+    /// The patterns that match the name at the place, and those that were left unfinished at it.
     fn indices_at(&self, alloc: Global, place: usize) -> Result<Vec<PatternIndex>, AllocError>
         ensures { IfOk result (λ indices. indices.items
             ≡ indices_below (table_says self.now place) self.now.patterns) }
@@ -129,7 +130,7 @@ impl PatternTable {
         Ok(indices)
     }
 
-    // The pattern, if it matches the name at the place or was left unfinished at it.
+    /// The pattern, if it matches the name at the place or was left unfinished at it.
     fn index_at(&self, place: usize, index: usize) -> Option<PatternIndex>
         ensures { result ≡ index_said index (table_says self.now place index) }
     {
@@ -145,7 +146,8 @@ impl PatternTable {
 
 /// The table of the names of an object's members: each pattern is asked once of each name.
 ///
-/// Of the counts only that of matchers that were asked rises: by the names times the patterns that cost.
+/// Of the counts only that of matchers that were asked rises: by the names times the patterns that
+/// cost.
 ///
 /// # Errors
 ///
@@ -178,7 +180,7 @@ pub fn precompute_property_pattern_indices<R: RegexEngine>(
     })
 }
 
-// A row for each name: each pattern is asked once of each, on the meter.
+/// A row for each name: each pattern is asked once of each, on the meter.
 fn rows_of<R: RegexEngine>(
     alloc: Global,
     names: &[String],
@@ -199,7 +201,8 @@ fn rows_of<R: RegexEngine>(
     Ok(rows)
 }
 
-// The row of a name: each pattern is asked of it once, on the meter, once there is memory for the row.
+/// The row of a name: each pattern is asked of it once, on the meter, once there is memory for the
+/// row.
 fn row_of<R: RegexEngine>(
     alloc: Global,
     name: &str,
@@ -218,7 +221,7 @@ fn row_of<R: RegexEngine>(
     Ok(row)
 }
 
-// What patterns say of one name: those that match it, and those that were left unfinished at it.
+/// What patterns say of one name: those that match it, and those that were left unfinished at it.
 #[derive(Drop)]
 struct PatternRow {
     matched: Vec<u64>,
@@ -234,7 +237,7 @@ impl Model for PatternRow {
 }
 
 impl PatternRow {
-    // So many patterns, none of which matches.
+    /// So many patterns, none of which matches.
     fn unmatched(alloc: Global, patterns: usize) -> Result<PatternRow, AllocError>
         ensures unmatched { IfOk result (λ r. (i : ℕ) → row_says r i ≡ unmatched) }
         ensures words { IfOk result (λ r. (i : ℕ) → i < patterns → HasWord i r) }
@@ -246,7 +249,7 @@ impl PatternRow {
         })
     }
 
-    // Whether the pattern matches. `None` where it was left unfinished.
+    /// Whether the pattern matches. `None` where it was left unfinished.
     #[inline(always)]
     fn known(&self, index: usize) -> Option<bool>
         ensures { known_says result ≡ row_says self.now index }
@@ -258,7 +261,7 @@ impl PatternRow {
         }
     }
 
-    // Whether no pattern matches, and none was left unfinished.
+    /// Whether no pattern matches, and none was left unfinished.
     #[inline(always)]
     fn is_blank(&self) -> bool
         ensures value { result ≡ is_blank self.now }
@@ -267,7 +270,7 @@ impl PatternRow {
         are_zero(&self.matched) && are_zero(&self.unfinished)
     }
 
-    // Notes what a pattern says of which nothing was noted.
+    /// Notes what a pattern says of which nothing was noted.
     fn note(&mut self, index: usize, answer: Result<bool, Unfinished>)
         requires word { HasWord index self.old }
         requires unmatched { row_says self.old index ≡ unmatched }
@@ -283,7 +286,7 @@ impl PatternRow {
     }
 }
 
-// Whether the pattern's bit is set.
+/// Whether the pattern's bit is set.
 #[inline(always)]
 fn has_bit(words: &[u64], index: usize) -> bool
     ensures { result ≡ has_bit words.now index }
@@ -294,7 +297,7 @@ fn has_bit(words: &[u64], index: usize) -> bool
     }
 }
 
-// Whether no bit is set.
+/// Whether no bit is set.
 #[inline(always)]
 fn are_zero(words: &[u64]) -> bool
     ensures { result ≡ list_all (λ w. w == 0) words.now }
@@ -302,7 +305,7 @@ fn are_zero(words: &[u64]) -> bool
     words.iter().all(|word| *word == 0)
 }
 
-// Sets the pattern's bit.
+/// Sets the pattern's bit.
 fn set_bit(words: &mut [u64], index: usize)
     requires { index / 64 < length words.old }
     ensures length { length words.new ≡ length words.old }

@@ -1,4 +1,4 @@
-//! Places of a schema.
+//! Places of a schema, as building knows them.
 use crate::node::{Body, KeywordOver};
 use olk_base::{Leaf, RegexEngine};
 use olk_paths::Location;

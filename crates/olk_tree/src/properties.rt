@@ -1,11 +1,11 @@
-//! `properties`.
+//! `properties`: what its validators hold, mean and report.
 use crate::map::SmallMap;
 use crate::means::{Means, Reports};
 use crate::properties_map::PropertiesMap;
 use olk_paths::Location;
 
-/// `properties`: a member whose name is declared is to be accepted by that name's subschema
-/// (JSON Schema 2020-12 Core, 10.3.2.1).
+/// `properties`: a member whose name is declared is to be accepted by that name's subschema (JSON
+/// Schema 2020-12 Core, 10.3.2.1).
 #[derive(Drop)]
 pub struct Properties<N> {
     pub properties: PropertiesMap<N>,
@@ -33,8 +33,8 @@ impl<N: Reports> Reports for Properties<N> {
         (λ n w R. N.first_agrees n u w R) (mapped k.properties) v Q };
 }
 
-/// `properties` together with `required` of two different names: both are to be members, where the value is an object
-/// (JSON Schema 2020-12 Validation, 6.5.3).
+/// `properties` together with `required` of two different names: both are to be members, where the
+/// value is an object (JSON Schema 2020-12 Validation, 6.5.3).
 #[derive(Drop)]
 pub struct SmallPropertiesWithRequired2<N> {
     pub properties: SmallMap<N>,

@@ -6,7 +6,9 @@ use crate::validators_map::{DeclaredNames, PropertiesValidatorsMap};
 /// A map of few names, which are found by bisection, or of many, which are found by their hash.
 #[derive(Drop)]
 pub enum PropertiesMap<N> {
+    /// A map of few names.
     Small(SmallMap<N>),
+    /// A map of many names.
     Big(BigMap<N>),
 }
 

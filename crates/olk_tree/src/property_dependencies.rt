@@ -1,4 +1,4 @@
-//! `propertyDependencies`.
+//! `propertyDependencies`: what its validator holds, means and reports.
 ghost use Rattle.std.specs.Prelude.{◌≡◌, option_copied, option_to_list};
 ghost use Rattle.serde_json.specs.View.{view};
 ghost use Rattle.olk_tree.specs.Answers.{chosen_at};
@@ -9,8 +9,8 @@ use crate::validators_map::PropertiesValidatorsMap;
 use olk_paths::Location;
 use serde_json::Value;
 
-/// `propertyDependencies`: where the member at a key is a text that the key's entry holds, the subschema at that text is to
-/// accept the object. It is in no published version of JSON Schema.
+/// `propertyDependencies`: where the member at a key is a text that the key's entry holds, the
+/// subschema at that text is to accept the object. It is in no published version of JSON Schema.
 #[derive(Drop)]
 pub struct PropertyDependencies<N> {
     pub dependencies: SmallMap<SmallMap<N>>,

@@ -1,9 +1,9 @@
-//! `propertyNames`.
+//! `propertyNames`: what its validators hold, mean and report.
 use crate::means::{Means, Reports};
 use olk_paths::Location;
 
-/// `propertyNames`: the subschema is to accept each member's name, as the text that it spells (JSON Schema 2020-12 Core,
-/// 10.3.2.4).
+/// `propertyNames`: the subschema is to accept each member's name, as the text that it spells (JSON
+/// Schema 2020-12 Core, 10.3.2.4).
 #[derive(Drop)]
 pub struct PropertyNames<N> {
     pub node: N,

@@ -1,8 +1,9 @@
-//! `required`.
+//! `required`: what its validator holds, means and reports.
 use crate::means::{Means, Reports};
 use olk_paths::Location;
 
-/// `required`: each name is to be a member, where the value is an object (JSON Schema 2020-12 Validation, 6.5.3).
+/// `required`: each name is to be a member, where the value is an object (JSON Schema 2020-12
+/// Validation, 6.5.3).
 #[derive(Drop)]
 pub struct RequiredValidator {
     pub required: Vec<String>,

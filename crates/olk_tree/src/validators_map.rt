@@ -43,7 +43,8 @@ impl<'a> DeclaredNames<'a> {
         }
     }
 
-    /// At which place the name stands, looked for at `hint` first, and where to look first for a later name.
+    /// At which place the name stands, looked for at `hint` first, and where to look first for a
+    /// later name.
     ///
     /// The place is the same with every hint, so nothing is promised of the next one.
     #[inline(always)]
@@ -100,7 +101,8 @@ pub trait PropertiesValidatorsMap<N> {
         Some((names.sorted().as_slice()[place].as_str(), node))
     }
 
-    /// What stands at the name, looked for at `hint` first, and where to look first for a later name.
+    /// What stands at the name, looked for at `hint` first, and where to look first for a later
+    /// name.
     ///
     /// It is the same with every hint, so nothing is promised of the next one.
     #[inline(always)]
@@ -144,7 +146,8 @@ pub fn node_from<'a, N>(
     }
 }
 
-/// The place of the name and what stands at it, looked for at `hint` first, and where to look first for a later name.
+/// The place of the name and what stands at it, looked for at `hint` first, and where to look first
+/// for a later name.
 ///
 /// Both are the same with every hint, so nothing is promised of the next one.
 #[inline(always)]
