@@ -183,7 +183,8 @@ fn compile_places<'a, L: MakeLeaf, M: MakeRegex, N: Place<L::Leaf, M::Engine>>(
     }
 }
 
-/// Whether an entry of an object is read as a schema: each is, but for arrays where these are passed over.
+/// Whether an entry of an object is read as a schema: each is, but for arrays where these are
+/// passed over.
 fn is_read(passes_arrays: bool, entry: &Value) -> bool
     ensures { result ≡ is_read passes_arrays (view entry.now) }
 {
@@ -278,8 +279,8 @@ fn compile_branches<'a, L: MakeLeaf, M: MakeRegex, N: Place<L::Leaf, M::Engine>>
     Ok(nodes)
 }
 
-/// The part of a member of the schema object at the context's place, which is left as it was; of `if`, `then`, `else` and
-/// `patternProperties` it is that of the parent's member.
+/// The part of a member of the schema object at the context's place, which is left as it was; of
+/// `if`, `then`, `else` and `patternProperties` it is that of the parent's member.
 ///
 /// # Errors
 ///
@@ -313,8 +314,8 @@ pub fn compile_member<'a, L: MakeLeaf, M: MakeRegex, N: Place<L::Leaf, M::Engine
     )
 }
 
-/// The nodes of the entries of an object, each below the keyword of this name at the context's place, which is left as it
-/// was.
+/// The nodes of the entries of an object, each below the keyword of this name at the context's
+/// place, which is left as it was.
 ///
 /// # Errors
 ///
@@ -339,15 +340,16 @@ pub fn compile_declared<'a, L: MakeLeaf, M: MakeRegex, N: Place<L::Leaf, M::Engi
     compile_entries(alloc, &ctx.makers, ctx.meter, &location, false, entries)
 }
 
-/// The node of a schema at the context's place, with all that it reads inside. It is of any type that is a place, as
-/// what is done with it tells.
+/// The node of a schema at the context's place, with all that it reads inside. It is of any type
+/// that is a place, as what is done with it tells.
 ///
-/// The meter rises by the cost of the schema, or by a part of it where nothing is built; the context's place is left as it was.
+/// The meter rises by the cost of the schema, or by a part of it where nothing is built; the
+/// context's place is left as it was.
 ///
 /// # Errors
 ///
-/// A malformed schema is refused, with one of its malformations (JSON Schema 2020-12 Core, 4.3, and the shapes of the
-/// keywords). Without memory nothing is said of the schema.
+/// A malformed schema is refused, with one of its malformations (JSON Schema 2020-12 Core, 4.3, and
+/// the shapes of the keywords). Without memory nothing is said of the schema.
 pub fn compile<'a, L: MakeLeaf, M: MakeRegex, N: Place<L::Leaf, M::Engine>>(
     alloc: Global,
     ctx: &mut Context<'_, L, M>,

@@ -1,4 +1,4 @@
-//! `additionalProperties`, and what it takes over.
+//! `additionalProperties`, and what it takes over: what is compiled of them.
 ghost use Rattle.std.specs.Prelude.{◌≡◌, true, false, is_none, length, option_map, codes, IfOk};
 ghost use Rattle.std.specs.Option.{IfSome, IfNone};
 ghost use Rattle.serde_json.specs.View.{members_view, view};
@@ -55,8 +55,8 @@ fn compile_properties<'a, L: MakeLeaf, M: MakeRegex, N: Place<L::Leaf, M::Engine
     Ok(Some(SmallMap { names, nodes }))
 }
 
-/// What the parent's `patternProperties` holds, if it stands there, with what its patterns say of the names that
-/// `properties` declares, where other members are restricted.
+/// What the parent's `patternProperties` holds, if it stands there, with what its patterns say of
+/// the names that `properties` declares, where other members are restricted.
 ///
 /// # Errors
 ///
@@ -95,8 +95,8 @@ fn compile_patterns<'a, L: MakeLeaf, M: MakeRegex, N: Place<L::Leaf, M::Engine>>
 ///
 /// # Errors
 ///
-/// One of the malformations of `additionalProperties`, whose kind is tested before anything beside it is compiled, of
-/// `properties` and of `patternProperties`; else want of memory.
+/// One of the malformations of `additionalProperties`, whose kind is tested before anything beside
+/// it is compiled, of `properties` and of `patternProperties`; else want of memory.
 fn compile_restriction<'a, L: MakeLeaf, M: MakeRegex, N: Place<L::Leaf, M::Engine>>(
     alloc: Global,
     ctx: &mut Context<'_, L, M>,
@@ -133,12 +133,13 @@ fn compile_restriction<'a, L: MakeLeaf, M: MakeRegex, N: Place<L::Leaf, M::Engin
     Ok(make(alloc, plan, &ctx.place, location, nodes.pop(), beside)?)
 }
 
-/// The keyword of `additionalProperties` in the object at the context's place (JSON Schema 2020-12 Core, 10.3.2.3), with
-/// `properties` and `patternProperties` of the parent that there are and with the one name of `required` that it fuses,
-/// for all of which it stands; none where it is `true`, which holds other members to nothing.
+/// The keyword of `additionalProperties` in the object at the context's place (JSON Schema 2020-12
+/// Core, 10.3.2.3), with `properties` and `patternProperties` of the parent that there are and with
+/// the one name of `required` that it fuses, for all of which it stands; none where it is `true`,
+/// which holds other members to nothing.
 ///
-/// The meter rises by the cost of the three, or by a part of it where nothing is built; the context's place is left as it
-/// was.
+/// The meter rises by the cost of the three, or by a part of it where nothing is built; the
+/// context's place is left as it was.
 ///
 /// # Errors
 ///

@@ -1,4 +1,5 @@
-//! `dependencies`, `dependentRequired` and `dependentSchemas`.
+//! `dependencies`, `dependentRequired` and `dependentSchemas`: what is compiled of their members of
+//! a schema object.
 ghost use Rattle.std.specs.Prelude.{◌≡◌, map, codes};
 ghost use Rattle.serde_json.specs.View.{view};
 ghost use Rattle.olk_spec.specs.Schemas.{members};
@@ -18,11 +19,11 @@ use olk_tree::place::Place;
 use serde_json::{Map, Value};
 use std::alloc::Global;
 
-/// The keyword of `dependencies` in the object at the context's place (JSON Schema draft 7 Validation, 6.5.7): a key whose
-/// value is a list wants its names, any other has a schema.
+/// The keyword of `dependencies` in the object at the context's place (JSON Schema draft 7
+/// Validation, 6.5.7): a key whose value is a list wants its names, any other has a schema.
 ///
-/// The meter rises by the cost of the keyword, or by a part of it where nothing is built; the context's place is left as
-/// it was.
+/// The meter rises by the cost of the keyword, or by a part of it where nothing is built; the
+/// context's place is left as it was.
 ///
 /// # Errors
 ///
@@ -60,10 +61,11 @@ pub fn compile<'a, L: MakeLeaf, M: MakeRegex, N: Place<L::Leaf, M::Engine>>(
     }
 }
 
-/// The keyword of `dependentRequired` in the object at the context's place (JSON Schema 2020-12 Validation, 6.5.4).
+/// The keyword of `dependentRequired` in the object at the context's place (JSON Schema 2020-12
+/// Validation, 6.5.4).
 ///
-/// The meter rises by the cost of the keyword, or by a part of it where nothing is built; the context's place is left as
-/// it was.
+/// The meter rises by the cost of the keyword, or by a part of it where nothing is built; the
+/// context's place is left as it was.
 ///
 /// # Errors
 ///
@@ -101,10 +103,11 @@ pub fn compile_dependent_required<'a, L: MakeLeaf, M: MakeRegex, N: Place<L::Lea
     }
 }
 
-/// The keyword of `dependentSchemas` in the object at the context's place (JSON Schema 2020-12 Core, 10.2.2.4).
+/// The keyword of `dependentSchemas` in the object at the context's place (JSON Schema 2020-12
+/// Core, 10.2.2.4).
 ///
-/// The meter rises by the cost of the keyword, or by a part of it where nothing is built; the context's place is left as
-/// it was.
+/// The meter rises by the cost of the keyword, or by a part of it where nothing is built; the
+/// context's place is left as it was.
 ///
 /// # Errors
 ///

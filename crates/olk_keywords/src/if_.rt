@@ -1,4 +1,4 @@
-//! `if`, `then` and `else`.
+//! `if`, `then` and `else`: what is compiled of their members of a schema object.
 ghost use Rattle.std.specs.Prelude.{◌≡◌, true, false, not, is_none, is_some, map, codes, IfOk, IfErr};
 ghost use Rattle.std.specs.Option.{IfSome, IfNone};
 ghost use Rattle.serde_json.specs.View.{members_view, view};
@@ -96,11 +96,12 @@ fn compile_condition<'a, L: MakeLeaf, M: MakeRegex, N: Place<L::Leaf, M::Engine>
     Ok(keyword)
 }
 
-/// The keyword of `if` in the object at the context's place, with those of `then` and `else` of the parent that there
-/// are (JSON Schema 2020-12 Core, 10.2.2), and none where there is neither, or no `if`.
+/// The keyword of `if` in the object at the context's place, with those of `then` and `else` of the
+/// parent that there are (JSON Schema 2020-12 Core, 10.2.2), and none where there is neither, or no
+/// `if`.
 ///
-/// The meter rises by the cost of the three, or by a part of it where nothing is built; the context's place is left as it
-/// was.
+/// The meter rises by the cost of the three, or by a part of it where nothing is built; the
+/// context's place is left as it was.
 ///
 /// # Errors
 ///

@@ -1,4 +1,5 @@
-//! The module of each keyword that holds schemas or names: what it builds of a member of a schema object.
+//! The module of each keyword that holds schemas or names: what it builds of a member of a schema
+//! object.
 //!
 //! Stands on `olk_build`. Tested by `olk_build_tests`.
 #![tactic(auto)]

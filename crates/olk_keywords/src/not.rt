@@ -1,4 +1,4 @@
-//! `not`.
+//! `not`: what is compiled of its member of a schema object.
 ghost use Rattle.std.specs.Prelude.{◌≡◌, codes};
 ghost use Rattle.serde_json.specs.View.{view};
 ghost use Rattle.olk_paths.specs.Paths.{one_below};
@@ -20,8 +20,8 @@ use std::alloc::Global;
 
 /// The keyword of `not` in the object at the context's place (JSON Schema 2020-12 Core, 10.2.1.4).
 ///
-/// The meter rises by the cost of the keyword, or by a part of it where nothing is built; the context's place is left as
-/// it was.
+/// The meter rises by the cost of the keyword, or by a part of it where nothing is built; the
+/// context's place is left as it was.
 ///
 /// # Errors
 ///

@@ -1,4 +1,4 @@
-//! `oneOf`.
+//! `oneOf`: what is compiled of its member of a schema object.
 ghost use Rattle.std.specs.Prelude.{◌≡◌, codes};
 ghost use Rattle.serde_json.specs.View.{view};
 ghost use Rattle.olk_paths.specs.Paths.{one_below};
@@ -15,11 +15,11 @@ use olk_tree::place::Place;
 use serde_json::{Map, Value};
 use std::alloc::Global;
 
-/// The keyword of `oneOf` in the object at the context's place (JSON Schema 2020-12 Core, 10.2.1.3): of one branch the
-/// single form, else the other.
+/// The keyword of `oneOf` in the object at the context's place (JSON Schema 2020-12 Core,
+/// 10.2.1.3): of one branch the single form, else the other.
 ///
-/// The meter rises by the cost of the keyword, or by a part of it where nothing is built; the context's place is left as
-/// it was.
+/// The meter rises by the cost of the keyword, or by a part of it where nothing is built; the
+/// context's place is left as it was.
 ///
 /// # Errors
 ///

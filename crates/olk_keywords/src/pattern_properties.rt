@@ -1,4 +1,4 @@
-//! `patternProperties`.
+//! `patternProperties`: what is compiled of its member of a schema object.
 ghost use Rattle.std.specs.Prelude.{◌≡◌, is_none, length, codes, IfOk, IfErr};
 ghost use Rattle.std.specs.Option.{IfSome, IfNone};
 ghost use Rattle.serde_json.specs.View.{view, members_view};
@@ -22,12 +22,12 @@ use olk_tree::place::Place;
 use serde_json::{Map, Value};
 use std::alloc::Global;
 
-/// The keyword of `patternProperties` in the object at the context's place (JSON Schema 2020-12 Core, 10.3.2.2); none
-/// where `additionalProperties` of the parent is `false` or an object, since that keyword then stands for the patterns
-/// too.
+/// The keyword of `patternProperties` in the object at the context's place (JSON Schema 2020-12
+/// Core, 10.3.2.2); none where `additionalProperties` of the parent is `false` or an object, since
+/// that keyword then stands for the patterns too.
 ///
-/// The meter rises by the cost of the keyword, or by a part of it where nothing is built; the context's place is left as
-/// it was.
+/// The meter rises by the cost of the keyword, or by a part of it where nothing is built; the
+/// context's place is left as it was.
 ///
 /// # Errors
 ///
@@ -71,11 +71,11 @@ pub fn compile<'a, L: MakeLeaf, M: MakeRegex, N: Place<L::Leaf, M::Engine>>(
     }
 }
 
-/// The patterns, in the order of their bytes, and beside each the node of its subschema, below `patternProperties` at the
-/// context's place (JSON Schema 2020-12 Core, 10.3.2.2).
+/// The patterns, in the order of their bytes, and beside each the node of its subschema, below
+/// `patternProperties` at the context's place (JSON Schema 2020-12 Core, 10.3.2.2).
 ///
-/// The meter rises by the cost of the patterns and subschemas, or by a part of it where nothing is built; the context's
-/// place is left as it was.
+/// The meter rises by the cost of the patterns and subschemas, or by a part of it where nothing is
+/// built; the context's place is left as it was.
 ///
 /// # Errors
 ///

@@ -1,4 +1,4 @@
-//! `properties`.
+//! `properties`: what is compiled of its member of a schema object.
 ghost use Rattle.std.specs.Prelude.{◌≡◌, codes, is_none, length, map, IfOk, IfErr};
 ghost use Rattle.std.specs.Option.{IfSome, IfNone};
 ghost use Rattle.serde_json.specs.View.{view, members_view};
@@ -25,12 +25,13 @@ use olk_tree::place::Place;
 use serde_json::{Map, Value};
 use std::alloc::Global;
 
-/// The keyword of `properties` in the object at the context's place (JSON Schema 2020-12 Core, 10.3.2.1): with the two
-/// names that it fuses from `required` of the parent, and then it stands for both, or alone; none where
-/// `additionalProperties` of the parent is `false` or an object, since that keyword then stands for the names too.
+/// The keyword of `properties` in the object at the context's place (JSON Schema 2020-12 Core,
+/// 10.3.2.1): with the two names that it fuses from `required` of the parent, and then it stands
+/// for both, or alone; none where `additionalProperties` of the parent is `false` or an object,
+/// since that keyword then stands for the names too.
 ///
-/// The meter rises by the cost of the keyword, or by a part of it where nothing is built; the context's place is left as
-/// it was.
+/// The meter rises by the cost of the keyword, or by a part of it where nothing is built; the
+/// context's place is left as it was.
 ///
 /// # Errors
 ///
@@ -75,11 +76,11 @@ pub fn compile<'a, L: MakeLeaf, M: MakeRegex, N: Place<L::Leaf, M::Engine>>(
     }
 }
 
-/// The declared names, found by bisection, and beside each the node of its subschema, below `properties` at the context's
-/// place (JSON Schema 2020-12 Core, 10.3.2.1).
+/// The declared names, found by bisection, and beside each the node of its subschema, below
+/// `properties` at the context's place (JSON Schema 2020-12 Core, 10.3.2.1).
 ///
-/// The meter rises by the cost of the subschemas, or by a part of it where nothing is built; the context's place is left
-/// as it was.
+/// The meter rises by the cost of the subschemas, or by a part of it where nothing is built; the
+/// context's place is left as it was.
 ///
 /// # Errors
 ///
@@ -105,10 +106,10 @@ pub fn compile_small_map<'a, L: MakeLeaf, M: MakeRegex, N: Place<L::Leaf, M::Eng
     Ok(SmallMap { names, nodes })
 }
 
-/// The same names and nodes as [`compile_small_map`] gives, and the names are found by their hash.
+/// The names and nodes that [`compile_small_map`] gives, where the names are found by their hash.
 ///
-/// The meter rises by the cost of the subschemas, or by a part of it where nothing is built; the context's place is left
-/// as it was.
+/// The meter rises by the cost of the subschemas, or by a part of it where nothing is built; the
+/// context's place is left as it was.
 ///
 /// # Errors
 ///

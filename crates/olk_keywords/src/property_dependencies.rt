@@ -1,4 +1,4 @@
-//! `propertyDependencies`.
+//! `propertyDependencies`: what is compiled of its member of a schema object.
 ghost use Rattle.std.specs.Prelude.{◌≡◌, map, codes};
 ghost use Rattle.serde_json.specs.View.{view};
 ghost use Rattle.olk_spec.specs.Schemas.{members};
@@ -18,11 +18,12 @@ use olk_tree::place::Place;
 use serde_json::{Map, Value};
 use std::alloc::Global;
 
-/// The keyword of `propertyDependencies` in the object at the context's place (a proposal for JSON Schema, which is not
-/// part of a standard): for each key a map from the texts of its entry to their schemas.
+/// The keyword of `propertyDependencies` in the object at the context's place (a proposal for JSON
+/// Schema, which is not part of a standard): for each key a map from the texts of its entry to
+/// their schemas.
 ///
-/// The meter rises by the cost of the keyword, or by a part of it where nothing is built; the context's place is left as
-/// it was.
+/// The meter rises by the cost of the keyword, or by a part of it where nothing is built; the
+/// context's place is left as it was.
 ///
 /// # Errors
 ///

@@ -1,4 +1,4 @@
-//! `propertyNames`.
+//! `propertyNames`: what is compiled of its member of a schema object.
 ghost use Rattle.std.specs.Prelude.{◌≡◌, ◌||◌, true, false, not, is_none, codes};
 ghost use Rattle.std.specs.Option.{IfSome, IfNone};
 ghost use Rattle.serde_json.specs.View.{view};
@@ -19,11 +19,12 @@ use olk_tree::place::Place;
 use serde_json::{Map, Value};
 use std::alloc::Global;
 
-/// The keyword of `propertyNames` in the object at the context's place (JSON Schema 2020-12 Core, 10.3.2.4): an object is
-/// a schema for each name, `false` allows no name; none for anything else, which allows any.
+/// The keyword of `propertyNames` in the object at the context's place (JSON Schema 2020-12 Core,
+/// 10.3.2.4): an object is a schema for each name, `false` allows no name; none for anything else,
+/// which allows any.
 ///
-/// The meter rises by the cost of the keyword, or by a part of it where nothing is built; the context's place is left as
-/// it was.
+/// The meter rises by the cost of the keyword, or by a part of it where nothing is built; the
+/// context's place is left as it was.
 ///
 /// # Errors
 ///

@@ -1,4 +1,4 @@
-//! `required`.
+//! `required`: what is compiled of its member of a schema object.
 ghost use Rattle.std.specs.Prelude.{◌≡◌, ◌||◌, codes, is_some, is_none};
 ghost use Rattle.std.specs.Option.{IfSome, IfNone};
 ghost use Rattle.serde_json.specs.View.{members_view, view};
@@ -20,11 +20,12 @@ use olk_tree::required::RequiredValidator;
 use serde_json::{Map, Value};
 use std::alloc::Global;
 
-/// The keyword of `required` in the object at the context's place (JSON Schema 2020-12 Validation, 6.5.3), and none
-/// where `properties` of the parent fuses its two names, or `additionalProperties` its one.
+/// The keyword of `required` in the object at the context's place (JSON Schema 2020-12 Validation,
+/// 6.5.3), and none where `properties` of the parent fuses its two names, or `additionalProperties`
+/// its one.
 ///
-/// The meter rises by the cost of the keyword, or by a part of it where nothing is built; the context's place is left as
-/// it was.
+/// The meter rises by the cost of the keyword, or by a part of it where nothing is built; the
+/// context's place is left as it was.
 ///
 /// # Errors
 ///

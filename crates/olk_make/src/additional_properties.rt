@@ -1,4 +1,4 @@
-//! `additionalProperties`.
+//! `additionalProperties`: making its validator.
 ghost use Rattle.std.specs.Prelude.{◌∷◌, [], IfOk, is_some, length, zip, option_map};
 ghost use Rattle.olk_base.specs.Kit.{kit};
 ghost use Rattle.olk_make.specs.Forms.{IsBoxed, IsMapOf, IsRequiredName, IsFormOfAdditionalProperties, IsAdditionalProperties};
@@ -57,7 +57,7 @@ fn required(
     }
 }
 
-/// The same as a keyword.
+/// The validator as a keyword.
 ///
 /// # Errors
 ///
@@ -72,7 +72,8 @@ fn boxed<K, R: Drop, N: Drop>(
     Ok(KeywordOver::AdditionalProperties(keyword))
 }
 
-/// The form over the node for the rest and what stands beside it, with the name that the plan fuses.
+/// The form over the node for the rest and what stands beside it, with the name that the plan
+/// fuses.
 ///
 /// # Errors
 ///
@@ -114,8 +115,9 @@ fn form<K, R: Drop, N: Drop>(
     boxed(alloc, keyword)
 }
 
-/// The validator of `additionalProperties` in the object at the place, over the node for the rest, or without one where
-/// nothing else is expected, and over what stands beside it; with the name that the plan fuses.
+/// The validator of `additionalProperties` in the object at the place, over the node for the rest,
+/// or without one where nothing else is expected, and over what stands beside it; with the name
+/// that the plan fuses.
 ///
 /// From [`HASHMAP_THRESHOLD`](olk_spec::HASHMAP_THRESHOLD) names on they are found by their hash.
 ///

@@ -1,4 +1,4 @@
-//! `anyOf`.
+//! `anyOf`: making its validator.
 ghost use Rattle.std.specs.Prelude.{◌∷◌, []};
 ghost use Rattle.olk_base.specs.Kit.{kit};
 ghost use Rattle.olk_make.specs.Forms.{IsFormOfAnyOf};

@@ -1,4 +1,4 @@
-//! `dependentRequired`, `dependentSchemas` and `dependencies`.
+//! `dependentRequired`, `dependentSchemas` and `dependencies`: making their validators.
 ghost use Rattle.std.specs.Prelude.{◌∷◌, [], IfOk};
 ghost use Rattle.olk_base.specs.Kit.{kit};
 ghost use Rattle.olk_make.specs.Forms.{IsDependencies, IsListAt, AreListsAt, AreInOrder};
@@ -56,7 +56,8 @@ fn nodes_of_lists<K: Leaf, R: RegexEngine, N: Place<K, R>>(
     Ok(nodes)
 }
 
-/// The nodes of entries, in their order: of a list of names its own, and else the next of the schemas' nodes.
+/// The nodes of entries, in their order: of a list of names its own, and else the next of the
+/// schemas' nodes.
 ///
 /// # Errors
 ///
@@ -124,7 +125,8 @@ pub fn make_schemas<K: Leaf, R: RegexEngine, N: Place<K, R>>(
     })
 }
 
-/// The validator of `dependencies` with these keys, the names that each lists, and the nodes of those that list none.
+/// The validator of `dependencies` with these keys, the names that each lists, and the nodes of
+/// those that list none.
 ///
 /// # Errors
 ///

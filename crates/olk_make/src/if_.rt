@@ -1,4 +1,4 @@
-//! `if`, `then` and `else`.
+//! `if`, `then` and `else`: making their validators.
 ghost use Rattle.std.specs.Prelude.{◌≡◌, [], None, is_some, option_to_list};
 ghost use Rattle.std.specs.Option.{IfSome, IfNone};
 ghost use Rattle.olk_base.specs.Kit.{kit};
@@ -48,7 +48,8 @@ fn form<K, R, N: Drop>(
     }
 }
 
-/// The validator of the node of `if` and of those of `then` and `else`, and none where there is neither.
+/// The validator of the node of `if` and of those of `then` and `else`, and none where there is
+/// neither.
 pub fn make<K: Leaf, R: RegexEngine, N: Place<K, R>>(
     location: Location,
     schema: N,

@@ -68,8 +68,8 @@ fn take<K, R: Drop, N: Drop>(
     }
 }
 
-/// What `if` and `additionalProperties` take, and the other parts; nothing, and the parts as they are, where neither takes
-/// anything.
+/// What `if` and `additionalProperties` take, and the other parts; nothing, and the parts as they
+/// are, where neither takes anything.
 ///
 /// # Errors
 ///
@@ -98,8 +98,8 @@ fn take_all<K: Leaf, R: RegexEngine, N: Place<K, R>>(
     Ok((taken, left))
 }
 
-/// The keyword of a part of the object at the place, if it is read and the plan names no other for it. `if` and
-/// `additionalProperties` have what was taken for them.
+/// The keyword of a part of the object at the place, if it is read and the plan names no other for
+/// it. `if` and `additionalProperties` have what was taken for them.
 ///
 /// # Errors
 ///

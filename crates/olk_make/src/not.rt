@@ -1,4 +1,4 @@
-//! `not`.
+//! `not`: making its validator.
 ghost use Rattle.std.specs.Prelude.{◌≡◌, [], option_to_list};
 ghost use Rattle.std.specs.Option.{IfSome, IfNone};
 ghost use Rattle.serde_json.specs.View.{view};

@@ -1,4 +1,4 @@
-//! `oneOf`.
+//! `oneOf`: making its validator.
 ghost use Rattle.std.specs.Prelude.{◌∷◌, []};
 ghost use Rattle.olk_base.specs.Kit.{kit};
 ghost use Rattle.olk_make.specs.Forms.{IsFormOfOneOf};

@@ -47,8 +47,8 @@ impl<N> Cases<N> {
     }
 }
 
-/// What `patternProperties` holds: its place, its patterns, what they say of the names that are declared beside it, and
-/// the nodes of its entries.
+/// What `patternProperties` holds: its place, its patterns, what they say of the names that are
+/// declared beside it, and the nodes of its entries.
 #[derive(Drop)]
 pub struct Patterns<R, N> {
     pub location: Location,
@@ -57,8 +57,8 @@ pub struct Patterns<R, N> {
     pub nodes: Vec<N>,
 }
 
-/// What stands beside `additionalProperties`: the declared names with their nodes, if `properties` does, and what
-/// `patternProperties` holds, if that does.
+/// What stands beside `additionalProperties`: the declared names with their nodes, if `properties`
+/// does, and what `patternProperties` holds, if that does.
 #[derive(Drop)]
 pub struct Beside<R, N> {
     pub properties: Option<SmallMap<N>>,
@@ -90,8 +90,9 @@ impl<R, N> Beside<R, N> {
     }
 }
 
-/// What validators take from the parts of their neighbours: `if` from `then` and `else`, and `additionalProperties`, where
-/// it restricts other members, from `properties` and `patternProperties`.
+/// What validators take from the parts of their neighbours: `if` from `then` and `else`, and
+/// `additionalProperties`, where it restricts other members, from `properties` and
+/// `patternProperties`.
 #[derive(Drop)]
 pub struct Taken<R, N> {
     pub cases: Cases<N>,

@@ -1,4 +1,4 @@
-//! `patternProperties`.
+//! `patternProperties`: making its validator.
 ghost use Rattle.std.specs.Prelude.{◌≡◌, ◌∷◌, [], IfOk, zip, length};
 ghost use Rattle.olk_base.specs.Kit.{kit};
 ghost use Rattle.olk_tree.specs.Tables.{Table};

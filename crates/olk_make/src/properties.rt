@@ -1,4 +1,4 @@
-//! `properties`.
+//! `properties`: making its validator.
 ghost use Rattle.std.specs.Prelude.{◌≡◌, ◌∷◌, [], IfOk, length};
 ghost use Rattle.olk_base.specs.Kit.{kit};
 ghost use Rattle.olk_tree.specs.Answers.{names_in, nodes_in};
@@ -69,7 +69,8 @@ fn form<K, R, N: Drop>(
     }))
 }
 
-/// The validator of the declared names' nodes in the object at the place, and of the names that the plan fuses.
+/// The validator of the declared names' nodes in the object at the place, and of the names that the
+/// plan fuses.
 ///
 /// From [`HASHMAP_THRESHOLD`] names on they are found by their hash, where none are fused.
 ///

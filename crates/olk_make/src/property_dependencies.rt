@@ -1,4 +1,4 @@
-//! `propertyDependencies`.
+//! `propertyDependencies`: making its validator.
 ghost use Rattle.std.specs.Prelude.{◌≡◌, ◌+◌, ◌++◌, ◌∷◌, [], length, min, IfOk};
 ghost use Rattle.std.specs.Vec.Iter.{into_iter_items, into_iter_len};
 ghost use Rattle.olk_base.specs.Kit.{kit};

@@ -1,4 +1,4 @@
-//! `propertyNames`.
+//! `propertyNames`: making its validator.
 ghost use Rattle.std.specs.Prelude.{◌≡◌, ◌∷◌, [], option_to_list};
 ghost use Rattle.std.specs.Option.{IfSome, IfNone};
 ghost use Rattle.olk_base.specs.Kit.{kit};

@@ -1,4 +1,4 @@
-//! `required`.
+//! `required`: making its validator.
 ghost use Rattle.std.specs.Prelude.{option_to_list};
 ghost use Rattle.olk_spec.specs.Names.{Path};
 ghost use Rattle.olk_base.specs.Kit.{kit};
@@ -13,7 +13,8 @@ use olk_tree::node::KeywordOver;
 use olk_tree::place::Place;
 use olk_tree::required::RequiredValidator;
 
-/// The validator of the names, unless the plan fuses them: two into `properties`, or one into `additionalProperties`.
+/// The validator of the names, unless the plan fuses them: two into `properties`, or one into
+/// `additionalProperties`.
 pub fn make<K: Leaf, R: RegexEngine, N: Place<K, R>>(
     plan: Plan<'_>,
     location: Location,
