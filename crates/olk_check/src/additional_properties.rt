@@ -1,4 +1,4 @@
-//! `additionalProperties`, and what it takes over.
+//! `additionalProperties`, and what it takes over: the verdict.
 ghost use Rattle.std.specs.Prelude.{◌≡◌, [], ◌∷◌, IfSome, None, option_map, option_copied, is_some};
 ghost use Rattle.serde_json.specs.Data.{object};
 ghost use Rattle.serde_json.specs.View.{view, members_view};
@@ -31,8 +31,8 @@ use serde_json::{Map, Value};
 /// So many arrays and objects wait until the other members were asked.
 pub const DEFERRED_MEMBERS: usize = 4;
 
-/// Whether the pattern matches the name: what is known of it, and where nothing is, what it says (JSON Schema 2020-12
-/// Core, 10.3.2.2).
+/// Whether the pattern matches the name: what is known of it, and where nothing is, what it says
+/// (JSON Schema 2020-12 Core, 10.3.2.2).
 ///
 /// Takes no memory. The context keeps its answer; where something is known, no count rises.
 #[inline(always)]
@@ -57,8 +57,8 @@ impl<R: RegexEngine, N: IsValid> IsValid for AdditionalProperties<R, N> {
     }
 }
 
-// Whether each member is accepted by what speaks of it, and there is a member at the name, if one is required, where the
-// value is an object.
+/// Whether each member is accepted by what speaks of it, and there is a member at the name, if one
+/// is required, where the value is an object.
 #[inline(always)]
 pub(crate) fn additional_properties_accept<R: RegexEngine, N: IsValid>(
     keyword: &AdditionalProperties<R, N>,
@@ -75,7 +75,7 @@ pub(crate) fn additional_properties_accept<R: RegexEngine, N: IsValid>(
     }
 }
 
-// Whether there is a member at the name, if one is required.
+/// Whether there is a member at the name, if one is required.
 fn has_required(required: &Option<RequiredName>, members: &Map<String, Value>) -> bool
     ensures { result
         ≡ is_empty (missing (required_text required.now) (object_of members.now.entries)) }
@@ -86,7 +86,7 @@ fn has_required(required: &Option<RequiredName>, members: &Map<String, Value>) -
     }
 }
 
-// Apart, so that asking for no name stays small.
+/// Apart, so that asking for no name stays small.
 #[inline(never)]
 fn is_present_apart(members: &Map<String, Value>, name: &str) -> bool
     ensures { result ≡ has name.now (object (members_view members.now.entries)) }
@@ -94,7 +94,8 @@ fn is_present_apart(members: &Map<String, Value>, name: &str) -> bool
     is_present(members, name)
 }
 
-// The same of an object's members.
+/// Whether each member of an object is accepted by what speaks of it, and there is a member at the
+/// name, if one is required.
 #[inline(never)]
 fn members_accepted<R: RegexEngine, N: IsValid>(
     keyword: &AdditionalProperties<R, N>,
@@ -114,7 +115,7 @@ fn members_accepted<R: RegexEngine, N: IsValid>(
     }
 }
 
-// The same, one member after the other.
+/// The verdict of `members_accepted`, found one member after the other.
 #[inline(never)]
 fn in_turn_accepted<R: RegexEngine, N: IsValid>(
     keyword: &AdditionalProperties<R, N>,
@@ -132,7 +133,7 @@ fn in_turn_accepted<R: RegexEngine, N: IsValid>(
     Accepted::one_if(each_accepted(keyword, members, ctx))
 }
 
-// The declared names and the rest, where no patterns stand beside them.
+/// The declared names and the rest, where no patterns stand beside them.
 fn without_patterns<R, N>(
     keyword: &AdditionalProperties<R, N>,
 ) -> Option<(&PropertiesMap<N>, Option<&N>)>
@@ -145,7 +146,8 @@ fn without_patterns<R, N>(
     }
 }
 
-// The same as `are_properties_valid`, and whether there is a member at the name, if one is required.
+/// The verdict of `are_properties_valid`, and whether there is a member at the name, if one is
+/// required.
 #[inline(always)]
 fn mapped_accept<N: IsValid>(
     properties: &PropertiesMap<N>,
@@ -164,8 +166,8 @@ fn mapped_accept<N: IsValid>(
     }
 }
 
-// The same of one kind of map. Where nothing else is expected, and there are more members than declared names, one of them
-// is not declared.
+/// The verdict of `mapped_accept`, over one kind of map. Where nothing else is expected, and there
+/// are more members than declared names, one of them is not declared.
 fn declared_accept<M: PropertiesValidatorsMap<N>, N: IsValid>(
     properties: &M,
     members: &Map<String, Value>,
@@ -188,7 +190,7 @@ fn declared_accept<M: PropertiesValidatorsMap<N>, N: IsValid>(
     }
 }
 
-// The same where something else is expected.
+/// The verdict of `declared_accept` where something else is expected.
 #[inline(never)]
 fn declared_or_rest_accept<M: PropertiesValidatorsMap<N>, N: IsValid>(
     properties: &M,
@@ -208,7 +210,7 @@ fn declared_or_rest_accept<M: PropertiesValidatorsMap<N>, N: IsValid>(
     Accepted::one_if(are_properties_valid(properties, members, rest, ctx))
 }
 
-// Whether each member is declared, and accepted by what is declared at its name.
+/// Whether each member is declared, and accepted by what is declared at its name.
 #[inline(never)]
 fn each_declared<M: PropertiesValidatorsMap<N>, N: IsValid>(
     properties: &M,
@@ -222,7 +224,8 @@ fn each_declared<M: PropertiesValidatorsMap<N>, N: IsValid>(
     Accepted::one_if(each_declared_or_rest(properties, members, None, ctx))
 }
 
-// The same, and whether there is a member at the required name.
+/// Whether each member is declared, and accepted by what is declared at its name, and there is a
+/// member at the required name.
 #[inline(never)]
 fn all_declared<M: PropertiesValidatorsMap<N>, N: IsValid>(
     properties: &M,
@@ -238,11 +241,11 @@ fn all_declared<M: PropertiesValidatorsMap<N>, N: IsValid>(
     Accepted::one_if(each_declared_with(properties, members, required, ctx))
 }
 
-/// Whether each member is accepted by what is declared at its name, and any other by `additional`; without that no other
-/// member is accepted (JSON Schema 2020-12 Core, 10.3.2.3).
+/// Whether each member is accepted by what is declared at its name, and any other by `additional`;
+/// without that no other member is accepted (JSON Schema 2020-12 Core, 10.3.2.3).
 ///
-/// Takes no memory. The context keeps its answer; of the counts only those of matchers that were asked and of matches
-/// that were left unfinished rise.
+/// Takes no memory. The context keeps its answer; of the counts only those of matchers that were
+/// asked and of matches that were left unfinished rise.
 pub fn are_properties_valid<M: PropertiesValidatorsMap<N>, N: IsValid>(
     properties: &M,
     members: &Map<String, Value>,
@@ -256,7 +259,8 @@ pub fn are_properties_valid<M: PropertiesValidatorsMap<N>, N: IsValid>(
     each_declared_or_rest(properties, members, additional, ctx)
 }
 
-// The same; inlined, so that a walk for which nothing else is expected doesn't look for it.
+/// The verdict of `are_properties_valid`; inlined, so that a walk for which nothing else is
+/// expected doesn't look for it.
 #[inline(always)]
 fn each_declared_or_rest<'a, M: PropertiesValidatorsMap<N>, N: IsValid>(
     properties: &'a M,
@@ -279,7 +283,7 @@ fn each_declared_or_rest<'a, M: PropertiesValidatorsMap<N>, N: IsValid>(
     true
 }
 
-// Whether a member is accepted by what is declared at its name, or else by the rest.
+/// Whether a member is accepted by what is declared at its name, or else by the rest.
 #[inline(always)]
 fn is_accepted<N: IsValid>(
     declared: Option<&N>,
@@ -296,8 +300,9 @@ fn is_accepted<N: IsValid>(
     }
 }
 
-// Whether each member is declared, and accepted by what is declared at its name, and there is a member at the required
-// name. Arrays and objects are asked last, as many as can be held back, and only where that name was met.
+/// Whether each member is declared, and accepted by what is declared at its name, and there is a
+/// member at the required name. Arrays and objects are asked last, as many as can be held back, and
+/// only where that name was met.
 #[inline(always)]
 fn each_declared_with<M: PropertiesValidatorsMap<N>, N: IsValid>(
     properties: &M,
@@ -334,7 +339,7 @@ fn is_container(value: &Value) -> bool {
     matches!(value, Value::Array(_) | Value::Object(_))
 }
 
-// Whether what was held back is accepted.
+/// Whether what was held back is accepted.
 fn held_accept<N: IsValid>(held: &[Option<(&N, &Value)>], ctx: &mut ValidationContext) -> bool
     ensures { Asks ctx.old ctx.new (every (held_means N.means) held.now) result }
 {
@@ -356,7 +361,7 @@ fn one_held_accepts<N: IsValid>(held: &Option<(&N, &Value)>, ctx: &mut Validatio
     }
 }
 
-// Whether each member is accepted by what speaks of it, one after the other.
+/// Whether each member is accepted by what speaks of it, one after the other.
 fn each_accepted<R: RegexEngine, N: IsValid>(
     keyword: &AdditionalProperties<R, N>,
     members: &Map<String, Value>,
@@ -377,7 +382,8 @@ fn each_accepted<R: RegexEngine, N: IsValid>(
     true
 }
 
-// Whether a member is accepted by what is declared at its name, by the patterns that match it, and else by the rest.
+/// Whether a member is accepted by what is declared at its name, by the patterns that match it, and
+/// else by the rest.
 #[inline(always)]
 fn member_accepted<R: RegexEngine, N: IsValid>(
     keyword: &AdditionalProperties<R, N>,
@@ -414,7 +420,8 @@ fn declared_accepts<N: IsValid>(
     }
 }
 
-// Whether the patterns that match a member accept it, and, where neither they nor a declared name speak of it, the rest.
+/// Whether the patterns that match a member accept it, and, where neither they nor a declared name
+/// speak of it, the rest.
 #[inline(always)]
 fn patterns_accept<R: RegexEngine, N: IsValid>(
     keyword: &AdditionalProperties<R, N>,
@@ -442,7 +449,8 @@ fn patterns_accept<R: RegexEngine, N: IsValid>(
     spoken || rest_accepts(&keyword.rest, value, ctx)
 }
 
-// The same of a declared name: most are matched by no pattern, which the table tells at once.
+/// The verdict of `patterns_accept` for a declared name: most are matched by no pattern, which the
+/// table tells at once.
 #[inline(always)]
 fn patterns_of_declared_accept<R: RegexEngine, N: IsValid>(
     keyword: &AdditionalProperties<R, N>,
@@ -478,7 +486,7 @@ fn patterns_accept_apart<R: RegexEngine, N: IsValid>(
     patterns_accept(keyword, declared, name, value, ctx)
 }
 
-// Whether a member is accepted that nothing else speaks of.
+/// Whether a member is accepted that nothing else speaks of.
 fn rest_accepts<N: IsValid>(rest: &Option<N>, value: &Value, ctx: &mut ValidationContext) -> bool
     ensures { Asks ctx.old ctx.new
         (rest_means N.means (view value.now) rest.now) result }

@@ -1,4 +1,4 @@
-//! `allOf`.
+//! `allOf`: its verdict.
 use crate::IsValid;
 use crate::walk::all_accept;
 use olk_base::{Node, ValidationContext};

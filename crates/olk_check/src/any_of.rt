@@ -1,4 +1,4 @@
-//! `anyOf`.
+//! `anyOf`: its verdict.
 use crate::IsValid;
 use crate::walk::any_accepts;
 use olk_base::{Node, ValidationContext};

@@ -1,4 +1,4 @@
-//! `dependentRequired`, `dependentSchemas` and `dependencies`.
+//! `dependentRequired`, `dependentSchemas` and `dependencies`: their verdicts.
 ghost use Rattle.std.specs.Prelude.{◌≡◌};
 ghost use Rattle.olk_base.specs.Nodes.{data_of};
 ghost use Rattle.olk_tree.specs.Questions.{every};
@@ -23,7 +23,7 @@ impl<N: IsValid> IsValid for Dependencies<N> {
     }
 }
 
-// Whether the node of each key that is a member accepts the object.
+/// Whether the node of each key that is a member accepts the object.
 fn due_accept<N: IsValid>(
     dependencies: &SmallMap<N>,
     members: &Map<String, Value>,

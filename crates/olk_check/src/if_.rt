@@ -1,4 +1,4 @@
-//! `if`, `then` and `else`.
+//! `if`, `then` and `else`: their verdicts.
 use crate::IsValid;
 use olk_base::{Node, ValidationContext};
 use olk_tree::if_::{IfElse, IfThen, IfThenElse};

@@ -11,7 +11,8 @@ pub trait IsValid: Means {
     ghost use Rattle.olk_base.specs.Nodes.{data_of};
     ghost use Rattle.olk_check.specs.Asks.{Asks};
 
-    /// Whether the node is accepted, with the context's answer for matches that are left unfinished.
+    /// Whether the node is accepted, with the context's answer for matches that are left
+    /// unfinished.
     ///
     /// Takes no memory. The context keeps its answer; of the counts only those of matchers that
     /// were asked and of matches that were left unfinished rise.

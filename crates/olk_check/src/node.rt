@@ -1,4 +1,4 @@
-//! Keywords and bodies.
+//! Keywords and bodies: their verdicts.
 ghost use Rattle.olk_base.specs.Kit.{kit};
 ghost use Rattle.olk_base.specs.Nodes.{data_of};
 ghost use Rattle.std.specs.Prelude.{◌≡◌, ◌<◌, [], ◌∷◌, drop, length, IfSome};
@@ -31,7 +31,7 @@ impl<K: Leaf, R: RegexEngine, N: IsValid> IsValid for KeywordOver<K, R, N> {
     }
 }
 
-// Whether the keyword accepts the value; apart, so that a walk over leaves stays small.
+/// Whether the keyword accepts the value; apart, so that a walk over leaves stays small.
 #[inline(never)]
 #[tactic(auto, unfolding(olk_tree::specs::Answers::validator_means))]
 fn keyword_accepts<K: Leaf, R: RegexEngine, N: IsValid>(
@@ -68,9 +68,11 @@ fn keyword_accepts<K: Leaf, R: RegexEngine, N: IsValid>(
     }
 }
 
-/// What each of the keywords asks, whether the required names are there, or the verdict of a boolean schema.
+/// What each of the keywords asks, whether the required names are there, or the verdict of a
+/// boolean schema.
 impl<K: Leaf, R: RegexEngine, N: IsValid> IsValid for Body<KeywordOver<K, R, N>> {
-    // Inlined with all of its walk over keywords: a leaf is asked within the walk that asks its node.
+    /// Inlined with all of its walk over keywords: a leaf is asked within the walk that asks its
+    /// node.
     #[inline(always)]
     fn is_valid(&self, node: Node<'_>, ctx: &mut ValidationContext) -> bool {
         if let Body::Keywords(keywords) = self {
@@ -80,7 +82,7 @@ impl<K: Leaf, R: RegexEngine, N: IsValid> IsValid for Body<KeywordOver<K, R, N>>
     }
 }
 
-// Whether the body accepts the value; apart, so that a walk over keywords stays small.
+/// Whether the body accepts the value; apart, so that a walk over keywords stays small.
 #[inline(never)]
 fn body_accepts<K: Leaf, R: RegexEngine, N: IsValid>(
     body: &Body<KeywordOver<K, R, N>>,
@@ -99,7 +101,7 @@ fn body_accepts<K: Leaf, R: RegexEngine, N: IsValid>(
     }
 }
 
-// Whether each keyword accepts the value; the first that refuses it is the last that is asked.
+/// Whether each keyword accepts the value; the first that refuses it is the last that is asked.
 #[inline(always)]
 #[tactic(auto, using(crate::proofs::Walks::list_walks))]
 fn keywords_accept<K: Leaf, R: RegexEngine, N: IsValid>(
@@ -123,7 +125,7 @@ fn keywords_accept<K: Leaf, R: RegexEngine, N: IsValid>(
     true
 }
 
-// What stands behind the first.
+/// What stands behind the first.
 #[inline(always)]
 fn behind_first<T>(items: &[T]) -> &[T]
     requires { 0 < length items.now }
@@ -132,7 +134,7 @@ fn behind_first<T>(items: &[T]) -> &[T]
     &items[1..]
 }
 
-// Whether the first keyword accepts the value, and perhaps the second too.
+/// Whether the first keyword accepts the value, and perhaps the second too.
 #[inline(always)]
 #[tactic(auto, unfolding(olk_tree::specs::Answers::validator_means))]
 fn first_accept<K: Leaf, R: RegexEngine, N: IsValid>(
@@ -151,8 +153,8 @@ fn first_accept<K: Leaf, R: RegexEngine, N: IsValid>(
     first_accept_apart(keywords, node, ctx)
 }
 
-// The same; apart, so that a walk over leaves stays small. `properties` and a `required` of one name behind it are asked in
-// one walk over the members.
+/// The verdict of `first_accept`, apart, so that a walk over leaves stays small. `properties` and a
+/// `required` of one name behind it are asked in one walk over the members.
 #[inline(never)]
 fn first_accept_apart<K: Leaf, R: RegexEngine, N: IsValid>(
     keywords: &[KeywordOver<K, R, N>],
@@ -186,7 +188,7 @@ fn first_accept_apart<K: Leaf, R: RegexEngine, N: IsValid>(
     }
 }
 
-// The name that the keyword asks for, if it is `required`, and asks for no other.
+/// The name that the keyword asks for, if it is `required`, and asks for no other.
 #[inline(always)]
 fn only_required_name<K: Leaf, R: RegexEngine, N: IsValid>(
     keyword: &KeywordOver<K, R, N>,

@@ -1,4 +1,4 @@
-//! `not`.
+//! `not`: its verdict.
 use crate::IsValid;
 use olk_base::{Node, ValidationContext};
 use olk_tree::not::Not;

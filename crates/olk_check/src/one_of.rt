@@ -1,4 +1,4 @@
-//! `oneOf`.
+//! `oneOf`: its verdict.
 ghost use Rattle.olk_base.specs.Nodes.{data_of};
 ghost use Rattle.olk_tree.specs.Questions.{how_many, exactly_one};
 ghost use Rattle.olk_check.specs.Asks.{Asks};
@@ -10,16 +10,19 @@ use olk_tree::one_of::{OneOf, SingleOneOf};
 
 /// How many of some subschemas accept a value.
 pub enum Accepting {
+    /// None.
     Zero,
+    /// One.
     One,
+    /// Two or more.
     Several,
 }
 
-/// How many of the subschemas accept the node (JSON Schema 2020-12 Core, 10.2.1.3); the second that accepts is the last
-/// that is asked.
+/// How many of the subschemas accept the node (JSON Schema 2020-12 Core, 10.2.1.3); the second that
+/// accepts is the last that is asked.
 ///
-/// Takes no memory. The context keeps its answer; of the counts only those of matchers that were asked and of matches
-/// that were left unfinished rise.
+/// Takes no memory. The context keeps its answer; of the counts only those of matchers that were
+/// asked and of matches that were left unfinished rise.
 pub fn how_many_accept<N: IsValid>(
     schemas: &Vec<N>,
     node: Node<'_>,

@@ -1,4 +1,4 @@
-//! `patternProperties`.
+//! `patternProperties`: its verdict.
 ghost use Rattle.std.specs.Prelude.{◌≡◌, true, bytes_eq, nat_eq};
 ghost use Rattle.std.specs.List.{ends_with};
 ghost use Rattle.serde_json.specs.View.{view};
@@ -35,11 +35,12 @@ impl<R: RegexEngine, N: IsValid> IsValid for SingleValuePatternProperties<R, N> 
     }
 }
 
-/// Whether the pattern matches the name, with the context's answer for a match that is left unfinished (JSON Schema 2020-12
-/// Core, 10.3.2.2).
+/// Whether the pattern matches the name, with the context's answer for a match that is left
+/// unfinished (JSON Schema 2020-12 Core, 10.3.2.2).
 ///
-/// Takes no memory. The context keeps its answer; of the counts only those of matchers that were asked and of matches
-/// that were left unfinished rise, and none where the pattern stands for a test.
+/// Takes no memory. The context keeps its answer; of the counts only those of matchers that were
+/// asked and of matches that were left unfinished rise, and none where the pattern stands for a
+/// test.
 #[inline(always)]
 pub fn matches<R: RegexEngine>(
     pattern: &CompiledPattern<R>,
@@ -56,7 +57,7 @@ pub fn matches<R: RegexEngine>(
     }
 }
 
-// Whether the text ends the name.
+/// Whether the text ends the name.
 #[inline(never)]
 fn is_end_of(suffix: &str, name: &str) -> bool
     ensures { result ≡ ends_with nat_eq name.now suffix.now }
@@ -64,7 +65,7 @@ fn is_end_of(suffix: &str, name: &str) -> bool
     name.as_bytes().ends_with(suffix.as_bytes())
 }
 
-// Most texts differ in their lengths, and only others are compared by a call.
+/// Most texts differ in their lengths, and only others are compared by a call.
 #[inline(always)]
 fn is_exactly(exact: &str, name: &str) -> bool
     ensures { result ≡ bytes_eq exact.now name.now }
@@ -79,7 +80,7 @@ fn bytes_are_equal(exact: &str, name: &str) -> bool
     exact == name
 }
 
-// Whether each node accepts the members whose names its pattern matches.
+/// Whether each node accepts the members whose names its pattern matches.
 fn patterns_accept<R: RegexEngine, N: IsValid>(
     patterns: &Vec<(CompiledPattern<R>, N)>,
     members: &Map<String, Value>,
@@ -96,7 +97,7 @@ fn patterns_accept<R: RegexEngine, N: IsValid>(
     true
 }
 
-// Whether the node accepts each member whose name the pattern matches. An exact text is looked up.
+/// Whether the node accepts each member whose name the pattern matches. An exact text is looked up.
 fn matched_accepted<R: RegexEngine, N: IsValid>(
     pattern: &CompiledPattern<R>,
     subschema: &N,
@@ -115,7 +116,7 @@ fn matched_accepted<R: RegexEngine, N: IsValid>(
     }
 }
 
-// Whether the node accepts the member at the name, if there is one.
+/// Whether the node accepts the member at the name, if there is one.
 fn named_accepted<N: IsValid>(
     name: &str,
     subschema: &N,
@@ -131,7 +132,7 @@ fn named_accepted<N: IsValid>(
     }
 }
 
-// The same as `matched_accepted`, member by member.
+/// The verdict of `matched_accepted`, found member by member.
 fn each_accepted<R: RegexEngine, N: IsValid>(
     pattern: &CompiledPattern<R>,
     subschema: &N,
@@ -149,7 +150,7 @@ fn each_accepted<R: RegexEngine, N: IsValid>(
     true
 }
 
-// Whether the node accepts the value, if the pattern matches its name.
+/// Whether the node accepts the value, if the pattern matches its name.
 #[tactic(auto, using(crate::proofs::Walks::conditional_answers))]
 fn accepted_if_matched<R: RegexEngine, N: IsValid>(
     pattern: &CompiledPattern<R>,

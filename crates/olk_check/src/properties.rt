@@ -1,4 +1,4 @@
-//! `properties`.
+//! `properties`: its verdict.
 ghost use Rattle.std.specs.Prelude.{[], ◌∷◌, option_copied, option_to_list};
 ghost use Rattle.serde_json.specs.View.{view, members_view};
 ghost use Rattle.olk_base.specs.Nodes.{data_of};
@@ -32,7 +32,7 @@ impl<N: IsValid> IsValid for SmallPropertiesWithRequired2<N> {
     }
 }
 
-// Whether each member whose name is declared is accepted, where the value is an object.
+/// Whether each member whose name is declared is accepted, where the value is an object.
 #[inline(always)]
 pub(crate) fn properties_accept<N: IsValid>(
     keyword: &Properties<N>,
@@ -51,7 +51,8 @@ pub(crate) fn properties_accept<N: IsValid>(
     }
 }
 
-// The same, and whether there is a member at the name.
+/// Whether each member whose name is declared is accepted, and whether there is a member at the
+/// name, where the value is an object.
 #[inline(always)]
 pub(crate) fn properties_with_required_accept<N: IsValid>(
     keyword: &Properties<N>,
@@ -72,7 +73,8 @@ pub(crate) fn properties_with_required_accept<N: IsValid>(
     }
 }
 
-// The same, and whether there is a member at both names that it holds.
+/// Whether each member whose name is declared is accepted, and there is a member at both names that
+/// the keyword holds, where the value is an object.
 #[inline(always)]
 pub(crate) fn properties_with_required2_accept<N: IsValid>(
     keyword: &SmallPropertiesWithRequired2<N>,
@@ -90,8 +92,8 @@ pub(crate) fn properties_with_required2_accept<N: IsValid>(
     }
 }
 
-// Whether each member of an object is accepted whose name is declared in one kind of map; apart, so that the function that
-// asks a keyword stays small.
+/// Whether each member of an object is accepted whose name is declared in one kind of map; apart,
+/// so that the function that asks a keyword stays small.
 #[inline(never)]
 fn members_accepted<M: PropertiesValidatorsMap<N>, N: IsValid>(
     properties: &M,
@@ -105,7 +107,8 @@ fn members_accepted<M: PropertiesValidatorsMap<N>, N: IsValid>(
     Accepted::one_if(all_accepted(properties, members, ctx))
 }
 
-// The same, and whether there is a member at the name.
+/// Whether each member of an object is accepted whose name is declared, and whether there is a
+/// member at the name.
 #[inline(never)]
 fn members_accepted_with<M: PropertiesValidatorsMap<N>, N: IsValid>(
     properties: &M,
@@ -121,7 +124,8 @@ fn members_accepted_with<M: PropertiesValidatorsMap<N>, N: IsValid>(
     Accepted::two_if(all_accepted_with(properties, members, name, ctx))
 }
 
-// The same, and whether there is a member at both names that the keyword holds.
+/// Whether each member of an object is accepted whose name is declared, and there is a member at
+/// both names that the keyword holds.
 #[inline(never)]
 fn members_accepted_with_both<N: IsValid>(
     keyword: &SmallPropertiesWithRequired2<N>,
@@ -138,8 +142,8 @@ fn members_accepted_with_both<N: IsValid>(
     Accepted::one_if(all_accepted_with_both(&keyword.properties, members, first, second, ctx))
 }
 
-// Whether each member whose name is declared is accepted. A declared name that is looked up takes as long as two members
-// that are walked.
+/// Whether each member whose name is declared is accepted. A declared name that is looked up takes
+/// as long as two members that are walked.
 #[inline(always)]
 fn all_accepted<M: PropertiesValidatorsMap<N>, N: IsValid>(
     properties: &M,
@@ -157,7 +161,8 @@ fn all_accepted<M: PropertiesValidatorsMap<N>, N: IsValid>(
     }
 }
 
-// Whether each member is accepted by what is declared at its name, if anything is, member by member.
+/// Whether each member is accepted by what is declared at its name, if anything is, member by
+/// member.
 fn each_member_accepted<M: PropertiesValidatorsMap<N>, N: IsValid>(
     properties: &M,
     members: &Map<String, Value>,
@@ -178,7 +183,8 @@ fn each_member_accepted<M: PropertiesValidatorsMap<N>, N: IsValid>(
     true
 }
 
-// The same as `all_accepted`, and whether there is a member at the name, for which few members are walked once.
+/// The verdict of `all_accepted`, and whether there is a member at the name, for which few members
+/// are walked once.
 #[inline(always)]
 fn all_accepted_with<M: PropertiesValidatorsMap<N>, N: IsValid>(
     properties: &M,
@@ -198,7 +204,7 @@ fn all_accepted_with<M: PropertiesValidatorsMap<N>, N: IsValid>(
     }
 }
 
-// The same as `each_member_accepted`, and whether there is a member at the name.
+/// The verdict of `each_member_accepted`, and whether there is a member at the name.
 fn each_member_accepted_with<M: PropertiesValidatorsMap<N>, N: IsValid>(
     properties: &M,
     members: &Map<String, Value>,
@@ -226,7 +232,8 @@ fn each_member_accepted_with<M: PropertiesValidatorsMap<N>, N: IsValid>(
     met
 }
 
-// The same as `all_accepted`, and whether there is a member at both names, for which few members are walked once.
+/// The verdict of `all_accepted`, and whether there is a member at both names, for which few
+/// members are walked once.
 #[inline(always)]
 fn all_accepted_with_both<M: PropertiesValidatorsMap<N>, N: IsValid>(
     properties: &M,
@@ -248,7 +255,7 @@ fn all_accepted_with_both<M: PropertiesValidatorsMap<N>, N: IsValid>(
     }
 }
 
-// The same as `each_member_accepted`, and whether there is a member at both names.
+/// The verdict of `each_member_accepted`, and whether there is a member at both names.
 fn each_member_accepted_with_both<M: PropertiesValidatorsMap<N>, N: IsValid>(
     properties: &M,
     members: &Map<String, Value>,
@@ -293,7 +300,7 @@ fn accepted_if_declared<N: IsValid>(
     }
 }
 
-// Whether each member whose name is declared is accepted, declared name by declared name.
+/// Whether each member whose name is declared is accepted, declared name by declared name.
 fn each_name_accepted<M: PropertiesValidatorsMap<N>, N: IsValid>(
     properties: &M,
     members: &Map<String, Value>,

@@ -1,4 +1,4 @@
-//! `propertyDependencies`.
+//! `propertyDependencies`: its verdict.
 ghost use Rattle.std.specs.Prelude.{◌≡◌};
 ghost use Rattle.serde_json.specs.View.{view};
 ghost use Rattle.olk_base.specs.Nodes.{data_of};
@@ -24,7 +24,7 @@ impl<N: IsValid> IsValid for PropertyDependencies<N> {
     }
 }
 
-// Whether each node at the text of a member accepts the object.
+/// Whether each node at the text of a member accepts the object.
 fn chosen_accept<N: IsValid>(
     dependencies: &SmallMap<SmallMap<N>>,
     members: &Map<String, Value>,
@@ -43,7 +43,7 @@ fn chosen_accept<N: IsValid>(
     true
 }
 
-// Whether the node at the text that the value is accepts the object, if there is one.
+/// Whether the node at the text that the value is accepts the object, if there is one.
 fn choice_accepts<N: IsValid>(
     choices: &SmallMap<N>,
     value: &Value,

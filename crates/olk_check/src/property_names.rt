@@ -1,4 +1,4 @@
-//! `propertyNames`.
+//! `propertyNames`: its verdict.
 ghost use Rattle.olk_tree.specs.Answers.{names_mean};
 ghost use Rattle.olk_tree.specs.Visited.{object_of};
 ghost use Rattle.olk_check.specs.Asks.{Asks};
@@ -29,7 +29,7 @@ impl IsValid for PropertyNamesFalse {
     }
 }
 
-// Whether each member's name is accepted.
+/// Whether each member's name is accepted.
 fn names_accepted<N: IsValid>(
     subschema: &N,
     members: &Map<String, Value>,

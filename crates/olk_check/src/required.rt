@@ -1,4 +1,4 @@
-//! `required`.
+//! `required`: its verdict.
 ghost use Rattle.std.specs.Prelude.{◌≡◌, ◌&&◌, ◌||◌, [], ◌∷◌, bytes_eq};
 ghost use Rattle.serde_json.specs.Data.{object};
 ghost use Rattle.serde_json.specs.View.{members_view};
@@ -16,7 +16,8 @@ use serde_json::{Map, Value};
 // So few members are walked: a look-up takes longer.
 const FEW_MEMBERS: usize = 16;
 
-/// Each listed name is to be a member, where the value is an object (JSON Schema 2020-12 Validation, 6.5.3).
+/// Each listed name is to be a member, where the value is an object (JSON Schema 2020-12
+/// Validation, 6.5.3).
 impl IsValid for RequiredValidator {
     #[inline(never)]
     fn is_valid(&self, node: Node<'_>, _ctx: &mut ValidationContext) -> bool {
@@ -27,7 +28,7 @@ impl IsValid for RequiredValidator {
     }
 }
 
-// Whether there is a member at each name.
+/// Whether there is a member at each name.
 #[tactic(auto, using(crate::proofs::Missing::lacking))]
 fn has_each(members: &Map<String, Value>, names: &Vec<String>) -> bool
     ensures { result ≡ is_empty
@@ -41,7 +42,7 @@ fn has_each(members: &Map<String, Value>, names: &Vec<String>) -> bool
     true
 }
 
-// Whether there is a member at both names.
+/// Whether there is a member at both names.
 pub(crate) fn has_both(members: &Map<String, Value>, first: &str, second: &str) -> bool
     ensures { result ≡ is_empty
         (missing (first.now ∷ second.now ∷ []) (object (members_view members.now.entries))) }
@@ -53,7 +54,7 @@ pub(crate) fn has_both(members: &Map<String, Value>, first: &str, second: &str) 
     }
 }
 
-// Whether there is a member at the name.
+/// Whether there is a member at the name.
 #[inline(always)]
 pub(crate) fn is_present(members: &Map<String, Value>, name: &str) -> bool
     ensures { result ≡ has name.now (object (members_view members.now.entries)) }
@@ -69,7 +70,7 @@ pub(crate) fn is_present(members: &Map<String, Value>, name: &str) -> bool
     false
 }
 
-// The same at both names, in one walk.
+/// Whether there is a member at both names, found in one walk.
 fn has_both_of_few(members: &Map<String, Value>, first: &str, second: &str) -> bool
     ensures { result ≡ (has first.now (object (members_view members.now.entries))
         && has second.now (object (members_view members.now.entries))) }
@@ -86,7 +87,7 @@ fn has_both_of_few(members: &Map<String, Value>, first: &str, second: &str) -> b
     false
 }
 
-// Whether the name was met before, or is this key.
+/// Whether the name was met before, or is this key.
 #[inline(always)]
 pub(crate) fn is_met(met: bool, key: &str, name: &str) -> bool
     ensures { result ≡ (bytes_eq key.now name.now || met) }

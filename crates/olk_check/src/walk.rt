@@ -1,3 +1,4 @@
+//! Walks over nodes: whether each accepts a value, or one does.
 ghost use Rattle.olk_base.specs.Nodes.{data_of};
 ghost use Rattle.olk_tree.specs.Questions.{every, some};
 ghost use Rattle.olk_check.specs.Asks.{Asks};
@@ -5,7 +6,7 @@ ghost use Rattle.olk_check.specs.Asks.{Asks};
 use crate::IsValid;
 use olk_base::{Node, ValidationContext};
 
-// Whether each of them accepts; the first that refuses is the last that is asked.
+/// Whether each of them accepts; the first that refuses is the last that is asked.
 #[tactic(auto, using(crate::proofs::Walks::list_walks))]
 pub(crate) fn all_accept<N: IsValid>(
     nodes: &Vec<N>,
@@ -23,7 +24,7 @@ pub(crate) fn all_accept<N: IsValid>(
     true
 }
 
-// Whether one of them accepts; the first that accepts is the last that is asked.
+/// Whether one of them accepts; the first that accepts is the last that is asked.
 #[tactic(auto, using(crate::proofs::Walks::list_walks))]
 pub(crate) fn any_accepts<N: IsValid>(
     nodes: &Vec<N>,
