@@ -1,4 +1,4 @@
-//! `additionalProperties`, and what it takes over.
+//! `additionalProperties`, and what it takes over: the errors.
 ghost use Rattle.std.specs.Prelude.{◌≡◌, ◌∷◌, ◌++◌, [], map, is_none, option_map, option_to_list, IfOk, OnOk, OnErr, IfErr};
 ghost use Rattle.std.specs.List.{flat_map};
 ghost use Rattle.serde_json.specs.View.{view, members_view};
@@ -30,9 +30,10 @@ use olk_tree::additional_properties::{AdditionalProperties, RequiredName};
 use serde_json::{Map, Value};
 use std::alloc::{AllocError, Global};
 
-/// Both go member by member: what is declared at its name, the patterns that match it in their order, and where there is
-/// neither the rest. Without a subschema for the rest `validate` stops at the first member that is left to it;
-/// `collect_errors` tells all of these after the members, in one error. A name that is wanted comes last.
+/// Both go member by member: what is declared at its name, the patterns that match it in their
+/// order, and where there is neither the rest. Without a subschema for the rest `validate` stops at
+/// the first member that is left to it; `collect_errors` tells all of these after the members, in
+/// one error. A name that is wanted comes last.
 impl<'a, R: RegexEngine, N: Errors<'a>> Errors<'a> for AdditionalProperties<R, N> {
     fn validate(
         &'a self,
@@ -70,7 +71,7 @@ impl<'a, R: RegexEngine, N: Errors<'a>> Errors<'a> for AdditionalProperties<R, N
     }
 }
 
-// The first error of the members.
+/// The first error of the members.
 fn validate_members<'a, R: RegexEngine, N: Errors<'a>>(
     alloc: Global,
     keyword: &'a AdditionalProperties<R, N>,
@@ -100,7 +101,7 @@ fn validate_members<'a, R: RegexEngine, N: Errors<'a>>(
     Ok(())
 }
 
-// The first error of a member, or that it is not expected.
+/// The first error of a member, or that it is not expected.
 fn validate_member<'a, R: RegexEngine, N: Errors<'a>>(
     alloc: Global,
     keyword: &'a AdditionalProperties<R, N>,
@@ -128,7 +129,8 @@ fn validate_member<'a, R: RegexEngine, N: Errors<'a>>(
     Ok(())
 }
 
-// The first error of what is asked of a member; and whether that is nothing, so that it is not expected.
+/// The first error of what is asked of a member; and whether that is nothing, so that it is not
+/// expected.
 fn validate_asked<'a, R: RegexEngine, N: Errors<'a>>(
     alloc: Global,
     keyword: &'a AdditionalProperties<R, N>,
@@ -167,7 +169,7 @@ fn validate_asked<'a, R: RegexEngine, N: Errors<'a>>(
     validate_rest(alloc, &keyword.rest, name, value, path, ctx)
 }
 
-// The first error of what is declared at a member's name.
+/// The first error of what is declared at a member's name.
 #[inline(always)]
 fn validate_declared<'a, N: Errors<'a>>(
     alloc: Global,
@@ -193,7 +195,7 @@ fn validate_declared<'a, N: Errors<'a>>(
     }
 }
 
-// The first error of a member, if the pattern matches its name; and whether it does.
+/// The first error of a member, if the pattern matches its name; and whether it does.
 #[inline(always)]
 fn validate_if_matched<'a, R: RegexEngine, N: Errors<'a>>(
     alloc: Global,
@@ -226,7 +228,7 @@ fn validate_if_matched<'a, R: RegexEngine, N: Errors<'a>>(
     Ok(true)
 }
 
-// The first error of a member that nothing else speaks of; and whether it is not expected.
+/// The first error of a member that nothing else speaks of; and whether it is not expected.
 #[inline(always)]
 fn validate_rest<'a, N: Errors<'a>>(
     alloc: Global,
@@ -254,7 +256,7 @@ fn validate_rest<'a, N: Errors<'a>>(
     }
 }
 
-// Refuses with the one error of a member that is not expected.
+/// Refuses with the one error of a member that is not expected.
 fn refuse_unexpected<'a, R, N>(
     alloc: Global,
     keyword: &'a AdditionalProperties<R, N>,
@@ -278,14 +280,14 @@ fn refuse_unexpected<'a, R, N>(
     refuse(alloc, kind, object, path, location)
 }
 
-// Whether `properties` or `patternProperties` stands beside it.
+/// Whether `properties` or `patternProperties` stands beside it.
 fn is_beside_others<R, N>(keyword: &AdditionalProperties<R, N>) -> bool
     ensures { result ≡ has_neighbours keyword.now }
 {
     keyword.properties.is_some() || keyword.patterns.is_some()
 }
 
-// The error of the name that is wanted, if one is and it is absent.
+/// The error of the name that is wanted, if one is and it is absent.
 fn validate_required<'a>(
     alloc: Global,
     required: &'a Option<RequiredName>,
@@ -309,7 +311,7 @@ fn validate_required<'a>(
     }
 }
 
-// The errors of the members, and one of those that are not expected.
+/// The errors of the members, and one of those that are not expected.
 fn collect_members<'a, R: RegexEngine, N: Errors<'a>>(
     alloc: Global,
     keyword: &'a AdditionalProperties<R, N>,
@@ -334,7 +336,7 @@ fn collect_members<'a, R: RegexEngine, N: Errors<'a>>(
     roll_back_on_err(answer, errors, len)
 }
 
-// The errors of the members; and which of these are not expected.
+/// The errors of the members; and which of these are not expected.
 fn collect_each_member<'a, R: RegexEngine, N: Errors<'a>>(
     alloc: Global,
     keyword: &'a AdditionalProperties<R, N>,
@@ -377,7 +379,7 @@ fn collect_each_member<'a, R: RegexEngine, N: Errors<'a>>(
     Ok(unexpected)
 }
 
-// The errors of a member, which is put to the unexpected ones if it is not expected.
+/// The errors of a member, which is put to the unexpected ones if it is not expected.
 fn collect_member<'a, R: RegexEngine, N: Errors<'a>>(
     alloc: Global,
     keyword: &'a AdditionalProperties<R, N>,
@@ -410,7 +412,8 @@ fn collect_member<'a, R: RegexEngine, N: Errors<'a>>(
     roll_back_on_err(answer, errors, len)
 }
 
-// The errors of what is asked of a member; and whether that is nothing, so that it is not expected.
+/// The errors of what is asked of a member; and whether that is nothing, so that it is not
+/// expected.
 fn collect_asked<'a, R: RegexEngine, N: Errors<'a>>(
     alloc: Global,
     keyword: &'a AdditionalProperties<R, N>,
@@ -450,7 +453,7 @@ fn collect_asked<'a, R: RegexEngine, N: Errors<'a>>(
     roll_back_on_err(answer, errors, len)
 }
 
-// The errors of what is declared at a member's name.
+/// The errors of what is declared at a member's name.
 #[inline(always)]
 fn collect_declared<'a, N: Errors<'a>>(
     alloc: Global,
@@ -475,7 +478,7 @@ fn collect_declared<'a, N: Errors<'a>>(
     }
 }
 
-// The errors of a member, if the pattern matches its name; and whether it does.
+/// The errors of a member, if the pattern matches its name; and whether it does.
 #[inline(always)]
 fn collect_if_matched<'a, R: RegexEngine, N: Errors<'a>>(
     alloc: Global,
@@ -506,7 +509,7 @@ fn collect_if_matched<'a, R: RegexEngine, N: Errors<'a>>(
     Ok(true)
 }
 
-// The errors of a member that nothing else speaks of; and whether it is not expected.
+/// The errors of a member that nothing else speaks of; and whether it is not expected.
 #[inline(always)]
 fn collect_rest<'a, N: Errors<'a>>(
     alloc: Global,
@@ -534,7 +537,7 @@ fn collect_rest<'a, N: Errors<'a>>(
     }
 }
 
-// Appends one error of the members that are not expected, if there are some.
+/// Appends one error of the members that are not expected, if there are some.
 fn append_unexpected<'a, R, N>(
     alloc: Global,
     keyword: &'a AdditionalProperties<R, N>,
@@ -564,7 +567,7 @@ fn append_unexpected<'a, R, N>(
     }
 }
 
-// The names of members.
+/// The names of members.
 fn names_of<'a>(
     alloc: Global,
     members: &Vec<(&'a str, &'a Value)>,
@@ -579,7 +582,7 @@ fn names_of<'a>(
     Ok(names)
 }
 
-// One error of the name that is wanted, if one is and it is absent.
+/// One error of the name that is wanted, if one is and it is absent.
 fn collect_required<'a>(
     alloc: Global,
     required: &'a Option<RequiredName>,

@@ -1,4 +1,4 @@
-//! `allOf`.
+//! `allOf`: its errors.
 use crate::Errors;
 use crate::walk::{collect_all, validate_all};
 use olk_base::{Node, ValidationContext};

@@ -1,4 +1,4 @@
-//! `anyOf`.
+//! `anyOf`: its errors.
 use crate::Errors;
 use crate::append::{append_error, refuse};
 use crate::walk::{contexts, one_context};

@@ -1,4 +1,4 @@
-// One error more, and errors taken back.
+//! One error more, and errors taken back.
 ghost use Rattle.std.specs.Prelude.{◌≡◌, ◌∷◌, ◌++◌, [], IfOk, OnOk, OnErr, IfErr, take};
 ghost use Rattle.olk_base.specs.Nodes.{data_of};
 ghost use Rattle.olk_spec.specs.Faults.{fault};
@@ -10,7 +10,7 @@ use olk_paths::InstancePath;
 use olk_reports::{ValidateError, ValidationError, ValidationErrorKind};
 use std::alloc::{AllocError, Global};
 
-// Appends one error; without memory the list is as before.
+/// Appends one error; without memory the list is as before.
 pub(crate) fn append_error<'a>(
     alloc: Global,
     kind: ValidationErrorKind<'a>,
@@ -27,7 +27,7 @@ pub(crate) fn append_error<'a>(
     push(errors, ValidationError::new(kind, node, text, schema_path))
 }
 
-// One item more; without memory the list is as before.
+/// One item more; without memory the list is as before.
 #[inline]
 pub(crate) fn push<T: Drop>(items: &mut Vec<T>, item: T) -> Result<(), AllocError>
     ensures pushed { OnOk result (items.new.items ≡ items.old.items ++ item ∷ []) }
@@ -37,7 +37,7 @@ pub(crate) fn push<T: Drop>(items: &mut Vec<T>, item: T) -> Result<(), AllocErro
     Ok(())
 }
 
-// A list of the one item.
+/// A list of the one item.
 #[inline]
 pub(crate) fn vec_of_one<T: Drop>(alloc: Global, item: T) -> Result<Vec<T>, AllocError>
     ensures { IfOk result (λ items. items.items ≡ item ∷ []) }
@@ -47,7 +47,7 @@ pub(crate) fn vec_of_one<T: Drop>(alloc: Global, item: T) -> Result<Vec<T>, Allo
     Ok(items)
 }
 
-// Refuses with one error.
+/// Refuses with one error.
 pub(crate) fn refuse<'a>(
     alloc: Global,
     kind: ValidationErrorKind<'a>,
@@ -63,7 +63,7 @@ pub(crate) fn refuse<'a>(
     Err(ValidateError::Invalid(ValidationError::new(kind, node, text, schema_path)))
 }
 
-// After want of memory the list is cut back to its length before.
+/// After want of memory the list is cut back to its length before.
 pub(crate) fn roll_back_on_err<'a, T: Drop>(
     answer: Result<T, AllocError>,
     errors: &mut Vec<ValidationError<'a>>,

@@ -1,4 +1,4 @@
-//! `dependentRequired`, `dependentSchemas` and `dependencies`.
+//! `dependentRequired`, `dependentSchemas` and `dependencies`: their errors.
 ghost use Rattle.std.specs.Prelude.{◌≡◌, OnOk, OnErr, IfErr};
 ghost use Rattle.olk_base.specs.Nodes.{data_of};
 ghost use Rattle.olk_tree.specs.Answers.{named, due_nodes};
@@ -49,7 +49,7 @@ impl<'a, N: Errors<'a>> Errors<'a> for Dependencies<N> {
     }
 }
 
-// The first error that the node of a key that is a member tells of the object.
+/// The first error that the node of a key that is a member tells of the object.
 fn validate_due<'a, N: Errors<'a>>(
     alloc: Global,
     dependencies: &'a SmallMap<N>,
@@ -75,7 +75,7 @@ fn validate_due<'a, N: Errors<'a>>(
     Ok(())
 }
 
-// The errors that the nodes of the keys that are members find in the object.
+/// The errors that the nodes of the keys that are members find in the object.
 fn collect_due<'a, N: Errors<'a>>(
     alloc: Global,
     dependencies: &'a SmallMap<N>,

@@ -1,4 +1,4 @@
-//! `if`, `then` and `else`.
+//! `if`, `then` and `else`: their errors.
 use crate::Errors;
 use olk_base::{Node, ValidationContext};
 use olk_check::IsValid;

@@ -18,10 +18,12 @@ pub trait Errors<'a>: IsValid + Reports {
     ghost use Rattle.olk_errors.specs.Found.{Appends, IfInvalid, Passes, IsErrorOf};
     ghost use Rattle.olk_errors.specs.Outcomes.{of_node};
 
-    /// The first error of its walk over the node, which stands at the path; none where the node is accepted.
+    /// The first error of its walk over the node, which stands at the path; none where the node is
+    /// accepted.
     ///
-    /// An error about members that nothing allows names the first of them alone. The path and the context's answer are
-    /// as before; of the counts only those of matchers that were asked and of matches that were left unfinished rise.
+    /// An error about members that nothing allows names the first of them alone. The path and the
+    /// context's answer are as before; of the counts only those of matchers that were asked and of
+    /// matches that were left unfinished rise.
     ///
     /// # Errors
     ///
@@ -42,10 +44,11 @@ pub trait Errors<'a>: IsValid + Reports {
         ensures path { path.new ≡ path.old }
         ensures context { OnlyAsks ctx.old ctx.new };
 
-    /// Appends all errors that the node, which stands at the path, has; none exactly where it is accepted.
+    /// Appends all errors that the node, which stands at the path, has; none exactly where it is
+    /// accepted.
     ///
-    /// The path and the context's answer are as before; of the counts only those of matchers that were asked and of
-    /// matches that were left unfinished rise.
+    /// The path and the context's answer are as before; of the counts only those of matchers that
+    /// were asked and of matches that were left unfinished rise.
     ///
     /// # Errors
     ///

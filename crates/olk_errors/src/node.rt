@@ -1,4 +1,4 @@
-//! Keywords and bodies.
+//! Keywords and bodies: their errors.
 ghost use Rattle.std.specs.Prelude.{◌≡◌, OnOk, OnErr, IfErr, map};
 ghost use Rattle.olk_base.specs.Lawful.{texts_of};
 ghost use Rattle.olk_base.specs.Nodes.{data_of};
@@ -16,7 +16,7 @@ use olk_reports::{ValidateError, ValidationError, ValidationErrorKind};
 use olk_tree::node::{Body, KeywordOver};
 use std::alloc::{AllocError, Global};
 
-// One of the errors that a leaf finds.
+/// One of the errors that a leaf finds.
 fn validate_leaf<'a, K: Leaf>(
     alloc: Global,
     leaf: &'a K,
@@ -39,7 +39,7 @@ fn validate_leaf<'a, K: Leaf>(
     }
 }
 
-// All errors that a leaf finds.
+/// All errors that a leaf finds.
 fn collect_leaf<'a, K: Leaf>(
     alloc: Global,
     leaf: &'a K,
@@ -65,7 +65,7 @@ fn collect_leaf<'a, K: Leaf>(
     )
 }
 
-// Appends one error for each text of a leaf.
+/// Appends one error for each text of a leaf.
 fn append_texts<'a>(
     alloc: Global,
     keyword: &'a str,
@@ -192,8 +192,8 @@ impl<'a, K: Leaf, R: RegexEngine, N: Errors<'a>> Errors<'a> for KeywordOver<K, R
     }
 }
 
-/// The first error of a body at its place: of a false schema one, of a true one none, and otherwise that of its keywords,
-/// or of its names.
+/// The first error of a body at its place: of a false schema one, of a true one none, and otherwise
+/// that of its keywords, or of its names.
 ///
 /// # Errors
 ///
@@ -228,8 +228,8 @@ pub fn validate_body<'a, W: Errors<'a>>(
     }
 }
 
-/// Appends the errors of a body at its place: of a false schema one, of a true one none, and otherwise those of its keywords,
-/// or of its names.
+/// Appends the errors of a body at its place: of a false schema one, of a true one none, and
+/// otherwise those of its keywords, or of its names.
 ///
 /// # Errors
 ///

@@ -1,4 +1,4 @@
-//! `not`.
+//! `not`: its errors.
 use crate::Errors;
 use crate::append::{append_error, refuse};
 use olk_base::{Node, ValidationContext};

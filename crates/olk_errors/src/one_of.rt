@@ -1,4 +1,4 @@
-//! `oneOf`.
+//! `oneOf`: its errors.
 ghost use Rattle.std.specs.Prelude.{◌≡◌, map, IfOk};
 ghost use Rattle.olk_base.specs.Nodes.{data_of};
 ghost use Rattle.olk_tree.specs.Questions.{how_many};
@@ -44,7 +44,8 @@ impl<'a, N: Errors<'a>> Errors<'a> for OneOf<N> {
     }
 }
 
-// What is wrong where not exactly one of the branches accepts; they are all asked before anything is collected.
+/// What is wrong where not exactly one of the branches accepts; they are all asked before anything
+/// is collected.
 fn one_of_kind<'a, N: Errors<'a>>(
     alloc: Global,
     schemas: &'a Vec<N>,

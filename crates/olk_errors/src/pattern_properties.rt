@@ -1,4 +1,4 @@
-//! `patternProperties`.
+//! `patternProperties`: its errors.
 ghost use Rattle.std.specs.Prelude.{◌≡◌, OnOk, OnErr, IfErr};
 ghost use Rattle.serde_json.specs.View.{view};
 ghost use Rattle.olk_tree.specs.Visited.{object_of};
@@ -17,7 +17,8 @@ use olk_tree::pattern_properties::{PatternProperties, SingleValuePatternProperti
 use serde_json::{Map, Value};
 use std::alloc::{AllocError, Global};
 
-/// `validate` goes member by member, and pattern by pattern at each; `collect_errors` goes pattern by pattern.
+/// `validate` goes member by member, and pattern by pattern at each; `collect_errors` goes pattern
+/// by pattern.
 impl<'a, R: RegexEngine, N: Errors<'a>> Errors<'a> for PatternProperties<R, N> {
     fn validate(
         &'a self,
@@ -78,7 +79,7 @@ impl<'a, R: RegexEngine, N: Errors<'a>> Errors<'a> for SingleValuePatternPropert
     }
 }
 
-// The first error of the members whose names patterns match.
+/// The first error of the members whose names patterns match.
 fn validate_patterns<'a, R: RegexEngine, N: Errors<'a>>(
     alloc: Global,
     patterns: &'a Vec<(CompiledPattern<R>, N)>,
@@ -101,7 +102,7 @@ fn validate_patterns<'a, R: RegexEngine, N: Errors<'a>>(
     Ok(())
 }
 
-// The first error of a member, of the patterns that match its name.
+/// The first error of a member, of the patterns that match its name.
 fn validate_matching<'a, R: RegexEngine, N: Errors<'a>>(
     alloc: Global,
     patterns: &'a Vec<(CompiledPattern<R>, N)>,
@@ -125,7 +126,7 @@ fn validate_matching<'a, R: RegexEngine, N: Errors<'a>>(
     Ok(())
 }
 
-// The first error of the members whose names the pattern matches.
+/// The first error of the members whose names the pattern matches.
 fn validate_matched<'a, R: RegexEngine, N: Errors<'a>>(
     alloc: Global,
     pattern: &'a CompiledPattern<R>,
@@ -149,7 +150,7 @@ fn validate_matched<'a, R: RegexEngine, N: Errors<'a>>(
     Ok(())
 }
 
-// The first error of a member, if the pattern matches its name.
+/// The first error of a member, if the pattern matches its name.
 fn validate_if_matched<'a, R: RegexEngine, N: Errors<'a>>(
     alloc: Global,
     pattern: &'a CompiledPattern<R>,
@@ -174,7 +175,7 @@ fn validate_if_matched<'a, R: RegexEngine, N: Errors<'a>>(
     validate_below(alloc, subschema, name, value, path, ctx)
 }
 
-// The errors of the members whose names patterns match.
+/// The errors of the members whose names patterns match.
 fn collect_patterns<'a, R: RegexEngine, N: Errors<'a>>(
     alloc: Global,
     patterns: &'a Vec<(CompiledPattern<R>, N)>,
@@ -198,7 +199,7 @@ fn collect_patterns<'a, R: RegexEngine, N: Errors<'a>>(
     Ok(())
 }
 
-// The errors of the members whose names the pattern matches.
+/// The errors of the members whose names the pattern matches.
 fn collect_matched<'a, R: RegexEngine, N: Errors<'a>>(
     alloc: Global,
     pattern: &'a CompiledPattern<R>,
@@ -224,7 +225,7 @@ fn collect_matched<'a, R: RegexEngine, N: Errors<'a>>(
     Ok(())
 }
 
-// The errors of a member, if the pattern matches its name.
+/// The errors of a member, if the pattern matches its name.
 fn collect_if_matched<'a, R: RegexEngine, N: Errors<'a>>(
     alloc: Global,
     pattern: &'a CompiledPattern<R>,

@@ -1,4 +1,4 @@
-//! `properties`.
+//! `properties`: its errors.
 ghost use Rattle.std.specs.Prelude.{◌≡◌, OnOk, OnErr, IfErr};
 ghost use Rattle.serde_json.specs.View.{view};
 ghost use Rattle.olk_paths.specs.Paths.{one_below};
@@ -92,7 +92,7 @@ impl<'a, N: Errors<'a>> Errors<'a> for SmallPropertiesWithRequired2<N> {
     }
 }
 
-// The first error of the members whose names are declared.
+/// The first error of the members whose names are declared.
 fn validate_members<'a, M: PropertiesValidatorsMap<N>, N: Errors<'a> + 'a>(
     alloc: Global,
     properties: &'a M,
@@ -116,7 +116,8 @@ fn validate_members<'a, M: PropertiesValidatorsMap<N>, N: Errors<'a> + 'a>(
     Ok(())
 }
 
-// The first error of a value one segment below the path. An accepted value has none, and its path is not written.
+/// The first error of a value one segment below the path. An accepted value has none, and its path
+/// is not written.
 #[inline(always)]
 pub(crate) fn validate_below<'a, N: Errors<'a>>(
     alloc: Global,
@@ -144,7 +145,7 @@ pub(crate) fn validate_below<'a, N: Errors<'a>>(
     answer
 }
 
-// The errors of the members whose names are declared.
+/// The errors of the members whose names are declared.
 fn collect_members<'a, M: PropertiesValidatorsMap<N>, N: Errors<'a> + 'a>(
     alloc: Global,
     properties: &'a M,
@@ -169,7 +170,8 @@ fn collect_members<'a, M: PropertiesValidatorsMap<N>, N: Errors<'a> + 'a>(
     Ok(())
 }
 
-// The errors of a value one segment below the path. An accepted value has none, and its path is not written.
+/// The errors of a value one segment below the path. An accepted value has none, and its path is
+/// not written.
 #[inline(always)]
 pub(crate) fn collect_below<'a, N: Errors<'a>>(
     alloc: Global,

@@ -1,4 +1,4 @@
-//! `propertyDependencies`.
+//! `propertyDependencies`: its errors.
 ghost use Rattle.std.specs.Prelude.{◌≡◌, OnOk, OnErr, IfErr};
 ghost use Rattle.serde_json.specs.View.{view};
 ghost use Rattle.olk_base.specs.Nodes.{data_of};
@@ -50,7 +50,7 @@ impl<'a, N: Errors<'a>> Errors<'a> for PropertyDependencies<N> {
     }
 }
 
-// The first error that a node at the text of a member tells of the object.
+/// The first error that a node at the text of a member tells of the object.
 fn validate_chosen<'a, N: Errors<'a>>(
     alloc: Global,
     dependencies: &'a SmallMap<SmallMap<N>>,
@@ -76,7 +76,8 @@ fn validate_chosen<'a, N: Errors<'a>>(
     Ok(())
 }
 
-// The first error that the node at the text that the value is tells of the object, if there is one.
+/// The first error that the node at the text that the value is tells of the object, if there is
+/// one.
 fn validate_choice<'a, N: Errors<'a>>(
     alloc: Global,
     choices: &'a SmallMap<N>,
@@ -99,7 +100,7 @@ fn validate_choice<'a, N: Errors<'a>>(
     }
 }
 
-// The errors that the nodes at the texts of members find in the object.
+/// The errors that the nodes at the texts of members find in the object.
 fn collect_chosen<'a, N: Errors<'a>>(
     alloc: Global,
     dependencies: &'a SmallMap<SmallMap<N>>,
@@ -126,7 +127,7 @@ fn collect_chosen<'a, N: Errors<'a>>(
     Ok(())
 }
 
-// The errors that the node at the text that the value is finds in the object, if there is one.
+/// The errors that the node at the text that the value is finds in the object, if there is one.
 fn collect_choice<'a, N: Errors<'a>>(
     alloc: Global,
     choices: &'a SmallMap<N>,

@@ -1,4 +1,4 @@
-//! `propertyNames`.
+//! `propertyNames`: its errors.
 ghost use Rattle.std.specs.Prelude.{◌≡◌, ◌∷◌, [], map, IfOk, OnOk, OnErr, IfErr, string_bytes};
 ghost use Rattle.olk_base.specs.Nodes.{data_of};
 ghost use Rattle.olk_spec.specs.Reports.{wrapped};
@@ -78,7 +78,7 @@ impl<'a> Errors<'a> for PropertyNamesFalse {
     }
 }
 
-// The first error of the members' names.
+/// The first error of the members' names.
 fn validate_names<'a, N: Errors<'a>>(
     alloc: Global,
     subschema: &'a N,
@@ -102,7 +102,7 @@ fn validate_names<'a, N: Errors<'a>>(
     Ok(())
 }
 
-// The first error of a member's name, told of the object.
+/// The first error of a member's name, told of the object.
 fn validate_name<'a, N: Errors<'a>>(
     alloc: Global,
     subschema: &'a N,
@@ -126,7 +126,7 @@ fn validate_name<'a, N: Errors<'a>>(
     }
 }
 
-// The errors of the members' names.
+/// The errors of the members' names.
 fn collect_names<'a, N: Errors<'a>>(
     alloc: Global,
     subschema: &'a N,
@@ -152,7 +152,7 @@ fn collect_names<'a, N: Errors<'a>>(
     Ok(())
 }
 
-// The errors of a member's name, told of the object.
+/// The errors of a member's name, told of the object.
 fn collect_name<'a, N: Errors<'a>>(
     alloc: Global,
     subschema: &'a N,
@@ -174,7 +174,7 @@ fn collect_name<'a, N: Errors<'a>>(
     append_wrapped(alloc, found, object, path, errors)
 }
 
-// Appends the errors of a name, each told of the object.
+/// Appends the errors of a name, each told of the object.
 fn append_wrapped<'a>(
     alloc: Global,
     found: Vec<ValidationError<'a>>,
@@ -194,7 +194,7 @@ fn append_wrapped<'a>(
     Ok(())
 }
 
-// Appends the error of a name, told of the object; without memory the list is as before.
+/// Appends the error of a name, told of the object; without memory the list is as before.
 fn append_one_wrapped<'a>(
     alloc: Global,
     error: ValidationError<'a>,
@@ -209,7 +209,7 @@ fn append_one_wrapped<'a>(
     push(errors, wrap(alloc, error, object, path)?)
 }
 
-// Refuses with the error of a name, told of the object.
+/// Refuses with the error of a name, told of the object.
 fn refuse_wrapped<'a>(
     alloc: Global,
     error: ValidationError<'a>,
@@ -223,7 +223,7 @@ fn refuse_wrapped<'a>(
     Err(ValidateError::Invalid(wrap(alloc, error, object, path)?))
 }
 
-// The error of a name, told of the object.
+/// The error of a name, told of the object.
 fn wrap<'a>(
     alloc: Global,
     error: ValidationError<'a>,
@@ -237,7 +237,7 @@ fn wrap<'a>(
     Ok(ValidationError::wrapping(error, object, text))
 }
 
-// The value in a box, and the text of the path.
+/// The value in a box, and the text of the path.
 fn boxed_at<T: Drop>(
     alloc: Global,
     value: T,

@@ -1,4 +1,4 @@
-//! `required`.
+//! `required`: its errors.
 ghost use Rattle.std.specs.Prelude.{◌≡◌, ◌∷◌, [], OnOk, OnErr, IfErr};
 ghost use Rattle.olk_base.specs.Nodes.{data_of};
 ghost use Rattle.olk_tree.specs.Answers.{texts_of};
@@ -51,7 +51,7 @@ impl<'a> Errors<'a> for RequiredValidator {
     }
 }
 
-// The error of the first name that is absent.
+/// The error of the first name that is absent.
 fn refuse_missing<'a>(
     alloc: Global,
     names: &'a Vec<String>,
@@ -72,7 +72,7 @@ fn refuse_missing<'a>(
     Ok(())
 }
 
-// The error of the name, if it is absent.
+/// The error of the name, if it is absent.
 pub(crate) fn refuse_if_missing<'a>(
     alloc: Global,
     name: &'a str,
@@ -94,7 +94,7 @@ pub(crate) fn refuse_if_missing<'a>(
     refuse(alloc, kind, node, path, location)
 }
 
-// One error for each name that is absent.
+/// One error for each name that is absent.
 fn collect_missing<'a>(
     alloc: Global,
     names: &'a Vec<String>,
@@ -118,7 +118,7 @@ fn collect_missing<'a>(
     Ok(())
 }
 
-// One error, if the name is absent.
+/// One error, if the name is absent.
 pub(crate) fn collect_if_missing<'a>(
     alloc: Global,
     name: &'a str,
@@ -140,7 +140,7 @@ pub(crate) fn collect_if_missing<'a>(
     append_error(alloc, kind, node, path, location, errors)
 }
 
-// The error of the first of two names that is absent.
+/// The error of the first of two names that is absent.
 pub(crate) fn refuse_missing_of_two<'a>(
     alloc: Global,
     first: &'a str,
@@ -160,7 +160,7 @@ pub(crate) fn refuse_missing_of_two<'a>(
     refuse_if_missing(alloc, second, location, members, node, path)
 }
 
-// One error for each of two names that is absent.
+/// One error for each of two names that is absent.
 pub(crate) fn collect_missing_of_two<'a>(
     alloc: Global,
     first: &'a str,

@@ -1,4 +1,4 @@
-// Walks over nodes.
+//! Walks over nodes: the errors that they tell.
 ghost use Rattle.std.specs.Prelude.{◌≡◌, ◌∷◌, [], map, IfOk, OnOk, OnErr, IfErr};
 ghost use Rattle.olk_reports.proofs.Errors.{context_faults};
 ghost use Rattle.olk_base.specs.Nodes.{data_of};
@@ -13,7 +13,7 @@ use olk_paths::InstancePath;
 use olk_reports::{ValidateError, ValidationError};
 use std::alloc::{AllocError, Global};
 
-// The first error that one of them tells.
+/// The first error that one of them tells.
 pub(crate) fn validate_all<'a, N: Errors<'a>>(
     alloc: Global,
     nodes: &'a Vec<N>,
@@ -36,7 +36,7 @@ pub(crate) fn validate_all<'a, N: Errors<'a>>(
     Ok(())
 }
 
-// The errors of each.
+/// The errors of each.
 pub(crate) fn collect_all<'a, N: Errors<'a>>(
     alloc: Global,
     nodes: &'a Vec<N>,
@@ -60,7 +60,7 @@ pub(crate) fn collect_all<'a, N: Errors<'a>>(
     Ok(())
 }
 
-// For each of them its errors, in a list of its own.
+/// For each of them its errors, in a list of its own.
 pub(crate) fn contexts<'a, N: Errors<'a>>(
     alloc: Global,
     nodes: &'a Vec<N>,
@@ -81,7 +81,7 @@ pub(crate) fn contexts<'a, N: Errors<'a>>(
     Ok(contexts)
 }
 
-// The errors of the one node, as the one list of a context.
+/// The errors of the one node, as the one list of a context.
 pub(crate) fn one_context<'a, N: Errors<'a>>(
     alloc: Global,
     branch: &'a N,
@@ -98,7 +98,7 @@ pub(crate) fn one_context<'a, N: Errors<'a>>(
     vec_of_one(alloc, errors)
 }
 
-// The errors of a node, in a list of their own.
+/// The errors of a node, in a list of their own.
 fn errors_of<'a, N: Errors<'a>>(
     alloc: Global,
     asked: &'a N,

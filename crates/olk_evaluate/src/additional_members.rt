@@ -19,18 +19,18 @@ use olk_tree::additional_properties::AdditionalProperties;
 use serde_json::{Map, Value};
 use std::alloc::{AllocError, Global};
 
-// What is collected of the members of an object.
+/// What is collected of the members of an object.
 #[derive(Drop)]
 pub(crate) struct Collected<'a> {
     pub(crate) children: Vec<EvaluationNode<'a>>,
-    // The names that nothing else speaks of.
+    /// The names that nothing else speaks of.
     pub(crate) additional: Vec<&'a str>,
-    // A name for each match that is shown.
+    /// A name for each match that is shown.
     pub(crate) matched: Vec<&'a str>,
 }
 
 impl<'a> Collected<'a> {
-    // Nothing yet, with room for so many children.
+    /// Nothing yet, with room for so many children.
     fn with_capacity(alloc: Global, capacity: usize) -> Result<Collected<'a>, AllocError>
         ensures children { IfOk result (λ c. c.children.items ≡ []) }
         ensures additional { IfOk result (λ c. c.additional.items ≡ []) }
@@ -44,7 +44,7 @@ impl<'a> Collected<'a> {
     }
 }
 
-// The name behind these, where it is shown.
+/// The name behind these, where it is shown.
 #[inline(always)]
 fn push_if<'a>(names: &mut Vec<&'a str>, name: &'a str, is_shown: bool) -> Result<(), AllocError>
     ensures { OnOk result (names_of names.new.items
@@ -56,7 +56,7 @@ fn push_if<'a>(names: &mut Vec<&'a str>, name: &'a str, is_shown: bool) -> Resul
     Ok(())
 }
 
-// What is met of the members, in their order.
+/// What is met of the members, in their order.
 pub(crate) fn collect<'a, R: RegexEngine, N: Evaluate<'a>>(
     alloc: Global,
     keyword: &'a AdditionalProperties<R, N>,
@@ -90,7 +90,8 @@ pub(crate) fn collect<'a, R: RegexEngine, N: Evaluate<'a>>(
     Ok(collected)
 }
 
-// A member: what is declared at its name, the patterns that match it, and, where neither speaks of it, the rest.
+/// A member: what is declared at its name, the patterns that match it, and, where neither speaks of
+/// it, the rest.
 fn collect_member<'a, R: RegexEngine, N: Evaluate<'a>>(
     alloc: Global,
     keyword: &'a AdditionalProperties<R, N>,
@@ -124,7 +125,7 @@ fn collect_member<'a, R: RegexEngine, N: Evaluate<'a>>(
     collect_additional(alloc, &keyword.rest, name, value, path, ctx, collected)
 }
 
-// What is declared at a member's name, if anything is.
+/// What is declared at a member's name, if anything is.
 #[inline(always)]
 fn collect_declared<'a, N: Evaluate<'a>>(
     alloc: Global,
@@ -158,7 +159,7 @@ fn collect_declared<'a, N: Evaluate<'a>>(
     }
 }
 
-// A pattern's node, if the pattern matches the member's name, and whether it does.
+/// A pattern's node, if the pattern matches the member's name, and whether it does.
 #[inline(always)]
 fn collect_if_matched<'a, R: RegexEngine, N: Evaluate<'a>>(
     alloc: Global,
@@ -195,7 +196,8 @@ fn collect_if_matched<'a, R: RegexEngine, N: Evaluate<'a>>(
     Ok(true)
 }
 
-// A member that nothing else speaks of: its name, and what the rest shows of it, if there is a rest.
+/// A member that nothing else speaks of: its name, and what the rest shows of it, if there is a
+/// rest.
 #[inline(always)]
 fn collect_additional<'a, N: Evaluate<'a>>(
     alloc: Global,

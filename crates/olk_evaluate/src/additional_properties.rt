@@ -1,4 +1,4 @@
-//! `additionalProperties`, and what it takes over.
+//! `additionalProperties`, and what it takes over: what they show.
 ghost use Rattle.std.specs.Prelude.{◌≡◌, ◌++◌, is_some, not, cond, option_to_list, false, IfOk};
 ghost use Rattle.serde_json.specs.Data.{Data};
 ghost use Rattle.serde_json.specs.View.{members_view};
@@ -32,12 +32,14 @@ impl<R, N> Located for AdditionalProperties<R, N> {
     }
 }
 
-/// A child for each node that is asked of a member: what is declared at its name, the patterns that match it, or else the
-/// rest, whose names are annotated (JSON Schema 2020-12 Core, 10.3.2.3); where just one neighbour stands there, only if
-/// there are some. Without a subschema for the rest, the members that are left to it are an error of its own.
+/// A child for each node that is asked of a member: what is declared at its name, the patterns that
+/// match it, or else the rest, whose names are annotated (JSON Schema 2020-12 Core, 10.3.2.3);
+/// where just one neighbour stands there, only if there are some. Without a subschema for the rest,
+/// the members that are left to it are an error of its own.
 ///
-/// Behind these, where patterns stand there and `properties` does not, a child at their place with a name for each match,
-/// if there is one; and one at the place of `required` where its name is no member.
+/// Behind these, where patterns stand there and `properties` does not, a child at their place with
+/// a name for each match, if there is one; and one at the place of `required` where its name is no
+/// member.
 impl<'a, R: RegexEngine, N: Evaluate<'a>> Evaluate<'a> for AdditionalProperties<R, N> {
     ghost use Rattle.olk_tree.specs.Additional.{additional_tree};
     ghost use Rattle.olk_tree.specs.Answers.{sides_of};
@@ -77,7 +79,8 @@ impl<'a, R: RegexEngine, N: Evaluate<'a>> Evaluate<'a> for AdditionalProperties<
     }
 }
 
-// The children, and behind them one at the place of `patternProperties` and one at that of `required`, if they are there.
+/// The children, and behind them one at the place of `patternProperties` and one at that of
+/// `required`, if they are there.
 fn with_places<'a, R, N>(
     alloc: Global,
     keyword: &'a AdditionalProperties<R, N>,
@@ -97,7 +100,7 @@ fn with_places<'a, R, N>(
     followed_by(children, matches, missing)
 }
 
-// A child at the place of `patternProperties` with these names, if there are some.
+/// A child at the place of `patternProperties` with these names, if there are some.
 fn matches_child<'a>(
     alloc: Global,
     matched: Vec<&'a str>,
@@ -116,7 +119,7 @@ fn matches_child<'a>(
     Ok(Some(EvaluationNode::new(location, text, outcome)))
 }
 
-// A child at the place of `required`, where a name is required that is no member.
+/// A child at the place of `required`, where a name is required that is no member.
 fn missing_required<'a>(
     alloc: Global,
     required: &'a Option<RequiredName>,
@@ -139,7 +142,7 @@ fn missing_required<'a>(
     }
 }
 
-// The children, and behind them two more, if they are there.
+/// The children, and behind them two more, if they are there.
 fn followed_by<'a>(
     children: Vec<EvaluationNode<'a>>,
     first: Option<EvaluationNode<'a>>,
@@ -158,7 +161,8 @@ fn followed_by<'a>(
     Ok(children)
 }
 
-// The result with the annotation of the rest; where there is no rest, with an error if members are not expected.
+/// The result with the annotation of the rest; where there is no rest, with an error if members are
+/// not expected.
 fn completed<'a, R, N>(
     alloc: Global,
     keyword: &AdditionalProperties<R, N>,
@@ -177,7 +181,8 @@ fn completed<'a, R, N>(
     }
 }
 
-// The result with the names that the rest is asked of; where just one neighbour stands there, only if there are some.
+/// The result with the names that the rest is asked of; where just one neighbour stands there, only
+/// if there are some.
 fn annotated<'a, R, N>(
     keyword: &AdditionalProperties<R, N>,
     outcome: EvaluationResult<'a>,
@@ -194,7 +199,7 @@ fn annotated<'a, R, N>(
     outcome
 }
 
-// Whether just one of `properties` and `patternProperties` stands there.
+/// Whether just one of `properties` and `patternProperties` stands there.
 fn stands_beside_one<R, N>(keyword: &AdditionalProperties<R, N>) -> bool
     ensures { result
         ≡ cond (is_some keyword.now.properties) (not (is_some keyword.now.patterns))
@@ -203,8 +208,8 @@ fn stands_beside_one<R, N>(keyword: &AdditionalProperties<R, N>) -> bool
     keyword.properties.is_some() != keyword.patterns.is_some()
 }
 
-// The result with an error if members are not expected: told by name where the keyword has a neighbour, else as a false
-// schema over the first.
+/// The result with an error if members are not expected: told by name where the keyword has a
+/// neighbour, else as a false schema over the first.
 fn with_unexpected<'a, R, N>(
     alloc: Global,
     keyword: &AdditionalProperties<R, N>,
@@ -225,14 +230,14 @@ fn with_unexpected<'a, R, N>(
     }
 }
 
-// Whether `properties` or `patternProperties` stands there.
+/// Whether `properties` or `patternProperties` stands there.
 fn stands_beside_some<R, N>(keyword: &AdditionalProperties<R, N>) -> bool
     ensures { result ≡ has_neighbours keyword.now }
 {
     keyword.properties.is_some() || keyword.patterns.is_some()
 }
 
-// The result with an error that has these names, if there are some.
+/// The result with an error that has these names, if there are some.
 fn with_named<'a>(
     alloc: Global,
     outcome: EvaluationResult<'a>,
@@ -252,7 +257,7 @@ fn with_named<'a>(
     Ok(outcome)
 }
 
-// The result with the error of a false schema over the first member's value, if there is one.
+/// The result with the error of a false schema over the first member's value, if there is one.
 fn with_first<'a>(
     alloc: Global,
     outcome: EvaluationResult<'a>,

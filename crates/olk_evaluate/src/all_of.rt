@@ -1,4 +1,4 @@
-//! `allOf`.
+//! `allOf`: what it shows.
 use crate::walk::{child, each_child};
 use crate::{Evaluate, Located};
 use olk_base::{Node, ValidationContext};

@@ -1,4 +1,4 @@
-//! `anyOf`.
+//! `anyOf`: what it shows.
 ghost use Rattle.std.specs.Prelude.{◌≡◌, IfOk};
 ghost use Rattle.olk_base.specs.Nodes.{data_of};
 ghost use Rattle.olk_spec.specs.Names.{those};
@@ -22,8 +22,8 @@ impl<N> Located for AnyOf<N> {
     }
 }
 
-/// A child for each branch that accepts; where there is none, a child for each branch (JSON Schema 2020-12 Core,
-/// 10.2.1.2).
+/// A child for each branch that accepts; where there is none, a child for each branch (JSON Schema
+/// 2020-12 Core, 10.2.1.2).
 impl<'a, N: Evaluate<'a>> Evaluate<'a> for AnyOf<N> {
     ghost use Rattle.olk_tree.specs.Shown.{any_of_tree};
 
@@ -73,7 +73,7 @@ impl<'a, N: Evaluate<'a>> Evaluate<'a> for SingleAnyOf<N> {
     }
 }
 
-// What each branch shows that accepts; nothing is built for the others.
+/// What each branch shows that accepts; nothing is built for the others.
 pub(crate) fn accepting_children<'a, N: Evaluate<'a>>(
     alloc: Global,
     schemas: &'a Vec<N>,

@@ -1,4 +1,4 @@
-//! `dependentRequired`, `dependentSchemas` and `dependencies`.
+//! `dependentRequired`, `dependentSchemas` and `dependencies`: what they show.
 ghost use Rattle.std.specs.Prelude.{◌≡◌, IfOk};
 ghost use Rattle.olk_base.specs.Nodes.{data_of};
 ghost use Rattle.olk_tree.specs.Answers.{named, due_nodes};
@@ -51,7 +51,7 @@ impl<'a, N: Evaluate<'a>> Evaluate<'a> for Dependencies<N> {
     }
 }
 
-// What the node of each key that is a member shows of the object.
+/// What the node of each key that is a member shows of the object.
 fn due_children<'a, N: Evaluate<'a>>(
     alloc: Global,
     dependencies: &'a SmallMap<N>,

@@ -1,4 +1,4 @@
-//! `if`, `then` and `else`.
+//! `if`, `then` and `else`: what they show.
 ghost use Rattle.std.specs.Prelude.{◌≡◌, ◌∷◌, [], IfOk};
 ghost use Rattle.olk_base.specs.Nodes.{data_of};
 ghost use Rattle.olk_check.specs.Asks.{OnlyAsks};
@@ -81,7 +81,8 @@ impl<N> Located for IfThenElse<N> {
     }
 }
 
-/// Where `if` accepts, a child for it and one for `then`, and else one for `else` (JSON Schema 2020-12 Core, 10.2.2).
+/// Where `if` accepts, a child for it and one for `then`, and else one for `else` (JSON Schema
+/// 2020-12 Core, 10.2.2).
 impl<'a, N: Evaluate<'a>> Evaluate<'a> for IfThenElse<N> {
     ghost use Rattle.olk_tree.specs.Shown.{if_tree};
 
@@ -103,7 +104,7 @@ impl<'a, N: Evaluate<'a>> Evaluate<'a> for IfThenElse<N> {
     }
 }
 
-// What the one subschema shows.
+/// What the one subschema shows.
 fn only<'a, N: Evaluate<'a>>(
     alloc: Global,
     schema: &'a N,
@@ -119,7 +120,7 @@ fn only<'a, N: Evaluate<'a>>(
     EvaluationResult::from_node(alloc, child(alloc, schema, node, path, ctx)?)
 }
 
-// What the two subschemas show.
+/// What the two subschemas show.
 fn both<'a, N: Evaluate<'a>>(
     alloc: Global,
     first: &'a N,

@@ -35,10 +35,11 @@ pub trait Evaluate<'a>: Located + IsValid {
     // the tree that it shows of a value, with either answer for unfinished matches
     ghost tree: { Self → Bool → Data → Path → Tree };
 
-    /// What it shows of the node: the validity, an annotation, errors of its own and the nodes below, in order
-    /// (JSON Schema 2020-12 Core, 7.7 and 12).
+    /// What it shows of the node: the validity, an annotation, errors of its own and the nodes
+    /// below, in order (JSON Schema 2020-12 Core, 7.7 and 12).
     ///
-    /// The path is left as it was, the context keeps its answer, and of the counts only those of asking rise.
+    /// The path is left as it was, the context keeps its answer, and of the counts only those of
+    /// asking rise.
     ///
     /// # Errors
     ///

@@ -1,4 +1,4 @@
-//! Keywords and bodies.
+//! Keywords and bodies: what they show.
 ghost use Rattle.std.specs.Prelude.{◌≡◌, IfOk};
 ghost use Rattle.olk_base.specs.Nodes.{data_of};
 ghost use Rattle.olk_spec.specs.Tree.{IsLikeTree, is_valid};
@@ -94,7 +94,7 @@ impl<'a, K: Leaf, R: RegexEngine, N: Evaluate<'a>> Evaluate<'a> for KeywordOver<
     }
 }
 
-// The texts of a leaf as errors.
+/// The texts of a leaf as errors.
 fn leaf_errors<'a, K: Leaf>(
     alloc: Global,
     leaf: &'a K,
@@ -110,8 +110,8 @@ fn leaf_errors<'a, K: Leaf>(
     Ok(outcome)
 }
 
-/// What a body shows at its place: nothing where the schema is true, an error where it is false, an error for each
-/// listed name that an object lacks, and otherwise a child for each keyword.
+/// What a body shows at its place: nothing where the schema is true, an error where it is false, an
+/// error for each listed name that an object lacks, and otherwise a child for each keyword.
 ///
 /// # Errors
 ///

@@ -1,4 +1,4 @@
-//! `not`.
+//! `not`: what it shows.
 use crate::own::one_error;
 use crate::{Evaluate, Located};
 use olk_base::{Node, ValidationContext};
@@ -16,8 +16,8 @@ impl<N> Located for Not<N> {
     }
 }
 
-/// An error of its own where the subschema accepts; what the subschema shows is left out (JSON Schema 2020-12 Core,
-/// 10.2.1.4).
+/// An error of its own where the subschema accepts; what the subschema shows is left out (JSON
+/// Schema 2020-12 Core, 10.2.1.4).
 impl<'a, N: Evaluate<'a>> Evaluate<'a> for Not<N> {
     ghost use Rattle.serde_json.specs.View.{view};
     ghost use Rattle.olk_spec.specs.Faults.{Not as Refuses};

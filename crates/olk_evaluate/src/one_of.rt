@@ -1,4 +1,4 @@
-//! `oneOf`.
+//! `oneOf`: what it shows.
 ghost use Rattle.std.specs.Prelude.{◌≡◌, ◌∷◌, [], false, None, IfOk};
 ghost use Rattle.olk_reports.specs.Evaluations.{shown, shown_of};
 ghost use Rattle.olk_tree.specs.Shown.{several_accept};
@@ -21,8 +21,8 @@ impl<N> Located for OneOf<N> {
     }
 }
 
-/// A child for each branch that accepts, and an error of its own where they are several; where there is none, a child
-/// for each branch (JSON Schema 2020-12 Core, 10.2.1.3).
+/// A child for each branch that accepts, and an error of its own where they are several; where
+/// there is none, a child for each branch (JSON Schema 2020-12 Core, 10.2.1.3).
 impl<'a, N: Evaluate<'a>> Evaluate<'a> for OneOf<N> {
     ghost use Rattle.olk_tree.specs.Shown.{one_of_tree};
 
@@ -48,7 +48,7 @@ impl<'a, N: Evaluate<'a>> Evaluate<'a> for OneOf<N> {
     }
 }
 
-// What several branches show that accept, and the error that there are several.
+/// What several branches show that accept, and the error that there are several.
 fn with_several<'a>(
     alloc: Global,
     accepting: Vec<EvaluationNode<'a>>,

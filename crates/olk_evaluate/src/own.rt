@@ -1,4 +1,4 @@
-// The errors that a keyword shows itself.
+//! The errors that a keyword shows itself.
 ghost use Rattle.std.specs.Prelude.{◌≡◌, ◌++◌, ◌∷◌, [], List, IfOk, OnOk};
 ghost use Rattle.olk_base.specs.Nodes.{data_of};
 ghost use Rattle.olk_spec.specs.Names.{Path};
@@ -12,7 +12,7 @@ use olk_base::Node;
 use olk_reports::{ErrorDescription, EvaluationResult, ValidationError, ValidationErrorKind};
 use std::alloc::{AllocError, Global};
 
-// The name of the keyword that finds errors of this kind; none of an error of building.
+/// The name of the keyword that finds errors of this kind; none of an error of building.
 #[tactic(auto, using(olk_reports::proofs::Errors::kinds))]
 fn keyword<'a>(kind: &ValidationErrorKind<'a>) -> &'a str
     ensures { result.now ≡ keyword_name (kind_of kind.now) }
@@ -31,7 +31,7 @@ fn keyword<'a>(kind: &ValidationErrorKind<'a>) -> &'a str
     }
 }
 
-// The error as an evaluation shows it.
+/// The error as an evaluation shows it.
 fn describe<'a>(
     alloc: Global,
     error: ValidationError<'a>,
@@ -42,7 +42,7 @@ fn describe<'a>(
     Ok(ErrorDescription::new(keyword(error.kind()), message))
 }
 
-// The error about the node, as an evaluation shows it: without its places, so none are asked for.
+/// The error about the node, as an evaluation shows it: without its places, so none are asked for.
 pub(crate) fn own_error<'a>(
     alloc: Global,
     kind: ValidationErrorKind<'a>,
@@ -55,7 +55,7 @@ pub(crate) fn own_error<'a>(
     describe(alloc, error)
 }
 
-// Adds an error of its own about the node.
+/// Adds an error of its own about the node.
 pub(crate) fn add_own_error<'a>(
     alloc: Global,
     outcome: &mut EvaluationResult<'a>,
@@ -70,7 +70,7 @@ pub(crate) fn add_own_error<'a>(
     outcome.mark_errored(own_error(alloc, kind, node)?)
 }
 
-// One error of its own about the node, and nothing else.
+/// One error of its own about the node, and nothing else.
 pub(crate) fn one_error<'a>(
     alloc: Global,
     kind: ValidationErrorKind<'a>,

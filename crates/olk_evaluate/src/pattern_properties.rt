@@ -1,4 +1,4 @@
-//! `patternProperties`.
+//! `patternProperties`: what it shows.
 ghost use Rattle.std.specs.Prelude.{◌≡◌, OnOk};
 ghost use Rattle.serde_json.specs.View.{view};
 ghost use Rattle.olk_tree.specs.Visited.{object_of};
@@ -24,8 +24,8 @@ impl<R, N> Located for PatternProperties<R, N> {
     }
 }
 
-/// A child for each match, pattern by pattern; where the value is an object, a name for each match is annotated
-/// (JSON Schema 2020-12 Core, 10.3.2.2).
+/// A child for each match, pattern by pattern; where the value is an object, a name for each match
+/// is annotated (JSON Schema 2020-12 Core, 10.3.2.2).
 impl<'a, R: RegexEngine, N: Evaluate<'a>> Evaluate<'a> for PatternProperties<R, N> {
     ghost use Rattle.olk_tree.specs.Shown.{patterns_tree};
 
@@ -59,8 +59,8 @@ impl<R, N> Located for SingleValuePatternProperties<R, N> {
     }
 }
 
-/// A child for each match; where the value is an object, the names that match are annotated
-/// (JSON Schema 2020-12 Core, 10.3.2.2).
+/// A child for each match; where the value is an object, the names that match are annotated (JSON
+/// Schema 2020-12 Core, 10.3.2.2).
 impl<'a, R: RegexEngine, N: Evaluate<'a>> Evaluate<'a> for SingleValuePatternProperties<R, N> {
     ghost use Rattle.std.specs.Prelude.{◌∷◌, []};
     ghost use Rattle.olk_tree.specs.Shown.{patterns_tree};
@@ -87,7 +87,7 @@ impl<'a, R: RegexEngine, N: Evaluate<'a>> Evaluate<'a> for SingleValuePatternPro
     }
 }
 
-// The members whose names patterns match, pattern by pattern.
+/// The members whose names patterns match, pattern by pattern.
 fn meet_patterns<'a, R: RegexEngine, N: Evaluate<'a>>(
     alloc: Global,
     patterns: &'a Vec<(CompiledPattern<R>, N)>,
@@ -108,7 +108,7 @@ fn meet_patterns<'a, R: RegexEngine, N: Evaluate<'a>>(
     Ok(())
 }
 
-// The members whose names the pattern matches.
+/// The members whose names the pattern matches.
 fn meet_matched<'a, R: RegexEngine, N: Evaluate<'a>>(
     alloc: Global,
     pattern: &'a CompiledPattern<R>,
@@ -139,7 +139,7 @@ fn meet_matched<'a, R: RegexEngine, N: Evaluate<'a>>(
     Ok(())
 }
 
-// A member, if the pattern matches its name.
+/// A member, if the pattern matches its name.
 fn meet_if_matched<'a, R: RegexEngine, N: Evaluate<'a>>(
     alloc: Global,
     pattern: &'a CompiledPattern<R>,

@@ -1,4 +1,4 @@
-//! `properties`.
+//! `properties`: what it shows.
 ghost use Rattle.std.specs.Prelude.{◌≡◌, ◌++◌, ◌∷◌, [], IfOk, OnOk, option_to_list};
 ghost use Rattle.std.specs.List.{list_all};
 ghost use Rattle.serde_json.specs.View.{view, members_view};
@@ -31,8 +31,8 @@ impl<N> Located for Properties<N> {
     }
 }
 
-/// A child for each member whose name is declared; where the value is an object, these names are annotated
-/// (JSON Schema 2020-12 Core, 10.3.2.1).
+/// A child for each member whose name is declared; where the value is an object, these names are
+/// annotated (JSON Schema 2020-12 Core, 10.3.2.1).
 impl<'a, N: Evaluate<'a>> Evaluate<'a> for Properties<N> {
     ghost use Rattle.olk_tree.specs.Answers.{mapped};
     ghost use Rattle.olk_tree.specs.Shown.{properties_tree};
@@ -67,8 +67,8 @@ impl<N> Located for SmallPropertiesWithRequired2<N> {
     }
 }
 
-/// Beside these, a child at the place of `required` where an object lacks one of the two names, with an error for each
-/// (JSON Schema 2020-12 Validation, 6.5.3).
+/// Beside these, a child at the place of `required` where an object lacks one of the two names,
+/// with an error for each (JSON Schema 2020-12 Validation, 6.5.3).
 impl<'a, N: Evaluate<'a>> Evaluate<'a> for SmallPropertiesWithRequired2<N> {
     ghost use Rattle.olk_tree.specs.Answers.{named, two_texts};
     ghost use Rattle.olk_tree.specs.Shown.{properties_tree, missing_trees};
@@ -104,7 +104,7 @@ impl<'a, N: Evaluate<'a>> Evaluate<'a> for SmallPropertiesWithRequired2<N> {
     }
 }
 
-// The members that are met: their names, and what is shown of their values.
+/// The members that are met: their names, and what is shown of their values.
 #[derive(Drop)]
 pub(crate) struct Met<'a> {
     names: Vec<&'a str>,
@@ -115,7 +115,7 @@ impl<'a> Met<'a> {
     ghost use Rattle.std.specs.Prelude.{Some, map};
     ghost use Rattle.olk_reports.specs.Evaluations.{shown, shown_of};
 
-    // None yet, with room for so many.
+    /// None yet, with room for so many.
     pub(crate) fn with_capacity(alloc: Global, capacity: usize) -> Result<Met<'a>, AllocError>
         ensures names { IfOk result (λ m. m.names.items ≡ []) }
         ensures children { IfOk result (λ m. m.children.items ≡ []) }
@@ -126,7 +126,7 @@ impl<'a> Met<'a> {
         })
     }
 
-    // One member more.
+    /// One member more.
     #[inline(always)]
     pub(crate) fn add(&mut self, name: &'a str, child: EvaluationNode<'a>) -> Result<(), AllocError>
         ensures names { OnOk result
@@ -139,7 +139,7 @@ impl<'a> Met<'a> {
         Ok(())
     }
 
-    // With one child more, or none.
+    /// With one child more, or none.
     fn with(self, more: Option<EvaluationNode<'a>>) -> Result<Met<'a>, AllocError>
         ensures names { IfOk result (λ m. m.names.items ≡ self.entry.names.items) }
         ensures children { IfOk result (λ m.
@@ -152,7 +152,7 @@ impl<'a> Met<'a> {
         Ok(met)
     }
 
-    // The children, and the names as annotation.
+    /// The children, and the names as annotation.
     pub(crate) fn outcome(self, alloc: Global) -> EvaluationResult<'a>
         ensures { shown_of result ≡ shown (list_all is_valid (trees_of self.entry.children.items))
             (Some (map (λ n. n.now) self.entry.names.items)) []
@@ -164,7 +164,7 @@ impl<'a> Met<'a> {
     }
 }
 
-// The members that are declared, in the order of their names.
+/// The members that are declared, in the order of their names.
 fn meet<'a, M: PropertiesValidatorsMap<N>, N: Evaluate<'a> + 'a>(
     alloc: Global,
     properties: &'a M,
@@ -189,7 +189,7 @@ fn meet<'a, M: PropertiesValidatorsMap<N>, N: Evaluate<'a> + 'a>(
     Ok(met)
 }
 
-// One member more: its name, and what is shown of its value.
+/// One member more: its name, and what is shown of its value.
 #[inline(always)]
 pub(crate) fn meet_member<'a, N: Evaluate<'a>>(
     alloc: Global,
@@ -210,7 +210,7 @@ pub(crate) fn meet_member<'a, N: Evaluate<'a>>(
     Ok(())
 }
 
-// One child more: what is shown of a member's value.
+/// One child more: what is shown of a member's value.
 #[inline(always)]
 pub(crate) fn add_child_below<'a, N: Evaluate<'a>>(
     alloc: Global,
@@ -232,7 +232,7 @@ pub(crate) fn add_child_below<'a, N: Evaluate<'a>>(
     Ok(())
 }
 
-// What is shown of a member's value.
+/// What is shown of a member's value.
 #[inline(always)]
 fn child_below<'a, N: Evaluate<'a>>(
     alloc: Global,

@@ -1,4 +1,4 @@
-//! `propertyDependencies`.
+//! `propertyDependencies`: what it shows.
 ghost use Rattle.std.specs.Prelude.{◌≡◌, IfOk};
 ghost use Rattle.olk_base.specs.Nodes.{data_of};
 ghost use Rattle.olk_tree.specs.Answers.{named, chosen_nodes};
@@ -25,7 +25,8 @@ impl<N> Located for PropertyDependencies<N> {
     }
 }
 
-/// A child for each key at whose text there is a subschema. The keyword is in no published version of JSON Schema.
+/// A child for each key at whose text there is a subschema. The keyword is in no published version
+/// of JSON Schema.
 impl<'a, N: Evaluate<'a>> Evaluate<'a> for PropertyDependencies<N> {
     ghost use Rattle.olk_spec.specs.Tree.{plain};
     ghost use Rattle.olk_tree.specs.Shown.{branch_trees};
@@ -58,7 +59,7 @@ impl<'a, N: Evaluate<'a>> Evaluate<'a> for PropertyDependencies<N> {
     }
 }
 
-// What each node at the text of a member shows of the object.
+/// What each node at the text of a member shows of the object.
 fn chosen_children<'a, N: Evaluate<'a>>(
     alloc: Global,
     dependencies: &'a SmallMap<SmallMap<N>>,

@@ -1,4 +1,4 @@
-//! `propertyNames`.
+//! `propertyNames`: what it shows.
 ghost use Rattle.std.specs.Prelude.{◌≡◌, IfOk, map};
 ghost use Rattle.serde_json.specs.View.{members_view};
 ghost use Rattle.olk_spec.specs.Schemas.{listed};
@@ -87,7 +87,7 @@ impl<'a> Evaluate<'a> for PropertyNamesFalse {
     }
 }
 
-// What the subschema shows of each member's name.
+/// What the subschema shows of each member's name.
 fn name_children<'a, N: Evaluate<'a>>(
     alloc: Global,
     subschema: &'a N,

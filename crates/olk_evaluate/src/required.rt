@@ -1,4 +1,4 @@
-//! `required`.
+//! `required`: what it shows.
 ghost use Rattle.std.specs.Prelude.{◌≡◌, ◌++◌, ◌∷◌, [], not, map, List, IfOk, OnOk, option_to_list};
 ghost use Rattle.olk_base.specs.Nodes.{data_of};
 ghost use Rattle.olk_spec.specs.Names.{Path, is_empty};
@@ -29,7 +29,8 @@ impl Located for RequiredValidator {
     }
 }
 
-/// An error of its own for each listed name that an object lacks (JSON Schema 2020-12 Validation, 6.5.3).
+/// An error of its own for each listed name that an object lacks (JSON Schema 2020-12 Validation,
+/// 6.5.3).
 impl<'a> Evaluate<'a> for RequiredValidator {
     ghost use Rattle.olk_spec.specs.Tree.{erring};
 
@@ -48,7 +49,7 @@ impl<'a> Evaluate<'a> for RequiredValidator {
     }
 }
 
-// The result with an error for each of the names that the value lacks.
+/// The result with an error for each of the names that the value lacks.
 pub(crate) fn missing_errors<'a>(
     alloc: Global,
     required: &'a RequiredValidator,
@@ -64,7 +65,7 @@ pub(crate) fn missing_errors<'a>(
     }
 }
 
-// The result with an error for each of the names that is no member.
+/// The result with an error for each of the names that is no member.
 fn result_of_required<'a>(
     alloc: Global,
     names: &'a Vec<String>,
@@ -83,7 +84,7 @@ fn result_of_required<'a>(
     Ok(outcome)
 }
 
-// Adds an error where the name is no member.
+/// Adds an error where the name is no member.
 fn add_error_if_missing<'a>(
     alloc: Global,
     outcome: &mut EvaluationResult<'a>,
@@ -105,7 +106,7 @@ fn add_error_if_missing<'a>(
     add_own_error(alloc, outcome, kind, node)
 }
 
-// Whether one of the names is no member.
+/// Whether one of the names is no member.
 fn lacks_either(members: &Map<String, Value>, first: &str, second: &str) -> bool
     ensures { result ≡ not (is_empty
         (missing (first.now ∷ second.now ∷ []) (object_of members.now.entries))) }
@@ -116,7 +117,7 @@ fn lacks_either(members: &Map<String, Value>, first: &str, second: &str) -> bool
     !has_member(members, second)
 }
 
-// The result with an error for each of two names that is no member.
+/// The result with an error for each of two names that is no member.
 fn result_of_two_required<'a>(
     alloc: Global,
     first: &'a str,
@@ -135,7 +136,7 @@ fn result_of_two_required<'a>(
     Ok(outcome)
 }
 
-// A child at the place of `required`, where one of the names is no member.
+/// A child at the place of `required`, where one of the names is no member.
 pub(crate) fn missing_child<'a>(
     alloc: Global,
     first: &'a str,
@@ -158,7 +159,7 @@ pub(crate) fn missing_child<'a>(
     Ok(Some(EvaluationNode::new(location, text, outcome)))
 }
 
-// A child at the place of `required`, where the name is no member.
+/// A child at the place of `required`, where the name is no member.
 pub(crate) fn missing_name_child<'a>(
     alloc: Global,
     name: &'a str,

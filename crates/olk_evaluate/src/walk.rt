@@ -1,4 +1,4 @@
-// What the nodes of a keyword show.
+//! What the nodes of a keyword show.
 ghost use Rattle.std.specs.Prelude.{◌≡◌, IfOk, OnOk};
 ghost use Rattle.olk_base.specs.Nodes.{data_of};
 ghost use Rattle.olk_check.specs.Asks.{OnlyAsks};
@@ -34,7 +34,7 @@ pub fn child<'a, N: Evaluate<'a>>(
     Ok(EvaluationNode::new(schema.location(), text, outcome))
 }
 
-// One child more: what the node shows.
+/// One child more: what the node shows.
 #[inline(always)]
 pub(crate) fn add_child<'a, N: Evaluate<'a>>(
     alloc: Global,
@@ -54,7 +54,7 @@ pub(crate) fn add_child<'a, N: Evaluate<'a>>(
     Ok(())
 }
 
-// What each of them shows.
+/// What each of them shows.
 pub(crate) fn each_child<'a, N: Evaluate<'a>>(
     alloc: Global,
     schemas: &'a Vec<N>,
