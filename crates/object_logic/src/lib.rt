@@ -1,10 +1,11 @@
 //! Validation by the object and logic keywords of JSON Schema: what a user of the library calls.
 //!
-//! Stands on `olk_keywords` and `olk_node`, and gives out what is below. Tested by `olk_tests`; `olk_example` is a
-//! caller.
+//! Stands on `olk_keywords` and `olk_node`, and gives out what is below. Tested by `olk_tests`;
+//! `olk_example` is a caller.
 //!
-//! `AllOfValidator` and its like hold nodes of the type `SchemaNode`; `AllOf` and its like are the same over nodes of any
-//! type. `PropertiesMap` holds `SchemaNode`s too, and the one over nodes of any type stands in `properties_map`.
+//! `AllOfValidator` and its like hold nodes of the type `SchemaNode`; `AllOf` and its like are the
+//! same over nodes of any type. `PropertiesMap` holds `SchemaNode`s too, and the one over nodes of
+//! any type stands in `properties_map`.
 #![tactic(auto)]
 
 mod numbers;

@@ -1,11 +1,12 @@
-// Whether the numbers of a value are whole numbers of 64 bits.
+//! Whether the numbers of a value are whole numbers of 64 bits.
 ghost use Rattle.std.specs.Prelude.{◌≡◌, not};
 ghost use Rattle.serde_json.specs.View.{view, items_view, members_view};
 ghost use Rattle.serde_json.specs.Written.{has_float, items_have_float, members_have_float};
 
 use serde_json::{Map, Value};
 
-/// Whether each number in the value is a whole number of 64 bits, one that answers `as_i64` or `as_u64`.
+/// Whether each number in the value is a whole number of 64 bits, one that answers `as_i64` or
+/// `as_u64`.
 ///
 /// Takes no memory.
 #[cycle(numbers)]

@@ -23,7 +23,7 @@ use olk_reports::{BuildError, Evaluation, ValidateError, ValidationError};
 use serde_json::Value;
 use std::alloc::{AllocError, Global};
 
-// The meter that a build counted on. Without this the counts are lost with the context's place.
+/// The meter that a build counted on. Without this the counts are lost with the context's place.
 fn meter_of<'c, L, M>(ctx: Context<'c, L, M>) -> &'c mut Meter
     ensures same_meter { result.ghost_name ≡ ctx.entry.meter.ghost_name }
     ensures counts { result.now ≡ ctx.entry.meter.now }
@@ -40,13 +40,14 @@ pub struct Validator<K, R> {
 impl<K: Leaf, R: RegexEngine> Validator<K, R> {
     /// Builds the validator of a schema, with the leaves and the matchers that the makers give.
     ///
-    /// The meter rises by what the schema costs, each subschema being compiled once, or by a part of it where nothing is
-    /// built.
+    /// The meter rises by what the schema costs, each subschema being compiled once, or by a part
+    /// of it where nothing is built.
     ///
     /// # Errors
     ///
-    /// A malformed schema is refused with one of its malformations (JSON Schema 2020-12 Core, 4.3, and the shapes of the
-    /// keywords), and only such a schema is. Without memory nothing is said of the schema.
+    /// A malformed schema is refused with one of its malformations (JSON Schema 2020-12 Core, 4.3,
+    /// and the shapes of the keywords), and only such a schema is. Without memory nothing is said
+    /// of the schema.
     pub fn build<'s, L: MakeLeaf<Leaf = K>, M: MakeRegex<Engine = R>>(
         alloc: Global,
         leaves: &L,
@@ -71,12 +72,13 @@ impl<K: Leaf, R: RegexEngine> Validator<K, R> {
         Ok(Validator { root: built? })
     }
 
-    /// Whether the schema accepts the instance (JSON Schema 2020-12 Core, 4.3.2 and 10), with the context's answer for
-    /// matches that are left unfinished.
+    /// Whether the schema accepts the instance (JSON Schema 2020-12 Core, 4.3.2 and 10), with the
+    /// context's answer for matches that are left unfinished.
     ///
-    /// Takes no memory. The context keeps its answer. Of the counts, those of matchers that were asked and of matches that
-    /// were left unfinished rise, each by at most what the schema asks; where the second does not, and is below `u64::MAX`,
-    /// the schema accepts with either answer or with neither.
+    /// Takes no memory. The context keeps its answer. Of the counts, those of matchers that were
+    /// asked and of matches that were left unfinished rise, each by at most what the schema asks;
+    /// where the second does not, and is below `u64::MAX`, the schema accepts with either answer or
+    /// with neither.
     pub fn is_valid(&self, instance: &Value, ctx: &mut ValidationContext) -> bool
         ensures context { OnlyAsks ctx.old ctx.new }
         ensures verdict { (S : Data) → IsValidatorOf (kit K.Leaf R.RegexEngine) self.now S
@@ -97,16 +99,17 @@ impl<K: Leaf, R: RegexEngine> Validator<K, R> {
         is_valid_for(&self.root, Node::Value(instance), ctx)
     }
 
-    /// The first error of the walk over the instance; none where the schema accepts it (JSON Schema 2020-12 Core, 4.3.2
-    /// and 10), with the context's answer for matches that are left unfinished.
+    /// The first error of the walk over the instance; none where the schema accepts it (JSON Schema
+    /// 2020-12 Core, 4.3.2 and 10), with the context's answer for matches that are left unfinished.
     ///
-    /// An accepted instance costs a verdict and no memory. The context keeps its answer; of the counts only those of
-    /// matchers that were asked and of matches that were left unfinished rise.
+    /// An accepted instance costs a verdict and no memory. The context keeps its answer; of the
+    /// counts only those of matchers that were asked and of matches that were left unfinished rise.
     ///
     /// # Errors
     ///
-    /// That error, which is of the first step that refuses, and is one of a report of the schema over the instance (where
-    /// members that nothing allows are told, the first of them alone); or want of memory.
+    /// That error, which is of the first step that refuses, and is one of a report of the schema
+    /// over the instance (where members that nothing allows are told, the first of them alone); or
+    /// want of memory.
     pub fn validate<'a>(
         &'a self,
         alloc: Global,
@@ -131,12 +134,13 @@ impl<K: Leaf, R: RegexEngine> Validator<K, R> {
         validate_for(alloc, &self.root, node, &mut path, ctx)
     }
 
-    /// Appends all errors of the instance: a report of the schema over it (JSON Schema 2020-12 Core, 4.3.2 and 10), with
-    /// the context's answer for matches that are left unfinished. None is appended exactly where the schema accepts the
-    /// instance.
+    /// Appends all errors of the instance: a report of the schema over it (JSON Schema 2020-12
+    /// Core, 4.3.2 and 10), with the context's answer for matches that are left unfinished. None is
+    /// appended exactly where the schema accepts the instance.
     ///
-    /// A member that is accepted costs a verdict, and its path is not written. The context keeps its answer; of the counts
-    /// only those of matchers that were asked and of matches that were left unfinished rise.
+    /// A member that is accepted costs a verdict, and its path is not written. The context keeps
+    /// its answer; of the counts only those of matchers that were asked and of matches that were
+    /// left unfinished rise.
     ///
     /// # Errors
     ///
@@ -168,11 +172,12 @@ impl<K: Leaf, R: RegexEngine> Validator<K, R> {
         )
     }
 
-    /// What the schema shows of the instance: a tree of results, with their annotations and errors (JSON Schema 2020-12
-    /// Core, 7.7 and 12), with the context's answer for matches that are left unfinished.
+    /// What the schema shows of the instance: a tree of results, with their annotations and errors
+    /// (JSON Schema 2020-12 Core, 7.7 and 12), with the context's answer for matches that are left
+    /// unfinished.
     ///
-    /// The context keeps its answer; of the counts only those of matchers that were asked and of matches that were left
-    /// unfinished rise.
+    /// The context keeps its answer; of the counts only those of matchers that were asked and of
+    /// matches that were left unfinished rise.
     ///
     /// # Errors
     ///

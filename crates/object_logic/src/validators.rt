@@ -1,5 +1,5 @@
-//! The names that the validator of `additionalProperties` has by what stands beside it. All are one type, whose fields say
-//! what does.
+//! The names that the validator of `additionalProperties` has by what stands beside it. All are one
+//! type, whose fields say what does.
 
 use olk_node::SchemaNode;
 use olk_tree::additional_properties::AdditionalProperties;
@@ -13,7 +13,8 @@ pub type AdditionalPropertiesNotEmptyFalseValidator<K, R> = AdditionalProperties
     SchemaNode<K, R>,
 >;
 
-/// The same with `required` of one name.
+/// `additionalProperties` that is `false`, with `properties` and `required` of one name, over
+/// nodes.
 pub type AdditionalPropertiesNotEmptyFalseWithRequired1Validator<K, R> = AdditionalProperties<
     R,
     SchemaNode<K, R>,

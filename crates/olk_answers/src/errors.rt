@@ -1,3 +1,4 @@
+//! Errors as compact JSON: the first, all of them, and that of a malformed schema.
 ghost use Rattle.std.specs.Prelude.{◌≡◌, IfOk, map, false};
 ghost use Rattle.serde_json.specs.View.{view};
 ghost use Rattle.olk_reports.specs.Errors.{fault_of};
@@ -109,8 +110,8 @@ pub fn first_text(
     }
 }
 
-/// The answer that tells errors, sorted by instance path, schema path and message in byte order. Where there is none,
-/// the instance is valid.
+/// The answer that tells errors, sorted by instance path, schema path and message in byte order.
+/// Where there is none, the instance is valid.
 ///
 /// The only error is want of memory.
 pub fn errors_text(alloc: Global, errors: &[ValidationError<'_>]) -> Result<Vec<u8>, AllocError>
@@ -123,7 +124,8 @@ pub fn errors_text(alloc: Global, errors: &[ValidationError<'_>]) -> Result<Vec<
     compact_text(alloc, &value)
 }
 
-/// The refusal of a malformed schema: the error in words, and its place in the schema (JSON Pointer, RFC 6901).
+/// The refusal of a malformed schema: the error in words, and its place in the schema (JSON
+/// Pointer, RFC 6901).
 ///
 /// The only error is want of memory.
 pub fn malformation_text(alloc: Global, error: &ValidationError<'_>) -> Result<Vec<u8>, AllocError>

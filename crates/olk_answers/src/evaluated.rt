@@ -1,3 +1,4 @@
+//! Evaluations as compact JSON.
 ghost use Rattle.std.specs.Prelude.{◌≡◌, IfOk, map};
 ghost use Rattle.serde_json.specs.Data.{string};
 ghost use Rattle.serde_json.specs.View.{view};
@@ -86,7 +87,8 @@ fn evaluation_value(
     })
 }
 
-/// The answer that tells an evaluation: its annotations and its errors, each in the order of the tree, and the verdict.
+/// The answer that tells an evaluation: its annotations and its errors, each in the order of the
+/// tree, and the verdict.
 ///
 /// # Errors
 ///

@@ -15,17 +15,22 @@ use olk_base::{JsonType, Leaf, Node};
 use serde_json::Value;
 use std::alloc::{AllocError, Global};
 
-/// The kinds of values that `type` names (JSON Schema 2020-12 Validation, 6.1.1): whole numbers, and those of each type.
+/// The kinds of values that `type` names (JSON Schema 2020-12 Validation, 6.1.1): whole numbers,
+/// and those of each type.
 #[derive(Clone, Copy)]
 pub enum ValueKind {
+    /// Whole numbers.
     Integer,
+    /// The values of a type.
     Of(JsonType),
 }
 
 /// What `const` compares with (JSON Schema 2020-12 Validation, 6.1.3): a whole number or a text.
 #[derive(Drop)]
 pub enum Constant {
+    /// A whole number.
     Number(WholeNumber),
+    /// A text.
     Text(String),
 }
 
@@ -35,12 +40,19 @@ pub enum Constant {
 /// numbers alone, `minLength` and `maxLength` at texts alone, and accept everything else.
 #[derive(Drop)]
 pub enum BenchLeaf {
+    /// `type`: the kind that a value is to be of.
     Type(ValueKind),
+    /// `const`: what a value is to equal.
     Const(Constant),
+    /// `minimum`: what a whole number is not to be below.
     Minimum(WholeNumber),
+    /// `maximum`: what a whole number is not to be above.
     Maximum(WholeNumber),
+    /// `multipleOf`: what is to divide a whole number.
     MultipleOf(Divisor),
+    /// `minLength`: how many characters a text is to have at least.
     MinLength(u64),
+    /// `maxLength`: how many characters a text is to have at most.
     MaxLength(u64),
 }
 
@@ -99,7 +111,7 @@ impl Leaf for BenchLeaf {
 }
 
 impl BenchLeaf {
-    // Whether the value is accepted; apart, so that asking for a type is inlined into walks.
+    /// Whether the value is accepted; apart, so that asking for a type is inlined into walks.
     #[inline(never)]
     fn accepts(&self, node: Node<'_>) -> bool
         ensures { result ≡ is_empty (leaf_finds self.now (data_of node.entry)) }
@@ -115,7 +127,7 @@ impl BenchLeaf {
         }
     }
 
-    // What is said of a value that is not accepted.
+    /// What is said of a value that is not accepted.
     fn text(&self, alloc: Global, node: Node<'_>) -> Result<String, AllocError>
         ensures { IfOk result (λ s. string_bytes s ≡ leaf_text self.now (data_of node.entry)) }
     {

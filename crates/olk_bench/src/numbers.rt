@@ -8,7 +8,9 @@ use std::fmt::Write;
 /// A JSON number that answers `as_u64`, or else `as_i64`.
 #[derive(Clone, Copy)]
 pub enum WholeNumber {
+    /// A number that answers `as_u64`.
     Unsigned(u64),
+    /// A number that answers `as_i64` alone.
     Negative(i64),
 }
 
@@ -59,7 +61,7 @@ impl WholeNumber {
         }
     }
 
-    // Appends the digits.
+    /// Appends the digits.
     pub(crate) fn write_to(self, text: &mut String) -> Result<(), AllocError>
         ensures { OnOk result (string_bytes text.new
             ≡ string_bytes text.old ++ number_text (num_of self)) }

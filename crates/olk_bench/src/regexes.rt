@@ -55,8 +55,9 @@ impl RegexEngine for BenchRegex {
 /// Makes matchers of plain texts.
 ///
 /// A pattern is a body, with `^` before it or not and `$` behind it or not, or `(slow)` and a body.
-/// A body is one item or more, of which each is a character other than `\ ^ $ . * + ? ( ) [ ] { } |`,
-/// or a backslash followed by one of these or by `/`. Every other pattern is refused.
+/// A body is one item or more, of which each is a character other than
+/// `\ ^ $ . * + ? ( ) [ ] { } |`, or a backslash followed by one of these or by `/`. Every other
+/// pattern is refused.
 #[derive(Drop)]
 pub struct BenchRegexes;
 
@@ -118,7 +119,7 @@ fn read_pattern(alloc: Global, pattern: &str) -> Result<Option<BenchRegex>, Allo
     }
 }
 
-// What is left behind the prefix.
+/// What is left behind the prefix.
 fn strip_text<'a>(text: &'a str, prefix: &str) -> Option<&'a str>
     ensures { MatchOption result (starts_with nat_eq text.now prefix.now ≡ false)
         (λ rest. (starts_with nat_eq text.now prefix.now ≡ true)
@@ -127,7 +128,7 @@ fn strip_text<'a>(text: &'a str, prefix: &str) -> Option<&'a str>
     text.strip_prefix(prefix)
 }
 
-// A body behind `(slow)`.
+/// A body behind `(slow)`.
 fn read_slow(alloc: Global, pattern: &str) -> Result<Option<BenchRegex>, AllocError>
     ensures { IfOk result (λ o. option_map pattern_of o
         ≡ slow_pattern (body_of (chars pattern.now))) }
@@ -142,7 +143,7 @@ fn read_slow(alloc: Global, pattern: &str) -> Result<Option<BenchRegex>, AllocEr
     }
 }
 
-// A body, with `$` behind it or not.
+/// A body, with `$` behind it or not.
 fn read_text(alloc: Global, at_start: bool, pattern: &str) -> Result<Option<BenchRegex>, AllocError>
     ensures { IfOk result (λ o. option_map pattern_of o
         ≡ text_pattern at_start (body_of (chars pattern.now))) }
@@ -167,7 +168,7 @@ fn read_text(alloc: Global, at_start: bool, pattern: &str) -> Result<Option<Benc
     }
 }
 
-// The body at the start, and what is left behind it.
+/// The body at the start, and what is left behind it.
 fn read_body<'a>(alloc: Global, pattern: &'a str) -> Result<Option<(String, &'a str)>, AllocError>
     ensures { IfOk result (λ o. MatchOption o (is_empty (body_of (chars pattern.now)).0 ≡ true)
         (λ r. IsBodyRead (body_of (chars pattern.now)) (string_bytes r.0) (chars r.1.now))) }
@@ -180,7 +181,7 @@ fn read_body<'a>(alloc: Global, pattern: &'a str) -> Result<Option<(String, &'a 
     }
 }
 
-// Whether the text has these characters.
+/// Whether the text has these characters.
 fn is_ascii_text(text: &str, ascii: &str) -> bool
     requires { IsTrue (list_all (λ b. nat_lt b 128) ascii.now) }
     ensures { result ≡ bytes_eq (chars text.now) ascii.now }

@@ -48,7 +48,7 @@ fn members_have_fraction(members: &Map<String, Value>) -> bool
     false
 }
 
-// The text as JSON.
+/// The text as JSON.
 pub(crate) fn quoted_text(alloc: Global, text: &str) -> Result<String, AllocError>
     ensures { IfOk result (λ s. string_bytes s ≡ compact_text (string text.now)) }
 {
@@ -56,7 +56,7 @@ pub(crate) fn quoted_text(alloc: Global, text: &str) -> Result<String, AllocErro
     value.to_string(alloc)
 }
 
-// The value as JSON, and `value` where it has a number that is not whole.
+/// The value as JSON, and `value` where it has a number that is not whole.
 pub(crate) fn shown_text(alloc: Global, node: Node<'_>) -> Result<String, AllocError>
     ensures { IfOk result (λ s. string_bytes s ≡ shown (data_of node.entry)) }
 {
@@ -78,7 +78,7 @@ pub(crate) fn digits(alloc: Global, number: WholeNumber) -> Result<String, Alloc
     Ok(text)
 }
 
-// The value, the text and the number.
+/// The value, the text and the number.
 pub(crate) fn compared_text(
     alloc: Global,
     node: Node<'_>,

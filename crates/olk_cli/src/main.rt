@@ -1,6 +1,7 @@
 //! Answers requests to validate, one a line.
 //!
-//! Stands on `object_logic`, `olk_bench`, `olk_answers` and `olk_lines`. Tested by its files `stdin` and `stdout`.
+//! Stands on `object_logic`, `olk_bench`, `olk_answers` and `olk_lines`. Tested by its files
+//! `stdin` and `stdout`.
 #![tactic(auto)]
 
 mod answer;

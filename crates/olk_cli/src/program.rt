@@ -25,8 +25,8 @@ impl AnswerLine for Validation {
 /// Answers each line of the input by one line, and gives the exit status, of `olk_lines`.
 ///
 /// - `DONE`: the input is read to its end, and each of its lines is answered, in order.
-/// - `FAILED`: a read or a write failed, or `u64::MAX` lines were answered. The first lines are answered, and after
-///   that at most a beginning of the next line's answer is written.
+/// - `FAILED`: a read or a write failed, or `u64::MAX` lines were answered. The first lines are
+///   answered, and after that at most a beginning of the next line's answer is written.
 /// - `MEMORY`: there was no memory. The first lines are answered, and nothing more is written.
 ///
 /// Lines end with a line feed; what stands after the last one is a line unless it is empty.

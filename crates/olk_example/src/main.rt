@@ -1,4 +1,5 @@
-//! Callers of the library: with the bench's leaves and matcher, and with a leaf and a matcher of their own.
+//! Callers of the library: with the bench's leaves and matcher, and with a leaf and a matcher of
+//! their own.
 //!
 //! Stands on `object_logic` and `olk_bench`. Tested by its file `stdout`.
 #![tactic(auto)]
@@ -31,12 +32,12 @@ fn main(rt: HostRuntime) -> io::Result<()> {
     ask(&rt, &Words, &EqualNames, OWN, r#"{"kind":"dog"}"#)
 }
 
-// The JSON value of a text.
+/// The JSON value of a text.
 fn parse(alloc: Global, text: &str) -> io::Result<Value> {
     Value::from_str(alloc, text).map_err(|_| io::Error::from(ErrorKind::InvalidData))
 }
 
-// Builds the validator of a schema, and asks it of an instance.
+/// Builds the validator of a schema, and asks it of an instance.
 fn ask<L: MakeLeaf, M: MakeRegex>(
     rt: &HostRuntime,
     leaves: &L,
@@ -63,7 +64,7 @@ fn build_and_print<L: MakeLeaf, M: MakeRegex>(
     }
 }
 
-// Prints the verdict, each error with its places, and the annotations.
+/// Prints the verdict, each error with its places, and the annotations.
 fn print<K: Leaf, R: RegexEngine>(
     rt: &HostRuntime,
     validator: &Validator<K, R>,

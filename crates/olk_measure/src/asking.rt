@@ -12,8 +12,8 @@ use olk_bench::{BenchLeaves, BenchRegexes};
 use serde_json::Value;
 use std::alloc::{AllocError, Global};
 
-/// Asks what is asked so often, or builds so often and asks once, and gives the verdict of the last time; none where the
-/// schema is refused, and where there was no memory.
+/// Asks what is asked so often, or builds so often and asks once, and gives the verdict of the last
+/// time; none where the schema is refused, and where there was no memory.
 pub fn ask_often(alloc: Global, request: &Request<'_>) -> Option<bool>
     ensures { IfSome result (λ valid. valid
         ≡ accepts bench false (view request.now.schema.now) (view request.now.instance.now)) }
@@ -26,7 +26,7 @@ pub fn ask_often(alloc: Global, request: &Request<'_>) -> Option<bool>
     build_and_ask(alloc, request, asks)
 }
 
-// Builds once, and asks so often.
+/// Builds once, and asks so often.
 fn build_and_ask(alloc: Global, request: &Request<'_>, times: u64) -> Option<bool>
     ensures { IfSome result (λ valid. valid
         ≡ accepts bench false (view request.now.schema.now) (view request.now.instance.now)) }
@@ -43,7 +43,7 @@ fn build_and_ask(alloc: Global, request: &Request<'_>, times: u64) -> Option<boo
     ask_times(alloc, request, &validator, times).ok()
 }
 
-// All but the last of so many builds.
+/// All but the last of so many builds.
 fn build_often(alloc: Global, schema: &Value, times: u64) -> Option<()> {
     for _ in 1..times {
         let mut meter = Meter::new();
@@ -52,7 +52,7 @@ fn build_often(alloc: Global, schema: &Value, times: u64) -> Option<()> {
     Some(())
 }
 
-// Asks so often, and gives the verdict of the last time.
+/// Asks so often, and gives the verdict of the last time.
 fn ask_times<K: Leaf, R: RegexEngine>(
     alloc: Global,
     request: &Request<'_>,
@@ -71,7 +71,7 @@ fn ask_times<K: Leaf, R: RegexEngine>(
     ask(alloc, request.ask, validator, request.instance)
 }
 
-// One question; of what is built it is whether it accepts.
+/// One question; of what is built it is whether it accepts.
 fn ask<K: Leaf, R: RegexEngine>(
     alloc: Global,
     ask: Ask,
@@ -89,7 +89,8 @@ fn ask<K: Leaf, R: RegexEngine>(
     }
 }
 
-// Asks for the verdict so often; it costs so little that choosing the way of asking each time would show.
+/// Asks for the verdict so often; it costs so little that choosing the way of asking each time
+/// would show.
 fn is_valid_often<K: Leaf, R: RegexEngine>(
     validator: &Validator<K, R>,
     instance: &Value,

@@ -1,6 +1,7 @@
 //! Asks one question many times, so that the instructions that one takes can be counted.
 //!
-//! Stands on `object_logic`, `olk_bench` and `olk_answers`. Tested by its files `stdin` and `stdout`.
+//! Stands on `object_logic`, `olk_bench` and `olk_answers`. Tested by its files `stdin` and
+//! `stdout`.
 #![tactic(auto)]
 
 mod asking;
@@ -19,7 +20,7 @@ const DONE: u8 = 0;
 
 const FAILED: u8 = 2;
 
-// The verdict on the instance of the one request that the bytes are, as a line.
+/// The verdict on the instance of the one request that the bytes are, as a line.
 fn answer(alloc: Global, bytes: &[u8]) -> Option<Vec<u8>> {
     let value = Value::from_slice(alloc, bytes).ok()?;
     let request = read_request(&value)?;

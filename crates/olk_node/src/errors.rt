@@ -52,16 +52,17 @@ impl<'a, K: Leaf, R: RegexEngine> Errors<'a> for SchemaNode<K, R> {
     }
 }
 
-/// The first error of the walk over the node, where the place stands for a schema; none where the schema accepts it
-/// (JSON Schema 2020-12 Core, 4.3.2 and 10).
+/// The first error of the walk over the node, where the place stands for a schema; none where the
+/// schema accepts it (JSON Schema 2020-12 Core, 4.3.2 and 10).
 ///
-/// The path and the context's answer are as before; of the counts only those of matchers that were asked and of matches
-/// that were left unfinished rise.
+/// The path and the context's answer are as before; of the counts only those of matchers that were
+/// asked and of matches that were left unfinished rise.
 ///
 /// # Errors
 ///
-/// That error, which is of the first step that refuses, and is one of a report of the schema over the node, at the
-/// schema's place and the path (where members that nothing allows are told, the first of them alone); or want of memory.
+/// That error, which is of the first step that refuses, and is one of a report of the schema over
+/// the node, at the schema's place and the path (where members that nothing allows are told, the
+/// first of them alone); or want of memory.
 pub fn validate_for<'a, K: Leaf, R: RegexEngine>(
     alloc: Global,
     place: &'a SchemaNode<K, R>,
@@ -85,11 +86,11 @@ pub fn validate_for<'a, K: Leaf, R: RegexEngine>(
     place.validate(alloc, node, path, ctx)
 }
 
-/// Appends all errors of the node, where the place stands for a schema: a report of the schema over the node, at the
-/// schema's place and the path (JSON Schema 2020-12 Core, 4.3.2 and 10).
+/// Appends all errors of the node, where the place stands for a schema: a report of the schema over
+/// the node, at the schema's place and the path (JSON Schema 2020-12 Core, 4.3.2 and 10).
 ///
-/// The path and the context's answer are as before; of the counts only those of matchers that were asked and of matches
-/// that were left unfinished rise.
+/// The path and the context's answer are as before; of the counts only those of matchers that were
+/// asked and of matches that were left unfinished rise.
 ///
 /// # Errors
 ///

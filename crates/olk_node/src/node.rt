@@ -1,4 +1,4 @@
-//! Places of a schema.
+//! Places of a schema, as nodes that hold each other.
 ghost use Rattle.std.specs.Prelude.{◌≡◌};
 
 use olk_base::{Leaf, RegexEngine};
@@ -24,7 +24,8 @@ pub struct SchemaNode<K, R> {
     pub body: Body<Keyword<K, R>>,
 }
 
-// By hand, so that the crates above drop a node by one call, and what is below it is dropped here alone.
+// By hand, so that the crates above drop a node by one call, and what is below it is dropped here
+// alone.
 impl<K: Drop, R: Drop> Drop for SchemaNode<K, R> {
     fn drop(self) {
         let SchemaNode {
