@@ -15,7 +15,7 @@ use std::test::Fail;
 
 // ---- what is compiled, as a line
 
-// Where what is not built is refused.
+/// Where what is not built is refused.
 fn refused_line(alloc: Global, error: &BuildError<'_>) -> Result<String, AllocError> {
     match error {
         BuildError::Refused(error) => format!(in alloc; " refused {}", error.schema_path()),
@@ -23,7 +23,7 @@ fn refused_line(alloc: Global, error: &BuildError<'_>) -> Result<String, AllocEr
     }
 }
 
-// Names, each with its node.
+/// Names, each with its node.
 fn nodes_line<N: Shown>(
     alloc: Global,
     names: &SortedNames,
@@ -54,7 +54,7 @@ fn big_map_line<N: Shown>(
     }
 }
 
-// Patterns, each with its node.
+/// Patterns, each with its node.
 fn patterns_line<R, N: Shown>(
     alloc: Global,
     patterns: &[(CompiledPattern<R>, N)],
@@ -131,7 +131,7 @@ fn line_of<N: Place<NoText, EqualTo> + Shown>(
     }
 }
 
-// A line behind what is counted, or the place of what is refused.
+/// A line behind what is counted, or the place of what is refused.
 fn counted(alloc: Global, meter: &Meter, line: &str) -> Result<String, AllocError> {
     if let Some(place) = line.strip_prefix(" refused ") {
         return String::from_str(alloc, place);
@@ -162,7 +162,7 @@ fn told_of_json(alloc: Global, kind: &str, json: &str) -> Result<String, Fail> {
     told
 }
 
-// What is compiled of an object, as a map of few names, a map of many, or patterns.
+/// What is compiled of an object, as a map of few names, a map of many, or patterns.
 fn compiled(alloc: Global, row: &str) -> Result<String, Fail> {
     match row.split_once(" | ") {
         Some((kind, json)) => told_of_json(alloc, kind, json),
@@ -172,7 +172,8 @@ fn compiled(alloc: Global, row: &str) -> Result<String, Fail> {
 
 // ---- the tables
 
-// An object, and what is compiled of it: how many places, leaves and engines, and each name with its node.
+// An object, and what is compiled of it: how many places, leaves and engines, and each name with
+// its node.
 const ENTRIES: &str =
     r#"small | {"b":{"text":false},"":{},"a/~":{"not":true}} | 4 1 0 : /properties/ a/~: /properties/a~1~0 b: /properties/b
 big | {"b":{"text":false},"":{},"a/~":{"not":true}} | 4 1 0 : /properties/ a/~: /properties/a~1~0 b: /properties/b

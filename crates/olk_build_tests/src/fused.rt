@@ -28,7 +28,7 @@ fn add_declared(
     Ok(())
 }
 
-// So many declared names.
+/// So many declared names.
 fn declared(alloc: Global, count: usize) -> Result<Value, AllocError> {
     let mut declared = Map::new(alloc);
     add_declared(&mut declared, alloc, count)?;
@@ -45,7 +45,7 @@ fn add_properties(
     Ok(())
 }
 
-// Adds so many declared names to a schema object.
+/// Adds so many declared names to a schema object.
 fn close(schema: &mut Value, alloc: Global, count: usize) -> Result<(), Fail> {
     match schema.as_object_mut() {
         Some(members) => Ok(add_properties(members, alloc, count)?),
@@ -53,17 +53,18 @@ fn close(schema: &mut Value, alloc: Global, count: usize) -> Result<(), Fail> {
     }
 }
 
-// A schema object with so many declared names, beside these members.
+/// A schema object with so many declared names, beside these members.
 fn closed(alloc: Global, count: usize, others: &str) -> Result<Value, Fail> {
     let mut schema = Value::from_str(alloc, others)?;
     close(&mut schema, alloc, count)?;
     Ok(schema)
 }
 
-// What a keyword's module compiles. It is dropped by name: where it ends with its scope, the proof takes a minute longer.
+/// What a keyword's module compiles. It is dropped by name: where it ends with its scope, the proof
+/// takes a minute longer.
 type Made<'a, N> = Option<Result<KeywordOver<NoText, EqualTo, N>, BuildError<'a>>>;
 
-// Whether it is a keyword of `properties` that fuses what `required` lists.
+/// Whether it is a keyword of `properties` that fuses what `required` lists.
 fn is_fused<N>(made: &Made<'_, N>) -> Result<bool, Fail> {
     match made {
         Some(Ok(KeywordOver::PropertiesWithRequired2(keyword))) => {
@@ -77,7 +78,7 @@ fn is_fused<N>(made: &Made<'_, N>) -> Result<bool, Fail> {
     }
 }
 
-// Whether the keyword of `properties` fuses what `required` lists.
+/// Whether the keyword of `properties` fuses what `required` lists.
 fn fuses<N: Place<NoText, EqualTo>>(
     alloc: Global,
     parent: &Map<String, Value>,
@@ -92,7 +93,7 @@ fn fuses<N: Place<NoText, EqualTo>>(
     is_fused
 }
 
-// Whether `required` has a keyword of its own.
+/// Whether `required` has a keyword of its own.
 fn stands_alone<N: Place<NoText, EqualTo>>(alloc: Global, parent: &Map<String, Value>) -> bool {
     let mut meter = Meter::new();
     let mut ctx = Context::new(alloc, &NoTexts, &Equality, &mut meter);
@@ -104,7 +105,7 @@ fn stands_alone<N: Place<NoText, EqualTo>>(alloc: Global, parent: &Map<String, V
     is_some
 }
 
-// How many keywords the node has.
+/// How many keywords the node has.
 fn count_of<N: Shown>(built: &Result<N, BuildError<'_>>) -> Result<usize, Fail> {
     match built {
         Ok(node) => Ok(node.keywords().ok_or("no object")?.len()),
@@ -112,7 +113,7 @@ fn count_of<N: Shown>(built: &Result<N, BuildError<'_>>) -> Result<usize, Fail> 
     }
 }
 
-// How many keywords the schema has.
+/// How many keywords the schema has.
 fn keyword_count<N: Place<NoText, EqualTo> + Shown>(
     alloc: Global,
     schema: &Value,
@@ -151,8 +152,8 @@ fn line_beside(alloc: Global, count: usize, others: &str) -> Result<String, Fail
     line
 }
 
-// Of a number of declared names and the members beside them: whether `properties` fuses what `required` lists, whether
-// `required` stands alone, and how many keywords there are.
+/// Of a number of declared names and the members beside them: whether `properties` fuses what
+/// `required` lists, whether `required` stands alone, and how many keywords there are.
 fn found(alloc: Global, row: &str) -> Result<String, Fail> {
     match row.split_once(" ") {
         Some((count, others)) => line_beside(alloc, count.parse()?, others),

@@ -24,7 +24,7 @@ fn push_small_map<N: Shown>(text: &mut String, map: &SmallMap<N>) -> Result<(), 
     push_nodes(text, &map.names, map.nodes.as_slice())
 }
 
-// A name with the texts that choose, each with its node.
+/// A name with the texts that choose, each with its node.
 fn push_choice<N: Shown>(
     text: &mut String,
     name: &str,
@@ -62,7 +62,7 @@ fn push_declared<R, N: Shown>(
     }
 }
 
-// Where the patterns stand, and each with its node.
+/// Where the patterns stand, and each with its node.
 fn push_beside<R, N: Shown>(
     text: &mut String,
     keyword: &AdditionalProperties<R, N>,
@@ -76,7 +76,7 @@ fn push_beside<R, N: Shown>(
     }
 }
 
-// The node for the rest.
+/// The node for the rest.
 fn push_rest<R, N: Shown>(
     text: &mut String,
     keyword: &AdditionalProperties<R, N>,
@@ -90,7 +90,7 @@ fn push_rest<R, N: Shown>(
     }
 }
 
-// The name that is required, and where.
+/// The name that is required, and where.
 fn push_required<R, N>(
     text: &mut String,
     keyword: &AdditionalProperties<R, N>,
@@ -114,7 +114,7 @@ fn push_restriction<R, N: Shown>(
     push_required(text, keyword)
 }
 
-// The form of a keyword of branches, or of a condition.
+/// The form of a keyword of branches, or of a condition.
 fn form_of<K, R, N>(keyword: &KeywordOver<K, R, N>) -> &'static str {
     match keyword {
         KeywordOver::SingleValueAllOf(_) => "single allOf",
@@ -128,7 +128,7 @@ fn form_of<K, R, N>(keyword: &KeywordOver<K, R, N>) -> &'static str {
     }
 }
 
-// Where a keyword stands, if its place is told.
+/// Where a keyword stands, if its place is told.
 fn place_of<K, R, N>(keyword: &KeywordOver<K, R, N>) -> &str {
     match keyword {
         KeywordOver::Not(keyword) => keyword.location.as_str(),
@@ -157,7 +157,7 @@ fn push_single<R, N: Shown>(
     push_pattern(text, pattern, node)
 }
 
-// What a keyword holds.
+/// What a keyword holds.
 fn push_held<K, R, N: Shown>(
     text: &mut String,
     keyword: &KeywordOver<K, R, N>,
@@ -190,10 +190,11 @@ fn keyword_line<K, R, N: Shown>(
 
 // ---- what is compiled
 
-// What a module compiles. It is dropped by name: where it ends with its scope, the proof takes a minute longer.
+/// What a module compiles. It is dropped by name: where it ends with its scope, the proof takes a
+/// minute longer.
 type Made<'a, N> = Option<Result<KeywordOver<NoText, EqualTo, N>, BuildError<'a>>>;
 
-// What the module of the keyword compiles.
+/// What the module of the keyword compiles.
 fn compiled<'a, N: Place<NoText, EqualTo>>(
     alloc: Global,
     ctx: &mut Context<'_, NoTexts, Equality>,
@@ -210,7 +211,7 @@ fn compiled<'a, N: Place<NoText, EqualTo>>(
     }
 }
 
-// The same of a keyword that speaks of members.
+/// What the module of a keyword compiles that speaks of members.
 fn compiled_of_members<'a, N: Place<NoText, EqualTo>>(
     alloc: Global,
     ctx: &mut Context<'_, NoTexts, Equality>,
@@ -226,7 +227,7 @@ fn compiled_of_members<'a, N: Place<NoText, EqualTo>>(
     }
 }
 
-// The same of a keyword that speaks of what a member wants of the others.
+/// What the module of a keyword compiles that speaks of what a member wants of the others.
 fn compiled_of_dependencies<'a, N: Place<NoText, EqualTo>>(
     alloc: Global,
     ctx: &mut Context<'_, NoTexts, Equality>,
@@ -245,7 +246,7 @@ fn compiled_of_dependencies<'a, N: Place<NoText, EqualTo>>(
     }
 }
 
-// What is made, as a line.
+/// What is made, as a line.
 fn line_of<N: Shown>(alloc: Global, made: &Made<'_, N>) -> Result<String, AllocError> {
     match made {
         None => String::from_str(alloc, "none"),
@@ -254,7 +255,7 @@ fn line_of<N: Shown>(alloc: Global, made: &Made<'_, N>) -> Result<String, AllocE
     }
 }
 
-// What is compiled of the member of this name, as a line.
+/// What is compiled of the member of this name, as a line.
 fn compiled_line<N: Place<NoText, EqualTo> + Shown>(
     alloc: Global,
     parent: &Map<String, Value>,
@@ -270,7 +271,8 @@ fn compiled_line<N: Place<NoText, EqualTo> + Shown>(
     line
 }
 
-// A line behind what is counted: how many places, leaves and engines, and how often these are asked.
+/// A line behind what is counted: how many places, leaves and engines, and how often these are
+/// asked.
 fn counted(alloc: Global, meter: &Meter, line: &str) -> Result<String, AllocError> {
     let (places, leaves) = (meter.compiled(), meter.leaves());
     let (engines, asks) = (meter.made(), meter.asked());
@@ -307,7 +309,7 @@ fn line_of_json(alloc: Global, name: &str, json: &str) -> Result<String, Fail> {
     line
 }
 
-// What is compiled of the member of a name, in an object.
+/// What is compiled of the member of a name, in an object.
 fn compiled_of(alloc: Global, row: &str) -> Result<String, Fail> {
     match row.split_once(" | ") {
         Some((name, json)) => line_of_json(alloc, name, json),
@@ -315,8 +317,9 @@ fn compiled_of(alloc: Global, row: &str) -> Result<String, Fail> {
     }
 }
 
-// Tables: the keyword, the object that has it, and what is compiled of it: how many places, leaves and engines, how often
-// these are asked, where the keyword stands, and what it holds; of branches and conditions the form alone.
+// Tables: the keyword, the object that has it, and what is compiled of it: how many places, leaves
+// and engines, how often these are asked, where the keyword stands, and what it holds; of branches
+// and conditions the form alone.
 
 const BRANCHES: &str = r#"allOf | {"allOf":[]} | 0 0 0 0 allOf
 allOf | {"allOf":[true]} | 1 0 0 0 single allOf

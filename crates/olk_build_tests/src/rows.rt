@@ -1,4 +1,5 @@
-//! Tables: a row is a line, its cells stand between ` | `, and the last says what is answered of the others.
+//! Tables of building: a row is a line, its cells stand between ` | `, and the last says what is
+//! answered of the others.
 use std::alloc::Global;
 use std::test::Fail;
 

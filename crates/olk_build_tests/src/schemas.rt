@@ -1,4 +1,5 @@
-//! Whole schemas: what is counted of those that are built, and what is told of those that are refused.
+//! Whole schemas: what is counted of those that are built, and what is told of those that are
+//! refused.
 use crate::rows::expect_rows;
 use crate::shown::{PlainNode, Shown};
 use olk_base::Meter;
@@ -12,7 +13,7 @@ use std::test::Fail;
 
 // ---- schemas that are built
 
-// The place of the node, where the context's place stayed as it was.
+/// The place of the node, where the context's place stayed as it was.
 fn place_of<N: Shown>(
     alloc: Global,
     context: &str,
@@ -27,7 +28,7 @@ fn place_of<N: Shown>(
     }
 }
 
-// A context whose place is below `definitions`.
+/// A context whose place is below `definitions`.
 fn below_definitions<'c>(
     alloc: Global,
     meter: &'c mut Meter,
@@ -37,7 +38,7 @@ fn below_definitions<'c>(
     Ok(ctx)
 }
 
-// The place of the node that is built there.
+/// The place of the node that is built there.
 fn built_place<N: Place<NoText, EqualTo> + Shown>(
     alloc: Global,
     schema: &Value,
@@ -51,7 +52,8 @@ fn built_place<N: Place<NoText, EqualTo> + Shown>(
     place
 }
 
-// A place behind what is counted: how many places, leaves and engines, and how often these are asked.
+/// A place behind what is counted: how many places, leaves and engines, and how often these are
+/// asked.
 fn counted(alloc: Global, meter: &Meter, place: &str) -> Result<String, AllocError> {
     let (places, leaves) = (meter.compiled(), meter.leaves());
     let (engines, asks) = (meter.made(), meter.asked());
@@ -66,7 +68,7 @@ fn counted_place(alloc: Global, schema: &Value) -> Result<String, Fail> {
     Ok(counted?)
 }
 
-// What is counted of a schema that is built, and where.
+/// What is counted of a schema that is built, and where.
 fn built(alloc: Global, text: &str) -> Result<String, Fail> {
     let schema = Value::from_str(alloc, text)?;
     let counted = counted_place(alloc, &schema);
@@ -148,7 +150,7 @@ fn told_of(alloc: Global, error: &ValidationError<'_>) -> Result<String, AllocEr
     told
 }
 
-// What is told, where the context's place stayed as it was.
+/// What is told, where the context's place stayed as it was.
 fn told<N>(
     alloc: Global,
     context: &str,
@@ -176,7 +178,7 @@ fn told_of_value<N: Place<NoText, EqualTo>>(alloc: Global, schema: &Value) -> Re
     told
 }
 
-// What is told of a schema that is refused.
+/// What is told of a schema that is refused.
 fn refused(alloc: Global, text: &str) -> Result<String, Fail> {
     let schema = Value::from_str(alloc, text)?;
     let told = told_of_value::<PlainNode>(alloc, &schema);

@@ -23,7 +23,7 @@ fn form_of_map<N>(map: &PropertiesMap<N>) -> &'static str {
     }
 }
 
-// The form of the map of declared names, if `properties` is taken over.
+/// The form of the map of declared names, if `properties` is taken over.
 fn form_of_declared<R, N>(keyword: &AdditionalProperties<R, N>) -> &'static str {
     match &keyword.properties {
         Some(properties) => form_of_map(properties),
@@ -31,7 +31,7 @@ fn form_of_declared<R, N>(keyword: &AdditionalProperties<R, N>) -> &'static str 
     }
 }
 
-// Whether `patternProperties` is taken over.
+/// Whether `patternProperties` is taken over.
 fn form_of_patterns<R, N>(keyword: &AdditionalProperties<R, N>) -> &'static str {
     match &keyword.patterns {
         Some(_) => " patterns",
@@ -39,7 +39,7 @@ fn form_of_patterns<R, N>(keyword: &AdditionalProperties<R, N>) -> &'static str 
     }
 }
 
-// Whether there is a node for the rest.
+/// Whether there is a node for the rest.
 fn form_of_rest<R, N>(keyword: &AdditionalProperties<R, N>) -> &'static str {
     match &keyword.rest {
         Some(_) => " rest",
@@ -47,7 +47,7 @@ fn form_of_rest<R, N>(keyword: &AdditionalProperties<R, N>) -> &'static str {
     }
 }
 
-// The name that is required, if `required` is taken over.
+/// The name that is required, if `required` is taken over.
 fn push_required<R, N>(
     text: &mut String,
     keyword: &AdditionalProperties<R, N>,
@@ -68,7 +68,7 @@ fn push_restriction<R, N>(
     push_required(text, keyword)
 }
 
-// The variant alone.
+/// The variant alone.
 fn variant_of<K, R, N>(keyword: &KeywordOver<K, R, N>) -> &'static str {
     match keyword {
         KeywordOver::AllOf(_) => " AllOf",
@@ -82,7 +82,7 @@ fn variant_of<K, R, N>(keyword: &KeywordOver<K, R, N>) -> &'static str {
     }
 }
 
-// The same of a keyword that asks under a condition.
+/// The variant alone, of a keyword that asks under a condition.
 fn variant_of_condition<K, R, N>(keyword: &KeywordOver<K, R, N>) -> &'static str {
     match keyword {
         KeywordOver::IfThen(_) => " IfThen",
@@ -94,7 +94,7 @@ fn variant_of_condition<K, R, N>(keyword: &KeywordOver<K, R, N>) -> &'static str
     }
 }
 
-// The same of a keyword that speaks of members, and of a leaf.
+/// The variant alone, of a keyword that speaks of members, and of a leaf.
 fn variant_of_members<K, R, N>(keyword: &KeywordOver<K, R, N>) -> &'static str {
     match keyword {
         KeywordOver::Required(_) => " Required",
@@ -107,7 +107,7 @@ fn variant_of_members<K, R, N>(keyword: &KeywordOver<K, R, N>) -> &'static str {
     }
 }
 
-// The variant, the form of its map, and the names that it has from `required`.
+/// The variant, the form of its map, and the names that it has from `required`.
 fn push_variant<K, R, N>(
     text: &mut String,
     keyword: &KeywordOver<K, R, N>,
@@ -161,7 +161,7 @@ fn first_node<K, R, N>(keyword: &KeywordOver<K, R, N>) -> Option<&N> {
     }
 }
 
-// The same of a keyword that asks under a condition.
+/// The first node of a keyword that asks under a condition.
 fn first_node_of_condition<K, R, N>(keyword: &KeywordOver<K, R, N>) -> Option<&N> {
     match keyword {
         KeywordOver::IfThen(keyword) => Some(&keyword.schema),
@@ -173,7 +173,7 @@ fn first_node_of_condition<K, R, N>(keyword: &KeywordOver<K, R, N>) -> Option<&N
     }
 }
 
-// The same of a keyword that speaks of members.
+/// The first node of a keyword that speaks of members.
 fn first_node_of_members<K, R, N>(keyword: &KeywordOver<K, R, N>) -> Option<&N> {
     match keyword {
         KeywordOver::Properties(keyword) => first_declared(&keyword.properties),
@@ -196,7 +196,7 @@ fn push_variants<N>(text: &mut String, keywords: &[PlainKeyword<N>]) -> Result<(
     text.push_str(" }")
 }
 
-// The variants alone, of a node that is an object.
+/// The variants alone, of a node that is an object.
 fn push_inside<N: Shown>(text: &mut String, node: &N) -> Result<(), AllocError> {
     match node.keywords() {
         Some(keywords) => push_variants(text, keywords),
@@ -262,7 +262,7 @@ fn variants_of(alloc: Global, schema: &Value) -> Result<String, AllocError> {
     Ok(text)
 }
 
-// The variants that are built of a schema.
+/// The variants that are built of a schema.
 fn variants(alloc: Global, json: &str) -> Result<String, Fail> {
     let schema = Value::from_str(alloc, json)?;
     let told = variants_of(alloc, &schema);
@@ -270,8 +270,9 @@ fn variants(alloc: Global, json: &str) -> Result<String, Fail> {
     Ok(told?)
 }
 
-// A schema, and the variants of its keywords, in their order; behind each the variants of the first node that it holds, of
-// `additionalProperties` those of the node for the rest. From `a` to `n` are 14 names, and from `a` to `o` 15.
+// A schema, and the variants of its keywords, in their order; behind each the variants of the first
+// node that it holds, of `additionalProperties` those of the node for the rest. From `a` to `n` are
+// 14 names, and from `a` to `o` 15.
 const VARIANTS: &str = r#"{"properties":{}} | { Properties small }
 {"properties":{"a":true,"b":true,"c":true,"d":true,"e":true,"f":true,"g":true,"h":true,"i":true,"j":true,"k":true,"l":true,"m":true,"n":true}} | { Properties small }
 {"properties":{"a":true,"b":true,"c":true,"d":true,"e":true,"f":true,"g":true,"h":true,"i":true,"j":true,"k":true,"l":true,"m":true,"n":true,"o":true}} | { Properties big }

@@ -15,7 +15,7 @@ use std::alloc::{AllocError, Global};
 use std::str::from_utf8;
 use std::test::Fail;
 
-// The value is to be an object.
+/// The value is to be an object.
 fn malformation_at(alloc: Global, value: &Value, place: Location) -> Result<Vec<u8>, AllocError> {
     let expected = JsonType::Object;
     let kind = ValidationErrorKind::SingleType { expected };
@@ -49,7 +49,7 @@ fn plain(alloc: Global, word: &str) -> Result<Vec<u8>, AllocError> {
     }
 }
 
-// A name that the value lacks.
+/// A name that the value lacks.
 fn missing<'a>(alloc: Global, property: &'a str, value: &'a Value) -> ValidationError<'a> {
     let kind = ValidationErrorKind::Required { property };
     ValidationError::new(kind, Node::Value(value), String::new(alloc), "/required")
@@ -62,7 +62,7 @@ fn two_errors(alloc: Global, value: &Value) -> Result<Vec<u8>, AllocError> {
     text
 }
 
-// An answer that may tell errors of a value.
+/// An answer that may tell errors of a value.
 fn of_errors(alloc: Global, word: &str, value: &Value) -> Result<Vec<u8>, AllocError> {
     match word {
         "no first error" => first_text(alloc, Ok(())),
@@ -76,7 +76,7 @@ fn of_errors(alloc: Global, word: &str, value: &Value) -> Result<Vec<u8>, AllocE
     }
 }
 
-// The answer that a word names.
+/// The answer that a word names.
 fn answer(alloc: Global, word: &str) -> Result<String, AllocError> {
     let bytes = of_errors(alloc, word, &Value::Object(Map::new(alloc)))?;
     let text = String::from_str(alloc, from_utf8(&bytes).unwrap_or("no text"));

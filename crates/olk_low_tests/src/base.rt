@@ -19,7 +19,7 @@ use std::test::Fail;
 
 // ---- names
 
-// The head of a name.
+/// The head of a name.
 fn head(alloc: Global, name: &str) -> Result<String, AllocError> {
     format!(in alloc; "{:?}", KeyHead::of(name))
 }
@@ -37,7 +37,7 @@ fn heads(rt: HostRuntime) -> Result<(), Fail> {
     expect_rows(rt.alloc(), HEADS, head)
 }
 
-// Whether the names are the same, as each way of comparing says.
+/// Whether the names are the same, as each way of comparing says.
 fn same_name(alloc: Global, cells: &str) -> Result<String, AllocError> {
     let (name, key) = two(cells);
     let one = PropertyName::new(alloc, name)?;
@@ -55,8 +55,8 @@ fn same_name(alloc: Global, cells: &str) -> Result<String, AllocError> {
     String::from_str(alloc, text)
 }
 
-// Names with a difference at each place, and texts of each kind of length: none, up to three bytes, up to 7, 16 and 32,
-// and more.
+// Names with a difference at each place, and texts of each kind of length: none, up to three bytes,
+// up to 7, 16 and 32, and more.
 const NAMES: &str = "abcdefghijklX | abcdefghijklX | same
 abcdefghijkl | abcdefghijkl | same
 abcd | abcd | same
@@ -89,7 +89,7 @@ fn same_and_other_names(rt: HostRuntime) -> Result<(), Fail> {
 
 // ---- patterns
 
-// The test that a pattern is read as.
+/// The test that a pattern is read as.
 fn read_pattern(alloc: Global, pattern: &str) -> Result<String, AllocError> {
     let test = analyze_pattern(alloc, pattern)?;
     format!(in alloc; "{test:?}")
@@ -139,7 +139,7 @@ fn test_of<R: Drop>(pattern: CompiledPattern<R>) -> Option<PatternOptimization> 
     }
 }
 
-// The test; an engine is made where there is none, and only there.
+/// The test; an engine is made where there is none, and only there.
 fn test_text(
     alloc: Global,
     test: &Option<PatternOptimization>,
@@ -161,12 +161,12 @@ fn compiled<M: MakeRegex>(alloc: Global, regexes: &M, pattern: &str) -> Result<S
     }
 }
 
-// What a pattern is compiled to.
+/// What a pattern is compiled to.
 fn compiled_pattern(alloc: Global, pattern: &str) -> Result<String, AllocError> {
     compiled(alloc, &Equality, pattern)
 }
 
-// What a pattern is compiled to by a maker that refuses all.
+/// What a pattern is compiled to by a maker that refuses all.
 fn pattern_without_regexes(alloc: Global, pattern: &str) -> Result<String, AllocError> {
     compiled(alloc, &NoRegexes, pattern)
 }
@@ -199,8 +199,8 @@ fn white_space(rt: HostRuntime) {
     }
 }
 
-// How a pattern matches a name, in a context that gives this answer where a match is unfinished, by a maker that counts
-// in cells what it makes, and how often that is asked.
+/// How a pattern matches a name, in a context that gives this answer where a match is unfinished,
+/// by a maker that counts in cells what it makes, and how often that is asked.
 fn matched<M: MakeRegex>(
     alloc: Global,
     regexes: &M,
@@ -231,7 +231,8 @@ fn matched<M: MakeRegex>(
     }
 }
 
-// How a pattern matches a name, of the answer where a match is unfinished, the pattern and the name.
+/// How a pattern matches a name, of the answer where a match is unfinished, the pattern and the
+/// name.
 fn matched_pattern(alloc: Global, cells: &str) -> Result<String, AllocError> {
     let (answer, cells) = two(cells);
     let (pattern, name) = two(cells);
@@ -245,9 +246,9 @@ fn matched_pattern(alloc: Global, cells: &str) -> Result<String, AllocError> {
     matched(alloc, &counting, [&engines, &asks], [pattern, name], answer)
 }
 
-// The answer where a match is unfinished, a pattern, a name, whether it matches, and that answer again; then how many
-// engines are made, and how often they are asked, each as the meter and as the maker count; and how many matches are
-// left unfinished.
+// The answer where a match is unfinished, a pattern, a name, whether it matches, and that answer
+// again; then how many engines are made, and how often they are asked, each as the meter and as the
+// maker count; and how many matches are left unfinished.
 const MATCHES: &str = r"true | ^foo | foobar | true, true, [0, 0, 0, 0, 0]
 true | ^foo | barfoo | false, true, [0, 0, 0, 0, 0]
 true | spam$ | xspam | true, true, [0, 0, 0, 0, 0]
@@ -278,7 +279,7 @@ fn one_text(alloc: Global, text: &str) -> Result<Vec<String>, AllocError> {
     Ok(vec![in alloc; String::from_str(alloc, text)?]?)
 }
 
-// What `collect_errors` adds to the keyword.
+/// What `collect_errors` adds to the keyword.
 fn collected<L: Leaf>(alloc: Global, leaf: &L, node: Node<'_>) -> Result<Vec<String>, AllocError> {
     let mut texts = one_text(alloc, leaf.keyword())?;
     leaf.collect_errors(alloc, node, &mut texts)?;
@@ -292,7 +293,7 @@ fn told<L: Leaf>(alloc: Global, leaf: &L, node: Node<'_>) -> Result<String, Allo
     format!(in alloc; "{first:?}, {all:?}, {shown:?}")
 }
 
-// A leaf that is made, and asked by each of its calls.
+/// A leaf that is made, and asked by each of its calls.
 fn asked_leaf<L: MakeLeaf>(
     leaves: &L,
     alloc: Global,
@@ -311,7 +312,7 @@ fn asked_leaf<L: MakeLeaf>(
     Ok((is_valid, told?))
 }
 
-// What each call of a leaf with this value answers of the node.
+/// What each call of a leaf with this value answers of the node.
 fn leaf_of(alloc: Global, value: &Value, node: Node<'_>) -> Result<String, AllocError> {
     let mut meter = Meter::new();
     match asked_leaf(&NoTexts, alloc, "text", value, node, &mut meter) {
@@ -323,7 +324,7 @@ fn leaf_of(alloc: Global, value: &Value, node: Node<'_>) -> Result<String, Alloc
     }
 }
 
-// What a leaf answers, of its value, and a text or null.
+/// What a leaf answers, of its value, and a text or null.
 fn leaf(alloc: Global, cells: &str) -> Result<String, AllocError> {
     let (value, node) = two(cells);
     let value = if value == "false" {
@@ -338,8 +339,8 @@ fn leaf(alloc: Global, cells: &str) -> Result<String, AllocError> {
     leaf_of(alloc, &value, Node::Name(&name))
 }
 
-// The value of a leaf, a name or null, and what `is_valid`, `validate`, `collect_errors` after a text, and `evaluate`
-// answer.
+// The value of a leaf, a name or null, and what `is_valid`, `validate`, `collect_errors` after a
+// text, and `evaluate` answer.
 const LEAVES: &str =
     r#"false | a | (false, Some("is a text"), ["text", "is a text"], ["is a text"]), 1 made
 false | null | (true, None, ["text"], []), 1 made
@@ -356,7 +357,7 @@ fn node_text(alloc: Global, node: Node<'_>) -> Result<String, AllocError> {
     format!(in alloc; "{}, {:?}", node.as_object().is_some(), node.json_type())
 }
 
-// Whether a node is an object, and its type.
+/// Whether a node is an object, and its type.
 fn node(alloc: Global, word: &str) -> Result<String, AllocError> {
     match word {
         "object" => node_text(alloc, Node::Value(&Value::Object(Map::new(alloc)))),

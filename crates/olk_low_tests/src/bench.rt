@@ -7,7 +7,7 @@ use serde_json::Value;
 use std::alloc::{AllocError, Global};
 use std::test::Fail;
 
-// What `evaluate`, `collect_errors` and `validate` tell of the instance.
+/// What `evaluate`, `collect_errors` and `validate` tell of the instance.
 fn told_in_turn<L: Leaf>(
     alloc: Global,
     leaf: &L,
@@ -27,7 +27,7 @@ fn are_same(one: &str, other: &str, third: &str) -> bool {
     one == other && other == third
 }
 
-// The text that all of them tell, or `-` where none tells one.
+/// The text that all of them tell, or `-` where none tells one.
 fn one_text(told: &[String]) -> &str {
     match told {
         [] => "-",
@@ -60,7 +60,7 @@ fn told_or_refused<M: MakeLeaf>(
     }
 }
 
-// A text that isn't JSON ends the test too.
+/// A text that isn't JSON ends the test too.
 fn read(alloc: Global, text: &str) -> Result<Value, AllocError> {
     match Value::from_str(alloc, text) {
         Ok(value) => Ok(value),
@@ -80,7 +80,7 @@ fn told_of_values(
     told
 }
 
-// What is told of a leaf's keyword, its value and an instance.
+/// What is told of a leaf's keyword, its value and an instance.
 fn leaf(alloc: Global, cells: &str) -> Result<String, AllocError> {
     let (keyword, values) = two(cells);
     let (value, instance) = two(values);
@@ -103,7 +103,7 @@ fn matched<M: MakeRegex>(alloc: Global, regexes: &M, pattern: &str, name: &str) 
     }
 }
 
-// Whether a pattern matches a name.
+/// Whether a pattern matches a name.
 fn matched_pattern(alloc: Global, cells: &str) -> Result<String, AllocError> {
     let (pattern, name) = two(cells);
     String::from_str(alloc, matched(alloc, &BenchRegexes, pattern, name))

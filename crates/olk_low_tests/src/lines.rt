@@ -1,4 +1,5 @@
-//! Lines of a double that answers each by a word and the line: all of them, and where a read, a write or memory fails.
+//! Lines of a double that answers each by a word and the line: all of them, and where a read, a
+//! write or memory fails.
 use crate::streams::{FailingReader, FailingWriter};
 use crate::tables::{expect_rows, two};
 use olk_lines::{AnswerLine, run};
@@ -28,7 +29,8 @@ impl AnswerLine for Echo<'_> {
     }
 }
 
-// The answers to lines, and the status. In the lines and in the answers a line feed is written `\n`.
+/// The answers to lines, and the status. In the lines and in the answers a line feed is written
+/// `\n`.
 fn answered_lines(alloc: Global, lines: &str) -> Result<String, AllocError> {
     let lines = lines.replace(alloc, r"\n", "\n")?;
     let mut writer = Vec::new(alloc);
@@ -38,8 +40,8 @@ fn answered_lines(alloc: Global, lines: &str) -> Result<String, AllocError> {
     format!(in alloc; "{}, {status}", writer.as_slice().escape_ascii())
 }
 
-// Lines, their answers and the status. An empty line is answered, and so is one that ends without a line feed, unless
-// it is empty.
+// Lines, their answers and the status. An empty line is answered, and so is one that ends without a
+// line feed, unless it is empty.
 const LINES: &str = r" | , 0
 \n | told \n, 0
 a\n\nb\n | told a\ntold \ntold b\n, 0
@@ -62,7 +64,7 @@ fn numbered(alloc: Global, words: &str) -> Result<String, AllocError> {
     Ok(text)
 }
 
-// The length of a thousand lines that begin with these words.
+/// The length of a thousand lines that begin with these words.
 fn numbered_len(alloc: Global, words: &str) -> Result<String, AllocError> {
     let text = numbered(alloc, words)?;
     format!(in alloc; "{}", text.len())
@@ -76,8 +78,8 @@ fn lines_and_answers_have_one_length(rt: HostRuntime) -> Result<(), Fail> {
 
 // ---- what fails
 
-/// What fails: a read after so many turns of up to `step` bytes, a write after so many of up to 7 bytes, or memory at a
-/// line.
+/// What fails: a read after so many turns of up to `step` bytes, a write after so many of up to 7
+/// bytes, or memory at a line.
 #[derive(Clone, Copy)]
 struct Failing<'a> {
     step: usize,
@@ -87,7 +89,7 @@ struct Failing<'a> {
     refused: &'a str,
 }
 
-// Where no number stands, it never fails.
+/// Where no number stands, it never fails.
 fn number(cell: &str) -> usize {
     cell.parse().unwrap_or(usize::MAX)
 }
@@ -106,7 +108,7 @@ fn what_fails(cells: &str) -> Failing<'_> {
     }
 }
 
-// How many answers are written whole, how many bytes of the next one, and the status.
+/// How many answers are written whole, how many bytes of the next one, and the status.
 fn told_of(alloc: Global, written: &[u8], status: u8) -> Result<String, AllocError> {
     let answers = numbered(alloc, "told number")?;
     let is_beginning = answers.as_bytes().starts_with(written);
@@ -123,7 +125,7 @@ fn told_of(alloc: Global, written: &[u8], status: u8) -> Result<String, AllocErr
     }
 }
 
-// How far the thousand lines are answered, of what fails.
+/// How far the thousand lines are answered, of what fails.
 fn answered_so_far(alloc: Global, cells: &str) -> Result<String, AllocError> {
     let failing = what_fails(cells);
     let lines = numbered(alloc, "number")?;
@@ -146,12 +148,14 @@ fn answered_so_far(alloc: Global, cells: &str) -> Result<String, AllocError> {
     told_of(alloc, writer.bytes.as_slice(), status)
 }
 
-// In each table a row has how many bytes a read shows, after how many reads one fails, after how many writes of up to
-// 7 bytes one fails, and whether it takes none or is an error, and the line that there is no memory for; then how many
-// answers are written whole, how many bytes of the next one, and the status: 0 at the end of the input, 2 where a read
-// or a write failed, 3 for want of memory. A line has 12 bytes.
+// In each table a row has how many bytes a read shows, after how many reads one fails, after how
+// many writes of up to 7 bytes one fails, and whether it takes none or is an error, and the line
+// that there is no memory for; then how many answers are written whole, how many bytes of the next
+// one, and the status: 0 at the end of the input, 2 where a read or a write failed, 3 for want of
+// memory. A line has 12 bytes.
 
-// At once, between lines, within a line, at the end; and not at all. In steps of 5 bytes, a line takes three reads.
+// At once, between lines, within a line, at the end; and not at all. In steps of 5 bytes, a line
+// takes three reads.
 const READS: &str = "100 | 0 | - | - | - | 0 answers, 0 bytes, 2
 100 | 1 | - | - | - | 1 answers, 0 bytes, 2
 12 | 600 | - | - | - | 600 answers, 0 bytes, 2
@@ -164,7 +168,8 @@ fn stops_where_a_read_fails(rt: HostRuntime) -> Result<(), Fail> {
     expect_rows(rt.alloc(), READS, answered_so_far)
 }
 
-// At once, within the first answer, between answers, within one, not at all: an answer takes three writes.
+// At once, within the first answer, between answers, within one, not at all: an answer takes three
+// writes.
 const WRITES: &str = "100 | - | 0 | error | - | 0 answers, 0 bytes, 2
 100 | - | 0 | none | - | 0 answers, 0 bytes, 2
 100 | - | 1 | error | - | 0 answers, 7 bytes, 2
@@ -181,7 +186,8 @@ fn stops_where_a_write_fails(rt: HostRuntime) -> Result<(), Fail> {
     expect_rows(rt.alloc(), WRITES, answered_so_far)
 }
 
-// At the first line, the 700th, the last, and at none: the answers before it are whole, and nothing more is written.
+// At the first line, the 700th, the last, and at none: the answers before it are whole, and nothing
+// more is written.
 const REFUSED: &str = "100 | - | - | - | number 1000 | 0 answers, 0 bytes, 3
 100 | - | - | - | number 1699 | 699 answers, 0 bytes, 3
 100 | - | - | - | number 1999 | 999 answers, 0 bytes, 3

@@ -13,7 +13,7 @@ use std::test::Fail;
 
 // ---- paths
 
-// The path of a segment, which is left empty again.
+/// The path of a segment, which is left empty again.
 fn pushed_path(alloc: Global, segment: &str) -> Result<String, AllocError> {
     let mut path = InstancePath::new(alloc);
     let mark = path.push(segment)?;
@@ -26,7 +26,7 @@ fn pushed_path(alloc: Global, segment: &str) -> Result<String, AllocError> {
     }
 }
 
-// The location of a segment.
+/// The location of a segment.
 fn joined_path(alloc: Global, segment: &str) -> Result<String, AllocError> {
     let joined = Location::new(alloc).join(alloc, segment)?;
     let copy = joined.try_clone(alloc)?;
@@ -50,7 +50,7 @@ fn paths_are_pointers(rt: HostRuntime) -> Result<(), Fail> {
     expect_rows(rt.alloc(), SEGMENTS, joined_path)
 }
 
-// The path of two segments.
+/// The path of two segments.
 fn path_of_two(alloc: Global, cells: &str) -> Result<String, AllocError> {
     let (outer, inner) = two(cells);
     let mut path = InstancePath::new(alloc);
@@ -89,7 +89,7 @@ fn names_in<'a>(alloc: Global, cells: &'a str) -> Result<Vec<&'a str>, AllocErro
     Ok(names)
 }
 
-// The text of names that no schema allows.
+/// The text of names that no schema allows.
 fn unexpected(alloc: Global, cells: &str) -> Result<String, AllocError> {
     let unexpected = names_in(alloc, cells)?;
     let kind = ValidationErrorKind::AdditionalProperties { unexpected };
@@ -159,7 +159,7 @@ fn text_of_kind(alloc: Global, word: &str, instance: Node<'_>) -> Result<String,
     }
 }
 
-// The text of an error, of its kind and the name that it is of.
+/// The text of an error, of its kind and the name that it is of.
 fn kind(alloc: Global, cells: &str) -> Result<String, AllocError> {
     let (word, name) = two(cells);
     let name = String::from_str(alloc, name)?;
@@ -190,7 +190,7 @@ fn texts_of_kinds(rt: HostRuntime) -> Result<(), Fail> {
     expect_rows(rt.alloc(), KINDS, kind)
 }
 
-// The text of an error, its places, and whether it is of an object.
+/// The text of an error, its places, and whether it is of an object.
 fn shown(alloc: Global, error: &ValidationError<'_>) -> Result<String, AllocError> {
     let text = error.message(alloc)?;
     let is_object = error.instance().as_object().is_some();
@@ -198,7 +198,7 @@ fn shown(alloc: Global, error: &ValidationError<'_>) -> Result<String, AllocErro
     format!(in alloc; "{text} {places:?}")
 }
 
-// The text, and so on, of an error that is let go.
+/// The text, and so on, of an error that is let go.
 fn shown_once(alloc: Global, error: ValidationError<'_>) -> Result<String, AllocError> {
     let text = shown(alloc, &error);
     drop(error);
@@ -244,13 +244,13 @@ fn vec_of_one<T: Drop>(alloc: Global, item: T) -> Result<Vec<T>, AllocError> {
     Ok(items)
 }
 
-// A context of one branch, which finds this.
+/// A context of one branch, which finds this.
 fn context_of_one<T: Drop>(alloc: Global, found: T) -> Result<Vec<Vec<T>>, AllocError> {
     let branch = vec_of_one(alloc, found)?;
     vec_of_one(alloc, branch)
 }
 
-// An error with a context of one branch.
+/// An error with a context of one branch.
 fn shown_of_branches<'a>(
     alloc: Global,
     found: ValidationError<'a>,
@@ -271,7 +271,7 @@ fn shown_of_branches<'a>(
     text
 }
 
-// The error of a name, told of the object, by itself or in a context.
+/// The error of a name, told of the object, by itself or in a context.
 fn shown_of_name(
     alloc: Global,
     word: &str,
@@ -287,7 +287,7 @@ fn shown_of_name(
     }
 }
 
-// An error, by what it is of and a name.
+/// An error, by what it is of and a name.
 fn error(alloc: Global, cells: &str) -> Result<String, AllocError> {
     let (word, name) = two(cells);
     let name = String::from_str(alloc, name)?;
@@ -302,8 +302,8 @@ fn error(alloc: Global, cells: &str) -> Result<String, AllocError> {
     text
 }
 
-// What an error is of, a name, the text, its place in the schema and in the instance, and whether it is told of an
-// object.
+// What an error is of, a name, the text, its place in the schema and in the instance, and whether
+// it is told of an object.
 const ERRORS: &str =
     r#"pattern | a/b~( | "a/b~(" is not a "regex" ("/patternProperties/a~1b~0(", "", false)
 name | f | "f" is shorter than 2 characters ("/anyOf/0/propertyNames/minLength", "/a", true)
@@ -316,7 +316,7 @@ fn errors_inside_errors(rt: HostRuntime) -> Result<(), Fail> {
 
 // ---- evaluation trees
 
-// Whether the tree of this name has an error at the place.
+/// Whether the tree of this name has an error at the place.
 fn has_error(tree: &str, place: &str) -> bool {
     match tree {
         "four errors" => true,
@@ -331,7 +331,7 @@ fn mark(alloc: Global, outcome: &mut EvaluationResult<'_>) -> Result<(), AllocEr
     outcome.mark_errored(ErrorDescription::new("required", message))
 }
 
-// Annotates the place, has the error of the tree there, and gives the path.
+/// Annotates the place, has the error of the tree there, and gives the path.
 fn fill<'a>(
     alloc: Global,
     outcome: &mut EvaluationResult<'a>,
@@ -345,7 +345,7 @@ fn fill<'a>(
     String::from_str(alloc, "/i")
 }
 
-// Adds a node that annotates its place, with the error of the tree there.
+/// Adds a node that annotates its place, with the error of the tree there.
 fn push_node<'a>(
     alloc: Global,
     nodes: &mut Vec<EvaluationNode<'a>>,
@@ -358,7 +358,8 @@ fn push_node<'a>(
     push(nodes, EvaluationNode::new(place, path, outcome))
 }
 
-// The same, above the nodes, in their place.
+/// Adds a node that annotates its place, with the error of the tree there, above the nodes and in
+/// their place.
 fn push_above<'a>(
     alloc: Global,
     nodes: &mut Vec<EvaluationNode<'a>>,
@@ -369,7 +370,7 @@ fn push_above<'a>(
     push_node(alloc, nodes, tree, place, children)
 }
 
-// A root of three levels, with the errors of the tree.
+/// A root of three levels, with the errors of the tree.
 fn push_tree(
     alloc: Global,
     nodes: &mut Vec<EvaluationNode<'_>>,
@@ -404,7 +405,7 @@ fn push_place(places: &mut String, place: &str) -> Result<(), AllocError> {
     places.push_str(" ")
 }
 
-// The places of the errors, in their order.
+/// The places of the errors, in their order.
 fn erring(alloc: Global, evaluation: &Evaluation<'_>) -> Result<String, AllocError> {
     let mut places = String::new(alloc);
     for entry in &evaluation.iter_errors(alloc)? {
@@ -413,7 +414,7 @@ fn erring(alloc: Global, evaluation: &Evaluation<'_>) -> Result<String, AllocErr
     Ok(places)
 }
 
-// The places of the annotations, in their order.
+/// The places of the annotations, in their order.
 fn annotating(alloc: Global, evaluation: &Evaluation<'_>) -> Result<String, AllocError> {
     let mut places = String::new(alloc);
     for entry in &evaluation.iter_annotations(alloc)? {
@@ -444,7 +445,7 @@ fn entries(alloc: Global, tree: &str) -> Result<String, AllocError> {
     }
 }
 
-// The parts of a tree's root, and how many errors the tree has.
+/// The parts of a tree's root, and how many errors the tree has.
 fn parts_of(alloc: Global, evaluation: &Evaluation<'_>) -> Result<String, AllocError> {
     let errors = evaluation.iter_errors(alloc)?.len();
     let root = evaluation.root();
@@ -478,7 +479,7 @@ fn from_node(alloc: Global) -> Result<String, AllocError> {
     }
 }
 
-// An evaluation, by what it is of.
+/// An evaluation, by what it is of.
 fn evaluation(alloc: Global, word: &str) -> Result<String, AllocError> {
     match word {
         "node" => from_node(alloc),
@@ -492,9 +493,9 @@ fn evaluation(alloc: Global, word: &str) -> Result<String, AllocError> {
     }
 }
 
-// Four trees of three levels: whether the root is valid, and the places that err and that annotate, parent first. Then
-// three roots: whether it is valid, its places, whether it annotates, how many errors and children it has, and how many
-// errors the tree has.
+// Four trees of three levels: whether the root is valid, and the places that err and that annotate,
+// parent first. Then three roots: whether it is valid, its places, whether it annotates, how many
+// errors and children it has, and how many errors the tree has.
 const EVALUATIONS: &str = r#"no error | true: : /allOf /allOf/0 /allOf/0/x /allOf/1 .
 four errors | false: /allOf /allOf/0 /allOf/0/x /allOf/1 : .
 inner error | false: /allOf/0/x : /allOf/1 .
@@ -513,7 +514,7 @@ fn evaluations_show_their_parts(rt: HostRuntime) -> Result<(), Fail> {
 const LONG: &str =
     "a segment that is longer than any text that a first growth makes room for, ~ and / with it";
 
-// Whether the path is as it was, where there was no memory.
+/// Whether the path is as it was, where there was no memory.
 fn push_at_last(path: &mut InstancePath, segment: &str) -> Result<bool, AllocError> {
     if let Ok(mark) = path.push(segment) {
         path.pop(mark);
@@ -596,7 +597,8 @@ location | /m~0n
 text | "x" is not a value for "minimum"
 errors | 1"#;
 
-// With one growth refused, whichever it is, each value is as before, and the same call then gives its full answer.
+/// With one growth refused, whichever it is, each value is as before, and the same call then gives
+/// its full answer.
 #[test]
 fn a_refused_growth_changes_nothing(rt: HostRuntime) -> Result<(), Fail> {
     expect_rows(rt.alloc(), AT_LAST, at_last)

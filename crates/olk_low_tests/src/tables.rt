@@ -1,4 +1,5 @@
-//! Tables: a row is a line, and its cells stand between ` | `, the last of which is the answer that is wanted.
+//! Tables: a row is a line, and its cells stand between ` | `, the last of which is the answer that
+//! is wanted.
 use std::alloc::{AllocError, Global};
 use std::test::Fail;
 

@@ -26,7 +26,7 @@ use std::test::Fail;
 
 type PlainNode = SchemaNode<NoText, EqualTo>;
 
-// Whether a value is accepted.
+/// Whether a value is accepted.
 trait Accepts {
     fn accepts(&self, value: &Value) -> bool;
 }
@@ -38,7 +38,7 @@ impl Accepts for PlainNode {
     }
 }
 
-// Accepts everything where the word is `true`, and nothing else.
+/// Accepts everything where the word is `true`, and nothing else.
 fn truth<N: Place<NoText, EqualTo>>(alloc: Global, word: &str) -> N {
     let body = if word == "true" {
         Body::True
@@ -166,7 +166,7 @@ fn leaf_nodes<N: Place<NoText, EqualTo>>(
     Ok(nodes)
 }
 
-// A map of few names, or one of many with the same.
+/// A map of few names, or one of many with the same.
 fn mapped<N: Drop>(
     alloc: Global,
     map: SmallMap<N>,
@@ -179,7 +179,7 @@ fn mapped<N: Drop>(
     }
 }
 
-// So many names, each with the leaf.
+/// So many names, each with the leaf.
 fn leaf_names<N: Place<NoText, EqualTo>>(
     alloc: Global,
     names: &str,
@@ -188,7 +188,7 @@ fn leaf_names<N: Place<NoText, EqualTo>>(
     beside(sorted_names(alloc, names, count), leaf_nodes(alloc, count))
 }
 
-// `properties` of these names.
+/// `properties` of these names.
 fn declared<N: Place<NoText, EqualTo>>(
     alloc: Global,
     count: usize,
@@ -209,7 +209,7 @@ fn two_names(alloc: Global) -> Result<(String, String), AllocError> {
     both(String::from_str(alloc, "c"), String::from_str(alloc, "b"))
 }
 
-// `properties` of the name `a`, and the required names `c` and `b`.
+/// `properties` of the name `a`, and the required names `c` and `b`.
 fn beside_required<N: Place<NoText, EqualTo>>(alloc: Global) -> Result<N, AllocError> {
     let ((first, second), properties) = both(two_names(alloc), leaf_names(alloc, "a", 1))?;
     let both = SmallPropertiesWithRequired2 {
@@ -224,7 +224,7 @@ fn beside_required<N: Place<NoText, EqualTo>>(alloc: Global) -> Result<N, AllocE
 
 // ---- what a validator accepts
 
-// The validator of this form, of these words.
+/// The validator of this form, of these words.
 fn validator<N: Place<NoText, EqualTo>>(
     alloc: Global,
     form: &str,
@@ -244,7 +244,8 @@ fn validator<N: Place<NoText, EqualTo>>(
     }
 }
 
-// Whether a validator accepts a value. A node is dropped by name, so that none ends with its scope.
+/// Whether a validator accepts a value. A node is dropped by name, so that none ends with its
+/// scope.
 fn accepts_line<N: Place<NoText, EqualTo> + Accepts>(
     alloc: Global,
     form: &str,
@@ -269,7 +270,7 @@ fn accepts_json<N: Place<NoText, EqualTo> + Accepts>(
     Ok(line?)
 }
 
-// Whether the validator of a form, of some words, accepts a value.
+/// Whether the validator of a form, of some words, accepts a value.
 fn accepted(alloc: Global, row: &str) -> Result<String, Fail> {
     match three(row) {
         Some((form, words, json)) => accepts_json::<PlainNode>(alloc, form, words, json),
@@ -351,7 +352,7 @@ fn declared_names_beside_no_object(rt: HostRuntime) -> Result<(), Fail> {
 
 // ---- what is asked of a leaf, and of a pattern
 
-// Whether the text, a name and null are accepted, and how many engines are asked.
+/// Whether the text, a name and null are accepted, and how many engines are asked.
 fn leaf_answers<N: IsValid>(node: &N, text: &Value, name: &String) -> (bool, bool, bool, u64) {
     let mut ctx = ValidationContext::new(true);
     let is_text = node.is_valid(Node::Value(text), &mut ctx);
@@ -371,7 +372,7 @@ fn leaf_line<N: Place<NoText, EqualTo> + IsValid>(
     format!(in alloc; "{is_text} {is_name} {is_null} {asked}")
 }
 
-// Whether the leaf accepts a text, it as a name, and null, and how many engines are asked.
+/// Whether the leaf accepts a text, it as a name, and null, and how many engines are asked.
 fn asked_of_leaf(alloc: Global, name: &str) -> Result<String, Fail> {
     let (text, name) = both(String::from_str(alloc, name), String::from_str(alloc, name))?;
     let text = Value::String(text);
@@ -413,8 +414,8 @@ fn match_line<M: MakeRegex>(
     Ok(line?)
 }
 
-// Whether the pattern matches the name under the answer, with how many engines are asked and how many matches are left
-// unfinished.
+/// Whether the pattern matches the name under the answer, with how many engines are asked and how
+/// many matches are left unfinished.
 fn matched(alloc: Global, row: &str) -> Result<String, Fail> {
     match three(row) {
         Some((pattern, name, answer)) => {
@@ -446,7 +447,7 @@ const BESIDES: &str =
 // Names that are never declared.
 const OTHERS: &str = " l m m00a m005 m12z n";
 
-// A text at the name, and so many members besides.
+/// A text at the name, and so many members besides.
 fn add_members(
     members: &mut Map<String, Value>,
     alloc: Global,
@@ -457,7 +458,7 @@ fn add_members(
     add_text(members, alloc, name, "a")
 }
 
-// Whether an object with a text at this name is accepted.
+/// Whether an object with a text at this name is accepted.
 fn accepts_text_at<N: Accepts>(
     place: &N,
     alloc: Global,
@@ -473,7 +474,7 @@ fn accepts_text_at<N: Accepts>(
     Ok(accepted)
 }
 
-// The first so many of these names are declared, and refuse a text.
+/// The first so many of these names are declared, and refuse a text.
 fn expect_refused<N: Accepts>(
     place: &N,
     alloc: Global,
@@ -511,8 +512,8 @@ fn expect_declared<N: Place<NoText, EqualTo> + Accepts>(
     told
 }
 
-// With few members besides, these are looked up among the declared names, and with many the
-// declared names among them.
+/// With few members besides, these are looked up among the declared names, and with many the
+/// declared names among them.
 fn expect_beside(alloc: Global, count: usize, many: bool) -> Result<(), Fail> {
     for besides in [0, count, 20] {
         expect_declared::<PlainNode>(alloc, count, many, besides)?;

@@ -21,7 +21,7 @@ fn positions(alloc: Global, count: usize) -> Result<Vec<usize>, AllocError> {
     Ok(positions)
 }
 
-// The first so many names, each with its position.
+/// The first so many names, each with its position.
 fn first_names(alloc: Global, count: usize) -> Result<SmallMap<usize>, AllocError> {
     beside(
         sorted_names(alloc, DECLARED, count),
@@ -29,7 +29,7 @@ fn first_names(alloc: Global, count: usize) -> Result<SmallMap<usize>, AllocErro
     )
 }
 
-// The same, found by their hash.
+/// The first so many names, each with its position, found by their hash.
 fn first_hashed(alloc: Global, count: usize) -> Result<BigMap<usize>, AllocError> {
     let SmallMap { names, nodes } = first_names(alloc, count)?;
     BigMap::of(alloc, names, nodes)
@@ -37,7 +37,7 @@ fn first_hashed(alloc: Global, count: usize) -> Result<BigMap<usize>, AllocError
 
 // ---- looking up
 
-// Whether each look-up finds the name at this position, or none does.
+/// Whether each look-up finds the name at this position, or none does.
 fn is_at<M: PropertiesValidatorsMap<usize>>(map: &M, name: &str, position: Option<usize>) -> bool {
     let is_keyed_so = match (map.get_key_validator(name), position) {
         (Some((key, found)), Some(position)) => key == name && *found == position,
@@ -54,7 +54,8 @@ fn has_length<M: PropertiesValidatorsMap<usize>>(map: &M, length: usize) -> bool
     names.len() == length && names.as_slice().len() == length && map.nodes().len() == length
 }
 
-// The first of these names that is not found as it is to be: the first so many stand in the map, and no other.
+/// The first of these names that is not found as it is to be: the first so many stand in the map,
+/// and no other.
 fn wrong_name<M: PropertiesValidatorsMap<usize>>(
     map: &M,
     names: &'static str,
@@ -69,7 +70,7 @@ fn wrong_name<M: PropertiesValidatorsMap<usize>>(
     None
 }
 
-// What is not found as it is to be in a map of the first so many names.
+/// What is not found as it is to be in a map of the first so many names.
 fn wrong_look_up<M: PropertiesValidatorsMap<usize>>(map: &M, count: usize) -> Option<&'static str> {
     if has_length(map, count) {
         wrong_name(map, DECLARED, count).or(wrong_name(map, OTHERS, 0))
@@ -78,7 +79,7 @@ fn wrong_look_up<M: PropertiesValidatorsMap<usize>>(map: &M, count: usize) -> Op
     }
 }
 
-// Nothing is wrong in a map of so many names.
+/// Nothing is wrong in a map of so many names.
 fn expect_none(wrong: Option<&str>, count: usize) -> Result<(), Fail> {
     match wrong {
         None => Ok(()),
@@ -119,7 +120,7 @@ fn is_declared_at(position: usize, name: &str) -> bool {
     DECLARED.split(" ").nth(position) == Some(name)
 }
 
-// Whether a walk gives this name, with its position and its value.
+/// Whether a walk gives this name, with its position and its value.
 fn is_met(member: Option<(&str, &usize, &Value)>, expected: &str) -> bool {
     match member {
         Some((name, position, value)) => {
@@ -129,7 +130,8 @@ fn is_met(member: Option<(&str, &usize, &Value)>, expected: &str) -> bool {
     }
 }
 
-// What is not walked as it is to be: the walk over the members gives the first so many of these names, and ends.
+/// What is not walked as it is to be: the walk over the members gives the first so many of these
+/// names, and ends.
 fn wrong_walk<M: PropertiesValidatorsMap<usize>>(
     map: &M,
     members: &Map<String, Value>,
@@ -158,7 +160,7 @@ const DECLARED_OF_FEW: &str = "03 27 29 31 79";
 const ALL: &str =
     " 00 01 02 03 04 05 06 07 08 09 10 11 12 13 14 15 16 17 18 19 20 21 22 23 24 25 26 27 28 29 30 31 32 33 34 35 36 37 38 39 40 41 42 43 44 45 46 47 48 49 50 51 52 53 54 55 56 57 58 59 60 61 62 63 64 65 66 67 68 69 70 71 72 73 74 75 76 77 78 79 80";
 
-// What is not walked as it is to be over an object with these names, each with itself.
+/// What is not walked as it is to be over an object with these names, each with itself.
 fn wrong_walk_over<M: PropertiesValidatorsMap<usize>>(
     alloc: Global,
     map: &M,
@@ -174,7 +176,8 @@ fn wrong_walk_over<M: PropertiesValidatorsMap<usize>>(
     Ok(wrong)
 }
 
-// Over the few members, so many of those that are declared are given, and over all, so many declared ones.
+/// Over the few members, so many of those that are declared are given, and over all, so many
+/// declared ones.
 fn wrong_walks<M: PropertiesValidatorsMap<usize>>(
     alloc: Global,
     map: &M,
@@ -210,7 +213,7 @@ fn declared_members_are_walked(rt: HostRuntime) -> Result<(), Fail> {
 
 // ---- a growth that is refused
 
-// A map of many names, made again where memory was wanting.
+/// A map of many names, made again where memory was wanting.
 fn hashed_at_last(alloc: Global) -> Result<BigMap<usize>, AllocError> {
     match first_hashed(alloc, 40) {
         Ok(map) => Ok(map),
@@ -218,7 +221,8 @@ fn hashed_at_last(alloc: Global) -> Result<BigMap<usize>, AllocError> {
     }
 }
 
-// With each growth refused in turn (tools/refused_growths), a map that is made again has every name.
+/// With each growth refused in turn (tools/refused_growths), a map that is made again has every
+/// name.
 #[test]
 fn a_map_of_many_names_after_a_refused_growth(rt: HostRuntime) -> Result<(), Fail> {
     expect_found(hashed_at_last(rt.alloc()), 40)

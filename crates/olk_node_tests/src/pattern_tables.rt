@@ -16,7 +16,8 @@ fn plain_error(error: MakeError) -> Fail {
     }
 }
 
-// One of 65: two are left unfinished at each name with `a`, one is the test `^c`, the others match each name with `b`.
+/// One of 65: two are left unfinished at each name with `a`, one is the test `^c`, the others match
+/// each name with `b`.
 fn pattern(alloc: Global, index: usize, meter: &mut Meter) -> Result<Pattern, Fail> {
     let text = match index {
         1 | 64 => "(slow)a",
@@ -35,7 +36,7 @@ fn patterns(alloc: Global) -> Result<Vec<Pattern>, Fail> {
     Ok(patterns)
 }
 
-// The table of these names.
+/// The table of these names.
 fn table_over(
     alloc: Global,
     names: &Map<String, Value>,
@@ -54,7 +55,7 @@ fn table_in(alloc: Global, declared: &Value, meter: &mut Meter) -> Result<Patter
     }
 }
 
-// The table of these declared names.
+/// The table of these declared names.
 fn table_of(alloc: Global, declared: &str, meter: &mut Meter) -> Result<PatternTable, Fail> {
     let declared = Value::from_str(alloc, declared)?;
     let table = table_in(alloc, &declared, meter);
@@ -62,12 +63,12 @@ fn table_of(alloc: Global, declared: &str, meter: &mut Meter) -> Result<PatternT
     table
 }
 
-// The table of the names `ab`, `b` and `cd`, which stand in that order.
+/// The table of the names `ab`, `b` and `cd`, which stand in that order.
 fn table(alloc: Global, meter: &mut Meter) -> Result<PatternTable, Fail> {
     table_of(alloc, r#"{"cd":true,"b":true,"ab":true}"#, meter)
 }
 
-// No row is answered otherwise than it says.
+/// No row is answered otherwise than it says.
 fn expect_none<R: Debug + Drop>(wrong: Option<R>) -> Result<(), Fail> {
     match wrong {
         None => Ok(()),
@@ -157,7 +158,7 @@ fn wrong_nothing(table: &PatternTable) -> Option<(usize, bool)> {
     None
 }
 
-// At `a` two patterns are left unfinished, at `b` most match, and no pattern matches `dd`.
+/// At `a` two patterns are left unfinished, at `b` most match, and no pattern matches `dd`.
 #[test]
 fn a_name_that_nothing_matches(rt: HostRuntime) -> Result<(), Fail> {
     let declared = r#"{"a":true,"b":true,"dd":true}"#;
@@ -167,7 +168,7 @@ fn a_name_that_nothing_matches(rt: HostRuntime) -> Result<(), Fail> {
     expect_none(wrong)
 }
 
-// Whether the patterns at these places are left unfinished, and so many match.
+/// Whether the patterns at these places are left unfinished, and so many match.
 fn are_these(indices: &[PatternIndex], matched: usize, unfinished: &[usize]) -> bool {
     let mut left = unfinished.iter();
     for entry in indices {

@@ -1,5 +1,5 @@
-//! What `additionalProperties` shows with all that it takes over, and what its errors speak of. What it finds is in the
-//! program's lines (tools/program_lines).
+//! What `additionalProperties` shows with all that it takes over, and what its errors speak of.
+//! What it finds is in the program's lines (tools/program_lines).
 use crate::found::Found;
 use crate::rows::{Form, Table, constant, expect, refusal};
 use object_logic::{BuildError, ValidationContext};
@@ -76,7 +76,7 @@ fn are_accepted<N: IsValid>(
     are_properties_valid(map, members, rest, &mut ValidationContext::new(false))
 }
 
-// Whether the members are accepted with a schema for the rest, and without one.
+/// Whether the members are accepted with a schema for the rest, and without one.
 fn verdicts<N: IsValid>(
     alloc: Global,
     map: &PropertiesMap<N>,
@@ -103,7 +103,7 @@ fn beside<N: Place<BenchLeaf, BenchRegex> + IsValid>(
     told
 }
 
-// The same beside these names.
+/// The verdicts of `beside`, over values.
 fn beside_names<N: Place<BenchLeaf, BenchRegex> + IsValid>(
     alloc: Global,
     names: &Value,
@@ -116,7 +116,7 @@ fn beside_names<N: Place<BenchLeaf, BenchRegex> + IsValid>(
     }
 }
 
-// The same with a schema for the rest.
+/// The verdicts of `beside_names`, where the node for the rest is built of this schema.
 fn with_rest<N: Place<BenchLeaf, BenchRegex> + IsValid>(
     alloc: Global,
     names: &Value,

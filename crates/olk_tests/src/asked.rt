@@ -1,5 +1,5 @@
-//! What can be asked in four ways. The functions of the tests take anything that can, and name the real validator once, since
-//! a type that is written out is dear to prove.
+//! What can be asked in four ways. The functions of the tests take anything that can, and name the
+//! real validator once, since a type that is written out is dear to prove.
 use crate::rows::refusal;
 use object_logic::{
     Evaluation, Leaf, MakeLeaf, MakeRegex, Meter, RegexEngine, ValidateError, ValidationContext,

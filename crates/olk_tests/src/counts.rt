@@ -38,7 +38,7 @@ fn whole_numbers(rt: HostRuntime) -> Result<(), Fail> {
 
 // ---- building
 
-// Where a schema is refused, if it is.
+/// Where a schema is refused, if it is.
 fn refused_at(
     alloc: Global,
     leaves: &Counting<'_, BenchLeaves>,
@@ -55,7 +55,8 @@ fn refused_at(
     refused
 }
 
-// Where a schema is refused, if it is. The cells tell how many leaves and engines are made, and how often engines are asked.
+/// Where a schema is refused, if it is. The cells tell how many leaves and engines are made, and
+/// how often engines are asked.
 fn refused_with(
     alloc: Global,
     schema: &Value,
@@ -76,7 +77,7 @@ fn refused_with(
     refused_at(alloc, &leaves, &engines, schema, meter)
 }
 
-// A meter has what the cells have, and no unfinished match.
+/// A meter has what the cells have, and no unfinished match.
 fn unlike(meter: &Meter, made: (u64, u64, u64)) -> &'static str {
     let (leaves, engines, asks) = made;
     let counts = (
@@ -92,7 +93,7 @@ fn unlike(meter: &Meter, made: (u64, u64, u64)) -> &'static str {
     }
 }
 
-// What building counts, and where the schema is refused.
+/// What building counts, and where the schema is refused.
 fn counted(alloc: Global, schema: &Value) -> Result<String, AllocError> {
     let (leaves, engines, asked) = (Cell::new(0), Cell::new(0), Cell::new(0));
     let mut meter = Meter::new();
@@ -156,7 +157,8 @@ fn each_place_and_leaf_is_made_once(rt: HostRuntime) -> Result<(), Fail> {
     expect(&Made, rt.alloc(), Table::Schemas(MADE))
 }
 
-// The same for patterns. In the last row an engine is refused, and in the next table patterns are asked of declared names.
+// A schema with patterns, and what building counts. In the last row an engine is refused, and in
+// the next table patterns are asked of declared names.
 const PATTERNS_MADE: &str =
     r#"{"patternProperties":{"a":{"type":"null"}}} | 2 places, 1 leaves, 1 engines, 0 asks
 {"patternProperties":{"a":{},"b":true,"^c":{"minLength":1}}} | 4 places, 1 leaves, 2 engines, 0 asks
@@ -193,7 +195,8 @@ fn each_engine_is_asked_once_of_each_declared_name(rt: HostRuntime) -> Result<()
     expect(&Made, rt.alloc(), Table::Schemas(TABLES_MADE))
 }
 
-// The same for more patterns than the bits of a word, and for one or two that match the declared name.
+// A schema with more patterns than the bits of a word, of which one or two match the declared name,
+// and what building counts.
 const MANY_MADE: &str =
     r#"{"additionalProperties":false,"properties":{"m64":{}},"patternProperties":{"m00":{},"m01":{},"m02":{},"m03":{},"m04":{},"m05":{},"m06":{},"m07":{},"m08":{},"m09":{},"m10":{},"m11":{},"m12":{},"m13":{},"m14":{},"m15":{},"m16":{},"m17":{},"m18":{},"m19":{},"m20":{},"m21":{},"m22":{},"m23":{},"m24":{},"m25":{},"m26":{},"m27":{},"m28":{},"m29":{},"m30":{},"m31":{},"m32":{},"m33":{},"m34":{},"m35":{},"m36":{},"m37":{},"m38":{},"m39":{},"m40":{},"m41":{},"m42":{},"m43":{},"m44":{},"m45":{},"m46":{},"m47":{},"m48":{},"m49":{},"m50":{},"m51":{},"m52":{},"m53":{},"m54":{},"m55":{},"m56":{},"m57":{},"m58":{},"m59":{},"m60":{},"m61":{},"m62":{},"m63":{},"m64":{}}} | 67 places, 0 leaves, 65 engines, 65 asks
 {"additionalProperties":false,"properties":{"m64":{}},"patternProperties":{"m00":{},"m01":{},"m02":{},"m03":{},"m04":{},"m05":{},"m06":{},"m07":{},"m08":{},"m09":{},"m10":{},"m11":{},"m12":{},"m13":{},"m14":{},"m15":{},"m16":{},"m17":{},"m18":{},"m19":{},"m20":{},"m21":{},"m22":{},"m23":{},"m24":{},"m25":{},"m26":{},"m27":{},"m28":{},"m29":{},"m30":{},"m31":{},"m32":{},"m33":{},"m34":{},"m35":{},"m36":{},"m37":{},"m38":{},"m39":{},"m40":{},"m41":{},"m42":{},"m43":{},"m44":{},"m45":{},"m46":{},"m47":{},"m48":{},"m49":{},"m50":{},"m51":{},"m52":{},"m53":{},"m54":{},"m55":{},"m56":{},"m57":{},"m58":{},"m59":{},"m60":{},"m61":{},"m62":{},"m63":{},"m64":{},"(slow)m64":false}} | 68 places, 0 leaves, 66 engines, 66 asks"#;
@@ -205,14 +208,15 @@ fn a_table_of_65_patterns(rt: HostRuntime) -> Result<(), Fail> {
 
 // ---- leaves that are asked
 
-// Makes the leaves of its maker, which count in a cell how often they are asked whether they accept.
+/// Makes the leaves of its maker, which count in a cell how often they are asked whether they
+/// accept.
 #[derive(Drop)]
 struct Asking<'c, M> {
     maker: M,
     asked: &'c Cell<u64>,
 }
 
-// A leaf that counts so.
+/// A leaf that counts so.
 #[derive(Drop)]
 struct AskedLeaf<'c, K> {
     leaf: K,
@@ -279,7 +283,7 @@ impl<'c, M: MakeLeaf> MakeLeaf for Asking<'c, M> {
     }
 }
 
-// How often a verdict asks leaves, which count in the cell.
+/// How often a verdict asks leaves, which count in the cell.
 #[derive(Drop)]
 struct AskedLeaves<'c> {
     asked: &'c Cell<u64>,
@@ -394,7 +398,7 @@ fn evaluate_accepts<V: Asked>(
     accepts
 }
 
-// The four ways of asking.
+/// The four ways of asking.
 #[derive(Clone, Copy, Drop)]
 enum Way {
     IsValid,
@@ -418,8 +422,8 @@ fn accepts_by<'a, V: Asked>(
     }
 }
 
-// What a way of asking comes to under an answer: whether the instance is accepted, how often engines are asked, how many
-// matches are left unfinished, and what is wrong beside these.
+/// What a way of asking comes to under an answer: whether the instance is accepted, how often
+/// engines are asked, how many matches are left unfinished, and what is wrong beside these.
 #[derive(Clone, Copy, Drop)]
 struct Told {
     accepted: bool,
@@ -428,7 +432,7 @@ struct Told {
     wrong: &'static str,
 }
 
-// The context has the same counts and no other, and keeps its answer.
+/// The context has the same counts and no other, and keeps its answer.
 fn wrong_in(ctx: &ValidationContext, asks: u64, answer: bool) -> &'static str {
     let meter = ctx.meter();
     let counts = (
@@ -466,8 +470,8 @@ fn told_by_way<'a, V: Asked>(
     })
 }
 
-// Whether the instance is accepted, whether engines are asked at all, and whether some or all of these matches are left
-// unfinished.
+/// Whether the instance is accepted, whether engines are asked at all, and whether some or all of
+/// these matches are left unfinished.
 fn kind(told: Told) -> (bool, bool, bool, bool) {
     (
         told.accepted,
@@ -477,7 +481,7 @@ fn kind(told: Told) -> (bool, bool, bool, bool) {
     )
 }
 
-// Each other way gives the same verdict as `is_valid`, and asks where that asks.
+/// Each other way gives the same verdict as `is_valid`, and asks where that asks.
 fn wrong_beside(told: Told, other: Told) -> &'static str {
     if kind(told) == kind(other) {
         other.wrong
@@ -486,12 +490,13 @@ fn wrong_beside(told: Told, other: Told) -> &'static str {
     }
 }
 
-// The first of two texts that is not empty.
+/// The first of two texts that is not empty.
 fn first_of(text: &'static str, other: &'static str) -> &'static str {
     if text.is_empty() { other } else { text }
 }
 
-// What a verdict under an answer comes to, and what is wrong with that or with another way of asking.
+/// What a verdict under an answer comes to, and what is wrong with that or with another way of
+/// asking.
 fn told_by_all<'a, V: Asked>(
     validator: &'a V,
     asked: &Cell<u64>,
@@ -525,7 +530,8 @@ fn verdict_text(told: Told, told_where_matched: Told) -> &'static str {
     }
 }
 
-// What is wrong with a verdict where an unfinished match is none, or where it is one: it asks as often.
+/// What is wrong with a verdict where an unfinished match is none, or where it is one: it asks as
+/// often.
 fn wrong_with(told: Told, matched: Told) -> &'static str {
     if (told.asks, told.unfinished) == (matched.asks, matched.unfinished) {
         first_of(told.wrong, matched.wrong)
@@ -544,7 +550,7 @@ fn counts_text(
     format!(in alloc; "{verdict} | {asks} asks, {unfinished} unfinished{wrong}")
 }
 
-// What a verdict comes to under both answers.
+/// What a verdict comes to under both answers.
 fn told_text(alloc: Global, told: Told, matched: Told) -> Result<String, AllocError> {
     let (verdict, wrong) = (verdict_text(told, matched), wrong_with(told, matched));
     counts_text(alloc, verdict, told.asks, told.unfinished, wrong)
@@ -571,14 +577,14 @@ fn told_by_a_verdict<V: Asked>(
     told_text(alloc, told, told)
 }
 
-// What asking comes to in engines, whatever building asked.
+/// What asking comes to in engines, whatever building asked.
 #[derive(Clone, Copy, Drop)]
 enum AskedEngines {
     InAllWays,
     ByAVerdict,
 }
 
-// How often engines are asked, which count in the cell.
+/// How often engines are asked, which count in the cell.
 #[derive(Drop)]
 struct Engines<'c> {
     form: AskedEngines,
@@ -620,9 +626,10 @@ impl Form for AskedEngines {
     }
 }
 
-// A schema, an instance, whether that is accepted (with `or` where an unfinished match is none, and where it is one), and how
-// often a verdict asks the engines, and of these how often without an end. The first rows ask nothing: a few, and every keyword over
-// a value that is accepted and one that is not.
+// A schema, an instance, whether that is accepted (with `or` where an unfinished match is none, and
+// where it is one), and how often a verdict asks the engines, and of these how often without an
+// end. The first rows ask nothing: a few, and every keyword over a value that is accepted and one
+// that is not.
 const ENGINES: &str =
     r#"{"allOf":[{}],"properties":{"a":{"type":"integer"}}} | {"a":1} | accepted | 0 asks, 0 unfinished
 {"allOf":[{}],"properties":{"a":{"type":"integer"}}} | {"a":"x"} | refused | 0 asks, 0 unfinished
@@ -676,7 +683,8 @@ fn a_declared_name_asks_what_was_left_unfinished(rt: HostRuntime) -> Result<(), 
     )
 }
 
-// The same of more patterns than the bits of a word.
+// A declared name beside more patterns than the bits of a word asks none whose match was finished
+// in building, and any other again.
 const MANY_ASKED: &str =
     r#"{"additionalProperties":false,"properties":{"m64":{}},"patternProperties":{"m00":{},"m01":{},"m02":{},"m03":{},"m04":{},"m05":{},"m06":{},"m07":{},"m08":{},"m09":{},"m10":{},"m11":{},"m12":{},"m13":{},"m14":{},"m15":{},"m16":{},"m17":{},"m18":{},"m19":{},"m20":{},"m21":{},"m22":{},"m23":{},"m24":{},"m25":{},"m26":{},"m27":{},"m28":{},"m29":{},"m30":{},"m31":{},"m32":{},"m33":{},"m34":{},"m35":{},"m36":{},"m37":{},"m38":{},"m39":{},"m40":{},"m41":{},"m42":{},"m43":{},"m44":{},"m45":{},"m46":{},"m47":{},"m48":{},"m49":{},"m50":{},"m51":{},"m52":{},"m53":{},"m54":{},"m55":{},"m56":{},"m57":{},"m58":{},"m59":{},"m60":{},"m61":{},"m62":{},"m63":{},"m64":{}}} | {"m64":1} | accepted | 0 asks, 0 unfinished
 {"additionalProperties":false,"properties":{"m64":{}},"patternProperties":{"m00":{},"m01":{},"m02":{},"m03":{},"m04":{},"m05":{},"m06":{},"m07":{},"m08":{},"m09":{},"m10":{},"m11":{},"m12":{},"m13":{},"m14":{},"m15":{},"m16":{},"m17":{},"m18":{},"m19":{},"m20":{},"m21":{},"m22":{},"m23":{},"m24":{},"m25":{},"m26":{},"m27":{},"m28":{},"m29":{},"m30":{},"m31":{},"m32":{},"m33":{},"m34":{},"m35":{},"m36":{},"m37":{},"m38":{},"m39":{},"m40":{},"m41":{},"m42":{},"m43":{},"m44":{},"m45":{},"m46":{},"m47":{},"m48":{},"m49":{},"m50":{},"m51":{},"m52":{},"m53":{},"m54":{},"m55":{},"m56":{},"m57":{},"m58":{},"m59":{},"m60":{},"m61":{},"m62":{},"m63":{},"m64":{},"(slow)m64":false}} | {"m64":1} | accepted or refused | 1 asks, 1 unfinished"#;

@@ -1,5 +1,5 @@
-//! Contexts of errors, lists that are handed in, and children of evaluations. What is found without contexts is in the
-//! program's lines (tools/program_lines).
+//! Contexts of errors, lists that are handed in, and children of evaluations. What is found without
+//! contexts is in the program's lines (tools/program_lines).
 use crate::asked::{Asked, Question, told_by};
 use crate::rows::{Form, Table, expect};
 use object_logic::{
@@ -13,14 +13,14 @@ use std::test::Fail;
 
 // ---- the text of an error
 
-// An error as a line: its text, its instance path and its schema path.
+/// An error as a line: its text, its instance path and its schema path.
 fn line(alloc: Global, error: &ValidationError<'_>) -> Result<String, AllocError> {
     let mut text = error.message(alloc)?;
     text.write(format_args!(" @ \"{}\", {}", error.instance_path(), error.schema_path()))?;
     Ok(text)
 }
 
-// The lines of errors in the order of their texts.
+/// The lines of errors in the order of their texts.
 fn sorted(alloc: Global, errors: &[ValidationError<'_>]) -> Result<Vec<String>, AllocError> {
     let mut lines = Vec::new(alloc);
     for error in errors {
@@ -54,7 +54,7 @@ fn push_branch(
     pushed
 }
 
-// What each branch finds, in brackets.
+/// What each branch finds, in brackets.
 fn push_branches(
     alloc: Global,
     text: &mut String,
@@ -66,7 +66,7 @@ fn push_branches(
     Ok(())
 }
 
-// The branches in the context of an error, if it has one.
+/// The branches in the context of an error, if it has one.
 fn branches_of<'e, 'a>(error: &'e ValidationError<'a>) -> &'e [Vec<ValidationError<'a>>] {
     match error.kind() {
         ValidationErrorKind::AnyOf { context } => context,
@@ -76,14 +76,14 @@ fn branches_of<'e, 'a>(error: &'e ValidationError<'a>) -> &'e [Vec<ValidationErr
     }
 }
 
-// The line of an error, and what each branch finds.
+/// The line of an error, and what each branch finds.
 fn with_branches(alloc: Global, error: &ValidationError<'_>) -> Result<String, AllocError> {
     let mut text = line(alloc, error)?;
     push_branches(alloc, &mut text, branches_of(error))?;
     Ok(text)
 }
 
-// What an error speaks of.
+/// What an error speaks of.
 fn push_instance(text: &mut String, error: &ValidationError<'_>) -> Result<(), AllocError> {
     match error.instance() {
         Node::Value(value) => text.write(format_args!(" of {value}")),
@@ -91,7 +91,7 @@ fn push_instance(text: &mut String, error: &ValidationError<'_>) -> Result<(), A
     }
 }
 
-// The line of an error in brackets, and what it speaks of.
+/// The line of an error in brackets, and what it speaks of.
 fn push_inner_line(
     text: &mut String,
     line: &str,
@@ -113,7 +113,7 @@ fn push_inside(
     pushed
 }
 
-// What an error speaks of where its text doesn't tell, and in brackets the error inside.
+/// What an error speaks of where its text doesn't tell, and in brackets the error inside.
 fn push_rest(
     alloc: Global,
     text: &mut String,
@@ -129,8 +129,8 @@ fn push_rest(
     }
 }
 
-// The line of an error with what each branch finds, what it speaks of where its text doesn't tell, and in brackets the error
-// inside.
+/// The line of an error with what each branch finds, what it speaks of where its text doesn't tell,
+/// and in brackets the error inside.
 fn with_context(alloc: Global, error: &ValidationError<'_>) -> Result<String, AllocError> {
     let mut text = with_branches(alloc, error)?;
     push_rest(alloc, &mut text, error)?;
@@ -139,7 +139,7 @@ fn with_context(alloc: Global, error: &ValidationError<'_>) -> Result<String, Al
 
 // ---- the text of a list of errors
 
-// Errors with their contexts, in the order of their texts.
+/// Errors with their contexts, in the order of their texts.
 fn sorted_with_contexts(
     alloc: Global,
     errors: &[ValidationError<'_>],
@@ -166,7 +166,7 @@ fn join(alloc: Global, lines: &[String]) -> Result<String, AllocError> {
     Ok(text)
 }
 
-// Errors with their contexts, in the order of their texts, as one line.
+/// Errors with their contexts, in the order of their texts, as one line.
 fn joined(alloc: Global, errors: &[ValidationError<'_>]) -> Result<String, AllocError> {
     let lines = sorted_with_contexts(alloc, errors)?;
     let text = join(alloc, &lines);
@@ -196,7 +196,7 @@ fn push_joined_branches(
     Ok(())
 }
 
-// The errors in the contexts of errors, with their contexts.
+/// The errors in the contexts of errors, with their contexts.
 fn inner_lines(alloc: Global, errors: &[ValidationError<'_>]) -> Result<String, AllocError> {
     let mut text = String::new(alloc);
     for error in errors {
@@ -205,7 +205,7 @@ fn inner_lines(alloc: Global, errors: &[ValidationError<'_>]) -> Result<String, 
     Ok(text)
 }
 
-// What each error speaks of.
+/// What each error speaks of.
 fn instances(alloc: Global, errors: &[ValidationError<'_>]) -> Result<String, AllocError> {
     let mut text = String::new(alloc);
     for error in errors {
@@ -236,7 +236,7 @@ fn collected<'a, V: Asked>(
     Ok(errors)
 }
 
-// All errors, and no text where the instance is accepted.
+/// All errors, and no text where the instance is accepted.
 fn all_lines<V: Asked>(
     validator: &V,
     alloc: Global,
@@ -248,7 +248,7 @@ fn all_lines<V: Asked>(
     text
 }
 
-// The first error with its context, and no text where the instance is accepted.
+/// The first error with its context, and no text where the instance is accepted.
 fn first_line<V: Asked>(
     validator: &V,
     alloc: Global,
@@ -265,7 +265,7 @@ fn first_line<V: Asked>(
     line
 }
 
-// All errors behind the first, where these are others.
+/// All errors behind the first, where these are others.
 fn push_others(text: &mut String, all: &str) -> Result<(), AllocError> {
     if all == text.as_str() {
         Ok(())
@@ -305,7 +305,8 @@ fn shows_valid<V: Asked>(
     told
 }
 
-// Behind the errors, whether the instance is accepted, and the verdicts of `is_valid` and `evaluate` where these are others.
+/// Behind the errors, whether the instance is accepted, and the verdicts of `is_valid` and
+/// `evaluate` where these are others.
 fn push_verdicts<V: Asked>(
     text: &mut String,
     validator: &V,
@@ -324,7 +325,8 @@ fn push_verdicts<V: Asked>(
     }
 }
 
-// The first error, and all errors where these are others; each way of asking gives the same verdict.
+/// The first error, and all errors where these are others; each way of asking gives the same
+/// verdict.
 fn told<V: Asked>(validator: &V, alloc: Global, instance: &Value) -> Result<String, AllocError> {
     let mut text = first_line(validator, alloc, instance)?;
     push_all(&mut text, validator, alloc, instance)?;
@@ -339,7 +341,7 @@ fn count_errors(alloc: Global, evaluation: &Evaluation<'_>) -> Result<usize, All
     Ok(count)
 }
 
-// How many errors an evaluation lists.
+/// How many errors an evaluation lists.
 fn shown_errors<V: Asked>(
     validator: &V,
     alloc: Global,
@@ -355,7 +357,7 @@ fn shown_errors<V: Asked>(
     told
 }
 
-// What is found, and how many errors an evaluation lists where these are others than so many.
+/// What is found, and how many errors an evaluation lists where these are others than so many.
 fn told_and_shown<V: Asked>(
     validator: &V,
     alloc: Global,
@@ -370,7 +372,7 @@ fn told_and_shown<V: Asked>(
     Ok(text)
 }
 
-// The errors in the context of the one error, with their contexts.
+/// The errors in the context of the one error, with their contexts.
 fn told_inside<V: Asked>(
     validator: &V,
     alloc: Global,
@@ -393,7 +395,7 @@ fn told_instances<V: Asked>(
     text
 }
 
-// All errors behind those that were in the list.
+/// All errors behind those that were in the list.
 fn told_twice<V: Asked>(
     validator: &V,
     alloc: Global,
@@ -433,7 +435,7 @@ fn push_descriptions(text: &mut String, errors: &[ErrorDescription<'_>]) -> Resu
     Ok(())
 }
 
-// A node: its two paths, a mark where it is invalid, its names in brackets, and its errors.
+/// A node: its two paths, a mark where it is invalid, its names in brackets, and its errors.
 fn push_node(text: &mut String, node: &EvaluationNode<'_>) -> Result<(), AllocError> {
     let mark = if node.valid() { "" } else { "!" };
     text.write(format_args!("{}@{}{mark}", node.schema_path(), node.instance_path()))?;
@@ -441,7 +443,7 @@ fn push_node(text: &mut String, node: &EvaluationNode<'_>) -> Result<(), AllocEr
     push_descriptions(text, node.errors())
 }
 
-// A node in parentheses, and `..` for those below it.
+/// A node in parentheses, and `..` for those below it.
 fn push_inner(text: &mut String, node: &EvaluationNode<'_>) -> Result<(), AllocError> {
     text.push_str(" (")?;
     push_node(text, node)?;
@@ -452,7 +454,7 @@ fn push_inner(text: &mut String, node: &EvaluationNode<'_>) -> Result<(), AllocE
     })
 }
 
-// A node and those below it, in parentheses.
+/// A node and those below it, in parentheses.
 fn push_place(text: &mut String, place: &EvaluationNode<'_>) -> Result<(), AllocError> {
     text.push_str(" (")?;
     push_node(text, place)?;
@@ -462,8 +464,8 @@ fn push_place(text: &mut String, place: &EvaluationNode<'_>) -> Result<(), Alloc
     text.push_str(")")
 }
 
-// A node and those below it, in parentheses, down to the keywords of the schemas that a keyword asks, and `..` for what is
-// deeper.
+/// A node and those below it, in parentheses, down to the keywords of the schemas that a keyword
+/// asks, and `..` for what is deeper.
 fn push_tree(text: &mut String, keyword: &EvaluationNode<'_>) -> Result<(), AllocError> {
     push_node(text, keyword)?;
     for place in keyword.children() {
@@ -480,7 +482,7 @@ fn trees(alloc: Global, keywords: &[EvaluationNode<'_>]) -> Result<String, Alloc
     Ok(text)
 }
 
-// What an evaluation shows below its root.
+/// What an evaluation shows below its root.
 fn shown_trees<V: Asked>(
     validator: &V,
     alloc: Global,
@@ -498,8 +500,8 @@ fn shown_trees<V: Asked>(
 
 // ---- with a growth refused
 
-// Whether all errors are put into the list, asked a second time where memory was wanting; a refused call leaves the list as it
-// was.
+/// Whether all errors are put into the list, asked a second time where memory was wanting; a
+/// refused call leaves the list as it was.
 fn collects_at_last<'a, V: Asked>(
     validator: &'a V,
     alloc: Global,
@@ -511,7 +513,7 @@ fn collects_at_last<'a, V: Asked>(
         || (errors.len() == before && collect(validator, alloc, instance, errors).is_ok())
 }
 
-// How many errors are in a list, and in one that they are put into twice.
+/// How many errors are in a list, and in one that they are put into twice.
 fn two_counts_at_last<V: Asked>(
     validator: &V,
     alloc: Global,
@@ -526,7 +528,7 @@ fn two_counts_at_last<V: Asked>(
     if once && twice { Some(counts) } else { None }
 }
 
-// How many errors an evaluation lists, asked a second time where memory was wanting.
+/// How many errors an evaluation lists, asked a second time where memory was wanting.
 fn count_at_last(alloc: Global, evaluation: &Evaluation<'_>) -> Option<usize> {
     match count_errors(alloc, evaluation) {
         Ok(count) => Some(count),
@@ -549,7 +551,7 @@ fn evaluated_count<V: Asked>(
     told
 }
 
-// The same of an evaluation that is asked for a second time.
+/// How many errors an evaluation lists that is asked for a second time where memory was wanting.
 fn evaluated_count_at_last<V: Asked>(
     validator: &V,
     alloc: Global,
@@ -561,7 +563,7 @@ fn evaluated_count_at_last<V: Asked>(
     }
 }
 
-// The first error's line, asked a second time where memory was wanting.
+/// The first error's line, asked a second time where memory was wanting.
 fn first_line_at_last<V: Asked>(
     validator: &V,
     alloc: Global,
@@ -576,7 +578,7 @@ fn first_line_at_last<V: Asked>(
     }
 }
 
-// The first error's line, where there are 25 errors, and an evaluation lists 26.
+/// The first error's line, where there are 25 errors, and an evaluation lists 26.
 fn told_at_last<V: Asked>(
     validator: &V,
     alloc: Global,
@@ -596,9 +598,11 @@ fn told_at_last<V: Asked>(
 /// What is asked of a validator of the bench's leaves and matchers.
 #[derive(Clone, Copy, Drop)]
 pub(crate) enum Found {
-    /// The first error with its context, and all errors where these are others, or that the instance is accepted.
+    /// The first error with its context, and all errors where these are others, or that the
+    /// instance is accepted.
     Told,
-    /// The same, where an evaluation lists so many errors.
+    /// What `Told` says, and how many errors an evaluation lists where these are others than so
+    /// many.
     AndShown(Option<u64>),
     /// The errors in the contexts of errors.
     Inside,
@@ -642,8 +646,9 @@ impl Form for Found {
     }
 }
 
-// A name, a schema, an instance, and the one error with its context, or that the instance is accepted. Where there is more than
-// one error: the first, and all errors in the order of their texts.
+// A name, a schema, an instance, and the one error with its context, or that the instance is
+// accepted. Where there is more than one error: the first, and all errors in the order of their
+// texts.
 const BRANCHES: &str =
     r##"no branch, an empty context | {"anyOf":[]} | 1 | 1 is not valid under any of the schemas listed in the 'anyOf' keyword @ "", /anyOf
 each branch has all that it finds in the context, in the order of branches | {"anyOf":[{"type":"integer"},{"required":["a","b"]}]} | {} | {} is not valid under any of the schemas listed in the 'anyOf' keyword @ "", /anyOf {{} is not of type "integer" @ "", /anyOf/0/type;} {"a" is a required property @ "", /anyOf/1/required;"b" is a required property @ "", /anyOf/1/required;}
@@ -674,7 +679,7 @@ fn exactly_one_branch(rt: HostRuntime) -> Result<(), Fail> {
     expect(&Found::Told, rt.alloc(), Table::Named(ONE_OF))
 }
 
-// The same for `if`, `then` and `else`.
+// Rows as in `BRANCHES`, for `if`, `then` and `else`.
 const CONDITIONS: &str =
     r##"else refuses | {"else":{"multipleOf":2},"if":{"minimum":0},"then":{"multipleOf":2}} | -1 | -1 is not a multiple of 2 @ "", /else/multipleOf
 then refuses | {"else":{"multipleOf":2},"if":{"minimum":0},"then":{"multipleOf":2}} | 3 | 3 is not a multiple of 2 @ "", /then/multipleOf
@@ -691,7 +696,7 @@ fn conditions(rt: HostRuntime) -> Result<(), Fail> {
     expect(&Found::Told, rt.alloc(), Table::Named(CONDITIONS))
 }
 
-// The same for the dependency keywords, and for names.
+// Rows as in `BRANCHES`, for the dependency keywords, and for names.
 const DEPENDENCIES: &str =
     r##"a key wants a name of the object | {"dependentRequired":{"a":["b"]}} | {"a":1} | "b" is a required property @ "", /dependentRequired of {"a":1}
 a key that is not there | {"dependentRequired":{"a":["b"]}} | {"c":1} | accepted
@@ -713,8 +718,9 @@ fn dependencies_and_names(rt: HostRuntime) -> Result<(), Fail> {
     expect(&Found::Told, rt.alloc(), Table::Named(DEPENDENCIES))
 }
 
-// The same for patterns; the first ones after the examples of the standard's test suite, the last ones with several members
-// and patterns, where the first error is that of the first member that is refused, and of the first pattern there.
+// Rows as in `BRANCHES`, for patterns; the first ones after the examples of the standard's test
+// suite, the last ones with several members and patterns, where the first error is that of the
+// first member that is refused, and of the first pattern there.
 const PATTERNS: &str =
     r##"a member that one pattern matches is accepted | {"patternProperties":{"a":{"type":"integer"},"aa":{"maximum":20}}} | {"a":21} | accepted
 a member that both match is accepted | {"patternProperties":{"a":{"type":"integer"},"aa":{"maximum":20}}} | {"aaaa":18} | accepted
@@ -753,7 +759,8 @@ fn declared_names_beside_patterns(rt: HostRuntime) -> Result<(), Fail> {
     expect(&Found::Told, rt.alloc(), Table::Named(BESIDE_PATTERNS))
 }
 
-// A name, a schema, an instance, and the one error in the context of the one error of `anyOf`, with its context.
+// A name, a schema, an instance, and the one error in the context of the one error of `anyOf`, with
+// its context.
 const IN_A_BRANCH: &str =
     r##"branches of a branch | {"anyOf":[{"anyOf":[{"type":"integer"},{"type":"array"}]}]} | "x" | "x" is not valid under any of the schemas listed in the 'anyOf' keyword @ "", /anyOf/0/anyOf {"x" is not of type "integer" @ "", /anyOf/0/anyOf/0/type;} {"x" is not of type "array" @ "", /anyOf/0/anyOf/1/type;}
 no branch of oneOf accepts | {"anyOf":[{"oneOf":[{"type":"integer"},{"type":"array"}]}]} | "x" | "x" is not valid under any of the schemas listed in the 'oneOf' keyword @ "", /anyOf/0/oneOf {"x" is not of type "integer" @ "", /anyOf/0/oneOf/0/type;} {"x" is not of type "array" @ "", /anyOf/0/oneOf/1/type;}
@@ -765,7 +772,8 @@ fn contexts_in_a_context(rt: HostRuntime) -> Result<(), Fail> {
     expect(&Found::Inside, rt.alloc(), Table::Named(IN_A_BRANCH))
 }
 
-// A schema, an instance, and what its errors are in a list that has them already: what was in the list stays in it.
+// A schema, an instance, and what its errors are in a list that has them already: what was in the
+// list stays in it.
 const TWICE: &str = concat!(
     r#"{"allOf":[{"type":"string"},{"minimum":5}]} | 1 | "#,
     r#"1 is less than the minimum of 5 @ "", /allOf/1/minimum & 1 is less than the minimum of 5 @ "", /allOf/1/minimum"#,
@@ -814,8 +822,9 @@ fn trees_of_evaluations(rt: HostRuntime) -> Result<(), Fail> {
     expect(&Found::Trees, rt.alloc(), Table::Named(TREES))
 }
 
-// A schema, an instance, and its first error. With each growth refused in turn (tools/refused_growths), the second call gives
-// the full answer; want of memory is told by the row's two values and the building alone, and by the text that is told at last.
+// A schema, an instance, and its first error. With each growth refused in turn
+// (tools/refused_growths), the second call gives the full answer; want of memory is told by the
+// row's two values and the building alone, and by the text that is told at last.
 const MANY_FAULTS: &str = concat!(
     r#"{"allOf":[{"required":["a","b"]},{"properties":{"c":{"type":"string"}}},"#,
     r#"{"patternProperties":{"c":{"minimum":7},"^c":false}},{"patternProperties":{"^d":{"type":"null"}}},"#,

@@ -1,4 +1,5 @@
-//! Branches in branches: what is asked before it is told costs no more than the square of the depth.
+//! Branches in branches: what is asked before it is told costs no more than the square of the
+//! depth.
 use crate::found::Found;
 use crate::rows::{Form, Table, constant, expect};
 use serde_json::Value;
@@ -6,12 +7,12 @@ use std::alloc::{AllocError, Global};
 use std::mem::replace;
 use std::test::Fail;
 
-// The place of the first branch of `anyOf`.
+/// The place of the first branch of `anyOf`.
 fn first_branch(schema: &mut Value) -> Option<&mut Value> {
     schema.get_mut("anyOf")?.get_mut(0)
 }
 
-// Puts a schema into the first branch of another.
+/// Puts a schema into the first branch of another.
 fn wrap(schema: &mut Value, outer: Value) {
     let inner = replace(schema, outer);
     if let Some(place) = first_branch(schema) {
@@ -19,7 +20,8 @@ fn wrap(schema: &mut Value, outer: Value) {
     }
 }
 
-// A hundred times a schema, each in the first branch of the one before, around a leaf that refuses numbers.
+/// A hundred times a schema, each in the first branch of the one before, around a leaf that refuses
+/// numbers.
 fn nested(alloc: Global, outer: &str) -> Result<Value, AllocError> {
     let mut schema = constant(alloc, r#"{"type":"string"}"#)?;
     for _ in 0..100 {
@@ -28,7 +30,8 @@ fn nested(alloc: Global, outer: &str) -> Result<Value, AllocError> {
     Ok(schema)
 }
 
-// What is found with the schema of a hundred branches of one branch or of two, of which an evaluation lists so many errors.
+/// What is found with the schema of a hundred branches of one branch or of two, of which an
+/// evaluation lists so many errors.
 #[derive(Drop)]
 struct HundredBranches;
 
@@ -57,7 +60,8 @@ const ONE_BRANCH: &str = r#"{"anyOf":[null]}"#;
 // The second refuses numbers.
 const TWO_BRANCHES: &str = r#"{"anyOf":[null,{"type":"null"}]}"#;
 
-// How many errors an evaluation lists of a hundred branches of one branch or of two, an instance, and what is found.
+// How many errors an evaluation lists of a hundred branches of one branch or of two, an instance,
+// and what is found.
 const HUNDRED: &str =
     r#"1 | 1 | 1 is not valid under any of the schemas listed in the 'anyOf' keyword @ "", /anyOf {1 is not valid under any of the schemas listed in the 'anyOf' keyword @ "", /anyOf/0/anyOf;}
 101 | 1 | 1 is not valid under any of the schemas listed in the 'anyOf' keyword @ "", /anyOf {1 is not valid under any of the schemas listed in the 'anyOf' keyword @ "", /anyOf/0/anyOf;} {1 is not of type "null" @ "", /anyOf/1/type;}

@@ -4,8 +4,8 @@ use serde_json::Value;
 use std::alloc::{AllocError, Global};
 use std::test::Fail;
 
-/// A table, whose rows have cells between ` | `: what is asked, and behind it the answer that is expected, which may have
-/// further cells in it.
+/// A table, whose rows have cells between ` | `: what is asked, and behind it the answer that is
+/// expected, which may have further cells in it.
 #[derive(Clone, Copy, Drop)]
 pub(crate) enum Table<'t> {
     /// Rows of a schema.
@@ -21,19 +21,19 @@ pub(crate) trait Form {
     fn answer(&self, alloc: Global, schema: &Value, instance: &Value) -> Result<String, AllocError>;
 }
 
-// A cell, and those behind it.
+/// A cell, and those behind it.
 fn first_cell(row: &str) -> (&str, &str) {
     row.split_once(" | ").unwrap_or((row, ""))
 }
 
-// A schema, an instance, and what is expected.
+/// A schema, an instance, and what is expected.
 fn three_cells(row: &str) -> (&str, &str, &str) {
     let (schema, others) = first_cell(row);
     let (instance, told) = first_cell(others);
     (schema, instance, told)
 }
 
-// A schema, no instance, and what is expected.
+/// A schema, no instance, and what is expected.
 fn two_cells(row: &str) -> (&str, &str, &str) {
     let (schema, told) = first_cell(row);
     (schema, "null", told)

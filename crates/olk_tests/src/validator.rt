@@ -8,7 +8,7 @@ use serde_json::Value;
 use std::alloc::{AllocError, Global};
 use std::test::Fail;
 
-// A line of its own, with its two places.
+/// A line of its own, with its two places.
 fn push_place(text: &mut String, schema: &str, instance: &str) -> Result<(), AllocError> {
     let before = if text.is_empty() { "" } else { " & " };
     text.write(format_args!("{before}{schema}@{instance} "))
@@ -27,7 +27,7 @@ fn push_names(text: &mut String, names: &[&str]) -> Result<(), AllocError> {
     Ok(())
 }
 
-// Each error with its two places.
+/// Each error with its two places.
 fn push_errors(text: &mut String, entries: &[ErrorEntry<'_>]) -> Result<(), AllocError> {
     for entry in entries {
         push_error(text, entry)?;
@@ -35,7 +35,7 @@ fn push_errors(text: &mut String, entries: &[ErrorEntry<'_>]) -> Result<(), Allo
     Ok(())
 }
 
-// Each annotation with its two places.
+/// Each annotation with its two places.
 fn push_annotations(text: &mut String, entries: &[AnnotationEntry<'_>]) -> Result<(), AllocError> {
     for entry in entries {
         push_place(text, entry.schema_location, entry.instance_location)?;
@@ -66,7 +66,7 @@ fn push_shown_annotations(
     pushed
 }
 
-// Each error and each annotation.
+/// Each error and each annotation.
 fn shown_text(alloc: Global, evaluation: &Evaluation<'_>) -> Result<String, AllocError> {
     let mut text = String::new(alloc);
     push_shown_errors(alloc, &mut text, evaluation)?;
@@ -74,7 +74,7 @@ fn shown_text(alloc: Global, evaluation: &Evaluation<'_>) -> Result<String, Allo
     Ok(text)
 }
 
-// What is shown, where an evaluation gives the same verdict as `is_valid`.
+/// What is shown, where an evaluation gives the same verdict as `is_valid`.
 fn shown_with(
     alloc: Global,
     evaluation: &Evaluation<'_>,
@@ -149,7 +149,7 @@ fn evaluations(rt: HostRuntime) -> Result<(), Fail> {
     expect(&Shown, rt.alloc(), Table::Asked(EVALUATIONS))
 }
 
-// The same for conditions, and then for dependencies and names.
+// Rows as in `EVALUATIONS`, for conditions, and then for dependencies and names.
 const OF_CONDITIONS: &str =
     r#"{"if":{"properties":{"a":true}},"then":{"properties":{"b":{"text":false}}}} | {"a":1,"b":"x"} | /then/properties/b/text@/b text: is a text & /if/properties@ a,
 {"else":{"properties":{"a":true}},"if":{"text":false}} | {"a":1} | 
