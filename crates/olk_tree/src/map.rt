@@ -172,7 +172,8 @@ fn find_among_many(names: &[String], hint: usize, name: &str) -> Result<usize, u
     }
 }
 
-/// At which of the next places from `hint` on the name stands, if it stands there.
+/// At which of the next places from `hint` on the name stands, if it stands there. Where it stands
+/// at another place, that may be told too.
 #[inline(always)]
 fn find_near(names: &[String], hint: usize, name: &str) -> Option<usize>
     requires { Ascend (map string_bytes names.now) }
@@ -185,7 +186,8 @@ fn find_near(names: &[String], hint: usize, name: &str) -> Option<usize>
     find_between(names, hint, end, name)
 }
 
-/// At which of these places the name stands, if it stands there.
+/// At which of these places the name stands, if it stands there. Where it stands at another place,
+/// that may be told too.
 #[inline(always)]
 fn find_between(names: &[String], from: usize, to: usize, name: &str) -> Option<usize>
     requires ordered { Ascend (map string_bytes names.now) }
@@ -215,7 +217,8 @@ fn find_equal(names: &[String], hint: usize, name: &str) -> Result<usize, usize>
     }
 }
 
-/// Where a name would stand that is found nowhere, looked for from the hint on.
+/// Where a name would stand that is found nowhere, looked for from the hint on. It is the next
+/// hint, so nothing is promised of it.
 #[inline(never)]
 fn later_hint(names: &[String], hint: usize, name: &str) -> usize {
     for place in hint..names.len() {
@@ -226,7 +229,8 @@ fn later_hint(names: &[String], hint: usize, name: &str) -> usize {
     names.len()
 }
 
-/// Whether first bytes tell that the name stands nowhere, and would stand at the hint.
+/// Whether first bytes tell that the name stands nowhere, and would stand at the hint. Only the
+/// first is promised, and `false` tells nothing.
 #[inline(always)]
 fn would_stand_at(names: &[String], hint: usize, name: &str) -> bool
     requires { Ascend (map string_bytes names.now) }
@@ -252,6 +256,7 @@ fn comes_before(names: &[String], hint: usize, name: &str) -> bool
 }
 
 /// Whether the one is less than the other, in the order of their bytes. Most differ in the first.
+/// Nothing is promised of `false`.
 #[inline(always)]
 fn is_before(one: &str, other: &str) -> bool
     ensures { IsTrue result → slice_cmp nat_cmp one.now other.now ≡ Less }
