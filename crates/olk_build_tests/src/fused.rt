@@ -108,7 +108,7 @@ fn stands_alone<N: Place<NoText, EqualTo>>(alloc: Global, parent: &Map<String, V
 /// How many keywords the node has.
 fn count_of<N: Shown>(built: &Result<N, BuildError<'_>>) -> Result<usize, Fail> {
     match built {
-        Ok(node) => Ok(node.keywords().ok_or("no object")?.len()),
+        Ok(node) => Ok(node.keyword_count().ok_or("no keywords")?),
         Err(_) => Err(Fail::from("not built")),
     }
 }

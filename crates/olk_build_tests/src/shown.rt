@@ -2,12 +2,9 @@
 //! one once, since a type that is written out is dear to prove.
 use olk_low_tests::doubles::{EqualTo, NoText};
 use olk_node::SchemaNode;
-use olk_tree::{Body, KeywordOver, RequiredValidator};
+use olk_tree::{Body, RequiredValidator};
 
 pub(crate) type PlainNode = SchemaNode<NoText, EqualTo>;
-
-/// A keyword over the nodes that it holds.
-pub(crate) type PlainKeyword<N> = KeywordOver<NoText, EqualTo, N>;
 
 pub(crate) trait Shown {
     /// Where it stands.
@@ -16,8 +13,8 @@ pub(crate) trait Shown {
     /// Its names, if it is a list of these.
     fn names(&self) -> Option<&RequiredValidator>;
 
-    /// Its keywords, if it is an object.
-    fn keywords(&self) -> Option<&[PlainKeyword<Self>]>;
+    /// How many keywords it has, if it is an object that has some.
+    fn keyword_count(&self) -> Option<usize>;
 }
 
 impl Shown for PlainNode {
@@ -32,9 +29,9 @@ impl Shown for PlainNode {
         }
     }
 
-    fn keywords(&self) -> Option<&[PlainKeyword<Self>]> {
+    fn keyword_count(&self) -> Option<usize> {
         match &self.body {
-            Body::Keywords(keywords) => Some(keywords.as_slice()),
+            Body::Keywords(keywords) => Some(keywords.len()),
             _ => None,
         }
     }

@@ -1,7 +1,7 @@
 //! Whole schemas: which variants are built of them.
 use crate::lines::push_all;
 use crate::rows::expect_rows;
-use crate::shown::{PlainKeyword, PlainNode, Shown};
+use crate::shown::PlainNode;
 use olk_base::{CompiledPattern, Meter};
 use olk_build::{Context, compile};
 use olk_low_tests::doubles::{EqualTo, Equality, NoText, NoTexts};
@@ -9,7 +9,7 @@ use olk_reports::BuildError;
 use olk_tree::additional_properties::AdditionalProperties;
 use olk_tree::place::Place;
 use olk_tree::properties_map::PropertiesMap;
-use olk_tree::{KeywordOver, SmallMap};
+use olk_tree::{Body, KeywordOver, SmallMap};
 use serde_json::Value;
 use std::alloc::{AllocError, Global};
 use std::test::Fail;
@@ -188,7 +188,35 @@ fn first_node_of_members<K, R, N>(keyword: &KeywordOver<K, R, N>) -> Option<&N> 
 
 // ---- a node as text
 
-fn push_variants<N>(text: &mut String, keywords: &[PlainKeyword<N>]) -> Result<(), AllocError> {
+/// A node, by the variants of its keywords.
+trait Varied {
+    /// The variants of its keywords, if it is an object.
+    fn push_variants(&self, text: &mut String) -> Result<(), AllocError>;
+
+    /// The variants of its keywords, and behind each those of the first node that it holds.
+    fn push_keywords(&self, text: &mut String) -> Result<(), AllocError>;
+}
+
+impl Varied for PlainNode {
+    fn push_variants(&self, text: &mut String) -> Result<(), AllocError> {
+        match &self.body {
+            Body::Keywords(keywords) => push_variants(text, keywords.as_slice()),
+            _ => Ok(()),
+        }
+    }
+
+    fn push_keywords(&self, text: &mut String) -> Result<(), AllocError> {
+        match &self.body {
+            Body::Keywords(keywords) => push_keywords(text, keywords.as_slice()),
+            _ => text.push_str("no object"),
+        }
+    }
+}
+
+fn push_variants<K, R, N>(
+    text: &mut String,
+    keywords: &[KeywordOver<K, R, N>],
+) -> Result<(), AllocError> {
     text.push_str(" {")?;
     for keyword in keywords {
         push_variant(text, keyword)?;
@@ -196,25 +224,20 @@ fn push_variants<N>(text: &mut String, keywords: &[PlainKeyword<N>]) -> Result<(
     text.push_str(" }")
 }
 
-/// The variants alone, of a node that is an object.
-fn push_inside<N: Shown>(text: &mut String, node: &N) -> Result<(), AllocError> {
-    match node.keywords() {
-        Some(keywords) => push_variants(text, keywords),
-        None => Ok(()),
-    }
-}
-
-fn push_keyword<N: Shown>(text: &mut String, keyword: &PlainKeyword<N>) -> Result<(), AllocError> {
+fn push_keyword<K, R, N: Varied>(
+    text: &mut String,
+    keyword: &KeywordOver<K, R, N>,
+) -> Result<(), AllocError> {
     push_variant(text, keyword)?;
     match first_node(keyword) {
-        Some(node) => push_inside(text, node),
+        Some(node) => node.push_variants(text),
         None => Ok(()),
     }
 }
 
-fn push_keywords<N: Shown>(
+fn push_keywords<K, R, N: Varied>(
     text: &mut String,
-    keywords: &[PlainKeyword<N>],
+    keywords: &[KeywordOver<K, R, N>],
 ) -> Result<(), AllocError> {
     text.push_str("{")?;
     for keyword in keywords {
@@ -223,26 +246,19 @@ fn push_keywords<N: Shown>(
     text.push_str(" }")
 }
 
-fn push_node<N: Shown>(text: &mut String, node: &N) -> Result<(), AllocError> {
-    match node.keywords() {
-        Some(keywords) => push_keywords(text, keywords),
-        None => text.push_str("no object"),
-    }
-}
-
 // ---- what is built
 
-fn push_built<N: Shown>(
+fn push_built<N: Varied>(
     text: &mut String,
     built: &Result<N, BuildError<'_>>,
 ) -> Result<(), AllocError> {
     match built {
-        Ok(node) => push_node(text, node),
+        Ok(node) => node.push_keywords(text),
         Err(_) => text.push_str("not built"),
     }
 }
 
-fn push_schema<N: Place<NoText, EqualTo> + Shown>(
+fn push_schema<N: Place<NoText, EqualTo> + Varied>(
     text: &mut String,
     alloc: Global,
     schema: &Value,
