@@ -192,9 +192,6 @@ fn first_node_of_members<K, R, N>(keyword: &KeywordOver<K, R, N>) -> Option<&N> 
 trait Varied {
     /// The variants of its keywords, if it is an object.
     fn push_variants(&self, text: &mut String) -> Result<(), AllocError>;
-
-    /// The variants of its keywords, and behind each those of the first node that it holds.
-    fn push_keywords(&self, text: &mut String) -> Result<(), AllocError>;
 }
 
 impl Varied for PlainNode {
@@ -204,7 +201,15 @@ impl Varied for PlainNode {
             _ => Ok(()),
         }
     }
+}
 
+/// A node, by the variants of its keywords and of the nodes that these hold.
+trait VariedInside {
+    /// The variants of its keywords, and behind each those of the first node that it holds.
+    fn push_keywords(&self, text: &mut String) -> Result<(), AllocError>;
+}
+
+impl VariedInside for PlainNode {
     fn push_keywords(&self, text: &mut String) -> Result<(), AllocError> {
         match &self.body {
             Body::Keywords(keywords) => push_keywords(text, keywords.as_slice()),
@@ -248,7 +253,7 @@ fn push_keywords<K, R, N: Varied>(
 
 // ---- what is built
 
-fn push_built<N: Varied>(
+fn push_built<N: VariedInside>(
     text: &mut String,
     built: &Result<N, BuildError<'_>>,
 ) -> Result<(), AllocError> {
@@ -258,7 +263,7 @@ fn push_built<N: Varied>(
     }
 }
 
-fn push_schema<N: Place<NoText, EqualTo> + Varied>(
+fn push_schema<N: Place<NoText, EqualTo> + VariedInside>(
     text: &mut String,
     alloc: Global,
     schema: &Value,
