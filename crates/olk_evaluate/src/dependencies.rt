@@ -1,7 +1,8 @@
 //! `dependentRequired`, `dependentSchemas` and `dependencies`: what they show.
 ghost use Rattle.std.specs.Prelude.{◌≡◌, IfOk};
 ghost use Rattle.olk_base.specs.Nodes.{data_of};
-ghost use Rattle.olk_tree.specs.Answers.{named, due_nodes};
+ghost use Rattle.olk_tree.specs.Maps.{named};
+ghost use Rattle.olk_tree.specs.Dependencies.{due_nodes};
 ghost use Rattle.olk_tree.specs.Visited.{object_of};
 ghost use Rattle.olk_check.specs.Asks.{OnlyAsks};
 ghost use Rattle.olk_evaluate.specs.Wanted.{AreShown, each_wanted, trees_of};
@@ -27,11 +28,9 @@ impl<N> Located for Dependencies<N> {
 
 /// A child for each key that is a member of the object (JSON Schema 2020-12 Core, 10.2.2.4).
 impl<'a, N: Evaluate<'a>> Evaluate<'a> for Dependencies<N> {
-    ghost use Rattle.olk_spec.specs.Tree.{plain};
-    ghost use Rattle.olk_tree.specs.Shown.{branch_trees};
+    ghost use Rattle.olk_tree.specs.Dependencies.{dependencies_answers};
 
-    ghost tree = { λ k u v Q. plain k.location Q
-        (branch_trees (λ n. N.tree n u) v Q (due_nodes (named k.dependencies) v)) };
+    ghost tree = { λ k. (dependencies_answers k).tree N.means N.tree };
 
     #[tactic(auto, using(olk_check::proofs::Asked::only_same))]
     fn evaluate(

@@ -24,10 +24,9 @@ impl<N> Located for IfThen<N> {
 
 /// Where `if` accepts, a child for it and one for `then` (JSON Schema 2020-12 Core, 10.2.2).
 impl<'a, N: Evaluate<'a>> Evaluate<'a> for IfThen<N> {
-    ghost use Rattle.olk_tree.specs.Shown.{if_tree};
+    ghost use Rattle.olk_tree.specs.If.{if_then_answers};
 
-    ghost tree = { λ k u v Q. if_tree (λ n. N.tree n u) v Q ((N.means k.schema v).accepts u)
-        k.location k.schema (k.then_schema ∷ []) [] };
+    ghost tree = { λ k. (if_then_answers k).tree N.means N.tree };
 
     fn evaluate(
         &'a self,
@@ -53,10 +52,9 @@ impl<N> Located for IfElse<N> {
 
 /// A child for `if` where it accepts, and else one for `else` (JSON Schema 2020-12 Core, 10.2.2).
 impl<'a, N: Evaluate<'a>> Evaluate<'a> for IfElse<N> {
-    ghost use Rattle.olk_tree.specs.Shown.{if_tree};
+    ghost use Rattle.olk_tree.specs.If.{if_else_answers};
 
-    ghost tree = { λ k u v Q. if_tree (λ n. N.tree n u) v Q ((N.means k.schema v).accepts u)
-        k.location k.schema [] (k.else_schema ∷ []) };
+    ghost tree = { λ k. (if_else_answers k).tree N.means N.tree };
 
     fn evaluate(
         &'a self,
@@ -84,10 +82,9 @@ impl<N> Located for IfThenElse<N> {
 /// Where `if` accepts, a child for it and one for `then`, and else one for `else` (JSON Schema
 /// 2020-12 Core, 10.2.2).
 impl<'a, N: Evaluate<'a>> Evaluate<'a> for IfThenElse<N> {
-    ghost use Rattle.olk_tree.specs.Shown.{if_tree};
+    ghost use Rattle.olk_tree.specs.If.{if_then_else_answers};
 
-    ghost tree = { λ k u v Q. if_tree (λ n. N.tree n u) v Q ((N.means k.schema v).accepts u)
-        k.location k.schema (k.then_schema ∷ []) (k.else_schema ∷ []) };
+    ghost tree = { λ k. (if_then_else_answers k).tree N.means N.tree };
 
     fn evaluate(
         &'a self,

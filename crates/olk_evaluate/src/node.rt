@@ -3,7 +3,7 @@ ghost use Rattle.std.specs.Prelude.{◌≡◌, IfOk};
 ghost use Rattle.olk_base.specs.Nodes.{data_of};
 ghost use Rattle.olk_spec.specs.Tree.{IsLikeTree, is_valid};
 ghost use Rattle.olk_reports.specs.Evaluations.{node_at, shown_of};
-ghost use Rattle.olk_tree.specs.Answers.{body_means, body_tree};
+ghost use Rattle.olk_tree.specs.Bodies.{body_means, body_tree};
 ghost use Rattle.olk_check.specs.Asks.{OnlyAsks};
 ghost use Rattle.olk_evaluate.specs.Wanted.{HasTexts};
 
@@ -17,12 +17,13 @@ use olk_reports::{ErrorDescription, EvaluationResult, ValidationErrorKind};
 use olk_tree::node::{Body, KeywordOver};
 use std::alloc::{AllocError, Global};
 
-impl<K, R, N> Located for KeywordOver<K, R, N> {
-    ghost use Rattle.olk_evaluate.specs.Keywords.{keyword_place};
+impl<K: Leaf, R: RegexEngine, N> Located for KeywordOver<K, R, N> {
+    ghost use Rattle.olk_base.specs.Kit.{kit};
+    ghost use Rattle.olk_tree.specs.Validators.{answers_of};
 
-    ghost place = { keyword_place };
+    ghost place = { λ k. (answers_of (kit K.Leaf R.RegexEngine) k).location };
 
-    #[tactic(auto, unfolding(crate::specs::Keywords::keyword_place))]
+    #[tactic(auto, unfolding(olk_tree::specs::Validators::answers_of))]
     fn location(&self) -> &str {
         match self {
             KeywordOver::Properties(keyword) => keyword.location(),
@@ -52,11 +53,11 @@ impl<K, R, N> Located for KeywordOver<K, R, N> {
 
 impl<'a, K: Leaf, R: RegexEngine, N: Evaluate<'a>> Evaluate<'a> for KeywordOver<K, R, N> {
     ghost use Rattle.olk_base.specs.Kit.{kit};
-    ghost use Rattle.olk_tree.specs.Answers.{validator_tree};
+    ghost use Rattle.olk_tree.specs.Validators.{answers_of};
 
-    ghost tree = { λ k u. validator_tree (kit K.Leaf R.RegexEngine) N.means N.tree u k };
+    ghost tree = { λ k. (answers_of (kit K.Leaf R.RegexEngine) k).tree N.means N.tree };
 
-    #[tactic(auto, using(olk_check::proofs::Asked::only_same), unfolding(olk_tree::specs::Answers::validator_tree, crate::specs::Keywords::keyword_place, olk_tree::specs::Answers::validator_means))]
+    #[tactic(auto, using(olk_check::proofs::Asked::only_same), unfolding(olk_tree::specs::Validators::answers_of))]
     fn evaluate(
         &'a self,
         alloc: Global,

@@ -19,13 +19,9 @@ impl<N> Located for Not<N> {
 /// An error of its own where the subschema accepts; what the subschema shows is left out (JSON
 /// Schema 2020-12 Core, 10.2.1.4).
 impl<'a, N: Evaluate<'a>> Evaluate<'a> for Not<N> {
-    ghost use Rattle.serde_json.specs.View.{view};
-    ghost use Rattle.olk_spec.specs.Faults.{Not as Refuses};
-    ghost use Rattle.olk_spec.specs.Reports.{fault_if};
-    ghost use Rattle.olk_spec.specs.Tree.{erring};
+    ghost use Rattle.olk_tree.specs.Not.{not_answers};
 
-    ghost tree = { λ k u v Q. erring k.location Q
-        (fault_if ((N.means k.node v).accepts u) (Refuses (view k.original)) v k.location Q) };
+    ghost tree = { λ k. (not_answers k).tree N.means N.tree };
 
     fn evaluate(
         &'a self,

@@ -24,10 +24,9 @@ impl<N> Located for OneOf<N> {
 /// A child for each branch that accepts, and an error of its own where they are several; where
 /// there is none, a child for each branch (JSON Schema 2020-12 Core, 10.2.1.3).
 impl<'a, N: Evaluate<'a>> Evaluate<'a> for OneOf<N> {
-    ghost use Rattle.olk_tree.specs.Shown.{one_of_tree};
+    ghost use Rattle.olk_tree.specs.OneOf.{one_of_answers};
 
-    ghost tree = { λ k u v Q. one_of_tree (λ n. N.tree n u) v Q (λ n. (N.means n v).accepts u)
-        k.location k.schemas.items };
+    ghost tree = { λ k. (one_of_answers k).tree N.means N.tree };
 
     fn evaluate(
         &'a self,
@@ -72,11 +71,9 @@ impl<N> Located for SingleOneOf<N> {
 
 /// A child for the branch.
 impl<'a, N: Evaluate<'a>> Evaluate<'a> for SingleOneOf<N> {
-    ghost use Rattle.std.specs.Prelude.{[], ◌∷◌};
-    ghost use Rattle.olk_tree.specs.Shown.{one_of_tree};
+    ghost use Rattle.olk_tree.specs.OneOf.{single_one_of_answers};
 
-    ghost tree = { λ k u v Q. one_of_tree (λ n. N.tree n u) v Q (λ n. (N.means n v).accepts u)
-        k.location (k.node ∷ []) };
+    ghost tree = { λ k. (single_one_of_answers k).tree N.means N.tree };
 
     fn evaluate(
         &'a self,

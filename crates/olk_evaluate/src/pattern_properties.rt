@@ -27,10 +27,9 @@ impl<R, N> Located for PatternProperties<R, N> {
 /// A child for each match, pattern by pattern; where the value is an object, a name for each match
 /// is annotated (JSON Schema 2020-12 Core, 10.3.2.2).
 impl<'a, R: RegexEngine, N: Evaluate<'a>> Evaluate<'a> for PatternProperties<R, N> {
-    ghost use Rattle.olk_tree.specs.Shown.{patterns_tree};
+    ghost use Rattle.olk_tree.specs.PatternProperties.{pattern_properties_answers};
 
-    ghost tree = { λ k u v Q. patterns_tree (λ n. N.tree n u) v Q R.answers u
-        k.location k.patterns.items };
+    ghost tree = { λ k. (pattern_properties_answers R.answers R.costs k).tree N.means N.tree };
 
     #[tactic(auto, using(olk_check::proofs::Asked::only_same))]
     fn evaluate(
@@ -62,11 +61,9 @@ impl<R, N> Located for SingleValuePatternProperties<R, N> {
 /// A child for each match; where the value is an object, the names that match are annotated (JSON
 /// Schema 2020-12 Core, 10.3.2.2).
 impl<'a, R: RegexEngine, N: Evaluate<'a>> Evaluate<'a> for SingleValuePatternProperties<R, N> {
-    ghost use Rattle.std.specs.Prelude.{◌∷◌, []};
-    ghost use Rattle.olk_tree.specs.Shown.{patterns_tree};
+    ghost use Rattle.olk_tree.specs.PatternProperties.{single_pattern_properties_answers};
 
-    ghost tree = { λ k u v Q. patterns_tree (λ n. N.tree n u) v Q
-        R.answers u k.location ((k.regex, k.node) ∷ []) };
+    ghost tree = { λ k. (single_pattern_properties_answers R.answers R.costs k).tree N.means N.tree };
 
     #[tactic(auto, using(olk_check::proofs::Asked::only_same))]
     fn evaluate(

@@ -1,7 +1,8 @@
 //! `propertyDependencies`: what it shows.
 ghost use Rattle.std.specs.Prelude.{◌≡◌, IfOk};
 ghost use Rattle.olk_base.specs.Nodes.{data_of};
-ghost use Rattle.olk_tree.specs.Answers.{named, chosen_nodes};
+ghost use Rattle.olk_tree.specs.Maps.{named};
+ghost use Rattle.olk_tree.specs.PropertyDependencies.{chosen_nodes};
 ghost use Rattle.olk_tree.specs.Visited.{object_of};
 ghost use Rattle.olk_check.specs.Asks.{OnlyAsks};
 ghost use Rattle.olk_evaluate.specs.Wanted.{AreShown, each_wanted, trees_of};
@@ -28,11 +29,9 @@ impl<N> Located for PropertyDependencies<N> {
 /// A child for each key at whose text there is a subschema. The keyword is in no published version
 /// of JSON Schema.
 impl<'a, N: Evaluate<'a>> Evaluate<'a> for PropertyDependencies<N> {
-    ghost use Rattle.olk_spec.specs.Tree.{plain};
-    ghost use Rattle.olk_tree.specs.Shown.{branch_trees};
+    ghost use Rattle.olk_tree.specs.PropertyDependencies.{property_dependencies_answers};
 
-    ghost tree = { λ k u v Q. plain k.location Q
-        (branch_trees (λ n. N.tree n u) v Q (chosen_nodes (named k.dependencies) v)) };
+    ghost tree = { λ k. (property_dependencies_answers k).tree N.means N.tree };
 
     #[tactic(auto, using(olk_check::proofs::Asked::only_same))]
     fn evaluate(

@@ -25,10 +25,9 @@ impl<N> Located for PropertyNames<N> {
 
 /// A child for each member's name, at the path of the object (JSON Schema 2020-12 Core, 10.3.2.4).
 impl<'a, N: Evaluate<'a>> Evaluate<'a> for PropertyNames<N> {
-    ghost use Rattle.olk_spec.specs.Tree.{plain};
-    ghost use Rattle.olk_tree.specs.Shown.{name_trees};
+    ghost use Rattle.olk_tree.specs.PropertyNames.{property_names_answers};
 
-    ghost tree = { λ k u v Q. plain k.location Q (name_trees (λ n. N.tree n u) v Q k.node) };
+    ghost tree = { λ k. (property_names_answers k).tree N.means N.tree };
 
     #[tactic(auto, using(olk_check::proofs::Asked::only_same))]
     fn evaluate(
@@ -58,14 +57,9 @@ impl Located for PropertyNamesFalse {
 
 /// An error of its own where the object has members.
 impl<'a> Evaluate<'a> for PropertyNamesFalse {
-    ghost use Rattle.olk_spec.specs.Names.{is_empty};
-    ghost use Rattle.olk_spec.specs.Faults.{FalseSchema};
-    ghost use Rattle.olk_spec.specs.Schemas.{members};
-    ghost use Rattle.olk_spec.specs.Tree.{erring};
-    ghost use Rattle.olk_tree.specs.Answers.{unless};
+    ghost use Rattle.olk_tree.specs.PropertyNames.{property_names_false_answers};
 
-    ghost tree = { λ k u v Q. erring k.location Q
-        (unless (is_empty (members v)) FalseSchema v k.location Q) };
+    ghost tree = { λ k. (property_names_false_answers k).tree };
 
     #[tactic(auto, using(olk_check::proofs::Asked::only_same))]
     fn evaluate(

@@ -1,7 +1,7 @@
 //! `properties`: making its validator.
 ghost use Rattle.std.specs.Prelude.{◌≡◌, ◌∷◌, [], IfOk, length};
 ghost use Rattle.olk_base.specs.Kit.{kit};
-ghost use Rattle.olk_tree.specs.Answers.{names_in, nodes_in};
+ghost use Rattle.olk_tree.specs.Maps.{names_in, nodes_in};
 ghost use Rattle.olk_tree.specs.Ascending.{Ascend};
 ghost use Rattle.olk_make.specs.Forms.{IsMapFor, IsFormOfProperties, IsProperties};
 ghost use Rattle.olk_members.specs.Plans.{planned};

@@ -2,8 +2,7 @@
 ghost use Rattle.std.specs.Prelude.{◌≡◌, ℕ, IsTrue, true, false, is_some, option_map};
 ghost use Rattle.std.specs.Option.{option_map_or};
 ghost use Rattle.olk_spec.specs.World.{unmatched};
-ghost use Rattle.olk_tree.specs.Additional.{at_name, known_at};
-ghost use Rattle.olk_tree.specs.Answers.{sides_of};
+ghost use Rattle.olk_tree.specs.Additional.{at_name, has_neighbours, known_at, sides_of};
 ghost use Rattle.olk_tree.specs.Tables.{known_says, is_blank_at};
 
 use crate::means::{Means, Reports};
@@ -42,38 +41,37 @@ pub struct RequiredName {
 }
 
 impl<R: RegexEngine, N: Means> Means for AdditionalProperties<R, N> {
-    ghost use Rattle.olk_spec.specs.Names.{is_empty};
-    ghost use Rattle.olk_spec.specs.Accepts.{missing};
-    ghost use Rattle.olk_tree.specs.Questions.{always, both};
-    ghost use Rattle.olk_tree.specs.Additional.{additional_means};
-    ghost use Rattle.olk_tree.specs.Answers.{sides_of, required_text};
+    ghost use Rattle.olk_tree.specs.AdditionalProperties.{additional_properties_answers};
 
-    ghost means = { λ k v. both (additional_means R.answers R.costs N.means (sides_of k) v)
-        (always (is_empty (missing (required_text k.required) v))) };
+    ghost means = { λ k. (additional_properties_answers R.answers R.costs k).means N.means };
 }
 
 impl<R: RegexEngine, N: Reports> Reports for AdditionalProperties<R, N> {
-    ghost use Rattle.std.specs.Prelude.{◌++◌};
-    ghost use Rattle.olk_tree.specs.Additional.{additional_report, additional_first};
-    ghost use Rattle.olk_tree.specs.Answers.{sides_of, has_neighbours, lacks, or_else};
-    ghost use Rattle.olk_tree.specs.AdditionalAgreement.{additional_agrees, additional_first_agrees};
+    ghost use Rattle.olk_tree.specs.AdditionalProperties.{additional_properties_answers};
 
-    ghost report = { λ k u v Q.
-        additional_report R.answers (sides_of k) u v Q (has_neighbours k) k.location N.report
-        ++ lacks k.required v Q };
+    ghost report = { λ k. (additional_properties_answers R.answers R.costs k).report
+        N.means N.report };
 
-    ghost first = { λ k u v Q. or_else
-        (additional_first R.answers (sides_of k) u v Q (has_neighbours k) k.location N.first)
-        (lacks k.required v Q) };
+    ghost first = { λ k. (additional_properties_answers R.answers R.costs k).first
+        N.means N.report N.first };
 
-    ghost agrees = { λ k u v Q. additional_agrees R.answers R.costs N.means u N.report
-        (λ n w S. N.agrees n u w S) k v Q };
+    ghost agrees = { λ k u. (additional_properties_answers R.answers R.costs k).agrees
+        N.means N.report u
+        (λ n. N.agrees n u) };
 
-    ghost first_agrees = { λ k u v Q. additional_first_agrees R.answers R.costs N.means u N.first
-        (λ n w S. N.first_agrees n u w S) k v Q };
+    ghost first_agrees = { λ k u. (additional_properties_answers R.answers R.costs k).first_agrees
+        N.means N.report N.first u
+        (λ n. N.first_agrees n u) };
 }
 
 impl<R, N> AdditionalProperties<R, N> {
+    /// Whether `properties` or `patternProperties` is present beside it.
+    pub fn has_neighbours(&self) -> bool
+        ensures { result ≡ has_neighbours self.now }
+    {
+        self.properties.is_some() || self.patterns.is_some()
+    }
+
     /// What is declared at the name, with its place, looked for at `hint` first, and where to look
     /// first for a later name.
     ///

@@ -10,25 +10,23 @@ pub struct AllOf<N> {
 }
 
 impl<N: Means> Means for AllOf<N> {
-    ghost use Rattle.olk_tree.specs.Questions.{every};
+    ghost use Rattle.olk_tree.specs.AllOf.{all_of_answers};
 
-    ghost means = { λ k v. every (λ n. N.means n v) k.schemas.items };
+    ghost means = { λ k. (all_of_answers k).means N.means };
 }
 
 impl<N: Reports> Reports for AllOf<N> {
-    ghost use Rattle.std.specs.List.{flat_map};
-    ghost use Rattle.olk_tree.specs.Answers.{first_of};
-    ghost use Rattle.olk_tree.specs.Agreement.{each_agrees, first_of_agrees};
+    ghost use Rattle.olk_tree.specs.AllOf.{all_of_answers};
 
-    ghost report = { λ k u v Q. flat_map (λ n. N.report n u v Q) k.schemas.items };
+    ghost report = { λ k. (all_of_answers k).report N.means N.report };
 
-    ghost first = { λ k u v Q. first_of (λ n. N.first n u v Q) k.schemas.items };
+    ghost first = { λ k. (all_of_answers k).first N.means N.report N.first };
 
-    ghost agrees = { λ k u v Q. each_agrees (λ n. N.report n u v Q) (λ n. N.means n v) u
-        (λ n. N.agrees n u v Q) k.schemas.items };
+    ghost agrees = { λ k u. (all_of_answers k).agrees N.means N.report u
+        (λ n. N.agrees n u) };
 
-    ghost first_agrees = { λ k u v Q. first_of_agrees (λ n. N.first n u v Q) (λ n. N.means n v) u
-        (λ n. N.first_agrees n u v Q) k.schemas.items };
+    ghost first_agrees = { λ k u. (all_of_answers k).first_agrees N.means N.report N.first u
+        (λ n. N.first_agrees n u) };
 }
 
 /// `allOf` of one branch.
@@ -39,15 +37,21 @@ pub struct SingleValueAllOf<N> {
 }
 
 impl<N: Means> Means for SingleValueAllOf<N> {
-    ghost means = { λ k v. N.means k.node v };
+    ghost use Rattle.olk_tree.specs.AllOf.{single_all_of_answers};
+
+    ghost means = { λ k. (single_all_of_answers k).means N.means };
 }
 
 impl<N: Reports> Reports for SingleValueAllOf<N> {
-    ghost report = { λ k u v Q. N.report k.node u v Q };
+    ghost use Rattle.olk_tree.specs.AllOf.{single_all_of_answers};
 
-    ghost first = { λ k u v Q. N.first k.node u v Q };
+    ghost report = { λ k. (single_all_of_answers k).report N.means N.report };
 
-    ghost agrees = { λ k u v Q. N.agrees k.node u v Q };
+    ghost first = { λ k. (single_all_of_answers k).first N.means N.report N.first };
 
-    ghost first_agrees = { λ k u v Q. N.first_agrees k.node u v Q };
+    ghost agrees = { λ k u. (single_all_of_answers k).agrees N.means N.report u
+        (λ n. N.agrees n u) };
+
+    ghost first_agrees = { λ k u. (single_all_of_answers k).first_agrees N.means N.report N.first u
+        (λ n. N.first_agrees n u) };
 }

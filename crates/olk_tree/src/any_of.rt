@@ -10,29 +10,23 @@ pub struct AnyOf<N> {
 }
 
 impl<N: Means> Means for AnyOf<N> {
-    ghost use Rattle.olk_tree.specs.Questions.{some};
+    ghost use Rattle.olk_tree.specs.AnyOf.{any_of_answers};
 
-    ghost means = { λ k v. some (λ n. N.means n v) k.schemas.items };
+    ghost means = { λ k. (any_of_answers k).means N.means };
 }
 
 impl<N: Reports> Reports for AnyOf<N> {
-    ghost use Rattle.std.specs.Prelude.{map};
-    ghost use Rattle.olk_spec.specs.Faults.{AnyOf as any_of, context};
-    ghost use Rattle.olk_tree.specs.Questions.{some};
-    ghost use Rattle.olk_tree.specs.Answers.{unless};
-    ghost use Rattle.olk_tree.specs.Agreement.{unless_agrees};
+    ghost use Rattle.olk_tree.specs.AnyOf.{any_of_answers};
 
-    ghost report = { λ k u v Q. unless ((some (λ n. N.means n v) k.schemas.items).accepts u)
-        (any_of (context (map (λ n. N.report n u v Q) k.schemas.items))) v k.location Q };
+    ghost report = { λ k. (any_of_answers k).report N.means N.report };
 
-    ghost first = { λ k u v Q. unless ((some (λ n. N.means n v) k.schemas.items).accepts u)
-        (any_of (context (map (λ n. N.report n u v Q) k.schemas.items))) v k.location Q };
+    ghost first = { λ k. (any_of_answers k).first N.means N.report N.first };
 
-    ghost agrees = { λ k u v Q. unless_agrees ((some (λ n. N.means n v) k.schemas.items).accepts u)
-        (any_of (context (map (λ n. N.report n u v Q) k.schemas.items))) v k.location Q };
+    ghost agrees = { λ k u. (any_of_answers k).agrees N.means N.report u
+        (λ n. N.agrees n u) };
 
-    ghost first_agrees = { λ k u v Q. unless_agrees ((some (λ n. N.means n v) k.schemas.items).accepts u)
-        (any_of (context (map (λ n. N.report n u v Q) k.schemas.items))) v k.location Q };
+    ghost first_agrees = { λ k u. (any_of_answers k).first_agrees N.means N.report N.first u
+        (λ n. N.first_agrees n u) };
 }
 
 /// `anyOf` of one branch.
@@ -43,24 +37,21 @@ pub struct SingleAnyOf<N> {
 }
 
 impl<N: Means> Means for SingleAnyOf<N> {
-    ghost means = { λ k v. N.means k.node v };
+    ghost use Rattle.olk_tree.specs.AnyOf.{single_any_of_answers};
+
+    ghost means = { λ k. (single_any_of_answers k).means N.means };
 }
 
 impl<N: Reports> Reports for SingleAnyOf<N> {
-    ghost use Rattle.std.specs.Prelude.{◌∷◌, []};
-    ghost use Rattle.olk_spec.specs.Faults.{AnyOf as any_of, context};
-    ghost use Rattle.olk_tree.specs.Answers.{unless};
-    ghost use Rattle.olk_tree.specs.Agreement.{unless_agrees};
+    ghost use Rattle.olk_tree.specs.AnyOf.{single_any_of_answers};
 
-    ghost report = { λ k u v Q. unless ((N.means k.node v).accepts u)
-        (any_of (context (N.report k.node u v Q ∷ []))) v k.location Q };
+    ghost report = { λ k. (single_any_of_answers k).report N.means N.report };
 
-    ghost first = { λ k u v Q. unless ((N.means k.node v).accepts u)
-        (any_of (context (N.report k.node u v Q ∷ []))) v k.location Q };
+    ghost first = { λ k. (single_any_of_answers k).first N.means N.report N.first };
 
-    ghost agrees = { λ k u v Q. unless_agrees ((N.means k.node v).accepts u)
-        (any_of (context (N.report k.node u v Q ∷ []))) v k.location Q };
+    ghost agrees = { λ k u. (single_any_of_answers k).agrees N.means N.report u
+        (λ n. N.agrees n u) };
 
-    ghost first_agrees = { λ k u v Q. unless_agrees ((N.means k.node v).accepts u)
-        (any_of (context (N.report k.node u v Q ∷ []))) v k.location Q };
+    ghost first_agrees = { λ k u. (single_any_of_answers k).first_agrees N.means N.report N.first u
+        (λ n. N.first_agrees n u) };
 }

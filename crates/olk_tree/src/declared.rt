@@ -2,7 +2,8 @@
 ghost use Rattle.std.specs.Prelude.{◌≡◌};
 ghost use Rattle.serde_json.specs.View.{members_view};
 ghost use Rattle.olk_spec.specs.Schemas.{listed};
-ghost use Rattle.olk_tree.specs.Answers.{beside, names_of};
+ghost use Rattle.std.specs.List.{zip};
+ghost use Rattle.olk_tree.specs.Maps.{names_of};
 ghost use Rattle.olk_tree.specs.Visited.{members_declared, names_met, Yields, left_of, pairs_of};
 
 use crate::validators_map::{DeclaredNames, node_from};
@@ -58,9 +59,9 @@ impl<'a, N> DeclaredMembers<'a, N> {
         members: &'a Map<String, Value>,
     ) -> DeclaredMembers<'a, N>
         ensures by_members { left_of result ≡ members_declared
-            (beside (names_of names.entry) nodes.now) (listed (members_view members.now.entries)) }
+            (zip (names_of names.entry) nodes.now) (listed (members_view members.now.entries)) }
         ensures by_names { left_of result ≡ names_met
-            (beside (names_of names.entry) nodes.now) (listed (members_view members.now.entries)) }
+            (zip (names_of names.entry) nodes.now) (listed (members_view members.now.entries)) }
     {
         let sorted = names.sorted();
         DeclaredMembers {
@@ -83,7 +84,7 @@ fn next_member<'a, N>(
     left: &mut Iter<'a, String, Value>,
     hint: &mut usize,
 ) -> Option<(&'a str, &'a N, &'a Value)>
-    ensures { let declared = beside (names_of names.entry) nodes.now in Yields result
+    ensures { let declared = zip (names_of names.entry) nodes.now in Yields result
         (members_declared declared (listed (members_view left.old)))
         (members_declared declared (listed (members_view left.new))) }
 {

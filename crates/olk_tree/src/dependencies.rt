@@ -21,26 +21,21 @@ pub type DependentRequired<N> = Dependencies<N>;
 pub type DependentSchemas<N> = Dependencies<N>;
 
 impl<N: Means> Means for Dependencies<N> {
-    ghost use Rattle.olk_tree.specs.Questions.{every};
-    ghost use Rattle.olk_tree.specs.Answers.{named, due_nodes};
+    ghost use Rattle.olk_tree.specs.Dependencies.{dependencies_answers};
 
-    ghost means = { λ k v. every (λ n. N.means n v) (due_nodes (named k.dependencies) v) };
+    ghost means = { λ k. (dependencies_answers k).means N.means };
 }
 
 impl<N: Reports> Reports for Dependencies<N> {
-    ghost use Rattle.std.specs.List.{flat_map};
-    ghost use Rattle.olk_tree.specs.Answers.{named, due_nodes, first_of};
-    ghost use Rattle.olk_tree.specs.Agreement.{each_agrees, first_of_agrees};
+    ghost use Rattle.olk_tree.specs.Dependencies.{dependencies_answers};
 
-    ghost report = { λ k u v Q. flat_map (λ n. N.report n u v Q)
-        (due_nodes (named k.dependencies) v) };
+    ghost report = { λ k. (dependencies_answers k).report N.means N.report };
 
-    ghost first = { λ k u v Q. first_of (λ n. N.first n u v Q)
-        (due_nodes (named k.dependencies) v) };
+    ghost first = { λ k. (dependencies_answers k).first N.means N.report N.first };
 
-    ghost agrees = { λ k u v Q. each_agrees (λ n. N.report n u v Q) (λ n. N.means n v) u
-        (λ n. N.agrees n u v Q) (due_nodes (named k.dependencies) v) };
+    ghost agrees = { λ k u. (dependencies_answers k).agrees N.means N.report u
+        (λ n. N.agrees n u) };
 
-    ghost first_agrees = { λ k u v Q. first_of_agrees (λ n. N.first n u v Q) (λ n. N.means n v) u
-        (λ n. N.first_agrees n u v Q) (due_nodes (named k.dependencies) v) };
+    ghost first_agrees = { λ k u. (dependencies_answers k).first_agrees N.means N.report N.first u
+        (λ n. N.first_agrees n u) };
 }

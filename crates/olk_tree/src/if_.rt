@@ -12,29 +12,23 @@ pub struct IfThen<N> {
 }
 
 impl<N: Means> Means for IfThen<N> {
-    ghost use Rattle.std.specs.Prelude.{true};
-    ghost use Rattle.olk_tree.specs.Questions.{always, conditional};
+    ghost use Rattle.olk_tree.specs.If.{if_then_answers};
 
-    ghost means = { λ k v. conditional (N.means k.schema v)
-        (N.means k.then_schema v) (always true) };
+    ghost means = { λ k. (if_then_answers k).means N.means };
 }
 
 impl<N: Reports> Reports for IfThen<N> {
-    ghost use Rattle.std.specs.Prelude.{[], cond};
-    ghost use Rattle.std.proofs.Common.{refl};
-    ghost use Rattle.olk_tree.specs.Agreement.{cases_agree};
+    ghost use Rattle.olk_tree.specs.If.{if_then_answers};
 
-    ghost report = { λ k u v Q. cond ((N.means k.schema v).accepts u)
-        (N.report k.then_schema u v Q) [] };
+    ghost report = { λ k. (if_then_answers k).report N.means N.report };
 
-    ghost first = { λ k u v Q. cond ((N.means k.schema v).accepts u)
-        (N.first k.then_schema u v Q) [] };
+    ghost first = { λ k. (if_then_answers k).first N.means N.report N.first };
 
-    ghost agrees = { λ k u v Q. cases_agree ((N.means k.schema v).accepts u)
-        (N.report k.then_schema u v Q) [] (N.agrees k.then_schema u v Q) refl };
+    ghost agrees = { λ k u. (if_then_answers k).agrees N.means N.report u
+        (λ n. N.agrees n u) };
 
-    ghost first_agrees = { λ k u v Q. cases_agree ((N.means k.schema v).accepts u)
-        (N.first k.then_schema u v Q) [] (N.first_agrees k.then_schema u v Q) refl };
+    ghost first_agrees = { λ k u. (if_then_answers k).first_agrees N.means N.report N.first u
+        (λ n. N.first_agrees n u) };
 }
 
 /// `if` with `else`: where `schema` refuses, `else_schema` is to accept (JSON Schema 2020-12 Core,
@@ -47,29 +41,23 @@ pub struct IfElse<N> {
 }
 
 impl<N: Means> Means for IfElse<N> {
-    ghost use Rattle.std.specs.Prelude.{true};
-    ghost use Rattle.olk_tree.specs.Questions.{always, conditional};
+    ghost use Rattle.olk_tree.specs.If.{if_else_answers};
 
-    ghost means = { λ k v. conditional (N.means k.schema v)
-        (always true) (N.means k.else_schema v) };
+    ghost means = { λ k. (if_else_answers k).means N.means };
 }
 
 impl<N: Reports> Reports for IfElse<N> {
-    ghost use Rattle.std.specs.Prelude.{[], cond};
-    ghost use Rattle.std.proofs.Common.{refl};
-    ghost use Rattle.olk_tree.specs.Agreement.{cases_agree};
+    ghost use Rattle.olk_tree.specs.If.{if_else_answers};
 
-    ghost report = { λ k u v Q. cond ((N.means k.schema v).accepts u)
-        [] (N.report k.else_schema u v Q) };
+    ghost report = { λ k. (if_else_answers k).report N.means N.report };
 
-    ghost first = { λ k u v Q. cond ((N.means k.schema v).accepts u)
-        [] (N.first k.else_schema u v Q) };
+    ghost first = { λ k. (if_else_answers k).first N.means N.report N.first };
 
-    ghost agrees = { λ k u v Q. cases_agree ((N.means k.schema v).accepts u)
-        [] (N.report k.else_schema u v Q) refl (N.agrees k.else_schema u v Q) };
+    ghost agrees = { λ k u. (if_else_answers k).agrees N.means N.report u
+        (λ n. N.agrees n u) };
 
-    ghost first_agrees = { λ k u v Q. cases_agree ((N.means k.schema v).accepts u)
-        [] (N.first k.else_schema u v Q) refl (N.first_agrees k.else_schema u v Q) };
+    ghost first_agrees = { λ k u. (if_else_answers k).first_agrees N.means N.report N.first u
+        (λ n. N.first_agrees n u) };
 }
 
 /// `if` with `then` and `else`: where `schema` accepts, `then_schema` is to accept, and else
@@ -83,27 +71,21 @@ pub struct IfThenElse<N> {
 }
 
 impl<N: Means> Means for IfThenElse<N> {
-    ghost use Rattle.olk_tree.specs.Questions.{conditional};
+    ghost use Rattle.olk_tree.specs.If.{if_then_else_answers};
 
-    ghost means = { λ k v. conditional (N.means k.schema v)
-        (N.means k.then_schema v) (N.means k.else_schema v) };
+    ghost means = { λ k. (if_then_else_answers k).means N.means };
 }
 
 impl<N: Reports> Reports for IfThenElse<N> {
-    ghost use Rattle.std.specs.Prelude.{cond};
-    ghost use Rattle.olk_tree.specs.Agreement.{cases_agree};
+    ghost use Rattle.olk_tree.specs.If.{if_then_else_answers};
 
-    ghost report = { λ k u v Q. cond ((N.means k.schema v).accepts u)
-        (N.report k.then_schema u v Q) (N.report k.else_schema u v Q) };
+    ghost report = { λ k. (if_then_else_answers k).report N.means N.report };
 
-    ghost first = { λ k u v Q. cond ((N.means k.schema v).accepts u)
-        (N.first k.then_schema u v Q) (N.first k.else_schema u v Q) };
+    ghost first = { λ k. (if_then_else_answers k).first N.means N.report N.first };
 
-    ghost agrees = { λ k u v Q. cases_agree ((N.means k.schema v).accepts u)
-        (N.report k.then_schema u v Q) (N.report k.else_schema u v Q)
-        (N.agrees k.then_schema u v Q) (N.agrees k.else_schema u v Q) };
+    ghost agrees = { λ k u. (if_then_else_answers k).agrees N.means N.report u
+        (λ n. N.agrees n u) };
 
-    ghost first_agrees = { λ k u v Q. cases_agree ((N.means k.schema v).accepts u)
-        (N.first k.then_schema u v Q) (N.first k.else_schema u v Q)
-        (N.first_agrees k.then_schema u v Q) (N.first_agrees k.else_schema u v Q) };
+    ghost first_agrees = { λ k u. (if_then_else_answers k).first_agrees N.means N.report N.first u
+        (λ n. N.first_agrees n u) };
 }

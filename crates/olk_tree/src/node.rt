@@ -64,26 +64,24 @@ pub enum KeywordOver<K, R, N> {
 
 impl<K: Leaf, R: RegexEngine, N: Means> Means for KeywordOver<K, R, N> {
     ghost use Rattle.olk_base.specs.Kit.{kit};
-    ghost use Rattle.olk_tree.specs.Answers.{validator_means};
+    ghost use Rattle.olk_tree.specs.Validators.{answers_of};
 
-    ghost means = { validator_means (kit K.Leaf R.RegexEngine) N.means };
+    ghost means = { λ k. (answers_of (kit K.Leaf R.RegexEngine) k).means N.means };
 }
 
 impl<K: Leaf, R: RegexEngine, N: Reports> Reports for KeywordOver<K, R, N> {
     ghost use Rattle.olk_base.specs.Kit.{kit};
-    ghost use Rattle.olk_tree.specs.Answers.{validator_report, validator_first};
-    ghost use Rattle.olk_tree.specs.Agreement.{validator_agrees, validator_first_agrees};
+    ghost use Rattle.olk_tree.specs.Validators.{answers_of};
 
-    ghost report = { λ k u. validator_report (kit K.Leaf R.RegexEngine) N.means N.report u k };
+    ghost report = { λ k. (answers_of (kit K.Leaf R.RegexEngine) k).report N.means N.report };
 
-    ghost first = { λ k u.
-        validator_first (kit K.Leaf R.RegexEngine) N.means N.report u N.first k };
+    ghost first = { λ k. (answers_of (kit K.Leaf R.RegexEngine) k).first N.means N.report N.first };
 
-    ghost agrees = { λ k u v Q. validator_agrees (kit K.Leaf R.RegexEngine) N.means N.report u
-        (λ n w S. N.agrees n u w S) k v Q };
+    ghost agrees = { λ k u. (answers_of (kit K.Leaf R.RegexEngine) k).agrees
+        N.means N.report u (λ n. N.agrees n u) };
 
-    ghost first_agrees = { λ k u v Q. validator_first_agrees (kit K.Leaf R.RegexEngine)
-        N.means N.report N.first u (λ n w S. N.first_agrees n u w S) k v Q };
+    ghost first_agrees = { λ k u. (answers_of (kit K.Leaf R.RegexEngine) k).first_agrees
+        N.means N.report N.first u (λ n. N.first_agrees n u) };
 }
 
 /// What stands at a place: true, false, keywords, or a list of names that an object is to have.
@@ -100,7 +98,7 @@ pub enum Body<W> {
 }
 
 impl<W: Means> Means for Body<W> {
-    ghost use Rattle.olk_tree.specs.Answers.{body_means};
+    ghost use Rattle.olk_tree.specs.Bodies.{body_means};
 
     ghost means = { body_means W.means };
 }

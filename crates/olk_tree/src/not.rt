@@ -12,26 +12,19 @@ pub struct Not<N> {
 }
 
 impl<N: Means> Means for Not<N> {
-    ghost use Rattle.olk_tree.specs.Questions.{opposite};
+    ghost use Rattle.olk_tree.specs.Not.{not_answers};
 
-    ghost means = { λ k v. opposite (N.means k.node v) };
+    ghost means = { λ k. (not_answers k).means N.means };
 }
 
 impl<N: Means> Reports for Not<N> {
-    ghost use Rattle.serde_json.specs.View.{view};
-    ghost use Rattle.olk_spec.specs.Faults.{Not as not_allowed};
-    ghost use Rattle.olk_spec.specs.Reports.{fault_if};
-    ghost use Rattle.olk_tree.specs.Agreement.{fault_if_agrees};
+    ghost use Rattle.olk_tree.specs.Not.{not_report, not_agrees};
 
-    ghost report = { λ k u v Q. fault_if ((N.means k.node v).accepts u)
-        (not_allowed (view k.original)) v k.location Q };
+    ghost report = { λ k. not_report k N.means };
 
-    ghost first = { λ k u v Q. fault_if ((N.means k.node v).accepts u)
-        (not_allowed (view k.original)) v k.location Q };
+    ghost first = { λ k. not_report k N.means };
 
-    ghost agrees = { λ k u v Q. fault_if_agrees ((N.means k.node v).accepts u)
-        (not_allowed (view k.original)) v k.location Q };
+    ghost agrees = { λ k. not_agrees k N.means };
 
-    ghost first_agrees = { λ k u v Q. fault_if_agrees ((N.means k.node v).accepts u)
-        (not_allowed (view k.original)) v k.location Q };
+    ghost first_agrees = { λ k. not_agrees k N.means };
 }

@@ -11,29 +11,23 @@ pub struct OneOf<N> {
 }
 
 impl<N: Means> Means for OneOf<N> {
-    ghost use Rattle.olk_tree.specs.Questions.{exactly_one};
+    ghost use Rattle.olk_tree.specs.OneOf.{one_of_answers};
 
-    ghost means = { λ k v. exactly_one (λ n. N.means n v) k.schemas.items };
+    ghost means = { λ k. (one_of_answers k).means N.means };
 }
 
 impl<N: Reports> Reports for OneOf<N> {
-    ghost use Rattle.std.specs.Prelude.{map};
-    ghost use Rattle.olk_spec.specs.Faults.{context};
-    ghost use Rattle.olk_tree.specs.Questions.{how_many};
-    ghost use Rattle.olk_tree.specs.Answers.{one_of_report};
-    ghost use Rattle.olk_tree.specs.Agreement.{one_of_agrees};
+    ghost use Rattle.olk_tree.specs.OneOf.{one_of_answers};
 
-    ghost report = { λ k u v Q. one_of_report (how_many (λ n. N.means n v) u k.schemas.items)
-        (context (map (λ n. N.report n u v Q) k.schemas.items)) v k.location Q };
+    ghost report = { λ k. (one_of_answers k).report N.means N.report };
 
-    ghost first = { λ k u v Q. one_of_report (how_many (λ n. N.means n v) u k.schemas.items)
-        (context (map (λ n. N.report n u v Q) k.schemas.items)) v k.location Q };
+    ghost first = { λ k. (one_of_answers k).first N.means N.report N.first };
 
-    ghost agrees = { λ k u v Q. one_of_agrees (how_many (λ n. N.means n v) u k.schemas.items)
-        (context (map (λ n. N.report n u v Q) k.schemas.items)) v k.location Q };
+    ghost agrees = { λ k u. (one_of_answers k).agrees N.means N.report u
+        (λ n. N.agrees n u) };
 
-    ghost first_agrees = { λ k u v Q. one_of_agrees (how_many (λ n. N.means n v) u k.schemas.items)
-        (context (map (λ n. N.report n u v Q) k.schemas.items)) v k.location Q };
+    ghost first_agrees = { λ k u. (one_of_answers k).first_agrees N.means N.report N.first u
+        (λ n. N.first_agrees n u) };
 }
 
 /// `oneOf` of one branch.
@@ -44,24 +38,21 @@ pub struct SingleOneOf<N> {
 }
 
 impl<N: Means> Means for SingleOneOf<N> {
-    ghost means = { λ k v. N.means k.node v };
+    ghost use Rattle.olk_tree.specs.OneOf.{single_one_of_answers};
+
+    ghost means = { λ k. (single_one_of_answers k).means N.means };
 }
 
 impl<N: Reports> Reports for SingleOneOf<N> {
-    ghost use Rattle.std.specs.Prelude.{◌∷◌, []};
-    ghost use Rattle.olk_spec.specs.Faults.{OneOfNotValid, context};
-    ghost use Rattle.olk_tree.specs.Answers.{unless};
-    ghost use Rattle.olk_tree.specs.Agreement.{unless_agrees};
+    ghost use Rattle.olk_tree.specs.OneOf.{single_one_of_answers};
 
-    ghost report = { λ k u v Q. unless ((N.means k.node v).accepts u)
-        (OneOfNotValid (context (N.report k.node u v Q ∷ []))) v k.location Q };
+    ghost report = { λ k. (single_one_of_answers k).report N.means N.report };
 
-    ghost first = { λ k u v Q. unless ((N.means k.node v).accepts u)
-        (OneOfNotValid (context (N.report k.node u v Q ∷ []))) v k.location Q };
+    ghost first = { λ k. (single_one_of_answers k).first N.means N.report N.first };
 
-    ghost agrees = { λ k u v Q. unless_agrees ((N.means k.node v).accepts u)
-        (OneOfNotValid (context (N.report k.node u v Q ∷ []))) v k.location Q };
+    ghost agrees = { λ k u. (single_one_of_answers k).agrees N.means N.report u
+        (λ n. N.agrees n u) };
 
-    ghost first_agrees = { λ k u v Q. unless_agrees ((N.means k.node v).accepts u)
-        (OneOfNotValid (context (N.report k.node u v Q ∷ []))) v k.location Q };
+    ghost first_agrees = { λ k u. (single_one_of_answers k).first_agrees N.means N.report N.first u
+        (λ n. N.first_agrees n u) };
 }

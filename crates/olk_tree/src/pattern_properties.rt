@@ -12,24 +12,27 @@ pub struct PatternProperties<R, N> {
 }
 
 impl<R: RegexEngine, N: Means> Means for PatternProperties<R, N> {
-    ghost use Rattle.olk_tree.specs.Answers.{patterns_mean};
+    ghost use Rattle.olk_tree.specs.PatternProperties.{pattern_properties_answers};
 
-    ghost means = { λ k v. patterns_mean R.answers R.costs N.means k.patterns.items v };
+    ghost means = { λ k. (pattern_properties_answers R.answers R.costs k).means N.means };
 }
 
 impl<R: RegexEngine, N: Reports> Reports for PatternProperties<R, N> {
-    ghost use Rattle.olk_tree.specs.Answers.{patterns_report, patterns_first};
-    ghost use Rattle.olk_tree.specs.Agreement.{patterns_agree, patterns_first_agree};
+    ghost use Rattle.olk_tree.specs.PatternProperties.{pattern_properties_answers};
 
-    ghost report = { λ k u v Q. patterns_report R.answers N.report u k.patterns.items v Q };
+    ghost report = { λ k. (pattern_properties_answers R.answers R.costs k).report
+        N.means N.report };
 
-    ghost first = { λ k u v Q. patterns_first R.answers N.first u k.patterns.items v Q };
+    ghost first = { λ k. (pattern_properties_answers R.answers R.costs k).first
+        N.means N.report N.first };
 
-    ghost agrees = { λ k u v Q. patterns_agree R.answers R.costs N.means N.report u
-        (λ n w S. N.agrees n u w S) k.patterns.items v Q };
+    ghost agrees = { λ k u. (pattern_properties_answers R.answers R.costs k).agrees
+        N.means N.report u
+        (λ n. N.agrees n u) };
 
-    ghost first_agrees = { λ k u v Q. patterns_first_agree R.answers R.costs N.means N.first u
-        (λ n w S. N.first_agrees n u w S) k.patterns.items v Q };
+    ghost first_agrees = { λ k u. (pattern_properties_answers R.answers R.costs k).first_agrees
+        N.means N.report N.first u
+        (λ n. N.first_agrees n u) };
 }
 
 /// `patternProperties` of one pattern.
@@ -41,22 +44,23 @@ pub struct SingleValuePatternProperties<R, N> {
 }
 
 impl<R: RegexEngine, N: Means> Means for SingleValuePatternProperties<R, N> {
-    ghost use Rattle.olk_tree.specs.Answers.{matched_mean};
+    ghost use Rattle.olk_tree.specs.PatternProperties.{single_pattern_properties_answers};
 
-    ghost means = { λ k v. matched_mean R.answers R.costs N.means k.regex k.node v };
+    ghost means = { λ k. (single_pattern_properties_answers R.answers R.costs k).means N.means };
 }
 
 impl<R: RegexEngine, N: Reports> Reports for SingleValuePatternProperties<R, N> {
-    ghost use Rattle.olk_tree.specs.Answers.{matched_report, matched_first};
-    ghost use Rattle.olk_tree.specs.Agreement.{matched_agree, matched_first_agree};
+    ghost use Rattle.olk_tree.specs.PatternProperties.{single_pattern_properties_answers};
 
-    ghost report = { λ k u v Q. matched_report R.answers N.report u k.regex k.node v Q };
+    ghost report = { λ k. (single_pattern_properties_answers R.answers R.costs k).report
+        N.means N.report };
 
-    ghost first = { λ k u v Q. matched_first R.answers N.first u k.regex k.node v Q };
+    ghost first = { λ k. (single_pattern_properties_answers R.answers R.costs k).first
+        N.means N.report N.first };
 
-    ghost agrees = { λ k u v Q. matched_agree R.answers R.costs N.means N.report u
-        (λ n w S. N.agrees n u w S) k.regex k.node v Q };
+    ghost agrees = { λ k u. (single_pattern_properties_answers R.answers R.costs k).agrees
+        N.means N.report u (λ n. N.agrees n u) };
 
-    ghost first_agrees = { λ k u v Q. matched_first_agree R.answers R.costs N.means N.first u
-        (λ n w S. N.first_agrees n u w S) k.regex k.node v Q };
+    ghost first_agrees = { λ k u. (single_pattern_properties_answers R.answers R.costs k).first_agrees
+        N.means N.report N.first u (λ n. N.first_agrees n u) };
 }

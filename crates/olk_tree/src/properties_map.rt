@@ -13,7 +13,7 @@ pub enum PropertiesMap<N> {
 }
 
 impl<N> PropertiesValidatorsMap<N> for PropertiesMap<N> {
-    ghost use Rattle.olk_tree.specs.Answers.{names_in, nodes_in};
+    ghost use Rattle.olk_tree.specs.Maps.{names_in, nodes_in};
 
     ghost names = { names_in };
 

@@ -1,7 +1,7 @@
 //! `propertyDependencies`: what its validator holds, means and reports.
 ghost use Rattle.std.specs.Prelude.{◌≡◌, option_copied, option_to_list};
 ghost use Rattle.serde_json.specs.View.{view};
-ghost use Rattle.olk_tree.specs.Answers.{chosen_at};
+ghost use Rattle.olk_tree.specs.PropertyDependencies.{chosen_at};
 
 use crate::map::SmallMap;
 use crate::means::{Means, Reports};
@@ -18,28 +18,23 @@ pub struct PropertyDependencies<N> {
 }
 
 impl<N: Means> Means for PropertyDependencies<N> {
-    ghost use Rattle.olk_tree.specs.Questions.{every};
-    ghost use Rattle.olk_tree.specs.Answers.{named, chosen_nodes};
+    ghost use Rattle.olk_tree.specs.PropertyDependencies.{property_dependencies_answers};
 
-    ghost means = { λ k v. every (λ n. N.means n v) (chosen_nodes (named k.dependencies) v) };
+    ghost means = { λ k. (property_dependencies_answers k).means N.means };
 }
 
 impl<N: Reports> Reports for PropertyDependencies<N> {
-    ghost use Rattle.std.specs.List.{flat_map};
-    ghost use Rattle.olk_tree.specs.Answers.{named, chosen_nodes, first_of};
-    ghost use Rattle.olk_tree.specs.Agreement.{each_agrees, first_of_agrees};
+    ghost use Rattle.olk_tree.specs.PropertyDependencies.{property_dependencies_answers};
 
-    ghost report = { λ k u v Q. flat_map (λ n. N.report n u v Q)
-        (chosen_nodes (named k.dependencies) v) };
+    ghost report = { λ k. (property_dependencies_answers k).report N.means N.report };
 
-    ghost first = { λ k u v Q. first_of (λ n. N.first n u v Q)
-        (chosen_nodes (named k.dependencies) v) };
+    ghost first = { λ k. (property_dependencies_answers k).first N.means N.report N.first };
 
-    ghost agrees = { λ k u v Q. each_agrees (λ n. N.report n u v Q) (λ n. N.means n v) u
-        (λ n. N.agrees n u v Q) (chosen_nodes (named k.dependencies) v) };
+    ghost agrees = { λ k u. (property_dependencies_answers k).agrees N.means N.report u
+        (λ n. N.agrees n u) };
 
-    ghost first_agrees = { λ k u v Q. first_of_agrees (λ n. N.first n u v Q) (λ n. N.means n v) u
-        (λ n. N.first_agrees n u v Q) (chosen_nodes (named k.dependencies) v) };
+    ghost first_agrees = { λ k u. (property_dependencies_answers k).first_agrees
+        N.means N.report N.first u (λ n. N.first_agrees n u) };
 }
 
 impl<N> SmallMap<N> {

@@ -11,24 +11,23 @@ pub struct PropertyNames<N> {
 }
 
 impl<N: Means> Means for PropertyNames<N> {
-    ghost use Rattle.olk_tree.specs.Answers.{names_mean};
+    ghost use Rattle.olk_tree.specs.PropertyNames.{property_names_answers};
 
-    ghost means = { λ k v. names_mean N.means k.node v };
+    ghost means = { λ k. (property_names_answers k).means N.means };
 }
 
 impl<N: Reports> Reports for PropertyNames<N> {
-    ghost use Rattle.olk_tree.specs.Answers.{names_report, names_first};
-    ghost use Rattle.olk_tree.specs.Agreement.{names_agree, names_first_agrees};
+    ghost use Rattle.olk_tree.specs.PropertyNames.{property_names_answers};
 
-    ghost report = { λ k u v Q. names_report N.report u k.node v Q };
+    ghost report = { λ k. (property_names_answers k).report N.means N.report };
 
-    ghost first = { λ k u v Q. names_first N.first u k.node v Q };
+    ghost first = { λ k. (property_names_answers k).first N.means N.report N.first };
 
-    ghost agrees = { λ k u v Q. names_agree N.means N.report u
-        (λ n w R. N.agrees n u w R) k.node v Q };
+    ghost agrees = { λ k u. (property_names_answers k).agrees N.means N.report u
+        (λ n. N.agrees n u) };
 
-    ghost first_agrees = { λ k u v Q. names_first_agrees N.means N.first u
-        (λ n w R. N.first_agrees n u w R) k.node v Q };
+    ghost first_agrees = { λ k u. (property_names_answers k).first_agrees N.means N.report N.first u
+        (λ n. N.first_agrees n u) };
 }
 
 /// `propertyNames` with `false`: an object is to have no members.
@@ -38,26 +37,19 @@ pub struct PropertyNamesFalse {
 }
 
 impl Means for PropertyNamesFalse {
-    ghost use Rattle.olk_spec.specs.Names.{is_empty};
-    ghost use Rattle.olk_spec.specs.Schemas.{members};
-    ghost use Rattle.olk_tree.specs.Questions.{always};
+    ghost use Rattle.olk_tree.specs.PropertyNames.{property_names_false_answers};
 
-    ghost means = { λ k v. always (is_empty (members v)) };
+    ghost means = { λ k. (property_names_false_answers k).means };
 }
 
 impl Reports for PropertyNamesFalse {
-    ghost use Rattle.olk_spec.specs.Names.{is_empty};
-    ghost use Rattle.olk_spec.specs.Faults.{FalseSchema};
-    ghost use Rattle.olk_spec.specs.Schemas.{members};
-    ghost use Rattle.olk_tree.specs.Answers.{unless};
-    ghost use Rattle.olk_tree.specs.Agreement.{unless_agrees};
+    ghost use Rattle.olk_tree.specs.PropertyNames.{property_names_false_answers};
 
-    ghost report = { λ k u v Q. unless (is_empty (members v)) FalseSchema v k.location Q };
+    ghost report = { λ k. (property_names_false_answers k).report };
 
-    ghost first = { λ k u v Q. unless (is_empty (members v)) FalseSchema v k.location Q };
+    ghost first = { λ k. (property_names_false_answers k).first };
 
-    ghost agrees = { λ k u v Q. unless_agrees (is_empty (members v)) FalseSchema v k.location Q };
+    ghost agrees = { λ k. (property_names_false_answers k).agrees };
 
-    ghost first_agrees = { λ k u v Q. unless_agrees (is_empty (members v)) FalseSchema
-        v k.location Q };
+    ghost first_agrees = { λ k. (property_names_false_answers k).first_agrees };
 }

@@ -11,27 +11,19 @@ pub struct RequiredValidator {
 }
 
 impl Means for RequiredValidator {
-    ghost use Rattle.olk_spec.specs.Names.{is_empty};
-    ghost use Rattle.olk_spec.specs.Accepts.{missing};
-    ghost use Rattle.olk_tree.specs.Questions.{always};
-    ghost use Rattle.olk_tree.specs.Answers.{texts_of};
+    ghost use Rattle.olk_tree.specs.Required.{required_answers};
 
-    ghost means = { λ k v. always (is_empty (missing (texts_of k.required.items) v)) };
+    ghost means = { λ k. (required_answers k).means };
 }
 
 impl Reports for RequiredValidator {
-    ghost use Rattle.olk_spec.specs.Reports.{required_faults};
-    ghost use Rattle.olk_tree.specs.Answers.{texts_of, head_of};
-    ghost use Rattle.olk_tree.specs.Agreement.{required_agrees, head_agrees};
+    ghost use Rattle.olk_tree.specs.Required.{required_answers};
 
-    ghost report = { λ k u v Q. required_faults (texts_of k.required.items) v k.location Q };
+    ghost report = { λ k. (required_answers k).report };
 
-    ghost first = { λ k u v Q. head_of
-        (required_faults (texts_of k.required.items) v k.location Q) };
+    ghost first = { λ k. (required_answers k).first };
 
-    ghost agrees = { λ k u v Q. required_agrees (texts_of k.required.items) v k.location Q };
+    ghost agrees = { λ k. (required_answers k).agrees };
 
-    ghost first_agrees = { λ k u v Q. head_agrees
-        (required_faults (texts_of k.required.items) v k.location Q)
-        (required_agrees (texts_of k.required.items) v k.location Q) };
+    ghost first_agrees = { λ k. (required_answers k).first_agrees };
 }

@@ -1,11 +1,11 @@
 //! What finds the subschemas that are declared for names.
 ghost use Rattle.std.specs.Prelude.{◌≡◌, IfSome, bytes_eq, option_copied, option_map};
 ghost use Rattle.olk_tree.specs.Additional.{placed};
-ghost use Rattle.std.specs.List.{position, slice_get};
+ghost use Rattle.std.specs.List.{position, slice_get, zip};
 ghost use Rattle.serde_json.specs.View.{members_view};
-ghost use Rattle.olk_spec.specs.Names.{lookup};
+ghost use Rattle.olk_spec.specs.Names.{lookup_name};
 ghost use Rattle.olk_spec.specs.Schemas.{listed};
-ghost use Rattle.olk_tree.specs.Answers.{beside, names_of};
+ghost use Rattle.olk_tree.specs.Maps.{names_of};
 ghost use Rattle.olk_tree.specs.Visited.{left_of, members_declared, names_met};
 
 use crate::big_map::HashedNames;
@@ -81,7 +81,7 @@ pub trait PropertiesValidatorsMap<N> {
     /// What stands at the name.
     fn get_validator(&self, name: &str) -> Option<&N>
         ensures { option_copied result
-            ≡ lookup name.now (beside (names self.now) (nodes self.now)) }
+            ≡ lookup_name name.now (zip (names self.now) (nodes self.now)) }
     {
         match self.names().find(name) {
             Some(place) => self.nodes().get(place),
@@ -93,7 +93,7 @@ pub trait PropertiesValidatorsMap<N> {
     fn get_key_validator(&self, name: &str) -> Option<(&str, &N)>
         ensures key { IfSome result (λ found. found.0.now ≡ name.now) }
         ensures validator { option_map (λ found. found.1.now) result
-            ≡ lookup name.now (beside (names self.now) (nodes self.now)) }
+            ≡ lookup_name name.now (zip (names self.now) (nodes self.now)) }
     {
         let names = self.names();
         let place = names.find(name)?;
@@ -108,7 +108,7 @@ pub trait PropertiesValidatorsMap<N> {
     #[inline(always)]
     fn validator_from(&self, hint: usize, name: &str) -> (usize, Option<&N>)
         ensures { option_copied result.1
-            ≡ lookup name.now (beside (names self.now) (nodes self.now)) }
+            ≡ lookup_name name.now (zip (names self.now) (nodes self.now)) }
     {
         node_from(self.names(), self.nodes(), hint, name)
     }
@@ -116,10 +116,10 @@ pub trait PropertiesValidatorsMap<N> {
     /// The members whose names are declared, each with what stands at its name.
     fn declared_members<'a>(&'a self, members: &'a Map<String, Value>) -> DeclaredMembers<'a, N>
         ensures by_members { left_of result
-            ≡ members_declared (beside (names self.now) (nodes self.now))
+            ≡ members_declared (zip (names self.now) (nodes self.now))
             (listed (members_view members.now.entries)) }
         ensures by_names { left_of result
-            ≡ names_met (beside (names self.now) (nodes self.now))
+            ≡ names_met (zip (names self.now) (nodes self.now))
             (listed (members_view members.now.entries)) }
     {
         DeclaredMembers::of(self.names(), self.nodes(), members)
@@ -137,7 +137,7 @@ pub fn node_from<'a, N>(
     name: &str,
 ) -> (usize, Option<&'a N>)
     ensures { option_copied result.1
-        ≡ lookup name.now (beside (names_of names.entry) nodes.now) }
+        ≡ lookup_name name.now (zip (names_of names.entry) nodes.now) }
 {
     let (next, place) = names.find_from(hint, name);
     match place {
@@ -158,7 +158,7 @@ pub fn placed_from<'a, N>(
     name: &str,
 ) -> (usize, Option<(usize, &'a N)>)
     ensures { option_map (λ f. (f.0, f.1.now)) result.1
-        ≡ lookup name.now (beside (names_of names.entry) (placed nodes.now)) }
+        ≡ lookup_name name.now (zip (names_of names.entry) (placed nodes.now)) }
 {
     let (next, place) = names.find_from(hint, name);
     match place {

@@ -1,17 +1,27 @@
-//! Lists that grow by one item.
-ghost use Rattle.std.specs.Prelude.{◌≡◌, ◌++◌, ◌∷◌, [], IfOk, OnOk};
+//! Lists that grow.
+ghost use Rattle.std.specs.Prelude.{◌≡◌, ◌++◌, ◌∷◌, [], IfOk, OnOk, OnErr};
 
 use std::alloc::{AllocError, Global};
 
 /// Adds an item at the end.
+///
+/// # Errors
+///
+/// Out of memory, and then the list is as before.
+#[inline]
 pub fn append<T: Drop>(items: &mut Vec<T>, item: T) -> Result<(), AllocError>
-    ensures { OnOk result (items.new.items ≡ items.old.items ++ item ∷ []) }
+    ensures items { OnOk result (items.new.items ≡ items.old.items ++ item ∷ []) }
+    ensures memory { OnErr result (items.new.items ≡ items.old.items) }
 {
     items.push(item)?;
     Ok(())
 }
 
 /// Adds items at the end.
+///
+/// # Errors
+///
+/// Out of memory.
 pub fn append_all<T: Drop>(items: &mut Vec<T>, mut more: Vec<T>) -> Result<(), AllocError>
     ensures { OnOk result (items.new.items ≡ items.old.items ++ more.items) }
 {
@@ -19,10 +29,15 @@ pub fn append_all<T: Drop>(items: &mut Vec<T>, mut more: Vec<T>) -> Result<(), A
 }
 
 /// A list of one item.
+///
+/// # Errors
+///
+/// Out of memory.
+#[inline]
 pub fn one<T: Drop>(alloc: Global, item: T) -> Result<Vec<T>, AllocError>
-    ensures { IfOk result (λ v. v.items ≡ item ∷ []) }
+    ensures { IfOk result (λ items. items.items ≡ item ∷ []) }
 {
     let mut items = Vec::with_capacity(alloc, 1)?;
-    items.push(item)?;
+    append(&mut items, item)?;
     Ok(items)
 }
