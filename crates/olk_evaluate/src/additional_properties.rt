@@ -12,10 +12,10 @@ ghost use Rattle.olk_tree.specs.Visited.{object_of};
 ghost use Rattle.olk_evaluate.specs.Additional.{matches_shown, names_of, annotated_if, rest_annotation, AddsErrors, named_faults, faults_without_rest, Completes, HasPlaces};
 ghost use Rattle.olk_evaluate.specs.Wanted.{AreShown, refused, lacking_trees, trees_of};
 
+use crate::Evaluate;
 use crate::additional_members::collect;
 use crate::own::own_error;
 use crate::required::missing_name_child;
-use crate::{Evaluate, Located};
 use olk_base::{Node, RegexEngine, ValidationContext};
 use olk_members::law_of_names;
 use olk_paths::InstancePath;
@@ -23,14 +23,6 @@ use olk_reports::{EvaluationNode, EvaluationResult, ValidationErrorKind};
 use olk_tree::additional_properties::{AdditionalProperties, RequiredName};
 use serde_json::{Map, Value};
 use std::alloc::{AllocError, Global};
-
-impl<R, N> Located for AdditionalProperties<R, N> {
-    ghost place = { λ k. k.location };
-
-    fn location(&self) -> &str {
-        self.location.as_str()
-    }
-}
 
 /// A child for each node that is asked of a member: what is declared at its name, the patterns that
 /// match it, or else the rest, whose names are annotated (JSON Schema 2020-12 Core, 10.3.2.3);

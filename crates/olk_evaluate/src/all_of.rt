@@ -1,19 +1,11 @@
 //! `allOf`: what it shows.
+use crate::Evaluate;
 use crate::walk::{child, each_child};
-use crate::{Evaluate, Located};
 use olk_base::{Node, ValidationContext};
 use olk_paths::InstancePath;
 use olk_reports::EvaluationResult;
 use olk_tree::all_of::{AllOf, SingleValueAllOf};
 use std::alloc::{AllocError, Global};
-
-impl<N> Located for AllOf<N> {
-    ghost place = { λ k. k.location };
-
-    fn location(&self) -> &str {
-        self.location.as_str()
-    }
-}
 
 /// A child for each branch (JSON Schema 2020-12 Core, 10.2.1.1).
 impl<'a, N: Evaluate<'a>> Evaluate<'a> for AllOf<N> {
@@ -30,14 +22,6 @@ impl<'a, N: Evaluate<'a>> Evaluate<'a> for AllOf<N> {
     ) -> Result<EvaluationResult<'a>, AllocError> {
         let children = each_child(alloc, &self.schemas, node, path, ctx)?;
         Ok(EvaluationResult::from_children(alloc, children))
-    }
-}
-
-impl<N> Located for SingleValueAllOf<N> {
-    ghost place = { λ k. k.location };
-
-    fn location(&self) -> &str {
-        self.location.as_str()
     }
 }
 

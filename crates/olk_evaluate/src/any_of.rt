@@ -5,22 +5,14 @@ ghost use Rattle.olk_spec.specs.Names.{filter_once};
 ghost use Rattle.olk_check.specs.Asks.{OnlyAsks};
 ghost use Rattle.olk_evaluate.specs.Wanted.{AreShown, each_wanted, trees_of};
 
+use crate::Evaluate;
 use crate::walk::{add_child, child, each_child};
-use crate::{Evaluate, Located};
 use olk_base::{Node, ValidationContext};
 use olk_check::IsValid;
 use olk_paths::InstancePath;
 use olk_reports::{EvaluationNode, EvaluationResult};
 use olk_tree::any_of::{AnyOf, SingleAnyOf};
 use std::alloc::{AllocError, Global};
-
-impl<N> Located for AnyOf<N> {
-    ghost place = { λ k. k.location };
-
-    fn location(&self) -> &str {
-        self.location.as_str()
-    }
-}
 
 /// A child for each branch that accepts; where there is none, a child for each branch (JSON Schema
 /// 2020-12 Core, 10.2.1.2).
@@ -42,14 +34,6 @@ impl<'a, N: Evaluate<'a>> Evaluate<'a> for AnyOf<N> {
             return Ok(EvaluationResult::invalid_with(alloc, children));
         }
         Ok(EvaluationResult::from_children(alloc, accepting))
-    }
-}
-
-impl<N> Located for SingleAnyOf<N> {
-    ghost place = { λ k. k.location };
-
-    fn location(&self) -> &str {
-        self.location.as_str()
     }
 }
 

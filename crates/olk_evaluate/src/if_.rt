@@ -5,22 +5,14 @@ ghost use Rattle.olk_check.specs.Asks.{OnlyAsks};
 ghost use Rattle.olk_reports.specs.Evaluations.{shown_of};
 ghost use Rattle.olk_evaluate.specs.Wanted.{ShowsEach};
 
+use crate::Evaluate;
 use crate::walk::{add_child, child};
-use crate::{Evaluate, Located};
 use olk_base::{Node, ValidationContext};
 use olk_check::IsValid;
 use olk_paths::InstancePath;
 use olk_reports::{EvaluationNode, EvaluationResult};
 use olk_tree::if_::{IfElse, IfThen, IfThenElse};
 use std::alloc::{AllocError, Global};
-
-impl<N> Located for IfThen<N> {
-    ghost place = { λ k. k.location };
-
-    fn location(&self) -> &str {
-        self.location.as_str()
-    }
-}
 
 /// Where `if` accepts, a child for it and one for `then` (JSON Schema 2020-12 Core, 10.2.2).
 impl<'a, N: Evaluate<'a>> Evaluate<'a> for IfThen<N> {
@@ -42,14 +34,6 @@ impl<'a, N: Evaluate<'a>> Evaluate<'a> for IfThen<N> {
     }
 }
 
-impl<N> Located for IfElse<N> {
-    ghost place = { λ k. k.location };
-
-    fn location(&self) -> &str {
-        self.location.as_str()
-    }
-}
-
 /// A child for `if` where it accepts, and else one for `else` (JSON Schema 2020-12 Core, 10.2.2).
 impl<'a, N: Evaluate<'a>> Evaluate<'a> for IfElse<N> {
     ghost use Rattle.olk_tree.specs.If.{if_else_answers};
@@ -68,14 +52,6 @@ impl<'a, N: Evaluate<'a>> Evaluate<'a> for IfElse<N> {
         } else {
             only(alloc, &self.else_schema, node, path, ctx)
         }
-    }
-}
-
-impl<N> Located for IfThenElse<N> {
-    ghost place = { λ k. k.location };
-
-    fn location(&self) -> &str {
-        self.location.as_str()
     }
 }
 

@@ -1,20 +1,12 @@
 //! `not`: what it shows.
+use crate::Evaluate;
 use crate::own::one_error;
-use crate::{Evaluate, Located};
 use olk_base::{Node, ValidationContext};
 use olk_check::IsValid;
 use olk_paths::InstancePath;
 use olk_reports::{EvaluationResult, ValidationErrorKind};
 use olk_tree::not::Not;
 use std::alloc::{AllocError, Global};
-
-impl<N> Located for Not<N> {
-    ghost place = { λ k. k.location };
-
-    fn location(&self) -> &str {
-        self.location.as_str()
-    }
-}
 
 /// An error of its own where the subschema accepts; what the subschema shows is left out (JSON
 /// Schema 2020-12 Core, 10.2.1.4).

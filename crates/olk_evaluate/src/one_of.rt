@@ -4,22 +4,14 @@ ghost use Rattle.olk_reports.specs.Evaluations.{shown, shown_of};
 ghost use Rattle.olk_tree.specs.Shown.{several_accept};
 ghost use Rattle.olk_evaluate.specs.Wanted.{trees_of};
 
+use crate::Evaluate;
 use crate::any_of::accepting_children;
 use crate::walk::{child, each_child};
-use crate::{Evaluate, Located};
 use olk_base::{Node, ValidationContext};
 use olk_paths::InstancePath;
 use olk_reports::{ErrorDescription, EvaluationNode, EvaluationResult};
 use olk_tree::one_of::{OneOf, SingleOneOf};
 use std::alloc::{AllocError, Global};
-
-impl<N> Located for OneOf<N> {
-    ghost place = { λ k. k.location };
-
-    fn location(&self) -> &str {
-        self.location.as_str()
-    }
-}
 
 /// A child for each branch that accepts, and an error of its own where they are several; where
 /// there is none, a child for each branch (JSON Schema 2020-12 Core, 10.2.1.3).
@@ -59,14 +51,6 @@ fn with_several<'a>(
     let mut outcome = EvaluationResult::from_children(alloc, accepting);
     outcome.mark_errored(ErrorDescription::new("oneOf", message))?;
     Ok(outcome)
-}
-
-impl<N> Located for SingleOneOf<N> {
-    ghost place = { λ k. k.location };
-
-    fn location(&self) -> &str {
-        self.location.as_str()
-    }
 }
 
 /// A child for the branch.

@@ -6,8 +6,8 @@ ghost use Rattle.olk_check.specs.Asks.{OnlyAsks};
 ghost use Rattle.olk_evaluate.specs.Members.{MeetsMore, wanted_at};
 ghost use Rattle.olk_evaluate.specs.Patterns.{match_here, matches_of, matches_of_all};
 
+use crate::Evaluate;
 use crate::properties::{Met, meet_member};
-use crate::{Evaluate, Located};
 use olk_base::{CompiledPattern, Node, RegexEngine, ValidationContext};
 use olk_check::matches;
 use olk_paths::InstancePath;
@@ -15,14 +15,6 @@ use olk_reports::EvaluationResult;
 use olk_tree::pattern_properties::{PatternProperties, SingleValuePatternProperties};
 use serde_json::{Map, Value};
 use std::alloc::{AllocError, Global};
-
-impl<R, N> Located for PatternProperties<R, N> {
-    ghost place = { λ k. k.location };
-
-    fn location(&self) -> &str {
-        self.location.as_str()
-    }
-}
 
 /// A child for each match, pattern by pattern; where the value is an object, a name for each match
 /// is annotated (JSON Schema 2020-12 Core, 10.3.2.2).
@@ -47,14 +39,6 @@ impl<'a, R: RegexEngine, N: Evaluate<'a>> Evaluate<'a> for PatternProperties<R, 
             }
             None => Ok(EvaluationResult::valid_empty(alloc)),
         }
-    }
-}
-
-impl<R, N> Located for SingleValuePatternProperties<R, N> {
-    ghost place = { λ k. k.location };
-
-    fn location(&self) -> &str {
-        self.location.as_str()
     }
 }
 

@@ -12,9 +12,9 @@ ghost use Rattle.olk_check.specs.Asks.{OnlyAsks};
 ghost use Rattle.olk_evaluate.specs.Members.{HasMet, MeetsMore, wanted_at};
 ghost use Rattle.olk_evaluate.specs.Wanted.{IsShown, ShowsMore, wanted, trees_of};
 
+use crate::Evaluate;
 use crate::required::missing_child;
 use crate::walk::child;
-use crate::{Evaluate, Located};
 use olk_base::{Node, ValidationContext};
 use olk_paths::InstancePath;
 use olk_reports::{EvaluationNode, EvaluationResult};
@@ -22,14 +22,6 @@ use olk_tree::properties::{Properties, SmallPropertiesWithRequired2};
 use olk_tree::validators_map::PropertiesValidatorsMap;
 use serde_json::{Map, Value};
 use std::alloc::{AllocError, Global};
-
-impl<N> Located for Properties<N> {
-    ghost place = { λ k. k.location };
-
-    fn location(&self) -> &str {
-        self.location.as_str()
-    }
-}
 
 /// A child for each member whose name is declared; where the value is an object, these names are
 /// annotated (JSON Schema 2020-12 Core, 10.3.2.1).
@@ -53,14 +45,6 @@ impl<'a, N: Evaluate<'a>> Evaluate<'a> for Properties<N> {
             }
             None => Ok(EvaluationResult::valid_empty(alloc)),
         }
-    }
-}
-
-impl<N> Located for SmallPropertiesWithRequired2<N> {
-    ghost place = { λ k. k.location };
-
-    fn location(&self) -> &str {
-        self.location.as_str()
     }
 }
 

@@ -5,23 +5,15 @@ ghost use Rattle.olk_spec.specs.Schemas.{listed};
 ghost use Rattle.olk_check.specs.Asks.{OnlyAsks};
 ghost use Rattle.olk_evaluate.specs.Wanted.{AreShown, names_wanted, trees_of};
 
+use crate::Evaluate;
 use crate::own::one_error;
 use crate::walk::add_child;
-use crate::{Evaluate, Located};
 use olk_base::{Node, ValidationContext};
 use olk_paths::InstancePath;
 use olk_reports::{EvaluationNode, EvaluationResult, ValidationErrorKind};
 use olk_tree::property_names::{PropertyNames, PropertyNamesFalse};
 use serde_json::{Map, Value};
 use std::alloc::{AllocError, Global};
-
-impl<N> Located for PropertyNames<N> {
-    ghost place = { λ k. k.location };
-
-    fn location(&self) -> &str {
-        self.location.as_str()
-    }
-}
 
 /// A child for each member's name, at the path of the object (JSON Schema 2020-12 Core, 10.3.2.4).
 impl<'a, N: Evaluate<'a>> Evaluate<'a> for PropertyNames<N> {
@@ -44,14 +36,6 @@ impl<'a, N: Evaluate<'a>> Evaluate<'a> for PropertyNames<N> {
             }
             None => Ok(EvaluationResult::valid_empty(alloc)),
         }
-    }
-}
-
-impl Located for PropertyNamesFalse {
-    ghost place = { λ k. k.location };
-
-    fn location(&self) -> &str {
-        self.location.as_str()
     }
 }
 

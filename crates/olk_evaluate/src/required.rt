@@ -11,8 +11,8 @@ ghost use Rattle.olk_tree.specs.Maps.{texts_of};
 ghost use Rattle.olk_tree.specs.Visited.{object_of};
 ghost use Rattle.olk_evaluate.specs.Wanted.{HasErrors, AreShown, refused, lacking_trees, trees_of};
 
+use crate::Evaluate;
 use crate::own::{add_own_error, one_error};
-use crate::{Evaluate, Located};
 use olk_base::{Node, ValidationContext};
 use olk_members::has_member;
 use olk_paths::InstancePath;
@@ -20,14 +20,6 @@ use olk_reports::{EvaluationNode, EvaluationResult, ValidationErrorKind};
 use olk_tree::required::RequiredValidator;
 use serde_json::{Map, Value};
 use std::alloc::{AllocError, Global};
-
-impl Located for RequiredValidator {
-    ghost place = { λ k. k.location };
-
-    fn location(&self) -> &str {
-        self.location.as_str()
-    }
-}
 
 /// An error of its own for each listed name that an object lacks (JSON Schema 2020-12 Validation,
 /// 6.5.3).

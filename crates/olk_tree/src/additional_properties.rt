@@ -1,11 +1,10 @@
-//! `additionalProperties`, and what it takes over: what the validator holds, means and reports.
+//! `additionalProperties`, and what it takes over: what the validator holds.
 ghost use Rattle.std.specs.Prelude.{◌≡◌, ℕ, IsTrue, true, false, is_some, option_map};
 ghost use Rattle.std.specs.Option.{option_map_or};
 ghost use Rattle.olk_spec.specs.World.{unmatched};
 ghost use Rattle.olk_tree.specs.Additional.{at_name, has_neighbours, known_at, sides_of};
 ghost use Rattle.olk_tree.specs.Tables.{known_says, is_blank_at};
 
-use crate::means::{Means, Reports};
 use crate::pattern_table::PatternTable;
 use crate::properties_map::PropertiesMap;
 use crate::validators_map::{PropertiesValidatorsMap, placed_from};
@@ -38,30 +37,6 @@ pub struct AdditionalProperties<R, N> {
 pub struct RequiredName {
     pub name: String,
     pub location: Location,
-}
-
-impl<R: RegexEngine, N: Means> Means for AdditionalProperties<R, N> {
-    ghost use Rattle.olk_tree.specs.AdditionalProperties.{additional_properties_answers};
-
-    ghost means = { λ k. (additional_properties_answers R.answers R.costs k).means N.means };
-}
-
-impl<R: RegexEngine, N: Reports> Reports for AdditionalProperties<R, N> {
-    ghost use Rattle.olk_tree.specs.AdditionalProperties.{additional_properties_answers};
-
-    ghost report = { λ k. (additional_properties_answers R.answers R.costs k).report
-        N.means N.report };
-
-    ghost first = { λ k. (additional_properties_answers R.answers R.costs k).first
-        N.means N.report N.first };
-
-    ghost agrees = { λ k u. (additional_properties_answers R.answers R.costs k).agrees
-        N.means N.report u
-        (λ n. N.agrees n u) };
-
-    ghost first_agrees = { λ k u. (additional_properties_answers R.answers R.costs k).first_agrees
-        N.means N.report N.first u
-        (λ n. N.first_agrees n u) };
 }
 
 impl<R, N> AdditionalProperties<R, N> {

@@ -7,6 +7,7 @@
 
 pub mod additional_properties;
 pub mod all_of;
+pub mod answers;
 pub mod any_of;
 pub mod big_map;
 pub mod declared;

@@ -4,7 +4,6 @@ use crate::all_of::{AllOf, SingleValueAllOf};
 use crate::any_of::{AnyOf, SingleAnyOf};
 use crate::dependencies::Dependencies;
 use crate::if_::{IfElse, IfThen, IfThenElse};
-use crate::means::{Means, Reports};
 use crate::not::Not;
 use crate::one_of::{OneOf, SingleOneOf};
 use crate::pattern_properties::{PatternProperties, SingleValuePatternProperties};
@@ -62,28 +61,6 @@ pub enum KeywordOver<K, R, N> {
     Leaf(Location, K),
 }
 
-impl<K: Leaf, R: RegexEngine, N: Means> Means for KeywordOver<K, R, N> {
-    ghost use Rattle.olk_base.specs.Kit.{kit};
-    ghost use Rattle.olk_tree.specs.Validators.{answers_of};
-
-    ghost means = { λ k. (answers_of (kit K.Leaf R.RegexEngine) k).means N.means };
-}
-
-impl<K: Leaf, R: RegexEngine, N: Reports> Reports for KeywordOver<K, R, N> {
-    ghost use Rattle.olk_base.specs.Kit.{kit};
-    ghost use Rattle.olk_tree.specs.Validators.{answers_of};
-
-    ghost report = { λ k. (answers_of (kit K.Leaf R.RegexEngine) k).report N.means N.report };
-
-    ghost first = { λ k. (answers_of (kit K.Leaf R.RegexEngine) k).first N.means N.report N.first };
-
-    ghost agrees = { λ k u. (answers_of (kit K.Leaf R.RegexEngine) k).agrees
-        N.means N.report u (λ n. N.agrees n u) };
-
-    ghost first_agrees = { λ k u. (answers_of (kit K.Leaf R.RegexEngine) k).first_agrees
-        N.means N.report N.first u (λ n. N.first_agrees n u) };
-}
-
 /// What stands at a place: true, false, keywords, or a list of names that an object is to have.
 #[derive(Drop)]
 pub enum Body<W> {
@@ -95,10 +72,4 @@ pub enum Body<W> {
     Keywords(Vec<W>),
     /// A list of names that an object is to have.
     RequiredNames(RequiredValidator),
-}
-
-impl<W: Means> Means for Body<W> {
-    ghost use Rattle.olk_tree.specs.Bodies.{body_means};
-
-    ghost means = { body_means W.means };
 }

@@ -1,6 +1,5 @@
-//! `properties`: what its validators hold, mean and report.
+//! `properties`: what its validators hold.
 use crate::map::SmallMap;
-use crate::means::{Means, Reports};
 use crate::properties_map::PropertiesMap;
 use olk_paths::Location;
 
@@ -12,26 +11,6 @@ pub struct Properties<N> {
     pub location: Location,
 }
 
-impl<N: Means> Means for Properties<N> {
-    ghost use Rattle.olk_tree.specs.Properties.{properties_answers};
-
-    ghost means = { λ k. (properties_answers k).means N.means };
-}
-
-impl<N: Reports> Reports for Properties<N> {
-    ghost use Rattle.olk_tree.specs.Properties.{properties_answers};
-
-    ghost report = { λ k. (properties_answers k).report N.means N.report };
-
-    ghost first = { λ k. (properties_answers k).first N.means N.report N.first };
-
-    ghost agrees = { λ k u. (properties_answers k).agrees N.means N.report u
-        (λ n. N.agrees n u) };
-
-    ghost first_agrees = { λ k u. (properties_answers k).first_agrees N.means N.report N.first u
-        (λ n. N.first_agrees n u) };
-}
-
 /// `properties` together with `required` of two different names: both are to be members, where the
 /// value is an object (JSON Schema 2020-12 Validation, 6.5.3).
 #[derive(Drop)]
@@ -41,24 +20,4 @@ pub struct SmallPropertiesWithRequired2<N> {
     pub second: String,
     pub location: Location,
     pub required_location: Location,
-}
-
-impl<N: Means> Means for SmallPropertiesWithRequired2<N> {
-    ghost use Rattle.olk_tree.specs.Properties.{properties_with_required2_answers};
-
-    ghost means = { λ k. (properties_with_required2_answers k).means N.means };
-}
-
-impl<N: Reports> Reports for SmallPropertiesWithRequired2<N> {
-    ghost use Rattle.olk_tree.specs.Properties.{properties_with_required2_answers};
-
-    ghost report = { λ k. (properties_with_required2_answers k).report N.means N.report };
-
-    ghost first = { λ k. (properties_with_required2_answers k).first N.means N.report N.first };
-
-    ghost agrees = { λ k u. (properties_with_required2_answers k).agrees N.means N.report u
-        (λ n. N.agrees n u) };
-
-    ghost first_agrees = { λ k u. (properties_with_required2_answers k).first_agrees
-        N.means N.report N.first u (λ n. N.first_agrees n u) };
 }
