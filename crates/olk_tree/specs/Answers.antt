@@ -24,8 +24,6 @@ use Rattle.olk_tree.specs.declared.additional_properties.AdditionalProperties.{A
 use Rattle.olk_tree.specs.declared.additional_properties.RequiredName.{RequiredName}
 use Rattle.olk_tree.specs.declared.properties_map.PropertiesMap.{PropertiesMap}
 use Rattle.olk_tree.specs.declared.properties_map.PropertiesMap.TheVariants.{Small, Big}
-use Rattle.olk_tree.specs.declared.validators_map.DeclaredNames.{DeclaredNames}
-use Rattle.olk_tree.specs.declared.validators_map.DeclaredNames.TheVariants.{Sorted, Hashed}
 use Rattle.olk_tree.specs.declared.node.KeywordOver.{KeywordOver}
 use Rattle.olk_tree.specs.declared.node.KeywordOver.TheVariants as keyword
 use Rattle.olk_tree.specs.declared.node.Body.{Body}
@@ -36,11 +34,6 @@ abbrev pub beside : {A B : Type 0} → List A → List B → List (A × B)
 beside [] ys = []
 beside (x ∷ xs) [] = []
 beside (x ∷ xs) (y ∷ ys) = (x, y) ∷ beside xs ys
-
--- the names, however they are found
-abbrev pub names_of : DeclaredNames → List Name
-names_of (Sorted names) = names.now
-names_of (Hashed names) = names.now
 
 abbrev pub named : {N : Type 0} → SmallMap N → List (Name × N)
 named m = beside m.names m.nodes.items
