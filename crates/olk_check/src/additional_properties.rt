@@ -181,7 +181,7 @@ fn declared_accept<M: PropertiesValidatorsMap<N>, N: IsValid>(
         (option_copied rest.entry) (object_of members.now.entries)) (always (is_empty (missing
         (required_text required.now) (object_of members.now.entries))))) result }
 {
-    if rest.is_none() && members.len() > properties.names().sorted().len() {
+    if rest.is_none() && members.len() > properties.names().len() {
         return Accepted::None;
     }
     match (rest, required) {

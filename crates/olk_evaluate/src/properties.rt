@@ -159,7 +159,7 @@ fn meet<'a, M: PropertiesValidatorsMap<N>, N: Evaluate<'a> + 'a>(
     ensures path { path.new ≡ path.old }
     ensures context { OnlyAsks ctx.old ctx.new }
 {
-    let most = members.len().min(properties.names().sorted().len());
+    let most = members.len().min(properties.names().len());
     let mut met: Met<'a> = Met::with_capacity(alloc, most)?;
     for (name, subschema, value) in properties.declared_members(members) {
         meet_member(alloc, subschema, name, value, path, ctx, &mut met)?;

@@ -17,7 +17,7 @@ use Rattle.olk_tree.specs.declared.properties_map.PropertiesMap.TheVariants.{Sma
 abbrev pub is_one : {X : Type 0} → List X → Bool
 is_one xs = length xs == 1
 
--- few names are found by bisection, and many by their hash
+-- few names stand in a small map, and many in a big one
 abbrev pub is_map_formed : {N : Type 0} → PropertiesMap N → Bool
 is_map_formed (Small m) = nat_lt (length m.names) HASHMAP_THRESHOLD
 is_map_formed (Big m) = not (nat_lt (length m.names) HASHMAP_THRESHOLD)

@@ -6,13 +6,6 @@ use Rattle.olk_spec.specs.Names.{Name, Text}
 use Rattle.olk_tree.specs.declared.map.SmallMap.{SmallMap}
 use Rattle.olk_tree.specs.declared.properties_map.PropertiesMap.{PropertiesMap}
 use Rattle.olk_tree.specs.declared.properties_map.PropertiesMap.TheVariants.{Small, Big}
-use Rattle.olk_tree.specs.declared.validators_map.DeclaredNames.{DeclaredNames}
-use Rattle.olk_tree.specs.declared.validators_map.DeclaredNames.TheVariants.{Sorted, Hashed}
-
--- the names, however they are found
-abbrev pub names_of : DeclaredNames → List Name
-names_of (Sorted names) = names.now
-names_of (Hashed names) = names.now
 
 abbrev pub named : {N : Type 0} → SmallMap N → List (Name × N)
 named m = zip m.names m.nodes.items

@@ -7,7 +7,6 @@ use Rattle.serde_json.specs.View.{view, members_view}
 use Rattle.serde_json.specs.declared.value.Value.{Value}
 use Rattle.olk_spec.specs.Names.{Name, lookup_name}
 use Rattle.olk_spec.specs.Schemas.{listed}
-use Rattle.olk_tree.specs.Maps.{names_of}
 use Rattle.std.specs.declared.alloc.Global.{Global}
 use Rattle.std.specs.declared.iter.Zip.{Zip}
 use Rattle.std.specs.declared.slice.Iter.{Iter}
@@ -48,4 +47,4 @@ pairs_of z = zip (map string_bytes z.a.rest.now) z.b.rest.now
 
 -- what is left of a walk over the declared members
 abbrev pub left_of : {N : Type 0} → DeclaredMembers N → List (Declared N)
-left_of w = cond w.by_members (members_declared (zip (names_of w.names) w.nodes.now) (listed (members_view w.left))) (names_met (pairs_of w.unasked) (listed (members_view w.members.now.entries)))
+left_of w = cond w.by_members (members_declared (zip w.names.now w.nodes.now) (listed (members_view w.left))) (names_met (pairs_of w.unasked) (listed (members_view w.members.now.entries)))

@@ -57,8 +57,7 @@ impl<R, N> AdditionalProperties<R, N> {
             ≡ at_name (sides_of self.now) name.now }
     {
         match &self.properties {
-            Some(PropertiesMap::Small(map)) => placed_from(map.names(), map.nodes(), hint, name),
-            Some(PropertiesMap::Big(map)) => placed_from(map.names(), map.nodes(), hint, name),
+            Some(map) => placed_from(map.names(), map.nodes(), hint, name),
             None => (hint, None),
         }
     }
