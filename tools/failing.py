@@ -1,4 +1,4 @@
-"""Runs a program with its growths refused: what tools/refused_growths and tools/refused_growths_of_the_program share."""
+"""Runs programs whose growths, reads or writes fail: what the tools share that refuse growths or fail reads and writes."""
 import argparse
 import json
 import os
@@ -12,6 +12,7 @@ from dataclasses import dataclass
 
 TOOLS = os.path.dirname(os.path.abspath(__file__))
 TOP = os.path.dirname(TOOLS)
+ASKS = ["valid", "first", "errors", "evaluate"]
 # So many faults of a case are told.
 TOLD = 3
 # Of so many runs one is made where few are wanted.
@@ -85,12 +86,12 @@ def cases():
 class Ran:
     status: int
     lines: list
-    # How many growths there were before each line, and in all.
-    growths: list
+    # How many growths, reads and writes there were before each write, and in all.
+    counts: list
 
 
 class Trials:
-    """The cases, each given to a program as it is, and with each of its growths refused."""
+    """The cases, each given to a program as it is, and with each of its calls failing that a tool is about."""
 
     # The crate of the program.
     crate = None
@@ -100,14 +101,14 @@ class Trials:
         raise NotImplementedError
 
     def fault_of_full(self, full, given):
-        """What is wrong with the run in which nothing is refused, if anything is."""
+        """What is wrong with the run in which nothing fails, if anything is."""
         raise NotImplementedError
 
-    def refusals(self, full):
-        """Which growths are refused in each other run: the first and the last of them."""
+    def failures(self, full):
+        """What fails in each other run, by the names of failing.c."""
         raise NotImplementedError
 
-    def fault(self, full, ran):
+    def fault(self, full, ran, failing):
         """What is wrong with such a run, if anything is."""
         raise NotImplementedError
 
@@ -115,27 +116,30 @@ class Trials:
         """What else is told of a case."""
         return ""
 
-    def run(self, given, first=0, last=0):
-        """Runs the program with these growths refused; none has the number 0."""
-        said = {"LD_PRELOAD": self.library, "REFUSED_FIRST": str(first), "REFUSED_LAST": str(last)}
-        ran = subprocess.run([self.program], input=given.encode(), capture_output=True, env=said)
+    def run(self, **failing):
+        said = {"LD_PRELOAD": self.library, **{name: str(number) for name, number in failing.items()}}
+        # From a file reads are the same each time.
+        with open(self.input, "rb") as given:
+            ran = subprocess.run([self.program], stdin=given, capture_output=True, env=said)
         lines = ran.stdout.decode(errors="replace").splitlines(keepends=True)
-        return Ran(ran.returncode, lines, [*map(int, ran.stderr.split())])
+        return Ran(ran.returncode, lines, [tuple(map(int, line.split())) for line in ran.stderr.splitlines()])
 
-    def faults(self, full, given, refusals, pool):
-        """What is wrong with each run of a case where anything is."""
-        if found := self.fault_of_full(full, given):
-            return [f"where nothing is refused: {found}"]
-        found = pool.map(lambda refused: self.fault(full, self.run(given, *refused)), refusals)
-        return [f"{first} to {last} refused: {fault}" for (first, last), fault in zip(refusals, found) if fault]
+    def faults(self, full, failures, pool):
+        """What is wrong with each run where anything is."""
+        found = pool.map(lambda failing: self.fault(full, self.run(**failing), failing), failures)
+        return [f"{failing}: {fault}" for failing, fault in zip(failures, found) if fault]
 
     def try_case(self, name, given, pool, step):
         """How many runs there were, and how many failed."""
-        started, full = time.time(), self.run(given)
-        refusals = self.refusals(full)[::step]
-        faults = self.faults(full, given, refusals, pool)
-        count, seconds = 1 + len(refusals), time.time() - started
-        print(f"{name}: {count} runs in {seconds:.0f} s, {len(faults)} failed{self.about(full)}")
+        started = time.time()
+        with open(self.input, "w", encoding="utf-8") as file:
+            file.write(given)
+        full = self.run()
+        fault = self.fault_of_full(full, given)
+        failures = [] if fault else self.failures(full)[::step]
+        faults = [f"nothing fails: {fault}"] if fault else self.faults(full, failures, pool)
+        count, seconds = 1 + len(failures), time.time() - started
+        print(f"{name}: {count} runs in {seconds:.0f} s, {len(faults)} failed{'' if fault else self.about(full)}")
         for fault in faults[:TOLD]:
             print(f"    {fault[:400]}")
         sys.stdout.flush()
@@ -155,17 +159,34 @@ class Trials:
         if not os.access(self.program, os.X_OK):
             sys.exit(f"{self.program} is not there: rt ci proves and builds it")
         with tempfile.TemporaryDirectory() as room, ThreadPoolExecutor(options.jobs) as pool:
-            self.library, step = refusing_library(room), QUICK if options.quick else 1
+            self.library, self.input = failing_library(room), f"{room}/input"
+            step = QUICK if options.quick else 1
             tried = [self.try_case(name, self.given(*case), pool, step) for name, *case in cases()]
         runs, failed = map(sum, zip(*tried))
         print(f"{runs - failed} passed, {failed} failed")
         return 1 if failed else 0
 
 
-def refusing_library(folder):
-    """growths.c, compiled by the kit's clang, or where there is no kit by cc."""
+def failing_library(folder):
+    """failing.c, compiled by the kit's clang, or where there is no kit by cc."""
     rt = shutil.which("rt")
     compiler = f"{os.path.dirname(os.path.dirname(os.path.realpath(rt)))}/toolchain/bin/clang" if rt else "cc"
-    library = f"{folder}/growths.so"
-    subprocess.run([compiler, "-shared", "-fPIC", "-O1", "-nostdlib", f"{TOOLS}/growths.c", "-o", library], check=True)
+    library = f"{folder}/failing.so"
+    subprocess.run([compiler, "-shared", "-fPIC", "-O1", "-nostdlib", f"{TOOLS}/failing.c", "-o", library], check=True)
     return library
+
+
+class Lines(Trials):
+    """The program olk_cli, which is given eight lines of each case: all four asks, with either answer for matches that are
+    left unfinished."""
+
+    crate = "olk_cli"
+
+    def given(self, schema, instance):
+        asked = [{"ask": ask, "schema": schema, "instance": instance} for ask in ASKS]
+        return "".join(f"{compact({**it, 'unfinished': answer})}\n" for it in asked for answer in (False, True))
+
+    def fault_of_full(self, full, given):
+        if full.status or len(full.lines) != given.count("\n"):
+            return f"status {full.status} after {len(full.lines)} lines"
+        return None
