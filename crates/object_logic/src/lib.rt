@@ -74,6 +74,6 @@ pub use olk_tree::property_names::{
     PropertyNames, PropertyNamesFalse as PropertyNamesBooleanValidator,
 };
 pub use olk_tree::{
-    BigMap, Body, DeclaredNames, HashedNames, KeywordOver, Means, Place, PropertiesValidatorsMap,
-    Reports, RequiredValidator, SmallMap, SortedNames, pattern_table, properties_map,
+    BigMap, Body, KeywordOver, Means, Place, PropertiesValidatorsMap, Reports, RequiredValidator,
+    SmallMap, SortedNames, pattern_table, properties_map,
 };

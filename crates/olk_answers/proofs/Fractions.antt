@@ -5,7 +5,7 @@ use Rattle.std.proofs.lemmas.List.Elements.{All-from_recursion, All-contains}
 use Rattle.serde_json.specs.Data.{Data, null, boolean, number, string, array, object, Items, no_items, item, Members, no_members, member}
 use Rattle.serde_json.specs.Written.{has_float, items_have_float, members_have_float}
 use Rattle.olk_spec.proofs.Walks.{neither}
-use Rattle.olk_spec.specs.Names.{Name, Path, ◌//◌, down, those, put_if}
+use Rattle.olk_spec.specs.Names.{Name, Path, ◌//◌, down, filter_once, put_if}
 use Rattle.olk_spec.specs.World.{World}
 use Rattle.olk_spec.specs.Vocabulary.{Keyword, properties, pattern_properties, additional_properties, property_names, required, dependent_required, dependent_schemas, dependencies, property_dependencies, all_of, any_of, one_of, not_keyword, if_keyword, then_keyword, else_keyword, unsupported, leaf, unread, keyword_named}
 use Rattle.olk_spec.specs.Schemas.{Sub, Part, Keywords, is_object, is_array, is_present, texts, read_members}
@@ -13,7 +13,7 @@ use Rattle.olk_spec.specs.Meanings.{is_conditional}
 use Rattle.olk_spec.specs.Asks.{open_patterns}
 use Rattle.olk_spec.specs.Faults.{Fault, SingleType, UniqueItems, Regex, string_type}
 use Rattle.olk_spec.specs.Malformed.{each, places_where, read_places, refusal, first_of_list, items_list, items_of_array, is_text, not_a_text, has_repeat, or_else_list, unless_object, unless_array, name_list_refusals, own_refusals, keyword_malformations, malformations_step, malformations_at, malformations}
-use Rattle.olk_spec.proofs.Each.{Each, Each-append, Each-those, Each-any, Each-map, Each-flat_map, Each-implies}
+use Rattle.olk_spec.proofs.Each.{Each, Each-append, Each-filter_once, Each-any, Each-map, Each-flat_map, Each-implies}
 use Rattle.olk_spec.proofs.Induction.{schema_read, EachItem, EachMember, GoodEntry, GoodInner, GoodPart, GoodSchema, sound_answer, branches_good}
 use Rattle.olk_spec.specs.Texts.{prints_fraction}
 
@@ -61,7 +61,7 @@ places_good k S p h pattern_properties = each_good k p.entries h.1
 places_good k S p h additional_properties = where_good k (is_object p.whole.schema) _ (h.0, tt)
 places_good k S p h property_names = where_good k (is_object p.whole.schema) _ (h.0, tt)
 places_good k S p h dependent_schemas = each_good k p.entries h.1
-places_good k S p h dependencies = each_good k _ (Each-those (GoodEntry Good) (λ e. not (is_array e.1.schema)) p.entries h.1)
+places_good k S p h dependencies = each_good k _ (Each-filter_once (GoodEntry Good) (λ e. not (is_array e.1.schema)) p.entries h.1)
 places_good k S p h property_dependencies = Each-flat_map GoodPlace _ p.inner (Each-implies (GoodInner Good) _ (λ e g. inner_good k e.0 e.1 g) p.inner h.2)
 places_good k S p h all_of = each_good k _ (branches_good Good p h)
 places_good k S p h any_of = each_good k _ (branches_good Good p h)
@@ -103,7 +103,7 @@ items_plain (array ds) h = list_plain ds h
 items_plain (object ms) h = tt
 
 not_text_prints : (d : Data) (P : Path) → IsPlain d → Each PrintsNone (not_a_text d P)
-not_text_prints d P h = Each-map PrintsNone (λ i. refusal (SingleType string_type) i P) _ (first_prints _ (Each-those IsPlain (λ i. not (is_text i)) (items_of_array d) (items_plain d h)))
+not_text_prints d P h = Each-map PrintsNone (λ i. refusal (SingleType string_type) i P) _ (first_prints _ (Each-filter_once IsPlain (λ i. not (is_text i)) (items_of_array d) (items_plain d h)))
 
 name_list_prints : (key : Name) (d : Data) (P : Path) → IsPlain d → Each PrintsNone (name_list_refusals key d P)
 name_list_prints key d P h =
@@ -115,7 +115,7 @@ module _ (W : World) where
   own_prints k p P h properties = put_prints _ _ h.0.0
   own_prints k p P h pattern_properties =
       Each-append PrintsNone (unless_object p.whole.schema P) _ (put_prints _ _ h.0.0)
-      (Each-map PrintsNone (λ t. refusal Regex (string t) (P // t)) _ (Each-any _ (λ t. refl) (those (λ t. not (W.builds t)) (open_patterns W p))))
+      (Each-map PrintsNone (λ t. refusal Regex (string t) (P // t)) _ (Each-any _ (λ t. refl) (filter_once (λ t. not (W.builds t)) (open_patterns W p))))
   own_prints k p P h additional_properties = put_prints _ _ h.0.0
   own_prints k p P h required = Each-append PrintsNone (unless_array p.whole.schema P) _ (put_prints _ _ h.0.0) (not_text_prints p.whole.schema P h.0.0)
   own_prints k p P h dependent_required =

@@ -5,7 +5,7 @@ use Rattle.std.specs.List.{flat_map}
 use Rattle.std.proofs.lemmas.List.Elements.{All-from_recursion, All-contains}
 use Rattle.serde_json.specs.Data.{Data, null, boolean, number, string, array, object, Members, no_members, member}
 use Rattle.serde_json.specs.Written.{has_float, members_have_float}
-use Rattle.olk_spec.specs.Names.{Name, Path, ◌//◌, down, those, put_if, is_empty, lookup}
+use Rattle.olk_spec.specs.Names.{Name, Path, ◌//◌, down, filter_once, put_if, is_empty, lookup_name}
 use Rattle.olk_spec.specs.World.{World}
 use Rattle.olk_spec.specs.Vocabulary.{Keyword, properties, pattern_properties, additional_properties, property_names, required, dependent_required, dependent_schemas, dependencies, property_dependencies, all_of, any_of, one_of, not_keyword, if_keyword, then_keyword, else_keyword, unsupported, leaf, unread, keyword_named}
 use Rattle.olk_spec.specs.Schemas.{keywords, Part, Keywords, members, listed, has, is_object, is_array, is_truth, texts, names, names_at, entries_at, wholes_at, branches, read_members}
@@ -17,7 +17,7 @@ use Rattle.olk_spec.specs.Reports.{fault_if, required_faults, unexpected_faults,
 use Rattle.olk_spec.specs.Texts.{prints_fraction, kind_prints_fraction}
 use Rattle.olk_spec.specs.Tree.{Tree, node, leaf_node, Trees, no_tree, and_tree, Described, described, result_node, result, plain, erring, trees_from, errors, errors_of}
 use Rattle.olk_spec.specs.Trees.{declared_trees, pattern_trees, missing_child, additional_trees, branch_trees, asked_trees, properties_child, patterns_child, additional_child, names_child, dependency_tree, any_of_child, one_of_child, case_trees, if_child, keyword_child, where_so, matched_names, additional_names, on_objects, has_patterns, declares, fuses_one, fuses_two}
-use Rattle.olk_spec.proofs.Each.{Each, Each-append, Each-those, Each-any, Each-map, Each-flat_map, Each-implies, Each-option, On-lookup}
+use Rattle.olk_spec.proofs.Each.{Each, Each-append, Each-filter_once, Each-any, Each-map, Each-flat_map, Each-implies, Each-option, On-lookup_name}
 use Rattle.olk_spec.proofs.Induction.{schema_read, GoodSub, GoodEntry, GoodPart, GoodKeywords, GoodSchema, sound_answer, branches_good, entries_at_good, wholes_at_good}
 use Rattle.olk_spec.proofs.Applied.{GoodAsked, applied_good}
 use Rattle.olk_answers.specs.Evaluated.{IsPromised}
@@ -111,7 +111,7 @@ module _ (W : World) (u : Bool) where
     own_prints : (w : Keyword) → Each PrintsNone (own W u S k p v P Q w)
     own_prints additional_properties =
         Each-flat_map PrintsNone (λ s. unexpected_faults (has_neighbour S) (additional S W u v) v (P // k) Q) (put_if (is_truth false p.whole.schema) p.whole [])
-        (Each-any _ (λ s. unexpected_prints (has_neighbour S) (additional S W u v) v (P // k) Q (Each-those (λ m. IsPlain m.1) _ (members v) (members_plain v fine))) (put_if (is_truth false p.whole.schema) p.whole []))
+        (Each-any _ (λ s. unexpected_prints (has_neighbour S) (additional S W u v) v (P // k) Q (Each-filter_once (λ m. IsPlain m.1) _ (members v) (members_plain v fine))) (put_if (is_truth false p.whole.schema) p.whole []))
     own_prints property_names =
         Each-append PrintsNone (flat_map (λ s. flat_map (λ m. map (wrapped v Q) (s.answer.report (string m.0) (P // k) Q)) (members v)) (put_if (is_object p.whole.schema) p.whole [])) _
         (Each-flat_map PrintsNone (λ s. flat_map (λ m. map (wrapped v Q) (s.answer.report (string m.0) (P // k) Q)) (members v)) (put_if (is_object p.whole.schema) p.whole [])
@@ -154,15 +154,15 @@ module _ (W : World) (u : Bool) where
   module _ (S : Keywords Meaning) (g : GoodKeywords Good S) (v : Data) (fine : IsPlain v) (P Q : Path) where
     declared_plain : (m : Name × Data) → IsPlain m.1 → Each PlainTree (declared_trees W u S v P Q m)
     declared_plain m h =
-        Each-map PlainTree (λ s. s.answer.tree m.1 (P // codes "properties" // m.0) (Q // m.0)) (option_to_list (lookup m.0 (entries_at S (codes "properties"))))
+        Each-map PlainTree (λ s. s.answer.tree m.1 (P // codes "properties" // m.0) (Q // m.0)) (option_to_list (lookup_name m.0 (entries_at S (codes "properties"))))
         (Each-implies (GoodSub Good) _ (λ s c. c.2 m.1 h _ _) _
-        (Each-option (GoodSub Good) (lookup m.0 (entries_at S (codes "properties"))) (On-lookup (GoodSub Good) m.0 (entries_at S (codes "properties")) (entries_at_good Good S g (codes "properties")))))
+        (Each-option (GoodSub Good) (lookup_name m.0 (entries_at S (codes "properties"))) (On-lookup_name (GoodSub Good) m.0 (entries_at S (codes "properties")) (entries_at_good Good S g (codes "properties")))))
 
     pattern_plain : (m : Name × Data) → IsPlain m.1 → Each PlainTree (pattern_trees W u S v P Q m)
     pattern_plain m h =
         Each-map PlainTree (λ e. e.1.answer.tree m.1 (P // codes "patternProperties" // e.0) (Q // m.0)) (matching S W u m.0)
         (Each-implies (GoodEntry Good) _ (λ e c. c.2 m.1 h _ _) (matching S W u m.0)
-        (Each-those (GoodEntry Good) (λ e. matches W u e.0 m.0) (entries_at S (codes "patternProperties")) (entries_at_good Good S g (codes "patternProperties"))))
+        (Each-filter_once (GoodEntry Good) (λ e. matches W u e.0 m.0) (entries_at S (codes "patternProperties")) (entries_at_good Good S g (codes "patternProperties"))))
 
     missing_plain : (b : Bool) → Each PlainTree (missing_child W u S v P Q b)
     missing_plain b = put_each PlainTree _ _ (erring_plain (P // codes "required") Q _ (required_prints (names_at S (codes "required")) v (P // codes "required") Q))
@@ -173,8 +173,8 @@ module _ (W : World) (u : Bool) where
 
       branches_plain : (test : Subschema → Bool) → Each PlainTree (branch_trees W u S v P Q k p test)
       branches_plain test =
-          Each-map PlainTree (λ b. b.1.answer.tree v (P // k // b.0) Q) (those (λ b. test b.1) (branches p))
-          (Each-implies (GoodEntry Good) _ (λ b c. c.2 v fine _ _) (those (λ b. test b.1) (branches p)) (Each-those (GoodEntry Good) (λ b. test b.1) (branches p) (branches_good Good p h)))
+          Each-map PlainTree (λ b. b.1.answer.tree v (P // k // b.0) Q) (filter_once (λ b. test b.1) (branches p))
+          (Each-implies (GoodEntry Good) _ (λ b c. c.2 v fine _ _) (filter_once (λ b. test b.1) (branches p)) (Each-filter_once (GoodEntry Good) (λ b. test b.1) (branches p) (branches_good Good p h)))
 
       asked_plain : (w : Keyword) → Each PlainTree (asked_trees W u S v P Q k p w)
       asked_plain w =
@@ -188,12 +188,12 @@ module _ (W : World) (u : Bool) where
       each_member_plain f c = Each-flat_map PlainTree f (members v) (Each-implies (λ m. IsPlain m.1) (λ m. Each PlainTree (f m)) c (members v) (members_plain v fine))
 
       properties_plain : Each PlainTree (properties_child W u S v P Q k p)
-      properties_plain = put_each PlainTree _ _ (result_plain (P // k) Q (on_objects W u S v P Q true (map (λ m. m.0) (those (λ m. is_declared S m.0) (members v)))) false [] _ tt
+      properties_plain = put_each PlainTree _ _ (result_plain (P // k) Q (on_objects W u S v P Q true (map (λ m. m.0) (filter_once (λ m. is_declared S m.0) (members v)))) false [] _ tt
           (Each-append PlainTree (flat_map (declared_trees W u S v P Q) (members v)) _ (each_member_plain _ declared_plain) (missing_plain (fuses_two S))))
 
       patterns_plain : Each PlainTree (patterns_child W u S v P Q k p)
       patterns_plain = put_each PlainTree _ _
-          (result_plain (P // k) Q (on_objects W u S v P Q true (flat_map (λ e. map (λ m. m.0) (those (λ m. matches W u e.0 m.0) (members v))) p.entries)) false [] _ tt (asked_plain pattern_properties))
+          (result_plain (P // k) Q (on_objects W u S v P Q true (flat_map (λ e. map (λ m. m.0) (filter_once (λ m. matches W u e.0 m.0) (members v))) p.entries)) false [] _ tt (asked_plain pattern_properties))
 
       additionals_plain : Each PlainTree (additional_child W u S v P Q k p)
       additionals_plain = put_each PlainTree _ _ (result_plain (P // k) Q shown_names false _ _ (own_told additional_properties)
@@ -250,7 +250,7 @@ module _ (W : World) (u : Bool) where
       child_plain required = put_each PlainTree _ _ (erring_plain (P // k) Q _ (required_prints (names p) v (P // k) Q))
       child_plain dependent_required = (plain_plain (P // k) Q _ (Each-map PlainTree (λ e. erring (P // k) Q (required_faults e.1 v (P // k) Q)) (due p v) (Each-any _ (λ e. erring_plain (P // k) Q _ (required_prints e.1 v (P // k) Q)) (due p v))), tt)
       child_plain dependent_schemas = (plain_plain (P // k) Q _ (asked_plain dependent_schemas), tt)
-      child_plain dependencies = (plain_plain (P // k) Q _ (Each-map PlainTree (dependency_tree W u S v P Q k p) (those (λ e. has e.0 v) p.entries) (Each-implies (GoodEntry Good) _ dependency_plain _ (Each-those (GoodEntry Good) (λ e. has e.0 v) p.entries h.1))), tt)
+      child_plain dependencies = (plain_plain (P // k) Q _ (Each-map PlainTree (dependency_tree W u S v P Q k p) (filter_once (λ e. has e.0 v) p.entries) (Each-implies (GoodEntry Good) _ dependency_plain _ (Each-filter_once (GoodEntry Good) (λ e. has e.0 v) p.entries h.1))), tt)
       child_plain property_dependencies = (plain_plain (P // k) Q _ (asked_plain property_dependencies), tt)
       child_plain all_of = (plain_plain (P // k) Q _ (asked_plain all_of), tt)
       child_plain any_of = (any_of_plain, tt)

@@ -1,10 +1,13 @@
 //! What a schema is asked about.
-ghost use Rattle.std.specs.Prelude.{◌≡◌, option_map};
+ghost use Rattle.std.specs.Prelude.{◌≡◌, IfOk, option_map, string_bytes};
 ghost use Rattle.olk_base.specs.Nodes.{data_of, type_of};
 ghost use Rattle.serde_json.specs.Find.{as_object};
+ghost use Rattle.serde_json.specs.Data.{string};
 ghost use Rattle.serde_json.specs.View.{members_view};
+ghost use Rattle.serde_json.specs.Written.{compact_text};
 
 use serde_json::{Map, Value};
+use std::alloc::{AllocError, Global};
 
 /// The six types of JSON values (JSON Schema 2020-12 Core, 4.2.1). A whole number is a number.
 #[derive(Debug, Clone, Copy, PartialEq, Eq)]
@@ -59,4 +62,16 @@ impl<'a> Node<'a> {
             Node::Name(_) => JsonType::String,
         }
     }
+}
+
+/// The text as JSON, in quotes (RFC 8259, section 7).
+///
+/// # Errors
+///
+/// Out of memory.
+pub fn quoted_text(alloc: Global, text: &str) -> Result<String, AllocError>
+    ensures { IfOk result (λ s. string_bytes s ≡ compact_text (string text.now)) }
+{
+    let value = Value::String(String::from_str(alloc, text)?);
+    value.to_string(alloc)
 }

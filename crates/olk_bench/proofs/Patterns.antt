@@ -6,6 +6,7 @@ use Rattle.std.specs.Str.Pattern.{FindsTextPrefix, StripsPrefix}
 use Rattle.std.proofs.lemmas.Str.Pattern.{starts_text}
 use Rattle.std.proofs.lemmas.Bool.Decides.{same_from_decides, Decides-eqb}
 use Rattle.std.proofs.lemmas.Slice.Eq.{starts_is}
+use Rattle.olk_spec.proofs.Truth.{or_from}
 use Rattle.olk_spec.specs.Bench.{is_in}
 
 starts_here : (t n : List ℕ) → starts_with nat_eq n t ≡ true → HasSubslice n t
@@ -26,16 +27,12 @@ is_in-stands [] [] h = ([], [], refl)
 is_in-stands (c ∷ t) [] h = absurd (true≢false (sym h))
 is_in-stands t (b ∷ n) h = here_or_further t n b _ _ (starts_here t (b ∷ n)) (is_in-stands t n) h
 
-or_right : (a b : Bool) → b ≡ true → (a || b) ≡ true
-or_right true b e = refl
-or_right false b e = e
-
 stands-is_in : (t n before after : List ℕ) → n ≡ before ++ (t ++ after) → is_in t n ≡ true
 stands-is_in [] [] before after e = refl
 stands-is_in (c ∷ t) [] [] after e = cc
 stands-is_in (c ∷ t) [] (d ∷ before) after e = cc
 stands-is_in t (b ∷ n) [] after e = rw (starts_when t (b ∷ n) after e) refl
-stands-is_in t (b ∷ n) (d ∷ before) after e = or_right (starts_with nat_eq (b ∷ n) t) (is_in t n) (stands-is_in t n before after cc)
+stands-is_in t (b ∷ n) (d ∷ before) after e = or_from (starts_with nat_eq (b ∷ n) t) (is_in t n) (stands-is_in t n before after cc)
 
 pub is_in-subslice : (r : Bool) (t n : List ℕ) → (r ≡ true) ↔ HasSubslice n t → r ≡ is_in t n
 is_in-subslice r t n h = same_from_decides {P = HasSubslice n t} r (is_in t n) h (is_in-stands t n, λ s. stands-is_in t n s.0 s.1 s.2)

@@ -10,8 +10,8 @@ ghost use Rattle.olk_bench.specs.Numbers.{num_of, whole_in};
 ghost use Rattle.olk_bench.specs.Leaves.{kind_name, constant_value, leaf_name, leaf_finds, leaf_text};
 
 use crate::numbers::{Divisor, WholeNumber};
-use crate::texts::{compared_text, digits, quoted_text, shown_text};
-use olk_base::{JsonType, Leaf, Node};
+use crate::texts::{compared_text, digits, shown_text};
+use olk_base::{JsonType, Leaf, Node, quoted_text};
 use serde_json::Value;
 use std::alloc::{AllocError, Global};
 

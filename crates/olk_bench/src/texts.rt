@@ -8,7 +8,7 @@ ghost use Rattle.olk_spec.specs.Bench.{shown};
 ghost use Rattle.olk_bench.specs.Numbers.{num_of};
 
 use crate::numbers::WholeNumber;
-use olk_base::Node;
+use olk_base::{Node, quoted_text};
 use serde_json::{Map, Value};
 use std::alloc::{AllocError, Global};
 
@@ -46,14 +46,6 @@ fn members_have_fraction(members: &Map<String, Value>) -> bool
         }
     }
     false
-}
-
-/// The text as JSON.
-pub(crate) fn quoted_text(alloc: Global, text: &str) -> Result<String, AllocError>
-    ensures { IfOk result (λ s. string_bytes s ≡ compact_text (string text.now)) }
-{
-    let value = Value::String(String::from_str(alloc, text)?);
-    value.to_string(alloc)
 }
 
 /// The value as JSON, and `value` where it has a number that is not whole.

@@ -1,5 +1,5 @@
 -- What is built so far, and one more.
-use Rattle.std.specs.Prelude.{◌≡◌, ◌<◌, ◌≤◌, ◌+◌, ℕ, Bool, true, false, is_some, List, [], ◌∷◌, ◌++◌, map, drop, length, decimal, slice_index_or as get_or}
+use Rattle.std.specs.Prelude.{◌≡◌, ◌<◌, ◌≤◌, ◌+◌, ℕ, Bool, true, false, is_some, List, [], ◌∷◌, ◌++◌, map, drop, length, decimal, slice_index_or as get_or, Vec}
 use Rattle.std.specs.List.{flat_map, enumerate_from}
 use Rattle.std.proofs.Common.{refl, sym, ◌∙◌, ap, subst, arith, true≢false}
 use Rattle.std.proofs.lemmas.List.{append-nil, append_assoc, drop_more, drop_all}
@@ -22,9 +22,9 @@ use Rattle.olk_reports.specs.declared.error.BuildError.TheVariants.{Memory}
 use Rattle.std.specs.declared.alloc.AllocError.{AllocError}
 use mathlib.Core.Path.{subst₂}
 use Rattle.olk_base.specs.Kit.{Kit}
-use Rattle.olk_tree.specs.Places.{Answers, AnswersBy, Stands}
+use Rattle.olk_tree.specs.Answers.{Answers}
+use Rattle.olk_tree.specs.Places.{AnswersBy, Stands}
 use Rattle.olk_members.specs.Members.{member_malformations, member_cost}
-use Rattle.std.specs.Prelude.{Vec}
 use Rattle.std.specs.declared.alloc.Global.{Global}
 use Rattle.olk_spec.specs.World.{World}
 use Rattle.olk_read.specs.Refusing.{Spends, TellsOneOf, Refuses}

@@ -1,7 +1,6 @@
 -- The parts of a schema object: each is built, or why there is none.
-use Rattle.std.specs.Prelude.{◌≡◌, true, false, List, [], ◌∷◌, ◌++◌, map, codes}
+use Rattle.std.specs.Prelude.{◌≡◌, true, false, List, [], ◌∷◌, ◌++◌, map, codes, Vec}
 use Rattle.std.specs.List.{flat_map}
-use Rattle.std.specs.Prelude.{Vec}
 use Rattle.std.specs.declared.alloc.Global.{Global}
 use Rattle.std.proofs.Common.{refl, sym, ◌∙◌, ap, subst}
 use mathlib.Core.Bool.{true≢false}
@@ -35,7 +34,7 @@ use Rattle.olk_members.proofs.PatternProperties.{pattern_properties_places, patt
 use Rattle.olk_members.proofs.Claims.{present_each}
 use Rattle.olk_build.specs.Placing.{places_malformed, places_cost, PlacesAreBuilt, PartsAreBuilt, IsPart}
 use Rattle.olk_make.specs.Standing.{StandAt, PartStands, PartsStand}
-use Rattle.olk_tree.specs.Places.{Answers}
+use Rattle.olk_tree.specs.Answers.{Answers}
 use Rattle.olk_make.specs.declared.part.Part.{Part}
 use Rattle.olk_read.specs.declared.shape.Shape.{Shape}
 use Rattle.olk_read.specs.declared.shape.Shape.TheVariants as shape

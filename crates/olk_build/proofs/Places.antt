@@ -5,6 +5,7 @@ use Rattle.std.specs.declared.alloc.AllocError.{AllocError}
 use Rattle.std.specs.BTreeMap.{BTreeMap}
 use Rattle.std.proofs.Common.{refl, sym, ap, subst, rules}
 use Rattle.std.proofs.lemmas.Result.{IfOk-weaker}
+use Rattle.olk_read.proofs.Shapes.{rolled}
 use mathlib.Core.Path.{subst₂}
 use Rattle.serde_json.specs.Data.{Data}
 use Rattle.serde_json.specs.View.{view}
@@ -18,7 +19,7 @@ use Rattle.olk_base.specs.Count.{Counts}
 use Rattle.olk_reports.specs.declared.error.BuildError.{BuildError}
 use Rattle.olk_reports.specs.declared.error.BuildError.TheVariants.{Memory}
 use Rattle.olk_base.specs.Kit.{Kit}
-use Rattle.olk_tree.specs.Places.{Answers}
+use Rattle.olk_tree.specs.Answers.{Answers}
 use Rattle.olk_read.specs.Refusing.{Spends}
 use Rattle.olk_read.specs.declared.shape.ReadPlaces.{ReadPlaces}
 use Rattle.olk_read.specs.declared.shape.ReadPlaces.TheVariants.{Nothing, Itself, Entries, SchemaEntries, InnerEntries, Branches}
@@ -28,9 +29,6 @@ use Rattle.olk_build.specs.Building.{IsBuilt, AreBuilt, InnerAreBuilt, RefusesSc
 use Rattle.olk_build.specs.Placing.{PlacesAreBuilt, RefusesPlaces}
 
 -- ---- values that are no object, and no array
-
-rolled : (v : Value) → roll-Value (out-Value v) ≡ v
-rolled v = search (rules, the_lemmas)
 
 no_members_layer : (x : Value-F Value) → ((m : BTreeMap (String Global) Value) → roll-Value x ≡ Object m → ⊥) → members (view (roll-Value x)) ≡ []
 no_members_layer (Value-F.Object m) h = absurd (h m (rolls-Object m))

@@ -2,7 +2,7 @@
 use Rattle.std.specs.Prelude.{◌≡◌, Bool, true, false, not, List, [], ◌++◌}
 use Rattle.std.specs.List.{flat_map}
 use Rattle.serde_json.specs.Data.{Data, Members}
-use Rattle.olk_spec.specs.Names.{Name, Path, ◌//◌, those}
+use Rattle.olk_spec.specs.Names.{Name, Path, ◌//◌, filter_once}
 use Rattle.olk_spec.specs.Faults.{Fault}
 use Rattle.olk_spec.specs.Schemas.{listed, members, is_array}
 use Rattle.olk_spec.specs.Costs.{Cost, cost, total_cost, ◌⊕◌}
@@ -11,7 +11,8 @@ use Rattle.olk_base.specs.Count.{Counts}
 use Rattle.olk_reports.specs.declared.error.BuildError.{BuildError}
 use Rattle.olk_base.specs.Kit.{Kit}
 use Rattle.olk_base.specs.declared.pattern.CompiledPattern.{CompiledPattern}
-use Rattle.olk_tree.specs.Places.{Answers, Stands}
+use Rattle.olk_tree.specs.Answers.{Answers}
+use Rattle.olk_tree.specs.Places.{Stands}
 use Rattle.olk_members.specs.Conditions.{Known, is_restricted, IsKnown}
 use Rattle.olk_members.specs.Members.{member_malformations, member_cost}
 use Rattle.olk_read.specs.Refusing.{Spends, Refuses}
@@ -21,7 +22,7 @@ use Rattle.olk_make.specs.Standing.{EntriesStand}
 
 -- the entries that are no lists
 abbrev pub no_lists : List (Name × Data) → List (Name × Data)
-no_lists es = those (λ e. not (is_array e.1)) es
+no_lists es = filter_once (λ e. not (is_array e.1)) es
 
 -- the entries that are read as schemas, and whether one is: each, but for lists where these are passed over
 abbrev pub entries_read : Bool → List (Name × Data) → List (Name × Data)

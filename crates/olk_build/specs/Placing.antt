@@ -13,7 +13,7 @@ use Rattle.olk_members.specs.Conditions.{Known, known_of, IsKnown}
 use Rattle.olk_read.specs.Refusing.{Spends, Refuses}
 use Rattle.olk_build.specs.Building.{no_lists, each_malformed, each_cost, inner_malformed, inner_cost, all_cost}
 use Rattle.olk_make.specs.Holding.{all_malformed}
-use Rattle.olk_tree.specs.Places.{Answers}
+use Rattle.olk_tree.specs.Answers.{Answers}
 use Rattle.olk_read.specs.declared.shape.ReadPlaces.{ReadPlaces}
 use Rattle.olk_read.specs.declared.shape.ReadPlaces.TheVariants.{Nothing, Itself, Entries, SchemaEntries, InnerEntries, Branches}
 use Rattle.olk_make.specs.declared.part.Part.{Part}

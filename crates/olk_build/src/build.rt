@@ -13,11 +13,11 @@ ghost use Rattle.olk_read.specs.Refusing.{TellsOneOf, Spends, SpendsWithin};
 ghost use Rattle.olk_build.specs.Placing.{ObjectIsParted, IsPart, PlacesAreBuilt, RefusesPlaces};
 
 use crate::context::Context;
-use olk_base::{MakeLeaf, MakeRegex, Meter};
+use olk_base::{MakeLeaf, MakeRegex, Meter, append, append_all, one};
 use olk_make::{Part, make_keywords};
 use olk_members::Neighbours;
 use olk_paths::Location;
-use olk_read::{Makers, ReadPlaces, append, append_all, one, read_keyword, refuse};
+use olk_read::{Makers, ReadPlaces, read_keyword, refuse};
 use olk_reports::{BuildError, ValidationErrorKind};
 use olk_tree::node::Body;
 use olk_tree::place::Place;

@@ -49,7 +49,7 @@ fn big_map_line<N: Shown>(
     built: &Result<BigMap<N>, BuildError<'_>>,
 ) -> Result<String, AllocError> {
     match built {
-        Ok(map) => nodes_line(alloc, map.names.sorted(), map.nodes.as_slice()),
+        Ok(map) => nodes_line(alloc, &map.names, map.nodes.as_slice()),
         Err(error) => refused_line(alloc, error),
     }
 }

@@ -48,7 +48,7 @@ fn push_choices<N: Shown>(
 fn push_map<N: Shown>(text: &mut String, map: &PropertiesMap<N>) -> Result<(), AllocError> {
     match map {
         PropertiesMap::Small(map) => push_small_map(text, map),
-        PropertiesMap::Big(map) => push_nodes(text, map.names.sorted(), map.nodes.as_slice()),
+        PropertiesMap::Big(map) => push_nodes(text, &map.names, map.nodes.as_slice()),
     }
 }
 

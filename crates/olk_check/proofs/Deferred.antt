@@ -1,10 +1,10 @@
 -- Walks that put some questions off.
 use Rattle.std.proofs.Common.{◌≡◌, ◌+◌, Bool, true, false, ◌&&◌, List, [], ◌∷◌, ◌++◌, refl, sym, ap, subst, ◌∙◌, arith}
+use Rattle.std.proofs.Math.Bool.{and-true, and_comm, and-false}
 use Rattle.olk_base.specs.Lawful.{Asking}
 use Rattle.olk_tree.specs.Questions.{Question, always, both, every}
 use Rattle.olk_check.specs.Asks.{Asks}
 use Rattle.olk_check.proofs.Asked.{settles, unasked}
-use Rattle.olk_check.proofs.Present.{and_false}
 use Rattle.olk_check.proofs.Together.{both_where}
 use Rattle.olk_check.proofs.Walks.{both_go_on, both_stop}
 
@@ -13,20 +13,11 @@ and_around : (x y z : Bool) → (x && (y && z)) ≡ ((x && y) && z)
 and_around true y z = refl
 and_around false y z = refl
 
-and_true : (x : Bool) → (x && true) ≡ x
-and_true true = refl
-and_true false = refl
-
-and_turned : (x y : Bool) → (x && y) ≡ (y && x)
-and_turned true y = sym (and_true y)
-and_turned false true = refl
-and_turned false false = refl
-
 module _ {X : Type 0} (h : X → Question) where
   pushed_accepts : (x : X) (xs : List X) (u : Bool) → (every h (xs ++ x ∷ [])).accepts u ≡ ((h x).accepts u && (every h xs).accepts u)
   pushed_accepts x [] u = refl
   pushed_accepts x (y ∷ ys) u = ap (λ z. (h y).accepts u && z) (pushed_accepts x ys u) ∙ and_around ((h y).accepts u) ((h x).accepts u) ((every h ys).accepts u)
-      ∙ ap (λ z. z && (every h ys).accepts u) (and_turned ((h y).accepts u) ((h x).accepts u)) ∙ sym (and_around ((h x).accepts u) ((h y).accepts u) ((every h ys).accepts u))
+      ∙ ap (λ z. z && (every h ys).accepts u) (and_comm ((h y).accepts u) ((h x).accepts u)) ∙ sym (and_around ((h x).accepts u) ((h y).accepts u) ((every h ys).accepts u))
 
   pushed_asks : (x : X) (xs : List X) (u : Bool) → (every h (xs ++ x ∷ [])).asks u ≡ (h x).asks u + (every h xs).asks u
   pushed_asks x [] u = refl
@@ -38,13 +29,13 @@ pub record LeftAndHeld {Y X : Type 0} (f : Y → Question) (h : X → Question) 
 
 module _ {Y X : Type 0} {f : Y → Question} {h : X → Question} {all : List Y} where
   pub held_start : {a : Asking} → LeftAndHeld f h all all [] a a
-  held_start {a} = record { goes_on = λ t c r l. settles (both (every f all) t) r l (λ u e. e ∙ ap (λ z. z && t.accepts u) (and_true ((every f all).accepts u))) (λ u e. omega arith) }
+  held_start {a} = record { goes_on = λ t c r l. settles (both (every f all) t) r l (λ u e. e ∙ ap (λ z. z && t.accepts u) (and-true ((every f all).accepts u))) (λ u e. omega arith) }
 
   module _ {left : List Y} {held : List X} {a b : Asking} (w : LeftAndHeld f h all left held a b) where
     -- the other question decides alone, or what was put off does
     pub held_refused : {r p : Bool} → r ≡ p → r ≡ false → Asks a b (both (every f all) (always p)) r
     held_refused {r} {p} same not = w.goes_on (always p) b r (settles (both (both (every f left) (every h held)) (always p)) r (unasked b r)
-        (λ u e. not ∙ sym (and_false ((every f left).accepts u && (every h held).accepts u)) ∙ ap (λ z. ((every f left).accepts u && (every h held).accepts u) && z) (sym not ∙ same)) (λ u e. omega arith))
+        (λ u e. not ∙ sym (and-false ((every f left).accepts u && (every h held).accepts u)) ∙ ap (λ z. ((every f left).accepts u && (every h held).accepts u) && z) (sym not ∙ same)) (λ u e. omega arith))
 
     pub held_end : {xs : List X} {c : Asking} {r p : Bool} → left ≡ [] → xs ≡ held → Asks b c (every h xs) r → p ≡ true → Asks a c (both (every f all) (always p)) r
     held_end {xs} {c} {r} {p} none same l is = w.goes_on (always p) c r (subst (λ ys. Asks b c (both (both (every f ys) (every h held)) (always p)) r) (sym none)
@@ -58,7 +49,7 @@ module _ {Y X : Type 0} {f : Y → Question} {h : X → Question} {all : List Y}
       pub held_more : {now : List X} (x : X) → h x ≡ f y → now ≡ held ++ x ∷ [] → LeftAndHeld f h all rest now a b
       held_more {now} x same is = record {
         goes_on = λ t c r l. at_next t (settles (both (both (every f (y ∷ rest)) (every h held)) t) r (subst (λ xs. Asks b c (both (both (every f rest) (every h xs)) t) r) is l)
-            (λ u e. e ∙ ap (λ z. z && t.accepts u) (ap (λ z. R u && z) (pushed_accepts h x held u) ∙ and_around (R u) ((h x).accepts u) (H u) ∙ ap (λ z. z && H u) (and_turned (R u) ((h x).accepts u)) ∙ ap (λ q. (q.accepts u && R u) && H u) same))
+            (λ u e. e ∙ ap (λ z. z && t.accepts u) (ap (λ z. R u && z) (pushed_accepts h x held u) ∙ and_around (R u) ((h x).accepts u) (H u) ∙ ap (λ z. z && H u) (and_comm (R u) ((h x).accepts u)) ∙ ap (λ q. (q.accepts u && R u) && H u) same))
             (λ u e. let p = pushed_asks h x held u in let s = ap (λ q. q.asks u) same in omega arith));
       }
         where

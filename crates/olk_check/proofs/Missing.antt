@@ -6,7 +6,7 @@ use Rattle.serde_json.specs.Find.{as_object}
 use Rattle.olk_spec.specs.Names.{Name, put_if, is_empty}
 use Rattle.olk_spec.specs.Schemas.{has}
 use Rattle.olk_spec.specs.Accepts.{missing}
-use Rattle.olk_tree.specs.Answers.{texts_of}
+use Rattle.olk_tree.specs.Maps.{texts_of}
 
 -- of a list of names those before i are members
 pub record Lacks (names : List (String Global)) (i : ℕ) (ms : Members) : Type 0 where

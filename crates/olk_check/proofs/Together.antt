@@ -1,5 +1,6 @@
 -- What is asked of the members of an object, whose names are distinct, and of the names that it is to have.
 use Rattle.std.proofs.Common.{◌≡◌, Bool, true, false, ◌&&◌, cond, sym, ap, refl, ◌∙◌, arith}
+use Rattle.std.proofs.Math.Bool.{and-false}
 use Rattle.serde_json.specs.Data.{Data}
 use Rattle.olk_spec.specs.Names.{Name}
 use Rattle.olk_spec.specs.World.{Says}
@@ -8,7 +9,6 @@ use Rattle.olk_tree.specs.Questions.{Question, always, both}
 use Rattle.olk_tree.specs.Additional.{Sides, repeats, means_in_turn, named_means, additional_means}
 use Rattle.olk_check.specs.Asks.{Asks}
 use Rattle.olk_check.proofs.Asked.{settles, unasked}
-use Rattle.olk_check.proofs.Present.{and_false}
 
 module _ {R N : Type 0} (answers : R → Name → Says) (costs : R → Bool) (m : N → Data → Question) (S : Sides R N) (v : Data) where
   -- where no name is repeated, it is asked member by member
@@ -28,11 +28,11 @@ pub condition_and : {a b : Asking} {q : Question} {r p : Bool} → r ≡ p → A
 condition_and {q = q} {r = r} {p = p} is h = settles (both (always p) q) r h (λ u e. is ∙ and_true p ∙ ap (λ z. p && z) e) (λ u e. omega arith)
 
 pub condition_and_refused : {a b : Asking} {q : Question} (p : Bool) → Asks a b q false → Asks a b (both (always p) q) false
-condition_and_refused {q = q} p h = settles (both (always p) q) false h (λ u e. sym (and_false p) ∙ ap (λ z. p && z) e) (λ u e. omega arith)
+condition_and_refused {q = q} p h = settles (both (always p) q) false h (λ u e. sym (and-false p) ∙ ap (λ z. p && z) e) (λ u e. omega arith)
 
 pub and_condition : {a b : Asking} {q : Question} {r p : Bool} → r ≡ p → Asks a b q true → Asks a b (both q (always p)) r
 and_condition {q = q} {r = r} {p = p} is h = settles (both q (always p)) r h (λ u e. is ∙ ap (λ z. z && p) e) (λ u e. omega arith)
 
 -- a condition that does not hold, beside a question that is not asked
 pub refused_where : (a : Asking) (q : Question) {p : Bool} → p ≡ false → Asks a a (both q (always p)) false
-refused_where a q {p = p} is = settles (both q (always p)) false (unasked a false) (λ u e. sym (and_false (q.accepts u)) ∙ ap (λ z. q.accepts u && z) (sym is)) (λ u e. omega arith)
+refused_where a q {p = p} is = settles (both q (always p)) false (unasked a false) (λ u e. sym (and-false (q.accepts u)) ∙ ap (λ z. q.accepts u && z) (sym is)) (λ u e. omega arith)

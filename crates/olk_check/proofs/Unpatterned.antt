@@ -1,19 +1,21 @@
 -- Members that declared names and the rest speak of, and no patterns.
-use Rattle.std.proofs.Common.{◌≡◌, ℕ, ◌+◌, ◌<◌, length, Bool, true, false, ◌&&◌, List, [], ◌∷◌, map, Option, Some, None, option_map, refl, sym, ap, subst, ◌∙◌, is_some, arith}
-use Rattle.std.specs.List.{enumerate_from}
+use Rattle.std.proofs.Common.{◌≡◌, ℕ, ◌+◌, ◌<◌, length, Bool, true, false, List, [], ◌∷◌, map, Option, Some, None, option_map, refl, sym, ap, subst, ◌∙◌, is_some, arith}
+use Rattle.std.specs.List.{enumerate_from, zip}
 use denote.Ref.{Bor}
 use mathlib.Core.Bool.{true≢false}
 use Rattle.std.specs.Option.{option_copied}
+use Rattle.std.proofs.Math.Bool.{and-true}
+use Rattle.olk_members.proofs.Facts.{nothing_first, nothing_last}
 use Rattle.serde_json.specs.Data.{Data}
-use Rattle.olk_spec.specs.Names.{Name, lookup}
+use Rattle.olk_spec.specs.Names.{Name, lookup_name}
 use Rattle.olk_spec.specs.World.{Says}
 use Rattle.olk_spec.specs.Schemas.{members}
 use Rattle.olk_base.specs.Lawful.{Asking}
 use Rattle.olk_tree.specs.Questions.{Question, every}
 use Rattle.olk_tree.specs.Additional.{placed, rest_means, member_means, member_means_at, means_in_turn}
-use Rattle.olk_tree.specs.Answers.{beside, mapped, names_in, nodes_in}
+use Rattle.olk_tree.specs.Maps.{mapped, names_in, nodes_in}
 use Rattle.olk_tree.specs.declared.properties_map.PropertiesMap.{PropertiesMap}
-use Rattle.olk_tree.proofs.Maps.{lookup-beside}
+use Rattle.olk_tree.proofs.Maps.{lookup_name-zip}
 use Rattle.olk_tree.proofs.Crowded.{one_too_many}
 use Rattle.olk_tree.proofs.Merge.{Rising}
 use Rattle.olk_check.specs.Asks.{Asks}
@@ -27,9 +29,9 @@ nothing_else (Some r) e = absurd (true≢false e)
 module _ {N : Type 0} (m : N → Data → Question) where
   -- where nothing else is expected and members are more than declared names
   pub crowded : (rest : Option N) → None ≡ rest → (es : List (Name × N)) (ms : List (Name × Data)) → Rising es → Rising ms → length es < length ms
-      → (a : Asking) → Asks a a (every (λ x. declared_or_rest m rest x.1 (lookup x.0 es)) ms) false
-  crowded rest none es ms r s l a = subst (λ o. Asks a a (every (λ x. declared_or_rest m o x.1 (lookup x.0 es)) ms) false) none
-      (settles (every (λ x. declared_or_rest m None x.1 (lookup x.0 es)) ms) false (unasked a false) (λ u e. sym (one_too_many (λ o x. declared_or_rest m None x o) u (λ x. refl) es ms r s l)) (λ u e. omega arith))
+      → (a : Asking) → Asks a a (every (λ x. declared_or_rest m rest x.1 (lookup_name x.0 es)) ms) false
+  crowded rest none es ms r s l a = subst (λ o. Asks a a (every (λ x. declared_or_rest m o x.1 (lookup_name x.0 es)) ms) false) none
+      (settles (every (λ x. declared_or_rest m None x.1 (lookup_name x.0 es)) ms) false (unasked a false) (λ u e. sym (one_too_many (λ o x. declared_or_rest m None x o) u (λ x. refl) es ms r s l)) (λ u e. omega arith))
 
   module _ (rest : Option N) (x : Data) {o : Option N} {a b : Asking} {r : Bool} where
     -- the question about a name that was found, and about one that was not
@@ -44,26 +46,16 @@ module _ {N : Type 0} (m : N → Data → Question) where
     without_places i [] = refl
     without_places i (n ∷ ns) = ap (λ l. n ∷ l) (without_places (i + 1) ns)
 
-    and_true : (x : Bool) → (x && true) ≡ x
-    and_true true = refl
-    and_true false = refl
-
     module _ (p : PropertiesMap N) (rest : Option N) where
       at_declared : (d : Option (ℕ × N)) (n : Name) (x : Data) → member_means_at answers costs m (unpatterned p rest known) d n x ≡ declared_or_rest m rest x (option_map (λ f. f.1) d)
-      at_declared None n x = λ i. record { accepts = (rest_means m x rest).accepts; asks = λ u. nothing_before ((rest_means m x rest).asks u) i }
-        where
-          nothing_before : (k : ℕ) → 0 + k ≡ k
-          nothing_before k = omega arith
-      at_declared (Some f) n x = λ i. record { accepts = λ u. and_true ((m f.1 x).accepts u) i; asks = λ u. nothing_more ((m f.1 x).asks u) i }
-        where
-          nothing_more : (k : ℕ) → k + 0 ≡ k
-          nothing_more k = omega arith
+      at_declared None n x = λ i. record { accepts = (rest_means m x rest).accepts; asks = λ u. nothing_first ((rest_means m x rest).asks u) i }
+      at_declared (Some f) n x = λ i. record { accepts = λ u. and-true ((m f.1 x).accepts u) i; asks = λ u. nothing_last ((m f.1 x).asks u) i }
 
-      found_beside : (n : Name) → lookup n (mapped p) ≡ option_map (λ f. f.1) (lookup n (beside (names_in p) (placed (nodes_in p))))
-      found_beside n = ap (λ l. lookup n (beside (names_in p) l)) (sym (without_places 0 (nodes_in p))) ∙ lookup-beside (λ f. f.1) n (names_in p) (placed (nodes_in p))
+      found_zip : (n : Name) → lookup_name n (mapped p) ≡ option_map (λ f. f.1) (lookup_name n (zip (names_in p) (placed (nodes_in p))))
+      found_zip n = ap (λ l. lookup_name n (zip (names_in p) l)) (sym (without_places 0 (nodes_in p))) ∙ lookup_name-zip (λ f. f.1) n (names_in p) (placed (nodes_in p))
 
-      member_declared : (n : Name) (x : Data) → declared_or_rest m rest x (lookup n (mapped p)) ≡ member_means answers costs m (unpatterned p rest known) n x
-      member_declared n x = ap (declared_or_rest m rest x) (found_beside n) ∙ sym (at_declared (lookup n (beside (names_in p) (placed (nodes_in p)))) n x)
+      member_declared : (n : Name) (x : Data) → declared_or_rest m rest x (lookup_name n (mapped p)) ≡ member_means answers costs m (unpatterned p rest known) n x
+      member_declared n x = ap (declared_or_rest m rest x) (found_zip n) ∙ sym (at_declared (lookup_name n (zip (names_in p) (placed (nodes_in p)))) n x)
 
       -- where no patterns stand there
       pub unpatterned_means : (v : Data) → names_mean m (mapped p) rest v ≡ means_in_turn answers costs m (unpatterned p rest known) v

@@ -4,12 +4,11 @@ use denote.Ref.{Bor}
 use Rattle.serde_json.specs.Data.{Data}
 use Rattle.serde_json.specs.View.{view}
 use Rattle.serde_json.specs.declared.value.Value.{Value}
-use Rattle.olk_spec.specs.Names.{Name, lookup}
+use Rattle.olk_spec.specs.Names.{Name, lookup_name}
 use Rattle.olk_spec.specs.World.{Says}
 use Rattle.olk_spec.specs.Schemas.{members}
 use Rattle.olk_tree.specs.Questions.{Question, always, every}
-use Rattle.olk_tree.specs.Additional.{Sides, rest_means}
-use Rattle.olk_tree.specs.Answers.{mapped_places}
+use Rattle.olk_tree.specs.Additional.{Sides, rest_means, mapped_places}
 use Rattle.olk_tree.specs.declared.properties_map.PropertiesMap.{PropertiesMap}
 
 -- these declared names, no patterns, and this for the rest
@@ -23,7 +22,7 @@ module _ {N : Type 0} (m : N → Data → Question) where
   declared_or_rest rest x (Some n) = m n x
 
   abbrev pub names_mean : List (Name × N) → Option N → Data → Question
-  names_mean es rest v = every (λ x. declared_or_rest rest x.1 (lookup x.0 es)) (members v)
+  names_mean es rest v = every (λ x. declared_or_rest rest x.1 (lookup_name x.0 es)) (members v)
 
   -- what is held back
   abbrev pub held_means : Option (Bor N × Bor Value) → Question

@@ -4,12 +4,13 @@ ghost use Rattle.serde_json.specs.Data.{object};
 ghost use Rattle.serde_json.specs.View.{view, members_view};
 ghost use Rattle.olk_base.specs.Nodes.{data_of};
 ghost use Rattle.olk_tree.specs.Matched.{match_question};
-ghost use Rattle.olk_tree.specs.Additional.{known_or_asked, declared_means, patterns_mean_from, rest_means, member_means_at, means_in_turn, additional_means};
+ghost use Rattle.olk_tree.specs.Additional.{known_or_asked, declared_means, patterns_mean_from, rest_means, member_means_at, means_in_turn, additional_means, sides_of, required_text};
 ghost use Rattle.olk_spec.specs.Names.{is_empty};
 ghost use Rattle.olk_spec.specs.Accepts.{missing};
 ghost use Rattle.olk_spec.specs.Schemas.{has};
 ghost use Rattle.olk_tree.specs.Questions.{always, both, every};
-ghost use Rattle.olk_tree.specs.Answers.{beside, mapped, sides_of, required_text};
+ghost use Rattle.std.specs.List.{zip};
+ghost use Rattle.olk_tree.specs.Maps.{mapped};
 ghost use Rattle.olk_tree.specs.Tables.{known_says, table_says};
 ghost use Rattle.olk_tree.specs.Visited.{object_of};
 ghost use Rattle.olk_check.specs.Asks.{Asks};
@@ -176,11 +177,11 @@ fn declared_accept<M: PropertiesValidatorsMap<N>, N: IsValid>(
     ctx: &mut ValidationContext,
 ) -> Accepted
     ensures { AsksOne ctx.old ctx.new (both (names_mean N.means
-        (beside (M.names properties.now) (M.nodes properties.now))
+        (zip (M.names properties.now) (M.nodes properties.now))
         (option_copied rest.entry) (object_of members.now.entries)) (always (is_empty (missing
         (required_text required.now) (object_of members.now.entries))))) result }
 {
-    if rest.is_none() && members.len() > properties.names().sorted().len() {
+    if rest.is_none() && members.len() > properties.names().len() {
         return Accepted::None;
     }
     match (rest, required) {
@@ -200,7 +201,7 @@ fn declared_or_rest_accept<M: PropertiesValidatorsMap<N>, N: IsValid>(
     ctx: &mut ValidationContext,
 ) -> Accepted
     ensures { AsksOne ctx.old ctx.new (both (names_mean N.means
-        (beside (M.names properties.now) (M.nodes properties.now))
+        (zip (M.names properties.now) (M.nodes properties.now))
         (option_copied rest.entry) (object_of members.now.entries)) (always (is_empty (missing
         (required_text required.now) (object_of members.now.entries))))) result }
 {
@@ -218,7 +219,7 @@ fn each_declared<M: PropertiesValidatorsMap<N>, N: IsValid>(
     ctx: &mut ValidationContext,
 ) -> Accepted
     ensures { AsksOne ctx.old ctx.new (names_mean N.means
-        (beside (M.names properties.now) (M.nodes properties.now))
+        (zip (M.names properties.now) (M.nodes properties.now))
         None (object_of members.now.entries)) result }
 {
     Accepted::one_if(each_declared_or_rest(properties, members, None, ctx))
@@ -234,7 +235,7 @@ fn all_declared<M: PropertiesValidatorsMap<N>, N: IsValid>(
     ctx: &mut ValidationContext,
 ) -> Accepted
     ensures { AsksOne ctx.old ctx.new (both (names_mean N.means
-        (beside (M.names properties.now) (M.nodes properties.now))
+        (zip (M.names properties.now) (M.nodes properties.now))
         None (object_of members.now.entries)) (always (is_empty (missing
         (required.now ∷ []) (object_of members.now.entries))))) result }
 {
@@ -253,7 +254,7 @@ pub fn are_properties_valid<M: PropertiesValidatorsMap<N>, N: IsValid>(
     ctx: &mut ValidationContext,
 ) -> bool
     ensures { Asks ctx.old ctx.new (names_mean N.means
-        (beside (M.names properties.now) (M.nodes properties.now))
+        (zip (M.names properties.now) (M.nodes properties.now))
         (option_copied additional.entry) (object_of members.now.entries)) result }
 {
     each_declared_or_rest(properties, members, additional, ctx)
@@ -269,7 +270,7 @@ fn each_declared_or_rest<'a, M: PropertiesValidatorsMap<N>, N: IsValid>(
     ctx: &mut ValidationContext,
 ) -> bool
     ensures { Asks ctx.old ctx.new (names_mean N.means
-        (beside (M.names properties.now) (M.nodes properties.now))
+        (zip (M.names properties.now) (M.nodes properties.now))
         (option_copied additional.entry) (object_of members.now.entries)) result }
 {
     let mut hint = 0;
@@ -311,7 +312,7 @@ fn each_declared_with<M: PropertiesValidatorsMap<N>, N: IsValid>(
     ctx: &mut ValidationContext,
 ) -> bool
     ensures { Asks ctx.old ctx.new (both (names_mean N.means
-        (beside (M.names properties.now) (M.nodes properties.now))
+        (zip (M.names properties.now) (M.nodes properties.now))
         None (object_of members.now.entries)) (always (is_empty (missing
         (required.now ∷ []) (object_of members.now.entries))))) result }
 {

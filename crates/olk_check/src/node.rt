@@ -3,7 +3,8 @@ ghost use Rattle.olk_base.specs.Kit.{kit};
 ghost use Rattle.olk_base.specs.Nodes.{data_of};
 ghost use Rattle.std.specs.Prelude.{◌≡◌, ◌<◌, [], ◌∷◌, drop, length, IfSome};
 ghost use Rattle.serde_json.specs.Data.{Data};
-ghost use Rattle.olk_tree.specs.Answers.{validator_means, body_means};
+ghost use Rattle.olk_tree.specs.Validators.{validator_means};
+ghost use Rattle.olk_tree.specs.Bodies.{body_means};
 ghost use Rattle.olk_tree.specs.Questions.{always, every};
 ghost use Rattle.olk_spec.specs.Names.{is_empty};
 ghost use Rattle.olk_spec.specs.Accepts.{missing};
@@ -22,7 +23,7 @@ use olk_tree::node::{Body, KeywordOver};
 /// What the keyword asks of the value.
 impl<K: Leaf, R: RegexEngine, N: IsValid> IsValid for KeywordOver<K, R, N> {
     #[inline(always)]
-    #[tactic(auto, unfolding(olk_tree::specs::Answers::validator_means))]
+    #[tactic(auto, unfolding(olk_tree::specs::Validators::answers_of))]
     fn is_valid(&self, node: Node<'_>, ctx: &mut ValidationContext) -> bool {
         if let KeywordOver::Leaf(_, leaf) = self {
             return leaf.is_valid(node);
@@ -33,7 +34,7 @@ impl<K: Leaf, R: RegexEngine, N: IsValid> IsValid for KeywordOver<K, R, N> {
 
 /// Whether the keyword accepts the value; apart, so that a walk over leaves stays small.
 #[inline(never)]
-#[tactic(auto, unfolding(olk_tree::specs::Answers::validator_means))]
+#[tactic(auto, unfolding(olk_tree::specs::Validators::answers_of))]
 fn keyword_accepts<K: Leaf, R: RegexEngine, N: IsValid>(
     keyword: &KeywordOver<K, R, N>,
     node: Node<'_>,
@@ -136,7 +137,7 @@ fn behind_first<T>(items: &[T]) -> &[T]
 
 /// Whether the first keyword accepts the value, and perhaps the second too.
 #[inline(always)]
-#[tactic(auto, unfolding(olk_tree::specs::Answers::validator_means))]
+#[tactic(auto, unfolding(olk_tree::specs::Validators::answers_of))]
 fn first_accept<K: Leaf, R: RegexEngine, N: IsValid>(
     keywords: &[KeywordOver<K, R, N>],
     node: Node<'_>,

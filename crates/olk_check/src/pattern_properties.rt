@@ -5,7 +5,7 @@ ghost use Rattle.serde_json.specs.View.{view};
 ghost use Rattle.olk_spec.specs.Schemas.{at};
 ghost use Rattle.olk_tree.specs.Questions.{always, conditional, every};
 ghost use Rattle.olk_tree.specs.Matched.{match_question};
-ghost use Rattle.olk_tree.specs.Answers.{matched_mean, patterns_mean};
+ghost use Rattle.olk_tree.specs.PatternProperties.{matched_mean, patterns_mean};
 ghost use Rattle.olk_tree.specs.Visited.{object_of};
 ghost use Rattle.olk_check.specs.Asks.{Asks};
 

@@ -2,11 +2,13 @@
 ghost use Rattle.std.specs.Prelude.{[], ◌∷◌, option_copied, option_to_list};
 ghost use Rattle.serde_json.specs.View.{view, members_view};
 ghost use Rattle.olk_base.specs.Nodes.{data_of};
-ghost use Rattle.olk_spec.specs.Names.{lookup, is_empty};
+ghost use Rattle.olk_spec.specs.Names.{lookup_name, is_empty};
 ghost use Rattle.olk_spec.specs.Accepts.{missing};
 ghost use Rattle.olk_spec.specs.Schemas.{listed};
 ghost use Rattle.olk_tree.specs.Questions.{always, both, every};
-ghost use Rattle.olk_tree.specs.Answers.{beside, mapped, named, properties_mean, two_texts};
+ghost use Rattle.std.specs.List.{zip};
+ghost use Rattle.olk_tree.specs.Maps.{mapped, named, two_texts};
+ghost use Rattle.olk_tree.specs.Properties.{properties_mean};
 ghost use Rattle.olk_tree.specs.Visited.{object_of};
 ghost use Rattle.olk_check.specs.Asks.{Asks};
 ghost use Rattle.olk_check.specs.Together.{AsksOne, AsksTwo};
@@ -101,7 +103,7 @@ fn members_accepted<M: PropertiesValidatorsMap<N>, N: IsValid>(
     ctx: &mut ValidationContext,
 ) -> Accepted
     ensures { AsksOne ctx.old ctx.new (properties_mean N.means
-        (beside (M.names properties.now) (M.nodes properties.now))
+        (zip (M.names properties.now) (M.nodes properties.now))
         (object_of members.now.entries)) result }
 {
     Accepted::one_if(all_accepted(properties, members, ctx))
@@ -117,7 +119,7 @@ fn members_accepted_with<M: PropertiesValidatorsMap<N>, N: IsValid>(
     ctx: &mut ValidationContext,
 ) -> Accepted
     ensures { AsksTwo ctx.old ctx.new (properties_mean N.means
-        (beside (M.names properties.now) (M.nodes properties.now))
+        (zip (M.names properties.now) (M.nodes properties.now))
         (object_of members.now.entries))
         (always (is_empty (missing (name.now ∷ []) (object_of members.now.entries)))) result }
 {
@@ -151,10 +153,10 @@ fn all_accepted<M: PropertiesValidatorsMap<N>, N: IsValid>(
     ctx: &mut ValidationContext,
 ) -> bool
     ensures { Asks ctx.old ctx.new (properties_mean N.means
-        (beside (M.names properties.now) (M.nodes properties.now))
+        (zip (M.names properties.now) (M.nodes properties.now))
         (object_of members.now.entries)) result }
 {
-    if members.len() / 2 <= properties.names().sorted().len() {
+    if members.len() / 2 <= properties.names().len() {
         each_member_accepted(properties, members, ctx)
     } else {
         each_name_accepted(properties, members, ctx)
@@ -169,7 +171,7 @@ fn each_member_accepted<M: PropertiesValidatorsMap<N>, N: IsValid>(
     ctx: &mut ValidationContext,
 ) -> bool
     ensures { Asks ctx.old ctx.new (every (λ x. every (λ n. N.means n x.1) (option_to_list
-        (lookup x.0 (beside (M.names properties.now) (M.nodes properties.now)))))
+        (lookup_name x.0 (zip (M.names properties.now) (M.nodes properties.now)))))
         (listed (members_view members.now.entries))) result }
 {
     let mut hint = 0;
@@ -193,11 +195,11 @@ fn all_accepted_with<M: PropertiesValidatorsMap<N>, N: IsValid>(
     ctx: &mut ValidationContext,
 ) -> bool
     ensures { Asks ctx.old ctx.new (both
-        (properties_mean N.means (beside (M.names properties.now) (M.nodes properties.now))
+        (properties_mean N.means (zip (M.names properties.now) (M.nodes properties.now))
         (object_of members.now.entries))
         (always (is_empty (missing (name.now ∷ []) (object_of members.now.entries))))) result }
 {
-    if members.len() / 2 <= properties.names().sorted().len() {
+    if members.len() / 2 <= properties.names().len() {
         each_member_accepted_with(properties, members, name, ctx)
     } else {
         is_present(members, name) && each_name_accepted(properties, members, ctx)
@@ -213,7 +215,7 @@ fn each_member_accepted_with<M: PropertiesValidatorsMap<N>, N: IsValid>(
 ) -> bool
     ensures { Asks ctx.old ctx.new (both
         (every (λ x. every (λ n. N.means n x.1) (option_to_list
-        (lookup x.0 (beside (M.names properties.now) (M.nodes properties.now)))))
+        (lookup_name x.0 (zip (M.names properties.now) (M.nodes properties.now)))))
         (listed (members_view members.now.entries)))
         (always (is_empty (missing (required.now ∷ [])
         (object_of members.now.entries))))) result }
@@ -245,10 +247,10 @@ fn all_accepted_with_both<M: PropertiesValidatorsMap<N>, N: IsValid>(
     ensures { Asks ctx.old ctx.new (both
         (always (is_empty (missing (first.now ∷ second.now ∷ [])
         (object_of members.now.entries))))
-        (properties_mean N.means (beside (M.names properties.now) (M.nodes properties.now))
+        (properties_mean N.means (zip (M.names properties.now) (M.nodes properties.now))
         (object_of members.now.entries))) result }
 {
-    if members.len() / 2 <= properties.names().sorted().len() {
+    if members.len() / 2 <= properties.names().len() {
         each_member_accepted_with_both(properties, members, first, second, ctx)
     } else {
         has_both(members, first, second) && each_name_accepted(properties, members, ctx)
@@ -267,7 +269,7 @@ fn each_member_accepted_with_both<M: PropertiesValidatorsMap<N>, N: IsValid>(
         (always (is_empty (missing (first.now ∷ second.now ∷ [])
         (object_of members.now.entries))))
         (every (λ x. every (λ n. N.means n x.1) (option_to_list
-        (lookup x.0 (beside (M.names properties.now) (M.nodes properties.now)))))
+        (lookup_name x.0 (zip (M.names properties.now) (M.nodes properties.now)))))
         (listed (members_view members.now.entries)))) result }
 {
     let mut hint = 0;
@@ -307,7 +309,7 @@ fn each_name_accepted<M: PropertiesValidatorsMap<N>, N: IsValid>(
     ctx: &mut ValidationContext,
 ) -> bool
     ensures { Asks ctx.old ctx.new (properties_mean N.means
-        (beside (M.names properties.now) (M.nodes properties.now))
+        (zip (M.names properties.now) (M.nodes properties.now))
         (object_of members.now.entries)) result }
 {
     for (_, subschema, value) in properties.declared_members(members) {

@@ -3,7 +3,8 @@ ghost use Rattle.std.specs.Prelude.{◌≡◌};
 ghost use Rattle.serde_json.specs.View.{view};
 ghost use Rattle.olk_base.specs.Nodes.{data_of};
 ghost use Rattle.olk_tree.specs.Questions.{every};
-ghost use Rattle.olk_tree.specs.Answers.{named, chosen_at, chosen_nodes};
+ghost use Rattle.olk_tree.specs.Maps.{named};
+ghost use Rattle.olk_tree.specs.PropertyDependencies.{chosen_at, chosen_nodes};
 ghost use Rattle.olk_tree.specs.Visited.{object_of};
 ghost use Rattle.olk_check.specs.Asks.{Asks};
 

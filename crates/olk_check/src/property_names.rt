@@ -1,5 +1,5 @@
 //! `propertyNames`: its verdict.
-ghost use Rattle.olk_tree.specs.Answers.{names_mean};
+ghost use Rattle.olk_tree.specs.PropertyNames.{names_mean};
 ghost use Rattle.olk_tree.specs.Visited.{object_of};
 ghost use Rattle.olk_check.specs.Asks.{Asks};
 

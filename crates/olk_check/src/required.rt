@@ -5,7 +5,7 @@ ghost use Rattle.serde_json.specs.View.{members_view};
 ghost use Rattle.olk_spec.specs.Names.{is_empty};
 ghost use Rattle.olk_spec.specs.Accepts.{missing};
 ghost use Rattle.olk_spec.specs.Schemas.{has};
-ghost use Rattle.olk_tree.specs.Answers.{texts_of};
+ghost use Rattle.olk_tree.specs.Maps.{texts_of};
 
 use crate::IsValid;
 use olk_base::{Node, ValidationContext, is_same_text};

@@ -2,23 +2,22 @@
 use Rattle.std.proofs.Common.{◌≡◌, ℕ, ◌+◌, Bool, true, false, not, ◌&&◌, ◌||◌, cond, List, [], ◌∷◌, ◌++◌, drop, Option, Some, None, is_none, is_some, option_map, option_to_list, refl, sym, ap, subst, ◌∙◌}
 use Rattle.std.proofs.lemmas.List.{append-nil}
 use Rattle.std.specs.List.{flat_map}
+use Rattle.std.proofs.Math.Bool.{and-false, and-true}
 use Rattle.serde_json.specs.Data.{Data}
 use Rattle.olk_spec.specs.Names.{Name, Path, ◌//◌, put_if, is_empty}
 use Rattle.olk_spec.specs.World.{Says, reads_as}
 use Rattle.olk_spec.specs.Faults.{Fault}
-use Rattle.olk_spec.proofs.Truth.{and_true}
 use Rattle.olk_base.specs.Lawful.{Asking}
 use Rattle.olk_base.specs.Compiled.{pattern_answers}
 use Rattle.olk_base.specs.declared.pattern.CompiledPattern.{CompiledPattern}
 use Rattle.olk_reports.specs.declared.error.ValidationError.{ValidationError}
 use Rattle.olk_tree.specs.Questions.{Question, said_to}
-use Rattle.olk_tree.specs.Additional.{Sides, known_at, known_or, known_or_asked, is_matched_by, matching_from}
+use Rattle.olk_tree.specs.Additional.{Sides, known_at, known_or, known_or_asked, is_matched_by, matching_from, lacks}
 use Rattle.olk_tree.specs.AdditionalAgreement.{match_is_said}
 use Rattle.olk_check.specs.Asks.{OnlyAsks}
 use Rattle.olk_check.proofs.Asked.{only_same}
 use Rattle.olk_errors.specs.Found.{Appends, Outcome, Passes, IsErrorOf}
 use Rattle.olk_errors.specs.Outcomes.{of_node, of_branches, declared_nodes, unspoken_from, asked_from, asked_at, unexpected_at, if_matched}
-use Rattle.olk_tree.specs.Answers.{lacks}
 use Rattle.olk_tree.specs.declared.additional_properties.RequiredName.{RequiredName}
 use Rattle.olk_errors.proofs.Appending.{appends_nothing}
 use Rattle.olk_errors.proofs.Steps.{passed_start, passed_more, passed_error, passed_end, Collecting, collecting_start, collecting_each, collecting_end, Passing, passing_start, passing_each, passing_each_error, passing_end}
@@ -46,14 +45,6 @@ spoken_now true true n ms = refl
 spoken_now true false n ms = refl
 spoken_now false true n ms = refl
 spoken_now false false n ms = refl
-
-pub some_still : {A B : Type 0} (f : A → B) (o : Option A) → is_some o ≡ is_some (option_map f o)
-some_still f None = refl
-some_still f (Some x) = refl
-
-and_false : (b : Bool) → (b && false) ≡ false
-and_false true = refl
-and_false false = refl
 
 module _ {R N : Type 0} (w : Asked R N) where
   abbrev pub asks_at : N → Question
@@ -112,10 +103,10 @@ module _ {R N : Type 0} (w : Asked R N) where
 
     module _ (none : drop i w.sides.patterns ≡ []) where
       alone_end : alone_left u spoken i ≡ not spoken
-      alone_end = ap (λ l. unspoken_from w.answers u w.sides w.declared w.name spoken i l) none ∙ and_true (not spoken)
+      alone_end = ap (λ l. unspoken_from w.answers u w.sides w.declared w.name spoken i l) none ∙ and-true (not spoken)
 
       asked_end : asked_left u spoken i ≡ cond (not spoken) (option_to_list w.sides.rest) []
-      asked_end = ap (λ l. asked_from w.answers u w.sides w.declared w.name spoken i l) none ∙ ap (λ b. cond b (option_to_list w.sides.rest) []) (and_true (not spoken))
+      asked_end = ap (λ l. asked_from w.answers u w.sides w.declared w.name spoken i l) none ∙ ap (λ b. cond b (option_to_list w.sides.rest) []) (and-true (not spoken))
 
       pub none_left : spoken ≡ true → asked_left u spoken i ≡ []
       none_left e = asked_end ∙ ap (λ b. cond (not b) (option_to_list w.sides.rest) []) e
@@ -125,10 +116,10 @@ module _ {R N : Type 0} (w : Asked R N) where
 
       module _ (so_far : alone u ≡ alone_left u spoken i) where
         pub expected : spoken ≡ true → false ≡ unexpected u
-        expected e = sym (ap (λ b. is_none w.sides.rest && b) (so_far ∙ alone_end ∙ ap not e) ∙ and_false (is_none w.sides.rest))
+        expected e = sym (ap (λ b. is_none w.sides.rest && b) (so_far ∙ alone_end ∙ ap not e) ∙ and-false (is_none w.sides.rest))
 
         pub left_to_rest : {b : Bool} → spoken ≡ false → b ≡ is_none w.sides.rest → b ≡ unexpected u
-        left_to_rest e is = is ∙ sym (ap (λ b. is_none w.sides.rest && b) (so_far ∙ alone_end ∙ ap not e) ∙ and_true (is_none w.sides.rest))
+        left_to_rest e is = is ∙ sym (ap (λ b. is_none w.sides.rest && b) (so_far ∙ alone_end ∙ ap not e) ∙ and-true (is_none w.sides.rest))
 
   -- ---- the first error
 

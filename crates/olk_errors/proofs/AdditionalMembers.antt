@@ -6,20 +6,20 @@ use Rattle.std.specs.List.{flat_map, Contains}
 use Rattle.std.proofs.lemmas.List.Elements.{Contains-append_left, Contains-append_right, Contains-append_cases}
 use Rattle.serde_json.specs.Data.{Data}
 use Rattle.serde_json.specs.Find.{as_object}
-use Rattle.olk_spec.specs.Names.{Name, Path, ◌//◌, those, put_if, is_empty}
+use Rattle.olk_spec.specs.Names.{Name, Path, ◌//◌, filter_once, put_if, is_empty}
 use Rattle.olk_spec.specs.World.{Says}
 use Rattle.olk_spec.specs.Faults.{Fault}
 use Rattle.olk_spec.specs.Schemas.{is_object, has, members}
 use Rattle.olk_spec.specs.Accepts.{missing}
 use Rattle.olk_spec.specs.Malformed.{has_repeat}
 use Rattle.olk_spec.specs.Reports.{unexpected_faults}
-use Rattle.olk_spec.proofs.Truth.{and_second}
+use Rattle.olk_spec.proofs.Truth.{and_second, not_true}
 use Rattle.olk_base.specs.Lawful.{Asking}
 use Rattle.olk_reports.specs.declared.error.ValidationError.{ValidationError}
 use Rattle.olk_tree.specs.Questions.{Question, every}
-use Rattle.olk_tree.specs.Additional.{Sides, at_name, nodes_matching, is_additional, nodes_asked, is_unexpected, repeats, member_means, member_report, member_first, means_in_turn, report_in_turn, first_in_turn, named_means, named_report, named_first}
+use Rattle.olk_tree.specs.Additional.{Sides, at_name, nodes_matching, is_additional, nodes_asked, is_unexpected, repeats, member_means, member_report, member_first, means_in_turn, report_in_turn, first_in_turn, named_means, named_report, named_first, sides_of, has_neighbours, required_text, required_place, lacks}
 use Rattle.olk_tree.specs.AdditionalAgreement.{member_accepted}
-use Rattle.olk_tree.specs.Answers.{sides_of, has_neighbours, required_text, required_place, lacks, or_else, first_of}
+use Rattle.olk_tree.specs.Firsts.{or_else, first_of}
 use Rattle.olk_tree.specs.declared.additional_properties.AdditionalProperties as keyword
 use Rattle.olk_tree.specs.declared.additional_properties.RequiredName.{RequiredName}
 use Rattle.olk_tree.proofs.Members_met.{no_members}
@@ -28,7 +28,6 @@ use Rattle.olk_errors.specs.Found.{Appends, Outcome, Passes, IsKeptOf, IsErrorOf
 use Rattle.olk_errors.specs.Outcomes.{of_branches, declared_nodes, unspoken_from, asked_at, unexpected_at, unexpected_told, of_asked_member, of_members_in_turn, of_asked_members, of_names}
 use Rattle.olk_errors.proofs.Fused.{and_then, both_pass, first_error, second_error}
 use Rattle.olk_errors.proofs.Missing.{one_first, other_lacks_none, other_lacks_nothing}
-use Rattle.olk_errors.proofs.Own.{not_true}
 use Rattle.olk_errors.proofs.Steps.{passed_verdict, passed_first, passed_error, Collecting, collecting_from, collecting_more, collecting_end, Passing, passing_from, passing_more, passing_end}
 use Rattle.olk_errors.proofs.Additional.{Asked, outcome}
 use Rattle.olk_errors.proofs.Unexpected.{kept_of_first, of_unexpected, unexpected_error}
@@ -105,30 +104,30 @@ module _ {R N : Type 0} (answers : R → Name → Says) (costs : R → Bool) (m 
   accepted_is_expected u x h = not_true (not_expected u x) (and_second ((every (λ n. m n x.1) (nodes_asked answers (sides_of k) u x.0)).accepts u) (not (not_expected u x)) (sym (member_accepted answers costs m (sides_of k) x.0 x.1 u) ∙ h))
 
   abbrev told_last : Bool → Path → List Fault
-  told_last u Q = unexpected_faults (has_neighbours k) (those (not_expected u) (members v)) v k.location Q
+  told_last u Q = unexpected_faults (has_neighbours k) (filter_once (not_expected u) (members v)) v k.location Q
 
   -- ---- the first error
 
   -- the members before the rest are accepted, so the unexpected ones are among the rest
   pub record MembersPassing (rest : List (Name × Data)) (Q P : Path) (a b : Asking) : Type 0 where
     pub passing : Passing asked_of first_found all_found (members v) rest Q P a b
-    pub unexpected : those (not_expected a.answer) (members v) ≡ those (not_expected a.answer) rest
+    pub unexpected : filter_once (not_expected a.answer) (members v) ≡ filter_once (not_expected a.answer) rest
 
   pub members_start : {Q : Path} {a : Asking} {rest : List (Name × Data)} → rest ≡ members v → MembersPassing rest Q Q a a
-  members_start {a = a} whole = record { passing = passing_from whole; unexpected = ap (those (not_expected a.answer)) (sym whole) }
+  members_start {a = a} whole = record { passing = passing_from whole; unexpected = ap (filter_once (not_expected a.answer)) (sym whole) }
 
   module _ {rest : List (Name × Data)} {Q P : Path} {a b : Asking} (loop : MembersPassing rest Q P a b) where
     module _ {x : Name × Data} {more : List (Name × Data)} (next : rest ≡ x ∷ more) {d : Option (ℕ × N)} (declared : d ≡ at_name (sides_of k) x.0) where
       as_member : of_asked_member answers m s r b.answer k d x.0 x.1 v P ≡ of_member b.answer P x
       as_member = ap (λ e. of_asked_member answers m s r b.answer k e x.0 x.1 v P) declared ∙ same_member b.answer P x
 
-      left_unexpected : those (not_expected a.answer) (members v) ≡ put_if (not_expected a.answer x) x (those (not_expected a.answer) more)
-      left_unexpected = loop.unexpected ∙ ap (those (not_expected a.answer)) next
+      left_unexpected : filter_once (not_expected a.answer) (members v) ≡ put_if (not_expected a.answer x) x (filter_once (not_expected a.answer) more)
+      left_unexpected = loop.unexpected ∙ ap (filter_once (not_expected a.answer)) next
 
       pub members_more : {S : Path} {c : Asking} → Passes (of_asked_member answers m s r b.answer k d x.0 x.1 v P) → S ≡ P → OnlyAsks b c → MembersPassing more Q S a c
       members_more passes path only = let h : Passes (of_member b.answer P x) = subst Passes as_member passes in record {
         passing = passing_more loop.passing next (record { verdict = h.verdict; nothing = h.nothing }) path only;
-        unexpected = left_unexpected ∙ ap (λ e. put_if e x (those (not_expected a.answer) more)) (accepted_is_expected a.answer x (subst (λ u. (asked_of x).accepts u ≡ true) loop.passing.only.answer h.verdict));
+        unexpected = left_unexpected ∙ ap (λ e. put_if e x (filter_once (not_expected a.answer) more)) (accepted_is_expected a.answer x (subst (λ u. (asked_of x).accepts u ≡ true) loop.passing.only.answer h.verdict));
       }
 
       pub members_error : (g : Fault) → IsErrorOf (of_asked_member answers m s r b.answer k d x.0 x.1 v P) g → IsErrorOf (of_members_in_turn answers m s r a.answer k costs v Q) g
@@ -143,7 +142,7 @@ module _ {R N : Type 0} (answers : R → Name → Says) (costs : R → Bool) (m 
 
           by_itself : (told : IsErrorOf (of_member a.answer Q x) g) → Contains (unexpected_told k (not_expected a.answer x) x.0 x.1 v Q) told.of_all.whole → IsErrorOf (of_members_in_turn answers m s r a.answer k costs v Q) g
           by_itself told there =
-              let kept : IsKeptOf (told_last a.answer Q) g = subst (λ xs. IsKeptOf (unexpected_faults (has_neighbours k) xs v k.location Q) g) (sym left_unexpected) (kept_of_first v k.location Q (has_neighbours k) (not_expected a.answer x) x (those (not_expected a.answer) more) g told.of_all.whole there told.of_all.like) in
+              let kept : IsKeptOf (told_last a.answer Q) g = subst (λ xs. IsKeptOf (unexpected_faults (has_neighbours k) xs v k.location Q) g) (sym left_unexpected) (kept_of_first v k.location Q (has_neighbours k) (not_expected a.answer x) x (filter_once (not_expected a.answer) more) g told.of_all.whole there told.of_all.like) in
               record {
                 verdict = passed_verdict loop.passing.so_far next told.verdict;
                 of_first = passed_first loop.passing.so_far next told.of_first;
@@ -165,10 +164,10 @@ module _ {R N : Type 0} (answers : R → Name → Says) (costs : R → Bool) (m 
   -- the unexpected ones of the members before the rest are put aside
   pub record MembersGathered (rest aside : List (Name × Data)) (old new : List ValidationError) (Q P : Path) (a b : Asking) : Type 0 where
     pub collecting : Collecting all_found (members v) rest old new Q P a b
-    pub unexpected : aside ++ those (not_expected a.answer) rest ≡ those (not_expected a.answer) (members v)
+    pub unexpected : aside ++ filter_once (not_expected a.answer) rest ≡ filter_once (not_expected a.answer) (members v)
 
   pub gathered_start : {Q : Path} {a : Asking} {errors : List ValidationError} {rest aside : List (Name × Data)} → rest ≡ members v → aside ≡ [] → MembersGathered rest aside errors errors Q Q a a
-  gathered_start {a = a} {rest = rest} whole none = record { collecting = collecting_from whole; unexpected = ap (λ l. l ++ those (not_expected a.answer) rest) none ∙ ap (those (not_expected a.answer)) whole }
+  gathered_start {a = a} {rest = rest} whole none = record { collecting = collecting_from whole; unexpected = ap (λ l. l ++ filter_once (not_expected a.answer) rest) none ∙ ap (filter_once (not_expected a.answer)) whole }
 
   module _ {rest aside : List (Name × Data)} {old mid : List ValidationError} {Q P : Path} {a b : Asking} (loop : MembersGathered rest aside old mid Q P a b) where
     pub gathered_more : {x : Name × Data} {more longer : List (Name × Data)} {d : Option (ℕ × N)} {new : List ValidationError} {S : Path} {c : Asking} → rest ≡ x ∷ more → d ≡ at_name (sides_of k) x.0
@@ -176,17 +175,17 @@ module _ {R N : Type 0} (answers : R → Name → Says) (costs : R → Bool) (m 
         → longer ≡ aside ++ put_if (unexpected_at answers b.answer (sides_of k) d x.0) x [] → S ≡ P → OnlyAsks b c → MembersGathered more longer old new Q S a c
     gathered_more {x} {more} {longer} {d} {new} next declared found put path only = record {
       collecting = collecting_more loop.collecting next (subst (λ ns. Appends mid new (flat_map (λ n. r n b.answer x.1 (P // x.0)) ns)) (ap (λ e. asked_at answers b.answer (sides_of k) e x.0) declared ∙ asked_is answers b.answer (sides_of k) x.0) found) path only;
-      unexpected = ap (λ l. l ++ those (not_expected a.answer) more) (put ∙ ap (λ e. aside ++ put_if e x []) (ap (λ e. unexpected_at answers b.answer (sides_of k) e x.0) declared ∙ unexpected_is answers b.answer (sides_of k) x.0 ∙ ap (λ u. not_expected u x) loop.collecting.only.answer))
-          ∙ append_assoc aside (put_if (not_expected a.answer x) x []) (those (not_expected a.answer) more)
-          ∙ ap (λ l. aside ++ l) (put_onto (not_expected a.answer x) x (those (not_expected a.answer) more) ∙ ap (those (not_expected a.answer)) (sym next))
+      unexpected = ap (λ l. l ++ filter_once (not_expected a.answer) more) (put ∙ ap (λ e. aside ++ put_if e x []) (ap (λ e. unexpected_at answers b.answer (sides_of k) e x.0) declared ∙ unexpected_is answers b.answer (sides_of k) x.0 ∙ ap (λ u. not_expected u x) loop.collecting.only.answer))
+          ∙ append_assoc aside (put_if (not_expected a.answer x) x []) (filter_once (not_expected a.answer) more)
+          ∙ ap (λ l. aside ++ l) (put_onto (not_expected a.answer x) x (filter_once (not_expected a.answer) more) ∙ ap (filter_once (not_expected a.answer)) (sym next))
           ∙ loop.unexpected;
     }
 
     pub gathered_end : rest ≡ [] → Appends old mid (flat_map (all_found a.answer Q) (members v))
     gathered_end none = collecting_end loop.collecting none
 
-    pub aside_end : rest ≡ [] → aside ≡ those (not_expected a.answer) (members v)
-    aside_end none = sym (append-nil aside) ∙ ap (λ l. aside ++ those (not_expected a.answer) l) (sym none) ∙ loop.unexpected
+    pub aside_end : rest ≡ [] → aside ≡ filter_once (not_expected a.answer) (members v)
+    aside_end none = sym (append-nil aside) ∙ ap (λ l. aside ++ filter_once (not_expected a.answer) l) (sym none) ∙ loop.unexpected
 
 -- ---- and a name that is wanted
 
@@ -235,4 +234,4 @@ module _ {R N : Type 0} (answers : R → Name → Says) (costs : R → Bool) (m 
     other_passes = wanted_passes (subst Passes (members_in_turn no_repeats) record { verdict = ap (λ ms. (every (asked_of answers costs m s r k v) ms).accepts u) (no_members v none); nothing = ap (first_of (first_found answers costs m s r k v u Q)) (no_members v none) }) refl (other_lacks_none (required_text k.required) v (required_place k.required) Q none)
 
     pub other_finds_nothing : of_keyword.all ≡ []
-    other_finds_nothing = λ i. (ap (λ o. o.all) (sym (members_in_turn no_repeats)) ∙ ap (λ ms. flat_map (all_found answers costs m s r k v u Q) ms ++ unexpected_faults (has_neighbours k) (those (λ x. is_unexpected answers (sides_of k) u x.0) ms) v k.location Q) (no_members v none)) i ++ other_lacks_nothing (required_text k.required) v (required_place k.required) Q none i
+    other_finds_nothing = λ i. (ap (λ o. o.all) (sym (members_in_turn no_repeats)) ∙ ap (λ ms. flat_map (all_found answers costs m s r k v u Q) ms ++ unexpected_faults (has_neighbours k) (filter_once (λ x. is_unexpected answers (sides_of k) u x.0) ms) v k.location Q) (no_members v none)) i ++ other_lacks_nothing (required_text k.required) v (required_place k.required) Q none i

@@ -1,12 +1,14 @@
 -- What asking the nodes of a dependency comes to, over what a walk has left at its start.
 use Rattle.std.proofs.Common.{◌≡◌, Bool, List, [], ◌∷◌, append-nil, refl, sym, subst}
+use Rattle.std.proofs.Math.Bool.{and-true}
 use Rattle.serde_json.specs.Data.{Data, Members, object}
 use Rattle.olk_spec.specs.Names.{Name, Path}
 use Rattle.olk_spec.specs.Faults.{Fault}
 use Rattle.olk_spec.specs.Schemas.{listed}
-use Rattle.olk_spec.proofs.Truth.{and_true}
 use Rattle.olk_tree.specs.Questions.{Question, every}
-use Rattle.olk_tree.specs.Answers.{or_else, due_nodes, chosen_nodes}
+use Rattle.olk_tree.specs.Firsts.{or_else}
+use Rattle.olk_tree.specs.Dependencies.{due_nodes}
+use Rattle.olk_tree.specs.PropertyDependencies.{chosen_nodes}
 use Rattle.olk_tree.specs.Visited.{names_met, left_of}
 use Rattle.olk_tree.specs.declared.map.SmallMap.{SmallMap}
 use Rattle.olk_tree.specs.declared.declared.DeclaredMembers.{DeclaredMembers}
@@ -21,7 +23,7 @@ or_else_nothing (f ∷ fs) = refl
 module _ {N : Type 0} (m : N → Data → Question) (s r : N → Bool → Data → Path → List Fault) (u : Bool) (v : Data) (Q : Path) where
   -- of one branch, and of none
   pub one_branch : (n : N) → of_node m s r u n v Q ≡ of_branches m s r u (n ∷ []) v Q
-  one_branch n = λ i. record { accepts = sym (and_true ((m n v).accepts u)) i; first = sym (or_else_nothing (s n u v Q)) i; all = sym (append-nil (r n u v Q)) i }
+  one_branch n = λ i. record { accepts = sym (and-true ((m n v).accepts u)) i; first = sym (or_else_nothing (s n u v Q)) i; all = sym (append-nil (r n u v Q)) i }
 
   pub no_branch : Passes (of_branches m s r u [] v Q)
   no_branch = record { verdict = refl; nothing = refl }

@@ -4,7 +4,7 @@ use Rattle.std.specs.List.{Contains}
 use Rattle.std.proofs.lemmas.List.Elements.{Contains-append_left, Contains-append_right}
 use Rattle.olk_spec.specs.Names.{Name, put_if, is_empty}
 use Rattle.olk_spec.specs.Faults.{Fault}
-use Rattle.olk_tree.specs.Answers.{or_else, head_of}
+use Rattle.olk_tree.specs.Firsts.{or_else, head_of}
 use Rattle.olk_errors.specs.Found.{Outcome, Passes, IsErrorOf}
 use Rattle.olk_errors.proofs.Steps.{contains_first}
 

@@ -1,15 +1,15 @@
 -- Names that an object lacks, one by one.
-use Rattle.std.proofs.Common.{◌≡◌, Bool, true, false, not, ◌&&◌, List, [], ◌∷◌, ◌++◌, map, String, Global, string_bytes, refl, sym, ap, subst, ◌∙◌}
+use Rattle.std.proofs.Common.{◌≡◌, Bool, true, false, not, ◌&&◌, List, [], ◌∷◌, ◌++◌, map, String, Global, string_bytes, refl, sym, ap, subst, ◌∙◌, None}
 use Rattle.std.specs.List.{flat_map}
 use Rattle.serde_json.specs.Data.{Data, object, Members, null, boolean, number, string, array}
 use Rattle.serde_json.specs.Find.{as_object}
-use Rattle.std.proofs.Common.{None}
 use Rattle.olk_spec.specs.Names.{Name, Path, put_if, is_empty}
 use Rattle.olk_spec.specs.Faults.{Fault, fault, Required}
 use Rattle.olk_spec.specs.Schemas.{has, is_object}
 use Rattle.olk_spec.specs.Accepts.{missing}
 use Rattle.olk_spec.specs.Reports.{required_faults}
-use Rattle.olk_tree.specs.Answers.{texts_of, or_else, first_of, head_of}
+use Rattle.olk_tree.specs.Maps.{texts_of}
+use Rattle.olk_tree.specs.Firsts.{or_else, first_of, head_of}
 use Rattle.olk_tree.specs.Questions.{Question, always, every}
 use Rattle.olk_errors.specs.Outcomes.{of_each, of_names}
 use Rattle.olk_errors.specs.Found.{Passes, IsErrorOf}

@@ -1,34 +1,24 @@
 -- The errors of members' names, told of the object.
 use Rattle.std.proofs.Common.{◌≡◌, ℕ, zero, suc, ◌<◌, length, get_or, Bool, List, [], ◌∷◌, map, refl, sym, ap, subst, arith}
 use Rattle.std.specs.List.{flat_map, Contains}
+use Rattle.olk_members.proofs.PropertyNames.{like_wrapped, ∼_wrapped}
+use Rattle.olk_errors.proofs.Own.{no_place}
 use Rattle.serde_json.specs.Data.{Data, Members, string, object}
 use Rattle.olk_spec.specs.Names.{Name, Path}
-use Rattle.olk_spec.specs.Faults.{Fault, fault, IsLike, like, like_names, ◌∼◌, like_empty, like_next, like_swap, like_through}
+use Rattle.olk_spec.specs.Faults.{Fault, fault, IsLike, like, ◌∼◌}
 use Rattle.olk_spec.specs.Schemas.{listed, members}
 use Rattle.olk_spec.specs.Reports.{wrapped, cut}
 use Rattle.olk_reports.specs.Errors.{fault_of}
 use Rattle.olk_reports.specs.declared.error.ValidationError.{ValidationError}
 use Rattle.olk_tree.specs.Questions.{Question, every}
-use Rattle.olk_tree.specs.Answers.{first_of}
+use Rattle.olk_tree.specs.Firsts.{first_of}
 use Rattle.olk_errors.specs.Outcomes.{of_each, of_asked_name, of_asked_names}
 use Rattle.olk_errors.specs.Found.{Appends, Outcome, Passes, IsErrorOf}
 use Rattle.olk_errors.proofs.Appending.{appends_like}
 
-no_place : (n : ℕ) → n < 0 → ⊥
-no_place n l = absurd (omega (arith, l))
-
 module _ (v : Data) (Q : Path) where
   abbrev pub told_of : Outcome → Outcome
   told_of o = record { accepts = o.accepts; first = map (wrapped v Q) o.first; all = map (wrapped v Q) o.all }
-
-  wrapped_like : {f g : Fault} → IsLike f g → IsLike (wrapped v Q f) (wrapped v Q g)
-  wrapped_like (like h) = like (like_names (like h))
-
-  ∼_wrapped : {fs gs : List Fault} → fs ∼ gs → map (wrapped v Q) fs ∼ map (wrapped v Q) gs
-  ∼_wrapped like_empty = like_empty
-  ∼_wrapped (like_next h k) = like_next (wrapped_like h) (∼_wrapped k)
-  ∼_wrapped like_swap = like_swap
-  ∼_wrapped (like_through h k) = like_through (∼_wrapped h) (∼_wrapped k)
 
   cut_wrapped : (f : Fault) → wrapped v Q (cut f) ≡ cut (wrapped v Q f)
   cut_wrapped (fault k w R P) = refl
@@ -47,8 +37,8 @@ module _ (v : Data) (Q : Path) where
   pub name_errs : {o : Outcome} (f g : Fault) → f ≡ wrapped v Q g → IsErrorOf o g → IsErrorOf (told_of o) f
   name_errs {o} f g is told = subst (IsErrorOf (told_of o)) (sym is) (record {
     verdict = told.verdict;
-    of_first = record { one = wrapped v Q told.of_first.one; among = contains_wrapped o.first told.of_first.one told.of_first.among; like = wrapped_like told.of_first.like };
-    of_all = record { whole = wrapped v Q told.of_all.whole; among = contains_wrapped o.all told.of_all.whole told.of_all.among; like = subst (IsLike (wrapped v Q g)) (cut_wrapped told.of_all.whole) (wrapped_like told.of_all.like) };
+    of_first = record { one = wrapped v Q told.of_first.one; among = contains_wrapped o.first told.of_first.one told.of_first.among; like = like_wrapped v Q told.of_first.like };
+    of_all = record { whole = wrapped v Q told.of_all.whole; among = contains_wrapped o.all told.of_all.whole told.of_all.among; like = subst (IsLike (wrapped v Q g)) (cut_wrapped told.of_all.whole) (like_wrapped v Q told.of_all.like) };
   })
 
   -- the errors that were found, each told of the object
@@ -61,7 +51,7 @@ module _ (v : Data) (Q : Path) where
   wrapped_both (e ∷ es) = ap (λ l. wrapped v Q (fault_of e) ∷ l) (wrapped_both es)
 
   pub name_appends : {found old new : List ValidationError} {fs : List Fault} → Appends [] found fs → Appends old new (map (λ e. wrapped v Q (fault_of e)) found) → Appends old new (map (wrapped v Q) fs)
-  name_appends {found} {fs = fs} inner outer = appends_like (subst (λ l. l ∼ map (wrapped v Q) fs) (sym (wrapped_both found)) (∼_wrapped (subst (λ l. map fault_of l ∼ fs) (sym inner.is) inner.same))) outer
+  name_appends {found} {fs = fs} inner outer = appends_like (subst (λ l. l ∼ map (wrapped v Q) fs) (sym (wrapped_both found)) (∼_wrapped v Q (subst (λ l. map fault_of l ∼ fs) (sym inner.is) inner.same))) outer
 
 module _ (v : Data) (Q : Path) {N : Type 0} (m : N → Data → Question) (s r : N → Bool → Data → Path → List Fault) (u : Bool) (n : N) where
   -- of the names one after the other, and of none

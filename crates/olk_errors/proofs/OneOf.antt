@@ -7,7 +7,7 @@ use Rattle.olk_spec.specs.Reports.{cut_kind}
 use Rattle.olk_reports.specs.Errors.{kind_of}
 use Rattle.olk_reports.specs.declared.error.ValidationError.{ValidationError}
 use Rattle.olk_reports.specs.declared.error.ValidationErrorKind.{ValidationErrorKind}
-use Rattle.olk_tree.specs.Answers.{one_of_report}
+use Rattle.olk_tree.specs.OneOf.{one_of_report}
 use Rattle.olk_tree.proofs.OneOf.{none_accepts, one_accepts, several_accept, several_is_not_one}
 use Rattle.olk_errors.specs.Found.{Outcome, Appends, IsErrorOf}
 use Rattle.olk_errors.specs.Outcomes.{own, of_one_of, IsKindOfOneOf}

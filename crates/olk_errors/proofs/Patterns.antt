@@ -11,7 +11,7 @@ use Rattle.olk_spec.specs.Schemas.{listed}
 use Rattle.olk_base.specs.declared.pattern.CompiledPattern.{CompiledPattern}
 use Rattle.olk_tree.specs.Questions.{Question, always, conditional, every}
 use Rattle.olk_tree.specs.Matched.{is_match, match_question}
-use Rattle.olk_tree.specs.Agreement.{inside_out}
+use Rattle.olk_tree.specs.PatternProperties.{inside_out}
 use Rattle.olk_tree.proofs.Patterns.{each_of_those, first_of_those, matched_nothing, patterns_nothing, matched_first_nothing, patterns_first_nothing}
 use Rattle.olk_errors.specs.Found.{Outcome, Passes, IsErrorOf}
 use Rattle.olk_errors.specs.Outcomes.{of_each, of_node, of_match, of_matched, of_matching, of_patterns}

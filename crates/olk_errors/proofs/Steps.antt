@@ -6,12 +6,13 @@ use Rattle.std.proofs.lemmas.List.{append_assoc, append-nil, map-append}
 use Rattle.std.specs.declared.alloc.Global.{Global}
 use Rattle.std.proofs.lemmas.List.Elements.{Contains-append_left, Contains-append_right}
 use Rattle.std.proofs.lemmas.Grind.{flat_map-append}
+use Rattle.olk_tree.proofs.Faults.{or_around}
 use Rattle.olk_spec.specs.Names.{Path, is_empty}
 use Rattle.olk_spec.specs.Faults.{Fault, ◌∼◌}
 use Rattle.olk_spec.proofs.Logic.{nil_of_is_empty}
 use Rattle.olk_reports.specs.Errors.{fault_of}
 use Rattle.olk_reports.specs.declared.error.ValidationError.{ValidationError}
-use Rattle.olk_tree.specs.Answers.{or_else, first_of}
+use Rattle.olk_tree.specs.Firsts.{or_else, first_of}
 use Rattle.olk_base.specs.Lawful.{Asking}
 use Rattle.olk_check.specs.Asks.{OnlyAsks}
 use Rattle.olk_check.proofs.Asked.{only_same, only_then}
@@ -68,10 +69,6 @@ contains_none f c = absurd (omega arith)
 pub contains_first : (fs gs : List Fault) (f : Fault) → Contains fs f → Contains (or_else fs gs) f
 contains_first [] gs f c = absurd (contains_none f c)
 contains_first (g ∷ fs) gs f c = c
-
-or_around : (fs gs hs : List Fault) → or_else (or_else fs gs) hs ≡ or_else fs (or_else gs hs)
-or_around [] gs hs = refl
-or_around (f ∷ fs) gs hs = refl
 
 first_of-both : {X : Type 0} (s : X → List Fault) (xs ys : List X) → first_of s (xs ++ ys) ≡ or_else (first_of s xs) (first_of s ys)
 first_of-both s [] ys = refl

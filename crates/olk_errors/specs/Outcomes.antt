@@ -14,8 +14,13 @@ use Rattle.olk_base.specs.Compiled.{pattern_answers}
 use Rattle.olk_base.specs.declared.pattern.CompiledPattern.{CompiledPattern}
 use Rattle.olk_tree.specs.Questions.{Question, always, conditional, every}
 use Rattle.olk_tree.specs.Matched.{is_match, matching, match_question}
-use Rattle.olk_tree.specs.Additional.{Sides, known_or, matching_from, means_in_turn, report_in_turn, first_in_turn, additional_means, additional_report, additional_first}
-use Rattle.olk_tree.specs.Answers.{sides_of, has_neighbours, or_else, first_of, one_of_report, head_of, properties_mean, properties_report, properties_first, names_mean, names_report, names_first, matched_mean, matched_report, matched_first, patterns_mean, patterns_report, patterns_first, body_means, body_report, body_first}
+use Rattle.olk_tree.specs.Additional.{Sides, known_or, matching_from, means_in_turn, report_in_turn, first_in_turn, additional_means, additional_report, additional_first, sides_of, has_neighbours}
+use Rattle.olk_tree.specs.Firsts.{or_else, first_of, head_of}
+use Rattle.olk_tree.specs.OneOf.{one_of_report}
+use Rattle.olk_tree.specs.Properties.{properties_mean, properties_report, properties_first}
+use Rattle.olk_tree.specs.PropertyNames.{names_mean, names_report, names_first}
+use Rattle.olk_tree.specs.PatternProperties.{matched_mean, matched_report, matched_first, patterns_mean, patterns_report, patterns_first}
+use Rattle.olk_tree.specs.Bodies.{body_means, body_report, body_first}
 use Rattle.olk_tree.specs.declared.additional_properties.AdditionalProperties.{AdditionalProperties}
 use Rattle.olk_tree.specs.declared.node.Body.{Body}
 use Rattle.olk_errors.specs.Found.{Outcome}

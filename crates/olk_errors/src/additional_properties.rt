@@ -8,8 +8,7 @@ ghost use Rattle.olk_spec.specs.Names.{put_if};
 ghost use Rattle.olk_spec.specs.World.{reads_as};
 ghost use Rattle.olk_spec.specs.Schemas.{listed};
 ghost use Rattle.olk_spec.specs.Reports.{unexpected_faults};
-ghost use Rattle.olk_tree.specs.Additional.{known_or, member_report, unexpected};
-ghost use Rattle.olk_tree.specs.Answers.{sides_of, has_neighbours, required_text, required_place};
+ghost use Rattle.olk_tree.specs.Additional.{known_or, member_report, unexpected, sides_of, has_neighbours, required_text, required_place};
 ghost use Rattle.olk_tree.specs.Tables.{known_says};
 ghost use Rattle.olk_tree.specs.Visited.{object_of};
 ghost use Rattle.olk_paths.specs.Paths.{one_below};
@@ -18,10 +17,10 @@ ghost use Rattle.olk_errors.specs.Found.{Appends, IfInvalid, Passes, IsErrorOf};
 ghost use Rattle.olk_errors.specs.Outcomes.{of_branches, of_names, declared_nodes, asked_at, unexpected_at, if_matched, of_asked_member, of_asked_members};
 
 use crate::Errors;
-use crate::append::{append_error, push, refuse, roll_back_on_err, vec_of_one};
+use crate::append::{append_error, refuse, roll_back_on_err};
 use crate::properties::{collect_below, validate_below};
 use crate::required::{collect_if_missing, refuse_if_missing};
-use olk_base::{CompiledPattern, Node, RegexEngine, ValidationContext};
+use olk_base::{CompiledPattern, Node, RegexEngine, ValidationContext, append, one};
 use olk_check::matches_unless_known;
 use olk_members::law_of_names;
 use olk_paths::InstancePath;
@@ -271,20 +270,13 @@ fn refuse_unexpected<'a, R, N>(
         (data_of object.entry) keyword.now.location path.now)) }
 {
     let location = keyword.location.as_str();
-    if !is_beside_others(keyword) {
+    if !keyword.has_neighbours() {
         let kind = ValidationErrorKind::FalseSchema;
         return refuse(alloc, kind, Node::Value(value), path, location);
     }
-    let unexpected = vec_of_one(alloc, name)?;
+    let unexpected = one(alloc, name)?;
     let kind = ValidationErrorKind::AdditionalProperties { unexpected };
     refuse(alloc, kind, object, path, location)
-}
-
-/// Whether `properties` or `patternProperties` stands beside it.
-fn is_beside_others<R, N>(keyword: &AdditionalProperties<R, N>) -> bool
-    ensures { result ≡ has_neighbours keyword.now }
-{
-    keyword.properties.is_some() || keyword.patterns.is_some()
 }
 
 /// The error of the name that is wanted, if one is and it is absent.
@@ -408,7 +400,7 @@ fn collect_member<'a, R: RegexEngine, N: Errors<'a>>(
     if !collect_asked(alloc, keyword, declared, name, value, path, ctx, errors)? {
         return Ok(());
     }
-    let answer = push(unexpected, (name, value));
+    let answer = append(unexpected, (name, value));
     roll_back_on_err(answer, errors, len)
 }
 
@@ -555,7 +547,7 @@ fn append_unexpected<'a, R, N>(
     let location = keyword.location.as_str();
     match unexpected.first() {
         Some((_, value)) => {
-            if !is_beside_others(keyword) {
+            if !keyword.has_neighbours() {
                 let kind: ValidationErrorKind<'a> = ValidationErrorKind::FalseSchema;
                 return append_error(alloc, kind, Node::Value(value), path, location, errors);
             }

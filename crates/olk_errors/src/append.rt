@@ -5,7 +5,7 @@ ghost use Rattle.olk_spec.specs.Faults.{fault};
 ghost use Rattle.olk_reports.specs.Errors.{kind_of};
 ghost use Rattle.olk_errors.specs.Found.{Appends, IfInvalid};
 
-use olk_base::Node;
+use olk_base::{Node, append};
 use olk_paths::InstancePath;
 use olk_reports::{ValidateError, ValidationError, ValidationErrorKind};
 use std::alloc::{AllocError, Global};
@@ -24,27 +24,7 @@ pub(crate) fn append_error<'a>(
     ensures memory { OnErr result (errors.new.items ≡ errors.old.items) }
 {
     let text = String::from_str(alloc, path.as_str())?;
-    push(errors, ValidationError::new(kind, node, text, schema_path))
-}
-
-/// One item more; without memory the list is as before.
-#[inline]
-pub(crate) fn push<T: Drop>(items: &mut Vec<T>, item: T) -> Result<(), AllocError>
-    ensures pushed { OnOk result (items.new.items ≡ items.old.items ++ item ∷ []) }
-    ensures memory { OnErr result (items.new.items ≡ items.old.items) }
-{
-    items.push(item)?;
-    Ok(())
-}
-
-/// A list of the one item.
-#[inline]
-pub(crate) fn vec_of_one<T: Drop>(alloc: Global, item: T) -> Result<Vec<T>, AllocError>
-    ensures { IfOk result (λ items. items.items ≡ item ∷ []) }
-{
-    let mut items = Vec::with_capacity(alloc, 1)?;
-    push(&mut items, item)?;
-    Ok(items)
+    append(errors, ValidationError::new(kind, node, text, schema_path))
 }
 
 /// Refuses with one error.

@@ -1,7 +1,8 @@
 //! `dependentRequired`, `dependentSchemas` and `dependencies`: their errors.
 ghost use Rattle.std.specs.Prelude.{◌≡◌, OnOk, OnErr, IfErr};
 ghost use Rattle.olk_base.specs.Nodes.{data_of};
-ghost use Rattle.olk_tree.specs.Answers.{named, due_nodes};
+ghost use Rattle.olk_tree.specs.Maps.{named};
+ghost use Rattle.olk_tree.specs.Dependencies.{due_nodes};
 ghost use Rattle.olk_tree.specs.Visited.{object_of};
 ghost use Rattle.olk_check.specs.Asks.{OnlyAsks};
 ghost use Rattle.olk_errors.specs.Found.{Appends, IfInvalid, Passes, IsErrorOf};

@@ -90,7 +90,7 @@ fn append_texts<'a>(
 }
 
 impl<'a, K: Leaf, R: RegexEngine, N: Errors<'a>> Errors<'a> for KeywordOver<K, R, N> {
-    #[tactic(auto, unfolding(olk_tree::specs::Answers::validator_means, olk_tree::specs::Answers::validator_report, olk_tree::specs::Answers::validator_first))]
+    #[tactic(auto, unfolding(olk_tree::specs::Validators::answers_of))]
     fn validate(
         &'a self,
         alloc: Global,
@@ -127,7 +127,7 @@ impl<'a, K: Leaf, R: RegexEngine, N: Errors<'a>> Errors<'a> for KeywordOver<K, R
         }
     }
 
-    #[tactic(auto, unfolding(olk_tree::specs::Answers::validator_report))]
+    #[tactic(auto, unfolding(olk_tree::specs::Validators::answers_of))]
     fn collect_errors(
         &'a self,
         alloc: Global,

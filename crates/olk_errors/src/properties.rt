@@ -2,7 +2,7 @@
 ghost use Rattle.std.specs.Prelude.{◌≡◌, OnOk, OnErr, IfErr};
 ghost use Rattle.serde_json.specs.View.{view};
 ghost use Rattle.olk_paths.specs.Paths.{one_below};
-ghost use Rattle.olk_tree.specs.Answers.{beside};
+ghost use Rattle.std.specs.List.{zip};
 ghost use Rattle.olk_tree.specs.Visited.{object_of};
 ghost use Rattle.olk_check.specs.Asks.{OnlyAsks};
 ghost use Rattle.olk_errors.specs.Found.{Appends, IfInvalid, Passes, IsErrorOf};
@@ -101,11 +101,11 @@ fn validate_members<'a, M: PropertiesValidatorsMap<N>, N: Errors<'a> + 'a>(
     ctx: &mut ValidationContext,
 ) -> Result<(), ValidateError<'a>>
     ensures ok { OnOk result (Passes (of_properties N.means N.first N.report ctx.old.answer
-        (beside (M.names properties.now) (M.nodes properties.now))
+        (zip (M.names properties.now) (M.nodes properties.now))
         (object_of members.now.entries) path.old)) }
     ensures invalid { IfErr result (λ e. IfInvalid e (IsErrorOf
         (of_properties N.means N.first N.report ctx.old.answer
-        (beside (M.names properties.now) (M.nodes properties.now))
+        (zip (M.names properties.now) (M.nodes properties.now))
         (object_of members.now.entries) path.old))) }
     ensures path { path.new ≡ path.old }
     ensures context { OnlyAsks ctx.old ctx.new }
@@ -156,7 +156,7 @@ fn collect_members<'a, M: PropertiesValidatorsMap<N>, N: Errors<'a> + 'a>(
 ) -> Result<(), AllocError>
     ensures report { OnOk result (Appends errors.old.items errors.new.items
         (of_properties N.means N.first N.report ctx.old.answer
-        (beside (M.names properties.now) (M.nodes properties.now))
+        (zip (M.names properties.now) (M.nodes properties.now))
         (object_of members.now.entries) path.old).all) }
     ensures memory { OnErr result (errors.new.items ≡ errors.old.items) }
     ensures path { path.new ≡ path.old }

@@ -9,8 +9,8 @@ ghost use Rattle.olk_errors.specs.Found.{Appends, IfInvalid, Passes, IsErrorOf};
 ghost use Rattle.olk_errors.specs.Outcomes.{of_asked_name, of_asked_names};
 
 use crate::Errors;
-use crate::append::{append_error, push, refuse, roll_back_on_err};
-use olk_base::{Node, ValidationContext};
+use crate::append::{append_error, refuse, roll_back_on_err};
+use olk_base::{Node, ValidationContext, append};
 use olk_check::IsValid;
 use olk_paths::InstancePath;
 use olk_reports::{ValidateError, ValidationError, ValidationErrorKind};
@@ -206,7 +206,7 @@ fn append_one_wrapped<'a>(
         (wrapped (data_of object.entry) path.now (fault_of error.entry) ∷ [])) }
     ensures memory { OnErr result (errors.new.items ≡ errors.old.items) }
 {
-    push(errors, wrap(alloc, error, object, path)?)
+    append(errors, wrap(alloc, error, object, path)?)
 }
 
 /// Refuses with the error of a name, told of the object.

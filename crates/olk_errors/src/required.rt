@@ -1,7 +1,7 @@
 //! `required`: its errors.
 ghost use Rattle.std.specs.Prelude.{◌≡◌, ◌∷◌, [], OnOk, OnErr, IfErr};
 ghost use Rattle.olk_base.specs.Nodes.{data_of};
-ghost use Rattle.olk_tree.specs.Answers.{texts_of};
+ghost use Rattle.olk_tree.specs.Maps.{texts_of};
 ghost use Rattle.olk_tree.specs.Visited.{object_of};
 ghost use Rattle.olk_errors.specs.Found.{Appends, IfInvalid, Passes, IsErrorOf};
 ghost use Rattle.olk_errors.specs.Outcomes.{of_names};

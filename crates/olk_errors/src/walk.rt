@@ -7,8 +7,8 @@ ghost use Rattle.olk_errors.specs.Found.{Appends, AreLike, IfInvalid, Passes, Is
 ghost use Rattle.olk_errors.specs.Outcomes.{of_branches};
 
 use crate::Errors;
-use crate::append::{roll_back_on_err, vec_of_one};
-use olk_base::{Node, ValidationContext};
+use crate::append::roll_back_on_err;
+use olk_base::{Node, ValidationContext, one};
 use olk_paths::InstancePath;
 use olk_reports::{ValidateError, ValidationError};
 use std::alloc::{AllocError, Global};
@@ -95,7 +95,7 @@ pub(crate) fn one_context<'a, N: Errors<'a>>(
     ensures context { OnlyAsks ctx.old ctx.new }
 {
     let errors = errors_of(alloc, branch, node, path, ctx)?;
-    vec_of_one(alloc, errors)
+    one(alloc, errors)
 }
 
 /// The errors of a node, in a list of their own.

@@ -4,22 +4,21 @@ use Rattle.std.specs.List.{flat_map, list_all}
 use Rattle.std.proofs.lemmas.List.Folds.{list_all-append}
 use Rattle.std.proofs.lemmas.List.{map-append}
 use Rattle.std.proofs.lemmas.Simd.{map-map}
+use Rattle.std.proofs.Math.Bool.{and_assoc, and-true, and_comm}
+use Rattle.olk_spec.proofs.Walks.{and_middle}
 use Rattle.serde_json.specs.Data.{Data, Members, object, null, boolean, number, string, array}
 use Rattle.serde_json.specs.Find.{as_object}
-use Rattle.olk_spec.specs.Names.{Name, Path, ◌//◌, those, put_if, is_empty}
+use Rattle.olk_spec.specs.Names.{Name, Path, ◌//◌, filter_once, put_if, is_empty}
 use Rattle.olk_spec.specs.World.{Says}
 use Rattle.olk_spec.specs.Faults.{Fault}
 use Rattle.olk_spec.specs.Reports.{unexpected_faults, required_faults}
 use Rattle.olk_spec.specs.Schemas.{listed, members, has}
 use Rattle.olk_spec.specs.Accepts.{missing}
 use Rattle.olk_spec.specs.Tree.{Tree, node, no_tree, IsLikeTree, described, is_valid, result, plain, erring}
-use Rattle.olk_spec.proofs.Truth.{and_true}
 use Rattle.olk_base.specs.declared.pattern.CompiledPattern.{CompiledPattern}
 use Rattle.olk_tree.specs.Questions.{Question, every}
-use Rattle.olk_tree.specs.Additional.{Sides, matching_from, at_name, nodes_matching, nodes_asked, is_additional, is_unexpected, faults_of_unexpected, additional_names, matched_names, additional_annotation, matches_child, additional_tree, repeats, member_means, additional_means}
+use Rattle.olk_tree.specs.Additional.{Sides, matching_from, at_name, nodes_matching, nodes_asked, is_additional, is_unexpected, faults_of_unexpected, additional_names, matched_names, additional_annotation, matches_child, additional_tree, repeats, member_means, additional_means, sides_of, mapped_places, patterns_in, has_neighbours}
 use Rattle.olk_tree.specs.AdditionalAgreement.{member_accepted}
-use Rattle.olk_tree.specs.Answers.{sides_of, mapped_places, patterns_in, has_neighbours}
-use Rattle.olk_tree.specs.Emptiness.{and_between}
 use Rattle.olk_tree.specs.Shown.{missing_trees}
 use Rattle.olk_tree.specs.declared.properties_map.PropertiesMap.{PropertiesMap}
 use Rattle.olk_tree.specs.declared.additional_properties.AdditionalProperties as validator
@@ -31,7 +30,7 @@ use Rattle.olk_check.proofs.Together.{each_is_all}
 use Rattle.olk_evaluate.specs.Additional.{Collects, names_of, nodes_wanted, members_found, matches_shown, rest_annotation, named_faults, faults_without_rest, Completes}
 use Rattle.olk_evaluate.specs.declared.additional_members.Collected.{Collected}
 use Rattle.olk_evaluate.proofs.Children.{trees_wanted, all_wanted, valid_shown}
-use Rattle.olk_evaluate.proofs.Members.{and_turned, shown_append}
+use Rattle.olk_evaluate.proofs.Members.{shown_append}
 use Rattle.olk_evaluate.proofs.OwnErrors.{all_there}
 use Rattle.olk_evaluate.proofs.Patterns.{no_object}
 use Rattle.olk_evaluate.proofs.Completed.{complete_like, complete_verdict}
@@ -39,19 +38,19 @@ use Rattle.olk_evaluate.proofs.Completed.{complete_like, complete_verdict}
 -- ---- names, trees and verdicts of the members
 
 module _ {X : Type 0} (p : X → Bool) where
-  none_of_those : (xs : List X) → those (λ x. false && p x) xs ≡ []
+  none_of_those : (xs : List X) → filter_once (λ x. false && p x) xs ≡ []
   none_of_those [] = refl
   none_of_those (x ∷ xs) = none_of_those xs
 
-  all_of_those : ((x : X) → p x ≡ true) → (xs : List X) → those p xs ≡ xs
+  all_of_those : ((x : X) → p x ≡ true) → (xs : List X) → filter_once p xs ≡ xs
   all_of_those h [] = refl
   all_of_those h (x ∷ xs) = (λ i. put_if (h x i) x (all_of_those h xs i))
 
-  names_of_those : {B : Type 0} (f : X → B) (xs : List X) → flat_map (λ x. put_if (p x) (f x) []) xs ≡ map f (those p xs)
+  names_of_those : {B : Type 0} (f : X → B) (xs : List X) → flat_map (λ x. put_if (p x) (f x) []) xs ≡ map f (filter_once p xs)
   names_of_those f [] = refl
   names_of_those f (x ∷ xs) = ap (λ l. put_if (p x) (f x) [] ++ l) (names_of_those f xs) ∙ by (p x)
     where
-      by : (b : Bool) → put_if b (f x) [] ++ map f (those p xs) ≡ map f (put_if b x (those p xs))
+      by : (b : Bool) → put_if b (f x) [] ++ map f (filter_once p xs) ≡ map f (put_if b x (filter_once p xs))
       by true = refl
       by false = refl
 
@@ -85,10 +84,6 @@ faults_emptiness b [] v P Q = refl
 faults_emptiness true (x ∷ xs) v P Q = refl
 faults_emptiness false (x ∷ xs) v P Q = refl
 
-and_assoc : (a b c : Bool) → (a && (b && c)) ≡ ((a && b) && c)
-and_assoc true b c = refl
-and_assoc false b c = refl
-
 module _ {R N : Type 0} (answers : R → Name → Says) (t : N → Bool → Data → Path → Tree) (m : N → Data → Question) (u : Bool) (Q : Path) (k : validator.AdditionalProperties R N) where
   abbrev S : Sides R N
   S = sides_of k
@@ -99,7 +94,7 @@ module _ {R N : Type 0} (answers : R → Name → Says) (t : N → Bool → Data
   abbrev nodes_at : Name × Data → List N
   nodes_at x = nodes_asked answers S u x.0
 
-  names_left : (xs : List (Name × Data)) → (members_found answers t m u Q k xs).additional ≡ map (λ x. x.0) (those is_left xs)
+  names_left : (xs : List (Name × Data)) → (members_found answers t m u Q k xs).additional ≡ map (λ x. x.0) (filter_once is_left xs)
   names_left xs = names_of_those is_left (λ x. x.0) xs
 
   names_matched : (xs : List (Name × Data)) → (members_found answers t m u Q k xs).matched ≡ cond (is_none k.properties) (flat_map (λ x. map (λ e. x.0) (nodes_matching answers S u x.0)) xs) []
@@ -118,14 +113,14 @@ module _ {R N : Type 0} (answers : R → Name → Says) (t : N → Bool → Data
     abbrev means_at : Name × Data → Question
     means_at x = member_means answers costs m S x.0 x.1
 
-    members_accepted : (xs : List (Name × Data)) → (is_empty (those (λ x. is_unexpected answers S u x.0) xs) && all_wanted (members_found answers t m u Q k xs).wanted) ≡ (every means_at xs).accepts u
+    members_accepted : (xs : List (Name × Data)) → (is_empty (filter_once (λ x. is_unexpected answers S u x.0) xs) && all_wanted (members_found answers t m u Q k xs).wanted) ≡ (every means_at xs).accepts u
     members_accepted [] = refl
     members_accepted (x ∷ xs) =
         (λ i. none_more (is_unexpected answers S u x.0) i && list_all-append (λ w. w.1) (nodes_wanted t m u Q x.0 x.1 (nodes_at x)) (members_found answers t m u Q k xs).wanted i)
-        ∙ and_between (not (is_unexpected answers S u x.0)) (is_empty (those (λ y. is_unexpected answers S u y.0) xs)) (all_wanted (nodes_wanted t m u Q x.0 x.1 (nodes_at x))) (all_wanted (members_found answers t m u Q k xs).wanted)
-        ∙ (λ i. (and_turned (not (is_unexpected answers S u x.0)) (all_wanted (nodes_wanted t m u Q x.0 x.1 (nodes_at x))) ∙ ap (λ b. b && not (is_unexpected answers S u x.0)) (all_accept x.0 x.1 (nodes_at x)) ∙ sym (member_accepted answers costs m S x.0 x.1 u)) i && members_accepted xs i)
+        ∙ and_middle (not (is_unexpected answers S u x.0)) (is_empty (filter_once (λ y. is_unexpected answers S u y.0) xs)) (all_wanted (nodes_wanted t m u Q x.0 x.1 (nodes_at x))) (all_wanted (members_found answers t m u Q k xs).wanted)
+        ∙ (λ i. (and_comm (not (is_unexpected answers S u x.0)) (all_wanted (nodes_wanted t m u Q x.0 x.1 (nodes_at x))) ∙ ap (λ b. b && not (is_unexpected answers S u x.0)) (all_accept x.0 x.1 (nodes_at x)) ∙ sym (member_accepted answers costs m S x.0 x.1 u)) i && members_accepted xs i)
       where
-        none_more : (b : Bool) → is_empty (put_if b x (those (λ y. is_unexpected answers S u y.0) xs)) ≡ (not b && is_empty (those (λ y. is_unexpected answers S u y.0) xs))
+        none_more : (b : Bool) → is_empty (put_if b x (filter_once (λ y. is_unexpected answers S u y.0) xs)) ≡ (not b && is_empty (filter_once (λ y. is_unexpected answers S u y.0) xs))
         none_more true = refl
         none_more false = refl
 
@@ -144,20 +139,20 @@ module _ {R N : Type 0} (answers : R → Name → Says) (t : N → Bool → Data
 
   module _ (xs : List (Name × Data)) (v : Data) (P : Path) where
     abbrev left_names : List Name
-    left_names = map (λ x. x.0) (those is_left xs)
+    left_names = map (λ x. x.0) (filter_once is_left xs)
 
-    beside_others : (b : Bool) → (b ≡ false → (x : Name × Data) → is_left x ≡ true) → cond b (named_faults left_names v P Q) (unexpected_faults false xs v P Q) ≡ unexpected_faults b (those is_left xs) v P Q
-    beside_others true h = by (those is_left xs)
+    beside_others : (b : Bool) → (b ≡ false → (x : Name × Data) → is_left x ≡ true) → cond b (named_faults left_names v P Q) (unexpected_faults false xs v P Q) ≡ unexpected_faults b (filter_once is_left xs) v P Q
+    beside_others true h = by (filter_once is_left xs)
       where
         by : (ys : List (Name × Data)) → named_faults (map (λ x. x.0) ys) v P Q ≡ unexpected_faults true ys v P Q
         by [] = refl
         by (y ∷ ys) = refl
     beside_others false h = ap (λ l. unexpected_faults false l v P Q) (sym (all_of_those is_left (h refl) xs))
 
-    own_faults : cond (is_some k.rest) [] (faults_without_rest k left_names xs v P Q) ≡ unexpected_faults (has_neighbours k) (those (λ x. is_unexpected answers S u x.0) xs) v P Q
+    own_faults : cond (is_some k.rest) [] (faults_without_rest k left_names xs v P Q) ≡ unexpected_faults (has_neighbours k) (filter_once (λ x. is_unexpected answers S u x.0) xs) v P Q
     own_faults = by k.rest
       where
-        by : (o : Option N) → cond (is_some o) [] (faults_without_rest k left_names xs v P Q) ≡ unexpected_faults (has_neighbours k) (those (λ x. is_none o && is_left x) xs) v P Q
+        by : (o : Option N) → cond (is_some o) [] (faults_without_rest k left_names xs v P Q) ≡ unexpected_faults (has_neighbours k) (filter_once (λ x. is_none o && is_left x) xs) v P Q
         by None = beside_others (has_neighbours k) (λ e x. alone x.0 e)
         by (Some r) = ap (λ l. unexpected_faults (has_neighbours k) l v P Q) (sym (none_of_those is_left xs))
 
@@ -247,14 +242,14 @@ module _ {R N : Type 0} (answers : R → Name → Says) (t : N → Bool → Data
 
         wants_verdict : all_wanted all_wants ≡ (all_wanted members_wanted && is_empty (missing names (object ms)))
         wants_verdict = list_all-append (λ w. w.1) (members_wanted ++ accepted matches_here) (refused lacking)
-            ∙ (λ i. (list_all-append (λ w. w.1) members_wanted (accepted matches_here) ∙ ap (λ b. all_wanted members_wanted && b) (all_accepted matches_here) ∙ and_true (all_wanted members_wanted)) i
+            ∙ (λ i. (list_all-append (λ w. w.1) members_wanted (accepted matches_here) ∙ ap (λ b. all_wanted members_wanted && b) (all_accepted matches_here) ∙ and-true (all_wanted members_wanted)) i
             && all_there names (object ms) (object ms) place Q i)
 
         object_verdict : (costs : R → Bool) → repeats (object ms) ≡ false → is_valid (node_at k.location Q r) ≡ ((additional_means answers costs m S (object ms)).accepts u && is_empty (missing names (object ms)))
         object_verdict costs distinct =
             complete_verdict k.location Q annotation_here (faults_here k.location) all_wants (trees_of all) same (completes k.location Q) children_are
-            ∙ (λ i. (ap is_empty (faults_are k.location) ∙ faults_emptiness (has_neighbours k) (those (λ x. is_unexpected answers S u x.0) (listed ms)) (object ms) k.location Q) i && wants_verdict i)
-            ∙ and_assoc (is_empty (those (λ x. is_unexpected answers S u x.0) (listed ms))) (all_wanted members_wanted) (is_empty (missing names (object ms)))
+            ∙ (λ i. (ap is_empty (faults_are k.location) ∙ faults_emptiness (has_neighbours k) (filter_once (λ x. is_unexpected answers S u x.0) (listed ms)) (object ms) k.location Q) i && wants_verdict i)
+            ∙ sym (and_assoc (is_empty (filter_once (λ x. is_unexpected answers S u x.0) (listed ms))) (all_wanted members_wanted) (is_empty (missing names (object ms))))
             ∙ ap (λ b. b && is_empty (missing names (object ms))) (members_accepted costs (listed ms) ∙ ap (λ q. q.accepts u) (each_is_all answers costs m S (object ms) distinct))
 
       -- of v, which is that object
@@ -273,7 +268,7 @@ module _ {R N : Type 0} (answers : R → Name → Says) (S : Sides R N) (u : Boo
   lacking_here = missing_trees names v place Q
 
   none_missing : missing names v ≡ []
-  none_missing = (λ i. those (λ n. no_object v none i && not (has n v)) names) ∙ none_of_those (λ n. not (has n v)) names
+  none_missing = (λ i. filter_once (λ n. no_object v none i && not (has n v)) names) ∙ none_of_those (λ n. not (has n v)) names
 
   module _ {s : Shown} (h : s ≡ shown true None [] []) where
     pub other_like : (declares has_patterns : Bool) (t : N → Data → Path → Tree) → IsLikeTree (additional_tree answers S u v Q declares has_patterns P M t lacking_here) (node_at P Q s)

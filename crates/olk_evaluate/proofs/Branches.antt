@@ -3,7 +3,7 @@ use Rattle.std.proofs.Common.{◌≡◌, ℕ, ◌==◌, length, arith, Bool, tru
 use Rattle.std.specs.List.{list_all}
 use Rattle.std.proofs.lemmas.Bool.Decides.{nat_tests}
 use Rattle.serde_json.specs.Data.{Data}
-use Rattle.olk_spec.specs.Names.{Path, those, put_if, is_empty}
+use Rattle.olk_spec.specs.Names.{Path, filter_once, put_if, is_empty}
 use Rattle.olk_spec.specs.Tree.{Tree, trees_from, IsLikeTree, is_valid, plain, result}
 use Rattle.olk_reports.specs.Evaluations.{Shown, shown, node_at}
 use Rattle.olk_tree.specs.Questions.{Question, some}
@@ -15,19 +15,19 @@ use Rattle.olk_evaluate.proofs.Children.{trees_wanted, plain_like, plain_verdict
 -- ---- those of a list
 
 module _ {X : Type 0} (p : X → Bool) where
-  pass_first : (x : X) (xs : List X) (b : Bool) → p x ≡ b → list_all p (those p xs) ≡ true → list_all p (put_if b x (those p xs)) ≡ true
+  pass_first : (x : X) (xs : List X) (b : Bool) → p x ≡ b → list_all p (filter_once p xs) ≡ true → list_all p (put_if b x (filter_once p xs)) ≡ true
   pass_first x xs true q rest = λ i. q i && rest i
   pass_first x xs false q rest = rest
 
-  pub those_pass : (xs : List X) → list_all p (those p xs) ≡ true
+  pub those_pass : (xs : List X) → list_all p (filter_once p xs) ≡ true
   those_pass [] = refl
   those_pass (x ∷ xs) = pass_first x xs (p x) refl (those_pass xs)
 
-those_map : {X Y : Type 0} (f : X → Y) (p : Y → Bool) (xs : List X) → those p (map f xs) ≡ map f (those (λ x. p (f x)) xs)
+those_map : {X Y : Type 0} (f : X → Y) (p : Y → Bool) (xs : List X) → filter_once p (map f xs) ≡ map f (filter_once (λ x. p (f x)) xs)
 those_map f p [] = refl
 those_map f p (x ∷ xs) = ap (put_if (p (f x)) (f x)) (those_map f p xs) ∙ by (p (f x))
   where
-    by : (b : Bool) → put_if b (f x) (map f (those (λ y. p (f y)) xs)) ≡ map f (put_if b x (those (λ y. p (f y)) xs))
+    by : (b : Bool) → put_if b (f x) (map f (filter_once (λ y. p (f y)) xs)) ≡ map f (put_if b x (filter_once (λ y. p (f y)) xs))
     by true = refl
     by false = refl
 
@@ -50,42 +50,42 @@ module _ {N : Type 0} (t : N → Bool → Data → Path → Tree) (m : N → Dat
   abbrev wanted_here : List Wanted
   wanted_here = each_wanted t m u ns v Q
 
-  pub accepting_wanted : those (λ w. w.1) wanted_here ≡ each_wanted t m u (those accepts_here ns) v Q
+  pub accepting_wanted : filter_once (λ w. w.1) wanted_here ≡ each_wanted t m u (filter_once accepts_here ns) v Q
   accepting_wanted = those_map (λ n. wanted t m u n v Q) (λ w. w.1) ns
 
-  some_first : (n : N) (ms : List N) (b : Bool) → (some (λ k. m k v) ms).accepts u ≡ not (is_empty (those accepts_here ms)) → (b || (some (λ k. m k v) ms).accepts u) ≡ not (is_empty (put_if b n (those accepts_here ms)))
+  some_first : (n : N) (ms : List N) (b : Bool) → (some (λ k. m k v) ms).accepts u ≡ not (is_empty (filter_once accepts_here ms)) → (b || (some (λ k. m k v) ms).accepts u) ≡ not (is_empty (put_if b n (filter_once accepts_here ms)))
   some_first n ms true rest = refl
   some_first n ms false rest = rest
 
-  some_accepts : (ms : List N) → (some (λ n. m n v) ms).accepts u ≡ not (is_empty (those accepts_here ms))
+  some_accepts : (ms : List N) → (some (λ n. m n v) ms).accepts u ≡ not (is_empty (filter_once accepts_here ms))
   some_accepts [] = refl
   some_accepts (n ∷ ms) = some_first n ms (accepts_here n) (some_accepts ms)
 
-  emptiness : (cs : List Tree) → AreShown (those (λ w. w.1) wanted_here) cs → is_empty (those accepts_here ns) ≡ is_empty cs
-  emptiness cs h = sym (map_emptiness (λ n. wanted t m u n v Q) (those accepts_here ns)) ∙ ap is_empty (sym accepting_wanted) ∙ as_many (those (λ w. w.1) wanted_here) cs h
+  emptiness : (cs : List Tree) → AreShown (filter_once (λ w. w.1) wanted_here) cs → is_empty (filter_once accepts_here ns) ≡ is_empty cs
+  emptiness cs h = sym (map_emptiness (λ n. wanted t m u n v Q) (filter_once accepts_here ns)) ∙ ap is_empty (sym accepting_wanted) ∙ as_many (filter_once (λ w. w.1) wanted_here) cs h
 
   module _ (cs : List Tree) {s : Shown} where
     -- where one accepts
-    pub accepting_like : AreShown (those (λ w. w.1) wanted_here) cs → is_empty cs ≡ false → s ≡ shown (list_all is_valid cs) None [] cs → IsLikeTree (any_of_tree (λ n. t n u) v Q accepts_here P ns) (node_at P Q s)
+    pub accepting_like : AreShown (filter_once (λ w. w.1) wanted_here) cs → is_empty cs ≡ false → s ≡ shown (list_all is_valid cs) None [] cs → IsLikeTree (any_of_tree (λ n. t n u) v Q accepts_here P ns) (node_at P Q s)
     accepting_like h some e =
-        subst (λ b. IsLikeTree (cond b (result P Q None true [] (branch_trees (λ n. t n u) v Q ns)) (plain P Q (branch_trees (λ n. t n u) v Q (those accepts_here ns)))) (node_at P Q s)) (sym (emptiness cs h ∙ some))
-        (plain_like P Q (those (λ w. w.1) wanted_here) (branch_trees (λ n. t n u) v Q (those accepts_here ns)) (ap trees_wanted accepting_wanted ∙ branches_wanted t m u v P Q (those accepts_here ns)) h e)
+        subst (λ b. IsLikeTree (cond b (result P Q None true [] (branch_trees (λ n. t n u) v Q ns)) (plain P Q (branch_trees (λ n. t n u) v Q (filter_once accepts_here ns)))) (node_at P Q s)) (sym (emptiness cs h ∙ some))
+        (plain_like P Q (filter_once (λ w. w.1) wanted_here) (branch_trees (λ n. t n u) v Q (filter_once accepts_here ns)) (ap trees_wanted accepting_wanted ∙ branches_wanted t m u v P Q (filter_once accepts_here ns)) h e)
 
-    pub accepting_verdict : AreShown (those (λ w. w.1) wanted_here) cs → is_empty cs ≡ false → s ≡ shown (list_all is_valid cs) None [] cs → is_valid (node_at P Q s) ≡ (some (λ n. m n v) ns).accepts u
-    accepting_verdict h some e = plain_verdict P Q (those (λ w. w.1) wanted_here) true (those_pass (λ w. w.1) wanted_here) h e ∙ sym (some_accepts ns ∙ ap not (emptiness cs h ∙ some))
+    pub accepting_verdict : AreShown (filter_once (λ w. w.1) wanted_here) cs → is_empty cs ≡ false → s ≡ shown (list_all is_valid cs) None [] cs → is_valid (node_at P Q s) ≡ (some (λ n. m n v) ns).accepts u
+    accepting_verdict h some e = plain_verdict P Q (filter_once (λ w. w.1) wanted_here) true (those_pass (λ w. w.1) wanted_here) h e ∙ sym (some_accepts ns ∙ ap not (emptiness cs h ∙ some))
 
     module _ (none : List Tree) where
       -- where none accepts
-      pub refusing_like : AreShown (those (λ w. w.1) wanted_here) none → is_empty none ≡ true → AreShown wanted_here cs → s ≡ shown false None [] cs → IsLikeTree (any_of_tree (λ n. t n u) v Q accepts_here P ns) (node_at P Q s)
+      pub refusing_like : AreShown (filter_once (λ w. w.1) wanted_here) none → is_empty none ≡ true → AreShown wanted_here cs → s ≡ shown false None [] cs → IsLikeTree (any_of_tree (λ n. t n u) v Q accepts_here P ns) (node_at P Q s)
       refusing_like a nobody all e =
-          let refused : is_empty (those (λ w. w.1) wanted_here) ≡ true = as_many (those (λ w. w.1) wanted_here) none a ∙ nobody in
-          subst (λ b. IsLikeTree (cond b (result P Q None true [] (branch_trees (λ n. t n u) v Q ns)) (plain P Q (branch_trees (λ n. t n u) v Q (those accepts_here ns)))) (node_at P Q s)) (sym (sym (map_emptiness (λ n. wanted t m u n v Q) (those accepts_here ns)) ∙ ap is_empty (sym accepting_wanted) ∙ refused))
+          let refused : is_empty (filter_once (λ w. w.1) wanted_here) ≡ true = as_many (filter_once (λ w. w.1) wanted_here) none a ∙ nobody in
+          subst (λ b. IsLikeTree (cond b (result P Q None true [] (branch_trees (λ n. t n u) v Q ns)) (plain P Q (branch_trees (λ n. t n u) v Q (filter_once accepts_here ns)))) (node_at P Q s)) (sym (sym (map_emptiness (λ n. wanted t m u n v Q) (filter_once accepts_here ns)) ∙ ap is_empty (sym accepting_wanted) ∙ refused))
           (subst (λ r. IsLikeTree (result P Q None true [] (branch_trees (λ n. t n u) v Q ns)) (node_at P Q r)) (sym e)
           (subst (λ ts. IsLikeTree (result P Q None true [] ts) (node_at P Q (shown false None [] cs))) (branches_wanted t m u v P Q ns)
           (like_result P Q false false None None [] [] (trees_from (trees_wanted wanted_here)) (trees_from cs) refl refl tt (like_children wanted_here cs all))))
 
-      pub refusing_verdict : AreShown (those (λ w. w.1) wanted_here) none → is_empty none ≡ true → s ≡ shown false None [] cs → is_valid (node_at P Q s) ≡ (some (λ n. m n v) ns).accepts u
-      refusing_verdict a nobody e = valid_shown P Q s false None [] cs e ∙ sym (some_accepts ns ∙ ap not (sym (map_emptiness (λ n. wanted t m u n v Q) (those accepts_here ns)) ∙ ap is_empty (sym accepting_wanted) ∙ as_many (those (λ w. w.1) wanted_here) none a ∙ nobody))
+      pub refusing_verdict : AreShown (filter_once (λ w. w.1) wanted_here) none → is_empty none ≡ true → s ≡ shown false None [] cs → is_valid (node_at P Q s) ≡ (some (λ n. m n v) ns).accepts u
+      refusing_verdict a nobody e = valid_shown P Q s false None [] cs e ∙ sym (some_accepts ns ∙ ap not (sym (map_emptiness (λ n. wanted t m u n v Q) (filter_once accepts_here ns)) ∙ ap is_empty (sym accepting_wanted) ∙ as_many (filter_once (λ w. w.1) wanted_here) none a ∙ nobody))
 
 -- whether a list of nodes is empty, by its length
 pub none_here : (xs : List EvaluationNode) (n : ℕ) → n ≡ length xs → true ≡ (n == 0) → is_empty (trees_of xs) ≡ true

@@ -3,8 +3,9 @@ use Rattle.std.proofs.Common.{◌≡◌, ℕ, ◌≤◌, Bool, true, false, ◌&
 use Rattle.std.specs.List.{list_all}
 use Rattle.std.proofs.lemmas.List.{append-nil, drop_all, map-append}
 use Rattle.std.proofs.lemmas.Simd.{map-map}
+use Rattle.olk_spec.proofs.Refused_trees.{same_validity}
 use Rattle.olk_spec.specs.Names.{Name, Path}
-use Rattle.olk_spec.specs.Tree.{Tree, Trees, node, leaf_node, trees_from, IsLikeTree, AreLikeTrees, AreTold, Described, is_valid, result_node, plain}
+use Rattle.olk_spec.specs.Tree.{Tree, Trees, trees_from, IsLikeTree, AreLikeTrees, AreTold, Described, is_valid, result_node, plain}
 use Rattle.olk_reports.specs.Evaluations.{Shown, shown, node_at, tree_of}
 use Rattle.olk_reports.specs.declared.evaluation.EvaluationNode.{EvaluationNode}
 use Rattle.serde_json.specs.Data.{Data, string}
@@ -33,11 +34,6 @@ valid_shown P Q s b a es ts e = ap (λ r. is_valid (node_at P Q r)) e ∙ valid_
 -- ---- children
 
 -- what is like a tree is valid where the tree is
-same_validity : (t u : Tree) → IsLikeTree t u → is_valid u ≡ is_valid t
-same_validity (node P Q b a es ts) (node P' Q' b' a' es' ts') h = h.2
-same_validity (leaf_node P Q es) (node P' Q' b' a' es' ts') h = h.2
-same_validity (node P Q b a es ts) (leaf_node P' Q' es') h = absurd h
-same_validity (leaf_node P Q es) (leaf_node P' Q' es') h = absurd h
 
 abbrev pub trees_wanted : List Wanted → List Tree
 trees_wanted = map (λ w. w.0)

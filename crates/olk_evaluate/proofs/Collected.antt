@@ -10,8 +10,7 @@ use Rattle.olk_base.specs.Lawful.{Asking}
 use Rattle.olk_base.specs.Compiled.{pattern_answers}
 use Rattle.olk_base.specs.declared.pattern.CompiledPattern.{CompiledPattern}
 use Rattle.olk_tree.specs.Questions.{Question}
-use Rattle.olk_tree.specs.Additional.{known_at, known_or, is_matched_by, matching_from}
-use Rattle.olk_tree.specs.Answers.{sides_of}
+use Rattle.olk_tree.specs.Additional.{known_at, known_or, is_matched_by, matching_from, sides_of}
 use Rattle.olk_tree.specs.declared.additional_properties.AdditionalProperties.{AdditionalProperties}
 use Rattle.olk_check.specs.Asks.{OnlyAsks}
 use Rattle.olk_check.proofs.Asked.{only_then}
@@ -76,10 +75,6 @@ collects_all {f} {a} {b} no_child no_name no_match h = record {
 }
 
 -- ---- a member
-
-pub mapped_is : {A B : Type 0} (f : A → B) (o : Option A) → is_some o ≡ is_some (option_map f o)
-mapped_is f None = refl
-mapped_is f (Some x) = refl
 
 pub none_is : {A : Type 0} (o : Option A) (b : Bool) → is_some o ≡ not b → b ≡ is_none o
 none_is None true e = refl

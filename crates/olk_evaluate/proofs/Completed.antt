@@ -3,6 +3,7 @@ use Rattle.std.proofs.Common.{◌≡◌, Bool, true, false, ◌&&◌, List, [], 
 use Rattle.std.specs.List.{list_all}
 use Rattle.std.proofs.lemmas.Bool.Decides.{nat_tests}
 use Rattle.std.proofs.lemmas.List.{append-nil}
+use Rattle.std.proofs.Math.Bool.{and-false, and-true}
 use Rattle.serde_json.specs.Data.{Data}
 use Rattle.serde_json.specs.View.{view, members_view}
 use Rattle.serde_json.specs.declared.value.Value.{Value}
@@ -11,7 +12,6 @@ use Rattle.olk_spec.specs.Faults.{Fault, fault, AdditionalProperties, FalseSchem
 use Rattle.olk_spec.specs.Reports.{unexpected_faults}
 use Rattle.olk_spec.specs.Schemas.{listed}
 use Rattle.olk_spec.specs.Tree.{Tree, trees_from, IsLikeTree, AreTold, Described, described, is_valid, result}
-use Rattle.olk_spec.proofs.Truth.{and_true}
 use Rattle.olk_reports.specs.Evaluations.{Shown, shown, errored, node_at}
 use Rattle.olk_evaluate.specs.Wanted.{Wanted, AreShown, IsDescribedBy}
 use Rattle.olk_evaluate.specs.Additional.{AddsErrors, annotated_if, errored_by, named_faults, names_of}
@@ -20,11 +20,7 @@ use Rattle.olk_evaluate.proofs.OwnErrors.{empty_described}
 
 errored_shown : (own : List Described) (b : Bool) (A : Option (List Name)) (es : List Described) (cs : List Tree) → errored_by own (shown b A es cs) ≡ shown (is_empty own && b) A (es ++ own) cs
 errored_shown [] b A es cs = ap (λ l. shown b A l cs) (sym (append-nil es))
-errored_shown (d ∷ ds) b A es cs = errored_shown ds false A (es ++ d ∷ []) cs ∙ (λ i. shown (nothing (is_empty ds) i) A (append_assoc es (d ∷ []) ds i) cs)
-  where
-    nothing : (c : Bool) → (c && false) ≡ false
-    nothing true = refl
-    nothing false = refl
+errored_shown (d ∷ ds) b A es cs = errored_shown ds false A (es ++ d ∷ []) cs ∙ (λ i. shown (and-false (is_empty ds) i) A (append_assoc es (d ∷ []) ds i) cs)
 
 annotated_shown : (A : Option (List Name)) (b : Bool) (cs : List Tree) → annotated_if A (shown b None [] cs) ≡ shown b A [] cs
 annotated_shown None b cs = refl
@@ -51,7 +47,7 @@ module _ (P Q : Path) (A : Option (List Name)) (fs : List Fault) (ws : List Want
   complete_like ts trees = subst (λ x. IsLikeTree (result P Q A false (described fs) ts) (node_at P Q x)) (sym result_is)
       (subst (λ us. IsLikeTree (result P Q A false (described fs) us) (node_at P Q all_shown)) trees
       (like_result P Q (is_empty (described fs) && true && list_all is_valid (trees_wanted ws)) (is_empty h.own && list_all is_valid cs) A A (described fs) h.own (trees_from (trees_wanted ws)) (trees_from cs)
-      (λ i. (told_emptiness (described fs) h.own h.told ∙ sym (and_true (is_empty (described fs)))) i && all_wanted_valid ws cs children i)
+      (λ i. (told_emptiness (described fs) h.own h.told ∙ sym (and-true (is_empty (described fs)))) i && all_wanted_valid ws cs children i)
       refl h.told (like_children ws cs children)))
 
   pub complete_verdict : is_valid (node_at P Q r) ≡ (is_empty fs && all_wanted ws)

@@ -6,14 +6,15 @@ use Rattle.std.specs.Cmp.Lexicographic.{slice_cmp}
 use Rattle.std.proofs.lemmas.Map.Text.{is_eq-slice_cmp}
 use Rattle.std.proofs.lemmas.List.Folds.{list_all-append}
 use Rattle.std.proofs.lemmas.List.{append-nil, map-append}
+use Rattle.std.proofs.Math.Bool.{and_comm}
 use Rattle.serde_json.specs.Data.{Data, Members, object}
 use Rattle.serde_json.specs.Find.{as_object}
-use Rattle.olk_spec.specs.Names.{Name, Path, ◌//◌, lookup, first_if_equal, is_among, those, put_if, is_empty}
+use Rattle.olk_spec.specs.Names.{Name, Path, ◌//◌, lookup_name, first_if_equal, is_among, filter_once, put_if, is_empty}
 use Rattle.olk_spec.specs.Schemas.{listed}
 use Rattle.olk_spec.specs.Tree.{Tree, IsLikeTree, AreLikeTrees, trees_from, is_valid}
 use Rattle.olk_spec.specs.Accepts.{missing}
 use Rattle.olk_tree.specs.Questions.{Question, every}
-use Rattle.olk_tree.specs.Answers.{properties_mean}
+use Rattle.olk_tree.specs.Properties.{properties_mean}
 use Rattle.olk_tree.specs.Shown.{member_trees, met_names, properties_tree, missing_trees}
 use Rattle.olk_tree.specs.Visited.{Declared, declared_as, members_declared}
 use Rattle.olk_tree.proofs.Members_met.{means_nothing, object_is}
@@ -34,12 +35,6 @@ shown_append [] vs [] us h k = k
 shown_append [] vs (t ∷ ts) us h k = absurd h
 shown_append (w ∷ ws) vs [] us h k = absurd h
 shown_append (w ∷ ws) vs (t ∷ ts) us h k = (h.0, shown_append ws vs ts us h.1 k)
-
-pub and_turned : (x y : Bool) → (x && y) ≡ (y && x)
-and_turned true true = refl
-and_turned true false = refl
-and_turned false true = refl
-and_turned false false = refl
 
 -- ---- one member after another
 
@@ -80,9 +75,9 @@ found_first n k x rest b e = by (slice_cmp nat_cmp n k) (sym (is_eq-slice_cmp n 
     by Equal q = sym (ap (λ c. c || b) q)
     by Greater q = e ∙ sym (ap (λ c. c || b) q)
 
-declared_found : {X : Type 0} (n : Name) (es : List (Name × X)) → is_some (lookup n es) ≡ is_declared n es
+declared_found : {X : Type 0} (n : Name) (es : List (Name × X)) → is_some (lookup_name n es) ≡ is_declared n es
 declared_found n [] = refl
-declared_found n (e ∷ es) = found_first n e.0 e.1 (lookup n es) (is_declared n es) (declared_found n es)
+declared_found n (e ∷ es) = found_first n e.0 e.1 (lookup_name n es) (is_declared n es) (declared_found n es)
 
 module _ {N : Type 0} (t : N → Bool → Data → Path → Tree) (m : N → Data → Question) (u : Bool) (Q : Path) where
   abbrev tree_at : N → Data → Path → Tree
@@ -105,12 +100,12 @@ module _ {N : Type 0} (t : N → Bool → Data → Path → Tree) (m : N → Dat
     named_here (Some n) true x xs e = refl
     named_here (Some n) false x xs e = cc
 
-    names_there : (xs : List (Name × Data)) → declared_names (members_declared es xs) ≡ map (λ x. x.0) (those (λ x. is_declared x.0 es) xs)
+    names_there : (xs : List (Name × Data)) → declared_names (members_declared es xs) ≡ map (λ x. x.0) (filter_once (λ x. is_declared x.0 es) xs)
     names_there [] = refl
     names_there (x ∷ xs) =
-        map-append (λ d. d.name) (flat_map (λ n. declared_as x.0 n x.1) (option_to_list (lookup x.0 es))) (members_declared es xs)
-        ∙ ap (λ l. declared_names (flat_map (λ n. declared_as x.0 n x.1) (option_to_list (lookup x.0 es))) ++ l) (names_there xs)
-        ∙ named_here (lookup x.0 es) (is_declared x.0 es) x (those (λ y. is_declared y.0 es) xs) (declared_found x.0 es)
+        map-append (λ d. d.name) (flat_map (λ n. declared_as x.0 n x.1) (option_to_list (lookup_name x.0 es))) (members_declared es xs)
+        ∙ ap (λ l. declared_names (flat_map (λ n. declared_as x.0 n x.1) (option_to_list (lookup_name x.0 es))) ++ l) (names_there xs)
+        ∙ named_here (lookup_name x.0 es) (is_declared x.0 es) x (filter_once (λ y. is_declared y.0 es) xs) (declared_found x.0 es)
 
     abbrev trees_at : List (Declared N) → List Tree
     trees_at ds = trees_wanted (map (wanted_at t m u Q) ds)
@@ -122,11 +117,11 @@ module _ {N : Type 0} (t : N → Bool → Data → Path → Tree) (m : N → Dat
     trees_append : (ds cs : List (Declared N)) → trees_at (ds ++ cs) ≡ trees_at ds ++ trees_at cs
     trees_append ds cs = ap trees_wanted (map-append (wanted_at t m u Q) ds cs) ∙ map-append (λ w. w.0) (map (wanted_at t m u Q) ds) (map (wanted_at t m u Q) cs)
 
-    trees_there : (xs : List (Name × Data)) → trees_at (members_declared es xs) ≡ flat_map (λ x. map (λ n. t n u x.1 (Q // x.0)) (option_to_list (lookup x.0 es))) xs
+    trees_there : (xs : List (Name × Data)) → trees_at (members_declared es xs) ≡ flat_map (λ x. map (λ n. t n u x.1 (Q // x.0)) (option_to_list (lookup_name x.0 es))) xs
     trees_there [] = refl
     trees_there (x ∷ xs) =
-        trees_append (flat_map (λ n. declared_as x.0 n x.1) (option_to_list (lookup x.0 es))) (members_declared es xs)
-        ∙ (λ i. tree_here (lookup x.0 es) x.0 x.1 i ++ trees_there xs i)
+        trees_append (flat_map (λ n. declared_as x.0 n x.1) (option_to_list (lookup_name x.0 es))) (members_declared es xs)
+        ∙ (λ i. tree_here (lookup_name x.0 es) x.0 x.1 i ++ trees_there xs i)
 
     -- what is wanted of the declared members of an object
     abbrev pub wanted_in : Members → List Wanted
@@ -191,7 +186,7 @@ module _ {N : Type 0} (t : N → Bool → Data → Path → Tree) (m : N → Dat
           ∙ ap (list_all is_valid) (both_children children)
           ∙ list_all-append is_valid (trees_of met.children.items) (trees_of more)
           ∙ (λ i. verdict i && (all_valid lacking (trees_of more) k ∙ all_there ns v (object ms) required Q) i)
-          ∙ and_turned ((properties_mean m es (object ms)).accepts u) (is_empty (missing ns (object ms)))
+          ∙ and_comm ((properties_mean m es (object ms)).accepts u) (is_empty (missing ns (object ms)))
           ∙ ap (λ w. is_empty (missing ns w) && (properties_mean m es w).accepts u) (object_is v ms o)
 
     pub nothing_missing : (P : Path) (v : Data) (ns : List Name) {s : Shown} → None ≡ as_object v → s ≡ shown true None [] [] → is_valid (node_at P Q s) ≡ (is_empty (missing ns v) && (properties_mean m es v).accepts u)

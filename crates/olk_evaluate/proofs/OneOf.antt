@@ -3,10 +3,10 @@ use Rattle.std.proofs.Common.{◌≡◌, ℕ, ◌<◌, ◌≤◌, ◌==◌, nat_
 use Rattle.std.proofs.lemmas.List.{length-map}
 use Rattle.std.specs.List.{list_all}
 use Rattle.std.proofs.lemmas.Bool.Decides.{nat_tests}
+use Rattle.std.proofs.Math.Bool.{and-true}
 use Rattle.serde_json.specs.Data.{Data}
-use Rattle.olk_spec.specs.Names.{Path, those, put_if}
+use Rattle.olk_spec.specs.Names.{Path, filter_once, put_if}
 use Rattle.olk_spec.specs.Tree.{Tree, trees_from, IsLikeTree, is_valid, result}
-use Rattle.olk_spec.proofs.Truth.{and_true}
 use Rattle.olk_reports.specs.Evaluations.{Shown, shown, node_at, tree_of}
 use Rattle.olk_reports.specs.declared.evaluation.EvaluationNode.{EvaluationNode}
 use Rattle.olk_tree.specs.Questions.{Question, how_many}
@@ -27,7 +27,7 @@ module _ {N : Type 0} (t : N → Bool → Data → Path → Tree) (m : N → Dat
   wanted_here = each_wanted t m u ns v Q
 
   abbrev acceptors : List N
-  acceptors = those (accepts_here t m u v P Q ns) ns
+  acceptors = filter_once (accepts_here t m u v P Q ns) ns
 
   abbrev tree_here : Tree
   tree_here = one_of_tree (λ k. t k u) v Q (accepts_here t m u v P Q ns) P ns
@@ -38,11 +38,11 @@ module _ {N : Type 0} (t : N → Bool → Data → Path → Tree) (m : N → Dat
       (result P Q None true [] (branch_trees (λ k. t k u) v Q ns))
       (result P Q None false (put_if (nat_lt 1 n) several_accept []) (branch_trees (λ k. t k u) v Q acceptors))
 
-  module _ (cs : List Tree) (h : AreShown (those (λ w. w.1) wanted_here) cs) where
+  module _ (cs : List Tree) (h : AreShown (filter_once (λ w. w.1) wanted_here) cs) where
     count_shown : how_many (λ k. m k v) u ns ≡ length cs
-    count_shown = count_those (accepts_here t m u v P Q ns) ns ∙ sym (length-map acceptors (λ k. wanted t m u k v Q)) ∙ ap length (sym (accepting_wanted t m u v P Q ns)) ∙ as_long (those (λ w. w.1) wanted_here) cs h
+    count_shown = count_those (accepts_here t m u v P Q ns) ns ∙ sym (length-map acceptors (λ k. wanted t m u k v Q)) ∙ ap length (sym (accepting_wanted t m u v P Q ns)) ∙ as_long (filter_once (λ w. w.1) wanted_here) cs h
 
-    acceptors_wanted : trees_wanted (those (λ w. w.1) wanted_here) ≡ branch_trees (λ k. t k u) v Q acceptors
+    acceptors_wanted : trees_wanted (filter_once (λ w. w.1) wanted_here) ≡ branch_trees (λ k. t k u) v Q acceptors
     acceptors_wanted = ap trees_wanted (accepting_wanted t m u v P Q ns) ∙ branches_wanted t m u v P Q acceptors
 
     several_shown : 1 < length cs → tree_here ≡ result P Q None false (several_accept ∷ []) (branch_trees (λ k. t k u) v Q acceptors)
@@ -53,17 +53,17 @@ module _ {N : Type 0} (t : N → Bool → Data → Path → Tree) (m : N → Dat
     module _ {s : Shown} where
       -- where one accepts
       pub one_like : length cs ≡ 1 → s ≡ shown (list_all is_valid cs) None [] cs → IsLikeTree tree_here (node_at P Q s)
-      one_like one e = subst (λ w. IsLikeTree w (node_at P Q s)) (sym (ap tree_of_count (count_shown ∙ one))) (plain_like P Q (those (λ w. w.1) wanted_here) (branch_trees (λ k. t k u) v Q acceptors) acceptors_wanted h e)
+      one_like one e = subst (λ w. IsLikeTree w (node_at P Q s)) (sym (ap tree_of_count (count_shown ∙ one))) (plain_like P Q (filter_once (λ w. w.1) wanted_here) (branch_trees (λ k. t k u) v Q acceptors) acceptors_wanted h e)
 
       pub one_verdict : length cs ≡ 1 → s ≡ shown (list_all is_valid cs) None [] cs → is_valid (node_at P Q s) ≡ (how_many (λ k. m k v) u ns == 1)
-      one_verdict one e = plain_verdict P Q (those (λ w. w.1) wanted_here) true (those_pass (λ w. w.1) wanted_here) h e ∙ sym (ap (λ n. n == 1) (count_shown ∙ one))
+      one_verdict one e = plain_verdict P Q (filter_once (λ w. w.1) wanted_here) true (those_pass (λ w. w.1) wanted_here) h e ∙ sym (ap (λ n. n == 1) (count_shown ∙ one))
 
       -- where several accept
       pub several_like : 1 < length cs → s ≡ shown false None (several_accept ∷ []) cs → IsLikeTree tree_here (node_at P Q s)
       several_like more e = subst (λ w. IsLikeTree w (node_at P Q s)) (sym (several_shown more))
           (subst (λ r. IsLikeTree (result P Q None false (several_accept ∷ []) (branch_trees (λ k. t k u) v Q acceptors)) (node_at P Q r)) (sym e)
           (subst (λ ts. IsLikeTree (result P Q None false (several_accept ∷ []) ts) (node_at P Q (shown false None (several_accept ∷ []) cs))) acceptors_wanted
-          (like_result P Q false false None None (several_accept ∷ []) (several_accept ∷ []) (trees_from (trees_wanted (those (λ w. w.1) wanted_here))) (trees_from cs) refl refl (refl, (λ q. refl), tt) (like_children (those (λ w. w.1) wanted_here) cs h))))
+          (like_result P Q false false None None (several_accept ∷ []) (several_accept ∷ []) (trees_from (trees_wanted (filter_once (λ w. w.1) wanted_here))) (trees_from cs) refl refl (refl, (λ q. refl), tt) (like_children (filter_once (λ w. w.1) wanted_here) cs h))))
 
       pub several_verdict : 1 < length cs → s ≡ shown false None (several_accept ∷ []) cs → is_valid (node_at P Q s) ≡ (how_many (λ k. m k v) u ns == 1)
       several_verdict more e = valid_shown P Q s false None (several_accept ∷ []) cs e ∙ sym (ap (λ n. n == 1) count_shown ∙ several_is_not_one (length cs) more)
@@ -97,7 +97,7 @@ module _ {N : Type 0} (t : N → Bool → Data → Path → Tree) (m : N → Dat
     where
       by : (b : Bool) → is_valid c ≡ b → IsLikeTree (one_of_tree (λ k. t k u) v Q (λ k. b) P (n ∷ [])) (node_at P Q (shown (is_valid c) None [] (c ∷ [])))
       by true valid = like_result P Q (is_valid (t n u v Q) && true) (is_valid c) None None [] [] (trees_from (t n u v Q ∷ [])) (trees_from (c ∷ []))
-          (sym (and_true (is_valid c)) ∙ all_wanted_valid (wanted t m u n v Q ∷ []) (c ∷ []) (h, tt)) refl tt (h.like, tt)
+          (sym (and-true (is_valid c)) ∙ all_wanted_valid (wanted t m u n v Q ∷ []) (c ∷ []) (h, tt)) refl tt (h.like, tt)
       by false valid = like_result P Q false (is_valid c) None None [] [] (trees_from (t n u v Q ∷ [])) (trees_from (c ∷ [])) valid refl tt (h.like, tt)
 
   pub single_verdict : is_valid (node_at P Q s) ≡ (m n v).accepts u

@@ -13,7 +13,8 @@ use Rattle.serde_json.specs.Find.{as_object}
 use Rattle.olk_check.proofs.Missing.{lacks_nothing}
 use Rattle.olk_spec.specs.Schemas.{has, members}
 use Rattle.olk_spec.specs.Accepts.{missing}
-use Rattle.olk_tree.specs.Answers.{texts_of, unless}
+use Rattle.olk_tree.specs.Maps.{texts_of}
+use Rattle.olk_tree.specs.OwnFaults.{unless}
 use Rattle.olk_reports.specs.Evaluations.{Shown, shown, errored, node_at}
 use Rattle.olk_evaluate.specs.Wanted.{AreShown, refused, lacking_trees, HasErrors, HasTexts, IsDescribedBy}
 use Rattle.olk_evaluate.proofs.Children.{like_result, valid_shown}

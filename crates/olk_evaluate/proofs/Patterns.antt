@@ -4,18 +4,18 @@ use mathlib.Core.Path.{subst₂}
 use Rattle.std.specs.List.{flat_map, list_all}
 use Rattle.std.proofs.lemmas.List.{append-nil, map-append}
 use Rattle.std.proofs.lemmas.Grind.{flat_map-append}
+use Rattle.std.proofs.Math.Bool.{and-true}
 use Rattle.serde_json.specs.Data.{Data, Members, null, boolean, number, string, array, object}
 use Rattle.serde_json.specs.Find.{as_object}
-use Rattle.olk_spec.specs.Names.{Name, Path, ◌//◌, those, put_if}
+use Rattle.olk_spec.specs.Names.{Name, Path, ◌//◌, filter_once, put_if}
 use Rattle.olk_spec.specs.World.{Says}
 use Rattle.olk_spec.specs.Schemas.{listed, members, is_object}
 use Rattle.olk_spec.specs.Tree.{Tree, IsLikeTree, AreLikeTrees, trees_from, is_valid, result}
-use Rattle.olk_spec.proofs.Truth.{and_true}
 use Rattle.olk_base.specs.declared.pattern.CompiledPattern.{CompiledPattern}
 use Rattle.olk_base.specs.Lawful.{Asking}
 use Rattle.olk_tree.specs.Questions.{Question, always, conditional, every}
 use Rattle.olk_tree.specs.Matched.{is_match, matched, match_question}
-use Rattle.olk_tree.specs.Answers.{matched_mean, patterns_mean}
+use Rattle.olk_tree.specs.PatternProperties.{matched_mean, patterns_mean}
 use Rattle.olk_tree.specs.Shown.{match_trees, match_names, patterns_tree}
 use Rattle.olk_tree.specs.Visited.{Declared, declared_as}
 use Rattle.olk_tree.proofs.Questions.{every-flat_map}
@@ -114,12 +114,12 @@ module _ {R N : Type 0} (answers : R → Name → Says) (t : N → Bool → Data
       abbrev asked_at : CompiledPattern R → N → Name × Data → Question
       asked_at p n x = conditional (match_question answers costs p x.0) (m n x.1) (always true)
 
-      matches_accepted : (p : CompiledPattern R) (n : N) (xs : List (Name × Data)) → (every (λ d. m d.node d.value) (flat_map (λ x. declared_as x.0 n x.1) (those (λ x. is_match answers u p x.0) xs))).accepts u ≡ (every (asked_at p n) xs).accepts u
+      matches_accepted : (p : CompiledPattern R) (n : N) (xs : List (Name × Data)) → (every (λ d. m d.node d.value) (flat_map (λ x. declared_as x.0 n x.1) (filter_once (λ x. is_match answers u p x.0) xs))).accepts u ≡ (every (asked_at p n) xs).accepts u
       matches_accepted p n [] = refl
       matches_accepted p n (x ∷ xs) = by (is_match answers u p x.0) (matches_accepted p n xs)
         where
-          by : (b : Bool) → (every (λ d. m d.node d.value) (flat_map (λ x. declared_as x.0 n x.1) (those (λ x. is_match answers u p x.0) xs))).accepts u ≡ (every (asked_at p n) xs).accepts u
-              → (every (λ d. m d.node d.value) (flat_map (λ x. declared_as x.0 n x.1) (put_if b x (those (λ x. is_match answers u p x.0) xs)))).accepts u ≡ (cond b ((m n x.1).accepts u) true && (every (asked_at p n) xs).accepts u)
+          by : (b : Bool) → (every (λ d. m d.node d.value) (flat_map (λ x. declared_as x.0 n x.1) (filter_once (λ x. is_match answers u p x.0) xs))).accepts u ≡ (every (asked_at p n) xs).accepts u
+              → (every (λ d. m d.node d.value) (flat_map (λ x. declared_as x.0 n x.1) (put_if b x (filter_once (λ x. is_match answers u p x.0) xs)))).accepts u ≡ (cond b ((m n x.1).accepts u) true && (every (asked_at p n) xs).accepts u)
           by true e = ap (λ b. (m n x.1).accepts u && b) e
           by false e = e
 
@@ -134,14 +134,14 @@ module _ {R N : Type 0} (answers : R → Name → Says) (t : N → Bool → Data
     -- of what is no object
     module _ (v : Data) (none : None ≡ as_object v) {s : Shown} (h : s ≡ shown true None [] []) where
       no_names : match_names (λ n. t n u) v Q answers u es ≡ []
-      no_names = (λ i. flat_map (λ (e : CompiledPattern R × N). map (λ (x : Name × Data). x.0) (those (λ x. is_match answers u e.0 x.0) (no_members v none i))) es) ∙ nothing_each es
+      no_names = (λ i. flat_map (λ (e : CompiledPattern R × N). map (λ (x : Name × Data). x.0) (filter_once (λ x. is_match answers u e.0 x.0) (no_members v none i))) es) ∙ nothing_each es
         where
           nothing_each : (xs : List (CompiledPattern R × N)) → flat_map (λ e. let none : List Name = [] in none) xs ≡ []
           nothing_each [] = refl
           nothing_each (x ∷ xs) = nothing_each xs
 
       no_trees : match_trees (λ n. t n u) v Q answers u es ≡ []
-      no_trees = (λ i. flat_map (λ (e : CompiledPattern R × N). map (λ (x : Name × Data). t e.1 u x.1 (Q // x.0)) (those (λ x. is_match answers u e.0 x.0) (no_members v none i))) es) ∙ nothing_each es
+      no_trees = (λ i. flat_map (λ (e : CompiledPattern R × N). map (λ (x : Name × Data). t e.1 u x.1 (Q // x.0)) (filter_once (λ x. is_match answers u e.0 x.0) (no_members v none i))) es) ∙ nothing_each es
         where
           nothing_each : (xs : List (CompiledPattern R × N)) → flat_map (λ e. let none : List Tree = [] in none) xs ≡ []
           nothing_each [] = refl
@@ -192,4 +192,4 @@ module _ {R N : Type 0} (answers : R → Name → Says) (u : Bool) (p : Compiled
   meets_matched {want} {a} {b} h = subst (λ ds. MeetsMore want ds a b) (sym (append-nil (matches_of answers u p n v))) h
 
   pub mean_of_one : (costs : R → Bool) (m : N → Data → Question) → (patterns_mean answers costs m ((p, n) ∷ []) v).accepts u ≡ (matched_mean answers costs m p n v).accepts u
-  mean_of_one costs m = and_true ((matched_mean answers costs m p n v).accepts u)
+  mean_of_one costs m = and-true ((matched_mean answers costs m p n v).accepts u)

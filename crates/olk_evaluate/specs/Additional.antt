@@ -10,8 +10,7 @@ use Rattle.olk_spec.specs.Reports.{unexpected_faults}
 use Rattle.olk_spec.specs.Tree.{Tree, node, no_tree, Described, AreTold, described}
 use Rattle.olk_reports.specs.Evaluations.{Shown, annotated, errored}
 use Rattle.olk_tree.specs.Questions.{Question}
-use Rattle.olk_tree.specs.Additional.{matching_from, at_name}
-use Rattle.olk_tree.specs.Answers.{sides_of, has_neighbours, required_text, required_place}
+use Rattle.olk_tree.specs.Additional.{matching_from, at_name, sides_of, has_neighbours, required_text, required_place}
 use Rattle.olk_tree.specs.declared.additional_properties.AdditionalProperties as validator
 use Rattle.olk_reports.specs.declared.evaluation.EvaluationNode.{EvaluationNode}
 use Rattle.olk_evaluate.specs.Wanted.{Wanted, AreShown, wanted, refused, lacking_trees, trees_of}

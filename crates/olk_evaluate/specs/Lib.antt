@@ -2,4 +2,3 @@ pub mod Wanted
 pub mod Members
 pub mod Patterns
 pub mod Additional
-pub mod Keywords

@@ -7,15 +7,15 @@ ghost use Rattle.olk_spec.specs.Names.{Path};
 ghost use Rattle.olk_spec.specs.Reports.{unexpected_faults};
 ghost use Rattle.olk_spec.specs.Schemas.{listed};
 ghost use Rattle.olk_reports.specs.Evaluations.{shown_of};
-ghost use Rattle.olk_tree.specs.Answers.{has_neighbours, required_text, required_place};
+ghost use Rattle.olk_tree.specs.Additional.{has_neighbours, required_text, required_place};
 ghost use Rattle.olk_tree.specs.Visited.{object_of};
 ghost use Rattle.olk_evaluate.specs.Additional.{matches_shown, names_of, annotated_if, rest_annotation, AddsErrors, named_faults, faults_without_rest, Completes, HasPlaces};
 ghost use Rattle.olk_evaluate.specs.Wanted.{AreShown, refused, lacking_trees, trees_of};
 
+use crate::Evaluate;
 use crate::additional_members::collect;
 use crate::own::own_error;
 use crate::required::missing_name_child;
-use crate::{Evaluate, Located};
 use olk_base::{Node, RegexEngine, ValidationContext};
 use olk_members::law_of_names;
 use olk_paths::InstancePath;
@@ -23,14 +23,6 @@ use olk_reports::{EvaluationNode, EvaluationResult, ValidationErrorKind};
 use olk_tree::additional_properties::{AdditionalProperties, RequiredName};
 use serde_json::{Map, Value};
 use std::alloc::{AllocError, Global};
-
-impl<R, N> Located for AdditionalProperties<R, N> {
-    ghost place = { λ k. k.location };
-
-    fn location(&self) -> &str {
-        self.location.as_str()
-    }
-}
 
 /// A child for each node that is asked of a member: what is declared at its name, the patterns that
 /// match it, or else the rest, whose names are annotated (JSON Schema 2020-12 Core, 10.3.2.3);
@@ -41,14 +33,9 @@ impl<R, N> Located for AdditionalProperties<R, N> {
 /// a name for each match, if there is one; and one at the place of `required` where its name is no
 /// member.
 impl<'a, R: RegexEngine, N: Evaluate<'a>> Evaluate<'a> for AdditionalProperties<R, N> {
-    ghost use Rattle.olk_tree.specs.Additional.{additional_tree};
-    ghost use Rattle.olk_tree.specs.Answers.{sides_of};
-    ghost use Rattle.olk_tree.specs.Shown.{missing_trees};
+    ghost use Rattle.olk_tree.specs.AdditionalProperties.{additional_properties_answers};
 
-    ghost tree = { λ k u v Q. additional_tree R.answers (sides_of k) u v Q
-        (is_some k.properties) (is_some k.patterns) k.location k.patterns_location
-        (λ n. N.tree n u)
-        (missing_trees (required_text k.required) v (required_place k.required) Q) };
+    ghost tree = { λ k. (additional_properties_answers R.answers R.costs k).tree N.means N.tree };
 
     #[tactic(auto, using(olk_check::proofs::Asked::only_same))]
     fn evaluate(
@@ -223,18 +210,11 @@ fn with_unexpected<'a, R, N>(
         (listed (members_view members.now.entries)) (data_of node.entry) P Q)
         (shown_of outcome.entry) (shown_of r)) }
 {
-    if stands_beside_some(keyword) {
+    if keyword.has_neighbours() {
         with_named(alloc, outcome, unexpected, node)
     } else {
         with_first(alloc, outcome, members)
     }
-}
-
-/// Whether `properties` or `patternProperties` stands there.
-fn stands_beside_some<R, N>(keyword: &AdditionalProperties<R, N>) -> bool
-    ensures { result ≡ has_neighbours keyword.now }
-{
-    keyword.properties.is_some() || keyword.patterns.is_some()
 }
 
 /// The result with an error that has these names, if there are some.

@@ -1,27 +1,17 @@
 //! `allOf`: what it shows.
+use crate::Evaluate;
 use crate::walk::{child, each_child};
-use crate::{Evaluate, Located};
 use olk_base::{Node, ValidationContext};
 use olk_paths::InstancePath;
 use olk_reports::EvaluationResult;
 use olk_tree::all_of::{AllOf, SingleValueAllOf};
 use std::alloc::{AllocError, Global};
 
-impl<N> Located for AllOf<N> {
-    ghost place = { λ k. k.location };
-
-    fn location(&self) -> &str {
-        self.location.as_str()
-    }
-}
-
 /// A child for each branch (JSON Schema 2020-12 Core, 10.2.1.1).
 impl<'a, N: Evaluate<'a>> Evaluate<'a> for AllOf<N> {
-    ghost use Rattle.olk_spec.specs.Tree.{plain};
-    ghost use Rattle.olk_tree.specs.Shown.{branch_trees};
+    ghost use Rattle.olk_tree.specs.AllOf.{all_of_answers};
 
-    ghost tree = { λ k u v Q. plain k.location Q
-        (branch_trees (λ n. N.tree n u) v Q k.schemas.items) };
+    ghost tree = { λ k. (all_of_answers k).tree N.means N.tree };
 
     fn evaluate(
         &'a self,
@@ -35,22 +25,11 @@ impl<'a, N: Evaluate<'a>> Evaluate<'a> for AllOf<N> {
     }
 }
 
-impl<N> Located for SingleValueAllOf<N> {
-    ghost place = { λ k. k.location };
-
-    fn location(&self) -> &str {
-        self.location.as_str()
-    }
-}
-
 /// A child for the branch.
 impl<'a, N: Evaluate<'a>> Evaluate<'a> for SingleValueAllOf<N> {
-    ghost use Rattle.std.specs.Prelude.{[], ◌∷◌};
-    ghost use Rattle.olk_spec.specs.Tree.{plain};
-    ghost use Rattle.olk_tree.specs.Shown.{branch_trees};
+    ghost use Rattle.olk_tree.specs.AllOf.{single_all_of_answers};
 
-    ghost tree = { λ k u v Q. plain k.location Q
-        (branch_trees (λ n. N.tree n u) v Q (k.node ∷ [])) };
+    ghost tree = { λ k. (single_all_of_answers k).tree N.means N.tree };
 
     fn evaluate(
         &'a self,

@@ -1,12 +1,12 @@
 //! `anyOf`: what it shows.
 ghost use Rattle.std.specs.Prelude.{◌≡◌, IfOk};
 ghost use Rattle.olk_base.specs.Nodes.{data_of};
-ghost use Rattle.olk_spec.specs.Names.{those};
+ghost use Rattle.olk_spec.specs.Names.{filter_once};
 ghost use Rattle.olk_check.specs.Asks.{OnlyAsks};
 ghost use Rattle.olk_evaluate.specs.Wanted.{AreShown, each_wanted, trees_of};
 
+use crate::Evaluate;
 use crate::walk::{add_child, child, each_child};
-use crate::{Evaluate, Located};
 use olk_base::{Node, ValidationContext};
 use olk_check::IsValid;
 use olk_paths::InstancePath;
@@ -14,21 +14,12 @@ use olk_reports::{EvaluationNode, EvaluationResult};
 use olk_tree::any_of::{AnyOf, SingleAnyOf};
 use std::alloc::{AllocError, Global};
 
-impl<N> Located for AnyOf<N> {
-    ghost place = { λ k. k.location };
-
-    fn location(&self) -> &str {
-        self.location.as_str()
-    }
-}
-
 /// A child for each branch that accepts; where there is none, a child for each branch (JSON Schema
 /// 2020-12 Core, 10.2.1.2).
 impl<'a, N: Evaluate<'a>> Evaluate<'a> for AnyOf<N> {
-    ghost use Rattle.olk_tree.specs.Shown.{any_of_tree};
+    ghost use Rattle.olk_tree.specs.AnyOf.{any_of_answers};
 
-    ghost tree = { λ k u v Q. any_of_tree (λ n. N.tree n u) v Q (λ n. (N.means n v).accepts u)
-        k.location k.schemas.items };
+    ghost tree = { λ k. (any_of_answers k).tree N.means N.tree };
 
     fn evaluate(
         &'a self,
@@ -46,21 +37,11 @@ impl<'a, N: Evaluate<'a>> Evaluate<'a> for AnyOf<N> {
     }
 }
 
-impl<N> Located for SingleAnyOf<N> {
-    ghost place = { λ k. k.location };
-
-    fn location(&self) -> &str {
-        self.location.as_str()
-    }
-}
-
 /// A child for the branch.
 impl<'a, N: Evaluate<'a>> Evaluate<'a> for SingleAnyOf<N> {
-    ghost use Rattle.std.specs.Prelude.{[], ◌∷◌};
-    ghost use Rattle.olk_tree.specs.Shown.{any_of_tree};
+    ghost use Rattle.olk_tree.specs.AnyOf.{single_any_of_answers};
 
-    ghost tree = { λ k u v Q. any_of_tree (λ n. N.tree n u) v Q (λ n. (N.means n v).accepts u)
-        k.location (k.node ∷ []) };
+    ghost tree = { λ k. (single_any_of_answers k).tree N.means N.tree };
 
     fn evaluate(
         &'a self,
@@ -82,7 +63,7 @@ pub(crate) fn accepting_children<'a, N: Evaluate<'a>>(
     ctx: &mut ValidationContext,
 ) -> Result<Vec<EvaluationNode<'a>>, AllocError>
     ensures shown { IfOk result (λ cs. AreShown
-        (those (λ w. w.1)
+        (filter_once (λ w. w.1)
         (each_wanted N.tree N.means ctx.old.answer schemas.now.items (data_of node.entry) path.old))
         (trees_of cs.items)) }
     ensures path { path.new ≡ path.old }

@@ -1,13 +1,14 @@
 //! `dependentRequired`, `dependentSchemas` and `dependencies`: what they show.
 ghost use Rattle.std.specs.Prelude.{◌≡◌, IfOk};
 ghost use Rattle.olk_base.specs.Nodes.{data_of};
-ghost use Rattle.olk_tree.specs.Answers.{named, due_nodes};
+ghost use Rattle.olk_tree.specs.Maps.{named};
+ghost use Rattle.olk_tree.specs.Dependencies.{due_nodes};
 ghost use Rattle.olk_tree.specs.Visited.{object_of};
 ghost use Rattle.olk_check.specs.Asks.{OnlyAsks};
 ghost use Rattle.olk_evaluate.specs.Wanted.{AreShown, each_wanted, trees_of};
 
+use crate::Evaluate;
 use crate::walk::add_child;
-use crate::{Evaluate, Located};
 use olk_base::{Node, ValidationContext};
 use olk_paths::InstancePath;
 use olk_reports::{EvaluationNode, EvaluationResult};
@@ -17,21 +18,11 @@ use olk_tree::validators_map::PropertiesValidatorsMap;
 use serde_json::{Map, Value};
 use std::alloc::{AllocError, Global};
 
-impl<N> Located for Dependencies<N> {
-    ghost place = { λ k. k.location };
-
-    fn location(&self) -> &str {
-        self.location.as_str()
-    }
-}
-
 /// A child for each key that is a member of the object (JSON Schema 2020-12 Core, 10.2.2.4).
 impl<'a, N: Evaluate<'a>> Evaluate<'a> for Dependencies<N> {
-    ghost use Rattle.olk_spec.specs.Tree.{plain};
-    ghost use Rattle.olk_tree.specs.Shown.{branch_trees};
+    ghost use Rattle.olk_tree.specs.Dependencies.{dependencies_answers};
 
-    ghost tree = { λ k u v Q. plain k.location Q
-        (branch_trees (λ n. N.tree n u) v Q (due_nodes (named k.dependencies) v)) };
+    ghost tree = { λ k. (dependencies_answers k).tree N.means N.tree };
 
     #[tactic(auto, using(olk_check::proofs::Asked::only_same))]
     fn evaluate(

@@ -5,8 +5,8 @@ ghost use Rattle.olk_check.specs.Asks.{OnlyAsks};
 ghost use Rattle.olk_reports.specs.Evaluations.{shown_of};
 ghost use Rattle.olk_evaluate.specs.Wanted.{ShowsEach};
 
+use crate::Evaluate;
 use crate::walk::{add_child, child};
-use crate::{Evaluate, Located};
 use olk_base::{Node, ValidationContext};
 use olk_check::IsValid;
 use olk_paths::InstancePath;
@@ -14,20 +14,11 @@ use olk_reports::{EvaluationNode, EvaluationResult};
 use olk_tree::if_::{IfElse, IfThen, IfThenElse};
 use std::alloc::{AllocError, Global};
 
-impl<N> Located for IfThen<N> {
-    ghost place = { λ k. k.location };
-
-    fn location(&self) -> &str {
-        self.location.as_str()
-    }
-}
-
 /// Where `if` accepts, a child for it and one for `then` (JSON Schema 2020-12 Core, 10.2.2).
 impl<'a, N: Evaluate<'a>> Evaluate<'a> for IfThen<N> {
-    ghost use Rattle.olk_tree.specs.Shown.{if_tree};
+    ghost use Rattle.olk_tree.specs.If.{if_then_answers};
 
-    ghost tree = { λ k u v Q. if_tree (λ n. N.tree n u) v Q ((N.means k.schema v).accepts u)
-        k.location k.schema (k.then_schema ∷ []) [] };
+    ghost tree = { λ k. (if_then_answers k).tree N.means N.tree };
 
     fn evaluate(
         &'a self,
@@ -43,20 +34,11 @@ impl<'a, N: Evaluate<'a>> Evaluate<'a> for IfThen<N> {
     }
 }
 
-impl<N> Located for IfElse<N> {
-    ghost place = { λ k. k.location };
-
-    fn location(&self) -> &str {
-        self.location.as_str()
-    }
-}
-
 /// A child for `if` where it accepts, and else one for `else` (JSON Schema 2020-12 Core, 10.2.2).
 impl<'a, N: Evaluate<'a>> Evaluate<'a> for IfElse<N> {
-    ghost use Rattle.olk_tree.specs.Shown.{if_tree};
+    ghost use Rattle.olk_tree.specs.If.{if_else_answers};
 
-    ghost tree = { λ k u v Q. if_tree (λ n. N.tree n u) v Q ((N.means k.schema v).accepts u)
-        k.location k.schema [] (k.else_schema ∷ []) };
+    ghost tree = { λ k. (if_else_answers k).tree N.means N.tree };
 
     fn evaluate(
         &'a self,
@@ -73,21 +55,12 @@ impl<'a, N: Evaluate<'a>> Evaluate<'a> for IfElse<N> {
     }
 }
 
-impl<N> Located for IfThenElse<N> {
-    ghost place = { λ k. k.location };
-
-    fn location(&self) -> &str {
-        self.location.as_str()
-    }
-}
-
 /// Where `if` accepts, a child for it and one for `then`, and else one for `else` (JSON Schema
 /// 2020-12 Core, 10.2.2).
 impl<'a, N: Evaluate<'a>> Evaluate<'a> for IfThenElse<N> {
-    ghost use Rattle.olk_tree.specs.Shown.{if_tree};
+    ghost use Rattle.olk_tree.specs.If.{if_then_else_answers};
 
-    ghost tree = { λ k u v Q. if_tree (λ n. N.tree n u) v Q ((N.means k.schema v).accepts u)
-        k.location k.schema (k.then_schema ∷ []) (k.else_schema ∷ []) };
+    ghost tree = { λ k. (if_then_else_answers k).tree N.means N.tree };
 
     fn evaluate(
         &'a self,

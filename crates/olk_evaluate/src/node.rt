@@ -3,60 +3,27 @@ ghost use Rattle.std.specs.Prelude.{◌≡◌, IfOk};
 ghost use Rattle.olk_base.specs.Nodes.{data_of};
 ghost use Rattle.olk_spec.specs.Tree.{IsLikeTree, is_valid};
 ghost use Rattle.olk_reports.specs.Evaluations.{node_at, shown_of};
-ghost use Rattle.olk_tree.specs.Answers.{body_means, body_tree};
+ghost use Rattle.olk_tree.specs.Bodies.{body_means, body_tree};
 ghost use Rattle.olk_check.specs.Asks.{OnlyAsks};
 ghost use Rattle.olk_evaluate.specs.Wanted.{HasTexts};
 
+use crate::Evaluate;
 use crate::own::one_error;
 use crate::required::missing_errors;
 use crate::walk::each_child;
-use crate::{Evaluate, Located};
 use olk_base::{Leaf, Node, RegexEngine, ValidationContext};
 use olk_paths::InstancePath;
 use olk_reports::{ErrorDescription, EvaluationResult, ValidationErrorKind};
 use olk_tree::node::{Body, KeywordOver};
 use std::alloc::{AllocError, Global};
 
-impl<K, R, N> Located for KeywordOver<K, R, N> {
-    ghost use Rattle.olk_evaluate.specs.Keywords.{keyword_place};
-
-    ghost place = { keyword_place };
-
-    #[tactic(auto, unfolding(crate::specs::Keywords::keyword_place))]
-    fn location(&self) -> &str {
-        match self {
-            KeywordOver::Properties(keyword) => keyword.location(),
-            KeywordOver::PropertiesWithRequired2(keyword) => keyword.location(),
-            KeywordOver::Required(keyword) => keyword.location(),
-            KeywordOver::AllOf(keyword) => keyword.location(),
-            KeywordOver::SingleValueAllOf(keyword) => keyword.location(),
-            KeywordOver::AnyOf(keyword) => keyword.location(),
-            KeywordOver::SingleAnyOf(keyword) => keyword.location(),
-            KeywordOver::OneOf(keyword) => keyword.location(),
-            KeywordOver::SingleOneOf(keyword) => keyword.location(),
-            KeywordOver::Not(keyword) => keyword.location(),
-            KeywordOver::IfThen(keyword) => keyword.location(),
-            KeywordOver::IfElse(keyword) => keyword.location(),
-            KeywordOver::IfThenElse(keyword) => keyword.location(),
-            KeywordOver::Dependencies(keyword) => keyword.location(),
-            KeywordOver::PropertyNames(keyword) => keyword.location(),
-            KeywordOver::PropertyNamesFalse(keyword) => keyword.location(),
-            KeywordOver::PropertyDependencies(keyword) => keyword.location(),
-            KeywordOver::PatternProperties(keyword) => keyword.location(),
-            KeywordOver::SingleValuePatternProperties(keyword) => keyword.location(),
-            KeywordOver::AdditionalProperties(keyword) => keyword.location(),
-            KeywordOver::Leaf(location, _) => location.as_str(),
-        }
-    }
-}
-
 impl<'a, K: Leaf, R: RegexEngine, N: Evaluate<'a>> Evaluate<'a> for KeywordOver<K, R, N> {
     ghost use Rattle.olk_base.specs.Kit.{kit};
-    ghost use Rattle.olk_tree.specs.Answers.{validator_tree};
+    ghost use Rattle.olk_tree.specs.Validators.{answers_of};
 
-    ghost tree = { λ k u. validator_tree (kit K.Leaf R.RegexEngine) N.means N.tree u k };
+    ghost tree = { λ k. (answers_of (kit K.Leaf R.RegexEngine) k).tree N.means N.tree };
 
-    #[tactic(auto, using(olk_check::proofs::Asked::only_same), unfolding(olk_tree::specs::Answers::validator_tree, crate::specs::Keywords::keyword_place, olk_tree::specs::Answers::validator_means))]
+    #[tactic(auto, using(olk_check::proofs::Asked::only_same), unfolding(olk_tree::specs::Validators::answers_of))]
     fn evaluate(
         &'a self,
         alloc: Global,

@@ -1,6 +1,6 @@
 //! `not`: what it shows.
+use crate::Evaluate;
 use crate::own::one_error;
-use crate::{Evaluate, Located};
 use olk_base::{Node, ValidationContext};
 use olk_check::IsValid;
 use olk_paths::InstancePath;
@@ -8,24 +8,12 @@ use olk_reports::{EvaluationResult, ValidationErrorKind};
 use olk_tree::not::Not;
 use std::alloc::{AllocError, Global};
 
-impl<N> Located for Not<N> {
-    ghost place = { λ k. k.location };
-
-    fn location(&self) -> &str {
-        self.location.as_str()
-    }
-}
-
 /// An error of its own where the subschema accepts; what the subschema shows is left out (JSON
 /// Schema 2020-12 Core, 10.2.1.4).
 impl<'a, N: Evaluate<'a>> Evaluate<'a> for Not<N> {
-    ghost use Rattle.serde_json.specs.View.{view};
-    ghost use Rattle.olk_spec.specs.Faults.{Not as Refuses};
-    ghost use Rattle.olk_spec.specs.Reports.{fault_if};
-    ghost use Rattle.olk_spec.specs.Tree.{erring};
+    ghost use Rattle.olk_tree.specs.Not.{not_answers};
 
-    ghost tree = { λ k u v Q. erring k.location Q
-        (fault_if ((N.means k.node v).accepts u) (Refuses (view k.original)) v k.location Q) };
+    ghost tree = { λ k. (not_answers k).tree N.means N.tree };
 
     fn evaluate(
         &'a self,

@@ -4,30 +4,21 @@ ghost use Rattle.olk_reports.specs.Evaluations.{shown, shown_of};
 ghost use Rattle.olk_tree.specs.Shown.{several_accept};
 ghost use Rattle.olk_evaluate.specs.Wanted.{trees_of};
 
+use crate::Evaluate;
 use crate::any_of::accepting_children;
 use crate::walk::{child, each_child};
-use crate::{Evaluate, Located};
 use olk_base::{Node, ValidationContext};
 use olk_paths::InstancePath;
 use olk_reports::{ErrorDescription, EvaluationNode, EvaluationResult};
 use olk_tree::one_of::{OneOf, SingleOneOf};
 use std::alloc::{AllocError, Global};
 
-impl<N> Located for OneOf<N> {
-    ghost place = { λ k. k.location };
-
-    fn location(&self) -> &str {
-        self.location.as_str()
-    }
-}
-
 /// A child for each branch that accepts, and an error of its own where they are several; where
 /// there is none, a child for each branch (JSON Schema 2020-12 Core, 10.2.1.3).
 impl<'a, N: Evaluate<'a>> Evaluate<'a> for OneOf<N> {
-    ghost use Rattle.olk_tree.specs.Shown.{one_of_tree};
+    ghost use Rattle.olk_tree.specs.OneOf.{one_of_answers};
 
-    ghost tree = { λ k u v Q. one_of_tree (λ n. N.tree n u) v Q (λ n. (N.means n v).accepts u)
-        k.location k.schemas.items };
+    ghost tree = { λ k. (one_of_answers k).tree N.means N.tree };
 
     fn evaluate(
         &'a self,
@@ -62,21 +53,11 @@ fn with_several<'a>(
     Ok(outcome)
 }
 
-impl<N> Located for SingleOneOf<N> {
-    ghost place = { λ k. k.location };
-
-    fn location(&self) -> &str {
-        self.location.as_str()
-    }
-}
-
 /// A child for the branch.
 impl<'a, N: Evaluate<'a>> Evaluate<'a> for SingleOneOf<N> {
-    ghost use Rattle.std.specs.Prelude.{[], ◌∷◌};
-    ghost use Rattle.olk_tree.specs.Shown.{one_of_tree};
+    ghost use Rattle.olk_tree.specs.OneOf.{single_one_of_answers};
 
-    ghost tree = { λ k u v Q. one_of_tree (λ n. N.tree n u) v Q (λ n. (N.means n v).accepts u)
-        k.location (k.node ∷ []) };
+    ghost tree = { λ k. (single_one_of_answers k).tree N.means N.tree };
 
     fn evaluate(
         &'a self,

@@ -6,8 +6,8 @@ ghost use Rattle.olk_check.specs.Asks.{OnlyAsks};
 ghost use Rattle.olk_evaluate.specs.Members.{MeetsMore, wanted_at};
 ghost use Rattle.olk_evaluate.specs.Patterns.{match_here, matches_of, matches_of_all};
 
+use crate::Evaluate;
 use crate::properties::{Met, meet_member};
-use crate::{Evaluate, Located};
 use olk_base::{CompiledPattern, Node, RegexEngine, ValidationContext};
 use olk_check::matches;
 use olk_paths::InstancePath;
@@ -16,21 +16,12 @@ use olk_tree::pattern_properties::{PatternProperties, SingleValuePatternProperti
 use serde_json::{Map, Value};
 use std::alloc::{AllocError, Global};
 
-impl<R, N> Located for PatternProperties<R, N> {
-    ghost place = { λ k. k.location };
-
-    fn location(&self) -> &str {
-        self.location.as_str()
-    }
-}
-
 /// A child for each match, pattern by pattern; where the value is an object, a name for each match
 /// is annotated (JSON Schema 2020-12 Core, 10.3.2.2).
 impl<'a, R: RegexEngine, N: Evaluate<'a>> Evaluate<'a> for PatternProperties<R, N> {
-    ghost use Rattle.olk_tree.specs.Shown.{patterns_tree};
+    ghost use Rattle.olk_tree.specs.PatternProperties.{pattern_properties_answers};
 
-    ghost tree = { λ k u v Q. patterns_tree (λ n. N.tree n u) v Q R.answers u
-        k.location k.patterns.items };
+    ghost tree = { λ k. (pattern_properties_answers R.answers R.costs k).tree N.means N.tree };
 
     #[tactic(auto, using(olk_check::proofs::Asked::only_same))]
     fn evaluate(
@@ -51,22 +42,12 @@ impl<'a, R: RegexEngine, N: Evaluate<'a>> Evaluate<'a> for PatternProperties<R, 
     }
 }
 
-impl<R, N> Located for SingleValuePatternProperties<R, N> {
-    ghost place = { λ k. k.location };
-
-    fn location(&self) -> &str {
-        self.location.as_str()
-    }
-}
-
 /// A child for each match; where the value is an object, the names that match are annotated (JSON
 /// Schema 2020-12 Core, 10.3.2.2).
 impl<'a, R: RegexEngine, N: Evaluate<'a>> Evaluate<'a> for SingleValuePatternProperties<R, N> {
-    ghost use Rattle.std.specs.Prelude.{◌∷◌, []};
-    ghost use Rattle.olk_tree.specs.Shown.{patterns_tree};
+    ghost use Rattle.olk_tree.specs.PatternProperties.{single_pattern_properties_answers};
 
-    ghost tree = { λ k u v Q. patterns_tree (λ n. N.tree n u) v Q
-        R.answers u k.location ((k.regex, k.node) ∷ []) };
+    ghost tree = { λ k. (single_pattern_properties_answers R.answers R.costs k).tree N.means N.tree };
 
     #[tactic(auto, using(olk_check::proofs::Asked::only_same))]
     fn evaluate(

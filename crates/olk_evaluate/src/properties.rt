@@ -1,20 +1,20 @@
 //! `properties`: what it shows.
 ghost use Rattle.std.specs.Prelude.{◌≡◌, ◌++◌, ◌∷◌, [], IfOk, OnOk, option_to_list};
-ghost use Rattle.std.specs.List.{list_all};
+ghost use Rattle.std.specs.List.{list_all, zip};
 ghost use Rattle.serde_json.specs.View.{view, members_view};
 ghost use Rattle.olk_spec.specs.Schemas.{listed};
 ghost use Rattle.olk_spec.specs.Tree.{is_valid};
 ghost use Rattle.olk_reports.specs.Evaluations.{tree_of};
 ghost use Rattle.olk_paths.specs.Paths.{one_below};
-ghost use Rattle.olk_tree.specs.Answers.{beside, properties_mean};
+ghost use Rattle.olk_tree.specs.Properties.{properties_mean};
 ghost use Rattle.olk_tree.specs.Visited.{declared_as, members_declared, object_of};
 ghost use Rattle.olk_check.specs.Asks.{OnlyAsks};
 ghost use Rattle.olk_evaluate.specs.Members.{HasMet, MeetsMore, wanted_at};
 ghost use Rattle.olk_evaluate.specs.Wanted.{IsShown, ShowsMore, wanted, trees_of};
 
+use crate::Evaluate;
 use crate::required::missing_child;
 use crate::walk::child;
-use crate::{Evaluate, Located};
 use olk_base::{Node, ValidationContext};
 use olk_paths::InstancePath;
 use olk_reports::{EvaluationNode, EvaluationResult};
@@ -23,23 +23,12 @@ use olk_tree::validators_map::PropertiesValidatorsMap;
 use serde_json::{Map, Value};
 use std::alloc::{AllocError, Global};
 
-impl<N> Located for Properties<N> {
-    ghost place = { λ k. k.location };
-
-    fn location(&self) -> &str {
-        self.location.as_str()
-    }
-}
-
 /// A child for each member whose name is declared; where the value is an object, these names are
 /// annotated (JSON Schema 2020-12 Core, 10.3.2.1).
 impl<'a, N: Evaluate<'a>> Evaluate<'a> for Properties<N> {
-    ghost use Rattle.olk_tree.specs.Answers.{mapped};
-    ghost use Rattle.olk_tree.specs.Shown.{properties_tree};
-    ghost use Rattle.std.specs.Prelude.{[]};
+    ghost use Rattle.olk_tree.specs.Properties.{properties_answers};
 
-    ghost tree = { λ k u v Q. properties_tree (λ n. N.tree n u) v Q
-        k.location (mapped k.properties) [] };
+    ghost tree = { λ k. (properties_answers k).tree N.means N.tree };
 
     #[tactic(auto, using(olk_check::proofs::Asked::only_same))]
     fn evaluate(
@@ -59,23 +48,12 @@ impl<'a, N: Evaluate<'a>> Evaluate<'a> for Properties<N> {
     }
 }
 
-impl<N> Located for SmallPropertiesWithRequired2<N> {
-    ghost place = { λ k. k.location };
-
-    fn location(&self) -> &str {
-        self.location.as_str()
-    }
-}
-
 /// Beside these, a child at the place of `required` where an object lacks one of the two names,
 /// with an error for each (JSON Schema 2020-12 Validation, 6.5.3).
 impl<'a, N: Evaluate<'a>> Evaluate<'a> for SmallPropertiesWithRequired2<N> {
-    ghost use Rattle.olk_tree.specs.Answers.{named, two_texts};
-    ghost use Rattle.olk_tree.specs.Shown.{properties_tree, missing_trees};
+    ghost use Rattle.olk_tree.specs.Properties.{properties_with_required2_answers};
 
-    ghost tree = { λ k u v Q. properties_tree (λ n. N.tree n u) v Q
-        k.location (named k.properties)
-        (missing_trees (two_texts k.first k.second) v k.required_location Q) };
+    ghost tree = { λ k. (properties_with_required2_answers k).tree N.means N.tree };
 
     #[tactic(auto, using(olk_check::proofs::Asked::only_same))]
     fn evaluate(
@@ -173,15 +151,15 @@ fn meet<'a, M: PropertiesValidatorsMap<N>, N: Evaluate<'a> + 'a>(
     ctx: &mut ValidationContext,
 ) -> Result<Met<'a>, AllocError>
     ensures shown { IfOk result (λ m. HasMet (wanted_at N.tree N.means ctx.old.answer path.old)
-        (members_declared (beside (M.names properties.now) (M.nodes properties.now))
+        (members_declared (zip (M.names properties.now) (M.nodes properties.now))
         (listed (members_view members.now.entries))) m) }
     ensures verdict { IfOk result (λ m. list_all is_valid (trees_of m.children.items)
-        ≡ (properties_mean N.means (beside (M.names properties.now) (M.nodes properties.now))
+        ≡ (properties_mean N.means (zip (M.names properties.now) (M.nodes properties.now))
         (object_of members.now.entries)).accepts ctx.old.answer) }
     ensures path { path.new ≡ path.old }
     ensures context { OnlyAsks ctx.old ctx.new }
 {
-    let most = members.len().min(properties.names().sorted().len());
+    let most = members.len().min(properties.names().len());
     let mut met: Met<'a> = Met::with_capacity(alloc, most)?;
     for (name, subschema, value) in properties.declared_members(members) {
         meet_member(alloc, subschema, name, value, path, ctx, &mut met)?;

@@ -1,13 +1,14 @@
 //! `propertyDependencies`: what it shows.
 ghost use Rattle.std.specs.Prelude.{◌≡◌, IfOk};
 ghost use Rattle.olk_base.specs.Nodes.{data_of};
-ghost use Rattle.olk_tree.specs.Answers.{named, chosen_nodes};
+ghost use Rattle.olk_tree.specs.Maps.{named};
+ghost use Rattle.olk_tree.specs.PropertyDependencies.{chosen_nodes};
 ghost use Rattle.olk_tree.specs.Visited.{object_of};
 ghost use Rattle.olk_check.specs.Asks.{OnlyAsks};
 ghost use Rattle.olk_evaluate.specs.Wanted.{AreShown, each_wanted, trees_of};
 
+use crate::Evaluate;
 use crate::walk::add_child;
-use crate::{Evaluate, Located};
 use olk_base::{Node, ValidationContext};
 use olk_paths::InstancePath;
 use olk_reports::{EvaluationNode, EvaluationResult};
@@ -17,22 +18,12 @@ use olk_tree::validators_map::PropertiesValidatorsMap;
 use serde_json::{Map, Value};
 use std::alloc::{AllocError, Global};
 
-impl<N> Located for PropertyDependencies<N> {
-    ghost place = { λ k. k.location };
-
-    fn location(&self) -> &str {
-        self.location.as_str()
-    }
-}
-
 /// A child for each key at whose text there is a subschema. The keyword is in no published version
 /// of JSON Schema.
 impl<'a, N: Evaluate<'a>> Evaluate<'a> for PropertyDependencies<N> {
-    ghost use Rattle.olk_spec.specs.Tree.{plain};
-    ghost use Rattle.olk_tree.specs.Shown.{branch_trees};
+    ghost use Rattle.olk_tree.specs.PropertyDependencies.{property_dependencies_answers};
 
-    ghost tree = { λ k u v Q. plain k.location Q
-        (branch_trees (λ n. N.tree n u) v Q (chosen_nodes (named k.dependencies) v)) };
+    ghost tree = { λ k. (property_dependencies_answers k).tree N.means N.tree };
 
     #[tactic(auto, using(olk_check::proofs::Asked::only_same))]
     fn evaluate(

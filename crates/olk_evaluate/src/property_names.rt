@@ -5,9 +5,9 @@ ghost use Rattle.olk_spec.specs.Schemas.{listed};
 ghost use Rattle.olk_check.specs.Asks.{OnlyAsks};
 ghost use Rattle.olk_evaluate.specs.Wanted.{AreShown, names_wanted, trees_of};
 
+use crate::Evaluate;
 use crate::own::one_error;
 use crate::walk::add_child;
-use crate::{Evaluate, Located};
 use olk_base::{Node, ValidationContext};
 use olk_paths::InstancePath;
 use olk_reports::{EvaluationNode, EvaluationResult, ValidationErrorKind};
@@ -15,20 +15,11 @@ use olk_tree::property_names::{PropertyNames, PropertyNamesFalse};
 use serde_json::{Map, Value};
 use std::alloc::{AllocError, Global};
 
-impl<N> Located for PropertyNames<N> {
-    ghost place = { λ k. k.location };
-
-    fn location(&self) -> &str {
-        self.location.as_str()
-    }
-}
-
 /// A child for each member's name, at the path of the object (JSON Schema 2020-12 Core, 10.3.2.4).
 impl<'a, N: Evaluate<'a>> Evaluate<'a> for PropertyNames<N> {
-    ghost use Rattle.olk_spec.specs.Tree.{plain};
-    ghost use Rattle.olk_tree.specs.Shown.{name_trees};
+    ghost use Rattle.olk_tree.specs.PropertyNames.{property_names_answers};
 
-    ghost tree = { λ k u v Q. plain k.location Q (name_trees (λ n. N.tree n u) v Q k.node) };
+    ghost tree = { λ k. (property_names_answers k).tree N.means N.tree };
 
     #[tactic(auto, using(olk_check::proofs::Asked::only_same))]
     fn evaluate(
@@ -48,24 +39,11 @@ impl<'a, N: Evaluate<'a>> Evaluate<'a> for PropertyNames<N> {
     }
 }
 
-impl Located for PropertyNamesFalse {
-    ghost place = { λ k. k.location };
-
-    fn location(&self) -> &str {
-        self.location.as_str()
-    }
-}
-
 /// An error of its own where the object has members.
 impl<'a> Evaluate<'a> for PropertyNamesFalse {
-    ghost use Rattle.olk_spec.specs.Names.{is_empty};
-    ghost use Rattle.olk_spec.specs.Faults.{FalseSchema};
-    ghost use Rattle.olk_spec.specs.Schemas.{members};
-    ghost use Rattle.olk_spec.specs.Tree.{erring};
-    ghost use Rattle.olk_tree.specs.Answers.{unless};
+    ghost use Rattle.olk_tree.specs.PropertyNames.{property_names_false_answers};
 
-    ghost tree = { λ k u v Q. erring k.location Q
-        (unless (is_empty (members v)) FalseSchema v k.location Q) };
+    ghost tree = { λ k. (property_names_false_answers k).tree };
 
     #[tactic(auto, using(olk_check::proofs::Asked::only_same))]
     fn evaluate(

@@ -7,12 +7,12 @@ ghost use Rattle.olk_spec.specs.Schemas.{has};
 ghost use Rattle.olk_spec.specs.Accepts.{missing};
 ghost use Rattle.olk_spec.specs.Reports.{fault_if, required_faults};
 ghost use Rattle.olk_reports.specs.Evaluations.{shown_of};
-ghost use Rattle.olk_tree.specs.Answers.{texts_of};
+ghost use Rattle.olk_tree.specs.Maps.{texts_of};
 ghost use Rattle.olk_tree.specs.Visited.{object_of};
 ghost use Rattle.olk_evaluate.specs.Wanted.{HasErrors, AreShown, refused, lacking_trees, trees_of};
 
+use crate::Evaluate;
 use crate::own::{add_own_error, one_error};
-use crate::{Evaluate, Located};
 use olk_base::{Node, ValidationContext};
 use olk_members::has_member;
 use olk_paths::InstancePath;
@@ -21,21 +21,12 @@ use olk_tree::required::RequiredValidator;
 use serde_json::{Map, Value};
 use std::alloc::{AllocError, Global};
 
-impl Located for RequiredValidator {
-    ghost place = { λ k. k.location };
-
-    fn location(&self) -> &str {
-        self.location.as_str()
-    }
-}
-
 /// An error of its own for each listed name that an object lacks (JSON Schema 2020-12 Validation,
 /// 6.5.3).
 impl<'a> Evaluate<'a> for RequiredValidator {
-    ghost use Rattle.olk_spec.specs.Tree.{erring};
+    ghost use Rattle.olk_tree.specs.Required.{required_answers};
 
-    ghost tree = { λ k u v Q. erring k.location Q
-        (required_faults (texts_of k.required.items) v k.location Q) };
+    ghost tree = { λ k. (required_answers k).tree };
 
     #[tactic(auto, using(olk_check::proofs::Asked::only_same))]
     fn evaluate(

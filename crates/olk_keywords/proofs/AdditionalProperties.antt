@@ -5,14 +5,14 @@ use Rattle.std.proofs.Common.{refl, sym, ◌∙◌, ap, subst, arith}
 use Rattle.std.proofs.lemmas.List.{length-map}
 use mathlib.Core.Bool.{true≢false}
 use Rattle.serde_json.specs.Data.{Data, Members}
-use Rattle.olk_spec.specs.Names.{Name, Path, ◌//◌, lookup, is_empty}
+use Rattle.olk_spec.specs.Names.{Name, Path, ◌//◌, lookup_name, is_empty}
 use Rattle.olk_spec.specs.Schemas.{listed, members, is_object, is_truth}
 use Rattle.olk_spec.specs.Malformed.{has_repeat}
 use Rattle.olk_spec.specs.Vocabulary.{additional_properties}
 use Rattle.olk_base.specs.Count.{Counts}
 use Rattle.olk_base.specs.Kit.{Kit}
 use Rattle.olk_base.specs.declared.pattern.CompiledPattern.{CompiledPattern}
-use Rattle.olk_tree.specs.Places.{Answers}
+use Rattle.olk_tree.specs.Answers.{Answers}
 use Rattle.olk_tree.specs.Tables.{Table}
 use Rattle.olk_tree.specs.declared.map.SmallMap.{SmallMap}
 use Rattle.olk_tree.specs.declared.node.KeywordOver.{KeywordOver}
@@ -55,7 +55,7 @@ module _ {K R N : Type 0} (o : Kit K R) (answers : N → Answers) (ms : Members)
     pub no_other_declared : ((n : List Name) → p.shape ≡ shape.Properties n → ⊥) → ⊥
     no_other_declared f = let r = only_properties o answers p.shape (shape_named o answers p.shape (codes "properties") d declared_part.stand.0.shape refl) in f r.0 r.1
 
-    pub declared_built : (n : List Name) → p.shape ≡ shape.Properties n → lookup (codes "properties") (listed ms) ≡ Some d → NeighbourIsBuilt o ms (λ x. DeclaredStand o answers x (P // codes "properties")) (Some (record { names = n; nodes = p.nodes })) (codes "properties") P a b
+    pub declared_built : (n : List Name) → p.shape ≡ shape.Properties n → lookup_name (codes "properties") (listed ms) ≡ Some d → NeighbourIsBuilt o ms (λ x. DeclaredStand o answers x (P // codes "properties")) (Some (record { names = n; nodes = p.nodes })) (codes "properties") P a b
     declared_built n q there =
         let s = declared_part.stand.0 in
         let named = subst (IsShape o (codes "properties") d) q s.shape in
@@ -71,7 +71,7 @@ module _ {K R N : Type 0} (o : Kit K R) (answers : N → Answers) (ms : Members)
     pub no_other_patterns : ((v : Vec (CompiledPattern R) Global) (t : Table) → p.shape ≡ shape.PatternProperties v t → ⊥) → ⊥
     no_other_patterns f = let r = only_pattern_properties o answers p.shape (shape_named o answers p.shape (codes "patternProperties") d patterns_part.stand.0.shape refl) in f r.0 r.1 r.2
 
-    pub patterns_built : (v : Vec (CompiledPattern R) Global) (t : Table) → p.shape ≡ shape.PatternProperties v t → lookup (codes "patternProperties") (listed ms) ≡ Some d
+    pub patterns_built : (v : Vec (CompiledPattern R) Global) (t : Table) → p.shape ≡ shape.PatternProperties v t → lookup_name (codes "patternProperties") (listed ms) ≡ Some d
         → NeighbourIsBuilt o ms (λ x. PatternsStand o answers (known_of ms) x (P // codes "patternProperties")) (Some (record { location = p.location; patterns = v; table = t; nodes = p.nodes })) (codes "patternProperties") P a b
     patterns_built v t q there =
         let s = patterns_part.stand.0 in
@@ -122,7 +122,7 @@ module _ {K R N : Type 0} (o : Kit K R) (answers : N → Answers) (ms : Members)
     rest_is = let s = others_part.stand.0 in rest_there p.shape d p.nodes.items r (P // codes "additionalProperties") (shape_named o answers p.shape (codes "additionalProperties") d s.shape refl) s.shape not_true last s.nodes
 
     module _ (b : Beside R N) (n e : Counts) (declared : NeighbourIsBuilt o ms (λ x. DeclaredStand o answers x (P // codes "properties")) b.properties (codes "properties") P m n) (patterns : NeighbourIsBuilt o ms (λ x. PatternsStand o answers (known_of ms) x (P // codes "patternProperties")) b.patterns (codes "patternProperties") P n e) (plan : Planned) (chosen : plan ≡ plan_of ms) where
-      pub restriction_is_built : (ks : List (KeywordOver K R N)) → has_repeat (names_of (listed ms)) ≡ false → MakesRestriction o answers p.location r b P plan ks → lookup (codes "additionalProperties") (listed ms) ≡ Some d → TogetherAreBuilt o answers ms (codes "additionalProperties") d (restriction_members ms d) ks P a e
+      pub restriction_is_built : (ks : List (KeywordOver K R N)) → has_repeat (names_of (listed ms)) ≡ false → MakesRestriction o answers p.location r b P plan ks → lookup_name (codes "additionalProperties") (listed ms) ≡ Some d → TogetherAreBuilt o answers ms (codes "additionalProperties") d (restriction_members ms d) ks P a e
       restriction_is_built ks distinct make there = record {
         means = subst (λ q. KeywordsMean o answers ms ks (claims (head q) (listed ms) (codes "additionalProperties", d)) ((codes "additionalProperties", d) ∷ []) P) chosen
             (make ms d others_part.stand.0.place (subst (RestStands o answers r d) (sym others_part.stand.0.place) rest_is.0) (declared.stands, patterns.stands) distinct there chosen);
@@ -131,5 +131,5 @@ module _ {K R N : Type 0} (o : Kit K R) (answers : N → Answers) (ms : Members)
       }
 
       pub restriction_is_formed : (k : KeywordOver K R N) → IsAdditionalProperties P p.location (is_some r) (option_map (λ (m : SmallMap N). length m.names) b.properties) (option_map (λ (x : Patterns R N). length (zip x.patterns.items x.nodes.items)) b.patterns) plan.fused_one k
-          → IsAdditionalProperties P (P // codes "additionalProperties") (is_object d) (option_map (λ d. length (members d)) (lookup (codes "properties") (listed ms))) (option_map (λ d. length (members d)) (lookup (codes "patternProperties") (listed ms))) (plan_of ms).fused_one k
-      restriction_is_formed k f = subst (λ T. T) (λ i. IsAdditionalProperties P (others_part.stand.0.place i) (rest_is.1 i) (declared_counted b.properties (lookup (codes "properties") (listed ms)) (P // codes "properties") declared.stands i) (patterns_counted b.patterns (lookup (codes "patternProperties") (listed ms)) (P // codes "patternProperties") patterns.stands i) ((chosen i).fused_one) k) f
+          → IsAdditionalProperties P (P // codes "additionalProperties") (is_object d) (option_map (λ d. length (members d)) (lookup_name (codes "properties") (listed ms))) (option_map (λ d. length (members d)) (lookup_name (codes "patternProperties") (listed ms))) (plan_of ms).fused_one k
+      restriction_is_formed k f = subst (λ T. T) (λ i. IsAdditionalProperties P (others_part.stand.0.place i) (rest_is.1 i) (declared_counted b.properties (lookup_name (codes "properties") (listed ms)) (P // codes "properties") declared.stands i) (patterns_counted b.patterns (lookup_name (codes "patternProperties") (listed ms)) (P // codes "patternProperties") patterns.stands i) ((chosen i).fused_one) k) f

@@ -1,16 +1,18 @@
 -- Building `if`, `then` and `else`.
-use Rattle.std.specs.Prelude.{bytes_eq, ◌≡◌, Bool, true, false, List, [], ◌∷◌, ◌++◌, codes, ◌&&◌, Option, Some, None, is_some}
+use Rattle.std.specs.Prelude.{bytes_eq, ◌≡◌, true, false, List, [], ◌∷◌, ◌++◌, codes, Option, Some, None, is_some}
 use Rattle.std.proofs.Common.{refl, sym, ap, subst}
+use Rattle.olk_spec.proofs.Truth.{and_first}
 use mathlib.Core.Bool.{true≢false}
 use mathlib.Core.Path.{subst₂}
 use Rattle.serde_json.specs.Data.{Data, Members}
-use Rattle.olk_spec.specs.Names.{Name, Path, ◌//◌, lookup}
+use Rattle.olk_spec.specs.Names.{Name, Path, ◌//◌, lookup_name}
 use Rattle.olk_spec.specs.Schemas.{listed}
 use Rattle.olk_spec.specs.Malformed.{has_repeat}
 use Rattle.olk_base.specs.Count.{Counts}
 use Rattle.olk_base.specs.Kit.{Kit}
 use Rattle.olk_reports.specs.declared.error.BuildError.{BuildError}
-use Rattle.olk_tree.specs.Places.{Answers, Stands}
+use Rattle.olk_tree.specs.Answers.{Answers}
+use Rattle.olk_tree.specs.Places.{Stands}
 use Rattle.olk_tree.specs.declared.node.KeywordOver.{KeywordOver}
 use Rattle.olk_members.specs.Conditions.{is_condition, known_of, IsKnown}
 use Rattle.olk_members.proofs.Heads.{names_of}
@@ -28,13 +30,9 @@ use Rattle.olk_keywords.specs.Together.{member_at, condition_members, TogetherAr
 use Rattle.olk_keywords.specs.Conditions.{CaseIsBuilt}
 use Rattle.olk_keywords.proofs.Together.{RefusesAll, first_refused, second_refused, third_refused, all_clean, all_spent}
 
-first_holds : (a b : Bool) → (a && b) ≡ true → a ≡ true
-first_holds true b e = refl
-first_holds false b e = absurd (true≢false (sym e))
-
 module _ {K R N : Type 0} (o : Kit K R) (answers : N → Answers) (ms : Members) (read : is_condition ms ≡ true) where
   if_known : IsKnown (known_of ms) ms (codes "if")
-  if_known = ((λ e. (refl, first_holds (is_some (lookup (codes "if") (listed ms))) _ read)), λ e. absurd (true≢false (ap (bytes_eq (codes "if")) e)))
+  if_known = ((λ e. (refl, and_first (is_some (lookup_name (codes "if") (listed ms))) _ read)), λ e. absurd (true≢false (ap (bytes_eq (codes "if")) e)))
 
   stands_as : (t : Option N) (a : Option Data) (L : Path) → Fills (λ n d. Stands o answers n d L) t a → is_some t ≡ is_some a
   stands_as None None L h = refl
@@ -72,11 +70,11 @@ module _ {K R N : Type 0} (o : Kit K R) (answers : N → Answers) (ms : Members)
         abbrev both_cases : Cases N
         both_cases = record { then_schema = then_schema; else_schema = else_schema }
 
-        pub if_is_formed : (k : KeywordOver K R N) → IsIf p.location (is_some then_schema) (is_some else_schema) k → IsIf (P // codes "if") (is_some (lookup (codes "then") (listed ms))) (is_some (lookup (codes "else") (listed ms))) k
-        if_is_formed k f = subst (λ L. IsIf L (is_some (lookup (codes "then") (listed ms))) (is_some (lookup (codes "else") (listed ms))) k) part_here.stand.0.place
+        pub if_is_formed : (k : KeywordOver K R N) → IsIf p.location (is_some then_schema) (is_some else_schema) k → IsIf (P // codes "if") (is_some (lookup_name (codes "then") (listed ms))) (is_some (lookup_name (codes "else") (listed ms))) k
+        if_is_formed k f = subst (λ L. IsIf L (is_some (lookup_name (codes "then") (listed ms))) (is_some (lookup_name (codes "else") (listed ms))) k) part_here.stand.0.place
             (subst₂ (λ t e. IsIf p.location t e k) (stands_as then_schema _ (P // codes "then") at_then.stands) (stands_as else_schema _ (P // codes "else") at_else.stands) f)
 
-        pub condition_is_built : (before : List N) (schema : N) (ks : List (KeywordOver K R N)) → p.nodes.items ≡ before ++ schema ∷ [] → has_repeat (names_of (listed ms)) ≡ false → MakesCondition o answers p.location schema both_cases ks → lookup (codes "if") (listed ms) ≡ Some d → TogetherAreBuilt o answers ms (codes "if") d (condition_members ms d) ks P a b
+        pub condition_is_built : (before : List N) (schema : N) (ks : List (KeywordOver K R N)) → p.nodes.items ≡ before ++ schema ∷ [] → has_repeat (names_of (listed ms)) ≡ false → MakesCondition o answers p.location schema both_cases ks → lookup_name (codes "if") (listed ms) ≡ Some d → TogetherAreBuilt o answers ms (codes "if") d (condition_members ms d) ks P a b
         condition_is_built before schema ks split distinct make there =
             let s = part_here.stand.0 in
             let stands = taken_stands o answers p.nodes.items (Some schema) d (P // codes "if") (before, split) (subst (λ r. StandAt o answers r p.nodes.items d (P // codes "if")) if_itself s.nodes) in

@@ -1,16 +1,17 @@
 -- What a keyword's module builds of the keyword's part.
-use Rattle.std.specs.Prelude.{◌≡◌, ℕ, suc, ◌+◌, ◌&&◌, ◌||◌, Bool, true, false, cond, List, [], ◌∷◌, map, zip, length, codes, Option, Some, Vec, String}
+use Rattle.std.specs.Prelude.{◌≡◌, ℕ, suc, ◌+◌, ◌&&◌, ◌||◌, true, false, cond, List, [], ◌∷◌, map, zip, length, codes, Option, Some, Vec, String}
 use Rattle.std.specs.List.{enumerate_from}
 use Rattle.std.specs.declared.alloc.Global.{Global}
 use Rattle.std.specs.declared.alloc.AllocError.{AllocError}
 use Rattle.std.proofs.Common.{refl, sym, ◌∙◌, ap, subst, arith}
 use Rattle.std.proofs.lemmas.List.{append-nil, length-map}
+use Rattle.std.proofs.Math.Bool.{and-false}
 use mathlib.Core.Bool.{true≢false}
 use mathlib.Core.Path.{subst₂}
 use Rattle.serde_json.specs.Data.{Data, Members, no_members}
 use Rattle.serde_json.specs.View.{view}
 use Rattle.serde_json.specs.declared.value.Value.{Value}
-use Rattle.olk_spec.specs.Names.{Name, Path, ◌//◌, lookup}
+use Rattle.olk_spec.specs.Names.{Name, Path, ◌//◌, lookup_name}
 use Rattle.olk_spec.specs.Vocabulary.{Keyword, properties, pattern_properties, additional_properties, required, dependent_required, dependent_schemas, dependencies, property_names, property_dependencies, all_of, any_of, one_of, not_keyword, if_keyword, then_keyword, else_keyword, leaf, unread, keyword_named}
 use Rattle.olk_spec.specs.Schemas.{listed, members, numbered}
 use Rattle.olk_spec.specs.Malformed.{has_repeat, items_of_array}
@@ -18,7 +19,7 @@ use Rattle.olk_base.specs.Count.{Counts}
 use Rattle.olk_reports.specs.declared.error.BuildError.{BuildError}
 use Rattle.olk_reports.specs.declared.error.BuildError.TheVariants.{Memory}
 use Rattle.olk_base.specs.Kit.{Kit}
-use Rattle.olk_tree.specs.Places.{Answers}
+use Rattle.olk_tree.specs.Answers.{Answers}
 use Rattle.olk_tree.specs.declared.node.KeywordOver.{KeywordOver}
 use Rattle.olk_tree.specs.declared.node.KeywordOver.TheVariants as keyword
 use Rattle.olk_members.specs.AdditionalProperties.{declared_beside}
@@ -222,7 +223,7 @@ module _ {K R N : Type 0} (o : Kit K R) (answers : N → Answers) where
     member_built : (ks : List (KeywordOver K R N)) → MakesMember o answers p.shape p.location p.nodes.items ks → (ms : Members) (Q : Path) → P // k ≡ Q // k → MemberIsBuilt o answers ms ks (k, d) Q a b
     member_built ks make ms Q e = built_there p c k d P a b h ms (known ms) ks make Q e
 
-    claims_built : (ks : List (KeywordOver K R N)) (q : Planned) → MakesClaims o answers p.shape p.location p.nodes.items P q ks → (ms : Members) → has_repeat (map (λ m. m.0) (listed ms)) ≡ false → q ≡ plan_of ms → is_taken q k ≡ false → lookup k (listed ms) ≡ Some d → ClaimsAreBuilt o answers ms ks (k, d) P a b
+    claims_built : (ks : List (KeywordOver K R N)) (q : Planned) → MakesClaims o answers p.shape p.location p.nodes.items P q ks → (ms : Members) → has_repeat (map (λ m. m.0) (listed ms)) ≡ false → q ≡ plan_of ms → is_taken q k ≡ false → lookup_name k (listed ms) ≡ Some d → ClaimsAreBuilt o answers ms ks (k, d) P a b
     claims_built ks q make ms distinct chosen untaken there =
         let built = h ms P refl (known ms) in
         let s = built.stand.0 in
@@ -340,13 +341,9 @@ module _ {K R N : Type 0} (o : Kit K R) (answers : N → Answers) where
 
       module _ (n : List Name) (q : p.shape ≡ shape.Properties n) (ms : Members) (r : Planned) (chosen : r ≡ plan_of ms) (free : r.restricted ≡ false) where
         untaken : is_taken r (codes "properties") ≡ false
-        untaken = (λ i. (free i && true) || (r.condition && false)) ∙ never r.condition
-          where
-            never : (b : Bool) → (b && false) ≡ false
-            never true = refl
-            never false = refl
+        untaken = (λ i. (free i && true) || (r.condition && false)) ∙ and-false r.condition
 
-        pub properties_built : (ks : List (KeywordOver K R N)) → MakesClaims o answers (shape.Properties n) p.location p.nodes.items P r ks → has_repeat (map (λ m. m.0) (listed ms)) ≡ false → lookup (codes "properties") (listed ms) ≡ Some d → ClaimsAreBuilt o answers ms ks (codes "properties", d) P a b
+        pub properties_built : (ks : List (KeywordOver K R N)) → MakesClaims o answers (shape.Properties n) p.location p.nodes.items P r ks → has_repeat (map (λ m. m.0) (listed ms)) ≡ false → lookup_name (codes "properties") (listed ms) ≡ Some d → ClaimsAreBuilt o answers ms ks (codes "properties", d) P a b
         properties_built ks make distinct there = claims_built p c (codes "properties") d P a b h refl ks r (subst (λ x. MakesClaims o answers x p.location p.nodes.items P r ks) (sym q) make) ms distinct chosen untaken there
 
         properties_counted : length n ≡ length (members d)

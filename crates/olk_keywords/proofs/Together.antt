@@ -8,7 +8,7 @@ use Rattle.std.specs.declared.alloc.AllocError.{AllocError}
 use Rattle.std.proofs.Common.{refl, sym, ◌∙◌, ap, subst}
 use Rattle.std.proofs.lemmas.Grind.{flat_map-append}
 use Rattle.serde_json.specs.Data.{Data, Members}
-use Rattle.olk_spec.specs.Names.{Name, Path, ◌//◌, lookup}
+use Rattle.olk_spec.specs.Names.{Name, Path, ◌//◌, lookup_name}
 use Rattle.olk_spec.specs.Faults.{Fault}
 use Rattle.olk_spec.specs.Schemas.{listed}
 use Rattle.olk_spec.specs.Costs.{Cost, total_cost}
@@ -17,7 +17,7 @@ use Rattle.olk_base.specs.Count.{Counts}
 use Rattle.olk_base.specs.Kit.{Kit}
 use Rattle.olk_reports.specs.declared.error.BuildError.{BuildError}
 use Rattle.olk_reports.specs.declared.error.BuildError.TheVariants.{Memory}
-use Rattle.olk_tree.specs.Places.{Answers}
+use Rattle.olk_tree.specs.Answers.{Answers}
 use Rattle.olk_members.specs.Conditions.{Known, IsKnown}
 use Rattle.olk_members.specs.Members.{member_malformations, member_cost}
 use Rattle.olk_read.specs.Refusing.{Spends, Refuses}
@@ -61,21 +61,21 @@ module _ {K R N : Type 0} (o : Kit K R) (answers : N → Answers) (ms : Members)
   -- ---- one neighbour
 
   module _ {X : Type 0} (Stands : X → Data → Type 0) (k : Name) where
-    pub no_neighbour : (a : Counts) → lookup k (listed ms) ≡ None → NeighbourIsBuilt o ms Stands None k P a a
+    pub no_neighbour : (a : Counts) → lookup_name k (listed ms) ≡ None → NeighbourIsBuilt o ms Stands None k P a a
     no_neighbour a e = record {
       stands = subst (Fills Stands None) (sym e) tt;
       clean = ap (λ x. all_malformed o ms P (map (λ d. (k, d)) (option_to_list x))) e;
       spends = subst (λ x. Spends a a (all_cost o ms (map (λ d. (k, d)) (option_to_list x)))) (sym e) (spends_nothing a);
     }
 
-    pub neighbour_built : (x : X) (d : Data) (p : Part K R N) (a b : Counts) → lookup k (listed ms) ≡ Some d → PartsAreBuilt o answers ms (p ∷ []) ((k, d) ∷ []) P a b → Stands x d → NeighbourIsBuilt o ms Stands (Some x) k P a b
+    pub neighbour_built : (x : X) (d : Data) (p : Part K R N) (a b : Counts) → lookup_name k (listed ms) ≡ Some d → PartsAreBuilt o answers ms (p ∷ []) ((k, d) ∷ []) P a b → Stands x d → NeighbourIsBuilt o ms Stands (Some x) k P a b
     neighbour_built x d p a b e built h = record {
       stands = subst (Fills Stands (Some x)) (sym e) h;
       clean = ap (λ y. all_malformed o ms P (map (λ d. (k, d)) (option_to_list y))) e ∙ built.clean;
       spends = subst (λ y. Spends a b (all_cost o ms (map (λ d. (k, d)) (option_to_list y)))) (sym e) built.spends;
     }
 
-  pub neighbour_refused : (c : Known) (k : Name) (d : Data) (a b : Counts) (e : BuildError) → IsKnown c ms k → lookup k (listed ms) ≡ Some d → RefusesPart o c k d (P // k) a b e → RefusesAll (member_at k ms) a b e
+  pub neighbour_refused : (c : Known) (k : Name) (d : Data) (a b : Counts) (e : BuildError) → IsKnown c ms k → lookup_name k (listed ms) ≡ Some d → RefusesPart o c k d (P // k) a b e → RefusesAll (member_at k ms) a b e
   neighbour_refused c k d a b e known there h = refuses_among malformed_of cost_of (member_at k ms) a b [] (k, d) [] a e (ap (λ x. map (λ d. (k, d)) (option_to_list x)) (sym there)) (spends_nothing a) (h ms P refl known)
 
   -- ---- all three

@@ -5,7 +5,8 @@ use Rattle.olk_spec.specs.Names.{Name, Path, ◌//◌}
 use Rattle.olk_base.specs.Count.{Counts}
 use Rattle.olk_reports.specs.declared.error.BuildError.{BuildError}
 use Rattle.olk_base.specs.Kit.{Kit}
-use Rattle.olk_tree.specs.Places.{Answers, Stands}
+use Rattle.olk_tree.specs.Answers.{Answers}
+use Rattle.olk_tree.specs.Places.{Stands}
 use Rattle.olk_members.specs.Conditions.{is_condition}
 use Rattle.olk_members.specs.Plans.{is_case}
 use Rattle.olk_keywords.specs.Together.{NeighbourIsBuilt, BuildsNeighbour}

@@ -2,12 +2,12 @@
 use Rattle.std.specs.Prelude.{◌≡◌, false, List, [], ◌∷◌, Option, Some, Result, IsSomeAnd, IfOk, IfErr}
 use Rattle.std.specs.Option.{IfSome}
 use Rattle.serde_json.specs.Data.{Data, Members}
-use Rattle.olk_spec.specs.Names.{Name, Path, ◌//◌, lookup}
+use Rattle.olk_spec.specs.Names.{Name, Path, ◌//◌, lookup_name}
 use Rattle.olk_spec.specs.Schemas.{listed}
 use Rattle.olk_base.specs.Count.{Counts}
 use Rattle.olk_reports.specs.declared.error.BuildError.{BuildError}
 use Rattle.olk_base.specs.Kit.{Kit}
-use Rattle.olk_tree.specs.Places.{Answers}
+use Rattle.olk_tree.specs.Answers.{Answers}
 use Rattle.olk_tree.specs.declared.node.KeywordOver.{KeywordOver}
 use Rattle.olk_members.specs.Plans.{plan_of, head, claims}
 use Rattle.olk_members.specs.Members.{member_malformations, member_cost}
@@ -45,7 +45,7 @@ module _ {K R N : Type 0} (o : Kit K R) (answers : N → Answers) where
   -- the same with what the keyword claims, in the object with the members ms at P where this value stands at this name
   abbrev pub BuildsClaims : Members → Name → Data → Path → Counts → Counts → Result (KeywordOver K R N) BuildError → Type 0
   BuildsClaims ms k d P old new r =
-      IfOk r (λ x. lookup k (listed ms) ≡ Some d → ClaimsAreBuilt ms (x ∷ []) (k, d) P old new)
+      IfOk r (λ x. lookup_name k (listed ms) ≡ Some d → ClaimsAreBuilt ms (x ∷ []) (k, d) P old new)
       × IfErr r (RefusesMember o k d (P // k) old new)
 
 -- what is given is of this form

@@ -1,12 +1,12 @@
 -- What is built of a member together with neighbours that its validator takes over.
 use Rattle.std.specs.Prelude.{◌≡◌, List, [], ◌∷◌, ◌++◌, map, codes, Option, Some, option_to_list, Result, IfOk, IfErr}
 use Rattle.serde_json.specs.Data.{Data, Members}
-use Rattle.olk_spec.specs.Names.{Name, Path, lookup}
+use Rattle.olk_spec.specs.Names.{Name, Path, lookup_name}
 use Rattle.olk_spec.specs.Schemas.{listed}
 use Rattle.olk_base.specs.Count.{Counts}
 use Rattle.olk_reports.specs.declared.error.BuildError.{BuildError}
 use Rattle.olk_base.specs.Kit.{Kit}
-use Rattle.olk_tree.specs.Places.{Answers}
+use Rattle.olk_tree.specs.Answers.{Answers}
 use Rattle.olk_tree.specs.declared.node.KeywordOver.{KeywordOver}
 use Rattle.olk_members.specs.Plans.{plan_of, head, claims}
 use Rattle.olk_read.specs.Refusing.{Spends, Refuses}
@@ -17,7 +17,7 @@ use Rattle.olk_build.specs.Building.{all_cost}
 
 -- the member of this name, if there is one
 abbrev pub member_at : Name → Members → List (Name × Data)
-member_at k ms = map (λ d. (k, d)) (option_to_list (lookup k (listed ms)))
+member_at k ms = map (λ d. (k, d)) (option_to_list (lookup_name k (listed ms)))
 
 -- `if` with the value d, and `then` and `else` that stand beside it
 abbrev pub condition_members : Members → Data → List (Name × Data)
@@ -32,7 +32,7 @@ restriction_members ms d = (codes "additionalProperties", d) ∷ (member_at (cod
 module _ {K R : Type 0} (o : Kit K R) (ms : Members) {X : Type 0} (Stands : X → Data → Type 0) where
   -- what is built of the member of the name k in the object at P, if there is one, stands for it in this sense
   pub record NeighbourIsBuilt (x : Option X) (k : Name) (P : Path) (old new : Counts) : Type 0 where
-    pub stands : Fills Stands x (lookup k (listed ms))
+    pub stands : Fills Stands x (lookup_name k (listed ms))
     pub clean : all_malformed o ms P (member_at k ms) ≡ []
     pub spends : Spends old new (all_cost o ms (member_at k ms))
 
@@ -51,5 +51,5 @@ module _ {K R N : Type 0} (o : Kit K R) (answers : N → Answers) (ms : Members)
   -- the keyword, where this value stands at the name in the object at P, or why there is none
   abbrev pub BuildsTogether : Path → Counts → Counts → Result (KeywordOver K R N) BuildError → Type 0
   BuildsTogether P old new r =
-      IfOk r (λ x. lookup k (listed ms) ≡ Some d → TogetherAreBuilt (x ∷ []) P old new)
+      IfOk r (λ x. lookup_name k (listed ms) ≡ Some d → TogetherAreBuilt (x ∷ []) P old new)
       × IfErr r (Refuses (all_malformed o ms P es) (all_cost o ms es) old new)

@@ -2,7 +2,7 @@
 ghost use Rattle.std.specs.Prelude.{◌≡◌, true, false, is_none, length, option_map, codes, IfOk};
 ghost use Rattle.std.specs.Option.{IfSome, IfNone};
 ghost use Rattle.serde_json.specs.View.{members_view, view};
-ghost use Rattle.olk_spec.specs.Names.{lookup};
+ghost use Rattle.olk_spec.specs.Names.{lookup_name};
 ghost use Rattle.olk_spec.specs.Schemas.{listed, members, is_object, is_truth};
 ghost use Rattle.olk_paths.specs.Paths.{one_below};
 ghost use Rattle.olk_base.specs.Kit.{kit};
@@ -111,9 +111,9 @@ fn compile_restriction<'a, L: MakeLeaf, M: MakeRegex, N: Place<L::Leaf, M::Engin
     ensures form { IfOk result (IsAdditionalProperties ctx.old.place
         (one_below ctx.old.place (codes "additionalProperties")) (is_object (view schema.now))
         (option_map (λ d. length (members d))
-        (lookup (codes "properties") (listed (members_view parent.now.entries))))
+        (lookup_name (codes "properties") (listed (members_view parent.now.entries))))
         (option_map (λ d. length (members d))
-        (lookup (codes "patternProperties") (listed (members_view parent.now.entries))))
+        (lookup_name (codes "patternProperties") (listed (members_view parent.now.entries))))
         (plan_of (members_view parent.now.entries)).fused_one) }
     ensures place { ctx.new.place ≡ ctx.old.place }
     ensures same_meter { ctx.new.meter.ghost_name ≡ ctx.old.meter.ghost_name }
@@ -157,9 +157,9 @@ pub fn compile<'a, L: MakeLeaf, M: MakeRegex, N: Place<L::Leaf, M::Engine>>(
     ensures form { Gives result (IsAdditionalProperties ctx.old.place
         (one_below ctx.old.place (codes "additionalProperties")) (is_object (view schema.now))
         (option_map (λ d. length (members d))
-        (lookup (codes "properties") (listed (members_view parent.now.entries))))
+        (lookup_name (codes "properties") (listed (members_view parent.now.entries))))
         (option_map (λ d. length (members d))
-        (lookup (codes "patternProperties") (listed (members_view parent.now.entries))))
+        (lookup_name (codes "patternProperties") (listed (members_view parent.now.entries))))
         (plan_of (members_view parent.now.entries)).fused_one) }
     ensures unread { is_none result ≡ is_truth true (view schema.now) }
     ensures unread_at_no_cost { IfNone result (ctx.new.meter.now ≡ ctx.old.meter.now) }

@@ -2,7 +2,7 @@
 ghost use Rattle.std.specs.Prelude.{◌≡◌, true, false, not, is_none, is_some, map, codes, IfOk, IfErr};
 ghost use Rattle.std.specs.Option.{IfSome, IfNone};
 ghost use Rattle.serde_json.specs.View.{members_view, view};
-ghost use Rattle.olk_spec.specs.Names.{lookup};
+ghost use Rattle.olk_spec.specs.Names.{lookup_name};
 ghost use Rattle.olk_spec.specs.Schemas.{listed};
 ghost use Rattle.olk_spec.specs.Malformed.{has_repeat};
 ghost use Rattle.olk_paths.specs.Paths.{one_below};
@@ -71,8 +71,8 @@ fn compile_condition<'a, L: MakeLeaf, M: MakeRegex, N: Place<L::Leaf, M::Engine>
         (condition_members (members_view parent.now.entries) (view schema.now)) ctx.old.place
         ctx.old.meter.now ctx.new.meter.now result }
     ensures form { IfOk result (IsIf (one_below ctx.old.place (codes "if"))
-        (is_some (lookup (codes "then") (listed (members_view parent.now.entries))))
-        (is_some (lookup (codes "else") (listed (members_view parent.now.entries))))) }
+        (is_some (lookup_name (codes "then") (listed (members_view parent.now.entries))))
+        (is_some (lookup_name (codes "else") (listed (members_view parent.now.entries))))) }
     ensures place { ctx.new.place ≡ ctx.old.place }
     ensures same_meter { ctx.new.meter.ghost_name ≡ ctx.old.meter.ghost_name }
 {
@@ -117,8 +117,8 @@ pub fn compile<'a, L: MakeLeaf, M: MakeRegex, N: Place<L::Leaf, M::Engine>>(
         (condition_members (members_view parent.now.entries) (view schema.now)) ctx.old.place
         ctx.old.meter.now ctx.new.meter.now) }
     ensures form { Gives result (IsIf (one_below ctx.old.place (codes "if"))
-        (is_some (lookup (codes "then") (listed (members_view parent.now.entries))))
-        (is_some (lookup (codes "else") (listed (members_view parent.now.entries))))) }
+        (is_some (lookup_name (codes "then") (listed (members_view parent.now.entries))))
+        (is_some (lookup_name (codes "else") (listed (members_view parent.now.entries))))) }
     ensures unread { is_none result ≡ not (is_condition (members_view parent.now.entries)) }
     ensures unread_at_no_cost { IfNone result (ctx.new.meter.now ≡ ctx.old.meter.now) }
     ensures place { ctx.new.place ≡ ctx.old.place }

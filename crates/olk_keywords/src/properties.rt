@@ -18,7 +18,7 @@ use olk_make::properties::make;
 use olk_members::Plan;
 use olk_read::Shape;
 use olk_reports::BuildError;
-use olk_tree::big_map::{BigMap, HashedNames};
+use olk_tree::big_map::BigMap;
 use olk_tree::map::{SmallMap, SortedNames};
 use olk_tree::node::KeywordOver;
 use olk_tree::place::Place;
@@ -106,7 +106,7 @@ pub fn compile_small_map<'a, L: MakeLeaf, M: MakeRegex, N: Place<L::Leaf, M::Eng
     Ok(SmallMap { names, nodes })
 }
 
-/// The names and nodes that [`compile_small_map`] gives, where the names are found by their hash.
+/// The names and nodes that [`compile_small_map`] gives, in a map of many.
 ///
 /// The meter rises by the cost of the subschemas, or by a part of it where nothing is built; the
 /// context's place is left as it was.
@@ -130,8 +130,7 @@ pub fn compile_big_map<'a, L: MakeLeaf, M: MakeRegex, N: Place<L::Leaf, M::Engin
     ensures place { ctx.new.place ≡ ctx.old.place }
     ensures same_meter { ctx.new.meter.ghost_name ≡ ctx.old.meter.ghost_name }
 {
-    let sorted = SortedNames::of(alloc, properties)?;
-    let names = HashedNames::of(alloc, sorted)?;
+    let names = SortedNames::of(alloc, properties)?;
     let nodes = compile_declared(alloc, ctx, "properties", properties)?;
     Ok(BigMap { names, nodes })
 }

@@ -9,7 +9,7 @@ use Rattle.std.proofs.lemmas.Map.Text.{is_eq-slice_cmp}
 use mathlib.Core.Bool.{true≢false}
 use mathlib.Core.Path.{subst₂}
 use Rattle.serde_json.specs.Data.{Data, boolean, Members}
-use Rattle.olk_spec.specs.Names.{Name, Path, ◌//◌, lookup, is_among}
+use Rattle.olk_spec.specs.Names.{Name, Path, ◌//◌, lookup_name, is_among}
 use Rattle.std.specs.declared.cmp.Ordering.TheVariants.{Less}
 use Rattle.olk_spec.specs.Schemas.{listed, members, is_object, is_truth}
 use Rattle.olk_spec.specs.Faults.{Fault, ◌∼◌}
@@ -17,7 +17,7 @@ use Rattle.olk_spec.specs.Malformed.{has_repeat}
 use Rattle.olk_spec.specs.Meaning.{meaning_step}
 use Rattle.olk_spec.specs.Tree.{Tree}
 use Rattle.olk_spec.proofs.Order.{∼_same}
-use Rattle.olk_spec.proofs.Truth.{and_true, and_from, and_first, and_second}
+use Rattle.olk_spec.proofs.Truth.{and_from, and_first, and_second}
 use Rattle.olk_base.specs.Kit.{Kit}
 use Rattle.olk_base.specs.Compiled.{pattern_answers}
 use Rattle.olk_base.specs.declared.pattern.CompiledPattern.{CompiledPattern}
@@ -25,15 +25,15 @@ use Rattle.olk_members.specs.AdditionalProperties.{entries_in, declared_beside}
 use Rattle.olk_members.specs.Conditions.{is_restriction, is_restricted, known_of}
 use Rattle.olk_members.specs.Fused.{fused_name}
 use Rattle.olk_members.specs.Members.{member_report}
-use Rattle.std.specs.List.{flat_map, list_all}
+use Rattle.std.specs.List.{flat_map, list_all, zip}
 use Rattle.olk_members.specs.Plans.{Planned, plan_of, head, claims}
 use Rattle.olk_members.proofs.AdditionalPlaces.{allowing_means_nothing}
 use Rattle.olk_members.proofs.Claims.{claims_itself, heads_elsewhere}
 use Rattle.olk_members.proofs.Heads.{names_of}
 use Rattle.olk_members.proofs.OneFused.{clean_one_fused}
 use Rattle.olk_members.proofs.TakenOver.{free_takes_nothing}
-use Rattle.olk_tree.specs.Additional.{placed}
-use Rattle.olk_tree.specs.Answers.{beside, nodes_in, mapped_places, patterns_in, required_text, required_place}
+use Rattle.olk_tree.specs.Additional.{placed, mapped_places, patterns_in, required_text, required_place}
+use Rattle.olk_tree.specs.Maps.{nodes_in}
 use Rattle.olk_tree.specs.Ascending.{Ascend}
 use Rattle.olk_tree.specs.Questions.{Question}
 use Rattle.olk_tree.specs.Sides.{AnswersAs, EntriesAnswer, PatternsAnswer, RestAnswers, RestrictionStands}
@@ -45,7 +45,8 @@ use Rattle.olk_tree.specs.declared.map.SmallMap.{SmallMap}
 use Rattle.olk_tree.specs.declared.properties_map.PropertiesMap.{PropertiesMap}
 use Rattle.olk_tree.specs.declared.node.KeywordOver.{KeywordOver}
 use Rattle.olk_tree.specs.declared.node.KeywordOver.TheVariants as keyword
-use Rattle.olk_tree.specs.Places.{Answers, Stands}
+use Rattle.olk_tree.specs.Answers.{Answers}
+use Rattle.olk_tree.specs.Places.{Stands}
 use Rattle.olk_read.specs.Patterns.{ArePatterns}
 use Rattle.olk_read.specs.declared.shape.Shape.TheVariants as shape
 use Rattle.olk_read.specs.declared.shape.ReadPlaces.TheVariants.{Itself}
@@ -57,9 +58,11 @@ use Rattle.olk_make.specs.declared.part.Beside.{Beside}
 use Rattle.olk_make.specs.declared.part.Patterns.{Patterns}
 use Rattle.olk_make.specs.declared.part.Taken.{Taken}
 use Rattle.olk_make.proofs.Formed.{has_form, is_formed, just_one_formed, stand_formed, map_formed, entry_formed, case_formed}
-use Rattle.olk_tree.specs.Formed.{is_map_formed, names_beside, is_table_formed, validator_formed}
+use Rattle.olk_tree.specs.Formed.{is_map_formed, names_beside, is_table_formed}
+use Rattle.olk_tree.specs.Validators.{answers_of}
 use Rattle.olk_tree.proofs.Formed.{table_formed}
 use Rattle.std.specs.Option.{option_map_or}
+use Rattle.std.proofs.Math.Bool.{or-true, and-true}
 
 -- ---- names that ascend are distinct
 
@@ -116,21 +119,21 @@ module _ {K R N : Type 0} (o : Kit K R) (answers : N → Answers) where
   rest_answers None d L h = h
   rest_answers (Some n) d L h = (h.0, answers_as n d L h.1)
 
-  -- ---- what stands beside it
+  -- ---- what stands zip it
 
   -- a map stands for what `properties` declares at L
   record DeclaredSide (x : Option (PropertiesMap N)) (a : Option Data) (L : Path) : Type 0 where
     nodes : List N
-    placed_beside : mapped_places x ≡ beside (map (λ e. e.0) (entries_in a)) (placed nodes)
+    placed_zip : mapped_places x ≡ zip (map (λ e. e.0) (entries_in a)) (placed nodes)
     declared : EntriesAnswer o means report tree nodes (entries_in a) L
     there : is_some x ≡ is_some a
     once : has_repeat (map (λ e. e.0) (entries_in a)) ≡ false
 
   declared_side : (b : Option (SmallMap N)) (x : Option (PropertiesMap N)) (a : Option Data) (L : Path) → IsMapOf b x → Fills (λ m. DeclaredStand o answers m L) b a → DeclaredSide x a L
-  declared_side None None None L form h = record { nodes = []; placed_beside = refl; declared = tt; there = refl; once = refl }
+  declared_side None None None L form h = record { nodes = []; placed_zip = refl; declared = tt; there = refl; once = refl }
   declared_side (Some b) (Some m) (Some d) L form h = record {
     nodes = nodes_in m;
-    placed_beside = ap (λ ks. beside ks (placed (nodes_in m))) (form.0 ∙ h.names);
+    placed_zip = ap (λ ks. zip ks (placed (nodes_in m))) (form.0 ∙ h.names);
     declared = entries_answer (nodes_in m) (members d) L (subst (λ l. StandEach o answers l (members d) L) (sym form.1) h.nodes);
     there = refl;
     once = ap has_repeat (sym h.names) ∙ ascend_once b.names form.3;
@@ -140,7 +143,7 @@ module _ {K R N : Type 0} (o : Kit K R) (answers : N → Answers) where
   declared_side None x (Some d) L form h = absurd h
   declared_side (Some b) x None L form h = absurd h
 
-  -- the patterns stand for what `patternProperties` holds at L, beside the names ns
+  -- the patterns stand for what `patternProperties` holds at L, zip the names ns
   record PatternsSide (k : AdditionalProperties R N) (ns : List Name) (a : Option Data) (L : Path) : Type 0 where
     patterns : PatternsAnswer o means report tree (patterns_in k.patterns) (entries_in a) L
     known : (p i : ℕ) (n : Name) (c : CompiledPattern R) → slice_get ns p ≡ Some n → slice_get (map (λ e. e.0) (patterns_in k.patterns)) i ≡ Some c → table_says k.table p i ≡ pattern_answers o.answers c n
@@ -178,7 +181,7 @@ module _ {K R N : Type 0} (o : Kit K R) (answers : N → Answers) where
     patterns_side None (Some d) L form h = absurd h
     patterns_side (Some x) None L form h = absurd h
 
-  -- ---- the form of what stands beside it
+  -- ---- the form of what stands zip it
 
   declared_names : (b : Option (SmallMap N)) (x : Option (PropertiesMap N)) (a : Option Data) (L : Path) → IsMapOf b x → Fills (λ m. DeclaredStand o answers m L) b a → names_beside x ≡ map (λ e. e.0) (entries_in a)
   declared_names None None None L form h = refl
@@ -236,13 +239,13 @@ module _ {K R N : Type 0} (o : Kit K R) (answers : N → Answers) where
   module _ (k : Box (AdditionalProperties R N) Global) (L P : Path) (rest : Option N) (b : Beside R N) (ms : Members) (form : IsFormOfAdditionalProperties {K = K} P L rest b (fused_name ms) (keyword.AdditionalProperties k)) (d : Data) (place : L ≡ P // codes "additionalProperties") (rest_stands : RestStands o answers rest d L) (stands : BesideStands o answers (known_of ms) b ms P) (restricted : is_restricted ms ≡ true) where
     restriction_stands : RestrictionStands o means report tree k.value ms d P
     restriction_stands =
-        let declared : DeclaredSide k.value.properties (lookup (codes "properties") (listed ms)) (P // codes "properties") = declared_side b.properties k.value.properties (lookup (codes "properties") (listed ms)) (P // codes "properties") form.1 stands.0 in
-        let patterns : PatternsSide k.value (map (λ e. e.0) (declared_beside ms)) (lookup (codes "patternProperties") (listed ms)) (P // codes "patternProperties") = patterns_side k.value ms restricted b.patterns (lookup (codes "patternProperties") (listed ms)) (P // codes "patternProperties") form.2 stands.1 in
+        let declared : DeclaredSide k.value.properties (lookup_name (codes "properties") (listed ms)) (P // codes "properties") = declared_side b.properties k.value.properties (lookup_name (codes "properties") (listed ms)) (P // codes "properties") form.1 stands.0 in
+        let patterns : PatternsSide k.value (map (λ e. e.0) (declared_beside ms)) (lookup_name (codes "patternProperties") (listed ms)) (P // codes "patternProperties") = patterns_side k.value ms restricted b.patterns (lookup_name (codes "patternProperties") (listed ms)) (P // codes "patternProperties") form.2 stands.1 in
         let required = required_there P (fused_name ms) k.value.required form.3 in
         record {
           sides = record {
             nodes = declared.nodes;
-            placed_beside = declared.placed_beside;
+            placed_zip = declared.placed_zip;
             declared = declared.declared;
             patterns = patterns.patterns;
             known = patterns.known;
@@ -258,18 +261,18 @@ module _ {K R N : Type 0} (o : Kit K R) (answers : N → Answers) where
         }
 
     restriction_formed : is_formed o answers (keyword.AdditionalProperties k) ≡ true
-    unfolding validator_formed
+    unfolding answers_of
     restriction_formed =
-        let properties : Option Data = lookup (codes "properties") (listed ms) in
+        let properties : Option Data = lookup_name (codes "properties") (listed ms) in
         and_from _ _ (and_from _ _
         (declared_formed b.properties k.value.properties properties (P // codes "properties") form.1 stands.0)
-        (beside_formed k.value ms restricted (names_beside k.value.properties) (declared_names b.properties k.value.properties properties (P // codes "properties") form.1 stands.0) b.patterns (lookup (codes "patternProperties") (listed ms)) (P // codes "patternProperties") form.2 stands.1))
+        (beside_formed k.value ms restricted (names_beside k.value.properties) (declared_names b.properties k.value.properties properties (P // codes "properties") form.1 stands.0) b.patterns (lookup_name (codes "patternProperties") (listed ms)) (P // codes "patternProperties") form.2 stands.1))
         (ap (case_formed o answers) form.0 ∙ rest_formed rest d L rest_stands)
 
-    restriction_means : has_repeat (names_of (listed ms)) ≡ false → lookup (codes "additionalProperties") (listed ms) ≡ Some d → KeywordsMean o answers ms (keyword.AdditionalProperties k ∷ []) (claims (head (plan_of ms)) (listed ms) (codes "additionalProperties", d)) ((codes "additionalProperties", d) ∷ []) P
+    restriction_means : has_repeat (names_of (listed ms)) ≡ false → lookup_name (codes "additionalProperties") (listed ms) ≡ Some d → KeywordsMean o answers ms (keyword.AdditionalProperties k ∷ []) (claims (head (plan_of ms)) (listed ms) (codes "additionalProperties", d)) ((codes "additionalProperties", d) ∷ []) P
     restriction_means distinct there = record {
       covers = record {
-        verdict = λ u v. and_true _ ∙ restriction_accepts o means report tree k restriction_stands distinct there restricted u v;
+        verdict = λ u v. and-true _ ∙ restriction_accepts o means report tree k restriction_stands distinct there restricted u v;
         asks_within = λ u v. let h = restriction_asks o means report tree k restriction_stands distinct there restricted u v in omega (arith, h);
         faults = λ u v Q. subst (λ l. l ∼ flat_map (λ x. member_report o.world ms x (which o ms x) u v P Q) (claims (head (plan_of ms)) (listed ms) (codes "additionalProperties", d))) (sym (append-nil _)) (restriction_finds o means report tree k restriction_stands distinct there restricted u v Q);
       };
@@ -279,11 +282,7 @@ module _ {K R N : Type 0} (o : Kit K R) (answers : N → Answers) where
 
   restricted_there : (x : Option N) (d : Data) (L : Path) → RestStands o answers x d L → is_restriction (Some d) ≡ true
   restricted_there None d L h = ap (λ b. b || is_object d) h
-  restricted_there (Some n) d L h = ap (λ b. is_truth false d || b) h.0 ∙ or_true (is_truth false d)
-    where
-      or_true : (b : Bool) → (b || true) ≡ true
-      or_true true = refl
-      or_true false = refl
+  restricted_there (Some n) d L h = ap (λ b. is_truth false d || b) h.0 ∙ or-true (is_truth false d)
 
   pub makes_restriction : (k : KeywordOver K R N) (L P : Path) (rest : Option N) (b : Beside R N) (p : Planned) → IsFormOfAdditionalProperties P L rest b p.fused_one k → MakesRestriction o answers L rest b P p (k ∷ [])
   makes_restriction (keyword.AdditionalProperties k) L P rest b p form ms d place rest_stands stands distinct there chosen =
@@ -316,9 +315,9 @@ module _ {K R N : Type 0} (o : Kit K R) (answers : N → Answers) where
   module _ (L : Path) (t : Taken R N) (P : Path) (p : Planned) where
     -- of a schema, whose node this is
     pub part_of_rest : (before ns : List N) (n : N) (ks : List (KeywordOver K R N)) → ns ≡ before ++ n ∷ [] → MakesRestriction o answers L (Some n) t.beside P p ks → MakesPart o answers shape.AdditionalProperties L ns t P p ks
-    part_of_rest before ns n ks split make ms m place named fits stand cases beside distinct there chosen untaken =
+    part_of_rest before ns n ks split make ms m place named fits stand cases zip distinct there chosen untaken =
         subst (λ k. KeywordsMean o answers ms ks (claims (head p) (listed ms) (k, m.1)) ((k, m.1) ∷ []) P) (sym named.0)
-        (make ms m.1 (place ∙ ap (λ k. P // k) named.0) (named.1, by before (subst (λ l. StandAt o answers Itself l m.1 L) split stand)) (beside refl) distinct (ap (λ k. lookup k (listed ms)) (sym named.0) ∙ there) chosen)
+        (make ms m.1 (place ∙ ap (λ k. P // k) named.0) (named.1, by before (subst (λ l. StandAt o answers Itself l m.1 L) split stand)) (zip refl) distinct (ap (λ k. lookup_name k (listed ms)) (sym named.0) ∙ there) chosen)
       where
         by : (before : List N) → StandAt o answers Itself (before ++ n ∷ []) m.1 L → Stands o answers n m.1 L
         by [] h = h
@@ -326,24 +325,24 @@ module _ {K R N : Type 0} (o : Kit K R) (answers : N → Answers) where
         by (x ∷ y ∷ before) h = absurd h
 
     pub part_of_no_rest : (ns : List N) (ks : List (KeywordOver K R N)) → ns ≡ [] → MakesPart o answers shape.AdditionalProperties L ns t P p ks
-    part_of_no_rest ns ks none ms m place named fits stand cases beside distinct there chosen untaken = absurd (subst (λ l. StandAt o answers Itself l m.1 L) none stand)
+    part_of_no_rest ns ks none ms m place named fits stand cases zip distinct there chosen untaken = absurd (subst (λ l. StandAt o answers Itself l m.1 L) none stand)
 
     -- of `false`
     pub part_of_no_others : (ns : List N) (ks : List (KeywordOver K R N)) → MakesRestriction o answers L None t.beside P p ks → MakesPart o answers shape.NoOthers L ns t P p ks
-    part_of_no_others ns ks make ms m place named fits stand cases beside distinct there chosen untaken =
+    part_of_no_others ns ks make ms m place named fits stand cases zip distinct there chosen untaken =
         subst (λ k. KeywordsMean o answers ms ks (claims (head p) (listed ms) (k, m.1)) ((k, m.1) ∷ []) P) (sym named.0)
-        (make ms m.1 (place ∙ ap (λ k. P // k) named.0) named.1 (beside refl) distinct (ap (λ k. lookup k (listed ms)) (sym named.0) ∙ there) chosen)
+        (make ms m.1 (place ∙ ap (λ k. P // k) named.0) named.1 (zip refl) distinct (ap (λ k. lookup_name k (listed ms)) (sym named.0) ∙ there) chosen)
 
     -- of `true`
     pub part_of_any_others : (ns : List N) → MakesPart o answers shape.AnyOthers L ns t P p []
-    part_of_any_others ns ms m place named fits stand cases beside distinct there chosen untaken =
+    part_of_any_others ns ms m place named fits stand cases zip distinct there chosen untaken =
         let allows = allowed m.1 named.1 in
-        let free = ap is_restriction (ap (λ k. lookup k (listed ms)) (sym named.0) ∙ there) ∙ allows in
+        let free = ap is_restriction (ap (λ k. lookup_name k (listed ms)) (sym named.0) ∙ there) ∙ allows in
         let nothing = allowing_means_nothing o.world ms m.1 allows free in
         subst₂ (λ q k. KeywordsMean o answers ms [] (claims (head q) (listed ms) (k, m.1)) ((k, m.1) ∷ []) P) (sym chosen) (sym named.0)
-        (subst (λ rows. KeywordsMean o answers ms [] rows ((codes "additionalProperties", m.1) ∷ []) P) (sym (claims_itself ms distinct (head (plan_of ms)) (codes "additionalProperties", m.1) (heads_elsewhere (plan_of ms) (codes "additionalProperties") refl refl (λ e. (refl, refl)) (free_takes_nothing ms (codes "additionalProperties") free)) (ap (λ k. lookup k (listed ms)) (sym named.0) ∙ there))) record {
+        (subst (λ rows. KeywordsMean o answers ms [] rows ((codes "additionalProperties", m.1) ∷ []) P) (sym (claims_itself ms distinct (head (plan_of ms)) (codes "additionalProperties", m.1) (heads_elsewhere (plan_of ms) (codes "additionalProperties") refl refl (λ e. (refl, refl)) (free_takes_nothing ms (codes "additionalProperties") free)) (ap (λ k. lookup_name k (listed ms)) (sym named.0) ∙ there))) record {
           covers = record {
-            verdict = λ u v. sym (and_true _ ∙ nothing.verdict u v);
+            verdict = λ u v. sym (and-true _ ∙ nothing.verdict u v);
             asks_within = λ u v. omega arith;
             faults = λ u v Q. ∼_same (sym (append-nil _ ∙ nothing.report u v P Q));
           };

@@ -1,31 +1,31 @@
 -- What holds `if`, with `then` and `else`.
-use Rattle.std.specs.Prelude.{◌≡◌, ◌≤◌, ℕ, ◌+◌, Bool, true, false, not, cond, ◌&&◌, ◌||◌, List, [], ◌∷◌, ◌++◌, map, codes, sum_by, is_some, Option, Some, None, option_to_list, IsPermutation}
+use Rattle.std.specs.Prelude.{◌≡◌, ◌≤◌, ℕ, ◌+◌, Bool, true, false, not, cond, ◌&&◌, ◌||◌, List, [], ◌∷◌, ◌++◌, map, codes, sum_by, is_some, Option, Some, None, option_to_list, IsPermutation, bytes_eq}
 use Rattle.std.specs.List.{list_all, flat_map}
-use Rattle.std.specs.Prelude.{bytes_eq}
 use Rattle.std.specs.Option.{IfSome, IfNone}
 use Rattle.std.proofs.Common.{refl, sym, ◌∙◌, ap, subst, ◌⊎◌, inl, inr, arith}
 use Rattle.std.proofs.lemmas.List.{append-nil}
 use Rattle.std.proofs.lemmas.List.Folds.{list_all-append}
 use Rattle.std.proofs.lemmas.List.Sums.{sum_by-append, sum_by-cons}
 use Rattle.std.proofs.lemmas.Grind.{flat_map-append}
+use Rattle.std.proofs.Math.Bool.{or-true, and-true}
 use mathlib.Core.Bool.{true≢false}
 use mathlib.Core.Path.{subst₂}
 use Rattle.serde_json.specs.Data.{Data, Members}
-use Rattle.olk_spec.specs.Names.{Name, Path, ◌//◌, lookup, put_if}
+use Rattle.olk_spec.specs.Names.{Name, Path, ◌//◌, lookup_name, put_if}
 use Rattle.olk_spec.specs.Faults.{Fault, ◌∼◌, like_empty}
 use Rattle.olk_spec.specs.Schemas.{listed}
 use Rattle.olk_spec.specs.Malformed.{has_repeat}
 use Rattle.olk_spec.specs.Meaning.{accepts, asks, report, tree}
 use Rattle.olk_spec.specs.Tree.{Tree, plain}
 use Rattle.olk_spec.proofs.Order.{∼_same}
-use Rattle.olk_spec.proofs.Truth.{and_true}
 use Rattle.olk_base.specs.Kit.{Kit}
 use Rattle.olk_tree.specs.Questions.{Question, always, conditional}
-use Rattle.olk_tree.specs.Answers.{validator_means, validator_report, validator_tree}
+use Rattle.olk_tree.specs.Validators.{answers_of}
 use Rattle.olk_tree.specs.Shown.{branch_trees, if_tree}
 use Rattle.olk_tree.specs.declared.node.KeywordOver.{KeywordOver}
 use Rattle.olk_tree.specs.declared.node.KeywordOver.TheVariants as keyword
-use Rattle.olk_tree.specs.Places.{Answers, Stands}
+use Rattle.olk_tree.specs.Answers.{Answers}
+use Rattle.olk_tree.specs.Places.{Stands}
 use Rattle.olk_members.specs.Members.{member_accepts, member_asks, member_report, member_child}
 use Rattle.olk_members.specs.Conditions.{is_condition}
 use Rattle.olk_members.specs.Plans.{Planned, plan_of, is_case, tells_members, head, claims}
@@ -77,21 +77,21 @@ module _ {K R N : Type 0} (o : Kit K R) (answers : N → Answers) where
 
   module _ (L : Path) (n : N) where
     form_means : (t e : Option N) (k : KeywordOver K R N) → IsFormOfIf L n t e k → (v : Data) → question o answers k v ≡ conditional ((answers n).means v) (case_question t v) (case_question e v)
-    unfolding validator_means
+    unfolding answers_of
     form_means (Some t) None (keyword.IfThen k) f v = λ i. conditional ((answers (f.0 i)).means v) ((answers (f.1 i)).means v) (always true)
     form_means None (Some e) (keyword.IfElse k) f v = λ i. conditional ((answers (f.0 i)).means v) (always true) ((answers (f.1 i)).means v)
     form_means (Some t) (Some e) (keyword.IfThenElse k) f v = λ i. conditional ((answers (f.0 i)).means v) ((answers (f.1 i)).means v) ((answers (f.2 i)).means v)
     form_means t e k f v = absurd f
 
     form_finds : (t e : Option N) (k : KeywordOver K R N) → IsFormOfIf L n t e k → (u : Bool) (v : Data) (Q : Path) → found o answers u k v Q ≡ cond (((answers n).means v).accepts u) (case_found u t v Q) (case_found u e v Q)
-    unfolding validator_report
+    unfolding answers_of
     form_finds (Some t) None (keyword.IfThen k) f u v Q = λ i. cond (((answers (f.0 i)).means v).accepts u) ((answers (f.1 i)).report u v Q) []
     form_finds None (Some e) (keyword.IfElse k) f u v Q = λ i. cond (((answers (f.0 i)).means v).accepts u) [] ((answers (f.1 i)).report u v Q)
     form_finds (Some t) (Some e) (keyword.IfThenElse k) f u v Q = λ i. cond (((answers (f.0 i)).means v).accepts u) ((answers (f.1 i)).report u v Q) ((answers (f.2 i)).report u v Q)
     form_finds t e k f u v Q = absurd f
 
     form_shows : (t e : Option N) (k : KeywordOver K R N) → IsFormOfIf L n t e k → (u : Bool) (v : Data) (Q : Path) → shown o answers u k v Q ≡ if_tree (λ n. (answers n).tree u) v Q (((answers n).means v).accepts u) L n (option_to_list t) (option_to_list e)
-    unfolding validator_tree
+    unfolding answers_of
     form_shows (Some t) None (keyword.IfThen k) f u v Q = λ i. if_tree (λ n. (answers n).tree u) v Q (((answers (f.0 i)).means v).accepts u) (f.2 i) (f.0 i) (f.1 i ∷ []) []
     form_shows None (Some e) (keyword.IfElse k) f u v Q = λ i. if_tree (λ n. (answers n).tree u) v Q (((answers (f.0 i)).means v).accepts u) (f.2 i) (f.0 i) [] (f.1 i ∷ [])
     form_shows (Some t) (Some e) (keyword.IfThenElse k) f u v Q = λ i. if_tree (λ n. (answers n).tree u) v Q (((answers (f.0 i)).means v).accepts u) (f.3 i) (f.0 i) (f.1 i ∷ []) (f.2 i ∷ [])
@@ -155,7 +155,7 @@ module _ {K R N : Type 0} (o : Kit K R) (answers : N → Answers) where
   same_either true x = refl
   same_either false x = refl
 
-  module _ (ms : Members) (d : Data) (there : lookup (codes "if") (listed ms) ≡ Some d) (u : Bool) (v : Data) where
+  module _ (ms : Members) (d : Data) (there : lookup_name (codes "if") (listed ms) ≡ Some d) (u : Bool) (v : Data) where
     abbrev tested : Bool
     tested = accepts o.world u d v
 
@@ -167,11 +167,11 @@ module _ {K R N : Type 0} (o : Kit K R) (answers : N → Answers) where
 
     then_accepts : (a : Option Data) → list_all row_accepts (rows (codes "then") a) ≡ cond tested (case_verdict u v a) true
     then_accepts None = same_either tested true
-    then_accepts (Some e) = and_true _ ∙ fact.then_accepts_beside o.world ms u v d there e
+    then_accepts (Some e) = and-true _ ∙ fact.then_accepts_beside o.world ms u v d there e
 
     else_accepts : (a : Option Data) → list_all row_accepts (rows (codes "else") a) ≡ cond (not tested) (case_verdict u v a) true
     else_accepts None = same_either (not tested) true
-    else_accepts (Some e) = and_true _ ∙ fact.else_accepts_beside o.world ms u v d there e
+    else_accepts (Some e) = and-true _ ∙ fact.else_accepts_beside o.world ms u v d there e
 
     then_asks : (a : Option Data) → sum_by row_asks (rows (codes "then") a) ≡ cond tested (case_asked u v a) 0
     then_asks None = same_either tested 0
@@ -196,7 +196,7 @@ module _ {K R N : Type 0} (o : Kit K R) (answers : N → Answers) where
   -- ---- one of two, as what the test chooses
 
   one_verdict : (c x y : Bool) → cond c x y ≡ (cond c x true && cond (not c) y true)
-  one_verdict true x y = sym (and_true x)
+  one_verdict true x y = sym (and-true x)
   one_verdict false x y = refl
 
   one_asked : (c : Bool) (n x y m a b : ℕ) → n ≤ m → x ≤ a → y ≤ b → n + cond c x y + 0 ≤ m + (cond c a 0 + cond (not c) b 0)
@@ -213,12 +213,12 @@ module _ {K R N : Type 0} (o : Kit K R) (answers : N → Answers) where
 
   -- ---- all three
 
-  module _ (ms : Members) (P : Path) (distinct : has_repeat (names_of (listed ms)) ≡ false) (d : Data) (there : lookup (codes "if") (listed ms) ≡ Some d) (read_here : is_condition ms ≡ true) where
+  module _ (ms : Members) (P : Path) (distinct : has_repeat (names_of (listed ms)) ≡ false) (d : Data) (there : lookup_name (codes "if") (listed ms) ≡ Some d) (read_here : is_condition ms ≡ true) where
     abbrev at_then : Option Data
-    at_then = lookup (codes "then") (listed ms)
+    at_then = lookup_name (codes "then") (listed ms)
 
     abbrev at_else : Option Data
-    at_else = lookup (codes "else") (listed ms)
+    at_else = lookup_name (codes "else") (listed ms)
 
     abbrev three : List (Name × Data)
     three = (codes "if", d) ∷ rows (codes "then") at_then ++ rows (codes "else") at_else
@@ -226,7 +226,7 @@ module _ {K R N : Type 0} (o : Kit K R) (answers : N → Answers) where
     module _ (L : Path) (n : N) (t e : Option N) (k : KeywordOver K R N) (place : L ≡ P // codes "if") (form : IsFormOfIf L n t e k) (stands : Stands o answers n d L) (then_stands : Fills (Case (P // codes "then")) t at_then) (else_stands : Fills (Case (P // codes "else")) e at_else) where
       mean_together : Covers o answers ms (k ∷ []) three P
       mean_together = record {
-        verdict = λ u v. and_true _ ∙ ap (λ q. q.accepts u) (form_means L n t e k form v)
+        verdict = λ u v. and-true _ ∙ ap (λ q. q.accepts u) (form_means L n t e k form v)
             ∙ (λ i. cond (stands.verdict u v i) (case_accepts u v t at_then (P // codes "then") then_stands i) (case_accepts u v e at_else (P // codes "else") else_stands i))
             ∙ one_verdict (tested ms d there u v) (case_verdict u v at_then) (case_verdict u v at_else)
             ∙ (λ i. sym (then_accepts ms d there u v at_then) i && sym (else_accepts ms d there u v at_else) i)
@@ -281,8 +281,8 @@ module _ {K R N : Type 0} (o : Kit K R) (answers : N → Answers) where
   -- where there is neither, `if` is not read
   pub makes_no_condition : (L : Path) (n : N) (cs : Cases N) → cs.then_schema ≡ None → cs.else_schema ≡ None → MakesCondition o answers L n cs []
   makes_no_condition L n cs p q ms d P place stands cases distinct there read_here =
-      let a = none_stands (lookup (codes "then") (listed ms)) (P // codes "then") (subst (λ t. Fills (Case (P // codes "then")) t (lookup (codes "then") (listed ms))) p cases.0) in
-      let b = none_stands (lookup (codes "else") (listed ms)) (P // codes "else") (subst (λ t. Fills (Case (P // codes "else")) t (lookup (codes "else") (listed ms))) q cases.1) in
+      let a = none_stands (lookup_name (codes "then") (listed ms)) (P // codes "then") (subst (λ t. Fills (Case (P // codes "then")) t (lookup_name (codes "then") (listed ms))) p cases.0) in
+      let b = none_stands (lookup_name (codes "else") (listed ms)) (P // codes "else") (subst (λ t. Fills (Case (P // codes "else")) t (lookup_name (codes "else") (listed ms))) q cases.1) in
       absurd (true≢false (sym read_here ∙ (λ i. is_some (there i) && (is_some (a i) || is_some (b i)))))
 
   pub makes_if : (r : Option (KeywordOver K R N)) (L : Path) (n : N) (cs : Cases N) → IfNone r (cs.then_schema ≡ None) → IfNone r (cs.else_schema ≡ None) → IfSome r (IsFormOfIf L n cs.then_schema cs.else_schema) → MakesCondition o answers L n cs (option_to_list r)
@@ -294,7 +294,7 @@ module _ {K R N : Type 0} (o : Kit K R) (answers : N → Answers) where
   part_of_if L before ns n t P p ks split make ms m place named fits stand cases beside distinct there chosen untaken =
       subst (λ q. KeywordsMean o answers ms ks (claims (head q) (listed ms) m) (m ∷ []) P) (sym chosen)
       (subst (λ k. KeywordsMean o answers ms ks (claims (head (plan_of ms)) (listed ms) (k, m.1)) ((k, m.1) ∷ []) P) (sym named)
-      (make ms m.1 P (place ∙ ap (λ k. P // k) named) (by before (subst (λ l. StandAt o answers Itself l m.1 L) split stand)) (cases refl) distinct (ap (λ k. lookup k (listed ms)) (sym named) ∙ there) fits))
+      (make ms m.1 P (place ∙ ap (λ k. P // k) named) (by before (subst (λ l. StandAt o answers Itself l m.1 L) split stand)) (cases refl) distinct (ap (λ k. lookup_name k (listed ms)) (sym named) ∙ there) fits))
     where
       by : (before : List N) → StandAt o answers Itself (before ++ n ∷ []) m.1 L → Stands o answers n m.1 L
       by [] h = h
@@ -306,11 +306,7 @@ module _ {K R N : Type 0} (o : Kit K R) (answers : N → Answers) where
 
   module _ (L : Path) (ns : List N) (t : Taken R N) (P : Path) (p : Planned) (ks : List (KeywordOver K R N)) where
     case_is_taken : (ms : Members) (k : Name) → is_case k ≡ true → is_condition ms ≡ true → p ≡ plan_of ms → is_taken p k ≡ false → {X : Type 0} → X
-    case_is_taken ms k case fits chosen untaken = absurd (true≢false (sym ((λ i. (p.restricted && tells_members k) || (ap (λ q. q.condition) chosen ∙ fits) i && case i) ∙ or_true (p.restricted && tells_members k)) ∙ untaken))
-      where
-        or_true : (b : Bool) → (b || true) ≡ true
-        or_true true = refl
-        or_true false = refl
+    case_is_taken ms k case fits chosen untaken = absurd (true≢false (sym ((λ i. (p.restricted && tells_members k) || (ap (λ q. q.condition) chosen ∙ fits) i && case i) ∙ or-true (p.restricted && tells_members k)) ∙ untaken))
 
     -- what `if` takes does not stay
     pub part_of_then : MakesPart o answers shape.Then L ns t P p ks
@@ -327,7 +323,7 @@ module _ {K R N : Type 0} (o : Kit K R) (answers : N → Answers) where
       (subst (λ rows. KeywordsMean o answers ms [] rows (m ∷ []) P) (sym (claims_itself ms distinct (head (plan_of ms)) m (heads_elsewhere (plan_of ms) m.0 (apart_from (codes "properties") refl refl refl) (apart_from (codes "required") refl refl refl) (λ e. absurd (true≢false (sym e ∙ fits)))
       (never_taken (plan_of ms) m.0 (apart_from (codes "additionalProperties") refl refl refl) (apart_from (codes "properties") refl refl refl) (apart_from (codes "patternProperties") refl refl refl) (apart_from (codes "required") refl refl refl))) there)) record {
         covers = record {
-          verdict = λ u v. sym (and_true _ ∙ nothing.verdict u v);
+          verdict = λ u v. sym (and-true _ ∙ nothing.verdict u v);
           asks_within = λ u v. omega arith;
           faults = λ u v Q. ∼_same (sym (append-nil _ ∙ nothing.report u v P Q));
         };

@@ -1,13 +1,13 @@
 -- What holds `dependentRequired`, `dependentSchemas` and `dependencies`.
 use Rattle.std.specs.Prelude.{◌≡◌, ◌≤◌, ◌+◌, Bool, true, false, not, cond, List, [], ◌∷◌, map, sum_by, get_or, drop, codes, Option, Some, None, is_some, unwrap_or, Vec, String}
-use Rattle.std.specs.List.{list_all, flat_map}
+use Rattle.std.specs.List.{list_all, flat_map, zip}
 use Rattle.std.specs.declared.alloc.Global.{Global}
 use Rattle.std.proofs.Common.{refl, sym, ◌∙◌, ap, subst, arith}
 use Rattle.std.proofs.lemmas.List.Sums.{sum_by-cons}
 use mathlib.Core.Bool.{true≢false}
 use mathlib.Core.Path.{subst₂}
 use Rattle.serde_json.specs.Data.{Data, Members}
-use Rattle.olk_spec.specs.Names.{Name, Path, ◌//◌, those, put_if, is_empty}
+use Rattle.olk_spec.specs.Names.{Name, Path, ◌//◌, filter_once, put_if, is_empty}
 use Rattle.olk_spec.specs.Vocabulary.{dependent_required, dependent_schemas, dependencies}
 use Rattle.olk_spec.specs.Faults.{◌∼◌, like_through}
 use Rattle.olk_spec.specs.Schemas.{is_array, members, has, texts}
@@ -20,11 +20,14 @@ use Rattle.olk_base.specs.Kit.{Kit}
 use Rattle.olk_members.specs.Dependencies.{due_entries, are_lists, dependency_accepts, dependency_asks, dependency_report, dependency_shown}
 use Rattle.olk_members.proofs.Dependencies as fact
 use Rattle.olk_tree.specs.Questions.{always, every}
-use Rattle.olk_tree.specs.Answers.{beside, due_nodes, validator_means, validator_report, validator_tree, body_means, body_report, body_tree}
+use Rattle.olk_tree.specs.Dependencies.{due_nodes}
+use Rattle.olk_tree.specs.Validators.{answers_of}
+use Rattle.olk_tree.specs.Bodies.{body_means, body_report, body_tree}
 use Rattle.olk_tree.specs.declared.map.SmallMap.{SmallMap}
 use Rattle.olk_tree.specs.declared.node.KeywordOver.{KeywordOver}
 use Rattle.olk_tree.specs.declared.node.KeywordOver.TheVariants as keyword
-use Rattle.olk_tree.specs.Places.{Answers, Stands}
+use Rattle.olk_tree.specs.Answers.{Answers}
+use Rattle.olk_tree.specs.Places.{Stands}
 use Rattle.olk_read.specs.Lists.{list_of, names_in, names_in_list}
 use Rattle.olk_make.specs.Forms.{IsListAt, AreListsAt, AreInOrder}
 use Rattle.olk_make.specs.Holding.{StandEach}
@@ -33,7 +36,6 @@ use Rattle.olk_make.specs.Making.{KeywordMeans, MakesMember}
 use Rattle.olk_make.proofs.Entries.{EntryAnswers, AnswersFor, AnswerEach, each_accept, each_ask, each_find, each_show, schema_answers, schema_answer, schemas_answer}
 use Rattle.olk_make.proofs.Held.{question, shown, found, one, same_within}
 use Rattle.olk_make.proofs.Formed.{has_form, is_formed, just_one_formed, each_formed}
-use Rattle.olk_tree.specs.Formed.{validator_formed}
 
 -- an entry that is a list of names wants each of them, at the keyword itself
 abbrev list_answers : EntryAnswers
@@ -56,14 +58,14 @@ module _ {K R N : Type 0} (o : Kit K R) (answers : N → Answers) where
 
   -- the nodes of the entries that are due
   module _ (w : EntryAnswers) where
-    due_answer : (v : Data) (ns : List N) (es : List (Name × Data)) (L : Path) → AnswerEach o answers w ns es L → AnswerEach o answers w (due_nodes (beside (map (λ e. e.0) es) ns) v) (those (λ e. has e.0 v) es) L
+    due_answer : (v : Data) (ns : List N) (es : List (Name × Data)) (L : Path) → AnswerEach o answers w ns es L → AnswerEach o answers w (due_nodes (zip (map (λ e. e.0) es) ns) v) (filter_once (λ e. has e.0 v) es) L
     due_answer v [] [] L h = tt
     due_answer v [] (e ∷ es) L h = absurd h
     due_answer v (n ∷ ns) [] L h = absurd h
     due_answer v (n ∷ ns) (e ∷ es) L h = by (has e.0 v) (due_answer v ns es L h.1)
       where
-        by : (b : Bool) → AnswerEach o answers w (due_nodes (beside (map (λ e. e.0) es) ns) v) (those (λ e. has e.0 v) es) L
-            → AnswerEach o answers w (map (λ e. e.1) (put_if b (e.0, n) (those (λ e. has e.0 v) (beside (map (λ e. e.0) es) ns)))) (put_if b e (those (λ e. has e.0 v) es)) L
+        by : (b : Bool) → AnswerEach o answers w (due_nodes (zip (map (λ e. e.0) es) ns) v) (filter_once (λ e. has e.0 v) es) L
+            → AnswerEach o answers w (map (λ e. e.1) (put_if b (e.0, n) (filter_once (λ e. has e.0 v) (zip (map (λ e. e.0) es) ns)))) (put_if b e (filter_once (λ e. has e.0 v) es)) L
         by true k = (h.0, k)
         by false k = k
 
@@ -73,33 +75,33 @@ module _ {K R N : Type 0} (o : Kit K R) (answers : N → Answers) where
   dependencies_of m L = keyword.Dependencies (record { dependencies = m; location = L })
 
   dependencies_formed : (m : SmallMap N) (L : Path) → list_all (has_form o answers) m.nodes.items ≡ true → is_formed o answers (dependencies_of m L) ≡ true
-  unfolding validator_formed
+  unfolding answers_of
   dependencies_formed m L h = h
 
   module _ (w : EntryAnswers) (m : SmallMap N) (L : Path) (es : List (Name × Data)) (names : m.names ≡ map (λ e. e.0) es) (each : AnswerEach o answers w m.nodes.items es L) (u : Bool) (v : Data) where
     abbrev due_of : List Name → List N
-    due_of ks = due_nodes (beside ks m.nodes.items) v
+    due_of ks = due_nodes (zip ks m.nodes.items) v
 
     abbrev due : List (Name × Data)
-    due = those (λ e. has e.0 v) es
+    due = filter_once (λ e. has e.0 v) es
 
     dues : AnswerEach o answers w (due_of (map (λ e. e.0) es)) due L
     dues = due_answer w v m.nodes.items es L each
 
     due_accept : (question o answers (dependencies_of m L) v).accepts u ≡ list_all (λ e. w.verdict u e v) due
-    unfolding validator_means
+    unfolding answers_of
     due_accept = ap (λ ks. (every (λ n. (answers n).means v) (due_of ks)).accepts u) names ∙ each_accept o answers w u v (due_of (map (λ e. e.0) es)) due L dues
 
     due_ask : (question o answers (dependencies_of m L) v).asks u ≤ sum_by (λ e. w.asked u e v) due
-    unfolding validator_means
+    unfolding answers_of
     due_ask = subst (λ ks. (every (λ n. (answers n).means v) (due_of ks)).asks u ≤ sum_by (λ e. w.asked u e v) due) (sym names) (each_ask o answers w u v (due_of (map (λ e. e.0) es)) due L dues)
 
     due_find : (Q : Path) → found o answers u (dependencies_of m L) v Q ∼ flat_map (λ e. w.faults u e v L Q) due
-    unfolding validator_report
+    unfolding answers_of
     due_find Q = subst (λ ks. flat_map (λ n. (answers n).report u v Q) (due_of ks) ∼ flat_map (λ e. w.faults u e v L Q) due) (sym names) (each_find o answers w u v Q (due_of (map (λ e. e.0) es)) due L dues)
 
     due_show : (Q : Path) → shown o answers u (dependencies_of m L) v Q ≡ plain L Q (map (λ e. w.shown u e v L Q) due)
-    unfolding validator_tree
+    unfolding answers_of
     due_show Q = ap (λ ks. plain L Q (map (λ n. (answers n).tree u v Q) (due_of ks))) names ∙ ap (plain L Q) (each_show o answers w u v Q (due_of (map (λ e. e.0) es)) due L dues)
 
   -- ---- the three keywords
@@ -181,7 +183,7 @@ module _ {K R N : Type 0} (o : Kit K R) (answers : N → Answers) where
   }
 
   abbrev schemas_among : List (Name × Data) → List (Name × Data)
-  schemas_among es = those (λ e. not (is_array e.1)) es
+  schemas_among es = filter_once (λ e. not (is_array e.1)) es
 
   dependencies_answer : (vs : List (Option (Vec (String Global) Global))) (schemas ns : List N) (es : List (Name × Data)) (L : Path) → AreInOrder o answers L vs schemas ns → map names_in_list vs ≡ map (λ e. list_of e.1) es → StandEach o answers schemas (schemas_among es) L → AnswerEach o answers dependency_answers ns es L
   dependencies_answer [] schemas ns [] L h q stand = subst (λ l. AnswerEach o answers dependency_answers l [] L) (sym h) tt

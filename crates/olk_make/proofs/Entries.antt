@@ -1,8 +1,9 @@
 -- Nodes that answer as entries of a keyword's value are to be answered.
-use Rattle.std.specs.Prelude.{◌≡◌, ◌≤◌, ⊤, ℕ, ◌+◌, Bool, ◌&&◌, List, [], ◌∷◌, map, sum_by, true}
+use Rattle.std.specs.Prelude.{◌≡◌, ◌≤◌, ⊤, ℕ, Bool, ◌&&◌, List, [], ◌∷◌, map, sum_by, true}
 use Rattle.std.specs.List.{list_all, flat_map}
 use Rattle.std.proofs.Common.{refl, arith}
 use Rattle.std.proofs.lemmas.List.Sums.{sum_by-cons}
+use Rattle.olk_tree.proofs.Answering.{more_within}
 use Rattle.serde_json.specs.Data.{Data}
 use Rattle.olk_spec.specs.Names.{Name, Path, ◌//◌}
 use Rattle.olk_spec.specs.Faults.{Fault, ◌∼◌, like_empty}
@@ -11,11 +12,9 @@ use Rattle.olk_spec.specs.Tree.{Tree}
 use Rattle.olk_spec.proofs.Order.{∼_append}
 use Rattle.olk_base.specs.Kit.{Kit}
 use Rattle.olk_tree.specs.Questions.{every}
-use Rattle.olk_tree.specs.Places.{Answers, Stands}
+use Rattle.olk_tree.specs.Answers.{Answers}
+use Rattle.olk_tree.specs.Places.{Stands}
 use Rattle.olk_make.specs.Holding.{StandEach}
-
-pub sum_within : (a b c d e : ℕ) → a ≤ b → c ≤ d → e ≡ b + d → a + c ≤ e
-sum_within a b c d e h k s = omega (arith, h, k, s)
 
 -- what the nodes of entries are to answer: whether they accept a value, how many matchers they may ask, and of a keyword at L what they report and show
 pub record EntryAnswers : Type 0 where
@@ -50,7 +49,7 @@ module _ {K R N : Type 0} (o : Kit K R) (answers : N → Answers) where
       each_ask [] [] L h = omega arith
       each_ask [] (e ∷ es) L h = absurd h
       each_ask (n ∷ ns) [] L h = absurd h
-      each_ask (n ∷ ns) (e ∷ es) L h = sum_within _ _ _ _ _ (h.0.asks_within u v) (each_ask ns es L h.1) (sum_by-cons (λ e. w.asked u e v) e es)
+      each_ask (n ∷ ns) (e ∷ es) L h = more_within _ _ _ _ _ (h.0.asks_within u v) (each_ask ns es L h.1) (sum_by-cons (λ e. w.asked u e v) e es)
 
       pub each_find : (Q : Path) (ns : List N) (es : List (Name × Data)) (L : Path) → AnswerEach ns es L → flat_map (λ n. (answers n).report u v Q) ns ∼ flat_map (λ e. w.faults u e v L Q) es
       each_find Q [] [] L h = like_empty

@@ -4,15 +4,17 @@ use Rattle.std.specs.List.{list_all}
 use Rattle.std.specs.Option.{option_map_or}
 use Rattle.std.proofs.Common.{refl, sym, ◌∙◌, ap, arith}
 use Rattle.std.proofs.lemmas.Bool.{lt-ltb, le-ltb, ne_eqb}
+use Rattle.std.proofs.Math.Bool.{and-true}
 use Rattle.serde_json.specs.Data.{Data}
 use Rattle.olk_spec.specs.Names.{Name, Path}
 use Rattle.olk_spec.specs.declared.TheConstants.{HASHMAP_THRESHOLD}
-use Rattle.olk_spec.proofs.Truth.{and_true, and_from}
+use Rattle.olk_spec.proofs.Truth.{and_from}
 use Rattle.olk_base.specs.Kit.{Kit}
 use Rattle.olk_base.specs.declared.pattern.CompiledPattern.{CompiledPattern}
-use Rattle.olk_tree.specs.Answers.{names_in, nodes_in}
-use Rattle.olk_tree.specs.Formed.{is_one, is_map_formed, validator_formed}
-use Rattle.olk_tree.specs.Places.{Answers}
+use Rattle.olk_tree.specs.Maps.{names_in, nodes_in}
+use Rattle.olk_tree.specs.Formed.{is_one, is_map_formed}
+use Rattle.olk_tree.specs.Validators.{answers_of, validator_formed}
+use Rattle.olk_tree.specs.Answers.{Answers}
 use Rattle.olk_tree.specs.declared.properties.SmallPropertiesWithRequired2.{SmallPropertiesWithRequired2}
 use Rattle.olk_tree.specs.declared.properties_map.PropertiesMap.{PropertiesMap}
 use Rattle.olk_tree.specs.declared.properties_map.PropertiesMap.TheVariants.{Small, Big}
@@ -29,7 +31,7 @@ module _ {X : Type 0} (f : X → Bool) where
   several_formed xs ys e many h = and_from (not (is_one xs)) (list_all f xs) (ap not (ne_eqb (length xs) 1 (λ q. many (sym (ap length e) ∙ q)))) (ap (list_all f) e ∙ h)
 
   pub single_formed : (x : X) (ys : List X) → ys ≡ x ∷ [] → list_all f ys ≡ true → f x ≡ true
-  single_formed x ys e h = sym (and_true (f x)) ∙ ap (list_all f) (sym e) ∙ h
+  single_formed x ys e h = sym (and-true (f x)) ∙ ap (list_all f) (sym e) ∙ h
 
 pub map_formed : {N : Type 0} (m : PropertiesMap N) (n : ℕ) → length (names_in m) ≡ n → IsMapFor n m → is_map_formed m ≡ true
 map_formed (Small m) n e h = lt-ltb (length m.names) HASHMAP_THRESHOLD (omega (arith, e, h))
@@ -43,7 +45,7 @@ module _ {K R N : Type 0} (o : Kit K R) (answers : N → Answers) where
   is_formed k = validator_formed o has_form k
 
   pub just_one_formed : (k : KeywordOver K R N) → is_formed k ≡ true → list_all is_formed (k ∷ []) ≡ true
-  just_one_formed k h = and_true (is_formed k) ∙ h
+  just_one_formed k h = and-true (is_formed k) ∙ h
 
   -- ---- nodes
 
@@ -60,28 +62,28 @@ module _ {K R N : Type 0} (o : Kit K R) (answers : N → Answers) where
 
   pub properties_formed : (m : PropertiesMap N) (L : Path) → is_map_formed m ≡ true → list_all has_form (nodes_in m) ≡ true
       → is_formed (keyword.Properties (record { properties = m; location = L })) ≡ true
-  unfolding validator_formed
+  unfolding answers_of
   properties_formed m L sized nodes = and_from (is_map_formed m) (list_all has_form (nodes_in m)) sized nodes
 
   pub required2_formed : (k : SmallPropertiesWithRequired2 N) → is_map_formed (Small k.properties) ≡ true → bytes_eq (string_bytes k.first) (string_bytes k.second) ≡ false
       → list_all has_form k.properties.nodes.items ≡ true → is_formed (keyword.PropertiesWithRequired2 k) ≡ true
-  unfolding validator_formed
+  unfolding answers_of
   required2_formed k sized differ nodes = and_from _ _ (and_from _ _ sized (ap not differ)) nodes
 
   pub all_of_formed : (k : KeywordOver K R N) (L : Path) (ns : List N) → IsFormOfAllOf L ns k → list_all has_form ns ≡ true → is_formed k ≡ true
-  unfolding validator_formed
+  unfolding answers_of
   all_of_formed (keyword.AllOf k) L ns f h = several_formed has_form k.schemas.items ns f.0 f.1 h
   all_of_formed (keyword.SingleValueAllOf k) L ns f h = single_formed has_form k.node ns f.0 h
   all_of_formed k L ns f h = absurd f
 
   pub any_of_formed : (k : KeywordOver K R N) (L : Path) (ns : List N) → IsFormOfAnyOf L ns k → list_all has_form ns ≡ true → is_formed k ≡ true
-  unfolding validator_formed
+  unfolding answers_of
   any_of_formed (keyword.AnyOf k) L ns f h = several_formed has_form k.schemas.items ns f.0 f.1 h
   any_of_formed (keyword.SingleAnyOf k) L ns f h = single_formed has_form k.node ns f.0 h
   any_of_formed k L ns f h = absurd f
 
   pub one_of_formed : (k : KeywordOver K R N) (L : Path) (ns : List N) → IsFormOfOneOf L ns k → list_all has_form ns ≡ true → is_formed k ≡ true
-  unfolding validator_formed
+  unfolding answers_of
   one_of_formed (keyword.OneOf k) L ns f h = several_formed has_form k.schemas.items ns f.0 f.1 h
   one_of_formed (keyword.SingleOneOf k) L ns f h = single_formed has_form k.node ns f.0 h
   one_of_formed k L ns f h = absurd f
@@ -90,7 +92,7 @@ module _ {K R N : Type 0} (o : Kit K R) (answers : N → Answers) where
   entry_formed e = has_form e.1
 
   pub patterns_formed : (k : KeywordOver K R N) (L : Path) (es : List (CompiledPattern R × N)) → IsFormOfPatternProperties L es k → list_all entry_formed es ≡ true → is_formed k ≡ true
-  unfolding validator_formed
+  unfolding answers_of
   patterns_formed (keyword.PatternProperties k) L es f h = several_formed entry_formed k.patterns.items es f.0 f.1 h
   patterns_formed (keyword.SingleValuePatternProperties k) L es f h = single_formed entry_formed (k.regex, k.node) es f.0 h
   patterns_formed k L es f h = absurd f
@@ -100,7 +102,7 @@ module _ {K R N : Type 0} (o : Kit K R) (answers : N → Answers) where
 
   pub if_formed : (L : Path) (n : N) (t e : Option N) (k : KeywordOver K R N) → IsFormOfIf L n t e k
       → has_form n ≡ true → case_formed t ≡ true → case_formed e ≡ true → is_formed k ≡ true
-  unfolding validator_formed
+  unfolding answers_of
   if_formed L n (Some t) None (keyword.IfThen k) f h p q = and_from _ _ (ap has_form f.0 ∙ h) (ap has_form f.1 ∙ p)
   if_formed L n None (Some e) (keyword.IfElse k) f h p q = and_from _ _ (ap has_form f.0 ∙ h) (ap has_form f.1 ∙ q)
   if_formed L n (Some t) (Some e) (keyword.IfThenElse k) f h p q = and_from _ _ (and_from _ _ (ap has_form f.0 ∙ h) (ap has_form f.1 ∙ p)) (ap has_form f.2 ∙ q)

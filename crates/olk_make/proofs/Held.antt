@@ -1,6 +1,6 @@
 -- What holds a keyword.
 use Rattle.std.specs.Prelude.{◌≡◌, cond, Option, Some, None, is_some, option_to_list, ◌≤◌, ℕ, ◌+◌, Bool, true, false, not, ◌&&◌, ◌||◌, List, [], ◌∷◌, ◌++◌, map, sum_by, codes, Vec, String, string_bytes, bytes_eq, IsPermutation, length, nat_lt}
-use Rattle.std.specs.List.{list_all, list_any, flat_map}
+use Rattle.std.specs.List.{list_all, list_any, flat_map, zip}
 use Rattle.std.specs.Ordering.{nat_cmp, is_eq}
 use Rattle.std.specs.Cmp.Lexicographic.{slice_cmp}
 use Rattle.std.specs.declared.cmp.Ordering.{Ordering}
@@ -10,12 +10,14 @@ use Rattle.std.specs.declared.alloc.Global.{Global}
 use Rattle.std.proofs.Common.{refl, sym, ◌∙◌, ap, subst, arith}
 use Rattle.std.proofs.lemmas.List.{append-nil, length-map}
 use Rattle.std.proofs.lemmas.List.Sums.{sum_by-cons}
+use Rattle.std.proofs.Math.Bool.{and-false, and-true, or-false}
+use Rattle.olk_tree.proofs.Answering.{more_within}
 use mathlib.Core.Bool.{true≢false}
 use mathlib.Core.Path.{subst₂}
 use Rattle.serde_json.specs.Data.{Data, object, array, Members, Items}
 use Rattle.serde_json.specs.View.{view}
 use Rattle.serde_json.specs.declared.value.Value.{Value}
-use Rattle.olk_spec.specs.Names.{Name, Path, ◌//◌, lookup, first_if_equal, those, put_if, is_empty, is_among}
+use Rattle.olk_spec.specs.Names.{Name, Path, ◌//◌, lookup_name, first_if_equal, filter_once, put_if, is_empty, is_among}
 use Rattle.olk_spec.specs.Vocabulary.{Keyword, properties, pattern_properties, required, all_of, any_of, not_keyword, leaf, unread, keyword_named}
 use Rattle.olk_spec.specs.Faults.{Fault, AnyOf, Not, Leaf, fault, Context, context, IsLikeContext, like_none, like_branch, like, like_any_of, ◌∼◌, like_empty, like_next, like_through}
 use Rattle.olk_spec.specs.Schemas.{read_members, listed, numbered, at, members, texts, is_object}
@@ -27,12 +29,12 @@ use Rattle.olk_spec.specs.Tree.{Tree, leaf_node, result, plain, erring, describe
 use Rattle.olk_spec.specs.Trees.{missing_child}
 use Rattle.olk_spec.proofs.Named.{Named, named as is_named}
 use Rattle.olk_spec.proofs.Order.{∼_same, ∼_append, ∼_behind, ∼_swap, ∼_flat_map_any, faults_in-from}
-use Rattle.olk_spec.proofs.Truth.{and_true, or_false}
 use Rattle.olk_spec.proofs.Walks.{same_name}
 use Rattle.olk_base.specs.Kit.{Kit}
 use Rattle.olk_tree.specs.Questions.{Question, every, some}
-use Rattle.olk_tree.specs.Answers.{beside, named, names_in, nodes_in, mapped, validator_means, validator_report, validator_tree}
-use Rattle.olk_tree.specs.Places.{Answers}
+use Rattle.olk_tree.specs.Maps.{named, names_in, nodes_in, mapped}
+use Rattle.olk_tree.specs.Validators.{answers_of, validator_means, validator_report, validator_tree}
+use Rattle.olk_tree.specs.Answers.{Answers}
 use Rattle.olk_tree.specs.Shown.{missing_trees, properties_tree, branch_trees, any_of_tree}
 use Rattle.olk_tree.specs.Places.{Stands}
 use Rattle.olk_members.specs.Conditions.{is_condition, is_restricted}
@@ -49,7 +51,7 @@ use Rattle.olk_tree.specs.declared.properties.SmallPropertiesWithRequired2.{Smal
 use Rattle.olk_tree.specs.declared.node.KeywordOver.{KeywordOver}
 use Rattle.olk_tree.specs.declared.node.KeywordOver.TheVariants as keyword
 use Rattle.olk_members.proofs.Facts as fact
-use Rattle.olk_make.proofs.Entries.{sum_within, AnswerEach, each_accept, each_ask, each_find, each_show, schema_answers, schemas_answer}
+use Rattle.olk_make.proofs.Entries.{AnswerEach, each_accept, each_ask, each_find, each_show, schema_answers, schemas_answer}
 use Rattle.olk_make.proofs.Together.{means_alone, means_permuted}
 use Rattle.olk_members.proofs.Claims.{listing, fuses, claims_itself, claims_both, claims_nothing, head_itself, head_of_required, heads_elsewhere, plan_fusing, IsNoCase}
 use Rattle.olk_members.proofs.TakenOver.{IsNotTaken, free_takes_nothing, free_fuses_none, fusing_is_free, fused_is_restricted}
@@ -62,7 +64,7 @@ use Rattle.olk_members.proofs.Clean.{fused, names_fused}
 use Rattle.olk_members.proofs.Children.{shown_at, shown_declared, branches_shown, accepting_branches, any_shown, properties_child, required_child, no_required_child, all_of_child, any_of_child, not_child, leaf_child}
 use Rattle.olk_spec.proofs.Maps.{is_empty-map}
 use Rattle.olk_make.proofs.Formed.{has_form, is_formed, just_one_formed, stand_formed, map_formed, properties_formed, required2_formed, all_of_formed, any_of_formed}
-use Rattle.olk_tree.specs.Formed.{is_map_formed, validator_formed}
+use Rattle.olk_tree.specs.Formed.{is_map_formed}
 use Rattle.olk_spec.specs.declared.TheConstants.{HASHMAP_THRESHOLD}
 
 -- ---- numbers and counts
@@ -92,7 +94,7 @@ module _ {K R N : Type 0} (o : Kit K R) (answers : N → Answers) where
 
     node_asks : (xs : List Data) → (every (answers n).means xs).asks u ≤ sum_by (asks o.world u S) xs
     node_asks [] = omega arith
-    node_asks (x ∷ xs) = sum_within _ _ _ _ _ (h.asks_within u x) (node_asks xs) (sum_by-cons (asks o.world u S) x xs)
+    node_asks (x ∷ xs) = more_within _ _ _ _ _ (h.asks_within u x) (node_asks xs) (sum_by-cons (asks o.world u S) x xs)
 
     node_finds : (Q : Path) (xs : List Data) → flat_map (λ x. (answers n).report u x Q) xs ∼ flat_map (λ x. report o.world u S x L Q) xs
     node_finds Q xs = ∼_flat_map_any (λ x. (answers n).report u x Q) (λ x. report o.world u S x L Q) (λ x. h.faults u x Q) xs
@@ -101,19 +103,19 @@ module _ {K R N : Type 0} (o : Kit K R) (answers : N → Answers) where
     abbrev each_at : Name × N → Question
     each_at e = every (answers e.1).means (at e.0 v)
 
-    members_accept : (ns : List N) (es : List (Name × Data)) (L : Path) → StandEach o answers ns es L → (every each_at (beside (map (λ e. e.0) es) ns)).accepts u ≡ list_all (λ e. list_all (accepts o.world u e.1) (at e.0 v)) es
+    members_accept : (ns : List N) (es : List (Name × Data)) (L : Path) → StandEach o answers ns es L → (every each_at (zip (map (λ e. e.0) es) ns)).accepts u ≡ list_all (λ e. list_all (accepts o.world u e.1) (at e.0 v)) es
     members_accept [] [] L h = refl
     members_accept [] (e ∷ es) L h = absurd h
     members_accept (n ∷ ns) [] L h = absurd h
     members_accept (n ∷ ns) (e ∷ es) L h = λ i. node_accepts n e.1 (L // e.0) h.0 u (at e.0 v) i && members_accept ns es L h.1 i
 
-    members_ask : (ns : List N) (es : List (Name × Data)) (L : Path) → StandEach o answers ns es L → (every each_at (beside (map (λ e. e.0) es) ns)).asks u ≤ sum_by (λ e. sum_by (asks o.world u e.1) (at e.0 v)) es
+    members_ask : (ns : List N) (es : List (Name × Data)) (L : Path) → StandEach o answers ns es L → (every each_at (zip (map (λ e. e.0) es) ns)).asks u ≤ sum_by (λ e. sum_by (asks o.world u e.1) (at e.0 v)) es
     members_ask [] [] L h = omega arith
     members_ask [] (e ∷ es) L h = absurd h
     members_ask (n ∷ ns) [] L h = absurd h
-    members_ask (n ∷ ns) (e ∷ es) L h = sum_within _ _ _ _ _ (node_asks n e.1 (L // e.0) h.0 u (at e.0 v)) (members_ask ns es L h.1) (sum_by-cons (λ e. sum_by (asks o.world u e.1) (at e.0 v)) e es)
+    members_ask (n ∷ ns) (e ∷ es) L h = more_within _ _ _ _ _ (node_asks n e.1 (L // e.0) h.0 u (at e.0 v)) (members_ask ns es L h.1) (sum_by-cons (λ e. sum_by (asks o.world u e.1) (at e.0 v)) e es)
 
-    members_find : (Q : Path) (ns : List N) (es : List (Name × Data)) (L : Path) → StandEach o answers ns es L → flat_map (λ e. flat_map (λ x. (answers e.1).report u x (Q // e.0)) (at e.0 v)) (beside (map (λ e. e.0) es) ns) ∼ flat_map (λ e. flat_map (λ x. report o.world u e.1 x (L // e.0) (Q // e.0)) (at e.0 v)) es
+    members_find : (Q : Path) (ns : List N) (es : List (Name × Data)) (L : Path) → StandEach o answers ns es L → flat_map (λ e. flat_map (λ x. (answers e.1).report u x (Q // e.0)) (at e.0 v)) (zip (map (λ e. e.0) es) ns) ∼ flat_map (λ e. flat_map (λ x. report o.world u e.1 x (L // e.0) (Q // e.0)) (at e.0 v)) es
     members_find Q [] [] L h = like_empty
     members_find Q [] (e ∷ es) L h = absurd h
     members_find Q (n ∷ ns) [] L h = absurd h
@@ -132,7 +134,7 @@ module _ {K R N : Type 0} (o : Kit K R) (answers : N → Answers) where
     any_ask [] [] L h = omega arith
     any_ask [] (e ∷ es) L h = absurd h
     any_ask (n ∷ ns) [] L h = absurd h
-    any_ask (n ∷ ns) (e ∷ es) L h = sum_within _ _ _ _ _ (h.0.asks_within u v) (any_ask ns es L h.1) (sum_by-cons (λ e. asks o.world u e.1 v) e es)
+    any_ask (n ∷ ns) (e ∷ es) L h = more_within _ _ _ _ _ (h.0.asks_within u v) (any_ask ns es L h.1) (sum_by-cons (λ e. asks o.world u e.1 v) e es)
 
     pub any_context : (Q : Path) (ns : List N) (es : List (Name × Data)) (L : Path) → StandEach o answers ns es L → IsLikeContext (context (map (λ n. (answers n).report u v Q) ns)) (context (map (λ e. report o.world u e.1 v (L // e.0) Q) es))
     any_context Q [] [] L h = like_none
@@ -146,47 +148,47 @@ module _ {K R N : Type 0} (o : Kit K R) (answers : N → Answers) where
     abbrev pub accepts_value : N → Bool
     accepts_value n = ((answers n).means v).accepts u
 
-    pub accepting_show : (Q : Path) (ns : List N) (es : List (Name × Data)) (L : Path) → StandEach o answers ns es L → map (λ n. (answers n).tree u v Q) (those accepts_value ns) ≡ branches_shown o.world u v L Q (accepting_branches o.world u v es)
+    pub accepting_show : (Q : Path) (ns : List N) (es : List (Name × Data)) (L : Path) → StandEach o answers ns es L → map (λ n. (answers n).tree u v Q) (filter_once accepts_value ns) ≡ branches_shown o.world u v L Q (accepting_branches o.world u v es)
     accepting_show Q [] [] L h = refl
     accepting_show Q [] (e ∷ es) L h = absurd h
     accepting_show Q (n ∷ ns) [] L h = absurd h
-    accepting_show Q (n ∷ ns) (e ∷ es) L h = ap (λ b. map (λ n. (answers n).tree u v Q) (put_if b n (those accepts_value ns))) (h.0.verdict u v) ∙ by (accepts o.world u e.1 v) (accepting_show Q ns es L h.1)
+    accepting_show Q (n ∷ ns) (e ∷ es) L h = ap (λ b. map (λ n. (answers n).tree u v Q) (put_if b n (filter_once accepts_value ns))) (h.0.verdict u v) ∙ by (accepts o.world u e.1 v) (accepting_show Q ns es L h.1)
       where
-        by : (b : Bool) → map (λ n. (answers n).tree u v Q) (those accepts_value ns) ≡ branches_shown o.world u v L Q (accepting_branches o.world u v es)
-            → map (λ n. (answers n).tree u v Q) (put_if b n (those accepts_value ns)) ≡ branches_shown o.world u v L Q (put_if b e (accepting_branches o.world u v es))
+        by : (b : Bool) → map (λ n. (answers n).tree u v Q) (filter_once accepts_value ns) ≡ branches_shown o.world u v L Q (accepting_branches o.world u v es)
+            → map (λ n. (answers n).tree u v Q) (put_if b n (filter_once accepts_value ns)) ≡ branches_shown o.world u v L Q (put_if b e (accepting_branches o.world u v es))
         by true g = λ i. h.0.evaluation u v Q i ∷ g i
         by false g = g
 
     any_show : (Q : Path) (ns : List N) (es : List (Name × Data)) (L : Path) → StandEach o answers ns es L → any_of_tree (λ n. (answers n).tree u) v Q accepts_value L ns ≡ any_shown o.world u v L Q es
     any_show Q ns es L h = λ i. cond (none i) (result L Q None true [] (branches_show Q ns es L h i)) (plain L Q (accepting_show Q ns es L h i))
       where
-        none : is_empty (those accepts_value ns) ≡ is_empty (accepting_branches o.world u v es)
-        none = sym (is_empty-map (λ n. (answers n).tree u v Q) (those accepts_value ns)) ∙ ap is_empty (accepting_show Q ns es L h) ∙ is_empty-map (λ e. tree o.world u e.1 v (L // e.0) Q) (accepting_branches o.world u v es)
+        none : is_empty (filter_once accepts_value ns) ≡ is_empty (accepting_branches o.world u v es)
+        none = sym (is_empty-map (λ n. (answers n).tree u v Q) (filter_once accepts_value ns)) ∙ ap is_empty (accepting_show Q ns es L h) ∙ is_empty-map (λ e. tree o.world u e.1 v (L // e.0) Q) (accepting_branches o.world u v es)
 
-    beside_names : (ns : List N) (es : List (Name × Data)) (L : Path) → StandEach o answers ns es L → map {A = Name × N} (λ e. e.0) (beside (map (λ e. e.0) es) ns) ≡ map {A = Name × Data} (λ e. e.0) es
-    beside_names [] [] L h = refl
-    beside_names [] (e ∷ es) L h = absurd h
-    beside_names (n ∷ ns) [] L h = absurd h
-    beside_names (n ∷ ns) (e ∷ es) L h = ap (λ ks. e.0 ∷ ks) (beside_names ns es L h.1)
+    zip_names : (ns : List N) (es : List (Name × Data)) (L : Path) → StandEach o answers ns es L → map {A = Name × N} (λ e. e.0) (zip (map (λ e. e.0) es) ns) ≡ map {A = Name × Data} (λ e. e.0) es
+    zip_names [] [] L h = refl
+    zip_names [] (e ∷ es) L h = absurd h
+    zip_names (n ∷ ns) [] L h = absurd h
+    zip_names (n ∷ ns) (e ∷ es) L h = ap (λ ks. e.0 ∷ ks) (zip_names ns es L h.1)
 
-    member_shows : (Q : Path) (m : Name × Data) (ns : List N) (es : List (Name × Data)) (L : Path) → StandEach o answers ns es L → map (λ n. (answers n).tree u m.1 (Q // m.0)) (option_to_list (lookup m.0 (beside (map (λ e. e.0) es) ns))) ≡ shown_at o.world u v L Q es m
+    member_shows : (Q : Path) (m : Name × Data) (ns : List N) (es : List (Name × Data)) (L : Path) → StandEach o answers ns es L → map (λ n. (answers n).tree u m.1 (Q // m.0)) (option_to_list (lookup_name m.0 (zip (map (λ e. e.0) es) ns))) ≡ shown_at o.world u v L Q es m
     member_shows Q m [] [] L h = refl
     member_shows Q m [] (e ∷ es) L h = absurd h
     member_shows Q m (n ∷ ns) [] L h = absurd h
     member_shows Q m (n ∷ ns) (e ∷ es) L h = by (slice_cmp nat_cmp m.0 e.0) (is_eq-slice_cmp m.0 e.0) (member_shows Q m ns es L h.1)
       where
-        by : (c : Ordering) → is_eq c ≡ bytes_eq m.0 e.0 → map (λ n. (answers n).tree u m.1 (Q // m.0)) (option_to_list (lookup m.0 (beside (map (λ e. e.0) es) ns))) ≡ shown_at o.world u v L Q es m
-            → map (λ n. (answers n).tree u m.1 (Q // m.0)) (option_to_list (first_if_equal c n (lookup m.0 (beside (map (λ e. e.0) es) ns)))) ≡ map (λ d. tree o.world u d m.1 (L // m.0) (Q // m.0)) (option_to_list (first_if_equal c e.1 (lookup m.0 es)))
+        by : (c : Ordering) → is_eq c ≡ bytes_eq m.0 e.0 → map (λ n. (answers n).tree u m.1 (Q // m.0)) (option_to_list (lookup_name m.0 (zip (map (λ e. e.0) es) ns))) ≡ shown_at o.world u v L Q es m
+            → map (λ n. (answers n).tree u m.1 (Q // m.0)) (option_to_list (first_if_equal c n (lookup_name m.0 (zip (map (λ e. e.0) es) ns)))) ≡ map (λ d. tree o.world u d m.1 (L // m.0) (Q // m.0)) (option_to_list (first_if_equal c e.1 (lookup_name m.0 es)))
         by Less q g = g
         by Equal q g = (λ i. h.0.evaluation u m.1 (Q // m.0) i ∷ []) ∙ ap (λ k. tree o.world u e.1 m.1 (L // k) (Q // m.0) ∷ []) (sym (same_name m.0 e.0 (sym q)))
         by Greater q g = g
 
-    members_show : (Q : Path) (ms : List (Name × Data)) (ns : List N) (es : List (Name × Data)) (L : Path) → StandEach o answers ns es L → flat_map (λ m. map (λ n. (answers n).tree u m.1 (Q // m.0)) (option_to_list (lookup m.0 (beside (map (λ e. e.0) es) ns)))) ms ≡ flat_map (shown_at o.world u v L Q es) ms
+    members_show : (Q : Path) (ms : List (Name × Data)) (ns : List N) (es : List (Name × Data)) (L : Path) → StandEach o answers ns es L → flat_map (λ m. map (λ n. (answers n).tree u m.1 (Q // m.0)) (option_to_list (lookup_name m.0 (zip (map (λ e. e.0) es) ns)))) ms ≡ flat_map (shown_at o.world u v L Q es) ms
     members_show Q [] ns es L h = refl
     members_show Q (m ∷ ms) ns es L h = λ i. member_shows Q m ns es L h i ++ members_show Q ms ns es L h i
 
-    declared_show : (Q : Path) (more : List Tree) (ns : List N) (es : List (Name × Data)) (L : Path) → StandEach o answers ns es L → properties_tree (λ n. (answers n).tree u) v Q L (beside (map (λ e. e.0) es) ns) more ≡ shown_declared o.world u v L Q es more
-    declared_show Q more ns es L h = λ i. result L Q (cond (is_object v) (Some (map (λ m. m.0) (those (λ m. is_among m.0 (beside_names ns es L h i)) (members v)))) None) false [] (members_show Q (members v) ns es L h i ++ more)
+    declared_show : (Q : Path) (more : List Tree) (ns : List N) (es : List (Name × Data)) (L : Path) → StandEach o answers ns es L → properties_tree (λ n. (answers n).tree u) v Q L (zip (map (λ e. e.0) es) ns) more ≡ shown_declared o.world u v L Q es more
+    declared_show Q more ns es L h = λ i. result L Q (cond (is_object v) (Some (map (λ m. m.0) (filter_once (λ m. is_among m.0 (zip_names ns es L h i)) (members v)))) None) false [] (members_show Q (members v) ns es L h i ++ more)
 
   any_fault : (b : Bool) (c d : Context) (v : Data) (P Q : Path) → IsLikeContext c d → fault_if b (AnyOf c) v P Q ∼ fault_if b (AnyOf d) v P Q
   any_fault true c d v P Q h = like_next (like (like_any_of h)) like_empty
@@ -200,7 +202,7 @@ module _ {K R N : Type 0} (o : Kit K R) (answers : N → Answers) where
         → ((u : Bool) (v : Data) (Q : Path) → found u k v Q ∼ member_report o.world ms m w u v P Q)
         → Holds o answers ms (k ∷ []) m w P
     one_if_free a q f = record {
-      verdict = λ u v. and_true ((question k v).accepts u) ∙ a u v;
+      verdict = λ u v. and-true ((question k v).accepts u) ∙ a u v;
       asks_within = λ free u v. with_nothing ((question k v).asks u) (member_asks o.world ms m w u v) (q free u v);
       faults = λ u v Q. subst (λ fs. fs ∼ member_report o.world ms m w u v P Q) (sym (append-nil (found u k v Q))) (f u v Q);
     }
@@ -219,22 +221,22 @@ module _ {K R N : Type 0} (o : Kit K R) (answers : N → Answers) where
 
     module _ (u : Bool) (v : Data) where
       properties_accept : (question properties_keyword v).accepts u ≡ list_all (λ e. list_all (accepts o.world u e.1) (at e.0 v)) es
-      unfolding validator_means
-      properties_accept = ap (λ ks. (every (each_at u v) (beside ks (nodes_in m))).accepts u) names ∙ members_accept u v (nodes_in m) es L stand
+      unfolding answers_of
+      properties_accept = ap (λ ks. (every (each_at u v) (zip ks (nodes_in m))).accepts u) names ∙ members_accept u v (nodes_in m) es L stand
 
       properties_ask : (question properties_keyword v).asks u ≤ sum_by (λ e. sum_by (asks o.world u e.1) (at e.0 v)) es
-      unfolding validator_means
-      properties_ask = subst (λ ks. (every (each_at u v) (beside ks (nodes_in m))).asks u ≤ sum_by (λ e. sum_by (asks o.world u e.1) (at e.0 v)) es) (sym names) (members_ask u v (nodes_in m) es L stand)
+      unfolding answers_of
+      properties_ask = subst (λ ks. (every (each_at u v) (zip ks (nodes_in m))).asks u ≤ sum_by (λ e. sum_by (asks o.world u e.1) (at e.0 v)) es) (sym names) (members_ask u v (nodes_in m) es L stand)
 
       properties_find : (Q : Path) → found u properties_keyword v Q ∼ flat_map (λ e. flat_map (λ x. report o.world u e.1 x (L // e.0) (Q // e.0)) (at e.0 v)) es
-      unfolding validator_report
-      properties_find Q = subst (λ ks. flat_map (λ e. flat_map (λ x. (answers e.1).report u x (Q // e.0)) (at e.0 v)) (beside ks (nodes_in m)) ∼ flat_map (λ e. flat_map (λ x. report o.world u e.1 x (L // e.0) (Q // e.0)) (at e.0 v)) es) (sym names) (members_find u v Q (nodes_in m) es L stand)
+      unfolding answers_of
+      properties_find Q = subst (λ ks. flat_map (λ e. flat_map (λ x. (answers e.1).report u x (Q // e.0)) (at e.0 v)) (zip ks (nodes_in m)) ∼ flat_map (λ e. flat_map (λ x. report o.world u e.1 x (L // e.0) (Q // e.0)) (at e.0 v)) es) (sym names) (members_find u v Q (nodes_in m) es L stand)
 
       properties_show : (Q : Path) (more : List Tree) → properties_tree (λ n. (answers n).tree u) v Q L (mapped m) more ≡ shown_declared o.world u v L Q es more
-      properties_show Q more = ap (λ ks. properties_tree (λ n. (answers n).tree u) v Q L (beside ks (nodes_in m)) more) names ∙ declared_show u v Q more (nodes_in m) es L stand
+      properties_show Q more = ap (λ ks. properties_tree (λ n. (answers n).tree u) v Q L (zip ks (nodes_in m)) more) names ∙ declared_show u v Q more (nodes_in m) es L stand
 
       alone_show : (Q : Path) → shown u properties_keyword v Q ≡ properties_tree (λ n. (answers n).tree u) v Q L (mapped m) []
-      unfolding validator_tree
+      unfolding answers_of
       alone_show Q = refl
 
   pub means_properties : (m : PropertiesMap N) (L : Path) (fs : Members) (d : Data) → d ≡ object fs → is_map_formed m ≡ true → names_in m ≡ map (λ e. e.0) (listed fs) → StandEach o answers (nodes_in m) (listed fs) L → (ms : Members) (P : Path) → L ≡ P // codes "properties" → KeywordMeans o answers ms (keyword.Properties (record { properties = m; location = L }) ∷ []) (codes "properties", d) P
@@ -263,19 +265,19 @@ module _ {K R N : Type 0} (o : Kit K R) (answers : N → Answers) where
 
     module _ (u : Bool) (v : Data) where
       both_accept : (question (keyword.PropertiesWithRequired2 k) v).accepts u ≡ (is_empty (lacking v) && (question alone v).accepts u)
-      unfolding validator_means
+      unfolding answers_of
       both_accept = λ i. is_empty (missing (form.3 i ∷ form.4 i ∷ []) v) && (question alone v).accepts u
 
       both_ask : (question (keyword.PropertiesWithRequired2 k) v).asks u ≡ 0 + (question alone v).asks u
-      unfolding validator_means
+      unfolding answers_of
       both_ask = refl
 
       both_find : (Q : Path) → found u (keyword.PropertiesWithRequired2 k) v Q ≡ required_faults (t.0 ∷ t.1 ∷ []) v (P // codes "required") Q ++ found u alone v Q
-      unfolding validator_report
+      unfolding answers_of
       both_find Q = λ i. required_faults (form.3 i ∷ form.4 i ∷ []) v (form.5 i) Q ++ found u alone v Q
 
       both_show : (Q : Path) → shown u (keyword.PropertiesWithRequired2 k) v Q ≡ properties_tree (λ n. (answers n).tree u) v Q L (named k.properties) (missing_trees (t.0 ∷ t.1 ∷ []) v (P // codes "required") Q)
-      unfolding validator_tree
+      unfolding answers_of
       both_show Q = λ i. properties_tree (λ n. (answers n).tree u) v Q (form.2 i) (named k.properties) (missing_trees (form.3 i ∷ form.4 i ∷ []) v (form.5 i) Q)
 
     covers_both : (d : Data) → is_restricted ms ≡ false → Holds o answers ms (alone ∷ []) (codes "properties", d) properties P → Covers o answers ms (keyword.PropertiesWithRequired2 k ∷ []) ((codes "properties", d) ∷ (codes "required", listing t) ∷ []) P
@@ -312,7 +314,7 @@ module _ {K R N : Type 0} (o : Kit K R) (answers : N → Answers) where
   few_formed k fs d q names few = ap (λ n. nat_lt n HASHMAP_THRESHOLD) (ap length names ∙ length-map (listed fs) (λ e. e.0)) ∙ ap (λ x. declares_few (Some x)) (sym q) ∙ few
 
   pub means_form : (k : KeywordOver K R N) (names : List Name) (ns : List N) (L P : Path) (t : Option (Name × Name)) (fs : Members) (d : Data) → d ≡ object fs → names ≡ map (λ e. e.0) (listed fs) → StandEach o answers ns (listed fs) L → IsFormOfProperties P L names ns t k
-      → (ms : Members) → L ≡ P // codes "properties" → has_repeat (names_of (listed ms)) ≡ false → lookup (codes "properties") (listed ms) ≡ Some d → t ≡ fused_names ms → is_restricted ms ≡ false → KeywordsMean o answers ms (k ∷ []) (claims (head (plan_of ms)) (listed ms) (codes "properties", d)) ((codes "properties", d) ∷ []) P
+      → (ms : Members) → L ≡ P // codes "properties" → has_repeat (names_of (listed ms)) ≡ false → lookup_name (codes "properties") (listed ms) ≡ Some d → t ≡ fused_names ms → is_restricted ms ≡ false → KeywordsMean o answers ms (k ∷ []) (claims (head (plan_of ms)) (listed ms) (codes "properties", d)) ((codes "properties", d) ∷ []) P
   means_form (keyword.Properties k) names ns L P None fs d q declared stand form ms p distinct there chosen unrestricted =
       subst (λ rows. KeywordsMean o answers ms (keyword.Properties k ∷ []) rows ((codes "properties", d) ∷ []) P) (sym (claims_itself ms distinct (head (plan_of ms)) (codes "properties", d) (head_itself (plan_of ms) (codes "properties") (λ e. absurd (true≢false (sym e ∙ ap is_some (sym chosen)))) (λ e. (refl, refl)) (free_takes_nothing ms (codes "properties") unrestricted)) there))
       (subst (λ M. KeywordsMean o answers ms (keyword.Properties (record { properties = k.properties; location = M }) ∷ []) ((codes "properties", d) ∷ []) ((codes "properties", d) ∷ []) P) (sym form.3)
@@ -342,43 +344,43 @@ module _ {K R N : Type 0} (o : Kit K R) (answers : N → Answers) where
 
   module _ (L : Path) (ns : List N) (u : Bool) (v : Data) where
     all_form_accepts : (k : KeywordOver K R N) → IsFormOfAllOf L ns k → (question k v).accepts u ≡ (every (at_value u v) ns).accepts u
-    unfolding validator_means
+    unfolding answers_of
     all_form_accepts (keyword.AllOf k) f = ap (λ xs. (every (at_value u v) xs).accepts u) f.0
-    all_form_accepts (keyword.SingleValueAllOf k) f = sym (and_true (((answers k.node).means v).accepts u)) ∙ ap (λ xs. (every (at_value u v) xs).accepts u) (sym f.0)
+    all_form_accepts (keyword.SingleValueAllOf k) f = sym (and-true (((answers k.node).means v).accepts u)) ∙ ap (λ xs. (every (at_value u v) xs).accepts u) (sym f.0)
     all_form_accepts k f = absurd f
 
     all_form_asks : (k : KeywordOver K R N) → IsFormOfAllOf L ns k → (question k v).asks u ≤ (every (at_value u v) ns).asks u
-    unfolding validator_means
+    unfolding answers_of
     all_form_asks (keyword.AllOf k) f = let e = ap (λ xs. (every (at_value u v) xs).asks u) f.0 in omega (arith, e)
     all_form_asks (keyword.SingleValueAllOf k) f = let e = ap (λ xs. (every (at_value u v) xs).asks u) f.0 in omega (arith, e)
     all_form_asks k f = absurd f
 
     all_form_finds : (Q : Path) (k : KeywordOver K R N) → IsFormOfAllOf L ns k → found u k v Q ≡ flat_map (λ n. (answers n).report u v Q) ns
-    unfolding validator_report
+    unfolding answers_of
     all_form_finds Q (keyword.AllOf k) f = ap (flat_map (λ n. (answers n).report u v Q)) f.0
     all_form_finds Q (keyword.SingleValueAllOf k) f = sym (append-nil ((answers k.node).report u v Q)) ∙ ap (flat_map (λ n. (answers n).report u v Q)) (sym f.0)
     all_form_finds Q k f = absurd f
 
     all_form_shows : (Q : Path) (k : KeywordOver K R N) → IsFormOfAllOf L ns k → shown u k v Q ≡ plain L Q (branch_trees (λ n. (answers n).tree u) v Q ns)
-    unfolding validator_tree
+    unfolding answers_of
     all_form_shows Q (keyword.AllOf k) f = λ i. plain (f.2 i) Q (branch_trees (λ n. (answers n).tree u) v Q (f.0 i))
     all_form_shows Q (keyword.SingleValueAllOf k) f = λ i. plain (f.1 i) Q (branch_trees (λ n. (answers n).tree u) v Q (sym f.0 i))
     all_form_shows Q k f = absurd f
 
     any_form_shows : (Q : Path) (k : KeywordOver K R N) → IsFormOfAnyOf L ns k → shown u k v Q ≡ any_of_tree (λ n. (answers n).tree u) v Q (accepts_value u v) L ns
-    unfolding validator_tree
+    unfolding answers_of
     any_form_shows Q (keyword.AnyOf k) f = λ i. any_of_tree (λ n. (answers n).tree u) v Q (accepts_value u v) (f.2 i) (f.0 i)
     any_form_shows Q (keyword.SingleAnyOf k) f = λ i. any_of_tree (λ n. (answers n).tree u) v Q (accepts_value u v) (f.1 i) (sym f.0 i)
     any_form_shows Q k f = absurd f
 
     any_form_accepts : (k : KeywordOver K R N) → IsFormOfAnyOf L ns k → (question k v).accepts u ≡ (some (at_value u v) ns).accepts u
-    unfolding validator_means
+    unfolding answers_of
     any_form_accepts (keyword.AnyOf k) f = ap (λ xs. (some (at_value u v) xs).accepts u) f.0
-    any_form_accepts (keyword.SingleAnyOf k) f = sym (or_false (((answers k.node).means v).accepts u)) ∙ ap (λ xs. (some (at_value u v) xs).accepts u) (sym f.0)
+    any_form_accepts (keyword.SingleAnyOf k) f = sym (or-false (((answers k.node).means v).accepts u)) ∙ ap (λ xs. (some (at_value u v) xs).accepts u) (sym f.0)
     any_form_accepts k f = absurd f
 
     any_form_asks : (k : KeywordOver K R N) → IsFormOfAnyOf L ns k → (question k v).asks u ≤ (some (at_value u v) ns).asks u
-    unfolding validator_means
+    unfolding answers_of
     any_form_asks (keyword.AnyOf k) f = let e = ap (λ xs. (some (at_value u v) xs).asks u) f.0 in omega (arith, e)
     any_form_asks (keyword.SingleAnyOf k) f = let e = ap (λ xs. (some (at_value u v) xs).asks u) f.0 in omega (arith, e)
     any_form_asks k f = absurd f
@@ -387,10 +389,10 @@ module _ {K R N : Type 0} (o : Kit K R) (answers : N → Answers) where
     any_faults xs M Q = fault_if (not ((some (at_value u v) xs).accepts u)) (AnyOf (context (map (λ n. (answers n).report u v Q) xs))) v M Q
 
     any_form_finds : (Q : Path) (k : KeywordOver K R N) → IsFormOfAnyOf L ns k → found u k v Q ≡ any_faults ns L Q
-    unfolding validator_report
+    unfolding answers_of
     any_form_finds Q (keyword.AnyOf k) f = λ i. any_faults (f.0 i) (f.2 i) Q
     any_form_finds Q (keyword.SingleAnyOf k) f =
-        ap (λ b. fault_if (not b) (AnyOf (context ((answers k.node).report u v Q ∷ []))) v k.location Q) (sym (or_false (((answers k.node).means v).accepts u)))
+        ap (λ b. fault_if (not b) (AnyOf (context ((answers k.node).report u v Q ∷ []))) v k.location Q) (sym (or-false (((answers k.node).means v).accepts u)))
         ∙ (λ i. any_faults (sym f.0 i) (f.1 i) Q)
     any_form_finds Q k f = absurd f
 
@@ -441,23 +443,23 @@ module _ {K R N : Type 0} (o : Kit K R) (answers : N → Answers) where
     not_of = keyword.Not (record { original = original; node = n; location = L })
 
     not_accept : (question not_of v).accepts u ≡ not (((answers n).means v).accepts u)
-    unfolding validator_means
+    unfolding answers_of
     not_accept = refl
 
     not_ask : (question not_of v).asks u ≡ ((answers n).means v).asks u
-    unfolding validator_means
+    unfolding answers_of
     not_ask = refl
 
     not_find : (Q : Path) → found u not_of v Q ≡ fault_if (((answers n).means v).accepts u) (Not (view original)) v L Q
-    unfolding validator_report
+    unfolding answers_of
     not_find Q = refl
 
     not_show : (Q : Path) → shown u not_of v Q ≡ erring L Q (fault_if (((answers n).means v).accepts u) (Not (view original)) v L Q)
-    unfolding validator_tree
+    unfolding answers_of
     not_show Q = refl
 
     not_formed : is_formed o answers not_of ≡ has_form o answers n
-    unfolding validator_formed
+    unfolding answers_of
     not_formed = refl
 
   pub means_not : (original : Value) (n : N) (L : Path) (d : Data) → view original ≡ d → Stands o answers n d L → (ms : Members) (P : Path) → L ≡ P // codes "not" → KeywordMeans o answers ms (keyword.Not (record { original = original; node = n; location = L }) ∷ []) (codes "not", d) P
@@ -477,23 +479,23 @@ module _ {K R N : Type 0} (o : Kit K R) (answers : N → Answers) where
     required_of = keyword.Required (record { required = names; location = L })
 
     required_accept : (question required_of v).accepts u ≡ is_empty (missing (map string_bytes names.items) v)
-    unfolding validator_means
+    unfolding answers_of
     required_accept = refl
 
     required_ask : (question required_of v).asks u ≡ 0
-    unfolding validator_means
+    unfolding answers_of
     required_ask = refl
 
     required_find : (Q : Path) → found u required_of v Q ≡ required_faults (map string_bytes names.items) v L Q
-    unfolding validator_report
+    unfolding answers_of
     required_find Q = refl
 
     required_show : (Q : Path) → shown u required_of v Q ≡ erring L Q (required_faults (map string_bytes names.items) v L Q)
-    unfolding validator_tree
+    unfolding answers_of
     required_show Q = refl
 
     required_formed : is_formed o answers required_of ≡ true
-    unfolding validator_formed
+    unfolding answers_of
     required_formed = refl
 
   pub means_required : (names : Vec (String Global) Global) (L : Path) (d : Data) → map string_bytes names.items ≡ texts d → (ms : Members) (P : Path) → L ≡ P // codes "required" → KeywordMeans o answers ms (keyword.Required (record { required = names; location = L }) ∷ []) (codes "required", d) P
@@ -529,15 +531,11 @@ module _ {K R N : Type 0} (o : Kit K R) (answers : N → Answers) where
   pub means_fused_one : (d : Data) (ms : Members) (P : Path) → is_some (fused_name ms) ≡ true → KeywordsMean o answers ms [] (claims (head (plan_of ms)) (listed ms) (codes "required", d)) ((codes "required", d) ∷ []) P
   means_fused_one d ms P chosen = nothing_means ms (codes "required", d) P (plan_of ms) (claims_no_fused ms (one_restricts ms chosen) (listed ms) d chosen) (λ clean u v Q. required_shows_none o.world ms u v P Q d chosen)
 
-  pub means_required_alone : (names : Vec (String Global) Global) (L : Path) (d : Data) → map string_bytes names.items ≡ texts d → (ms : Members) (P : Path) → L ≡ P // codes "required" → has_repeat (names_of (listed ms)) ≡ false → lookup (codes "required") (listed ms) ≡ Some d → is_some (fused_names ms) ≡ false → is_some (fused_name ms) ≡ false → KeywordsMean o answers ms (keyword.Required (record { required = names; location = L }) ∷ []) (claims (head (plan_of ms)) (listed ms) (codes "required", d)) ((codes "required", d) ∷ []) P
+  pub means_required_alone : (names : Vec (String Global) Global) (L : Path) (d : Data) → map string_bytes names.items ≡ texts d → (ms : Members) (P : Path) → L ≡ P // codes "required" → has_repeat (names_of (listed ms)) ≡ false → lookup_name (codes "required") (listed ms) ≡ Some d → is_some (fused_names ms) ≡ false → is_some (fused_name ms) ≡ false → KeywordsMean o answers ms (keyword.Required (record { required = names; location = L }) ∷ []) (claims (head (plan_of ms)) (listed ms) (codes "required", d)) ((codes "required", d) ∷ []) P
   means_required_alone names L d same ms P p distinct there not_two not_one =
       subst (λ rows. KeywordsMean o answers ms (keyword.Required (record { required = names; location = L }) ∷ []) rows ((codes "required", d) ∷ []) P) (sym (claims_itself ms distinct (head (plan_of ms)) (codes "required", d) (head_of_required (plan_of ms) not_two not_one) there))
-      (means_alone o answers ms P _ (codes "required", d) (never_both (is_restricted ms))
+      (means_alone o answers ms P _ (codes "required", d) (and-false (is_restricted ms))
       (λ clean u. (clean_one_fused o.world ms P clean (meaning_step o.world u) ∙ not_one, fused o.world ms P clean (meaning_step o.world u) ∙ not_two)) (means_required names L d same ms P p))
-    where
-      never_both : (b : Bool) → (b && false) ≡ false
-      never_both true = refl
-      never_both false = refl
 
   -- a keyword that is neither has a child of its own, and claims its own member
   neither_of : (ms : Members) (u : Bool) (k : Name) (d : Data) → (is_restricted ms && tells_members k) ≡ false → bytes_eq (codes "properties") k ≡ false → bytes_eq (codes "required") k ≡ false → (w : Keyword) → Named k w → StandsAlone o.world u ms (k, d) w
@@ -550,7 +548,7 @@ module _ {K R N : Type 0} (o : Kit K R) (answers : N → Answers) where
       by true h = h
   neither_of ms u k d r e f w n = tt
 
-  pub means_own : (ks : List (KeywordOver K R N)) (ms : Members) (m : Name × Data) (P : Path) → has_repeat (names_of (listed ms)) ≡ false → lookup m.0 (listed ms) ≡ Some m.1 → bytes_eq (codes "properties") m.0 ≡ false → bytes_eq (codes "required") m.0 ≡ false → IsNoCase (is_condition ms) m.0 → IsNotTaken (plan_of ms) m.0 → (is_restricted ms && tells_members m.0) ≡ false → KeywordMeans o answers ms ks m P → KeywordsMean o answers ms ks (claims (head (plan_of ms)) (listed ms) m) (m ∷ []) P
+  pub means_own : (ks : List (KeywordOver K R N)) (ms : Members) (m : Name × Data) (P : Path) → has_repeat (names_of (listed ms)) ≡ false → lookup_name m.0 (listed ms) ≡ Some m.1 → bytes_eq (codes "properties") m.0 ≡ false → bytes_eq (codes "required") m.0 ≡ false → IsNoCase (is_condition ms) m.0 → IsNotTaken (plan_of ms) m.0 → (is_restricted ms && tells_members m.0) ≡ false → KeywordMeans o answers ms ks m P → KeywordsMean o answers ms ks (claims (head (plan_of ms)) (listed ms) m) (m ∷ []) P
   means_own ks ms m P distinct there e f apart own untaken h = subst (λ rows. KeywordsMean o answers ms ks rows (m ∷ []) P) (sym (claims_itself ms distinct (head (plan_of ms)) m (heads_elsewhere (plan_of ms) m.0 e f apart own) there))
       (means_alone o answers ms P ks m untaken (λ clean u. neither_of ms u m.0 m.1 untaken e f (keyword_named o.world m.0) (is_named m.0 o.world)) h)
 
@@ -558,23 +556,23 @@ module _ {K R N : Type 0} (o : Kit K R) (answers : N → Answers) where
 
   module _ (l : K) (L : Path) (u : Bool) (v : Data) where
     leaf_accept : (question (keyword.Leaf L l) v).accepts u ≡ is_empty (o.finds l v)
-    unfolding validator_means
+    unfolding answers_of
     leaf_accept = refl
 
     leaf_ask : (question (keyword.Leaf L l) v).asks u ≡ 0
-    unfolding validator_means
+    unfolding answers_of
     leaf_ask = refl
 
     leaf_find : (Q : Path) → found u (keyword.Leaf L l) v Q ≡ map (λ t. fault (Leaf (o.keyword_of l) t) v Q L) (o.finds l v)
-    unfolding validator_report
+    unfolding answers_of
     leaf_find Q = refl
 
     leaf_show : (Q : Path) → shown u (keyword.Leaf L l) v Q ≡ leaf_node L Q (described (map (λ t. fault (Leaf (o.keyword_of l) t) v Q L) (o.finds l v)))
-    unfolding validator_tree
+    unfolding answers_of
     leaf_show Q = refl
 
     leaf_formed : is_formed o answers (keyword.Leaf L l) ≡ true
-    unfolding validator_formed
+    unfolding answers_of
     leaf_formed = refl
 
   pub means_leaf : (l : K) (k : Name) (L : Path) (d : Data) → keyword_named o.world k ≡ leaf → o.keyword_of l ≡ k → ((v : Data) → o.finds l v ≡ o.world.faults k d v) → (ms : Members) (P : Path) → L ≡ P // k → KeywordMeans o answers ms (keyword.Leaf L l ∷ []) (k, d) P

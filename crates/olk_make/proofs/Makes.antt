@@ -1,21 +1,22 @@
 -- What is made of a part, and of all parts.
-use Rattle.olk_tree.specs.Places.{Answers}
+use Rattle.olk_tree.specs.Answers.{Answers}
 use Rattle.std.specs.Prelude.{◌≡◌, Bool, true, false, not, List, [], ◌∷◌, ◌++◌, ◌&&◌, ◌||◌, map, codes, bytes_eq, Option, Some, None, is_some, Vec, String, string_bytes}
 use Rattle.std.specs.List.{flat_map}
 use Rattle.std.specs.declared.alloc.Global.{Global}
 use Rattle.std.proofs.Common.{refl, sym, ◌∙◌, ap, subst, ◌⊎◌, inl, inr}
 use Rattle.std.proofs.lemmas.List.{append-nil, append_assoc, map-append}
 use Rattle.std.proofs.lemmas.List.Folds.{list_any-append}
+use Rattle.std.proofs.Math.Bool.{or-true}
 use mathlib.Core.Bool.{true≢false}
 use Rattle.serde_json.specs.Data.{Data, object, Members}
 use Rattle.serde_json.specs.declared.value.Value.{Value}
-use Rattle.olk_spec.specs.Names.{Name, Path, ◌//◌, lookup, those, put_if, is_among}
+use Rattle.olk_spec.specs.Names.{Name, Path, ◌//◌, lookup_name, filter_once, put_if, is_among}
 use Rattle.olk_spec.specs.World.{World}
 use Rattle.olk_spec.specs.Vocabulary.{Keyword, properties, pattern_properties, additional_properties, required, if_keyword, then_keyword, else_keyword, keyword_named}
 use Rattle.olk_spec.specs.Schemas.{listed, members, numbered, texts, is_object, is_truth}
 use Rattle.olk_spec.specs.Malformed.{has_repeat, items_of_array}
 use Rattle.olk_spec.specs.Tree.{Tree}
-use Rattle.olk_spec.proofs.Each.{Each, Each-those}
+use Rattle.olk_spec.proofs.Each.{Each, Each-filter_once}
 use Rattle.olk_spec.proofs.Walks.{same_name, bytes_eq-sym, bytes_eq-itself, neither, Distinct, Distinct-from, Each-found}
 use Rattle.olk_base.specs.Kit.{Kit}
 use Rattle.olk_base.specs.declared.pattern.CompiledPattern.{CompiledPattern}
@@ -118,17 +119,17 @@ module _ {K R N : Type 0} (o : Kit K R) (answers : N → Answers) where
       let a = object_of m.1 s.1 in
       subst (λ n. KeywordsMean o answers ms (k ∷ []) (claims (head p) (listed ms) (n, m.1)) ((n, m.1) ∷ []) P) (sym s.0)
       (subst (λ q. KeywordsMean o answers ms (k ∷ []) (claims (head q) (listed ms) (codes "properties", m.1)) ((codes "properties", m.1) ∷ []) P) (sym chosen)
-      (means_form o answers k names ns L P p.fused a.0 m.1 a.1 (s.2 ∙ ap (λ x. map (λ e. e.0) (members x)) a.1) (subst (λ x. StandEach o answers ns (members x) L) a.1 h) form ms (l ∙ ap (λ n. P // n) s.0) distinct (ap (λ n. lookup n (listed ms)) (sym s.0) ∙ there) (ap (λ q. q.fused) chosen)
+      (means_form o answers k names ns L P p.fused a.0 m.1 a.1 (s.2 ∙ ap (λ x. map (λ e. e.0) (members x)) a.1) (subst (λ x. StandEach o answers ns (members x) L) a.1 h) form ms (l ∙ ap (λ n. P // n) s.0) distinct (ap (λ n. lookup_name n (listed ms)) (sym s.0) ∙ there) (ap (λ q. q.fused) chosen)
       (ap (λ q. q.restricted) (sym chosen) ∙ unrestricted_if_untaken o answers p (codes "properties") refl (ap (is_taken p) (sym s.0) ∙ untaken))))
 
   module _ (v : Vec (String Global) Global) (L P : Path) (ns : List N) (p : Planned) where
     abbrev MakesRequired : List (KeywordOver K R N) → Type 0
     MakesRequired ks = MakesClaims o answers (shape.Required v) L ns P p ks
 
-    required_makes : (ks : List (KeywordOver K R N)) → ((ms : Members) (d : Data) → p ≡ plan_of ms → L ≡ P // codes "required" → map string_bytes v.items ≡ texts d → has_repeat (names_of (listed ms)) ≡ false → lookup (codes "required") (listed ms) ≡ Some d → KeywordsMean o answers ms ks (claims (head (plan_of ms)) (listed ms) (codes "required", d)) ((codes "required", d) ∷ []) P) → MakesRequired ks
+    required_makes : (ks : List (KeywordOver K R N)) → ((ms : Members) (d : Data) → p ≡ plan_of ms → L ≡ P // codes "required" → map string_bytes v.items ≡ texts d → has_repeat (names_of (listed ms)) ≡ false → lookup_name (codes "required") (listed ms) ≡ Some d → KeywordsMean o answers ms ks (claims (head (plan_of ms)) (listed ms) (codes "required", d)) ((codes "required", d) ∷ []) P) → MakesRequired ks
     required_makes ks make ms m l s h distinct there chosen untaken = subst (λ n. KeywordsMean o answers ms ks (claims (head p) (listed ms) (n, m.1)) ((n, m.1) ∷ []) P) (sym s.0)
         (subst (λ q. KeywordsMean o answers ms ks (claims (head q) (listed ms) (codes "required", m.1)) ((codes "required", m.1) ∷ []) P) (sym chosen)
-        (make ms m.1 chosen (l ∙ ap (λ n. P // n) s.0) s.2 distinct (ap (λ n. lookup n (listed ms)) (sym s.0) ∙ there)))
+        (make ms m.1 chosen (l ∙ ap (λ n. P // n) s.0) s.2 distinct (ap (λ n. lookup_name n (listed ms)) (sym s.0) ∙ there)))
 
     pub makes_required_elsewhere : is_some p.fused ≡ true → MakesRequired []
     makes_required_elsewhere e = required_makes [] (λ ms d chosen l same distinct there. by ms d (fused_names ms) refl (ap (λ q. is_some q.fused) (sym chosen) ∙ e))
@@ -229,11 +230,7 @@ module _ {K R N : Type 0} (o : Kit K R) (answers : N → Answers) where
   if_fits x c f e = absurd (true≢false (sym e))
 
   restriction_named : (x : Shape K R) (k : Name) (d : Data) → IsShape o k d x → is_restriction_shape x ≡ true → (k ≡ codes "additionalProperties") × (is_restriction (Some d) ≡ true)
-  restriction_named shape.AdditionalProperties k d s e = (s.0, ap (λ b. is_truth false d || b) s.1 ∙ or_true (is_truth false d))
-    where
-      or_true : (b : Bool) → (b || true) ≡ true
-      or_true true = refl
-      or_true false = refl
+  restriction_named shape.AdditionalProperties k d s e = (s.0, ap (λ b. is_truth false d || b) s.1 ∙ or-true (is_truth false d))
   restriction_named shape.NoOthers k d s e = (s.0, ap (λ b. b || is_object d) s.1)
   restriction_named x k d s e = absurd (true≢false (sym e))
 
@@ -242,12 +239,12 @@ module _ {K R N : Type 0} (o : Kit K R) (answers : N → Answers) where
   not_so n k true named e = absurd (true≢false (sym (ap (bytes_eq n) (named refl) ∙ bytes_eq-itself n) ∙ e))
   not_so n k false named e = refl
 
-  distinct_those : (test : Name × Data → Bool) (es : List (Name × Data)) → Distinct es → Distinct (those test es)
+  distinct_those : (test : Name × Data → Bool) (es : List (Name × Data)) → Distinct es → Distinct (filter_once test es)
   distinct_those test [] h = tt
   distinct_those test (m ∷ es) h = by (test m) (distinct_those test es h.1)
     where
-      by : (b : Bool) → Distinct (those test es) → Distinct (put_if b m (those test es))
-      by true later = (Each-those (λ x. bytes_eq m.0 x.0 ≡ false) test es h.0, later)
+      by : (b : Bool) → Distinct (filter_once test es) → Distinct (put_if b m (filter_once test es))
+      by true later = (Each-filter_once (λ x. bytes_eq m.0 x.0 ≡ false) test es h.0, later)
       by false later = later
 
   at_place : {X : Type 0} (Q : X → Type 0) (done : List X) (x : X) (rest : List X) → Each Q (done ++ x ∷ rest) → Q x
@@ -336,8 +333,8 @@ module _ {K R N : Type 0} (o : Kit K R) (answers : N → Answers) where
       stays_distinct : Distinct stays
       stays_distinct = distinct_those (λ m. not (is_taken (plan_of ms) m.0)) (listed ms) (Distinct-from (listed ms) distinct)
 
-      stays_found : Each (λ m. lookup m.0 (listed ms) ≡ Some m.1) stays
-      stays_found = Each-those (λ m. lookup m.0 (listed ms) ≡ Some m.1) (λ m. not (is_taken (plan_of ms) m.0)) (listed ms) (Each-found (listed ms) (Distinct-from (listed ms) distinct))
+      stays_found : Each (λ m. lookup_name m.0 (listed ms) ≡ Some m.1) stays
+      stays_found = Each-filter_once (λ m. lookup_name m.0 (listed ms) ≡ Some m.1) (λ m. not (is_taken (plan_of ms) m.0)) (listed ms) (Each-found (listed ms) (Distinct-from (listed ms) distinct))
 
       stays_untaken : (es : List (Name × Data)) → Each (λ m. is_taken (plan_of ms) m.0 ≡ false) (untaken (plan_of ms) es)
       stays_untaken [] = tt
@@ -359,7 +356,7 @@ module _ {K R N : Type 0} (o : Kit K R) (answers : N → Answers) where
             mean = one_more_keyword o answers ms P heads ks ls new h.done m q h.mean (subst (λ s. KeywordsMean o answers ms ls (claims (head s) (listed ms) m) (m ∷ []) P) chosen
                 (make ms m stand.0.place stand.0.shape stand.0.fits (subst (λ L. StandAt o answers (reads_of part.shape) part.nodes.items m.1 L) (sym stand.0.place) stand.0.nodes)
                 (λ taking. h.cases (if_fits part.shape (known_of ms) stand.0.fits taking) (first (codes "if") (if_named part.shape m.0 m.1 stand.0.shape taking)))
-                (λ taking. let r = restriction_named part.shape m.0 m.1 stand.0.shape taking in h.beside (ap is_restriction (ap (λ k. lookup k (listed ms)) (sym r.0) ∙ found) ∙ r.1) (first (codes "additionalProperties") r.0))
+                (λ taking. let r = restriction_named part.shape m.0 m.1 stand.0.shape taking in h.beside (ap is_restriction (ap (λ k. lookup_name k (listed ms)) (sym r.0) ∙ found) ∙ r.1) (first (codes "additionalProperties") r.0))
                 distinct found chosen (ap (λ s. is_taken s m.0) chosen ∙ at_place (λ x. is_taken (plan_of ms) x.0 ≡ false) h.done m left (subst (Each (λ x. is_taken (plan_of ms) x.0 ≡ false)) (sym w) (stays_untaken (listed ms))))));
             stand = stand.1;
             cases = λ read none. let before = earlier (codes "if") h.done m none in
@@ -372,8 +369,8 @@ module _ {K R N : Type 0} (o : Kit K R) (answers : N → Answers) where
               first : (k : Name) → m.0 ≡ k → is_among k (names_of h.done) ≡ false
               first k named = ap (λ n. is_among n (names_of h.done)) (sym named) ∙ not_before h.done m left (subst Distinct (sym w) stays_distinct)
 
-              found : lookup m.0 (listed ms) ≡ Some m.1
-              found = at_place (λ x. lookup x.0 (listed ms) ≡ Some x.1) h.done m left (subst (Each (λ x. lookup x.0 (listed ms) ≡ Some x.1)) (sym w) stays_found)
+              found : lookup_name m.0 (listed ms) ≡ Some m.1
+              found = at_place (λ x. lookup_name x.0 (listed ms) ≡ Some x.1) h.done m left (subst (Each (λ x. lookup_name x.0 (listed ms) ≡ Some x.1)) (sym w) stays_found)
 
       pub all_made : (ks : List (KeywordOver K R N)) (ps : List (Part K R N)) (t : Taken R N) → ps ≡ [] → MadeSoFar ks ps t → KeywordsMean o answers ms ks (listed ms) (listed ms) P
       all_made ks ps t e h = by h.left (subst (λ l. PartsStand o answers (known_of ms) l h.left P) e h.stand) h.whole

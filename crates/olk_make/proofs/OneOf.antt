@@ -15,11 +15,12 @@ use Rattle.olk_spec.specs.Tree.{result}
 use Rattle.olk_spec.proofs.Order.{∼_append}
 use Rattle.olk_base.specs.Kit.{Kit}
 use Rattle.olk_tree.specs.Questions.{some}
-use Rattle.olk_tree.specs.Answers.{one_of_report, validator_means, validator_report, validator_tree}
+use Rattle.olk_tree.specs.OneOf.{one_of_report}
+use Rattle.olk_tree.specs.Validators.{answers_of}
 use Rattle.olk_tree.specs.Shown.{several_accept, one_of_tree}
 use Rattle.olk_tree.specs.declared.node.KeywordOver.{KeywordOver}
 use Rattle.olk_tree.specs.declared.node.KeywordOver.TheVariants as keyword
-use Rattle.olk_tree.specs.Places.{Answers}
+use Rattle.olk_tree.specs.Answers.{Answers}
 use Rattle.olk_members.proofs.OneOf as fact
 use Rattle.olk_make.specs.Forms.{IsFormOfOneOf}
 use Rattle.olk_make.specs.Holding.{StandEach}
@@ -69,19 +70,19 @@ module _ {K R N : Type 0} (o : Kit K R) (answers : N → Answers) where
     finding xs Q = context (map (λ n. (answers n).report u v Q) xs)
 
     form_accepts : (k : KeywordOver K R N) → IsFormOfOneOf L ns k → (question o answers k v).accepts u ≡ (accepting ns == 1)
-    unfolding validator_means
+    unfolding answers_of
     form_accepts (keyword.OneOf k) f = ap (λ xs. accepting xs == 1) f.0
     form_accepts (keyword.SingleOneOf k) f = sym (one_counted (accepts_value o answers u v k.node)) ∙ ap (λ xs. accepting xs == 1) (sym f.0)
     form_accepts k f = absurd f
 
     form_asks : (k : KeywordOver K R N) → IsFormOfOneOf L ns k → (question o answers k v).asks u ≤ (some (at_value o answers u v) ns).asks u
-    unfolding validator_means
+    unfolding answers_of
     form_asks (keyword.OneOf k) f = let e = ap (λ xs. (some (at_value o answers u v) xs).asks u) f.0 in omega (arith, e)
     form_asks (keyword.SingleOneOf k) f = let e = ap (λ xs. (some (at_value o answers u v) xs).asks u) f.0 in omega (arith, e)
     form_asks k f = absurd f
 
     form_finds : (Q : Path) (k : KeywordOver K R N) → IsFormOfOneOf L ns k → found o answers u k v Q ≡ one_of_report (accepting ns) (finding ns Q) v L Q
-    unfolding validator_report
+    unfolding answers_of
     form_finds Q (keyword.OneOf k) f = λ i. one_of_report (accepting (f.0 i)) (finding (f.0 i) Q) v (f.2 i) Q
     form_finds Q (keyword.SingleOneOf k) f =
         one_reported (accepts_value o answers u v k.node) (finding (k.node ∷ []) Q) v k.location Q
@@ -89,7 +90,7 @@ module _ {K R N : Type 0} (o : Kit K R) (answers : N → Answers) where
     form_finds Q k f = absurd f
 
     form_shows : (Q : Path) (k : KeywordOver K R N) → IsFormOfOneOf L ns k → shown o answers u k v Q ≡ one_of_tree (λ n. (answers n).tree u) v Q (accepts_value o answers u v) L ns
-    unfolding validator_tree
+    unfolding answers_of
     form_shows Q (keyword.OneOf k) f = λ i. one_of_tree (λ n. (answers n).tree u) v Q (accepts_value o answers u v) (f.2 i) (f.0 i)
     form_shows Q (keyword.SingleOneOf k) f = λ i. one_of_tree (λ n. (answers n).tree u) v Q (accepts_value o answers u v) (f.1 i) (sym f.0 i)
     form_shows Q k f = absurd f

@@ -5,8 +5,10 @@ use Rattle.std.specs.declared.alloc.Global.{Global}
 use Rattle.std.proofs.Common.{refl, sym, ◌∙◌, ap, subst, arith}
 use Rattle.std.proofs.lemmas.List.{append-nil}
 use Rattle.std.proofs.lemmas.List.Sums.{sum_by-cons}
+use Rattle.std.proofs.Math.Bool.{and-true}
+use Rattle.olk_tree.proofs.Answering.{more_within}
 use Rattle.serde_json.specs.Data.{Data, Members}
-use Rattle.olk_spec.specs.Names.{Name, Path, ◌//◌, those, put_if}
+use Rattle.olk_spec.specs.Names.{Name, Path, ◌//◌, filter_once, put_if}
 use Rattle.olk_spec.specs.World.{reads_as, is_unfinished}
 use Rattle.olk_spec.specs.Vocabulary.{pattern_properties}
 use Rattle.olk_spec.specs.Faults.{◌∼◌, like_empty, like_through}
@@ -16,7 +18,7 @@ use Rattle.olk_tree.proofs.RestrictedAsks.{open_counts}
 use Rattle.olk_spec.specs.Meaning.{accepts, asks, report, tree, meaning_step}
 use Rattle.olk_spec.specs.Tree.{result}
 use Rattle.olk_spec.proofs.Order.{∼_same, ∼_append, ∼_flat_map_any}
-use Rattle.olk_spec.proofs.Truth.{and_true, and_from}
+use Rattle.olk_spec.proofs.Truth.{and_from}
 use Rattle.olk_base.specs.Kit.{Kit}
 use Rattle.olk_base.specs.Compiled.{pattern_answers, pattern_costs}
 use Rattle.olk_base.specs.declared.pattern.CompiledPattern.{CompiledPattern}
@@ -28,17 +30,18 @@ use Rattle.olk_tree.specs.Matched.{matched, match_question}
 use Rattle.olk_tree.specs.Tables.{Table}
 use Rattle.olk_tree.specs.Questions.{every, conditional, always}
 use Rattle.olk_tree.specs.Shown.{match_trees, match_names, patterns_tree}
-use Rattle.olk_tree.specs.Answers.{matched_mean, patterns_mean, matched_report, patterns_report, validator_means, validator_report, validator_tree}
+use Rattle.olk_tree.specs.PatternProperties.{matched_mean, patterns_mean, matched_report, patterns_report}
+use Rattle.olk_tree.specs.Validators.{answers_of}
 use Rattle.olk_tree.specs.declared.node.KeywordOver.{KeywordOver}
 use Rattle.olk_tree.specs.declared.node.KeywordOver.TheVariants as keyword
-use Rattle.olk_tree.specs.Places.{Answers, Stands}
+use Rattle.olk_tree.specs.Answers.{Answers}
+use Rattle.olk_tree.specs.Places.{Stands}
 use Rattle.olk_read.specs.Patterns.{IsPattern, ArePatterns}
 use Rattle.olk_read.specs.declared.shape.Shape.TheVariants as shape
 use Rattle.olk_make.specs.Holding.{StandEach}
 use Rattle.olk_make.specs.Forms.{IsFormOfPatternProperties, IsPatternProperties}
 use Rattle.olk_make.specs.Standing.{EntriesStand}
 use Rattle.olk_make.specs.Making.{KeywordMeans, MakesMember}
-use Rattle.olk_make.proofs.Entries.{sum_within}
 use Rattle.olk_make.proofs.Held.{question, shown, found, one_if_free}
 use Rattle.olk_make.proofs.Formed.{just_one_formed, entry_formed, patterns_formed}
 
@@ -77,16 +80,16 @@ module _ {K R N : Type 0} (o : Kit K R) (answers : N → Answers) where
 
   module _ (e : Entry) (d : Name × Data) (L : Path) (h : IsPattern o e.0 d.0) (s : Stands o answers e.1 d.1 (L // d.0)) (u : Bool) where
     matched_same : (v : Data) → matched o.answers u e.0 v ≡ matched_members o.world u d.0 v
-    matched_same v = λ i. those (λ x. reads_as u (h.answers x.0 i)) (members v)
+    matched_same v = λ i. filter_once (λ x. reads_as u (h.answers x.0 i)) (members v)
 
     abbrev ask_member : Name × Data → Bool
     ask_member x = matches o.world u d.0 x.0
 
-    matched_accept : (xs : List (Name × Data)) → (every (λ x. conditional (match_question o.answers o.costs e.0 x.0) ((answers e.1).means x.1) (always true)) xs).accepts u ≡ list_all (λ x. accepts o.world u d.1 x.1) (those ask_member xs)
+    matched_accept : (xs : List (Name × Data)) → (every (λ x. conditional (match_question o.answers o.costs e.0 x.0) ((answers e.1).means x.1) (always true)) xs).accepts u ≡ list_all (λ x. accepts o.world u d.1 x.1) (filter_once ask_member xs)
     matched_accept [] = refl
     matched_accept (x ∷ xs) = (λ i. cond (reads_as u (h.answers x.0 i)) (s.verdict u x.1 i) true && matched_accept xs i) ∙ by (ask_member x)
       where
-        by : (b : Bool) → (cond b (accepts o.world u d.1 x.1) true && list_all (λ y. accepts o.world u d.1 y.1) (those ask_member xs)) ≡ list_all (λ y. accepts o.world u d.1 y.1) (put_if b x (those ask_member xs))
+        by : (b : Bool) → (cond b (accepts o.world u d.1 x.1) true && list_all (λ y. accepts o.world u d.1 y.1) (filter_once ask_member xs)) ≡ list_all (λ y. accepts o.world u d.1 y.1) (put_if b x (filter_once ask_member xs))
         by true = refl
         by false = refl
 
@@ -106,7 +109,7 @@ module _ {K R N : Type 0} (o : Kit K R) (answers : N → Answers) where
 
     matched_ask : (xs : List (Name × Data)) → (every (λ x. conditional (match_question o.answers o.costs e.0 x.0) ((answers e.1).means x.1) (always true)) xs).asks u ≤ sum_by asked_member xs
     matched_ask [] = omega arith
-    matched_ask (x ∷ xs) = sum_within _ _ _ _ _ (one_asks x) (matched_ask xs) (sum_by-cons asked_member x xs)
+    matched_ask (x ∷ xs) = more_within _ _ _ _ _ (one_asks x) (matched_ask xs) (sum_by-cons asked_member x xs)
 
     module _ (v : Data) (Q : Path) where
       matched_find : matched_report o.answers (λ n. (answers n).report) u e.0 e.1 v Q ∼ flat_map (λ x. report o.world u d.1 x.1 (L // d.0) (Q // x.0)) (matched_members o.world u d.0 v)
@@ -133,7 +136,7 @@ module _ {K R N : Type 0} (o : Kit K R) (answers : N → Answers) where
     patterns_ask [] [] h = omega arith
     patterns_ask [] (d ∷ ds) h = absurd h
     patterns_ask (e ∷ es) [] h = absurd h
-    patterns_ask (e ∷ es) (d ∷ ds) h = sum_within _ _ _ _ _ (matched_ask e d L h.0 h.1 u (members v)) (patterns_ask es ds h.2) (sum_by-cons (λ d. sum_by (λ x. pattern_asks o.world d.0 + cond (matches o.world u d.0 x.0) (asks o.world u d.1 x.1) 0) (members v)) d ds)
+    patterns_ask (e ∷ es) (d ∷ ds) h = more_within _ _ _ _ _ (matched_ask e d L h.0 h.1 u (members v)) (patterns_ask es ds h.2) (sum_by-cons (λ d. sum_by (λ x. pattern_asks o.world d.0 + cond (matches o.world u d.0 x.0) (asks o.world u d.1 x.1) 0) (members v)) d ds)
 
     module _ (Q : Path) where
       patterns_find : (es : List Entry) (ds : List (Name × Data)) → EntriesStand o answers es ds L → patterns_report o.answers (λ n. (answers n).report) u es v Q ∼ flat_map (λ d. flat_map (λ x. report o.world u d.1 x.1 (L // d.0) (Q // x.0)) (matched_members o.world u d.0 v)) ds
@@ -158,7 +161,7 @@ module _ {K R N : Type 0} (o : Kit K R) (answers : N → Answers) where
 
   module _ (k : KeywordOver K R N) (L : Path) (es : List Entry) (form : IsFormOfPatternProperties L es k) (u : Bool) (v : Data) where
     of_patterns : (k : KeywordOver K R N) → IsFormOfPatternProperties L es k → ((question o answers k v).accepts u ≡ (patterns_mean o.answers o.costs (λ n. (answers n).means) es v).accepts u) × ((question o answers k v).asks u ≤ (patterns_mean o.answers o.costs (λ n. (answers n).means) es v).asks u)
-    unfolding validator_means
+    unfolding answers_of
     of_patterns (keyword.PatternProperties p) f = (
       ap (λ l. (patterns_mean o.answers o.costs (λ n. (answers n).means) l v).accepts u) f.0,
       let q = ap (λ l. (patterns_mean o.answers o.costs (λ n. (answers n).means) l v).asks u) f.0 in omega (arith, q),
@@ -174,13 +177,13 @@ module _ {K R N : Type 0} (o : Kit K R) (answers : N → Answers) where
     of_patterns x f = absurd f
 
     form_finds : (Q : Path) (k : KeywordOver K R N) → IsFormOfPatternProperties L es k → found o answers u k v Q ≡ patterns_report o.answers (λ n. (answers n).report) u es v Q
-    unfolding validator_report
+    unfolding answers_of
     form_finds Q (keyword.PatternProperties p) f = ap (λ l. patterns_report o.answers (λ n. (answers n).report) u l v Q) f.0
     form_finds Q (keyword.SingleValuePatternProperties p) f = sym (ap (λ l. patterns_report o.answers (λ n. (answers n).report) u l v Q) f.0 ∙ append-nil _)
     form_finds Q x f = absurd f
 
     form_shows : (Q : Path) (k : KeywordOver K R N) → IsFormOfPatternProperties L es k → shown o answers u k v Q ≡ patterns_tree (λ n. (answers n).tree u) v Q o.answers u L es
-    unfolding validator_tree
+    unfolding answers_of
     form_shows Q (keyword.PatternProperties p) f = λ i. patterns_tree (λ n. (answers n).tree u) v Q o.answers u (f.2 i) (f.0 i)
     form_shows Q (keyword.SingleValuePatternProperties p) f = λ i. patterns_tree (λ n. (answers n).tree u) v Q o.answers u (f.1 i) (sym f.0 i)
     form_shows Q x f = absurd f
@@ -192,7 +195,7 @@ module _ {K R N : Type 0} (o : Kit K R) (answers : N → Answers) where
   entries_formed (e ∷ es) (d ∷ ds) L h = and_from _ _ h.1.formed (entries_formed es ds L h.2)
 
   unrestricted : (ms : Members) → (is_restricted ms && true) ≡ false → is_restricted ms ≡ false
-  unrestricted ms e = sym (and_true (is_restricted ms)) ∙ e
+  unrestricted ms e = sym (and-true (is_restricted ms)) ∙ e
 
   module _ (k : KeywordOver K R N) (L : Path) (es : List Entry) (form : IsFormOfPatternProperties L es k) (d : Data) (stand : EntriesStand o answers es (members d) L) where
     means_patterns : (ms : Members) (P : Path) → L ≡ P // codes "patternProperties" → KeywordMeans o answers ms (k ∷ []) (codes "patternProperties", d) P

@@ -1,6 +1,6 @@
 -- What holds `propertyDependencies`.
 use Rattle.std.specs.Prelude.{◌≡◌, ◌≤◌, ⊤, ℕ, min, Bool, ◌&&◌, List, [], ◌∷◌, ◌++◌, map, length, get_or, take, drop, sum_by, codes, option_to_list, bytes_eq, Vec, true}
-use Rattle.std.specs.List.{list_all, flat_map}
+use Rattle.std.specs.List.{list_all, flat_map, zip}
 use Rattle.std.specs.Ordering.{nat_cmp, is_eq}
 use Rattle.std.specs.Cmp.Lexicographic.{slice_cmp}
 use Rattle.std.specs.declared.alloc.Global.{Global}
@@ -11,9 +11,10 @@ use Rattle.std.proofs.lemmas.List.{map-append, take_at, drop_at, take_min, drop_
 use Rattle.std.proofs.lemmas.List.Sums.{sum_by-cons}
 use Rattle.std.proofs.lemmas.Map.Text.{is_eq-slice_cmp}
 use Rattle.std.proofs.lemmas.Grind.{flat_map-append}
+use Rattle.olk_tree.proofs.Answering.{more_within}
 use mathlib.Core.Bool.{true≢false}
 use Rattle.serde_json.specs.Data.{Data, Members}
-use Rattle.olk_spec.specs.Names.{Name, Path, ◌//◌, lookup, first_if_equal, is_empty}
+use Rattle.olk_spec.specs.Names.{Name, Path, ◌//◌, lookup_name, first_if_equal, is_empty}
 use Rattle.olk_spec.specs.Vocabulary.{property_dependencies}
 use Rattle.olk_spec.specs.Faults.{◌∼◌, like_empty}
 use Rattle.olk_spec.specs.Schemas.{members, at, as_text}
@@ -25,21 +26,22 @@ use Rattle.olk_base.specs.Kit.{Kit}
 use Rattle.olk_members.specs.PropertyDependencies.{chosen, chosen_by}
 use Rattle.olk_members.proofs.PropertyDependencies as fact
 use Rattle.olk_tree.specs.Questions.{every}
-use Rattle.olk_tree.specs.Answers.{beside, named, chosen_at, chosen_nodes, validator_means, validator_report, validator_tree}
+use Rattle.olk_tree.specs.Maps.{named}
+use Rattle.olk_tree.specs.PropertyDependencies.{chosen_at, chosen_nodes}
+use Rattle.olk_tree.specs.Validators.{answers_of}
 use Rattle.olk_tree.proofs.Questions.{every-append}
 use Rattle.olk_tree.specs.declared.map.SmallMap.{SmallMap}
 use Rattle.olk_tree.specs.declared.node.KeywordOver.{KeywordOver}
 use Rattle.olk_tree.specs.declared.node.KeywordOver.TheVariants as keyword
-use Rattle.olk_tree.specs.Places.{Answers}
+use Rattle.olk_tree.specs.Answers.{Answers}
 use Rattle.olk_read.specs.Lists.{names_of}
 use Rattle.olk_read.specs.declared.shape.Shape.TheVariants as shape
 use Rattle.olk_make.specs.Forms.{AreCut}
 use Rattle.olk_make.specs.Holding.{StandEach, StandInner}
 use Rattle.olk_make.specs.Making.{KeywordMeans, MakesMember}
-use Rattle.olk_make.proofs.Entries.{sum_within, AnswersFor, AnswerEach, each_accept, each_ask, each_find, each_show, schema_answers, schemas_answer}
+use Rattle.olk_make.proofs.Entries.{AnswersFor, AnswerEach, each_accept, each_ask, each_find, each_show, schema_answers, schemas_answer}
 use Rattle.olk_make.proofs.Held.{question, shown, found, one, same_within}
 use Rattle.olk_make.proofs.Formed.{has_form, is_formed, just_one_formed, each_formed}
-use Rattle.olk_tree.specs.Formed.{validator_formed}
 use Rattle.olk_spec.proofs.Truth.{and_from}
 
 -- maps, made of the lists of names and the nodes that are left
@@ -60,7 +62,7 @@ module _ {N : Type 0} (n : ℕ) (ns taken left : List N) (parts : ns ≡ taken +
   pub left_behind : left ≡ drop n ns
   left_behind = sym (drop_at taken left (length taken) refl) ∙ (λ i. drop (count i) (sym parts i)) ∙ drop_min n ns
 
-  -- with names beside the nodes that are taken, one map more is cut
+  -- with names zip the nodes that are taken, one map more is cut
   pub one_cut : (names : List Name) → length names ≡ n → (nodes : Vec N Global) → nodes.items ≡ taken → (ts : List (List Name)) (maps : List (SmallMap N)) → AreCut ts left maps → AreCut (names ∷ ts) ns (record { names = names; nodes = nodes } ∷ maps)
   one_cut names len nodes same ts maps h = (refl, same ∙ taken_first ∙ ap (λ k. take k ns) (sym len), subst (λ l. AreCut ts l maps) (left_behind ∙ ap (λ k. drop k ns) (sym len)) h)
 
@@ -85,14 +87,14 @@ module _ {K R N : Type 0} (o : Kit K R) (answers : N → Answers) where
     each_of_all (x ∷ xs) = each_append (f x) (flat_map f xs) (g x) (flat_map g xs) L (each x) (each_of_all xs)
 
   -- what a look-up finds among the nodes, and among the entries
-  found_answers : (t : Name) (ns : List N) (es : List (Name × Data)) (L : Path) → SchemaEach ns es L → SchemaEach (option_to_list (lookup t (beside (map (λ e. e.0) es) ns))) (map (λ s. (t, s)) (option_to_list (lookup t es))) L
+  found_answers : (t : Name) (ns : List N) (es : List (Name × Data)) (L : Path) → SchemaEach ns es L → SchemaEach (option_to_list (lookup_name t (zip (map (λ e. e.0) es) ns))) (map (λ s. (t, s)) (option_to_list (lookup_name t es))) L
   found_answers t [] [] L h = tt
   found_answers t [] (e ∷ es) L h = absurd h
   found_answers t (n ∷ ns) [] L h = absurd h
   found_answers t (n ∷ ns) (e ∷ es) L h = by (slice_cmp nat_cmp t e.0) (is_eq-slice_cmp t e.0) (found_answers t ns es L h.1)
     where
-      by : (c : Ordering) → is_eq c ≡ bytes_eq t e.0 → SchemaEach (option_to_list (lookup t (beside (map (λ e. e.0) es) ns))) (map (λ s. (t, s)) (option_to_list (lookup t es))) L
-          → SchemaEach (option_to_list (first_if_equal c n (lookup t (beside (map (λ e. e.0) es) ns)))) (map (λ s. (t, s)) (option_to_list (first_if_equal c e.1 (lookup t es)))) L
+      by : (c : Ordering) → is_eq c ≡ bytes_eq t e.0 → SchemaEach (option_to_list (lookup_name t (zip (map (λ e. e.0) es) ns))) (map (λ s. (t, s)) (option_to_list (lookup_name t es))) L
+          → SchemaEach (option_to_list (first_if_equal c n (lookup_name t (zip (map (λ e. e.0) es) ns)))) (map (λ s. (t, s)) (option_to_list (first_if_equal c e.1 (lookup_name t es)))) L
       by Less q k = k
       by Equal q k = (subst (λ a. SchemaFor n (a, e.1) L) (sym (same_name t e.0 (sym q))) h.0, tt)
       by Greater q k = k
@@ -113,11 +115,11 @@ module _ {K R N : Type 0} (o : Kit K R) (answers : N → Answers) where
   module _ (v : Data) where
     chosen_answer : (m : SmallMap N) (e : Name × Data) (L : Path) → m.names ≡ names_of e.1 → SchemaEach m.nodes.items (members e.1) L → SchemaEach (flat_map (chosen_at m) (at e.0 v)) (chosen v e) L
     chosen_answer m e L names h = each_of_all (chosen_at m) (chosen_by e.1) L
-        (λ w. each_of_all (λ t. option_to_list (lookup t (named m))) (λ t. map (λ s. (t, s)) (at t e.1)) L
-        (λ t. subst (λ ks. SchemaEach (option_to_list (lookup t (beside ks m.nodes.items))) (map (λ s. (t, s)) (at t e.1)) L) (sym names) (found_answers t m.nodes.items (members e.1) L h)) (as_text w)) (at e.0 v)
+        (λ w. each_of_all (λ t. option_to_list (lookup_name t (named m))) (λ t. map (λ s. (t, s)) (at t e.1)) L
+        (λ t. subst (λ ks. SchemaEach (option_to_list (lookup_name t (zip ks m.nodes.items))) (map (λ s. (t, s)) (at t e.1)) L) (sym names) (found_answers t m.nodes.items (members e.1) L h)) (as_text w)) (at e.0 v)
 
     abbrev chosen_of : List (SmallMap N) → List (Name × Data) → List N
-    chosen_of maps es = chosen_nodes (beside (map (λ e. e.0) es) maps) v
+    chosen_of maps es = chosen_nodes (zip (map (λ e. e.0) es) maps) v
 
     module _ (u : Bool) where
       choices_accept : (maps : List (SmallMap N)) (es : List (Name × Data)) (L : Path) → MapsAnswer maps es L → (every (λ n. (answers n).means v) (chosen_of maps es)).accepts u ≡ list_all (λ e. list_all (λ c. accepts o.world u c.1 v) (chosen v e)) es
@@ -133,7 +135,7 @@ module _ {K R N : Type 0} (o : Kit K R) (answers : N → Answers) where
       choices_ask [] (e ∷ es) L h = absurd h
       choices_ask (m ∷ maps) [] L h = absurd h
       choices_ask (m ∷ maps) (e ∷ es) L h = subst (λ q. q.asks u ≤ sum_by (λ e. sum_by (λ c. asks o.world u c.1 v) (chosen v e)) (e ∷ es)) (sym (every-append (λ n. (answers n).means v) (flat_map (chosen_at m) (at e.0 v)) (chosen_of maps es)))
-          (sum_within _ _ _ _ _ (each_ask o answers (schema_answers o answers) u v (flat_map (chosen_at m) (at e.0 v)) (chosen v e) (L // e.0) (chosen_answer m e (L // e.0) h.0 h.1)) (choices_ask maps es L h.2) (sum_by-cons (λ e. sum_by (λ c. asks o.world u c.1 v) (chosen v e)) e es))
+          (more_within _ _ _ _ _ (each_ask o answers (schema_answers o answers) u v (flat_map (chosen_at m) (at e.0 v)) (chosen v e) (L // e.0) (chosen_answer m e (L // e.0) h.0 h.1)) (choices_ask maps es L h.2) (sum_by-cons (λ e. sum_by (λ c. asks o.world u c.1 v) (chosen v e)) e es))
 
       module _ (Q : Path) where
         choices_find : (maps : List (SmallMap N)) (es : List (Name × Data)) (L : Path) → MapsAnswer maps es L → flat_map (λ n. (answers n).report u v Q) (chosen_of maps es) ∼ flat_map (λ e. flat_map (λ c. report o.world u c.1 v (L // e.0 // c.0) Q) (chosen v e)) es
@@ -158,26 +160,26 @@ module _ {K R N : Type 0} (o : Kit K R) (answers : N → Answers) where
   module _ (m : SmallMap (SmallMap N)) (L : Path) (d : Data) (names : m.names ≡ names_of d) (stand : MapsAnswer m.nodes.items (members d) L) where
     module _ (u : Bool) (v : Data) where
       abbrev chosen_among : List Name → List N
-      chosen_among ks = chosen_nodes (beside ks m.nodes.items) v
+      chosen_among ks = chosen_nodes (zip ks m.nodes.items) v
 
       choice_accepts : (question o answers (choices_of m L) v).accepts u ≡ list_all (λ e. list_all (λ c. accepts o.world u c.1 v) (chosen v e)) (members d)
-      unfolding validator_means
+      unfolding answers_of
       choice_accepts = ap (λ ks. (every (λ n. (answers n).means v) (chosen_among ks)).accepts u) names ∙ choices_accept v u m.nodes.items (members d) L stand
 
       choice_asks : (question o answers (choices_of m L) v).asks u ≤ sum_by (λ e. sum_by (λ c. asks o.world u c.1 v) (chosen v e)) (members d)
-      unfolding validator_means
+      unfolding answers_of
       choice_asks = subst (λ ks. (every (λ n. (answers n).means v) (chosen_among ks)).asks u ≤ sum_by (λ e. sum_by (λ c. asks o.world u c.1 v) (chosen v e)) (members d)) (sym names) (choices_ask v u m.nodes.items (members d) L stand)
 
       choice_finds : (Q : Path) → found o answers u (choices_of m L) v Q ∼ flat_map (λ e. flat_map (λ c. report o.world u c.1 v (L // e.0 // c.0) Q) (chosen v e)) (members d)
-      unfolding validator_report
+      unfolding answers_of
       choice_finds Q = subst (λ ks. flat_map (λ n. (answers n).report u v Q) (chosen_among ks) ∼ flat_map (λ e. flat_map (λ c. report o.world u c.1 v (L // e.0 // c.0) Q) (chosen v e)) (members d)) (sym names) (choices_find v u Q m.nodes.items (members d) L stand)
 
       choice_shows : (Q : Path) → shown o answers u (choices_of m L) v Q ≡ plain L Q (flat_map (λ e. map (λ c. tree o.world u c.1 v (L // e.0 // c.0) Q) (chosen v e)) (members d))
-      unfolding validator_tree
+      unfolding answers_of
       choice_shows Q = ap (λ ks. plain L Q (map (λ n. (answers n).tree u v Q) (chosen_among ks))) names ∙ ap (plain L Q) (choices_show v u Q m.nodes.items (members d) L stand)
 
     choices_formed : is_formed o answers (choices_of m L) ≡ true
-    unfolding validator_formed
+    unfolding answers_of
     choices_formed = maps_formed m.nodes.items (members d) L stand
 
     means_property_dependencies : (ms : Members) (P : Path) → L ≡ P // codes "propertyDependencies" → KeywordMeans o answers ms (choices_of m L ∷ []) (codes "propertyDependencies", d) P

@@ -3,6 +3,7 @@ use Rattle.std.specs.Prelude.{◌≡◌, ◌≤◌, Bool, true, false, not, ◌&
 use Rattle.std.specs.List.{list_all, flat_map}
 use Rattle.std.proofs.Common.{refl, sym, ◌∙◌, ap, subst, arith}
 use Rattle.std.proofs.lemmas.List.Sums.{sum_by-cons}
+use Rattle.olk_tree.proofs.Answering.{more_within}
 use mathlib.Core.Path.{subst₂}
 use Rattle.serde_json.specs.Data.{Data, string, Members}
 use Rattle.olk_spec.specs.Names.{Name, Path, ◌//◌, is_empty}
@@ -16,18 +17,17 @@ use Rattle.olk_spec.proofs.Order.{∼_same, ∼_flat_map_any}
 use Rattle.olk_base.specs.Kit.{Kit}
 use Rattle.olk_members.proofs.PropertyNames as fact
 use Rattle.olk_tree.specs.Questions.{every}
-use Rattle.olk_tree.specs.Answers.{validator_means, validator_report, validator_tree}
+use Rattle.olk_tree.specs.Validators.{answers_of}
 use Rattle.olk_tree.specs.declared.node.KeywordOver.{KeywordOver}
 use Rattle.olk_tree.specs.declared.node.KeywordOver.TheVariants as keyword
-use Rattle.olk_tree.specs.Places.{Answers, Stands}
+use Rattle.olk_tree.specs.Answers.{Answers}
+use Rattle.olk_tree.specs.Places.{Stands}
 use Rattle.olk_read.specs.declared.shape.Shape.TheVariants as shape
 use Rattle.olk_read.specs.declared.shape.ReadPlaces.TheVariants.{Itself}
 use Rattle.olk_make.specs.Standing.{StandAt}
 use Rattle.olk_make.specs.Making.{KeywordMeans, MakesMember}
-use Rattle.olk_make.proofs.Entries.{sum_within}
 use Rattle.olk_make.proofs.Held.{question, shown, found, one, same_within}
 use Rattle.olk_make.proofs.Formed.{has_form, is_formed, just_one_formed}
-use Rattle.olk_tree.specs.Formed.{validator_formed}
 
 module _ {K R N : Type 0} (o : Kit K R) (answers : N → Answers) where
   -- ---- a schema for each name
@@ -43,30 +43,30 @@ module _ {K R N : Type 0} (o : Kit K R) (answers : N → Answers) where
 
       names_ask : (es : List (Name × Data)) → (every (λ x. (answers n).means (string x.0)) es).asks u ≤ sum_by (λ x. asks o.world u d (string x.0)) es
       names_ask [] = omega arith
-      names_ask (e ∷ es) = sum_within _ _ _ _ _ (stands.asks_within u (string e.0)) (names_ask es) (sum_by-cons (λ x. asks o.world u d (string x.0)) e es)
+      names_ask (e ∷ es) = more_within _ _ _ _ _ (stands.asks_within u (string e.0)) (names_ask es) (sum_by-cons (λ x. asks o.world u d (string x.0)) e es)
 
       names_show : (Q : Path) (es : List (Name × Data)) → map (λ x. (answers n).tree u (string x.0) Q) es ≡ map (λ x. tree o.world u d (string x.0) L Q) es
       names_show Q [] = refl
       names_show Q (e ∷ es) = λ i. stands.evaluation u (string e.0) Q i ∷ names_show Q es i
 
       schema_accepts : (question o answers names_of v).accepts u ≡ list_all (λ x. accepts o.world u d (string x.0)) (members v)
-      unfolding validator_means
+      unfolding answers_of
       schema_accepts = names_accept (members v)
 
       schema_asks : (question o answers names_of v).asks u ≤ sum_by (λ x. asks o.world u d (string x.0)) (members v)
-      unfolding validator_means
+      unfolding answers_of
       schema_asks = names_ask (members v)
 
       schema_finds : (Q : Path) → found o answers u names_of v Q ∼ flat_map (λ x. map (wrapped v Q) (report o.world u d (string x.0) L Q)) (members v)
-      unfolding validator_report
+      unfolding answers_of
       schema_finds Q = ∼_flat_map_any (λ x. map (wrapped v Q) ((answers n).report u (string x.0) Q)) (λ x. map (wrapped v Q) (report o.world u d (string x.0) L Q)) (λ x. fact.∼_wrapped v Q (stands.faults u (string x.0) Q)) (members v)
 
       schema_shows : (Q : Path) → shown o answers u names_of v Q ≡ plain L Q (map (λ x. tree o.world u d (string x.0) L Q) (members v))
-      unfolding validator_tree
+      unfolding answers_of
       schema_shows Q = ap (plain L Q) (names_show Q (members v))
 
     names_formed : is_formed o answers names_of ≡ has_form o answers n
-    unfolding validator_formed
+    unfolding answers_of
     names_formed = refl
 
     means_property_names : (d : Data) → is_object d ≡ true → Stands o answers n d L → (ms : Members) (P : Path) → L ≡ P // codes "propertyNames" → KeywordMeans o answers ms (names_of ∷ []) (codes "propertyNames", d) P
@@ -98,30 +98,30 @@ module _ {K R N : Type 0} (o : Kit K R) (answers : N → Answers) where
 
     module _ (u : Bool) (v : Data) where
       none_accepts : (question o answers no_names v).accepts u ≡ is_empty (members v)
-      unfolding validator_means
+      unfolding answers_of
       none_accepts = refl
 
       none_asks : (question o answers no_names v).asks u ≡ 0
-      unfolding validator_means
+      unfolding answers_of
       none_asks = refl
 
       none_finds : (Q : Path) → found o answers u no_names v Q ≡ fault_if (not (is_empty (members v))) FalseSchema v L Q
-      unfolding validator_report
+      unfolding answers_of
       none_finds Q = refl
 
       none_shows : (Q : Path) → shown o answers u no_names v Q ≡ erring L Q (fault_if (not (is_empty (members v))) FalseSchema v L Q)
-      unfolding validator_tree
+      unfolding answers_of
       none_shows Q = refl
 
     none_formed : is_formed o answers no_names ≡ true
-    unfolding validator_formed
+    unfolding answers_of
     none_formed = refl
 
     means_no_names : (d : Data) → is_truth false d ≡ true → (ms : Members) (P : Path) → L ≡ P // codes "propertyNames" → KeywordMeans o answers ms (no_names ∷ []) (codes "propertyNames", d) P
     means_no_names d is ms P p = record {
       holds = one o answers ms no_names (codes "propertyNames", d) property_names P
           (λ u v. none_accepts u v ∙ sym (fact.no_names_accepts o.world ms d u v is))
-          (λ u v. subst₂ (λ x y. x ≤ y) (sym (none_asks u v)) (sym (fact.no_names_asks o.world ms d u v is)) (omega arith))
+          (λ u v. subst₂ (λ x y. x ≤ y) (sym (none_asks u v)) (sym (fact.no_schema_asks o.world ms d u v)) (omega arith))
           (λ u v Q. ∼_same (none_finds u v Q ∙ ap (λ M. fault_if (not (is_empty (members v))) FalseSchema v M Q) p ∙ sym (fact.no_names_report o.world ms d u v is P Q)));
       shows = λ u h v Q. ap (λ t. t ∷ []) (none_shows u v Q ∙ ap (λ M. erring M Q (fault_if (not (is_empty (members v))) FalseSchema v M Q)) p) ∙ sym (fact.no_names_child o.world ms d u v is P Q);
       formed = just_one_formed o answers no_names none_formed;
@@ -136,7 +136,7 @@ module _ {K R N : Type 0} (o : Kit K R) (answers : N → Answers) where
   means_any_names d no_schema not_false ms P = record {
     holds = record {
       verdict = λ u v. sym (fact.any_names_accepts o.world ms d u v no_schema not_false);
-      asks_within = λ free u v. subst (λ n. 0 ≤ n) (sym (fact.any_names_asks o.world ms d u v no_schema not_false)) (omega arith);
+      asks_within = λ free u v. subst (λ n. 0 ≤ n) (sym (fact.no_schema_asks o.world ms d u v)) (omega arith);
       faults = λ u v Q. ∼_same (sym (fact.any_names_report o.world ms d u v no_schema not_false P Q));
     };
     shows = λ u h v Q. sym (fact.any_names_child o.world ms d u v no_schema not_false P Q);

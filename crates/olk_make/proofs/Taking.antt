@@ -5,7 +5,7 @@ use Rattle.std.proofs.lemmas.List.{append-nil, append_assoc}
 use mathlib.Core.Bool.{true≢false}
 use mathlib.Core.Path.{subst₂}
 use Rattle.serde_json.specs.Data.{Data, Members}
-use Rattle.olk_spec.specs.Names.{Name, Path, ◌//◌, lookup, those, put_if}
+use Rattle.olk_spec.specs.Names.{Name, Path, ◌//◌, lookup_name, filter_once, put_if}
 use Rattle.olk_spec.specs.World.{World}
 use Rattle.olk_spec.specs.Vocabulary.{Keyword, leaf, unread, keyword_named}
 use Rattle.olk_spec.specs.Schemas.{listed, members}
@@ -13,7 +13,8 @@ use Rattle.olk_spec.specs.Malformed.{has_repeat}
 use Rattle.olk_spec.proofs.Truth.{or_from}
 use Rattle.olk_spec.proofs.Walks.{same_name, bytes_eq-itself}
 use Rattle.olk_base.specs.Kit.{Kit}
-use Rattle.olk_tree.specs.Places.{Answers, Stands}
+use Rattle.olk_tree.specs.Answers.{Answers}
+use Rattle.olk_tree.specs.Places.{Stands}
 use Rattle.olk_members.specs.Conditions.{Known, known_of, is_conditional_name, is_condition, is_restricted}
 use Rattle.olk_members.specs.Plans.{Planned, plan_of, is_case, tells_members}
 use Rattle.olk_members.proofs.Claims.{members_named, members_found}
@@ -42,8 +43,8 @@ last_of_named k (e ∷ es) d = by (last_of_named k es) (bytes_eq k e.0) refl
     by later false q = later d
 
 -- it is what a look-up finds, where no name stands twice
-pub last_is_found : (ms : Members) → has_repeat (names_of (listed ms)) ≡ false → (k : Name) → last_named k (listed ms) None ≡ lookup k (listed ms)
-last_is_found ms distinct k = last_of_named k (listed ms) None ∙ ap (λ l. last_named k l None) (members_found ms distinct k (lookup k (listed ms)) refl) ∙ by (lookup k (listed ms))
+pub last_is_found : (ms : Members) → has_repeat (names_of (listed ms)) ≡ false → (k : Name) → last_named k (listed ms) None ≡ lookup_name k (listed ms)
+last_is_found ms distinct k = last_of_named k (listed ms) None ∙ ap (λ l. last_named k l None) (members_found ms distinct k (lookup_name k (listed ms)) refl) ∙ by (lookup_name k (listed ms))
   where
     by : (o : Option Data) → last_named k (map (λ d. (k, d)) (option_to_list o)) None ≡ o
     by None = refl
@@ -59,11 +60,11 @@ apart_by test n k h e = by (bytes_eq n k) refl
     by false q = refl
     by true q = absurd (true≢false (sym h ∙ ap test (same_name n k q) ∙ e))
 
-those_more : {X : Type 0} (test : X → Bool) (xs : List X) (x : X) → those test (xs ++ x ∷ []) ≡ those test xs ++ put_if (test x) x []
+those_more : {X : Type 0} (test : X → Bool) (xs : List X) (x : X) → filter_once test (xs ++ x ∷ []) ≡ filter_once test xs ++ put_if (test x) x []
 those_more test [] x = refl
 those_more test (y ∷ xs) x = by (test y) (those_more test xs x)
   where
-    by : (b : Bool) → those test (xs ++ x ∷ []) ≡ those test xs ++ put_if (test x) x [] → put_if b y (those test (xs ++ x ∷ [])) ≡ put_if b y (those test xs) ++ put_if (test x) x []
+    by : (b : Bool) → filter_once test (xs ++ x ∷ []) ≡ filter_once test xs ++ put_if (test x) x [] → put_if b y (filter_once test (xs ++ x ∷ [])) ≡ put_if b y (filter_once test xs) ++ put_if (test x) x []
     by true h = ap (λ l. y ∷ l) h
     by false h = h
 

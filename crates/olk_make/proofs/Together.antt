@@ -8,22 +8,22 @@ use Rattle.std.proofs.lemmas.List.Folds.{list_all-append}
 use Rattle.std.proofs.lemmas.List.Sorted.{sum_by-IsPermutation}
 use Rattle.std.proofs.lemmas.List.Sums.{sum_by-append, sum_by-cons}
 use Rattle.std.proofs.lemmas.Grind.{flat_map-append}
+use Rattle.std.proofs.Math.Bool.{and_assoc, and-true}
 use Rattle.serde_json.specs.Data.{Data, Members}
-use Rattle.olk_spec.specs.Names.{Name, Path}
+use Rattle.olk_spec.specs.Names.{Name, Path, is_among}
 use Rattle.olk_spec.specs.Faults.{◌∼◌, like_empty, like_through}
 use Rattle.olk_spec.specs.Schemas.{listed}
 use Rattle.olk_spec.specs.Malformed.{has_repeat}
 use Rattle.olk_spec.proofs.Order.{∼_append, ∼_permuted}
-use Rattle.olk_spec.proofs.Truth.{and_true, and_from}
+use Rattle.olk_spec.proofs.Truth.{and_from}
 use Rattle.olk_base.specs.Kit.{Kit}
 use Rattle.olk_tree.specs.Questions.{Question, every}
-use Rattle.olk_tree.specs.Answers.{validator_means}
-use Rattle.olk_tree.specs.Places.{Answers}
+use Rattle.olk_tree.specs.Validators.{validator_means}
+use Rattle.olk_tree.specs.Answers.{Answers}
 use Rattle.olk_members.specs.Conditions.{is_restricted}
 use Rattle.olk_members.specs.Plans.{tells_members, claims}
 use Rattle.olk_members.specs.Members.{member_accepts, member_asks, member_report, StandsAlone}
 use Rattle.olk_spec.proofs.Each.{Each}
-use Rattle.olk_spec.specs.Names.{is_among}
 use Rattle.olk_make.specs.Holding.{all_malformed, which, ask, find, Covers}
 use Rattle.olk_make.specs.Making.{KeywordMeans, KeywordsMean}
 use Rattle.olk_tree.specs.declared.node.KeywordOver.{KeywordOver}
@@ -35,13 +35,9 @@ use Rattle.olk_members.proofs.Heads.{names_of, claims_are_all}
 every-append : {X : Type 0} (f : X → Question) (xs ys : List X) (u : Bool) → ((every f (xs ++ ys)).accepts u ≡ ((every f xs).accepts u && (every f ys).accepts u)) × ((every f (xs ++ ys)).asks u ≡ (every f xs).asks u + (every f ys).asks u)
 every-append f [] ys u = (refl, omega arith)
 every-append f (x ∷ xs) ys u = (
-  ap (λ b. (f x).accepts u && b) (every-append f xs ys u).0 ∙ around ((f x).accepts u) ((every f xs).accepts u) ((every f ys).accepts u),
+  ap (λ b. (f x).accepts u && b) (every-append f xs ys u).0 ∙ sym (and_assoc ((f x).accepts u) ((every f xs).accepts u) ((every f ys).accepts u)),
   omega (arith, (every-append f xs ys u).1),
 )
-  where
-    around : (a b c : Bool) → (a && (b && c)) ≡ ((a && b) && c)
-    around true b c = refl
-    around false b c = refl
 
 module _ {K R N : Type 0} (o : Kit K R) (answers : N → Answers) where
   -- ---- keywords
@@ -58,7 +54,7 @@ module _ {K R N : Type 0} (o : Kit K R) (answers : N → Answers) where
     pub means_alone : (ks : List (KeywordOver K R N)) (e : Name × Data) → (is_restricted ms && tells_members e.0) ≡ false → (all_malformed o ms P (listed ms) ≡ [] → (u : Bool) → StandsAlone o.world u ms e (which o ms e)) → KeywordMeans o answers ms ks e P → KeywordsMean o answers ms ks (e ∷ []) (e ∷ []) P
     means_alone ks e untaken alone k = record {
       covers = record {
-        verdict = λ u v. k.holds.verdict u v ∙ sym (and_true (member_accepts o.world ms e (which o ms e) u v));
+        verdict = λ u v. k.holds.verdict u v ∙ sym (and-true (member_accepts o.world ms e (which o ms e) u v));
         asks_within = λ u v.
             let f : Name × Data → ℕ = λ x. member_asks o.world ms x (which o ms x) u v in
             let t = sum_by-cons f e [] in

@@ -9,13 +9,13 @@ use Rattle.olk_spec.specs.Tree.{Tree}
 use Rattle.olk_spec.specs.Schemas.{members}
 use Rattle.olk_base.specs.Kit.{Kit}
 use Rattle.olk_tree.specs.Questions.{every}
-use Rattle.olk_tree.specs.Answers.{validator_means, validator_report, validator_tree}
-use Rattle.olk_tree.specs.Places.{Answers, Stands}
+use Rattle.olk_tree.specs.Validators.{validator_means, validator_report, validator_tree, validator_formed}
+use Rattle.olk_tree.specs.Answers.{Answers}
+use Rattle.olk_tree.specs.Places.{Stands}
 use Rattle.olk_members.specs.Conditions.{is_restricted}
 use Rattle.olk_members.specs.Plans.{tells_members}
 use Rattle.olk_members.specs.Members.{member_accepts, member_asks, member_report, member_malformations}
 use Rattle.olk_tree.specs.declared.node.KeywordOver.{KeywordOver}
-use Rattle.olk_tree.specs.Formed.{validator_formed}
 
 module _ {K R : Type 0} (o : Kit K R) (ms : Members) where
   -- which keyword a member is

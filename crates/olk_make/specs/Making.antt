@@ -2,7 +2,7 @@
 use Rattle.std.specs.Prelude.{◌≡◌, true, false, Bool, List, [], ◌∷◌, map, codes, Option, Some}
 use Rattle.std.specs.List.{flat_map}
 use Rattle.serde_json.specs.Data.{Data, Members}
-use Rattle.olk_spec.specs.Names.{Name, Path, ◌//◌, lookup}
+use Rattle.olk_spec.specs.Names.{Name, Path, ◌//◌, lookup_name}
 use Rattle.olk_spec.specs.Schemas.{listed}
 use Rattle.olk_spec.specs.Malformed.{has_repeat}
 use Rattle.olk_base.specs.Kit.{Kit}
@@ -11,7 +11,8 @@ use Rattle.olk_members.specs.Plans.{Planned, plan_of, head, claims}
 use Rattle.olk_members.specs.Members.{member_child, StandsAlone}
 use Rattle.olk_make.specs.Holding.{which, all_malformed, show, all_formed, Holds, Covers}
 use Rattle.olk_members.specs.Conditions.{is_condition, known_of}
-use Rattle.olk_tree.specs.Places.{Answers, Stands}
+use Rattle.olk_tree.specs.Answers.{Answers}
+use Rattle.olk_tree.specs.Places.{Stands}
 use Rattle.olk_read.specs.Reading.{reads_of, IsShape, Fits}
 use Rattle.olk_make.specs.Standing.{StandAt, is_taken, is_if_shape, is_restriction_shape, RestStands, CasesStand, BesideStands}
 use Rattle.olk_make.specs.declared.part.Cases.{Cases}
@@ -44,24 +45,24 @@ module _ {K R N : Type 0} (o : Kit K R) (answers : N → Answers) where
   -- and what it claims in each object at P that has this plan, where no other keyword takes what it holds
   abbrev pub MakesClaims : Shape K R → Path → List N → Path → Planned → List (KeywordOver K R N) → Type 0
   MakesClaims x L ns P p ks = (ms : Members) (m : Name × Data) → L ≡ P // m.0 → IsShape o m.0 m.1 x → StandAt o answers (reads_of x) ns m.1 L
-      → has_repeat (map (λ m. m.0) (listed ms)) ≡ false → lookup m.0 (listed ms) ≡ Some m.1 → p ≡ plan_of ms → is_taken p m.0 ≡ false
+      → has_repeat (map (λ m. m.0) (listed ms)) ≡ false → lookup_name m.0 (listed ms) ≡ Some m.1 → p ≡ plan_of ms → is_taken p m.0 ≡ false
       → KeywordsMean ms ks (claims (head p) (listed ms) m) (m ∷ []) P
 
   -- keywords that are made of the nodes of `if`, `then` and `else` mean all three, in each object where `if` is read
   abbrev pub MakesCondition : Path → N → Cases N → List (KeywordOver K R N) → Type 0
   MakesCondition L n cs ks = (ms : Members) (d : Data) (P : Path) → L ≡ P // codes "if" → Stands o answers n d L → CasesStand o answers cs ms P
-      → has_repeat (map (λ m. m.0) (listed ms)) ≡ false → lookup (codes "if") (listed ms) ≡ Some d → is_condition ms ≡ true
+      → has_repeat (map (λ m. m.0) (listed ms)) ≡ false → lookup_name (codes "if") (listed ms) ≡ Some d → is_condition ms ≡ true
       → KeywordsMean ms ks (claims (head (plan_of ms)) (listed ms) (codes "if", d)) ((codes "if", d) ∷ []) P
 
   -- keywords that are made of the node of `additionalProperties` and of what stands beside it mean all that it takes over, in each object at P that has this plan and where it restricts other members
   abbrev pub MakesRestriction : Path → Option N → Beside R N → Path → Planned → List (KeywordOver K R N) → Type 0
   MakesRestriction L rest b P p ks = (ms : Members) (d : Data) → L ≡ P // codes "additionalProperties" → RestStands o answers rest d L → BesideStands o answers (known_of ms) b ms P
-      → has_repeat (map (λ m. m.0) (listed ms)) ≡ false → lookup (codes "additionalProperties") (listed ms) ≡ Some d → p ≡ plan_of ms
+      → has_repeat (map (λ m. m.0) (listed ms)) ≡ false → lookup_name (codes "additionalProperties") (listed ms) ≡ Some d → p ≡ plan_of ms
       → KeywordsMean ms ks (claims (head p) (listed ms) (codes "additionalProperties", d)) ((codes "additionalProperties", d) ∷ []) P
 
   -- keywords that are made of a part that stays mean what its member claims, in each object at P that has this plan; `if` and `additionalProperties` take what was taken for them
   abbrev pub MakesPart : Shape K R → Path → List N → Taken R N → Path → Planned → List (KeywordOver K R N) → Type 0
   MakesPart x L ns t P p ks = (ms : Members) (m : Name × Data) → L ≡ P // m.0 → IsShape o m.0 m.1 x → Fits o (known_of ms) x → StandAt o answers (reads_of x) ns m.1 L
       → (is_if_shape x ≡ true → CasesStand o answers t.cases ms P) → (is_restriction_shape x ≡ true → BesideStands o answers (known_of ms) t.beside ms P)
-      → has_repeat (map (λ m. m.0) (listed ms)) ≡ false → lookup m.0 (listed ms) ≡ Some m.1 → p ≡ plan_of ms → is_taken p m.0 ≡ false
+      → has_repeat (map (λ m. m.0) (listed ms)) ≡ false → lookup_name m.0 (listed ms) ≡ Some m.1 → p ≡ plan_of ms → is_taken p m.0 ≡ false
       → KeywordsMean ms ks (claims (head p) (listed ms) m) (m ∷ []) P

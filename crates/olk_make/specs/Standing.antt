@@ -1,14 +1,15 @@
 -- What the nodes and the parts of a schema object stand for.
 use Rattle.std.specs.Prelude.{◌≡◌, ⊤, ◌&&◌, ◌||◌, Bool, true, false, not, cond, List, [], ◌∷◌, ◌++◌, map, codes, bytes_eq, Option, Some, None}
 use Rattle.serde_json.specs.Data.{Data, Members}
-use Rattle.olk_spec.specs.Names.{Name, Path, ◌//◌, lookup, those}
+use Rattle.olk_spec.specs.Names.{Name, Path, ◌//◌, lookup_name, filter_once}
 use Rattle.olk_spec.specs.Schemas.{listed, members, numbered, is_array, is_object, is_truth}
 use Rattle.olk_spec.specs.Malformed.{items_of_array}
 use Rattle.olk_base.specs.Kit.{Kit}
 use Rattle.olk_base.specs.declared.pattern.CompiledPattern.{CompiledPattern}
 use Rattle.olk_tree.specs.Tables.{IsTableOf}
 use Rattle.olk_tree.specs.declared.map.SmallMap.{SmallMap}
-use Rattle.olk_tree.specs.Places.{Answers, Stands}
+use Rattle.olk_tree.specs.Answers.{Answers}
+use Rattle.olk_tree.specs.Places.{Stands}
 use Rattle.olk_make.specs.Holding.{StandEach, StandInner}
 use Rattle.olk_read.specs.declared.shape.ReadPlaces.{ReadPlaces}
 use Rattle.olk_read.specs.declared.shape.ReadPlaces.TheVariants.{Nothing, Itself, Entries, SchemaEntries, InnerEntries, Branches}
@@ -30,7 +31,7 @@ is_taken p k = (p.restricted && tells_members k) || (p.condition && is_case k)
 
 -- the members whose parts stay: those that no other keyword takes
 abbrev pub untaken : Planned → List (Name × Data) → List (Name × Data)
-untaken p es = those (λ m. not (is_taken p m.0)) es
+untaken p es = filter_once (λ m. not (is_taken p m.0)) es
 
 abbrev pub is_if_shape : {K R : Type 0} → Shape K R → Bool
 is_if_shape shape.If = true
@@ -80,7 +81,7 @@ module _ {K R N : Type 0} (o : Kit K R) (answers : N → Answers) where
   StandAt Itself (n ∷ []) d L = Stands o answers n d L
   StandAt Itself (n ∷ m ∷ ns) d L = ⊥
   StandAt Entries ns d L = StandEach o answers ns (members d) L
-  StandAt SchemaEntries ns d L = StandEach o answers ns (those (λ e. not (is_array e.1)) (members d)) L
+  StandAt SchemaEntries ns d L = StandEach o answers ns (filter_once (λ e. not (is_array e.1)) (members d)) L
   StandAt InnerEntries ns d L = StandInner o answers ns (members d) L
   StandAt Branches ns d L = StandEach o answers ns (numbered (items_of_array d)) L
 
@@ -128,11 +129,11 @@ module _ {K R N : Type 0} (o : Kit K R) (answers : N → Answers) where
 
   -- in the schema object with the members ms at P, for what stands at `then` and at `else`
   abbrev pub CasesStand : Cases N → Members → Path → Type 0
-  CasesStand cs ms P = Fills (λ n d. Stands o answers n d (P // codes "then")) cs.then_schema (lookup (codes "then") (listed ms)) × Fills (λ n d. Stands o answers n d (P // codes "else")) cs.else_schema (lookup (codes "else") (listed ms))
+  CasesStand cs ms P = Fills (λ n d. Stands o answers n d (P // codes "then")) cs.then_schema (lookup_name (codes "then") (listed ms)) × Fills (λ n d. Stands o answers n d (P // codes "else")) cs.else_schema (lookup_name (codes "else") (listed ms))
 
   -- and for what stands at `properties` and at `patternProperties`
   abbrev pub BesideStands : Known → Beside R N → Members → Path → Type 0
-  BesideStands c b ms P = Fills (λ x. DeclaredStand x (P // codes "properties")) b.properties (lookup (codes "properties") (listed ms)) × Fills (λ x. PatternsStand c x (P // codes "patternProperties")) b.patterns (lookup (codes "patternProperties") (listed ms))
+  BesideStands c b ms P = Fills (λ x. DeclaredStand x (P // codes "properties")) b.properties (lookup_name (codes "properties") (listed ms)) × Fills (λ x. PatternsStand c x (P // codes "patternProperties")) b.patterns (lookup_name (codes "patternProperties") (listed ms))
 
   -- taken out of the parts for the members es by the plan p: the parts that are left, and what was taken
   pub record AreTaken (p : Planned) (c : Known) (es : List (Name × Data)) (P : Path) (t : Taken R N) (ps : List (Part K R N)) : Type 0 where

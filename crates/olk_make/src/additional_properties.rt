@@ -20,19 +20,12 @@ use olk_tree::properties_map::PropertiesMap;
 use std::alloc::{AllocError, Global};
 
 /// The map of the declared names, if there are any.
-///
-/// # Errors
-///
-/// Want of memory.
-fn declared<N: Drop>(
-    alloc: Global,
-    properties: Option<SmallMap<N>>,
-) -> Result<Option<PropertiesMap<N>>, AllocError>
-    ensures { IfOk result (IsMapOf properties) }
+fn declared<N: Drop>(properties: Option<SmallMap<N>>) -> Option<PropertiesMap<N>>
+    ensures { IsMapOf properties result }
 {
     match properties {
-        Some(map) => Ok(Some(map_of(alloc, map.names, map.nodes)?)),
-        None => Ok(None),
+        Some(map) => Some(map_of(map.names, map.nodes)),
+        None => None,
     }
 }
 
@@ -93,7 +86,7 @@ fn form<K, R: Drop, N: Drop>(
         properties,
         patterns,
     } = beside;
-    let properties = declared(alloc, properties)?;
+    let properties = declared(properties);
     let required = required(alloc, plan, place)?;
     let (patterns, table, patterns_location) = match patterns {
         Some(held) => (
@@ -119,7 +112,7 @@ fn form<K, R: Drop, N: Drop>(
 /// or without one where nothing else is expected, and over what stands beside it; with the name
 /// that the plan fuses.
 ///
-/// From [`HASHMAP_THRESHOLD`](olk_spec::HASHMAP_THRESHOLD) names on they are found by their hash.
+/// From [`HASHMAP_THRESHOLD`](olk_spec::HASHMAP_THRESHOLD) names on they stand in a map of many.
 ///
 /// # Errors
 ///

@@ -15,10 +15,10 @@ use crate::{
     additional_properties, all_of, any_of, dependencies, if_, not, one_of, pattern_properties,
     properties, property_dependencies, property_names, required,
 };
-use olk_base::{Leaf, RegexEngine};
+use olk_base::{Leaf, RegexEngine, append};
 use olk_members::Plan;
 use olk_paths::Location;
-use olk_read::{Shape, append};
+use olk_read::Shape;
 use olk_tree::map::SmallMap;
 use olk_tree::node::KeywordOver;
 use olk_tree::place::Place;

@@ -6,9 +6,8 @@ ghost use Rattle.olk_make.specs.Forms.{IsFormOfPatternProperties, IsPatternPrope
 ghost use Rattle.olk_make.specs.Making.{MakesMember};
 ghost use Rattle.olk_read.specs.declared.shape.Shape.TheVariants as shape;
 
-use olk_base::{CompiledPattern, Leaf, RegexEngine};
+use olk_base::{CompiledPattern, Leaf, RegexEngine, append};
 use olk_paths::Location;
-use olk_read::append;
 use olk_tree::node::KeywordOver;
 use olk_tree::pattern_properties::{PatternProperties, SingleValuePatternProperties};
 use olk_tree::place::Place;

@@ -1,7 +1,7 @@
 //! `properties`: making its validator.
 ghost use Rattle.std.specs.Prelude.{◌≡◌, ◌∷◌, [], IfOk, length};
 ghost use Rattle.olk_base.specs.Kit.{kit};
-ghost use Rattle.olk_tree.specs.Answers.{names_in, nodes_in};
+ghost use Rattle.olk_tree.specs.Maps.{names_in, nodes_in};
 ghost use Rattle.olk_tree.specs.Ascending.{Ascend};
 ghost use Rattle.olk_make.specs.Forms.{IsMapFor, IsFormOfProperties, IsProperties};
 ghost use Rattle.olk_members.specs.Plans.{planned};
@@ -20,21 +20,17 @@ use olk_tree::properties::{Properties, SmallPropertiesWithRequired2};
 use olk_tree::properties_map::PropertiesMap;
 use std::alloc::{AllocError, Global};
 
-/// The map of these names, in which many are found by their hash.
-pub(crate) fn map_of<N: Drop>(
-    alloc: Global,
-    names: SortedNames,
-    nodes: Vec<N>,
-) -> Result<PropertiesMap<N>, AllocError>
-    ensures names { IfOk result (λ m. names_in m ≡ names) }
-    ensures nodes { IfOk result (λ m. nodes_in m ≡ nodes.items) }
-    ensures size { IfOk result (IsMapFor (length names)) }
-    ensures ordered { IfOk result (λ m. Ascend names) }
+/// The map of these names.
+pub(crate) fn map_of<N: Drop>(names: SortedNames, nodes: Vec<N>) -> PropertiesMap<N>
+    ensures names { names_in result ≡ names }
+    ensures nodes { nodes_in result ≡ nodes.items }
+    ensures size { IsMapFor (length names) result }
+    ensures ordered { Ascend names }
 {
     if names.len() < HASHMAP_THRESHOLD {
-        return Ok(PropertiesMap::Small(SmallMap { names, nodes }));
+        return PropertiesMap::Small(SmallMap { names, nodes });
     }
-    Ok(PropertiesMap::Big(BigMap::of(alloc, names, nodes)?))
+    PropertiesMap::Big(BigMap { names, nodes })
 }
 
 /// The form that the plan names, in the object at the place.
@@ -50,7 +46,7 @@ fn form<K, R, N: Drop>(
         (planned plan.entry).fused) }
 {
     let Some((first, second)) = plan.fused() else {
-        let properties = map_of(alloc, names, nodes)?;
+        let properties = map_of(names, nodes);
         return Ok(KeywordOver::Properties(Properties {
             properties,
             location,
@@ -72,7 +68,7 @@ fn form<K, R, N: Drop>(
 /// The validator of the declared names' nodes in the object at the place, and of the names that the
 /// plan fuses.
 ///
-/// From [`HASHMAP_THRESHOLD`] names on they are found by their hash, where none are fused.
+/// From [`HASHMAP_THRESHOLD`] names on they stand in a map of many, where none are fused.
 ///
 /// # Errors
 ///

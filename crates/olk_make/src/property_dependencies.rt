@@ -6,9 +6,8 @@ ghost use Rattle.olk_make.specs.Forms.{IsPropertyDependencies, AreCut};
 ghost use Rattle.olk_make.specs.Making.{MakesMember};
 ghost use Rattle.olk_read.specs.declared.shape.Shape.TheVariants as shape;
 
-use olk_base::{Leaf, RegexEngine};
+use olk_base::{Leaf, RegexEngine, append};
 use olk_paths::Location;
-use olk_read::append;
 use olk_tree::map::{SmallMap, SortedNames};
 use olk_tree::node::KeywordOver;
 use olk_tree::place::Place;

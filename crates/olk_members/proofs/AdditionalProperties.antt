@@ -4,8 +4,10 @@ use Rattle.std.specs.List.{list_all, flat_map}
 use Rattle.std.proofs.Common.{refl, sym, ◌∙◌, ap}
 use Rattle.std.proofs.lemmas.List.{append-nil}
 use Rattle.std.proofs.lemmas.List.Sums.{sum_by-cons}
+use Rattle.std.proofs.Math.Bool.{and-true, or-true, not-not}
+use Rattle.olk_spec.proofs.Logic.{nil_of_is_empty}
 use Rattle.serde_json.specs.Data.{Data, null, boolean, number, string, array, object, Members}
-use Rattle.olk_spec.specs.Names.{Name, Path, ◌//◌, down, lookup, those, put_if, is_empty}
+use Rattle.olk_spec.specs.Names.{Name, Path, ◌//◌, down, lookup_name, filter_once, put_if, is_empty}
 use Rattle.olk_spec.specs.World.{World}
 use Rattle.olk_spec.specs.Vocabulary.{additional_properties}
 use Rattle.olk_spec.specs.Faults.{Fault}
@@ -13,16 +15,15 @@ use Rattle.olk_spec.specs.Schemas.{Sub, read, read_members, members, is_object, 
 use Rattle.olk_spec.specs.Meanings.{Meaning, Asked, asked}
 use Rattle.olk_spec.specs.Meaning.{accepts, asks, report, meaning, meaning_step}
 use Rattle.olk_spec.specs.Reports.{unexpected_faults, own}
-use Rattle.olk_spec.proofs.Truth.{and_true, or_true, and_first, and_second, not_not}
-use Rattle.olk_spec.proofs.Walks.{list_all-those}
+use Rattle.olk_spec.proofs.Truth.{and_first, and_second}
+use Rattle.olk_spec.proofs.Walks.{list_all-filter_once}
 use Rattle.olk_spec.proofs.Reading.{place, whole_read}
 use Rattle.olk_members.specs.Members.{member_accepts, member_asks, member_report}
 use Rattle.olk_members.specs.AdditionalProperties.{declared_beside, patterns_beside, has_beside, is_other, other_members, rest_accepts, rest_report, rest_asks, others_report, declared_at, matching_at, is_declared_in, declared_accepts, matching_accept, each_accepts, declared_report, matching_report, each_report}
 use Rattle.olk_members.proofs.Listed.{among_found}
 use Rattle.olk_members.proofs.TakenOver.{absent_if}
-use mathlib.Core.Bool.{true≢false}
 use Rattle.olk_members.proofs.Beside.{additional_read, neighbour_read}
-use Rattle.olk_members.proofs.Exchanged.{sum_of_none, sum_of_those, flat_map-those}
+use Rattle.olk_members.proofs.Exchanged.{sum_of_none, sum_of_those, flat_map-filter_once}
 use Rattle.olk_members.proofs.Facts.{nothing_last}
 
 -- ---- walks over what is asked where a test holds
@@ -45,18 +46,18 @@ nothing_of_each [] = refl
 nothing_of_each (x ∷ xs) = nothing_of_each xs
 
 -- none passes a test where each that passes would be refused
-none_passes : {X : Type 0} (t : X → Bool) (xs : List X) → is_empty (those t xs) ≡ list_all (λ x. not (t x) || false) xs
+none_passes : {X : Type 0} (t : X → Bool) (xs : List X) → is_empty (filter_once t xs) ≡ list_all (λ x. not (t x) || false) xs
 none_passes t [] = refl
 none_passes t (x ∷ xs) = by (t x) (none_passes t xs)
   where
-    by : (b : Bool) → is_empty (those t xs) ≡ list_all (λ y. not (t y) || false) xs → is_empty (put_if b x (those t xs)) ≡ ((not b || false) && list_all (λ y. not (t y) || false) xs)
+    by : (b : Bool) → is_empty (filter_once t xs) ≡ list_all (λ y. not (t y) || false) xs → is_empty (put_if b x (filter_once t xs)) ≡ ((not b || false) && list_all (λ y. not (t y) || false) xs)
     by true e = refl
     by false e = e
 
 -- each passes where nothing is refused
 pub each_passes : {X : Type 0} (t : X → Bool) (xs : List X) → true ≡ list_all (λ x. not (t x) || true) xs
 each_passes t [] = refl
-each_passes t (x ∷ xs) = each_passes t xs ∙ ap (λ b. b && list_all (λ y. not (t y) || true) xs) (sym (or_true (not (t x))))
+each_passes t (x ∷ xs) = each_passes t xs ∙ ap (λ b. b && list_all (λ y. not (t y) || true) xs) (sym (or-true (not (t x))))
 
 -- false accepts nothing, and asks nothing
 pub false_accepts_none : (W : World) (u : Bool) (v : Data) → accepts W u (boolean false) v ≡ false
@@ -98,7 +99,7 @@ module _ (W : World) (ms : Members) (d : Data) (u : Bool) (v : Data) where
 
       by : (d : Data) → (list_all (λ a. a.sub.answer.accepts a.value) (asked_by (place (meaning_step W u) d) others) && (not (is_truth false d) || is_empty others)) ≡ list_all (rest_accepts W u fs es d) (members v)
       by (boolean false) = ap (λ l. list_all (λ a. a.sub.answer.accepts a.value) l && is_empty others) (nothing_of_each others) ∙ none_passes (λ x. is_other W u fs es x.0) (members v)
-      by (object gs) = and_true _ ∙ all_of_each (asked_of (place (meaning_step W u) (object gs))) (λ a. a.sub.answer.accepts a.value) others ∙ list_all-those (λ x. accepts W u (object gs) x.1) (λ x. is_other W u fs es x.0) (members v)
+      by (object gs) = and-true _ ∙ all_of_each (asked_of (place (meaning_step W u) (object gs))) (λ a. a.sub.answer.accepts a.value) others ∙ list_all-filter_once (λ x. accepts W u (object gs) x.1) (λ x. is_other W u fs es x.0) (members v)
       by (boolean true) = allowing
       by null = allowing
       by (number n) = allowing
@@ -139,7 +140,7 @@ module _ (W : World) (ms : Members) (d : Data) (u : Bool) (v : Data) where
   additional_report P Q =
       (λ i. flat_map (λ a. a.sub.answer.report a.value (down P a.in_schema) (down Q a.in_instance)) (asked_by (whole_read (meaning_step W u) d i) (additional_read (meaning_step W u) ms W u v i)) ++ own_others P Q i)
       ∙ ap (λ l. l ++ others_report W u fs es P Q (has_beside ms) d v)
-      (by (is_object d) ∙ flat_map-those (λ x. is_other W u fs es x.0) (λ x. cond (is_object d) (report W u d x.1 (P // codes "additionalProperties") (Q // x.0)) []) (members v))
+      (by (is_object d) ∙ flat_map-filter_once (λ x. is_other W u fs es x.0) (λ x. cond (is_object d) (report W u d x.1 (P // codes "additionalProperties") (Q // x.0)) []) (members v))
     where
       by : (b : Bool) → flat_map (λ (a : Asked). a.sub.answer.report a.value (down P a.in_schema) (down Q a.in_instance)) (flat_map (λ x. put_if b (asked_of (place (meaning_step W u) d) x) []) others)
           ≡ flat_map (λ x. cond b (report W u d x.1 (P // codes "additionalProperties") (Q // x.0)) []) others
@@ -148,23 +149,19 @@ module _ (W : World) (ms : Members) (d : Data) (u : Bool) (v : Data) where
 
 -- ---- a member by cases: it is declared or matched, or it is another
 
-nothing_where : {X : Type 0} (xs : List X) → is_empty xs ≡ true → xs ≡ []
-nothing_where [] e = refl
-nothing_where (x ∷ xs) e = absurd (true≢false (sym e))
-
 module _ (W : World) (u : Bool) (fs es : List (Name × Data)) where
   -- another is neither
   pub other_has_neither : (n : Name) → is_other W u fs es n ≡ true → (declared_at fs n ≡ []) × (matching_at W u es n ≡ [])
   other_has_neither n e = (
-    ap option_to_list (absent_if (lookup n fs) (sym (among_found n fs) ∙ sym (not_not (is_declared_in fs n)) ∙ ap not (and_first (not (is_declared_in fs n)) (is_empty (matching_at W u es n)) e))),
-    nothing_where (matching_at W u es n) (and_second (not (is_declared_in fs n)) (is_empty (matching_at W u es n)) e),
+    ap option_to_list (absent_if (lookup_name n fs) (sym (among_found n fs) ∙ sym (not-not (is_declared_in fs n)) ∙ ap not (and_first (not (is_declared_in fs n)) (is_empty (matching_at W u es n)) e))),
+    nil_of_is_empty (matching_at W u es n) (and_second (not (is_declared_in fs n)) (is_empty (matching_at W u es n)) e),
   )
 
   pub accepts_by_case : (d : Data) (x : Name × Data) → each_accepts W u fs es d x ≡ cond (is_other W u fs es x.0) (accepts W u d x.1) (declared_accepts W u fs es x && matching_accept W u fs es x)
   accepts_by_case d x = by (is_other W u fs es x.0) refl
     where
       by : (b : Bool) → is_other W u fs es x.0 ≡ b → (declared_accepts W u fs es x && matching_accept W u fs es x && (not b || accepts W u d x.1)) ≡ cond b (accepts W u d x.1) (declared_accepts W u fs es x && matching_accept W u fs es x)
-      by false q = and_true _
+      by false q = and-true _
       by true q = let h = other_has_neither x.0 q in λ i. list_all (λ s. accepts W u s x.1) (h.0 i) && list_all (λ e. accepts W u e.1 x.1) (h.1 i) && accepts W u d x.1
 
   pub report_by_case : (P Q : Path) (d : Data) (x : Name × Data) → each_report W u fs es P Q d x ≡ cond (is_other W u fs es x.0) (cond (is_object d) (report W u d x.1 (P // codes "additionalProperties") (Q // x.0)) []) (declared_report W u fs es P Q x ++ matching_report W u fs es P Q x)

@@ -3,11 +3,11 @@ use Rattle.std.specs.Prelude.{◌≡◌, ⊤, ◌||◌, map, Bool, true, false, 
 use Rattle.std.specs.List.{list_all}
 use Rattle.std.proofs.Common.{refl, sym, ◌∙◌, ap, subst, ◌⊎◌, inl, inr}
 use Rattle.std.proofs.lemmas.List.Sorted.{IsPermutation-refl, IsPermutation-trans, IsPermutation-append}
-use Rattle.olk_spec.proofs.Truth.{or_false}
+use Rattle.std.proofs.Math.Bool.{or-false}
 use mathlib.Core.Bool.{true≢false}
 use mathlib.Core.Path.{subst₂}
 use Rattle.serde_json.specs.Data.{Data, string, array, no_items, item, Members}
-use Rattle.olk_spec.specs.Names.{Name, lookup, is_among, those}
+use Rattle.olk_spec.specs.Names.{Name, lookup_name, is_among, filter_once}
 use Rattle.olk_spec.specs.Schemas.{listed}
 use Rattle.olk_spec.specs.Malformed.{has_repeat}
 use Rattle.olk_spec.proofs.Each.{Each}
@@ -15,7 +15,7 @@ use Rattle.olk_spec.proofs.Order.{along_permutation}
 use Rattle.olk_spec.proofs.Walks.{same_name, bytes_eq-sym, Distinct, Distinct-from, Each-found}
 use Rattle.olk_members.specs.Conditions.{is_condition, is_restricted}
 use Rattle.olk_members.specs.Plans.{Planned, plan_of, is_case, tells_members, is_taken_over, head, claims}
-use Rattle.olk_members.proofs.Heads.{those_split, those_none, those-same, names_of}
+use Rattle.olk_members.proofs.Heads.{those_split, those_none, filter_once-same, names_of}
 use Rattle.olk_members.specs.Fused.{declares_few, allows_others, two_names, fused_names, fused_name}
 pub use Rattle.olk_members.proofs.Listed.{members_named, members_found, named_once, found_each, present_each}
 use Rattle.olk_members.proofs.Listed.{lookup_among}
@@ -40,10 +40,10 @@ listing t = array (item (string t.0) (item (string t.1) no_items))
 -- the names are two that `required` lists beside `properties` of few names, and each of the two keywords stands once
 pub record Fuses (ms : Members) (t : Name × Name) : Type 0 where
   pub value : Data
-  pub declared : lookup (codes "properties") (listed ms) ≡ Some value
+  pub declared : lookup_name (codes "properties") (listed ms) ≡ Some value
   pub few : declares_few (Some value) ≡ true
   pub differ : bytes_eq t.0 t.1 ≡ false
-  pub listed_at : lookup (codes "required") (listed ms) ≡ Some (listing t)
+  pub listed_at : lookup_name (codes "required") (listed ms) ≡ Some (listing t)
   pub required : members_named (codes "required") (listed ms) ≡ (codes "required", listing t) ∷ []
 
 abbrev AreFused : Members → Option (Name × Name) → Type 0
@@ -75,9 +75,9 @@ are_fused : (ms : Members) (o : Option (Name × Name)) → Distinct (listed ms) 
 are_fused ms None h e = tt
 are_fused ms (Some t) h e =
     let es = listed ms in
-    let w = where_few _ _ (allows_others (lookup (codes "additionalProperties") es)) (two_names (lookup (codes "required") es)) t (sym e) in
-    let d = declared_value (lookup (codes "properties") es) w.0 in
-    let r = listed_names (lookup (codes "required") es) t w.1 in
+    let w = where_few _ _ (allows_others (lookup_name (codes "additionalProperties") es)) (two_names (lookup_name (codes "required") es)) t (sym e) in
+    let d = declared_value (lookup_name (codes "properties") es) w.0 in
+    let r = listed_names (lookup_name (codes "required") es) t w.1 in
     record {
       value = d.0;
       declared = d.1;
@@ -157,7 +157,7 @@ head_of_both t c n = by (bytes_eq (codes "required") n)
   where
     by : (b : Bool) → bytes_eq (codes "properties") (cond b (codes "properties") (cond (c && is_case n) (codes "if") n)) ≡ (bytes_eq (codes "properties") n || b)
     by true = or_true (bytes_eq (codes "properties") n)
-    by false = past_cases c (codes "properties") n (λ e. (refl, refl)) ∙ sym (or_false (bytes_eq (codes "properties") n))
+    by false = past_cases c (codes "properties") n (λ e. (refl, refl)) ∙ sym (or-false (bytes_eq (codes "properties") n))
 
 head_of_none : (t : Name × Name) (c : Bool) (n : Name) → bytes_eq (codes "required") (head (fusing t c) n) ≡ false
 head_of_none t c n = by (bytes_eq (codes "required") n) refl
@@ -170,7 +170,7 @@ names_differ : (n : Name) → bytes_eq (codes "properties") n ≡ true → bytes
 names_differ n e = ap (bytes_eq (codes "required")) (sym (same_name (codes "properties") n e))
 
 pub claims_nothing : (t : Name × Name) (c : Bool) (es : List (Name × Data)) (d : Data) → claims (head (fusing t c)) es (codes "required", d) ≡ []
-claims_nothing t c es d = those-same (λ (x : Name × Data). bytes_eq (codes "required") (head (fusing t c) x.0)) (λ x. false) (λ x. head_of_none t c x.0) es ∙ those_none es
+claims_nothing t c es d = filter_once-same (λ (x : Name × Data). bytes_eq (codes "required") (head (fusing t c) x.0)) (λ x. false) (λ x. head_of_none t c x.0) es ∙ those_none es
 
 -- `if` that is read is the head of `then` and `else` too, and these of none
 head_of_if : (p : Planned) → p.condition ≡ true → (n : Name) → bytes_eq (codes "if") (head p n) ≡ (bytes_eq (codes "if") n || is_case n)
@@ -178,7 +178,7 @@ head_of_if p e n = over (is_taken_over p n) refl
   where
     beside : (b : Bool) → bytes_eq (codes "if") (cond b (codes "if") n) ≡ (bytes_eq (codes "if") n || b)
     beside true = or_true (bytes_eq (codes "if") n)
-    beside false = sym (or_false (bytes_eq (codes "if") n))
+    beside false = sym (or-false (bytes_eq (codes "if") n))
 
     by : (a b : Bool) → bytes_eq (codes "required") n ≡ b → bytes_eq (codes "if") (cond (a && b) (codes "properties") (cond (is_case n) (codes "if") n)) ≡ (bytes_eq (codes "if") n || is_case n)
     by false b q = beside (is_case n)
@@ -210,44 +210,44 @@ case_heads_none p e k h n = ap (λ c. bytes_eq k (cond (is_taken_over p n) (code
     over false = by (is_some p.fused && bytes_eq (codes "required") n) (is_case n) refl
 
 pub claims_no_case : (p : Planned) → p.condition ≡ true → (es : List (Name × Data)) (m : Name × Data) → is_case m.0 ≡ true → claims (head p) es m ≡ []
-claims_no_case p e es m h = those-same (λ (x : Name × Data). bytes_eq m.0 (head p x.0)) (λ x. false) (λ x. case_heads_none p e m.0 h x.0) es ∙ those_none es
+claims_no_case p e es m h = filter_once-same (λ (x : Name × Data). bytes_eq m.0 (head p x.0)) (λ x. false) (λ x. case_heads_none p e m.0 h x.0) es ∙ those_none es
 
 -- `if` is there where it is read
-condition_there : (ms : Members) → is_condition ms ≡ true → (d : Data) × (lookup (codes "if") (listed ms) ≡ Some d)
-condition_there ms e = by (lookup (codes "if") (listed ms)) refl e
+condition_there : (ms : Members) → is_condition ms ≡ true → (d : Data) × (lookup_name (codes "if") (listed ms) ≡ Some d)
+condition_there ms e = by (lookup_name (codes "if") (listed ms)) refl e
   where
-    by : (o : Option Data) → lookup (codes "if") (listed ms) ≡ o → (is_some o && (is_some (lookup (codes "then") (listed ms)) || is_some (lookup (codes "else") (listed ms)))) ≡ true → (d : Data) × (lookup (codes "if") (listed ms) ≡ Some d)
+    by : (o : Option Data) → lookup_name (codes "if") (listed ms) ≡ o → (is_some o && (is_some (lookup_name (codes "then") (listed ms)) || is_some (lookup_name (codes "else") (listed ms)))) ≡ true → (d : Data) × (lookup_name (codes "if") (listed ms) ≡ Some d)
     by (Some d) q h = (d, q)
     by None q h = absurd (true≢false (sym h))
 
 module _ (ms : Members) (distinct : has_repeat (names_of (listed ms)) ≡ false) where
   -- a keyword that is its own head and that of no other claims its own member
-  pub claims_itself : (heads : Name → Name) (m : Name × Data) → ((n : Name) → bytes_eq m.0 (heads n) ≡ bytes_eq m.0 n) → lookup m.0 (listed ms) ≡ Some m.1 → claims heads (listed ms) m ≡ m ∷ []
-  claims_itself heads m same there = those-same (λ (x : Name × Data). bytes_eq m.0 (heads x.0)) (λ x. bytes_eq m.0 x.0) (λ x. same x.0) (listed ms) ∙ named_once m.0 m.1 (listed ms) (Distinct-from (listed ms) distinct) there
+  pub claims_itself : (heads : Name → Name) (m : Name × Data) → ((n : Name) → bytes_eq m.0 (heads n) ≡ bytes_eq m.0 n) → lookup_name m.0 (listed ms) ≡ Some m.1 → claims heads (listed ms) m ≡ m ∷ []
+  claims_itself heads m same there = filter_once-same (λ (x : Name × Data). bytes_eq m.0 (heads x.0)) (λ x. bytes_eq m.0 x.0) (λ x. same x.0) (listed ms) ∙ named_once m.0 m.1 (listed ms) (Distinct-from (listed ms) distinct) there
 
-  pub claims_both : (t : Name × Name) (c : Bool) (d : Data) → lookup (codes "properties") (listed ms) ≡ Some d → Some t ≡ fused_names ms → IsPermutation ((codes "properties", d) ∷ (codes "required", listing t) ∷ []) (claims (head (fusing t c)) (listed ms) (codes "properties", d))
+  pub claims_both : (t : Name × Name) (c : Bool) (d : Data) → lookup_name (codes "properties") (listed ms) ≡ Some d → Some t ≡ fused_names ms → IsPermutation ((codes "properties", d) ∷ (codes "required", listing t) ∷ []) (claims (head (fusing t c)) (listed ms) (codes "properties", d))
   claims_both t c d there e = subst₂ IsPermutation
       (λ i. named_once (codes "properties") d (listed ms) (Distinct-from (listed ms) distinct) there i ++ (fuses ms distinct t e).required i)
-      (those-same (λ (x : Name × Data). bytes_eq (codes "properties") x.0 || bytes_eq (codes "required") x.0) (λ x. bytes_eq (codes "properties") (head (fusing t c) x.0)) (λ x. sym (head_of_both t c x.0)) (listed ms))
+      (filter_once-same (λ (x : Name × Data). bytes_eq (codes "properties") x.0 || bytes_eq (codes "required") x.0) (λ x. bytes_eq (codes "properties") (head (fusing t c) x.0)) (λ x. sym (head_of_both t c x.0)) (listed ms))
       (those_split (λ x. bytes_eq (codes "properties") x.0) (λ x. bytes_eq (codes "required") x.0) (λ x. names_differ x.0) (listed ms))
 
   -- `if` that is read stands for itself, `then` and `else`
-  pub claims_condition : (p : Planned) → p.condition ≡ true → (d : Data) → lookup (codes "if") (listed ms) ≡ Some d
+  pub claims_condition : (p : Planned) → p.condition ≡ true → (d : Data) → lookup_name (codes "if") (listed ms) ≡ Some d
       → IsPermutation ((codes "if", d) ∷ members_named (codes "then") (listed ms) ++ members_named (codes "else") (listed ms)) (claims (head p) (listed ms) (codes "if", d))
   claims_condition p e d there = subst₂ IsPermutation
       (λ i. named_once (codes "if") d (listed ms) (Distinct-from (listed ms) distinct) there i ++ (members_named (codes "then") (listed ms) ++ members_named (codes "else") (listed ms)))
-      (those-same (λ (x : Name × Data). bytes_eq (codes "if") x.0 || is_case x.0) (λ x. bytes_eq (codes "if") (head p x.0)) (λ x. sym (head_of_if p e x.0)) (listed ms))
+      (filter_once-same (λ (x : Name × Data). bytes_eq (codes "if") x.0 || is_case x.0) (λ x. bytes_eq (codes "if") (head p x.0)) (λ x. sym (head_of_if p e x.0)) (listed ms))
       (IsPermutation-trans _ _ _
       (IsPermutation-append _ _ _ _ (IsPermutation-refl (members_named (codes "if") (listed ms))) cases)
       (those_split (λ x. bytes_eq (codes "if") x.0) (λ x. is_case x.0) (λ x q. ap is_case (sym (same_name (codes "if") x.0 q))) (listed ms)))
     where
-      cases : IsPermutation (members_named (codes "then") (listed ms) ++ members_named (codes "else") (listed ms)) (those (λ x. is_case x.0) (listed ms))
+      cases : IsPermutation (members_named (codes "then") (listed ms) ++ members_named (codes "else") (listed ms)) (filter_once (λ x. is_case x.0) (listed ms))
       cases = subst (λ l. IsPermutation (members_named (codes "then") (listed ms) ++ members_named (codes "else") (listed ms)) l)
-          (those-same (λ (x : Name × Data). bytes_eq (codes "then") x.0 || bytes_eq (codes "else") x.0) (λ x. is_case x.0) (λ x i. bytes_eq-sym (codes "then") x.0 i || (bytes_eq-sym (codes "else") x.0 ∙ sym (or_false (bytes_eq x.0 (codes "else")))) i) (listed ms))
+          (filter_once-same (λ (x : Name × Data). bytes_eq (codes "then") x.0 || bytes_eq (codes "else") x.0) (λ x. is_case x.0) (λ x i. bytes_eq-sym (codes "then") x.0 i || (bytes_eq-sym (codes "else") x.0 ∙ sym (or-false (bytes_eq x.0 (codes "else")))) i) (listed ms))
           (those_split (λ x. bytes_eq (codes "then") x.0) (λ x. bytes_eq (codes "else") x.0) (λ x q. ap (bytes_eq (codes "else")) (sym (same_name (codes "then") x.0 q))) (listed ms))
 
   -- the head of each member is there
-  head_there : (p : Planned) → p ≡ plan_of ms → (x : Name × Data) → lookup x.0 (listed ms) ≡ Some x.1 → is_among (head p x.0) (names_of (listed ms)) ≡ true
+  head_there : (p : Planned) → p ≡ plan_of ms → (x : Name × Data) → lookup_name x.0 (listed ms) ≡ Some x.1 → is_among (head p x.0) (names_of (listed ms)) ≡ true
   head_there p e x there = over p.restricted (ap (λ q. q.restricted) e) p.fused_one (ap (λ q. q.fused_one) e) (tells_members x.0) (bytes_eq (codes "required") x.0)
     where
       there_itself : is_among x.0 (names_of (listed ms)) ≡ true
@@ -282,6 +282,6 @@ module _ (ms : Members) (distinct : has_repeat (names_of (listed ms)) ≡ false)
   pub heads_there : (p : Planned) → p ≡ plan_of ms → Each (λ x. is_among (head p x.0) (names_of (listed ms)) ≡ true) (listed ms)
   heads_there p e = along (listed ms) (Each-found (listed ms) (Distinct-from (listed ms) distinct))
     where
-      along : (es : List (Name × Data)) → Each (λ x. lookup x.0 (listed ms) ≡ Some x.1) es → Each (λ x. is_among (head p x.0) (names_of (listed ms)) ≡ true) es
+      along : (es : List (Name × Data)) → Each (λ x. lookup_name x.0 (listed ms) ≡ Some x.1) es → Each (λ x. is_among (head p x.0) (names_of (listed ms)) ≡ true) es
       along [] h = tt
       along (x ∷ es) h = (head_there p e x h.0, along es h.1)

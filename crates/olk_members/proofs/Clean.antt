@@ -6,12 +6,11 @@ use Rattle.std.specs.Cmp.Lexicographic.{slice_cmp}
 use Rattle.std.specs.declared.cmp.Ordering.{Ordering}
 use Rattle.std.specs.declared.cmp.Ordering.TheVariants.{Less, Equal, Greater}
 use Rattle.std.proofs.Common.{refl, sym, ◌∙◌, ap}
-use Rattle.std.proofs.lemmas.List.{append-nil}
-use Rattle.std.proofs.lemmas.List.{length-map}
+use Rattle.std.proofs.lemmas.List.{append-nil, length-map}
 use Rattle.std.proofs.lemmas.Map.Text.{is_eq-slice_cmp}
 use mathlib.Core.Bool.{true≢false}
 use Rattle.serde_json.specs.Data.{Data, boolean, string, array, object, no_items, item, Members}
-use Rattle.olk_spec.specs.Names.{Name, Path, ◌//◌, lookup, first_if_equal, is_empty}
+use Rattle.olk_spec.specs.Names.{Name, Path, ◌//◌, lookup_name, first_if_equal, is_empty}
 use Rattle.olk_spec.specs.World.{World}
 use Rattle.olk_spec.specs.Vocabulary.{keyword_named}
 use Rattle.olk_spec.specs.Schemas.{Schema, read_members, listed, members, texts, is_object, entries_at, names_at}
@@ -90,21 +89,21 @@ module _ {X : Type 0} (step : Schema X → X) where
 -- ---- an object in which nothing is malformed
 
 module _ (W : World) (ms : Members) (P : Path) where
-  clean_among : (es : List (Name × Data)) → flat_map (λ m. member_malformations W ms m (keyword_named W m.0) P) es ≡ [] → (k : Name) (d : Data) → lookup k es ≡ Some d → member_malformations W ms (k, d) (keyword_named W k) P ≡ []
+  clean_among : (es : List (Name × Data)) → flat_map (λ m. member_malformations W ms m (keyword_named W m.0) P) es ≡ [] → (k : Name) (d : Data) → lookup_name k es ≡ Some d → member_malformations W ms (k, d) (keyword_named W k) P ≡ []
   clean_among [] e k d f = absurd (true≢false (sym (ap is_some f)))
   clean_among (m ∷ es) e k d f =
       let h = nothing_in (member_malformations W ms m (keyword_named W m.0) P) (flat_map (λ x. member_malformations W ms x (keyword_named W x.0) P) es) e in
       by (slice_cmp nat_cmp k m.0) (is_eq-slice_cmp k m.0) f h.0 (clean_among es h.1 k d)
     where
-      by : (o : Ordering) → is_eq o ≡ bytes_eq k m.0 → first_if_equal o m.1 (lookup k es) ≡ Some d → member_malformations W ms m (keyword_named W m.0) P ≡ []
-          → (lookup k es ≡ Some d → member_malformations W ms (k, d) (keyword_named W k) P ≡ []) → member_malformations W ms (k, d) (keyword_named W k) P ≡ []
+      by : (o : Ordering) → is_eq o ≡ bytes_eq k m.0 → first_if_equal o m.1 (lookup_name k es) ≡ Some d → member_malformations W ms m (keyword_named W m.0) P ≡ []
+          → (lookup_name k es ≡ Some d → member_malformations W ms (k, d) (keyword_named W k) P ≡ []) → member_malformations W ms (k, d) (keyword_named W k) P ≡ []
       by Less q g h rest = rest g
       by Greater q g h rest = rest g
       by Equal q g h rest = let same = same_name k m.0 (sym q) in (λ i. member_malformations W ms (same i, unwrap_or (sym g i) d) (keyword_named W (same i)) P) ∙ h
 
 module _ (W : World) (ms : Members) (P : Path) (clean : flat_map (λ m. member_malformations W ms m (keyword_named W m.0) P) (listed ms) ≡ []) where
   abbrev at_name : Name → Option Data
-  at_name k = lookup k (listed ms)
+  at_name k = lookup_name k (listed ms)
 
   an_object : IsObject (at_name (codes "properties"))
   an_object = by (at_name (codes "properties")) refl
@@ -168,5 +167,5 @@ module _ (W : World) (ms : Members) (P : Path) (clean : flat_map (λ m. member_m
         listed_names : names_at (read_members step ms) (codes "required") ≡ flat_map texts (option_to_list (at_name (codes "required")))
         listed_names = names_at_read step ms (codes "required") ∙ ap (λ o. flat_map texts (option_to_list o)) (sym (lookup_listed (codes "required") ms))
 
-pub names_fused : {X : Type 0} (step : Schema X → X) (ms : Members) (t : Name × Name) → lookup (codes "required") (listed ms) ≡ Some (listing t) → names_at (read_members step ms) (codes "required") ≡ t.0 ∷ t.1 ∷ []
+pub names_fused : {X : Type 0} (step : Schema X → X) (ms : Members) (t : Name × Name) → lookup_name (codes "required") (listed ms) ≡ Some (listing t) → names_at (read_members step ms) (codes "required") ≡ t.0 ∷ t.1 ∷ []
 names_fused step ms t e = names_there step ms (codes "required") (listing t) (sym (lookup_listed (codes "required") ms) ∙ e)

@@ -5,9 +5,10 @@ use Rattle.std.proofs.Common.{refl, sym, ◌∙◌, ap, subst}
 use Rattle.std.proofs.lemmas.List.{append-nil, append_assoc}
 use Rattle.std.proofs.lemmas.List.Folds.{list_all-map}
 use Rattle.std.proofs.lemmas.List.Sums.{sum_by-cons}
+use Rattle.std.proofs.Math.Bool.{and-false, and-true}
 use mathlib.Core.Path.{subst₂}
 use Rattle.serde_json.specs.Data.{Data, Members}
-use Rattle.olk_spec.specs.Names.{Name, Path, ◌//◌, down, is_empty, those, put_if}
+use Rattle.olk_spec.specs.Names.{Name, Path, ◌//◌, down, is_empty, filter_once, put_if}
 use Rattle.olk_spec.specs.World.{World}
 use Rattle.olk_spec.specs.Vocabulary.{dependent_required, dependent_schemas, dependencies}
 use Rattle.olk_spec.specs.Faults.{Fault, ◌∼◌, like_empty, like_through}
@@ -19,9 +20,9 @@ use Rattle.olk_spec.specs.Reports.{required_faults}
 use Rattle.olk_spec.specs.Tree.{plain, erring}
 use Rattle.olk_spec.specs.Malformed.{each, own_refusals, read_places, unless_object, not_a_text, name_list_refusals, malformations_step, malformations_at}
 use Rattle.olk_spec.specs.Costs.{cost, cost_step, no_cost, total_cost}
-use Rattle.olk_spec.proofs.Truth.{and_true, and_first, and_second}
+use Rattle.olk_spec.proofs.Truth.{and_first, and_second}
 use Rattle.olk_spec.proofs.Order.{∼_before, ∼_behind, ∼_swap}
-use Rattle.olk_spec.proofs.Maps.{flat_map-map, map-map, those-map}
+use Rattle.olk_spec.proofs.Maps.{flat_map-map, map-map, filter_once-map}
 use Rattle.olk_spec.proofs.Reading.{entry, entries_read, schema_of_read}
 use Rattle.olk_members.specs.Members.{member_accepts, member_asks, member_report, member_child, member_malformations, member_cost}
 use Rattle.olk_members.specs.Dependencies.{due_entries, list_entries, schema_entries, are_lists, dependency_accepts, dependency_asks, dependency_report, dependency_shown}
@@ -31,21 +32,17 @@ use Rattle.olk_members.proofs.Children.{whole_shown}
 
 -- ---- those of a list, in two parts
 
-and_false : (b : Bool) → (b && false) ≡ false
-and_false true = refl
-and_false false = refl
-
 module _ {X : Type 0} (h a : X → Bool) where
-  those-those : (xs : List X) → those h (those a xs) ≡ those (λ x. h x && a x) xs
-  those-those [] = refl
-  those-those (x ∷ xs) = by (a x) (those-those xs)
+  filter_once-filter_once : (xs : List X) → filter_once h (filter_once a xs) ≡ filter_once (λ x. h x && a x) xs
+  filter_once-filter_once [] = refl
+  filter_once-filter_once (x ∷ xs) = by (a x) (filter_once-filter_once xs)
     where
-      by : (b : Bool) → those h (those a xs) ≡ those (λ y. h y && a y) xs → those h (put_if b x (those a xs)) ≡ put_if (h x && b) x (those (λ y. h y && a y) xs)
-      by true e = λ i. put_if (sym (and_true (h x)) i) x (e i)
-      by false e = e ∙ ap (λ b. put_if b x (those (λ y. h y && a y) xs)) (sym (and_false (h x)))
+      by : (b : Bool) → filter_once h (filter_once a xs) ≡ filter_once (λ y. h y && a y) xs → filter_once h (put_if b x (filter_once a xs)) ≡ put_if (h x && b) x (filter_once (λ y. h y && a y) xs)
+      by true e = λ i. put_if (sym (and-true (h x)) i) x (e i)
+      by false e = e ∙ ap (λ b. put_if b x (filter_once (λ y. h y && a y) xs)) (sym (and-false (h x)))
 
 module _ {X : Type 0} (a : X → Bool) where
-  all_those : (xs : List X) → list_all a xs ≡ true → those a xs ≡ xs
+  all_those : (xs : List X) → list_all a xs ≡ true → filter_once a xs ≡ xs
   all_those [] e = refl
   all_those (x ∷ xs) e = λ i. put_if (and_first (a x) (list_all a xs) e i) x (all_those xs (and_second (a x) (list_all a xs) e) i)
 
@@ -61,64 +58,64 @@ and_around false b c d e = refl
 -- each answers by its part
 module _ {X : Type 0} (h a : X → Bool) where
   abbrev unlike : List X → List X
-  unlike xs = those (λ x. h x && not (a x)) xs
+  unlike xs = filter_once (λ x. h x && not (a x)) xs
 
   abbrev alike : List X → List X
-  alike xs = those (λ x. h x && a x) xs
+  alike xs = filter_once (λ x. h x && a x) xs
 
   module _ (f g c : X → Bool) (same : (x : X) → c x ≡ cond (a x) (g x) (f x)) where
-    all_parted : (xs : List X) → (list_all f (unlike xs) && list_all g (alike xs)) ≡ list_all c (those h xs)
+    all_parted : (xs : List X) → (list_all f (unlike xs) && list_all g (alike xs)) ≡ list_all c (filter_once h xs)
     all_parted [] = refl
     all_parted (x ∷ xs) = by (h x) (a x) (same x) (all_parted xs)
       where
-        by : (p q : Bool) → c x ≡ cond q (g x) (f x) → (list_all f (unlike xs) && list_all g (alike xs)) ≡ list_all c (those h xs) → (list_all f (put_if (p && not q) x (unlike xs)) && list_all g (put_if (p && q) x (alike xs))) ≡ list_all c (put_if p x (those h xs))
-        by true true e r = and_between _ (g x) _ _ r ∙ ap (λ b. b && list_all c (those h xs)) (sym e)
-        by true false e r = and_around (f x) _ _ _ r ∙ ap (λ b. b && list_all c (those h xs)) (sym e)
+        by : (p q : Bool) → c x ≡ cond q (g x) (f x) → (list_all f (unlike xs) && list_all g (alike xs)) ≡ list_all c (filter_once h xs) → (list_all f (put_if (p && not q) x (unlike xs)) && list_all g (put_if (p && q) x (alike xs))) ≡ list_all c (put_if p x (filter_once h xs))
+        by true true e r = and_between _ (g x) _ _ r ∙ ap (λ b. b && list_all c (filter_once h xs)) (sym e)
+        by true false e r = and_around (f x) _ _ _ r ∙ ap (λ b. b && list_all c (filter_once h xs)) (sym e)
         by false q e r = r
 
   module _ (f c : X → ℕ) (same : (x : X) → c x ≡ cond (a x) 0 (f x)) where
-    sum_parted : (xs : List X) → sum_by f (unlike xs) ≡ sum_by c (those h xs)
+    sum_parted : (xs : List X) → sum_by f (unlike xs) ≡ sum_by c (filter_once h xs)
     sum_parted [] = refl
     sum_parted (x ∷ xs) = by (h x) (a x) (same x) (sum_parted xs)
       where
-        by : (p q : Bool) → c x ≡ cond q 0 (f x) → sum_by f (unlike xs) ≡ sum_by c (those h xs) → sum_by f (put_if (p && not q) x (unlike xs)) ≡ sum_by c (put_if p x (those h xs))
-        by true true e r = r ∙ sym (nothing_first _) ∙ ap (λ n. n + sum_by c (those h xs)) (sym e) ∙ sym (sum_by-cons c x (those h xs))
-        by true false e r = sum_by-cons f x (unlike xs) ∙ (λ i. sym e i + r i) ∙ sym (sum_by-cons c x (those h xs))
+        by : (p q : Bool) → c x ≡ cond q 0 (f x) → sum_by f (unlike xs) ≡ sum_by c (filter_once h xs) → sum_by f (put_if (p && not q) x (unlike xs)) ≡ sum_by c (put_if p x (filter_once h xs))
+        by true true e r = r ∙ sym (nothing_first _) ∙ ap (λ n. n + sum_by c (filter_once h xs)) (sym e) ∙ sym (sum_by-cons c x (filter_once h xs))
+        by true false e r = sum_by-cons f x (unlike xs) ∙ (λ i. sym e i + r i) ∙ sym (sum_by-cons c x (filter_once h xs))
         by false q e r = r
 
   module _ (f g c : X → List Fault) (same : (x : X) → c x ≡ cond (a x) (g x) (f x)) where
-    found_parted : (xs : List X) → flat_map f (unlike xs) ++ flat_map g (alike xs) ∼ flat_map c (those h xs)
+    found_parted : (xs : List X) → flat_map f (unlike xs) ++ flat_map g (alike xs) ∼ flat_map c (filter_once h xs)
     found_parted [] = like_empty
     found_parted (x ∷ xs) = by (h x) (a x) (same x) (flat_map f (unlike xs)) (flat_map g (alike xs)) refl refl (found_parted xs)
       where
-        by : (p q : Bool) → c x ≡ cond q (g x) (f x) → (l r : List Fault) → flat_map f (unlike xs) ≡ l → flat_map g (alike xs) ≡ r → l ++ r ∼ flat_map c (those h xs)
-            → flat_map f (put_if (p && not q) x (unlike xs)) ++ flat_map g (put_if (p && q) x (alike xs)) ∼ flat_map c (put_if p x (those h xs))
-        by true true e l r el er k = subst₂ (λ y z. y ∼ z ++ flat_map c (those h xs)) (λ i. sym el i ++ (g x ++ sym er i)) (sym e)
+        by : (p q : Bool) → c x ≡ cond q (g x) (f x) → (l r : List Fault) → flat_map f (unlike xs) ≡ l → flat_map g (alike xs) ≡ r → l ++ r ∼ flat_map c (filter_once h xs)
+            → flat_map f (put_if (p && not q) x (unlike xs)) ++ flat_map g (put_if (p && q) x (alike xs)) ∼ flat_map c (put_if p x (filter_once h xs))
+        by true true e l r el er k = subst₂ (λ y z. y ∼ z ++ flat_map c (filter_once h xs)) (λ i. sym el i ++ (g x ++ sym er i)) (sym e)
             (like_through (subst₂ (λ y z. y ∼ z) (append_assoc l (g x) r) (append_assoc (g x) l r) (∼_behind r (∼_swap l (g x)))) (∼_before (g x) k))
-        by true false e l r el er k = subst₂ (λ y z. y ∼ z ++ flat_map c (those h xs)) (sym (append_assoc (f x) l r) ∙ (λ i. (f x ++ sym el i) ++ sym er i)) (sym e) (∼_before (f x) k)
-        by false q e l r el er k = subst (λ y. y ∼ flat_map c (those h xs)) (λ i. sym el i ++ sym er i) k
+        by true false e l r el er k = subst₂ (λ y z. y ∼ z ++ flat_map c (filter_once h xs)) (sym (append_assoc (f x) l r) ∙ (λ i. (f x ++ sym el i) ++ sym er i)) (sym e) (∼_before (f x) k)
+        by false q e l r el er k = subst (λ y. y ∼ flat_map c (filter_once h xs)) (λ i. sym el i ++ sym er i) k
 
 -- ---- lists of names, and the entries that are due
 
 module _ {X : Type 0} (step : Schema X → X) (d v : Data) where
-  due_read : due (read step d) v ≡ map (λ e. (e.0, texts e.1)) (those (λ e. has e.0 v) (list_entries d))
+  due_read : due (read step d) v ≡ map (λ e. (e.0, texts e.1)) (filter_once (λ e. has e.0 v) (list_entries d))
   due_read =
-      ap (λ es. those (λ e. has e.0 v) (map (λ e. (e.0, texts e.1.schema)) (those (λ e. is_array e.1.schema) es))) (entries_read step d)
-      ∙ ap (λ es. those (λ e. has e.0 v) (map (λ e. (e.0, texts e.1.schema)) es)) (those-map (λ e. is_array e.1.schema) (λ e. is_array e.1) (entry step) (λ e. refl) (members d))
-      ∙ ap (those (λ e. has e.0 v)) (map-map (λ e. (e.0, texts e.1.schema)) (λ e. (e.0, texts e.1)) (entry step) (λ e. refl) (list_entries d))
-      ∙ those-map (λ e. has e.0 v) (λ e. has e.0 v) (λ e. (e.0, texts e.1)) (λ e. refl) (list_entries d)
+      ap (λ es. filter_once (λ e. has e.0 v) (map (λ e. (e.0, texts e.1.schema)) (filter_once (λ e. is_array e.1.schema) es))) (entries_read step d)
+      ∙ ap (λ es. filter_once (λ e. has e.0 v) (map (λ e. (e.0, texts e.1.schema)) es)) (filter_once-map (λ e. is_array e.1.schema) (λ e. is_array e.1) (entry step) (λ e. refl) (members d))
+      ∙ ap (filter_once (λ e. has e.0 v)) (map-map (λ e. (e.0, texts e.1.schema)) (λ e. (e.0, texts e.1)) (entry step) (λ e. refl) (list_entries d))
+      ∙ filter_once-map (λ e. has e.0 v) (λ e. has e.0 v) (λ e. (e.0, texts e.1)) (λ e. refl) (list_entries d)
 
   due_lists : are_lists d ≡ true → due (read step d) v ≡ map (λ e. (e.0, texts e.1)) (due_entries d v)
-  due_lists lists = due_read ∙ ap (λ es. map {A = Name × Data} (λ e. (e.0, texts e.1)) (those (λ e. has e.0 v) es)) (all_those (λ e. is_array e.1) (members d) lists)
+  due_lists lists = due_read ∙ ap (λ es. map {A = Name × Data} (λ e. (e.0, texts e.1)) (filter_once (λ e. has e.0 v) es)) (all_those (λ e. is_array e.1) (members d) lists)
 
-  entries_due : those (λ e. has e.0 v) (read step d).entries ≡ map (entry step) (due_entries d v)
-  entries_due = ap (those (λ e. has e.0 v)) (entries_read step d) ∙ those-map (λ e. has e.0 v) (λ e. has e.0 v) (entry step) (λ e. refl) (members d)
+  entries_due : filter_once (λ e. has e.0 v) (read step d).entries ≡ map (entry step) (due_entries d v)
+  entries_due = ap (filter_once (λ e. has e.0 v)) (entries_read step d) ∙ filter_once-map (λ e. has e.0 v) (λ e. has e.0 v) (entry step) (λ e. refl) (members d)
 
-  schemas_due : those (λ e. has e.0 v && not (is_array e.1.schema)) (read step d).entries ≡ map (entry step) (those (λ e. has e.0 v && not (is_array e.1)) (members d))
-  schemas_due = ap (those (λ e. has e.0 v && not (is_array e.1.schema))) (entries_read step d) ∙ those-map (λ e. has e.0 v && not (is_array e.1.schema)) (λ e. has e.0 v && not (is_array e.1)) (entry step) (λ e. refl) (members d)
+  schemas_due : filter_once (λ e. has e.0 v && not (is_array e.1.schema)) (read step d).entries ≡ map (entry step) (filter_once (λ e. has e.0 v && not (is_array e.1)) (members d))
+  schemas_due = ap (filter_once (λ e. has e.0 v && not (is_array e.1.schema))) (entries_read step d) ∙ filter_once-map (λ e. has e.0 v && not (is_array e.1.schema)) (λ e. has e.0 v && not (is_array e.1)) (entry step) (λ e. refl) (members d)
 
-  lists_due : due (read step d) v ≡ map (λ e. (e.0, texts e.1)) (those (λ e. has e.0 v && is_array e.1) (members d))
-  lists_due = due_read ∙ ap (map {A = Name × Data} (λ e. (e.0, texts e.1))) (those-those (λ e. has e.0 v) (λ e. is_array e.1) (members d))
+  lists_due : due (read step d) v ≡ map (λ e. (e.0, texts e.1)) (filter_once (λ e. has e.0 v && is_array e.1) (members d))
+  lists_due = due_read ∙ ap (map {A = Name × Data} (λ e. (e.0, texts e.1))) (filter_once-filter_once (λ e. has e.0 v) (λ e. is_array e.1) (members d))
 
 module _ (W : World) (ms : Members) (d : Data) (u : Bool) (v : Data) where
   -- ---- dependentRequired
@@ -146,7 +143,7 @@ module _ (W : World) (ms : Members) (d : Data) (u : Bool) (v : Data) where
   pub dependent_schemas_accepts : member_accepts W ms (codes "dependentSchemas", d) dependent_schemas u v ≡ list_all (λ e. accepts W u e.1 v) (due_entries d v)
   unfolding meaning
   dependent_schemas_accepts =
-      and_true _
+      and-true _
       ∙ ap (λ es. list_all (λ a. a.sub.answer.accepts a.value) (asked_whole (codes "dependentSchemas") v es)) (entries_due (meaning_step W u) d v)
       ∙ at_whole_accept (meaning_step W u) (codes "dependentSchemas") v (due_entries d v)
 
@@ -176,7 +173,7 @@ module _ (W : World) (ms : Members) (d : Data) (u : Bool) (v : Data) where
   unfolding meaning
   dependencies_accepts =
       (λ i. list_all (λ a. a.sub.answer.accepts a.value) (asked_whole (codes "dependencies") v (schemas_due (meaning_step W u) d v i)) && list_all (λ e. is_empty (missing e.1 v)) (lists_due (meaning_step W u) d v i))
-      ∙ (λ i. at_whole_accept (meaning_step W u) (codes "dependencies") v (those (λ e. has e.0 v && not (is_array e.1)) (members d)) i && list_all-map (λ (e : Name × List Name). is_empty (missing e.1 v)) (λ e. (e.0, texts e.1)) (those (λ e. has e.0 v && is_array e.1) (members d)) i)
+      ∙ (λ i. at_whole_accept (meaning_step W u) (codes "dependencies") v (filter_once (λ e. has e.0 v && not (is_array e.1)) (members d)) i && list_all-map (λ (e : Name × List Name). is_empty (missing e.1 v)) (λ e. (e.0, texts e.1)) (filter_once (λ e. has e.0 v && is_array e.1) (members d)) i)
       ∙ all_parted (λ e. has e.0 v) (λ e. is_array e.1) (λ e. accepts W u e.1 v) (λ e. is_empty (missing (texts e.1) v)) (λ e. dependency_accepts W u e v) (λ e. refl) (members d)
 
   pub dependencies_asks : member_asks W ms (codes "dependencies", d) dependencies u v ≡ sum_by (λ e. dependency_asks W u e v) (due_entries d v)
@@ -184,7 +181,7 @@ module _ (W : World) (ms : Members) (d : Data) (u : Bool) (v : Data) where
   dependencies_asks =
       nothing_last _
       ∙ ap (λ es. sum_by (λ a. a.sub.answer.asks a.value) (asked_whole (codes "dependencies") v es)) (schemas_due (meaning_step W u) d v)
-      ∙ at_whole_ask (meaning_step W u) (codes "dependencies") v (those (λ e. has e.0 v && not (is_array e.1)) (members d))
+      ∙ at_whole_ask (meaning_step W u) (codes "dependencies") v (filter_once (λ e. has e.0 v && not (is_array e.1)) (members d))
       ∙ sum_parted (λ e. has e.0 v) (λ e. is_array e.1) (λ e. asks W u e.1 v) (λ e. dependency_asks W u e v) (λ e. refl) (members d)
 
   -- the lists' faults stand behind those of the schemas
@@ -194,10 +191,10 @@ module _ (W : World) (ms : Members) (d : Data) (u : Bool) (v : Data) where
       (found_parted (λ e. has e.0 v) (λ e. is_array e.1) (λ e. report W u e.1 v (P // codes "dependencies" // e.0) Q) (λ e. required_faults (texts e.1) v (P // codes "dependencies") Q) (λ e. dependency_report W u e v (P // codes "dependencies") Q) (λ e. refl) (members d))
     where
       parted : member_report W ms (codes "dependencies", d) dependencies u v P Q
-          ≡ flat_map (λ e. report W u e.1 v (P // codes "dependencies" // e.0) Q) (those (λ e. has e.0 v && not (is_array e.1)) (members d)) ++ flat_map (λ e. required_faults (texts e.1) v (P // codes "dependencies") Q) (those (λ e. has e.0 v && is_array e.1) (members d))
+          ≡ flat_map (λ e. report W u e.1 v (P // codes "dependencies" // e.0) Q) (filter_once (λ e. has e.0 v && not (is_array e.1)) (members d)) ++ flat_map (λ e. required_faults (texts e.1) v (P // codes "dependencies") Q) (filter_once (λ e. has e.0 v && is_array e.1) (members d))
       parted =
           (λ i. flat_map (λ a. a.sub.answer.report a.value (down P a.in_schema) (down Q a.in_instance)) (asked_whole (codes "dependencies") v (schemas_due (meaning_step W u) d v i)) ++ flat_map (λ e. required_faults e.1 v (P // codes "dependencies") Q) (lists_due (meaning_step W u) d v i))
-          ∙ (λ i. at_whole_find (meaning_step W u) (codes "dependencies") v P Q (those (λ e. has e.0 v && not (is_array e.1)) (members d)) i ++ flat_map-map (λ (e : Name × List Name). required_faults e.1 v (P // codes "dependencies") Q) (λ e. required_faults (texts e.1) v (P // codes "dependencies") Q) (λ e. (e.0, texts e.1)) (λ e. refl) (those (λ e. has e.0 v && is_array e.1) (members d)) i)
+          ∙ (λ i. at_whole_find (meaning_step W u) (codes "dependencies") v P Q (filter_once (λ e. has e.0 v && not (is_array e.1)) (members d)) i ++ flat_map-map (λ (e : Name × List Name). required_faults e.1 v (P // codes "dependencies") Q) (λ e. required_faults (texts e.1) v (P // codes "dependencies") Q) (λ e. (e.0, texts e.1)) (λ e. refl) (filter_once (λ e. has e.0 v && is_array e.1) (members d)) i)
 
   pub dependencies_child : (P Q : Path) → member_child W ms (codes "dependencies", d) dependencies u v P Q ≡ plain (P // codes "dependencies") Q (map (λ e. dependency_shown W u e v (P // codes "dependencies") Q) (due_entries d v)) ∷ []
   unfolding meaning
@@ -231,8 +228,8 @@ module _ {X : Type 0} (step : Schema X → X) (d : Data) (k : Name) where
 
     pub dependencies_places : read_places k S (read step d) dependencies ≡ each k (map (entry step) (schema_entries d))
     dependencies_places = ap (each k)
-        (ap (those (λ e. not (is_array e.1.schema))) (entries_read step d)
-        ∙ those-map (λ e. not (is_array e.1.schema)) (λ e. not (is_array e.1)) (entry step) (λ e. refl) (members d))
+        (ap (filter_once (λ e. not (is_array e.1.schema))) (entries_read step d)
+        ∙ filter_once-map (λ e. not (is_array e.1.schema)) (λ e. not (is_array e.1)) (entry step) (λ e. refl) (members d))
 
 module _ (W : World) (ms : Members) (d : Data) where
   module _ (P : Path) where

@@ -6,6 +6,7 @@ use Rattle.std.proofs.lemmas.List.{append-nil}
 use Rattle.std.proofs.lemmas.List.Folds.{list_all-append, list_all-map}
 use Rattle.std.proofs.lemmas.List.Sums.{sum_by-cons, sum_by-append}
 use Rattle.std.proofs.lemmas.Grind.{flat_map-append}
+use Rattle.std.proofs.Math.Bool.{and-true}
 use mathlib.Core.Bool.{true≢false}
 use Rattle.serde_json.specs.Data.{Data, null, boolean, number, string, object, array, Members, Items}
 use Rattle.olk_spec.specs.Names.{Name, Path, ◌//◌, down, is_empty}
@@ -19,7 +20,6 @@ use Rattle.olk_spec.specs.Meaning.{accepts, asks, report, meaning, meaning_step}
 use Rattle.olk_spec.specs.Accepts.{missing}
 use Rattle.olk_spec.specs.Reports.{required_faults, fault_if}
 use Rattle.olk_spec.specs.Costs.{cost, cost_step, ◌⊕◌, total_cost}
-use Rattle.olk_spec.proofs.Truth.{and_true}
 use Rattle.olk_spec.proofs.Reading.{entry, place, entries_read, items_read, branches_read, schema_of_read}
 use Rattle.olk_members.specs.Members.{member_accepts, member_asks, member_report, member_malformations}
 use Rattle.olk_spec.proofs.Maps.{flat_map-map, map-map}
@@ -133,7 +133,7 @@ module _ (W : World) (ms : Members) where
       pub declared_accept : member_accepts W ms (codes "properties", d) properties u v ≡ list_all (λ e. list_all (accepts W u e.1) (at e.0 v)) (members d)
       unfolding meaning
       declared_accept =
-          and_true _
+          and-true _
           ∙ ap (λ es. list_all (λ a. a.sub.answer.accepts a.value) (at_members (meaning_step W u) (codes "properties") v es)) (entries_read (meaning_step W u) d)
           ∙ at_members_accept (meaning_step W u) (codes "properties") v (members d)
 
@@ -169,7 +169,7 @@ module _ (W : World) (ms : Members) where
       pub all_of_accepts : member_accepts W ms (codes "allOf", array ds) all_of u v ≡ list_all (λ e. accepts W u e.1 v) (numbered (items_list ds))
       unfolding meaning
       all_of_accepts =
-          and_true _
+          and-true _
           ∙ ap (λ es. list_all (λ a. a.sub.answer.accepts a.value) (asked_whole (codes "allOf") v es)) (branch_entries (meaning_step W u) ds)
           ∙ at_whole_accept (meaning_step W u) (codes "allOf") v (numbered (items_list ds))
 

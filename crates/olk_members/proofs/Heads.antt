@@ -5,7 +5,7 @@ use Rattle.std.proofs.Common.{refl, sym, ◌∙◌, ap, subst}
 use Rattle.std.proofs.lemmas.List.Sorted.{IsPermutation-refl, IsPermutation-cons, IsPermutation-trans, IsPermutation-middle, IsPermutation-append}
 use mathlib.Core.Bool.{true≢false}
 use Rattle.serde_json.specs.Data.{Data}
-use Rattle.olk_spec.specs.Names.{Name, is_among, those, put_if}
+use Rattle.olk_spec.specs.Names.{Name, is_among, filter_once, put_if}
 use Rattle.olk_spec.specs.Malformed.{has_repeat}
 use Rattle.olk_spec.proofs.Each.{Each}
 use Rattle.olk_spec.proofs.Walks.{neither, same_name, bytes_eq-sym}
@@ -13,39 +13,39 @@ use Rattle.olk_members.specs.Plans.{claims}
 
 module _ {X : Type 0} where
   -- two tests of which no item passes both
-  pub those_split : (p q : X → Bool) → ((x : X) → p x ≡ true → q x ≡ false) → (xs : List X) → IsPermutation (those p xs ++ those q xs) (those (λ x. p x || q x) xs)
+  pub those_split : (p q : X → Bool) → ((x : X) → p x ≡ true → q x ≡ false) → (xs : List X) → IsPermutation (filter_once p xs ++ filter_once q xs) (filter_once (λ x. p x || q x) xs)
   those_split p q h [] = IsPermutation-refl []
   those_split p q h (x ∷ xs) = by (p x) (q x) (h x) (those_split p q h xs)
     where
-      by : (a b : Bool) → (a ≡ true → b ≡ false) → IsPermutation (those p xs ++ those q xs) (those (λ x. p x || q x) xs) → IsPermutation (put_if a x (those p xs) ++ put_if b x (those q xs)) (put_if (a || b) x (those (λ x. p x || q x) xs))
+      by : (a b : Bool) → (a ≡ true → b ≡ false) → IsPermutation (filter_once p xs ++ filter_once q xs) (filter_once (λ x. p x || q x) xs) → IsPermutation (put_if a x (filter_once p xs) ++ put_if b x (filter_once q xs)) (put_if (a || b) x (filter_once (λ x. p x || q x) xs))
       by true true d g = absurd (true≢false (d refl))
       by true false d g = IsPermutation-cons x _ _ g
-      by false true d g = IsPermutation-trans _ _ _ (IsPermutation-middle (those p xs) x (those q xs)) (IsPermutation-cons x _ _ g)
+      by false true d g = IsPermutation-trans _ _ _ (IsPermutation-middle (filter_once p xs) x (filter_once q xs)) (IsPermutation-cons x _ _ g)
       by false false d g = g
 
-  pub those_none : (xs : List X) → those (λ x. false) xs ≡ []
+  pub those_none : (xs : List X) → filter_once (λ x. false) xs ≡ []
   those_none [] = refl
   those_none (x ∷ xs) = those_none xs
 
-  those_each : (p : X → Bool) (xs : List X) → Each (λ x. p x ≡ true) xs → those p xs ≡ xs
+  those_each : (p : X → Bool) (xs : List X) → Each (λ x. p x ≡ true) xs → filter_once p xs ≡ xs
   those_each p [] h = refl
-  those_each p (x ∷ xs) h = ap (λ b. put_if b x (those p xs)) h.0 ∙ ap (λ l. x ∷ l) (those_each p xs h.1)
+  those_each p (x ∷ xs) h = ap (λ b. put_if b x (filter_once p xs)) h.0 ∙ ap (λ l. x ∷ l) (those_each p xs h.1)
 
-  pub those-same : (p q : X → Bool) → ((x : X) → p x ≡ q x) → (xs : List X) → those p xs ≡ those q xs
-  those-same p q e [] = refl
-  those-same p q e (x ∷ xs) = λ i. put_if (e x i) x (those-same p q e xs i)
+  pub filter_once-same : (p q : X → Bool) → ((x : X) → p x ≡ q x) → (xs : List X) → filter_once p xs ≡ filter_once q xs
+  filter_once-same p q e [] = refl
+  filter_once-same p q e (x ∷ xs) = λ i. put_if (e x i) x (filter_once-same p q e xs i)
 
 abbrev pub names_of : List (Name × Data) → List Name
 names_of es = map (λ m. m.0) es
 
 module _ (heads : Name → Name) where
-  grouped : (es hs : List (Name × Data)) → has_repeat (names_of hs) ≡ false → IsPermutation (flat_map (claims heads es) hs) (those (λ x. is_among (heads x.0) (names_of hs)) es)
+  grouped : (es hs : List (Name × Data)) → has_repeat (names_of hs) ≡ false → IsPermutation (flat_map (claims heads es) hs) (filter_once (λ x. is_among (heads x.0) (names_of hs)) es)
   grouped es [] d = subst (λ l. IsPermutation [] l) (sym (those_none es)) (IsPermutation-refl [])
   grouped es (m ∷ hs) d =
       let h = neither (is_among m.0 (names_of hs)) (has_repeat (names_of hs)) d in
-      subst (λ l. IsPermutation (l ++ flat_map (claims heads es) hs) (those (λ x. bytes_eq (heads x.0) m.0 || is_among (heads x.0) (names_of hs)) es))
-      (those-same (λ (x : Name × Data). bytes_eq (heads x.0) m.0) (λ x. bytes_eq m.0 (heads x.0)) (λ x. bytes_eq-sym (heads x.0) m.0) es)
-      (IsPermutation-trans _ _ _ (IsPermutation-append _ _ _ _ (IsPermutation-refl (those (λ x. bytes_eq (heads x.0) m.0) es)) (grouped es hs h.1))
+      subst (λ l. IsPermutation (l ++ flat_map (claims heads es) hs) (filter_once (λ x. bytes_eq (heads x.0) m.0 || is_among (heads x.0) (names_of hs)) es))
+      (filter_once-same (λ (x : Name × Data). bytes_eq (heads x.0) m.0) (λ x. bytes_eq m.0 (heads x.0)) (λ x. bytes_eq-sym (heads x.0) m.0) es)
+      (IsPermutation-trans _ _ _ (IsPermutation-append _ _ _ _ (IsPermutation-refl (filter_once (λ x. bytes_eq (heads x.0) m.0) es)) (grouped es hs h.1))
       (those_split (λ x. bytes_eq (heads x.0) m.0) (λ x. is_among (heads x.0) (names_of hs))
       (λ x e. ap (λ k. is_among k (names_of hs)) (same_name (heads x.0) m.0 e) ∙ h.0) es))
 

@@ -25,7 +25,7 @@ use Rattle.olk_spec.proofs.CostSums.{total_cost-map}
 
 -- ---- what an object means, member by member
 
-sum_by-map : {X Y : Type 0} (f : X → ℕ) (h : Y → X) (ys : List Y) → sum_by f (map h ys) ≡ sum_by (λ y. f (h y)) ys
+pub sum_by-map : {X Y : Type 0} (f : X → ℕ) (h : Y → X) (ys : List Y) → sum_by f (map h ys) ≡ sum_by (λ y. f (h y)) ys
 sum_by-map f h [] = refl
 sum_by-map f h (y ∷ ys) = sum_by-cons f (h y) (map h ys) ∙ ap (λ n. f (h y) + n) (sum_by-map f h ys) ∙ sym (sum_by-cons (λ z. f (h z)) y ys)
 

@@ -5,7 +5,7 @@ use Rattle.std.proofs.Common.{refl, sym, ◌∙◌, ap, arith, suc}
 use Rattle.std.proofs.lemmas.Bool.Decides.{nat_tests}
 use mathlib.Core.Bool.{true≢false}
 use Rattle.serde_json.specs.Data.{Data, null, boolean, number, string, array, object, no_items, item, Members}
-use Rattle.olk_spec.specs.Names.{Name, Path, ◌//◌, lookup, is_empty}
+use Rattle.olk_spec.specs.Names.{Name, Path, ◌//◌, lookup_name, is_empty}
 use Rattle.olk_spec.specs.World.{World}
 use Rattle.olk_spec.specs.Vocabulary.{keyword_named}
 use Rattle.olk_members.specs.Members.{member_malformations}
@@ -22,8 +22,8 @@ two_or_more n = grind (arith, nat_tests)
 
 module _ {X : Type 0} (step : Schema X → X) (ms : Members) where
   -- `additionalProperties` is false
-  closed_read : list_any (λ s. is_truth false s.schema) (wholes_at (read_members step ms) (codes "additionalProperties")) ≡ refuses_others (lookup (codes "additionalProperties") (listed ms))
-  closed_read = ap (list_any (λ s. is_truth false s.schema)) (wholes_at_read step ms (codes "additionalProperties") ∙ ap (λ o. map (place step) (option_to_list o)) (sym (lookup_listed (codes "additionalProperties") ms))) ∙ by (lookup (codes "additionalProperties") (listed ms))
+  closed_read : list_any (λ s. is_truth false s.schema) (wholes_at (read_members step ms) (codes "additionalProperties")) ≡ refuses_others (lookup_name (codes "additionalProperties") (listed ms))
+  closed_read = ap (list_any (λ s. is_truth false s.schema)) (wholes_at_read step ms (codes "additionalProperties") ∙ ap (λ o. map (place step) (option_to_list o)) (sym (lookup_listed (codes "additionalProperties") ms))) ∙ by (lookup_name (codes "additionalProperties") (listed ms))
     where
       by : (o : Option Data) → list_any (λ (s : Sub X). is_truth false s.schema) (map (place step) (option_to_list o)) ≡ refuses_others o
       by None = refl
@@ -35,10 +35,10 @@ module _ {X : Type 0} (step : Schema X → X) (ms : Members) where
       by (Some (array ds)) = refl
       by (Some (object fs)) = refl
 
-  listed_read : names_at (read_members step ms) (codes "required") ≡ flat_map texts (option_to_list (lookup (codes "required") (listed ms)))
+  listed_read : names_at (read_members step ms) (codes "required") ≡ flat_map texts (option_to_list (lookup_name (codes "required") (listed ms)))
   listed_read = names_at_read step ms (codes "required") ∙ ap (λ o. flat_map texts (option_to_list o)) (sym (lookup_listed (codes "required") ms))
 
-  fuses_one_read : fuses_one (read_members step ms) ≡ (is_some (lookup (codes "properties") (listed ms)) && refuses_others (lookup (codes "additionalProperties") (listed ms)) && not (is_some (lookup (codes "patternProperties") (listed ms))) && nat_eq (length (flat_map texts (option_to_list (lookup (codes "required") (listed ms))))) 1)
+  fuses_one_read : fuses_one (read_members step ms) ≡ (is_some (lookup_name (codes "properties") (listed ms)) && refuses_others (lookup_name (codes "additionalProperties") (listed ms)) && not (is_some (lookup_name (codes "patternProperties") (listed ms))) && nat_eq (length (flat_map texts (option_to_list (lookup_name (codes "required") (listed ms))))) 1)
   fuses_one_read = λ i. present step ms (codes "properties") i && closed_read i && not (present step ms (codes "patternProperties") i) && nat_eq (length (listed_read i)) 1
 
   -- what the plan fuses is fused, and it is the name that is listed
@@ -53,8 +53,8 @@ module _ {X : Type 0} (step : Schema X → X) (ms : Members) where
     fused_names_read = names_there step ms (codes "required") (array (item (string n) no_items)) (sym (lookup_listed (codes "required") ms) ∙ fusing.listed_at)
 
   -- where `required` lists texts alone, nothing else is
-  pub one_fused : (L : Path) → ListsTexts L (lookup (codes "required") (listed ms)) → fuses_one (read_members step ms) ≡ is_some (fused_name ms)
-  one_fused L h = fuses_one_read ∙ by (is_some (lookup (codes "properties") (listed ms))) (refuses_others (lookup (codes "additionalProperties") (listed ms))) (lookup (codes "patternProperties") (listed ms)) (lookup (codes "required") (listed ms)) h
+  pub one_fused : (L : Path) → ListsTexts L (lookup_name (codes "required") (listed ms)) → fuses_one (read_members step ms) ≡ is_some (fused_name ms)
+  one_fused L h = fuses_one_read ∙ by (is_some (lookup_name (codes "properties") (listed ms))) (refuses_others (lookup_name (codes "additionalProperties") (listed ms))) (lookup_name (codes "patternProperties") (listed ms)) (lookup_name (codes "required") (listed ms)) h
     where
       one : (o : Option Data) → ListsTexts L o → nat_eq (length (flat_map texts (option_to_list o))) 1 ≡ is_some (one_name o)
       one None k = refl

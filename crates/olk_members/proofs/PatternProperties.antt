@@ -6,8 +6,9 @@ use Rattle.std.proofs.lemmas.List.{append-nil, length-map, map-append}
 use Rattle.std.proofs.lemmas.List.Folds.{list_all-append, list_all-map}
 use Rattle.std.proofs.lemmas.List.Sums.{sum_by-cons, sum_by-append}
 use Rattle.std.proofs.lemmas.Grind.{flat_map-append}
+use Rattle.std.proofs.Math.Bool.{and-true}
 use Rattle.serde_json.specs.Data.{Data, string, Members}
-use Rattle.olk_spec.specs.Names.{Name, Path, ◌//◌, down, those, put_if}
+use Rattle.olk_spec.specs.Names.{Name, Path, ◌//◌, down, filter_once, put_if}
 use Rattle.olk_spec.specs.World.{World, is_unfinished}
 use Rattle.olk_spec.specs.Vocabulary.{pattern_properties}
 use Rattle.olk_spec.specs.Faults.{Fault, Regex}
@@ -20,7 +21,6 @@ use Rattle.olk_spec.specs.Malformed.{refusal, each, unless_object, own_refusals,
 use Rattle.olk_spec.specs.Costs.{Cost, cost_step, own_cost, no_cost, ◌⊕◌, total_cost}
 use Rattle.olk_spec.proofs.CostSums.{sum_last}
 use Rattle.olk_spec.proofs.Maps.{map-map}
-use Rattle.olk_spec.proofs.Truth.{and_true}
 use Rattle.olk_spec.proofs.Reading.{entry, entries_read, schema_of_read}
 use Rattle.olk_members.specs.Members.{member_accepts, member_asks, member_report, member_child, member_malformations}
 use Rattle.olk_members.specs.PatternProperties.{matched_members, pattern_asks, open_names, pattern_faults, matcher_made, matchers_made, names_asked}
@@ -83,11 +83,11 @@ other_way : (a b : ℕ) → a + b ≡ b + a
 other_way a b = omega arith
 
 module _ (W : World) where
-  open_counted : {X : Type 0} (es : List (Name × X)) → length (those (is_open W) (map (λ e. e.0) es)) ≡ sum_by (λ e. pattern_asks W e.0) es
+  open_counted : {X : Type 0} (es : List (Name × X)) → length (filter_once (is_open W) (map (λ e. e.0) es)) ≡ sum_by (λ e. pattern_asks W e.0) es
   open_counted [] = refl
   open_counted {X} (e ∷ es) = by (is_open W e.0) ∙ ap (λ n. pattern_asks W e.0 + n) (open_counted es) ∙ sym (sum_by-cons (λ (e : Name × X). pattern_asks W e.0) e es)
     where
-      by : (b : Bool) → length (put_if b e.0 (those (is_open W) (map (λ e. e.0) es))) ≡ cond b 1 0 + length (those (is_open W) (map (λ e. e.0) es))
+      by : (b : Bool) → length (put_if b e.0 (filter_once (is_open W) (map (λ e. e.0) es))) ≡ cond b 1 0 + length (filter_once (is_open W) (map (λ e. e.0) es))
       by true = omega arith
       by false = omega arith
 
@@ -95,7 +95,7 @@ module _ (W : World) where
   names_of_entries step es = map-map (λ e. e.0) (λ e. e.0) (entry step) (λ e. refl) es
 
   pub open_read : {X : Type 0} (step : Schema X → X) (d : Data) → open_patterns W (read step d) ≡ open_names W d
-  open_read {X} step d = ap (λ es. those (is_open W) (map {A = Name × Sub X} (λ e. e.0) es)) (entries_read step d) ∙ ap (those (is_open W)) (names_of_entries step (members d))
+  open_read {X} step d = ap (λ es. filter_once (is_open W) (map {A = Name × Sub X} (λ e. e.0) es)) (entries_read step d) ∙ ap (filter_once (is_open W)) (names_of_entries step (members d))
 
 -- ---- what it means
 
@@ -103,7 +103,7 @@ module _ (W : World) (ms : Members) (d : Data) (u : Bool) (v : Data) where
   pub pattern_properties_accepts : member_accepts W ms (codes "patternProperties", d) pattern_properties u v ≡ list_all (λ e. list_all (λ x. accepts W u e.1 x.1) (matched_members W u e.0 v)) (members d)
   unfolding meaning
   pattern_properties_accepts =
-      and_true _
+      and-true _
       ∙ ap (λ es. list_all (λ a. a.sub.answer.accepts a.value) (flat_map (asked_in W u (meaning_step W u) (codes "patternProperties") v) es)) (entries_read (meaning_step W u) d)
       ∙ at_matched_accept W u (meaning_step W u) (codes "patternProperties") v (members d)
 
@@ -141,9 +141,9 @@ module _ (W : World) (ms : Members) (d : Data) (u : Bool) (v : Data) where
     pub pattern_properties_child : (P Q : Path) → member_child W ms (codes "patternProperties", d) pattern_properties u v P Q
         ≡ result (P // codes "patternProperties") Q (cond (is_object v) (Some (flat_map (λ e. map (λ x. x.0) (matched_members W u e.0 v)) (members d))) None) false [] (flat_map (λ e. map (λ x. tree W u e.1 x.1 (P // codes "patternProperties" // e.0) (Q // x.0)) (matched_members W u e.0 v)) (members d)) ∷ []
     unfolding meaning
-    pattern_properties_child P Q = λ i. put_if (not (free i)) (result (P // codes "patternProperties") Q (cond (and_true (is_object v) i) (Some (names i)) None) false [] (trees i)) []
+    pattern_properties_child P Q = λ i. put_if (not (free i)) (result (P // codes "patternProperties") Q (cond (and-true (is_object v) i) (Some (names i)) None) false [] (trees i)) []
       where
-        names : flat_map (λ e. map (λ m. m.0) (those (λ m. matches W u e.0 m.0) (members v))) (read (meaning_step W u) d).entries ≡ flat_map (λ e. map (λ x. x.0) (matched_members W u e.0 v)) (members d)
+        names : flat_map (λ e. map (λ m. m.0) (filter_once (λ m. matches W u e.0 m.0) (members v))) (read (meaning_step W u) d).entries ≡ flat_map (λ e. map (λ x. x.0) (matched_members W u e.0 v)) (members d)
         names = ap (flat_map (λ (e : Name × Subschema). map (λ x. x.0) (matched_members W u e.0 v))) (entries_read (meaning_step W u) d) ∙ named_by_entries W u (meaning_step W u) (codes "patternProperties") v (members d)
 
         trees : map (λ a. a.sub.answer.tree a.value (down P a.in_schema) (down Q a.in_instance)) (flat_map (asked_in W u (meaning_step W u) (codes "patternProperties") v) (read (meaning_step W u) d).entries) ≡ flat_map (λ e. map (λ x. tree W u e.1 x.1 (P // codes "patternProperties" // e.0) (Q // x.0)) (matched_members W u e.0 v)) (members d)
@@ -169,11 +169,11 @@ module _ (W : World) (ms : Members) (d : Data) (u : Bool) (v : Data) where
 
 -- a pattern that does not build, at its place
 abbrev pub unbuilt : World → Data → Path → List Fault
-unbuilt W d L = map (λ t. refusal Regex (string t) (L // t)) (those (λ t. not (W.builds t)) (open_names W d))
+unbuilt W d L = map (λ t. refusal Regex (string t) (L // t)) (filter_once (λ t. not (W.builds t)) (open_names W d))
 
 module _ {X : Type 0} (step : Schema X → X) (d : Data) (k : Name) where
   pub pattern_properties_refusals : (W : World) (L : Path) → own_refusals W k (read step d) L pattern_properties ≡ unless_object d L ++ unbuilt W d L
-  pattern_properties_refusals W L = λ i. unless_object (schema_of_read step d i) L ++ map (λ t. refusal Regex (string t) (L // t)) (those (λ t. not (W.builds t)) (open_read W step d i))
+  pattern_properties_refusals W L = λ i. unless_object (schema_of_read step d i) L ++ map (λ t. refusal Regex (string t) (L // t)) (filter_once (λ t. not (W.builds t)) (open_read W step d i))
 
   pub pattern_properties_places : (S : Keywords X) → read_places k S (read step d) pattern_properties ≡ each k (map (entry step) (members d))
   pattern_properties_places S = ap (each k) (entries_read step d)
@@ -226,26 +226,26 @@ module _ (W : World) (ms : Members) (d : Data) where
 -- ---- one pattern after another
 
 module _ (W : World) where
-  pub made_together : (es : List (Name × Data)) → total_cost (λ e. matcher_made W e.0) es ≡ record no_cost { pattern_places = length (those (is_open W) (map (λ e. e.0) es)) }
+  pub made_together : (es : List (Name × Data)) → total_cost (λ e. matcher_made W e.0) es ≡ record no_cost { pattern_places = length (filter_once (is_open W) (map (λ e. e.0) es)) }
   made_together [] = refl
   made_together (e ∷ es) = ap (λ c. matcher_made W e.0 ⊕ c) (made_together es) ∙ by (is_open W e.0)
     where
-      by : (b : Bool) → cond b (record no_cost { pattern_places = 1 }) no_cost ⊕ record no_cost { pattern_places = length (those (is_open W) (map (λ e. e.0) es)) } ≡ record no_cost { pattern_places = length (put_if b e.0 (those (is_open W) (map (λ e. e.0) es))) }
+      by : (b : Bool) → cond b (record no_cost { pattern_places = 1 }) no_cost ⊕ record no_cost { pattern_places = length (filter_once (is_open W) (map (λ e. e.0) es)) } ≡ record no_cost { pattern_places = length (put_if b e.0 (filter_once (is_open W) (map (λ e. e.0) es))) }
       by true = λ i. record no_cost { pattern_places = one_more i }
         where
-          one_more : 1 + length (those (is_open W) (map (λ e. e.0) es)) ≡ length (e.0 ∷ those (is_open W) (map (λ e. e.0) es))
+          one_more : 1 + length (filter_once (is_open W) (map (λ e. e.0) es)) ≡ length (e.0 ∷ filter_once (is_open W) (map (λ e. e.0) es))
           one_more = omega arith
       by false = λ i. record no_cost { pattern_places = none i }
         where
-          none : 0 + length (those (is_open W) (map (λ e. e.0) es)) ≡ length (those (is_open W) (map (λ e. e.0) es))
+          none : 0 + length (filter_once (is_open W) (map (λ e. e.0) es)) ≡ length (filter_once (is_open W) (map (λ e. e.0) es))
           none = omega arith
 
-  pub unbuilt_together : (L : Path) (es : List (Name × Data)) → flat_map (λ e. pattern_faults W L e.0) es ≡ map (λ t. refusal Regex (string t) (L // t)) (those (λ t. not (W.builds t)) (those (is_open W) (map (λ e. e.0) es)))
+  pub unbuilt_together : (L : Path) (es : List (Name × Data)) → flat_map (λ e. pattern_faults W L e.0) es ≡ map (λ t. refusal Regex (string t) (L // t)) (filter_once (λ t. not (W.builds t)) (filter_once (is_open W) (map (λ e. e.0) es)))
   unbuilt_together L [] = refl
   unbuilt_together L (e ∷ es) = ap (λ fs. pattern_faults W L e.0 ++ fs) (unbuilt_together L es) ∙ by (is_open W e.0) (W.builds e.0) refl
     where
-      by : (b c : Bool) → W.builds e.0 ≡ c → put_if (b && not c) (refusal Regex (string e.0) (L // e.0)) [] ++ map (λ t. refusal Regex (string t) (L // t)) (those (λ t. not (W.builds t)) (those (is_open W) (map (λ e. e.0) es)))
-          ≡ map (λ t. refusal Regex (string t) (L // t)) (those (λ t. not (W.builds t)) (put_if b e.0 (those (is_open W) (map (λ e. e.0) es))))
-      by true true q = ap (λ c. map (λ t. refusal Regex (string t) (L // t)) (put_if (not c) e.0 (those (λ t. not (W.builds t)) (those (is_open W) (map (λ e. e.0) es))))) (sym q)
-      by true false q = ap (λ c. map (λ t. refusal Regex (string t) (L // t)) (put_if (not c) e.0 (those (λ t. not (W.builds t)) (those (is_open W) (map (λ e. e.0) es))))) (sym q)
+      by : (b c : Bool) → W.builds e.0 ≡ c → put_if (b && not c) (refusal Regex (string e.0) (L // e.0)) [] ++ map (λ t. refusal Regex (string t) (L // t)) (filter_once (λ t. not (W.builds t)) (filter_once (is_open W) (map (λ e. e.0) es)))
+          ≡ map (λ t. refusal Regex (string t) (L // t)) (filter_once (λ t. not (W.builds t)) (put_if b e.0 (filter_once (is_open W) (map (λ e. e.0) es))))
+      by true true q = ap (λ c. map (λ t. refusal Regex (string t) (L // t)) (put_if (not c) e.0 (filter_once (λ t. not (W.builds t)) (filter_once (is_open W) (map (λ e. e.0) es))))) (sym q)
+      by true false q = ap (λ c. map (λ t. refusal Regex (string t) (L // t)) (put_if (not c) e.0 (filter_once (λ t. not (W.builds t)) (filter_once (is_open W) (map (λ e. e.0) es))))) (sym q)
       by false c q = refl

@@ -9,8 +9,9 @@ use Rattle.std.proofs.Common.{refl, sym, ◌∙◌, ap}
 use Rattle.std.proofs.lemmas.List.{append-nil, map-append}
 use Rattle.std.proofs.lemmas.List.Folds.{list_all-map}
 use Rattle.std.proofs.lemmas.Grind.{flat_map-append}
+use Rattle.std.proofs.Math.Bool.{and-true}
 use Rattle.serde_json.specs.Data.{Data, Members}
-use Rattle.olk_spec.specs.Names.{Name, Path, ◌//◌, down, lookup, first_if_equal}
+use Rattle.olk_spec.specs.Names.{Name, Path, ◌//◌, down, lookup_name, first_if_equal}
 use Rattle.olk_spec.specs.World.{World}
 use Rattle.olk_spec.specs.Vocabulary.{property_dependencies}
 use Rattle.olk_spec.specs.Faults.{Fault}
@@ -22,7 +23,6 @@ use Rattle.olk_spec.specs.Malformed.{own_refusals, read_places, unless_object, m
 use Rattle.olk_spec.specs.Costs.{Cost, cost, cost_step, ◌⊕◌, total_cost}
 use Rattle.olk_spec.proofs.CostSums.{sum_first, total_cost-append, total_cost-map}
 use Rattle.olk_spec.proofs.Maps.{flat_map-map, map-map}
-use Rattle.olk_spec.proofs.Truth.{and_true}
 use Rattle.olk_spec.proofs.Walks.{list_all-flat_map}
 use Rattle.olk_spec.proofs.Reading.{place, entry, inner_entry, inner_read, entries_read, schema_of_read}
 use Rattle.olk_members.specs.Members.{member_accepts, member_asks, member_report, member_child, member_malformations, member_cost}
@@ -49,12 +49,12 @@ module _ {X Y : Type 0} (g : X → List Y) where
 -- ---- the schemas that are asked
 
 module _ {X : Type 0} (step : Schema X → X) where
-  at_entries : (t : Name) (es : List (Name × Data)) → option_to_list (lookup t (map (entry step) es)) ≡ map (place step) (option_to_list (lookup t es))
+  at_entries : (t : Name) (es : List (Name × Data)) → option_to_list (lookup_name t (map (entry step) es)) ≡ map (place step) (option_to_list (lookup_name t es))
   at_entries t [] = refl
   at_entries t (e ∷ es) = by (slice_cmp nat_cmp t e.0) (at_entries t es)
     where
-      by : (o : Ordering) → option_to_list (lookup t (map (entry step) es)) ≡ map (place step) (option_to_list (lookup t es))
-          → option_to_list (first_if_equal o (place step e.1) (lookup t (map (entry step) es))) ≡ map (place step) (option_to_list (first_if_equal o e.1 (lookup t es)))
+      by : (o : Ordering) → option_to_list (lookup_name t (map (entry step) es)) ≡ map (place step) (option_to_list (lookup_name t es))
+          → option_to_list (first_if_equal o (place step e.1) (lookup_name t (map (entry step) es))) ≡ map (place step) (option_to_list (first_if_equal o e.1 (lookup_name t es)))
       by Less h = h
       by Equal h = refl
       by Greater h = h
@@ -63,20 +63,20 @@ module _ (step : Schema Meaning → Meaning) (k : Name) (v : Data) where
   abbrev asked_of : Name → Name × Data → Asked
   asked_of n c = asked (place step c.1) v (k ∷ n ∷ c.0 ∷ []) []
 
-  asked_at : (e : Name × Data) (ts : List Name) → flat_map (λ t. map (λ s. asked s v (k ∷ e.0 ∷ t ∷ []) []) (option_to_list (lookup t (map (entry step) (members e.1))))) ts ≡ map (asked_of e.0) (flat_map (λ t. map (λ s. (t, s)) (at t e.1)) ts)
+  asked_at : (e : Name × Data) (ts : List Name) → flat_map (λ t. map (λ s. asked s v (k ∷ e.0 ∷ t ∷ []) []) (option_to_list (lookup_name t (map (entry step) (members e.1))))) ts ≡ map (asked_of e.0) (flat_map (λ t. map (λ s. (t, s)) (at t e.1)) ts)
   asked_at e [] = refl
   asked_at e (t ∷ ts) =
       (λ i. (ap (map (λ s. asked s v (k ∷ e.0 ∷ t ∷ []) [])) (at_entries step t (members e.1)) ∙ map-map (λ s. asked s v (k ∷ e.0 ∷ t ∷ []) []) (λ s. asked_of e.0 (t, s)) (place step) (λ s. refl) (at t e.1)
       ∙ sym (map-map (asked_of e.0) (λ s. asked_of e.0 (t, s)) (λ s. (t, s)) (λ s. refl) (at t e.1))) i ++ asked_at e ts i)
       ∙ sym (map-append (asked_of e.0) (map (λ s. (t, s)) (at t e.1)) (flat_map (λ t. map (λ s. (t, s)) (at t e.1)) ts))
 
-  asked_by : (e : Name × Data) → flat_map (λ t. map (λ s. asked s v (k ∷ e.0 ∷ t ∷ []) []) (option_to_list (lookup t (map (entry step) (members e.1))))) (flat_map as_text (at e.0 v)) ≡ map (asked_of e.0) (chosen v e)
+  asked_by : (e : Name × Data) → flat_map (λ t. map (λ s. asked s v (k ∷ e.0 ∷ t ∷ []) []) (option_to_list (lookup_name t (map (entry step) (members e.1))))) (flat_map as_text (at e.0 v)) ≡ map (asked_of e.0) (chosen v e)
   asked_by e = asked_at e (flat_map as_text (at e.0 v)) ∙ ap (map (asked_of e.0)) (flat_map-flat_map as_text (λ t. map (λ s. (t, s)) (at t e.1)) (at e.0 v))
 
   asked_read : (W : World) (u : Bool) (S : Keywords Meaning) (d : Data) → applied W u S k (read step d) v property_dependencies ≡ flat_map (λ e. map (asked_of e.0) (chosen v e)) (members d)
   asked_read W u S d =
-      ap (flat_map (λ e. flat_map (λ t. map (λ s. asked s v (k ∷ e.0 ∷ t ∷ []) []) (option_to_list (lookup t e.1))) (flat_map as_text (at e.0 v)))) (inner_read step d)
-      ∙ flat_map-map (λ e. flat_map (λ t. map (λ s. asked s v (k ∷ e.0 ∷ t ∷ []) []) (option_to_list (lookup t e.1))) (flat_map as_text (at e.0 v))) (λ e. map (asked_of e.0) (chosen v e)) (inner_entry step) asked_by (members d)
+      ap (flat_map (λ e. flat_map (λ t. map (λ s. asked s v (k ∷ e.0 ∷ t ∷ []) []) (option_to_list (lookup_name t e.1))) (flat_map as_text (at e.0 v)))) (inner_read step d)
+      ∙ flat_map-map (λ e. flat_map (λ t. map (λ s. asked s v (k ∷ e.0 ∷ t ∷ []) []) (option_to_list (lookup_name t e.1))) (flat_map as_text (at e.0 v))) (λ e. map (asked_of e.0) (chosen v e)) (inner_entry step) asked_by (members d)
 
 -- ---- what it means
 
@@ -93,7 +93,7 @@ module _ (W : World) (ms : Members) (d : Data) (u : Bool) (v : Data) where
   pub property_dependencies_accepts : member_accepts W ms (codes "propertyDependencies", d) property_dependencies u v ≡ list_all (λ e. list_all (λ c. accepts W u c.1 v) (chosen v e)) (members d)
   unfolding meaning
   property_dependencies_accepts =
-      and_true _
+      and-true _
       ∙ ap (list_all (λ a. a.sub.answer.accepts a.value)) chosen_asked
       ∙ list_all-flat_map (λ a. a.sub.answer.accepts a.value) (λ e. map (asked_here e.0) (chosen v e)) (members d)
       ∙ (λ i. list_all (λ e. list_all-map (λ a. a.sub.answer.accepts a.value) (asked_here e.0) (chosen v e) i) (members d))

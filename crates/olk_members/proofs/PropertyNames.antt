@@ -3,6 +3,7 @@ use Rattle.std.specs.Prelude.{◌≡◌, Bool, true, false, not, ◌&&◌, ◌||
 use Rattle.std.specs.List.{list_all, flat_map}
 use Rattle.std.proofs.Common.{refl, sym, ◌∙◌, ap}
 use Rattle.std.proofs.lemmas.List.{append-nil}
+use Rattle.std.proofs.Math.Bool.{and-true}
 use mathlib.Core.Bool.{true≢false}
 use Rattle.serde_json.specs.Data.{Data, null, boolean, number, string, array, object, Members}
 use Rattle.olk_spec.specs.Names.{Name, Path, ◌//◌, down, is_empty, put_if}
@@ -18,14 +19,13 @@ use Rattle.olk_spec.specs.Costs.{cost, cost_step, no_cost, total_cost}
 use Rattle.olk_spec.proofs.CostSums.{sum_first, sum_last}
 use Rattle.olk_spec.proofs.Reading.{place, whole_read}
 use Rattle.olk_members.specs.Members.{member_accepts, member_asks, member_report, member_child, member_malformations, member_cost}
-use Rattle.olk_spec.proofs.Truth.{and_true}
 use Rattle.olk_members.proofs.Asking.{names_ask_nothing}
 use Rattle.olk_members.proofs.Facts.{nothing_first}
 
 -- ---- wrapped faults
 
 module _ (v : Data) (Q : Path) where
-  like_wrapped : {f g : Fault} → IsLike f g → IsLike (wrapped v Q f) (wrapped v Q g)
+  pub like_wrapped : {f g : Fault} → IsLike f g → IsLike (wrapped v Q f) (wrapped v Q g)
   like_wrapped (like h) = like (like_names (like h))
 
   -- faults that are the same up to order are so where they are wrapped
@@ -37,7 +37,7 @@ module _ (v : Data) (Q : Path) where
 
 -- ---- what it means
 
-object_is_not_false : (d : Data) → is_object d ≡ true → is_truth false d ≡ false
+pub object_is_not_false : (d : Data) → is_object d ≡ true → is_truth false d ≡ false
 object_is_not_false null e = refl
 object_is_not_false (boolean b) e = absurd (true≢false (sym e))
 object_is_not_false (number n) e = refl
@@ -85,7 +85,7 @@ module _ (W : World) (ms : Members) (d : Data) (u : Bool) (v : Data) where
 
   module _ (names : is_object d ≡ true) where
     pub property_names_accepts : member_accepts W ms (codes "propertyNames", d) property_names u v ≡ list_all (λ m. accepts W u d (string m.0)) (members v)
-    property_names_accepts = accepts_by true false names (object_is_not_false d names) ∙ and_true _
+    property_names_accepts = accepts_by true false names (object_is_not_false d names) ∙ and-true _
 
     pub property_names_report : (P Q : Path) → member_report W ms (codes "propertyNames", d) property_names u v P Q ≡ flat_map (λ m. map (wrapped v Q) (report W u d (string m.0) (P // codes "propertyNames") Q)) (members v)
     unfolding meaning
@@ -94,14 +94,16 @@ module _ (W : World) (ms : Members) (d : Data) (u : Bool) (v : Data) where
     pub property_names_child : (P Q : Path) → member_child W ms (codes "propertyNames", d) property_names u v P Q ≡ plain (P // codes "propertyNames") Q (map (λ m. tree W u d (string m.0) (P // codes "propertyNames") Q) (members v)) ∷ []
     property_names_child P Q = child_by true false names (object_is_not_false d names) P Q
 
+  -- ---- no schema
+
+  pub no_schema_asks : member_asks W ms (codes "propertyNames", d) property_names u v ≡ 0
+  no_schema_asks = nothing_first 0
+
   -- ---- false
 
   module _ (none : is_truth false d ≡ true) where
     pub no_names_accepts : member_accepts W ms (codes "propertyNames", d) property_names u v ≡ is_empty (members v)
     no_names_accepts = accepts_by false true (false_is_no_object d none) none
-
-    pub no_names_asks : member_asks W ms (codes "propertyNames", d) property_names u v ≡ 0
-    no_names_asks = nothing_first 0
 
     pub no_names_report : (P Q : Path) → member_report W ms (codes "propertyNames", d) property_names u v P Q ≡ fault_if (not (is_empty (members v))) FalseSchema v (P // codes "propertyNames") Q
     no_names_report P Q = report_by false true (false_is_no_object d none) none P Q
@@ -114,9 +116,6 @@ module _ (W : World) (ms : Members) (d : Data) (u : Bool) (v : Data) where
   module _ (names : is_object d ≡ false) (none : is_truth false d ≡ false) where
     pub any_names_accepts : member_accepts W ms (codes "propertyNames", d) property_names u v ≡ true
     any_names_accepts = accepts_by false false names none
-
-    pub any_names_asks : member_asks W ms (codes "propertyNames", d) property_names u v ≡ 0
-    any_names_asks = nothing_first 0
 
     pub any_names_report : (P Q : Path) → member_report W ms (codes "propertyNames", d) property_names u v P Q ≡ []
     any_names_report P Q = report_by false false names none P Q

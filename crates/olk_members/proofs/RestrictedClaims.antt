@@ -2,18 +2,18 @@
 use Rattle.std.specs.Prelude.{◌≡◌, ◌&&◌, ◌||◌, Bool, true, false, cond, List, [], ◌∷◌, ◌++◌, map, Option, Some, None, is_some, option_to_list, codes, bytes_eq, IsPermutation}
 use Rattle.std.proofs.Common.{refl, sym, ◌∙◌, ap}
 use Rattle.std.proofs.lemmas.List.Sorted.{IsPermutation-refl, IsPermutation-trans, IsPermutation-append}
+use Rattle.std.proofs.Math.Bool.{and-false, or-false}
 use mathlib.Core.Path.{subst₂}
 use Rattle.serde_json.specs.Data.{Data, string, array, no_items, item, Members}
-use Rattle.olk_spec.specs.Names.{Name, lookup, those}
+use Rattle.olk_spec.specs.Names.{Name, lookup_name, filter_once}
 use Rattle.olk_spec.specs.Schemas.{listed}
 use Rattle.olk_spec.specs.Malformed.{has_repeat}
-use Rattle.olk_spec.proofs.Truth.{or_false}
 use Rattle.olk_spec.proofs.Walks.{same_name, bytes_eq-sym, Distinct-from}
 use Rattle.olk_members.specs.Conditions.{is_restricted}
 use Rattle.olk_members.specs.Fused.{fused_name}
 use Rattle.olk_members.specs.Plans.{Planned, plan_of, is_case, is_taken_over, head, claims}
 use Rattle.olk_members.specs.AdditionalProperties.{rows_at, fused_rows}
-use Rattle.olk_members.proofs.Heads.{those_split, those_none, those-same, names_of}
+use Rattle.olk_members.proofs.Heads.{those_split, those_none, filter_once-same, names_of}
 use Rattle.olk_members.proofs.Claims.{members_named, named_once, members_found, past_cases, or_true}
 use Rattle.olk_members.proofs.TakenOver.{restricted_fuses_none, fuses_one_name}
 
@@ -37,7 +37,7 @@ module _ (p : Planned) (restricted : p.restricted ≡ true) (unfused : is_some p
       by true b c = or_true (bytes_eq (codes "additionalProperties") n)
       by false true c = or_true (bytes_eq (codes "additionalProperties") n)
       by false false true = or_true (bytes_eq (codes "additionalProperties") n)
-      by false false false = not_taken_alone (codes "additionalProperties") n refl refl ∙ sym (or_false (bytes_eq (codes "additionalProperties") n))
+      by false false false = not_taken_alone (codes "additionalProperties") n refl refl ∙ sym (or-false (bytes_eq (codes "additionalProperties") n))
 
   -- what is taken over is the head of nothing
   taken_heads_none : (k : Name) → is_taken_over p k ≡ true → bytes_eq k (codes "additionalProperties") ≡ false → bytes_eq k (codes "if") ≡ false → is_case k ≡ false → (n : Name) → bytes_eq k (head p n) ≡ false
@@ -60,20 +60,20 @@ module _ (ms : Members) (restricted : is_restricted ms ≡ true) where
 
   module _ (es : List (Name × Data)) (d : Data) where
     pub claims_no_properties : claims (head (plan_of ms)) es (codes "properties", d) ≡ []
-    claims_no_properties = those-same (λ (x : Name × Data). bytes_eq (codes "properties") (head plan x.0)) (λ x. false) (λ x. taken_heads_none plan restricted unfused (codes "properties") (ap (λ b. (b && true) || (is_some plan.fused_one && false)) restricted) refl refl refl x.0) es ∙ those_none es
+    claims_no_properties = filter_once-same (λ (x : Name × Data). bytes_eq (codes "properties") (head plan x.0)) (λ x. false) (λ x. taken_heads_none plan restricted unfused (codes "properties") (ap (λ b. (b && true) || (is_some plan.fused_one && false)) restricted) refl refl refl x.0) es ∙ those_none es
 
     pub claims_no_patterns : claims (head (plan_of ms)) es (codes "patternProperties", d) ≡ []
-    claims_no_patterns = those-same (λ (x : Name × Data). bytes_eq (codes "patternProperties") (head plan x.0)) (λ x. false) (λ x. taken_heads_none plan restricted unfused (codes "patternProperties") (ap (λ b. (b && true) || (is_some plan.fused_one && false)) restricted) refl refl refl x.0) es ∙ those_none es
+    claims_no_patterns = filter_once-same (λ (x : Name × Data). bytes_eq (codes "patternProperties") (head plan x.0)) (λ x. false) (λ x. taken_heads_none plan restricted unfused (codes "patternProperties") (ap (λ b. (b && true) || (is_some plan.fused_one && false)) restricted) refl refl refl x.0) es ∙ those_none es
 
     pub claims_no_fused : is_some (fused_name ms) ≡ true → claims (head (plan_of ms)) es (codes "required", d) ≡ []
-    claims_no_fused f = those-same (λ (x : Name × Data). bytes_eq (codes "required") (head plan x.0)) (λ x. false) (λ x. taken_heads_none plan restricted unfused (codes "required") (λ i. (restricted i && false) || (f i && true)) refl refl refl x.0) es ∙ those_none es
+    claims_no_fused f = filter_once-same (λ (x : Name × Data). bytes_eq (codes "required") (head plan x.0)) (λ x. false) (λ x. taken_heads_none plan restricted unfused (codes "required") (λ i. (restricted i && false) || (f i && true)) refl refl refl x.0) es ∙ those_none es
 
   module _ (distinct : has_repeat (names_of (listed ms)) ≡ false) where
     rows_found : (k : Name) → members_named k (listed ms) ≡ rows_at k ms
-    rows_found k = members_found ms distinct k (lookup k (listed ms)) refl
+    rows_found k = members_found ms distinct k (lookup_name k (listed ms)) refl
 
     -- `required` of one name that is fused
-    fused_found : (o : Option Name) → fused_name ms ≡ o → those (λ x. is_some o && bytes_eq (codes "required") x.0) (listed ms) ≡ map (λ n. (codes "required", array (item (string n) no_items))) (option_to_list o)
+    fused_found : (o : Option Name) → fused_name ms ≡ o → filter_once (λ x. is_some o && bytes_eq (codes "required") x.0) (listed ms) ≡ map (λ n. (codes "required", array (item (string n) no_items))) (option_to_list o)
     fused_found None e = those_none (listed ms)
     fused_found (Some n) e = named_once (codes "required") (array (item (string n) no_items)) (listed ms) (Distinct-from (listed ms) distinct) (fuses_one_name ms n e).listed_at
 
@@ -83,22 +83,18 @@ module _ (ms : Members) (restricted : is_restricted ms ≡ true) where
     abbrev fused_here : Name → Bool
     fused_here n = is_some (fused_name ms) && bytes_eq (codes "required") n
 
-    never : (b : Bool) → (b && false) ≡ false
-    never true = refl
-    never false = refl
-
-    tested : IsPermutation (members_named (codes "additionalProperties") (listed ms) ++ (members_named (codes "properties") (listed ms) ++ (members_named (codes "patternProperties") (listed ms) ++ those (λ x. fused_here x.0) (listed ms)))) (those (λ x. is_below plan x.0) (listed ms))
-    tested = one_more (codes "additionalProperties") (λ n. bytes_eq (codes "properties") n || (bytes_eq (codes "patternProperties") n || fused_here n)) (never (is_some (fused_name ms)))
-        (one_more (codes "properties") (λ n. bytes_eq (codes "patternProperties") n || fused_here n) (never (is_some (fused_name ms)))
-        (one_more (codes "patternProperties") fused_here (never (is_some (fused_name ms))) (IsPermutation-refl (those (λ x. fused_here x.0) (listed ms)))))
+    tested : IsPermutation (members_named (codes "additionalProperties") (listed ms) ++ (members_named (codes "properties") (listed ms) ++ (members_named (codes "patternProperties") (listed ms) ++ filter_once (λ x. fused_here x.0) (listed ms)))) (filter_once (λ x. is_below plan x.0) (listed ms))
+    tested = one_more (codes "additionalProperties") (λ n. bytes_eq (codes "properties") n || (bytes_eq (codes "patternProperties") n || fused_here n)) (and-false (is_some (fused_name ms)))
+        (one_more (codes "properties") (λ n. bytes_eq (codes "patternProperties") n || fused_here n) (and-false (is_some (fused_name ms)))
+        (one_more (codes "patternProperties") fused_here (and-false (is_some (fused_name ms))) (IsPermutation-refl (filter_once (λ x. fused_here x.0) (listed ms)))))
       where
-        one_more : (k : Name) (test : Name → Bool) {xs : List (Name × Data)} → test k ≡ false → IsPermutation xs (those (λ x. test x.0) (listed ms)) → IsPermutation (members_named k (listed ms) ++ xs) (those (λ x. bytes_eq k x.0 || test x.0) (listed ms))
+        one_more : (k : Name) (test : Name → Bool) {xs : List (Name × Data)} → test k ≡ false → IsPermutation xs (filter_once (λ x. test x.0) (listed ms)) → IsPermutation (members_named k (listed ms) ++ xs) (filter_once (λ x. bytes_eq k x.0 || test x.0) (listed ms))
         one_more k test {xs} e h = IsPermutation-trans _ _ _ (IsPermutation-append _ _ _ _ (IsPermutation-refl (members_named k (listed ms))) h) (those_split (λ x. bytes_eq k x.0) (λ x. test x.0) (apart_of k test e) (listed ms))
 
     -- itself, `properties` and `patternProperties` where they stand, and `required` where it is fused
-    pub claims_restriction : (d : Data) → lookup (codes "additionalProperties") (listed ms) ≡ Some d
+    pub claims_restriction : (d : Data) → lookup_name (codes "additionalProperties") (listed ms) ≡ Some d
         → IsPermutation ((codes "additionalProperties", d) ∷ (rows_at (codes "properties") ms ++ (rows_at (codes "patternProperties") ms ++ fused_rows ms))) (claims (head (plan_of ms)) (listed ms) (codes "additionalProperties", d))
     claims_restriction d there = subst₂ IsPermutation
         (λ i. named_once (codes "additionalProperties") d (listed ms) (Distinct-from (listed ms) distinct) there i ++ (rows_found (codes "properties") i ++ (rows_found (codes "patternProperties") i ++ fused_found (fused_name ms) refl i)))
-        (those-same (λ (x : Name × Data). is_below plan x.0) (λ x. bytes_eq (codes "additionalProperties") (head plan x.0)) (λ x. sym (head_of_restriction plan restricted unfused x.0)) (listed ms))
+        (filter_once-same (λ (x : Name × Data). is_below plan x.0) (λ x. bytes_eq (codes "additionalProperties") (head plan x.0)) (λ x. sym (head_of_restriction plan restricted unfused x.0)) (listed ms))
         tested

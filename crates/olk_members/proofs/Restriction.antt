@@ -7,8 +7,9 @@ use Rattle.std.proofs.lemmas.List.Folds.{list_all-append}
 use Rattle.std.proofs.lemmas.List.Sums.{sum_by-cons, sum_by-append}
 use Rattle.std.proofs.lemmas.Grind.{flat_map-append}
 use Rattle.std.proofs.lemmas.List.Sorted.{sum_by-IsPermutation}
+use Rattle.std.proofs.Math.Bool.{and_assoc, and-true}
 use Rattle.serde_json.specs.Data.{Data, string, array, no_items, item, Members}
-use Rattle.olk_spec.specs.Names.{Name, Path, ◌//◌, lookup, is_empty}
+use Rattle.olk_spec.specs.Names.{Name, Path, ◌//◌, lookup_name, is_empty}
 use Rattle.olk_spec.specs.World.{World}
 use Rattle.olk_spec.specs.Vocabulary.{keyword_named}
 use Rattle.olk_spec.specs.Faults.{Fault, ◌∼◌, like_through}
@@ -19,7 +20,6 @@ use Rattle.olk_spec.specs.Meaning.{accepts, asks, report, meaning_step}
 use Rattle.olk_spec.specs.Accepts.{missing}
 use Rattle.olk_spec.specs.Reports.{required_faults}
 use Rattle.olk_spec.proofs.Order.{∼_same, ∼_sym, ∼_append, ∼_before, ∼_behind, ∼_swap, ∼_parts, ∼_permuted}
-use Rattle.olk_spec.proofs.Truth.{and_true}
 use Rattle.olk_spec.proofs.Walks.{Distinct-from, list_all-and, list_all-other_side, ∼_other_side}
 use Rattle.olk_members.specs.Conditions.{is_restricted}
 use Rattle.olk_members.specs.Fused.{fused_name}
@@ -52,7 +52,7 @@ found_in_order r o a b c =
     (like_through (∼_before a (∼_before b (∼_swap c (r ++ o))))
     (∼_same (ap (λ l. a ++ (b ++ l)) (append_assoc r o c) ∙ ap (λ l. a ++ l) (sym (append_assoc b r (o ++ c))) ∙ sym (append_assoc a (b ++ r) (o ++ c)) ∙ sym (append_assoc (a ++ (b ++ r)) o c)))))
 
-module _ (W : World) (ms : Members) (d : Data) (distinct : has_repeat (names_of (listed ms)) ≡ false) (there : lookup (codes "additionalProperties") (listed ms) ≡ Some d) (restricted : is_restricted ms ≡ true) (u : Bool) (v : Data) where
+module _ (W : World) (ms : Members) (d : Data) (distinct : has_repeat (names_of (listed ms)) ≡ false) (there : lookup_name (codes "additionalProperties") (listed ms) ≡ Some d) (restricted : is_restricted ms ≡ true) (u : Bool) (v : Data) where
   abbrev fs : List (Name × Data)
   fs = declared_beside ms
 
@@ -69,25 +69,25 @@ module _ (W : World) (ms : Members) (d : Data) (distinct : has_repeat (names_of 
   row_accepts m = member_accepts W ms m (keyword_named W m.0) u v
 
   declared_rows_accept : list_all row_accepts (rows_at (codes "properties") ms) ≡ list_all (λ e. list_all (accepts W u e.1) (at e.0 v)) fs
-  declared_rows_accept = by (lookup (codes "properties") (listed ms))
+  declared_rows_accept = by (lookup_name (codes "properties") (listed ms))
     where
       by : (o : Option Data) → list_all row_accepts (map (λ d. (codes "properties", d)) (option_to_list o)) ≡ list_all (λ e. list_all (accepts W u e.1) (at e.0 v)) (entries_in o)
       by None = refl
-      by (Some d) = and_true _ ∙ declared_accept W ms d u v
+      by (Some d) = and-true _ ∙ declared_accept W ms d u v
 
   pattern_rows_accept : list_all row_accepts (rows_at (codes "patternProperties") ms) ≡ list_all (matching_accept W u fs es) (members v)
-  pattern_rows_accept = by (lookup (codes "patternProperties") (listed ms)) ∙ list_all-exchanged (λ e x. matches W u e.0 x.0) (λ e x. accepts W u e.1 x.1) es (members v)
+  pattern_rows_accept = by (lookup_name (codes "patternProperties") (listed ms)) ∙ list_all-exchanged (λ e x. matches W u e.0 x.0) (λ e x. accepts W u e.1 x.1) es (members v)
     where
       by : (o : Option Data) → list_all row_accepts (map (λ d. (codes "patternProperties", d)) (option_to_list o)) ≡ list_all (λ e. list_all (λ x. accepts W u e.1 x.1) (matched_members W u e.0 v)) (entries_in o)
       by None = refl
-      by (Some d) = and_true _ ∙ pattern_properties_accepts W ms d u v
+      by (Some d) = and-true _ ∙ pattern_properties_accepts W ms d u v
 
   fused_rows_accept : list_all row_accepts (fused_rows ms) ≡ is_empty (missing (required_beside ms) v)
   fused_rows_accept = by (fused_name ms)
     where
       by : (o : Option Name) → list_all row_accepts (map (λ n. (codes "required", array (item (string n) no_items))) (option_to_list o)) ≡ is_empty (missing (option_to_list o) v)
       by None = refl
-      by (Some n) = and_true _ ∙ required_accepts W ms (array (item (string n) no_items)) u v
+      by (Some n) = and-true _ ∙ required_accepts W ms (array (item (string n) no_items)) u v
 
   -- each declared schema at the member of its name, and each member by the patterns and the rest
   pub claims_accept : list_all row_accepts claimed ≡ ((list_all (λ e. list_all (accepts W u e.1) (at e.0 v)) fs && list_all (λ x. matching_accept W u fs es x && rest_accepts W u fs es d x) (members v)) && is_empty (missing (required_beside ms) v))
@@ -106,12 +106,8 @@ module _ (W : World) (ms : Members) (d : Data) (distinct : has_repeat (names_of 
     pub claims_accept_each : list_all row_accepts claimed ≡ (list_all (each_accepts W u fs es d) (members v) && is_empty (missing (required_beside ms) v))
     claims_accept_each = claims_accept ∙ ap (λ b. b && is_empty (missing (required_beside ms) v))
         ((λ i. declared_by_member i && list_all-and (matching_accept W u fs es) (rest_accepts W u fs es d) (members v) i)
-        ∙ regrouped (list_all (declared_accepts W u fs es) (members v)) (list_all (matching_accept W u fs es) (members v)) (list_all (rest_accepts W u fs es d) (members v))
+        ∙ sym (and_assoc (list_all (declared_accepts W u fs es) (members v)) (list_all (matching_accept W u fs es) (members v)) (list_all (rest_accepts W u fs es d) (members v)))
         ∙ sym ((list_all-and (λ x. declared_accepts W u fs es x && matching_accept W u fs es x) (rest_accepts W u fs es d) (members v)) ∙ ap (λ b. b && list_all (rest_accepts W u fs es d) (members v)) (list_all-and (declared_accepts W u fs es) (matching_accept W u fs es) (members v))))
-      where
-        regrouped : (a b c : Bool) → (a && (b && c)) ≡ ((a && b) && c)
-        regrouped true b c = refl
-        regrouped false b c = refl
 
   -- ---- the faults, where the schema object stands at P and the value at Q
 
@@ -130,14 +126,14 @@ module _ (W : World) (ms : Members) (d : Data) (distinct : has_repeat (names_of 
     required_found = required_faults (required_beside ms) v (P // codes "required") Q
 
     declared_rows_find : flat_map row_report (rows_at (codes "properties") ms) ≡ declared_found
-    declared_rows_find = by (lookup (codes "properties") (listed ms))
+    declared_rows_find = by (lookup_name (codes "properties") (listed ms))
       where
         by : (o : Option Data) → flat_map row_report (map (λ d. (codes "properties", d)) (option_to_list o)) ≡ flat_map (λ e. flat_map (λ x. report W u e.1 x (P // codes "properties" // e.0) (Q // e.0)) (at e.0 v)) (entries_in o)
         by None = refl
         by (Some d) = append-nil _ ∙ declared_find W ms d u v P Q
 
     pattern_rows_find : flat_map row_report (rows_at (codes "patternProperties") ms) ∼ flat_map (matching_report W u fs es P Q) (members v)
-    pattern_rows_find = like_through (∼_same (by (lookup (codes "patternProperties") (listed ms)))) (∼_exchanged (λ e x. matches W u e.0 x.0) (λ e x. report W u e.1 x.1 (P // codes "patternProperties" // e.0) (Q // x.0)) es (members v))
+    pattern_rows_find = like_through (∼_same (by (lookup_name (codes "patternProperties") (listed ms)))) (∼_exchanged (λ e x. matches W u e.0 x.0) (λ e x. report W u e.1 x.1 (P // codes "patternProperties" // e.0) (Q // x.0)) es (members v))
       where
         by : (o : Option Data) → flat_map row_report (map (λ d. (codes "patternProperties", d)) (option_to_list o)) ≡ flat_map (λ e. flat_map (λ x. report W u e.1 x.1 (P // codes "patternProperties" // e.0) (Q // x.0)) (matched_members W u e.0 v)) (entries_in o)
         by None = refl
@@ -191,14 +187,14 @@ module _ (W : World) (ms : Members) (d : Data) (distinct : has_repeat (names_of 
   one_row_asks m = sum_by-cons row_asks m [] ∙ nothing_last _
 
   declared_rows_ask : sum_by row_asks (rows_at (codes "properties") ms) ≡ declared_asked
-  declared_rows_ask = by (lookup (codes "properties") (listed ms))
+  declared_rows_ask = by (lookup_name (codes "properties") (listed ms))
     where
       by : (o : Option Data) → sum_by row_asks (map (λ d. (codes "properties", d)) (option_to_list o)) ≡ sum_by (λ e. sum_by (asks W u e.1) (at e.0 v)) (entries_in o)
       by None = refl
       by (Some d) = one_row_asks (codes "properties", d) ∙ declared_ask W ms d u v
 
   pattern_rows_ask : sum_by row_asks (rows_at (codes "patternProperties") ms) ≡ sum_by (λ x. matching_asks W u fs es x + patterns_asked W fs es x.0) (members v)
-  pattern_rows_ask = by (lookup (codes "patternProperties") (listed ms))
+  pattern_rows_ask = by (lookup_name (codes "patternProperties") (listed ms))
     where
       either : (b : Bool) → 0 + cond b 0 0 ≡ 0
       either true = omega arith

@@ -3,9 +3,10 @@ use Rattle.std.specs.Prelude.{◌≡◌, Bool, true, false, not, cond, ◌&&◌,
 use Rattle.std.specs.List.{flat_map}
 use Rattle.std.proofs.Common.{refl, sym, ◌∙◌, ap, subst}
 use Rattle.std.proofs.lemmas.List.{append-nil}
+use Rattle.std.proofs.Math.Bool.{and-true}
 use mathlib.Core.Bool.{true≢false}
 use Rattle.serde_json.specs.Data.{Data, Members}
-use Rattle.olk_spec.specs.Names.{Name, Path, ◌//◌, lookup, those, put_if, is_among, is_empty}
+use Rattle.olk_spec.specs.Names.{Name, Path, ◌//◌, lookup_name, filter_once, put_if, is_among, is_empty}
 use Rattle.olk_spec.specs.World.{World}
 use Rattle.olk_spec.specs.Vocabulary.{properties, pattern_properties, additional_properties, required, keyword_named}
 use Rattle.olk_spec.specs.Schemas.{Keywords, read, read_members, listed, members, is_object, texts}
@@ -18,7 +19,7 @@ use Rattle.olk_spec.specs.Tree.{Tree, node, no_tree, result, erring, described}
 use Rattle.olk_spec.specs.Trees.{declared_trees, pattern_trees, additional_trees, additional_names, matched_names, missing_child, fuses_one, fuses_two}
 use Rattle.olk_spec.proofs.Each.{Each, Each-implies}
 use Rattle.olk_spec.proofs.Maps.{map-map}
-use Rattle.olk_spec.proofs.Truth.{and_true, is_among-those, Each-among}
+use Rattle.olk_spec.proofs.Truth.{is_among-filter_once, Each-among}
 use Rattle.olk_spec.proofs.Reading.{entry, whole_read}
 use Rattle.olk_spec.proofs.Walks.{same_name, Distinct-from}
 use Rattle.olk_members.specs.Conditions.{is_restricted}
@@ -58,7 +59,7 @@ module _ (W : World) (ms : Members) (u : Bool) (v : Data) (P Q : Path) where
   -- ---- of a member
 
   declared_trees_read : (x : Name × Data) → declared_trees W u S v P Q x ≡ declared_shown W u fs es P Q x
-  declared_trees_read x = ap (λ l. map (λ s. s.answer.tree x.1 (P // codes "properties" // x.0) (Q // x.0)) (option_to_list (lookup x.0 l))) (entries_beside (meaning_step W u) ms (codes "properties")) ∙ entry_shown W u v (P // codes "properties") Q x fs
+  declared_trees_read x = ap (λ l. map (λ s. s.answer.tree x.1 (P // codes "properties" // x.0) (Q // x.0)) (option_to_list (lookup_name x.0 l))) (entries_beside (meaning_step W u) ms (codes "properties")) ∙ entry_shown W u v (P // codes "properties") Q x fs
 
   pattern_trees_read : (x : Name × Data) → pattern_trees W u S v P Q x ≡ matching_shown W u fs es P Q x
   unfolding meaning
@@ -74,7 +75,7 @@ module _ (W : World) (ms : Members) (u : Bool) (v : Data) (P Q : Path) where
   -- a member is among the others if it is one
   others_there : Each (λ x. is_among x.0 (other_names W u fs es v) ≡ is_other W u fs es x.0) (members v)
   others_there = Each-implies (λ x. is_among x.0 (map (λ e. e.0) (members v)) ≡ true) (λ x. is_among x.0 (other_names W u fs es v) ≡ is_other W u fs es x.0)
-      (λ x h. is_among-those (is_other W u fs es) x.0 (members v) ∙ ap (λ b. is_other W u fs es x.0 && b) h ∙ and_true _)
+      (λ x h. is_among-filter_once (is_other W u fs es) x.0 (members v) ∙ ap (λ b. is_other W u fs es x.0 && b) h ∙ and-true _)
       (members v) (Each-among (members v))
 
   -- ---- `required` inside
@@ -122,17 +123,17 @@ module _ (W : World) (ms : Members) (u : Bool) (v : Data) (P Q : Path) where
 
 module _ {X Y : Type 0} (f : X → List Y) (s t : X → Bool) (kept : (x : X) → s x ≡ true → t x ≡ true) (empty : (x : X) → t x ≡ true → s x ≡ false → f x ≡ []) where
   -- those of which nothing comes may be left out
-  flat_narrowed : (xs : List X) → flat_map f (those t xs) ≡ flat_map f (those s xs)
+  flat_narrowed : (xs : List X) → flat_map f (filter_once t xs) ≡ flat_map f (filter_once s xs)
   flat_narrowed [] = refl
   flat_narrowed (x ∷ xs) = by (s x) (t x) (kept x) (empty x) (flat_narrowed xs)
     where
-      by : (a b : Bool) → (a ≡ true → b ≡ true) → (b ≡ true → a ≡ false → f x ≡ []) → flat_map f (those t xs) ≡ flat_map f (those s xs) → flat_map f (put_if b x (those t xs)) ≡ flat_map f (put_if a x (those s xs))
+      by : (a b : Bool) → (a ≡ true → b ≡ true) → (b ≡ true → a ≡ false → f x ≡ []) → flat_map f (filter_once t xs) ≡ flat_map f (filter_once s xs) → flat_map f (put_if b x (filter_once t xs)) ≡ flat_map f (put_if a x (filter_once s xs))
       by true true k e h = ap (λ l. f x ++ l) h
       by true false k e h = absurd (true≢false (sym (k refl)))
-      by false true k e h = ap (λ l. l ++ flat_map f (those t xs)) (e refl refl) ∙ h
+      by false true k e h = ap (λ l. l ++ flat_map f (filter_once t xs)) (e refl refl) ∙ h
       by false false k e h = h
 
-module _ (W : World) (ms : Members) (d : Data) (distinct : has_repeat (names_of (listed ms)) ≡ false) (there : lookup (codes "additionalProperties") (listed ms) ≡ Some d) (restricted : is_restricted ms ≡ true) (u : Bool) (v : Data) (P Q : Path) where
+module _ (W : World) (ms : Members) (d : Data) (distinct : has_repeat (names_of (listed ms)) ≡ false) (there : lookup_name (codes "additionalProperties") (listed ms) ≡ Some d) (restricted : is_restricted ms ≡ true) (u : Bool) (v : Data) (P Q : Path) where
   abbrev row_child : Name × Data → List Tree
   row_child m = member_child W ms m (keyword_named W m.0) u v P Q
 

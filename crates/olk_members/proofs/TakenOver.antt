@@ -3,7 +3,7 @@ use Rattle.std.specs.Prelude.{◌≡◌, ◌&&◌, ◌||◌, Bool, true, false, 
 use Rattle.std.proofs.Common.{refl, sym, ◌∙◌, ap, ◌⊎◌, inl, inr}
 use mathlib.Core.Bool.{true≢false}
 use Rattle.serde_json.specs.Data.{Data, null, boolean, number, string, array, object, Members, no_items, item}
-use Rattle.olk_spec.specs.Names.{Name, lookup}
+use Rattle.olk_spec.specs.Names.{Name, lookup_name}
 use Rattle.olk_spec.specs.Schemas.{listed}
 use Rattle.olk_spec.proofs.Walks.{same_name, bytes_eq-sym}
 use Rattle.olk_members.specs.Conditions.{is_restriction, is_restricted}
@@ -67,8 +67,8 @@ restriction_at : (o : Option Data) → is_restriction o ≡ true → (d : Data) 
 restriction_at None e = absurd (true≢false (sym e))
 restriction_at (Some d) e = (d, refl)
 
-pub restriction_there : (ms : Members) → is_restricted ms ≡ true → (d : Data) × (lookup (codes "additionalProperties") (listed ms) ≡ Some d)
-restriction_there ms e = restriction_at (lookup (codes "additionalProperties") (listed ms)) e
+pub restriction_there : (ms : Members) → is_restricted ms ≡ true → (d : Data) × (lookup_name (codes "additionalProperties") (listed ms) ≡ Some d)
+restriction_there ms e = restriction_at (lookup_name (codes "additionalProperties") (listed ms)) e
 
 no_truth : {X : Type 0} (e : false ≡ true) → X
 no_truth e = absurd (true≢false (sym e))
@@ -89,7 +89,7 @@ refused_closed o e = no_truth e
 
 -- two names are fused where nothing is restricted
 pub fusing_is_free : (ms : Members) → is_some (fused_names ms) ≡ true → is_restricted ms ≡ false
-fusing_is_free ms e = allowed_unrestricted (lookup (codes "additionalProperties") (listed ms)) (by (declares_few (lookup (codes "properties") (listed ms))) (is_none (lookup (codes "patternProperties") (listed ms))) (allows_others (lookup (codes "additionalProperties") (listed ms))) (two_names (lookup (codes "required") (listed ms))) e)
+fusing_is_free ms e = allowed_unrestricted (lookup_name (codes "additionalProperties") (listed ms)) (by (declares_few (lookup_name (codes "properties") (listed ms))) (is_none (lookup_name (codes "patternProperties") (listed ms))) (allows_others (lookup_name (codes "additionalProperties") (listed ms))) (two_names (lookup_name (codes "required") (listed ms))) e)
   where
     by : (a b c : Bool) (o : Option (Name × Name)) → is_some (cond (a && b && c) o None) ≡ true → c ≡ true
     by true true true o h = refl
@@ -106,10 +106,10 @@ restricted_fuses_none ms e = by (is_some (fused_names ms)) refl
 
 -- the name is the one that `required` lists beside `properties` and `additionalProperties`, which is false, where there are no patterns
 pub record FusesOne (ms : Members) (n : Name) : Type 0 where
-  pub declared : is_some (lookup (codes "properties") (listed ms)) ≡ true
-  pub unpatterned : lookup (codes "patternProperties") (listed ms) ≡ None
-  pub closed : lookup (codes "additionalProperties") (listed ms) ≡ Some (boolean false)
-  pub listed_at : lookup (codes "required") (listed ms) ≡ Some (array (item (string n) no_items))
+  pub declared : is_some (lookup_name (codes "properties") (listed ms)) ≡ true
+  pub unpatterned : lookup_name (codes "patternProperties") (listed ms) ≡ None
+  pub closed : lookup_name (codes "additionalProperties") (listed ms) ≡ Some (boolean false)
+  pub listed_at : lookup_name (codes "required") (listed ms) ≡ Some (array (item (string n) no_items))
 
 listed_name : (o : Option Data) (n : Name) → one_name o ≡ Some n → o ≡ Some (array (item (string n) no_items))
 listed_name (Some (array (item (string a) no_items))) n e = ap (λ m. Some (array (item (string (unwrap_or m a)) no_items))) e
@@ -120,14 +120,14 @@ none_where None e = refl
 none_where (Some x) e = no_truth e
 
 pub fuses_one_name : (ms : Members) (n : Name) → fused_name ms ≡ Some n → FusesOne ms n
-fuses_one_name ms n e = by _ _ _ (one_name (lookup (codes "required") (listed ms))) refl refl refl refl e
+fuses_one_name ms n e = by _ _ _ (one_name (lookup_name (codes "required") (listed ms))) refl refl refl refl e
   where
-    by : (a b c : Bool) (o : Option Name) → is_some (lookup (codes "properties") (listed ms)) ≡ a → is_none (lookup (codes "patternProperties") (listed ms)) ≡ b → refuses_others (lookup (codes "additionalProperties") (listed ms)) ≡ c → one_name (lookup (codes "required") (listed ms)) ≡ o → cond (a && b && c) o None ≡ Some n → FusesOne ms n
+    by : (a b c : Bool) (o : Option Name) → is_some (lookup_name (codes "properties") (listed ms)) ≡ a → is_none (lookup_name (codes "patternProperties") (listed ms)) ≡ b → refuses_others (lookup_name (codes "additionalProperties") (listed ms)) ≡ c → one_name (lookup_name (codes "required") (listed ms)) ≡ o → cond (a && b && c) o None ≡ Some n → FusesOne ms n
     by true true true o p q r s h = record {
       declared = p;
-      unpatterned = none_where (lookup (codes "patternProperties") (listed ms)) q;
-      closed = refused_closed (lookup (codes "additionalProperties") (listed ms)) r;
-      listed_at = listed_name (lookup (codes "required") (listed ms)) n (s ∙ h);
+      unpatterned = none_where (lookup_name (codes "patternProperties") (listed ms)) q;
+      closed = refused_closed (lookup_name (codes "additionalProperties") (listed ms)) r;
+      listed_at = listed_name (lookup_name (codes "required") (listed ms)) n (s ∙ h);
     }
     by true true false o p q r s h = absurd (true≢false (sym (ap is_some h)))
     by true false c o p q r s h = absurd (true≢false (sym (ap is_some h)))

@@ -2,7 +2,7 @@
 use Rattle.std.specs.Prelude.{ℕ, ◌+◌, Bool, true, false, not, cond, ◌&&◌, ◌||◌, List, [], ◌++◌, map, length, Option, Some, None, option_to_list, is_some, codes, sum_by, count_by}
 use Rattle.std.specs.List.{list_all, flat_map}
 use Rattle.serde_json.specs.Data.{Data, string, array, no_items, item, Members}
-use Rattle.olk_spec.specs.Names.{Name, Text, Path, ◌//◌, lookup, those, is_among, is_empty}
+use Rattle.olk_spec.specs.Names.{Name, Text, Path, ◌//◌, lookup_name, filter_once, is_among, is_empty}
 use Rattle.olk_spec.specs.World.{World, is_unfinished}
 use Rattle.olk_spec.specs.Faults.{Fault}
 use Rattle.olk_spec.specs.Schemas.{listed, members, is_object, is_truth}
@@ -22,7 +22,7 @@ is_rule d = is_object d || is_truth true d || is_truth false d
 
 -- the member of a name, if there is one
 abbrev pub rows_at : Name → Members → List (Name × Data)
-rows_at k ms = map (λ d. (k, d)) (option_to_list (lookup k (listed ms)))
+rows_at k ms = map (λ d. (k, d)) (option_to_list (lookup_name k (listed ms)))
 
 -- `required` of one name, where it is taken over
 abbrev pub fused_rows : Members → List (Name × Data)
@@ -35,10 +35,10 @@ entries_in (Some d) = members d
 
 -- the schemas that `properties` declares under their names, and those of `patternProperties` under their patterns
 abbrev pub declared_beside : Members → List (Name × Data)
-declared_beside ms = entries_in (lookup (codes "properties") (listed ms))
+declared_beside ms = entries_in (lookup_name (codes "properties") (listed ms))
 
 abbrev pub patterns_beside : Members → List (Name × Data)
-patterns_beside ms = entries_in (lookup (codes "patternProperties") (listed ms))
+patterns_beside ms = entries_in (lookup_name (codes "patternProperties") (listed ms))
 
 -- the name that is required, none or one
 abbrev pub required_beside : Members → List Name
@@ -46,10 +46,10 @@ required_beside ms = option_to_list (fused_name ms)
 
 -- the two stand there; where one does, members that are not expected are told by name
 abbrev pub declares_beside : Members → Bool
-declares_beside ms = is_some (lookup (codes "properties") (listed ms))
+declares_beside ms = is_some (lookup_name (codes "properties") (listed ms))
 
 abbrev pub matches_beside : Members → Bool
-matches_beside ms = is_some (lookup (codes "patternProperties") (listed ms))
+matches_beside ms = is_some (lookup_name (codes "patternProperties") (listed ms))
 
 abbrev pub has_beside : Members → Bool
 has_beside ms = declares_beside ms || matches_beside ms
@@ -62,12 +62,12 @@ module _ (fs : List (Name × Data)) where
 
   -- the schema that is declared at a name, none or one
   abbrev pub declared_at : Name → List Data
-  declared_at n = option_to_list (lookup n fs)
+  declared_at n = option_to_list (lookup_name n fs)
 
 module _ (W : World) where
   -- the patterns that the matcher is asked for
   abbrev pub open_among : List (Name × Data) → List Text
-  open_among es = those (is_open W) (map (λ e. e.0) es)
+  open_among es = filter_once (is_open W) (map (λ e. e.0) es)
 
   -- how many matchers are asked of a name: of a declared one those that leave it unfinished, of another each
   abbrev pub patterns_asked : List (Name × Data) → List (Name × Data) → Name → ℕ
@@ -75,7 +75,7 @@ module _ (W : World) where
 
   -- the schemas whose pattern matches a name
   abbrev pub matching_at : Bool → List (Name × Data) → Name → List (Name × Data)
-  matching_at u es n = those (λ e. matches W u e.0 n) es
+  matching_at u es n = filter_once (λ e. matches W u e.0 n) es
 
 module _ (W : World) (u : Bool) (fs es : List (Name × Data)) where
   -- it is neither declared nor matched
@@ -83,7 +83,7 @@ module _ (W : World) (u : Bool) (fs es : List (Name × Data)) where
   is_other n = not (is_declared_in fs n) && is_empty (matching_at W u es n)
 
   abbrev pub other_members : Data → List (Name × Data)
-  other_members v = those (λ x. is_other x.0) (members v)
+  other_members v = filter_once (λ x. is_other x.0) (members v)
 
   -- ---- a member is accepted by its declared schema, by those of its patterns, and where there is neither by the rest
 

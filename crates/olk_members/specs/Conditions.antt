@@ -5,14 +5,14 @@ use Rattle.std.specs.BTreeMap.{BTreeMap}
 use Rattle.serde_json.specs.Data.{Data, Members}
 use Rattle.serde_json.specs.View.{members_view}
 use Rattle.serde_json.specs.declared.value.Value.{Value}
-use Rattle.olk_spec.specs.Names.{Name, lookup, is_among}
+use Rattle.olk_spec.specs.Names.{Name, lookup_name, is_among}
 use Rattle.olk_spec.specs.Schemas.{listed, is_object, is_truth}
 use Rattle.olk_members.specs.AdditionalProperties.{declared_beside}
 use Rattle.olk_members.specs.declared.neighbours.Neighbours.{Neighbours}
 
 -- `if` stands beside `then` or `else` in a schema object with these members
 abbrev pub is_condition : Members → Bool
-is_condition ms = is_some (lookup (codes "if") (listed ms)) && (is_some (lookup (codes "then") (listed ms)) || is_some (lookup (codes "else") (listed ms)))
+is_condition ms = is_some (lookup_name (codes "if") (listed ms)) && (is_some (lookup_name (codes "then") (listed ms)) || is_some (lookup_name (codes "else") (listed ms)))
 
 -- one of the three keywords that are read together
 abbrev pub is_conditional_name : Name → Bool
@@ -24,7 +24,7 @@ is_restriction None = false
 is_restriction (Some d) = is_truth false d || is_object d
 
 abbrev pub is_restricted : Members → Bool
-is_restricted ms = is_restriction (lookup (codes "additionalProperties") (listed ms))
+is_restricted ms = is_restriction (lookup_name (codes "additionalProperties") (listed ms))
 
 -- one of the keywords that mean something else beside others
 abbrev pub is_read_beside : Name → Bool
@@ -47,4 +47,4 @@ known n = record { condition = n.condition; declared = declared_in (option_map (
 
 -- of `if`, `then` and `else`: the keyword stands in the object, and it is known whether `if` is read there; of `patternProperties`: it is known of which names the patterns are asked
 abbrev pub IsKnown : Known → Members → Name → Type 0
-IsKnown c ms k = (is_conditional_name k ≡ true → (c.condition ≡ is_condition ms) × (is_some (lookup k (listed ms)) ≡ true)) × (k ≡ codes "patternProperties" → c.declared ≡ (known_of ms).declared)
+IsKnown c ms k = (is_conditional_name k ≡ true → (c.condition ≡ is_condition ms) × (is_some (lookup_name k (listed ms)) ≡ true)) × (k ≡ codes "patternProperties" → c.declared ≡ (known_of ms).declared)

@@ -2,7 +2,7 @@
 use Rattle.std.specs.Prelude.{ℕ, Bool, not, cond, List}
 use Rattle.std.specs.List.{list_all}
 use Rattle.serde_json.specs.Data.{Data}
-use Rattle.olk_spec.specs.Names.{Name, Path, ◌//◌, those, is_empty}
+use Rattle.olk_spec.specs.Names.{Name, Path, ◌//◌, filter_once, is_empty}
 use Rattle.olk_spec.specs.World.{World}
 use Rattle.olk_spec.specs.Faults.{Fault}
 use Rattle.olk_spec.specs.Schemas.{is_array, members, has, texts}
@@ -13,15 +13,15 @@ use Rattle.olk_spec.specs.Tree.{Tree, erring}
 
 -- the entries of d whose key is a member of v
 abbrev pub due_entries : Data → Data → List (Name × Data)
-due_entries d v = those (λ e. has e.0 v) (members d)
+due_entries d v = filter_once (λ e. has e.0 v) (members d)
 
 -- the entries that are lists of names
 abbrev pub list_entries : Data → List (Name × Data)
-list_entries d = those (λ e. is_array e.1) (members d)
+list_entries d = filter_once (λ e. is_array e.1) (members d)
 
 -- the entries that are schemas
 abbrev pub schema_entries : Data → List (Name × Data)
-schema_entries d = those (λ e. not (is_array e.1)) (members d)
+schema_entries d = filter_once (λ e. not (is_array e.1)) (members d)
 
 -- each entry is a list
 abbrev pub are_lists : Data → Bool

@@ -1,7 +1,7 @@
 -- Which names of `required` the validators of `properties` and `additionalProperties` fuse.
 use Rattle.std.specs.Prelude.{Bool, true, false, cond, not, ◌&&◌, nat_lt, length, Option, Some, None, is_some, is_none, codes, bytes_eq}
 use Rattle.serde_json.specs.Data.{Data, boolean, string, object, array, Members, no_items, item}
-use Rattle.olk_spec.specs.Names.{Name, lookup}
+use Rattle.olk_spec.specs.Names.{Name, lookup_name}
 use Rattle.olk_spec.specs.Schemas.{listed}
 use Rattle.olk_spec.specs.declared.TheConstants.{HASHMAP_THRESHOLD}
 
@@ -23,7 +23,7 @@ two_names o = None
 
 -- the two names that `properties` fuses from `required` in a schema object with these members
 abbrev pub fused_names : Members → Option (Name × Name)
-fused_names ms = cond (declares_few (lookup (codes "properties") (listed ms)) && is_none (lookup (codes "patternProperties") (listed ms)) && allows_others (lookup (codes "additionalProperties") (listed ms))) (two_names (lookup (codes "required") (listed ms))) None
+fused_names ms = cond (declares_few (lookup_name (codes "properties") (listed ms)) && is_none (lookup_name (codes "patternProperties") (listed ms)) && allows_others (lookup_name (codes "additionalProperties") (listed ms))) (two_names (lookup_name (codes "required") (listed ms))) None
 
 -- ---- the name of one
 
@@ -39,4 +39,4 @@ one_name o = None
 
 -- the name that `additionalProperties` fuses from `required` in a schema object with these members
 abbrev pub fused_name : Members → Option Name
-fused_name ms = cond (is_some (lookup (codes "properties") (listed ms)) && is_none (lookup (codes "patternProperties") (listed ms)) && refuses_others (lookup (codes "additionalProperties") (listed ms))) (one_name (lookup (codes "required") (listed ms))) None
+fused_name ms = cond (is_some (lookup_name (codes "properties") (listed ms)) && is_none (lookup_name (codes "patternProperties") (listed ms)) && refuses_others (lookup_name (codes "additionalProperties") (listed ms))) (one_name (lookup_name (codes "required") (listed ms))) None

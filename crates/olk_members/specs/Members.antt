@@ -1,7 +1,7 @@
 -- What a member of a schema object means, shows, refuses and costs as a keyword.
 use Rattle.std.specs.Prelude.{◌≡◌, ⊤, false, Some, ℕ, Bool, List}
 use Rattle.serde_json.specs.Data.{Data, Members}
-use Rattle.olk_spec.specs.Names.{Name, Path, lookup}
+use Rattle.olk_spec.specs.Names.{Name, Path, lookup_name}
 use Rattle.olk_spec.specs.World.{World}
 use Rattle.olk_spec.specs.Vocabulary.{properties, pattern_properties, required, Keyword}
 use Rattle.olk_spec.specs.Faults.{Fault}
@@ -40,7 +40,7 @@ module _ (W : World) (ms : Members) (m : Name × Data) (w : Keyword) where
 -- the member has a child of its own, which shows nothing of its neighbours
 module _ (W : World) (u : Bool) (ms : Members) (m : Name × Data) where
   abbrev pub StandsAlone : Keyword → Type 0
-  StandsAlone properties = (lookup m.0 (listed ms) ≡ Some m.1) × (restricts (read_members (meaning_step W u) ms) ≡ false) × (fuses_two (read_members (meaning_step W u) ms) ≡ false)
+  StandsAlone properties = (lookup_name m.0 (listed ms) ≡ Some m.1) × (restricts (read_members (meaning_step W u) ms) ≡ false) × (fuses_two (read_members (meaning_step W u) ms) ≡ false)
   StandsAlone pattern_properties = restricts (read_members (meaning_step W u) ms) ≡ false
   StandsAlone required = (fuses_one (read_members (meaning_step W u) ms) ≡ false) × (fuses_two (read_members (meaning_step W u) ms) ≡ false)
   StandsAlone w = ⊤

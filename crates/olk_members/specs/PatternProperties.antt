@@ -1,7 +1,7 @@
 -- What the entries of `patternProperties` ask for, over their raw data.
 use Rattle.std.specs.Prelude.{ℕ, ◌*◌, Bool, not, cond, ◌&&◌, List, [], map, length}
 use Rattle.serde_json.specs.Data.{Data, string}
-use Rattle.olk_spec.specs.Names.{Name, Text, Path, ◌//◌, those, put_if}
+use Rattle.olk_spec.specs.Names.{Name, Text, Path, ◌//◌, filter_once, put_if}
 use Rattle.olk_spec.specs.Faults.{Fault, Regex}
 use Rattle.olk_spec.specs.Malformed.{refusal}
 use Rattle.olk_spec.specs.Costs.{Cost, no_cost}
@@ -12,7 +12,7 @@ use Rattle.olk_spec.specs.Meanings.{matches, is_open}
 module _ (W : World) where
   -- the members of v whose names the pattern matches
   abbrev pub matched_members : Bool → Text → Data → List (Name × Data)
-  matched_members u t v = those (λ x. matches W u t x.0) (members v)
+  matched_members u t v = filter_once (λ x. matches W u t x.0) (members v)
 
   -- how many matchers a pattern asks of a name
   abbrev pub pattern_asks : Text → ℕ
@@ -20,7 +20,7 @@ module _ (W : World) where
 
   -- the patterns of d that the matcher is asked for
   abbrev pub open_names : Data → List Text
-  open_names d = those (is_open W) (map (λ e. e.0) (members d))
+  open_names d = filter_once (is_open W) (map (λ e. e.0) (members d))
 
   -- a pattern that does not build, below the place of its keyword
   abbrev pub pattern_faults : Path → Text → List Fault

@@ -1,7 +1,7 @@
 -- Whose validator stands for each keyword of a schema object.
 use Rattle.std.specs.Prelude.{cond, ◌&&◌, ◌||◌, Bool, List, [], ◌∷◌, Option, codes, bytes_eq, is_some, option_map}
 use Rattle.serde_json.specs.Data.{Data, Members}
-use Rattle.olk_spec.specs.Names.{Name, those, is_among}
+use Rattle.olk_spec.specs.Names.{Name, filter_once, is_among}
 use Rattle.olk_members.specs.Fused.{fused_names, fused_name}
 use Rattle.olk_members.specs.Conditions.{is_condition, is_restricted}
 use Rattle.olk_members.specs.declared.plan.Plan.{Plan}
@@ -37,4 +37,4 @@ head p k = cond (is_taken_over p k) (codes "additionalProperties") (cond (is_som
 
 -- the members for which the validator of the member m stands: those whose head it is
 abbrev pub claims : (Name → Name) → List (Name × Data) → Name × Data → List (Name × Data)
-claims heads es m = those (λ x. bytes_eq m.0 (heads x.0)) es
+claims heads es m = filter_once (λ x. bytes_eq m.0 (heads x.0)) es

@@ -2,7 +2,7 @@
 ghost use Rattle.std.specs.Prelude.{◌≡◌, false, map, option_map};
 ghost use Rattle.serde_json.specs.Data.{object};
 ghost use Rattle.serde_json.specs.View.{view, members_view};
-ghost use Rattle.olk_spec.specs.Names.{lookup};
+ghost use Rattle.olk_spec.specs.Names.{lookup_name};
 ghost use Rattle.olk_spec.specs.Malformed.{has_repeat};
 ghost use Rattle.olk_spec.specs.Schemas.{listed, has};
 
@@ -10,7 +10,7 @@ use serde_json::{Map, Value};
 
 /// The member at the name (RFC 8259, section 4).
 pub fn member<'v>(members: &'v Map<String, Value>, name: &str) -> Option<&'v Value>
-    ensures { option_map (λ v. view v.now) result ≡ lookup name.now
+    ensures { option_map (λ v. view v.now) result ≡ lookup_name name.now
         (listed (members_view members.now.entries)) }
 {
     members.get(name)

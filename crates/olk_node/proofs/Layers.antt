@@ -18,13 +18,20 @@ use Rattle.olk_base.specs.Kit.{Kit}
 use Rattle.olk_base.specs.declared.pattern.CompiledPattern.{CompiledPattern}
 use Rattle.olk_tree.specs.Shown.{missing_trees, branch_trees}
 use Rattle.olk_tree.specs.Questions.{always, both, every}
-use Rattle.olk_tree.specs.Answers.{named, nodes_in, due_nodes, chosen_nodes, one_of_report, two_texts, sides_of, required_text, required_place, lacks, has_neighbours, or_else, head_of, first_of, validator_means, body_means, validator_report, body_report, validator_first, body_first, validator_tree, body_tree}
-use Rattle.olk_tree.specs.Formed.{is_map_formed, names_beside, is_table_formed, validator_formed, body_formed}
-use Rattle.olk_tree.specs.Places.{Answers, AnswersBy}
+use Rattle.olk_tree.specs.Maps.{named, nodes_in, two_texts}
+use Rattle.olk_tree.specs.Dependencies.{due_nodes}
+use Rattle.olk_tree.specs.PropertyDependencies.{chosen_nodes}
+use Rattle.olk_tree.specs.OneOf.{one_of_report}
+use Rattle.olk_tree.specs.Additional.{sides_of, required_text, required_place, lacks, has_neighbours, additional_report, additional_first, additional_tree}
+use Rattle.olk_tree.specs.Firsts.{or_else, head_of, first_of}
+use Rattle.olk_tree.specs.Validators.{answers_of, validator_means, validator_report, validator_first, validator_tree, validator_formed}
+use Rattle.olk_tree.specs.Bodies.{body_means, body_report, body_first, body_tree, body_formed}
+use Rattle.olk_tree.specs.Formed.{is_map_formed, names_beside, is_table_formed}
+use Rattle.olk_tree.specs.Answers.{Answers}
+use Rattle.olk_tree.specs.Places.{AnswersBy}
 use Rattle.olk_node.specs.Nodes.{node_step, answers}
 use Rattle.olk_tree.specs.declared.big_map.BigMap.{BigMap}
 use Rattle.olk_tree.specs.Tables.{no_table}
-use Rattle.olk_tree.specs.Additional.{additional_report, additional_first, additional_tree}
 use Rattle.olk_tree.specs.declared.additional_properties.AdditionalProperties.{AdditionalProperties}
 use Rattle.olk_tree.specs.declared.properties_map.PropertiesMap.{PropertiesMap}
 use Rattle.olk_tree.specs.declared.map.SmallMap.{SmallMap}
@@ -36,8 +43,8 @@ use Rattle.olk_tree.specs.declared.node.Body.TheVariants.{True, False, Keywords,
 use Rattle.olk_node.specs.declared.node.SchemaNode.{SchemaNode, map-SchemaNode, out-SchemaNode, fold_out-SchemaNode}
 use Rattle.olk_node.specs.declared.node.SchemaNode.TheOpen.{SchemaNode-F}
 use Rattle.olk_spec.proofs.Maps.{flat_map-map, map-map}
-use Rattle.olk_tree.proofs.AdditionalMaps.{Mapped, at-beside, declared-beside, additional_means-map, additional_report-map, additional_first-map, additional_tree-map}
-use Rattle.olk_tree.proofs.Maps.{all-map, due_nodes-map, chosen_nodes-map, every-map, some-map, every-beside, flat_map-beside, first_of-map, first_of-beside, properties_tree-map, branch_trees-map, any_of_tree-map, one_of_tree-map, how_many-map, exactly_one-map, patterns_mean-map, patterns_report-map, patterns_first-map, patterns_tree-map}
+use Rattle.olk_tree.proofs.AdditionalMaps.{Mapped, at-zip, declared-zip, additional_means-map, additional_report-map, additional_first-map, additional_tree-map}
+use Rattle.olk_tree.proofs.Maps.{all-map, due_nodes-map, chosen_nodes-map, every-map, some-map, every-zip, flat_map-zip, first_of-map, first_of-zip, properties_tree-map, branch_trees-map, any_of_tree-map, one_of_tree-map, how_many-map, exactly_one-map, patterns_mean-map, patterns_report-map, patterns_first-map, patterns_tree-map}
 
 -- what holds where a map is of few names, and where it is of many
 few_or_many : {N G : Type 0} (m : PropertiesMap N) → ((s : SmallMap N) → m ≡ Small s → G) → ((b : BigMap N) → m ≡ Big b → G) → G
@@ -77,8 +84,8 @@ module _ {K R : Type 0} (o : Kit K R) where
 
     sides_answer : Mapped (answers o) (sides_of answered) (sides_of k.value)
     sides_answer = record {
-      declared = none_few_or_many k.value.properties (λ e. rw e refl) (λ m e. rw e (declared-beside (answers o) m.names m.nodes.items)) (λ m e. rw e (declared-beside (answers o) m.names m.nodes.items));
-      at = λ x. none_few_or_many k.value.properties (λ e. rw e refl) (λ m e. rw e (at-beside (answers o) m.names m.nodes.items x)) (λ m e. rw e (at-beside (answers o) m.names m.nodes.items x));
+      declared = none_few_or_many k.value.properties (λ e. rw e refl) (λ m e. rw e (declared-zip (answers o) m.names m.nodes.items)) (λ m e. rw e (declared-zip (answers o) m.names m.nodes.items));
+      at = λ x. none_few_or_many k.value.properties (λ e. rw e refl) (λ m e. rw e (at-zip (answers o) m.names m.nodes.items x)) (λ m e. rw e (at-zip (answers o) m.names m.nodes.items x));
       patterns = none_or_one k.value.patterns (λ e. rw e refl) (λ ps e. rw e refl);
       known = refl;
       rest = none_or_one k.value.rest (λ e. rw e refl) (λ r e. rw e refl);
@@ -101,13 +108,13 @@ module _ {K R : Type 0} (o : Kit K R) where
 
   means_layer : (n : SchemaNode-F K R (SchemaNode K R)) (b : Body (KeywordOver K R (SchemaNode K R))) (v : Data)
       → (node_step o (opened n b)).means v ≡ body_means (validator_means o (λ n. (answers o n).means)) b v
-  unfolding validator_means
+  unfolding answers_of
   means_layer n True v = refl
   means_layer n False v = refl
   means_layer n (RequiredNames k) v = refl
   means_layer n (Keywords ks) v = every-map (λ k. validator_means o (λ a. a.means) k v) (λ k. validator_means o (λ n. (answers o n).means) k v) _ (elim [
-    | keyword.Properties k ↦ few_or_many k.properties (λ m e. rw e (every-beside (λ e. every e.1.means (at e.0 v)) (λ e. every (answers o e.1).means (at e.0 v)) (answers o) (λ a y. refl) m.names m.nodes.items)) (λ m e. rw e (every-beside (λ e. every e.1.means (at e.0 v)) (λ e. every (answers o e.1).means (at e.0 v)) (answers o) (λ a y. refl) m.names m.nodes.items))
-    | keyword.PropertiesWithRequired2 k ↦ ap (both (always (is_empty (missing (two_texts k.first k.second) v)))) (every-beside (λ e. every e.1.means (at e.0 v)) (λ e. every (answers o e.1).means (at e.0 v)) (answers o) (λ a y. refl) k.properties.names k.properties.nodes.items)
+    | keyword.Properties k ↦ few_or_many k.properties (λ m e. rw e (every-zip (λ e. every e.1.means (at e.0 v)) (λ e. every (answers o e.1).means (at e.0 v)) (answers o) (λ a y. refl) m.names m.nodes.items)) (λ m e. rw e (every-zip (λ e. every e.1.means (at e.0 v)) (λ e. every (answers o e.1).means (at e.0 v)) (answers o) (λ a y. refl) m.names m.nodes.items))
+    | keyword.PropertiesWithRequired2 k ↦ ap (both (always (is_empty (missing (two_texts k.first k.second) v)))) (every-zip (λ e. every e.1.means (at e.0 v)) (λ e. every (answers o e.1).means (at e.0 v)) (answers o) (λ a y. refl) k.properties.names k.properties.nodes.items)
     | keyword.Required k ↦ refl
     | keyword.AllOf k ↦ every-map (λ a. a.means v) (λ n. (answers o n).means v) (answers o) (λ n. refl) k.schemas.items
     | keyword.SingleValueAllOf k ↦ refl
@@ -131,13 +138,13 @@ module _ {K R : Type 0} (o : Kit K R) where
 
   finds_layer : (n : SchemaNode-F K R (SchemaNode K R)) (b : Body (KeywordOver K R (SchemaNode K R))) (u : Bool) (v : Data) (Q : Path)
       → (node_step o (opened n b)).report u v Q ≡ body_report (validator_report o (λ n. (answers o n).means) (λ n. (answers o n).report) u) n.location b v Q
-  unfolding validator_report
+  unfolding answers_of
   finds_layer n True u v Q = refl
   finds_layer n False u v Q = refl
   finds_layer n (RequiredNames k) u v Q = refl
   finds_layer n (Keywords ks) u v Q = flat_map-map (λ k. validator_report o (λ a. a.means) (λ a. a.report) u k v Q) (λ k. validator_report o (λ n. (answers o n).means) (λ n. (answers o n).report) u k v Q) _ (elim [
-    | keyword.Properties k ↦ few_or_many k.properties (λ m e. rw e (flat_map-beside (λ e. flat_map (λ x. e.1.report u x (Q // e.0)) (at e.0 v)) (λ e. flat_map (λ x. (answers o e.1).report u x (Q // e.0)) (at e.0 v)) (answers o) (λ a y. refl) m.names m.nodes.items)) (λ m e. rw e (flat_map-beside (λ e. flat_map (λ x. e.1.report u x (Q // e.0)) (at e.0 v)) (λ e. flat_map (λ x. (answers o e.1).report u x (Q // e.0)) (at e.0 v)) (answers o) (λ a y. refl) m.names m.nodes.items))
-    | keyword.PropertiesWithRequired2 k ↦ ap (λ fs. required_faults (two_texts k.first k.second) v k.required_location Q ++ fs) (flat_map-beside (λ e. flat_map (λ x. e.1.report u x (Q // e.0)) (at e.0 v)) (λ e. flat_map (λ x. (answers o e.1).report u x (Q // e.0)) (at e.0 v)) (answers o) (λ a y. refl) k.properties.names k.properties.nodes.items)
+    | keyword.Properties k ↦ few_or_many k.properties (λ m e. rw e (flat_map-zip (λ e. flat_map (λ x. e.1.report u x (Q // e.0)) (at e.0 v)) (λ e. flat_map (λ x. (answers o e.1).report u x (Q // e.0)) (at e.0 v)) (answers o) (λ a y. refl) m.names m.nodes.items)) (λ m e. rw e (flat_map-zip (λ e. flat_map (λ x. e.1.report u x (Q // e.0)) (at e.0 v)) (λ e. flat_map (λ x. (answers o e.1).report u x (Q // e.0)) (at e.0 v)) (answers o) (λ a y. refl) m.names m.nodes.items))
+    | keyword.PropertiesWithRequired2 k ↦ ap (λ fs. required_faults (two_texts k.first k.second) v k.required_location Q ++ fs) (flat_map-zip (λ e. flat_map (λ x. e.1.report u x (Q // e.0)) (at e.0 v)) (λ e. flat_map (λ x. (answers o e.1).report u x (Q // e.0)) (at e.0 v)) (answers o) (λ a y. refl) k.properties.names k.properties.nodes.items)
     | keyword.Required k ↦ refl
     | keyword.AllOf k ↦ flat_map-map (λ a. a.report u v Q) (λ n. (answers o n).report u v Q) (answers o) (λ n. refl) k.schemas.items
     | keyword.SingleValueAllOf k ↦ refl
@@ -161,13 +168,13 @@ module _ {K R : Type 0} (o : Kit K R) where
 
   first_layer : (n : SchemaNode-F K R (SchemaNode K R)) (b : Body (KeywordOver K R (SchemaNode K R))) (u : Bool) (v : Data) (Q : Path)
       → (node_step o (opened n b)).first u v Q ≡ body_first (validator_first o (λ n. (answers o n).means) (λ n. (answers o n).report) u (λ n. (answers o n).first)) n.location b v Q
-  unfolding validator_first
+  unfolding answers_of
   first_layer n True u v Q = refl
   first_layer n False u v Q = refl
   first_layer n (RequiredNames k) u v Q = refl
   first_layer n (Keywords ks) u v Q = first_of-map (λ k. validator_first o (λ a. a.means) (λ a. a.report) u (λ a. a.first) k v Q) (λ k. validator_first o (λ n. (answers o n).means) (λ n. (answers o n).report) u (λ n. (answers o n).first) k v Q) _ (elim [
-    | keyword.Properties k ↦ few_or_many k.properties (λ m e. rw e (first_of-beside (λ e. first_of (λ x. e.1.first u x (Q // e.0)) (at e.0 v)) (λ e. first_of (λ x. (answers o e.1).first u x (Q // e.0)) (at e.0 v)) (answers o) (λ a y. refl) m.names m.nodes.items)) (λ m e. rw e (first_of-beside (λ e. first_of (λ x. e.1.first u x (Q // e.0)) (at e.0 v)) (λ e. first_of (λ x. (answers o e.1).first u x (Q // e.0)) (at e.0 v)) (answers o) (λ a y. refl) m.names m.nodes.items))
-    | keyword.PropertiesWithRequired2 k ↦ ap (or_else (head_of (required_faults (two_texts k.first k.second) v k.required_location Q))) (first_of-beside (λ e. first_of (λ x. e.1.first u x (Q // e.0)) (at e.0 v)) (λ e. first_of (λ x. (answers o e.1).first u x (Q // e.0)) (at e.0 v)) (answers o) (λ a y. refl) k.properties.names k.properties.nodes.items)
+    | keyword.Properties k ↦ few_or_many k.properties (λ m e. rw e (first_of-zip (λ e. first_of (λ x. e.1.first u x (Q // e.0)) (at e.0 v)) (λ e. first_of (λ x. (answers o e.1).first u x (Q // e.0)) (at e.0 v)) (answers o) (λ a y. refl) m.names m.nodes.items)) (λ m e. rw e (first_of-zip (λ e. first_of (λ x. e.1.first u x (Q // e.0)) (at e.0 v)) (λ e. first_of (λ x. (answers o e.1).first u x (Q // e.0)) (at e.0 v)) (answers o) (λ a y. refl) m.names m.nodes.items))
+    | keyword.PropertiesWithRequired2 k ↦ ap (or_else (head_of (required_faults (two_texts k.first k.second) v k.required_location Q))) (first_of-zip (λ e. first_of (λ x. e.1.first u x (Q // e.0)) (at e.0 v)) (λ e. first_of (λ x. (answers o e.1).first u x (Q // e.0)) (at e.0 v)) (answers o) (λ a y. refl) k.properties.names k.properties.nodes.items)
     | keyword.Required k ↦ refl
     | keyword.AllOf k ↦ first_of-map (λ a. a.first u v Q) (λ n. (answers o n).first u v Q) (answers o) (λ n. refl) k.schemas.items
     | keyword.SingleValueAllOf k ↦ refl
@@ -191,7 +198,7 @@ module _ {K R : Type 0} (o : Kit K R) where
 
   shows_layer : (n : SchemaNode-F K R (SchemaNode K R)) (b : Body (KeywordOver K R (SchemaNode K R))) (u : Bool) (v : Data) (Q : Path)
       → (node_step o (opened n b)).tree u v Q ≡ body_tree (validator_tree o (λ n. (answers o n).means) (λ n. (answers o n).tree) u) n.location b v Q
-  unfolding validator_tree
+  unfolding answers_of
   shows_layer n True u v Q = refl
   shows_layer n False u v Q = refl
   shows_layer n (RequiredNames k) u v Q = refl
@@ -239,7 +246,7 @@ module _ {K R : Type 0} (o : Kit K R) where
     rest_alike = none_or_one k.value.rest (λ e. rw e refl) (λ r e. rw e refl)
 
   formed_layer : (n : SchemaNode-F K R (SchemaNode K R)) (b : Body (KeywordOver K R (SchemaNode K R))) → (node_step o (opened n b)).formed ≡ body_formed (validator_formed o (λ n. (answers o n).formed)) b
-  unfolding validator_formed
+  unfolding answers_of
   formed_layer n True = refl
   formed_layer n False = refl
   formed_layer n (RequiredNames k) = refl

@@ -1,6 +1,7 @@
 -- What a place that stands for a schema tells is of the schema's reports.
 use Rattle.std.proofs.Common.{◌≡◌, ℕ, zero, suc, ◌<◌, length, get_or, Bool, true, List, [], ◌∷◌, refl, sym, ap, subst, ◌∙◌, arith}
 use Rattle.std.specs.List.{Contains}
+use Rattle.olk_errors.proofs.Own.{no_place}
 use Rattle.serde_json.specs.Data.{Data}
 use Rattle.olk_spec.specs.Names.{Path}
 use Rattle.olk_spec.specs.Faults.{Fault, fault, Kind, AdditionalProperties, AnyOf, OneOfNotValid, OneOfMultipleValid, Not, Required, FalseSchema, PropertyNames, Leaf, SingleType, MultipleTypes, UniqueItems, Regex, Unsupported, LeafRefused, IsLike, like, IsLikeKind, itself, like_any_of, like_not_valid, like_multiple, like_names, ◌∼◌, like_next, like_through}
@@ -52,9 +53,6 @@ record Exchanged (fs : List Fault) (h : Fault) : Type 0 where
   pub list : List Fault
   pub alike : list ∼ fs
   pub among : Contains list h
-
-no_place : (n : ℕ) → n < 0 → ⊥
-no_place n l = absurd (omega (arith, l))
 
 exchanged : (fs : List Fault) (g h : Fault) (n : ℕ) → n < length fs → get_or fs n g ≡ g → IsLike h g → Exchanged fs h
 exchanged [] g h n l e alike = absurd (no_place n l)

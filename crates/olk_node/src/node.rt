@@ -116,7 +116,7 @@ pub type SmallPropertiesWithRequired2Validator<K, R> = SmallPropertiesWithRequir
 /// Names in order, and beside each its node.
 pub type SmallValidatorsMap<K, R> = SmallMap<SchemaNode<K, R>>;
 
-/// Names that are found by their hash, and beside each its node.
+/// Many names, and beside each its node.
 pub type BigValidatorsMap<K, R> = BigMap<SchemaNode<K, R>>;
 
 /// Few names or many, and beside each its node.

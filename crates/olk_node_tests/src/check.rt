@@ -167,15 +167,14 @@ fn leaf_nodes<N: Place<NoText, EqualTo>>(
 }
 
 /// A map of few names, or one of many with the same.
-fn mapped<N: Drop>(
-    alloc: Global,
-    map: SmallMap<N>,
-    many: bool,
-) -> Result<PropertiesMap<N>, AllocError> {
+fn mapped<N: Drop>(map: SmallMap<N>, many: bool) -> PropertiesMap<N> {
     if many {
-        BigMap::of(alloc, map.names, map.nodes).map(PropertiesMap::Big)
+        PropertiesMap::Big(BigMap {
+            names: map.names,
+            nodes: map.nodes,
+        })
     } else {
-        Ok(PropertiesMap::Small(map))
+        PropertiesMap::Small(map)
     }
 }
 
@@ -194,7 +193,7 @@ fn declared<N: Place<NoText, EqualTo>>(
     count: usize,
     many: bool,
 ) -> Result<N, AllocError> {
-    let properties = mapped(alloc, leaf_names(alloc, NUMBERED, count)?, many)?;
+    let properties = mapped(leaf_names(alloc, NUMBERED, count)?, many);
     let location = Location::new(alloc);
     keyword(
         alloc,

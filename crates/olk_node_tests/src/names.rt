@@ -29,10 +29,10 @@ fn first_names(alloc: Global, count: usize) -> Result<SmallMap<usize>, AllocErro
     )
 }
 
-/// The first so many names, each with its position, found by their hash.
-fn first_hashed(alloc: Global, count: usize) -> Result<BigMap<usize>, AllocError> {
+/// The same in a map of many.
+fn first_of_many(alloc: Global, count: usize) -> Result<BigMap<usize>, AllocError> {
     let SmallMap { names, nodes } = first_names(alloc, count)?;
-    BigMap::of(alloc, names, nodes)
+    Ok(BigMap { names, nodes })
 }
 
 // ---- looking up
@@ -50,7 +50,7 @@ fn is_at<M: PropertiesValidatorsMap<usize>>(map: &M, name: &str, position: Optio
 }
 
 fn has_length<M: PropertiesValidatorsMap<usize>>(map: &M, length: usize) -> bool {
-    let names = map.names().sorted();
+    let names = map.names();
     names.len() == length && names.as_slice().len() == length && map.nodes().len() == length
 }
 
@@ -102,7 +102,7 @@ fn names_are_found(rt: HostRuntime) -> Result<(), Fail> {
     let alloc = rt.alloc();
     for count in [0usize, 1, 2, 13, 14, 15, 16, 40] {
         expect_found(first_names(alloc, count), count)?;
-        expect_found(first_hashed(alloc, count), count)?;
+        expect_found(first_of_many(alloc, count), count)?;
     }
     Ok(())
 }
@@ -111,7 +111,7 @@ fn names_are_found(rt: HostRuntime) -> Result<(), Fail> {
 fn names_are_found_in_either_map(rt: HostRuntime) -> Result<(), Fail> {
     let alloc = rt.alloc();
     expect_found(first_names(alloc, 3).map(PropertiesMap::Small), 3)?;
-    expect_found(first_hashed(alloc, 16).map(PropertiesMap::Big), 16)
+    expect_found(first_of_many(alloc, 16).map(PropertiesMap::Big), 16)
 }
 
 // ---- walking
@@ -206,7 +206,7 @@ fn declared_members_are_walked(rt: HostRuntime) -> Result<(), Fail> {
     let alloc = rt.alloc();
     for (declared, met) in [(14usize, 2usize), (15, 3), (16, 4), (40, 5)] {
         expect_walks(alloc, first_names(alloc, declared), declared, met)?;
-        expect_walks(alloc, first_hashed(alloc, declared), declared, met)?;
+        expect_walks(alloc, first_of_many(alloc, declared), declared, met)?;
     }
     Ok(())
 }
@@ -214,10 +214,10 @@ fn declared_members_are_walked(rt: HostRuntime) -> Result<(), Fail> {
 // ---- a growth that is refused
 
 /// A map of many names, made again where memory was wanting.
-fn hashed_at_last(alloc: Global) -> Result<BigMap<usize>, AllocError> {
-    match first_hashed(alloc, 40) {
+fn many_at_last(alloc: Global) -> Result<BigMap<usize>, AllocError> {
+    match first_of_many(alloc, 40) {
         Ok(map) => Ok(map),
-        Err(_) => first_hashed(alloc, 40),
+        Err(_) => first_of_many(alloc, 40),
     }
 }
 
@@ -225,5 +225,5 @@ fn hashed_at_last(alloc: Global) -> Result<BigMap<usize>, AllocError> {
 /// name.
 #[test]
 fn a_map_of_many_names_after_a_refused_growth(rt: HostRuntime) -> Result<(), Fail> {
-    expect_found(hashed_at_last(rt.alloc()), 40)
+    expect_found(many_at_last(rt.alloc()), 40)
 }

@@ -2,6 +2,7 @@
 use Rattle.std.specs.Prelude.{◌≡◌, true, false, ◌&&◌, ◌||◌, List, [], ◌∷◌, ◌++◌, Some, bytes_eq}
 use Rattle.std.specs.List.{list_all, list_any}
 use Rattle.std.proofs.Common.{refl, sym, ◌∙◌, ap, subst, true≢false}
+use Rattle.std.proofs.Math.Bool.{or-false}
 use Rattle.serde_json.specs.Data.{Data, null, boolean, number, string, array, object, Items, item}
 use Rattle.serde_json.specs.Find.{as_str}
 use Rattle.serde_json.specs.View.{view, items_view}
@@ -10,7 +11,6 @@ use Rattle.olk_spec.specs.Names.{Name, Path, ◌//◌, is_among, is_empty, put_i
 use Rattle.olk_spec.specs.Faults.{Fault, UniqueItems}
 use Rattle.olk_spec.specs.Schemas.{is_array, texts_in, as_text}
 use Rattle.olk_spec.specs.Malformed.{name_list_refusals, unless_array, or_else_list, refusal, has_repeat, not_a_text}
-use Rattle.olk_spec.proofs.Truth.{or_false}
 use Rattle.olk_reports.specs.declared.error.BuildError.{BuildError}
 use Rattle.olk_read.specs.Lists.{name_list_faults}
 use Rattle.olk_read.specs.Refusing.{TellsOneOf}
@@ -20,7 +20,7 @@ use Rattle.olk_read.proofs.Texts.{text_at}
 -- ---- names that are repeated
 
 among_first : (n : Name) (d : Data) (ds : Items) → is_among n (texts_in (item d ds)) ≡ (is_among n (as_text d) || is_among n (texts_in ds))
-among_first n (string s) ds = ap (λ b. b || is_among n (texts_in ds)) (sym (or_false (bytes_eq n s)))
+among_first n (string s) ds = ap (λ b. b || is_among n (texts_in ds)) (sym (or-false (bytes_eq n s)))
 among_first n null ds = refl
 among_first n (boolean b) ds = refl
 among_first n (number m) ds = refl
@@ -32,7 +32,7 @@ among_items n [] = refl
 among_items n (v ∷ vs) = ap (λ b. is_among n (as_text (view v)) || b) (among_items n vs) ∙ sym (among_first n (view v) (items_view vs))
 
 pub text_repeated : (n : Name) (d : Data) (vs : List Value) → as_str d ≡ Some n → list_any (λ v. is_among n (as_text (view v))) vs ≡ list_any (λ t. is_among t (texts_in (items_view vs))) (as_text d)
-text_repeated n d vs e = among_items n vs ∙ sym (or_false (is_among n (texts_in (items_view vs)))) ∙ ap (λ x. list_any (λ t. is_among t (texts_in (items_view vs))) (as_text x)) (sym (text_at d n e))
+text_repeated n d vs e = among_items n vs ∙ sym (or-false (is_among n (texts_in (items_view vs)))) ∙ ap (λ x. list_any (λ t. is_among t (texts_in (items_view vs))) (as_text x)) (sym (text_at d n e))
 
 -- ---- what is wrong with an entry
 

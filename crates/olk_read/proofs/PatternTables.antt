@@ -6,7 +6,7 @@ use Rattle.std.specs.declared.alloc.AllocError.{AllocError}
 use Rattle.std.proofs.Common.{refl, sym, ◌∙◌, ap, subst, arith}
 use Rattle.std.proofs.lemmas.List.Sums.{sum_by-cons}
 use Rattle.serde_json.specs.Data.{Data}
-use Rattle.olk_spec.specs.Names.{Name, Path, those, put_if}
+use Rattle.olk_spec.specs.Names.{Name, Path, filter_once, put_if}
 use Rattle.olk_spec.specs.Schemas.{members, is_object}
 use Rattle.olk_spec.specs.Meanings.{is_open}
 use Rattle.olk_spec.specs.Costs.{no_cost}
@@ -29,7 +29,7 @@ use Rattle.olk_read.proofs.Spending.{spends_append, within_before, within_after,
 
 -- each that costs is one that is open
 module _ {K R : Type 0} (o : Kit K R) where
-  pub open_cost : (ps : List (CompiledPattern R)) (es : List (Name × Data)) → ArePatterns o ps es → how_many_cost o.costs ps ≡ length (those (is_open o.world) (map (λ e. e.0) es))
+  pub open_cost : (ps : List (CompiledPattern R)) (es : List (Name × Data)) → ArePatterns o ps es → how_many_cost o.costs ps ≡ length (filter_once (is_open o.world) (map (λ e. e.0) es))
   open_cost [] [] h = refl
   open_cost [] (e ∷ es) h = absurd h
   open_cost (p ∷ ps) [] h = absurd h
@@ -38,7 +38,7 @@ module _ {K R : Type 0} (o : Kit K R) where
       ∙ (λ i. cond (h.0.costs i) 1 0 + open_cost ps es h.1 i)
       ∙ by (is_open o.world e.0)
     where
-      by : (b : Bool) → cond b 1 0 + length (those (is_open o.world) (map (λ x. x.0) es)) ≡ length (put_if b e.0 (those (is_open o.world) (map (λ x. x.0) es)))
+      by : (b : Bool) → cond b 1 0 + length (filter_once (is_open o.world) (map (λ x. x.0) es)) ≡ length (put_if b e.0 (filter_once (is_open o.world) (map (λ x. x.0) es)))
       by true = omega arith
       by false = omega arith
 

@@ -3,6 +3,7 @@ use Rattle.std.specs.Prelude.{◌≡◌, ◌||◌, Bool, true, false, cond, List
 use Rattle.std.specs.List.{flat_map}
 use Rattle.std.specs.declared.alloc.AllocError.{AllocError}
 use Rattle.std.proofs.Common.{refl, sym, ◌∙◌, ap, subst}
+use Rattle.std.proofs.Math.Bool.{or-false}
 use mathlib.Core.Bool.{true≢false}
 use Rattle.serde_json.specs.Data.{Data, null, boolean, number, string, array, object, Items}
 use Rattle.olk_spec.specs.Names.{Name, Path, is_among}
@@ -13,7 +14,6 @@ use Rattle.olk_spec.specs.Schemas.{read, members, is_object, is_array, is_truth}
 use Rattle.olk_spec.specs.Malformed.{refusal, own_refusals, malformations_step, unless_object, unless_array, unless_kind, not_a_text, items_of_array}
 use Rattle.olk_spec.specs.Costs.{Cost, no_cost}
 use Rattle.olk_spec.proofs.Reading.{schema_of_read}
-use Rattle.olk_spec.proofs.Truth.{or_false}
 use Rattle.olk_base.specs.Count.{Counts, count_leaf}
 use Rattle.olk_base.proofs.CountLemmas.{raised_zero}
 use Rattle.olk_reports.specs.declared.error.BuildError.{BuildError}
@@ -46,14 +46,6 @@ array_of (boolean b) e = absurd (true≢false (sym e))
 array_of (number n) e = absurd (true≢false (sym e))
 array_of (string s) e = absurd (true≢false (sym e))
 array_of (object ms) e = absurd (true≢false (sym e))
-
-pub no_members : (d : Data) → is_object d ≡ false → members d ≡ []
-no_members (array ds) e = refl
-no_members null e = refl
-no_members (boolean b) e = refl
-no_members (number n) e = refl
-no_members (string s) e = refl
-no_members (object ms) e = absurd (true≢false e)
 
 pub no_items_in : (d : Data) → is_array d ≡ false → items_of_array d ≡ []
 no_items_in (array ds) e = absurd (true≢false e)
@@ -191,7 +183,7 @@ module _ {K R : Type 0} (o : Kit K R) where
       right = own_additional_properties o.world d L ∙ ap (λ b. unless_kind b MultipleTypes d L) rule
 
       true_left : is_object d ≡ false → is_truth false d ≡ false → is_truth true d ≡ true
-      true_left e f = sym (or_false (is_truth true d)) ∙ (λ i. sym e i || is_truth true d || sym f i) ∙ rule
+      true_left e f = sym (or-false (is_truth true d)) ∙ (λ i. sym e i || is_truth true d || sym f i) ∙ rule
 
       by : (x y : Bool) → is_object d ≡ x → is_truth false d ≡ y → IsRead o (cond x shape.AdditionalProperties (cond y shape.NoOthers shape.AnyOthers)) c k d L a a
       by true y e f = is_read shape.AdditionalProperties c k (codes "additionalProperties") d L a p (refl, e) tt right refl

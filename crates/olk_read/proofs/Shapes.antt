@@ -10,7 +10,7 @@ use Rattle.serde_json.specs.declared.value.Value.TheOpen.{Value-F}
 use Rattle.serde_json.specs.declared.value.Value.TheVariants.{rolls-Array, rolls-Object}
 use Rattle.olk_spec.specs.Schemas.{is_array, is_object}
 
-rolled : (v : Value) → roll-Value (out-Value v) ≡ v
+pub rolled : (v : Value) → roll-Value (out-Value v) ≡ v
 rolled v = search (rules, the_lemmas)
 
 no_array_layer : (x : Value-F Value) → ((ds : Vec Value Global) → roll-Value x ≡ Array ds → ⊥) → is_array (view (roll-Value x)) ≡ false

@@ -8,7 +8,7 @@ use Rattle.serde_json.specs.Data.{Data, null, boolean, number, string, array, ob
 use Rattle.serde_json.specs.Find.{as_str}
 use Rattle.serde_json.specs.View.{view, items_view}
 use Rattle.serde_json.specs.declared.value.Value.{Value}
-use Rattle.olk_spec.specs.Names.{Name, Path, those, put_if}
+use Rattle.olk_spec.specs.Names.{Name, Path, filter_once, put_if}
 use Rattle.olk_spec.specs.Faults.{fault, SingleType, string_type}
 use Rattle.olk_spec.specs.Schemas.{texts_in}
 use Rattle.olk_spec.specs.Malformed.{items_list, is_text, first_of_list, refusal}
@@ -44,11 +44,11 @@ no_text_at (string t) e = absurd (true≢false (ap is_some e))
 no_text_at (array ds) e = refl
 no_text_at (object ms) e = refl
 
-skip_texts : (ds : List Data) (ns : List Name) (more : List Data) → AllTexts ds ns → those (λ i. not (is_text i)) (ds ++ more) ≡ those (λ i. not (is_text i)) more
+skip_texts : (ds : List Data) (ns : List Name) (more : List Data) → AllTexts ds ns → filter_once (λ i. not (is_text i)) (ds ++ more) ≡ filter_once (λ i. not (is_text i)) more
 skip_texts [] [] more h = refl
 skip_texts [] (n ∷ ns) more h = absurd h
 skip_texts (d ∷ ds) [] more h = absurd h
-skip_texts (d ∷ ds) (n ∷ ns) more h = ap (λ e. put_if (not (is_text e)) d (those (λ i. not (is_text i)) (ds ++ more))) h.0 ∙ skip_texts ds ns more h.1
+skip_texts (d ∷ ds) (n ∷ ns) more h = ap (λ e. put_if (not (is_text e)) d (filter_once (λ i. not (is_text i)) (ds ++ more))) h.0 ∙ skip_texts ds ns more h.1
 
 texts_are : (ds : Items) (ns : List Name) → AllTexts (items_list ds) ns → texts_in ds ≡ ns
 texts_are no_items [] h = refl
@@ -73,9 +73,9 @@ module _ (xs : List Value) (i : ℕ) where
     pub first_no_text : (P : Path) (x : Value) → i < length xs → x ≡ get_or xs i x → as_str (view x) ≡ None → fault (SingleType string_type) (view x) [] P ∷ [] ≡ not_texts P (items_view vs)
     first_no_text P x l g t =
         let r = cut_at xs i x l g in
-        sym (ap (λ ys. map (λ i. refusal (SingleType string_type) i P) (first_of_list (those (λ i. not (is_text i)) ys))) (items_list-view vs ∙ ap (map view) (sym same) ∙ r.1)
+        sym (ap (λ ys. map (λ i. refusal (SingleType string_type) i P) (first_of_list (filter_once (λ i. not (is_text i)) ys))) (items_list-view vs ∙ ap (map view) (sym same) ∙ r.1)
         ∙ ap (λ ys. map (λ i. refusal (SingleType string_type) i P) (first_of_list ys)) (skip_texts (map view (take i xs)) ns (view x ∷ r.0) h)
-        ∙ ap (λ b. map (λ i. refusal (SingleType string_type) i P) (first_of_list (put_if (not b) (view x) (those (λ i. not (is_text i)) r.0)))) (no_text_at (view x) t))
+        ∙ ap (λ b. map (λ i. refusal (SingleType string_type) i P) (first_of_list (put_if (not b) (view x) (filter_once (λ i. not (is_text i)) r.0)))) (no_text_at (view x) t))
 
     module _ (l : length xs ≤ i) where
       all : AllTexts (items_list (items_view vs)) ns
@@ -85,5 +85,5 @@ module _ (xs : List Value) (i : ℕ) where
       all_are_texts = sym (texts_are (items_view vs) ns all)
 
       pub none_is_no_text : (P : Path) → not_texts P (items_view vs) ≡ []
-      none_is_no_text P = ap (λ ys. map (λ i. refusal (SingleType string_type) i P) (first_of_list (those (λ i. not (is_text i)) ys))) (sym (append-nil (items_list (items_view vs))))
+      none_is_no_text P = ap (λ ys. map (λ i. refusal (SingleType string_type) i P) (first_of_list (filter_once (λ i. not (is_text i)) ys))) (sym (append-nil (items_list (items_view vs))))
           ∙ ap (λ ys. map (λ i. refusal (SingleType string_type) i P) (first_of_list ys)) (skip_texts (items_list (items_view vs)) ns [] all)

@@ -5,14 +5,12 @@
 //! `olk_tests` through building.
 #![tactic(auto)]
 
-mod lists;
 mod makers;
 mod patterns;
 mod reading;
 mod refusal;
 mod shape;
 
-pub use lists::{append, append_all, one};
 pub use makers::Makers;
 pub use patterns::patterns_of_entries;
 pub use reading::read_keyword;

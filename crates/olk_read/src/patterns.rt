@@ -13,10 +13,10 @@ ghost use Rattle.olk_tree.specs.Tables.{IsTableOf, how_many_cost, count_asks, As
 ghost use Rattle.olk_read.specs.Refusing.{TellsOneOf, Spends, Refuses};
 ghost use Rattle.olk_read.specs.Patterns.{IsPattern, PatternsAreRead, RefusesPatterns};
 
-use crate::lists::append;
 use crate::makers::Makers;
 use olk_base::{
-    CompiledPattern, MakeError, MakeLeaf, MakeRegex, Meter, Node, RegexEngine, compile_pattern,
+    CompiledPattern, MakeError, MakeLeaf, MakeRegex, Meter, Node, RegexEngine, append,
+    compile_pattern,
 };
 use olk_members::Neighbours;
 use olk_paths::Location;

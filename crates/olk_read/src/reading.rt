@@ -16,12 +16,11 @@ ghost use Rattle.olk_read.specs.Lists.{not_texts, list_of, names_in, names_in_li
 ghost use Rattle.olk_read.specs.Reading.{IsFor, IsOther, IsRead, RefusesKeyword};
 ghost use Rattle.olk_read.specs.declared.shape.Shape.TheVariants.{Unpaired, AdditionalProperties, NoOthers, AnyOthers, PropertyNames, NoNames, AnyNames};
 
-use crate::lists::append;
 use crate::makers::Makers;
 use crate::patterns::{patterns_of_entries, table_of_declared};
 use crate::refusal::{refuse, refuse_type};
 use crate::shape::Shape;
-use olk_base::{JsonType, MakeError, MakeLeaf, MakeRegex, Meter};
+use olk_base::{JsonType, MakeError, MakeLeaf, MakeRegex, Meter, append};
 use olk_members::Neighbours;
 use olk_paths::Location;
 use olk_reports::{BuildError, ValidationErrorKind};

@@ -9,10 +9,10 @@ ghost use Rattle.olk_reports.specs.Errors.{kind_of};
 ghost use Rattle.olk_reports.specs.Messages.{has_error_inside};
 
 use crate::message::{
-    ending_text, joined_text, name_text, names_text, node_text, quoted_text, required_text,
-    starting_text, type_error_text,
+    ending_text, joined_text, name_text, names_text, node_text, required_text, starting_text,
+    type_error_text,
 };
-use olk_base::{JsonType, Node};
+use olk_base::{JsonType, Node, quoted_text};
 use olk_paths::Location;
 use serde_json::Value;
 use std::alloc::{AllocError, Global};

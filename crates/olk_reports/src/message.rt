@@ -8,7 +8,7 @@ ghost use Rattle.olk_spec.specs.Texts.{in_quotes, type_text, unexpected_text};
 ghost use Rattle.olk_reports.specs.Errors.{type_name_of};
 ghost use Rattle.olk_reports.specs.Messages.{later_name};
 
-use olk_base::{JsonType, Node};
+use olk_base::{JsonType, Node, quoted_text};
 use serde_json::Value;
 use std::alloc::{AllocError, Global};
 
@@ -20,14 +20,6 @@ pub(crate) fn node_text(alloc: Global, node: Node<'_>) -> Result<String, AllocEr
         Node::Value(value) => value.to_string(alloc),
         Node::Name(name) => quoted_text(alloc, name.as_str()),
     }
-}
-
-/// The name as JSON.
-pub(crate) fn quoted_text(alloc: Global, name: &str) -> Result<String, AllocError>
-    ensures { IfOk result (λ s. string_bytes s ≡ compact_text (string name.now)) }
-{
-    let value = Value::String(String::from_str(alloc, name)?);
-    value.to_string(alloc)
 }
 
 /// The node, and then the text.

@@ -1,5 +1,5 @@
 -- The bench's search for a text in a name, against std's.
-use Rattle.std.proofs.Common.{◌≡◌, ℕ, Bool, true, false, nat_eq, [], ◌∷◌, ◌++◌, length, drop, refl, ap, sym, inl, inr, arith, None}
+use Rattle.std.proofs.Common.{◌≡◌, ℕ, Bool, true, nat_eq, [], ◌∷◌, ◌++◌, length, drop, refl, ap, sym, inl, inr, arith, None}
 use Rattle.std.proofs.lemmas.Bool.{true≢false, or_cases}
 use Rattle.std.proofs.Math.Bool.{or-true}
 use Rattle.std.proofs.lemmas.Slice.Eq.{starts_is}
@@ -9,6 +9,7 @@ use Rattle.std.proofs.lemmas.Str.Pattern.{contains_text}
 use Rattle.std.specs.Bool.{MatchBool}
 use Rattle.std.specs.Str.Iter.{HasSubslice}
 use Rattle.std.specs.Str.Pattern.{FindsText, HasMatch}
+use Rattle.olk_spec.proofs.Truth.{same_truth}
 use Rattle.olk_spec.specs.Names.{Text}
 use Rattle.olk_spec.specs.Bench.{is_in}
 
@@ -31,13 +32,9 @@ is_found t (c ∷ n) [] b e = let h = (starts_is Decides-eqb (c ∷ n) t _ refl)
 is_found t (c ∷ n) (y ∷ a) b e = let h = is_found t n a b (ap (drop 1) e) in simp (h, or-true) refl
 
 -- a test that is true exactly where the text stands in the name
-same_test : (x y : Bool) → (x ≡ true → y ≡ true) → (y ≡ true → x ≡ true) → x ≡ y
-same_test true y there back = sym (there refl)
-same_test false true there back = back refl
-same_test false false there back = refl
 
 -- `contains` of std
 pub contains_is : (r : Bool) (t n : Text) → MatchBool r (HasMatch (FindsText t) n) (FindsText t n None) → r ≡ is_in t n
 contains_is r t n h =
     let s = contains_text r t n h in
-    same_test r (is_in t n) (λ e. let w = s.0 e in is_found t n w.0 w.1 w.2) (λ e. s.1 (found_in t n e))
+    same_truth r (is_in t n) (λ e. let w = s.0 e in is_found t n w.0 w.1 w.2) (λ e. s.1 (found_in t n e))

@@ -2,9 +2,9 @@
 use Rattle.std.specs.Prelude.{⊤, ℕ, ◌+◌, List, [], ◌∷◌, map, decimal}
 use Rattle.std.specs.List.{enumerate_from}
 use Rattle.serde_json.specs.Data.{Data, null, boolean, number, string, array, object, Items, no_items, item, Members, no_members, member}
-use Rattle.olk_spec.specs.Names.{Name, lookup}
+use Rattle.olk_spec.specs.Names.{Name, lookup_name}
 use Rattle.olk_spec.specs.Schemas.{Sub, Part, Keywords, Schema, truth, keywords, no_schema, read, read_items, read_members, answer_for, whole_entries, inner_entries, whole_items, branches, parts_at, entries_at, wholes_at}
-use Rattle.olk_spec.proofs.Each.{Each, Each-flat_map, Each-option, Each-map, On-lookup, Each-implies}
+use Rattle.olk_spec.proofs.Each.{Each, Each-flat_map, Each-option, Each-map, On-lookup_name, Each-implies}
 
 -- what a step is given at a place
 abbrev pub schema_read : {X : Type 0} → (Schema X → X) → Data → Schema X
@@ -110,7 +110,7 @@ module _ {X : Type 0} (Good : Data → X → Type 0) where
   -- what stands at a neighbour is good
   module _ (S : Keywords X) (h : GoodKeywords S) (k : Name) where
     pub parts_good : Each GoodPart (parts_at S k)
-    parts_good = Each-option GoodPart (lookup k S) (On-lookup GoodPart k S h)
+    parts_good = Each-option GoodPart (lookup_name k S) (On-lookup_name GoodPart k S h)
 
     pub wholes_at_good : Each GoodSub (wholes_at S k)
     wholes_at_good = Each-map GoodSub (λ p. p.whole) (parts_at S k) (Each-implies GoodPart (λ p. GoodSub p.whole) (λ p g. g.0) (parts_at S k) parts_good)

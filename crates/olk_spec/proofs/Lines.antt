@@ -12,7 +12,7 @@ use Rattle.serde_json.specs.Written.{compact_text}
 use Rattle.olk_spec.specs.Names.{Text}
 use Rattle.olk_spec.specs.Faults.{Fault, fault, Kind, Context, Faults, no_fault, and_fault, faults_in, IsLike, like, IsLikeKind, itself, like_any_of, like_not_valid, like_multiple, like_names, IsLikeContext, like_none, like_branch, ◌∼◌, like_empty, like_next, like_swap, like_through}
 use Rattle.olk_spec.specs.Answers.{put_before, insert_text, sorted, path_text, line, in_brackets, branch_texts, fault_lines}
-use Rattle.olk_spec.specs.Forms.{told, told_inside, kind_name}
+use Rattle.olk_spec.specs.Forms.{told as kind_told, told_inside, kind_name}
 use Rattle.olk_spec.proofs.Order.{like_text}
 
 -- ---- sorting
@@ -99,7 +99,7 @@ mutual
 -- ---- kinds
 
 mutual
-  pub like_told : (f g : Fault) → IsLike f g → told f ≡ told g
+  pub like_told : (f g : Fault) → IsLike f g → kind_told f ≡ kind_told g
   like_told (fault k v Q P) (fault l w R O) (like h) =
       λ i. like_kind_name h i ++ codes " of " ++ compact_text v ++ codes " @ " ++ path_text Q ++ codes ", " ++ path_text P ++ like_inside h i
 

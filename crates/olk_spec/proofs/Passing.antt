@@ -2,8 +2,9 @@
 use Rattle.std.specs.Prelude.{◌≡◌, Bool, true, false, ◌&&◌, List, [], ◌∷◌, codes}
 use Rattle.std.specs.List.{flat_map}
 use Rattle.std.proofs.Common.{refl, sym}
+use Rattle.std.proofs.Math.Bool.{or-true}
 use Rattle.serde_json.specs.Data.{Data, null, boolean, number, string, array, object}
-use Rattle.olk_spec.specs.Names.{Name, Path, those}
+use Rattle.olk_spec.specs.Names.{Name, Path, filter_once}
 use Rattle.olk_spec.specs.Schemas.{Keywords, Part, members, is_object}
 use Rattle.olk_spec.specs.World.{World}
 use Rattle.olk_spec.specs.Vocabulary.{Keyword, properties, pattern_properties, additional_properties, property_names, required, dependent_required, dependent_schemas, dependencies, property_dependencies}
@@ -11,7 +12,6 @@ use Rattle.olk_spec.specs.Meanings.{Meaning, applied}
 use Rattle.olk_spec.specs.Faults.{Kind}
 use Rattle.olk_spec.specs.Reports.{own, fault_if}
 use Rattle.olk_spec.specs.Meaning.{meaning}
-use Rattle.olk_spec.proofs.Truth.{or_true}
 use Rattle.olk_spec.specs.Laws.{Passes}
 use mathlib.Core.Bool.{true≢false}
 
@@ -19,9 +19,9 @@ pub flat_map-none : {A B : Type 0} (xs : List A) → flat_map {A = B} (λ x. [])
 flat_map-none [] = refl
 flat_map-none (x ∷ xs) = flat_map-none xs
 
-pub those-none : {A : Type 0} (xs : List A) → those (λ x. false) xs ≡ []
-those-none [] = refl
-those-none (x ∷ xs) = those-none xs
+pub filter_once-none : {A : Type 0} (xs : List A) → filter_once (λ x. false) xs ≡ []
+filter_once-none [] = refl
+filter_once-none (x ∷ xs) = filter_once-none xs
 
 pub no_members : (v : Data) → is_object v ≡ false → members v ≡ []
 no_members null h = refl
@@ -41,27 +41,27 @@ passes_pattern_properties W u d v h = simp (no_members v h, flat_map-none) refl
 
 pub passes_additional_properties : Passes (codes "additionalProperties")
 unfolding meaning
-passes_additional_properties W u d v h = simp (no_members v h, or_true) refl
+passes_additional_properties W u d v h = simp (no_members v h, or-true) refl
 
 pub passes_property_names : Passes (codes "propertyNames")
 unfolding meaning
-passes_property_names W u d v h = simp (no_members v h, or_true) refl
+passes_property_names W u d v h = simp (no_members v h, or-true) refl
 
 pub passes_required : Passes (codes "required")
 unfolding meaning
-passes_required W u d v h = simp (h, those-none) refl
+passes_required W u d v h = simp (h, filter_once-none) refl
 
 pub passes_dependent_required : Passes (codes "dependentRequired")
 unfolding meaning
-passes_dependent_required W u d v h = simp (no_members v h, those-none) refl
+passes_dependent_required W u d v h = simp (no_members v h, filter_once-none) refl
 
 pub passes_dependent_schemas : Passes (codes "dependentSchemas")
 unfolding meaning
-passes_dependent_schemas W u d v h = simp (no_members v h, those-none) refl
+passes_dependent_schemas W u d v h = simp (no_members v h, filter_once-none) refl
 
 pub passes_dependencies : Passes (codes "dependencies")
 unfolding meaning
-passes_dependencies W u d v h = simp (no_members v h, those-none) refl
+passes_dependencies W u d v h = simp (no_members v h, filter_once-none) refl
 
 pub passes_property_dependencies : Passes (codes "propertyDependencies")
 unfolding meaning
@@ -89,8 +89,8 @@ module _ (W : World) (u : Bool) (S : Keywords Meaning) (k : Name) (p : Part Mean
   nothing_applied property_names e = refl
   nothing_applied required e = refl
   nothing_applied dependent_required e = refl
-  nothing_applied dependent_schemas e = simp (no_members v h, those-none) refl
-  nothing_applied dependencies e = simp (no_members v h, those-none) refl
+  nothing_applied dependent_schemas e = simp (no_members v h, filter_once-none) refl
+  nothing_applied dependencies e = simp (no_members v h, filter_once-none) refl
   nothing_applied property_dependencies e = simp (no_members v h, flat_map-none) refl
   nothing_applied _ e = absurd (true≢false (sym e))
 
@@ -103,9 +103,9 @@ module _ (W : World) (u : Bool) (S : Keywords Meaning) (k : Name) (p : Part Mean
   nothing_own P Q pattern_properties e = refl
   nothing_own P Q additional_properties e = simp (no_members v h, flat_map-none) refl
   nothing_own P Q property_names e = simp (no_members v h, flat_map-none, no_such_fault) refl
-  nothing_own P Q required e = simp (h, those-none) refl
-  nothing_own P Q dependent_required e = simp (no_members v h, those-none) refl
+  nothing_own P Q required e = simp (h, filter_once-none) refl
+  nothing_own P Q dependent_required e = simp (no_members v h, filter_once-none) refl
   nothing_own P Q dependent_schemas e = refl
-  nothing_own P Q dependencies e = simp (no_members v h, those-none) refl
+  nothing_own P Q dependencies e = simp (no_members v h, filter_once-none) refl
   nothing_own P Q property_dependencies e = refl
   nothing_own P Q _ e = absurd (true≢false (sym e))

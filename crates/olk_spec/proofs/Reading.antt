@@ -9,7 +9,7 @@ use Rattle.std.proofs.Common.{refl, sym, ◌∙◌, ap}
 use Rattle.std.proofs.lemmas.List.{append-nil}
 use Rattle.serde_json.specs.Data.{Data, null, boolean, number, string, array, object, Items, no_items, item, Members, no_members, member}
 use Rattle.serde_json.specs.Find.{get_member}
-use Rattle.olk_spec.specs.Names.{Name, lookup, first_if_equal}
+use Rattle.olk_spec.specs.Names.{Name, lookup_name, first_if_equal}
 use Rattle.olk_spec.specs.Malformed.{items_list, items_of_array}
 use Rattle.olk_spec.specs.Schemas.{Sub, Part, Schema, keywords, read, read_items, read_members, answer_for, whole_entries, inner_entries, whole_items, listed, members, texts, is_present, parts_at, entries_at, names_at, wholes_at, numbered, branches, names}
 use Rattle.olk_spec.specs.World.{World}
@@ -26,9 +26,9 @@ listed_first Equal x r s e = refl
 listed_first Greater x r s e = e
 
 -- the member that the code looks up
-pub lookup_listed : (n : Name) (ms : Members) → lookup n (listed ms) ≡ get_member n ms
+pub lookup_listed : (n : Name) (ms : Members) → lookup_name n (listed ms) ≡ get_member n ms
 lookup_listed n no_members = refl
-lookup_listed n (member k d ms) = listed_first (slice_cmp nat_cmp n k) d (lookup n (listed ms)) (get_member n ms) (lookup_listed n ms)
+lookup_listed n (member k d ms) = listed_first (slice_cmp nat_cmp n k) d (lookup_name n (listed ms)) (get_member n ms) (lookup_listed n ms)
 
 module _ {X : Type 0} (step : Schema X → X) where
   -- a place, and an entry, by its data
@@ -103,9 +103,9 @@ module _ {X : Type 0} (step : Schema X → X) where
 
   -- ---- the neighbour k of a keyword
 
-  pub lookup_read : (k : Name) (ms : Members) → lookup k (read_members step ms) ≡ option_map (read step) (get_member k ms)
+  pub lookup_read : (k : Name) (ms : Members) → lookup_name k (read_members step ms) ≡ option_map (read step) (get_member k ms)
   lookup_read k no_members = refl
-  lookup_read k (member n d ms) = found_first (read step) (slice_cmp nat_cmp k n) d (lookup k (read_members step ms)) (get_member k ms) (lookup_read k ms)
+  lookup_read k (member n d ms) = found_first (read step) (slice_cmp nat_cmp k n) d (lookup_name k (read_members step ms)) (get_member k ms) (lookup_read k ms)
 
   parts_of : (o : Option Data) → option_to_list (option_map (read step) o) ≡ map (read step) (option_to_list o)
   parts_of None = refl
@@ -145,7 +145,7 @@ module _ {X : Type 0} (step : Schema X → X) where
 
     -- where d stands there, or nothing
     module _ (d : Data) (e : get_member k ms ≡ Some d) where
-      pub lookup_there : lookup k (read_members step ms) ≡ Some (read step d)
+      pub lookup_there : lookup_name k (read_members step ms) ≡ Some (read step d)
       lookup_there = lookup_read k ms ∙ ap (option_map (read step)) e
 
       pub wholes_there : wholes_at (read_members step ms) k ≡ place d ∷ []
@@ -158,7 +158,7 @@ module _ {X : Type 0} (step : Schema X → X) where
       names_there = names_at_read ∙ ap (λ o. flat_map texts (option_to_list o)) e ∙ append-nil (texts d)
 
     module _ (e : get_member k ms ≡ None) where
-      pub lookup_absent : lookup k (read_members step ms) ≡ None
+      pub lookup_absent : lookup_name k (read_members step ms) ≡ None
       lookup_absent = lookup_read k ms ∙ ap (option_map (read step)) e
 
       pub wholes_absent : wholes_at (read_members step ms) k ≡ []

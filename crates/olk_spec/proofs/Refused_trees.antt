@@ -9,6 +9,7 @@ use Rattle.std.proofs.lemmas.List.Sorted.{IsPermutation-refl, IsPermutation-sym,
 use Rattle.std.proofs.lemmas.List.{map-append, append-nil}
 use mathlib.Core.Path.{subst₂}
 use Rattle.std.proofs.lemmas.List.Folds.{list_all-append}
+use Rattle.olk_spec.proofs.Truth.{not_true}
 use Rattle.serde_json.proofs.OnLiterals.{serde_json_on_literals}
 use Rattle.olk_spec.specs.Names.{Path, is_empty}
 use Rattle.olk_spec.specs.Literals.{literal}
@@ -18,7 +19,7 @@ use Rattle.olk_spec.specs.Refused_trees.{counted, frame, frames, error_keyword, 
 use Rattle.olk_spec.specs.Refused_trees as refused
 use Rattle.olk_spec.proofs.Order.{along_permutation}
 
-same_validity : (t n : Tree) → IsLikeTree t n → is_valid n ≡ is_valid t
+pub same_validity : (t n : Tree) → IsLikeTree t n → is_valid n ≡ is_valid t
 same_validity (node P Q b a es ts) (node P' Q' b' a' es' ts') (p, q, h, k, l, m) = h
 same_validity (node P Q b a es ts) (leaf_node P' Q' es') h = absurd h
 same_validity (leaf_node P Q es) (node P' Q' b' a' es' ts') (p, q, h, k, l, m) = h
@@ -60,10 +61,6 @@ mutual
   same_frames no_tree (and_tree u us) h = absurd h
   same_frames (and_tree t ts) no_tree h = absurd h
   same_frames (and_tree t ts) (and_tree u us) (h, k) = λ i. and_tree (same_frame t u h i) (same_frames ts us k i)
-
-no_fraction : (b : Bool) → not b ≡ true → b ≡ false
-no_fraction true h = sym h
-no_fraction false h = refl
 
 -- ---- errors with their paths: f is what is to be the same of an error and of the one that tells it, where ok holds of the first
 
@@ -117,7 +114,7 @@ pub one_list_of_keywords : refused.One_list_of_keywords
 one_list_of_keywords W u S v P Q t h = same_errors error_keyword (λ d. true) (λ P Q d e o k r. λ i. (P, Q, k i)) _ t (any_passes (errors (tree W u S v P Q))) h
 
 pub one_list_of_texts : refused.One_list_of_texts
-one_list_of_texts W u S v P Q t o h = same_errors error_text (λ d. not d.2) (λ P Q d e o k r. λ i. (P, Q, k i, r (no_fraction d.2 o) i)) _ t o h
+one_list_of_texts W u S v P Q t o h = same_errors error_text (λ d. not d.2) (λ P Q d e o k r. λ i. (P, Q, k i, r (not_true d.2 o) i)) _ t o h
 
 pub one_validity : refused.One_validity
 one_validity W u S v P Q t h = same_validity _ t h

@@ -4,9 +4,10 @@ use Rattle.std.specs.List.{flat_map, list_all, list_any}
 use Rattle.std.proofs.Common.{refl, sym, ◌∙◌, ap, subst}
 use Rattle.std.proofs.lemmas.List.{append-nil}
 use Rattle.std.proofs.lemmas.List.Folds.{list_all-append, list_all-map}
+use Rattle.std.proofs.Math.Bool.{or-true, and-true, not-not, or-false}
 use mathlib.Core.Bool.{true≢false}
 use Rattle.serde_json.specs.Data.{Data, null, boolean, number, string, array, object, Items, no_items, item, Members, no_members, member}
-use Rattle.olk_spec.specs.Names.{Name, Path, ◌//◌, down, those, put_if, is_empty, is_among, lookup}
+use Rattle.olk_spec.specs.Names.{Name, Path, ◌//◌, down, filter_once, put_if, is_empty, is_among, lookup_name}
 use Rattle.olk_spec.specs.World.{World}
 use Rattle.olk_spec.specs.Vocabulary.{Keyword, properties, pattern_properties, additional_properties, property_names, required, dependent_required, dependent_schemas, dependencies, property_dependencies, all_of, any_of, one_of, not_keyword, if_keyword, then_keyword, else_keyword, leaf, keyword_named}
 use Rattle.olk_spec.specs.Schemas.{at, has, is_array, is_object, is_truth, Schema, Keywords, Part, listed, members, branches, names, texts, read, read_members, name_lists, parts_at, entries_at, names_at, wholes_at, is_present}
@@ -19,12 +20,12 @@ use Rattle.olk_spec.specs.Trees.{where_so, declared_trees, pattern_trees, additi
 use Rattle.olk_spec.specs.Meaning.{meaning, meaning_step}
 use Rattle.olk_spec.specs.Distinct.{DistinctNames, DistinctInItems, DistinctInMembers}
 use Rattle.olk_spec.specs.Laws.{Verdict_of_trees}
-use Rattle.olk_spec.proofs.Each.{Each, On, Each-implies, Each-those, Each-option, Each-both, On-lookup}
+use Rattle.olk_spec.proofs.Each.{Each, On, Each-implies, Each-filter_once, Each-option, Each-both, On-lookup_name}
 use Rattle.olk_spec.proofs.Induction.{sound_answer, EachItem, EachMember, schema_read, GoodSub, GoodEntry, GoodSchema, GoodKeywords, GoodPart, branches_good, entries_at_good, wholes_at_good}
 use Rattle.olk_spec.proofs.Applied.{GoodAsked, applied_good}
 use Rattle.olk_spec.proofs.Passing.{flat_map-none}
-use Rattle.olk_spec.proofs.Truth.{or_true, and_true, not_or_same, not_not, or_false, and_first, and_second, or_second, or_from, and_from, same_truth, regroup, dependency_truth, missing_truth, unless_either, among_truth, some_counted, is_among-those, Each-among, each_true, all_true, any_of_either}
-use Rattle.olk_spec.proofs.Walks.{neither, Distinct, Distinct-from, Distinct-map, On-lookup-named, Each-found, list_all-flat_map, list_all-and, list_all-same, list_all-where, list_all-those, list_all-inside_out, list_all-other_side}
+use Rattle.olk_spec.proofs.Truth.{not_or_same, and_first, and_second, or_second, or_from, and_from, same_truth, regroup, dependency_truth, missing_truth, unless_either, among_truth, some_counted, is_among-filter_once, Each-among, each_true, all_true, any_of_either}
+use Rattle.olk_spec.proofs.Walks.{neither, Distinct, Distinct-from, Distinct-map, On-lookup_name-named, Each-found, list_all-flat_map, list_all-and, list_all-same, list_all-where, list_all-filter_once, list_all-inside_out, list_all-other_side}
 use Rattle.olk_spec.proofs.Named.{Named, named}
 use Rattle.olk_spec.proofs.Reading.{members_read, entries_read, place}
 use Rattle.olk_spec.proofs.Verdicts.{is_empty-map, exactly_one, additional_own_row}
@@ -42,10 +43,10 @@ pub is_valid-plain : (P Q : Path) (ts : List Tree) → is_valid (plain P Q ts) �
 is_valid-plain P Q ts = is_valid-result P Q None false [] ts
 
 pub is_valid-erring : (P Q : Path) (fs : List Fault) → is_valid (erring P Q fs) ≡ is_empty fs
-is_valid-erring P Q fs = is_valid-result P Q None false (described fs) [] ∙ and_true (is_empty (described fs) && true) ∙ and_true (is_empty (described fs)) ∙ is_empty-map described_fault fs
+is_valid-erring P Q fs = is_valid-result P Q None false (described fs) [] ∙ and-true (is_empty (described fs) && true) ∙ and-true (is_empty (described fs)) ∙ is_empty-map described_fault fs
 
 one_valid : (t : Tree) → list_all is_valid (t ∷ []) ≡ is_valid t
-one_valid t = and_true (is_valid t)
+one_valid t = and-true (is_valid t)
 
 plain_valid : (P Q : Path) (ts : List Tree) → list_all is_valid (plain P Q ts ∷ []) ≡ list_all is_valid ts
 plain_valid P Q ts = one_valid (plain P Q ts) ∙ is_valid-plain P Q ts
@@ -60,7 +61,7 @@ none_where : (b : Bool) (k : Kind) (v : Data) (P Q : Path) → is_empty (fault_i
 none_where true k v P Q = refl
 none_where false k v P Q = refl
 
-none_missing : (ns : List Name) (v : Data) (P Q : Path) → is_empty (required_faults ns v P Q) ≡ is_empty (missing ns v)
+pub none_missing : (ns : List Name) (v : Data) (P Q : Path) → is_empty (required_faults ns v P Q) ≡ is_empty (missing ns v)
 none_missing ns v P Q = is_empty-map (λ n. fault (Required n) v Q P) (missing ns v)
 
 -- ---- values
@@ -118,7 +119,7 @@ module _ (W : World) (u : Bool) (S : Keywords Meaning) (h : GoodKeywords TreeAgr
   fines = DistinctNames-members v dv
 
   entries_distinct : (k : Name) → Distinct (entries_at S k)
-  entries_distinct k = by (lookup k S) (On-lookup (λ p. Distinct p.entries) k S dE)
+  entries_distinct k = by (lookup_name k S) (On-lookup_name (λ p. Distinct p.entries) k S dE)
     where
       by : (o : Option (Part Meaning)) → On (λ p. Distinct p.entries) o → Distinct (flat_map (λ p. p.entries) (option_to_list o))
       by None g = tt
@@ -130,7 +131,7 @@ module _ (W : World) (u : Bool) (S : Keywords Meaning) (h : GoodKeywords TreeAgr
   declared_row : list_all is_valid (flat_map (declared_trees W u S v P Q) (members v)) ≡ the_properties
   declared_row =
       list_all-flat_map is_valid (declared_trees W u S v P Q) (members v)
-      ∙ list_all-same (λ m. list_all is_valid (declared_trees W u S v P Q m)) (λ m. list_all (λ s. holds s m.1) (option_to_list (lookup m.0 es))) (members v) (Each-implies (λ m. DistinctNames m.1) (λ m. list_all is_valid (declared_trees W u S v P Q m) ≡ list_all (λ s. holds s m.1) (option_to_list (lookup m.0 es))) of_member (members v) fines)
+      ∙ list_all-same (λ m. list_all is_valid (declared_trees W u S v P Q m)) (λ m. list_all (λ s. holds s m.1) (option_to_list (lookup_name m.0 es))) (members v) (Each-implies (λ m. DistinctNames m.1) (λ m. list_all is_valid (declared_trees W u S v P Q m) ≡ list_all (λ s. holds s m.1) (option_to_list (lookup_name m.0 es))) of_member (members v) fines)
       ∙ sym (list_all-other_side (λ s w. holds s w) es (members v) (entries_distinct (codes "properties")) dM)
       ∙ list_all-flat_map (λ e. list_all (λ w. holds e.1 w) (at e.0 v)) (λ p. p.entries) (parts_at S (codes "properties"))
       ∙ (λ i. list_all (λ p. of_part p i) (parts_at S (codes "properties")))
@@ -138,12 +139,12 @@ module _ (W : World) (u : Bool) (S : Keywords Meaning) (h : GoodKeywords TreeAgr
       es : List (Name × Subschema)
       es = entries_at S (codes "properties")
 
-      of_member : (m : Name × Data) → DistinctNames m.1 → list_all is_valid (declared_trees W u S v P Q m) ≡ list_all (λ s. holds s m.1) (option_to_list (lookup m.0 es))
-      of_member m g = list_all-map is_valid (λ s. s.answer.tree m.1 (P // codes "properties" // m.0) (Q // m.0)) (option_to_list (lookup m.0 es))
-          ∙ list_all-same (λ s. is_valid (s.answer.tree m.1 (P // codes "properties" // m.0) (Q // m.0))) (λ s. holds s m.1) (option_to_list (lookup m.0 es)) (Each-implies (GoodSub TreeAgrees) (λ s. is_valid (s.answer.tree m.1 (P // codes "properties" // m.0) (Q // m.0)) ≡ holds s m.1) (λ s c. c m.1 (P // codes "properties" // m.0) (Q // m.0) g) (option_to_list (lookup m.0 es)) (Each-option (GoodSub TreeAgrees) (lookup m.0 es) (On-lookup (GoodSub TreeAgrees) m.0 es (entries_at_good TreeAgrees S h (codes "properties")))))
+      of_member : (m : Name × Data) → DistinctNames m.1 → list_all is_valid (declared_trees W u S v P Q m) ≡ list_all (λ s. holds s m.1) (option_to_list (lookup_name m.0 es))
+      of_member m g = list_all-map is_valid (λ s. s.answer.tree m.1 (P // codes "properties" // m.0) (Q // m.0)) (option_to_list (lookup_name m.0 es))
+          ∙ list_all-same (λ s. is_valid (s.answer.tree m.1 (P // codes "properties" // m.0) (Q // m.0))) (λ s. holds s m.1) (option_to_list (lookup_name m.0 es)) (Each-implies (GoodSub TreeAgrees) (λ s. is_valid (s.answer.tree m.1 (P // codes "properties" // m.0) (Q // m.0)) ≡ holds s m.1) (λ s c. c m.1 (P // codes "properties" // m.0) (Q // m.0) g) (option_to_list (lookup_name m.0 es)) (Each-option (GoodSub TreeAgrees) (lookup_name m.0 es) (On-lookup_name (GoodSub TreeAgrees) m.0 es (entries_at_good TreeAgrees S h (codes "properties")))))
 
       of_part : (p : Part Meaning) → list_all (λ e. list_all (λ w. holds e.1 w) (at e.0 v)) p.entries ≡ keyword_accepts W u S (codes "properties") p v properties
-      of_part p = sym (and_true (list_all (λ a. holds a.sub a.value) (applied W u S (codes "properties") p v properties))
+      of_part p = sym (and-true (list_all (λ a. holds a.sub a.value) (applied W u S (codes "properties") p v properties))
           ∙ list_all-flat_map (λ a. holds a.sub a.value) (λ e. map (λ w. asked e.1 w (codes "properties" ∷ e.0 ∷ []) (e.0 ∷ [])) (at e.0 v)) p.entries
           ∙ (λ i. list_all (λ e. list_all-map (λ a. holds a.sub a.value) (λ w. asked e.1 w (codes "properties" ∷ e.0 ∷ []) (e.0 ∷ [])) (at e.0 v) i) p.entries))
 
@@ -160,27 +161,27 @@ module _ (W : World) (u : Bool) (S : Keywords Meaning) (h : GoodKeywords TreeAgr
       es = entries_at S (codes "patternProperties")
 
       of_member : (m : Name × Data) → DistinctNames m.1 → list_all is_valid (pattern_trees W u S v P Q m) ≡ list_all (λ e. not (matches W u e.0 m.0) || holds e.1 m.1) es
-      of_member m g = list_all-map is_valid (λ e. e.1.answer.tree m.1 (P // codes "patternProperties" // e.0) (Q // m.0)) (those (λ e. matches W u e.0 m.0) es)
-          ∙ list_all-same (λ e. is_valid (e.1.answer.tree m.1 (P // codes "patternProperties" // e.0) (Q // m.0))) (λ e. holds e.1 m.1) (those (λ e. matches W u e.0 m.0) es) (Each-implies (GoodEntry TreeAgrees) (λ e. is_valid (e.1.answer.tree m.1 (P // codes "patternProperties" // e.0) (Q // m.0)) ≡ holds e.1 m.1) (λ e c. c m.1 (P // codes "patternProperties" // e.0) (Q // m.0) g) (those (λ e. matches W u e.0 m.0) es) (Each-those (GoodEntry TreeAgrees) (λ e. matches W u e.0 m.0) es (entries_at_good TreeAgrees S h (codes "patternProperties"))))
-          ∙ list_all-those (λ e. holds e.1 m.1) (λ e. matches W u e.0 m.0) es
+      of_member m g = list_all-map is_valid (λ e. e.1.answer.tree m.1 (P // codes "patternProperties" // e.0) (Q // m.0)) (filter_once (λ e. matches W u e.0 m.0) es)
+          ∙ list_all-same (λ e. is_valid (e.1.answer.tree m.1 (P // codes "patternProperties" // e.0) (Q // m.0))) (λ e. holds e.1 m.1) (filter_once (λ e. matches W u e.0 m.0) es) (Each-implies (GoodEntry TreeAgrees) (λ e. is_valid (e.1.answer.tree m.1 (P // codes "patternProperties" // e.0) (Q // m.0)) ≡ holds e.1 m.1) (λ e c. c m.1 (P // codes "patternProperties" // e.0) (Q // m.0) g) (filter_once (λ e. matches W u e.0 m.0) es) (Each-filter_once (GoodEntry TreeAgrees) (λ e. matches W u e.0 m.0) es (entries_at_good TreeAgrees S h (codes "patternProperties"))))
+          ∙ list_all-filter_once (λ e. holds e.1 m.1) (λ e. matches W u e.0 m.0) es
 
       of_part : (p : Part Meaning) → list_all (λ e. list_all (λ m. not (matches W u e.0 m.0) || holds e.1 m.1) (members v)) p.entries ≡ keyword_accepts W u S (codes "patternProperties") p v pattern_properties
-      of_part p = sym (and_true (list_all (λ a. holds a.sub a.value) (applied W u S (codes "patternProperties") p v pattern_properties))
-          ∙ list_all-flat_map (λ a. holds a.sub a.value) (λ e. map (λ m. asked e.1 m.1 (codes "patternProperties" ∷ e.0 ∷ []) (m.0 ∷ [])) (those (λ m. matches W u e.0 m.0) (members v))) p.entries
-          ∙ (λ i. list_all (λ e. (list_all-map (λ a. holds a.sub a.value) (λ m. asked e.1 m.1 (codes "patternProperties" ∷ e.0 ∷ []) (m.0 ∷ [])) (those (λ m. matches W u e.0 m.0) (members v)) ∙ list_all-those (λ m. holds e.1 m.1) (λ m. matches W u e.0 m.0) (members v)) i) p.entries))
+      of_part p = sym (and-true (list_all (λ a. holds a.sub a.value) (applied W u S (codes "patternProperties") p v pattern_properties))
+          ∙ list_all-flat_map (λ a. holds a.sub a.value) (λ e. map (λ m. asked e.1 m.1 (codes "patternProperties" ∷ e.0 ∷ []) (m.0 ∷ [])) (filter_once (λ m. matches W u e.0 m.0) (members v))) p.entries
+          ∙ (λ i. list_all (λ e. (list_all-map (λ a. holds a.sub a.value) (λ m. asked e.1 m.1 (codes "patternProperties" ∷ e.0 ∷ []) (m.0 ∷ [])) (filter_once (λ m. matches W u e.0 m.0) (members v)) ∙ list_all-filter_once (λ m. holds e.1 m.1) (λ m. matches W u e.0 m.0) (members v)) i) p.entries))
 
   -- `required` inside another validator
   missing_row : (b : Bool) → list_all is_valid (missing_child W u S v P Q b) ≡ (not b || the_required)
   missing_row b = where_valid (b && not (is_empty (missing ns v))) (erring (P // codes "required") Q (required_faults ns v (P // codes "required") Q)) (is_empty (missing ns v)) (is_valid-erring (P // codes "required") Q (required_faults ns v (P // codes "required") Q) ∙ none_missing ns v (P // codes "required") Q)
       ∙ missing_truth b (is_empty (missing ns v))
-      ∙ ap (λ c. not b || c) (by (lookup (codes "required") S))
+      ∙ ap (λ c. not b || c) (by (lookup_name (codes "required") S))
     where
       ns : List Name
       ns = names_at S (codes "required")
 
       by : (o : Option (Part Meaning)) → is_empty (missing (flat_map names (option_to_list o)) v) ≡ list_all (λ p. keyword_accepts W u S (codes "required") p v required) (option_to_list o)
       by None = refl
-      by (Some p) = ap (λ xs. is_empty (missing xs v)) (append-nil (names p)) ∙ sym (and_true (is_empty (missing (names p) v)))
+      by (Some p) = ap (λ xs. is_empty (missing xs v)) (append-nil (names p)) ∙ sym (and-true (is_empty (missing (names p) v)))
 
   -- ---- the child of one keyword
 
@@ -190,7 +191,7 @@ module _ (W : World) (u : Bool) (S : Keywords Meaning) (h : GoodKeywords TreeAgr
         ∙ list_all-same (λ a. is_valid (a.sub.answer.tree a.value (down P a.in_schema) (down Q a.in_instance))) (λ a. holds a.sub a.value) (applied W u S k p v w) (Each-implies (GoodAsked TreeAgrees DistinctNames) (λ a. is_valid (a.sub.answer.tree a.value (down P a.in_schema) (down Q a.in_instance)) ≡ holds a.sub a.value) (λ a c. c.0 a.value (down P a.in_schema) (down Q a.in_instance) c.1) (applied W u S k p v w) (applied_good TreeAgrees DistinctNames W u S k p g v dv fines w))
 
     asked_child : (w : Keyword) → list_all is_valid (plain (P // k) Q (asked_trees W u S v P Q k p w) ∷ []) ≡ (list_all (λ a. holds a.sub a.value) (applied W u S k p v w) && true)
-    asked_child w = plain_valid (P // k) Q (asked_trees W u S v P Q k p w) ∙ asked_row w ∙ sym (and_true (list_all (λ a. holds a.sub a.value) (applied W u S k p v w)))
+    asked_child w = plain_valid (P // k) Q (asked_trees W u S v P Q k p w) ∙ asked_row w ∙ sym (and-true (list_all (λ a. holds a.sub a.value) (applied W u S k p v w)))
 
     abbrev is_additional : Name → Bool
     is_additional n = not (is_declared S n) && is_empty (matching S W u n)
@@ -201,11 +202,11 @@ module _ (W : World) (u : Bool) (S : Keywords Meaning) (h : GoodKeywords TreeAgr
         ∙ list_all-same (λ m. list_all is_valid (additional_trees W u S v P Q k p m)) (λ m. not (is_additional m.0) || (not (is_object p.whole.schema) || holds p.whole m.1)) (members v) (Each-implies (λ m. DistinctNames m.1 × (is_among m.0 (map (λ e. e.0) (members v)) ≡ true)) (λ m. list_all is_valid (additional_trees W u S v P Q k p m) ≡ (not (is_additional m.0) || (not (is_object p.whole.schema) || holds p.whole m.1))) of_member (members v) (Each-both (λ m. DistinctNames m.1) (λ m. is_among m.0 (map (λ e. e.0) (members v)) ≡ true) (members v) fines (Each-among (members v))))
         ∙ sym (list_all-flat_map (λ a. holds a.sub a.value) (λ m. put_if (is_object p.whole.schema) (asked p.whole m.1 (k ∷ []) (m.0 ∷ [])) []) (additional S W u v)
         ∙ (λ i. list_all (λ m. list_all-where (λ a. holds a.sub a.value) (is_object p.whole.schema) (asked p.whole m.1 (k ∷ []) (m.0 ∷ [])) i) (additional S W u v))
-        ∙ list_all-those (λ m. not (is_object p.whole.schema) || holds p.whole m.1) (λ m. is_additional m.0) (members v))
+        ∙ list_all-filter_once (λ m. not (is_object p.whole.schema) || holds p.whole m.1) (λ m. is_additional m.0) (members v))
       where
         of_member : (m : Name × Data) → DistinctNames m.1 × (is_among m.0 (map (λ e. e.0) (members v)) ≡ true) → list_all is_valid (additional_trees W u S v P Q k p m) ≡ (not (is_additional m.0) || (not (is_object p.whole.schema) || holds p.whole m.1))
         of_member m c = where_valid (is_object p.whole.schema && is_among m.0 (additional_names W u S v P Q)) (p.whole.answer.tree m.1 (P // k) (Q // m.0)) (holds p.whole m.1) (g.0 m.1 (P // k) (Q // m.0) c.0)
-            ∙ ap (λ b. not (is_object p.whole.schema && b) || holds p.whole m.1) (is_among-those is_additional m.0 (members v) ∙ ap (λ b. is_additional m.0 && b) c.1)
+            ∙ ap (λ b. not (is_object p.whole.schema && b) || holds p.whole m.1) (is_among-filter_once is_additional m.0 (members v) ∙ ap (λ b. is_additional m.0 && b) c.1)
             ∙ among_truth (is_object p.whole.schema) (is_additional m.0) (holds p.whole m.1)
 
     -- the declared, the matching and the additional schemas, member by member
@@ -243,7 +244,7 @@ module _ (W : World) (u : Bool) (S : Keywords Meaning) (h : GoodKeywords TreeAgr
         matched_child = where_so (has_patterns S && not (declares S) && not (is_empty (matched_names W u S v P Q))) (node (P // codes "patternProperties") Q true (Some (matched_names W u S v P Q)) [] no_tree)
 
         matched_row : list_all is_valid matched_child ≡ true
-        matched_row = where_valid (has_patterns S && not (declares S) && not (is_empty (matched_names W u S v P Q))) (node (P // codes "patternProperties") Q true (Some (matched_names W u S v P Q)) [] no_tree) true refl ∙ or_true (not (has_patterns S && not (declares S) && not (is_empty (matched_names W u S v P Q))))
+        matched_row = where_valid (has_patterns S && not (declares S) && not (is_empty (matched_names W u S v P Q))) (node (P // codes "patternProperties") Q true (Some (matched_names W u S v P Q)) [] no_tree) true refl ∙ or-true (not (has_patterns S && not (declares S) && not (is_empty (matched_names W u S v P Q))))
 
         walked : List Tree
         walked = flat_map (λ m. declared_trees W u S v P Q m ++ pattern_trees W u S v P Q m ++ additional_trees W u S v P Q k p m) (members v)
@@ -257,7 +258,7 @@ module _ (W : World) (u : Bool) (S : Keywords Meaning) (h : GoodKeywords TreeAgr
     names_row =
         list_all-append is_valid (where_so (is_object p.whole.schema) (plain (P // k) Q name_trees)) (where_so (is_truth false p.whole.schema) (erring (P // k) Q none_allowed))
         ∙ (λ i. where_valid (is_object p.whole.schema) (plain (P // k) Q name_trees) (list_all (λ m. holds p.whole (string m.0)) (members v)) (is_valid-plain (P // k) Q name_trees ∙ names_valid) i
-        && where_valid (is_truth false p.whole.schema) (erring (P // k) Q none_allowed) (is_empty (members v)) (is_valid-erring (P // k) Q none_allowed ∙ none_where (not (is_empty (members v))) FalseSchema v (P // k) Q ∙ not_not (is_empty (members v))) i)
+        && where_valid (is_truth false p.whole.schema) (erring (P // k) Q none_allowed) (is_empty (members v)) (is_valid-erring (P // k) Q none_allowed ∙ none_where (not (is_empty (members v))) FalseSchema v (P // k) Q ∙ not-not (is_empty (members v))) i)
       where
         name_trees : List Tree
         name_trees = map (λ m. p.whole.answer.tree (string m.0) (P // k) Q) (members v)
@@ -272,10 +273,10 @@ module _ (W : World) (u : Bool) (S : Keywords Meaning) (h : GoodKeywords TreeAgr
     due_row = list_all-map is_valid (λ e. erring (P // k) Q (required_faults e.1 v (P // k) Q)) (due p v)
         ∙ (λ i. list_all (λ e. (is_valid-erring (P // k) Q (required_faults e.1 v (P // k) Q) ∙ none_missing e.1 v (P // k) Q) i) (due p v))
 
-    dependencies_row : list_all is_valid (map (dependency_tree W u S v P Q k p) (those (λ e. has e.0 v) p.entries)) ≡ keyword_accepts W u S k p v dependencies
+    dependencies_row : list_all is_valid (map (dependency_tree W u S v P Q k p) (filter_once (λ e. has e.0 v) p.entries)) ≡ keyword_accepts W u S k p v dependencies
     dependencies_row =
-        list_all-map is_valid (dependency_tree W u S v P Q k p) (those (λ e. has e.0 v) p.entries)
-        ∙ list_all-those (λ e. is_valid (dependency_tree W u S v P Q k p e)) (λ e. has e.0 v) p.entries
+        list_all-map is_valid (dependency_tree W u S v P Q k p) (filter_once (λ e. has e.0 v) p.entries)
+        ∙ list_all-filter_once (λ e. is_valid (dependency_tree W u S v P Q k p e)) (λ e. has e.0 v) p.entries
         ∙ list_all-same (λ e. not (has e.0 v) || is_valid (dependency_tree W u S v P Q k p e)) (λ e. (not (has e.0 v && not (is_array e.1.schema)) || holds e.1 v) && (not (is_array e.1.schema) || (not (has e.0 v) || is_empty (missing (texts e.1.schema) v)))) p.entries (Each-implies (GoodEntry TreeAgrees) (λ e. (not (has e.0 v) || is_valid (dependency_tree W u S v P Q k p e)) ≡ ((not (has e.0 v && not (is_array e.1.schema)) || holds e.1 v) && (not (is_array e.1.schema) || (not (has e.0 v) || is_empty (missing (texts e.1.schema) v))))) of_entry p.entries g.1)
         ∙ list_all-and (λ e. not (has e.0 v && not (is_array e.1.schema)) || holds e.1 v) (λ e. not (is_array e.1.schema) || (not (has e.0 v) || is_empty (missing (texts e.1.schema) v))) p.entries
         ∙ (λ i. sym subschemas i && sym name_lists_row i)
@@ -289,17 +290,17 @@ module _ (W : World) (u : Bool) (S : Keywords Meaning) (h : GoodKeywords TreeAgr
             ∙ dependency_truth (has e.0 v) (is_array e.1.schema) _ _ (is_empty (missing (texts e.1.schema) v)) (holds e.1 v) (is_valid-erring (P // k) Q (required_faults (texts e.1.schema) v (P // k) Q) ∙ none_missing (texts e.1.schema) v (P // k) Q) (c v (P // k // e.0) Q dv)
 
         subschemas : list_all (λ a. holds a.sub a.value) (applied W u S k p v dependencies) ≡ list_all (λ e. not (has e.0 v && not (is_array e.1.schema)) || holds e.1 v) p.entries
-        subschemas = list_all-map (λ a. holds a.sub a.value) (λ e. asked e.1 v (k ∷ e.0 ∷ []) []) (those (λ e. has e.0 v && not (is_array e.1.schema)) p.entries) ∙ list_all-those (λ e. holds e.1 v) (λ e. has e.0 v && not (is_array e.1.schema)) p.entries
+        subschemas = list_all-map (λ a. holds a.sub a.value) (λ e. asked e.1 v (k ∷ e.0 ∷ []) []) (filter_once (λ e. has e.0 v && not (is_array e.1.schema)) p.entries) ∙ list_all-filter_once (λ e. holds e.1 v) (λ e. has e.0 v && not (is_array e.1.schema)) p.entries
 
         name_lists_row : list_all (λ e. is_empty (missing e.1 v)) (due p v) ≡ list_all (λ e. not (is_array e.1.schema) || (not (has e.0 v) || is_empty (missing (texts e.1.schema) v))) p.entries
-        name_lists_row = list_all-those (λ e. is_empty (missing e.1 v)) (λ e. has e.0 v) (name_lists p)
-            ∙ list_all-map (λ e. not (has e.0 v) || is_empty (missing e.1 v)) (λ e. (e.0, texts e.1.schema)) (those (λ e. is_array e.1.schema) p.entries)
-            ∙ list_all-those (λ e. not (has e.0 v) || is_empty (missing (texts e.1.schema) v)) (λ e. is_array e.1.schema) p.entries
+        name_lists_row = list_all-filter_once (λ e. is_empty (missing e.1 v)) (λ e. has e.0 v) (name_lists p)
+            ∙ list_all-map (λ e. not (has e.0 v) || is_empty (missing e.1 v)) (λ e. (e.0, texts e.1.schema)) (filter_once (λ e. is_array e.1.schema) p.entries)
+            ∙ list_all-filter_once (λ e. not (has e.0 v) || is_empty (missing (texts e.1.schema) v)) (λ e. is_array e.1.schema) p.entries
 
     -- the branches that accept
     branches_row : list_all is_valid (branch_trees W u S v P Q k p (λ s. holds s v)) ≡ true
-    branches_row = list_all-map is_valid (λ b. b.1.answer.tree v (P // k // b.0) Q) (those (λ b. holds b.1 v) (branches p))
-        ∙ list_all-those (λ b. is_valid (b.1.answer.tree v (P // k // b.0) Q)) (λ b. holds b.1 v) (branches p)
+    branches_row = list_all-map is_valid (λ b. b.1.answer.tree v (P // k // b.0) Q) (filter_once (λ b. holds b.1 v) (branches p))
+        ∙ list_all-filter_once (λ b. is_valid (b.1.answer.tree v (P // k // b.0) Q)) (λ b. holds b.1 v) (branches p)
         ∙ all_true (λ b. not (holds b.1 v) || is_valid (b.1.answer.tree v (P // k // b.0) Q)) (branches p) (Each-implies (GoodEntry TreeAgrees) (λ b. (not (holds b.1 v) || is_valid (b.1.answer.tree v (P // k // b.0) Q)) ≡ true) (λ b c. ap (λ a. not (holds b.1 v) || a) (c v (P // k // b.0) Q dv) ∙ not_or_same (holds b.1 v)) (branches p) (branches_good TreeAgrees p g))
 
     any_of_row : is_valid (any_of_child W u S v P Q k p) ≡ not (accepting p v == 0)
@@ -323,16 +324,16 @@ module _ (W : World) (u : Bool) (S : Keywords Meaning) (h : GoodKeywords TreeAgr
         by true = is_valid-result (P // k) Q None true [] (branch_trees W u S v P Q k p (λ s. true))
         by false = is_valid-result (P // k) Q None false told (branch_trees W u S v P Q k p (λ s. holds s v))
             ∙ (λ i. (none_told (nat_lt 1 (accepting p v)) (codes "oneOf", codes "more than one subschema succeeded", false) i && true) && branches_row i)
-            ∙ and_true (not (nat_lt 1 (accepting p v)) && true) ∙ and_true (not (nat_lt 1 (accepting p v)))
+            ∙ and-true (not (nat_lt 1 (accepting p v)) && true) ∙ and-true (not (nat_lt 1 (accepting p v)))
 
     -- ---- `if`, where this is it
 
-    module _ (there : lookup (codes "if") S ≡ Some p) where
+    module _ (there : lookup_name (codes "if") S ≡ Some p) where
       accepts_here : if_accepts S v ≡ holds p.whole v
-      accepts_here = ap (λ o. list_any (λ s. holds s v) (map (λ q. q.whole) (option_to_list o))) there ∙ or_false (holds p.whole v)
+      accepts_here = ap (λ o. list_any (λ s. holds s v) (map (λ q. q.whole) (option_to_list o))) there ∙ or-false (holds p.whole v)
 
       refuses_here : if_refuses S v ≡ not (holds p.whole v)
-      refuses_here = ap (λ o. list_any (λ s. not (holds s v)) (map (λ q. q.whole) (option_to_list o))) there ∙ or_false (not (holds p.whole v))
+      refuses_here = ap (λ o. list_any (λ s. not (holds s v)) (map (λ q. q.whole) (option_to_list o))) there ∙ or-false (not (holds p.whole v))
 
       case_row : (b : Bool) (n : Name) → list_all is_valid (case_trees W u S v P Q k p b n) ≡ list_all (λ q. not b || holds q.whole v) (parts_at S n)
       case_row b n =
@@ -341,7 +342,7 @@ module _ (W : World) (u : Bool) (S : Keywords Meaning) (h : GoodKeywords TreeAgr
           ∙ list_all-map (λ s. not b || holds s v) (λ q. q.whole) (parts_at S n)
 
       one_asked : (b c : Bool) (n : Name) (q : Part Meaning) → c ≡ b → (list_all (λ a. holds a.sub a.value) (put_if c (asked q.whole v (n ∷ []) []) []) && true) ≡ (not b || holds q.whole v)
-      one_asked b c n q e = and_true (list_all (λ a. holds a.sub a.value) (put_if c (asked q.whole v (n ∷ []) []) [])) ∙ list_all-where (λ a. holds a.sub a.value) c (asked q.whole v (n ∷ []) []) ∙ ap (λ d. not d || holds q.whole v) e
+      one_asked b c n q e = and-true (list_all (λ a. holds a.sub a.value) (put_if c (asked q.whole v (n ∷ []) []) [])) ∙ list_all-where (λ a. holds a.sub a.value) c (asked q.whole v (n ∷ []) []) ∙ ap (λ d. not d || holds q.whole v) e
 
       if_row : list_all is_valid (if_child W u S v P Q k p) ≡ (not (is_conditional S) || (the_then && the_else))
       if_row = where_valid (is_conditional S) (plain (P // k) Q (itself ++ thens ++ elses)) (the_then && the_else)
@@ -369,8 +370,8 @@ module _ (W : World) (u : Bool) (S : Keywords Meaning) (h : GoodKeywords TreeAgr
           else_row = case_row (not (holds p.whole v)) (codes "else") ∙ (λ i. list_all (λ q. sym (one_asked (not (holds p.whole v)) (if_refuses S v) (codes "else") q refuses_here) i) (parts_at S (codes "else")))
 
   -- the keyword that a name stands for, where it is this one
-  here : (name : Name) (w : Keyword) (k : Name) (p : Part Meaning) → k ≡ name → lookup k S ≡ Some p → accepts_at name w ≡ keyword_accepts W u S k p v w
-  here name w k p n there = ap (λ a. accepts_at a w) (sym n) ∙ ap (λ o. list_all (λ q. keyword_accepts W u S k q v w) (option_to_list o)) there ∙ and_true (keyword_accepts W u S k p v w)
+  here : (name : Name) (w : Keyword) (k : Name) (p : Part Meaning) → k ≡ name → lookup_name k S ≡ Some p → accepts_at name w ≡ keyword_accepts W u S k p v w
+  here name w k p n there = ap (λ a. accepts_at a w) (sym n) ∙ ap (λ o. list_all (λ q. keyword_accepts W u S k q v w) (option_to_list o)) there ∙ and-true (keyword_accepts W u S k p v w)
 
   -- ---- what a keyword shows, by what the keywords accept
 
@@ -384,65 +385,65 @@ module _ (W : World) (u : Bool) (S : Keywords Meaning) (h : GoodKeywords TreeAgr
   shown k p else_keyword = true
   shown k p w = keyword_accepts W u S k p v w
 
-  module _ (k : Name) (p : Part Meaning) (g : GoodPart TreeAgrees p) (there : lookup k S ≡ Some p) where
+  module _ (k : Name) (p : Part Meaning) (g : GoodPart TreeAgrees p) (there : lookup_name k S ≡ Some p) where
     keyword_row : (w : Keyword) → Named k w → list_all is_valid (keyword_child W u S v P Q k p w) ≡ shown k p w
     keyword_row properties n = where_valid (not (restricts S)) _ (the_properties && (not (fuses_two S) || the_required)) (is_valid-result (P // k) Q annotation false [] (walked ++ missing_child W u S v P Q (fuses_two S)) ∙ list_all-append is_valid walked (missing_child W u S v P Q (fuses_two S)) ∙ (λ i. declared_row i && missing_row (fuses_two S) i))
-        ∙ ap (λ b. b || (the_properties && (not (fuses_two S) || the_required))) (not_not (restricts S))
+        ∙ ap (λ b. b || (the_properties && (not (fuses_two S) || the_required))) (not-not (restricts S))
       where
         annotation : Option (List Name)
-        annotation = on_objects W u S v P Q true (map (λ m. m.0) (those (λ m. is_declared S m.0) (members v)))
+        annotation = on_objects W u S v P Q true (map (λ m. m.0) (filter_once (λ m. is_declared S m.0) (members v)))
 
         walked : List Tree
         walked = flat_map (declared_trees W u S v P Q) (members v)
     keyword_row pattern_properties n = where_valid (not (restricts S)) _ the_patterns (is_valid-result (P // k) Q annotation false [] (asked_trees W u S v P Q k p pattern_properties) ∙ asked_row k p g pattern_properties ∙ patterns_here)
-        ∙ ap (λ b. b || the_patterns) (not_not (restricts S))
+        ∙ ap (λ b. b || the_patterns) (not-not (restricts S))
       where
         annotation : Option (List Name)
-        annotation = on_objects W u S v P Q true (flat_map (λ e. map (λ m. m.0) (those (λ m. matches W u e.0 m.0) (members v))) p.entries)
+        annotation = on_objects W u S v P Q true (flat_map (λ e. map (λ m. m.0) (filter_once (λ m. matches W u e.0 m.0) (members v))) p.entries)
 
         patterns_here : list_all (λ a. holds a.sub a.value) (applied W u S k p v pattern_properties) ≡ the_patterns
-        patterns_here = sym (and_true (list_all (λ a. holds a.sub a.value) (applied W u S k p v pattern_properties))) ∙ sym (here (codes "patternProperties") pattern_properties k p n there)
+        patterns_here = sym (and-true (list_all (λ a. holds a.sub a.value) (applied W u S k p v pattern_properties))) ∙ sym (here (codes "patternProperties") pattern_properties k p n there)
     keyword_row additional_properties n = additional_child_row k p g
     keyword_row property_names n = names_row k p g
     keyword_row required n = where_valid (not (fuses_one S) && not (fuses_two S)) (erring (P // k) Q (required_faults (names p) v (P // k) Q)) (is_empty (missing (names p) v)) (is_valid-erring (P // k) Q (required_faults (names p) v (P // k) Q) ∙ none_missing (names p) v (P // k) Q) ∙ unless_either (fuses_one S) (fuses_two S) (is_empty (missing (names p) v))
     keyword_row dependent_required n = plain_valid (P // k) Q (due_trees W u S v P Q k p) ∙ due_row k p g
     keyword_row dependent_schemas n = asked_child k p g dependent_schemas
-    keyword_row dependencies n = plain_valid (P // k) Q (map (dependency_tree W u S v P Q k p) (those (λ e. has e.0 v) p.entries)) ∙ dependencies_row k p g
+    keyword_row dependencies n = plain_valid (P // k) Q (map (dependency_tree W u S v P Q k p) (filter_once (λ e. has e.0 v) p.entries)) ∙ dependencies_row k p g
     keyword_row property_dependencies n = asked_child k p g property_dependencies
     keyword_row all_of n = asked_child k p g all_of
     keyword_row any_of n = one_valid (any_of_child W u S v P Q k p) ∙ any_of_row k p g ∙ sym (some_counted (λ s. holds s v) p.items)
     keyword_row one_of n = one_valid (one_of_child W u S v P Q k p) ∙ one_of_row k p g
     keyword_row not_keyword n = erring_valid (P // k) Q (own W u S k p v P Q not_keyword) ∙ none_where (holds p.whole v) (Not p.whole.schema) v (P // k) Q
-    keyword_row if_keyword n = if_row k p g (subst (λ a. lookup a S ≡ Some p) n there)
-    keyword_row leaf n = and_true (is_empty (described (own W u S k p v P Q leaf))) ∙ is_empty-map described_fault (own W u S k p v P Q leaf) ∙ is_empty-map (λ t. fault (Leaf k t) v Q (P // k)) (W.faults k p.whole.schema v)
+    keyword_row if_keyword n = if_row k p g (subst (λ a. lookup_name a S ≡ Some p) n there)
+    keyword_row leaf n = and-true (is_empty (described (own W u S k p v P Q leaf))) ∙ is_empty-map described_fault (own W u S k p v P Q leaf) ∙ is_empty-map (λ t. fault (Leaf k t) v Q (P // k)) (W.faults k p.whole.schema v)
     keyword_row _ n = refl
 
   -- ---- all keywords together
 
-  module _ (shows : (n : Name) → On (λ p. shown n p (keyword_named W n) ≡ true) (lookup n S)) where
-    absent : (k : Name) (w : Keyword) → lookup k S ≡ None → accepts_at k w ≡ true
+  module _ (shows : (n : Name) → On (λ p. shown n p (keyword_named W n) ≡ true) (lookup_name n S)) where
+    absent : (k : Name) (w : Keyword) → lookup_name k S ≡ None → accepts_at k w ≡ true
     absent k w e = ap (λ o. list_all (λ p. keyword_accepts W u S k p v w) (option_to_list o)) e
 
     -- where there is a table or a closed object, `additionalProperties` shows the others
     by_additional : restricts S ≡ true → ((the_properties && the_patterns) && (not (fuses_one S) || the_required)) ≡ true
-    by_additional r = by (lookup (codes "additionalProperties") S) refl (shows (codes "additionalProperties"))
+    by_additional r = by (lookup_name (codes "additionalProperties") S) refl (shows (codes "additionalProperties"))
       where
-        by : (o : Option (Part Meaning)) → lookup (codes "additionalProperties") S ≡ o → On (λ p. shown (codes "additionalProperties") p additional_properties ≡ true) o → ((the_properties && the_patterns) && (not (fuses_one S) || the_required)) ≡ true
+        by : (o : Option (Part Meaning)) → lookup_name (codes "additionalProperties") S ≡ o → On (λ p. shown (codes "additionalProperties") p additional_properties ≡ true) o → ((the_properties && the_patterns) && (not (fuses_one S) || the_required)) ≡ true
         by None e t = absurd (true≢false (sym r ∙ ap (λ o. list_any (λ s. is_truth false s.schema || is_object s.schema) (map (λ p. p.whole) (option_to_list o))) e))
         by (Some p) e t = and_second (keyword_accepts W u S (codes "additionalProperties") p v additional_properties) _ (or_second (not (restricts S)) _ t (ap not r))
 
     properties_true : the_properties ≡ true
-    properties_true = by (restricts S) refl (lookup (codes "properties") S) refl (shows (codes "properties"))
+    properties_true = by (restricts S) refl (lookup_name (codes "properties") S) refl (shows (codes "properties"))
       where
-        by : (r : Bool) → restricts S ≡ r → (o : Option (Part Meaning)) → lookup (codes "properties") S ≡ o → On (λ p. shown (codes "properties") p properties ≡ true) o → the_properties ≡ true
+        by : (r : Bool) → restricts S ≡ r → (o : Option (Part Meaning)) → lookup_name (codes "properties") S ≡ o → On (λ p. shown (codes "properties") p properties ≡ true) o → the_properties ≡ true
         by true r o e t = and_first the_properties the_patterns (and_first (the_properties && the_patterns) (not (fuses_one S) || the_required) (by_additional r))
         by false r None e t = absent (codes "properties") properties e
         by false r (Some p) e t = and_first the_properties (not (fuses_two S) || the_required) (or_second (restricts S) (the_properties && (not (fuses_two S) || the_required)) t r)
 
     patterns_true : the_patterns ≡ true
-    patterns_true = by (restricts S) refl (lookup (codes "patternProperties") S) refl (shows (codes "patternProperties"))
+    patterns_true = by (restricts S) refl (lookup_name (codes "patternProperties") S) refl (shows (codes "patternProperties"))
       where
-        by : (r : Bool) → restricts S ≡ r → (o : Option (Part Meaning)) → lookup (codes "patternProperties") S ≡ o → On (λ p. shown (codes "patternProperties") p pattern_properties ≡ true) o → the_patterns ≡ true
+        by : (r : Bool) → restricts S ≡ r → (o : Option (Part Meaning)) → lookup_name (codes "patternProperties") S ≡ o → On (λ p. shown (codes "patternProperties") p pattern_properties ≡ true) o → the_patterns ≡ true
         by true r o e t = and_second the_properties the_patterns (and_first (the_properties && the_patterns) (not (fuses_one S) || the_required) (by_additional r))
         by false r None e t = absent (codes "patternProperties") pattern_properties e
         by false r (Some p) e t = or_second (restricts S) the_patterns t r
@@ -454,19 +455,19 @@ module _ (W : World) (u : Bool) (S : Keywords Meaning) (h : GoodKeywords TreeAgr
         restricted = any_of_either (λ s. is_truth false s.schema) (λ s. is_object s.schema) (wholes_at S (codes "additionalProperties")) (and_second (declares S) _ (and_first _ (not (has_patterns S)) (and_first _ (nat_eq (length (names_at S (codes "required"))) 1) e)))
 
     by_two : fuses_two S ≡ true → the_required ≡ true
-    by_two e = by (lookup (codes "properties") S) refl (shows (codes "properties"))
+    by_two e = by (lookup_name (codes "properties") S) refl (shows (codes "properties"))
       where
         unrestricted : (declares S && not (restricts S)) ≡ true
         unrestricted = and_first _ (not (has_patterns S)) (and_first _ (nat_lt (length (entries_at S (codes "properties"))) 15) (and_first _ (are_two (names_at S (codes "required"))) e))
 
-        by : (o : Option (Part Meaning)) → lookup (codes "properties") S ≡ o → On (λ p. shown (codes "properties") p properties ≡ true) o → the_required ≡ true
+        by : (o : Option (Part Meaning)) → lookup_name (codes "properties") S ≡ o → On (λ p. shown (codes "properties") p properties ≡ true) o → the_required ≡ true
         by None n t = absurd (true≢false (sym (and_first (declares S) (not (restricts S)) unrestricted) ∙ ap is_some n))
-        by (Some p) n t = or_second (not (fuses_two S)) the_required (and_second the_properties (not (fuses_two S) || the_required) (or_second (restricts S) (the_properties && (not (fuses_two S) || the_required)) t (sym (not_not (restricts S)) ∙ ap not (and_second (declares S) (not (restricts S)) unrestricted)))) (ap not e)
+        by (Some p) n t = or_second (not (fuses_two S)) the_required (and_second the_properties (not (fuses_two S) || the_required) (or_second (restricts S) (the_properties && (not (fuses_two S) || the_required)) t (sym (not-not (restricts S)) ∙ ap not (and_second (declares S) (not (restricts S)) unrestricted)))) (ap not e)
 
     required_true : the_required ≡ true
-    required_true = by (fuses_one S) refl (fuses_two S) refl (lookup (codes "required") S) refl (shows (codes "required"))
+    required_true = by (fuses_one S) refl (fuses_two S) refl (lookup_name (codes "required") S) refl (shows (codes "required"))
       where
-        by : (a : Bool) → fuses_one S ≡ a → (b : Bool) → fuses_two S ≡ b → (o : Option (Part Meaning)) → lookup (codes "required") S ≡ o → On (λ p. shown (codes "required") p required ≡ true) o → the_required ≡ true
+        by : (a : Bool) → fuses_one S ≡ a → (b : Bool) → fuses_two S ≡ b → (o : Option (Part Meaning)) → lookup_name (codes "required") S ≡ o → On (λ p. shown (codes "required") p required ≡ true) o → the_required ≡ true
         by true a b c o e t = by_one a
         by false a true c o e t = by_two c
         by false a false c None e t = absent (codes "required") required e
@@ -474,18 +475,18 @@ module _ (W : World) (u : Bool) (S : Keywords Meaning) (h : GoodKeywords TreeAgr
 
     -- `then` and `else`, the one that n names, where `if` is there or is not
     module _ (n : Name) (w : Keyword) (asks_if : Bool) (idle : asks_if ≡ false → (p : Part Meaning) → keyword_accepts W u S n p v w ≡ true) where
-      case_true : (lookup (codes "if") S ≡ None → asks_if ≡ false) → ((q : Part Meaning) → lookup (codes "if") S ≡ Some q → (p : Part Meaning) → lookup n S ≡ Some p → accepts_at n w ≡ true) → accepts_at n w ≡ true
-      case_true without beside = by (lookup n S) refl (lookup (codes "if") S) refl
+      case_true : (lookup_name (codes "if") S ≡ None → asks_if ≡ false) → ((q : Part Meaning) → lookup_name (codes "if") S ≡ Some q → (p : Part Meaning) → lookup_name n S ≡ Some p → accepts_at n w ≡ true) → accepts_at n w ≡ true
+      case_true without beside = by (lookup_name n S) refl (lookup_name (codes "if") S) refl
         where
-          by : (o : Option (Part Meaning)) → lookup n S ≡ o → (c : Option (Part Meaning)) → lookup (codes "if") S ≡ c → accepts_at n w ≡ true
+          by : (o : Option (Part Meaning)) → lookup_name n S ≡ o → (c : Option (Part Meaning)) → lookup_name (codes "if") S ≡ c → accepts_at n w ≡ true
           by None e c f = absent n w e
-          by (Some p) e None f = ap (λ o. list_all (λ q. keyword_accepts W u S n q v w) (option_to_list o)) e ∙ and_true (keyword_accepts W u S n p v w) ∙ idle (without f) p
+          by (Some p) e None f = ap (λ o. list_all (λ q. keyword_accepts W u S n q v w) (option_to_list o)) e ∙ and-true (keyword_accepts W u S n p v w) ∙ idle (without f) p
           by (Some p) e (Some q) f = beside q f p e
 
     nothing_asked : (b : Bool) (a : Asked) → b ≡ false → (list_all (λ x. holds x.sub x.value) (put_if b a []) && true) ≡ true
     nothing_asked b a e = ap (λ c. list_all (λ x. holds x.sub x.value) (put_if c a []) && true) e
 
-    both_cases : (q : Part Meaning) → lookup (codes "if") S ≡ Some q → is_conditional S ≡ true → (the_then && the_else) ≡ true
+    both_cases : (q : Part Meaning) → lookup_name (codes "if") S ≡ Some q → is_conditional S ≡ true → (the_then && the_else) ≡ true
     both_cases q e c = or_second (not (is_conditional S)) (the_then && the_else) (subst (On (λ p. shown (codes "if") p if_keyword ≡ true)) e (shows (codes "if"))) (ap not c)
 
     then_true : the_then ≡ true
@@ -496,24 +497,24 @@ module _ (W : World) (u : Bool) (S : Keywords Meaning) (h : GoodKeywords TreeAgr
     else_true : the_else ≡ true
     else_true = case_true (codes "else") else_keyword (if_refuses S v) (λ e p. nothing_asked (if_refuses S v) (asked p.whole v (codes "else" ∷ []) []) e)
         (λ e. ap (λ o. list_any (λ s. not (holds s v)) (map (λ p. p.whole) (option_to_list o))) e)
-        (λ q e p f. and_second the_then the_else (both_cases q e ((λ i. is_some (e i) && (is_present S (codes "then") || is_some (f i))) ∙ or_true (is_present S (codes "then")))))
+        (λ q e p f. and_second the_then the_else (both_cases q e ((λ i. is_some (e i) && (is_present S (codes "then") || is_some (f i))) ∙ or-true (is_present S (codes "then")))))
 
     -- a keyword at `additionalProperties` that neither closes nor restricts asks nothing
     open_object : (k : Name) (p : Part Meaning) (o f : Bool) → o ≡ false → f ≡ false → (list_all (λ a. holds a.sub a.value) (flat_map (λ m. put_if o (asked p.whole m.1 (k ∷ []) (m.0 ∷ [])) []) (additional S W u v)) && (not f || is_empty (additional S W u v))) ≡ true
     open_object k p o f e c = (λ i. list_all (λ a. holds a.sub a.value) (flat_map (λ m. put_if (e i) (asked p.whole m.1 (k ∷ []) (m.0 ∷ [])) []) (additional S W u v)) && (not (c i) || is_empty (additional S W u v)))
-        ∙ and_true (list_all (λ a. holds a.sub a.value) (flat_map (λ m. []) (additional S W u v))) ∙ ap (list_all (λ a. holds a.sub a.value)) (flat_map-none (additional S W u v))
+        ∙ and-true (list_all (λ a. holds a.sub a.value) (flat_map (λ m. []) (additional S W u v))) ∙ ap (list_all (λ a. holds a.sub a.value)) (flat_map-none (additional S W u v))
 
-    additional_true : (k : Name) (p : Part Meaning) → k ≡ codes "additionalProperties" → lookup k S ≡ Some p → shown k p additional_properties ≡ true → keyword_accepts W u S k p v additional_properties ≡ true
+    additional_true : (k : Name) (p : Part Meaning) → k ≡ codes "additionalProperties" → lookup_name k S ≡ Some p → shown k p additional_properties ≡ true → keyword_accepts W u S k p v additional_properties ≡ true
     additional_true k p n there t = by (restricts S) refl
       where
         here_restricts : restricts S ≡ (is_truth false p.whole.schema || is_object p.whole.schema)
-        here_restricts = ap (λ o. list_any (λ s. is_truth false s.schema || is_object s.schema) (map (λ q. q.whole) (option_to_list o))) (subst (λ a. lookup a S ≡ Some p) n there) ∙ or_false (is_truth false p.whole.schema || is_object p.whole.schema)
+        here_restricts = ap (λ o. list_any (λ s. is_truth false s.schema || is_object s.schema) (map (λ q. q.whole) (option_to_list o))) (subst (λ a. lookup_name a S ≡ Some p) n there) ∙ or-false (is_truth false p.whole.schema || is_object p.whole.schema)
 
         by : (r : Bool) → restricts S ≡ r → keyword_accepts W u S k p v additional_properties ≡ true
         by true r = and_first (keyword_accepts W u S k p v additional_properties) _ (or_second (not (restricts S)) _ t (ap not r))
         by false r = open_object k p (is_object p.whole.schema) (is_truth false p.whole.schema) (neither (is_truth false p.whole.schema) (is_object p.whole.schema) (sym here_restricts ∙ r)).1 (neither (is_truth false p.whole.schema) (is_object p.whole.schema) (sym here_restricts ∙ r)).0
 
-    accepts_where_shown : (k : Name) (p : Part Meaning) (w : Keyword) → Named k w → lookup k S ≡ Some p → shown k p w ≡ true → keyword_accepts W u S k p v w ≡ true
+    accepts_where_shown : (k : Name) (p : Part Meaning) (w : Keyword) → Named k w → lookup_name k S ≡ Some p → shown k p w ≡ true → keyword_accepts W u S k p v w ≡ true
     accepts_where_shown k p properties n there t = sym (here (codes "properties") properties k p n there) ∙ properties_true
     accepts_where_shown k p pattern_properties n there t = sym (here (codes "patternProperties") pattern_properties k p n there) ∙ patterns_true
     accepts_where_shown k p additional_properties n there t = additional_true k p n there t
@@ -523,13 +524,13 @@ module _ (W : World) (u : Bool) (S : Keywords Meaning) (h : GoodKeywords TreeAgr
     accepts_where_shown k p else_keyword n there t = sym (here (codes "else") else_keyword k p n there) ∙ else_true
     accepts_where_shown k p _ n there t = t
 
-  module _ (accepted : (n : Name) → On (λ p. keyword_accepts W u S n p v (keyword_named W n) ≡ true) (lookup n S)) where
+  module _ (accepted : (n : Name) → On (λ p. keyword_accepts W u S n p v (keyword_named W n) ≡ true) (lookup_name n S)) where
     at_true : (n : Name) → accepts_at n (keyword_named W n) ≡ true
-    at_true n = by (lookup n S) (accepted n)
+    at_true n = by (lookup_name n S) (accepted n)
       where
         by : (o : Option (Part Meaning)) → On (λ p. keyword_accepts W u S n p v (keyword_named W n) ≡ true) o → list_all (λ p. keyword_accepts W u S n p v (keyword_named W n)) (option_to_list o) ≡ true
         by None t = refl
-        by (Some p) t = and_true (keyword_accepts W u S n p v (keyword_named W n)) ∙ t
+        by (Some p) t = and-true (keyword_accepts W u S n p v (keyword_named W n)) ∙ t
 
     shown_where_accepts : (k : Name) (p : Part Meaning) (w : Keyword) → keyword_accepts W u S k p v w ≡ true → shown k p w ≡ true
     shown_where_accepts k p properties t = or_from (restricts S) _ (and_from the_properties _ (at_true (codes "properties")) (or_from (not (fuses_two S)) the_required (at_true (codes "required"))))
@@ -549,14 +550,14 @@ module _ (W : World) (u : Bool) (S : Keywords Meaning) (h : GoodKeywords TreeAgr
 
   children_row : list_all is_valid (flat_map (λ m. keyword_child W u S v P Q m.0 m.1 (keyword_named W m.0)) S) ≡ list_all shows_each S
   children_row = list_all-flat_map is_valid (λ m. keyword_child W u S v P Q m.0 m.1 (keyword_named W m.0)) S
-      ∙ list_all-same (λ m. list_all is_valid (keyword_child W u S v P Q m.0 m.1 (keyword_named W m.0))) shows_each S (Each-implies (λ m. GoodPart TreeAgrees m.1 × (lookup m.0 S ≡ Some m.1)) (λ m. list_all is_valid (keyword_child W u S v P Q m.0 m.1 (keyword_named W m.0)) ≡ shows_each m) (λ m c. keyword_row m.0 m.1 c.0 c.1 (keyword_named W m.0) (named m.0 W)) S (Each-both (λ m. GoodPart TreeAgrees m.1) (λ m. lookup m.0 S ≡ Some m.1) S h (Each-found S dS)))
+      ∙ list_all-same (λ m. list_all is_valid (keyword_child W u S v P Q m.0 m.1 (keyword_named W m.0))) shows_each S (Each-implies (λ m. GoodPart TreeAgrees m.1 × (lookup_name m.0 S ≡ Some m.1)) (λ m. list_all is_valid (keyword_child W u S v P Q m.0 m.1 (keyword_named W m.0)) ≡ shows_each m) (λ m c. keyword_row m.0 m.1 c.0 c.1 (keyword_named W m.0) (named m.0 W)) S (Each-both (λ m. GoodPart TreeAgrees m.1) (λ m. lookup_name m.0 S ≡ Some m.1) S h (Each-found S dS)))
 
   shown_is_accepted : list_all shows_each S ≡ list_all accepts_each S
   shown_is_accepted = same_truth (list_all shows_each S) (list_all accepts_each S)
       (λ e. let t : Each (λ m. shows_each m ≡ true) S = each_true shows_each S e in
-      all_true accepts_each S (Each-implies (λ m. (shows_each m ≡ true) × (lookup m.0 S ≡ Some m.1)) (λ m. accepts_each m ≡ true) (λ m c. accepts_where_shown (λ n. On-lookup-named (λ k p. shown k p (keyword_named W k) ≡ true) n S t) m.0 m.1 (keyword_named W m.0) (named m.0 W) c.1 c.0) S (Each-both (λ m. shows_each m ≡ true) (λ m. lookup m.0 S ≡ Some m.1) S t (Each-found S dS))))
+      all_true accepts_each S (Each-implies (λ m. (shows_each m ≡ true) × (lookup_name m.0 S ≡ Some m.1)) (λ m. accepts_each m ≡ true) (λ m c. accepts_where_shown (λ n. On-lookup_name-named (λ k p. shown k p (keyword_named W k) ≡ true) n S t) m.0 m.1 (keyword_named W m.0) (named m.0 W) c.1 c.0) S (Each-both (λ m. shows_each m ≡ true) (λ m. lookup_name m.0 S ≡ Some m.1) S t (Each-found S dS))))
       (λ e. let t : Each (λ m. accepts_each m ≡ true) S = each_true accepts_each S e in
-      all_true shows_each S (Each-implies (λ m. accepts_each m ≡ true) (λ m. shows_each m ≡ true) (λ m c. shown_where_accepts (λ n. On-lookup-named (λ k p. keyword_accepts W u S k p v (keyword_named W k) ≡ true) n S t) m.0 m.1 (keyword_named W m.0) c) S t))
+      all_true shows_each S (Each-implies (λ m. accepts_each m ≡ true) (λ m. shows_each m ≡ true) (λ m c. shown_where_accepts (λ n. On-lookup_name-named (λ k p. keyword_accepts W u S k p v (keyword_named W k) ≡ true) n S t) m.0 m.1 (keyword_named W m.0) c) S t))
 
   pub object_row : is_valid (plain P Q (flat_map (λ m. keyword_child W u S v P Q m.0 m.1 (keyword_named W m.0)) S)) ≡ list_all accepts_each S
   object_row = is_valid-plain P Q (flat_map (λ m. keyword_child W u S v P Q m.0 m.1 (keyword_named W m.0)) S) ∙ children_row ∙ shown_is_accepted
@@ -584,7 +585,7 @@ module _ (W : World) (u : Bool) where
 
   keep : (d : Data) → DistinctNames d → GoodSchema TreeAgrees (schema_read step d) → TreeAgrees d (step (schema_read step d))
   keep null s h v P Q dv = refl
-  keep (boolean b) s h v P Q dv = is_valid-erring P Q (fault_if (not b) FalseSchema v P Q) ∙ none_where (not b) FalseSchema v P Q ∙ not_not b
+  keep (boolean b) s h v P Q dv = is_valid-erring P Q (fault_if (not b) FalseSchema v P Q) ∙ none_where (not b) FalseSchema v P Q ∙ not-not b
   keep (number n) s h v P Q dv = refl
   keep (string t) s h v P Q dv = refl
   keep (array ds) s h v P Q dv = refl

@@ -3,30 +3,19 @@ use Rattle.std.specs.Prelude.{◌≡◌, ℕ, ◌+◌, Bool, true, false, not, c
 use Rattle.std.specs.List.{list_all, list_any}
 use Rattle.std.proofs.Common.{refl, sym, ◌∙◌, ap, arith}
 use Rattle.std.proofs.lemmas.List.Sums.{sum_by-cons}
+use Rattle.std.proofs.Math.Bool.{and-true, or-true}
 use mathlib.Core.Bool.{true≢false}
-use Rattle.olk_spec.specs.Names.{Name, those, put_if, is_among}
+use Rattle.olk_spec.specs.Names.{Name, filter_once, put_if, is_among}
 use Rattle.olk_spec.proofs.Each.{Each}
 use Rattle.olk_spec.proofs.Walks.{same_name, bytes_eq-itself}
-
-pub or_true : (b : Bool) → (b || true) ≡ true
-or_true true = refl
-or_true false = refl
-
-pub and_true : (b : Bool) → (b && true) ≡ b
-and_true true = refl
-and_true false = refl
 
 pub not_or_same : (b : Bool) → (not b || b) ≡ true
 not_or_same true = refl
 not_or_same false = refl
 
-pub not_not : (b : Bool) → not (not b) ≡ b
-not_not true = refl
-not_not false = refl
-
-pub or_false : (b : Bool) → (b || false) ≡ b
-or_false true = refl
-or_false false = refl
+pub not_true : (b : Bool) → not b ≡ true → b ≡ false
+not_true true e = absurd (true≢false (sym e))
+not_true false e = refl
 
 pub and_first : (a b : Bool) → (a && b) ≡ true → a ≡ true
 and_first true b e = refl
@@ -41,7 +30,7 @@ or_second true b e f = absurd (true≢false f)
 or_second false b e f = e
 
 pub or_from : (a b : Bool) → b ≡ true → (a || b) ≡ true
-or_from a b e = ap (λ c. a || c) e ∙ or_true a
+or_from a b e = ap (λ c. a || c) e ∙ or-true a
 
 pub and_from : (a b : Bool) → a ≡ true → b ≡ true → (a && b) ≡ true
 and_from a b e f = λ i. e i && f i
@@ -63,7 +52,7 @@ regroup false d p false c = refl
 
 pub dependency_truth : (h a : Bool) (e t m y : Bool) → e ≡ m → t ≡ y → (not h || cond a e t) ≡ ((not (h && not a) || y) && (not a || (not h || m)))
 dependency_truth true true e t m y p q = p
-dependency_truth true false e t m y p q = q ∙ sym (and_true y)
+dependency_truth true false e t m y p q = q ∙ sym (and-true y)
 dependency_truth false true e t m y p q = refl
 dependency_truth false false e t m y p q = refl
 
@@ -95,29 +84,29 @@ module _ {A : Type 0} (f : A → Bool) where
   some_counted (x ∷ xs) = (λ i. f x || some_counted xs i) ∙ step_any (f x) (count_by f xs) ∙ sym (ap (λ n. not (n == 0)) (sum_by-cons (λ y. cond (f y) 1 0) x xs))
 
 module _ {B : Type 0} (t : Name → Bool) where
-  among_step : (n : Name) (m : Name × B) (ms : List (Name × B)) (r s : Bool) → bytes_eq n m.0 ≡ r → t m.0 ≡ s → is_among n (map (λ k. k.0) (those (λ k. t k.0) ms)) ≡ (t n && is_among n (map (λ k. k.0) ms)) → is_among n (map (λ k. k.0) (put_if s m (those (λ k. t k.0) ms))) ≡ (t n && (r || is_among n (map (λ k. k.0) ms)))
+  among_step : (n : Name) (m : Name × B) (ms : List (Name × B)) (r s : Bool) → bytes_eq n m.0 ≡ r → t m.0 ≡ s → is_among n (map (λ k. k.0) (filter_once (λ k. t k.0) ms)) ≡ (t n && is_among n (map (λ k. k.0) ms)) → is_among n (map (λ k. k.0) (put_if s m (filter_once (λ k. t k.0) ms))) ≡ (t n && (r || is_among n (map (λ k. k.0) ms)))
   among_step n m ms true true e f h =
       let same : t n ≡ true = ap t (same_name n m.0 e) ∙ f in
-      (λ i. e i || is_among n (map (λ k. k.0) (those (λ k. t k.0) ms))) ∙ sym (ap (λ b. b && true) same)
+      (λ i. e i || is_among n (map (λ k. k.0) (filter_once (λ k. t k.0) ms))) ∙ sym (ap (λ b. b && true) same)
   among_step n m ms true false e f h =
       let same : t n ≡ false = ap t (same_name n m.0 e) ∙ f in
       h ∙ ap (λ b. b && is_among n (map (λ k. k.0) ms)) same ∙ sym (ap (λ b. b && true) same)
-  among_step n m ms false true e f h = (λ i. e i || is_among n (map (λ k. k.0) (those (λ k. t k.0) ms))) ∙ h
+  among_step n m ms false true e f h = (λ i. e i || is_among n (map (λ k. k.0) (filter_once (λ k. t k.0) ms))) ∙ h
   among_step n m ms false false e f h = h
 
   -- a name is among those that pass a test of names if it passes and is there
-  pub is_among-those : (n : Name) (ms : List (Name × B)) → is_among n (map (λ k. k.0) (those (λ k. t k.0) ms)) ≡ (t n && is_among n (map (λ k. k.0) ms))
-  is_among-those n [] = by (t n)
+  pub is_among-filter_once : (n : Name) (ms : List (Name × B)) → is_among n (map (λ k. k.0) (filter_once (λ k. t k.0) ms)) ≡ (t n && is_among n (map (λ k. k.0) ms))
+  is_among-filter_once n [] = by (t n)
     where
       by : (b : Bool) → false ≡ (b && false)
       by true = refl
       by false = refl
-  is_among-those n (m ∷ ms) = among_step n m ms (bytes_eq n m.0) (t m.0) refl refl (is_among-those n ms)
+  is_among-filter_once n (m ∷ ms) = among_step n m ms (bytes_eq n m.0) (t m.0) refl refl (is_among-filter_once n ms)
 
 module _ {B : Type 0} where
   among_later : (m : Name × B) (ms ks : List (Name × B)) → Each (λ k. is_among k.0 (map (λ e. e.0) ms) ≡ true) ks → Each (λ k. is_among k.0 (map (λ e. e.0) (m ∷ ms)) ≡ true) ks
   among_later m ms [] h = tt
-  among_later m ms (k ∷ ks) h = (ap (λ b. bytes_eq k.0 m.0 || b) h.0 ∙ or_true (bytes_eq k.0 m.0), among_later m ms ks h.1)
+  among_later m ms (k ∷ ks) h = (ap (λ b. bytes_eq k.0 m.0 || b) h.0 ∙ or-true (bytes_eq k.0 m.0), among_later m ms ks h.1)
 
   pub Each-among : (ms : List (Name × B)) → Each (λ m. is_among m.0 (map (λ e. e.0) ms) ≡ true) ms
   Each-among [] = tt

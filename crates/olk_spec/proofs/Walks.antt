@@ -11,7 +11,8 @@ use Rattle.std.proofs.lemmas.List.Folds.{list_all-append}
 use mathlib.Core.Path.{subst₂}
 use mathlib.Core.Bool.{true≢false}
 use Rattle.std.proofs.lemmas.Map.Text.{is_eq-slice_cmp}
-use Rattle.olk_spec.specs.Names.{Name, lookup, first_if_equal, those, put_if, is_among}
+use Rattle.std.proofs.Math.Bool.{and-true}
+use Rattle.olk_spec.specs.Names.{Name, lookup_name, first_if_equal, filter_once, put_if, is_among}
 use Rattle.olk_spec.specs.Malformed.{has_repeat}
 use Rattle.olk_spec.specs.Faults.{Fault, ◌∼◌}
 use Rattle.olk_spec.proofs.Each.{Each, On}
@@ -59,11 +60,11 @@ module _ {X Y : Type 0} (f : X → Y) where
 
 -- what a look-up finds has the name that was looked up
 module _ {X : Type 0} (P : Name → X → Type 0) where
-  pub On-lookup-named : (n : Name) (ms : List (Name × X)) → Each (λ m. P m.0 m.1) ms → On (P n) (lookup n ms)
-  On-lookup-named n [] h = tt
-  On-lookup-named n (m ∷ ms) h = by (slice_cmp nat_cmp n m.0) (is_eq-slice_cmp n m.0) (On-lookup-named n ms h.1)
+  pub On-lookup_name-named : (n : Name) (ms : List (Name × X)) → Each (λ m. P m.0 m.1) ms → On (P n) (lookup_name n ms)
+  On-lookup_name-named n [] h = tt
+  On-lookup_name-named n (m ∷ ms) h = by (slice_cmp nat_cmp n m.0) (is_eq-slice_cmp n m.0) (On-lookup_name-named n ms h.1)
     where
-      by : (o : Ordering) → is_eq o ≡ bytes_eq n m.0 → On (P n) (lookup n ms) → On (P n) (first_if_equal o m.1 (lookup n ms))
+      by : (o : Ordering) → is_eq o ≡ bytes_eq n m.0 → On (P n) (lookup_name n ms) → On (P n) (first_if_equal o m.1 (lookup_name n ms))
       by Less q g = g
       by Greater q g = g
       by Equal q g = subst (λ a. P a m.1) (sym (same_name n m.0 (sym q))) h.0
@@ -74,38 +75,38 @@ module _ {B C : Type 0} (g : B → List C) where
   nothing n (m ∷ ms) h = (λ i. cond (h.0 i) (g m.1) [] ++ nothing n ms h.1 i)
 
   -- what is done at the member that a look-up finds is done at each member of that name
-  pub at_lookup : (n : Name) (ms : List (Name × B)) → Distinct ms → flat_map g (option_to_list (lookup n ms)) ≡ flat_map (λ m. cond (bytes_eq n m.0) (g m.1) []) ms
+  pub at_lookup : (n : Name) (ms : List (Name × B)) → Distinct ms → flat_map g (option_to_list (lookup_name n ms)) ≡ flat_map (λ m. cond (bytes_eq n m.0) (g m.1) []) ms
   at_lookup n [] d = refl
   at_lookup n (m ∷ ms) d = by (slice_cmp nat_cmp n m.0) (is_eq-slice_cmp n m.0) (at_lookup n ms d.1)
     where
-      by : (o : Ordering) → is_eq o ≡ bytes_eq n m.0 → flat_map g (option_to_list (lookup n ms)) ≡ flat_map (λ k. cond (bytes_eq n k.0) (g k.1) []) ms → flat_map g (option_to_list (first_if_equal o m.1 (lookup n ms))) ≡ cond (bytes_eq n m.0) (g m.1) [] ++ flat_map (λ k. cond (bytes_eq n k.0) (g k.1) []) ms
+      by : (o : Ordering) → is_eq o ≡ bytes_eq n m.0 → flat_map g (option_to_list (lookup_name n ms)) ≡ flat_map (λ k. cond (bytes_eq n k.0) (g k.1) []) ms → flat_map g (option_to_list (first_if_equal o m.1 (lookup_name n ms))) ≡ cond (bytes_eq n m.0) (g m.1) [] ++ flat_map (λ k. cond (bytes_eq n k.0) (g k.1) []) ms
       by Less q h = h ∙ (λ i. cond (q i) (g m.1) [] ++ flat_map (λ k. cond (bytes_eq n k.0) (g k.1) []) ms)
       by Greater q h = h ∙ (λ i. cond (q i) (g m.1) [] ++ flat_map (λ k. cond (bytes_eq n k.0) (g k.1) []) ms)
       by Equal q h = λ i. cond (q i) (g m.1) [] ++ sym (nothing n ms (subst (λ a. Each (λ k. bytes_eq a k.0 ≡ false) ms) (sym (same_name n m.0 (sym q))) d.0)) i
 
 -- each member is the one that a look-up finds under its name
 module _ {X : Type 0} where
-  found_later : (m : Name × X) (ms : List (Name × X)) (n : Name) (x : X) → bytes_eq m.0 n ≡ false → lookup n ms ≡ Some x → lookup n (m ∷ ms) ≡ Some x
+  found_later : (m : Name × X) (ms : List (Name × X)) (n : Name) (x : X) → bytes_eq m.0 n ≡ false → lookup_name n ms ≡ Some x → lookup_name n (m ∷ ms) ≡ Some x
   found_later m ms n x e h = by (slice_cmp nat_cmp n m.0) (is_eq-slice_cmp n m.0)
     where
-      by : (o : Ordering) → is_eq o ≡ bytes_eq n m.0 → first_if_equal o m.1 (lookup n ms) ≡ Some x
+      by : (o : Ordering) → is_eq o ≡ bytes_eq n m.0 → first_if_equal o m.1 (lookup_name n ms) ≡ Some x
       by Less q = h
       by Greater q = h
       by Equal q = absurd (true≢false (q ∙ bytes_eq-sym n m.0 ∙ e))
 
-  found_here : (m : Name × X) (ms : List (Name × X)) → lookup m.0 (m ∷ ms) ≡ Some m.1
+  found_here : (m : Name × X) (ms : List (Name × X)) → lookup_name m.0 (m ∷ ms) ≡ Some m.1
   found_here m ms = by (slice_cmp nat_cmp m.0 m.0) (is_eq-slice_cmp m.0 m.0 ∙ bytes_eq-itself m.0)
     where
-      by : (o : Ordering) → is_eq o ≡ true → first_if_equal o m.1 (lookup m.0 ms) ≡ Some m.1
+      by : (o : Ordering) → is_eq o ≡ true → first_if_equal o m.1 (lookup_name m.0 ms) ≡ Some m.1
       by Less q = absurd (true≢false (sym q))
       by Greater q = absurd (true≢false (sym q))
       by Equal q = refl
 
-  all_later : (m : Name × X) (ms ks : List (Name × X)) → Each (λ k. bytes_eq m.0 k.0 ≡ false) ks → Each (λ k. lookup k.0 ms ≡ Some k.1) ks → Each (λ k. lookup k.0 (m ∷ ms) ≡ Some k.1) ks
+  all_later : (m : Name × X) (ms ks : List (Name × X)) → Each (λ k. bytes_eq m.0 k.0 ≡ false) ks → Each (λ k. lookup_name k.0 ms ≡ Some k.1) ks → Each (λ k. lookup_name k.0 (m ∷ ms) ≡ Some k.1) ks
   all_later m ms [] d h = tt
   all_later m ms (k ∷ ks) d h = (found_later m ms k.0 k.1 d.0 h.0, all_later m ms ks d.1 h.1)
 
-  pub Each-found : (ms : List (Name × X)) → Distinct ms → Each (λ m. lookup m.0 ms ≡ Some m.1) ms
+  pub Each-found : (ms : List (Name × X)) → Distinct ms → Each (λ m. lookup_name m.0 ms ≡ Some m.1) ms
   Each-found [] d = tt
   Each-found (m ∷ ms) d = (found_here m ms, all_later m ms ms d.0 (Each-found ms d.1))
 
@@ -121,7 +122,7 @@ module _ {A B C : Type 0} (f : A → Name → B → List C) where
 
 module _ {A B : Type 0} (f : A → Name → B → List Fault) where
   pub ∼_other_side : (es : List (Name × A)) (ms : List (Name × B)) → Distinct es → Distinct ms →
-      flat_map (λ e. flat_map (λ y. f e.1 e.0 y) (option_to_list (lookup e.0 ms))) es ∼ flat_map (λ m. flat_map (λ x. f x m.0 m.1) (option_to_list (lookup m.0 es))) ms
+      flat_map (λ e. flat_map (λ y. f e.1 e.0 y) (option_to_list (lookup_name e.0 ms))) es ∼ flat_map (λ m. flat_map (λ x. f x m.0 m.1) (option_to_list (lookup_name m.0 es))) ms
   ∼_other_side es ms d c = subst₂ (λ a b. a ∼ b)
       (λ i. flat_map (λ e. sym (at_lookup (λ y. f e.1 e.0 y) e.0 ms c) i) es)
       (λ i. flat_map (λ m. (ap (λ h. flat_map h es) (λ j e. met f e.0 m.0 e.1 m.1 j) ∙ sym (at_lookup (λ x. f x m.0 m.1) m.0 es d)) i) ms)
@@ -134,7 +135,7 @@ module _ {A B : Type 0} where
   list_all-flat_map f g [] = refl
   list_all-flat_map f g (x ∷ xs) = list_all-append f (g x) (flat_map g xs) ∙ ap (λ b. list_all f (g x) && b) (list_all-flat_map f g xs)
 
-and_middle : (a b c d : Bool) → ((a && b) && (c && d)) ≡ ((a && c) && (b && d))
+pub and_middle : (a b c d : Bool) → ((a && b) && (c && d)) ≡ ((a && c) && (b && d))
 and_middle true true c d = refl
 and_middle true false true d = refl
 and_middle true false false d = refl
@@ -154,18 +155,14 @@ module _ {A : Type 0} where
   list_all-same f g (x ∷ xs) h = λ i. h.0 i && list_all-same f g xs h.1 i
 
   pub list_all-where : (f : A → Bool) (b : Bool) (x : A) → list_all f (put_if b x []) ≡ (not b || f x)
-  list_all-where f true x = last (f x)
-    where
-      last : (a : Bool) → (a && true) ≡ a
-      last true = refl
-      last false = refl
+  list_all-where f true x = and-true (f x)
   list_all-where f false x = refl
 
-  pub list_all-those : (f t : A → Bool) (xs : List A) → list_all f (those t xs) ≡ list_all (λ x. not (t x) || f x) xs
-  list_all-those f t [] = refl
-  list_all-those f t (x ∷ xs) = by (t x) (list_all-those f t xs)
+  pub list_all-filter_once : (f t : A → Bool) (xs : List A) → list_all f (filter_once t xs) ≡ list_all (λ x. not (t x) || f x) xs
+  list_all-filter_once f t [] = refl
+  list_all-filter_once f t (x ∷ xs) = by (t x) (list_all-filter_once f t xs)
     where
-      by : (b : Bool) → list_all f (those t xs) ≡ list_all (λ y. not (t y) || f y) xs → list_all f (put_if b x (those t xs)) ≡ ((not b || f x) && list_all (λ y. not (t y) || f y) xs)
+      by : (b : Bool) → list_all f (filter_once t xs) ≡ list_all (λ y. not (t y) || f y) xs → list_all f (put_if b x (filter_once t xs)) ≡ ((not b || f x) && list_all (λ y. not (t y) || f y) xs)
       by true e = ap (λ b. f x && b) e
       by false e = e
 
@@ -178,8 +175,8 @@ module _ {B : Type 0} (f : B → Bool) where
   all_of_found None = refl
   all_of_found (Some y) = refl
 
-  all_at_lookup : (n : Name) (ms : List (Name × B)) → Distinct ms → list_all f (option_to_list (lookup n ms)) ≡ list_all (λ m. list_all f (cond (bytes_eq n m.0) (m.1 ∷ []) [])) ms
-  all_at_lookup n ms d = all_of_found (lookup n ms) ∙ ap (list_all f) (at_lookup (λ y. y ∷ []) n ms d) ∙ list_all-flat_map f (λ m. cond (bytes_eq n m.0) (m.1 ∷ []) []) ms
+  all_at_lookup : (n : Name) (ms : List (Name × B)) → Distinct ms → list_all f (option_to_list (lookup_name n ms)) ≡ list_all (λ m. list_all f (cond (bytes_eq n m.0) (m.1 ∷ []) [])) ms
+  all_at_lookup n ms d = all_of_found (lookup_name n ms) ∙ ap (list_all f) (at_lookup (λ y. y ∷ []) n ms d) ∙ list_all-flat_map f (λ m. cond (bytes_eq n m.0) (m.1 ∷ []) []) ms
 
 module _ {A B : Type 0} (f : A → B → Bool) where
   turned : (a b : Name) (x : A) (y : B) → list_all (λ z. f x z) (cond (bytes_eq a b) (y ∷ []) []) ≡ list_all (λ z. f z y) (cond (bytes_eq b a) (x ∷ []) [])
@@ -192,7 +189,7 @@ module _ {A B : Type 0} (f : A → B → Bool) where
       by false false e = refl
 
   pub list_all-other_side : (es : List (Name × A)) (ms : List (Name × B)) → Distinct es → Distinct ms →
-      list_all (λ e. list_all (λ y. f e.1 y) (option_to_list (lookup e.0 ms))) es ≡ list_all (λ m. list_all (λ x. f x m.1) (option_to_list (lookup m.0 es))) ms
+      list_all (λ e. list_all (λ y. f e.1 y) (option_to_list (lookup_name e.0 ms))) es ≡ list_all (λ m. list_all (λ x. f x m.1) (option_to_list (lookup_name m.0 es))) ms
   list_all-other_side es ms d c =
       (λ i. list_all (λ e. all_at_lookup (λ y. f e.1 y) e.0 ms c i) es)
       ∙ list_all-inside_out (λ e m. list_all (λ z. f e.1 z) (cond (bytes_eq e.0 m.0) (m.1 ∷ []) [])) es ms

@@ -2,7 +2,7 @@
 use Rattle.std.specs.Prelude.{ℕ, Bool, true, false, not, ◌&&◌, ◌||◌, ◌==◌, List, count_by}
 use Rattle.std.specs.List.{list_any, list_all}
 use Rattle.serde_json.specs.Data.{Data, string}
-use Rattle.olk_spec.specs.Names.{Name, those, is_empty}
+use Rattle.olk_spec.specs.Names.{Name, filter_once, is_empty}
 use Rattle.olk_spec.specs.World.{World}
 use Rattle.olk_spec.specs.Vocabulary.{Keyword, additional_properties, property_names, required, dependent_required, dependencies, any_of, one_of, not_keyword, leaf, keyword_named}
 use Rattle.olk_spec.specs.Schemas.{Schema, truth, keywords, no_schema, Keywords, Part, is_object, is_truth, members, has, names, name_lists}
@@ -10,11 +10,11 @@ use Rattle.olk_spec.specs.Meanings.{Meaning, holds, applied, additional}
 
 -- the names of a list that an object lacks
 abbrev pub missing : List Name → Data → List Name
-missing ns v = those (λ n. is_object v && not (has n v)) ns
+missing ns v = filter_once (λ n. is_object v && not (has n v)) ns
 
 -- the name lists whose key is a member
 abbrev pub due : {X : Type 0} → Part X → Data → List (Name × List Name)
-due p v = those (λ e. has e.0 v) (name_lists p)
+due p v = filter_once (λ e. has e.0 v) (name_lists p)
 
 -- how many branches accept
 abbrev pub accepting : Part Meaning → Data → ℕ

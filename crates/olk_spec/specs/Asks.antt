@@ -1,7 +1,7 @@
 -- How many matchers a verdict may ask.
 use Rattle.std.specs.Prelude.{ℕ, ◌+◌, Bool, cond, ◌&&◌, List, map, length, sum_by, count_by}
 use Rattle.serde_json.specs.Data.{Data}
-use Rattle.olk_spec.specs.Names.{Name, Text, those}
+use Rattle.olk_spec.specs.Names.{Name, Text, filter_once}
 use Rattle.olk_spec.specs.World.{World, is_unfinished}
 use Rattle.olk_spec.specs.Vocabulary.{Keyword, pattern_properties, any_of, one_of, not_keyword, if_keyword, keyword_named}
 use Rattle.olk_spec.specs.Schemas.{Schema, truth, keywords, no_schema, Keywords, Part, members}
@@ -9,7 +9,7 @@ use Rattle.olk_spec.specs.Meanings.{Meaning, applied, restricts, is_declared, is
 
 -- the patterns that the matcher is asked for
 abbrev pub open_patterns : {X : Type 0} → World → Part X → List Text
-open_patterns W p = those (is_open W) (map (λ e. e.0) p.entries)
+open_patterns W p = filter_once (is_open W) (map (λ e. e.0) p.entries)
 
 -- on a member's name: where there is a table, a declared name asks only the matchers that left it unfinished
 abbrev pub asks_at : {X : Type 0} → World → Keywords X → Part X → Name → ℕ

@@ -2,7 +2,7 @@
 use Rattle.std.specs.Prelude.{Bool, true, false, cond, not, ◌||◌, List, [], ◌∷◌, ◌++◌, map, codes}
 use Rattle.std.specs.List.{flat_map}
 use Rattle.serde_json.specs.Data.{Data, string, array, Items, no_items, item}
-use Rattle.olk_spec.specs.Names.{Name, Path, ◌//◌, down, is_among, those, put_if}
+use Rattle.olk_spec.specs.Names.{Name, Path, ◌//◌, down, is_among, filter_once, put_if}
 use Rattle.olk_spec.specs.World.{World}
 use Rattle.olk_spec.specs.Vocabulary.{Keyword, properties, pattern_properties, additional_properties, property_names, required, dependent_required, dependent_schemas, dependencies, property_dependencies, all_of, any_of, one_of, not_keyword, if_keyword, then_keyword, else_keyword, unsupported, leaf, keyword_named}
 use Rattle.olk_spec.specs.Schemas.{Sub, Part, Schema, truth, keywords, no_schema, Keywords, answer_for, is_object, is_array, is_truth, texts, is_present, branches}
@@ -29,7 +29,7 @@ module _ {X : Type 0} (k : Name) where
   read_places S p additional_properties = places_where (is_object p.whole.schema) (itself p.whole)
   read_places S p property_names = places_where (is_object p.whole.schema) (itself p.whole)
   read_places S p dependent_schemas = each p.entries
-  read_places S p dependencies = each (those (λ e. not (is_array e.1.schema)) p.entries)
+  read_places S p dependencies = each (filter_once (λ e. not (is_array e.1.schema)) p.entries)
   read_places S p property_dependencies = flat_map (λ e. map (λ i. (i.1, k ∷ e.0 ∷ i.0 ∷ [])) e.1) p.inner
   read_places S p all_of = each (branches p)
   read_places S p any_of = each (branches p)
@@ -63,7 +63,7 @@ items_of_array d = []
 
 -- the first item that is no text
 abbrev pub not_a_text : Data → Path → List Fault
-not_a_text d P = map (λ i. refusal (SingleType string_type) i P) (first_of_list (those (λ i. not (is_text i)) (items_of_array d)))
+not_a_text d P = map (λ i. refusal (SingleType string_type) i P) (first_of_list (filter_once (λ i. not (is_text i)) (items_of_array d)))
 
 abbrev pub has_repeat : List Name → Bool
 has_repeat [] = false
@@ -95,7 +95,7 @@ module _ (W : World) where
   module _ {X : Type 0} (k : Name) (p : Part X) (P : Path) where
     abbrev pub own_refusals : Keyword → List Fault
     own_refusals properties = unless_object p.whole.schema P
-    own_refusals pattern_properties = unless_object p.whole.schema P ++ map (λ t. refusal Regex (string t) (P // t)) (those (λ t. not (W.builds t)) (open_patterns W p))
+    own_refusals pattern_properties = unless_object p.whole.schema P ++ map (λ t. refusal Regex (string t) (P // t)) (filter_once (λ t. not (W.builds t)) (open_patterns W p))
     own_refusals additional_properties = unless_kind (is_object p.whole.schema || is_truth true p.whole.schema || is_truth false p.whole.schema) MultipleTypes p.whole.schema P
     own_refusals required = unless_array p.whole.schema P ++ not_a_text p.whole.schema P
     own_refusals dependent_required = unless_object p.whole.schema P ++ flat_map (λ e. name_list_refusals e.0 e.1.schema P) p.entries

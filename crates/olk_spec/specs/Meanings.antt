@@ -3,7 +3,7 @@ use Rattle.std.specs.Prelude.{ℕ, Bool, not, ◌&&◌, ◌||◌, List, [], ◌�
 use Rattle.std.specs.List.{flat_map, list_any}
 use Rattle.std.specs.Option.{option_map_or}
 use Rattle.serde_json.specs.Data.{Data}
-use Rattle.olk_spec.specs.Names.{Text, Name, Path, is_among, those, is_empty, lookup, put_if}
+use Rattle.olk_spec.specs.Names.{Text, Name, Path, is_among, filter_once, is_empty, lookup_name, put_if}
 use Rattle.olk_spec.specs.World.{World, Says, matched, unmatched, reads_as}
 use Rattle.olk_spec.specs.Literals.{literal, passes, Literal}
 use Rattle.olk_spec.specs.Vocabulary.{Keyword, properties, pattern_properties, additional_properties, dependent_schemas, dependencies, property_dependencies, all_of, then_keyword, else_keyword}
@@ -60,11 +60,11 @@ module _ {X : Type 0} (S : Keywords X) where
   module _ (W : World) (u : Bool) where
     -- the entries of `patternProperties` whose pattern matches
     abbrev pub matching : Name → List (Name × Sub X)
-    matching n = those (λ e. matches W u e.0 n) (entries_at S (codes "patternProperties"))
+    matching n = filter_once (λ e. matches W u e.0 n) (entries_at S (codes "patternProperties"))
 
     -- the members that `properties` does not hold and no pattern matches
     abbrev pub additional : Data → List (Name × Data)
-    additional v = those (λ m. not (is_declared m.0) && is_empty (matching m.0)) (members v)
+    additional v = filter_once (λ m. not (is_declared m.0) && is_empty (matching m.0)) (members v)
 
 -- `if` is there and accepts; it is there and does not accept
 module _ (S : Keywords Meaning) (v : Data) where
@@ -94,11 +94,11 @@ module _ (W : World) (u : Bool) (S : Keywords Meaning) (k : Name) (p : Part Mean
   -- one row for each keyword; k is its name and p its value
   abbrev pub applied : Keyword → List Asked
   applied properties = flat_map (λ e. map (λ w. asked e.1 w (k ∷ e.0 ∷ []) (e.0 ∷ [])) (at e.0 v)) p.entries
-  applied pattern_properties = flat_map (λ e. map (λ m. asked e.1 m.1 (k ∷ e.0 ∷ []) (m.0 ∷ [])) (those (λ m. matches W u e.0 m.0) (members v))) p.entries
+  applied pattern_properties = flat_map (λ e. map (λ m. asked e.1 m.1 (k ∷ e.0 ∷ []) (m.0 ∷ [])) (filter_once (λ m. matches W u e.0 m.0) (members v))) p.entries
   applied additional_properties = flat_map (λ m. put_if (is_object p.whole.schema) (asked p.whole m.1 (k ∷ []) (m.0 ∷ [])) []) (additional S W u v)
-  applied dependent_schemas = asked_whole k v (those (λ e. has e.0 v) p.entries)
-  applied dependencies = asked_whole k v (those (λ e. has e.0 v && not (is_array e.1.schema)) p.entries)
-  applied property_dependencies = flat_map (λ e. flat_map (λ t. map (λ s. asked s v (k ∷ e.0 ∷ t ∷ []) []) (option_to_list (lookup t e.1))) (flat_map as_text (at e.0 v))) p.inner
+  applied dependent_schemas = asked_whole k v (filter_once (λ e. has e.0 v) p.entries)
+  applied dependencies = asked_whole k v (filter_once (λ e. has e.0 v && not (is_array e.1.schema)) p.entries)
+  applied property_dependencies = flat_map (λ e. flat_map (λ t. map (λ s. asked s v (k ∷ e.0 ∷ t ∷ []) []) (option_to_list (lookup_name t e.1))) (flat_map as_text (at e.0 v))) p.inner
   applied all_of = asked_whole k v (branches p)
   applied then_keyword = put_if (if_accepts S v) (asked p.whole v (k ∷ []) []) []
   applied else_keyword = put_if (if_refuses S v) (asked p.whole v (k ∷ []) []) []

@@ -2,7 +2,7 @@
 use Rattle.std.specs.Prelude.{Bool, true, false, List, [], ◌∷◌, map, is_some, decimal, option_to_list}
 use Rattle.std.specs.List.{flat_map, enumerate_from}
 use Rattle.serde_json.specs.Data.{Data, null, boolean, number, string, array, object, Items, no_items, item, Members, no_members, member}
-use Rattle.olk_spec.specs.Names.{Name, lookup, those}
+use Rattle.olk_spec.specs.Names.{Name, lookup_name, filter_once}
 
 -- a place inside a schema: what stands there, and what a recursion answers for it
 pub record Sub (X : Type 0) : Type 0 where
@@ -102,11 +102,11 @@ texts (array ds) = texts_in ds
 texts d = []
 
 abbrev pub has : Name → Data → Bool
-has n v = is_some (lookup n (members v))
+has n v = is_some (lookup_name n (members v))
 
 -- the member at n, none or one
 abbrev pub at : Name → Data → List Data
-at n v = option_to_list (lookup n (members v))
+at n v = option_to_list (lookup_name n (members v))
 
 -- the text that a value is, none or one
 abbrev pub as_text : Data → List Name
@@ -129,15 +129,15 @@ module _ {X : Type 0} (p : Part X) where
 
   -- the lists of names among the entries of an object
   abbrev pub name_lists : List (Name × List Name)
-  name_lists = map (λ e. (e.0, texts e.1.schema)) (those (λ e. is_array e.1.schema) p.entries)
+  name_lists = map (λ e. (e.0, texts e.1.schema)) (filter_once (λ e. is_array e.1.schema) p.entries)
 
 -- the neighbour k of a keyword
 module _ {X : Type 0} (S : Keywords X) (k : Name) where
   abbrev pub is_present : Bool
-  is_present = is_some (lookup k S)
+  is_present = is_some (lookup_name k S)
 
   abbrev pub parts_at : List (Part X)
-  parts_at = option_to_list (lookup k S)
+  parts_at = option_to_list (lookup_name k S)
 
   abbrev pub entries_at : List (Name × Sub X)
   entries_at = flat_map (λ p. p.entries) parts_at

@@ -2,7 +2,7 @@
 use Rattle.std.specs.Prelude.{Bool, true, false, cond, not, ◌&&◌, ◌||◌, ◌==◌, nat_lt, nat_eq, List, [], ◌∷◌, ◌++◌, map, length, codes, Option, Some, None, option_to_list}
 use Rattle.std.specs.List.{flat_map, list_any}
 use Rattle.serde_json.specs.Data.{Data, string}
-use Rattle.olk_spec.specs.Names.{Name, Path, ◌//◌, down, lookup, those, put_if, is_empty, is_among}
+use Rattle.olk_spec.specs.Names.{Name, Path, ◌//◌, down, lookup_name, filter_once, put_if, is_empty, is_among}
 use Rattle.olk_spec.specs.World.{World}
 use Rattle.olk_spec.specs.declared.TheConstants.{HASHMAP_THRESHOLD}
 use Rattle.olk_spec.specs.Vocabulary.{Keyword, properties, pattern_properties, additional_properties, property_names, required, dependent_required, dependent_schemas, dependencies, property_dependencies, all_of, any_of, one_of, not_keyword, if_keyword, leaf, keyword_named}
@@ -41,7 +41,7 @@ where_so b x = put_if b x []
 module _ (W : World) (u : Bool) (S : Keywords Meaning) (v : Data) (P Q : Path) where
   -- what `properties` and `patternProperties` show of a member
   abbrev pub declared_trees : Name × Data → List Tree
-  declared_trees m = map (λ s. s.answer.tree m.1 (P // codes "properties" // m.0) (Q // m.0)) (option_to_list (lookup m.0 (entries_at S (codes "properties"))))
+  declared_trees m = map (λ s. s.answer.tree m.1 (P // codes "properties" // m.0) (Q // m.0)) (option_to_list (lookup_name m.0 (entries_at S (codes "properties"))))
 
   abbrev pub pattern_trees : Name × Data → List Tree
   pattern_trees m = map (λ e. e.1.answer.tree m.1 (P // codes "patternProperties" // e.0) (Q // m.0)) (matching S W u m.0)
@@ -68,7 +68,7 @@ module _ (W : World) (u : Bool) (S : Keywords Meaning) (v : Data) (P Q : Path) w
     additional_trees m = where_so (is_object p.whole.schema && is_among m.0 additional_names) (p.whole.answer.tree m.1 (P // k) (Q // m.0))
 
     abbrev pub branch_trees : (Subschema → Bool) → List Tree
-    branch_trees test = map (λ b. b.1.answer.tree v (P // k // b.0) Q) (those (λ b. test b.1) (branches p))
+    branch_trees test = map (λ b. b.1.answer.tree v (P // k // b.0) Q) (filter_once (λ b. test b.1) (branches p))
 
     -- those of the subschemas that a keyword asks
     abbrev pub asked_trees : Keyword → List Tree
@@ -76,13 +76,13 @@ module _ (W : World) (u : Bool) (S : Keywords Meaning) (v : Data) (P Q : Path) w
 
     abbrev pub properties_child : List Tree
     properties_child = where_so (not (restricts S))
-        (result (P // k) Q (on_objects true (map (λ m. m.0) (those (λ m. is_declared S m.0) (members v)))) false []
+        (result (P // k) Q (on_objects true (map (λ m. m.0) (filter_once (λ m. is_declared S m.0) (members v)))) false []
         (flat_map declared_trees (members v) ++ missing_child (fuses_two S)))
 
     -- pattern by pattern
     abbrev pub patterns_child : List Tree
     patterns_child = where_so (not (restricts S))
-        (result (P // k) Q (on_objects true (flat_map (λ e. map (λ m. m.0) (those (λ m. matches W u e.0 m.0) (members v))) p.entries)) false [] (asked_trees pattern_properties))
+        (result (P // k) Q (on_objects true (flat_map (λ e. map (λ m. m.0) (filter_once (λ m. matches W u e.0 m.0) (members v))) p.entries)) false [] (asked_trees pattern_properties))
 
     -- member by member: the declared, the matching and the additional schemas
     abbrev pub additional_child : List Tree
@@ -134,7 +134,7 @@ module _ (W : World) (u : Bool) (S : Keywords Meaning) (v : Data) (P Q : Path) w
     keyword_child required = required_child
     keyword_child dependent_required = plain (P // k) Q due_trees ∷ []
     keyword_child dependent_schemas = plain (P // k) Q (asked_trees dependent_schemas) ∷ []
-    keyword_child dependencies = plain (P // k) Q (map dependency_tree (those (λ e. has e.0 v) p.entries)) ∷ []
+    keyword_child dependencies = plain (P // k) Q (map dependency_tree (filter_once (λ e. has e.0 v) p.entries)) ∷ []
     keyword_child property_dependencies = plain (P // k) Q (asked_trees property_dependencies) ∷ []
     keyword_child all_of = plain (P // k) Q (asked_trees all_of) ∷ []
     keyword_child any_of = any_of_child ∷ []

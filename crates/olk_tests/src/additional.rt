@@ -104,7 +104,7 @@ fn beside<N: Place<BenchLeaf, BenchRegex> + IsValid>(
 }
 
 /// The verdicts of `beside`, over values.
-fn beside_names<N: Place<BenchLeaf, BenchRegex> + IsValid>(
+fn zip_names<N: Place<BenchLeaf, BenchRegex> + IsValid>(
     alloc: Global,
     names: &Value,
     rest: &N,
@@ -127,7 +127,7 @@ fn with_rest<N: Place<BenchLeaf, BenchRegex> + IsValid>(
     let mut ctx = Context::new(alloc, &BenchLeaves, &BenchRegexes, &mut meter);
     let rest: Result<N, BuildError<'_>> = compile(alloc, &mut ctx, rest);
     let told = match &rest {
-        Ok(rest) => beside_names(alloc, names, rest, members),
+        Ok(rest) => zip_names(alloc, names, rest, members),
         Err(error) => refusal(alloc, error),
     };
     drop(rest);

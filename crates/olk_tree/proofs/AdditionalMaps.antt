@@ -1,11 +1,11 @@
 -- What `additionalProperties` asks, finds and shows over the answers of nodes is what it does over the nodes.
 use Rattle.std.specs.Prelude.{◌≡◌, ℕ, ◌+◌, Bool, true, false, not, cond, ◌&&◌, ◌||◌, List, [], ◌∷◌, ◌++◌, map, Option, Some, None, is_none, is_some, option_map, option_to_list}
-use Rattle.std.specs.List.{flat_map, enumerate_from}
+use Rattle.std.specs.List.{flat_map, enumerate_from, zip}
 use Rattle.std.proofs.Common.{refl, sym, ap, ◌∙◌}
 use Rattle.std.proofs.lemmas.List.{map-append}
 use Rattle.serde_json.specs.Data.{Data}
 use Rattle.olk_spec.specs.Faults.{Fault}
-use Rattle.olk_spec.specs.Names.{Name, Path, ◌//◌, lookup, those, put_if, is_empty}
+use Rattle.olk_spec.specs.Names.{Name, Path, ◌//◌, lookup_name, filter_once, put_if, is_empty}
 use Rattle.olk_spec.specs.Schemas.{is_object, members, at}
 use Rattle.olk_spec.specs.Tree.{Tree, node, no_tree, described, result}
 use Rattle.olk_spec.specs.Reports.{unexpected_faults}
@@ -16,8 +16,7 @@ use Rattle.olk_base.specs.declared.pattern.CompiledPattern.{CompiledPattern}
 use Rattle.olk_tree.specs.Questions.{Question, always, said_to, both, conditional, every}
 use Rattle.olk_tree.specs.Firsts.{or_else, first_of}
 use Rattle.olk_tree.specs.Additional.{Sides, placed, known_at, known_or, known_or_asked, matching_from, at_name, nodes_matching, is_additional, others_asked, nodes_asked, is_unexpected, unexpected, repeats, declared_means, rest_means, patterns_mean_from, member_means, others_mean, additional_means, additional_report, additional_first, additional_tree}
-use Rattle.olk_tree.specs.Answers.{beside}
-use Rattle.olk_tree.proofs.Maps.{lookup-beside, every-map, first_of-map}
+use Rattle.olk_tree.proofs.Maps.{lookup_name-zip, every-map, first_of-map}
 
 module _ {X Y : Type 0} (h : Y → X) where
   abbrev pub at_place : ℕ × Y → ℕ × X
@@ -41,16 +40,16 @@ module _ {X Y : Type 0} (h : Y → X) where
   placed-map i [] = refl
   placed-map i (y ∷ ys) = ap (λ l. (i, h y) ∷ l) (placed-map (i + 1) ys)
 
-  pub at-beside : (ks : List Name) (ys : List Y) (n : Name) → lookup n (beside ks (placed (map h ys))) ≡ option_map at_place (lookup n (beside ks (placed ys)))
-  at-beside ks ys n = ap (λ l. lookup n (beside ks l)) (placed-map 0 ys) ∙ lookup-beside at_place n ks (placed ys)
+  pub at-zip : (ks : List Name) (ys : List Y) (n : Name) → lookup_name n (zip ks (placed (map h ys))) ≡ option_map at_place (lookup_name n (zip ks (placed ys)))
+  at-zip ks ys n = ap (λ l. lookup_name n (zip ks l)) (placed-map 0 ys) ∙ lookup_name-zip at_place n ks (placed ys)
 
-  paired : (ks : List Name) (fs : List (ℕ × Y)) → beside ks (map at_place fs) ≡ map with_place (beside ks fs)
+  paired : (ks : List Name) (fs : List (ℕ × Y)) → zip ks (map at_place fs) ≡ map with_place (zip ks fs)
   paired [] fs = refl
   paired (k ∷ ks) [] = refl
   paired (k ∷ ks) (f ∷ fs) = ap (λ l. (k, at_place f) ∷ l) (paired ks fs)
 
-  pub declared-beside : (ks : List Name) (ys : List Y) → beside ks (placed (map h ys)) ≡ map with_place (beside ks (placed ys))
-  declared-beside ks ys = ap (beside ks) (placed-map 0 ys) ∙ paired ks (placed ys)
+  pub declared-zip : (ks : List Name) (ys : List Y) → zip ks (placed (map h ys)) ≡ map with_place (zip ks (placed ys))
+  declared-zip ks ys = ap (zip ks) (placed-map 0 ys) ∙ paired ks (placed ys)
 
   put-map : (b : Bool) (y : Y) (ys : List Y) → put_if b (h y) (map h ys) ≡ map h (put_if b y ys)
   put-map true y ys = refl
@@ -102,7 +101,7 @@ module _ {X Y : Type 0} (h : Y → X) where
       is_unexpected-map n = λ j. (ap is_none same.rest ∙ none-map h T.rest) j && is_additional-map n j
 
       pub unexpected-map : (v : Data) → unexpected answers S u v ≡ unexpected answers T u v
-      unexpected-map v = λ j. those (λ x. is_unexpected-map x.0 j) (members v)
+      unexpected-map v = λ j. filter_once (λ x. is_unexpected-map x.0 j) (members v)
 
     -- ---- what it means
 
@@ -165,8 +164,8 @@ module _ {X Y : Type 0} (h : Y → X) where
             (first_of (λ x. asked_first-map x (nodes_asked answers S u x.0) (nodes_asked answers T u x.0) (nodes_asked-map u x.0) j) (members v))
 
       module _ (t : X → Data → Path → Tree) (s : Y → Data → Path → Tree) (shows : (y : Y) (w : Data) (Q : Path) → t (h y) w Q ≡ s y w Q) (declares has_patterns : Bool) (P M : Path) (more : List Tree) where
-        names-map : map (λ x. x.0) (those (λ x. is_additional answers S u x.0) (members v)) ≡ map (λ x. x.0) (those (λ x. is_additional answers T u x.0) (members v))
-        names-map = λ j. map (λ x. x.0) (those (λ x. is_additional-map u x.0 j) (members v))
+        names-map : map (λ x. x.0) (filter_once (λ x. is_additional answers S u x.0) (members v)) ≡ map (λ x. x.0) (filter_once (λ x. is_additional answers T u x.0) (members v))
+        names-map = λ j. map (λ x. x.0) (filter_once (λ x. is_additional-map u x.0 j) (members v))
 
         matches-map : flat_map (λ x. map (λ e. x.0) (nodes_matching answers S u x.0)) (members v) ≡ flat_map (λ x. map (λ e. x.0) (nodes_matching answers T u x.0)) (members v)
         matches-map = λ j. flat_map (λ x. (ap (map (λ e. x.0)) (nodes_matching-map u x.0) ∙ map-map (λ e. x.0) (λ e. x.0) h (λ y. refl) (nodes_matching answers T u x.0)) j) (members v)

@@ -1,15 +1,16 @@
 -- Which schemas the nodes stand for that `additionalProperties` asks of a member.
 use Rattle.std.specs.Prelude.{◌≡◌, ⊤, ℕ, ◌+◌, suc, Bool, true, false, not, cond, ◌&&◌, ◌||◌, List, [], ◌∷◌, ◌++◌, map, codes, bytes_eq, Option, Some, None, is_none, is_some, option_map, option_to_list, slice_get}
-use Rattle.std.specs.List.{enumerate_from}
+use Rattle.std.specs.List.{enumerate_from, zip}
 use Rattle.std.specs.Ordering.{nat_cmp, is_eq}
 use Rattle.std.specs.Cmp.Lexicographic.{slice_cmp}
 use Rattle.std.specs.declared.cmp.Ordering.{Ordering}
 use Rattle.std.specs.declared.cmp.Ordering.TheVariants.{Less, Equal, Greater}
 use Rattle.std.proofs.Common.{refl, sym, ap, ◌∙◌, subst, arith}
 use Rattle.std.proofs.lemmas.Map.Text.{is_eq-slice_cmp}
+use Rattle.olk_members.proofs.PropertyNames.{false_is_no_object, object_is_not_false}
 use mathlib.Core.Bool.{true≢false}
-use Rattle.serde_json.specs.Data.{Data, boolean, null, number, string, array, object}
-use Rattle.olk_spec.specs.Names.{Name, Path, ◌//◌, lookup, first_if_equal, put_if, is_empty}
+use Rattle.serde_json.specs.Data.{Data}
+use Rattle.olk_spec.specs.Names.{Name, Path, ◌//◌, lookup_name, first_if_equal, put_if, is_empty}
 use Rattle.olk_spec.specs.World.{Says, matched, unmatched, unfinished, reads_as}
 use Rattle.olk_spec.specs.Faults.{Fault}
 use Rattle.olk_spec.specs.Schemas.{is_object, is_truth}
@@ -23,16 +24,15 @@ use Rattle.olk_base.specs.declared.pattern.CompiledPattern.{CompiledPattern}
 use Rattle.olk_members.specs.AdditionalProperties.{is_declared_in, declared_at, matching_at, is_other}
 use Rattle.olk_tree.specs.Questions.{Question}
 use Rattle.olk_tree.specs.Additional.{Sides, known_at, known_or, is_matched_by, matching_from, at_name, nodes_matching, is_additional, others_asked, nodes_asked}
-use Rattle.olk_tree.specs.Answers.{beside}
 use Rattle.olk_tree.specs.Sides.{AnswersAs, EntriesAnswer, PatternsAnswer, RestAnswers, SidesStand}
 use Rattle.olk_tree.proofs.Answering.{AnswerAs, answer_append, both_empty}
 
 -- a look-up finds what is declared
-pub declared_found : (n : Name) (fs : List (Name × Data)) → is_declared_in fs n ≡ is_some (lookup n fs)
+pub declared_found : (n : Name) (fs : List (Name × Data)) → is_declared_in fs n ≡ is_some (lookup_name n fs)
 declared_found n [] = refl
 declared_found n (e ∷ fs) = by (slice_cmp nat_cmp n e.0) (is_eq-slice_cmp n e.0) (declared_found n fs)
   where
-    by : (c : Ordering) → is_eq c ≡ bytes_eq n e.0 → is_declared_in fs n ≡ is_some (lookup n fs) → (bytes_eq n e.0 || is_declared_in fs n) ≡ is_some (first_if_equal c e.1 (lookup n fs))
+    by : (c : Ordering) → is_eq c ≡ bytes_eq n e.0 → is_declared_in fs n ≡ is_some (lookup_name n fs) → (bytes_eq n e.0 || is_declared_in fs n) ≡ is_some (first_if_equal c e.1 (lookup_name n fs))
     by Less q h = ap (λ b. b || is_declared_in fs n) (sym q) ∙ h
     by Equal q h = ap (λ b. b || is_declared_in fs n) (sym q)
     by Greater q h = ap (λ b. b || is_declared_in fs n) (sym q) ∙ h
@@ -65,14 +65,14 @@ module _ {K R N : Type 0} (o : Kit K R) (m : N → Data → Question) (r : N →
     found_later k e fs (Some f) None g = absurd g
     found_later k e fs (Some f) (Some s) g = let p = g.2 in (g.0, suc g.1, omega (arith, p), g.3)
 
-    found : (k : ℕ) (ns : List N) (fs : List (Name × Data)) → EntriesAnswer o m r t ns fs L → FoundFrom k fs (lookup n (beside (map (λ e. e.0) fs) (enumerate_from k ns))) (lookup n fs)
+    found : (k : ℕ) (ns : List N) (fs : List (Name × Data)) → EntriesAnswer o m r t ns fs L → FoundFrom k fs (lookup_name n (zip (map (λ e. e.0) fs) (enumerate_from k ns))) (lookup_name n fs)
     found k [] [] h = tt
     found k [] (e ∷ fs) h = absurd h
     found k (x ∷ ns) [] h = absurd h
     found k (x ∷ ns) (e ∷ fs) h = by (slice_cmp nat_cmp n e.0) (is_eq-slice_cmp n e.0) (found_later k e fs _ _ (found (k + 1) ns fs h.1))
       where
-        by : (c : Ordering) → is_eq c ≡ bytes_eq n e.0 → FoundFrom k (e ∷ fs) (lookup n (beside (map (λ e. e.0) fs) (enumerate_from (k + 1) ns))) (lookup n fs)
-            → FoundFrom k (e ∷ fs) (first_if_equal c (k, x) (lookup n (beside (map (λ e. e.0) fs) (enumerate_from (k + 1) ns)))) (first_if_equal c e.1 (lookup n fs))
+        by : (c : Ordering) → is_eq c ≡ bytes_eq n e.0 → FoundFrom k (e ∷ fs) (lookup_name n (zip (map (λ e. e.0) fs) (enumerate_from (k + 1) ns))) (lookup_name n fs)
+            → FoundFrom k (e ∷ fs) (first_if_equal c (k, x) (lookup_name n (zip (map (λ e. e.0) fs) (enumerate_from (k + 1) ns)))) (first_if_equal c e.1 (lookup_name n fs))
         by Less q g = g
         by Greater q g = g
         by Equal q g = let same = same_name n e.0 (sym q) in (subst (λ k. AnswersAs o m r t x e.1 (L // k)) (sym same) h.0, 0, omega arith, ap Some (sym same))
@@ -121,14 +121,6 @@ module _ {K R N : Type 0} (o : Kit K R) (m : N → Data → Question) (r : N →
 
 -- ---- all that is asked of a member with this name
 
-pub false_is_no_object : (d : Data) → is_truth false d ≡ true → is_object d ≡ false
-false_is_no_object (object ms) e = absurd (true≢false (sym e))
-false_is_no_object null e = refl
-false_is_no_object (boolean b) e = refl
-false_is_no_object (number x) e = refl
-false_is_no_object (string s) e = refl
-false_is_no_object (array ds) e = refl
-
 module _ {K R N : Type 0} (o : Kit K R) (m : N → Data → Question) (r : N → Bool → Data → Path → List Fault) (t : N → Bool → Data → Path → Tree) {S : Sides R N} {fs es : List (Name × Data)} {d : Data} {P : Path} (h : SidesStand o m r t S fs es d P) where
   pub is_rest : is_some S.rest ≡ is_object d
   is_rest = by S.rest h.rest
@@ -140,25 +132,17 @@ module _ {K R N : Type 0} (o : Kit K R) (m : N → Data → Question) (r : N →
   pub is_no_rest : is_none S.rest ≡ is_truth false d
   is_no_rest = by S.rest h.rest
     where
-      no_object_is_false : (d : Data) → is_object d ≡ true → is_truth false d ≡ false
-      no_object_is_false (object ms) e = refl
-      no_object_is_false null e = refl
-      no_object_is_false (boolean b) e = absurd (true≢false (sym e))
-      no_object_is_false (number x) e = refl
-      no_object_is_false (string s) e = refl
-      no_object_is_false (array ds) e = refl
-
       by : (x : Option N) → RestAnswers o m r t x d (P // codes "additionalProperties") → is_none x ≡ is_truth false d
       by None g = sym g
-      by (Some x) g = sym (no_object_is_false d g.0)
+      by (Some x) g = sym (object_is_not_false d g.0)
 
   module _ (n : Name) where
-    at_name_found : FoundFrom o m r t n (P // codes "properties") 0 fs (at_name S n) (lookup n fs)
-    at_name_found = subst (λ l. FoundFrom o m r t n (P // codes "properties") 0 fs (lookup n l) (lookup n fs)) (sym h.placed_beside) (found o m r t n (P // codes "properties") 0 h.nodes fs h.declared)
+    at_name_found : FoundFrom o m r t n (P // codes "properties") 0 fs (at_name S n) (lookup_name n fs)
+    at_name_found = subst (λ l. FoundFrom o m r t n (P // codes "properties") 0 fs (lookup_name n l) (lookup_name n fs)) (sym h.placed_zip) (found o m r t n (P // codes "properties") 0 h.nodes fs h.declared)
 
     -- the name is declared where it has a node
     pub is_declared : is_some (at_name S n) ≡ is_declared_in fs n
-    is_declared = found_both o m r t n (P // codes "properties") fs (at_name S n) (lookup n fs) at_name_found ∙ sym (declared_found n fs)
+    is_declared = found_both o m r t n (P // codes "properties") fs (at_name S n) (lookup_name n fs) at_name_found ∙ sym (declared_found n fs)
 
     recalls_if : (a : Option (ℕ × N)) (b : Option Data) → FoundFrom o m r t n (P // codes "properties") 0 fs a b → Recalls o m r t n S a 0 S.patterns
     recalls_if None b g j q c e f = refl
@@ -170,7 +154,7 @@ module _ {K R N : Type 0} (o : Kit K R) (m : N → Data → Question) (r : N →
 
     -- what is known of the patterns at the name is what they say of it
     pub recalls : Recalls o m r t n S (at_name S n) 0 S.patterns
-    recalls = recalls_if (at_name S n) (lookup n fs) at_name_found
+    recalls = recalls_if (at_name S n) (lookup_name n fs) at_name_found
 
     module _ (u : Bool) where
       pub nodes_matching_answer : AnswerAs o m r t (nodes_matching o.answers S u n) (map (λ e. (e.1, P // codes "patternProperties" // e.0)) (matching_at o.world u es n))
@@ -218,11 +202,11 @@ module _ {K R N : Type 0} (o : Kit K R) (m : N → Data → Question) (r : N →
               one true e false true q = absurd (true≢false (sym q))
               one true e false false q = tt
 
-      -- beside what is declared
+      -- zip what is declared
       pub others_answer : AnswerAs o m r t (others_asked o.answers S u n) (matching_schemas ++ rest_schemas)
       others_answer = answer_append o m r t (nodes_matching o.answers S u n) matching_schemas _ rest_schemas nodes_matching_answer rest_answers
 
       pub asked_answer : AnswerAs o m r t (nodes_asked o.answers S u n) (declared_schemas ++ (matching_schemas ++ rest_schemas))
       asked_answer = answer_append o m r t _ declared_schemas _ (matching_schemas ++ rest_schemas)
-          (found_answers o m r t n (P // codes "properties") fs (at_name S n) (lookup n fs) at_name_found)
+          (found_answers o m r t n (P // codes "properties") fs (at_name S n) (lookup_name n fs) at_name_found)
           others_answer

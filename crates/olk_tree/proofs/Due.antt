@@ -5,12 +5,15 @@ use Rattle.serde_json.specs.Data.{Data, Members, null, boolean, number, string, 
 use Rattle.serde_json.specs.Find.{as_object, as_str}
 use Rattle.serde_json.specs.View.{view, members_view}
 use Rattle.serde_json.specs.declared.value.Value.{Value}
-use Rattle.olk_spec.specs.Names.{Name, lookup, those, put_if, is_empty}
+use Rattle.olk_spec.specs.Names.{Name, lookup_name, filter_once, put_if, is_empty}
 use Rattle.olk_spec.specs.Faults.{Fault}
 use Rattle.olk_spec.specs.Schemas.{listed, members, has, as_text}
 use Rattle.olk_spec.proofs.Maps.{flat_map-map, map-map}
 use Rattle.olk_tree.specs.Questions.{Question, every}
-use Rattle.olk_tree.specs.Answers.{named, first_of, due_nodes, chosen_at, chosen_nodes}
+use Rattle.olk_tree.specs.Maps.{named}
+use Rattle.olk_tree.specs.Firsts.{first_of}
+use Rattle.olk_tree.specs.Dependencies.{due_nodes}
+use Rattle.olk_tree.specs.PropertyDependencies.{chosen_at, chosen_nodes}
 use Rattle.olk_tree.specs.Visited.{Declared, declared_as, names_met, left_of}
 use Rattle.olk_tree.specs.declared.map.SmallMap.{SmallMap}
 use Rattle.olk_tree.specs.declared.declared.DeclaredMembers.{DeclaredMembers}
@@ -22,10 +25,10 @@ use Rattle.olk_tree.proofs.Members_met.{no_members, object_is}
 module _ {N : Type 0} (ms : Members) where
   nodes_met : (es : List (Name × N)) → map (λ d. d.node) (names_met es (listed ms)) ≡ due_nodes es (object ms)
   nodes_met [] = refl
-  nodes_met (e ∷ es) = by (lookup e.0 (listed ms)) (nodes_met es)
+  nodes_met (e ∷ es) = by (lookup_name e.0 (listed ms)) (nodes_met es)
     where
       by : (o : Option Data) → map (λ d. d.node) (names_met es (listed ms)) ≡ due_nodes es (object ms)
-          → map (λ d. d.node) (flat_map (λ v. declared_as e.0 e.1 v) (option_to_list o) ++ names_met es (listed ms)) ≡ map (λ f. f.1) (put_if (is_some o) e (those (λ f. has f.0 (object ms)) es))
+          → map (λ d. d.node) (flat_map (λ v. declared_as e.0 e.1 v) (option_to_list o) ++ names_met es (listed ms)) ≡ map (λ f. f.1) (put_if (is_some o) e (filter_once (λ f. has f.0 (object ms)) es))
       by None same = same
       by (Some v) same = ap (λ l. e.1 ∷ l) same
 
@@ -65,11 +68,11 @@ no_text (array ds) e = refl
 no_text (object ms) e = refl
 
 module _ {N : Type 0} (m : SmallMap N) (d : Data) where
-  pub at_text : (t : Name) → Some t ≡ as_str d → option_to_list (lookup t (named m)) ≡ chosen_at m d
-  at_text t e = sym (ap (flat_map (λ s. option_to_list (lookup s (named m)))) (text_is d t e) ∙ append-nil (option_to_list (lookup t (named m))))
+  pub at_text : (t : Name) → Some t ≡ as_str d → option_to_list (lookup_name t (named m)) ≡ chosen_at m d
+  at_text t e = sym (ap (flat_map (λ s. option_to_list (lookup_name s (named m)))) (text_is d t e) ∙ append-nil (option_to_list (lookup_name t (named m))))
 
   pub at_no_text : None ≡ as_str d → [] ≡ chosen_at m d
-  at_no_text e = sym (ap (flat_map (λ s. option_to_list (lookup s (named m)))) (no_text d e))
+  at_no_text e = sym (ap (flat_map (λ s. option_to_list (lookup_name s (named m)))) (no_text d e))
 
 module _ {N : Type 0} where
   abbrev pub chosen : Declared (SmallMap N) → List N
@@ -78,7 +81,7 @@ module _ {N : Type 0} where
   module _ (ms : Members) where
     chosen_met : (es : List (Name × SmallMap N)) → flat_map chosen (names_met es (listed ms)) ≡ chosen_nodes es (object ms)
     chosen_met [] = refl
-    chosen_met (e ∷ es) = by (lookup e.0 (listed ms)) (chosen_met es)
+    chosen_met (e ∷ es) = by (lookup_name e.0 (listed ms)) (chosen_met es)
       where
         by : (o : Option Data) → flat_map chosen (names_met es (listed ms)) ≡ chosen_nodes es (object ms)
             → flat_map chosen (flat_map (λ v. declared_as e.0 e.1 v) (option_to_list o) ++ names_met es (listed ms)) ≡ flat_map (chosen_at e.1) (option_to_list o) ++ chosen_nodes es (object ms)
@@ -121,16 +124,16 @@ has_none v es is b h k = listed_none b es h k ∙ ap (λ d. is_empty (members d)
 -- ---- of what is no object
 
 module _ {N : Type 0} (v : Data) (none : None ≡ as_object v) where
-  none_has : (es : List (Name × N)) → map (λ e. e.1) (those (λ e. false) es) ≡ []
+  none_has : (es : List (Name × N)) → map (λ e. e.1) (filter_once (λ e. false) es) ≡ []
   none_has [] = refl
   none_has (e ∷ es) = none_has es
 
   pub none_due : (es : List (Name × N)) → due_nodes es v ≡ []
-  none_due es = ap (λ ms. map (λ e. e.1) (those (λ e. is_some (lookup e.0 ms)) es)) (no_members v none) ∙ none_has es
+  none_due es = ap (λ ms. map (λ e. e.1) (filter_once (λ e. is_some (lookup_name e.0 ms)) es)) (no_members v none) ∙ none_has es
 
   nothing_at : (es : List (Name × SmallMap N)) → flat_map (λ e. flat_map (chosen_at e.1) []) es ≡ []
   nothing_at [] = refl
   nothing_at (e ∷ es) = nothing_at es
 
   pub none_chosen : (es : List (Name × SmallMap N)) → chosen_nodes es v ≡ []
-  none_chosen es = ap (λ ms. flat_map (λ e. flat_map (chosen_at e.1) (option_to_list (lookup e.0 ms))) es) (no_members v none) ∙ nothing_at es
+  none_chosen es = ap (λ ms. flat_map (λ e. flat_map (chosen_at e.1) (option_to_list (lookup_name e.0 ms))) es) (no_members v none) ∙ nothing_at es

@@ -3,9 +3,9 @@ use Rattle.std.proofs.Common.{◌≡◌, List, [], ◌∷◌, ◌++◌, refl, sy
 use Rattle.std.specs.List.{flat_map}
 use Rattle.std.proofs.lemmas.Grind.{flat_map-append}
 use Rattle.olk_spec.specs.Faults.{Fault}
-use Rattle.olk_tree.specs.Answers.{or_else, first_of}
+use Rattle.olk_tree.specs.Firsts.{or_else, first_of}
 
-or_around : (fs gs hs : List Fault) → or_else (or_else fs gs) hs ≡ or_else fs (or_else gs hs)
+pub or_around : (fs gs hs : List Fault) → or_else (or_else fs gs) hs ≡ or_else fs (or_else gs hs)
 or_around [] gs hs = refl
 or_around (f ∷ fs) gs hs = refl
 

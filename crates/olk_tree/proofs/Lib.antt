@@ -4,7 +4,6 @@ pub mod Faults
 pub mod Members_met
 pub mod Due
 mod Places
-mod Hashed
 pub mod Lookups
 mod Entries
 pub mod Merge

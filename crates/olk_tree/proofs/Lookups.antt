@@ -1,7 +1,7 @@
--- What stands beside a name.
+-- What stands zip a name.
 use Rattle.std.proofs.Common.{◌≡◌, ℕ, zero, suc, ◌+◌, ◌<◌, ◌≤◌, length, get_or, Bor, option_copied, Bool, true, false, List, [], ◌∷◌, Option, Some, None, option_map, bytes_eq, map, String, Global, string_bytes, refl, ap, ◌∙◌, sym, arith}
 use Rattle.std.specs.Option.{option_and_then, IfSome, MatchOption}
-use Rattle.std.specs.List.{position, slice_get, enumerate_from, HoldsAt}
+use Rattle.std.specs.List.{position, slice_get, enumerate_from, HoldsAt, zip}
 use Rattle.std.proofs.lemmas.Option.{slice_get_past, slice_get_read}
 use Rattle.std.specs.Ordering.{nat_cmp, is_eq, ordering_reverse}
 use Rattle.std.specs.Cmp.Lexicographic.{slice_cmp}
@@ -13,9 +13,8 @@ use Rattle.std.proofs.lemmas.Grind.{common_steps}
 use Rattle.std.proofs.lemmas.List.{get_or-map, length-map}
 use Rattle.std.proofs.lemmas.List.Quantifiers.{position-Some}
 use Rattle.std.proofs.lemmas.Slice.Eq.{bytes_eq-Decides}
-use Rattle.olk_spec.specs.Names.{Name, lookup, first_if_equal}
+use Rattle.olk_spec.specs.Names.{Name, lookup_name, first_if_equal}
 use Rattle.olk_tree.specs.Additional.{placed}
-use Rattle.olk_tree.specs.Answers.{beside}
 
 is_eq-turned : (o : Ordering) → is_eq (ordering_reverse o) ≡ is_eq o
 is_eq-turned Less = refl
@@ -49,25 +48,25 @@ module _ {X : Type 0} where
   pub read_in : (xs slice : List X) (i : ℕ) (o : Option (Bor X)) → slice ≡ xs → IfSome o (λ x. x.now ≡ get_or slice i x.now) → MatchOption o (length slice ≤ i) (λ x. (i < length slice) × HoldsAt (λ y. x.now ≡ y) slice i) → option_copied o ≡ slice_get xs i
   read_in xs slice i o same h m = read_at slice i o h m ∙ ap (λ l. slice_get l i) same
 
-  -- the place of a name leads to what stands beside it
-  pub beside_place : (ks : List Name) (xs : List X) (n : Name) → option_and_then (slice_get xs) (position (λ k. bytes_eq k n) ks) ≡ lookup n (beside ks xs)
-  beside_place [] xs n = refl
-  beside_place (k ∷ ks) [] n = nothing (position (λ k. bytes_eq k n) (k ∷ ks))
-  beside_place (k ∷ ks) (x ∷ xs) n = by (slice_cmp nat_cmp n k) (same_name k n) (beside_place ks xs n)
+  -- the place of a name leads to what stands zip it
+  pub zip_place : (ks : List Name) (xs : List X) (n : Name) → option_and_then (slice_get xs) (position (λ k. bytes_eq k n) ks) ≡ lookup_name n (zip ks xs)
+  zip_place [] xs n = refl
+  zip_place (k ∷ ks) [] n = nothing (position (λ k. bytes_eq k n) (k ∷ ks))
+  zip_place (k ∷ ks) (x ∷ xs) n = by (slice_cmp nat_cmp n k) (same_name k n) (zip_place ks xs n)
     where
-      by : (o : Ordering) → bytes_eq k n ≡ is_eq o → option_and_then (slice_get xs) (position (λ k. bytes_eq k n) ks) ≡ lookup n (beside ks xs)
-          → option_and_then (slice_get (x ∷ xs)) (position (λ k. bytes_eq k n) (k ∷ ks)) ≡ first_if_equal o x (lookup n (beside ks xs))
+      by : (o : Ordering) → bytes_eq k n ≡ is_eq o → option_and_then (slice_get xs) (position (λ k. bytes_eq k n) ks) ≡ lookup_name n (zip ks xs)
+          → option_and_then (slice_get (x ∷ xs)) (position (λ k. bytes_eq k n) (k ∷ ks)) ≡ first_if_equal o x (lookup_name n (zip ks xs))
       by Less e h = ap (option_and_then (slice_get (x ∷ xs))) (position-later (λ k. bytes_eq k n) k ks e) ∙ later x xs (position (λ k. bytes_eq k n) ks) ∙ h
       by Equal e h = ap (option_and_then (slice_get (x ∷ xs))) (position-here (λ k. bytes_eq k n) k ks e)
       by Greater e h = ap (option_and_then (slice_get (x ∷ xs))) (position-later (λ k. bytes_eq k n) k ks e) ∙ later x xs (position (λ k. bytes_eq k n) ks) ∙ h
 
   -- what is read at the place of a name, and where the name has no place
-  pub beside_found : (ks : List Name) (xs slice : List X) (n : Name) (i : ℕ) (o : Option (Bor X)) → slice ≡ xs → Some i ≡ position (λ k. bytes_eq k n) ks
-      → IfSome o (λ x. x.now ≡ get_or slice i x.now) → MatchOption o (length slice ≤ i) (λ x. (i < length slice) × HoldsAt (λ y. x.now ≡ y) slice i) → option_copied o ≡ lookup n (beside ks xs)
-  beside_found ks xs slice n i o same e h m = read_in xs slice i o same h m ∙ ap (option_and_then (slice_get xs)) e ∙ beside_place ks xs n
+  pub zip_found : (ks : List Name) (xs slice : List X) (n : Name) (i : ℕ) (o : Option (Bor X)) → slice ≡ xs → Some i ≡ position (λ k. bytes_eq k n) ks
+      → IfSome o (λ x. x.now ≡ get_or slice i x.now) → MatchOption o (length slice ≤ i) (λ x. (i < length slice) × HoldsAt (λ y. x.now ≡ y) slice i) → option_copied o ≡ lookup_name n (zip ks xs)
+  zip_found ks xs slice n i o same e h m = read_in xs slice i o same h m ∙ ap (option_and_then (slice_get xs)) e ∙ zip_place ks xs n
 
-  pub beside_none : (ks : List Name) (xs : List X) (n : Name) → None ≡ position (λ k. bytes_eq k n) ks → None ≡ lookup n (beside ks xs)
-  beside_none ks xs n e = ap (option_and_then (slice_get xs)) e ∙ beside_place ks xs n
+  pub zip_none : (ks : List Name) (xs : List X) (n : Name) → None ≡ position (λ k. bytes_eq k n) ks → None ≡ lookup_name n (zip ks xs)
+  zip_none ks xs n e = ap (option_and_then (slice_get xs)) e ∙ zip_place ks xs n
 
   numbered_get : (k : ℕ) (xs : List X) (i j : ℕ) → j ≡ k + i → slice_get (enumerate_from k xs) i ≡ option_map (λ x. (j, x)) (slice_get xs i)
   numbered_get k [] i j e = refl

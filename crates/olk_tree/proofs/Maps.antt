@@ -1,6 +1,6 @@
 -- What is said of the answers of nodes is said of the nodes.
 use Rattle.std.specs.Prelude.{◌≡◌, ◌&&◌, ◌+◌, ◌==◌, nat_lt, count_by, Bool, true, false, cond, List, [], ◌∷◌, ◌++◌, map, Option, Some, None, option_map, option_to_list}
-use Rattle.std.specs.List.{flat_map, list_all}
+use Rattle.std.specs.List.{flat_map, list_all, zip}
 use Rattle.std.specs.Ordering.{nat_cmp}
 use Rattle.std.specs.Cmp.Lexicographic.{slice_cmp}
 use Rattle.std.specs.declared.cmp.Ordering.{Ordering}
@@ -11,15 +11,19 @@ use Rattle.std.proofs.lemmas.Grind.{flat_map-append}
 use Rattle.std.proofs.lemmas.List.Sums.{sum_by-cons}
 use Rattle.serde_json.specs.Data.{Data}
 use Rattle.olk_spec.specs.Faults.{Fault}
-use Rattle.olk_spec.specs.Names.{Name, Path, ◌//◌, lookup, first_if_equal, is_among, those, put_if, is_empty}
+use Rattle.olk_spec.specs.Names.{Name, Path, ◌//◌, lookup_name, first_if_equal, is_among, filter_once, put_if, is_empty}
 use Rattle.olk_spec.specs.Schemas.{is_object, members, has, at, as_text}
 use Rattle.olk_spec.specs.Tree.{Tree, result, plain}
 use Rattle.olk_spec.specs.World.{Says}
-use Rattle.olk_spec.proofs.Maps.{flat_map-map, map-map, those-map, is_empty-map}
+use Rattle.olk_spec.proofs.Maps.{flat_map-map, map-map, filter_once-map, is_empty-map}
 use Rattle.olk_base.specs.declared.pattern.CompiledPattern.{CompiledPattern}
 use Rattle.olk_tree.specs.Matched.{is_match, matched, matching, match_question}
 use Rattle.olk_tree.specs.Shown.{properties_tree, patterns_tree, branch_trees, any_of_tree, several_accept, one_of_tree}
-use Rattle.olk_tree.specs.Answers.{beside, named, or_else, first_of, due_nodes, chosen_at, chosen_nodes, matched_mean, matched_report, patterns_mean, patterns_report, patterns_first}
+use Rattle.olk_tree.specs.Maps.{named}
+use Rattle.olk_tree.specs.Firsts.{or_else, first_of}
+use Rattle.olk_tree.specs.Dependencies.{due_nodes}
+use Rattle.olk_tree.specs.PropertyDependencies.{chosen_at, chosen_nodes}
+use Rattle.olk_tree.specs.PatternProperties.{matched_mean, matched_report, patterns_mean, patterns_report, patterns_first}
 use Rattle.olk_tree.specs.declared.map.SmallMap.{SmallMap}
 use Rattle.olk_tree.specs.Questions.{Question, always, both, either, conditional, every, some, how_many, exactly_one}
 
@@ -47,40 +51,40 @@ module _ {X Y : Type 0} (p : X → Question) (q : Y → Question) (h : Y → X) 
   pub exactly_one-map : (ys : List Y) → exactly_one p (map h ys) ≡ exactly_one q ys
   exactly_one-map ys = λ i. record { accepts = λ u. how_many-map u ys i == 1; asks = (some-map p q h same ys i).asks }
 
-pub every-beside : {A X Y : Type 0} (p : A × X → Question) (q : A × Y → Question) (h : Y → X) → ((a : A) (y : Y) → p (a, h y) ≡ q (a, y)) → (ks : List A) (ys : List Y) → every p (beside ks (map h ys)) ≡ every q (beside ks ys)
-every-beside p q h e [] ys = refl
-every-beside p q h e (a ∷ ks) [] = refl
-every-beside p q h e (a ∷ ks) (y ∷ ys) = λ i. both (e a y i) (every-beside p q h e ks ys i)
+pub every-zip : {A X Y : Type 0} (p : A × X → Question) (q : A × Y → Question) (h : Y → X) → ((a : A) (y : Y) → p (a, h y) ≡ q (a, y)) → (ks : List A) (ys : List Y) → every p (zip ks (map h ys)) ≡ every q (zip ks ys)
+every-zip p q h e [] ys = refl
+every-zip p q h e (a ∷ ks) [] = refl
+every-zip p q h e (a ∷ ks) (y ∷ ys) = λ i. both (e a y i) (every-zip p q h e ks ys i)
 
-pub flat_map-beside : {A X Y B : Type 0} (p : A × X → List B) (q : A × Y → List B) (h : Y → X) → ((a : A) (y : Y) → p (a, h y) ≡ q (a, y)) → (ks : List A) (ys : List Y) → flat_map p (beside ks (map h ys)) ≡ flat_map q (beside ks ys)
-flat_map-beside p q h e [] ys = refl
-flat_map-beside p q h e (a ∷ ks) [] = refl
-flat_map-beside p q h e (a ∷ ks) (y ∷ ys) = λ i. e a y i ++ flat_map-beside p q h e ks ys i
+pub flat_map-zip : {A X Y B : Type 0} (p : A × X → List B) (q : A × Y → List B) (h : Y → X) → ((a : A) (y : Y) → p (a, h y) ≡ q (a, y)) → (ks : List A) (ys : List Y) → flat_map p (zip ks (map h ys)) ≡ flat_map q (zip ks ys)
+flat_map-zip p q h e [] ys = refl
+flat_map-zip p q h e (a ∷ ks) [] = refl
+flat_map-zip p q h e (a ∷ ks) (y ∷ ys) = λ i. e a y i ++ flat_map-zip p q h e ks ys i
 
 pub first_of-map : {X Y : Type 0} (p : X → List Fault) (q : Y → List Fault) (h : Y → X) → ((y : Y) → p (h y) ≡ q y) → (ys : List Y) → first_of p (map h ys) ≡ first_of q ys
 first_of-map p q h e [] = refl
 first_of-map p q h e (y ∷ ys) = λ i. or_else (e y i) (first_of-map p q h e ys i)
 
-pub first_of-beside : {A X Y : Type 0} (p : A × X → List Fault) (q : A × Y → List Fault) (h : Y → X) → ((a : A) (y : Y) → p (a, h y) ≡ q (a, y)) → (ks : List A) (ys : List Y) → first_of p (beside ks (map h ys)) ≡ first_of q (beside ks ys)
-first_of-beside p q h e [] ys = refl
-first_of-beside p q h e (a ∷ ks) [] = refl
-first_of-beside p q h e (a ∷ ks) (y ∷ ys) = λ i. or_else (e a y i) (first_of-beside p q h e ks ys i)
+pub first_of-zip : {A X Y : Type 0} (p : A × X → List Fault) (q : A × Y → List Fault) (h : Y → X) → ((a : A) (y : Y) → p (a, h y) ≡ q (a, y)) → (ks : List A) (ys : List Y) → first_of p (zip ks (map h ys)) ≡ first_of q (zip ks ys)
+first_of-zip p q h e [] ys = refl
+first_of-zip p q h e (a ∷ ks) [] = refl
+first_of-zip p q h e (a ∷ ks) (y ∷ ys) = λ i. or_else (e a y i) (first_of-zip p q h e ks ys i)
 
 module _ {X Y : Type 0} (h : Y → X) where
-  pub names-beside : (ks : List Name) (ys : List Y) → map {A = Name × X} (λ e. e.0) (beside ks (map h ys)) ≡ map {A = Name × Y} (λ e. e.0) (beside ks ys)
-  names-beside [] ys = refl
-  names-beside (k ∷ ks) [] = refl
-  names-beside (k ∷ ks) (y ∷ ys) = ap (λ ns. k ∷ ns) (names-beside ks ys)
+  pub names-zip : (ks : List Name) (ys : List Y) → map {A = Name × X} (λ e. e.0) (zip ks (map h ys)) ≡ map {A = Name × Y} (λ e. e.0) (zip ks ys)
+  names-zip [] ys = refl
+  names-zip (k ∷ ks) [] = refl
+  names-zip (k ∷ ks) (y ∷ ys) = ap (λ ns. k ∷ ns) (names-zip ks ys)
 
   found_at : (o : Ordering) (y : Y) (r : Option X) (s : Option Y) → r ≡ option_map h s → first_if_equal o (h y) r ≡ option_map h (first_if_equal o y s)
   found_at Less y r s e = e
   found_at Equal y r s e = refl
   found_at Greater y r s e = e
 
-  pub lookup-beside : (n : Name) (ks : List Name) (ys : List Y) → lookup n (beside ks (map h ys)) ≡ option_map h (lookup n (beside ks ys))
-  lookup-beside n [] ys = refl
-  lookup-beside n (k ∷ ks) [] = refl
-  lookup-beside n (k ∷ ks) (y ∷ ys) = found_at (slice_cmp nat_cmp n k) y _ _ (lookup-beside n ks ys)
+  pub lookup_name-zip : (n : Name) (ks : List Name) (ys : List Y) → lookup_name n (zip ks (map h ys)) ≡ option_map h (lookup_name n (zip ks ys))
+  lookup_name-zip n [] ys = refl
+  lookup_name-zip n (k ∷ ks) [] = refl
+  lookup_name-zip n (k ∷ ks) (y ∷ ys) = found_at (slice_cmp nat_cmp n k) y _ _ (lookup_name-zip n ks ys)
 
 -- ---- lists of lists
 
@@ -96,13 +100,13 @@ module _ {X B : Type 0} where
 -- ---- the nodes that a dependency asks
 
 module _ {X Y : Type 0} (h : Y → X) (v : Data) where
-  pub due_nodes-map : (ks : List Name) (ys : List Y) → due_nodes (beside ks (map h ys)) v ≡ map h (due_nodes (beside ks ys) v)
+  pub due_nodes-map : (ks : List Name) (ys : List Y) → due_nodes (zip ks (map h ys)) v ≡ map h (due_nodes (zip ks ys) v)
   due_nodes-map [] ys = refl
   due_nodes-map (k ∷ ks) [] = refl
   due_nodes-map (k ∷ ks) (y ∷ ys) = by (has k v) (due_nodes-map ks ys)
     where
-      by : (b : Bool) → due_nodes (beside ks (map h ys)) v ≡ map h (due_nodes (beside ks ys) v)
-          → map (λ e. e.1) (put_if b (k, h y) (those (λ e. has e.0 v) (beside ks (map h ys)))) ≡ map h (map (λ e. e.1) (put_if b (k, y) (those (λ e. has e.0 v) (beside ks ys))))
+      by : (b : Bool) → due_nodes (zip ks (map h ys)) v ≡ map h (due_nodes (zip ks ys) v)
+          → map (λ e. e.1) (put_if b (k, h y) (filter_once (λ e. has e.0 v) (zip ks (map h ys)))) ≡ map h (map (λ e. e.1) (put_if b (k, y) (filter_once (λ e. has e.0 v) (zip ks ys))))
       by true e = ap (λ l. h y ∷ l) e
       by false e = e
 
@@ -110,13 +114,13 @@ module _ {X Y : Type 0} (h : Y → X) (v : Data) where
   listed-map None = refl
   listed-map (Some y) = refl
 
-  module _ (g : SmallMap Y → SmallMap X) (names : (m : SmallMap Y) → named (g m) ≡ beside m.names (map h m.nodes.items)) where
-    at_text-map : (m : SmallMap Y) (t : Name) → option_to_list (lookup t (named (g m))) ≡ map h (option_to_list (lookup t (named m)))
-    at_text-map m t = ap option_to_list (ap (lookup t) (names m) ∙ lookup-beside h t m.names m.nodes.items) ∙ listed-map (lookup t (named m))
+  module _ (g : SmallMap Y → SmallMap X) (names : (m : SmallMap Y) → named (g m) ≡ zip m.names (map h m.nodes.items)) where
+    at_text-map : (m : SmallMap Y) (t : Name) → option_to_list (lookup_name t (named (g m))) ≡ map h (option_to_list (lookup_name t (named m)))
+    at_text-map m t = ap option_to_list (ap (lookup_name t) (names m) ∙ lookup_name-zip h t m.names m.nodes.items) ∙ listed-map (lookup_name t (named m))
 
-    at_texts-map : (m : SmallMap Y) (ts : List Name) → flat_map (λ t. option_to_list (lookup t (named (g m)))) ts ≡ map h (flat_map (λ t. option_to_list (lookup t (named m))) ts)
+    at_texts-map : (m : SmallMap Y) (ts : List Name) → flat_map (λ t. option_to_list (lookup_name t (named (g m)))) ts ≡ map h (flat_map (λ t. option_to_list (lookup_name t (named m))) ts)
     at_texts-map m [] = refl
-    at_texts-map m (t ∷ ts) = (λ i. at_text-map m t i ++ at_texts-map m ts i) ∙ sym (map-append h (option_to_list (lookup t (named m))) (flat_map (λ t. option_to_list (lookup t (named m))) ts))
+    at_texts-map m (t ∷ ts) = (λ i. at_text-map m t i ++ at_texts-map m ts i) ∙ sym (map-append h (option_to_list (lookup_name t (named m))) (flat_map (λ t. option_to_list (lookup_name t (named m))) ts))
 
     chosen_at-map : (m : SmallMap Y) (w : Data) → chosen_at (g m) w ≡ map h (chosen_at m w)
     chosen_at-map m w = at_texts-map m (as_text w)
@@ -125,10 +129,10 @@ module _ {X Y : Type 0} (h : Y → X) (v : Data) where
     chosen_in-map m [] = refl
     chosen_in-map m (w ∷ ws) = (λ i. chosen_at-map m w i ++ chosen_in-map m ws i) ∙ sym (map-append h (chosen_at m w) (flat_map (chosen_at m) ws))
 
-    pub chosen_nodes-map : (ks : List Name) (ms : List (SmallMap Y)) → chosen_nodes (beside ks (map g ms)) v ≡ map h (chosen_nodes (beside ks ms) v)
+    pub chosen_nodes-map : (ks : List Name) (ms : List (SmallMap Y)) → chosen_nodes (zip ks (map g ms)) v ≡ map h (chosen_nodes (zip ks ms) v)
     chosen_nodes-map [] ms = refl
     chosen_nodes-map (k ∷ ks) [] = refl
-    chosen_nodes-map (k ∷ ks) (m ∷ ms) = (λ i. chosen_in-map m (at k v) i ++ chosen_nodes-map ks ms i) ∙ sym (map-append h (flat_map (chosen_at m) (at k v)) (chosen_nodes (beside ks ms) v))
+    chosen_nodes-map (k ∷ ks) (m ∷ ms) = (λ i. chosen_in-map m (at k v) i ++ chosen_nodes-map ks ms i) ∙ sym (map-append h (flat_map (chosen_at m) (at k v)) (chosen_nodes (zip ks ms) v))
 
 -- ---- what is shown
 
@@ -138,29 +142,29 @@ module _ {X Y : Type 0} (t : X → Data → Path → Tree) (s : Y → Data → P
   at_found m (Some y) = ap (λ x. x ∷ []) (same y m.1 (Q // m.0))
 
   at_members : (ks : List Name) (ys : List Y) (ms : List (Name × Data))
-      → flat_map (λ m. map (λ x. t x m.1 (Q // m.0)) (option_to_list (lookup m.0 (beside ks (map h ys))))) ms ≡ flat_map (λ m. map (λ y. s y m.1 (Q // m.0)) (option_to_list (lookup m.0 (beside ks ys)))) ms
+      → flat_map (λ m. map (λ x. t x m.1 (Q // m.0)) (option_to_list (lookup_name m.0 (zip ks (map h ys))))) ms ≡ flat_map (λ m. map (λ y. s y m.1 (Q // m.0)) (option_to_list (lookup_name m.0 (zip ks ys)))) ms
   at_members ks ys [] = refl
-  at_members ks ys (m ∷ ms) = λ i. (ap (λ o. map (λ x. t x m.1 (Q // m.0)) (option_to_list o)) (lookup-beside h m.0 ks ys) ∙ at_found m (lookup m.0 (beside ks ys))) i ++ at_members ks ys ms i
+  at_members ks ys (m ∷ ms) = λ i. (ap (λ o. map (λ x. t x m.1 (Q // m.0)) (option_to_list o)) (lookup_name-zip h m.0 ks ys) ∙ at_found m (lookup_name m.0 (zip ks ys))) i ++ at_members ks ys ms i
 
-  pub properties_tree-map : (P : Path) (ks : List Name) (ys : List Y) (more : List Tree) → properties_tree t v Q P (beside ks (map h ys)) more ≡ properties_tree s v Q P (beside ks ys) more
-  properties_tree-map P ks ys more = λ i. result P Q (cond (is_object v) (Some (map (λ m. m.0) (those (λ m. is_among m.0 (names-beside h ks ys i)) (members v)))) None) false [] (at_members ks ys (members v) i ++ more)
+  pub properties_tree-map : (P : Path) (ks : List Name) (ys : List Y) (more : List Tree) → properties_tree t v Q P (zip ks (map h ys)) more ≡ properties_tree s v Q P (zip ks ys) more
+  properties_tree-map P ks ys more = λ i. result P Q (cond (is_object v) (Some (map (λ m. m.0) (filter_once (λ m. is_among m.0 (names-zip h ks ys i)) (members v)))) None) false [] (at_members ks ys (members v) i ++ more)
 
   pub branch_trees-map : (ys : List Y) → branch_trees t v Q (map h ys) ≡ branch_trees s v Q ys
   branch_trees-map ys = map-map (λ x. t x v Q) (λ y. s y v Q) h (λ y. same y v Q) ys
 
   pub any_of_tree-map : (a : X → Bool) (b : Y → Bool) → ((y : Y) → a (h y) ≡ b y) → (P : Path) (ys : List Y) → any_of_tree t v Q a P (map h ys) ≡ any_of_tree s v Q b P ys
   any_of_tree-map a b e P ys =
-      ap (λ xs. cond (is_empty xs) (result P Q None true [] (branch_trees t v Q (map h ys))) (plain P Q (branch_trees t v Q xs))) (those-map a b h e ys)
-      ∙ (λ i. cond (is_empty-map h (those b ys) i) (result P Q None true [] (branch_trees-map ys i)) (plain P Q (branch_trees-map (those b ys) i)))
+      ap (λ xs. cond (is_empty xs) (result P Q None true [] (branch_trees t v Q (map h ys))) (plain P Q (branch_trees t v Q xs))) (filter_once-map a b h e ys)
+      ∙ (λ i. cond (is_empty-map h (filter_once b ys) i) (result P Q None true [] (branch_trees-map ys i)) (plain P Q (branch_trees-map (filter_once b ys) i)))
 
   pub one_of_tree-map : (a : X → Bool) (b : Y → Bool) → ((y : Y) → a (h y) ≡ b y) → (P : Path) (ys : List Y) → one_of_tree t v Q a P (map h ys) ≡ one_of_tree s v Q b P ys
   one_of_tree-map a b e P ys = λ i. cond (count_by-map a b h e ys i == 0) (result P Q None true [] (branch_trees-map ys i))
-      (result P Q None false (put_if (nat_lt 1 (count_by-map a b h e ys i)) several_accept []) ((ap (branch_trees t v Q) (those-map a b h e ys) ∙ branch_trees-map (those b ys)) i))
+      (result P Q None false (put_if (nat_lt 1 (count_by-map a b h e ys i)) several_accept []) ((ap (branch_trees t v Q) (filter_once-map a b h e ys) ∙ branch_trees-map (filter_once b ys)) i))
 
 -- ---- the nodes of patterns
 
 module _ {R X Y : Type 0} (answers : R → Name → Says) (h : Y → X) where
-  -- a pattern beside what stands for its node
+  -- a pattern zip what stands for its node
   abbrev pub beside_pattern : CompiledPattern R × Y → CompiledPattern R × X
   beside_pattern e = (e.0, h e.1)
 
@@ -174,7 +178,7 @@ module _ {R X Y : Type 0} (answers : R → Name → Says) (h : Y → X) where
       patterns_report-map es = flat_map-map (λ e. matched_report answers r u e.0 e.1 v Q) (λ e. matched_report answers k u e.0 e.1 v Q) beside_pattern (λ e i. flat_map (λ x. same e.1 x.1 (Q // x.0) i) (matched answers u e.0 v)) es
 
       pub patterns_first-map : (es : List (CompiledPattern R × Y)) → patterns_first answers r u (map beside_pattern es) v Q ≡ patterns_first answers k u es v Q
-      patterns_first-map es = λ i. first_of (λ x. (ap (first_of (λ e. r e.1 u x.1 (Q // x.0))) (those-map (λ e. is_match answers u e.0 x.0) (λ e. is_match answers u e.0 x.0) beside_pattern (λ e. refl) es)
+      patterns_first-map es = λ i. first_of (λ x. (ap (first_of (λ e. r e.1 u x.1 (Q // x.0))) (filter_once-map (λ e. is_match answers u e.0 x.0) (λ e. is_match answers u e.0 x.0) beside_pattern (λ e. refl) es)
           ∙ first_of-map (λ e. r e.1 u x.1 (Q // x.0)) (λ e. k e.1 u x.1 (Q // x.0)) beside_pattern (λ e. same e.1 x.1 (Q // x.0)) (matching answers u es x.0)) i) (members v)
 
     pub patterns_tree-map : (t : X → Data → Path → Tree) (s : Y → Data → Path → Tree) → ((y : Y) (w : Data) (Q : Path) → t (h y) w Q ≡ s y w Q) → (P Q : Path) (es : List (CompiledPattern R × Y)) → patterns_tree t v Q answers u P (map beside_pattern es) ≡ patterns_tree s v Q answers u P es

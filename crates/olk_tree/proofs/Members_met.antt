@@ -3,11 +3,12 @@ use Rattle.std.proofs.Common.{◌≡◌, Bool, List, [], ◌∷◌, ◌++◌, Op
 use Rattle.std.specs.List.{flat_map}
 use Rattle.serde_json.specs.Data.{Data, Members, null, boolean, number, string, array, object}
 use Rattle.serde_json.specs.Find.{as_object}
-use Rattle.olk_spec.specs.Names.{Name, Path, ◌//◌, lookup}
+use Rattle.olk_spec.specs.Names.{Name, Path, ◌//◌, lookup_name}
 use Rattle.olk_spec.specs.Faults.{Fault}
 use Rattle.olk_spec.specs.Schemas.{listed, members}
 use Rattle.olk_tree.specs.Questions.{Question, always, both, every}
-use Rattle.olk_tree.specs.Answers.{or_else, first_of, properties_mean, properties_report, properties_first}
+use Rattle.olk_tree.specs.Firsts.{or_else, first_of}
+use Rattle.olk_tree.specs.Properties.{properties_mean, properties_report, properties_first}
 use Rattle.olk_tree.specs.Visited.{Declared, declared_as, members_declared, names_met, left_of}
 use Rattle.olk_tree.specs.declared.declared.DeclaredMembers.{DeclaredMembers}
 use Rattle.olk_tree.proofs.Questions.{every-nothing, every-flat_map}
@@ -38,12 +39,12 @@ module _ {N : Type 0} (ms : Members) where
     mean_at e None = refl
     mean_at e (Some v) = refl
 
-    means_at : (es : List (Name × N)) → every (λ e. every (λ d. m d.node d.value) (met_at e (lookup e.0 (listed ms)))) es ≡ properties_mean m es (object ms)
+    means_at : (es : List (Name × N)) → every (λ e. every (λ d. m d.node d.value) (met_at e (lookup_name e.0 (listed ms)))) es ≡ properties_mean m es (object ms)
     means_at [] = refl
-    means_at (e ∷ es) = λ i. both (mean_at e (lookup e.0 (listed ms)) i) (means_at es i)
+    means_at (e ∷ es) = λ i. both (mean_at e (lookup_name e.0 (listed ms)) i) (means_at es i)
 
     means_of_met : (es : List (Name × N)) → every (λ d. m d.node d.value) (names_met es (listed ms)) ≡ properties_mean m es (object ms)
-    means_of_met es = every-flat_map (λ d. m d.node d.value) (λ e. met_at e (lookup e.0 (listed ms))) es ∙ means_at es
+    means_of_met es = every-flat_map (λ d. m d.node d.value) (λ e. met_at e (lookup_name e.0 (listed ms))) es ∙ means_at es
 
     -- the same member by member
     module _ (es : List (Name × N)) where
@@ -51,10 +52,10 @@ module _ {N : Type 0} (ms : Members) where
       mean_if_declared x None = refl
       mean_if_declared x (Some n) = refl
 
-      mean_each : (xs : List (Name × Data)) → every (λ x. every (λ n. m n x.1) (option_to_list (lookup x.0 es))) xs ≡ every (λ d. m d.node d.value) (members_declared es xs)
-      mean_each xs = (λ i. every (λ x. mean_if_declared x (lookup x.0 es) i) xs) ∙ sym (every-flat_map (λ d. m d.node d.value) (λ x. flat_map (λ n. declared_as x.0 n x.1) (option_to_list (lookup x.0 es))) xs)
+      mean_each : (xs : List (Name × Data)) → every (λ x. every (λ n. m n x.1) (option_to_list (lookup_name x.0 es))) xs ≡ every (λ d. m d.node d.value) (members_declared es xs)
+      mean_each xs = (λ i. every (λ x. mean_if_declared x (lookup_name x.0 es) i) xs) ∙ sym (every-flat_map (λ d. m d.node d.value) (λ x. flat_map (λ n. declared_as x.0 n x.1) (option_to_list (lookup_name x.0 es))) xs)
 
-      pub means_of_members : names_met es (listed ms) ≡ members_declared es (listed ms) → every (λ x. every (λ n. m n x.1) (option_to_list (lookup x.0 es))) (listed ms) ≡ properties_mean m es (object ms)
+      pub means_of_members : names_met es (listed ms) ≡ members_declared es (listed ms) → every (λ x. every (λ n. m n x.1) (option_to_list (lookup_name x.0 es))) (listed ms) ≡ properties_mean m es (object ms)
       means_of_members agree = mean_each (listed ms) ∙ ap (every (λ d. m d.node d.value)) (sym agree) ∙ means_of_met es
 
   module _ (f : N → Bool → Data → Path → List Fault) (u : Bool) (Q : Path) where
@@ -65,23 +66,23 @@ module _ {N : Type 0} (ms : Members) where
     report_at e None = refl
     report_at e (Some v) = refl
 
-    reports_at : (es : List (Name × N)) → flat_map (λ e. flat_map fault_at (met_at e (lookup e.0 (listed ms)))) es ≡ properties_report f u es (object ms) Q
+    reports_at : (es : List (Name × N)) → flat_map (λ e. flat_map fault_at (met_at e (lookup_name e.0 (listed ms)))) es ≡ properties_report f u es (object ms) Q
     reports_at [] = refl
-    reports_at (e ∷ es) = λ i. report_at e (lookup e.0 (listed ms)) i ++ reports_at es i
+    reports_at (e ∷ es) = λ i. report_at e (lookup_name e.0 (listed ms)) i ++ reports_at es i
 
     report_of_met : (es : List (Name × N)) → flat_map fault_at (names_met es (listed ms)) ≡ properties_report f u es (object ms) Q
-    report_of_met es = flat_map-flat_map fault_at (λ e. met_at e (lookup e.0 (listed ms))) es ∙ reports_at es
+    report_of_met es = flat_map-flat_map fault_at (λ e. met_at e (lookup_name e.0 (listed ms))) es ∙ reports_at es
 
     first_at : (e : Name × N) (o : Option Data) → first_of fault_at (met_at e o) ≡ first_of (λ x. f e.1 u x (Q // e.0)) (option_to_list o)
     first_at e None = refl
     first_at e (Some v) = refl
 
-    firsts_at : (es : List (Name × N)) → first_of (λ e. first_of fault_at (met_at e (lookup e.0 (listed ms)))) es ≡ properties_first f u es (object ms) Q
+    firsts_at : (es : List (Name × N)) → first_of (λ e. first_of fault_at (met_at e (lookup_name e.0 (listed ms)))) es ≡ properties_first f u es (object ms) Q
     firsts_at [] = refl
-    firsts_at (e ∷ es) = λ i. or_else (first_at e (lookup e.0 (listed ms)) i) (firsts_at es i)
+    firsts_at (e ∷ es) = λ i. or_else (first_at e (lookup_name e.0 (listed ms)) i) (firsts_at es i)
 
     first_of_met : (es : List (Name × N)) → first_of fault_at (names_met es (listed ms)) ≡ properties_first f u es (object ms) Q
-    first_of_met es = first_of-flat_map fault_at (λ e. met_at e (lookup e.0 (listed ms))) es ∙ firsts_at es
+    first_of_met es = first_of-flat_map fault_at (λ e. met_at e (lookup_name e.0 (listed ms))) es ∙ firsts_at es
 
   -- ---- over what a walk has left at its start
 
@@ -100,11 +101,11 @@ module _ {N : Type 0} (ms : Members) where
 
 module _ {N : Type 0} (es : List (Name × N)) (v : Data) (none : None ≡ as_object v) where
   pub means_nothing : (m : N → Data → Question) → properties_mean m es v ≡ always true
-  means_nothing m = ap (λ ms. every (λ e. every (m e.1) (option_to_list (lookup e.0 ms))) es) (no_members v none) ∙ every-nothing es
+  means_nothing m = ap (λ ms. every (λ e. every (m e.1) (option_to_list (lookup_name e.0 ms))) es) (no_members v none) ∙ every-nothing es
 
   module _ (f : N → Bool → Data → Path → List Fault) (u : Bool) (Q : Path) where
     pub reports_nothing : properties_report f u es v Q ≡ []
-    reports_nothing = ap (λ ms. flat_map (λ e. flat_map (λ x. f e.1 u x (Q // e.0)) (option_to_list (lookup e.0 ms))) es) (no_members v none) ∙ none_of es
+    reports_nothing = ap (λ ms. flat_map (λ e. flat_map (λ x. f e.1 u x (Q // e.0)) (option_to_list (lookup_name e.0 ms))) es) (no_members v none) ∙ none_of es
 
     pub first_nothing : properties_first f u es v Q ≡ []
-    first_nothing = ap (λ ms. first_of (λ e. first_of (λ x. f e.1 u x (Q // e.0)) (option_to_list (lookup e.0 ms))) es) (no_members v none) ∙ first_of-nothing es
+    first_nothing = ap (λ ms. first_of (λ e. first_of (λ x. f e.1 u x (Q // e.0)) (option_to_list (lookup_name e.0 ms))) es) (no_members v none) ∙ first_of-nothing es

@@ -3,17 +3,16 @@ use Rattle.std.proofs.Common.{◌≡◌, ℕ, suc, ◌<◌, List, [], ◌∷◌,
 use Rattle.std.specs.Ordering.{nat_cmp, ordering_reverse}
 use Rattle.std.specs.Cmp.Lexicographic.{slice_cmp}
 use Rattle.std.specs.Bool.{⊤}
-use Rattle.std.specs.List.{AllByRecursion, flat_map}
+use Rattle.std.specs.List.{AllByRecursion, flat_map, zip}
 use Rattle.std.specs.List.Sorted.{IsStrictlySortedBy}
 use Rattle.std.specs.Map.{keys_of}
 use Rattle.std.specs.FinMap.{slice_cmp-IsAntisymmetric, nat_cmp-IsAntisymmetric}
 use Rattle.std.proofs.lemmas.Cmp.{nat_list_cmp_total}
 use Rattle.serde_json.specs.View.{members_view}
 use Rattle.serde_json.specs.declared.value.Value.{Value}
-use Rattle.olk_spec.specs.Names.{Name, lookup, first_if_equal}
+use Rattle.olk_spec.specs.Names.{Name, lookup_name, first_if_equal}
 use Rattle.olk_spec.specs.Schemas.{listed}
 use Rattle.olk_tree.specs.Ascending.{Ascend}
-use Rattle.olk_tree.specs.Answers.{beside}
 
 abbrev order : Name → Name → Ordering
 order = slice_cmp nat_cmp
@@ -37,22 +36,22 @@ module _ {X : Type 0} where
   after_after n k e (m ∷ ms) h = (nat_list_cmp_total.trans n k m.0 e h.0, after_after n k e ms h.1)
 
   -- what comes after a name is not at it
-  pub none_after : (n : Name) (ms : List (Name × X)) → After n ms → lookup n ms ≡ None
+  pub none_after : (n : Name) (ms : List (Name × X)) → After n ms → lookup_name n ms ≡ None
   none_after n [] h = refl
-  none_after n (m ∷ ms) h = ap (λ o. first_if_equal o m.1 (lookup n ms)) h.0 ∙ none_after n ms h.1
+  none_after n (m ∷ ms) h = ap (λ o. first_if_equal o m.1 (lookup_name n ms)) h.0 ∙ none_after n ms h.1
 
-  pub skips : (n : Name) (m : Name × X) (ms : List (Name × X)) → order m.0 n ≡ Less → lookup n (m ∷ ms) ≡ lookup n ms
-  skips n m ms e = ap (λ o. first_if_equal o m.1 (lookup n ms)) (greater_from m.0 n e)
+  pub skips : (n : Name) (m : Name × X) (ms : List (Name × X)) → order m.0 n ≡ Less → lookup_name n (m ∷ ms) ≡ lookup_name n ms
+  skips n m ms e = ap (λ o. first_if_equal o m.1 (lookup_name n ms)) (greater_from m.0 n e)
 
   -- a name before that of m stands before m, if it stands anywhere
-  pub found_before : (n : Name) (m : Name × X) (rest : List (Name × X)) → slice_cmp nat_cmp n m.0 ≡ Less → (es : List (Name × X)) → Rising (es ++ m ∷ rest) → lookup n (es ++ m ∷ rest) ≡ lookup n es
+  pub found_before : (n : Name) (m : Name × X) (rest : List (Name × X)) → slice_cmp nat_cmp n m.0 ≡ Less → (es : List (Name × X)) → Rising (es ++ m ∷ rest) → lookup_name n (es ++ m ∷ rest) ≡ lookup_name n es
   found_before n m rest e [] h = none_after n (m ∷ rest) (e, after_after n m.0 e rest h.0)
   found_before n m rest e (x ∷ es) h = ap (first_if_equal (slice_cmp nat_cmp n x.0) x.1) (found_before n m rest e es h.1)
 
 module _ {A C : Type 0} where
   -- walks over names after n, looked up in a list with n at its head, or without it
   walk_skips : {B : Type 0} (g : Name → A → B → List C) (m : Name × A) (ms : List (Name × A)) (es : List (Name × B)) → After m.0 es
-      → flat_map (λ e. flat_map (λ a. g e.0 a e.1) (option_to_list (lookup e.0 (m ∷ ms)))) es ≡ flat_map (λ e. flat_map (λ a. g e.0 a e.1) (option_to_list (lookup e.0 ms))) es
+      → flat_map (λ e. flat_map (λ a. g e.0 a e.1) (option_to_list (lookup_name e.0 (m ∷ ms)))) es ≡ flat_map (λ e. flat_map (λ a. g e.0 a e.1) (option_to_list (lookup_name e.0 ms))) es
   walk_skips g m ms [] h = refl
   walk_skips g m ms (e ∷ es) h = λ i. flat_map (λ a. g e.0 a e.1) (option_to_list (skips e.0 m ms h.0 i)) ++ walk_skips g m ms es h.1 i
 
@@ -66,10 +65,10 @@ walk_nothing (e ∷ es) = walk_nothing es
 module _ {A B C : Type 0} (g : Name → A → B → List C) where
   -- the names of the first list, looked up in the second, and the other way round
   abbrev pub first_walk : List (Name × A) → List (Name × B) → List C
-  first_walk es ms = flat_map (λ e. flat_map (λ b. g e.0 e.1 b) (option_to_list (lookup e.0 ms))) es
+  first_walk es ms = flat_map (λ e. flat_map (λ b. g e.0 e.1 b) (option_to_list (lookup_name e.0 ms))) es
 
   abbrev pub second_walk : List (Name × A) → List (Name × B) → List C
-  second_walk es ms = flat_map (λ m. flat_map (λ a. g m.0 a m.1) (option_to_list (lookup m.0 es))) ms
+  second_walk es ms = flat_map (λ m. flat_map (λ a. g m.0 a m.1) (option_to_list (lookup_name m.0 es))) ms
 
   module _ (e : Name × A) (es : List (Name × A)) (r : Rising (e ∷ es)) (others : (ms : List (Name × B)) → Rising ms → first_walk es ms ≡ second_walk es ms) where
     one_more : (m : Name × B) (ms : List (Name × B)) → Rising (m ∷ ms) → first_walk (e ∷ es) ms ≡ second_walk (e ∷ es) ms → (o : Ordering) → order e.0 m.0 ≡ o → first_walk (e ∷ es) (m ∷ ms) ≡ second_walk (e ∷ es) (m ∷ ms)
@@ -79,9 +78,9 @@ module _ {A B C : Type 0} (g : Name → A → B → List C) where
         ∙ sym (walk_skips g e es (m ∷ ms) (q, after_after e.0 m.0 q ms s.0))
     one_more m ms s h Equal q =
         let same : e.0 ≡ m.0 = slice_cmp-IsAntisymmetric nat_cmp-IsAntisymmetric e.0 m.0 q in
-        (λ i. flat_map (λ b. g e.0 e.1 b) (option_to_list (first_if_equal (q i) m.1 (lookup e.0 ms))) ++ walk_skips (λ n b a. g n a b) m ms es (subst (λ n. After n es) same r.0) i)
+        (λ i. flat_map (λ b. g e.0 e.1 b) (option_to_list (first_if_equal (q i) m.1 (lookup_name e.0 ms))) ++ walk_skips (λ n b a. g n a b) m ms es (subst (λ n. After n es) same r.0) i)
         ∙ (λ i. (g (same i) e.1 m.1 ++ []) ++ others ms s.1 i)
-        ∙ sym (λ i. flat_map (λ a. g m.0 a m.1) (option_to_list (first_if_equal ((nat_list_cmp_total.antisymm m.0 e.0 ∙ ap ordering_reverse q) i) e.1 (lookup m.0 es))) ++ walk_skips g e es ms (subst (λ n. After n ms) (sym same) s.0) i)
+        ∙ sym (λ i. flat_map (λ a. g m.0 a m.1) (option_to_list (first_if_equal ((nat_list_cmp_total.antisymm m.0 e.0 ∙ ap ordering_reverse q) i) e.1 (lookup_name m.0 es))) ++ walk_skips g e es ms (subst (λ n. After n ms) (sym same) s.0) i)
     one_more m ms s h Greater q =
         let back : order m.0 e.0 ≡ Less = nat_list_cmp_total.antisymm m.0 e.0 ∙ ap ordering_reverse q in
         walk_skips (λ n b a. g n a b) m ms (e ∷ es) (back, after_after m.0 e.0 back es r.0)
@@ -99,12 +98,12 @@ module _ {A B C : Type 0} (g : Name → A → B → List C) where
 -- ---- the names of a map, and those of an object
 
 module _ {X : Type 0} where
-  after_each : (n : Name) (ks : List Name) (xs : List X) → ((j : ℕ) → j < length ks → slice_cmp nat_cmp n (get_or ks j []) ≡ Less) → After n (beside ks xs)
+  after_each : (n : Name) (ks : List Name) (xs : List X) → ((j : ℕ) → j < length ks → slice_cmp nat_cmp n (get_or ks j []) ≡ Less) → After n (zip ks xs)
   after_each n [] xs h = tt
   after_each n (k ∷ ks) [] h = tt
   after_each n (k ∷ ks) (x ∷ xs) h = (h 0 (omega arith), after_each n ks xs (λ j l. h (suc j) (omega arith)))
 
-  pub ascending_rising : (ks : List Name) (xs : List X) → Ascend ks → Rising (beside ks xs)
+  pub ascending_rising : (ks : List Name) (xs : List X) → Ascend ks → Rising (zip ks xs)
   ascending_rising [] xs h = tt
   ascending_rising (k ∷ ks) [] h = tt
   ascending_rising (k ∷ ks) (x ∷ xs) h = (after_each k ks xs (λ j l. h 0 (suc j) (omega arith) (omega arith)), ascending_rising ks xs (λ i j l g. h (suc i) (suc j) (omega arith) (omega arith)))

@@ -3,10 +3,10 @@ use Rattle.std.proofs.Common.{◌≡◌, ℕ, ◌+◌, ◌<◌, ◌==◌, nat_lt
 use Rattle.std.proofs.lemmas.List.Sums.{sum_by-cons}
 use Rattle.std.proofs.lemmas.Bool.Decides.{nat_tests}
 use Rattle.serde_json.specs.Data.{Data}
-use Rattle.olk_spec.specs.Names.{Path, put_if, those}
+use Rattle.olk_spec.specs.Names.{Path, put_if, filter_once}
 use Rattle.olk_spec.specs.Faults.{Context, fault, OneOfNotValid, OneOfMultipleValid}
 use Rattle.olk_spec.specs.Reports.{fault_if}
-use Rattle.olk_tree.specs.Answers.{one_of_report}
+use Rattle.olk_tree.specs.OneOf.{one_of_report}
 
 module _ (n : ℕ) where
   pub several_is_some : 1 < n → (n == 0) ≡ false
@@ -28,10 +28,10 @@ module _ (n : ℕ) where
     pub several_accept : 1 < n → one_of_report n c v P Q ≡ fault (OneOfMultipleValid c) v Q P ∷ []
     several_accept l = λ i. fault_if (several_is_some l i) (OneOfNotValid c) v P Q ++ fault_if (several_is_more l i) (OneOfMultipleValid c) v P Q
 
-pub count_those : {X : Type 0} (p : X → Bool) (xs : List X) → count_by p xs ≡ length (those p xs)
+pub count_those : {X : Type 0} (p : X → Bool) (xs : List X) → count_by p xs ≡ length (filter_once p xs)
 count_those p [] = refl
 count_those p (x ∷ xs) = sum_by-cons (λ y. cond (p y) 1 0) x xs ∙ ap (λ n. cond (p x) 1 0 + n) (count_those p xs) ∙ by (p x)
   where
-    by : (b : Bool) → cond b 1 0 + length (those p xs) ≡ length (put_if b x (those p xs))
+    by : (b : Bool) → cond b 1 0 + length (filter_once p xs) ≡ length (put_if b x (filter_once p xs))
     by true = omega arith
     by false = omega arith

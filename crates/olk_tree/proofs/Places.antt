@@ -91,15 +91,15 @@ module _ (ks : List Name) (n : Name) where
   abbrev test : Name → Bool
   test k = bytes_eq k n
 
+  not_found : position_or_len test ks ≡ length ks → None ≡ position test ks
+  not_found e = grind (arith, nat_tests)
+
   pub parts_none : {p : ℕ} → Parts ks n p → None ≡ position test ks
-  parts_none {p} h = none (position_or_len_is test ks (length ks) [] (omega arith) (λ k l. by k l (nat_lt k p) refl) (λ l. absurd (omega arith)))
+  parts_none {p} h = not_found (position_or_len_is test ks (length ks) [] (omega arith) (λ k l. by k l (nat_lt k p) refl) (λ l. absurd (omega arith)))
     where
       by : (k : ℕ) → k < length ks → (b : Bool) → nat_lt k p ≡ b → bytes_eq (get_or ks k []) n ≡ false
       by k l true e = differs (get_or ks k []) n Less (h.below k (grind (arith, nat_tests)) l) refl
       by k l false e = differs (get_or ks k []) n Greater (h.above k (grind (arith, nat_tests)) l) refl
-
-      none : position_or_len test ks ≡ length ks → None ≡ position test ks
-      none e = grind (arith, nat_tests)
 
   pub missed_more : {from k : ℕ} → IsMissed ks from k n → false ≡ bytes_eq (get_or ks k []) n → IsMissed ks from (k + 1) n
   missed_more {from} {k} h e i f l j = by (nat_lt i k) refl
@@ -110,14 +110,11 @@ module _ (ks : List Name) (n : Name) where
 
   -- missed before a place and from there on
   pub missed_none : {k end : ℕ} → length ks ≤ end → IsMissed ks 0 k n → IsMissed ks k end n → None ≡ position test ks
-  missed_none {k} {end} le before behind = none (position_or_len_is test ks (length ks) [] (omega arith) (λ i l. sym (by i l (nat_lt i k) refl)) (λ l. absurd (omega arith)))
+  missed_none {k} {end} le before behind = not_found (position_or_len_is test ks (length ks) [] (omega arith) (λ i l. sym (by i l (nat_lt i k) refl)) (λ l. absurd (omega arith)))
     where
       by : (i : ℕ) → i < length ks → (b : Bool) → nat_lt i k ≡ b → false ≡ bytes_eq (get_or ks i []) n
       by i l true f = before i (omega arith) (grind (arith, nat_tests)) l
       by i l false f = behind i (grind (arith, nat_tests)) (omega arith) l
-
-      none : position_or_len test ks ≡ length ks → None ≡ position test ks
-      none e = grind (arith, nat_tests)
 
   module _ (asc : Ascend ks) where
     pub stands_some : {p : ℕ} → StandsAt ks n p → Some p ≡ position test ks

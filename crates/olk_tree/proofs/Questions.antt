@@ -1,25 +1,21 @@
 -- Questions one after another.
-use Rattle.std.proofs.Common.{◌≡◌, Bool, true, false, ◌&&◌, List, [], ◌∷◌, ◌++◌, refl, sym, ap, ◌∙◌, arith}
+use Rattle.std.proofs.Common.{◌≡◌, Bool, true, List, [], ◌∷◌, ◌++◌, refl, sym, ap, ◌∙◌, arith}
 use Rattle.std.specs.List.{flat_map}
-use Rattle.olk_spec.proofs.Truth.{and_true}
+use Rattle.std.proofs.Math.Bool.{and_assoc, and-true}
 use Rattle.olk_tree.specs.Questions.{Question, always, both, every}
 
 -- two questions are one if they answer alike
 pub alike : {m n : Question} → ((u : Bool) → m.accepts u ≡ n.accepts u) → ((u : Bool) → m.asks u ≡ n.asks u) → m ≡ n
 alike p q = λ i. record { accepts = λ u. p u i; asks = λ u. q u i }
 
-and_around : (x y z : Bool) → ((x && y) && z) ≡ (x && (y && z))
-and_around true y z = refl
-and_around false y z = refl
-
 pub both_first : (m : Question) → both (always true) m ≡ m
 both_first m = alike (λ u. refl) (λ u. omega arith)
 
 pub both_last : (m : Question) → both m (always true) ≡ m
-both_last m = alike (λ u. and_true (m.accepts u)) (λ u. omega arith)
+both_last m = alike (λ u. and-true (m.accepts u)) (λ u. omega arith)
 
 pub both_around : (m n p : Question) → both (both m n) p ≡ both m (both n p)
-both_around m n p = alike (λ u. and_around (m.accepts u) (n.accepts u) (p.accepts u)) (λ u. omega arith)
+both_around m n p = alike (λ u. and_assoc (m.accepts u) (n.accepts u) (p.accepts u)) (λ u. omega arith)
 
 module _ {X : Type 0} where
   pub every-nothing : (xs : List X) → every (λ x. always true) xs ≡ always true

@@ -5,9 +5,10 @@ use Rattle.std.proofs.Common.{refl, sym, ap, ◌∙◌}
 use Rattle.std.proofs.lemmas.Grind.{flat_map-append}
 use Rattle.std.proofs.lemmas.List.{append_assoc, append-nil, map-append}
 use Rattle.std.proofs.lemmas.List.Folds.{list_all-append, list_all-map}
+use Rattle.olk_members.proofs.PropertyNames.{false_is_no_object}
 use mathlib.Core.Bool.{true≢false}
 use Rattle.serde_json.specs.Data.{Data, null, boolean, number, string, array, object, Members}
-use Rattle.olk_spec.specs.Names.{Name, Path, ◌//◌, those, put_if, is_empty}
+use Rattle.olk_spec.specs.Names.{Name, Path, ◌//◌, filter_once, put_if, is_empty}
 use Rattle.olk_spec.specs.World.{World}
 use Rattle.olk_spec.specs.Faults.{Fault, ◌∼◌, like_through}
 use Rattle.olk_spec.specs.Schemas.{is_object, is_truth, members}
@@ -23,7 +24,7 @@ use Rattle.olk_tree.specs.Additional.{Sides, nodes_asked, is_unexpected, unexpec
 use Rattle.olk_tree.specs.AdditionalAgreement.{member_accepted}
 use Rattle.olk_tree.specs.Sides.{RestAnswers, SidesStand}
 use Rattle.olk_tree.proofs.Answering.{all_accept, all_find, all_show, same_marks}
-use Rattle.olk_tree.proofs.AskedSchemas.{false_is_no_object, is_rest, is_no_rest, nodes_matching_answer, is_additional_other, declared_schemas, matching_schemas, rest_schemas, asked_answer}
+use Rattle.olk_tree.proofs.AskedSchemas.{is_rest, is_no_rest, nodes_matching_answer, is_additional_other, declared_schemas, matching_schemas, rest_schemas, asked_answer}
 
 false_refuses : (W : World) (u : Bool) (d v : Data) → is_truth false d ≡ true → accepts W u d v ≡ false
 unfolding meaning
@@ -84,20 +85,20 @@ module _ {K R N : Type 0} (o : Kit K R) (m : N → Data → Question) (r : N →
   -- ---- which members are others
 
   pub restricted_names : (v : Data) (Q : Path) → additional_names o.answers S u v Q ≡ other_names o.world u fs es v
-  restricted_names v Q = λ i. map (λ x. x.0) (those (λ x. is_additional_other o m r t h x.0 u i) (members v))
+  restricted_names v Q = λ i. map (λ x. x.0) (filter_once (λ x. is_additional_other o m r t h x.0 u i) (members v))
 
   pub restricted_matches : (v : Data) (Q : Path) → matched_names o.answers S u v Q ≡ names_matched o.world u fs es v
   restricted_matches v Q = λ i. flat_map (λ x. (same_marks o m r t x.0 _ _ (nodes_matching_answer o m r t h x.0 u) ∙ map-map (λ s. x.0) (λ e. x.0) (λ e. (e.1, P // codes "patternProperties" // e.0)) (λ e. refl) (matching_at o.world u es x.0)) i) (members v)
 
   -- where the rest is false, none of them is expected
   pub restricted_unexpected : (v : Data) → unexpected o.answers S u v ≡ cond (is_truth false d) (other_members o.world u fs es v) []
-  restricted_unexpected v = (λ i. those (λ x. is_no_rest o m r t h i && is_additional_other o m r t h x.0 u i) (members v)) ∙ by (is_truth false d)
+  restricted_unexpected v = (λ i. filter_once (λ x. is_no_rest o m r t h i && is_additional_other o m r t h x.0 u i) (members v)) ∙ by (is_truth false d)
     where
-      none : (xs : List (Name × Data)) → those (λ x. false) xs ≡ []
+      none : (xs : List (Name × Data)) → filter_once (λ x. false) xs ≡ []
       none [] = refl
       none (x ∷ xs) = none xs
 
-      by : (b : Bool) → those (λ x. b && is_other o.world u fs es x.0) (members v) ≡ cond b (other_members o.world u fs es v) []
+      by : (b : Bool) → filter_once (λ x. b && is_other o.world u fs es x.0) (members v) ≡ cond b (other_members o.world u fs es v) []
       by true = refl
       by false = none (members v)
 

@@ -1,8 +1,9 @@
 -- `additionalProperties` over nodes that stand for schemas asks no more matchers than the raw data asks for.
-use Rattle.std.specs.Prelude.{◌≡◌, ◌≤◌, ℕ, ◌+◌, Bool, true, false, not, cond, ◌&&◌, ◌||◌, List, [], ◌∷◌, ◌++◌, map, length, codes, sum_by, count_by, Option, Some, None, is_none, is_some, option_map, option_to_list}
+use Rattle.std.specs.Prelude.{◌≡◌, ◌≤◌, ℕ, ◌+◌, Bool, true, false, not, cond, ◌&&◌, ◌||◌, List, [], ◌∷◌, ◌++◌, length, codes, sum_by, count_by, Option, Some, None, is_none, is_some, option_map, option_to_list}
 use Rattle.std.specs.Option.{option_map_or}
 use Rattle.std.proofs.Common.{refl, sym, ap, ◌∙◌, arith}
 use Rattle.std.proofs.lemmas.List.Sums.{sum_by-cons, sum_by-append}
+use Rattle.olk_members.proofs.Objects.{sum_by-map}
 use Rattle.serde_json.specs.Data.{Data}
 use Rattle.olk_spec.specs.Names.{Name, Text, Path, ◌//◌, put_if, is_empty}
 use Rattle.olk_spec.specs.World.{World, Says, matched, unmatched, unfinished, is_unfinished}
@@ -22,10 +23,6 @@ use Rattle.olk_tree.specs.AdditionalAgreement.{match_is_said}
 use Rattle.olk_tree.specs.Sides.{PatternsAnswer, SidesStand}
 use Rattle.olk_tree.proofs.Answering.{more_within, all_ask}
 use Rattle.olk_tree.proofs.AskedSchemas.{Recalls, recalls_here, recalls_later, recalls, is_declared, declared_schemas, matching_schemas, rest_schemas, asked_answer}
-
-sum_by-map : {X Y : Type 0} (f : X → ℕ) (h : Y → X) (ys : List Y) → sum_by f (map h ys) ≡ sum_by (λ y. f (h y)) ys
-sum_by-map f h [] = refl
-sum_by-map f h (y ∷ ys) = sum_by-cons f (h y) (map h ys) ∙ ap (λ n. f (h y) + n) (sum_by-map f h ys) ∙ sym (sum_by-cons (λ z. f (h z)) y ys)
 
 -- ---- what a member asks is what its nodes ask, and the matchers that are asked for its name
 

@@ -4,7 +4,7 @@ use Rattle.std.specs.declared.alloc.Global.{Global}
 use Rattle.std.specs.List.{list_all, flat_map}
 use Rattle.std.proofs.Common.{refl, sym, ap, ◌∙◌, arith}
 use Rattle.serde_json.specs.Data.{Data, Members}
-use Rattle.olk_spec.specs.Names.{Name, Path, ◌//◌, lookup, is_empty}
+use Rattle.olk_spec.specs.Names.{Name, Path, ◌//◌, lookup_name, is_empty}
 use Rattle.olk_spec.specs.World.{Says}
 use Rattle.olk_spec.specs.Vocabulary.{additional_properties, keyword_named}
 use Rattle.olk_spec.specs.Faults.{Fault, ◌∼◌, like_through}
@@ -25,8 +25,8 @@ use Rattle.olk_members.specs.Plans.{plan_of, head, claims}
 use Rattle.olk_members.proofs.Restriction.{claims_accept, claims_accept_each, claims_find, claims_find_each, claims_ask, claims_ask_each}
 use Rattle.olk_members.proofs.RestrictionShown.{additional_shows}
 use Rattle.olk_tree.specs.Questions.{Question}
-use Rattle.olk_tree.specs.Additional.{Sides, repeats, means_in_turn, named_means, report_in_turn, named_report, additional_tree}
-use Rattle.olk_tree.specs.Answers.{sides_of, has_neighbours, required_text, required_place, lacks, validator_means, validator_report, validator_tree}
+use Rattle.olk_tree.specs.Additional.{Sides, repeats, means_in_turn, named_means, report_in_turn, named_report, additional_tree, sides_of, has_neighbours, required_text, required_place, lacks}
+use Rattle.olk_tree.specs.Validators.{answers_of, validator_means, validator_report, validator_tree}
 use Rattle.olk_tree.specs.Shown.{missing_trees}
 use Rattle.olk_tree.specs.Sides.{RestrictionStands}
 use Rattle.olk_tree.specs.declared.additional_properties.AdditionalProperties.{AdditionalProperties}
@@ -65,14 +65,14 @@ module _ {K R N : Type 0} (o : Kit K R) (m : N → Data → Question) (r : N →
   abbrev reported : Bool → Data → Path → Bool → Bool → Path → List Fault
   reported u v Q b named A = cond b (named_report o.answers (sides_of k.value) u v Q named A r) (report_in_turn o.answers (sides_of k.value) u v Q named A r)
 
-  module _ (distinct : has_repeat (map (λ x. x.0) (listed ms)) ≡ false) (there : lookup (codes "additionalProperties") (listed ms) ≡ Some d) (restricted : is_restricted ms ≡ true) where
+  module _ (distinct : has_repeat (map (λ x. x.0) (listed ms)) ≡ false) (there : lookup_name (codes "additionalProperties") (listed ms) ≡ Some d) (restricted : is_restricted ms ≡ true) where
     -- what the validator stands for
     abbrev pub claimed : List (Name × Data)
     claimed = claims (head (plan_of ms)) (listed ms) (codes "additionalProperties", d)
 
     -- it accepts where each of these accepts
     pub restriction_accepts : (u : Bool) (v : Data) → (validator_means o m (keyword.AdditionalProperties k) v).accepts u ≡ list_all (λ x. member_accepts o.world ms x (keyword_named o.world x.0) u v) claimed
-    unfolding validator_means
+    unfolding answers_of
     restriction_accepts u v = by (repeats v) refl
       where
         by : (b : Bool) → repeats v ≡ b → ((cond b (named_means o.answers o.costs m (sides_of k.value) v) (means_in_turn o.answers o.costs m (sides_of k.value) v)).accepts u && is_empty (missing (required_text k.value.required) v)) ≡ list_all (λ x. member_accepts o.world ms x (keyword_named o.world x.0) u v) claimed
@@ -81,7 +81,7 @@ module _ {K R N : Type 0} (o : Kit K R) (m : N → Data → Question) (r : N →
 
     -- it asks at most what these ask
     pub restriction_asks : (u : Bool) (v : Data) → (validator_means o m (keyword.AdditionalProperties k) v).asks u ≤ sum_by (λ x. member_asks o.world ms x (keyword_named o.world x.0) u v) claimed
-    unfolding validator_means
+    unfolding answers_of
     restriction_asks u v = by (repeats v) refl
       where
         by : (b : Bool) → repeats v ≡ b → (cond b (named_means o.answers o.costs m (sides_of k.value) v) (means_in_turn o.answers o.costs m (sides_of k.value) v)).asks u + 0 ≤ sum_by (λ x. member_asks o.world ms x (keyword_named o.world x.0) u v) claimed
@@ -96,7 +96,7 @@ module _ {K R N : Type 0} (o : Kit K R) (m : N → Data → Question) (r : N →
 
     -- it finds what these find
     pub restriction_finds : (u : Bool) (v : Data) (Q : Path) → validator_report o m r u (keyword.AdditionalProperties k) v Q ∼ flat_map (λ x. member_report o.world ms x (keyword_named o.world x.0) u v P Q) claimed
-    unfolding validator_report
+    unfolding answers_of
     restriction_finds u v Q = like_through (∼_append (∼_same placed) (∼_same (required_found v Q))) (by (repeats v) refl)
       where
         placed : reported u v Q (repeats v) (has_neighbours k.value) k.value.location ≡ reported u v Q (repeats v) (has_beside ms) (P // codes "additionalProperties")
@@ -108,7 +108,7 @@ module _ {K R N : Type 0} (o : Kit K R) (m : N → Data → Question) (r : N →
 
     -- and it shows the child of `additionalProperties`
     pub restriction_shows : (u : Bool) (v : Data) (Q : Path) → fuses_one (read_members (meaning_step o.world u) ms) ≡ is_some (fused_name ms) → validator_tree o m t u (keyword.AdditionalProperties k) v Q ∷ [] ≡ member_child o.world ms (codes "additionalProperties", d) additional_properties u v P Q
-    unfolding validator_tree
+    unfolding answers_of
     restriction_shows u v Q fused = ap (λ x. x ∷ [])
         (patterns_placed o.answers (sides_of k.value) u v Q (is_some k.value.properties) (is_some k.value.patterns) k.value.location (λ n. t n u) (missing_trees (required_text k.value.required) v (required_place k.value.required) Q) h.patterns_place
         ∙ restricted_shows o m r t ms h.sides u v Q (is_some k.value.properties) (is_some k.value.patterns) k.value.location (P // codes "patternProperties") (missing_trees (required_text k.value.required) v (required_place k.value.required) Q) h.declares h.has_patterns h.place refl (required_shown v Q))

@@ -1,18 +1,24 @@
 -- What is asked of a member beside `additionalProperties`: what is declared at its name, what stands at the patterns that match it, and where there is neither the rest.
-use Rattle.std.specs.Prelude.{ℕ, ◌+◌, Bool, true, false, not, ◌&&◌, ◌||◌, cond, List, [], ◌∷◌, ◌++◌, map, Option, Some, None, is_none, is_some, option_map, option_to_list}
-use Rattle.std.specs.List.{flat_map, enumerate_from}
+use Rattle.std.specs.Prelude.{ℕ, ◌+◌, Bool, true, false, not, ◌&&◌, ◌||◌, cond, List, [], ◌∷◌, ◌++◌, map, Option, Some, None, is_none, is_some, option_map, option_to_list, string_bytes, Vec}
+use Rattle.std.specs.declared.alloc.Global.{Global}
+use Rattle.std.specs.List.{flat_map, enumerate_from, zip}
 use Rattle.serde_json.specs.Data.{Data}
-use Rattle.olk_spec.specs.Names.{Name, Path, ◌//◌, lookup, those, put_if, is_empty}
+use Rattle.olk_spec.specs.Names.{Name, Text, Path, ◌//◌, lookup_name, filter_once, put_if, is_empty}
 use Rattle.olk_spec.specs.World.{Says, matched, unmatched, unfinished, reads_as}
 use Rattle.olk_spec.specs.Faults.{Fault}
 use Rattle.olk_spec.specs.Schemas.{is_object, members, at}
 use Rattle.olk_spec.specs.Malformed.{has_repeat}
-use Rattle.olk_spec.specs.Reports.{unexpected_faults}
+use Rattle.olk_spec.specs.Reports.{required_faults, unexpected_faults}
 use Rattle.olk_spec.specs.Tree.{Tree, node, no_tree, described, result}
 use Rattle.olk_base.specs.Compiled.{pattern_answers, pattern_costs}
 use Rattle.olk_base.specs.declared.pattern.CompiledPattern.{CompiledPattern}
 use Rattle.olk_tree.specs.Questions.{Question, always, said_to, both, conditional, every}
 use Rattle.olk_tree.specs.Firsts.{or_else, first_of}
+use Rattle.olk_tree.specs.Maps.{names_in, nodes_in}
+use Rattle.olk_tree.specs.Tables.{table_says}
+use Rattle.olk_tree.specs.declared.additional_properties.AdditionalProperties.{AdditionalProperties}
+use Rattle.olk_tree.specs.declared.additional_properties.RequiredName.{RequiredName}
+use Rattle.olk_tree.specs.declared.properties_map.PropertiesMap.{PropertiesMap}
 
 -- names with their places and nodes, patterns with their nodes, what is known of these at the places, and the node for the rest; with none the rest is not expected
 pub record Sides (R N : Type 0) : Type 0 where
@@ -24,6 +30,36 @@ pub record Sides (R N : Type 0) : Type 0 where
 -- what stands beside names, with its place
 abbrev pub placed : {N : Type 0} → List N → List (ℕ × N)
 placed ns = enumerate_from 0 ns
+
+-- ---- what the validator holds
+
+-- each declared name with its place and its node, where there is a map
+abbrev pub mapped_places : {N : Type 0} → Option (PropertiesMap N) → List (Name × (ℕ × N))
+mapped_places None = []
+mapped_places (Some m) = zip (names_in m) (placed (nodes_in m))
+
+abbrev pub patterns_in : {R N : Type 0} → Option (Vec (CompiledPattern R × N) Global) → List (CompiledPattern R × N)
+patterns_in None = []
+patterns_in (Some v) = v.items
+
+abbrev pub sides_of : {R N : Type 0} → AdditionalProperties R N → Sides R N
+sides_of k = record { declared = mapped_places k.properties; patterns = patterns_in k.patterns; known = table_says k.table; rest = k.rest }
+
+-- `properties` or `patternProperties` is present beside it
+abbrev pub has_neighbours : {R N : Type 0} → AdditionalProperties R N → Bool
+has_neighbours k = is_some k.properties || is_some k.patterns
+
+-- the name that `required` wants beside `additionalProperties`, if it is held there
+abbrev pub required_text : Option RequiredName → List Text
+required_text None = []
+required_text (Some r) = string_bytes r.name ∷ []
+
+abbrev pub required_place : Option RequiredName → Path
+required_place None = []
+required_place (Some r) = r.location
+
+abbrev pub lacks : Option RequiredName → Data → Path → List Fault
+lacks r v Q = required_faults (required_text r) v (required_place r) Q
 
 -- what is known, and where nothing is, what is said
 abbrev pub known_or : Says → Says → Says
@@ -53,7 +89,7 @@ module _ {R N : Type 0} (answers : R → Name → Says) (S : Sides R N) (d : Opt
   matching_from u i (e ∷ es) = put_if (is_matched_by u i e.0) e.1 (matching_from u (i + 1) es)
 
 abbrev pub at_name : {R N : Type 0} → Sides R N → Name → Option (ℕ × N)
-at_name S n = lookup n S.declared
+at_name S n = lookup_name n S.declared
 
 module _ {R N : Type 0} (answers : R → Name → Says) (S : Sides R N) where
   module _ (u : Bool) where
@@ -77,7 +113,7 @@ module _ {R N : Type 0} (answers : R → Name → Says) (S : Sides R N) where
     is_unexpected n = is_none S.rest && is_additional n
 
     abbrev pub unexpected : Data → List (Name × Data)
-    unexpected v = those (λ x. is_unexpected x.0) (members v)
+    unexpected v = filter_once (λ x. is_unexpected x.0) (members v)
 
 -- is a name repeated among the members: no object of this library has such members, but the definitions speak of them, and there the first member of a declared name counts
 abbrev pub repeats : Data → Bool
@@ -171,7 +207,7 @@ module _ {R N : Type 0} (answers : R → Name → Says) (S : Sides R N) (u : Boo
 
   -- the members that nothing else speaks of
   abbrev pub additional_names : List Name
-  additional_names = map (λ x. x.0) (those (λ x. is_additional answers S u x.0) (members v))
+  additional_names = map (λ x. x.0) (filter_once (λ x. is_additional answers S u x.0) (members v))
 
   -- a name for each match, member by member
   abbrev pub matched_names : List Name

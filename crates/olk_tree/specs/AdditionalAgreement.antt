@@ -2,8 +2,11 @@
 use Rattle.std.specs.Prelude.{◌≡◌, ℕ, ◌+◌, Bool, true, false, not, ◌&&◌, cond, List, [], ◌∷◌, ◌++◌, Option, Some, None, is_none, is_some, option_map, option_to_list}
 use Rattle.std.specs.List.{flat_map}
 use Rattle.std.proofs.Common.{refl, sym, ap, ◌∙◌}
+use Rattle.std.proofs.Math.Bool.{and_assoc}
+use Rattle.olk_spec.proofs.Tree_verdicts.{none_missing}
+use Rattle.olk_spec.proofs.Walks.{and_middle}
 use Rattle.serde_json.specs.Data.{Data}
-use Rattle.olk_spec.specs.Names.{Name, Path, ◌//◌, those, put_if, is_empty}
+use Rattle.olk_spec.specs.Names.{Name, Path, ◌//◌, filter_once, put_if, is_empty}
 use Rattle.olk_spec.specs.World.{Says, matched, unmatched, unfinished, reads_as}
 use Rattle.olk_spec.specs.Faults.{Fault}
 use Rattle.olk_spec.specs.Schemas.{members, at}
@@ -14,14 +17,9 @@ use Rattle.olk_base.specs.Compiled.{pattern_answers, pattern_costs}
 use Rattle.olk_base.specs.declared.pattern.CompiledPattern.{CompiledPattern}
 use Rattle.olk_tree.specs.Questions.{Question, always, said_to, both, every}
 use Rattle.olk_tree.specs.Firsts.{or_else, first_of}
-use Rattle.olk_tree.specs.Additional.{Sides, known_at, known_or, known_or_asked, is_matched_by, matching_from, at_name, others_asked, nodes_asked, is_unexpected, repeats, rest_means, patterns_mean_from, member_means_at, member_means, means_in_turn, others_mean, named_means, additional_means, member_report, others_report, report_in_turn, named_report, additional_report, member_first, others_first, first_in_turn, named_first, additional_first}
-use Rattle.olk_tree.specs.Answers.{sides_of, has_neighbours, required_text, required_place, lacks}
-use Rattle.olk_tree.specs.Emptiness.{each_agrees, both_agree, required_agrees, or_else_agrees, first_of_agrees, and_between}
+use Rattle.olk_tree.specs.Additional.{Sides, known_at, known_or, known_or_asked, is_matched_by, matching_from, at_name, others_asked, nodes_asked, is_unexpected, repeats, rest_means, patterns_mean_from, member_means_at, member_means, means_in_turn, others_mean, named_means, additional_means, member_report, others_report, report_in_turn, named_report, additional_report, member_first, others_first, first_in_turn, named_first, additional_first, sides_of, has_neighbours, required_text, required_place, lacks}
+use Rattle.olk_tree.specs.Emptiness.{each_agrees, both_agree, or_else_agrees, first_of_agrees}
 use Rattle.olk_tree.specs.declared.additional_properties.AdditionalProperties.{AdditionalProperties}
-
-and_assoc : (a b c : Bool) → (a && (b && c)) ≡ ((a && b) && c)
-and_assoc true b c = refl
-and_assoc false b c = refl
 
 and_true : (a : Bool) → a ≡ ((a && true) && true)
 and_true true = refl
@@ -60,13 +58,13 @@ module _ {R N : Type 0} (answers : R → Name → Says) (costs : R → Bool) (m 
             → (patterns_mean_from answers costs m S d n x spoken (i + 1) es).accepts u ≡ all_accept (not spoken && is_empty (matching_from answers S d n u (i + 1) es)) (matching_from answers S d n u (i + 1) es)
             → cond b ((m e.1 x).accepts u && (patterns_mean_from answers costs m S d n x true (i + 1) es).accepts u) ((patterns_mean_from answers costs m S d n x spoken (i + 1) es).accepts u)
             ≡ all_accept (not spoken && is_empty (put_if b e.1 (matching_from answers S d n u (i + 1) es))) (put_if b e.1 (matching_from answers S d n u (i + 1) es))
-        by true true h g = ap (λ a. (m e.1 x).accepts u && a) h ∙ and_assoc ((m e.1 x).accepts u) ((every (λ e. m e x) (asked_last false (matching_from answers S d n u (i + 1) es))).accepts u) (not (is_none S.rest && false))
-        by false true h g = ap (λ a. (m e.1 x).accepts u && a) h ∙ and_assoc ((m e.1 x).accepts u) ((every (λ e. m e x) (asked_last false (matching_from answers S d n u (i + 1) es))).accepts u) (not (is_none S.rest && false))
+        by true true h g = ap (λ a. (m e.1 x).accepts u && a) h ∙ sym (and_assoc ((m e.1 x).accepts u) ((every (λ e. m e x) (asked_last false (matching_from answers S d n u (i + 1) es))).accepts u) (not (is_none S.rest && false)))
+        by false true h g = ap (λ a. (m e.1 x).accepts u && a) h ∙ sym (and_assoc ((m e.1 x).accepts u) ((every (λ e. m e x) (asked_last false (matching_from answers S d n u (i + 1) es))).accepts u) (not (is_none S.rest && false)))
         by spoken false h g = g
 
   member_accepts_at : (d : Option (ℕ × N)) → (member_means_at answers costs m S d n x).accepts u ≡ ((every (λ e. m e x) (option_to_list (option_map (λ f. f.1) d) ++ asked_last (is_none d && is_empty (matching_from answers S d n u 0 S.patterns)) (matching_from answers S d n u 0 S.patterns))).accepts u && not (is_none S.rest && (is_none d && is_empty (matching_from answers S d n u 0 S.patterns))))
   member_accepts_at None = patterns_accept None false 0 S.patterns
-  member_accepts_at (Some f) = ap (λ a. (m f.1 x).accepts u && a) (patterns_accept (Some f) true 0 S.patterns) ∙ and_assoc ((m f.1 x).accepts u) ((every (λ e. m e x) (asked_last false (matching_from answers S (Some f) n u 0 S.patterns))).accepts u) (not (is_none S.rest && false))
+  member_accepts_at (Some f) = ap (λ a. (m f.1 x).accepts u && a) (patterns_accept (Some f) true 0 S.patterns) ∙ sym (and_assoc ((m f.1 x).accepts u) ((every (λ e. m e x) (asked_last false (matching_from answers S (Some f) n u 0 S.patterns))).accepts u) (not (is_none S.rest && false)))
 
   -- a member is accepted where each node accepts that is asked, and where it is expected
   pub others_accepted : (others_mean answers costs m S n x).accepts u ≡ ((every (λ e. m e x) (others_asked answers S u n)).accepts u && not (is_unexpected answers S u n))
@@ -89,13 +87,13 @@ module _ (named : Bool) (v : Data) (P Q : Path) where
   unexpected_if false x = refl
 
 -- what is found at each of a list and the list of those that pass a test are empty where each accepts
-each_and_none : {X : Type 0} (f : X → List Fault) (p : X → Bool) (q : X → Question) (u : Bool) → ((x : X) → (is_empty (f x) && not (p x)) ≡ (q x).accepts u) → (xs : List X) → (is_empty (flat_map f xs) && is_empty (those p xs)) ≡ (every q xs).accepts u
+each_and_none : {X : Type 0} (f : X → List Fault) (p : X → Bool) (q : X → Question) (u : Bool) → ((x : X) → (is_empty (f x) && not (p x)) ≡ (q x).accepts u) → (xs : List X) → (is_empty (flat_map f xs) && is_empty (filter_once p xs)) ≡ (every q xs).accepts u
 each_and_none f p q u h [] = refl
 each_and_none f p q u h (x ∷ xs) = (λ i. is_empty-append (f x) (flat_map f xs) i && none_more (p x) i)
-    ∙ and_between (is_empty (f x)) (is_empty (flat_map f xs)) (not (p x)) (is_empty (those p xs))
+    ∙ and_middle (is_empty (f x)) (is_empty (flat_map f xs)) (not (p x)) (is_empty (filter_once p xs))
     ∙ (λ i. h x i && each_and_none f p q u h xs i)
   where
-    none_more : (b : Bool) → is_empty (put_if b x (those p xs)) ≡ (not b && is_empty (those p xs))
+    none_more : (b : Bool) → is_empty (put_if b x (filter_once p xs)) ≡ (not b && is_empty (filter_once p xs))
     none_more true = refl
     none_more false = refl
 
@@ -108,18 +106,18 @@ module _ {R N : Type 0} (answers : R → Name → Says) (costs : R → Bool) (m 
     member_agrees x = (λ i. asked_agree x i && not (is_unexpected answers S u x.0)) ∙ sym (member_accepted answers costs m S x.0 x.1 u)
 
     report_in_turn_agrees : (named : Bool) (P : Path) → is_empty (report_in_turn answers S u v Q named P r) ≡ (means_in_turn answers costs m S v).accepts u
-    report_in_turn_agrees named P = is_empty-append (flat_map (member_report answers S u v Q r) (members v)) (unexpected_faults named (those (λ x. is_unexpected answers S u x.0) (members v)) v P Q)
-        ∙ (λ i. is_empty (flat_map (member_report answers S u v Q r) (members v)) && unexpected_agree named v P Q (those (λ x. is_unexpected answers S u x.0) (members v)) i)
+    report_in_turn_agrees named P = is_empty-append (flat_map (member_report answers S u v Q r) (members v)) (unexpected_faults named (filter_once (λ x. is_unexpected answers S u x.0) (members v)) v P Q)
+        ∙ (λ i. is_empty (flat_map (member_report answers S u v Q r) (members v)) && unexpected_agree named v P Q (filter_once (λ x. is_unexpected answers S u x.0) (members v)) i)
         ∙ each_and_none (member_report answers S u v Q r) (λ x. is_unexpected answers S u x.0) (λ x. member_means answers costs m S x.0 x.1) u member_agrees (members v)
 
     others_agree : (x : Name × Data) → (is_empty (others_report answers S u v Q r x) && not (is_unexpected answers S u x.0)) ≡ (others_mean answers costs m S x.0 x.1).accepts u
     others_agree x = (λ i. each_agrees (λ e. r e u x.1 (Q // x.0)) (λ e. m e x.1) u (λ e. h e x.1 (Q // x.0)) (others_asked answers S u x.0) i && not (is_unexpected answers S u x.0)) ∙ sym (others_accepted answers costs m S x.0 x.1 u)
 
     named_report_agrees : (named : Bool) (P : Path) → is_empty (named_report answers S u v Q named P r) ≡ (named_means answers costs m S v).accepts u
-    named_report_agrees named P = both_agree (flat_map (λ e. flat_map (λ w. r e.1.1 u w (Q // e.0)) (at e.0 v)) S.declared) (flat_map (others_report answers S u v Q r) (members v) ++ unexpected_faults named (those (λ x. is_unexpected answers S u x.0) (members v)) v P Q)
+    named_report_agrees named P = both_agree (flat_map (λ e. flat_map (λ w. r e.1.1 u w (Q // e.0)) (at e.0 v)) S.declared) (flat_map (others_report answers S u v Q r) (members v) ++ unexpected_faults named (filter_once (λ x. is_unexpected answers S u x.0) (members v)) v P Q)
         (each_agrees (λ e. flat_map (λ w. r e.1.1 u w (Q // e.0)) (at e.0 v)) (λ e. every (m e.1.1) (at e.0 v)) u (λ e. each_agrees (λ w. r e.1.1 u w (Q // e.0)) (m e.1.1) u (λ w. h e.1.1 w (Q // e.0)) (at e.0 v)) S.declared)
-        (is_empty-append (flat_map (others_report answers S u v Q r) (members v)) (unexpected_faults named (those (λ x. is_unexpected answers S u x.0) (members v)) v P Q)
-        ∙ (λ i. is_empty (flat_map (others_report answers S u v Q r) (members v)) && unexpected_agree named v P Q (those (λ x. is_unexpected answers S u x.0) (members v)) i)
+        (is_empty-append (flat_map (others_report answers S u v Q r) (members v)) (unexpected_faults named (filter_once (λ x. is_unexpected answers S u x.0) (members v)) v P Q)
+        ∙ (λ i. is_empty (flat_map (others_report answers S u v Q r) (members v)) && unexpected_agree named v P Q (filter_once (λ x. is_unexpected answers S u x.0) (members v)) i)
         ∙ each_and_none (others_report answers S u v Q r) (λ x. is_unexpected answers S u x.0) (λ x. others_mean answers costs m S x.0 x.1) u others_agree (members v))
 
     pub members_agree : (named : Bool) (P : Path) → is_empty (additional_report answers S u v Q named P r) ≡ (additional_means answers costs m S v).accepts u
@@ -159,7 +157,7 @@ module _ {R N : Type 0} (answers : R → Name → Says) (costs : R → Bool) (m 
 
   module _ (r : N → Bool → Data → Path → List Fault) (h : (n : N) (v : Data) (Q : Path) → is_empty (r n u v Q) ≡ (m n v).accepts u) (k : AdditionalProperties R N) (v : Data) (Q : Path) where
     pub additional_agrees : is_empty (additional_report answers (sides_of k) u v Q (has_neighbours k) k.location r ++ lacks k.required v Q) ≡ (both (additional_means answers costs m (sides_of k) v) (always (is_empty (missing (required_text k.required) v)))).accepts u
-    additional_agrees = both_agree (additional_report answers (sides_of k) u v Q (has_neighbours k) k.location r) (lacks k.required v Q) (members_agree r h (sides_of k) v Q (has_neighbours k) k.location) (required_agrees (required_text k.required) v (required_place k.required) Q)
+    additional_agrees = both_agree (additional_report answers (sides_of k) u v Q (has_neighbours k) k.location r) (lacks k.required v Q) (members_agree r h (sides_of k) v Q (has_neighbours k) k.location) (none_missing (required_text k.required) v (required_place k.required) Q)
 
     pub additional_first_agrees : is_empty (or_else (additional_first answers (sides_of k) u v Q (has_neighbours k) k.location r) (lacks k.required v Q)) ≡ (both (additional_means answers costs m (sides_of k) v) (always (is_empty (missing (required_text k.required) v)))).accepts u
-    additional_first_agrees = or_else_agrees (additional_first answers (sides_of k) u v Q (has_neighbours k) k.location r) (lacks k.required v Q) (members_first_agree r h (sides_of k) v Q (has_neighbours k) k.location) (required_agrees (required_text k.required) v (required_place k.required) Q)
+    additional_first_agrees = or_else_agrees (additional_first answers (sides_of k) u v Q (has_neighbours k) k.location r) (lacks k.required v Q) (members_first_agree r h (sides_of k) v Q (has_neighbours k) k.location) (none_missing (required_text k.required) v (required_place k.required) Q)

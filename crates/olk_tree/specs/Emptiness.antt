@@ -1,16 +1,12 @@
 -- What is found is empty exactly where a question is accepted: of lists that stand one after the other, of each of a list, of the first of several steps.
-use Rattle.std.specs.Prelude.{◌≡◌, Bool, true, false, ◌&&◌, List, [], ◌∷◌, ◌++◌}
+use Rattle.std.specs.Prelude.{◌≡◌, Bool, ◌&&◌, List, [], ◌∷◌, ◌++◌}
 use Rattle.std.specs.List.{flat_map}
 use Rattle.std.proofs.Common.{refl, ◌∙◌}
-use Rattle.serde_json.specs.Data.{Data}
-use Rattle.olk_spec.specs.Names.{Name, Path, is_empty}
-use Rattle.olk_spec.specs.Faults.{Fault, fault, Required}
-use Rattle.olk_spec.specs.Accepts.{missing}
-use Rattle.olk_spec.specs.Reports.{required_faults}
-use Rattle.olk_spec.proofs.Verdicts.{is_empty-append, is_empty-map}
+use Rattle.olk_spec.specs.Names.{is_empty}
+use Rattle.olk_spec.specs.Faults.{Fault}
+use Rattle.olk_spec.proofs.Verdicts.{is_empty-append}
 use Rattle.olk_tree.specs.Questions.{Question, every}
-use Rattle.olk_tree.specs.Firsts.{or_else, first_of}
-use Rattle.olk_tree.specs.Answers.{head_of}
+use Rattle.olk_tree.specs.Firsts.{or_else, first_of, head_of}
 
 pub each_agrees : {X : Type 0} (f : X → List Fault) (q : X → Question) (u : Bool) → ((x : X) → is_empty (f x) ≡ (q x).accepts u) → (xs : List X) → is_empty (flat_map f xs) ≡ (every q xs).accepts u
 each_agrees f q u h [] = refl
@@ -18,9 +14,6 @@ each_agrees f q u h (x ∷ xs) = is_empty-append (f x) (flat_map f xs) ∙ (λ i
 
 pub both_agree : (fs gs : List Fault) {a b : Bool} → is_empty fs ≡ a → is_empty gs ≡ b → is_empty (fs ++ gs) ≡ (a && b)
 both_agree fs gs e f = is_empty-append fs gs ∙ (λ i. e i && f i)
-
-pub required_agrees : (ns : List Name) (v : Data) (P Q : Path) → is_empty (required_faults ns v P Q) ≡ is_empty (missing ns v)
-required_agrees ns v P Q = is_empty-map (λ n. fault (Required n) v Q P) (missing ns v)
 
 pub or_else_agrees : (fs gs : List Fault) {a b : Bool} → is_empty fs ≡ a → is_empty gs ≡ b → is_empty (or_else fs gs) ≡ (a && b)
 or_else_agrees fs gs e f = split fs ∙ (λ i. e i && f i)
@@ -36,12 +29,3 @@ head_agrees (f ∷ fs) e = e
 pub first_of_agrees : {X : Type 0} (f : X → List Fault) (q : X → Question) (u : Bool) → ((x : X) → is_empty (f x) ≡ (q x).accepts u) → (xs : List X) → is_empty (first_of f xs) ≡ (every q xs).accepts u
 first_of_agrees f q u h [] = refl
 first_of_agrees f q u h (x ∷ xs) = or_else_agrees (f x) (first_of f xs) (h x) (first_of_agrees f q u h xs)
-
-pub and_between : (a b c d : Bool) → ((a && b) && (c && d)) ≡ ((a && c) && (b && d))
-and_between false b c d = refl
-and_between true false c d = by c
-  where
-    by : (c : Bool) → false ≡ (c && false)
-    by true = refl
-    by false = refl
-and_between true true c d = refl

@@ -1,30 +1,15 @@
 -- What a place of a schema answers, and which schema it stands for.
-use Rattle.std.specs.Prelude.{◌≡◌, ◌≤◌, Bool, true, List}
+use Rattle.std.specs.Prelude.{◌≡◌, ◌≤◌, Bool, true}
 use Rattle.serde_json.specs.Data.{Data}
-use Rattle.olk_spec.specs.Names.{Path, is_empty}
-use Rattle.olk_spec.specs.Faults.{Fault, ◌∼◌}
-use Rattle.olk_spec.specs.Tree.{Tree}
+use Rattle.olk_spec.specs.Names.{Path}
+use Rattle.olk_spec.specs.Faults.{◌∼◌}
 use Rattle.olk_spec.specs.Meaning.{accepts, asks, report, tree}
 use Rattle.olk_base.specs.Kit.{Kit}
-use Rattle.olk_tree.specs.Questions.{Question}
-use Rattle.olk_tree.specs.Answers.{validator_means, validator_report, validator_first, validator_tree, body_means, body_report, body_first, body_tree}
-use Rattle.olk_tree.specs.Formed.{validator_formed, body_formed}
+use Rattle.olk_tree.specs.Answers.{Answers}
+use Rattle.olk_tree.specs.Validators.{validator_means, validator_report, validator_first, validator_tree, validator_formed}
+use Rattle.olk_tree.specs.Bodies.{body_means, body_report, body_first, body_tree, body_formed}
 use Rattle.olk_tree.specs.declared.node.KeywordOver.{KeywordOver}
 use Rattle.olk_tree.specs.declared.node.Body.{Body}
-
--- whether it accepts a value, the faults that it finds, the tree that it shows, and whether all that it holds has its form
-pub record Answers : Type 0 where
-  pub means : Data → Question
-  pub report : Bool → Data → Path → List Fault
-  -- none exactly where it accepts
-  pub agrees : (u : Bool) (v : Data) (Q : Path) → is_empty (report u v Q) ≡ (means v).accepts u
-  -- those of the first step that refuses, of which `validate` tells one
-  pub first : Bool → Data → Path → List Fault
-  -- none exactly where it accepts
-  pub first_agrees : (u : Bool) (v : Data) (Q : Path) → is_empty (first u v Q) ≡ (means v).accepts u
-  pub tree : Bool → Data → Path → Tree
-  pub location : Path
-  pub formed : Bool
 
 module _ {K R N : Type 0} (o : Kit K R) (answers : N → Answers) where
   -- the answers of the node n are those of the schema S at P, for every value and path and for either answer for unfinished matches; and it and all nodes inside have the form that is chosen for what they hold

@@ -3,7 +3,7 @@ use Rattle.std.specs.Prelude.{Bool, true, false, not, cond, ◌==◌, nat_lt, co
 use Rattle.std.specs.List.{flat_map}
 use Rattle.serde_json.specs.Data.{Data, string}
 use Rattle.olk_spec.specs.World.{Says}
-use Rattle.olk_spec.specs.Names.{Name, Path, ◌//◌, lookup, those, put_if, is_empty, is_among}
+use Rattle.olk_spec.specs.Names.{Name, Path, ◌//◌, lookup_name, filter_once, put_if, is_empty, is_among}
 use Rattle.olk_spec.specs.Schemas.{is_object, members}
 use Rattle.olk_spec.specs.Accepts.{missing}
 use Rattle.olk_spec.specs.Reports.{required_faults}
@@ -22,11 +22,11 @@ several_accept = (codes "oneOf", codes "more than one subschema succeeded", fals
 module _ {N : Type 0} (t : N → Data → Path → Tree) (v : Data) (Q : Path) where
   -- the nodes at the members' names, member by member
   abbrev pub member_trees : List (Name × N) → List Tree
-  member_trees es = flat_map (λ m. map (λ n. t n m.1 (Q // m.0)) (option_to_list (lookup m.0 es))) (members v)
+  member_trees es = flat_map (λ m. map (λ n. t n m.1 (Q // m.0)) (option_to_list (lookup_name m.0 es))) (members v)
 
   -- the members that are declared
   abbrev pub met_names : List (Name × N) → List Name
-  met_names es = map (λ m. m.0) (those (λ m. is_among m.0 (map (λ e. e.0) es)) (members v))
+  met_names es = map (λ m. m.0) (filter_once (λ m. is_among m.0 (map (λ e. e.0) es)) (members v))
 
   -- annotated with the names that it met, where the value is an object
   abbrev pub properties_tree : Path → List (Name × N) → List Tree → Tree
@@ -54,13 +54,13 @@ module _ {N : Type 0} (t : N → Data → Path → Tree) (v : Data) (Q : Path) w
 
   -- the accepting branches; where there is none, all branches, invalid
   abbrev pub any_of_tree : (N → Bool) → Path → List N → Tree
-  any_of_tree accepts P ns = cond (is_empty (those accepts ns)) (result P Q None true [] (branch_trees ns)) (plain P Q (branch_trees (those accepts ns)))
+  any_of_tree accepts P ns = cond (is_empty (filter_once accepts ns)) (result P Q None true [] (branch_trees ns)) (plain P Q (branch_trees (filter_once accepts ns)))
 
   -- the accepting branches, with an own error where they are several; where there is none, all branches, invalid
   abbrev pub one_of_tree : (N → Bool) → Path → List N → Tree
   one_of_tree accepts P ns = cond (count_by accepts ns == 0)
       (result P Q None true [] (branch_trees ns))
-      (result P Q None false (put_if (nat_lt 1 (count_by accepts ns)) several_accept []) (branch_trees (those accepts ns)))
+      (result P Q None false (put_if (nat_lt 1 (count_by accepts ns)) several_accept []) (branch_trees (filter_once accepts ns)))
 
   -- `if` beside what is asked where it accepts, or what is asked where it refuses
   abbrev pub if_tree : Bool → Path → N → List N → List N → Tree

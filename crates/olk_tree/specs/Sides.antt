@@ -1,4 +1,4 @@
--- What the nodes and the patterns beside `additionalProperties` stand for.
+-- What the nodes and the patterns zip `additionalProperties` stand for.
 use Rattle.std.specs.Prelude.{◌≡◌, ◌≤◌, ⊤, ℕ, Bool, true, false, List, [], ◌∷◌, map, codes, Option, Some, None, is_some, slice_get}
 use Rattle.serde_json.specs.Data.{Data, Members}
 use Rattle.olk_spec.specs.Names.{Name, Text, Path, ◌//◌}
@@ -13,8 +13,8 @@ use Rattle.olk_base.specs.Compiled.{pattern_answers, pattern_costs}
 use Rattle.olk_base.specs.declared.pattern.CompiledPattern.{CompiledPattern}
 use Rattle.olk_members.specs.AdditionalProperties.{declared_beside, patterns_beside, required_beside, declares_beside, matches_beside}
 use Rattle.olk_tree.specs.Questions.{Question}
-use Rattle.olk_tree.specs.Additional.{Sides, placed}
-use Rattle.olk_tree.specs.Answers.{beside, sides_of, required_text, required_place}
+use Rattle.olk_tree.specs.Additional.{Sides, placed, sides_of, required_text, required_place}
+use Rattle.std.specs.List.{zip}
 use Rattle.olk_tree.specs.declared.additional_properties.AdditionalProperties.{AdditionalProperties}
 
 -- m, r and t are what nodes mean, report and show
@@ -53,7 +53,7 @@ module _ {K R N : Type 0} (o : Kit K R) (m : N → Data → Question) (r : N →
   -- in a schema object at P all stands for the schemas fs, declared under their names, es, under their patterns, and d, the rest
   pub record SidesStand (S : Sides R N) (fs es : List (Name × Data)) (d : Data) (P : Path) : Type 0 where
     pub nodes : List N
-    pub placed_beside : S.declared ≡ beside (map (λ e. e.0) fs) (placed nodes)
+    pub placed_zip : S.declared ≡ zip (map (λ e. e.0) fs) (placed nodes)
     pub declared : EntriesAnswer nodes fs (P // codes "properties")
     pub patterns : PatternsAnswer S.patterns es (P // codes "patternProperties")
     -- what is known at the place of a declared name is what the pattern says of it

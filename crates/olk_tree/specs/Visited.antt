@@ -1,13 +1,12 @@
 -- The members of an object whose names are declared: each with what stands at its name.
 use Rattle.std.specs.Prelude.{◌≡◌, ℕ, Option, MatchOption, cond, map, String, string_bytes, List, [], ◌∷◌, option_to_list}
 use denote.Ref.{Bor}
-use Rattle.std.specs.List.{flat_map}
+use Rattle.std.specs.List.{flat_map, zip}
 use Rattle.serde_json.specs.Data.{Data, object}
 use Rattle.serde_json.specs.View.{view, members_view}
 use Rattle.serde_json.specs.declared.value.Value.{Value}
-use Rattle.olk_spec.specs.Names.{Name, lookup}
+use Rattle.olk_spec.specs.Names.{Name, lookup_name}
 use Rattle.olk_spec.specs.Schemas.{listed}
-use Rattle.olk_tree.specs.Answers.{beside, names_of}
 use Rattle.std.specs.declared.alloc.Global.{Global}
 use Rattle.std.specs.declared.iter.Zip.{Zip}
 use Rattle.std.specs.declared.slice.Iter.{Iter}
@@ -36,16 +35,16 @@ module _ {N : Type 0} where
 
   -- each member looked up among the declared names
   abbrev pub members_declared : List (Name × N) → List (Name × Data) → List (Declared N)
-  members_declared es ms = flat_map (λ m. flat_map (λ n. declared_as m.0 n m.1) (option_to_list (lookup m.0 es))) ms
+  members_declared es ms = flat_map (λ m. flat_map (λ n. declared_as m.0 n m.1) (option_to_list (lookup_name m.0 es))) ms
 
   -- each declared name looked up among the members
   abbrev pub names_met : List (Name × N) → List (Name × Data) → List (Declared N)
-  names_met es ms = flat_map (λ e. flat_map (λ v. declared_as e.0 e.1 v) (option_to_list (lookup e.0 ms))) es
+  names_met es ms = flat_map (λ e. flat_map (λ v. declared_as e.0 e.1 v) (option_to_list (lookup_name e.0 ms))) es
 
--- names, and what stands beside them, that are left
+-- names, and what stands zip them, that are left
 abbrev pub pairs_of : {N : Type 0} → Zip (Iter (String Global)) (Iter N) → List (Name × N)
-pairs_of z = beside (map string_bytes z.a.rest.now) z.b.rest.now
+pairs_of z = zip (map string_bytes z.a.rest.now) z.b.rest.now
 
 -- what is left of a walk over the declared members
 abbrev pub left_of : {N : Type 0} → DeclaredMembers N → List (Declared N)
-left_of w = cond w.by_members (members_declared (beside (names_of w.names) w.nodes.now) (listed (members_view w.left))) (names_met (pairs_of w.unasked) (listed (members_view w.members.now.entries)))
+left_of w = cond w.by_members (members_declared (zip w.names.now w.nodes.now) (listed (members_view w.left))) (names_met (pairs_of w.unasked) (listed (members_view w.members.now.entries)))

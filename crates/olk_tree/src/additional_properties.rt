@@ -1,12 +1,10 @@
-//! `additionalProperties`, and what it takes over: what the validator holds, means and reports.
+//! `additionalProperties`, and what it takes over: what the validator holds.
 ghost use Rattle.std.specs.Prelude.{◌≡◌, ℕ, IsTrue, true, false, is_some, option_map};
 ghost use Rattle.std.specs.Option.{option_map_or};
 ghost use Rattle.olk_spec.specs.World.{unmatched};
-ghost use Rattle.olk_tree.specs.Additional.{at_name, known_at};
-ghost use Rattle.olk_tree.specs.Answers.{sides_of};
+ghost use Rattle.olk_tree.specs.Additional.{at_name, has_neighbours, known_at, sides_of};
 ghost use Rattle.olk_tree.specs.Tables.{known_says, is_blank_at};
 
-use crate::means::{Means, Reports};
 use crate::pattern_table::PatternTable;
 use crate::properties_map::PropertiesMap;
 use crate::validators_map::{PropertiesValidatorsMap, placed_from};
@@ -41,39 +39,14 @@ pub struct RequiredName {
     pub location: Location,
 }
 
-impl<R: RegexEngine, N: Means> Means for AdditionalProperties<R, N> {
-    ghost use Rattle.olk_spec.specs.Names.{is_empty};
-    ghost use Rattle.olk_spec.specs.Accepts.{missing};
-    ghost use Rattle.olk_tree.specs.Questions.{always, both};
-    ghost use Rattle.olk_tree.specs.Additional.{additional_means};
-    ghost use Rattle.olk_tree.specs.Answers.{sides_of, required_text};
-
-    ghost means = { λ k v. both (additional_means R.answers R.costs N.means (sides_of k) v)
-        (always (is_empty (missing (required_text k.required) v))) };
-}
-
-impl<R: RegexEngine, N: Reports> Reports for AdditionalProperties<R, N> {
-    ghost use Rattle.std.specs.Prelude.{◌++◌};
-    ghost use Rattle.olk_tree.specs.Additional.{additional_report, additional_first};
-    ghost use Rattle.olk_tree.specs.Answers.{sides_of, has_neighbours, lacks, or_else};
-    ghost use Rattle.olk_tree.specs.AdditionalAgreement.{additional_agrees, additional_first_agrees};
-
-    ghost report = { λ k u v Q.
-        additional_report R.answers (sides_of k) u v Q (has_neighbours k) k.location N.report
-        ++ lacks k.required v Q };
-
-    ghost first = { λ k u v Q. or_else
-        (additional_first R.answers (sides_of k) u v Q (has_neighbours k) k.location N.first)
-        (lacks k.required v Q) };
-
-    ghost agrees = { λ k u v Q. additional_agrees R.answers R.costs N.means u N.report
-        (λ n w S. N.agrees n u w S) k v Q };
-
-    ghost first_agrees = { λ k u v Q. additional_first_agrees R.answers R.costs N.means u N.first
-        (λ n w S. N.first_agrees n u w S) k v Q };
-}
-
 impl<R, N> AdditionalProperties<R, N> {
+    /// Whether `properties` or `patternProperties` is present beside it.
+    pub fn has_neighbours(&self) -> bool
+        ensures { result ≡ has_neighbours self.now }
+    {
+        self.properties.is_some() || self.patterns.is_some()
+    }
+
     /// What is declared at the name, with its place, looked for at `hint` first, and where to look
     /// first for a later name.
     ///
@@ -84,8 +57,7 @@ impl<R, N> AdditionalProperties<R, N> {
             ≡ at_name (sides_of self.now) name.now }
     {
         match &self.properties {
-            Some(PropertiesMap::Small(map)) => placed_from(map.names(), map.nodes(), hint, name),
-            Some(PropertiesMap::Big(map)) => placed_from(map.names(), map.nodes(), hint, name),
+            Some(map) => placed_from(map.names(), map.nodes(), hint, name),
             None => (hint, None),
         }
     }

@@ -2,10 +2,11 @@
 ghost use Rattle.std.specs.Prelude.{◌≡◌};
 ghost use Rattle.serde_json.specs.View.{members_view};
 ghost use Rattle.olk_spec.specs.Schemas.{listed};
-ghost use Rattle.olk_tree.specs.Answers.{beside, names_of};
+ghost use Rattle.std.specs.List.{zip};
 ghost use Rattle.olk_tree.specs.Visited.{members_declared, names_met, Yields, left_of, pairs_of};
 
-use crate::validators_map::{DeclaredNames, node_from};
+use crate::map::SortedNames;
+use crate::validators_map::node_from;
 use olk_members::member;
 use serde_json::{Map, Value};
 use std::collections::btree_map::Iter;
@@ -19,7 +20,7 @@ use std::slice;
 /// members, and otherwise each member among the declared names, from the place of the last one on.
 #[derive(Drop)]
 pub struct DeclaredMembers<'a, N> {
-    names: DeclaredNames<'a>,
+    names: &'a SortedNames,
     nodes: &'a [N],
     members: &'a Map<String, Value>,
     // whether the members are walked; otherwise the declared names are
@@ -53,24 +54,23 @@ impl<'a, N> Iterator for DeclaredMembers<'a, N> {
 impl<'a, N> DeclaredMembers<'a, N> {
     /// The members whose names are declared, each with the node that stands beside its name.
     pub fn of(
-        names: DeclaredNames<'a>,
+        names: &'a SortedNames,
         nodes: &'a [N],
         members: &'a Map<String, Value>,
     ) -> DeclaredMembers<'a, N>
         ensures by_members { left_of result ≡ members_declared
-            (beside (names_of names.entry) nodes.now) (listed (members_view members.now.entries)) }
+            (zip names.now nodes.now) (listed (members_view members.now.entries)) }
         ensures by_names { left_of result ≡ names_met
-            (beside (names_of names.entry) nodes.now) (listed (members_view members.now.entries)) }
+            (zip names.now nodes.now) (listed (members_view members.now.entries)) }
     {
-        let sorted = names.sorted();
         DeclaredMembers {
             names,
             nodes,
             members,
-            by_members: members.len() <= sorted.len(),
+            by_members: members.len() <= names.len(),
             left: members.iter(),
             hint: 0,
-            unasked: sorted.as_slice().iter().zip(nodes),
+            unasked: names.as_slice().iter().zip(nodes),
         }
     }
 }
@@ -78,12 +78,12 @@ impl<'a, N> DeclaredMembers<'a, N> {
 /// The next member whose name is declared.
 #[inline(always)]
 fn next_member<'a, N>(
-    names: DeclaredNames<'a>,
+    names: &'a SortedNames,
     nodes: &'a [N],
     left: &mut Iter<'a, String, Value>,
     hint: &mut usize,
 ) -> Option<(&'a str, &'a N, &'a Value)>
-    ensures { let declared = beside (names_of names.entry) nodes.now in Yields result
+    ensures { let declared = zip names.now nodes.now in Yields result
         (members_declared declared (listed (members_view left.old)))
         (members_declared declared (listed (members_view left.new))) }
 {

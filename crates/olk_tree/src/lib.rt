@@ -7,6 +7,7 @@
 
 pub mod additional_properties;
 pub mod all_of;
+pub mod answers;
 pub mod any_of;
 pub mod big_map;
 pub mod declared;
@@ -27,11 +28,11 @@ pub mod property_names;
 pub mod required;
 pub mod validators_map;
 
-pub use big_map::{BigMap, HashedNames};
+pub use big_map::BigMap;
 pub use map::{SmallMap, SortedNames};
 pub use means::{Means, Reports};
 pub use node::{Body, KeywordOver};
 pub use place::Place;
 pub use properties_map::PropertiesMap;
 pub use required::RequiredValidator;
-pub use validators_map::{DeclaredNames, PropertiesValidatorsMap};
+pub use validators_map::PropertiesValidatorsMap;

@@ -8,7 +8,7 @@ ghost use Rattle.serde_json.specs.View.{members_view};
 ghost use Rattle.olk_spec.specs.Schemas.{listed};
 ghost use Rattle.olk_tree.specs.Ascending.{Ascend, IsAfter, IsMissed, IsPlaceOf};
 
-use crate::validators_map::{DeclaredNames, PropertiesValidatorsMap};
+use crate::validators_map::{PropertiesValidatorsMap, node_from};
 use olk_base::is_same_text;
 use serde_json::{Map, Value};
 use std::alloc::{AllocError, Global};
@@ -33,7 +33,7 @@ impl Model for SortedNames {
 }
 
 /// So many names are compared, before the rest is bisected.
-pub const NEAR: usize = 4;
+const NEAR: usize = 4;
 
 // So many names are never bisected: comparing each for equality takes less, since most differ in
 // their lengths.
@@ -99,16 +99,6 @@ impl SortedNames {
         place < names.len() && is_same_text(names[place].as_str(), name)
     }
 
-    /// At which place the name stands, which is told where it is one of the `NEAR` places from
-    /// `hint` on. At another place the name may be missed.
-    #[inline(always)]
-    pub fn find_among_next(&self, hint: usize, name: &str) -> Option<usize>
-        ensures { MatchOption result (IsMissed self.now hint (hint + NEAR) name.now)
-            (λ p. Some p ≡ position (λ k. bytes_eq k name.now) self.now) }
-    {
-        find_near(&self.names, hint, name)
-    }
-
     /// At which place the name stands, looked for at `hint` first, and where to look first for a
     /// later name.
     ///
@@ -119,12 +109,11 @@ impl SortedNames {
     pub fn find_from(&self, hint: usize, name: &str) -> (usize, Option<usize>)
         ensures { result.1 ≡ position (λ k. bytes_eq k name.now) self.now }
     {
-        let names = self.names.as_slice();
-        if hint < names.len() && is_same_text(names[hint].as_str(), name) {
-            return (hint + 1, Some(hint));
+        if self.stands_at(hint, name) {
+            return (hint.saturating_add(1), Some(hint));
         }
-        match self.find_about(hint, name) {
-            Ok(place) => (place + 1, Some(place)),
+        match self.find_apart(hint, name) {
+            Ok(place) => (place.saturating_add(1), Some(place)),
             Err(next) => (next, None),
         }
     }
@@ -132,7 +121,7 @@ impl SortedNames {
     /// What `find_from` tells where the name at `hint` is another: its place, or else where to look
     /// first for a later name.
     #[inline(never)]
-    fn find_about(&self, hint: usize, name: &str) -> Result<usize, usize>
+    pub(crate) fn find_apart(&self, hint: usize, name: &str) -> Result<usize, usize>
         ensures { result_ok result ≡ position (λ k. bytes_eq k name.now) self.now }
     {
         let names = self.names.as_slice();
@@ -146,7 +135,7 @@ impl SortedNames {
     }
 }
 
-/// What `find_about` tells of many names: the next few are compared, and then the rest is bisected.
+/// What `find_apart` tells of many names: the next few are compared, and then the rest is bisected.
 #[inline(never)]
 fn find_among_many(names: &[String], hint: usize, name: &str) -> Result<usize, usize>
     requires { Ascend (map string_bytes names.now) }
@@ -281,7 +270,7 @@ fn starts_before(one: &str, other: &str) -> bool
     }
 }
 
-/// What `find_about` tells where no name from `hint` on is the one that is looked for: the last one
+/// What `find_apart` tells where no name from `hint` on is the one that is looked for: the last one
 /// before is compared first.
 fn find_before(names: &[String], hint: usize, name: &str) -> Result<usize, usize>
     requires ordered { Ascend (map string_bytes names.now) }
@@ -324,8 +313,8 @@ impl<N> PropertiesValidatorsMap<N> for SmallMap<N> {
 
     ghost nodes = { λ m. m.nodes.items };
 
-    fn names(&self) -> DeclaredNames<'_> {
-        DeclaredNames::Sorted(&self.names)
+    fn names(&self) -> &SortedNames {
+        &self.names
     }
 
     fn nodes(&self) -> &[N] {
@@ -335,12 +324,6 @@ impl<N> PropertiesValidatorsMap<N> for SmallMap<N> {
     /// As it is given, but inlined into walks.
     #[inline(always)]
     fn validator_from(&self, hint: usize, name: &str) -> (usize, Option<&N>) {
-        if self.names.stands_at(hint, name) {
-            return (hint.saturating_add(1), self.nodes.get(hint));
-        }
-        match self.names.find_about(hint, name) {
-            Ok(place) => (place.saturating_add(1), self.nodes.get(place)),
-            Err(next) => (next, None),
-        }
+        node_from(&self.names, &self.nodes, hint, name)
     }
 }

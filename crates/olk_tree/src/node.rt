@@ -4,7 +4,6 @@ use crate::all_of::{AllOf, SingleValueAllOf};
 use crate::any_of::{AnyOf, SingleAnyOf};
 use crate::dependencies::Dependencies;
 use crate::if_::{IfElse, IfThen, IfThenElse};
-use crate::means::{Means, Reports};
 use crate::not::Not;
 use crate::one_of::{OneOf, SingleOneOf};
 use crate::pattern_properties::{PatternProperties, SingleValuePatternProperties};
@@ -62,30 +61,6 @@ pub enum KeywordOver<K, R, N> {
     Leaf(Location, K),
 }
 
-impl<K: Leaf, R: RegexEngine, N: Means> Means for KeywordOver<K, R, N> {
-    ghost use Rattle.olk_base.specs.Kit.{kit};
-    ghost use Rattle.olk_tree.specs.Answers.{validator_means};
-
-    ghost means = { validator_means (kit K.Leaf R.RegexEngine) N.means };
-}
-
-impl<K: Leaf, R: RegexEngine, N: Reports> Reports for KeywordOver<K, R, N> {
-    ghost use Rattle.olk_base.specs.Kit.{kit};
-    ghost use Rattle.olk_tree.specs.Answers.{validator_report, validator_first};
-    ghost use Rattle.olk_tree.specs.Agreement.{validator_agrees, validator_first_agrees};
-
-    ghost report = { λ k u. validator_report (kit K.Leaf R.RegexEngine) N.means N.report u k };
-
-    ghost first = { λ k u.
-        validator_first (kit K.Leaf R.RegexEngine) N.means N.report u N.first k };
-
-    ghost agrees = { λ k u v Q. validator_agrees (kit K.Leaf R.RegexEngine) N.means N.report u
-        (λ n w S. N.agrees n u w S) k v Q };
-
-    ghost first_agrees = { λ k u v Q. validator_first_agrees (kit K.Leaf R.RegexEngine)
-        N.means N.report N.first u (λ n w S. N.first_agrees n u w S) k v Q };
-}
-
 /// What stands at a place: true, false, keywords, or a list of names that an object is to have.
 #[derive(Drop)]
 pub enum Body<W> {
@@ -97,10 +72,4 @@ pub enum Body<W> {
     Keywords(Vec<W>),
     /// A list of names that an object is to have.
     RequiredNames(RequiredValidator),
-}
-
-impl<W: Means> Means for Body<W> {
-    ghost use Rattle.olk_tree.specs.Answers.{body_means};
-
-    ghost means = { body_means W.means };
 }

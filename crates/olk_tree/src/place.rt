@@ -6,7 +6,8 @@ use olk_paths::Location;
 /// A place of a schema, as building knows it: it answers as what stands there does.
 pub trait Place<K: Leaf, R: RegexEngine>: Drop {
     ghost use Rattle.olk_base.specs.Kit.{kit};
-    ghost use Rattle.olk_tree.specs.Places.{Answers, AnswersBy};
+    ghost use Rattle.olk_tree.specs.Answers.{Answers};
+    ghost use Rattle.olk_tree.specs.Places.{AnswersBy};
 
     // what it answers
     ghost answers: { Self → Answers };

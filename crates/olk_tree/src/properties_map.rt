@@ -1,9 +1,9 @@
 //! A map of few names, or of many.
 use crate::big_map::BigMap;
-use crate::map::SmallMap;
-use crate::validators_map::{DeclaredNames, PropertiesValidatorsMap};
+use crate::map::{SmallMap, SortedNames};
+use crate::validators_map::PropertiesValidatorsMap;
 
-/// A map of few names, which are found by bisection, or of many, which are found by their hash.
+/// A map of few names, or of many.
 #[derive(Drop)]
 pub enum PropertiesMap<N> {
     /// A map of few names.
@@ -13,13 +13,13 @@ pub enum PropertiesMap<N> {
 }
 
 impl<N> PropertiesValidatorsMap<N> for PropertiesMap<N> {
-    ghost use Rattle.olk_tree.specs.Answers.{names_in, nodes_in};
+    ghost use Rattle.olk_tree.specs.Maps.{names_in, nodes_in};
 
     ghost names = { names_in };
 
     ghost nodes = { nodes_in };
 
-    fn names(&self) -> DeclaredNames<'_> {
+    fn names(&self) -> &SortedNames {
         match self {
             PropertiesMap::Small(map) => map.names(),
             PropertiesMap::Big(map) => map.names(),

@@ -1,62 +1,15 @@
 //! What finds the subschemas that are declared for names.
-ghost use Rattle.std.specs.Prelude.{◌≡◌, IfSome, bytes_eq, option_copied, option_map};
+ghost use Rattle.std.specs.Prelude.{◌≡◌, IfSome, option_copied, option_map};
 ghost use Rattle.olk_tree.specs.Additional.{placed};
-ghost use Rattle.std.specs.List.{position, slice_get};
+ghost use Rattle.std.specs.List.{slice_get, zip};
 ghost use Rattle.serde_json.specs.View.{members_view};
-ghost use Rattle.olk_spec.specs.Names.{lookup};
+ghost use Rattle.olk_spec.specs.Names.{lookup_name};
 ghost use Rattle.olk_spec.specs.Schemas.{listed};
-ghost use Rattle.olk_tree.specs.Answers.{beside, names_of};
 ghost use Rattle.olk_tree.specs.Visited.{left_of, members_declared, names_met};
 
-use crate::big_map::HashedNames;
 use crate::declared::DeclaredMembers;
 use crate::map::SortedNames;
 use serde_json::{Map, Value};
-
-/// Names, and how one is found among them.
-#[derive(Clone, Copy)]
-pub enum DeclaredNames<'a> {
-    /// By bisection.
-    Sorted(&'a SortedNames),
-    /// By its hash.
-    Hashed(&'a HashedNames),
-}
-
-impl<'a> DeclaredNames<'a> {
-    /// The names, in order.
-    pub fn sorted(self) -> &'a SortedNames
-        ensures { result.now ≡ names_of self.entry }
-    {
-        match self {
-            DeclaredNames::Sorted(names) => names,
-            DeclaredNames::Hashed(names) => names.sorted(),
-        }
-    }
-
-    /// At which place the name stands.
-    pub fn find(self, name: &str) -> Option<usize>
-        ensures { result ≡ position (λ k. bytes_eq k name.now) (names_of self.entry) }
-    {
-        match self {
-            DeclaredNames::Sorted(names) => names.find(name),
-            DeclaredNames::Hashed(names) => names.find(name),
-        }
-    }
-
-    /// At which place the name stands, looked for at `hint` first, and where to look first for a
-    /// later name.
-    ///
-    /// The place is the same with every hint, so nothing is promised of the next one.
-    #[inline(always)]
-    pub fn find_from(self, hint: usize, name: &str) -> (usize, Option<usize>)
-        ensures { result.1 ≡ position (λ k. bytes_eq k name.now) (names_of self.entry) }
-    {
-        match self {
-            DeclaredNames::Sorted(names) => names.find_from(hint, name),
-            DeclaredNames::Hashed(names) => names.find_from(hint, name),
-        }
-    }
-}
 
 /// A finite map from names to what stands at them.
 ///
@@ -71,8 +24,8 @@ pub trait PropertiesValidatorsMap<N> {
     ghost nodes: { Self → List N };
 
     /// The names.
-    fn names(&self) -> DeclaredNames<'_>
-        ensures { names_of result ≡ names self.now };
+    fn names(&self) -> &SortedNames
+        ensures { result.now ≡ names self.now };
 
     /// What stands at the names, in their order.
     fn nodes(&self) -> &[N]
@@ -81,7 +34,7 @@ pub trait PropertiesValidatorsMap<N> {
     /// What stands at the name.
     fn get_validator(&self, name: &str) -> Option<&N>
         ensures { option_copied result
-            ≡ lookup name.now (beside (names self.now) (nodes self.now)) }
+            ≡ lookup_name name.now (zip (names self.now) (nodes self.now)) }
     {
         match self.names().find(name) {
             Some(place) => self.nodes().get(place),
@@ -93,12 +46,12 @@ pub trait PropertiesValidatorsMap<N> {
     fn get_key_validator(&self, name: &str) -> Option<(&str, &N)>
         ensures key { IfSome result (λ found. found.0.now ≡ name.now) }
         ensures validator { option_map (λ found. found.1.now) result
-            ≡ lookup name.now (beside (names self.now) (nodes self.now)) }
+            ≡ lookup_name name.now (zip (names self.now) (nodes self.now)) }
     {
         let names = self.names();
         let place = names.find(name)?;
         let node = self.nodes().get(place)?;
-        Some((names.sorted().as_slice()[place].as_str(), node))
+        Some((names.as_slice()[place].as_str(), node))
     }
 
     /// What stands at the name, looked for at `hint` first, and where to look first for a later
@@ -108,7 +61,7 @@ pub trait PropertiesValidatorsMap<N> {
     #[inline(always)]
     fn validator_from(&self, hint: usize, name: &str) -> (usize, Option<&N>)
         ensures { option_copied result.1
-            ≡ lookup name.now (beside (names self.now) (nodes self.now)) }
+            ≡ lookup_name name.now (zip (names self.now) (nodes self.now)) }
     {
         node_from(self.names(), self.nodes(), hint, name)
     }
@@ -116,10 +69,10 @@ pub trait PropertiesValidatorsMap<N> {
     /// The members whose names are declared, each with what stands at its name.
     fn declared_members<'a>(&'a self, members: &'a Map<String, Value>) -> DeclaredMembers<'a, N>
         ensures by_members { left_of result
-            ≡ members_declared (beside (names self.now) (nodes self.now))
+            ≡ members_declared (zip (names self.now) (nodes self.now))
             (listed (members_view members.now.entries)) }
         ensures by_names { left_of result
-            ≡ names_met (beside (names self.now) (nodes self.now))
+            ≡ names_met (zip (names self.now) (nodes self.now))
             (listed (members_view members.now.entries)) }
     {
         DeclaredMembers::of(self.names(), self.nodes(), members)
@@ -131,18 +84,20 @@ pub trait PropertiesValidatorsMap<N> {
 /// It is the same with every hint, so nothing is promised of the next one.
 #[inline(always)]
 pub fn node_from<'a, N>(
-    names: DeclaredNames<'a>,
+    names: &'a SortedNames,
     nodes: &'a [N],
     hint: usize,
     name: &str,
 ) -> (usize, Option<&'a N>)
     ensures { option_copied result.1
-        ≡ lookup name.now (beside (names_of names.entry) nodes.now) }
+        ≡ lookup_name name.now (zip names.now nodes.now) }
 {
-    let (next, place) = names.find_from(hint, name);
-    match place {
-        Some(place) => (next, nodes.get(place)),
-        None => (next, None),
+    if names.stands_at(hint, name) {
+        return (hint.saturating_add(1), nodes.get(hint));
+    }
+    match names.find_apart(hint, name) {
+        Ok(place) => (place.saturating_add(1), nodes.get(place)),
+        Err(next) => (next, None),
     }
 }
 
@@ -152,13 +107,13 @@ pub fn node_from<'a, N>(
 /// Both are the same with every hint, so nothing is promised of the next one.
 #[inline(always)]
 pub fn placed_from<'a, N>(
-    names: DeclaredNames<'a>,
+    names: &'a SortedNames,
     nodes: &'a [N],
     hint: usize,
     name: &str,
 ) -> (usize, Option<(usize, &'a N)>)
     ensures { option_map (λ f. (f.0, f.1.now)) result.1
-        ≡ lookup name.now (beside (names_of names.entry) (placed nodes.now)) }
+        ≡ lookup_name name.now (zip names.now (placed nodes.now)) }
 {
     let (next, place) = names.find_from(hint, name);
     match place {

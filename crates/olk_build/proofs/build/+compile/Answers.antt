@@ -54,7 +54,7 @@ pub compile_entries-returns-in_err-node-clause-refused : goal.compile_entries-re
 compile_entries-returns-in_err-node-clause-refused g t c = exit _ _ _ c.from_residual-in_err-node.ensures.1 (λ e q. entry_refused (kit g.L.Leaf.Leaf g.M.Engine.RegexEngine) g.N.Place.answers c.args.place.now (entries_read c.args.passes_arrays (listed (members_view c.args.map.now.entries))) c.args.meter.now (string_bytes c.in-Some.name.now, view c.in-Some.schema.now) (entries_read c.args.passes_arrays (listed (members_view c.loop-name.name-iterator))) (entries_read c.args.passes_arrays (listed (members_view c.next.new.self))) (ap (λ l. entries_read c.args.passes_arrays (listed (members_view l))) c.in-Some.ensures.steps ∙ at_an_entry (string_bytes c.in-Some.name.now, view c.in-Some.schema.now) (listed (members_view c.next.new.self)) c.args.passes_arrays (sym c.is_read.ensures ∙ c.if-is_read.true)) c.loop-name.nodes.items _ _ c.in_ok-location.location (c.in_ok-location.ensures ∙ ap (λ n. c.args.place.now // n) c.as_str.ensures.value) c.loop-name.invariant.so_far e _ q c.in_err-node.ensures.refused)
 
 pub compile_entries-loop-name-preserved-in-Continue-branch-4 : goal.compile_entries-loop-name-preserved-in-Continue-branch-4
-compile_entries-loop-name-preserved-in-Continue-branch-4 g t c = record { so_far = one_more_entry (kit g.L.Leaf.Leaf g.M.Engine.RegexEngine) g.N.Place.answers c.args.place.now (entries_read c.args.passes_arrays (listed (members_view c.args.map.now.entries))) c.args.meter.now (string_bytes c.in-Some.name.now, view c.in-Some.schema.now) (entries_read c.args.passes_arrays (listed (members_view c.loop-name.name-iterator))) (entries_read c.args.passes_arrays (listed (members_view c.next.new.self))) (ap (λ l. entries_read c.args.passes_arrays (listed (members_view l))) c.in-Some.ensures.steps ∙ at_an_entry (string_bytes c.in-Some.name.now, view c.in-Some.schema.now) (listed (members_view c.next.new.self)) c.args.passes_arrays (sym c.is_read.ensures ∙ c.if-is_read.true)) c.loop-name.nodes.items _ _ c.in_ok-location.location (c.in_ok-location.ensures ∙ ap (λ n. c.args.place.now // n) c.as_str.ensures.value) c.loop-name.invariant.so_far c.in_ok-node.node c.in_ok-node.ensures.built _ c.in_ok-append.ensures; next = tt; ends = tt }
+compile_entries-loop-name-preserved-in-Continue-branch-4 g t c = record { so_far = one_more_entry (kit g.L.Leaf.Leaf g.M.Engine.RegexEngine) g.N.Place.answers c.args.place.now (entries_read c.args.passes_arrays (listed (members_view c.args.map.now.entries))) c.args.meter.now (string_bytes c.in-Some.name.now, view c.in-Some.schema.now) (entries_read c.args.passes_arrays (listed (members_view c.loop-name.name-iterator))) (entries_read c.args.passes_arrays (listed (members_view c.next.new.self))) (ap (λ l. entries_read c.args.passes_arrays (listed (members_view l))) c.in-Some.ensures.steps ∙ at_an_entry (string_bytes c.in-Some.name.now, view c.in-Some.schema.now) (listed (members_view c.next.new.self)) c.args.passes_arrays (sym c.is_read.ensures ∙ c.if-is_read.true)) c.loop-name.nodes.items _ _ c.in_ok-location.location (c.in_ok-location.ensures ∙ ap (λ n. c.args.place.now // n) c.as_str.ensures.value) c.loop-name.invariant.so_far c.in_ok-node.node c.in_ok-node.ensures.built _ c.in_ok-append.ensures.items; next = tt; ends = tt }
 
 pub compile_entries-returns-in_err-append-clause-built : goal.compile_entries-returns-in_err-append-clause-built
 compile_entries-returns-in_err-append-clause-built g t c = IfOk-from_err _ _ c.from_residual-in_err-append.ensures.0
@@ -135,7 +135,7 @@ pub compile_branches-loop-i-smaller : goal.compile_branches-loop-i-smaller
 compile_branches-loop-i-smaller g t c = falls _ _ c.loop-i-test.true
 
 pub compile_branches-loop-i-preserved : goal.compile_branches-loop-i-preserved
-compile_branches-loop-i-preserved g t c = one_more_entry (kit g.L.Leaf.Leaf g.M.Engine.RegexEngine) g.N.Place.answers c.args.place.now (numbered (map view c.deref-schema-items.result.now)) c.args.meter.now (decimal c.loop-i.i, view c.schema-item.result) (branches_from c.loop-i.i c.deref-schema-items.result.now) (branches_from (c.loop-i.i + 1) c.deref-schema-items.result.now) (next_branch c.loop-i.i c.deref-schema-items.result.now c.schema-item.result c.loop-i-test.true c.schema-item.is) c.loop-i.nodes.items _ _ c.in_ok-location.location c.in_ok-location.ensures c.loop-i.invariant c.in_ok-node.node c.in_ok-node.ensures.built _ c.in_ok-append.ensures
+compile_branches-loop-i-preserved g t c = one_more_entry (kit g.L.Leaf.Leaf g.M.Engine.RegexEngine) g.N.Place.answers c.args.place.now (numbered (map view c.deref-schema-items.result.now)) c.args.meter.now (decimal c.loop-i.i, view c.schema-item.result) (branches_from c.loop-i.i c.deref-schema-items.result.now) (branches_from (c.loop-i.i + 1) c.deref-schema-items.result.now) (next_branch c.loop-i.i c.deref-schema-items.result.now c.schema-item.result c.loop-i-test.true c.schema-item.is) c.loop-i.nodes.items _ _ c.in_ok-location.location c.in_ok-location.ensures c.loop-i.invariant c.in_ok-node.node c.in_ok-node.ensures.built _ c.in_ok-append.ensures.items
 
 pub compile_branches-returns-clause-built : goal.compile_branches-returns-clause-built
 compile_branches-returns-clause-built g t c = subst (λ all. AreBuilt (kit g.L.Leaf.Leaf g.M.Engine.RegexEngine) g.N.Place.answers c.loop-i.nodes.items all c.args.place.now c.args.meter.now c.loop-i.meter) (ap (λ l. numbered (map view l)) c.deref-schema-items.ensures.value ∙ ap numbered (sym (items_list-view c.args.items.now.items))) (entries_built (kit g.L.Leaf.Leaf g.M.Engine.RegexEngine) g.N.Place.answers c.args.place.now (numbered (map view c.deref-schema-items.result.now)) c.args.meter.now c.loop-i.nodes.items (branches_from c.loop-i.i c.deref-schema-items.result.now) _ (no_branch c.loop-i.i c.deref-schema-items.result.now c.loop-i-test.false) c.loop-i.invariant)
@@ -189,7 +189,7 @@ pub compile_parts-returns-in_err-part-clause-refused : goal.compile_parts-return
 compile_parts-returns-in_err-part-clause-refused g t c = exit _ _ _ c.from_residual-in_err-part.ensures.1 (λ e q. refuses_among (λ (x : Name × Data). member_malformations (world g.L.Leaf.Leaf g.M.Engine.RegexEngine) (members_view c.args.members.now.entries) x (keyword_named (world g.L.Leaf.Leaf g.M.Engine.RegexEngine) x.0) c.args.place.now) (λ (x : Name × Data). member_cost (world g.L.Leaf.Leaf g.M.Engine.RegexEngine) (members_view c.args.members.now.entries) x (keyword_named (world g.L.Leaf.Leaf g.M.Engine.RegexEngine) x.0)) _ _ _ c.loop-name.invariant.done (string_bytes c.in-Some.name.now, view c.in-Some.value.now) (listed (members_view c.next.new.self)) c.loop-name.meter e (ap (λ l. c.loop-name.invariant.done ++ listed (members_view l)) (sym c.in-Some.ensures.steps) ∙ c.loop-name.invariant.rest) c.loop-name.invariant.built.spends (subst (λ x. Refuses ((λ (x : Name × Data). member_malformations (world g.L.Leaf.Leaf g.M.Engine.RegexEngine) (members_view c.args.members.now.entries) x (keyword_named (world g.L.Leaf.Leaf g.M.Engine.RegexEngine) x.0) c.args.place.now) (string_bytes c.in-Some.name.now, view c.in-Some.value.now)) ((λ (x : Name × Data). member_cost (world g.L.Leaf.Leaf g.M.Engine.RegexEngine) (members_view c.args.members.now.entries) x (keyword_named (world g.L.Leaf.Leaf g.M.Engine.RegexEngine) x.0)) (string_bytes c.in-Some.name.now, view c.in-Some.value.now)) c.loop-name.meter c.compile_part.new.meter x) (sym q) ((subst (λ n. RefusesPart (kit g.L.Leaf.Leaf g.M.Engine.RegexEngine) (known c.of-neighbours.result) n (view c.in-Some.value.now) c.in_ok-location.location c.loop-name.meter c.compile_part.new.meter c.in_err-part.field-0.0) c.as_str-in-loop-name.ensures.value c.in_err-part.ensures.refused) (members_view c.args.members.now.entries) c.args.place.now (c.in_ok-location.ensures ∙ ap (λ n. c.args.place.now // n) c.as_str.ensures.value) (known_there (kit g.L.Leaf.Leaf g.M.Engine.RegexEngine) g.N.Place.answers (members_view c.args.members.now.entries) c.args.place.now (known c.of-neighbours.result) c.loop-name.invariant.done (listed (members_view c.next.new.self)) (string_bytes c.in-Some.name.now) (view c.in-Some.value.now) c.of-neighbours.ensures (ap (λ l. c.loop-name.invariant.done ++ listed (members_view l)) (sym c.in-Some.ensures.steps) ∙ c.loop-name.invariant.rest)))))
 
 pub compile_parts-loop-name-preserved : goal.compile_parts-loop-name-preserved
-compile_parts-loop-name-preserved g t c = record { done = c.loop-name.invariant.done ++ (string_bytes c.in-Some.name.now, view c.in-Some.value.now) ∷ []; built = (one_more_part (kit g.L.Leaf.Leaf g.M.Engine.RegexEngine) g.N.Place.answers (members_view c.args.members.now.entries) c.args.place.now c.loop-name.parts.items _ c.loop-name.invariant.done c.in_ok-part.part (known c.of-neighbours.result) (string_bytes c.in-Some.name.now) (view c.in-Some.value.now) c.args.meter.now c.loop-name.meter c.compile_part.new.meter c.in_ok-location.location c.in_ok-append.ensures (c.in_ok-location.ensures ∙ ap (λ n. c.args.place.now // n) c.as_str.ensures.value) c.loop-name.invariant.built (subst (λ n. IsPart (kit g.L.Leaf.Leaf g.M.Engine.RegexEngine) g.N.Place.answers c.in_ok-part.part (known c.of-neighbours.result) n (view c.in-Some.value.now) c.in_ok-location.location c.loop-name.meter c.compile_part.new.meter) c.as_str-in-loop-name.ensures.value c.in_ok-part.ensures.built) (known_there (kit g.L.Leaf.Leaf g.M.Engine.RegexEngine) g.N.Place.answers (members_view c.args.members.now.entries) c.args.place.now (known c.of-neighbours.result) c.loop-name.invariant.done (listed (members_view c.next.new.self)) (string_bytes c.in-Some.name.now) (view c.in-Some.value.now) c.of-neighbours.ensures (ap (λ l. c.loop-name.invariant.done ++ listed (members_view l)) (sym c.in-Some.ensures.steps) ∙ c.loop-name.invariant.rest))); rest = (append_assoc c.loop-name.invariant.done ((string_bytes c.in-Some.name.now, view c.in-Some.value.now) ∷ []) (listed (members_view c.next.new.self)) ∙ (ap (λ l. c.loop-name.invariant.done ++ listed (members_view l)) (sym c.in-Some.ensures.steps) ∙ c.loop-name.invariant.rest)); next = tt; ends = tt }
+compile_parts-loop-name-preserved g t c = record { done = c.loop-name.invariant.done ++ (string_bytes c.in-Some.name.now, view c.in-Some.value.now) ∷ []; built = (one_more_part (kit g.L.Leaf.Leaf g.M.Engine.RegexEngine) g.N.Place.answers (members_view c.args.members.now.entries) c.args.place.now c.loop-name.parts.items _ c.loop-name.invariant.done c.in_ok-part.part (known c.of-neighbours.result) (string_bytes c.in-Some.name.now) (view c.in-Some.value.now) c.args.meter.now c.loop-name.meter c.compile_part.new.meter c.in_ok-location.location c.in_ok-append.ensures.items (c.in_ok-location.ensures ∙ ap (λ n. c.args.place.now // n) c.as_str.ensures.value) c.loop-name.invariant.built (subst (λ n. IsPart (kit g.L.Leaf.Leaf g.M.Engine.RegexEngine) g.N.Place.answers c.in_ok-part.part (known c.of-neighbours.result) n (view c.in-Some.value.now) c.in_ok-location.location c.loop-name.meter c.compile_part.new.meter) c.as_str-in-loop-name.ensures.value c.in_ok-part.ensures.built) (known_there (kit g.L.Leaf.Leaf g.M.Engine.RegexEngine) g.N.Place.answers (members_view c.args.members.now.entries) c.args.place.now (known c.of-neighbours.result) c.loop-name.invariant.done (listed (members_view c.next.new.self)) (string_bytes c.in-Some.name.now) (view c.in-Some.value.now) c.of-neighbours.ensures (ap (λ l. c.loop-name.invariant.done ++ listed (members_view l)) (sym c.in-Some.ensures.steps) ∙ c.loop-name.invariant.rest))); rest = (append_assoc c.loop-name.invariant.done ((string_bytes c.in-Some.name.now, view c.in-Some.value.now) ∷ []) (listed (members_view c.next.new.self)) ∙ (ap (λ l. c.loop-name.invariant.done ++ listed (members_view l)) (sym c.in-Some.ensures.steps) ∙ c.loop-name.invariant.rest)); next = tt; ends = tt }
 
 pub compile_parts-returns-in_err-append-clause-built : goal.compile_parts-returns-in_err-append-clause-built
 compile_parts-returns-in_err-append-clause-built g t c = IfOk-from_err _ _ c.from_residual-in_err-append.ensures.0

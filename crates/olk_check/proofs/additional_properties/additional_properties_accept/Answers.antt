@@ -3,8 +3,7 @@ use Rattle.serde_json.specs.View.{members_view}
 use Rattle.olk_base.specs.Nodes.{data_of}
 use Rattle.olk_spec.specs.Names.{is_empty}
 use Rattle.olk_spec.specs.Accepts.{missing}
-use Rattle.olk_tree.specs.Additional.{additional_means}
-use Rattle.olk_tree.specs.Answers.{sides_of, required_text}
+use Rattle.olk_tree.specs.Additional.{additional_means, sides_of, required_text}
 use Rattle.olk_tree.specs.Questions.{always, both}
 use Rattle.olk_tree.proofs.Members_met.{object_is}
 use Rattle.olk_check.specs.Together.{AsksOne}

@@ -1,7 +1,6 @@
 use Rattle.std.proofs.Common.{true, false, subst}
 use Rattle.serde_json.specs.View.{view}
-use Rattle.olk_tree.specs.Additional.{member_means_at}
-use Rattle.olk_tree.specs.Answers.{sides_of}
+use Rattle.olk_tree.specs.Additional.{member_means_at, sides_of}
 use Rattle.olk_tree.proofs.Due.{name_next, no_name_next}
 use Rattle.olk_check.specs.Asks.{Asks}
 use Rattle.olk_check.proofs.Walks.{all_go_on, all_stop, all_end}

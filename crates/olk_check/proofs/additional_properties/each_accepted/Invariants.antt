@@ -1,7 +1,6 @@
 use Rattle.serde_json.specs.View.{members_view}
 use Rattle.olk_spec.specs.Schemas.{listed}
-use Rattle.olk_tree.specs.Additional.{member_means}
-use Rattle.olk_tree.specs.Answers.{sides_of}
+use Rattle.olk_tree.specs.Additional.{member_means, sides_of}
 use Rattle.olk_check.proofs.Walks.{AllLeft}
 use Rattle.olk_check.proofs.additional_properties.each_accepted.Given as goal
 

@@ -1,5 +1,5 @@
 use Rattle.std.proofs.Common.{sym, subst, ◌∙◌}
-use Rattle.olk_tree.specs.Answers.{sides_of}
+use Rattle.olk_tree.specs.Additional.{sides_of}
 use Rattle.olk_tree.specs.Visited.{object_of}
 use Rattle.olk_check.specs.Asks.{Asks}
 use Rattle.olk_check.proofs.Answered.{answered_one}

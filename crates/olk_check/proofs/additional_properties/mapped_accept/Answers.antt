@@ -1,7 +1,8 @@
 use Rattle.std.proofs.Common.{option_copied, sym, subst}
 use Rattle.olk_spec.specs.Names.{is_empty}
 use Rattle.olk_spec.specs.Accepts.{missing}
-use Rattle.olk_tree.specs.Answers.{mapped, required_text}
+use Rattle.olk_tree.specs.Maps.{mapped}
+use Rattle.olk_tree.specs.Additional.{required_text}
 use Rattle.olk_tree.specs.Questions.{always, both}
 use Rattle.olk_tree.specs.Visited.{object_of}
 use Rattle.olk_check.specs.Together.{AsksOne}

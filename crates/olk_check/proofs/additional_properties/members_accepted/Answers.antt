@@ -1,8 +1,7 @@
 use Rattle.std.proofs.Common.{option_copied, sym, ap, subst, ◌∙◌}
 use Rattle.olk_spec.specs.Names.{is_empty}
 use Rattle.olk_spec.specs.Accepts.{missing}
-use Rattle.olk_tree.specs.Additional.{means_in_turn}
-use Rattle.olk_tree.specs.Answers.{sides_of, required_text}
+use Rattle.olk_tree.specs.Additional.{means_in_turn, sides_of, required_text}
 use Rattle.olk_tree.specs.Questions.{always, both}
 use Rattle.olk_tree.specs.Tables.{table_says}
 use Rattle.olk_tree.specs.Visited.{object_of}

@@ -1,6 +1,6 @@
 use Rattle.std.proofs.Common.{ℕ, option_map, arith}
 use Rattle.serde_json.specs.View.{view}
-use Rattle.olk_tree.specs.Answers.{sides_of}
+use Rattle.olk_tree.specs.Additional.{sides_of}
 use Rattle.olk_tree.proofs.Lists.{next_at, past_end}
 use Rattle.olk_check.proofs.Choices.{Spoken, unmatched_goes_on, matched_goes_on, matched_stops, spoken_ends, rest_ends}
 use Rattle.olk_check.proofs.additional_properties.patterns_accept.Goals as goal

@@ -1,6 +1,6 @@
 use Rattle.std.proofs.Common.{ℕ, option_map, is_some}
 use Rattle.serde_json.specs.View.{view}
-use Rattle.olk_tree.specs.Answers.{sides_of}
+use Rattle.olk_tree.specs.Additional.{sides_of}
 use Rattle.olk_check.proofs.Choices.{Leaves, Spoken, patterns_from, patterns_left}
 use Rattle.olk_check.proofs.additional_properties.patterns_accept.Given as goal
 

@@ -1,6 +1,6 @@
 use Rattle.std.proofs.Common.{ℕ, option_map}
 use Rattle.serde_json.specs.View.{view}
-use Rattle.olk_tree.specs.Answers.{sides_of}
+use Rattle.olk_tree.specs.Additional.{sides_of}
 use Rattle.olk_check.proofs.Choices.{Spoken, nothing_matches}
 use Rattle.olk_check.proofs.additional_properties.patterns_of_declared_accept.Goals as goal
 

@@ -1,7 +1,8 @@
 use Rattle.std.proofs.Common.{rules, sym, subst}
 use Rattle.olk_base.specs.Kit.{kit}
 use Rattle.olk_base.specs.Nodes.{data_of}
-use Rattle.olk_tree.specs.Answers.{validator_means, body_means}
+use Rattle.olk_tree.specs.Validators.{validator_means}
+use Rattle.olk_tree.specs.Bodies.{body_means}
 use Rattle.olk_tree.specs.Questions.{every}
 use Rattle.olk_check.specs.Asks.{Asks}
 use Rattle.olk_check.proofs.node.body_accepts.Goals as goal

@@ -1,7 +1,7 @@
 use Rattle.std.proofs.Common.{length}
 use Rattle.olk_base.specs.Kit.{kit}
 use Rattle.olk_base.specs.Nodes.{data_of}
-use Rattle.olk_tree.specs.Answers.{validator_means}
+use Rattle.olk_tree.specs.Validators.{validator_means}
 use Rattle.olk_check.proofs.Walks.{AllLeft}
 use Rattle.olk_check.proofs.node.keywords_accept.Given as goal
 

@@ -2,7 +2,7 @@ use Rattle.std.proofs.Common.{sym, ap, subst, ◌∙◌}
 use Rattle.serde_json.specs.View.{members_view}
 use Rattle.olk_spec.specs.Schemas.{at}
 use Rattle.olk_tree.specs.Questions.{every}
-use Rattle.olk_tree.specs.Answers.{matched_mean}
+use Rattle.olk_tree.specs.PatternProperties.{matched_mean}
 use Rattle.olk_tree.specs.Visited.{object_of}
 use Rattle.olk_tree.proofs.Literals.{exact_mean}
 use Rattle.olk_check.specs.Asks.{Asks}

@@ -1,5 +1,5 @@
 use Rattle.std.proofs.Common.{drop}
-use Rattle.olk_tree.specs.Answers.{matched_mean}
+use Rattle.olk_tree.specs.PatternProperties.{matched_mean}
 use Rattle.olk_tree.specs.Visited.{object_of}
 use Rattle.olk_check.proofs.Walks.{AllLeft}
 use Rattle.olk_check.proofs.pattern_properties.patterns_accept.Given as goal

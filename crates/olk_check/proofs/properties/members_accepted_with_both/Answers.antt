@@ -1,7 +1,8 @@
 use Rattle.std.proofs.Common.{[], ◌∷◌, subst}
 use Rattle.olk_spec.specs.Names.{is_empty}
 use Rattle.olk_spec.specs.Accepts.{missing}
-use Rattle.olk_tree.specs.Answers.{named, properties_mean}
+use Rattle.olk_tree.specs.Maps.{named}
+use Rattle.olk_tree.specs.Properties.{properties_mean}
 use Rattle.olk_tree.specs.Questions.{always, both}
 use Rattle.olk_tree.specs.Visited.{object_of}
 use Rattle.olk_check.specs.Asks.{Asks}

@@ -4,7 +4,8 @@ use Rattle.olk_base.specs.Nodes.{data_of}
 use Rattle.olk_spec.specs.Names.{is_empty}
 use Rattle.olk_spec.specs.Accepts.{missing}
 use Rattle.olk_tree.specs.Questions.{always, both}
-use Rattle.olk_tree.specs.Answers.{named, properties_mean, two_texts}
+use Rattle.olk_tree.specs.Maps.{named, two_texts}
+use Rattle.olk_tree.specs.Properties.{properties_mean}
 use Rattle.olk_tree.proofs.Questions.{both_last}
 use Rattle.olk_tree.proofs.Members_met.{means_nothing, object_is}
 use Rattle.olk_check.specs.Asks.{Asks}

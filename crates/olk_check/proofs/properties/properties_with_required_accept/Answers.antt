@@ -1,6 +1,6 @@
 use Rattle.std.proofs.Common.{true, [], ◌∷◌, sym, subst, ◌∙◌}
 use Rattle.olk_base.specs.Nodes.{data_of}
-use Rattle.olk_tree.specs.Answers.{mapped}
+use Rattle.olk_tree.specs.Maps.{mapped}
 use Rattle.olk_tree.specs.Questions.{always, both}
 use Rattle.olk_tree.proofs.Questions.{both_last}
 use Rattle.olk_tree.proofs.Members_met.{means_nothing}

@@ -1,15 +1,15 @@
 use Rattle.olk_check.proofs.Asked.{only_then}
 use Rattle.std.proofs.Common.{ℕ, option_map, option_to_list, is_none, IfOk, arith, length, rules, ◌≡◌, subst, sym, ◌∙◌}
 use Rattle.std.proofs.lemmas.Result.{IfOk-weaker, IfOk-at_ok}
+use Rattle.olk_spec.proofs.Maps.{is_some-map}
 use Rattle.serde_json.specs.View.{view}
 use Rattle.olk_spec.specs.World.{reads_as}
 use Rattle.olk_base.specs.Compiled.{pattern_answers}
-use Rattle.olk_tree.specs.Additional.{known_or}
-use Rattle.olk_tree.specs.Answers.{sides_of}
+use Rattle.olk_tree.specs.Additional.{known_or, sides_of}
 use Rattle.olk_tree.specs.Tables.{known_says}
 use Rattle.olk_tree.proofs.Lists.{next_at, past_end}
 use Rattle.olk_errors.proofs.Appending.{at_ok, appends_same, rolled_back, then_kept, then_rolled_back}
-use Rattle.olk_errors.proofs.Additional.{Asked, outcome, some_still, expected, left_to_rest, declared_found, pattern_found, spoken_found, rest_found}
+use Rattle.olk_errors.proofs.Additional.{Asked, outcome, expected, left_to_rest, declared_found, pattern_found, spoken_found, rest_found}
 use Rattle.olk_errors.proofs.additional_properties.collect_asked.Goals as goal
 
 pub loop-index-init : goal.loop-index-init
@@ -24,7 +24,7 @@ loop-index-init g c =
       name = c.args.name.now;
       value = view c.args.value.now;
     } in
-    declared_found w (c.is_some-spoken.ensures ∙ some_still (λ f. (f.0, f.1.now)) c.args.declared) c.in_ok-collect_declared.ensures.report c.collect_declared.ensures.path c.collect_declared.ensures.context
+    declared_found w (c.is_some-spoken.ensures ∙ is_some-map (λ f. (f.0, f.1.now)) c.args.declared) c.in_ok-collect_declared.ensures.report c.collect_declared.ensures.path c.collect_declared.ensures.context
 
 pub loop-index-preserved : goal.loop-index-preserved
 loop-index-preserved g c =

@@ -1,6 +1,6 @@
 use Rattle.std.proofs.Common.{ℕ, option_map}
 use Rattle.serde_json.specs.View.{view}
-use Rattle.olk_tree.specs.Answers.{sides_of}
+use Rattle.olk_tree.specs.Additional.{sides_of}
 use Rattle.olk_errors.proofs.Additional.{Asked, Gathering}
 use Rattle.olk_errors.proofs.additional_properties.collect_asked.Given as goal
 

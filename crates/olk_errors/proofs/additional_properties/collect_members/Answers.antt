@@ -4,8 +4,7 @@ use Rattle.std.proofs.lemmas.Result.{on_ok_weaker}
 use Rattle.olk_base.specs.Nodes.{data_of}
 use Rattle.olk_spec.specs.Schemas.{members}
 use Rattle.olk_spec.specs.Reports.{unexpected_faults}
-use Rattle.olk_tree.specs.Additional.{repeats, member_report, unexpected}
-use Rattle.olk_tree.specs.Answers.{sides_of, has_neighbours}
+use Rattle.olk_tree.specs.Additional.{repeats, member_report, unexpected, sides_of, has_neighbours}
 use Rattle.olk_tree.specs.Visited.{object_of}
 use Rattle.olk_errors.specs.Found.{Appends}
 use Rattle.olk_errors.proofs.AdditionalMembers.{members_in_turn}

@@ -1,11 +1,12 @@
 use Rattle.olk_check.proofs.Asked.{only_then}
 use Rattle.std.proofs.Common.{ℕ, option_map, arith, ◌∙◌}
 use Rattle.std.proofs.lemmas.Result.{IfOk-weaker, on_ok_weaker}
+use Rattle.olk_spec.proofs.Maps.{is_some-map}
 use Rattle.serde_json.specs.View.{view}
-use Rattle.olk_tree.specs.Answers.{sides_of}
+use Rattle.olk_tree.specs.Additional.{sides_of}
 use Rattle.olk_tree.proofs.Lists.{next_at, past_end}
 use Rattle.olk_errors.proofs.Appending.{left_by, told_so}
-use Rattle.olk_errors.proofs.Additional.{Asked, some_still, expected, left_to_rest, declared_passes, declared_refuses, pattern_passes, pattern_refuses, spoken_passes, rest_passes, rest_refuses}
+use Rattle.olk_errors.proofs.Additional.{Asked, expected, left_to_rest, declared_passes, declared_refuses, pattern_passes, pattern_refuses, spoken_passes, rest_passes, rest_refuses}
 use Rattle.olk_errors.proofs.additional_properties.validate_asked.Goals as goal
 
 pub returns-in_err-validate_declared-clause-invalid : goal.returns-in_err-validate_declared-clause-invalid
@@ -34,7 +35,7 @@ loop-index-init g c =
       name = c.args.name.now;
       value = view c.args.value.now;
     } in
-    declared_passes w (c.is_some-spoken.ensures ∙ some_still (λ f. (f.0, f.1.now)) c.args.declared) c.in_ok-validate_declared.ensures.ok c.validate_declared.ensures.path c.validate_declared.ensures.context
+    declared_passes w (c.is_some-spoken.ensures ∙ is_some-map (λ f. (f.0, f.1.now)) c.args.declared) c.in_ok-validate_declared.ensures.ok c.validate_declared.ensures.path c.validate_declared.ensures.context
 
 pub loop-index-preserved : goal.loop-index-preserved
 loop-index-preserved g c =

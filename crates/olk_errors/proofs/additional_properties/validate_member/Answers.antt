@@ -1,7 +1,7 @@
 use Rattle.std.proofs.Common.{ℕ, option_map}
 use Rattle.serde_json.specs.View.{view}
 use Rattle.olk_base.specs.Nodes.{data_of}
-use Rattle.olk_tree.specs.Answers.{sides_of}
+use Rattle.olk_tree.specs.Additional.{sides_of}
 use Rattle.olk_errors.proofs.Appending.{left_by, told_so}
 use Rattle.olk_errors.proofs.Additional.{Asked}
 use Rattle.olk_errors.proofs.AdditionalMembers.{asked_refuses, expected_passes, unexpected_refuses}

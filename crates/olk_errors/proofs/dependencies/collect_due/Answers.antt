@@ -1,7 +1,7 @@
 use Rattle.std.proofs.Common.{length, rules, ◌≡◌, subst, ◌∙◌}
 use Rattle.serde_json.specs.View.{members_view}
 use Rattle.olk_base.specs.Nodes.{data_of}
-use Rattle.olk_tree.specs.Answers.{named}
+use Rattle.olk_tree.specs.Maps.{named}
 use Rattle.olk_tree.proofs.Due.{each_due}
 use Rattle.olk_check.proofs.Asked.{only_then}
 use Rattle.olk_errors.specs.Found.{Appends}

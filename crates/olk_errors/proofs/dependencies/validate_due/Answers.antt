@@ -1,7 +1,7 @@
 use Rattle.std.proofs.Common.{subst, ◌∙◌}
 use Rattle.serde_json.specs.View.{members_view}
 use Rattle.olk_base.specs.Nodes.{data_of}
-use Rattle.olk_tree.specs.Answers.{named}
+use Rattle.olk_tree.specs.Maps.{named}
 use Rattle.olk_check.proofs.Asked.{only_then}
 use Rattle.olk_errors.specs.Found.{Passes, IsErrorOf}
 use Rattle.olk_errors.proofs.Appending.{left_by}

@@ -1,6 +1,6 @@
 use Rattle.std.proofs.Common.{sym, subst}
 use Rattle.olk_base.specs.Nodes.{data_of}
-use Rattle.olk_tree.specs.Answers.{body_report}
+use Rattle.olk_tree.specs.Bodies.{body_report}
 use Rattle.olk_errors.specs.Found.{Appends}
 use Rattle.olk_errors.proofs.Appending.{appends_nothing}
 use Rattle.olk_errors.proofs.node.collect_body.Goals as goal

@@ -1,6 +1,6 @@
 use Rattle.std.proofs.Common.{length, rules, ◌≡◌, subst, ◌∙◌}
 use Rattle.serde_json.specs.View.{members_view}
-use Rattle.olk_tree.specs.Answers.{beside}
+use Rattle.std.specs.List.{zip}
 use Rattle.olk_tree.proofs.Members_met.{report_of_walk}
 use Rattle.olk_check.proofs.Asked.{only_then}
 use Rattle.olk_errors.specs.Found.{Appends}
@@ -18,7 +18,7 @@ loop-name-preserved g c = collecting_more c.loop-name.invariant c.in-Some.ensure
 
 pub returns-clause-report : goal.returns-clause-report
 returns-clause-report g c = subst (Appends c.args.errors.now.items c.loop-name.errors.items)
-    (report_of_walk (members_view c.args.members.now.entries) (beside (g.M.PropertiesValidatorsMap.names c.args.properties.now) (g.M.PropertiesValidatorsMap.nodes c.args.properties.now)) c.into_iter-name-iterator.ensures.into_iter_gives c.declared_members-name-items.ensures.by_names g.N.Reports.report c.args.ctx.now.answer c.args.path.now)
+    (report_of_walk (members_view c.args.members.now.entries) (zip (g.M.PropertiesValidatorsMap.names c.args.properties.now) (g.M.PropertiesValidatorsMap.nodes c.args.properties.now)) c.into_iter-name-iterator.ensures.into_iter_gives c.declared_members-name-items.ensures.by_names g.N.Reports.report c.args.ctx.now.answer c.args.path.now)
     (collecting_end c.loop-name.invariant c.in-None.ensures.steps)
 
 pub returns-in_err-roll_back_on_err-clause-memory : goal.returns-in_err-roll_back_on_err-clause-memory

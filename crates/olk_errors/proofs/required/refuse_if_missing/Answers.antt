@@ -2,7 +2,7 @@ use Rattle.std.proofs.Common.{map, refl, sym, subst}
 use Rattle.olk_base.specs.Nodes.{data_of}
 use Rattle.olk_spec.specs.Names.{is_empty}
 use Rattle.olk_spec.specs.Faults.{fault, Required, itself}
-use Rattle.olk_tree.specs.Answers.{head_of}
+use Rattle.olk_tree.specs.Firsts.{head_of}
 use Rattle.olk_errors.specs.Found.{IsErrorOf}
 use Rattle.olk_errors.proofs.Appending.{told_so}
 use Rattle.olk_errors.proofs.Own.{own_error, like_at}

@@ -2,7 +2,7 @@ use mathlib.Core.Path.{subst₂}
 use Rattle.std.proofs.Common.{map, ap, subst, ◌∙◌}
 use Rattle.serde_json.specs.View.{members_view}
 use Rattle.olk_base.specs.Nodes.{data_of}
-use Rattle.olk_tree.specs.Answers.{named}
+use Rattle.olk_tree.specs.Maps.{named}
 use Rattle.olk_tree.proofs.Due.{all_due}
 use Rattle.olk_check.proofs.Asked.{only_then}
 use Rattle.olk_evaluate.specs.Wanted.{AreShown, ShowsMore, wanted, trees_of}

@@ -9,7 +9,8 @@ use Rattle.std.proofs.Common.{[], ◌∷◌, sym, ap, subst, ◌∙◌, refl}
 use Rattle.olk_base.specs.Nodes.{data_of}
 use Rattle.olk_spec.specs.Tree.{IsLikeTree}
 use Rattle.olk_reports.specs.Evaluations.{node_at, shown_of}
-use Rattle.olk_tree.specs.Answers.{texts_of, body_means, body_tree}
+use Rattle.olk_tree.specs.Maps.{texts_of}
+use Rattle.olk_tree.specs.Bodies.{body_means, body_tree}
 use Rattle.olk_evaluate.proofs.Children.{branches_like, branches_verdict, no_child_like, no_child_verdict}
 use Rattle.olk_check.proofs.Asked.{only_same}
 use Rattle.olk_evaluate.proofs.node.evaluate_body.Goals as goal

@@ -3,7 +3,7 @@ use Rattle.std.proofs.lemmas.Result.{IfOk-from_err}
 use Rattle.std.specs.List.{flat_map}
 use Rattle.serde_json.specs.View.{members_view}
 use Rattle.olk_base.specs.Nodes.{data_of}
-use Rattle.olk_tree.specs.Answers.{named}
+use Rattle.olk_tree.specs.Maps.{named}
 use Rattle.olk_tree.proofs.Due.{chosen, all_chosen}
 use Rattle.olk_evaluate.specs.Wanted.{Wanted, AreShown, wanted, each_wanted, trees_of}
 use Rattle.olk_evaluate.proofs.Children.{shown_end, shown_none_more}

@@ -5,7 +5,7 @@ use Rattle.olk_base.specs.Nodes.{data_of}
 use Rattle.olk_spec.specs.Faults.{fault, Required}
 use Rattle.olk_spec.specs.Accepts.{missing}
 use Rattle.olk_reports.specs.Evaluations.{shown_of}
-use Rattle.olk_tree.specs.Answers.{texts_of}
+use Rattle.olk_tree.specs.Maps.{texts_of}
 use Rattle.olk_tree.proofs.Members_met.{object_is}
 use Rattle.olk_evaluate.specs.Wanted.{HasErrors}
 use Rattle.olk_evaluate.proofs.OwnErrors.{lacks_none}

@@ -6,7 +6,7 @@ use Rattle.olk_spec.specs.Names.{Path}
 use Rattle.olk_spec.specs.Faults.{fault, Required}
 use Rattle.olk_spec.specs.Accepts.{missing}
 use Rattle.olk_reports.specs.Evaluations.{shown_of}
-use Rattle.olk_tree.specs.Answers.{texts_of}
+use Rattle.olk_tree.specs.Maps.{texts_of}
 use Rattle.olk_evaluate.proofs.OwnErrors.{ErrorsFrom}
 use Rattle.olk_evaluate.proofs.required.result_of_required.Given as goal
 

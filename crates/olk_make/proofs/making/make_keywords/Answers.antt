@@ -26,7 +26,7 @@ loop-part-init g c =
 
 pub loop-part-preserved-in-Continue-branch-5 : goal.loop-part-preserved-in-Continue-branch-5
 loop-part-preserved-in-Continue-branch-5 g c = record {
-  made = one_more_made (kit g.K.Leaf g.R.RegexEngine) g.N.Place.answers (members_view c.args.members.now.entries) c.args.place.now (planned c.of-plan.result) c.of-plan.ensures.plan c.of-plan.ensures.distinct c.loop-part.keywords.items (c.in-Some-2.keyword ∷ []) c.append.new.items.items c.in-Some.part c.next.new.self.rest.items c.loop-part.part-iterator.rest.items c.loop-part.taken c.make_keyword.new.taken c.in_ok-append.ensures c.in-Some.ensures.steps.0 c.loop-part.invariant.made
+  made = one_more_made (kit g.K.Leaf g.R.RegexEngine) g.N.Place.answers (members_view c.args.members.now.entries) c.args.place.now (planned c.of-plan.result) c.of-plan.ensures.plan c.of-plan.ensures.distinct c.loop-part.keywords.items (c.in-Some-2.keyword ∷ []) c.append.new.items.items c.in-Some.part c.next.new.self.rest.items c.loop-part.part-iterator.rest.items c.loop-part.taken c.make_keyword.new.taken c.in_ok-append.ensures.items c.in-Some.ensures.steps.0 c.loop-part.invariant.made
       (subst (λ x. MakesPart (kit g.K.Leaf g.R.RegexEngine) g.N.Place.answers c.in-Some.part.shape c.in-Some.part.location c.in-Some.part.nodes.items c.loop-part.taken c.args.place.now (planned c.of-plan.result) (option_to_list x)) c.in-Some-2.is c.in_ok-keyword.ensures.makes) c.in_ok-keyword.ensures.cases c.in_ok-keyword.ensures.beside;
   count = let e = ap length c.in-Some.ensures.steps.0 in omega (arith, e, c.in-Some.ensures.steps.1, c.loop-part.invariant.count);
   next = tt;

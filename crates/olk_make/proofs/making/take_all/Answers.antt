@@ -17,7 +17,7 @@ loop-part-init g c = record {
 
 pub loop-part-preserved-in-Continue-branch-2 : goal.loop-part-preserved-in-Continue-branch-2
 loop-part-preserved-in-Continue-branch-2 g c = record {
-  taken = λ es P k same h. one_more_taken (kit g.K.Leaf g.R.RegexEngine) g.N.Place.answers (planned c.args.plan) k P es c.loop-part.taken c.take.new.taken c.loop-part.left.items c.append.new.items.items c.next.new.self.rest.items c.loop-part.part-iterator.rest.items c.in-Some.part (Some c.in-Some-take.part) same c.in_ok-append.ensures c.in-Some.ensures.steps.0 c.in-Some-take.ensures (c.loop-part.invariant.taken es P k same h);
+  taken = λ es P k same h. one_more_taken (kit g.K.Leaf g.R.RegexEngine) g.N.Place.answers (planned c.args.plan) k P es c.loop-part.taken c.take.new.taken c.loop-part.left.items c.append.new.items.items c.next.new.self.rest.items c.loop-part.part-iterator.rest.items c.in-Some.part (Some c.in-Some-take.part) same c.in_ok-append.ensures.items c.in-Some.ensures.steps.0 c.in-Some-take.ensures (c.loop-part.invariant.taken es P k same h);
   count = let e = ap length c.in-Some.ensures.steps.0 in omega (arith, e, c.in-Some.ensures.steps.1, c.loop-part.invariant.count);
   next = tt;
   ends = tt;

@@ -8,7 +8,7 @@ pub loop-value-init : goal.loop-value-init
 loop-value-init c = none_so_far _ _ _ _ _ _ c.new-lists.ensures.items c.into_iter-value-iterator.ensures.into_iter_gives.0
 
 pub loop-value-preserved : goal.loop-value-preserved
-loop-value-preserved c = one_more_entry _ _ _ _ _ _ _ _ c.in-Some.ensures.steps _ _ _ c.in_ok-append.ensures c.in_ok-list.ensures.list c.in_ok-list.ensures.texts c.loop-value.invariant
+loop-value-preserved c = one_more_entry _ _ _ _ _ _ _ _ c.in-Some.ensures.steps _ _ _ c.in_ok-append.ensures.items c.in_ok-list.ensures.list c.in_ok-list.ensures.texts c.loop-value.invariant
 
 pub returns-in_err-list-clause-refused : goal.returns-in_err-list-clause-refused
 returns-in_err-list-clause-refused c = exit _ _ _ c.from_residual.ensures.1 (λ e q. entry_refused _ _ _ _ _ _ _ _ c.in-Some.ensures.steps _ e c.loop-value.invariant (subst (TellsOneOf _) (sym q) c.in_err-list.ensures.refused))

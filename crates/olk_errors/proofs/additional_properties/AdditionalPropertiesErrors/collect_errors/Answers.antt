@@ -1,7 +1,7 @@
 use Rattle.std.proofs.Common.{◌≡◌, ◌++◌, length, rules, sym, subst}
 use Rattle.std.proofs.lemmas.Result.{on_ok_weaker}
 use Rattle.olk_base.specs.Nodes.{data_of}
-use Rattle.olk_tree.specs.Answers.{lacks}
+use Rattle.olk_tree.specs.Additional.{lacks}
 use Rattle.olk_errors.specs.Found.{Appends}
 use Rattle.olk_errors.proofs.Appending.{appends_nothing, after_cut, then_rolled_back}
 use Rattle.olk_errors.proofs.AdditionalMembers.{by_members, other_finds_nothing}

@@ -1,6 +1,7 @@
 use Rattle.std.proofs.Common.{rules}
 use Rattle.olk_base.specs.Nodes.{data_of}
-use Rattle.olk_tree.specs.Answers.{named, due_nodes}
+use Rattle.olk_tree.specs.Maps.{named}
+use Rattle.olk_tree.specs.Dependencies.{due_nodes}
 use Rattle.olk_tree.proofs.Due.{none_due}
 use Rattle.olk_errors.proofs.Due.{none_asked}
 use Rattle.olk_errors.proofs.dependencies.DependenciesErrors.validate.Goals as goal

@@ -1,89 +1,89 @@
 use Rattle.std.proofs.Common.{rules, IfErr, OnOk, sym, ap, subst, ◌∙◌}
 use Rattle.olk_base.specs.Kit.{kit}
 use Rattle.olk_base.specs.Nodes.{data_of}
-use Rattle.olk_tree.specs.Answers.{validator_means, validator_report, validator_first}
+use Rattle.olk_tree.specs.Validators.{answers_of, validator_means, validator_report, validator_first}
 use Rattle.olk_tree.specs.declared.node.KeywordOver.TheVariants as keyword
 use Rattle.olk_errors.specs.Found.{IfInvalid, IsErrorOf, Passes}
 use Rattle.olk_errors.proofs.node.KeywordOverErrors.validate.Goals as goal
 
 pub returns-in-Properties : goal.returns-in-Properties
-unfolding validator_means validator_report validator_first
+unfolding answers_of
 returns-in-Properties g c = rw c.in-Properties.is c.validate.ensures
 
 pub returns-in-PropertiesWithRequired2 : goal.returns-in-PropertiesWithRequired2
-unfolding validator_means validator_report validator_first
+unfolding answers_of
 returns-in-PropertiesWithRequired2 g c = rw c.in-PropertiesWithRequired2.is c.validate-in-PropertiesWithRequired2.ensures
 
 pub returns-in-Required : goal.returns-in-Required
-unfolding validator_means validator_report validator_first
+unfolding answers_of
 returns-in-Required g c = rw c.in-Required.is c.validate-in-Required.ensures
 
 pub returns-in-AllOf : goal.returns-in-AllOf
-unfolding validator_means validator_report validator_first
+unfolding answers_of
 returns-in-AllOf g c = rw c.in-AllOf.is c.validate-in-AllOf.ensures
 
 pub returns-in-SingleValueAllOf : goal.returns-in-SingleValueAllOf
-unfolding validator_means validator_report validator_first
+unfolding answers_of
 returns-in-SingleValueAllOf g c = rw c.in-SingleValueAllOf.is c.validate-in-SingleValueAllOf.ensures
 
 pub returns-in-AnyOf : goal.returns-in-AnyOf
-unfolding validator_means validator_report validator_first
+unfolding answers_of
 returns-in-AnyOf g c = rw c.in-AnyOf.is c.validate-in-AnyOf.ensures
 
 pub returns-in-SingleAnyOf : goal.returns-in-SingleAnyOf
-unfolding validator_means validator_report validator_first
+unfolding answers_of
 returns-in-SingleAnyOf g c = rw c.in-SingleAnyOf.is c.validate-in-SingleAnyOf.ensures
 
 pub returns-in-OneOf : goal.returns-in-OneOf
-unfolding validator_means validator_report validator_first
+unfolding answers_of
 returns-in-OneOf g c = rw c.in-OneOf.is c.validate-in-OneOf.ensures
 
 pub returns-in-SingleOneOf : goal.returns-in-SingleOneOf
-unfolding validator_means validator_report validator_first
+unfolding answers_of
 returns-in-SingleOneOf g c = rw c.in-SingleOneOf.is c.validate-in-SingleOneOf.ensures
 
 pub returns-in-Not-clause-ok : goal.returns-in-Not-clause-ok
-unfolding validator_means validator_report validator_first
+unfolding answers_of
 returns-in-Not-clause-ok g c = search rules
 
 pub returns-in-IfThen : goal.returns-in-IfThen
-unfolding validator_means validator_report validator_first
+unfolding answers_of
 returns-in-IfThen g c = rw c.in-IfThen.is c.validate-in-IfThen.ensures
 
 pub returns-in-IfElse : goal.returns-in-IfElse
-unfolding validator_means validator_report validator_first
+unfolding answers_of
 returns-in-IfElse g c = rw c.in-IfElse.is c.validate-in-IfElse.ensures
 
 pub returns-in-IfThenElse : goal.returns-in-IfThenElse
-unfolding validator_means validator_report validator_first
+unfolding answers_of
 returns-in-IfThenElse g c = rw c.in-IfThenElse.is c.validate-in-IfThenElse.ensures
 
 pub returns-in-Dependencies : goal.returns-in-Dependencies
-unfolding validator_means validator_report validator_first
+unfolding answers_of
 returns-in-Dependencies g c = rw c.in-Dependencies.is c.validate-in-Dependencies.ensures
 
 pub returns-in-PropertyNames : goal.returns-in-PropertyNames
-unfolding validator_means validator_report validator_first
+unfolding answers_of
 returns-in-PropertyNames g c = rw c.in-PropertyNames.is c.validate-in-PropertyNames.ensures
 
 pub returns-in-PropertyNamesFalse : goal.returns-in-PropertyNamesFalse
-unfolding validator_means validator_report validator_first
+unfolding answers_of
 returns-in-PropertyNamesFalse g c = rw c.in-PropertyNamesFalse.is c.validate-in-PropertyNamesFalse.ensures
 
 pub returns-in-PropertyDependencies : goal.returns-in-PropertyDependencies
-unfolding validator_means validator_report validator_first
+unfolding answers_of
 returns-in-PropertyDependencies g c = rw c.in-PropertyDependencies.is c.validate-in-PropertyDependencies.ensures
 
 pub returns-in-PatternProperties : goal.returns-in-PatternProperties
-unfolding validator_means validator_report validator_first
+unfolding answers_of
 returns-in-PatternProperties g c = rw c.in-PatternProperties.is c.validate-in-PatternProperties.ensures
 
 pub returns-in-SingleValuePatternProperties : goal.returns-in-SingleValuePatternProperties
-unfolding validator_means validator_report validator_first
+unfolding answers_of
 returns-in-SingleValuePatternProperties g c = rw c.in-SingleValuePatternProperties.is c.validate-in-SingleValuePatternProperties.ensures
 
 pub returns-in-AdditionalProperties-clause-ok : goal.returns-in-AdditionalProperties-clause-ok
-unfolding validator_means validator_report validator_first
+unfolding answers_of
 returns-in-AdditionalProperties-clause-ok g c = subst (λ k. OnOk c.validate-in-AdditionalProperties.result (Passes (record {
   accepts = (validator_means (kit g.K.Leaf g.R.RegexEngine) g.N.Means.means k (data_of c.args.node)).accepts c.args.ctx.now.answer;
   first = validator_first (kit g.K.Leaf g.R.RegexEngine) g.N.Means.means g.N.Reports.report c.args.ctx.now.answer g.N.Reports.first k (data_of c.args.node) c.args.path.now;
@@ -91,7 +91,7 @@ returns-in-AdditionalProperties-clause-ok g c = subst (λ k. OnOk c.validate-in-
 }))) (ap (λ a. keyword.AdditionalProperties record c.in-AdditionalProperties.keyword { value = a }) c.deref.ensures ∙ sym c.in-AdditionalProperties.is) c.validate-in-AdditionalProperties.ensures.ok
 
 pub returns-in-AdditionalProperties-clause-invalid : goal.returns-in-AdditionalProperties-clause-invalid
-unfolding validator_means validator_report validator_first
+unfolding answers_of
 returns-in-AdditionalProperties-clause-invalid g c = subst (λ k. IfErr c.validate-in-AdditionalProperties.result (λ e. IfInvalid e (IsErrorOf (record {
   accepts = (validator_means (kit g.K.Leaf g.R.RegexEngine) g.N.Means.means k (data_of c.args.node)).accepts c.args.ctx.now.answer;
   first = validator_first (kit g.K.Leaf g.R.RegexEngine) g.N.Means.means g.N.Reports.report c.args.ctx.now.answer g.N.Reports.first k (data_of c.args.node) c.args.path.now;
@@ -99,9 +99,9 @@ returns-in-AdditionalProperties-clause-invalid g c = subst (λ k. IfErr c.valida
 })))) (ap (λ a. keyword.AdditionalProperties record c.in-AdditionalProperties.keyword { value = a }) c.deref.ensures ∙ sym c.in-AdditionalProperties.is) c.validate-in-AdditionalProperties.ensures.invalid
 
 pub returns-in-Leaf-clause-ok : goal.returns-in-Leaf-clause-ok
-unfolding validator_means validator_report validator_first
+unfolding answers_of
 returns-in-Leaf-clause-ok g c = rw c.in-Leaf.is c.validate_leaf.ensures.ok
 
 pub returns-in-Leaf-clause-invalid : goal.returns-in-Leaf-clause-invalid
-unfolding validator_means validator_report validator_first
+unfolding answers_of
 returns-in-Leaf-clause-invalid g c = rw c.in-Leaf.is c.validate_leaf.ensures.invalid

@@ -1,6 +1,6 @@
 use Rattle.std.proofs.Common.{sym, subst}
 use Rattle.olk_base.specs.Nodes.{data_of}
-use Rattle.olk_tree.specs.Answers.{mapped}
+use Rattle.olk_tree.specs.Maps.{mapped}
 use Rattle.olk_tree.proofs.Members_met.{reports_nothing}
 use Rattle.olk_errors.specs.Found.{Appends}
 use Rattle.olk_errors.proofs.Appending.{appends_nothing}

@@ -1,6 +1,6 @@
 use Rattle.std.proofs.Common.{rules}
 use Rattle.olk_base.specs.Nodes.{data_of}
-use Rattle.olk_tree.specs.Answers.{mapped}
+use Rattle.olk_tree.specs.Maps.{mapped}
 use Rattle.olk_errors.proofs.Members.{other_passes}
 use Rattle.olk_errors.proofs.properties.PropertiesErrors.validate.Goals as goal
 

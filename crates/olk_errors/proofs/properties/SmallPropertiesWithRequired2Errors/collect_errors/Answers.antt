@@ -4,7 +4,8 @@ use Rattle.std.proofs.lemmas.Result.{on_ok_weaker}
 use Rattle.serde_json.specs.View.{members_view}
 use Rattle.olk_spec.specs.Reports.{required_faults}
 use Rattle.olk_base.specs.Nodes.{data_of}
-use Rattle.olk_tree.specs.Answers.{named, two_texts, properties_report}
+use Rattle.olk_tree.specs.Maps.{named, two_texts}
+use Rattle.olk_tree.specs.Properties.{properties_report}
 use Rattle.olk_tree.proofs.Members_met.{object_is, reports_nothing}
 use Rattle.olk_errors.specs.Found.{Appends}
 use Rattle.olk_errors.proofs.Appending.{appends_nothing, after_cut}

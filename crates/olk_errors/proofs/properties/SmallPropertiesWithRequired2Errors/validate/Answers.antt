@@ -1,6 +1,6 @@
 use Rattle.std.proofs.Common.{[], ◌∷◌, subst}
 use Rattle.olk_base.specs.Nodes.{data_of}
-use Rattle.olk_tree.specs.Answers.{named, two_texts}
+use Rattle.olk_tree.specs.Maps.{named, two_texts}
 use Rattle.olk_errors.specs.Found.{IfInvalid, IsErrorOf}
 use Rattle.olk_errors.specs.Outcomes.{of_names, of_properties}
 use Rattle.olk_errors.proofs.Appending.{left_by}

@@ -1,7 +1,7 @@
 use Rattle.std.proofs.Common.{sym, ap, subst}
 use Rattle.std.specs.List.{flat_map}
 use Rattle.olk_base.specs.Nodes.{data_of}
-use Rattle.olk_tree.specs.Answers.{named}
+use Rattle.olk_tree.specs.Maps.{named}
 use Rattle.olk_tree.proofs.Due.{none_chosen}
 use Rattle.olk_errors.specs.Found.{Appends}
 use Rattle.olk_errors.proofs.Appending.{appends_nothing}

@@ -1,5 +1,6 @@
 use Rattle.olk_base.specs.Nodes.{data_of}
-use Rattle.olk_tree.specs.Answers.{named, chosen_nodes}
+use Rattle.olk_tree.specs.Maps.{named}
+use Rattle.olk_tree.specs.PropertyDependencies.{chosen_nodes}
 use Rattle.olk_tree.proofs.Due.{none_chosen}
 use Rattle.olk_errors.proofs.Due.{none_asked}
 use Rattle.olk_errors.proofs.property_dependencies.PropertyDependenciesErrors.validate.Goals as goal

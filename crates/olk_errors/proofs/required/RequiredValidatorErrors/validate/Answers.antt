@@ -1,6 +1,6 @@
 use Rattle.std.proofs.Common.{rules}
 use Rattle.olk_base.specs.Nodes.{data_of}
-use Rattle.olk_tree.specs.Answers.{texts_of}
+use Rattle.olk_tree.specs.Maps.{texts_of}
 use Rattle.olk_errors.proofs.Missing.{other_lacks_none}
 use Rattle.olk_errors.proofs.required.RequiredValidatorErrors.validate.Goals as goal
 

@@ -3,7 +3,7 @@ use Rattle.std.proofs.lemmas.Result.{IfOk-weaker}
 use Rattle.serde_json.specs.Data.{object}
 use Rattle.serde_json.specs.View.{members_view}
 use Rattle.olk_base.specs.Nodes.{data_of}
-use Rattle.olk_tree.specs.Answers.{required_text, required_place, sides_of}
+use Rattle.olk_tree.specs.Additional.{required_text, required_place, sides_of}
 use Rattle.olk_evaluate.specs.Additional.{HasPlaces, names_of}
 use Rattle.olk_evaluate.proofs.Additional.{additional_like, additional_verdict, other_like, other_verdict}
 use Rattle.olk_evaluate.proofs.additional_properties.AdditionalPropertiesEvaluate.evaluate.Goals as goal

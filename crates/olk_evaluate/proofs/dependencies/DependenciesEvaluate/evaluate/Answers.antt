@@ -1,5 +1,6 @@
 use Rattle.olk_base.specs.Nodes.{data_of}
-use Rattle.olk_tree.specs.Answers.{named, due_nodes}
+use Rattle.olk_tree.specs.Maps.{named}
+use Rattle.olk_tree.specs.Dependencies.{due_nodes}
 use Rattle.olk_tree.proofs.Due.{none_due}
 use Rattle.olk_evaluate.proofs.Children.{branches_like, branches_verdict, no_child_like, no_child_verdict}
 use Rattle.olk_evaluate.proofs.dependencies.DependenciesEvaluate.evaluate.Goals as goal

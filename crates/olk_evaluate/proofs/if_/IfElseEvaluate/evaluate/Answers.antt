@@ -2,9 +2,9 @@ use Rattle.std.proofs.Common.{rules, true, cond, [], ◌∷◌, ◌∙◌}
 use Rattle.olk_check.proofs.Asked.{only_then}
 use mathlib.Core.Path.{subst₂}
 use Rattle.std.proofs.lemmas.Result.{IfOk-weaker}
+use Rattle.std.proofs.Math.Bool.{and-true}
 use Rattle.olk_base.specs.Nodes.{data_of}
 use Rattle.olk_spec.specs.Tree.{IsLikeTree}
-use Rattle.olk_spec.proofs.Truth.{and_true}
 use Rattle.olk_reports.specs.Evaluations.{node_at, shown_of}
 use Rattle.olk_tree.specs.Shown.{if_tree}
 use Rattle.olk_evaluate.proofs.if_.IfElseEvaluate.evaluate.Goals as goal
@@ -24,7 +24,7 @@ pub returns-else-is_valid-clause-verdict : goal.returns-else-is_valid-clause-ver
 returns-else-is_valid-clause-verdict g c =
     let else_means = g.N.Means.means c.args.self.now.else_schema (data_of c.args.node) in
     IfOk-weaker c.only-else-is_valid.result _ _ (λ r shows.
-    shows.verdict c.args.self.now.location ∙ and_true (else_means.accepts c.is_valid.new.ctx.answer) ∙ (λ i. cond (c.if-is_valid.ensures.verdict i) true (else_means.accepts (c.if-is_valid.ensures.only.answer i)))) c.only-else-is_valid.ensures.shown
+    shows.verdict c.args.self.now.location ∙ and-true (else_means.accepts c.is_valid.new.ctx.answer) ∙ (λ i. cond (c.if-is_valid.ensures.verdict i) true (else_means.accepts (c.if-is_valid.ensures.only.answer i)))) c.only-else-is_valid.ensures.shown
 
 pub returns-then-is_valid-clause-context : goal.returns-then-is_valid-clause-context
 returns-then-is_valid-clause-context g c = only_then c.if-is_valid.ensures.only c.only.ensures.context

@@ -1,9 +1,9 @@
 use mathlib.Core.Path.{subst₂}
 use Rattle.std.proofs.Common.{◌&&◌, cond, [], ◌∷◌, sym, ap, ◌∙◌}
 use Rattle.std.proofs.lemmas.Result.{IfOk-weaker}
+use Rattle.std.proofs.Math.Bool.{and-true}
 use Rattle.olk_base.specs.Nodes.{data_of}
 use Rattle.olk_spec.specs.Tree.{IsLikeTree}
-use Rattle.olk_spec.proofs.Truth.{and_true}
 use Rattle.olk_reports.specs.Evaluations.{node_at, shown_of}
 use Rattle.olk_tree.specs.Shown.{if_tree}
 use Rattle.olk_check.proofs.Asked.{only_then}
@@ -22,7 +22,7 @@ returns-then-is_valid-clause-verdict g c =
     let same = c.if-is_valid.ensures.only.answer in
     IfOk-weaker c.both.result _ _ (λ r shows.
     shows.verdict c.args.self.now.location
-    ∙ (λ i. (ap if_means.accepts same ∙ sym c.if-is_valid.ensures.verdict) i && and_true (then_means.accepts c.is_valid.new.ctx.answer) i)
+    ∙ (λ i. (ap if_means.accepts same ∙ sym c.if-is_valid.ensures.verdict) i && and-true (then_means.accepts c.is_valid.new.ctx.answer) i)
     ∙ (λ i. cond (c.if-is_valid.ensures.verdict i) (then_means.accepts (same i)) (else_means.accepts c.args.ctx.now.answer))) c.both.ensures.shown
 
 pub returns-then-is_valid-clause-context : goal.returns-then-is_valid-clause-context
@@ -38,7 +38,7 @@ returns-else-is_valid-clause-verdict g c =
     let then_means = g.N.Means.means c.args.self.now.then_schema (data_of c.args.node) in
     let else_means = g.N.Means.means c.args.self.now.else_schema (data_of c.args.node) in
     IfOk-weaker c.only.result _ _ (λ r shows.
-    shows.verdict c.args.self.now.location ∙ and_true (else_means.accepts c.is_valid.new.ctx.answer) ∙ (λ i. cond (c.if-is_valid.ensures.verdict i) (then_means.accepts c.args.ctx.now.answer) (else_means.accepts (c.if-is_valid.ensures.only.answer i)))) c.only.ensures.shown
+    shows.verdict c.args.self.now.location ∙ and-true (else_means.accepts c.is_valid.new.ctx.answer) ∙ (λ i. cond (c.if-is_valid.ensures.verdict i) (then_means.accepts c.args.ctx.now.answer) (else_means.accepts (c.if-is_valid.ensures.only.answer i)))) c.only.ensures.shown
 
 pub returns-else-is_valid-clause-context : goal.returns-else-is_valid-clause-context
 returns-else-is_valid-clause-context g c = only_then c.if-is_valid.ensures.only c.only.ensures.context

@@ -2,9 +2,9 @@ use Rattle.std.proofs.Common.{rules, true, ◌&&◌, cond, [], ◌∷◌, ap, sy
 use Rattle.olk_check.proofs.Asked.{only_then}
 use mathlib.Core.Path.{subst₂}
 use Rattle.std.proofs.lemmas.Result.{IfOk-weaker}
+use Rattle.std.proofs.Math.Bool.{and-true}
 use Rattle.olk_base.specs.Nodes.{data_of}
 use Rattle.olk_spec.specs.Tree.{IsLikeTree}
-use Rattle.olk_spec.proofs.Truth.{and_true}
 use Rattle.olk_reports.specs.Evaluations.{node_at, shown_of}
 use Rattle.olk_tree.specs.Shown.{if_tree}
 use Rattle.olk_evaluate.proofs.if_.IfThenEvaluate.evaluate.Goals as goal
@@ -27,7 +27,7 @@ returns-clause-verdict g c =
     let same = c.if-not-is_valid.ensures.only.answer in
     IfOk-weaker c.both.result _ _ (λ r shows.
     shows.verdict c.args.self.now.location
-    ∙ (λ i. (ap if_means.accepts same ∙ sym c.if-not-is_valid.ensures.verdict) i && and_true (then_means.accepts c.is_valid.new.ctx.answer) i)
+    ∙ (λ i. (ap if_means.accepts same ∙ sym c.if-not-is_valid.ensures.verdict) i && and-true (then_means.accepts c.is_valid.new.ctx.answer) i)
     ∙ (λ i. cond (c.if-not-is_valid.ensures.verdict i) (then_means.accepts (same i)) true)) c.both.ensures.shown
 
 pub returns-clause-context : goal.returns-clause-context

@@ -1,6 +1,6 @@
 use Rattle.olk_base.specs.Nodes.{data_of}
 use Rattle.serde_json.specs.View.{members_view}
-use Rattle.olk_tree.specs.Answers.{mapped}
+use Rattle.olk_tree.specs.Maps.{mapped}
 use Rattle.olk_evaluate.proofs.Members.{alone_like, alone_verdict, nothing_verdict}
 use Rattle.olk_evaluate.proofs.properties.PropertiesEvaluate.evaluate.Goals as goal
 

@@ -2,7 +2,7 @@ use Rattle.std.proofs.Common.{option_to_list}
 use Rattle.serde_json.specs.Data.{object}
 use Rattle.serde_json.specs.View.{members_view}
 use Rattle.olk_base.specs.Nodes.{data_of}
-use Rattle.olk_tree.specs.Answers.{named, two_texts}
+use Rattle.olk_tree.specs.Maps.{named, two_texts}
 use Rattle.olk_evaluate.specs.Wanted.{trees_of}
 use Rattle.olk_evaluate.proofs.Members.{beside_like, beside_verdict, nothing_missing}
 use Rattle.olk_evaluate.proofs.OwnErrors.{same_lacking}

@@ -1,5 +1,6 @@
 use Rattle.olk_base.specs.Nodes.{data_of}
-use Rattle.olk_tree.specs.Answers.{named, chosen_nodes}
+use Rattle.olk_tree.specs.Maps.{named}
+use Rattle.olk_tree.specs.PropertyDependencies.{chosen_nodes}
 use Rattle.olk_tree.proofs.Due.{none_chosen}
 use Rattle.olk_evaluate.proofs.Children.{branches_like, branches_verdict, no_child_like, no_child_verdict}
 use Rattle.olk_evaluate.proofs.property_dependencies.PropertyDependenciesEvaluate.evaluate.Goals as goal

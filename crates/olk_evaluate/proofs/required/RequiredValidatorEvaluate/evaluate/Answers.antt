@@ -4,7 +4,7 @@ use Rattle.olk_base.specs.Nodes.{data_of}
 use Rattle.olk_spec.specs.Faults.{fault, Required}
 use Rattle.olk_spec.specs.Accepts.{missing}
 use Rattle.olk_spec.specs.Reports.{required_faults}
-use Rattle.olk_tree.specs.Answers.{texts_of}
+use Rattle.olk_tree.specs.Maps.{texts_of}
 use Rattle.olk_evaluate.proofs.OwnErrors.{erring_like, erring_verdict, same_emptiness}
 use Rattle.olk_evaluate.proofs.required.RequiredValidatorEvaluate.evaluate.Goals as goal
 

@@ -1,0 +1,32 @@
+-- `additionalProperties`, with what it takes over: what its validator answers.
+use Rattle.std.specs.Prelude.{Bool, true, ◌&&◌, ◌++◌, map, is_some}
+use Rattle.std.specs.List.{list_all}
+use Rattle.std.specs.Option.{option_map_or}
+use Rattle.olk_spec.specs.Names.{Name, is_empty}
+use Rattle.olk_spec.specs.World.{Says}
+use Rattle.olk_spec.specs.Accepts.{missing}
+use Rattle.olk_tree.specs.Additional.{sides_of, has_neighbours, required_text, required_place, lacks, additional_means, additional_report, additional_first, additional_tree}
+use Rattle.olk_tree.specs.AdditionalAgreement.{additional_agrees, additional_first_agrees}
+use Rattle.olk_tree.specs.Answers.{AnswersOver}
+use Rattle.olk_tree.specs.Firsts.{or_else}
+use Rattle.olk_tree.specs.Formed.{is_map_formed, names_beside, is_table_formed}
+use Rattle.olk_tree.specs.Maps.{nodes_in}
+use Rattle.olk_tree.specs.Questions.{always, both}
+use Rattle.olk_tree.specs.Shown.{missing_trees}
+use Rattle.olk_tree.specs.declared.additional_properties.AdditionalProperties.{AdditionalProperties}
+
+module _ {R N : Type 0} (answers : R → Name → Says) (costs : R → Bool) where
+  abbrev pub additional_properties_answers : AdditionalProperties R N → AnswersOver N
+  additional_properties_answers k = record {
+    means = λ m v. both (additional_means answers costs m (sides_of k) v) (always (is_empty (missing (required_text k.required) v)));
+    report = λ m r u v Q. additional_report answers (sides_of k) u v Q (has_neighbours k) k.location r ++ lacks k.required v Q;
+    agrees = λ m r u h v Q. additional_agrees answers costs m u r h k v Q;
+    first = λ m r s u v Q. or_else (additional_first answers (sides_of k) u v Q (has_neighbours k) k.location s) (lacks k.required v Q);
+    first_agrees = λ m r s u h v Q. additional_first_agrees answers costs m u s h k v Q;
+    tree = λ m t u v Q. additional_tree answers (sides_of k) u v Q (is_some k.properties) (is_some k.patterns) k.location k.patterns_location (λ n. t n u)
+        (missing_trees (required_text k.required) v (required_place k.required) Q);
+    location = k.location;
+    formed = λ f. option_map_or (λ m. is_map_formed m && list_all f (nodes_in m)) k.properties true
+        && option_map_or (λ es. is_table_formed answers (names_beside k.properties) (map (λ e. e.0) es.items) k.table && list_all (λ e. f e.1) es.items) k.patterns true
+        && option_map_or f k.rest true;
+  }

@@ -1,0 +1,22 @@
+-- `propertyDependencies`: what its validator answers.
+use Rattle.std.specs.Prelude.{List, option_to_list}
+use Rattle.std.specs.List.{flat_map, list_all}
+use Rattle.serde_json.specs.Data.{Data}
+use Rattle.olk_spec.specs.Names.{Name, lookup_name}
+use Rattle.olk_spec.specs.Schemas.{at, as_text}
+use Rattle.olk_tree.specs.Answers.{AnswersOver}
+use Rattle.olk_tree.specs.Each.{each_answers}
+use Rattle.olk_tree.specs.Maps.{named}
+use Rattle.olk_tree.specs.declared.map.SmallMap.{SmallMap}
+use Rattle.olk_tree.specs.declared.property_dependencies.PropertyDependencies.{PropertyDependencies}
+
+-- the node at the text that a value is, none or one
+abbrev pub chosen_at : {N : Type 0} → SmallMap N → Data → List N
+chosen_at m v = flat_map (λ t. option_to_list (lookup_name t (named m))) (as_text v)
+
+-- the nodes at the texts that the members at the keys are
+abbrev pub chosen_nodes : {N : Type 0} → List (Name × SmallMap N) → Data → List N
+chosen_nodes es v = flat_map (λ e. flat_map (chosen_at e.1) (at e.0 v)) es
+
+abbrev pub property_dependencies_answers : {N : Type 0} → PropertyDependencies N → AnswersOver N
+property_dependencies_answers k = each_answers (chosen_nodes (named k.dependencies)) k.location (λ f. list_all (λ m. list_all f m.nodes.items) k.dependencies.nodes.items)

@@ -1,0 +1,377 @@
+//! What each validator means and reports, over what its nodes mean and report: by the words of its
+//! keyword in `specs`.
+ghost use Rattle.olk_base.specs.Kit.{kit};
+ghost use Rattle.olk_tree.specs.AdditionalProperties.{additional_properties_answers};
+ghost use Rattle.olk_tree.specs.AllOf.{all_of_answers, single_all_of_answers};
+ghost use Rattle.olk_tree.specs.AnyOf.{any_of_answers, single_any_of_answers};
+ghost use Rattle.olk_tree.specs.Bodies.{body_means};
+ghost use Rattle.olk_tree.specs.Dependencies.{dependencies_answers};
+ghost use Rattle.olk_tree.specs.If.{if_then_answers, if_else_answers, if_then_else_answers};
+ghost use Rattle.olk_tree.specs.Not.{not_answers, not_report, not_agrees};
+ghost use Rattle.olk_tree.specs.OneOf.{one_of_answers, single_one_of_answers};
+ghost use Rattle.olk_tree.specs.PatternProperties.{pattern_properties_answers, single_pattern_properties_answers};
+ghost use Rattle.olk_tree.specs.Properties.{properties_answers, properties_with_required2_answers};
+ghost use Rattle.olk_tree.specs.PropertyDependencies.{property_dependencies_answers};
+ghost use Rattle.olk_tree.specs.PropertyNames.{property_names_answers, property_names_false_answers};
+ghost use Rattle.olk_tree.specs.Required.{required_answers};
+ghost use Rattle.olk_tree.specs.Validators.{answers_of};
+
+use crate::additional_properties::AdditionalProperties;
+use crate::all_of::{AllOf, SingleValueAllOf};
+use crate::any_of::{AnyOf, SingleAnyOf};
+use crate::dependencies::Dependencies;
+use crate::if_::{IfElse, IfThen, IfThenElse};
+use crate::means::{Means, Reports};
+use crate::node::{Body, KeywordOver};
+use crate::not::Not;
+use crate::one_of::{OneOf, SingleOneOf};
+use crate::pattern_properties::{PatternProperties, SingleValuePatternProperties};
+use crate::properties::{Properties, SmallPropertiesWithRequired2};
+use crate::property_dependencies::PropertyDependencies;
+use crate::property_names::{PropertyNames, PropertyNamesFalse};
+use crate::required::RequiredValidator;
+use olk_base::{Leaf, RegexEngine};
+
+impl<N: Means> Means for Properties<N> {
+    ghost means = { λ k. (properties_answers k).means N.means };
+}
+
+impl<N: Reports> Reports for Properties<N> {
+    ghost report = { λ k. (properties_answers k).report N.means N.report };
+
+    ghost first = { λ k. (properties_answers k).first N.means N.report N.first };
+
+    ghost agrees = { λ k u. (properties_answers k).agrees N.means N.report u
+        (λ n. N.agrees n u) };
+
+    ghost first_agrees = { λ k u. (properties_answers k).first_agrees N.means N.report N.first u
+        (λ n. N.first_agrees n u) };
+}
+
+impl<N: Means> Means for SmallPropertiesWithRequired2<N> {
+    ghost means = { λ k. (properties_with_required2_answers k).means N.means };
+}
+
+impl<N: Reports> Reports for SmallPropertiesWithRequired2<N> {
+    ghost report = { λ k. (properties_with_required2_answers k).report N.means N.report };
+
+    ghost first = { λ k. (properties_with_required2_answers k).first N.means N.report N.first };
+
+    ghost agrees = { λ k u. (properties_with_required2_answers k).agrees N.means N.report u
+        (λ n. N.agrees n u) };
+
+    ghost first_agrees = { λ k u. (properties_with_required2_answers k).first_agrees
+        N.means N.report N.first u (λ n. N.first_agrees n u) };
+}
+
+impl Means for RequiredValidator {
+    ghost means = { λ k. (required_answers k).means };
+}
+
+impl Reports for RequiredValidator {
+    ghost report = { λ k. (required_answers k).report };
+
+    ghost first = { λ k. (required_answers k).first };
+
+    ghost agrees = { λ k. (required_answers k).agrees };
+
+    ghost first_agrees = { λ k. (required_answers k).first_agrees };
+}
+
+impl<N: Means> Means for AllOf<N> {
+    ghost means = { λ k. (all_of_answers k).means N.means };
+}
+
+impl<N: Reports> Reports for AllOf<N> {
+    ghost report = { λ k. (all_of_answers k).report N.means N.report };
+
+    ghost first = { λ k. (all_of_answers k).first N.means N.report N.first };
+
+    ghost agrees = { λ k u. (all_of_answers k).agrees N.means N.report u
+        (λ n. N.agrees n u) };
+
+    ghost first_agrees = { λ k u. (all_of_answers k).first_agrees N.means N.report N.first u
+        (λ n. N.first_agrees n u) };
+}
+
+impl<N: Means> Means for SingleValueAllOf<N> {
+    ghost means = { λ k. (single_all_of_answers k).means N.means };
+}
+
+impl<N: Reports> Reports for SingleValueAllOf<N> {
+    ghost report = { λ k. (single_all_of_answers k).report N.means N.report };
+
+    ghost first = { λ k. (single_all_of_answers k).first N.means N.report N.first };
+
+    ghost agrees = { λ k u. (single_all_of_answers k).agrees N.means N.report u
+        (λ n. N.agrees n u) };
+
+    ghost first_agrees = { λ k u. (single_all_of_answers k).first_agrees N.means N.report N.first u
+        (λ n. N.first_agrees n u) };
+}
+
+impl<N: Means> Means for AnyOf<N> {
+    ghost means = { λ k. (any_of_answers k).means N.means };
+}
+
+impl<N: Reports> Reports for AnyOf<N> {
+    ghost report = { λ k. (any_of_answers k).report N.means N.report };
+
+    ghost first = { λ k. (any_of_answers k).first N.means N.report N.first };
+
+    ghost agrees = { λ k u. (any_of_answers k).agrees N.means N.report u
+        (λ n. N.agrees n u) };
+
+    ghost first_agrees = { λ k u. (any_of_answers k).first_agrees N.means N.report N.first u
+        (λ n. N.first_agrees n u) };
+}
+
+impl<N: Means> Means for SingleAnyOf<N> {
+    ghost means = { λ k. (single_any_of_answers k).means N.means };
+}
+
+impl<N: Reports> Reports for SingleAnyOf<N> {
+    ghost report = { λ k. (single_any_of_answers k).report N.means N.report };
+
+    ghost first = { λ k. (single_any_of_answers k).first N.means N.report N.first };
+
+    ghost agrees = { λ k u. (single_any_of_answers k).agrees N.means N.report u
+        (λ n. N.agrees n u) };
+
+    ghost first_agrees = { λ k u. (single_any_of_answers k).first_agrees N.means N.report N.first u
+        (λ n. N.first_agrees n u) };
+}
+
+impl<N: Means> Means for OneOf<N> {
+    ghost means = { λ k. (one_of_answers k).means N.means };
+}
+
+impl<N: Reports> Reports for OneOf<N> {
+    ghost report = { λ k. (one_of_answers k).report N.means N.report };
+
+    ghost first = { λ k. (one_of_answers k).first N.means N.report N.first };
+
+    ghost agrees = { λ k u. (one_of_answers k).agrees N.means N.report u
+        (λ n. N.agrees n u) };
+
+    ghost first_agrees = { λ k u. (one_of_answers k).first_agrees N.means N.report N.first u
+        (λ n. N.first_agrees n u) };
+}
+
+impl<N: Means> Means for SingleOneOf<N> {
+    ghost means = { λ k. (single_one_of_answers k).means N.means };
+}
+
+impl<N: Reports> Reports for SingleOneOf<N> {
+    ghost report = { λ k. (single_one_of_answers k).report N.means N.report };
+
+    ghost first = { λ k. (single_one_of_answers k).first N.means N.report N.first };
+
+    ghost agrees = { λ k u. (single_one_of_answers k).agrees N.means N.report u
+        (λ n. N.agrees n u) };
+
+    ghost first_agrees = { λ k u. (single_one_of_answers k).first_agrees N.means N.report N.first u
+        (λ n. N.first_agrees n u) };
+}
+
+impl<N: Means> Means for Not<N> {
+    ghost means = { λ k. (not_answers k).means N.means };
+}
+
+impl<N: Means> Reports for Not<N> {
+    ghost report = { λ k. not_report k N.means };
+
+    ghost first = { λ k. not_report k N.means };
+
+    ghost agrees = { λ k. not_agrees k N.means };
+
+    ghost first_agrees = { λ k. not_agrees k N.means };
+}
+
+impl<N: Means> Means for IfThen<N> {
+    ghost means = { λ k. (if_then_answers k).means N.means };
+}
+
+impl<N: Reports> Reports for IfThen<N> {
+    ghost report = { λ k. (if_then_answers k).report N.means N.report };
+
+    ghost first = { λ k. (if_then_answers k).first N.means N.report N.first };
+
+    ghost agrees = { λ k u. (if_then_answers k).agrees N.means N.report u
+        (λ n. N.agrees n u) };
+
+    ghost first_agrees = { λ k u. (if_then_answers k).first_agrees N.means N.report N.first u
+        (λ n. N.first_agrees n u) };
+}
+
+impl<N: Means> Means for IfElse<N> {
+    ghost means = { λ k. (if_else_answers k).means N.means };
+}
+
+impl<N: Reports> Reports for IfElse<N> {
+    ghost report = { λ k. (if_else_answers k).report N.means N.report };
+
+    ghost first = { λ k. (if_else_answers k).first N.means N.report N.first };
+
+    ghost agrees = { λ k u. (if_else_answers k).agrees N.means N.report u
+        (λ n. N.agrees n u) };
+
+    ghost first_agrees = { λ k u. (if_else_answers k).first_agrees N.means N.report N.first u
+        (λ n. N.first_agrees n u) };
+}
+
+impl<N: Means> Means for IfThenElse<N> {
+    ghost means = { λ k. (if_then_else_answers k).means N.means };
+}
+
+impl<N: Reports> Reports for IfThenElse<N> {
+    ghost report = { λ k. (if_then_else_answers k).report N.means N.report };
+
+    ghost first = { λ k. (if_then_else_answers k).first N.means N.report N.first };
+
+    ghost agrees = { λ k u. (if_then_else_answers k).agrees N.means N.report u
+        (λ n. N.agrees n u) };
+
+    ghost first_agrees = { λ k u. (if_then_else_answers k).first_agrees N.means N.report N.first u
+        (λ n. N.first_agrees n u) };
+}
+
+impl<N: Means> Means for Dependencies<N> {
+    ghost means = { λ k. (dependencies_answers k).means N.means };
+}
+
+impl<N: Reports> Reports for Dependencies<N> {
+    ghost report = { λ k. (dependencies_answers k).report N.means N.report };
+
+    ghost first = { λ k. (dependencies_answers k).first N.means N.report N.first };
+
+    ghost agrees = { λ k u. (dependencies_answers k).agrees N.means N.report u
+        (λ n. N.agrees n u) };
+
+    ghost first_agrees = { λ k u. (dependencies_answers k).first_agrees N.means N.report N.first u
+        (λ n. N.first_agrees n u) };
+}
+
+impl<N: Means> Means for PropertyNames<N> {
+    ghost means = { λ k. (property_names_answers k).means N.means };
+}
+
+impl<N: Reports> Reports for PropertyNames<N> {
+    ghost report = { λ k. (property_names_answers k).report N.means N.report };
+
+    ghost first = { λ k. (property_names_answers k).first N.means N.report N.first };
+
+    ghost agrees = { λ k u. (property_names_answers k).agrees N.means N.report u
+        (λ n. N.agrees n u) };
+
+    ghost first_agrees = { λ k u. (property_names_answers k).first_agrees N.means N.report N.first u
+        (λ n. N.first_agrees n u) };
+}
+
+impl Means for PropertyNamesFalse {
+    ghost means = { λ k. (property_names_false_answers k).means };
+}
+
+impl Reports for PropertyNamesFalse {
+    ghost report = { λ k. (property_names_false_answers k).report };
+
+    ghost first = { λ k. (property_names_false_answers k).first };
+
+    ghost agrees = { λ k. (property_names_false_answers k).agrees };
+
+    ghost first_agrees = { λ k. (property_names_false_answers k).first_agrees };
+}
+
+impl<N: Means> Means for PropertyDependencies<N> {
+    ghost means = { λ k. (property_dependencies_answers k).means N.means };
+}
+
+impl<N: Reports> Reports for PropertyDependencies<N> {
+    ghost report = { λ k. (property_dependencies_answers k).report N.means N.report };
+
+    ghost first = { λ k. (property_dependencies_answers k).first N.means N.report N.first };
+
+    ghost agrees = { λ k u. (property_dependencies_answers k).agrees N.means N.report u
+        (λ n. N.agrees n u) };
+
+    ghost first_agrees = { λ k u. (property_dependencies_answers k).first_agrees
+        N.means N.report N.first u (λ n. N.first_agrees n u) };
+}
+
+impl<R: RegexEngine, N: Means> Means for PatternProperties<R, N> {
+    ghost means = { λ k. (pattern_properties_answers R.answers R.costs k).means N.means };
+}
+
+impl<R: RegexEngine, N: Reports> Reports for PatternProperties<R, N> {
+    ghost report = { λ k. (pattern_properties_answers R.answers R.costs k).report
+        N.means N.report };
+
+    ghost first = { λ k. (pattern_properties_answers R.answers R.costs k).first
+        N.means N.report N.first };
+
+    ghost agrees = { λ k u. (pattern_properties_answers R.answers R.costs k).agrees
+        N.means N.report u
+        (λ n. N.agrees n u) };
+
+    ghost first_agrees = { λ k u. (pattern_properties_answers R.answers R.costs k).first_agrees
+        N.means N.report N.first u
+        (λ n. N.first_agrees n u) };
+}
+
+impl<R: RegexEngine, N: Means> Means for SingleValuePatternProperties<R, N> {
+    ghost means = { λ k. (single_pattern_properties_answers R.answers R.costs k).means N.means };
+}
+
+impl<R: RegexEngine, N: Reports> Reports for SingleValuePatternProperties<R, N> {
+    ghost report = { λ k. (single_pattern_properties_answers R.answers R.costs k).report
+        N.means N.report };
+
+    ghost first = { λ k. (single_pattern_properties_answers R.answers R.costs k).first
+        N.means N.report N.first };
+
+    ghost agrees = { λ k u. (single_pattern_properties_answers R.answers R.costs k).agrees
+        N.means N.report u (λ n. N.agrees n u) };
+
+    ghost first_agrees = { λ k u. (single_pattern_properties_answers R.answers R.costs k).first_agrees
+        N.means N.report N.first u (λ n. N.first_agrees n u) };
+}
+
+impl<R: RegexEngine, N: Means> Means for AdditionalProperties<R, N> {
+    ghost means = { λ k. (additional_properties_answers R.answers R.costs k).means N.means };
+}
+
+impl<R: RegexEngine, N: Reports> Reports for AdditionalProperties<R, N> {
+    ghost report = { λ k. (additional_properties_answers R.answers R.costs k).report
+        N.means N.report };
+
+    ghost first = { λ k. (additional_properties_answers R.answers R.costs k).first
+        N.means N.report N.first };
+
+    ghost agrees = { λ k u. (additional_properties_answers R.answers R.costs k).agrees
+        N.means N.report u
+        (λ n. N.agrees n u) };
+
+    ghost first_agrees = { λ k u. (additional_properties_answers R.answers R.costs k).first_agrees
+        N.means N.report N.first u
+        (λ n. N.first_agrees n u) };
+}
+
+impl<K: Leaf, R: RegexEngine, N: Means> Means for KeywordOver<K, R, N> {
+    ghost means = { λ k. (answers_of (kit K.Leaf R.RegexEngine) k).means N.means };
+}
+
+impl<K: Leaf, R: RegexEngine, N: Reports> Reports for KeywordOver<K, R, N> {
+    ghost report = { λ k. (answers_of (kit K.Leaf R.RegexEngine) k).report N.means N.report };
+
+    ghost first = { λ k. (answers_of (kit K.Leaf R.RegexEngine) k).first N.means N.report N.first };
+
+    ghost agrees = { λ k u. (answers_of (kit K.Leaf R.RegexEngine) k).agrees
+        N.means N.report u (λ n. N.agrees n u) };
+
+    ghost first_agrees = { λ k u. (answers_of (kit K.Leaf R.RegexEngine) k).first_agrees
+        N.means N.report N.first u (λ n. N.first_agrees n u) };
+}
+
+impl<W: Means> Means for Body<W> {
+    ghost means = { body_means W.means };
+}
