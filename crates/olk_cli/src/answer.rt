@@ -3,14 +3,14 @@ ghost use Rattle.std.specs.Prelude.{◌≡◌, false, IfOk, option_map};
 ghost use Rattle.serde_json.specs.View.{view};
 ghost use Rattle.olk_spec.specs.Bench.{bench};
 ghost use Rattle.olk_base.specs.Kit.{kit, world};
-ghost use Rattle.object_logic.specs.Validators.{IsValidatorOf};
+ghost use Rattle.olk_validator.specs.Validators.{IsValidatorOf};
 ghost use Rattle.olk_cli.specs.Answers.{IsReply, IsReplyBy, IsAnswer};
 ghost use Rattle.olk_cli.specs.Requests.{value_of, has_fraction};
 ghost use Rattle.olk_cli.specs.Seen.{seen};
 ghost use Rattle.olk_cli.specs.declared.request.Ask.TheVariants.{Valid, First, Errors, Evaluate};
 
 use crate::request::{Ask, Request, read_request};
-use object_logic::{BuildError, Leaf, Meter, RegexEngine, ValidationContext, Validator};
+use olk_validator::{BuildError, Leaf, Meter, RegexEngine, ValidationContext, Validator};
 use olk_answers::{
     errors_text, evaluation_text, first_text, malformation_text, refusal_text, verdict_text,
 };

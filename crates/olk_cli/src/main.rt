@@ -1,6 +1,6 @@
 //! Answers requests to validate, one a line.
 //!
-//! Stands on `object_logic`, `olk_bench`, `olk_answers` and `olk_lines`. Tested by its files
+//! Stands on `olk_validator`, `olk_bench`, `olk_answers` and `olk_lines`. Tested by its files
 //! `stdin` and `stdout`.
 #![tactic(auto)]
 

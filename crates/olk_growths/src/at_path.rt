@@ -1,6 +1,6 @@
 //! The calls that are handed a path.
 use crate::TRIES;
-use object_logic::{
+use olk_validator::{
     Errors, Evaluate, InstancePath, Leaf, Node, RegexEngine, SchemaNode, ValidateError,
     ValidationContext,
 };

@@ -3,13 +3,13 @@
 //! A line names a call, with what it has to leave as it was, and the lines behind it say what was
 //! answered. `tools/refused_growths` refuses each growth in turn and compares the lines.
 //!
-//! Stands on `object_logic` and `olk_bench`. Tested by its files `stdin` and `stdout`.
+//! Stands on `olk_validator` and `olk_bench`. Tested by its files `stdin` and `stdout`.
 #![tactic(auto)]
 
 mod at_path;
 
 use at_path::ask_at_path;
-use object_logic::{
+use olk_validator::{
     AnnotationEntry, BuildError, Context, ErrorEntry, Evaluation, Leaf, Meter, RegexEngine,
     ValidateError, ValidationContext, ValidationError, Validator, compile,
 };

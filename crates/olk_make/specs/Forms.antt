@@ -48,7 +48,7 @@ IsFormOfPatternProperties P es (keyword.PatternProperties k) = (k.patterns.items
 IsFormOfPatternProperties P es (keyword.SingleValuePatternProperties k) = (es ≡ (k.regex, k.node) ∷ []) × (k.location ≡ P)
 IsFormOfPatternProperties P es k = ⊥
 
--- a map for so many names: from HASHMAP_THRESHOLD names on they are found by their hash
+-- a map for so many names: from HASHMAP_THRESHOLD names on they are held in a big map
 abbrev pub IsMapFor : {N : Type 0} → ℕ → PropertiesMap N → Type 0
 IsMapFor n (Small m) = n < HASHMAP_THRESHOLD
 IsMapFor n (Big m) = HASHMAP_THRESHOLD ≤ n

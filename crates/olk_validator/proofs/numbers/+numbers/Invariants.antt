@@ -2,7 +2,7 @@
 use Rattle.std.proofs.Common.{◌≡◌, drop}
 use Rattle.serde_json.specs.View.{items_view, members_view}
 use Rattle.serde_json.specs.Written.{items_have_float, members_have_float}
-use Rattle.object_logic.proofs.numbers.+numbers.Given as goal
+use Rattle.olk_validator.proofs.numbers.+numbers.Given as goal
 
 abbrev pub invariant-items_hold_whole_numbers-loop-item : goal.invariant-items_hold_whole_numbers-loop-item
 invariant-items_hold_whole_numbers-loop-item l = items_have_float (items_view (drop l.item-index l.item-items)) ≡ items_have_float (items_view l.items.items)

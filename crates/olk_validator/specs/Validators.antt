@@ -5,7 +5,7 @@ use Rattle.olk_spec.specs.Faults.{Fault}
 use Rattle.olk_base.specs.Kit.{Kit}
 use Rattle.olk_node.specs.Nodes.{answers}
 use Rattle.olk_node.specs.Stands.{StandsFor}
-use Rattle.object_logic.specs.declared.validator.Validator.{Validator}
+use Rattle.olk_validator.specs.declared.validator.Validator.{Validator}
 
 -- its root stands for the schema at the empty path
 pub record IsValidatorOf {K R : Type 0} (o : Kit K R) (v : Validator K R) (S : Data) : Type 0 where

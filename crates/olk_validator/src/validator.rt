@@ -12,7 +12,7 @@ ghost use Rattle.olk_base.specs.Kit.{kit, world};
 ghost use Rattle.olk_check.specs.Asks.{OnlyAsks};
 ghost use Rattle.olk_read.specs.Refusing.{TellsOneOf, Spends, SpendsWithin};
 ghost use Rattle.olk_errors.specs.Found.{Appends, IfInvalid, IsLikeOneOf, IsRefusal};
-ghost use Rattle.object_logic.specs.Validators.{IsValidatorOf, first_faults};
+ghost use Rattle.olk_validator.specs.Validators.{IsValidatorOf, first_faults};
 
 use olk_base::{Leaf, MakeLeaf, MakeRegex, Meter, Node, RegexEngine, ValidationContext};
 use olk_build::{Context, compile};

@@ -8,7 +8,7 @@ use Rattle.olk_node.specs.Nodes.{answers}
 use Rattle.olk_check.proofs.Asked.{only_then}
 use Rattle.olk_errors.specs.Found.{IsLikeOneOf, IsRefusal}
 use Rattle.olk_errors.proofs.Appending.{told_so}
-use Rattle.object_logic.proofs.validator.Validator.validate.Goals as goal
+use Rattle.olk_validator.proofs.validator.Validator.validate.Goals as goal
 
 pub returns-then-is_valid_for-clause-ok : goal.returns-then-is_valid_for-clause-ok
 returns-then-is_valid_for-clause-ok g c S stands = sym (c.if-is_valid_for.ensures.schema S [] stands.root).verdict
