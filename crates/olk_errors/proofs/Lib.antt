@@ -1,6 +1,6 @@
 pub mod Appending
 mod Steps
-mod Own
+pub mod Own
 mod Missing
 mod Fused
 mod OneOf

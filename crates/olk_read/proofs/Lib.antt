@@ -2,7 +2,7 @@ pub mod Spending
 pub mod SoFar
 pub mod KeywordNames
 pub mod Read
-mod Shapes
+pub mod Shapes
 mod Entries
 mod Texts
 mod NameLists

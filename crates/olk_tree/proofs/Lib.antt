@@ -15,6 +15,7 @@ pub mod Literals
 mod Bits
 pub mod Tables
 pub mod OneOf
+pub mod Branches
 pub mod AdditionalMaps
 pub mod Answering
 pub mod AskedSchemas

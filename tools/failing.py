@@ -1,0 +1,192 @@
+"""Runs programs whose growths, reads or writes fail: what the tools share that refuse growths or fail reads and writes."""
+import argparse
+import json
+import os
+import shutil
+import subprocess
+import sys
+import tempfile
+import time
+from concurrent.futures import ThreadPoolExecutor
+from dataclasses import dataclass
+
+TOOLS = os.path.dirname(os.path.abspath(__file__))
+TOP = os.path.dirname(TOOLS)
+ASKS = ["valid", "first", "errors", "evaluate"]
+# So many faults of a case are told.
+TOLD = 3
+# Of so many runs one is made where few are wanted.
+QUICK = 15
+
+
+def compact(value):
+    return json.dumps(value, separators=(",", ":"), ensure_ascii=False)
+
+
+def cases():
+    """Schemas and instances, with their names."""
+    rest_is_closed = {"additionalProperties": False}
+    refusing = {"^bar": {"type": "integer", "minimum": 5}, "spam$": {"type": "integer", "maximum": 10}}
+    two = {"foo": {"type": "string"}, "barbaz": {"type": "integer", "multipleOf": 3}}
+    of_patterns = {**rest_is_closed, "properties": two, "patternProperties": refusing}
+    lists = {"id": {"type": "integer"}, **{name: {"type": "array"} for name in "abcde"}}
+    of_lists = {**rest_is_closed, "properties": lists, "required": ["id"]}
+    many = {f"m{i:02}": {} for i in range(65)}
+    one = {**rest_is_closed, "properties": {"m64": {}}}
+    names = [f"p{i:02}" for i in range(20)]
+    of_names = {"properties": {name: {"type": "integer"} for name in names[:16]}}
+    matched = {"p": {"minimum": 3}, "(slow)1": {"type": "string"}}
+    every_keyword = {
+        "allOf": [
+            {"required": ["a", "b"]},
+            {"properties": {"c": {"type": "string"}}},
+            {"patternProperties": {"c": {"minimum": 7}, "^c": False}},
+            {"patternProperties": {"^d": {"type": "null"}}},
+            {**rest_is_closed, "patternProperties": {"c": {"minimum": 7}}, "properties": {"d": {"type": "string"}}},
+            {**rest_is_closed, "properties": {"c": {}}, "required": ["z"]},
+            {"additionalProperties": {"type": "null"}},
+        ],
+        "anyOf": [{"required": ["a"]}, {"properties": {"c": False}}],
+        "not": {"required": ["c"]},
+        "oneOf": [{"required": ["q"]}, {"if": {"type": "object"}, "then": {"required": ["w"]}, "else": True}],
+        "dependencies": {"c": ["e"], "d": {"required": ["e"]}},
+        "dependentRequired": {"c": ["d", "e"]},
+        "dependentSchemas": {"d": {"required": ["e"]}},
+        "propertyDependencies": {"k": {"t": {"required": ["e"]}}},
+        "propertyNames": {"not": {"const": "k"}},
+        "properties": {"c": {"minimum": 5}, "d": {"type": "integer"}},
+        "required": ["a", "b"],
+    }
+    return [
+        ("two patterns that refuse, beside declared names", of_patterns, {"bar": 4, "spam": 11, "foo": 3, "faz": 1}),
+        ("a pattern that refuses a declared name", of_patterns, {"barbaz": 3}),
+        ("names that nothing allows", of_patterns, {"faz": 1, "haz": 1}),
+        ("containers that are held back, one refused", of_lists, {**dict.fromkeys("abcd", []), "e": {}, "id": 1}),
+        ("containers that are held back", of_lists, {**dict.fromkeys("abcde", []), "id": 1}),
+        ("contexts inside anyOf", {"anyOf": [{"type": "integer"}, {"required": ["a", "b"]}]}, {}),
+        ("a name that a leaf refuses", {"propertyNames": {"minLength": 2}}, {"f": 1}),
+        ("a name where none is allowed", {"propertyNames": False}, {"foo": 1}),
+        ("a name that is no object", {"propertyNames": {"properties": {"a": False}}}, {"a": 1}),
+        ("65 patterns beside a declared name", {**one, "patternProperties": many}, {"m64": 1}),
+        ("66 patterns, one left unfinished", {**one, "patternProperties": {**many, "(slow)m64": False}}, {"m64": 1}),
+        ("annotations", {"properties": {"a": {"properties": {"b": {}}}}, "patternProperties": {"a": {}}}, {"a": {"b": 1}}),
+        ("every keyword", every_keyword, {"c": 1, "d": 2, "k": "t"}),
+        ("16 declared names", {**of_names, "required": ["p00", "zz"]}, dict.fromkeys(names, "x")),
+        (
+            "16 declared names, patterns and a rest",
+            {**of_names, "additionalProperties": {"type": "integer"}, "patternProperties": matched},
+            dict.fromkeys(names, 1),
+        ),
+        ("a malformed keyword", {"properties": 5}, 1),
+        ("a malformed pattern", {"patternProperties": {"a/b~(": {}}}, 1),
+    ]
+
+
+@dataclass
+class Ran:
+    status: int
+    lines: list
+    # How many growths, reads and writes there were before each write, and in all.
+    counts: list
+
+
+class Trials:
+    """The cases, each given to a program as it is, and with each of its calls failing that a tool is about."""
+
+    # The crate of the program.
+    crate = None
+
+    def given(self, schema, instance):
+        """What the program is given of a case."""
+        raise NotImplementedError
+
+    def fault_of_full(self, full, given):
+        """What is wrong with the run in which nothing fails, if anything is."""
+        raise NotImplementedError
+
+    def failures(self, full):
+        """What fails in each other run, by the names of failing.c."""
+        raise NotImplementedError
+
+    def fault(self, full, ran, failing):
+        """What is wrong with such a run, if anything is."""
+        raise NotImplementedError
+
+    def about(self, full):
+        """What else is told of a case."""
+        return ""
+
+    def run(self, **failing):
+        said = {"LD_PRELOAD": self.library, **{name: str(number) for name, number in failing.items()}}
+        # From a file reads are the same each time.
+        with open(self.input, "rb") as given:
+            ran = subprocess.run([self.program], stdin=given, capture_output=True, env=said)
+        lines = ran.stdout.decode(errors="replace").splitlines(keepends=True)
+        return Ran(ran.returncode, lines, [tuple(map(int, line.split())) for line in ran.stderr.splitlines()])
+
+    def faults(self, full, failures, pool):
+        """What is wrong with each run where anything is."""
+        found = pool.map(lambda failing: self.fault(full, self.run(**failing), failing), failures)
+        return [f"{failing}: {fault}" for failing, fault in zip(failures, found) if fault]
+
+    def try_case(self, name, given, pool, step):
+        """How many runs there were, and how many failed."""
+        started = time.time()
+        with open(self.input, "w", encoding="utf-8") as file:
+            file.write(given)
+        full = self.run()
+        fault = self.fault_of_full(full, given)
+        failures = [] if fault else self.failures(full)[::step]
+        faults = [f"nothing fails: {fault}"] if fault else self.faults(full, failures, pool)
+        count, seconds = 1 + len(failures), time.time() - started
+        print(f"{name}: {count} runs in {seconds:.0f} s, {len(faults)} failed{'' if fault else self.about(full)}")
+        for fault in faults[:TOLD]:
+            print(f"    {fault[:400]}")
+        sys.stdout.flush()
+        return count, len(faults)
+
+    def main(self, doc):
+        """Tries all cases as the words of the command say, and gives the exit status."""
+        _, usage, told = doc.split("\n\n", 2)
+        parser = argparse.ArgumentParser(
+            usage=usage.strip(), description=told, formatter_class=argparse.RawDescriptionHelpFormatter
+        )
+        parser.add_argument("program", nargs="?", default=f"{TOP}/crates/{self.crate}/out/{self.crate}")
+        parser.add_argument("--quick", action="store_true")
+        parser.add_argument("--jobs", type=int, default=1)
+        options = parser.parse_args()
+        self.program = os.path.abspath(options.program)
+        if not os.access(self.program, os.X_OK):
+            sys.exit(f"{self.program} is not there: rt ci proves and builds it")
+        with tempfile.TemporaryDirectory() as room, ThreadPoolExecutor(options.jobs) as pool:
+            self.library, self.input = failing_library(room), f"{room}/input"
+            step = QUICK if options.quick else 1
+            tried = [self.try_case(name, self.given(*case), pool, step) for name, *case in cases()]
+        runs, failed = map(sum, zip(*tried))
+        print(f"{runs - failed} passed, {failed} failed")
+        return 1 if failed else 0
+
+
+def failing_library(folder):
+    """failing.c, compiled by the kit's clang, or where there is no kit by cc."""
+    rt = shutil.which("rt")
+    compiler = f"{os.path.dirname(os.path.dirname(os.path.realpath(rt)))}/toolchain/bin/clang" if rt else "cc"
+    library = f"{folder}/failing.so"
+    subprocess.run([compiler, "-shared", "-fPIC", "-O1", "-nostdlib", f"{TOOLS}/failing.c", "-o", library], check=True)
+    return library
+
+
+class Lines(Trials):
+    """The program olk_cli, which is given eight lines of each case: all four asks, with either answer for matches that are
+    left unfinished."""
+
+    crate = "olk_cli"
+
+    def given(self, schema, instance):
+        asked = [{"ask": ask, "schema": schema, "instance": instance} for ask in ASKS]
+        return "".join(f"{compact({**it, 'unfinished': answer})}\n" for it in asked for answer in (False, True))
+
+    def fault_of_full(self, full, given):
+        if full.status or len(full.lines) != given.count("\n"):
+            return f"status {full.status} after {len(full.lines)} lines"
+        return None
