@@ -1,16 +1,22 @@
 -- Lists of names, each name once.
-use Rattle.std.specs.Prelude.{◌≡◌, true, false, ◌&&◌, ◌||◌, List, [], ◌∷◌, ◌++◌, Some, bytes_eq}
+use Rattle.std.specs.Prelude.{◌≡◌, ℕ, ◌+◌, ◌<◌, Bool, true, false, not, cond, ◌&&◌, ◌||◌, List, [], ◌∷◌, ◌++◌, length, drop, slice_index_or as get_or, Some, None, is_some, bytes_eq}
 use Rattle.std.specs.List.{list_all, list_any}
-use Rattle.std.proofs.Common.{refl, sym, ◌∙◌, ap, subst, true≢false}
-use Rattle.std.proofs.Math.Bool.{or-false}
+use Rattle.std.specs.Ordering.{nat_cmp}
+use Rattle.std.specs.Cmp.Lexicographic.{slice_cmp}
+use Rattle.std.specs.BTreeMap.{is_at}
+use Rattle.std.specs.BTreeSet.{BTreeSet, contains_by, IsEmpty, Updates}
+use Rattle.std.proofs.Common.{Bor, refl, sym, ◌∙◌, ap, subst, true≢false}
+use Rattle.std.proofs.lemmas.List.{at_drop_more}
+use Rattle.std.proofs.lemmas.Map.Text.{is_eq-slice_cmp}
 use Rattle.serde_json.specs.Data.{Data, null, boolean, number, string, array, object, Items, item}
 use Rattle.serde_json.specs.Find.{as_str}
 use Rattle.serde_json.specs.View.{view, items_view}
 use Rattle.serde_json.specs.declared.value.Value.{Value}
 use Rattle.olk_spec.specs.Names.{Name, Path, ◌//◌, is_among, is_empty, put_if}
 use Rattle.olk_spec.specs.Faults.{Fault, UniqueItems}
-use Rattle.olk_spec.specs.Schemas.{is_array, texts_in, as_text}
+use Rattle.olk_spec.specs.Schemas.{is_array, texts_in}
 use Rattle.olk_spec.specs.Malformed.{name_list_refusals, unless_array, or_else_list, refusal, has_repeat, not_a_text}
+use Rattle.std.proofs.Math.Bool.{or-false, not-not}
 use Rattle.olk_reports.specs.declared.error.BuildError.{BuildError}
 use Rattle.olk_read.specs.Lists.{name_list_faults}
 use Rattle.olk_read.specs.Refusing.{TellsOneOf}
@@ -19,20 +25,73 @@ use Rattle.olk_read.proofs.Texts.{text_at}
 
 -- ---- names that are repeated
 
-among_first : (n : Name) (d : Data) (ds : Items) → is_among n (texts_in (item d ds)) ≡ (is_among n (as_text d) || is_among n (texts_in ds))
-among_first n (string s) ds = ap (λ b. b || is_among n (texts_in ds)) (sym (or-false (bytes_eq n s)))
-among_first n null ds = refl
-among_first n (boolean b) ds = refl
-among_first n (number m) ds = refl
-among_first n (array es) ds = refl
-among_first n (object ms) ds = refl
+-- whether a name is among those that were seen
+abbrev pub is_seen : BTreeSet (Bor (List ℕ)) → Name → Bool
+is_seen seen n = contains_by (λ k. slice_cmp nat_cmp n k.now) seen
 
-among_items : (n : Name) (vs : List Value) → list_any (λ v. is_among n (as_text (view v))) vs ≡ is_among n (texts_in (items_view vs))
-among_items n [] = refl
-among_items n (v ∷ vs) = ap (λ b. is_among n (as_text (view v)) || b) (among_items n vs) ∙ sym (among_first n (view v) (items_view vs))
+-- whether one of these texts was seen, or two of them are equal
+abbrev pub meets_again : BTreeSet (Bor (List ℕ)) → List Value → Bool
+meets_again seen vs = list_any (is_seen seen) (texts_in (items_view vs)) || has_repeat (texts_in (items_view vs))
 
-pub text_repeated : (n : Name) (d : Data) (vs : List Value) → as_str d ≡ Some n → list_any (λ v. is_among n (as_text (view v))) vs ≡ list_any (λ t. is_among t (texts_in (items_view vs))) (as_text d)
-text_repeated n d vs e = among_items n vs ∙ sym (or-false (is_among n (texts_in (items_view vs)))) ∙ ap (λ x. list_any (λ t. is_among t (texts_in (items_view vs))) (as_text x)) (sym (text_at d n e))
+pub meets_none_seen : (seen : BTreeSet (Bor (List ℕ))) (vs : List Value) → IsEmpty seen → meets_again seen vs ≡ has_repeat (texts_in (items_view vs))
+meets_none_seen seen vs e = ap (λ b. b || has_repeat (texts_in (items_view vs))) (none (texts_in (items_view vs)))
+  where
+    none : (ns : List Name) → list_any (is_seen seen) ns ≡ false
+    none [] = refl
+    none (n ∷ ns) = ap (λ ks. list_any (is_at (λ k. slice_cmp nat_cmp n k.now)) ks || list_any (is_seen seen) ns) e ∙ none ns
+
+pub meets_past_others : (seen : BTreeSet (Bor (List ℕ))) (v : Value) (vs : List Value) → as_str (view v) ≡ None → meets_again seen (v ∷ vs) ≡ meets_again seen vs
+meets_past_others seen v vs e = past (view v) e
+  where
+    past : (d : Data) → as_str d ≡ None → (list_any (is_seen seen) (texts_in (item d (items_view vs))) || has_repeat (texts_in (item d (items_view vs)))) ≡ meets_again seen vs
+    past null h = refl
+    past (boolean b) h = refl
+    past (number n) h = refl
+    past (string s) h = absurd (true≢false (ap is_some h))
+    past (array ds) h = refl
+    past (object ms) h = refl
+
+module _ (seen : BTreeSet (Bor (List ℕ))) (n : Name) (v : Value) (vs : List Value) (text : as_str (view v) ≡ Some n) where
+  with_text : meets_again seen (v ∷ vs) ≡ (list_any (is_seen seen) (n ∷ texts_in (items_view vs)) || has_repeat (n ∷ texts_in (items_view vs)))
+  with_text = ap (λ d. list_any (is_seen seen) (texts_in (item d (items_view vs))) || has_repeat (texts_in (item d (items_view vs)))) (text_at (view v) n text)
+
+  pub meets_seen : false ≡ not (is_seen seen n) → meets_again seen (v ∷ vs) ≡ true
+  meets_seen s = with_text ∙ ap (λ b. (b || list_any (is_seen seen) (texts_in (items_view vs))) || has_repeat (n ∷ texts_in (items_view vs))) (sym (not-not (is_seen seen n)) ∙ ap not (sym s))
+
+  pub meets_past_new : (more : BTreeSet (Bor (List ℕ))) → true ≡ not (is_seen seen n) → ((m : Name) → is_seen more m ≡ (bytes_eq n m || is_seen seen m)) → meets_again seen (v ∷ vs) ≡ meets_again more vs
+  meets_past_new more s u = with_text
+      ∙ ap (λ b. (b || list_any (is_seen seen) (texts_in (items_view vs))) || has_repeat (n ∷ texts_in (items_view vs))) (sym (not-not (is_seen seen n)) ∙ ap not (sym s))
+      ∙ in_turn (list_any (is_seen seen) (texts_in (items_view vs))) (is_among n (texts_in (items_view vs))) (has_repeat (texts_in (items_view vs)))
+      ∙ sym (ap (λ b. b || has_repeat (texts_in (items_view vs))) (seen_more (texts_in (items_view vs))))
+    where
+      in_turn : (a b c : Bool) → (a || (b || c)) ≡ ((b || a) || c)
+      in_turn true true c = refl
+      in_turn true false c = refl
+      in_turn false b c = ap (λ d. d || c) (sym (or-false b))
+
+      apart : (a b c d : Bool) → ((a || b) || (c || d)) ≡ ((a || c) || (b || d))
+      apart true b c d = refl
+      apart false true true d = refl
+      apart false true false d = refl
+      apart false false c d = refl
+
+      seen_more : (ms : List Name) → list_any (is_seen more) ms ≡ (is_among n ms || list_any (is_seen seen) ms)
+      seen_more [] = refl
+      seen_more (m ∷ ms) = (λ i. u m i || seen_more ms i) ∙ apart (bytes_eq n m) (is_seen seen m) (is_among n ms) (list_any (is_seen seen) ms)
+
+-- the items from a place on begin with the item there
+pub meets_at : (seen : BTreeSet (Bor (List ℕ))) (vs : List Value) (i : ℕ) (v : Value) → i < length vs → v ≡ get_or vs i v → meets_again seen (drop i vs) ≡ meets_again seen (v ∷ drop (i + 1) vs)
+meets_at seen vs i v l e = at_drop_more (meets_again seen) vs i v l ∙ ap (λ w. meets_again seen (w ∷ drop (i + 1) vs)) (sym e)
+
+-- what was seen before, and one name more
+pub seen_one_more : (seen more : BTreeSet (Bor (List ℕ))) (n : Bor (List ℕ)) → Updates (λ x y. slice_cmp nat_cmp x.now y.now) seen more n true → (m : Name) → is_seen more m ≡ (bytes_eq n.now m || is_seen seen m)
+seen_one_more seen more n u m = u.0 (record n { now = m })
+    ∙ ap (λ b. cond b true (is_seen seen m)) (is_eq-slice_cmp n.now m)
+    ∙ if_or (bytes_eq n.now m) (is_seen seen m)
+  where
+    if_or : (a b : Bool) → cond a true b ≡ (a || b)
+    if_or true b = refl
+    if_or false b = refl
 
 -- ---- what is wrong with an entry
 

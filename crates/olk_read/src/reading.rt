@@ -1,11 +1,10 @@
 //! Reading the values of keywords, as far as this needs no nodes.
-ghost use Rattle.std.specs.Prelude.{◌≡◌, ◌++◌, ◌||◌, Bool, false, true, cond, [], codes, map, string_bytes, IfOk, IfErr};
+ghost use Rattle.std.specs.Prelude.{◌≡◌, ◌++◌, Bool, false, true, cond, [], codes, map, string_bytes, IfOk, IfErr};
 ghost use Rattle.serde_json.specs.Data.{array, object};
 ghost use Rattle.serde_json.specs.View.{view, items_view, members_view};
-ghost use Rattle.std.specs.List.{list_any};
 ghost use Rattle.olk_spec.specs.Names.{is_among};
 ghost use Rattle.olk_spec.specs.Vocabulary.{unsupported_names, keyword_named, leaf};
-ghost use Rattle.olk_spec.specs.Schemas.{listed, members, texts, texts_in, as_text, is_object, is_array, is_truth};
+ghost use Rattle.olk_spec.specs.Schemas.{listed, members, texts, texts_in, is_object, is_array, is_truth};
 ghost use Rattle.olk_spec.specs.Faults.{MultipleTypes};
 ghost use Rattle.olk_spec.specs.Malformed.{unless_kind, unless_object, unless_array, not_a_text, has_repeat, name_list_refusals};
 ghost use Rattle.olk_base.specs.Kit.{kit, world};
@@ -26,7 +25,8 @@ use olk_paths::Location;
 use olk_reports::{BuildError, ValidationErrorKind};
 use olk_tree::map::SortedNames;
 use serde_json::{Map, Value};
-use std::alloc::Global;
+use std::alloc::{AllocError, Global};
+use std::collections::BTreeSet;
 
 /// Which keyword a name is: one that is read here, one that is refused by its name, or any other.
 #[derive(Clone, Copy)]
@@ -217,43 +217,24 @@ fn members_of_object<'a>(
     Ok(members)
 }
 
-/// Whether a value is the text.
-fn is_the_text(value: &Value, text: &str) -> bool
-    ensures { result ≡ is_among text.now (as_text (view value.now)) }
-{
-    value.as_str() == Some(text)
-}
-
-/// Whether the text is among items.
-fn is_among_items(text: &str, items: &[Value]) -> bool
-    ensures { result ≡ list_any (λ v. is_among text.now (as_text (view v))) items.now }
-{
-    items.iter().any(|item| is_the_text(item, text))
-}
-
-/// Whether an item is a text that stands among the items behind it.
-fn is_repeated(item: &Value, behind: &[Value]) -> bool
-    ensures { result ≡ list_any (λ t. is_among t (texts_in (items_view behind.now)))
-        (as_text (view item.now)) }
-{
-    match item.as_str() {
-        Some(text) => is_among_items(text, behind),
-        None => false,
-    }
-}
-
 /// Whether two items are equal texts.
-fn has_repeated_text(items: &[Value]) -> bool
-    ensures { result ≡ has_repeat (texts_in (items_view items.now)) }
+///
+/// # Errors
+///
+/// Want of memory.
+fn has_repeated_text(alloc: Global, items: &[Value]) -> Result<bool, AllocError>
+    ensures { IfOk result (λ b. b ≡ has_repeat (texts_in (items_view items.now))) }
 {
-    let mut left = items;
-    while let Some((item, behind)) = left.split_first() {
-        if is_repeated(item, behind) {
-            return true;
+    let mut seen = BTreeSet::new(alloc);
+    for item in items {
+        if let Some(text) = item.as_str() {
+            let is_new = seen.insert(text)?;
+            if !is_new {
+                return Ok(true);
+            }
         }
-        left = behind;
     }
-    false
+    Ok(false)
 }
 
 /// The names that an entry of `dependentRequired` lists.
@@ -276,7 +257,7 @@ fn names_of_entry<'a>(
 {
     let place = location.join(alloc, key)?;
     let items = items_of_array(alloc, &place, value)?;
-    if has_repeated_text(items) {
+    if has_repeated_text(alloc, items)? {
         return Err(refuse(alloc, ValidationErrorKind::UniqueItems, value, &place));
     }
     texts_of_items(alloc, location, items)

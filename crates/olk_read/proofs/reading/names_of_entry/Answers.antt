@@ -25,15 +25,22 @@ returns-in_err-items c = record {
   refused = exit _ _ _ c.from_residual-in_err-items.ensures.1 (λ e q. no_array_told c.args.key.now c.args.location.now (view c.args.value.now) e (subst (λ P. TellsOneOf (unless_array (view c.args.value.now) P) e) c.in_ok-place.ensures (subst (TellsOneOf _) (sym q) c.in_err-items.ensures.refused)));
 }
 
-pub returns-then-has_repeated_text-clause-refused : goal.returns-then-has_repeated_text-clause-refused
-returns-then-has_repeated_text-clause-refused c = repeat_told c.args.key.now c.args.location.now (view c.args.value.now) (items_view c.in_ok-items.items.now.items) c.refuse.result c.in_ok-items.ensures.array
-    (ap (λ s. has_repeat (texts_in (items_view s))) (sym c.deref.ensures.value) ∙ sym c.has_repeated_text.ensures ∙ c.if-has_repeated_text.true)
+pub returns-in_err-has_repeated_text : goal.returns-in_err-has_repeated_text
+returns-in_err-has_repeated_text c = record {
+  names = IfOk-from_err c.from_residual-in_err-has_repeated_text.result _ c.from_residual-in_err-has_repeated_text.ensures.0;
+  right = IfOk-from_err c.from_residual-in_err-has_repeated_text.result _ c.from_residual-in_err-has_repeated_text.ensures.0;
+  refused = exit _ _ _ c.from_residual-in_err-has_repeated_text.ensures.1 (λ e q. tells_memory _ e _ q);
+}
+
+pub returns-then-branch-clause-refused : goal.returns-then-branch-clause-refused
+returns-then-branch-clause-refused c = repeat_told c.args.key.now c.args.location.now (view c.args.value.now) (items_view c.in_ok-items.items.now.items) c.refuse.result c.in_ok-items.ensures.array
+    (ap (λ s. has_repeat (texts_in (items_view s))) (sym c.deref.ensures.value) ∙ sym c.in_ok-has_repeated_text.ensures ∙ c.if-branch.true)
     (subst₂ (λ k P. TellsOneOf (fault k (view c.args.value.now) [] P ∷ []) c.refuse.result) kind_of_unique_items c.in_ok-place.ensures c.refuse.ensures)
 
 pub returns : goal.returns
 returns c =
     let once = refused_as_texts c.args.key.now c.args.location.now (view c.args.value.now) (items_view c.in_ok-items.items.now.items) c.in_ok-items.ensures.array
-    (ap (λ s. has_repeat (texts_in (items_view s))) (sym c.deref.ensures.value) ∙ sym c.has_repeated_text.ensures ∙ c.if-has_repeated_text.false) in
+    (ap (λ s. has_repeat (texts_in (items_view s))) (sym c.deref.ensures.value) ∙ sym c.in_ok-has_repeated_text.ensures ∙ c.if-branch.false) in
     record {
       names = rw c.in_ok-items.ensures.array c.texts_of_items.ensures.names;
       right = IfOk-weaker c.texts_of_items.result _ _ (λ v h. once ∙ h) c.texts_of_items.ensures.texts;
