@@ -67,7 +67,7 @@ mod all_of;
 mod any_of;
 mod dependencies;
 mod if_;
-mod located;
+mod locations;
 mod node;
 mod not;
 mod one_of;
