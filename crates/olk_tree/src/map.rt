@@ -8,7 +8,7 @@ ghost use Rattle.serde_json.specs.View.{members_view};
 ghost use Rattle.olk_spec.specs.Schemas.{listed};
 ghost use Rattle.olk_tree.specs.Ascending.{Ascend, IsAfter, IsMissed, IsPlaceOf};
 
-use crate::validators_map::{PropertiesValidatorsMap, node_from};
+use crate::validators_map::PropertiesValidatorsMap;
 use olk_base::is_same_text;
 use serde_json::{Map, Value};
 use std::alloc::{AllocError, Global};
@@ -121,7 +121,7 @@ impl SortedNames {
     /// What `find_from` tells where the name at `hint` is another: its place, or else where to look
     /// first for a later name.
     #[inline(never)]
-    pub(crate) fn find_apart(&self, hint: usize, name: &str) -> Result<usize, usize>
+    fn find_apart(&self, hint: usize, name: &str) -> Result<usize, usize>
         ensures { result_ok result ≡ position (λ k. bytes_eq k name.now) self.now }
     {
         let names = self.names.as_slice();
@@ -324,6 +324,12 @@ impl<N> PropertiesValidatorsMap<N> for SmallMap<N> {
     /// As it is given, but inlined into walks.
     #[inline(always)]
     fn validator_from(&self, hint: usize, name: &str) -> (usize, Option<&N>) {
-        node_from(&self.names, &self.nodes, hint, name)
+        if self.names.stands_at(hint, name) {
+            return (hint.saturating_add(1), self.nodes.get(hint));
+        }
+        match self.names.find_apart(hint, name) {
+            Ok(place) => (place.saturating_add(1), self.nodes.get(place)),
+            Err(next) => (next, None),
+        }
     }
 }

@@ -92,12 +92,10 @@ pub fn node_from<'a, N>(
     ensures { option_copied result.1
         ≡ lookup_name name.now (zip names.now nodes.now) }
 {
-    if names.stands_at(hint, name) {
-        return (hint.saturating_add(1), nodes.get(hint));
-    }
-    match names.find_apart(hint, name) {
-        Ok(place) => (place.saturating_add(1), nodes.get(place)),
-        Err(next) => (next, None),
+    let (next, place) = names.find_from(hint, name);
+    match place {
+        Some(place) => (next, nodes.get(place)),
+        None => (next, None),
     }
 }
 
