@@ -10,11 +10,11 @@ ghost use Rattle.olk_cli.specs.Seen.{seen};
 ghost use Rattle.olk_cli.specs.declared.request.Ask.TheVariants.{Valid, First, Errors, Evaluate};
 
 use crate::request::{Ask, Request, read_request};
-use olk_validator::{BuildError, Leaf, Meter, RegexEngine, ValidationContext, Validator};
 use olk_answers::{
     errors_text, evaluation_text, first_text, malformation_text, refusal_text, verdict_text,
 };
 use olk_bench::{BenchLeaves, BenchRegexes};
+use olk_validator::{BuildError, Leaf, Meter, RegexEngine, ValidationContext, Validator};
 use serde_json::Value;
 use std::alloc::{AllocError, Global};
 

@@ -9,11 +9,11 @@
 mod at_path;
 
 use at_path::ask_at_path;
+use olk_bench::{BenchLeaves, BenchRegexes};
 use olk_validator::{
     AnnotationEntry, BuildError, Context, ErrorEntry, Evaluation, Leaf, Meter, RegexEngine,
     ValidateError, ValidationContext, ValidationError, Validator, compile,
 };
-use olk_bench::{BenchLeaves, BenchRegexes};
 use serde_json::Value;
 use std::alloc::Global;
 use std::io::{self, ErrorKind, Read};

@@ -22,7 +22,6 @@ use Rattle.olk_members.proofs.Dependencies as fact
 use Rattle.olk_tree.specs.Questions.{always, every}
 use Rattle.olk_tree.specs.Dependencies.{due_nodes}
 use Rattle.olk_tree.specs.Validators.{answers_of}
-use Rattle.olk_tree.specs.Bodies.{body_means, body_report, body_tree}
 use Rattle.olk_tree.specs.declared.map.SmallMap.{SmallMap}
 use Rattle.olk_tree.specs.declared.node.KeywordOver.{KeywordOver}
 use Rattle.olk_tree.specs.declared.node.KeywordOver.TheVariants as keyword

@@ -1,3 +1,4 @@
+-- Each row of `Rows_bench` holds: the bench.
 use Rattle.std.proofs.Common.{refl}
 use Rattle.std.specs.Fmt.{digits}
 use Rattle.std.specs.Str.{chars}

@@ -1,5 +1,5 @@
 -- What the validators of branches accept, in the words of lists.
-use Rattle.std.specs.Prelude.{◌≡◌, ◌==◌, Bool, not, ◌&&◌, ◌||◌, List, [], ◌∷◌, count_by}
+use Rattle.std.specs.Prelude.{◌≡◌, ◌==◌, Bool, ◌&&◌, ◌||◌, List, [], ◌∷◌, count_by}
 use Rattle.std.specs.List.{list_all, list_any}
 use Rattle.std.proofs.Common.{refl, ap}
 use Rattle.serde_json.specs.Data.{Data}

@@ -1,8 +1,7 @@
-use Rattle.std.proofs.Common.{◌≡◌, rules, map, string_bytes, sym, ap, subst, ◌∙◌}
+use Rattle.std.proofs.Common.{◌≡◌, rules, map, string_bytes, sym, ap, ◌∙◌}
 use Rattle.serde_json.specs.View.{members_view}
 use Rattle.olk_spec.specs.Schemas.{listed}
 use Rattle.std.specs.List.{zip}
-use Rattle.olk_tree.specs.Ascending.{Ascend}
 use Rattle.olk_tree.specs.Visited.{members_declared, names_met, pairs_of}
 use Rattle.olk_tree.proofs.Walked.{either_side, walks_agree}
 use Rattle.olk_tree.proofs.declared.DeclaredMembers.of.Given.{Over}
