@@ -7,7 +7,7 @@ use Rattle.olk_check.proofs.Asked.{only_then}
 use Rattle.olk_evaluate.proofs.additional_members.collect_member.Goals as goal
 
 pub loop-index-init : goal.loop-index-init
-loop-index-init g c = declared_done (c.is_some-spoken.ensures ∙ is_some-map {A = ℕ × Bor g.row.N.Denot} {B = ℕ × g.row.N.Denot} (λ f. (f.0, f.1.now)) c.args.declared) c.in_ok-collect_declared.ensures.collected c.in_ok-collect_declared.ensures.path c.in_ok-collect_declared.ensures.context
+loop-index-init g c = declared_done (c.is_some-spoken.ensures ∙ is_some-map {X = ℕ × Bor g.row.N.Denot} {Y = ℕ × g.row.N.Denot} (λ f. (f.0, f.1.now)) c.args.declared) c.in_ok-collect_declared.ensures.collected c.in_ok-collect_declared.ensures.path c.in_ok-collect_declared.ensures.context
 
 pub loop-index-preserved : goal.loop-index-preserved
 loop-index-preserved g c = pattern_done c.loop-index.invariant (next_at c.patterns-entry-items.ensures c.entry-item.is c.loop-index-test.true) c.known-known.ensures c.in_ok-is_match.ensures.verdict (none_is c.args.keyword.now.properties c.is_none-are_shown.result c.is_none-are_shown.ensures) c.in_ok-is_match.ensures.collected c.in_ok-is_match.ensures.path c.in_ok-is_match.ensures.context
