@@ -14,4 +14,51 @@ pub use olk_keywords::{
     additional_properties, all_of, any_of, dependencies, if_, not, one_of, pattern_properties,
     properties, property_dependencies, property_names, required,
 };
-pub use olk_validator::*;
+
+// Building and asking.
+pub use olk_validator::{
+    Context, DEFERRED_MEMBERS, Errors, Evaluate, HASHMAP_THRESHOLD, IsValid, Located, Makers,
+    Means, Meter, Place, Reports, Validate, ValidationContext, Validator, are_properties_valid,
+    compile, holds_whole_numbers,
+};
+
+// What is answered.
+pub use olk_validator::{
+    AnnotationEntry, BuildError, ErrorDescription, ErrorEntry, Evaluation, EvaluationFlag,
+    EvaluationNode, EvaluationResult, InstancePath, Location, Mark, ValidateError, ValidationError,
+    ValidationErrorKind,
+};
+
+// Leaves, matchers, names and patterns.
+pub use olk_validator::{
+    CompiledPattern, JsonType, KeyHead, Leaf, MakeError, MakeLeaf, MakeRegex, NoRegex, NoRegexes,
+    Node, PatternOptimization, PropertyName, PropertyPattern, RegexEngine, Unfinished,
+    analyze_pattern, compile_pattern, contains_ecma_whitespace,
+};
+
+// Validators over nodes of the type `SchemaNode`.
+pub use olk_validator::{
+    AdditionalPropertiesFalseValidator, AdditionalPropertiesNotEmptyFalseValidator,
+    AdditionalPropertiesNotEmptyFalseWithRequired1Validator, AdditionalPropertiesNotEmptyValidator,
+    AdditionalPropertiesValidator, AdditionalPropertiesWithPatternsFalseValidator,
+    AdditionalPropertiesWithPatternsNotEmptyFalseValidator,
+    AdditionalPropertiesWithPatternsNotEmptyValidator, AdditionalPropertiesWithPatternsValidator,
+    AllOfValidator, AnyOfValidator, BigPropertiesValidator, BigValidatorsMap,
+    DependenciesValidator, DependentRequiredValidator, DependentSchemasValidator, IfElseValidator,
+    IfThenElseValidator, IfThenValidator, Keyword, NotValidator, OneOfValidator,
+    PatternPropertiesValidator, PropertiesMap, PropertyDependenciesValidator,
+    PropertyNamesBooleanValidator, PropertyNamesObjectValidator, RequiredValidator, SchemaNode,
+    SingleAnyOfValidator, SingleOneOfValidator, SingleValueAllOfValidator,
+    SingleValuePatternPropertiesValidator, SmallPropertiesValidator,
+    SmallPropertiesWithRequired2Validator, SmallValidatorsMap,
+};
+
+// Validators over nodes of any type, and what they hold.
+pub use olk_validator::{
+    AdditionalProperties, AllOf, AnyOf, BigMap, Body, DeclaredMembers, Dependencies,
+    DependentRequired, DependentSchemas, IfElse, IfThen, IfThenElse, KeywordOver, Not, OneOf,
+    PatternIndex, PatternProperties, PatternTable, Properties, PropertiesValidatorsMap,
+    PropertyDependencies, PropertyNames, RequiredName, SingleAnyOf, SingleOneOf, SingleValueAllOf,
+    SingleValuePatternProperties, SmallMap, SmallPropertiesWithRequired2, SortedNames,
+    pattern_table, precompute_property_pattern_indices, properties_map,
+};
