@@ -5,6 +5,7 @@ use Rattle.std.specs.Cmp.Lexicographic.{slice_cmp}
 use Rattle.std.proofs.Math.Bool.{or-false}
 use Rattle.serde_json.specs.Data.{Data}
 use Rattle.olk_spec.specs.Names.{Name, lookup_name, first_if_equal}
+use Rattle.olk_spec.proofs.Truth.{or_in_turn}
 use Rattle.olk_tree.proofs.Lookups.{same_name}
 
 -- whether the name was met, or else is still to come
@@ -15,12 +16,6 @@ first_or_later : (n : Name) (x : Data) (o : Ordering) (r : Option Data) → is_s
 first_or_later n x Less r = refl
 first_or_later n x Equal r = refl
 first_or_later n x Greater r = refl
-
-or_in_turn : (a b c : Bool) → (a || (b || c)) ≡ ((b || a) || c)
-or_in_turn true true c = refl
-or_in_turn true false c = refl
-or_in_turn false true c = refl
-or_in_turn false false c = refl
 
 module _ {n : Name} {all : List (Name × Data)} where
   pub sought_first : Sought n all all false

@@ -176,9 +176,9 @@ module _ (ns : List Name) (v w : Data) (P Q : Path) where
   pub none_lacking : false ≡ not (is_empty (missing ns w)) → AreShown (refused (lacking_trees ns v w P Q)) []
   none_lacking e = lacking_none (not (is_empty (missing ns w))) (erring P Q (map (λ n. fault (Required n) v Q P) (missing ns w))) e
 
-  pub some_lacking : {s : Shown} {r : Tree} {R : Path} → true ≡ not (is_empty (missing ns w)) → HasErrors (map (λ n. fault (Required n) v Q P) (missing ns w)) s → r ≡ node_at P R s → R ≡ Q → AreShown (refused (lacking_trees ns v w P Q)) (r ∷ [])
-  some_lacking {s} {r} e h place path =
-      subst (λ t. AreShown (refused (lacking_trees ns v w P Q)) (t ∷ [])) (sym (place ∙ ap (λ p. node_at P p s) path))
+  pub some_lacking : {s : Shown} {r : Tree} → true ≡ not (is_empty (missing ns w)) → HasErrors (map (λ n. fault (Required n) v Q P) (missing ns w)) s → r ≡ node_at P Q s → AreShown (refused (lacking_trees ns v w P Q)) (r ∷ [])
+  some_lacking {s} e h place =
+      subst (λ t. AreShown (refused (lacking_trees ns v w P Q)) (t ∷ [])) (sym place)
       (lacking_one (not (is_empty (missing ns w))) (erring P Q (map (λ n. fault (Required n) v Q P) (missing ns w))) (node_at P Q s) e (erring_like P Q (map (λ n. fault (Required n) v Q P) (missing ns w)) h)
       (erring_verdict P Q (map (λ n. fault (Required n) v Q P) (missing ns w)) h ∙ same_emptiness (λ n. fault (Required n) v Q P) (missing ns w) ∙ is_some_empty (is_empty (missing ns w)) e))
 
@@ -198,8 +198,8 @@ error_of_one : (f : Name → Fault) (b : Bool) (n : Name) {s : Shown} → false 
 error_of_one f true n e h = cc
 error_of_one f false n e h = h
 
-pub one_lacking : (n : Name) (v : Data) (ms : Members) (P Q : Path) {s : Shown} {r : Tree} {R : Path} → false ≡ has n (object ms) → HasErrors (fault (Required n) v Q P ∷ []) s → r ≡ node_at P R s → R ≡ Q → AreShown (refused (lacking_trees (n ∷ []) v (object ms) P Q)) (r ∷ [])
-one_lacking n v ms P Q e h place path = some_lacking (n ∷ []) v (object ms) P Q (lacks_one (has n (object ms)) n e) (error_of_one (λ k. fault (Required k) v Q P) (has n (object ms)) n e h) place path
+pub one_lacking : (n : Name) (v : Data) (ms : Members) (P Q : Path) {s : Shown} {r : Tree} → false ≡ has n (object ms) → HasErrors (fault (Required n) v Q P ∷ []) s → r ≡ node_at P Q s → AreShown (refused (lacking_trees (n ∷ []) v (object ms) P Q)) (r ∷ [])
+one_lacking n v ms P Q e h place = some_lacking (n ∷ []) v (object ms) P Q (lacks_one (has n (object ms)) n e) (error_of_one (λ k. fault (Required k) v Q P) (has n (object ms)) n e h) place
 
 pub same_lacking : {a b c d : Name} {P R Q S : Path} (v w : Data) (ts : List Tree) → a ≡ c → b ≡ d → P ≡ R → Q ≡ S → AreShown (refused (lacking_trees (a ∷ b ∷ []) v w P Q)) ts → AreShown (refused (lacking_trees (c ∷ d ∷ []) v w R S)) ts
 same_lacking v w ts e f g h = subst (λ l. AreShown (refused l) ts) (λ i. lacking_trees (e i ∷ f i ∷ []) v w (g i) (h i))

@@ -102,8 +102,8 @@ fn matches_child<'a>(
     }
     let mut outcome = EvaluationResult::valid_empty(alloc);
     outcome.annotate(matched);
-    let text = String::from_str(alloc, path.as_str())?;
-    Ok(Some(EvaluationNode::new(location, text, outcome)))
+    let child = EvaluationNode::at(alloc, location, path, outcome)?;
+    Ok(Some(child))
 }
 
 /// A child at the place of `required`, where a name is required that is no member.

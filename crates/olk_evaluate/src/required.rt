@@ -146,8 +146,8 @@ pub(crate) fn missing_child<'a>(
         return Ok(None);
     }
     let outcome = result_of_two_required(alloc, first, second, members, node)?;
-    let text = String::from_str(alloc, path.as_str())?;
-    Ok(Some(EvaluationNode::new(location, text, outcome)))
+    let child = EvaluationNode::at(alloc, location, path, outcome)?;
+    Ok(Some(child))
 }
 
 /// A child at the place of `required`, where the name is no member.
@@ -169,6 +169,6 @@ pub(crate) fn missing_name_child<'a>(
     }
     let kind = ValidationErrorKind::Required { property: name };
     let outcome = one_error(alloc, kind, node)?;
-    let text = String::from_str(alloc, path.as_str())?;
-    Ok(Some(EvaluationNode::new(location, text, outcome)))
+    let child = EvaluationNode::at(alloc, location, path, outcome)?;
+    Ok(Some(child))
 }

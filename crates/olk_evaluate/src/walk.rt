@@ -30,8 +30,7 @@ pub fn child<'a, N: Evaluate<'a>>(
     ensures context { OnlyAsks ctx.old ctx.new }
 {
     let outcome = schema.evaluate(alloc, node, path, ctx)?;
-    let text = String::from_str(alloc, path.as_str())?;
-    Ok(EvaluationNode::new(schema.location(), text, outcome))
+    EvaluationNode::at(alloc, schema.location(), path, outcome)
 }
 
 /// One child more: what the node shows.

@@ -1,10 +1,11 @@
 -- Facts on pushed paths.
 use Rattle.std.proofs.Common.{◌≡◌, ◌≢◌, Result, Ok, Err, OnOk, OnErr, is_ok, ℕ, zero, suc, Bool, true, false, ◌+◌, ◌-◌, ◌<◌, ◌≤◌, List, [], ◌∷◌, ◌++◌, length, get_or, take, refl, sym, ap, ◌∙◌, cond, eqb, arith, ◌⊎◌, inl, inr, length-append}
 use Rattle.std.specs.List.{flat_map, list_all}
+use mathlib.Core.Bool.{true≢false}
 use Rattle.std.specs.Str.{IsUtf8, chars}
 use lib.Utf8.{encodes, encode}
 use Rattle.std.proofs.Math.Seq.{take-append_seam, get_or-append_seam}
-use Rattle.std.proofs.lemmas.List.{append-nil, get_or-append-add}
+use Rattle.std.proofs.lemmas.List.{append_assoc, append-nil, get_or-append-add}
 use Rattle.std.proofs.lemmas.Str.{encode_ascii, encodes-chars, inside_one}
 use Rattle.std.proofs.lemmas.Bool.Decides.{nat_tests}
 use Rattle.std.proofs.lemmas.Grind.{flat_map-append}
@@ -54,6 +55,9 @@ plain_escaped (b ∷ bs) h =
     let more = plain_escaped bs rest in
     grind (arith, nat_tests)
 
+pub plain_below : (old segment : List ℕ) {slash new : List ℕ} → list_all is_plain_byte segment ≡ true → slash ≡ old ++ 47 ∷ [] → new ≡ slash ++ segment → new ≡ old // segment
+plain_below old segment plain e is = is ∙ ap (λ l. l ++ segment) e ∙ append_assoc old (47 ∷ []) segment ∙ ap (λ l. old ++ 47 ∷ l) (sym (plain_escaped segment plain))
+
 -- what is appended as it is
 pub pushed_plain : {A E : Type 0} (r : Result A E) (old new segment : List ℕ) → new ≡ cond (is_ok r) (old ++ segment) old → list_all is_plain_byte segment ≡ true → OnOk r (new ≡ old ++ flat_map escaped segment)
 pushed_plain (Ok x) old new segment is plain = is ∙ ap (λ l. old ++ l) (sym (plain_escaped segment plain))
@@ -62,6 +66,10 @@ pushed_plain (Err e) old new segment is plain = tt
 pub kept_plain : {A E : Type 0} (r : Result A E) (old new segment : List ℕ) → new ≡ cond (is_ok r) (old ++ segment) old → OnErr r ((rest : List ℕ) × (new ≡ old ++ rest))
 kept_plain (Ok x) old new segment is = tt
 kept_plain (Err e) old new segment is = ([], is ∙ sym (append-nil old))
+
+pub of_ok : {A E Q : Type 0} (r : Result A E) → is_ok r ≡ true → OnOk r Q → Q
+of_ok (Ok x) e q = q
+of_ok (Err f) e q = absurd (true≢false (sym e))
 
 pub on_err : {A E Q : Type 0} (r : Result A E) → Q → OnErr r Q
 on_err (Ok x) q = tt

@@ -1,1 +1,3 @@
 pub mod Paths
+pub mod Storage
+pub mod Trails

@@ -149,14 +149,14 @@ fn push_escaped(text: &mut String, segment: &str) -> Result<(), AllocError>
 }
 
 /// Whether the segment is written as it is.
-fn is_plain(segment: &str) -> bool
+pub(crate) fn is_plain(segment: &str) -> bool
     ensures { result ≡ list_all is_plain_byte segment.now }
 {
     segment.as_bytes().iter().all(|b| *b != b'~' && *b != b'/')
 }
 
 /// Where memory fails, what was there stays, with nothing or a slash and more behind it.
-fn push_segment(text: &mut String, segment: &str) -> Result<(), AllocError>
+pub(crate) fn push_segment(text: &mut String, segment: &str) -> Result<(), AllocError>
     ensures ok { OnOk result (string_bytes text.new
         ≡ one_below (string_bytes text.old) segment.now) }
     ensures err { OnErr result

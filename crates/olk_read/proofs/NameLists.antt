@@ -16,7 +16,8 @@ use Rattle.olk_spec.specs.Names.{Name, Path, ◌//◌, is_among, is_empty, put_i
 use Rattle.olk_spec.specs.Faults.{Fault, UniqueItems}
 use Rattle.olk_spec.specs.Schemas.{is_array, texts_in}
 use Rattle.olk_spec.specs.Malformed.{name_list_refusals, unless_array, or_else_list, refusal, has_repeat, not_a_text}
-use Rattle.std.proofs.Math.Bool.{or-false, not-not}
+use Rattle.std.proofs.Math.Bool.{not-not}
+use Rattle.olk_spec.proofs.Truth.{or_in_turn}
 use Rattle.olk_reports.specs.declared.error.BuildError.{BuildError}
 use Rattle.olk_read.specs.Lists.{name_list_faults}
 use Rattle.olk_read.specs.Refusing.{TellsOneOf}
@@ -61,14 +62,9 @@ module _ (seen : BTreeSet (Bor (List ℕ))) (n : Name) (v : Value) (vs : List Va
   pub meets_past_new : (more : BTreeSet (Bor (List ℕ))) → true ≡ not (is_seen seen n) → ((m : Name) → is_seen more m ≡ (bytes_eq n m || is_seen seen m)) → meets_again seen (v ∷ vs) ≡ meets_again more vs
   meets_past_new more s u = with_text
       ∙ ap (λ b. (b || list_any (is_seen seen) (texts_in (items_view vs))) || has_repeat (n ∷ texts_in (items_view vs))) (sym (not-not (is_seen seen n)) ∙ ap not (sym s))
-      ∙ in_turn (list_any (is_seen seen) (texts_in (items_view vs))) (is_among n (texts_in (items_view vs))) (has_repeat (texts_in (items_view vs)))
+      ∙ or_in_turn (list_any (is_seen seen) (texts_in (items_view vs))) (is_among n (texts_in (items_view vs))) (has_repeat (texts_in (items_view vs)))
       ∙ sym (ap (λ b. b || has_repeat (texts_in (items_view vs))) (seen_more (texts_in (items_view vs))))
     where
-      in_turn : (a b c : Bool) → (a || (b || c)) ≡ ((b || a) || c)
-      in_turn true true c = refl
-      in_turn true false c = refl
-      in_turn false b c = ap (λ d. d || c) (sym (or-false b))
-
       apart : (a b c d : Bool) → ((a || b) || (c || d)) ≡ ((a || c) || (b || d))
       apart true b c d = refl
       apart false true true d = refl

@@ -73,10 +73,10 @@ kind_of_unsupported k = ap kind_of (sym (rolls-Unsupported k)) ∙ fold-roll-Val
 pub kind_of_leaf_refused : (k : Bor (List ℕ)) → kind_of (the.LeafRefused k) ≡ told.LeafRefused k.now
 kind_of_leaf_refused k = ap kind_of (sym (rolls-LeafRefused k)) ∙ fold-roll-ValidationErrorKind Kind Fault kind_step error_step (ValidationErrorKind-F.LeafRefused k)
 
-pub fault_of_parts : (k : ValidationErrorKind) (n : Node) (t : String Global) (s : SchemaPath) → fault_of (roll-ValidationError record { kind = k; instance = n; instance_path = t; schema_path = s }) ≡ fault (kind_of k) (data_of n) (string_bytes t) (schema_path_of (kind_of k) s)
+pub fault_of_parts : (k : ValidationErrorKind) (n : Node) (t : Path) (s : SchemaPath) → fault_of (roll-ValidationError record { kind = k; instance = n; instance_path = t; schema_path = s }) ≡ fault (kind_of k) (data_of n) t (schema_path_of (kind_of k) s)
 fault_of_parts k n t s = fold-roll-ValidationError Kind Fault kind_step error_step record { kind = k; instance = n; instance_path = t; schema_path = s }
 
-pub parts_of_fault : (e : ValidationError) → fault_of e ≡ fault (kind_of (out-ValidationError e).kind) (data_of (out-ValidationError e).instance) (string_bytes (out-ValidationError e).instance_path) (schema_path_of (kind_of (out-ValidationError e).kind) (out-ValidationError e).schema_path)
+pub parts_of_fault : (e : ValidationError) → fault_of e ≡ fault (kind_of (out-ValidationError e).kind) (data_of (out-ValidationError e).instance) (out-ValidationError e).instance_path (schema_path_of (kind_of (out-ValidationError e).kind) (out-ValidationError e).schema_path)
 parts_of_fault e = fold_out-ValidationError Kind Fault kind_step error_step e
 
 pub wrapped_is : (v : Data) (Q : Path) (f : Fault) → wrapped v Q f ≡ fault (told.PropertyNames f) v Q (fault_schema_path f)

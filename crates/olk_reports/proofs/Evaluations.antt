@@ -1,5 +1,5 @@
 -- Facts on results and the trees that they show.
-use Rattle.std.proofs.Common.{◌≡◌, ℕ, Bool, true, false, Option, option_map, List, [], ◌∷◌, ◌++◌, map, refl, sym, ap, ◌∙◌, Vec, Bor, String, string_bytes}
+use Rattle.std.proofs.Common.{◌≡◌, ℕ, Bool, true, false, Option, option_map, List, [], ◌∷◌, ◌++◌, map, refl, sym, ap, ◌∙◌, Vec, Bor}
 use Rattle.std.specs.List.{list_all}
 use Rattle.std.specs.declared.alloc.Global.{Global}
 use Rattle.std.proofs.lemmas.List.Folds.{list_all-map}
@@ -60,20 +60,20 @@ instance_path_of_parts : (P Q : Path) (s : Shown) → tree_instance_path (node_a
 instance_path_of_parts P Q (shown true a es ts) = refl
 instance_path_of_parts P Q (shown false a es ts) = refl
 
-pub node_of_parts : (n : EvaluationNode) → tree_of n ≡ node_at (out-EvaluationNode n).schema_path.now (string_bytes (out-EvaluationNode n).instance_path) (shown_of (out-EvaluationNode n).result)
+pub node_of_parts : (n : EvaluationNode) → tree_of n ≡ node_at (out-EvaluationNode n).schema_path.now (out-EvaluationNode n).instance_path (shown_of (out-EvaluationNode n).result)
 node_of_parts n = fold_out-EvaluationNode Tree Shown node_step result_step n
 
 pub valid_of : (n : EvaluationNode) → is_valid (tree_of n) ≡ (out-EvaluationResult (out-EvaluationNode n).result).valid
-valid_of n = ap is_valid (node_of_parts n) ∙ ap (λ s. is_valid (node_at (out-EvaluationNode n).schema_path.now (string_bytes (out-EvaluationNode n).instance_path) s)) (parts_of_shown (out-EvaluationNode n).result) ∙ valid_of_parts _ _ _ _ _ _
+valid_of n = ap is_valid (node_of_parts n) ∙ ap (λ s. is_valid (node_at (out-EvaluationNode n).schema_path.now (out-EvaluationNode n).instance_path s)) (parts_of_shown (out-EvaluationNode n).result) ∙ valid_of_parts _ _ _ _ _ _
 
 pub errors_of : (n : EvaluationNode) → tree_errors (tree_of n) ≡ map described_of (out-EvaluationResult (out-EvaluationNode n).result).errors.items
-errors_of n = ap tree_errors (node_of_parts n) ∙ ap (λ s. tree_errors (node_at (out-EvaluationNode n).schema_path.now (string_bytes (out-EvaluationNode n).instance_path) s)) (parts_of_shown (out-EvaluationNode n).result) ∙ errors_of_parts _ _ _ _ _ _
+errors_of n = ap tree_errors (node_of_parts n) ∙ ap (λ s. tree_errors (node_at (out-EvaluationNode n).schema_path.now (out-EvaluationNode n).instance_path s)) (parts_of_shown (out-EvaluationNode n).result) ∙ errors_of_parts _ _ _ _ _ _
 
 pub schema_path_of : (n : EvaluationNode) → tree_schema_path (tree_of n) ≡ (out-EvaluationNode n).schema_path.now
 schema_path_of n = ap tree_schema_path (node_of_parts n) ∙ schema_path_of_parts _ _ (shown_of (out-EvaluationNode n).result)
 
-pub instance_path_of : (n : EvaluationNode) → tree_instance_path (tree_of n) ≡ string_bytes (out-EvaluationNode n).instance_path
+pub instance_path_of : (n : EvaluationNode) → tree_instance_path (tree_of n) ≡ (out-EvaluationNode n).instance_path
 instance_path_of n = ap tree_instance_path (node_of_parts n) ∙ instance_path_of_parts _ _ (shown_of (out-EvaluationNode n).result)
 
-pub tree_of_parts : (P : Bor (List ℕ)) (Q : String Global) (r : EvaluationResult) → tree_of (roll-EvaluationNode record { schema_path = P; instance_path = Q; result = r }) ≡ node_at P.now (string_bytes Q) (shown_of r)
+pub tree_of_parts : (P : Bor (List ℕ)) (Q : Path) (r : EvaluationResult) → tree_of (roll-EvaluationNode record { schema_path = P; instance_path = Q; result = r }) ≡ node_at P.now Q (shown_of r)
 tree_of_parts P Q r = fold-roll-EvaluationNode Tree Shown node_step result_step record { schema_path = P; instance_path = Q; result = r }

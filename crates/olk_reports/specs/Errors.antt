@@ -66,7 +66,7 @@ kind_step (ValidationErrorKind-F.Unsupported k) = told.Unsupported k.now
 kind_step (ValidationErrorKind-F.LeafRefused k) = told.LeafRefused k.now
 
 abbrev pub error_step : ValidationError-F Kind Fault → Fault
-error_step e = fault e.kind (data_of e.instance) (string_bytes e.instance_path) (schema_path_of e.kind e.schema_path)
+error_step e = fault e.kind (data_of e.instance) e.instance_path (schema_path_of e.kind e.schema_path)
 
 abbrev pub kind_of : ValidationErrorKind → Kind
 kind_of = fold-ValidationErrorKind Kind Fault kind_step error_step

@@ -30,7 +30,7 @@ abbrev pub result_step : EvaluationResult-F Tree Shown → Shown
 result_step r = shown r.valid (option_map (λ ns. map (λ n. n.now) ns.items) r.annotation) (map described_of r.errors.items) r.children.items
 
 abbrev pub node_step : EvaluationNode-F Tree Shown → Tree
-node_step n = node_at n.schema_path.now (string_bytes n.instance_path) n.result
+node_step n = node_at n.schema_path.now n.instance_path n.result
 
 abbrev pub shown_of : EvaluationResult → Shown
 shown_of = fold-EvaluationResult Tree Shown node_step result_step

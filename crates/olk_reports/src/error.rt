@@ -13,7 +13,7 @@ use crate::message::{
     type_error_text,
 };
 use olk_base::{JsonType, Node, quoted_text};
-use olk_paths::Location;
+use olk_paths::{Location, PathText};
 use serde_json::Value;
 use std::alloc::{AllocError, Global};
 
@@ -32,7 +32,7 @@ enum SchemaPath<'a> {
 pub struct ValidationError<'a> {
     kind: ValidationErrorKind<'a>,
     instance: Node<'a>,
-    instance_path: String,
+    instance_path: PathText,
     schema_path: SchemaPath<'a>,
 }
 
@@ -163,6 +163,20 @@ impl<'a> ValidationError<'a> {
             ≡ fault (kind_of kind.entry) (data_of instance.entry)
             (string_bytes instance_path) schema_path.now }
     {
+        ValidationError::at(kind, instance, PathText::from(instance_path), schema_path)
+    }
+
+    /// An error of validating, with the text of its path as it is kept.
+    pub fn at(
+        kind: ValidationErrorKind<'a>,
+        instance: Node<'a>,
+        instance_path: PathText,
+        schema_path: &'a str,
+    ) -> Self
+        ensures value { value_of result ≡ instance.entry }
+        ensures fault { fault_of result
+            ≡ fault (kind_of kind.entry) (data_of instance.entry) instance_path schema_path.now }
+    {
         let schema_path = SchemaPath::Borrowed(schema_path);
         ValidationError {
             kind,
@@ -184,12 +198,11 @@ impl<'a> ValidationError<'a> {
             ≡ fault (kind_of kind.entry) (data_of instance.entry)
             (string_bytes instance_path) schema_path }
     {
-        let schema_path = SchemaPath::Owned(schema_path);
         ValidationError {
             kind,
             instance,
-            instance_path,
-            schema_path,
+            instance_path: PathText::from(instance_path),
+            schema_path: SchemaPath::Owned(schema_path),
         }
     }
 
@@ -198,12 +211,11 @@ impl<'a> ValidationError<'a> {
     pub fn wrapping(
         error: Box<ValidationError<'a>>,
         instance: Node<'a>,
-        instance_path: String,
+        instance_path: PathText,
     ) -> Self
         ensures value { value_of result ≡ instance.entry }
         ensures fault { fault_of result
-            ≡ wrapped (data_of instance.entry) (string_bytes instance_path)
-            (fault_of error.entry.value) }
+            ≡ wrapped (data_of instance.entry) instance_path (fault_of error.entry.value) }
     {
         ValidationError {
             kind: ValidationErrorKind::PropertyNames { error },

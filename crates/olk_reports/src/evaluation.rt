@@ -4,6 +4,7 @@ ghost use Rattle.olk_spec.specs.Tree.{trees_from, errors, annotations, is_valid,
 ghost use Rattle.std.specs.List.{list_all};
 ghost use Rattle.olk_reports.specs.Evaluations.{tree_of};
 
+use olk_paths::{InstancePath, PathText};
 use std::alloc::{AllocError, Global};
 
 /// An error as an evaluation shows it: the keyword and the message.
@@ -53,7 +54,7 @@ pub struct EvaluationResult<'a> {
 #[cycle(evaluation)]
 pub struct EvaluationNode<'a> {
     schema_path: &'a str,
-    instance_path: String,
+    instance_path: PathText,
     pub(crate) result: EvaluationResult<'a>,
 }
 
@@ -155,9 +156,30 @@ impl<'a> EvaluationNode<'a> {
     {
         EvaluationNode {
             schema_path,
-            instance_path,
+            instance_path: PathText::from(instance_path),
             result: outcome,
         }
+    }
+
+    /// The result at these places, with a text of its own of the path.
+    ///
+    /// Without memory there is none; for a short path none is needed.
+    #[inline(always)]
+    pub fn at(
+        alloc: Global,
+        schema_path: &'a str,
+        path: &InstancePath,
+        outcome: EvaluationResult<'a>,
+    ) -> Result<Self, AllocError>
+        ensures { IfOk result (λ n. tree_of n
+            ≡ node_at schema_path.now path.now (shown_of outcome.entry)) }
+    {
+        let instance_path = PathText::from_str(alloc, path.as_str())?;
+        Ok(EvaluationNode {
+            schema_path,
+            instance_path,
+            result: outcome,
+        })
     }
 
     /// Whether the value is valid here.

@@ -1,4 +1,3 @@
--- Each row of `Rows_bench` holds: the bench.
 use Rattle.std.proofs.Common.{refl}
 use Rattle.std.specs.Fmt.{digits}
 use Rattle.std.specs.Str.{chars}
@@ -36,6 +35,30 @@ a_value_of_kind_array = λ u. (refl, refl, refl)
 pub a_value_of_kind_object : rows.A_value_of_kind_object
 unfolding literal chars digits meaning malformations_at cost serde_json_on_literals
 a_value_of_kind_object = λ u. (refl, refl, refl)
+
+pub a_value_of_kind_null_is_of_no_other : rows.A_value_of_kind_null_is_of_no_other
+unfolding literal chars digits meaning malformations_at cost serde_json_on_literals
+a_value_of_kind_null_is_of_no_other = λ u. (refl, refl, refl)
+
+pub a_value_of_kind_boolean_is_of_no_other : rows.A_value_of_kind_boolean_is_of_no_other
+unfolding literal chars digits meaning malformations_at cost serde_json_on_literals
+a_value_of_kind_boolean_is_of_no_other = λ u. (refl, refl, refl)
+
+pub a_value_of_kind_integer_is_of_no_other : rows.A_value_of_kind_integer_is_of_no_other
+unfolding literal chars digits meaning malformations_at cost serde_json_on_literals
+a_value_of_kind_integer_is_of_no_other = λ u. (refl, refl, refl)
+
+pub a_value_of_kind_string_is_of_no_other : rows.A_value_of_kind_string_is_of_no_other
+unfolding literal chars digits meaning malformations_at cost serde_json_on_literals
+a_value_of_kind_string_is_of_no_other = λ u. (refl, refl, refl)
+
+pub a_value_of_kind_array_is_of_no_other : rows.A_value_of_kind_array_is_of_no_other
+unfolding literal chars digits meaning malformations_at cost serde_json_on_literals
+a_value_of_kind_array_is_of_no_other = λ u. (refl, refl, refl)
+
+pub a_value_of_kind_object_is_of_no_other : rows.A_value_of_kind_object_is_of_no_other
+unfolding literal chars digits meaning malformations_at cost serde_json_on_literals
+a_value_of_kind_object_is_of_no_other = λ u. (refl, refl, refl)
 
 pub a_fraction_is_a_number : rows.A_fraction_is_a_number
 unfolding literal chars digits meaning malformations_at cost serde_json_on_literals
@@ -186,4 +209,4 @@ unfolding literal chars digits meaning malformations_at cost serde_json_on_liter
 an_escaped_body_stands_anywhere = λ u. (refl, refl, refl)
 
 pub rows_bench : rows.Rows_bench
-rows_bench = (a_value_of_kind_null, a_value_of_kind_boolean, a_value_of_kind_integer, a_value_of_kind_number, a_value_of_kind_string, a_value_of_kind_array, a_value_of_kind_object, a_fraction_is_a_number, a_fraction_is_no_integer, a_text_shows_no_fraction, a_constant_number, another_number, a_text_for_a_number, a_constant_text, another_text, the_minimum_itself, less_than_the_minimum, the_maximum_itself, greater_than_the_maximum, a_fraction_is_no_whole_number, a_text_is_no_whole_number, a_multiple_below_zero, no_multiple_below_zero, two_characters_of_four_bytes, one_character_of_two_bytes, three_characters, a_number_has_no_length, kinds_have_names, a_constant_object, a_text_as_maximum, multiples_of_zero, a_length_below_zero, kind_is_unknown, an_unknown_keyword_is_ignored, a_class_is_refused, a_slow_nothing_is_refused, a_slow_anchor_is_refused, an_empty_pattern_is_refused, two_anchors_is_refused, the_end_is_not_the_start, the_end_is_the_end, a_test_needs_no_matcher, a_body_stands_anywhere, an_escaped_body_stands_anywhere)
+rows_bench = (a_value_of_kind_null, a_value_of_kind_boolean, a_value_of_kind_integer, a_value_of_kind_number, a_value_of_kind_string, a_value_of_kind_array, a_value_of_kind_object, a_value_of_kind_null_is_of_no_other, a_value_of_kind_boolean_is_of_no_other, a_value_of_kind_integer_is_of_no_other, a_value_of_kind_string_is_of_no_other, a_value_of_kind_array_is_of_no_other, a_value_of_kind_object_is_of_no_other, a_fraction_is_a_number, a_fraction_is_no_integer, a_text_shows_no_fraction, a_constant_number, another_number, a_text_for_a_number, a_constant_text, another_text, the_minimum_itself, less_than_the_minimum, the_maximum_itself, greater_than_the_maximum, a_fraction_is_no_whole_number, a_text_is_no_whole_number, a_multiple_below_zero, no_multiple_below_zero, two_characters_of_four_bytes, one_character_of_two_bytes, three_characters, a_number_has_no_length, kinds_have_names, a_constant_object, a_text_as_maximum, multiples_of_zero, a_length_below_zero, kind_is_unknown, an_unknown_keyword_is_ignored, a_class_is_refused, a_slow_nothing_is_refused, a_slow_anchor_is_refused, an_empty_pattern_is_refused, two_anchors_is_refused, the_end_is_not_the_start, the_end_is_the_end, a_test_needs_no_matcher, a_body_stands_anywhere, an_escaped_body_stands_anywhere)

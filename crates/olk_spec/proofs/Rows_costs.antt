@@ -1,4 +1,3 @@
--- Each row of `Rows_costs` holds: what building costs.
 use Rattle.std.proofs.Common.{refl}
 use Rattle.std.specs.Fmt.{digits}
 use Rattle.std.specs.Str.{chars}

@@ -1,4 +1,3 @@
--- Each row of `Rows_faults` holds: faults.
 use Rattle.std.proofs.Common.{refl}
 use Rattle.std.specs.Fmt.{digits}
 use Rattle.std.specs.Str.{chars}

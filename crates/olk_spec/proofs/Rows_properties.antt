@@ -1,4 +1,3 @@
--- Each row of `Rows_properties` holds: `properties` and what is beside it.
 use Rattle.std.proofs.Common.{refl}
 use Rattle.std.specs.Fmt.{digits}
 use Rattle.std.specs.Str.{chars}

@@ -17,6 +17,12 @@ pub not_true : (b : Bool) → not b ≡ true → b ≡ false
 not_true true e = absurd (true≢false (sym e))
 not_true false e = refl
 
+pub or_in_turn : (a b c : Bool) → (a || (b || c)) ≡ ((b || a) || c)
+or_in_turn true true c = refl
+or_in_turn true false c = refl
+or_in_turn false true c = refl
+or_in_turn false false c = refl
+
 pub and_first : (a b : Bool) → (a && b) ≡ true → a ≡ true
 and_first true b e = refl
 and_first false b e = e

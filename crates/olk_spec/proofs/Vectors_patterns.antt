@@ -1,4 +1,3 @@
--- Each vector of `Vectors_patterns` holds: patterns.
 use Rattle.std.proofs.Common.{refl}
 use Rattle.std.specs.Fmt.{digits}
 use Rattle.std.specs.Str.{chars}

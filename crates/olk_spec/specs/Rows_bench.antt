@@ -25,6 +25,24 @@ A_value_of_kind_array = Holds "{\"type\":\"array\"}" "[1]"
 abbrev pub A_value_of_kind_object : Type 0
 A_value_of_kind_object = Holds "{\"type\":\"object\"}" "{}"
 
+abbrev pub A_value_of_kind_null_is_of_no_other : Type 0
+A_value_of_kind_null_is_of_no_other = Holds "{\"not\":{\"anyOf\":[{\"type\":\"boolean\"},{\"type\":\"integer\"},{\"type\":\"number\"},{\"type\":\"string\"},{\"type\":\"array\"},{\"type\":\"object\"}]}}" "null"
+
+abbrev pub A_value_of_kind_boolean_is_of_no_other : Type 0
+A_value_of_kind_boolean_is_of_no_other = Holds "{\"not\":{\"anyOf\":[{\"type\":\"null\"},{\"type\":\"integer\"},{\"type\":\"number\"},{\"type\":\"string\"},{\"type\":\"array\"},{\"type\":\"object\"}]}}" "true"
+
+abbrev pub A_value_of_kind_integer_is_of_no_other : Type 0
+A_value_of_kind_integer_is_of_no_other = Holds "{\"not\":{\"anyOf\":[{\"type\":\"null\"},{\"type\":\"boolean\"},{\"type\":\"string\"},{\"type\":\"array\"},{\"type\":\"object\"}]}}" "-5"
+
+abbrev pub A_value_of_kind_string_is_of_no_other : Type 0
+A_value_of_kind_string_is_of_no_other = Holds "{\"not\":{\"anyOf\":[{\"type\":\"null\"},{\"type\":\"boolean\"},{\"type\":\"integer\"},{\"type\":\"number\"},{\"type\":\"array\"},{\"type\":\"object\"}]}}" "\"a\""
+
+abbrev pub A_value_of_kind_array_is_of_no_other : Type 0
+A_value_of_kind_array_is_of_no_other = Holds "{\"not\":{\"anyOf\":[{\"type\":\"null\"},{\"type\":\"boolean\"},{\"type\":\"integer\"},{\"type\":\"number\"},{\"type\":\"string\"},{\"type\":\"object\"}]}}" "[1]"
+
+abbrev pub A_value_of_kind_object_is_of_no_other : Type 0
+A_value_of_kind_object_is_of_no_other = Holds "{\"not\":{\"anyOf\":[{\"type\":\"null\"},{\"type\":\"boolean\"},{\"type\":\"integer\"},{\"type\":\"number\"},{\"type\":\"string\"},{\"type\":\"array\"}]}}" "{}"
+
 abbrev pub A_fraction_is_a_number : Type 0
 A_fraction_is_a_number = Holds "{\"type\":\"number\"}" "1.5"
 
@@ -137,4 +155,4 @@ abbrev pub An_escaped_body_stands_anywhere : Type 0
 An_escaped_body_stands_anywhere = Fails "{\"patternProperties\":{\"\\\\.\":false}}" "{\"a.c\":1,\"abc\":2}" ("False schema does not allow 1 @ /a.c, /patternProperties/\\." ∷ [])
 
 abbrev pub Rows_bench : Type 0
-Rows_bench = A_value_of_kind_null × A_value_of_kind_boolean × A_value_of_kind_integer × A_value_of_kind_number × A_value_of_kind_string × A_value_of_kind_array × A_value_of_kind_object × A_fraction_is_a_number × A_fraction_is_no_integer × A_text_shows_no_fraction × A_constant_number × Another_number × A_text_for_a_number × A_constant_text × Another_text × The_minimum_itself × Less_than_the_minimum × The_maximum_itself × Greater_than_the_maximum × A_fraction_is_no_whole_number × A_text_is_no_whole_number × A_multiple_below_zero × No_multiple_below_zero × Two_characters_of_four_bytes × One_character_of_two_bytes × Three_characters × A_number_has_no_length × Kinds_have_names × A_constant_object × A_text_as_maximum × Multiples_of_zero × A_length_below_zero × Kind_is_unknown × An_unknown_keyword_is_ignored × A_class_is_refused × A_slow_nothing_is_refused × A_slow_anchor_is_refused × An_empty_pattern_is_refused × Two_anchors_is_refused × The_end_is_not_the_start × The_end_is_the_end × A_test_needs_no_matcher × A_body_stands_anywhere × An_escaped_body_stands_anywhere
+Rows_bench = A_value_of_kind_null × A_value_of_kind_boolean × A_value_of_kind_integer × A_value_of_kind_number × A_value_of_kind_string × A_value_of_kind_array × A_value_of_kind_object × A_value_of_kind_null_is_of_no_other × A_value_of_kind_boolean_is_of_no_other × A_value_of_kind_integer_is_of_no_other × A_value_of_kind_string_is_of_no_other × A_value_of_kind_array_is_of_no_other × A_value_of_kind_object_is_of_no_other × A_fraction_is_a_number × A_fraction_is_no_integer × A_text_shows_no_fraction × A_constant_number × Another_number × A_text_for_a_number × A_constant_text × Another_text × The_minimum_itself × Less_than_the_minimum × The_maximum_itself × Greater_than_the_maximum × A_fraction_is_no_whole_number × A_text_is_no_whole_number × A_multiple_below_zero × No_multiple_below_zero × Two_characters_of_four_bytes × One_character_of_two_bytes × Three_characters × A_number_has_no_length × Kinds_have_names × A_constant_object × A_text_as_maximum × Multiples_of_zero × A_length_below_zero × Kind_is_unknown × An_unknown_keyword_is_ignored × A_class_is_refused × A_slow_nothing_is_refused × A_slow_anchor_is_refused × An_empty_pattern_is_refused × Two_anchors_is_refused × The_end_is_not_the_start × The_end_is_the_end × A_test_needs_no_matcher × A_body_stands_anywhere × An_escaped_body_stands_anywhere

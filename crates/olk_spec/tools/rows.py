@@ -786,6 +786,10 @@ def bench():
     g = Group("Rows_bench", "The leaves of the bench.")
     for kind, v in (("null", "null"), ("boolean", "true"), ("integer", "-5"), ("number", "-5"), ("string", '"a"'), ("array", "[1]"), ("object", "{}")):
         g.holds("A_value_of_kind_" + kind, {"type": kind}, v)
+    kinds = ("null", "boolean", "integer", "number", "string", "array", "object")
+    for own, v in (("null", "null"), ("boolean", "true"), ("integer", "-5"), ("string", '"a"'), ("array", "[1]"), ("object", "{}")):
+        others = [{"type": kind} for kind in kinds if kind != own and (own, kind) != ("integer", "number")]
+        g.holds("A_value_of_kind_" + own + "_is_of_no_other", {"not": {"anyOf": others}}, v)
     g.holds("A_fraction_is_a_number", '{"type":"number"}', "1.5")
     g.fails("A_fraction_is_no_integer", '{"type":"integer"}', "1.5", ['value is not of type "integer" @ "", /type'])
     g.fails("A_text_shows_no_fraction", '{"type":"object"}', '["a",1.5]', ['value is not of type "object" @ "", /type'])

@@ -9,4 +9,4 @@ pub returns-then-not-lacks_either : goal.returns-then-not-lacks_either
 returns-then-not-lacks_either c = none_lacking (c.args.first.now ∷ c.args.second.now ∷ []) (data_of c.args.node) (object (members_view c.args.members.now.entries)) c.args.location.now c.args.path.now c.if-not-lacks_either.ensures
 
 pub returns : goal.returns
-returns c = some_lacking (c.args.first.now ∷ c.args.second.now ∷ []) (data_of c.args.node) (object (members_view c.args.members.now.entries)) c.args.location.now c.args.path.now c.if-not-lacks_either.ensures (c.in_ok-outcome.ensures c.args.location.now c.args.path.now) c.new.ensures (c.in_ok-text.ensures.ok ∙ c.as_str.ensures)
+returns c = some_lacking (c.args.first.now ∷ c.args.second.now ∷ []) (data_of c.args.node) (object (members_view c.args.members.now.entries)) c.args.location.now c.args.path.now c.if-not-lacks_either.ensures (c.in_ok-outcome.ensures c.args.location.now c.args.path.now) c.in_ok-child.ensures

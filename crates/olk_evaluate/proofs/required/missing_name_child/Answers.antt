@@ -11,4 +11,4 @@ use Rattle.olk_evaluate.proofs.required.missing_name_child.Goals as goal
 pub returns : goal.returns
 returns c = one_lacking c.args.name.now (data_of c.args.node) (members_view c.args.members.now.entries) c.args.location.now c.args.path.now c.if-has_member.ensures
     (subst (λ k. HasErrors (fault k (data_of c.args.node) c.args.path.now c.args.location.now ∷ []) (shown_of c.in_ok-outcome.outcome)) (kind_of_required c.args.name) (c.in_ok-outcome.ensures c.args.location.now c.args.path.now))
-    c.new.ensures (c.in_ok-text.ensures.ok ∙ c.as_str.ensures)
+    c.in_ok-child.ensures

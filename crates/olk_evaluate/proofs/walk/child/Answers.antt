@@ -15,9 +15,3 @@ returns-in_err-outcome-clause-context g c = c.evaluate.ensures.context
 
 pub returns-in_err-outcome-clause-path : goal.returns-in_err-outcome-clause-path
 returns-in_err-outcome-clause-path g c = c.evaluate.ensures.path
-
-pub returns-in_err-text-clause-context : goal.returns-in_err-text-clause-context
-returns-in_err-text-clause-context g c = c.evaluate.ensures.context
-
-pub returns-in_err-text-clause-path : goal.returns-in_err-text-clause-path
-returns-in_err-text-clause-path g c = c.evaluate.ensures.path

@@ -1,4 +1,4 @@
-use Rattle.std.proofs.Common.{◌∙◌, ap, sym, string_bytes}
+use Rattle.std.proofs.Common.{◌∙◌, ap, sym}
 use Rattle.olk_base.specs.Nodes.{data_of}
 use Rattle.olk_spec.specs.Faults.{fault}
 use Rattle.olk_reports.specs.Errors.{fault_of, inner_schema_path}
@@ -7,5 +7,5 @@ use Rattle.olk_reports.proofs.error.ValidationError.wrapping.Goals as goal
 
 pub returns-clause-fault : goal.returns-clause-fault
 returns-clause-fault c = fault_of_parts _ _ _ _
-    ∙ ap (λ k. fault k (data_of c.args.instance) (string_bytes c.args.instance_path) (inner_schema_path k)) (kind_of_property_names c.args.error)
-    ∙ sym (wrapped_is (data_of c.args.instance) (string_bytes c.args.instance_path) (fault_of c.args.error.value))
+    ∙ ap (λ k. fault k (data_of c.args.instance) c.args.instance_path (inner_schema_path k)) (kind_of_property_names c.args.error)
+    ∙ sym (wrapped_is (data_of c.args.instance) c.args.instance_path (fault_of c.args.error.value))
