@@ -1,13 +1,6 @@
 pub mod Appending
-mod Steps
+pub mod Sinks
 pub mod Own
+mod Contexts
 mod Missing
-mod Fused
-mod OneOf
 mod Members
-mod Due
-mod Names
-mod Patterns
-mod Additional
-mod Unexpected
-mod AdditionalMembers

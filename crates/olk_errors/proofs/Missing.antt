@@ -4,7 +4,7 @@ use Rattle.std.specs.List.{flat_map}
 use Rattle.serde_json.specs.Data.{Data, object, Members, null, boolean, number, string, array}
 use Rattle.serde_json.specs.Find.{as_object}
 use Rattle.olk_spec.specs.Names.{Name, Path, put_if, is_empty}
-use Rattle.olk_spec.specs.Faults.{Fault, fault, Required}
+use Rattle.olk_spec.specs.Faults.{Fault, fault, Kind, Required, itself}
 use Rattle.olk_spec.specs.Schemas.{has, is_object}
 use Rattle.olk_spec.specs.Accepts.{missing}
 use Rattle.olk_spec.specs.Reports.{required_faults}
@@ -12,8 +12,9 @@ use Rattle.olk_tree.specs.Maps.{texts_of}
 use Rattle.olk_tree.specs.Firsts.{or_else, first_of, head_of}
 use Rattle.olk_tree.specs.Questions.{Question, always, every}
 use Rattle.olk_errors.specs.Outcomes.{of_each, of_names}
-use Rattle.olk_errors.specs.Found.{Passes, IsErrorOf}
-use Rattle.olk_errors.proofs.Steps.{of_one}
+use Rattle.olk_errors.specs.Found.{Passes}
+use Rattle.olk_errors.proofs.Sinks.{of_one}
+use Rattle.olk_errors.proofs.Own.{IsOwn, is_own, like_at}
 
 module _ (v : Data) where
   -- whether the one name is there
@@ -63,6 +64,17 @@ module _ (ms : Members) (v : Data) (is : v ≡ object ms) (n : Name) {found : Bo
   pub not_there : found ≡ false → missing (n ∷ []) v ≡ n ∷ []
   not_there f = ap (λ c. put_if c n []) (absent_if ∙ ap not f)
 
+  module _ (P Q : Path) where
+    pub there_passes : found ≡ true → Passes (of_names (n ∷ []) v P Q)
+    there_passes t = record { verdict = ap is_empty (there t); nothing = ap (λ ns. head_of (map (λ m. fault (Required m) v Q P) ns)) (there t) }
+
+    pub there_nothing : found ≡ true → (of_names (n ∷ []) v P Q).all ≡ []
+    there_nothing t = ap (map (λ m. fault (Required m) v Q P)) (there t)
+
+    pub lacked_own : found ≡ false → {k : Kind} → k ≡ Required n → IsOwn (fault k v Q P) (of_names (n ∷ []) v P Q)
+    lacked_own f {k} kind = subst (λ ns. IsOwn (fault k v Q P) (record { accepts = is_empty ns; first = head_of (map (λ m. fault (Required m) v Q P) ns); all = map (λ m. fault (Required m) v Q P) ns })) (sym (not_there f))
+        (is_own (Required n) v P Q {case = true} refl refl refl (like_at kind itself refl refl))
+
 module _ (v : Data) (P Q : Path) (names : List (String Global)) where
   -- asking for each of the names is asking for all
   pub names_together : of_each true (is_there v) (lacked v P Q) (lacked v P Q) names ≡ of_names (texts_of names) v P Q
@@ -85,14 +97,8 @@ module _ (v : Data) (P Q : Path) (name : String Global) where
   one_first true = refl
   one_first false = refl
 
-  same_one : of_names (string_bytes name ∷ []) v P Q ≡ of_one (is_there v) true (lacked v P Q) (lacked v P Q) name
+  pub same_one : of_names (string_bytes name ∷ []) v P Q ≡ of_one (is_there v) true (lacked v P Q) (lacked v P Q) name
   same_one = λ i. record { accepts = is_empty (missing (string_bytes name ∷ []) v); first = one_first (is_object v && not (has (string_bytes name) v)) i; all = required_faults (string_bytes name ∷ []) v P Q }
-
-  pub one_passes : Passes (of_names (string_bytes name ∷ []) v P Q) → Passes (of_one (is_there v) true (lacked v P Q) (lacked v P Q) name)
-  one_passes h = subst Passes same_one h
-
-  pub one_errs : (f : Fault) → IsErrorOf (of_names (string_bytes name ∷ []) v P Q) f → IsErrorOf (of_one (is_there v) true (lacked v P Q) (lacked v P Q) name) f
-  one_errs f h = subst (λ o. IsErrorOf o f) same_one h
 
 -- ---- of what is no object
 

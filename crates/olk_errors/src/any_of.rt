@@ -1,76 +1,44 @@
 //! `anyOf`: its errors.
-use crate::Errors;
-use crate::append::{append_error, refuse};
-use crate::walk::{contexts, one_context};
+use crate::branches::{contexts, one_context};
+use crate::{ErrorSink, Stop, Walk};
 use olk_base::{Node, ValidationContext};
 use olk_check::IsValid;
-use olk_paths::InstancePath;
-use olk_reports::{ValidateError, ValidationError, ValidationErrorKind};
+use olk_paths::Trail;
+use olk_reports::ValidationErrorKind;
 use olk_tree::any_of::{AnyOf, SingleAnyOf};
-use std::alloc::{AllocError, Global};
 
-impl<'a, N: Errors<'a>> Errors<'a> for AnyOf<N> {
-    fn validate(
+impl<'a, N: Walk<'a>> Walk<'a> for AnyOf<N> {
+    #[tactic(auto, using(crate::proofs::Sinks::keeps_same, olk_check::proofs::Asked::only_then))]
+    fn walk(
         &'a self,
-        alloc: Global,
         node: Node<'a>,
-        path: &mut InstancePath,
+        trail: &Trail<'_, 'a>,
         ctx: &mut ValidationContext,
-    ) -> Result<(), ValidateError<'a>> {
+        sink: &mut ErrorSink<'a>,
+    ) -> Result<(), Stop> {
         if self.is_valid(node, ctx) {
             return Ok(());
         }
-        let context = contexts(alloc, &self.schemas, node, path, ctx)?;
+        let context = contexts(sink.alloc(), &self.schemas, node, trail, ctx)?;
         let kind = ValidationErrorKind::AnyOf { context };
-        refuse(alloc, kind, node, path, self.location.as_str())
-    }
-
-    fn collect_errors(
-        &'a self,
-        alloc: Global,
-        node: Node<'a>,
-        path: &mut InstancePath,
-        ctx: &mut ValidationContext,
-        errors: &mut Vec<ValidationError<'a>>,
-    ) -> Result<(), AllocError> {
-        if self.is_valid(node, ctx) {
-            return Ok(());
-        }
-        let context = contexts(alloc, &self.schemas, node, path, ctx)?;
-        let kind = ValidationErrorKind::AnyOf { context };
-        append_error(alloc, kind, node, path, self.location.as_str(), errors)
+        sink.report(kind, node, trail, self.location.as_str())
     }
 }
 
-impl<'a, N: Errors<'a>> Errors<'a> for SingleAnyOf<N> {
-    fn validate(
+impl<'a, N: Walk<'a>> Walk<'a> for SingleAnyOf<N> {
+    #[tactic(auto, using(crate::proofs::Sinks::keeps_same, olk_check::proofs::Asked::only_then))]
+    fn walk(
         &'a self,
-        alloc: Global,
         node: Node<'a>,
-        path: &mut InstancePath,
+        trail: &Trail<'_, 'a>,
         ctx: &mut ValidationContext,
-    ) -> Result<(), ValidateError<'a>> {
+        sink: &mut ErrorSink<'a>,
+    ) -> Result<(), Stop> {
         if self.node.is_valid(node, ctx) {
             return Ok(());
         }
-        let context = one_context(alloc, &self.node, node, path, ctx)?;
+        let context = one_context(sink.alloc(), &self.node, node, trail, ctx)?;
         let kind = ValidationErrorKind::AnyOf { context };
-        refuse(alloc, kind, node, path, self.location.as_str())
-    }
-
-    fn collect_errors(
-        &'a self,
-        alloc: Global,
-        node: Node<'a>,
-        path: &mut InstancePath,
-        ctx: &mut ValidationContext,
-        errors: &mut Vec<ValidationError<'a>>,
-    ) -> Result<(), AllocError> {
-        if self.node.is_valid(node, ctx) {
-            return Ok(());
-        }
-        let context = one_context(alloc, &self.node, node, path, ctx)?;
-        let kind = ValidationErrorKind::AnyOf { context };
-        append_error(alloc, kind, node, path, self.location.as_str(), errors)
+        sink.report(kind, node, trail, self.location.as_str())
     }
 }

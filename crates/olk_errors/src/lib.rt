@@ -1,16 +1,54 @@
-//! What is wrong with a value: the first error, and all errors, of each validator over its nodes.
+//! What is wrong with a value, in one walk: the first error, or all, of each validator over its
+//! nodes.
 //!
 //! Stands on `olk_check`. Tested by `olk_tests`.
 #![tactic(auto)]
 
 use olk_base::{Node, ValidationContext};
 use olk_check::IsValid;
-use olk_paths::InstancePath;
+use olk_paths::{InstancePath, Trail};
 use olk_reports::{ValidateError, ValidationError};
 use olk_tree::Reports;
 use std::alloc::{AllocError, Global};
+use std::mem;
 
-/// What can be asked what is wrong with a value.
+/// What walks over a value and finds its errors.
+pub trait Walk<'a>: IsValid + Reports {
+    ghost use Rattle.std.specs.Prelude.{OnOk, IfErr};
+    ghost use Rattle.olk_base.specs.Nodes.{data_of};
+    ghost use Rattle.olk_check.specs.Asks.{OnlyAsks};
+    ghost use Rattle.olk_errors.specs.Found.{IsErrorOf};
+    ghost use Rattle.olk_errors.specs.Outcomes.{of_node};
+    ghost use Rattle.olk_errors.specs.Sinks.{GoesOn, StopsBy};
+    ghost use Rattle.olk_paths.specs.Trails.{path_at};
+
+    /// Hands the errors of the node, which stands where the trail leads, to the sink: one by one,
+    /// as long as the sink takes more.
+    ///
+    /// The context's answer is as before; of the counts only those of matchers that were asked and
+    /// of matches that were left unfinished rise.
+    ///
+    /// # Errors
+    ///
+    /// That the sink has the one error that it wants; or out of memory, and then a list that takes
+    /// all errors has what it had, and may have more.
+    fn walk(
+        &'a self,
+        node: Node<'a>,
+        trail: &Trail<'_, 'a>,
+        ctx: &mut ValidationContext,
+        sink: &mut ErrorSink<'a>,
+    ) -> Result<(), Stop>
+        ensures on { OnOk result (GoesOn sink.old sink.new
+            (of_node Self.means Self.first Self.report ctx.old.answer
+            self.now (data_of node.entry) (path_at trail.now))) }
+        ensures stop { IfErr result (λ s. StopsBy s sink.old sink.new (IsErrorOf
+            (of_node Self.means Self.first Self.report ctx.old.answer
+            self.now (data_of node.entry) (path_at trail.now)))) }
+        ensures context { OnlyAsks ctx.old ctx.new };
+}
+
+/// What can be asked what is wrong with a value: all that walks.
 pub trait Errors<'a>: IsValid + Reports {
     ghost use Rattle.std.specs.Prelude.{◌≡◌, OnOk, OnErr, IfErr};
     ghost use Rattle.olk_base.specs.Nodes.{data_of};
@@ -27,7 +65,7 @@ pub trait Errors<'a>: IsValid + Reports {
     ///
     /// # Errors
     ///
-    /// That error, or want of memory.
+    /// That error, or out of memory.
     fn validate(
         &'a self,
         alloc: Global,
@@ -52,7 +90,7 @@ pub trait Errors<'a>: IsValid + Reports {
     ///
     /// # Errors
     ///
-    /// Want of memory, and then the list is as before.
+    /// Out of memory, and then the list is as before.
     fn collect_errors(
         &'a self,
         alloc: Global,
@@ -68,20 +106,57 @@ pub trait Errors<'a>: IsValid + Reports {
         ensures context { OnlyAsks ctx.old ctx.new };
 }
 
-mod additional_properties;
+impl<'a, W: Walk<'a>> Errors<'a> for W {
+    fn validate(
+        &'a self,
+        alloc: Global,
+        node: Node<'a>,
+        path: &mut InstancePath,
+        ctx: &mut ValidationContext,
+    ) -> Result<(), ValidateError<'a>> {
+        let mut sink: ErrorSink<'a> = ErrorSink::first(alloc);
+        let trail = Trail::At(path.as_str());
+        match self.walk(node, &trail, ctx, &mut sink) {
+            Ok(()) => Ok(()),
+            Err(Stop::Enough) => match sink.into_first() {
+                Some(error) => Err(ValidateError::Invalid(error)),
+                None => Ok(()),
+            },
+            Err(Stop::Memory(error)) => Err(ValidateError::Memory(error)),
+        }
+    }
+
+    fn collect_errors(
+        &'a self,
+        alloc: Global,
+        node: Node<'a>,
+        path: &mut InstancePath,
+        ctx: &mut ValidationContext,
+        errors: &mut Vec<ValidationError<'a>>,
+    ) -> Result<(), AllocError> {
+        let len = errors.len();
+        let none: Vec<ValidationError<'a>> = Vec::new(alloc);
+        let so_far: Vec<ValidationError<'a>> = mem::replace(errors, none);
+        let mut sink: ErrorSink<'a> = ErrorSink::all(alloc, so_far);
+        let trail = Trail::At(path.as_str());
+        let walked = self.walk(node, &trail, ctx, &mut sink);
+        *errors = sink.into_errors();
+        match walked {
+            Ok(()) => Ok(()),
+            Err(Stop::Enough) => Ok(()),
+            Err(Stop::Memory(error)) => {
+                errors.truncate(len);
+                Err(error)
+            }
+        }
+    }
+}
+
 mod all_of;
 mod any_of;
-mod append;
-mod dependencies;
-mod if_;
-mod node;
-mod not;
-mod one_of;
-mod pattern_properties;
+mod branches;
 mod properties;
-mod property_dependencies;
-mod property_names;
 mod required;
-mod walk;
+mod sink;
 
-pub use node::{collect_body, validate_body};
+pub use sink::{ErrorSink, Stop};

@@ -10,9 +10,10 @@ use std::alloc::{AllocError, Global};
 
 /// Where a value stands: a path, and the names that lead from there, on the stack of a walk. The
 /// text is written where it is wanted.
+#[derive(Clone, Copy)]
 pub enum Trail<'t, 'n> {
     /// At the path that has this text.
-    At(&'n str),
+    At(&'t str),
     /// One segment further down.
     Below(&'t Trail<'t, 'n>, &'n str),
 }

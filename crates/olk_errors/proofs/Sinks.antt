@@ -1,0 +1,227 @@
+-- One walk after another, whatever the sink wants.
+use Rattle.std.proofs.Common.{◌≡◌, ℕ, Bool, true, false, true≢false, ◌&&◌, List, [], ◌∷◌, ◌++◌, length, take, Vec, Option, Some, get_or, refl, sym, ap, subst, ◌∙◌, arith, Result, Ok, Err, OnOk, OnErr, IfErr, IsErrAnd}
+use Rattle.std.specs.List.{Contains}
+use Rattle.std.proofs.lemmas.List.{append_assoc, append-nil}
+use Rattle.std.proofs.lemmas.List.Elements.{Contains-append_left, Contains-append_right}
+use Rattle.std.proofs.lemmas.Result.{err_from_is_err_and, IfErr-weaker}
+use Rattle.std.proofs.Math.Seq.{take-append_seam}
+use Rattle.std.specs.declared.alloc.Global.{Global}
+use Rattle.olk_base.specs.Lawful.{Asking}
+use Rattle.olk_spec.specs.Faults.{Fault}
+use Rattle.olk_reports.specs.Errors.{fault_of}
+use Rattle.olk_reports.specs.declared.error.ValidationError.{ValidationError}
+use Rattle.olk_tree.specs.Firsts.{or_else}
+use Rattle.olk_tree.specs.Questions.{Question}
+use Rattle.olk_check.specs.Asks.{OnlyAsks}
+use Rattle.olk_check.proofs.Asked.{only_same, only_then}
+use Rattle.olk_errors.specs.Found.{Appends, Outcome, Passes, IsErrorOf}
+use Rattle.olk_errors.specs.Outcomes.{of_each}
+use Rattle.olk_errors.specs.Sinks.{is_first, errors_in, wants_one, held, Took, GoesOn, Takes, HasOne, IsLonger, Kept, Keeps, Stopped, StopsBy}
+use Rattle.olk_errors.specs.declared.sink.ErrorSink.{ErrorSink}
+use Rattle.olk_errors.specs.declared.sink.Held.TheVariants.{First, All}
+use Rattle.olk_errors.specs.declared.sink.Stop.{Stop}
+use Rattle.olk_errors.specs.declared.sink.Stop.TheVariants.{Enough, Memory}
+use Rattle.olk_errors.proofs.Appending.{appends_nothing, appends_more, appends_one}
+
+-- one asking after the other
+abbrev pub after : Outcome → Outcome → Outcome
+after o p = record { accepts = o.accepts && p.accepts; first = or_else o.first p.first; all = o.all ++ p.all }
+
+-- nothing is asked
+abbrev pub unasked : Outcome
+unasked = record { accepts = true; first = []; all = [] }
+
+pub contains_none : (f : Fault) → Contains [] f → ⊥
+contains_none f c = absurd (omega arith)
+
+pub contains_first : (fs gs : List Fault) (f : Fault) → Contains fs f → Contains (or_else fs gs) f
+contains_first [] gs f c = absurd (contains_none f c)
+contains_first (g ∷ fs) gs f c = c
+
+pub pass_both : {o p : Outcome} → Passes o → Passes p → Passes (after o p)
+pass_both {o} {p} h k = record { verdict = ap (λ b. b && p.accepts) h.verdict ∙ k.verdict; nothing = ap (λ l. or_else l p.first) h.nothing ∙ k.nothing }
+
+-- an error of the first is one of both
+pub error_before : {o : Outcome} (p : Outcome) {f : Fault} → IsErrorOf o f → IsErrorOf (after o p) f
+error_before {o} p e = record {
+  verdict = ap (λ b. b && p.accepts) e.verdict;
+  of_first = record { one = e.of_first.one; among = contains_first o.first p.first e.of_first.one e.of_first.among; like = e.of_first.like };
+  of_all = record { whole = e.of_all.whole; among = Contains-append_left o.all p.all e.of_all.whole e.of_all.among; like = e.of_all.like };
+}
+
+-- and so is one of the second, where the first passes
+pub error_after : {o p : Outcome} {f : Fault} → Passes o → IsErrorOf p f → IsErrorOf (after o p) f
+error_after {o} {p} {f} passes e = record {
+  verdict = ap (λ b. b && p.accepts) passes.verdict ∙ e.verdict;
+  of_first = record { one = e.of_first.one; among = subst (λ l. Contains (or_else l p.first) e.of_first.one) (sym passes.nothing) e.of_first.among; like = e.of_first.like };
+  of_all = record { whole = e.of_all.whole; among = Contains-append_right o.all p.all e.of_all.whole e.of_all.among; like = e.of_all.like };
+}
+
+-- ---- by lists
+
+took_nothing : (b : Bool) (l : List ValidationError) → Took b l l unasked
+took_nothing false l = appends_nothing l
+took_nothing true l = (record { verdict = refl; nothing = refl }, refl)
+
+took_after : (b : Bool) (old mid new : List ValidationError) (o p : Outcome) → Took b old mid o → Took b mid new p → Took b old new (after o p)
+took_after false old mid new o p h k = appends_more h k
+took_after true old mid new o p h k = (pass_both h.0 k.0, k.1 ∙ h.1)
+
+took_passing : (b : Bool) (l : List ValidationError) (o : Outcome) → Passes o → o.all ≡ [] → Took b l l o
+took_passing false l o passes none = subst (Appends l l) (sym none) (appends_nothing l)
+took_passing true l o passes none = (passes, refl)
+
+took_kept : (b : Bool) (old new : List ValidationError) (o : Outcome) → Took b old new o → Kept b old new
+took_kept false old new o h = record { added = h.added; is = h.is }
+took_kept true old new o h = tt
+
+took_passed : (b : Bool) (old new : List ValidationError) (o : Outcome) → b ≡ true → Took b old new o → Passes o
+took_passed true old new o e h = h.0
+took_passed false old new o e h = absurd (true≢false (sym e))
+
+took_all : (b : Bool) (old new : List ValidationError) (o : Outcome) → b ≡ false → Took b old new o → Appends old new o.all
+took_all false old new o e h = h
+took_all true old new o e h = absurd (true≢false e)
+
+from_all : (b : Bool) (old new : List ValidationError) (o : Outcome) → b ≡ false → Appends old new o.all → Took b old new o
+from_all false old new o e h = h
+from_all true old new o e h = absurd (true≢false e)
+
+kept_same : (b : Bool) (l : List ValidationError) → Kept b l l
+kept_same false l = record { added = []; is = sym (append-nil l) }
+kept_same true l = tt
+
+kept_more : (b : Bool) (old mid new : List ValidationError) → Kept b old mid → Kept b mid new → Kept b old new
+kept_more false old mid new h k = record { added = h.added ++ k.added; is = k.is ∙ ap (λ l. l ++ k.added) h.is ∙ append_assoc old h.added k.added }
+kept_more true old mid new h k = tt
+
+-- ---- of sinks
+
+pub goes_nowhere : (s : ErrorSink) → GoesOn s s unasked
+goes_nowhere s = record { same = refl; took = took_nothing (wants_one s) (held s) }
+
+-- of what passes
+pub goes_past : (s : ErrorSink) {o : Outcome} → Passes o → o.all ≡ [] → GoesOn s s o
+goes_past s {o} passes none = record { same = refl; took = took_passing (wants_one s) (held s) o passes none }
+
+pub keeps_same : (s : ErrorSink) → Keeps s s
+keeps_same s = record { same = refl; kept = kept_same (wants_one s) (held s) }
+
+module _ {old mid new : ErrorSink} where
+  pub goes_after : {o p : Outcome} → GoesOn old mid o → GoesOn mid new p → GoesOn old new (after o p)
+  goes_after {o} {p} h k = record { same = k.same ∙ h.same; took = took_after (wants_one old) (held old) (held mid) (held new) o p h.took (subst (λ b. Took b (held mid) (held new) p) h.same k.took) }
+
+  pub keeps_more : Keeps old mid → Keeps mid new → Keeps old new
+  keeps_more h k = record { same = k.same ∙ h.same; kept = kept_more (wants_one old) (held old) (held mid) (held new) h.kept (subst (λ b. Kept b (held mid) (held new)) h.same k.kept) }
+
+module _ {old new : ErrorSink} where
+  pub goes_keeping : {o : Outcome} → GoesOn old new o → Keeps old new
+  goes_keeping {o} h = record { same = h.same; kept = took_kept (wants_one old) (held old) (held new) o h.took }
+
+  pub goes_same : {o p : Outcome} → o ≡ p → GoesOn old new o → GoesOn old new p
+  goes_same e h = subst (GoesOn old new) e h
+
+  -- one error is wanted, and there is none
+  pub goes_passing : {o : Outcome} → wants_one old ≡ true → GoesOn old new o → Passes o
+  goes_passing {o} one h = took_passed (wants_one old) (held old) (held new) o one h.took
+
+  -- all are wanted
+  pub goes_appending : {o : Outcome} → wants_one old ≡ false → GoesOn old new o → Appends (held old) (held new) o.all
+  goes_appending {o} all h = took_all (wants_one old) (held old) (held new) o all h.took
+
+  -- where all are wanted, what all are is what matters
+  pub goes_all : {o : Outcome} (p : Outcome) → wants_one old ≡ false → o.all ≡ p.all → GoesOn old new o → GoesOn old new p
+  goes_all {o} p all e h = record { same = h.same; took = from_all (wants_one old) (held old) (held new) p all (subst (Appends (held old) (held new)) e (goes_appending all h)) }
+
+  -- one error of its own
+  pub takes_own : (o : Outcome) {f : Fault} → (Appends (held old) (held new) (f ∷ []) → Appends (held old) (held new) o.all) → Takes old new f → GoesOn old new o
+  takes_own o k h = record { same = h.same; took = from_all (wants_one old) (held old) (held new) o h.all (k h.took) }
+
+-- ---- stopped
+
+stopped_weaker : (s : Stop) (old new : ErrorSink) {So Then : Fault → Type 0} → ((f : Fault) → So f → Then f) → Stopped s old new So → Stopped s old new Then
+stopped_weaker Enough old new k h = record { one = h.one; same = h.same; error = h.error; is = h.is; found = k (fault_of h.error) h.found }
+stopped_weaker (Memory m) old new k h = h
+
+stopped_after : (s : Stop) (old mid new : ErrorSink) (o p : Outcome) → GoesOn old mid o → Stopped s mid new (IsErrorOf p) → Stopped s old new (IsErrorOf (after o p))
+stopped_after Enough old mid new o p h k = record { one = sym h.same ∙ k.one; same = k.same ∙ h.same; error = k.error; is = k.is; found = error_after (goes_passing (sym h.same ∙ k.one) h) k.found }
+stopped_after (Memory m) old mid new o p h k = keeps_more (goes_keeping h) k
+
+module _ {s : Stop} {old new : ErrorSink} where
+  pub stops_weaker : {So Then : Fault → Type 0} → ((f : Fault) → So f → Then f) → StopsBy s old new So → StopsBy s old new Then
+  stops_weaker k h = record { stopped = stopped_weaker s old new k h.stopped }
+
+  pub stops_same : {o p : Outcome} → o ≡ p → StopsBy s old new (IsErrorOf o) → StopsBy s old new (IsErrorOf p)
+  stops_same e h = stops_weaker (λ f is. subst (λ x. IsErrorOf x f) e is) h
+
+  pub stops_before : {o : Outcome} (p : Outcome) → StopsBy s old new (IsErrorOf o) → StopsBy s old new (IsErrorOf (after o p))
+  stops_before p h = stops_weaker (λ f e. error_before p e) h
+
+pub stops_after : {s : Stop} {old mid new : ErrorSink} {o p : Outcome} → GoesOn old mid o → StopsBy s mid new (IsErrorOf p) → StopsBy s old new (IsErrorOf (after o p))
+stops_after {s} {old} {mid} {new} {o} {p} h k = record { stopped = stopped_after s old mid new o p h k.stopped }
+
+-- ---- one error
+
+module _ {old : ErrorSink} (e : ValidationError) where
+  pub takes_first : {slot : Option ValidationError} → old.held ≡ First slot → StopsBy Enough old (record { alloc = old.alloc; held = First (Some e) }) (λ f. f ≡ fault_of e)
+  takes_first is = record { stopped = record { one = ap is_first is; same = sym (ap is_first is); error = e; is = refl; found = refl } }
+
+  pub takes_more : {es fs : Vec ValidationError Global} → old.held ≡ All es → fs.items ≡ es.items ++ e ∷ [] → Takes old (record { alloc = old.alloc; held = All fs }) (fault_of e)
+  takes_more is more = record { all = ap is_first is; same = sym (ap is_first is); took = appends_one e (more ∙ ap (λ l. l ++ e ∷ []) (sym (ap errors_in is))) refl }
+
+-- ---- each of a list
+
+module _ {X : Type 0} (q : X → Question) (u : Bool) (s f : X → List Fault) where
+  abbrev pub of_one : X → Outcome
+  of_one x = record { accepts = (q x).accepts u; first = s x; all = f x }
+
+  -- what a walk over the rest does from now on is what a walk over all does from the start
+  pub record Walked (all rest : List X) (old new : ErrorSink) : Type 0 where
+    pub on : (newer : ErrorSink) → GoesOn new newer (of_each u q s f rest) → GoesOn old newer (of_each u q s f all)
+    pub stop : (newer : ErrorSink) {t : Stop} → StopsBy t new newer (IsErrorOf (of_each u q s f rest)) → StopsBy t old newer (IsErrorOf (of_each u q s f all))
+
+module _ {X : Type 0} {q : X → Question} {u : Bool} {s f : X → List Fault} {all : List X} where
+  pub walked_start : {k : ErrorSink} → Walked q u s f all all k k
+  walked_start = record { on = λ newer h. h; stop = λ newer {t} h. h }
+
+  module _ {rest : List X} {old new : ErrorSink} (loop : Walked q u s f all rest old new) where
+    pub walked_more : {x : X} {more : List X} {newer : ErrorSink} → rest ≡ x ∷ more → GoesOn new newer (of_one q u s f x) → Walked q u s f all more old newer
+    walked_more {x} {more} {newer} next on = record {
+      on = λ newest h. loop.on newest (subst (λ l. GoesOn new newest (of_each u q s f l)) (sym next) (goes_after on h));
+      stop = λ newest {t} h. loop.stop newest (subst (λ l. StopsBy t new newest (IsErrorOf (of_each u q s f l))) (sym next) (stops_after on h));
+    }
+
+    pub walked_stop : {x : X} {more : List X} {newer : ErrorSink} {t : Stop} → rest ≡ x ∷ more → StopsBy t new newer (IsErrorOf (of_one q u s f x)) → StopsBy t old newer (IsErrorOf (of_each u q s f all))
+    walked_stop {x} {more} {newer} {t} next h = loop.stop newer (subst (λ l. StopsBy t new newer (IsErrorOf (of_each u q s f l))) (sym next) (stops_before (of_each u q s f more) h))
+
+    pub walked_end : rest ≡ [] → GoesOn old new (of_each u q s f all)
+    walked_end none = loop.on new (subst (λ l. GoesOn new new (of_each u q s f l)) (sym none) (goes_nowhere new))
+
+-- ---- with the context's answer, which a walk keeps; a and b are the context at the start and now
+
+pub record Walking {X : Type 0} (q : X → Question) (s f : Bool → X → List Fault) (all rest : List X) (old new : ErrorSink) (a b : Asking) : Type 0 where
+  pub so_far : Walked q a.answer (s a.answer) (f a.answer) all rest old new
+  pub only : OnlyAsks a b
+
+module _ {X : Type 0} {q : X → Question} {s f : Bool → X → List Fault} {all : List X} {a : Asking} where
+  pub walking_start : {k : ErrorSink} → Walking q s f all all k k a a
+  walking_start = record { so_far = walked_start; only = only_same a }
+
+  pub walking_from : {rest : List X} {k : ErrorSink} → rest ≡ all → Walking q s f all rest k k a a
+  walking_from {k = k} whole = subst (λ l. Walking q s f all l k k a a) (sym whole) walking_start
+
+  module _ {rest : List X} {old new : ErrorSink} {b : Asking} (loop : Walking q s f all rest old new a b) where
+    pub walking_more : {x : X} {more : List X} {newer : ErrorSink} {c : Asking} → rest ≡ x ∷ more → GoesOn new newer (of_one q b.answer (s b.answer) (f b.answer) x) → OnlyAsks b c → Walking q s f all more old newer a c
+    walking_more {x} {newer = newer} next on only = record { so_far = walked_more loop.so_far next (subst (λ u. GoesOn new newer (of_one q u (s u) (f u) x)) loop.only.answer on); only = only_then loop.only only }
+
+    pub walking_stop : {x : X} {more : List X} {newer : ErrorSink} {t : Stop} → rest ≡ x ∷ more → StopsBy t new newer (IsErrorOf (of_one q b.answer (s b.answer) (f b.answer) x)) → StopsBy t old newer (IsErrorOf (of_each a.answer q (s a.answer) (f a.answer) all))
+    walking_stop {x} {newer = newer} {t} next h = walked_stop loop.so_far next (subst (λ u. StopsBy t new newer (IsErrorOf (of_one q u (s u) (f u) x))) loop.only.answer h)
+
+    pub walking_end : rest ≡ [] → GoesOn old new (of_each a.answer q (s a.answer) (f a.answer) all)
+    walking_end none = walked_end loop.so_far none
+
+-- ---- results
+
+-- a stop that leaves by a `?`
+pub left_by : {T : Type 0} (r : Result T Stop) (x : Stop) {So : Type 0} (Then : Stop → Type 0) → IsErrAnd r (λ s. s ≡ x) → So → (So → Then x) → IfErr r Then
+left_by r x Then h so k = let p = err_from_is_err_and r h in subst (λ z. IfErr z Then) (sym p.1) (subst Then (sym p.2) (k so))

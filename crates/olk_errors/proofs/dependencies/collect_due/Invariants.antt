@@ -1,7 +1,0 @@
-use Rattle.olk_base.specs.Nodes.{data_of}
-use Rattle.olk_tree.specs.Visited.{left_of}
-use Rattle.olk_errors.proofs.Steps.{Collecting}
-use Rattle.olk_errors.proofs.dependencies.collect_due.Given as goal
-
-abbrev pub invariant-loop-dependency : goal.invariant-loop-dependency
-invariant-loop-dependency g l = Collecting (λ u Q d. g.N.Reports.report d.node u (data_of l.object) Q) (left_of l.initial.dependency-iterator) (left_of l.dependency-iterator) l.initial.errors.items l.errors.items l.initial.path l.path l.initial.ctx l.ctx

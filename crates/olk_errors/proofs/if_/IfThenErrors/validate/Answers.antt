@@ -1,8 +1,0 @@
-use Rattle.std.proofs.Common.{rules}
-use Rattle.olk_errors.proofs.if_.IfThenErrors.validate.Goals as goal
-
-pub returns-then-not-is_valid-clause-ok : goal.returns-then-not-is_valid-clause-ok
-returns-then-not-is_valid-clause-ok g c = search rules
-
-pub returns-then-not-is_valid-clause-invalid : goal.returns-then-not-is_valid-clause-invalid
-returns-then-not-is_valid-clause-invalid g c = search rules

@@ -1,7 +1,0 @@
-use Rattle.olk_spec.specs.Names.{◌//◌}
-use Rattle.olk_tree.specs.Visited.{left_of}
-use Rattle.olk_errors.proofs.Steps.{Collecting}
-use Rattle.olk_errors.proofs.properties.collect_members.Given as goal
-
-abbrev pub invariant-loop-name : goal.invariant-loop-name
-invariant-loop-name g l = Collecting (λ u Q d. g.N.Reports.report d.node u d.value (Q // d.name)) (left_of l.initial.name-iterator) (left_of l.name-iterator) l.initial.errors.items l.errors.items l.initial.path l.path l.initial.ctx l.ctx

@@ -1,0 +1,73 @@
+-- What a sink has after a walk, and after one error.
+use Rattle.std.specs.Prelude.{◌≡◌, ⊤, Bool, true, false, List, [], ◌∷◌, ◌++◌, option_to_list}
+use Rattle.olk_spec.specs.Faults.{Fault}
+use Rattle.olk_reports.specs.Errors.{fault_of}
+use Rattle.olk_reports.specs.declared.error.ValidationError.{ValidationError}
+use Rattle.olk_errors.specs.Found.{Appends, Outcome, Passes}
+use Rattle.olk_errors.specs.declared.sink.ErrorSink.{ErrorSink}
+use Rattle.olk_errors.specs.declared.sink.Held.{Held}
+use Rattle.olk_errors.specs.declared.sink.Held.TheVariants.{First, All}
+use Rattle.olk_errors.specs.declared.sink.Stop.{Stop}
+use Rattle.olk_errors.specs.declared.sink.Stop.TheVariants.{Enough, Memory}
+
+abbrev pub is_first : Held → Bool
+is_first (First e) = true
+is_first (All es) = false
+
+abbrev pub errors_in : Held → List ValidationError
+errors_in (First e) = option_to_list e
+errors_in (All es) = es.items
+
+-- whether one error is enough
+abbrev pub wants_one : ErrorSink → Bool
+wants_one s = is_first s.held
+
+-- what it has taken
+abbrev pub held : ErrorSink → List ValidationError
+held s = errors_in s.held
+
+-- by lists, of which one error is wanted, or all: all errors of an outcome were taken, and where one is wanted there is none
+abbrev pub Took : Bool → List ValidationError → List ValidationError → Outcome → Type 0
+Took false old new o = Appends old new o.all
+Took true old new o = Passes o × (new ≡ old)
+
+-- after a walk that went to its end
+pub record GoesOn (old new : ErrorSink) (o : Outcome) : Type 0 where
+  pub same : wants_one new ≡ wants_one old
+  pub took : Took (wants_one old) (held old) (held new) o
+
+-- after one error that does not end the walk
+pub record Takes (old new : ErrorSink) (f : Fault) : Type 0 where
+  pub all : wants_one old ≡ false
+  pub same : wants_one new ≡ wants_one old
+  pub took : Appends (held old) (held new) (f ∷ [])
+
+-- the one error that it wants is this, of which that is so
+pub record HasOne (old new : ErrorSink) (So : Fault → Type 0) : Type 0 where
+  pub one : wants_one old ≡ true
+  pub same : wants_one new ≡ wants_one old
+  pub error : ValidationError
+  pub is : held new ≡ error ∷ []
+  pub found : So (fault_of error)
+
+-- the new list is the old one with more behind it
+pub record IsLonger (old new : List ValidationError) : Type 0 where
+  pub added : List ValidationError
+  pub is : new ≡ old ++ added
+
+abbrev pub Kept : Bool → List ValidationError → List ValidationError → Type 0
+Kept false old new = IsLonger old new
+Kept true old new = ⊤
+
+-- nothing is lost that was in a list of all errors
+pub record Keeps (old new : ErrorSink) : Type 0 where
+  pub same : wants_one new ≡ wants_one old
+  pub kept : Kept (wants_one old) (held old) (held new)
+
+abbrev pub Stopped : Stop → ErrorSink → ErrorSink → (Fault → Type 0) → Type 0
+Stopped Enough old new So = HasOne old new So
+Stopped (Memory m) old new So = Keeps old new
+
+-- after a walk that was stopped: by an error of which that is so, or by want of memory
+pub record StopsBy (s : Stop) (old new : ErrorSink) (So : Fault → Type 0) : Type 0 where
+  pub stopped : Stopped s old new So

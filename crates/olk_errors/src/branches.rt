@@ -1,0 +1,93 @@
+//! Walks over nodes: the errors that they find.
+ghost use Rattle.std.specs.Prelude.{◌≡◌, ◌∷◌, [], map, IfOk, OnOk, IfErr};
+ghost use Rattle.olk_reports.proofs.Errors.{context_faults};
+ghost use Rattle.olk_base.specs.Nodes.{data_of};
+ghost use Rattle.olk_paths.specs.Trails.{path_at};
+ghost use Rattle.olk_check.specs.Asks.{OnlyAsks};
+ghost use Rattle.olk_errors.specs.Found.{Appends, AreLike, IsErrorOf};
+ghost use Rattle.olk_errors.specs.Outcomes.{of_branches};
+ghost use Rattle.olk_errors.specs.Sinks.{GoesOn, StopsBy};
+
+use crate::{ErrorSink, Stop, Walk};
+use olk_base::{Node, ValidationContext, one};
+use olk_paths::Trail;
+use olk_reports::ValidationError;
+use std::alloc::{AllocError, Global};
+
+/// Walks over the node with each of them.
+pub(crate) fn walk_each<'a, N: Walk<'a>>(
+    nodes: &'a Vec<N>,
+    node: Node<'a>,
+    trail: &Trail<'_, 'a>,
+    ctx: &mut ValidationContext,
+    sink: &mut ErrorSink<'a>,
+) -> Result<(), Stop>
+    ensures on { OnOk result (GoesOn sink.old sink.new
+        (of_branches N.means N.first N.report ctx.old.answer
+        nodes.now.items (data_of node.entry) (path_at trail.now))) }
+    ensures stop { IfErr result (λ s. StopsBy s sink.old sink.new (IsErrorOf
+        (of_branches N.means N.first N.report ctx.old.answer
+        nodes.now.items (data_of node.entry) (path_at trail.now)))) }
+    ensures context { OnlyAsks ctx.old ctx.new }
+{
+    for n in nodes {
+        n.walk(node, trail, ctx, sink)?;
+    }
+    Ok(())
+}
+
+/// For each of them its errors, in a list of its own.
+pub(crate) fn contexts<'a, N: Walk<'a>>(
+    alloc: Global,
+    nodes: &'a Vec<N>,
+    node: Node<'a>,
+    trail: &Trail<'_, 'a>,
+    ctx: &mut ValidationContext,
+) -> Result<Vec<Vec<ValidationError<'a>>>, AllocError>
+    ensures contexts { IfOk result (λ c. AreLike (context_faults c)
+        (map (λ n. N.report n ctx.old.answer (data_of node.entry) (path_at trail.now))
+        nodes.now.items)) }
+    ensures context { OnlyAsks ctx.old ctx.new }
+{
+    let mut contexts: Vec<Vec<ValidationError<'a>>> = Vec::new(alloc);
+    for n in nodes {
+        let errors = errors_of(alloc, n, node, trail, ctx)?;
+        contexts.push(errors)?;
+    }
+    Ok(contexts)
+}
+
+/// The errors of the one node, as the one list of a context.
+pub(crate) fn one_context<'a, N: Walk<'a>>(
+    alloc: Global,
+    branch: &'a N,
+    node: Node<'a>,
+    trail: &Trail<'_, 'a>,
+    ctx: &mut ValidationContext,
+) -> Result<Vec<Vec<ValidationError<'a>>>, AllocError>
+    ensures contexts { IfOk result (λ c. AreLike (context_faults c)
+        (N.report branch.now ctx.old.answer (data_of node.entry) (path_at trail.now) ∷ [])) }
+    ensures context { OnlyAsks ctx.old ctx.new }
+{
+    let errors = errors_of(alloc, branch, node, trail, ctx)?;
+    one(alloc, errors)
+}
+
+/// The errors of a node, in a list of their own.
+fn errors_of<'a, N: Walk<'a>>(
+    alloc: Global,
+    asked: &'a N,
+    node: Node<'a>,
+    trail: &Trail<'_, 'a>,
+    ctx: &mut ValidationContext,
+) -> Result<Vec<ValidationError<'a>>, AllocError>
+    ensures errors { IfOk result (λ es. Appends [] es.items
+        (N.report asked.now ctx.old.answer (data_of node.entry) (path_at trail.now))) }
+    ensures context { OnlyAsks ctx.old ctx.new }
+{
+    let mut sink: ErrorSink<'a> = ErrorSink::all(alloc, Vec::new(alloc));
+    match asked.walk(node, trail, ctx, &mut sink) {
+        Err(Stop::Memory(error)) => Err(error),
+        _ => Ok(sink.into_errors()),
+    }
+}
