@@ -13,20 +13,19 @@ use Rattle.olk_tree.specs.Visited.{names_met, left_of}
 use Rattle.olk_tree.specs.declared.map.SmallMap.{SmallMap}
 use Rattle.olk_tree.specs.declared.declared.DeclaredMembers.{DeclaredMembers}
 use Rattle.olk_tree.proofs.Due.{every_due, each_due, first_due, chosen, every_chosen, each_chosen, first_chosen}
-use Rattle.olk_errors.specs.Found.{Passes}
 use Rattle.olk_errors.specs.Outcomes.{of_each, of_node, of_branches}
+use Rattle.olk_errors.specs.Sinks.{GoesOn}
+use Rattle.olk_errors.specs.declared.sink.ErrorSink.{ErrorSink}
+use Rattle.olk_errors.proofs.Sinks.{goes_nowhere}
 
 or_else_nothing : (fs : List Fault) → or_else fs [] ≡ fs
 or_else_nothing [] = refl
 or_else_nothing (f ∷ fs) = refl
 
 module _ {N : Type 0} (m : N → Data → Question) (s r : N → Bool → Data → Path → List Fault) (u : Bool) (v : Data) (Q : Path) where
-  -- of one branch, and of none
+  -- of one branch
   pub one_branch : (n : N) → of_node m s r u n v Q ≡ of_branches m s r u (n ∷ []) v Q
   one_branch n = λ i. record { accepts = sym (and-true ((m n v).accepts u)) i; first = sym (or_else_nothing (s n u v Q)) i; all = sym (append-nil (r n u v Q)) i }
-
-  pub no_branch : Passes (of_branches m s r u [] v Q)
-  no_branch = record { verdict = refl; nothing = refl }
 
   module _ (ms : Members) (is : v ≡ object ms) where
     pub due_of_walk : (es : List (Name × N)) {w x : DeclaredMembers N} → w ≡ x → left_of x ≡ names_met es (listed ms)
@@ -38,5 +37,5 @@ module _ {N : Type 0} (m : N → Data → Question) (s r : N → Bool → Data �
     chosen_of_walk es same whole = λ i. record { accepts = (every_chosen ms es same whole v is (λ n. m n v) i).accepts u; first = first_chosen ms es same whole v is (λ n. s n u v Q) i; all = each_chosen ms es same whole v is (λ n. r n u v Q) i }
 
   -- where nothing is asked
-  pub none_asked : (ns : List N) → ns ≡ [] → Passes (of_branches m s r u ns v Q)
-  none_asked ns none = subst (λ l. Passes (of_branches m s r u l v Q)) (sym none) no_branch
+  pub goes_past_none : {ns : List N} (sink : ErrorSink) → ns ≡ [] → GoesOn sink sink (of_branches m s r u ns v Q)
+  goes_past_none sink none = subst (λ l. GoesOn sink sink (of_branches m s r u l v Q)) (sym none) (goes_nowhere sink)
