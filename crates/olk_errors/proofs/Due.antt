@@ -30,11 +30,20 @@ module _ {N : Type 0} (m : N → Data → Question) (s r : N → Bool → Data �
   module _ (ms : Members) (is : v ≡ object ms) where
     pub due_of_walk : (es : List (Name × N)) {w x : DeclaredMembers N} → w ≡ x → left_of x ≡ names_met es (listed ms)
         → of_each u (λ d. m d.node v) (λ d. s d.node u v Q) (λ d. r d.node u v Q) (left_of w) ≡ of_branches m s r u (due_nodes es v) v Q
-    due_of_walk es same whole = λ i. record { accepts = (every_due ms es same whole v is (λ n. m n v) i).accepts u; first = first_due ms es same whole v is (λ n. s n u v Q) i; all = each_due ms es same whole v is (λ n. r n u v Q) i }
+    due_of_walk es same whole = λ i. record {
+      accepts = (every_due ms es same whole v is (λ n. m n v) i).accepts u;
+      first = first_due ms es same whole v is (λ n. s n u v Q) i;
+      all = each_due ms es same whole v is (λ n. r n u v Q) i;
+    }
 
     pub chosen_of_walk : (es : List (Name × SmallMap N)) {w x : DeclaredMembers (SmallMap N)} → w ≡ x → left_of x ≡ names_met es (listed ms)
-        → of_each u (λ d. every (λ n. m n v) (chosen d)) (λ d. (of_branches m s r u (chosen d) v Q).first) (λ d. (of_branches m s r u (chosen d) v Q).all) (left_of w) ≡ of_branches m s r u (chosen_nodes es v) v Q
-    chosen_of_walk es same whole = λ i. record { accepts = (every_chosen ms es same whole v is (λ n. m n v) i).accepts u; first = first_chosen ms es same whole v is (λ n. s n u v Q) i; all = each_chosen ms es same whole v is (λ n. r n u v Q) i }
+        → of_each u (λ d. every (λ n. m n v) (chosen d)) (λ d. (of_branches m s r u (chosen d) v Q).first) (λ d. (of_branches m s r u (chosen d) v Q).all) (left_of w)
+            ≡ of_branches m s r u (chosen_nodes es v) v Q
+    chosen_of_walk es same whole = λ i. record {
+      accepts = (every_chosen ms es same whole v is (λ n. m n v) i).accepts u;
+      first = first_chosen ms es same whole v is (λ n. s n u v Q) i;
+      all = each_chosen ms es same whole v is (λ n. r n u v Q) i;
+    }
 
   -- where nothing is asked
   pub goes_past_none : {ns : List N} (sink : ErrorSink) → ns ≡ [] → GoesOn sink sink (of_branches m s r u ns v Q)

@@ -11,17 +11,20 @@ use Rattle.olk_errors.proofs.not.NotWalk.walk.Goals as goal
 pub returns-then-not-is_valid-clause-on : goal.returns-then-not-is_valid-clause-on
 returns-then-not-is_valid-clause-on g c =
     let refused = sym c.if-not-is_valid.ensures.verdict in
-    goes_past c.args.sink.now (own_passes (Not (view c.args.self.now.original)) (data_of c.args.node) c.args.self.now.location (path_at c.args.trail.now) (ap not refused) refused)
+    goes_past c.args.sink.now
+    (own_passes (Not (view c.args.self.now.original)) (data_of c.args.node) c.args.self.now.location (path_at c.args.trail.now) (ap not refused) refused)
     (own_nothing (Not (view c.args.self.now.original)) (data_of c.args.node) c.args.self.now.location (path_at c.args.trail.now) refused)
 
 pub returns-clause-on : goal.returns-clause-on
 returns-clause-on g c =
     let accepted = sym c.if-not-is_valid.ensures.verdict in
-    reported_on (is_own (Not (view c.args.self.now.original)) (data_of c.args.node) c.args.self.now.location (path_at c.args.trail.now) (ap not accepted) accepted refl (like_at (kind_of_not _) itself refl c.as_str.ensures))
+    let alike = like_at (kind_of_not _) itself refl c.as_str.ensures in
+    reported_on (is_own (Not (view c.args.self.now.original)) (data_of c.args.node) c.args.self.now.location (path_at c.args.trail.now) (ap not accepted) accepted refl alike)
     _ _ c.report.result c.report.ensures.on
 
 pub returns-clause-stop : goal.returns-clause-stop
 returns-clause-stop g c =
     let accepted = sym c.if-not-is_valid.ensures.verdict in
-    reported_stop (is_own (Not (view c.args.self.now.original)) (data_of c.args.node) c.args.self.now.location (path_at c.args.trail.now) (ap not accepted) accepted refl (like_at (kind_of_not _) itself refl c.as_str.ensures))
+    let alike = like_at (kind_of_not _) itself refl c.as_str.ensures in
+    reported_stop (is_own (Not (view c.args.self.now.original)) (data_of c.args.node) c.args.self.now.location (path_at c.args.trail.now) (ap not accepted) accepted refl alike)
     _ _ c.report.result c.report.ensures.stop
