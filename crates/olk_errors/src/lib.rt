@@ -155,7 +155,12 @@ impl<'a, W: Walk<'a>> Errors<'a> for W {
 mod all_of;
 mod any_of;
 mod branches;
+mod dependencies;
+mod if_;
+mod not;
+mod one_of;
 mod properties;
+mod property_dependencies;
 mod required;
 mod sink;
 
