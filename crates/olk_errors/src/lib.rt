@@ -155,6 +155,7 @@ impl<'a, W: Walk<'a>> Errors<'a> for W {
 mod all_of;
 mod any_of;
 mod branches;
+mod pattern_properties;
 mod properties;
 mod required;
 mod sink;
