@@ -24,7 +24,8 @@ in_second h (inl p) = inl p
 in_second h (inr q) = inr (h q)
 
 module _ {B : Type 0} where
-  contains_either : (a c : B → List Fault) (f : Fault) → ((y : B) → Contains (a y) f → Contains (c y) f) → (y : B) (ys : List B) → (Contains (flat_map a ys) f → Contains (flat_map c ys) f) → (Contains (a y) f ⊎ Contains (flat_map a ys) f) → Contains (flat_map c (y ∷ ys)) f
+  contains_either : (a c : B → List Fault) (f : Fault) → ((y : B) → Contains (a y) f → Contains (c y) f) → (y : B) (ys : List B)
+      → (Contains (flat_map a ys) f → Contains (flat_map c ys) f) → (Contains (a y) f ⊎ Contains (flat_map a ys) f) → Contains (flat_map c (y ∷ ys)) f
   contains_either a c f h y ys more (inl here) = Contains-append_left (c y) (flat_map c ys) f (h y here)
   contains_either a c f h y ys more (inr later) = Contains-append_right (c y) (flat_map c ys) f (more later)
 
@@ -37,7 +38,8 @@ module _ {B : Type 0} where
   contains_beside a c f ys (inl k) = contains_each a (λ y. a y ++ c y) f (λ y. Contains-append_left (a y) (c y) f) ys k
   contains_beside a c f ys (inr k) = contains_each c (λ y. a y ++ c y) f (λ y. Contains-append_right (a y) (c y) f) ys k
 
-  contains_inside_out : {A : Type 0} (g : A → B → List Fault) (f : Fault) (xs : List A) (ys : List B) → Contains (flat_map (λ x. flat_map (g x) ys) xs) f → Contains (flat_map (λ y. flat_map (λ x. g x y) xs) ys) f
+  contains_inside_out : {A : Type 0} (g : A → B → List Fault) (f : Fault) (xs : List A) (ys : List B)
+      → Contains (flat_map (λ x. flat_map (g x) ys) xs) f → Contains (flat_map (λ y. flat_map (λ x. g x y) xs) ys) f
   contains_inside_out g f [] ys k = absurd (contains_none f k)
   contains_inside_out g f (x ∷ xs) ys k = contains_beside (g x) (λ y. flat_map (λ z. g z y) xs) f ys
       (in_second (contains_inside_out g f xs ys) (Contains-append_cases (flat_map (g x) ys) (flat_map (λ z. flat_map (g z) ys) xs) f k))
@@ -54,7 +56,11 @@ module _ {R N : Type 0} (answers : R → Name → Says) (costs : R → Bool) (m 
 
     -- where it matches, the node is asked, with the same answer
     pub matched_as_node : {t : Bool} → t ≡ u → true ≡ is_match answers u p x → of_node m s r t n w (Q // x) ≡ of_match answers costs m s r u p n x w Q
-    matched_as_node same is = ap (λ b. of_node m s r b n w (Q // x)) same ∙ (λ i. record { accepts = cond (is i) ((m n w).accepts u) true; first = cond (is i) (s n u w (Q // x)) []; all = cond (is i) (r n u w (Q // x)) [] })
+    matched_as_node same is = ap (λ b. of_node m s r b n w (Q // x)) same ∙ (λ i. record {
+      accepts = cond (is i) ((m n w).accepts u) true;
+      first = cond (is i) (s n u w (Q // x)) [];
+      all = cond (is i) (r n u w (Q // x)) [];
+    })
 
   -- ---- all members, or all patterns
 
@@ -64,14 +70,16 @@ module _ {R N : Type 0} (answers : R → Name → Says) (costs : R → Bool) (m 
   abbrev asked_at : CompiledPattern R × N → Name × Data → Question
   asked_at e x = conditional (match_question answers costs e.0 x.0) (m e.1 x.1) (always true)
 
-  pub matched_of_walk : (p : CompiledPattern R) (n : N) (ms : Members) → of_each u (asked_at (p, n)) (λ x. (match_at (p, n) x).first) (λ x. (match_at (p, n) x).all) (listed ms) ≡ of_matched answers costs m s r u p n (object ms) Q
+  pub matched_of_walk : (p : CompiledPattern R) (n : N) (ms : Members)
+      → of_each u (asked_at (p, n)) (λ x. (match_at (p, n) x).first) (λ x. (match_at (p, n) x).all) (listed ms) ≡ of_matched answers costs m s r u p n (object ms) Q
   matched_of_walk p n ms = λ i. record {
     accepts = (every (asked_at (p, n)) (listed ms)).accepts u;
     first = first_of_those (λ x. is_match answers u p x.0) (λ x. s n u x.1 (Q // x.0)) (listed ms) i;
     all = each_of_those (λ x. is_match answers u p x.0) (λ x. r n u x.1 (Q // x.0)) (listed ms) i;
   }
 
-  pub matching_of_walk : (es : List (CompiledPattern R × N)) (x : Name) (w : Data) → of_each u (λ e. asked_at e (x, w)) (λ e. (match_at e (x, w)).first) (λ e. (match_at e (x, w)).all) es ≡ of_matching answers costs m s r u es x w Q
+  pub matching_of_walk : (es : List (CompiledPattern R × N)) (x : Name) (w : Data)
+      → of_each u (λ e. asked_at e (x, w)) (λ e. (match_at e (x, w)).first) (λ e. (match_at e (x, w)).all) es ≡ of_matching answers costs m s r u es x w Q
   matching_of_walk es x w = λ i. record {
     accepts = (every (λ e. asked_at e (x, w)) es).accepts u;
     first = first_of_those (λ e. is_match answers u e.0 x) (λ e. s e.1 u w (Q // x)) es i;

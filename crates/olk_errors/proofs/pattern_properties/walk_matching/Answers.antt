@@ -10,7 +10,8 @@ pub loop-entry-init : goal.loop-entry-init
 loop-entry-init g c = walking_start
 
 pub loop-entry-preserved : goal.loop-entry-preserved
-loop-entry-preserved g c = walking_more c.loop-entry.invariant (next_at c.deref-entry-items.ensures.value c.entry-item.is c.loop-entry-test.true) c.in_ok-walk_if_matched.ensures.on c.walk_if_matched.ensures.context
+loop-entry-preserved g c = walking_more c.loop-entry.invariant (next_at c.deref-entry-items.ensures.value c.entry-item.is c.loop-entry-test.true)
+    c.in_ok-walk_if_matched.ensures.on c.walk_if_matched.ensures.context
 
 pub returns-in_err-walk_if_matched-clause-stop : goal.returns-in_err-walk_if_matched-clause-stop
 returns-in_err-walk_if_matched-clause-stop g c = left_by c.from_residual.result _ _ c.from_residual.ensures.1 c.in_err-walk_if_matched.ensures.stop

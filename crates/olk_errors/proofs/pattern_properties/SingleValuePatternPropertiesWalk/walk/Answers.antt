@@ -9,4 +9,5 @@ pub returns-in-None-clause-on : goal.returns-in-None-clause-on
 returns-in-None-clause-on g c = goes_past c.args.sink.now
     (other_matched_passes g.R.RegexEngine.answers g.R.RegexEngine.costs g.N.Means.means g.N.Reports.first g.N.Reports.report c.args.ctx.now.answer (path_at c.args.trail.now)
     (data_of c.args.node) c.in-None.ensures c.args.self.now.regex c.args.self.now.node)
-    (matched_finds_nothing g.R.RegexEngine.answers (data_of c.args.node) c.in-None.ensures g.N.Reports.report c.args.ctx.now.answer (path_at c.args.trail.now) c.args.self.now.regex c.args.self.now.node)
+    (matched_finds_nothing g.R.RegexEngine.answers (data_of c.args.node) c.in-None.ensures g.N.Reports.report c.args.ctx.now.answer (path_at c.args.trail.now)
+    c.args.self.now.regex c.args.self.now.node)
