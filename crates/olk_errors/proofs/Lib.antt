@@ -7,3 +7,4 @@ mod Members
 mod OneOf
 mod Due
 mod If
+mod Patterns

@@ -159,6 +159,7 @@ mod dependencies;
 mod if_;
 mod not;
 mod one_of;
+mod pattern_properties;
 mod properties;
 mod property_dependencies;
 mod required;
