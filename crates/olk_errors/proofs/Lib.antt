@@ -4,3 +4,4 @@ pub mod Own
 mod Contexts
 mod Missing
 mod Members
+mod Fused
