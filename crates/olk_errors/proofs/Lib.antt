@@ -5,3 +5,4 @@ mod Contexts
 mod Missing
 mod Members
 mod Fused
+mod Telling

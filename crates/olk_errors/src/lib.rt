@@ -155,8 +155,11 @@ impl<'a, W: Walk<'a>> Errors<'a> for W {
 mod all_of;
 mod any_of;
 mod branches;
+mod node;
 mod properties;
+mod property_names;
 mod required;
 mod sink;
 
+pub use node::walk_body;
 pub use sink::{ErrorSink, Stop};
