@@ -6,3 +6,4 @@ mod Missing
 mod Members
 mod Fused
 mod Telling
+mod Names

@@ -1,14 +1,16 @@
 -- One error for each of a list, in a sink that wants all.
-use Rattle.std.proofs.Common.{◌≡◌, true, false, true≢false, List, [], ◌∷◌, ◌++◌, length, map, arith, refl, sym, ap, ◌∙◌}
+use Rattle.std.proofs.Common.{◌≡◌, Bool, true, false, true≢false, List, [], ◌∷◌, ◌++◌, length, map, arith, refl, sym, ap, subst, ◌∙◌}
 use Rattle.std.specs.List.{flat_map}
-use Rattle.olk_spec.specs.Faults.{Fault}
+use Rattle.olk_spec.specs.Faults.{Fault, ◌∼◌}
 use Rattle.olk_tree.specs.Questions.{Question, always}
 use Rattle.olk_errors.specs.Found.{Outcome, IsErrorOf}
 use Rattle.olk_errors.specs.Outcomes.{of_each}
-use Rattle.olk_errors.specs.Sinks.{wants_one, GoesOn, Takes, Stopped, StopsBy}
+use Rattle.olk_errors.specs.Sinks.{wants_one, held, Took, GoesOn, Takes, Stopped, StopsBy}
 use Rattle.olk_errors.specs.declared.sink.ErrorSink.{ErrorSink}
 use Rattle.olk_errors.specs.declared.sink.Stop.{Stop}
 use Rattle.olk_errors.specs.declared.sink.Stop.TheVariants.{Enough, Memory}
+use Rattle.olk_reports.specs.declared.error.ValidationError.{ValidationError}
+use Rattle.olk_errors.proofs.Appending.{appends_like}
 use Rattle.olk_errors.proofs.Sinks.{Walked, walked_start, walked_more, walked_stop, walked_end, of_one, goes_all, takes_own}
 
 -- ---- by what the sink wants
@@ -24,6 +26,16 @@ stops_anyway {s} {old} {new} {So} {Then} all h = record { stopped = stopped_anyw
 -- and one that wants one takes none without an end
 pub never_goes_on : {old new : ErrorSink} {f : Fault} {o : Outcome} → wants_one old ≡ true → Takes old new f → GoesOn old new o
 never_goes_on one h = absurd (true≢false (sym one ∙ h.all))
+
+-- where all are wanted, what all are up to order is what matters
+pub goes_alike : {old new : ErrorSink} {o : Outcome} (p : Outcome) → wants_one old ≡ false → o.all ∼ p.all → GoesOn old new o → GoesOn old new p
+goes_alike {old} {new} {o} p all alike h =
+    let whole : Outcome = record { accepts = p.accepts; first = p.first; all = o.all } in
+    record { same = h.same; took = took_alike (wants_one old) (held old) (held new) whole p all alike (goes_all whole all refl h).took }
+  where
+    took_alike : (b : Bool) (old new : List ValidationError) (o p : Outcome) → b ≡ false → o.all ∼ p.all → Took b old new o → Took b old new p
+    took_alike false old new o p e alike h = appends_like alike h
+    took_alike true old new o p e alike h = absurd (true≢false e)
 
 -- ---- each of a list
 
@@ -60,3 +72,7 @@ module _ {X : Type 0} {h : X → Fault} {all : List X} where
 
     pub telling_end : (o : Outcome) → map h all ≡ o.all → rest ≡ [] → GoesOn old new o
     telling_end o same none = goes_all o loop.before (each_told h all ∙ same) (walked_end loop.so_far none)
+
+    -- the same up to order
+    pub telling_like : (o : Outcome) → map h all ∼ o.all → rest ≡ [] → GoesOn old new o
+    telling_like o like none = goes_alike o loop.before (subst (λ l. l ∼ o.all) (sym (each_told h all)) like) (walked_end loop.so_far none)

@@ -39,7 +39,10 @@ pub fn walk_body<'a, W: Walk<'a>>(
 {
     match body {
         Body::True => Ok(()),
-        Body::False => sink.report(ValidationErrorKind::FalseSchema, node, trail, location),
+        Body::False => {
+            let kind: ValidationErrorKind<'a> = ValidationErrorKind::FalseSchema;
+            sink.report(kind, node, trail, location)
+        }
         Body::Keywords(keywords) => walk_each(keywords, node, trail, ctx, sink),
         Body::RequiredNames(names) => names.walk(node, trail, ctx, sink),
     }

@@ -171,7 +171,7 @@ fn boxed_at<T: Drop>(
     value: T,
     trail: &Trail<'_, '_>,
 ) -> Result<(Box<T>, PathText), AllocError>
-    ensures value { IfOk result (λ b. b.0.value ≡ value.entry) }
+    ensures value { IfOk result (λ b. b.0.value ≡ value) }
     ensures text { IfOk result (λ b. b.1 ≡ path_at trail.now) }
 {
     let text = trail.text(alloc)?;
