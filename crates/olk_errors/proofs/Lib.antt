@@ -8,3 +8,6 @@ mod OneOf
 mod Due
 mod If
 mod Patterns
+mod Fused
+mod Telling
+mod Names

@@ -162,7 +162,10 @@ mod one_of;
 mod pattern_properties;
 mod properties;
 mod property_dependencies;
+mod node;
+mod property_names;
 mod required;
 mod sink;
 
+pub use node::walk_body;
 pub use sink::{ErrorSink, Stop};
