@@ -4,6 +4,10 @@ pub mod Own
 mod Contexts
 mod Missing
 mod Members
+mod OneOf
+mod Due
+mod If
+mod Patterns
 mod Fused
 mod Telling
 mod Names

@@ -155,8 +155,14 @@ impl<'a, W: Walk<'a>> Errors<'a> for W {
 mod all_of;
 mod any_of;
 mod branches;
-mod node;
+mod dependencies;
+mod if_;
+mod not;
+mod one_of;
+mod pattern_properties;
 mod properties;
+mod property_dependencies;
+mod node;
 mod property_names;
 mod required;
 mod sink;
