@@ -4,3 +4,6 @@ pub mod Own
 mod Contexts
 mod Missing
 mod Members
+mod Several
+mod Additional
+mod Unexpected

@@ -152,6 +152,7 @@ impl<'a, W: Walk<'a>> Errors<'a> for W {
     }
 }
 
+mod additional_properties;
 mod all_of;
 mod any_of;
 mod branches;
