@@ -116,10 +116,10 @@ module _ {R N : Type 0} (w : Asked R N) where
       rest_left e = asked_end ∙ ap (λ b. cond (not b) (option_to_list w.sides.rest) []) e ∙ sym (append-nil (option_to_list w.sides.rest))
 
       module _ (so_far : alone u ≡ alone_left u spoken i) where
-        pub expected : spoken ≡ true → false ≡ unexpected u
+        expected : spoken ≡ true → false ≡ unexpected u
         expected e = sym (ap (λ b. is_none w.sides.rest && b) (so_far ∙ alone_end ∙ ap not e) ∙ and-false (is_none w.sides.rest))
 
-        pub left_to_rest : {b : Bool} → spoken ≡ false → b ≡ is_none w.sides.rest → b ≡ unexpected u
+        left_to_rest : {b : Bool} → spoken ≡ false → b ≡ is_none w.sides.rest → b ≡ unexpected u
         left_to_rest e is = is ∙ sym (ap (λ b. is_none w.sides.rest && b) (so_far ∙ alone_end ∙ ap not e) ∙ and-true (is_none w.sides.rest))
 
   -- ---- the walk
@@ -129,10 +129,10 @@ module _ {R N : Type 0} (w : Asked R N) where
     pub walking : Walking asks_at (first_at Q) (report_at Q) (asked a.answer) (asked_left a.answer spoken i) old new a b
     pub so_far : alone a.answer ≡ alone_left a.answer spoken i
 
-  module _ {Q : Path} {a : Asking} {old : ErrorSink} where
-    pub declared_stops : {new : ErrorSink} {t : Stop} → StopsBy t old new (IsErrorOf (outcome a.answer Q (declared_nodes w.declared))) → StopsBy t old new (IsErrorOf (outcome a.answer Q (asked a.answer)))
-    declared_stops h = walking_each_stop {q = asks_at} {s = first_at Q} {f = report_at Q} {a = a} walking_start (declared_nodes w.declared) (asked_left a.answer (is_some w.declared) 0) refl h
+  pub declared_stops : (Q : Path) (a : Asking) {old new : ErrorSink} {t : Stop} → StopsBy t old new (IsErrorOf (outcome a.answer Q (declared_nodes w.declared))) → StopsBy t old new (IsErrorOf (outcome a.answer Q (asked a.answer)))
+  declared_stops Q a h = walking_each_stop {q = asks_at} {s = first_at Q} {f = report_at Q} {a = a} walking_start (declared_nodes w.declared) (asked_left a.answer (is_some w.declared) 0) refl h
 
+  module _ {Q : Path} {a : Asking} {old : ErrorSink} where
     pub declared_goes : {spoken : Bool} {new : ErrorSink} {b : Asking} → spoken ≡ is_some w.declared → GoesOn old new (outcome a.answer Q (declared_nodes w.declared)) → OnlyAsks a b → WalkingMember Q spoken 0 old new a b
     declared_goes {new = new} {b = b} e on only = subst (λ s. WalkingMember Q s 0 old new a b) (sym e) (record { walking = walking_each walking_start (declared_nodes w.declared) (asked_left a.answer (is_some w.declared) 0) refl on only; so_far = refl })
 
@@ -148,6 +148,12 @@ module _ {R N : Type 0} (w : Asked R N) where
         pattern_stops h = walking_each_stop loop.walking (if_matched w.answers b.answer known e.0 e.1 w.name) (asked_left a.answer (spoken || reads_as b.answer (known_or known (pattern_answers w.answers e.0 w.name))) (i + 1)) (asked_here a.answer spoken i here is loop.walking.only.answer refl) h
 
       module _ (none : drop i w.sides.patterns ≡ []) where
+        pub spoken_expected : spoken ≡ true → false ≡ unexpected a.answer
+        spoken_expected e = expected a.answer spoken i none loop.so_far e
+
+        pub rest_unexpected : {m : Bool} → spoken ≡ false → m ≡ is_none w.sides.rest → m ≡ unexpected a.answer
+        rest_unexpected e is = left_to_rest a.answer spoken i none loop.so_far e is
+
         pub spoken_goes : spoken ≡ true → GoesOn old new (outcome a.answer Q (asked a.answer))
         spoken_goes e = walking_end loop.walking (none_left a.answer spoken i none e)
 

@@ -7,3 +7,4 @@ mod Members
 mod Several
 mod Additional
 mod Unexpected
+mod AdditionalMembers
