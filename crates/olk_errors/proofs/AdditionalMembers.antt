@@ -2,9 +2,10 @@
 use Rattle.std.proofs.Common.{◌≡◌, ℕ, Bool, true, false, true≢false, not, ◌&&◌, cond, List, [], ◌∷◌, ◌++◌, map, Option, Some, None, is_none, is_some, option_to_list, string_bytes, refl, sym, ap, subst, ◌∙◌}
 use mathlib.Core.Path.{subst₂}
 use Rattle.std.proofs.Math.Bool.{and_assoc}
-use Rattle.std.proofs.lemmas.List.{append_assoc, append-nil}
+use Rattle.std.proofs.lemmas.List.{append_assoc, append-nil, map-append}
 use Rattle.std.specs.List.{flat_map, Contains}
 use Rattle.std.proofs.lemmas.List.Elements.{Contains-append_right}
+use Rattle.std.specs.declared.alloc.AllocError.{AllocError}
 use Rattle.serde_json.specs.Data.{Data}
 use Rattle.serde_json.specs.Find.{as_object}
 use Rattle.olk_spec.specs.Names.{Name, Path, ◌//◌, filter_once, put_if, is_empty}
@@ -30,8 +31,9 @@ use Rattle.olk_errors.specs.Outcomes.{of_branches, declared_nodes, unspoken_from
 use Rattle.olk_errors.specs.Sinks.{wants_one, GoesOn, StopsBy}
 use Rattle.olk_errors.specs.declared.sink.ErrorSink.{ErrorSink}
 use Rattle.olk_errors.specs.declared.sink.Stop.{Stop}
+use Rattle.olk_errors.specs.declared.sink.Stop.TheVariants.{Memory}
 use Rattle.olk_errors.proofs.Missing.{one_first, other_lacks_none, other_lacks_nothing}
-use Rattle.olk_errors.proofs.Sinks.{after, contains_first, pass_both, goes_after, goes_same, goes_passing, stops_after, stops_before, stops_same}
+use Rattle.olk_errors.proofs.Sinks.{after, contains_first, pass_both, goes_after, goes_same, goes_keeping, goes_passing, stops_after, stops_before, stops_same}
 use Rattle.olk_errors.proofs.Several.{goes_either, stops_where}
 use Rattle.olk_errors.proofs.Unexpected.{told_of_one, kept_of_first}
 
@@ -46,6 +48,9 @@ put_onto false x xs = refl
 never_empty : {A : Type 0} (xs : List A) (x : A) → is_empty (xs ++ x ∷ []) ≡ false
 never_empty [] x = refl
 never_empty (y ∷ ys) x = refl
+
+pub map_more : {A B : Type 0} (f : A → B) (old : List A) (x : A) {new : List A} → new ≡ old ++ x ∷ [] → map f new ≡ map f old ++ f x ∷ []
+map_more f old x grown = ap (map f) grown ∙ map-append f old (x ∷ [])
 
 none_is_one : (f : Fault) → f ∷ [] ≡ [] → ⊥
 none_is_one f h = cc
@@ -153,6 +158,10 @@ module _ {R N : Type 0} (answers : R → Name → Says) (costs : R → Bool) (m 
 
         stops_left : {newest : ErrorSink} {t : Stop} → StopsBy t newer newest (IsErrorOf (of_others a.answer aside more x)) → StopsBy t new newest (IsErrorOf (of_left a.answer aside rest))
         stops_left {newest} {t} h = subst (λ l. StopsBy t new newest (IsErrorOf (of_left a.answer aside l))) (sym next) (stops_same (with_others a.answer aside more x declared) (stops_after walked_at h))
+
+        -- there was no memory to put it aside
+        pub members_cut : (m : AllocError) → StopsBy (Memory m) old newer (IsErrorOf (in_turn a.answer))
+        members_cut m = loop.stop newer (record { stopped = goes_keeping walked })
 
         module _ {told_so : Bool} (is : told_so ≡ unexpected_at answers b.answer (sides_of k) d x.0) where
           is_so : not_expected a.answer x ≡ told_so
