@@ -33,7 +33,7 @@ use Rattle.olk_errors.specs.declared.sink.ErrorSink.{ErrorSink}
 use Rattle.olk_errors.specs.declared.sink.Stop.{Stop}
 use Rattle.olk_errors.specs.declared.sink.Stop.TheVariants.{Memory}
 use Rattle.olk_errors.proofs.Missing.{one_first, other_lacks_none, other_lacks_nothing}
-use Rattle.olk_errors.proofs.Sinks.{after, contains_first, pass_both, goes_after, goes_same, goes_keeping, goes_passing, stops_after, stops_before, stops_same}
+use Rattle.olk_errors.proofs.Sinks.{after, contains_first, pass_both, goes_past, goes_after, goes_same, goes_keeping, goes_passing, stops_after, stops_before, stops_same}
 use Rattle.olk_errors.proofs.Several.{goes_either, stops_where}
 use Rattle.olk_errors.proofs.Unexpected.{told_of_one, kept_of_first}
 
@@ -209,7 +209,11 @@ module _ {R N : Type 0} (answers : R → Name → Says) (costs : R → Bool) (m 
 
 -- ---- and a name that is wanted
 
-pub wanted : (v : Data) (Q : Path) (name : Option RequiredName) → of_names (required_text name) v (required_place name) Q ≡ record { accepts = is_empty (missing (required_text name) v); first = lacks name v Q; all = lacks name v Q }
+pub nothing_wanted : (v : Data) (Q : Path) (k : ErrorSink) (name : Option RequiredName) → name ≡ None → GoesOn k k (of_names (required_text name) v (required_place name) Q)
+nothing_wanted v Q k None e = goes_past k (record { verdict = refl; nothing = refl }) refl
+nothing_wanted v Q k (Some x) e = cc
+
+wanted : (v : Data) (Q : Path) (name : Option RequiredName) → of_names (required_text name) v (required_place name) Q ≡ record { accepts = is_empty (missing (required_text name) v); first = lacks name v Q; all = lacks name v Q }
 wanted v Q None = refl
 wanted v Q (Some x) = λ i. record { accepts = is_empty (missing (required_text (Some x)) v); first = one_first v x.location Q x.name (is_object v && not (has (string_bytes x.name) v)) i; all = lacks (Some x) v Q }
 
