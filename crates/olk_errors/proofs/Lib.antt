@@ -11,3 +11,7 @@ mod Patterns
 mod Fused
 mod Telling
 mod Names
+mod Several
+mod Additional
+mod Unexpected
+mod AdditionalMembers

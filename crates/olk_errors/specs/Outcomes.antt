@@ -116,20 +116,11 @@ module _ {R N : Type 0} (answers : R → Name → Says) (u : Bool) where
   abbrev pub if_matched : Says → CompiledPattern R → N → Name → List N
   if_matched known p n x = put_if (reads_as u (known_or known (pattern_answers answers p x))) n []
 
-module _ {R N : Type 0} (k : AdditionalProperties R N) where
-  -- that a member is unexpected
-  abbrev pub unexpected_told : Bool → Name → Data → Data → Path → List Fault
-  unexpected_told unexpected x w v Q = cond unexpected (unexpected_faults (has_neighbours k) ((x, w) ∷ []) v k.location Q) []
+-- one fault of the members that are unexpected, if there are some
+abbrev pub of_unexpected : {R N : Type 0} → AdditionalProperties R N → List (Name × Data) → Data → Path → Outcome
+of_unexpected k xs v Q = record { accepts = is_empty xs; first = unexpected_faults (has_neighbours k) xs v k.location Q; all = unexpected_faults (has_neighbours k) xs v k.location Q }
 
 module _ {R N : Type 0} (answers : R → Name → Says) (m : N → Data → Question) (s r : N → Bool → Data → Path → List Fault) (u : Bool) (k : AdditionalProperties R N) where
-  -- a member of v
-  abbrev pub of_asked_member : Option (ℕ × N) → Name → Data → Data → Path → Outcome
-  of_asked_member d x w v Q = record {
-    accepts = (every (λ n. m n w) (asked_at answers u (sides_of k) d x)).accepts u && not (unexpected_at answers u (sides_of k) d x);
-    first = or_else (first_of (λ n. s n u w (Q // x)) (asked_at answers u (sides_of k) d x)) (unexpected_told k (unexpected_at answers u (sides_of k) d x) x w v Q);
-    all = flat_map (λ n. r n u w (Q // x)) (asked_at answers u (sides_of k) d x) ++ unexpected_told k (unexpected_at answers u (sides_of k) d x) x w v Q;
-  }
-
   -- all members, one after the other
   abbrev pub of_members_in_turn : (R → Bool) → Data → Path → Outcome
   of_members_in_turn costs v Q = record { accepts = (means_in_turn answers costs m (sides_of k) v).accepts u; first = first_in_turn answers (sides_of k) u v Q (has_neighbours k) k.location s; all = report_in_turn answers (sides_of k) u v Q (has_neighbours k) k.location r }

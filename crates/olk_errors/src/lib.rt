@@ -152,17 +152,19 @@ impl<'a, W: Walk<'a>> Errors<'a> for W {
     }
 }
 
+mod additional_properties;
 mod all_of;
 mod any_of;
 mod branches;
 mod dependencies;
 mod if_;
+mod keyword;
+mod node;
 mod not;
 mod one_of;
 mod pattern_properties;
 mod properties;
 mod property_dependencies;
-mod node;
 mod property_names;
 mod required;
 mod sink;

@@ -1,0 +1,182 @@
+-- What is asked of a member beside `additionalProperties`, node by node.
+use Rattle.std.proofs.Common.{◌≡◌, ℕ, ◌+◌, Bool, true, false, not, ◌&&◌, ◌||◌, cond, List, [], ◌∷◌, ◌++◌, drop, Option, is_none, is_some, option_to_list, refl, sym, ap, subst, ◌∙◌}
+use mathlib.Core.Path.{subst₂}
+use Rattle.std.proofs.lemmas.List.{append-nil}
+use Rattle.std.proofs.Math.Bool.{and-false, and-true}
+use Rattle.serde_json.specs.Data.{Data}
+use Rattle.olk_spec.specs.Names.{Name, Path, ◌//◌, put_if, is_empty}
+use Rattle.olk_spec.specs.World.{Says, reads_as}
+use Rattle.olk_spec.specs.Faults.{Fault}
+use Rattle.olk_base.specs.Lawful.{Asking}
+use Rattle.olk_base.specs.Compiled.{pattern_answers}
+use Rattle.olk_base.specs.declared.pattern.CompiledPattern.{CompiledPattern}
+use Rattle.olk_tree.specs.Questions.{Question, said_to}
+use Rattle.olk_tree.specs.Additional.{Sides, known_at, known_or, known_or_asked, is_matched_by, matching_from}
+use Rattle.olk_tree.specs.AdditionalAgreement.{match_is_said}
+use Rattle.olk_check.specs.Asks.{OnlyAsks}
+use Rattle.olk_check.proofs.Asked.{only_same}
+use Rattle.olk_errors.specs.Found.{Outcome, IsErrorOf}
+use Rattle.olk_errors.specs.Outcomes.{of_node, of_branches, declared_nodes, unspoken_from, asked_from, asked_at, unexpected_at, if_matched}
+use Rattle.olk_errors.specs.Sinks.{GoesOn, StopsBy}
+use Rattle.olk_errors.specs.declared.sink.ErrorSink.{ErrorSink}
+use Rattle.olk_errors.specs.declared.sink.Stop.{Stop}
+use Rattle.olk_errors.proofs.Sinks.{unasked, goes_nowhere, goes_after, stops_before, Walking, walking_start, walking_end}
+use Rattle.olk_errors.proofs.Several.{walking_each, walking_each_stop}
+
+-- a member, and what its nodes answer
+pub record Asked (R N : Type 0) : Type 0 where
+  pub answers : R → Name → Says
+  pub means : N → Data → Question
+  pub first : N → Bool → Data → Path → List Fault
+  pub report : N → Bool → Data → Path → List Fault
+  pub sides : Sides R N
+  pub declared : Option (ℕ × N)
+  pub name : Name
+  pub value : Data
+
+-- a node is put apart from those after it
+put_apart : {N : Type 0} (b spoken : Bool) (n : N) (ms rest : List N) → put_if b n ms ++ cond (not spoken && is_empty (put_if b n ms)) rest [] ≡ put_if b n [] ++ (ms ++ cond (not (spoken || b) && is_empty ms) rest [])
+put_apart true true n ms rest = refl
+put_apart true false n ms rest = refl
+put_apart false true n ms rest = refl
+put_apart false false n ms rest = refl
+
+spoken_now : {N : Type 0} (b spoken : Bool) (n : N) (ms : List N) → (not spoken && is_empty (put_if b n ms)) ≡ (not (spoken || b) && is_empty ms)
+spoken_now true true n ms = refl
+spoken_now true false n ms = refl
+spoken_now false true n ms = refl
+spoken_now false false n ms = refl
+
+module _ {R N : Type 0} (w : Asked R N) where
+  abbrev pub asks_at : N → Question
+  asks_at n = w.means n w.value
+
+  abbrev pub first_at : Path → Bool → N → List Fault
+  first_at Q u n = w.first n u w.value (Q // w.name)
+
+  abbrev pub report_at : Path → Bool → N → List Fault
+  report_at Q u n = w.report n u w.value (Q // w.name)
+
+  abbrev pub asked : Bool → List N
+  asked u = asked_at w.answers u w.sides w.declared w.name
+
+  abbrev pub alone : Bool → Bool
+  alone u = unspoken_from w.answers u w.sides w.declared w.name (is_some w.declared) 0 w.sides.patterns
+
+  abbrev pub unexpected : Bool → Bool
+  unexpected u = unexpected_at w.answers u w.sides w.declared w.name
+
+  abbrev pub outcome : Bool → Path → List N → Outcome
+  outcome u Q ns = of_branches w.means w.first w.report u ns w.value (Q // w.name)
+
+  -- the patterns that are left at an index, and then the rest
+  abbrev pub asked_left : Bool → Bool → ℕ → List N
+  asked_left u spoken i = asked_from w.answers u w.sides w.declared w.name spoken i (drop i w.sides.patterns)
+
+  abbrev pub alone_left : Bool → Bool → ℕ → Bool
+  alone_left u spoken i = unspoken_from w.answers u w.sides w.declared w.name spoken i (drop i w.sides.patterns)
+
+  -- ---- at a pattern
+
+  module _ (u spoken : Bool) (i : ℕ) where
+    module _ {e : CompiledPattern R × N} (here : drop i w.sides.patterns ≡ e ∷ drop (i + 1) w.sides.patterns) {known : Says} (is : known ≡ known_at w.sides w.declared i) {t : Bool} (same : t ≡ u) where
+      abbrev matched : Bool
+      matched = is_matched_by w.answers w.sides w.declared w.name u i e.0
+
+      abbrev after : List N
+      after = matching_from w.answers w.sides w.declared w.name u (i + 1) (drop (i + 1) w.sides.patterns)
+
+      as_known : matched ≡ reads_as t (known_or known (pattern_answers w.answers e.0 w.name))
+      as_known = sym (λ j. reads_as (same j) (known_or (is j) (pattern_answers w.answers e.0 w.name)))
+
+      module _ {b : Bool} (told : b ≡ reads_as t (known_or known (pattern_answers w.answers e.0 w.name))) where
+        pub asked_here : asked_left u spoken i ≡ if_matched w.answers t known e.0 e.1 w.name ++ asked_left u (spoken || b) (i + 1)
+        asked_here = ap (λ l. asked_from w.answers u w.sides w.declared w.name spoken i l) here
+            ∙ put_apart matched spoken e.1 after (option_to_list w.sides.rest)
+            ∙ (λ j. put_if (as_known j) e.1 [] ++ asked_left u (spoken || (as_known ∙ sym told) j) (i + 1))
+
+        pub alone_here : alone_left u spoken i ≡ alone_left u (spoken || b) (i + 1)
+        alone_here = ap (λ l. unspoken_from w.answers u w.sides w.declared w.name spoken i l) here
+            ∙ spoken_now matched spoken e.1 after
+            ∙ ap (λ c. alone_left u (spoken || c) (i + 1)) (as_known ∙ sym told)
+
+    -- ---- after the patterns
+
+    module _ (none : drop i w.sides.patterns ≡ []) where
+      alone_end : alone_left u spoken i ≡ not spoken
+      alone_end = ap (λ l. unspoken_from w.answers u w.sides w.declared w.name spoken i l) none ∙ and-true (not spoken)
+
+      asked_end : asked_left u spoken i ≡ cond (not spoken) (option_to_list w.sides.rest) []
+      asked_end = ap (λ l. asked_from w.answers u w.sides w.declared w.name spoken i l) none ∙ ap (λ b. cond b (option_to_list w.sides.rest) []) (and-true (not spoken))
+
+      pub none_left : spoken ≡ true → asked_left u spoken i ≡ []
+      none_left e = asked_end ∙ ap (λ b. cond (not b) (option_to_list w.sides.rest) []) e
+
+      pub rest_left : spoken ≡ false → asked_left u spoken i ≡ option_to_list w.sides.rest ++ []
+      rest_left e = asked_end ∙ ap (λ b. cond (not b) (option_to_list w.sides.rest) []) e ∙ sym (append-nil (option_to_list w.sides.rest))
+
+      module _ (so_far : alone u ≡ alone_left u spoken i) where
+        expected : spoken ≡ true → false ≡ unexpected u
+        expected e = sym (ap (λ b. is_none w.sides.rest && b) (so_far ∙ alone_end ∙ ap not e) ∙ and-false (is_none w.sides.rest))
+
+        left_to_rest : {b : Bool} → spoken ≡ false → b ≡ is_none w.sides.rest → b ≡ unexpected u
+        left_to_rest e is = is ∙ sym (ap (λ b. is_none w.sides.rest && b) (so_far ∙ alone_end ∙ ap not e) ∙ and-true (is_none w.sides.rest))
+
+  -- ---- the walk
+
+  -- the patterns from an index on are still to be asked
+  pub record WalkingMember (Q : Path) (spoken : Bool) (i : ℕ) (old new : ErrorSink) (a b : Asking) : Type 0 where
+    pub walking : Walking asks_at (first_at Q) (report_at Q) (asked a.answer) (asked_left a.answer spoken i) old new a b
+    pub so_far : alone a.answer ≡ alone_left a.answer spoken i
+
+  pub declared_stops : (Q : Path) (a : Asking) {old new : ErrorSink} {t : Stop} → StopsBy t old new (IsErrorOf (outcome a.answer Q (declared_nodes w.declared))) → StopsBy t old new (IsErrorOf (outcome a.answer Q (asked a.answer)))
+  declared_stops Q a h = walking_each_stop {q = asks_at} {s = first_at Q} {f = report_at Q} {a = a} walking_start (declared_nodes w.declared) (asked_left a.answer (is_some w.declared) 0) refl h
+
+  module _ {Q : Path} {a : Asking} {old : ErrorSink} where
+    pub declared_goes : {spoken : Bool} {new : ErrorSink} {b : Asking} → spoken ≡ is_some w.declared → GoesOn old new (outcome a.answer Q (declared_nodes w.declared)) → OnlyAsks a b → WalkingMember Q spoken 0 old new a b
+    declared_goes {new = new} {b = b} e on only = subst (λ s. WalkingMember Q s 0 old new a b) (sym e) (record { walking = walking_each walking_start (declared_nodes w.declared) (asked_left a.answer (is_some w.declared) 0) refl on only; so_far = refl })
+
+    module _ {spoken : Bool} {i : ℕ} {new : ErrorSink} {b : Asking} (loop : WalkingMember Q spoken i old new a b) where
+      module _ {e : CompiledPattern R × N} (here : drop i w.sides.patterns ≡ e ∷ drop (i + 1) w.sides.patterns) {known : Says} (is : known ≡ known_at w.sides w.declared i) where
+        pub pattern_goes : {m : Bool} {newer : ErrorSink} {c : Asking} → m ≡ reads_as b.answer (known_or known (pattern_answers w.answers e.0 w.name)) → GoesOn new newer (outcome b.answer Q (if_matched w.answers b.answer known e.0 e.1 w.name)) → OnlyAsks b c → WalkingMember Q (spoken || m) (i + 1) old newer a c
+        pattern_goes {m} told on only = record {
+          walking = walking_each loop.walking (if_matched w.answers b.answer known e.0 e.1 w.name) (asked_left a.answer (spoken || m) (i + 1)) (asked_here a.answer spoken i here is loop.walking.only.answer told) on only;
+          so_far = loop.so_far ∙ alone_here a.answer spoken i here is loop.walking.only.answer told;
+        }
+
+        pub pattern_stops : {newer : ErrorSink} {t : Stop} → StopsBy t new newer (IsErrorOf (outcome b.answer Q (if_matched w.answers b.answer known e.0 e.1 w.name))) → StopsBy t old newer (IsErrorOf (outcome a.answer Q (asked a.answer)))
+        pattern_stops h = walking_each_stop loop.walking (if_matched w.answers b.answer known e.0 e.1 w.name) (asked_left a.answer (spoken || reads_as b.answer (known_or known (pattern_answers w.answers e.0 w.name))) (i + 1)) (asked_here a.answer spoken i here is loop.walking.only.answer refl) h
+
+      module _ (none : drop i w.sides.patterns ≡ []) where
+        pub spoken_expected : spoken ≡ true → false ≡ unexpected a.answer
+        spoken_expected e = expected a.answer spoken i none loop.so_far e
+
+        pub rest_unexpected : {m : Bool} → spoken ≡ false → m ≡ is_none w.sides.rest → m ≡ unexpected a.answer
+        rest_unexpected e is = left_to_rest a.answer spoken i none loop.so_far e is
+
+        pub spoken_goes : spoken ≡ true → GoesOn old new (outcome a.answer Q (asked a.answer))
+        spoken_goes e = walking_end loop.walking (none_left a.answer spoken i none e)
+
+        module _ (e : spoken ≡ false) where
+          pub rest_goes : {newer : ErrorSink} → GoesOn new newer (outcome b.answer Q (option_to_list w.sides.rest)) → GoesOn old newer (outcome a.answer Q (asked a.answer))
+          rest_goes on = walking_end (walking_each loop.walking (option_to_list w.sides.rest) [] (rest_left a.answer spoken i none e) on (only_same b)) refl
+
+          pub rest_stops : {newer : ErrorSink} {t : Stop} → StopsBy t new newer (IsErrorOf (outcome b.answer Q (option_to_list w.sides.rest))) → StopsBy t old newer (IsErrorOf (outcome a.answer Q (asked a.answer)))
+          rest_stops h = walking_each_stop loop.walking (option_to_list w.sides.rest) [] (rest_left a.answer spoken i none e) h
+
+-- ---- of a single node, or of none
+
+-- where the pattern says b of the name
+pub if_matched_is : {N : Type 0} (u costs : Bool) (known s : Says) (n : N) {b : Bool} → b ≡ (known_or_asked known (said_to costs s)).accepts u → put_if (reads_as u (known_or known s)) n [] ≡ put_if b n []
+if_matched_is u costs known s n told = ap (λ b. put_if b n []) (sym (told ∙ match_is_said u costs known s))
+
+module _ {N : Type 0} (m : N → Data → Question) (s r : N → Bool → Data → Path → List Fault) (v : Data) (Q : Path) {ns : List N} where
+  pub none_goes : (u : Bool) (k : ErrorSink) → ns ≡ [] → GoesOn k k (of_branches m s r u ns v Q)
+  none_goes u k none = subst (λ l. GoesOn k k (of_branches m s r u l v Q)) (sym none) (goes_nowhere k)
+
+  module _ {t u : Bool} (same : t ≡ u) {n : N} (one : ns ≡ n ∷ []) {old new : ErrorSink} where
+    pub one_goes : GoesOn old new (of_node m s r t n v Q) → GoesOn old new (of_branches m s r u ns v Q)
+    one_goes on = subst₂ (λ a l. GoesOn old new (of_branches m s r a l v Q)) same (sym one) (goes_after on (goes_nowhere new))
+
+    pub one_stops : {x : Stop} → StopsBy x old new (IsErrorOf (of_node m s r t n v Q)) → StopsBy x old new (IsErrorOf (of_branches m s r u ns v Q))
+    one_stops {x} h = subst₂ (λ a l. StopsBy x old new (IsErrorOf (of_branches m s r a l v Q))) same (sym one) (stops_before unasked h)

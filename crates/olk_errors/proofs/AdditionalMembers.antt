@@ -1,0 +1,251 @@
+-- What asking the members comes to beside `additionalProperties`, and then the name that is wanted.
+use Rattle.std.proofs.Common.{◌≡◌, ℕ, Bool, true, false, true≢false, not, ◌&&◌, cond, List, [], ◌∷◌, ◌++◌, map, Option, Some, None, is_none, is_some, option_to_list, string_bytes, refl, sym, ap, subst, ◌∙◌}
+use mathlib.Core.Path.{subst₂}
+use Rattle.std.proofs.Math.Bool.{and_assoc}
+use Rattle.std.proofs.lemmas.List.{append_assoc, append-nil, map-append}
+use Rattle.std.specs.List.{flat_map, Contains}
+use Rattle.std.proofs.lemmas.List.Elements.{Contains-append_right}
+use Rattle.std.specs.declared.alloc.AllocError.{AllocError}
+use Rattle.serde_json.specs.Data.{Data}
+use Rattle.serde_json.specs.Find.{as_object}
+use Rattle.olk_spec.specs.Names.{Name, Path, ◌//◌, filter_once, put_if, is_empty}
+use Rattle.olk_spec.specs.World.{Says}
+use Rattle.olk_spec.specs.Faults.{Fault}
+use Rattle.olk_spec.specs.Schemas.{is_object, has, members}
+use Rattle.olk_spec.specs.Accepts.{missing}
+use Rattle.olk_spec.specs.Malformed.{has_repeat}
+use Rattle.olk_spec.specs.Reports.{unexpected_faults}
+use Rattle.olk_base.specs.Lawful.{Asking}
+use Rattle.olk_tree.specs.Questions.{Question, every}
+use Rattle.olk_tree.specs.Additional.{Sides, at_name, nodes_matching, is_additional, nodes_asked, is_unexpected, repeats, member_means, member_report, member_first, means_in_turn, report_in_turn, first_in_turn, named_means, named_report, named_first, sides_of, has_neighbours, required_text, required_place, lacks}
+use Rattle.olk_tree.specs.AdditionalAgreement.{member_accepted}
+use Rattle.olk_tree.specs.Firsts.{or_else, first_of}
+use Rattle.olk_tree.specs.declared.additional_properties.AdditionalProperties as keyword
+use Rattle.olk_tree.specs.declared.additional_properties.RequiredName.{RequiredName}
+use Rattle.olk_tree.proofs.Faults.{or_around}
+use Rattle.olk_tree.proofs.Members_met.{no_members}
+use Rattle.olk_check.specs.Asks.{OnlyAsks}
+use Rattle.olk_check.proofs.Asked.{only_same, only_then}
+use Rattle.olk_errors.specs.Found.{Outcome, Passes, IsErrorOf}
+use Rattle.olk_errors.specs.Outcomes.{of_branches, declared_nodes, unspoken_from, asked_at, unexpected_at, of_unexpected, of_members_in_turn, of_asked_members, of_names}
+use Rattle.olk_errors.specs.Sinks.{wants_one, GoesOn, StopsBy}
+use Rattle.olk_errors.specs.declared.sink.ErrorSink.{ErrorSink}
+use Rattle.olk_errors.specs.declared.sink.Stop.{Stop}
+use Rattle.olk_errors.specs.declared.sink.Stop.TheVariants.{Memory}
+use Rattle.olk_errors.proofs.Missing.{one_first, other_lacks_none, other_lacks_nothing}
+use Rattle.olk_errors.proofs.Sinks.{after, contains_first, pass_both, goes_past, goes_after, goes_same, goes_keeping, goes_passing, stops_after, stops_before, stops_same}
+use Rattle.olk_errors.proofs.Several.{goes_either, stops_where}
+use Rattle.olk_errors.proofs.Unexpected.{told_of_one, kept_of_first}
+
+not_some : {A : Type 0} (o : Option A) → not (is_some o) ≡ is_none o
+not_some None = refl
+not_some (Some x) = refl
+
+put_onto : {A : Type 0} (b : Bool) (x : A) (xs : List A) → put_if b x [] ++ xs ≡ put_if b x xs
+put_onto true x xs = refl
+put_onto false x xs = refl
+
+never_empty : {A : Type 0} (xs : List A) (x : A) → is_empty (xs ++ x ∷ []) ≡ false
+never_empty [] x = refl
+never_empty (y ∷ ys) x = refl
+
+pub map_more : {A B : Type 0} (f : A → B) (old : List A) (x : A) {new : List A} → new ≡ old ++ x ∷ [] → map f new ≡ map f old ++ f x ∷ []
+map_more f old x grown = ap (map f) grown ∙ map-append f old (x ∷ [])
+
+none_is_one : (f : Fault) → f ∷ [] ≡ [] → ⊥
+none_is_one f h = cc
+
+module _ {R N : Type 0} (answers : R → Name → Says) (u : Bool) (S : Sides R N) (n : Name) where
+  alone_is : unspoken_from answers u S (at_name S n) n (is_some (at_name S n)) 0 S.patterns ≡ is_additional answers S u n
+  alone_is = ap (λ b. b && is_empty (nodes_matching answers S u n)) (not_some (at_name S n))
+
+  asked_is : asked_at answers u S (at_name S n) n ≡ nodes_asked answers S u n
+  asked_is = ap (λ b. declared_nodes (at_name S n) ++ (nodes_matching answers S u n ++ cond b (option_to_list S.rest) [])) alone_is
+
+  unexpected_is : unexpected_at answers u S (at_name S n) n ≡ is_unexpected answers S u n
+  unexpected_is = ap (λ b. is_none S.rest && b) alone_is
+
+module _ {R N : Type 0} (answers : R → Name → Says) (costs : R → Bool) (m : N → Data → Question) (s r : N → Bool → Data → Path → List Fault) (k : keyword.AdditionalProperties R N) (v : Data) (Q : Path) where
+  abbrev asked_of : Name × Data → Question
+  asked_of x = member_means answers costs m (sides_of k) x.0 x.1
+
+  abbrev first_found : Bool → Name × Data → List Fault
+  first_found u x = member_first answers (sides_of k) u v Q (has_neighbours k) k.location s x
+
+  abbrev all_found : Bool → Name × Data → List Fault
+  all_found u x = member_report answers (sides_of k) u v Q r x
+
+  abbrev not_expected : Bool → Name × Data → Bool
+  not_expected u x = is_unexpected answers (sides_of k) u x.0
+
+  abbrev told : List (Name × Data) → List Fault
+  told xs = unexpected_faults (has_neighbours k) xs v k.location Q
+
+  abbrev in_turn : Bool → Outcome
+  in_turn u = of_members_in_turn answers m s r u k costs v Q
+
+  -- the rest of the members, where these are put aside, which are not expected
+  abbrev of_left : Bool → List (Name × Data) → List (Name × Data) → Outcome
+  of_left u aside rest = record {
+    accepts = (every asked_of rest).accepts u;
+    first = first_of (first_found u) rest;
+    all = flat_map (all_found u) rest ++ told (aside ++ filter_once (not_expected u) rest);
+  }
+
+  -- what is asked of a member, with this declared at its name
+  abbrev of_asked : Bool → Option (ℕ × N) → Name × Data → Outcome
+  of_asked u d x = of_branches m s r u (asked_at answers u (sides_of k) d x.0) x.1 (Q // x.0)
+
+  module _ (u : Bool) (aside more : List (Name × Data)) (x : Name × Data) where
+    -- what is left after that: whether the member is expected, and the others
+    abbrev of_others : Outcome
+    of_others = record {
+      accepts = not (not_expected u x) && (every asked_of more).accepts u;
+      first = or_else (cond (not_expected u x) (told (x ∷ [])) []) (first_of (first_found u) more);
+      all = flat_map (all_found u) more ++ told (aside ++ filter_once (not_expected u) (x ∷ more));
+    }
+
+    with_others : {d : Option (ℕ × N)} → d ≡ at_name (sides_of k) x.0 → after (of_asked u d x) of_others ≡ of_left u aside (x ∷ more)
+    with_others {d} declared = let nodes = nodes_asked answers (sides_of k) u x.0 in ap (λ ns. after (of_branches m s r u ns x.1 (Q // x.0)) of_others) (ap (λ e. asked_at answers u (sides_of k) e x.0) declared ∙ asked_is answers u (sides_of k) x.0)
+        ∙ (λ i. record {
+          accepts = (sym (and_assoc ((every (λ n. m n x.1) nodes).accepts u) (not (not_expected u x)) ((every asked_of more).accepts u)) ∙ ap (λ b. b && (every asked_of more).accepts u) (sym (member_accepted answers costs m (sides_of k) x.0 x.1 u))) i;
+          first = sym (or_around (first_of (λ n. s n u x.1 (Q // x.0)) nodes) (cond (not_expected u x) (told (x ∷ [])) []) (first_of (first_found u) more)) i;
+          all = sym (append_assoc (all_found u x) (flat_map (all_found u) more) (told (aside ++ filter_once (not_expected u) (x ∷ more)))) i;
+        })
+
+    module _ {longer : List (Name × Data)} (put : longer ≡ aside ++ put_if (not_expected u x) x []) where
+      all_others : (of_left u longer more).all ≡ of_others.all
+      all_others = ap (λ l. flat_map (all_found u) more ++ told l) (ap (λ l. l ++ filter_once (not_expected u) more) put
+          ∙ append_assoc aside (put_if (not_expected u x) x []) (filter_once (not_expected u) more)
+          ∙ ap (λ l. aside ++ l) (put_onto (not_expected u x) x (filter_once (not_expected u) more)))
+
+      -- where the member is expected
+      only_others : not_expected u x ≡ false → of_left u longer more ≡ of_others
+      only_others e = λ i. record {
+        accepts = not (sym e i) && (every asked_of more).accepts u;
+        first = or_else (cond (sym e i) (told (x ∷ [])) []) (first_of (first_found u) more);
+        all = all_others i;
+      }
+
+  told_of_others : (u : Bool) (more : List (Name × Data)) (x : Name × Data) → not_expected u x ≡ true → (f : Fault) → f ∷ [] ≡ told (x ∷ []) → IsErrorOf (of_others u [] more x) f
+  told_of_others u more x e f is = let o = told_of_one v k.location Q (has_neighbours k) x is in let w = kept_of_first v k.location Q (has_neighbours k) x (filter_once (not_expected u) more) is in record {
+    verdict = ap (λ b. not b && (every asked_of more).accepts u) e;
+    of_first = record { one = o.one; among = subst (λ b. Contains (or_else (cond b (told (x ∷ [])) []) (first_of (first_found u) more)) o.one) (sym e) (contains_first (told (x ∷ [])) (first_of (first_found u) more) o.one o.among); like = o.like };
+    of_all = record { whole = w.whole; among = subst (λ b. Contains (flat_map (all_found u) more ++ told (put_if b x (filter_once (not_expected u) more))) w.whole) (sym e) (Contains-append_right (flat_map (all_found u) more) (told (x ∷ filter_once (not_expected u) more)) w.whole w.among); like = w.like };
+  }
+
+  -- ---- the walk
+
+  -- what a walk over the rest does from now on, where these are put aside, is what a walk over all does from the start; where one error is wanted, none is put aside
+  pub record WalkingMembers (rest aside : List (Name × Data)) (old new : ErrorSink) (a b : Asking) : Type 0 where
+    pub on : (newer : ErrorSink) → GoesOn new newer (of_left a.answer aside rest) → GoesOn old newer (in_turn a.answer)
+    pub stop : (newer : ErrorSink) {t : Stop} → StopsBy t new newer (IsErrorOf (of_left a.answer aside rest)) → StopsBy t old newer (IsErrorOf (in_turn a.answer))
+    pub none : wants_one new ≡ true → aside ≡ []
+    pub only : OnlyAsks a b
+
+  pub members_start : {a : Asking} {rest aside : List (Name × Data)} {old : ErrorSink} → rest ≡ members v → aside ≡ [] → WalkingMembers rest aside old old a a
+  members_start {a} {old = old} whole none = subst₂ (λ l xs. WalkingMembers l xs old old a a) (sym whole) (sym none) (record { on = λ newer h. h; stop = λ newer {t} h. h; none = λ one. refl; only = only_same a })
+
+  module _ {rest aside : List (Name × Data)} {old new : ErrorSink} {a b : Asking} (loop : WalkingMembers rest aside old new a b) where
+    module _ {x : Name × Data} {more : List (Name × Data)} (next : rest ≡ x ∷ more) {d : Option (ℕ × N)} (declared : d ≡ at_name (sides_of k) x.0) where
+      -- the member is walked over
+      module _ {newer : ErrorSink} (walked : GoesOn new newer (of_asked b.answer d x)) where
+        walked_at : GoesOn new newer (of_asked a.answer d x)
+        walked_at = subst (λ u. GoesOn new newer (of_asked u d x)) loop.only.answer walked
+
+        goes_left : {newest : ErrorSink} → GoesOn newer newest (of_others a.answer aside more x) → GoesOn new newest (of_left a.answer aside rest)
+        goes_left {newest} h = subst (λ l. GoesOn new newest (of_left a.answer aside l)) (sym next) (goes_same (with_others a.answer aside more x declared) (goes_after walked_at h))
+
+        stops_left : {newest : ErrorSink} {t : Stop} → StopsBy t newer newest (IsErrorOf (of_others a.answer aside more x)) → StopsBy t new newest (IsErrorOf (of_left a.answer aside rest))
+        stops_left {newest} {t} h = subst (λ l. StopsBy t new newest (IsErrorOf (of_left a.answer aside l))) (sym next) (stops_same (with_others a.answer aside more x declared) (stops_after walked_at h))
+
+        -- there was no memory to put it aside
+        pub members_cut : (m : AllocError) → StopsBy (Memory m) old newer (IsErrorOf (in_turn a.answer))
+        members_cut m = loop.stop newer (record { stopped = goes_keeping walked })
+
+        module _ {told_so : Bool} (is : told_so ≡ unexpected_at answers b.answer (sides_of k) d x.0) where
+          is_so : not_expected a.answer x ≡ told_so
+          is_so = sym (is ∙ ap (λ e. unexpected_at answers b.answer (sides_of k) e x.0) declared ∙ unexpected_is answers b.answer (sides_of k) x.0 ∙ ap (λ u. not_expected u x) loop.only.answer)
+
+          members_on : {longer : List (Name × Data)} {c : Asking} → longer ≡ aside ++ put_if told_so x [] → (wants_one newer ≡ true → told_so ≡ false) → (wants_one newer ≡ true → longer ≡ []) → OnlyAsks b c → WalkingMembers more longer old newer a c
+          members_on {longer} put one none only = let grown : longer ≡ aside ++ put_if (not_expected a.answer x) x [] = put ∙ ap (λ e. aside ++ put_if e x []) (sym is_so) in record {
+            on = λ newest h. loop.on newest (goes_left (goes_either (of_others a.answer aside more x) (λ w. subst Passes (only_others a.answer aside more x grown (is_so ∙ one w))) (all_others a.answer aside more x grown) h));
+            stop = λ newest {t} h. loop.stop newest (stops_left (stops_where (λ w f. subst (λ o. IsErrorOf o f) (only_others a.answer aside more x grown (is_so ∙ one w))) h));
+            none = none;
+            only = only_then loop.only only;
+          }
+
+          -- it is expected
+          pub members_more : {c : Asking} → told_so ≡ false → OnlyAsks b c → WalkingMembers more aside old newer a c
+          members_more e only = members_on (sym (append-nil aside) ∙ ap (λ o. aside ++ put_if o x []) (sym e)) (λ w. e) (λ w. loop.none (sym walked.same ∙ w)) only
+
+          module _ (e : told_so ≡ true) {longer : List (Name × Data)} (put : longer ≡ aside ++ x ∷ []) where
+            -- it is not, and all are wanted
+            pub members_aside : {c : Asking} → wants_one newer ≡ false → OnlyAsks b c → WalkingMembers more longer old newer a c
+            members_aside all only = members_on (put ∙ ap (λ o. aside ++ put_if o x []) (sym e)) (λ w. absurd (true≢false (sym w ∙ all))) (λ w. absurd (true≢false (sym w ∙ all))) only
+
+            -- it is not, and one error is wanted
+            module _ (w : wants_one newer ≡ true) {newest : ErrorSink} where
+              pub one_goes : GoesOn newer newest (of_unexpected k longer v Q) → GoesOn old newest (in_turn a.answer)
+              one_goes h = absurd (true≢false (sym (goes_passing w h).verdict ∙ ap is_empty put ∙ never_empty aside x))
+
+              pub one_stops : {t : Stop} → StopsBy t newer newest (λ f. f ∷ [] ≡ told longer) → StopsBy t old newest (IsErrorOf (in_turn a.answer))
+              one_stops {t} h = let nothing : aside ≡ [] = loop.none (sym walked.same ∙ w) in
+                  loop.stop newest (stops_left (subst (λ l. StopsBy t newer newest (IsErrorOf (of_others a.answer l more x))) (sym nothing)
+                  (stops_where (λ o f is. told_of_others a.answer more x (is_so ∙ e) f (is ∙ ap told (put ∙ ap (λ l. l ++ x ∷ []) nothing))) h)))
+
+      -- the walk over it was stopped
+      pub members_stop : {newer : ErrorSink} {t : Stop} → StopsBy t new newer (IsErrorOf (of_asked b.answer d x)) → StopsBy t old newer (IsErrorOf (in_turn a.answer))
+      members_stop {newer} {t} h = loop.stop newer (subst (λ l. StopsBy t new newer (IsErrorOf (of_left a.answer aside l))) (sym next)
+          (stops_same (with_others a.answer aside more x declared) (stops_before (of_others a.answer aside more x) (subst (λ u. StopsBy t new newer (IsErrorOf (of_asked u d x))) loop.only.answer h))))
+
+    -- no member is left
+    module _ (none : rest ≡ []) {newer : ErrorSink} where
+      pub members_end : GoesOn new newer (of_unexpected k aside v Q) → GoesOn old newer (in_turn a.answer)
+      members_end h = loop.on newer (subst (λ l. GoesOn new newer (of_left a.answer aside l)) (sym none) (goes_either (of_left a.answer aside []) (λ w p. record { verdict = refl; nothing = refl }) (ap told (sym (append-nil aside))) h))
+
+      pub members_end_stop : {t : Stop} → StopsBy t new newer (λ f. f ∷ [] ≡ told aside) → StopsBy t old newer (IsErrorOf (in_turn a.answer))
+      members_end_stop h = loop.stop newer (stops_where (λ w f is. absurd (none_is_one f (is ∙ ap told (loop.none w)))) h)
+
+-- ---- and a name that is wanted
+
+pub nothing_wanted : (v : Data) (Q : Path) (k : ErrorSink) (name : Option RequiredName) → name ≡ None → GoesOn k k (of_names (required_text name) v (required_place name) Q)
+nothing_wanted v Q k None e = goes_past k (record { verdict = refl; nothing = refl }) refl
+nothing_wanted v Q k (Some x) e = cc
+
+wanted : (v : Data) (Q : Path) (name : Option RequiredName) → of_names (required_text name) v (required_place name) Q ≡ record { accepts = is_empty (missing (required_text name) v); first = lacks name v Q; all = lacks name v Q }
+wanted v Q None = refl
+wanted v Q (Some x) = λ i. record { accepts = is_empty (missing (required_text (Some x)) v); first = one_first v x.location Q x.name (is_object v && not (has (string_bytes x.name) v)) i; all = lacks (Some x) v Q }
+
+module _ {R N : Type 0} (answers : R → Name → Says) (costs : R → Bool) (m : N → Data → Question) (s r : N → Bool → Data → Path → List Fault) (u : Bool) (k : keyword.AdditionalProperties R N) (v : Data) (Q : Path) where
+  abbrev pub by_members : Outcome
+  by_members = of_asked_members answers m s r u k costs v Q
+
+  abbrev pub by_wanted : Outcome
+  by_wanted = of_names (required_text k.required) v (required_place k.required) Q
+
+  -- the members, and then the name that is wanted
+  abbrev pub of_keyword : Outcome
+  of_keyword = record { accepts = by_members.accepts && is_empty (missing (required_text k.required) v); first = or_else by_members.first (lacks k.required v Q); all = by_members.all ++ lacks k.required v Q }
+
+  pub same_keyword : after by_members by_wanted ≡ of_keyword
+  same_keyword = ap (after by_members) (wanted v Q k.required)
+
+  -- where no name is repeated
+  pub members_in_turn : repeats v ≡ false → of_members_in_turn answers m s r u k costs v Q ≡ by_members
+  members_in_turn distinct = let S = sides_of k in λ i. record {
+    accepts = (cond (sym distinct i) (named_means answers costs m S v) (means_in_turn answers costs m S v)).accepts u;
+    first = cond (sym distinct i) (named_first answers S u v Q (has_neighbours k) k.location s) (first_in_turn answers S u v Q (has_neighbours k) k.location s);
+    all = cond (sym distinct i) (named_report answers S u v Q (has_neighbours k) k.location r) (report_in_turn answers S u v Q (has_neighbours k) k.location r);
+  }
+
+  -- of what is no object
+  module _ (none : None ≡ as_object v) where
+    no_repeats : repeats v ≡ false
+    no_repeats = ap (λ ms. has_repeat (map (λ x. x.0) ms)) (no_members v none)
+
+    pub other_passes : Passes of_keyword
+    other_passes = subst Passes same_keyword (pass_both (subst Passes (members_in_turn no_repeats) record { verdict = ap (λ ms. (every (asked_of answers costs m s r k v Q) ms).accepts u) (no_members v none); nothing = ap (first_of (first_found answers costs m s r k v Q u)) (no_members v none) }) (other_lacks_none (required_text k.required) v (required_place k.required) Q none))
+
+    pub other_finds_nothing : of_keyword.all ≡ []
+    other_finds_nothing = λ i. (ap (λ o. o.all) (sym (members_in_turn no_repeats)) ∙ ap (λ ms. flat_map (all_found answers costs m s r k v Q u) ms ++ unexpected_faults (has_neighbours k) (filter_once (λ x. is_unexpected answers (sides_of k) u x.0) ms) v k.location Q) (no_members v none)) i ++ other_lacks_nothing (required_text k.required) v (required_place k.required) Q none i
