@@ -17,16 +17,16 @@ pub use olk_keywords::{
 
 // Building and asking.
 pub use olk_validator::{
-    Context, DEFERRED_MEMBERS, Errors, Evaluate, HASHMAP_THRESHOLD, IsValid, Located, Makers,
-    Means, Meter, Place, Reports, Validate, ValidationContext, Validator, are_properties_valid,
-    compile, holds_whole_numbers,
+    Context, DEFERRED_MEMBERS, ErrorSink, Errors, Evaluate, HASHMAP_THRESHOLD, IsValid, Located,
+    Makers, Means, Meter, Place, Reports, Stop, Validate, ValidationContext, Validator, Walk,
+    are_properties_valid, compile, holds_whole_numbers,
 };
 
 // What is answered.
 pub use olk_validator::{
     AnnotationEntry, BuildError, ErrorDescription, ErrorEntry, Evaluation, EvaluationFlag,
-    EvaluationNode, EvaluationResult, InstancePath, Location, Mark, ValidateError, ValidationError,
-    ValidationErrorKind,
+    EvaluationNode, EvaluationResult, InstancePath, Location, Mark, PathText, Trail, ValidateError,
+    ValidationError, ValidationErrorKind,
 };
 
 // Leaves, matchers, names and patterns.

@@ -8,3 +8,10 @@ mod Several
 mod Additional
 mod Unexpected
 mod AdditionalMembers
+mod OneOf
+mod Due
+mod If
+mod Patterns
+mod Fused
+mod Telling
+mod Names

@@ -87,6 +87,10 @@ from_all : (b : Bool) (old new : List ValidationError) (o : Outcome) → b ≡ f
 from_all false old new o e h = h
 from_all true old new o e h = absurd (true≢false e)
 
+took_first : (b : Bool) (old new : List ValidationError) (o p : Outcome) → b ≡ true → (Passes o → Passes p) → Took b old new o → Took b old new p
+took_first true old new o p e k h = (k h.0, h.1)
+took_first false old new o p e k h = absurd (true≢false (sym e))
+
 kept_same : (b : Bool) (l : List ValidationError) → Kept b l l
 kept_same false l = record { added = []; is = sym (append-nil l) }
 kept_same true l = tt
@@ -133,6 +137,10 @@ module _ {old new : ErrorSink} where
   pub goes_all : {o : Outcome} (p : Outcome) → wants_one old ≡ false → o.all ≡ p.all → GoesOn old new o → GoesOn old new p
   goes_all {o} p all e h = record { same = h.same; took = from_all (wants_one old) (held old) (held new) p all (subst (Appends (held old) (held new)) e (goes_appending all h)) }
 
+  -- where one is wanted, that it passes is what matters
+  pub goes_first : {o : Outcome} (p : Outcome) → wants_one old ≡ true → (Passes o → Passes p) → GoesOn old new o → GoesOn old new p
+  goes_first {o} p one k h = record { same = h.same; took = took_first (wants_one old) (held old) (held new) o p one k h.took }
+
   -- one error of its own
   pub takes_own : (o : Outcome) {f : Fault} → (Appends (held old) (held new) (f ∷ []) → Appends (held old) (held new) o.all) → Takes old new f → GoesOn old new o
   takes_own o k h = record { same = h.same; took = from_all (wants_one old) (held old) (held new) o h.all (k h.took) }
@@ -142,6 +150,10 @@ module _ {old new : ErrorSink} where
 stopped_weaker : (s : Stop) (old new : ErrorSink) {So Then : Fault → Type 0} → ((f : Fault) → So f → Then f) → Stopped s old new So → Stopped s old new Then
 stopped_weaker Enough old new k h = record { one = h.one; same = h.same; error = h.error; is = h.is; found = k (fault_of h.error) h.found }
 stopped_weaker (Memory m) old new k h = h
+
+stopped_all : (s : Stop) (old new : ErrorSink) (So Then : Fault → Type 0) → wants_one old ≡ false → Stopped s old new So → Stopped s old new Then
+stopped_all Enough old new So Then all h = absurd (true≢false (sym h.one ∙ all))
+stopped_all (Memory m) old new So Then all h = h
 
 stopped_after : (s : Stop) (old mid new : ErrorSink) (o p : Outcome) → GoesOn old mid o → Stopped s mid new (IsErrorOf p) → Stopped s old new (IsErrorOf (after o p))
 stopped_after Enough old mid new o p h k = record { one = sym h.same ∙ k.one; same = k.same ∙ h.same; error = k.error; is = k.is; found = error_after (goes_passing (sym h.same ∙ k.one) h) k.found }
@@ -153,6 +165,10 @@ module _ {s : Stop} {old new : ErrorSink} where
 
   pub stops_same : {o p : Outcome} → o ≡ p → StopsBy s old new (IsErrorOf o) → StopsBy s old new (IsErrorOf p)
   stops_same e h = stops_weaker (λ f is. subst (λ x. IsErrorOf x f) e is) h
+
+  -- where all are wanted, no error stops the walk
+  pub stops_all : {So Then : Fault → Type 0} → wants_one old ≡ false → StopsBy s old new So → StopsBy s old new Then
+  stops_all {So} {Then} all h = record { stopped = stopped_all s old new So Then all h.stopped }
 
   pub stops_before : {o : Outcome} (p : Outcome) → StopsBy s old new (IsErrorOf o) → StopsBy s old new (IsErrorOf (after o p))
   stops_before p h = stops_weaker (λ f e. error_before p e) h

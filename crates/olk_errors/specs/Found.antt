@@ -1,5 +1,5 @@
 -- What is told of a value: all faults, or one.
-use Rattle.std.specs.Prelude.{◌≡◌, ⊤, Bool, true, false, List, [], ◌∷◌, ◌++◌, map, Contains}
+use Rattle.std.specs.Prelude.{◌≡◌, ⊤, Bool, true, false, List, [], ◌∷◌, ◌++◌, map, Contains, Option, None, Some}
 use Rattle.serde_json.specs.Data.{Data}
 use Rattle.olk_spec.specs.Names.{Path}
 use Rattle.olk_spec.specs.World.{World}
@@ -57,6 +57,11 @@ pub record IsErrorOf (o : Outcome) (f : Fault) : Type 0 where
   pub verdict : o.accepts ≡ false
   pub of_first : IsLikeOneOf o.first f
   pub of_all : IsKeptOf o.all f
+
+-- the error that is told, if one is
+abbrev pub IsFirstOf : Outcome → Option ValidationError → Type 0
+IsFirstOf o None = Passes o
+IsFirstOf o (Some e) = IsErrorOf o (fault_of e)
 
 -- f is what is kept of a fault of some report of the schema over the value
 pub record IsOfReport (W : World) (u : Bool) (S v : Data) (P Q : Path) (f : Fault) : Type 0 where

@@ -4,8 +4,8 @@ ghost use Rattle.olk_reports.proofs.Errors.{context_faults};
 ghost use Rattle.olk_base.specs.Nodes.{data_of};
 ghost use Rattle.olk_paths.specs.Trails.{path_at};
 ghost use Rattle.olk_check.specs.Asks.{OnlyAsks};
-ghost use Rattle.olk_errors.specs.Found.{Appends, AreLike, IsErrorOf};
-ghost use Rattle.olk_errors.specs.Outcomes.{of_branches};
+ghost use Rattle.olk_errors.specs.Found.{Appends, AreLike, IsErrorOf, IsFirstOf};
+ghost use Rattle.olk_errors.specs.Outcomes.{of_branches, of_node};
 ghost use Rattle.olk_errors.specs.Sinks.{GoesOn, StopsBy};
 
 use crate::{ErrorSink, Stop, Walk};
@@ -74,7 +74,7 @@ pub(crate) fn one_context<'a, N: Walk<'a>>(
 }
 
 /// The errors of a node, in a list of their own.
-fn errors_of<'a, N: Walk<'a>>(
+pub(crate) fn errors_of<'a, N: Walk<'a>>(
     alloc: Global,
     asked: &'a N,
     node: Node<'a>,
@@ -89,5 +89,24 @@ fn errors_of<'a, N: Walk<'a>>(
     match asked.walk(node, trail, ctx, &mut sink) {
         Err(Stop::Memory(error)) => Err(error),
         _ => Ok(sink.into_errors()),
+    }
+}
+
+/// The first error of a node, if there is one.
+pub(crate) fn first_error_of<'a, N: Walk<'a>>(
+    alloc: Global,
+    asked: &'a N,
+    node: Node<'a>,
+    trail: &Trail<'_, 'a>,
+    ctx: &mut ValidationContext,
+) -> Result<Option<ValidationError<'a>>, AllocError>
+    ensures error { IfOk result (IsFirstOf (of_node N.means N.first N.report ctx.old.answer
+        asked.now (data_of node.entry) (path_at trail.now))) }
+    ensures context { OnlyAsks ctx.old ctx.new }
+{
+    let mut sink: ErrorSink<'a> = ErrorSink::first(alloc);
+    match asked.walk(node, trail, ctx, &mut sink) {
+        Err(Stop::Memory(error)) => Err(error),
+        _ => Ok(sink.into_first()),
     }
 }

@@ -156,8 +156,17 @@ mod additional_properties;
 mod all_of;
 mod any_of;
 mod branches;
+mod dependencies;
+mod if_;
+mod not;
+mod one_of;
+mod pattern_properties;
 mod properties;
+mod property_dependencies;
+mod node;
+mod property_names;
 mod required;
 mod sink;
 
+pub use node::walk_body;
 pub use sink::{ErrorSink, Stop};

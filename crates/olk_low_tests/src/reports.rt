@@ -1,7 +1,7 @@
 //! Paths, texts of errors, contexts and evaluation trees.
 use crate::tables::{expect_rows, two};
 use olk_base::{JsonType, Node};
-use olk_paths::{InstancePath, Location};
+use olk_paths::{InstancePath, Location, PathText, Trail};
 use olk_reports::{
     AnnotationEntry, ErrorDescription, ErrorEntry, Evaluation, EvaluationNode, EvaluationResult,
     ValidationError, ValidationErrorKind,
@@ -48,6 +48,25 @@ m~n | /m~0n
 fn paths_are_pointers(rt: HostRuntime) -> Result<(), Fail> {
     expect_rows(rt.alloc(), SEGMENTS, pushed_path)?;
     expect_rows(rt.alloc(), SEGMENTS, joined_path)
+}
+
+/// The path of a trail of one name.
+fn trailed_path(alloc: Global, segment: &str) -> Result<String, AllocError> {
+    let root = Trail::At("");
+    let text = Trail::Below(&root, segment).text(alloc)?;
+    String::from_str(alloc, text.as_str())
+}
+
+// The longest text that is kept in place has 40 bytes.
+const LONG_SEGMENTS: &str = "\
+nnnnnnnnnnnnnnnnnnnnnnnnnnnnnnnnnnnnnnn | /nnnnnnnnnnnnnnnnnnnnnnnnnnnnnnnnnnnnnnn
+nnnnnnnnnnnnnnnnnnnnnnnnnnnnnnnnnnnnnnnn | /nnnnnnnnnnnnnnnnnnnnnnnnnnnnnnnnnnnnnnnn
+nnnnnnnnnnnnnnnnnnnnnnnnnnnnnnnnnnnnnnn~ | /nnnnnnnnnnnnnnnnnnnnnnnnnnnnnnnnnnnnnnn~0";
+
+#[test]
+fn trails_are_pointers(rt: HostRuntime) -> Result<(), Fail> {
+    expect_rows(rt.alloc(), SEGMENTS, trailed_path)?;
+    expect_rows(rt.alloc(), LONG_SEGMENTS, trailed_path)
 }
 
 /// The path of two segments.
@@ -278,7 +297,7 @@ fn shown_of_name(
     name: &String,
     object: Node<'_>,
 ) -> Result<String, AllocError> {
-    let path = String::from_str(alloc, "/a")?;
+    let path = PathText::from_str(alloc, "/a")?;
     let error = ValidationError::wrapping(error_of_name(alloc, name)?, object, path);
     if word == "name" {
         shown_once(alloc, error)

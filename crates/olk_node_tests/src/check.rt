@@ -6,7 +6,7 @@ use olk_base::{
 };
 use olk_check::{IsValid, matches};
 use olk_low_tests::doubles::{EqualTo, Equality, NoText};
-use olk_node::{SchemaNode, is_valid_for};
+use olk_node::SchemaNode;
 use olk_paths::Location;
 use olk_tree::all_of::{AllOf, SingleValueAllOf};
 use olk_tree::any_of::{AnyOf, SingleAnyOf};
@@ -34,7 +34,7 @@ trait Accepts {
 impl Accepts for PlainNode {
     fn accepts(&self, value: &Value) -> bool {
         let mut ctx = ValidationContext::new(false);
-        is_valid_for(self, Node::Value(value), &mut ctx)
+        self.is_valid(Node::Value(value), &mut ctx)
     }
 }
 

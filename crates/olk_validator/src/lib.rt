@@ -21,7 +21,7 @@ pub use olk_base::{
 };
 pub use olk_build::{Context, compile};
 pub use olk_check::{DEFERRED_MEMBERS, IsValid, are_properties_valid};
-pub use olk_errors::Errors;
+pub use olk_errors::{ErrorSink, Errors, Stop, Walk};
 pub use olk_evaluate::{Evaluate, Located};
 pub use olk_node::{
     AllOfValidator, AnyOfValidator, BigPropertiesValidator, BigValidatorsMap,
@@ -32,7 +32,7 @@ pub use olk_node::{
     SingleValueAllOfValidator, SingleValuePatternPropertiesValidator, SmallPropertiesValidator,
     SmallPropertiesWithRequired2Validator, SmallValidatorsMap,
 };
-pub use olk_paths::{InstancePath, Location, Mark};
+pub use olk_paths::{InstancePath, Location, Mark, PathText, Trail};
 pub use olk_read::Makers;
 pub use olk_reports::{
     AnnotationEntry, BuildError, ErrorDescription, ErrorEntry, Evaluation, EvaluationFlag,

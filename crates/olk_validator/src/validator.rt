@@ -17,7 +17,9 @@ ghost use Rattle.olk_validator.specs.Validators.{IsValidatorOf, first_faults};
 use olk_base::{Leaf, MakeLeaf, MakeRegex, Meter, Node, RegexEngine, ValidationContext};
 use olk_build::{Context, compile};
 use olk_evaluate::child;
-use olk_node::{SchemaNode, collect_errors_for, is_valid_for, validate_for};
+use olk_errors::Errors;
+use olk_check::IsValid;
+use olk_node::SchemaNode;
 use olk_paths::InstancePath;
 use olk_reports::{BuildError, Evaluation, ValidateError, ValidationError};
 use serde_json::Value;
@@ -96,14 +98,14 @@ impl<K: Leaf, R: RegexEngine> Validator<K, R> {
             → accepts (world K.Leaf R.RegexEngine) true S (view instance.now)
             ≡ accepts (world K.Leaf R.RegexEngine) false S (view instance.now) }
     {
-        is_valid_for(&self.root, Node::Value(instance), ctx)
+        self.root.is_valid(Node::Value(instance), ctx)
     }
 
     /// The first error of the walk over the instance; none where the schema accepts it (JSON Schema
     /// 2020-12 Core, 4.3.2 and 10), with the context's answer for matches that are left unfinished.
     ///
-    /// An accepted instance costs a verdict and no memory. The context keeps its answer; of the
-    /// counts only those of matchers that were asked and of matches that were left unfinished rise.
+    /// An accepted instance takes no memory. The context keeps its answer; of the counts only those
+    /// of matchers that were asked and of matches that were left unfinished rise.
     ///
     /// # Errors
     ///
@@ -126,21 +128,16 @@ impl<K: Leaf, R: RegexEngine> Validator<K, R> {
         ensures first { IfErr result (λ e. IfInvalid e (IsLikeOneOf (first_faults
             (kit K.Leaf R.RegexEngine) self.now ctx.old.answer (view instance.now)))) }
     {
-        let node = Node::Value(instance);
-        if is_valid_for(&self.root, node, ctx) {
-            return Ok(());
-        }
         let mut path = InstancePath::new(alloc);
-        validate_for(alloc, &self.root, node, &mut path, ctx)
+        self.root.validate(alloc, Node::Value(instance), &mut path, ctx)
     }
 
     /// Appends all errors of the instance: a report of the schema over it (JSON Schema 2020-12
     /// Core, 4.3.2 and 10), with the context's answer for matches that are left unfinished. None is
     /// appended exactly where the schema accepts the instance.
     ///
-    /// A member that is accepted costs a verdict, and its path is not written. The context keeps
-    /// its answer; of the counts only those of matchers that were asked and of matches that were
-    /// left unfinished rise.
+    /// The path of a member is written for an error alone. The context keeps its answer; of the
+    /// counts only those of matchers that were asked and of matches that were left unfinished rise.
     ///
     /// # Errors
     ///
@@ -162,14 +159,7 @@ impl<K: Leaf, R: RegexEngine> Validator<K, R> {
         ensures memory { OnErr result (errors.new.items ≡ errors.old.items) }
     {
         let mut path = InstancePath::new(alloc);
-        collect_errors_for(
-            alloc,
-            &self.root,
-            Node::Value(instance),
-            &mut path,
-            ctx,
-            errors,
-        )
+        self.root.collect_errors(alloc, Node::Value(instance), &mut path, ctx, errors)
     }
 
     /// What the schema shows of the instance: a tree of results, with their annotations and errors

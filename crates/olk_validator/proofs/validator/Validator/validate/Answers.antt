@@ -1,26 +1,22 @@
-use Rattle.std.proofs.Common.{◌≡◌, true, [], sym, subst}
+use Rattle.std.proofs.Common.{[], subst}
 use Rattle.std.proofs.lemmas.Result.{on_ok_weaker}
-use mathlib.Core.Path.{subst₂}
 use Rattle.serde_json.specs.View.{view}
-use Rattle.olk_spec.specs.Meaning.{accepts}
 use Rattle.olk_base.specs.Kit.{kit, world}
 use Rattle.olk_node.specs.Nodes.{answers}
-use Rattle.olk_check.proofs.Asked.{only_then}
+use Rattle.olk_node.proofs.Reports.{accepts_of_schema, refusal_of_schema}
 use Rattle.olk_errors.specs.Found.{IsLikeOneOf, IsRefusal}
 use Rattle.olk_errors.proofs.Appending.{told_so}
 use Rattle.olk_validator.proofs.validator.Validator.validate.Goals as goal
 
-pub returns-then-is_valid_for-clause-ok : goal.returns-then-is_valid_for-clause-ok
-returns-then-is_valid_for-clause-ok g c S stands = sym (c.if-is_valid_for.ensures.schema S [] stands.root).verdict
-
-pub returns-clause-context : goal.returns-clause-context
-returns-clause-context g c = only_then c.is_valid_for.ensures.place.only c.validate_for.ensures.context
-
 pub returns-clause-ok : goal.returns-clause-ok
-returns-clause-ok g c S stands = on_ok_weaker c.validate_for.result (λ h. subst (λ u. accepts (world g.K.Leaf g.R.RegexEngine) u S (view c.args.instance.now) ≡ true) c.is_valid_for.ensures.place.only.answer (h S [] stands.root)) c.validate_for.ensures.ok
+returns-clause-ok g c S stands = on_ok_weaker c.validate.result
+    (λ h. accepts_of_schema (kit g.K.Leaf g.R.RegexEngine) c.args.self.now.root c.args.ctx.now.answer (view c.args.instance.now) c.new-path.result h S [] stands.root) c.validate.ensures.ok
 
 pub returns-clause-invalid : goal.returns-clause-invalid
-returns-clause-invalid g c S stands = told_so c.validate_for.result (λ f h. subst₂ (λ u Q. IsRefusal (world g.K.Leaf g.R.RegexEngine) u S (view c.args.instance.now) [] Q f) c.is_valid_for.ensures.place.only.answer c.new-path.ensures (h S [] stands.root)) c.validate_for.ensures.invalid
+returns-clause-invalid g c S stands = told_so c.validate.result
+    (λ f h. subst (λ Q. IsRefusal (world g.K.Leaf g.R.RegexEngine) c.args.ctx.now.answer S (view c.args.instance.now) [] Q f) c.new-path.ensures
+    (refusal_of_schema (kit g.K.Leaf g.R.RegexEngine) c.args.self.now.root c.args.ctx.now.answer (view c.args.instance.now) c.new-path.result f h S [] stands.root)) c.validate.ensures.invalid
 
 pub returns-clause-first : goal.returns-clause-first
-returns-clause-first g c = told_so c.validate_for.result (λ f h. subst₂ (λ u Q. IsLikeOneOf ((answers (kit g.K.Leaf g.R.RegexEngine) c.args.self.now.root).first u (view c.args.instance.now) Q) f) c.is_valid_for.ensures.place.only.answer c.new-path.ensures h) c.validate_for.ensures.first
+returns-clause-first g c = told_so c.validate.result
+    (λ f h. subst (λ Q. IsLikeOneOf ((answers (kit g.K.Leaf g.R.RegexEngine) c.args.self.now.root).first c.args.ctx.now.answer (view c.args.instance.now) Q) f) c.new-path.ensures h.of_first) c.validate.ensures.invalid

@@ -1,0 +1,78 @@
+-- One error for each of a list, in a sink that wants all.
+use Rattle.std.proofs.Common.{◌≡◌, Bool, true, false, true≢false, List, [], ◌∷◌, ◌++◌, length, map, arith, refl, sym, ap, subst, ◌∙◌}
+use Rattle.std.specs.List.{flat_map}
+use Rattle.olk_spec.specs.Faults.{Fault, ◌∼◌}
+use Rattle.olk_tree.specs.Questions.{Question, always}
+use Rattle.olk_errors.specs.Found.{Outcome, IsErrorOf}
+use Rattle.olk_errors.specs.Outcomes.{of_each}
+use Rattle.olk_errors.specs.Sinks.{wants_one, held, Took, GoesOn, Takes, Stopped, StopsBy}
+use Rattle.olk_errors.specs.declared.sink.ErrorSink.{ErrorSink}
+use Rattle.olk_errors.specs.declared.sink.Stop.{Stop}
+use Rattle.olk_errors.specs.declared.sink.Stop.TheVariants.{Enough, Memory}
+use Rattle.olk_reports.specs.declared.error.ValidationError.{ValidationError}
+use Rattle.olk_errors.proofs.Appending.{appends_like}
+use Rattle.olk_errors.proofs.Sinks.{Walked, walked_start, walked_more, walked_stop, walked_end, of_one, goes_all, takes_own}
+
+-- ---- by what the sink wants
+
+stopped_anyway : (s : Stop) (old new : ErrorSink) (So Then : Fault → Type 0) → wants_one old ≡ false → Stopped s old new So → Stopped s old new Then
+stopped_anyway Enough old new So Then all h = absurd (true≢false (sym h.one ∙ all))
+stopped_anyway (Memory m) old new So Then all h = h
+
+-- a sink that wants all is stopped by want of memory alone
+pub stops_anyway : {s : Stop} {old new : ErrorSink} {So Then : Fault → Type 0} → wants_one old ≡ false → StopsBy s old new So → StopsBy s old new Then
+stops_anyway {s} {old} {new} {So} {Then} all h = record { stopped = stopped_anyway s old new So Then all h.stopped }
+
+-- and one that wants one takes none without an end
+pub never_goes_on : {old new : ErrorSink} {f : Fault} {o : Outcome} → wants_one old ≡ true → Takes old new f → GoesOn old new o
+never_goes_on one h = absurd (true≢false (sym one ∙ h.all))
+
+-- where all are wanted, what all are up to order is what matters
+pub goes_alike : {old new : ErrorSink} {o : Outcome} (p : Outcome) → wants_one old ≡ false → o.all ∼ p.all → GoesOn old new o → GoesOn old new p
+goes_alike {old} {new} {o} p all alike h =
+    let whole : Outcome = record { accepts = p.accepts; first = p.first; all = o.all } in
+    record { same = h.same; took = took_alike (wants_one old) (held old) (held new) whole p all alike (goes_all whole all refl h).took }
+  where
+    took_alike : (b : Bool) (old new : List ValidationError) (o p : Outcome) → b ≡ false → o.all ∼ p.all → Took b old new o → Took b old new p
+    took_alike false old new o p e alike h = appends_like alike h
+    took_alike true old new o p e alike h = absurd (true≢false e)
+
+-- ---- each of a list
+
+pub nothing_left : {X : Type 0} (xs : List X) → length xs ≡ 0 → xs ≡ []
+nothing_left [] h = refl
+nothing_left (x ∷ xs) h = absurd (omega arith)
+
+pub each_told : {X : Type 0} (h : X → Fault) (xs : List X) → flat_map (λ x. h x ∷ []) xs ≡ map h xs
+each_told h [] = refl
+each_told h (x ∷ xs) = ap (λ l. h x ∷ l) (each_told h xs)
+
+module _ {X : Type 0} (h : X → Fault) where
+  abbrev pub told : X → List Fault
+  told x = h x ∷ []
+
+  abbrev pub refused : X → Question
+  refused x = always false
+
+  pub record Telling (all rest : List X) (old new : ErrorSink) : Type 0 where
+    pub so_far : Walked refused true told told all rest old new
+    pub before : wants_one old ≡ false
+    pub now : wants_one new ≡ false
+
+module _ {X : Type 0} {h : X → Fault} {all : List X} where
+  pub telling_start : {k : ErrorSink} → wants_one k ≡ false → Telling h all all k k
+  telling_start wants = record { so_far = walked_start; before = wants; now = wants }
+
+  module _ {rest : List X} {old new : ErrorSink} (loop : Telling h all rest old new) where
+    pub telling_more : {x : X} {more : List X} {newer : ErrorSink} → rest ≡ x ∷ more → Takes new newer (h x) → Telling h all more old newer
+    telling_more {x} next takes = record { so_far = walked_more loop.so_far next (takes_own (of_one (refused h) true (told h) (told h) x) (λ a. a) takes); before = loop.before; now = takes.same ∙ loop.now }
+
+    pub telling_stop : {x : X} {more : List X} {newer : ErrorSink} {t : Stop} {So : Fault → Type 0} (o : Outcome) → rest ≡ x ∷ more → StopsBy t new newer So → StopsBy t old newer (IsErrorOf o)
+    telling_stop {x} o next stops = stops_anyway loop.before (walked_stop loop.so_far {x = x} next (stops_anyway loop.now stops))
+
+    pub telling_end : (o : Outcome) → map h all ≡ o.all → rest ≡ [] → GoesOn old new o
+    telling_end o same none = goes_all o loop.before (each_told h all ∙ same) (walked_end loop.so_far none)
+
+    -- the same up to order
+    pub telling_like : (o : Outcome) → map h all ∼ o.all → rest ≡ [] → GoesOn old new o
+    telling_like o like none = goes_alike o loop.before (subst (λ l. l ∼ o.all) (sym (each_told h all)) like) (walked_end loop.so_far none)

@@ -1,0 +1,52 @@
+//! `if`, `then` and `else`: their errors.
+use crate::{ErrorSink, Stop, Walk};
+use olk_base::{Node, ValidationContext};
+use olk_check::IsValid;
+use olk_paths::Trail;
+use olk_tree::if_::{IfElse, IfThen, IfThenElse};
+
+impl<'a, N: Walk<'a>> Walk<'a> for IfThen<N> {
+    fn walk(
+        &'a self,
+        node: Node<'a>,
+        trail: &Trail<'_, 'a>,
+        ctx: &mut ValidationContext,
+        sink: &mut ErrorSink<'a>,
+    ) -> Result<(), Stop> {
+        if !self.schema.is_valid(node, ctx) {
+            return Ok(());
+        }
+        self.then_schema.walk(node, trail, ctx, sink)
+    }
+}
+
+impl<'a, N: Walk<'a>> Walk<'a> for IfElse<N> {
+    fn walk(
+        &'a self,
+        node: Node<'a>,
+        trail: &Trail<'_, 'a>,
+        ctx: &mut ValidationContext,
+        sink: &mut ErrorSink<'a>,
+    ) -> Result<(), Stop> {
+        if self.schema.is_valid(node, ctx) {
+            return Ok(());
+        }
+        self.else_schema.walk(node, trail, ctx, sink)
+    }
+}
+
+impl<'a, N: Walk<'a>> Walk<'a> for IfThenElse<N> {
+    fn walk(
+        &'a self,
+        node: Node<'a>,
+        trail: &Trail<'_, 'a>,
+        ctx: &mut ValidationContext,
+        sink: &mut ErrorSink<'a>,
+    ) -> Result<(), Stop> {
+        if self.schema.is_valid(node, ctx) {
+            self.then_schema.walk(node, trail, ctx, sink)
+        } else {
+            self.else_schema.walk(node, trail, ctx, sink)
+        }
+    }
+}

@@ -1,0 +1,117 @@
+//! Leaves and bodies: their errors.
+ghost use Rattle.std.specs.Prelude.{◌≡◌, true, false, OnOk, IfErr};
+ghost use Rattle.olk_base.specs.Nodes.{data_of};
+ghost use Rattle.olk_paths.specs.Trails.{path_at};
+ghost use Rattle.olk_check.specs.Asks.{OnlyAsks};
+ghost use Rattle.olk_errors.specs.Found.{IsErrorOf};
+ghost use Rattle.olk_errors.specs.Outcomes.{of_leaf, of_body};
+ghost use Rattle.olk_errors.specs.Sinks.{wants_one, GoesOn, StopsBy};
+
+use crate::branches::walk_each;
+use crate::{ErrorSink, Stop, Walk};
+use olk_base::{Leaf, Node, ValidationContext};
+use olk_paths::{Location, Trail};
+use olk_reports::ValidationErrorKind;
+use olk_tree::node::Body;
+
+/// Walks over a body at its place: a false schema has one error, a true one none, and otherwise
+/// its keywords are walked over, or its names.
+///
+/// # Errors
+///
+/// That the sink has the one error that it wants; or out of memory, and then a list that takes
+/// all errors has what it had, and may have more.
+pub fn walk_body<'a, W: Walk<'a>>(
+    body: &'a Body<W>,
+    location: &'a str,
+    node: Node<'a>,
+    trail: &Trail<'_, 'a>,
+    ctx: &mut ValidationContext,
+    sink: &mut ErrorSink<'a>,
+) -> Result<(), Stop>
+    ensures on { OnOk result (GoesOn sink.old sink.new
+        (of_body W.means W.first W.report ctx.old.answer
+        location.now body.now (data_of node.entry) (path_at trail.now))) }
+    ensures stop { IfErr result (λ s. StopsBy s sink.old sink.new (IsErrorOf
+        (of_body W.means W.first W.report ctx.old.answer
+        location.now body.now (data_of node.entry) (path_at trail.now)))) }
+    ensures context { OnlyAsks ctx.old ctx.new }
+{
+    match body {
+        Body::True => Ok(()),
+        Body::False => {
+            let kind: ValidationErrorKind<'a> = ValidationErrorKind::FalseSchema;
+            sink.report(kind, node, trail, location)
+        }
+        Body::Keywords(keywords) => walk_each(keywords, node, trail, ctx, sink),
+        Body::RequiredNames(names) => names.walk(node, trail, ctx, sink),
+    }
+}
+
+/// The errors of a leaf.
+pub(crate) fn walk_leaf<'a, K: Leaf>(
+    leaf: &'a K,
+    location: &'a Location,
+    node: Node<'a>,
+    trail: &Trail<'_, 'a>,
+    sink: &mut ErrorSink<'a>,
+) -> Result<(), Stop>
+    ensures on { OnOk result (GoesOn sink.old sink.new
+        (of_leaf K.Leaf leaf.now (data_of node.entry) location.now (path_at trail.now))) }
+    ensures stop { IfErr result (λ s. StopsBy s sink.old sink.new (IsErrorOf
+        (of_leaf K.Leaf leaf.now (data_of node.entry) location.now (path_at trail.now)))) }
+{
+    if sink.wants_one() {
+        report_one_text(leaf, location, node, trail, sink)
+    } else {
+        report_each_text(leaf, location, node, trail, sink)
+    }
+}
+
+/// An error for one of the texts that a leaf finds, if it finds any.
+fn report_one_text<'a, K: Leaf>(
+    leaf: &'a K,
+    location: &'a Location,
+    node: Node<'a>,
+    trail: &Trail<'_, 'a>,
+    sink: &mut ErrorSink<'a>,
+) -> Result<(), Stop>
+    requires { wants_one sink.now ≡ true }
+    ensures on { OnOk result (GoesOn sink.old sink.new
+        (of_leaf K.Leaf leaf.now (data_of node.entry) location.now (path_at trail.now))) }
+    ensures stop { IfErr result (λ s. StopsBy s sink.old sink.new (IsErrorOf
+        (of_leaf K.Leaf leaf.now (data_of node.entry) location.now (path_at trail.now)))) }
+{
+    match leaf.validate(sink.alloc(), node)? {
+        Some(text) => {
+            let keyword = leaf.keyword();
+            let kind = ValidationErrorKind::Leaf { keyword, text };
+            sink.report(kind, node, trail, location.as_str())
+        }
+        None => Ok(()),
+    }
+}
+
+/// An error for each text that a leaf finds.
+fn report_each_text<'a, K: Leaf>(
+    leaf: &'a K,
+    location: &'a Location,
+    node: Node<'a>,
+    trail: &Trail<'_, 'a>,
+    sink: &mut ErrorSink<'a>,
+) -> Result<(), Stop>
+    requires { wants_one sink.now ≡ false }
+    ensures on { OnOk result (GoesOn sink.old sink.new
+        (of_leaf K.Leaf leaf.now (data_of node.entry) location.now (path_at trail.now))) }
+    ensures stop { IfErr result (λ s. StopsBy s sink.old sink.new (IsErrorOf
+        (of_leaf K.Leaf leaf.now (data_of node.entry) location.now (path_at trail.now)))) }
+{
+    let mut texts = Vec::new(sink.alloc());
+    leaf.collect_errors(sink.alloc(), node, &mut texts)?;
+    let keyword = leaf.keyword();
+    for text in texts {
+        let kind = ValidationErrorKind::Leaf { keyword, text };
+        sink.report(kind, node, trail, location.as_str())?;
+    }
+    Ok(())
+}

@@ -1,0 +1,84 @@
+//! `propertyDependencies`: its errors.
+ghost use Rattle.std.specs.Prelude.{◌≡◌, OnOk, IfErr};
+ghost use Rattle.serde_json.specs.View.{view};
+ghost use Rattle.olk_base.specs.Nodes.{data_of};
+ghost use Rattle.olk_paths.specs.Trails.{path_at};
+ghost use Rattle.olk_tree.specs.Maps.{named};
+ghost use Rattle.olk_tree.specs.PropertyDependencies.{chosen_at, chosen_nodes};
+ghost use Rattle.olk_tree.specs.Visited.{object_of};
+ghost use Rattle.olk_check.specs.Asks.{OnlyAsks};
+ghost use Rattle.olk_errors.specs.Found.{IsErrorOf};
+ghost use Rattle.olk_errors.specs.Outcomes.{of_branches};
+ghost use Rattle.olk_errors.specs.Sinks.{GoesOn, StopsBy};
+
+use crate::{ErrorSink, Stop, Walk};
+use olk_base::{Node, ValidationContext};
+use olk_paths::Trail;
+use olk_tree::map::SmallMap;
+use olk_tree::property_dependencies::PropertyDependencies;
+use olk_tree::validators_map::PropertiesValidatorsMap;
+use serde_json::{Map, Value};
+
+impl<'a, N: Walk<'a>> Walk<'a> for PropertyDependencies<N> {
+    fn walk(
+        &'a self,
+        node: Node<'a>,
+        trail: &Trail<'_, 'a>,
+        ctx: &mut ValidationContext,
+        sink: &mut ErrorSink<'a>,
+    ) -> Result<(), Stop> {
+        match node.as_object() {
+            Some(members) => walk_chosen(&self.dependencies, members, node, trail, ctx, sink),
+            None => Ok(()),
+        }
+    }
+}
+
+/// Walks over the object with the nodes at the texts of its members.
+fn walk_chosen<'a, N: Walk<'a>>(
+    dependencies: &'a SmallMap<SmallMap<N>>,
+    members: &'a Map<String, Value>,
+    object: Node<'a>,
+    trail: &Trail<'_, 'a>,
+    ctx: &mut ValidationContext,
+    sink: &mut ErrorSink<'a>,
+) -> Result<(), Stop>
+    requires { data_of object ≡ object_of members.now.entries }
+    ensures on { OnOk result (GoesOn sink.old sink.new
+        (of_branches N.means N.first N.report ctx.old.answer
+        (chosen_nodes (named dependencies.now) (data_of object.entry))
+        (data_of object.entry) (path_at trail.now))) }
+    ensures stop { IfErr result (λ s. StopsBy s sink.old sink.new (IsErrorOf
+        (of_branches N.means N.first N.report ctx.old.answer
+        (chosen_nodes (named dependencies.now) (data_of object.entry))
+        (data_of object.entry) (path_at trail.now)))) }
+    ensures context { OnlyAsks ctx.old ctx.new }
+{
+    for (_, choices, value) in dependencies.declared_members(members) {
+        walk_choice(choices, value, object, trail, ctx, sink)?;
+    }
+    Ok(())
+}
+
+/// Walks over the object with the node at the text that the value is, if there is one.
+fn walk_choice<'a, N: Walk<'a>>(
+    choices: &'a SmallMap<N>,
+    value: &Value,
+    object: Node<'a>,
+    trail: &Trail<'_, 'a>,
+    ctx: &mut ValidationContext,
+    sink: &mut ErrorSink<'a>,
+) -> Result<(), Stop>
+    ensures on { OnOk result (GoesOn sink.old sink.new
+        (of_branches N.means N.first N.report ctx.old.answer
+        (chosen_at choices.now (view value.now)) (data_of object.entry) (path_at trail.now))) }
+    ensures stop { IfErr result (λ s. StopsBy s sink.old sink.new (IsErrorOf
+        (of_branches N.means N.first N.report ctx.old.answer
+        (chosen_at choices.now (view value.now)) (data_of object.entry) (path_at trail.now)))) }
+    ensures context { OnlyAsks ctx.old ctx.new }
+{
+    match choices.chosen_by(value) {
+        Some(dependency) => dependency.walk(object, trail, ctx, sink),
+        None => Ok(()),
+    }
+}
