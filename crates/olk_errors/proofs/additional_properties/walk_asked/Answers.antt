@@ -12,7 +12,7 @@ use Rattle.olk_errors.proofs.additional_properties.walk_asked.Goals as goal
 pub returns-in_err-walk_declared-clause-stop : goal.returns-in_err-walk_declared-clause-stop
 returns-in_err-walk_declared-clause-stop g c = left_by c.from_residual.result _ _ c.from_residual.ensures.1 c.in_err-walk_declared.ensures.stop (declared_stops
     (asked_member g.R.RegexEngine.answers g.N.Means.means g.N.Reports.first g.N.Reports.report c.args.keyword.now (option_map {U = ℕ × g.row.N.Denot} (λ f. (f.0, f.1.now)) c.args.declared)
-        c.args.name.now (view c.args.value.now))
+    c.args.name.now (view c.args.value.now))
     (path_at c.args.trail.now) c.args.ctx.now)
 
 pub loop-index-init : goal.loop-index-init
