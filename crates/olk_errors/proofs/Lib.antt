@@ -4,10 +4,6 @@ pub mod Own
 mod Contexts
 mod Missing
 mod Members
-mod Several
-mod Additional
-mod Unexpected
-mod AdditionalMembers
 mod OneOf
 mod Due
 mod If
@@ -15,3 +11,7 @@ mod Patterns
 mod Fused
 mod Telling
 mod Names
+mod Several
+mod Additional
+mod Unexpected
+mod AdditionalMembers

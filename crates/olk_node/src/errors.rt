@@ -12,43 +12,22 @@ ghost use Rattle.olk_errors.specs.Found.{Appends, IfInvalid, IsLikeOneOf, IsRefu
 
 use crate::node::SchemaNode;
 use olk_base::{Leaf, Node, RegexEngine, ValidationContext};
-use olk_errors::{Errors, collect_body, validate_body};
-use olk_paths::InstancePath;
+use olk_errors::{ErrorSink, Errors, Stop, Walk, walk_body};
+use olk_paths::{InstancePath, Trail};
 use olk_reports::{ValidateError, ValidationError};
 use std::alloc::{AllocError, Global};
 
-impl<'a, K: Leaf, R: RegexEngine> Errors<'a> for SchemaNode<K, R> {
+impl<'a, K: Leaf, R: RegexEngine> Walk<'a> for SchemaNode<K, R> {
     #[cycle(errors)]
     #[tactic(auto, using(crate::proofs::Layers::layers))]
-    fn validate(
+    fn walk(
         &'a self,
-        alloc: Global,
         node: Node<'a>,
-        path: &mut InstancePath,
+        trail: &Trail<'_, 'a>,
         ctx: &mut ValidationContext,
-    ) -> Result<(), ValidateError<'a>> {
-        validate_body(alloc, &self.body, self.location.as_str(), node, path, ctx)
-    }
-
-    #[cycle(errors)]
-    #[tactic(auto, using(crate::proofs::Layers::layers))]
-    fn collect_errors(
-        &'a self,
-        alloc: Global,
-        node: Node<'a>,
-        path: &mut InstancePath,
-        ctx: &mut ValidationContext,
-        errors: &mut Vec<ValidationError<'a>>,
-    ) -> Result<(), AllocError> {
-        collect_body(
-            alloc,
-            &self.body,
-            self.location.as_str(),
-            node,
-            path,
-            ctx,
-            errors,
-        )
+        sink: &mut ErrorSink<'a>,
+    ) -> Result<(), Stop> {
+        walk_body(&self.body, self.location.as_str(), node, trail, ctx, sink)
     }
 }
 
@@ -62,7 +41,7 @@ impl<'a, K: Leaf, R: RegexEngine> Errors<'a> for SchemaNode<K, R> {
 ///
 /// That error, which is of the first step that refuses, and is one of a report of the schema over
 /// the node, at the schema's place and the path (where members that nothing allows are told, the
-/// first of them alone); or want of memory.
+/// first of them alone); or out of memory.
 pub fn validate_for<'a, K: Leaf, R: RegexEngine>(
     alloc: Global,
     place: &'a SchemaNode<K, R>,
@@ -94,7 +73,7 @@ pub fn validate_for<'a, K: Leaf, R: RegexEngine>(
 ///
 /// # Errors
 ///
-/// Want of memory, and then the list is as before.
+/// Out of memory, and then the list is as before.
 pub fn collect_errors_for<'a, K: Leaf, R: RegexEngine>(
     alloc: Global,
     place: &'a SchemaNode<K, R>,
