@@ -230,11 +230,11 @@ module _ {R N : Type 0} (answers : R → Name → Says) (costs : R → Bool) (m 
 
             -- it is not, and one error is wanted
             module _ (w : wants_one newer ≡ true) {newest : ErrorSink} where
-              pub one_goes : GoesOn newer newest (of_unexpected k longer v Q) → GoesOn old newest (by_members a.answer)
-              one_goes h = absurd (true≢false (sym (goes_passing w h).verdict ∙ ap is_empty put ∙ never_empty aside x))
+              pub told_goes : GoesOn newer newest (of_unexpected k longer v Q) → GoesOn old newest (by_members a.answer)
+              told_goes h = absurd (true≢false (sym (goes_passing w h).verdict ∙ ap is_empty put ∙ never_empty aside x))
 
-              pub one_stops : {t : Stop} → StopsBy t newer newest (λ f. f ∷ [] ≡ told longer) → StopsBy t old newest (IsErrorOf (by_members a.answer))
-              one_stops {t} h = let nothing : aside ≡ [] = loop.none (sym walked.same ∙ w) in
+              pub told_stops : {t : Stop} → StopsBy t newer newest (λ f. f ∷ [] ≡ told longer) → StopsBy t old newest (IsErrorOf (by_members a.answer))
+              told_stops {t} h = let nothing : aside ≡ [] = loop.none (sym walked.same ∙ w) in
                   loop.stop newest (stops_left (subst (λ l. StopsBy t newer newest (IsErrorOf (of_others a.answer l more x))) (sym nothing)
                   (stops_where (λ o f is. told_of_others a.answer more x (is_so ∙ e) f (is ∙ ap told (put ∙ ap (λ l. l ++ x ∷ []) nothing))) h)))
 

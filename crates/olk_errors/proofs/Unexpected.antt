@@ -92,8 +92,8 @@ module _ {A : Type 0} (g : A → Name × Data) (name : A → Name) (same : (x : 
       first_is h = cc
 
 module _ {R N : Type 0} (k : keyword.AdditionalProperties R N) (v : Data) (Q : Path) (old : ErrorSink) where
-  pub none_goes : {xs : List (Name × Data)} → xs ≡ [] → GoesOn old old (of_unexpected k xs v Q)
-  none_goes none = subst (λ l. GoesOn old old (of_unexpected k l v Q)) (sym none) (goes_past old (record { verdict = refl; nothing = refl }) refl)
+  pub none_unexpected : {xs : List (Name × Data)} → xs ≡ [] → GoesOn old old (of_unexpected k xs v Q)
+  none_unexpected none = subst (λ l. GoesOn old old (of_unexpected k l v Q)) (sym none) (goes_past old (record { verdict = refl; nothing = refl }) refl)
 
   -- where this is the fault of these members
   module _ (xs : List (Name × Data)) (new : ErrorSink) {f g : Fault} (is : unexpected_faults (has_neighbours k) xs v k.location Q ≡ g ∷ []) (same : f ≡ g) {A : Type 0} where
