@@ -35,11 +35,13 @@ pub record Asked (R N : Type 0) : Type 0 where
   pub name : Name
   pub value : Data
 
-abbrev pub asked_member : {R N : Type 0} → (R → Name → Says) → (N → Data → Question) → (N → Bool → Data → Path → List Fault) → (N → Bool → Data → Path → List Fault) → AdditionalProperties R N → Option (ℕ × N) → Name → Data → Asked R N
+abbrev pub asked_member : {R N : Type 0} → (R → Name → Says) → (N → Data → Question) → (N → Bool → Data → Path → List Fault) → (N → Bool → Data → Path → List Fault) → AdditionalProperties R N
+    → Option (ℕ × N) → Name → Data → Asked R N
 asked_member answers m s r k d x v = record { answers = answers; means = m; first = s; report = r; sides = sides_of k; declared = d; name = x; value = v }
 
 -- a node is put apart from those after it
-put_apart : {N : Type 0} (b spoken : Bool) (n : N) (ms rest : List N) → put_if b n ms ++ cond (not spoken && is_empty (put_if b n ms)) rest [] ≡ put_if b n [] ++ (ms ++ cond (not (spoken || b) && is_empty ms) rest [])
+put_apart : {N : Type 0} (b spoken : Bool) (n : N) (ms rest : List N)
+    → put_if b n ms ++ cond (not spoken && is_empty (put_if b n ms)) rest [] ≡ put_if b n [] ++ (ms ++ cond (not (spoken || b) && is_empty ms) rest [])
 put_apart true true n ms rest = refl
 put_apart true false n ms rest = refl
 put_apart false true n ms rest = refl
@@ -83,7 +85,8 @@ module _ {R N : Type 0} (w : Asked R N) where
   -- ---- at a pattern
 
   module _ (u spoken : Bool) (i : ℕ) where
-    module _ {e : CompiledPattern R × N} (here : drop i w.sides.patterns ≡ e ∷ drop (i + 1) w.sides.patterns) {known : Says} (is : known ≡ known_at w.sides w.declared i) {t : Bool} (same : t ≡ u) where
+    module _ {e : CompiledPattern R × N} (here : drop i w.sides.patterns ≡ e ∷ drop (i + 1) w.sides.patterns) {known : Says} (is : known ≡ known_at w.sides w.declared i) {t : Bool}
+        (same : t ≡ u) where
       abbrev matched : Bool
       matched = is_matched_by w.answers w.sides w.declared w.name u i e.0
 
@@ -133,23 +136,31 @@ module _ {R N : Type 0} (w : Asked R N) where
     pub walking : Walking asks_at (first_at Q) (report_at Q) (asked a.answer) (asked_left a.answer spoken i) old new a b
     pub so_far : alone a.answer ≡ alone_left a.answer spoken i
 
-  pub declared_stops : (Q : Path) (a : Asking) {old new : ErrorSink} {t : Stop} → StopsBy t old new (IsErrorOf (outcome a.answer Q (declared_nodes w.declared))) → StopsBy t old new (IsErrorOf (outcome a.answer Q (asked a.answer)))
+  pub declared_stops : (Q : Path) (a : Asking) {old new : ErrorSink} {t : Stop} → StopsBy t old new (IsErrorOf (outcome a.answer Q (declared_nodes w.declared)))
+      → StopsBy t old new (IsErrorOf (outcome a.answer Q (asked a.answer)))
   declared_stops Q a h = walking_each_stop {q = asks_at} {s = first_at Q} {f = report_at Q} {a = a} walking_start (declared_nodes w.declared) (asked_left a.answer (is_some w.declared) 0) refl h
 
   module _ {Q : Path} {a : Asking} {old : ErrorSink} where
-    pub declared_goes : {spoken : Bool} {new : ErrorSink} {b : Asking} → spoken ≡ is_some w.declared → GoesOn old new (outcome a.answer Q (declared_nodes w.declared)) → OnlyAsks a b → WalkingMember Q spoken 0 old new a b
-    declared_goes {new = new} {b = b} e on only = subst (λ s. WalkingMember Q s 0 old new a b) (sym e) (record { walking = walking_each walking_start (declared_nodes w.declared) (asked_left a.answer (is_some w.declared) 0) refl on only; so_far = refl })
+    pub declared_goes : {spoken : Bool} {new : ErrorSink} {b : Asking} → spoken ≡ is_some w.declared → GoesOn old new (outcome a.answer Q (declared_nodes w.declared)) → OnlyAsks a b
+        → WalkingMember Q spoken 0 old new a b
+    declared_goes {new = new} {b = b} e on only = subst (λ s. WalkingMember Q s 0 old new a b) (sym e)
+        (record { walking = walking_each walking_start (declared_nodes w.declared) (asked_left a.answer (is_some w.declared) 0) refl on only; so_far = refl })
 
     module _ {spoken : Bool} {i : ℕ} {new : ErrorSink} {b : Asking} (loop : WalkingMember Q spoken i old new a b) where
       module _ {e : CompiledPattern R × N} (here : drop i w.sides.patterns ≡ e ∷ drop (i + 1) w.sides.patterns) {known : Says} (is : known ≡ known_at w.sides w.declared i) where
-        pub pattern_goes : {m : Bool} {newer : ErrorSink} {c : Asking} → m ≡ reads_as b.answer (known_or known (pattern_answers w.answers e.0 w.name)) → GoesOn new newer (outcome b.answer Q (if_matched w.answers b.answer known e.0 e.1 w.name)) → OnlyAsks b c → WalkingMember Q (spoken || m) (i + 1) old newer a c
+        pub pattern_goes : {m : Bool} {newer : ErrorSink} {c : Asking} → m ≡ reads_as b.answer (known_or known (pattern_answers w.answers e.0 w.name))
+            → GoesOn new newer (outcome b.answer Q (if_matched w.answers b.answer known e.0 e.1 w.name)) → OnlyAsks b c → WalkingMember Q (spoken || m) (i + 1) old newer a c
         pattern_goes {m} told on only = record {
-          walking = walking_each loop.walking (if_matched w.answers b.answer known e.0 e.1 w.name) (asked_left a.answer (spoken || m) (i + 1)) (asked_here a.answer spoken i here is loop.walking.only.answer told) on only;
+          walking = walking_each loop.walking (if_matched w.answers b.answer known e.0 e.1 w.name) (asked_left a.answer (spoken || m) (i + 1))
+              (asked_here a.answer spoken i here is loop.walking.only.answer told) on only;
           so_far = loop.so_far ∙ alone_here a.answer spoken i here is loop.walking.only.answer told;
         }
 
-        pub pattern_stops : {newer : ErrorSink} {t : Stop} → StopsBy t new newer (IsErrorOf (outcome b.answer Q (if_matched w.answers b.answer known e.0 e.1 w.name))) → StopsBy t old newer (IsErrorOf (outcome a.answer Q (asked a.answer)))
-        pattern_stops h = walking_each_stop loop.walking (if_matched w.answers b.answer known e.0 e.1 w.name) (asked_left a.answer (spoken || reads_as b.answer (known_or known (pattern_answers w.answers e.0 w.name))) (i + 1)) (asked_here a.answer spoken i here is loop.walking.only.answer refl) h
+        pub pattern_stops : {newer : ErrorSink} {t : Stop} → StopsBy t new newer (IsErrorOf (outcome b.answer Q (if_matched w.answers b.answer known e.0 e.1 w.name)))
+            → StopsBy t old newer (IsErrorOf (outcome a.answer Q (asked a.answer)))
+        pattern_stops h = walking_each_stop loop.walking (if_matched w.answers b.answer known e.0 e.1 w.name)
+            (asked_left a.answer (spoken || reads_as b.answer (known_or known (pattern_answers w.answers e.0 w.name))) (i + 1))
+            (asked_here a.answer spoken i here is loop.walking.only.answer refl) h
 
       module _ (none : drop i w.sides.patterns ≡ []) where
         pub spoken_expected : spoken ≡ true → false ≡ unexpected a.answer
@@ -165,13 +176,15 @@ module _ {R N : Type 0} (w : Asked R N) where
           pub rest_goes : {newer : ErrorSink} → GoesOn new newer (outcome b.answer Q (option_to_list w.sides.rest)) → GoesOn old newer (outcome a.answer Q (asked a.answer))
           rest_goes on = walking_end (walking_each loop.walking (option_to_list w.sides.rest) [] (rest_left a.answer spoken i none e) on (only_same b)) refl
 
-          pub rest_stops : {newer : ErrorSink} {t : Stop} → StopsBy t new newer (IsErrorOf (outcome b.answer Q (option_to_list w.sides.rest))) → StopsBy t old newer (IsErrorOf (outcome a.answer Q (asked a.answer)))
+          pub rest_stops : {newer : ErrorSink} {t : Stop} → StopsBy t new newer (IsErrorOf (outcome b.answer Q (option_to_list w.sides.rest)))
+              → StopsBy t old newer (IsErrorOf (outcome a.answer Q (asked a.answer)))
           rest_stops h = walking_each_stop loop.walking (option_to_list w.sides.rest) [] (rest_left a.answer spoken i none e) h
 
 -- ---- of a single node, or of none
 
 -- where the pattern says b of the name
-pub if_matched_is : {N : Type 0} (u costs : Bool) (known s : Says) (n : N) {b : Bool} → b ≡ (known_or_asked known (said_to costs s)).accepts u → put_if (reads_as u (known_or known s)) n [] ≡ put_if b n []
+pub if_matched_is : {N : Type 0} (u costs : Bool) (known s : Says) (n : N) {b : Bool} → b ≡ (known_or_asked known (said_to costs s)).accepts u
+    → put_if (reads_as u (known_or known s)) n [] ≡ put_if b n []
 if_matched_is u costs known s n told = ap (λ b. put_if b n []) (sym (told ∙ match_is_said u costs known s))
 
 module _ {N : Type 0} (m : N → Data → Question) (s r : N → Bool → Data → Path → List Fault) (v : Data) (Q : Path) {ns : List N} where

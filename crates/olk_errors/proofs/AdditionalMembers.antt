@@ -71,13 +71,19 @@ pub nothing_wanted : (v : Data) (Q : Path) (k : ErrorSink) (name : Option Requir
 nothing_wanted v Q k None e = goes_past k (record { verdict = refl; nothing = refl }) refl
 nothing_wanted v Q k (Some x) e = cc
 
-wanted : (v : Data) (Q : Path) (name : Option RequiredName) → of_names (required_text name) v (required_place name) Q ≡ record { accepts = is_empty (missing (required_text name) v); first = lacks name v Q; all = lacks name v Q }
+wanted : (v : Data) (Q : Path) (name : Option RequiredName) → of_names (required_text name) v (required_place name) Q
+    ≡ record { accepts = is_empty (missing (required_text name) v); first = lacks name v Q; all = lacks name v Q }
 wanted v Q None = refl
-wanted v Q (Some x) = λ i. record { accepts = is_empty (missing (required_text (Some x)) v); first = one_first v x.location Q x.name (is_object v && not (has (string_bytes x.name) v)) i; all = lacks (Some x) v Q }
+wanted v Q (Some x) = λ i. record {
+  accepts = is_empty (missing (required_text (Some x)) v);
+  first = one_first v x.location Q x.name (is_object v && not (has (string_bytes x.name) v)) i;
+  all = lacks (Some x) v Q;
+}
 
 -- ---- all members
 
-module _ {R N : Type 0} (answers : R → Name → Says) (costs : R → Bool) (m : N → Data → Question) (s r : N → Bool → Data → Path → List Fault) (k : keyword.AdditionalProperties R N) (v : Data) (Q : Path) where
+module _ {R N : Type 0} (answers : R → Name → Says) (costs : R → Bool) (m : N → Data → Question) (s r : N → Bool → Data → Path → List Fault) (k : keyword.AdditionalProperties R N) (v : Data)
+    (Q : Path) where
   abbrev asked_of : Name × Data → Question
   asked_of x = member_means answers costs m (sides_of k) x.0 x.1
 
@@ -126,9 +132,11 @@ module _ {R N : Type 0} (answers : R → Name → Says) (costs : R → Bool) (m 
     }
 
     with_others : {d : Option (ℕ × N)} → d ≡ at_name (sides_of k) x.0 → after (of_asked u d x) of_others ≡ of_left u aside (x ∷ more)
-    with_others {d} declared = let nodes = nodes_asked answers (sides_of k) u x.0 in ap (λ ns. after (of_branches m s r u ns x.1 (Q // x.0)) of_others) (ap (λ e. asked_at answers u (sides_of k) e x.0) declared ∙ asked_is answers u (sides_of k) x.0)
+    with_others {d} declared = let nodes = nodes_asked answers (sides_of k) u x.0 in ap (λ ns. after (of_branches m s r u ns x.1 (Q // x.0)) of_others)
+        (ap (λ e. asked_at answers u (sides_of k) e x.0) declared ∙ asked_is answers u (sides_of k) x.0)
         ∙ (λ i. record {
-          accepts = (sym (and_assoc ((every (λ n. m n x.1) nodes).accepts u) (not (not_expected u x)) ((every asked_of more).accepts u)) ∙ ap (λ b. b && (every asked_of more).accepts u) (sym (member_accepted answers costs m (sides_of k) x.0 x.1 u))) i;
+          accepts = (sym (and_assoc ((every (λ n. m n x.1) nodes).accepts u) (not (not_expected u x)) ((every asked_of more).accepts u))
+              ∙ ap (λ b. b && (every asked_of more).accepts u) (sym (member_accepted answers costs m (sides_of k) x.0 x.1 u))) i;
           first = sym (or_around (first_of (λ n. s n u x.1 (Q // x.0)) nodes) (cond (not_expected u x) (told (x ∷ [])) []) (first_of (first_found u) more)) i;
           all = sym (append_assoc (all_found u x) (flat_map (all_found u) more) (told (aside ++ filter_once (not_expected u) (x ∷ more)))) i;
         })
@@ -148,11 +156,23 @@ module _ {R N : Type 0} (answers : R → Name → Says) (costs : R → Bool) (m 
       }
 
   told_of_others : (u : Bool) (more : List (Name × Data)) (x : Name × Data) → not_expected u x ≡ true → (f : Fault) → f ∷ [] ≡ told (x ∷ []) → IsErrorOf (of_others u [] more x) f
-  told_of_others u more x e f is = let o = told_of_one v k.location Q (has_neighbours k) x is in let w = kept_of_first v k.location Q (has_neighbours k) x (filter_once (not_expected u) more) is in record {
-    verdict = ap (λ b. not b && (every asked_of more).accepts u) e;
-    of_first = record { one = o.one; among = subst (λ b. Contains (or_else (cond b (told (x ∷ [])) []) (first_of (first_found u) more)) o.one) (sym e) (contains_first (told (x ∷ [])) (first_of (first_found u) more) o.one o.among); like = o.like };
-    of_all = record { whole = w.whole; among = subst (λ b. Contains (flat_map (all_found u) more ++ told (put_if b x (filter_once (not_expected u) more))) w.whole) (sym e) (Contains-append_right (flat_map (all_found u) more) (told (x ∷ filter_once (not_expected u) more)) w.whole w.among); like = w.like };
-  }
+  told_of_others u more x e f is =
+      let o = told_of_one v k.location Q (has_neighbours k) x is in
+      let w = kept_of_first v k.location Q (has_neighbours k) x (filter_once (not_expected u) more) is in
+      record {
+        verdict = ap (λ b. not b && (every asked_of more).accepts u) e;
+        of_first = record {
+          one = o.one;
+          among = subst (λ b. Contains (or_else (cond b (told (x ∷ [])) []) (first_of (first_found u) more)) o.one) (sym e) (contains_first (told (x ∷ [])) (first_of (first_found u) more) o.one o.among);
+          like = o.like;
+        };
+        of_all = record {
+          whole = w.whole;
+          among = subst (λ b. Contains (flat_map (all_found u) more ++ told (put_if b x (filter_once (not_expected u) more))) w.whole) (sym e)
+              (Contains-append_right (flat_map (all_found u) more) (told (x ∷ filter_once (not_expected u) more)) w.whole w.among);
+          like = w.like;
+        };
+      }
 
   -- ---- the walk
 
@@ -178,7 +198,8 @@ module _ {R N : Type 0} (answers : R → Name → Says) (costs : R → Bool) (m 
         goes_left {newest} h = subst (λ l. GoesOn new newest (of_left a.answer aside l)) (sym next) (goes_same (with_others a.answer aside more x declared) (goes_after walked_at h))
 
         stops_left : {newest : ErrorSink} {t : Stop} → StopsBy t newer newest (IsErrorOf (of_others a.answer aside more x)) → StopsBy t new newest (IsErrorOf (of_left a.answer aside rest))
-        stops_left {newest} {t} h = subst (λ l. StopsBy t new newest (IsErrorOf (of_left a.answer aside l))) (sym next) (stops_same (with_others a.answer aside more x declared) (stops_after walked_at h))
+        stops_left {newest} {t} h = subst (λ l. StopsBy t new newest (IsErrorOf (of_left a.answer aside l))) (sym next)
+            (stops_same (with_others a.answer aside more x declared) (stops_after walked_at h))
 
         -- there was no memory to put it aside
         pub members_cut : (m : AllocError) → StopsBy (Memory m) old newer (IsErrorOf (by_members a.answer))
@@ -188,9 +209,11 @@ module _ {R N : Type 0} (answers : R → Name → Says) (costs : R → Bool) (m 
           is_so : not_expected a.answer x ≡ told_so
           is_so = sym (is ∙ ap (λ e. unexpected_at answers b.answer (sides_of k) e x.0) declared ∙ unexpected_is answers b.answer (sides_of k) x.0 ∙ ap (λ u. not_expected u x) loop.only.answer)
 
-          members_on : {longer : List (Name × Data)} {c : Asking} → longer ≡ aside ++ put_if told_so x [] → (wants_one newer ≡ true → told_so ≡ false) → (wants_one newer ≡ true → longer ≡ []) → OnlyAsks b c → WalkingMembers more longer old newer a c
+          members_on : {longer : List (Name × Data)} {c : Asking} → longer ≡ aside ++ put_if told_so x [] → (wants_one newer ≡ true → told_so ≡ false) → (wants_one newer ≡ true → longer ≡ [])
+              → OnlyAsks b c → WalkingMembers more longer old newer a c
           members_on {longer} put one none only = let grown : longer ≡ aside ++ put_if (not_expected a.answer x) x [] = put ∙ ap (λ e. aside ++ put_if e x []) (sym is_so) in record {
-            on = λ newest h. loop.on newest (goes_left (goes_either (of_others a.answer aside more x) (λ w. subst Passes (only_others a.answer aside more x grown (is_so ∙ one w))) (all_others a.answer aside more x grown) h));
+            on = λ newest h. loop.on newest (goes_left (goes_either (of_others a.answer aside more x)
+                (λ w. subst Passes (only_others a.answer aside more x grown (is_so ∙ one w))) (all_others a.answer aside more x grown) h));
             stop = λ newest {t} h. loop.stop newest (stops_left (stops_where (λ w f. subst (λ o. IsErrorOf o f) (only_others a.answer aside more x grown (is_so ∙ one w))) h));
             none = none;
             only = only_then loop.only only;
@@ -207,11 +230,11 @@ module _ {R N : Type 0} (answers : R → Name → Says) (costs : R → Bool) (m 
 
             -- it is not, and one error is wanted
             module _ (w : wants_one newer ≡ true) {newest : ErrorSink} where
-              pub one_goes : GoesOn newer newest (of_unexpected k longer v Q) → GoesOn old newest (by_members a.answer)
-              one_goes h = absurd (true≢false (sym (goes_passing w h).verdict ∙ ap is_empty put ∙ never_empty aside x))
+              pub told_goes : GoesOn newer newest (of_unexpected k longer v Q) → GoesOn old newest (by_members a.answer)
+              told_goes h = absurd (true≢false (sym (goes_passing w h).verdict ∙ ap is_empty put ∙ never_empty aside x))
 
-              pub one_stops : {t : Stop} → StopsBy t newer newest (λ f. f ∷ [] ≡ told longer) → StopsBy t old newest (IsErrorOf (by_members a.answer))
-              one_stops {t} h = let nothing : aside ≡ [] = loop.none (sym walked.same ∙ w) in
+              pub told_stops : {t : Stop} → StopsBy t newer newest (λ f. f ∷ [] ≡ told longer) → StopsBy t old newest (IsErrorOf (by_members a.answer))
+              told_stops {t} h = let nothing : aside ≡ [] = loop.none (sym walked.same ∙ w) in
                   loop.stop newest (stops_left (subst (λ l. StopsBy t newer newest (IsErrorOf (of_others a.answer l more x))) (sym nothing)
                   (stops_where (λ o f is. told_of_others a.answer more x (is_so ∙ e) f (is ∙ ap told (put ∙ ap (λ l. l ++ x ∷ []) nothing))) h)))
 
@@ -223,7 +246,8 @@ module _ {R N : Type 0} (answers : R → Name → Says) (costs : R → Bool) (m 
     -- no member is left
     module _ (none : rest ≡ []) {newer : ErrorSink} where
       pub members_end : GoesOn new newer (of_unexpected k aside v Q) → GoesOn old newer (by_members a.answer)
-      members_end h = loop.on newer (subst (λ l. GoesOn new newer (of_left a.answer aside l)) (sym none) (goes_either (of_left a.answer aside []) (λ w p. record { verdict = refl; nothing = refl }) (ap told (sym (append-nil aside))) h))
+      members_end h = loop.on newer (subst (λ l. GoesOn new newer (of_left a.answer aside l)) (sym none)
+          (goes_either (of_left a.answer aside []) (λ w p. record { verdict = refl; nothing = refl }) (ap told (sym (append-nil aside))) h))
 
       pub members_end_stop : {t : Stop} → StopsBy t new newer (λ f. f ∷ [] ≡ told aside) → StopsBy t old newer (IsErrorOf (by_members a.answer))
       members_end_stop h = loop.stop newer (stops_where (λ w f is. absurd (none_is_one f (is ∙ ap told (loop.none w)))) h)
@@ -236,7 +260,11 @@ module _ {R N : Type 0} (answers : R → Name → Says) (costs : R → Bool) (m 
 
     -- the members, and then the name that is wanted
     abbrev pub of_keyword : Outcome
-    of_keyword = record { accepts = (by_members u).accepts && is_empty (missing (required_text k.required) v); first = or_else (by_members u).first (lacks k.required v Q); all = (by_members u).all ++ lacks k.required v Q }
+    of_keyword = record {
+      accepts = (by_members u).accepts && is_empty (missing (required_text k.required) v);
+      first = or_else (by_members u).first (lacks k.required v Q);
+      all = (by_members u).all ++ lacks k.required v Q;
+    }
 
     pub same_keyword : after (by_members u) by_wanted ≡ of_keyword
     same_keyword = ap (after (by_members u)) (wanted v Q k.required)
@@ -247,7 +275,11 @@ module _ {R N : Type 0} (answers : R → Name → Says) (costs : R → Bool) (m 
       no_repeats = ap (λ ms. has_repeat (map (λ x. x.0) ms)) (no_members v none)
 
       pub other_passes : Passes of_keyword
-      other_passes = subst Passes same_keyword (pass_both (subst Passes (in_turn u no_repeats) record { verdict = ap (λ ms. (every asked_of ms).accepts u) (no_members v none); nothing = ap (first_of (first_found u)) (no_members v none) }) (other_lacks_none (required_text k.required) v (required_place k.required) Q none))
+      other_passes = subst Passes same_keyword (pass_both
+          (subst Passes (in_turn u no_repeats) (record { verdict = ap (λ ms. (every asked_of ms).accepts u) (no_members v none); nothing = ap (first_of (first_found u)) (no_members v none) }))
+          (other_lacks_none (required_text k.required) v (required_place k.required) Q none))
 
       pub other_finds_nothing : of_keyword.all ≡ []
-      other_finds_nothing = λ i. (ap (λ o. o.all) (sym (in_turn u no_repeats)) ∙ ap (λ ms. flat_map (all_found u) ms ++ told (filter_once (not_expected u) ms)) (no_members v none)) i ++ other_lacks_nothing (required_text k.required) v (required_place k.required) Q none i
+      other_finds_nothing = λ i.
+          (ap (λ o. o.all) (sym (in_turn u no_repeats)) ∙ ap (λ ms. flat_map (all_found u) ms ++ told (filter_once (not_expected u) ms)) (no_members v none)) i
+          ++ other_lacks_nothing (required_text k.required) v (required_place k.required) Q none i

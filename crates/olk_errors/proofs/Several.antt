@@ -29,7 +29,8 @@ module _ {X : Type 0} (q : X → Question) (u : Bool) (s f : X → List Fault) w
   each_split : (xs ys : List X) → after (of_each u q s f xs) (of_each u q s f ys) ≡ of_each u q s f (xs ++ ys)
   each_split xs ys = sym (λ i. record { accepts = (every-append q xs ys i).accepts u; first = first_of-both s xs ys i; all = flat_map-append f xs ys i })
 
-module _ {X : Type 0} {q : X → Question} {u : Bool} {s f : X → List Fault} {all rest : List X} {old new : ErrorSink} (loop : Walked q u s f all rest old new) (xs more : List X) (next : rest ≡ xs ++ more) where
+module _ {X : Type 0} {q : X → Question} {u : Bool} {s f : X → List Fault} {all rest : List X} {old new : ErrorSink} (loop : Walked q u s f all rest old new) (xs more : List X)
+    (next : rest ≡ xs ++ more) where
   walked_each : {newer : ErrorSink} → GoesOn new newer (of_each u q s f xs) → Walked q u s f all more old newer
   walked_each {newer} on = record {
     on = λ newest h. loop.on newest (subst (λ l. GoesOn new newest (of_each u q s f l)) (sym next) (goes_same (each_split q u s f xs more) (goes_after on h)));
@@ -37,13 +38,19 @@ module _ {X : Type 0} {q : X → Question} {u : Bool} {s f : X → List Fault} {
   }
 
   walked_each_stop : {newer : ErrorSink} {t : Stop} → StopsBy t new newer (IsErrorOf (of_each u q s f xs)) → StopsBy t old newer (IsErrorOf (of_each u q s f all))
-  walked_each_stop {newer} {t} h = loop.stop newer (subst (λ l. StopsBy t new newer (IsErrorOf (of_each u q s f l))) (sym next) (stops_same (each_split q u s f xs more) (stops_before (of_each u q s f more) h)))
+  walked_each_stop {newer} {t} h = loop.stop newer (subst (λ l. StopsBy t new newer (IsErrorOf (of_each u q s f l))) (sym next)
+      (stops_same (each_split q u s f xs more) (stops_before (of_each u q s f more) h)))
 
-module _ {X : Type 0} {q : X → Question} {s f : Bool → X → List Fault} {all rest : List X} {old new : ErrorSink} {a b : Asking} (loop : Walking q s f all rest old new a b) (xs more : List X) (next : rest ≡ xs ++ more) where
+module _ {X : Type 0} {q : X → Question} {s f : Bool → X → List Fault} {all rest : List X} {old new : ErrorSink} {a b : Asking} (loop : Walking q s f all rest old new a b) (xs more : List X)
+    (next : rest ≡ xs ++ more) where
   pub walking_each : {newer : ErrorSink} {c : Asking} → GoesOn new newer (of_each b.answer q (s b.answer) (f b.answer) xs) → OnlyAsks b c → Walking q s f all more old newer a c
-  walking_each {newer} on only = record { so_far = walked_each loop.so_far xs more next (subst (λ u. GoesOn new newer (of_each u q (s u) (f u) xs)) loop.only.answer on); only = only_then loop.only only }
+  walking_each {newer} on only = record {
+    so_far = walked_each loop.so_far xs more next (subst (λ u. GoesOn new newer (of_each u q (s u) (f u) xs)) loop.only.answer on);
+    only = only_then loop.only only;
+  }
 
-  pub walking_each_stop : {newer : ErrorSink} {t : Stop} → StopsBy t new newer (IsErrorOf (of_each b.answer q (s b.answer) (f b.answer) xs)) → StopsBy t old newer (IsErrorOf (of_each a.answer q (s a.answer) (f a.answer) all))
+  pub walking_each_stop : {newer : ErrorSink} {t : Stop} → StopsBy t new newer (IsErrorOf (of_each b.answer q (s b.answer) (f b.answer) xs))
+      → StopsBy t old newer (IsErrorOf (of_each a.answer q (s a.answer) (f a.answer) all))
   walking_each_stop {newer} {t} h = walked_each_stop loop.so_far xs more next (subst (λ u. StopsBy t new newer (IsErrorOf (of_each u q (s u) (f u) xs))) loop.only.answer h)
 
 -- ---- what matters where one error is wanted, and where all are

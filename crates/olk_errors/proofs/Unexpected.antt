@@ -6,7 +6,7 @@ use Rattle.std.specs.List.{Contains}
 use Rattle.serde_json.specs.Data.{Data}
 use Rattle.olk_spec.specs.Names.{Name, Path}
 use Rattle.olk_spec.specs.Faults.{Fault, fault, AdditionalProperties, FalseSchema, IsLike}
-use Rattle.olk_spec.specs.Reports.{unexpected_faults}
+use Rattle.olk_spec.specs.Reports.{unexpected_faults, cut}
 use Rattle.olk_spec.proofs.Order.{like_itself}
 use Rattle.olk_tree.specs.Additional.{has_neighbours}
 use Rattle.olk_tree.specs.declared.additional_properties.AdditionalProperties as keyword
@@ -30,19 +30,23 @@ only_one g f c = only_one_at g f c.0 c.1 c.2
 one_is : (g f : Fault) → f ∷ [] ≡ g ∷ [] → f ≡ g
 one_is g f is = only_one g f (subst (λ l. Contains l f) is (contains_one f))
 
+kept_alone : (whole : Fault) {f : Fault} → f ≡ cut whole → IsKeptOf (whole ∷ []) f
+kept_alone whole {f} is = record { whole = whole; among = contains_one whole; like = subst (IsLike f) is (like_itself f) }
+
 module _ (v : Data) (P Q : Path) {f : Fault} where
   -- what is told of one member is one fault, and all that is kept of what is told of it and others
   pub told_of_one : (named : Bool) (x : Name × Data) → f ∷ [] ≡ unexpected_faults named (x ∷ []) v P Q → IsLikeOneOf (unexpected_faults named (x ∷ []) v P Q) f
   told_of_one named x is = record { one = f; among = subst (λ l. Contains l f) is (contains_one f); like = like_itself f }
 
   pub kept_of_first : (named : Bool) (x : Name × Data) (others : List (Name × Data)) → f ∷ [] ≡ unexpected_faults named (x ∷ []) v P Q → IsKeptOf (unexpected_faults named (x ∷ others) v P Q) f
-  kept_of_first true x others is = record { whole = fault (AdditionalProperties (map (λ e. e.0) (x ∷ others))) v Q P; among = contains_one (fault (AdditionalProperties (map (λ e. e.0) (x ∷ others))) v Q P); like = subst (λ g. IsLike f g) (one_is (fault (AdditionalProperties (x.0 ∷ [])) v Q P) f is) (like_itself f) }
-  kept_of_first false x others is = record { whole = fault FalseSchema x.1 Q P; among = contains_one (fault FalseSchema x.1 Q P); like = subst (λ g. IsLike f g) (one_is (fault FalseSchema x.1 Q P) f is) (like_itself f) }
+  kept_of_first true x others is = kept_alone (fault (AdditionalProperties (map (λ e. e.0) (x ∷ others))) v Q P) (one_is (fault (AdditionalProperties (x.0 ∷ [])) v Q P) f is)
+  kept_of_first false x others is = kept_alone (fault FalseSchema x.1 Q P) (one_is (fault FalseSchema x.1 Q P) f is)
 
 -- ---- their names, of which those before the rest are listed
 
 module _ {A B C : Type 0} (h : B → C) (g : A → C) (all : List A) where
-  pub one_name_more : (old : List B) {new : List B} {rest more : List A} {x : A} {y : B} → rest ≡ x ∷ more → new ≡ old ++ y ∷ [] → h y ≡ g x → map h old ++ map g rest ≡ map g all → map h new ++ map g more ≡ map g all
+  pub one_name_more : (old : List B) {new : List B} {rest more : List A} {x : A} {y : B} → rest ≡ x ∷ more → new ≡ old ++ y ∷ [] → h y ≡ g x → map h old ++ map g rest ≡ map g all
+      → map h new ++ map g more ≡ map g all
   one_name_more old {more = more} {x} {y} next grown same so_far = ap (λ l. map h l ++ map g more) grown
       ∙ ap (λ l. l ++ map g more) (map-append h old (y ∷ []))
       ∙ append_assoc (map h old) (h y ∷ []) (map g more)
@@ -67,26 +71,29 @@ module _ {A : Type 0} (g : A → Name × Data) (name : A → Name) (same : (x : 
   names_of_all [] = refl
   names_of_all (x ∷ xs) = λ i. same x i ∷ names_of_all xs i
 
-  pub told_by_name : {named : Bool} (xs : List A) {ys : List A} {y : A} → ys ≡ xs → Some y ≡ slice_get ys 0 → true ≡ named → unexpected_faults named (map g xs) v P Q ≡ fault (AdditionalProperties (map name xs)) v Q P ∷ []
+  pub told_by_name : {named : Bool} (xs : List A) {ys : List A} {y : A} → ys ≡ xs → Some y ≡ slice_get ys 0 → true ≡ named
+      → unexpected_faults named (map g xs) v P Q ≡ fault (AdditionalProperties (map name xs)) v Q P ∷ []
   told_by_name [] {ys} {y} e some is = absurd (no_first (some ∙ ap (λ l. slice_get l 0) e))
     where
       no_first : Some y ≡ (let none : List A = [] in slice_get none 0) → ⊥
       no_first h = cc
   told_by_name (x ∷ xs) e some is = ap (λ b. unexpected_faults b (map g (x ∷ xs)) v P Q) (sym is) ∙ ap (λ ns. fault (AdditionalProperties ns) v Q P ∷ []) (names_of_all (x ∷ xs))
 
-  pub told_by_value : {named : Bool} (xs : List A) {ys : List A} {y : A} → ys ≡ xs → Some y ≡ slice_get ys 0 → false ≡ named → unexpected_faults named (map g xs) v P Q ≡ fault FalseSchema (g y).1 Q P ∷ []
+  pub told_by_value : {named : Bool} (xs : List A) {ys : List A} {y : A} → ys ≡ xs → Some y ≡ slice_get ys 0 → false ≡ named
+      → unexpected_faults named (map g xs) v P Q ≡ fault FalseSchema (g y).1 Q P ∷ []
   told_by_value [] {ys} {y} e some is = absurd (no_first (some ∙ ap (λ l. slice_get l 0) e))
     where
       no_first : Some y ≡ (let none : List A = [] in slice_get none 0) → ⊥
       no_first h = cc
-  told_by_value (x ∷ xs) {ys} {y} e some is = ap (λ b. unexpected_faults b (map g (x ∷ xs)) v P Q) (sym is) ∙ ap (λ z. fault FalseSchema (g z).1 Q P ∷ []) (sym (first_is (some ∙ ap (λ l. slice_get l 0) e)))
+  told_by_value (x ∷ xs) {ys} {y} e some is = ap (λ b. unexpected_faults b (map g (x ∷ xs)) v P Q) (sym is)
+      ∙ ap (λ z. fault FalseSchema (g z).1 Q P ∷ []) (sym (first_is (some ∙ ap (λ l. slice_get l 0) e)))
     where
       first_is : Some y ≡ slice_get (x ∷ xs) 0 → y ≡ x
       first_is h = cc
 
 module _ {R N : Type 0} (k : keyword.AdditionalProperties R N) (v : Data) (Q : Path) (old : ErrorSink) where
-  pub none_goes : {xs : List (Name × Data)} → xs ≡ [] → GoesOn old old (of_unexpected k xs v Q)
-  none_goes none = subst (λ l. GoesOn old old (of_unexpected k l v Q)) (sym none) (goes_past old (record { verdict = refl; nothing = refl }) refl)
+  pub none_unexpected : {xs : List (Name × Data)} → xs ≡ [] → GoesOn old old (of_unexpected k xs v Q)
+  none_unexpected none = subst (λ l. GoesOn old old (of_unexpected k l v Q)) (sym none) (goes_past old (record { verdict = refl; nothing = refl }) refl)
 
   -- where this is the fault of these members
   module _ (xs : List (Name × Data)) (new : ErrorSink) {f g : Fault} (is : unexpected_faults (has_neighbours k) xs v k.location Q ≡ g ∷ []) (same : f ≡ g) {A : Type 0} where

@@ -11,7 +11,8 @@ use Rattle.olk_errors.proofs.additional_properties.walk_asked.Goals as goal
 
 pub returns-in_err-walk_declared-clause-stop : goal.returns-in_err-walk_declared-clause-stop
 returns-in_err-walk_declared-clause-stop g c = left_by c.from_residual.result _ _ c.from_residual.ensures.1 c.in_err-walk_declared.ensures.stop (declared_stops
-    (asked_member g.R.RegexEngine.answers g.N.Means.means g.N.Reports.first g.N.Reports.report c.args.keyword.now (option_map {U = ℕ × g.row.N.Denot} (λ f. (f.0, f.1.now)) c.args.declared) c.args.name.now (view c.args.value.now))
+    (asked_member g.R.RegexEngine.answers g.N.Means.means g.N.Reports.first g.N.Reports.report c.args.keyword.now (option_map {U = ℕ × g.row.N.Denot} (λ f. (f.0, f.1.now)) c.args.declared)
+    c.args.name.now (view c.args.value.now))
     (path_at c.args.trail.now) c.args.ctx.now)
 
 pub loop-index-init : goal.loop-index-init
@@ -42,7 +43,8 @@ pub returns-clause-on : goal.returns-clause-on
 returns-clause-on g c = on_ok_weaker c.walk_rest.result (rest_goes _ c.loop-index.invariant (past_end c.patterns-entry-items.ensures (omega arith)) c.if-spoken.false) c.walk_rest.ensures.on
 
 pub returns-clause-stop : goal.returns-clause-stop
-returns-clause-stop g c = IfErr-weaker c.walk_rest.result _ _ (λ s h. rest_stops _ c.loop-index.invariant (past_end c.patterns-entry-items.ensures (omega arith)) c.if-spoken.false h) c.walk_rest.ensures.stop
+returns-clause-stop g c = IfErr-weaker c.walk_rest.result _ _ (λ s h. rest_stops _ c.loop-index.invariant (past_end c.patterns-entry-items.ensures (omega arith)) c.if-spoken.false h)
+    c.walk_rest.ensures.stop
 
 pub returns-clause-context : goal.returns-clause-context
 returns-clause-context g c = only_then c.loop-index.invariant.walking.only c.walk_rest.ensures.context

@@ -6,7 +6,7 @@ use Rattle.olk_tree.specs.Additional.{repeats}
 use Rattle.olk_tree.proofs.Due.{name_next, no_name_next}
 use Rattle.olk_check.proofs.Asked.{only_then}
 use Rattle.olk_errors.proofs.Sinks.{left_by}
-use Rattle.olk_errors.proofs.AdditionalMembers.{map_more, members_start, members_more, members_aside, members_cut, members_stop, one_goes, one_stops, members_end, members_end_stop}
+use Rattle.olk_errors.proofs.AdditionalMembers.{map_more, members_start, members_more, members_aside, members_cut, members_stop, told_goes, told_stops, members_end, members_end_stop}
 use Rattle.olk_errors.proofs.additional_properties.walk_members.Goals as goal
 
 pub loop-name-init : goal.loop-name-init
@@ -32,13 +32,13 @@ loop-name-preserved g c = members_aside _ _ _ _ _ _ _ _ c.loop-name.invariant (n
 
 pub returns-then-wants_one-clause-on : goal.returns-then-wants_one-clause-on
 returns-then-wants_one-clause-on g c = on_ok_weaker c.report_unexpected.result
-    (one_goes _ _ _ _ _ _ _ _ c.loop-name.invariant (name_next c.in-Some.ensures.steps c.as_str-name.ensures.value) c.declared_from-next.ensures
+    (told_goes _ _ _ _ _ _ _ _ c.loop-name.invariant (name_next c.in-Some.ensures.steps c.as_str-name.ensures.value) c.declared_from-next.ensures
     c.in_ok-walk_asked.ensures.on c.in_ok-walk_asked.ensures.unexpected c.if-not-branch.false
     (map_more (λ x. (x.0.now, view x.1.now)) c.loop-name.unexpected.items _ c.in_ok-append.ensures.items) (sym c.wants_one.ensures ∙ c.if-wants_one.true)) c.report_unexpected.ensures.on
 
 pub returns-then-wants_one-clause-stop : goal.returns-then-wants_one-clause-stop
 returns-then-wants_one-clause-stop g c = IfErr-weaker c.report_unexpected.result _ _
-    (λ s h. one_stops _ _ _ _ _ _ _ _ c.loop-name.invariant (name_next c.in-Some.ensures.steps c.as_str-name.ensures.value) c.declared_from-next.ensures
+    (λ s h. told_stops _ _ _ _ _ _ _ _ c.loop-name.invariant (name_next c.in-Some.ensures.steps c.as_str-name.ensures.value) c.declared_from-next.ensures
     c.in_ok-walk_asked.ensures.on c.in_ok-walk_asked.ensures.unexpected c.if-not-branch.false
     (map_more (λ x. (x.0.now, view x.1.now)) c.loop-name.unexpected.items _ c.in_ok-append.ensures.items) (sym c.wants_one.ensures ∙ c.if-wants_one.true) h) c.report_unexpected.ensures.stop
 
