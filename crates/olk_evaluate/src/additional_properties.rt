@@ -1,5 +1,5 @@
 //! `additionalProperties`, and what it takes over: what they show.
-ghost use Rattle.std.specs.Prelude.{◌≡◌, ◌++◌, is_some, not, cond, option_to_list, false, IfOk};
+ghost use Rattle.std.specs.Prelude.{◌≡◌, ◌++◌, is_some, not, cond, option_to_list, false, IfOk, OnOk};
 ghost use Rattle.serde_json.specs.Data.{Data};
 ghost use Rattle.serde_json.specs.View.{members_view};
 ghost use Rattle.olk_base.specs.Nodes.{data_of};
@@ -38,31 +38,30 @@ impl<'a, R: RegexEngine, N: Evaluate<'a>> Evaluate<'a> for AdditionalProperties<
     ghost tree = { λ k. (additional_properties_answers R.answers R.costs k).tree N.means N.tree };
 
     #[tactic(auto, using(olk_check::proofs::Asked::only_same))]
-    fn evaluate(
+    fn show(
         &'a self,
         alloc: Global,
         node: Node<'a>,
         path: &mut InstancePath,
         ctx: &mut ValidationContext,
-    ) -> Result<EvaluationResult<'a>, AllocError> {
-        match node.as_object() {
-            Some(members) => {
-                law_of_names(members);
-                let collected = collect(alloc, self, members, path, ctx)?;
-                let children = with_places(
-                    alloc,
-                    self,
-                    collected.children,
-                    collected.matched,
-                    members,
-                    node,
-                    path,
-                )?;
-                let outcome = EvaluationResult::from_children(alloc, children);
-                completed(alloc, self, outcome, collected.additional, members, node)
-            }
-            None => Ok(EvaluationResult::valid_empty(alloc)),
+        outcome: &mut EvaluationResult<'a>,
+    ) -> Result<(), AllocError> {
+        if let Some(members) = node.as_object() {
+            law_of_names(members);
+            let collected = collect(alloc, self, members, path, ctx)?;
+            let children = with_places(
+                alloc,
+                self,
+                collected.children,
+                collected.matched,
+                members,
+                node,
+                path,
+            )?;
+            outcome.take_children(children);
+            complete(alloc, self, outcome, collected.additional, members, node)?;
         }
+        Ok(())
     }
 }
 
@@ -100,9 +99,8 @@ fn matches_child<'a>(
     if matched.is_empty() {
         return Ok(None);
     }
-    let mut outcome = EvaluationResult::valid_empty(alloc);
-    outcome.annotate(matched);
-    let child = EvaluationNode::at(alloc, location, path, outcome)?;
+    let mut child = EvaluationNode::at(alloc, location, path)?;
+    child.result_mut().annotate(matched);
     Ok(Some(child))
 }
 
@@ -148,42 +146,40 @@ fn followed_by<'a>(
     Ok(children)
 }
 
-/// The result with the annotation of the rest; where there is no rest, with an error if members are
-/// not expected.
-fn completed<'a, R, N>(
+/// Adds the annotation of the rest; where there is no rest, an error if members are not expected.
+fn complete<'a, R, N>(
     alloc: Global,
     keyword: &AdditionalProperties<R, N>,
-    outcome: EvaluationResult<'a>,
+    outcome: &mut EvaluationResult<'a>,
     additional: Vec<&'a str>,
     members: &'a Map<String, Value>,
     node: Node<'a>,
-) -> Result<EvaluationResult<'a>, AllocError>
-    ensures { IfOk result (λ r. Completes keyword.now (names_of additional.entry.items)
+) -> Result<(), AllocError>
+    ensures { OnOk result (Completes keyword.now (names_of additional.entry.items)
         (listed (members_view members.now.entries)) (data_of node.entry)
-        (shown_of outcome.entry) (shown_of r)) }
+        (shown_of outcome.old) (shown_of outcome.new)) }
 {
     match &keyword.rest {
-        Some(_) => Ok(annotated(keyword, outcome, additional)),
-        None => with_unexpected(alloc, keyword, outcome, additional, members, node),
+        Some(_) => annotate_rest(keyword, outcome, additional),
+        None => return add_unexpected(alloc, keyword, outcome, additional, members, node),
     }
+    Ok(())
 }
 
-/// The result with the names that the rest is asked of; where just one neighbour stands there, only
-/// if there are some.
-fn annotated<'a, R, N>(
+/// Annotates the names that the rest is asked of; where just one neighbour stands there, only if
+/// there are some.
+fn annotate_rest<'a, R, N>(
     keyword: &AdditionalProperties<R, N>,
-    outcome: EvaluationResult<'a>,
+    outcome: &mut EvaluationResult<'a>,
     additional: Vec<&'a str>,
-) -> EvaluationResult<'a>
-    ensures { shown_of result ≡ annotated_if
-        (rest_annotation keyword.now (names_of additional.entry.items)) (shown_of outcome.entry) }
+)
+    ensures { shown_of outcome.new ≡ annotated_if
+        (rest_annotation keyword.now (names_of additional.entry.items)) (shown_of outcome.old) }
 {
     if stands_beside_one(keyword) && additional.is_empty() {
-        return outcome;
+        return;
     }
-    let mut outcome = outcome;
     outcome.annotate(additional);
-    outcome
 }
 
 /// Whether just one of `properties` and `patternProperties` stands there.
@@ -195,65 +191,61 @@ fn stands_beside_one<R, N>(keyword: &AdditionalProperties<R, N>) -> bool
     keyword.properties.is_some() != keyword.patterns.is_some()
 }
 
-/// The result with an error if members are not expected: told by name where the keyword has a
-/// neighbour, else as a false schema over the first.
-fn with_unexpected<'a, R, N>(
+/// Adds an error if members are not expected: told by name where the keyword has a neighbour, else
+/// as a false schema over the first.
+fn add_unexpected<'a, R, N>(
     alloc: Global,
     keyword: &AdditionalProperties<R, N>,
-    outcome: EvaluationResult<'a>,
+    outcome: &mut EvaluationResult<'a>,
     unexpected: Vec<&'a str>,
     members: &'a Map<String, Value>,
     node: Node<'a>,
-) -> Result<EvaluationResult<'a>, AllocError>
-    ensures { IfOk result (λ r. (P Q : Path) → AddsErrors
+) -> Result<(), AllocError>
+    ensures { OnOk result ((P Q : Path) → AddsErrors
         (faults_without_rest keyword.now (names_of unexpected.entry.items)
         (listed (members_view members.now.entries)) (data_of node.entry) P Q)
-        (shown_of outcome.entry) (shown_of r)) }
+        (shown_of outcome.old) (shown_of outcome.new)) }
 {
     if keyword.has_neighbours() {
-        with_named(alloc, outcome, unexpected, node)
+        add_named(alloc, outcome, unexpected, node)
     } else {
-        with_first(alloc, outcome, members)
+        add_first(alloc, outcome, members)
     }
 }
 
-/// The result with an error that has these names, if there are some.
-fn with_named<'a>(
+/// Adds an error that has these names, if there are some.
+fn add_named<'a>(
     alloc: Global,
-    outcome: EvaluationResult<'a>,
+    outcome: &mut EvaluationResult<'a>,
     unexpected: Vec<&'a str>,
     node: Node<'a>,
-) -> Result<EvaluationResult<'a>, AllocError>
-    ensures { IfOk result (λ r. (P Q : Path) → AddsErrors
+) -> Result<(), AllocError>
+    ensures { OnOk result ((P Q : Path) → AddsErrors
         (named_faults (names_of unexpected.entry.items) (data_of node.entry) P Q)
-        (shown_of outcome.entry) (shown_of r)) }
+        (shown_of outcome.old) (shown_of outcome.new)) }
 {
     if unexpected.is_empty() {
-        return Ok(outcome);
+        return Ok(());
     }
-    let mut outcome = outcome;
     let kind = ValidationErrorKind::AdditionalProperties { unexpected };
-    outcome.mark_errored(own_error(alloc, kind, node)?)?;
-    Ok(outcome)
+    outcome.mark_errored(own_error(alloc, kind, node)?)
 }
 
-/// The result with the error of a false schema over the first member's value, if there is one.
-fn with_first<'a>(
+/// Adds the error of a false schema over the first member's value, if there is one.
+fn add_first<'a>(
     alloc: Global,
-    outcome: EvaluationResult<'a>,
+    outcome: &mut EvaluationResult<'a>,
     members: &'a Map<String, Value>,
-) -> Result<EvaluationResult<'a>, AllocError>
-    ensures { IfOk result (λ r. (v : Data) (P Q : Path) → AddsErrors
+) -> Result<(), AllocError>
+    ensures { OnOk result ((v : Data) (P Q : Path) → AddsErrors
         (unexpected_faults false (listed (members_view members.now.entries)) v P Q)
-        (shown_of outcome.entry) (shown_of r)) }
+        (shown_of outcome.old) (shown_of outcome.new)) }
 {
     match members.iter().next() {
         Some((_, value)) => {
-            let mut outcome = outcome;
             let kind = ValidationErrorKind::FalseSchema;
-            outcome.mark_errored(own_error(alloc, kind, Node::Value(value))?)?;
-            Ok(outcome)
+            outcome.mark_errored(own_error(alloc, kind, Node::Value(value))?)
         }
-        None => Ok(outcome),
+        None => Ok(()),
     }
 }

@@ -6,7 +6,7 @@ ghost use Rattle.olk_check.specs.Asks.{OnlyAsks};
 ghost use Rattle.olk_evaluate.specs.Wanted.{AreShown, each_wanted, trees_of};
 
 use crate::Evaluate;
-use crate::walk::{add_child, child, each_child};
+use crate::walk::{add_child, show_each, show_one};
 use olk_base::{Node, ValidationContext};
 use olk_check::IsValid;
 use olk_paths::InstancePath;
@@ -21,19 +21,20 @@ impl<'a, N: Evaluate<'a>> Evaluate<'a> for AnyOf<N> {
 
     ghost tree = { λ k. (any_of_answers k).tree N.means N.tree };
 
-    fn evaluate(
+    fn show(
         &'a self,
         alloc: Global,
         node: Node<'a>,
         path: &mut InstancePath,
         ctx: &mut ValidationContext,
-    ) -> Result<EvaluationResult<'a>, AllocError> {
+        outcome: &mut EvaluationResult<'a>,
+    ) -> Result<(), AllocError> {
         let accepting = accepting_children(alloc, &self.schemas, node, path, ctx)?;
         if accepting.is_empty() {
-            let children = each_child(alloc, &self.schemas, node, path, ctx)?;
-            return Ok(EvaluationResult::invalid_with(alloc, children));
+            return show_refusing(alloc, &self.schemas, node, path, ctx, outcome);
         }
-        Ok(EvaluationResult::from_children(alloc, accepting))
+        outcome.take_children(accepting);
+        Ok(())
     }
 }
 
@@ -43,15 +44,31 @@ impl<'a, N: Evaluate<'a>> Evaluate<'a> for SingleAnyOf<N> {
 
     ghost tree = { λ k. (single_any_of_answers k).tree N.means N.tree };
 
-    fn evaluate(
+    fn show(
         &'a self,
         alloc: Global,
         node: Node<'a>,
         path: &mut InstancePath,
         ctx: &mut ValidationContext,
-    ) -> Result<EvaluationResult<'a>, AllocError> {
-        EvaluationResult::from_node(alloc, child(alloc, &self.node, node, path, ctx)?)
+        outcome: &mut EvaluationResult<'a>,
+    ) -> Result<(), AllocError> {
+        show_one(alloc, &self.node, node, path, ctx, outcome)
     }
+}
+
+/// What each branch shows, where none accepts.
+pub(crate) fn show_refusing<'a, N: Evaluate<'a>>(
+    alloc: Global,
+    schemas: &'a Vec<N>,
+    node: Node<'a>,
+    path: &mut InstancePath,
+    ctx: &mut ValidationContext,
+    outcome: &mut EvaluationResult<'a>,
+) -> Result<(), AllocError>
+{
+    show_each(alloc, schemas, node, path, ctx, outcome)?;
+    outcome.mark_invalid();
+    Ok(())
 }
 
 /// What each branch shows that accepts; nothing is built for the others.

@@ -25,20 +25,19 @@ impl<'a, N: Evaluate<'a>> Evaluate<'a> for Dependencies<N> {
     ghost tree = { λ k. (dependencies_answers k).tree N.means N.tree };
 
     #[tactic(auto, using(olk_check::proofs::Asked::only_same))]
-    fn evaluate(
+    fn show(
         &'a self,
         alloc: Global,
         node: Node<'a>,
         path: &mut InstancePath,
         ctx: &mut ValidationContext,
-    ) -> Result<EvaluationResult<'a>, AllocError> {
-        match node.as_object() {
-            Some(members) => {
-                let children = due_children(alloc, &self.dependencies, members, node, path, ctx)?;
-                Ok(EvaluationResult::from_children(alloc, children))
-            }
-            None => Ok(EvaluationResult::valid_empty(alloc)),
+        outcome: &mut EvaluationResult<'a>,
+    ) -> Result<(), AllocError> {
+        if let Some(members) = node.as_object() {
+            let children = due_children(alloc, &self.dependencies, members, node, path, ctx)?;
+            outcome.take_children(children);
         }
+        Ok(())
     }
 }
 

@@ -1,15 +1,14 @@
 //! `oneOf`: what it shows.
-ghost use Rattle.std.specs.Prelude.{◌≡◌, ◌∷◌, [], false, None, IfOk};
-ghost use Rattle.olk_reports.specs.Evaluations.{shown, shown_of};
+ghost use Rattle.std.specs.Prelude.{◌≡◌, OnOk};
+ghost use Rattle.olk_reports.specs.Evaluations.{errored, shown_of};
 ghost use Rattle.olk_tree.specs.Shown.{several_accept};
-ghost use Rattle.olk_evaluate.specs.Wanted.{trees_of};
 
 use crate::Evaluate;
-use crate::any_of::accepting_children;
-use crate::walk::{child, each_child};
+use crate::any_of::{accepting_children, show_refusing};
+use crate::walk::show_one;
 use olk_base::{Node, ValidationContext};
 use olk_paths::InstancePath;
-use olk_reports::{ErrorDescription, EvaluationNode, EvaluationResult};
+use olk_reports::{ErrorDescription, EvaluationResult};
 use olk_tree::one_of::{OneOf, SingleOneOf};
 use std::alloc::{AllocError, Global};
 
@@ -20,37 +19,34 @@ impl<'a, N: Evaluate<'a>> Evaluate<'a> for OneOf<N> {
 
     ghost tree = { λ k. (one_of_answers k).tree N.means N.tree };
 
-    fn evaluate(
+    fn show(
         &'a self,
         alloc: Global,
         node: Node<'a>,
         path: &mut InstancePath,
         ctx: &mut ValidationContext,
-    ) -> Result<EvaluationResult<'a>, AllocError> {
+        outcome: &mut EvaluationResult<'a>,
+    ) -> Result<(), AllocError> {
         let accepting = accepting_children(alloc, &self.schemas, node, path, ctx)?;
         if accepting.is_empty() {
-            let children = each_child(alloc, &self.schemas, node, path, ctx)?;
-            return Ok(EvaluationResult::invalid_with(alloc, children));
+            return show_refusing(alloc, &self.schemas, node, path, ctx, outcome);
         }
-        if accepting.len() > 1 {
-            return with_several(alloc, accepting);
+        let are_several = accepting.len() > 1;
+        outcome.take_children(accepting);
+        if are_several {
+            return add_several(alloc, outcome);
         }
-        Ok(EvaluationResult::from_children(alloc, accepting))
+        Ok(())
     }
 }
 
-/// What several branches show that accept, and the error that there are several.
-fn with_several<'a>(
-    alloc: Global,
-    accepting: Vec<EvaluationNode<'a>>,
-) -> Result<EvaluationResult<'a>, AllocError>
-    ensures { IfOk result (λ r. shown_of r
-        ≡ shown false None (several_accept ∷ []) (trees_of accepting.entry.items)) }
+/// Adds the error that several branches accept.
+fn add_several(alloc: Global, outcome: &mut EvaluationResult<'_>) -> Result<(), AllocError>
+    ensures { OnOk result (shown_of outcome.new
+        ≡ errored several_accept (shown_of outcome.old)) }
 {
     let message = String::from_str(alloc, "more than one subschema succeeded")?;
-    let mut outcome = EvaluationResult::from_children(alloc, accepting);
-    outcome.mark_errored(ErrorDescription::new("oneOf", message))?;
-    Ok(outcome)
+    outcome.mark_errored(ErrorDescription::new("oneOf", message))
 }
 
 /// A child for the branch.
@@ -59,13 +55,14 @@ impl<'a, N: Evaluate<'a>> Evaluate<'a> for SingleOneOf<N> {
 
     ghost tree = { λ k. (single_one_of_answers k).tree N.means N.tree };
 
-    fn evaluate(
+    fn show(
         &'a self,
         alloc: Global,
         node: Node<'a>,
         path: &mut InstancePath,
         ctx: &mut ValidationContext,
-    ) -> Result<EvaluationResult<'a>, AllocError> {
-        EvaluationResult::from_node(alloc, child(alloc, &self.node, node, path, ctx)?)
+        outcome: &mut EvaluationResult<'a>,
+    ) -> Result<(), AllocError> {
+        show_one(alloc, &self.node, node, path, ctx, outcome)
     }
 }

@@ -24,21 +24,20 @@ impl<'a, R: RegexEngine, N: Evaluate<'a>> Evaluate<'a> for PatternProperties<R, 
     ghost tree = { λ k. (pattern_properties_answers R.answers R.costs k).tree N.means N.tree };
 
     #[tactic(auto, using(olk_check::proofs::Asked::only_same))]
-    fn evaluate(
+    fn show(
         &'a self,
         alloc: Global,
         node: Node<'a>,
         path: &mut InstancePath,
         ctx: &mut ValidationContext,
-    ) -> Result<EvaluationResult<'a>, AllocError> {
-        match node.as_object() {
-            Some(members) => {
-                let mut met: Met<'a> = Met::with_capacity(alloc, members.len())?;
-                meet_patterns(alloc, &self.patterns, members, path, ctx, &mut met)?;
-                Ok(met.outcome(alloc))
-            }
-            None => Ok(EvaluationResult::valid_empty(alloc)),
+        outcome: &mut EvaluationResult<'a>,
+    ) -> Result<(), AllocError> {
+        if let Some(members) = node.as_object() {
+            let mut met: Met<'a> = Met::with_capacity(alloc, members.len())?;
+            meet_patterns(alloc, &self.patterns, members, path, ctx, &mut met)?;
+            met.show(outcome);
         }
+        Ok(())
     }
 }
 
@@ -50,21 +49,20 @@ impl<'a, R: RegexEngine, N: Evaluate<'a>> Evaluate<'a> for SingleValuePatternPro
     ghost tree = { λ k. (single_pattern_properties_answers R.answers R.costs k).tree N.means N.tree };
 
     #[tactic(auto, using(olk_check::proofs::Asked::only_same))]
-    fn evaluate(
+    fn show(
         &'a self,
         alloc: Global,
         node: Node<'a>,
         path: &mut InstancePath,
         ctx: &mut ValidationContext,
-    ) -> Result<EvaluationResult<'a>, AllocError> {
-        match node.as_object() {
-            Some(members) => {
-                let mut met: Met<'a> = Met::with_capacity(alloc, members.len())?;
-                meet_matched(alloc, &self.regex, &self.node, members, path, ctx, &mut met)?;
-                Ok(met.outcome(alloc))
-            }
-            None => Ok(EvaluationResult::valid_empty(alloc)),
+        outcome: &mut EvaluationResult<'a>,
+    ) -> Result<(), AllocError> {
+        if let Some(members) = node.as_object() {
+            let mut met: Met<'a> = Met::with_capacity(alloc, members.len())?;
+            meet_matched(alloc, &self.regex, &self.node, members, path, ctx, &mut met)?;
+            met.show(outcome);
         }
+        Ok(())
     }
 }
 

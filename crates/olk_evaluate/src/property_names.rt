@@ -6,7 +6,7 @@ ghost use Rattle.olk_check.specs.Asks.{OnlyAsks};
 ghost use Rattle.olk_evaluate.specs.Wanted.{AreShown, names_wanted, trees_of};
 
 use crate::Evaluate;
-use crate::own::one_error;
+use crate::own::add_own_error;
 use crate::walk::add_child;
 use olk_base::{Node, ValidationContext};
 use olk_paths::InstancePath;
@@ -22,20 +22,19 @@ impl<'a, N: Evaluate<'a>> Evaluate<'a> for PropertyNames<N> {
     ghost tree = { λ k. (property_names_answers k).tree N.means N.tree };
 
     #[tactic(auto, using(olk_check::proofs::Asked::only_same))]
-    fn evaluate(
+    fn show(
         &'a self,
         alloc: Global,
         node: Node<'a>,
         path: &mut InstancePath,
         ctx: &mut ValidationContext,
-    ) -> Result<EvaluationResult<'a>, AllocError> {
-        match node.as_object() {
-            Some(members) => {
-                let children = name_children(alloc, &self.node, members, path, ctx)?;
-                Ok(EvaluationResult::from_children(alloc, children))
-            }
-            None => Ok(EvaluationResult::valid_empty(alloc)),
+        outcome: &mut EvaluationResult<'a>,
+    ) -> Result<(), AllocError> {
+        if let Some(members) = node.as_object() {
+            let children = name_children(alloc, &self.node, members, path, ctx)?;
+            outcome.take_children(children);
         }
+        Ok(())
     }
 }
 
@@ -46,21 +45,19 @@ impl<'a> Evaluate<'a> for PropertyNamesFalse {
     ghost tree = { λ k. (property_names_false_answers k).tree };
 
     #[tactic(auto, using(olk_check::proofs::Asked::only_same))]
-    fn evaluate(
+    fn show(
         &'a self,
         alloc: Global,
         node: Node<'a>,
         _path: &mut InstancePath,
         _ctx: &mut ValidationContext,
-    ) -> Result<EvaluationResult<'a>, AllocError> {
+        outcome: &mut EvaluationResult<'a>,
+    ) -> Result<(), AllocError> {
         match node.as_object() {
-            Some(members) => {
-                if members.is_empty() {
-                    return Ok(EvaluationResult::valid_empty(alloc));
-                }
-                one_error(alloc, ValidationErrorKind::FalseSchema, node)
+            Some(members) if !members.is_empty() => {
+                add_own_error(alloc, outcome, ValidationErrorKind::FalseSchema, node)
             }
-            None => Ok(EvaluationResult::valid_empty(alloc)),
+            _ => Ok(()),
         }
     }
 }

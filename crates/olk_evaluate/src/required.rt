@@ -6,13 +6,13 @@ ghost use Rattle.olk_spec.specs.Faults.{Fault, fault, Required};
 ghost use Rattle.olk_spec.specs.Schemas.{has};
 ghost use Rattle.olk_spec.specs.Accepts.{missing};
 ghost use Rattle.olk_spec.specs.Reports.{fault_if, required_faults};
-ghost use Rattle.olk_reports.specs.Evaluations.{shown_of};
+ghost use Rattle.olk_reports.specs.Evaluations.{nothing_shown, shown_of};
 ghost use Rattle.olk_tree.specs.Maps.{texts_of};
 ghost use Rattle.olk_tree.specs.Visited.{object_of};
 ghost use Rattle.olk_evaluate.specs.Wanted.{HasErrors, AreShown, refused, lacking_trees, trees_of};
 
 use crate::Evaluate;
-use crate::own::{add_own_error, one_error};
+use crate::own::add_own_error;
 use olk_base::{Node, ValidationContext};
 use olk_members::has_member;
 use olk_paths::InstancePath;
@@ -29,50 +29,54 @@ impl<'a> Evaluate<'a> for RequiredValidator {
     ghost tree = { λ k. (required_answers k).tree };
 
     #[tactic(auto, using(olk_check::proofs::Asked::only_same))]
-    fn evaluate(
+    fn show(
         &'a self,
         alloc: Global,
         node: Node<'a>,
         _path: &mut InstancePath,
         _ctx: &mut ValidationContext,
-    ) -> Result<EvaluationResult<'a>, AllocError> {
-        missing_errors(alloc, self, node)
+        outcome: &mut EvaluationResult<'a>,
+    ) -> Result<(), AllocError> {
+        add_missing(alloc, outcome, self, node)
     }
 }
 
-/// The result with an error for each of the names that the value lacks.
-pub(crate) fn missing_errors<'a>(
+/// Adds an error for each of the names that the value lacks.
+pub(crate) fn add_missing<'a>(
     alloc: Global,
+    outcome: &mut EvaluationResult<'a>,
     required: &'a RequiredValidator,
     node: Node<'a>,
-) -> Result<EvaluationResult<'a>, AllocError>
-    ensures { IfOk result (λ r. (P Q : Path) → HasErrors
+) -> Result<(), AllocError>
+    requires { shown_of outcome.old ≡ nothing_shown }
+    ensures { OnOk result ((P Q : Path) → HasErrors
         (required_faults (texts_of required.now.required.items) (data_of node.entry) P Q)
-        (shown_of r)) }
+        (shown_of outcome.new)) }
 {
     match node.as_object() {
-        Some(members) => result_of_required(alloc, &required.required, members, node),
-        None => Ok(EvaluationResult::valid_empty(alloc)),
+        Some(members) => add_each_missing(alloc, outcome, &required.required, members, node),
+        None => Ok(()),
     }
 }
 
-/// The result with an error for each of the names that is no member.
-fn result_of_required<'a>(
+/// Adds an error for each of the names that is no member.
+fn add_each_missing<'a>(
     alloc: Global,
+    outcome: &mut EvaluationResult<'a>,
     names: &'a Vec<String>,
     members: &Map<String, Value>,
     node: Node<'a>,
-) -> Result<EvaluationResult<'a>, AllocError>
-    ensures { IfOk result (λ r. (P Q : Path) → HasErrors
+) -> Result<(), AllocError>
+    requires { shown_of outcome.old ≡ nothing_shown }
+    ensures { OnOk result ((P Q : Path) → HasErrors
         (map (λ n. fault (Required n) (data_of node.entry) Q P)
         (missing (texts_of names.now.items) (object_of members.now.entries)))
-        (shown_of r)) }
+        (shown_of outcome.new)) }
 {
-    let mut outcome = EvaluationResult::valid_empty(alloc);
     for name in names {
-        add_error_if_missing(alloc, &mut outcome, name.as_str(), members, node)?;
+        add_error_if_missing(alloc, outcome, name.as_str(), members, node)?;
     }
-    Ok(outcome)
+    Ok(())
 }
 
 /// Adds an error where the name is no member.
@@ -108,23 +112,23 @@ fn lacks_either(members: &Map<String, Value>, first: &str, second: &str) -> bool
     !has_member(members, second)
 }
 
-/// The result with an error for each of two names that is no member.
-fn result_of_two_required<'a>(
+/// Adds an error for each of two names that is no member.
+fn add_missing_of_two<'a>(
     alloc: Global,
+    outcome: &mut EvaluationResult<'a>,
     first: &'a str,
     second: &'a str,
     members: &Map<String, Value>,
     node: Node<'a>,
-) -> Result<EvaluationResult<'a>, AllocError>
-    ensures { IfOk result (λ r. (P Q : Path) → HasErrors
+) -> Result<(), AllocError>
+    requires { shown_of outcome.old ≡ nothing_shown }
+    ensures { OnOk result ((P Q : Path) → HasErrors
         (map (λ n. fault (Required n) (data_of node.entry) Q P)
         (missing (first.now ∷ second.now ∷ []) (object_of members.now.entries)))
-        (shown_of r)) }
+        (shown_of outcome.new)) }
 {
-    let mut outcome = EvaluationResult::valid_empty(alloc);
-    add_error_if_missing(alloc, &mut outcome, first, members, node)?;
-    add_error_if_missing(alloc, &mut outcome, second, members, node)?;
-    Ok(outcome)
+    add_error_if_missing(alloc, outcome, first, members, node)?;
+    add_error_if_missing(alloc, outcome, second, members, node)
 }
 
 /// A child at the place of `required`, where one of the names is no member.
@@ -145,8 +149,8 @@ pub(crate) fn missing_child<'a>(
     if !lacks_either(members, first, second) {
         return Ok(None);
     }
-    let outcome = result_of_two_required(alloc, first, second, members, node)?;
-    let child = EvaluationNode::at(alloc, location, path, outcome)?;
+    let mut child = EvaluationNode::at(alloc, location, path)?;
+    add_missing_of_two(alloc, child.result_mut(), first, second, members, node)?;
     Ok(Some(child))
 }
 
@@ -168,7 +172,7 @@ pub(crate) fn missing_name_child<'a>(
         return Ok(None);
     }
     let kind = ValidationErrorKind::Required { property: name };
-    let outcome = one_error(alloc, kind, node)?;
-    let child = EvaluationNode::at(alloc, location, path, outcome)?;
+    let mut child = EvaluationNode::at(alloc, location, path)?;
+    add_own_error(alloc, child.result_mut(), kind, node)?;
     Ok(Some(child))
 }

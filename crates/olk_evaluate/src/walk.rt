@@ -1,14 +1,14 @@
 //! What the nodes of a keyword show.
-ghost use Rattle.std.specs.Prelude.{◌≡◌, IfOk, OnOk};
+ghost use Rattle.std.specs.Prelude.{◌≡◌, ◌∷◌, [], IfOk, OnOk};
 ghost use Rattle.olk_base.specs.Nodes.{data_of};
 ghost use Rattle.olk_check.specs.Asks.{OnlyAsks};
-ghost use Rattle.olk_reports.specs.Evaluations.{tree_of};
-ghost use Rattle.olk_evaluate.specs.Wanted.{IsShown, AreShown, ShowsMore, wanted, each_wanted, trees_of};
+ghost use Rattle.olk_reports.specs.Evaluations.{nothing_shown, shown_of, tree_of};
+ghost use Rattle.olk_evaluate.specs.Wanted.{IsShown, AreShown, ShowsEach, ShowsMore, wanted, each_wanted, trees_of};
 
 use crate::Evaluate;
 use olk_base::{Node, ValidationContext};
 use olk_paths::InstancePath;
-use olk_reports::EvaluationNode;
+use olk_reports::{EvaluationNode, EvaluationResult};
 use std::alloc::{AllocError, Global};
 
 /// What one node shows, at its place and at the path.
@@ -29,8 +29,9 @@ pub fn child<'a, N: Evaluate<'a>>(
     ensures path { path.new ≡ path.old }
     ensures context { OnlyAsks ctx.old ctx.new }
 {
-    let outcome = schema.evaluate(alloc, node, path, ctx)?;
-    EvaluationNode::at(alloc, schema.location(), path, outcome)
+    let mut made = EvaluationNode::at(alloc, schema.location(), path)?;
+    schema.show(alloc, node, path, ctx, made.result_mut())?;
+    Ok(made)
 }
 
 /// One child more: what the node shows.
@@ -49,7 +50,48 @@ pub(crate) fn add_child<'a, N: Evaluate<'a>>(
     ensures path { path.new ≡ path.old }
     ensures context { OnlyAsks ctx.old ctx.new }
 {
-    children.push(child(alloc, schema, node, path, ctx)?)?;
+    let made = EvaluationNode::at(alloc, schema.location(), path)?;
+    let child = children.push_mut(made)?;
+    schema.show(alloc, node, path, ctx, child.result_mut())
+}
+
+/// What each of them shows, below a result that shows nothing yet.
+pub(crate) fn show_each<'a, N: Evaluate<'a>>(
+    alloc: Global,
+    schemas: &'a Vec<N>,
+    node: Node<'a>,
+    path: &mut InstancePath,
+    ctx: &mut ValidationContext,
+    outcome: &mut EvaluationResult<'a>,
+) -> Result<(), AllocError>
+    requires { shown_of outcome.old ≡ nothing_shown }
+    ensures shown { OnOk result (ShowsEach N.tree N.means ctx.old.answer
+        schemas.now.items (data_of node.entry) path.old (shown_of outcome.new)) }
+    ensures path { path.new ≡ path.old }
+    ensures context { OnlyAsks ctx.old ctx.new }
+{
+    outcome.take_children(each_child(alloc, schemas, node, path, ctx)?);
+    Ok(())
+}
+
+/// What the one shows, below a result that shows nothing yet.
+pub(crate) fn show_one<'a, N: Evaluate<'a>>(
+    alloc: Global,
+    schema: &'a N,
+    node: Node<'a>,
+    path: &mut InstancePath,
+    ctx: &mut ValidationContext,
+    outcome: &mut EvaluationResult<'a>,
+) -> Result<(), AllocError>
+    requires { shown_of outcome.old ≡ nothing_shown }
+    ensures shown { OnOk result (ShowsEach N.tree N.means ctx.old.answer
+        (schema.now ∷ []) (data_of node.entry) path.old (shown_of outcome.new)) }
+    ensures path { path.new ≡ path.old }
+    ensures context { OnlyAsks ctx.old ctx.new }
+{
+    let mut children = Vec::with_capacity(alloc, 1)?;
+    add_child(alloc, schema, node, path, ctx, &mut children)?;
+    outcome.take_children(children);
     Ok(())
 }
 

@@ -1,7 +1,8 @@
 -- The tree that an evaluation node stands for.
-use Rattle.std.specs.Prelude.{Bool, false, Option, Some, None, List, [], ◌∷◌, ◌++◌, map, option_map, string_bytes}
+use Rattle.std.specs.Prelude.{Bool, true, false, ◌&&◌, Option, Some, None, List, [], ◌∷◌, ◌++◌, map, option_map, string_bytes}
+use Rattle.std.specs.List.{list_all}
 use Rattle.olk_spec.specs.Names.{Name, Path}
-use Rattle.olk_spec.specs.Tree.{Tree, node, leaf_node, Trees, no_tree, and_tree, Described, trees_from, result_node}
+use Rattle.olk_spec.specs.Tree.{Tree, node, leaf_node, Trees, no_tree, and_tree, Described, trees_from, result_node, is_valid}
 use Rattle.olk_reports.specs.declared.evaluation.ErrorDescription.{ErrorDescription}
 use Rattle.olk_reports.specs.declared.evaluation.EvaluationNode.{EvaluationNode}
 use Rattle.olk_reports.specs.declared.evaluation.EvaluationResult.{EvaluationResult}
@@ -12,11 +13,22 @@ use Rattle.olk_reports.specs.declared.evaluation.EvaluationNode.TheFolds.{fold-E
 pub data Shown : Type 0 where
   shown : Bool → Option (List Name) → List Described → List Tree → Shown
 
+-- what it has while it shows nothing
+abbrev pub nothing_shown : Shown
+nothing_shown = shown true None [] []
+
 abbrev pub annotated : List Name → Shown → Shown
 annotated ns (shown b a es ts) = shown b (Some ns) es ts
 
 abbrev pub errored : Described → Shown → Shown
 errored e (shown b a es ts) = shown false a (es ++ e ∷ []) ts
+
+-- over these nodes, and invalid where one of them is
+abbrev pub with_children : List Tree → Shown → Shown
+with_children ts (shown b a es us) = shown (b && list_all is_valid ts) a es ts
+
+abbrev pub called_invalid : Shown → Shown
+called_invalid (shown b a es ts) = shown false a es ts
 
 -- an invalid one shows no annotation
 abbrev pub node_at : Path → Path → Shown → Tree

@@ -2,3 +2,4 @@ pub mod Errors
 pub mod Messages
 pub mod Evaluations
 pub mod Entries
+pub mod Lending
