@@ -18,7 +18,7 @@ use crate::own::own_error;
 use crate::required::missing_name_child;
 use olk_base::{Node, RegexEngine, ValidationContext};
 use olk_members::law_of_names;
-use olk_paths::InstancePath;
+use olk_paths::{InstancePath, PathText};
 use olk_reports::{EvaluationNode, EvaluationResult, ValidationErrorKind};
 use olk_tree::additional_properties::{AdditionalProperties, RequiredName};
 use serde_json::{Map, Value};
@@ -37,6 +37,7 @@ impl<'a, R: RegexEngine, N: Evaluate<'a>> Evaluate<'a> for AdditionalProperties<
 
     ghost tree = { λ k. (additional_properties_answers R.answers R.costs k).tree N.means N.tree };
 
+    #[inline(never)]
     #[tactic(auto, using(olk_check::proofs::Asked::only_same))]
     fn show(
         &'a self,
@@ -99,7 +100,8 @@ fn matches_child<'a>(
     if matched.is_empty() {
         return Ok(None);
     }
-    let mut child = EvaluationNode::at(alloc, location, path)?;
+    let text = PathText::from_str(alloc, path.as_str())?;
+    let mut child = EvaluationNode::at(alloc, location, text);
     child.result_mut().annotate(matched);
     Ok(Some(child))
 }

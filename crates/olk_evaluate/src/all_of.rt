@@ -13,6 +13,7 @@ impl<'a, N: Evaluate<'a>> Evaluate<'a> for AllOf<N> {
 
     ghost tree = { λ k. (all_of_answers k).tree N.means N.tree };
 
+    #[inline(never)]
     fn show(
         &'a self,
         alloc: Global,
@@ -31,6 +32,7 @@ impl<'a, N: Evaluate<'a>> Evaluate<'a> for SingleValueAllOf<N> {
 
     ghost tree = { λ k. (single_all_of_answers k).tree N.means N.tree };
 
+    #[inline(never)]
     fn show(
         &'a self,
         alloc: Global,

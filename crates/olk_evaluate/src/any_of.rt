@@ -21,6 +21,7 @@ impl<'a, N: Evaluate<'a>> Evaluate<'a> for AnyOf<N> {
 
     ghost tree = { λ k. (any_of_answers k).tree N.means N.tree };
 
+    #[inline(never)]
     fn show(
         &'a self,
         alloc: Global,
@@ -44,6 +45,7 @@ impl<'a, N: Evaluate<'a>> Evaluate<'a> for SingleAnyOf<N> {
 
     ghost tree = { λ k. (single_any_of_answers k).tree N.means N.tree };
 
+    #[inline(never)]
     fn show(
         &'a self,
         alloc: Global,

@@ -24,6 +24,7 @@ impl<'a, N: Evaluate<'a>> Evaluate<'a> for Dependencies<N> {
 
     ghost tree = { λ k. (dependencies_answers k).tree N.means N.tree };
 
+    #[inline(never)]
     #[tactic(auto, using(olk_check::proofs::Asked::only_same))]
     fn show(
         &'a self,

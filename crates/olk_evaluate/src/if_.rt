@@ -20,6 +20,7 @@ impl<'a, N: Evaluate<'a>> Evaluate<'a> for IfThen<N> {
 
     ghost tree = { λ k. (if_then_answers k).tree N.means N.tree };
 
+    #[inline(never)]
     fn show(
         &'a self,
         alloc: Global,
@@ -41,6 +42,7 @@ impl<'a, N: Evaluate<'a>> Evaluate<'a> for IfElse<N> {
 
     ghost tree = { λ k. (if_else_answers k).tree N.means N.tree };
 
+    #[inline(never)]
     fn show(
         &'a self,
         alloc: Global,
@@ -64,6 +66,7 @@ impl<'a, N: Evaluate<'a>> Evaluate<'a> for IfThenElse<N> {
 
     ghost tree = { λ k. (if_then_else_answers k).tree N.means N.tree };
 
+    #[inline(never)]
     fn show(
         &'a self,
         alloc: Global,

@@ -15,6 +15,7 @@ impl<'a, N: Evaluate<'a>> Evaluate<'a> for Not<N> {
 
     ghost tree = { λ k. (not_answers k).tree N.means N.tree };
 
+    #[inline(never)]
     fn show(
         &'a self,
         alloc: Global,

@@ -19,6 +19,7 @@ impl<'a, N: Evaluate<'a>> Evaluate<'a> for OneOf<N> {
 
     ghost tree = { λ k. (one_of_answers k).tree N.means N.tree };
 
+    #[inline(never)]
     fn show(
         &'a self,
         alloc: Global,
@@ -55,6 +56,7 @@ impl<'a, N: Evaluate<'a>> Evaluate<'a> for SingleOneOf<N> {
 
     ghost tree = { λ k. (single_one_of_answers k).tree N.means N.tree };
 
+    #[inline(never)]
     fn show(
         &'a self,
         alloc: Global,

@@ -23,6 +23,7 @@ impl<'a, R: RegexEngine, N: Evaluate<'a>> Evaluate<'a> for PatternProperties<R, 
 
     ghost tree = { λ k. (pattern_properties_answers R.answers R.costs k).tree N.means N.tree };
 
+    #[inline(never)]
     #[tactic(auto, using(olk_check::proofs::Asked::only_same))]
     fn show(
         &'a self,
@@ -48,6 +49,7 @@ impl<'a, R: RegexEngine, N: Evaluate<'a>> Evaluate<'a> for SingleValuePatternPro
 
     ghost tree = { λ k. (single_pattern_properties_answers R.answers R.costs k).tree N.means N.tree };
 
+    #[inline(never)]
     #[tactic(auto, using(olk_check::proofs::Asked::only_same))]
     fn show(
         &'a self,

@@ -30,6 +30,7 @@ impl<'a, N: Evaluate<'a>> Evaluate<'a> for Properties<N> {
 
     ghost tree = { λ k. (properties_answers k).tree N.means N.tree };
 
+    #[inline(never)]
     #[tactic(auto, using(olk_check::proofs::Asked::only_same))]
     fn show(
         &'a self,
@@ -54,6 +55,7 @@ impl<'a, N: Evaluate<'a>> Evaluate<'a> for SmallPropertiesWithRequired2<N> {
 
     ghost tree = { λ k. (properties_with_required2_answers k).tree N.means N.tree };
 
+    #[inline(never)]
     #[tactic(auto, using(olk_check::proofs::Asked::only_same))]
     fn show(
         &'a self,

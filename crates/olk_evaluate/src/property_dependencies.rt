@@ -25,6 +25,7 @@ impl<'a, N: Evaluate<'a>> Evaluate<'a> for PropertyDependencies<N> {
 
     ghost tree = { λ k. (property_dependencies_answers k).tree N.means N.tree };
 
+    #[inline(never)]
     #[tactic(auto, using(olk_check::proofs::Asked::only_same))]
     fn show(
         &'a self,

@@ -21,6 +21,7 @@ impl<'a, N: Evaluate<'a>> Evaluate<'a> for PropertyNames<N> {
 
     ghost tree = { λ k. (property_names_answers k).tree N.means N.tree };
 
+    #[inline(never)]
     #[tactic(auto, using(olk_check::proofs::Asked::only_same))]
     fn show(
         &'a self,
@@ -44,6 +45,7 @@ impl<'a> Evaluate<'a> for PropertyNamesFalse {
 
     ghost tree = { λ k. (property_names_false_answers k).tree };
 
+    #[inline(never)]
     #[tactic(auto, using(olk_check::proofs::Asked::only_same))]
     fn show(
         &'a self,

@@ -15,7 +15,7 @@ use crate::Evaluate;
 use crate::own::add_own_error;
 use olk_base::{Node, ValidationContext};
 use olk_members::has_member;
-use olk_paths::InstancePath;
+use olk_paths::{InstancePath, PathText};
 use olk_reports::{EvaluationNode, EvaluationResult, ValidationErrorKind};
 use olk_tree::required::RequiredValidator;
 use serde_json::{Map, Value};
@@ -28,6 +28,7 @@ impl<'a> Evaluate<'a> for RequiredValidator {
 
     ghost tree = { λ k. (required_answers k).tree };
 
+    #[inline(never)]
     #[tactic(auto, using(olk_check::proofs::Asked::only_same))]
     fn show(
         &'a self,
@@ -149,7 +150,8 @@ pub(crate) fn missing_child<'a>(
     if !lacks_either(members, first, second) {
         return Ok(None);
     }
-    let mut child = EvaluationNode::at(alloc, location, path)?;
+    let text = PathText::from_str(alloc, path.as_str())?;
+    let mut child = EvaluationNode::at(alloc, location, text);
     add_missing_of_two(alloc, child.result_mut(), first, second, members, node)?;
     Ok(Some(child))
 }
@@ -172,7 +174,8 @@ pub(crate) fn missing_name_child<'a>(
         return Ok(None);
     }
     let kind = ValidationErrorKind::Required { property: name };
-    let mut child = EvaluationNode::at(alloc, location, path)?;
+    let text = PathText::from_str(alloc, path.as_str())?;
+    let mut child = EvaluationNode::at(alloc, location, text);
     add_own_error(alloc, child.result_mut(), kind, node)?;
     Ok(Some(child))
 }

@@ -7,7 +7,7 @@ ghost use Rattle.olk_evaluate.specs.Wanted.{IsShown, AreShown, ShowsEach, ShowsM
 
 use crate::Evaluate;
 use olk_base::{Node, ValidationContext};
-use olk_paths::InstancePath;
+use olk_paths::{InstancePath, PathText};
 use olk_reports::{EvaluationNode, EvaluationResult};
 use std::alloc::{AllocError, Global};
 
@@ -29,7 +29,8 @@ pub fn child<'a, N: Evaluate<'a>>(
     ensures path { path.new ≡ path.old }
     ensures context { OnlyAsks ctx.old ctx.new }
 {
-    let mut made = EvaluationNode::at(alloc, schema.location(), path)?;
+    let text = PathText::from_str(alloc, path.as_str())?;
+    let mut made = EvaluationNode::at(alloc, schema.location(), text);
     schema.show(alloc, node, path, ctx, made.result_mut())?;
     Ok(made)
 }
@@ -50,9 +51,11 @@ pub(crate) fn add_child<'a, N: Evaluate<'a>>(
     ensures path { path.new ≡ path.old }
     ensures context { OnlyAsks ctx.old ctx.new }
 {
-    let made = EvaluationNode::at(alloc, schema.location(), path)?;
-    let child = children.push_mut(made)?;
-    schema.show(alloc, node, path, ctx, child.result_mut())
+    let text = PathText::from_str(alloc, path.as_str())?;
+    let last = children.len();
+    children.reserve(1)?;
+    children.push_reserved(EvaluationNode::at(alloc, schema.location(), text));
+    schema.show(alloc, node, path, ctx, children[last].result_mut())
 }
 
 /// What each of them shows, below a result that shows nothing yet.

@@ -4,7 +4,7 @@ ghost use Rattle.olk_spec.specs.Tree.{trees_from, errors, annotations, is_valid,
 ghost use Rattle.std.specs.List.{list_all};
 ghost use Rattle.olk_reports.specs.Evaluations.{tree_of};
 
-use olk_paths::{InstancePath, PathText};
+use olk_paths::PathText;
 use std::alloc::{AllocError, Global};
 
 /// An error as an evaluation shows it: the keyword and the message.
@@ -141,24 +141,16 @@ impl<'a> EvaluationNode<'a> {
         }
     }
 
-    /// Nothing yet at these places, with a text of its own of the path.
-    ///
-    /// Without memory there is none; for a short path none is needed.
+    /// Nothing yet at these places.
     #[inline(always)]
-    pub fn at(
-        alloc: Global,
-        schema_path: &'a str,
-        path: &InstancePath,
-    ) -> Result<Self, AllocError>
-        ensures { IfOk result (λ n. tree_of n
-            ≡ node_at schema_path.now path.now nothing_shown) }
+    pub fn at(alloc: Global, schema_path: &'a str, instance_path: PathText) -> Self
+        ensures { tree_of result ≡ node_at schema_path.now instance_path.entry nothing_shown }
     {
-        let instance_path = PathText::from_str(alloc, path.as_str())?;
-        Ok(EvaluationNode {
+        EvaluationNode {
             schema_path,
             instance_path,
             result: EvaluationResult::valid_empty(alloc),
-        })
+        }
     }
 
     /// The result, to be written to.
