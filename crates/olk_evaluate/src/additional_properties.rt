@@ -102,7 +102,7 @@ fn matches_child<'a>(
     }
     let text = PathText::from_str(alloc, path.as_str())?;
     let mut child = EvaluationNode::at(alloc, location, text);
-    child.result_mut().annotate(matched);
+    child.result.annotate(matched);
     Ok(Some(child))
 }
 

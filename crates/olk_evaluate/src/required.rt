@@ -152,7 +152,7 @@ pub(crate) fn missing_child<'a>(
     }
     let text = PathText::from_str(alloc, path.as_str())?;
     let mut child = EvaluationNode::at(alloc, location, text);
-    add_missing_of_two(alloc, child.result_mut(), first, second, members, node)?;
+    add_missing_of_two(alloc, &mut child.result, first, second, members, node)?;
     Ok(Some(child))
 }
 
@@ -176,6 +176,6 @@ pub(crate) fn missing_name_child<'a>(
     let kind = ValidationErrorKind::Required { property: name };
     let text = PathText::from_str(alloc, path.as_str())?;
     let mut child = EvaluationNode::at(alloc, location, text);
-    add_own_error(alloc, child.result_mut(), kind, node)?;
+    add_own_error(alloc, &mut child.result, kind, node)?;
     Ok(Some(child))
 }

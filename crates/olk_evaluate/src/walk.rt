@@ -31,7 +31,7 @@ pub fn child<'a, N: Evaluate<'a>>(
 {
     let text = PathText::from_str(alloc, path.as_str())?;
     let mut made = EvaluationNode::at(alloc, schema.location(), text);
-    schema.show(alloc, node, path, ctx, made.result_mut())?;
+    schema.show(alloc, node, path, ctx, &mut made.result)?;
     Ok(made)
 }
 
@@ -55,7 +55,7 @@ pub(crate) fn add_child<'a, N: Evaluate<'a>>(
     let last = children.len();
     children.reserve(1)?;
     children.push_reserved(EvaluationNode::at(alloc, schema.location(), text));
-    schema.show(alloc, node, path, ctx, children[last].result_mut())
+    schema.show(alloc, node, path, ctx, &mut children[last].result)
 }
 
 /// What each of them shows, below a result that shows nothing yet.

@@ -4,7 +4,7 @@ use Rattle.std.specs.List.{list_all}
 use Rattle.olk_spec.specs.Names.{Name, Path}
 use Rattle.olk_spec.specs.Tree.{Tree, node, leaf_node, Trees, no_tree, and_tree, Described, trees_from, result_node, is_valid}
 use Rattle.olk_reports.specs.declared.evaluation.ErrorDescription.{ErrorDescription}
-use Rattle.olk_reports.specs.declared.evaluation.EvaluationNode.{EvaluationNode}
+use Rattle.olk_reports.specs.declared.evaluation.EvaluationNode.{EvaluationNode, out-EvaluationNode, roll-EvaluationNode}
 use Rattle.olk_reports.specs.declared.evaluation.EvaluationResult.{EvaluationResult}
 use Rattle.olk_reports.specs.declared.evaluation.EvaluationNode.TheOpen.{EvaluationResult-F, EvaluationNode-F}
 use Rattle.olk_reports.specs.declared.evaluation.EvaluationNode.TheFolds.{fold-EvaluationResult, fold-EvaluationNode}
@@ -49,6 +49,14 @@ shown_of = fold-EvaluationResult Tree Shown node_step result_step
 
 abbrev pub tree_of : EvaluationNode → Tree
 tree_of = fold-EvaluationNode Tree Shown node_step result_step
+
+-- what is shown at a node's places
+abbrev pub result_of : EvaluationNode → EvaluationResult
+result_of n = (out-EvaluationNode n).result
+
+-- the node with another result
+abbrev pub with_result : EvaluationNode → EvaluationResult → EvaluationNode
+with_result n r = roll-EvaluationNode record (out-EvaluationNode n) { result = r }
 
 -- the parts of a tree
 abbrev pub tree_schema_path : Tree → Path

@@ -2,4 +2,3 @@ pub mod Errors
 pub mod Messages
 pub mod Evaluations
 pub mod Entries
-pub mod Lending

@@ -55,7 +55,8 @@ pub struct EvaluationResult<'a> {
 pub struct EvaluationNode<'a> {
     schema_path: &'a str,
     instance_path: PathText,
-    pub(crate) result: EvaluationResult<'a>,
+    /// What is shown there.
+    pub result: EvaluationResult<'a>,
 }
 
 // By hand, so that the crates above drop a node by one call.
@@ -125,9 +126,8 @@ impl<'a> EvaluationResult<'a> {
 }
 
 impl<'a> EvaluationNode<'a> {
-    ghost use Rattle.std.specs.Borrow.{sem};
-    ghost use Rattle.olk_reports.specs.Lending.{LendsResult};
-    ghost use Rattle.olk_reports.specs.Evaluations.{shown_of, tree_of, described_of, node_at, nothing_shown, tree_schema_path, tree_instance_path, tree_annotation, tree_errors, tree_children};
+    ghost use Rattle.olk_reports.specs.declared.evaluation.EvaluationResult.{EvaluationResult};
+    ghost use Rattle.olk_reports.specs.Evaluations.{shown_of, tree_of, described_of, node_at, nothing_shown, result_of, with_result, tree_schema_path, tree_instance_path, tree_annotation, tree_errors, tree_children};
 
     /// The result at these places.
     pub fn new(schema_path: &'a str, instance_path: String, outcome: EvaluationResult<'a>) -> Self
@@ -141,25 +141,18 @@ impl<'a> EvaluationNode<'a> {
         }
     }
 
-    /// Nothing yet at these places.
+    /// Nothing yet at these places, to which its result is written then.
     #[inline(always)]
     pub fn at(alloc: Global, schema_path: &'a str, instance_path: PathText) -> Self
-        ensures { tree_of result ≡ node_at schema_path.now instance_path.entry nothing_shown }
+        ensures empty { shown_of (result_of result) ≡ nothing_shown }
+        ensures places { (r : EvaluationResult) → tree_of (with_result result r)
+            ≡ node_at schema_path.now instance_path (shown_of r) }
     {
         EvaluationNode {
             schema_path,
             instance_path,
             result: EvaluationResult::valid_empty(alloc),
         }
-    }
-
-    /// The result, to be written to.
-    #[inline(always)]
-    pub fn result_mut(&mut self) -> &mut EvaluationResult<'a>
-        ensures* writes_back { sem 𝓛 (LendsResult self.entry result) }
-        ensures value { tree_of self.old ≡ node_at (tree_schema_path (tree_of self.old)) (tree_instance_path (tree_of self.old)) (shown_of result.now) }
-    {
-        &mut self.result
     }
 
     /// Whether the value is valid here.
