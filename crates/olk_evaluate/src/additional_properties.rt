@@ -47,22 +47,24 @@ impl<'a, R: RegexEngine, N: Evaluate<'a>> Evaluate<'a> for AdditionalProperties<
         ctx: &mut ValidationContext,
         outcome: &mut EvaluationResult<'a>,
     ) -> Result<(), AllocError> {
-        if let Some(members) = node.as_object() {
-            law_of_names(members);
-            let collected = collect(alloc, self, members, path, ctx)?;
-            let children = with_places(
-                alloc,
-                self,
-                collected.children,
-                collected.matched,
-                members,
-                node,
-                path,
-            )?;
-            outcome.take_children(children);
-            complete(alloc, self, outcome, collected.additional, members, node)?;
+        match node.as_object() {
+            Some(members) => {
+                law_of_names(members);
+                let collected = collect(alloc, self, members, path, ctx)?;
+                let children = with_places(
+                    alloc,
+                    self,
+                    collected.children,
+                    collected.matched,
+                    members,
+                    node,
+                    path,
+                )?;
+                outcome.take_children(children);
+                complete(alloc, self, outcome, collected.additional, members, node)
+            }
+            None => Ok(()),
         }
-        Ok(())
     }
 }
 
@@ -101,7 +103,7 @@ fn matches_child<'a>(
         return Ok(None);
     }
     let text = PathText::from_str(alloc, path.as_str())?;
-    let mut child = EvaluationNode::at(alloc, location, text);
+    let mut child: EvaluationNode<'a> = EvaluationNode::at(alloc, location, text);
     child.result.annotate(matched);
     Ok(Some(child))
 }
@@ -229,7 +231,7 @@ fn add_named<'a>(
     if unexpected.is_empty() {
         return Ok(());
     }
-    let kind = ValidationErrorKind::AdditionalProperties { unexpected };
+    let kind: ValidationErrorKind<'a> = ValidationErrorKind::AdditionalProperties { unexpected };
     outcome.mark_errored(own_error(alloc, kind, node)?)
 }
 
@@ -245,7 +247,7 @@ fn add_first<'a>(
 {
     match members.iter().next() {
         Some((_, value)) => {
-            let kind = ValidationErrorKind::FalseSchema;
+            let kind: ValidationErrorKind<'a> = ValidationErrorKind::FalseSchema;
             outcome.mark_errored(own_error(alloc, kind, Node::Value(value))?)
         }
         None => Ok(()),

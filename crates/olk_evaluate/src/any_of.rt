@@ -6,7 +6,7 @@ ghost use Rattle.olk_check.specs.Asks.{OnlyAsks};
 ghost use Rattle.olk_evaluate.specs.Wanted.{AreShown, each_wanted, trees_of};
 
 use crate::Evaluate;
-use crate::walk::{add_child, show_each, show_one};
+use crate::walk::{add_child, each_child, show_one};
 use olk_base::{Node, ValidationContext};
 use olk_check::IsValid;
 use olk_paths::InstancePath;
@@ -32,7 +32,10 @@ impl<'a, N: Evaluate<'a>> Evaluate<'a> for AnyOf<N> {
     ) -> Result<(), AllocError> {
         let accepting = accepting_children(alloc, &self.schemas, node, path, ctx)?;
         if accepting.is_empty() {
-            return show_refusing(alloc, &self.schemas, node, path, ctx, outcome);
+            let children = each_child(alloc, &self.schemas, node, path, ctx)?;
+            outcome.take_children(children);
+            outcome.mark_invalid();
+            return Ok(());
         }
         outcome.take_children(accepting);
         Ok(())
@@ -58,21 +61,6 @@ impl<'a, N: Evaluate<'a>> Evaluate<'a> for SingleAnyOf<N> {
     }
 }
 
-/// What each branch shows, where none accepts.
-pub(crate) fn show_refusing<'a, N: Evaluate<'a>>(
-    alloc: Global,
-    schemas: &'a Vec<N>,
-    node: Node<'a>,
-    path: &mut InstancePath,
-    ctx: &mut ValidationContext,
-    outcome: &mut EvaluationResult<'a>,
-) -> Result<(), AllocError>
-{
-    show_each(alloc, schemas, node, path, ctx, outcome)?;
-    outcome.mark_invalid();
-    Ok(())
-}
-
 /// What each branch shows that accepts; nothing is built for the others.
 pub(crate) fn accepting_children<'a, N: Evaluate<'a>>(
     alloc: Global,
@@ -88,7 +76,7 @@ pub(crate) fn accepting_children<'a, N: Evaluate<'a>>(
     ensures path { path.new ≡ path.old }
     ensures context { OnlyAsks ctx.old ctx.new }
 {
-    let mut children = Vec::new(alloc);
+    let mut children: Vec<EvaluationNode<'a>> = Vec::new(alloc);
     for schema in schemas {
         if schema.is_valid(node, ctx) {
             add_child(alloc, schema, node, path, ctx, &mut children)?;

@@ -34,11 +34,14 @@ impl<'a, N: Evaluate<'a>> Evaluate<'a> for Dependencies<N> {
         ctx: &mut ValidationContext,
         outcome: &mut EvaluationResult<'a>,
     ) -> Result<(), AllocError> {
-        if let Some(members) = node.as_object() {
-            let children = due_children(alloc, &self.dependencies, members, node, path, ctx)?;
-            outcome.take_children(children);
+        match node.as_object() {
+            Some(members) => {
+                let children = due_children(alloc, &self.dependencies, members, node, path, ctx)?;
+                outcome.take_children(children);
+                Ok(())
+            }
+            None => Ok(()),
         }
-        Ok(())
     }
 }
 
@@ -59,7 +62,7 @@ fn due_children<'a, N: Evaluate<'a>>(
     ensures path { path.new ≡ path.old }
     ensures context { OnlyAsks ctx.old ctx.new }
 {
-    let mut children = Vec::new(alloc);
+    let mut children: Vec<EvaluationNode<'a>> = Vec::new(alloc);
     for (_, dependency, _) in dependencies.declared_members(members) {
         add_child(alloc, dependency, object, path, ctx, &mut children)?;
     }

@@ -10,7 +10,7 @@ use crate::walk::{add_child, show_one};
 use olk_base::{Node, ValidationContext};
 use olk_check::IsValid;
 use olk_paths::InstancePath;
-use olk_reports::EvaluationResult;
+use olk_reports::{EvaluationNode, EvaluationResult};
 use olk_tree::if_::{IfElse, IfThen, IfThenElse};
 use std::alloc::{AllocError, Global};
 
@@ -99,7 +99,7 @@ fn show_both<'a, N: Evaluate<'a>>(
     ensures path { path.new ≡ path.old }
     ensures context { OnlyAsks ctx.old ctx.new }
 {
-    let mut children = Vec::with_capacity(alloc, 2)?;
+    let mut children: Vec<EvaluationNode<'a>> = Vec::with_capacity(alloc, 2)?;
     add_child(alloc, first, node, path, ctx, &mut children)?;
     add_child(alloc, second, node, path, ctx, &mut children)?;
     outcome.take_children(children);

@@ -25,7 +25,7 @@ pub trait Located {
 
 /// What can be asked what it shows of a value. What it shows stands at its place.
 pub trait Evaluate<'a>: Located + IsValid {
-    ghost use Rattle.std.specs.Prelude.{◌≡◌, Bool, IfOk, OnOk};
+    ghost use Rattle.std.specs.Prelude.{◌≡◌, Bool, OnOk};
     ghost use Rattle.olk_base.specs.Nodes.{data_of};
     ghost use Rattle.olk_spec.specs.Names.{Path};
     ghost use Rattle.olk_spec.specs.Tree.{Tree, IsLikeTree, is_valid};
@@ -35,7 +35,9 @@ pub trait Evaluate<'a>: Located + IsValid {
     // the tree that it shows of a value, with either answer for unfinished matches
     ghost tree: { Self → Bool → Data → Path → Tree };
 
-    /// Writes what it shows of the node into a result that shows nothing yet.
+    /// Writes what it shows of the node into a result that shows nothing yet: the validity, an
+    /// annotation, errors of its own and the nodes below, in order (JSON Schema 2020-12 Core, 7.7
+    /// and 12).
     ///
     /// The path is left as it was, the context keeps its answer, and of the counts only those of
     /// asking rise.
@@ -60,36 +62,6 @@ pub trait Evaluate<'a>: Located + IsValid {
             ≡ (Self.means self.now (data_of node.entry)).accepts ctx.old.answer) }
         ensures path { path.new ≡ path.old }
         ensures context { OnlyAsks ctx.old ctx.new };
-
-    /// What it shows of the node: the validity, an annotation, errors of its own and the nodes
-    /// below, in order (JSON Schema 2020-12 Core, 7.7 and 12).
-    ///
-    /// The path is left as it was, the context keeps its answer, and of the counts only those of
-    /// asking rise.
-    ///
-    /// # Errors
-    ///
-    /// Want of memory.
-    fn evaluate(
-        &'a self,
-        alloc: Global,
-        node: Node<'a>,
-        path: &mut InstancePath,
-        ctx: &mut ValidationContext,
-    ) -> Result<EvaluationResult<'a>, AllocError>
-        ensures tree { IfOk result (λ r. IsLikeTree
-            (tree self.now ctx.old.answer (data_of node.entry) path.old)
-            (node_at (Self.place self.now) path.old (shown_of r))) }
-        ensures verdict { IfOk result (λ r.
-            is_valid (node_at (Self.place self.now) path.old (shown_of r))
-            ≡ (Self.means self.now (data_of node.entry)).accepts ctx.old.answer) }
-        ensures path { path.new ≡ path.old }
-        ensures context { OnlyAsks ctx.old ctx.new }
-    {
-        let mut outcome = EvaluationResult::valid_empty(alloc);
-        self.show(alloc, node, path, ctx, &mut outcome)?;
-        Ok(outcome)
-    }
 }
 
 mod additional_members;
@@ -111,4 +83,4 @@ mod required;
 mod walk;
 
 pub use node::show_body;
-pub use walk::child;
+pub use walk::{child, outcome_of};

@@ -125,7 +125,10 @@ pub fn show_body<'a, W: Evaluate<'a>>(
 {
     match body {
         Body::True => Ok(()),
-        Body::False => add_own_error(alloc, outcome, ValidationErrorKind::FalseSchema, node),
+        Body::False => {
+            let kind: ValidationErrorKind<'a> = ValidationErrorKind::FalseSchema;
+            add_own_error(alloc, outcome, kind, node)
+        }
         Body::Keywords(keywords) => show_each(alloc, keywords, node, path, ctx, outcome),
         Body::RequiredNames(required) => add_missing(alloc, outcome, required, node),
     }

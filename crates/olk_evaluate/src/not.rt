@@ -27,7 +27,7 @@ impl<'a, N: Evaluate<'a>> Evaluate<'a> for Not<N> {
         if !self.node.is_valid(node, ctx) {
             return Ok(());
         }
-        let kind = ValidationErrorKind::Not {
+        let kind: ValidationErrorKind<'a> = ValidationErrorKind::Not {
             schema: &self.original,
         };
         add_own_error(alloc, outcome, kind, node)

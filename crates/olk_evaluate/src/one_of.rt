@@ -1,14 +1,15 @@
 //! `oneOf`: what it shows.
-ghost use Rattle.std.specs.Prelude.{◌≡◌, OnOk};
-ghost use Rattle.olk_reports.specs.Evaluations.{errored, shown_of};
+ghost use Rattle.std.specs.Prelude.{◌≡◌, ◌∷◌, [], false, None, OnOk};
+ghost use Rattle.olk_reports.specs.Evaluations.{nothing_shown, shown, shown_of};
 ghost use Rattle.olk_tree.specs.Shown.{several_accept};
+ghost use Rattle.olk_evaluate.specs.Wanted.{trees_of};
 
 use crate::Evaluate;
-use crate::any_of::{accepting_children, show_refusing};
-use crate::walk::show_one;
+use crate::any_of::accepting_children;
+use crate::walk::{each_child, show_one};
 use olk_base::{Node, ValidationContext};
 use olk_paths::InstancePath;
-use olk_reports::{ErrorDescription, EvaluationResult};
+use olk_reports::{ErrorDescription, EvaluationNode, EvaluationResult};
 use olk_tree::one_of::{OneOf, SingleOneOf};
 use std::alloc::{AllocError, Global};
 
@@ -30,24 +31,33 @@ impl<'a, N: Evaluate<'a>> Evaluate<'a> for OneOf<N> {
     ) -> Result<(), AllocError> {
         let accepting = accepting_children(alloc, &self.schemas, node, path, ctx)?;
         if accepting.is_empty() {
-            return show_refusing(alloc, &self.schemas, node, path, ctx, outcome);
+            let children = each_child(alloc, &self.schemas, node, path, ctx)?;
+            outcome.take_children(children);
+            outcome.mark_invalid();
+            return Ok(());
         }
-        let are_several = accepting.len() > 1;
+        if accepting.len() > 1 {
+            return show_several(alloc, accepting, outcome);
+        }
         outcome.take_children(accepting);
-        if are_several {
-            return add_several(alloc, outcome);
-        }
         Ok(())
     }
 }
 
-/// Adds the error that several branches accept.
-fn add_several(alloc: Global, outcome: &mut EvaluationResult<'_>) -> Result<(), AllocError>
+/// What several branches show that accept, and the error that there are several.
+fn show_several<'a>(
+    alloc: Global,
+    accepting: Vec<EvaluationNode<'a>>,
+    outcome: &mut EvaluationResult<'a>,
+) -> Result<(), AllocError>
+    requires { shown_of outcome.old ≡ nothing_shown }
     ensures { OnOk result (shown_of outcome.new
-        ≡ errored several_accept (shown_of outcome.old)) }
+        ≡ shown false None (several_accept ∷ []) (trees_of accepting.entry.items)) }
 {
     let message = String::from_str(alloc, "more than one subschema succeeded")?;
-    outcome.mark_errored(ErrorDescription::new("oneOf", message))
+    outcome.take_children(accepting);
+    let error: ErrorDescription<'a> = ErrorDescription::new("oneOf", message);
+    outcome.mark_errored(error)
 }
 
 /// A child for the branch.

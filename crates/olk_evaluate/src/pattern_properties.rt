@@ -33,12 +33,15 @@ impl<'a, R: RegexEngine, N: Evaluate<'a>> Evaluate<'a> for PatternProperties<R, 
         ctx: &mut ValidationContext,
         outcome: &mut EvaluationResult<'a>,
     ) -> Result<(), AllocError> {
-        if let Some(members) = node.as_object() {
-            let mut met: Met<'a> = Met::with_capacity(alloc, members.len())?;
-            meet_patterns(alloc, &self.patterns, members, path, ctx, &mut met)?;
-            met.show(outcome);
+        match node.as_object() {
+            Some(members) => {
+                let mut met: Met<'a> = Met::with_capacity(alloc, members.len())?;
+                meet_patterns(alloc, &self.patterns, members, path, ctx, &mut met)?;
+                met.show(outcome);
+                Ok(())
+            }
+            None => Ok(()),
         }
-        Ok(())
     }
 }
 
@@ -59,12 +62,15 @@ impl<'a, R: RegexEngine, N: Evaluate<'a>> Evaluate<'a> for SingleValuePatternPro
         ctx: &mut ValidationContext,
         outcome: &mut EvaluationResult<'a>,
     ) -> Result<(), AllocError> {
-        if let Some(members) = node.as_object() {
-            let mut met: Met<'a> = Met::with_capacity(alloc, members.len())?;
-            meet_matched(alloc, &self.regex, &self.node, members, path, ctx, &mut met)?;
-            met.show(outcome);
+        match node.as_object() {
+            Some(members) => {
+                let mut met: Met<'a> = Met::with_capacity(alloc, members.len())?;
+                meet_matched(alloc, &self.regex, &self.node, members, path, ctx, &mut met)?;
+                met.show(outcome);
+                Ok(())
+            }
+            None => Ok(()),
         }
-        Ok(())
     }
 }
 

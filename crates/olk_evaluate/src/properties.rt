@@ -40,11 +40,14 @@ impl<'a, N: Evaluate<'a>> Evaluate<'a> for Properties<N> {
         ctx: &mut ValidationContext,
         outcome: &mut EvaluationResult<'a>,
     ) -> Result<(), AllocError> {
-        if let Some(members) = node.as_object() {
-            let met = meet(alloc, &self.properties, members, path, ctx)?;
-            met.show(outcome);
+        match node.as_object() {
+            Some(members) => {
+                let met = meet(alloc, &self.properties, members, path, ctx)?;
+                met.show(outcome);
+                Ok(())
+            }
+            None => Ok(()),
         }
-        Ok(())
     }
 }
 
@@ -65,20 +68,23 @@ impl<'a, N: Evaluate<'a>> Evaluate<'a> for SmallPropertiesWithRequired2<N> {
         ctx: &mut ValidationContext,
         outcome: &mut EvaluationResult<'a>,
     ) -> Result<(), AllocError> {
-        if let Some(members) = node.as_object() {
-            let met = meet(alloc, &self.properties, members, path, ctx)?;
-            let missing = missing_child(
-                alloc,
-                self.first.as_str(),
-                self.second.as_str(),
-                self.required_location.as_str(),
-                members,
-                node,
-                path,
-            )?;
-            met.with(missing)?.show(outcome);
+        match node.as_object() {
+            Some(members) => {
+                let met = meet(alloc, &self.properties, members, path, ctx)?;
+                let missing = missing_child(
+                    alloc,
+                    self.first.as_str(),
+                    self.second.as_str(),
+                    self.required_location.as_str(),
+                    members,
+                    node,
+                    path,
+                )?;
+                met.with(missing)?.show(outcome);
+                Ok(())
+            }
+            None => Ok(()),
         }
-        Ok(())
     }
 }
 
@@ -90,8 +96,8 @@ pub(crate) struct Met<'a> {
 }
 
 impl<'a> Met<'a> {
-    ghost use Rattle.std.specs.Prelude.{map};
-    ghost use Rattle.olk_reports.specs.Evaluations.{annotated, shown_of, with_children};
+    ghost use Rattle.std.specs.Prelude.{Some, map};
+    ghost use Rattle.olk_reports.specs.Evaluations.{nothing_shown, shown, shown_of};
 
     /// None yet, with room for so many.
     pub(crate) fn with_capacity(alloc: Global, capacity: usize) -> Result<Met<'a>, AllocError>
@@ -120,8 +126,11 @@ impl<'a> Met<'a> {
     /// The children, and the names as annotation.
     #[inline(always)]
     pub(crate) fn show(self, outcome: &mut EvaluationResult<'a>)
-        ensures { shown_of outcome.new ≡ annotated (map (λ n. n.now) self.entry.names.items)
-            (with_children (trees_of self.entry.children.items) (shown_of outcome.old)) }
+        requires { shown_of outcome.old ≡ nothing_shown }
+        ensures { shown_of outcome.new
+            ≡ shown (list_all is_valid (trees_of self.entry.children.items))
+            (Some (map (λ n. n.now) self.entry.names.items)) []
+            (trees_of self.entry.children.items) }
     {
         outcome.take_children(self.children);
         outcome.annotate(self.names);

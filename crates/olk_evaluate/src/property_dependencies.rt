@@ -35,11 +35,14 @@ impl<'a, N: Evaluate<'a>> Evaluate<'a> for PropertyDependencies<N> {
         ctx: &mut ValidationContext,
         outcome: &mut EvaluationResult<'a>,
     ) -> Result<(), AllocError> {
-        if let Some(members) = node.as_object() {
-            let children = chosen_children(alloc, &self.dependencies, members, node, path, ctx)?;
-            outcome.take_children(children);
+        match node.as_object() {
+            Some(members) => {
+                let children = chosen_children(alloc, &self.dependencies, members, node, path, ctx)?;
+                outcome.take_children(children);
+                Ok(())
+            }
+            None => Ok(()),
         }
-        Ok(())
     }
 }
 
@@ -61,7 +64,7 @@ fn chosen_children<'a, N: Evaluate<'a>>(
     ensures path { path.new ≡ path.old }
     ensures context { OnlyAsks ctx.old ctx.new }
 {
-    let mut children = Vec::new(alloc);
+    let mut children: Vec<EvaluationNode<'a>> = Vec::new(alloc);
     for (_, choices, value) in dependencies.declared_members(members) {
         if let Some(dependency) = choices.chosen_by(value) {
             add_child(alloc, dependency, object, path, ctx, &mut children)?;

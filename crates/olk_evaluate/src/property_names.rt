@@ -31,11 +31,14 @@ impl<'a, N: Evaluate<'a>> Evaluate<'a> for PropertyNames<N> {
         ctx: &mut ValidationContext,
         outcome: &mut EvaluationResult<'a>,
     ) -> Result<(), AllocError> {
-        if let Some(members) = node.as_object() {
-            let children = name_children(alloc, &self.node, members, path, ctx)?;
-            outcome.take_children(children);
+        match node.as_object() {
+            Some(members) => {
+                let children = name_children(alloc, &self.node, members, path, ctx)?;
+                outcome.take_children(children);
+                Ok(())
+            }
+            None => Ok(()),
         }
-        Ok(())
     }
 }
 
@@ -56,10 +59,14 @@ impl<'a> Evaluate<'a> for PropertyNamesFalse {
         outcome: &mut EvaluationResult<'a>,
     ) -> Result<(), AllocError> {
         match node.as_object() {
-            Some(members) if !members.is_empty() => {
-                add_own_error(alloc, outcome, ValidationErrorKind::FalseSchema, node)
+            Some(members) => {
+                if members.is_empty() {
+                    return Ok(());
+                }
+                let kind: ValidationErrorKind<'a> = ValidationErrorKind::FalseSchema;
+                add_own_error(alloc, outcome, kind, node)
             }
-            _ => Ok(()),
+            None => Ok(()),
         }
     }
 }
@@ -79,7 +86,7 @@ fn name_children<'a, N: Evaluate<'a>>(
     ensures path { path.new ≡ path.old }
     ensures context { OnlyAsks ctx.old ctx.new }
 {
-    let mut children = Vec::with_capacity(alloc, members.len())?;
+    let mut children: Vec<EvaluationNode<'a>> = Vec::with_capacity(alloc, members.len())?;
     for (name, _) in members {
         add_child(alloc, subschema, Node::Name(name), path, ctx, &mut children)?;
     }

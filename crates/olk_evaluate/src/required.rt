@@ -98,7 +98,7 @@ fn add_error_if_missing<'a>(
     if has_member(members, name) {
         return Ok(());
     }
-    let kind = ValidationErrorKind::Required { property: name };
+    let kind: ValidationErrorKind<'a> = ValidationErrorKind::Required { property: name };
     add_own_error(alloc, outcome, kind, node)
 }
 
@@ -151,7 +151,7 @@ pub(crate) fn missing_child<'a>(
         return Ok(None);
     }
     let text = PathText::from_str(alloc, path.as_str())?;
-    let mut child = EvaluationNode::at(alloc, location, text);
+    let mut child: EvaluationNode<'a> = EvaluationNode::at(alloc, location, text);
     add_missing_of_two(alloc, &mut child.result, first, second, members, node)?;
     Ok(Some(child))
 }
@@ -173,9 +173,9 @@ pub(crate) fn missing_name_child<'a>(
     if has_member(members, name) {
         return Ok(None);
     }
-    let kind = ValidationErrorKind::Required { property: name };
+    let kind: ValidationErrorKind<'a> = ValidationErrorKind::Required { property: name };
     let text = PathText::from_str(alloc, path.as_str())?;
-    let mut child = EvaluationNode::at(alloc, location, text);
+    let mut child: EvaluationNode<'a> = EvaluationNode::at(alloc, location, text);
     add_own_error(alloc, &mut child.result, kind, node)?;
     Ok(Some(child))
 }

@@ -1,19 +1,7 @@
+use Rattle.std.proofs.Common.{◌∷◌, [], ◌++◌, ap, sym, ◌∙◌}
+use Rattle.std.proofs.lemmas.Result.{on_ok_weaker}
+use Rattle.olk_evaluate.proofs.Children.{shows_last, shown_there}
 use Rattle.olk_evaluate.proofs.walk.add_child.Goals as goal
 
-pub returns-clause-context : goal.returns-clause-context
-returns-clause-context g c = c.child.ensures.context
-
-pub returns-clause-path : goal.returns-clause-path
-returns-clause-path g c = c.child.ensures.path
-
-pub returns-in_err-child-clause-context : goal.returns-in_err-child-clause-context
-returns-in_err-child-clause-context g c = c.child.ensures.context
-
-pub returns-in_err-child-clause-path : goal.returns-in_err-child-clause-path
-returns-in_err-child-clause-path g c = c.child.ensures.path
-
-pub returns-in_err-push-clause-context : goal.returns-in_err-push-clause-context
-returns-in_err-push-clause-context g c = c.child.ensures.context
-
-pub returns-in_err-push-clause-path : goal.returns-in_err-push-clause-path
-returns-in_err-push-clause-path g c = c.child.ensures.path
+pub returns-clause-shown : goal.returns-clause-shown
+returns-clause-shown g c = ?
