@@ -2,7 +2,7 @@
 use Rattle.std.proofs.Common.{◌≡◌, ℕ, ◌+◌, ◌<◌, ◌≤◌, length, get_or, drop, String, Global, string_bytes, Bool, true, false, not, ◌&&◌, arith, List, [], ◌∷◌, ◌++◌, map, None, refl, sym, ap, subst, ◌∙◌, append_assoc}
 use Rattle.std.specs.List.{list_all}
 use Rattle.std.proofs.lemmas.List.{append-nil, at_drop_more, drop_all}
-use Rattle.std.proofs.lemmas.List.Sorted.{IsPermutation-map, length_permutation}
+use Rattle.std.proofs.lemmas.List.Sorted.{IsPermutation-map, IsPermutation-refl, length_permutation}
 use Rattle.std.proofs.lemmas.Simd.{map-map}
 use Rattle.std.specs.List.Sorted.{IsPermutation}
 use Rattle.serde_json.specs.Data.{Data, Members, object}
@@ -137,6 +137,10 @@ module _ (k : Name) where
     is = h ∙ ap (λ b. shown b None (map told_as us) []) (same_emptiness_after ts us p);
     told = IsPermutation-map told_as ts us p;
   }
+
+  pub no_texts : (ts : List Text) {s : Shown} → true ≡ is_empty ts → s ≡ shown true None [] [] → HasTexts k ts s
+  no_texts [] e h = record { own = []; is = h; told = IsPermutation-refl [] }
+  no_texts (t ∷ ts) e h = cc
 
   module _ (P Q : Path) (v : Data) (ts : List Text) where
     abbrev faults_told : List Fault

@@ -164,10 +164,12 @@ fn complete<'a, R, N>(
         (shown_of outcome.old) (shown_of outcome.new)) }
 {
     match &keyword.rest {
-        Some(_) => annotate_rest(keyword, outcome, additional),
-        None => return add_unexpected(alloc, keyword, outcome, additional, members, node),
+        Some(_) => {
+            annotate_rest(keyword, outcome, additional);
+            Ok(())
+        }
+        None => add_unexpected(alloc, keyword, outcome, additional, members, node),
     }
-    Ok(())
 }
 
 /// Annotates the names that the rest is asked of; where just one neighbour stands there, only if

@@ -37,7 +37,7 @@ pub fn outcome_of<'a, N: Evaluate<'a>>(
     ensures path { path.new ≡ path.old }
     ensures context { OnlyAsks ctx.old ctx.new }
 {
-    let mut outcome = EvaluationResult::valid_empty(alloc);
+    let mut outcome: EvaluationResult<'a> = EvaluationResult::valid_empty(alloc);
     schema.show(alloc, node, path, ctx, &mut outcome)?;
     Ok(outcome)
 }

@@ -38,9 +38,9 @@ pub parts_of_shown : (r : EvaluationResult) → shown_of r ≡ shown (out-Evalua
 parts_of_shown r = fold_out-EvaluationResult Tree Shown node_step result_step r
 
 -- one more error, which makes it invalid
-pub shown_errored : (r : EvaluationResult) (es : Vec ErrorDescription Global) (e : ErrorDescription) → es.items ≡ (out-EvaluationResult r).errors.items ++ e ∷ [] → shown_of (roll-EvaluationResult record { valid = false; annotation = (out-EvaluationResult r).annotation; errors = es; children = (out-EvaluationResult r).children }) ≡ errored (described_of e) (shown_of r)
+pub shown_errored : (r : EvaluationResult) (es : Vec ErrorDescription Global) (e : ErrorDescription) → es.items ≡ (out-EvaluationResult r).errors.items ++ e ∷ [] → called_invalid (shown_of (roll-EvaluationResult record (out-EvaluationResult r) { errors = es })) ≡ errored (described_of e) (shown_of r)
 shown_errored r es e more =
-    shown_of_parts false (out-EvaluationResult r).annotation es (out-EvaluationResult r).children
+    ap called_invalid (shown_of_parts (out-EvaluationResult r).valid (out-EvaluationResult r).annotation es (out-EvaluationResult r).children)
     ∙ ap (λ l. shown false (option_map (λ ns. map (λ n. n.now) ns.items) (out-EvaluationResult r).annotation) l (map tree_of (out-EvaluationResult r).children.items)) (ap (map described_of) more ∙ map-append described_of (out-EvaluationResult r).errors.items (e ∷ []))
     ∙ ap (errored (described_of e)) (sym (parts_of_shown r))
 

@@ -120,7 +120,7 @@ impl<'a> EvaluationResult<'a> {
         ensures refused { OnErr result (shown_of self.new ≡ shown_of self.old) }
     {
         self.errors.push(error)?;
-        self.valid = false;
+        self.mark_invalid();
         Ok(())
     }
 }

@@ -6,7 +6,7 @@ use Rattle.olk_evaluate.proofs.OwnErrors.{errors_start, errors_more, errors_end,
 use Rattle.olk_evaluate.proofs.required.add_each_missing.Goals as goal
 
 pub loop-name-init : goal.loop-name-init
-loop-name-init c P Q = errors_start c.valid_empty-outcome.ensures refl
+loop-name-init c P Q = errors_start c.requires refl
 
 pub loop-name-preserved : goal.loop-name-preserved
 loop-name-preserved c P Q = errors_more _ _ (c.loop-name.invariant P Q)

@@ -11,7 +11,7 @@ returns-clause-shown g c =
     let one = c.in_ok-add_child.ensures.shown in
     record {
       child = tree_of one.child;
-      is = over_children c.requires c.take_children.ensures
+      is = over_children c.add_child.new.children.items c.requires c.take_children.ensures
           ∙ ap (λ ts. shown (list_all is_valid ts) None [] ts) (one_shown c.in_ok-children.ensures.items one)
           ∙ ap (λ b. shown b None [] (tree_of one.child ∷ [])) (and-true (is_valid (tree_of one.child)));
       shown = one.shown;
