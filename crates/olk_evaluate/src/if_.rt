@@ -32,7 +32,15 @@ impl<'a, N: Evaluate<'a>> Evaluate<'a> for IfThen<N> {
         if !self.schema.is_valid(node, ctx) {
             return Ok(());
         }
-        show_both(alloc, &self.schema, &self.then_schema, node, path, ctx, outcome)
+        show_both(
+            alloc,
+            &self.schema,
+            &self.then_schema,
+            node,
+            path,
+            ctx,
+            outcome,
+        )
     }
 }
 
@@ -76,7 +84,15 @@ impl<'a, N: Evaluate<'a>> Evaluate<'a> for IfThenElse<N> {
         outcome: &mut EvaluationResult<'a>,
     ) -> Result<(), AllocError> {
         if self.schema.is_valid(node, ctx) {
-            show_both(alloc, &self.schema, &self.then_schema, node, path, ctx, outcome)
+            show_both(
+                alloc,
+                &self.schema,
+                &self.then_schema,
+                node,
+                path,
+                ctx,
+                outcome,
+            )
         } else {
             show_one(alloc, &self.else_schema, node, path, ctx, outcome)
         }

@@ -51,13 +51,21 @@ impl<'a, K: Leaf, R: RegexEngine, N: Evaluate<'a>> Evaluate<'a> for KeywordOver<
             KeywordOver::IfThenElse(keyword) => keyword.show(alloc, node, path, ctx, outcome),
             KeywordOver::Dependencies(keyword) => keyword.show(alloc, node, path, ctx, outcome),
             KeywordOver::PropertyNames(keyword) => keyword.show(alloc, node, path, ctx, outcome),
-            KeywordOver::PropertyNamesFalse(keyword) => keyword.show(alloc, node, path, ctx, outcome),
-            KeywordOver::PropertyDependencies(keyword) => keyword.show(alloc, node, path, ctx, outcome),
-            KeywordOver::PatternProperties(keyword) => keyword.show(alloc, node, path, ctx, outcome),
+            KeywordOver::PropertyNamesFalse(keyword) => keyword.show(
+                alloc, node, path, ctx, outcome,
+            ),
+            KeywordOver::PropertyDependencies(keyword) => keyword.show(
+                alloc, node, path, ctx, outcome,
+            ),
+            KeywordOver::PatternProperties(keyword) => keyword.show(
+                alloc, node, path, ctx, outcome,
+            ),
             KeywordOver::SingleValuePatternProperties(keyword) => {
                 keyword.show(alloc, node, path, ctx, outcome)
             }
-            KeywordOver::AdditionalProperties(keyword) => keyword.show(alloc, node, path, ctx, outcome),
+            KeywordOver::AdditionalProperties(keyword) => keyword.show(
+                alloc, node, path, ctx, outcome,
+            ),
             KeywordOver::Leaf(_, leaf) => show_leaf(alloc, leaf, node, outcome),
         }
     }

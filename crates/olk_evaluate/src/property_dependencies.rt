@@ -37,7 +37,14 @@ impl<'a, N: Evaluate<'a>> Evaluate<'a> for PropertyDependencies<N> {
     ) -> Result<(), AllocError> {
         match node.as_object() {
             Some(members) => {
-                let children = chosen_children(alloc, &self.dependencies, members, node, path, ctx)?;
+                let children = chosen_children(
+                    alloc,
+                    &self.dependencies,
+                    members,
+                    node,
+                    path,
+                    ctx,
+                )?;
                 outcome.take_children(children);
                 Ok(())
             }
