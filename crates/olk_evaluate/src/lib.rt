@@ -1,4 +1,4 @@
-//! What a schema shows of a value: `evaluate` of each validator, over its nodes.
+//! What a schema shows of a value: `show` of each validator, over its nodes.
 //!
 //! Stands on `olk_check`. Tested by `olk_tests`.
 #![tactic(auto)]

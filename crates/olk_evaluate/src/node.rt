@@ -18,6 +18,7 @@ use olk_reports::{ErrorDescription, EvaluationResult, ValidationErrorKind};
 use olk_tree::node::{Body, KeywordOver};
 use std::alloc::{AllocError, Global};
 
+// `show` of a validator is never inlined here, so that a leaf doesn't pay for its frame.
 impl<'a, K: Leaf, R: RegexEngine, N: Evaluate<'a>> Evaluate<'a> for KeywordOver<K, R, N> {
     ghost use Rattle.olk_base.specs.Kit.{kit};
     ghost use Rattle.olk_tree.specs.Validators.{answers_of};
