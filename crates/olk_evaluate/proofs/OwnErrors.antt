@@ -205,6 +205,13 @@ error_of_one f false n e h = h
 pub one_lacking : (n : Name) (v : Data) (ms : Members) (P Q : Path) {s : Shown} {r : Tree} → false ≡ has n (object ms) → HasErrors (fault (Required n) v Q P ∷ []) s → r ≡ node_at P Q s → AreShown (refused (lacking_trees (n ∷ []) v (object ms) P Q)) (r ∷ [])
 one_lacking n v ms P Q e h place = some_lacking (n ∷ []) v (object ms) P Q (lacks_one (has n (object ms)) n e) (error_of_one (λ k. fault (Required k) v Q P) (has n (object ms)) n e h) place
 
+none_of_one : (b : Bool) (n : Name) → true ≡ b → false ≡ not (is_empty (put_if (not b) n []))
+none_of_one true n e = refl
+none_of_one false n e = cc
+
+pub not_lacking : (n : Name) (v : Data) (ms : Members) (P Q : Path) → true ≡ has n (object ms) → AreShown (refused (lacking_trees (n ∷ []) v (object ms) P Q)) []
+not_lacking n v ms P Q e = none_lacking (n ∷ []) v (object ms) P Q (none_of_one (has n (object ms)) n e)
+
 pub same_lacking : {a b c d : Name} {P R Q S : Path} (v w : Data) (ts : List Tree) → a ≡ c → b ≡ d → P ≡ R → Q ≡ S → AreShown (refused (lacking_trees (a ∷ b ∷ []) v w P Q)) ts → AreShown (refused (lacking_trees (c ∷ d ∷ []) v w R S)) ts
 same_lacking v w ts e f g h = subst (λ l. AreShown (refused l) ts) (λ i. lacking_trees (e i ∷ f i ∷ []) v w (g i) (h i))
 

@@ -1,5 +1,5 @@
 //! `additionalProperties`, and what it takes over: what they show.
-ghost use Rattle.std.specs.Prelude.{◌≡◌, ◌++◌, is_some, not, cond, option_to_list, false, IfOk, OnOk};
+ghost use Rattle.std.specs.Prelude.{◌≡◌, is_some, not, cond, false, OnOk};
 ghost use Rattle.serde_json.specs.Data.{Data};
 ghost use Rattle.serde_json.specs.View.{members_view};
 ghost use Rattle.olk_base.specs.Nodes.{data_of};
@@ -10,12 +10,12 @@ ghost use Rattle.olk_reports.specs.Evaluations.{shown_of};
 ghost use Rattle.olk_tree.specs.Additional.{has_neighbours, required_text, required_place};
 ghost use Rattle.olk_tree.specs.Visited.{object_of};
 ghost use Rattle.olk_evaluate.specs.Additional.{matches_shown, names_of, annotated_if, rest_annotation, AddsErrors, named_faults, faults_without_rest, Completes, HasPlaces};
-ghost use Rattle.olk_evaluate.specs.Wanted.{AreShown, refused, lacking_trees, trees_of};
+ghost use Rattle.olk_evaluate.specs.Wanted.{AddsShown, AddsTrees, refused, lacking_trees};
 
 use crate::Evaluate;
 use crate::additional_members::collect;
 use crate::own::own_error;
-use crate::required::missing_name_child;
+use crate::required::add_missing_name;
 use olk_base::{Node, RegexEngine, ValidationContext};
 use olk_members::law_of_names;
 use olk_paths::{InstancePath, PathText};
@@ -51,15 +51,9 @@ impl<'a, R: RegexEngine, N: Evaluate<'a>> Evaluate<'a> for AdditionalProperties<
             Some(members) => {
                 law_of_names(members);
                 let collected = collect(alloc, self, members, path, ctx)?;
-                let children = with_places(
-                    alloc,
-                    self,
-                    collected.children,
-                    collected.matched,
-                    members,
-                    node,
-                    path,
-                )?;
+                let mut children = collected.children;
+                let matched = collected.matched;
+                add_places(alloc, self, matched, members, node, path, &mut children)?;
                 outcome.take_children(children);
                 complete(alloc, self, outcome, collected.additional, members, node)
             }
@@ -68,86 +62,65 @@ impl<'a, R: RegexEngine, N: Evaluate<'a>> Evaluate<'a> for AdditionalProperties<
     }
 }
 
-/// The children, and behind them one at the place of `patternProperties` and one at that of
-/// `required`, if they are there.
-fn with_places<'a, R, N>(
+/// Behind the children one at the place of `patternProperties` and one at that of `required`, if
+/// they are there.
+fn add_places<'a, R, N>(
     alloc: Global,
     keyword: &'a AdditionalProperties<R, N>,
-    children: Vec<EvaluationNode<'a>>,
     matched: Vec<&'a str>,
     members: &Map<String, Value>,
     node: Node<'a>,
     path: &InstancePath,
-) -> Result<Vec<EvaluationNode<'a>>, AllocError>
-    ensures { IfOk result (λ cs. HasPlaces keyword.now (names_of matched.entry.items)
+    children: &mut Vec<EvaluationNode<'a>>,
+) -> Result<(), AllocError>
+    ensures { OnOk result (HasPlaces keyword.now (names_of matched.entry.items)
         (data_of node.entry) (object_of members.now.entries) path.now
-        children.entry.items cs.items) }
+        children.old.items children.new.items) }
 {
     let at_patterns = keyword.patterns_location.as_str();
-    let matches = matches_child(alloc, matched, at_patterns, path)?;
-    let missing = missing_required(alloc, &keyword.required, members, node, path)?;
-    followed_by(children, matches, missing)
+    add_matches(alloc, matched, at_patterns, path, children)?;
+    add_missing_required(alloc, &keyword.required, members, node, path, children)
 }
 
-/// A child at the place of `patternProperties` with these names, if there are some.
-fn matches_child<'a>(
+/// A child more at the place of `patternProperties` with these names, if there are some.
+fn add_matches<'a>(
     alloc: Global,
     matched: Vec<&'a str>,
     location: &'a str,
     path: &InstancePath,
-) -> Result<Option<EvaluationNode<'a>>, AllocError>
-    ensures { IfOk result (λ o. trees_of (option_to_list o)
-        ≡ matches_shown (names_of matched.entry.items) location.now path.now) }
+    children: &mut Vec<EvaluationNode<'a>>,
+) -> Result<(), AllocError>
+    ensures { OnOk result (AddsTrees (matches_shown (names_of matched.entry.items) location.now path.now)
+        children.old.items children.new.items) }
 {
     if matched.is_empty() {
-        return Ok(None);
+        return Ok(());
     }
     let text = PathText::from_str(alloc, path.as_str())?;
     let mut child: EvaluationNode<'a> = EvaluationNode::at(alloc, location, text);
     child.result.annotate(matched);
-    Ok(Some(child))
+    children.push(child)?;
+    Ok(())
 }
 
-/// A child at the place of `required`, where a name is required that is no member.
-fn missing_required<'a>(
+/// A child more at the place of `required`, where a name is required that is no member.
+fn add_missing_required<'a>(
     alloc: Global,
     required: &'a Option<RequiredName>,
     members: &Map<String, Value>,
     node: Node<'a>,
     path: &InstancePath,
-) -> Result<Option<EvaluationNode<'a>>, AllocError>
-    ensures { IfOk result (λ o. AreShown
+    children: &mut Vec<EvaluationNode<'a>>,
+) -> Result<(), AllocError>
+    ensures { OnOk result (AddsShown
         (refused (lacking_trees (required_text required.now) (data_of node.entry)
         (object_of members.now.entries) (required_place required.now) path.now))
-        (trees_of (option_to_list o))) }
+        children.old.items children.new.items) }
 {
     match required {
-        Some(required) => {
-            let name = required.name.as_str();
-            let location = required.location.as_str();
-            missing_name_child(alloc, name, location, members, node, path)
-        }
-        None => Ok(None),
+        Some(required) => add_missing_name(alloc, required, members, node, path, children),
+        None => Ok(()),
     }
-}
-
-/// The children, and behind them two more, if they are there.
-fn followed_by<'a>(
-    children: Vec<EvaluationNode<'a>>,
-    first: Option<EvaluationNode<'a>>,
-    second: Option<EvaluationNode<'a>>,
-) -> Result<Vec<EvaluationNode<'a>>, AllocError>
-    ensures { IfOk result (λ cs. cs.items
-        ≡ children.entry.items ++ option_to_list first.entry ++ option_to_list second.entry) }
-{
-    let mut children = children;
-    if let Some(child) = first {
-        children.push(child)?;
-    }
-    if let Some(child) = second {
-        children.push(child)?;
-    }
-    Ok(children)
 }
 
 /// Adds the annotation of the rest; where there is no rest, an error if members are not expected.

@@ -1,5 +1,5 @@
 //! `properties`: what it shows.
-ghost use Rattle.std.specs.Prelude.{◌≡◌, ◌++◌, ◌∷◌, [], IfOk, OnOk, option_to_list};
+ghost use Rattle.std.specs.Prelude.{◌≡◌, ◌++◌, ◌∷◌, [], IfOk, OnOk};
 ghost use Rattle.std.specs.List.{list_all, zip};
 ghost use Rattle.serde_json.specs.View.{view, members_view};
 ghost use Rattle.olk_spec.specs.Schemas.{listed};
@@ -13,7 +13,7 @@ ghost use Rattle.olk_evaluate.specs.Members.{HasMet, MeetsMore, wanted_at};
 ghost use Rattle.olk_evaluate.specs.Wanted.{ShowsMore, wanted, trees_of};
 
 use crate::Evaluate;
-use crate::required::missing_child;
+use crate::required::add_missing_child;
 use crate::walk::add_child;
 use olk_base::{Node, ValidationContext};
 use olk_paths::InstancePath;
@@ -70,17 +70,9 @@ impl<'a, N: Evaluate<'a>> Evaluate<'a> for SmallPropertiesWithRequired2<N> {
     ) -> Result<(), AllocError> {
         match node.as_object() {
             Some(members) => {
-                let met = meet(alloc, &self.properties, members, path, ctx)?;
-                let missing = missing_child(
-                    alloc,
-                    self.first.as_str(),
-                    self.second.as_str(),
-                    self.required_location.as_str(),
-                    members,
-                    node,
-                    path,
-                )?;
-                met.with(missing)?.show(outcome);
+                let mut met = meet(alloc, &self.properties, members, path, ctx)?;
+                add_missing_child(alloc, self, members, node, path, &mut met.children)?;
+                met.show(outcome);
                 Ok(())
             }
             None => Ok(()),
@@ -108,19 +100,6 @@ impl<'a> Met<'a> {
             names: Vec::with_capacity(alloc, capacity)?,
             children: Vec::with_capacity(alloc, capacity)?,
         })
-    }
-
-    /// With one child more, or none.
-    fn with(self, more: Option<EvaluationNode<'a>>) -> Result<Met<'a>, AllocError>
-        ensures names { IfOk result (λ m. m.names.items ≡ self.entry.names.items) }
-        ensures children { IfOk result (λ m.
-            m.children.items ≡ self.entry.children.items ++ option_to_list more.entry) }
-    {
-        let mut met = self;
-        if let Some(child) = more {
-            met.children.push(child)?;
-        }
-        Ok(met)
     }
 
     /// The children, and the names as annotation.

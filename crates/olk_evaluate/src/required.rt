@@ -1,5 +1,5 @@
 //! `required`: what it shows.
-ghost use Rattle.std.specs.Prelude.{◌≡◌, ◌++◌, ◌∷◌, [], not, map, List, IfOk, OnOk, option_to_list};
+ghost use Rattle.std.specs.Prelude.{◌≡◌, ◌++◌, ◌∷◌, [], not, map, List, OnOk, string_bytes};
 ghost use Rattle.olk_base.specs.Nodes.{data_of};
 ghost use Rattle.olk_spec.specs.Names.{Path, is_empty};
 ghost use Rattle.olk_spec.specs.Faults.{Fault, fault, Required};
@@ -7,9 +7,9 @@ ghost use Rattle.olk_spec.specs.Schemas.{has};
 ghost use Rattle.olk_spec.specs.Accepts.{missing};
 ghost use Rattle.olk_spec.specs.Reports.{fault_if, required_faults};
 ghost use Rattle.olk_reports.specs.Evaluations.{nothing_shown, shown_of};
-ghost use Rattle.olk_tree.specs.Maps.{texts_of};
+ghost use Rattle.olk_tree.specs.Maps.{texts_of, two_texts};
 ghost use Rattle.olk_tree.specs.Visited.{object_of};
-ghost use Rattle.olk_evaluate.specs.Wanted.{HasErrors, AreShown, refused, lacking_trees, trees_of};
+ghost use Rattle.olk_evaluate.specs.Wanted.{AddsShown, HasErrors, refused, lacking_trees};
 
 use crate::Evaluate;
 use crate::own::add_own_error;
@@ -17,6 +17,8 @@ use olk_base::{Node, ValidationContext};
 use olk_members::has_member;
 use olk_paths::{InstancePath, PathText};
 use olk_reports::{EvaluationNode, EvaluationResult, ValidationErrorKind};
+use olk_tree::additional_properties::RequiredName;
+use olk_tree::properties::SmallPropertiesWithRequired2;
 use olk_tree::required::RequiredValidator;
 use serde_json::{Map, Value};
 use std::alloc::{AllocError, Global};
@@ -132,50 +134,55 @@ fn add_missing_of_two<'a>(
     add_error_if_missing(alloc, outcome, second, members, node)
 }
 
-/// A child at the place of `required`, where one of the names is no member.
-pub(crate) fn missing_child<'a>(
+/// A child more at the place of `required`, where one of two names is no member.
+pub(crate) fn add_missing_child<'a, N>(
     alloc: Global,
-    first: &'a str,
-    second: &'a str,
-    location: &'a str,
+    keyword: &'a SmallPropertiesWithRequired2<N>,
     members: &Map<String, Value>,
     node: Node<'a>,
     path: &InstancePath,
-) -> Result<Option<EvaluationNode<'a>>, AllocError>
-    ensures { IfOk result (λ o. AreShown
-        (refused (lacking_trees (first.now ∷ second.now ∷ [])
-        (data_of node.entry) (object_of members.now.entries) location.now path.now))
-        (trees_of (option_to_list o))) }
+    children: &mut Vec<EvaluationNode<'a>>,
+) -> Result<(), AllocError>
+    ensures { OnOk result (AddsShown
+        (refused (lacking_trees (two_texts keyword.now.first keyword.now.second)
+        (data_of node.entry) (object_of members.now.entries) keyword.now.required_location path.now))
+        children.old.items children.new.items) }
 {
+    let first = keyword.first.as_str();
+    let second = keyword.second.as_str();
     if !lacks_either(members, first, second) {
-        return Ok(None);
+        return Ok(());
     }
     let text = PathText::from_str(alloc, path.as_str())?;
+    let location = keyword.required_location.as_str();
     let mut child: EvaluationNode<'a> = EvaluationNode::at(alloc, location, text);
     add_missing_of_two(alloc, &mut child.result, first, second, members, node)?;
-    Ok(Some(child))
+    children.push(child)?;
+    Ok(())
 }
 
-/// A child at the place of `required`, where the name is no member.
-pub(crate) fn missing_name_child<'a>(
+/// A child more at the place of `required`, where the name is no member.
+pub(crate) fn add_missing_name<'a>(
     alloc: Global,
-    name: &'a str,
-    location: &'a str,
+    required: &'a RequiredName,
     members: &Map<String, Value>,
     node: Node<'a>,
     path: &InstancePath,
-) -> Result<Option<EvaluationNode<'a>>, AllocError>
-    ensures { IfOk result (λ o. AreShown
-        (refused (lacking_trees (name.now ∷ [])
-        (data_of node.entry) (object_of members.now.entries) location.now path.now))
-        (trees_of (option_to_list o))) }
+    children: &mut Vec<EvaluationNode<'a>>,
+) -> Result<(), AllocError>
+    ensures { OnOk result (AddsShown
+        (refused (lacking_trees (string_bytes required.now.name ∷ [])
+        (data_of node.entry) (object_of members.now.entries) required.now.location path.now))
+        children.old.items children.new.items) }
 {
+    let name = required.name.as_str();
     if has_member(members, name) {
-        return Ok(None);
+        return Ok(());
     }
-    let kind: ValidationErrorKind<'a> = ValidationErrorKind::Required { property: name };
     let text = PathText::from_str(alloc, path.as_str())?;
-    let mut child: EvaluationNode<'a> = EvaluationNode::at(alloc, location, text);
+    let mut child: EvaluationNode<'a> = EvaluationNode::at(alloc, required.location.as_str(), text);
+    let kind: ValidationErrorKind<'a> = ValidationErrorKind::Required { property: name };
     add_own_error(alloc, &mut child.result, kind, node)?;
-    Ok(Some(child))
+    children.push(child)?;
+    Ok(())
 }
