@@ -1,18 +1,26 @@
 -- Children beside those that are wanted.
-use Rattle.std.proofs.Common.{◌≡◌, ℕ, ◌≤◌, Bool, true, false, ◌&&◌, List, [], ◌∷◌, ◌++◌, map, length, drop, Option, None, append_assoc, refl, sym, ap, subst, ◌∙◌}
+use Rattle.std.proofs.Common.{Result, Ok, Err, OnOk, ◌≡◌, ℕ, ◌≤◌, Bool, true, false, ◌&&◌, List, [], ◌∷◌, ◌++◌, map, length, drop, get_or, Option, None, append_assoc, refl, sym, ap, subst, ◌∙◌}
 use Rattle.std.specs.List.{list_all}
 use Rattle.std.proofs.lemmas.List.{append-nil, drop_all, map-append}
 use Rattle.std.proofs.lemmas.Simd.{map-map}
+use Rattle.std.proofs.Math.Bool.{and-true}
+use Rattle.std.proofs.Math.ListN.{set}
+use Rattle.std.proofs.Math.Seq.{set-append_seam, get_or-append_seam}
 use Rattle.olk_spec.proofs.Refused_trees.{same_validity}
 use Rattle.olk_spec.specs.Names.{Name, Path}
 use Rattle.olk_spec.specs.Tree.{Tree, Trees, trees_from, IsLikeTree, AreLikeTrees, AreTold, Described, is_valid, result_node, plain}
-use Rattle.olk_reports.specs.Evaluations.{Shown, shown, node_at, tree_of}
+use Rattle.olk_reports.specs.Evaluations.{Shown, shown, nothing_shown, with_children, called_invalid, node_at, tree_of, with_result}
 use Rattle.olk_reports.specs.declared.evaluation.EvaluationNode.{EvaluationNode}
+use Rattle.olk_reports.specs.declared.evaluation.EvaluationResult.{EvaluationResult}
 use Rattle.serde_json.specs.Data.{Data, string}
 use Rattle.olk_spec.specs.Schemas.{members}
 use Rattle.olk_tree.specs.Questions.{Question, every}
 use Rattle.olk_tree.specs.Shown.{branch_trees, name_trees}
-use Rattle.olk_evaluate.specs.Wanted.{Wanted, AreShown, ShowsMore, wanted, each_wanted, names_wanted, trees_of}
+use Rattle.olk_evaluate.specs.Wanted.{Wanted, AreShown, IsShown, ShowsMore, ShowsOne, ShowsEach, wanted, each_wanted, names_wanted, trees_of}
+
+pub on_ok_of_two : {T E P Q S : Type 0} (r : Result T E) → (P → Q → S) → OnOk r P → OnOk r Q → OnOk r S
+on_ok_of_two (Ok x) f p q = f p q
+on_ok_of_two (Err e) f p q = tt
 
 -- ---- the tree of a result
 
@@ -81,7 +89,35 @@ module _ {all : List Wanted} where
 pub none_left : {X : Type 0} (g : X → Wanted) (xs ys : List X) (i : ℕ) → ys ≡ xs → length ys ≤ i → map g (drop i xs) ≡ []
 none_left g xs ys i same le = ap (map g) (drop_all i xs (subst (λ zs. length zs ≤ i) same le))
 
+-- a node that is put behind the others, and its result written then
+pub shows_last : {w : Wanted} (xs ys : List EvaluationNode) (i : ℕ) (made at : EvaluationNode) (r : EvaluationResult) → ys ≡ xs ++ made ∷ [] → i ≡ length xs → at ≡ get_or ys i at
+    → IsShown w (tree_of (with_result made r)) → ShowsMore w xs (set ys i (with_result at r))
+shows_last xs ys i made at r more last there is = record {
+  child = with_result made r;
+  added =
+      (λ j. set (more j) (last j) (with_result (found j) r))
+      ∙ set-append_seam xs made [] (with_result made r);
+  shown = is;
+}
+  where
+    found : at ≡ made
+    found = there ∙ (λ j. get_or (more j) (last j) at) ∙ get_or-append_seam xs made [] at
+
+-- what stands at its places
+pub shown_there : {w : Wanted} {P R Q S : Path} (s : Shown) {t : Tree} → t ≡ node_at P Q s → P ≡ R → Q ≡ S → IsLikeTree w.0 (node_at R S s) → is_valid (node_at R S s) ≡ w.1 → IsShown w t
+shown_there {w} s e p q like verdict = subst (IsShown w) (sym (e ∙ (λ i. node_at (p i) (q i) s))) (record { like = like; verdict = verdict })
+
+pub one_shown : {w : Wanted} {xs ys : List EvaluationNode} → xs ≡ [] → (h : ShowsMore w xs ys) → trees_of ys ≡ tree_of h.child ∷ []
+one_shown none h = ap trees_of (h.added ∙ ap (λ l. l ++ h.child ∷ []) none)
+
 -- ---- results of children
+
+module _ (ns : List EvaluationNode) {s r : Shown} (empty : s ≡ nothing_shown) (h : r ≡ with_children (trees_of ns) s) where
+  pub over_children : r ≡ shown (list_all is_valid (trees_of ns)) None [] (trees_of ns)
+  over_children = h ∙ ap (with_children (trees_of ns)) empty
+
+  pub over_refusing : {q : Shown} → q ≡ called_invalid r → q ≡ shown false None [] (trees_of ns)
+  over_refusing e = e ∙ ap called_invalid over_children
 
 module _ (P Q : Path) (ws : List Wanted) {cs : List Tree} {s : Shown} where
   -- valid exactly if all children are
@@ -118,6 +154,13 @@ module _ {N : Type 0} (t : N → Bool → Data → Path → Tree) (m : N → Dat
 
     pub no_child_verdict : is_valid (node_at P Q s) ≡ (every (λ n. m n v) ns).accepts u
     no_child_verdict = branches_verdict none_wanted h
+
+module _ {N : Type 0} (t : N → Bool → Data → Path → Tree) (m : N → Data → Question) (u : Bool) (v : Data) (Q : Path) {s : Shown} where
+  pub shows_each : (ns : List N) {cs : List Tree} → AreShown (each_wanted t m u ns v Q) cs → s ≡ shown (list_all is_valid cs) None [] cs → ShowsEach t m u ns v Q s
+  shows_each ns h e = record { tree = λ P. branches_like t m u v P Q ns h e; verdict = λ P. branches_verdict t m u v P Q ns h e }
+
+  pub shows_the_one : (n : N) → ShowsOne (wanted t m u n v Q) s → ShowsEach t m u (n ∷ []) v Q s
+  shows_the_one n h = shows_each (n ∷ []) {cs = h.child ∷ []} (h.shown, tt) (h.is ∙ ap (λ b. shown b None [] (h.child ∷ [])) (sym (and-true (is_valid h.child))))
 
 module _ {N : Type 0} (t : N → Bool → Data → Path → Tree) (m : N → Data → Question) (u : Bool) (n : N) (P Q : Path) where
   names_verdicts : (ms : List (Name × Data)) → all_wanted (names_wanted t m u n Q ms) ≡ (every (λ x. m n (string x.0)) ms).accepts u

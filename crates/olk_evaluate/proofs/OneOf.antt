@@ -10,7 +10,7 @@ use Rattle.olk_spec.specs.Tree.{Tree, trees_from, IsLikeTree, is_valid, result}
 use Rattle.olk_reports.specs.Evaluations.{Shown, shown, node_at, tree_of}
 use Rattle.olk_reports.specs.declared.evaluation.EvaluationNode.{EvaluationNode}
 use Rattle.olk_tree.specs.Questions.{Question, how_many}
-use Rattle.olk_tree.specs.Shown.{branch_trees, several_accept, one_of_tree}
+use Rattle.olk_tree.specs.Shown.{branch_trees, several_accept, any_of_tree, one_of_tree}
 use Rattle.olk_tree.proofs.OneOf.{several_is_some, several_is_not_one, several_is_more, count_those}
 use Rattle.olk_evaluate.specs.Wanted.{Wanted, AreShown, trees_of, wanted, each_wanted, IsShown}
 use Rattle.olk_evaluate.proofs.Children.{trees_wanted, plain_like, plain_verdict, valid_shown, like_result, like_children, branches_wanted, all_wanted_valid}
@@ -96,6 +96,14 @@ module _ {N : Type 0} (t : N → Bool → Data → Path → Tree) (m : N → Dat
   single_like = subst (λ r. IsLikeTree (one_of_tree (λ k. t k u) v Q (λ k. (m k v).accepts u) P (n ∷ [])) (node_at P Q r)) (sym e) (by ((m n v).accepts u) h.verdict)
     where
       by : (b : Bool) → is_valid c ≡ b → IsLikeTree (one_of_tree (λ k. t k u) v Q (λ k. b) P (n ∷ [])) (node_at P Q (shown (is_valid c) None [] (c ∷ [])))
+      by true valid = like_result P Q (is_valid (t n u v Q) && true) (is_valid c) None None [] [] (trees_from (t n u v Q ∷ [])) (trees_from (c ∷ []))
+          (sym (and-true (is_valid c)) ∙ all_wanted_valid (wanted t m u n v Q ∷ []) (c ∷ []) (h, tt)) refl tt (h.like, tt)
+      by false valid = like_result P Q false (is_valid c) None None [] [] (trees_from (t n u v Q ∷ [])) (trees_from (c ∷ [])) valid refl tt (h.like, tt)
+
+  pub any_like : IsLikeTree (any_of_tree (λ k. t k u) v Q (λ k. (m k v).accepts u) P (n ∷ [])) (node_at P Q s)
+  any_like = subst (λ r. IsLikeTree (any_of_tree (λ k. t k u) v Q (λ k. (m k v).accepts u) P (n ∷ [])) (node_at P Q r)) (sym e) (by ((m n v).accepts u) h.verdict)
+    where
+      by : (b : Bool) → is_valid c ≡ b → IsLikeTree (any_of_tree (λ k. t k u) v Q (λ k. b) P (n ∷ [])) (node_at P Q (shown (is_valid c) None [] (c ∷ [])))
       by true valid = like_result P Q (is_valid (t n u v Q) && true) (is_valid c) None None [] [] (trees_from (t n u v Q ∷ [])) (trees_from (c ∷ []))
           (sym (and-true (is_valid c)) ∙ all_wanted_valid (wanted t m u n v Q ∷ []) (c ∷ []) (h, tt)) refl tt (h.like, tt)
       by false valid = like_result P Q false (is_valid c) None None [] [] (trees_from (t n u v Q ∷ [])) (trees_from (c ∷ [])) valid refl tt (h.like, tt)

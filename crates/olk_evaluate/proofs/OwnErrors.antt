@@ -2,7 +2,7 @@
 use Rattle.std.proofs.Common.{◌≡◌, ℕ, ◌+◌, ◌<◌, ◌≤◌, length, get_or, drop, String, Global, string_bytes, Bool, true, false, not, ◌&&◌, arith, List, [], ◌∷◌, ◌++◌, map, None, refl, sym, ap, subst, ◌∙◌, append_assoc}
 use Rattle.std.specs.List.{list_all}
 use Rattle.std.proofs.lemmas.List.{append-nil, at_drop_more, drop_all}
-use Rattle.std.proofs.lemmas.List.Sorted.{IsPermutation-map, length_permutation}
+use Rattle.std.proofs.lemmas.List.Sorted.{IsPermutation-map, IsPermutation-refl, length_permutation}
 use Rattle.std.proofs.lemmas.Simd.{map-map}
 use Rattle.std.specs.List.Sorted.{IsPermutation}
 use Rattle.serde_json.specs.Data.{Data, Members, object}
@@ -138,6 +138,10 @@ module _ (k : Name) where
     told = IsPermutation-map told_as ts us p;
   }
 
+  pub no_texts : (ts : List Text) {s : Shown} → true ≡ is_empty ts → s ≡ shown true None [] [] → HasTexts k ts s
+  no_texts [] e h = record { own = []; is = h; told = IsPermutation-refl [] }
+  no_texts (t ∷ ts) e h = cc
+
   module _ (P Q : Path) (v : Data) (ts : List Text) where
     abbrev faults_told : List Fault
     faults_told = map (λ t. fault (Leaf k t) v Q P) ts
@@ -200,6 +204,13 @@ error_of_one f false n e h = h
 
 pub one_lacking : (n : Name) (v : Data) (ms : Members) (P Q : Path) {s : Shown} {r : Tree} → false ≡ has n (object ms) → HasErrors (fault (Required n) v Q P ∷ []) s → r ≡ node_at P Q s → AreShown (refused (lacking_trees (n ∷ []) v (object ms) P Q)) (r ∷ [])
 one_lacking n v ms P Q e h place = some_lacking (n ∷ []) v (object ms) P Q (lacks_one (has n (object ms)) n e) (error_of_one (λ k. fault (Required k) v Q P) (has n (object ms)) n e h) place
+
+none_of_one : (b : Bool) (n : Name) → true ≡ b → false ≡ not (is_empty (put_if (not b) n []))
+none_of_one true n e = refl
+none_of_one false n e = cc
+
+pub not_lacking : (n : Name) (v : Data) (ms : Members) (P Q : Path) → true ≡ has n (object ms) → AreShown (refused (lacking_trees (n ∷ []) v (object ms) P Q)) []
+not_lacking n v ms P Q e = none_lacking (n ∷ []) v (object ms) P Q (none_of_one (has n (object ms)) n e)
 
 pub same_lacking : {a b c d : Name} {P R Q S : Path} (v w : Data) (ts : List Tree) → a ≡ c → b ≡ d → P ≡ R → Q ≡ S → AreShown (refused (lacking_trees (a ∷ b ∷ []) v w P Q)) ts → AreShown (refused (lacking_trees (c ∷ d ∷ []) v w R S)) ts
 same_lacking v w ts e f g h = subst (λ l. AreShown (refused l) ts) (λ i. lacking_trees (e i ∷ f i ∷ []) v w (g i) (h i))

@@ -33,6 +33,24 @@ pub record ShowsMore (w : Wanted) (old new : List EvaluationNode) : Type 0 where
   pub added : new ≡ old ++ child ∷ []
   pub shown : IsShown w (tree_of child)
 
+-- the nodes of new are those of old, and then some that have these trees
+pub record AddsTrees (ts : List Tree) (old new : List EvaluationNode) : Type 0 where
+  pub nodes : List EvaluationNode
+  pub added : new ≡ old ++ nodes
+  pub trees : trees_of nodes ≡ ts
+
+-- and then some that show what is wanted
+pub record AddsShown (ws : List Wanted) (old new : List EvaluationNode) : Type 0 where
+  pub nodes : List EvaluationNode
+  pub added : new ≡ old ++ nodes
+  pub shown : AreShown ws (trees_of nodes)
+
+-- what the one child shows, and nothing else
+pub record ShowsOne (w : Wanted) (s : Shown) : Type 0 where
+  pub child : Tree
+  pub is : s ≡ shown (is_valid child) None [] (child ∷ [])
+  pub shown : IsShown w child
+
 -- the error that shows a fault; a text that prints a fraction may be any text
 pub record IsDescribedBy (f : Fault) (d : Described) : Type 0 where
   pub keyword : d.0 ≡ (described_fault f).0

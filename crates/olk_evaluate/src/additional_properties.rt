@@ -1,5 +1,5 @@
 //! `additionalProperties`, and what it takes over: what they show.
-ghost use Rattle.std.specs.Prelude.{◌≡◌, ◌++◌, is_some, not, cond, option_to_list, false, IfOk};
+ghost use Rattle.std.specs.Prelude.{◌≡◌, is_some, not, cond, false, OnOk};
 ghost use Rattle.serde_json.specs.Data.{Data};
 ghost use Rattle.serde_json.specs.View.{members_view};
 ghost use Rattle.olk_base.specs.Nodes.{data_of};
@@ -10,15 +10,15 @@ ghost use Rattle.olk_reports.specs.Evaluations.{shown_of};
 ghost use Rattle.olk_tree.specs.Additional.{has_neighbours, required_text, required_place};
 ghost use Rattle.olk_tree.specs.Visited.{object_of};
 ghost use Rattle.olk_evaluate.specs.Additional.{matches_shown, names_of, annotated_if, rest_annotation, AddsErrors, named_faults, faults_without_rest, Completes, HasPlaces};
-ghost use Rattle.olk_evaluate.specs.Wanted.{AreShown, refused, lacking_trees, trees_of};
+ghost use Rattle.olk_evaluate.specs.Wanted.{AddsShown, AddsTrees, refused, lacking_trees};
 
 use crate::Evaluate;
 use crate::additional_members::collect;
 use crate::own::own_error;
-use crate::required::missing_name_child;
+use crate::required::add_missing_name;
 use olk_base::{Node, RegexEngine, ValidationContext};
 use olk_members::law_of_names;
-use olk_paths::InstancePath;
+use olk_paths::{InstancePath, PathText};
 use olk_reports::{EvaluationNode, EvaluationResult, ValidationErrorKind};
 use olk_tree::additional_properties::{AdditionalProperties, RequiredName};
 use serde_json::{Map, Value};
@@ -37,153 +37,128 @@ impl<'a, R: RegexEngine, N: Evaluate<'a>> Evaluate<'a> for AdditionalProperties<
 
     ghost tree = { λ k. (additional_properties_answers R.answers R.costs k).tree N.means N.tree };
 
+    #[inline(never)]
     #[tactic(auto, using(olk_check::proofs::Asked::only_same))]
-    fn evaluate(
+    fn show(
         &'a self,
         alloc: Global,
         node: Node<'a>,
         path: &mut InstancePath,
         ctx: &mut ValidationContext,
-    ) -> Result<EvaluationResult<'a>, AllocError> {
+        outcome: &mut EvaluationResult<'a>,
+    ) -> Result<(), AllocError> {
         match node.as_object() {
             Some(members) => {
                 law_of_names(members);
                 let collected = collect(alloc, self, members, path, ctx)?;
-                let children = with_places(
-                    alloc,
-                    self,
-                    collected.children,
-                    collected.matched,
-                    members,
-                    node,
-                    path,
-                )?;
-                let outcome = EvaluationResult::from_children(alloc, children);
-                completed(alloc, self, outcome, collected.additional, members, node)
+                let mut children = collected.children;
+                let matched = collected.matched;
+                add_places(alloc, self, matched, members, node, path, &mut children)?;
+                outcome.take_children(children);
+                complete(alloc, self, outcome, collected.additional, members, node)
             }
-            None => Ok(EvaluationResult::valid_empty(alloc)),
+            None => Ok(()),
         }
     }
 }
 
-/// The children, and behind them one at the place of `patternProperties` and one at that of
-/// `required`, if they are there.
-fn with_places<'a, R, N>(
+/// Behind the children one at the place of `patternProperties` and one at that of `required`, if
+/// they are there.
+fn add_places<'a, R, N>(
     alloc: Global,
     keyword: &'a AdditionalProperties<R, N>,
-    children: Vec<EvaluationNode<'a>>,
     matched: Vec<&'a str>,
     members: &Map<String, Value>,
     node: Node<'a>,
     path: &InstancePath,
-) -> Result<Vec<EvaluationNode<'a>>, AllocError>
-    ensures { IfOk result (λ cs. HasPlaces keyword.now (names_of matched.entry.items)
+    children: &mut Vec<EvaluationNode<'a>>,
+) -> Result<(), AllocError>
+    ensures { OnOk result (HasPlaces keyword.now (names_of matched.entry.items)
         (data_of node.entry) (object_of members.now.entries) path.now
-        children.entry.items cs.items) }
+        children.old.items children.new.items) }
 {
     let at_patterns = keyword.patterns_location.as_str();
-    let matches = matches_child(alloc, matched, at_patterns, path)?;
-    let missing = missing_required(alloc, &keyword.required, members, node, path)?;
-    followed_by(children, matches, missing)
+    add_matches(alloc, matched, at_patterns, path, children)?;
+    add_missing_required(alloc, &keyword.required, members, node, path, children)
 }
 
-/// A child at the place of `patternProperties` with these names, if there are some.
-fn matches_child<'a>(
+/// A child more at the place of `patternProperties` with these names, if there are some.
+fn add_matches<'a>(
     alloc: Global,
     matched: Vec<&'a str>,
     location: &'a str,
     path: &InstancePath,
-) -> Result<Option<EvaluationNode<'a>>, AllocError>
-    ensures { IfOk result (λ o. trees_of (option_to_list o)
-        ≡ matches_shown (names_of matched.entry.items) location.now path.now) }
+    children: &mut Vec<EvaluationNode<'a>>,
+) -> Result<(), AllocError>
+    ensures { OnOk result (AddsTrees (matches_shown (names_of matched.entry.items) location.now path.now)
+        children.old.items children.new.items) }
 {
     if matched.is_empty() {
-        return Ok(None);
+        return Ok(());
     }
-    let mut outcome = EvaluationResult::valid_empty(alloc);
-    outcome.annotate(matched);
-    let child = EvaluationNode::at(alloc, location, path, outcome)?;
-    Ok(Some(child))
+    let text = PathText::from_str(alloc, path.as_str())?;
+    let mut child: EvaluationNode<'a> = EvaluationNode::at(alloc, location, text);
+    child.result.annotate(matched);
+    children.push(child)?;
+    Ok(())
 }
 
-/// A child at the place of `required`, where a name is required that is no member.
-fn missing_required<'a>(
+/// A child more at the place of `required`, where a name is required that is no member.
+fn add_missing_required<'a>(
     alloc: Global,
     required: &'a Option<RequiredName>,
     members: &Map<String, Value>,
     node: Node<'a>,
     path: &InstancePath,
-) -> Result<Option<EvaluationNode<'a>>, AllocError>
-    ensures { IfOk result (λ o. AreShown
+    children: &mut Vec<EvaluationNode<'a>>,
+) -> Result<(), AllocError>
+    ensures { OnOk result (AddsShown
         (refused (lacking_trees (required_text required.now) (data_of node.entry)
         (object_of members.now.entries) (required_place required.now) path.now))
-        (trees_of (option_to_list o))) }
+        children.old.items children.new.items) }
 {
     match required {
-        Some(required) => {
-            let name = required.name.as_str();
-            let location = required.location.as_str();
-            missing_name_child(alloc, name, location, members, node, path)
-        }
-        None => Ok(None),
+        Some(required) => add_missing_name(alloc, required, members, node, path, children),
+        None => Ok(()),
     }
 }
 
-/// The children, and behind them two more, if they are there.
-fn followed_by<'a>(
-    children: Vec<EvaluationNode<'a>>,
-    first: Option<EvaluationNode<'a>>,
-    second: Option<EvaluationNode<'a>>,
-) -> Result<Vec<EvaluationNode<'a>>, AllocError>
-    ensures { IfOk result (λ cs. cs.items
-        ≡ children.entry.items ++ option_to_list first.entry ++ option_to_list second.entry) }
-{
-    let mut children = children;
-    if let Some(child) = first {
-        children.push(child)?;
-    }
-    if let Some(child) = second {
-        children.push(child)?;
-    }
-    Ok(children)
-}
-
-/// The result with the annotation of the rest; where there is no rest, with an error if members are
-/// not expected.
-fn completed<'a, R, N>(
+/// Adds the annotation of the rest; where there is no rest, an error if members are not expected.
+fn complete<'a, R, N>(
     alloc: Global,
     keyword: &AdditionalProperties<R, N>,
-    outcome: EvaluationResult<'a>,
+    outcome: &mut EvaluationResult<'a>,
     additional: Vec<&'a str>,
     members: &'a Map<String, Value>,
     node: Node<'a>,
-) -> Result<EvaluationResult<'a>, AllocError>
-    ensures { IfOk result (λ r. Completes keyword.now (names_of additional.entry.items)
+) -> Result<(), AllocError>
+    ensures { OnOk result (Completes keyword.now (names_of additional.entry.items)
         (listed (members_view members.now.entries)) (data_of node.entry)
-        (shown_of outcome.entry) (shown_of r)) }
+        (shown_of outcome.old) (shown_of outcome.new)) }
 {
     match &keyword.rest {
-        Some(_) => Ok(annotated(keyword, outcome, additional)),
-        None => with_unexpected(alloc, keyword, outcome, additional, members, node),
+        Some(_) => {
+            annotate_rest(keyword, outcome, additional);
+            Ok(())
+        }
+        None => add_unexpected(alloc, keyword, outcome, additional, members, node),
     }
 }
 
-/// The result with the names that the rest is asked of; where just one neighbour stands there, only
-/// if there are some.
-fn annotated<'a, R, N>(
+/// Annotates the names that the rest is asked of; where just one neighbour stands there, only if
+/// there are some.
+fn annotate_rest<'a, R, N>(
     keyword: &AdditionalProperties<R, N>,
-    outcome: EvaluationResult<'a>,
+    outcome: &mut EvaluationResult<'a>,
     additional: Vec<&'a str>,
-) -> EvaluationResult<'a>
-    ensures { shown_of result ≡ annotated_if
-        (rest_annotation keyword.now (names_of additional.entry.items)) (shown_of outcome.entry) }
+)
+    ensures { shown_of outcome.new ≡ annotated_if
+        (rest_annotation keyword.now (names_of additional.entry.items)) (shown_of outcome.old) }
 {
     if stands_beside_one(keyword) && additional.is_empty() {
-        return outcome;
+        return;
     }
-    let mut outcome = outcome;
     outcome.annotate(additional);
-    outcome
 }
 
 /// Whether just one of `properties` and `patternProperties` stands there.
@@ -195,65 +170,61 @@ fn stands_beside_one<R, N>(keyword: &AdditionalProperties<R, N>) -> bool
     keyword.properties.is_some() != keyword.patterns.is_some()
 }
 
-/// The result with an error if members are not expected: told by name where the keyword has a
-/// neighbour, else as a false schema over the first.
-fn with_unexpected<'a, R, N>(
+/// Adds an error if members are not expected: told by name where the keyword has a neighbour, else
+/// as a false schema over the first.
+fn add_unexpected<'a, R, N>(
     alloc: Global,
     keyword: &AdditionalProperties<R, N>,
-    outcome: EvaluationResult<'a>,
+    outcome: &mut EvaluationResult<'a>,
     unexpected: Vec<&'a str>,
     members: &'a Map<String, Value>,
     node: Node<'a>,
-) -> Result<EvaluationResult<'a>, AllocError>
-    ensures { IfOk result (λ r. (P Q : Path) → AddsErrors
+) -> Result<(), AllocError>
+    ensures { OnOk result ((P Q : Path) → AddsErrors
         (faults_without_rest keyword.now (names_of unexpected.entry.items)
         (listed (members_view members.now.entries)) (data_of node.entry) P Q)
-        (shown_of outcome.entry) (shown_of r)) }
+        (shown_of outcome.old) (shown_of outcome.new)) }
 {
     if keyword.has_neighbours() {
-        with_named(alloc, outcome, unexpected, node)
+        add_named(alloc, outcome, unexpected, node)
     } else {
-        with_first(alloc, outcome, members)
+        add_first(alloc, outcome, members)
     }
 }
 
-/// The result with an error that has these names, if there are some.
-fn with_named<'a>(
+/// Adds an error that has these names, if there are some.
+fn add_named<'a>(
     alloc: Global,
-    outcome: EvaluationResult<'a>,
+    outcome: &mut EvaluationResult<'a>,
     unexpected: Vec<&'a str>,
     node: Node<'a>,
-) -> Result<EvaluationResult<'a>, AllocError>
-    ensures { IfOk result (λ r. (P Q : Path) → AddsErrors
+) -> Result<(), AllocError>
+    ensures { OnOk result ((P Q : Path) → AddsErrors
         (named_faults (names_of unexpected.entry.items) (data_of node.entry) P Q)
-        (shown_of outcome.entry) (shown_of r)) }
+        (shown_of outcome.old) (shown_of outcome.new)) }
 {
     if unexpected.is_empty() {
-        return Ok(outcome);
+        return Ok(());
     }
-    let mut outcome = outcome;
-    let kind = ValidationErrorKind::AdditionalProperties { unexpected };
-    outcome.mark_errored(own_error(alloc, kind, node)?)?;
-    Ok(outcome)
+    let kind: ValidationErrorKind<'a> = ValidationErrorKind::AdditionalProperties { unexpected };
+    outcome.mark_errored(own_error(alloc, kind, node)?)
 }
 
-/// The result with the error of a false schema over the first member's value, if there is one.
-fn with_first<'a>(
+/// Adds the error of a false schema over the first member's value, if there is one.
+fn add_first<'a>(
     alloc: Global,
-    outcome: EvaluationResult<'a>,
+    outcome: &mut EvaluationResult<'a>,
     members: &'a Map<String, Value>,
-) -> Result<EvaluationResult<'a>, AllocError>
-    ensures { IfOk result (λ r. (v : Data) (P Q : Path) → AddsErrors
+) -> Result<(), AllocError>
+    ensures { OnOk result ((v : Data) (P Q : Path) → AddsErrors
         (unexpected_faults false (listed (members_view members.now.entries)) v P Q)
-        (shown_of outcome.entry) (shown_of r)) }
+        (shown_of outcome.old) (shown_of outcome.new)) }
 {
     match members.iter().next() {
         Some((_, value)) => {
-            let mut outcome = outcome;
-            let kind = ValidationErrorKind::FalseSchema;
-            outcome.mark_errored(own_error(alloc, kind, Node::Value(value))?)?;
-            Ok(outcome)
+            let kind: ValidationErrorKind<'a> = ValidationErrorKind::FalseSchema;
+            outcome.mark_errored(own_error(alloc, kind, Node::Value(value))?)
         }
-        None => Ok(outcome),
+        None => Ok(()),
     }
 }

@@ -1,6 +1,6 @@
 //! `allOf`: what it shows.
 use crate::Evaluate;
-use crate::walk::{child, each_child};
+use crate::walk::{show_each, show_one};
 use olk_base::{Node, ValidationContext};
 use olk_paths::InstancePath;
 use olk_reports::EvaluationResult;
@@ -13,15 +13,16 @@ impl<'a, N: Evaluate<'a>> Evaluate<'a> for AllOf<N> {
 
     ghost tree = { λ k. (all_of_answers k).tree N.means N.tree };
 
-    fn evaluate(
+    #[inline(never)]
+    fn show(
         &'a self,
         alloc: Global,
         node: Node<'a>,
         path: &mut InstancePath,
         ctx: &mut ValidationContext,
-    ) -> Result<EvaluationResult<'a>, AllocError> {
-        let children = each_child(alloc, &self.schemas, node, path, ctx)?;
-        Ok(EvaluationResult::from_children(alloc, children))
+        outcome: &mut EvaluationResult<'a>,
+    ) -> Result<(), AllocError> {
+        show_each(alloc, &self.schemas, node, path, ctx, outcome)
     }
 }
 
@@ -31,13 +32,15 @@ impl<'a, N: Evaluate<'a>> Evaluate<'a> for SingleValueAllOf<N> {
 
     ghost tree = { λ k. (single_all_of_answers k).tree N.means N.tree };
 
-    fn evaluate(
+    #[inline(never)]
+    fn show(
         &'a self,
         alloc: Global,
         node: Node<'a>,
         path: &mut InstancePath,
         ctx: &mut ValidationContext,
-    ) -> Result<EvaluationResult<'a>, AllocError> {
-        EvaluationResult::from_node(alloc, child(alloc, &self.node, node, path, ctx)?)
+        outcome: &mut EvaluationResult<'a>,
+    ) -> Result<(), AllocError> {
+        show_one(alloc, &self.node, node, path, ctx, outcome)
     }
 }

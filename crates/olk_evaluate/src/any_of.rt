@@ -6,7 +6,7 @@ ghost use Rattle.olk_check.specs.Asks.{OnlyAsks};
 ghost use Rattle.olk_evaluate.specs.Wanted.{AreShown, each_wanted, trees_of};
 
 use crate::Evaluate;
-use crate::walk::{add_child, child, each_child};
+use crate::walk::{add_child, each_child, show_one};
 use olk_base::{Node, ValidationContext};
 use olk_check::IsValid;
 use olk_paths::InstancePath;
@@ -21,19 +21,24 @@ impl<'a, N: Evaluate<'a>> Evaluate<'a> for AnyOf<N> {
 
     ghost tree = { λ k. (any_of_answers k).tree N.means N.tree };
 
-    fn evaluate(
+    #[inline(never)]
+    fn show(
         &'a self,
         alloc: Global,
         node: Node<'a>,
         path: &mut InstancePath,
         ctx: &mut ValidationContext,
-    ) -> Result<EvaluationResult<'a>, AllocError> {
+        outcome: &mut EvaluationResult<'a>,
+    ) -> Result<(), AllocError> {
         let accepting = accepting_children(alloc, &self.schemas, node, path, ctx)?;
         if accepting.is_empty() {
             let children = each_child(alloc, &self.schemas, node, path, ctx)?;
-            return Ok(EvaluationResult::invalid_with(alloc, children));
+            outcome.take_children(children);
+            outcome.mark_invalid();
+            return Ok(());
         }
-        Ok(EvaluationResult::from_children(alloc, accepting))
+        outcome.take_children(accepting);
+        Ok(())
     }
 }
 
@@ -43,14 +48,16 @@ impl<'a, N: Evaluate<'a>> Evaluate<'a> for SingleAnyOf<N> {
 
     ghost tree = { λ k. (single_any_of_answers k).tree N.means N.tree };
 
-    fn evaluate(
+    #[inline(never)]
+    fn show(
         &'a self,
         alloc: Global,
         node: Node<'a>,
         path: &mut InstancePath,
         ctx: &mut ValidationContext,
-    ) -> Result<EvaluationResult<'a>, AllocError> {
-        EvaluationResult::from_node(alloc, child(alloc, &self.node, node, path, ctx)?)
+        outcome: &mut EvaluationResult<'a>,
+    ) -> Result<(), AllocError> {
+        show_one(alloc, &self.node, node, path, ctx, outcome)
     }
 }
 
@@ -69,7 +76,7 @@ pub(crate) fn accepting_children<'a, N: Evaluate<'a>>(
     ensures path { path.new ≡ path.old }
     ensures context { OnlyAsks ctx.old ctx.new }
 {
-    let mut children = Vec::new(alloc);
+    let mut children: Vec<EvaluationNode<'a>> = Vec::new(alloc);
     for schema in schemas {
         if schema.is_valid(node, ctx) {
             add_child(alloc, schema, node, path, ctx, &mut children)?;

@@ -24,20 +24,23 @@ impl<'a, N: Evaluate<'a>> Evaluate<'a> for Dependencies<N> {
 
     ghost tree = { λ k. (dependencies_answers k).tree N.means N.tree };
 
+    #[inline(never)]
     #[tactic(auto, using(olk_check::proofs::Asked::only_same))]
-    fn evaluate(
+    fn show(
         &'a self,
         alloc: Global,
         node: Node<'a>,
         path: &mut InstancePath,
         ctx: &mut ValidationContext,
-    ) -> Result<EvaluationResult<'a>, AllocError> {
+        outcome: &mut EvaluationResult<'a>,
+    ) -> Result<(), AllocError> {
         match node.as_object() {
             Some(members) => {
                 let children = due_children(alloc, &self.dependencies, members, node, path, ctx)?;
-                Ok(EvaluationResult::from_children(alloc, children))
+                outcome.take_children(children);
+                Ok(())
             }
-            None => Ok(EvaluationResult::valid_empty(alloc)),
+            None => Ok(()),
         }
     }
 }
@@ -59,7 +62,7 @@ fn due_children<'a, N: Evaluate<'a>>(
     ensures path { path.new ≡ path.old }
     ensures context { OnlyAsks ctx.old ctx.new }
 {
-    let mut children = Vec::new(alloc);
+    let mut children: Vec<EvaluationNode<'a>> = Vec::new(alloc);
     for (_, dependency, _) in dependencies.declared_members(members) {
         add_child(alloc, dependency, object, path, ctx, &mut children)?;
     }

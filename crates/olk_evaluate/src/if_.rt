@@ -1,12 +1,12 @@
 //! `if`, `then` and `else`: what they show.
-ghost use Rattle.std.specs.Prelude.{◌≡◌, ◌∷◌, [], IfOk};
+ghost use Rattle.std.specs.Prelude.{◌≡◌, ◌∷◌, [], OnOk};
 ghost use Rattle.olk_base.specs.Nodes.{data_of};
 ghost use Rattle.olk_check.specs.Asks.{OnlyAsks};
-ghost use Rattle.olk_reports.specs.Evaluations.{shown_of};
+ghost use Rattle.olk_reports.specs.Evaluations.{nothing_shown, shown_of};
 ghost use Rattle.olk_evaluate.specs.Wanted.{ShowsEach};
 
 use crate::Evaluate;
-use crate::walk::{add_child, child};
+use crate::walk::{add_child, show_one};
 use olk_base::{Node, ValidationContext};
 use olk_check::IsValid;
 use olk_paths::InstancePath;
@@ -20,17 +20,27 @@ impl<'a, N: Evaluate<'a>> Evaluate<'a> for IfThen<N> {
 
     ghost tree = { λ k. (if_then_answers k).tree N.means N.tree };
 
-    fn evaluate(
+    #[inline(never)]
+    fn show(
         &'a self,
         alloc: Global,
         node: Node<'a>,
         path: &mut InstancePath,
         ctx: &mut ValidationContext,
-    ) -> Result<EvaluationResult<'a>, AllocError> {
+        outcome: &mut EvaluationResult<'a>,
+    ) -> Result<(), AllocError> {
         if !self.schema.is_valid(node, ctx) {
-            return Ok(EvaluationResult::valid_empty(alloc));
+            return Ok(());
         }
-        both(alloc, &self.schema, &self.then_schema, node, path, ctx)
+        show_both(
+            alloc,
+            &self.schema,
+            &self.then_schema,
+            node,
+            path,
+            ctx,
+            outcome,
+        )
     }
 }
 
@@ -40,17 +50,19 @@ impl<'a, N: Evaluate<'a>> Evaluate<'a> for IfElse<N> {
 
     ghost tree = { λ k. (if_else_answers k).tree N.means N.tree };
 
-    fn evaluate(
+    #[inline(never)]
+    fn show(
         &'a self,
         alloc: Global,
         node: Node<'a>,
         path: &mut InstancePath,
         ctx: &mut ValidationContext,
-    ) -> Result<EvaluationResult<'a>, AllocError> {
+        outcome: &mut EvaluationResult<'a>,
+    ) -> Result<(), AllocError> {
         if self.schema.is_valid(node, ctx) {
-            only(alloc, &self.schema, node, path, ctx)
+            show_one(alloc, &self.schema, node, path, ctx, outcome)
         } else {
-            only(alloc, &self.else_schema, node, path, ctx)
+            show_one(alloc, &self.else_schema, node, path, ctx, outcome)
         }
     }
 }
@@ -62,53 +74,50 @@ impl<'a, N: Evaluate<'a>> Evaluate<'a> for IfThenElse<N> {
 
     ghost tree = { λ k. (if_then_else_answers k).tree N.means N.tree };
 
-    fn evaluate(
+    #[inline(never)]
+    fn show(
         &'a self,
         alloc: Global,
         node: Node<'a>,
         path: &mut InstancePath,
         ctx: &mut ValidationContext,
-    ) -> Result<EvaluationResult<'a>, AllocError> {
+        outcome: &mut EvaluationResult<'a>,
+    ) -> Result<(), AllocError> {
         if self.schema.is_valid(node, ctx) {
-            both(alloc, &self.schema, &self.then_schema, node, path, ctx)
+            show_both(
+                alloc,
+                &self.schema,
+                &self.then_schema,
+                node,
+                path,
+                ctx,
+                outcome,
+            )
         } else {
-            only(alloc, &self.else_schema, node, path, ctx)
+            show_one(alloc, &self.else_schema, node, path, ctx, outcome)
         }
     }
 }
 
-/// What the one subschema shows.
-fn only<'a, N: Evaluate<'a>>(
-    alloc: Global,
-    schema: &'a N,
-    node: Node<'a>,
-    path: &mut InstancePath,
-    ctx: &mut ValidationContext,
-) -> Result<EvaluationResult<'a>, AllocError>
-    ensures shown { IfOk result (λ r. ShowsEach N.tree N.means ctx.old.answer
-        (schema.now ∷ []) (data_of node.entry) path.old (shown_of r)) }
-    ensures path { path.new ≡ path.old }
-    ensures context { OnlyAsks ctx.old ctx.new }
-{
-    EvaluationResult::from_node(alloc, child(alloc, schema, node, path, ctx)?)
-}
-
 /// What the two subschemas show.
-fn both<'a, N: Evaluate<'a>>(
+fn show_both<'a, N: Evaluate<'a>>(
     alloc: Global,
     first: &'a N,
     second: &'a N,
     node: Node<'a>,
     path: &mut InstancePath,
     ctx: &mut ValidationContext,
-) -> Result<EvaluationResult<'a>, AllocError>
-    ensures shown { IfOk result (λ r. ShowsEach N.tree N.means ctx.old.answer
-        (first.now ∷ second.now ∷ []) (data_of node.entry) path.old (shown_of r)) }
+    outcome: &mut EvaluationResult<'a>,
+) -> Result<(), AllocError>
+    requires { shown_of outcome.old ≡ nothing_shown }
+    ensures shown { OnOk result (ShowsEach N.tree N.means ctx.old.answer
+        (first.now ∷ second.now ∷ []) (data_of node.entry) path.old (shown_of outcome.new)) }
     ensures path { path.new ≡ path.old }
     ensures context { OnlyAsks ctx.old ctx.new }
 {
-    let mut children: Vec<EvaluationNode<'a>> = Vec::new(alloc);
+    let mut children: Vec<EvaluationNode<'a>> = Vec::with_capacity(alloc, 2)?;
     add_child(alloc, first, node, path, ctx, &mut children)?;
     add_child(alloc, second, node, path, ctx, &mut children)?;
-    Ok(EvaluationResult::from_children(alloc, children))
+    outcome.take_children(children);
+    Ok(())
 }

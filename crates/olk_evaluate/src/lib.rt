@@ -1,4 +1,4 @@
-//! What a schema shows of a value: `evaluate` of each validator, over its nodes.
+//! What a schema shows of a value: `show` of each validator, over its nodes.
 //!
 //! Stands on `olk_check`. Tested by `olk_tests`.
 #![tactic(auto)]
@@ -25,37 +25,40 @@ pub trait Located {
 
 /// What can be asked what it shows of a value. What it shows stands at its place.
 pub trait Evaluate<'a>: Located + IsValid {
-    ghost use Rattle.std.specs.Prelude.{◌≡◌, Bool, IfOk};
+    ghost use Rattle.std.specs.Prelude.{◌≡◌, Bool, OnOk};
     ghost use Rattle.olk_base.specs.Nodes.{data_of};
     ghost use Rattle.olk_spec.specs.Names.{Path};
     ghost use Rattle.olk_spec.specs.Tree.{Tree, IsLikeTree, is_valid};
-    ghost use Rattle.olk_reports.specs.Evaluations.{node_at, shown_of};
+    ghost use Rattle.olk_reports.specs.Evaluations.{node_at, nothing_shown, shown_of};
     ghost use Rattle.olk_check.specs.Asks.{OnlyAsks};
 
     // the tree that it shows of a value, with either answer for unfinished matches
     ghost tree: { Self → Bool → Data → Path → Tree };
 
-    /// What it shows of the node: the validity, an annotation, errors of its own and the nodes
-    /// below, in order (JSON Schema 2020-12 Core, 7.7 and 12).
+    /// Writes what it shows of the node into a result that shows nothing yet: the validity, an
+    /// annotation, errors of its own and the nodes below, in order (JSON Schema 2020-12 Core, 7.7
+    /// and 12).
     ///
     /// The path is left as it was, the context keeps its answer, and of the counts only those of
     /// asking rise.
     ///
     /// # Errors
     ///
-    /// Want of memory.
-    fn evaluate(
+    /// Want of memory. The result then shows no more than a part.
+    fn show(
         &'a self,
         alloc: Global,
         node: Node<'a>,
         path: &mut InstancePath,
         ctx: &mut ValidationContext,
-    ) -> Result<EvaluationResult<'a>, AllocError>
-        ensures tree { IfOk result (λ r. IsLikeTree
+        outcome: &mut EvaluationResult<'a>,
+    ) -> Result<(), AllocError>
+        requires { shown_of outcome.old ≡ nothing_shown }
+        ensures tree { OnOk result (IsLikeTree
             (tree self.now ctx.old.answer (data_of node.entry) path.old)
-            (node_at (Self.place self.now) path.old (shown_of r))) }
-        ensures verdict { IfOk result (λ r.
-            is_valid (node_at (Self.place self.now) path.old (shown_of r))
+            (node_at (Self.place self.now) path.old (shown_of outcome.new))) }
+        ensures verdict { OnOk result (
+            is_valid (node_at (Self.place self.now) path.old (shown_of outcome.new))
             ≡ (Self.means self.now (data_of node.entry)).accepts ctx.old.answer) }
         ensures path { path.new ≡ path.old }
         ensures context { OnlyAsks ctx.old ctx.new };
@@ -79,5 +82,5 @@ mod property_names;
 mod required;
 mod walk;
 
-pub use node::evaluate_body;
-pub use walk::child;
+pub use node::show_body;
+pub use walk::{child, outcome_of};

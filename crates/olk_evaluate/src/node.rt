@@ -1,22 +1,24 @@
 //! Keywords and bodies: what they show.
-ghost use Rattle.std.specs.Prelude.{◌≡◌, IfOk};
+ghost use Rattle.std.specs.Prelude.{◌≡◌, OnOk};
 ghost use Rattle.olk_base.specs.Nodes.{data_of};
+ghost use Rattle.olk_spec.specs.Names.{Path};
 ghost use Rattle.olk_spec.specs.Tree.{IsLikeTree, is_valid};
-ghost use Rattle.olk_reports.specs.Evaluations.{node_at, shown_of};
+ghost use Rattle.olk_reports.specs.Evaluations.{node_at, nothing_shown, shown_of};
 ghost use Rattle.olk_tree.specs.Bodies.{body_means, body_tree};
 ghost use Rattle.olk_check.specs.Asks.{OnlyAsks};
 ghost use Rattle.olk_evaluate.specs.Wanted.{HasTexts};
 
 use crate::Evaluate;
-use crate::own::one_error;
-use crate::required::missing_errors;
-use crate::walk::each_child;
+use crate::own::add_own_error;
+use crate::required::add_missing;
+use crate::walk::show_each;
 use olk_base::{Leaf, Node, RegexEngine, ValidationContext};
 use olk_paths::InstancePath;
 use olk_reports::{ErrorDescription, EvaluationResult, ValidationErrorKind};
 use olk_tree::node::{Body, KeywordOver};
 use std::alloc::{AllocError, Global};
 
+// `show` of a validator is never inlined here, so that a leaf doesn't pay for its frame.
 impl<'a, K: Leaf, R: RegexEngine, N: Evaluate<'a>> Evaluate<'a> for KeywordOver<K, R, N> {
     ghost use Rattle.olk_base.specs.Kit.{kit};
     ghost use Rattle.olk_tree.specs.Validators.{answers_of};
@@ -24,90 +26,119 @@ impl<'a, K: Leaf, R: RegexEngine, N: Evaluate<'a>> Evaluate<'a> for KeywordOver<
     ghost tree = { λ k. (answers_of (kit K.Leaf R.RegexEngine) k).tree N.means N.tree };
 
     #[tactic(auto, using(olk_check::proofs::Asked::only_same), unfolding(olk_tree::specs::Validators::answers_of))]
-    fn evaluate(
+    fn show(
         &'a self,
         alloc: Global,
         node: Node<'a>,
         path: &mut InstancePath,
         ctx: &mut ValidationContext,
-    ) -> Result<EvaluationResult<'a>, AllocError> {
+        outcome: &mut EvaluationResult<'a>,
+    ) -> Result<(), AllocError> {
         match self {
-            KeywordOver::Properties(keyword) => keyword.evaluate(alloc, node, path, ctx),
+            KeywordOver::Properties(keyword) => keyword.show(alloc, node, path, ctx, outcome),
             KeywordOver::PropertiesWithRequired2(keyword) => {
-                keyword.evaluate(alloc, node, path, ctx)
+                keyword.show(alloc, node, path, ctx, outcome)
             }
-            KeywordOver::Required(keyword) => keyword.evaluate(alloc, node, path, ctx),
-            KeywordOver::AllOf(keyword) => keyword.evaluate(alloc, node, path, ctx),
-            KeywordOver::SingleValueAllOf(keyword) => keyword.evaluate(alloc, node, path, ctx),
-            KeywordOver::AnyOf(keyword) => keyword.evaluate(alloc, node, path, ctx),
-            KeywordOver::SingleAnyOf(keyword) => keyword.evaluate(alloc, node, path, ctx),
-            KeywordOver::OneOf(keyword) => keyword.evaluate(alloc, node, path, ctx),
-            KeywordOver::SingleOneOf(keyword) => keyword.evaluate(alloc, node, path, ctx),
-            KeywordOver::Not(keyword) => keyword.evaluate(alloc, node, path, ctx),
-            KeywordOver::IfThen(keyword) => keyword.evaluate(alloc, node, path, ctx),
-            KeywordOver::IfElse(keyword) => keyword.evaluate(alloc, node, path, ctx),
-            KeywordOver::IfThenElse(keyword) => keyword.evaluate(alloc, node, path, ctx),
-            KeywordOver::Dependencies(keyword) => keyword.evaluate(alloc, node, path, ctx),
-            KeywordOver::PropertyNames(keyword) => keyword.evaluate(alloc, node, path, ctx),
-            KeywordOver::PropertyNamesFalse(keyword) => keyword.evaluate(alloc, node, path, ctx),
-            KeywordOver::PropertyDependencies(keyword) => keyword.evaluate(alloc, node, path, ctx),
-            KeywordOver::PatternProperties(keyword) => keyword.evaluate(alloc, node, path, ctx),
+            KeywordOver::Required(keyword) => keyword.show(alloc, node, path, ctx, outcome),
+            KeywordOver::AllOf(keyword) => keyword.show(alloc, node, path, ctx, outcome),
+            KeywordOver::SingleValueAllOf(keyword) => keyword.show(alloc, node, path, ctx, outcome),
+            KeywordOver::AnyOf(keyword) => keyword.show(alloc, node, path, ctx, outcome),
+            KeywordOver::SingleAnyOf(keyword) => keyword.show(alloc, node, path, ctx, outcome),
+            KeywordOver::OneOf(keyword) => keyword.show(alloc, node, path, ctx, outcome),
+            KeywordOver::SingleOneOf(keyword) => keyword.show(alloc, node, path, ctx, outcome),
+            KeywordOver::Not(keyword) => keyword.show(alloc, node, path, ctx, outcome),
+            KeywordOver::IfThen(keyword) => keyword.show(alloc, node, path, ctx, outcome),
+            KeywordOver::IfElse(keyword) => keyword.show(alloc, node, path, ctx, outcome),
+            KeywordOver::IfThenElse(keyword) => keyword.show(alloc, node, path, ctx, outcome),
+            KeywordOver::Dependencies(keyword) => keyword.show(alloc, node, path, ctx, outcome),
+            KeywordOver::PropertyNames(keyword) => keyword.show(alloc, node, path, ctx, outcome),
+            KeywordOver::PropertyNamesFalse(keyword) => keyword.show(
+                alloc, node, path, ctx, outcome,
+            ),
+            KeywordOver::PropertyDependencies(keyword) => keyword.show(
+                alloc, node, path, ctx, outcome,
+            ),
+            KeywordOver::PatternProperties(keyword) => keyword.show(
+                alloc, node, path, ctx, outcome,
+            ),
             KeywordOver::SingleValuePatternProperties(keyword) => {
-                keyword.evaluate(alloc, node, path, ctx)
+                keyword.show(alloc, node, path, ctx, outcome)
             }
-            KeywordOver::AdditionalProperties(keyword) => keyword.evaluate(alloc, node, path, ctx),
-            KeywordOver::Leaf(_, leaf) => leaf_errors(alloc, leaf, node),
+            KeywordOver::AdditionalProperties(keyword) => keyword.show(
+                alloc, node, path, ctx, outcome,
+            ),
+            KeywordOver::Leaf(_, leaf) => show_leaf(alloc, leaf, node, outcome),
         }
     }
 }
 
 /// The texts of a leaf as errors.
-fn leaf_errors<'a, K: Leaf>(
+fn show_leaf<'a, K: Leaf>(
     alloc: Global,
     leaf: &'a K,
     node: Node<'a>,
-) -> Result<EvaluationResult<'a>, AllocError>
-    ensures { IfOk result (λ r. HasTexts
-        (K.keyword_of leaf.now) (K.finds leaf.now (data_of node.entry)) (shown_of r)) }
+    outcome: &mut EvaluationResult<'a>,
+) -> Result<(), AllocError>
+    requires { shown_of outcome.old ≡ nothing_shown }
+    ensures { OnOk result (HasTexts
+        (K.keyword_of leaf.now) (K.finds leaf.now (data_of node.entry)) (shown_of outcome.new)) }
 {
-    let mut outcome = EvaluationResult::valid_empty(alloc);
+    if leaf.is_valid(node) {
+        return Ok(());
+    }
+    add_texts(alloc, leaf, node, outcome)
+}
+
+/// The texts of a leaf that refuses, as errors.
+#[inline(never)]
+fn add_texts<'a, K: Leaf>(
+    alloc: Global,
+    leaf: &'a K,
+    node: Node<'a>,
+    outcome: &mut EvaluationResult<'a>,
+) -> Result<(), AllocError>
+    requires { shown_of outcome.old ≡ nothing_shown }
+    ensures { OnOk result (HasTexts
+        (K.keyword_of leaf.now) (K.finds leaf.now (data_of node.entry)) (shown_of outcome.new)) }
+{
     for text in leaf.evaluate(alloc, node)? {
         outcome.mark_errored(ErrorDescription::new(leaf.keyword(), text))?;
     }
-    Ok(outcome)
+    Ok(())
 }
 
-/// What a body shows at its place: nothing where the schema is true, an error where it is false, an
-/// error for each listed name that an object lacks, and otherwise a child for each keyword.
+/// What a body shows at its place, in a result that shows nothing yet: nothing where the schema is
+/// true, an error where it is false, an error for each listed name that an object lacks, and
+/// otherwise a child for each keyword.
 ///
 /// # Errors
 ///
 /// Want of memory.
 #[tactic(auto, using(olk_check::proofs::Asked::only_same))]
-pub fn evaluate_body<'a, W: Evaluate<'a>>(
+pub fn show_body<'a, W: Evaluate<'a>>(
     alloc: Global,
     body: &'a Body<W>,
-    location: &'a str,
     node: Node<'a>,
     path: &mut InstancePath,
     ctx: &mut ValidationContext,
-) -> Result<EvaluationResult<'a>, AllocError>
-    ensures tree { IfOk result (λ r. IsLikeTree
-        (body_tree (λ k. W.tree k ctx.old.answer)
-        location.now body.now (data_of node.entry) path.old)
-        (node_at location.now path.old (shown_of r))) }
-    ensures verdict { IfOk result (λ r. is_valid (node_at location.now path.old (shown_of r))
+    outcome: &mut EvaluationResult<'a>,
+) -> Result<(), AllocError>
+    requires { shown_of outcome.old ≡ nothing_shown }
+    ensures tree { OnOk result ((P : Path) → IsLikeTree
+        (body_tree (λ k. W.tree k ctx.old.answer) P body.now (data_of node.entry) path.old)
+        (node_at P path.old (shown_of outcome.new))) }
+    ensures verdict { OnOk result ((P : Path) → is_valid (node_at P path.old (shown_of outcome.new))
         ≡ (body_means W.means body.now (data_of node.entry)).accepts ctx.old.answer) }
     ensures path { path.new ≡ path.old }
     ensures context { OnlyAsks ctx.old ctx.new }
 {
     match body {
-        Body::True => Ok(EvaluationResult::valid_empty(alloc)),
-        Body::False => one_error(alloc, ValidationErrorKind::FalseSchema, node),
-        Body::Keywords(keywords) => {
-            let children = each_child(alloc, keywords, node, path, ctx)?;
-            Ok(EvaluationResult::from_children(alloc, children))
+        Body::True => Ok(()),
+        Body::False => {
+            let kind: ValidationErrorKind<'a> = ValidationErrorKind::FalseSchema;
+            add_own_error(alloc, outcome, kind, node)
         }
-        Body::RequiredNames(required) => missing_errors(alloc, required, node),
+        Body::Keywords(keywords) => show_each(alloc, keywords, node, path, ctx, outcome),
+        Body::RequiredNames(required) => add_missing(alloc, outcome, required, node),
     }
 }

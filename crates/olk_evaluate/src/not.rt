@@ -1,6 +1,6 @@
 //! `not`: what it shows.
 use crate::Evaluate;
-use crate::own::one_error;
+use crate::own::add_own_error;
 use olk_base::{Node, ValidationContext};
 use olk_check::IsValid;
 use olk_paths::InstancePath;
@@ -15,19 +15,21 @@ impl<'a, N: Evaluate<'a>> Evaluate<'a> for Not<N> {
 
     ghost tree = { λ k. (not_answers k).tree N.means N.tree };
 
-    fn evaluate(
+    #[inline(never)]
+    fn show(
         &'a self,
         alloc: Global,
         node: Node<'a>,
         _path: &mut InstancePath,
         ctx: &mut ValidationContext,
-    ) -> Result<EvaluationResult<'a>, AllocError> {
+        outcome: &mut EvaluationResult<'a>,
+    ) -> Result<(), AllocError> {
         if !self.node.is_valid(node, ctx) {
-            return Ok(EvaluationResult::valid_empty(alloc));
+            return Ok(());
         }
-        let kind = ValidationErrorKind::Not {
+        let kind: ValidationErrorKind<'a> = ValidationErrorKind::Not {
             schema: &self.original,
         };
-        one_error(alloc, kind, node)
+        add_own_error(alloc, outcome, kind, node)
     }
 }

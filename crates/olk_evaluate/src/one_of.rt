@@ -1,12 +1,12 @@
 //! `oneOf`: what it shows.
-ghost use Rattle.std.specs.Prelude.{◌≡◌, ◌∷◌, [], false, None, IfOk};
-ghost use Rattle.olk_reports.specs.Evaluations.{shown, shown_of};
+ghost use Rattle.std.specs.Prelude.{◌≡◌, ◌∷◌, [], false, None, OnOk};
+ghost use Rattle.olk_reports.specs.Evaluations.{nothing_shown, shown, shown_of};
 ghost use Rattle.olk_tree.specs.Shown.{several_accept};
 ghost use Rattle.olk_evaluate.specs.Wanted.{trees_of};
 
 use crate::Evaluate;
 use crate::any_of::accepting_children;
-use crate::walk::{child, each_child};
+use crate::walk::{each_child, show_one};
 use olk_base::{Node, ValidationContext};
 use olk_paths::InstancePath;
 use olk_reports::{ErrorDescription, EvaluationNode, EvaluationResult};
@@ -20,37 +20,44 @@ impl<'a, N: Evaluate<'a>> Evaluate<'a> for OneOf<N> {
 
     ghost tree = { λ k. (one_of_answers k).tree N.means N.tree };
 
-    fn evaluate(
+    #[inline(never)]
+    fn show(
         &'a self,
         alloc: Global,
         node: Node<'a>,
         path: &mut InstancePath,
         ctx: &mut ValidationContext,
-    ) -> Result<EvaluationResult<'a>, AllocError> {
+        outcome: &mut EvaluationResult<'a>,
+    ) -> Result<(), AllocError> {
         let accepting = accepting_children(alloc, &self.schemas, node, path, ctx)?;
         if accepting.is_empty() {
             let children = each_child(alloc, &self.schemas, node, path, ctx)?;
-            return Ok(EvaluationResult::invalid_with(alloc, children));
+            outcome.take_children(children);
+            outcome.mark_invalid();
+            return Ok(());
         }
         if accepting.len() > 1 {
-            return with_several(alloc, accepting);
+            return show_several(alloc, accepting, outcome);
         }
-        Ok(EvaluationResult::from_children(alloc, accepting))
+        outcome.take_children(accepting);
+        Ok(())
     }
 }
 
 /// What several branches show that accept, and the error that there are several.
-fn with_several<'a>(
+fn show_several<'a>(
     alloc: Global,
     accepting: Vec<EvaluationNode<'a>>,
-) -> Result<EvaluationResult<'a>, AllocError>
-    ensures { IfOk result (λ r. shown_of r
+    outcome: &mut EvaluationResult<'a>,
+) -> Result<(), AllocError>
+    requires { shown_of outcome.old ≡ nothing_shown }
+    ensures { OnOk result (shown_of outcome.new
         ≡ shown false None (several_accept ∷ []) (trees_of accepting.entry.items)) }
 {
     let message = String::from_str(alloc, "more than one subschema succeeded")?;
-    let mut outcome = EvaluationResult::from_children(alloc, accepting);
-    outcome.mark_errored(ErrorDescription::new("oneOf", message))?;
-    Ok(outcome)
+    outcome.take_children(accepting);
+    let error: ErrorDescription<'a> = ErrorDescription::new("oneOf", message);
+    outcome.mark_errored(error)
 }
 
 /// A child for the branch.
@@ -59,13 +66,15 @@ impl<'a, N: Evaluate<'a>> Evaluate<'a> for SingleOneOf<N> {
 
     ghost tree = { λ k. (single_one_of_answers k).tree N.means N.tree };
 
-    fn evaluate(
+    #[inline(never)]
+    fn show(
         &'a self,
         alloc: Global,
         node: Node<'a>,
         path: &mut InstancePath,
         ctx: &mut ValidationContext,
-    ) -> Result<EvaluationResult<'a>, AllocError> {
-        EvaluationResult::from_node(alloc, child(alloc, &self.node, node, path, ctx)?)
+        outcome: &mut EvaluationResult<'a>,
+    ) -> Result<(), AllocError> {
+        show_one(alloc, &self.node, node, path, ctx, outcome)
     }
 }

@@ -69,17 +69,3 @@ pub(crate) fn add_own_error<'a>(
 {
     outcome.mark_errored(own_error(alloc, kind, node)?)
 }
-
-/// One error of its own about the node, and nothing else.
-pub(crate) fn one_error<'a>(
-    alloc: Global,
-    kind: ValidationErrorKind<'a>,
-    node: Node<'a>,
-) -> Result<EvaluationResult<'a>, AllocError>
-    ensures { IfOk result (λ r. (P Q : Path) →
-        HasErrors (fault (kind_of kind.entry) (data_of node.entry) Q P ∷ []) (shown_of r)) }
-{
-    let mut outcome = EvaluationResult::valid_empty(alloc);
-    add_own_error(alloc, &mut outcome, kind, node)?;
-    Ok(outcome)
-}

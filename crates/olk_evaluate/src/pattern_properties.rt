@@ -23,21 +23,24 @@ impl<'a, R: RegexEngine, N: Evaluate<'a>> Evaluate<'a> for PatternProperties<R, 
 
     ghost tree = { λ k. (pattern_properties_answers R.answers R.costs k).tree N.means N.tree };
 
+    #[inline(never)]
     #[tactic(auto, using(olk_check::proofs::Asked::only_same))]
-    fn evaluate(
+    fn show(
         &'a self,
         alloc: Global,
         node: Node<'a>,
         path: &mut InstancePath,
         ctx: &mut ValidationContext,
-    ) -> Result<EvaluationResult<'a>, AllocError> {
+        outcome: &mut EvaluationResult<'a>,
+    ) -> Result<(), AllocError> {
         match node.as_object() {
             Some(members) => {
                 let mut met: Met<'a> = Met::with_capacity(alloc, members.len())?;
                 meet_patterns(alloc, &self.patterns, members, path, ctx, &mut met)?;
-                Ok(met.outcome(alloc))
+                met.show(outcome);
+                Ok(())
             }
-            None => Ok(EvaluationResult::valid_empty(alloc)),
+            None => Ok(()),
         }
     }
 }
@@ -49,21 +52,24 @@ impl<'a, R: RegexEngine, N: Evaluate<'a>> Evaluate<'a> for SingleValuePatternPro
 
     ghost tree = { λ k. (single_pattern_properties_answers R.answers R.costs k).tree N.means N.tree };
 
+    #[inline(never)]
     #[tactic(auto, using(olk_check::proofs::Asked::only_same))]
-    fn evaluate(
+    fn show(
         &'a self,
         alloc: Global,
         node: Node<'a>,
         path: &mut InstancePath,
         ctx: &mut ValidationContext,
-    ) -> Result<EvaluationResult<'a>, AllocError> {
+        outcome: &mut EvaluationResult<'a>,
+    ) -> Result<(), AllocError> {
         match node.as_object() {
             Some(members) => {
                 let mut met: Met<'a> = Met::with_capacity(alloc, members.len())?;
                 meet_matched(alloc, &self.regex, &self.node, members, path, ctx, &mut met)?;
-                Ok(met.outcome(alloc))
+                met.show(outcome);
+                Ok(())
             }
-            None => Ok(EvaluationResult::valid_empty(alloc)),
+            None => Ok(()),
         }
     }
 }

@@ -1,5 +1,5 @@
 //! `properties`: what it shows.
-ghost use Rattle.std.specs.Prelude.{◌≡◌, ◌++◌, ◌∷◌, [], IfOk, OnOk, option_to_list};
+ghost use Rattle.std.specs.Prelude.{◌≡◌, ◌++◌, ◌∷◌, [], IfOk, OnOk};
 ghost use Rattle.std.specs.List.{list_all, zip};
 ghost use Rattle.serde_json.specs.View.{view, members_view};
 ghost use Rattle.olk_spec.specs.Schemas.{listed};
@@ -10,11 +10,11 @@ ghost use Rattle.olk_tree.specs.Properties.{properties_mean};
 ghost use Rattle.olk_tree.specs.Visited.{declared_as, members_declared, object_of};
 ghost use Rattle.olk_check.specs.Asks.{OnlyAsks};
 ghost use Rattle.olk_evaluate.specs.Members.{HasMet, MeetsMore, wanted_at};
-ghost use Rattle.olk_evaluate.specs.Wanted.{IsShown, ShowsMore, wanted, trees_of};
+ghost use Rattle.olk_evaluate.specs.Wanted.{ShowsMore, wanted, trees_of};
 
 use crate::Evaluate;
-use crate::required::missing_child;
-use crate::walk::child;
+use crate::required::add_missing_child;
+use crate::walk::add_child;
 use olk_base::{Node, ValidationContext};
 use olk_paths::InstancePath;
 use olk_reports::{EvaluationNode, EvaluationResult};
@@ -30,20 +30,23 @@ impl<'a, N: Evaluate<'a>> Evaluate<'a> for Properties<N> {
 
     ghost tree = { λ k. (properties_answers k).tree N.means N.tree };
 
+    #[inline(never)]
     #[tactic(auto, using(olk_check::proofs::Asked::only_same))]
-    fn evaluate(
+    fn show(
         &'a self,
         alloc: Global,
         node: Node<'a>,
         path: &mut InstancePath,
         ctx: &mut ValidationContext,
-    ) -> Result<EvaluationResult<'a>, AllocError> {
+        outcome: &mut EvaluationResult<'a>,
+    ) -> Result<(), AllocError> {
         match node.as_object() {
             Some(members) => {
                 let met = meet(alloc, &self.properties, members, path, ctx)?;
-                Ok(met.outcome(alloc))
+                met.show(outcome);
+                Ok(())
             }
-            None => Ok(EvaluationResult::valid_empty(alloc)),
+            None => Ok(()),
         }
     }
 }
@@ -55,29 +58,24 @@ impl<'a, N: Evaluate<'a>> Evaluate<'a> for SmallPropertiesWithRequired2<N> {
 
     ghost tree = { λ k. (properties_with_required2_answers k).tree N.means N.tree };
 
+    #[inline(never)]
     #[tactic(auto, using(olk_check::proofs::Asked::only_same))]
-    fn evaluate(
+    fn show(
         &'a self,
         alloc: Global,
         node: Node<'a>,
         path: &mut InstancePath,
         ctx: &mut ValidationContext,
-    ) -> Result<EvaluationResult<'a>, AllocError> {
+        outcome: &mut EvaluationResult<'a>,
+    ) -> Result<(), AllocError> {
         match node.as_object() {
             Some(members) => {
-                let met = meet(alloc, &self.properties, members, path, ctx)?;
-                let missing = missing_child(
-                    alloc,
-                    self.first.as_str(),
-                    self.second.as_str(),
-                    self.required_location.as_str(),
-                    members,
-                    node,
-                    path,
-                )?;
-                Ok(met.with(missing)?.outcome(alloc))
+                let mut met = meet(alloc, &self.properties, members, path, ctx)?;
+                add_missing_child(alloc, self, members, node, path, &mut met.children)?;
+                met.show(outcome);
+                Ok(())
             }
-            None => Ok(EvaluationResult::valid_empty(alloc)),
+            None => Ok(()),
         }
     }
 }
@@ -91,7 +89,7 @@ pub(crate) struct Met<'a> {
 
 impl<'a> Met<'a> {
     ghost use Rattle.std.specs.Prelude.{Some, map};
-    ghost use Rattle.olk_reports.specs.Evaluations.{shown, shown_of};
+    ghost use Rattle.olk_reports.specs.Evaluations.{nothing_shown, shown, shown_of};
 
     /// None yet, with room for so many.
     pub(crate) fn with_capacity(alloc: Global, capacity: usize) -> Result<Met<'a>, AllocError>
@@ -104,41 +102,17 @@ impl<'a> Met<'a> {
         })
     }
 
-    /// One member more.
-    #[inline(always)]
-    pub(crate) fn add(&mut self, name: &'a str, child: EvaluationNode<'a>) -> Result<(), AllocError>
-        ensures names { OnOk result
-            (self.new.names.items ≡ self.old.names.items ++ name.entry ∷ []) }
-        ensures children { OnOk result
-            (self.new.children.items ≡ self.old.children.items ++ child.entry ∷ []) }
-    {
-        self.names.push(name)?;
-        self.children.push(child)?;
-        Ok(())
-    }
-
-    /// With one child more, or none.
-    fn with(self, more: Option<EvaluationNode<'a>>) -> Result<Met<'a>, AllocError>
-        ensures names { IfOk result (λ m. m.names.items ≡ self.entry.names.items) }
-        ensures children { IfOk result (λ m.
-            m.children.items ≡ self.entry.children.items ++ option_to_list more.entry) }
-    {
-        let mut met = self;
-        if let Some(child) = more {
-            met.children.push(child)?;
-        }
-        Ok(met)
-    }
-
     /// The children, and the names as annotation.
-    pub(crate) fn outcome(self, alloc: Global) -> EvaluationResult<'a>
-        ensures { shown_of result ≡ shown (list_all is_valid (trees_of self.entry.children.items))
+    #[inline(always)]
+    pub(crate) fn show(self, outcome: &mut EvaluationResult<'a>)
+        requires { shown_of outcome.old ≡ nothing_shown }
+        ensures { shown_of outcome.new
+            ≡ shown (list_all is_valid (trees_of self.entry.children.items))
             (Some (map (λ n. n.now) self.entry.names.items)) []
             (trees_of self.entry.children.items) }
     {
-        let mut outcome = EvaluationResult::from_children(alloc, self.children);
+        outcome.take_children(self.children);
         outcome.annotate(self.names);
-        outcome
     }
 }
 
@@ -183,9 +157,8 @@ pub(crate) fn meet_member<'a, N: Evaluate<'a>>(
     ensures path { path.new ≡ path.old }
     ensures context { OnlyAsks ctx.old ctx.new }
 {
-    let child = child_below(alloc, subschema, name, value, path, ctx)?;
-    met.add(name, child)?;
-    Ok(())
+    met.names.push(name)?;
+    add_child_below(alloc, subschema, name, value, path, ctx, &mut met.children)
 }
 
 /// One child more: what is shown of a member's value.
@@ -206,29 +179,8 @@ pub(crate) fn add_child_below<'a, N: Evaluate<'a>>(
     ensures path { path.new ≡ path.old }
     ensures context { OnlyAsks ctx.old ctx.new }
 {
-    children.push(child_below(alloc, subschema, name, value, path, ctx)?)?;
-    Ok(())
-}
-
-/// What is shown of a member's value.
-#[inline(always)]
-fn child_below<'a, N: Evaluate<'a>>(
-    alloc: Global,
-    subschema: &'a N,
-    name: &str,
-    value: &'a Value,
-    path: &mut InstancePath,
-    ctx: &mut ValidationContext,
-) -> Result<EvaluationNode<'a>, AllocError>
-    ensures shown { IfOk result (λ c. IsShown
-        (wanted N.tree N.means ctx.old.answer
-        subschema.now (view value.now) (one_below path.old name.now))
-        (tree_of c)) }
-    ensures path { path.new ≡ path.old }
-    ensures context { OnlyAsks ctx.old ctx.new }
-{
     let mark = path.push(name)?;
-    let shown = child(alloc, subschema, Node::Value(value), path, ctx);
+    let added = add_child(alloc, subschema, Node::Value(value), path, ctx, children);
     path.pop(mark);
-    shown
+    added
 }

@@ -25,14 +25,16 @@ impl<'a, N: Evaluate<'a>> Evaluate<'a> for PropertyDependencies<N> {
 
     ghost tree = { λ k. (property_dependencies_answers k).tree N.means N.tree };
 
+    #[inline(never)]
     #[tactic(auto, using(olk_check::proofs::Asked::only_same))]
-    fn evaluate(
+    fn show(
         &'a self,
         alloc: Global,
         node: Node<'a>,
         path: &mut InstancePath,
         ctx: &mut ValidationContext,
-    ) -> Result<EvaluationResult<'a>, AllocError> {
+        outcome: &mut EvaluationResult<'a>,
+    ) -> Result<(), AllocError> {
         match node.as_object() {
             Some(members) => {
                 let children = chosen_children(
@@ -43,9 +45,10 @@ impl<'a, N: Evaluate<'a>> Evaluate<'a> for PropertyDependencies<N> {
                     path,
                     ctx,
                 )?;
-                Ok(EvaluationResult::from_children(alloc, children))
+                outcome.take_children(children);
+                Ok(())
             }
-            None => Ok(EvaluationResult::valid_empty(alloc)),
+            None => Ok(()),
         }
     }
 }
@@ -68,7 +71,7 @@ fn chosen_children<'a, N: Evaluate<'a>>(
     ensures path { path.new ≡ path.old }
     ensures context { OnlyAsks ctx.old ctx.new }
 {
-    let mut children = Vec::new(alloc);
+    let mut children: Vec<EvaluationNode<'a>> = Vec::new(alloc);
     for (_, choices, value) in dependencies.declared_members(members) {
         if let Some(dependency) = choices.chosen_by(value) {
             add_child(alloc, dependency, object, path, ctx, &mut children)?;

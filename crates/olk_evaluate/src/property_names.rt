@@ -6,7 +6,7 @@ ghost use Rattle.olk_check.specs.Asks.{OnlyAsks};
 ghost use Rattle.olk_evaluate.specs.Wanted.{AreShown, names_wanted, trees_of};
 
 use crate::Evaluate;
-use crate::own::one_error;
+use crate::own::add_own_error;
 use crate::walk::add_child;
 use olk_base::{Node, ValidationContext};
 use olk_paths::InstancePath;
@@ -21,20 +21,23 @@ impl<'a, N: Evaluate<'a>> Evaluate<'a> for PropertyNames<N> {
 
     ghost tree = { λ k. (property_names_answers k).tree N.means N.tree };
 
+    #[inline(never)]
     #[tactic(auto, using(olk_check::proofs::Asked::only_same))]
-    fn evaluate(
+    fn show(
         &'a self,
         alloc: Global,
         node: Node<'a>,
         path: &mut InstancePath,
         ctx: &mut ValidationContext,
-    ) -> Result<EvaluationResult<'a>, AllocError> {
+        outcome: &mut EvaluationResult<'a>,
+    ) -> Result<(), AllocError> {
         match node.as_object() {
             Some(members) => {
                 let children = name_children(alloc, &self.node, members, path, ctx)?;
-                Ok(EvaluationResult::from_children(alloc, children))
+                outcome.take_children(children);
+                Ok(())
             }
-            None => Ok(EvaluationResult::valid_empty(alloc)),
+            None => Ok(()),
         }
     }
 }
@@ -45,22 +48,25 @@ impl<'a> Evaluate<'a> for PropertyNamesFalse {
 
     ghost tree = { λ k. (property_names_false_answers k).tree };
 
+    #[inline(never)]
     #[tactic(auto, using(olk_check::proofs::Asked::only_same))]
-    fn evaluate(
+    fn show(
         &'a self,
         alloc: Global,
         node: Node<'a>,
         _path: &mut InstancePath,
         _ctx: &mut ValidationContext,
-    ) -> Result<EvaluationResult<'a>, AllocError> {
+        outcome: &mut EvaluationResult<'a>,
+    ) -> Result<(), AllocError> {
         match node.as_object() {
             Some(members) => {
                 if members.is_empty() {
-                    return Ok(EvaluationResult::valid_empty(alloc));
+                    return Ok(());
                 }
-                one_error(alloc, ValidationErrorKind::FalseSchema, node)
+                let kind: ValidationErrorKind<'a> = ValidationErrorKind::FalseSchema;
+                add_own_error(alloc, outcome, kind, node)
             }
-            None => Ok(EvaluationResult::valid_empty(alloc)),
+            None => Ok(()),
         }
     }
 }
@@ -80,7 +86,7 @@ fn name_children<'a, N: Evaluate<'a>>(
     ensures path { path.new ≡ path.old }
     ensures context { OnlyAsks ctx.old ctx.new }
 {
-    let mut children = Vec::with_capacity(alloc, members.len())?;
+    let mut children: Vec<EvaluationNode<'a>> = Vec::with_capacity(alloc, members.len())?;
     for (name, _) in members {
         add_child(alloc, subschema, Node::Name(name), path, ctx, &mut children)?;
     }

@@ -1,22 +1,24 @@
 //! `required`: what it shows.
-ghost use Rattle.std.specs.Prelude.{◌≡◌, ◌++◌, ◌∷◌, [], not, map, List, IfOk, OnOk, option_to_list};
+ghost use Rattle.std.specs.Prelude.{◌≡◌, ◌++◌, ◌∷◌, [], not, map, List, OnOk, string_bytes};
 ghost use Rattle.olk_base.specs.Nodes.{data_of};
 ghost use Rattle.olk_spec.specs.Names.{Path, is_empty};
 ghost use Rattle.olk_spec.specs.Faults.{Fault, fault, Required};
 ghost use Rattle.olk_spec.specs.Schemas.{has};
 ghost use Rattle.olk_spec.specs.Accepts.{missing};
 ghost use Rattle.olk_spec.specs.Reports.{fault_if, required_faults};
-ghost use Rattle.olk_reports.specs.Evaluations.{shown_of};
-ghost use Rattle.olk_tree.specs.Maps.{texts_of};
+ghost use Rattle.olk_reports.specs.Evaluations.{nothing_shown, shown_of};
+ghost use Rattle.olk_tree.specs.Maps.{texts_of, two_texts};
 ghost use Rattle.olk_tree.specs.Visited.{object_of};
-ghost use Rattle.olk_evaluate.specs.Wanted.{HasErrors, AreShown, refused, lacking_trees, trees_of};
+ghost use Rattle.olk_evaluate.specs.Wanted.{AddsShown, HasErrors, refused, lacking_trees};
 
 use crate::Evaluate;
-use crate::own::{add_own_error, one_error};
+use crate::own::add_own_error;
 use olk_base::{Node, ValidationContext};
 use olk_members::has_member;
-use olk_paths::InstancePath;
+use olk_paths::{InstancePath, PathText};
 use olk_reports::{EvaluationNode, EvaluationResult, ValidationErrorKind};
+use olk_tree::additional_properties::RequiredName;
+use olk_tree::properties::SmallPropertiesWithRequired2;
 use olk_tree::required::RequiredValidator;
 use serde_json::{Map, Value};
 use std::alloc::{AllocError, Global};
@@ -28,51 +30,56 @@ impl<'a> Evaluate<'a> for RequiredValidator {
 
     ghost tree = { λ k. (required_answers k).tree };
 
+    #[inline(never)]
     #[tactic(auto, using(olk_check::proofs::Asked::only_same))]
-    fn evaluate(
+    fn show(
         &'a self,
         alloc: Global,
         node: Node<'a>,
         _path: &mut InstancePath,
         _ctx: &mut ValidationContext,
-    ) -> Result<EvaluationResult<'a>, AllocError> {
-        missing_errors(alloc, self, node)
+        outcome: &mut EvaluationResult<'a>,
+    ) -> Result<(), AllocError> {
+        add_missing(alloc, outcome, self, node)
     }
 }
 
-/// The result with an error for each of the names that the value lacks.
-pub(crate) fn missing_errors<'a>(
+/// Adds an error for each of the names that the value lacks.
+pub(crate) fn add_missing<'a>(
     alloc: Global,
+    outcome: &mut EvaluationResult<'a>,
     required: &'a RequiredValidator,
     node: Node<'a>,
-) -> Result<EvaluationResult<'a>, AllocError>
-    ensures { IfOk result (λ r. (P Q : Path) → HasErrors
+) -> Result<(), AllocError>
+    requires { shown_of outcome.old ≡ nothing_shown }
+    ensures { OnOk result ((P Q : Path) → HasErrors
         (required_faults (texts_of required.now.required.items) (data_of node.entry) P Q)
-        (shown_of r)) }
+        (shown_of outcome.new)) }
 {
     match node.as_object() {
-        Some(members) => result_of_required(alloc, &required.required, members, node),
-        None => Ok(EvaluationResult::valid_empty(alloc)),
+        Some(members) => add_each_missing(alloc, outcome, &required.required, members, node),
+        None => Ok(()),
     }
 }
 
-/// The result with an error for each of the names that is no member.
-fn result_of_required<'a>(
+/// Adds an error for each of the names that is no member.
+fn add_each_missing<'a>(
     alloc: Global,
+    outcome: &mut EvaluationResult<'a>,
     names: &'a Vec<String>,
     members: &Map<String, Value>,
     node: Node<'a>,
-) -> Result<EvaluationResult<'a>, AllocError>
-    ensures { IfOk result (λ r. (P Q : Path) → HasErrors
+) -> Result<(), AllocError>
+    requires { shown_of outcome.old ≡ nothing_shown }
+    ensures { OnOk result ((P Q : Path) → HasErrors
         (map (λ n. fault (Required n) (data_of node.entry) Q P)
         (missing (texts_of names.now.items) (object_of members.now.entries)))
-        (shown_of r)) }
+        (shown_of outcome.new)) }
 {
-    let mut outcome = EvaluationResult::valid_empty(alloc);
     for name in names {
-        add_error_if_missing(alloc, &mut outcome, name.as_str(), members, node)?;
+        add_error_if_missing(alloc, outcome, name.as_str(), members, node)?;
     }
-    Ok(outcome)
+    Ok(())
 }
 
 /// Adds an error where the name is no member.
@@ -93,7 +100,7 @@ fn add_error_if_missing<'a>(
     if has_member(members, name) {
         return Ok(());
     }
-    let kind = ValidationErrorKind::Required { property: name };
+    let kind: ValidationErrorKind<'a> = ValidationErrorKind::Required { property: name };
     add_own_error(alloc, outcome, kind, node)
 }
 
@@ -108,67 +115,74 @@ fn lacks_either(members: &Map<String, Value>, first: &str, second: &str) -> bool
     !has_member(members, second)
 }
 
-/// The result with an error for each of two names that is no member.
-fn result_of_two_required<'a>(
+/// Adds an error for each of two names that is no member.
+fn add_missing_of_two<'a>(
     alloc: Global,
+    outcome: &mut EvaluationResult<'a>,
     first: &'a str,
     second: &'a str,
     members: &Map<String, Value>,
     node: Node<'a>,
-) -> Result<EvaluationResult<'a>, AllocError>
-    ensures { IfOk result (λ r. (P Q : Path) → HasErrors
+) -> Result<(), AllocError>
+    requires { shown_of outcome.old ≡ nothing_shown }
+    ensures { OnOk result ((P Q : Path) → HasErrors
         (map (λ n. fault (Required n) (data_of node.entry) Q P)
         (missing (first.now ∷ second.now ∷ []) (object_of members.now.entries)))
-        (shown_of r)) }
+        (shown_of outcome.new)) }
 {
-    let mut outcome = EvaluationResult::valid_empty(alloc);
-    add_error_if_missing(alloc, &mut outcome, first, members, node)?;
-    add_error_if_missing(alloc, &mut outcome, second, members, node)?;
-    Ok(outcome)
+    add_error_if_missing(alloc, outcome, first, members, node)?;
+    add_error_if_missing(alloc, outcome, second, members, node)
 }
 
-/// A child at the place of `required`, where one of the names is no member.
-pub(crate) fn missing_child<'a>(
+/// A child more at the place of `required`, where one of two names is no member.
+pub(crate) fn add_missing_child<'a, N>(
     alloc: Global,
-    first: &'a str,
-    second: &'a str,
-    location: &'a str,
+    keyword: &'a SmallPropertiesWithRequired2<N>,
     members: &Map<String, Value>,
     node: Node<'a>,
     path: &InstancePath,
-) -> Result<Option<EvaluationNode<'a>>, AllocError>
-    ensures { IfOk result (λ o. AreShown
-        (refused (lacking_trees (first.now ∷ second.now ∷ [])
-        (data_of node.entry) (object_of members.now.entries) location.now path.now))
-        (trees_of (option_to_list o))) }
+    children: &mut Vec<EvaluationNode<'a>>,
+) -> Result<(), AllocError>
+    ensures { OnOk result (AddsShown
+        (refused (lacking_trees (two_texts keyword.now.first keyword.now.second)
+        (data_of node.entry) (object_of members.now.entries) keyword.now.required_location path.now))
+        children.old.items children.new.items) }
 {
+    let first = keyword.first.as_str();
+    let second = keyword.second.as_str();
     if !lacks_either(members, first, second) {
-        return Ok(None);
+        return Ok(());
     }
-    let outcome = result_of_two_required(alloc, first, second, members, node)?;
-    let child = EvaluationNode::at(alloc, location, path, outcome)?;
-    Ok(Some(child))
+    let text = PathText::from_str(alloc, path.as_str())?;
+    let location = keyword.required_location.as_str();
+    let mut child: EvaluationNode<'a> = EvaluationNode::at(alloc, location, text);
+    add_missing_of_two(alloc, &mut child.result, first, second, members, node)?;
+    children.push(child)?;
+    Ok(())
 }
 
-/// A child at the place of `required`, where the name is no member.
-pub(crate) fn missing_name_child<'a>(
+/// A child more at the place of `required`, where the name is no member.
+pub(crate) fn add_missing_name<'a>(
     alloc: Global,
-    name: &'a str,
-    location: &'a str,
+    required: &'a RequiredName,
     members: &Map<String, Value>,
     node: Node<'a>,
     path: &InstancePath,
-) -> Result<Option<EvaluationNode<'a>>, AllocError>
-    ensures { IfOk result (λ o. AreShown
-        (refused (lacking_trees (name.now ∷ [])
-        (data_of node.entry) (object_of members.now.entries) location.now path.now))
-        (trees_of (option_to_list o))) }
+    children: &mut Vec<EvaluationNode<'a>>,
+) -> Result<(), AllocError>
+    ensures { OnOk result (AddsShown
+        (refused (lacking_trees (string_bytes required.now.name ∷ [])
+        (data_of node.entry) (object_of members.now.entries) required.now.location path.now))
+        children.old.items children.new.items) }
 {
+    let name = required.name.as_str();
     if has_member(members, name) {
-        return Ok(None);
+        return Ok(());
     }
-    let kind = ValidationErrorKind::Required { property: name };
-    let outcome = one_error(alloc, kind, node)?;
-    let child = EvaluationNode::at(alloc, location, path, outcome)?;
-    Ok(Some(child))
+    let text = PathText::from_str(alloc, path.as_str())?;
+    let mut child: EvaluationNode<'a> = EvaluationNode::at(alloc, required.location.as_str(), text);
+    let kind: ValidationErrorKind<'a> = ValidationErrorKind::Required { property: name };
+    add_own_error(alloc, &mut child.result, kind, node)?;
+    children.push(child)?;
+    Ok(())
 }

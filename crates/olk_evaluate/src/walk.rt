@@ -1,15 +1,46 @@
 //! What the nodes of a keyword show.
 ghost use Rattle.std.specs.Prelude.{◌≡◌, IfOk, OnOk};
 ghost use Rattle.olk_base.specs.Nodes.{data_of};
+ghost use Rattle.olk_spec.specs.Tree.{IsLikeTree, is_valid};
 ghost use Rattle.olk_check.specs.Asks.{OnlyAsks};
-ghost use Rattle.olk_reports.specs.Evaluations.{tree_of};
-ghost use Rattle.olk_evaluate.specs.Wanted.{IsShown, AreShown, ShowsMore, wanted, each_wanted, trees_of};
+ghost use Rattle.olk_reports.specs.Evaluations.{node_at, nothing_shown, shown_of, tree_of};
+ghost use Rattle.olk_evaluate.specs.Wanted.{IsShown, AreShown, ShowsEach, ShowsMore, ShowsOne, wanted, each_wanted, trees_of};
 
 use crate::Evaluate;
 use olk_base::{Node, ValidationContext};
-use olk_paths::InstancePath;
-use olk_reports::EvaluationNode;
+use olk_paths::{InstancePath, PathText};
+use olk_reports::{EvaluationNode, EvaluationResult};
 use std::alloc::{AllocError, Global};
+
+/// What one node shows: the validity, an annotation, errors of its own and the nodes below, in order
+/// (JSON Schema 2020-12 Core, 7.7 and 12).
+///
+/// The path is left as it was, the context keeps its answer, and of the counts only those of asking
+/// rise.
+///
+/// # Errors
+///
+/// Want of memory.
+pub fn outcome_of<'a, N: Evaluate<'a>>(
+    alloc: Global,
+    schema: &'a N,
+    node: Node<'a>,
+    path: &mut InstancePath,
+    ctx: &mut ValidationContext,
+) -> Result<EvaluationResult<'a>, AllocError>
+    ensures tree { IfOk result (λ r. IsLikeTree
+        (N.tree schema.now ctx.old.answer (data_of node.entry) path.old)
+        (node_at (N.place schema.now) path.old (shown_of r))) }
+    ensures verdict { IfOk result (λ r.
+        is_valid (node_at (N.place schema.now) path.old (shown_of r))
+        ≡ (N.means schema.now (data_of node.entry)).accepts ctx.old.answer) }
+    ensures path { path.new ≡ path.old }
+    ensures context { OnlyAsks ctx.old ctx.new }
+{
+    let mut outcome: EvaluationResult<'a> = EvaluationResult::valid_empty(alloc);
+    schema.show(alloc, node, path, ctx, &mut outcome)?;
+    Ok(outcome)
+}
 
 /// What one node shows, at its place and at the path.
 ///
@@ -29,8 +60,10 @@ pub fn child<'a, N: Evaluate<'a>>(
     ensures path { path.new ≡ path.old }
     ensures context { OnlyAsks ctx.old ctx.new }
 {
-    let outcome = schema.evaluate(alloc, node, path, ctx)?;
-    EvaluationNode::at(alloc, schema.location(), path, outcome)
+    let text = PathText::from_str(alloc, path.as_str())?;
+    let mut made: EvaluationNode<'a> = EvaluationNode::at(alloc, schema.location(), text);
+    schema.show(alloc, node, path, ctx, &mut made.result)?;
+    Ok(made)
 }
 
 /// One child more: what the node shows.
@@ -49,7 +82,52 @@ pub(crate) fn add_child<'a, N: Evaluate<'a>>(
     ensures path { path.new ≡ path.old }
     ensures context { OnlyAsks ctx.old ctx.new }
 {
-    children.push(child(alloc, schema, node, path, ctx)?)?;
+    let text = PathText::from_str(alloc, path.as_str())?;
+    let last = children.len();
+    children.reserve(1)?;
+    children.push_reserved(EvaluationNode::at(alloc, schema.location(), text));
+    schema.show(alloc, node, path, ctx, &mut children[last].result)
+}
+
+/// What each of them shows, below a result that shows nothing yet.
+pub(crate) fn show_each<'a, N: Evaluate<'a>>(
+    alloc: Global,
+    schemas: &'a Vec<N>,
+    node: Node<'a>,
+    path: &mut InstancePath,
+    ctx: &mut ValidationContext,
+    outcome: &mut EvaluationResult<'a>,
+) -> Result<(), AllocError>
+    requires { shown_of outcome.old ≡ nothing_shown }
+    ensures shown { OnOk result (ShowsEach N.tree N.means ctx.old.answer
+        schemas.now.items (data_of node.entry) path.old (shown_of outcome.new)) }
+    ensures path { path.new ≡ path.old }
+    ensures context { OnlyAsks ctx.old ctx.new }
+{
+    let children = each_child(alloc, schemas, node, path, ctx)?;
+    outcome.take_children(children);
+    Ok(())
+}
+
+/// What the one shows, below a result that shows nothing yet.
+pub(crate) fn show_one<'a, N: Evaluate<'a>>(
+    alloc: Global,
+    schema: &'a N,
+    node: Node<'a>,
+    path: &mut InstancePath,
+    ctx: &mut ValidationContext,
+    outcome: &mut EvaluationResult<'a>,
+) -> Result<(), AllocError>
+    requires { shown_of outcome.old ≡ nothing_shown }
+    ensures shown { OnOk result (ShowsOne
+        (wanted N.tree N.means ctx.old.answer schema.now (data_of node.entry) path.old)
+        (shown_of outcome.new)) }
+    ensures path { path.new ≡ path.old }
+    ensures context { OnlyAsks ctx.old ctx.new }
+{
+    let mut children: Vec<EvaluationNode<'a>> = Vec::with_capacity(alloc, 1)?;
+    add_child(alloc, schema, node, path, ctx, &mut children)?;
+    outcome.take_children(children);
     Ok(())
 }
 
@@ -67,7 +145,7 @@ pub(crate) fn each_child<'a, N: Evaluate<'a>>(
     ensures path { path.new ≡ path.old }
     ensures context { OnlyAsks ctx.old ctx.new }
 {
-    let mut children = Vec::with_capacity(alloc, schemas.len())?;
+    let mut children: Vec<EvaluationNode<'a>> = Vec::with_capacity(alloc, schemas.len())?;
     for schema in schemas {
         add_child(alloc, schema, node, path, ctx, &mut children)?;
     }

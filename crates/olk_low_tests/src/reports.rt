@@ -372,7 +372,8 @@ fn push_node<'a>(
     place: &'a str,
     children: Vec<EvaluationNode<'a>>,
 ) -> Result<(), AllocError> {
-    let mut outcome = EvaluationResult::from_children(alloc, children);
+    let mut outcome = EvaluationResult::valid_empty(alloc);
+    outcome.take_children(children);
     let path = fill(alloc, &mut outcome, tree, place)?;
     push(nodes, EvaluationNode::new(place, path, outcome))
 }
@@ -489,24 +490,25 @@ fn parts<'a>(
     text
 }
 
-fn from_node(alloc: Global) -> Result<String, AllocError> {
+fn above_one(alloc: Global) -> Result<String, AllocError> {
     let mut nodes = Vec::new(alloc);
     push_node(alloc, &mut nodes, "node", "/oneOf/0", Vec::new(alloc))?;
-    match nodes.pop() {
-        Some(inner) => parts(alloc, "/oneOf", EvaluationResult::from_node(alloc, inner)?),
-        None => String::from_str(alloc, "no node"),
-    }
+    let mut outcome = EvaluationResult::valid_empty(alloc);
+    outcome.take_children(nodes);
+    parts(alloc, "/oneOf", outcome)
+}
+
+fn invalid(alloc: Global) -> Result<String, AllocError> {
+    let mut outcome = EvaluationResult::valid_empty(alloc);
+    outcome.mark_invalid();
+    parts(alloc, "/oneOf", outcome)
 }
 
 /// An evaluation, by what it is of.
 fn evaluation(alloc: Global, word: &str) -> Result<String, AllocError> {
     match word {
-        "node" => from_node(alloc),
-        "invalid" => parts(
-            alloc,
-            "/oneOf",
-            EvaluationResult::invalid_with(alloc, Vec::new(alloc)),
-        ),
+        "node" => above_one(alloc),
+        "invalid" => invalid(alloc),
         "empty" => parts(alloc, "", EvaluationResult::valid_empty(alloc)),
         _ => entries(alloc, word),
     }

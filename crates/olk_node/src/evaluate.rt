@@ -1,7 +1,7 @@
 //! What a place shows of a value.
 use crate::node::SchemaNode;
 use olk_base::{Leaf, Node, RegexEngine, ValidationContext};
-use olk_evaluate::{Evaluate, Located, evaluate_body};
+use olk_evaluate::{Evaluate, Located, show_body};
 use olk_paths::InstancePath;
 use olk_reports::EvaluationResult;
 use std::alloc::{AllocError, Global};
@@ -23,13 +23,14 @@ impl<'a, K: Leaf, R: RegexEngine> Evaluate<'a> for SchemaNode<K, R> {
     ghost tree = { λ n. (answers (kit K.Leaf R.RegexEngine) n).tree };
 
     #[tactic(auto, using(crate::proofs::Layers::layers))]
-    fn evaluate(
+    fn show(
         &'a self,
         alloc: Global,
         node: Node<'a>,
         path: &mut InstancePath,
         ctx: &mut ValidationContext,
-    ) -> Result<EvaluationResult<'a>, AllocError> {
-        evaluate_body(alloc, &self.body, self.location.as_str(), node, path, ctx)
+        outcome: &mut EvaluationResult<'a>,
+    ) -> Result<(), AllocError> {
+        show_body(alloc, &self.body, node, path, ctx, outcome)
     }
 }

@@ -1,15 +1,15 @@
 -- Facts on results and the trees that they show.
-use Rattle.std.proofs.Common.{◌≡◌, ℕ, Bool, true, false, Option, option_map, List, [], ◌∷◌, ◌++◌, map, refl, sym, ap, ◌∙◌, Vec, Bor}
+use Rattle.std.proofs.Common.{◌≡◌, ℕ, Bool, true, false, Option, option_map, List, [], ◌∷◌, ◌++◌, map, refl, sym, ap, ◌∙◌, ◌&&◌, Vec, Bor}
 use Rattle.std.specs.List.{list_all}
 use Rattle.std.specs.declared.alloc.Global.{Global}
 use Rattle.std.proofs.lemmas.List.Folds.{list_all-map}
 use Rattle.std.proofs.lemmas.List.{map-append}
 use Rattle.olk_spec.specs.Names.{Name, Path}
 use Rattle.olk_spec.specs.Tree.{Tree, Described, trees_from, result_node, is_valid}
-use Rattle.olk_reports.specs.Evaluations.{Shown, shown, shown_of, tree_of, node_at, errored, described_of, node_step, result_step, trees_in, tree_schema_path, tree_instance_path, tree_errors, tree_children}
+use Rattle.olk_reports.specs.Evaluations.{Shown, shown, shown_of, tree_of, node_at, errored, with_children, called_invalid, result_of, with_result, described_of, node_step, result_step, trees_in, tree_schema_path, tree_instance_path, tree_errors, tree_children}
 use Rattle.olk_reports.specs.declared.evaluation.ErrorDescription.{ErrorDescription}
-use Rattle.olk_reports.specs.declared.evaluation.EvaluationNode.{EvaluationNode, out-EvaluationNode, roll-EvaluationNode}
-use Rattle.olk_reports.specs.declared.evaluation.EvaluationResult.{EvaluationResult, out-EvaluationResult, roll-EvaluationResult}
+use Rattle.olk_reports.specs.declared.evaluation.EvaluationNode.{EvaluationNode, out-EvaluationNode, roll-EvaluationNode, out-roll-EvaluationNode}
+use Rattle.olk_reports.specs.declared.evaluation.EvaluationResult.{EvaluationResult, out-EvaluationResult, roll-EvaluationResult, out-roll-EvaluationResult}
 use Rattle.olk_reports.specs.declared.evaluation.EvaluationNode.TheFolds.{fold_out-EvaluationNode, fold_out-EvaluationResult, fold-roll-EvaluationResult, fold-roll-EvaluationNode}
 
 pub each_valid : (ns : List EvaluationNode) → list_all is_valid (map tree_of ns) ≡ list_all (λ n. is_valid (tree_of n)) ns
@@ -38,9 +38,9 @@ pub parts_of_shown : (r : EvaluationResult) → shown_of r ≡ shown (out-Evalua
 parts_of_shown r = fold_out-EvaluationResult Tree Shown node_step result_step r
 
 -- one more error, which makes it invalid
-pub shown_errored : (r : EvaluationResult) (es : Vec ErrorDescription Global) (e : ErrorDescription) → es.items ≡ (out-EvaluationResult r).errors.items ++ e ∷ [] → shown_of (roll-EvaluationResult record { valid = false; annotation = (out-EvaluationResult r).annotation; errors = es; children = (out-EvaluationResult r).children }) ≡ errored (described_of e) (shown_of r)
+pub shown_errored : (r : EvaluationResult) (es : Vec ErrorDescription Global) (e : ErrorDescription) → es.items ≡ (out-EvaluationResult r).errors.items ++ e ∷ [] → called_invalid (shown_of (roll-EvaluationResult record (out-EvaluationResult r) { errors = es })) ≡ errored (described_of e) (shown_of r)
 shown_errored r es e more =
-    shown_of_parts false (out-EvaluationResult r).annotation es (out-EvaluationResult r).children
+    ap called_invalid (shown_of_parts (out-EvaluationResult r).valid (out-EvaluationResult r).annotation es (out-EvaluationResult r).children)
     ∙ ap (λ l. shown false (option_map (λ ns. map (λ n. n.now) ns.items) (out-EvaluationResult r).annotation) l (map tree_of (out-EvaluationResult r).children.items)) (ap (map described_of) more ∙ map-append described_of (out-EvaluationResult r).errors.items (e ∷ []))
     ∙ ap (errored (described_of e)) (sym (parts_of_shown r))
 
@@ -77,3 +77,18 @@ instance_path_of n = ap tree_instance_path (node_of_parts n) ∙ instance_path_o
 
 pub tree_of_parts : (P : Bor (List ℕ)) (Q : Path) (r : EvaluationResult) → tree_of (roll-EvaluationNode record { schema_path = P; instance_path = Q; result = r }) ≡ node_at P.now Q (shown_of r)
 tree_of_parts P Q r = fold-roll-EvaluationNode Tree Shown node_step result_step record { schema_path = P; instance_path = Q; result = r }
+
+module _ (P : Bor (List ℕ)) (Q : Path) (r : EvaluationResult) where
+  pub result_of_parts : result_of (roll-EvaluationNode record { schema_path = P; instance_path = Q; result = r }) ≡ r
+  result_of_parts = ap (λ n. n.result) (out-roll-EvaluationNode record { schema_path = P; instance_path = Q; result = r })
+
+  pub tree_with_result : (s : EvaluationResult) → tree_of (with_result (roll-EvaluationNode record { schema_path = P; instance_path = Q; result = r }) s) ≡ node_at P.now Q (shown_of s)
+  tree_with_result s = ap (λ n. tree_of (roll-EvaluationNode record n { result = s })) (out-roll-EvaluationNode record { schema_path = P; instance_path = Q; result = r }) ∙ tree_of_parts P Q s
+
+-- other children, and invalid where one of them is
+pub shown_with_children : (r : EvaluationResult) (ts : Vec EvaluationNode Global) (valid : Bool) → valid ≡ list_all (λ n. is_valid (tree_of n)) ts.items
+    → shown_of (roll-EvaluationResult record { valid = (out-EvaluationResult r).valid && valid; annotation = (out-EvaluationResult r).annotation; errors = (out-EvaluationResult r).errors; children = ts }) ≡ with_children (map tree_of ts.items) (shown_of r)
+shown_with_children r ts valid is =
+    shown_of_parts ((out-EvaluationResult r).valid && valid) (out-EvaluationResult r).annotation (out-EvaluationResult r).errors ts
+    ∙ ap (λ b. shown ((out-EvaluationResult r).valid && b) (option_map (λ ns. map (λ n. n.now) ns.items) (out-EvaluationResult r).annotation) (map described_of (out-EvaluationResult r).errors.items) (map tree_of ts.items)) (is ∙ sym (each_valid ts.items))
+    ∙ ap (with_children (map tree_of ts.items)) (sym (parts_of_shown r))

@@ -1,9 +1,10 @@
 -- The tree that an evaluation node stands for.
-use Rattle.std.specs.Prelude.{Bool, false, Option, Some, None, List, [], ◌∷◌, ◌++◌, map, option_map, string_bytes}
+use Rattle.std.specs.Prelude.{Bool, true, false, ◌&&◌, Option, Some, None, List, [], ◌∷◌, ◌++◌, map, option_map, string_bytes}
+use Rattle.std.specs.List.{list_all}
 use Rattle.olk_spec.specs.Names.{Name, Path}
-use Rattle.olk_spec.specs.Tree.{Tree, node, leaf_node, Trees, no_tree, and_tree, Described, trees_from, result_node}
+use Rattle.olk_spec.specs.Tree.{Tree, node, leaf_node, Trees, no_tree, and_tree, Described, trees_from, result_node, is_valid}
 use Rattle.olk_reports.specs.declared.evaluation.ErrorDescription.{ErrorDescription}
-use Rattle.olk_reports.specs.declared.evaluation.EvaluationNode.{EvaluationNode}
+use Rattle.olk_reports.specs.declared.evaluation.EvaluationNode.{EvaluationNode, out-EvaluationNode, roll-EvaluationNode}
 use Rattle.olk_reports.specs.declared.evaluation.EvaluationResult.{EvaluationResult}
 use Rattle.olk_reports.specs.declared.evaluation.EvaluationNode.TheOpen.{EvaluationResult-F, EvaluationNode-F}
 use Rattle.olk_reports.specs.declared.evaluation.EvaluationNode.TheFolds.{fold-EvaluationResult, fold-EvaluationNode}
@@ -12,11 +13,22 @@ use Rattle.olk_reports.specs.declared.evaluation.EvaluationNode.TheFolds.{fold-E
 pub data Shown : Type 0 where
   shown : Bool → Option (List Name) → List Described → List Tree → Shown
 
+-- what it has while it shows nothing
+abbrev pub nothing_shown : Shown
+nothing_shown = shown true None [] []
+
 abbrev pub annotated : List Name → Shown → Shown
 annotated ns (shown b a es ts) = shown b (Some ns) es ts
 
 abbrev pub errored : Described → Shown → Shown
 errored e (shown b a es ts) = shown false a (es ++ e ∷ []) ts
+
+-- over these nodes, and invalid where one of them is
+abbrev pub with_children : List Tree → Shown → Shown
+with_children ts (shown b a es us) = shown (b && list_all is_valid ts) a es ts
+
+abbrev pub called_invalid : Shown → Shown
+called_invalid (shown b a es ts) = shown false a es ts
 
 -- an invalid one shows no annotation
 abbrev pub node_at : Path → Path → Shown → Tree
@@ -37,6 +49,14 @@ shown_of = fold-EvaluationResult Tree Shown node_step result_step
 
 abbrev pub tree_of : EvaluationNode → Tree
 tree_of = fold-EvaluationNode Tree Shown node_step result_step
+
+-- what is shown at a node's places
+abbrev pub result_of : EvaluationNode → EvaluationResult
+result_of n = (out-EvaluationNode n).result
+
+-- the node with another result
+abbrev pub with_result : EvaluationNode → EvaluationResult → EvaluationNode
+with_result n r = roll-EvaluationNode record (out-EvaluationNode n) { result = r }
 
 -- the parts of a tree
 abbrev pub tree_schema_path : Tree → Path

@@ -4,7 +4,7 @@ ghost use Rattle.olk_spec.specs.Tree.{trees_from, errors, annotations, is_valid,
 ghost use Rattle.std.specs.List.{list_all};
 ghost use Rattle.olk_reports.specs.Evaluations.{tree_of};
 
-use olk_paths::{InstancePath, PathText};
+use olk_paths::PathText;
 use std::alloc::{AllocError, Global};
 
 /// An error as an evaluation shows it: the keyword and the message.
@@ -55,7 +55,8 @@ pub struct EvaluationResult<'a> {
 pub struct EvaluationNode<'a> {
     schema_path: &'a str,
     instance_path: PathText,
-    pub(crate) result: EvaluationResult<'a>,
+    /// What is shown there.
+    pub result: EvaluationResult<'a>,
 }
 
 // By hand, so that the crates above drop a node by one call.
@@ -70,11 +71,11 @@ impl Drop for EvaluationNode<'_> {
 }
 
 impl<'a> EvaluationResult<'a> {
-    ghost use Rattle.olk_reports.specs.Evaluations.{Shown, shown, shown_of, tree_of, described_of, annotated, errored};
+    ghost use Rattle.olk_reports.specs.Evaluations.{Shown, shown_of, tree_of, described_of, nothing_shown, annotated, errored, with_children, called_invalid};
 
     /// Valid, with nothing to show.
     pub fn valid_empty(alloc: Global) -> Self
-        ensures { shown_of result ≡ shown true None [] [] }
+        ensures { shown_of result ≡ nothing_shown }
     {
         EvaluationResult {
             valid: true,
@@ -84,43 +85,21 @@ impl<'a> EvaluationResult<'a> {
         }
     }
 
-    /// Valid exactly if all children are.
-    pub fn from_children(alloc: Global, children: Vec<EvaluationNode<'a>>) -> Self
-        ensures { shown_of result
-            ≡ shown (list_all is_valid (map tree_of children.entry.items)) None []
-            (map tree_of children.entry.items) }
+    /// Takes these as the nodes below, and is invalid where one of them is.
+    #[inline(always)]
+    pub fn take_children(&mut self, children: Vec<EvaluationNode<'a>>)
+        ensures { shown_of self.new
+            ≡ with_children (map tree_of children.entry.items) (shown_of self.old) }
     {
-        let valid = all_valid(children.as_slice());
-        EvaluationResult {
-            valid,
-            annotation: None,
-            errors: Vec::new(alloc),
-            children,
-        }
+        self.valid &= all_valid(children.as_slice());
+        self.children = children;
     }
 
-    /// Invalid whatever the children are, with no error of its own.
-    pub fn invalid_with(alloc: Global, children: Vec<EvaluationNode<'a>>) -> Self
-        ensures { shown_of result ≡ shown false None [] (map tree_of children.entry.items) }
+    /// Is invalid, whatever the nodes below are.
+    pub fn mark_invalid(&mut self)
+        ensures { shown_of self.new ≡ called_invalid (shown_of self.old) }
     {
-        EvaluationResult {
-            valid: false,
-            annotation: None,
-            errors: Vec::new(alloc),
-            children,
-        }
-    }
-
-    /// What `from_children` gives of one.
-    ///
-    /// Without memory there is none.
-    pub fn from_node(alloc: Global, node: EvaluationNode<'a>) -> Result<Self, AllocError>
-        ensures { IfOk result (λ r. shown_of r
-            ≡ shown (is_valid (tree_of node.entry)) None [] (tree_of node.entry ∷ [])) }
-    {
-        let mut children = Vec::with_capacity(alloc, 1)?;
-        children.push(node)?;
-        Ok(EvaluationResult::from_children(alloc, children))
+        self.valid = false;
     }
 
     /// Takes these names as the annotation, which only a valid node shows (JSON Schema 2020-12
@@ -141,13 +120,14 @@ impl<'a> EvaluationResult<'a> {
         ensures refused { OnErr result (shown_of self.new ≡ shown_of self.old) }
     {
         self.errors.push(error)?;
-        self.valid = false;
+        self.mark_invalid();
         Ok(())
     }
 }
 
 impl<'a> EvaluationNode<'a> {
-    ghost use Rattle.olk_reports.specs.Evaluations.{shown_of, tree_of, described_of, node_at, tree_schema_path, tree_instance_path, tree_annotation, tree_errors, tree_children};
+    ghost use Rattle.olk_reports.specs.declared.evaluation.EvaluationResult.{EvaluationResult};
+    ghost use Rattle.olk_reports.specs.Evaluations.{shown_of, tree_of, described_of, node_at, nothing_shown, result_of, with_result, tree_schema_path, tree_instance_path, tree_annotation, tree_errors, tree_children};
 
     /// The result at these places.
     pub fn new(schema_path: &'a str, instance_path: String, outcome: EvaluationResult<'a>) -> Self
@@ -161,25 +141,18 @@ impl<'a> EvaluationNode<'a> {
         }
     }
 
-    /// The result at these places, with a text of its own of the path.
-    ///
-    /// Without memory there is none; for a short path none is needed.
+    /// Nothing yet at these places, to which its result is written then.
     #[inline(always)]
-    pub fn at(
-        alloc: Global,
-        schema_path: &'a str,
-        path: &InstancePath,
-        outcome: EvaluationResult<'a>,
-    ) -> Result<Self, AllocError>
-        ensures { IfOk result (λ n. tree_of n
-            ≡ node_at schema_path.now path.now (shown_of outcome.entry)) }
+    pub fn at(alloc: Global, schema_path: &'a str, instance_path: PathText) -> Self
+        ensures empty { shown_of (result_of result) ≡ nothing_shown }
+        ensures places { (r : EvaluationResult) → tree_of (with_result result r)
+            ≡ node_at schema_path.now instance_path (shown_of r) }
     {
-        let instance_path = PathText::from_str(alloc, path.as_str())?;
-        Ok(EvaluationNode {
+        EvaluationNode {
             schema_path,
             instance_path,
-            result: outcome,
-        })
+            result: EvaluationResult::valid_empty(alloc),
+        }
     }
 
     /// Whether the value is valid here.

@@ -1,0 +1,28 @@
+use Rattle.std.proofs.Common.{[], ◌∷◌, refl, sym, ap, ◌∙◌}
+use Rattle.std.proofs.lemmas.List.{append-nil}
+use Rattle.serde_json.specs.Data.{object}
+use Rattle.serde_json.specs.View.{members_view}
+use Rattle.olk_base.specs.Nodes.{data_of}
+use Rattle.olk_reports.specs.Evaluations.{node_at, shown_of, tree_of, with_result}
+use Rattle.olk_evaluate.proofs.OwnErrors.{none_lacking, same_lacking, some_lacking}
+use Rattle.olk_evaluate.proofs.required.add_missing_child.Goals as goal
+
+pub returns-then-not-lacks_either : goal.returns-then-not-lacks_either
+returns-then-not-lacks_either g c = record {
+  nodes = [];
+  added = sym (append-nil c.args.children.now.items);
+  shown = same_lacking (data_of c.args.node) (object (members_view c.args.members.now.entries)) [] c.as_str-first.ensures.value c.as_str-second.ensures.value refl refl
+      (none_lacking (c.as_str-first.result.now ∷ c.as_str-second.result.now ∷ []) (data_of c.args.node) (object (members_view c.args.members.now.entries)) c.args.keyword.now.required_location c.args.path.now c.if-not-lacks_either.ensures);
+}
+
+pub returns : goal.returns
+returns g c =
+    let outcome = c.add_missing_of_two.new.outcome in
+    let location = c.as_str-location.result.now in
+    record {
+      nodes = with_result c.at-child.result outcome ∷ [];
+      added = c.in_ok-push.ensures.items;
+      shown = same_lacking (data_of c.args.node) (object (members_view c.args.members.now.entries)) (tree_of (with_result c.at-child.result outcome) ∷ []) c.as_str-first.ensures.value c.as_str-second.ensures.value c.as_str-location.ensures refl
+          (some_lacking (c.as_str-first.result.now ∷ c.as_str-second.result.now ∷ []) (data_of c.args.node) (object (members_view c.args.members.now.entries)) location c.args.path.now c.if-not-lacks_either.ensures (c.in_ok-add_missing_of_two.ensures location c.args.path.now)
+          (c.at-child.ensures.places outcome ∙ ap (λ Q. node_at location Q (shown_of outcome)) (c.in_ok-text.ensures ∙ c.as_str.ensures)));
+    }
