@@ -21,4 +21,7 @@ kind_name-plain (kind.Of type.Array) = refl
 kind_name-plain (kind.Of type.Object) = refl
 
 pub kind_in_quotes : (k : ValueKind) (s : List ℕ) → s ++ (codes " is not of type \"" ++ kind_name k ++ codes "\"") ≡ (s ++ codes " is not of type ") ++ compact_text (string (kind_name k))
-kind_in_quotes k s = sym (append_assoc s (codes " is not of type ") (34 ∷ (kind_name k ++ 34 ∷ []))) ∙ ap (λ t. (s ++ codes " is not of type ") ++ t) (sym (compact_text-plain (kind_name k) (kind_name-plain k)))
+kind_in_quotes k s =
+    let name = kind_name k in
+    let quoted = compact_text-plain name (kind_name-plain k) in
+    sym (append_assoc s (codes " is not of type ") (34 ∷ (name ++ 34 ∷ []))) ∙ ap (λ t. (s ++ codes " is not of type ") ++ t) (sym quoted)
