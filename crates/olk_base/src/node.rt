@@ -1,6 +1,8 @@
 //! What a schema is asked about.
 ghost use Rattle.std.specs.Prelude.{◌≡◌, IfOk, option_map, string_bytes};
+ghost use Rattle.std.specs.List.{list_all};
 ghost use Rattle.olk_base.specs.Nodes.{data_of, type_of};
+ghost use Rattle.olk_base.specs.Plain.{is_plain};
 ghost use Rattle.serde_json.specs.Find.{as_object};
 ghost use Rattle.serde_json.specs.Data.{string};
 ghost use Rattle.serde_json.specs.View.{members_view};
@@ -64,7 +66,10 @@ impl<'a> Node<'a> {
     }
 }
 
-/// The text as JSON, in quotes (RFC 8259, section 7).
+/// How many bytes an error mostly says of a value, behind its text.
+pub const SAID_ROOM: usize = 80;
+
+/// The text as JSON, in quotes (RFC 8259, section 7), with room for what is said of it.
 ///
 /// # Errors
 ///
@@ -72,6 +77,21 @@ impl<'a> Node<'a> {
 pub fn quoted_text(alloc: Global, text: &str) -> Result<String, AllocError>
     ensures { IfOk result (λ s. string_bytes s ≡ compact_text (string text.now)) }
 {
-    let value = Value::String(String::from_str(alloc, text)?);
-    value.to_string(alloc)
+    if !is_plain(text) {
+        let value = Value::String(String::from_str(alloc, text)?);
+        return value.to_string(alloc);
+    }
+    let mut quoted = String::with_capacity(alloc, text.len().saturating_add(SAID_ROOM))?;
+    quoted.push('"')?;
+    quoted.push_str(text)?;
+    quoted.push('"')?;
+    Ok(quoted)
+}
+
+/// Whether the text stands in JSON as it is.
+fn is_plain(text: &str) -> bool
+    ensures { result ≡ list_all is_plain text.now }
+{
+    text.bytes()
+        .all(|byte| byte >= 32 && byte != b'"' && byte != b'\\')
 }

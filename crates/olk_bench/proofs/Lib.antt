@@ -1,2 +1,4 @@
+pub mod Counted
 pub mod Findings
 pub mod Patterns
+pub mod Quoted

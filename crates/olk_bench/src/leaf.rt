@@ -1,5 +1,5 @@
 //! Leaves of seven keywords.
-ghost use Rattle.std.specs.Prelude.{◌≡◌, ◌++◌, IfOk, string_bytes, codes, option_map, length, chars};
+ghost use Rattle.std.specs.Prelude.{◌≡◌, ◌++◌, IfOk, string_bytes, codes, option_map, nat_lt, length, chars};
 ghost use Rattle.serde_json.specs.Find.{as_str};
 ghost use Rattle.serde_json.specs.Data.{number, unsigned, string};
 ghost use Rattle.serde_json.specs.Written.{compact_text, number_text};
@@ -151,17 +151,18 @@ impl BenchLeaf {
 }
 
 impl ValueKind {
-    fn name(self) -> &'static str
-        ensures { result.now ≡ kind_name self }
+    /// What is said of a value of another kind.
+    fn refusal(self) -> &'static str
+        ensures { result.now ≡ codes " is not of type \"" ++ kind_name self ++ codes "\"" }
     {
         match self {
-            ValueKind::Integer => "integer",
-            ValueKind::Of(JsonType::Null) => "null",
-            ValueKind::Of(JsonType::Boolean) => "boolean",
-            ValueKind::Of(JsonType::Number) => "number",
-            ValueKind::Of(JsonType::String) => "string",
-            ValueKind::Of(JsonType::Array) => "array",
-            ValueKind::Of(JsonType::Object) => "object",
+            ValueKind::Integer => " is not of type \"integer\"",
+            ValueKind::Of(JsonType::Null) => " is not of type \"null\"",
+            ValueKind::Of(JsonType::Boolean) => " is not of type \"boolean\"",
+            ValueKind::Of(JsonType::Number) => " is not of type \"number\"",
+            ValueKind::Of(JsonType::String) => " is not of type \"string\"",
+            ValueKind::Of(JsonType::Array) => " is not of type \"array\"",
+            ValueKind::Of(JsonType::Object) => " is not of type \"object\"",
         }
     }
 }
@@ -236,17 +237,18 @@ fn is_multiple_of(divisor: Divisor, node: Node<'_>) -> bool
     }
 }
 
-fn char_count(text: &str) -> u64
-    ensures { result ≡ length (chars text.now) }
+/// Whether the text has more characters than this; each of them is a byte or more.
+fn has_more_chars(text: &str, count: u64) -> bool
+    ensures { result ≡ nat_lt count (length (chars text.now)) }
 {
-    text.chars().count() as u64
+    count < text.len() as u64 && text.chars().nth(count as usize).is_some()
 }
 
 fn is_no_shorter(least: u64, node: Node<'_>) -> bool
     ensures { result ≡ is_empty (shorter_faults (number (unsigned least)) (data_of node.entry)) }
 {
     match text_of(node) {
-        Some(text) => least <= char_count(text),
+        Some(text) => least == 0 || has_more_chars(text, least - 1),
         None => true,
     }
 }
@@ -255,7 +257,7 @@ fn is_no_longer(most: u64, node: Node<'_>) -> bool
     ensures { result ≡ is_empty (longer_faults (number (unsigned most)) (data_of node.entry)) }
 {
     match text_of(node) {
-        Some(text) => char_count(text) <= most,
+        Some(text) => !has_more_chars(text, most),
         None => true,
     }
 }
@@ -265,9 +267,7 @@ fn kind_text(alloc: Global, kind: ValueKind, node: Node<'_>) -> Result<String, A
         ≡ leaf_text (BenchLeaf.Type kind) (data_of node.entry)) }
 {
     let mut text = shown_text(alloc, node)?;
-    text.push_str(" is not of type ")?;
-    let name = quoted_text(alloc, kind.name())?;
-    text.push_str(name.as_str())?;
+    text.push_str(kind.refusal())?;
     Ok(text)
 }
 

@@ -8,7 +8,7 @@ ghost use Rattle.olk_spec.specs.Bench.{shown};
 ghost use Rattle.olk_bench.specs.Numbers.{num_of};
 
 use crate::numbers::WholeNumber;
-use olk_base::{Node, quoted_text};
+use olk_base::{Node, SAID_ROOM, quoted_text};
 use serde_json::{Map, Value};
 use std::alloc::{AllocError, Global};
 
@@ -53,8 +53,16 @@ pub(crate) fn shown_text(alloc: Global, node: Node<'_>) -> Result<String, AllocE
     ensures { IfOk result (λ s. string_bytes s ≡ shown (data_of node.entry)) }
 {
     match node {
+        Node::Value(Value::Null) => word(alloc, "null"),
+        Node::Value(Value::Bool(true)) => word(alloc, "true"),
+        Node::Value(Value::Bool(false)) => word(alloc, "false"),
+        Node::Value(Value::Number(number)) => match WholeNumber::of(number) {
+            Some(number) => digits(alloc, number),
+            None => word(alloc, "value"),
+        },
+        Node::Value(Value::String(text)) => quoted_text(alloc, text.as_str()),
         Node::Value(value) => if has_fraction(value) {
-            String::from_str(alloc, "value")
+            word(alloc, "value")
         } else {
             value.to_string(alloc)
         },
@@ -62,10 +70,19 @@ pub(crate) fn shown_text(alloc: Global, node: Node<'_>) -> Result<String, AllocE
     }
 }
 
+/// The word, with room for what is said behind it.
+fn word(alloc: Global, word: &str) -> Result<String, AllocError>
+    ensures { IfOk result (λ s. string_bytes s ≡ word.now) }
+{
+    let mut text = String::with_capacity(alloc, SAID_ROOM)?;
+    text.push_str(word)?;
+    Ok(text)
+}
+
 pub(crate) fn digits(alloc: Global, number: WholeNumber) -> Result<String, AllocError>
     ensures { IfOk result (λ s. string_bytes s ≡ number_text (num_of number)) }
 {
-    let mut text = String::new(alloc);
+    let mut text = String::with_capacity(alloc, SAID_ROOM)?;
     number.write_to(&mut text)?;
     Ok(text)
 }

@@ -8,7 +8,7 @@ ghost use Rattle.olk_spec.specs.Texts.{in_quotes, type_text, unexpected_text};
 ghost use Rattle.olk_reports.specs.Errors.{type_name_of};
 ghost use Rattle.olk_reports.specs.Messages.{later_name};
 
-use olk_base::{JsonType, Node, quoted_text};
+use olk_base::{JsonType, Node, SAID_ROOM, quoted_text};
 use serde_json::Value;
 use std::alloc::{AllocError, Global};
 
@@ -17,6 +17,7 @@ pub(crate) fn node_text(alloc: Global, node: Node<'_>) -> Result<String, AllocEr
         → string_bytes s ≡ compact_text (data_of node.entry)) }
 {
     match node {
+        Node::Value(Value::String(text)) => quoted_text(alloc, text.as_str()),
         Node::Value(value) => value.to_string(alloc),
         Node::Name(name) => quoted_text(alloc, name.as_str()),
     }
@@ -37,8 +38,9 @@ pub(crate) fn ending_text(alloc: Global, start: &str, node: Node<'_>) -> Result<
     ensures { IfOk result (λ s. has_float (data_of node.entry) ≡ false
         → string_bytes s ≡ start.now ++ compact_text (data_of node.entry)) }
 {
-    let mut text = String::from_str(alloc, start)?;
     let value = node_text(alloc, node)?;
+    let mut text = String::with_capacity(alloc, start.len().saturating_add(value.len()))?;
+    text.push_str(start)?;
     text.push_str(value.as_str())?;
     Ok(text)
 }
@@ -132,7 +134,8 @@ fn push_later_names(text: &mut String, names: &[&str]) -> Result<(), AllocError>
 pub(crate) fn names_text(alloc: Global, names: &[&str]) -> Result<String, AllocError>
     ensures { IfOk result (λ s. string_bytes s ≡ unexpected_text (map (λ n. n.now) names.now)) }
 {
-    let mut text = String::from_str(alloc, "Additional properties are not allowed (")?;
+    let mut text = String::with_capacity(alloc, 2 * SAID_ROOM)?;
+    text.push_str("Additional properties are not allowed (")?;
     if let Some((first, rest)) = names.split_first() {
         push_quoted(&mut text, first)?;
         push_later_names(&mut text, rest)?;
