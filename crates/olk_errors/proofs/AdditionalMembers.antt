@@ -27,7 +27,7 @@ use Rattle.olk_tree.proofs.Members_met.{no_members}
 use Rattle.olk_check.specs.Asks.{OnlyAsks}
 use Rattle.olk_check.proofs.Asked.{only_same, only_then}
 use Rattle.olk_errors.specs.Found.{Outcome, Passes, IsErrorOf}
-use Rattle.olk_errors.specs.Outcomes.{of_branches, declared_nodes, unspoken_from, asked_at, unexpected_at, of_unexpected, of_members_in_turn, of_asked_members, of_names}
+use Rattle.olk_errors.specs.Outcomes.{of_branches, declared_nodes, unspoken_from, asked_at, unexpected_at, of_unexpected, of_asked_members, of_names}
 use Rattle.olk_errors.specs.Sinks.{wants_one, GoesOn, StopsBy}
 use Rattle.olk_errors.specs.declared.sink.ErrorSink.{ErrorSink}
 use Rattle.olk_errors.specs.declared.sink.Stop.{Stop}
@@ -65,6 +65,18 @@ module _ {R N : Type 0} (answers : R → Name → Says) (u : Bool) (S : Sides R 
   unexpected_is : unexpected_at answers u S (at_name S n) n ≡ is_unexpected answers S u n
   unexpected_is = ap (λ b. is_none S.rest && b) alone_is
 
+-- ---- the name that is wanted
+
+pub nothing_wanted : (v : Data) (Q : Path) (k : ErrorSink) (name : Option RequiredName) → name ≡ None → GoesOn k k (of_names (required_text name) v (required_place name) Q)
+nothing_wanted v Q k None e = goes_past k (record { verdict = refl; nothing = refl }) refl
+nothing_wanted v Q k (Some x) e = cc
+
+wanted : (v : Data) (Q : Path) (name : Option RequiredName) → of_names (required_text name) v (required_place name) Q ≡ record { accepts = is_empty (missing (required_text name) v); first = lacks name v Q; all = lacks name v Q }
+wanted v Q None = refl
+wanted v Q (Some x) = λ i. record { accepts = is_empty (missing (required_text (Some x)) v); first = one_first v x.location Q x.name (is_object v && not (has (string_bytes x.name) v)) i; all = lacks (Some x) v Q }
+
+-- ---- all members
+
 module _ {R N : Type 0} (answers : R → Name → Says) (costs : R → Bool) (m : N → Data → Question) (s r : N → Bool → Data → Path → List Fault) (k : keyword.AdditionalProperties R N) (v : Data) (Q : Path) where
   abbrev asked_of : Name × Data → Question
   asked_of x = member_means answers costs m (sides_of k) x.0 x.1
@@ -81,8 +93,8 @@ module _ {R N : Type 0} (answers : R → Name → Says) (costs : R → Bool) (m 
   abbrev told : List (Name × Data) → List Fault
   told xs = unexpected_faults (has_neighbours k) xs v k.location Q
 
-  abbrev in_turn : Bool → Outcome
-  in_turn u = of_members_in_turn answers m s r u k costs v Q
+  abbrev pub by_members : Bool → Outcome
+  by_members u = of_asked_members answers m s r u k costs v Q
 
   -- the rest of the members, where these are put aside, which are not expected
   abbrev of_left : Bool → List (Name × Data) → List (Name × Data) → Outcome
@@ -90,6 +102,14 @@ module _ {R N : Type 0} (answers : R → Name → Says) (costs : R → Bool) (m 
     accepts = (every asked_of rest).accepts u;
     first = first_of (first_found u) rest;
     all = flat_map (all_found u) rest ++ told (aside ++ filter_once (not_expected u) rest);
+  }
+
+  -- where no name is repeated
+  in_turn : (u : Bool) → repeats v ≡ false → of_left u [] (members v) ≡ by_members u
+  in_turn u distinct = let S = sides_of k in λ i. record {
+    accepts = (cond (sym distinct i) (named_means answers costs m S v) (means_in_turn answers costs m S v)).accepts u;
+    first = cond (sym distinct i) (named_first answers S u v Q (has_neighbours k) k.location s) (first_in_turn answers S u v Q (has_neighbours k) k.location s);
+    all = cond (sym distinct i) (named_report answers S u v Q (has_neighbours k) k.location r) (report_in_turn answers S u v Q (has_neighbours k) k.location r);
   }
 
   -- what is asked of a member, with this declared at its name
@@ -138,13 +158,14 @@ module _ {R N : Type 0} (answers : R → Name → Says) (costs : R → Bool) (m 
 
   -- what a walk over the rest does from now on, where these are put aside, is what a walk over all does from the start; where one error is wanted, none is put aside
   pub record WalkingMembers (rest aside : List (Name × Data)) (old new : ErrorSink) (a b : Asking) : Type 0 where
-    pub on : (newer : ErrorSink) → GoesOn new newer (of_left a.answer aside rest) → GoesOn old newer (in_turn a.answer)
-    pub stop : (newer : ErrorSink) {t : Stop} → StopsBy t new newer (IsErrorOf (of_left a.answer aside rest)) → StopsBy t old newer (IsErrorOf (in_turn a.answer))
+    pub on : (newer : ErrorSink) → GoesOn new newer (of_left a.answer aside rest) → GoesOn old newer (by_members a.answer)
+    pub stop : (newer : ErrorSink) {t : Stop} → StopsBy t new newer (IsErrorOf (of_left a.answer aside rest)) → StopsBy t old newer (IsErrorOf (by_members a.answer))
     pub none : wants_one new ≡ true → aside ≡ []
     pub only : OnlyAsks a b
 
-  pub members_start : {a : Asking} {rest aside : List (Name × Data)} {old : ErrorSink} → rest ≡ members v → aside ≡ [] → WalkingMembers rest aside old old a a
-  members_start {a} {old = old} whole none = subst₂ (λ l xs. WalkingMembers l xs old old a a) (sym whole) (sym none) (record { on = λ newer h. h; stop = λ newer {t} h. h; none = λ one. refl; only = only_same a })
+  pub members_start : {a : Asking} {rest aside : List (Name × Data)} {old : ErrorSink} → repeats v ≡ false → rest ≡ members v → aside ≡ [] → WalkingMembers rest aside old old a a
+  members_start {a} {old = old} distinct all none = subst₂ (λ l xs. WalkingMembers l xs old old a a) (sym all) (sym none)
+      (record { on = λ newer h. goes_same (in_turn a.answer distinct) h; stop = λ newer {t} h. stops_same (in_turn a.answer distinct) h; none = λ one. refl; only = only_same a })
 
   module _ {rest aside : List (Name × Data)} {old new : ErrorSink} {a b : Asking} (loop : WalkingMembers rest aside old new a b) where
     module _ {x : Name × Data} {more : List (Name × Data)} (next : rest ≡ x ∷ more) {d : Option (ℕ × N)} (declared : d ≡ at_name (sides_of k) x.0) where
@@ -160,7 +181,7 @@ module _ {R N : Type 0} (answers : R → Name → Says) (costs : R → Bool) (m 
         stops_left {newest} {t} h = subst (λ l. StopsBy t new newest (IsErrorOf (of_left a.answer aside l))) (sym next) (stops_same (with_others a.answer aside more x declared) (stops_after walked_at h))
 
         -- there was no memory to put it aside
-        pub members_cut : (m : AllocError) → StopsBy (Memory m) old newer (IsErrorOf (in_turn a.answer))
+        pub members_cut : (m : AllocError) → StopsBy (Memory m) old newer (IsErrorOf (by_members a.answer))
         members_cut m = loop.stop newer (record { stopped = goes_keeping walked })
 
         module _ {told_so : Bool} (is : told_so ≡ unexpected_at answers b.answer (sides_of k) d x.0) where
@@ -186,66 +207,47 @@ module _ {R N : Type 0} (answers : R → Name → Says) (costs : R → Bool) (m 
 
             -- it is not, and one error is wanted
             module _ (w : wants_one newer ≡ true) {newest : ErrorSink} where
-              pub one_goes : GoesOn newer newest (of_unexpected k longer v Q) → GoesOn old newest (in_turn a.answer)
+              pub one_goes : GoesOn newer newest (of_unexpected k longer v Q) → GoesOn old newest (by_members a.answer)
               one_goes h = absurd (true≢false (sym (goes_passing w h).verdict ∙ ap is_empty put ∙ never_empty aside x))
 
-              pub one_stops : {t : Stop} → StopsBy t newer newest (λ f. f ∷ [] ≡ told longer) → StopsBy t old newest (IsErrorOf (in_turn a.answer))
+              pub one_stops : {t : Stop} → StopsBy t newer newest (λ f. f ∷ [] ≡ told longer) → StopsBy t old newest (IsErrorOf (by_members a.answer))
               one_stops {t} h = let nothing : aside ≡ [] = loop.none (sym walked.same ∙ w) in
                   loop.stop newest (stops_left (subst (λ l. StopsBy t newer newest (IsErrorOf (of_others a.answer l more x))) (sym nothing)
                   (stops_where (λ o f is. told_of_others a.answer more x (is_so ∙ e) f (is ∙ ap told (put ∙ ap (λ l. l ++ x ∷ []) nothing))) h)))
 
       -- the walk over it was stopped
-      pub members_stop : {newer : ErrorSink} {t : Stop} → StopsBy t new newer (IsErrorOf (of_asked b.answer d x)) → StopsBy t old newer (IsErrorOf (in_turn a.answer))
+      pub members_stop : {newer : ErrorSink} {t : Stop} → StopsBy t new newer (IsErrorOf (of_asked b.answer d x)) → StopsBy t old newer (IsErrorOf (by_members a.answer))
       members_stop {newer} {t} h = loop.stop newer (subst (λ l. StopsBy t new newer (IsErrorOf (of_left a.answer aside l))) (sym next)
           (stops_same (with_others a.answer aside more x declared) (stops_before (of_others a.answer aside more x) (subst (λ u. StopsBy t new newer (IsErrorOf (of_asked u d x))) loop.only.answer h))))
 
     -- no member is left
     module _ (none : rest ≡ []) {newer : ErrorSink} where
-      pub members_end : GoesOn new newer (of_unexpected k aside v Q) → GoesOn old newer (in_turn a.answer)
+      pub members_end : GoesOn new newer (of_unexpected k aside v Q) → GoesOn old newer (by_members a.answer)
       members_end h = loop.on newer (subst (λ l. GoesOn new newer (of_left a.answer aside l)) (sym none) (goes_either (of_left a.answer aside []) (λ w p. record { verdict = refl; nothing = refl }) (ap told (sym (append-nil aside))) h))
 
-      pub members_end_stop : {t : Stop} → StopsBy t new newer (λ f. f ∷ [] ≡ told aside) → StopsBy t old newer (IsErrorOf (in_turn a.answer))
+      pub members_end_stop : {t : Stop} → StopsBy t new newer (λ f. f ∷ [] ≡ told aside) → StopsBy t old newer (IsErrorOf (by_members a.answer))
       members_end_stop h = loop.stop newer (stops_where (λ w f is. absurd (none_is_one f (is ∙ ap told (loop.none w)))) h)
 
--- ---- and a name that is wanted
+  -- ---- and a name that is wanted
 
-pub nothing_wanted : (v : Data) (Q : Path) (k : ErrorSink) (name : Option RequiredName) → name ≡ None → GoesOn k k (of_names (required_text name) v (required_place name) Q)
-nothing_wanted v Q k None e = goes_past k (record { verdict = refl; nothing = refl }) refl
-nothing_wanted v Q k (Some x) e = cc
+  module _ (u : Bool) where
+    abbrev pub by_wanted : Outcome
+    by_wanted = of_names (required_text k.required) v (required_place k.required) Q
 
-wanted : (v : Data) (Q : Path) (name : Option RequiredName) → of_names (required_text name) v (required_place name) Q ≡ record { accepts = is_empty (missing (required_text name) v); first = lacks name v Q; all = lacks name v Q }
-wanted v Q None = refl
-wanted v Q (Some x) = λ i. record { accepts = is_empty (missing (required_text (Some x)) v); first = one_first v x.location Q x.name (is_object v && not (has (string_bytes x.name) v)) i; all = lacks (Some x) v Q }
+    -- the members, and then the name that is wanted
+    abbrev pub of_keyword : Outcome
+    of_keyword = record { accepts = (by_members u).accepts && is_empty (missing (required_text k.required) v); first = or_else (by_members u).first (lacks k.required v Q); all = (by_members u).all ++ lacks k.required v Q }
 
-module _ {R N : Type 0} (answers : R → Name → Says) (costs : R → Bool) (m : N → Data → Question) (s r : N → Bool → Data → Path → List Fault) (u : Bool) (k : keyword.AdditionalProperties R N) (v : Data) (Q : Path) where
-  abbrev pub by_members : Outcome
-  by_members = of_asked_members answers m s r u k costs v Q
+    pub same_keyword : after (by_members u) by_wanted ≡ of_keyword
+    same_keyword = ap (after (by_members u)) (wanted v Q k.required)
 
-  abbrev pub by_wanted : Outcome
-  by_wanted = of_names (required_text k.required) v (required_place k.required) Q
+    -- of what is no object
+    module _ (none : None ≡ as_object v) where
+      no_repeats : repeats v ≡ false
+      no_repeats = ap (λ ms. has_repeat (map (λ x. x.0) ms)) (no_members v none)
 
-  -- the members, and then the name that is wanted
-  abbrev pub of_keyword : Outcome
-  of_keyword = record { accepts = by_members.accepts && is_empty (missing (required_text k.required) v); first = or_else by_members.first (lacks k.required v Q); all = by_members.all ++ lacks k.required v Q }
+      pub other_passes : Passes of_keyword
+      other_passes = subst Passes same_keyword (pass_both (subst Passes (in_turn u no_repeats) record { verdict = ap (λ ms. (every asked_of ms).accepts u) (no_members v none); nothing = ap (first_of (first_found u)) (no_members v none) }) (other_lacks_none (required_text k.required) v (required_place k.required) Q none))
 
-  pub same_keyword : after by_members by_wanted ≡ of_keyword
-  same_keyword = ap (after by_members) (wanted v Q k.required)
-
-  -- where no name is repeated
-  pub members_in_turn : repeats v ≡ false → of_members_in_turn answers m s r u k costs v Q ≡ by_members
-  members_in_turn distinct = let S = sides_of k in λ i. record {
-    accepts = (cond (sym distinct i) (named_means answers costs m S v) (means_in_turn answers costs m S v)).accepts u;
-    first = cond (sym distinct i) (named_first answers S u v Q (has_neighbours k) k.location s) (first_in_turn answers S u v Q (has_neighbours k) k.location s);
-    all = cond (sym distinct i) (named_report answers S u v Q (has_neighbours k) k.location r) (report_in_turn answers S u v Q (has_neighbours k) k.location r);
-  }
-
-  -- of what is no object
-  module _ (none : None ≡ as_object v) where
-    no_repeats : repeats v ≡ false
-    no_repeats = ap (λ ms. has_repeat (map (λ x. x.0) ms)) (no_members v none)
-
-    pub other_passes : Passes of_keyword
-    other_passes = subst Passes same_keyword (pass_both (subst Passes (members_in_turn no_repeats) record { verdict = ap (λ ms. (every (asked_of answers costs m s r k v Q) ms).accepts u) (no_members v none); nothing = ap (first_of (first_found answers costs m s r k v Q u)) (no_members v none) }) (other_lacks_none (required_text k.required) v (required_place k.required) Q none))
-
-    pub other_finds_nothing : of_keyword.all ≡ []
-    other_finds_nothing = λ i. (ap (λ o. o.all) (sym (members_in_turn no_repeats)) ∙ ap (λ ms. flat_map (all_found answers costs m s r k v Q u) ms ++ unexpected_faults (has_neighbours k) (filter_once (λ x. is_unexpected answers (sides_of k) u x.0) ms) v k.location Q) (no_members v none)) i ++ other_lacks_nothing (required_text k.required) v (required_place k.required) Q none i
+      pub other_finds_nothing : of_keyword.all ≡ []
+      other_finds_nothing = λ i. (ap (λ o. o.all) (sym (in_turn u no_repeats)) ∙ ap (λ ms. flat_map (all_found u) ms ++ told (filter_once (not_expected u) ms)) (no_members v none)) i ++ other_lacks_nothing (required_text k.required) v (required_place k.required) Q none i

@@ -38,7 +38,7 @@ module _ {N : Type 0} (m : N → Data → Question) (s r : N → Bool → Data �
 
     pub chosen_of_walk : (es : List (Name × SmallMap N)) {w x : DeclaredMembers (SmallMap N)} → w ≡ x → left_of x ≡ names_met es (listed ms)
         → of_each u (λ d. every (λ n. m n v) (chosen d)) (λ d. (of_branches m s r u (chosen d) v Q).first) (λ d. (of_branches m s r u (chosen d) v Q).all) (left_of w)
-            ≡ of_branches m s r u (chosen_nodes es v) v Q
+        ≡ of_branches m s r u (chosen_nodes es v) v Q
     chosen_of_walk es same whole = λ i. record {
       accepts = (every_chosen ms es same whole v is (λ n. m n v) i).accepts u;
       first = first_chosen ms es same whole v is (λ n. s n u v Q) i;

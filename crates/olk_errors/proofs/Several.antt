@@ -1,13 +1,12 @@
 -- Walks that go on by several at once, and outcomes that differ only in what one way of asking sees.
 use Rattle.std.proofs.Common.{◌≡◌, Bool, true, false, List, [], ◌∷◌, ◌++◌, refl, sym, ap, subst, ◌∙◌}
-use Rattle.std.specs.List.{flat_map}
 use Rattle.std.proofs.lemmas.Grind.{flat_map-append}
 use Rattle.olk_base.specs.Lawful.{Asking}
 use Rattle.olk_spec.specs.Faults.{Fault}
 use Rattle.olk_reports.specs.Errors.{fault_of}
 use Rattle.olk_reports.specs.declared.error.ValidationError.{ValidationError}
 use Rattle.olk_tree.specs.Firsts.{or_else, first_of}
-use Rattle.olk_tree.specs.Questions.{Question, every}
+use Rattle.olk_tree.specs.Questions.{Question}
 use Rattle.olk_tree.proofs.Questions.{every-append}
 use Rattle.olk_tree.proofs.Faults.{or_around}
 use Rattle.olk_check.specs.Asks.{OnlyAsks}

@@ -1,5 +1,5 @@
 -- What asking comes to: of a node, of branches, of branches of which one is to accept, of declared members, of members' names, of members whose names patterns match, of members that `additionalProperties` asks, of names that are wanted, of a leaf, of a body.
-use Rattle.std.specs.Prelude.{◌≡◌, ◌⊎◌, ◌<◌, ℕ, ◌==◌, Bool, true, not, ◌&&◌, cond, List, [], ◌∷◌, ◌++◌, map, Option, Some, None, is_none, is_some, option_map, option_to_list}
+use Rattle.std.specs.Prelude.{◌≡◌, ◌⊎◌, ◌<◌, ℕ, ◌==◌, Bool, true, not, ◌&&◌, cond, List, [], ◌++◌, map, Option, Some, None, is_none, is_some, option_map, option_to_list}
 use Rattle.std.specs.List.{flat_map}
 use Rattle.serde_json.specs.Data.{Data, string}
 use Rattle.olk_spec.specs.Names.{Name, Path, ◌//◌, put_if, is_empty}
@@ -15,7 +15,7 @@ use Rattle.olk_base.specs.declared.pattern.CompiledPattern.{CompiledPattern}
 use Rattle.olk_tree.specs.Questions.{Question, always, conditional, every}
 use Rattle.olk_tree.specs.Matched.{is_match, matching, match_question}
 use Rattle.olk_tree.specs.Additional.{Sides, known_or, matching_from, means_in_turn, report_in_turn, first_in_turn, additional_means, additional_report, additional_first, sides_of, has_neighbours}
-use Rattle.olk_tree.specs.Firsts.{or_else, first_of, head_of}
+use Rattle.olk_tree.specs.Firsts.{first_of, head_of}
 use Rattle.olk_tree.specs.OneOf.{one_of_report}
 use Rattle.olk_tree.specs.Properties.{properties_mean, properties_report, properties_first}
 use Rattle.olk_tree.specs.PropertyNames.{names_mean, names_report, names_first}

@@ -15,6 +15,7 @@ use olk_reports::ValidationError;
 use std::alloc::{AllocError, Global};
 
 /// Walks over the node with each of them.
+#[inline(never)]
 pub(crate) fn walk_each<'a, N: Walk<'a>>(
     nodes: &'a Vec<N>,
     node: Node<'a>,

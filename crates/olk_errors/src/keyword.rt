@@ -1,4 +1,14 @@
 //! Keywords: their errors.
+ghost use Rattle.std.specs.Prelude.{OnOk, IfErr};
+ghost use Rattle.olk_base.specs.Kit.{kit};
+ghost use Rattle.olk_base.specs.Nodes.{data_of};
+ghost use Rattle.olk_paths.specs.Trails.{path_at};
+ghost use Rattle.olk_tree.specs.Validators.{answers_of};
+ghost use Rattle.olk_check.specs.Asks.{OnlyAsks};
+ghost use Rattle.olk_errors.specs.Found.{IsErrorOf};
+ghost use Rattle.olk_errors.specs.Outcomes.{of_node};
+ghost use Rattle.olk_errors.specs.Sinks.{GoesOn, StopsBy};
+
 use crate::node::walk_leaf;
 use crate::{ErrorSink, Stop, Walk};
 use olk_base::{Leaf, Node, RegexEngine, ValidationContext};
@@ -6,6 +16,7 @@ use olk_paths::Trail;
 use olk_tree::node::KeywordOver;
 
 impl<'a, K: Leaf, R: RegexEngine, N: Walk<'a>> Walk<'a> for KeywordOver<K, R, N> {
+    #[inline(always)]
     #[tactic(auto, unfolding(olk_tree::specs::Validators::answers_of))]
     fn walk(
         &'a self,
@@ -15,29 +26,57 @@ impl<'a, K: Leaf, R: RegexEngine, N: Walk<'a>> Walk<'a> for KeywordOver<K, R, N>
         sink: &mut ErrorSink<'a>,
     ) -> Result<(), Stop> {
         match self {
-            KeywordOver::Properties(keyword) => keyword.walk(node, trail, ctx, sink),
-            KeywordOver::PropertiesWithRequired2(keyword) => keyword.walk(node, trail, ctx, sink),
-            KeywordOver::Required(keyword) => keyword.walk(node, trail, ctx, sink),
-            KeywordOver::AllOf(keyword) => keyword.walk(node, trail, ctx, sink),
-            KeywordOver::SingleValueAllOf(keyword) => keyword.walk(node, trail, ctx, sink),
-            KeywordOver::AnyOf(keyword) => keyword.walk(node, trail, ctx, sink),
-            KeywordOver::SingleAnyOf(keyword) => keyword.walk(node, trail, ctx, sink),
-            KeywordOver::OneOf(keyword) => keyword.walk(node, trail, ctx, sink),
-            KeywordOver::SingleOneOf(keyword) => keyword.walk(node, trail, ctx, sink),
-            KeywordOver::Not(keyword) => keyword.walk(node, trail, ctx, sink),
-            KeywordOver::IfThen(keyword) => keyword.walk(node, trail, ctx, sink),
-            KeywordOver::IfElse(keyword) => keyword.walk(node, trail, ctx, sink),
-            KeywordOver::IfThenElse(keyword) => keyword.walk(node, trail, ctx, sink),
-            KeywordOver::Dependencies(keyword) => keyword.walk(node, trail, ctx, sink),
-            KeywordOver::PropertyNames(keyword) => keyword.walk(node, trail, ctx, sink),
-            KeywordOver::PropertyNamesFalse(keyword) => keyword.walk(node, trail, ctx, sink),
-            KeywordOver::PropertyDependencies(keyword) => keyword.walk(node, trail, ctx, sink),
-            KeywordOver::PatternProperties(keyword) => keyword.walk(node, trail, ctx, sink),
-            KeywordOver::SingleValuePatternProperties(keyword) => {
-                keyword.walk(node, trail, ctx, sink)
-            }
-            KeywordOver::AdditionalProperties(keyword) => keyword.walk(node, trail, ctx, sink),
             KeywordOver::Leaf(location, leaf) => walk_leaf(leaf, location, node, trail, sink),
+            keyword => walk_validator(keyword, node, trail, ctx, sink),
         }
+    }
+}
+
+/// The walk of a keyword, out of line, so that a walk over leaves stays small.
+#[inline(never)]
+#[tactic(auto, unfolding(olk_tree::specs::Validators::answers_of))]
+fn walk_validator<'a, K: Leaf, R: RegexEngine, N: Walk<'a>>(
+    keyword: &'a KeywordOver<K, R, N>,
+    node: Node<'a>,
+    trail: &Trail<'_, 'a>,
+    ctx: &mut ValidationContext,
+    sink: &mut ErrorSink<'a>,
+) -> Result<(), Stop>
+    ensures on { OnOk result (GoesOn sink.old sink.new (of_node
+        (λ k. (answers_of (kit K.Leaf R.RegexEngine) k).means N.means)
+        (λ k. (answers_of (kit K.Leaf R.RegexEngine) k).first N.means N.report N.first)
+        (λ k. (answers_of (kit K.Leaf R.RegexEngine) k).report N.means N.report)
+        ctx.old.answer keyword.now (data_of node.entry) (path_at trail.now))) }
+    ensures stop { IfErr result (λ s. StopsBy s sink.old sink.new (IsErrorOf (of_node
+        (λ k. (answers_of (kit K.Leaf R.RegexEngine) k).means N.means)
+        (λ k. (answers_of (kit K.Leaf R.RegexEngine) k).first N.means N.report N.first)
+        (λ k. (answers_of (kit K.Leaf R.RegexEngine) k).report N.means N.report)
+        ctx.old.answer keyword.now (data_of node.entry) (path_at trail.now)))) }
+    ensures context { OnlyAsks ctx.old ctx.new }
+{
+    match keyword {
+        KeywordOver::Properties(keyword) => keyword.walk(node, trail, ctx, sink),
+        KeywordOver::PropertiesWithRequired2(keyword) => keyword.walk(node, trail, ctx, sink),
+        KeywordOver::Required(keyword) => keyword.walk(node, trail, ctx, sink),
+        KeywordOver::AllOf(keyword) => keyword.walk(node, trail, ctx, sink),
+        KeywordOver::SingleValueAllOf(keyword) => keyword.walk(node, trail, ctx, sink),
+        KeywordOver::AnyOf(keyword) => keyword.walk(node, trail, ctx, sink),
+        KeywordOver::SingleAnyOf(keyword) => keyword.walk(node, trail, ctx, sink),
+        KeywordOver::OneOf(keyword) => keyword.walk(node, trail, ctx, sink),
+        KeywordOver::SingleOneOf(keyword) => keyword.walk(node, trail, ctx, sink),
+        KeywordOver::Not(keyword) => keyword.walk(node, trail, ctx, sink),
+        KeywordOver::IfThen(keyword) => keyword.walk(node, trail, ctx, sink),
+        KeywordOver::IfElse(keyword) => keyword.walk(node, trail, ctx, sink),
+        KeywordOver::IfThenElse(keyword) => keyword.walk(node, trail, ctx, sink),
+        KeywordOver::Dependencies(keyword) => keyword.walk(node, trail, ctx, sink),
+        KeywordOver::PropertyNames(keyword) => keyword.walk(node, trail, ctx, sink),
+        KeywordOver::PropertyNamesFalse(keyword) => keyword.walk(node, trail, ctx, sink),
+        KeywordOver::PropertyDependencies(keyword) => keyword.walk(node, trail, ctx, sink),
+        KeywordOver::PatternProperties(keyword) => keyword.walk(node, trail, ctx, sink),
+        KeywordOver::SingleValuePatternProperties(keyword) => {
+            keyword.walk(node, trail, ctx, sink)
+        }
+        KeywordOver::AdditionalProperties(keyword) => keyword.walk(node, trail, ctx, sink),
+        KeywordOver::Leaf(location, leaf) => walk_leaf(leaf, location, node, trail, sink),
     }
 }

@@ -4,7 +4,7 @@ ghost use Rattle.olk_base.specs.Nodes.{data_of};
 ghost use Rattle.olk_paths.specs.Trails.{path_at};
 ghost use Rattle.olk_check.specs.Asks.{OnlyAsks};
 ghost use Rattle.olk_errors.specs.Found.{IsErrorOf};
-ghost use Rattle.olk_errors.specs.Outcomes.{of_leaf, of_body};
+ghost use Rattle.olk_errors.specs.Outcomes.{of_leaf, of_body, of_branches};
 ghost use Rattle.olk_errors.specs.Sinks.{wants_one, GoesOn, StopsBy};
 
 use crate::branches::walk_each;
@@ -21,7 +21,32 @@ use olk_tree::node::Body;
 ///
 /// That the sink has the one error that it wants; or out of memory, and then a list that takes
 /// all errors has what it had, and may have more.
+#[inline(always)]
 pub fn walk_body<'a, W: Walk<'a>>(
+    body: &'a Body<W>,
+    location: &'a str,
+    node: Node<'a>,
+    trail: &Trail<'_, 'a>,
+    ctx: &mut ValidationContext,
+    sink: &mut ErrorSink<'a>,
+) -> Result<(), Stop>
+    ensures on { OnOk result (GoesOn sink.old sink.new
+        (of_body W.means W.first W.report ctx.old.answer
+        location.now body.now (data_of node.entry) (path_at trail.now))) }
+    ensures stop { IfErr result (λ s. StopsBy s sink.old sink.new (IsErrorOf
+        (of_body W.means W.first W.report ctx.old.answer
+        location.now body.now (data_of node.entry) (path_at trail.now)))) }
+    ensures context { OnlyAsks ctx.old ctx.new }
+{
+    match body {
+        Body::Keywords(keywords) => walk_keywords(keywords, node, trail, ctx, sink),
+        other => walk_other(other, location, node, trail, ctx, sink),
+    }
+}
+
+/// Walks over a body, out of line, so that a walk over keywords stays small.
+#[inline(never)]
+fn walk_other<'a, W: Walk<'a>>(
     body: &'a Body<W>,
     location: &'a str,
     node: Node<'a>,
@@ -48,7 +73,32 @@ pub fn walk_body<'a, W: Walk<'a>>(
     }
 }
 
+/// Walks over the node with each keyword; a single one, which most often is a leaf, is walked in
+/// line.
+#[inline(always)]
+fn walk_keywords<'a, W: Walk<'a>>(
+    keywords: &'a Vec<W>,
+    node: Node<'a>,
+    trail: &Trail<'_, 'a>,
+    ctx: &mut ValidationContext,
+    sink: &mut ErrorSink<'a>,
+) -> Result<(), Stop>
+    ensures on { OnOk result (GoesOn sink.old sink.new
+        (of_branches W.means W.first W.report ctx.old.answer
+        keywords.now.items (data_of node.entry) (path_at trail.now))) }
+    ensures stop { IfErr result (λ s. StopsBy s sink.old sink.new (IsErrorOf
+        (of_branches W.means W.first W.report ctx.old.answer
+        keywords.now.items (data_of node.entry) (path_at trail.now)))) }
+    ensures context { OnlyAsks ctx.old ctx.new }
+{
+    match keywords.as_slice() {
+        [keyword] => keyword.walk(node, trail, ctx, sink),
+        _ => walk_each(keywords, node, trail, ctx, sink),
+    }
+}
+
 /// The errors of a leaf.
+#[inline(always)]
 pub(crate) fn walk_leaf<'a, K: Leaf>(
     leaf: &'a K,
     location: &'a Location,
@@ -61,6 +111,9 @@ pub(crate) fn walk_leaf<'a, K: Leaf>(
     ensures stop { IfErr result (λ s. StopsBy s sink.old sink.new (IsErrorOf
         (of_leaf K.Leaf leaf.now (data_of node.entry) location.now (path_at trail.now)))) }
 {
+    if leaf.is_valid(node) {
+        return Ok(());
+    }
     if sink.wants_one() {
         report_one_text(leaf, location, node, trail, sink)
     } else {
@@ -69,6 +122,7 @@ pub(crate) fn walk_leaf<'a, K: Leaf>(
 }
 
 /// An error for one of the texts that a leaf finds, if it finds any.
+#[inline(never)]
 fn report_one_text<'a, K: Leaf>(
     leaf: &'a K,
     location: &'a Location,
@@ -93,6 +147,7 @@ fn report_one_text<'a, K: Leaf>(
 }
 
 /// An error for each text that a leaf finds.
+#[inline(never)]
 fn report_each_text<'a, K: Leaf>(
     leaf: &'a K,
     location: &'a Location,

@@ -15,6 +15,7 @@ use crate::{ErrorSink, Stop, Walk};
 use olk_base::{Node, ValidationContext};
 use olk_paths::Trail;
 use olk_tree::properties::{Properties, SmallPropertiesWithRequired2};
+use olk_tree::properties_map::PropertiesMap;
 use olk_tree::validators_map::PropertiesValidatorsMap;
 use serde_json::{Map, Value};
 
@@ -27,7 +28,10 @@ impl<'a, N: Walk<'a>> Walk<'a> for Properties<N> {
         sink: &mut ErrorSink<'a>,
     ) -> Result<(), Stop> {
         match node.as_object() {
-            Some(members) => walk_members(&self.properties, members, trail, ctx, sink),
+            Some(members) => match &self.properties {
+                PropertiesMap::Small(map) => walk_members(map, members, trail, ctx, sink),
+                PropertiesMap::Big(map) => walk_members(map, members, trail, ctx, sink),
+            },
             None => Ok(()),
         }
     }
@@ -54,6 +58,7 @@ impl<'a, N: Walk<'a>> Walk<'a> for SmallPropertiesWithRequired2<N> {
 }
 
 /// Walks over the members whose names are declared.
+#[inline(never)]
 fn walk_members<'a, M: PropertiesValidatorsMap<N>, N: Walk<'a> + 'a>(
     properties: &'a M,
     members: &'a Map<String, Value>,

@@ -57,6 +57,7 @@ fn walk_missing<'a>(
 }
 
 /// An error, if the name is absent.
+#[inline(always)]
 pub(crate) fn report_if_missing<'a>(
     name: &'a str,
     location: &'a str,

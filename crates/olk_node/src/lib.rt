@@ -9,7 +9,6 @@ pub mod means;
 pub mod node;
 pub mod valid;
 
-pub use errors::{collect_errors_for, validate_for};
 pub use node::{
     AllOfValidator, AnyOfValidator, BigPropertiesValidator, BigValidatorsMap,
     DependenciesValidator, DependentRequiredValidator, DependentSchemasValidator, IfElseValidator,
@@ -19,4 +18,3 @@ pub use node::{
     SingleValueAllOfValidator, SingleValuePatternPropertiesValidator, SmallPropertiesValidator,
     SmallPropertiesWithRequired2Validator, SmallValidatorsMap,
 };
-pub use valid::is_valid_for;

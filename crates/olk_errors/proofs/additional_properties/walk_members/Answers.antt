@@ -1,58 +1,53 @@
 use Rattle.std.proofs.Common.{map, sym, ap, ◌∙◌}
 use Rattle.std.proofs.lemmas.Result.{on_ok_weaker, IfErr-weaker}
 use Rattle.serde_json.specs.View.{view, members_view}
-use Rattle.olk_base.specs.Nodes.{data_of}
 use Rattle.olk_spec.specs.Schemas.{listed, members}
-use Rattle.olk_paths.specs.Trails.{path_at}
 use Rattle.olk_tree.specs.Additional.{repeats}
 use Rattle.olk_tree.proofs.Due.{name_next, no_name_next}
 use Rattle.olk_check.proofs.Asked.{only_then}
-use Rattle.olk_errors.proofs.Sinks.{left_by, goes_same, stops_same}
-use Rattle.olk_errors.proofs.AdditionalMembers.{map_more, members_start, members_more, members_aside, members_cut, members_stop, one_goes, one_stops, members_end, members_end_stop, members_in_turn}
+use Rattle.olk_errors.proofs.Sinks.{left_by}
+use Rattle.olk_errors.proofs.AdditionalMembers.{map_more, members_start, members_more, members_aside, members_cut, members_stop, one_goes, one_stops, members_end, members_end_stop}
 use Rattle.olk_errors.proofs.additional_properties.walk_members.Goals as goal
 
 pub loop-name-init : goal.loop-name-init
-loop-name-init g c = members_start _ _ _ _ _ _ _ _
+loop-name-init g c = members_start _ _ _ _ _ _ _ _ (ap repeats c.requires ∙ c.law_of_names.ensures)
     (ap (λ es. listed (members_view es)) c.into_iter-name-iterator.ensures.into_iter_gives.0 ∙ sym (ap members c.requires)) (ap (map (λ x. (x.0.now, view x.1.now))) c.new-unexpected.ensures.items)
 
 pub returns-in_err-walk_asked-clause-stop : goal.returns-in_err-walk_asked-clause-stop
-returns-in_err-walk_asked-clause-stop g c =
-    let whole = members_in_turn g.R.RegexEngine.answers g.R.RegexEngine.costs g.N.Means.means g.N.Reports.first g.N.Reports.report c.args.ctx.now.answer c.args.keyword.now (data_of c.args.object) (path_at c.args.trail.now) (ap repeats c.requires ∙ c.law_of_names.ensures) in
-    left_by c.from_residual.result _ _ c.from_residual.ensures.1 c.in_err-walk_asked.ensures.stop (λ h. stops_same whole (members_stop _ _ _ _ _ _ _ _ c.loop-name.invariant (name_next c.in-Some.ensures.steps c.as_str-name.ensures.value) c.declared_from-next.ensures h))
+returns-in_err-walk_asked-clause-stop g c = left_by c.from_residual.result _ _ c.from_residual.ensures.1 c.in_err-walk_asked.ensures.stop
+    (members_stop _ _ _ _ _ _ _ _ c.loop-name.invariant (name_next c.in-Some.ensures.steps c.as_str-name.ensures.value) c.declared_from-next.ensures)
 
 pub loop-name-preserved-then-not-branch : goal.loop-name-preserved-then-not-branch
-loop-name-preserved-then-not-branch g c = members_more _ _ _ _ _ _ _ _ c.loop-name.invariant (name_next c.in-Some.ensures.steps c.as_str-name.ensures.value) c.declared_from-next.ensures c.in_ok-walk_asked.ensures.on c.in_ok-walk_asked.ensures.unexpected c.if-not-branch.true c.walk_asked.ensures.context
+loop-name-preserved-then-not-branch g c = members_more _ _ _ _ _ _ _ _ c.loop-name.invariant (name_next c.in-Some.ensures.steps c.as_str-name.ensures.value) c.declared_from-next.ensures
+    c.in_ok-walk_asked.ensures.on c.in_ok-walk_asked.ensures.unexpected c.if-not-branch.true c.walk_asked.ensures.context
 
 pub returns-in_err-append-clause-stop : goal.returns-in_err-append-clause-stop
-returns-in_err-append-clause-stop g c =
-    let whole = members_in_turn g.R.RegexEngine.answers g.R.RegexEngine.costs g.N.Means.means g.N.Reports.first g.N.Reports.report c.args.ctx.now.answer c.args.keyword.now (data_of c.args.object) (path_at c.args.trail.now) (ap repeats c.requires ∙ c.law_of_names.ensures) in
-    left_by c.from_residual-in_err-append.result _ _ c.from_residual-in_err-append.ensures.1 (members_cut _ _ _ _ _ _ _ _ c.loop-name.invariant (name_next c.in-Some.ensures.steps c.as_str-name.ensures.value) c.declared_from-next.ensures c.in_ok-walk_asked.ensures.on _) (λ h. stops_same whole h)
+returns-in_err-append-clause-stop g c = left_by c.from_residual-in_err-append.result _ _ c.from_residual-in_err-append.ensures.1
+    (members_cut _ _ _ _ _ _ _ _ c.loop-name.invariant (name_next c.in-Some.ensures.steps c.as_str-name.ensures.value) c.declared_from-next.ensures c.in_ok-walk_asked.ensures.on _) (λ h. h)
 
 pub loop-name-preserved : goal.loop-name-preserved
-loop-name-preserved g c = members_aside _ _ _ _ _ _ _ _ c.loop-name.invariant (name_next c.in-Some.ensures.steps c.as_str-name.ensures.value) c.declared_from-next.ensures c.in_ok-walk_asked.ensures.on c.in_ok-walk_asked.ensures.unexpected c.if-not-branch.false
+loop-name-preserved g c = members_aside _ _ _ _ _ _ _ _ c.loop-name.invariant (name_next c.in-Some.ensures.steps c.as_str-name.ensures.value) c.declared_from-next.ensures
+    c.in_ok-walk_asked.ensures.on c.in_ok-walk_asked.ensures.unexpected c.if-not-branch.false
     (map_more (λ x. (x.0.now, view x.1.now)) c.loop-name.unexpected.items _ c.in_ok-append.ensures.items) (sym c.wants_one.ensures ∙ c.if-wants_one.false) c.walk_asked.ensures.context
 
 pub returns-then-wants_one-clause-on : goal.returns-then-wants_one-clause-on
-returns-then-wants_one-clause-on g c =
-    let whole = members_in_turn g.R.RegexEngine.answers g.R.RegexEngine.costs g.N.Means.means g.N.Reports.first g.N.Reports.report c.args.ctx.now.answer c.args.keyword.now (data_of c.args.object) (path_at c.args.trail.now) (ap repeats c.requires ∙ c.law_of_names.ensures) in
-    on_ok_weaker c.report_unexpected.result (λ h. goes_same whole (one_goes _ _ _ _ _ _ _ _ c.loop-name.invariant (name_next c.in-Some.ensures.steps c.as_str-name.ensures.value) c.declared_from-next.ensures c.in_ok-walk_asked.ensures.on c.in_ok-walk_asked.ensures.unexpected c.if-not-branch.false
-    (map_more (λ x. (x.0.now, view x.1.now)) c.loop-name.unexpected.items _ c.in_ok-append.ensures.items) (sym c.wants_one.ensures ∙ c.if-wants_one.true) h)) c.report_unexpected.ensures.on
+returns-then-wants_one-clause-on g c = on_ok_weaker c.report_unexpected.result
+    (one_goes _ _ _ _ _ _ _ _ c.loop-name.invariant (name_next c.in-Some.ensures.steps c.as_str-name.ensures.value) c.declared_from-next.ensures
+    c.in_ok-walk_asked.ensures.on c.in_ok-walk_asked.ensures.unexpected c.if-not-branch.false
+    (map_more (λ x. (x.0.now, view x.1.now)) c.loop-name.unexpected.items _ c.in_ok-append.ensures.items) (sym c.wants_one.ensures ∙ c.if-wants_one.true)) c.report_unexpected.ensures.on
 
 pub returns-then-wants_one-clause-stop : goal.returns-then-wants_one-clause-stop
-returns-then-wants_one-clause-stop g c =
-    let whole = members_in_turn g.R.RegexEngine.answers g.R.RegexEngine.costs g.N.Means.means g.N.Reports.first g.N.Reports.report c.args.ctx.now.answer c.args.keyword.now (data_of c.args.object) (path_at c.args.trail.now) (ap repeats c.requires ∙ c.law_of_names.ensures) in
-    IfErr-weaker c.report_unexpected.result _ _ (λ s h. stops_same whole (one_stops _ _ _ _ _ _ _ _ c.loop-name.invariant (name_next c.in-Some.ensures.steps c.as_str-name.ensures.value) c.declared_from-next.ensures c.in_ok-walk_asked.ensures.on c.in_ok-walk_asked.ensures.unexpected c.if-not-branch.false
-    (map_more (λ x. (x.0.now, view x.1.now)) c.loop-name.unexpected.items _ c.in_ok-append.ensures.items) (sym c.wants_one.ensures ∙ c.if-wants_one.true) h)) c.report_unexpected.ensures.stop
+returns-then-wants_one-clause-stop g c = IfErr-weaker c.report_unexpected.result _ _
+    (λ s h. one_stops _ _ _ _ _ _ _ _ c.loop-name.invariant (name_next c.in-Some.ensures.steps c.as_str-name.ensures.value) c.declared_from-next.ensures
+    c.in_ok-walk_asked.ensures.on c.in_ok-walk_asked.ensures.unexpected c.if-not-branch.false
+    (map_more (λ x. (x.0.now, view x.1.now)) c.loop-name.unexpected.items _ c.in_ok-append.ensures.items) (sym c.wants_one.ensures ∙ c.if-wants_one.true) h) c.report_unexpected.ensures.stop
 
 pub returns-clause-on : goal.returns-clause-on
-returns-clause-on g c =
-    let whole = members_in_turn g.R.RegexEngine.answers g.R.RegexEngine.costs g.N.Means.means g.N.Reports.first g.N.Reports.report c.args.ctx.now.answer c.args.keyword.now (data_of c.args.object) (path_at c.args.trail.now) (ap repeats c.requires ∙ c.law_of_names.ensures) in
-    on_ok_weaker c.report_unexpected-2.result (λ h. goes_same whole (members_end _ _ _ _ _ _ _ _ c.loop-name.invariant (no_name_next c.in-None.ensures.steps.0) h)) c.report_unexpected-2.ensures.on
+returns-clause-on g c = on_ok_weaker c.report_unexpected-2.result (members_end _ _ _ _ _ _ _ _ c.loop-name.invariant (no_name_next c.in-None.ensures.steps.0)) c.report_unexpected-2.ensures.on
 
 pub returns-clause-stop : goal.returns-clause-stop
-returns-clause-stop g c =
-    let whole = members_in_turn g.R.RegexEngine.answers g.R.RegexEngine.costs g.N.Means.means g.N.Reports.first g.N.Reports.report c.args.ctx.now.answer c.args.keyword.now (data_of c.args.object) (path_at c.args.trail.now) (ap repeats c.requires ∙ c.law_of_names.ensures) in
-    IfErr-weaker c.report_unexpected-2.result _ _ (λ s h. stops_same whole (members_end_stop _ _ _ _ _ _ _ _ c.loop-name.invariant (no_name_next c.in-None.ensures.steps.0) h)) c.report_unexpected-2.ensures.stop
+returns-clause-stop g c = IfErr-weaker c.report_unexpected-2.result _ _ (λ s h. members_end_stop _ _ _ _ _ _ _ _ c.loop-name.invariant (no_name_next c.in-None.ensures.steps.0) h)
+    c.report_unexpected-2.ensures.stop
 
 pub returns-in_err-walk_asked-clause-context : goal.returns-in_err-walk_asked-clause-context
 returns-in_err-walk_asked-clause-context g c = only_then c.loop-name.invariant.only c.walk_asked.ensures.context

@@ -10,12 +10,12 @@ pub returns-in_ok-context-in-Zero-clause-kind : goal.returns-in_ok-context-in-Ze
 returns-in_ok-context-in-Zero-clause-kind g c =
     let context = c.in_ok-context-in-Zero.context in
     let alike = subst (λ u. AreLike (context_faults context) (map (λ n. g.N.Reports.report n u (data_of c.args.node) (path_at c.args.trail.now)) c.args.schemas.now.items))
-        c.how_many_accept.ensures.asks.only.answer c.in_ok-context-in-Zero.ensures.contexts in
+    c.how_many_accept.ensures.asks.only.answer c.in_ok-context-in-Zero.ensures.contexts in
     kind_of_none context _ alike c.in-Zero.ensures.count
 
 pub returns-in_ok-context-in-Several-clause-kind : goal.returns-in_ok-context-in-Several-clause-kind
 returns-in_ok-context-in-Several-clause-kind g c =
     let context = c.in_ok-context-in-Several.context in
     let alike = subst (λ u. AreLike (context_faults context) (map (λ n. g.N.Reports.report n u (data_of c.args.node) (path_at c.args.trail.now)) c.args.schemas.now.items))
-        c.how_many_accept.ensures.asks.only.answer c.in_ok-context-in-Several.ensures.contexts in
+    c.how_many_accept.ensures.asks.only.answer c.in_ok-context-in-Several.ensures.contexts in
     kind_of_several context _ alike c.in-Several.ensures.count

@@ -9,7 +9,7 @@ use Rattle.olk_errors.specs.Outcomes.{of_body}
 use Rattle.olk_errors.specs.Sinks.{GoesOn}
 use Rattle.olk_errors.proofs.Own.{own_error, like_at}
 use Rattle.olk_errors.proofs.Sinks.{goes_nowhere, stops_weaker}
-use Rattle.olk_errors.proofs.node.walk_body.Goals as goal
+use Rattle.olk_errors.proofs.node.walk_other.Goals as goal
 
 pub returns-in-True-clause-on : goal.returns-in-True-clause-on
 returns-in-True-clause-on g c = subst (λ b. GoesOn c.args.sink.now c.args.sink.now (of_body g.W.Means.means g.W.Reports.first g.W.Reports.report c.args.ctx.now.answer c.args.location.now b
