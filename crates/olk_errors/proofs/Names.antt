@@ -43,7 +43,8 @@ module _ (v : Data) (Q : Path) where
 
   -- the errors that were found, each told of the object
   pub names_told : {found : List ValidationError} {fs : List Fault} → Appends [] found fs → map (λ e. wrapped v Q (fault_of e)) found ∼ map (wrapped v Q) fs
-  names_told {found} {fs} inner = subst (λ l. l ∼ map (wrapped v Q) fs) (map-map (wrapped v Q) fault_of found) (∼_wrapped v Q (subst (λ l. map fault_of l ∼ fs) (sym inner.is) inner.same))
+  names_told {found} {fs} inner = subst (λ l. l ∼ map (wrapped v Q) fs) (map-map (wrapped v Q) fault_of found)
+      (∼_wrapped v Q (subst (λ l. map fault_of l ∼ fs) (sym inner.is) inner.same))
 
 module _ (v : Data) (Q : Path) {N : Type 0} (m : N → Data → Question) (s r : N → Bool → Data → Path → List Fault) (u : Bool) (n : N) where
   -- of the names one after the other, and of none

@@ -1,10 +1,9 @@
 -- One error for each of a list, in a sink that wants all.
-use Rattle.std.proofs.Common.{◌≡◌, Bool, true, false, true≢false, List, [], ◌∷◌, ◌++◌, length, map, arith, refl, sym, ap, subst, ◌∙◌}
+use Rattle.std.proofs.Common.{◌≡◌, Bool, true, false, true≢false, List, [], ◌∷◌, length, map, arith, refl, sym, ap, subst, ◌∙◌}
 use Rattle.std.specs.List.{flat_map}
 use Rattle.olk_spec.specs.Faults.{Fault, ◌∼◌}
 use Rattle.olk_tree.specs.Questions.{Question, always}
 use Rattle.olk_errors.specs.Found.{Outcome, IsErrorOf}
-use Rattle.olk_errors.specs.Outcomes.{of_each}
 use Rattle.olk_errors.specs.Sinks.{wants_one, held, Took, GoesOn, Takes, Stopped, StopsBy}
 use Rattle.olk_errors.specs.declared.sink.ErrorSink.{ErrorSink}
 use Rattle.olk_errors.specs.declared.sink.Stop.{Stop}
@@ -65,7 +64,11 @@ module _ {X : Type 0} {h : X → Fault} {all : List X} where
 
   module _ {rest : List X} {old new : ErrorSink} (loop : Telling h all rest old new) where
     pub telling_more : {x : X} {more : List X} {newer : ErrorSink} → rest ≡ x ∷ more → Takes new newer (h x) → Telling h all more old newer
-    telling_more {x} next takes = record { so_far = walked_more loop.so_far next (takes_own (of_one (refused h) true (told h) (told h) x) (λ a. a) takes); before = loop.before; now = takes.same ∙ loop.now }
+    telling_more {x} next takes = record {
+      so_far = walked_more loop.so_far next (takes_own (of_one (refused h) true (told h) (told h) x) (λ a. a) takes);
+      before = loop.before;
+      now = takes.same ∙ loop.now;
+    }
 
     pub telling_stop : {x : X} {more : List X} {newer : ErrorSink} {t : Stop} {So : Fault → Type 0} (o : Outcome) → rest ≡ x ∷ more → StopsBy t new newer So → StopsBy t old newer (IsErrorOf o)
     telling_stop {x} o next stops = stops_anyway loop.before (walked_stop loop.so_far {x = x} next (stops_anyway loop.now stops))

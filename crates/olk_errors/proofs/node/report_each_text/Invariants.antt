@@ -8,6 +8,7 @@ use Rattle.olk_errors.proofs.node.report_each_text.Given as goal
 
 abbrev pub invariant-loop-text : goal.invariant-loop-text
 invariant-loop-text g l = record {
-  told : Telling (λ t. leaf_fault l.keyword (data_of l.node) l.location (path_at l.trail) (string_bytes t)) (into_iter_items l.initial.text-iterator) (into_iter_items l.text-iterator) l.initial.sink l.sink;
+  told : Telling (λ t. leaf_fault l.keyword (data_of l.node) l.location (path_at l.trail) (string_bytes t))
+      (into_iter_items l.initial.text-iterator) (into_iter_items l.text-iterator) l.initial.sink l.sink;
   left : into_iter_len l.text-iterator ≡ length (into_iter_items l.text-iterator);
 }

@@ -13,5 +13,7 @@ pub returns-in-Some-clause-stop : goal.returns-in-Some-clause-stop
 returns-in-Some-clause-stop g c =
     let told = kind_of_leaf c.keyword-keyword.result c.in-Some.text ∙ ap (λ k. Leaf k (string_bytes c.in-Some.text)) c.keyword-keyword.ensures in
     IfErr-weaker c.report.result _ _ (λ s h. stops_weaker (λ f is.
-    leaf_error (g.K.Leaf.keyword_of c.args.leaf.now) (data_of c.args.node) c.args.location.now (path_at c.args.trail.now) (g.K.Leaf.finds c.args.leaf.now (data_of c.args.node)) (string_bytes c.in-Some.text)
-    (subst (IsOneOf (g.K.Leaf.finds c.args.leaf.now (data_of c.args.node))) c.in-Some.is c.in_ok-text.ensures) f (is ∙ (λ i. fault (told i) (data_of c.args.node) (path_at c.args.trail.now) (c.as_str.ensures i)))) h) c.report.ensures.stop
+    leaf_error (g.K.Leaf.keyword_of c.args.leaf.now) (data_of c.args.node) c.args.location.now (path_at c.args.trail.now)
+    (g.K.Leaf.finds c.args.leaf.now (data_of c.args.node)) (string_bytes c.in-Some.text)
+    (subst (IsOneOf (g.K.Leaf.finds c.args.leaf.now (data_of c.args.node))) c.in-Some.is c.in_ok-text.ensures) f
+    (is ∙ (λ i. fault (told i) (data_of c.args.node) (path_at c.args.trail.now) (c.as_str.ensures i)))) h) c.report.ensures.stop

@@ -29,13 +29,16 @@ loop-error-preserved g c =
 pub returns-in_err-take_wrapped-clause-stop : goal.returns-in_err-take_wrapped-clause-stop
 returns-in_err-take_wrapped-clause-stop g c = left_by c.from_residual-in_err-take_wrapped.result _ _ c.from_residual-in_err-take_wrapped.ensures.1 c.in_err-take_wrapped.ensures.stop
     (telling_stop c.loop-error.invariant.told
-    (of_asked_name g.N.Means.means g.N.Reports.first g.N.Reports.report c.args.ctx.now.answer c.args.subschema.now (data_of c.args.object) (string_bytes c.args.name.now) (path_at c.args.trail.now)) c.in-Some.ensures.steps.0)
+    (of_asked_name g.N.Means.means g.N.Reports.first g.N.Reports.report c.args.ctx.now.answer c.args.subschema.now
+    (data_of c.args.object) (string_bytes c.args.name.now) (path_at c.args.trail.now)) c.in-Some.ensures.steps.0)
 
 pub returns-clause-on : goal.returns-clause-on
 returns-clause-on g c =
     let none : into_iter_items c.loop-error.error-iterator ≡ [] = nothing_left (into_iter_items c.loop-error.error-iterator) (sym c.loop-error.invariant.left ∙ c.in-None.ensures.steps.0) in
     let all : into_iter_items c.into_iter-error-iterator.result ≡ c.in_ok-errors.errors.items = search rules in
     telling_like c.loop-error.invariant.told
-    (of_asked_name g.N.Means.means g.N.Reports.first g.N.Reports.report c.args.ctx.now.answer c.args.subschema.now (data_of c.args.object) (string_bytes c.args.name.now) (path_at c.args.trail.now))
-    (subst (λ l. map (λ e. wrapped (data_of c.args.object) (path_at c.args.trail.now) (fault_of e)) l ∼ map (wrapped (data_of c.args.object) (path_at c.args.trail.now)) (g.N.Reports.report c.args.subschema.now c.args.ctx.now.answer (string (string_bytes c.args.name.now)) (path_at c.args.trail.now))) (sym all)
+    (of_asked_name g.N.Means.means g.N.Reports.first g.N.Reports.report c.args.ctx.now.answer c.args.subschema.now
+    (data_of c.args.object) (string_bytes c.args.name.now) (path_at c.args.trail.now))
+    (subst (λ l. map (λ e. wrapped (data_of c.args.object) (path_at c.args.trail.now) (fault_of e)) l
+    ∼ map (wrapped (data_of c.args.object) (path_at c.args.trail.now)) (g.N.Reports.report c.args.subschema.now c.args.ctx.now.answer (string (string_bytes c.args.name.now)) (path_at c.args.trail.now))) (sym all)
     (names_told (data_of c.args.object) (path_at c.args.trail.now) c.in_ok-errors.ensures.errors)) none

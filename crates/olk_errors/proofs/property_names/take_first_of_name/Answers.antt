@@ -13,5 +13,6 @@ use Rattle.olk_errors.proofs.property_names.take_first_of_name.Goals as goal
 pub returns-in-Some-clause-stop : goal.returns-in-Some-clause-stop
 returns-in-Some-clause-stop g c =
     IfErr-weaker c.take_wrapped.result _ _ (λ s h. stops_weaker (λ f is. name_errs (data_of c.args.object) (path_at c.args.trail.now) f (fault_of c.in-Some.error) is
-    (subst (IsFirstOf (of_node g.N.Means.means g.N.Reports.first g.N.Reports.report c.args.ctx.now.answer c.args.subschema.now (string (string_bytes c.args.name.now)) (path_at c.args.trail.now))) c.in-Some.is c.in_ok-error.ensures.error)) h)
+    (subst (IsFirstOf (of_node g.N.Means.means g.N.Reports.first g.N.Reports.report
+    c.args.ctx.now.answer c.args.subschema.now (string (string_bytes c.args.name.now)) (path_at c.args.trail.now))) c.in-Some.is c.in_ok-error.ensures.error)) h)
     c.take_wrapped.ensures.stop

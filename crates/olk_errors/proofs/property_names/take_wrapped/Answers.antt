@@ -8,4 +8,5 @@ use Rattle.olk_errors.proofs.property_names.take_wrapped.Goals as goal
 
 pub returns-clause-stop : goal.returns-clause-stop
 returns-clause-stop c = IfErr-weaker c.take.result _ _
-    (λ s h. stops_weaker (λ f is. is ∙ c.wrapping.ensures.fault ∙ (λ i. wrapped (data_of c.args.object) (c.in_ok-error.ensures.text i) (fault_of (c.in_ok-error.ensures.value i)))) h) c.take.ensures.stop
+    (λ s h. stops_weaker (λ f is. is ∙ c.wrapping.ensures.fault
+    ∙ (λ i. wrapped (data_of c.args.object) (c.in_ok-error.ensures.text i) (fault_of (c.in_ok-error.ensures.value i)))) h) c.take.ensures.stop

@@ -17,12 +17,14 @@ loop-name-preserved g c = walking_more c.loop-name.invariant (name_next c.in-Som
 
 pub returns-in_err-walk_name-clause-stop : goal.returns-in_err-walk_name-clause-stop
 returns-in_err-walk_name-clause-stop g c = left_by c.from_residual.result _ _ c.from_residual.ensures.1 c.in_err-walk_name.ensures.stop
-    (λ h. stops_same (names_of_walk (data_of c.args.object) (path_at c.args.trail.now) g.N.Means.means g.N.Reports.first g.N.Reports.report c.args.ctx.now.answer c.args.subschema.now (members_view c.args.members.now.entries) c.requires)
+    (λ h. stops_same (names_of_walk (data_of c.args.object) (path_at c.args.trail.now) g.N.Means.means g.N.Reports.first g.N.Reports.report
+    c.args.ctx.now.answer c.args.subschema.now (members_view c.args.members.now.entries) c.requires)
     (walking_stop c.loop-name.invariant (name_next c.in-Some.ensures.steps refl) h))
 
 pub returns-in_err-walk_name-clause-context : goal.returns-in_err-walk_name-clause-context
 returns-in_err-walk_name-clause-context g c = only_then c.loop-name.invariant.only c.walk_name.ensures.context
 
 pub returns-clause-on : goal.returns-clause-on
-returns-clause-on g c = goes_same (names_of_walk (data_of c.args.object) (path_at c.args.trail.now) g.N.Means.means g.N.Reports.first g.N.Reports.report c.args.ctx.now.answer c.args.subschema.now (members_view c.args.members.now.entries) c.requires)
+returns-clause-on g c = goes_same (names_of_walk (data_of c.args.object) (path_at c.args.trail.now) g.N.Means.means g.N.Reports.first g.N.Reports.report
+    c.args.ctx.now.answer c.args.subschema.now (members_view c.args.members.now.entries) c.requires)
     (walking_end c.loop-name.invariant (no_name_next c.in-None.ensures.steps.0))

@@ -17,9 +17,11 @@ pub returns-in_err-report_if_missing-in-Some-clause-stop : goal.returns-in_err-r
 returns-in_err-report_if_missing-in-Some-clause-stop g c =
     let members = of_properties g.N.Means.means g.N.Reports.first g.N.Reports.report c.args.ctx.now.answer (named c.args.self.now.properties) in
     left_by c.from_residual.result _ _ c.from_residual.ensures.1 c.in_err-report_if_missing-in-Some.ensures.stop
-    (λ h. stops_same (two_then_members (λ v. members v (path_at c.args.trail.now)) (path_at c.args.trail.now) c.as_str.ensures.value (λ i. string_bytes c.args.self.now.second) c.as_str-location.ensures
+    (λ h. stops_same (two_then_members (λ v. members v (path_at c.args.trail.now)) (path_at c.args.trail.now) c.as_str.ensures.value (λ i. string_bytes c.args.self.now.second)
+    c.as_str-location.ensures
     (object_is (data_of c.args.node) (members_view c.in-Some.members.now.entries) c.in-Some.ensures))
-    (stops_before (members (object (members_view c.in-Some.members.now.entries)) (path_at c.args.trail.now)) (stops_before (of_names (string_bytes c.args.self.now.second ∷ []) (data_of c.args.node) c.as_str-location.result.now (path_at c.args.trail.now)) h)))
+    (stops_before (members (object (members_view c.in-Some.members.now.entries)) (path_at c.args.trail.now)) (stops_before
+    (of_names (string_bytes c.args.self.now.second ∷ []) (data_of c.args.node) c.as_str-location.result.now (path_at c.args.trail.now)) h)))
 
 pub returns-in_err-report_if_missing-in-Some-2-clause-stop : goal.returns-in_err-report_if_missing-in-Some-2-clause-stop
 returns-in_err-report_if_missing-in-Some-2-clause-stop g c =

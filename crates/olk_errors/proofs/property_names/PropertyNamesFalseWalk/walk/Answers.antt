@@ -16,9 +16,11 @@ returns-then-is_valid-clause-on c =
 pub returns-clause-on : goal.returns-clause-on
 returns-clause-on c =
     let refused = sym c.if-is_valid.ensures.verdict in
-    reported_on (is_own FalseSchema (data_of c.args.node) c.args.self.now.location (path_at c.args.trail.now) refused (ap not refused) refl (like_at kind_of_false_schema itself refl c.as_str.ensures)) _ _ c.report.result c.report.ensures.on
+    reported_on (is_own FalseSchema (data_of c.args.node) c.args.self.now.location (path_at c.args.trail.now)
+    refused (ap not refused) refl (like_at kind_of_false_schema itself refl c.as_str.ensures)) _ _ c.report.result c.report.ensures.on
 
 pub returns-clause-stop : goal.returns-clause-stop
 returns-clause-stop c =
     let refused = sym c.if-is_valid.ensures.verdict in
-    reported_stop (is_own FalseSchema (data_of c.args.node) c.args.self.now.location (path_at c.args.trail.now) refused (ap not refused) refl (like_at kind_of_false_schema itself refl c.as_str.ensures)) _ _ c.report.result c.report.ensures.stop
+    reported_stop (is_own FalseSchema (data_of c.args.node) c.args.self.now.location (path_at c.args.trail.now)
+    refused (ap not refused) refl (like_at kind_of_false_schema itself refl c.as_str.ensures)) _ _ c.report.result c.report.ensures.stop
