@@ -96,7 +96,7 @@ fn first_error_text(alloc: Global, error: &ValidationError<'_>) -> Result<Vec<u8
 
 /// The answer that tells the error that `validate` gives, or that there is none.
 ///
-/// The only error is want of memory, also where it is what `validate` gives.
+/// The only error is out of memory, also where it is what `validate` gives.
 pub fn first_text(
     alloc: Global,
     found: Result<(), ValidateError<'_>>,
@@ -113,7 +113,7 @@ pub fn first_text(
 /// The answer that tells errors, sorted by instance path, schema path and message in byte order.
 /// Where there is none, the instance is valid.
 ///
-/// The only error is want of memory.
+/// The only error is out of memory.
 pub fn errors_text(alloc: Global, errors: &[ValidationError<'_>]) -> Result<Vec<u8>, AllocError>
     ensures { IfOk result (λ answer. PrintNoFraction (map fault_of errors.now)
         → TellsSorted (is_empty errors.now) (map told (map fault_of errors.now)) answer.items) }
@@ -127,7 +127,7 @@ pub fn errors_text(alloc: Global, errors: &[ValidationError<'_>]) -> Result<Vec<
 /// The refusal of a malformed schema: the error in words, and its place in the schema (JSON
 /// Pointer, RFC 6901).
 ///
-/// The only error is want of memory.
+/// The only error is out of memory.
 pub fn malformation_text(alloc: Global, error: &ValidationError<'_>) -> Result<Vec<u8>, AllocError>
     ensures { IfOk result (λ answer. prints_fraction (fault_of error.now) ≡ false
         → answer.items ≡ json_text (fault_refusal (fault_of error.now))) }

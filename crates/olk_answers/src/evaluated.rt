@@ -92,7 +92,7 @@ fn evaluation_value(
 ///
 /// # Errors
 ///
-/// Want of memory.
+/// Out of memory.
 #[tactic(auto, using(crate::proofs::ToldLemmas::evaluation_is_tree))]
 pub fn evaluation_text(alloc: Global, evaluation: &Evaluation<'_>) -> Result<Vec<u8>, AllocError>
     ensures { IfOk result (λ answer. answer.items

@@ -17,7 +17,7 @@ fn refusal_value(alloc: Global, why: &str) -> Result<Value, AllocError>
 
 /// The refusal of a line, as compact JSON (RFC 8259).
 ///
-/// The only error is want of memory.
+/// The only error is out of memory.
 pub fn refusal_text(alloc: Global, why: &str) -> Result<Vec<u8>, AllocError>
     ensures { IfOk result (λ text. text.items ≡ json_text (refusal why.now)) }
 {
@@ -33,7 +33,7 @@ fn schema_refusal_value(alloc: Global, message: &str, path: &str) -> Result<Valu
 
 /// The refusal of a schema with this message and this place, as compact JSON (RFC 8259).
 ///
-/// The only error is want of memory.
+/// The only error is out of memory.
 pub fn schema_refusal_text(alloc: Global, message: &str, path: &str) -> Result<Vec<u8>, AllocError>
     ensures { IfOk result (λ text. text.items
         ≡ json_text (schema_refusal message.now path.now)) }
@@ -50,7 +50,7 @@ fn verdict_value(alloc: Global, valid: bool) -> Result<Value, AllocError>
 
 /// The verdict on an instance, as compact JSON (RFC 8259).
 ///
-/// The only error is want of memory.
+/// The only error is out of memory.
 pub fn verdict_text(alloc: Global, valid: bool) -> Result<Vec<u8>, AllocError>
     ensures { IfOk result (λ text. text.items ≡ json_text (verdict valid)) }
 {

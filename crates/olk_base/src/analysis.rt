@@ -24,7 +24,7 @@ pub enum PatternOptimization {
 }
 
 /// The test that the pattern stands for, if it stands for one (the grammar is this project's own).
-/// The only error is want of memory.
+/// The only error is out of memory.
 ///
 /// A body is one item or more. An item is a character other than `\ ^ $ . * + ? ( ) [ ] { } |`, or
 /// a backslash followed by one of these or by `/`, for the character behind it.
@@ -138,7 +138,7 @@ fn scan_alternation(alloc: Global, pattern: &str) -> Result<Option<Vec<String>>,
 }
 
 /// The text of the items at the start of a pattern, as many as there are, and what is left behind
-/// them. The only error is want of memory.
+/// them. The only error is out of memory.
 ///
 /// Items are those of [`analyze_pattern`]. Where the pattern does not begin with one, the text is
 /// empty and the whole pattern is left.

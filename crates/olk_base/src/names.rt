@@ -77,7 +77,7 @@ impl Model for PropertyName {
 }
 
 impl PropertyName {
-    /// A copy of the text, as a name. The only error is want of memory.
+    /// A copy of the text, as a name. The only error is out of memory.
     pub fn new(alloc: Global, text: &str) -> Result<PropertyName, AllocError>
         ensures { IfOk result (λ p. p ≡ text.now) }
     {

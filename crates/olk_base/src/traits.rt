@@ -24,7 +24,7 @@ impl From<AllocError> for MakeError {
 
     ghost from_gives = { λ a e. e ≡ Memory a };
 
-    /// Want of memory, as `Memory`.
+    /// Out of memory, as `Memory`.
     fn from(error: AllocError) -> MakeError {
         MakeError::Memory(error)
     }
@@ -67,7 +67,7 @@ pub trait MakeRegex {
     type Engine: RegexEngine;
 
     /// An engine of the pattern, whose asking is counted. `Refused` where the pattern does not
-    /// build, and only there; `Memory` for want of memory. Counted in `made`, whatever the answer
+    /// build, and only there; `Memory` for out of memory. Counted in `made`, whatever the answer
     /// is; no other count changes.
     fn make(
         &self,
@@ -116,7 +116,7 @@ pub trait Leaf: Drop {
     fn is_valid(&self, node: Node<'_>) -> bool
         ensures { result ≡ is_empty (finds self.now (data_of node.entry)) };
 
-    /// One of the texts, and none where the node is accepted. The only error is want of memory.
+    /// One of the texts, and none where the node is accepted. The only error is out of memory.
     ///
     /// A leaf that writes none of its own collects all texts and gives the last.
     fn validate(&self, alloc: Global, node: Node<'_>) -> Result<Option<String>, AllocError>
@@ -127,7 +127,7 @@ pub trait Leaf: Drop {
         Ok(texts.pop())
     }
 
-    /// Appends all texts. The only error is want of memory, and then nothing is appended.
+    /// Appends all texts. The only error is out of memory, and then nothing is appended.
     fn collect_errors(
         &self,
         alloc: Global,
@@ -138,7 +138,7 @@ pub trait Leaf: Drop {
             ≡ texts_of texts.old.items ++ finds self.now (data_of node.entry)) }
         ensures err { OnErr result (texts.new.items ≡ texts.old.items) };
 
-    /// All texts, in any order. The only error is want of memory.
+    /// All texts, in any order. The only error is out of memory.
     ///
     /// A leaf that writes none of its own collects them.
     fn evaluate(&self, alloc: Global, node: Node<'_>) -> Result<Vec<String>, AllocError>
@@ -166,7 +166,7 @@ pub trait MakeLeaf {
         ensures { result ≡ Self.Leaf.reads keyword.now };
 
     /// The leaf of the keyword and its value. `Refused` where the value does not fit the keyword,
-    /// and only there; `Memory` for want of memory. Counted in `leaves`, whatever the answer is; no
+    /// and only there; `Memory` for out of memory. Counted in `leaves`, whatever the answer is; no
     /// other count changes.
     fn make(
         &self,

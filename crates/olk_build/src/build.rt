@@ -36,7 +36,7 @@ fn place_of_item(alloc: Global, place: &Location, index: usize) -> Result<Locati
 ///
 /// # Errors
 ///
-/// One of the schema's malformations; else want of memory.
+/// One of the schema's malformations; else out of memory.
 #[cycle(compile)]
 fn compile_schema<'a, L: MakeLeaf, M: MakeRegex, N: Place<L::Leaf, M::Engine>>(
     alloc: Global,
@@ -69,7 +69,7 @@ fn compile_schema<'a, L: MakeLeaf, M: MakeRegex, N: Place<L::Leaf, M::Engine>>(
 ///
 /// # Errors
 ///
-/// One of the members' malformations; else want of memory.
+/// One of the members' malformations; else out of memory.
 #[cycle(compile)]
 fn compile_parts<'a, L: MakeLeaf, M: MakeRegex, N: Place<L::Leaf, M::Engine>>(
     alloc: Global,
@@ -105,7 +105,7 @@ fn compile_parts<'a, L: MakeLeaf, M: MakeRegex, N: Place<L::Leaf, M::Engine>>(
 ///
 /// # Errors
 ///
-/// One of the member's malformations; else want of memory.
+/// One of the member's malformations; else out of memory.
 #[cycle(compile)]
 fn compile_part<'a, L: MakeLeaf, M: MakeRegex, N: Place<L::Leaf, M::Engine>>(
     alloc: Global,
@@ -134,7 +134,7 @@ fn compile_part<'a, L: MakeLeaf, M: MakeRegex, N: Place<L::Leaf, M::Engine>>(
 ///
 /// # Errors
 ///
-/// One of these places' malformations; else want of memory.
+/// One of these places' malformations; else out of memory.
 #[cycle(compile)]
 fn compile_places<'a, L: MakeLeaf, M: MakeRegex, N: Place<L::Leaf, M::Engine>>(
     alloc: Global,
@@ -195,7 +195,7 @@ fn is_read(passes_arrays: bool, entry: &Value) -> bool
 ///
 /// # Errors
 ///
-/// One of these entries' malformations; else want of memory.
+/// One of these entries' malformations; else out of memory.
 #[cycle(compile)]
 fn compile_entries<'a, L: MakeLeaf, M: MakeRegex, N: Place<L::Leaf, M::Engine>>(
     alloc: Global,
@@ -227,7 +227,7 @@ fn compile_entries<'a, L: MakeLeaf, M: MakeRegex, N: Place<L::Leaf, M::Engine>>(
 ///
 /// # Errors
 ///
-/// One of these inner entries' malformations; else want of memory.
+/// One of these inner entries' malformations; else out of memory.
 #[cycle(compile)]
 fn compile_inner_entries<'a, L: MakeLeaf, M: MakeRegex, N: Place<L::Leaf, M::Engine>>(
     alloc: Global,
@@ -255,7 +255,7 @@ fn compile_inner_entries<'a, L: MakeLeaf, M: MakeRegex, N: Place<L::Leaf, M::Eng
 ///
 /// # Errors
 ///
-/// One of the branches' malformations; else want of memory.
+/// One of the branches' malformations; else out of memory.
 #[cycle(compile)]
 fn compile_branches<'a, L: MakeLeaf, M: MakeRegex, N: Place<L::Leaf, M::Engine>>(
     alloc: Global,
@@ -284,7 +284,7 @@ fn compile_branches<'a, L: MakeLeaf, M: MakeRegex, N: Place<L::Leaf, M::Engine>>
 ///
 /// # Errors
 ///
-/// One of the member's malformations; else want of memory.
+/// One of the member's malformations; else out of memory.
 pub fn compile_member<'a, L: MakeLeaf, M: MakeRegex, N: Place<L::Leaf, M::Engine>>(
     alloc: Global,
     ctx: &mut Context<'_, L, M>,
@@ -319,7 +319,7 @@ pub fn compile_member<'a, L: MakeLeaf, M: MakeRegex, N: Place<L::Leaf, M::Engine
 ///
 /// # Errors
 ///
-/// One of these entries' malformations; else want of memory.
+/// One of these entries' malformations; else out of memory.
 pub fn compile_declared<'a, L: MakeLeaf, M: MakeRegex, N: Place<L::Leaf, M::Engine>>(
     alloc: Global,
     ctx: &mut Context<'_, L, M>,

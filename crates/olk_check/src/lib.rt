@@ -39,3 +39,4 @@ mod walk;
 pub use additional_properties::{DEFERRED_MEMBERS, are_properties_valid, matches_unless_known};
 pub use one_of::{Accepting, how_many_accept};
 pub use pattern_properties::matches;
+pub use required::is_present;

@@ -54,9 +54,9 @@ pub(crate) fn has_both(members: &Map<String, Value>, first: &str, second: &str) 
     }
 }
 
-/// Whether there is a member at the name.
+/// Whether there is a member at the name (JSON Schema 2020-12 Validation, 6.5.3).
 #[inline(always)]
-pub(crate) fn is_present(members: &Map<String, Value>, name: &str) -> bool
+pub fn is_present(members: &Map<String, Value>, name: &str) -> bool
     ensures { result ≡ has name.now (object (members_view members.now.entries)) }
 {
     if members.len() > FEW_MEMBERS {

@@ -18,7 +18,7 @@ use olk_validator::{BuildError, Leaf, Meter, RegexEngine, ValidationContext, Val
 use serde_json::Value;
 use std::alloc::{AllocError, Global};
 
-/// The answer to a line, both without their line feeds. The only error is want of memory.
+/// The answer to a line, both without their line feeds. The only error is out of memory.
 #[tactic(auto, unfolding(crate::specs::Answers::IsAnswer))]
 pub fn answer_line(alloc: Global, line: &[u8]) -> Result<Vec<u8>, AllocError>
     ensures { IfOk result (λ answer. IsAnswer line.now answer.items) }

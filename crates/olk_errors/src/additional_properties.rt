@@ -32,6 +32,7 @@ use std::alloc::{AllocError, Global};
 /// members that are left to it, after the errors of the members; where one error is enough, the
 /// walk ends with the first of them. A name that is wanted comes last.
 impl<'a, R: RegexEngine, N: Walk<'a>> Walk<'a> for AdditionalProperties<R, N> {
+    #[inline(never)]
     fn walk(
         &'a self,
         node: Node<'a>,

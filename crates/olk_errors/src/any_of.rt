@@ -8,6 +8,7 @@ use olk_reports::ValidationErrorKind;
 use olk_tree::any_of::{AnyOf, SingleAnyOf};
 
 impl<'a, N: Walk<'a>> Walk<'a> for AnyOf<N> {
+    #[inline(never)]
     #[tactic(auto, using(crate::proofs::Sinks::keeps_same, olk_check::proofs::Asked::only_then))]
     fn walk(
         &'a self,
@@ -26,6 +27,7 @@ impl<'a, N: Walk<'a>> Walk<'a> for AnyOf<N> {
 }
 
 impl<'a, N: Walk<'a>> Walk<'a> for SingleAnyOf<N> {
+    #[inline(never)]
     #[tactic(auto, using(crate::proofs::Sinks::keeps_same, olk_check::proofs::Asked::only_then))]
     fn walk(
         &'a self,

@@ -19,6 +19,7 @@ use olk_tree::validators_map::PropertiesValidatorsMap;
 use serde_json::{Map, Value};
 
 impl<'a, N: Walk<'a>> Walk<'a> for Dependencies<N> {
+    #[inline(never)]
     fn walk(
         &'a self,
         node: Node<'a>,

@@ -6,6 +6,7 @@ use olk_paths::Trail;
 use olk_tree::if_::{IfElse, IfThen, IfThenElse};
 
 impl<'a, N: Walk<'a>> Walk<'a> for IfThen<N> {
+    #[inline(never)]
     fn walk(
         &'a self,
         node: Node<'a>,
@@ -21,6 +22,7 @@ impl<'a, N: Walk<'a>> Walk<'a> for IfThen<N> {
 }
 
 impl<'a, N: Walk<'a>> Walk<'a> for IfElse<N> {
+    #[inline(never)]
     fn walk(
         &'a self,
         node: Node<'a>,
@@ -36,6 +38,7 @@ impl<'a, N: Walk<'a>> Walk<'a> for IfElse<N> {
 }
 
 impl<'a, N: Walk<'a>> Walk<'a> for IfThenElse<N> {
+    #[inline(never)]
     fn walk(
         &'a self,
         node: Node<'a>,

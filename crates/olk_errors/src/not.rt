@@ -7,6 +7,7 @@ use olk_reports::ValidationErrorKind;
 use olk_tree::not::Not;
 
 impl<'a, N: IsValid> Walk<'a> for Not<N> {
+    #[inline(never)]
     fn walk(
         &'a self,
         node: Node<'a>,

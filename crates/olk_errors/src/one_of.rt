@@ -16,6 +16,7 @@ use olk_tree::one_of::{OneOf, SingleOneOf};
 use std::alloc::{AllocError, Global};
 
 impl<'a, N: Walk<'a>> Walk<'a> for OneOf<N> {
+    #[inline(never)]
     #[tactic(auto, using(crate::proofs::Sinks::keeps_same))]
     fn walk(
         &'a self,
@@ -60,6 +61,7 @@ fn one_of_kind<'a, N: Walk<'a>>(
 }
 
 impl<'a, N: Walk<'a>> Walk<'a> for SingleOneOf<N> {
+    #[inline(never)]
     #[tactic(auto, using(crate::proofs::Sinks::keeps_same, olk_check::proofs::Asked::only_then))]
     fn walk(
         &'a self,

@@ -17,6 +17,7 @@ use olk_tree::pattern_properties::{PatternProperties, SingleValuePatternProperti
 use serde_json::{Map, Value};
 
 impl<'a, R: RegexEngine, N: Walk<'a>> Walk<'a> for PatternProperties<R, N> {
+    #[inline(never)]
     fn walk(
         &'a self,
         node: Node<'a>,
@@ -32,6 +33,7 @@ impl<'a, R: RegexEngine, N: Walk<'a>> Walk<'a> for PatternProperties<R, N> {
 }
 
 impl<'a, R: RegexEngine, N: Walk<'a>> Walk<'a> for SingleValuePatternProperties<R, N> {
+    #[inline(never)]
     fn walk(
         &'a self,
         node: Node<'a>,

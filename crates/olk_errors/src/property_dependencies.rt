@@ -20,6 +20,7 @@ use olk_tree::validators_map::PropertiesValidatorsMap;
 use serde_json::{Map, Value};
 
 impl<'a, N: Walk<'a>> Walk<'a> for PropertyDependencies<N> {
+    #[inline(never)]
     fn walk(
         &'a self,
         node: Node<'a>,

@@ -21,6 +21,7 @@ use serde_json::{Map, Value};
 use std::alloc::{AllocError, Global};
 
 impl<'a, N: Walk<'a>> Walk<'a> for PropertyNames<N> {
+    #[inline(never)]
     fn walk(
         &'a self,
         node: Node<'a>,
@@ -36,6 +37,7 @@ impl<'a, N: Walk<'a>> Walk<'a> for PropertyNames<N> {
 }
 
 impl<'a> Walk<'a> for PropertyNamesFalse {
+    #[inline(never)]
     #[tactic(auto, using(crate::proofs::Sinks::keeps_same))]
     fn walk(
         &'a self,

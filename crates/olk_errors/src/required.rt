@@ -10,13 +10,14 @@ ghost use Rattle.olk_errors.specs.Sinks.{GoesOn, StopsBy};
 
 use crate::{ErrorSink, Stop, Walk};
 use olk_base::{Node, ValidationContext};
-use olk_members::has_member;
+use olk_check::is_present;
 use olk_paths::Trail;
 use olk_reports::ValidationErrorKind;
 use olk_tree::required::RequiredValidator;
 use serde_json::{Map, Value};
 
 impl<'a> Walk<'a> for RequiredValidator {
+    #[inline(never)]
     #[tactic(auto, using(olk_check::proofs::Asked::only_same))]
     fn walk(
         &'a self,
@@ -72,7 +73,7 @@ pub(crate) fn report_if_missing<'a>(
     ensures stop { IfErr result (λ s. StopsBy s sink.old sink.new (IsErrorOf
         (of_names (name.now ∷ []) (data_of node.entry) location.now (path_at trail.now)))) }
 {
-    if has_member(members, name) {
+    if is_present(members, name) {
         return Ok(());
     }
     let kind = ValidationErrorKind::Required { property: name };

@@ -44,7 +44,7 @@ pub trait Evaluate<'a>: Located + IsValid {
     ///
     /// # Errors
     ///
-    /// Want of memory. The result then shows no more than a part.
+    /// Out of memory. The result then shows no more than a part.
     fn show(
         &'a self,
         alloc: Global,

@@ -113,7 +113,7 @@ fn add_texts<'a, K: Leaf>(
 ///
 /// # Errors
 ///
-/// Want of memory.
+/// Out of memory.
 #[tactic(auto, using(olk_check::proofs::Asked::only_same))]
 pub fn show_body<'a, W: Evaluate<'a>>(
     alloc: Global,

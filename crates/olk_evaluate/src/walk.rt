@@ -20,7 +20,7 @@ use std::alloc::{AllocError, Global};
 ///
 /// # Errors
 ///
-/// Want of memory.
+/// Out of memory.
 pub fn outcome_of<'a, N: Evaluate<'a>>(
     alloc: Global,
     schema: &'a N,
@@ -46,7 +46,7 @@ pub fn outcome_of<'a, N: Evaluate<'a>>(
 ///
 /// # Errors
 ///
-/// Want of memory.
+/// Out of memory.
 pub fn child<'a, N: Evaluate<'a>>(
     alloc: Global,
     schema: &'a N,

@@ -29,7 +29,7 @@ use std::alloc::Global;
 ///
 /// # Errors
 ///
-/// One of its malformations; else want of memory.
+/// One of its malformations; else out of memory.
 fn compile_properties<'a, L: MakeLeaf, M: MakeRegex, N: Place<L::Leaf, M::Engine>>(
     alloc: Global,
     ctx: &mut Context<'_, L, M>,
@@ -60,7 +60,7 @@ fn compile_properties<'a, L: MakeLeaf, M: MakeRegex, N: Place<L::Leaf, M::Engine
 ///
 /// # Errors
 ///
-/// One of its malformations; else want of memory.
+/// One of its malformations; else out of memory.
 fn compile_patterns<'a, L: MakeLeaf, M: MakeRegex, N: Place<L::Leaf, M::Engine>>(
     alloc: Global,
     ctx: &mut Context<'_, L, M>,
@@ -96,7 +96,7 @@ fn compile_patterns<'a, L: MakeLeaf, M: MakeRegex, N: Place<L::Leaf, M::Engine>>
 /// # Errors
 ///
 /// One of the malformations of `additionalProperties`, whose kind is tested before anything beside
-/// it is compiled, of `properties` and of `patternProperties`; else want of memory.
+/// it is compiled, of `properties` and of `patternProperties`; else out of memory.
 fn compile_restriction<'a, L: MakeLeaf, M: MakeRegex, N: Place<L::Leaf, M::Engine>>(
     alloc: Global,
     ctx: &mut Context<'_, L, M>,
@@ -143,7 +143,7 @@ fn compile_restriction<'a, L: MakeLeaf, M: MakeRegex, N: Place<L::Leaf, M::Engin
 ///
 /// # Errors
 ///
-/// One of the malformations of the three; else want of memory.
+/// One of the malformations of the three; else out of memory.
 pub fn compile<'a, L: MakeLeaf, M: MakeRegex, N: Place<L::Leaf, M::Engine>>(
     alloc: Global,
     ctx: &mut Context<'_, L, M>,

@@ -27,7 +27,7 @@ use std::alloc::Global;
 ///
 /// # Errors
 ///
-/// One of the malformations of the keyword; else want of memory. There always is an answer.
+/// One of the malformations of the keyword; else out of memory. There always is an answer.
 pub fn compile<'a, L: MakeLeaf, M: MakeRegex, N: Place<L::Leaf, M::Engine>>(
     alloc: Global,
     ctx: &mut Context<'_, L, M>,
@@ -69,7 +69,7 @@ pub fn compile<'a, L: MakeLeaf, M: MakeRegex, N: Place<L::Leaf, M::Engine>>(
 ///
 /// # Errors
 ///
-/// One of the malformations of the keyword; else want of memory. There always is an answer.
+/// One of the malformations of the keyword; else out of memory. There always is an answer.
 pub fn compile_dependent_required<'a, L: MakeLeaf, M: MakeRegex, N: Place<L::Leaf, M::Engine>>(
     alloc: Global,
     ctx: &mut Context<'_, L, M>,
@@ -111,7 +111,7 @@ pub fn compile_dependent_required<'a, L: MakeLeaf, M: MakeRegex, N: Place<L::Lea
 ///
 /// # Errors
 ///
-/// One of the malformations of the keyword; else want of memory. There always is an answer.
+/// One of the malformations of the keyword; else out of memory. There always is an answer.
 pub fn compile_dependent_schemas<'a, L: MakeLeaf, M: MakeRegex, N: Place<L::Leaf, M::Engine>>(
     alloc: Global,
     ctx: &mut Context<'_, L, M>,

@@ -28,7 +28,7 @@ use std::alloc::Global;
 ///
 /// # Errors
 ///
-/// One of its malformations; else want of memory.
+/// One of its malformations; else out of memory.
 fn compile_case<'a, L: MakeLeaf, M: MakeRegex, N: Place<L::Leaf, M::Engine>>(
     alloc: Global,
     ctx: &mut Context<'_, L, M>,
@@ -56,7 +56,7 @@ fn compile_case<'a, L: MakeLeaf, M: MakeRegex, N: Place<L::Leaf, M::Engine>>(
 ///
 /// # Errors
 ///
-/// One of the malformations of `if`, `then` and `else`; else want of memory.
+/// One of the malformations of `if`, `then` and `else`; else out of memory.
 fn compile_condition<'a, L: MakeLeaf, M: MakeRegex, N: Place<L::Leaf, M::Engine>>(
     alloc: Global,
     ctx: &mut Context<'_, L, M>,
@@ -105,7 +105,7 @@ fn compile_condition<'a, L: MakeLeaf, M: MakeRegex, N: Place<L::Leaf, M::Engine>
 ///
 /// # Errors
 ///
-/// One of the malformations of the three; else want of memory.
+/// One of the malformations of the three; else out of memory.
 pub fn compile<'a, L: MakeLeaf, M: MakeRegex, N: Place<L::Leaf, M::Engine>>(
     alloc: Global,
     ctx: &mut Context<'_, L, M>,

@@ -31,7 +31,7 @@ use std::alloc::Global;
 ///
 /// # Errors
 ///
-/// One of the malformations of the keyword; else want of memory.
+/// One of the malformations of the keyword; else out of memory.
 pub fn compile<'a, L: MakeLeaf, M: MakeRegex, N: Place<L::Leaf, M::Engine>>(
     alloc: Global,
     ctx: &mut Context<'_, L, M>,
@@ -79,7 +79,7 @@ pub fn compile<'a, L: MakeLeaf, M: MakeRegex, N: Place<L::Leaf, M::Engine>>(
 ///
 /// # Errors
 ///
-/// A pattern that does not build, or one of the subschemas' malformations; else want of memory.
+/// A pattern that does not build, or one of the subschemas' malformations; else out of memory.
 pub fn compile_patterns<'a, L: MakeLeaf, M: MakeRegex, N: Place<L::Leaf, M::Engine>>(
     alloc: Global,
     ctx: &mut Context<'_, L, M>,

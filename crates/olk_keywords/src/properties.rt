@@ -35,7 +35,7 @@ use std::alloc::Global;
 ///
 /// # Errors
 ///
-/// One of the malformations of the keyword; else want of memory.
+/// One of the malformations of the keyword; else out of memory.
 pub fn compile<'a, L: MakeLeaf, M: MakeRegex, N: Place<L::Leaf, M::Engine>>(
     alloc: Global,
     ctx: &mut Context<'_, L, M>,
@@ -84,7 +84,7 @@ pub fn compile<'a, L: MakeLeaf, M: MakeRegex, N: Place<L::Leaf, M::Engine>>(
 ///
 /// # Errors
 ///
-/// One of the subschemas' malformations; else want of memory.
+/// One of the subschemas' malformations; else out of memory.
 pub fn compile_small_map<'a, L: MakeLeaf, M: MakeRegex, N: Place<L::Leaf, M::Engine>>(
     alloc: Global,
     ctx: &mut Context<'_, L, M>,
@@ -113,7 +113,7 @@ pub fn compile_small_map<'a, L: MakeLeaf, M: MakeRegex, N: Place<L::Leaf, M::Eng
 ///
 /// # Errors
 ///
-/// One of the subschemas' malformations; else want of memory.
+/// One of the subschemas' malformations; else out of memory.
 pub fn compile_big_map<'a, L: MakeLeaf, M: MakeRegex, N: Place<L::Leaf, M::Engine>>(
     alloc: Global,
     ctx: &mut Context<'_, L, M>,

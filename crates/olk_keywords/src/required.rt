@@ -29,7 +29,7 @@ use std::alloc::Global;
 ///
 /// # Errors
 ///
-/// One of the malformations of the keyword; else want of memory.
+/// One of the malformations of the keyword; else out of memory.
 pub fn compile<'a, L: MakeLeaf, M: MakeRegex, N: Place<L::Leaf, M::Engine>>(
     alloc: Global,
     ctx: &mut Context<'_, L, M>,

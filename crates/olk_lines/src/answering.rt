@@ -8,7 +8,7 @@ pub trait AnswerLine {
     // whether a line, without its line feed, may have an answer, without its own
     ghost gives: { List ℕ → List ℕ → Type 0 };
 
-    /// The answer to a line, both without their line feeds. The only error is want of memory.
+    /// The answer to a line, both without their line feeds. The only error is out of memory.
     fn answer(&self, alloc: Global, line: &[u8]) -> Result<Vec<u8>, AllocError>
         ensures { IfOk result (λ answer. gives line.now answer.items) };
 }

@@ -15,7 +15,7 @@ pub const DONE: u8 = 0;
 /// The status where a read or a write failed, and after `u64::MAX` lines.
 pub const FAILED: u8 = 2;
 
-/// The status for want of memory.
+/// The status for out of memory.
 pub const MEMORY: u8 = 3;
 
 /// Answers each line of the input by one line, and gives the exit status.

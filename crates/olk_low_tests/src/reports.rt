@@ -530,7 +530,7 @@ fn evaluations_show_their_parts(rt: HostRuntime) -> Result<(), Fail> {
     expect_rows(rt.alloc(), EVALUATIONS, evaluation)
 }
 
-// ---- want of memory
+// ---- out of memory
 
 const LONG: &str =
     "a segment that is longer than any text that a first growth makes room for, ~ and / with it";

@@ -33,7 +33,7 @@ fn declared<N: Drop>(properties: Option<SmallMap<N>>) -> Option<PropertiesMap<N>
 ///
 /// # Errors
 ///
-/// Want of memory.
+/// Out of memory.
 fn required(
     alloc: Global,
     plan: Plan<'_>,
@@ -54,7 +54,7 @@ fn required(
 ///
 /// # Errors
 ///
-/// Want of memory.
+/// Out of memory.
 fn boxed<K, R: Drop, N: Drop>(
     alloc: Global,
     keyword: AdditionalProperties<R, N>,
@@ -70,7 +70,7 @@ fn boxed<K, R: Drop, N: Drop>(
 ///
 /// # Errors
 ///
-/// Want of memory.
+/// Out of memory.
 fn form<K, R: Drop, N: Drop>(
     alloc: Global,
     plan: Plan<'_>,
@@ -116,7 +116,7 @@ fn form<K, R: Drop, N: Drop>(
 ///
 /// # Errors
 ///
-/// Want of memory.
+/// Out of memory.
 pub fn make<K: Leaf, R: RegexEngine, N: Place<K, R>>(
     alloc: Global,
     plan: Plan<'_>,

@@ -18,7 +18,7 @@ use std::alloc::{AllocError, Global};
 ///
 /// # Errors
 ///
-/// Want of memory.
+/// Out of memory.
 fn node_of_list<K: Leaf, R: RegexEngine, N: Place<K, R>>(
     alloc: Global,
     location: &Location,
@@ -38,7 +38,7 @@ fn node_of_list<K: Leaf, R: RegexEngine, N: Place<K, R>>(
 ///
 /// # Errors
 ///
-/// Want of memory.
+/// Out of memory.
 fn nodes_of_lists<K: Leaf, R: RegexEngine, N: Place<K, R>>(
     alloc: Global,
     location: &Location,
@@ -60,7 +60,7 @@ fn nodes_of_lists<K: Leaf, R: RegexEngine, N: Place<K, R>>(
 ///
 /// # Errors
 ///
-/// Want of memory.
+/// Out of memory.
 fn nodes_in_order<K: Leaf, R: RegexEngine, N: Place<K, R>>(
     alloc: Global,
     location: &Location,
@@ -90,7 +90,7 @@ fn nodes_in_order<K: Leaf, R: RegexEngine, N: Place<K, R>>(
 ///
 /// # Errors
 ///
-/// Want of memory.
+/// Out of memory.
 pub fn make_required<K: Leaf, R: RegexEngine, N: Place<K, R>>(
     alloc: Global,
     location: Location,
@@ -129,7 +129,7 @@ pub fn make_schemas<K: Leaf, R: RegexEngine, N: Place<K, R>>(
 ///
 /// # Errors
 ///
-/// Want of memory.
+/// Out of memory.
 pub fn make<K: Leaf, R: RegexEngine, N: Place<K, R>>(
     alloc: Global,
     location: Location,

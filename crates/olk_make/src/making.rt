@@ -73,7 +73,7 @@ fn take<K, R: Drop, N: Drop>(
 ///
 /// # Errors
 ///
-/// Want of memory.
+/// Out of memory.
 fn take_all<K: Leaf, R: RegexEngine, N: Place<K, R>>(
     alloc: Global,
     plan: Plan<'_>,
@@ -103,7 +103,7 @@ fn take_all<K: Leaf, R: RegexEngine, N: Place<K, R>>(
 ///
 /// # Errors
 ///
-/// Want of memory.
+/// Out of memory.
 fn make_keyword<K: Leaf, R: RegexEngine, N: Place<K, R>>(
     alloc: Global,
     plan: Plan<'_>,
@@ -184,7 +184,7 @@ fn make_keyword<K: Leaf, R: RegexEngine, N: Place<K, R>>(
 ///
 /// # Errors
 ///
-/// Want of memory.
+/// Out of memory.
 pub fn make_keywords<K: Leaf, R: RegexEngine, N: Place<K, R>>(
     alloc: Global,
     place: &Location,

@@ -17,7 +17,7 @@ use std::alloc::{AllocError, Global};
 ///
 /// # Errors
 ///
-/// Want of memory.
+/// Out of memory.
 pub fn with_nodes<R: Drop, N: Drop>(
     alloc: Global,
     patterns: Vec<CompiledPattern<R>>,
@@ -56,7 +56,7 @@ fn form<K, R: Drop, N: Drop>(
 ///
 /// # Errors
 ///
-/// Want of memory.
+/// Out of memory.
 pub fn make<K: Leaf, R: RegexEngine, N: Place<K, R>>(
     alloc: Global,
     location: Location,

@@ -72,7 +72,7 @@ fn form<K, R, N: Drop>(
 ///
 /// # Errors
 ///
-/// Want of memory.
+/// Out of memory.
 pub fn make<K: Leaf, R: RegexEngine, N: Place<K, R>>(
     alloc: Global,
     plan: Plan<'_>,

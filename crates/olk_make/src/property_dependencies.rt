@@ -19,7 +19,7 @@ use std::vec::IntoIter;
 ///
 /// # Errors
 ///
-/// Want of memory.
+/// Out of memory.
 fn take_next<N: Drop>(
     alloc: Global,
     nodes: &mut IntoIter<N>,
@@ -46,7 +46,7 @@ fn take_next<N: Drop>(
 ///
 /// # Errors
 ///
-/// Want of memory.
+/// Out of memory.
 fn cut<N: Drop>(
     alloc: Global,
     texts: Vec<SortedNames>,
@@ -67,7 +67,7 @@ fn cut<N: Drop>(
 ///
 /// # Errors
 ///
-/// Want of memory.
+/// Out of memory.
 pub fn make<K: Leaf, R: RegexEngine, N: Place<K, R>>(
     alloc: Global,
     location: Location,

@@ -25,7 +25,7 @@ use olk_tree::pattern_table::{PatternTable, precompute_property_pattern_indices}
 use serde_json::{Map, Value};
 use std::alloc::{AllocError, Global};
 
-/// The refusal of a pattern, as a bare name below the keyword; want of memory where there is none
+/// The refusal of a pattern, as a bare name below the keyword; out of memory where there is none
 /// for the place.
 fn refuse_pattern<'a>(alloc: Global, location: &Location, pattern: &'a String) -> BuildError<'a>
     ensures { TellsOneOf
@@ -47,7 +47,7 @@ fn refuse_pattern<'a>(alloc: Global, location: &Location, pattern: &'a String) -
 ///
 /// # Errors
 ///
-/// One that does not build is refused, as a bare name below the keyword; else want of memory.
+/// One that does not build is refused, as a bare name below the keyword; else out of memory.
 fn read_pattern<'a, L: MakeLeaf, M: MakeRegex>(
     alloc: Global,
     makers: &Makers<'_, L, M>,
@@ -79,7 +79,7 @@ fn read_pattern<'a, L: MakeLeaf, M: MakeRegex>(
 /// # Errors
 ///
 /// The first pattern that does not build is refused, as a bare name below the keyword at the place;
-/// else want of memory.
+/// else out of memory.
 pub fn patterns_of_entries<'a, L: MakeLeaf, M: MakeRegex>(
     alloc: Global,
     makers: &Makers<'_, L, M>,
@@ -105,7 +105,7 @@ pub fn patterns_of_entries<'a, L: MakeLeaf, M: MakeRegex>(
 ///
 /// # Errors
 ///
-/// Want of memory. No more is counted then.
+/// Out of memory. No more is counted then.
 pub(crate) fn table_of_declared<R: RegexEngine>(
     alloc: Global,
     meter: &mut Meter,

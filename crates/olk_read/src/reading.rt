@@ -117,7 +117,7 @@ fn keyword_for(name: &str) -> KeywordFor
 ///
 /// # Errors
 ///
-/// What is no object is refused; else want of memory.
+/// What is no object is refused; else out of memory.
 fn names_of_object<'a>(
     alloc: Global,
     location: &Location,
@@ -137,7 +137,7 @@ fn names_of_object<'a>(
 ///
 /// # Errors
 ///
-/// What is no array is refused; else want of memory.
+/// What is no array is refused; else out of memory.
 fn items_of_array<'a>(
     alloc: Global,
     location: &Location,
@@ -156,7 +156,7 @@ fn items_of_array<'a>(
 ///
 /// # Errors
 ///
-/// The first item that is no text is refused, at the place of the array; else want of memory.
+/// The first item that is no text is refused, at the place of the array; else out of memory.
 fn texts_of_items<'a>(
     alloc: Global,
     place: &Location,
@@ -182,7 +182,7 @@ fn texts_of_items<'a>(
 ///
 /// # Errors
 ///
-/// What is no array is refused, and an array's first item that is no text; else want of memory.
+/// What is no array is refused, and an array's first item that is no text; else out of memory.
 fn texts_of_array<'a>(
     alloc: Global,
     location: &Location,
@@ -202,7 +202,7 @@ fn texts_of_array<'a>(
 ///
 /// # Errors
 ///
-/// What is no object is refused; else want of memory.
+/// What is no object is refused; else out of memory.
 fn members_of_object<'a>(
     alloc: Global,
     location: &Location,
@@ -221,7 +221,7 @@ fn members_of_object<'a>(
 ///
 /// # Errors
 ///
-/// Want of memory.
+/// Out of memory.
 fn has_repeated_text(alloc: Global, items: &[Value]) -> Result<bool, AllocError>
     ensures { IfOk result (λ b. b ≡ has_repeat (texts_in (items_view items.now))) }
 {
@@ -242,7 +242,7 @@ fn has_repeated_text(alloc: Global, items: &[Value]) -> Result<bool, AllocError>
 /// # Errors
 ///
 /// What is no array is refused, and an array with two equal texts, at the key below the keyword;
-/// then an array's first item that is no text, at the place of the keyword; else want of memory.
+/// then an array's first item that is no text, at the place of the keyword; else out of memory.
 fn names_of_entry<'a>(
     alloc: Global,
     location: &Location,
@@ -268,7 +268,7 @@ fn names_of_entry<'a>(
 /// # Errors
 ///
 /// The first entry that is no array of texts, each once, is refused, as [`names_of_entry`] says;
-/// else want of memory.
+/// else out of memory.
 fn names_of_entries<'a>(
     alloc: Global,
     location: &Location,
@@ -294,7 +294,7 @@ fn names_of_entries<'a>(
 /// # Errors
 ///
 /// What is no object is refused, and the first entry that is no array of texts, each once; else
-/// want of memory.
+/// out of memory.
 fn required_of_object<'a>(
     alloc: Global,
     location: &Location,
@@ -366,7 +366,7 @@ fn lists_of_entries<'a>(
 ///
 /// # Errors
 ///
-/// What is no object is refused, and a list's first item that is no text; else want of memory.
+/// What is no object is refused, and a list's first item that is no text; else out of memory.
 fn lists_of_object<'a>(
     alloc: Global,
     location: &Location,
@@ -390,7 +390,7 @@ fn lists_of_object<'a>(
 ///
 /// # Errors
 ///
-/// An entry that is no object is refused, at its key below the keyword; else want of memory.
+/// An entry that is no object is refused, at its key below the keyword; else out of memory.
 fn texts_of_entries<'a>(
     alloc: Global,
     location: &Location,
@@ -416,7 +416,7 @@ fn texts_of_entries<'a>(
 ///
 /// # Errors
 ///
-/// What is no object is refused, and an entry that is none; else want of memory.
+/// What is no object is refused, and an entry that is none; else out of memory.
 fn choices_of_object<'a>(
     alloc: Global,
     location: &Location,
@@ -441,7 +441,7 @@ fn choices_of_object<'a>(
 ///
 /// # Errors
 ///
-/// What is no array is refused; else want of memory.
+/// What is no array is refused; else out of memory.
 fn shape_of_branches<'a, K: Drop, R: Drop>(
     alloc: Global,
     location: &Location,
@@ -473,7 +473,7 @@ fn shape_beside<K: Drop, R: Drop>(neighbours: Neighbours<'_>, shape: Shape<K, R>
 /// # Errors
 ///
 /// What is no object is refused, and the first pattern that does not build, as a bare name below
-/// the keyword; else want of memory.
+/// the keyword; else out of memory.
 fn shape_of_patterns<'a, L: MakeLeaf, M: MakeRegex>(
     alloc: Global,
     makers: &Makers<'_, L, M>,
@@ -500,7 +500,7 @@ fn shape_of_patterns<'a, L: MakeLeaf, M: MakeRegex>(
 ///
 /// # Errors
 ///
-/// Anything else is refused; else want of memory.
+/// Anything else is refused; else out of memory.
 fn shape_of_others<'a, K: Drop, R: Drop>(
     alloc: Global,
     location: &Location,
@@ -545,7 +545,7 @@ fn shape_of_names<K: Drop, R: Drop>(value: &Value) -> Shape<K, R>
 ///
 /// # Errors
 ///
-/// What is wrong with the keyword itself, apart from the schemas inside; else want of memory.
+/// What is wrong with the keyword itself, apart from the schemas inside; else out of memory.
 #[inline(always)]
 pub fn read_keyword<'a, L: MakeLeaf, M: MakeRegex>(
     alloc: Global,
@@ -603,7 +603,7 @@ pub fn read_keyword<'a, L: MakeLeaf, M: MakeRegex>(
 ///
 /// # Errors
 ///
-/// A leaf whose value does not fit it is refused; else want of memory.
+/// A leaf whose value does not fit it is refused; else out of memory.
 fn read_other<'a, L: MakeLeaf, M: MakeRegex>(
     alloc: Global,
     makers: &Makers<'_, L, M>,
@@ -631,7 +631,7 @@ fn read_other<'a, L: MakeLeaf, M: MakeRegex>(
 ///
 /// # Errors
 ///
-/// A leaf whose value does not fit it is refused; else want of memory.
+/// A leaf whose value does not fit it is refused; else out of memory.
 fn read_leaf<'a, L: MakeLeaf, M: MakeRegex>(
     alloc: Global,
     makers: &Makers<'_, L, M>,

@@ -11,7 +11,7 @@ use olk_reports::{BuildError, ValidationError, ValidationErrorKind};
 use serde_json::Value;
 use std::alloc::Global;
 
-/// The refusal of what stands at a place; want of memory where there is none for the place.
+/// The refusal of what stands at a place; out of memory where there is none for the place.
 pub fn refuse<'a>(
     alloc: Global,
     kind: ValidationErrorKind<'a>,

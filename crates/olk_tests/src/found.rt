@@ -823,7 +823,7 @@ fn trees_of_evaluations(rt: HostRuntime) -> Result<(), Fail> {
 }
 
 // A schema, an instance, and its first error. With each growth refused in turn
-// (tools/refused_growths), the second call gives the full answer; want of memory is told by the
+// (tools/refused_growths), the second call gives the full answer; out of memory is told by the
 // row's two values and the building alone, and by the text that is told at last.
 const MANY_FAULTS: &str = concat!(
     r#"{"allOf":[{"required":["a","b"]},{"properties":{"c":{"type":"string"}}},"#,

@@ -59,7 +59,7 @@ fn value(alloc: Global, text: &str) -> Result<Value, Fail> {
     Ok(Value::from_str(alloc, text)?)
 }
 
-/// The value of a text that is JSON, which only want of memory refuses.
+/// The value of a text that is JSON, which only out of memory refuses.
 pub(crate) fn constant(alloc: Global, text: &str) -> Result<Value, AllocError> {
     match Value::from_str(alloc, text) {
         Ok(value) => Ok(value),

@@ -53,7 +53,7 @@ impl SortedNames {
     ///
     /// # Errors
     ///
-    /// Want of memory.
+    /// Out of memory.
     pub fn of(alloc: Global, object: &Map<String, Value>) -> Result<SortedNames, AllocError>
         ensures { IfOk result (λ names. names ≡ map (λ m. m.0)
             (listed (members_view object.now.entries))) }

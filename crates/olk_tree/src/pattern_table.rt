@@ -106,7 +106,7 @@ impl PatternTable {
     ///
     /// # Errors
     ///
-    /// Want of memory.
+    /// Out of memory.
     pub fn indices(&self, alloc: Global, name: &str) -> Result<Vec<PatternIndex>, AllocError>
         ensures { IfOk result (λ indices. indices.items ≡ indices_in self.now name.now) }
     {
@@ -151,7 +151,7 @@ impl PatternTable {
 ///
 /// # Errors
 ///
-/// Want of memory. No more is counted then.
+/// Out of memory. No more is counted then.
 pub fn precompute_property_pattern_indices<R: RegexEngine>(
     alloc: Global,
     properties: &Map<String, Value>,

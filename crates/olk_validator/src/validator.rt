@@ -16,9 +16,9 @@ ghost use Rattle.olk_validator.specs.Validators.{IsValidatorOf, first_faults};
 
 use olk_base::{Leaf, MakeLeaf, MakeRegex, Meter, Node, RegexEngine, ValidationContext};
 use olk_build::{Context, compile};
-use olk_evaluate::child;
-use olk_errors::Errors;
 use olk_check::IsValid;
+use olk_errors::Errors;
+use olk_evaluate::child;
 use olk_node::SchemaNode;
 use olk_paths::InstancePath;
 use olk_reports::{BuildError, Evaluation, ValidateError, ValidationError};
@@ -111,7 +111,7 @@ impl<K: Leaf, R: RegexEngine> Validator<K, R> {
     ///
     /// That error, which is of the first step that refuses, and is one of a report of the schema
     /// over the instance (where members that nothing allows are told, the first of them alone); or
-    /// want of memory.
+    /// out of memory.
     pub fn validate<'a>(
         &'a self,
         alloc: Global,
@@ -129,7 +129,8 @@ impl<K: Leaf, R: RegexEngine> Validator<K, R> {
             (kit K.Leaf R.RegexEngine) self.now ctx.old.answer (view instance.now)))) }
     {
         let mut path = InstancePath::new(alloc);
-        self.root.validate(alloc, Node::Value(instance), &mut path, ctx)
+        self.root
+            .validate(alloc, Node::Value(instance), &mut path, ctx)
     }
 
     /// Appends all errors of the instance: a report of the schema over it (JSON Schema 2020-12
@@ -141,7 +142,7 @@ impl<K: Leaf, R: RegexEngine> Validator<K, R> {
     ///
     /// # Errors
     ///
-    /// Want of memory, and then the list is as before.
+    /// Out of memory, and then the list is as before.
     pub fn collect_errors<'a>(
         &'a self,
         alloc: Global,
@@ -159,7 +160,8 @@ impl<K: Leaf, R: RegexEngine> Validator<K, R> {
         ensures memory { OnErr result (errors.new.items ≡ errors.old.items) }
     {
         let mut path = InstancePath::new(alloc);
-        self.root.collect_errors(alloc, Node::Value(instance), &mut path, ctx, errors)
+        self.root
+            .collect_errors(alloc, Node::Value(instance), &mut path, ctx, errors)
     }
 
     /// What the schema shows of the instance: a tree of results, with their annotations and errors
@@ -171,7 +173,7 @@ impl<K: Leaf, R: RegexEngine> Validator<K, R> {
     ///
     /// # Errors
     ///
-    /// Want of memory.
+    /// Out of memory.
     pub fn evaluate<'a>(
         &'a self,
         alloc: Global,

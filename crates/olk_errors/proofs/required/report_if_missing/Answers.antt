@@ -7,15 +7,15 @@ use Rattle.olk_errors.proofs.Own.{reported_on, reported_stop}
 use Rattle.olk_errors.proofs.Missing.{there_passes, there_nothing, lacked_own}
 use Rattle.olk_errors.proofs.required.report_if_missing.Goals as goal
 
-pub returns-then-has_member-clause-on : goal.returns-then-has_member-clause-on
-returns-then-has_member-clause-on c = goes_past c.args.sink.now
-    (there_passes (members_view c.args.members.now.entries) (data_of c.args.node) c.requires c.args.name.now c.has_member.ensures c.args.location.now (path_at c.args.trail.now) c.if-has_member.true)
-    (there_nothing (members_view c.args.members.now.entries) (data_of c.args.node) c.requires c.args.name.now c.has_member.ensures c.args.location.now (path_at c.args.trail.now) c.if-has_member.true)
+pub returns-then-is_present-clause-on : goal.returns-then-is_present-clause-on
+returns-then-is_present-clause-on c = goes_past c.args.sink.now
+    (there_passes (members_view c.args.members.now.entries) (data_of c.args.node) c.requires c.args.name.now c.is_present.ensures c.args.location.now (path_at c.args.trail.now) c.if-is_present.true)
+    (there_nothing (members_view c.args.members.now.entries) (data_of c.args.node) c.requires c.args.name.now c.is_present.ensures c.args.location.now (path_at c.args.trail.now) c.if-is_present.true)
 
 pub returns-clause-on : goal.returns-clause-on
-returns-clause-on c = reported_on (lacked_own (members_view c.args.members.now.entries) (data_of c.args.node) c.requires c.args.name.now c.has_member.ensures c.args.location.now (path_at c.args.trail.now) c.if-has_member.false (kind_of_required c.args.name))
+returns-clause-on c = reported_on (lacked_own (members_view c.args.members.now.entries) (data_of c.args.node) c.requires c.args.name.now c.is_present.ensures c.args.location.now (path_at c.args.trail.now) c.if-is_present.false (kind_of_required c.args.name))
     _ _ c.report.result c.report.ensures.on
 
 pub returns-clause-stop : goal.returns-clause-stop
-returns-clause-stop c = reported_stop (lacked_own (members_view c.args.members.now.entries) (data_of c.args.node) c.requires c.args.name.now c.has_member.ensures c.args.location.now (path_at c.args.trail.now) c.if-has_member.false (kind_of_required c.args.name))
+returns-clause-stop c = reported_stop (lacked_own (members_view c.args.members.now.entries) (data_of c.args.node) c.requires c.args.name.now c.is_present.ensures c.args.location.now (path_at c.args.trail.now) c.if-is_present.false (kind_of_required c.args.name))
     _ _ c.report.result c.report.ensures.stop
