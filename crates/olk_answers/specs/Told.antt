@@ -51,7 +51,7 @@ pub record TellsSorted (valid : Bool) (errors : List Told) (answer : Text) : Typ
   pub ascends : IsSorted told_cmp sorted
   pub is : answer ≡ json_text (errors_data valid sorted)
 
--- what `validate` gives is told; nothing for want of memory
+-- what `validate` gives is told; nothing where there is no memory
 abbrev pub TellsFound : Result (Unit {0}) ValidateError → Text → Type 0
 TellsFound (Ok accepted) answer = answer ≡ json_text (verdict true)
 TellsFound (Err (Invalid e)) answer = prints_fraction (fault_of e) ≡ false → answer ≡ json_text (first_data (told (fault_of e)))

@@ -87,7 +87,7 @@ on_err (Err e) f = f
 at_err : {T E F : Type 0} {r : Result T E} {e : E} → r ≡ Err e → OnErr r F → F
 at_err {F = F} is h = subst (λ s. OnErr s F) is h
 
--- cut back after want of memory, the list is the one before
+-- cut back without memory, the list is the one before
 pub rolled_back : {T A E : Type 0} (r : Result T E) {s a : Result A E} {e : E} {old mid : List ValidationError} (now new : List ValidationError) {fs : List Fault} {len : ℕ}
     → s ≡ a → s ≡ Err e → OnErr s (new ≡ take len now) → OnErr a (now ≡ mid) → len ≡ length old → Appends old mid fs → OnErr r (new ≡ old)
 rolled_back r {s} {a} now new {len = len} same is cut kept e found = on_err r (at_err is cut ∙ ap (take len) (at_err (sym same ∙ is) kept) ∙ cut_back found e)

@@ -18,7 +18,7 @@ stopped_anyway : (s : Stop) (old new : ErrorSink) (So Then : Fault → Type 0) �
 stopped_anyway Enough old new So Then all h = absurd (true≢false (sym h.one ∙ all))
 stopped_anyway (Memory m) old new So Then all h = h
 
--- a sink that wants all is stopped by want of memory alone
+-- a sink that wants all is stopped by a lack of memory alone
 pub stops_anyway : {s : Stop} {old new : ErrorSink} {So Then : Fault → Type 0} → wants_one old ≡ false → StopsBy s old new So → StopsBy s old new Then
 stops_anyway {s} {old} {new} {So} {Then} all h = record { stopped = stopped_anyway s old new So Then all h.stopped }
 

@@ -68,6 +68,6 @@ abbrev pub Stopped : Stop → ErrorSink → ErrorSink → (Fault → Type 0) →
 Stopped Enough old new So = HasOne old new So
 Stopped (Memory m) old new So = Keeps old new
 
--- after a walk that was stopped: by an error of which that is so, or by want of memory
+-- after a walk that was stopped: by an error of which that is so, or by a lack of memory
 pub record StopsBy (s : Stop) (old new : ErrorSink) (So : Fault → Type 0) : Type 0 where
   pub stopped : Stopped s old new So

@@ -208,7 +208,7 @@ module _ {K R N : Type 0} (o : Kit K R) (answers : N → Answers) where
           spends = spends_same a b _ _ (sum_last _) built.spends;
         }
 
-    -- what is built is lost for want of memory
+    -- what is built is lost where there is no memory
     memory_there : (e : BuildError) (m : AllocError) → e ≡ Memory m → (Q : Path) → P // k ≡ Q // k → Refuses (member_malformations o.world ms (k, d) (which o ms (k, d)) Q) (member_cost o.world ms (k, d) (which o ms (k, d))) a b e
     memory_there e m q Q f = refuses_memory _ _ a b e m q (within_exactly a b _ (spends_same a b _ _ (sum_last _) (h ms Q f known).spends))
 
@@ -247,7 +247,7 @@ module _ {K R N : Type 0} (o : Kit K R) (answers : N → Answers) where
           none : p.nodes.items ≡ []
           none = subst (λ y. StandAt o answers y p.nodes.items d (P // k)) (ap reads_of q ∙ r) stands.nodes
 
-    -- what is built is lost for want of memory
+    -- what is built is lost where there is no memory
     pub memory_after : (e : BuildError) (m : AllocError) → e ≡ Memory m → RefusesMember o k d (P // k) a b e
     memory_after e m q ms Q f = memory_there p c k d P a b h ms (known ms) e m q Q f
 

@@ -103,7 +103,7 @@ module _ {K R N : Type 0} (o : Kit K R) (answers : N → Answers) (ms : Members)
           all_spent = spends_same a b _ _ (sym (total_cost-append cost_of ((k, d) ∷ []) both)) (spends_append a m b _ _ first
               (spends_same m b _ _ (sym (total_cost-append cost_of (member_at x ms) (member_at y ms))) (spends_append m n b _ _ second third)))
 
-          -- what is built is lost for want of memory
+          -- what is built is lost where there is no memory
           pub memory_lost : (e : BuildError) (w : AllocError) → e ≡ Memory w → RefusesAll three a b e
           memory_lost e w q = refuses_memory _ _ a b e w q (within_exactly a b _ all_spent)
 

@@ -29,7 +29,7 @@ pub record SpendsWithin (old new : Counts) (c : Cost) : Type 0 where
 
 -- ---- what is told where nothing is built
 
--- one of these faults, or want of memory
+-- one of these faults, or a lack of memory
 abbrev pub TellsOneOf : List Fault → BuildError → Type 0
 TellsOneOf fs (Refused e) = Contains fs (fault_of e)
 TellsOneOf fs (Memory m) = ⊤

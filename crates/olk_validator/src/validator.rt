@@ -128,9 +128,9 @@ impl<K: Leaf, R: RegexEngine> Validator<K, R> {
         ensures first { IfErr result (λ e. IfInvalid e (IsLikeOneOf (first_faults
             (kit K.Leaf R.RegexEngine) self.now ctx.old.answer (view instance.now)))) }
     {
+        let node = Node::Value(instance);
         let mut path = InstancePath::new(alloc);
-        self.root
-            .validate(alloc, Node::Value(instance), &mut path, ctx)
+        self.root.validate(alloc, node, &mut path, ctx)
     }
 
     /// Appends all errors of the instance: a report of the schema over it (JSON Schema 2020-12
@@ -159,9 +159,10 @@ impl<K: Leaf, R: RegexEngine> Validator<K, R> {
             ≡ accepts (world K.Leaf R.RegexEngine) ctx.old.answer S (view instance.now)) }
         ensures memory { OnErr result (errors.new.items ≡ errors.old.items) }
     {
+        let instance = Node::Value(instance);
         let mut path = InstancePath::new(alloc);
         self.root
-            .collect_errors(alloc, Node::Value(instance), &mut path, ctx, errors)
+            .collect_errors(alloc, instance, &mut path, ctx, errors)
     }
 
     /// What the schema shows of the instance: a tree of results, with their annotations and errors
