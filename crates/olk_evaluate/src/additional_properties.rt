@@ -12,7 +12,7 @@ ghost use Rattle.olk_tree.specs.Visited.{object_of};
 ghost use Rattle.olk_evaluate.specs.Additional.{matches_shown, names_of, annotated_if, rest_annotation, AddsErrors, named_faults, faults_without_rest, Completes, HasPlaces};
 ghost use Rattle.olk_evaluate.specs.Wanted.{AddsShown, AddsTrees, refused, lacking_trees};
 
-use crate::Evaluate;
+use crate::Show;
 use crate::additional_members::collect;
 use crate::own::own_error;
 use crate::required::add_missing_name;
@@ -32,7 +32,7 @@ use std::alloc::{AllocError, Global};
 /// Behind these, where patterns stand there and `properties` does not, a child at their place with
 /// a name for each match, if there is one; and one at the place of `required` where its name is no
 /// member.
-impl<'a, R: RegexEngine, N: Evaluate<'a>> Evaluate<'a> for AdditionalProperties<R, N> {
+impl<'a, R: RegexEngine, N: Show<'a>> Show<'a> for AdditionalProperties<R, N> {
     ghost use Rattle.olk_tree.specs.AdditionalProperties.{additional_properties_answers};
 
     ghost tree = { λ k. (additional_properties_answers R.answers R.costs k).tree N.means N.tree };

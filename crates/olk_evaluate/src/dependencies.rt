@@ -7,7 +7,7 @@ ghost use Rattle.olk_tree.specs.Visited.{object_of};
 ghost use Rattle.olk_check.specs.Asks.{OnlyAsks};
 ghost use Rattle.olk_evaluate.specs.Wanted.{AreShown, each_wanted, trees_of};
 
-use crate::Evaluate;
+use crate::Show;
 use crate::walk::add_child;
 use olk_base::{Node, ValidationContext};
 use olk_paths::InstancePath;
@@ -19,7 +19,7 @@ use serde_json::{Map, Value};
 use std::alloc::{AllocError, Global};
 
 /// A child for each key that is a member of the object (JSON Schema 2020-12 Core, 10.2.2.4).
-impl<'a, N: Evaluate<'a>> Evaluate<'a> for Dependencies<N> {
+impl<'a, N: Show<'a>> Show<'a> for Dependencies<N> {
     ghost use Rattle.olk_tree.specs.Dependencies.{dependencies_answers};
 
     ghost tree = { λ k. (dependencies_answers k).tree N.means N.tree };
@@ -46,7 +46,7 @@ impl<'a, N: Evaluate<'a>> Evaluate<'a> for Dependencies<N> {
 }
 
 /// What the node of each key that is a member shows of the object.
-fn due_children<'a, N: Evaluate<'a>>(
+fn due_children<'a, N: Show<'a>>(
     alloc: Global,
     dependencies: &'a SmallMap<N>,
     members: &'a Map<String, Value>,

@@ -5,7 +5,7 @@ ghost use Rattle.olk_check.specs.Asks.{OnlyAsks};
 ghost use Rattle.olk_reports.specs.Evaluations.{nothing_shown, shown_of};
 ghost use Rattle.olk_evaluate.specs.Wanted.{ShowsEach};
 
-use crate::Evaluate;
+use crate::Show;
 use crate::walk::{add_child, show_one};
 use olk_base::{Node, ValidationContext};
 use olk_check::IsValid;
@@ -15,7 +15,7 @@ use olk_tree::if_::{IfElse, IfThen, IfThenElse};
 use std::alloc::{AllocError, Global};
 
 /// Where `if` accepts, a child for it and one for `then` (JSON Schema 2020-12 Core, 10.2.2).
-impl<'a, N: Evaluate<'a>> Evaluate<'a> for IfThen<N> {
+impl<'a, N: Show<'a>> Show<'a> for IfThen<N> {
     ghost use Rattle.olk_tree.specs.If.{if_then_answers};
 
     ghost tree = { λ k. (if_then_answers k).tree N.means N.tree };
@@ -45,7 +45,7 @@ impl<'a, N: Evaluate<'a>> Evaluate<'a> for IfThen<N> {
 }
 
 /// A child for `if` where it accepts, and else one for `else` (JSON Schema 2020-12 Core, 10.2.2).
-impl<'a, N: Evaluate<'a>> Evaluate<'a> for IfElse<N> {
+impl<'a, N: Show<'a>> Show<'a> for IfElse<N> {
     ghost use Rattle.olk_tree.specs.If.{if_else_answers};
 
     ghost tree = { λ k. (if_else_answers k).tree N.means N.tree };
@@ -69,7 +69,7 @@ impl<'a, N: Evaluate<'a>> Evaluate<'a> for IfElse<N> {
 
 /// Where `if` accepts, a child for it and one for `then`, and else one for `else` (JSON Schema
 /// 2020-12 Core, 10.2.2).
-impl<'a, N: Evaluate<'a>> Evaluate<'a> for IfThenElse<N> {
+impl<'a, N: Show<'a>> Show<'a> for IfThenElse<N> {
     ghost use Rattle.olk_tree.specs.If.{if_then_else_answers};
 
     ghost tree = { λ k. (if_then_else_answers k).tree N.means N.tree };
@@ -100,7 +100,7 @@ impl<'a, N: Evaluate<'a>> Evaluate<'a> for IfThenElse<N> {
 }
 
 /// What the two subschemas show.
-fn show_both<'a, N: Evaluate<'a>>(
+fn show_both<'a, N: Show<'a>>(
     alloc: Global,
     first: &'a N,
     second: &'a N,

@@ -23,8 +23,8 @@ pub trait Located {
         ensures { result.now ≡ place self.now };
 }
 
-/// What can be asked what it shows of a value. What it shows stands at its place.
-pub trait Evaluate<'a>: Located + IsValid {
+/// What writes what it shows of a value, which stands at its place.
+pub trait Show<'a>: Located + IsValid {
     ghost use Rattle.std.specs.Prelude.{◌≡◌, Bool, OnOk};
     ghost use Rattle.olk_base.specs.Nodes.{data_of};
     ghost use Rattle.olk_spec.specs.Names.{Path};
@@ -64,6 +64,54 @@ pub trait Evaluate<'a>: Located + IsValid {
         ensures context { OnlyAsks ctx.old ctx.new };
 }
 
+/// What can be asked what it shows of a value: all that shows.
+pub trait Evaluate<'a>: Show<'a> {
+    ghost use Rattle.std.specs.Prelude.{◌≡◌, IfOk};
+    ghost use Rattle.olk_base.specs.Nodes.{data_of};
+    ghost use Rattle.olk_spec.specs.Tree.{IsLikeTree, is_valid};
+    ghost use Rattle.olk_reports.specs.Evaluations.{node_at, shown_of};
+    ghost use Rattle.olk_check.specs.Asks.{OnlyAsks};
+
+    /// What it shows of the node: the validity, an annotation, errors of its own and the nodes
+    /// below, in order (JSON Schema 2020-12 Core, 7.7 and 12).
+    ///
+    /// The path is left as it was, the context keeps its answer, and of the counts only those of
+    /// asking rise.
+    ///
+    /// # Errors
+    ///
+    /// Out of memory.
+    fn evaluate(
+        &'a self,
+        alloc: Global,
+        node: Node<'a>,
+        path: &mut InstancePath,
+        ctx: &mut ValidationContext,
+    ) -> Result<EvaluationResult<'a>, AllocError>
+        ensures tree { IfOk result (λ r. IsLikeTree
+            (Self.tree self.now ctx.old.answer (data_of node.entry) path.old)
+            (node_at (Self.place self.now) path.old (shown_of r))) }
+        ensures verdict { IfOk result (λ r.
+            is_valid (node_at (Self.place self.now) path.old (shown_of r))
+            ≡ (Self.means self.now (data_of node.entry)).accepts ctx.old.answer) }
+        ensures path { path.new ≡ path.old }
+        ensures context { OnlyAsks ctx.old ctx.new };
+}
+
+impl<'a, S: Show<'a>> Evaluate<'a> for S {
+    fn evaluate(
+        &'a self,
+        alloc: Global,
+        node: Node<'a>,
+        path: &mut InstancePath,
+        ctx: &mut ValidationContext,
+    ) -> Result<EvaluationResult<'a>, AllocError> {
+        let mut outcome: EvaluationResult<'a> = EvaluationResult::valid_empty(alloc);
+        self.show(alloc, node, path, ctx, &mut outcome)?;
+        Ok(outcome)
+    }
+}
+
 mod additional_members;
 mod additional_properties;
 mod all_of;
@@ -83,4 +131,4 @@ mod required;
 mod walk;
 
 pub use node::show_body;
-pub use walk::{child, outcome_of};
+pub use walk::child;

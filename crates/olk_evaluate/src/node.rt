@@ -8,7 +8,7 @@ ghost use Rattle.olk_tree.specs.Bodies.{body_means, body_tree};
 ghost use Rattle.olk_check.specs.Asks.{OnlyAsks};
 ghost use Rattle.olk_evaluate.specs.Wanted.{HasTexts};
 
-use crate::Evaluate;
+use crate::Show;
 use crate::own::add_own_error;
 use crate::required::add_missing;
 use crate::walk::show_each;
@@ -19,7 +19,7 @@ use olk_tree::node::{Body, KeywordOver};
 use std::alloc::{AllocError, Global};
 
 // `show` of a validator is never inlined here, so that a leaf doesn't pay for its frame.
-impl<'a, K: Leaf, R: RegexEngine, N: Evaluate<'a>> Evaluate<'a> for KeywordOver<K, R, N> {
+impl<'a, K: Leaf, R: RegexEngine, N: Show<'a>> Show<'a> for KeywordOver<K, R, N> {
     ghost use Rattle.olk_base.specs.Kit.{kit};
     ghost use Rattle.olk_tree.specs.Validators.{answers_of};
 
@@ -115,7 +115,7 @@ fn add_texts<'a, K: Leaf>(
 ///
 /// Out of memory.
 #[tactic(auto, using(olk_check::proofs::Asked::only_same))]
-pub fn show_body<'a, W: Evaluate<'a>>(
+pub fn show_body<'a, W: Show<'a>>(
     alloc: Global,
     body: &'a Body<W>,
     node: Node<'a>,

@@ -1,5 +1,5 @@
 //! `not`: what it shows.
-use crate::Evaluate;
+use crate::Show;
 use crate::own::add_own_error;
 use olk_base::{Node, ValidationContext};
 use olk_check::IsValid;
@@ -10,7 +10,7 @@ use std::alloc::{AllocError, Global};
 
 /// An error of its own where the subschema accepts; what the subschema shows is left out (JSON
 /// Schema 2020-12 Core, 10.2.1.4).
-impl<'a, N: Evaluate<'a>> Evaluate<'a> for Not<N> {
+impl<'a, N: Show<'a>> Show<'a> for Not<N> {
     ghost use Rattle.olk_tree.specs.Not.{not_answers};
 
     ghost tree = { λ k. (not_answers k).tree N.means N.tree };

@@ -4,7 +4,7 @@ ghost use Rattle.olk_reports.specs.Evaluations.{nothing_shown, shown, shown_of};
 ghost use Rattle.olk_tree.specs.Shown.{several_accept};
 ghost use Rattle.olk_evaluate.specs.Wanted.{trees_of};
 
-use crate::Evaluate;
+use crate::Show;
 use crate::any_of::accepting_children;
 use crate::walk::{each_child, show_one};
 use olk_base::{Node, ValidationContext};
@@ -15,7 +15,7 @@ use std::alloc::{AllocError, Global};
 
 /// A child for each branch that accepts, and an error of its own where they are several; where
 /// there is none, a child for each branch (JSON Schema 2020-12 Core, 10.2.1.3).
-impl<'a, N: Evaluate<'a>> Evaluate<'a> for OneOf<N> {
+impl<'a, N: Show<'a>> Show<'a> for OneOf<N> {
     ghost use Rattle.olk_tree.specs.OneOf.{one_of_answers};
 
     ghost tree = { λ k. (one_of_answers k).tree N.means N.tree };
@@ -61,7 +61,7 @@ fn show_several<'a>(
 }
 
 /// A child for the branch.
-impl<'a, N: Evaluate<'a>> Evaluate<'a> for SingleOneOf<N> {
+impl<'a, N: Show<'a>> Show<'a> for SingleOneOf<N> {
     ghost use Rattle.olk_tree.specs.OneOf.{single_one_of_answers};
 
     ghost tree = { λ k. (single_one_of_answers k).tree N.means N.tree };

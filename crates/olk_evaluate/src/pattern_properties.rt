@@ -6,7 +6,7 @@ ghost use Rattle.olk_check.specs.Asks.{OnlyAsks};
 ghost use Rattle.olk_evaluate.specs.Members.{MeetsMore, wanted_at};
 ghost use Rattle.olk_evaluate.specs.Patterns.{match_here, matches_of, matches_of_all};
 
-use crate::Evaluate;
+use crate::Show;
 use crate::properties::{Met, meet_member};
 use olk_base::{CompiledPattern, Node, RegexEngine, ValidationContext};
 use olk_check::matches;
@@ -18,7 +18,7 @@ use std::alloc::{AllocError, Global};
 
 /// A child for each match, pattern by pattern; where the value is an object, a name for each match
 /// is annotated (JSON Schema 2020-12 Core, 10.3.2.2).
-impl<'a, R: RegexEngine, N: Evaluate<'a>> Evaluate<'a> for PatternProperties<R, N> {
+impl<'a, R: RegexEngine, N: Show<'a>> Show<'a> for PatternProperties<R, N> {
     ghost use Rattle.olk_tree.specs.PatternProperties.{pattern_properties_answers};
 
     ghost tree = { λ k. (pattern_properties_answers R.answers R.costs k).tree N.means N.tree };
@@ -47,7 +47,7 @@ impl<'a, R: RegexEngine, N: Evaluate<'a>> Evaluate<'a> for PatternProperties<R, 
 
 /// A child for each match; where the value is an object, the names that match are annotated (JSON
 /// Schema 2020-12 Core, 10.3.2.2).
-impl<'a, R: RegexEngine, N: Evaluate<'a>> Evaluate<'a> for SingleValuePatternProperties<R, N> {
+impl<'a, R: RegexEngine, N: Show<'a>> Show<'a> for SingleValuePatternProperties<R, N> {
     ghost use Rattle.olk_tree.specs.PatternProperties.{single_pattern_properties_answers};
 
     ghost tree = { λ k. (single_pattern_properties_answers R.answers R.costs k).tree N.means N.tree };
@@ -75,7 +75,7 @@ impl<'a, R: RegexEngine, N: Evaluate<'a>> Evaluate<'a> for SingleValuePatternPro
 }
 
 /// The members whose names patterns match, pattern by pattern.
-fn meet_patterns<'a, R: RegexEngine, N: Evaluate<'a>>(
+fn meet_patterns<'a, R: RegexEngine, N: Show<'a>>(
     alloc: Global,
     patterns: &'a Vec<(CompiledPattern<R>, N)>,
     members: &'a Map<String, Value>,
@@ -96,7 +96,7 @@ fn meet_patterns<'a, R: RegexEngine, N: Evaluate<'a>>(
 }
 
 /// The members whose names the pattern matches.
-fn meet_matched<'a, R: RegexEngine, N: Evaluate<'a>>(
+fn meet_matched<'a, R: RegexEngine, N: Show<'a>>(
     alloc: Global,
     pattern: &'a CompiledPattern<R>,
     subschema: &'a N,
@@ -127,7 +127,7 @@ fn meet_matched<'a, R: RegexEngine, N: Evaluate<'a>>(
 }
 
 /// A member, if the pattern matches its name.
-fn meet_if_matched<'a, R: RegexEngine, N: Evaluate<'a>>(
+fn meet_if_matched<'a, R: RegexEngine, N: Show<'a>>(
     alloc: Global,
     pattern: &'a CompiledPattern<R>,
     subschema: &'a N,

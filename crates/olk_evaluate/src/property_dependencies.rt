@@ -7,7 +7,7 @@ ghost use Rattle.olk_tree.specs.Visited.{object_of};
 ghost use Rattle.olk_check.specs.Asks.{OnlyAsks};
 ghost use Rattle.olk_evaluate.specs.Wanted.{AreShown, each_wanted, trees_of};
 
-use crate::Evaluate;
+use crate::Show;
 use crate::walk::add_child;
 use olk_base::{Node, ValidationContext};
 use olk_paths::InstancePath;
@@ -20,7 +20,7 @@ use std::alloc::{AllocError, Global};
 
 /// A child for each key at whose text there is a subschema. The keyword is in no published version
 /// of JSON Schema.
-impl<'a, N: Evaluate<'a>> Evaluate<'a> for PropertyDependencies<N> {
+impl<'a, N: Show<'a>> Show<'a> for PropertyDependencies<N> {
     ghost use Rattle.olk_tree.specs.PropertyDependencies.{property_dependencies_answers};
 
     ghost tree = { λ k. (property_dependencies_answers k).tree N.means N.tree };
@@ -54,7 +54,7 @@ impl<'a, N: Evaluate<'a>> Evaluate<'a> for PropertyDependencies<N> {
 }
 
 /// What each node at the text of a member shows of the object.
-fn chosen_children<'a, N: Evaluate<'a>>(
+fn chosen_children<'a, N: Show<'a>>(
     alloc: Global,
     dependencies: &'a SmallMap<SmallMap<N>>,
     members: &'a Map<String, Value>,

@@ -5,7 +5,7 @@ ghost use Rattle.olk_spec.specs.Schemas.{listed};
 ghost use Rattle.olk_check.specs.Asks.{OnlyAsks};
 ghost use Rattle.olk_evaluate.specs.Wanted.{AreShown, names_wanted, trees_of};
 
-use crate::Evaluate;
+use crate::Show;
 use crate::own::add_own_error;
 use crate::walk::add_child;
 use olk_base::{Node, ValidationContext};
@@ -16,7 +16,7 @@ use serde_json::{Map, Value};
 use std::alloc::{AllocError, Global};
 
 /// A child for each member's name, at the path of the object (JSON Schema 2020-12 Core, 10.3.2.4).
-impl<'a, N: Evaluate<'a>> Evaluate<'a> for PropertyNames<N> {
+impl<'a, N: Show<'a>> Show<'a> for PropertyNames<N> {
     ghost use Rattle.olk_tree.specs.PropertyNames.{property_names_answers};
 
     ghost tree = { λ k. (property_names_answers k).tree N.means N.tree };
@@ -43,7 +43,7 @@ impl<'a, N: Evaluate<'a>> Evaluate<'a> for PropertyNames<N> {
 }
 
 /// An error of its own where the object has members.
-impl<'a> Evaluate<'a> for PropertyNamesFalse {
+impl<'a> Show<'a> for PropertyNamesFalse {
     ghost use Rattle.olk_tree.specs.PropertyNames.{property_names_false_answers};
 
     ghost tree = { λ k. (property_names_false_answers k).tree };
@@ -72,7 +72,7 @@ impl<'a> Evaluate<'a> for PropertyNamesFalse {
 }
 
 /// What the subschema shows of each member's name.
-fn name_children<'a, N: Evaluate<'a>>(
+fn name_children<'a, N: Show<'a>>(
     alloc: Global,
     subschema: &'a N,
     members: &'a Map<String, Value>,

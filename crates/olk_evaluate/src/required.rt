@@ -11,7 +11,7 @@ ghost use Rattle.olk_tree.specs.Maps.{texts_of, two_texts};
 ghost use Rattle.olk_tree.specs.Visited.{object_of};
 ghost use Rattle.olk_evaluate.specs.Wanted.{AddsShown, HasErrors, refused, lacking_trees};
 
-use crate::Evaluate;
+use crate::Show;
 use crate::own::add_own_error;
 use olk_base::{Node, ValidationContext};
 use olk_members::has_member;
@@ -25,7 +25,7 @@ use std::alloc::{AllocError, Global};
 
 /// An error of its own for each listed name that an object lacks (JSON Schema 2020-12 Validation,
 /// 6.5.3).
-impl<'a> Evaluate<'a> for RequiredValidator {
+impl<'a> Show<'a> for RequiredValidator {
     ghost use Rattle.olk_tree.specs.Required.{required_answers};
 
     ghost tree = { λ k. (required_answers k).tree };

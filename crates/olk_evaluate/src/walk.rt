@@ -1,53 +1,22 @@
 //! What the nodes of a keyword show.
 ghost use Rattle.std.specs.Prelude.{◌≡◌, IfOk, OnOk};
 ghost use Rattle.olk_base.specs.Nodes.{data_of};
-ghost use Rattle.olk_spec.specs.Tree.{IsLikeTree, is_valid};
 ghost use Rattle.olk_check.specs.Asks.{OnlyAsks};
-ghost use Rattle.olk_reports.specs.Evaluations.{node_at, nothing_shown, shown_of, tree_of};
+ghost use Rattle.olk_reports.specs.Evaluations.{nothing_shown, shown_of, tree_of};
 ghost use Rattle.olk_evaluate.specs.Wanted.{IsShown, AreShown, ShowsEach, ShowsMore, ShowsOne, wanted, each_wanted, trees_of};
 
-use crate::Evaluate;
+use crate::Show;
 use olk_base::{Node, ValidationContext};
 use olk_paths::{InstancePath, PathText};
 use olk_reports::{EvaluationNode, EvaluationResult};
 use std::alloc::{AllocError, Global};
-
-/// What one node shows: the validity, an annotation, errors of its own and the nodes below, in order
-/// (JSON Schema 2020-12 Core, 7.7 and 12).
-///
-/// The path is left as it was, the context keeps its answer, and of the counts only those of asking
-/// rise.
-///
-/// # Errors
-///
-/// Out of memory.
-pub fn outcome_of<'a, N: Evaluate<'a>>(
-    alloc: Global,
-    schema: &'a N,
-    node: Node<'a>,
-    path: &mut InstancePath,
-    ctx: &mut ValidationContext,
-) -> Result<EvaluationResult<'a>, AllocError>
-    ensures tree { IfOk result (λ r. IsLikeTree
-        (N.tree schema.now ctx.old.answer (data_of node.entry) path.old)
-        (node_at (N.place schema.now) path.old (shown_of r))) }
-    ensures verdict { IfOk result (λ r.
-        is_valid (node_at (N.place schema.now) path.old (shown_of r))
-        ≡ (N.means schema.now (data_of node.entry)).accepts ctx.old.answer) }
-    ensures path { path.new ≡ path.old }
-    ensures context { OnlyAsks ctx.old ctx.new }
-{
-    let mut outcome: EvaluationResult<'a> = EvaluationResult::valid_empty(alloc);
-    schema.show(alloc, node, path, ctx, &mut outcome)?;
-    Ok(outcome)
-}
 
 /// What one node shows, at its place and at the path.
 ///
 /// # Errors
 ///
 /// Out of memory.
-pub fn child<'a, N: Evaluate<'a>>(
+pub fn child<'a, N: Show<'a>>(
     alloc: Global,
     schema: &'a N,
     node: Node<'a>,
@@ -68,7 +37,7 @@ pub fn child<'a, N: Evaluate<'a>>(
 
 /// One child more: what the node shows.
 #[inline(always)]
-pub(crate) fn add_child<'a, N: Evaluate<'a>>(
+pub(crate) fn add_child<'a, N: Show<'a>>(
     alloc: Global,
     schema: &'a N,
     node: Node<'a>,
@@ -90,7 +59,7 @@ pub(crate) fn add_child<'a, N: Evaluate<'a>>(
 }
 
 /// What each of them shows, below a result that shows nothing yet.
-pub(crate) fn show_each<'a, N: Evaluate<'a>>(
+pub(crate) fn show_each<'a, N: Show<'a>>(
     alloc: Global,
     schemas: &'a Vec<N>,
     node: Node<'a>,
@@ -110,7 +79,7 @@ pub(crate) fn show_each<'a, N: Evaluate<'a>>(
 }
 
 /// What the one shows, below a result that shows nothing yet.
-pub(crate) fn show_one<'a, N: Evaluate<'a>>(
+pub(crate) fn show_one<'a, N: Show<'a>>(
     alloc: Global,
     schema: &'a N,
     node: Node<'a>,
@@ -132,7 +101,7 @@ pub(crate) fn show_one<'a, N: Evaluate<'a>>(
 }
 
 /// What each of them shows.
-pub(crate) fn each_child<'a, N: Evaluate<'a>>(
+pub(crate) fn each_child<'a, N: Show<'a>>(
     alloc: Global,
     schemas: &'a Vec<N>,
     node: Node<'a>,

@@ -1,7 +1,7 @@
 //! What a place shows of a value.
 use crate::node::SchemaNode;
 use olk_base::{Leaf, Node, RegexEngine, ValidationContext};
-use olk_evaluate::{Evaluate, Located, show_body};
+use olk_evaluate::{Located, Show, show_body};
 use olk_paths::InstancePath;
 use olk_reports::EvaluationResult;
 use std::alloc::{AllocError, Global};
@@ -16,7 +16,7 @@ impl<K, R> Located for SchemaNode<K, R> {
     }
 }
 
-impl<'a, K: Leaf, R: RegexEngine> Evaluate<'a> for SchemaNode<K, R> {
+impl<'a, K: Leaf, R: RegexEngine> Show<'a> for SchemaNode<K, R> {
     ghost use Rattle.olk_base.specs.Kit.{kit};
     ghost use Rattle.olk_node.specs.Nodes.{answers};
 

@@ -7,7 +7,7 @@ abbrev pub invariant-loop-index : goal.invariant-loop-index
 invariant-loop-index g l =
     let w : Member g.row.R.Denot g.row.N.Denot = record {
       answers = g.R.RegexEngine.answers;
-      tree = g.N.Evaluate.tree;
+      tree = g.N.Show.tree;
       means = g.N.Means.means;
       asking = l.fn.ctx;
       path = l.fn.path;

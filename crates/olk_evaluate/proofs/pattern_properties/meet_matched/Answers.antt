@@ -14,8 +14,8 @@ pub loop-name-preserved : goal.loop-name-preserved
 loop-name-preserved g c = meeting_more c.loop-name.invariant (name_next c.in-Some.ensures.steps c.as_str.ensures.value) c.in_ok-meet_if_matched.ensures.met c.meet_if_matched.ensures.path c.meet_if_matched.ensures.context
 
 pub returns-clause-met : goal.returns-clause-met
-returns-clause-met g c = subst (λ ds. MeetsMore (wanted_at g.N.Evaluate.tree g.N.Means.means c.args.ctx.now.answer c.args.path.now) ds c.args.met.now c.loop-name.met)
-    (matches_of_walk g.R.RegexEngine.answers g.N.Evaluate.tree g.N.Means.means c.args.ctx.now.answer c.args.path.now c.args.pattern.now c.args.subschema.now (members_view c.args.members.now.entries))
+returns-clause-met g c = subst (λ ds. MeetsMore (wanted_at g.N.Show.tree g.N.Means.means c.args.ctx.now.answer c.args.path.now) ds c.args.met.now c.loop-name.met)
+    (matches_of_walk g.R.RegexEngine.answers g.N.Show.tree g.N.Means.means c.args.ctx.now.answer c.args.path.now c.args.pattern.now c.args.subschema.now (members_view c.args.members.now.entries))
     (meeting_end c.loop-name.invariant (no_name_next c.in-None.ensures.steps.0))
 
 pub returns-in_err-meet_if_matched-clause-path : goal.returns-in_err-meet_if_matched-clause-path

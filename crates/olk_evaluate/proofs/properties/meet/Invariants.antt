@@ -9,5 +9,5 @@ abbrev pub invariant-loop-name : goal.invariant-loop-name
 invariant-loop-name g l = record {
   path : l.path ≡ l.initial.path;
   context : OnlyAsks l.initial.ctx l.ctx;
-  met : MetSoFar (wanted_at g.N.Evaluate.tree g.N.Means.means l.initial.ctx.answer l.initial.path) (left_of l.initial.name-iterator) (left_of l.name-iterator) l.met;
+  met : MetSoFar (wanted_at g.N.Show.tree g.N.Means.means l.initial.ctx.answer l.initial.path) (left_of l.initial.name-iterator) (left_of l.name-iterator) l.met;
 }

@@ -21,8 +21,8 @@ returns-in_err-add_child g c = record {
 pub returns : goal.returns
 returns g c = record {
   shown = subst (λ ws. AreShown ws (trees_of c.loop-choices.children.items))
-      (all_chosen (members_view c.args.members.now.entries) (named c.args.dependencies.now) c.into_iter-choices-iterator.ensures.into_iter_gives c.declared_members-choices-items.ensures.by_names (data_of c.args.object) c.requires (λ n. wanted g.N.Evaluate.tree g.N.Means.means c.args.ctx.now.answer n (data_of c.args.object) c.args.path.now))
-      (shown_end c.loop-choices.invariant.shown (ap (flat_map (λ d. each_wanted g.N.Evaluate.tree g.N.Means.means c.args.ctx.now.answer (chosen d) (data_of c.args.object) c.args.path.now)) c.in-None.ensures.steps));
+      (all_chosen (members_view c.args.members.now.entries) (named c.args.dependencies.now) c.into_iter-choices-iterator.ensures.into_iter_gives c.declared_members-choices-items.ensures.by_names (data_of c.args.object) c.requires (λ n. wanted g.N.Show.tree g.N.Means.means c.args.ctx.now.answer n (data_of c.args.object) c.args.path.now))
+      (shown_end c.loop-choices.invariant.shown (ap (flat_map (λ d. each_wanted g.N.Show.tree g.N.Means.means c.args.ctx.now.answer (chosen d) (data_of c.args.object) c.args.path.now)) c.in-None.ensures.steps));
   path = c.loop-choices.invariant.path;
   context = c.loop-choices.invariant.context;
 }
@@ -32,7 +32,7 @@ loop-choices-preserved g c = record {
   path = c.loop-choices.invariant.path;
   context = c.loop-choices.invariant.context;
   shown =
-      let of_nodes : List g.row.N.Denot → List Wanted = λ ns. each_wanted g.N.Evaluate.tree g.N.Means.means c.args.ctx.now.answer ns (data_of c.args.object) c.args.path.now in
+      let of_nodes : List g.row.N.Denot → List Wanted = λ ns. each_wanted g.N.Show.tree g.N.Means.means c.args.ctx.now.answer ns (data_of c.args.object) c.args.path.now in
       shown_none_more c.loop-choices.invariant.shown
       (ap (flat_map (λ d. of_nodes (chosen d))) c.in-Some.ensures.steps
       ∙ ap (λ ns. of_nodes ns ++ flat_map (λ d. of_nodes (chosen d)) (left_of c.next.new.self)) (sym c.in_default.ensures));

@@ -1,0 +1,112 @@
+use Rattle.std.proofs.Common.{◌≡◌, OnOk, refl, sym, ap, subst, ◌∙◌, None, []}
+use Rattle.std.proofs.lemmas.Result.{on_ok_weaker}
+use Rattle.olk_base.specs.Kit.{kit}
+use Rattle.olk_base.specs.Nodes.{data_of}
+use Rattle.olk_spec.specs.Tree.{IsLikeTree, is_valid}
+use Rattle.olk_reports.specs.Evaluations.{node_at, shown_of}
+use Rattle.olk_tree.specs.Validators.{answers_of, validator_means, validator_tree}
+use Rattle.olk_tree.specs.declared.node.KeywordOver.TheVariants as keyword
+use Rattle.olk_check.proofs.Asked.{only_same}
+use Rattle.olk_evaluate.proofs.OwnErrors.{leaf_like}
+use Rattle.olk_spec.specs.Names.{is_empty}
+use Rattle.olk_evaluate.proofs.Children.{valid_shown}
+use Rattle.olk_evaluate.proofs.node.KeywordOverShow.show.Goals as goal
+
+pub returns-in-Leaf : goal.returns-in-Leaf
+unfolding answers_of
+returns-in-Leaf g c = record {
+  tree = on_ok_weaker c.show_leaf.result (λ texts.
+      subst (λ k. IsLikeTree (validator_tree (kit g.K.Leaf g.R.RegexEngine) g.N.Means.means g.N.Show.tree c.args.ctx.now.answer k (data_of c.args.node) c.args.path.now) (node_at ((answers_of (kit g.K.Leaf g.R.RegexEngine) k).location) c.args.path.now (shown_of c.show_leaf.new.outcome))) (sym c.in-Leaf.is)
+      (leaf_like (g.K.Leaf.keyword_of c.in-Leaf.leaf) c.in-Leaf.field-0 c.args.path.now (data_of c.args.node) (g.K.Leaf.finds c.in-Leaf.leaf (data_of c.args.node)) texts)) c.show_leaf.ensures;
+  verdict = rw c.in-Leaf.is (on_ok_weaker c.show_leaf.result (λ texts.
+      valid_shown c.in-Leaf.field-0 c.args.path.now (shown_of c.show_leaf.new.outcome) (is_empty (g.K.Leaf.finds c.in-Leaf.leaf (data_of c.args.node))) None texts.own [] texts.is) c.show_leaf.ensures);
+  path = refl;
+  context = only_same c.args.ctx.now;
+}
+
+pub returns-in-AdditionalProperties : goal.returns-in-AdditionalProperties
+unfolding answers_of
+returns-in-AdditionalProperties g c = record {
+  tree = subst (λ k. OnOk c.show-in-AdditionalProperties.result (IsLikeTree (validator_tree (kit g.K.Leaf g.R.RegexEngine) g.N.Means.means g.N.Show.tree c.args.ctx.now.answer k (data_of c.args.node) c.args.path.now) (node_at ((answers_of (kit g.K.Leaf g.R.RegexEngine) k).location) c.args.path.now (shown_of c.show-in-AdditionalProperties.new.outcome))))
+      (ap (λ a. keyword.AdditionalProperties record c.in-AdditionalProperties.keyword { value = a }) c.deref.ensures ∙ sym c.in-AdditionalProperties.is) c.show-in-AdditionalProperties.ensures.tree;
+  verdict = subst (λ k. OnOk c.show-in-AdditionalProperties.result (is_valid (node_at ((answers_of (kit g.K.Leaf g.R.RegexEngine) k).location) c.args.path.now (shown_of c.show-in-AdditionalProperties.new.outcome)) ≡ (validator_means (kit g.K.Leaf g.R.RegexEngine) g.N.Means.means k (data_of c.args.node)).accepts c.args.ctx.now.answer))
+      (ap (λ a. keyword.AdditionalProperties record c.in-AdditionalProperties.keyword { value = a }) c.deref.ensures ∙ sym c.in-AdditionalProperties.is) c.show-in-AdditionalProperties.ensures.verdict;
+  path = c.show-in-AdditionalProperties.ensures.path;
+  context = c.show-in-AdditionalProperties.ensures.context;
+}
+
+pub returns-in-Properties : goal.returns-in-Properties
+unfolding answers_of
+returns-in-Properties g c = rw c.in-Properties.is c.show.ensures
+
+pub returns-in-PropertiesWithRequired2 : goal.returns-in-PropertiesWithRequired2
+unfolding answers_of
+returns-in-PropertiesWithRequired2 g c = rw c.in-PropertiesWithRequired2.is c.show-in-PropertiesWithRequired2.ensures
+
+pub returns-in-Required : goal.returns-in-Required
+unfolding answers_of
+returns-in-Required g c = rw c.in-Required.is c.show-in-Required.ensures
+
+pub returns-in-AllOf : goal.returns-in-AllOf
+unfolding answers_of
+returns-in-AllOf g c = rw c.in-AllOf.is c.show-in-AllOf.ensures
+
+pub returns-in-SingleValueAllOf : goal.returns-in-SingleValueAllOf
+unfolding answers_of
+returns-in-SingleValueAllOf g c = rw c.in-SingleValueAllOf.is c.show-in-SingleValueAllOf.ensures
+
+pub returns-in-AnyOf : goal.returns-in-AnyOf
+unfolding answers_of
+returns-in-AnyOf g c = rw c.in-AnyOf.is c.show-in-AnyOf.ensures
+
+pub returns-in-SingleAnyOf : goal.returns-in-SingleAnyOf
+unfolding answers_of
+returns-in-SingleAnyOf g c = rw c.in-SingleAnyOf.is c.show-in-SingleAnyOf.ensures
+
+pub returns-in-OneOf : goal.returns-in-OneOf
+unfolding answers_of
+returns-in-OneOf g c = rw c.in-OneOf.is c.show-in-OneOf.ensures
+
+pub returns-in-SingleOneOf : goal.returns-in-SingleOneOf
+unfolding answers_of
+returns-in-SingleOneOf g c = rw c.in-SingleOneOf.is c.show-in-SingleOneOf.ensures
+
+pub returns-in-Not : goal.returns-in-Not
+unfolding answers_of
+returns-in-Not g c = rw c.in-Not.is c.show-in-Not.ensures
+
+pub returns-in-IfThen : goal.returns-in-IfThen
+unfolding answers_of
+returns-in-IfThen g c = rw c.in-IfThen.is c.show-in-IfThen.ensures
+
+pub returns-in-IfElse : goal.returns-in-IfElse
+unfolding answers_of
+returns-in-IfElse g c = rw c.in-IfElse.is c.show-in-IfElse.ensures
+
+pub returns-in-IfThenElse : goal.returns-in-IfThenElse
+unfolding answers_of
+returns-in-IfThenElse g c = rw c.in-IfThenElse.is c.show-in-IfThenElse.ensures
+
+pub returns-in-Dependencies : goal.returns-in-Dependencies
+unfolding answers_of
+returns-in-Dependencies g c = rw c.in-Dependencies.is c.show-in-Dependencies.ensures
+
+pub returns-in-PropertyNames : goal.returns-in-PropertyNames
+unfolding answers_of
+returns-in-PropertyNames g c = rw c.in-PropertyNames.is c.show-in-PropertyNames.ensures
+
+pub returns-in-PropertyNamesFalse : goal.returns-in-PropertyNamesFalse
+unfolding answers_of
+returns-in-PropertyNamesFalse g c = rw c.in-PropertyNamesFalse.is c.show-in-PropertyNamesFalse.ensures
+
+pub returns-in-PropertyDependencies : goal.returns-in-PropertyDependencies
+unfolding answers_of
+returns-in-PropertyDependencies g c = rw c.in-PropertyDependencies.is c.show-in-PropertyDependencies.ensures
+
+pub returns-in-PatternProperties : goal.returns-in-PatternProperties
+unfolding answers_of
+returns-in-PatternProperties g c = rw c.in-PatternProperties.is c.show-in-PatternProperties.ensures
+
+pub returns-in-SingleValuePatternProperties : goal.returns-in-SingleValuePatternProperties
+unfolding answers_of
+returns-in-SingleValuePatternProperties g c = rw c.in-SingleValuePatternProperties.is c.show-in-SingleValuePatternProperties.ensures
