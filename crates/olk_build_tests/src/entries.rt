@@ -1,11 +1,11 @@
 //! Maps and patterns that are compiled by themselves.
 use crate::lines::{push_nodes, push_patterns};
-use crate::rows::expect_rows;
 use crate::shown::{PlainNode, Shown};
 use olk_base::{CompiledPattern, Meter};
 use olk_build::Context;
 use olk_keywords::{pattern_properties, properties};
 use olk_low_tests::doubles::{EqualTo, Equality, NoText, NoTexts};
+use olk_low_tests::tables::expect_rows;
 use olk_reports::BuildError;
 use olk_tree::place::Place;
 use olk_tree::{BigMap, SmallMap, SortedNames};

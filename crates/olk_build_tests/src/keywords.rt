@@ -1,6 +1,5 @@
 //! What the module of a keyword compiles of its member of an object.
 use crate::lines::{push_all, push_node, push_nodes, push_pattern, push_patterns};
-use crate::rows::expect_rows;
 use crate::shown::{PlainNode, Shown};
 use olk_base::{CompiledPattern, Meter};
 use olk_build::Context;
@@ -9,6 +8,7 @@ use olk_keywords::{
     property_dependencies, property_names,
 };
 use olk_low_tests::doubles::{EqualTo, Equality, NoText, NoTexts};
+use olk_low_tests::tables::expect_rows;
 use olk_reports::BuildError;
 use olk_tree::additional_properties::AdditionalProperties;
 use olk_tree::place::Place;

@@ -14,8 +14,6 @@ mod keywords;
 #[cfg(test)]
 mod lines;
 #[cfg(test)]
-mod rows;
-#[cfg(test)]
 mod schemas;
 #[cfg(test)]
 mod shown;

@@ -1,10 +1,10 @@
 //! Whole schemas: what is counted of those that are built, and what is told of those that are
 //! refused.
-use crate::rows::expect_rows;
 use crate::shown::{PlainNode, Shown};
 use olk_base::Meter;
 use olk_build::{Context, compile};
 use olk_low_tests::doubles::{EqualTo, Equality, NoText, NoTexts};
+use olk_low_tests::tables::expect_rows;
 use olk_reports::{BuildError, ValidationError};
 use olk_tree::place::Place;
 use serde_json::Value;

@@ -1,10 +1,10 @@
 //! Whole schemas: which variants are built of them.
 use crate::lines::push_all;
-use crate::rows::expect_rows;
 use crate::shown::PlainNode;
 use olk_base::{CompiledPattern, Meter};
 use olk_build::{Context, compile};
 use olk_low_tests::doubles::{EqualTo, Equality, NoText, NoTexts};
+use olk_low_tests::tables::expect_rows;
 use olk_reports::BuildError;
 use olk_tree::additional_properties::AdditionalProperties;
 use olk_tree::place::Place;

@@ -77,11 +77,11 @@ fn of_errors(alloc: Global, word: &str, value: &Value) -> Result<Vec<u8>, AllocE
 }
 
 /// The answer that a word names.
-fn answer(alloc: Global, word: &str) -> Result<String, AllocError> {
+fn answer(alloc: Global, word: &str) -> Result<String, Fail> {
     let bytes = of_errors(alloc, word, &Value::Object(Map::new(alloc)))?;
     let text = String::from_str(alloc, from_utf8(&bytes).unwrap_or("no text"));
     drop(bytes);
-    text
+    Ok(text?)
 }
 
 // What is answered, and its text.

@@ -20,8 +20,8 @@ use std::test::Fail;
 // ---- names
 
 /// The head of a name.
-fn head(alloc: Global, name: &str) -> Result<String, AllocError> {
-    format!(in alloc; "{:?}", KeyHead::of(name))
+fn head(alloc: Global, name: &str) -> Result<String, Fail> {
+    Ok(format!(in alloc; "{:?}", KeyHead::of(name))?)
 }
 
 // A name and its head.
@@ -38,7 +38,7 @@ fn heads(rt: HostRuntime) -> Result<(), Fail> {
 }
 
 /// Whether the names are the same, as each way of comparing says.
-fn same_name(alloc: Global, cells: &str) -> Result<String, AllocError> {
+fn same_name(alloc: Global, cells: &str) -> Result<String, Fail> {
     let (name, key) = two(cells);
     let one = PropertyName::new(alloc, name)?;
     let ways = (
@@ -52,7 +52,7 @@ fn same_name(alloc: Global, cells: &str) -> Result<String, AllocError> {
         (false, false, false) => "other",
         _ => "the ways differ",
     };
-    String::from_str(alloc, text)
+    Ok(String::from_str(alloc, text)?)
 }
 
 // Names with a difference at each place, and texts of each kind of length: none, up to three bytes,
@@ -90,9 +90,9 @@ fn same_and_other_names(rt: HostRuntime) -> Result<(), Fail> {
 // ---- patterns
 
 /// The test that a pattern is read as.
-fn read_pattern(alloc: Global, pattern: &str) -> Result<String, AllocError> {
+fn read_pattern(alloc: Global, pattern: &str) -> Result<String, Fail> {
     let test = analyze_pattern(alloc, pattern)?;
-    format!(in alloc; "{test:?}")
+    Ok(format!(in alloc; "{test:?}")?)
 }
 
 // A pattern, and the test that it is read as.
@@ -162,13 +162,13 @@ fn compiled<M: MakeRegex>(alloc: Global, regexes: &M, pattern: &str) -> Result<S
 }
 
 /// What a pattern is compiled to.
-fn compiled_pattern(alloc: Global, pattern: &str) -> Result<String, AllocError> {
-    compiled(alloc, &Equality, pattern)
+fn compiled_pattern(alloc: Global, pattern: &str) -> Result<String, Fail> {
+    Ok(compiled(alloc, &Equality, pattern)?)
 }
 
 /// What a pattern is compiled to by a maker that refuses all.
-fn pattern_without_regexes(alloc: Global, pattern: &str) -> Result<String, AllocError> {
-    compiled(alloc, &NoRegexes, pattern)
+fn pattern_without_regexes(alloc: Global, pattern: &str) -> Result<String, Fail> {
+    Ok(compiled(alloc, &NoRegexes, pattern)?)
 }
 
 #[test]
@@ -233,7 +233,7 @@ fn matched<M: MakeRegex>(
 
 /// How a pattern matches a name, of the answer where a match is unfinished, the pattern and the
 /// name.
-fn matched_pattern(alloc: Global, cells: &str) -> Result<String, AllocError> {
+fn matched_pattern(alloc: Global, cells: &str) -> Result<String, Fail> {
     let (answer, cells) = two(cells);
     let (pattern, name) = two(cells);
     let (engines, asks) = (Cell::new(0), Cell::new(0));
@@ -243,7 +243,7 @@ fn matched_pattern(alloc: Global, cells: &str) -> Result<String, AllocError> {
         asked: &asks,
     };
     let answer = answer == "true";
-    matched(alloc, &counting, [&engines, &asks], [pattern, name], answer)
+    Ok(matched(alloc, &counting, [&engines, &asks], [pattern, name], answer)?)
 }
 
 // The answer where a match is unfinished, a pattern, a name, whether it matches, and that answer
@@ -325,7 +325,7 @@ fn leaf_of(alloc: Global, value: &Value, node: Node<'_>) -> Result<String, Alloc
 }
 
 /// What a leaf answers, of its value, and a text or null.
-fn leaf(alloc: Global, cells: &str) -> Result<String, AllocError> {
+fn leaf(alloc: Global, cells: &str) -> Result<String, Fail> {
     let (value, node) = two(cells);
     let value = if value == "false" {
         Value::Bool(false)
@@ -333,10 +333,10 @@ fn leaf(alloc: Global, cells: &str) -> Result<String, AllocError> {
         Value::Null
     };
     if node == "null" {
-        return leaf_of(alloc, &value, Node::Value(&Value::Null));
+        return Ok(leaf_of(alloc, &value, Node::Value(&Value::Null))?);
     }
     let name = String::from_str(alloc, node)?;
-    leaf_of(alloc, &value, Node::Name(&name))
+    Ok(leaf_of(alloc, &value, Node::Name(&name))?)
 }
 
 // The value of a leaf, a name or null, and what `is_valid`, `validate`, `collect_errors` after a
@@ -358,12 +358,13 @@ fn node_text(alloc: Global, node: Node<'_>) -> Result<String, AllocError> {
 }
 
 /// Whether a node is an object, and its type.
-fn node(alloc: Global, word: &str) -> Result<String, AllocError> {
-    match word {
+fn node(alloc: Global, word: &str) -> Result<String, Fail> {
+    let text = match word {
         "object" => node_text(alloc, Node::Value(&Value::Object(Map::new(alloc)))),
         "null" => node_text(alloc, Node::Value(&Value::Null)),
         _ => node_text(alloc, Node::Name(&String::new(alloc))),
-    }
+    };
+    Ok(text?)
 }
 
 #[test]

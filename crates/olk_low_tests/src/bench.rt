@@ -81,13 +81,13 @@ fn told_of_values(
 }
 
 /// What is told of a leaf's keyword, its value and an instance.
-fn leaf(alloc: Global, cells: &str) -> Result<String, AllocError> {
+fn leaf(alloc: Global, cells: &str) -> Result<String, Fail> {
     let (keyword, values) = two(cells);
     let (value, instance) = two(values);
     let value = read(alloc, value)?;
     let told = told_of_values(alloc, keyword, &value, instance);
     drop(value);
-    told
+    Ok(told?)
 }
 
 fn matched<M: MakeRegex>(alloc: Global, regexes: &M, pattern: &str, name: &str) -> &'static str {
@@ -104,9 +104,9 @@ fn matched<M: MakeRegex>(alloc: Global, regexes: &M, pattern: &str, name: &str) 
 }
 
 /// Whether a pattern matches a name.
-fn matched_pattern(alloc: Global, cells: &str) -> Result<String, AllocError> {
+fn matched_pattern(alloc: Global, cells: &str) -> Result<String, Fail> {
     let (pattern, name) = two(cells);
-    String::from_str(alloc, matched(alloc, &BenchRegexes, pattern, name))
+    Ok(String::from_str(alloc, matched(alloc, &BenchRegexes, pattern, name))?)
 }
 
 // A leaf's keyword and value, an instance, and what is told of it, or `-`.

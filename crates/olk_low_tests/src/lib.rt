@@ -19,5 +19,4 @@ mod lines;
 mod reports;
 #[cfg(test)]
 mod streams;
-#[cfg(test)]
-mod tables;
+pub mod tables;

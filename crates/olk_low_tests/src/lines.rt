@@ -31,13 +31,13 @@ impl AnswerLine for Echo<'_> {
 
 /// The answers to lines, and the status. In the lines and in the answers a line feed is written
 /// `\n`.
-fn answered_lines(alloc: Global, lines: &str) -> Result<String, AllocError> {
+fn answered_lines(alloc: Global, lines: &str) -> Result<String, Fail> {
     let lines = lines.replace(alloc, r"\n", "\n")?;
     let mut writer = Vec::new(alloc);
     let echo = Echo { refused: "none" };
     let status = run(alloc, &echo, &mut lines.as_bytes(), &mut writer);
     drop(lines);
-    format!(in alloc; "{}, {status}", writer.as_slice().escape_ascii())
+    Ok(format!(in alloc; "{}, {status}", writer.as_slice().escape_ascii())?)
 }
 
 // Lines, their answers and the status. An empty line is answered, and so is one that ends without a
@@ -65,9 +65,9 @@ fn numbered(alloc: Global, words: &str) -> Result<String, AllocError> {
 }
 
 /// The length of a thousand lines that begin with these words.
-fn numbered_len(alloc: Global, words: &str) -> Result<String, AllocError> {
+fn numbered_len(alloc: Global, words: &str) -> Result<String, Fail> {
     let text = numbered(alloc, words)?;
-    format!(in alloc; "{}", text.len())
+    Ok(format!(in alloc; "{}", text.len())?)
 }
 
 #[test]
@@ -126,7 +126,7 @@ fn told_of(alloc: Global, written: &[u8], status: u8) -> Result<String, AllocErr
 }
 
 /// How far the thousand lines are answered, of what fails.
-fn answered_so_far(alloc: Global, cells: &str) -> Result<String, AllocError> {
+fn answered_so_far(alloc: Global, cells: &str) -> Result<String, Fail> {
     let failing = what_fails(cells);
     let lines = numbered(alloc, "number")?;
     let mut reader = FailingReader {
@@ -145,7 +145,7 @@ fn answered_so_far(alloc: Global, cells: &str) -> Result<String, AllocError> {
     };
     let status = run(alloc, &echo, &mut reader, &mut writer);
     drop(lines);
-    told_of(alloc, writer.bytes.as_slice(), status)
+    Ok(told_of(alloc, writer.bytes.as_slice(), status)?)
 }
 
 // In each table a row has how many bytes a read shows, after how many reads one fails, after how

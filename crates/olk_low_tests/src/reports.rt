@@ -14,23 +14,24 @@ use std::test::Fail;
 // ---- paths
 
 /// The path of a segment, which is left empty again.
-fn pushed_path(alloc: Global, segment: &str) -> Result<String, AllocError> {
+fn pushed_path(alloc: Global, segment: &str) -> Result<String, Fail> {
     let mut path = InstancePath::new(alloc);
     let mark = path.push(segment)?;
     let pushed = String::from_str(alloc, path.as_str());
     path.pop(mark);
-    if path.as_str().is_empty() {
+    let text = if path.as_str().is_empty() {
         pushed
     } else {
         String::from_str(alloc, "the path is not empty")
-    }
+    };
+    Ok(text?)
 }
 
 /// The location of a segment.
-fn joined_path(alloc: Global, segment: &str) -> Result<String, AllocError> {
+fn joined_path(alloc: Global, segment: &str) -> Result<String, Fail> {
     let joined = Location::new(alloc).join(alloc, segment)?;
     let copy = joined.try_clone(alloc)?;
-    String::from_str(alloc, copy.as_str())
+    Ok(String::from_str(alloc, copy.as_str())?)
 }
 
 // A segment and its pointer, as in RFC 6901, section 5.
@@ -51,10 +52,10 @@ fn paths_are_pointers(rt: HostRuntime) -> Result<(), Fail> {
 }
 
 /// The path of a trail of one name.
-fn trailed_path(alloc: Global, segment: &str) -> Result<String, AllocError> {
+fn trailed_path(alloc: Global, segment: &str) -> Result<String, Fail> {
     let root = Trail::At("");
     let text = Trail::Below(&root, segment).text(alloc)?;
-    String::from_str(alloc, text.as_str())
+    Ok(String::from_str(alloc, text.as_str())?)
 }
 
 // The longest text that is kept in place has 40 bytes.
@@ -70,12 +71,12 @@ fn trails_are_pointers(rt: HostRuntime) -> Result<(), Fail> {
 }
 
 /// The path of two segments.
-fn path_of_two(alloc: Global, cells: &str) -> Result<String, AllocError> {
+fn path_of_two(alloc: Global, cells: &str) -> Result<String, Fail> {
     let (outer, inner) = two(cells);
     let mut path = InstancePath::new(alloc);
     let _outer = path.push(outer)?;
     let _inner = path.push(inner)?;
-    String::from_str(alloc, path.as_str())
+    Ok(String::from_str(alloc, path.as_str())?)
 }
 
 #[test]
@@ -109,10 +110,10 @@ fn names_in<'a>(alloc: Global, cells: &'a str) -> Result<Vec<&'a str>, AllocErro
 }
 
 /// The text of names that no schema allows.
-fn unexpected(alloc: Global, cells: &str) -> Result<String, AllocError> {
+fn unexpected(alloc: Global, cells: &str) -> Result<String, Fail> {
     let unexpected = names_in(alloc, cells)?;
     let kind = ValidationErrorKind::AdditionalProperties { unexpected };
-    text_of(alloc, kind, Node::Value(&Value::Null))
+    Ok(text_of(alloc, kind, Node::Value(&Value::Null))?)
 }
 
 #[test]
@@ -179,12 +180,12 @@ fn text_of_kind(alloc: Global, word: &str, instance: Node<'_>) -> Result<String,
 }
 
 /// The text of an error, of its kind and the name that it is of.
-fn kind(alloc: Global, cells: &str) -> Result<String, AllocError> {
+fn kind(alloc: Global, cells: &str) -> Result<String, Fail> {
     let (word, name) = two(cells);
     let name = String::from_str(alloc, name)?;
     let text = text_of_kind(alloc, word, Node::Name(&name));
     drop(name);
-    text
+    Ok(text?)
 }
 
 // The kind of an error, the name that it is of, and its text.
@@ -307,7 +308,7 @@ fn shown_of_name(
 }
 
 /// An error, by what it is of and a name.
-fn error(alloc: Global, cells: &str) -> Result<String, AllocError> {
+fn error(alloc: Global, cells: &str) -> Result<String, Fail> {
     let (word, name) = two(cells);
     let name = String::from_str(alloc, name)?;
     let object = Value::Object(Map::new(alloc));
@@ -318,7 +319,7 @@ fn error(alloc: Global, cells: &str) -> Result<String, AllocError> {
     };
     drop(object);
     drop(name);
-    text
+    Ok(text?)
 }
 
 // What an error is of, a name, the text, its place in the schema and in the instance, and whether
@@ -505,13 +506,14 @@ fn invalid(alloc: Global) -> Result<String, AllocError> {
 }
 
 /// An evaluation, by what it is of.
-fn evaluation(alloc: Global, word: &str) -> Result<String, AllocError> {
-    match word {
+fn evaluation(alloc: Global, word: &str) -> Result<String, Fail> {
+    let text = match word {
         "node" => above_one(alloc),
         "invalid" => invalid(alloc),
         "empty" => parts(alloc, "", EvaluationResult::valid_empty(alloc)),
         _ => entries(alloc, word),
-    }
+    };
+    Ok(text?)
 }
 
 // Four trees of three levels: whether the root is valid, and the places that err and that annotate,
@@ -603,13 +605,14 @@ fn count_at_last(alloc: Global) -> Result<String, AllocError> {
     format!(in alloc; "{}", count?)
 }
 
-fn at_last(alloc: Global, word: &str) -> Result<String, AllocError> {
-    match word {
+fn at_last(alloc: Global, word: &str) -> Result<String, Fail> {
+    let text = match word {
         "path" => pushed_at_last(alloc),
         "location" => join_at_last(alloc),
         "text" => text_at_last(alloc),
         _ => count_at_last(alloc),
-    }
+    };
+    Ok(text?)
 }
 
 // A path, a location, the text of an error, and how many errors an evaluation has.

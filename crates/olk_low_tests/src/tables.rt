@@ -1,13 +1,17 @@
 //! Tables: a row is a line, and its cells stand between ` | `, the last of which is the answer that
 //! is wanted.
-use std::alloc::{AllocError, Global};
+use std::alloc::Global;
 use std::test::Fail;
 
 /// Holds what is answered of each row against the row's last cell.
-pub(crate) fn expect_rows(
+///
+/// # Errors
+///
+/// The first row of which another text is answered, with that text; or why none is answered.
+pub fn expect_rows(
     alloc: Global,
     rows: &str,
-    answer: fn(Global, &str) -> Result<String, AllocError>,
+    answer: fn(Global, &str) -> Result<String, Fail>,
 ) -> Result<(), Fail>
     requires { IsAlwaysCallable answer }
 {
@@ -20,7 +24,7 @@ pub(crate) fn expect_rows(
 fn expect_row(
     alloc: Global,
     row: &str,
-    answer: fn(Global, &str) -> Result<String, AllocError>,
+    answer: fn(Global, &str) -> Result<String, Fail>,
 ) -> Result<(), Fail>
     requires { IsAlwaysCallable answer }
 {
@@ -39,6 +43,13 @@ fn expect_told(row: &str, found: String, wanted: &str) -> Result<(), Fail> {
 }
 
 /// The first cell, and the others, of which there may be none.
-pub(crate) fn two(cells: &str) -> (&str, &str) {
+pub fn two(cells: &str) -> (&str, &str) {
     cells.split_once(" | ").unwrap_or((cells, ""))
+}
+
+/// The three cells of a row.
+pub fn three(row: &str) -> Option<(&str, &str, &str)> {
+    let (first, others) = row.split_once(" | ")?;
+    let (second, third) = others.split_once(" | ")?;
+    Some((first, second, third))
 }

@@ -13,5 +13,3 @@ mod names;
 mod objects;
 #[cfg(test)]
 mod pattern_tables;
-#[cfg(test)]
-mod rows;
