@@ -1,6 +1,6 @@
 //! The texts of answers: refusals, verdicts, errors and evaluations as compact JSON.
 //!
-//! Stands on `olk_reports`. Tested by `olk_low_tests`.
+//! Stands on `olk_reports`. Tested by `olk_base_tests`.
 #![tactic(auto)]
 
 mod errors;

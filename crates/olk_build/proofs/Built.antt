@@ -24,7 +24,7 @@ use mathlib.Core.Path.{subst₂}
 use Rattle.olk_base.specs.Kit.{Kit}
 use Rattle.olk_tree.specs.Answers.{Answers}
 use Rattle.olk_tree.specs.Places.{AnswersBy, Stands}
-use Rattle.olk_members.specs.Members.{member_malformations, member_cost}
+use Rattle.olk_meaning.specs.Members.{member_malformations, member_cost}
 use Rattle.std.specs.declared.alloc.Global.{Global}
 use Rattle.olk_spec.specs.World.{World}
 use Rattle.olk_read.specs.Refusing.{Spends, TellsOneOf, Refuses}
@@ -38,7 +38,7 @@ use Rattle.olk_tree.specs.declared.node.KeywordOver.{KeywordOver}
 use Rattle.olk_tree.specs.declared.node.Body.{Body}
 use Rattle.olk_tree.specs.declared.node.Body.TheVariants.{True, False, Keywords}
 use Rattle.olk_read.proofs.Spending.{spends_append, spends_same, spends_place, within_after, within_same, within_exactly, tells_same}
-use Rattle.olk_members.proofs.Objects.{IsNoSchema, no_schema_malformed, no_schema_cost, object_accepts, object_asks, object_report, object_tree, object_malformed, object_cost}
+use Rattle.olk_meaning.proofs.Objects.{IsNoSchema, no_schema_malformed, no_schema_cost, object_accepts, object_asks, object_report, object_tree, object_malformed, object_cost}
 
 abbrev pub truth_body : {W : Type 0} → Bool → Body W
 truth_body true = True

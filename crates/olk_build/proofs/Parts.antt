@@ -20,28 +20,28 @@ use Rattle.olk_reports.specs.declared.error.BuildError.{BuildError}
 use Rattle.olk_reports.specs.declared.error.BuildError.TheVariants.{Memory}
 use Rattle.std.specs.declared.alloc.AllocError.{AllocError}
 use Rattle.olk_base.specs.Kit.{Kit}
-use Rattle.olk_members.specs.Dependencies.{schema_entries}
-use Rattle.olk_members.specs.Members.{member_malformations, member_cost}
+use Rattle.olk_meaning.specs.Dependencies.{schema_entries}
+use Rattle.olk_meaning.specs.Members.{member_malformations, member_cost}
 use Rattle.olk_read.specs.Refusing.{Spends, Refuses}
 use Rattle.olk_build.specs.Building.{RefusesPart, each_malformed, each_cost, inner_malformed, inner_cost, all_cost}
 use Rattle.olk_read.specs.Reading.{reads_of, own_faults, own_cost_of, IsShape, Fits, IsRead}
-use Rattle.olk_members.specs.Conditions.{Known, known_of, is_conditional_name, IsKnown}
-use Rattle.olk_members.specs.PatternProperties.{matchers_made, names_asked}
-use Rattle.olk_members.proofs.AdditionalPlaces.{additional_places}
+use Rattle.olk_meaning.specs.Conditions.{Known, known_of, is_conditional_name, IsKnown}
+use Rattle.olk_meaning.specs.PatternProperties.{matchers_made, names_asked}
+use Rattle.olk_meaning.proofs.AdditionalPlaces.{additional_places}
 use Rattle.olk_spec.proofs.Named.{Named, named as is_named}
-use Rattle.olk_members.proofs.Conditions.{places_by_condition}
-use Rattle.olk_members.proofs.PatternProperties.{pattern_properties_places, pattern_properties_known_cost}
-use Rattle.olk_members.proofs.Claims.{present_each}
+use Rattle.olk_meaning.proofs.Conditions.{places_by_condition}
+use Rattle.olk_meaning.proofs.PatternProperties.{pattern_properties_places, pattern_properties_known_cost}
+use Rattle.olk_meaning.proofs.Claims.{present_each}
 use Rattle.olk_build.specs.Placing.{places_malformed, places_cost, PlacesAreBuilt, PartsAreBuilt, IsPart}
 use Rattle.olk_make.specs.Standing.{StandAt, PartStands, PartsStand}
 use Rattle.olk_tree.specs.Answers.{Answers}
 use Rattle.olk_make.specs.declared.part.Part.{Part}
 use Rattle.olk_read.specs.declared.shape.Shape.{Shape}
 use Rattle.olk_read.specs.declared.shape.Shape.TheVariants as shape
-use Rattle.olk_members.proofs.Facts.{numbered-map, each_malformations, each_costs}
-use Rattle.olk_members.proofs.Dependencies.{dependent_schemas_places, dependencies_places}
-use Rattle.olk_members.proofs.PropertyNames.{false_is_no_object, property_names_places, other_names_places}
-use Rattle.olk_members.proofs.PropertyDependencies.{property_dependencies_places, inner_malformations, inner_costs}
+use Rattle.olk_meaning.proofs.Facts.{numbered-map, each_malformations, each_costs}
+use Rattle.olk_meaning.proofs.Dependencies.{dependent_schemas_places, dependencies_places}
+use Rattle.olk_meaning.proofs.PropertyNames.{false_is_no_object, property_names_places, other_names_places}
+use Rattle.olk_meaning.proofs.PropertyDependencies.{property_dependencies_places, inner_malformations, inner_costs}
 use Rattle.olk_spec.proofs.CostSums.{sum_last, total_cost-append}
 use Rattle.olk_read.proofs.Spending.{spends_nothing, spends_append, spends_same, within_after, within_before, within_same, within_nothing, refuses_memory, tells_left, tells_right, tells_same}
 

@@ -13,8 +13,8 @@ use Rattle.olk_base.specs.Kit.{Kit}
 use Rattle.olk_base.specs.declared.pattern.CompiledPattern.{CompiledPattern}
 use Rattle.olk_tree.specs.Answers.{Answers}
 use Rattle.olk_tree.specs.Places.{Stands}
-use Rattle.olk_members.specs.Conditions.{Known, is_restricted, IsKnown}
-use Rattle.olk_members.specs.Members.{member_malformations, member_cost}
+use Rattle.olk_meaning.specs.Conditions.{Known, is_restricted, IsKnown}
+use Rattle.olk_meaning.specs.Members.{member_malformations, member_cost}
 use Rattle.olk_read.specs.Refusing.{Spends, Refuses}
 use Rattle.olk_read.specs.Patterns.{patterns_wrong, patterns_cost}
 use Rattle.olk_make.specs.Holding.{StandEach, StandInner, which, all_malformed}

@@ -9,7 +9,7 @@ use Rattle.olk_spec.specs.Costs.{Cost, no_cost, cost}
 use Rattle.olk_base.specs.Count.{Counts}
 use Rattle.olk_reports.specs.declared.error.BuildError.{BuildError}
 use Rattle.olk_base.specs.Kit.{Kit}
-use Rattle.olk_members.specs.Conditions.{Known, known_of, IsKnown}
+use Rattle.olk_meaning.specs.Conditions.{Known, known_of, IsKnown}
 use Rattle.olk_read.specs.Refusing.{Spends, Refuses}
 use Rattle.olk_build.specs.Building.{no_lists, each_malformed, each_cost, inner_malformed, inner_cost, all_cost}
 use Rattle.olk_make.specs.Holding.{all_malformed}

@@ -8,14 +8,14 @@ ghost use Rattle.olk_paths.specs.Paths.{one_below};
 ghost use Rattle.olk_base.specs.Kit.{kit, world};
 ghost use Rattle.olk_tree.specs.Places.{Stands};
 ghost use Rattle.olk_build.specs.Building.{IsBuilt, AreBuilt, InnerAreBuilt, is_read, entries_read, RefusesSchema, RefusesEach, RefusesInner, RefusesObject, RefusesPart};
-ghost use Rattle.olk_members.specs.Conditions.{known, known_of};
+ghost use Rattle.olk_meaning.specs.Conditions.{known, known_of};
 ghost use Rattle.olk_read.specs.Refusing.{TellsOneOf, Spends, SpendsWithin};
 ghost use Rattle.olk_build.specs.Placing.{ObjectIsParted, IsPart, PlacesAreBuilt, RefusesPlaces};
 
 use crate::context::Context;
 use olk_base::{MakeLeaf, MakeRegex, Meter, append, append_all, one};
 use olk_make::{Part, make_keywords};
-use olk_members::Neighbours;
+use olk_meaning::Neighbours;
 use olk_paths::Location;
 use olk_read::{Makers, ReadPlaces, read_keyword, refuse};
 use olk_reports::{BuildError, ValidationErrorKind};

@@ -7,8 +7,8 @@ use olk_keywords::{
     additional_properties, all_of, any_of, dependencies, if_, not, pattern_properties,
     property_dependencies, property_names,
 };
-use olk_low_tests::doubles::{EqualTo, Equality, NoText, NoTexts};
-use olk_low_tests::tables::expect_rows;
+use olk_base_tests::doubles::{EqualTo, Equality, NoText, NoTexts};
+use olk_base_tests::tables::expect_rows;
 use olk_reports::BuildError;
 use olk_tree::additional_properties::AdditionalProperties;
 use olk_tree::place::Place;

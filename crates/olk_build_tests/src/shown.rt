@@ -1,6 +1,6 @@
 //! A node, as the tests look at it. Their functions take any node that is shown and name the real
 //! one once, since a type that is written out is dear to prove.
-use olk_low_tests::doubles::{EqualTo, NoText};
+use olk_base_tests::doubles::{EqualTo, NoText};
 use olk_node::SchemaNode;
 use olk_tree::{Body, RequiredValidator};
 

@@ -5,7 +5,7 @@ use denote.Ref.{Bor}
 use mathlib.Core.Bool.{true≢false}
 use Rattle.std.specs.Option.{option_copied}
 use Rattle.std.proofs.Math.Bool.{and-true}
-use Rattle.olk_members.proofs.Facts.{nothing_first, nothing_last}
+use Rattle.olk_meaning.proofs.Facts.{nothing_first, nothing_last}
 use Rattle.serde_json.specs.Data.{Data}
 use Rattle.olk_spec.specs.Names.{Name, lookup_name}
 use Rattle.olk_spec.specs.World.{Says}

@@ -23,7 +23,7 @@ use crate::pattern_properties::matches;
 use crate::required::{is_met, is_present};
 use arrayvec::ArrayVec;
 use olk_base::{CompiledPattern, Node, RegexEngine, ValidationContext};
-use olk_members::law_of_names;
+use olk_meaning::law_of_names;
 use olk_tree::additional_properties::{AdditionalProperties, RequiredName};
 use olk_tree::properties_map::PropertiesMap;
 use olk_tree::validators_map::PropertiesValidatorsMap;

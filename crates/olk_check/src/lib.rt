@@ -1,6 +1,6 @@
 //! Whether a value is accepted: `is_valid` of each validator, over its nodes.
 //!
-//! Stands on `olk_tree`. Tested by `olk_tests`.
+//! Stands on `olk_tree`. Tested by `object_logic_tests`.
 #![tactic(auto)]
 
 use olk_base::{Node, ValidationContext};

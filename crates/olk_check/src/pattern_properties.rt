@@ -11,7 +11,7 @@ ghost use Rattle.olk_check.specs.Asks.{Asks};
 
 use crate::IsValid;
 use olk_base::{CompiledPattern, Node, PropertyPattern, RegexEngine, ValidationContext};
-use olk_members::{law_of_names, member};
+use olk_meaning::{law_of_names, member};
 use olk_tree::pattern_properties::{PatternProperties, SingleValuePatternProperties};
 use serde_json::{Map, Value};
 

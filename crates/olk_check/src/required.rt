@@ -9,7 +9,7 @@ ghost use Rattle.olk_tree.specs.Maps.{texts_of};
 
 use crate::IsValid;
 use olk_base::{Node, ValidationContext, is_same_text};
-use olk_members::has_member;
+use olk_meaning::has_member;
 use olk_tree::required::RequiredValidator;
 use serde_json::{Map, Value};
 

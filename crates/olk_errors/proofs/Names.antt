@@ -2,7 +2,7 @@
 use Rattle.std.proofs.Common.{◌≡◌, ℕ, zero, suc, ◌<◌, length, get_or, Bool, List, [], ◌∷◌, map, refl, sym, ap, subst, arith}
 use Rattle.std.proofs.lemmas.Simd.{map-map}
 use Rattle.std.specs.List.{flat_map, Contains}
-use Rattle.olk_members.proofs.PropertyNames.{like_wrapped, ∼_wrapped}
+use Rattle.olk_meaning.proofs.PropertyNames.{like_wrapped, ∼_wrapped}
 use Rattle.olk_errors.proofs.Own.{no_place}
 use Rattle.serde_json.specs.Data.{Data, Members, string, object}
 use Rattle.olk_spec.specs.Names.{Name, Path}

@@ -20,7 +20,7 @@ use crate::required::report_if_missing;
 use crate::{ErrorSink, Stop, Walk};
 use olk_base::{CompiledPattern, Node, RegexEngine, ValidationContext, append};
 use olk_check::matches_unless_known;
-use olk_members::law_of_names;
+use olk_meaning::law_of_names;
 use olk_paths::Trail;
 use olk_reports::ValidationErrorKind;
 use olk_tree::additional_properties::{AdditionalProperties, RequiredName};

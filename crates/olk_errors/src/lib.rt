@@ -1,7 +1,7 @@
 //! What is wrong with a value, in one walk: the first error, or all, of each validator over its
 //! nodes.
 //!
-//! Stands on `olk_check`. Tested by `olk_tests`.
+//! Stands on `olk_check`. Tested by `object_logic_tests`.
 #![tactic(auto)]
 
 use olk_base::{Node, ValidationContext};

@@ -17,7 +17,7 @@ use crate::additional_members::collect;
 use crate::own::own_error;
 use crate::required::add_missing_name;
 use olk_base::{Node, RegexEngine, ValidationContext};
-use olk_members::law_of_names;
+use olk_meaning::law_of_names;
 use olk_paths::{InstancePath, PathText};
 use olk_reports::{EvaluationNode, EvaluationResult, ValidationErrorKind};
 use olk_tree::additional_properties::{AdditionalProperties, RequiredName};

@@ -1,6 +1,6 @@
 //! What a schema shows of a value: `show` of each validator, over its nodes.
 //!
-//! Stands on `olk_check`. Tested by `olk_tests`.
+//! Stands on `olk_check`. Tested by `object_logic_tests`.
 #![tactic(auto)]
 
 ghost use Rattle.serde_json.specs.Data.{Data};

@@ -14,7 +14,7 @@ ghost use Rattle.olk_evaluate.specs.Wanted.{AddsShown, HasErrors, refused, lacki
 use crate::Show;
 use crate::own::add_own_error;
 use olk_base::{Node, ValidationContext};
-use olk_members::has_member;
+use olk_meaning::has_member;
 use olk_paths::{InstancePath, PathText};
 use olk_reports::{EvaluationNode, EvaluationResult, ValidationErrorKind};
 use olk_tree::additional_properties::RequiredName;

@@ -16,11 +16,11 @@ use Rattle.olk_tree.specs.Answers.{Answers}
 use Rattle.olk_tree.specs.Tables.{Table}
 use Rattle.olk_tree.specs.declared.map.SmallMap.{SmallMap}
 use Rattle.olk_tree.specs.declared.node.KeywordOver.{KeywordOver}
-use Rattle.olk_members.specs.Conditions.{known_of, IsKnown}
-use Rattle.olk_members.specs.Plans.{Planned, plan_of, head, claims}
-use Rattle.olk_members.proofs.Conditions.{known_alone}
-use Rattle.olk_members.proofs.Heads.{names_of}
-use Rattle.olk_members.proofs.PropertyNames.{false_is_no_object}
+use Rattle.olk_meaning.specs.Conditions.{known_of, IsKnown}
+use Rattle.olk_meaning.specs.Plans.{Planned, plan_of, head, claims}
+use Rattle.olk_meaning.proofs.Conditions.{known_alone}
+use Rattle.olk_meaning.proofs.Heads.{names_of}
+use Rattle.olk_meaning.proofs.PropertyNames.{false_is_no_object}
 use Rattle.olk_read.specs.Reading.{reads_of, IsShape, Fits}
 use Rattle.olk_read.specs.declared.shape.ReadPlaces.TheVariants.{Itself}
 use Rattle.olk_read.specs.declared.shape.Shape.{Shape}

@@ -14,8 +14,8 @@ use Rattle.olk_reports.specs.declared.error.BuildError.{BuildError}
 use Rattle.olk_tree.specs.Answers.{Answers}
 use Rattle.olk_tree.specs.Places.{Stands}
 use Rattle.olk_tree.specs.declared.node.KeywordOver.{KeywordOver}
-use Rattle.olk_members.specs.Conditions.{is_condition, known_of, IsKnown}
-use Rattle.olk_members.proofs.Heads.{names_of}
+use Rattle.olk_meaning.specs.Conditions.{is_condition, known_of, IsKnown}
+use Rattle.olk_meaning.proofs.Heads.{names_of}
 use Rattle.olk_read.specs.Reading.{reads_of}
 use Rattle.olk_read.specs.declared.shape.ReadPlaces.TheVariants.{Itself}
 use Rattle.olk_make.specs.Forms.{IsIf}

@@ -22,15 +22,15 @@ use Rattle.olk_base.specs.Kit.{Kit}
 use Rattle.olk_tree.specs.Answers.{Answers}
 use Rattle.olk_tree.specs.declared.node.KeywordOver.{KeywordOver}
 use Rattle.olk_tree.specs.declared.node.KeywordOver.TheVariants as keyword
-use Rattle.olk_members.specs.AdditionalProperties.{declared_beside}
-use Rattle.olk_members.specs.Conditions.{Known, known_of, is_conditional_name, is_read_beside, is_restricted, IsKnown}
+use Rattle.olk_meaning.specs.AdditionalProperties.{declared_beside}
+use Rattle.olk_meaning.specs.Conditions.{Known, known_of, is_conditional_name, is_read_beside, is_restricted, IsKnown}
 use Rattle.olk_tree.specs.Tables.{Table}
-use Rattle.olk_members.specs.Members.{member_malformations, member_cost}
-use Rattle.olk_members.proofs.Conditions.{known_alone}
+use Rattle.olk_meaning.specs.Members.{member_malformations, member_cost}
+use Rattle.olk_meaning.proofs.Conditions.{known_alone}
 use Rattle.olk_base.specs.declared.pattern.CompiledPattern.{CompiledPattern}
 use Rattle.olk_read.specs.Patterns.{ArePatterns}
 use Rattle.olk_read.specs.Refusing.{Refuses}
-use Rattle.olk_members.specs.Plans.{Planned, plan_of, head, claims}
+use Rattle.olk_meaning.specs.Plans.{Planned, plan_of, head, claims}
 use Rattle.olk_make.specs.Forms.{IsFormOfAllOf, IsFormOfAnyOf, IsFormOfOneOf, IsAllOf, IsAnyOf, IsOneOf, IsNot, IsRequired, IsProperties, IsPatternProperties, IsDependencies, IsPropertyDependencies}
 use Rattle.olk_make.specs.Holding.{StandEach, which}
 use Rattle.olk_build.specs.Building.{RefusesMember, RefusesPart, RefusesFreeMember}
@@ -349,8 +349,8 @@ module _ {K R N : Type 0} (o : Kit K R) (answers : N → Answers) where
         properties_counted : length n ≡ length (members d)
         properties_counted = ap length (shape_is p c (codes "properties") d P a b h refl _ q).2 ∙ length-map (members d) (λ e. e.0)
 
-        pub properties_is_formed : (k : KeywordOver K R N) → IsProperties P p.location (length n) r.fused k → IsProperties P (P // codes "properties") (length (members d)) (plan_of ms).fused k
-        properties_is_formed k = subst (λ T. T) (λ i. IsProperties P ((stands p c (codes "properties") d P a b h refl).place i) (properties_counted i) ((chosen i).fused) k)
+        pub properties_is_formed : (k : KeywordOver K R N) → IsProperties P p.location (length n) r.fused_pair k → IsProperties P (P // codes "properties") (length (members d)) (plan_of ms).fused_pair k
+        properties_is_formed k = subst (λ T. T) (λ i. IsProperties P ((stands p c (codes "properties") d P a b h refl).place i) (properties_counted i) ((chosen i).fused_pair) k)
 
     module _ (h : IsPart o answers p c (codes "dependentRequired") d (P // codes "dependentRequired") a b) where
       pub no_other_dependent_required : ((n : List Name) (v : Vec (Vec (String Global) Global) Global) → p.shape ≡ shape.DependentRequired n v → ⊥) → ⊥

@@ -18,8 +18,8 @@ use Rattle.olk_base.specs.Kit.{Kit}
 use Rattle.olk_reports.specs.declared.error.BuildError.{BuildError}
 use Rattle.olk_reports.specs.declared.error.BuildError.TheVariants.{Memory}
 use Rattle.olk_tree.specs.Answers.{Answers}
-use Rattle.olk_members.specs.Conditions.{Known, IsKnown}
-use Rattle.olk_members.specs.Members.{member_malformations, member_cost}
+use Rattle.olk_meaning.specs.Conditions.{Known, IsKnown}
+use Rattle.olk_meaning.specs.Members.{member_malformations, member_cost}
 use Rattle.olk_read.specs.Refusing.{Spends, Refuses}
 use Rattle.olk_read.proofs.Spending.{spends_nothing, spends_append, spends_same, within_after, within_before, within_same, within_exactly, refuses_among, refuses_memory, tells_left, tells_right, tells_same}
 use Rattle.olk_make.specs.Holding.{which, all_malformed}

@@ -7,7 +7,7 @@ use Rattle.olk_reports.specs.declared.error.BuildError.{BuildError}
 use Rattle.olk_base.specs.Kit.{Kit}
 use Rattle.olk_tree.specs.Answers.{Answers}
 use Rattle.olk_tree.specs.declared.map.SmallMap.{SmallMap}
-use Rattle.olk_members.specs.Conditions.{known_of}
+use Rattle.olk_meaning.specs.Conditions.{known_of}
 use Rattle.olk_make.specs.Standing.{DeclaredStand, PatternsStand}
 use Rattle.olk_make.specs.declared.part.Patterns.{Patterns}
 use Rattle.olk_keywords.specs.Together.{BuildsNeighbour}

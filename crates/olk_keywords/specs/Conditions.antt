@@ -7,8 +7,8 @@ use Rattle.olk_reports.specs.declared.error.BuildError.{BuildError}
 use Rattle.olk_base.specs.Kit.{Kit}
 use Rattle.olk_tree.specs.Answers.{Answers}
 use Rattle.olk_tree.specs.Places.{Stands}
-use Rattle.olk_members.specs.Conditions.{is_condition}
-use Rattle.olk_members.specs.Plans.{is_case}
+use Rattle.olk_meaning.specs.Conditions.{is_condition}
+use Rattle.olk_meaning.specs.Plans.{is_case}
 use Rattle.olk_keywords.specs.Together.{NeighbourIsBuilt, BuildsNeighbour}
 
 module _ {K R N : Type 0} (o : Kit K R) (answers : N → Answers) (ms : Members) where

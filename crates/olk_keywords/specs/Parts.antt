@@ -9,11 +9,11 @@ use Rattle.olk_reports.specs.declared.error.BuildError.{BuildError}
 use Rattle.olk_base.specs.Kit.{Kit}
 use Rattle.olk_tree.specs.Answers.{Answers}
 use Rattle.olk_tree.specs.declared.node.KeywordOver.{KeywordOver}
-use Rattle.olk_members.specs.Plans.{plan_of, head, claims}
-use Rattle.olk_members.specs.Members.{member_malformations, member_cost}
+use Rattle.olk_meaning.specs.Plans.{plan_of, head, claims}
+use Rattle.olk_meaning.specs.Members.{member_malformations, member_cost}
 use Rattle.olk_read.specs.Refusing.{Spends}
 use Rattle.olk_make.specs.Holding.{which}
-use Rattle.olk_members.specs.Conditions.{is_restricted}
+use Rattle.olk_meaning.specs.Conditions.{is_restricted}
 use Rattle.olk_build.specs.Building.{RefusesMember, RefusesFreeMember}
 use Rattle.olk_make.specs.Making.{KeywordMeans, KeywordsMean}
 

@@ -8,7 +8,7 @@ use Rattle.olk_reports.specs.declared.error.BuildError.{BuildError}
 use Rattle.olk_base.specs.Kit.{Kit}
 use Rattle.olk_tree.specs.Answers.{Answers}
 use Rattle.olk_tree.specs.declared.node.KeywordOver.{KeywordOver}
-use Rattle.olk_members.specs.Plans.{plan_of, head, claims}
+use Rattle.olk_meaning.specs.Plans.{plan_of, head, claims}
 use Rattle.olk_read.specs.Refusing.{Spends, Refuses}
 use Rattle.olk_make.specs.Holding.{all_malformed}
 use Rattle.olk_make.specs.Making.{KeywordsMean}

@@ -6,8 +6,8 @@ ghost use Rattle.olk_spec.specs.Schemas.{listed, members};
 ghost use Rattle.olk_paths.specs.Paths.{one_below};
 ghost use Rattle.olk_base.specs.Kit.{kit};
 ghost use Rattle.olk_make.specs.Forms.{IsProperties};
-ghost use Rattle.olk_members.specs.Conditions.{is_restricted};
-ghost use Rattle.olk_members.specs.Plans.{plan_of};
+ghost use Rattle.olk_meaning.specs.Conditions.{is_restricted};
+ghost use Rattle.olk_meaning.specs.Plans.{plan_of};
 ghost use Rattle.olk_build.specs.Building.{AreBuilt, RefusesEach};
 ghost use Rattle.olk_keywords.specs.Parts.{BuildsClaims, Gives};
 
@@ -15,7 +15,7 @@ use olk_base::{Leaf, MakeLeaf, MakeRegex, RegexEngine};
 use olk_build::{Context, compile_declared, compile_member};
 use olk_make::Part;
 use olk_make::properties::make;
-use olk_members::Plan;
+use olk_meaning::Plan;
 use olk_read::Shape;
 use olk_reports::BuildError;
 use olk_tree::big_map::BigMap;
@@ -47,7 +47,7 @@ pub fn compile<'a, L: MakeLeaf, M: MakeRegex, N: Place<L::Leaf, M::Engine>>(
         ctx.old.place ctx.old.meter.now ctx.new.meter.now) }
     ensures form { Gives result (IsProperties ctx.old.place
         (one_below ctx.old.place (codes "properties")) (length (members (view schema.now)))
-        (plan_of (members_view parent.now.entries)).fused) }
+        (plan_of (members_view parent.now.entries)).fused_pair) }
     ensures unread { is_none result ≡ is_restricted (members_view parent.now.entries) }
     ensures unread_at_no_cost { IfNone result (ctx.new.meter.now ≡ ctx.old.meter.now) }
     ensures place { ctx.new.place ≡ ctx.old.place }

@@ -5,13 +5,13 @@ ghost use Rattle.serde_json.specs.View.{members_view, view};
 ghost use Rattle.olk_paths.specs.Paths.{one_below};
 ghost use Rattle.olk_base.specs.Kit.{kit};
 ghost use Rattle.olk_make.specs.Forms.{IsRequired};
-ghost use Rattle.olk_members.specs.Plans.{plan_of};
+ghost use Rattle.olk_meaning.specs.Plans.{plan_of};
 ghost use Rattle.olk_keywords.specs.Parts.{Builds, Gives};
 
 use olk_base::{Leaf, MakeLeaf, MakeRegex, RegexEngine};
 use olk_build::{Context, compile_member};
 use olk_make::Part;
-use olk_members::Plan;
+use olk_meaning::Plan;
 use olk_read::Shape;
 use olk_reports::BuildError;
 use olk_tree::node::KeywordOver;
@@ -41,7 +41,7 @@ pub fn compile<'a, L: MakeLeaf, M: MakeRegex, N: Place<L::Leaf, M::Engine>>(
         (view schema.now) ctx.old.place ctx.old.meter.now ctx.new.meter.now) }
     ensures form { Gives result (IsRequired (one_below ctx.old.place (codes "required"))
         (view schema.now)) }
-    ensures fused { is_none result ≡ (is_some (plan_of (members_view parent.now.entries)).fused
+    ensures fused { is_none result ≡ (is_some (plan_of (members_view parent.now.entries)).fused_pair
         || is_some (plan_of (members_view parent.now.entries)).fused_one) }
     ensures fused_at_no_cost { IfNone result (ctx.new.meter.now ≡ ctx.old.meter.now) }
     ensures place { ctx.new.place ≡ ctx.old.place }

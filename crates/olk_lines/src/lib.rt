@@ -1,6 +1,6 @@
 //! Answers an input line by line, and says by a status how far it came.
 //!
-//! Stands on nothing. Tested by `olk_low_tests`.
+//! Stands on nothing. Tested by `olk_base_tests`.
 #![tactic(auto)]
 
 mod answering;

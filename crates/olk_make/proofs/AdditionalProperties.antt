@@ -21,17 +21,17 @@ use Rattle.olk_spec.proofs.Truth.{and_from, and_first, and_second}
 use Rattle.olk_base.specs.Kit.{Kit}
 use Rattle.olk_base.specs.Compiled.{pattern_answers}
 use Rattle.olk_base.specs.declared.pattern.CompiledPattern.{CompiledPattern}
-use Rattle.olk_members.specs.AdditionalProperties.{entries_in, declared_beside}
-use Rattle.olk_members.specs.Conditions.{is_restriction, is_restricted, known_of}
-use Rattle.olk_members.specs.Fused.{fused_name}
-use Rattle.olk_members.specs.Members.{member_report}
+use Rattle.olk_meaning.specs.AdditionalProperties.{entries_in, declared_beside}
+use Rattle.olk_meaning.specs.Conditions.{is_restriction, is_restricted, known_of}
+use Rattle.olk_meaning.specs.Fused.{fused_one}
+use Rattle.olk_meaning.specs.Members.{member_report}
 use Rattle.std.specs.List.{flat_map, list_all, zip}
-use Rattle.olk_members.specs.Plans.{Planned, plan_of, head, claims}
-use Rattle.olk_members.proofs.AdditionalPlaces.{allowing_means_nothing}
-use Rattle.olk_members.proofs.Claims.{claims_itself, heads_elsewhere}
-use Rattle.olk_members.proofs.Heads.{names_of}
-use Rattle.olk_members.proofs.OneFused.{clean_one_fused}
-use Rattle.olk_members.proofs.TakenOver.{free_takes_nothing}
+use Rattle.olk_meaning.specs.Plans.{Planned, plan_of, head, claims}
+use Rattle.olk_meaning.proofs.AdditionalPlaces.{allowing_means_nothing}
+use Rattle.olk_meaning.proofs.Claims.{claims_itself, heads_elsewhere}
+use Rattle.olk_meaning.proofs.Heads.{names_of}
+use Rattle.olk_meaning.proofs.OneFused.{clean_one_fused}
+use Rattle.olk_meaning.proofs.TakenOver.{free_takes_nothing}
 use Rattle.olk_tree.specs.Additional.{placed, mapped_places, patterns_in, required_text, required_place}
 use Rattle.olk_tree.specs.Maps.{nodes_in}
 use Rattle.olk_tree.specs.Ascending.{Ascend}
@@ -236,12 +236,12 @@ module _ {K R N : Type 0} (o : Kit K R) (answers : N → Answers) where
 
   -- ---- the validator
 
-  module _ (k : Box (AdditionalProperties R N) Global) (L P : Path) (rest : Option N) (b : Beside R N) (ms : Members) (form : IsFormOfAdditionalProperties {K = K} P L rest b (fused_name ms) (keyword.AdditionalProperties k)) (d : Data) (place : L ≡ P // codes "additionalProperties") (rest_stands : RestStands o answers rest d L) (stands : BesideStands o answers (known_of ms) b ms P) (restricted : is_restricted ms ≡ true) where
+  module _ (k : Box (AdditionalProperties R N) Global) (L P : Path) (rest : Option N) (b : Beside R N) (ms : Members) (form : IsFormOfAdditionalProperties {K = K} P L rest b (fused_one ms) (keyword.AdditionalProperties k)) (d : Data) (place : L ≡ P // codes "additionalProperties") (rest_stands : RestStands o answers rest d L) (stands : BesideStands o answers (known_of ms) b ms P) (restricted : is_restricted ms ≡ true) where
     restriction_stands : RestrictionStands o means report tree k.value ms d P
     restriction_stands =
         let declared : DeclaredSide k.value.properties (lookup_name (codes "properties") (listed ms)) (P // codes "properties") = declared_side b.properties k.value.properties (lookup_name (codes "properties") (listed ms)) (P // codes "properties") form.1 stands.0 in
         let patterns : PatternsSide k.value (map (λ e. e.0) (declared_beside ms)) (lookup_name (codes "patternProperties") (listed ms)) (P // codes "patternProperties") = patterns_side k.value ms restricted b.patterns (lookup_name (codes "patternProperties") (listed ms)) (P // codes "patternProperties") form.2 stands.1 in
-        let required = required_there P (fused_name ms) k.value.required form.3 in
+        let required = required_there P (fused_one ms) k.value.required form.3 in
         record {
           sides = record {
             nodes = declared.nodes;

@@ -26,13 +26,13 @@ use Rattle.olk_tree.specs.declared.node.KeywordOver.{KeywordOver}
 use Rattle.olk_tree.specs.declared.node.KeywordOver.TheVariants as keyword
 use Rattle.olk_tree.specs.Answers.{Answers}
 use Rattle.olk_tree.specs.Places.{Stands}
-use Rattle.olk_members.specs.Members.{member_accepts, member_asks, member_report, member_child}
-use Rattle.olk_members.specs.Conditions.{is_condition}
-use Rattle.olk_members.specs.Plans.{Planned, plan_of, is_case, tells_members, head, claims}
-use Rattle.olk_members.proofs.Claims.{members_found, claims_condition, claims_itself, heads_elsewhere}
-use Rattle.olk_members.proofs.TakenOver.{never_taken}
-use Rattle.olk_members.proofs.Conditions as fact
-use Rattle.olk_members.proofs.Heads.{names_of}
+use Rattle.olk_meaning.specs.Members.{member_accepts, member_asks, member_report, member_child}
+use Rattle.olk_meaning.specs.Conditions.{is_condition}
+use Rattle.olk_meaning.specs.Plans.{Planned, plan_of, is_case, tells_members, head, claims}
+use Rattle.olk_meaning.proofs.Claims.{members_found, claims_condition, claims_itself, heads_elsewhere}
+use Rattle.olk_meaning.proofs.TakenOver.{never_taken}
+use Rattle.olk_meaning.proofs.Conditions as fact
+use Rattle.olk_meaning.proofs.Heads.{names_of}
 use Rattle.olk_make.specs.Forms.{IsFormOfIf, IsIf}
 use Rattle.olk_make.specs.Holding.{which, Covers}
 use Rattle.olk_make.specs.Making.{KeywordsMean, MakesCondition, MakesPart}

@@ -17,8 +17,8 @@ use Rattle.olk_spec.specs.Reports.{required_faults}
 use Rattle.olk_spec.specs.Tree.{plain, erring}
 use Rattle.olk_spec.proofs.Order.{∼_same, ∼_sym}
 use Rattle.olk_base.specs.Kit.{Kit}
-use Rattle.olk_members.specs.Dependencies.{due_entries, are_lists, dependency_accepts, dependency_asks, dependency_report, dependency_shown}
-use Rattle.olk_members.proofs.Dependencies as fact
+use Rattle.olk_meaning.specs.Dependencies.{due_entries, are_lists, dependency_accepts, dependency_asks, dependency_report, dependency_shown}
+use Rattle.olk_meaning.proofs.Dependencies as fact
 use Rattle.olk_tree.specs.Questions.{always, every}
 use Rattle.olk_tree.specs.Dependencies.{due_nodes}
 use Rattle.olk_tree.specs.Validators.{answers_of}

@@ -37,11 +37,11 @@ use Rattle.olk_tree.specs.Validators.{answers_of, validator_means, validator_rep
 use Rattle.olk_tree.specs.Answers.{Answers}
 use Rattle.olk_tree.specs.Shown.{missing_trees, properties_tree, branch_trees, any_of_tree}
 use Rattle.olk_tree.specs.Places.{Stands}
-use Rattle.olk_members.specs.Conditions.{is_condition, is_restricted}
-use Rattle.olk_members.specs.Members.{member_accepts, member_asks, member_report, member_child, StandsAlone}
-use Rattle.olk_members.specs.Plans.{Planned, plan_of, is_case, tells_members, head, claims}
+use Rattle.olk_meaning.specs.Conditions.{is_condition, is_restricted}
+use Rattle.olk_meaning.specs.Members.{member_accepts, member_asks, member_report, member_child, StandsAlone}
+use Rattle.olk_meaning.specs.Plans.{Planned, plan_of, is_case, tells_members, head, claims}
 use Rattle.olk_make.specs.Forms.{IsFormOfProperties, IsFormOfAllOf, IsFormOfAnyOf}
-use Rattle.olk_members.specs.Fused.{fused_names, fused_name, declares_few}
+use Rattle.olk_meaning.specs.Fused.{fused_pair, fused_one, declares_few}
 use Rattle.olk_make.specs.Holding.{StandEach, which, all_malformed, Holds, Covers}
 use Rattle.olk_make.specs.Standing.{is_taken}
 use Rattle.olk_make.specs.Making.{KeywordMeans, KeywordsMean}
@@ -50,18 +50,18 @@ use Rattle.olk_tree.specs.declared.properties_map.PropertiesMap.TheVariants.{Sma
 use Rattle.olk_tree.specs.declared.properties.SmallPropertiesWithRequired2.{SmallPropertiesWithRequired2}
 use Rattle.olk_tree.specs.declared.node.KeywordOver.{KeywordOver}
 use Rattle.olk_tree.specs.declared.node.KeywordOver.TheVariants as keyword
-use Rattle.olk_members.proofs.Facts as fact
+use Rattle.olk_meaning.proofs.Facts as fact
 use Rattle.olk_make.proofs.Entries.{AnswerEach, each_accept, each_ask, each_find, each_show, schema_answers, schemas_answer}
 use Rattle.olk_make.proofs.Together.{means_alone, means_permuted}
-use Rattle.olk_members.proofs.Claims.{listing, fuses, claims_itself, claims_both, claims_nothing, head_itself, head_of_required, heads_elsewhere, plan_fusing, IsNoCase}
-use Rattle.olk_members.proofs.TakenOver.{IsNotTaken, free_takes_nothing, free_fuses_none, fusing_is_free, fused_is_restricted}
-use Rattle.olk_members.proofs.RestrictedClaims.{claims_no_fused}
-use Rattle.olk_members.proofs.RestrictionShown.{required_shows_none}
-use Rattle.olk_members.proofs.OneFused.{clean_one_fused}
-use Rattle.olk_members.proofs.Conditions.{restricted_read}
-use Rattle.olk_members.proofs.Heads.{names_of}
-use Rattle.olk_members.proofs.Clean.{fused, names_fused}
-use Rattle.olk_members.proofs.Children.{shown_at, shown_declared, branches_shown, accepting_branches, any_shown, properties_child, required_child, no_required_child, all_of_child, any_of_child, not_child, leaf_child}
+use Rattle.olk_meaning.proofs.Claims.{listing, fuses, claims_itself, claims_both, claims_nothing, head_itself, head_of_required, heads_elsewhere, plan_fusing, IsNoCase}
+use Rattle.olk_meaning.proofs.TakenOver.{IsNotTaken, free_takes_nothing, free_fuses_none, fusing_is_free, fused_is_restricted}
+use Rattle.olk_meaning.proofs.RestrictedClaims.{claims_no_fused}
+use Rattle.olk_meaning.proofs.RestrictionShown.{required_shows_none}
+use Rattle.olk_meaning.proofs.OneFused.{clean_one_fused}
+use Rattle.olk_meaning.proofs.Conditions.{restricted_read}
+use Rattle.olk_meaning.proofs.Heads.{names_of}
+use Rattle.olk_meaning.proofs.Clean.{fused, names_fused}
+use Rattle.olk_meaning.proofs.Children.{shown_at, shown_declared, branches_shown, accepting_branches, any_shown, properties_child, required_child, no_required_child, all_of_child, any_of_child, not_child, leaf_child}
 use Rattle.olk_spec.proofs.Maps.{is_empty-map}
 use Rattle.olk_make.proofs.Formed.{has_form, is_formed, just_one_formed, stand_formed, map_formed, properties_formed, required2_formed, all_of_formed, any_of_formed}
 use Rattle.olk_tree.specs.Formed.{is_map_formed}
@@ -314,7 +314,7 @@ module _ {K R N : Type 0} (o : Kit K R) (answers : N → Answers) where
   few_formed k fs d q names few = ap (λ n. nat_lt n HASHMAP_THRESHOLD) (ap length names ∙ length-map (listed fs) (λ e. e.0)) ∙ ap (λ x. declares_few (Some x)) (sym q) ∙ few
 
   pub means_form : (k : KeywordOver K R N) (names : List Name) (ns : List N) (L P : Path) (t : Option (Name × Name)) (fs : Members) (d : Data) → d ≡ object fs → names ≡ map (λ e. e.0) (listed fs) → StandEach o answers ns (listed fs) L → IsFormOfProperties P L names ns t k
-      → (ms : Members) → L ≡ P // codes "properties" → has_repeat (names_of (listed ms)) ≡ false → lookup_name (codes "properties") (listed ms) ≡ Some d → t ≡ fused_names ms → is_restricted ms ≡ false → KeywordsMean o answers ms (k ∷ []) (claims (head (plan_of ms)) (listed ms) (codes "properties", d)) ((codes "properties", d) ∷ []) P
+      → (ms : Members) → L ≡ P // codes "properties" → has_repeat (names_of (listed ms)) ≡ false → lookup_name (codes "properties") (listed ms) ≡ Some d → t ≡ fused_pair ms → is_restricted ms ≡ false → KeywordsMean o answers ms (k ∷ []) (claims (head (plan_of ms)) (listed ms) (codes "properties", d)) ((codes "properties", d) ∷ []) P
   means_form (keyword.Properties k) names ns L P None fs d q declared stand form ms p distinct there chosen unrestricted =
       subst (λ rows. KeywordsMean o answers ms (keyword.Properties k ∷ []) rows ((codes "properties", d) ∷ []) P) (sym (claims_itself ms distinct (head (plan_of ms)) (codes "properties", d) (head_itself (plan_of ms) (codes "properties") (λ e. absurd (true≢false (sym e ∙ ap is_some (sym chosen)))) (λ e. (refl, refl)) (free_takes_nothing ms (codes "properties") unrestricted)) there))
       (subst (λ M. KeywordsMean o answers ms (keyword.Properties (record { properties = k.properties; location = M }) ∷ []) ((codes "properties", d) ∷ []) ((codes "properties", d) ∷ []) P) (sym form.3)
@@ -517,21 +517,21 @@ module _ {K R N : Type 0} (o : Kit K R) (answers : N → Answers) where
   }
 
   -- two names are fused, or one
-  pub means_fused : (t : Name × Name) (d : Data) (ms : Members) (P : Path) → Some t ≡ fused_names ms → KeywordsMean o answers ms [] (claims (head (plan_of ms)) (listed ms) (codes "required", d)) ((codes "required", d) ∷ []) P
+  pub means_fused : (t : Name × Name) (d : Data) (ms : Members) (P : Path) → Some t ≡ fused_pair ms → KeywordsMean o answers ms [] (claims (head (plan_of ms)) (listed ms) (codes "required", d)) ((codes "required", d) ∷ []) P
   means_fused t d ms P chosen = nothing_means ms (codes "required", d) P (plan_of ms) (ap (λ s. claims (head s) (listed ms) (codes "required", d)) (plan_fusing ms t chosen) ∙ claims_nothing t (is_condition ms) (listed ms) d)
       (λ clean u v Q. no_required_child o.world u v ms P Q d (clean_one_fused o.world ms P clean (meaning_step o.world u) ∙ free_fuses_none ms (fusing_is_free ms (ap is_some (sym chosen)))) (fused o.world ms P clean (meaning_step o.world u) ∙ ap is_some (sym chosen)))
 
-  one_restricts : (ms : Members) → is_some (fused_name ms) ≡ true → is_restricted ms ≡ true
-  one_restricts ms e = by (fused_name ms) refl e
+  one_restricts : (ms : Members) → is_some (fused_one ms) ≡ true → is_restricted ms ≡ true
+  one_restricts ms e = by (fused_one ms) refl e
     where
-      by : (t : Option Name) → fused_name ms ≡ t → is_some t ≡ true → is_restricted ms ≡ true
+      by : (t : Option Name) → fused_one ms ≡ t → is_some t ≡ true → is_restricted ms ≡ true
       by None q f = absurd (true≢false (sym f))
       by (Some n) q f = fused_is_restricted ms n q
 
-  pub means_fused_one : (d : Data) (ms : Members) (P : Path) → is_some (fused_name ms) ≡ true → KeywordsMean o answers ms [] (claims (head (plan_of ms)) (listed ms) (codes "required", d)) ((codes "required", d) ∷ []) P
+  pub means_fused_one : (d : Data) (ms : Members) (P : Path) → is_some (fused_one ms) ≡ true → KeywordsMean o answers ms [] (claims (head (plan_of ms)) (listed ms) (codes "required", d)) ((codes "required", d) ∷ []) P
   means_fused_one d ms P chosen = nothing_means ms (codes "required", d) P (plan_of ms) (claims_no_fused ms (one_restricts ms chosen) (listed ms) d chosen) (λ clean u v Q. required_shows_none o.world ms u v P Q d chosen)
 
-  pub means_required_alone : (names : Vec (String Global) Global) (L : Path) (d : Data) → map string_bytes names.items ≡ texts d → (ms : Members) (P : Path) → L ≡ P // codes "required" → has_repeat (names_of (listed ms)) ≡ false → lookup_name (codes "required") (listed ms) ≡ Some d → is_some (fused_names ms) ≡ false → is_some (fused_name ms) ≡ false → KeywordsMean o answers ms (keyword.Required (record { required = names; location = L }) ∷ []) (claims (head (plan_of ms)) (listed ms) (codes "required", d)) ((codes "required", d) ∷ []) P
+  pub means_required_alone : (names : Vec (String Global) Global) (L : Path) (d : Data) → map string_bytes names.items ≡ texts d → (ms : Members) (P : Path) → L ≡ P // codes "required" → has_repeat (names_of (listed ms)) ≡ false → lookup_name (codes "required") (listed ms) ≡ Some d → is_some (fused_pair ms) ≡ false → is_some (fused_one ms) ≡ false → KeywordsMean o answers ms (keyword.Required (record { required = names; location = L }) ∷ []) (claims (head (plan_of ms)) (listed ms) (codes "required", d)) ((codes "required", d) ∷ []) P
   means_required_alone names L d same ms P p distinct there not_two not_one =
       subst (λ rows. KeywordsMean o answers ms (keyword.Required (record { required = names; location = L }) ∷ []) rows ((codes "required", d) ∷ []) P) (sym (claims_itself ms distinct (head (plan_of ms)) (codes "required", d) (head_of_required (plan_of ms) not_two not_one) there))
       (means_alone o answers ms P _ (codes "required", d) (and-false (is_restricted ms))

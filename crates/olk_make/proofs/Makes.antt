@@ -20,16 +20,16 @@ use Rattle.olk_spec.proofs.Each.{Each, Each-filter_once}
 use Rattle.olk_spec.proofs.Walks.{same_name, bytes_eq-sym, bytes_eq-itself, neither, Distinct, Distinct-from, Each-found}
 use Rattle.olk_base.specs.Kit.{Kit}
 use Rattle.olk_base.specs.declared.pattern.CompiledPattern.{CompiledPattern}
-use Rattle.olk_members.specs.Plans.{Planned, plan_of, is_case, tells_members, head, claims}
+use Rattle.olk_meaning.specs.Plans.{Planned, plan_of, is_case, tells_members, head, claims}
 use Rattle.olk_make.specs.Forms.{IsFormOfProperties, IsFormOfAllOf, IsFormOfAnyOf, IsFormOfOneOf}
 use Rattle.olk_make.specs.Holding.{StandEach, which, Covers}
-use Rattle.olk_members.specs.Conditions.{Known, known_of, is_condition, is_restriction, is_restricted}
-use Rattle.olk_members.specs.Fused.{fused_names}
-use Rattle.olk_members.specs.Members.{member_child}
-use Rattle.olk_members.proofs.TakenOver.{never_taken, free_takes_nothing}
-use Rattle.olk_members.proofs.RestrictedClaims.{claims_no_properties, claims_no_patterns}
-use Rattle.olk_members.proofs.RestrictionShown.{properties_show_none, patterns_show_none}
-use Rattle.olk_members.proofs.Heads.{names_of}
+use Rattle.olk_meaning.specs.Conditions.{Known, known_of, is_condition, is_restriction, is_restricted}
+use Rattle.olk_meaning.specs.Fused.{fused_pair}
+use Rattle.olk_meaning.specs.Members.{member_child}
+use Rattle.olk_meaning.proofs.TakenOver.{never_taken, free_takes_nothing}
+use Rattle.olk_meaning.proofs.RestrictedClaims.{claims_no_properties, claims_no_patterns}
+use Rattle.olk_meaning.proofs.RestrictionShown.{properties_show_none, patterns_show_none}
+use Rattle.olk_meaning.proofs.Heads.{names_of}
 use Rattle.olk_read.specs.Reading.{reads_of, IsShape, Fits}
 use Rattle.olk_make.specs.Standing.{StandAt, is_taken, untaken, is_if_shape, is_restriction_shape, PartsStand, CasesStand, BesideStands}
 use Rattle.olk_make.specs.Making.{KeywordMeans, KeywordsMean, MakesMember, MakesClaims, MakesPart}
@@ -42,7 +42,7 @@ use Rattle.olk_read.specs.declared.shape.Shape.{Shape}
 use Rattle.olk_read.specs.declared.shape.Shape.TheVariants as shape
 use Rattle.olk_read.specs.declared.shape.ReadPlaces.TheVariants.{Nothing}
 use Rattle.olk_read.proofs.Read.{array_of}
-use Rattle.olk_members.proofs.Claims.{heads_there, claims_no_case, IsNoCase}
+use Rattle.olk_meaning.proofs.Claims.{heads_there, claims_no_case, IsNoCase}
 use Rattle.olk_make.proofs.Together.{no_keywords_mean, one_more_keyword, heads_mean_all}
 use Rattle.olk_make.proofs.Held.{unrestricted_if_untaken, means_all_of, means_any_of, means_not, means_form, means_fused, means_fused_one, means_own, means_leaf, means_unread, means_required, means_required_alone}
 use Rattle.olk_make.proofs.OneOf.{means_one_of}
@@ -114,12 +114,12 @@ module _ {K R N : Type 0} (o : Kit K R) (answers : N → Answers) where
   pub makes_unread : (L : Path) (ns : List N) → MakesMember o answers shape.Unread L ns []
   makes_unread L ns ms m P p s h = means_unread o answers m.0 m.1 s ms P
 
-  pub makes_properties : (k : KeywordOver K R N) (names : List Name) (ns : List N) (L P : Path) (p : Planned) → IsFormOfProperties P L names ns p.fused k → MakesClaims o answers (shape.Properties names) L ns P p (k ∷ [])
+  pub makes_properties : (k : KeywordOver K R N) (names : List Name) (ns : List N) (L P : Path) (p : Planned) → IsFormOfProperties P L names ns p.fused_pair k → MakesClaims o answers (shape.Properties names) L ns P p (k ∷ [])
   makes_properties k names ns L P p form ms m l s h distinct there chosen untaken =
       let a = object_of m.1 s.1 in
       subst (λ n. KeywordsMean o answers ms (k ∷ []) (claims (head p) (listed ms) (n, m.1)) ((n, m.1) ∷ []) P) (sym s.0)
       (subst (λ q. KeywordsMean o answers ms (k ∷ []) (claims (head q) (listed ms) (codes "properties", m.1)) ((codes "properties", m.1) ∷ []) P) (sym chosen)
-      (means_form o answers k names ns L P p.fused a.0 m.1 a.1 (s.2 ∙ ap (λ x. map (λ e. e.0) (members x)) a.1) (subst (λ x. StandEach o answers ns (members x) L) a.1 h) form ms (l ∙ ap (λ n. P // n) s.0) distinct (ap (λ n. lookup_name n (listed ms)) (sym s.0) ∙ there) (ap (λ q. q.fused) chosen)
+      (means_form o answers k names ns L P p.fused_pair a.0 m.1 a.1 (s.2 ∙ ap (λ x. map (λ e. e.0) (members x)) a.1) (subst (λ x. StandEach o answers ns (members x) L) a.1 h) form ms (l ∙ ap (λ n. P // n) s.0) distinct (ap (λ n. lookup_name n (listed ms)) (sym s.0) ∙ there) (ap (λ q. q.fused_pair) chosen)
       (ap (λ q. q.restricted) (sym chosen) ∙ unrestricted_if_untaken o answers p (codes "properties") refl (ap (is_taken p) (sym s.0) ∙ untaken))))
 
   module _ (v : Vec (String Global) Global) (L P : Path) (ns : List N) (p : Planned) where
@@ -131,18 +131,18 @@ module _ {K R N : Type 0} (o : Kit K R) (answers : N → Answers) where
         (subst (λ q. KeywordsMean o answers ms ks (claims (head q) (listed ms) (codes "required", m.1)) ((codes "required", m.1) ∷ []) P) (sym chosen)
         (make ms m.1 chosen (l ∙ ap (λ n. P // n) s.0) s.2 distinct (ap (λ n. lookup_name n (listed ms)) (sym s.0) ∙ there)))
 
-    pub makes_required_elsewhere : is_some p.fused ≡ true → MakesRequired []
-    makes_required_elsewhere e = required_makes [] (λ ms d chosen l same distinct there. by ms d (fused_names ms) refl (ap (λ q. is_some q.fused) (sym chosen) ∙ e))
+    pub makes_required_elsewhere : is_some p.fused_pair ≡ true → MakesRequired []
+    makes_required_elsewhere e = required_makes [] (λ ms d chosen l same distinct there. by ms d (fused_pair ms) refl (ap (λ q. is_some q.fused_pair) (sym chosen) ∙ e))
       where
-        by : (ms : Members) (d : Data) (t : Option (Name × Name)) → fused_names ms ≡ t → is_some t ≡ true → KeywordsMean o answers ms [] (claims (head (plan_of ms)) (listed ms) (codes "required", d)) ((codes "required", d) ∷ []) P
+        by : (ms : Members) (d : Data) (t : Option (Name × Name)) → fused_pair ms ≡ t → is_some t ≡ true → KeywordsMean o answers ms [] (claims (head (plan_of ms)) (listed ms) (codes "required", d)) ((codes "required", d) ∷ []) P
         by ms d None q f = absurd (true≢false (sym f))
         by ms d (Some t) q f = means_fused o answers t d ms P (sym q)
 
     pub makes_required_inside : is_some p.fused_one ≡ true → MakesRequired []
     makes_required_inside e = required_makes [] (λ ms d chosen l same distinct there. means_fused_one o answers d ms P (ap (λ q. is_some q.fused_one) (sym chosen) ∙ e))
 
-    pub makes_required_alone : is_some p.fused ≡ false → is_some p.fused_one ≡ false → MakesRequired (keyword.Required (record { required = v; location = L }) ∷ [])
-    makes_required_alone e f = required_makes (keyword.Required (record { required = v; location = L }) ∷ []) (λ ms d chosen l same distinct there. means_required_alone o answers v L d same ms P l distinct there (ap (λ q. is_some q.fused) (sym chosen) ∙ e) (ap (λ q. is_some q.fused_one) (sym chosen) ∙ f))
+    pub makes_required_alone : is_some p.fused_pair ≡ false → is_some p.fused_one ≡ false → MakesRequired (keyword.Required (record { required = v; location = L }) ∷ [])
+    makes_required_alone e f = required_makes (keyword.Required (record { required = v; location = L }) ∷ []) (λ ms d chosen l same distinct there. means_required_alone o answers v L d same ms P l distinct there (ap (λ q. is_some q.fused_pair) (sym chosen) ∙ e) (ap (λ q. is_some q.fused_one) (sym chosen) ∙ f))
 
   -- a keyword that has no neighbours claims its own member
   abbrev pub IsAlone : Shape K R → Type 0

@@ -21,7 +21,7 @@ use Rattle.olk_tree.specs.Shown.{several_accept, one_of_tree}
 use Rattle.olk_tree.specs.declared.node.KeywordOver.{KeywordOver}
 use Rattle.olk_tree.specs.declared.node.KeywordOver.TheVariants as keyword
 use Rattle.olk_tree.specs.Answers.{Answers}
-use Rattle.olk_members.proofs.OneOf as fact
+use Rattle.olk_meaning.proofs.OneOf as fact
 use Rattle.olk_make.specs.Forms.{IsFormOfOneOf}
 use Rattle.olk_make.specs.Holding.{StandEach}
 use Rattle.olk_make.specs.Making.{KeywordMeans}

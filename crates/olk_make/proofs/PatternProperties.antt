@@ -22,10 +22,10 @@ use Rattle.olk_spec.proofs.Truth.{and_from}
 use Rattle.olk_base.specs.Kit.{Kit}
 use Rattle.olk_base.specs.Compiled.{pattern_answers, pattern_costs}
 use Rattle.olk_base.specs.declared.pattern.CompiledPattern.{CompiledPattern}
-use Rattle.olk_members.specs.Conditions.{is_restricted}
-use Rattle.olk_members.specs.PatternProperties.{matched_members, pattern_asks}
-use Rattle.olk_members.proofs.Conditions.{restricted_read}
-use Rattle.olk_members.proofs.PatternProperties as fact
+use Rattle.olk_meaning.specs.Conditions.{is_restricted}
+use Rattle.olk_meaning.specs.PatternProperties.{matched_members, pattern_asks}
+use Rattle.olk_meaning.proofs.Conditions.{restricted_read}
+use Rattle.olk_meaning.proofs.PatternProperties as fact
 use Rattle.olk_tree.specs.Matched.{matched, match_question}
 use Rattle.olk_tree.specs.Tables.{Table}
 use Rattle.olk_tree.specs.Questions.{every, conditional, always}

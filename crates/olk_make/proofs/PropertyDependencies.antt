@@ -23,8 +23,8 @@ use Rattle.olk_spec.specs.Tree.{plain}
 use Rattle.olk_spec.proofs.Order.{∼_append}
 use Rattle.olk_spec.proofs.Walks.{same_name}
 use Rattle.olk_base.specs.Kit.{Kit}
-use Rattle.olk_members.specs.PropertyDependencies.{chosen, chosen_by}
-use Rattle.olk_members.proofs.PropertyDependencies as fact
+use Rattle.olk_meaning.specs.PropertyDependencies.{chosen, chosen_by}
+use Rattle.olk_meaning.proofs.PropertyDependencies as fact
 use Rattle.olk_tree.specs.Questions.{every}
 use Rattle.olk_tree.specs.Maps.{named}
 use Rattle.olk_tree.specs.PropertyDependencies.{chosen_at, chosen_nodes}

@@ -15,7 +15,7 @@ use Rattle.olk_spec.specs.Reports.{fault_if, wrapped}
 use Rattle.olk_spec.specs.Tree.{plain, erring}
 use Rattle.olk_spec.proofs.Order.{∼_same, ∼_flat_map_any}
 use Rattle.olk_base.specs.Kit.{Kit}
-use Rattle.olk_members.proofs.PropertyNames as fact
+use Rattle.olk_meaning.proofs.PropertyNames as fact
 use Rattle.olk_tree.specs.Questions.{every}
 use Rattle.olk_tree.specs.Validators.{answers_of}
 use Rattle.olk_tree.specs.declared.node.KeywordOver.{KeywordOver}

@@ -15,10 +15,10 @@ use Rattle.olk_spec.proofs.Walks.{same_name, bytes_eq-itself}
 use Rattle.olk_base.specs.Kit.{Kit}
 use Rattle.olk_tree.specs.Answers.{Answers}
 use Rattle.olk_tree.specs.Places.{Stands}
-use Rattle.olk_members.specs.Conditions.{Known, known_of, is_conditional_name, is_condition, is_restricted}
-use Rattle.olk_members.specs.Plans.{Planned, plan_of, is_case, tells_members}
-use Rattle.olk_members.proofs.Claims.{members_named, members_found}
-use Rattle.olk_members.proofs.Heads.{names_of}
+use Rattle.olk_meaning.specs.Conditions.{Known, known_of, is_conditional_name, is_condition, is_restricted}
+use Rattle.olk_meaning.specs.Plans.{Planned, plan_of, is_case, tells_members}
+use Rattle.olk_meaning.proofs.Claims.{members_named, members_found}
+use Rattle.olk_meaning.proofs.Heads.{names_of}
 use Rattle.olk_read.specs.Reading.{reads_of, IsShape, Fits}
 use Rattle.olk_read.specs.declared.shape.Shape.{Shape}
 use Rattle.olk_read.specs.declared.shape.Shape.TheVariants as shape

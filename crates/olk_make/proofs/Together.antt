@@ -20,15 +20,15 @@ use Rattle.olk_base.specs.Kit.{Kit}
 use Rattle.olk_tree.specs.Questions.{Question, every}
 use Rattle.olk_tree.specs.Validators.{validator_means}
 use Rattle.olk_tree.specs.Answers.{Answers}
-use Rattle.olk_members.specs.Conditions.{is_restricted}
-use Rattle.olk_members.specs.Plans.{tells_members, claims}
-use Rattle.olk_members.specs.Members.{member_accepts, member_asks, member_report, StandsAlone}
+use Rattle.olk_meaning.specs.Conditions.{is_restricted}
+use Rattle.olk_meaning.specs.Plans.{tells_members, claims}
+use Rattle.olk_meaning.specs.Members.{member_accepts, member_asks, member_report, StandsAlone}
 use Rattle.olk_spec.proofs.Each.{Each}
 use Rattle.olk_make.specs.Holding.{all_malformed, which, ask, find, Covers}
 use Rattle.olk_make.specs.Making.{KeywordMeans, KeywordsMean}
 use Rattle.olk_tree.specs.declared.node.KeywordOver.{KeywordOver}
-use Rattle.olk_members.proofs.Claims.{list_all-permuted}
-use Rattle.olk_members.proofs.Heads.{names_of, claims_are_all}
+use Rattle.olk_meaning.proofs.Claims.{list_all-permuted}
+use Rattle.olk_meaning.proofs.Heads.{names_of, claims_are_all}
 
 -- ---- questions one after another
 

@@ -12,9 +12,9 @@ use Rattle.olk_tree.specs.Questions.{every}
 use Rattle.olk_tree.specs.Validators.{validator_means, validator_report, validator_tree, validator_formed}
 use Rattle.olk_tree.specs.Answers.{Answers}
 use Rattle.olk_tree.specs.Places.{Stands}
-use Rattle.olk_members.specs.Conditions.{is_restricted}
-use Rattle.olk_members.specs.Plans.{tells_members}
-use Rattle.olk_members.specs.Members.{member_accepts, member_asks, member_report, member_malformations}
+use Rattle.olk_meaning.specs.Conditions.{is_restricted}
+use Rattle.olk_meaning.specs.Plans.{tells_members}
+use Rattle.olk_meaning.specs.Members.{member_accepts, member_asks, member_report, member_malformations}
 use Rattle.olk_tree.specs.declared.node.KeywordOver.{KeywordOver}
 
 module _ {K R : Type 0} (o : Kit K R) (ms : Members) where

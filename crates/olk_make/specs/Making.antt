@@ -7,10 +7,10 @@ use Rattle.olk_spec.specs.Schemas.{listed}
 use Rattle.olk_spec.specs.Malformed.{has_repeat}
 use Rattle.olk_base.specs.Kit.{Kit}
 use Rattle.olk_tree.specs.declared.node.KeywordOver.{KeywordOver}
-use Rattle.olk_members.specs.Plans.{Planned, plan_of, head, claims}
-use Rattle.olk_members.specs.Members.{member_child, StandsAlone}
+use Rattle.olk_meaning.specs.Plans.{Planned, plan_of, head, claims}
+use Rattle.olk_meaning.specs.Members.{member_child, StandsAlone}
 use Rattle.olk_make.specs.Holding.{which, all_malformed, show, all_formed, Holds, Covers}
-use Rattle.olk_members.specs.Conditions.{is_condition, known_of}
+use Rattle.olk_meaning.specs.Conditions.{is_condition, known_of}
 use Rattle.olk_tree.specs.Answers.{Answers}
 use Rattle.olk_tree.specs.Places.{Stands}
 use Rattle.olk_read.specs.Reading.{reads_of, IsShape, Fits}

@@ -18,8 +18,8 @@ use Rattle.olk_make.specs.declared.part.Cases.{Cases}
 use Rattle.olk_make.specs.declared.part.Patterns.{Patterns}
 use Rattle.olk_make.specs.declared.part.Beside.{Beside}
 use Rattle.olk_make.specs.declared.part.Taken.{Taken}
-use Rattle.olk_members.specs.Conditions.{Known}
-use Rattle.olk_members.specs.Plans.{Planned, is_case, tells_members}
+use Rattle.olk_meaning.specs.Conditions.{Known}
+use Rattle.olk_meaning.specs.Plans.{Planned, is_case, tells_members}
 use Rattle.olk_read.specs.Patterns.{ArePatterns, IsPattern}
 use Rattle.olk_read.specs.Reading.{reads_of, IsShape, Fits}
 use Rattle.olk_read.specs.declared.shape.Shape.{Shape}

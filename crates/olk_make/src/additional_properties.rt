@@ -2,14 +2,14 @@
 ghost use Rattle.std.specs.Prelude.{◌∷◌, [], IfOk, is_some, length, zip, option_map};
 ghost use Rattle.olk_base.specs.Kit.{kit};
 ghost use Rattle.olk_make.specs.Forms.{IsBoxed, IsMapOf, IsRequiredName, IsFormOfAdditionalProperties, IsAdditionalProperties};
-ghost use Rattle.olk_members.specs.Plans.{planned};
+ghost use Rattle.olk_meaning.specs.Plans.{planned};
 ghost use Rattle.olk_make.specs.Making.{MakesRestriction};
 
 use crate::part::Beside;
 use crate::pattern_properties::with_nodes;
 use crate::properties::map_of;
 use olk_base::{Leaf, RegexEngine};
-use olk_members::Plan;
+use olk_meaning::Plan;
 use olk_paths::Location;
 use olk_tree::additional_properties::{AdditionalProperties, RequiredName};
 use olk_tree::map::SmallMap;

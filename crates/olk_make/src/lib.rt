@@ -1,7 +1,7 @@
 //! Making the validators of a schema object from its parts: the last of three steps of building.
 //!
 //! Here alone a validator takes what its neighbours' parts hold; nothing recurs, and only memory
-//! fails. Stands on `olk_read`. Tested by `olk_tests` through building.
+//! fails. Stands on `olk_read`. Tested by `object_logic_tests` through building.
 #![tactic(auto)]
 
 pub mod additional_properties;

@@ -5,8 +5,8 @@ ghost use Rattle.serde_json.specs.Data.{Data};
 ghost use Rattle.olk_spec.specs.Names.{Name, Path};
 ghost use Rattle.olk_spec.specs.Schemas.{listed};
 ghost use Rattle.olk_base.specs.Kit.{kit};
-ghost use Rattle.olk_members.specs.Conditions.{Known, known_of};
-ghost use Rattle.olk_members.specs.Plans.{planned};
+ghost use Rattle.olk_meaning.specs.Conditions.{Known, known_of};
+ghost use Rattle.olk_meaning.specs.Plans.{planned};
 ghost use Rattle.olk_make.specs.Standing.{is_if_shape, is_restriction_shape, Takes, PartsStand, AreTaken};
 ghost use Rattle.olk_make.specs.Making.{MakesPart, ObjectIsMade};
 
@@ -16,7 +16,7 @@ use crate::{
     properties, property_dependencies, property_names, required,
 };
 use olk_base::{Leaf, RegexEngine, append};
-use olk_members::Plan;
+use olk_meaning::Plan;
 use olk_paths::Location;
 use olk_read::Shape;
 use olk_tree::map::SmallMap;

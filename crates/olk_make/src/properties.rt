@@ -4,12 +4,12 @@ ghost use Rattle.olk_base.specs.Kit.{kit};
 ghost use Rattle.olk_tree.specs.Maps.{names_in, nodes_in};
 ghost use Rattle.olk_tree.specs.Ascending.{Ascend};
 ghost use Rattle.olk_make.specs.Forms.{IsMapFor, IsFormOfProperties, IsProperties};
-ghost use Rattle.olk_members.specs.Plans.{planned};
+ghost use Rattle.olk_meaning.specs.Plans.{planned};
 ghost use Rattle.olk_make.specs.Making.{MakesClaims};
 ghost use Rattle.olk_read.specs.declared.shape.Shape.TheVariants as shape;
 
 use olk_base::{Leaf, RegexEngine};
-use olk_members::Plan;
+use olk_meaning::Plan;
 use olk_paths::Location;
 use olk_spec::HASHMAP_THRESHOLD;
 use olk_tree::big_map::BigMap;
@@ -43,9 +43,9 @@ fn form<K, R, N: Drop>(
     nodes: Vec<N>,
 ) -> Result<KeywordOver<K, R, N>, AllocError>
     ensures { IfOk result (IsFormOfProperties place.now location names nodes.items
-        (planned plan.entry).fused) }
+        (planned plan.entry).fused_pair) }
 {
-    let Some((first, second)) = plan.fused() else {
+    let Some((first, second)) = plan.fused_pair() else {
         let properties = map_of(names, nodes);
         return Ok(KeywordOver::Properties(Properties {
             properties,
@@ -82,7 +82,7 @@ pub fn make<K: Leaf, R: RegexEngine, N: Place<K, R>>(
     nodes: Vec<N>,
 ) -> Result<KeywordOver<K, R, N>, AllocError>
     ensures form { IfOk result (IsProperties place.now location (length names)
-        (planned plan.entry).fused) }
+        (planned plan.entry).fused_pair) }
     ensures makes { IfOk result (λ k. MakesClaims (kit K.Leaf R.RegexEngine) N.answers
         (shape.Properties names) location nodes.items place.now (planned plan.entry) (k ∷ [])) }
 {

@@ -2,12 +2,12 @@
 ghost use Rattle.std.specs.Prelude.{option_to_list};
 ghost use Rattle.olk_spec.specs.Names.{Path};
 ghost use Rattle.olk_base.specs.Kit.{kit};
-ghost use Rattle.olk_members.specs.Plans.{planned};
+ghost use Rattle.olk_meaning.specs.Plans.{planned};
 ghost use Rattle.olk_make.specs.Making.{MakesClaims};
 ghost use Rattle.olk_read.specs.declared.shape.Shape.TheVariants as shape;
 
 use olk_base::{Leaf, RegexEngine};
-use olk_members::Plan;
+use olk_meaning::Plan;
 use olk_paths::Location;
 use olk_tree::node::KeywordOver;
 use olk_tree::place::Place;

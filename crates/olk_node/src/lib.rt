@@ -1,6 +1,6 @@
 //! Places of a schema, and what can be asked of them: the one recursive type.
 //!
-//! Stands on `olk_errors` and `olk_evaluate`. Tested by `olk_tests` through building.
+//! Stands on `olk_errors` and `olk_evaluate`. Tested by `object_logic_tests` through building.
 #![tactic(auto)]
 
 pub mod errors;

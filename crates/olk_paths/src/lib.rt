@@ -1,6 +1,6 @@
 //! Where a value stands in an instance, and where a keyword stands in a schema.
 //!
-//! Stands on `olk_spec`. Tested by `olk_low_tests`, and by the files of `olk_cli`.
+//! Stands on `olk_spec`. Tested by `olk_base_tests`, and by the files of `olk_cli`.
 #![tactic(auto)]
 
 mod path;

@@ -16,9 +16,9 @@ use Rattle.olk_base.specs.Kit.{Kit}
 use Rattle.olk_base.specs.declared.pattern.CompiledPattern.{CompiledPattern}
 use Rattle.olk_reports.specs.declared.error.BuildError.{BuildError}
 use Rattle.olk_reports.specs.declared.error.BuildError.TheVariants.{Memory}
-use Rattle.olk_members.specs.Conditions.{Known}
-use Rattle.olk_members.specs.PatternProperties.{open_names, pattern_faults, matchers_made, names_asked}
-use Rattle.olk_members.proofs.PatternProperties.{made_together}
+use Rattle.olk_meaning.specs.Conditions.{Known}
+use Rattle.olk_meaning.specs.PatternProperties.{open_names, pattern_faults, matchers_made, names_asked}
+use Rattle.olk_meaning.proofs.PatternProperties.{made_together}
 use Rattle.olk_tree.specs.Tables.{Table, IsTableOf, how_many_cost, count_asks, AsksAtMost}
 use Rattle.olk_read.specs.Refusing.{Spends, SpendsWithin}
 use Rattle.olk_read.specs.Patterns.{ArePatterns, PatternsAreRead, RefusesPatterns}

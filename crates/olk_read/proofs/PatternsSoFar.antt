@@ -18,7 +18,7 @@ use Rattle.olk_base.specs.Kit.{Kit}
 use Rattle.olk_base.specs.declared.pattern.CompiledPattern.{CompiledPattern}
 use Rattle.olk_reports.specs.declared.error.BuildError.{BuildError}
 use Rattle.olk_reports.specs.declared.error.BuildError.TheVariants.{Memory}
-use Rattle.olk_members.specs.PatternProperties.{pattern_faults, matcher_made}
+use Rattle.olk_meaning.specs.PatternProperties.{pattern_faults, matcher_made}
 use Rattle.olk_read.specs.Refusing.{Spends, SpendsWithin, Refuses}
 use Rattle.olk_read.proofs.Spending.{spends_nothing, within_nothing, within_exactly}
 use Rattle.olk_read.specs.Patterns.{IsPattern, ArePatterns, PatternsAreRead, RefusesPatterns}

@@ -19,15 +19,15 @@ use Rattle.olk_base.proofs.CountLemmas.{raised_zero}
 use Rattle.olk_reports.specs.declared.error.BuildError.{BuildError}
 use Rattle.olk_reports.specs.declared.error.BuildError.TheVariants.{Memory}
 use Rattle.olk_base.specs.Kit.{Kit}
-use Rattle.olk_members.specs.PatternProperties.{pattern_faults}
-use Rattle.olk_members.proofs.PatternProperties.{pattern_properties_refusals, unbuilt_together}
+use Rattle.olk_meaning.specs.PatternProperties.{pattern_faults}
+use Rattle.olk_meaning.proofs.PatternProperties.{pattern_properties_refusals, unbuilt_together}
 use Rattle.olk_read.specs.Lists.{name_list_faults, list_faults, no_object_faults}
-use Rattle.olk_members.proofs.Dependencies.{dependent_required_refusals, dependencies_refusals}
-use Rattle.olk_members.proofs.PropertyDependencies.{property_dependencies_refusals}
+use Rattle.olk_meaning.proofs.Dependencies.{dependent_required_refusals, dependencies_refusals}
+use Rattle.olk_meaning.proofs.PropertyDependencies.{property_dependencies_refusals}
 use Rattle.olk_read.specs.Refusing.{Spends, TellsOneOf, Refuses}
-use Rattle.olk_members.specs.AdditionalProperties.{is_rule}
-use Rattle.olk_members.specs.Conditions.{is_conditional_name, Known}
-use Rattle.olk_members.proofs.AdditionalPlaces.{additional_refusals}
+use Rattle.olk_meaning.specs.AdditionalProperties.{is_rule}
+use Rattle.olk_meaning.specs.Conditions.{is_conditional_name, Known}
+use Rattle.olk_meaning.proofs.AdditionalPlaces.{additional_refusals}
 use Rattle.olk_read.specs.Reading.{IsOther, IsShape, Fits, IsRead, own_faults, own_cost_of}
 use Rattle.olk_read.specs.declared.shape.Shape.{Shape}
 use Rattle.olk_read.specs.declared.shape.Shape.TheVariants as shape

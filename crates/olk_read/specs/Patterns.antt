@@ -11,7 +11,7 @@ use Rattle.olk_base.specs.Kit.{Kit}
 use Rattle.olk_base.specs.Compiled.{pattern_answers, pattern_costs}
 use Rattle.olk_base.specs.declared.pattern.CompiledPattern.{CompiledPattern}
 use Rattle.olk_reports.specs.declared.error.BuildError.{BuildError}
-use Rattle.olk_members.specs.PatternProperties.{pattern_faults, matcher_made}
+use Rattle.olk_meaning.specs.PatternProperties.{pattern_faults, matcher_made}
 use Rattle.olk_read.specs.Refusing.{Spends, Refuses}
 
 module _ {K R : Type 0} (o : Kit K R) where

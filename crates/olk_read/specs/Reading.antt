@@ -12,10 +12,10 @@ use Rattle.olk_spec.specs.Costs.{Cost, no_cost, ◌⊕◌}
 use Rattle.olk_base.specs.Count.{Counts}
 use Rattle.olk_reports.specs.declared.error.BuildError.{BuildError}
 use Rattle.olk_base.specs.Kit.{Kit}
-use Rattle.olk_members.specs.Conditions.{is_conditional_name, Known}
-use Rattle.olk_members.specs.Dependencies.{are_lists}
+use Rattle.olk_meaning.specs.Conditions.{is_conditional_name, Known}
+use Rattle.olk_meaning.specs.Dependencies.{are_lists}
 use Rattle.olk_read.specs.Lists.{list_of, names_in, names_in_list, names_of}
-use Rattle.olk_members.specs.PatternProperties.{matchers_made, names_asked}
+use Rattle.olk_meaning.specs.PatternProperties.{matchers_made, names_asked}
 use Rattle.olk_tree.specs.Tables.{IsTableOf}
 use Rattle.olk_read.specs.Refusing.{Spends, Refuses}
 use Rattle.olk_read.specs.Patterns.{ArePatterns}

@@ -2,7 +2,7 @@
 //! of building.
 //!
 //! A value becomes a shape, or is refused; nothing here recurs. Stands on `olk_tree`. Tested by
-//! `olk_tests` through building.
+//! `object_logic_tests` through building.
 #![tactic(auto)]
 
 mod makers;

@@ -7,8 +7,8 @@ ghost use Rattle.olk_spec.specs.Faults.{fault, Regex};
 ghost use Rattle.olk_spec.specs.Schemas.{listed};
 ghost use Rattle.olk_paths.specs.Paths.{one_below};
 ghost use Rattle.olk_base.specs.Kit.{kit, world};
-ghost use Rattle.olk_members.specs.PatternProperties.{pattern_faults, matcher_made};
-ghost use Rattle.olk_members.specs.Conditions.{known};
+ghost use Rattle.olk_meaning.specs.PatternProperties.{pattern_faults, matcher_made};
+ghost use Rattle.olk_meaning.specs.Conditions.{known};
 ghost use Rattle.olk_tree.specs.Tables.{IsTableOf, how_many_cost, count_asks, AsksAtMost};
 ghost use Rattle.olk_read.specs.Refusing.{TellsOneOf, Spends, Refuses};
 ghost use Rattle.olk_read.specs.Patterns.{IsPattern, PatternsAreRead, RefusesPatterns};
@@ -18,7 +18,7 @@ use olk_base::{
     CompiledPattern, MakeError, MakeLeaf, MakeRegex, Meter, Node, RegexEngine, append,
     compile_pattern,
 };
-use olk_members::Neighbours;
+use olk_meaning::Neighbours;
 use olk_paths::Location;
 use olk_reports::{BuildError, ValidationError, ValidationErrorKind};
 use olk_tree::pattern_table::{PatternTable, precompute_property_pattern_indices};

@@ -1,6 +1,6 @@
 //! What is wrong with a value, and what an evaluation shows of it.
 //!
-//! Stands on `olk_base` and `olk_paths`. Tested by `olk_low_tests`.
+//! Stands on `olk_base` and `olk_paths`. Tested by `olk_base_tests`.
 #![tactic(auto)]
 
 mod entry;

@@ -7,7 +7,7 @@ use Rattle.std.specs.declared.cmp.Ordering.{Ordering}
 use Rattle.std.specs.declared.cmp.Ordering.TheVariants.{Less, Equal, Greater}
 use Rattle.std.proofs.Common.{refl, sym, ap, ◌∙◌, subst, arith}
 use Rattle.std.proofs.lemmas.Map.Text.{is_eq-slice_cmp}
-use Rattle.olk_members.proofs.PropertyNames.{false_is_no_object, object_is_not_false}
+use Rattle.olk_meaning.proofs.PropertyNames.{false_is_no_object, object_is_not_false}
 use mathlib.Core.Bool.{true≢false}
 use Rattle.serde_json.specs.Data.{Data}
 use Rattle.olk_spec.specs.Names.{Name, Path, ◌//◌, lookup_name, first_if_equal, put_if, is_empty}
@@ -21,7 +21,7 @@ use Rattle.olk_spec.proofs.Walks.{same_name}
 use Rattle.olk_base.specs.Kit.{Kit}
 use Rattle.olk_base.specs.Compiled.{pattern_answers}
 use Rattle.olk_base.specs.declared.pattern.CompiledPattern.{CompiledPattern}
-use Rattle.olk_members.specs.AdditionalProperties.{is_declared_in, declared_at, matching_at, is_other}
+use Rattle.olk_meaning.specs.AdditionalProperties.{is_declared_in, declared_at, matching_at, is_other}
 use Rattle.olk_tree.specs.Questions.{Question}
 use Rattle.olk_tree.specs.Additional.{Sides, known_at, known_or, is_matched_by, matching_from, at_name, nodes_matching, is_additional, others_asked, nodes_asked}
 use Rattle.olk_tree.specs.Sides.{AnswersAs, EntriesAnswer, PatternsAnswer, RestAnswers, SidesStand}

@@ -5,7 +5,7 @@ use Rattle.std.proofs.Common.{refl, sym, ap, ◌∙◌}
 use Rattle.std.proofs.lemmas.Grind.{flat_map-append}
 use Rattle.std.proofs.lemmas.List.{append_assoc, append-nil, map-append}
 use Rattle.std.proofs.lemmas.List.Folds.{list_all-append, list_all-map}
-use Rattle.olk_members.proofs.PropertyNames.{false_is_no_object}
+use Rattle.olk_meaning.proofs.PropertyNames.{false_is_no_object}
 use mathlib.Core.Bool.{true≢false}
 use Rattle.serde_json.specs.Data.{Data, null, boolean, number, string, array, object, Members}
 use Rattle.olk_spec.specs.Names.{Name, Path, ◌//◌, filter_once, put_if, is_empty}
@@ -18,7 +18,7 @@ use Rattle.olk_spec.specs.Tree.{Tree, node, no_tree, described, result}
 use Rattle.olk_spec.proofs.Maps.{flat_map-map, map-map}
 use Rattle.olk_spec.proofs.Order.{∼_append, ∼_same, ∼_flat_map_any}
 use Rattle.olk_base.specs.Kit.{Kit}
-use Rattle.olk_members.specs.AdditionalProperties.{declared_at, matching_at, is_other, other_members, declared_accepts, matching_accept, each_accepts, declared_report, matching_report, rest_report, each_report, others_report, each_shown, names_matched, other_names, declared_beside, patterns_beside, declares_beside, matches_beside, required_child, restriction_shown}
+use Rattle.olk_meaning.specs.AdditionalProperties.{declared_at, matching_at, is_other, other_members, declared_accepts, matching_accept, each_accepts, declared_report, matching_report, rest_report, each_report, others_report, each_shown, names_matched, other_names, declared_beside, patterns_beside, declares_beside, matches_beside, required_child, restriction_shown}
 use Rattle.olk_tree.specs.Questions.{Question, every}
 use Rattle.olk_tree.specs.Additional.{Sides, nodes_asked, is_unexpected, unexpected, member_means, means_in_turn, member_report, report_in_turn, additional_names, matched_names, additional_tree}
 use Rattle.olk_tree.specs.AdditionalAgreement.{member_accepted}

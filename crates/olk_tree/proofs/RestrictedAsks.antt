@@ -3,7 +3,7 @@ use Rattle.std.specs.Prelude.{◌≡◌, ◌≤◌, ℕ, ◌+◌, Bool, true, fa
 use Rattle.std.specs.Option.{option_map_or}
 use Rattle.std.proofs.Common.{refl, sym, ap, ◌∙◌, arith}
 use Rattle.std.proofs.lemmas.List.Sums.{sum_by-cons, sum_by-append}
-use Rattle.olk_members.proofs.Objects.{sum_by-map}
+use Rattle.olk_meaning.proofs.Objects.{sum_by-map}
 use Rattle.serde_json.specs.Data.{Data}
 use Rattle.olk_spec.specs.Names.{Name, Text, Path, ◌//◌, put_if, is_empty}
 use Rattle.olk_spec.specs.World.{World, Says, matched, unmatched, unfinished, is_unfinished}
@@ -16,7 +16,7 @@ use Rattle.olk_spec.specs.Tree.{Tree}
 use Rattle.olk_base.specs.Kit.{Kit}
 use Rattle.olk_base.specs.Compiled.{pattern_answers, pattern_costs}
 use Rattle.olk_base.specs.declared.pattern.CompiledPattern.{CompiledPattern}
-use Rattle.olk_members.specs.AdditionalProperties.{declared_at, matching_at, is_other, open_among, patterns_asked, declared_asks, matching_asks, rest_asks, each_asks}
+use Rattle.olk_meaning.specs.AdditionalProperties.{declared_at, matching_at, is_other, open_among, patterns_asked, declared_asks, matching_asks, rest_asks, each_asks}
 use Rattle.olk_tree.specs.Questions.{Question, said_to, every}
 use Rattle.olk_tree.specs.Additional.{Sides, known_at, known_or_asked, is_matched_by, matching_from, at_name, nodes_asked, rest_means, patterns_mean_from, member_means_at, member_means, means_in_turn}
 use Rattle.olk_tree.specs.AdditionalAgreement.{match_is_said}

@@ -17,13 +17,13 @@ use Rattle.olk_spec.specs.Tree.{Tree}
 use Rattle.olk_spec.specs.Trees.{fuses_one}
 use Rattle.olk_spec.proofs.Order.{∼_append, ∼_behind, ∼_same, ∼_sym}
 use Rattle.olk_base.specs.Kit.{Kit}
-use Rattle.olk_members.specs.AdditionalProperties.{required_beside, has_beside, required_child}
-use Rattle.olk_members.specs.Conditions.{is_restricted}
-use Rattle.olk_members.specs.Fused.{fused_name}
-use Rattle.olk_members.specs.Members.{member_accepts, member_asks, member_report, member_child}
-use Rattle.olk_members.specs.Plans.{plan_of, head, claims}
-use Rattle.olk_members.proofs.Restriction.{claims_accept, claims_accept_each, claims_find, claims_find_each, claims_ask, claims_ask_each}
-use Rattle.olk_members.proofs.RestrictionShown.{additional_shows}
+use Rattle.olk_meaning.specs.AdditionalProperties.{required_beside, has_beside, required_child}
+use Rattle.olk_meaning.specs.Conditions.{is_restricted}
+use Rattle.olk_meaning.specs.Fused.{fused_one}
+use Rattle.olk_meaning.specs.Members.{member_accepts, member_asks, member_report, member_child}
+use Rattle.olk_meaning.specs.Plans.{plan_of, head, claims}
+use Rattle.olk_meaning.proofs.Restriction.{claims_accept, claims_accept_each, claims_find, claims_find_each, claims_ask, claims_ask_each}
+use Rattle.olk_meaning.proofs.RestrictionShown.{additional_shows}
 use Rattle.olk_tree.specs.Questions.{Question}
 use Rattle.olk_tree.specs.Additional.{Sides, repeats, means_in_turn, named_means, report_in_turn, named_report, additional_tree, sides_of, has_neighbours, required_text, required_place, lacks}
 use Rattle.olk_tree.specs.Validators.{answers_of, validator_means, validator_report, validator_tree}
@@ -107,7 +107,7 @@ module _ {K R N : Type 0} (o : Kit K R) (m : N → Data → Question) (r : N →
         by false q = like_through (∼_behind (required_faults (required_beside ms) v (P // codes "required") Q) (restricted_finds o m r t h.sides u (has_beside ms) v Q)) (∼_sym (claims_find_each o.world ms d distinct there restricted u v P Q h.declared_once q))
 
     -- and it shows the child of `additionalProperties`
-    pub restriction_shows : (u : Bool) (v : Data) (Q : Path) → fuses_one (read_members (meaning_step o.world u) ms) ≡ is_some (fused_name ms) → validator_tree o m t u (keyword.AdditionalProperties k) v Q ∷ [] ≡ member_child o.world ms (codes "additionalProperties", d) additional_properties u v P Q
+    pub restriction_shows : (u : Bool) (v : Data) (Q : Path) → fuses_one (read_members (meaning_step o.world u) ms) ≡ is_some (fused_one ms) → validator_tree o m t u (keyword.AdditionalProperties k) v Q ∷ [] ≡ member_child o.world ms (codes "additionalProperties", d) additional_properties u v P Q
     unfolding answers_of
     restriction_shows u v Q fused = ap (λ x. x ∷ [])
         (patterns_placed o.answers (sides_of k.value) u v Q (is_some k.value.properties) (is_some k.value.patterns) k.value.location (λ n. t n u) (missing_trees (required_text k.value.required) v (required_place k.value.required) Q) h.patterns_place

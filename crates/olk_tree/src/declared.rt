@@ -7,7 +7,7 @@ ghost use Rattle.olk_tree.specs.Visited.{members_declared, names_met, Yields, le
 
 use crate::map::SortedNames;
 use crate::validators_map::node_from;
-use olk_members::member;
+use olk_meaning::member;
 use serde_json::{Map, Value};
 use std::collections::btree_map::Iter;
 use std::iter::Zip;

@@ -1,8 +1,8 @@
 //! Validators, and what they hold: what they mean and what they report, over the nodes that they
 //! are generic in.
 //!
-//! `Place` is a node as building knows it. Stands on `olk_paths` and `olk_members`. Tested by
-//! `olk_tests`.
+//! `Place` is a node as building knows it. Stands on `olk_paths` and `olk_meaning`. Tested by
+//! `object_logic_tests`.
 #![tactic(auto)]
 
 pub mod additional_properties;

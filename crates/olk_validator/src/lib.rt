@@ -1,7 +1,7 @@
 //! `Validator`: building a schema, and four ways of asking it; all that a request needs.
 //!
 //! Stands on `olk_build` and `olk_node`, and re-exports what is below; `object_logic` adds the
-//! modules of the keywords. Tested by `olk_tests`.
+//! modules of the keywords. Tested by `object_logic_tests`.
 //!
 //! `AllOfValidator` and its like hold nodes of the type `SchemaNode`; `AllOf` and its like are the
 //! same over nodes of any type. `PropertiesMap` holds `SchemaNode`s too, and the one over nodes of

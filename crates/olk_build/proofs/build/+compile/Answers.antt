@@ -2,7 +2,7 @@ use borrow.Author.Count.{falls}
 use Rattle.std.proofs.lemmas.Result.{IfOk-from_err}
 use Rattle.olk_build.proofs.Places.{no_object_no_members, no_array_no_items, nothing_is_built, no_entry_is_built, no_schema_entry_is_built, no_inner_entry_is_built, no_branch_is_built, itself_is_built, itself_is_refused, itself_lost, entries_are_built, schema_entries_are_built, inner_entries_are_built, branches_are_built}
 use Rattle.std.proofs.Common.{IfErr, rules, true, false, inl, inr, ◌+◌, ◌++◌, [], ◌∷◌, map, string_bytes, decimal, refl, sym, ap, subst, ◌∙◌}
-use Rattle.olk_members.specs.Conditions.{known}
+use Rattle.olk_meaning.specs.Conditions.{known}
 use mathlib.Core.Path.{subst₂}
 use Rattle.std.proofs.lemmas.List.{append-nil, append_assoc}
 use Rattle.serde_json.specs.Data.{Data}
@@ -16,7 +16,7 @@ use Rattle.olk_spec.specs.Schemas.{members, listed, numbered}
 use Rattle.olk_spec.specs.Faults.{fault}
 use Rattle.olk_reports.proofs.Errors.{kind_of_multiple_types}
 use Rattle.olk_base.specs.Kit.{kit, world}
-use Rattle.olk_members.specs.Members.{member_malformations, member_cost}
+use Rattle.olk_meaning.specs.Members.{member_malformations, member_cost}
 use Rattle.olk_build.specs.Building.{AreBuilt, RefusesEach, RefusesPart, entries_read, all_cost}
 use Rattle.olk_read.specs.Refusing.{Refuses, TellsOneOf}
 use Rattle.olk_make.specs.Holding.{all_malformed}
@@ -25,7 +25,7 @@ use Rattle.olk_build.specs.Placing.{RefusesPlaces, places_malformed, places_cost
 use Rattle.olk_read.proofs.Spending.{exit, refuses_among, memory_among, refuses_memory, within_nothing, within_exactly}
 use Rattle.olk_spec.proofs.Maps.{items_list-view}
 use Rattle.olk_build.proofs.Built.{EntriesSoFar, branches_from, next_branch, no_branch, no_entries, entries_built, entries_memory, entry_refused, entry_memory, one_more_entry, no_inner, inner_built, inner_memory, inner_refused, more_inner_memory, one_more_inner, at_an_entry, past_an_entry, none_is_read, built_truth, built_object, refuses_object, refuses_no_schema}
-use Rattle.olk_members.proofs.Objects.{no_schema_is}
+use Rattle.olk_meaning.proofs.Objects.{no_schema_is}
 use Rattle.olk_build.proofs.Parts.{known_there, refuses_part_own, refuses_part_inside, part_is_built, no_parts, one_more_part}
 use Rattle.olk_build.proofs.build.+compile.Goals as goal
 

@@ -1,7 +1,7 @@
 use Rattle.std.proofs.Common.{◌≡◌, ◌<◌, [], ◌∷◌, length, not, None, sym, ap, subst, ◌∙◌, option_copied, arith}
 use Rattle.serde_json.specs.View.{members_view}
 use Rattle.olk_spec.specs.Schemas.{listed}
-use Rattle.olk_members.proofs.Listed.{listed_length}
+use Rattle.olk_meaning.proofs.Listed.{listed_length}
 use Rattle.olk_spec.specs.Names.{is_empty}
 use Rattle.olk_spec.specs.Accepts.{missing}
 use Rattle.std.specs.List.{zip}

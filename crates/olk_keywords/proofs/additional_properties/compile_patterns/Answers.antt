@@ -4,7 +4,7 @@ use Rattle.std.proofs.lemmas.Result.{IfOk-from_err}
 use Rattle.serde_json.specs.View.{view, members_view}
 use Rattle.olk_spec.specs.Names.{◌//◌}
 use Rattle.olk_base.specs.Kit.{kit}
-use Rattle.olk_members.specs.Conditions.{known_of}
+use Rattle.olk_meaning.specs.Conditions.{known_of}
 use Rattle.olk_read.proofs.Spending.{exit}
 use Rattle.olk_build.specs.Building.{RefusesPart}
 use Rattle.olk_keywords.proofs.Together.{no_neighbour, neighbour_refused}

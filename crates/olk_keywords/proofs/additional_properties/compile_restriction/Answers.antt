@@ -4,8 +4,8 @@ use Rattle.std.proofs.Common.{rules, [], ◌∷◌, refl, sym, ◌∙◌, subst}
 use mathlib.Core.Path.{subst₂}
 use Rattle.serde_json.specs.View.{view, members_view}
 use Rattle.olk_spec.specs.Names.{◌//◌}
-use Rattle.olk_members.specs.Conditions.{known_of}
-use Rattle.olk_members.specs.Plans.{planned}
+use Rattle.olk_meaning.specs.Conditions.{known_of}
+use Rattle.olk_meaning.specs.Plans.{planned}
 use Rattle.olk_make.specs.Forms.{IsAdditionalProperties}
 use Rattle.olk_make.specs.Making.{MakesRestriction}
 use Rattle.olk_make.specs.Standing.{DeclaredStand, PatternsStand}

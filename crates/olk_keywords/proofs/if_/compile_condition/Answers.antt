@@ -3,7 +3,7 @@ use Rattle.std.proofs.Common.{rules, [], ◌∷◌, codes, refl, sym, ◌∙◌,
 use mathlib.Core.Path.{subst₂}
 use Rattle.serde_json.specs.View.{view, members_view}
 use Rattle.olk_spec.specs.Names.{◌//◌}
-use Rattle.olk_members.specs.Conditions.{known_of}
+use Rattle.olk_meaning.specs.Conditions.{known_of}
 use Rattle.olk_build.specs.Building.{RefusesPart}
 use Rattle.olk_keywords.specs.Conditions.{CaseIsBuilt}
 use Rattle.olk_keywords.proofs.Conditions.{RefusesCase, if_without_node, if_refused, then_refused, else_refused, if_is_formed, condition_is_built}

@@ -2,7 +2,7 @@ use Rattle.std.specs.Prelude.{codes, length}
 use Rattle.std.proofs.Common.{[], ◌∷◌, refl, subst, rules}
 use Rattle.serde_json.specs.View.{view, members_view}
 use Rattle.olk_base.specs.Kit.{kit}
-use Rattle.olk_members.specs.Plans.{planned}
+use Rattle.olk_meaning.specs.Plans.{planned}
 use Rattle.olk_make.specs.Forms.{IsProperties}
 use Rattle.olk_make.specs.Making.{MakesClaims}
 use Rattle.olk_read.specs.declared.shape.Shape.TheVariants as shape
@@ -16,7 +16,7 @@ pub returns-in-Ok-make-clause-gives : goal.returns-in-Ok-make-clause-gives
 returns-in-Ok-make-clause-gives g c = (properties_built (kit g.L.Leaf.Leaf g.M.Engine.RegexEngine) g.N.Place.answers c.in-Ok.part _ (view c.args.schema.now) _ _ _ c.in-Ok.ensures.built c.in-Properties.names c.in-Properties.is (members_view c.args.parent.now.entries) (planned c.of-plan.result) c.of-plan.ensures.plan (search rules) (c.in-Ok-make.keyword ∷ []) (subst (λ P. MakesClaims (kit g.L.Leaf.Leaf g.M.Engine.RegexEngine) g.N.Place.answers (shape.Properties c.in-Properties.names) c.in-Ok.part.location c.in-Ok.part.nodes.items P (planned c.of-plan.result) (c.in-Ok-make.keyword ∷ [])) c.compile_member.ensures.place c.in-Ok-make.ensures.makes) c.of-plan.ensures.distinct, tt)
 
 pub returns-in-Ok-make-clause-form : goal.returns-in-Ok-make-clause-form
-returns-in-Ok-make-clause-form g c = properties_is_formed (kit g.L.Leaf.Leaf g.M.Engine.RegexEngine) g.N.Place.answers c.in-Ok.part _ (view c.args.schema.now) _ _ _ c.in-Ok.ensures.built c.in-Properties.names c.in-Properties.is (members_view c.args.parent.now.entries) (planned c.of-plan.result) c.of-plan.ensures.plan (search rules) c.in-Ok-make.keyword (subst (λ P. IsProperties P c.in-Ok.part.location (length c.in-Properties.names) (planned c.of-plan.result).fused c.in-Ok-make.keyword) c.compile_member.ensures.place c.in-Ok-make.ensures.form)
+returns-in-Ok-make-clause-form g c = properties_is_formed (kit g.L.Leaf.Leaf g.M.Engine.RegexEngine) g.N.Place.answers c.in-Ok.part _ (view c.args.schema.now) _ _ _ c.in-Ok.ensures.built c.in-Properties.names c.in-Properties.is (members_view c.args.parent.now.entries) (planned c.of-plan.result) c.of-plan.ensures.plan (search rules) c.in-Ok-make.keyword (subst (λ P. IsProperties P c.in-Ok.part.location (length c.in-Properties.names) (planned c.of-plan.result).fused_pair c.in-Ok-make.keyword) c.compile_member.ensures.place c.in-Ok-make.ensures.form)
 
 pub returns-in-Err-make-clause-gives : goal.returns-in-Err-make-clause-gives
 returns-in-Err-make-clause-gives g c = (tt, properties_memory (kit g.L.Leaf.Leaf g.M.Engine.RegexEngine) g.N.Place.answers c.in-Ok.part _ (view c.args.schema.now) _ _ _ c.in-Ok.ensures.built _ c.in-Err-make.error refl)

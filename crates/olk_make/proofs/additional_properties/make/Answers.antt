@@ -1,6 +1,6 @@
 use Rattle.std.proofs.lemmas.Result.{IfOk-weaker}
 use Rattle.olk_base.specs.Kit.{kit}
-use Rattle.olk_members.specs.Plans.{planned}
+use Rattle.olk_meaning.specs.Plans.{planned}
 use Rattle.olk_make.proofs.AdditionalProperties.{makes_restriction, is_additional_properties}
 use Rattle.olk_make.proofs.additional_properties.make.Goals as goal
 

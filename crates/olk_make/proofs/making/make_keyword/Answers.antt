@@ -1,5 +1,5 @@
 use Rattle.olk_base.specs.Kit.{kit}
-use Rattle.olk_members.specs.Plans.{planned}
+use Rattle.olk_meaning.specs.Plans.{planned}
 use Rattle.std.proofs.Common.{[], ◌∷◌, Some, None, inl, inr, refl, sym, subst, option_to_list}
 use Rattle.olk_read.specs.declared.shape.Shape.TheVariants.{NoNames, DependentRequired}
 use Rattle.olk_make.specs.Making.{MakesClaims, MakesCondition, MakesRestriction, MakesPart}

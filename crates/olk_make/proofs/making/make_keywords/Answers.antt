@@ -3,8 +3,8 @@ use Rattle.std.proofs.Common.{[], ◌∷◌, length, sym, ◌∙◌, ap, subst, 
 use Rattle.std.proofs.lemmas.List.{append-nil, nil_from_length}
 use Rattle.serde_json.specs.View.{members_view}
 use Rattle.olk_spec.specs.Schemas.{listed}
-use Rattle.olk_members.specs.Conditions.{known_of}
-use Rattle.olk_members.specs.Plans.{planned, plan_of}
+use Rattle.olk_meaning.specs.Conditions.{known_of}
+use Rattle.olk_meaning.specs.Plans.{planned, plan_of}
 use Rattle.olk_make.specs.Standing.{untaken, PartsStand, AreTaken}
 use Rattle.olk_make.specs.Making.{MakesPart}
 use Rattle.olk_make.proofs.Taking.{cases_stand, beside_stands}

@@ -1,7 +1,7 @@
 use Rattle.std.proofs.Common.{length, sym, ◌∙◌, ap, subst, Some, None, arith, rules}
 use Rattle.std.proofs.lemmas.List.{append-nil, nil_from_length}
 use Rattle.olk_base.specs.Kit.{kit}
-use Rattle.olk_members.specs.Plans.{planned}
+use Rattle.olk_meaning.specs.Plans.{planned}
 use Rattle.olk_make.specs.Standing.{PartsStand}
 use Rattle.olk_make.proofs.Taking.{nothing_to_take, none_taken, one_more_taken, all_taken}
 use Rattle.olk_make.proofs.making.take_all.Goals as goal

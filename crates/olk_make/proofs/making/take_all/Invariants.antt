@@ -2,8 +2,8 @@ use Rattle.std.proofs.Common.{length, ◌≡◌, List}
 use Rattle.serde_json.specs.Data.{Data}
 use Rattle.olk_spec.specs.Names.{Name, Path}
 use Rattle.olk_base.specs.Kit.{kit}
-use Rattle.olk_members.specs.Conditions.{Known}
-use Rattle.olk_members.specs.Plans.{planned}
+use Rattle.olk_meaning.specs.Conditions.{Known}
+use Rattle.olk_meaning.specs.Plans.{planned}
 use Rattle.olk_make.specs.Standing.{PartsStand}
 use Rattle.olk_make.proofs.Taking.{TakenSoFar}
 use Rattle.olk_make.proofs.making.take_all.Given as goal

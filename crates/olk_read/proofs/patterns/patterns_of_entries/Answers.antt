@@ -2,7 +2,7 @@ use Rattle.std.proofs.Common.{string_bytes, sym, ap, subst}
 use Rattle.serde_json.specs.View.{view, members_view}
 use Rattle.olk_spec.specs.Schemas.{listed}
 use Rattle.olk_base.specs.Kit.{kit, world}
-use Rattle.olk_members.specs.PatternProperties.{pattern_faults, matcher_made}
+use Rattle.olk_meaning.specs.PatternProperties.{pattern_faults, matcher_made}
 use Rattle.olk_read.specs.Refusing.{Refuses}
 use Rattle.olk_read.proofs.Spending.{exit, refuses_memory, within_nothing}
 use Rattle.olk_read.proofs.PatternsSoFar.{no_patterns, patterns_read, pattern_refused, one_more_pattern, pattern_memory}

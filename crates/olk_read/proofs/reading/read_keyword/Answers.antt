@@ -6,7 +6,7 @@ use Rattle.olk_read.specs.declared.shape.Shape.TheVariants as shape
 use Rattle.serde_json.specs.View.{view}
 use Rattle.olk_spec.specs.Faults.{fault}
 use Rattle.olk_reports.proofs.Errors.{kind_of_unsupported}
-use Rattle.olk_members.specs.Conditions.{known}
+use Rattle.olk_meaning.specs.Conditions.{known}
 use Rattle.olk_read.specs.Refusing.{TellsOneOf}
 use Rattle.olk_read.proofs.Spending.{exit}
 use Rattle.olk_read.proofs.Read.{conditional_is_read, others_are_read, own_not, right_properties, right_dependent_schemas, right_required, right_all_of, right_any_of, right_one_of, own_if, own_then, own_else, refuses_own, refuses_name, refuses_without_memory, is_read, right_dependent_required, right_dependencies, right_property_dependencies, names_are_read, own_properties, own_additional_properties, own_required, own_dependent_required, own_dependent_schemas, own_dependencies, own_property_dependencies, own_all_of, own_any_of, own_one_of}

@@ -2,7 +2,7 @@ use Rattle.std.proofs.Common.{refl, sym, ap, subst, codes}
 use Rattle.serde_json.specs.View.{view, members_view}
 use Rattle.olk_spec.specs.Schemas.{listed, members, is_object}
 use Rattle.olk_base.specs.Kit.{kit, world}
-use Rattle.olk_members.specs.Conditions.{known}
+use Rattle.olk_meaning.specs.Conditions.{known}
 use Rattle.olk_read.specs.Refusing.{TellsOneOf}
 use Rattle.olk_read.specs.Patterns.{PatternsAreRead, RefusesPatterns}
 use Rattle.olk_read.proofs.Spending.{exit, tells_left}

@@ -1,0 +1,123 @@
+-- What is wrong with `additionalProperties`, the places that it reads and what it costs; and that it means nothing where it allows every other member.
+use Rattle.std.specs.Prelude.{◌≡◌, Bool, true, false, not, cond, ◌||◌, List, [], ◌++◌, codes, Some, sum_by}
+use Rattle.std.specs.List.{list_all, flat_map}
+use Rattle.std.proofs.Common.{refl, sym, ◌∙◌, ap}
+use Rattle.std.proofs.lemmas.List.{append-nil}
+use mathlib.Core.Bool.{true≢false}
+use Rattle.serde_json.specs.Data.{Data, null, boolean, number, string, array, object, Members}
+use Rattle.olk_spec.specs.Names.{Name, Path, ◌//◌, down, put_if}
+use Rattle.olk_spec.specs.World.{World}
+use Rattle.olk_spec.specs.Vocabulary.{additional_properties}
+use Rattle.olk_spec.specs.Faults.{Fault, MultipleTypes}
+use Rattle.olk_spec.specs.Schemas.{Schema, Keywords, read, read_members, members, is_object, is_truth}
+use Rattle.olk_spec.specs.Meaning.{report, meaning, meaning_step}
+use Rattle.olk_spec.specs.Reports.{unexpected_faults}
+use Rattle.olk_spec.specs.Tree.{Tree}
+use Rattle.olk_spec.proofs.Walks.{neither}
+use Rattle.olk_spec.specs.Malformed.{own_refusals, read_places, places_where, itself, unless_kind, malformations_step, malformations_at}
+use Rattle.olk_spec.specs.Costs.{cost, cost_step, no_cost, total_cost}
+use Rattle.olk_spec.proofs.CostSums.{sum_first, sum_last}
+use Rattle.olk_spec.proofs.Reading.{place, whole_read, schema_of_read}
+use Rattle.olk_meaning.specs.Conditions.{is_restriction, is_restricted}
+use Rattle.olk_meaning.specs.Members.{member_asks, member_malformations, member_cost}
+use Rattle.olk_meaning.specs.AdditionalProperties.{is_rule, declared_beside, patterns_beside, has_beside, is_other, other_members, rest_accepts, rest_asks, rest_report, others_report}
+use Rattle.olk_meaning.proofs.AdditionalProperties.{each_passes, nothing_of_each, additional_accepts, additional_asks, additional_report}
+use Rattle.olk_meaning.proofs.Conditions.{MeansNothing, restricted_read}
+use Rattle.olk_meaning.proofs.Exchanged.{sum_of_none}
+
+module _ {X : Type 0} (step : Schema X → X) (d : Data) (k : Name) where
+  pub additional_refusals : (W : World) (L : Path) → own_refusals W k (read step d) L additional_properties ≡ unless_kind (is_rule d) MultipleTypes d L
+  additional_refusals W L = ap (λ s. unless_kind (is_rule s) MultipleTypes s L) (schema_of_read step d)
+
+  -- itself, where it is an object
+  pub additional_places : (S : Keywords X) → read_places k S (read step d) additional_properties ≡ places_where k (is_object d) (itself k (place step d))
+  additional_places S = λ i. places_where k (is_object (whole_read step d i).schema) (itself k (whole_read step d i))
+
+module _ (W : World) (ms : Members) (d : Data) where
+  pub additional_malformations : (P : Path) → member_malformations W ms (codes "additionalProperties", d) additional_properties P
+      ≡ unless_kind (is_rule d) MultipleTypes d (P // codes "additionalProperties") ++ cond (is_object d) (malformations_at W d (P // codes "additionalProperties")) []
+  unfolding malformations_at
+  additional_malformations P =
+      (λ i. additional_refusals (malformations_step W) d (codes "additionalProperties") W (P // codes "additionalProperties") i
+      ++ flat_map (λ r. r.0.answer (down P r.1)) (additional_places (malformations_step W) d (codes "additionalProperties") (read_members (malformations_step W) ms) i))
+      ∙ ap (λ fs. unless_kind (is_rule d) MultipleTypes d (P // codes "additionalProperties") ++ fs) (by (is_object d))
+    where
+      by : (b : Bool) → flat_map (λ r. r.0.answer (down P r.1)) (places_where (codes "additionalProperties") b (itself (codes "additionalProperties") (place (malformations_step W) d))) ≡ cond b (malformations_at W d (P // codes "additionalProperties")) []
+      by true = append-nil _
+      by false = refl
+
+  pub additional_cost : member_cost W ms (codes "additionalProperties", d) additional_properties ≡ cond (is_object d) (cost W d) no_cost
+  unfolding cost
+  additional_cost = sum_first _ ∙ ap (total_cost (λ r. r.0.answer)) (additional_places (cost_step W) d (codes "additionalProperties") (read_members (cost_step W) ms)) ∙ by (is_object d)
+    where
+      by : (b : Bool) → total_cost (λ r. r.0.answer) (places_where (codes "additionalProperties") b (itself (codes "additionalProperties") (place (cost_step W) d))) ≡ cond b (cost W d) no_cost
+      by true = sum_last _
+      by false = refl
+
+-- ---- where it allows every other member
+
+no_other_truth : {X : Type 0} (b : Bool) (x : X) → cond b x x ≡ x
+no_other_truth true x = refl
+no_other_truth false x = refl
+
+module _ (W : World) (ms : Members) (d : Data) (allows : is_restriction (Some d) ≡ false) where
+  module _ (u : Bool) (v : Data) where
+    abbrev fs : List (Name × Data)
+    fs = declared_beside ms
+
+    abbrev es : List (Name × Data)
+    es = patterns_beside ms
+
+    allowed : list_all (rest_accepts W u fs es d) (members v) ≡ true
+    unfolding meaning
+    allowed = by d allows
+      where
+        all : list_all (λ x. not (is_other W u fs es x.0) || true) (members v) ≡ true
+        all = sym (each_passes (λ x. is_other W u fs es x.0) (members v))
+
+        by : (d : Data) → is_restriction (Some d) ≡ false → list_all (rest_accepts W u fs es d) (members v) ≡ true
+        by (boolean true) e = all
+        by null e = all
+        by (number n) e = all
+        by (string s) e = all
+        by (array ds) e = all
+        by (boolean false) e = absurd (true≢false e)
+        by (object gs) e = absurd (true≢false e)
+
+    nothing_asked : sum_by (rest_asks W u fs es d) (members v) ≡ 0
+    unfolding meaning
+    nothing_asked = by d allows
+      where
+        none : sum_by (λ x. cond (is_other W u fs es x.0) 0 0) (members v) ≡ 0
+        none = (λ i. sum_by (λ (x : Name × Data). no_other_truth (is_other W u fs es x.0) 0 i) (members v)) ∙ sum_of_none (members v)
+
+        by : (d : Data) → is_restriction (Some d) ≡ false → sum_by (rest_asks W u fs es d) (members v) ≡ 0
+        by (boolean true) e = none
+        by null e = none
+        by (number n) e = none
+        by (string s) e = none
+        by (array ds) e = none
+        by (boolean false) e = absurd (true≢false e)
+        by (object gs) e = absurd (true≢false e)
+
+    pub allowing_asks_nothing : member_asks W ms (codes "additionalProperties", d) additional_properties u v ≡ 0
+    allowing_asks_nothing = additional_asks W ms d u v ∙ nothing_asked
+
+    nothing_found : (P Q : Path) → flat_map (rest_report W u fs es P Q d) (members v) ++ others_report W u fs es P Q (has_beside ms) d v ≡ []
+    nothing_found P Q =
+        let h = neither (is_truth false d) (is_object d) allows in
+        (λ i. flat_map (λ (x : Name × Data). cond (is_other W u fs es x.0) (cond (h.1 i) (report W u d x.1 (P // codes "additionalProperties") (Q // x.0)) []) []) (members v) ++ cond (h.0 i) (unexpected_faults (has_beside ms) (other_members W u fs es v) v (P // codes "additionalProperties") Q) [])
+        ∙ append-nil _
+        ∙ (λ i. flat_map (λ (x : Name × Data). no_other_truth {X = List Fault} (is_other W u fs es x.0) [] i) (members v))
+        ∙ nothing_of_each (members v)
+
+  -- it accepts everything, finds nothing and shows nothing
+  pub allowing_means_nothing : is_restricted ms ≡ false → MeansNothing W ms (codes "additionalProperties", d)
+  allowing_means_nothing free = record {
+    verdict = λ u v. additional_accepts W ms d u v ∙ allowed u v;
+    report = λ u v P Q. additional_report W ms d u v P Q ∙ nothing_found u v P Q;
+    child = λ u v P Q. shows_nothing _ _ (restricted_read (meaning_step W u) ms ∙ free);
+  }
+    where
+      shows_nothing : (b : Bool) (t : Tree) → b ≡ false → put_if b t [] ≡ []
+      shows_nothing b t e = ap (λ c. put_if c t []) e

@@ -1,0 +1,234 @@
+-- `if`, `then` and `else`, over the raw data of their values.
+use Rattle.std.specs.Prelude.{◌≡◌, ◌+◌, Bool, true, false, not, cond, ◌&&◌, ◌||◌, List, [], ◌∷◌, ◌++◌, map, codes, is_some, Option, Some, None, option_to_list, sum_by, bytes_eq}
+use Rattle.std.specs.List.{list_all, list_any, flat_map}
+use Rattle.std.proofs.Common.{refl, sym, ap, subst, ◌∙◌, ◌⊎◌, inl, inr, arith}
+use Rattle.std.proofs.lemmas.List.{append-nil}
+use Rattle.std.proofs.lemmas.List.Sums.{sum_by-cons}
+use Rattle.std.proofs.Math.Bool.{or-true, and-true, or-false}
+use mathlib.Core.Bool.{true≢false}
+use Rattle.serde_json.specs.Data.{Data, Members}
+use Rattle.olk_spec.specs.Names.{Name, Path, ◌//◌, down, lookup_name, put_if}
+use Rattle.olk_spec.specs.World.{World}
+use Rattle.olk_spec.specs.Vocabulary.{if_keyword, then_keyword, else_keyword, keyword_named}
+use Rattle.olk_spec.specs.Schemas.{Sub, Schema, Keywords, read, read_members, listed, wholes_at, is_object, is_truth}
+use Rattle.olk_spec.specs.Malformed.{read_places, places_where, itself}
+use Rattle.olk_spec.specs.Meanings.{Meaning, restricts, is_conditional, if_accepts, if_refuses, Asked, asked}
+use Rattle.olk_spec.specs.Meaning.{accepts, asks, report, tree, meaning, meaning_step}
+use Rattle.olk_spec.specs.Tree.{Tree, plain}
+use Rattle.olk_spec.specs.Trees.{case_trees}
+use Rattle.olk_spec.proofs.Walks.{same_name, neither}
+use Rattle.olk_spec.proofs.Reading.{place, lookup_listed, whole_read, is_present_read, wholes_there, wholes_absent, wholes_at_read}
+use Rattle.olk_meaning.specs.Members.{member_accepts, member_asks, member_report, member_child}
+use Rattle.olk_meaning.specs.Conditions.{is_condition, is_conditional_name, is_read_beside, is_restriction, is_restricted, Known, IsKnown}
+use Rattle.olk_meaning.proofs.Facts.{nothing_first, nothing_last}
+use Rattle.olk_meaning.proofs.TakenOver.{absent_if}
+
+-- ---- the three names
+
+pub conditional_named : (k : Name) → is_conditional_name k ≡ true → (k ≡ codes "if") ⊎ (k ≡ codes "then") ⊎ (k ≡ codes "else")
+conditional_named k e = by (bytes_eq k (codes "if")) (bytes_eq k (codes "then")) (bytes_eq k (codes "else")) refl refl refl e
+  where
+    by : (a b c : Bool) → bytes_eq k (codes "if") ≡ a → bytes_eq k (codes "then") ≡ b → bytes_eq k (codes "else") ≡ c → (a || (b || (c || false))) ≡ true → (k ≡ codes "if") ⊎ (k ≡ codes "then") ⊎ (k ≡ codes "else")
+    by true b c p q r h = inl (same_name k (codes "if") p)
+    by false true c p q r h = inr (inl (same_name k (codes "then") q))
+    by false false true p q r h = inr (inr (same_name k (codes "else") r))
+    by false false false p q r h = absurd (true≢false (sym h))
+
+-- the others need not know their neighbours
+pub known_alone : (c : Known) (ms : Members) (k : Name) → is_read_beside k ≡ false → IsKnown c ms k
+known_alone c ms k e =
+    let apart = neither (is_conditional_name k) (bytes_eq k (codes "patternProperties")) e in (
+      (λ q. absurd (true≢false (sym q ∙ apart.0))),
+      λ q. absurd (true≢false (sym (ap (λ n. bytes_eq n (codes "patternProperties")) q) ∙ apart.1)),
+    )
+
+-- beside `then`, and beside `else`, `if` is read where it is there
+module _ (ms : Members) where
+  if_beside_then : is_some (lookup_name (codes "then") (listed ms)) ≡ true → is_condition ms ≡ is_some (lookup_name (codes "if") (listed ms))
+  if_beside_then there = ap (λ b. is_some (lookup_name (codes "if") (listed ms)) && (b || is_some (lookup_name (codes "else") (listed ms)))) there ∙ and-true _
+
+  if_beside_else : is_some (lookup_name (codes "else") (listed ms)) ≡ true → is_condition ms ≡ is_some (lookup_name (codes "if") (listed ms))
+  if_beside_else there = ap (λ b. is_some (lookup_name (codes "if") (listed ms)) && (is_some (lookup_name (codes "then") (listed ms)) || b)) there ∙ ap (λ b. is_some (lookup_name (codes "if") (listed ms)) && b) (or-true _) ∙ and-true _
+
+module _ {X : Type 0} (step : Schema X → X) (ms : Members) where
+  pub present : (k : Name) → is_some (lookup_name k (read_members step ms)) ≡ is_some (lookup_name k (listed ms))
+  present k = is_present_read step ms k ∙ ap is_some (sym (lookup_listed k ms))
+
+  pub condition_read : is_conditional (read_members step ms) ≡ is_condition ms
+  condition_read = λ i. present (codes "if") i && (present (codes "then") i || present (codes "else") i)
+
+  pub restricted_read : restricts (read_members step ms) ≡ is_restricted ms
+  restricted_read = ap (list_any (λ s. is_truth false s.schema || is_object s.schema)) (wholes_at_read step ms (codes "additionalProperties")) ∙ by _ ∙ ap is_restriction (sym (lookup_listed (codes "additionalProperties") ms))
+    where
+      by : (o : Option Data) → list_any (λ (s : Sub X). is_truth false s.schema || is_object s.schema) (map (place step) (option_to_list o)) ≡ is_restriction o
+      by None = refl
+      by (Some d) = or-false _
+
+  -- ---- the places that are read
+
+  module _ (W : World) (k : Name) (d : Data) (c : Known) (known : IsKnown c ms k) where
+    abbrev PlacesByCondition : Name → Type 0
+    PlacesByCondition n = read_places n (read_members step ms) (read step d) (keyword_named W n) ≡ places_where n c.condition (itself n (read step d).whole)
+
+    -- itself, where `if` is read
+    pub places_by_condition : is_conditional_name k ≡ true → PlacesByCondition k
+    places_by_condition e = by (conditional_named k e)
+      where
+        by : (k ≡ codes "if") ⊎ (k ≡ codes "then") ⊎ (k ≡ codes "else") → PlacesByCondition k
+        by (inl q) = subst PlacesByCondition (sym q) (ap (λ b. places_where (codes "if") b (itself (codes "if") (read step d).whole)) (condition_read ∙ sym (known.0 e).0))
+        by (inr (inl q)) = subst PlacesByCondition (sym q) (ap (λ b. places_where (codes "then") b (itself (codes "then") (read step d).whole)) (present (codes "if") ∙ sym (if_beside_then ms (ap (λ n. is_some (lookup_name n (listed ms))) (sym q) ∙ (known.0 e).1)) ∙ sym (known.0 e).0))
+        by (inr (inr q)) = subst PlacesByCondition (sym q) (ap (λ b. places_where (codes "else") b (itself (codes "else") (read step d).whole)) (present (codes "if") ∙ sym (if_beside_else ms (ap (λ n. is_some (lookup_name n (listed ms))) (sym q) ∙ (known.0 e).1)) ∙ sym (known.0 e).0))
+
+-- what is shown where the test holds, of the schema that stands there
+module _ (W : World) (u : Bool) (v : Data) where
+  abbrev pub case_shown : Bool → Path → Path → Option Data → List Tree
+  case_shown b L Q None = []
+  case_shown b L Q (Some d) = put_if b (tree W u d v L Q) []
+
+module _ (W : World) (ms : Members) (u : Bool) (v : Data) where
+  abbrev neighbours : Keywords Meaning
+  neighbours = read_members (meaning_step W u) ms
+
+  -- ---- where `if` is not read
+
+  module _ (d : Data) (alone : is_condition ms ≡ false) where
+    pub if_accepts_alone : member_accepts W ms (codes "if", d) if_keyword u v ≡ true
+    if_accepts_alone = refl
+
+    pub if_asks_alone : member_asks W ms (codes "if", d) if_keyword u v ≡ 0
+    if_asks_alone = (let z : 0 + cond (is_conditional neighbours) ((read (meaning_step W u) d).whole.answer.asks v) 0 ≡ cond (is_conditional neighbours) ((read (meaning_step W u) d).whole.answer.asks v) 0 = omega arith in z) ∙ ap (λ b. cond b ((read (meaning_step W u) d).whole.answer.asks v) 0) (condition_read (meaning_step W u) ms ∙ alone)
+
+    pub if_shows_alone : (P Q : Path) → member_child W ms (codes "if", d) if_keyword u v P Q ≡ []
+    if_shows_alone P Q = ap (λ b. put_if b (plain (P // codes "if") Q (put_if ((read (meaning_step W u) d).whole.answer.accepts v) ((read (meaning_step W u) d).whole.answer.tree v (P // codes "if") Q) [] ++ case_trees W u neighbours v P Q (codes "if") (read (meaning_step W u) d) ((read (meaning_step W u) d).whole.answer.accepts v) (codes "then") ++ case_trees W u neighbours v P Q (codes "if") (read (meaning_step W u) d) (not ((read (meaning_step W u) d).whole.answer.accepts v)) (codes "else"))) []) (condition_read (meaning_step W u) ms ∙ alone)
+
+  -- `then` and `else` without `if`
+  module _ (d : Data) (absent : lookup_name (codes "if") (listed ms) ≡ None) where
+    none : wholes_at neighbours (codes "if") ≡ []
+    none = wholes_absent (meaning_step W u) ms (codes "if") (sym (lookup_listed (codes "if") ms) ∙ absent)
+
+    pub then_accepts_alone : member_accepts W ms (codes "then", d) then_keyword u v ≡ true
+    then_accepts_alone = ap (λ ss. list_all (λ a. a.sub.answer.accepts a.value) (put_if (list_any (λ s. s.answer.accepts v) ss) (asked (read (meaning_step W u) d).whole v (codes "then" ∷ []) []) []) && true) none
+
+    pub then_asks_alone : member_asks W ms (codes "then", d) then_keyword u v ≡ 0
+    then_asks_alone = ap (λ ss. sum_by (λ a. a.sub.answer.asks a.value) (put_if (list_any (λ s. s.answer.accepts v) ss) (asked (read (meaning_step W u) d).whole v (codes "then" ∷ []) []) []) + 0) none
+
+    pub else_accepts_alone : member_accepts W ms (codes "else", d) else_keyword u v ≡ true
+    else_accepts_alone = ap (λ ss. list_all (λ a. a.sub.answer.accepts a.value) (put_if (list_any (λ s. not (s.answer.accepts v)) ss) (asked (read (meaning_step W u) d).whole v (codes "else" ∷ []) []) []) && true) none
+
+    pub else_asks_alone : member_asks W ms (codes "else", d) else_keyword u v ≡ 0
+    else_asks_alone = ap (λ ss. sum_by (λ a. a.sub.answer.asks a.value) (put_if (list_any (λ s. not (s.answer.accepts v)) ss) (asked (read (meaning_step W u) d).whole v (codes "else" ∷ []) []) []) + 0) none
+
+    pub then_report_alone : (P Q : Path) → member_report W ms (codes "then", d) then_keyword u v P Q ≡ []
+    then_report_alone P Q = ap (λ ss. flat_map (λ a. a.sub.answer.report a.value (down P a.in_schema) (down Q a.in_instance)) (put_if (list_any (λ s. s.answer.accepts v) ss) (asked (read (meaning_step W u) d).whole v (codes "then" ∷ []) []) []) ++ []) none
+
+    pub else_report_alone : (P Q : Path) → member_report W ms (codes "else", d) else_keyword u v P Q ≡ []
+    else_report_alone P Q = ap (λ ss. flat_map (λ a. a.sub.answer.report a.value (down P a.in_schema) (down Q a.in_instance)) (put_if (list_any (λ s. not (s.answer.accepts v)) ss) (asked (read (meaning_step W u) d).whole v (codes "else" ∷ []) []) []) ++ []) none
+
+  -- ---- where it is read
+
+  -- `if` is d
+  module _ (d : Data) (there : lookup_name (codes "if") (listed ms) ≡ Some d) where
+    at_if : wholes_at neighbours (codes "if") ≡ place (meaning_step W u) d ∷ []
+    at_if = wholes_there (meaning_step W u) ms (codes "if") d (sym (lookup_listed (codes "if") ms) ∙ there)
+
+    if_holds : if_accepts neighbours v ≡ accepts W u d v
+    unfolding meaning
+    if_holds = ap (list_any (λ s. s.answer.accepts v)) at_if ∙ or-false _
+
+    if_fails : if_refuses neighbours v ≡ not (accepts W u d v)
+    unfolding meaning
+    if_fails = ap (list_any (λ s. not (s.answer.accepts v))) at_if ∙ or-false _
+
+    module _ (read_here : is_condition ms ≡ true) where
+      pub if_accepts_beside : member_accepts W ms (codes "if", d) if_keyword u v ≡ true
+      if_accepts_beside = refl
+
+      pub if_asks_beside : member_asks W ms (codes "if", d) if_keyword u v ≡ asks W u d v
+      unfolding meaning
+      if_asks_beside = nothing_first _ ∙ ap (λ b. cond b ((read (meaning_step W u) d).whole.answer.asks v) 0) (condition_read (meaning_step W u) ms ∙ read_here)
+
+    -- `then` is e, and `else` is e
+    module _ (e : Data) where
+      abbrev asked_where : Bool → Name → List Asked
+      asked_where b k = put_if b (asked (read (meaning_step W u) e).whole v (k ∷ []) []) []
+
+      accepted_where : (b : Bool) (k : Name) → (list_all (λ a. a.sub.answer.accepts a.value) (asked_where b k) && true) ≡ cond b (accepts W u e v) true
+      unfolding meaning
+      accepted_where true k = and-true _ ∙ and-true _
+      accepted_where false k = refl
+
+      asks_where : (b : Bool) (k : Name) → sum_by (λ a. a.sub.answer.asks a.value) (asked_where b k) + 0 ≡ cond b (asks W u e v) 0
+      unfolding meaning
+      asks_where true k = nothing_last _ ∙ sum_by-cons (λ (a : Asked). a.sub.answer.asks a.value) (asked (read (meaning_step W u) e).whole v (k ∷ []) []) [] ∙ nothing_last _
+      asks_where false k = refl
+
+      found_where : (b : Bool) (k : Name) (P Q : Path) → flat_map (λ a. a.sub.answer.report a.value (down P a.in_schema) (down Q a.in_instance)) (asked_where b k) ++ [] ≡ cond b (report W u e v (P // k) Q) []
+      unfolding meaning
+      found_where true k P Q = append-nil _ ∙ append-nil _
+      found_where false k P Q = refl
+
+      pub then_accepts_beside : member_accepts W ms (codes "then", e) then_keyword u v ≡ cond (accepts W u d v) (accepts W u e v) true
+      then_accepts_beside = ap (λ b. list_all (λ a. a.sub.answer.accepts a.value) (asked_where b (codes "then")) && true) if_holds ∙ accepted_where (accepts W u d v) (codes "then")
+
+      pub then_asks_beside : member_asks W ms (codes "then", e) then_keyword u v ≡ cond (accepts W u d v) (asks W u e v) 0
+      then_asks_beside = ap (λ b. sum_by (λ a. a.sub.answer.asks a.value) (asked_where b (codes "then")) + 0) if_holds ∙ asks_where (accepts W u d v) (codes "then")
+
+      pub then_report_beside : (P Q : Path) → member_report W ms (codes "then", e) then_keyword u v P Q ≡ cond (accepts W u d v) (report W u e v (P // codes "then") Q) []
+      then_report_beside P Q = ap (λ b. flat_map (λ a. a.sub.answer.report a.value (down P a.in_schema) (down Q a.in_instance)) (asked_where b (codes "then")) ++ []) if_holds ∙ found_where (accepts W u d v) (codes "then") P Q
+
+      pub else_accepts_beside : member_accepts W ms (codes "else", e) else_keyword u v ≡ cond (not (accepts W u d v)) (accepts W u e v) true
+      else_accepts_beside = ap (λ b. list_all (λ a. a.sub.answer.accepts a.value) (asked_where b (codes "else")) && true) if_fails ∙ accepted_where (not (accepts W u d v)) (codes "else")
+
+      pub else_asks_beside : member_asks W ms (codes "else", e) else_keyword u v ≡ cond (not (accepts W u d v)) (asks W u e v) 0
+      else_asks_beside = ap (λ b. sum_by (λ a. a.sub.answer.asks a.value) (asked_where b (codes "else")) + 0) if_fails ∙ asks_where (not (accepts W u d v)) (codes "else")
+
+      pub else_report_beside : (P Q : Path) → member_report W ms (codes "else", e) else_keyword u v P Q ≡ cond (not (accepts W u d v)) (report W u e v (P // codes "else") Q) []
+      else_report_beside P Q = ap (λ b. flat_map (λ a. a.sub.answer.report a.value (down P a.in_schema) (down Q a.in_instance)) (asked_where b (codes "else")) ++ []) if_fails ∙ found_where (not (accepts W u d v)) (codes "else") P Q
+
+  -- what stands at a name, shown where the test holds
+  case_read : (d : Data) (b : Bool) (k : Name) (P Q : Path) → case_trees W u neighbours v P Q (codes "if") (read (meaning_step W u) d) b k ≡ case_shown W u v b (P // k) Q (lookup_name k (listed ms))
+  unfolding meaning
+  case_read d b k P Q = ap (flat_map (λ s. put_if b (s.answer.tree v (P // k) Q) [])) (wholes_at_read (meaning_step W u) ms k ∙ ap (λ o. map (place (meaning_step W u)) (option_to_list o)) (sym (lookup_listed k ms))) ∙ by (lookup_name k (listed ms))
+    where
+      by : (o : Option Data) → flat_map (λ s. put_if b (s.answer.tree v (P // k) Q) []) (map (place (meaning_step W u)) (option_to_list o)) ≡ case_shown W u v b (P // k) Q o
+      by None = refl
+      by (Some d) = append-nil _
+
+  pub if_shows_beside : (d : Data) → is_condition ms ≡ true → (P Q : Path) → member_child W ms (codes "if", d) if_keyword u v P Q
+      ≡ plain (P // codes "if") Q (put_if (accepts W u d v) (tree W u d v (P // codes "if") Q) [] ++ case_shown W u v (accepts W u d v) (P // codes "then") Q (lookup_name (codes "then") (listed ms)) ++ case_shown W u v (not (accepts W u d v)) (P // codes "else") Q (lookup_name (codes "else") (listed ms))) ∷ []
+  unfolding meaning
+  if_shows_beside d e P Q = λ i. put_if ((condition_read (meaning_step W u) ms ∙ e) i)
+      (plain (P // codes "if") Q (put_if ((whole_read (meaning_step W u) d i).answer.accepts v) ((whole_read (meaning_step W u) d i).answer.tree v (P // codes "if") Q) []
+      ++ case_read d ((whole_read (meaning_step W u) d i).answer.accepts v) (codes "then") P Q i
+      ++ case_read d (not ((whole_read (meaning_step W u) d i).answer.accepts v)) (codes "else") P Q i)) []
+
+-- ---- one of the three where none is read
+
+-- it accepts everything, finds nothing and shows nothing
+pub record MeansNothing (W : World) (ms : Members) (m : Name × Data) : Type 0 where
+  pub verdict : (u : Bool) (v : Data) → member_accepts W ms m (keyword_named W m.0) u v ≡ true
+  pub report : (u : Bool) (v : Data) (P Q : Path) → member_report W ms m (keyword_named W m.0) u v P Q ≡ []
+  pub child : (u : Bool) (v : Data) (P Q : Path) → member_child W ms m (keyword_named W m.0) u v P Q ≡ []
+
+pub unpaired_means_nothing : (W : World) (ms : Members) (m : Name × Data) → is_conditional_name m.0 ≡ true → is_condition ms ≡ false → is_some (lookup_name m.0 (listed ms)) ≡ true → MeansNothing W ms m
+unpaired_means_nothing W ms m e unread there = by (conditional_named m.0 e)
+  where
+    absent : (n : Name) → is_condition ms ≡ is_some (lookup_name n (listed ms)) → lookup_name n (listed ms) ≡ None
+    absent n q = absent_if (lookup_name n (listed ms)) (sym q ∙ unread)
+
+    by : (m.0 ≡ codes "if") ⊎ (m.0 ≡ codes "then") ⊎ (m.0 ≡ codes "else") → MeansNothing W ms m
+    by (inl q) = subst (λ n. MeansNothing W ms (n, m.1)) (sym q) record {
+      verdict = λ u v. refl;
+      report = λ u v P Q. refl;
+      child = λ u v P Q. if_shows_alone W ms u v m.1 unread P Q;
+    }
+    by (inr (inl q)) = let none = absent (codes "if") (if_beside_then ms (ap (λ n. is_some (lookup_name n (listed ms))) (sym q) ∙ there)) in subst (λ n. MeansNothing W ms (n, m.1)) (sym q) record {
+      verdict = λ u v. then_accepts_alone W ms u v m.1 none;
+      report = λ u v P Q. then_report_alone W ms u v m.1 none P Q;
+      child = λ u v P Q. refl;
+    }
+    by (inr (inr q)) = let none = absent (codes "if") (if_beside_else ms (ap (λ n. is_some (lookup_name n (listed ms))) (sym q) ∙ there)) in subst (λ n. MeansNothing W ms (n, m.1)) (sym q) record {
+      verdict = λ u v. else_accepts_alone W ms u v m.1 none;
+      report = λ u v P Q. else_report_alone W ms u v m.1 none P Q;
+      child = λ u v P Q. refl;
+    }

@@ -1,0 +1,81 @@
+-- When `properties` fuses names of `required`.
+use Rattle.std.specs.Prelude.{◌≡◌, ℕ, nat_lt, List, [], ◌∷◌, length, Option, Some, None, option_map, is_some, unwrap_or, String}
+use Rattle.std.specs.Borrow.{Bor}
+use Rattle.std.specs.declared.alloc.Global.{Global}
+use Rattle.std.proofs.Common.{refl, sym, ◌∙◌, ap}
+use mathlib.Core.Bool.{true≢false}
+use Rattle.serde_json.specs.Data.{Data, null, boolean, number, string, array, object, Items, no_items, item, Members}
+use Rattle.serde_json.specs.Find.{as_object, as_array}
+use Rattle.serde_json.specs.View.{view, members_view, items_view}
+use Rattle.serde_json.specs.declared.value.Value.{Value}
+use Rattle.olk_spec.specs.declared.TheConstants.{HASHMAP_THRESHOLD}
+use Rattle.olk_meaning.proofs.Listed.{listed_length}
+use Rattle.olk_meaning.specs.Fused.{declares_few, two_names, one_name}
+
+-- ---- how many
+
+object_at : (d : Data) (ms : Members) → as_object d ≡ Some ms → d ≡ object ms
+object_at null ms e = absurd (true≢false (sym (ap is_some e)))
+object_at (boolean b) ms e = absurd (true≢false (sym (ap is_some e)))
+object_at (number n) ms e = absurd (true≢false (sym (ap is_some e)))
+object_at (string s) ms e = absurd (true≢false (sym (ap is_some e)))
+object_at (array ds) ms e = absurd (true≢false (sym (ap is_some e)))
+object_at (object fs) ms e = ap (λ o. object (unwrap_or o ms)) e
+
+array_at : (d : Data) (ds : Items) → as_array d ≡ Some ds → d ≡ array ds
+array_at null ds e = absurd (true≢false (sym (ap is_some e)))
+array_at (boolean b) ds e = absurd (true≢false (sym (ap is_some e)))
+array_at (number n) ds e = absurd (true≢false (sym (ap is_some e)))
+array_at (string s) ds e = absurd (true≢false (sym (ap is_some e)))
+array_at (array is) ds e = ap (λ o. array (unwrap_or o ds)) e
+array_at (object fs) ds e = absurd (true≢false (sym (ap is_some e)))
+
+module _ (o : Option (Bor Value)) (v : Bor Value) (is : o ≡ Some v) where
+  pub few_declared : (es : List (String Global × Value)) (n : ℕ) → Some (members_view es) ≡ as_object (view v.now) → n ≡ length es → nat_lt n HASHMAP_THRESHOLD ≡ declares_few (option_map (λ x. view x.now) o)
+  few_declared es n e l = ap (λ k. nat_lt k HASHMAP_THRESHOLD) (l ∙ sym (listed_length es)) ∙ ap (λ d. declares_few (Some d)) (sym (object_at (view v.now) (members_view es) (sym e))) ∙ ap (λ p. declares_few (option_map (λ x. view x.now) p)) (sym is)
+
+  pub not_two_items : (vs : List Value) → Some (items_view vs) ≡ as_array (view v.now) → (length vs ≡ 2 → ⊥) → None ≡ two_names (option_map (λ x. view x.now) o)
+  not_two_items vs e l = sym (by vs l) ∙ ap (λ d. two_names (Some d)) (sym (array_at (view v.now) (items_view vs) (sym e))) ∙ ap (λ p. two_names (option_map (λ x. view x.now) p)) (sym is)
+    where
+      one_item : (d : Data) → two_names (Some (array (item d no_items))) ≡ None
+      one_item null = refl
+      one_item (boolean b) = refl
+      one_item (number n) = refl
+      one_item (string s) = refl
+      one_item (array ds) = refl
+      one_item (object ms) = refl
+
+      many_items : (c d e : Data) (ds : Items) → two_names (Some (array (item c (item d (item e ds))))) ≡ None
+      many_items null d e ds = refl
+      many_items (boolean b) d e ds = refl
+      many_items (number n) d e ds = refl
+      many_items (string s) null e ds = refl
+      many_items (string s) (boolean b) e ds = refl
+      many_items (string s) (number n) e ds = refl
+      many_items (string s) (string t) e ds = refl
+      many_items (string s) (array es) e ds = refl
+      many_items (string s) (object ms) e ds = refl
+      many_items (array es) d e ds = refl
+      many_items (object ms) d e ds = refl
+
+      by : (ws : List Value) → (length ws ≡ 2 → ⊥) → two_names (Some (array (items_view ws))) ≡ None
+      by [] h = refl
+      by (w ∷ []) h = one_item (view w)
+      by (w ∷ x ∷ []) h = absurd (h refl)
+      by (w ∷ x ∷ y ∷ ws) h = many_items (view w) (view x) (view y) (items_view ws)
+
+  pub not_one_item : (vs : List Value) → Some (items_view vs) ≡ as_array (view v.now) → (length vs ≡ 1 → ⊥) → None ≡ one_name (option_map (λ x. view x.now) o)
+  not_one_item vs e l = sym (by vs l) ∙ ap (λ d. one_name (Some d)) (sym (array_at (view v.now) (items_view vs) (sym e))) ∙ ap (λ p. one_name (option_map (λ x. view x.now) p)) (sym is)
+    where
+      two_items : (c d : Data) (ds : Items) → one_name (Some (array (item c (item d ds)))) ≡ None
+      two_items null d ds = refl
+      two_items (boolean b) d ds = refl
+      two_items (number n) d ds = refl
+      two_items (string s) d ds = refl
+      two_items (array es) d ds = refl
+      two_items (object ms) d ds = refl
+
+      by : (ws : List Value) → (length ws ≡ 1 → ⊥) → one_name (Some (array (items_view ws))) ≡ None
+      by [] h = refl
+      by (w ∷ []) h = absurd (h refl)
+      by (w ∷ x ∷ ws) h = two_items (view w) (view x) (items_view ws)

@@ -1,0 +1,120 @@
+-- The members of an object by their names, where no name stands twice.
+use Rattle.std.specs.Prelude.{◌≡◌, ◌||◌, map, true, false, List, [], ◌∷◌, ◌++◌, length, Option, Some, None, is_some, unwrap_or, bytes_eq, String}
+use Rattle.std.specs.declared.alloc.Global.{Global}
+use Rattle.std.specs.List.{AllByRecursion}
+use Rattle.std.specs.List.Sorted.{IsStrictlySortedBy}
+use Rattle.std.specs.Map.{keys_of}
+use Rattle.std.specs.Ordering.{nat_cmp, is_eq}
+use Rattle.std.specs.Cmp.Lexicographic.{slice_cmp}
+use Rattle.std.specs.declared.cmp.Ordering.{Ordering}
+use Rattle.std.specs.declared.cmp.Ordering.TheVariants.{Less, Equal, Greater}
+use Rattle.std.proofs.Common.{refl, sym, ◌∙◌, ap, subst, option_to_list, string_cmp, string_bytes, arith}
+use Rattle.std.proofs.lemmas.Map.Text.{is_eq-slice_cmp}
+use mathlib.Core.Bool.{true≢false}
+use Rattle.serde_json.specs.Data.{Data, Members}
+use Rattle.serde_json.specs.View.{members_view}
+use Rattle.serde_json.specs.declared.value.Value.{Value}
+use Rattle.olk_spec.specs.Names.{Name, lookup_name, first_if_equal, is_among, filter_once, put_if}
+use Rattle.olk_spec.specs.Schemas.{listed}
+use Rattle.olk_spec.specs.Malformed.{has_repeat}
+use Rattle.olk_spec.proofs.Each.{Each}
+use Rattle.olk_spec.proofs.Walks.{same_name, bytes_eq-itself, Distinct, Distinct-from, Each-found}
+use Rattle.olk_meaning.proofs.Heads.{names_of}
+
+abbrev pub members_named : Name → List (Name × Data) → List (Name × Data)
+members_named k es = filter_once (λ m. bytes_eq k m.0) es
+
+none_named : (k : Name) (es : List (Name × Data)) → Each (λ m. bytes_eq k m.0 ≡ false) es → members_named k es ≡ []
+none_named k [] h = refl
+none_named k (m ∷ es) h = ap (λ b. put_if b m (members_named k es)) h.0 ∙ none_named k es h.1
+
+-- the member that a look-up finds is the only one of its name
+pub named_once : (k : Name) (d : Data) (es : List (Name × Data)) → Distinct es → lookup_name k es ≡ Some d → members_named k es ≡ (k, d) ∷ []
+named_once k d [] h e = absurd (true≢false (sym (ap is_some e)))
+named_once k d (m ∷ es) h e = by (slice_cmp nat_cmp k m.0) (is_eq-slice_cmp k m.0) e (named_once k d es h.1)
+  where
+    by : (o : Ordering) → is_eq o ≡ bytes_eq k m.0 → first_if_equal o m.1 (lookup_name k es) ≡ Some d → (lookup_name k es ≡ Some d → members_named k es ≡ (k, d) ∷ []) → members_named k (m ∷ es) ≡ (k, d) ∷ []
+    by Less q f g = ap (λ b. put_if b m (members_named k es)) (sym q) ∙ g f
+    by Greater q f g = ap (λ b. put_if b m (members_named k es)) (sym q) ∙ g f
+    by Equal q f g =
+        let same = same_name k m.0 (sym q) in
+        ap (λ b. put_if b m (members_named k es)) (sym q)
+        ∙ ap (λ l. m ∷ l) (none_named k es (subst (λ n. Each (λ x. bytes_eq n x.0 ≡ false) es) (sym same) h.0))
+        ∙ (λ i. (sym same i, unwrap_or (f i) d) ∷ [])
+
+module _ (ms : Members) (distinct : has_repeat (names_of (listed ms)) ≡ false) where
+  -- the members of a name are what a look-up finds
+  pub members_found : (k : Name) (o : Option Data) → lookup_name k (listed ms) ≡ o → members_named k (listed ms) ≡ map (λ d. (k, d)) (option_to_list o)
+  members_found k (Some d) e = named_once k d (listed ms) (Distinct-from (listed ms) distinct) e
+  members_found k None e = none_found (listed ms) e
+    where
+      none_found : (es : List (Name × Data)) → lookup_name k es ≡ None → members_named k es ≡ []
+      none_found [] e = refl
+      none_found (m ∷ es) e = by (slice_cmp nat_cmp k m.0) (is_eq-slice_cmp k m.0) e (none_found es)
+        where
+          by : (o : Ordering) → is_eq o ≡ bytes_eq k m.0 → first_if_equal o m.1 (lookup_name k es) ≡ None → (lookup_name k es ≡ None → members_named k es ≡ []) → members_named k (m ∷ es) ≡ []
+          by Less q f g = ap (λ b. put_if b m (members_named k es)) (sym q) ∙ g f
+          by Greater q f g = ap (λ b. put_if b m (members_named k es)) (sym q) ∙ g f
+          by Equal q f g = absurd (true≢false (ap is_some f))
+
+-- a member that is found is there
+pub lookup_among : (k : Name) (d : Data) (es : List (Name × Data)) → lookup_name k es ≡ Some d → is_among k (names_of es) ≡ true
+lookup_among k d [] e = absurd (true≢false (sym (ap is_some e)))
+lookup_among k d (m ∷ es) e = by (slice_cmp nat_cmp k m.0) (is_eq-slice_cmp k m.0) e (lookup_among k d es)
+  where
+    by : (o : Ordering) → is_eq o ≡ bytes_eq k m.0 → first_if_equal o m.1 (lookup_name k es) ≡ Some d → (lookup_name k es ≡ Some d → is_among k (names_of es) ≡ true) → is_among k (names_of (m ∷ es)) ≡ true
+    by Less q f g = ap (λ b. b || is_among k (names_of es)) (sym q) ∙ g f
+    by Greater q f g = ap (λ b. b || is_among k (names_of es)) (sym q) ∙ g f
+    by Equal q f g = ap (λ b. b || is_among k (names_of es)) (sym q)
+
+-- a name is there where a look-up finds something
+pub among_found : {X : Type 0} (k : Name) (es : List (Name × X)) → is_among k (map (λ e. e.0) es) ≡ is_some (lookup_name k es)
+among_found k [] = refl
+among_found k (e ∷ es) = by (slice_cmp nat_cmp k e.0) (is_eq-slice_cmp k e.0) (among_found k es)
+  where
+    by : (o : Ordering) → is_eq o ≡ bytes_eq k e.0 → is_among k (map (λ e. e.0) es) ≡ is_some (lookup_name k es) → is_among k (map (λ e. e.0) (e ∷ es)) ≡ is_some (first_if_equal o e.1 (lookup_name k es))
+    by Less q h = ap (λ b. b || is_among k (map (λ e. e.0) es)) (sym q) ∙ h
+    by Greater q h = ap (λ b. b || is_among k (map (λ e. e.0) es)) (sym q) ∙ h
+    by Equal q h = ap (λ b. b || is_among k (map (λ e. e.0) es)) (sym q)
+
+-- ---- the members of a map
+
+pub listed_length : (es : List (String Global × Value)) → length (listed (members_view es)) ≡ length es
+listed_length [] = refl
+listed_length (e ∷ es) = let h = listed_length es in omega (arith, h)
+
+later_differ : (k : String Global) (es : List (String Global × Value)) → AllByRecursion (λ y. string_cmp k y ≡ Less) (keys_of es) → is_among (string_bytes k) (map (λ m. m.0) (listed (members_view es))) ≡ false
+later_differ k [] h = refl
+later_differ k (e ∷ es) h = λ i. (sym (is_eq-slice_cmp (string_bytes k) (string_bytes e.0)) ∙ ap is_eq h.0) i || later_differ k es h.1 i
+
+-- no name stands twice
+pub sorted_distinct : (es : List (String Global × Value)) → IsStrictlySortedBy string_cmp (keys_of es) → has_repeat (map (λ m. m.0) (listed (members_view es))) ≡ false
+unfolding IsStrictlySortedBy
+sorted_distinct [] h = refl
+sorted_distinct (e ∷ es) h = λ i. later_differ e.0 es h.0 i || sorted_distinct es h.1 i
+
+one_of : {X : Type 0} (P : X → Type 0) (xs : List X) (x : X) (ys : List X) → Each P (xs ++ x ∷ ys) → P x
+one_of P [] x ys h = h.0
+one_of P (y ∷ xs) x ys h = one_of P xs x ys h.1
+
+-- a look-up finds each member, where no name stands twice
+pub found_each : (ms : Members) → has_repeat (map (λ m. m.0) (listed ms)) ≡ false → (done : List (Name × Data)) (m : Name × Data) (rest : List (Name × Data)) → done ++ m ∷ rest ≡ listed ms → lookup_name m.0 (listed ms) ≡ Some m.1
+found_each ms h done m rest e = one_of (λ x. lookup_name x.0 (listed ms) ≡ Some x.1) done m rest (subst (λ l. Each (λ x. lookup_name x.0 (listed ms) ≡ Some x.1) l) (sym e) (Each-found (listed ms) (Distinct-from (listed ms) h)))
+
+-- a look-up finds something at each member's name
+pub present_each : (es done : List (Name × Data)) (m : Name × Data) (rest : List (Name × Data)) → done ++ m ∷ rest ≡ es → is_some (lookup_name m.0 es) ≡ true
+present_each es done m rest e = ap (λ l. is_some (lookup_name m.0 l)) (sym e) ∙ along done
+  where
+    found : (o : Ordering) (d : Data) (x : Option Data) → is_eq o ≡ true → is_some (first_if_equal o d x) ≡ true
+    found Equal d x q = refl
+    found Less d x q = absurd (true≢false (sym q))
+    found Greater d x q = absurd (true≢false (sym q))
+
+    past : (o : Ordering) (d : Data) (x : Option Data) → is_some x ≡ true → is_some (first_if_equal o d x) ≡ true
+    past Equal d x q = refl
+    past Less d x q = q
+    past Greater d x q = q
+
+    along : (done : List (Name × Data)) → is_some (lookup_name m.0 (done ++ m ∷ rest)) ≡ true
+    along [] = found (slice_cmp nat_cmp m.0 m.0) m.1 (lookup_name m.0 rest) (is_eq-slice_cmp m.0 m.0 ∙ bytes_eq-itself m.0)
+    along (x ∷ done) = past (slice_cmp nat_cmp m.0 x.0) x.1 (lookup_name m.0 (done ++ m ∷ rest)) (along done)

@@ -1,0 +1,167 @@
+-- `propertyDependencies`, over the raw data of its entries.
+use Rattle.std.specs.Prelude.{◌≡◌, Bool, List, [], ◌∷◌, ◌++◌, map, sum_by, codes, option_to_list}
+use Rattle.std.specs.List.{list_all, flat_map}
+use Rattle.std.specs.Ordering.{nat_cmp}
+use Rattle.std.specs.Cmp.Lexicographic.{slice_cmp}
+use Rattle.std.specs.declared.cmp.Ordering.{Ordering}
+use Rattle.std.specs.declared.cmp.Ordering.TheVariants.{Less, Equal, Greater}
+use Rattle.std.proofs.Common.{refl, sym, ◌∙◌, ap}
+use Rattle.std.proofs.lemmas.List.{append-nil, map-append}
+use Rattle.std.proofs.lemmas.List.Folds.{list_all-map}
+use Rattle.std.proofs.lemmas.Grind.{flat_map-append}
+use Rattle.std.proofs.Math.Bool.{and-true}
+use Rattle.serde_json.specs.Data.{Data, Members}
+use Rattle.olk_spec.specs.Names.{Name, Path, ◌//◌, down, lookup_name, first_if_equal}
+use Rattle.olk_spec.specs.World.{World}
+use Rattle.olk_spec.specs.Vocabulary.{property_dependencies}
+use Rattle.olk_spec.specs.Faults.{Fault}
+use Rattle.olk_spec.specs.Schemas.{Sub, Schema, Keywords, read, read_members, members, at, as_text}
+use Rattle.olk_spec.specs.Meanings.{Meaning, Asked, asked, applied}
+use Rattle.olk_spec.specs.Meaning.{accepts, asks, report, tree, meaning, meaning_step}
+use Rattle.olk_spec.specs.Tree.{plain}
+use Rattle.olk_spec.specs.Malformed.{own_refusals, read_places, unless_object, malformations_step, malformations_at}
+use Rattle.olk_spec.specs.Costs.{Cost, cost, cost_step, ◌⊕◌, total_cost}
+use Rattle.olk_spec.proofs.CostSums.{sum_first, total_cost-append, total_cost-map}
+use Rattle.olk_spec.proofs.Maps.{flat_map-map, map-map}
+use Rattle.olk_spec.proofs.Walks.{list_all-flat_map}
+use Rattle.olk_spec.proofs.Reading.{place, entry, inner_entry, inner_read, entries_read, schema_of_read}
+use Rattle.olk_meaning.specs.Members.{member_accepts, member_asks, member_report, member_child, member_malformations, member_cost}
+use Rattle.olk_meaning.specs.PropertyDependencies.{chosen}
+use Rattle.olk_meaning.proofs.Facts.{sum_by_under, nothing_last}
+use Rattle.olk_meaning.proofs.Exchanged.{sum_by-flat_map}
+
+-- ---- walks over lists of lists
+
+module _ {X Y : Type 0} (g : X → List Y) where
+  module _ {Z : Type 0} where
+    flat_map-flat_map : (f : Y → List Z) (xs : List X) → flat_map f (flat_map g xs) ≡ flat_map (λ x. flat_map f (g x)) xs
+    flat_map-flat_map f [] = refl
+    flat_map-flat_map f (x ∷ xs) = flat_map-append f (g x) (flat_map g xs) ∙ ap (λ l. flat_map f (g x) ++ l) (flat_map-flat_map f xs)
+
+    map-flat_map : (f : Y → Z) (xs : List X) → map f (flat_map g xs) ≡ flat_map (λ x. map f (g x)) xs
+    map-flat_map f [] = refl
+    map-flat_map f (x ∷ xs) = map-append f (g x) (flat_map g xs) ∙ ap (λ l. map f (g x) ++ l) (map-flat_map f xs)
+
+  total_cost-flat_map : (f : Y → Cost) (xs : List X) → total_cost f (flat_map g xs) ≡ total_cost (λ x. total_cost f (g x)) xs
+  total_cost-flat_map f [] = refl
+  total_cost-flat_map f (x ∷ xs) = total_cost-append f (g x) (flat_map g xs) ∙ ap (λ c. total_cost f (g x) ⊕ c) (total_cost-flat_map f xs)
+
+-- ---- the schemas that are asked
+
+module _ {X : Type 0} (step : Schema X → X) where
+  at_entries : (t : Name) (es : List (Name × Data)) → option_to_list (lookup_name t (map (entry step) es)) ≡ map (place step) (option_to_list (lookup_name t es))
+  at_entries t [] = refl
+  at_entries t (e ∷ es) = by (slice_cmp nat_cmp t e.0) (at_entries t es)
+    where
+      by : (o : Ordering) → option_to_list (lookup_name t (map (entry step) es)) ≡ map (place step) (option_to_list (lookup_name t es))
+          → option_to_list (first_if_equal o (place step e.1) (lookup_name t (map (entry step) es))) ≡ map (place step) (option_to_list (first_if_equal o e.1 (lookup_name t es)))
+      by Less h = h
+      by Equal h = refl
+      by Greater h = h
+
+module _ (step : Schema Meaning → Meaning) (k : Name) (v : Data) where
+  abbrev asked_of : Name → Name × Data → Asked
+  asked_of n c = asked (place step c.1) v (k ∷ n ∷ c.0 ∷ []) []
+
+  asked_at : (e : Name × Data) (ts : List Name) → flat_map (λ t. map (λ s. asked s v (k ∷ e.0 ∷ t ∷ []) []) (option_to_list (lookup_name t (map (entry step) (members e.1))))) ts ≡ map (asked_of e.0) (flat_map (λ t. map (λ s. (t, s)) (at t e.1)) ts)
+  asked_at e [] = refl
+  asked_at e (t ∷ ts) =
+      (λ i. (ap (map (λ s. asked s v (k ∷ e.0 ∷ t ∷ []) [])) (at_entries step t (members e.1)) ∙ map-map (λ s. asked s v (k ∷ e.0 ∷ t ∷ []) []) (λ s. asked_of e.0 (t, s)) (place step) (λ s. refl) (at t e.1)
+      ∙ sym (map-map (asked_of e.0) (λ s. asked_of e.0 (t, s)) (λ s. (t, s)) (λ s. refl) (at t e.1))) i ++ asked_at e ts i)
+      ∙ sym (map-append (asked_of e.0) (map (λ s. (t, s)) (at t e.1)) (flat_map (λ t. map (λ s. (t, s)) (at t e.1)) ts))
+
+  asked_by : (e : Name × Data) → flat_map (λ t. map (λ s. asked s v (k ∷ e.0 ∷ t ∷ []) []) (option_to_list (lookup_name t (map (entry step) (members e.1))))) (flat_map as_text (at e.0 v)) ≡ map (asked_of e.0) (chosen v e)
+  asked_by e = asked_at e (flat_map as_text (at e.0 v)) ∙ ap (map (asked_of e.0)) (flat_map-flat_map as_text (λ t. map (λ s. (t, s)) (at t e.1)) (at e.0 v))
+
+  asked_read : (W : World) (u : Bool) (S : Keywords Meaning) (d : Data) → applied W u S k (read step d) v property_dependencies ≡ flat_map (λ e. map (asked_of e.0) (chosen v e)) (members d)
+  asked_read W u S d =
+      ap (flat_map (λ e. flat_map (λ t. map (λ s. asked s v (k ∷ e.0 ∷ t ∷ []) []) (option_to_list (lookup_name t e.1))) (flat_map as_text (at e.0 v)))) (inner_read step d)
+      ∙ flat_map-map (λ e. flat_map (λ t. map (λ s. asked s v (k ∷ e.0 ∷ t ∷ []) []) (option_to_list (lookup_name t e.1))) (flat_map as_text (at e.0 v))) (λ e. map (asked_of e.0) (chosen v e)) (inner_entry step) asked_by (members d)
+
+-- ---- what it means
+
+module _ (W : World) (ms : Members) (d : Data) (u : Bool) (v : Data) where
+  abbrev all_asked : List Asked
+  all_asked = applied W u (read_members (meaning_step W u) ms) (codes "propertyDependencies") (read (meaning_step W u) d) v property_dependencies
+
+  abbrev asked_here : Name → Name × Data → Asked
+  asked_here = asked_of (meaning_step W u) (codes "propertyDependencies") v
+
+  chosen_asked : all_asked ≡ flat_map (λ e. map (asked_here e.0) (chosen v e)) (members d)
+  chosen_asked = asked_read (meaning_step W u) (codes "propertyDependencies") v W u (read_members (meaning_step W u) ms) d
+
+  pub property_dependencies_accepts : member_accepts W ms (codes "propertyDependencies", d) property_dependencies u v ≡ list_all (λ e. list_all (λ c. accepts W u c.1 v) (chosen v e)) (members d)
+  unfolding meaning
+  property_dependencies_accepts =
+      and-true _
+      ∙ ap (list_all (λ a. a.sub.answer.accepts a.value)) chosen_asked
+      ∙ list_all-flat_map (λ a. a.sub.answer.accepts a.value) (λ e. map (asked_here e.0) (chosen v e)) (members d)
+      ∙ (λ i. list_all (λ e. list_all-map (λ a. a.sub.answer.accepts a.value) (asked_here e.0) (chosen v e) i) (members d))
+
+  pub property_dependencies_asks : member_asks W ms (codes "propertyDependencies", d) property_dependencies u v ≡ sum_by (λ e. sum_by (λ c. asks W u c.1 v) (chosen v e)) (members d)
+  unfolding meaning
+  property_dependencies_asks =
+      nothing_last _
+      ∙ ap (sum_by (λ a. a.sub.answer.asks a.value)) chosen_asked
+      ∙ sum_by-flat_map (λ e. map (asked_here e.0) (chosen v e)) (λ a. a.sub.answer.asks a.value) (members d)
+      ∙ (λ i. sum_by (λ e. sum_by_under (asked_here e.0) (λ a. a.sub.answer.asks a.value) (chosen v e) i) (members d))
+
+  module _ (P Q : Path) where
+    pub property_dependencies_report : member_report W ms (codes "propertyDependencies", d) property_dependencies u v P Q ≡ flat_map (λ e. flat_map (λ c. report W u c.1 v (P // codes "propertyDependencies" // e.0 // c.0) Q) (chosen v e)) (members d)
+    unfolding meaning
+    property_dependencies_report =
+        append-nil _
+        ∙ ap (flat_map (λ a. a.sub.answer.report a.value (down P a.in_schema) (down Q a.in_instance))) chosen_asked
+        ∙ flat_map-flat_map (λ e. map (asked_here e.0) (chosen v e)) (λ a. a.sub.answer.report a.value (down P a.in_schema) (down Q a.in_instance)) (members d)
+        ∙ (λ i. flat_map (λ e. flat_map-map (λ a. a.sub.answer.report a.value (down P a.in_schema) (down Q a.in_instance)) (λ c. report W u c.1 v (P // codes "propertyDependencies" // e.0 // c.0) Q) (asked_here e.0) (λ c. refl) (chosen v e) i) (members d))
+
+    pub property_dependencies_child : member_child W ms (codes "propertyDependencies", d) property_dependencies u v P Q ≡ plain (P // codes "propertyDependencies") Q (flat_map (λ e. map (λ c. tree W u c.1 v (P // codes "propertyDependencies" // e.0 // c.0) Q) (chosen v e)) (members d)) ∷ []
+    unfolding meaning
+    property_dependencies_child = ap (λ ts. plain (P // codes "propertyDependencies") Q ts ∷ [])
+        (ap (map (λ a. a.sub.answer.tree a.value (down P a.in_schema) (down Q a.in_instance))) chosen_asked
+        ∙ map-flat_map (λ e. map (asked_here e.0) (chosen v e)) (λ a. a.sub.answer.tree a.value (down P a.in_schema) (down Q a.in_instance)) (members d)
+        ∙ (λ i. flat_map (λ e. map-map (λ a. a.sub.answer.tree a.value (down P a.in_schema) (down Q a.in_instance)) (λ c. tree W u c.1 v (P // codes "propertyDependencies" // e.0 // c.0) Q) (asked_here e.0) (λ c. refl) (chosen v e) i) (members d)))
+
+-- ---- what is wrong with it, and the places that it reads
+
+module _ {X : Type 0} (step : Schema X → X) (d : Data) (k : Name) where
+  pub property_dependencies_refusals : (W : World) (L : Path) → own_refusals W k (read step d) L property_dependencies ≡ unless_object d L ++ flat_map (λ e. unless_object e.1 (L // e.0)) (members d)
+  property_dependencies_refusals W L =
+      (λ i. unless_object (schema_of_read step d i) L ++ flat_map (λ e. unless_object e.1.schema (L // e.0)) (entries_read step d i))
+      ∙ ap (λ fs. unless_object d L ++ fs) (flat_map-map (λ e. unless_object e.1.schema (L // e.0)) (λ e. unless_object e.1 (L // e.0)) (entry step) (λ e. refl) (members d))
+
+  -- each entry of each entry
+  abbrev pub inner_places : List (Sub X × List Name)
+  inner_places = flat_map (λ e. map (λ c. (place step c.1, k ∷ e.0 ∷ c.0 ∷ [])) (members e.1)) (members d)
+
+  pub property_dependencies_places : (S : Keywords X) → read_places k S (read step d) property_dependencies ≡ inner_places
+  property_dependencies_places S =
+      ap (flat_map (λ e. map (λ i. (i.1, k ∷ e.0 ∷ i.0 ∷ [])) e.1)) (inner_read step d)
+      ∙ flat_map-map (λ e. map (λ i. (i.1, k ∷ e.0 ∷ i.0 ∷ [])) e.1) (λ e. map (λ c. (place step c.1, k ∷ e.0 ∷ c.0 ∷ [])) (members e.1)) (inner_entry step)
+      (λ e. map-map (λ i. (i.1, k ∷ e.0 ∷ i.0 ∷ [])) (λ c. (place step c.1, k ∷ e.0 ∷ c.0 ∷ [])) (entry step) (λ c. refl) (members e.1)) (members d)
+
+module _ (W : World) (d : Data) (k : Name) where
+  pub inner_malformations : (P : Path) → flat_map (λ r. r.0.answer (down P r.1)) (inner_places (malformations_step W) d k) ≡ flat_map (λ e. flat_map (λ c. malformations_at W c.1 (P // k // e.0 // c.0)) (members e.1)) (members d)
+  unfolding malformations_at
+  inner_malformations P =
+      flat_map-flat_map (λ e. map (λ c. (place (malformations_step W) c.1, k ∷ e.0 ∷ c.0 ∷ [])) (members e.1)) (λ r. r.0.answer (down P r.1)) (members d)
+      ∙ (λ i. flat_map (λ e. flat_map-map (λ (r : Sub (Path → List Fault) × List Name). r.0.answer (down P r.1)) (λ c. malformations_at W c.1 (P // k // e.0 // c.0)) (λ c. (place (malformations_step W) c.1, k ∷ e.0 ∷ c.0 ∷ [])) (λ c. refl) (members e.1) i) (members d))
+
+  pub inner_costs : total_cost (λ r. r.0.answer) (inner_places (cost_step W) d k) ≡ total_cost (λ e. total_cost (λ c. cost W c.1) (members e.1)) (members d)
+  unfolding cost
+  inner_costs =
+      total_cost-flat_map (λ e. map (λ c. (place (cost_step W) c.1, k ∷ e.0 ∷ c.0 ∷ [])) (members e.1)) (λ r. r.0.answer) (members d)
+      ∙ (λ i. total_cost (λ e. total_cost-map (λ (r : Sub Cost × List Name). r.0.answer) (λ c. cost W c.1) (λ c. (place (cost_step W) c.1, k ∷ e.0 ∷ c.0 ∷ [])) (λ c. refl) (members e.1) i) (members d))
+
+module _ (W : World) (ms : Members) (d : Data) where
+  pub property_dependencies_malformations : (P : Path) → member_malformations W ms (codes "propertyDependencies", d) property_dependencies P
+      ≡ (unless_object d (P // codes "propertyDependencies") ++ flat_map (λ e. unless_object e.1 (P // codes "propertyDependencies" // e.0)) (members d))
+      ++ flat_map (λ e. flat_map (λ c. malformations_at W c.1 (P // codes "propertyDependencies" // e.0 // c.0)) (members e.1)) (members d)
+  property_dependencies_malformations P = λ i.
+      property_dependencies_refusals (malformations_step W) d (codes "propertyDependencies") W (P // codes "propertyDependencies") i
+      ++ (ap (flat_map (λ r. r.0.answer (down P r.1))) (property_dependencies_places (malformations_step W) d (codes "propertyDependencies") (read_members (malformations_step W) ms)) ∙ inner_malformations W d (codes "propertyDependencies") P) i
+
+  pub property_dependencies_cost : member_cost W ms (codes "propertyDependencies", d) property_dependencies ≡ total_cost (λ e. total_cost (λ c. cost W c.1) (members e.1)) (members d)
+  property_dependencies_cost = sum_first _
+      ∙ ap (total_cost (λ r. r.0.answer)) (property_dependencies_places (cost_step W) d (codes "propertyDependencies") (read_members (cost_step W) ms))
+      ∙ inner_costs W d (codes "propertyDependencies")

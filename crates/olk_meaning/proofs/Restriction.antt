@@ -1,0 +1,233 @@
+-- What the members mean together for which the validator of `additionalProperties` stands where it restricts other members.
+use Rattle.std.specs.Prelude.{◌≡◌, ℕ, ◌+◌, Bool, true, false, cond, ◌&&◌, List, [], ◌∷◌, ◌++◌, map, sum_by, codes, Option, Some, None, option_to_list}
+use Rattle.std.specs.List.{list_all, flat_map}
+use Rattle.std.proofs.Common.{refl, sym, ◌∙◌, ap, arith}
+use Rattle.std.proofs.lemmas.List.{append-nil, append_assoc}
+use Rattle.std.proofs.lemmas.List.Folds.{list_all-append}
+use Rattle.std.proofs.lemmas.List.Sums.{sum_by-cons, sum_by-append}
+use Rattle.std.proofs.lemmas.Grind.{flat_map-append}
+use Rattle.std.proofs.lemmas.List.Sorted.{sum_by-IsPermutation}
+use Rattle.std.proofs.Math.Bool.{and_assoc, and-true}
+use Rattle.serde_json.specs.Data.{Data, string, array, no_items, item, Members}
+use Rattle.olk_spec.specs.Names.{Name, Path, ◌//◌, lookup_name, is_empty}
+use Rattle.olk_spec.specs.World.{World}
+use Rattle.olk_spec.specs.Vocabulary.{keyword_named}
+use Rattle.olk_spec.specs.Faults.{Fault, ◌∼◌, like_through}
+use Rattle.olk_spec.specs.Schemas.{listed, members, at}
+use Rattle.olk_spec.specs.Malformed.{has_repeat}
+use Rattle.olk_spec.specs.Meanings.{matches}
+use Rattle.olk_spec.specs.Meaning.{accepts, asks, report, meaning_step}
+use Rattle.olk_spec.specs.Accepts.{missing}
+use Rattle.olk_spec.specs.Reports.{required_faults}
+use Rattle.olk_spec.proofs.Order.{∼_same, ∼_sym, ∼_append, ∼_before, ∼_behind, ∼_swap, ∼_parts, ∼_permuted}
+use Rattle.olk_spec.proofs.Walks.{Distinct-from, list_all-and, list_all-other_side, ∼_other_side}
+use Rattle.olk_meaning.specs.Conditions.{is_restricted}
+use Rattle.olk_meaning.specs.Fused.{fused_one}
+use Rattle.olk_meaning.specs.Members.{member_accepts, member_asks, member_report}
+use Rattle.olk_meaning.specs.PatternProperties.{matched_members}
+use Rattle.olk_meaning.specs.Plans.{plan_of, head, claims}
+use Rattle.olk_meaning.specs.AdditionalProperties.{rows_at, fused_rows, entries_in, declared_beside, patterns_beside, required_beside, has_beside, declared_accepts, matching_accept, rest_accepts, each_accepts, declared_report, matching_report, rest_report, each_report, others_report, declared_asks, matching_asks, patterns_asked, rest_asks, each_asks, is_declared_in}
+use Rattle.olk_meaning.proofs.AdditionalProperties.{additional_accepts, additional_report, additional_asks}
+use Rattle.olk_meaning.proofs.Claims.{list_all-permuted}
+use Rattle.olk_meaning.proofs.Exchanged.{list_all-exchanged, ∼_exchanged, sum_by-other_side, sum_of_both, sum_of_none}
+use Rattle.olk_meaning.proofs.Facts.{declared_accept, declared_find, declared_ask, required_accepts, required_report, required_asks, nothing_last}
+use Rattle.olk_meaning.proofs.Heads.{names_of}
+use Rattle.olk_meaning.proofs.PatternProperties.{pattern_properties_accepts, pattern_properties_report, pattern_properties_asks_beside}
+use Rattle.olk_meaning.proofs.Conditions.{restricted_read}
+use Rattle.olk_meaning.proofs.RestrictedClaims.{claims_restriction}
+
+-- the rest and three others in the order in which they are wanted
+in_order : (r a b c : Bool) → (r && (a && (b && c))) ≡ ((a && (b && r)) && c)
+in_order true true true c = refl
+in_order true true false c = refl
+in_order true false b c = refl
+in_order false true true c = refl
+in_order false true false c = refl
+in_order false false b c = refl
+
+found_in_order : (r o a b c : List Fault) → (r ++ o) ++ (a ++ (b ++ c)) ∼ ((a ++ (b ++ r)) ++ o) ++ c
+found_in_order r o a b c =
+    like_through (∼_swap (r ++ o) (a ++ (b ++ c)))
+    (like_through (∼_same (append_assoc a (b ++ c) (r ++ o) ∙ ap (λ l. a ++ l) (append_assoc b c (r ++ o))))
+    (like_through (∼_before a (∼_before b (∼_swap c (r ++ o))))
+    (∼_same (ap (λ l. a ++ (b ++ l)) (append_assoc r o c) ∙ ap (λ l. a ++ l) (sym (append_assoc b r (o ++ c))) ∙ sym (append_assoc a (b ++ r) (o ++ c)) ∙ sym (append_assoc (a ++ (b ++ r)) o c)))))
+
+module _ (W : World) (ms : Members) (d : Data) (distinct : has_repeat (names_of (listed ms)) ≡ false) (there : lookup_name (codes "additionalProperties") (listed ms) ≡ Some d) (restricted : is_restricted ms ≡ true) (u : Bool) (v : Data) where
+  abbrev fs : List (Name × Data)
+  fs = declared_beside ms
+
+  abbrev es : List (Name × Data)
+  es = patterns_beside ms
+
+  -- what the validator stands for
+  abbrev claimed : List (Name × Data)
+  claimed = claims (head (plan_of ms)) (listed ms) (codes "additionalProperties", d)
+
+  -- ---- the verdict
+
+  abbrev row_accepts : Name × Data → Bool
+  row_accepts m = member_accepts W ms m (keyword_named W m.0) u v
+
+  declared_rows_accept : list_all row_accepts (rows_at (codes "properties") ms) ≡ list_all (λ e. list_all (accepts W u e.1) (at e.0 v)) fs
+  declared_rows_accept = by (lookup_name (codes "properties") (listed ms))
+    where
+      by : (o : Option Data) → list_all row_accepts (map (λ d. (codes "properties", d)) (option_to_list o)) ≡ list_all (λ e. list_all (accepts W u e.1) (at e.0 v)) (entries_in o)
+      by None = refl
+      by (Some d) = and-true _ ∙ declared_accept W ms d u v
+
+  pattern_rows_accept : list_all row_accepts (rows_at (codes "patternProperties") ms) ≡ list_all (matching_accept W u fs es) (members v)
+  pattern_rows_accept = by (lookup_name (codes "patternProperties") (listed ms)) ∙ list_all-exchanged (λ e x. matches W u e.0 x.0) (λ e x. accepts W u e.1 x.1) es (members v)
+    where
+      by : (o : Option Data) → list_all row_accepts (map (λ d. (codes "patternProperties", d)) (option_to_list o)) ≡ list_all (λ e. list_all (λ x. accepts W u e.1 x.1) (matched_members W u e.0 v)) (entries_in o)
+      by None = refl
+      by (Some d) = and-true _ ∙ pattern_properties_accepts W ms d u v
+
+  fused_rows_accept : list_all row_accepts (fused_rows ms) ≡ is_empty (missing (required_beside ms) v)
+  fused_rows_accept = by (fused_one ms)
+    where
+      by : (o : Option Name) → list_all row_accepts (map (λ n. (codes "required", array (item (string n) no_items))) (option_to_list o)) ≡ is_empty (missing (option_to_list o) v)
+      by None = refl
+      by (Some n) = and-true _ ∙ required_accepts W ms (array (item (string n) no_items)) u v
+
+  -- each declared schema at the member of its name, and each member by the patterns and the rest
+  pub claims_accept : list_all row_accepts claimed ≡ ((list_all (λ e. list_all (accepts W u e.1) (at e.0 v)) fs && list_all (λ x. matching_accept W u fs es x && rest_accepts W u fs es d x) (members v)) && is_empty (missing (required_beside ms) v))
+  claims_accept =
+      sym (list_all-permuted row_accepts _ claimed (claims_restriction ms restricted distinct d there))
+      ∙ ap (λ b. row_accepts (codes "additionalProperties", d) && b) (list_all-append row_accepts (rows_at (codes "properties") ms) (rows_at (codes "patternProperties") ms ++ fused_rows ms))
+      ∙ (λ i. additional_accepts W ms d u v i && (declared_rows_accept i && (list_all-append row_accepts (rows_at (codes "patternProperties") ms) (fused_rows ms) ∙ (λ j. pattern_rows_accept j && fused_rows_accept j)) i))
+      ∙ in_order (list_all (rest_accepts W u fs es d) (members v)) (list_all (λ e. list_all (accepts W u e.1) (at e.0 v)) fs) (list_all (matching_accept W u fs es) (members v)) (is_empty (missing (required_beside ms) v))
+      ∙ ap (λ b. (list_all (λ e. list_all (accepts W u e.1) (at e.0 v)) fs && b) && is_empty (missing (required_beside ms) v)) (sym (list_all-and (matching_accept W u fs es) (rest_accepts W u fs es d) (members v)))
+
+  -- where no name stands twice among the declared and among the members, member by member
+  module _ (declared_once : has_repeat (names_of fs) ≡ false) (members_once : has_repeat (names_of (members v)) ≡ false) where
+    declared_by_member : list_all (λ e. list_all (accepts W u e.1) (at e.0 v)) fs ≡ list_all (declared_accepts W u fs es) (members v)
+    declared_by_member = list_all-other_side (λ s x. accepts W u s x) fs (members v) (Distinct-from fs declared_once) (Distinct-from (members v) members_once)
+
+    pub claims_accept_each : list_all row_accepts claimed ≡ (list_all (each_accepts W u fs es d) (members v) && is_empty (missing (required_beside ms) v))
+    claims_accept_each = claims_accept ∙ ap (λ b. b && is_empty (missing (required_beside ms) v))
+        ((λ i. declared_by_member i && list_all-and (matching_accept W u fs es) (rest_accepts W u fs es d) (members v) i)
+        ∙ sym (and_assoc (list_all (declared_accepts W u fs es) (members v)) (list_all (matching_accept W u fs es) (members v)) (list_all (rest_accepts W u fs es d) (members v)))
+        ∙ sym ((list_all-and (λ x. declared_accepts W u fs es x && matching_accept W u fs es x) (rest_accepts W u fs es d) (members v)) ∙ ap (λ b. b && list_all (rest_accepts W u fs es d) (members v)) (list_all-and (declared_accepts W u fs es) (matching_accept W u fs es) (members v))))
+
+  -- ---- the faults, where the schema object stands at P and the value at Q
+
+  module _ (P Q : Path) where
+    abbrev row_report : Name × Data → List Fault
+    row_report m = member_report W ms m (keyword_named W m.0) u v P Q
+
+    -- what the declared schemas find, name by name
+    abbrev declared_found : List Fault
+    declared_found = flat_map (λ e. flat_map (λ x. report W u e.1 x (P // codes "properties" // e.0) (Q // e.0)) (at e.0 v)) fs
+
+    abbrev others_found : List Fault
+    others_found = others_report W u fs es P Q (has_beside ms) d v
+
+    abbrev required_found : List Fault
+    required_found = required_faults (required_beside ms) v (P // codes "required") Q
+
+    declared_rows_find : flat_map row_report (rows_at (codes "properties") ms) ≡ declared_found
+    declared_rows_find = by (lookup_name (codes "properties") (listed ms))
+      where
+        by : (o : Option Data) → flat_map row_report (map (λ d. (codes "properties", d)) (option_to_list o)) ≡ flat_map (λ e. flat_map (λ x. report W u e.1 x (P // codes "properties" // e.0) (Q // e.0)) (at e.0 v)) (entries_in o)
+        by None = refl
+        by (Some d) = append-nil _ ∙ declared_find W ms d u v P Q
+
+    pattern_rows_find : flat_map row_report (rows_at (codes "patternProperties") ms) ∼ flat_map (matching_report W u fs es P Q) (members v)
+    pattern_rows_find = like_through (∼_same (by (lookup_name (codes "patternProperties") (listed ms)))) (∼_exchanged (λ e x. matches W u e.0 x.0) (λ e x. report W u e.1 x.1 (P // codes "patternProperties" // e.0) (Q // x.0)) es (members v))
+      where
+        by : (o : Option Data) → flat_map row_report (map (λ d. (codes "patternProperties", d)) (option_to_list o)) ≡ flat_map (λ e. flat_map (λ x. report W u e.1 x.1 (P // codes "patternProperties" // e.0) (Q // x.0)) (matched_members W u e.0 v)) (entries_in o)
+        by None = refl
+        by (Some d) = append-nil _ ∙ pattern_properties_report W ms d u v P Q
+
+    fused_rows_find : flat_map row_report (fused_rows ms) ≡ required_found
+    fused_rows_find = by (fused_one ms)
+      where
+        by : (o : Option Name) → flat_map row_report (map (λ n. (codes "required", array (item (string n) no_items))) (option_to_list o)) ≡ required_faults (option_to_list o) v (P // codes "required") Q
+        by None = refl
+        by (Some n) = append-nil _ ∙ required_report W ms (array (item (string n) no_items)) u v P Q
+
+    rows_find : row_report (codes "additionalProperties", d) ++ flat_map row_report (rows_at (codes "properties") ms ++ (rows_at (codes "patternProperties") ms ++ fused_rows ms))
+        ∼ (flat_map (rest_report W u fs es P Q d) (members v) ++ others_found) ++ (declared_found ++ (flat_map (matching_report W u fs es P Q) (members v) ++ required_found))
+    rows_find = ∼_append (∼_same (additional_report W ms d u v P Q))
+        (like_through (∼_same (flat_map-append row_report (rows_at (codes "properties") ms) (rows_at (codes "patternProperties") ms ++ fused_rows ms)))
+        (∼_append (∼_same declared_rows_find)
+        (like_through (∼_same (flat_map-append row_report (rows_at (codes "patternProperties") ms) (fused_rows ms)))
+        (∼_append pattern_rows_find (∼_same fused_rows_find)))))
+
+    -- name by name what the declared schemas find, and member by member the patterns and the rest
+    pub claims_find : flat_map row_report claimed ∼ declared_found ++ flat_map (λ x. matching_report W u fs es P Q x ++ rest_report W u fs es P Q d x) (members v) ++ others_found ++ required_found
+    claims_find =
+        like_through (∼_sym (∼_permuted row_report _ claimed (claims_restriction ms restricted distinct d there)))
+        (like_through rows_find
+        (like_through (found_in_order (flat_map (rest_report W u fs es P Q d) (members v)) others_found declared_found (flat_map (matching_report W u fs es P Q) (members v)) required_found)
+        (∼_behind required_found (∼_behind others_found (∼_before declared_found (∼_sym (∼_parts (matching_report W u fs es P Q) (rest_report W u fs es P Q d) (members v))))))))
+
+    module _ (declared_once : has_repeat (names_of fs) ≡ false) (members_once : has_repeat (names_of (members v)) ≡ false) where
+      found_by_member : declared_found ∼ flat_map (declared_report W u fs es P Q) (members v)
+      found_by_member = ∼_other_side (λ s n x. report W u s x (P // codes "properties" // n) (Q // n)) fs (members v) (Distinct-from fs declared_once) (Distinct-from (members v) members_once)
+
+      pub claims_find_each : flat_map row_report claimed ∼ flat_map (each_report W u fs es P Q d) (members v) ++ others_found ++ required_found
+      claims_find_each = like_through claims_find (∼_behind required_found (∼_behind others_found together))
+        where
+          together : declared_found ++ flat_map (λ x. matching_report W u fs es P Q x ++ rest_report W u fs es P Q d x) (members v) ∼ flat_map (each_report W u fs es P Q d) (members v)
+          together = like_through (∼_behind _ found_by_member)
+              (like_through (∼_sym (∼_parts (declared_report W u fs es P Q) (λ x. matching_report W u fs es P Q x ++ rest_report W u fs es P Q d x) (members v)))
+              (∼_same (λ i. flat_map (λ x. sym (append_assoc (declared_report W u fs es P Q x) (matching_report W u fs es P Q x) (rest_report W u fs es P Q d x)) i) (members v))))
+
+  -- ---- how many matchers are asked
+
+  abbrev row_asks : Name × Data → ℕ
+  row_asks m = member_asks W ms m (keyword_named W m.0) u v
+
+  -- by the declared schemas, name by name
+  abbrev declared_asked : ℕ
+  declared_asked = sum_by (λ e. sum_by (asks W u e.1) (at e.0 v)) fs
+
+  one_row_asks : (m : Name × Data) → sum_by row_asks (m ∷ []) ≡ row_asks m
+  one_row_asks m = sum_by-cons row_asks m [] ∙ nothing_last _
+
+  declared_rows_ask : sum_by row_asks (rows_at (codes "properties") ms) ≡ declared_asked
+  declared_rows_ask = by (lookup_name (codes "properties") (listed ms))
+    where
+      by : (o : Option Data) → sum_by row_asks (map (λ d. (codes "properties", d)) (option_to_list o)) ≡ sum_by (λ e. sum_by (asks W u e.1) (at e.0 v)) (entries_in o)
+      by None = refl
+      by (Some d) = one_row_asks (codes "properties", d) ∙ declared_ask W ms d u v
+
+  pattern_rows_ask : sum_by row_asks (rows_at (codes "patternProperties") ms) ≡ sum_by (λ x. matching_asks W u fs es x + patterns_asked W fs es x.0) (members v)
+  pattern_rows_ask = by (lookup_name (codes "patternProperties") (listed ms))
+    where
+      either : (b : Bool) → 0 + cond b 0 0 ≡ 0
+      either true = omega arith
+      either false = omega arith
+
+      by : (o : Option Data) → sum_by row_asks (map (λ d. (codes "patternProperties", d)) (option_to_list o)) ≡ sum_by (λ x. matching_asks W u fs (entries_in o) x + patterns_asked W fs (entries_in o) x.0) (members v)
+      by None = sym ((λ i. sum_by (λ (x : Name × Data). either (is_declared_in fs x.0) i) (members v)) ∙ sum_of_none (members v))
+      by (Some d) = one_row_asks (codes "patternProperties", d) ∙ pattern_properties_asks_beside W ms d u v (restricted_read (meaning_step W u) ms ∙ restricted)
+
+  fused_rows_ask : sum_by row_asks (fused_rows ms) ≡ 0
+  fused_rows_ask = by (fused_one ms)
+    where
+      by : (o : Option Name) → sum_by row_asks (map (λ n. (codes "required", array (item (string n) no_items))) (option_to_list o)) ≡ 0
+      by None = refl
+      by (Some n) = one_row_asks (codes "required", array (item (string n) no_items)) ∙ required_asks W ms (array (item (string n) no_items)) u v
+
+  pub claims_ask : sum_by row_asks claimed ≡ declared_asked + sum_by (λ x. matching_asks W u fs es x + patterns_asked W fs es x.0) (members v) + sum_by (rest_asks W u fs es d) (members v)
+  claims_ask =
+      let same = sum_by-IsPermutation row_asks _ claimed (claims_restriction ms restricted distinct d there) in
+      let first = sum_by-cons row_asks (codes "additionalProperties", d) (rows_at (codes "properties") ms ++ (rows_at (codes "patternProperties") ms ++ fused_rows ms)) in
+      let second = sum_by-append row_asks (rows_at (codes "properties") ms) (rows_at (codes "patternProperties") ms ++ fused_rows ms) in
+      let third = sum_by-append row_asks (rows_at (codes "patternProperties") ms) (fused_rows ms) in
+      let own = additional_asks W ms d u v in
+      let declared = declared_rows_ask in
+      let matching = pattern_rows_ask in
+      let required = fused_rows_ask in
+      omega (arith, same, first, second, third, own, declared, matching, required)
+
+  module _ (declared_once : has_repeat (names_of fs) ≡ false) (members_once : has_repeat (names_of (members v)) ≡ false) where
+    pub claims_ask_each : sum_by row_asks claimed ≡ sum_by (each_asks W u fs es d) (members v)
+    claims_ask_each =
+        let all = claims_ask in
+        let declared = sum_by-other_side (λ s x. asks W u s x) fs (members v) (Distinct-from fs declared_once) (Distinct-from (members v) members_once) in
+        let two = sum_of_both (declared_asks W u fs es) (λ x. matching_asks W u fs es x + patterns_asked W fs es x.0) (members v) in
+        let three = sum_of_both (λ x. declared_asks W u fs es x + (matching_asks W u fs es x + patterns_asked W fs es x.0)) (rest_asks W u fs es d) (members v) in
+        omega (arith, all, declared, two, three)

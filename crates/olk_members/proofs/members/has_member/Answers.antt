@@ -1,6 +1,0 @@
-use Rattle.std.proofs.Common.{◌∙◌}
-use Rattle.olk_members.proofs.MemberLookups.{has_lookup}
-use Rattle.olk_members.proofs.members.has_member.Goals as goal
-
-pub returns : goal.returns
-returns c = c.contains_key.ensures ∙ has_lookup c.args.name.now c.args.members.now.entries

@@ -1,5 +1,0 @@
-use Rattle.olk_members.proofs.Listed.{sorted_distinct}
-use Rattle.olk_members.proofs.plan.Plan.of.Goals as goal
-
-pub returns-clause-distinct : goal.returns-clause-distinct
-returns-clause-distinct c = sorted_distinct c.args.members.now.entries c.len-count.ensures.ordered
