@@ -34,9 +34,6 @@ pub record HasBodies (pattern : List ℕ) (texts : List (List ℕ)) (rest : List
   pub full : list_all (λ t. not (is_empty t)) items ≡ true
   pub left : bodies_of pattern ≡ (items ++ (bodies_of rest).0, (bodies_of rest).1)
 
-pub HasBodies-none : (pattern : List ℕ) → HasBodies pattern [] pattern
-HasBodies-none pattern = record { items = []; texts_are = refl; full = refl; left = refl }
-
 list_all-push : (xs : List (List ℕ)) (x : List ℕ) → list_all (λ t. not (is_empty t)) xs ≡ true → is_empty x ≡ false → list_all (λ t. not (is_empty t)) (xs ++ x ∷ []) ≡ true
 list_all-push [] x h e = rw e refl
 list_all-push ([] ∷ xs) x h e = h
@@ -70,7 +67,12 @@ joined_last t (d ∷ r) h =
 joined_first : (t r : List ℕ) → (ts : List (List ℕ)) × ((joined t r).0 ≡ t ∷ ts)
 unfolding joined
 joined_first t [] = ([], refl)
-joined_first t (d ∷ r) = elim (d == 124) as (λ b. (ts : List (List ℕ)) × ((cond {A = List (List ℕ) × List ℕ} b (t ∷ (bodies_of r).0, (bodies_of r).1) (t ∷ [], d ∷ r)).0 ≡ t ∷ ts)) [ true ↦ ((bodies_of r).0, refl) | false ↦ ([], refl) ]
+joined_first t (d ∷ r) =
+    elim (d == 124) as (λ b. (ts : List (List ℕ)) × ((cond {A = List (List ℕ) × List ℕ} b (t ∷ (bodies_of r).0, (bodies_of r).1) (t ∷ [], d ∷ r)).0 ≡ t ∷ ts)) [
+      | true ↦
+          ((bodies_of r).0, refl)
+      | false ↦ ([], refl)
+    ]
 
 module _ (pattern : List ℕ) (texts : List (List ℕ)) (rest text after : List ℕ) (h : HasBodies pattern texts rest) (e : text ≡ encode_utf8_all (body_of rest).0)
     (f : after ≡ (body_of rest).1) where

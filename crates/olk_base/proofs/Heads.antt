@@ -116,7 +116,8 @@ module _ (a b : List ℕ) (p : IsBytes a) (q : IsBytes b) (e : head_of a ≡ hea
       let r = sym (head_middle a h k) ∙ e ∙ head_middle b hb kb in
       let first : take 4 a ≡ take 4 b = low_first-injective (take 4 a) (take 4 b) (grind (arith, common_steps)) (grind (arith, common_steps)) (IsBytes-take 4 a p) (IsBytes-take 4 b q) (ap (λ r. r.first) r) in
       let last : drop (length a - 4) a ≡ drop (length b - 4) b =
-      low_first-injective (drop (length a - 4) a) (drop (length b - 4) b) (grind (arith, common_steps)) (grind (arith, common_steps)) (IsBytes-drop (length a - 4) a p) (IsBytes-drop (length b - 4) b q) (ap (λ r. r.last) r) in
+      low_first-injective (drop (length a - 4) a) (drop (length b - 4) b) (grind (arith, common_steps)) (grind (arith, common_steps))
+      (IsBytes-drop (length a - 4) a p) (IsBytes-drop (length b - 4) b q) (ap (λ r. r.last) r) in
       overlap 4 (length a - 4) a b (omega arith) first (last ∙ ap (λ n. drop (n - 4) b) (sym l))
 
   ends : 8 ≤ length a → (take 8 a ≡ take 8 b) × (drop (length a - 8) a ≡ drop (length a - 8) b)
@@ -126,7 +127,8 @@ module _ (a b : List ℕ) (p : IsBytes a) (q : IsBytes b) (e : head_of a ≡ hea
       let r = sym (head_long a h) ∙ e ∙ head_long b hb in
       let first : take 8 a ≡ take 8 b = low_first-injective (take 8 a) (take 8 b) (grind (arith, common_steps)) (grind (arith, common_steps)) (IsBytes-take 8 a p) (IsBytes-take 8 b q) (ap (λ r. r.first) r) in
       let last : drop (length a - 8) a ≡ drop (length b - 8) b =
-      low_first-injective (drop (length a - 8) a) (drop (length b - 8) b) (grind (arith, common_steps)) (grind (arith, common_steps)) (IsBytes-drop (length a - 8) a p) (IsBytes-drop (length b - 8) b q) (ap (λ r. r.last) r) in
+      low_first-injective (drop (length a - 8) a) (drop (length b - 8) b) (grind (arith, common_steps)) (grind (arith, common_steps))
+      (IsBytes-drop (length a - 8) a p) (IsBytes-drop (length b - 8) b q) (ap (λ r. r.last) r) in
       (first, last ∙ ap (λ n. drop (n - 8) b) (sym l))
 
   same_long : 8 ≤ length a → length a ≤ 16 → a ≡ b

@@ -23,16 +23,19 @@ maximum_text m (number (unsigned n)) h = unless_text _ _ h
 maximum_text m (number (negative z)) h = unless_text _ _ h
 maximum_text m v h = absurd (true≢false h)
 
-multiple_text : (m : ℕ) (v : Data) → is_empty (multiple_faults (number (unsigned m)) v) ≡ false → multiple_faults (number (unsigned m)) v ≡ (shown v ++ codes " is not a multiple of " ++ number_text (unsigned m)) ∷ []
+multiple_text : (m : ℕ) (v : Data) → is_empty (multiple_faults (number (unsigned m)) v) ≡ false → multiple_faults (number (unsigned m)) v ≡
+    (shown v ++ codes " is not a multiple of " ++ number_text (unsigned m)) ∷ []
 multiple_text m (number (unsigned n)) h = unless_text _ _ h
 multiple_text m (number (negative z)) h = unless_text _ _ h
 multiple_text m v h = absurd (true≢false h)
 
-shorter_text : (m : ℕ) (v : Data) → is_empty (shorter_faults (number (unsigned m)) v) ≡ false → shorter_faults (number (unsigned m)) v ≡ (shown v ++ codes " is shorter than " ++ number_text (unsigned m) ++ codes " characters") ∷ []
+shorter_text : (m : ℕ) (v : Data) → is_empty (shorter_faults (number (unsigned m)) v) ≡ false → shorter_faults (number (unsigned m)) v ≡
+    (shown v ++ codes " is shorter than " ++ number_text (unsigned m) ++ codes " characters") ∷ []
 shorter_text m (string s) h = unless_text _ _ h
 shorter_text m v h = absurd (true≢false h)
 
-longer_text : (m : ℕ) (v : Data) → is_empty (longer_faults (number (unsigned m)) v) ≡ false → longer_faults (number (unsigned m)) v ≡ (shown v ++ codes " is longer than " ++ number_text (unsigned m) ++ codes " characters") ∷ []
+longer_text : (m : ℕ) (v : Data) → is_empty (longer_faults (number (unsigned m)) v) ≡ false → longer_faults (number (unsigned m)) v ≡
+    (shown v ++ codes " is longer than " ++ number_text (unsigned m) ++ codes " characters") ∷ []
 longer_text m (string s) h = unless_text _ _ h
 longer_text m v h = absurd (true≢false h)
 

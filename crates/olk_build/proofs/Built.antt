@@ -9,7 +9,7 @@ use Rattle.serde_json.specs.View.{view}
 use Rattle.serde_json.specs.declared.value.Value.{Value}
 use Rattle.olk_spec.specs.Names.{Name, Path, ◌//◌, put_if}
 use Rattle.olk_spec.specs.Faults.{Fault, fault, MultipleTypes, like_through}
-use Rattle.olk_spec.specs.Schemas.{listed, members, is_array}
+use Rattle.olk_spec.specs.Schemas.{listed, members}
 use Rattle.olk_spec.specs.Vocabulary.{keyword_named}
 use Rattle.olk_spec.specs.Malformed.{malformations_at}
 use Rattle.olk_spec.specs.Meaning.{meaning}
@@ -62,14 +62,16 @@ module _ (i : ℕ) (vs : List Value) where
 
 -- ---- no schema, and an object
 
-pub refuses_no_schema : (W : World) (d : Data) (P : Path) (a b : Counts) (e : BuildError) → IsNoSchema d → b ≡ count_compiled a → TellsOneOf (fault MultipleTypes d [] P ∷ []) e → Refuses (malformations_at W d P) (cost W d) a b e
+pub refuses_no_schema : (W : World) (d : Data) (P : Path) (a b : Counts) (e : BuildError) → IsNoSchema d → b ≡ count_compiled a
+    → TellsOneOf (fault MultipleTypes d [] P ∷ []) e → Refuses (malformations_at W d P) (cost W d) a b e
 refuses_no_schema W d P a b e h c t = record {
   tells = tells_same (sym (no_schema_malformed W d P h)) e t;
   spends = within_same a b one_place (cost W d) (sym (no_schema_cost W d h)) (within_exactly a b one_place (spends_place a b c));
 }
 
 pub refuses_object : (W : World) (ms : Members) (d : Data) (P : Path) (a m b : Counts) (e : BuildError) → d ≡ object ms → m ≡ count_compiled a
-    → Refuses (flat_map (λ k. member_malformations W ms k (keyword_named W k.0) P) (listed ms)) (total_cost (λ k. member_cost W ms k (keyword_named W k.0)) (listed ms)) m b e → Refuses (malformations_at W d P) (cost W d) a b e
+    → Refuses (flat_map (λ k. member_malformations W ms k (keyword_named W k.0) P) (listed ms)) (total_cost (λ k. member_cost W ms k (keyword_named W k.0)) (listed ms)) m b e
+        → Refuses (malformations_at W d P) (cost W d) a b e
 refuses_object W ms d P a m b e p c r = subst (λ x. Refuses (malformations_at W x P) (cost W x) a b e) (sym p) record {
   tells = tells_same (sym (object_malformed W ms P)) e r.tells;
   spends = within_same a b _ (cost W (object ms)) (sym (object_cost W ms)) (within_after a m b one_place _ (spends_place a m c) r.spends);
@@ -106,7 +108,8 @@ module _ {K R N : Type 0} (o : Kit K R) (answers : N → Answers) where
       spends = spends_place a m c;
     }
 
-    pub built_object : (ms : Members) (ks : Vec (KeywordOver K R N) Global) (z : Counts) → AnswersBy o answers P (Keywords ks) n → d ≡ object ms → KeywordsMean o answers ms ks.items (listed ms) (listed ms) P → all_malformed o ms P (listed ms) ≡ [] → Spends m z (all_cost o ms (listed ms)) → IsBuilt o answers n d P a z
+    pub built_object : (ms : Members) (ks : Vec (KeywordOver K R N) Global) (z : Counts) → AnswersBy o answers P (Keywords ks) n → d ≡ object ms
+        → KeywordsMean o answers ms ks.items (listed ms) (listed ms) P → all_malformed o ms P (listed ms) ≡ [] → Spends m z (all_cost o ms (listed ms)) → IsBuilt o answers n d P a z
     built_object ms ks z is e h clean spent = subst (λ x. IsBuilt o answers n x P a z) (sym e) record {
       stands = record {
         verdict = λ u v. ap (λ q. q.accepts u) (is.verdict v) ∙ h.covers.verdict u v ∙ sym (object_accepts o.world ms u v);
@@ -122,7 +125,8 @@ module _ {K R N : Type 0} (o : Kit K R) (answers : N → Answers) where
 
   -- ---- nodes for schemas under names
 
-  each_push : (P : Path) (ns : List N) (es : List (Name × Data)) (n : N) (e : Name × Data) → StandEach o answers ns es P → Stands o answers n e.1 (P // e.0) → StandEach o answers (ns ++ n ∷ []) (es ++ e ∷ []) P
+  each_push : (P : Path) (ns : List N) (es : List (Name × Data)) (n : N) (e : Name × Data) → StandEach o answers ns es P → Stands o answers n e.1 (P // e.0)
+      → StandEach o answers (ns ++ n ∷ []) (es ++ e ∷ []) P
   each_push P [] [] n e h s = (s, tt)
   each_push P [] (x ∷ es) n e h s = absurd h
   each_push P (y ∷ ns) [] n e h s = absurd h
@@ -167,7 +171,8 @@ module _ {K R N : Type 0} (o : Kit K R) (answers : N → Answers) where
 
   -- ---- nodes for the entries of each of these
 
-  inner_push : (P : Path) (ns here : List N) (es : List (Name × Data)) (e : Name × Data) → StandInner o answers ns es P → StandEach o answers here (members e.1) (P // e.0) → StandInner o answers (ns ++ here) (es ++ e ∷ []) P
+  inner_push : (P : Path) (ns here : List N) (es : List (Name × Data)) (e : Name × Data) → StandInner o answers ns es P → StandEach o answers here (members e.1) (P // e.0)
+      → StandInner o answers (ns ++ here) (es ++ e ∷ []) P
   inner_push P ns here [] e h s = (here, [], ap (λ l. l ++ here) h ∙ sym (append-nil here), s, refl)
   inner_push P ns here (x ∷ es) e h s = (h.0, h.1 ++ here, ap (λ l. l ++ here) h.2 ∙ append_assoc h.0 h.1 here, h.3, inner_push P h.1 here es e h.4 s)
 
@@ -221,11 +226,3 @@ module _ (e : Name × Data) (es : List (Name × Data)) where
   pub at_an_entry : (passes : Bool) → is_read passes e.1 ≡ true → entries_read passes (e ∷ es) ≡ e ∷ entries_read passes es
   at_an_entry true r = ap (λ b. put_if b e (no_lists es)) r
   at_an_entry false r = refl
-
-pub array_known : (d : Data) → is_some (as_array d) ≡ is_array d
-array_known null = refl
-array_known (boolean b) = refl
-array_known (number n) = refl
-array_known (string s) = refl
-array_known (array ds) = refl
-array_known (object ms) = refl

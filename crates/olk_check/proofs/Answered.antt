@@ -2,13 +2,13 @@
 use Rattle.std.proofs.Common.{◌≡◌, ◌<◌, Bool, true, false, List, [], ◌∷◌, length, drop, get_or, refl, sym, ap, subst, ◌∙◌, arith}
 use Rattle.std.proofs.lemmas.List.{drop_all}
 use Rattle.olk_base.specs.Lawful.{Asking}
-use Rattle.olk_tree.specs.Questions.{Question, always, both, every}
+use Rattle.olk_tree.specs.Questions.{Question, always, every}
 use Rattle.olk_tree.proofs.Lists.{next_at}
 use Rattle.olk_tree.proofs.Questions.{both_around}
 use Rattle.olk_check.specs.declared.accepted.Accepted.{Accepted}
 use Rattle.olk_check.specs.declared.accepted.Accepted.TheVariants.{None, One, Two}
 use Rattle.olk_check.specs.Asks.{Asks}
-use Rattle.olk_check.specs.Together.{is_accepted, one_if, two_if, AsksOne, AsksTwo, AsksFirst}
+use Rattle.olk_check.specs.Together.{one_if, AsksOne, AsksTwo, AsksFirst}
 use Rattle.olk_check.proofs.Asked.{unasked}
 use Rattle.olk_check.proofs.Walks.{AllLeft, both_go_on, both_stop, all_go_on}
 
@@ -21,18 +21,7 @@ module _ {a b : Asking} where
     pub answered_one : {r : Bool} {s : Accepted} → s ≡ one_if r → Asks a b q r → AsksOne a b q s
     answered_one {r} e h = subst (AsksOne a b q) (sym e) (one_said r h)
 
-    pub answer_of_one : (s : Accepted) → AsksOne a b q s → Asks a b q (is_accepted s)
-    answer_of_one None h = h
-    answer_of_one One h = h
-    answer_of_one Two h = absurd h
-
   module _ (p q : Question) where
-    two_said : (r : Bool) → Asks a b (both p q) r → AsksTwo a b p q (two_if r)
-    two_said true h = h
-    two_said false h = h
-
-    pub answered_two : {r : Bool} {s : Accepted} → s ≡ two_if r → Asks a b (both p q) r → AsksTwo a b p q s
-    answered_two {r} e h = subst (AsksTwo a b p q) (sym e) (two_said r h)
 
 -- the first of a list
 module _ {X : Type 0} (f : X → Question) (a b : Asking) where

@@ -17,9 +17,6 @@ only_then h k = record {
   unfinished = let e = h.unfinished in let f = k.unfinished in omega arith;
 }
 
-pub only_asked : {a b : Asking} {q : Question} {r : Bool} → Asks a b q r → OnlyAsks a b
-only_asked h = h.only
-
 module _ {a b c : Asking} {p q : Question} {r s : Bool} where
   -- two questions, one after the other, settle a third
   pub join : (m : Question) (t : Bool) → Asks a b p r → Asks b c q s

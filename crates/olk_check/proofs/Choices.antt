@@ -46,7 +46,8 @@ module _ {R N : Type 0} (w : Spoken R N) where
     none_left i [] = refl
     none_left i (e ∷ es) =
         let more : Question = patterns_from true (i + 1) es in
-        ap (λ s. conditional (known_or_asked s (match_question w.answers w.costs e.0 w.name)) (both (w.means e.1 w.value) more) more) (blank i) ∙ ap (conditional (always false) (both (w.means e.1 w.value) more)) (none_left (i + 1) es)
+        ap (λ s. conditional (known_or_asked s (match_question w.answers w.costs e.0 w.name)) (both (w.means e.1 w.value) more) more) (blank i)
+            ∙ ap (conditional (always false) (both (w.means e.1 w.value) more)) (none_left (i + 1) es)
 
     pub nothing_matches : {a : Asking} {spoken : Bool} → spoken ≡ true → Asks a a (patterns_from spoken 0 w.sides.patterns) true
     nothing_matches {a} {spoken} e = subst (λ b. Asks a a (patterns_from b 0 w.sides.patterns) true) (sym e) (subst (λ q. Asks a a q true) (sym (none_left 0 w.sides.patterns)) (unasked a true))
@@ -62,7 +63,8 @@ module _ {R N : Type 0} (w : Spoken R N) where
       asked : {b c : Asking} {r : Bool} → Asks b c match_is_asked r → Asks b c (match_asked w.answers w.costs w.means w.sides w.declared w.name i e.0) r
       asked {b} {c} {r} k = subst (λ s. Asks b c (known_or_asked s (match_question w.answers w.costs e.0 w.name)) r) is k
 
-      at_this : {all : Question} {a b end : Asking} {r : Bool} → Leaves all (patterns_left spoken i) a b → Asks b end (conditional (match_asked w.answers w.costs w.means w.sides w.declared w.name i e.0) matched (patterns_left spoken (i + 1))) r → Asks a end all r
+      at_this : {all : Question} {a b end : Asking} {r : Bool} → Leaves all (patterns_left spoken i) a b
+          → Asks b end (conditional (match_asked w.answers w.costs w.means w.sides w.declared w.name i e.0) matched (patterns_left spoken (i + 1))) r → Asks a end all r
       at_this {b = b} {end = end} {r = r} h k = h.goes_on end r (subst (λ l. Asks b end (patterns_from spoken i l) r) (sym here) k)
 
       module _ {all : Question} {a b c : Asking} (h : Leaves all (patterns_left spoken i) a b) where

@@ -28,8 +28,6 @@ pub record LeftAndHeld {Y X : Type 0} (f : Y → Question) (h : X → Question) 
   pub goes_on : (t : Question) (end : Asking) (result : Bool) → Asks b end (both (both (every f rest) (every h held)) t) result → Asks a end (both (every f all) t) result
 
 module _ {Y X : Type 0} {f : Y → Question} {h : X → Question} {all : List Y} where
-  pub held_start : {a : Asking} → LeftAndHeld f h all all [] a a
-  held_start {a} = record { goes_on = λ t c r l. settles (both (every f all) t) r l (λ u e. e ∙ ap (λ z. z && t.accepts u) (and-true ((every f all).accepts u))) (λ u e. omega arith) }
 
   module _ {left : List Y} {held : List X} {a b : Asking} (w : LeftAndHeld f h all left held a b) where
     -- the other question decides alone, or what was put off does
@@ -49,7 +47,8 @@ module _ {Y X : Type 0} {f : Y → Question} {h : X → Question} {all : List Y}
       pub held_more : {now : List X} (x : X) → h x ≡ f y → now ≡ held ++ x ∷ [] → LeftAndHeld f h all rest now a b
       held_more {now} x same is = record {
         goes_on = λ t c r l. at_next t (settles (both (both (every f (y ∷ rest)) (every h held)) t) r (subst (λ xs. Asks b c (both (both (every f rest) (every h xs)) t) r) is l)
-            (λ u e. e ∙ ap (λ z. z && t.accepts u) (ap (λ z. R u && z) (pushed_accepts h x held u) ∙ and_around (R u) ((h x).accepts u) (H u) ∙ ap (λ z. z && H u) (and_comm (R u) ((h x).accepts u)) ∙ ap (λ q. (q.accepts u && R u) && H u) same))
+            (λ u e. e ∙ ap (λ z. z && t.accepts u) (ap (λ z. R u && z) (pushed_accepts h x held u) ∙ and_around (R u) ((h x).accepts u) (H u)
+                ∙ ap (λ z. z && H u) (and_comm (R u) ((h x).accepts u)) ∙ ap (λ q. (q.accepts u && R u) && H u) same))
             (λ u e. let p = pushed_asks h x held u in let s = ap (λ q. q.asks u) same in omega arith));
       }
         where
@@ -63,7 +62,8 @@ module _ {Y X : Type 0} {f : Y → Question} {h : X → Question} {all : List Y}
         pub held_go_on : Asks b c (f y) true → LeftAndHeld f h all rest held a c
         held_go_on q = record {
           goes_on = λ t d r l. at_next t (settles (both (both (every f (y ∷ rest)) (every h held)) t) r (both_go_on q l)
-              (λ u e. e ∙ and_around ((f y).accepts u) ((every f rest).accepts u && (every h held).accepts u) (t.accepts u) ∙ ap (λ z. z && t.accepts u) (and_around ((f y).accepts u) ((every f rest).accepts u) ((every h held).accepts u)))
+              (λ u e. e ∙ and_around ((f y).accepts u) ((every f rest).accepts u && (every h held).accepts u) (t.accepts u) ∙ ap (λ z. z && t.accepts u)
+                  (and_around ((f y).accepts u) ((every f rest).accepts u) ((every h held).accepts u)))
               (λ u e. omega arith));
         }
 

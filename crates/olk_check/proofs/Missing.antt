@@ -23,13 +23,19 @@ module _ {names : List (String Global)} {ms : Members} where
     pub lacks_end : Lacks names i ms → length names ≤ i → true ≡ is_empty (missing (texts_of names) (object ms))
     lacks_end h le = sym (h.as_left ∙ ap (λ l. is_empty (missing (texts_of l) (object ms))) (drop_all i names le))
 
-    pub lacks_more : {x : String Global} {ys : List (String Global)} {n : Name} → Lacks names i ms → n ≡ string_bytes x → true ≡ has n (object ms) → ys ≡ names → x ≡ get_or ys i x → i < length ys → Lacks names (i + 1) ms
+    pub lacks_more : {x : String Global} {ys : List (String Global)} {n : Name} → Lacks names i ms → n ≡ string_bytes x → true ≡ has n (object ms)
+        → ys ≡ names → x ≡ get_or ys i x → i < length ys → Lacks names (i + 1) ms
     lacks_more {x} {ys} {n} h name e same is lt = record {
-      as_left = h.as_left ∙ ap (λ l. is_empty (missing (texts_of l) (object ms))) (left_at same is lt) ∙ ap (λ b. is_empty (put_if (not b) (string_bytes x) (missing (texts_of (drop (i + 1) names)) (object ms)))) (ap (λ k. has k (object ms)) (sym name) ∙ sym e);
+      as_left =
+          h.as_left ∙ ap (λ l. is_empty (missing (texts_of l) (object ms))) (left_at same is lt)
+              ∙ ap (λ b. is_empty (put_if (not b) (string_bytes x) (missing (texts_of (drop (i + 1) names)) (object ms)))) (ap (λ k. has k (object ms)) (sym name) ∙ sym e);
     }
 
-    pub lacks_stop : {x : String Global} {ys : List (String Global)} {n : Name} → Lacks names i ms → n ≡ string_bytes x → false ≡ has n (object ms) → ys ≡ names → x ≡ get_or ys i x → i < length ys → false ≡ is_empty (missing (texts_of names) (object ms))
-    lacks_stop {x} {ys} {n} h name e same is lt = sym (h.as_left ∙ ap (λ l. is_empty (missing (texts_of l) (object ms))) (left_at same is lt) ∙ ap (λ b. is_empty (put_if (not b) (string_bytes x) (missing (texts_of (drop (i + 1) names)) (object ms)))) (ap (λ k. has k (object ms)) (sym name) ∙ sym e))
+    pub lacks_stop : {x : String Global} {ys : List (String Global)} {n : Name} → Lacks names i ms → n ≡ string_bytes x → false ≡ has n (object ms)
+        → ys ≡ names → x ≡ get_or ys i x → i < length ys → false ≡ is_empty (missing (texts_of names) (object ms))
+    lacks_stop {x} {ys} {n} h name e same is lt =
+        sym (h.as_left ∙ ap (λ l. is_empty (missing (texts_of l) (object ms))) (left_at same is lt)
+            ∙ ap (λ b. is_empty (put_if (not b) (string_bytes x) (missing (texts_of (drop (i + 1) names)) (object ms)))) (ap (λ k. has k (object ms)) (sym name) ∙ sym e))
 
 -- of one name, and of two
 one_there : (p : Bool) (n : Name) → p ≡ is_empty (put_if (not p) n [])

@@ -93,7 +93,8 @@ module _ (r : Asked) (plain : has_fraction r ≡ false) where
         like_told (fault k v Q P) (fault l w R O) (like h) = ap (λ m. record { instance_path = Q; schema_path = P; message = m }) (like_text (fault k v Q P) (fault l v Q P) (like h))
 
     -- what `evaluate` gives is the evaluation
-    pub shown_is_evaluation : (t : Tree) (answer : Text) → u ≡ r.unfinished → IsTree bench u r.schema r.instance [] [] t → is_valid t ≡ accepts bench u r.schema r.instance → answer ≡ json_text (tree_data t) → TellsEvaluation r answer
+    pub shown_is_evaluation : (t : Tree) (answer : Text) → u ≡ r.unfinished → IsTree bench u r.schema r.instance [] [] t → is_valid t ≡ accepts bench u r.schema r.instance
+        → answer ≡ json_text (tree_data t) → TellsEvaluation r answer
     shown_is_evaluation t answer is shows valid tells = record {
       tree = t;
       is_tree = subst (λ u. IsTree bench u r.schema r.instance [] [] t) is shows;

@@ -163,7 +163,8 @@ module _ {R N : Type 0} (answers : R → Name → Says) (costs : R → Bool) (m 
         verdict = ap (λ b. not b && (every asked_of more).accepts u) e;
         of_first = record {
           one = o.one;
-          among = subst (λ b. Contains (or_else (cond b (told (x ∷ [])) []) (first_of (first_found u) more)) o.one) (sym e) (contains_first (told (x ∷ [])) (first_of (first_found u) more) o.one o.among);
+          among =
+              subst (λ b. Contains (or_else (cond b (told (x ∷ [])) []) (first_of (first_found u) more)) o.one) (sym e) (contains_first (told (x ∷ [])) (first_of (first_found u) more) o.one o.among);
           like = o.like;
         };
         of_all = record {

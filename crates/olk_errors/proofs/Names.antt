@@ -31,14 +31,13 @@ module _ (v : Data) (Q : Path) where
   contains_wrapped : (fs : List Fault) (f : Fault) → Contains fs f → Contains (map (wrapped v Q) fs) (wrapped v Q f)
   contains_wrapped fs f c = let p = mapped fs f c.0 c.1 c.2 in (c.0, p.0, p.1)
 
-  pub name_passes : {o : Outcome} → Passes o → Passes (told_of o)
-  name_passes h = record { verdict = h.verdict; nothing = ap (map (wrapped v Q)) h.nothing }
-
   pub name_errs : {o : Outcome} (f g : Fault) → f ≡ wrapped v Q g → IsErrorOf o g → IsErrorOf (told_of o) f
   name_errs {o} f g is told = subst (IsErrorOf (told_of o)) (sym is) (record {
     verdict = told.verdict;
     of_first = record { one = wrapped v Q told.of_first.one; among = contains_wrapped o.first told.of_first.one told.of_first.among; like = like_wrapped v Q told.of_first.like };
-    of_all = record { whole = wrapped v Q told.of_all.whole; among = contains_wrapped o.all told.of_all.whole told.of_all.among; like = subst (IsLike (wrapped v Q g)) (cut_wrapped told.of_all.whole) (like_wrapped v Q told.of_all.like) };
+    of_all =
+        record { whole = wrapped v Q told.of_all.whole; among = contains_wrapped o.all told.of_all.whole told.of_all.among;
+            like = subst (IsLike (wrapped v Q g)) (cut_wrapped told.of_all.whole) (like_wrapped v Q told.of_all.like) };
   })
 
   -- the errors that were found, each told of the object

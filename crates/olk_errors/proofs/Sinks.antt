@@ -207,7 +207,8 @@ module _ {X : Type 0} {q : X → Question} {u : Bool} {s f : X → List Fault} {
       stop = λ newest {t} h. loop.stop newest (subst (λ l. StopsBy t new newest (IsErrorOf (of_each u q s f l))) (sym next) (stops_after on h));
     }
 
-    pub walked_stop : {x : X} {more : List X} {newer : ErrorSink} {t : Stop} → rest ≡ x ∷ more → StopsBy t new newer (IsErrorOf (of_one q u s f x)) → StopsBy t old newer (IsErrorOf (of_each u q s f all))
+    pub walked_stop : {x : X} {more : List X} {newer : ErrorSink} {t : Stop} → rest ≡ x ∷ more → StopsBy t new newer (IsErrorOf (of_one q u s f x))
+        → StopsBy t old newer (IsErrorOf (of_each u q s f all))
     walked_stop {x} {more} {newer} {t} next h = loop.stop newer (subst (λ l. StopsBy t new newer (IsErrorOf (of_each u q s f l))) (sym next) (stops_before (of_each u q s f more) h))
 
     pub walked_end : rest ≡ [] → GoesOn old new (of_each u q s f all)
@@ -227,10 +228,13 @@ module _ {X : Type 0} {q : X → Question} {s f : Bool → X → List Fault} {al
   walking_from {k = k} whole = subst (λ l. Walking q s f all l k k a a) (sym whole) walking_start
 
   module _ {rest : List X} {old new : ErrorSink} {b : Asking} (loop : Walking q s f all rest old new a b) where
-    pub walking_more : {x : X} {more : List X} {newer : ErrorSink} {c : Asking} → rest ≡ x ∷ more → GoesOn new newer (of_one q b.answer (s b.answer) (f b.answer) x) → OnlyAsks b c → Walking q s f all more old newer a c
-    walking_more {x} {newer = newer} next on only = record { so_far = walked_more loop.so_far next (subst (λ u. GoesOn new newer (of_one q u (s u) (f u) x)) loop.only.answer on); only = only_then loop.only only }
+    pub walking_more : {x : X} {more : List X} {newer : ErrorSink} {c : Asking} → rest ≡ x ∷ more → GoesOn new newer (of_one q b.answer (s b.answer) (f b.answer) x)
+        → OnlyAsks b c → Walking q s f all more old newer a c
+    walking_more {x} {newer = newer} next on only =
+        record { so_far = walked_more loop.so_far next (subst (λ u. GoesOn new newer (of_one q u (s u) (f u) x)) loop.only.answer on); only = only_then loop.only only }
 
-    pub walking_stop : {x : X} {more : List X} {newer : ErrorSink} {t : Stop} → rest ≡ x ∷ more → StopsBy t new newer (IsErrorOf (of_one q b.answer (s b.answer) (f b.answer) x)) → StopsBy t old newer (IsErrorOf (of_each a.answer q (s a.answer) (f a.answer) all))
+    pub walking_stop : {x : X} {more : List X} {newer : ErrorSink} {t : Stop} → rest ≡ x ∷ more → StopsBy t new newer (IsErrorOf (of_one q b.answer (s b.answer) (f b.answer) x))
+        → StopsBy t old newer (IsErrorOf (of_each a.answer q (s a.answer) (f a.answer) all))
     walking_stop {x} {newer = newer} {t} next h = walked_stop loop.so_far next (subst (λ u. StopsBy t new newer (IsErrorOf (of_one q u (s u) (f u) x))) loop.only.answer h)
 
     pub walking_end : rest ≡ [] → GoesOn old new (of_each a.answer q (s a.answer) (f a.answer) all)

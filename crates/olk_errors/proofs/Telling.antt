@@ -22,10 +22,6 @@ stopped_anyway (Memory m) old new So Then all h = h
 pub stops_anyway : {s : Stop} {old new : ErrorSink} {So Then : Fault → Type 0} → wants_one old ≡ false → StopsBy s old new So → StopsBy s old new Then
 stops_anyway {s} {old} {new} {So} {Then} all h = record { stopped = stopped_anyway s old new So Then all h.stopped }
 
--- and one that wants one takes none without an end
-pub never_goes_on : {old new : ErrorSink} {f : Fault} {o : Outcome} → wants_one old ≡ true → Takes old new f → GoesOn old new o
-never_goes_on one h = absurd (true≢false (sym one ∙ h.all))
-
 -- where all are wanted, what all are up to order is what matters
 pub goes_alike : {old new : ErrorSink} {o : Outcome} (p : Outcome) → wants_one old ≡ false → o.all ∼ p.all → GoesOn old new o → GoesOn old new p
 goes_alike {old} {new} {o} p all alike h =

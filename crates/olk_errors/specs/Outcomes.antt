@@ -14,7 +14,7 @@ use Rattle.olk_base.specs.Compiled.{pattern_answers}
 use Rattle.olk_base.specs.declared.pattern.CompiledPattern.{CompiledPattern}
 use Rattle.olk_tree.specs.Questions.{Question, always, conditional, every}
 use Rattle.olk_tree.specs.Matched.{is_match, matching, match_question}
-use Rattle.olk_tree.specs.Additional.{Sides, known_or, matching_from, means_in_turn, report_in_turn, first_in_turn, additional_means, additional_report, additional_first, sides_of, has_neighbours}
+use Rattle.olk_tree.specs.Additional.{Sides, known_or, matching_from, additional_means, additional_report, additional_first, sides_of, has_neighbours}
 use Rattle.olk_tree.specs.Firsts.{first_of, head_of}
 use Rattle.olk_tree.specs.OneOf.{one_of_report}
 use Rattle.olk_tree.specs.Properties.{properties_mean, properties_report, properties_first}
@@ -121,9 +121,6 @@ abbrev pub of_unexpected : {R N : Type 0} → AdditionalProperties R N → List 
 of_unexpected k xs v Q = record { accepts = is_empty xs; first = unexpected_faults (has_neighbours k) xs v k.location Q; all = unexpected_faults (has_neighbours k) xs v k.location Q }
 
 module _ {R N : Type 0} (answers : R → Name → Says) (m : N → Data → Question) (s r : N → Bool → Data → Path → List Fault) (u : Bool) (k : AdditionalProperties R N) where
-  -- all members, one after the other
-  abbrev pub of_members_in_turn : (R → Bool) → Data → Path → Outcome
-  of_members_in_turn costs v Q = record { accepts = (means_in_turn answers costs m (sides_of k) v).accepts u; first = first_in_turn answers (sides_of k) u v Q (has_neighbours k) k.location s; all = report_in_turn answers (sides_of k) u v Q (has_neighbours k) k.location r }
 
   -- the same, as it is meant of each value
   abbrev pub of_asked_members : (R → Bool) → Data → Path → Outcome

@@ -113,12 +113,15 @@ module _ {R N : Type 0} (answers : R → Name → Says) (t : N → Bool → Data
     abbrev means_at : Name × Data → Question
     means_at x = member_means answers costs m S x.0 x.1
 
-    members_accepted : (xs : List (Name × Data)) → (is_empty (filter_once (λ x. is_unexpected answers S u x.0) xs) && all_wanted (members_found answers t m u Q k xs).wanted) ≡ (every means_at xs).accepts u
+    members_accepted : (xs : List (Name × Data)) → (is_empty (filter_once (λ x. is_unexpected answers S u x.0) xs) && all_wanted (members_found answers t m u Q k xs).wanted) ≡
+        (every means_at xs).accepts u
     members_accepted [] = refl
     members_accepted (x ∷ xs) =
         (λ i. none_more (is_unexpected answers S u x.0) i && list_all-append (λ w. w.1) (nodes_wanted t m u Q x.0 x.1 (nodes_at x)) (members_found answers t m u Q k xs).wanted i)
-        ∙ and_middle (not (is_unexpected answers S u x.0)) (is_empty (filter_once (λ y. is_unexpected answers S u y.0) xs)) (all_wanted (nodes_wanted t m u Q x.0 x.1 (nodes_at x))) (all_wanted (members_found answers t m u Q k xs).wanted)
-        ∙ (λ i. (and_comm (not (is_unexpected answers S u x.0)) (all_wanted (nodes_wanted t m u Q x.0 x.1 (nodes_at x))) ∙ ap (λ b. b && not (is_unexpected answers S u x.0)) (all_accept x.0 x.1 (nodes_at x)) ∙ sym (member_accepted answers costs m S x.0 x.1 u)) i && members_accepted xs i)
+        ∙ and_middle (not (is_unexpected answers S u x.0)) (is_empty (filter_once (λ y. is_unexpected answers S u y.0) xs))
+            (all_wanted (nodes_wanted t m u Q x.0 x.1 (nodes_at x))) (all_wanted (members_found answers t m u Q k xs).wanted)
+        ∙ (λ i. (and_comm (not (is_unexpected answers S u x.0)) (all_wanted (nodes_wanted t m u Q x.0 x.1 (nodes_at x)))
+            ∙ ap (λ b. b && not (is_unexpected answers S u x.0)) (all_accept x.0 x.1 (nodes_at x)) ∙ sym (member_accepted answers costs m S x.0 x.1 u)) i && members_accepted xs i)
       where
         none_more : (b : Bool) → is_empty (put_if b x (filter_once (λ y. is_unexpected answers S u y.0) xs)) ≡ (not b && is_empty (filter_once (λ y. is_unexpected answers S u y.0) xs))
         none_more true = refl
@@ -131,7 +134,8 @@ module _ {R N : Type 0} (answers : R → Name → Says) (t : N → Bool → Data
   alone n = by k.properties k.patterns
     where
       by : (ps : Option (PropertiesMap N)) (qs : Option (Vec (CompiledPattern R × N) Global)) → (is_some ps || is_some qs) ≡ false
-          → (is_none (at_name (record { declared = mapped_places ps; patterns = patterns_in qs; known = S.known; rest = k.rest }) n) && is_empty (matching_from answers S (at_name S n) n u 0 (patterns_in qs))) ≡ true
+          → (is_none (at_name (record { declared = mapped_places ps; patterns = patterns_in qs; known = S.known; rest = k.rest }) n)
+              && is_empty (matching_from answers S (at_name S n) n u 0 (patterns_in qs))) ≡ true
       by None None e = refl
       by None (Some q) e = cc
       by (Some p) None e = cc
@@ -141,7 +145,8 @@ module _ {R N : Type 0} (answers : R → Name → Says) (t : N → Bool → Data
     abbrev left_names : List Name
     left_names = map (λ x. x.0) (filter_once is_left xs)
 
-    beside_others : (b : Bool) → (b ≡ false → (x : Name × Data) → is_left x ≡ true) → cond b (named_faults left_names v P Q) (unexpected_faults false xs v P Q) ≡ unexpected_faults b (filter_once is_left xs) v P Q
+    beside_others : (b : Bool) → (b ≡ false → (x : Name × Data) → is_left x ≡ true) → cond b (named_faults left_names v P Q)
+        (unexpected_faults false xs v P Q) ≡ unexpected_faults b (filter_once is_left xs) v P Q
     beside_others true h = by (filter_once is_left xs)
       where
         by : (ys : List (Name × Data)) → named_faults (map (λ x. x.0) ys) v P Q ≡ unexpected_faults true ys v P Q
@@ -203,7 +208,8 @@ module _ {R N : Type 0} (answers : R → Name → Says) (t : N → Bool → Data
     annotation_is : annotation_here ≡ additional_annotation answers S u (object ms) Q has_properties has_patterns
     annotation_is = ap (λ ns. cond (is_some k.rest) (rest_annotation k ns) None) left_is ∙ by (is_some k.rest)
       where
-        by : (b : Bool) → cond b (rest_annotation k (additional_names answers S u (object ms) Q)) None ≡ cond (b && (cond has_properties has_patterns (not has_patterns) || not (is_empty (additional_names answers S u (object ms) Q)))) (Some (additional_names answers S u (object ms) Q)) None
+        by : (b : Bool) → cond b (rest_annotation k (additional_names answers S u (object ms) Q)) None ≡ cond
+            (b && (cond has_properties has_patterns (not has_patterns) || not (is_empty (additional_names answers S u (object ms) Q)))) (Some (additional_names answers S u (object ms) Q)) None
         by true = refl
         by false = refl
 
@@ -221,7 +227,8 @@ module _ {R N : Type 0} (answers : R → Name → Says) (t : N → Bool → Data
       abbrev all_wants : List Wanted
       all_wants = members_wanted ++ accepted matches_here ++ refused lacking
 
-      trees_are : trees_wanted all_wants ≡ flat_map (λ x. map (λ e. t e u x.1 (Q // x.0)) (nodes_at x)) (listed ms) ++ matches_child answers S u (object ms) Q has_properties has_patterns k.patterns_location ++ lacking
+      trees_are : trees_wanted all_wants ≡ flat_map (λ x. map (λ e. t e u x.1 (Q // x.0)) (nodes_at x)) (listed ms) ++ matches_child answers S u
+          (object ms) Q has_properties has_patterns k.patterns_location ++ lacking
       trees_are = map-append (λ w. w.0) (members_wanted ++ accepted matches_here) (refused lacking)
           ∙ ap (λ l. l ++ trees_wanted (refused lacking)) (map-append (λ w. w.0) members_wanted (accepted matches_here))
           ∙ (λ i. trees_there (listed ms) i ++ (same_trees true matches_here ∙ matches_are k.patterns_location) i ++ same_trees false lacking i)
@@ -229,9 +236,12 @@ module _ {R N : Type 0} (answers : R → Name → Says) (t : N → Bool → Data
       abbrev tree_of_all : Data → Tree
       tree_of_all w = additional_tree answers S u w Q has_properties has_patterns k.location k.patterns_location (λ n. t n u) (missing_trees names w place Q)
 
-      module _ (lacks : AreShown (refused lacking) (trees_of missing_child)) {s r : Shown} (same : s ≡ shown (list_all is_valid (trees_of all)) None [] (trees_of all)) (completes : Completes k (names_of c.additional.items) (listed ms) (object ms) s r) where
+      module _ (lacks : AreShown (refused lacking) (trees_of missing_child)) {s r : Shown} (same : s ≡ shown (list_all is_valid (trees_of all)) None [] (trees_of all))
+          (completes : Completes k (names_of c.additional.items) (listed ms) (object ms) s r) where
         children_are : AreShown all_wants (trees_of all)
-        children_are = subst (AreShown all_wants) (sym (ap trees_of parts ∙ map-append tree_of (c.children.items ++ matches) missing_child ∙ ap (λ l. l ++ trees_of missing_child) (map-append tree_of c.children.items matches)))
+        children_are =
+            subst (AreShown all_wants) (sym (ap trees_of parts ∙ map-append tree_of (c.children.items ++ matches) missing_child
+                ∙ ap (λ l. l ++ trees_of missing_child) (map-append tree_of c.children.items matches)))
             (shown_append (members_wanted ++ accepted matches_here) (refused lacking) (trees_of c.children.items ++ trees_of matches) (trees_of missing_child)
             (shown_append members_wanted (accepted matches_here) (trees_of c.children.items) (trees_of matches) collects.shown
             (subst (AreShown (accepted matches_here)) (sym matches_shown_here) (matches_are_shown (names_of c.matched.items) k.patterns_location Q))) lacks)
@@ -245,21 +255,28 @@ module _ {R N : Type 0} (answers : R → Name → Says) (t : N → Bool → Data
             ∙ (λ i. (list_all-append (λ w. w.1) members_wanted (accepted matches_here) ∙ ap (λ b. all_wanted members_wanted && b) (all_accepted matches_here) ∙ and-true (all_wanted members_wanted)) i
             && all_there names (object ms) (object ms) place Q i)
 
-        object_verdict : (costs : R → Bool) → repeats (object ms) ≡ false → is_valid (node_at k.location Q r) ≡ ((additional_means answers costs m S (object ms)).accepts u && is_empty (missing names (object ms)))
+        object_verdict : (costs : R → Bool) → repeats (object ms) ≡ false → is_valid (node_at k.location Q r) ≡
+            ((additional_means answers costs m S (object ms)).accepts u && is_empty (missing names (object ms)))
         object_verdict costs distinct =
             complete_verdict k.location Q annotation_here (faults_here k.location) all_wants (trees_of all) same (completes k.location Q) children_are
-            ∙ (λ i. (ap is_empty (faults_are k.location) ∙ faults_emptiness (has_neighbours k) (filter_once (λ x. is_unexpected answers S u x.0) (listed ms)) (object ms) k.location Q) i && wants_verdict i)
+            ∙ (λ i. (ap is_empty (faults_are k.location) ∙ faults_emptiness (has_neighbours k) (filter_once (λ x. is_unexpected answers S u x.0) (listed ms))
+                (object ms) k.location Q) i && wants_verdict i)
             ∙ sym (and_assoc (is_empty (filter_once (λ x. is_unexpected answers S u x.0) (listed ms))) (all_wanted members_wanted) (is_empty (missing names (object ms))))
             ∙ ap (λ b. b && is_empty (missing names (object ms))) (members_accepted costs (listed ms) ∙ ap (λ q. q.accepts u) (each_is_all answers costs m S (object ms) distinct))
 
       -- of v, which is that object
-      module _ (v : Data) (is : Some ms ≡ as_object v) (lacks : AreShown (refused (lacking_trees names v (object ms) place Q)) (trees_of missing_child)) {s r : Shown} (same : s ≡ shown (list_all is_valid (trees_of all)) None [] (trees_of all)) (completes : Completes k (names_of c.additional.items) (listed ms) v s r) where
+      module _ (v : Data) (is : Some ms ≡ as_object v) (lacks : AreShown (refused (lacking_trees names v (object ms) place Q)) (trees_of missing_child)) {s r : Shown}
+          (same : s ≡ shown (list_all is_valid (trees_of all)) None [] (trees_of all)) (completes : Completes k (names_of c.additional.items) (listed ms) v s r) where
         pub additional_like : IsLikeTree (tree_of_all v) (node_at k.location Q r)
-        additional_like = subst (λ w. AreShown (refused (lacking_trees names w (object ms) place Q)) (trees_of missing_child) → Completes k (names_of c.additional.items) (listed ms) w s r → IsLikeTree (tree_of_all w) (node_at k.location Q r)) (object_is v ms is)
+        additional_like =
+            subst (λ w. AreShown (refused (lacking_trees names w (object ms) place Q)) (trees_of missing_child) → Completes k (names_of c.additional.items) (listed ms) w s r
+                → IsLikeTree (tree_of_all w) (node_at k.location Q r)) (object_is v ms is)
             (λ l d. object_like l same d) lacks completes
 
         pub additional_verdict : (costs : R → Bool) → repeats (object ms) ≡ false → is_valid (node_at k.location Q r) ≡ ((additional_means answers costs m S v).accepts u && is_empty (missing names v))
-        additional_verdict costs distinct = subst (λ w. AreShown (refused (lacking_trees names w (object ms) place Q)) (trees_of missing_child) → Completes k (names_of c.additional.items) (listed ms) w s r → is_valid (node_at k.location Q r) ≡ ((additional_means answers costs m S w).accepts u && is_empty (missing names w))) (object_is v ms is)
+        additional_verdict costs distinct =
+            subst (λ w. AreShown (refused (lacking_trees names w (object ms) place Q)) (trees_of missing_child) → Completes k (names_of c.additional.items) (listed ms) w s r
+                → is_valid (node_at k.location Q r) ≡ ((additional_means answers costs m S w).accepts u && is_empty (missing names w))) (object_is v ms is)
             (λ l d. object_verdict l same d costs distinct) lacks completes
 
 -- of what is no object

@@ -27,7 +27,9 @@ abbrev pub both_found : Found → Found → Found
 both_found f g = record { wanted = f.wanted ++ g.wanted; additional = f.additional ++ g.additional; matched = f.matched ++ g.matched }
 
 pub collects_nothing : (a : Collected) → CollectsMore nothing_found a a
-collects_nothing a = record { additional = sym (append-nil (names_of a.additional.items)); matched = sym (append-nil (names_of a.matched.items)); added = []; children = sym (append-nil (trees_of a.children.items)); shown = tt }
+collects_nothing a =
+    record { additional = sym (append-nil (names_of a.additional.items)); matched = sym (append-nil (names_of a.matched.items)); added = [];
+        children = sym (append-nil (trees_of a.children.items)); shown = tt }
 
 -- one more list behind two
 behind : {X : Type 0} {all before : List X} (xs ys zs : List X) → before ≡ xs ++ ys → all ≡ before ++ zs → all ≡ xs ++ (ys ++ zs)
@@ -46,7 +48,9 @@ collects_both {f} {g} {a} h k = record {
 pub collects_child : {w : Wanted} {ns ms : List Name} {a b : Collected}
     → names_of b.additional.items ≡ names_of a.additional.items ++ ns → names_of b.matched.items ≡ names_of a.matched.items ++ ms → ShowsMore w a.children.items b.children.items
     → CollectsMore (record { wanted = w ∷ []; additional = ns; matched = ms }) a b
-collects_child {a = a} additional matched more = record { additional = additional; matched = matched; added = tree_of more.child ∷ []; children = ap trees_of more.added ∙ map-append tree_of a.children.items (more.child ∷ []); shown = (more.shown, tt) }
+collects_child {a = a} additional matched more =
+    record { additional = additional; matched = matched; added = tree_of more.child ∷ []; children = ap trees_of more.added
+        ∙ map-append tree_of a.children.items (more.child ∷ []); shown = (more.shown, tt) }
 
 -- ---- what is left adds up to all
 
@@ -137,7 +141,8 @@ module _ {R N : Type 0} (w : Member R N) where
       by None ns = refl
       by (Some f) ns = refl
 
-  match_or_not : (shows spoken b : Bool) (e : N) (ns : List N) → both_found (match_found w.tree w.means w.asking.answer w.path w.name w.value shows e b) (left_with shows (spoken || b) ns) ≡ left_with shows spoken (put_if b e ns)
+  match_or_not : (shows spoken b : Bool) (e : N) (ns : List N) → both_found (match_found w.tree w.means w.asking.answer w.path w.name w.value shows e b)
+      (left_with shows (spoken || b) ns) ≡ left_with shows spoken (put_if b e ns)
   match_or_not true true true e ns = refl
   match_or_not true true false e ns = refl
   match_or_not true false true e ns = refl
@@ -156,7 +161,8 @@ module _ {R N : Type 0} (w : Member R N) where
   rest_at_end false = refl
 
   module _ (spoken : Bool) (i : ℕ) {es : List (CompiledPattern R × N)} where
-    pub after_pattern : {e : CompiledPattern R × N} {more : List (CompiledPattern R × N)} {b : Bool} → es ≡ e ∷ more → b ≡ is_matched_by w.answers (sides_of w.keyword) w.declared w.name w.asking.answer i e.0 → both_found (match_here e.1 b) (patterns_left (spoken || b) (i + 1) more) ≡ patterns_left spoken i es
+    pub after_pattern : {e : CompiledPattern R × N} {more : List (CompiledPattern R × N)} {b : Bool} → es ≡ e ∷ more → b ≡ is_matched_by w.answers
+        (sides_of w.keyword) w.declared w.name w.asking.answer i e.0 → both_found (match_here e.1 b) (patterns_left (spoken || b) (i + 1) more) ≡ patterns_left spoken i es
     after_pattern {e} {more} {b} next is = match_or_not (is_none w.keyword.properties) spoken b e.1 (matching (i + 1) more)
         ∙ ap (λ c. left_with (is_none w.keyword.properties) spoken (put_if c e.1 (matching (i + 1) more))) is
         ∙ ap (patterns_left spoken i) (sym next)
@@ -174,7 +180,8 @@ pub record OnTheWay {R N : Type 0} (w : Member R N) (spoken : Bool) (i : ℕ) (P
   pub leaves : Leaves (all_found w) (patterns_left w spoken i (drop i (sides_of w.keyword).patterns)) old new
 
 module _ {R N : Type 0} {w : Member R N} where
-  pub declared_done : {spoken : Bool} {P : Path} {b : Asking} {old new : Collected} → spoken ≡ is_some w.declared → CollectsMore (declared_here w) old new → P ≡ w.path → OnlyAsks w.asking b → OnTheWay w spoken 0 P b old new
+  pub declared_done : {spoken : Bool} {P : Path} {b : Asking} {old new : Collected} → spoken ≡ is_some w.declared → CollectsMore (declared_here w) old new
+      → P ≡ w.path → OnlyAsks w.asking b → OnTheWay w spoken 0 P b old new
   declared_done {b = b} is h path context = record {
     path = path;
     context = context;
@@ -200,7 +207,8 @@ module _ {R N : Type 0} {w : Member R N} where
     pub patterns_done : drop i (sides_of w.keyword).patterns ≡ [] → spoken ≡ true → CollectsMore (all_found w) old new
     patterns_done none is = leaves_nothing (spoken_of w spoken i none is) loop.leaves
 
-    pub rest_done : {newer : Collected} → drop i (sides_of w.keyword).patterns ≡ [] → spoken ≡ false → CollectsMore (rest_found w.tree w.means b.answer P w.name w.value w.keyword.rest) new newer → CollectsMore (all_found w) old newer
+    pub rest_done : {newer : Collected} → drop i (sides_of w.keyword).patterns ≡ [] → spoken ≡ false
+        → CollectsMore (rest_found w.tree w.means b.answer P w.name w.value w.keyword.rest) new newer → CollectsMore (all_found w) old newer
     rest_done {newer} none is found = leaves_last (rest_here w) (left_to_rest w spoken i none is) loop.leaves
         (subst₂ (λ u Q. CollectsMore (rest_found w.tree w.means u Q w.name w.value w.keyword.rest) new newer) loop.context.answer loop.path found)
 
@@ -226,7 +234,8 @@ module _ {R N : Type 0} {w : Walk R N} {all : List (Name × Data)} {Q : Path} {a
   walk_begins {old = old} whole same = record { path = refl; context = same; leaves = subst (λ l. Leaves (found_in w a Q all) (found_in w a Q l) old old) (sym whole) leaves_all }
 
   module _ {left : List (Name × Data)} {P : Path} {b : Asking} {old new : Collected} (loop : Walking w all left Q P a b old new) where
-    pub member_done : {x : Name × Data} {more : List (Name × Data)} {S : Path} {c : Asking} {newer : Collected} → left ≡ x ∷ more → CollectsMore (found_at w.answers w.tree w.means b.answer P w.keyword x) new newer → S ≡ P → OnlyAsks b c → Walking w all more Q S a c old newer
+    pub member_done : {x : Name × Data} {more : List (Name × Data)} {S : Path} {c : Asking} {newer : Collected} → left ≡ x ∷ more
+        → CollectsMore (found_at w.answers w.tree w.means b.answer P w.keyword x) new newer → S ≡ P → OnlyAsks b c → Walking w all more Q S a c old newer
     member_done {x} {more} {newer = newer} next found path context = record {
       path = path ∙ loop.path;
       context = only_then loop.context context;

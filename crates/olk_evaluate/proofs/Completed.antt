@@ -33,7 +33,8 @@ told_emptiness (d ∷ ds) [] h = absurd h
 told_emptiness (d ∷ ds) (e ∷ es) h = refl
 
 -- a result with own errors, an annotation and children that are wanted
-module _ (P Q : Path) (A : Option (List Name)) (fs : List Fault) (ws : List Wanted) (cs : List Tree) {s r : Shown} (same : s ≡ shown (list_all is_valid cs) None [] cs) (h : AddsErrors fs (annotated_if A s) r) (children : AreShown ws cs) where
+module _ (P Q : Path) (A : Option (List Name)) (fs : List Fault) (ws : List Wanted) (cs : List Tree) {s r : Shown} (same : s ≡ shown (list_all is_valid cs) None [] cs)
+    (h : AddsErrors fs (annotated_if A s) r) (children : AreShown ws cs) where
   abbrev all_shown : Shown
   all_shown = shown (is_empty h.own && list_all is_valid cs) A h.own cs
 
@@ -46,7 +47,8 @@ module _ (P Q : Path) (A : Option (List Name)) (fs : List Fault) (ws : List Want
   pub complete_like : (ts : List Tree) → trees_wanted ws ≡ ts → IsLikeTree (result P Q A false (described fs) ts) (node_at P Q r)
   complete_like ts trees = subst (λ x. IsLikeTree (result P Q A false (described fs) ts) (node_at P Q x)) (sym result_is)
       (subst (λ us. IsLikeTree (result P Q A false (described fs) us) (node_at P Q all_shown)) trees
-      (like_result P Q (is_empty (described fs) && true && list_all is_valid (trees_wanted ws)) (is_empty h.own && list_all is_valid cs) A A (described fs) h.own (trees_from (trees_wanted ws)) (trees_from cs)
+      (like_result P Q (is_empty (described fs) && true && list_all is_valid (trees_wanted ws)) (is_empty h.own && list_all is_valid cs) A A
+          (described fs) h.own (trees_from (trees_wanted ws)) (trees_from cs)
       (λ i. (told_emptiness (described fs) h.own h.told ∙ sym (and-true (is_empty (described fs)))) i && all_wanted_valid ws cs children i)
       refl h.told (like_children ws cs children)))
 

@@ -88,7 +88,8 @@ module _ {N : Type 0} (t : N → Bool → Data → Path → Tree) (m : N → Dat
   wanted_each (d ∷ ds) = ap (λ b. (m d.node d.value).accepts u && b) (wanted_each ds)
 
   -- all that is shown is valid exactly if each of the members is accepted
-  pub met_verdict : {ds : List (Declared N)} {b : Met} {q : Question} → HasMet (wanted_at t m u Q) ds b → every (λ d. m d.node d.value) ds ≡ q → list_all is_valid (trees_of b.children.items) ≡ q.accepts u
+  pub met_verdict : {ds : List (Declared N)} {b : Met} {q : Question} → HasMet (wanted_at t m u Q) ds b → every (λ d. m d.node d.value) ds ≡ q
+      → list_all is_valid (trees_of b.children.items) ≡ q.accepts u
   met_verdict {ds} {b} h same = all_valid (map (wanted_at t m u Q) ds) (trees_of b.children.items) h.shown ∙ wanted_each ds ∙ ap (λ p. p.accepts u) same
 
   module _ (es : List (Name × N)) where
@@ -135,7 +136,8 @@ module _ {N : Type 0} (t : N → Bool → Data → Path → Tree) (m : N → Dat
       trees_as_wanted = map-append (λ w. w.0) (wanted_in ms) extra ∙ ap (λ l. l ++ trees_wanted extra) (trees_there (listed ms))
 
       -- the members' children, and others behind them
-      properties_like : (P : Path) (ns : List Name) (cs : List Tree) {s : Shown} → ns ≡ declared_names (members_declared es (listed ms)) → AreShown (wanted_in ms ++ extra) cs → s ≡ shown (list_all is_valid cs) (Some ns) [] cs → IsLikeTree (properties_tree tree_at (object ms) Q P es (trees_wanted extra)) (node_at P Q s)
+      properties_like : (P : Path) (ns : List Name) (cs : List Tree) {s : Shown} → ns ≡ declared_names (members_declared es (listed ms))
+          → AreShown (wanted_in ms ++ extra) cs → s ≡ shown (list_all is_valid cs) (Some ns) [] cs → IsLikeTree (properties_tree tree_at (object ms) Q P es (trees_wanted extra)) (node_at P Q s)
       properties_like P ns cs names h e =
           subst (λ r. IsLikeTree (properties_tree tree_at (object ms) Q P es (trees_wanted extra)) (node_at P Q r)) (sym e)
           (like_result P Q (list_all is_valid wanted_trees) (list_all is_valid cs) (Some (met_names tree_at (object ms) Q es)) (Some ns) [] [] (trees_from wanted_trees) (trees_from cs)
@@ -148,12 +150,14 @@ module _ {N : Type 0} (t : N → Bool → Data → Path → Tree) (m : N → Dat
 
     module _ (P : Path) (v : Data) (ms : Members) (met : Met) {s : Shown} where
       -- the members' children alone
-      pub alone_like : Some ms ≡ as_object v → HasMet (wanted_at t m u Q) (members_declared es (listed ms)) met → s ≡ shown (list_all is_valid (trees_of met.children.items)) (Some (names_in met)) [] (trees_of met.children.items) → IsLikeTree (properties_tree tree_at v Q P es []) (node_at P Q s)
+      pub alone_like : Some ms ≡ as_object v → HasMet (wanted_at t m u Q) (members_declared es (listed ms)) met
+          → s ≡ shown (list_all is_valid (trees_of met.children.items)) (Some (names_in met)) [] (trees_of met.children.items) → IsLikeTree (properties_tree tree_at v Q P es []) (node_at P Q s)
       alone_like o h e =
           subst (λ w. IsLikeTree (properties_tree tree_at w Q P es []) (node_at P Q s)) (object_is v ms o)
           (properties_like ms [] P (names_in met) (trees_of met.children.items) h.names (subst (λ ws. AreShown ws (trees_of met.children.items)) (sym (append-nil (wanted_in ms))) h.shown) e)
 
-      pub alone_verdict : Some ms ≡ as_object v → list_all is_valid (trees_of met.children.items) ≡ (properties_mean m es (object ms)).accepts u → s ≡ shown (list_all is_valid (trees_of met.children.items)) (Some (names_in met)) [] (trees_of met.children.items) → is_valid (node_at P Q s) ≡ (properties_mean m es v).accepts u
+      pub alone_verdict : Some ms ≡ as_object v → list_all is_valid (trees_of met.children.items) ≡ (properties_mean m es (object ms)).accepts u
+          → s ≡ shown (list_all is_valid (trees_of met.children.items)) (Some (names_in met)) [] (trees_of met.children.items) → is_valid (node_at P Q s) ≡ (properties_mean m es v).accepts u
       alone_verdict o verdict e =
           valid_shown P Q s (list_all is_valid (trees_of met.children.items)) (Some (names_in met)) [] (trees_of met.children.items) e
           ∙ verdict
@@ -171,16 +175,20 @@ module _ {N : Type 0} (t : N → Bool → Data → Path → Tree) (m : N → Dat
       both_children children = ap trees_of children ∙ map-append tree_of met.children.items more
 
       -- the members' children, and one for names that are missing
-      pub beside_like : {s : Shown} → Some ms ≡ as_object v → HasMet (wanted_at t m u Q) (members_declared es (listed ms)) met → AreShown lacking (trees_of more) → b.names.items ≡ met.names.items → b.children.items ≡ met.children.items ++ more
-          → s ≡ shown (list_all is_valid (trees_of b.children.items)) (Some (names_in b)) [] (trees_of b.children.items) → IsLikeTree (properties_tree tree_at v Q P es (missing_trees ns v required Q)) (node_at P Q s)
+      pub beside_like : {s : Shown} → Some ms ≡ as_object v → HasMet (wanted_at t m u Q) (members_declared es (listed ms)) met → AreShown lacking (trees_of more)
+          → b.names.items ≡ met.names.items → b.children.items ≡ met.children.items ++ more
+          → s ≡ shown (list_all is_valid (trees_of b.children.items)) (Some (names_in b)) [] (trees_of b.children.items)
+              → IsLikeTree (properties_tree tree_at v Q P es (missing_trees ns v required Q)) (node_at P Q s)
       beside_like {s} o h k names children e =
           subst (λ w. IsLikeTree (properties_tree tree_at w Q P es (lacking_trees ns v w required Q)) (node_at P Q s)) (object_is v ms o)
           (subst (λ ts. IsLikeTree (properties_tree tree_at (object ms) Q P es ts) (node_at P Q s)) (refused_trees (lacking_trees ns v (object ms) required Q))
           (properties_like ms lacking P (names_in b) (trees_of b.children.items) (ap (map (λ n. n.now)) names ∙ h.names)
           (subst (AreShown (wanted_in ms ++ lacking)) (sym (both_children children)) (shown_append (wanted_in ms) lacking (trees_of met.children.items) (trees_of more) h.shown k)) e))
 
-      pub beside_verdict : {s : Shown} → Some ms ≡ as_object v → list_all is_valid (trees_of met.children.items) ≡ (properties_mean m es (object ms)).accepts u → AreShown lacking (trees_of more) → b.children.items ≡ met.children.items ++ more
-          → s ≡ shown (list_all is_valid (trees_of b.children.items)) (Some (names_in b)) [] (trees_of b.children.items) → is_valid (node_at P Q s) ≡ (is_empty (missing ns v) && (properties_mean m es v).accepts u)
+      pub beside_verdict : {s : Shown} → Some ms ≡ as_object v → list_all is_valid (trees_of met.children.items) ≡ (properties_mean m es (object ms)).accepts u
+          → AreShown lacking (trees_of more) → b.children.items ≡ met.children.items ++ more
+          → s ≡ shown (list_all is_valid (trees_of b.children.items)) (Some (names_in b)) [] (trees_of b.children.items) → is_valid (node_at P Q s) ≡
+              (is_empty (missing ns v) && (properties_mean m es v).accepts u)
       beside_verdict {s} o verdict k children e =
           valid_shown P Q s (list_all is_valid (trees_of b.children.items)) (Some (names_in b)) [] (trees_of b.children.items) e
           ∙ ap (list_all is_valid) (both_children children)
@@ -189,5 +197,6 @@ module _ {N : Type 0} (t : N → Bool → Data → Path → Tree) (m : N → Dat
           ∙ and_comm ((properties_mean m es (object ms)).accepts u) (is_empty (missing ns (object ms)))
           ∙ ap (λ w. is_empty (missing ns w) && (properties_mean m es w).accepts u) (object_is v ms o)
 
-    pub nothing_missing : (P : Path) (v : Data) (ns : List Name) {s : Shown} → None ≡ as_object v → s ≡ shown true None [] [] → is_valid (node_at P Q s) ≡ (is_empty (missing ns v) && (properties_mean m es v).accepts u)
+    pub nothing_missing : (P : Path) (v : Data) (ns : List Name) {s : Shown} → None ≡ as_object v → s ≡ shown true None [] [] → is_valid (node_at P Q s) ≡
+        (is_empty (missing ns v) && (properties_mean m es v).accepts u)
     nothing_missing P v ns e h = nothing_verdict P v e h ∙ ap (λ c. c && (properties_mean m es v).accepts u) (sym (lacks_nothing ns v e))

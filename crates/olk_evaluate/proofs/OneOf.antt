@@ -40,7 +40,9 @@ module _ {N : Type 0} (t : N → Bool → Data → Path → Tree) (m : N → Dat
 
   module _ (cs : List Tree) (h : AreShown (filter_once (λ w. w.1) wanted_here) cs) where
     count_shown : how_many (λ k. m k v) u ns ≡ length cs
-    count_shown = count_those (accepts_here t m u v P Q ns) ns ∙ sym (length-map acceptors (λ k. wanted t m u k v Q)) ∙ ap length (sym (accepting_wanted t m u v P Q ns)) ∙ as_long (filter_once (λ w. w.1) wanted_here) cs h
+    count_shown =
+        count_those (accepts_here t m u v P Q ns) ns ∙ sym (length-map acceptors (λ k. wanted t m u k v Q)) ∙ ap length (sym (accepting_wanted t m u v P Q ns))
+            ∙ as_long (filter_once (λ w. w.1) wanted_here) cs h
 
     acceptors_wanted : trees_wanted (filter_once (λ w. w.1) wanted_here) ≡ branch_trees (λ k. t k u) v Q acceptors
     acceptors_wanted = ap trees_wanted (accepting_wanted t m u v P Q ns) ∙ branches_wanted t m u v P Q acceptors
@@ -53,7 +55,9 @@ module _ {N : Type 0} (t : N → Bool → Data → Path → Tree) (m : N → Dat
     module _ {s : Shown} where
       -- where one accepts
       pub one_like : length cs ≡ 1 → s ≡ shown (list_all is_valid cs) None [] cs → IsLikeTree tree_here (node_at P Q s)
-      one_like one e = subst (λ w. IsLikeTree w (node_at P Q s)) (sym (ap tree_of_count (count_shown ∙ one))) (plain_like P Q (filter_once (λ w. w.1) wanted_here) (branch_trees (λ k. t k u) v Q acceptors) acceptors_wanted h e)
+      one_like one e =
+          subst (λ w. IsLikeTree w (node_at P Q s)) (sym (ap tree_of_count (count_shown ∙ one)))
+              (plain_like P Q (filter_once (λ w. w.1) wanted_here) (branch_trees (λ k. t k u) v Q acceptors) acceptors_wanted h e)
 
       pub one_verdict : length cs ≡ 1 → s ≡ shown (list_all is_valid cs) None [] cs → is_valid (node_at P Q s) ≡ (how_many (λ k. m k v) u ns == 1)
       one_verdict one e = plain_verdict P Q (filter_once (λ w. w.1) wanted_here) true (those_pass (λ w. w.1) wanted_here) h e ∙ sym (ap (λ n. n == 1) (count_shown ∙ one))
@@ -91,7 +95,8 @@ module _ (xs : List EvaluationNode) (n : ℕ) (len : n ≡ length xs) where
   one_node e l = length-map xs tree_of ∙ sym len ∙ grind (arith, nat_tests)
 
 -- one branch alone
-module _ {N : Type 0} (t : N → Bool → Data → Path → Tree) (m : N → Data → Question) (u : Bool) (v : Data) (P Q : Path) (n : N) {c : Tree} {s : Shown} (h : IsShown (wanted t m u n v Q) c) (e : s ≡ shown (is_valid c) None [] (c ∷ [])) where
+module _ {N : Type 0} (t : N → Bool → Data → Path → Tree) (m : N → Data → Question) (u : Bool) (v : Data) (P Q : Path) (n : N) {c : Tree} {s : Shown}
+    (h : IsShown (wanted t m u n v Q) c) (e : s ≡ shown (is_valid c) None [] (c ∷ [])) where
   pub single_like : IsLikeTree (one_of_tree (λ k. t k u) v Q (λ k. (m k v).accepts u) P (n ∷ [])) (node_at P Q s)
   single_like = subst (λ r. IsLikeTree (one_of_tree (λ k. t k u) v Q (λ k. (m k v).accepts u) P (n ∷ [])) (node_at P Q r)) (sym e) (by ((m n v).accepts u) h.verdict)
     where

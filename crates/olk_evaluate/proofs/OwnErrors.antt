@@ -33,7 +33,8 @@ some_error [] f = refl
 some_error (g ∷ fs) f = refl
 
 -- one error more, at any places
-pub marked : (P Q : Path) {before : List Fault} {k : Kind} {v : Data} {d : Described} {s r : Shown} → HasErrors before s → IsDescribedBy (fault k v Q P) d → r ≡ errored d s → HasErrors (before ++ fault k v Q P ∷ []) r
+pub marked : (P Q : Path) {before : List Fault} {k : Kind} {v : Data} {d : Described} {s r : Shown} → HasErrors before s → IsDescribedBy (fault k v Q P) d
+    → r ≡ errored d s → HasErrors (before ++ fault k v Q P ∷ []) r
 marked P Q {before} {k} {v} {d} {s} {r} h t e = record {
   own = h.own ++ d ∷ [];
   is = e ∙ ap (errored d) h.is ∙ ap (λ b. shown b None (h.own ++ d ∷ []) []) (sym (some_error before (fault k v Q P)));
@@ -53,7 +54,8 @@ empty_described (f ∷ fs) = refl
 module _ (P Q : Path) {s : Shown} where
   pub erring_like : (fs : List Fault) → HasErrors fs s → IsLikeTree (erring P Q fs) (node_at P Q s)
   erring_like fs h = subst (λ r. IsLikeTree (erring P Q fs) (node_at P Q r)) (sym h.is)
-      (like_result P Q (is_empty (described fs) && true && true) (is_empty fs) None None (described fs) h.own no_tree no_tree (sym (and_true (is_empty (described fs)) ∙ empty_described fs)) refl h.told tt)
+      (like_result P Q (is_empty (described fs) && true && true) (is_empty fs) None None (described fs) h.own no_tree no_tree
+          (sym (and_true (is_empty (described fs)) ∙ empty_described fs)) refl h.told tt)
 
   pub erring_verdict : (fs : List Fault) → HasErrors fs s → is_valid (node_at P Q s) ≡ is_empty fs
   erring_verdict fs h = valid_shown P Q s (is_empty fs) None h.own [] h.is
@@ -69,7 +71,8 @@ pub record ErrorsFrom (all left : List Fault) (s : Shown) : Type 0 where
 pub errors_start : {all left : List Fault} {s : Shown} → s ≡ shown true None [] [] → left ≡ all → ErrorsFrom all left s
 errors_start e same = record { done = []; parts = sym same; has = no_error e }
 
-pub errors_more : {all left : List Fault} (here rest : List Fault) {s r : Shown} → ErrorsFrom all left s → left ≡ here ++ rest → ((before : List Fault) → HasErrors before s → HasErrors (before ++ here) r) → ErrorsFrom all rest r
+pub errors_more : {all left : List Fault} (here rest : List Fault) {s r : Shown} → ErrorsFrom all left s → left ≡ here ++ rest
+    → ((before : List Fault) → HasErrors before s → HasErrors (before ++ here) r) → ErrorsFrom all rest r
 errors_more here rest h e more = record {
   done = h.done ++ here;
   parts = h.parts ∙ ap (λ l. h.done ++ l) e ∙ sym (append_assoc h.done here rest);
@@ -99,9 +102,11 @@ module _ (ms : Members) (f : Name → Fault) (names ys : List (String Global)) (
   abbrev pub faults_from_at : ℕ → List Fault
   faults_from_at j = map f (missing (texts_of (drop j names)) (object ms))
 
-  pub missing_at : {x : String Global} {n : Name} → ys ≡ names → x ≡ get_or ys i x → i < length ys → n ≡ string_bytes x → faults_from_at i ≡ put_if (not (has n (object ms))) (f n) [] ++ faults_from_at (i + 1)
+  pub missing_at : {x : String Global} {n : Name} → ys ≡ names → x ≡ get_or ys i x → i < length ys → n ≡ string_bytes x → faults_from_at i ≡ put_if
+      (not (has n (object ms))) (f n) [] ++ faults_from_at (i + 1)
   missing_at {x} {n} same is lt name =
-      ap (λ l. map f (missing (texts_of l) (object ms))) (at_drop_more (λ l. l) names i x (subst (λ zs. i < length zs) same lt) ∙ ap (λ y. y ∷ drop (i + 1) names) (sym (is ∙ ap (λ zs. get_or zs i x) same)))
+      ap (λ l. map f (missing (texts_of l) (object ms))) (at_drop_more (λ l. l) names i x (subst (λ zs. i < length zs) same lt)
+          ∙ ap (λ y. y ∷ drop (i + 1) names) (sym (is ∙ ap (λ zs. get_or zs i x) same)))
       ∙ one_missing f (not (has (string_bytes x) (object ms))) (string_bytes x) (missing (texts_of (drop (i + 1) names)) (object ms))
       ∙ ap (λ k. put_if (not (has k (object ms))) (f k) [] ++ faults_from_at (i + 1)) (sym name)
 
@@ -180,10 +185,12 @@ module _ (ns : List Name) (v w : Data) (P Q : Path) where
   pub none_lacking : false ≡ not (is_empty (missing ns w)) → AreShown (refused (lacking_trees ns v w P Q)) []
   none_lacking e = lacking_none (not (is_empty (missing ns w))) (erring P Q (map (λ n. fault (Required n) v Q P) (missing ns w))) e
 
-  pub some_lacking : {s : Shown} {r : Tree} → true ≡ not (is_empty (missing ns w)) → HasErrors (map (λ n. fault (Required n) v Q P) (missing ns w)) s → r ≡ node_at P Q s → AreShown (refused (lacking_trees ns v w P Q)) (r ∷ [])
+  pub some_lacking : {s : Shown} {r : Tree} → true ≡ not (is_empty (missing ns w)) → HasErrors (map (λ n. fault (Required n) v Q P) (missing ns w)) s
+      → r ≡ node_at P Q s → AreShown (refused (lacking_trees ns v w P Q)) (r ∷ [])
   some_lacking {s} e h place =
       subst (λ t. AreShown (refused (lacking_trees ns v w P Q)) (t ∷ [])) (sym place)
-      (lacking_one (not (is_empty (missing ns w))) (erring P Q (map (λ n. fault (Required n) v Q P) (missing ns w))) (node_at P Q s) e (erring_like P Q (map (λ n. fault (Required n) v Q P) (missing ns w)) h)
+      (lacking_one (not (is_empty (missing ns w))) (erring P Q (map (λ n. fault (Required n) v Q P) (missing ns w))) (node_at P Q s) e
+          (erring_like P Q (map (λ n. fault (Required n) v Q P) (missing ns w)) h)
       (erring_verdict P Q (map (λ n. fault (Required n) v Q P) (missing ns w)) h ∙ same_emptiness (λ n. fault (Required n) v Q P) (missing ns w) ∙ is_some_empty (is_empty (missing ns w)) e))
 
   lacking_wanted : (b : Bool) (t : Tree) → list_all (λ x. x.1) (refused (put_if (not b) t [])) ≡ b
@@ -202,7 +209,8 @@ error_of_one : (f : Name → Fault) (b : Bool) (n : Name) {s : Shown} → false 
 error_of_one f true n e h = cc
 error_of_one f false n e h = h
 
-pub one_lacking : (n : Name) (v : Data) (ms : Members) (P Q : Path) {s : Shown} {r : Tree} → false ≡ has n (object ms) → HasErrors (fault (Required n) v Q P ∷ []) s → r ≡ node_at P Q s → AreShown (refused (lacking_trees (n ∷ []) v (object ms) P Q)) (r ∷ [])
+pub one_lacking : (n : Name) (v : Data) (ms : Members) (P Q : Path) {s : Shown} {r : Tree} → false ≡ has n (object ms) → HasErrors (fault (Required n) v Q P ∷ []) s
+    → r ≡ node_at P Q s → AreShown (refused (lacking_trees (n ∷ []) v (object ms) P Q)) (r ∷ [])
 one_lacking n v ms P Q e h place = some_lacking (n ∷ []) v (object ms) P Q (lacks_one (has n (object ms)) n e) (error_of_one (λ k. fault (Required k) v Q P) (has n (object ms)) n e h) place
 
 none_of_one : (b : Bool) (n : Name) → true ≡ b → false ≡ not (is_empty (put_if (not b) n []))
@@ -212,7 +220,8 @@ none_of_one false n e = cc
 pub not_lacking : (n : Name) (v : Data) (ms : Members) (P Q : Path) → true ≡ has n (object ms) → AreShown (refused (lacking_trees (n ∷ []) v (object ms) P Q)) []
 not_lacking n v ms P Q e = none_lacking (n ∷ []) v (object ms) P Q (none_of_one (has n (object ms)) n e)
 
-pub same_lacking : {a b c d : Name} {P R Q S : Path} (v w : Data) (ts : List Tree) → a ≡ c → b ≡ d → P ≡ R → Q ≡ S → AreShown (refused (lacking_trees (a ∷ b ∷ []) v w P Q)) ts → AreShown (refused (lacking_trees (c ∷ d ∷ []) v w R S)) ts
+pub same_lacking : {a b c d : Name} {P R Q S : Path} (v w : Data) (ts : List Tree) → a ≡ c → b ≡ d → P ≡ R → Q ≡ S → AreShown (refused (lacking_trees (a ∷ b ∷ []) v w P Q)) ts
+    → AreShown (refused (lacking_trees (c ∷ d ∷ []) v w R S)) ts
 same_lacking v w ts e f g h = subst (λ l. AreShown (refused l) ts) (λ i. lacking_trees (e i ∷ f i ∷ []) v w (g i) (h i))
 
 -- ---- an object that is to have no members

@@ -40,13 +40,16 @@ module _ {N : Type 0} {want : Declared N → Wanted} where
 
   meets_both : {ds es : List (Declared N)} {a b c : Met} → MeetsMore want ds a b → MeetsMore want es b c → MeetsMore want (ds ++ es) a c
   meets_both {ds} {es} {a} h k = record {
-    names = k.names ∙ ap (λ l. l ++ map (λ d. d.name) es) h.names ∙ append_assoc (names_in a) (map (λ d. d.name) ds) (map (λ d. d.name) es) ∙ ap (λ l. names_in a ++ l) (sym (map-append (λ d. d.name) ds es));
+    names =
+        k.names ∙ ap (λ l. l ++ map (λ d. d.name) es) h.names ∙ append_assoc (names_in a) (map (λ d. d.name) ds) (map (λ d. d.name) es)
+            ∙ ap (λ l. names_in a ++ l) (sym (map-append (λ d. d.name) ds es));
     added = h.added ++ k.added;
     children = k.children ∙ ap (λ l. l ++ k.added) h.children ∙ append_assoc (trees_of a.children.items) h.added k.added;
     shown = subst (λ ws. AreShown ws (h.added ++ k.added)) (sym (map-append want ds es)) (shown_append (map want ds) (map want es) h.added k.added h.shown k.shown);
   }
 
-  pub meets_one : {a b : Met} (d : Declared N) (child : EvaluationNode) → names_in b ≡ names_in a ++ d.name ∷ [] → b.children.items ≡ a.children.items ++ child ∷ [] → IsShown (want d) (tree_of child) → MeetsMore want (d ∷ []) a b
+  pub meets_one : {a b : Met} (d : Declared N) (child : EvaluationNode) → names_in b ≡ names_in a ++ d.name ∷ [] → b.children.items ≡ a.children.items
+      ++ child ∷ [] → IsShown (want d) (tree_of child) → MeetsMore want (d ∷ []) a b
   meets_one {a} d child names children is = record { names = names; added = tree_of child ∷ []; children = ap trees_of children ∙ map-append tree_of a.children.items (child ∷ []); shown = (is, tt) }
 
 -- of all, some are done, whose members are met, and the rest is left; Q and R are the path at the start and now, a and b the context
@@ -62,11 +65,14 @@ module _ {X N : Type 0} {want : Bool → Path → Declared N → Wanted} {g : Bo
   meeting_from {old = old} whole same = record { done = []; split = whole; met = meets_nothing old; path = refl; only = same }
 
   module _ {rest : List X} {old new : Met} {R : Path} {b : Asking} (loop : Meeting want g all rest old new Q R a b) where
-    pub meeting_more : {x : X} {more : List X} {newer : Met} {S : Path} {c : Asking} → rest ≡ x ∷ more → MeetsMore (want b.answer R) (g b.answer x) new newer → S ≡ R → OnlyAsks b c → Meeting want g all more old newer Q S a c
+    pub meeting_more : {x : X} {more : List X} {newer : Met} {S : Path} {c : Asking} → rest ≡ x ∷ more → MeetsMore (want b.answer R) (g b.answer x) new newer
+        → S ≡ R → OnlyAsks b c → Meeting want g all more old newer Q S a c
     meeting_more {x} {more} {newer} next found path only = record {
       done = loop.done ++ x ∷ [];
       split = append_assoc loop.done (x ∷ []) more ∙ ap (λ l. loop.done ++ l) (sym next) ∙ loop.split;
-      met = subst (λ ds. MeetsMore (want a.answer Q) ds old newer) (ap (λ l. flat_map (g a.answer) loop.done ++ l) (sym (append-nil (g a.answer x))) ∙ sym (flat_map-append (g a.answer) loop.done (x ∷ [])))
+      met =
+          subst (λ ds. MeetsMore (want a.answer Q) ds old newer) (ap (λ l. flat_map (g a.answer) loop.done ++ l) (sym (append-nil (g a.answer x)))
+              ∙ sym (flat_map-append (g a.answer) loop.done (x ∷ [])))
           (meets_both loop.met (subst₂ (λ u P. MeetsMore (want u P) (g u x) new newer) loop.only.answer loop.path found));
       path = path ∙ loop.path;
       only = only_then loop.only only;
@@ -114,12 +120,14 @@ module _ {R N : Type 0} (answers : R → Name → Says) (t : N → Bool → Data
       abbrev asked_at : CompiledPattern R → N → Name × Data → Question
       asked_at p n x = conditional (match_question answers costs p x.0) (m n x.1) (always true)
 
-      matches_accepted : (p : CompiledPattern R) (n : N) (xs : List (Name × Data)) → (every (λ d. m d.node d.value) (flat_map (λ x. declared_as x.0 n x.1) (filter_once (λ x. is_match answers u p x.0) xs))).accepts u ≡ (every (asked_at p n) xs).accepts u
+      matches_accepted : (p : CompiledPattern R) (n : N) (xs : List (Name × Data))
+          → (every (λ d. m d.node d.value) (flat_map (λ x. declared_as x.0 n x.1) (filter_once (λ x. is_match answers u p x.0) xs))).accepts u ≡ (every (asked_at p n) xs).accepts u
       matches_accepted p n [] = refl
       matches_accepted p n (x ∷ xs) = by (is_match answers u p x.0) (matches_accepted p n xs)
         where
           by : (b : Bool) → (every (λ d. m d.node d.value) (flat_map (λ x. declared_as x.0 n x.1) (filter_once (λ x. is_match answers u p x.0) xs))).accepts u ≡ (every (asked_at p n) xs).accepts u
-              → (every (λ d. m d.node d.value) (flat_map (λ x. declared_as x.0 n x.1) (put_if b x (filter_once (λ x. is_match answers u p x.0) xs)))).accepts u ≡ (cond b ((m n x.1).accepts u) true && (every (asked_at p n) xs).accepts u)
+              → (every (λ d. m d.node d.value) (flat_map (λ x. declared_as x.0 n x.1) (put_if b x (filter_once (λ x. is_match answers u p x.0) xs)))).accepts u ≡
+                  (cond b ((m n x.1).accepts u) true && (every (asked_at p n) xs).accepts u)
           by true e = ap (λ b. (m n x.1).accepts u && b) e
           by false e = e
 
@@ -141,7 +149,8 @@ module _ {R N : Type 0} (answers : R → Name → Says) (t : N → Bool → Data
           nothing_each (x ∷ xs) = nothing_each xs
 
       no_trees : match_trees (λ n. t n u) v Q answers u es ≡ []
-      no_trees = (λ i. flat_map (λ (e : CompiledPattern R × N). map (λ (x : Name × Data). t e.1 u x.1 (Q // x.0)) (filter_once (λ x. is_match answers u e.0 x.0) (no_members v none i))) es) ∙ nothing_each es
+      no_trees =
+          (λ i. flat_map (λ (e : CompiledPattern R × N). map (λ (x : Name × Data). t e.1 u x.1 (Q // x.0)) (filter_once (λ x. is_match answers u e.0 x.0) (no_members v none i))) es) ∙ nothing_each es
         where
           nothing_each : (xs : List (CompiledPattern R × N)) → flat_map (λ e. let none : List Tree = [] in none) xs ≡ []
           nothing_each [] = refl
@@ -149,13 +158,15 @@ module _ {R N : Type 0} (answers : R → Name → Says) (t : N → Bool → Data
 
       pub other_like : (P : Path) → IsLikeTree (patterns_tree (λ n. t n u) v Q answers u P es) (node_at P Q s)
       other_like P = subst (λ r. IsLikeTree (patterns_tree (λ n. t n u) v Q answers u P es) (node_at P Q r)) (sym h)
-          (subst (λ w. IsLikeTree w (node_at P Q (shown true None [] []))) (λ i. result P Q (cond (sym (no_object v none) i) (Some (match_names (λ n. t n u) v Q answers u es)) None) false [] (sym no_trees i)) (refl, refl, refl, refl, tt, tt))
+          (subst (λ w. IsLikeTree w (node_at P Q (shown true None [] [])))
+              (λ i. result P Q (cond (sym (no_object v none) i) (Some (match_names (λ n. t n u) v Q answers u es)) None) false [] (sym no_trees i)) (refl, refl, refl, refl, tt, tt))
 
       pub other_verdict : (costs : R → Bool) (P : Path) → is_valid (node_at P Q s) ≡ (patterns_mean answers costs m es v).accepts u
       other_verdict costs P = valid_shown P Q s true None [] [] h ∙ sym (ap (λ q. q.accepts u) (patterns_nothing answers v none costs m es))
 
     -- of an object
-    module _ (v : Data) (ms : Members) (is : Some ms ≡ as_object v) (empty met : Met) (none : empty.names.items ≡ []) (no_child : empty.children.items ≡ []) (h : MeetsMore (wanted_at t m u Q) (matches_of_all answers u es (object ms)) empty met)
+    module _ (v : Data) (ms : Members) (is : Some ms ≡ as_object v) (empty met : Met) (none : empty.names.items ≡ []) (no_child : empty.children.items ≡ [])
+        (h : MeetsMore (wanted_at t m u Q) (matches_of_all answers u es (object ms)) empty met)
         {s : Shown} (e : s ≡ shown (list_all is_valid (trees_of met.children.items)) (Some (names_in met)) [] (trees_of met.children.items)) where
       abbrev wants : List Wanted
       wants = map (wanted_at t m u Q) (matches_of_all answers u es (object ms))

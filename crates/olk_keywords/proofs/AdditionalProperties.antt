@@ -55,7 +55,8 @@ module _ {K R N : Type 0} (o : Kit K R) (answers : N → Answers) (ms : Members)
     pub no_other_declared : ((n : List Name) → p.shape ≡ shape.Properties n → ⊥) → ⊥
     no_other_declared f = let r = only_properties o answers p.shape (shape_named o answers p.shape (codes "properties") d declared_part.stand.0.shape refl) in f r.0 r.1
 
-    pub declared_built : (n : List Name) → p.shape ≡ shape.Properties n → lookup_name (codes "properties") (listed ms) ≡ Some d → NeighbourIsBuilt o ms (λ x. DeclaredStand o answers x (P // codes "properties")) (Some (record { names = n; nodes = p.nodes })) (codes "properties") P a b
+    pub declared_built : (n : List Name) → p.shape ≡ shape.Properties n → lookup_name (codes "properties") (listed ms) ≡ Some d → NeighbourIsBuilt o ms
+        (λ x. DeclaredStand o answers x (P // codes "properties")) (Some (record { names = n; nodes = p.nodes })) (codes "properties") P a b
     declared_built n q there =
         let s = declared_part.stand.0 in
         let named = subst (IsShape o (codes "properties") d) q s.shape in
@@ -72,23 +73,28 @@ module _ {K R N : Type 0} (o : Kit K R) (answers : N → Answers) (ms : Members)
     no_other_patterns f = let r = only_pattern_properties o answers p.shape (shape_named o answers p.shape (codes "patternProperties") d patterns_part.stand.0.shape refl) in f r.0 r.1 r.2
 
     pub patterns_built : (v : Vec (CompiledPattern R) Global) (t : Table) → p.shape ≡ shape.PatternProperties v t → lookup_name (codes "patternProperties") (listed ms) ≡ Some d
-        → NeighbourIsBuilt o ms (λ x. PatternsStand o answers (known_of ms) x (P // codes "patternProperties")) (Some (record { location = p.location; patterns = v; table = t; nodes = p.nodes })) (codes "patternProperties") P a b
+        → NeighbourIsBuilt o ms (λ x. PatternsStand o answers (known_of ms) x (P // codes "patternProperties"))
+            (Some (record { location = p.location; patterns = v; table = t; nodes = p.nodes })) (codes "patternProperties") P a b
     patterns_built v t q there =
         let s = patterns_part.stand.0 in
         let named = subst (IsShape o (codes "patternProperties") d) q s.shape in
         let fits = subst (Fits o (known_of ms)) q s.fits in
-        neighbour_built o answers ms P (λ x. PatternsStand o answers (known_of ms) x (P // codes "patternProperties")) (codes "patternProperties") (record { location = p.location; patterns = v; table = t; nodes = p.nodes }) d p a b there patterns_part
-        (record { place = s.place; kind = named.1; patterns = named.2; names = fits.0; table = fits.1; nodes = subst (λ x. StandAt o answers (reads_of x) p.nodes.items d (P // codes "patternProperties")) q s.nodes })
+        neighbour_built o answers ms P (λ x. PatternsStand o answers (known_of ms) x (P // codes "patternProperties")) (codes "patternProperties")
+            (record { location = p.location; patterns = v; table = t; nodes = p.nodes }) d p a b there patterns_part
+        (record { place = s.place; kind = named.1; patterns = named.2; names = fits.0; table = fits.1;
+            nodes = subst (λ x. StandAt o answers (reads_of x) p.nodes.items d (P // codes "patternProperties")) q s.nodes })
 
   -- ---- how many there are
 
-  declared_counted : (x : Option (SmallMap N)) (a : Option Data) (L : Path) → Fills (λ x. DeclaredStand o answers x L) x a → option_map (λ (m : SmallMap N). length m.names) x ≡ option_map (λ d. length (members d)) a
+  declared_counted : (x : Option (SmallMap N)) (a : Option Data) (L : Path) → Fills (λ x. DeclaredStand o answers x L) x a
+      → option_map (λ (m : SmallMap N). length m.names) x ≡ option_map (λ d. length (members d)) a
   declared_counted None None L h = refl
   declared_counted (Some m) (Some d) L h = ap Some (ap length h.names ∙ length-map (members d) (λ e. e.0))
   declared_counted None (Some d) L h = absurd h
   declared_counted (Some m) None L h = absurd h
 
-  patterns_counted : (x : Option (Patterns R N)) (a : Option Data) (L : Path) → Fills (λ x. PatternsStand o answers (known_of ms) x L) x a → option_map (λ (p : Patterns R N). length (zip p.patterns.items p.nodes.items)) x ≡ option_map (λ d. length (members d)) a
+  patterns_counted : (x : Option (Patterns R N)) (a : Option Data) (L : Path) → Fills (λ x. PatternsStand o answers (known_of ms) x L) x a
+      → option_map (λ (p : Patterns R N). length (zip p.patterns.items p.nodes.items)) x ≡ option_map (λ d. length (members d)) a
   patterns_counted None None L h = refl
   patterns_counted (Some p) (Some d) L h = ap Some (zip_length o answers p.patterns.items p.nodes.items (members d) L h.patterns h.nodes)
   patterns_counted None (Some d) L h = absurd h
@@ -97,7 +103,8 @@ module _ {K R N : Type 0} (o : Kit K R) (answers : N → Answers) (ms : Members)
   -- ---- `additionalProperties`, where it is not true
 
   -- the last node is that for the rest
-  rest_there : (x : Shape K R) (d : Data) (ns : List N) (r : Option N) (L : Path) → additional_properties ≡ which_of o answers x → IsShape o (codes "additionalProperties") d x → is_truth true d ≡ false → IsLast ns r → StandAt o answers (reads_of x) ns d L → RestStands o answers r d L × (is_some r ≡ is_object d)
+  rest_there : (x : Shape K R) (d : Data) (ns : List N) (r : Option N) (L : Path) → additional_properties ≡ which_of o answers x
+      → IsShape o (codes "additionalProperties") d x → is_truth true d ≡ false → IsLast ns r → StandAt o answers (reads_of x) ns d L → RestStands o answers r d L × (is_some r ≡ is_object d)
   rest_there shape.AdditionalProperties d ns (Some n) L e s not_true last h = by last.0 (subst (λ l. StandAt o answers Itself l d L) last.1 h)
     where
       by : (before : List N) → StandAt o answers Itself (before ++ n ∷ []) d L → RestStands o answers (Some n) d L × (true ≡ is_object d)
@@ -114,15 +121,21 @@ module _ {K R N : Type 0} (o : Kit K R) (answers : N → Answers) (ms : Members)
   rest_there shape.AnyOthers d ns r L e s not_true last h = absurd (true≢false (sym s.1 ∙ not_true))
   rest_there x d ns r L e s not_true last h = absurd (let q = ap number_of e in omega (arith, q))
 
-  module _ (p : Part K R N) (d : Data) (a m : Counts) (part : IsPart o answers p (known_of ms) (codes "additionalProperties") d (P // codes "additionalProperties") a m) (not_true : is_truth true d ≡ false) (r : Option N) (last : IsLast p.nodes.items r) where
+  module _ (p : Part K R N) (d : Data) (a m : Counts) (part : IsPart o answers p (known_of ms) (codes "additionalProperties") d (P // codes "additionalProperties") a m)
+      (not_true : is_truth true d ≡ false) (r : Option N) (last : IsLast p.nodes.items r) where
     others_part : PartsAreBuilt o answers ms (p ∷ []) ((codes "additionalProperties", d) ∷ []) P a m
     others_part = part ms P refl others_known
 
     rest_is : RestStands o answers r d (P // codes "additionalProperties") × (is_some r ≡ is_object d)
-    rest_is = let s = others_part.stand.0 in rest_there p.shape d p.nodes.items r (P // codes "additionalProperties") (shape_named o answers p.shape (codes "additionalProperties") d s.shape refl) s.shape not_true last s.nodes
+    rest_is =
+        let s = others_part.stand.0 in rest_there p.shape d p.nodes.items r (P // codes "additionalProperties")
+            (shape_named o answers p.shape (codes "additionalProperties") d s.shape refl) s.shape not_true last s.nodes
 
-    module _ (b : Beside R N) (n e : Counts) (declared : NeighbourIsBuilt o ms (λ x. DeclaredStand o answers x (P // codes "properties")) b.properties (codes "properties") P m n) (patterns : NeighbourIsBuilt o ms (λ x. PatternsStand o answers (known_of ms) x (P // codes "patternProperties")) b.patterns (codes "patternProperties") P n e) (plan : Planned) (chosen : plan ≡ plan_of ms) where
-      pub restriction_is_built : (ks : List (KeywordOver K R N)) → has_repeat (names_of (listed ms)) ≡ false → MakesRestriction o answers p.location r b P plan ks → lookup_name (codes "additionalProperties") (listed ms) ≡ Some d → TogetherAreBuilt o answers ms (codes "additionalProperties") d (restriction_members ms d) ks P a e
+    module _ (b : Beside R N) (n e : Counts) (declared : NeighbourIsBuilt o ms (λ x. DeclaredStand o answers x (P // codes "properties")) b.properties (codes "properties") P m n)
+        (patterns : NeighbourIsBuilt o ms (λ x. PatternsStand o answers (known_of ms) x (P // codes "patternProperties")) b.patterns (codes "patternProperties") P n e)
+        (plan : Planned) (chosen : plan ≡ plan_of ms) where
+      pub restriction_is_built : (ks : List (KeywordOver K R N)) → has_repeat (names_of (listed ms)) ≡ false → MakesRestriction o answers p.location r b P plan ks
+          → lookup_name (codes "additionalProperties") (listed ms) ≡ Some d → TogetherAreBuilt o answers ms (codes "additionalProperties") d (restriction_members ms d) ks P a e
       restriction_is_built ks distinct make there = record {
         means = subst (λ q. KeywordsMean o answers ms ks (claims (head q) (listed ms) (codes "additionalProperties", d)) ((codes "additionalProperties", d) ∷ []) P) chosen
             (make ms d others_part.stand.0.place (subst (RestStands o answers r d) (sym others_part.stand.0.place) rest_is.0) (declared.stands, patterns.stands) distinct there chosen);
@@ -130,6 +143,11 @@ module _ {K R N : Type 0} (o : Kit K R) (answers : N → Answers) (ms : Members)
         spends = all_spent o answers ms P (codes "additionalProperties") (codes "properties") (codes "patternProperties") d a m others_part.spends n declared.spends e patterns.spends;
       }
 
-      pub restriction_is_formed : (k : KeywordOver K R N) → IsAdditionalProperties P p.location (is_some r) (option_map (λ (m : SmallMap N). length m.names) b.properties) (option_map (λ (x : Patterns R N). length (zip x.patterns.items x.nodes.items)) b.patterns) plan.fused_one k
-          → IsAdditionalProperties P (P // codes "additionalProperties") (is_object d) (option_map (λ d. length (members d)) (lookup_name (codes "properties") (listed ms))) (option_map (λ d. length (members d)) (lookup_name (codes "patternProperties") (listed ms))) (plan_of ms).fused_one k
-      restriction_is_formed k f = subst (λ T. T) (λ i. IsAdditionalProperties P (others_part.stand.0.place i) (rest_is.1 i) (declared_counted b.properties (lookup_name (codes "properties") (listed ms)) (P // codes "properties") declared.stands i) (patterns_counted b.patterns (lookup_name (codes "patternProperties") (listed ms)) (P // codes "patternProperties") patterns.stands i) ((chosen i).fused_one) k) f
+      pub restriction_is_formed : (k : KeywordOver K R N) → IsAdditionalProperties P p.location (is_some r) (option_map (λ (m : SmallMap N). length m.names) b.properties)
+          (option_map (λ (x : Patterns R N). length (zip x.patterns.items x.nodes.items)) b.patterns) plan.fused_one k
+          → IsAdditionalProperties P (P // codes "additionalProperties") (is_object d) (option_map (λ d. length (members d)) (lookup_name (codes "properties") (listed ms)))
+              (option_map (λ d. length (members d)) (lookup_name (codes "patternProperties") (listed ms))) (plan_of ms).fused_one k
+      restriction_is_formed k f =
+          subst (λ T. T) (λ i. IsAdditionalProperties P (others_part.stand.0.place i) (rest_is.1 i)
+              (declared_counted b.properties (lookup_name (codes "properties") (listed ms)) (P // codes "properties") declared.stands i)
+              (patterns_counted b.patterns (lookup_name (codes "patternProperties") (listed ms)) (P // codes "patternProperties") patterns.stands i) ((chosen i).fused_one) k) f

@@ -66,15 +66,19 @@ module _ {K R N : Type 0} (o : Kit K R) (answers : N → Answers) (ms : Members)
       pub else_refused : (t : Option N) (n b : Counts) (e : BuildError) → CaseIsBuilt o answers ms t (codes "then") P m n → RefusesCase (codes "else") n b e → RefusesCondition a b e
       else_refused t n b e built h = third_refused o answers ms P (codes "if") (codes "then") (codes "else") d a m part_here.spends n built.spends b e h
 
-      module _ (then_schema else_schema : Option N) (n b : Counts) (at_then : CaseIsBuilt o answers ms then_schema (codes "then") P m n) (at_else : CaseIsBuilt o answers ms else_schema (codes "else") P n b) where
+      module _ (then_schema else_schema : Option N) (n b : Counts) (at_then : CaseIsBuilt o answers ms then_schema (codes "then") P m n)
+          (at_else : CaseIsBuilt o answers ms else_schema (codes "else") P n b) where
         abbrev both_cases : Cases N
         both_cases = record { then_schema = then_schema; else_schema = else_schema }
 
-        pub if_is_formed : (k : KeywordOver K R N) → IsIf p.location (is_some then_schema) (is_some else_schema) k → IsIf (P // codes "if") (is_some (lookup_name (codes "then") (listed ms))) (is_some (lookup_name (codes "else") (listed ms))) k
+        pub if_is_formed : (k : KeywordOver K R N) → IsIf p.location (is_some then_schema) (is_some else_schema) k → IsIf (P // codes "if")
+            (is_some (lookup_name (codes "then") (listed ms))) (is_some (lookup_name (codes "else") (listed ms))) k
         if_is_formed k f = subst (λ L. IsIf L (is_some (lookup_name (codes "then") (listed ms))) (is_some (lookup_name (codes "else") (listed ms))) k) part_here.stand.0.place
             (subst₂ (λ t e. IsIf p.location t e k) (stands_as then_schema _ (P // codes "then") at_then.stands) (stands_as else_schema _ (P // codes "else") at_else.stands) f)
 
-        pub condition_is_built : (before : List N) (schema : N) (ks : List (KeywordOver K R N)) → p.nodes.items ≡ before ++ schema ∷ [] → has_repeat (names_of (listed ms)) ≡ false → MakesCondition o answers p.location schema both_cases ks → lookup_name (codes "if") (listed ms) ≡ Some d → TogetherAreBuilt o answers ms (codes "if") d (condition_members ms d) ks P a b
+        pub condition_is_built : (before : List N) (schema : N) (ks : List (KeywordOver K R N)) → p.nodes.items ≡ before ++ schema ∷ []
+            → has_repeat (names_of (listed ms)) ≡ false → MakesCondition o answers p.location schema both_cases ks → lookup_name (codes "if") (listed ms) ≡ Some d
+            → TogetherAreBuilt o answers ms (codes "if") d (condition_members ms d) ks P a b
         condition_is_built before schema ks split distinct make there =
             let s = part_here.stand.0 in
             let stands = taken_stands o answers p.nodes.items (Some schema) d (P // codes "if") (before, split) (subst (λ r. StandAt o answers r p.nodes.items d (P // codes "if")) if_itself s.nodes) in

@@ -209,7 +209,8 @@ module _ {K R N : Type 0} (o : Kit K R) (answers : N → Answers) where
         }
 
     -- what is built is lost where there is no memory
-    memory_there : (e : BuildError) (m : AllocError) → e ≡ Memory m → (Q : Path) → P // k ≡ Q // k → Refuses (member_malformations o.world ms (k, d) (which o ms (k, d)) Q) (member_cost o.world ms (k, d) (which o ms (k, d))) a b e
+    memory_there : (e : BuildError) (m : AllocError) → e ≡ Memory m → (Q : Path) → P // k ≡ Q // k → Refuses (member_malformations o.world ms (k, d) (which o ms (k, d)) Q)
+        (member_cost o.world ms (k, d) (which o ms (k, d))) a b e
     memory_there e m q Q f = refuses_memory _ _ a b e m q (within_exactly a b _ (spends_same a b _ _ (sum_last _) (h ms Q f known).spends))
 
   -- in any object
@@ -220,15 +221,19 @@ module _ {K R N : Type 0} (o : Kit K R) (answers : N → Answers) where
     stands : PartStands o answers (known_of no_members) p (k, d) P
     stands = stands_there p c k d P a b h no_members (known no_members)
 
-    member_built : (ks : List (KeywordOver K R N)) → MakesMember o answers p.shape p.location p.nodes.items ks → (ms : Members) (Q : Path) → P // k ≡ Q // k → MemberIsBuilt o answers ms ks (k, d) Q a b
+    member_built : (ks : List (KeywordOver K R N)) → MakesMember o answers p.shape p.location p.nodes.items ks → (ms : Members) (Q : Path) → P // k ≡ Q // k
+        → MemberIsBuilt o answers ms ks (k, d) Q a b
     member_built ks make ms Q e = built_there p c k d P a b h ms (known ms) ks make Q e
 
-    claims_built : (ks : List (KeywordOver K R N)) (q : Planned) → MakesClaims o answers p.shape p.location p.nodes.items P q ks → (ms : Members) → has_repeat (map (λ m. m.0) (listed ms)) ≡ false → q ≡ plan_of ms → is_taken q k ≡ false → lookup_name k (listed ms) ≡ Some d → ClaimsAreBuilt o answers ms ks (k, d) P a b
+    claims_built : (ks : List (KeywordOver K R N)) (q : Planned) → MakesClaims o answers p.shape p.location p.nodes.items P q ks → (ms : Members)
+        → has_repeat (map (λ m. m.0) (listed ms)) ≡ false → q ≡ plan_of ms → is_taken q k ≡ false → lookup_name k (listed ms) ≡ Some d → ClaimsAreBuilt o answers ms ks (k, d) P a b
     claims_built ks q make ms distinct chosen untaken there =
         let built = h ms P refl (known ms) in
         let s = built.stand.0 in
         record {
-          means = subst (λ r. KeywordsMean o answers ms ks (claims (head r) (listed ms) (k, d)) ((k, d) ∷ []) P) chosen (make ms (k, d) s.place s.shape (subst (StandAt o answers (reads_of p.shape) p.nodes.items d) (sym s.place) s.nodes) distinct there chosen untaken);
+          means =
+              subst (λ r. KeywordsMean o answers ms ks (claims (head r) (listed ms) (k, d)) ((k, d) ∷ []) P) chosen
+                  (make ms (k, d) s.place s.shape (subst (StandAt o answers (reads_of p.shape) p.nodes.items d) (sym s.place) s.nodes) distinct there chosen untaken);
           clean = sym (append-nil _) ∙ built.clean;
           spends = spends_same a b _ _ (sum_last _) built.spends;
         }
@@ -238,10 +243,12 @@ module _ {K R N : Type 0} (o : Kit K R) (answers : N → Answers) where
       pub shape_is : IsShape o k d x
       shape_is = subst (IsShape o k d) q stands.shape
 
-      pub built_of_shape : (ks : List (KeywordOver K R N)) → MakesMember o answers x p.location p.nodes.items ks → (ms : Members) (Q : Path) → P // k ≡ Q // k → MemberIsBuilt o answers ms ks (k, d) Q a b
+      pub built_of_shape : (ks : List (KeywordOver K R N)) → MakesMember o answers x p.location p.nodes.items ks → (ms : Members) (Q : Path) → P // k ≡ Q // k
+          → MemberIsBuilt o answers ms ks (k, d) Q a b
       built_of_shape ks make = member_built ks (subst (λ y. MakesMember o answers y p.location p.nodes.items ks) (sym q) make)
 
-      pub built_without_nodes : reads_of x ≡ Nothing → (ks : List (KeywordOver K R N)) → MakesMember o answers x p.location [] ks → (ms : Members) (Q : Path) → P // k ≡ Q // k → MemberIsBuilt o answers ms ks (k, d) Q a b
+      pub built_without_nodes : reads_of x ≡ Nothing → (ks : List (KeywordOver K R N)) → MakesMember o answers x p.location [] ks → (ms : Members) (Q : Path)
+          → P // k ≡ Q // k → MemberIsBuilt o answers ms ks (k, d) Q a b
       built_without_nodes r ks make = built_of_shape ks (subst (λ ns. MakesMember o answers x p.location ns ks) (sym none) make)
         where
           none : p.nodes.items ≡ []
@@ -258,7 +265,8 @@ module _ {K R N : Type 0} (o : Kit K R) (answers : N → Answers) where
       all_of_shape : p.shape ≡ shape.AllOf
       all_of_shape = only_all_of p.shape (shape_named p.shape (codes "allOf") d (stands p c (codes "allOf") d P a b h refl).shape refl)
 
-      pub all_of_built : (ks : List (KeywordOver K R N)) → MakesMember o answers shape.AllOf p.location p.nodes.items ks → (ms : Members) (Q : Path) → P // codes "allOf" ≡ Q // codes "allOf" → MemberIsBuilt o answers ms ks (codes "allOf", d) Q a b
+      pub all_of_built : (ks : List (KeywordOver K R N)) → MakesMember o answers shape.AllOf p.location p.nodes.items ks → (ms : Members) (Q : Path)
+          → P // codes "allOf" ≡ Q // codes "allOf" → MemberIsBuilt o answers ms ks (codes "allOf", d) Q a b
       all_of_built ks make = member_built p c (codes "allOf") d P a b h refl ks (subst (λ x. MakesMember o answers x p.location p.nodes.items ks) (sym all_of_shape) make)
 
       pub all_of_is_formed : (k : KeywordOver K R N) → IsFormOfAllOf p.location p.nodes.items k → IsAllOf (P // codes "allOf") d k
@@ -271,7 +279,8 @@ module _ {K R N : Type 0} (o : Kit K R) (answers : N → Answers) where
       any_of_shape : p.shape ≡ shape.AnyOf
       any_of_shape = only_any_of p.shape (shape_named p.shape (codes "anyOf") d (stands p c (codes "anyOf") d P a b h refl).shape refl)
 
-      pub any_of_built : (ks : List (KeywordOver K R N)) → MakesMember o answers shape.AnyOf p.location p.nodes.items ks → (ms : Members) (Q : Path) → P // codes "anyOf" ≡ Q // codes "anyOf" → MemberIsBuilt o answers ms ks (codes "anyOf", d) Q a b
+      pub any_of_built : (ks : List (KeywordOver K R N)) → MakesMember o answers shape.AnyOf p.location p.nodes.items ks → (ms : Members) (Q : Path)
+          → P // codes "anyOf" ≡ Q // codes "anyOf" → MemberIsBuilt o answers ms ks (codes "anyOf", d) Q a b
       any_of_built ks make = member_built p c (codes "anyOf") d P a b h refl ks (subst (λ x. MakesMember o answers x p.location p.nodes.items ks) (sym any_of_shape) make)
 
       pub any_of_is_formed : (k : KeywordOver K R N) → IsFormOfAnyOf p.location p.nodes.items k → IsAnyOf (P // codes "anyOf") d k
@@ -284,7 +293,8 @@ module _ {K R N : Type 0} (o : Kit K R) (answers : N → Answers) where
       one_of_shape : p.shape ≡ shape.OneOf
       one_of_shape = only_one_of p.shape (shape_named p.shape (codes "oneOf") d (stands p c (codes "oneOf") d P a b h refl).shape refl)
 
-      pub one_of_built : (ks : List (KeywordOver K R N)) → MakesMember o answers shape.OneOf p.location p.nodes.items ks → (ms : Members) (Q : Path) → P // codes "oneOf" ≡ Q // codes "oneOf" → MemberIsBuilt o answers ms ks (codes "oneOf", d) Q a b
+      pub one_of_built : (ks : List (KeywordOver K R N)) → MakesMember o answers shape.OneOf p.location p.nodes.items ks → (ms : Members) (Q : Path)
+          → P // codes "oneOf" ≡ Q // codes "oneOf" → MemberIsBuilt o answers ms ks (codes "oneOf", d) Q a b
       one_of_built ks make = member_built p c (codes "oneOf") d P a b h refl ks (subst (λ x. MakesMember o answers x p.location p.nodes.items ks) (sym one_of_shape) make)
 
       pub one_of_is_formed : (k : KeywordOver K R N) → IsFormOfOneOf p.location p.nodes.items k → IsOneOf (P // codes "oneOf") d k
@@ -302,9 +312,12 @@ module _ {K R N : Type 0} (o : Kit K R) (answers : N → Answers) where
 
       module _ (v : Value) (q : p.shape ≡ shape.Not v) where
         pub not_without_node : p.nodes.items ≡ [] → ⊥
-        not_without_node e = subst (λ ns. StandAt o answers Itself ns d (P // codes "not")) e (subst (λ x. StandAt o answers (reads_of x) p.nodes.items d (P // codes "not")) q (stands p c (codes "not") d P a b h refl).nodes)
+        not_without_node e =
+            subst (λ ns. StandAt o answers Itself ns d (P // codes "not")) e
+                (subst (λ x. StandAt o answers (reads_of x) p.nodes.items d (P // codes "not")) q (stands p c (codes "not") d P a b h refl).nodes)
 
-        pub not_built : (ks : List (KeywordOver K R N)) → MakesMember o answers (shape.Not v) p.location p.nodes.items ks → (ms : Members) (Q : Path) → P // codes "not" ≡ Q // codes "not" → MemberIsBuilt o answers ms ks (codes "not", d) Q a b
+        pub not_built : (ks : List (KeywordOver K R N)) → MakesMember o answers (shape.Not v) p.location p.nodes.items ks → (ms : Members) (Q : Path)
+            → P // codes "not" ≡ Q // codes "not" → MemberIsBuilt o answers ms ks (codes "not", d) Q a b
         not_built ks make = member_built p c (codes "not") d P a b h refl ks (subst (λ x. MakesMember o answers x p.location p.nodes.items ks) (sym q) make)
 
         pub not_is_formed : (k : KeywordOver K R N) → IsNot p.location (view v) k → IsNot (P // codes "not") d k
@@ -324,7 +337,9 @@ module _ {K R N : Type 0} (o : Kit K R) (answers : N → Answers) where
         required_keyword = keyword.Required (record { required = v; location = p.location })
 
         pub required_built : (ms : Members) (Q : Path) → P // codes "required" ≡ Q // codes "required" → MemberIsBuilt o answers ms (required_keyword ∷ []) (codes "required", d) Q a b
-        required_built = member_built p c (codes "required") d P a b h refl (required_keyword ∷ []) (subst (λ x. MakesMember o answers x p.location p.nodes.items (required_keyword ∷ [])) (sym q) (makes_required o answers v p.location p.nodes.items))
+        required_built =
+            member_built p c (codes "required") d P a b h refl (required_keyword ∷ [])
+                (subst (λ x. MakesMember o answers x p.location p.nodes.items (required_keyword ∷ [])) (sym q) (makes_required o answers v p.location p.nodes.items))
 
         pub required_is_formed : IsRequired (P // codes "required") d required_keyword
         required_is_formed = let s = stands p c (codes "required") d P a b h refl in ((subst (IsShape o (codes "required") d) q s.shape).2, s.place)
@@ -343,42 +358,58 @@ module _ {K R N : Type 0} (o : Kit K R) (answers : N → Answers) where
         untaken : is_taken r (codes "properties") ≡ false
         untaken = (λ i. (free i && true) || (r.condition && false)) ∙ and-false r.condition
 
-        pub properties_built : (ks : List (KeywordOver K R N)) → MakesClaims o answers (shape.Properties n) p.location p.nodes.items P r ks → has_repeat (map (λ m. m.0) (listed ms)) ≡ false → lookup_name (codes "properties") (listed ms) ≡ Some d → ClaimsAreBuilt o answers ms ks (codes "properties", d) P a b
-        properties_built ks make distinct there = claims_built p c (codes "properties") d P a b h refl ks r (subst (λ x. MakesClaims o answers x p.location p.nodes.items P r ks) (sym q) make) ms distinct chosen untaken there
+        pub properties_built : (ks : List (KeywordOver K R N)) → MakesClaims o answers (shape.Properties n) p.location p.nodes.items P r ks
+            → has_repeat (map (λ m. m.0) (listed ms)) ≡ false → lookup_name (codes "properties") (listed ms) ≡ Some d → ClaimsAreBuilt o answers ms ks (codes "properties", d) P a b
+        properties_built ks make distinct there =
+            claims_built p c (codes "properties") d P a b h refl ks r (subst (λ x. MakesClaims o answers x p.location p.nodes.items P r ks) (sym q) make) ms distinct chosen untaken there
 
         properties_counted : length n ≡ length (members d)
         properties_counted = ap length (shape_is p c (codes "properties") d P a b h refl _ q).2 ∙ length-map (members d) (λ e. e.0)
 
-        pub properties_is_formed : (k : KeywordOver K R N) → IsProperties P p.location (length n) r.fused_pair k → IsProperties P (P // codes "properties") (length (members d)) (plan_of ms).fused_pair k
+        pub properties_is_formed : (k : KeywordOver K R N) → IsProperties P p.location (length n) r.fused_pair k → IsProperties P (P // codes "properties")
+            (length (members d)) (plan_of ms).fused_pair k
         properties_is_formed k = subst (λ T. T) (λ i. IsProperties P ((stands p c (codes "properties") d P a b h refl).place i) (properties_counted i) ((chosen i).fused_pair) k)
 
     module _ (h : IsPart o answers p c (codes "dependentRequired") d (P // codes "dependentRequired") a b) where
       pub no_other_dependent_required : ((n : List Name) (v : Vec (Vec (String Global) Global) Global) → p.shape ≡ shape.DependentRequired n v → ⊥) → ⊥
-      no_other_dependent_required f = let r = only_dependent_required p.shape (shape_named p.shape (codes "dependentRequired") d (stands p c (codes "dependentRequired") d P a b h refl).shape refl) in f r.0 r.1 r.2
+      no_other_dependent_required f =
+          let r = only_dependent_required p.shape (shape_named p.shape (codes "dependentRequired") d (stands p c (codes "dependentRequired") d P a b h refl).shape refl) in f r.0 r.1 r.2
 
-      pub dependent_required_is_formed : (n : List Name) (v : Vec (Vec (String Global) Global) Global) → p.shape ≡ shape.DependentRequired n v → (k : KeywordOver K R N) → IsDependencies p.location n k → IsDependencies (P // codes "dependentRequired") (map (λ e. e.0) (members d)) k
-      dependent_required_is_formed n v q k f = subst₂ (λ L ns. IsDependencies L ns k) (stands p c (codes "dependentRequired") d P a b h refl).place (shape_is p c (codes "dependentRequired") d P a b h refl _ q).2 f
+      pub dependent_required_is_formed : (n : List Name) (v : Vec (Vec (String Global) Global) Global) → p.shape ≡ shape.DependentRequired n v
+          → (k : KeywordOver K R N) → IsDependencies p.location n k → IsDependencies (P // codes "dependentRequired") (map (λ e. e.0) (members d)) k
+      dependent_required_is_formed n v q k f =
+          subst₂ (λ L ns. IsDependencies L ns k) (stands p c (codes "dependentRequired") d P a b h refl).place (shape_is p c (codes "dependentRequired") d P a b h refl _ q).2 f
 
     module _ (h : IsPart o answers p c (codes "dependentSchemas") d (P // codes "dependentSchemas") a b) where
       pub no_other_dependent_schemas : ((n : List Name) → p.shape ≡ shape.DependentSchemas n → ⊥) → ⊥
-      no_other_dependent_schemas f = let r = only_dependent_schemas p.shape (shape_named p.shape (codes "dependentSchemas") d (stands p c (codes "dependentSchemas") d P a b h refl).shape refl) in f r.0 r.1
+      no_other_dependent_schemas f =
+          let r = only_dependent_schemas p.shape (shape_named p.shape (codes "dependentSchemas") d (stands p c (codes "dependentSchemas") d P a b h refl).shape refl) in f r.0 r.1
 
-      pub dependent_schemas_is_formed : (n : List Name) → p.shape ≡ shape.DependentSchemas n → (k : KeywordOver K R N) → IsDependencies p.location n k → IsDependencies (P // codes "dependentSchemas") (map (λ e. e.0) (members d)) k
-      dependent_schemas_is_formed n q k f = subst₂ (λ L ns. IsDependencies L ns k) (stands p c (codes "dependentSchemas") d P a b h refl).place (shape_is p c (codes "dependentSchemas") d P a b h refl _ q).2 f
+      pub dependent_schemas_is_formed : (n : List Name) → p.shape ≡ shape.DependentSchemas n → (k : KeywordOver K R N) → IsDependencies p.location n k
+          → IsDependencies (P // codes "dependentSchemas") (map (λ e. e.0) (members d)) k
+      dependent_schemas_is_formed n q k f =
+          subst₂ (λ L ns. IsDependencies L ns k) (stands p c (codes "dependentSchemas") d P a b h refl).place (shape_is p c (codes "dependentSchemas") d P a b h refl _ q).2 f
 
     module _ (h : IsPart o answers p c (codes "dependencies") d (P // codes "dependencies") a b) where
       pub no_other_dependencies : ((n : List Name) (v : Vec (Option (Vec (String Global) Global)) Global) → p.shape ≡ shape.Dependencies n v → ⊥) → ⊥
       no_other_dependencies f = let r = only_dependencies p.shape (shape_named p.shape (codes "dependencies") d (stands p c (codes "dependencies") d P a b h refl).shape refl) in f r.0 r.1 r.2
 
-      pub dependencies_is_formed : (n : List Name) (v : Vec (Option (Vec (String Global) Global)) Global) → p.shape ≡ shape.Dependencies n v → (k : KeywordOver K R N) → IsDependencies p.location n k → IsDependencies (P // codes "dependencies") (map (λ e. e.0) (members d)) k
+      pub dependencies_is_formed : (n : List Name) (v : Vec (Option (Vec (String Global) Global)) Global) → p.shape ≡ shape.Dependencies n v
+          → (k : KeywordOver K R N) → IsDependencies p.location n k → IsDependencies (P // codes "dependencies") (map (λ e. e.0) (members d)) k
       dependencies_is_formed n v q k f = subst₂ (λ L ns. IsDependencies L ns k) (stands p c (codes "dependencies") d P a b h refl).place (shape_is p c (codes "dependencies") d P a b h refl _ q).2 f
 
     module _ (h : IsPart o answers p c (codes "propertyDependencies") d (P // codes "propertyDependencies") a b) where
       pub no_other_property_dependencies : ((n : List Name) (v : Vec (List Name) Global) → p.shape ≡ shape.PropertyDependencies n v → ⊥) → ⊥
-      no_other_property_dependencies f = let r = only_property_dependencies p.shape (shape_named p.shape (codes "propertyDependencies") d (stands p c (codes "propertyDependencies") d P a b h refl).shape refl) in f r.0 r.1 r.2
+      no_other_property_dependencies f =
+          let r = only_property_dependencies p.shape (shape_named p.shape (codes "propertyDependencies") d (stands p c (codes "propertyDependencies") d P a b h refl).shape refl) in f r.0 r.1 r.2
 
-      pub property_dependencies_is_formed : (n : List Name) (v : Vec (List Name) Global) → p.shape ≡ shape.PropertyDependencies n v → (k : KeywordOver K R N) → IsPropertyDependencies p.location n v.items k → IsPropertyDependencies (P // codes "propertyDependencies") (map (λ e. e.0) (members d)) (map (λ e. map (λ c. c.0) (members e.1)) (members d)) k
-      property_dependencies_is_formed n v q k f = let s = shape_is p c (codes "propertyDependencies") d P a b h refl _ q in subst (λ L. IsPropertyDependencies L (map (λ e. e.0) (members d)) (map (λ e. map (λ c. c.0) (members e.1)) (members d)) k) (stands p c (codes "propertyDependencies") d P a b h refl).place (subst₂ (λ ns ts. IsPropertyDependencies p.location ns ts k) s.2 s.3 f)
+      pub property_dependencies_is_formed : (n : List Name) (v : Vec (List Name) Global) → p.shape ≡ shape.PropertyDependencies n v → (k : KeywordOver K R N)
+          → IsPropertyDependencies p.location n v.items k → IsPropertyDependencies (P // codes "propertyDependencies") (map (λ e. e.0) (members d))
+          (map (λ e. map (λ c. c.0) (members e.1)) (members d)) k
+      property_dependencies_is_formed n v q k f =
+          let s = shape_is p c (codes "propertyDependencies") d P a b h refl _ q in
+              subst (λ L. IsPropertyDependencies L (map (λ e. e.0) (members d)) (map (λ e. map (λ c. c.0) (members e.1)) (members d)) k)
+              (stands p c (codes "propertyDependencies") d P a b h refl).place (subst₂ (λ ns ts. IsPropertyDependencies p.location ns ts k) s.2 s.3 f)
 
   -- ---- patterns, where nothing is restricted
 
@@ -395,7 +426,8 @@ module _ {K R N : Type 0} (o : Kit K R) (answers : N → Answers) where
   pub none_known : (ms : Members) → is_restricted ms ≡ false → (known_of ms).declared ≡ []
   none_known ms free = ap (λ b. cond b (declared_beside ms) []) free
 
-  module _ (p : Part K R N) (c : Known) (none : c.declared ≡ []) (d : Data) (P : Path) (a b : Counts) (h : IsPart o answers p c (codes "patternProperties") d (P // codes "patternProperties") a b) where
+  module _ (p : Part K R N) (c : Known) (none : c.declared ≡ []) (d : Data) (P : Path) (a b : Counts)
+      (h : IsPart o answers p c (codes "patternProperties") d (P // codes "patternProperties") a b) where
     alone_stands : PartStands o answers (known_of no_members) p (codes "patternProperties", d) P
     alone_stands = stands_there p c (codes "patternProperties") d P a b h no_members (patterns_known c no_members none refl)
 
@@ -406,14 +438,19 @@ module _ {K R N : Type 0} (o : Kit K R) (answers : N → Answers) where
     pattern_properties_memory e m q ms Q f free = memory_there p c (codes "patternProperties") d P a b h ms (patterns_known c ms none free) e m q Q f
 
     module _ (v : Vec (CompiledPattern R) Global) (t : Table) (q : p.shape ≡ shape.PatternProperties v t) where
-      pub pattern_properties_built : (ks : List (KeywordOver K R N)) → MakesMember o answers (shape.PatternProperties v t) p.location p.nodes.items ks → (ms : Members) (Q : Path) → P // codes "patternProperties" ≡ Q // codes "patternProperties" → is_restricted ms ≡ false → MemberIsBuilt o answers ms ks (codes "patternProperties", d) Q a b
-      pattern_properties_built ks make ms Q e free = built_there p c (codes "patternProperties") d P a b h ms (patterns_known c ms none free) ks (subst (λ x. MakesMember o answers x p.location p.nodes.items ks) (sym q) make) Q e
+      pub pattern_properties_built : (ks : List (KeywordOver K R N)) → MakesMember o answers (shape.PatternProperties v t) p.location p.nodes.items ks
+          → (ms : Members) (Q : Path) → P // codes "patternProperties" ≡ Q // codes "patternProperties" → is_restricted ms ≡ false → MemberIsBuilt o answers ms ks (codes "patternProperties", d) Q a b
+      pattern_properties_built ks make ms Q e free =
+          built_there p c (codes "patternProperties") d P a b h ms (patterns_known c ms none free) ks (subst (λ x. MakesMember o answers x p.location p.nodes.items ks) (sym q) make) Q e
 
-      pub pattern_properties_is_formed : (k : KeywordOver K R N) → IsPatternProperties p.location (length (zip v.items p.nodes.items)) k → IsPatternProperties (P // codes "patternProperties") (length (members d)) k
+      pub pattern_properties_is_formed : (k : KeywordOver K R N) → IsPatternProperties p.location (length (zip v.items p.nodes.items)) k
+          → IsPatternProperties (P // codes "patternProperties") (length (members d)) k
       pattern_properties_is_formed k f = subst₂ (λ L n. IsPatternProperties L n k) alone_stands.place
-          (zip_length v.items p.nodes.items (members d) (P // codes "patternProperties") (subst (IsShape o (codes "patternProperties") d) q alone_stands.shape).2 (subst (λ x. StandAt o answers (reads_of x) p.nodes.items d (P // codes "patternProperties")) q alone_stands.nodes)) f
+          (zip_length v.items p.nodes.items (members d) (P // codes "patternProperties") (subst (IsShape o (codes "patternProperties") d) q alone_stands.shape).2
+              (subst (λ x. StandAt o answers (reads_of x) p.nodes.items d (P // codes "patternProperties")) q alone_stands.nodes)) f
 
-  pub refuses_free_member : (c : Known) → c.declared ≡ [] → (d : Data) (P : Path) (a b : Counts) (e : BuildError) → RefusesPart o c (codes "patternProperties") d (P // codes "patternProperties") a b e → RefusesFreeMember o (codes "patternProperties") d (P // codes "patternProperties") a b e
+  pub refuses_free_member : (c : Known) → c.declared ≡ [] → (d : Data) (P : Path) (a b : Counts) (e : BuildError) → RefusesPart o c (codes "patternProperties") d
+      (P // codes "patternProperties") a b e → RefusesFreeMember o (codes "patternProperties") d (P // codes "patternProperties") a b e
   refuses_free_member c none d P a b e r ms Q f free = r ms Q f (patterns_known c ms none free)
 
   -- of a keyword that is read alike beside all neighbours, in each object

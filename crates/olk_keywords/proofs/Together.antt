@@ -68,15 +68,18 @@ module _ {K R N : Type 0} (o : Kit K R) (answers : N → Answers) (ms : Members)
       spends = subst (λ x. Spends a a (all_cost o ms (map (λ d. (k, d)) (option_to_list x)))) (sym e) (spends_nothing a);
     }
 
-    pub neighbour_built : (x : X) (d : Data) (p : Part K R N) (a b : Counts) → lookup_name k (listed ms) ≡ Some d → PartsAreBuilt o answers ms (p ∷ []) ((k, d) ∷ []) P a b → Stands x d → NeighbourIsBuilt o ms Stands (Some x) k P a b
+    pub neighbour_built : (x : X) (d : Data) (p : Part K R N) (a b : Counts) → lookup_name k (listed ms) ≡ Some d → PartsAreBuilt o answers ms (p ∷ [])
+        ((k, d) ∷ []) P a b → Stands x d → NeighbourIsBuilt o ms Stands (Some x) k P a b
     neighbour_built x d p a b e built h = record {
       stands = subst (Fills Stands (Some x)) (sym e) h;
       clean = ap (λ y. all_malformed o ms P (map (λ d. (k, d)) (option_to_list y))) e ∙ built.clean;
       spends = subst (λ y. Spends a b (all_cost o ms (map (λ d. (k, d)) (option_to_list y)))) (sym e) built.spends;
     }
 
-  pub neighbour_refused : (c : Known) (k : Name) (d : Data) (a b : Counts) (e : BuildError) → IsKnown c ms k → lookup_name k (listed ms) ≡ Some d → RefusesPart o c k d (P // k) a b e → RefusesAll (member_at k ms) a b e
-  neighbour_refused c k d a b e known there h = refuses_among malformed_of cost_of (member_at k ms) a b [] (k, d) [] a e (ap (λ x. map (λ d. (k, d)) (option_to_list x)) (sym there)) (spends_nothing a) (h ms P refl known)
+  pub neighbour_refused : (c : Known) (k : Name) (d : Data) (a b : Counts) (e : BuildError) → IsKnown c ms k → lookup_name k (listed ms) ≡ Some d
+      → RefusesPart o c k d (P // k) a b e → RefusesAll (member_at k ms) a b e
+  neighbour_refused c k d a b e known there h =
+      refuses_among malformed_of cost_of (member_at k ms) a b [] (k, d) [] a e (ap (λ x. map (λ d. (k, d)) (option_to_list x)) (sym there)) (spends_nothing a) (h ms P refl known)
 
   -- ---- all three
 

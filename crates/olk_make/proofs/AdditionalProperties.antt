@@ -98,7 +98,8 @@ module _ {K R N : Type 0} (o : Kit K R) (answers : N → Answers) where
   entries_answer (n ∷ ns) [] L h = absurd h
   entries_answer (n ∷ ns) (e ∷ es) L h = (answers_as n e.1 (L // e.0) h.0, entries_answer ns es L h.1)
 
-  patterns_answer : (ps : List (CompiledPattern R)) (ns : List N) (es : List (Name × Data)) (L : Path) → ArePatterns o ps es → StandEach o answers ns es L → PatternsAnswer o means report tree (zip ps ns) es L
+  patterns_answer : (ps : List (CompiledPattern R)) (ns : List N) (es : List (Name × Data)) (L : Path) → ArePatterns o ps es → StandEach o answers ns es L
+      → PatternsAnswer o means report tree (zip ps ns) es L
   patterns_answer [] [] [] L h k = tt
   patterns_answer (p ∷ ps) (n ∷ ns) (e ∷ es) L h k = (record { answers = h.0.answers; costs = h.0.costs }, answers_as n e.1 (L // e.0) k.0, patterns_answer ps ns es L h.1 k.1)
   patterns_answer [] ns (e ∷ es) L h k = absurd h
@@ -146,12 +147,14 @@ module _ {K R N : Type 0} (o : Kit K R) (answers : N → Answers) where
   -- the patterns stand for what `patternProperties` holds at L, zip the names ns
   record PatternsSide (k : AdditionalProperties R N) (ns : List Name) (a : Option Data) (L : Path) : Type 0 where
     patterns : PatternsAnswer o means report tree (patterns_in k.patterns) (entries_in a) L
-    known : (p i : ℕ) (n : Name) (c : CompiledPattern R) → slice_get ns p ≡ Some n → slice_get (map (λ e. e.0) (patterns_in k.patterns)) i ≡ Some c → table_says k.table p i ≡ pattern_answers o.answers c n
+    known : (p i : ℕ) (n : Name) (c : CompiledPattern R) → slice_get ns p ≡ Some n → slice_get (map (λ e. e.0) (patterns_in k.patterns)) i ≡ Some c
+        → table_says k.table p i ≡ pattern_answers o.answers c n
     there : is_some k.patterns ≡ is_some a
     place : is_some k.patterns ≡ true → k.patterns_location ≡ L
 
   module _ (k : AdditionalProperties R N) (ms : Members) (restricted : is_restricted ms ≡ true) where
-    patterns_side : (b : Option (Patterns R N)) (a : Option Data) (L : Path) → HasPatterns b k → Fills (λ x. PatternsStand o answers (known_of ms) x L) b a → PatternsSide k (map (λ e. e.0) (declared_beside ms)) a L
+    patterns_side : (b : Option (Patterns R N)) (a : Option Data) (L : Path) → HasPatterns b k → Fills (λ x. PatternsStand o answers (known_of ms) x L) b a
+        → PatternsSide k (map (λ e. e.0) (declared_beside ms)) a L
     patterns_side None None L form h = record {
       patterns = subst (λ v. PatternsAnswer o means report tree (patterns_in v) [] L) (sym form) tt;
       known = λ p i n c at_name at_pattern. absurd (true≢false (sym (ap is_some at_pattern) ∙ ap (λ v. is_some (slice_get (map (λ (e : CompiledPattern R × N). e.0) (patterns_in v)) i)) form));
@@ -161,12 +164,14 @@ module _ {K R N : Type 0} (o : Kit K R) (answers : N → Answers) where
     patterns_side (Some x) (Some d) L form h = record {
       patterns = subst (λ l. PatternsAnswer o means report tree l (members d) L) (sym same) (patterns_answer x.patterns.items x.nodes.items (members d) L h.patterns h.nodes);
       known = λ p i n c at_name at_pattern. ap (λ t. table_says t p i) form.1
-          ∙ h.table.says p i n c (ap (λ ns. slice_get ns p) names ∙ at_name) (ap (λ ps. slice_get ps i) (sym (ap (map (λ e. e.0)) same ∙ patterns_kept x.patterns.items x.nodes.items (members d) L h.patterns h.nodes)) ∙ at_pattern);
+          ∙ h.table.says p i n c (ap (λ ns. slice_get ns p) names ∙ at_name)
+              (ap (λ ps. slice_get ps i) (sym (ap (map (λ e. e.0)) same ∙ patterns_kept x.patterns.items x.nodes.items (members d) L h.patterns h.nodes)) ∙ at_pattern);
       there = of_items.0;
       place = λ e. form.2 ∙ h.place;
     }
       where
-        there_with : (v : Option (Vec (CompiledPattern R × N) Global)) → option_map (λ (v : Vec (CompiledPattern R × N) Global). v.items) v ≡ Some (zip x.patterns.items x.nodes.items) → (is_some v ≡ true) × (patterns_in v ≡ zip x.patterns.items x.nodes.items)
+        there_with : (v : Option (Vec (CompiledPattern R × N) Global)) → option_map (λ (v : Vec (CompiledPattern R × N) Global). v.items) v ≡ Some
+            (zip x.patterns.items x.nodes.items) → (is_some v ≡ true) × (patterns_in v ≡ zip x.patterns.items x.nodes.items)
         there_with None q = absurd (true≢false (sym (ap is_some q)))
         there_with (Some v) q = (refl, ap (λ z. unwrap_or z []) q)
 
@@ -183,7 +188,8 @@ module _ {K R N : Type 0} (o : Kit K R) (answers : N → Answers) where
 
   -- ---- the form of what stands zip it
 
-  declared_names : (b : Option (SmallMap N)) (x : Option (PropertiesMap N)) (a : Option Data) (L : Path) → IsMapOf b x → Fills (λ m. DeclaredStand o answers m L) b a → names_beside x ≡ map (λ e. e.0) (entries_in a)
+  declared_names : (b : Option (SmallMap N)) (x : Option (PropertiesMap N)) (a : Option Data) (L : Path) → IsMapOf b x → Fills (λ m. DeclaredStand o answers m L) b a
+      → names_beside x ≡ map (λ e. e.0) (entries_in a)
   declared_names None None None L form h = refl
   declared_names (Some b) (Some m) (Some d) L form h = form.0 ∙ h.names
   declared_names None (Some m) a L form h = absurd form
@@ -191,9 +197,11 @@ module _ {K R N : Type 0} (o : Kit K R) (answers : N → Answers) where
   declared_names None x (Some d) L form h = absurd h
   declared_names (Some b) x None L form h = absurd h
 
-  declared_formed : (b : Option (SmallMap N)) (x : Option (PropertiesMap N)) (a : Option Data) (L : Path) → IsMapOf b x → Fills (λ m. DeclaredStand o answers m L) b a → option_map_or (λ m. is_map_formed m && list_all (has_form o answers) (nodes_in m)) x true ≡ true
+  declared_formed : (b : Option (SmallMap N)) (x : Option (PropertiesMap N)) (a : Option Data) (L : Path) → IsMapOf b x → Fills (λ m. DeclaredStand o answers m L) b a
+      → option_map_or (λ m. is_map_formed m && list_all (has_form o answers) (nodes_in m)) x true ≡ true
   declared_formed None None None L form h = refl
-  declared_formed (Some b) (Some m) (Some d) L form h = and_from _ _ (map_formed m (length b.names) (ap length form.0) form.2) (stand_formed o answers (nodes_in m) (members d) L (subst (λ l. StandEach o answers l (members d) L) (sym form.1) h.nodes))
+  declared_formed (Some b) (Some m) (Some d) L form h =
+      and_from _ _ (map_formed m (length b.names) (ap length form.0) form.2) (stand_formed o answers (nodes_in m) (members d) L (subst (λ l. StandEach o answers l (members d) L) (sym form.1) h.nodes))
   declared_formed None (Some m) a L form h = absurd form
   declared_formed (Some b) None a L form h = absurd form
   declared_formed None x (Some d) L form h = absurd h
@@ -202,17 +210,21 @@ module _ {K R N : Type 0} (o : Kit K R) (answers : N → Answers) where
   zipped_formed : (ps : List (CompiledPattern R)) (ns : List N) → list_all (has_form o answers) ns ≡ true → list_all (entry_formed o answers) (zip ps ns) ≡ true
   zipped_formed [] ns h = refl
   zipped_formed (p ∷ ps) [] h = refl
-  zipped_formed (p ∷ ps) (n ∷ ns) h = and_from (has_form o answers n) (list_all (entry_formed o answers) (zip ps ns)) (and_first (has_form o answers n) (list_all (has_form o answers) ns) h) (zipped_formed ps ns (and_second (has_form o answers n) (list_all (has_form o answers) ns) h))
+  zipped_formed (p ∷ ps) (n ∷ ns) h =
+      and_from (has_form o answers n) (list_all (entry_formed o answers) (zip ps ns)) (and_first (has_form o answers n) (list_all (has_form o answers) ns) h)
+          (zipped_formed ps ns (and_second (has_form o answers n) (list_all (has_form o answers) ns) h))
 
   module _ (k : AdditionalProperties R N) (ms : Members) (restricted : is_restricted ms ≡ true) (names : List Name) (declared : names ≡ map (λ e. e.0) (declared_beside ms)) where
     abbrev are_formed_beside : Vec (CompiledPattern R × N) Global → Bool
     are_formed_beside es = is_table_formed o.answers names (map (λ e. e.0) es.items) k.table && list_all (entry_formed o answers) es.items
 
-    beside_formed : (b : Option (Patterns R N)) (a : Option Data) (L : Path) → HasPatterns b k → Fills (λ x. PatternsStand o answers (known_of ms) x L) b a → option_map_or are_formed_beside k.patterns true ≡ true
+    beside_formed : (b : Option (Patterns R N)) (a : Option Data) (L : Path) → HasPatterns b k → Fills (λ x. PatternsStand o answers (known_of ms) x L) b a
+        → option_map_or are_formed_beside k.patterns true ≡ true
     beside_formed None None L form h = ap (λ v. option_map_or are_formed_beside v true) form
     beside_formed (Some x) (Some d) L form h = by k.patterns form.0
       where
-        by : (v : Option (Vec (CompiledPattern R × N) Global)) → option_map (λ (v : Vec (CompiledPattern R × N) Global). v.items) v ≡ Some (zip x.patterns.items x.nodes.items) → option_map_or are_formed_beside v true ≡ true
+        by : (v : Option (Vec (CompiledPattern R × N) Global)) → option_map (λ (v : Vec (CompiledPattern R × N) Global). v.items) v ≡ Some (zip x.patterns.items x.nodes.items)
+            → option_map_or are_formed_beside v true ≡ true
         by None q = absurd (true≢false (sym (ap is_some q)))
         by (Some v) q =
             let items : v.items ≡ zip x.patterns.items x.nodes.items = ap (λ z. unwrap_or z []) q in
@@ -236,7 +248,9 @@ module _ {K R N : Type 0} (o : Kit K R) (answers : N → Answers) where
 
   -- ---- the validator
 
-  module _ (k : Box (AdditionalProperties R N) Global) (L P : Path) (rest : Option N) (b : Beside R N) (ms : Members) (form : IsFormOfAdditionalProperties {K = K} P L rest b (fused_one ms) (keyword.AdditionalProperties k)) (d : Data) (place : L ≡ P // codes "additionalProperties") (rest_stands : RestStands o answers rest d L) (stands : BesideStands o answers (known_of ms) b ms P) (restricted : is_restricted ms ≡ true) where
+  module _ (k : Box (AdditionalProperties R N) Global) (L P : Path) (rest : Option N) (b : Beside R N) (ms : Members)
+      (form : IsFormOfAdditionalProperties {K = K} P L rest b (fused_one ms) (keyword.AdditionalProperties k)) (d : Data) (place : L ≡ P // codes "additionalProperties")
+      (rest_stands : RestStands o answers rest d L) (stands : BesideStands o answers (known_of ms) b ms P) (restricted : is_restricted ms ≡ true) where
     restriction_stands : RestrictionStands o means report tree k.value ms d P
     restriction_stands =
         let declared : DeclaredSide k.value.properties (lookup_name (codes "properties") (listed ms)) (P // codes "properties") = declared_side b.properties k.value.properties (lookup_name (codes "properties") (listed ms)) (P // codes "properties") form.1 stands.0 in
@@ -269,14 +283,18 @@ module _ {K R N : Type 0} (o : Kit K R) (answers : N → Answers) where
         (beside_formed k.value ms restricted (names_beside k.value.properties) (declared_names b.properties k.value.properties properties (P // codes "properties") form.1 stands.0) b.patterns (lookup_name (codes "patternProperties") (listed ms)) (P // codes "patternProperties") form.2 stands.1))
         (ap (case_formed o answers) form.0 ∙ rest_formed rest d L rest_stands)
 
-    restriction_means : has_repeat (names_of (listed ms)) ≡ false → lookup_name (codes "additionalProperties") (listed ms) ≡ Some d → KeywordsMean o answers ms (keyword.AdditionalProperties k ∷ []) (claims (head (plan_of ms)) (listed ms) (codes "additionalProperties", d)) ((codes "additionalProperties", d) ∷ []) P
+    restriction_means : has_repeat (names_of (listed ms)) ≡ false → lookup_name (codes "additionalProperties") (listed ms) ≡ Some d
+        → KeywordsMean o answers ms (keyword.AdditionalProperties k ∷ []) (claims (head (plan_of ms)) (listed ms) (codes "additionalProperties", d)) ((codes "additionalProperties", d) ∷ []) P
     restriction_means distinct there = record {
       covers = record {
         verdict = λ u v. and-true _ ∙ restriction_accepts o means report tree k restriction_stands distinct there restricted u v;
         asks_within = λ u v. let h = restriction_asks o means report tree k restriction_stands distinct there restricted u v in omega (arith, h);
-        faults = λ u v Q. subst (λ l. l ∼ flat_map (λ x. member_report o.world ms x (which o ms x) u v P Q) (claims (head (plan_of ms)) (listed ms) (codes "additionalProperties", d))) (sym (append-nil _)) (restriction_finds o means report tree k restriction_stands distinct there restricted u v Q);
+        faults =
+            λ u v Q. subst (λ l. l ∼ flat_map (λ x. member_report o.world ms x (which o ms x) u v P Q) (claims (head (plan_of ms)) (listed ms) (codes "additionalProperties", d)))
+                (sym (append-nil _)) (restriction_finds o means report tree k restriction_stands distinct there restricted u v Q);
       };
-      shows = λ clean u v Q. restriction_shows o means report tree k restriction_stands distinct there restricted u v Q (clean_one_fused o.world ms P clean (meaning_step o.world u)) ∙ sym (append-nil _);
+      shows =
+          λ clean u v Q. restriction_shows o means report tree k restriction_stands distinct there restricted u v Q (clean_one_fused o.world ms P clean (meaning_step o.world u)) ∙ sym (append-nil _);
       formed = just_one_formed o answers (keyword.AdditionalProperties k) restriction_formed;
     }
 
@@ -284,10 +302,13 @@ module _ {K R N : Type 0} (o : Kit K R) (answers : N → Answers) where
   restricted_there None d L h = ap (λ b. b || is_object d) h
   restricted_there (Some n) d L h = ap (λ b. is_truth false d || b) h.0 ∙ or-true (is_truth false d)
 
-  pub makes_restriction : (k : KeywordOver K R N) (L P : Path) (rest : Option N) (b : Beside R N) (p : Planned) → IsFormOfAdditionalProperties P L rest b p.fused_one k → MakesRestriction o answers L rest b P p (k ∷ [])
+  pub makes_restriction : (k : KeywordOver K R N) (L P : Path) (rest : Option N) (b : Beside R N) (p : Planned) → IsFormOfAdditionalProperties P L rest b p.fused_one k
+      → MakesRestriction o answers L rest b P p (k ∷ [])
   makes_restriction (keyword.AdditionalProperties k) L P rest b p form ms d place rest_stands stands distinct there chosen =
-      subst (λ q. KeywordsMean o answers ms (keyword.AdditionalProperties k ∷ []) (claims (head q) (listed ms) (codes "additionalProperties", d)) ((codes "additionalProperties", d) ∷ []) P) (sym chosen)
-      (restriction_means k L P rest b ms (subst (λ n. IsFormOfAdditionalProperties {K = K} P L rest b n (keyword.AdditionalProperties k)) (ap (λ q. q.fused_one) chosen) form) d place rest_stands stands (ap is_restriction there ∙ restricted_there rest d L rest_stands) distinct there)
+      subst (λ q. KeywordsMean o answers ms (keyword.AdditionalProperties k ∷ []) (claims (head q) (listed ms) (codes "additionalProperties", d))
+          ((codes "additionalProperties", d) ∷ []) P) (sym chosen)
+      (restriction_means k L P rest b ms (subst (λ n. IsFormOfAdditionalProperties {K = K} P L rest b n (keyword.AdditionalProperties k))
+          (ap (λ q. q.fused_one) chosen) form) d place rest_stands stands (ap is_restriction there ∙ restricted_there rest d L rest_stands) distinct there)
   makes_restriction k L P rest b p form ms d place rest_stands stands distinct there chosen = absurd form
 
   -- ---- the form, by what there is
@@ -298,34 +319,38 @@ module _ {K R N : Type 0} (o : Kit K R) (answers : N → Answers) where
   map_for None (Some m) h = absurd h
   map_for (Some b) None h = absurd h
 
-  many_patterns : (b : Option (Patterns R N)) (k : AdditionalProperties R N) → HasPatterns b k → option_map (λ (v : Vec (CompiledPattern R × N) Global). length v.items) k.patterns ≡ option_map (λ (x : Patterns R N). length (zip x.patterns.items x.nodes.items)) b
+  many_patterns : (b : Option (Patterns R N)) (k : AdditionalProperties R N) → HasPatterns b k
+      → option_map (λ (v : Vec (CompiledPattern R × N) Global). length v.items) k.patterns ≡ option_map (λ (x : Patterns R N). length (zip x.patterns.items x.nodes.items)) b
   many_patterns None k h = ap (option_map (λ (v : Vec (CompiledPattern R × N) Global). length v.items)) h
   many_patterns (Some x) k h = by k.patterns h.0
     where
-      by : (v : Option (Vec (CompiledPattern R × N) Global)) → option_map (λ (v : Vec (CompiledPattern R × N) Global). v.items) v ≡ Some (zip x.patterns.items x.nodes.items) → option_map (λ (v : Vec (CompiledPattern R × N) Global). length v.items) v ≡ Some (length (zip x.patterns.items x.nodes.items))
+      by : (v : Option (Vec (CompiledPattern R × N) Global)) → option_map (λ (v : Vec (CompiledPattern R × N) Global). v.items) v ≡ Some (zip x.patterns.items x.nodes.items)
+          → option_map (λ (v : Vec (CompiledPattern R × N) Global). length v.items) v ≡ Some (length (zip x.patterns.items x.nodes.items))
       by None q = absurd (true≢false (sym (ap is_some q)))
       by (Some v) q = ap (option_map length) q
 
-  pub is_additional_properties : (k : KeywordOver K R N) (P L : Path) (rest : Option N) (b : Beside R N) (n : Option Name) → IsFormOfAdditionalProperties P L rest b n k → IsAdditionalProperties P L (is_some rest) (option_map (λ (m : SmallMap N). length m.names) b.properties) (option_map (λ (x : Patterns R N). length (zip x.patterns.items x.nodes.items)) b.patterns) n k
-  is_additional_properties (keyword.AdditionalProperties k) P L rest b n form = (ap is_some form.0, map_for b.properties k.value.properties form.1, many_patterns b.patterns k.value form.2, form.3, form.4)
+  pub is_additional_properties : (k : KeywordOver K R N) (P L : Path) (rest : Option N) (b : Beside R N) (n : Option Name) → IsFormOfAdditionalProperties P L rest b n k
+      → IsAdditionalProperties P L (is_some rest) (option_map (λ (m : SmallMap N). length m.names) b.properties)
+      (option_map (λ (x : Patterns R N). length (zip x.patterns.items x.nodes.items)) b.patterns) n k
+  is_additional_properties (keyword.AdditionalProperties k) P L rest b n form =
+      (ap is_some form.0, map_for b.properties k.value.properties form.1, many_patterns b.patterns k.value form.2, form.3, form.4)
   is_additional_properties k P L rest b n form = absurd form
 
   -- ---- the parts
 
   module _ (L : Path) (t : Taken R N) (P : Path) (p : Planned) where
     -- of a schema, whose node this is
-    pub part_of_rest : (before ns : List N) (n : N) (ks : List (KeywordOver K R N)) → ns ≡ before ++ n ∷ [] → MakesRestriction o answers L (Some n) t.beside P p ks → MakesPart o answers shape.AdditionalProperties L ns t P p ks
+    pub part_of_rest : (before ns : List N) (n : N) (ks : List (KeywordOver K R N)) → ns ≡ before ++ n ∷ [] → MakesRestriction o answers L (Some n) t.beside P p ks
+        → MakesPart o answers shape.AdditionalProperties L ns t P p ks
     part_of_rest before ns n ks split make ms m place named fits stand cases zip distinct there chosen untaken =
         subst (λ k. KeywordsMean o answers ms ks (claims (head p) (listed ms) (k, m.1)) ((k, m.1) ∷ []) P) (sym named.0)
-        (make ms m.1 (place ∙ ap (λ k. P // k) named.0) (named.1, by before (subst (λ l. StandAt o answers Itself l m.1 L) split stand)) (zip refl) distinct (ap (λ k. lookup_name k (listed ms)) (sym named.0) ∙ there) chosen)
+        (make ms m.1 (place ∙ ap (λ k. P // k) named.0) (named.1, by before (subst (λ l. StandAt o answers Itself l m.1 L) split stand)) (zip refl) distinct
+            (ap (λ k. lookup_name k (listed ms)) (sym named.0) ∙ there) chosen)
       where
         by : (before : List N) → StandAt o answers Itself (before ++ n ∷ []) m.1 L → Stands o answers n m.1 L
         by [] h = h
         by (x ∷ []) h = absurd h
         by (x ∷ y ∷ before) h = absurd h
-
-    pub part_of_no_rest : (ns : List N) (ks : List (KeywordOver K R N)) → ns ≡ [] → MakesPart o answers shape.AdditionalProperties L ns t P p ks
-    part_of_no_rest ns ks none ms m place named fits stand cases zip distinct there chosen untaken = absurd (subst (λ l. StandAt o answers Itself l m.1 L) none stand)
 
     -- of `false`
     pub part_of_no_others : (ns : List N) (ks : List (KeywordOver K R N)) → MakesRestriction o answers L None t.beside P p ks → MakesPart o answers shape.NoOthers L ns t P p ks
@@ -340,7 +365,10 @@ module _ {K R N : Type 0} (o : Kit K R) (answers : N → Answers) where
         let free = ap is_restriction (ap (λ k. lookup_name k (listed ms)) (sym named.0) ∙ there) ∙ allows in
         let nothing = allowing_means_nothing o.world ms m.1 allows free in
         subst₂ (λ q k. KeywordsMean o answers ms [] (claims (head q) (listed ms) (k, m.1)) ((k, m.1) ∷ []) P) (sym chosen) (sym named.0)
-        (subst (λ rows. KeywordsMean o answers ms [] rows ((codes "additionalProperties", m.1) ∷ []) P) (sym (claims_itself ms distinct (head (plan_of ms)) (codes "additionalProperties", m.1) (heads_elsewhere (plan_of ms) (codes "additionalProperties") refl refl (λ e. (refl, refl)) (free_takes_nothing ms (codes "additionalProperties") free)) (ap (λ k. lookup_name k (listed ms)) (sym named.0) ∙ there))) record {
+        (subst (λ rows. KeywordsMean o answers ms [] rows ((codes "additionalProperties", m.1) ∷ []) P)
+            (sym (claims_itself ms distinct (head (plan_of ms)) (codes "additionalProperties", m.1)
+            (heads_elsewhere (plan_of ms) (codes "additionalProperties") refl refl (λ e. (refl, refl)) (free_takes_nothing ms (codes "additionalProperties") free))
+            (ap (λ k. lookup_name k (listed ms)) (sym named.0) ∙ there))) record {
           covers = record {
             verdict = λ u v. sym (and-true _ ∙ nothing.verdict u v);
             asks_within = λ u v. omega arith;

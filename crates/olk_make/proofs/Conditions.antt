@@ -51,7 +51,8 @@ form_is_if L n None (Some e) (keyword.IfElse k) f = f.2
 form_is_if L n (Some t) (Some e) (keyword.IfThenElse k) f = f.3
 form_is_if L n t e k f = absurd f
 
-pub if_of_form : {K R N : Type 0} (r : Option (KeywordOver K R N)) (L : Path) (n : N) (cs : Cases N) → IfSome r (IsFormOfIf L n cs.then_schema cs.else_schema) → IfSome r (IsIf L (is_some cs.then_schema) (is_some cs.else_schema))
+pub if_of_form : {K R N : Type 0} (r : Option (KeywordOver K R N)) (L : Path) (n : N) (cs : Cases N) → IfSome r (IsFormOfIf L n cs.then_schema cs.else_schema)
+    → IfSome r (IsIf L (is_some cs.then_schema) (is_some cs.else_schema))
 if_of_form None L n cs f = tt
 if_of_form (Some k) L n cs f = form_is_if L n cs.then_schema cs.else_schema k f
 
@@ -83,14 +84,16 @@ module _ {K R N : Type 0} (o : Kit K R) (answers : N → Answers) where
     form_means (Some t) (Some e) (keyword.IfThenElse k) f v = λ i. conditional ((answers (f.0 i)).means v) ((answers (f.1 i)).means v) ((answers (f.2 i)).means v)
     form_means t e k f v = absurd f
 
-    form_finds : (t e : Option N) (k : KeywordOver K R N) → IsFormOfIf L n t e k → (u : Bool) (v : Data) (Q : Path) → found o answers u k v Q ≡ cond (((answers n).means v).accepts u) (case_found u t v Q) (case_found u e v Q)
+    form_finds : (t e : Option N) (k : KeywordOver K R N) → IsFormOfIf L n t e k → (u : Bool) (v : Data) (Q : Path) → found o answers u k v Q ≡ cond
+        (((answers n).means v).accepts u) (case_found u t v Q) (case_found u e v Q)
     unfolding answers_of
     form_finds (Some t) None (keyword.IfThen k) f u v Q = λ i. cond (((answers (f.0 i)).means v).accepts u) ((answers (f.1 i)).report u v Q) []
     form_finds None (Some e) (keyword.IfElse k) f u v Q = λ i. cond (((answers (f.0 i)).means v).accepts u) [] ((answers (f.1 i)).report u v Q)
     form_finds (Some t) (Some e) (keyword.IfThenElse k) f u v Q = λ i. cond (((answers (f.0 i)).means v).accepts u) ((answers (f.1 i)).report u v Q) ((answers (f.2 i)).report u v Q)
     form_finds t e k f u v Q = absurd f
 
-    form_shows : (t e : Option N) (k : KeywordOver K R N) → IsFormOfIf L n t e k → (u : Bool) (v : Data) (Q : Path) → shown o answers u k v Q ≡ if_tree (λ n. (answers n).tree u) v Q (((answers n).means v).accepts u) L n (option_to_list t) (option_to_list e)
+    form_shows : (t e : Option N) (k : KeywordOver K R N) → IsFormOfIf L n t e k → (u : Bool) (v : Data) (Q : Path) → shown o answers u k v Q ≡ if_tree
+        (λ n. (answers n).tree u) v Q (((answers n).means v).accepts u) L n (option_to_list t) (option_to_list e)
     unfolding answers_of
     form_shows (Some t) None (keyword.IfThen k) f u v Q = λ i. if_tree (λ n. (answers n).tree u) v Q (((answers (f.0 i)).means v).accepts u) (f.2 i) (f.0 i) (f.1 i ∷ []) []
     form_shows None (Some e) (keyword.IfElse k) f u v Q = λ i. if_tree (λ n. (answers n).tree u) v Q (((answers (f.0 i)).means v).accepts u) (f.2 i) (f.0 i) [] (f.1 i ∷ [])
@@ -213,7 +216,8 @@ module _ {K R N : Type 0} (o : Kit K R) (answers : N → Answers) where
 
   -- ---- all three
 
-  module _ (ms : Members) (P : Path) (distinct : has_repeat (names_of (listed ms)) ≡ false) (d : Data) (there : lookup_name (codes "if") (listed ms) ≡ Some d) (read_here : is_condition ms ≡ true) where
+  module _ (ms : Members) (P : Path) (distinct : has_repeat (names_of (listed ms)) ≡ false) (d : Data) (there : lookup_name (codes "if") (listed ms) ≡ Some d)
+      (read_here : is_condition ms ≡ true) where
     abbrev at_then : Option Data
     at_then = lookup_name (codes "then") (listed ms)
 
@@ -223,7 +227,8 @@ module _ {K R N : Type 0} (o : Kit K R) (answers : N → Answers) where
     abbrev three : List (Name × Data)
     three = (codes "if", d) ∷ rows (codes "then") at_then ++ rows (codes "else") at_else
 
-    module _ (L : Path) (n : N) (t e : Option N) (k : KeywordOver K R N) (place : L ≡ P // codes "if") (form : IsFormOfIf L n t e k) (stands : Stands o answers n d L) (then_stands : Fills (Case (P // codes "then")) t at_then) (else_stands : Fills (Case (P // codes "else")) e at_else) where
+    module _ (L : Path) (n : N) (t e : Option N) (k : KeywordOver K R N) (place : L ≡ P // codes "if") (form : IsFormOfIf L n t e k) (stands : Stands o answers n d L)
+        (then_stands : Fills (Case (P // codes "then")) t at_then) (else_stands : Fills (Case (P // codes "else")) e at_else) where
       mean_together : Covers o answers ms (k ∷ []) three P
       mean_together = record {
         verdict = λ u v. and-true _ ∙ ap (λ q. q.accepts u) (form_means L n t e k form v)
@@ -242,15 +247,18 @@ module _ {K R N : Type 0} (o : Kit K R) (answers : N → Answers) where
             omega (arith, q, w, s, r, i, x, y);
         faults = λ u v Q. subst₂ (λ l r. l ∼ r)
             (ap (λ l. l ++ []) (sym (form_finds L n t e k form u v Q ∙ ap (λ b. cond b (case_found u t v Q) (case_found u e v Q)) (stands.verdict u v))))
-            ((λ i. sym (then_report ms d there u v P Q at_then) i ++ sym (else_report ms d there u v P Q at_else) i) ∙ sym (flat_map-append (row_report ms d there u v P Q) (rows (codes "then") at_then) (rows (codes "else") at_else)))
+            ((λ i. sym (then_report ms d there u v P Q at_then) i ++ sym (else_report ms d there u v P Q at_else) i)
+                ∙ sym (flat_map-append (row_report ms d there u v P Q) (rows (codes "then") at_then) (rows (codes "else") at_else)))
             (one_found (tested ms d there u v) _ _ _ _ (case_finds u v t at_then (P // codes "then") Q then_stands) (case_finds u v e at_else (P // codes "else") Q else_stands));
       }
 
       shown_together : (u : Bool) (v : Data) (Q : Path) → shown o answers u k v Q ∷ [] ≡ flat_map (λ m. member_child o.world ms m (which o ms m) u v P Q) ((codes "if", d) ∷ [])
       shown_together u v Q =
           ap (λ t. t ∷ []) (form_shows L n t e k form u v Q
-          ∙ (λ i. plain (place i) Q (cond (stands.verdict u v i) (subst_tree u v Q i ∷ case_shows u v t at_then (P // codes "then") Q then_stands i) (case_shows u v e at_else (P // codes "else") Q else_stands i)))
-          ∙ ap (plain (P // codes "if") Q) (one_shown (tested ms d there u v) (tree o.world u d v (P // codes "if") Q) (case_trees u v at_then (P // codes "then") Q) (case_trees u v at_else (P // codes "else") Q)
+          ∙ (λ i. plain (place i) Q (cond (stands.verdict u v i) (subst_tree u v Q i ∷ case_shows u v t at_then (P // codes "then") Q then_stands i)
+              (case_shows u v e at_else (P // codes "else") Q else_stands i)))
+          ∙ ap (plain (P // codes "if") Q) (one_shown (tested ms d there u v) (tree o.world u d v (P // codes "if") Q) (case_trees u v at_then (P // codes "then") Q)
+              (case_trees u v at_else (P // codes "else") Q)
           ∙ (λ i. put_if (tested ms d there u v) (tree o.world u d v (P // codes "if") Q) [] ++ sym (shown_where u v (tested ms d there u v) at_then (P // codes "then") Q) i ++ sym (shown_where u v (not (tested ms d there u v)) at_else (P // codes "else") Q) i)))
           ∙ sym (append-nil _ ∙ fact.if_shows_beside o.world ms u v d read_here P Q)
         where
@@ -266,7 +274,9 @@ module _ {K R N : Type 0} (o : Kit K R) (answers : N → Answers) where
           (record {
             covers = mean_together;
             shows = λ clean u v Q. shown_together u v Q;
-            formed = just_one_formed o answers k (if_formed o answers L n t e k form stands.formed (filled_formed t at_then (P // codes "then") then_stands) (filled_formed e at_else (P // codes "else") else_stands));
+            formed =
+                just_one_formed o answers k (if_formed o answers L n t e k form stands.formed (filled_formed t at_then (P // codes "then") then_stands)
+                    (filled_formed e at_else (P // codes "else") else_stands));
           })
 
   -- ---- what is made of the nodes
@@ -276,7 +286,8 @@ module _ {K R N : Type 0} (o : Kit K R) (answers : N → Answers) where
   none_stands (Some d) L h = absurd h
 
   pub makes_condition : (k : KeywordOver K R N) (L : Path) (n : N) (cs : Cases N) → IsFormOfIf L n cs.then_schema cs.else_schema k → MakesCondition o answers L n cs (k ∷ [])
-  makes_condition k L n cs form ms d P place stands cases distinct there read_here = means_condition ms P distinct d there read_here L n cs.then_schema cs.else_schema k place form stands cases.0 cases.1 (plan_of ms) read_here
+  makes_condition k L n cs form ms d P place stands cases distinct there read_here =
+      means_condition ms P distinct d there read_here L n cs.then_schema cs.else_schema k place form stands cases.0 cases.1 (plan_of ms) read_here
 
   -- where there is neither, `if` is not read
   pub makes_no_condition : (L : Path) (n : N) (cs : Cases N) → cs.then_schema ≡ None → cs.else_schema ≡ None → MakesCondition o answers L n cs []
@@ -285,12 +296,14 @@ module _ {K R N : Type 0} (o : Kit K R) (answers : N → Answers) where
       let b = none_stands (lookup_name (codes "else") (listed ms)) (P // codes "else") (subst (λ t. Fills (Case (P // codes "else")) t (lookup_name (codes "else") (listed ms))) q cases.1) in
       absurd (true≢false (sym read_here ∙ (λ i. is_some (there i) && (is_some (a i) || is_some (b i)))))
 
-  pub makes_if : (r : Option (KeywordOver K R N)) (L : Path) (n : N) (cs : Cases N) → IfNone r (cs.then_schema ≡ None) → IfNone r (cs.else_schema ≡ None) → IfSome r (IsFormOfIf L n cs.then_schema cs.else_schema) → MakesCondition o answers L n cs (option_to_list r)
+  pub makes_if : (r : Option (KeywordOver K R N)) (L : Path) (n : N) (cs : Cases N) → IfNone r (cs.then_schema ≡ None) → IfNone r (cs.else_schema ≡ None)
+      → IfSome r (IsFormOfIf L n cs.then_schema cs.else_schema) → MakesCondition o answers L n cs (option_to_list r)
   makes_if None L n cs p q form = makes_no_condition L n cs p q
   makes_if (Some k) L n cs p q form = makes_condition k L n cs form
 
   -- the part of `if`, whose node this is
-  pub part_of_if : (L : Path) (before ns : List N) (n : N) (t : Taken R N) (P : Path) (p : Planned) (ks : List (KeywordOver K R N)) → ns ≡ before ++ n ∷ [] → MakesCondition o answers L n t.cases ks → MakesPart o answers shape.If L ns t P p ks
+  pub part_of_if : (L : Path) (before ns : List N) (n : N) (t : Taken R N) (P : Path) (p : Planned) (ks : List (KeywordOver K R N)) → ns ≡ before
+      ++ n ∷ [] → MakesCondition o answers L n t.cases ks → MakesPart o answers shape.If L ns t P p ks
   part_of_if L before ns n t P p ks split make ms m place named fits stand cases beside distinct there chosen untaken =
       subst (λ q. KeywordsMean o answers ms ks (claims (head q) (listed ms) m) (m ∷ []) P) (sym chosen)
       (subst (λ k. KeywordsMean o answers ms ks (claims (head (plan_of ms)) (listed ms) (k, m.1)) ((k, m.1) ∷ []) P) (sym named)
@@ -301,12 +314,10 @@ module _ {K R N : Type 0} (o : Kit K R) (answers : N → Answers) where
       by (x ∷ []) h = absurd h
       by (x ∷ y ∷ before) h = absurd h
 
-  pub part_of_no_if : (L : Path) (ns : List N) (t : Taken R N) (P : Path) (p : Planned) (ks : List (KeywordOver K R N)) → ns ≡ [] → MakesPart o answers shape.If L ns t P p ks
-  part_of_no_if L ns t P p ks none ms m place named fits stand cases beside distinct there chosen untaken = absurd (subst (λ l. StandAt o answers Itself l m.1 L) none stand)
-
   module _ (L : Path) (ns : List N) (t : Taken R N) (P : Path) (p : Planned) (ks : List (KeywordOver K R N)) where
     case_is_taken : (ms : Members) (k : Name) → is_case k ≡ true → is_condition ms ≡ true → p ≡ plan_of ms → is_taken p k ≡ false → {X : Type 0} → X
-    case_is_taken ms k case fits chosen untaken = absurd (true≢false (sym ((λ i. (p.restricted && tells_members k) || (ap (λ q. q.condition) chosen ∙ fits) i && case i) ∙ or-true (p.restricted && tells_members k)) ∙ untaken))
+    case_is_taken ms k case fits chosen untaken =
+        absurd (true≢false (sym ((λ i. (p.restricted && tells_members k) || (ap (λ q. q.condition) chosen ∙ fits) i && case i) ∙ or-true (p.restricted && tells_members k)) ∙ untaken))
 
     -- what `if` takes does not stay
     pub part_of_then : MakesPart o answers shape.Then L ns t P p ks
@@ -320,7 +331,9 @@ module _ {K R N : Type 0} (o : Kit K R) (answers : N → Answers) where
   part_of_unpaired L ns t P p ms m place named fits stand cases beside distinct there chosen untaken =
       let nothing = fact.unpaired_means_nothing o.world ms m named fits (ap is_some there) in
       subst (λ q. KeywordsMean o answers ms [] (claims (head q) (listed ms) m) (m ∷ []) P) (sym chosen)
-      (subst (λ rows. KeywordsMean o answers ms [] rows (m ∷ []) P) (sym (claims_itself ms distinct (head (plan_of ms)) m (heads_elsewhere (plan_of ms) m.0 (apart_from (codes "properties") refl refl refl) (apart_from (codes "required") refl refl refl) (λ e. absurd (true≢false (sym e ∙ fits)))
+      (subst (λ rows. KeywordsMean o answers ms [] rows (m ∷ []) P) (sym
+          (claims_itself ms distinct (head (plan_of ms)) m (heads_elsewhere (plan_of ms) m.0 (apart_from (codes "properties") refl refl refl)
+          (apart_from (codes "required") refl refl refl) (λ e. absurd (true≢false (sym e ∙ fits)))
       (never_taken (plan_of ms) m.0 (apart_from (codes "additionalProperties") refl refl refl) (apart_from (codes "properties") refl refl refl) (apart_from (codes "patternProperties") refl refl refl) (apart_from (codes "required") refl refl refl))) there)) record {
         covers = record {
           verdict = λ u v. sym (and-true _ ∙ nothing.verdict u v);

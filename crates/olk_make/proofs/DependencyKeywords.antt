@@ -57,7 +57,8 @@ module _ {K R N : Type 0} (o : Kit K R) (answers : N → Answers) where
 
   -- the nodes of the entries that are due
   module _ (w : EntryAnswers) where
-    due_answer : (v : Data) (ns : List N) (es : List (Name × Data)) (L : Path) → AnswerEach o answers w ns es L → AnswerEach o answers w (due_nodes (zip (map (λ e. e.0) es) ns) v) (filter_once (λ e. has e.0 v) es) L
+    due_answer : (v : Data) (ns : List N) (es : List (Name × Data)) (L : Path) → AnswerEach o answers w ns es L → AnswerEach o answers w
+        (due_nodes (zip (map (λ e. e.0) es) ns) v) (filter_once (λ e. has e.0 v) es) L
     due_answer v [] [] L h = tt
     due_answer v [] (e ∷ es) L h = absurd h
     due_answer v (n ∷ ns) [] L h = absurd h
@@ -97,7 +98,8 @@ module _ {K R N : Type 0} (o : Kit K R) (answers : N → Answers) where
 
     due_find : (Q : Path) → found o answers u (dependencies_of m L) v Q ∼ flat_map (λ e. w.faults u e v L Q) due
     unfolding answers_of
-    due_find Q = subst (λ ks. flat_map (λ n. (answers n).report u v Q) (due_of ks) ∼ flat_map (λ e. w.faults u e v L Q) due) (sym names) (each_find o answers w u v Q (due_of (map (λ e. e.0) es)) due L dues)
+    due_find Q =
+        subst (λ ks. flat_map (λ n. (answers n).report u v Q) (due_of ks) ∼ flat_map (λ e. w.faults u e v L Q) due) (sym names) (each_find o answers w u v Q (due_of (map (λ e. e.0) es)) due L dues)
 
     due_show : (Q : Path) → shown o answers u (dependencies_of m L) v Q ≡ plain L Q (map (λ e. w.shown u e v L Q) due)
     unfolding answers_of
@@ -106,13 +108,18 @@ module _ {K R N : Type 0} (o : Kit K R) (answers : N → Answers) where
   -- ---- the three keywords
 
   module _ (m : SmallMap N) (L : Path) (d : Data) (names : m.names ≡ map (λ e. e.0) (members d)) (ms : Members) (P : Path) where
-    pub means_dependent_required : are_lists d ≡ true → AnswerEach o answers list_answers m.nodes.items (members d) L → L ≡ P // codes "dependentRequired" → KeywordMeans o answers ms (dependencies_of m L ∷ []) (codes "dependentRequired", d) P
+    pub means_dependent_required : are_lists d ≡ true → AnswerEach o answers list_answers m.nodes.items (members d) L → L ≡ P // codes "dependentRequired"
+        → KeywordMeans o answers ms (dependencies_of m L ∷ []) (codes "dependentRequired", d) P
     means_dependent_required lists each p = record {
       holds = one o answers ms (dependencies_of m L) (codes "dependentRequired", d) dependent_required P
           (λ u v. due_accept list_answers m L (members d) names each u v ∙ sym (fact.dependent_required_accepts o.world ms d u v lists))
           (λ u v. same_within _ _ _ (due_ask list_answers m L (members d) names each u v) (fact.dependent_required_asks o.world ms d u v ∙ sym (no_sum (due_entries d v))))
-          (λ u v Q. subst (λ fs. found o answers u (dependencies_of m L) v Q ∼ fs) (ap (λ M. flat_map (λ e. required_faults (texts e.1) v M Q) (due_entries d v)) p ∙ sym (fact.dependent_required_report o.world ms d u v lists P Q)) (due_find list_answers m L (members d) names each u v Q));
-      shows = λ u h v Q. ap (λ t. t ∷ []) (due_show list_answers m L (members d) names each u v Q ∙ ap (λ M. plain M Q (map (λ e. erring M Q (required_faults (texts e.1) v M Q)) (due_entries d v))) p) ∙ sym (fact.dependent_required_child o.world ms d u v lists P Q);
+          (λ u v Q. subst (λ fs. found o answers u (dependencies_of m L) v Q ∼ fs)
+              (ap (λ M. flat_map (λ e. required_faults (texts e.1) v M Q) (due_entries d v)) p ∙ sym (fact.dependent_required_report o.world ms d u v lists P Q))
+              (due_find list_answers m L (members d) names each u v Q));
+      shows =
+          λ u h v Q. ap (λ t. t ∷ []) (due_show list_answers m L (members d) names each u v Q
+              ∙ ap (λ M. plain M Q (map (λ e. erring M Q (required_faults (texts e.1) v M Q)) (due_entries d v))) p) ∙ sym (fact.dependent_required_child o.world ms d u v lists P Q);
       formed = just_one_formed o answers (dependencies_of m L) (dependencies_formed m L (each_formed o answers list_answers m.nodes.items (members d) L each));
     }
       where
@@ -120,23 +127,32 @@ module _ {K R N : Type 0} (o : Kit K R) (answers : N → Answers) where
         no_sum [] = refl
         no_sum (e ∷ es) = sum_by-cons (λ e. 0) e es ∙ ap (λ n. 0 + n) (no_sum es)
 
-    pub means_dependent_schemas : AnswerEach o answers (schema_answers o answers) m.nodes.items (members d) L → L ≡ P // codes "dependentSchemas" → KeywordMeans o answers ms (dependencies_of m L ∷ []) (codes "dependentSchemas", d) P
+    pub means_dependent_schemas : AnswerEach o answers (schema_answers o answers) m.nodes.items (members d) L → L ≡ P // codes "dependentSchemas"
+        → KeywordMeans o answers ms (dependencies_of m L ∷ []) (codes "dependentSchemas", d) P
     means_dependent_schemas each p = record {
       holds = one o answers ms (dependencies_of m L) (codes "dependentSchemas", d) dependent_schemas P
           (λ u v. due_accept (schema_answers o answers) m L (members d) names each u v ∙ sym (fact.dependent_schemas_accepts o.world ms d u v))
           (λ u v. same_within _ _ _ (due_ask (schema_answers o answers) m L (members d) names each u v) (fact.dependent_schemas_asks o.world ms d u v))
-          (λ u v Q. subst (λ fs. found o answers u (dependencies_of m L) v Q ∼ fs) (ap (λ M. flat_map (λ e. report o.world u e.1 v (M // e.0) Q) (due_entries d v)) p ∙ sym (fact.dependent_schemas_report o.world ms d u v P Q)) (due_find (schema_answers o answers) m L (members d) names each u v Q));
-      shows = λ u h v Q. ap (λ t. t ∷ []) (due_show (schema_answers o answers) m L (members d) names each u v Q ∙ ap (λ M. plain M Q (map (λ e. tree o.world u e.1 v (M // e.0) Q) (due_entries d v))) p) ∙ sym (fact.dependent_schemas_child o.world ms d u v P Q);
+          (λ u v Q. subst (λ fs. found o answers u (dependencies_of m L) v Q ∼ fs)
+              (ap (λ M. flat_map (λ e. report o.world u e.1 v (M // e.0) Q) (due_entries d v)) p ∙ sym (fact.dependent_schemas_report o.world ms d u v P Q))
+              (due_find (schema_answers o answers) m L (members d) names each u v Q));
+      shows =
+          λ u h v Q. ap (λ t. t ∷ []) (due_show (schema_answers o answers) m L (members d) names each u v Q
+              ∙ ap (λ M. plain M Q (map (λ e. tree o.world u e.1 v (M // e.0) Q) (due_entries d v))) p) ∙ sym (fact.dependent_schemas_child o.world ms d u v P Q);
       formed = just_one_formed o answers (dependencies_of m L) (dependencies_formed m L (each_formed o answers (schema_answers o answers) m.nodes.items (members d) L each));
     }
 
-    pub means_dependencies : AnswerEach o answers dependency_answers m.nodes.items (members d) L → L ≡ P // codes "dependencies" → KeywordMeans o answers ms (dependencies_of m L ∷ []) (codes "dependencies", d) P
+    pub means_dependencies : AnswerEach o answers dependency_answers m.nodes.items (members d) L → L ≡ P // codes "dependencies"
+        → KeywordMeans o answers ms (dependencies_of m L ∷ []) (codes "dependencies", d) P
     means_dependencies each p = record {
       holds = one o answers ms (dependencies_of m L) (codes "dependencies", d) dependencies P
           (λ u v. due_accept dependency_answers m L (members d) names each u v ∙ sym (fact.dependencies_accepts o.world ms d u v))
           (λ u v. same_within _ _ _ (due_ask dependency_answers m L (members d) names each u v) (fact.dependencies_asks o.world ms d u v))
-          (λ u v Q. like_through (subst (λ fs. found o answers u (dependencies_of m L) v Q ∼ fs) (ap (λ M. flat_map (λ e. dependency_report o.world u e v M Q) (due_entries d v)) p) (due_find dependency_answers m L (members d) names each u v Q)) (∼_sym (fact.dependencies_report o.world ms d u v P Q)));
-      shows = λ u h v Q. ap (λ t. t ∷ []) (due_show dependency_answers m L (members d) names each u v Q ∙ ap (λ M. plain M Q (map (λ e. dependency_shown o.world u e v M Q) (due_entries d v))) p) ∙ sym (fact.dependencies_child o.world ms d u v P Q);
+          (λ u v Q. like_through (subst (λ fs. found o answers u (dependencies_of m L) v Q ∼ fs) (ap (λ M. flat_map (λ e. dependency_report o.world u e v M Q) (due_entries d v)) p)
+              (due_find dependency_answers m L (members d) names each u v Q)) (∼_sym (fact.dependencies_report o.world ms d u v P Q)));
+      shows =
+          λ u h v Q. ap (λ t. t ∷ []) (due_show dependency_answers m L (members d) names each u v Q
+              ∙ ap (λ M. plain M Q (map (λ e. dependency_shown o.world u e v M Q) (due_entries d v))) p) ∙ sym (fact.dependencies_child o.world ms d u v P Q);
       formed = just_one_formed o answers (dependencies_of m L) (dependencies_formed m L (each_formed o answers dependency_answers m.nodes.items (members d) L each));
     }
 
@@ -154,7 +170,8 @@ module _ {K R N : Type 0} (o : Kit K R) (answers : N → Answers) where
       means : (x : Data) → (answers n).means x ≡ always (is_empty (missing (texts e.1) x))
       means x = is.verdict x ∙ ap (λ ns. always (is_empty (missing ns x))) same
 
-  lists_answer : (vs : List (Vec (String Global) Global)) (ns : List N) (es : List (Name × Data)) (L : Path) → AreListsAt o answers L vs ns → map names_in vs ≡ map (λ e. texts e.1) es → AnswerEach o answers list_answers ns es L
+  lists_answer : (vs : List (Vec (String Global) Global)) (ns : List N) (es : List (Name × Data)) (L : Path) → AreListsAt o answers L vs ns
+      → map names_in vs ≡ map (λ e. texts e.1) es → AnswerEach o answers list_answers ns es L
   lists_answer [] [] [] L h q = tt
   lists_answer [] [] (e ∷ es) L h q = absurd (true≢false (ap is_empty q))
   lists_answer [] (n ∷ ns) es L h q = absurd h
@@ -184,24 +201,29 @@ module _ {K R N : Type 0} (o : Kit K R) (answers : N → Answers) where
   abbrev schemas_among : List (Name × Data) → List (Name × Data)
   schemas_among es = filter_once (λ e. not (is_array e.1)) es
 
-  dependencies_answer : (vs : List (Option (Vec (String Global) Global))) (schemas ns : List N) (es : List (Name × Data)) (L : Path) → AreInOrder o answers L vs schemas ns → map names_in_list vs ≡ map (λ e. list_of e.1) es → StandEach o answers schemas (schemas_among es) L → AnswerEach o answers dependency_answers ns es L
+  dependencies_answer : (vs : List (Option (Vec (String Global) Global))) (schemas ns : List N) (es : List (Name × Data)) (L : Path)
+      → AreInOrder o answers L vs schemas ns → map names_in_list vs ≡ map (λ e. list_of e.1) es → StandEach o answers schemas (schemas_among es) L → AnswerEach o answers dependency_answers ns es L
   dependencies_answer [] schemas ns [] L h q stand = subst (λ l. AnswerEach o answers dependency_answers l [] L) (sym h) tt
   dependencies_answer [] schemas ns (e ∷ es) L h q stand = absurd (true≢false (ap is_empty q))
   dependencies_answer (v ∷ vs) schemas ns [] L h q stand = absurd (true≢false (sym (ap is_empty q)))
   dependencies_answer (v ∷ vs) schemas ns (e ∷ es) L h q stand =
       by v (is_array e.1) refl schemas ns h (ap (λ l. get_or l 0 None) q) stand (λ rest others g k. dependencies_answer vs rest others es L g (ap (drop 1) q) k)
     where
-      by : (v : Option (Vec (String Global) Global)) (b : Bool) → is_array e.1 ≡ b → (schemas ns : List N) → AreInOrder o answers L (v ∷ vs) schemas ns → names_in_list v ≡ cond b (Some (texts e.1)) None → StandEach o answers schemas (put_if (not b) e (schemas_among es)) L
-          → ((schemas ns : List N) → AreInOrder o answers L vs schemas ns → StandEach o answers schemas (schemas_among es) L → AnswerEach o answers dependency_answers ns es L) → AnswerEach o answers dependency_answers ns (e ∷ es) L
+      by : (v : Option (Vec (String Global) Global)) (b : Bool) → is_array e.1 ≡ b → (schemas ns : List N) → AreInOrder o answers L (v ∷ vs) schemas ns
+          → names_in_list v ≡ cond b (Some (texts e.1)) None → StandEach o answers schemas (put_if (not b) e (schemas_among es)) L
+          → ((schemas ns : List N) → AreInOrder o answers L vs schemas ns → StandEach o answers schemas (schemas_among es) L → AnswerEach o answers dependency_answers ns es L)
+              → AnswerEach o answers dependency_answers ns (e ∷ es) L
       by (Some v) true a schemas [] h same stand later = absurd h
       by (Some v) true a schemas (n ∷ ns) h same stand later = (list_is_dependency n e L a (list_answer v n e L h.0 (ap (λ x. unwrap_or x []) same)), later schemas ns h.1 stand)
       by None false a [] ns h same stand later = absurd stand
       by None false a (s ∷ schemas) [] h same stand later = absurd h
-      by None false a (s ∷ schemas) (n ∷ ns) h same stand later = (schema_is_dependency n e L a (schema_answer o answers n e L (subst (λ x. Stands o answers x e.1 (L // e.0)) (sym h.0) stand.0)), later schemas ns h.1 stand.1)
+      by None false a (s ∷ schemas) (n ∷ ns) h same stand later =
+          (schema_is_dependency n e L a (schema_answer o answers n e L (subst (λ x. Stands o answers x e.1 (L // e.0)) (sym h.0) stand.0)), later schemas ns h.1 stand.1)
       by (Some v) false a schemas ns h same stand later = absurd (true≢false (ap is_some same))
       by None true a schemas ns h same stand later = absurd (true≢false (sym (ap is_some same)))
 
-  pub makes_dependent_required : (m : SmallMap N) (lists : Vec (Vec (String Global) Global) Global) (L : Path) → AreListsAt o answers L lists.items m.nodes.items → MakesMember o answers (shape.DependentRequired m.names lists) L [] (dependencies_of m L ∷ [])
+  pub makes_dependent_required : (m : SmallMap N) (lists : Vec (Vec (String Global) Global) Global) (L : Path) → AreListsAt o answers L lists.items m.nodes.items
+      → MakesMember o answers (shape.DependentRequired m.names lists) L [] (dependencies_of m L ∷ [])
   makes_dependent_required m lists L is ms x P p s h = subst (λ n. KeywordMeans o answers ms (dependencies_of m L ∷ []) (n, x.1) P) (sym s.0)
       (means_dependent_required m L x.1 s.2 ms P s.3 (lists_answer lists.items m.nodes.items (members x.1) L is s.4) (p ∙ ap (λ n. P // n) s.0))
 
@@ -209,7 +231,8 @@ module _ {K R N : Type 0} (o : Kit K R) (answers : N → Answers) where
   makes_dependent_schemas m L ms x P p s h = subst (λ n. KeywordMeans o answers ms (dependencies_of m L ∷ []) (n, x.1) P) (sym s.0)
       (means_dependent_schemas m L x.1 s.2 ms P (schemas_answer o answers m.nodes.items (members x.1) L h) (p ∙ ap (λ n. P // n) s.0))
 
-  pub makes_dependencies : (m : SmallMap N) (lists : Vec (Option (Vec (String Global) Global)) Global) (schemas : List N) (L : Path) → AreInOrder o answers L lists.items schemas m.nodes.items → MakesMember o answers (shape.Dependencies m.names lists) L schemas (dependencies_of m L ∷ [])
+  pub makes_dependencies : (m : SmallMap N) (lists : Vec (Option (Vec (String Global) Global)) Global) (schemas : List N) (L : Path)
+      → AreInOrder o answers L lists.items schemas m.nodes.items → MakesMember o answers (shape.Dependencies m.names lists) L schemas (dependencies_of m L ∷ [])
   makes_dependencies m lists schemas L is ms x P p s h = subst (λ n. KeywordMeans o answers ms (dependencies_of m L ∷ []) (n, x.1) P) (sym s.0)
       (means_dependencies m L x.1 s.2 ms P (dependencies_answer lists.items schemas m.nodes.items (members x.1) L is s.3 h) (p ∙ ap (λ n. P // n) s.0))
 
@@ -220,7 +243,8 @@ abbrev pub MadeInOrder : {K R N : Type 0} → Kit K R → (N → Answers) → Pa
 MadeInOrder o answers L x ns = AreInOrder o answers L x.0 x.1 ns
 
 module _ {K R N : Type 0} (o : Kit K R) (answers : N → Answers) (L : Path) (left after : List (Option (Vec (String Global) Global))) (schemas others rest : List N) where
-  pub list_next : (v : Vec (String Global) Global) (n : N) → left ≡ Some v ∷ after → IsListAt o answers L v n → MadeInOrder o answers L (after, schemas) rest → MadeInOrder o answers L (left, schemas) (n ∷ rest)
+  pub list_next : (v : Vec (String Global) Global) (n : N) → left ≡ Some v ∷ after → IsListAt o answers L v n → MadeInOrder o answers L (after, schemas) rest
+      → MadeInOrder o answers L (left, schemas) (n ∷ rest)
   list_next v n e is h = subst (λ ls. AreInOrder o answers L ls schemas (n ∷ rest)) (sym e) (is, h)
 
   pub schema_next : (n : N) → left ≡ None ∷ after → schemas ≡ n ∷ others → MadeInOrder o answers L (after, others) rest → MadeInOrder o answers L (left, schemas) (n ∷ rest)

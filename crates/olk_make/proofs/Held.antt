@@ -103,19 +103,23 @@ module _ {K R N : Type 0} (o : Kit K R) (answers : N → Answers) where
     abbrev each_at : Name × N → Question
     each_at e = every (answers e.1).means (at e.0 v)
 
-    members_accept : (ns : List N) (es : List (Name × Data)) (L : Path) → StandEach o answers ns es L → (every each_at (zip (map (λ e. e.0) es) ns)).accepts u ≡ list_all (λ e. list_all (accepts o.world u e.1) (at e.0 v)) es
+    members_accept : (ns : List N) (es : List (Name × Data)) (L : Path) → StandEach o answers ns es L → (every each_at (zip (map (λ e. e.0) es) ns)).accepts u ≡ list_all
+        (λ e. list_all (accepts o.world u e.1) (at e.0 v)) es
     members_accept [] [] L h = refl
     members_accept [] (e ∷ es) L h = absurd h
     members_accept (n ∷ ns) [] L h = absurd h
     members_accept (n ∷ ns) (e ∷ es) L h = λ i. node_accepts n e.1 (L // e.0) h.0 u (at e.0 v) i && members_accept ns es L h.1 i
 
-    members_ask : (ns : List N) (es : List (Name × Data)) (L : Path) → StandEach o answers ns es L → (every each_at (zip (map (λ e. e.0) es) ns)).asks u ≤ sum_by (λ e. sum_by (asks o.world u e.1) (at e.0 v)) es
+    members_ask : (ns : List N) (es : List (Name × Data)) (L : Path) → StandEach o answers ns es L → (every each_at (zip (map (λ e. e.0) es) ns)).asks u ≤ sum_by
+        (λ e. sum_by (asks o.world u e.1) (at e.0 v)) es
     members_ask [] [] L h = omega arith
     members_ask [] (e ∷ es) L h = absurd h
     members_ask (n ∷ ns) [] L h = absurd h
     members_ask (n ∷ ns) (e ∷ es) L h = more_within _ _ _ _ _ (node_asks n e.1 (L // e.0) h.0 u (at e.0 v)) (members_ask ns es L h.1) (sum_by-cons (λ e. sum_by (asks o.world u e.1) (at e.0 v)) e es)
 
-    members_find : (Q : Path) (ns : List N) (es : List (Name × Data)) (L : Path) → StandEach o answers ns es L → flat_map (λ e. flat_map (λ x. (answers e.1).report u x (Q // e.0)) (at e.0 v)) (zip (map (λ e. e.0) es) ns) ∼ flat_map (λ e. flat_map (λ x. report o.world u e.1 x (L // e.0) (Q // e.0)) (at e.0 v)) es
+    members_find : (Q : Path) (ns : List N) (es : List (Name × Data)) (L : Path) → StandEach o answers ns es L
+        → flat_map (λ e. flat_map (λ x. (answers e.1).report u x (Q // e.0)) (at e.0 v)) (zip (map (λ e. e.0) es) ns) ∼ flat_map
+        (λ e. flat_map (λ x. report o.world u e.1 x (L // e.0) (Q // e.0)) (at e.0 v)) es
     members_find Q [] [] L h = like_empty
     members_find Q [] (e ∷ es) L h = absurd h
     members_find Q (n ∷ ns) [] L h = absurd h
@@ -136,11 +140,14 @@ module _ {K R N : Type 0} (o : Kit K R) (answers : N → Answers) where
     any_ask (n ∷ ns) [] L h = absurd h
     any_ask (n ∷ ns) (e ∷ es) L h = more_within _ _ _ _ _ (h.0.asks_within u v) (any_ask ns es L h.1) (sum_by-cons (λ e. asks o.world u e.1 v) e es)
 
-    pub any_context : (Q : Path) (ns : List N) (es : List (Name × Data)) (L : Path) → StandEach o answers ns es L → IsLikeContext (context (map (λ n. (answers n).report u v Q) ns)) (context (map (λ e. report o.world u e.1 v (L // e.0) Q) es))
+    pub any_context : (Q : Path) (ns : List N) (es : List (Name × Data)) (L : Path) → StandEach o answers ns es L
+        → IsLikeContext (context (map (λ n. (answers n).report u v Q) ns)) (context (map (λ e. report o.world u e.1 v (L // e.0) Q) es))
     any_context Q [] [] L h = like_none
     any_context Q [] (e ∷ es) L h = absurd h
     any_context Q (n ∷ ns) [] L h = absurd h
-    any_context Q (n ∷ ns) (e ∷ es) L h = like_branch (subst₂ (λ x y. x ∼ y) (sym (faults_in-from ((answers n).report u v Q))) (sym (faults_in-from (report o.world u e.1 v (L // e.0) Q))) (h.0.faults u v Q)) (any_context Q ns es L h.1)
+    any_context Q (n ∷ ns) (e ∷ es) L h =
+        like_branch (subst₂ (λ x y. x ∼ y) (sym (faults_in-from ((answers n).report u v Q))) (sym (faults_in-from (report o.world u e.1 v (L // e.0) Q)))
+            (h.0.faults u v Q)) (any_context Q ns es L h.1)
 
     pub branches_show : (Q : Path) (ns : List N) (es : List (Name × Data)) (L : Path) → StandEach o answers ns es L → map (λ n. (answers n).tree u v Q) ns ≡ branches_shown o.world u v L Q es
     branches_show Q ns es L h = each_show o answers (schema_answers o answers) u v Q ns es L (schemas_answer o answers ns es L h)
@@ -148,11 +155,13 @@ module _ {K R N : Type 0} (o : Kit K R) (answers : N → Answers) where
     abbrev pub accepts_value : N → Bool
     accepts_value n = ((answers n).means v).accepts u
 
-    pub accepting_show : (Q : Path) (ns : List N) (es : List (Name × Data)) (L : Path) → StandEach o answers ns es L → map (λ n. (answers n).tree u v Q) (filter_once accepts_value ns) ≡ branches_shown o.world u v L Q (accepting_branches o.world u v es)
+    pub accepting_show : (Q : Path) (ns : List N) (es : List (Name × Data)) (L : Path) → StandEach o answers ns es L → map (λ n. (answers n).tree u v Q)
+        (filter_once accepts_value ns) ≡ branches_shown o.world u v L Q (accepting_branches o.world u v es)
     accepting_show Q [] [] L h = refl
     accepting_show Q [] (e ∷ es) L h = absurd h
     accepting_show Q (n ∷ ns) [] L h = absurd h
-    accepting_show Q (n ∷ ns) (e ∷ es) L h = ap (λ b. map (λ n. (answers n).tree u v Q) (put_if b n (filter_once accepts_value ns))) (h.0.verdict u v) ∙ by (accepts o.world u e.1 v) (accepting_show Q ns es L h.1)
+    accepting_show Q (n ∷ ns) (e ∷ es) L h =
+        ap (λ b. map (λ n. (answers n).tree u v Q) (put_if b n (filter_once accepts_value ns))) (h.0.verdict u v) ∙ by (accepts o.world u e.1 v) (accepting_show Q ns es L h.1)
       where
         by : (b : Bool) → map (λ n. (answers n).tree u v Q) (filter_once accepts_value ns) ≡ branches_shown o.world u v L Q (accepting_branches o.world u v es)
             → map (λ n. (answers n).tree u v Q) (put_if b n (filter_once accepts_value ns)) ≡ branches_shown o.world u v L Q (put_if b e (accepting_branches o.world u v es))
@@ -163,7 +172,9 @@ module _ {K R N : Type 0} (o : Kit K R) (answers : N → Answers) where
     any_show Q ns es L h = λ i. cond (none i) (result L Q None true [] (branches_show Q ns es L h i)) (plain L Q (accepting_show Q ns es L h i))
       where
         none : is_empty (filter_once accepts_value ns) ≡ is_empty (accepting_branches o.world u v es)
-        none = sym (is_empty-map (λ n. (answers n).tree u v Q) (filter_once accepts_value ns)) ∙ ap is_empty (accepting_show Q ns es L h) ∙ is_empty-map (λ e. tree o.world u e.1 v (L // e.0) Q) (accepting_branches o.world u v es)
+        none =
+            sym (is_empty-map (λ n. (answers n).tree u v Q) (filter_once accepts_value ns)) ∙ ap is_empty (accepting_show Q ns es L h)
+                ∙ is_empty-map (λ e. tree o.world u e.1 v (L // e.0) Q) (accepting_branches o.world u v es)
 
     zip_names : (ns : List N) (es : List (Name × Data)) (L : Path) → StandEach o answers ns es L → map {A = Name × N} (λ e. e.0) (zip (map (λ e. e.0) es) ns) ≡ map {A = Name × Data} (λ e. e.0) es
     zip_names [] [] L h = refl
@@ -171,24 +182,30 @@ module _ {K R N : Type 0} (o : Kit K R) (answers : N → Answers) where
     zip_names (n ∷ ns) [] L h = absurd h
     zip_names (n ∷ ns) (e ∷ es) L h = ap (λ ks. e.0 ∷ ks) (zip_names ns es L h.1)
 
-    member_shows : (Q : Path) (m : Name × Data) (ns : List N) (es : List (Name × Data)) (L : Path) → StandEach o answers ns es L → map (λ n. (answers n).tree u m.1 (Q // m.0)) (option_to_list (lookup_name m.0 (zip (map (λ e. e.0) es) ns))) ≡ shown_at o.world u v L Q es m
+    member_shows : (Q : Path) (m : Name × Data) (ns : List N) (es : List (Name × Data)) (L : Path) → StandEach o answers ns es L
+        → map (λ n. (answers n).tree u m.1 (Q // m.0)) (option_to_list (lookup_name m.0 (zip (map (λ e. e.0) es) ns))) ≡ shown_at o.world u v L Q es m
     member_shows Q m [] [] L h = refl
     member_shows Q m [] (e ∷ es) L h = absurd h
     member_shows Q m (n ∷ ns) [] L h = absurd h
     member_shows Q m (n ∷ ns) (e ∷ es) L h = by (slice_cmp nat_cmp m.0 e.0) (is_eq-slice_cmp m.0 e.0) (member_shows Q m ns es L h.1)
       where
         by : (c : Ordering) → is_eq c ≡ bytes_eq m.0 e.0 → map (λ n. (answers n).tree u m.1 (Q // m.0)) (option_to_list (lookup_name m.0 (zip (map (λ e. e.0) es) ns))) ≡ shown_at o.world u v L Q es m
-            → map (λ n. (answers n).tree u m.1 (Q // m.0)) (option_to_list (first_if_equal c n (lookup_name m.0 (zip (map (λ e. e.0) es) ns)))) ≡ map (λ d. tree o.world u d m.1 (L // m.0) (Q // m.0)) (option_to_list (first_if_equal c e.1 (lookup_name m.0 es)))
+            → map (λ n. (answers n).tree u m.1 (Q // m.0)) (option_to_list (first_if_equal c n (lookup_name m.0 (zip (map (λ e. e.0) es) ns)))) ≡ map
+                (λ d. tree o.world u d m.1 (L // m.0) (Q // m.0)) (option_to_list (first_if_equal c e.1 (lookup_name m.0 es)))
         by Less q g = g
         by Equal q g = (λ i. h.0.evaluation u m.1 (Q // m.0) i ∷ []) ∙ ap (λ k. tree o.world u e.1 m.1 (L // k) (Q // m.0) ∷ []) (sym (same_name m.0 e.0 (sym q)))
         by Greater q g = g
 
-    members_show : (Q : Path) (ms : List (Name × Data)) (ns : List N) (es : List (Name × Data)) (L : Path) → StandEach o answers ns es L → flat_map (λ m. map (λ n. (answers n).tree u m.1 (Q // m.0)) (option_to_list (lookup_name m.0 (zip (map (λ e. e.0) es) ns)))) ms ≡ flat_map (shown_at o.world u v L Q es) ms
+    members_show : (Q : Path) (ms : List (Name × Data)) (ns : List N) (es : List (Name × Data)) (L : Path) → StandEach o answers ns es L
+        → flat_map (λ m. map (λ n. (answers n).tree u m.1 (Q // m.0)) (option_to_list (lookup_name m.0 (zip (map (λ e. e.0) es) ns)))) ms ≡ flat_map (shown_at o.world u v L Q es) ms
     members_show Q [] ns es L h = refl
     members_show Q (m ∷ ms) ns es L h = λ i. member_shows Q m ns es L h i ++ members_show Q ms ns es L h i
 
-    declared_show : (Q : Path) (more : List Tree) (ns : List N) (es : List (Name × Data)) (L : Path) → StandEach o answers ns es L → properties_tree (λ n. (answers n).tree u) v Q L (zip (map (λ e. e.0) es) ns) more ≡ shown_declared o.world u v L Q es more
-    declared_show Q more ns es L h = λ i. result L Q (cond (is_object v) (Some (map (λ m. m.0) (filter_once (λ m. is_among m.0 (zip_names ns es L h i)) (members v)))) None) false [] (members_show Q (members v) ns es L h i ++ more)
+    declared_show : (Q : Path) (more : List Tree) (ns : List N) (es : List (Name × Data)) (L : Path) → StandEach o answers ns es L
+        → properties_tree (λ n. (answers n).tree u) v Q L (zip (map (λ e. e.0) es) ns) more ≡ shown_declared o.world u v L Q es more
+    declared_show Q more ns es L h =
+        λ i. result L Q (cond (is_object v) (Some (map (λ m. m.0) (filter_once (λ m. is_among m.0 (zip_names ns es L h i)) (members v)))) None) false []
+            (members_show Q (members v) ns es L h i ++ more)
 
   any_fault : (b : Bool) (c d : Context) (v : Data) (P Q : Path) → IsLikeContext c d → fault_if b (AnyOf c) v P Q ∼ fault_if b (AnyOf d) v P Q
   any_fault true c d v P Q h = like_next (like (like_any_of h)) like_empty
@@ -230,7 +247,9 @@ module _ {K R N : Type 0} (o : Kit K R) (answers : N → Answers) where
 
       properties_find : (Q : Path) → found u properties_keyword v Q ∼ flat_map (λ e. flat_map (λ x. report o.world u e.1 x (L // e.0) (Q // e.0)) (at e.0 v)) es
       unfolding answers_of
-      properties_find Q = subst (λ ks. flat_map (λ e. flat_map (λ x. (answers e.1).report u x (Q // e.0)) (at e.0 v)) (zip ks (nodes_in m)) ∼ flat_map (λ e. flat_map (λ x. report o.world u e.1 x (L // e.0) (Q // e.0)) (at e.0 v)) es) (sym names) (members_find u v Q (nodes_in m) es L stand)
+      properties_find Q =
+          subst (λ ks. flat_map (λ e. flat_map (λ x. (answers e.1).report u x (Q // e.0)) (at e.0 v)) (zip ks (nodes_in m)) ∼ flat_map
+              (λ e. flat_map (λ x. report o.world u e.1 x (L // e.0) (Q // e.0)) (at e.0 v)) es) (sym names) (members_find u v Q (nodes_in m) es L stand)
 
       properties_show : (Q : Path) (more : List Tree) → properties_tree (λ n. (answers n).tree u) v Q L (mapped m) more ≡ shown_declared o.world u v L Q es more
       properties_show Q more = ap (λ ks. properties_tree (λ n. (answers n).tree u) v Q L (zip ks (nodes_in m)) more) names ∙ declared_show u v Q more (nodes_in m) es L stand
@@ -239,7 +258,9 @@ module _ {K R N : Type 0} (o : Kit K R) (answers : N → Answers) where
       unfolding answers_of
       alone_show Q = refl
 
-  pub means_properties : (m : PropertiesMap N) (L : Path) (fs : Members) (d : Data) → d ≡ object fs → is_map_formed m ≡ true → names_in m ≡ map (λ e. e.0) (listed fs) → StandEach o answers (nodes_in m) (listed fs) L → (ms : Members) (P : Path) → L ≡ P // codes "properties" → KeywordMeans o answers ms (keyword.Properties (record { properties = m; location = L }) ∷ []) (codes "properties", d) P
+  pub means_properties : (m : PropertiesMap N) (L : Path) (fs : Members) (d : Data) → d ≡ object fs → is_map_formed m ≡ true → names_in m ≡ map (λ e. e.0) (listed fs)
+      → StandEach o answers (nodes_in m) (listed fs) L → (ms : Members) (P : Path) → L ≡ P // codes "properties" → KeywordMeans o answers ms
+      (keyword.Properties (record { properties = m; location = L }) ∷ []) (codes "properties", d) P
   means_properties m L fs d q sized names stand ms P p = subst (λ x. KeywordMeans o answers ms (properties_keyword m L (listed fs) names stand ∷ []) (codes "properties", x) P) (sym q) (record {
     holds = one ms (properties_keyword m L (listed fs) names stand) (codes "properties", object fs) properties P
         (λ u v. properties_accept m L (listed fs) names stand u v ∙ sym (fact.properties_accepts o.world ms fs u v))
@@ -256,7 +277,8 @@ module _ {K R N : Type 0} (o : Kit K R) (answers : N → Answers) where
 
   -- ---- properties, with required or alone
 
-  module _ (ms : Members) (L P : Path) (k : SmallPropertiesWithRequired2 N) (t : Name × Name) (names : List Name) (ns : List N) (form : IsFormOfProperties {K = K} {R = R} P L names ns (Some t) (keyword.PropertiesWithRequired2 k)) where
+  module _ (ms : Members) (L P : Path) (k : SmallPropertiesWithRequired2 N) (t : Name × Name) (names : List Name) (ns : List N)
+      (form : IsFormOfProperties {K = K} {R = R} P L names ns (Some t) (keyword.PropertiesWithRequired2 k)) where
     abbrev alone : KeywordOver K R N
     alone = keyword.Properties (record { properties = Small k.properties; location = L })
 
@@ -276,13 +298,17 @@ module _ {K R N : Type 0} (o : Kit K R) (answers : N → Answers) where
       unfolding answers_of
       both_find Q = λ i. required_faults (form.3 i ∷ form.4 i ∷ []) v (form.5 i) Q ++ found u alone v Q
 
-      both_show : (Q : Path) → shown u (keyword.PropertiesWithRequired2 k) v Q ≡ properties_tree (λ n. (answers n).tree u) v Q L (named k.properties) (missing_trees (t.0 ∷ t.1 ∷ []) v (P // codes "required") Q)
+      both_show : (Q : Path) → shown u (keyword.PropertiesWithRequired2 k) v Q ≡ properties_tree (λ n. (answers n).tree u) v Q L (named k.properties)
+          (missing_trees (t.0 ∷ t.1 ∷ []) v (P // codes "required") Q)
       unfolding answers_of
       both_show Q = λ i. properties_tree (λ n. (answers n).tree u) v Q (form.2 i) (named k.properties) (missing_trees (form.3 i ∷ form.4 i ∷ []) v (form.5 i) Q)
 
-    covers_both : (d : Data) → is_restricted ms ≡ false → Holds o answers ms (alone ∷ []) (codes "properties", d) properties P → Covers o answers ms (keyword.PropertiesWithRequired2 k ∷ []) ((codes "properties", d) ∷ (codes "required", listing t) ∷ []) P
+    covers_both : (d : Data) → is_restricted ms ≡ false → Holds o answers ms (alone ∷ []) (codes "properties", d) properties P → Covers o answers ms
+        (keyword.PropertiesWithRequired2 k ∷ []) ((codes "properties", d) ∷ (codes "required", listing t) ∷ []) P
     covers_both d unrestricted h = record {
-      verdict = λ u v. ap (λ b. b && true) (both_accept u v) ∙ turned (is_empty (lacking v)) ((question alone v).accepts u) ∙ (λ i. h.verdict u v i && (sym (fact.required_accepts o.world ms (listing t) u v) i && true));
+      verdict =
+          λ u v. ap (λ b. b && true) (both_accept u v) ∙ turned (is_empty (lacking v)) ((question alone v).accepts u)
+              ∙ (λ i. h.verdict u v i && (sym (fact.required_accepts o.world ms (listing t) u v) i && true));
       asks_within = λ u v.
           let f : Name × Data → ℕ = λ x. member_asks o.world ms x (which o ms x) u v in
           let b = both_ask u v in
@@ -310,14 +336,21 @@ module _ {K R N : Type 0} (o : Kit K R) (answers : N → Answers) where
       by false h = refl
       by true h = h
 
-  few_formed : (k : SmallPropertiesWithRequired2 N) (fs : Members) (d : Data) → d ≡ object fs → k.properties.names ≡ map (λ e. e.0) (listed fs) → declares_few (Some d) ≡ true → is_map_formed (Small k.properties) ≡ true
+  few_formed : (k : SmallPropertiesWithRequired2 N) (fs : Members) (d : Data) → d ≡ object fs → k.properties.names ≡ map (λ e. e.0) (listed fs)
+      → declares_few (Some d) ≡ true → is_map_formed (Small k.properties) ≡ true
   few_formed k fs d q names few = ap (λ n. nat_lt n HASHMAP_THRESHOLD) (ap length names ∙ length-map (listed fs) (λ e. e.0)) ∙ ap (λ x. declares_few (Some x)) (sym q) ∙ few
 
-  pub means_form : (k : KeywordOver K R N) (names : List Name) (ns : List N) (L P : Path) (t : Option (Name × Name)) (fs : Members) (d : Data) → d ≡ object fs → names ≡ map (λ e. e.0) (listed fs) → StandEach o answers ns (listed fs) L → IsFormOfProperties P L names ns t k
-      → (ms : Members) → L ≡ P // codes "properties" → has_repeat (names_of (listed ms)) ≡ false → lookup_name (codes "properties") (listed ms) ≡ Some d → t ≡ fused_pair ms → is_restricted ms ≡ false → KeywordsMean o answers ms (k ∷ []) (claims (head (plan_of ms)) (listed ms) (codes "properties", d)) ((codes "properties", d) ∷ []) P
+  pub means_form : (k : KeywordOver K R N) (names : List Name) (ns : List N) (L P : Path) (t : Option (Name × Name)) (fs : Members) (d : Data)
+      → d ≡ object fs → names ≡ map (λ e. e.0) (listed fs) → StandEach o answers ns (listed fs) L → IsFormOfProperties P L names ns t k
+      → (ms : Members) → L ≡ P // codes "properties" → has_repeat (names_of (listed ms)) ≡ false → lookup_name (codes "properties") (listed ms) ≡ Some d
+          → t ≡ fused_pair ms → is_restricted ms ≡ false → KeywordsMean o answers ms (k ∷ []) (claims (head (plan_of ms)) (listed ms) (codes "properties", d)) ((codes "properties", d) ∷ []) P
   means_form (keyword.Properties k) names ns L P None fs d q declared stand form ms p distinct there chosen unrestricted =
-      subst (λ rows. KeywordsMean o answers ms (keyword.Properties k ∷ []) rows ((codes "properties", d) ∷ []) P) (sym (claims_itself ms distinct (head (plan_of ms)) (codes "properties", d) (head_itself (plan_of ms) (codes "properties") (λ e. absurd (true≢false (sym e ∙ ap is_some (sym chosen)))) (λ e. (refl, refl)) (free_takes_nothing ms (codes "properties") unrestricted)) there))
-      (subst (λ M. KeywordsMean o answers ms (keyword.Properties (record { properties = k.properties; location = M }) ∷ []) ((codes "properties", d) ∷ []) ((codes "properties", d) ∷ []) P) (sym form.3)
+      subst (λ rows. KeywordsMean o answers ms (keyword.Properties k ∷ []) rows ((codes "properties", d) ∷ []) P)
+          (sym (claims_itself ms distinct (head (plan_of ms)) (codes "properties", d)
+          (head_itself (plan_of ms) (codes "properties") (λ e. absurd (true≢false (sym e ∙ ap is_some (sym chosen)))) (λ e. (refl, refl))
+          (free_takes_nothing ms (codes "properties") unrestricted)) there))
+      (subst (λ M. KeywordsMean o answers ms (keyword.Properties (record { properties = k.properties; location = M }) ∷ []) ((codes "properties", d) ∷ [])
+          ((codes "properties", d) ∷ []) P) (sym form.3)
       (means_alone o answers ms P _ (codes "properties", d) (ap (λ b. b && true) unrestricted)
       (λ clean u. (there, restricted_read (meaning_step o.world u) ms ∙ unrestricted, fused o.world ms P clean (meaning_step o.world u) ∙ ap is_some (sym chosen)))
       (means_properties k.properties L fs d q (map_formed k.properties (length names) (ap length form.0) form.2) (form.0 ∙ declared) (subst (λ l. StandEach o answers l (listed fs) L) (sym form.1) stand) ms P p)))
@@ -327,15 +360,23 @@ module _ {K R N : Type 0} (o : Kit K R) (answers : N → Answers) where
       let same_nodes : StandEach o answers k.properties.nodes.items (listed fs) L = subst (λ l. StandEach o answers l (listed fs) L) (sym form.1) stand in
       let few : is_map_formed (Small k.properties) ≡ true = few_formed k fs d q same_names (ap declares_few (sym there ∙ both.declared) ∙ both.few) in
       let plain = means_properties (Small k.properties) L fs d q few same_names same_nodes ms P p in
-      means_permuted o answers ms P (keyword.PropertiesWithRequired2 k ∷ []) ((codes "properties", d) ∷ (codes "required", listing t) ∷ []) (claims (head (plan_of ms)) (listed ms) (codes "properties", d)) ((codes "properties", d) ∷ [])
-      (subst (λ s. IsPermutation ((codes "properties", d) ∷ (codes "required", listing t) ∷ []) (claims (head s) (listed ms) (codes "properties", d))) (sym (plan_fusing ms t chosen)) (claims_both ms distinct t (is_condition ms) d there chosen)) record {
+      means_permuted o answers ms P (keyword.PropertiesWithRequired2 k ∷ []) ((codes "properties", d) ∷ (codes "required", listing t) ∷ [])
+          (claims (head (plan_of ms)) (listed ms) (codes "properties", d)) ((codes "properties", d) ∷ [])
+      (subst (λ s. IsPermutation ((codes "properties", d) ∷ (codes "required", listing t) ∷ []) (claims (head s) (listed ms) (codes "properties", d)))
+          (sym (plan_fusing ms t chosen)) (claims_both ms distinct t (is_condition ms) d there chosen)) record {
         covers = covers_both ms L P k t names ns form d unrestricted plain.holds;
         shows = λ clean u v Q.
             let step = meaning_step o.world u in
-            ap (λ x. x ∷ []) (both_show ms L P k t names ns form u v Q ∙ properties_show (Small k.properties) L (listed fs) same_names same_nodes u v Q (missing_trees (t.0 ∷ t.1 ∷ []) v (P // codes "required") Q) ∙ ap (λ M. shown_declared o.world u v M Q (listed fs) (missing_trees (t.0 ∷ t.1 ∷ []) v (P // codes "required") Q)) p)
-            ∙ (λ i. shown_declared o.world u v (P // codes "properties") Q (listed fs) (put_if (sym (fused o.world ms P clean step ∙ ap is_some (sym chosen)) i && not (is_empty (missing (sym (names_fused step ms t both.listed_at) i) v))) (erring (P // codes "required") Q (required_faults (sym (names_fused step ms t both.listed_at) i) v (P // codes "required") Q)) []) ∷ [])
-            ∙ sym (append-nil _ ∙ ap (λ x. member_child o.world ms (codes "properties", x) properties u v P Q) q ∙ properties_child o.world u v ms P Q fs (there ∙ ap Some q) (restricted_read step ms ∙ unrestricted));
-        formed = just_one_formed o answers (keyword.PropertiesWithRequired2 k) (required2_formed o answers k few ((λ i. bytes_eq (form.3 i) (form.4 i)) ∙ both.differ) (stand_formed o answers k.properties.nodes.items (listed fs) L same_nodes));
+            ap (λ x. x ∷ []) (both_show ms L P k t names ns form u v Q ∙ properties_show (Small k.properties) L (listed fs) same_names same_nodes u v Q
+                (missing_trees (t.0 ∷ t.1 ∷ []) v (P // codes "required") Q) ∙ ap (λ M. shown_declared o.world u v M Q (listed fs) (missing_trees (t.0 ∷ t.1 ∷ []) v (P // codes "required") Q)) p)
+            ∙ (λ i. shown_declared o.world u v (P // codes "properties") Q (listed fs)
+                (put_if (sym (fused o.world ms P clean step ∙ ap is_some (sym chosen)) i && not (is_empty (missing (sym (names_fused step ms t both.listed_at) i) v)))
+                (erring (P // codes "required") Q (required_faults (sym (names_fused step ms t both.listed_at) i) v (P // codes "required") Q)) []) ∷ [])
+            ∙ sym (append-nil _ ∙ ap (λ x. member_child o.world ms (codes "properties", x) properties u v P Q) q ∙ properties_child o.world u v ms P Q fs
+                (there ∙ ap Some q) (restricted_read step ms ∙ unrestricted));
+        formed =
+            just_one_formed o answers (keyword.PropertiesWithRequired2 k)
+                (required2_formed o answers k few ((λ i. bytes_eq (form.3 i) (form.4 i)) ∙ both.differ) (stand_formed o answers k.properties.nodes.items (listed fs) L same_nodes));
       }
   means_form k names ns L P None fs d q declared stand form ms p distinct there chosen unrestricted = absurd form
   means_form k names ns L P (Some t) fs d q declared stand form ms p distinct there chosen unrestricted = absurd form
@@ -399,16 +440,19 @@ module _ {K R N : Type 0} (o : Kit K R) (answers : N → Answers) where
   pub at_most_through : (a b c : ℕ) → a ≤ b → b ≤ c → a ≤ c
   at_most_through a b c h k = omega (arith, h, k)
 
-  pub means_all_of : (k : KeywordOver K R N) (ns : List N) (L : Path) (ds : Items) (d : Data) → d ≡ array ds → IsFormOfAllOf L ns k → StandEach o answers ns (numbered (items_list ds)) L → (ms : Members) (P : Path) → L ≡ P // codes "allOf" → KeywordMeans o answers ms (k ∷ []) (codes "allOf", d) P
+  pub means_all_of : (k : KeywordOver K R N) (ns : List N) (L : Path) (ds : Items) (d : Data) → d ≡ array ds → IsFormOfAllOf L ns k
+      → StandEach o answers ns (numbered (items_list ds)) L → (ms : Members) (P : Path) → L ≡ P // codes "allOf" → KeywordMeans o answers ms (k ∷ []) (codes "allOf", d) P
   means_all_of k ns L ds d q form stand ms P p = subst (λ x. KeywordMeans o answers ms (k ∷ []) (codes "allOf", x) P) (sym q) (record {
     holds = one ms k (codes "allOf", array ds) all_of P
         (λ u v. all_form_accepts L ns u v k form ∙ each_accept o answers (schema_answers o answers) u v ns (numbered (items_list ds)) L answer ∙ sym (fact.all_of_accepts o.world ms ds u v))
-        (λ u v. same_within _ _ _ (at_most_through _ _ _ (all_form_asks L ns u v k form) (each_ask o answers (schema_answers o answers) u v ns (numbered (items_list ds)) L answer)) (fact.all_of_asks o.world ms ds u v))
+        (λ u v. same_within _ _ _ (at_most_through _ _ _ (all_form_asks L ns u v k form) (each_ask o answers (schema_answers o answers) u v ns (numbered (items_list ds)) L answer))
+            (fact.all_of_asks o.world ms ds u v))
         (λ u v Q. subst₂ (λ x y. x ∼ y) (sym (all_form_finds L ns u v Q k form))
         (ap (λ M. flat_map (λ e. report o.world u e.1 v (M // e.0) Q) (numbered (items_list ds))) p ∙ sym (fact.all_of_report o.world ms ds u v P Q))
         (each_find o answers (schema_answers o answers) u v Q ns (numbered (items_list ds)) L answer));
     shows = λ u h v Q.
-        ap (λ t. t ∷ []) (all_form_shows L ns u v Q k form ∙ ap (plain L Q) (branches_show u v Q ns (numbered (items_list ds)) L stand) ∙ ap (λ M. plain M Q (branches_shown o.world u v M Q (numbered (items_list ds)))) p)
+        ap (λ t. t ∷ []) (all_form_shows L ns u v Q k form ∙ ap (plain L Q) (branches_show u v Q ns (numbered (items_list ds)) L stand)
+            ∙ ap (λ M. plain M Q (branches_shown o.world u v M Q (numbered (items_list ds)))) p)
         ∙ sym (all_of_child o.world u v ms P Q ds);
     formed = just_one_formed o answers k (all_of_formed o answers k L ns form (stand_formed o answers ns (numbered (items_list ds)) L stand));
   })
@@ -416,7 +460,8 @@ module _ {K R N : Type 0} (o : Kit K R) (answers : N → Answers) where
       answer : AnswerEach o answers (schema_answers o answers) ns (numbered (items_list ds)) L
       answer = schemas_answer o answers ns (numbered (items_list ds)) L stand
 
-  pub means_any_of : (k : KeywordOver K R N) (ns : List N) (L : Path) (ds : Items) (d : Data) → d ≡ array ds → IsFormOfAnyOf L ns k → StandEach o answers ns (numbered (items_list ds)) L → (ms : Members) (P : Path) → L ≡ P // codes "anyOf" → KeywordMeans o answers ms (k ∷ []) (codes "anyOf", d) P
+  pub means_any_of : (k : KeywordOver K R N) (ns : List N) (L : Path) (ds : Items) (d : Data) → d ≡ array ds → IsFormOfAnyOf L ns k
+      → StandEach o answers ns (numbered (items_list ds)) L → (ms : Members) (P : Path) → L ≡ P // codes "anyOf" → KeywordMeans o answers ms (k ∷ []) (codes "anyOf", d) P
   means_any_of k ns L ds d q form stand ms P p = subst (λ x. KeywordMeans o answers ms (k ∷ []) (codes "anyOf", x) P) (sym q) (record {
     holds = one ms k (codes "anyOf", array ds) any_of P
         (λ u v. any_form_accepts L ns u v k form ∙ any_accept u v ns (numbered (items_list ds)) L stand ∙ sym (fact.any_of_accepts o.world ms ds u v))
@@ -430,11 +475,17 @@ module _ {K R N : Type 0} (o : Kit K R) (answers : N → Answers) where
     formed = just_one_formed o answers k (any_of_formed o answers k L ns form (stand_formed o answers ns (numbered (items_list ds)) L stand));
   })
     where
-      told : (u : Bool) (v : Data) (Q : Path) → fault_if (not (list_any (λ e. accepts o.world u e.1 v) (numbered (items_list ds)))) (AnyOf (context (map (λ n. (answers n).report u v Q) ns))) v L Q ≡ found u k v Q
-      told u v Q = ap (λ b. fault_if (not b) (AnyOf (context (map (λ n. (answers n).report u v Q) ns))) v L Q) (sym (any_accept u v ns (numbered (items_list ds)) L stand)) ∙ sym (any_form_finds L ns u v Q k form)
+      told : (u : Bool) (v : Data) (Q : Path) → fault_if (not (list_any (λ e. accepts o.world u e.1 v) (numbered (items_list ds))))
+          (AnyOf (context (map (λ n. (answers n).report u v Q) ns))) v L Q ≡ found u k v Q
+      told u v Q =
+          ap (λ b. fault_if (not b) (AnyOf (context (map (λ n. (answers n).report u v Q) ns))) v L Q) (sym (any_accept u v ns (numbered (items_list ds)) L stand))
+              ∙ sym (any_form_finds L ns u v Q k form)
 
-      meant : (u : Bool) (v : Data) (Q : Path) → fault_if (not (list_any (λ e. accepts o.world u e.1 v) (numbered (items_list ds)))) (AnyOf (context (map (λ e. report o.world u e.1 v (L // e.0) Q) (numbered (items_list ds))))) v L Q ≡ member_report o.world ms (codes "anyOf", array ds) any_of u v P Q
-      meant u v Q = ap (λ M. fault_if (not (list_any (λ e. accepts o.world u e.1 v) (numbered (items_list ds)))) (AnyOf (context (map (λ e. report o.world u e.1 v (M // e.0) Q) (numbered (items_list ds))))) v M Q) p ∙ sym (fact.any_of_report o.world ms ds u v P Q)
+      meant : (u : Bool) (v : Data) (Q : Path) → fault_if (not (list_any (λ e. accepts o.world u e.1 v) (numbered (items_list ds))))
+          (AnyOf (context (map (λ e. report o.world u e.1 v (L // e.0) Q) (numbered (items_list ds))))) v L Q ≡ member_report o.world ms (codes "anyOf", array ds) any_of u v P Q
+      meant u v Q =
+          ap (λ M. fault_if (not (list_any (λ e. accepts o.world u e.1 v) (numbered (items_list ds))))
+              (AnyOf (context (map (λ e. report o.world u e.1 v (M // e.0) Q) (numbered (items_list ds))))) v M Q) p ∙ sym (fact.any_of_report o.world ms ds u v P Q)
 
   -- ---- not
 
@@ -462,7 +513,8 @@ module _ {K R N : Type 0} (o : Kit K R) (answers : N → Answers) where
     unfolding answers_of
     not_formed = refl
 
-  pub means_not : (original : Value) (n : N) (L : Path) (d : Data) → view original ≡ d → Stands o answers n d L → (ms : Members) (P : Path) → L ≡ P // codes "not" → KeywordMeans o answers ms (keyword.Not (record { original = original; node = n; location = L }) ∷ []) (codes "not", d) P
+  pub means_not : (original : Value) (n : N) (L : Path) (d : Data) → view original ≡ d → Stands o answers n d L → (ms : Members) (P : Path)
+      → L ≡ P // codes "not" → KeywordMeans o answers ms (keyword.Not (record { original = original; node = n; location = L }) ∷ []) (codes "not", d) P
   means_not original n L d same stands ms P p = record {
     holds = one ms (keyword.Not (record { original = original; node = n; location = L })) (codes "not", d) not_keyword P
         (λ u v. not_accept original n L u v ∙ ap not (stands.verdict u v) ∙ sym (fact.not_accepts o.world ms d u v))
@@ -498,7 +550,8 @@ module _ {K R N : Type 0} (o : Kit K R) (answers : N → Answers) where
     unfolding answers_of
     required_formed = refl
 
-  pub means_required : (names : Vec (String Global) Global) (L : Path) (d : Data) → map string_bytes names.items ≡ texts d → (ms : Members) (P : Path) → L ≡ P // codes "required" → KeywordMeans o answers ms (keyword.Required (record { required = names; location = L }) ∷ []) (codes "required", d) P
+  pub means_required : (names : Vec (String Global) Global) (L : Path) (d : Data) → map string_bytes names.items ≡ texts d → (ms : Members) (P : Path)
+      → L ≡ P // codes "required" → KeywordMeans o answers ms (keyword.Required (record { required = names; location = L }) ∷ []) (codes "required", d) P
   means_required names L d same ms P p = record {
     holds = one ms (keyword.Required (record { required = names; location = L })) (codes "required", d) required P
         (λ u v. required_accept names L u v ∙ ap (λ ns. is_empty (missing ns v)) same ∙ sym (fact.required_accepts o.world ms d u v))
@@ -509,7 +562,9 @@ module _ {K R N : Type 0} (o : Kit K R) (answers : N → Answers) where
   }
 
   -- no keyword means what claims nothing and shows nothing
-  pub nothing_means : (ms : Members) (m : Name × Data) (P : Path) (p : Planned) → claims (head p) (listed ms) m ≡ [] → (all_malformed o ms P (listed ms) ≡ [] → (u : Bool) (v : Data) (Q : Path) → member_child o.world ms m (which o ms m) u v P Q ≡ []) → KeywordsMean o answers ms [] (claims (head p) (listed ms) m) (m ∷ []) P
+  pub nothing_means : (ms : Members) (m : Name × Data) (P : Path) (p : Planned) → claims (head p) (listed ms) m ≡ []
+      → (all_malformed o ms P (listed ms) ≡ [] → (u : Bool) (v : Data) (Q : Path) → member_child o.world ms m (which o ms m) u v P Q ≡ [])
+      → KeywordsMean o answers ms [] (claims (head p) (listed ms) m) (m ∷ []) P
   nothing_means ms m P p none child = subst (λ rows. KeywordsMean o answers ms [] rows (m ∷ []) P) (sym none) record {
     covers = record { verdict = λ u v. refl; asks_within = λ u v. omega arith; faults = λ u v Q. like_empty };
     shows = λ clean u v Q. sym (append-nil _ ∙ child clean u v Q);
@@ -517,9 +572,12 @@ module _ {K R N : Type 0} (o : Kit K R) (answers : N → Answers) where
   }
 
   -- two names are fused, or one
-  pub means_fused : (t : Name × Name) (d : Data) (ms : Members) (P : Path) → Some t ≡ fused_pair ms → KeywordsMean o answers ms [] (claims (head (plan_of ms)) (listed ms) (codes "required", d)) ((codes "required", d) ∷ []) P
-  means_fused t d ms P chosen = nothing_means ms (codes "required", d) P (plan_of ms) (ap (λ s. claims (head s) (listed ms) (codes "required", d)) (plan_fusing ms t chosen) ∙ claims_nothing t (is_condition ms) (listed ms) d)
-      (λ clean u v Q. no_required_child o.world u v ms P Q d (clean_one_fused o.world ms P clean (meaning_step o.world u) ∙ free_fuses_none ms (fusing_is_free ms (ap is_some (sym chosen)))) (fused o.world ms P clean (meaning_step o.world u) ∙ ap is_some (sym chosen)))
+  pub means_fused : (t : Name × Name) (d : Data) (ms : Members) (P : Path) → Some t ≡ fused_pair ms → KeywordsMean o answers ms []
+      (claims (head (plan_of ms)) (listed ms) (codes "required", d)) ((codes "required", d) ∷ []) P
+  means_fused t d ms P chosen =
+      nothing_means ms (codes "required", d) P (plan_of ms) (ap (λ s. claims (head s) (listed ms) (codes "required", d)) (plan_fusing ms t chosen) ∙ claims_nothing t (is_condition ms) (listed ms) d)
+      (λ clean u v Q. no_required_child o.world u v ms P Q d (clean_one_fused o.world ms P clean (meaning_step o.world u) ∙ free_fuses_none ms
+          (fusing_is_free ms (ap is_some (sym chosen)))) (fused o.world ms P clean (meaning_step o.world u) ∙ ap is_some (sym chosen)))
 
   one_restricts : (ms : Members) → is_some (fused_one ms) ≡ true → is_restricted ms ≡ true
   one_restricts ms e = by (fused_one ms) refl e
@@ -528,17 +586,24 @@ module _ {K R N : Type 0} (o : Kit K R) (answers : N → Answers) where
       by None q f = absurd (true≢false (sym f))
       by (Some n) q f = fused_is_restricted ms n q
 
-  pub means_fused_one : (d : Data) (ms : Members) (P : Path) → is_some (fused_one ms) ≡ true → KeywordsMean o answers ms [] (claims (head (plan_of ms)) (listed ms) (codes "required", d)) ((codes "required", d) ∷ []) P
-  means_fused_one d ms P chosen = nothing_means ms (codes "required", d) P (plan_of ms) (claims_no_fused ms (one_restricts ms chosen) (listed ms) d chosen) (λ clean u v Q. required_shows_none o.world ms u v P Q d chosen)
+  pub means_fused_one : (d : Data) (ms : Members) (P : Path) → is_some (fused_one ms) ≡ true → KeywordsMean o answers ms []
+      (claims (head (plan_of ms)) (listed ms) (codes "required", d)) ((codes "required", d) ∷ []) P
+  means_fused_one d ms P chosen =
+      nothing_means ms (codes "required", d) P (plan_of ms) (claims_no_fused ms (one_restricts ms chosen) (listed ms) d chosen) (λ clean u v Q. required_shows_none o.world ms u v P Q d chosen)
 
-  pub means_required_alone : (names : Vec (String Global) Global) (L : Path) (d : Data) → map string_bytes names.items ≡ texts d → (ms : Members) (P : Path) → L ≡ P // codes "required" → has_repeat (names_of (listed ms)) ≡ false → lookup_name (codes "required") (listed ms) ≡ Some d → is_some (fused_pair ms) ≡ false → is_some (fused_one ms) ≡ false → KeywordsMean o answers ms (keyword.Required (record { required = names; location = L }) ∷ []) (claims (head (plan_of ms)) (listed ms) (codes "required", d)) ((codes "required", d) ∷ []) P
+  pub means_required_alone : (names : Vec (String Global) Global) (L : Path) (d : Data) → map string_bytes names.items ≡ texts d → (ms : Members) (P : Path)
+      → L ≡ P // codes "required" → has_repeat (names_of (listed ms)) ≡ false → lookup_name (codes "required") (listed ms) ≡ Some d → is_some (fused_pair ms) ≡ false
+      → is_some (fused_one ms) ≡ false → KeywordsMean o answers ms (keyword.Required (record { required = names; location = L }) ∷ [])
+      (claims (head (plan_of ms)) (listed ms) (codes "required", d)) ((codes "required", d) ∷ []) P
   means_required_alone names L d same ms P p distinct there not_two not_one =
-      subst (λ rows. KeywordsMean o answers ms (keyword.Required (record { required = names; location = L }) ∷ []) rows ((codes "required", d) ∷ []) P) (sym (claims_itself ms distinct (head (plan_of ms)) (codes "required", d) (head_of_required (plan_of ms) not_two not_one) there))
+      subst (λ rows. KeywordsMean o answers ms (keyword.Required (record { required = names; location = L }) ∷ []) rows ((codes "required", d) ∷ []) P)
+          (sym (claims_itself ms distinct (head (plan_of ms)) (codes "required", d) (head_of_required (plan_of ms) not_two not_one) there))
       (means_alone o answers ms P _ (codes "required", d) (and-false (is_restricted ms))
       (λ clean u. (clean_one_fused o.world ms P clean (meaning_step o.world u) ∙ not_one, fused o.world ms P clean (meaning_step o.world u) ∙ not_two)) (means_required names L d same ms P p))
 
   -- a keyword that is neither has a child of its own, and claims its own member
-  neither_of : (ms : Members) (u : Bool) (k : Name) (d : Data) → (is_restricted ms && tells_members k) ≡ false → bytes_eq (codes "properties") k ≡ false → bytes_eq (codes "required") k ≡ false → (w : Keyword) → Named k w → StandsAlone o.world u ms (k, d) w
+  neither_of : (ms : Members) (u : Bool) (k : Name) (d : Data) → (is_restricted ms && tells_members k) ≡ false → bytes_eq (codes "properties") k ≡ false
+      → bytes_eq (codes "required") k ≡ false → (w : Keyword) → Named k w → StandsAlone o.world u ms (k, d) w
   neither_of ms u k d r e f properties n = absurd (true≢false (ap (bytes_eq (codes "properties")) (sym n) ∙ e))
   neither_of ms u k d r e f required n = absurd (true≢false (ap (bytes_eq (codes "required")) (sym n) ∙ f))
   neither_of ms u k d r e f pattern_properties n = restricted_read (meaning_step o.world u) ms ∙ by (is_restricted ms) (ap (λ x. is_restricted ms && tells_members x) (sym n) ∙ r)
@@ -548,8 +613,12 @@ module _ {K R N : Type 0} (o : Kit K R) (answers : N → Answers) where
       by true h = h
   neither_of ms u k d r e f w n = tt
 
-  pub means_own : (ks : List (KeywordOver K R N)) (ms : Members) (m : Name × Data) (P : Path) → has_repeat (names_of (listed ms)) ≡ false → lookup_name m.0 (listed ms) ≡ Some m.1 → bytes_eq (codes "properties") m.0 ≡ false → bytes_eq (codes "required") m.0 ≡ false → IsNoCase (is_condition ms) m.0 → IsNotTaken (plan_of ms) m.0 → (is_restricted ms && tells_members m.0) ≡ false → KeywordMeans o answers ms ks m P → KeywordsMean o answers ms ks (claims (head (plan_of ms)) (listed ms) m) (m ∷ []) P
-  means_own ks ms m P distinct there e f apart own untaken h = subst (λ rows. KeywordsMean o answers ms ks rows (m ∷ []) P) (sym (claims_itself ms distinct (head (plan_of ms)) m (heads_elsewhere (plan_of ms) m.0 e f apart own) there))
+  pub means_own : (ks : List (KeywordOver K R N)) (ms : Members) (m : Name × Data) (P : Path) → has_repeat (names_of (listed ms)) ≡ false
+      → lookup_name m.0 (listed ms) ≡ Some m.1 → bytes_eq (codes "properties") m.0 ≡ false → bytes_eq (codes "required") m.0 ≡ false → IsNoCase (is_condition ms) m.0
+      → IsNotTaken (plan_of ms) m.0 → (is_restricted ms && tells_members m.0) ≡ false → KeywordMeans o answers ms ks m P → KeywordsMean o answers ms ks
+      (claims (head (plan_of ms)) (listed ms) m) (m ∷ []) P
+  means_own ks ms m P distinct there e f apart own untaken h =
+      subst (λ rows. KeywordsMean o answers ms ks rows (m ∷ []) P) (sym (claims_itself ms distinct (head (plan_of ms)) m (heads_elsewhere (plan_of ms) m.0 e f apart own) there))
       (means_alone o answers ms P ks m untaken (λ clean u. neither_of ms u m.0 m.1 untaken e f (keyword_named o.world m.0) (is_named m.0 o.world)) h)
 
   -- ---- leaves, and names that nothing reads
@@ -575,13 +644,16 @@ module _ {K R N : Type 0} (o : Kit K R) (answers : N → Answers) where
     unfolding answers_of
     leaf_formed = refl
 
-  pub means_leaf : (l : K) (k : Name) (L : Path) (d : Data) → keyword_named o.world k ≡ leaf → o.keyword_of l ≡ k → ((v : Data) → o.finds l v ≡ o.world.faults k d v) → (ms : Members) (P : Path) → L ≡ P // k → KeywordMeans o answers ms (keyword.Leaf L l ∷ []) (k, d) P
+  pub means_leaf : (l : K) (k : Name) (L : Path) (d : Data) → keyword_named o.world k ≡ leaf → o.keyword_of l ≡ k → ((v : Data) → o.finds l v ≡ o.world.faults k d v)
+      → (ms : Members) (P : Path) → L ≡ P // k → KeywordMeans o answers ms (keyword.Leaf L l ∷ []) (k, d) P
   means_leaf l k L d q name same ms P p = record {
     holds = subst (λ w. Holds o answers ms (keyword.Leaf L l ∷ []) (k, d) w P) (sym q) (one ms (keyword.Leaf L l) (k, d) leaf P
         (λ u v. leaf_accept l L u v ∙ ap is_empty (same v) ∙ sym (fact.leaf_accepts o.world ms k d u v))
         (λ u v. subst₂ (λ x y. x ≤ y) (sym (leaf_ask l L u v)) (sym (fact.leaf_asks o.world ms k d u v)) (omega arith))
         (λ u v Q. ∼_same (leaf_find l L u v Q ∙ (λ i. map (λ t. fault (Leaf (name i) t) v Q (p i)) (same v i)) ∙ sym (fact.leaf_report o.world ms k d u v P Q))));
-    shows = λ u h v Q. ap (λ t. t ∷ []) (leaf_show l L u v Q ∙ (λ i. leaf_node (p i) Q (described (map (λ t. fault (Leaf (name i) t) v Q (p i)) (same v i))))) ∙ sym (leaf_child o.world u v ms P Q d k) ∙ ap (λ w. member_child o.world ms (k, d) w u v P Q) (sym q);
+    shows =
+        λ u h v Q. ap (λ t. t ∷ []) (leaf_show l L u v Q ∙ (λ i. leaf_node (p i) Q (described (map (λ t. fault (Leaf (name i) t) v Q (p i)) (same v i)))))
+            ∙ sym (leaf_child o.world u v ms P Q d k) ∙ ap (λ w. member_child o.world ms (k, d) w u v P Q) (sym q);
     formed = just_one_formed o answers (keyword.Leaf L l) (leaf_formed l L true d);
   }
 

@@ -82,31 +82,36 @@ module _ {K R N : Type 0} (o : Kit K R) (answers : N → Answers) where
   pub makes_all_of : (k : KeywordOver K R N) (L : Path) (ns : List N) → IsFormOfAllOf L ns k → MakesMember o answers shape.AllOf L ns (k ∷ [])
   makes_all_of k L ns form ms m P p s h =
       let a = array_of m.1 s.1 in
-      subst (λ n. KeywordMeans o answers ms (k ∷ []) (n, m.1) P) (sym s.0) (means_all_of o answers k ns L a.0 m.1 a.1 form (subst (λ x. StandEach o answers ns (numbered (items_of_array x)) L) a.1 h) ms P (p ∙ ap (λ n. P // n) s.0))
+      subst (λ n. KeywordMeans o answers ms (k ∷ []) (n, m.1) P) (sym s.0)
+          (means_all_of o answers k ns L a.0 m.1 a.1 form (subst (λ x. StandEach o answers ns (numbered (items_of_array x)) L) a.1 h) ms P (p ∙ ap (λ n. P // n) s.0))
 
   pub makes_any_of : (k : KeywordOver K R N) (L : Path) (ns : List N) → IsFormOfAnyOf L ns k → MakesMember o answers shape.AnyOf L ns (k ∷ [])
   makes_any_of k L ns form ms m P p s h =
       let a = array_of m.1 s.1 in
-      subst (λ n. KeywordMeans o answers ms (k ∷ []) (n, m.1) P) (sym s.0) (means_any_of o answers k ns L a.0 m.1 a.1 form (subst (λ x. StandEach o answers ns (numbered (items_of_array x)) L) a.1 h) ms P (p ∙ ap (λ n. P // n) s.0))
+      subst (λ n. KeywordMeans o answers ms (k ∷ []) (n, m.1) P) (sym s.0)
+          (means_any_of o answers k ns L a.0 m.1 a.1 form (subst (λ x. StandEach o answers ns (numbered (items_of_array x)) L) a.1 h) ms P (p ∙ ap (λ n. P // n) s.0))
 
   pub makes_one_of : (k : KeywordOver K R N) (L : Path) (ns : List N) → IsFormOfOneOf L ns k → MakesMember o answers shape.OneOf L ns (k ∷ [])
   makes_one_of k L ns form ms m P p s h =
       let a = array_of m.1 s.1 in
-      subst (λ n. KeywordMeans o answers ms (k ∷ []) (n, m.1) P) (sym s.0) (means_one_of o answers k ns L a.0 m.1 a.1 form (subst (λ x. StandEach o answers ns (numbered (items_of_array x)) L) a.1 h) ms P (p ∙ ap (λ n. P // n) s.0))
+      subst (λ n. KeywordMeans o answers ms (k ∷ []) (n, m.1) P) (sym s.0)
+          (means_one_of o answers k ns L a.0 m.1 a.1 form (subst (λ x. StandEach o answers ns (numbered (items_of_array x)) L) a.1 h) ms P (p ∙ ap (λ n. P // n) s.0))
 
-  pub makes_not : (original : Value) (L : Path) (n : N) (rest ns : List N) → ns ≡ rest ++ n ∷ [] → MakesMember o answers (shape.Not original) L ns (keyword.Not (record { original = original; node = n; location = L }) ∷ [])
+  pub makes_not : (original : Value) (L : Path) (n : N) (rest ns : List N) → ns ≡ rest ++ n ∷ [] → MakesMember o answers (shape.Not original) L ns
+      (keyword.Not (record { original = original; node = n; location = L }) ∷ [])
   makes_not original L n rest ns e ms m P p s h = by rest (subst (λ l. StandAt o answers (reads_of {K = K} {R = R} (shape.Not original)) l m.1 L) e h)
     where
-      by : (rest : List N) → StandAt o answers (reads_of {K = K} {R = R} (shape.Not original)) (rest ++ n ∷ []) m.1 L → KeywordMeans o answers ms (keyword.Not (record { original = original; node = n; location = L }) ∷ []) m P
-      by [] g = subst (λ k. KeywordMeans o answers ms (keyword.Not (record { original = original; node = n; location = L }) ∷ []) (k, m.1) P) (sym s.0) (means_not o answers original n L m.1 s.1 g ms P (p ∙ ap (λ n. P // n) s.0))
+      by : (rest : List N) → StandAt o answers (reads_of {K = K} {R = R} (shape.Not original)) (rest ++ n ∷ []) m.1 L → KeywordMeans o answers ms
+          (keyword.Not (record { original = original; node = n; location = L }) ∷ []) m P
+      by [] g =
+          subst (λ k. KeywordMeans o answers ms (keyword.Not (record { original = original; node = n; location = L }) ∷ []) (k, m.1) P) (sym s.0)
+              (means_not o answers original n L m.1 s.1 g ms P (p ∙ ap (λ n. P // n) s.0))
       by (x ∷ []) g = absurd g
       by (x ∷ y ∷ rest) g = absurd g
 
-  pub makes_no_not : (original : Value) (L : Path) (ns : List N) (ks : List (KeywordOver K R N)) → ns ≡ [] → MakesMember o answers (shape.Not original) L ns ks
-  makes_no_not original L ns ks e ms m P p s h = absurd (subst (λ l. StandAt o answers (reads_of {K = K} {R = R} (shape.Not original)) l m.1 L) e h)
-
   pub makes_required : (v : Vec (String Global) Global) (L : Path) (ns : List N) → MakesMember o answers (shape.Required v) L ns (keyword.Required (record { required = v; location = L }) ∷ [])
-  makes_required v L ns ms m P p s h = subst (λ n. KeywordMeans o answers ms (keyword.Required (record { required = v; location = L }) ∷ []) (n, m.1) P) (sym s.0) (means_required o answers v L m.1 s.2 ms P (p ∙ ap (λ n. P // n) s.0))
+  makes_required v L ns ms m P p s h =
+      subst (λ n. KeywordMeans o answers ms (keyword.Required (record { required = v; location = L }) ∷ []) (n, m.1) P) (sym s.0) (means_required o answers v L m.1 s.2 ms P (p ∙ ap (λ n. P // n) s.0))
 
   pub makes_leaf : (l : K) (L : Path) (ns : List N) → MakesMember o answers (shape.Leaf l) L ns (keyword.Leaf L l ∷ [])
   makes_leaf l L ns ms m P p s h = means_leaf o answers l m.0 L m.1 s.0 s.1 s.2 ms P p
@@ -114,19 +119,23 @@ module _ {K R N : Type 0} (o : Kit K R) (answers : N → Answers) where
   pub makes_unread : (L : Path) (ns : List N) → MakesMember o answers shape.Unread L ns []
   makes_unread L ns ms m P p s h = means_unread o answers m.0 m.1 s ms P
 
-  pub makes_properties : (k : KeywordOver K R N) (names : List Name) (ns : List N) (L P : Path) (p : Planned) → IsFormOfProperties P L names ns p.fused_pair k → MakesClaims o answers (shape.Properties names) L ns P p (k ∷ [])
+  pub makes_properties : (k : KeywordOver K R N) (names : List Name) (ns : List N) (L P : Path) (p : Planned) → IsFormOfProperties P L names ns p.fused_pair k
+      → MakesClaims o answers (shape.Properties names) L ns P p (k ∷ [])
   makes_properties k names ns L P p form ms m l s h distinct there chosen untaken =
       let a = object_of m.1 s.1 in
       subst (λ n. KeywordsMean o answers ms (k ∷ []) (claims (head p) (listed ms) (n, m.1)) ((n, m.1) ∷ []) P) (sym s.0)
       (subst (λ q. KeywordsMean o answers ms (k ∷ []) (claims (head q) (listed ms) (codes "properties", m.1)) ((codes "properties", m.1) ∷ []) P) (sym chosen)
-      (means_form o answers k names ns L P p.fused_pair a.0 m.1 a.1 (s.2 ∙ ap (λ x. map (λ e. e.0) (members x)) a.1) (subst (λ x. StandEach o answers ns (members x) L) a.1 h) form ms (l ∙ ap (λ n. P // n) s.0) distinct (ap (λ n. lookup_name n (listed ms)) (sym s.0) ∙ there) (ap (λ q. q.fused_pair) chosen)
+      (means_form o answers k names ns L P p.fused_pair a.0 m.1 a.1 (s.2 ∙ ap (λ x. map (λ e. e.0) (members x)) a.1) (subst (λ x. StandEach o answers ns (members x) L) a.1 h) form ms
+          (l ∙ ap (λ n. P // n) s.0) distinct (ap (λ n. lookup_name n (listed ms)) (sym s.0) ∙ there) (ap (λ q. q.fused_pair) chosen)
       (ap (λ q. q.restricted) (sym chosen) ∙ unrestricted_if_untaken o answers p (codes "properties") refl (ap (is_taken p) (sym s.0) ∙ untaken))))
 
   module _ (v : Vec (String Global) Global) (L P : Path) (ns : List N) (p : Planned) where
     abbrev MakesRequired : List (KeywordOver K R N) → Type 0
     MakesRequired ks = MakesClaims o answers (shape.Required v) L ns P p ks
 
-    required_makes : (ks : List (KeywordOver K R N)) → ((ms : Members) (d : Data) → p ≡ plan_of ms → L ≡ P // codes "required" → map string_bytes v.items ≡ texts d → has_repeat (names_of (listed ms)) ≡ false → lookup_name (codes "required") (listed ms) ≡ Some d → KeywordsMean o answers ms ks (claims (head (plan_of ms)) (listed ms) (codes "required", d)) ((codes "required", d) ∷ []) P) → MakesRequired ks
+    required_makes : (ks : List (KeywordOver K R N)) → ((ms : Members) (d : Data) → p ≡ plan_of ms → L ≡ P // codes "required" → map string_bytes v.items ≡ texts d
+        → has_repeat (names_of (listed ms)) ≡ false → lookup_name (codes "required") (listed ms) ≡ Some d → KeywordsMean o answers ms ks
+        (claims (head (plan_of ms)) (listed ms) (codes "required", d)) ((codes "required", d) ∷ []) P) → MakesRequired ks
     required_makes ks make ms m l s h distinct there chosen untaken = subst (λ n. KeywordsMean o answers ms ks (claims (head p) (listed ms) (n, m.1)) ((n, m.1) ∷ []) P) (sym s.0)
         (subst (λ q. KeywordsMean o answers ms ks (claims (head q) (listed ms) (codes "required", m.1)) ((codes "required", m.1) ∷ []) P) (sym chosen)
         (make ms m.1 chosen (l ∙ ap (λ n. P // n) s.0) s.2 distinct (ap (λ n. lookup_name n (listed ms)) (sym s.0) ∙ there)))
@@ -134,7 +143,8 @@ module _ {K R N : Type 0} (o : Kit K R) (answers : N → Answers) where
     pub makes_required_elsewhere : is_some p.fused_pair ≡ true → MakesRequired []
     makes_required_elsewhere e = required_makes [] (λ ms d chosen l same distinct there. by ms d (fused_pair ms) refl (ap (λ q. is_some q.fused_pair) (sym chosen) ∙ e))
       where
-        by : (ms : Members) (d : Data) (t : Option (Name × Name)) → fused_pair ms ≡ t → is_some t ≡ true → KeywordsMean o answers ms [] (claims (head (plan_of ms)) (listed ms) (codes "required", d)) ((codes "required", d) ∷ []) P
+        by : (ms : Members) (d : Data) (t : Option (Name × Name)) → fused_pair ms ≡ t → is_some t ≡ true → KeywordsMean o answers ms []
+            (claims (head (plan_of ms)) (listed ms) (codes "required", d)) ((codes "required", d) ∷ []) P
         by ms d None q f = absurd (true≢false (sym f))
         by ms d (Some t) q f = means_fused o answers t d ms P (sym q)
 
@@ -142,7 +152,10 @@ module _ {K R N : Type 0} (o : Kit K R) (answers : N → Answers) where
     makes_required_inside e = required_makes [] (λ ms d chosen l same distinct there. means_fused_one o answers d ms P (ap (λ q. is_some q.fused_one) (sym chosen) ∙ e))
 
     pub makes_required_alone : is_some p.fused_pair ≡ false → is_some p.fused_one ≡ false → MakesRequired (keyword.Required (record { required = v; location = L }) ∷ [])
-    makes_required_alone e f = required_makes (keyword.Required (record { required = v; location = L }) ∷ []) (λ ms d chosen l same distinct there. means_required_alone o answers v L d same ms P l distinct there (ap (λ q. is_some q.fused_pair) (sym chosen) ∙ e) (ap (λ q. is_some q.fused_one) (sym chosen) ∙ f))
+    makes_required_alone e f =
+        required_makes (keyword.Required (record { required = v; location = L }) ∷ [])
+            (λ ms d chosen l same distinct there. means_required_alone o answers v L d same ms P l distinct there (ap (λ q. is_some q.fused_pair) (sym chosen) ∙ e)
+            (ap (λ q. is_some q.fused_one) (sym chosen) ∙ f))
 
   -- a keyword that has no neighbours claims its own member
   abbrev pub IsAlone : Shape K R → Type 0
@@ -152,18 +165,23 @@ module _ {K R N : Type 0} (o : Kit K R) (answers : N → Answers) where
   told_by_none : (ms : Members) (p : Planned) (k : Name) → p ≡ plan_of ms → is_taken p k ≡ false → (is_restricted ms && tells_members k) ≡ false
   told_by_none ms p k chosen untaken = (neither (is_restricted ms && tells_members k) (is_condition ms && is_case k) (ap (λ q. is_taken q k) (sym chosen) ∙ untaken)).0
 
-  pub claims_own : (x y : Shape K R) (L : Path) (ns : List N) (ks : List (KeywordOver K R N)) (P : Path) (p : Planned) → x ≡ y → IsAlone y → MakesMember o answers y L ns ks → MakesClaims o answers x L ns P p ks
+  pub claims_own : (x y : Shape K R) (L : Path) (ns : List N) (ks : List (KeywordOver K R N)) (P : Path) (p : Planned) → x ≡ y → IsAlone y
+      → MakesMember o answers y L ns ks → MakesClaims o answers x L ns P p ks
   claims_own x y L ns ks P p e alone make = subst (λ z. MakesClaims o answers z L ns P p ks) (sym e) (λ ms m l s h distinct there chosen untaken.
       subst (λ q. KeywordsMean o answers ms ks (claims (head q) (listed ms) m) (m ∷ []) P) (sym chosen)
-      (means_own o answers ks ms m P distinct there (apart o.world (codes "properties") m.0 refl (alone m.0 m.1 s)) (apart o.world (codes "required") m.0 refl (alone m.0 m.1 s)) (no_case o.world (is_condition ms) m.0 (alone m.0 m.1 s))
-      (never_taken (plan_of ms) m.0 (apart o.world (codes "additionalProperties") m.0 refl (alone m.0 m.1 s)) (apart o.world (codes "properties") m.0 refl (alone m.0 m.1 s)) (apart o.world (codes "patternProperties") m.0 refl (alone m.0 m.1 s)) (apart o.world (codes "required") m.0 refl (alone m.0 m.1 s)))
+      (means_own o answers ks ms m P distinct there (apart o.world (codes "properties") m.0 refl (alone m.0 m.1 s)) (apart o.world (codes "required") m.0 refl (alone m.0 m.1 s))
+          (no_case o.world (is_condition ms) m.0 (alone m.0 m.1 s))
+      (never_taken (plan_of ms) m.0 (apart o.world (codes "additionalProperties") m.0 refl (alone m.0 m.1 s)) (apart o.world (codes "properties") m.0 refl (alone m.0 m.1 s))
+          (apart o.world (codes "patternProperties") m.0 refl (alone m.0 m.1 s)) (apart o.world (codes "required") m.0 refl (alone m.0 m.1 s)))
       (told_by_none ms p m.0 chosen untaken) (make ms m P l s h)))
 
   -- `patternProperties` does where nothing is restricted
-  pub patterns_claim_own : (x : Shape K R) (v : Vec (CompiledPattern R) Global) (t : Table) (L : Path) (ns : List N) (ks : List (KeywordOver K R N)) (P : Path) (p : Planned) → x ≡ shape.PatternProperties v t → MakesMember o answers (shape.PatternProperties v t) L ns ks → MakesClaims o answers x L ns P p ks
+  pub patterns_claim_own : (x : Shape K R) (v : Vec (CompiledPattern R) Global) (t : Table) (L : Path) (ns : List N) (ks : List (KeywordOver K R N))
+      (P : Path) (p : Planned) → x ≡ shape.PatternProperties v t → MakesMember o answers (shape.PatternProperties v t) L ns ks → MakesClaims o answers x L ns P p ks
   patterns_claim_own x v t L ns ks P p e make = subst (λ z. MakesClaims o answers z L ns P p ks) (sym e) (λ ms m l s h distinct there chosen untaken.
       subst (λ q. KeywordsMean o answers ms ks (claims (head q) (listed ms) m) (m ∷ []) P) (sym chosen)
-      (means_own o answers ks ms m P distinct there (ap (bytes_eq (codes "properties")) s.0) (ap (bytes_eq (codes "required")) s.0) (λ read_here. (ap (λ n. bytes_eq n (codes "if")) s.0, ap is_case s.0))
+      (means_own o answers ks ms m P distinct there (ap (bytes_eq (codes "properties")) s.0) (ap (bytes_eq (codes "required")) s.0)
+          (λ read_here. (ap (λ n. bytes_eq n (codes "if")) s.0, ap is_case s.0))
       (free_takes_nothing ms m.0 (ap (λ q. q.restricted) (sym chosen) ∙ unrestricted_if_untaken o answers p m.0 (ap tells_members s.0) untaken))
       (told_by_none ms p m.0 chosen untaken) (make ms m P l s h)))
 
@@ -213,10 +231,12 @@ module _ {K R N : Type 0} (o : Kit K R) (answers : N → Answers) where
   without_nodes x L ns ks none make ms m P place s stand = make ms m P place s (subst (λ r. StandAt o answers r [] m.1 L) (sym none) refl)
 
   -- all but `if` and `additionalProperties` hold their own nodes alone
-  pub part_of_claims : (x : Shape K R) (L : Path) (ns : List N) (t : Taken R N) (ks : List (KeywordOver K R N)) (P : Path) (p : Planned) → MakesClaims o answers x L ns P p ks → MakesPart o answers x L ns t P p ks
+  pub part_of_claims : (x : Shape K R) (L : Path) (ns : List N) (t : Taken R N) (ks : List (KeywordOver K R N)) (P : Path) (p : Planned)
+      → MakesClaims o answers x L ns P p ks → MakesPart o answers x L ns t P p ks
   part_of_claims x L ns t ks P p make ms m place s fits stand cases beside distinct there chosen untaken = make ms m place s stand distinct there chosen untaken
 
-  pub part_of_own : (x y : Shape K R) (L : Path) (ns : List N) (t : Taken R N) (ks : List (KeywordOver K R N)) (P : Path) (p : Planned) → x ≡ y → IsAlone y → MakesMember o answers y L ns ks → MakesPart o answers x L ns t P p ks
+  pub part_of_own : (x y : Shape K R) (L : Path) (ns : List N) (t : Taken R N) (ks : List (KeywordOver K R N)) (P : Path) (p : Planned) → x ≡ y → IsAlone y
+      → MakesMember o answers y L ns ks → MakesPart o answers x L ns t P p ks
   part_of_own x y L ns t ks P p e alone make = part_of_claims x L ns t ks P p (claims_own x y L ns ks P p e alone make)
 
   -- ---- the parts of an object, one after the other
@@ -273,8 +293,10 @@ module _ {K R N : Type 0} (o : Kit K R) (answers : N → Answers) where
       pub beside : is_restricted ms ≡ true → is_among (codes "additionalProperties") (names_of done) ≡ false → BesideStands o answers (known_of ms) t.beside ms P
       pub whole : done ++ left ≡ stays
 
-    pub none_made : (ks : List (KeywordOver K R N)) (ps : List (Part K R N)) (t : Taken R N) → ks ≡ [] → PartsStand o answers (known_of ms) ps stays P → (is_condition ms ≡ true → CasesStand o answers t.cases ms P) → (is_restricted ms ≡ true → BesideStands o answers (known_of ms) t.beside ms P) → MadeSoFar ks ps t
-    none_made ks ps t e h cases beside = record { done = []; left = stays; mean = no_keywords_mean o answers ms P ks e; stand = h; cases = λ read none. cases read; beside = λ restricted none. beside restricted; whole = refl }
+    pub none_made : (ks : List (KeywordOver K R N)) (ps : List (Part K R N)) (t : Taken R N) → ks ≡ [] → PartsStand o answers (known_of ms) ps stays P
+        → (is_condition ms ≡ true → CasesStand o answers t.cases ms P) → (is_restricted ms ≡ true → BesideStands o answers (known_of ms) t.beside ms P) → MadeSoFar ks ps t
+    none_made ks ps t e h cases beside =
+        record { done = []; left = stays; mean = no_keywords_mean o answers ms P ks e; stand = h; cases = λ read none. cases read; beside = λ restricted none. beside restricted; whole = refl }
 
     -- a name that is not among one more is among none
     earlier : (k : Name) (done : List (Name × Data)) (m : Name × Data) → is_among k (names_of (done ++ m ∷ [])) ≡ false → (is_among k (names_of done) ≡ false) × (bytes_eq k m.0 ≡ false)
@@ -284,11 +306,16 @@ module _ {K R N : Type 0} (o : Kit K R) (answers : N → Answers) where
 
     -- where another keyword takes what a member holds, it claims nothing and shows nothing
     module _ (m : Name × Data) (taken : is_taken (plan_of ms) m.0 ≡ true) where
-      taken_by : ((is_restricted ms ≡ true) × (m.0 ≡ codes "properties")) ⊎ ((is_restricted ms ≡ true) × (m.0 ≡ codes "patternProperties")) ⊎ ((is_condition ms ≡ true) × (m.0 ≡ codes "then")) ⊎ ((is_condition ms ≡ true) × (m.0 ≡ codes "else"))
-      taken_by = by (is_restricted ms) (bytes_eq m.0 (codes "properties")) (bytes_eq m.0 (codes "patternProperties")) (is_condition ms) (bytes_eq m.0 (codes "then")) (bytes_eq m.0 (codes "else")) refl refl refl refl refl refl taken
+      taken_by : ((is_restricted ms ≡ true) × (m.0 ≡ codes "properties")) ⊎ ((is_restricted ms ≡ true) × (m.0 ≡ codes "patternProperties"))
+          ⊎ ((is_condition ms ≡ true) × (m.0 ≡ codes "then")) ⊎ ((is_condition ms ≡ true) × (m.0 ≡ codes "else"))
+      taken_by =
+          by (is_restricted ms) (bytes_eq m.0 (codes "properties")) (bytes_eq m.0 (codes "patternProperties")) (is_condition ms) (bytes_eq m.0 (codes "then"))
+              (bytes_eq m.0 (codes "else")) refl refl refl refl refl refl taken
         where
-          by : (r a b c t e : Bool) → is_restricted ms ≡ r → bytes_eq m.0 (codes "properties") ≡ a → bytes_eq m.0 (codes "patternProperties") ≡ b → is_condition ms ≡ c → bytes_eq m.0 (codes "then") ≡ t → bytes_eq m.0 (codes "else") ≡ e → ((r && (a || (b || false))) || (c && (t || (e || false)))) ≡ true
-              → ((is_restricted ms ≡ true) × (m.0 ≡ codes "properties")) ⊎ ((is_restricted ms ≡ true) × (m.0 ≡ codes "patternProperties")) ⊎ ((is_condition ms ≡ true) × (m.0 ≡ codes "then")) ⊎ ((is_condition ms ≡ true) × (m.0 ≡ codes "else"))
+          by : (r a b c t e : Bool) → is_restricted ms ≡ r → bytes_eq m.0 (codes "properties") ≡ a → bytes_eq m.0 (codes "patternProperties") ≡ b
+              → is_condition ms ≡ c → bytes_eq m.0 (codes "then") ≡ t → bytes_eq m.0 (codes "else") ≡ e → ((r && (a || (b || false))) || (c && (t || (e || false)))) ≡ true
+              → ((is_restricted ms ≡ true) × (m.0 ≡ codes "properties")) ⊎ ((is_restricted ms ≡ true) × (m.0 ≡ codes "patternProperties"))
+                  ⊎ ((is_condition ms ≡ true) × (m.0 ≡ codes "then")) ⊎ ((is_condition ms ≡ true) × (m.0 ≡ codes "else"))
           by true true b c t e q i j r k l h = inl (q, same_name m.0 (codes "properties") i)
           by true false true c t e q i j r k l h = inr (inl (q, same_name m.0 (codes "patternProperties") j))
           by true false false true true e q i j r k l h = inr (inr (inl (r, same_name m.0 (codes "then") k)))
@@ -303,7 +330,8 @@ module _ {K R N : Type 0} (o : Kit K R) (answers : N → Answers) where
       taken_claims_none : claims heads (listed ms) m ≡ []
       taken_claims_none = by taken_by
         where
-          by : ((is_restricted ms ≡ true) × (m.0 ≡ codes "properties")) ⊎ ((is_restricted ms ≡ true) × (m.0 ≡ codes "patternProperties")) ⊎ ((is_condition ms ≡ true) × (m.0 ≡ codes "then")) ⊎ ((is_condition ms ≡ true) × (m.0 ≡ codes "else")) → claims heads (listed ms) m ≡ []
+          by : ((is_restricted ms ≡ true) × (m.0 ≡ codes "properties")) ⊎ ((is_restricted ms ≡ true) × (m.0 ≡ codes "patternProperties"))
+              ⊎ ((is_condition ms ≡ true) × (m.0 ≡ codes "then")) ⊎ ((is_condition ms ≡ true) × (m.0 ≡ codes "else")) → claims heads (listed ms) m ≡ []
           by (inl h) = ap (λ k. claims heads (listed ms) (k, m.1)) h.1 ∙ claims_no_properties ms h.0 (listed ms) m.1
           by (inr (inl h)) = ap (λ k. claims heads (listed ms) (k, m.1)) h.1 ∙ claims_no_patterns ms h.0 (listed ms) m.1
           by (inr (inr (inl h))) = claims_no_case (plan_of ms) h.0 (listed ms) m (ap is_case h.1)
@@ -315,13 +343,15 @@ module _ {K R N : Type 0} (o : Kit K R) (answers : N → Answers) where
       taken_shows_none : (u : Bool) (v : Data) (Q : Path) → member_child o.world ms m (which o ms m) u v P Q ≡ []
       taken_shows_none u v Q = by taken_by
         where
-          by : ((is_restricted ms ≡ true) × (m.0 ≡ codes "properties")) ⊎ ((is_restricted ms ≡ true) × (m.0 ≡ codes "patternProperties")) ⊎ ((is_condition ms ≡ true) × (m.0 ≡ codes "then")) ⊎ ((is_condition ms ≡ true) × (m.0 ≡ codes "else")) → shown_as u v Q m.0 ≡ []
+          by : ((is_restricted ms ≡ true) × (m.0 ≡ codes "properties")) ⊎ ((is_restricted ms ≡ true) × (m.0 ≡ codes "patternProperties"))
+              ⊎ ((is_condition ms ≡ true) × (m.0 ≡ codes "then")) ⊎ ((is_condition ms ≡ true) × (m.0 ≡ codes "else")) → shown_as u v Q m.0 ≡ []
           by (inl h) = ap (shown_as u v Q) h.1 ∙ properties_show_none o.world ms u v P Q m.1 h.0
           by (inr (inl h)) = ap (shown_as u v Q) h.1 ∙ patterns_show_none o.world ms u v P Q m.1 h.0
           by (inr (inr (inl h))) = ap (shown_as u v Q) h.1
           by (inr (inr (inr h))) = ap (shown_as u v Q) h.1
 
-    flat_untaken : {Y : Type 0} (f : Name × Data → List Y) → ((m : Name × Data) → is_taken (plan_of ms) m.0 ≡ true → f m ≡ []) → (es : List (Name × Data)) → flat_map f (untaken (plan_of ms) es) ≡ flat_map f es
+    flat_untaken : {Y : Type 0} (f : Name × Data → List Y) → ((m : Name × Data) → is_taken (plan_of ms) m.0 ≡ true → f m ≡ []) → (es : List (Name × Data))
+        → flat_map f (untaken (plan_of ms) es) ≡ flat_map f es
     flat_untaken f none [] = refl
     flat_untaken f none (m ∷ es) = by (is_taken (plan_of ms) m.0) refl (flat_untaken f none es)
       where
@@ -340,11 +370,13 @@ module _ {K R N : Type 0} (o : Kit K R) (answers : N → Answers) where
       stays_untaken [] = tt
       stays_untaken (m ∷ es) = by (is_taken (plan_of ms) m.0) refl (stays_untaken es)
         where
-          by : (b : Bool) → is_taken (plan_of ms) m.0 ≡ b → Each (λ m. is_taken (plan_of ms) m.0 ≡ false) (untaken (plan_of ms) es) → Each (λ m. is_taken (plan_of ms) m.0 ≡ false) (put_if (not b) m (untaken (plan_of ms) es))
+          by : (b : Bool) → is_taken (plan_of ms) m.0 ≡ b → Each (λ m. is_taken (plan_of ms) m.0 ≡ false) (untaken (plan_of ms) es)
+              → Each (λ m. is_taken (plan_of ms) m.0 ≡ false) (put_if (not b) m (untaken (plan_of ms) es))
           by true q later = later
           by false q later = (q, later)
 
-      pub one_more_made : (ks ls new : List (KeywordOver K R N)) (part : Part K R N) (ps all : List (Part K R N)) (t after : Taken R N) → new ≡ ks ++ ls → all ≡ part ∷ ps → MadeSoFar ks all t → MakesPart o answers part.shape part.location part.nodes.items t P p ls
+      pub one_more_made : (ks ls new : List (KeywordOver K R N)) (part : Part K R N) (ps all : List (Part K R N)) (t after : Taken R N) → new ≡ ks ++ ls
+          → all ≡ part ∷ ps → MadeSoFar ks all t → MakesPart o answers part.shape part.location part.nodes.items t P p ls
           → (is_if_shape part.shape ≡ false → after.cases ≡ t.cases) → (is_restriction_shape part.shape ≡ false → after.beside ≡ t.beside) → MadeSoFar new ps after
       one_more_made ks ls new part ps all t after q e h make cases_kept beside_kept = by h.left (subst (λ l. PartsStand o answers (known_of ms) l h.left P) e h.stand) h.whole
         where
@@ -356,13 +388,17 @@ module _ {K R N : Type 0} (o : Kit K R) (answers : N → Answers) where
             mean = one_more_keyword o answers ms P heads ks ls new h.done m q h.mean (subst (λ s. KeywordsMean o answers ms ls (claims (head s) (listed ms) m) (m ∷ []) P) chosen
                 (make ms m stand.0.place stand.0.shape stand.0.fits (subst (λ L. StandAt o answers (reads_of part.shape) part.nodes.items m.1 L) (sym stand.0.place) stand.0.nodes)
                 (λ taking. h.cases (if_fits part.shape (known_of ms) stand.0.fits taking) (first (codes "if") (if_named part.shape m.0 m.1 stand.0.shape taking)))
-                (λ taking. let r = restriction_named part.shape m.0 m.1 stand.0.shape taking in h.beside (ap is_restriction (ap (λ k. lookup_name k (listed ms)) (sym r.0) ∙ found) ∙ r.1) (first (codes "additionalProperties") r.0))
+                (λ taking. let r = restriction_named part.shape m.0 m.1 stand.0.shape taking in
+                    h.beside (ap is_restriction (ap (λ k. lookup_name k (listed ms)) (sym r.0) ∙ found) ∙ r.1) (first (codes "additionalProperties") r.0))
                 distinct found chosen (ap (λ s. is_taken s m.0) chosen ∙ at_place (λ x. is_taken (plan_of ms) x.0 ≡ false) h.done m left (subst (Each (λ x. is_taken (plan_of ms) x.0 ≡ false)) (sym w) (stays_untaken (listed ms))))));
             stand = stand.1;
             cases = λ read none. let before = earlier (codes "if") h.done m none in
-                subst (λ x. CasesStand o answers x ms P) (sym (cases_kept (not_so (codes "if") m.0 (is_if_shape part.shape) (if_named part.shape m.0 m.1 stand.0.shape) before.1))) (h.cases read before.0);
+                subst (λ x. CasesStand o answers x ms P) (sym (cases_kept
+                    (not_so (codes "if") m.0 (is_if_shape part.shape) (if_named part.shape m.0 m.1 stand.0.shape) before.1))) (h.cases read before.0);
             beside = λ restricted none. let before = earlier (codes "additionalProperties") h.done m none in
-                subst (λ x. BesideStands o answers (known_of ms) x ms P) (sym (beside_kept (not_so (codes "additionalProperties") m.0 (is_restriction_shape part.shape) (λ r. (restriction_named part.shape m.0 m.1 stand.0.shape r).0) before.1))) (h.beside restricted before.0);
+                subst (λ x. BesideStands o answers (known_of ms) x ms P)
+                    (sym (beside_kept (not_so (codes "additionalProperties") m.0 (is_restriction_shape part.shape)
+                    (λ r. (restriction_named part.shape m.0 m.1 stand.0.shape r).0) before.1))) (h.beside restricted before.0);
             whole = append_assoc h.done (m ∷ []) left ∙ w;
           }
             where
@@ -383,5 +419,7 @@ module _ {K R N : Type 0} (o : Kit K R) (answers : N → Answers) where
           }
 
           by : (left : List (Name × Data)) → PartsStand o answers (known_of ms) [] left P → h.done ++ left ≡ stays → KeywordsMean o answers ms ks (listed ms) (listed ms) P
-          by [] stand w = heads_mean_all o answers ms P heads ks distinct (heads_there ms distinct (plan_of ms) refl) (with_taken (subst (λ es. KeywordsMean o answers ms ks (flat_map (claims heads (listed ms)) es) es P) (sym (append-nil h.done) ∙ w) h.mean))
+          by [] stand w =
+              heads_mean_all o answers ms P heads ks distinct (heads_there ms distinct (plan_of ms) refl)
+                  (with_taken (subst (λ es. KeywordsMean o answers ms ks (flat_map (claims heads (listed ms)) es) es P) (sym (append-nil h.done) ∙ w) h.mean))
           by (m ∷ left) stand w = absurd stand

@@ -57,7 +57,8 @@ module _ {K R N : Type 0} (o : Kit K R) (answers : N → Answers) where
         ∙ (λ i. cond (h.0.verdict u v i) 1 0 + counted ns es L h.1 i)
         ∙ sym (sum_by-cons (λ (x : Name × Data). cond (accepts o.world u x.1 v) 1 0) e es)
 
-    one_show : (Q : Path) (ns : List N) (es : List (Name × Data)) (L : Path) → StandEach o answers ns es L → one_of_tree (λ n. (answers n).tree u) v Q (accepts_value o answers u v) L ns ≡ fact.one_shown o.world u v (fact.accepting_count o.world u v es) L Q es
+    one_show : (Q : Path) (ns : List N) (es : List (Name × Data)) (L : Path) → StandEach o answers ns es L → one_of_tree (λ n. (answers n).tree u) v Q
+        (accepts_value o answers u v) L ns ≡ fact.one_shown o.world u v (fact.accepting_count o.world u v es) L Q es
     one_show Q ns es L h = λ i. cond (counted ns es L h i == 0)
         (result L Q None true [] (branches_show o answers u v Q ns es L h i))
         (result L Q None false (put_if (nat_lt 1 (counted ns es L h i)) several_accept []) (accepting_show o answers u v Q ns es L h i))
@@ -95,7 +96,8 @@ module _ {K R N : Type 0} (o : Kit K R) (answers : N → Answers) where
     form_shows Q (keyword.SingleOneOf k) f = λ i. one_of_tree (λ n. (answers n).tree u) v Q (accepts_value o answers u v) (f.1 i) (sym f.0 i)
     form_shows Q k f = absurd f
 
-  pub means_one_of : (k : KeywordOver K R N) (ns : List N) (L : Path) (ds : Items) (d : Data) → d ≡ array ds → IsFormOfOneOf L ns k → StandEach o answers ns (numbered (items_list ds)) L → (ms : Members) (P : Path) → L ≡ P // codes "oneOf" → KeywordMeans o answers ms (k ∷ []) (codes "oneOf", d) P
+  pub means_one_of : (k : KeywordOver K R N) (ns : List N) (L : Path) (ds : Items) (d : Data) → d ≡ array ds → IsFormOfOneOf L ns k
+      → StandEach o answers ns (numbered (items_list ds)) L → (ms : Members) (P : Path) → L ≡ P // codes "oneOf" → KeywordMeans o answers ms (k ∷ []) (codes "oneOf", d) P
   means_one_of k ns L ds d q form stand ms P p = subst (λ x. KeywordMeans o answers ms (k ∷ []) (codes "oneOf", x) P) (sym q) (record {
     holds = one o answers ms k (codes "oneOf", array ds) one_of P
         (λ u v. form_accepts L ns u v k form ∙ ap (λ n. n == 1) (counted u v ns (numbered (items_list ds)) L stand) ∙ sym (fact.one_of_accepts o.world u v ms ds))
@@ -107,7 +109,8 @@ module _ {K R N : Type 0} (o : Kit K R) (answers : N → Answers) where
         (not_valid (fact.accepting_count o.world u v (numbered (items_list ds)) == 0) _ _ v L Q (any_context o answers u v Q ns (numbered (items_list ds)) L stand))
         (multiple_valid (nat_lt 1 (fact.accepting_count o.world u v (numbered (items_list ds)))) _ _ v L Q (any_context o answers u v Q ns (numbered (items_list ds)) L stand))));
     shows = λ u h v Q.
-        ap (λ t. t ∷ []) (form_shows L ns u v Q k form ∙ one_show u v Q ns (numbered (items_list ds)) L stand ∙ ap (λ M. fact.one_shown o.world u v (fact.accepting_count o.world u v (numbered (items_list ds))) M Q (numbered (items_list ds))) p)
+        ap (λ t. t ∷ []) (form_shows L ns u v Q k form ∙ one_show u v Q ns (numbered (items_list ds)) L stand
+            ∙ ap (λ M. fact.one_shown o.world u v (fact.accepting_count o.world u v (numbered (items_list ds))) M Q (numbered (items_list ds))) p)
         ∙ sym (fact.one_of_child o.world u v ms ds P Q);
     formed = just_one_formed o answers k (one_of_formed o answers k L ns form (stand_formed o answers ns (numbered (items_list ds)) L stand));
   })

@@ -85,11 +85,13 @@ module _ {K R N : Type 0} (o : Kit K R) (answers : N → Answers) where
     abbrev ask_member : Name × Data → Bool
     ask_member x = matches o.world u d.0 x.0
 
-    matched_accept : (xs : List (Name × Data)) → (every (λ x. conditional (match_question o.answers o.costs e.0 x.0) ((answers e.1).means x.1) (always true)) xs).accepts u ≡ list_all (λ x. accepts o.world u d.1 x.1) (filter_once ask_member xs)
+    matched_accept : (xs : List (Name × Data)) → (every (λ x. conditional (match_question o.answers o.costs e.0 x.0) ((answers e.1).means x.1) (always true)) xs).accepts u ≡ list_all
+        (λ x. accepts o.world u d.1 x.1) (filter_once ask_member xs)
     matched_accept [] = refl
     matched_accept (x ∷ xs) = (λ i. cond (reads_as u (h.answers x.0 i)) (s.verdict u x.1 i) true && matched_accept xs i) ∙ by (ask_member x)
       where
-        by : (b : Bool) → (cond b (accepts o.world u d.1 x.1) true && list_all (λ y. accepts o.world u d.1 y.1) (filter_once ask_member xs)) ≡ list_all (λ y. accepts o.world u d.1 y.1) (put_if b x (filter_once ask_member xs))
+        by : (b : Bool) → (cond b (accepts o.world u d.1 x.1) true && list_all (λ y. accepts o.world u d.1 y.1) (filter_once ask_member xs)) ≡ list_all
+            (λ y. accepts o.world u d.1 y.1) (put_if b x (filter_once ask_member xs))
         by true = refl
         by false = refl
 
@@ -100,10 +102,12 @@ module _ {K R N : Type 0} (o : Kit K R) (answers : N → Answers) where
     counted : (x : Name × Data) → cond {A = ℕ} (pattern_costs o.costs e.0 || is_unfinished (pattern_answers o.answers e.0 x.0)) 1 0 ≡ cond {A = ℕ} (is_open o.world d.0) 1 0
     counted x = (λ i. cond {A = ℕ} (h.costs i || is_unfinished (h.answers x.0 i)) 1 0) ∙ open_counts o.world d.0 x.0
 
-    one_asks : (x : Name × Data) → cond {A = ℕ} (pattern_costs o.costs e.0 || is_unfinished (pattern_answers o.answers e.0 x.0)) 1 0 + cond (reads_as u (pattern_answers o.answers e.0 x.0)) (((answers e.1).means x.1).asks u) 0 ≤ asked_member x
+    one_asks : (x : Name × Data) → cond {A = ℕ} (pattern_costs o.costs e.0 || is_unfinished (pattern_answers o.answers e.0 x.0)) 1 0 + cond
+        (reads_as u (pattern_answers o.answers e.0 x.0)) (((answers e.1).means x.1).asks u) 0 ≤ asked_member x
     one_asks x = by (ask_member x) (ap (reads_as u) (h.answers x.0))
       where
-        by : (b : Bool) → reads_as u (pattern_answers o.answers e.0 x.0) ≡ b → cond {A = ℕ} (pattern_costs o.costs e.0 || is_unfinished (pattern_answers o.answers e.0 x.0)) 1 0 + cond (reads_as u (pattern_answers o.answers e.0 x.0)) (((answers e.1).means x.1).asks u) 0 ≤ pattern_asks o.world d.0 + cond b (asks o.world u d.1 x.1) 0
+        by : (b : Bool) → reads_as u (pattern_answers o.answers e.0 x.0) ≡ b → cond {A = ℕ} (pattern_costs o.costs e.0 || is_unfinished (pattern_answers o.answers e.0 x.0)) 1 0 + cond
+            (reads_as u (pattern_answers o.answers e.0 x.0)) (((answers e.1).means x.1).asks u) 0 ≤ pattern_asks o.world d.0 + cond b (asks o.world u d.1 x.1) 0
         by true q = let c = counted x in let a = ap {B = ℕ} (λ b. cond b (((answers e.1).means x.1).asks u) 0) q in let w = s.asks_within u x.1 in omega (arith, c, a, w)
         by false q = let c = counted x in let a = ap {B = ℕ} (λ b. cond b (((answers e.1).means x.1).asks u) 0) q in omega (arith, c, a)
 
@@ -113,7 +117,9 @@ module _ {K R N : Type 0} (o : Kit K R) (answers : N → Answers) where
 
     module _ (v : Data) (Q : Path) where
       matched_find : matched_report o.answers (λ n. (answers n).report) u e.0 e.1 v Q ∼ flat_map (λ x. report o.world u d.1 x.1 (L // d.0) (Q // x.0)) (matched_members o.world u d.0 v)
-      matched_find = subst (λ xs. flat_map (λ x. (answers e.1).report u x.1 (Q // x.0)) xs ∼ flat_map (λ x. report o.world u d.1 x.1 (L // d.0) (Q // x.0)) (matched_members o.world u d.0 v)) (sym (matched_same v))
+      matched_find =
+          subst (λ xs. flat_map (λ x. (answers e.1).report u x.1 (Q // x.0)) xs ∼ flat_map (λ x. report o.world u d.1 x.1 (L // d.0) (Q // x.0))
+              (matched_members o.world u d.0 v)) (sym (matched_same v))
           (∼_flat_map_any (λ x. (answers e.1).report u x.1 (Q // x.0)) (λ x. report o.world u d.1 x.1 (L // d.0) (Q // x.0)) (λ x. s.faults u x.1 (Q // x.0)) (matched_members o.world u d.0 v))
 
       trees_at : (xs : List (Name × Data)) → map (λ x. (answers e.1).tree u x.1 (Q // x.0)) xs ≡ map (λ x. tree o.world u d.1 x.1 (L // d.0) (Q // x.0)) xs
@@ -126,32 +132,39 @@ module _ {K R N : Type 0} (o : Kit K R) (answers : N → Answers) where
   -- ---- all patterns
 
   module _ (L : Path) (u : Bool) (v : Data) where
-    patterns_accept : (es : List Entry) (ds : List (Name × Data)) → EntriesStand o answers es ds L → (patterns_mean o.answers o.costs (λ n. (answers n).means) es v).accepts u ≡ list_all (λ d. list_all (λ x. accepts o.world u d.1 x.1) (matched_members o.world u d.0 v)) ds
+    patterns_accept : (es : List Entry) (ds : List (Name × Data)) → EntriesStand o answers es ds L
+        → (patterns_mean o.answers o.costs (λ n. (answers n).means) es v).accepts u ≡ list_all (λ d. list_all (λ x. accepts o.world u d.1 x.1) (matched_members o.world u d.0 v)) ds
     patterns_accept [] [] h = refl
     patterns_accept [] (d ∷ ds) h = absurd h
     patterns_accept (e ∷ es) [] h = absurd h
     patterns_accept (e ∷ es) (d ∷ ds) h = λ i. matched_accept e d L h.0 h.1 u (members v) i && patterns_accept es ds h.2 i
 
-    patterns_ask : (es : List Entry) (ds : List (Name × Data)) → EntriesStand o answers es ds L → (patterns_mean o.answers o.costs (λ n. (answers n).means) es v).asks u ≤ sum_by (λ d. sum_by (λ x. pattern_asks o.world d.0 + cond (matches o.world u d.0 x.0) (asks o.world u d.1 x.1) 0) (members v)) ds
+    patterns_ask : (es : List Entry) (ds : List (Name × Data)) → EntriesStand o answers es ds L → (patterns_mean o.answers o.costs (λ n. (answers n).means) es v).asks u ≤ sum_by
+        (λ d. sum_by (λ x. pattern_asks o.world d.0 + cond (matches o.world u d.0 x.0) (asks o.world u d.1 x.1) 0) (members v)) ds
     patterns_ask [] [] h = omega arith
     patterns_ask [] (d ∷ ds) h = absurd h
     patterns_ask (e ∷ es) [] h = absurd h
-    patterns_ask (e ∷ es) (d ∷ ds) h = more_within _ _ _ _ _ (matched_ask e d L h.0 h.1 u (members v)) (patterns_ask es ds h.2) (sum_by-cons (λ d. sum_by (λ x. pattern_asks o.world d.0 + cond (matches o.world u d.0 x.0) (asks o.world u d.1 x.1) 0) (members v)) d ds)
+    patterns_ask (e ∷ es) (d ∷ ds) h =
+        more_within _ _ _ _ _ (matched_ask e d L h.0 h.1 u (members v)) (patterns_ask es ds h.2)
+            (sum_by-cons (λ d. sum_by (λ x. pattern_asks o.world d.0 + cond (matches o.world u d.0 x.0) (asks o.world u d.1 x.1) 0) (members v)) d ds)
 
     module _ (Q : Path) where
-      patterns_find : (es : List Entry) (ds : List (Name × Data)) → EntriesStand o answers es ds L → patterns_report o.answers (λ n. (answers n).report) u es v Q ∼ flat_map (λ d. flat_map (λ x. report o.world u d.1 x.1 (L // d.0) (Q // x.0)) (matched_members o.world u d.0 v)) ds
+      patterns_find : (es : List Entry) (ds : List (Name × Data)) → EntriesStand o answers es ds L → patterns_report o.answers (λ n. (answers n).report) u es v Q ∼ flat_map
+          (λ d. flat_map (λ x. report o.world u d.1 x.1 (L // d.0) (Q // x.0)) (matched_members o.world u d.0 v)) ds
       patterns_find [] [] h = like_empty
       patterns_find [] (d ∷ ds) h = absurd h
       patterns_find (e ∷ es) [] h = absurd h
       patterns_find (e ∷ es) (d ∷ ds) h = ∼_append (matched_find e d L h.0 h.1 u v Q) (patterns_find es ds h.2)
 
-      patterns_show : (es : List Entry) (ds : List (Name × Data)) → EntriesStand o answers es ds L → match_trees (λ n. (answers n).tree u) v Q o.answers u es ≡ flat_map (λ d. map (λ x. tree o.world u d.1 x.1 (L // d.0) (Q // x.0)) (matched_members o.world u d.0 v)) ds
+      patterns_show : (es : List Entry) (ds : List (Name × Data)) → EntriesStand o answers es ds L → match_trees (λ n. (answers n).tree u) v Q o.answers u es ≡ flat_map
+          (λ d. map (λ x. tree o.world u d.1 x.1 (L // d.0) (Q // x.0)) (matched_members o.world u d.0 v)) ds
       patterns_show [] [] h = refl
       patterns_show [] (d ∷ ds) h = absurd h
       patterns_show (e ∷ es) [] h = absurd h
       patterns_show (e ∷ es) (d ∷ ds) h = λ i. matched_show e d L h.0 h.1 u v Q i ++ patterns_show es ds h.2 i
 
-      patterns_name : (es : List Entry) (ds : List (Name × Data)) → EntriesStand o answers es ds L → match_names (λ n. (answers n).tree u) v Q o.answers u es ≡ flat_map (λ d. map (λ x. x.0) (matched_members o.world u d.0 v)) ds
+      patterns_name : (es : List Entry) (ds : List (Name × Data)) → EntriesStand o answers es ds L → match_names (λ n. (answers n).tree u) v Q o.answers u es ≡ flat_map
+          (λ d. map (λ x. x.0) (matched_members o.world u d.0 v)) ds
       patterns_name [] [] h = refl
       patterns_name [] (d ∷ ds) h = absurd h
       patterns_name (e ∷ es) [] h = absurd h
@@ -160,7 +173,9 @@ module _ {K R N : Type 0} (o : Kit K R) (answers : N → Answers) where
   -- ---- the keyword, in either form
 
   module _ (k : KeywordOver K R N) (L : Path) (es : List Entry) (form : IsFormOfPatternProperties L es k) (u : Bool) (v : Data) where
-    of_patterns : (k : KeywordOver K R N) → IsFormOfPatternProperties L es k → ((question o answers k v).accepts u ≡ (patterns_mean o.answers o.costs (λ n. (answers n).means) es v).accepts u) × ((question o answers k v).asks u ≤ (patterns_mean o.answers o.costs (λ n. (answers n).means) es v).asks u)
+    of_patterns : (k : KeywordOver K R N) → IsFormOfPatternProperties L es k
+        → ((question o answers k v).accepts u ≡ (patterns_mean o.answers o.costs (λ n. (answers n).means) es v).accepts u)
+        × ((question o answers k v).asks u ≤ (patterns_mean o.answers o.costs (λ n. (answers n).means) es v).asks u)
     unfolding answers_of
     of_patterns (keyword.PatternProperties p) f = (
       ap (λ l. (patterns_mean o.answers o.costs (λ n. (answers n).means) l v).accepts u) f.0,
@@ -202,7 +217,8 @@ module _ {K R N : Type 0} (o : Kit K R) (answers : N → Answers) where
     means_patterns ms P p = record {
       holds = one_if_free o answers ms k (codes "patternProperties", d) pattern_properties P
           (λ u v. (of_patterns k L es form u v k form).0 ∙ patterns_accept L u v es (members d) stand ∙ sym (fact.pattern_properties_accepts o.world ms d u v))
-          (λ free u v. let f = (of_patterns k L es form u v k form).1 in let a = patterns_ask L u v es (members d) stand in let t = fact.pattern_properties_asks o.world ms d u v (restricted_read (meaning_step o.world u) ms ∙ unrestricted ms free) in omega (arith, f, a, t))
+          (λ free u v. let f = (of_patterns k L es form u v k form).1 in let a = patterns_ask L u v es (members d) stand in
+              let t = fact.pattern_properties_asks o.world ms d u v (restricted_read (meaning_step o.world u) ms ∙ unrestricted ms free) in omega (arith, f, a, t))
           (λ u v Q. like_through (∼_same (form_finds k L es form u v Q k form)) (subst (λ fs. patterns_report o.answers (λ n. (answers n).report) u es v Q ∼ fs)
           (ap (λ M. flat_map (λ e. flat_map (λ x. report o.world u e.1 x.1 (M // e.0) (Q // x.0)) (matched_members o.world u e.0 v)) (members d)) p ∙ sym (fact.pattern_properties_report o.world ms d u v P Q)) (patterns_find L u v Q es (members d) stand)));
       shows = λ u alone v Q. ap (λ t. t ∷ []) (
@@ -213,13 +229,15 @@ module _ {K R N : Type 0} (o : Kit K R) (answers : N → Answers) where
       formed = just_one_formed o answers k (patterns_formed o answers k L es form (entries_formed es (members d) L stand));
     }
 
-  pub makes_pattern_properties : (k : KeywordOver K R N) (L : Path) (v : Vec (CompiledPattern R) Global) (t : Table) (ns : List N) (es : List Entry) → es ≡ zip v.items ns → IsFormOfPatternProperties L es k → MakesMember o answers (shape.PatternProperties v t) L ns (k ∷ [])
+  pub makes_pattern_properties : (k : KeywordOver K R N) (L : Path) (v : Vec (CompiledPattern R) Global) (t : Table) (ns : List N) (es : List Entry)
+      → es ≡ zip v.items ns → IsFormOfPatternProperties L es k → MakesMember o answers (shape.PatternProperties v t) L ns (k ∷ [])
   makes_pattern_properties k L v t ns es e form ms m P p s h = subst (λ n. KeywordMeans o answers ms (k ∷ []) (n, m.1) P) (sym s.0)
       (means_patterns k L es form m.1 (subst (λ l. EntriesStand o answers l (members m.1) L) (sym e) (both_stand v.items ns (members m.1) L s.2 h)) ms P (p ∙ ap (λ n. P // n) s.0))
 
 -- ---- the form, by how many patterns there are
 
-pub is_pattern_properties : {K R N : Type 0} (k : KeywordOver K R N) (L : Path) (es all : List (CompiledPattern R × N)) → es ≡ all → IsFormOfPatternProperties L es k → IsPatternProperties L (length all) k
+pub is_pattern_properties : {K R N : Type 0} (k : KeywordOver K R N) (L : Path) (es all : List (CompiledPattern R × N)) → es ≡ all → IsFormOfPatternProperties L es k
+    → IsPatternProperties L (length all) k
 is_pattern_properties (keyword.PatternProperties p) L es all e f = (λ q. f.1 (ap length e ∙ q), f.2)
 is_pattern_properties (keyword.SingleValuePatternProperties p) L es all e f = (sym (ap length e) ∙ ap length f.0, f.1)
 is_pattern_properties x L es all e f = absurd f

@@ -63,7 +63,8 @@ module _ {N : Type 0} (n : ℕ) (ns taken left : List N) (parts : ns ≡ taken +
   left_behind = sym (drop_at taken left (length taken) refl) ∙ (λ i. drop (count i) (sym parts i)) ∙ drop_min n ns
 
   -- with names zip the nodes that are taken, one map more is cut
-  pub one_cut : (names : List Name) → length names ≡ n → (nodes : Vec N Global) → nodes.items ≡ taken → (ts : List (List Name)) (maps : List (SmallMap N)) → AreCut ts left maps → AreCut (names ∷ ts) ns (record { names = names; nodes = nodes } ∷ maps)
+  pub one_cut : (names : List Name) → length names ≡ n → (nodes : Vec N Global) → nodes.items ≡ taken → (ts : List (List Name)) (maps : List (SmallMap N))
+      → AreCut ts left maps → AreCut (names ∷ ts) ns (record { names = names; nodes = nodes } ∷ maps)
   one_cut names len nodes same ts maps h = (refl, same ∙ taken_first ∙ ap (λ k. take k ns) (sym len), subst (λ l. AreCut ts l maps) (left_behind ∙ ap (λ k. drop k ns) (sym len)) h)
 
 module _ {K R N : Type 0} (o : Kit K R) (answers : N → Answers) where
@@ -87,7 +88,8 @@ module _ {K R N : Type 0} (o : Kit K R) (answers : N → Answers) where
     each_of_all (x ∷ xs) = each_append (f x) (flat_map f xs) (g x) (flat_map g xs) L (each x) (each_of_all xs)
 
   -- what a look-up finds among the nodes, and among the entries
-  found_answers : (t : Name) (ns : List N) (es : List (Name × Data)) (L : Path) → SchemaEach ns es L → SchemaEach (option_to_list (lookup_name t (zip (map (λ e. e.0) es) ns))) (map (λ s. (t, s)) (option_to_list (lookup_name t es))) L
+  found_answers : (t : Name) (ns : List N) (es : List (Name × Data)) (L : Path) → SchemaEach ns es L → SchemaEach (option_to_list (lookup_name t (zip (map (λ e. e.0) es) ns)))
+      (map (λ s. (t, s)) (option_to_list (lookup_name t es))) L
   found_answers t [] [] L h = tt
   found_answers t [] (e ∷ es) L h = absurd h
   found_answers t (n ∷ ns) [] L h = absurd h
@@ -122,35 +124,47 @@ module _ {K R N : Type 0} (o : Kit K R) (answers : N → Answers) where
     chosen_of maps es = chosen_nodes (zip (map (λ e. e.0) es) maps) v
 
     module _ (u : Bool) where
-      choices_accept : (maps : List (SmallMap N)) (es : List (Name × Data)) (L : Path) → MapsAnswer maps es L → (every (λ n. (answers n).means v) (chosen_of maps es)).accepts u ≡ list_all (λ e. list_all (λ c. accepts o.world u c.1 v) (chosen v e)) es
+      choices_accept : (maps : List (SmallMap N)) (es : List (Name × Data)) (L : Path) → MapsAnswer maps es L
+          → (every (λ n. (answers n).means v) (chosen_of maps es)).accepts u ≡ list_all (λ e. list_all (λ c. accepts o.world u c.1 v) (chosen v e)) es
       choices_accept [] [] L h = refl
       choices_accept [] (e ∷ es) L h = absurd h
       choices_accept (m ∷ maps) [] L h = absurd h
       choices_accept (m ∷ maps) (e ∷ es) L h =
           ap (λ q. q.accepts u) (every-append (λ n. (answers n).means v) (flat_map (chosen_at m) (at e.0 v)) (chosen_of maps es))
-          ∙ (λ i. each_accept o answers (schema_answers o answers) u v (flat_map (chosen_at m) (at e.0 v)) (chosen v e) (L // e.0) (chosen_answer m e (L // e.0) h.0 h.1) i && choices_accept maps es L h.2 i)
+          ∙ (λ i. each_accept o answers (schema_answers o answers) u v (flat_map (chosen_at m) (at e.0 v)) (chosen v e) (L // e.0) (chosen_answer m e (L // e.0) h.0 h.1) i
+              && choices_accept maps es L h.2 i)
 
-      choices_ask : (maps : List (SmallMap N)) (es : List (Name × Data)) (L : Path) → MapsAnswer maps es L → (every (λ n. (answers n).means v) (chosen_of maps es)).asks u ≤ sum_by (λ e. sum_by (λ c. asks o.world u c.1 v) (chosen v e)) es
+      choices_ask : (maps : List (SmallMap N)) (es : List (Name × Data)) (L : Path) → MapsAnswer maps es L
+          → (every (λ n. (answers n).means v) (chosen_of maps es)).asks u ≤ sum_by (λ e. sum_by (λ c. asks o.world u c.1 v) (chosen v e)) es
       choices_ask [] [] L h = omega arith
       choices_ask [] (e ∷ es) L h = absurd h
       choices_ask (m ∷ maps) [] L h = absurd h
-      choices_ask (m ∷ maps) (e ∷ es) L h = subst (λ q. q.asks u ≤ sum_by (λ e. sum_by (λ c. asks o.world u c.1 v) (chosen v e)) (e ∷ es)) (sym (every-append (λ n. (answers n).means v) (flat_map (chosen_at m) (at e.0 v)) (chosen_of maps es)))
-          (more_within _ _ _ _ _ (each_ask o answers (schema_answers o answers) u v (flat_map (chosen_at m) (at e.0 v)) (chosen v e) (L // e.0) (chosen_answer m e (L // e.0) h.0 h.1)) (choices_ask maps es L h.2) (sum_by-cons (λ e. sum_by (λ c. asks o.world u c.1 v) (chosen v e)) e es))
+      choices_ask (m ∷ maps) (e ∷ es) L h =
+          subst (λ q. q.asks u ≤ sum_by (λ e. sum_by (λ c. asks o.world u c.1 v) (chosen v e)) (e ∷ es))
+              (sym (every-append (λ n. (answers n).means v) (flat_map (chosen_at m) (at e.0 v)) (chosen_of maps es)))
+          (more_within _ _ _ _ _ (each_ask o answers (schema_answers o answers) u v (flat_map (chosen_at m) (at e.0 v)) (chosen v e) (L // e.0) (chosen_answer m e (L // e.0) h.0 h.1))
+              (choices_ask maps es L h.2) (sum_by-cons (λ e. sum_by (λ c. asks o.world u c.1 v) (chosen v e)) e es))
 
       module _ (Q : Path) where
-        choices_find : (maps : List (SmallMap N)) (es : List (Name × Data)) (L : Path) → MapsAnswer maps es L → flat_map (λ n. (answers n).report u v Q) (chosen_of maps es) ∼ flat_map (λ e. flat_map (λ c. report o.world u c.1 v (L // e.0 // c.0) Q) (chosen v e)) es
+        choices_find : (maps : List (SmallMap N)) (es : List (Name × Data)) (L : Path) → MapsAnswer maps es L → flat_map (λ n. (answers n).report u v Q)
+            (chosen_of maps es) ∼ flat_map (λ e. flat_map (λ c. report o.world u c.1 v (L // e.0 // c.0) Q) (chosen v e)) es
         choices_find [] [] L h = like_empty
         choices_find [] (e ∷ es) L h = absurd h
         choices_find (m ∷ maps) [] L h = absurd h
-        choices_find (m ∷ maps) (e ∷ es) L h = subst (λ fs. fs ∼ flat_map (λ e. flat_map (λ c. report o.world u c.1 v (L // e.0 // c.0) Q) (chosen v e)) (e ∷ es)) (sym (flat_map-append (λ n. (answers n).report u v Q) (flat_map (chosen_at m) (at e.0 v)) (chosen_of maps es)))
-            (∼_append (each_find o answers (schema_answers o answers) u v Q (flat_map (chosen_at m) (at e.0 v)) (chosen v e) (L // e.0) (chosen_answer m e (L // e.0) h.0 h.1)) (choices_find maps es L h.2))
+        choices_find (m ∷ maps) (e ∷ es) L h =
+            subst (λ fs. fs ∼ flat_map (λ e. flat_map (λ c. report o.world u c.1 v (L // e.0 // c.0) Q) (chosen v e)) (e ∷ es))
+                (sym (flat_map-append (λ n. (answers n).report u v Q) (flat_map (chosen_at m) (at e.0 v)) (chosen_of maps es)))
+            (∼_append (each_find o answers (schema_answers o answers) u v Q (flat_map (chosen_at m) (at e.0 v)) (chosen v e) (L // e.0) (chosen_answer m e (L // e.0) h.0 h.1))
+                (choices_find maps es L h.2))
 
-        choices_show : (maps : List (SmallMap N)) (es : List (Name × Data)) (L : Path) → MapsAnswer maps es L → map (λ n. (answers n).tree u v Q) (chosen_of maps es) ≡ flat_map (λ e. map (λ c. tree o.world u c.1 v (L // e.0 // c.0) Q) (chosen v e)) es
+        choices_show : (maps : List (SmallMap N)) (es : List (Name × Data)) (L : Path) → MapsAnswer maps es L → map (λ n. (answers n).tree u v Q)
+            (chosen_of maps es) ≡ flat_map (λ e. map (λ c. tree o.world u c.1 v (L // e.0 // c.0) Q) (chosen v e)) es
         choices_show [] [] L h = refl
         choices_show [] (e ∷ es) L h = absurd h
         choices_show (m ∷ maps) [] L h = absurd h
         choices_show (m ∷ maps) (e ∷ es) L h = map-append (λ n. (answers n).tree u v Q) (flat_map (chosen_at m) (at e.0 v)) (chosen_of maps es)
-            ∙ (λ i. each_show o answers (schema_answers o answers) u v Q (flat_map (chosen_at m) (at e.0 v)) (chosen v e) (L // e.0) (chosen_answer m e (L // e.0) h.0 h.1) i ++ choices_show maps es L h.2 i)
+            ∙ (λ i. each_show o answers (schema_answers o answers) u v Q (flat_map (chosen_at m) (at e.0 v)) (chosen v e) (L // e.0) (chosen_answer m e (L // e.0) h.0 h.1) i
+                ++ choices_show maps es L h.2 i)
 
   -- ---- the validator
 
@@ -168,11 +182,15 @@ module _ {K R N : Type 0} (o : Kit K R) (answers : N → Answers) where
 
       choice_asks : (question o answers (choices_of m L) v).asks u ≤ sum_by (λ e. sum_by (λ c. asks o.world u c.1 v) (chosen v e)) (members d)
       unfolding answers_of
-      choice_asks = subst (λ ks. (every (λ n. (answers n).means v) (chosen_among ks)).asks u ≤ sum_by (λ e. sum_by (λ c. asks o.world u c.1 v) (chosen v e)) (members d)) (sym names) (choices_ask v u m.nodes.items (members d) L stand)
+      choice_asks =
+          subst (λ ks. (every (λ n. (answers n).means v) (chosen_among ks)).asks u ≤ sum_by (λ e. sum_by (λ c. asks o.world u c.1 v) (chosen v e)) (members d))
+              (sym names) (choices_ask v u m.nodes.items (members d) L stand)
 
       choice_finds : (Q : Path) → found o answers u (choices_of m L) v Q ∼ flat_map (λ e. flat_map (λ c. report o.world u c.1 v (L // e.0 // c.0) Q) (chosen v e)) (members d)
       unfolding answers_of
-      choice_finds Q = subst (λ ks. flat_map (λ n. (answers n).report u v Q) (chosen_among ks) ∼ flat_map (λ e. flat_map (λ c. report o.world u c.1 v (L // e.0 // c.0) Q) (chosen v e)) (members d)) (sym names) (choices_find v u Q m.nodes.items (members d) L stand)
+      choice_finds Q =
+          subst (λ ks. flat_map (λ n. (answers n).report u v Q) (chosen_among ks) ∼ flat_map (λ e. flat_map (λ c. report o.world u c.1 v (L // e.0 // c.0) Q) (chosen v e)) (members d))
+              (sym names) (choices_find v u Q m.nodes.items (members d) L stand)
 
       choice_shows : (Q : Path) → shown o answers u (choices_of m L) v Q ≡ plain L Q (flat_map (λ e. map (λ c. tree o.world u c.1 v (L // e.0 // c.0) Q) (chosen v e)) (members d))
       unfolding answers_of
@@ -187,8 +205,12 @@ module _ {K R N : Type 0} (o : Kit K R) (answers : N → Answers) where
       holds = one o answers ms (choices_of m L) (codes "propertyDependencies", d) property_dependencies P
           (λ u v. choice_accepts u v ∙ sym (fact.property_dependencies_accepts o.world ms d u v))
           (λ u v. same_within _ _ _ (choice_asks u v) (fact.property_dependencies_asks o.world ms d u v))
-          (λ u v Q. subst (λ fs. found o answers u (choices_of m L) v Q ∼ fs) (ap (λ M. flat_map (λ e. flat_map (λ c. report o.world u c.1 v (M // e.0 // c.0) Q) (chosen v e)) (members d)) p ∙ sym (fact.property_dependencies_report o.world ms d u v P Q)) (choice_finds u v Q));
-      shows = λ u h v Q. ap (λ t. t ∷ []) (choice_shows u v Q ∙ ap (λ M. plain M Q (flat_map (λ e. map (λ c. tree o.world u c.1 v (M // e.0 // c.0) Q) (chosen v e)) (members d))) p) ∙ sym (fact.property_dependencies_child o.world ms d u v P Q);
+          (λ u v Q. subst (λ fs. found o answers u (choices_of m L) v Q ∼ fs)
+              (ap (λ M. flat_map (λ e. flat_map (λ c. report o.world u c.1 v (M // e.0 // c.0) Q) (chosen v e)) (members d)) p
+              ∙ sym (fact.property_dependencies_report o.world ms d u v P Q)) (choice_finds u v Q));
+      shows =
+          λ u h v Q. ap (λ t. t ∷ []) (choice_shows u v Q ∙ ap (λ M. plain M Q (flat_map (λ e. map (λ c. tree o.world u c.1 v (M // e.0 // c.0) Q) (chosen v e)) (members d))) p)
+              ∙ sym (fact.property_dependencies_child o.world ms d u v P Q);
       formed = just_one_formed o answers (choices_of m L) choices_formed;
     }
 
@@ -201,7 +223,8 @@ module _ {K R N : Type 0} (o : Kit K R) (answers : N → Answers) where
   stand_count (n ∷ ns) [] L h = absurd h
   stand_count (n ∷ ns) (e ∷ es) L h = ap suc (stand_count ns es L h.1)
 
-  maps_answer : (ts : List (List Name)) (ns : List N) (maps : List (SmallMap N)) (es : List (Name × Data)) (L : Path) → AreCut ts ns maps → ts ≡ map (λ e. names_of e.1) es → StandInner o answers ns es L → MapsAnswer maps es L
+  maps_answer : (ts : List (List Name)) (ns : List N) (maps : List (SmallMap N)) (es : List (Name × Data)) (L : Path) → AreCut ts ns maps
+      → ts ≡ map (λ e. names_of e.1) es → StandInner o answers ns es L → MapsAnswer maps es L
   maps_answer [] ns [] [] L h q stand = tt
   maps_answer [] ns (m ∷ maps) es L h q stand = absurd h
   maps_answer [] ns [] (e ∷ es) L h q stand = absurd (true≢false (ap is_empty q))
@@ -213,10 +236,12 @@ module _ {K R N : Type 0} (o : Kit K R) (answers : N → Answers) where
       let name : t ≡ names_of e.1 = ap (λ l. get_or l 0 []) q in
       let count : length here ≡ length t = sym (ap length name ∙ stand_count here (members e.1) (L // e.0) stand.3) in (
         h.0 ∙ name,
-        subst (λ l. SchemaEach l (members e.1) (L // e.0)) (sym (h.1 ∙ ap (take (length t)) stand.2 ∙ take_at here after (length t) count)) (schemas_answer o answers here (members e.1) (L // e.0) stand.3),
+        subst (λ l. SchemaEach l (members e.1) (L // e.0)) (sym (h.1 ∙ ap (take (length t)) stand.2 ∙ take_at here after (length t) count))
+            (schemas_answer o answers here (members e.1) (L // e.0) stand.3),
         maps_answer ts (drop (length t) ns) maps es L h.2 (ap (drop 1) q) (subst (λ l. StandInner o answers l es L) (sym (ap (drop (length t)) stand.2 ∙ drop_at here after (length t) count)) stand.4),
       )
 
-  pub makes_property_dependencies : (m : SmallMap (SmallMap N)) (texts : Vec (List Name) Global) (ns : List N) (L : Path) → AreCut texts.items ns m.nodes.items → MakesMember o answers (shape.PropertyDependencies m.names texts) L ns (choices_of m L ∷ [])
+  pub makes_property_dependencies : (m : SmallMap (SmallMap N)) (texts : Vec (List Name) Global) (ns : List N) (L : Path) → AreCut texts.items ns m.nodes.items
+      → MakesMember o answers (shape.PropertyDependencies m.names texts) L ns (choices_of m L ∷ [])
   makes_property_dependencies m texts ns L is ms x P p s h = subst (λ n. KeywordMeans o answers ms (choices_of m L ∷ []) (n, x.1) P) (sym s.0)
       (means_property_dependencies m L x.1 s.2 (maps_answer texts.items ns m.nodes.items (members x.1) L is s.3 h) ms P (p ∙ ap (λ n. P // n) s.0))

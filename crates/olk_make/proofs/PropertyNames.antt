@@ -59,7 +59,9 @@ module _ {K R N : Type 0} (o : Kit K R) (answers : N → Answers) where
 
       schema_finds : (Q : Path) → found o answers u names_of v Q ∼ flat_map (λ x. map (wrapped v Q) (report o.world u d (string x.0) L Q)) (members v)
       unfolding answers_of
-      schema_finds Q = ∼_flat_map_any (λ x. map (wrapped v Q) ((answers n).report u (string x.0) Q)) (λ x. map (wrapped v Q) (report o.world u d (string x.0) L Q)) (λ x. fact.∼_wrapped v Q (stands.faults u (string x.0) Q)) (members v)
+      schema_finds Q =
+          ∼_flat_map_any (λ x. map (wrapped v Q) ((answers n).report u (string x.0) Q)) (λ x. map (wrapped v Q) (report o.world u d (string x.0) L Q))
+              (λ x. fact.∼_wrapped v Q (stands.faults u (string x.0) Q)) (members v)
 
       schema_shows : (Q : Path) → shown o answers u names_of v Q ≡ plain L Q (map (λ x. tree o.world u d (string x.0) L Q) (members v))
       unfolding answers_of
@@ -69,13 +71,17 @@ module _ {K R N : Type 0} (o : Kit K R) (answers : N → Answers) where
     unfolding answers_of
     names_formed = refl
 
-    means_property_names : (d : Data) → is_object d ≡ true → Stands o answers n d L → (ms : Members) (P : Path) → L ≡ P // codes "propertyNames" → KeywordMeans o answers ms (names_of ∷ []) (codes "propertyNames", d) P
+    means_property_names : (d : Data) → is_object d ≡ true → Stands o answers n d L → (ms : Members) (P : Path) → L ≡ P // codes "propertyNames"
+        → KeywordMeans o answers ms (names_of ∷ []) (codes "propertyNames", d) P
     means_property_names d is stands ms P p = record {
       holds = one o answers ms names_of (codes "propertyNames", d) property_names P
           (λ u v. schema_accepts d stands u v ∙ sym (fact.property_names_accepts o.world ms d u v is))
           (λ u v. same_within _ _ _ (schema_asks d stands u v) (fact.property_names_asks o.world ms d u v))
-          (λ u v Q. subst (λ fs. found o answers u names_of v Q ∼ fs) (ap (λ M. flat_map (λ x. map (wrapped v Q) (report o.world u d (string x.0) M Q)) (members v)) p ∙ sym (fact.property_names_report o.world ms d u v is P Q)) (schema_finds d stands u v Q));
-      shows = λ u h v Q. ap (λ t. t ∷ []) (schema_shows d stands u v Q ∙ ap (λ M. plain M Q (map (λ x. tree o.world u d (string x.0) M Q) (members v))) p) ∙ sym (fact.property_names_child o.world ms d u v is P Q);
+          (λ u v Q. subst (λ fs. found o answers u names_of v Q ∼ fs) (ap (λ M. flat_map (λ x. map (wrapped v Q) (report o.world u d (string x.0) M Q)) (members v)) p
+              ∙ sym (fact.property_names_report o.world ms d u v is P Q)) (schema_finds d stands u v Q));
+      shows =
+          λ u h v Q. ap (λ t. t ∷ []) (schema_shows d stands u v Q ∙ ap (λ M. plain M Q (map (λ x. tree o.world u d (string x.0) M Q) (members v))) p)
+              ∙ sym (fact.property_names_child o.world ms d u v is P Q);
       formed = just_one_formed o answers names_of (names_formed ∙ stands.formed);
     }
 
@@ -86,9 +92,6 @@ module _ {K R N : Type 0} (o : Kit K R) (answers : N → Answers) where
         by [] g = subst (λ k. KeywordMeans o answers ms (names_of ∷ []) (k, m.1) P) (sym s.0) (means_property_names m.1 s.1 g ms P (p ∙ ap (λ k. P // k) s.0))
         by (x ∷ []) g = absurd g
         by (x ∷ y ∷ before) g = absurd g
-
-  pub makes_no_property_names : (L : Path) (ns : List N) (ks : List (KeywordOver K R N)) → ns ≡ [] → MakesMember o answers shape.PropertyNames L ns ks
-  makes_no_property_names L ns ks e ms m P p s h = absurd (subst (λ l. StandAt o answers Itself l m.1 L) e h)
 
   -- ---- no name at all
 

@@ -38,7 +38,8 @@ last_of_named : (k : Name) (es : List (Name × Data)) (d : Option Data) → last
 last_of_named k [] d = refl
 last_of_named k (e ∷ es) d = by (last_of_named k es) (bytes_eq k e.0) refl
   where
-    by : ((x : Option Data) → last_named k es x ≡ last_named k (members_named k es) x) → (b : Bool) → bytes_eq k e.0 ≡ b → last_named k es (cond b (Some e.1) d) ≡ last_named k (put_if b e (members_named k es)) d
+    by : ((x : Option Data) → last_named k es x ≡ last_named k (members_named k es) x) → (b : Bool) → bytes_eq k e.0 ≡ b
+        → last_named k es (cond b (Some e.1) d) ≡ last_named k (put_if b e (members_named k es)) d
     by later true q = later (Some e.1) ∙ ap (λ c. last_named k (members_named k es) (cond c (Some e.1) d)) (sym q)
     by later false q = later d
 
@@ -64,7 +65,8 @@ those_more : {X : Type 0} (test : X → Bool) (xs : List X) (x : X) → filter_o
 those_more test [] x = refl
 those_more test (y ∷ xs) x = by (test y) (those_more test xs x)
   where
-    by : (b : Bool) → filter_once test (xs ++ x ∷ []) ≡ filter_once test xs ++ put_if (test x) x [] → put_if b y (filter_once test (xs ++ x ∷ [])) ≡ put_if b y (filter_once test xs) ++ put_if (test x) x []
+    by : (b : Bool) → filter_once test (xs ++ x ∷ []) ≡ filter_once test xs ++ put_if (test x) x [] → put_if b y (filter_once test (xs ++ x ∷ [])) ≡ put_if b y
+        (filter_once test xs) ++ put_if (test x) x []
     by true h = ap (λ l. y ∷ l) h
     by false h = h
 
@@ -95,13 +97,16 @@ is_nameless unread = true
 is_nameless w = false
 
 nameless_not_taken : (W : World) (p : Planned) (k : Name) → is_nameless (keyword_named W k) ≡ true → is_taken p k ≡ false
-nameless_not_taken W p k h = not_taken p k (λ r i. away (codes "properties") refl i || (away (codes "patternProperties") refl i || false)) (λ c i. away (codes "then") refl i || (away (codes "else") refl i || false))
+nameless_not_taken W p k h =
+    not_taken p k (λ r i. away (codes "properties") refl i || (away (codes "patternProperties") refl i || false)) (λ c i. away (codes "then") refl i || (away (codes "else") refl i || false))
   where
     away : (n : Name) → is_nameless (keyword_named W n) ≡ false → bytes_eq k n ≡ false
     away n = apart_by (λ x. is_nameless (keyword_named W x)) k n h
 
 unpaired_not_taken : (p : Planned) (k : Name) → is_conditional_name k ≡ true → p.condition ≡ false → is_taken p k ≡ false
-unpaired_not_taken p k h off = not_taken p k (λ r i. apart_by is_conditional_name k (codes "properties") h refl i || (apart_by is_conditional_name k (codes "patternProperties") h refl i || false)) (λ c. absurd (true≢false (sym c ∙ off)))
+unpaired_not_taken p k h off =
+    not_taken p k (λ r i. apart_by is_conditional_name k (codes "properties") h refl i || (apart_by is_conditional_name k (codes "patternProperties") h refl i || false))
+        (λ c. absurd (true≢false (sym c ∙ off)))
 
 module _ {K R N : Type 0} (o : Kit K R) (answers : N → Answers) where
   -- ---- one part
@@ -133,12 +138,16 @@ module _ {K R N : Type 0} (o : Kit K R) (answers : N → Answers) where
     parts_append (x ∷ ps) qs [] fs h s = absurd h
     parts_append (x ∷ ps) qs (m ∷ es) fs h s = (h.0, parts_append ps qs es fs h.1 s)
 
-    module _ (same : c.condition ≡ p.condition) (ps : List (Part K R N)) (done : List (Name × Data)) (t after : Taken R N) (h : AreTaken o answers p c done P t ps) (k : Name) (d : Data) (part : Part K R N) (left : Option (Part K R N)) (stand : PartStands o answers c part (k, d) P) where
+    module _ (same : c.condition ≡ p.condition) (ps : List (Part K R N)) (done : List (Name × Data)) (t after : Taken R N) (h : AreTaken o answers p c done P t ps)
+        (k : Name) (d : Data) (part : Part K R N) (left : Option (Part K R N)) (stand : PartStands o answers c part (k, d) P) where
       abbrev TakenAfter : Type 0
       TakenAfter = AreTaken o answers p c (done ++ (k, d) ∷ []) P after (ps ++ option_to_list left)
 
       left_after : (b : Bool) → is_taken p k ≡ b → left ≡ cond b None (Some part) → PartsStand o answers c (ps ++ option_to_list left) (untaken p (done ++ (k, d) ∷ [])) P
-      left_after b e q = subst₂ (λ l es. PartsStand o answers c l es P) (ap (λ x. ps ++ option_to_list x) (sym q)) (sym (those_more (λ m. not (is_taken p m.0)) done (k, d) ∙ ap (λ x. untaken p done ++ put_if (not x) (k, d) []) e)) (parts_append ps (option_to_list (cond b None (Some part))) (untaken p done) (put_if (not b) (k, d) []) h.left (by b))
+      left_after b e q =
+          subst₂ (λ l es. PartsStand o answers c l es P) (ap (λ x. ps ++ option_to_list x) (sym q))
+              (sym (those_more (λ m. not (is_taken p m.0)) done (k, d) ∙ ap (λ x. untaken p done ++ put_if (not x) (k, d) []) e))
+              (parts_append ps (option_to_list (cond b None (Some part))) (untaken p done) (put_if (not b) (k, d) []) h.left (by b))
         where
           by : (b : Bool) → PartsStand o answers c (option_to_list (cond b None (Some part))) (put_if (not b) (k, d) []) P
           by true = tt
@@ -157,8 +166,12 @@ module _ {K R N : Type 0} (o : Kit K R) (answers : N → Answers) where
         left = left_after false e q.0;
         at_then = λ read. slot_kept _ (codes "then") (ap (λ x. x.cases.then_schema) q.1) (apart_by (is_taken p) (codes "then") k (case_is_taken p (codes "then") read refl) e) (h.at_then read);
         at_else = λ read. slot_kept _ (codes "else") (ap (λ x. x.cases.else_schema) q.1) (apart_by (is_taken p) (codes "else") k (case_is_taken p (codes "else") read refl) e) (h.at_else read);
-        at_properties = λ restricted. slot_kept _ (codes "properties") (ap (λ x. x.beside.properties) q.1) (apart_by (is_taken p) (codes "properties") k (telling_is_taken p (codes "properties") restricted refl) e) (h.at_properties restricted);
-        at_patterns = λ restricted. slot_kept _ (codes "patternProperties") (ap (λ x. x.beside.patterns) q.1) (apart_by (is_taken p) (codes "patternProperties") k (telling_is_taken p (codes "patternProperties") restricted refl) e) (h.at_patterns restricted);
+        at_properties =
+            λ restricted. slot_kept _ (codes "properties") (ap (λ x. x.beside.properties) q.1)
+                (apart_by (is_taken p) (codes "properties") k (telling_is_taken p (codes "properties") restricted refl) e) (h.at_properties restricted);
+        at_patterns =
+            λ restricted. slot_kept _ (codes "patternProperties") (ap (λ x. x.beside.patterns) q.1)
+                (apart_by (is_taken p) (codes "patternProperties") k (telling_is_taken p (codes "patternProperties") restricted refl) e) (h.at_patterns restricted);
       }
 
       where_restricted : (T : Type 0) → cond p.restricted T ((left ≡ Some part) × (after ≡ t)) → is_case k ≡ false → (p.restricted ≡ true → T → TakenAfter) → TakenAfter
@@ -171,7 +184,9 @@ module _ {K R N : Type 0} (o : Kit K R) (answers : N → Answers) where
       one_taken : (x : Shape K R) → IsShape o k d x → Fits o c x → StandAt o answers (reads_of x) part.nodes.items d (P // k) → Takes p x part t after left → TakenAfter
       one_taken shape.Then s f n q = record {
         left = left_after true (ap (is_taken p) s ∙ case_is_taken p (codes "then") (sym same ∙ f) refl) q.0;
-        at_then = λ read. slot_filled _ (codes "then") _ s (taken_stands part.nodes.items after.cases.then_schema d (P // codes "then") q.1 (subst (λ a. StandAt o answers Itself part.nodes.items d (P // a)) s n));
+        at_then =
+            λ read. slot_filled _ (codes "then") _ s (taken_stands part.nodes.items after.cases.then_schema d (P // codes "then") q.1
+                (subst (λ a. StandAt o answers Itself part.nodes.items d (P // a)) s n));
         at_else = λ read. slot_kept _ (codes "else") q.2 (ap (bytes_eq (codes "else")) s) (h.at_else read);
         at_properties = λ restricted. slot_kept _ (codes "properties") (ap (λ b. b.properties) q.3) (ap (bytes_eq (codes "properties")) s) (h.at_properties restricted);
         at_patterns = λ restricted. slot_kept _ (codes "patternProperties") (ap (λ b. b.patterns) q.3) (ap (bytes_eq (codes "patternProperties")) s) (h.at_patterns restricted);
@@ -179,7 +194,9 @@ module _ {K R N : Type 0} (o : Kit K R) (answers : N → Answers) where
       one_taken shape.Else s f n q = record {
         left = left_after true (ap (is_taken p) s ∙ case_is_taken p (codes "else") (sym same ∙ f) refl) q.0;
         at_then = λ read. slot_kept _ (codes "then") q.2 (ap (bytes_eq (codes "then")) s) (h.at_then read);
-        at_else = λ read. slot_filled _ (codes "else") _ s (taken_stands part.nodes.items after.cases.else_schema d (P // codes "else") q.1 (subst (λ a. StandAt o answers Itself part.nodes.items d (P // a)) s n));
+        at_else =
+            λ read. slot_filled _ (codes "else") _ s (taken_stands part.nodes.items after.cases.else_schema d (P // codes "else") q.1
+                (subst (λ a. StandAt o answers Itself part.nodes.items d (P // a)) s n));
         at_properties = λ restricted. slot_kept _ (codes "properties") (ap (λ b. b.properties) q.3) (ap (bytes_eq (codes "properties")) s) (h.at_properties restricted);
         at_patterns = λ restricted. slot_kept _ (codes "patternProperties") (ap (λ b. b.patterns) q.3) (ap (bytes_eq (codes "patternProperties")) s) (h.at_patterns restricted);
       }
@@ -187,7 +204,9 @@ module _ {K R N : Type 0} (o : Kit K R) (answers : N → Answers) where
         left = left_after true (telling_is_taken p k restricted (ap tells_members s.0)) e.0;
         at_then = λ read. slot_kept _ (codes "then") (ap (λ x. x.cases.then_schema) e.1) (ap (bytes_eq (codes "then")) s.0) (h.at_then read);
         at_else = λ read. slot_kept _ (codes "else") (ap (λ x. x.cases.else_schema) e.1) (ap (bytes_eq (codes "else")) s.0) (h.at_else read);
-        at_properties = λ r. slot_filled _ (codes "properties") _ s.0 (subst (λ x. Fills (λ y. DeclaredStand o answers y (P // codes "properties")) x (Some d)) (sym (ap (λ x. x.beside.properties) e.1)) (record { kind = s.1; names = s.2; nodes = subst (λ a. StandEach o answers part.nodes.items (members d) (P // a)) s.0 n }));
+        at_properties =
+            λ r. slot_filled _ (codes "properties") _ s.0 (subst (λ x. Fills (λ y. DeclaredStand o answers y (P // codes "properties")) x (Some d))
+                (sym (ap (λ x. x.beside.properties) e.1)) (record { kind = s.1; names = s.2; nodes = subst (λ a. StandEach o answers part.nodes.items (members d) (P // a)) s.0 n }));
         at_patterns = λ r. slot_kept _ (codes "patternProperties") (ap (λ x. x.beside.patterns) e.1) (ap (bytes_eq (codes "patternProperties")) s.0) (h.at_patterns r);
       }
       one_taken (shape.PatternProperties v w) s f n q = where_restricted _ q (ap is_case s.0) λ restricted e. record {
@@ -195,7 +214,10 @@ module _ {K R N : Type 0} (o : Kit K R) (answers : N → Answers) where
         at_then = λ read. slot_kept _ (codes "then") (ap (λ x. x.cases.then_schema) e.1) (ap (bytes_eq (codes "then")) s.0) (h.at_then read);
         at_else = λ read. slot_kept _ (codes "else") (ap (λ x. x.cases.else_schema) e.1) (ap (bytes_eq (codes "else")) s.0) (h.at_else read);
         at_properties = λ r. slot_kept _ (codes "properties") (ap (λ x. x.beside.properties) e.1) (ap (bytes_eq (codes "properties")) s.0) (h.at_properties r);
-        at_patterns = λ r. slot_filled _ (codes "patternProperties") _ s.0 (subst (λ x. Fills (λ y. PatternsStand o answers c y (P // codes "patternProperties")) x (Some d)) (sym (ap (λ x. x.beside.patterns) e.1)) (record { place = stand.place ∙ ap (λ a. P // a) s.0; kind = s.1; patterns = s.2; names = f.0; table = f.1; nodes = subst (λ a. StandEach o answers part.nodes.items (members d) (P // a)) s.0 n }));
+        at_patterns =
+            λ r. slot_filled _ (codes "patternProperties") _ s.0 (subst (λ x. Fills (λ y. PatternsStand o answers c y (P // codes "patternProperties")) x (Some d))
+                (sym (ap (λ x. x.beside.patterns) e.1)) (record { place = stand.place ∙ ap (λ a. P // a) s.0; kind = s.1; patterns = s.2; names = f.0;
+                table = f.1; nodes = subst (λ a. StandEach o answers part.nodes.items (members d) (P // a)) s.0 n }));
       }
       one_taken (shape.Leaf l) s f n q = kept (nameless_not_taken o.world p k (ap is_nameless s.0)) q
       one_taken shape.Unread s f n q = kept (nameless_not_taken o.world p k (ap is_nameless s)) q
@@ -206,7 +228,8 @@ module _ {K R N : Type 0} (o : Kit K R) (answers : N → Answers) where
     -- ---- the parts of an object, one after the other
 
     -- nothing is taken by a plan that reads no `if` and restricts no members
-    pub nothing_to_take : (es : List (Name × Data)) (t : Taken R N) (ps : List (Part K R N)) → p.condition ≡ false → p.restricted ≡ false → PartsStand o answers c ps es P → AreTaken o answers p c es P t ps
+    pub nothing_to_take : (es : List (Name × Data)) (t : Taken R N) (ps : List (Part K R N)) → p.condition ≡ false → p.restricted ≡ false
+        → PartsStand o answers c ps es P → AreTaken o answers p c es P t ps
     nothing_to_take es t ps off free h = record {
       left = subst (λ l. PartsStand o answers c ps l P) (sym (untaken_all p off free es)) h;
       at_then = λ read. absurd (true≢false (sym read ∙ off));
@@ -224,7 +247,8 @@ module _ {K R N : Type 0} (o : Kit K R) (answers : N → Answers) where
         pub stand : PartsStand o answers c rest left P
         pub whole : done ++ left ≡ es
 
-      pub none_taken : (t : Taken R N) (ps rest : List (Part K R N)) → t.cases.then_schema ≡ None → t.cases.else_schema ≡ None → t.beside.properties ≡ None → t.beside.patterns ≡ None → ps ≡ [] → PartsStand o answers c rest es P → TakenSoFar t ps rest
+      pub none_taken : (t : Taken R N) (ps rest : List (Part K R N)) → t.cases.then_schema ≡ None → t.cases.else_schema ≡ None → t.beside.properties ≡ None
+          → t.beside.patterns ≡ None → ps ≡ [] → PartsStand o answers c rest es P → TakenSoFar t ps rest
       none_taken t ps rest no_then no_else no_properties no_patterns e h = record {
         done = [];
         left = es;
@@ -239,7 +263,8 @@ module _ {K R N : Type 0} (o : Kit K R) (answers : N → Answers) where
         whole = refl;
       }
 
-      pub one_more_taken : (t after : Taken R N) (ps new rest all : List (Part K R N)) (part : Part K R N) (left : Option (Part K R N)) → c.condition ≡ p.condition → new ≡ ps ++ option_to_list left → all ≡ part ∷ rest → Takes p part.shape part t after left → TakenSoFar t ps all → TakenSoFar after new rest
+      pub one_more_taken : (t after : Taken R N) (ps new rest all : List (Part K R N)) (part : Part K R N) (left : Option (Part K R N)) → c.condition ≡ p.condition
+          → new ≡ ps ++ option_to_list left → all ≡ part ∷ rest → Takes p part.shape part t after left → TakenSoFar t ps all → TakenSoFar after new rest
       one_more_taken t after ps new rest all part left same q e takes h = by h.left (subst (λ l. PartsStand o answers c l h.left P) e h.stand) h.whole
         where
           by : (members : List (Name × Data)) → PartsStand o answers c (part ∷ rest) members P → h.done ++ members ≡ es → TakenSoFar after new rest
@@ -247,7 +272,9 @@ module _ {K R N : Type 0} (o : Kit K R) (answers : N → Answers) where
           by (m ∷ members) stand w = record {
             done = h.done ++ m ∷ [];
             left = members;
-            taken = subst (AreTaken o answers p c (h.done ++ m ∷ []) P after) (sym q) (one_taken same ps h.done t after h.taken m.0 m.1 part left stand.0 part.shape stand.0.shape stand.0.fits stand.0.nodes takes);
+            taken =
+                subst (AreTaken o answers p c (h.done ++ m ∷ []) P after) (sym q)
+                    (one_taken same ps h.done t after h.taken m.0 m.1 part left stand.0 part.shape stand.0.shape stand.0.fits stand.0.nodes takes);
             stand = stand.1;
             whole = append_assoc h.done (m ∷ []) members ∙ w;
           }
@@ -260,7 +287,8 @@ module _ {K R N : Type 0} (o : Kit K R) (answers : N → Answers) where
           by (m ∷ left) stand w = absurd stand
 
   -- in an object, where no name stands twice
-  module _ (ms : Members) (P : Path) (t : Taken R N) (ps : List (Part K R N)) (distinct : has_repeat (names_of (listed ms)) ≡ false) (h : AreTaken o answers (plan_of ms) (known_of ms) (listed ms) P t ps) where
+  module _ (ms : Members) (P : Path) (t : Taken R N) (ps : List (Part K R N)) (distinct : has_repeat (names_of (listed ms)) ≡ false)
+      (h : AreTaken o answers (plan_of ms) (known_of ms) (listed ms) P t ps) where
     pub cases_stand : is_condition ms ≡ true → CasesStand o answers t.cases ms P
     cases_stand read = (
       subst (λ d. Fills (λ n x. Stands o answers n x (P // codes "then")) t.cases.then_schema d) (last_is_found ms distinct (codes "then")) (h.at_then read),
@@ -270,5 +298,6 @@ module _ {K R N : Type 0} (o : Kit K R) (answers : N → Answers) where
     pub beside_stands : is_restricted ms ≡ true → BesideStands o answers (known_of ms) t.beside ms P
     beside_stands restricted = (
       subst (λ d. Fills (λ x. DeclaredStand o answers x (P // codes "properties")) t.beside.properties d) (last_is_found ms distinct (codes "properties")) (h.at_properties restricted),
-      subst (λ d. Fills (λ x. PatternsStand o answers (known_of ms) x (P // codes "patternProperties")) t.beside.patterns d) (last_is_found ms distinct (codes "patternProperties")) (h.at_patterns restricted),
+      subst (λ d. Fills (λ x. PatternsStand o answers (known_of ms) x (P // codes "patternProperties")) t.beside.patterns d)
+          (last_is_found ms distinct (codes "patternProperties")) (h.at_patterns restricted),
     )

@@ -32,7 +32,8 @@ use Rattle.olk_meaning.proofs.Heads.{names_of, claims_are_all}
 
 -- ---- questions one after another
 
-every-append : {X : Type 0} (f : X → Question) (xs ys : List X) (u : Bool) → ((every f (xs ++ ys)).accepts u ≡ ((every f xs).accepts u && (every f ys).accepts u)) × ((every f (xs ++ ys)).asks u ≡ (every f xs).asks u + (every f ys).asks u)
+every-append : {X : Type 0} (f : X → Question) (xs ys : List X) (u : Bool) → ((every f (xs ++ ys)).accepts u ≡ ((every f xs).accepts u && (every f ys).accepts u))
+    × ((every f (xs ++ ys)).asks u ≡ (every f xs).asks u + (every f ys).asks u)
 every-append f [] ys u = (refl, omega arith)
 every-append f (x ∷ xs) ys u = (
   ap (λ b. (f x).accepts u && b) (every-append f xs ys u).0 ∙ sym (and_assoc ((f x).accepts u) ((every f xs).accepts u) ((every f ys).accepts u)),
@@ -51,7 +52,8 @@ module _ {K R N : Type 0} (o : Kit K R) (answers : N → Answers) where
     }
 
     -- what one member means alone
-    pub means_alone : (ks : List (KeywordOver K R N)) (e : Name × Data) → (is_restricted ms && tells_members e.0) ≡ false → (all_malformed o ms P (listed ms) ≡ [] → (u : Bool) → StandsAlone o.world u ms e (which o ms e)) → KeywordMeans o answers ms ks e P → KeywordsMean o answers ms ks (e ∷ []) (e ∷ []) P
+    pub means_alone : (ks : List (KeywordOver K R N)) (e : Name × Data) → (is_restricted ms && tells_members e.0) ≡ false
+        → (all_malformed o ms P (listed ms) ≡ [] → (u : Bool) → StandsAlone o.world u ms e (which o ms e)) → KeywordMeans o answers ms ks e P → KeywordsMean o answers ms ks (e ∷ []) (e ∷ []) P
     means_alone ks e untaken alone k = record {
       covers = record {
         verdict = λ u v. k.holds.verdict u v ∙ sym (and-true (member_accepts o.world ms e (which o ms e) u v));
@@ -66,7 +68,8 @@ module _ {K R N : Type 0} (o : Kit K R) (answers : N → Answers) where
       formed = k.formed;
     }
 
-    more_keywords : (ks ls new : List (KeywordOver K R N)) (rows more es fs : List (Name × Data)) → new ≡ ks ++ ls → KeywordsMean o answers ms ks rows es P → KeywordsMean o answers ms ls more fs P → KeywordsMean o answers ms new (rows ++ more) (es ++ fs) P
+    more_keywords : (ks ls new : List (KeywordOver K R N)) (rows more es fs : List (Name × Data)) → new ≡ ks ++ ls → KeywordsMean o answers ms ks rows es P
+        → KeywordsMean o answers ms ls more fs P → KeywordsMean o answers ms new (rows ++ more) (es ++ fs) P
     more_keywords ks ls new rows more es fs q h k = subst (λ x. KeywordsMean o answers ms x (rows ++ more) (es ++ fs) P) (sym q) record {
       covers = record {
         verdict = λ u v. (every-append (λ k. validator_means o (λ n. (answers n).means) k v) ks ls u).0 ∙ (λ i. h.covers.verdict u v i && k.covers.verdict u v i) ∙ sym (list_all-append _ rows more);
@@ -91,15 +94,19 @@ module _ {K R N : Type 0} (o : Kit K R) (answers : N → Answers) where
       faults = λ u v Q. like_through (h.faults u v Q) (∼_permuted (λ m. member_report o.world ms m (which o ms m) u v P Q) rows others same);
     }
 
-    pub means_permuted : (ks : List (KeywordOver K R N)) (rows others es : List (Name × Data)) → IsPermutation rows others → KeywordsMean o answers ms ks rows es P → KeywordsMean o answers ms ks others es P
+    pub means_permuted : (ks : List (KeywordOver K R N)) (rows others es : List (Name × Data)) → IsPermutation rows others → KeywordsMean o answers ms ks rows es P
+        → KeywordsMean o answers ms ks others es P
     means_permuted ks rows others es same h = record { covers = covers_permuted ks rows others same h.covers; shows = h.shows; formed = h.formed }
 
     module _ (heads : Name → Name) where
-      pub one_more_keyword : (ks ls new : List (KeywordOver K R N)) (es : List (Name × Data)) (e : Name × Data) → new ≡ ks ++ ls → KeywordsMean o answers ms ks (flat_map (claims heads (listed ms)) es) es P → KeywordsMean o answers ms ls (claims heads (listed ms) e) (e ∷ []) P → KeywordsMean o answers ms new (flat_map (claims heads (listed ms)) (es ++ e ∷ [])) (es ++ e ∷ []) P
+      pub one_more_keyword : (ks ls new : List (KeywordOver K R N)) (es : List (Name × Data)) (e : Name × Data) → new ≡ ks ++ ls
+          → KeywordsMean o answers ms ks (flat_map (claims heads (listed ms)) es) es P → KeywordsMean o answers ms ls (claims heads (listed ms) e) (e ∷ []) P
+          → KeywordsMean o answers ms new (flat_map (claims heads (listed ms)) (es ++ e ∷ [])) (es ++ e ∷ []) P
       one_more_keyword ks ls new es e q h k = subst (λ rows. KeywordsMean o answers ms new rows (es ++ e ∷ []) P)
           (sym (flat_map-append (claims heads (listed ms)) es (e ∷ []) ∙ ap (λ l. flat_map (claims heads (listed ms)) es ++ l) (append-nil (claims heads (listed ms) e))))
           (more_keywords ks ls new (flat_map (claims heads (listed ms)) es) (claims heads (listed ms) e) es (e ∷ []) q h k)
 
       -- where the head of each member is there, what the members claim is the object's meaning: its verdict, its report up to order, its tree in the order of names, and its asks at most
-      pub heads_mean_all : (ks : List (KeywordOver K R N)) → has_repeat (names_of (listed ms)) ≡ false → Each (λ x. is_among (heads x.0) (names_of (listed ms)) ≡ true) (listed ms) → KeywordsMean o answers ms ks (flat_map (claims heads (listed ms)) (listed ms)) (listed ms) P → KeywordsMean o answers ms ks (listed ms) (listed ms) P
+      pub heads_mean_all : (ks : List (KeywordOver K R N)) → has_repeat (names_of (listed ms)) ≡ false → Each (λ x. is_among (heads x.0) (names_of (listed ms)) ≡ true) (listed ms)
+          → KeywordsMean o answers ms ks (flat_map (claims heads (listed ms)) (listed ms)) (listed ms) P → KeywordsMean o answers ms ks (listed ms) (listed ms) P
       heads_mean_all ks distinct there h = means_permuted ks (flat_map (claims heads (listed ms)) (listed ms)) (listed ms) (listed ms) (claims_are_all heads (listed ms) distinct there) h

@@ -60,10 +60,6 @@ Fills Stands None (Some d) = ⊥
 Fills Stands (Some x) None = ⊥
 Fills Stands (Some x) (Some d) = Stands x d
 
--- nothing is left of the part, and this was taken
-abbrev pub IsTaken : {K R N X : Type 0} → Option (Part K R N) → Option X → X → Type 0
-IsTaken left now x = (left ≡ None) × (now ≡ Some x)
-
 -- what is taken of a part of this shape, and what is left of it
 module _ {K R N : Type 0} (p : Planned) where
   abbrev pub Takes : Shape K R → Part K R N → Taken R N → Taken R N → Option (Part K R N) → Type 0

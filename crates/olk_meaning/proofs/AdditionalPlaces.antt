@@ -19,9 +19,9 @@ use Rattle.olk_spec.specs.Costs.{cost, cost_step, no_cost, total_cost}
 use Rattle.olk_spec.proofs.CostSums.{sum_first, sum_last}
 use Rattle.olk_spec.proofs.Reading.{place, whole_read, schema_of_read}
 use Rattle.olk_meaning.specs.Conditions.{is_restriction, is_restricted}
-use Rattle.olk_meaning.specs.Members.{member_asks, member_malformations, member_cost}
+use Rattle.olk_meaning.specs.Members.{member_malformations, member_cost}
 use Rattle.olk_meaning.specs.AdditionalProperties.{is_rule, declared_beside, patterns_beside, has_beside, is_other, other_members, rest_accepts, rest_asks, rest_report, others_report}
-use Rattle.olk_meaning.proofs.AdditionalProperties.{each_passes, nothing_of_each, additional_accepts, additional_asks, additional_report}
+use Rattle.olk_meaning.proofs.AdditionalProperties.{each_passes, nothing_of_each, additional_accepts, additional_report}
 use Rattle.olk_meaning.proofs.Conditions.{MeansNothing, restricted_read}
 use Rattle.olk_meaning.proofs.Exchanged.{sum_of_none}
 
@@ -42,7 +42,8 @@ module _ (W : World) (ms : Members) (d : Data) where
       ++ flat_map (λ r. r.0.answer (down P r.1)) (additional_places (malformations_step W) d (codes "additionalProperties") (read_members (malformations_step W) ms) i))
       ∙ ap (λ fs. unless_kind (is_rule d) MultipleTypes d (P // codes "additionalProperties") ++ fs) (by (is_object d))
     where
-      by : (b : Bool) → flat_map (λ r. r.0.answer (down P r.1)) (places_where (codes "additionalProperties") b (itself (codes "additionalProperties") (place (malformations_step W) d))) ≡ cond b (malformations_at W d (P // codes "additionalProperties")) []
+      by : (b : Bool) → flat_map (λ r. r.0.answer (down P r.1)) (places_where (codes "additionalProperties") b
+          (itself (codes "additionalProperties") (place (malformations_step W) d))) ≡ cond b (malformations_at W d (P // codes "additionalProperties")) []
       by true = append-nil _
       by false = refl
 
@@ -100,13 +101,11 @@ module _ (W : World) (ms : Members) (d : Data) (allows : is_restriction (Some d)
         by (boolean false) e = absurd (true≢false e)
         by (object gs) e = absurd (true≢false e)
 
-    pub allowing_asks_nothing : member_asks W ms (codes "additionalProperties", d) additional_properties u v ≡ 0
-    allowing_asks_nothing = additional_asks W ms d u v ∙ nothing_asked
-
     nothing_found : (P Q : Path) → flat_map (rest_report W u fs es P Q d) (members v) ++ others_report W u fs es P Q (has_beside ms) d v ≡ []
     nothing_found P Q =
         let h = neither (is_truth false d) (is_object d) allows in
-        (λ i. flat_map (λ (x : Name × Data). cond (is_other W u fs es x.0) (cond (h.1 i) (report W u d x.1 (P // codes "additionalProperties") (Q // x.0)) []) []) (members v) ++ cond (h.0 i) (unexpected_faults (has_beside ms) (other_members W u fs es v) v (P // codes "additionalProperties") Q) [])
+        (λ i. flat_map (λ (x : Name × Data). cond (is_other W u fs es x.0) (cond (h.1 i) (report W u d x.1 (P // codes "additionalProperties") (Q // x.0)) []) []) (members v)
+            ++ cond (h.0 i) (unexpected_faults (has_beside ms) (other_members W u fs es v) v (P // codes "additionalProperties") Q) [])
         ∙ append-nil _
         ∙ (λ i. flat_map (λ (x : Name × Data). no_other_truth {X = List Fault} (is_other W u fs es x.0) [] i) (members v))
         ∙ nothing_of_each (members v)

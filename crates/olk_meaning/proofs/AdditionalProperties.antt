@@ -5,9 +5,8 @@ use Rattle.std.proofs.Common.{refl, sym, ◌∙◌, ap}
 use Rattle.std.proofs.lemmas.List.{append-nil}
 use Rattle.std.proofs.lemmas.List.Sums.{sum_by-cons}
 use Rattle.std.proofs.Math.Bool.{and-true, or-true, not-not}
-use Rattle.olk_spec.proofs.Logic.{nil_of_is_empty}
 use Rattle.serde_json.specs.Data.{Data, null, boolean, number, string, array, object, Members}
-use Rattle.olk_spec.specs.Names.{Name, Path, ◌//◌, down, lookup_name, filter_once, put_if, is_empty}
+use Rattle.olk_spec.specs.Names.{Name, Path, ◌//◌, down, filter_once, put_if, is_empty}
 use Rattle.olk_spec.specs.World.{World}
 use Rattle.olk_spec.specs.Vocabulary.{additional_properties}
 use Rattle.olk_spec.specs.Faults.{Fault}
@@ -15,13 +14,10 @@ use Rattle.olk_spec.specs.Schemas.{Sub, read, read_members, members, is_object, 
 use Rattle.olk_spec.specs.Meanings.{Meaning, Asked, asked}
 use Rattle.olk_spec.specs.Meaning.{accepts, asks, report, meaning, meaning_step}
 use Rattle.olk_spec.specs.Reports.{unexpected_faults, own}
-use Rattle.olk_spec.proofs.Truth.{and_first, and_second}
 use Rattle.olk_spec.proofs.Walks.{list_all-filter_once}
 use Rattle.olk_spec.proofs.Reading.{place, whole_read}
 use Rattle.olk_meaning.specs.Members.{member_accepts, member_asks, member_report}
-use Rattle.olk_meaning.specs.AdditionalProperties.{declared_beside, patterns_beside, has_beside, is_other, other_members, rest_accepts, rest_report, rest_asks, others_report, declared_at, matching_at, is_declared_in, declared_accepts, matching_accept, each_accepts, declared_report, matching_report, each_report}
-use Rattle.olk_meaning.proofs.Listed.{among_found}
-use Rattle.olk_meaning.proofs.TakenOver.{absent_if}
+use Rattle.olk_meaning.specs.AdditionalProperties.{declared_beside, patterns_beside, has_beside, is_other, other_members, rest_accepts, rest_report, rest_asks, others_report}
 use Rattle.olk_meaning.proofs.Beside.{additional_read, neighbour_read}
 use Rattle.olk_meaning.proofs.Exchanged.{sum_of_none, sum_of_those, flat_map-filter_once}
 use Rattle.olk_meaning.proofs.Facts.{nothing_last}
@@ -97,9 +93,12 @@ module _ (W : World) (ms : Members) (d : Data) (u : Bool) (v : Data) where
       allowing : list_all (λ (a : Asked). a.sub.answer.accepts a.value) (flat_map (λ x. []) others) && true ≡ list_all (λ x. not (is_other W u fs es x.0) || true) (members v)
       allowing = ap (λ l. list_all (λ (a : Asked). a.sub.answer.accepts a.value) l && true) (nothing_of_each others) ∙ each_passes (λ x. is_other W u fs es x.0) (members v)
 
-      by : (d : Data) → (list_all (λ a. a.sub.answer.accepts a.value) (asked_by (place (meaning_step W u) d) others) && (not (is_truth false d) || is_empty others)) ≡ list_all (rest_accepts W u fs es d) (members v)
+      by : (d : Data) → (list_all (λ a. a.sub.answer.accepts a.value) (asked_by (place (meaning_step W u) d) others) && (not (is_truth false d) || is_empty others)) ≡ list_all
+          (rest_accepts W u fs es d) (members v)
       by (boolean false) = ap (λ l. list_all (λ a. a.sub.answer.accepts a.value) l && is_empty others) (nothing_of_each others) ∙ none_passes (λ x. is_other W u fs es x.0) (members v)
-      by (object gs) = and-true _ ∙ all_of_each (asked_of (place (meaning_step W u) (object gs))) (λ a. a.sub.answer.accepts a.value) others ∙ list_all-filter_once (λ x. accepts W u (object gs) x.1) (λ x. is_other W u fs es x.0) (members v)
+      by (object gs) =
+          and-true _ ∙ all_of_each (asked_of (place (meaning_step W u) (object gs))) (λ a. a.sub.answer.accepts a.value) others ∙ list_all-filter_once
+              (λ x. accepts W u (object gs) x.1) (λ x. is_other W u fs es x.0) (members v)
       by (boolean true) = allowing
       by null = allowing
       by (number n) = allowing
@@ -126,19 +125,24 @@ module _ (W : World) (ms : Members) (d : Data) (u : Bool) (v : Data) where
       by (string s) = nothing
       by (array ds) = nothing
 
-  pub own_others : (P Q : Path) → own W u (read_members (meaning_step W u) ms) (codes "additionalProperties") (read (meaning_step W u) d) v P Q additional_properties ≡ others_report W u fs es P Q (has_beside ms) d v
+  pub own_others : (P Q : Path) → own W u (read_members (meaning_step W u) ms) (codes "additionalProperties")
+      (read (meaning_step W u) d) v P Q additional_properties ≡ others_report W u fs es P Q (has_beside ms) d v
   own_others P Q =
-      (λ i. flat_map (λ s. unexpected_faults (neighbour_read (meaning_step W u) ms i) (additional_read (meaning_step W u) ms W u v i) v (P // codes "additionalProperties") Q) (put_if (is_truth false (whole_read (meaning_step W u) d i).schema) (whole_read (meaning_step W u) d i) []))
+      (λ i. flat_map (λ s. unexpected_faults (neighbour_read (meaning_step W u) ms i) (additional_read (meaning_step W u) ms W u v i) v (P // codes "additionalProperties") Q)
+          (put_if (is_truth false (whole_read (meaning_step W u) d i).schema) (whole_read (meaning_step W u) d i) []))
       ∙ by (is_truth false d)
     where
-      by : (b : Bool) → flat_map (λ s. unexpected_faults (has_beside ms) others v (P // codes "additionalProperties") Q) (put_if b (place (meaning_step W u) d) []) ≡ cond b (unexpected_faults (has_beside ms) others v (P // codes "additionalProperties") Q) []
+      by : (b : Bool) → flat_map (λ s. unexpected_faults (has_beside ms) others v (P // codes "additionalProperties") Q) (put_if b (place (meaning_step W u) d) []) ≡ cond b
+          (unexpected_faults (has_beside ms) others v (P // codes "additionalProperties") Q) []
       by true = append-nil _
       by false = refl
 
-  pub additional_report : (P Q : Path) → member_report W ms (codes "additionalProperties", d) additional_properties u v P Q ≡ flat_map (rest_report W u fs es P Q d) (members v) ++ others_report W u fs es P Q (has_beside ms) d v
+  pub additional_report : (P Q : Path) → member_report W ms (codes "additionalProperties", d) additional_properties u v P Q ≡ flat_map (rest_report W u fs es P Q d) (members v)
+      ++ others_report W u fs es P Q (has_beside ms) d v
   unfolding meaning
   additional_report P Q =
-      (λ i. flat_map (λ a. a.sub.answer.report a.value (down P a.in_schema) (down Q a.in_instance)) (asked_by (whole_read (meaning_step W u) d i) (additional_read (meaning_step W u) ms W u v i)) ++ own_others P Q i)
+      (λ i. flat_map (λ a. a.sub.answer.report a.value (down P a.in_schema) (down Q a.in_instance))
+          (asked_by (whole_read (meaning_step W u) d i) (additional_read (meaning_step W u) ms W u v i)) ++ own_others P Q i)
       ∙ ap (λ l. l ++ others_report W u fs es P Q (has_beside ms) d v)
       (by (is_object d) ∙ flat_map-filter_once (λ x. is_other W u fs es x.0) (λ x. cond (is_object d) (report W u d x.1 (P // codes "additionalProperties") (Q // x.0)) []) (members v))
     where
@@ -150,26 +154,4 @@ module _ (W : World) (ms : Members) (d : Data) (u : Bool) (v : Data) where
 -- ---- a member by cases: it is declared or matched, or it is another
 
 module _ (W : World) (u : Bool) (fs es : List (Name × Data)) where
-  -- another is neither
-  pub other_has_neither : (n : Name) → is_other W u fs es n ≡ true → (declared_at fs n ≡ []) × (matching_at W u es n ≡ [])
-  other_has_neither n e = (
-    ap option_to_list (absent_if (lookup_name n fs) (sym (among_found n fs) ∙ sym (not-not (is_declared_in fs n)) ∙ ap not (and_first (not (is_declared_in fs n)) (is_empty (matching_at W u es n)) e))),
-    nil_of_is_empty (matching_at W u es n) (and_second (not (is_declared_in fs n)) (is_empty (matching_at W u es n)) e),
   )
-
-  pub accepts_by_case : (d : Data) (x : Name × Data) → each_accepts W u fs es d x ≡ cond (is_other W u fs es x.0) (accepts W u d x.1) (declared_accepts W u fs es x && matching_accept W u fs es x)
-  accepts_by_case d x = by (is_other W u fs es x.0) refl
-    where
-      by : (b : Bool) → is_other W u fs es x.0 ≡ b → (declared_accepts W u fs es x && matching_accept W u fs es x && (not b || accepts W u d x.1)) ≡ cond b (accepts W u d x.1) (declared_accepts W u fs es x && matching_accept W u fs es x)
-      by false q = and-true _
-      by true q = let h = other_has_neither x.0 q in λ i. list_all (λ s. accepts W u s x.1) (h.0 i) && list_all (λ e. accepts W u e.1 x.1) (h.1 i) && accepts W u d x.1
-
-  pub report_by_case : (P Q : Path) (d : Data) (x : Name × Data) → each_report W u fs es P Q d x ≡ cond (is_other W u fs es x.0) (cond (is_object d) (report W u d x.1 (P // codes "additionalProperties") (Q // x.0)) []) (declared_report W u fs es P Q x ++ matching_report W u fs es P Q x)
-  report_by_case P Q d x = by (is_other W u fs es x.0) refl
-    where
-      rest : List Fault
-      rest = cond (is_object d) (report W u d x.1 (P // codes "additionalProperties") (Q // x.0)) []
-
-      by : (b : Bool) → is_other W u fs es x.0 ≡ b → declared_report W u fs es P Q x ++ matching_report W u fs es P Q x ++ cond b rest [] ≡ cond b rest (declared_report W u fs es P Q x ++ matching_report W u fs es P Q x)
-      by false q = append-nil _
-      by true q = let h = other_has_neither x.0 q in λ i. flat_map (λ s. report W u s x.1 (P // codes "properties" // x.0) (Q // x.0)) (h.0 i) ++ flat_map (λ e. report W u e.1 x.1 (P // codes "patternProperties" // e.0) (Q // x.0)) (h.1 i) ++ rest

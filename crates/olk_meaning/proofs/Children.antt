@@ -53,27 +53,33 @@ module _ (W : World) (u : Bool) (v : Data) where
     shown_at es m = map (λ d. tree W u d m.1 (L // m.0) (Q // m.0)) (option_to_list (lookup_name m.0 es))
 
     abbrev pub shown_declared : List (Name × Data) → List Tree → Tree
-    shown_declared es more = result L Q (cond (is_object v) (Some (map (λ m. m.0) (filter_once (λ m. is_among m.0 (map (λ e. e.0) es)) (members v)))) None) false [] (flat_map (shown_at es) (members v) ++ more)
+    shown_declared es more =
+        result L Q (cond (is_object v) (Some (map (λ m. m.0) (filter_once (λ m. is_among m.0 (map (λ e. e.0) es)) (members v)))) None) false [] (flat_map (shown_at es) (members v) ++ more)
 
-    pub entry_shown : (m : Name × Data) (es : List (Name × Data)) → map (λ s. s.answer.tree m.1 (L // m.0) (Q // m.0)) (option_to_list (lookup_name m.0 (map (entry (meaning_step W u)) es))) ≡ shown_at es m
+    pub entry_shown : (m : Name × Data) (es : List (Name × Data)) → map (λ s. s.answer.tree m.1 (L // m.0) (Q // m.0))
+        (option_to_list (lookup_name m.0 (map (entry (meaning_step W u)) es))) ≡ shown_at es m
     unfolding meaning
     entry_shown m [] = refl
     entry_shown m (e ∷ es) = by (slice_cmp nat_cmp m.0 e.0) (entry_shown m es)
       where
         by : (o : Ordering) → map (λ s. s.answer.tree m.1 (L // m.0) (Q // m.0)) (option_to_list (lookup_name m.0 (map (entry (meaning_step W u)) es))) ≡ shown_at es m
-            → map (λ s. s.answer.tree m.1 (L // m.0) (Q // m.0)) (option_to_list (first_if_equal o (place (meaning_step W u) e.1) (lookup_name m.0 (map (entry (meaning_step W u)) es)))) ≡ map (λ d. tree W u d m.1 (L // m.0) (Q // m.0)) (option_to_list (first_if_equal o e.1 (lookup_name m.0 es)))
+            → map (λ s. s.answer.tree m.1 (L // m.0) (Q // m.0)) (option_to_list
+                (first_if_equal o (place (meaning_step W u) e.1) (lookup_name m.0 (map (entry (meaning_step W u)) es)))) ≡ map (λ d. tree W u d m.1 (L // m.0) (Q // m.0))
+                (option_to_list (first_if_equal o e.1 (lookup_name m.0 es)))
         by Less h = h
         by Equal h = refl
         by Greater h = h
 
-    entries_shown : (es ms : List (Name × Data)) → flat_map (λ m. map (λ s. s.answer.tree m.1 (L // m.0) (Q // m.0)) (option_to_list (lookup_name m.0 (map (entry (meaning_step W u)) es)))) ms ≡ flat_map (shown_at es) ms
+    entries_shown : (es ms : List (Name × Data)) → flat_map (λ m. map (λ s. s.answer.tree m.1 (L // m.0) (Q // m.0))
+        (option_to_list (lookup_name m.0 (map (entry (meaning_step W u)) es)))) ms ≡ flat_map (shown_at es) ms
     entries_shown es [] = refl
     entries_shown es (m ∷ ms) = λ i. entry_shown m es i ++ entries_shown es ms i
 
   -- ---- branches
 
   module _ (step : Schema Meaning → Meaning) (k : Name) (P Q : Path) where
-    pub whole_shown : (es : List (Name × Data)) → map (λ a. a.sub.answer.tree a.value (down P a.in_schema) (down Q a.in_instance)) (asked_whole k v (map (entry step) es)) ≡ map (λ e. (answer_for step e.1).tree v (P // k // e.0) Q) es
+    pub whole_shown : (es : List (Name × Data)) → map (λ a. a.sub.answer.tree a.value (down P a.in_schema) (down Q a.in_instance))
+        (asked_whole k v (map (entry step) es)) ≡ map (λ e. (answer_for step e.1).tree v (P // k // e.0) Q) es
     whole_shown [] = refl
     whole_shown (e ∷ es) = ap (λ l. (answer_for step e.1).tree v (P // k // e.0) Q ∷ l) (whole_shown es)
 
@@ -87,13 +93,15 @@ module _ (W : World) (u : Bool) (v : Data) where
   any_shown L Q es = cond (is_empty (accepting_branches es)) (result L Q None true [] (branches_shown L Q es)) (plain L Q (branches_shown L Q (accepting_branches es)))
 
   module _ (k : Name) (P Q : Path) (ds : Items) where
-    pub all_branches_shown : map (λ b. b.1.answer.tree v (P // k // b.0) Q) (filter_once (λ b. true) (branches (read (meaning_step W u) (array ds)))) ≡ branches_shown (P // k) Q (numbered (items_list ds))
+    pub all_branches_shown : map (λ b. b.1.answer.tree v (P // k // b.0) Q) (filter_once (λ b. true) (branches (read (meaning_step W u) (array ds)))) ≡ branches_shown
+        (P // k) Q (numbered (items_list ds))
     unfolding meaning
     all_branches_shown = ap (λ bs. map (λ b. b.1.answer.tree v (P // k // b.0) Q) (filter_once (λ b. true) bs)) (branch_entries (meaning_step W u) ds)
         ∙ ap (map (λ b. b.1.answer.tree v (P // k // b.0) Q)) (all_those (map (entry (meaning_step W u)) (numbered (items_list ds))))
         ∙ map-map (λ b. b.1.answer.tree v (P // k // b.0) Q) (λ e. tree W u e.1 v (P // k // e.0) Q) (entry (meaning_step W u)) (λ e. refl) (numbered (items_list ds))
 
-    pub accepting_branches_shown : map (λ b. b.1.answer.tree v (P // k // b.0) Q) (filter_once (λ b. holds b.1 v) (branches (read (meaning_step W u) (array ds)))) ≡ branches_shown (P // k) Q (accepting_branches (numbered (items_list ds)))
+    pub accepting_branches_shown : map (λ b. b.1.answer.tree v (P // k // b.0) Q) (filter_once (λ b. holds b.1 v) (branches (read (meaning_step W u) (array ds)))) ≡ branches_shown
+        (P // k) Q (accepting_branches (numbered (items_list ds)))
     unfolding meaning
     accepting_branches_shown = ap (λ bs. map (λ b. b.1.answer.tree v (P // k // b.0) Q) (filter_once (λ b. holds b.1 v) bs)) (branch_entries (meaning_step W u) ds)
         ∙ ap (map (λ b. b.1.answer.tree v (P // k // b.0) Q)) (filter_once-map (λ b. holds b.1 v) (λ e. accepts W u e.1 v) (entry (meaning_step W u)) (λ e. refl) (numbered (items_list ds)))
@@ -101,23 +109,35 @@ module _ (W : World) (u : Bool) (v : Data) where
 
   module _ (ms : Members) (P Q : Path) where
     pub properties_child : (fs : Members) → lookup_name (codes "properties") (listed ms) ≡ Some (object fs) → restricts (read_members (meaning_step W u) ms) ≡ false
-        → member_child W ms (codes "properties", object fs) properties u v P Q ≡ shown_declared (P // codes "properties") Q (listed fs) (missing_child W u (read_members (meaning_step W u) ms) v P Q (fuses_two (read_members (meaning_step W u) ms))) ∷ []
-    properties_child fs there free = λ i. put_if (not (free i)) (result (P // codes "properties") Q (cond (and-true (is_object v) i) (Some (met i)) None) false [] (shown i ++ missing_child W u (read_members (meaning_step W u) ms) v P Q (fuses_two (read_members (meaning_step W u) ms)))) []
+        → member_child W ms (codes "properties", object fs) properties u v P Q ≡ shown_declared (P // codes "properties") Q (listed fs)
+            (missing_child W u (read_members (meaning_step W u) ms) v P Q (fuses_two (read_members (meaning_step W u) ms))) ∷ []
+    properties_child fs there free =
+        λ i. put_if (not (free i)) (result (P // codes "properties") Q (cond (and-true (is_object v) i) (Some (met i)) None) false []
+            (shown i ++ missing_child W u (read_members (meaning_step W u) ms) v P Q (fuses_two (read_members (meaning_step W u) ms)))) []
       where
         here : entries_at (read_members (meaning_step W u) ms) (codes "properties") ≡ map (entry (meaning_step W u)) (listed fs)
         here = entries_there (meaning_step W u) ms (codes "properties") (object fs) (sym (lookup_listed (codes "properties") ms) ∙ there)
 
-        met : map (λ m. m.0) (filter_once (λ m. is_among m.0 (map (λ e. e.0) (entries_at (read_members (meaning_step W u) ms) (codes "properties")))) (members v)) ≡ map (λ m. m.0) (filter_once (λ m. is_among m.0 (map (λ e. e.0) (listed fs))) (members v))
-        met = ap (λ ns. map (λ m. m.0) (filter_once (λ m. is_among m.0 ns) (members v))) (ap (map {A = Name × Sub Meaning} (λ e. e.0)) here ∙ map-map {X = Name × Sub Meaning} {Y = Name × Data} (λ e. e.0) (λ e. e.0) (entry (meaning_step W u)) (λ e. refl) (listed fs))
+        met : map (λ m. m.0) (filter_once (λ m. is_among m.0 (map (λ e. e.0) (entries_at (read_members (meaning_step W u) ms) (codes "properties")))) (members v)) ≡ map
+            (λ m. m.0) (filter_once (λ m. is_among m.0 (map (λ e. e.0) (listed fs))) (members v))
+        met =
+            ap (λ ns. map (λ m. m.0) (filter_once (λ m. is_among m.0 ns) (members v)))
+                (ap (map {A = Name × Sub Meaning} (λ e. e.0)) here ∙ map-map {X = Name × Sub Meaning} {Y = Name × Data} (λ e. e.0) (λ e. e.0) (entry (meaning_step W u)) (λ e. refl) (listed fs))
 
-        shown : flat_map (λ m. map (λ s. s.answer.tree m.1 (P // codes "properties" // m.0) (Q // m.0)) (option_to_list (lookup_name m.0 (entries_at (read_members (meaning_step W u) ms) (codes "properties"))))) (members v) ≡ flat_map (shown_at (P // codes "properties") Q (listed fs)) (members v)
-        shown = ap (λ es. flat_map (λ m. map (λ s. s.answer.tree m.1 (P // codes "properties" // m.0) (Q // m.0)) (option_to_list (lookup_name m.0 es))) (members v)) here ∙ entries_shown (P // codes "properties") Q (listed fs) (members v)
+        shown : flat_map (λ m. map (λ s. s.answer.tree m.1 (P // codes "properties" // m.0) (Q // m.0))
+            (option_to_list (lookup_name m.0 (entries_at (read_members (meaning_step W u) ms) (codes "properties"))))) (members v) ≡ flat_map
+            (shown_at (P // codes "properties") Q (listed fs)) (members v)
+        shown =
+            ap (λ es. flat_map (λ m. map (λ s. s.answer.tree m.1 (P // codes "properties" // m.0) (Q // m.0)) (option_to_list (lookup_name m.0 es))) (members v)) here
+                ∙ entries_shown (P // codes "properties") Q (listed fs) (members v)
 
-    pub required_child : (d : Data) → StandsAlone W u ms (codes "required", d) required → member_child W ms (codes "required", d) required u v P Q ≡ erring (P // codes "required") Q (required_faults (texts d) v (P // codes "required") Q) ∷ []
+    pub required_child : (d : Data) → StandsAlone W u ms (codes "required", d) required → member_child W ms (codes "required", d) required u v P Q ≡ erring
+        (P // codes "required") Q (required_faults (texts d) v (P // codes "required") Q) ∷ []
     required_child d h = λ i. put_if (not (h.0 i) && not (h.1 i)) (erring (P // codes "required") Q (required_faults (texts (schema_of_read (meaning_step W u) d i)) v (P // codes "required") Q)) []
 
     -- it is shown elsewhere
-    pub no_required_child : (d : Data) → fuses_one (read_members (meaning_step W u) ms) ≡ false → fuses_two (read_members (meaning_step W u) ms) ≡ true → member_child W ms (codes "required", d) required u v P Q ≡ []
+    pub no_required_child : (d : Data) → fuses_one (read_members (meaning_step W u) ms) ≡ false → fuses_two (read_members (meaning_step W u) ms) ≡ true
+        → member_child W ms (codes "required", d) required u v P Q ≡ []
     no_required_child d e f = λ i. put_if (not (e i) && not (f i)) (erring (P // codes "required") Q (required_faults (texts (schema_of_read (meaning_step W u) d i)) v (P // codes "required") Q)) []
 
     module _ (ds : Items) where
@@ -129,7 +149,9 @@ module _ (W : World) (u : Bool) (v : Data) where
 
       pub any_of_child : member_child W ms (codes "anyOf", array ds) any_of u v P Q ≡ any_shown (P // codes "anyOf") Q (numbered (items_list ds)) ∷ []
       unfolding meaning
-      any_of_child = λ i. cond (count i) (result (P // codes "anyOf") Q None true [] (all_branches_shown (codes "anyOf") P Q ds i)) (plain (P // codes "anyOf") Q (accepting_branches_shown (codes "anyOf") P Q ds i)) ∷ []
+      any_of_child =
+          λ i. cond (count i) (result (P // codes "anyOf") Q None true [] (all_branches_shown (codes "anyOf") P Q ds i))
+              (plain (P // codes "anyOf") Q (accepting_branches_shown (codes "anyOf") P Q ds i)) ∷ []
         where
           count : (accepting (read (meaning_step W u) (array ds)) v == 0) ≡ is_empty (accepting_branches (numbered (items_list ds)))
           count = none_counted (λ s. holds s v) ((read (meaning_step W u) (array ds)).items)

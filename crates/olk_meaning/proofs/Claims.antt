@@ -30,7 +30,8 @@ and_turned false true c = refl
 and_turned false false c = refl
 
 pub list_all-permuted : {X : Type 0} (p : X → Bool) (xs ys : List X) → IsPermutation xs ys → list_all p xs ≡ list_all p ys
-list_all-permuted p = along_permutation (λ xs ys. list_all p xs ≡ list_all p ys) (λ xs. refl) (λ x xs ys h. ap (λ b. p x && b) h) (λ x y xs. and_turned (p x) (p y) (list_all p xs)) (λ xs ys zs h k. h ∙ k)
+list_all-permuted p =
+    along_permutation (λ xs ys. list_all p xs ≡ list_all p ys) (λ xs. refl) (λ x xs ys h. ap (λ b. p x && b) h) (λ x y xs. and_turned (p x) (p y) (list_all p xs)) (λ xs ys zs h k. h ∙ k)
 
 -- ---- what is fused
 
@@ -62,7 +63,8 @@ no_pair : {G : Type 0} (t : Name × Name) (p : Option (Name × Name)) → is_som
 no_pair t p h e = absurd (true≢false (sym (ap is_some e) ∙ h))
 
 listed_names : (o : Option Data) (t : Name × Name) → two_names o ≡ Some t → (o ≡ Some (listing t)) × (bytes_eq t.0 t.1 ≡ false)
-listed_names (Some (array (item (string a) (item (string b) no_items)))) t e = let d = differing (bytes_eq a b) (a, b) t e in (ap (λ s. Some (listing s)) d.0, ap (λ s. bytes_eq s.0 s.1) (sym d.0) ∙ d.1)
+listed_names (Some (array (item (string a) (item (string b) no_items)))) t e =
+    let d = differing (bytes_eq a b) (a, b) t e in (ap (λ s. Some (listing s)) d.0, ap (λ s. bytes_eq s.0 s.1) (sym d.0) ∙ d.1)
 listed_names o t e = no_pair t None refl e
 
 where_few : (a b c : Bool) (o : Option (Name × Name)) (t : Name × Name) → cond (a && b && c) o None ≡ Some t → (a ≡ true) × (o ≡ Some t)
@@ -93,14 +95,6 @@ module _ (ms : Members) (distinct : has_repeat (map (λ m. m.0) (listed ms)) ≡
 
 -- ---- `then` and `else`
 
-case_named : (n : Name) → is_case n ≡ true → (n ≡ codes "then") ⊎ (n ≡ codes "else")
-case_named n e = by (bytes_eq n (codes "then")) (bytes_eq n (codes "else")) refl refl e
-  where
-    by : (a b : Bool) → bytes_eq n (codes "then") ≡ a → bytes_eq n (codes "else") ≡ b → (a || (b || false)) ≡ true → (n ≡ codes "then") ⊎ (n ≡ codes "else")
-    by true b p q h = inl (same_name n (codes "then") p)
-    by false true p q h = inr (same_name n (codes "else") q)
-    by false false p q h = absurd (true≢false (sym h))
-
 cases_apart : (k n : Name) → is_case n ≡ true → is_case k ≡ false → bytes_eq k n ≡ false
 cases_apart k n e f = by (bytes_eq k n) refl
   where
@@ -123,7 +117,8 @@ past_cases true k n h = by (is_case n) refl
 -- ---- what a validator stands for by the object's plan
 
 -- a keyword that no other stands for is its own head, and that of no other
-pub head_itself : (p : Planned) (k : Name) → (is_some p.fused_pair ≡ true → (bytes_eq (codes "properties") k ≡ false) × (bytes_eq (codes "required") k ≡ false)) → IsNoCase p.condition k → IsNotTaken p k → (n : Name) → bytes_eq k (head p n) ≡ bytes_eq k n
+pub head_itself : (p : Planned) (k : Name) → (is_some p.fused_pair ≡ true → (bytes_eq (codes "properties") k ≡ false) × (bytes_eq (codes "required") k ≡ false))
+    → IsNoCase p.condition k → IsNotTaken p k → (n : Name) → bytes_eq k (head p n) ≡ bytes_eq k n
 head_itself p k apart h free n = past_taken p k n _ free (by (is_some p.fused_pair) (bytes_eq (codes "required") n) refl refl)
   where
     by : (a b : Bool) → is_some p.fused_pair ≡ a → bytes_eq (codes "required") n ≡ b → bytes_eq k (cond (a && b) (codes "properties") (cond (p.condition && is_case n) (codes "if") n)) ≡ bytes_eq k n
@@ -131,7 +126,8 @@ head_itself p k apart h free n = past_taken p k n _ free (by (is_some p.fused_pa
     by true false f q = past_cases p.condition k n h
     by true true f q = bytes_eq-sym k (codes "properties") ∙ (apart f).0 ∙ sym (apart f).1 ∙ bytes_eq-sym (codes "required") k ∙ ap (bytes_eq k) (same_name (codes "required") n q)
 
-pub heads_elsewhere : (p : Planned) (k : Name) → bytes_eq (codes "properties") k ≡ false → bytes_eq (codes "required") k ≡ false → IsNoCase p.condition k → IsNotTaken p k → (n : Name) → bytes_eq k (head p n) ≡ bytes_eq k n
+pub heads_elsewhere : (p : Planned) (k : Name) → bytes_eq (codes "properties") k ≡ false → bytes_eq (codes "required") k ≡ false → IsNoCase p.condition k
+    → IsNotTaken p k → (n : Name) → bytes_eq k (head p n) ≡ bytes_eq k n
 heads_elsewhere p k e f = head_itself p k (λ t. (e, f))
 
 -- `required` that neither fuses
@@ -190,12 +186,17 @@ head_of_if p e n = over (is_taken_over p n) refl
     taken (inr (inl q)) = ap (λ x. bytes_eq (codes "if") x || is_case x) (sym q)
     taken (inr (inr q)) = ap (λ x. bytes_eq (codes "if") x || is_case x) (sym q)
 
-    over : (b : Bool) → is_taken_over p n ≡ b → bytes_eq (codes "if") (cond b (codes "additionalProperties") (cond (is_some p.fused_pair && bytes_eq (codes "required") n) (codes "properties") (cond (p.condition && is_case n) (codes "if") n))) ≡ (bytes_eq (codes "if") n || is_case n)
+    over : (b : Bool) → is_taken_over p n ≡ b → bytes_eq (codes "if") (cond b (codes "additionalProperties")
+        (cond (is_some p.fused_pair && bytes_eq (codes "required") n) (codes "properties") (cond (p.condition && is_case n) (codes "if") n))) ≡ (bytes_eq (codes "if") n || is_case n)
     over true q = taken (taken_named p n q)
-    over false q = ap (λ c. bytes_eq (codes "if") (cond (is_some p.fused_pair && bytes_eq (codes "required") n) (codes "properties") (cond (c && is_case n) (codes "if") n))) e ∙ by (is_some p.fused_pair) (bytes_eq (codes "required") n) refl
+    over false q =
+        ap (λ c. bytes_eq (codes "if") (cond (is_some p.fused_pair && bytes_eq (codes "required") n) (codes "properties") (cond (c && is_case n) (codes "if") n))) e
+            ∙ by (is_some p.fused_pair) (bytes_eq (codes "required") n) refl
 
 case_heads_none : (p : Planned) → p.condition ≡ true → (k : Name) → is_case k ≡ true → (n : Name) → bytes_eq k (head p n) ≡ false
-case_heads_none p e k h n = ap (λ c. bytes_eq k (cond (is_taken_over p n) (codes "additionalProperties") (cond (is_some p.fused_pair && bytes_eq (codes "required") n) (codes "properties") (cond (c && is_case n) (codes "if") n)))) e ∙ over (is_taken_over p n)
+case_heads_none p e k h n =
+    ap (λ c. bytes_eq k (cond (is_taken_over p n) (codes "additionalProperties")
+        (cond (is_some p.fused_pair && bytes_eq (codes "required") n) (codes "properties") (cond (c && is_case n) (codes "if") n)))) e ∙ over (is_taken_over p n)
   where
     no_other : (x : Name) → is_case x ≡ false → bytes_eq k x ≡ false
     no_other x f = bytes_eq-sym k x ∙ cases_apart x k h f
@@ -216,19 +217,23 @@ claims_no_case p e es m h = filter_once-same (λ (x : Name × Data). bytes_eq m.
 condition_there : (ms : Members) → is_condition ms ≡ true → (d : Data) × (lookup_name (codes "if") (listed ms) ≡ Some d)
 condition_there ms e = by (lookup_name (codes "if") (listed ms)) refl e
   where
-    by : (o : Option Data) → lookup_name (codes "if") (listed ms) ≡ o → (is_some o && (is_some (lookup_name (codes "then") (listed ms)) || is_some (lookup_name (codes "else") (listed ms)))) ≡ true → (d : Data) × (lookup_name (codes "if") (listed ms) ≡ Some d)
+    by : (o : Option Data) → lookup_name (codes "if") (listed ms) ≡ o →
+        (is_some o && (is_some (lookup_name (codes "then") (listed ms)) || is_some (lookup_name (codes "else") (listed ms)))) ≡ true → (d : Data) × (lookup_name (codes "if") (listed ms) ≡ Some d)
     by (Some d) q h = (d, q)
     by None q h = absurd (true≢false (sym h))
 
 module _ (ms : Members) (distinct : has_repeat (names_of (listed ms)) ≡ false) where
   -- a keyword that is its own head and that of no other claims its own member
   pub claims_itself : (heads : Name → Name) (m : Name × Data) → ((n : Name) → bytes_eq m.0 (heads n) ≡ bytes_eq m.0 n) → lookup_name m.0 (listed ms) ≡ Some m.1 → claims heads (listed ms) m ≡ m ∷ []
-  claims_itself heads m same there = filter_once-same (λ (x : Name × Data). bytes_eq m.0 (heads x.0)) (λ x. bytes_eq m.0 x.0) (λ x. same x.0) (listed ms) ∙ named_once m.0 m.1 (listed ms) (Distinct-from (listed ms) distinct) there
+  claims_itself heads m same there =
+      filter_once-same (λ (x : Name × Data). bytes_eq m.0 (heads x.0)) (λ x. bytes_eq m.0 x.0) (λ x. same x.0) (listed ms) ∙ named_once m.0 m.1 (listed ms) (Distinct-from (listed ms) distinct) there
 
-  pub claims_both : (t : Name × Name) (c : Bool) (d : Data) → lookup_name (codes "properties") (listed ms) ≡ Some d → Some t ≡ fused_pair ms → IsPermutation ((codes "properties", d) ∷ (codes "required", listing t) ∷ []) (claims (head (fusing t c)) (listed ms) (codes "properties", d))
+  pub claims_both : (t : Name × Name) (c : Bool) (d : Data) → lookup_name (codes "properties") (listed ms) ≡ Some d → Some t ≡ fused_pair ms
+      → IsPermutation ((codes "properties", d) ∷ (codes "required", listing t) ∷ []) (claims (head (fusing t c)) (listed ms) (codes "properties", d))
   claims_both t c d there e = subst₂ IsPermutation
       (λ i. named_once (codes "properties") d (listed ms) (Distinct-from (listed ms) distinct) there i ++ (fuses ms distinct t e).required i)
-      (filter_once-same (λ (x : Name × Data). bytes_eq (codes "properties") x.0 || bytes_eq (codes "required") x.0) (λ x. bytes_eq (codes "properties") (head (fusing t c) x.0)) (λ x. sym (head_of_both t c x.0)) (listed ms))
+      (filter_once-same (λ (x : Name × Data). bytes_eq (codes "properties") x.0 || bytes_eq (codes "required") x.0) (λ x. bytes_eq (codes "properties") (head (fusing t c) x.0))
+          (λ x. sym (head_of_both t c x.0)) (listed ms))
       (those_split (λ x. bytes_eq (codes "properties") x.0) (λ x. bytes_eq (codes "required") x.0) (λ x. names_differ x.0) (listed ms))
 
   -- `if` that is read stands for itself, `then` and `else`
@@ -243,7 +248,8 @@ module _ (ms : Members) (distinct : has_repeat (names_of (listed ms)) ≡ false)
     where
       cases : IsPermutation (members_named (codes "then") (listed ms) ++ members_named (codes "else") (listed ms)) (filter_once (λ x. is_case x.0) (listed ms))
       cases = subst (λ l. IsPermutation (members_named (codes "then") (listed ms) ++ members_named (codes "else") (listed ms)) l)
-          (filter_once-same (λ (x : Name × Data). bytes_eq (codes "then") x.0 || bytes_eq (codes "else") x.0) (λ x. is_case x.0) (λ x i. bytes_eq-sym (codes "then") x.0 i || (bytes_eq-sym (codes "else") x.0 ∙ sym (or-false (bytes_eq x.0 (codes "else")))) i) (listed ms))
+          (filter_once-same (λ (x : Name × Data). bytes_eq (codes "then") x.0 || bytes_eq (codes "else") x.0) (λ x. is_case x.0)
+              (λ x i. bytes_eq-sym (codes "then") x.0 i || (bytes_eq-sym (codes "else") x.0 ∙ sym (or-false (bytes_eq x.0 (codes "else")))) i) (listed ms))
           (those_split (λ x. bytes_eq (codes "then") x.0) (λ x. bytes_eq (codes "else") x.0) (λ x q. ap (bytes_eq (codes "else")) (sym (same_name (codes "then") x.0 q))) (listed ms))
 
   -- the head of each member is there
@@ -258,7 +264,8 @@ module _ (ms : Members) (distinct : has_repeat (names_of (listed ms)) ≡ false)
       past true f false = there_itself
       past true f true = let i = condition_there ms (sym f) in lookup_among (codes "if") i.0 (listed ms) i.1
 
-      by : (o : Option (Name × Name)) → o ≡ fused_pair ms → (b c : Bool) → c ≡ is_condition ms → (k : Bool) → is_among (cond (is_some o && b) (codes "properties") (cond (c && k) (codes "if") x.0)) (names_of (listed ms)) ≡ true
+      by : (o : Option (Name × Name)) → o ≡ fused_pair ms → (b c : Bool) → c ≡ is_condition ms → (k : Bool)
+          → is_among (cond (is_some o && b) (codes "properties") (cond (c && k) (codes "if") x.0)) (names_of (listed ms)) ≡ true
       by None f b c g k = past c g k
       by (Some t) f true c g k = lookup_among (codes "properties") (fuses ms distinct t f).value (listed ms) (fuses ms distinct t f).declared
       by (Some t) f false c g k = past c g k
@@ -270,7 +277,8 @@ module _ (ms : Members) (distinct : has_repeat (names_of (listed ms)) ≡ false)
       at_restriction f = let r = restriction_there ms f in lookup_among (codes "additionalProperties") r.0 (listed ms) r.1
 
       over : (r : Bool) → r ≡ is_restricted ms → (o : Option Name) → o ≡ fused_one ms → (a b : Bool)
-          → is_among (cond ((r && a) || (is_some o && b)) (codes "additionalProperties") (cond (is_some p.fused_pair && bytes_eq (codes "required") x.0) (codes "properties") (cond (p.condition && is_case x.0) (codes "if") x.0))) (names_of (listed ms)) ≡ true
+          → is_among (cond ((r && a) || (is_some o && b)) (codes "additionalProperties")
+              (cond (is_some p.fused_pair && bytes_eq (codes "required") x.0) (codes "properties") (cond (p.condition && is_case x.0) (codes "if") x.0))) (names_of (listed ms)) ≡ true
       over true f o g true b = at_restriction (sym f)
       over true f (Some n) g false true = at_restriction (sym f)
       over true f (Some n) g false false = not_taken

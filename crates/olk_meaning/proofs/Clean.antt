@@ -65,9 +65,11 @@ module _ {X : Type 0} (step : Schema X → X) where
 
   -- t is what stands at `patternProperties`, and c says whether other members are free
   are_fused_names : (L : Path) (p r t : Option Data) (c : Bool) → IsObject p → ListsTexts L r
-      → (is_some p && c && not (is_some t) && nat_lt (length (flat_map (λ d. map (entry step) (members d)) (option_to_list p))) HASHMAP_THRESHOLD && are_two (flat_map texts (option_to_list r))) ≡ is_some (cond (declares_few p && is_none t && c) (two_names r) None)
+      → (is_some p && c && not (is_some t) && nat_lt (length (flat_map (λ d. map (entry step) (members d)) (option_to_list p))) HASHMAP_THRESHOLD
+          && are_two (flat_map texts (option_to_list r))) ≡ is_some (cond (declares_few p && is_none t && c) (two_names r) None)
   are_fused_names L None r t c h k = refl
-  are_fused_names L (Some (object fs)) r None true h k = ap (λ n. nat_lt n HASHMAP_THRESHOLD && are_two (flat_map texts (option_to_list r))) (entry_count fs) ∙ by (nat_lt (length (listed fs)) HASHMAP_THRESHOLD)
+  are_fused_names L (Some (object fs)) r None true h k =
+      ap (λ n. nat_lt n HASHMAP_THRESHOLD && are_two (flat_map texts (option_to_list r))) (entry_count fs) ∙ by (nat_lt (length (listed fs)) HASHMAP_THRESHOLD)
     where
       by : (b : Bool) → (b && are_two (flat_map texts (option_to_list r))) ≡ is_some (cond (b && true && true) (two_names r) None)
       by true = are_two_names L r k
@@ -79,7 +81,8 @@ module _ {X : Type 0} (step : Schema X → X) where
       by false = refl
   are_fused_names L (Some (object fs)) r (Some d) c h k = by (nat_lt (length (listed fs)) HASHMAP_THRESHOLD) c
     where
-      by : (b c : Bool) → (c && false && nat_lt (length (flat_map (λ d. map (entry step) (members d)) (object fs ∷ []))) HASHMAP_THRESHOLD && are_two (flat_map texts (option_to_list r))) ≡ is_some (cond (b && false && c) (two_names r) None)
+      by : (b c : Bool) → (c && false && nat_lt (length (flat_map (λ d. map (entry step) (members d)) (object fs ∷ []))) HASHMAP_THRESHOLD
+          && are_two (flat_map texts (option_to_list r))) ≡ is_some (cond (b && false && c) (two_names r) None)
       by true true = refl
       by true false = refl
       by false true = refl
@@ -89,7 +92,8 @@ module _ {X : Type 0} (step : Schema X → X) where
 -- ---- an object in which nothing is malformed
 
 module _ (W : World) (ms : Members) (P : Path) where
-  clean_among : (es : List (Name × Data)) → flat_map (λ m. member_malformations W ms m (keyword_named W m.0) P) es ≡ [] → (k : Name) (d : Data) → lookup_name k es ≡ Some d → member_malformations W ms (k, d) (keyword_named W k) P ≡ []
+  clean_among : (es : List (Name × Data)) → flat_map (λ m. member_malformations W ms m (keyword_named W m.0) P) es ≡ [] → (k : Name) (d : Data)
+      → lookup_name k es ≡ Some d → member_malformations W ms (k, d) (keyword_named W k) P ≡ []
   clean_among [] e k d f = absurd (true≢false (sym (ap is_some f)))
   clean_among (m ∷ es) e k d f =
       let h = nothing_in (member_malformations W ms m (keyword_named W m.0) P) (flat_map (λ x. member_malformations W ms x (keyword_named W x.0) P) es) e in
@@ -121,7 +125,9 @@ module _ (W : World) (ms : Members) (P : Path) (clean : flat_map (λ m. member_m
   is_rule_there = by (at_name (codes "additionalProperties")) refl
     where
       refused : (d : Data) → at_name (codes "additionalProperties") ≡ Some d → is_rule d ≡ false → unless_kind (is_rule d) MultipleTypes d (P // codes "additionalProperties") ≡ []
-      refused d q e = (nothing_in (unless_kind (is_rule d) MultipleTypes d (P // codes "additionalProperties")) _ (sym (additional_malformations W ms d P) ∙ clean_among W ms P (listed ms) clean (codes "additionalProperties") d q)).0
+      refused d q e =
+          (nothing_in (unless_kind (is_rule d) MultipleTypes d (P // codes "additionalProperties")) _
+              (sym (additional_malformations W ms d P) ∙ clean_among W ms P (listed ms) clean (codes "additionalProperties") d q)).0
 
       of : (d : Data) (b : Bool) → at_name (codes "additionalProperties") ≡ Some d → is_rule d ≡ b → b ≡ true
       of d true q e = refl
@@ -156,7 +162,8 @@ module _ (W : World) (ms : Members) (P : Path) (clean : flat_map (λ m. member_m
     pub fused : fuses_two (read_members step ms) ≡ is_some (fused_pair ms)
     fused =
         (λ i. here i && (ap not (restricted_read step ms) ∙ others_free) i && not (patterned i) && nat_lt (length (entries i)) HASHMAP_THRESHOLD && are_two (listed_names i))
-        ∙ are_fused_names step (P // codes "required") (at_name (codes "properties")) (at_name (codes "required")) (at_name (codes "patternProperties")) (allows_others (at_name (codes "additionalProperties"))) an_object texts_listed
+        ∙ are_fused_names step (P // codes "required") (at_name (codes "properties")) (at_name (codes "required")) (at_name (codes "patternProperties"))
+            (allows_others (at_name (codes "additionalProperties"))) an_object texts_listed
       where
         here : declares (read_members step ms) ≡ is_some (at_name (codes "properties"))
         here = is_present_read step ms (codes "properties") ∙ ap is_some (sym (lookup_listed (codes "properties") ms))
@@ -167,5 +174,6 @@ module _ (W : World) (ms : Members) (P : Path) (clean : flat_map (λ m. member_m
         listed_names : names_at (read_members step ms) (codes "required") ≡ flat_map texts (option_to_list (at_name (codes "required")))
         listed_names = names_at_read step ms (codes "required") ∙ ap (λ o. flat_map texts (option_to_list o)) (sym (lookup_listed (codes "required") ms))
 
-pub names_fused : {X : Type 0} (step : Schema X → X) (ms : Members) (t : Name × Name) → lookup_name (codes "required") (listed ms) ≡ Some (listing t) → names_at (read_members step ms) (codes "required") ≡ t.0 ∷ t.1 ∷ []
+pub names_fused : {X : Type 0} (step : Schema X → X) (ms : Members) (t : Name × Name) → lookup_name (codes "required") (listed ms) ≡ Some (listing t)
+    → names_at (read_members step ms) (codes "required") ≡ t.0 ∷ t.1 ∷ []
 names_fused step ms t e = names_there step ms (codes "required") (listing t) (sym (lookup_listed (codes "required") ms) ∙ e)

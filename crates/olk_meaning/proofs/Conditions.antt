@@ -28,7 +28,8 @@ use Rattle.olk_meaning.proofs.TakenOver.{absent_if}
 pub conditional_named : (k : Name) → is_conditional_name k ≡ true → (k ≡ codes "if") ⊎ (k ≡ codes "then") ⊎ (k ≡ codes "else")
 conditional_named k e = by (bytes_eq k (codes "if")) (bytes_eq k (codes "then")) (bytes_eq k (codes "else")) refl refl refl e
   where
-    by : (a b c : Bool) → bytes_eq k (codes "if") ≡ a → bytes_eq k (codes "then") ≡ b → bytes_eq k (codes "else") ≡ c → (a || (b || (c || false))) ≡ true → (k ≡ codes "if") ⊎ (k ≡ codes "then") ⊎ (k ≡ codes "else")
+    by : (a b c : Bool) → bytes_eq k (codes "if") ≡ a → bytes_eq k (codes "then") ≡ b → bytes_eq k (codes "else") ≡ c → (a || (b || (c || false))) ≡ true
+        → (k ≡ codes "if") ⊎ (k ≡ codes "then") ⊎ (k ≡ codes "else")
     by true b c p q r h = inl (same_name k (codes "if") p)
     by false true c p q r h = inr (inl (same_name k (codes "then") q))
     by false false true p q r h = inr (inr (same_name k (codes "else") r))
@@ -48,7 +49,9 @@ module _ (ms : Members) where
   if_beside_then there = ap (λ b. is_some (lookup_name (codes "if") (listed ms)) && (b || is_some (lookup_name (codes "else") (listed ms)))) there ∙ and-true _
 
   if_beside_else : is_some (lookup_name (codes "else") (listed ms)) ≡ true → is_condition ms ≡ is_some (lookup_name (codes "if") (listed ms))
-  if_beside_else there = ap (λ b. is_some (lookup_name (codes "if") (listed ms)) && (is_some (lookup_name (codes "then") (listed ms)) || b)) there ∙ ap (λ b. is_some (lookup_name (codes "if") (listed ms)) && b) (or-true _) ∙ and-true _
+  if_beside_else there =
+      ap (λ b. is_some (lookup_name (codes "if") (listed ms)) && (is_some (lookup_name (codes "then") (listed ms)) || b)) there
+          ∙ ap (λ b. is_some (lookup_name (codes "if") (listed ms)) && b) (or-true _) ∙ and-true _
 
 module _ {X : Type 0} (step : Schema X → X) (ms : Members) where
   pub present : (k : Name) → is_some (lookup_name k (read_members step ms)) ≡ is_some (lookup_name k (listed ms))
@@ -58,7 +61,9 @@ module _ {X : Type 0} (step : Schema X → X) (ms : Members) where
   condition_read = λ i. present (codes "if") i && (present (codes "then") i || present (codes "else") i)
 
   pub restricted_read : restricts (read_members step ms) ≡ is_restricted ms
-  restricted_read = ap (list_any (λ s. is_truth false s.schema || is_object s.schema)) (wholes_at_read step ms (codes "additionalProperties")) ∙ by _ ∙ ap is_restriction (sym (lookup_listed (codes "additionalProperties") ms))
+  restricted_read =
+      ap (list_any (λ s. is_truth false s.schema || is_object s.schema)) (wholes_at_read step ms (codes "additionalProperties")) ∙ by _
+          ∙ ap is_restriction (sym (lookup_listed (codes "additionalProperties") ms))
     where
       by : (o : Option Data) → list_any (λ (s : Sub X). is_truth false s.schema || is_object s.schema) (map (place step) (option_to_list o)) ≡ is_restriction o
       by None = refl
@@ -76,8 +81,12 @@ module _ {X : Type 0} (step : Schema X → X) (ms : Members) where
       where
         by : (k ≡ codes "if") ⊎ (k ≡ codes "then") ⊎ (k ≡ codes "else") → PlacesByCondition k
         by (inl q) = subst PlacesByCondition (sym q) (ap (λ b. places_where (codes "if") b (itself (codes "if") (read step d).whole)) (condition_read ∙ sym (known.0 e).0))
-        by (inr (inl q)) = subst PlacesByCondition (sym q) (ap (λ b. places_where (codes "then") b (itself (codes "then") (read step d).whole)) (present (codes "if") ∙ sym (if_beside_then ms (ap (λ n. is_some (lookup_name n (listed ms))) (sym q) ∙ (known.0 e).1)) ∙ sym (known.0 e).0))
-        by (inr (inr q)) = subst PlacesByCondition (sym q) (ap (λ b. places_where (codes "else") b (itself (codes "else") (read step d).whole)) (present (codes "if") ∙ sym (if_beside_else ms (ap (λ n. is_some (lookup_name n (listed ms))) (sym q) ∙ (known.0 e).1)) ∙ sym (known.0 e).0))
+        by (inr (inl q)) =
+            subst PlacesByCondition (sym q) (ap (λ b. places_where (codes "then") b (itself (codes "then") (read step d).whole))
+                (present (codes "if") ∙ sym (if_beside_then ms (ap (λ n. is_some (lookup_name n (listed ms))) (sym q) ∙ (known.0 e).1)) ∙ sym (known.0 e).0))
+        by (inr (inr q)) =
+            subst PlacesByCondition (sym q) (ap (λ b. places_where (codes "else") b (itself (codes "else") (read step d).whole))
+                (present (codes "if") ∙ sym (if_beside_else ms (ap (λ n. is_some (lookup_name n (listed ms))) (sym q) ∙ (known.0 e).1)) ∙ sym (known.0 e).0))
 
 -- what is shown where the test holds, of the schema that stands there
 module _ (W : World) (u : Bool) (v : Data) where
@@ -92,14 +101,13 @@ module _ (W : World) (ms : Members) (u : Bool) (v : Data) where
   -- ---- where `if` is not read
 
   module _ (d : Data) (alone : is_condition ms ≡ false) where
-    pub if_accepts_alone : member_accepts W ms (codes "if", d) if_keyword u v ≡ true
-    if_accepts_alone = refl
-
-    pub if_asks_alone : member_asks W ms (codes "if", d) if_keyword u v ≡ 0
-    if_asks_alone = (let z : 0 + cond (is_conditional neighbours) ((read (meaning_step W u) d).whole.answer.asks v) 0 ≡ cond (is_conditional neighbours) ((read (meaning_step W u) d).whole.answer.asks v) 0 = omega arith in z) ∙ ap (λ b. cond b ((read (meaning_step W u) d).whole.answer.asks v) 0) (condition_read (meaning_step W u) ms ∙ alone)
 
     pub if_shows_alone : (P Q : Path) → member_child W ms (codes "if", d) if_keyword u v P Q ≡ []
-    if_shows_alone P Q = ap (λ b. put_if b (plain (P // codes "if") Q (put_if ((read (meaning_step W u) d).whole.answer.accepts v) ((read (meaning_step W u) d).whole.answer.tree v (P // codes "if") Q) [] ++ case_trees W u neighbours v P Q (codes "if") (read (meaning_step W u) d) ((read (meaning_step W u) d).whole.answer.accepts v) (codes "then") ++ case_trees W u neighbours v P Q (codes "if") (read (meaning_step W u) d) (not ((read (meaning_step W u) d).whole.answer.accepts v)) (codes "else"))) []) (condition_read (meaning_step W u) ms ∙ alone)
+    if_shows_alone P Q =
+        ap (λ b. put_if b (plain (P // codes "if") Q (put_if ((read (meaning_step W u) d).whole.answer.accepts v)
+            ((read (meaning_step W u) d).whole.answer.tree v (P // codes "if") Q) [] ++ case_trees W u neighbours v P Q (codes "if") (read (meaning_step W u) d)
+            ((read (meaning_step W u) d).whole.answer.accepts v) (codes "then") ++ case_trees W u neighbours v P Q (codes "if") (read (meaning_step W u) d)
+            (not ((read (meaning_step W u) d).whole.answer.accepts v)) (codes "else"))) []) (condition_read (meaning_step W u) ms ∙ alone)
 
   -- `then` and `else` without `if`
   module _ (d : Data) (absent : lookup_name (codes "if") (listed ms) ≡ None) where
@@ -107,22 +115,23 @@ module _ (W : World) (ms : Members) (u : Bool) (v : Data) where
     none = wholes_absent (meaning_step W u) ms (codes "if") (sym (lookup_listed (codes "if") ms) ∙ absent)
 
     pub then_accepts_alone : member_accepts W ms (codes "then", d) then_keyword u v ≡ true
-    then_accepts_alone = ap (λ ss. list_all (λ a. a.sub.answer.accepts a.value) (put_if (list_any (λ s. s.answer.accepts v) ss) (asked (read (meaning_step W u) d).whole v (codes "then" ∷ []) []) []) && true) none
-
-    pub then_asks_alone : member_asks W ms (codes "then", d) then_keyword u v ≡ 0
-    then_asks_alone = ap (λ ss. sum_by (λ a. a.sub.answer.asks a.value) (put_if (list_any (λ s. s.answer.accepts v) ss) (asked (read (meaning_step W u) d).whole v (codes "then" ∷ []) []) []) + 0) none
+    then_accepts_alone =
+        ap (λ ss. list_all (λ a. a.sub.answer.accepts a.value) (put_if (list_any (λ s. s.answer.accepts v) ss) (asked (read (meaning_step W u) d).whole v (codes "then" ∷ []) []) []) && true) none
 
     pub else_accepts_alone : member_accepts W ms (codes "else", d) else_keyword u v ≡ true
-    else_accepts_alone = ap (λ ss. list_all (λ a. a.sub.answer.accepts a.value) (put_if (list_any (λ s. not (s.answer.accepts v)) ss) (asked (read (meaning_step W u) d).whole v (codes "else" ∷ []) []) []) && true) none
-
-    pub else_asks_alone : member_asks W ms (codes "else", d) else_keyword u v ≡ 0
-    else_asks_alone = ap (λ ss. sum_by (λ a. a.sub.answer.asks a.value) (put_if (list_any (λ s. not (s.answer.accepts v)) ss) (asked (read (meaning_step W u) d).whole v (codes "else" ∷ []) []) []) + 0) none
+    else_accepts_alone =
+        ap (λ ss. list_all (λ a. a.sub.answer.accepts a.value) (put_if (list_any (λ s. not (s.answer.accepts v)) ss)
+            (asked (read (meaning_step W u) d).whole v (codes "else" ∷ []) []) []) && true) none
 
     pub then_report_alone : (P Q : Path) → member_report W ms (codes "then", d) then_keyword u v P Q ≡ []
-    then_report_alone P Q = ap (λ ss. flat_map (λ a. a.sub.answer.report a.value (down P a.in_schema) (down Q a.in_instance)) (put_if (list_any (λ s. s.answer.accepts v) ss) (asked (read (meaning_step W u) d).whole v (codes "then" ∷ []) []) []) ++ []) none
+    then_report_alone P Q =
+        ap (λ ss. flat_map (λ a. a.sub.answer.report a.value (down P a.in_schema) (down Q a.in_instance))
+            (put_if (list_any (λ s. s.answer.accepts v) ss) (asked (read (meaning_step W u) d).whole v (codes "then" ∷ []) []) []) ++ []) none
 
     pub else_report_alone : (P Q : Path) → member_report W ms (codes "else", d) else_keyword u v P Q ≡ []
-    else_report_alone P Q = ap (λ ss. flat_map (λ a. a.sub.answer.report a.value (down P a.in_schema) (down Q a.in_instance)) (put_if (list_any (λ s. not (s.answer.accepts v)) ss) (asked (read (meaning_step W u) d).whole v (codes "else" ∷ []) []) []) ++ []) none
+    else_report_alone P Q =
+        ap (λ ss. flat_map (λ a. a.sub.answer.report a.value (down P a.in_schema) (down Q a.in_instance))
+            (put_if (list_any (λ s. not (s.answer.accepts v)) ss) (asked (read (meaning_step W u) d).whole v (codes "else" ∷ []) []) []) ++ []) none
 
   -- ---- where it is read
 
@@ -140,8 +149,6 @@ module _ (W : World) (ms : Members) (u : Bool) (v : Data) where
     if_fails = ap (list_any (λ s. not (s.answer.accepts v))) at_if ∙ or-false _
 
     module _ (read_here : is_condition ms ≡ true) where
-      pub if_accepts_beside : member_accepts W ms (codes "if", d) if_keyword u v ≡ true
-      if_accepts_beside = refl
 
       pub if_asks_beside : member_asks W ms (codes "if", d) if_keyword u v ≡ asks W u d v
       unfolding meaning
@@ -162,7 +169,8 @@ module _ (W : World) (ms : Members) (u : Bool) (v : Data) where
       asks_where true k = nothing_last _ ∙ sum_by-cons (λ (a : Asked). a.sub.answer.asks a.value) (asked (read (meaning_step W u) e).whole v (k ∷ []) []) [] ∙ nothing_last _
       asks_where false k = refl
 
-      found_where : (b : Bool) (k : Name) (P Q : Path) → flat_map (λ a. a.sub.answer.report a.value (down P a.in_schema) (down Q a.in_instance)) (asked_where b k) ++ [] ≡ cond b (report W u e v (P // k) Q) []
+      found_where : (b : Bool) (k : Name) (P Q : Path) → flat_map (λ a. a.sub.answer.report a.value (down P a.in_schema) (down Q a.in_instance)) (asked_where b k)
+          ++ [] ≡ cond b (report W u e v (P // k) Q) []
       unfolding meaning
       found_where true k P Q = append-nil _ ∙ append-nil _
       found_where false k P Q = refl
@@ -174,7 +182,9 @@ module _ (W : World) (ms : Members) (u : Bool) (v : Data) where
       then_asks_beside = ap (λ b. sum_by (λ a. a.sub.answer.asks a.value) (asked_where b (codes "then")) + 0) if_holds ∙ asks_where (accepts W u d v) (codes "then")
 
       pub then_report_beside : (P Q : Path) → member_report W ms (codes "then", e) then_keyword u v P Q ≡ cond (accepts W u d v) (report W u e v (P // codes "then") Q) []
-      then_report_beside P Q = ap (λ b. flat_map (λ a. a.sub.answer.report a.value (down P a.in_schema) (down Q a.in_instance)) (asked_where b (codes "then")) ++ []) if_holds ∙ found_where (accepts W u d v) (codes "then") P Q
+      then_report_beside P Q =
+          ap (λ b. flat_map (λ a. a.sub.answer.report a.value (down P a.in_schema) (down Q a.in_instance)) (asked_where b (codes "then")) ++ []) if_holds
+              ∙ found_where (accepts W u d v) (codes "then") P Q
 
       pub else_accepts_beside : member_accepts W ms (codes "else", e) else_keyword u v ≡ cond (not (accepts W u d v)) (accepts W u e v) true
       else_accepts_beside = ap (λ b. list_all (λ a. a.sub.answer.accepts a.value) (asked_where b (codes "else")) && true) if_fails ∙ accepted_where (not (accepts W u d v)) (codes "else")
@@ -183,19 +193,24 @@ module _ (W : World) (ms : Members) (u : Bool) (v : Data) where
       else_asks_beside = ap (λ b. sum_by (λ a. a.sub.answer.asks a.value) (asked_where b (codes "else")) + 0) if_fails ∙ asks_where (not (accepts W u d v)) (codes "else")
 
       pub else_report_beside : (P Q : Path) → member_report W ms (codes "else", e) else_keyword u v P Q ≡ cond (not (accepts W u d v)) (report W u e v (P // codes "else") Q) []
-      else_report_beside P Q = ap (λ b. flat_map (λ a. a.sub.answer.report a.value (down P a.in_schema) (down Q a.in_instance)) (asked_where b (codes "else")) ++ []) if_fails ∙ found_where (not (accepts W u d v)) (codes "else") P Q
+      else_report_beside P Q =
+          ap (λ b. flat_map (λ a. a.sub.answer.report a.value (down P a.in_schema) (down Q a.in_instance)) (asked_where b (codes "else")) ++ []) if_fails
+              ∙ found_where (not (accepts W u d v)) (codes "else") P Q
 
   -- what stands at a name, shown where the test holds
   case_read : (d : Data) (b : Bool) (k : Name) (P Q : Path) → case_trees W u neighbours v P Q (codes "if") (read (meaning_step W u) d) b k ≡ case_shown W u v b (P // k) Q (lookup_name k (listed ms))
   unfolding meaning
-  case_read d b k P Q = ap (flat_map (λ s. put_if b (s.answer.tree v (P // k) Q) [])) (wholes_at_read (meaning_step W u) ms k ∙ ap (λ o. map (place (meaning_step W u)) (option_to_list o)) (sym (lookup_listed k ms))) ∙ by (lookup_name k (listed ms))
+  case_read d b k P Q =
+      ap (flat_map (λ s. put_if b (s.answer.tree v (P // k) Q) [])) (wholes_at_read (meaning_step W u) ms k ∙ ap (λ o. map (place (meaning_step W u)) (option_to_list o))
+          (sym (lookup_listed k ms))) ∙ by (lookup_name k (listed ms))
     where
       by : (o : Option Data) → flat_map (λ s. put_if b (s.answer.tree v (P // k) Q) []) (map (place (meaning_step W u)) (option_to_list o)) ≡ case_shown W u v b (P // k) Q o
       by None = refl
       by (Some d) = append-nil _
 
   pub if_shows_beside : (d : Data) → is_condition ms ≡ true → (P Q : Path) → member_child W ms (codes "if", d) if_keyword u v P Q
-      ≡ plain (P // codes "if") Q (put_if (accepts W u d v) (tree W u d v (P // codes "if") Q) [] ++ case_shown W u v (accepts W u d v) (P // codes "then") Q (lookup_name (codes "then") (listed ms)) ++ case_shown W u v (not (accepts W u d v)) (P // codes "else") Q (lookup_name (codes "else") (listed ms))) ∷ []
+      ≡ plain (P // codes "if") Q (put_if (accepts W u d v) (tree W u d v (P // codes "if") Q) [] ++ case_shown W u v (accepts W u d v) (P // codes "then") Q
+          (lookup_name (codes "then") (listed ms)) ++ case_shown W u v (not (accepts W u d v)) (P // codes "else") Q (lookup_name (codes "else") (listed ms))) ∷ []
   unfolding meaning
   if_shows_beside d e P Q = λ i. put_if ((condition_read (meaning_step W u) ms ∙ e) i)
       (plain (P // codes "if") Q (put_if ((whole_read (meaning_step W u) d i).answer.accepts v) ((whole_read (meaning_step W u) d i).answer.tree v (P // codes "if") Q) []
@@ -210,7 +225,8 @@ pub record MeansNothing (W : World) (ms : Members) (m : Name × Data) : Type 0 w
   pub report : (u : Bool) (v : Data) (P Q : Path) → member_report W ms m (keyword_named W m.0) u v P Q ≡ []
   pub child : (u : Bool) (v : Data) (P Q : Path) → member_child W ms m (keyword_named W m.0) u v P Q ≡ []
 
-pub unpaired_means_nothing : (W : World) (ms : Members) (m : Name × Data) → is_conditional_name m.0 ≡ true → is_condition ms ≡ false → is_some (lookup_name m.0 (listed ms)) ≡ true → MeansNothing W ms m
+pub unpaired_means_nothing : (W : World) (ms : Members) (m : Name × Data) → is_conditional_name m.0 ≡ true → is_condition ms ≡ false
+    → is_some (lookup_name m.0 (listed ms)) ≡ true → MeansNothing W ms m
 unpaired_means_nothing W ms m e unread there = by (conditional_named m.0 e)
   where
     absent : (n : Name) → is_condition ms ≡ is_some (lookup_name n (listed ms)) → lookup_name n (listed ms) ≡ None

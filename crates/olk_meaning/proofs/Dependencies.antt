@@ -12,22 +12,20 @@ use Rattle.olk_spec.specs.Names.{Name, Path, ◌//◌, down, is_empty, filter_on
 use Rattle.olk_spec.specs.World.{World}
 use Rattle.olk_spec.specs.Vocabulary.{dependent_required, dependent_schemas, dependencies}
 use Rattle.olk_spec.specs.Faults.{Fault, ◌∼◌, like_empty, like_through}
-use Rattle.olk_spec.specs.Schemas.{Schema, Keywords, read, read_members, members, has, texts, is_array}
+use Rattle.olk_spec.specs.Schemas.{Schema, Keywords, read, members, has, texts, is_array}
 use Rattle.olk_spec.specs.Meanings.{asked_whole}
 use Rattle.olk_spec.specs.Meaning.{accepts, asks, report, tree, meaning, meaning_step}
 use Rattle.olk_spec.specs.Accepts.{missing, due}
 use Rattle.olk_spec.specs.Reports.{required_faults}
 use Rattle.olk_spec.specs.Tree.{plain, erring}
-use Rattle.olk_spec.specs.Malformed.{each, own_refusals, read_places, unless_object, not_a_text, name_list_refusals, malformations_step, malformations_at}
-use Rattle.olk_spec.specs.Costs.{cost, cost_step, no_cost, total_cost}
+use Rattle.olk_spec.specs.Malformed.{each, own_refusals, read_places, unless_object, not_a_text, name_list_refusals}
 use Rattle.olk_spec.proofs.Truth.{and_first, and_second}
 use Rattle.olk_spec.proofs.Order.{∼_before, ∼_behind, ∼_swap}
 use Rattle.olk_spec.proofs.Maps.{flat_map-map, map-map, filter_once-map}
 use Rattle.olk_spec.proofs.Reading.{entry, entries_read, schema_of_read}
-use Rattle.olk_meaning.specs.Members.{member_accepts, member_asks, member_report, member_child, member_malformations, member_cost}
+use Rattle.olk_meaning.specs.Members.{member_accepts, member_asks, member_report, member_child}
 use Rattle.olk_meaning.specs.Dependencies.{due_entries, list_entries, schema_entries, are_lists, dependency_accepts, dependency_asks, dependency_report, dependency_shown}
-use Rattle.olk_spec.proofs.CostSums.{sum_first}
-use Rattle.olk_meaning.proofs.Facts.{at_whole_accept, at_whole_ask, at_whole_find, each_malformations, each_costs, nothing_first, nothing_last}
+use Rattle.olk_meaning.proofs.Facts.{at_whole_accept, at_whole_ask, at_whole_find, nothing_first, nothing_last}
 use Rattle.olk_meaning.proofs.Children.{whole_shown}
 
 -- ---- those of a list, in two parts
@@ -68,7 +66,8 @@ module _ {X : Type 0} (h a : X → Bool) where
     all_parted [] = refl
     all_parted (x ∷ xs) = by (h x) (a x) (same x) (all_parted xs)
       where
-        by : (p q : Bool) → c x ≡ cond q (g x) (f x) → (list_all f (unlike xs) && list_all g (alike xs)) ≡ list_all c (filter_once h xs) → (list_all f (put_if (p && not q) x (unlike xs)) && list_all g (put_if (p && q) x (alike xs))) ≡ list_all c (put_if p x (filter_once h xs))
+        by : (p q : Bool) → c x ≡ cond q (g x) (f x) → (list_all f (unlike xs) && list_all g (alike xs)) ≡ list_all c (filter_once h xs)
+            → (list_all f (put_if (p && not q) x (unlike xs)) && list_all g (put_if (p && q) x (alike xs))) ≡ list_all c (put_if p x (filter_once h xs))
         by true true e r = and_between _ (g x) _ _ r ∙ ap (λ b. b && list_all c (filter_once h xs)) (sym e)
         by true false e r = and_around (f x) _ _ _ r ∙ ap (λ b. b && list_all c (filter_once h xs)) (sym e)
         by false q e r = r
@@ -112,7 +111,9 @@ module _ {X : Type 0} (step : Schema X → X) (d v : Data) where
   entries_due = ap (filter_once (λ e. has e.0 v)) (entries_read step d) ∙ filter_once-map (λ e. has e.0 v) (λ e. has e.0 v) (entry step) (λ e. refl) (members d)
 
   schemas_due : filter_once (λ e. has e.0 v && not (is_array e.1.schema)) (read step d).entries ≡ map (entry step) (filter_once (λ e. has e.0 v && not (is_array e.1)) (members d))
-  schemas_due = ap (filter_once (λ e. has e.0 v && not (is_array e.1.schema))) (entries_read step d) ∙ filter_once-map (λ e. has e.0 v && not (is_array e.1.schema)) (λ e. has e.0 v && not (is_array e.1)) (entry step) (λ e. refl) (members d)
+  schemas_due =
+      ap (filter_once (λ e. has e.0 v && not (is_array e.1.schema))) (entries_read step d) ∙ filter_once-map (λ e. has e.0 v && not (is_array e.1.schema))
+          (λ e. has e.0 v && not (is_array e.1)) (entry step) (λ e. refl) (members d)
 
   lists_due : due (read step d) v ≡ map (λ e. (e.0, texts e.1)) (filter_once (λ e. has e.0 v && is_array e.1) (members d))
   lists_due = due_read ∙ ap (map {A = Name × Data} (λ e. (e.0, texts e.1))) (filter_once-filter_once (λ e. has e.0 v) (λ e. is_array e.1) (members d))
@@ -122,12 +123,15 @@ module _ (W : World) (ms : Members) (d : Data) (u : Bool) (v : Data) where
 
   module _ (lists : are_lists d ≡ true) where
     pub dependent_required_accepts : member_accepts W ms (codes "dependentRequired", d) dependent_required u v ≡ list_all (λ e. is_empty (missing (texts e.1) v)) (due_entries d v)
-    dependent_required_accepts = ap (list_all (λ e. is_empty (missing e.1 v))) (due_lists (meaning_step W u) d v lists) ∙ list_all-map (λ e. is_empty (missing e.1 v)) (λ e. (e.0, texts e.1)) (due_entries d v)
+    dependent_required_accepts =
+        ap (list_all (λ e. is_empty (missing e.1 v))) (due_lists (meaning_step W u) d v lists) ∙ list_all-map (λ e. is_empty (missing e.1 v)) (λ e. (e.0, texts e.1)) (due_entries d v)
 
-    pub dependent_required_report : (P Q : Path) → member_report W ms (codes "dependentRequired", d) dependent_required u v P Q ≡ flat_map (λ e. required_faults (texts e.1) v (P // codes "dependentRequired") Q) (due_entries d v)
+    pub dependent_required_report : (P Q : Path) → member_report W ms (codes "dependentRequired", d) dependent_required u v P Q ≡ flat_map
+        (λ e. required_faults (texts e.1) v (P // codes "dependentRequired") Q) (due_entries d v)
     dependent_required_report P Q =
         ap (flat_map (λ e. required_faults e.1 v (P // codes "dependentRequired") Q)) (due_lists (meaning_step W u) d v lists)
-        ∙ flat_map-map (λ e. required_faults e.1 v (P // codes "dependentRequired") Q) (λ e. required_faults (texts e.1) v (P // codes "dependentRequired") Q) (λ e. (e.0, texts e.1)) (λ e. refl) (due_entries d v)
+        ∙ flat_map-map (λ e. required_faults e.1 v (P // codes "dependentRequired") Q) (λ e. required_faults (texts e.1) v (P // codes "dependentRequired") Q)
+            (λ e. (e.0, texts e.1)) (λ e. refl) (due_entries d v)
 
     pub dependent_required_child : (P Q : Path) → member_child W ms (codes "dependentRequired", d) dependent_required u v P Q
         ≡ plain (P // codes "dependentRequired") Q (map (λ e. erring (P // codes "dependentRequired") Q (required_faults (texts e.1) v (P // codes "dependentRequired") Q)) (due_entries d v)) ∷ []
@@ -154,14 +158,16 @@ module _ (W : World) (ms : Members) (d : Data) (u : Bool) (v : Data) where
       ∙ ap (λ es. sum_by (λ a. a.sub.answer.asks a.value) (asked_whole (codes "dependentSchemas") v es)) (entries_due (meaning_step W u) d v)
       ∙ at_whole_ask (meaning_step W u) (codes "dependentSchemas") v (due_entries d v)
 
-  pub dependent_schemas_report : (P Q : Path) → member_report W ms (codes "dependentSchemas", d) dependent_schemas u v P Q ≡ flat_map (λ e. report W u e.1 v (P // codes "dependentSchemas" // e.0) Q) (due_entries d v)
+  pub dependent_schemas_report : (P Q : Path) → member_report W ms (codes "dependentSchemas", d) dependent_schemas u v P Q ≡ flat_map
+      (λ e. report W u e.1 v (P // codes "dependentSchemas" // e.0) Q) (due_entries d v)
   unfolding meaning
   dependent_schemas_report P Q =
       append-nil _
       ∙ ap (λ es. flat_map (λ a. a.sub.answer.report a.value (down P a.in_schema) (down Q a.in_instance)) (asked_whole (codes "dependentSchemas") v es)) (entries_due (meaning_step W u) d v)
       ∙ at_whole_find (meaning_step W u) (codes "dependentSchemas") v P Q (due_entries d v)
 
-  pub dependent_schemas_child : (P Q : Path) → member_child W ms (codes "dependentSchemas", d) dependent_schemas u v P Q ≡ plain (P // codes "dependentSchemas") Q (map (λ e. tree W u e.1 v (P // codes "dependentSchemas" // e.0) Q) (due_entries d v)) ∷ []
+  pub dependent_schemas_child : (P Q : Path) → member_child W ms (codes "dependentSchemas", d) dependent_schemas u v P Q ≡ plain (P // codes "dependentSchemas") Q
+      (map (λ e. tree W u e.1 v (P // codes "dependentSchemas" // e.0) Q) (due_entries d v)) ∷ []
   unfolding meaning
   dependent_schemas_child P Q = ap (λ ts. plain (P // codes "dependentSchemas") Q ts ∷ [])
       (ap (λ es. map (λ a. a.sub.answer.tree a.value (down P a.in_schema) (down Q a.in_instance)) (asked_whole (codes "dependentSchemas") v es)) (entries_due (meaning_step W u) d v)
@@ -172,8 +178,10 @@ module _ (W : World) (ms : Members) (d : Data) (u : Bool) (v : Data) where
   pub dependencies_accepts : member_accepts W ms (codes "dependencies", d) dependencies u v ≡ list_all (λ e. dependency_accepts W u e v) (due_entries d v)
   unfolding meaning
   dependencies_accepts =
-      (λ i. list_all (λ a. a.sub.answer.accepts a.value) (asked_whole (codes "dependencies") v (schemas_due (meaning_step W u) d v i)) && list_all (λ e. is_empty (missing e.1 v)) (lists_due (meaning_step W u) d v i))
-      ∙ (λ i. at_whole_accept (meaning_step W u) (codes "dependencies") v (filter_once (λ e. has e.0 v && not (is_array e.1)) (members d)) i && list_all-map (λ (e : Name × List Name). is_empty (missing e.1 v)) (λ e. (e.0, texts e.1)) (filter_once (λ e. has e.0 v && is_array e.1) (members d)) i)
+      (λ i. list_all (λ a. a.sub.answer.accepts a.value) (asked_whole (codes "dependencies") v (schemas_due (meaning_step W u) d v i))
+          && list_all (λ e. is_empty (missing e.1 v)) (lists_due (meaning_step W u) d v i))
+      ∙ (λ i. at_whole_accept (meaning_step W u) (codes "dependencies") v (filter_once (λ e. has e.0 v && not (is_array e.1)) (members d)) i
+          && list_all-map (λ (e : Name × List Name). is_empty (missing e.1 v)) (λ e. (e.0, texts e.1)) (filter_once (λ e. has e.0 v && is_array e.1) (members d)) i)
       ∙ all_parted (λ e. has e.0 v) (λ e. is_array e.1) (λ e. accepts W u e.1 v) (λ e. is_empty (missing (texts e.1) v)) (λ e. dependency_accepts W u e v) (λ e. refl) (members d)
 
   pub dependencies_asks : member_asks W ms (codes "dependencies", d) dependencies u v ≡ sum_by (λ e. dependency_asks W u e v) (due_entries d v)
@@ -188,18 +196,25 @@ module _ (W : World) (ms : Members) (d : Data) (u : Bool) (v : Data) where
   pub dependencies_report : (P Q : Path) → member_report W ms (codes "dependencies", d) dependencies u v P Q ∼ flat_map (λ e. dependency_report W u e v (P // codes "dependencies") Q) (due_entries d v)
   unfolding meaning
   dependencies_report P Q = subst (λ fs. fs ∼ flat_map (λ e. dependency_report W u e v (P // codes "dependencies") Q) (due_entries d v)) (sym parted)
-      (found_parted (λ e. has e.0 v) (λ e. is_array e.1) (λ e. report W u e.1 v (P // codes "dependencies" // e.0) Q) (λ e. required_faults (texts e.1) v (P // codes "dependencies") Q) (λ e. dependency_report W u e v (P // codes "dependencies") Q) (λ e. refl) (members d))
+      (found_parted (λ e. has e.0 v) (λ e. is_array e.1) (λ e. report W u e.1 v (P // codes "dependencies" // e.0) Q)
+          (λ e. required_faults (texts e.1) v (P // codes "dependencies") Q) (λ e. dependency_report W u e v (P // codes "dependencies") Q) (λ e. refl) (members d))
     where
       parted : member_report W ms (codes "dependencies", d) dependencies u v P Q
-          ≡ flat_map (λ e. report W u e.1 v (P // codes "dependencies" // e.0) Q) (filter_once (λ e. has e.0 v && not (is_array e.1)) (members d)) ++ flat_map (λ e. required_faults (texts e.1) v (P // codes "dependencies") Q) (filter_once (λ e. has e.0 v && is_array e.1) (members d))
+          ≡ flat_map (λ e. report W u e.1 v (P // codes "dependencies" // e.0) Q) (filter_once (λ e. has e.0 v && not (is_array e.1)) (members d))
+              ++ flat_map (λ e. required_faults (texts e.1) v (P // codes "dependencies") Q) (filter_once (λ e. has e.0 v && is_array e.1) (members d))
       parted =
-          (λ i. flat_map (λ a. a.sub.answer.report a.value (down P a.in_schema) (down Q a.in_instance)) (asked_whole (codes "dependencies") v (schemas_due (meaning_step W u) d v i)) ++ flat_map (λ e. required_faults e.1 v (P // codes "dependencies") Q) (lists_due (meaning_step W u) d v i))
-          ∙ (λ i. at_whole_find (meaning_step W u) (codes "dependencies") v P Q (filter_once (λ e. has e.0 v && not (is_array e.1)) (members d)) i ++ flat_map-map (λ (e : Name × List Name). required_faults e.1 v (P // codes "dependencies") Q) (λ e. required_faults (texts e.1) v (P // codes "dependencies") Q) (λ e. (e.0, texts e.1)) (λ e. refl) (filter_once (λ e. has e.0 v && is_array e.1) (members d)) i)
+          (λ i. flat_map (λ a. a.sub.answer.report a.value (down P a.in_schema) (down Q a.in_instance)) (asked_whole (codes "dependencies") v (schemas_due (meaning_step W u) d v i))
+              ++ flat_map (λ e. required_faults e.1 v (P // codes "dependencies") Q) (lists_due (meaning_step W u) d v i))
+          ∙ (λ i. at_whole_find (meaning_step W u) (codes "dependencies") v P Q (filter_once (λ e. has e.0 v && not (is_array e.1)) (members d)) i
+              ++ flat_map-map (λ (e : Name × List Name). required_faults e.1 v (P // codes "dependencies") Q) (λ e. required_faults (texts e.1) v (P // codes "dependencies") Q)
+              (λ e. (e.0, texts e.1)) (λ e. refl) (filter_once (λ e. has e.0 v && is_array e.1) (members d)) i)
 
-  pub dependencies_child : (P Q : Path) → member_child W ms (codes "dependencies", d) dependencies u v P Q ≡ plain (P // codes "dependencies") Q (map (λ e. dependency_shown W u e v (P // codes "dependencies") Q) (due_entries d v)) ∷ []
+  pub dependencies_child : (P Q : Path) → member_child W ms (codes "dependencies", d) dependencies u v P Q ≡ plain (P // codes "dependencies") Q
+      (map (λ e. dependency_shown W u e v (P // codes "dependencies") Q) (due_entries d v)) ∷ []
   unfolding meaning
   dependencies_child P Q = ap (λ ts. plain (P // codes "dependencies") Q ts ∷ [])
-      (ap (map (λ e. cond (is_array e.1.schema) (erring (P // codes "dependencies") Q (required_faults (texts e.1.schema) v (P // codes "dependencies") Q)) (e.1.answer.tree v (P // codes "dependencies" // e.0) Q))) (entries_due (meaning_step W u) d v)
+      (ap (map (λ e. cond (is_array e.1.schema) (erring (P // codes "dependencies") Q (required_faults (texts e.1.schema) v (P // codes "dependencies") Q))
+          (e.1.answer.tree v (P // codes "dependencies" // e.0) Q))) (entries_due (meaning_step W u) d v)
       ∙ map-map (λ e. cond (is_array e.1.schema) (erring (P // codes "dependencies") Q (required_faults (texts e.1.schema) v (P // codes "dependencies") Q)) (e.1.answer.tree v (P // codes "dependencies" // e.0) Q)) (λ e. dependency_shown W u e v (P // codes "dependencies") Q) (entry (meaning_step W u)) (λ e. refl) (due_entries d v))
 
 -- ---- what is wrong with them, and the places that they read
@@ -211,17 +226,12 @@ module _ {X : Type 0} (step : Schema X → X) (d : Data) (k : Name) where
         (λ i. unless_object (schema_of_read step d i) L ++ flat_map (λ e. name_list_refusals e.0 e.1.schema L) (entries_read step d i))
         ∙ ap (λ fs. unless_object d L ++ fs) (flat_map-map (λ e. name_list_refusals e.0 e.1.schema L) (λ e. name_list_refusals e.0 e.1 L) (entry step) (λ e. refl) (members d))
 
-    pub dependent_schemas_refusals : own_refusals W k (read step d) L dependent_schemas ≡ unless_object d L
-    dependent_schemas_refusals = ap (λ s. unless_object s L) (schema_of_read step d)
-
     pub dependencies_refusals : own_refusals W k (read step d) L dependencies ≡ unless_object d L ++ flat_map (λ e. not_a_text e.1 L) (members d)
     dependencies_refusals =
         (λ i. unless_object (schema_of_read step d i) L ++ flat_map (λ e. not_a_text e.1.schema L) (entries_read step d i))
         ∙ ap (λ fs. unless_object d L ++ fs) (flat_map-map (λ e. not_a_text e.1.schema L) (λ e. not_a_text e.1 L) (entry step) (λ e. refl) (members d))
 
   module _ (S : Keywords X) where
-    pub dependent_required_places : read_places k S (read step d) dependent_required ≡ []
-    dependent_required_places = refl
 
     pub dependent_schemas_places : read_places k S (read step d) dependent_schemas ≡ each k (map (entry step) (members d))
     dependent_schemas_places = ap (each k) (entries_read step d)
@@ -233,29 +243,3 @@ module _ {X : Type 0} (step : Schema X → X) (d : Data) (k : Name) where
 
 module _ (W : World) (ms : Members) (d : Data) where
   module _ (P : Path) where
-    pub dependent_required_malformations : member_malformations W ms (codes "dependentRequired", d) dependent_required P
-        ≡ unless_object d (P // codes "dependentRequired") ++ flat_map (λ e. name_list_refusals e.0 e.1 (P // codes "dependentRequired")) (members d)
-    dependent_required_malformations = append-nil _ ∙ dependent_required_refusals (malformations_step W) d (codes "dependentRequired") W (P // codes "dependentRequired")
-
-    pub dependent_schemas_malformations : member_malformations W ms (codes "dependentSchemas", d) dependent_schemas P
-        ≡ unless_object d (P // codes "dependentSchemas") ++ flat_map (λ e. malformations_at W e.1 (P // codes "dependentSchemas" // e.0)) (members d)
-    dependent_schemas_malformations = λ i. dependent_schemas_refusals (malformations_step W) d (codes "dependentSchemas") W (P // codes "dependentSchemas") i
-        ++ (ap (flat_map (λ r. r.0.answer (down P r.1))) (dependent_schemas_places (malformations_step W) d (codes "dependentSchemas") (read_members (malformations_step W) ms)) ∙ each_malformations W (codes "dependentSchemas") P (members d)) i
-
-    pub dependencies_malformations : member_malformations W ms (codes "dependencies", d) dependencies P
-        ≡ (unless_object d (P // codes "dependencies") ++ flat_map (λ e. not_a_text e.1 (P // codes "dependencies")) (members d)) ++ flat_map (λ e. malformations_at W e.1 (P // codes "dependencies" // e.0)) (schema_entries d)
-    dependencies_malformations = λ i. dependencies_refusals (malformations_step W) d (codes "dependencies") W (P // codes "dependencies") i
-        ++ (ap (flat_map (λ r. r.0.answer (down P r.1))) (dependencies_places (malformations_step W) d (codes "dependencies") (read_members (malformations_step W) ms)) ∙ each_malformations W (codes "dependencies") P (schema_entries d)) i
-
-  pub dependent_required_cost : member_cost W ms (codes "dependentRequired", d) dependent_required ≡ no_cost
-  dependent_required_cost = sum_first no_cost
-
-  pub dependent_schemas_cost : member_cost W ms (codes "dependentSchemas", d) dependent_schemas ≡ total_cost (λ e. cost W e.1) (members d)
-  dependent_schemas_cost = sum_first _
-      ∙ ap (total_cost (λ r. r.0.answer)) (dependent_schemas_places (cost_step W) d (codes "dependentSchemas") (read_members (cost_step W) ms))
-      ∙ each_costs W (codes "dependentSchemas") (members d)
-
-  pub dependencies_cost : member_cost W ms (codes "dependencies", d) dependencies ≡ total_cost (λ e. cost W e.1) (schema_entries d)
-  dependencies_cost = sum_first _
-      ∙ ap (total_cost (λ r. r.0.answer)) (dependencies_places (cost_step W) d (codes "dependencies") (read_members (cost_step W) ms))
-      ∙ each_costs W (codes "dependencies") (schema_entries d)

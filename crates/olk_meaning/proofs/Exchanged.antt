@@ -58,19 +58,22 @@ flat_map-filter_once t f (x ∷ xs) = by (t x) ∙ ap (λ l. cond (t x) (f x) []
 
 -- the pairs of which a test holds, by their first or by their second
 module _ {X Y : Type 0} (t : X → Y → Bool) where
-  pub list_all-exchanged : (f : X → Y → Bool) (xs : List X) (ys : List Y) → list_all (λ x. list_all (λ y. f x y) (filter_once (λ y. t x y) ys)) xs ≡ list_all (λ y. list_all (λ x. f x y) (filter_once (λ x. t x y) xs)) ys
+  pub list_all-exchanged : (f : X → Y → Bool) (xs : List X) (ys : List Y) → list_all (λ x. list_all (λ y. f x y) (filter_once (λ y. t x y) ys)) xs ≡ list_all
+      (λ y. list_all (λ x. f x y) (filter_once (λ x. t x y) xs)) ys
   list_all-exchanged f xs ys =
       (λ i. list_all (λ x. list_all-filter_once (λ y. f x y) (λ y. t x y) ys i) xs)
       ∙ list_all-inside_out (λ x y. not (t x y) || f x y) xs ys
       ∙ (λ i. list_all (λ y. sym (list_all-filter_once (λ x. f x y) (λ x. t x y) xs) i) ys)
 
-  pub ∼_exchanged : (f : X → Y → List Fault) (xs : List X) (ys : List Y) → flat_map (λ x. flat_map (λ y. f x y) (filter_once (λ y. t x y) ys)) xs ∼ flat_map (λ y. flat_map (λ x. f x y) (filter_once (λ x. t x y) xs)) ys
+  pub ∼_exchanged : (f : X → Y → List Fault) (xs : List X) (ys : List Y) → flat_map (λ x. flat_map (λ y. f x y) (filter_once (λ y. t x y) ys)) xs ∼ flat_map
+      (λ y. flat_map (λ x. f x y) (filter_once (λ x. t x y) xs)) ys
   ∼_exchanged f xs ys = subst₂ (λ a b. a ∼ b)
       (λ i. flat_map (λ x. sym (flat_map-filter_once (λ y. t x y) (λ y. f x y) ys) i) xs)
       (λ i. flat_map (λ y. sym (flat_map-filter_once (λ x. t x y) (λ x. f x y) xs) i) ys)
       (∼_inside_out (λ x y. cond (t x y) (f x y) []) xs ys)
 
-  pub sum_by-exchanged : (f : X → Y → ℕ) (xs : List X) (ys : List Y) → sum_by (λ x. sum_by (λ y. f x y) (filter_once (λ y. t x y) ys)) xs ≡ sum_by (λ y. sum_by (λ x. f x y) (filter_once (λ x. t x y) xs)) ys
+  pub sum_by-exchanged : (f : X → Y → ℕ) (xs : List X) (ys : List Y) → sum_by (λ x. sum_by (λ y. f x y) (filter_once (λ y. t x y) ys)) xs ≡ sum_by
+      (λ y. sum_by (λ x. f x y) (filter_once (λ x. t x y) xs)) ys
   sum_by-exchanged f xs ys =
       (λ i. sum_by (λ x. sym (sum_of_those (λ y. t x y) (λ y. f x y) ys) i) xs)
       ∙ sums_exchanged (λ x y. cond (t x y) (f x y) 0) xs ys

@@ -35,7 +35,8 @@ module _ {X Y : Type 0} (h : Y → X) where
   sum_by_under p [] = refl
   sum_by_under p (y ∷ ys) = sum_by-cons p (h y) (map h ys) ∙ ap (λ n. p (h y) + n) (sum_by_under p ys) ∙ sym (sum_by-cons (λ z. p (h z)) y ys)
 
-  numbered_from : (n : ℕ) (ys : List Y) → map {B = Name × X} (λ e. (decimal e.0, e.1)) (enumerate_from n (map h ys)) ≡ map {A = Name × Y} {B = Name × X} (λ e. (e.0, h e.1)) (map {B = Name × Y} (λ e. (decimal e.0, e.1)) (enumerate_from n ys))
+  numbered_from : (n : ℕ) (ys : List Y) → map {B = Name × X} (λ e. (decimal e.0, e.1)) (enumerate_from n (map h ys)) ≡ map {A = Name × Y} {B = Name × X}
+      (λ e. (e.0, h e.1)) (map {B = Name × Y} (λ e. (decimal e.0, e.1)) (enumerate_from n ys))
   numbered_from n [] = refl
   numbered_from n (y ∷ ys) = ap (λ l. (decimal n, h y) ∷ l) (numbered_from (n + 1) ys)
 
@@ -66,7 +67,8 @@ nothing_last n = omega arith
 -- ---- the places that a keyword reads
 
 module _ (W : World) (k : Name) where
-  pub each_malformations : (P : Path) (es : List (Name × Data)) → flat_map (λ r. r.0.answer (down P r.1)) (each k (map (entry (malformations_step W)) es)) ≡ flat_map (λ e. malformations_at W e.1 (P // k // e.0)) es
+  pub each_malformations : (P : Path) (es : List (Name × Data)) → flat_map (λ r. r.0.answer (down P r.1)) (each k (map (entry (malformations_step W)) es)) ≡ flat_map
+      (λ e. malformations_at W e.1 (P // k // e.0)) es
   unfolding malformations_at
   each_malformations P [] = refl
   each_malformations P (e ∷ es) = ap (λ l. malformations_at W e.1 (P // k // e.0) ++ l) (each_malformations P es)
@@ -95,11 +97,14 @@ module _ (step : Schema Meaning → Meaning) (k : Name) (v : Data) where
       ∙ (λ i. sum_by_under (λ w. asked (place step e.1) w (k ∷ e.0 ∷ []) (e.0 ∷ [])) (λ a. a.sub.answer.asks a.value) (at e.0 v) i + at_members_ask es i)
       ∙ sym (sum_by-cons (λ e. sum_by (answer_for step e.1).asks (at e.0 v)) e es)
 
-  at_members_find : (P Q : Path) (es : List (Name × Data)) → flat_map (λ a. a.sub.answer.report a.value (down P a.in_schema) (down Q a.in_instance)) (at_members (map (entry step) es)) ≡ flat_map (λ e. flat_map (λ w. (answer_for step e.1).report w (P // k // e.0) (Q // e.0)) (at e.0 v)) es
+  at_members_find : (P Q : Path) (es : List (Name × Data)) → flat_map (λ a. a.sub.answer.report a.value (down P a.in_schema) (down Q a.in_instance))
+      (at_members (map (entry step) es)) ≡ flat_map (λ e. flat_map (λ w. (answer_for step e.1).report w (P // k // e.0) (Q // e.0)) (at e.0 v)) es
   at_members_find P Q [] = refl
   at_members_find P Q (e ∷ es) =
-      flat_map-append (λ a. a.sub.answer.report a.value (down P a.in_schema) (down Q a.in_instance)) (map (λ w. asked (place step e.1) w (k ∷ e.0 ∷ []) (e.0 ∷ [])) (at e.0 v)) (at_members (map (entry step) es))
-      ∙ (λ i. flat_map-map (λ a. a.sub.answer.report a.value (down P a.in_schema) (down Q a.in_instance)) (λ w. (answer_for step e.1).report w (P // k // e.0) (Q // e.0)) (λ w. asked (place step e.1) w (k ∷ e.0 ∷ []) (e.0 ∷ [])) (λ w. refl) (at e.0 v) i ++ at_members_find P Q es i)
+      flat_map-append (λ a. a.sub.answer.report a.value (down P a.in_schema) (down Q a.in_instance)) (map (λ w. asked (place step e.1) w (k ∷ e.0 ∷ []) (e.0 ∷ [])) (at e.0 v))
+          (at_members (map (entry step) es))
+      ∙ (λ i. flat_map-map (λ a. a.sub.answer.report a.value (down P a.in_schema) (down Q a.in_instance)) (λ w. (answer_for step e.1).report w (P // k // e.0) (Q // e.0))
+          (λ w. asked (place step e.1) w (k ∷ e.0 ∷ []) (e.0 ∷ [])) (λ w. refl) (at e.0 v) i ++ at_members_find P Q es i)
 
   pub at_whole_accept : (es : List (Name × Data)) → list_all (λ a. a.sub.answer.accepts a.value) (asked_whole k v (map (entry step) es)) ≡ list_all (λ e. (answer_for step e.1).accepts v) es
   at_whole_accept [] = refl
@@ -112,7 +117,8 @@ module _ (step : Schema Meaning → Meaning) (k : Name) (v : Data) where
       ∙ ap (λ n. (answer_for step e.1).asks v + n) (at_whole_ask es)
       ∙ sym (sum_by-cons (λ e. (answer_for step e.1).asks v) e es)
 
-  pub at_whole_find : (P Q : Path) (es : List (Name × Data)) → flat_map (λ a. a.sub.answer.report a.value (down P a.in_schema) (down Q a.in_instance)) (asked_whole k v (map (entry step) es)) ≡ flat_map (λ e. (answer_for step e.1).report v (P // k // e.0) Q) es
+  pub at_whole_find : (P Q : Path) (es : List (Name × Data)) → flat_map (λ a. a.sub.answer.report a.value (down P a.in_schema) (down Q a.in_instance))
+      (asked_whole k v (map (entry step) es)) ≡ flat_map (λ e. (answer_for step e.1).report v (P // k // e.0) Q) es
   at_whole_find P Q [] = refl
   at_whole_find P Q (e ∷ es) = ap (λ l. (answer_for step e.1).report v (P // k // e.0) Q ++ l) (at_whole_find P Q es)
 
@@ -144,11 +150,13 @@ module _ (W : World) (ms : Members) where
           ∙ ap (λ es. sum_by (λ a. a.sub.answer.asks a.value) (at_members (meaning_step W u) (codes "properties") v es)) (entries_read (meaning_step W u) d)
           ∙ at_members_ask (meaning_step W u) (codes "properties") v (members d)
 
-      pub declared_find : (P Q : Path) → member_report W ms (codes "properties", d) properties u v P Q ≡ flat_map (λ e. flat_map (λ x. report W u e.1 x (P // codes "properties" // e.0) (Q // e.0)) (at e.0 v)) (members d)
+      pub declared_find : (P Q : Path) → member_report W ms (codes "properties", d) properties u v P Q ≡ flat_map
+          (λ e. flat_map (λ x. report W u e.1 x (P // codes "properties" // e.0) (Q // e.0)) (at e.0 v)) (members d)
       unfolding meaning
       declared_find P Q =
           append-nil _
-          ∙ ap (λ es. flat_map (λ a. a.sub.answer.report a.value (down P a.in_schema) (down Q a.in_instance)) (at_members (meaning_step W u) (codes "properties") v es)) (entries_read (meaning_step W u) d)
+          ∙ ap (λ es. flat_map (λ a. a.sub.answer.report a.value (down P a.in_schema) (down Q a.in_instance)) (at_members (meaning_step W u) (codes "properties") v es))
+              (entries_read (meaning_step W u) d)
           ∙ at_members_find (meaning_step W u) (codes "properties") v P Q (members d)
 
   module _ (fs : Members) where
@@ -159,7 +167,8 @@ module _ (W : World) (ms : Members) where
       pub properties_asks : member_asks W ms (codes "properties", object fs) properties u v ≡ sum_by (λ e. sum_by (asks W u e.1) (at e.0 v)) (listed fs)
       properties_asks = declared_ask (object fs) u v
 
-      pub properties_report : (P Q : Path) → member_report W ms (codes "properties", object fs) properties u v P Q ≡ flat_map (λ e. flat_map (λ x. report W u e.1 x (P // codes "properties" // e.0) (Q // e.0)) (at e.0 v)) (listed fs)
+      pub properties_report : (P Q : Path) → member_report W ms (codes "properties", object fs) properties u v P Q ≡ flat_map
+          (λ e. flat_map (λ x. report W u e.1 x (P // codes "properties" // e.0) (Q // e.0)) (at e.0 v)) (listed fs)
       properties_report = declared_find (object fs) u v
 
   -- ---- branches
@@ -202,7 +211,8 @@ module _ (W : World) (ms : Members) where
           ∙ sum_by_under (λ e. e.1) (λ s. s.answer.asks v) (map (entry (meaning_step W u)) (numbered (items_list ds)))
           ∙ sum_by_under (entry (meaning_step W u)) (λ e. e.1.answer.asks v) (numbered (items_list ds))
 
-      pub any_of_report : (P Q : Path) → member_report W ms (codes "anyOf", array ds) any_of u v P Q ≡ fault_if (not (list_any (λ e. accepts W u e.1 v) (numbered (items_list ds)))) (AnyOf (context (map (λ e. report W u e.1 v (P // codes "anyOf" // e.0) Q) (numbered (items_list ds))))) v (P // codes "anyOf") Q
+      pub any_of_report : (P Q : Path) → member_report W ms (codes "anyOf", array ds) any_of u v P Q ≡ fault_if (not (list_any (λ e. accepts W u e.1 v) (numbered (items_list ds))))
+          (AnyOf (context (map (λ e. report W u e.1 v (P // codes "anyOf" // e.0) Q) (numbered (items_list ds))))) v (P // codes "anyOf") Q
       unfolding meaning
       any_of_report P Q = λ i. fault_if (not (any_of_accepts i)) (AnyOf (context (branches_report W (codes "anyOf") ds u v P Q i))) v (P // codes "anyOf") Q
 

@@ -31,8 +31,11 @@ array_at (array is) ds e = ap (λ o. array (unwrap_or o ds)) e
 array_at (object fs) ds e = absurd (true≢false (sym (ap is_some e)))
 
 module _ (o : Option (Bor Value)) (v : Bor Value) (is : o ≡ Some v) where
-  pub few_declared : (es : List (String Global × Value)) (n : ℕ) → Some (members_view es) ≡ as_object (view v.now) → n ≡ length es → nat_lt n HASHMAP_THRESHOLD ≡ declares_few (option_map (λ x. view x.now) o)
-  few_declared es n e l = ap (λ k. nat_lt k HASHMAP_THRESHOLD) (l ∙ sym (listed_length es)) ∙ ap (λ d. declares_few (Some d)) (sym (object_at (view v.now) (members_view es) (sym e))) ∙ ap (λ p. declares_few (option_map (λ x. view x.now) p)) (sym is)
+  pub few_declared : (es : List (String Global × Value)) (n : ℕ) → Some (members_view es) ≡ as_object (view v.now) → n ≡ length es
+      → nat_lt n HASHMAP_THRESHOLD ≡ declares_few (option_map (λ x. view x.now) o)
+  few_declared es n e l =
+      ap (λ k. nat_lt k HASHMAP_THRESHOLD) (l ∙ sym (listed_length es)) ∙ ap (λ d. declares_few (Some d)) (sym (object_at (view v.now) (members_view es) (sym e)))
+          ∙ ap (λ p. declares_few (option_map (λ x. view x.now) p)) (sym is)
 
   pub not_two_items : (vs : List Value) → Some (items_view vs) ≡ as_array (view v.now) → (length vs ≡ 2 → ⊥) → None ≡ two_names (option_map (λ x. view x.now) o)
   not_two_items vs e l = sym (by vs l) ∙ ap (λ d. two_names (Some d)) (sym (array_at (view v.now) (items_view vs) (sym e))) ∙ ap (λ p. two_names (option_map (λ x. view x.now) p)) (sym is)

@@ -17,7 +17,8 @@ module _ {X : Type 0} where
   those_split p q h [] = IsPermutation-refl []
   those_split p q h (x ∷ xs) = by (p x) (q x) (h x) (those_split p q h xs)
     where
-      by : (a b : Bool) → (a ≡ true → b ≡ false) → IsPermutation (filter_once p xs ++ filter_once q xs) (filter_once (λ x. p x || q x) xs) → IsPermutation (put_if a x (filter_once p xs) ++ put_if b x (filter_once q xs)) (put_if (a || b) x (filter_once (λ x. p x || q x) xs))
+      by : (a b : Bool) → (a ≡ true → b ≡ false) → IsPermutation (filter_once p xs ++ filter_once q xs) (filter_once (λ x. p x || q x) xs)
+          → IsPermutation (put_if a x (filter_once p xs) ++ put_if b x (filter_once q xs)) (put_if (a || b) x (filter_once (λ x. p x || q x) xs))
       by true true d g = absurd (true≢false (d refl))
       by true false d g = IsPermutation-cons x _ _ g
       by false true d g = IsPermutation-trans _ _ _ (IsPermutation-middle (filter_once p xs) x (filter_once q xs)) (IsPermutation-cons x _ _ g)

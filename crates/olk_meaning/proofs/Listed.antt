@@ -33,7 +33,8 @@ pub named_once : (k : Name) (d : Data) (es : List (Name × Data)) → Distinct e
 named_once k d [] h e = absurd (true≢false (sym (ap is_some e)))
 named_once k d (m ∷ es) h e = by (slice_cmp nat_cmp k m.0) (is_eq-slice_cmp k m.0) e (named_once k d es h.1)
   where
-    by : (o : Ordering) → is_eq o ≡ bytes_eq k m.0 → first_if_equal o m.1 (lookup_name k es) ≡ Some d → (lookup_name k es ≡ Some d → members_named k es ≡ (k, d) ∷ []) → members_named k (m ∷ es) ≡ (k, d) ∷ []
+    by : (o : Ordering) → is_eq o ≡ bytes_eq k m.0 → first_if_equal o m.1 (lookup_name k es) ≡ Some d → (lookup_name k es ≡ Some d → members_named k es ≡ (k, d) ∷ [])
+        → members_named k (m ∷ es) ≡ (k, d) ∷ []
     by Less q f g = ap (λ b. put_if b m (members_named k es)) (sym q) ∙ g f
     by Greater q f g = ap (λ b. put_if b m (members_named k es)) (sym q) ∙ g f
     by Equal q f g =
@@ -62,20 +63,11 @@ pub lookup_among : (k : Name) (d : Data) (es : List (Name × Data)) → lookup_n
 lookup_among k d [] e = absurd (true≢false (sym (ap is_some e)))
 lookup_among k d (m ∷ es) e = by (slice_cmp nat_cmp k m.0) (is_eq-slice_cmp k m.0) e (lookup_among k d es)
   where
-    by : (o : Ordering) → is_eq o ≡ bytes_eq k m.0 → first_if_equal o m.1 (lookup_name k es) ≡ Some d → (lookup_name k es ≡ Some d → is_among k (names_of es) ≡ true) → is_among k (names_of (m ∷ es)) ≡ true
+    by : (o : Ordering) → is_eq o ≡ bytes_eq k m.0 → first_if_equal o m.1 (lookup_name k es) ≡ Some d → (lookup_name k es ≡ Some d → is_among k (names_of es) ≡ true)
+        → is_among k (names_of (m ∷ es)) ≡ true
     by Less q f g = ap (λ b. b || is_among k (names_of es)) (sym q) ∙ g f
     by Greater q f g = ap (λ b. b || is_among k (names_of es)) (sym q) ∙ g f
     by Equal q f g = ap (λ b. b || is_among k (names_of es)) (sym q)
-
--- a name is there where a look-up finds something
-pub among_found : {X : Type 0} (k : Name) (es : List (Name × X)) → is_among k (map (λ e. e.0) es) ≡ is_some (lookup_name k es)
-among_found k [] = refl
-among_found k (e ∷ es) = by (slice_cmp nat_cmp k e.0) (is_eq-slice_cmp k e.0) (among_found k es)
-  where
-    by : (o : Ordering) → is_eq o ≡ bytes_eq k e.0 → is_among k (map (λ e. e.0) es) ≡ is_some (lookup_name k es) → is_among k (map (λ e. e.0) (e ∷ es)) ≡ is_some (first_if_equal o e.1 (lookup_name k es))
-    by Less q h = ap (λ b. b || is_among k (map (λ e. e.0) es)) (sym q) ∙ h
-    by Greater q h = ap (λ b. b || is_among k (map (λ e. e.0) es)) (sym q) ∙ h
-    by Equal q h = ap (λ b. b || is_among k (map (λ e. e.0) es)) (sym q)
 
 -- ---- the members of a map
 
@@ -83,7 +75,8 @@ pub listed_length : (es : List (String Global × Value)) → length (listed (mem
 listed_length [] = refl
 listed_length (e ∷ es) = let h = listed_length es in omega (arith, h)
 
-later_differ : (k : String Global) (es : List (String Global × Value)) → AllByRecursion (λ y. string_cmp k y ≡ Less) (keys_of es) → is_among (string_bytes k) (map (λ m. m.0) (listed (members_view es))) ≡ false
+later_differ : (k : String Global) (es : List (String Global × Value)) → AllByRecursion (λ y. string_cmp k y ≡ Less) (keys_of es)
+    → is_among (string_bytes k) (map (λ m. m.0) (listed (members_view es))) ≡ false
 later_differ k [] h = refl
 later_differ k (e ∷ es) h = λ i. (sym (is_eq-slice_cmp (string_bytes k) (string_bytes e.0)) ∙ ap is_eq h.0) i || later_differ k es h.1 i
 
@@ -98,8 +91,10 @@ one_of P [] x ys h = h.0
 one_of P (y ∷ xs) x ys h = one_of P xs x ys h.1
 
 -- a look-up finds each member, where no name stands twice
-pub found_each : (ms : Members) → has_repeat (map (λ m. m.0) (listed ms)) ≡ false → (done : List (Name × Data)) (m : Name × Data) (rest : List (Name × Data)) → done ++ m ∷ rest ≡ listed ms → lookup_name m.0 (listed ms) ≡ Some m.1
-found_each ms h done m rest e = one_of (λ x. lookup_name x.0 (listed ms) ≡ Some x.1) done m rest (subst (λ l. Each (λ x. lookup_name x.0 (listed ms) ≡ Some x.1) l) (sym e) (Each-found (listed ms) (Distinct-from (listed ms) h)))
+pub found_each : (ms : Members) → has_repeat (map (λ m. m.0) (listed ms)) ≡ false → (done : List (Name × Data)) (m : Name × Data) (rest : List (Name × Data))
+    → done ++ m ∷ rest ≡ listed ms → lookup_name m.0 (listed ms) ≡ Some m.1
+found_each ms h done m rest e =
+    one_of (λ x. lookup_name x.0 (listed ms) ≡ Some x.1) done m rest (subst (λ l. Each (λ x. lookup_name x.0 (listed ms) ≡ Some x.1) l) (sym e) (Each-found (listed ms) (Distinct-from (listed ms) h)))
 
 -- a look-up finds something at each member's name
 pub present_each : (es done : List (Name × Data)) (m : Name × Data) (rest : List (Name × Data)) → done ++ m ∷ rest ≡ es → is_some (lookup_name m.0 es) ≡ true

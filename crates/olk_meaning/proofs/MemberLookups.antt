@@ -16,7 +16,8 @@ found_or Equal v rest d e = refl
 found_or Greater v rest d e = e
 
 -- the first entry at a name is the member at it
-pub view_lookup : (name : Name) (es : List (String Global × Value)) → option_map view (first_where (is_at (λ k. slice_cmp nat_cmp name (string_bytes k))) es) ≡ lookup_name name (listed (members_view es))
+pub view_lookup : (name : Name) (es : List (String Global × Value)) → option_map view
+    (first_where (is_at (λ k. slice_cmp nat_cmp name (string_bytes k))) es) ≡ lookup_name name (listed (members_view es))
 view_lookup name [] = refl
 view_lookup name (e ∷ es) = found_or (slice_cmp nat_cmp name (string_bytes e.0)) e.1 _ _ (view_lookup name es)
 
@@ -31,5 +32,6 @@ copied : (o : Option (Bor Value)) → option_map (λ v. view v.now) o ≡ option
 copied None = refl
 copied (Some v) = refl
 
-pub member_lookup : (o : Option (Bor Value)) (name : Name) (es : List (String Global × Value)) → option_copied o ≡ first_where (is_at (λ k. slice_cmp nat_cmp name (string_bytes k))) es → option_map (λ v. view v.now) o ≡ lookup_name name (listed (members_view es))
+pub member_lookup : (o : Option (Bor Value)) (name : Name) (es : List (String Global × Value)) → option_copied o ≡ first_where (is_at (λ k. slice_cmp nat_cmp name (string_bytes k))) es
+    → option_map (λ v. view v.now) o ≡ lookup_name name (listed (members_view es))
 member_lookup o name es e = copied o ∙ ap (option_map view) e ∙ view_lookup name es

@@ -40,19 +40,26 @@ module _ (W : World) (ms : Members) where
 
   pub object_report : (u : Bool) (v : Data) (P Q : Path) → report W u (object ms) v P Q ≡ flat_map (λ m. member_report W ms m (keyword_named W m.0) u v P Q) (listed ms)
   unfolding meaning
-  object_report u v P Q = ap (flat_map (λ m. keyword_report W u (read_members (meaning_step W u) ms) m.0 m.1 v P Q (keyword_named W m.0))) (members_read (meaning_step W u) ms) ∙ flat_map-map _ _ _ (λ m. refl) (listed ms)
+  object_report u v P Q =
+      ap (flat_map (λ m. keyword_report W u (read_members (meaning_step W u) ms) m.0 m.1 v P Q (keyword_named W m.0))) (members_read (meaning_step W u) ms) ∙ flat_map-map _ _ _ (λ m. refl) (listed ms)
 
   pub object_tree : (u : Bool) (v : Data) (P Q : Path) → tree W u (object ms) v P Q ≡ plain P Q (flat_map (λ m. member_child W ms m (keyword_named W m.0) u v P Q) (listed ms))
   unfolding meaning
-  object_tree u v P Q = ap (λ ps. plain P Q (flat_map (λ m. keyword_child W u (read_members (meaning_step W u) ms) v P Q m.0 m.1 (keyword_named W m.0)) ps)) (members_read (meaning_step W u) ms) ∙ ap (plain P Q) (flat_map-map _ _ _ (λ m. refl) (listed ms))
+  object_tree u v P Q =
+      ap (λ ps. plain P Q (flat_map (λ m. keyword_child W u (read_members (meaning_step W u) ms) v P Q m.0 m.1 (keyword_named W m.0)) ps)) (members_read (meaning_step W u) ms)
+          ∙ ap (plain P Q) (flat_map-map _ _ _ (λ m. refl) (listed ms))
 
   pub object_malformed : (P : Path) → malformations_at W (object ms) P ≡ flat_map (λ m. member_malformations W ms m (keyword_named W m.0) P) (listed ms)
   unfolding malformations_at
-  object_malformed P = ap (flat_map (λ m. keyword_malformations W (read_members (malformations_step W) ms) m.0 m.1 P (keyword_named W m.0))) (members_read (malformations_step W) ms) ∙ flat_map-map _ _ _ (λ m. refl) (listed ms)
+  object_malformed P =
+      ap (flat_map (λ m. keyword_malformations W (read_members (malformations_step W) ms) m.0 m.1 P (keyword_named W m.0))) (members_read (malformations_step W) ms)
+          ∙ flat_map-map _ _ _ (λ m. refl) (listed ms)
 
   pub object_cost : cost W (object ms) ≡ one_place ⊕ total_cost (λ m. member_cost W ms m (keyword_named W m.0)) (listed ms)
   unfolding cost
-  object_cost = ap (λ c. one_place ⊕ c) (ap (total_cost (λ m. keyword_cost W (read_members (cost_step W) ms) m.0 m.1 (keyword_named W m.0))) (members_read (cost_step W) ms) ∙ total_cost-map _ _ _ (λ m. refl) (listed ms))
+  object_cost =
+      ap (λ c. one_place ⊕ c) (ap (total_cost (λ m. keyword_cost W (read_members (cost_step W) ms) m.0 m.1 (keyword_named W m.0))) (members_read (cost_step W) ms)
+          ∙ total_cost-map _ _ _ (λ m. refl) (listed ms))
 
 -- ---- what is no schema, and the two truth values
 

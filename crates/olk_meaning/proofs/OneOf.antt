@@ -63,4 +63,5 @@ module _ (W : World) (u : Bool) (v : Data) where
     pub one_of_child : (P Q : Path) → member_child W ms (codes "oneOf", array ds) one_of u v P Q ≡ one_shown (accepting_count given) (P // codes "oneOf") Q given ∷ []
     one_of_child P Q = λ i. cond (counted i == 0)
         (result (P // codes "oneOf") Q None true [] (all_branches_shown W u v (codes "oneOf") P Q ds i))
-        (result (P // codes "oneOf") Q None false (put_if (nat_lt 1 (counted i)) (codes "oneOf", codes "more than one subschema succeeded", false) []) (accepting_branches_shown W u v (codes "oneOf") P Q ds i)) ∷ []
+        (result (P // codes "oneOf") Q None false (put_if (nat_lt 1 (counted i)) (codes "oneOf", codes "more than one subschema succeeded", false) [])
+            (accepting_branches_shown W u v (codes "oneOf") P Q ds i)) ∷ []

@@ -17,15 +17,15 @@ use Rattle.olk_spec.specs.Meanings.{Meaning, Subschema, Asked, asked, restricts,
 use Rattle.olk_spec.specs.Meaning.{accepts, asks, report, tree, meaning, meaning_step}
 use Rattle.olk_spec.specs.Asks.{open_patterns, asks_at}
 use Rattle.olk_spec.specs.Tree.{result}
-use Rattle.olk_spec.specs.Malformed.{refusal, each, unless_object, own_refusals, read_places, malformations_step, malformations_at}
+use Rattle.olk_spec.specs.Malformed.{refusal, each, unless_object, own_refusals, read_places}
 use Rattle.olk_spec.specs.Costs.{Cost, cost_step, own_cost, no_cost, ◌⊕◌, total_cost}
 use Rattle.olk_spec.proofs.CostSums.{sum_last}
 use Rattle.olk_spec.proofs.Maps.{map-map}
 use Rattle.olk_spec.proofs.Reading.{entry, entries_read, schema_of_read}
-use Rattle.olk_meaning.specs.Members.{member_accepts, member_asks, member_report, member_child, member_malformations}
+use Rattle.olk_meaning.specs.Members.{member_accepts, member_asks, member_report, member_child}
 use Rattle.olk_meaning.specs.PatternProperties.{matched_members, pattern_asks, open_names, pattern_faults, matcher_made, matchers_made, names_asked}
 use Rattle.olk_meaning.specs.AdditionalProperties.{declared_beside, matching_asks, patterns_asked}
-use Rattle.olk_meaning.proofs.Facts.{each_malformations, sum_by_under}
+use Rattle.olk_meaning.proofs.Facts.{sum_by_under}
 use Rattle.olk_meaning.proofs.Exchanged.{sum_of_both, sum_of_those, sums_exchanged, sum_by-exchanged}
 use Rattle.olk_meaning.specs.Conditions.{is_restricted, known_of}
 use Rattle.olk_meaning.proofs.Beside.{entries_beside, declared_read}
@@ -43,7 +43,8 @@ module _ (W : World) (u : Bool) (step : Schema Meaning → Meaning) (k : Name) (
   abbrev at_matched : List (Name × Data) → List Asked
   at_matched es = flat_map asked_in (map (entry step) es)
 
-  at_matched_accept : (es : List (Name × Data)) → list_all (λ a. a.sub.answer.accepts a.value) (at_matched es) ≡ list_all (λ e. list_all (λ x. (answer_for step e.1).accepts x.1) (matched_members W u e.0 v)) es
+  at_matched_accept : (es : List (Name × Data)) → list_all (λ a. a.sub.answer.accepts a.value) (at_matched es) ≡ list_all
+      (λ e. list_all (λ x. (answer_for step e.1).accepts x.1) (matched_members W u e.0 v)) es
   at_matched_accept [] = refl
   at_matched_accept (e ∷ es) =
       list_all-append (λ a. a.sub.answer.accepts a.value) (asked_in (entry step e)) (at_matched es)
@@ -57,21 +58,25 @@ module _ (W : World) (u : Bool) (step : Schema Meaning → Meaning) (k : Name) (
       ∙ sym (sum_by-cons (λ e. sum_by (λ x. (answer_for step e.1).asks x.1) (matched_members W u e.0 v)) e es)
 
   module _ (P Q : Path) where
-    found_in : (e : Name × Data) (xs : List (Name × Data)) → flat_map (λ a. a.sub.answer.report a.value (down P a.in_schema) (down Q a.in_instance)) (map (asked_of (entry step e)) xs) ≡ flat_map (λ x. (answer_for step e.1).report x.1 (P // k // e.0) (Q // x.0)) xs
+    found_in : (e : Name × Data) (xs : List (Name × Data)) → flat_map (λ a. a.sub.answer.report a.value (down P a.in_schema) (down Q a.in_instance))
+        (map (asked_of (entry step e)) xs) ≡ flat_map (λ x. (answer_for step e.1).report x.1 (P // k // e.0) (Q // x.0)) xs
     found_in e [] = refl
     found_in e (x ∷ xs) = ap (λ l. (answer_for step e.1).report x.1 (P // k // e.0) (Q // x.0) ++ l) (found_in e xs)
 
-    at_matched_find : (es : List (Name × Data)) → flat_map (λ a. a.sub.answer.report a.value (down P a.in_schema) (down Q a.in_instance)) (at_matched es) ≡ flat_map (λ e. flat_map (λ x. (answer_for step e.1).report x.1 (P // k // e.0) (Q // x.0)) (matched_members W u e.0 v)) es
+    at_matched_find : (es : List (Name × Data)) → flat_map (λ a. a.sub.answer.report a.value (down P a.in_schema) (down Q a.in_instance))
+        (at_matched es) ≡ flat_map (λ e. flat_map (λ x. (answer_for step e.1).report x.1 (P // k // e.0) (Q // x.0)) (matched_members W u e.0 v)) es
     at_matched_find [] = refl
     at_matched_find (e ∷ es) =
         flat_map-append (λ a. a.sub.answer.report a.value (down P a.in_schema) (down Q a.in_instance)) (asked_in (entry step e)) (at_matched es)
         ∙ (λ i. found_in e (matched_members W u e.0 v) i ++ at_matched_find es i)
 
-    at_matched_show : (es : List (Name × Data)) → map (λ a. a.sub.answer.tree a.value (down P a.in_schema) (down Q a.in_instance)) (at_matched es) ≡ flat_map (λ e. map (λ x. (answer_for step e.1).tree x.1 (P // k // e.0) (Q // x.0)) (matched_members W u e.0 v)) es
+    at_matched_show : (es : List (Name × Data)) → map (λ a. a.sub.answer.tree a.value (down P a.in_schema) (down Q a.in_instance)) (at_matched es) ≡ flat_map
+        (λ e. map (λ x. (answer_for step e.1).tree x.1 (P // k // e.0) (Q // x.0)) (matched_members W u e.0 v)) es
     at_matched_show [] = refl
     at_matched_show (e ∷ es) =
         map-append (λ a. a.sub.answer.tree a.value (down P a.in_schema) (down Q a.in_instance)) (asked_in (entry step e)) (at_matched es)
-        ∙ (λ i. map-map (λ a. a.sub.answer.tree a.value (down P a.in_schema) (down Q a.in_instance)) (λ x. (answer_for step e.1).tree x.1 (P // k // e.0) (Q // x.0)) (asked_of (entry step e)) (λ x. refl) (matched_members W u e.0 v) i ++ at_matched_show es i)
+        ∙ (λ i. map-map (λ a. a.sub.answer.tree a.value (down P a.in_schema) (down Q a.in_instance)) (λ x. (answer_for step e.1).tree x.1 (P // k // e.0) (Q // x.0))
+            (asked_of (entry step e)) (λ x. refl) (matched_members W u e.0 v) i ++ at_matched_show es i)
 
   named_by_entries : (es : List (Name × Data)) → flat_map (λ e. map (λ x. x.0) (matched_members W u e.0 v)) (map (entry step) es) ≡ flat_map (λ e. map (λ x. x.0) (matched_members W u e.0 v)) es
   named_by_entries [] = refl
@@ -100,18 +105,21 @@ module _ (W : World) where
 -- ---- what it means
 
 module _ (W : World) (ms : Members) (d : Data) (u : Bool) (v : Data) where
-  pub pattern_properties_accepts : member_accepts W ms (codes "patternProperties", d) pattern_properties u v ≡ list_all (λ e. list_all (λ x. accepts W u e.1 x.1) (matched_members W u e.0 v)) (members d)
+  pub pattern_properties_accepts : member_accepts W ms (codes "patternProperties", d) pattern_properties u v ≡ list_all
+      (λ e. list_all (λ x. accepts W u e.1 x.1) (matched_members W u e.0 v)) (members d)
   unfolding meaning
   pattern_properties_accepts =
       and-true _
       ∙ ap (λ es. list_all (λ a. a.sub.answer.accepts a.value) (flat_map (asked_in W u (meaning_step W u) (codes "patternProperties") v) es)) (entries_read (meaning_step W u) d)
       ∙ at_matched_accept W u (meaning_step W u) (codes "patternProperties") v (members d)
 
-  pub pattern_properties_report : (P Q : Path) → member_report W ms (codes "patternProperties", d) pattern_properties u v P Q ≡ flat_map (λ e. flat_map (λ x. report W u e.1 x.1 (P // codes "patternProperties" // e.0) (Q // x.0)) (matched_members W u e.0 v)) (members d)
+  pub pattern_properties_report : (P Q : Path) → member_report W ms (codes "patternProperties", d) pattern_properties u v P Q ≡ flat_map
+      (λ e. flat_map (λ x. report W u e.1 x.1 (P // codes "patternProperties" // e.0) (Q // x.0)) (matched_members W u e.0 v)) (members d)
   unfolding meaning
   pattern_properties_report P Q =
       append-nil _
-      ∙ ap (λ es. flat_map (λ a. a.sub.answer.report a.value (down P a.in_schema) (down Q a.in_instance)) (flat_map (asked_in W u (meaning_step W u) (codes "patternProperties") v) es)) (entries_read (meaning_step W u) d)
+      ∙ ap (λ es. flat_map (λ a. a.sub.answer.report a.value (down P a.in_schema) (down Q a.in_instance)) (flat_map (asked_in W u (meaning_step W u) (codes "patternProperties") v) es))
+          (entries_read (meaning_step W u) d)
       ∙ at_matched_find W u (meaning_step W u) (codes "patternProperties") v P Q (members d)
 
   -- ---- where it has a validator of its own
@@ -119,16 +127,19 @@ module _ (W : World) (ms : Members) (d : Data) (u : Bool) (v : Data) where
   module _ (free : restricts (read_members (meaning_step W u) ms) ≡ false) where
     own_asked : sum_by (λ m. asks_at W (read_members (meaning_step W u) ms) (read (meaning_step W u) d) m.0) (members v) ≡ sum_by (λ e. sum_by (λ x. pattern_asks W e.0) (members v)) (members d)
     own_asked =
-        (λ i. sum_by (λ m. cond (free i && is_declared (read_members (meaning_step W u) ms) m.0) (count_by (λ t. is_unfinished (W.says t m.0)) (open_patterns W (read (meaning_step W u) d))) (length (open_patterns W (read (meaning_step W u) d)))) (members v))
+        (λ i. sum_by (λ m. cond (free i && is_declared (read_members (meaning_step W u) ms) m.0)
+            (count_by (λ t. is_unfinished (W.says t m.0)) (open_patterns W (read (meaning_step W u) d))) (length (open_patterns W (read (meaning_step W u) d)))) (members v))
         ∙ ap (λ n. sum_by (λ (m : Name × Data). n) (members v)) (ap length (open_read W (meaning_step W u) d) ∙ open_counted W (members d))
         ∙ sym (sums_exchanged (λ (e x : Name × Data). pattern_asks W e.0) (members d) (members v))
 
-    asked_together : (e : Name × Data) → sum_by (λ x. pattern_asks W e.0 + cond (matches W u e.0 x.0) (asks W u e.1 x.1) 0) (members v) ≡ sum_by (λ x. pattern_asks W e.0) (members v) + sum_by (λ x. asks W u e.1 x.1) (matched_members W u e.0 v)
+    asked_together : (e : Name × Data) → sum_by (λ x. pattern_asks W e.0 + cond (matches W u e.0 x.0) (asks W u e.1 x.1) 0) (members v) ≡ sum_by
+        (λ x. pattern_asks W e.0) (members v) + sum_by (λ x. asks W u e.1 x.1) (matched_members W u e.0 v)
     asked_together e = sum_of_both (λ x. pattern_asks W e.0) (λ x. cond (matches W u e.0 x.0) (asks W u e.1 x.1) 0) (members v)
         ∙ ap (λ n. sum_by (λ x. pattern_asks W e.0) (members v) + n) (sum_of_those (λ x. matches W u e.0 x.0) (λ x. asks W u e.1 x.1) (members v))
 
     -- each matcher is asked each member's name, and where the pattern matches, its schema is asked
-    pub pattern_properties_asks : member_asks W ms (codes "patternProperties", d) pattern_properties u v ≡ sum_by (λ e. sum_by (λ x. pattern_asks W e.0 + cond (matches W u e.0 x.0) (asks W u e.1 x.1) 0) (members v)) (members d)
+    pub pattern_properties_asks : member_asks W ms (codes "patternProperties", d) pattern_properties u v ≡ sum_by
+        (λ e. sum_by (λ x. pattern_asks W e.0 + cond (matches W u e.0 x.0) (asks W u e.1 x.1) 0) (members v)) (members d)
     unfolding meaning
     pattern_properties_asks =
         (λ i. sum_by (λ a. a.sub.answer.asks a.value) (flat_map (asked_in W u (meaning_step W u) (codes "patternProperties") v) (entries_read (meaning_step W u) d i)) + own_asked i)
@@ -139,24 +150,36 @@ module _ (W : World) (ms : Members) (d : Data) (u : Bool) (v : Data) where
 
     -- a child for each match, and a name for each match, pattern by pattern
     pub pattern_properties_child : (P Q : Path) → member_child W ms (codes "patternProperties", d) pattern_properties u v P Q
-        ≡ result (P // codes "patternProperties") Q (cond (is_object v) (Some (flat_map (λ e. map (λ x. x.0) (matched_members W u e.0 v)) (members d))) None) false [] (flat_map (λ e. map (λ x. tree W u e.1 x.1 (P // codes "patternProperties" // e.0) (Q // x.0)) (matched_members W u e.0 v)) (members d)) ∷ []
+        ≡ result (P // codes "patternProperties") Q (cond (is_object v) (Some (flat_map (λ e. map (λ x. x.0) (matched_members W u e.0 v)) (members d))) None) false []
+            (flat_map (λ e. map (λ x. tree W u e.1 x.1 (P // codes "patternProperties" // e.0) (Q // x.0)) (matched_members W u e.0 v)) (members d)) ∷ []
     unfolding meaning
     pattern_properties_child P Q = λ i. put_if (not (free i)) (result (P // codes "patternProperties") Q (cond (and-true (is_object v) i) (Some (names i)) None) false [] (trees i)) []
       where
-        names : flat_map (λ e. map (λ m. m.0) (filter_once (λ m. matches W u e.0 m.0) (members v))) (read (meaning_step W u) d).entries ≡ flat_map (λ e. map (λ x. x.0) (matched_members W u e.0 v)) (members d)
-        names = ap (flat_map (λ (e : Name × Subschema). map (λ x. x.0) (matched_members W u e.0 v))) (entries_read (meaning_step W u) d) ∙ named_by_entries W u (meaning_step W u) (codes "patternProperties") v (members d)
+        names : flat_map (λ e. map (λ m. m.0) (filter_once (λ m. matches W u e.0 m.0) (members v))) (read (meaning_step W u) d).entries ≡ flat_map
+            (λ e. map (λ x. x.0) (matched_members W u e.0 v)) (members d)
+        names =
+            ap (flat_map (λ (e : Name × Subschema). map (λ x. x.0) (matched_members W u e.0 v))) (entries_read (meaning_step W u) d)
+                ∙ named_by_entries W u (meaning_step W u) (codes "patternProperties") v (members d)
 
-        trees : map (λ a. a.sub.answer.tree a.value (down P a.in_schema) (down Q a.in_instance)) (flat_map (asked_in W u (meaning_step W u) (codes "patternProperties") v) (read (meaning_step W u) d).entries) ≡ flat_map (λ e. map (λ x. tree W u e.1 x.1 (P // codes "patternProperties" // e.0) (Q // x.0)) (matched_members W u e.0 v)) (members d)
-        trees = ap (λ es. map (λ a. a.sub.answer.tree a.value (down P a.in_schema) (down Q a.in_instance)) (flat_map (asked_in W u (meaning_step W u) (codes "patternProperties") v) es)) (entries_read (meaning_step W u) d) ∙ at_matched_show W u (meaning_step W u) (codes "patternProperties") v P Q (members d)
+        trees : map (λ a. a.sub.answer.tree a.value (down P a.in_schema) (down Q a.in_instance))
+            (flat_map (asked_in W u (meaning_step W u) (codes "patternProperties") v) (read (meaning_step W u) d).entries) ≡ flat_map
+            (λ e. map (λ x. tree W u e.1 x.1 (P // codes "patternProperties" // e.0) (Q // x.0)) (matched_members W u e.0 v)) (members d)
+        trees =
+            ap (λ es. map (λ a. a.sub.answer.tree a.value (down P a.in_schema) (down Q a.in_instance)) (flat_map (asked_in W u (meaning_step W u) (codes "patternProperties") v) es))
+                (entries_read (meaning_step W u) d) ∙ at_matched_show W u (meaning_step W u) (codes "patternProperties") v P Q (members d)
 
   -- ---- where `additionalProperties` stands for it
 
   module _ (restricted : restricts (read_members (meaning_step W u) ms) ≡ true) where
-    table_asked : sum_by (λ m. asks_at W (read_members (meaning_step W u) ms) (read (meaning_step W u) d) m.0) (members v) ≡ sum_by (λ x. patterns_asked W (declared_beside ms) (members d) x.0) (members v)
-    table_asked = λ i. sum_by (λ m. cond (restricted i && declared_read (meaning_step W u) ms m.0 i) (count_by (λ t. is_unfinished (W.says t m.0)) (open_read W (meaning_step W u) d i)) (length (open_read W (meaning_step W u) d i))) (members v)
+    table_asked : sum_by (λ m. asks_at W (read_members (meaning_step W u) ms) (read (meaning_step W u) d) m.0) (members v) ≡ sum_by
+        (λ x. patterns_asked W (declared_beside ms) (members d) x.0) (members v)
+    table_asked =
+        λ i. sum_by (λ m. cond (restricted i && declared_read (meaning_step W u) ms m.0 i) (count_by (λ t. is_unfinished (W.says t m.0)) (open_read W (meaning_step W u) d i))
+            (length (open_read W (meaning_step W u) d i))) (members v)
 
     -- member by member the schemas of the patterns that match, and the matchers that are asked of its name
-    pub pattern_properties_asks_beside : member_asks W ms (codes "patternProperties", d) pattern_properties u v ≡ sum_by (λ x. matching_asks W u (declared_beside ms) (members d) x + patterns_asked W (declared_beside ms) (members d) x.0) (members v)
+    pub pattern_properties_asks_beside : member_asks W ms (codes "patternProperties", d) pattern_properties u v ≡ sum_by
+        (λ x. matching_asks W u (declared_beside ms) (members d) x + patterns_asked W (declared_beside ms) (members d) x.0) (members v)
     unfolding meaning
     pattern_properties_asks_beside =
         (λ i. sum_by (λ a. a.sub.answer.asks a.value) (flat_map (asked_in W u (meaning_step W u) (codes "patternProperties") v) (entries_read (meaning_step W u) d i)) + table_asked i)
@@ -179,16 +202,12 @@ module _ {X : Type 0} (step : Schema X → X) (d : Data) (k : Name) where
   pattern_properties_places S = ap (each k) (entries_read step d)
 
 module _ (W : World) (ms : Members) (d : Data) where
-  pub pattern_properties_malformations : (P : Path) → member_malformations W ms (codes "patternProperties", d) pattern_properties P
-      ≡ (unless_object d (P // codes "patternProperties") ++ unbuilt W d (P // codes "patternProperties"))
-      ++ flat_map (λ e. malformations_at W e.1 (P // codes "patternProperties" // e.0)) (members d)
-  pattern_properties_malformations P = λ i.
-      pattern_properties_refusals (malformations_step W) d (codes "patternProperties") W (P // codes "patternProperties") i
-      ++ (ap (flat_map (λ r. r.0.answer (down P r.1))) (pattern_properties_places (malformations_step W) d (codes "patternProperties") (read_members (malformations_step W) ms)) ∙ each_malformations W (codes "patternProperties") P (members d)) i
 
   -- a matcher for each pattern that has no test, and what is asked for a table
   abbrev pub tables_asked : Cost
-  tables_asked = record no_cost { table_asks = cond (restricts (read_members (cost_step W) ms)) (length (entries_at (read_members (cost_step W) ms) (codes "properties")) * length (open_patterns W (read (cost_step W) d))) 0 }
+  tables_asked =
+      record no_cost { table_asks = cond (restricts (read_members (cost_step W) ms))
+          (length (entries_at (read_members (cost_step W) ms) (codes "properties")) * length (open_patterns W (read (cost_step W) d))) 0 }
 
   pub pattern_properties_own_cost : own_cost W (read_members (cost_step W) ms) (read (cost_step W) d) pattern_properties ≡ matchers_made W d ⊕ tables_asked
   pattern_properties_own_cost = λ i. record no_cost { pattern_places = made i; table_asks = asked i }
@@ -201,7 +220,8 @@ module _ (W : World) (ms : Members) (d : Data) where
 
   pub pattern_properties_free_cost : restricts (read_members (cost_step W) ms) ≡ false → own_cost W (read_members (cost_step W) ms) (read (cost_step W) d) pattern_properties ≡ matchers_made W d
   pattern_properties_free_cost free = pattern_properties_own_cost
-      ∙ ap (λ b. matchers_made W d ⊕ record no_cost { table_asks = cond b (length (entries_at (read_members (cost_step W) ms) (codes "properties")) * length (open_patterns W (read (cost_step W) d))) 0 }) free
+      ∙ ap (λ b. matchers_made W d ⊕ record no_cost { table_asks = cond b
+          (length (entries_at (read_members (cost_step W) ms) (codes "properties")) * length (open_patterns W (read (cost_step W) d))) 0 }) free
       ∙ sum_last (matchers_made W d)
 
   -- each of its matchers is asked for each declared name
@@ -216,9 +236,11 @@ module _ (W : World) (ms : Members) (d : Data) where
   pub pattern_properties_known_cost : own_cost W (read_members (cost_step W) ms) (read (cost_step W) d) pattern_properties ≡ matchers_made W d ⊕ names_asked W (known_of ms).declared d
   pattern_properties_known_cost = by (is_restricted ms) refl
     where
-      by : (b : Bool) → is_restricted ms ≡ b → own_cost W (read_members (cost_step W) ms) (read (cost_step W) d) pattern_properties ≡ matchers_made W d ⊕ names_asked W (cond b (declared_beside ms) []) d
+      by : (b : Bool) → is_restricted ms ≡ b → own_cost W (read_members (cost_step W) ms) (read (cost_step W) d) pattern_properties ≡ matchers_made W d ⊕ names_asked W
+          (cond b (declared_beside ms) []) d
       by true e = pattern_properties_table_cost (restricted_read (cost_step W) ms ∙ e)
-      by false e = pattern_properties_free_cost (restricted_read (cost_step W) ms ∙ e) ∙ sym (sum_last (matchers_made W d)) ∙ ap (λ n. matchers_made W d ⊕ record no_cost { table_asks = n }) of_no_names
+      by false e =
+          pattern_properties_free_cost (restricted_read (cost_step W) ms ∙ e) ∙ sym (sum_last (matchers_made W d)) ∙ ap (λ n. matchers_made W d ⊕ record no_cost { table_asks = n }) of_no_names
         where
           of_no_names : 0 ≡ 0 * length (open_names W d)
           of_no_names = omega arith
@@ -230,7 +252,8 @@ module _ (W : World) where
   made_together [] = refl
   made_together (e ∷ es) = ap (λ c. matcher_made W e.0 ⊕ c) (made_together es) ∙ by (is_open W e.0)
     where
-      by : (b : Bool) → cond b (record no_cost { pattern_places = 1 }) no_cost ⊕ record no_cost { pattern_places = length (filter_once (is_open W) (map (λ e. e.0) es)) } ≡ record no_cost { pattern_places = length (put_if b e.0 (filter_once (is_open W) (map (λ e. e.0) es))) }
+      by : (b : Bool) → cond b (record no_cost { pattern_places = 1 }) no_cost ⊕ record no_cost { pattern_places = length
+          (filter_once (is_open W) (map (λ e. e.0) es)) } ≡ record no_cost { pattern_places = length (put_if b e.0 (filter_once (is_open W) (map (λ e. e.0) es))) }
       by true = λ i. record no_cost { pattern_places = one_more i }
         where
           one_more : 1 + length (filter_once (is_open W) (map (λ e. e.0) es)) ≡ length (e.0 ∷ filter_once (is_open W) (map (λ e. e.0) es))
@@ -240,11 +263,13 @@ module _ (W : World) where
           none : 0 + length (filter_once (is_open W) (map (λ e. e.0) es)) ≡ length (filter_once (is_open W) (map (λ e. e.0) es))
           none = omega arith
 
-  pub unbuilt_together : (L : Path) (es : List (Name × Data)) → flat_map (λ e. pattern_faults W L e.0) es ≡ map (λ t. refusal Regex (string t) (L // t)) (filter_once (λ t. not (W.builds t)) (filter_once (is_open W) (map (λ e. e.0) es)))
+  pub unbuilt_together : (L : Path) (es : List (Name × Data)) → flat_map (λ e. pattern_faults W L e.0) es ≡ map (λ t. refusal Regex (string t) (L // t))
+      (filter_once (λ t. not (W.builds t)) (filter_once (is_open W) (map (λ e. e.0) es)))
   unbuilt_together L [] = refl
   unbuilt_together L (e ∷ es) = ap (λ fs. pattern_faults W L e.0 ++ fs) (unbuilt_together L es) ∙ by (is_open W e.0) (W.builds e.0) refl
     where
-      by : (b c : Bool) → W.builds e.0 ≡ c → put_if (b && not c) (refusal Regex (string e.0) (L // e.0)) [] ++ map (λ t. refusal Regex (string t) (L // t)) (filter_once (λ t. not (W.builds t)) (filter_once (is_open W) (map (λ e. e.0) es)))
+      by : (b c : Bool) → W.builds e.0 ≡ c → put_if (b && not c) (refusal Regex (string e.0) (L // e.0)) [] ++ map (λ t. refusal Regex (string t) (L // t))
+          (filter_once (λ t. not (W.builds t)) (filter_once (is_open W) (map (λ e. e.0) es)))
           ≡ map (λ t. refusal Regex (string t) (L // t)) (filter_once (λ t. not (W.builds t)) (put_if b e.0 (filter_once (is_open W) (map (λ e. e.0) es))))
       by true true q = ap (λ c. map (λ t. refusal Regex (string t) (L // t)) (put_if (not c) e.0 (filter_once (λ t. not (W.builds t)) (filter_once (is_open W) (map (λ e. e.0) es))))) (sym q)
       by true false q = ap (λ c. map (λ t. refusal Regex (string t) (L // t)) (put_if (not c) e.0 (filter_once (λ t. not (W.builds t)) (filter_once (is_open W) (map (λ e. e.0) es))))) (sym q)

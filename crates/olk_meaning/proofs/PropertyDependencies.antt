@@ -21,11 +21,11 @@ use Rattle.olk_spec.specs.Meaning.{accepts, asks, report, tree, meaning, meaning
 use Rattle.olk_spec.specs.Tree.{plain}
 use Rattle.olk_spec.specs.Malformed.{own_refusals, read_places, unless_object, malformations_step, malformations_at}
 use Rattle.olk_spec.specs.Costs.{Cost, cost, cost_step, ◌⊕◌, total_cost}
-use Rattle.olk_spec.proofs.CostSums.{sum_first, total_cost-append, total_cost-map}
+use Rattle.olk_spec.proofs.CostSums.{total_cost-append, total_cost-map}
 use Rattle.olk_spec.proofs.Maps.{flat_map-map, map-map}
 use Rattle.olk_spec.proofs.Walks.{list_all-flat_map}
 use Rattle.olk_spec.proofs.Reading.{place, entry, inner_entry, inner_read, entries_read, schema_of_read}
-use Rattle.olk_meaning.specs.Members.{member_accepts, member_asks, member_report, member_child, member_malformations, member_cost}
+use Rattle.olk_meaning.specs.Members.{member_accepts, member_asks, member_report, member_child}
 use Rattle.olk_meaning.specs.PropertyDependencies.{chosen}
 use Rattle.olk_meaning.proofs.Facts.{sum_by_under, nothing_last}
 use Rattle.olk_meaning.proofs.Exchanged.{sum_by-flat_map}
@@ -63,20 +63,24 @@ module _ (step : Schema Meaning → Meaning) (k : Name) (v : Data) where
   abbrev asked_of : Name → Name × Data → Asked
   asked_of n c = asked (place step c.1) v (k ∷ n ∷ c.0 ∷ []) []
 
-  asked_at : (e : Name × Data) (ts : List Name) → flat_map (λ t. map (λ s. asked s v (k ∷ e.0 ∷ t ∷ []) []) (option_to_list (lookup_name t (map (entry step) (members e.1))))) ts ≡ map (asked_of e.0) (flat_map (λ t. map (λ s. (t, s)) (at t e.1)) ts)
+  asked_at : (e : Name × Data) (ts : List Name) → flat_map (λ t. map (λ s. asked s v (k ∷ e.0 ∷ t ∷ []) []) (option_to_list (lookup_name t (map (entry step) (members e.1))))) ts ≡ map
+      (asked_of e.0) (flat_map (λ t. map (λ s. (t, s)) (at t e.1)) ts)
   asked_at e [] = refl
   asked_at e (t ∷ ts) =
-      (λ i. (ap (map (λ s. asked s v (k ∷ e.0 ∷ t ∷ []) [])) (at_entries step t (members e.1)) ∙ map-map (λ s. asked s v (k ∷ e.0 ∷ t ∷ []) []) (λ s. asked_of e.0 (t, s)) (place step) (λ s. refl) (at t e.1)
+      (λ i. (ap (map (λ s. asked s v (k ∷ e.0 ∷ t ∷ []) [])) (at_entries step t (members e.1)) ∙ map-map (λ s. asked s v (k ∷ e.0 ∷ t ∷ []) [])
+          (λ s. asked_of e.0 (t, s)) (place step) (λ s. refl) (at t e.1)
       ∙ sym (map-map (asked_of e.0) (λ s. asked_of e.0 (t, s)) (λ s. (t, s)) (λ s. refl) (at t e.1))) i ++ asked_at e ts i)
       ∙ sym (map-append (asked_of e.0) (map (λ s. (t, s)) (at t e.1)) (flat_map (λ t. map (λ s. (t, s)) (at t e.1)) ts))
 
-  asked_by : (e : Name × Data) → flat_map (λ t. map (λ s. asked s v (k ∷ e.0 ∷ t ∷ []) []) (option_to_list (lookup_name t (map (entry step) (members e.1))))) (flat_map as_text (at e.0 v)) ≡ map (asked_of e.0) (chosen v e)
+  asked_by : (e : Name × Data) → flat_map (λ t. map (λ s. asked s v (k ∷ e.0 ∷ t ∷ []) []) (option_to_list (lookup_name t (map (entry step) (members e.1)))))
+      (flat_map as_text (at e.0 v)) ≡ map (asked_of e.0) (chosen v e)
   asked_by e = asked_at e (flat_map as_text (at e.0 v)) ∙ ap (map (asked_of e.0)) (flat_map-flat_map as_text (λ t. map (λ s. (t, s)) (at t e.1)) (at e.0 v))
 
   asked_read : (W : World) (u : Bool) (S : Keywords Meaning) (d : Data) → applied W u S k (read step d) v property_dependencies ≡ flat_map (λ e. map (asked_of e.0) (chosen v e)) (members d)
   asked_read W u S d =
       ap (flat_map (λ e. flat_map (λ t. map (λ s. asked s v (k ∷ e.0 ∷ t ∷ []) []) (option_to_list (lookup_name t e.1))) (flat_map as_text (at e.0 v)))) (inner_read step d)
-      ∙ flat_map-map (λ e. flat_map (λ t. map (λ s. asked s v (k ∷ e.0 ∷ t ∷ []) []) (option_to_list (lookup_name t e.1))) (flat_map as_text (at e.0 v))) (λ e. map (asked_of e.0) (chosen v e)) (inner_entry step) asked_by (members d)
+      ∙ flat_map-map (λ e. flat_map (λ t. map (λ s. asked s v (k ∷ e.0 ∷ t ∷ []) []) (option_to_list (lookup_name t e.1))) (flat_map as_text (at e.0 v)))
+          (λ e. map (asked_of e.0) (chosen v e)) (inner_entry step) asked_by (members d)
 
 -- ---- what it means
 
@@ -107,15 +111,18 @@ module _ (W : World) (ms : Members) (d : Data) (u : Bool) (v : Data) where
       ∙ (λ i. sum_by (λ e. sum_by_under (asked_here e.0) (λ a. a.sub.answer.asks a.value) (chosen v e) i) (members d))
 
   module _ (P Q : Path) where
-    pub property_dependencies_report : member_report W ms (codes "propertyDependencies", d) property_dependencies u v P Q ≡ flat_map (λ e. flat_map (λ c. report W u c.1 v (P // codes "propertyDependencies" // e.0 // c.0) Q) (chosen v e)) (members d)
+    pub property_dependencies_report : member_report W ms (codes "propertyDependencies", d) property_dependencies u v P Q ≡ flat_map
+        (λ e. flat_map (λ c. report W u c.1 v (P // codes "propertyDependencies" // e.0 // c.0) Q) (chosen v e)) (members d)
     unfolding meaning
     property_dependencies_report =
         append-nil _
         ∙ ap (flat_map (λ a. a.sub.answer.report a.value (down P a.in_schema) (down Q a.in_instance))) chosen_asked
         ∙ flat_map-flat_map (λ e. map (asked_here e.0) (chosen v e)) (λ a. a.sub.answer.report a.value (down P a.in_schema) (down Q a.in_instance)) (members d)
-        ∙ (λ i. flat_map (λ e. flat_map-map (λ a. a.sub.answer.report a.value (down P a.in_schema) (down Q a.in_instance)) (λ c. report W u c.1 v (P // codes "propertyDependencies" // e.0 // c.0) Q) (asked_here e.0) (λ c. refl) (chosen v e) i) (members d))
+        ∙ (λ i. flat_map (λ e. flat_map-map (λ a. a.sub.answer.report a.value (down P a.in_schema) (down Q a.in_instance))
+            (λ c. report W u c.1 v (P // codes "propertyDependencies" // e.0 // c.0) Q) (asked_here e.0) (λ c. refl) (chosen v e) i) (members d))
 
-    pub property_dependencies_child : member_child W ms (codes "propertyDependencies", d) property_dependencies u v P Q ≡ plain (P // codes "propertyDependencies") Q (flat_map (λ e. map (λ c. tree W u c.1 v (P // codes "propertyDependencies" // e.0 // c.0) Q) (chosen v e)) (members d)) ∷ []
+    pub property_dependencies_child : member_child W ms (codes "propertyDependencies", d) property_dependencies u v P Q ≡ plain (P // codes "propertyDependencies") Q
+        (flat_map (λ e. map (λ c. tree W u c.1 v (P // codes "propertyDependencies" // e.0 // c.0) Q) (chosen v e)) (members d)) ∷ []
     unfolding meaning
     property_dependencies_child = ap (λ ts. plain (P // codes "propertyDependencies") Q ts ∷ [])
         (ap (map (λ a. a.sub.answer.tree a.value (down P a.in_schema) (down Q a.in_instance))) chosen_asked
@@ -141,27 +148,19 @@ module _ {X : Type 0} (step : Schema X → X) (d : Data) (k : Name) where
       (λ e. map-map (λ i. (i.1, k ∷ e.0 ∷ i.0 ∷ [])) (λ c. (place step c.1, k ∷ e.0 ∷ c.0 ∷ [])) (entry step) (λ c. refl) (members e.1)) (members d)
 
 module _ (W : World) (d : Data) (k : Name) where
-  pub inner_malformations : (P : Path) → flat_map (λ r. r.0.answer (down P r.1)) (inner_places (malformations_step W) d k) ≡ flat_map (λ e. flat_map (λ c. malformations_at W c.1 (P // k // e.0 // c.0)) (members e.1)) (members d)
+  pub inner_malformations : (P : Path) → flat_map (λ r. r.0.answer (down P r.1)) (inner_places (malformations_step W) d k) ≡ flat_map
+      (λ e. flat_map (λ c. malformations_at W c.1 (P // k // e.0 // c.0)) (members e.1)) (members d)
   unfolding malformations_at
   inner_malformations P =
       flat_map-flat_map (λ e. map (λ c. (place (malformations_step W) c.1, k ∷ e.0 ∷ c.0 ∷ [])) (members e.1)) (λ r. r.0.answer (down P r.1)) (members d)
-      ∙ (λ i. flat_map (λ e. flat_map-map (λ (r : Sub (Path → List Fault) × List Name). r.0.answer (down P r.1)) (λ c. malformations_at W c.1 (P // k // e.0 // c.0)) (λ c. (place (malformations_step W) c.1, k ∷ e.0 ∷ c.0 ∷ [])) (λ c. refl) (members e.1) i) (members d))
+      ∙ (λ i. flat_map (λ e. flat_map-map (λ (r : Sub (Path → List Fault) × List Name). r.0.answer (down P r.1)) (λ c. malformations_at W c.1 (P // k // e.0 // c.0))
+          (λ c. (place (malformations_step W) c.1, k ∷ e.0 ∷ c.0 ∷ [])) (λ c. refl) (members e.1) i) (members d))
 
   pub inner_costs : total_cost (λ r. r.0.answer) (inner_places (cost_step W) d k) ≡ total_cost (λ e. total_cost (λ c. cost W c.1) (members e.1)) (members d)
   unfolding cost
   inner_costs =
       total_cost-flat_map (λ e. map (λ c. (place (cost_step W) c.1, k ∷ e.0 ∷ c.0 ∷ [])) (members e.1)) (λ r. r.0.answer) (members d)
-      ∙ (λ i. total_cost (λ e. total_cost-map (λ (r : Sub Cost × List Name). r.0.answer) (λ c. cost W c.1) (λ c. (place (cost_step W) c.1, k ∷ e.0 ∷ c.0 ∷ [])) (λ c. refl) (members e.1) i) (members d))
+      ∙ (λ i. total_cost (λ e. total_cost-map (λ (r : Sub Cost × List Name). r.0.answer) (λ c. cost W c.1) (λ c. (place (cost_step W) c.1, k ∷ e.0 ∷ c.0 ∷ []))
+          (λ c. refl) (members e.1) i) (members d))
 
 module _ (W : World) (ms : Members) (d : Data) where
-  pub property_dependencies_malformations : (P : Path) → member_malformations W ms (codes "propertyDependencies", d) property_dependencies P
-      ≡ (unless_object d (P // codes "propertyDependencies") ++ flat_map (λ e. unless_object e.1 (P // codes "propertyDependencies" // e.0)) (members d))
-      ++ flat_map (λ e. flat_map (λ c. malformations_at W c.1 (P // codes "propertyDependencies" // e.0 // c.0)) (members e.1)) (members d)
-  property_dependencies_malformations P = λ i.
-      property_dependencies_refusals (malformations_step W) d (codes "propertyDependencies") W (P // codes "propertyDependencies") i
-      ++ (ap (flat_map (λ r. r.0.answer (down P r.1))) (property_dependencies_places (malformations_step W) d (codes "propertyDependencies") (read_members (malformations_step W) ms)) ∙ inner_malformations W d (codes "propertyDependencies") P) i
-
-  pub property_dependencies_cost : member_cost W ms (codes "propertyDependencies", d) property_dependencies ≡ total_cost (λ e. total_cost (λ c. cost W c.1) (members e.1)) (members d)
-  property_dependencies_cost = sum_first _
-      ∙ ap (total_cost (λ r. r.0.answer)) (property_dependencies_places (cost_step W) d (codes "propertyDependencies") (read_members (cost_step W) ms))
-      ∙ inner_costs W d (codes "propertyDependencies")

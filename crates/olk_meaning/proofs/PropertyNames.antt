@@ -14,8 +14,8 @@ use Rattle.olk_spec.specs.Schemas.{Schema, Keywords, read, read_members, members
 use Rattle.olk_spec.specs.Meaning.{accepts, asks, report, tree, meaning, meaning_step}
 use Rattle.olk_spec.specs.Reports.{fault_if, wrapped}
 use Rattle.olk_spec.specs.Tree.{plain, erring}
-use Rattle.olk_spec.specs.Malformed.{itself, places_where, malformations_at, own_refusals, read_places, malformations_step}
-use Rattle.olk_spec.specs.Costs.{cost, cost_step, no_cost, total_cost}
+use Rattle.olk_spec.specs.Malformed.{itself, places_where, malformations_at, read_places, malformations_step}
+use Rattle.olk_spec.specs.Costs.{cost, cost_step, total_cost}
 use Rattle.olk_spec.proofs.CostSums.{sum_first, sum_last}
 use Rattle.olk_spec.proofs.Reading.{place, whole_read}
 use Rattle.olk_meaning.specs.Members.{member_accepts, member_asks, member_report, member_child, member_malformations, member_cost}
@@ -59,20 +59,27 @@ module _ (W : World) (ms : Members) (d : Data) (u : Bool) (v : Data) where
     accepts_by : member_accepts W ms (codes "propertyNames", d) property_names u v ≡ ((not names || list_all (λ m. accepts W u d (string m.0)) (members v)) && (not none || is_empty (members v)))
     unfolding meaning
     accepts_by =
-        (λ i. (not (is_object (whole_read (meaning_step W u) d i).schema) || list_all (λ m. (whole_read (meaning_step W u) d i).answer.accepts (string m.0)) (members v)) && (not (is_truth false (whole_read (meaning_step W u) d i).schema) || is_empty (members v)))
+        (λ i. (not (is_object (whole_read (meaning_step W u) d i).schema) || list_all (λ m. (whole_read (meaning_step W u) d i).answer.accepts (string m.0)) (members v))
+            && (not (is_truth false (whole_read (meaning_step W u) d i).schema) || is_empty (members v)))
         ∙ (λ i. (not (is_names i) || list_all (λ m. accepts W u d (string m.0)) (members v)) && (not (is_none i) || is_empty (members v)))
 
     report_by : (P Q : Path) → member_report W ms (codes "propertyNames", d) property_names u v P Q
-        ≡ flat_map (λ s. flat_map (λ m. map (wrapped v Q) (s.answer.report (string m.0) (P // codes "propertyNames") Q)) (members v)) (put_if names (place (meaning_step W u) d) []) ++ fault_if (none && not (is_empty (members v))) FalseSchema v (P // codes "propertyNames") Q
+        ≡ flat_map (λ s. flat_map (λ m. map (wrapped v Q) (s.answer.report (string m.0) (P // codes "propertyNames") Q)) (members v)) (put_if names (place (meaning_step W u) d) [])
+            ++ fault_if (none && not (is_empty (members v))) FalseSchema v (P // codes "propertyNames") Q
     report_by P Q =
-        (λ i. flat_map (λ s. flat_map (λ m. map (wrapped v Q) (s.answer.report (string m.0) (P // codes "propertyNames") Q)) (members v)) (put_if (is_object (whole_read (meaning_step W u) d i).schema) (whole_read (meaning_step W u) d i) []) ++ fault_if (is_truth false (whole_read (meaning_step W u) d i).schema && not (is_empty (members v))) FalseSchema v (P // codes "propertyNames") Q)
-        ∙ (λ i. flat_map (λ s. flat_map (λ m. map (wrapped v Q) (s.answer.report (string m.0) (P // codes "propertyNames") Q)) (members v)) (put_if (is_names i) (place (meaning_step W u) d) []) ++ fault_if (is_none i && not (is_empty (members v))) FalseSchema v (P // codes "propertyNames") Q)
+        (λ i. flat_map (λ s. flat_map (λ m. map (wrapped v Q) (s.answer.report (string m.0) (P // codes "propertyNames") Q)) (members v))
+            (put_if (is_object (whole_read (meaning_step W u) d i).schema) (whole_read (meaning_step W u) d i) [])
+            ++ fault_if (is_truth false (whole_read (meaning_step W u) d i).schema && not (is_empty (members v))) FalseSchema v (P // codes "propertyNames") Q)
+        ∙ (λ i. flat_map (λ s. flat_map (λ m. map (wrapped v Q) (s.answer.report (string m.0) (P // codes "propertyNames") Q)) (members v))
+            (put_if (is_names i) (place (meaning_step W u) d) []) ++ fault_if (is_none i && not (is_empty (members v))) FalseSchema v (P // codes "propertyNames") Q)
 
     child_by : (P Q : Path) → member_child W ms (codes "propertyNames", d) property_names u v P Q
-        ≡ put_if names (plain (P // codes "propertyNames") Q (map (λ m. tree W u d (string m.0) (P // codes "propertyNames") Q) (members v))) [] ++ put_if none (erring (P // codes "propertyNames") Q (fault_if (not (is_empty (members v))) FalseSchema v (P // codes "propertyNames") Q)) []
+        ≡ put_if names (plain (P // codes "propertyNames") Q (map (λ m. tree W u d (string m.0) (P // codes "propertyNames") Q) (members v))) []
+            ++ put_if none (erring (P // codes "propertyNames") Q (fault_if (not (is_empty (members v))) FalseSchema v (P // codes "propertyNames") Q)) []
     unfolding meaning
     child_by P Q =
-        (λ i. put_if (is_object (whole_read (meaning_step W u) d i).schema) (plain (P // codes "propertyNames") Q (map (λ m. (whole_read (meaning_step W u) d i).answer.tree (string m.0) (P // codes "propertyNames") Q) (members v))) []
+        (λ i. put_if (is_object (whole_read (meaning_step W u) d i).schema)
+            (plain (P // codes "propertyNames") Q (map (λ m. (whole_read (meaning_step W u) d i).answer.tree (string m.0) (P // codes "propertyNames") Q) (members v))) []
         ++ put_if (is_truth false (whole_read (meaning_step W u) d i).schema) (erring (P // codes "propertyNames") Q (fault_if (not (is_empty (members v))) FalseSchema v (P // codes "propertyNames") Q)) [])
         ∙ (λ i. put_if (is_names i) (plain (P // codes "propertyNames") Q (map (λ m. tree W u d (string m.0) (P // codes "propertyNames") Q) (members v))) []
         ++ put_if (is_none i) (erring (P // codes "propertyNames") Q (fault_if (not (is_empty (members v))) FalseSchema v (P // codes "propertyNames") Q)) [])
@@ -87,11 +94,13 @@ module _ (W : World) (ms : Members) (d : Data) (u : Bool) (v : Data) where
     pub property_names_accepts : member_accepts W ms (codes "propertyNames", d) property_names u v ≡ list_all (λ m. accepts W u d (string m.0)) (members v)
     property_names_accepts = accepts_by true false names (object_is_not_false d names) ∙ and-true _
 
-    pub property_names_report : (P Q : Path) → member_report W ms (codes "propertyNames", d) property_names u v P Q ≡ flat_map (λ m. map (wrapped v Q) (report W u d (string m.0) (P // codes "propertyNames") Q)) (members v)
+    pub property_names_report : (P Q : Path) → member_report W ms (codes "propertyNames", d) property_names u v P Q ≡ flat_map
+        (λ m. map (wrapped v Q) (report W u d (string m.0) (P // codes "propertyNames") Q)) (members v)
     unfolding meaning
     property_names_report P Q = report_by true false names (object_is_not_false d names) P Q ∙ append-nil _ ∙ append-nil _
 
-    pub property_names_child : (P Q : Path) → member_child W ms (codes "propertyNames", d) property_names u v P Q ≡ plain (P // codes "propertyNames") Q (map (λ m. tree W u d (string m.0) (P // codes "propertyNames") Q) (members v)) ∷ []
+    pub property_names_child : (P Q : Path) → member_child W ms (codes "propertyNames", d) property_names u v P Q ≡ plain (P // codes "propertyNames") Q
+        (map (λ m. tree W u d (string m.0) (P // codes "propertyNames") Q) (members v)) ∷ []
     property_names_child P Q = child_by true false names (object_is_not_false d names) P Q
 
   -- ---- no schema
@@ -108,7 +117,8 @@ module _ (W : World) (ms : Members) (d : Data) (u : Bool) (v : Data) where
     pub no_names_report : (P Q : Path) → member_report W ms (codes "propertyNames", d) property_names u v P Q ≡ fault_if (not (is_empty (members v))) FalseSchema v (P // codes "propertyNames") Q
     no_names_report P Q = report_by false true (false_is_no_object d none) none P Q
 
-    pub no_names_child : (P Q : Path) → member_child W ms (codes "propertyNames", d) property_names u v P Q ≡ erring (P // codes "propertyNames") Q (fault_if (not (is_empty (members v))) FalseSchema v (P // codes "propertyNames") Q) ∷ []
+    pub no_names_child : (P Q : Path) → member_child W ms (codes "propertyNames", d) property_names u v P Q ≡ erring (P // codes "propertyNames") Q
+        (fault_if (not (is_empty (members v))) FalseSchema v (P // codes "propertyNames") Q) ∷ []
     no_names_child P Q = child_by false true (false_is_no_object d none) none P Q
 
   -- ---- anything else is not read
@@ -126,8 +136,6 @@ module _ (W : World) (ms : Members) (d : Data) (u : Bool) (v : Data) where
 -- ---- what is wrong with it, and the places that it reads
 
 module _ {X : Type 0} (step : Schema X → X) (d : Data) (k : Name) where
-  pub property_names_refusals : (W : World) (L : Path) → own_refusals W k (read step d) L property_names ≡ []
-  property_names_refusals W L = refl
 
   module _ (S : Keywords X) where
     places_by : (b : Bool) → is_object d ≡ b → read_places k S (read step d) property_names ≡ places_where k b (itself k (place step d))
@@ -143,14 +151,9 @@ module _ (W : World) (ms : Members) (d : Data) where
   module _ (P : Path) where
     pub property_names_malformations : is_object d ≡ true → member_malformations W ms (codes "propertyNames", d) property_names P ≡ malformations_at W d (P // codes "propertyNames")
     unfolding malformations_at
-    property_names_malformations e = ap (flat_map (λ r. r.0.answer (down P r.1))) (property_names_places (malformations_step W) d (codes "propertyNames") (read_members (malformations_step W) ms) e) ∙ append-nil _
-
-    pub other_names_malformations : is_object d ≡ false → member_malformations W ms (codes "propertyNames", d) property_names P ≡ []
-    other_names_malformations e = ap (flat_map (λ r. r.0.answer (down P r.1))) (other_names_places (malformations_step W) d (codes "propertyNames") (read_members (malformations_step W) ms) e)
+    property_names_malformations e =
+        ap (flat_map (λ r. r.0.answer (down P r.1))) (property_names_places (malformations_step W) d (codes "propertyNames") (read_members (malformations_step W) ms) e) ∙ append-nil _
 
   pub property_names_cost : is_object d ≡ true → member_cost W ms (codes "propertyNames", d) property_names ≡ cost W d
   unfolding cost
   property_names_cost e = sum_first _ ∙ ap (total_cost (λ r. r.0.answer)) (property_names_places (cost_step W) d (codes "propertyNames") (read_members (cost_step W) ms) e) ∙ sum_last _
-
-  pub other_names_cost : is_object d ≡ false → member_cost W ms (codes "propertyNames", d) property_names ≡ no_cost
-  other_names_cost e = sum_first _ ∙ ap (total_cost (λ r. r.0.answer)) (other_names_places (cost_step W) d (codes "propertyNames") (read_members (cost_step W) ms) e)

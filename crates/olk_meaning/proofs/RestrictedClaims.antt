@@ -26,21 +26,25 @@ module _ (p : Planned) (restricted : p.restricted ≡ true) (unfused : is_some p
   not_taken n = cond (is_some p.fused_pair && bytes_eq (codes "required") n) (codes "properties") (cond (p.condition && is_case n) (codes "if") n)
 
   not_taken_alone : (k n : Name) → bytes_eq k (codes "if") ≡ false → is_case k ≡ false → bytes_eq k (not_taken n) ≡ bytes_eq k n
-  not_taken_alone k n e f = ap (λ b. bytes_eq k (cond (b && bytes_eq (codes "required") n) (codes "properties") (cond (p.condition && is_case n) (codes "if") n))) unfused ∙ past_cases p.condition k n (λ r. (e, f))
+  not_taken_alone k n e f =
+      ap (λ b. bytes_eq k (cond (b && bytes_eq (codes "required") n) (codes "properties") (cond (p.condition && is_case n) (codes "if") n))) unfused ∙ past_cases p.condition k n (λ r. (e, f))
 
   pub head_of_restriction : (n : Name) → bytes_eq (codes "additionalProperties") (head p n) ≡ is_below p n
   head_of_restriction n =
-      (λ i. bytes_eq (codes "additionalProperties") (cond ((restricted i && (bytes_eq-sym n (codes "properties") i || (bytes_eq-sym n (codes "patternProperties") i || false))) || (is_some p.fused_one && bytes_eq (codes "required") n)) (codes "additionalProperties") (not_taken n)))
+      (λ i. bytes_eq (codes "additionalProperties") (cond ((restricted i && (bytes_eq-sym n (codes "properties") i || (bytes_eq-sym n (codes "patternProperties") i || false)))
+          || (is_some p.fused_one && bytes_eq (codes "required") n)) (codes "additionalProperties") (not_taken n)))
       ∙ by (bytes_eq (codes "properties") n) (bytes_eq (codes "patternProperties") n) (is_some p.fused_one && bytes_eq (codes "required") n)
     where
-      by : (a b c : Bool) → bytes_eq (codes "additionalProperties") (cond ((true && (a || (b || false))) || c) (codes "additionalProperties") (not_taken n)) ≡ (bytes_eq (codes "additionalProperties") n || (a || (b || c)))
+      by : (a b c : Bool) → bytes_eq (codes "additionalProperties") (cond ((true && (a || (b || false))) || c) (codes "additionalProperties") (not_taken n)) ≡
+          (bytes_eq (codes "additionalProperties") n || (a || (b || c)))
       by true b c = or_true (bytes_eq (codes "additionalProperties") n)
       by false true c = or_true (bytes_eq (codes "additionalProperties") n)
       by false false true = or_true (bytes_eq (codes "additionalProperties") n)
       by false false false = not_taken_alone (codes "additionalProperties") n refl refl ∙ sym (or-false (bytes_eq (codes "additionalProperties") n))
 
   -- what is taken over is the head of nothing
-  taken_heads_none : (k : Name) → is_taken_over p k ≡ true → bytes_eq k (codes "additionalProperties") ≡ false → bytes_eq k (codes "if") ≡ false → is_case k ≡ false → (n : Name) → bytes_eq k (head p n) ≡ false
+  taken_heads_none : (k : Name) → is_taken_over p k ≡ true → bytes_eq k (codes "additionalProperties") ≡ false → bytes_eq k (codes "if") ≡ false
+      → is_case k ≡ false → (n : Name) → bytes_eq k (head p n) ≡ false
   taken_heads_none k e a b c n = by (is_taken_over p n) refl
     where
       other : (r : Bool) → bytes_eq k n ≡ r → is_taken_over p n ≡ false → r ≡ false
@@ -60,20 +64,27 @@ module _ (ms : Members) (restricted : is_restricted ms ≡ true) where
 
   module _ (es : List (Name × Data)) (d : Data) where
     pub claims_no_properties : claims (head (plan_of ms)) es (codes "properties", d) ≡ []
-    claims_no_properties = filter_once-same (λ (x : Name × Data). bytes_eq (codes "properties") (head plan x.0)) (λ x. false) (λ x. taken_heads_none plan restricted unfused (codes "properties") (ap (λ b. (b && true) || (is_some plan.fused_one && false)) restricted) refl refl refl x.0) es ∙ those_none es
+    claims_no_properties =
+        filter_once-same (λ (x : Name × Data). bytes_eq (codes "properties") (head plan x.0)) (λ x. false)
+            (λ x. taken_heads_none plan restricted unfused (codes "properties") (ap (λ b. (b && true) || (is_some plan.fused_one && false)) restricted) refl refl refl x.0) es ∙ those_none es
 
     pub claims_no_patterns : claims (head (plan_of ms)) es (codes "patternProperties", d) ≡ []
-    claims_no_patterns = filter_once-same (λ (x : Name × Data). bytes_eq (codes "patternProperties") (head plan x.0)) (λ x. false) (λ x. taken_heads_none plan restricted unfused (codes "patternProperties") (ap (λ b. (b && true) || (is_some plan.fused_one && false)) restricted) refl refl refl x.0) es ∙ those_none es
+    claims_no_patterns =
+        filter_once-same (λ (x : Name × Data). bytes_eq (codes "patternProperties") (head plan x.0)) (λ x. false)
+            (λ x. taken_heads_none plan restricted unfused (codes "patternProperties") (ap (λ b. (b && true) || (is_some plan.fused_one && false)) restricted) refl refl refl x.0) es ∙ those_none es
 
     pub claims_no_fused : is_some (fused_one ms) ≡ true → claims (head (plan_of ms)) es (codes "required", d) ≡ []
-    claims_no_fused f = filter_once-same (λ (x : Name × Data). bytes_eq (codes "required") (head plan x.0)) (λ x. false) (λ x. taken_heads_none plan restricted unfused (codes "required") (λ i. (restricted i && false) || (f i && true)) refl refl refl x.0) es ∙ those_none es
+    claims_no_fused f =
+        filter_once-same (λ (x : Name × Data). bytes_eq (codes "required") (head plan x.0)) (λ x. false)
+            (λ x. taken_heads_none plan restricted unfused (codes "required") (λ i. (restricted i && false) || (f i && true)) refl refl refl x.0) es ∙ those_none es
 
   module _ (distinct : has_repeat (names_of (listed ms)) ≡ false) where
     rows_found : (k : Name) → members_named k (listed ms) ≡ rows_at k ms
     rows_found k = members_found ms distinct k (lookup_name k (listed ms)) refl
 
     -- `required` of one name that is fused
-    fused_found : (o : Option Name) → fused_one ms ≡ o → filter_once (λ x. is_some o && bytes_eq (codes "required") x.0) (listed ms) ≡ map (λ n. (codes "required", array (item (string n) no_items))) (option_to_list o)
+    fused_found : (o : Option Name) → fused_one ms ≡ o → filter_once (λ x. is_some o && bytes_eq (codes "required") x.0) (listed ms) ≡ map
+        (λ n. (codes "required", array (item (string n) no_items))) (option_to_list o)
     fused_found None e = those_none (listed ms)
     fused_found (Some n) e = named_once (codes "required") (array (item (string n) no_items)) (listed ms) (Distinct-from (listed ms) distinct) (fuses_one_name ms n e).listed_at
 
@@ -83,18 +94,26 @@ module _ (ms : Members) (restricted : is_restricted ms ≡ true) where
     abbrev fused_here : Name → Bool
     fused_here n = is_some (fused_one ms) && bytes_eq (codes "required") n
 
-    tested : IsPermutation (members_named (codes "additionalProperties") (listed ms) ++ (members_named (codes "properties") (listed ms) ++ (members_named (codes "patternProperties") (listed ms) ++ filter_once (λ x. fused_here x.0) (listed ms)))) (filter_once (λ x. is_below plan x.0) (listed ms))
+    tested : IsPermutation (members_named (codes "additionalProperties") (listed ms)
+        ++ (members_named (codes "properties") (listed ms) ++ (members_named (codes "patternProperties") (listed ms) ++ filter_once (λ x. fused_here x.0) (listed ms))))
+        (filter_once (λ x. is_below plan x.0) (listed ms))
     tested = one_more (codes "additionalProperties") (λ n. bytes_eq (codes "properties") n || (bytes_eq (codes "patternProperties") n || fused_here n)) (and-false (is_some (fused_one ms)))
         (one_more (codes "properties") (λ n. bytes_eq (codes "patternProperties") n || fused_here n) (and-false (is_some (fused_one ms)))
         (one_more (codes "patternProperties") fused_here (and-false (is_some (fused_one ms))) (IsPermutation-refl (filter_once (λ x. fused_here x.0) (listed ms)))))
       where
-        one_more : (k : Name) (test : Name → Bool) {xs : List (Name × Data)} → test k ≡ false → IsPermutation xs (filter_once (λ x. test x.0) (listed ms)) → IsPermutation (members_named k (listed ms) ++ xs) (filter_once (λ x. bytes_eq k x.0 || test x.0) (listed ms))
-        one_more k test {xs} e h = IsPermutation-trans _ _ _ (IsPermutation-append _ _ _ _ (IsPermutation-refl (members_named k (listed ms))) h) (those_split (λ x. bytes_eq k x.0) (λ x. test x.0) (apart_of k test e) (listed ms))
+        one_more : (k : Name) (test : Name → Bool) {xs : List (Name × Data)} → test k ≡ false → IsPermutation xs (filter_once (λ x. test x.0) (listed ms))
+            → IsPermutation (members_named k (listed ms) ++ xs) (filter_once (λ x. bytes_eq k x.0 || test x.0) (listed ms))
+        one_more k test {xs} e h =
+            IsPermutation-trans _ _ _ (IsPermutation-append _ _ _ _ (IsPermutation-refl (members_named k (listed ms))) h)
+                (those_split (λ x. bytes_eq k x.0) (λ x. test x.0) (apart_of k test e) (listed ms))
 
     -- itself, `properties` and `patternProperties` where they stand, and `required` where it is fused
     pub claims_restriction : (d : Data) → lookup_name (codes "additionalProperties") (listed ms) ≡ Some d
-        → IsPermutation ((codes "additionalProperties", d) ∷ (rows_at (codes "properties") ms ++ (rows_at (codes "patternProperties") ms ++ fused_rows ms))) (claims (head (plan_of ms)) (listed ms) (codes "additionalProperties", d))
+        → IsPermutation ((codes "additionalProperties", d) ∷ (rows_at (codes "properties") ms ++ (rows_at (codes "patternProperties") ms ++ fused_rows ms)))
+            (claims (head (plan_of ms)) (listed ms) (codes "additionalProperties", d))
     claims_restriction d there = subst₂ IsPermutation
-        (λ i. named_once (codes "additionalProperties") d (listed ms) (Distinct-from (listed ms) distinct) there i ++ (rows_found (codes "properties") i ++ (rows_found (codes "patternProperties") i ++ fused_found (fused_one ms) refl i)))
-        (filter_once-same (λ (x : Name × Data). is_below plan x.0) (λ x. bytes_eq (codes "additionalProperties") (head plan x.0)) (λ x. sym (head_of_restriction plan restricted unfused x.0)) (listed ms))
+        (λ i. named_once (codes "additionalProperties") d (listed ms) (Distinct-from (listed ms) distinct) there i
+            ++ (rows_found (codes "properties") i ++ (rows_found (codes "patternProperties") i ++ fused_found (fused_one ms) refl i)))
+        (filter_once-same (λ (x : Name × Data). is_below plan x.0) (λ x. bytes_eq (codes "additionalProperties") (head plan x.0))
+            (λ x. sym (head_of_restriction plan restricted unfused x.0)) (listed ms))
         tested

@@ -52,7 +52,8 @@ found_in_order r o a b c =
     (like_through (∼_before a (∼_before b (∼_swap c (r ++ o))))
     (∼_same (ap (λ l. a ++ (b ++ l)) (append_assoc r o c) ∙ ap (λ l. a ++ l) (sym (append_assoc b r (o ++ c))) ∙ sym (append_assoc a (b ++ r) (o ++ c)) ∙ sym (append_assoc (a ++ (b ++ r)) o c)))))
 
-module _ (W : World) (ms : Members) (d : Data) (distinct : has_repeat (names_of (listed ms)) ≡ false) (there : lookup_name (codes "additionalProperties") (listed ms) ≡ Some d) (restricted : is_restricted ms ≡ true) (u : Bool) (v : Data) where
+module _ (W : World) (ms : Members) (d : Data) (distinct : has_repeat (names_of (listed ms)) ≡ false) (there : lookup_name (codes "additionalProperties") (listed ms) ≡ Some d)
+    (restricted : is_restricted ms ≡ true) (u : Bool) (v : Data) where
   abbrev fs : List (Name × Data)
   fs = declared_beside ms
 
@@ -78,7 +79,8 @@ module _ (W : World) (ms : Members) (d : Data) (distinct : has_repeat (names_of 
   pattern_rows_accept : list_all row_accepts (rows_at (codes "patternProperties") ms) ≡ list_all (matching_accept W u fs es) (members v)
   pattern_rows_accept = by (lookup_name (codes "patternProperties") (listed ms)) ∙ list_all-exchanged (λ e x. matches W u e.0 x.0) (λ e x. accepts W u e.1 x.1) es (members v)
     where
-      by : (o : Option Data) → list_all row_accepts (map (λ d. (codes "patternProperties", d)) (option_to_list o)) ≡ list_all (λ e. list_all (λ x. accepts W u e.1 x.1) (matched_members W u e.0 v)) (entries_in o)
+      by : (o : Option Data) → list_all row_accepts (map (λ d. (codes "patternProperties", d)) (option_to_list o)) ≡ list_all
+          (λ e. list_all (λ x. accepts W u e.1 x.1) (matched_members W u e.0 v)) (entries_in o)
       by None = refl
       by (Some d) = and-true _ ∙ pattern_properties_accepts W ms d u v
 
@@ -90,13 +92,17 @@ module _ (W : World) (ms : Members) (d : Data) (distinct : has_repeat (names_of 
       by (Some n) = and-true _ ∙ required_accepts W ms (array (item (string n) no_items)) u v
 
   -- each declared schema at the member of its name, and each member by the patterns and the rest
-  pub claims_accept : list_all row_accepts claimed ≡ ((list_all (λ e. list_all (accepts W u e.1) (at e.0 v)) fs && list_all (λ x. matching_accept W u fs es x && rest_accepts W u fs es d x) (members v)) && is_empty (missing (required_beside ms) v))
+  pub claims_accept : list_all row_accepts claimed ≡ ((list_all (λ e. list_all (accepts W u e.1) (at e.0 v)) fs
+      && list_all (λ x. matching_accept W u fs es x && rest_accepts W u fs es d x) (members v)) && is_empty (missing (required_beside ms) v))
   claims_accept =
       sym (list_all-permuted row_accepts _ claimed (claims_restriction ms restricted distinct d there))
       ∙ ap (λ b. row_accepts (codes "additionalProperties", d) && b) (list_all-append row_accepts (rows_at (codes "properties") ms) (rows_at (codes "patternProperties") ms ++ fused_rows ms))
-      ∙ (λ i. additional_accepts W ms d u v i && (declared_rows_accept i && (list_all-append row_accepts (rows_at (codes "patternProperties") ms) (fused_rows ms) ∙ (λ j. pattern_rows_accept j && fused_rows_accept j)) i))
-      ∙ in_order (list_all (rest_accepts W u fs es d) (members v)) (list_all (λ e. list_all (accepts W u e.1) (at e.0 v)) fs) (list_all (matching_accept W u fs es) (members v)) (is_empty (missing (required_beside ms) v))
-      ∙ ap (λ b. (list_all (λ e. list_all (accepts W u e.1) (at e.0 v)) fs && b) && is_empty (missing (required_beside ms) v)) (sym (list_all-and (matching_accept W u fs es) (rest_accepts W u fs es d) (members v)))
+      ∙ (λ i. additional_accepts W ms d u v i && (declared_rows_accept i
+          && (list_all-append row_accepts (rows_at (codes "patternProperties") ms) (fused_rows ms) ∙ (λ j. pattern_rows_accept j && fused_rows_accept j)) i))
+      ∙ in_order (list_all (rest_accepts W u fs es d) (members v)) (list_all (λ e. list_all (accepts W u e.1) (at e.0 v)) fs)
+          (list_all (matching_accept W u fs es) (members v)) (is_empty (missing (required_beside ms) v))
+      ∙ ap (λ b. (list_all (λ e. list_all (accepts W u e.1) (at e.0 v)) fs && b) && is_empty (missing (required_beside ms) v))
+          (sym (list_all-and (matching_accept W u fs es) (rest_accepts W u fs es d) (members v)))
 
   -- where no name stands twice among the declared and among the members, member by member
   module _ (declared_once : has_repeat (names_of fs) ≡ false) (members_once : has_repeat (names_of (members v)) ≡ false) where
@@ -128,21 +134,26 @@ module _ (W : World) (ms : Members) (d : Data) (distinct : has_repeat (names_of 
     declared_rows_find : flat_map row_report (rows_at (codes "properties") ms) ≡ declared_found
     declared_rows_find = by (lookup_name (codes "properties") (listed ms))
       where
-        by : (o : Option Data) → flat_map row_report (map (λ d. (codes "properties", d)) (option_to_list o)) ≡ flat_map (λ e. flat_map (λ x. report W u e.1 x (P // codes "properties" // e.0) (Q // e.0)) (at e.0 v)) (entries_in o)
+        by : (o : Option Data) → flat_map row_report (map (λ d. (codes "properties", d)) (option_to_list o)) ≡ flat_map
+            (λ e. flat_map (λ x. report W u e.1 x (P // codes "properties" // e.0) (Q // e.0)) (at e.0 v)) (entries_in o)
         by None = refl
         by (Some d) = append-nil _ ∙ declared_find W ms d u v P Q
 
     pattern_rows_find : flat_map row_report (rows_at (codes "patternProperties") ms) ∼ flat_map (matching_report W u fs es P Q) (members v)
-    pattern_rows_find = like_through (∼_same (by (lookup_name (codes "patternProperties") (listed ms)))) (∼_exchanged (λ e x. matches W u e.0 x.0) (λ e x. report W u e.1 x.1 (P // codes "patternProperties" // e.0) (Q // x.0)) es (members v))
+    pattern_rows_find =
+        like_through (∼_same (by (lookup_name (codes "patternProperties") (listed ms))))
+            (∼_exchanged (λ e x. matches W u e.0 x.0) (λ e x. report W u e.1 x.1 (P // codes "patternProperties" // e.0) (Q // x.0)) es (members v))
       where
-        by : (o : Option Data) → flat_map row_report (map (λ d. (codes "patternProperties", d)) (option_to_list o)) ≡ flat_map (λ e. flat_map (λ x. report W u e.1 x.1 (P // codes "patternProperties" // e.0) (Q // x.0)) (matched_members W u e.0 v)) (entries_in o)
+        by : (o : Option Data) → flat_map row_report (map (λ d. (codes "patternProperties", d)) (option_to_list o)) ≡ flat_map
+            (λ e. flat_map (λ x. report W u e.1 x.1 (P // codes "patternProperties" // e.0) (Q // x.0)) (matched_members W u e.0 v)) (entries_in o)
         by None = refl
         by (Some d) = append-nil _ ∙ pattern_properties_report W ms d u v P Q
 
     fused_rows_find : flat_map row_report (fused_rows ms) ≡ required_found
     fused_rows_find = by (fused_one ms)
       where
-        by : (o : Option Name) → flat_map row_report (map (λ n. (codes "required", array (item (string n) no_items))) (option_to_list o)) ≡ required_faults (option_to_list o) v (P // codes "required") Q
+        by : (o : Option Name) → flat_map row_report (map (λ n. (codes "required", array (item (string n) no_items))) (option_to_list o)) ≡ required_faults
+            (option_to_list o) v (P // codes "required") Q
         by None = refl
         by (Some n) = append-nil _ ∙ required_report W ms (array (item (string n) no_items)) u v P Q
 
@@ -200,7 +211,8 @@ module _ (W : World) (ms : Members) (d : Data) (distinct : has_repeat (names_of 
       either true = omega arith
       either false = omega arith
 
-      by : (o : Option Data) → sum_by row_asks (map (λ d. (codes "patternProperties", d)) (option_to_list o)) ≡ sum_by (λ x. matching_asks W u fs (entries_in o) x + patterns_asked W fs (entries_in o) x.0) (members v)
+      by : (o : Option Data) → sum_by row_asks (map (λ d. (codes "patternProperties", d)) (option_to_list o)) ≡ sum_by
+          (λ x. matching_asks W u fs (entries_in o) x + patterns_asked W fs (entries_in o) x.0) (members v)
       by None = sym ((λ i. sum_by (λ (x : Name × Data). either (is_declared_in fs x.0) i) (members v)) ∙ sum_of_none (members v))
       by (Some d) = one_row_asks (codes "patternProperties", d) ∙ pattern_properties_asks_beside W ms d u v (restricted_read (meaning_step W u) ms ∙ restricted)
 

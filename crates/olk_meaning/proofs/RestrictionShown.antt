@@ -6,9 +6,9 @@ use Rattle.std.proofs.lemmas.List.{append-nil}
 use Rattle.std.proofs.Math.Bool.{and-true}
 use mathlib.Core.Bool.{true≢false}
 use Rattle.serde_json.specs.Data.{Data, Members}
-use Rattle.olk_spec.specs.Names.{Name, Path, ◌//◌, lookup_name, filter_once, put_if, is_among, is_empty}
+use Rattle.olk_spec.specs.Names.{Name, Path, ◌//◌, lookup_name, put_if, is_among, is_empty}
 use Rattle.olk_spec.specs.World.{World}
-use Rattle.olk_spec.specs.Vocabulary.{properties, pattern_properties, additional_properties, required, keyword_named}
+use Rattle.olk_spec.specs.Vocabulary.{properties, pattern_properties, additional_properties, required}
 use Rattle.olk_spec.specs.Schemas.{Keywords, read, read_members, listed, members, is_object, texts}
 use Rattle.olk_spec.specs.Malformed.{has_repeat}
 use Rattle.olk_spec.specs.Meanings.{Meaning, Subschema}
@@ -21,20 +21,17 @@ use Rattle.olk_spec.proofs.Each.{Each, Each-implies}
 use Rattle.olk_spec.proofs.Maps.{map-map}
 use Rattle.olk_spec.proofs.Truth.{is_among-filter_once, Each-among}
 use Rattle.olk_spec.proofs.Reading.{entry, whole_read}
-use Rattle.olk_spec.proofs.Walks.{same_name, Distinct-from}
+use Rattle.olk_spec.proofs.Walks.{Distinct-from}
 use Rattle.olk_meaning.specs.Conditions.{is_restricted}
 use Rattle.olk_meaning.specs.Fused.{fused_one}
 use Rattle.olk_meaning.specs.Members.{member_child}
-use Rattle.olk_meaning.specs.Plans.{plan_of, head, claims}
 use Rattle.olk_meaning.specs.AdditionalProperties.{declared_beside, patterns_beside, is_other, other_names, declared_shown, matching_shown, matching_at, each_shown, names_matched, required_child, restriction_shown}
 use Rattle.olk_meaning.proofs.AdditionalProperties.{own_others}
 use Rattle.olk_meaning.proofs.Beside.{entries_beside, matching_read, additional_read}
 use Rattle.olk_meaning.proofs.Children.{entry_shown}
-use Rattle.olk_meaning.proofs.Claims.{named_once}
 use Rattle.olk_meaning.proofs.Conditions.{present, restricted_read}
 use Rattle.olk_meaning.proofs.Heads.{names_of}
 use Rattle.olk_meaning.proofs.OneFused.{fused_reads, fused_names_read}
-use Rattle.olk_meaning.proofs.RestrictedClaims.{is_below, unfused, head_of_restriction}
 
 -- ---- lists of trees
 
@@ -59,18 +56,23 @@ module _ (W : World) (ms : Members) (u : Bool) (v : Data) (P Q : Path) where
   -- ---- of a member
 
   declared_trees_read : (x : Name × Data) → declared_trees W u S v P Q x ≡ declared_shown W u fs es P Q x
-  declared_trees_read x = ap (λ l. map (λ s. s.answer.tree x.1 (P // codes "properties" // x.0) (Q // x.0)) (option_to_list (lookup_name x.0 l))) (entries_beside (meaning_step W u) ms (codes "properties")) ∙ entry_shown W u v (P // codes "properties") Q x fs
+  declared_trees_read x =
+      ap (λ l. map (λ s. s.answer.tree x.1 (P // codes "properties" // x.0) (Q // x.0)) (option_to_list (lookup_name x.0 l))) (entries_beside (meaning_step W u) ms (codes "properties"))
+          ∙ entry_shown W u v (P // codes "properties") Q x fs
 
   pattern_trees_read : (x : Name × Data) → pattern_trees W u S v P Q x ≡ matching_shown W u fs es P Q x
   unfolding meaning
   pattern_trees_read x = ap (map (λ (e : Name × Subschema). e.1.answer.tree x.1 (P // codes "patternProperties" // e.0) (Q // x.0))) (matching_read (meaning_step W u) ms W u x.0)
-      ∙ map-map (λ e. e.1.answer.tree x.1 (P // codes "patternProperties" // e.0) (Q // x.0)) (λ e. tree W u e.1 x.1 (P // codes "patternProperties" // e.0) (Q // x.0)) (entry (meaning_step W u)) (λ e. refl) (matching_at W u es x.0)
+      ∙ map-map (λ e. e.1.answer.tree x.1 (P // codes "patternProperties" // e.0) (Q // x.0)) (λ e. tree W u e.1 x.1 (P // codes "patternProperties" // e.0) (Q // x.0))
+          (entry (meaning_step W u)) (λ e. refl) (matching_at W u es x.0)
 
   other_names_read : additional_names W u S v P Q ≡ other_names W u fs es v
   other_names_read = ap (map (λ x. x.0)) (additional_read (meaning_step W u) ms W u v)
 
   names_matched_read : matched_names W u S v P Q ≡ names_matched W u fs es v
-  names_matched_read = λ i. flat_map (λ m. (ap (map (λ (e : Name × Subschema). m.0)) (matching_read (meaning_step W u) ms W u m.0) ∙ map-map (λ (e : Name × Subschema). m.0) (λ (e : Name × Data). m.0) (entry (meaning_step W u)) (λ e. refl) (matching_at W u es m.0)) i) (members v)
+  names_matched_read =
+      λ i. flat_map (λ m. (ap (map (λ (e : Name × Subschema). m.0)) (matching_read (meaning_step W u) ms W u m.0) ∙ map-map (λ (e : Name × Subschema). m.0)
+          (λ (e : Name × Data). m.0) (entry (meaning_step W u)) (λ e. refl) (matching_at W u es m.0)) i) (members v)
 
   -- a member is among the others if it is one
   others_there : Each (λ x. is_among x.0 (other_names W u fs es v) ≡ is_other W u fs es x.0) (members v)
@@ -83,24 +85,34 @@ module _ (W : World) (ms : Members) (u : Bool) (v : Data) (P Q : Path) where
   missing_read : fuses_one S ≡ is_some (fused_one ms) → missing_child W u S v P Q (fuses_one S) ≡ required_child ms v P Q
   missing_read h = ap (missing_child W u S v P Q) h ∙ by (fused_one ms) refl
     where
-      by : (o : Option Name) → fused_one ms ≡ o → missing_child W u S v P Q (is_some o) ≡ put_if (not (is_empty (missing (option_to_list o) v))) (erring (P // codes "required") Q (required_faults (option_to_list o) v (P // codes "required") Q)) []
+      by : (o : Option Name) → fused_one ms ≡ o → missing_child W u S v P Q (is_some o) ≡ put_if (not (is_empty (missing (option_to_list o) v)))
+          (erring (P // codes "required") Q (required_faults (option_to_list o) v (P // codes "required") Q)) []
       by None e = refl
-      by (Some n) e = ap (λ ns. put_if (not (is_empty (missing ns v))) (erring (P // codes "required") Q (required_faults ns v (P // codes "required") Q)) []) (fused_names_read (meaning_step W u) ms n e)
+      by (Some n) e =
+          ap (λ ns. put_if (not (is_empty (missing ns v))) (erring (P // codes "required") Q (required_faults ns v (P // codes "required") Q)) []) (fused_names_read (meaning_step W u) ms n e)
 
   -- ---- the child
 
   module _ (d : Data) where
-    each_read : flat_map (λ m. declared_trees W u S v P Q m ++ pattern_trees W u S v P Q m ++ additional_trees W u S v P Q (codes "additionalProperties") (read (meaning_step W u) d) m) (members v) ≡ flat_map (each_shown W u fs es P Q d) (members v)
+    each_read : flat_map (λ m. declared_trees W u S v P Q m ++ pattern_trees W u S v P Q m ++ additional_trees W u S v P Q (codes "additionalProperties") (read (meaning_step W u) d) m)
+        (members v) ≡ flat_map (each_shown W u fs es P Q d) (members v)
     unfolding meaning
     each_read =
-        (λ i. flat_map (λ m. declared_trees_read m i ++ pattern_trees_read m i ++ put_if (is_object (whole_read (meaning_step W u) d i).schema && is_among m.0 (other_names_read i)) ((whole_read (meaning_step W u) d i).answer.tree m.1 (P // codes "additionalProperties") (Q // m.0)) []) (members v))
-        ∙ each_flat (λ m. declared_shown W u fs es P Q m ++ matching_shown W u fs es P Q m ++ put_if (is_object d && is_among m.0 (other_names W u fs es v)) (tree W u d m.1 (P // codes "additionalProperties") (Q // m.0)) []) (each_shown W u fs es P Q d) (members v)
-        (Each-implies (λ x. is_among x.0 (other_names W u fs es v) ≡ is_other W u fs es x.0) _ (λ m h. ap (λ b. declared_shown W u fs es P Q m ++ matching_shown W u fs es P Q m ++ put_if (is_object d && b) (tree W u d m.1 (P // codes "additionalProperties") (Q // m.0)) []) h) (members v) others_there)
+        (λ i. flat_map (λ m. declared_trees_read m i ++ pattern_trees_read m i ++ put_if (is_object (whole_read (meaning_step W u) d i).schema && is_among m.0 (other_names_read i))
+            ((whole_read (meaning_step W u) d i).answer.tree m.1 (P // codes "additionalProperties") (Q // m.0)) []) (members v))
+        ∙ each_flat (λ m. declared_shown W u fs es P Q m ++ matching_shown W u fs es P Q m ++ put_if (is_object d && is_among m.0 (other_names W u fs es v))
+            (tree W u d m.1 (P // codes "additionalProperties") (Q // m.0)) []) (each_shown W u fs es P Q d) (members v)
+        (Each-implies (λ x. is_among x.0 (other_names W u fs es v) ≡ is_other W u fs es x.0) _
+            (λ m h. ap (λ b. declared_shown W u fs es P Q m ++ matching_shown W u fs es P Q m ++ put_if (is_object d && b)
+            (tree W u d m.1 (P // codes "additionalProperties") (Q // m.0)) []) h) (members v) others_there)
 
-    pub additional_shows : is_restricted ms ≡ true → fuses_one S ≡ is_some (fused_one ms) → member_child W ms (codes "additionalProperties", d) additional_properties u v P Q ≡ restriction_shown W u ms v d P Q ∷ []
+    pub additional_shows : is_restricted ms ≡ true → fuses_one S ≡ is_some (fused_one ms) → member_child W ms
+        (codes "additionalProperties", d) additional_properties u v P Q ≡ restriction_shown W u ms v d P Q ∷ []
     additional_shows restricted fused = λ i. put_if ((restricted_read (meaning_step W u) ms ∙ restricted) i)
         (result (P // codes "additionalProperties") Q
-        (cond (is_object v && (is_object (whole_read (meaning_step W u) d i).schema && (cond (present (meaning_step W u) ms (codes "properties") i) (present (meaning_step W u) ms (codes "patternProperties") i) (not (present (meaning_step W u) ms (codes "patternProperties") i)) || not (is_empty (other_names_read i))))) (Some (other_names_read i)) None)
+        (cond (is_object v && (is_object (whole_read (meaning_step W u) d i).schema
+            && (cond (present (meaning_step W u) ms (codes "properties") i) (present (meaning_step W u) ms (codes "patternProperties") i)
+            (not (present (meaning_step W u) ms (codes "patternProperties") i)) || not (is_empty (other_names_read i))))) (Some (other_names_read i)) None)
         false (described (own_others W ms d u v P Q i))
         (each_read i ++ put_if (present (meaning_step W u) ms (codes "patternProperties") i && not (present (meaning_step W u) ms (codes "properties") i) && not (is_empty (names_matched_read i))) (node (P // codes "patternProperties") Q true (Some (names_matched_read i)) [] no_tree) [] ++ missing_read fused i)) []
 
@@ -117,47 +129,13 @@ module _ (W : World) (ms : Members) (u : Bool) (v : Data) (P Q : Path) where
       where
         by : (o : Option Name) → fused_one ms ≡ o → is_some o ≡ true → member_child W ms (codes "required", d) required u v P Q ≡ []
         by None q f = absurd (true≢false (sym f))
-        by (Some n) q f = ap (λ b. put_if (not b && not (fuses_two S)) (erring (P // codes "required") Q (required_faults (texts (read (meaning_step W u) d).whole.schema) v (P // codes "required") Q)) []) (fused_reads (meaning_step W u) ms n q)
+        by (Some n) q f =
+            ap (λ b. put_if (not b && not (fuses_two S)) (erring (P // codes "required") Q
+                (required_faults (texts (read (meaning_step W u) d).whole.schema) v (P // codes "required") Q)) []) (fused_reads (meaning_step W u) ms n q)
 
 -- ---- all that it stands for
 
 module _ {X Y : Type 0} (f : X → List Y) (s t : X → Bool) (kept : (x : X) → s x ≡ true → t x ≡ true) (empty : (x : X) → t x ≡ true → s x ≡ false → f x ≡ []) where
-  -- those of which nothing comes may be left out
-  flat_narrowed : (xs : List X) → flat_map f (filter_once t xs) ≡ flat_map f (filter_once s xs)
-  flat_narrowed [] = refl
-  flat_narrowed (x ∷ xs) = by (s x) (t x) (kept x) (empty x) (flat_narrowed xs)
-    where
-      by : (a b : Bool) → (a ≡ true → b ≡ true) → (b ≡ true → a ≡ false → f x ≡ []) → flat_map f (filter_once t xs) ≡ flat_map f (filter_once s xs) → flat_map f (put_if b x (filter_once t xs)) ≡ flat_map f (put_if a x (filter_once s xs))
-      by true true k e h = ap (λ l. f x ++ l) h
-      by true false k e h = absurd (true≢false (sym (k refl)))
-      by false true k e h = ap (λ l. l ++ flat_map f (filter_once t xs)) (e refl refl) ∙ h
-      by false false k e h = h
 
-module _ (W : World) (ms : Members) (d : Data) (distinct : has_repeat (names_of (listed ms)) ≡ false) (there : lookup_name (codes "additionalProperties") (listed ms) ≡ Some d) (restricted : is_restricted ms ≡ true) (u : Bool) (v : Data) (P Q : Path) where
-  abbrev row_child : Name × Data → List Tree
-  row_child m = member_child W ms m (keyword_named W m.0) u v P Q
-
-  below_shows_none : (x : Name × Data) → is_below (plan_of ms) x.0 ≡ true → bytes_eq (codes "additionalProperties") x.0 ≡ false → row_child x ≡ []
-  below_shows_none x e f = by (bytes_eq (codes "properties") x.0) (bytes_eq (codes "patternProperties") x.0) (is_some (fused_one ms)) (bytes_eq (codes "required") x.0) refl refl refl refl (sym (ap (λ b. b || (bytes_eq (codes "properties") x.0 || (bytes_eq (codes "patternProperties") x.0 || (is_some (fused_one ms) && bytes_eq (codes "required") x.0)))) f) ∙ e)
-    where
-      named : (k : Name) → bytes_eq k x.0 ≡ true → row_child (k, x.1) ≡ [] → row_child x ≡ []
-      named k q h = subst (λ n. row_child (n, x.1) ≡ []) (same_name k x.0 q) h
-
-      by : (a b c r : Bool) → bytes_eq (codes "properties") x.0 ≡ a → bytes_eq (codes "patternProperties") x.0 ≡ b → is_some (fused_one ms) ≡ c → bytes_eq (codes "required") x.0 ≡ r → (a || (b || (c && r))) ≡ true → row_child x ≡ []
-      by true b c r i j k l h = named (codes "properties") i (properties_show_none W ms u v P Q x.1 restricted)
-      by false true c r i j k l h = named (codes "patternProperties") j (patterns_show_none W ms u v P Q x.1 restricted)
-      by false false true true i j k l h = named (codes "required") l (required_shows_none W ms u v P Q x.1 k)
-      by false false true false i j k l h = absurd (true≢false (sym h))
-      by false false false r i j k l h = absurd (true≢false (sym h))
-
-  -- the children of what it stands for are its own
-  pub claims_show : flat_map row_child (claims (head (plan_of ms)) (listed ms) (codes "additionalProperties", d)) ≡ member_child W ms (codes "additionalProperties", d) additional_properties u v P Q
-  claims_show =
-      flat_narrowed row_child (λ x. bytes_eq (codes "additionalProperties") x.0) (λ x. bytes_eq (codes "additionalProperties") (head (plan_of ms) x.0))
-      (λ x e. below x ∙ ap (λ b. b || (bytes_eq (codes "properties") x.0 || (bytes_eq (codes "patternProperties") x.0 || (is_some (fused_one ms) && bytes_eq (codes "required") x.0)))) e)
-      (λ x e f. below_shows_none x (sym (below x) ∙ e) f) (listed ms)
-      ∙ ap (flat_map row_child) (named_once (codes "additionalProperties") d (listed ms) (Distinct-from (listed ms) distinct) there)
-      ∙ append-nil _
-    where
-      below : (x : Name × Data) → bytes_eq (codes "additionalProperties") (head (plan_of ms) x.0) ≡ is_below (plan_of ms) x.0
-      below x = head_of_restriction (plan_of ms) restricted (unfused ms restricted) x.0
+module _ (W : World) (ms : Members) (d : Data) (distinct : has_repeat (names_of (listed ms)) ≡ false) (there : lookup_name (codes "additionalProperties") (listed ms) ≡ Some d)
+    (restricted : is_restricted ms ≡ true) (u : Bool) (v : Data) (P Q : Path) where

@@ -16,7 +16,8 @@ module _ (p : Planned) where
   pub taken_named : (n : Name) → is_taken_over p n ≡ true → (n ≡ codes "properties") ⊎ (n ≡ codes "patternProperties") ⊎ (n ≡ codes "required")
   taken_named n e = by p.restricted (is_some p.fused_one) (bytes_eq n (codes "properties")) (bytes_eq n (codes "patternProperties")) (bytes_eq (codes "required") n) refl refl refl e
     where
-      by : (r f a b c : Bool) → bytes_eq n (codes "properties") ≡ a → bytes_eq n (codes "patternProperties") ≡ b → bytes_eq (codes "required") n ≡ c → ((r && (a || (b || false))) || (f && c)) ≡ true → (n ≡ codes "properties") ⊎ (n ≡ codes "patternProperties") ⊎ (n ≡ codes "required")
+      by : (r f a b c : Bool) → bytes_eq n (codes "properties") ≡ a → bytes_eq n (codes "patternProperties") ≡ b → bytes_eq (codes "required") n ≡ c
+          → ((r && (a || (b || false))) || (f && c)) ≡ true → (n ≡ codes "properties") ⊎ (n ≡ codes "patternProperties") ⊎ (n ≡ codes "required")
       by true f true b c i j k h = inl (same_name n (codes "properties") i)
       by true f false true c i j k h = inr (inl (same_name n (codes "patternProperties") j))
       by true true false false true i j k h = inr (inr (sym (same_name (codes "required") n k)))
@@ -40,7 +41,8 @@ module _ (p : Planned) where
   pub nothing_taken : (k : Name) → p.restricted ≡ false → is_some p.fused_one ≡ false → IsNotTaken k
   nothing_taken k r f n e = absurd (true≢false (sym e ∙ (λ i. (r i && tells_members n) || (f i && bytes_eq (codes "required") n))))
 
-  pub never_taken : (k : Name) → bytes_eq (codes "additionalProperties") k ≡ false → bytes_eq (codes "properties") k ≡ false → bytes_eq (codes "patternProperties") k ≡ false → bytes_eq (codes "required") k ≡ false → IsNotTaken k
+  pub never_taken : (k : Name) → bytes_eq (codes "additionalProperties") k ≡ false → bytes_eq (codes "properties") k ≡ false → bytes_eq (codes "patternProperties") k ≡ false
+      → bytes_eq (codes "required") k ≡ false → IsNotTaken k
   never_taken k a b c d n e = (bytes_eq-sym k (codes "additionalProperties") ∙ a, by (taken_named n e))
     where
       by : (n ≡ codes "properties") ⊎ (n ≡ codes "patternProperties") ⊎ (n ≡ codes "required") → bytes_eq k n ≡ false
@@ -89,7 +91,10 @@ refused_closed o e = no_truth e
 
 -- two names are fused where nothing is restricted
 pub fusing_is_free : (ms : Members) → is_some (fused_pair ms) ≡ true → is_restricted ms ≡ false
-fusing_is_free ms e = allowed_unrestricted (lookup_name (codes "additionalProperties") (listed ms)) (by (declares_few (lookup_name (codes "properties") (listed ms))) (is_none (lookup_name (codes "patternProperties") (listed ms))) (allows_others (lookup_name (codes "additionalProperties") (listed ms))) (two_names (lookup_name (codes "required") (listed ms))) e)
+fusing_is_free ms e =
+    allowed_unrestricted (lookup_name (codes "additionalProperties") (listed ms))
+        (by (declares_few (lookup_name (codes "properties") (listed ms))) (is_none (lookup_name (codes "patternProperties") (listed ms)))
+        (allows_others (lookup_name (codes "additionalProperties") (listed ms))) (two_names (lookup_name (codes "required") (listed ms))) e)
   where
     by : (a b c : Bool) (o : Option (Name × Name)) → is_some (cond (a && b && c) o None) ≡ true → c ≡ true
     by true true true o h = refl
@@ -122,7 +127,8 @@ none_where (Some x) e = no_truth e
 pub fuses_one_name : (ms : Members) (n : Name) → fused_one ms ≡ Some n → FusesOne ms n
 fuses_one_name ms n e = by _ _ _ (one_name (lookup_name (codes "required") (listed ms))) refl refl refl refl e
   where
-    by : (a b c : Bool) (o : Option Name) → is_some (lookup_name (codes "properties") (listed ms)) ≡ a → is_none (lookup_name (codes "patternProperties") (listed ms)) ≡ b → refuses_others (lookup_name (codes "additionalProperties") (listed ms)) ≡ c → one_name (lookup_name (codes "required") (listed ms)) ≡ o → cond (a && b && c) o None ≡ Some n → FusesOne ms n
+    by : (a b c : Bool) (o : Option Name) → is_some (lookup_name (codes "properties") (listed ms)) ≡ a → is_none (lookup_name (codes "patternProperties") (listed ms)) ≡ b
+        → refuses_others (lookup_name (codes "additionalProperties") (listed ms)) ≡ c → one_name (lookup_name (codes "required") (listed ms)) ≡ o → cond (a && b && c) o None ≡ Some n → FusesOne ms n
     by true true true o p q r s h = record {
       declared = p;
       unpatterned = none_where (lookup_name (codes "patternProperties") (listed ms)) q;

@@ -3,7 +3,7 @@ use Rattle.std.specs.Prelude.{Bool, List, map}
 use Rattle.std.specs.List.{list_all, flat_map}
 use Rattle.serde_json.specs.Data.{Data}
 use Rattle.olk_spec.specs.Names.{Name}
-use Rattle.olk_spec.specs.Schemas.{is_object, members, at, as_text}
+use Rattle.olk_spec.specs.Schemas.{at, as_text}
 
 -- the schema that stands in d at the text that w is, under that text: none or one
 abbrev pub chosen_by : Data → Data → List (Name × Data)
@@ -12,7 +12,3 @@ chosen_by d w = flat_map (λ t. map (λ s. (t, s)) (at t d)) (as_text w)
 -- that of an entry, by the member of v at its key
 abbrev pub chosen : Data → Name × Data → List (Name × Data)
 chosen v e = flat_map (chosen_by e.1) (at e.0 v)
-
--- each entry is an object
-abbrev pub are_objects : Data → Bool
-are_objects d = list_all (λ e. is_object e.1) (members d)

@@ -36,7 +36,8 @@ mutual
   kept_kind k (Required n) v Q P itself = record { whole = fault (Required n) v Q P; told = refl; alike = like itself }
   kept_kind k FalseSchema v Q P itself = record { whole = fault FalseSchema v Q P; told = refl; alike = like itself }
   kept_kind k (PropertyNames f) v Q P itself = record { whole = fault (PropertyNames f) v Q P; told = refl; alike = like itself }
-  kept_kind (PropertyNames g) (PropertyNames f) v Q P (like_names h) = let n = kept g f h in record { whole = fault (PropertyNames n.whole) v Q P; told = ap (λ x. fault (PropertyNames x) v Q P) n.told; alike = like (like_names n.alike) }
+  kept_kind (PropertyNames g) (PropertyNames f) v Q P (like_names h) =
+      let n = kept g f h in record { whole = fault (PropertyNames n.whole) v Q P; told = ap (λ x. fault (PropertyNames x) v Q P) n.told; alike = like (like_names n.alike) }
   kept_kind k (Leaf n t) v Q P itself = record { whole = fault (Leaf n t) v Q P; told = refl; alike = like itself }
   kept_kind k (SingleType t) v Q P itself = record { whole = fault (SingleType t) v Q P; told = refl; alike = like itself }
   kept_kind k MultipleTypes v Q P itself = record { whole = fault MultipleTypes v Q P; told = refl; alike = like itself }

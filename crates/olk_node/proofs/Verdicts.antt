@@ -9,7 +9,8 @@ use Rattle.olk_node.specs.Stands.{StandsFor}
 use Rattle.olk_node.specs.declared.node.SchemaNode.{SchemaNode}
 use Rattle.olk_check.specs.Asks.{Asks, AsksSchema}
 
-pub of_schema : {K R : Type 0} {o : Kit K R} {n : SchemaNode K R} {S : Data} {P : Path} {v : Data} {a b : Asking} {r : Bool} → StandsFor o n S P → Asks a b ((answers o n).means v) r → AsksSchema o.world S v a b r
+pub of_schema : {K R : Type 0} {o : Kit K R} {n : SchemaNode K R} {S : Data} {P : Path} {v : Data} {a b : Asking} {r : Bool} → StandsFor o n S P
+    → Asks a b ((answers o n).means v) r → AsksSchema o.world S v a b r
 of_schema {v = v} {a = a} s h = record {
   only = h.only;
   asked_to = let within = s.asks_within a.answer v in let x = h.asked_to in omega arith;

@@ -59,7 +59,8 @@ pub plain_below : (old segment : List ℕ) {slash new : List ℕ} → list_all i
 plain_below old segment plain e is = is ∙ ap (λ l. l ++ segment) e ∙ append_assoc old (47 ∷ []) segment ∙ ap (λ l. old ++ 47 ∷ l) (sym (plain_escaped segment plain))
 
 -- what is appended as it is
-pub pushed_plain : {A E : Type 0} (r : Result A E) (old new segment : List ℕ) → new ≡ cond (is_ok r) (old ++ segment) old → list_all is_plain_byte segment ≡ true → OnOk r (new ≡ old ++ flat_map escaped segment)
+pub pushed_plain : {A E : Type 0} (r : Result A E) (old new segment : List ℕ) → new ≡ cond (is_ok r) (old ++ segment) old → list_all is_plain_byte segment ≡ true
+    → OnOk r (new ≡ old ++ flat_map escaped segment)
 pushed_plain (Ok x) old new segment is plain = is ∙ ap (λ l. old ++ l) (sym (plain_escaped segment plain))
 pushed_plain (Err e) old new segment is plain = tt
 

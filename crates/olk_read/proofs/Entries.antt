@@ -28,7 +28,8 @@ module _ {T Y : Type 0} (show : T → Y) (gives : Name × Data → Y) (wrong : N
   }
 
   module _ (n : String Global) (v : Value) (left rest all : List (String Global × Value)) (steps : left ≡ (n, v) ∷ rest) where
-    pub one_more_entry : (done new : List T) (x : T) → new ≡ done ++ x ∷ [] → show x ≡ gives (string_bytes n, view v) → wrong (string_bytes n, view v) ≡ [] → EntriesSoFar done left all → EntriesSoFar new rest all
+    pub one_more_entry : (done new : List T) (x : T) → new ≡ done ++ x ∷ [] → show x ≡ gives (string_bytes n, view v) → wrong (string_bytes n, view v) ≡ []
+        → EntriesSoFar done left all → EntriesSoFar new rest all
     one_more_entry done new x e g w h = record {
       shown = ap (λ ts. map show ts ++ map gives (listed (members_view rest))) e
           ∙ ap (λ ys. ys ++ map gives (listed (members_view rest))) (map-append show done (x ∷ []))
@@ -40,7 +41,8 @@ module _ {T Y : Type 0} (show : T → Y) (gives : Name × Data → Y) (wrong : N
     }
 
     pub entry_refused : (done : List T) (e : BuildError) → EntriesSoFar done left all → TellsOneOf (wrong (string_bytes n, view v)) e → TellsOneOf (flat_map wrong (listed (members_view all))) e
-    entry_refused done e h t = tells_same (ap (λ es. flat_map wrong (listed (members_view es))) (sym steps) ∙ h.right) e (tells_left (wrong (string_bytes n, view v)) (flat_map wrong (listed (members_view rest))) e t)
+    entry_refused done e h t =
+        tells_same (ap (λ es. flat_map wrong (listed (members_view es))) (sym steps) ∙ h.right) e (tells_left (wrong (string_bytes n, view v)) (flat_map wrong (listed (members_view rest))) e t)
 
   module _ (done : List T) (left all : List (String Global × Value)) (h : EntriesSoFar done left all) (ends : left ≡ []) where
     pub entries_shown : map show done ≡ map gives (listed (members_view all))

@@ -42,8 +42,5 @@ module _ (W : World) (k : Name) (other : IsOther k) where
       (else_side _ _ _ _ q.1.1.1.1.1.1.1.1.1.1.1.1.1.1.0
       (else_side _ _ _ _ q.1.1.1.1.1.1.1.1.1.1.1.1.1.1.1.0 h)))))))))))))))
 
-  pub keyword_of_other : is_among k unsupported_names ≡ false → keyword_named W k ≡ leaf_or_unread (W.reads k)
-  keyword_of_other e = keyword_rest (leaf_or_unread (W.reads k)) (else_side (is_among k unsupported_names) unsupported (leaf_or_unread (W.reads k)) (leaf_or_unread (W.reads k)) e refl)
-
   pub refused_keyword : is_among k unsupported_names ≡ true → keyword_named W k ≡ unsupported
   refused_keyword e = keyword_rest unsupported (then_side (is_among k unsupported_names) unsupported (leaf_or_unread (W.reads k)) e)

@@ -59,7 +59,8 @@ module _ (seen : BTreeSet (Bor (List ℕ))) (n : Name) (v : Value) (vs : List Va
   pub meets_seen : false ≡ not (is_seen seen n) → meets_again seen (v ∷ vs) ≡ true
   meets_seen s = with_text ∙ ap (λ b. (b || list_any (is_seen seen) (texts_in (items_view vs))) || has_repeat (n ∷ texts_in (items_view vs))) (sym (not-not (is_seen seen n)) ∙ ap not (sym s))
 
-  pub meets_past_new : (more : BTreeSet (Bor (List ℕ))) → true ≡ not (is_seen seen n) → ((m : Name) → is_seen more m ≡ (bytes_eq n m || is_seen seen m)) → meets_again seen (v ∷ vs) ≡ meets_again more vs
+  pub meets_past_new : (more : BTreeSet (Bor (List ℕ))) → true ≡ not (is_seen seen n) → ((m : Name) → is_seen more m ≡ (bytes_eq n m || is_seen seen m))
+      → meets_again seen (v ∷ vs) ≡ meets_again more vs
   meets_past_new more s u = with_text
       ∙ ap (λ b. (b || list_any (is_seen seen) (texts_in (items_view vs))) || has_repeat (n ∷ texts_in (items_view vs))) (sym (not-not (is_seen seen n)) ∙ ap not (sym s))
       ∙ or_in_turn (list_any (is_seen seen) (texts_in (items_view vs))) (is_among n (texts_in (items_view vs))) (has_repeat (texts_in (items_view vs)))
@@ -80,7 +81,8 @@ pub meets_at : (seen : BTreeSet (Bor (List ℕ))) (vs : List Value) (i : ℕ) (v
 meets_at seen vs i v l e = at_drop_more (meets_again seen) vs i v l ∙ ap (λ w. meets_again seen (w ∷ drop (i + 1) vs)) (sym e)
 
 -- what was seen before, and one name more
-pub seen_one_more : (seen more : BTreeSet (Bor (List ℕ))) (n : Bor (List ℕ)) → Updates (λ x y. slice_cmp nat_cmp x.now y.now) seen more n true → (m : Name) → is_seen more m ≡ (bytes_eq n.now m || is_seen seen m)
+pub seen_one_more : (seen more : BTreeSet (Bor (List ℕ))) (n : Bor (List ℕ)) → Updates (λ x y. slice_cmp nat_cmp x.now y.now) seen more n true → (m : Name)
+    → is_seen more m ≡ (bytes_eq n.now m || is_seen seen m)
 seen_one_more seen more n u m = u.0 (record n { now = m })
     ∙ ap (λ b. cond b true (is_seen seen m)) (is_eq-slice_cmp n.now m)
     ∙ if_or (bytes_eq n.now m) (is_seen seen m)
@@ -104,7 +106,8 @@ module _ (key : Name) (P : Path) where
   repeated d ds is r = subst (λ x. name_list_refusals key x P ≡ refusal UniqueItems x (P // key) ∷ []) (sym is)
       (ap (λ b. or_else_list (put_if b (refusal UniqueItems (array ds) (P // key)) []) (not_a_text (array ds) P)) r)
 
-  pub repeat_told : (d : Data) (ds : Items) (e : BuildError) → d ≡ array ds → has_repeat (texts_in ds) ≡ true → TellsOneOf (refusal UniqueItems d (P // key) ∷ []) e → TellsOneOf (name_list_refusals key d P) e
+  pub repeat_told : (d : Data) (ds : Items) (e : BuildError) → d ≡ array ds → has_repeat (texts_in ds) ≡ true → TellsOneOf (refusal UniqueItems d (P // key) ∷ []) e
+      → TellsOneOf (name_list_refusals key d P) e
   repeat_told d ds e is r t = tells_same (sym (repeated d ds is r)) e t
 
   pub refused_as_texts : (d : Data) (ds : Items) → d ≡ array ds → has_repeat (texts_in ds) ≡ false → name_list_refusals key d P ≡ not_a_text (array ds) P

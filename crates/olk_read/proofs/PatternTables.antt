@@ -68,7 +68,8 @@ module _ {K R : Type 0} (o : Kit K R) (c : Known) (d : Data) (L : Path) (is_map 
     times : length c.declared * how_many_cost o.costs ps ≡ length c.declared * length (open_names o.world d)
     times = ap (λ n. length c.declared * n) (ap (how_many_cost o.costs) all ∙ open_cost o v.items (members d) h.stand)
 
-    pub patterns_are_read : (t : Table) → t.names ≡ map (λ e. e.0) c.declared → IsTableOf o.answers ps t → b ≡ count_asks (length c.declared * how_many_cost o.costs ps) m → IsRead o (shape.PatternProperties v t) c (codes "patternProperties") d L a b
+    pub patterns_are_read : (t : Table) → t.names ≡ map (λ e. e.0) c.declared → IsTableOf o.answers ps t → b ≡ count_asks (length c.declared * how_many_cost o.costs ps) m
+        → IsRead o (shape.PatternProperties v t) c (codes "patternProperties") d L a b
     patterns_are_read t names says asked = record {
       shape = (refl, is_map, h.stand);
       fits = (names, subst (λ qs. IsTableOf o.answers qs t) all says);
@@ -76,5 +77,6 @@ module _ {K R : Type 0} (o : Kit K R) (c : Known) (d : Data) (L : Path) (is_map 
       spends = spends_append a m b (matchers_made o.world d) (names_asked o.world c.declared d) made (spends_asks _ _ m b times asked);
     }
 
-    pub table_without_memory : (e : BuildError) (w : AllocError) → e ≡ Memory w → AsksAtMost (length c.declared * how_many_cost o.costs ps) m b → RefusesKeyword o c (codes "patternProperties") d L a b e
+    pub table_without_memory : (e : BuildError) (w : AllocError) → e ≡ Memory w → AsksAtMost (length c.declared * how_many_cost o.costs ps) m b
+        → RefusesKeyword o c (codes "patternProperties") d L a b e
     table_without_memory e w q asked = refuses_memory _ _ a b e w q (within_after a m b (matchers_made o.world d) (names_asked o.world c.declared d) made (within_asks _ _ m b times asked))

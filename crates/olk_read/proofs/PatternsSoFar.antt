@@ -22,7 +22,7 @@ use Rattle.olk_meaning.specs.PatternProperties.{pattern_faults, matcher_made}
 use Rattle.olk_read.specs.Refusing.{Spends, SpendsWithin, Refuses}
 use Rattle.olk_read.proofs.Spending.{spends_nothing, within_nothing, within_exactly}
 use Rattle.olk_read.specs.Patterns.{IsPattern, ArePatterns, PatternsAreRead, RefusesPatterns}
-use Rattle.olk_read.proofs.SoFar.{SoFar, none_so_far, all_so_far, memory_so_far, refused_so_far, one_more_so_far, memory_past}
+use Rattle.olk_read.proofs.SoFar.{SoFar, none_so_far, all_so_far, refused_so_far, one_more_so_far, memory_past}
 
 -- ---- one pattern
 
@@ -77,16 +77,14 @@ module _ {K R : Type 0} (o : Kit K R) (L : Path) where
     pub patterns_read : (ps : List (CompiledPattern R)) (left : List (Name × Data)) (m : Counts) → left ≡ [] → PatternsSoFar all a ps left m → PatternsAreRead o ps all L a m
     patterns_read ps left m e h = let r = all_so_far wrong costs stand all a ps left m e h in record { stand = r.stand; clean = r.clean; spends = r.spends }
 
-    pub patterns_memory : (ps : List (CompiledPattern R)) (left : List (Name × Data)) (m : Counts) (e : BuildError) (w : AllocError) → e ≡ Memory w → PatternsSoFar all a ps left m → RefusesPatterns o all L a m e
-    patterns_memory ps left m e w q h = memory_so_far wrong costs stand all a ps left m e w q h
-
     module _ (x : Name × Data) (left rest : List (Name × Data)) (next : left ≡ x ∷ rest) (ps : List (CompiledPattern R)) (m b : Counts) (h : PatternsSoFar all a ps left m) where
       pub pattern_refused : (e : BuildError) → Refuses (pattern_faults o.world L x.0) (matcher_made o.world x.0) m b e → RefusesPatterns o all L a b e
       pattern_refused e r = refused_so_far wrong costs stand all a x left rest next ps m b e h r
 
       module _ (right : pattern_faults o.world L x.0 ≡ []) (spent : Spends m b (matcher_made o.world x.0)) where
         pub one_more_pattern : (p : CompiledPattern R) (new : List (CompiledPattern R)) → IsPattern o p x.0 → new ≡ ps ++ p ∷ [] → PatternsSoFar all a new rest b
-        one_more_pattern p new s q = one_more_so_far wrong costs stand all a x left rest next ps new m b h (subst (λ y. stand y (h.done ++ x ∷ [])) (sym q) (push ps h.done p x h.built.stand s)) right spent
+        one_more_pattern p new s q =
+            one_more_so_far wrong costs stand all a x left rest next ps new m b h (subst (λ y. stand y (h.done ++ x ∷ [])) (sym q) (push ps h.done p x h.built.stand s)) right spent
 
         pub pattern_memory : (e : BuildError) (w : AllocError) → e ≡ Memory w → RefusesPatterns o all L a b e
         pattern_memory e w q = memory_past wrong costs stand all a x left rest next ps m b e w q h spent

@@ -8,10 +8,10 @@ use mathlib.Core.Bool.{true≢false}
 use Rattle.serde_json.specs.Data.{Data, null, boolean, number, string, array, object, Items}
 use Rattle.olk_spec.specs.Names.{Name, Path, is_among}
 use Rattle.olk_spec.specs.World.{World}
-use Rattle.olk_spec.specs.Vocabulary.{Keyword, leaf, unread, unsupported, unsupported_names, keyword_named}
+use Rattle.olk_spec.specs.Vocabulary.{Keyword, leaf, unsupported, unsupported_names, keyword_named}
 use Rattle.olk_spec.specs.Faults.{Fault, fault, MultipleTypes, LeafRefused, Unsupported, SingleType, object_type, array_type}
 use Rattle.olk_spec.specs.Schemas.{read, members, is_object, is_array, is_truth}
-use Rattle.olk_spec.specs.Malformed.{refusal, own_refusals, malformations_step, unless_object, unless_array, unless_kind, not_a_text, items_of_array}
+use Rattle.olk_spec.specs.Malformed.{refusal, own_refusals, malformations_step, unless_object, unless_array, unless_kind, not_a_text}
 use Rattle.olk_spec.specs.Costs.{Cost, no_cost}
 use Rattle.olk_spec.proofs.Reading.{schema_of_read}
 use Rattle.olk_base.specs.Count.{Counts, count_leaf}
@@ -46,14 +46,6 @@ array_of (boolean b) e = absurd (true≢false (sym e))
 array_of (number n) e = absurd (true≢false (sym e))
 array_of (string s) e = absurd (true≢false (sym e))
 array_of (object ms) e = absurd (true≢false (sym e))
-
-pub no_items_in : (d : Data) → is_array d ≡ false → items_of_array d ≡ []
-no_items_in (array ds) e = absurd (true≢false e)
-no_items_in null e = refl
-no_items_in (boolean b) e = refl
-no_items_in (number n) e = refl
-no_items_in (string s) e = refl
-no_items_in (object ms) e = refl
 
 pub no_text_missed : (d : Data) (L : Path) → is_array d ≡ false → not_a_text d L ≡ []
 no_text_missed (array ds) L e = absurd (true≢false e)
@@ -125,9 +117,6 @@ module _ (W : World) (d : Data) (L : Path) where
     pub own_leaf : keyword_named W k ≡ leaf → own_faults W k d L ≡ unless_kind (W.fits k d) (LeafRefused k) d L
     own_leaf q = own_of leaf q ∙ ap (λ s. unless_kind (W.fits k s) (LeafRefused k) s L) same
 
-    pub own_unread : keyword_named W k ≡ unread → own_faults W k d L ≡ []
-    own_unread q = own_of unread q
-
     -- a name that is refused whatever its value
     pub own_unsupported : keyword_named W k ≡ unsupported → own_faults W k d L ≡ refusal (Unsupported k) d L ∷ []
     own_unsupported q = own_of unsupported q ∙ ap (λ s. refusal (Unsupported k) s L ∷ []) same
@@ -141,7 +130,8 @@ array_is_right d L e = ap (λ b. unless_kind b (SingleType array_type) d L) e
 -- ---- what is told
 
 -- a keyword's own faults, where its name is known
-pub refuses_own : (W : World) (k n : Name) (d : Data) (L : Path) (fs : List Fault) (c : Cost) (a : Counts) (e : BuildError) → k ≡ n → own_faults W n d L ≡ fs → TellsOneOf fs e → Refuses (own_faults W k d L) c a a e
+pub refuses_own : (W : World) (k n : Name) (d : Data) (L : Path) (fs : List Fault) (c : Cost) (a : Counts) (e : BuildError) → k ≡ n → own_faults W n d L ≡ fs
+    → TellsOneOf fs e → Refuses (own_faults W k d L) c a a e
 refuses_own W k n d L fs c a e p q t = record { tells = tells_same (sym q ∙ ap (λ x. own_faults W x d L) (sym p)) e t; spends = within_nothing a c }
 
 pub refuses_without_memory : (fs : List Fault) (c : Cost) (a : Counts) (e : BuildError) (m : AllocError) → e ≡ Memory m → Refuses fs c a a e
@@ -157,18 +147,21 @@ module _ (W : World) (k : Name) (d : Data) (q : keyword_named W k ≡ leaf) (a b
   pub refuses_leaf_memory : (fs : List Fault) (e : BuildError) (m : AllocError) → e ≡ Memory m → Refuses fs (own_cost_of W n d (keyword_named W k)) a b e
   refuses_leaf_memory fs e m p = refuses_memory fs _ a b e m p (within_exactly a b _ leaf_spent)
 
-pub refuses_name : (W : World) (k : Name) (d : Data) (L : Path) (c : Cost) (a : Counts) (e : BuildError) → IsOther k → is_among k unsupported_names ≡ true → TellsOneOf (fault (Unsupported k) d [] L ∷ []) e → Refuses (own_faults W k d L) c a a e
+pub refuses_name : (W : World) (k : Name) (d : Data) (L : Path) (c : Cost) (a : Counts) (e : BuildError) → IsOther k → is_among k unsupported_names ≡ true
+    → TellsOneOf (fault (Unsupported k) d [] L ∷ []) e → Refuses (own_faults W k d L) c a a e
 refuses_name W k d L c a e other among t = record { tells = tells_same (sym (own_unsupported W d L k (refused_keyword W k other among))) e t; spends = within_nothing a c }
 
 -- ---- what is read
 
 module _ {K R : Type 0} (o : Kit K R) where
   -- a keyword without own costs, by its name
-  pub is_read : (x : Shape K R) (c : Known) (k n : Name) (d : Data) (L : Path) (a : Counts) → k ≡ n → IsShape o n d x → Fits o c x → own_faults o.world n d L ≡ [] → own_cost_of o.world c d (keyword_named o.world n) ≡ no_cost → IsRead o x c k d L a a
+  pub is_read : (x : Shape K R) (c : Known) (k n : Name) (d : Data) (L : Path) (a : Counts) → k ≡ n → IsShape o n d x → Fits o c x → own_faults o.world n d L ≡ []
+      → own_cost_of o.world c d (keyword_named o.world n) ≡ no_cost → IsRead o x c k d L a a
   is_read x c k n d L a p s f clean z = subst (λ i. IsRead o x c i d L a a) (sym p) (record { shape = s; fits = f; clean = clean; spends = subst (Spends a a) (sym z) (spends_nothing a) })
 
   -- one of the three that are read together
-  pub conditional_is_read : (x : Shape K R) (c : Known) (k n : Name) (d : Data) (L : Path) (a : Counts) → k ≡ n → IsShape o n d x → (c.condition ≡ true → Fits o c x) → is_conditional_name n ≡ true → own_faults o.world n d L ≡ [] → own_cost_of o.world c d (keyword_named o.world n) ≡ no_cost → IsRead o (cond c.condition x shape.Unpaired) c k d L a a
+  pub conditional_is_read : (x : Shape K R) (c : Known) (k n : Name) (d : Data) (L : Path) (a : Counts) → k ≡ n → IsShape o n d x → (c.condition ≡ true → Fits o c x)
+      → is_conditional_name n ≡ true → own_faults o.world n d L ≡ [] → own_cost_of o.world c d (keyword_named o.world n) ≡ no_cost → IsRead o (cond c.condition x shape.Unpaired) c k d L a a
   conditional_is_read x c k n d L a p s f e clean z = by c.condition refl
     where
       by : (b : Bool) → c.condition ≡ b → IsRead o (cond b x shape.Unpaired) c k d L a a
@@ -176,7 +169,8 @@ module _ {K R : Type 0} (o : Kit K R) where
       by false q = is_read shape.Unpaired c k n d L a p e q clean z
 
   -- a rule for other members
-  pub others_are_read : (c : Known) (k : Name) (d : Data) (L : Path) (a : Counts) → k ≡ codes "additionalProperties" → is_rule d ≡ true → IsRead o (cond (is_object d) shape.AdditionalProperties (cond (is_truth false d) shape.NoOthers shape.AnyOthers)) c k d L a a
+  pub others_are_read : (c : Known) (k : Name) (d : Data) (L : Path) (a : Counts) → k ≡ codes "additionalProperties" → is_rule d ≡ true
+      → IsRead o (cond (is_object d) shape.AdditionalProperties (cond (is_truth false d) shape.NoOthers shape.AnyOthers)) c k d L a a
   others_are_read c k d L a p rule = by (is_object d) (is_truth false d) refl refl
     where
       right : own_faults o.world (codes "additionalProperties") d L ≡ []
@@ -191,7 +185,8 @@ module _ {K R : Type 0} (o : Kit K R) where
       by false false e f = is_read shape.AnyOthers c k (codes "additionalProperties") d L a p (refl, true_left e f) tt right refl
 
   -- a schema for names
-  pub names_are_read : (c : Known) (k : Name) (d : Data) (L : Path) (a : Counts) → k ≡ codes "propertyNames" → IsRead o (cond (is_object d) shape.PropertyNames (cond (is_truth false d) shape.NoNames shape.AnyNames)) c k d L a a
+  pub names_are_read : (c : Known) (k : Name) (d : Data) (L : Path) (a : Counts) → k ≡ codes "propertyNames"
+      → IsRead o (cond (is_object d) shape.PropertyNames (cond (is_truth false d) shape.NoNames shape.AnyNames)) c k d L a a
   names_are_read c k d L a p = by (is_object d) (is_truth false d) refl refl
     where
       by : (x y : Bool) → is_object d ≡ x → is_truth false d ≡ y → IsRead o (cond x shape.PropertyNames (cond y shape.NoNames shape.AnyNames)) c k d L a a
@@ -199,16 +194,7 @@ module _ {K R : Type 0} (o : Kit K R) where
       by false true e f = is_read shape.NoNames c k (codes "propertyNames") d L a p (refl, f) tt (own_property_names o.world d L) refl
       by false false e f = is_read shape.AnyNames c k (codes "propertyNames") d L a p (refl, e, f) tt (own_property_names o.world d L) refl
 
-  pub leaf_is_read : (l : K) (k : Name) (d : Data) (L : Path) (a b : Counts) → keyword_named o.world k ≡ leaf → o.world.fits k d ≡ true → o.keyword_of l ≡ k → ((v : Data) → o.finds l v ≡ o.world.faults k d v) → b ≡ count_leaf a → (c : Known) → IsRead o (shape.Leaf l) c k d L a b
-  leaf_is_read l k d L a b q fits name same count c = record {
-    shape = (q, name, same);
-    fits = tt;
-    clean = own_leaf o.world d L k q ∙ ap (λ f. unless_kind f (LeafRefused k) d L) fits;
-    spends = leaf_spent o.world k d q a b count c;
   }
-
-  pub unread_is_read : (k : Name) (d : Data) (L : Path) (a : Counts) → keyword_named o.world k ≡ unread → (c : Known) → IsRead o shape.Unread c k d L a a
-  unread_is_read k d L a q c = record { shape = q; fits = tt; clean = own_unread o.world d L k q; spends = subst (λ w. Spends a a (own_cost_of o.world c d w)) (sym q) (spends_nothing a) }
 
 module _ (W : World) (d : Data) (L : Path) (object : is_object d ≡ true) where
   pub right_dependent_required : name_list_faults L (members d) ≡ [] → own_faults W (codes "dependentRequired") d L ≡ []

@@ -19,10 +19,13 @@ at_most : (c d : Cost) → IsAtMost c (c ⊕ d)
 at_most c d = record { places = omega arith; leaf_places = omega arith; pattern_places = omega arith; table_asks = omega arith }
 
 at_most_before : (b c d : Cost) → IsAtMost c d → IsAtMost (b ⊕ c) (b ⊕ d)
-at_most_before b c d h = record { places = omega (arith, h.places); leaf_places = omega (arith, h.leaf_places); pattern_places = omega (arith, h.pattern_places); table_asks = omega (arith, h.table_asks) }
+at_most_before b c d h =
+    record { places = omega (arith, h.places); leaf_places = omega (arith, h.leaf_places); pattern_places = omega (arith, h.pattern_places); table_asks = omega (arith, h.table_asks) }
 
 at_most_through : (b c d : Cost) → IsAtMost b c → IsAtMost c d → IsAtMost b d
-at_most_through b c d h k = record { places = omega (arith, h.places, k.places); leaf_places = omega (arith, h.leaf_places, k.leaf_places); pattern_places = omega (arith, h.pattern_places, k.pattern_places); table_asks = omega (arith, h.table_asks, k.table_asks) }
+at_most_through b c d h k =
+    record { places = omega (arith, h.places, k.places); leaf_places = omega (arith, h.leaf_places, k.leaf_places); pattern_places = omega
+        (arith, h.pattern_places, k.pattern_places); table_asks = omega (arith, h.table_asks, k.table_asks) }
 
 -- ---- one spending after another
 
@@ -83,7 +86,8 @@ exit G r Q h k = let p = err_from_is_err_and r h in subst (λ z. IfErr z G) (sym
 
 -- one of the things that are gone through is refused
 module _ {X : Type 0} (f : X → List Fault) (c : X → Cost) (all : List X) (a b : Counts) where
-  pub refuses_among : (done : List X) (x : X) (rest : List X) (m : Counts) (e : BuildError) → done ++ x ∷ rest ≡ all → Spends a m (total_cost c done) → Refuses (f x) (c x) m b e → Refuses (flat_map f all) (total_cost c all) a b e
+  pub refuses_among : (done : List X) (x : X) (rest : List X) (m : Counts) (e : BuildError) → done ++ x ∷ rest ≡ all → Spends a m (total_cost c done)
+      → Refuses (f x) (c x) m b e → Refuses (flat_map f all) (total_cost c all) a b e
   refuses_among done x rest m e p h r = record {
     tells = tells_same (sym (flat_map-append f done (x ∷ rest)) ∙ ap (flat_map f) p) e (tells_right (flat_map f done) (flat_map f (x ∷ rest)) e (tells_left (f x) (flat_map f rest) e r.tells));
     spends = within_same a b (total_cost c done ⊕ total_cost c (x ∷ rest)) (total_cost c all) (sym (total_cost-append c done (x ∷ rest)) ∙ ap (total_cost c) p)
@@ -92,4 +96,5 @@ module _ {X : Type 0} (f : X → List Fault) (c : X → Cost) (all : List X) (a 
 
   pub memory_among : (done rest : List X) (e : BuildError) (m : AllocError) → e ≡ Memory m → done ++ rest ≡ all → Spends a b (total_cost c done) → Refuses (flat_map f all) (total_cost c all) a b e
   memory_among done rest e m q p h = refuses_memory (flat_map f all) (total_cost c all) a b e m q
-      (within_same a b (total_cost c done ⊕ total_cost c rest) (total_cost c all) (sym (total_cost-append c done rest) ∙ ap (total_cost c) p) (within_before a b (total_cost c done) (total_cost c rest) (within_exactly a b (total_cost c done) h)))
+      (within_same a b (total_cost c done ⊕ total_cost c rest) (total_cost c all) (sym (total_cost-append c done rest) ∙ ap (total_cost c) p)
+          (within_before a b (total_cost c done) (total_cost c rest) (within_exactly a b (total_cost c done) h)))

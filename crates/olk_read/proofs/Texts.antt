@@ -62,7 +62,8 @@ cut_at (y ∷ xs) zero x l e = (map view xs, ap (λ d. d ∷ map view xs) (ap vi
 cut_at (y ∷ xs) (suc i) x l e = let r = cut_at xs i x (omega arith) e in (r.0, ap (λ k. view y ∷ k) r.1)
 
 module _ (xs : List Value) (i : ℕ) where
-  pub one_more_text : (old new : List (String Global)) (x : Value) (k : String Global) (s : Name) → i < length xs → x ≡ get_or xs i x → as_str (view x) ≡ Some s → string_bytes k ≡ s → new ≡ old ++ k ∷ []
+  pub one_more_text : (old new : List (String Global)) (x : Value) (k : String Global) (s : Name) → i < length xs → x ≡ get_or xs i x → as_str (view x) ≡ Some s
+      → string_bytes k ≡ s → new ≡ old ++ k ∷ []
       → AllTexts (map view (take i xs)) (map string_bytes old) → AllTexts (map view (take (i + 1) xs)) (map string_bytes new)
   one_more_text old new x k s l e a b n h = subst₂ (λ p q. AllTexts p q)
       (sym (ap (map view) (take_more xs i x l ∙ ap (λ y. take i xs ++ y ∷ []) (sym e)) ∙ map-append view (take i xs) (x ∷ [])))

@@ -36,7 +36,8 @@ errors_below n =
     ∙ ap (λ ts. own_errors (tree_of n) ++ flat_map errors ts) (children_of n)
     ∙ ap (λ l. own_errors (tree_of n) ++ l) (flat_map-map errors tree_of _)
 
-pub annotations_below : (n : EvaluationNode) → annotations (tree_of n) ≡ own_annotations (tree_of n) ++ flat_map (λ m. annotations (tree_of m)) (out-EvaluationResult (out-EvaluationNode n).result).children.items
+pub annotations_below : (n : EvaluationNode) → annotations (tree_of n) ≡ own_annotations (tree_of n) ++ flat_map (λ m. annotations (tree_of m))
+    (out-EvaluationResult (out-EvaluationNode n).result).children.items
 annotations_below n =
     annotations_parts (tree_of n)
     ∙ ap (λ ts. own_annotations (tree_of n) ++ flat_map annotations ts) (children_of n)

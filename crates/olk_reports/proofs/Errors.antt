@@ -32,13 +32,18 @@ pub kind_of_additional_properties : (n : Vec (Bor (List ℕ)) Global) → kind_o
 kind_of_additional_properties n = ap kind_of (sym (rolls-AdditionalProperties n)) ∙ fold-roll-ValidationErrorKind Kind Fault kind_step error_step (ValidationErrorKind-F.AdditionalProperties n)
 
 pub kind_of_any_of : (c : Contexts) → kind_of (the.AnyOf c) ≡ told.AnyOf (context (context_faults c))
-kind_of_any_of c = ap kind_of (sym (rolls-AnyOf c)) ∙ fold-roll-ValidationErrorKind Kind Fault kind_step error_step (ValidationErrorKind-F.AnyOf c) ∙ ap (λ l. told.AnyOf (context l)) (map-map _ _ c.items)
+kind_of_any_of c =
+    ap kind_of (sym (rolls-AnyOf c)) ∙ fold-roll-ValidationErrorKind Kind Fault kind_step error_step (ValidationErrorKind-F.AnyOf c) ∙ ap (λ l. told.AnyOf (context l)) (map-map _ _ c.items)
 
 pub kind_of_one_of_not_valid : (c : Contexts) → kind_of (the.OneOfNotValid c) ≡ told.OneOfNotValid (context (context_faults c))
-kind_of_one_of_not_valid c = ap kind_of (sym (rolls-OneOfNotValid c)) ∙ fold-roll-ValidationErrorKind Kind Fault kind_step error_step (ValidationErrorKind-F.OneOfNotValid c) ∙ ap (λ l. told.OneOfNotValid (context l)) (map-map _ _ c.items)
+kind_of_one_of_not_valid c =
+    ap kind_of (sym (rolls-OneOfNotValid c)) ∙ fold-roll-ValidationErrorKind Kind Fault kind_step error_step (ValidationErrorKind-F.OneOfNotValid c)
+        ∙ ap (λ l. told.OneOfNotValid (context l)) (map-map _ _ c.items)
 
 pub kind_of_one_of_multiple_valid : (c : Contexts) → kind_of (the.OneOfMultipleValid c) ≡ told.OneOfMultipleValid (context (context_faults c))
-kind_of_one_of_multiple_valid c = ap kind_of (sym (rolls-OneOfMultipleValid c)) ∙ fold-roll-ValidationErrorKind Kind Fault kind_step error_step (ValidationErrorKind-F.OneOfMultipleValid c) ∙ ap (λ l. told.OneOfMultipleValid (context l)) (map-map _ _ c.items)
+kind_of_one_of_multiple_valid c =
+    ap kind_of (sym (rolls-OneOfMultipleValid c)) ∙ fold-roll-ValidationErrorKind Kind Fault kind_step error_step (ValidationErrorKind-F.OneOfMultipleValid c)
+        ∙ ap (λ l. told.OneOfMultipleValid (context l)) (map-map _ _ c.items)
 
 pub kind_of_not : (s : Bor Value) → kind_of (the.Not s) ≡ told.Not (view s.now)
 kind_of_not s = ap kind_of (sym (rolls-Not s)) ∙ fold-roll-ValidationErrorKind Kind Fault kind_step error_step (ValidationErrorKind-F.Not s)
@@ -73,13 +78,17 @@ kind_of_unsupported k = ap kind_of (sym (rolls-Unsupported k)) ∙ fold-roll-Val
 pub kind_of_leaf_refused : (k : Bor (List ℕ)) → kind_of (the.LeafRefused k) ≡ told.LeafRefused k.now
 kind_of_leaf_refused k = ap kind_of (sym (rolls-LeafRefused k)) ∙ fold-roll-ValidationErrorKind Kind Fault kind_step error_step (ValidationErrorKind-F.LeafRefused k)
 
-pub fault_of_parts : (k : ValidationErrorKind) (n : Node) (t : Path) (s : SchemaPath) → fault_of (roll-ValidationError record { kind = k; instance = n; instance_path = t; schema_path = s }) ≡ fault (kind_of k) (data_of n) t (schema_path_of (kind_of k) s)
+pub fault_of_parts : (k : ValidationErrorKind) (n : Node) (t : Path) (s : SchemaPath)
+    → fault_of (roll-ValidationError record { kind = k; instance = n; instance_path = t; schema_path = s }) ≡ fault (kind_of k) (data_of n) t (schema_path_of (kind_of k) s)
 fault_of_parts k n t s = fold-roll-ValidationError Kind Fault kind_step error_step record { kind = k; instance = n; instance_path = t; schema_path = s }
 
-pub parts_of_fault : (e : ValidationError) → fault_of e ≡ fault (kind_of (out-ValidationError e).kind) (data_of (out-ValidationError e).instance) (out-ValidationError e).instance_path (schema_path_of (kind_of (out-ValidationError e).kind) (out-ValidationError e).schema_path)
+pub parts_of_fault : (e : ValidationError) → fault_of e ≡ fault (kind_of (out-ValidationError e).kind) (data_of (out-ValidationError e).instance)
+    (out-ValidationError e).instance_path (schema_path_of (kind_of (out-ValidationError e).kind) (out-ValidationError e).schema_path)
 parts_of_fault e = fold_out-ValidationError Kind Fault kind_step error_step e
 
 pub wrapped_is : (v : Data) (Q : Path) (f : Fault) → wrapped v Q f ≡ fault (told.PropertyNames f) v Q (fault_schema_path f)
 wrapped_is v Q (fault k n R P) = refl
 
-pub ruleset kinds = (kind_of_additional_properties, kind_of_any_of, kind_of_one_of_not_valid, kind_of_one_of_multiple_valid, kind_of_not, kind_of_required, kind_of_false_schema, kind_of_property_names, kind_of_leaf, kind_of_single_type, kind_of_multiple_types, kind_of_unique_items, kind_of_regex, kind_of_unsupported, kind_of_leaf_refused)
+pub ruleset kinds =
+    (kind_of_additional_properties, kind_of_any_of, kind_of_one_of_not_valid, kind_of_one_of_multiple_valid, kind_of_not, kind_of_required,
+        kind_of_false_schema, kind_of_property_names, kind_of_leaf, kind_of_single_type, kind_of_multiple_types, kind_of_unique_items, kind_of_regex, kind_of_unsupported, kind_of_leaf_refused)

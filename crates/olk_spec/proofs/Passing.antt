@@ -7,10 +7,9 @@ use Rattle.serde_json.specs.Data.{Data, null, boolean, number, string, array, ob
 use Rattle.olk_spec.specs.Names.{Name, Path, filter_once}
 use Rattle.olk_spec.specs.Schemas.{Keywords, Part, members, is_object}
 use Rattle.olk_spec.specs.World.{World}
-use Rattle.olk_spec.specs.Vocabulary.{Keyword, properties, pattern_properties, additional_properties, property_names, required, dependent_required, dependent_schemas, dependencies, property_dependencies}
-use Rattle.olk_spec.specs.Meanings.{Meaning, applied}
+use Rattle.olk_spec.specs.Vocabulary.{Keyword}
+use Rattle.olk_spec.specs.Meanings.{Meaning}
 use Rattle.olk_spec.specs.Faults.{Kind}
-use Rattle.olk_spec.specs.Reports.{own, fault_if}
 use Rattle.olk_spec.specs.Meaning.{meaning}
 use Rattle.olk_spec.specs.Laws.{Passes}
 use mathlib.Core.Bool.{true≢false}
@@ -69,43 +68,4 @@ passes_property_dependencies W u d v h = simp (no_members v h, flat_map-none) re
 
 -- ---- the same beside other keywords: nothing is asked and nothing is found
 
-abbrev pub speaks_of_objects : Keyword → Bool
-speaks_of_objects properties = true
-speaks_of_objects pattern_properties = true
-speaks_of_objects additional_properties = true
-speaks_of_objects property_names = true
-speaks_of_objects required = true
-speaks_of_objects dependent_required = true
-speaks_of_objects dependent_schemas = true
-speaks_of_objects dependencies = true
-speaks_of_objects property_dependencies = true
-speaks_of_objects _ = false
-
 module _ (W : World) (u : Bool) (S : Keywords Meaning) (k : Name) (p : Part Meaning) (v : Data) (h : is_object v ≡ false) where
-  pub nothing_applied : (w : Keyword) → speaks_of_objects w ≡ true → applied W u S k p v w ≡ []
-  nothing_applied properties e = simp (no_members v h, flat_map-none) refl
-  nothing_applied pattern_properties e = simp (no_members v h, flat_map-none) refl
-  nothing_applied additional_properties e = simp (no_members v h) refl
-  nothing_applied property_names e = refl
-  nothing_applied required e = refl
-  nothing_applied dependent_required e = refl
-  nothing_applied dependent_schemas e = simp (no_members v h, filter_once-none) refl
-  nothing_applied dependencies e = simp (no_members v h, filter_once-none) refl
-  nothing_applied property_dependencies e = simp (no_members v h, flat_map-none) refl
-  nothing_applied _ e = absurd (true≢false (sym e))
-
-  no_such_fault : (b : Bool) (f : Kind) (P Q : Path) → fault_if (b && false) f v P Q ≡ []
-  no_such_fault true f P Q = refl
-  no_such_fault false f P Q = refl
-
-  pub nothing_own : (P Q : Path) (w : Keyword) → speaks_of_objects w ≡ true → own W u S k p v P Q w ≡ []
-  nothing_own P Q properties e = refl
-  nothing_own P Q pattern_properties e = refl
-  nothing_own P Q additional_properties e = simp (no_members v h, flat_map-none) refl
-  nothing_own P Q property_names e = simp (no_members v h, flat_map-none, no_such_fault) refl
-  nothing_own P Q required e = simp (h, filter_once-none) refl
-  nothing_own P Q dependent_required e = simp (no_members v h, filter_once-none) refl
-  nothing_own P Q dependent_schemas e = refl
-  nothing_own P Q dependencies e = simp (no_members v h, filter_once-none) refl
-  nothing_own P Q property_dependencies e = refl
-  nothing_own P Q _ e = absurd (true≢false (sym e))

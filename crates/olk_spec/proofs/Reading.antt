@@ -11,7 +11,7 @@ use Rattle.serde_json.specs.Data.{Data, null, boolean, number, string, array, ob
 use Rattle.serde_json.specs.Find.{get_member}
 use Rattle.olk_spec.specs.Names.{Name, lookup_name, first_if_equal}
 use Rattle.olk_spec.specs.Malformed.{items_list, items_of_array}
-use Rattle.olk_spec.specs.Schemas.{Sub, Part, Schema, keywords, read, read_items, read_members, answer_for, whole_entries, inner_entries, whole_items, listed, members, texts, is_present, parts_at, entries_at, names_at, wholes_at, numbered, branches, names}
+use Rattle.olk_spec.specs.Schemas.{Sub, Part, Schema, keywords, read, read_items, read_members, answer_for, whole_entries, inner_entries, whole_items, listed, members, texts, is_present, entries_at, names_at, wholes_at, numbered, branches, names}
 use Rattle.olk_spec.specs.World.{World}
 use Rattle.olk_spec.specs.Meaning.{meaning, meaning_step}
 
@@ -119,9 +119,6 @@ module _ {X : Type 0} (step : Schema X → X) where
     pub is_present_read : is_present (read_members step ms) k ≡ is_some (get_member k ms)
     is_present_read = ap is_some (lookup_read k ms) ∙ present_of (get_member k ms)
 
-    pub parts_at_read : parts_at (read_members step ms) k ≡ map (read step) (option_to_list (get_member k ms))
-    parts_at_read = ap option_to_list (lookup_read k ms) ∙ parts_of (get_member k ms)
-
     wholes_of : (o : Option Data) → map (λ p. p.whole) (option_to_list (option_map (read step) o)) ≡ map place (option_to_list o)
     wholes_of None = refl
     wholes_of (Some d) = λ i. whole_read d i ∷ []
@@ -145,9 +142,6 @@ module _ {X : Type 0} (step : Schema X → X) where
 
     -- where d stands there, or nothing
     module _ (d : Data) (e : get_member k ms ≡ Some d) where
-      pub lookup_there : lookup_name k (read_members step ms) ≡ Some (read step d)
-      lookup_there = lookup_read k ms ∙ ap (option_map (read step)) e
-
       pub wholes_there : wholes_at (read_members step ms) k ≡ place d ∷ []
       wholes_there = wholes_at_read ∙ ap (λ o. map place (option_to_list o)) e
 
@@ -158,17 +152,8 @@ module _ {X : Type 0} (step : Schema X → X) where
       names_there = names_at_read ∙ ap (λ o. flat_map texts (option_to_list o)) e ∙ append-nil (texts d)
 
     module _ (e : get_member k ms ≡ None) where
-      pub lookup_absent : lookup_name k (read_members step ms) ≡ None
-      lookup_absent = lookup_read k ms ∙ ap (option_map (read step)) e
-
       pub wholes_absent : wholes_at (read_members step ms) k ≡ []
       wholes_absent = wholes_at_read ∙ ap (λ o. map place (option_to_list o)) e
-
-      pub entries_absent : entries_at (read_members step ms) k ≡ []
-      entries_absent = entries_at_read ∙ ap (λ o. flat_map (λ x. map entry (members x)) (option_to_list o)) e
-
-      pub names_absent : names_at (read_members step ms) k ≡ []
-      names_absent = names_at_read ∙ ap (λ o. flat_map texts (option_to_list o)) e
 
 -- one level of the recursion
 pub meaning_of_object : (W : World) (u : Bool) (ms : Members) → meaning W u (object ms) ≡ meaning_step W u (keywords (read_members (meaning_step W u) ms))

@@ -78,7 +78,8 @@ module _ {X Y : Type 0} (h : Y → X) where
     known-map (Some f) i = ap (λ k. k f.0 i) same.known
 
     module _ (u : Bool) where
-      matching-map : (d : Option (ℕ × Y)) (n : Name) (i : ℕ) (es : List (CompiledPattern R × Y)) → matching_from answers S (option_map at_place d) n u i (map with_node es) ≡ map h (matching_from answers T d n u i es)
+      matching-map : (d : Option (ℕ × Y)) (n : Name) (i : ℕ) (es : List (CompiledPattern R × Y)) → matching_from answers S (option_map at_place d) n u i
+          (map with_node es) ≡ map h (matching_from answers T d n u i es)
       matching-map d n i [] = refl
       matching-map d n i (e ∷ es) = (λ j. put_if (reads_as u (known_or (known-map d i j) (pattern_answers answers e.0 n))) (h e.1) (matching-map d n (i + 1) es j))
           ∙ put-map (reads_as u (known_or (known_at T d i) (pattern_answers answers e.0 n))) e.1 (matching_from answers T d n u (i + 1) es)
@@ -114,13 +115,17 @@ module _ {X Y : Type 0} (h : Y → X) where
       declared_means-map x None = refl
       declared_means-map x (Some f) = means f.1 x
 
-      patterns_mean-map : (d : Option (ℕ × Y)) (n : Name) (x : Data) (spoken : Bool) (i : ℕ) (es : List (CompiledPattern R × Y)) → patterns_mean_from answers costs p S (option_map at_place d) n x spoken i (map with_node es) ≡ patterns_mean_from answers costs q T d n x spoken i es
+      patterns_mean-map : (d : Option (ℕ × Y)) (n : Name) (x : Data) (spoken : Bool) (i : ℕ) (es : List (CompiledPattern R × Y))
+          → patterns_mean_from answers costs p S (option_map at_place d) n x spoken i (map with_node es) ≡ patterns_mean_from answers costs q T d n x spoken i es
       patterns_mean-map d n x spoken i [] = ap (cond spoken (always true)) (ap (rest_means p x) same.rest ∙ rest_means-map x T.rest)
-      patterns_mean-map d n x spoken i (e ∷ es) = λ j. conditional (known_or_asked (known-map d i j) (said_to (pattern_costs costs e.0) (pattern_answers answers e.0 n))) (both (means e.1 x j) (patterns_mean-map d n x true (i + 1) es j)) (patterns_mean-map d n x spoken (i + 1) es j)
+      patterns_mean-map d n x spoken i (e ∷ es) =
+          λ j. conditional (known_or_asked (known-map d i j) (said_to (pattern_costs costs e.0) (pattern_answers answers e.0 n)))
+              (both (means e.1 x j) (patterns_mean-map d n x true (i + 1) es j)) (patterns_mean-map d n x spoken (i + 1) es j)
 
       member_means-map : (n : Name) (x : Data) → member_means answers costs p S n x ≡ member_means answers costs q T n x
       member_means-map n x = (λ j. both (declared_means p x (same.at n j)) (patterns_mean_from answers costs p S (same.at n j) n x (is_some (same.at n j)) 0 (same.patterns j)))
-          ∙ (λ j. both (declared_means-map x (at_name T n) j) (patterns_mean_from answers costs p S (option_map at_place (at_name T n)) n x (some-map at_place (at_name T n) j) 0 (map with_node T.patterns)))
+          ∙ (λ j. both (declared_means-map x (at_name T n) j) (patterns_mean_from answers costs p S (option_map at_place (at_name T n)) n x
+              (some-map at_place (at_name T n) j) 0 (map with_node T.patterns)))
           ∙ ap (both (declared_means q x (at_name T n))) (patterns_mean-map (at_name T n) n x (is_some (at_name T n)) 0 T.patterns)
 
       others_mean-map : (n : Name) (x : Data) → others_mean answers costs p S n x ≡ others_mean answers costs q T n x
@@ -144,26 +149,35 @@ module _ {X Y : Type 0} (h : Y → X) where
 
         declared_report-map : flat_map (λ e. flat_map (λ w. r e.1.1 u w (Q // e.0)) (at e.0 v)) S.declared ≡ flat_map (λ e. flat_map (λ w. s e.1.1 u w (Q // e.0)) (at e.0 v)) T.declared
         declared_report-map = ap (flat_map (λ e. flat_map (λ w. r e.1.1 u w (Q // e.0)) (at e.0 v))) same.declared
-            ∙ flat_map-map (λ e. flat_map (λ w. r e.1.1 u w (Q // e.0)) (at e.0 v)) (λ e. flat_map (λ w. s e.1.1 u w (Q // e.0)) (at e.0 v)) with_place (λ e i. flat_map (λ w. finds e.1.1 w (Q // e.0) i) (at e.0 v)) T.declared
+            ∙ flat_map-map (λ e. flat_map (λ w. r e.1.1 u w (Q // e.0)) (at e.0 v)) (λ e. flat_map (λ w. s e.1.1 u w (Q // e.0)) (at e.0 v)) with_place
+                (λ e i. flat_map (λ w. finds e.1.1 w (Q // e.0) i) (at e.0 v)) T.declared
 
         pub additional_report-map : additional_report answers S u v Q named P r ≡ additional_report answers T u v Q named P s
         additional_report-map = λ j. cond (repeats v)
-            (declared_report-map j ++ (flat_map (λ x. asked_report-map x (others_asked answers S u x.0) (others_asked answers T u x.0) (others_asked-map u x.0) j) (members v) ++ unexpected_faults named (unexpected-map u v j) v P Q))
-            (flat_map (λ x. asked_report-map x (nodes_asked answers S u x.0) (nodes_asked answers T u x.0) (nodes_asked-map u x.0) j) (members v) ++ unexpected_faults named (unexpected-map u v j) v P Q)
+            (declared_report-map j ++ (flat_map (λ x. asked_report-map x (others_asked answers S u x.0) (others_asked answers T u x.0) (others_asked-map u x.0) j) (members v)
+                ++ unexpected_faults named (unexpected-map u v j) v P Q))
+            (flat_map (λ x. asked_report-map x (nodes_asked answers S u x.0) (nodes_asked answers T u x.0) (nodes_asked-map u x.0) j) (members v)
+                ++ unexpected_faults named (unexpected-map u v j) v P Q)
 
-        asked_first-map : (x : Name × Data) (ns : List X) (ms : List Y) → ns ≡ map h ms → or_else (first_of (λ e. r e u x.1 (Q // x.0)) ns) (cond (is_unexpected answers S u x.0) (unexpected_faults named (x ∷ []) v P Q) []) ≡ or_else (first_of (λ e. s e u x.1 (Q // x.0)) ms) (cond (is_unexpected answers T u x.0) (unexpected_faults named (x ∷ []) v P Q) [])
-        asked_first-map x ns ms e = λ j. or_else ((ap (first_of (λ e. r e u x.1 (Q // x.0))) e ∙ first_of-map (λ e. r e u x.1 (Q // x.0)) (λ e. s e u x.1 (Q // x.0)) h (λ y. finds y x.1 (Q // x.0)) ms) j) (cond (is_unexpected-map u x.0 j) (unexpected_faults named (x ∷ []) v P Q) [])
+        asked_first-map : (x : Name × Data) (ns : List X) (ms : List Y) → ns ≡ map h ms → or_else (first_of (λ e. r e u x.1 (Q // x.0)) ns)
+            (cond (is_unexpected answers S u x.0) (unexpected_faults named (x ∷ []) v P Q) []) ≡ or_else (first_of (λ e. s e u x.1 (Q // x.0)) ms)
+            (cond (is_unexpected answers T u x.0) (unexpected_faults named (x ∷ []) v P Q) [])
+        asked_first-map x ns ms e =
+            λ j. or_else ((ap (first_of (λ e. r e u x.1 (Q // x.0))) e ∙ first_of-map (λ e. r e u x.1 (Q // x.0)) (λ e. s e u x.1 (Q // x.0)) h (λ y. finds y x.1 (Q // x.0)) ms) j)
+                (cond (is_unexpected-map u x.0 j) (unexpected_faults named (x ∷ []) v P Q) [])
 
         declared_first-map : first_of (λ e. first_of (λ w. r e.1.1 u w (Q // e.0)) (at e.0 v)) S.declared ≡ first_of (λ e. first_of (λ w. s e.1.1 u w (Q // e.0)) (at e.0 v)) T.declared
         declared_first-map = ap (first_of (λ e. first_of (λ w. r e.1.1 u w (Q // e.0)) (at e.0 v))) same.declared
-            ∙ first_of-map (λ e. first_of (λ w. r e.1.1 u w (Q // e.0)) (at e.0 v)) (λ e. first_of (λ w. s e.1.1 u w (Q // e.0)) (at e.0 v)) with_place (λ e i. first_of (λ w. finds e.1.1 w (Q // e.0) i) (at e.0 v)) T.declared
+            ∙ first_of-map (λ e. first_of (λ w. r e.1.1 u w (Q // e.0)) (at e.0 v)) (λ e. first_of (λ w. s e.1.1 u w (Q // e.0)) (at e.0 v)) with_place
+                (λ e i. first_of (λ w. finds e.1.1 w (Q // e.0) i) (at e.0 v)) T.declared
 
         pub additional_first-map : additional_first answers S u v Q named P r ≡ additional_first answers T u v Q named P s
         additional_first-map = λ j. cond (repeats v)
             (or_else (declared_first-map j) (first_of (λ x. asked_first-map x (others_asked answers S u x.0) (others_asked answers T u x.0) (others_asked-map u x.0) j) (members v)))
             (first_of (λ x. asked_first-map x (nodes_asked answers S u x.0) (nodes_asked answers T u x.0) (nodes_asked-map u x.0) j) (members v))
 
-      module _ (t : X → Data → Path → Tree) (s : Y → Data → Path → Tree) (shows : (y : Y) (w : Data) (Q : Path) → t (h y) w Q ≡ s y w Q) (declares has_patterns : Bool) (P M : Path) (more : List Tree) where
+      module _ (t : X → Data → Path → Tree) (s : Y → Data → Path → Tree) (shows : (y : Y) (w : Data) (Q : Path) → t (h y) w Q ≡ s y w Q)
+          (declares has_patterns : Bool) (P M : Path) (more : List Tree) where
         names-map : map (λ x. x.0) (filter_once (λ x. is_additional answers S u x.0) (members v)) ≡ map (λ x. x.0) (filter_once (λ x. is_additional answers T u x.0) (members v))
         names-map = λ j. map (λ x. x.0) (filter_once (λ x. is_additional-map u x.0 j) (members v))
 

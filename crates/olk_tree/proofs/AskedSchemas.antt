@@ -77,7 +77,8 @@ module _ {K R N : Type 0} (o : Kit K R) (m : N → Data → Question) (r : N →
         by Greater q g = g
         by Equal q g = let same = same_name n e.0 (sym q) in (subst (λ k. AnswersAs o m r t x e.1 (L // k)) (sym same) h.0, 0, omega arith, ap Some (sym same))
 
-    found_answers : (fs : List (Name × Data)) (a : Option (ℕ × N)) (b : Option Data) → FoundFrom 0 fs a b → AnswerAs o m r t (option_to_list (option_map (λ f. f.1) a)) (map (λ s. (s, L // n)) (option_to_list b))
+    found_answers : (fs : List (Name × Data)) (a : Option (ℕ × N)) (b : Option Data) → FoundFrom 0 fs a b → AnswerAs o m r t (option_to_list (option_map (λ f. f.1) a))
+        (map (λ s. (s, L // n)) (option_to_list b))
     found_answers fs None None g = tt
     found_answers fs None (Some s) g = absurd g
     found_answers fs (Some f) None g = absurd g
@@ -103,7 +104,8 @@ module _ {K R N : Type 0} (o : Kit K R) (m : N → Data → Question) (r : N →
     recalls_here i p ps h = h 0 i p.0 (omega arith) refl
 
     module _ (u : Bool) (L : Path) where
-      matching_answer : (i : ℕ) (ps : List (CompiledPattern R × N)) (es : List (Name × Data)) → PatternsAnswer o m r t ps es L → Recalls i ps → AnswerAs o m r t (matching_from o.answers S a n u i ps) (map (λ e. (e.1, L // e.0)) (matching_at o.world u es n))
+      matching_answer : (i : ℕ) (ps : List (CompiledPattern R × N)) (es : List (Name × Data)) → PatternsAnswer o m r t ps es L → Recalls i ps
+          → AnswerAs o m r t (matching_from o.answers S a n u i ps) (map (λ e. (e.1, L // e.0)) (matching_at o.world u es n))
       matching_answer i [] [] h k = tt
       matching_answer i [] (e ∷ es) h k = absurd h
       matching_answer i (p ∷ ps) [] h k = absurd h
@@ -121,7 +123,8 @@ module _ {K R N : Type 0} (o : Kit K R) (m : N → Data → Question) (r : N →
 
 -- ---- all that is asked of a member with this name
 
-module _ {K R N : Type 0} (o : Kit K R) (m : N → Data → Question) (r : N → Bool → Data → Path → List Fault) (t : N → Bool → Data → Path → Tree) {S : Sides R N} {fs es : List (Name × Data)} {d : Data} {P : Path} (h : SidesStand o m r t S fs es d P) where
+module _ {K R N : Type 0} (o : Kit K R) (m : N → Data → Question) (r : N → Bool → Data → Path → List Fault)
+    (t : N → Bool → Data → Path → Tree) {S : Sides R N} {fs es : List (Name × Data)} {d : Data} {P : Path} (h : SidesStand o m r t S fs es d P) where
   pub is_rest : is_some S.rest ≡ is_object d
   is_rest = by S.rest h.rest
     where
@@ -138,7 +141,8 @@ module _ {K R N : Type 0} (o : Kit K R) (m : N → Data → Question) (r : N →
 
   module _ (n : Name) where
     at_name_found : FoundFrom o m r t n (P // codes "properties") 0 fs (at_name S n) (lookup_name n fs)
-    at_name_found = subst (λ l. FoundFrom o m r t n (P // codes "properties") 0 fs (lookup_name n l) (lookup_name n fs)) (sym h.placed_zip) (found o m r t n (P // codes "properties") 0 h.nodes fs h.declared)
+    at_name_found =
+        subst (λ l. FoundFrom o m r t n (P // codes "properties") 0 fs (lookup_name n l) (lookup_name n fs)) (sym h.placed_zip) (found o m r t n (P // codes "properties") 0 h.nodes fs h.declared)
 
     -- the name is declared where it has a node
     pub is_declared : is_some (at_name S n) ≡ is_declared_in fs n
@@ -171,7 +175,9 @@ module _ {K R N : Type 0} (o : Kit K R) (m : N → Data → Question) (r : N →
           none_declared = not_some (at_name S n) ∙ ap not is_declared
 
           none_matching : is_empty (nodes_matching o.answers S u n) ≡ is_empty (matching_at o.world u es n)
-          none_matching = both_empty o m r t (nodes_matching o.answers S u n) (map (λ e. (e.1, P // codes "patternProperties" // e.0)) (matching_at o.world u es n)) nodes_matching_answer ∙ is_empty-map _ (matching_at o.world u es n)
+          none_matching =
+              both_empty o m r t (nodes_matching o.answers S u n) (map (λ e. (e.1, P // codes "patternProperties" // e.0)) (matching_at o.world u es n)) nodes_matching_answer
+                  ∙ is_empty-map _ (matching_at o.world u es n)
 
       -- the schemas that are asked, each with its place: the declared one, those whose pattern matches, and where there is neither the rest
       abbrev pub declared_schemas : List (Data × Path)
@@ -186,7 +192,8 @@ module _ {K R N : Type 0} (o : Kit K R) (m : N → Data → Question) (r : N →
       rest_answers : AnswerAs o m r t (cond (is_additional o.answers S u n) (option_to_list S.rest) []) rest_schemas
       rest_answers = by S.rest h.rest (is_additional o.answers S u n) (is_other o.world u fs es n) is_additional_other
         where
-          by : (x : Option N) → RestAnswers o m r t x d (P // codes "additionalProperties") → (b c : Bool) → b ≡ c → AnswerAs o m r t (cond b (option_to_list x) []) (put_if (is_object d && c) (d, P // codes "additionalProperties") [])
+          by : (x : Option N) → RestAnswers o m r t x d (P // codes "additionalProperties") → (b c : Bool) → b ≡ c → AnswerAs o m r t (cond b (option_to_list x) [])
+              (put_if (is_object d && c) (d, P // codes "additionalProperties") [])
           by None g b c q = none (is_object d) (false_is_no_object d g) b
             where
               none : (object : Bool) → object ≡ false → (b : Bool) → AnswerAs o m r t (cond b [] []) (put_if (object && c) (d, P // codes "additionalProperties") [])

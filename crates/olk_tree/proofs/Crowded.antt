@@ -29,7 +29,8 @@ module _ {N : Type 0} (f : Option N → Data → Question) (u : Bool) (closed : 
   undeclared es m ms e = ap (λ o. (f o m.1).accepts u && all_accepted es ms) e ∙ ap (λ b. b && all_accepted es ms) (closed m.1)
 
   module _ (e : Name × N) (es : List (Name × N)) (r : Rising (e ∷ es)) (others : (ms : List (Name × Data)) → Rising ms → length es < length ms → all_accepted es ms ≡ false) where
-    by_order : (m : Name × Data) (ms : List (Name × Data)) → Rising (m ∷ ms) → length (e ∷ es) < length (m ∷ ms) → (o : Ordering) → slice_cmp nat_cmp e.0 m.0 ≡ o → all_accepted (e ∷ es) (m ∷ ms) ≡ false
+    by_order : (m : Name × Data) (ms : List (Name × Data)) → Rising (m ∷ ms) → length (e ∷ es) < length (m ∷ ms) → (o : Ordering) → slice_cmp nat_cmp e.0 m.0 ≡ o
+        → all_accepted (e ∷ es) (m ∷ ms) ≡ false
     by_order m ms s h Less q = without_first e es (m ∷ ms) (q, after_after e.0 m.0 q ms s.0) ∙ others (m ∷ ms) s (omega arith)
     by_order m ms s h Equal q =
         let same : e.0 ≡ m.0 = slice_cmp-IsAntisymmetric nat_cmp-IsAntisymmetric e.0 m.0 q in

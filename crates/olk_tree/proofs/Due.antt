@@ -106,7 +106,8 @@ module _ {N : Type 0} where
 
 -- ---- the names of an object's members, one after the other
 
-pub name_next : {left rest : List (String Global × Value)} {k : String Global} {w : Value} {n : Name} → left ≡ (k, w) ∷ rest → n ≡ string_bytes k → listed (members_view left) ≡ (n, view w) ∷ listed (members_view rest)
+pub name_next : {left rest : List (String Global × Value)} {k : String Global} {w : Value} {n : Name} → left ≡ (k, w) ∷ rest → n ≡ string_bytes k
+    → listed (members_view left) ≡ (n, view w) ∷ listed (members_view rest)
 name_next {left} {rest} {k} {w} {n} next name = ap (λ l. listed (members_view l)) next ∙ ap (λ t. (t, view w) ∷ listed (members_view rest)) (sym name)
 
 pub no_name_next : {left : List (String Global × Value)} → left ≡ [] → listed (members_view left) ≡ []

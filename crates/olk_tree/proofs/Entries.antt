@@ -18,7 +18,8 @@ pub names_listed : (es : List (String Global × Value)) → names_in es ≡ map 
 names_listed [] = refl
 names_listed (e ∷ es) = ap (λ ns. string_bytes e.0 ∷ ns) (names_listed es)
 
-below_each : (k : String Global) (es : List (String Global × Value)) → AllByRecursion (λ y. string_cmp k y ≡ Less) (keys_of es) → (j : ℕ) → j < length (names_in es) → slice_cmp nat_cmp (string_bytes k) (get_or (names_in es) j []) ≡ Less
+below_each : (k : String Global) (es : List (String Global × Value)) → AllByRecursion (λ y. string_cmp k y ≡ Less) (keys_of es) → (j : ℕ)
+    → j < length (names_in es) → slice_cmp nat_cmp (string_bytes k) (get_or (names_in es) j []) ≡ Less
 below_each k [] h j l = absurd (omega arith)
 below_each k (e ∷ es) h zero l = h.0
 below_each k (e ∷ es) h (suc j) l = below_each k es h.1 j (omega arith)
@@ -38,5 +39,6 @@ pub record NamesSoFar (names : List (String Global)) (left all : List (String Gl
 pub so_far_end : {names : List (String Global)} {left all : List (String Global × Value)} → NamesSoFar names left all → left ≡ [] → map string_bytes names ≡ names_in all
 so_far_end {names} {left} {all} h e = sym (append-nil (map string_bytes names)) ∙ ap (λ es. map string_bytes names ++ names_in es) (sym e) ∙ h.are_all
 
-pub so_far_ascends : (names : List (String Global)) (all : List (String Global × Value)) → map string_bytes names ≡ names_in all → IsStrictlySortedBy string_cmp (keys_of all) → Ascend (map string_bytes names)
+pub so_far_ascends : (names : List (String Global)) (all : List (String Global × Value)) → map string_bytes names ≡ names_in all
+    → IsStrictlySortedBy string_cmp (keys_of all) → Ascend (map string_bytes names)
 so_far_ascends names all e h = subst Ascend (sym e) (ascending all h)

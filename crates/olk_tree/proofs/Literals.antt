@@ -23,7 +23,8 @@ module _ (q : Data → Question) where
   found None = refl
   found (Some x) = refl
 
-  at_name : (t : Name) (ms : List (Name × Data)) → Distinct ms → every q (option_to_list (lookup_name t ms)) ≡ every (λ x. conditional (said_to false (cond (bytes_eq t x.0) matched unmatched)) (q x.1) (always true)) ms
+  at_name : (t : Name) (ms : List (Name × Data)) → Distinct ms → every q (option_to_list (lookup_name t ms)) ≡ every
+      (λ x. conditional (said_to false (cond (bytes_eq t x.0) matched unmatched)) (q x.1) (always true)) ms
   at_name t ms d =
       ap (every q) (found (lookup_name t ms) ∙ at_lookup (λ x. x ∷ []) t ms d)
       ∙ every-flat_map q (λ x. cond (bytes_eq t x.0) (x.1 ∷ []) []) ms

@@ -41,11 +41,13 @@ module _ {X : Type 0} where
   later x xs (Some i) = refl
 
   -- what is read at an index
-  pub read_at : (xs : List X) (i : ℕ) (o : Option (Bor X)) → IfSome o (λ x. x.now ≡ get_or xs i x.now) → MatchOption o (length xs ≤ i) (λ x. (i < length xs) × HoldsAt (λ y. x.now ≡ y) xs i) → option_copied o ≡ slice_get xs i
+  pub read_at : (xs : List X) (i : ℕ) (o : Option (Bor X)) → IfSome o (λ x. x.now ≡ get_or xs i x.now) → MatchOption o (length xs ≤ i)
+      (λ x. (i < length xs) × HoldsAt (λ y. x.now ≡ y) xs i) → option_copied o ≡ slice_get xs i
   read_at xs i None h m = sym (slice_get_past xs i m)
   read_at xs i (Some x) h m = sym (slice_get_read xs (length xs) i x.now refl m.0 h)
 
-  pub read_in : (xs slice : List X) (i : ℕ) (o : Option (Bor X)) → slice ≡ xs → IfSome o (λ x. x.now ≡ get_or slice i x.now) → MatchOption o (length slice ≤ i) (λ x. (i < length slice) × HoldsAt (λ y. x.now ≡ y) slice i) → option_copied o ≡ slice_get xs i
+  pub read_in : (xs slice : List X) (i : ℕ) (o : Option (Bor X)) → slice ≡ xs → IfSome o (λ x. x.now ≡ get_or slice i x.now)
+      → MatchOption o (length slice ≤ i) (λ x. (i < length slice) × HoldsAt (λ y. x.now ≡ y) slice i) → option_copied o ≡ slice_get xs i
   read_in xs slice i o same h m = read_at slice i o h m ∙ ap (λ l. slice_get l i) same
 
   -- the place of a name leads to what stands zip it
@@ -74,7 +76,8 @@ module _ {X : Type 0} where
   numbered_get k (x ∷ xs) (suc i) j e = numbered_get (k + 1) xs i j (omega arith)
 
   -- what is read at an index, with the index
-  pub numbered_at : (xs : List X) (i : ℕ) (o : Option (Bor X)) → IfSome o (λ x. x.now ≡ get_or xs i x.now) → MatchOption o (length xs ≤ i) (λ x. (i < length xs) × HoldsAt (λ y. x.now ≡ y) xs i) → option_map {U = ℕ × X} (λ x. (i, x.now)) o ≡ slice_get (placed xs) i
+  pub numbered_at : (xs : List X) (i : ℕ) (o : Option (Bor X)) → IfSome o (λ x. x.now ≡ get_or xs i x.now) → MatchOption o (length xs ≤ i)
+      (λ x. (i < length xs) × HoldsAt (λ y. x.now ≡ y) xs i) → option_map {U = ℕ × X} (λ x. (i, x.now)) o ≡ slice_get (placed xs) i
   numbered_at xs i o h m = with_index o ∙ ap (option_map {U = ℕ × X} (λ x. (i, x))) (read_at xs i o h m) ∙ sym (numbered_get 0 xs i i (omega arith))
     where
       with_index : (o : Option (Bor X)) → option_map {U = ℕ × X} (λ x. (i, x.now)) o ≡ option_map {U = ℕ × X} (λ x. (i, x)) (option_copied o)
@@ -85,6 +88,8 @@ module _ {X : Type 0} where
 pub place_inside : (ks : List Name) (slice : List (String Global)) (n : Name) (i : ℕ) → map string_bytes slice ≡ ks → Some i ≡ position (λ k. bytes_eq k n) ks → i < length slice
 place_inside ks slice n i same e = omega (arith, length-map slice string_bytes, ap length same, (position-Some (λ k. bytes_eq k n) ks i [] (sym e)).0)
 
-pub name_read : (ks : List Name) (slice : List (String Global)) (n : Name) (i : ℕ) (x : String Global) → map string_bytes slice ≡ ks → x ≡ get_or slice i x → Some i ≡ position (λ k. bytes_eq k n) ks → string_bytes x ≡ n
+pub name_read : (ks : List Name) (slice : List (String Global)) (n : Name) (i : ℕ) (x : String Global) → map string_bytes slice ≡ ks → x ≡ get_or slice i x
+    → Some i ≡ position (λ k. bytes_eq k n) ks → string_bytes x ≡ n
 name_read ks slice n i x same is e =
-    ap string_bytes is ∙ sym (get_or-map string_bytes slice i x [] (place_inside ks slice n i same e)) ∙ ap (λ l. get_or l i []) same ∙ (bytes_eq-Decides (get_or ks i []) n).0 (position-Some (λ k. bytes_eq k n) ks i [] (sym e)).1
+    ap string_bytes is ∙ sym (get_or-map string_bytes slice i x [] (place_inside ks slice n i same e)) ∙ ap (λ l. get_or l i []) same
+        ∙ (bytes_eq-Decides (get_or ks i []) n).0 (position-Some (λ k. bytes_eq k n) ks i [] (sym e)).1

@@ -51,12 +51,14 @@ module _ {X Y : Type 0} (p : X → Question) (q : Y → Question) (h : Y → X) 
   pub exactly_one-map : (ys : List Y) → exactly_one p (map h ys) ≡ exactly_one q ys
   exactly_one-map ys = λ i. record { accepts = λ u. how_many-map u ys i == 1; asks = (some-map p q h same ys i).asks }
 
-pub every-zip : {A X Y : Type 0} (p : A × X → Question) (q : A × Y → Question) (h : Y → X) → ((a : A) (y : Y) → p (a, h y) ≡ q (a, y)) → (ks : List A) (ys : List Y) → every p (zip ks (map h ys)) ≡ every q (zip ks ys)
+pub every-zip : {A X Y : Type 0} (p : A × X → Question) (q : A × Y → Question) (h : Y → X) → ((a : A) (y : Y) → p (a, h y) ≡ q (a, y)) → (ks : List A) (ys : List Y)
+    → every p (zip ks (map h ys)) ≡ every q (zip ks ys)
 every-zip p q h e [] ys = refl
 every-zip p q h e (a ∷ ks) [] = refl
 every-zip p q h e (a ∷ ks) (y ∷ ys) = λ i. both (e a y i) (every-zip p q h e ks ys i)
 
-pub flat_map-zip : {A X Y B : Type 0} (p : A × X → List B) (q : A × Y → List B) (h : Y → X) → ((a : A) (y : Y) → p (a, h y) ≡ q (a, y)) → (ks : List A) (ys : List Y) → flat_map p (zip ks (map h ys)) ≡ flat_map q (zip ks ys)
+pub flat_map-zip : {A X Y B : Type 0} (p : A × X → List B) (q : A × Y → List B) (h : Y → X) → ((a : A) (y : Y) → p (a, h y) ≡ q (a, y))
+    → (ks : List A) (ys : List Y) → flat_map p (zip ks (map h ys)) ≡ flat_map q (zip ks ys)
 flat_map-zip p q h e [] ys = refl
 flat_map-zip p q h e (a ∷ ks) [] = refl
 flat_map-zip p q h e (a ∷ ks) (y ∷ ys) = λ i. e a y i ++ flat_map-zip p q h e ks ys i
@@ -65,7 +67,8 @@ pub first_of-map : {X Y : Type 0} (p : X → List Fault) (q : Y → List Fault) 
 first_of-map p q h e [] = refl
 first_of-map p q h e (y ∷ ys) = λ i. or_else (e y i) (first_of-map p q h e ys i)
 
-pub first_of-zip : {A X Y : Type 0} (p : A × X → List Fault) (q : A × Y → List Fault) (h : Y → X) → ((a : A) (y : Y) → p (a, h y) ≡ q (a, y)) → (ks : List A) (ys : List Y) → first_of p (zip ks (map h ys)) ≡ first_of q (zip ks ys)
+pub first_of-zip : {A X Y : Type 0} (p : A × X → List Fault) (q : A × Y → List Fault) (h : Y → X) → ((a : A) (y : Y) → p (a, h y) ≡ q (a, y))
+    → (ks : List A) (ys : List Y) → first_of p (zip ks (map h ys)) ≡ first_of q (zip ks ys)
 first_of-zip p q h e [] ys = refl
 first_of-zip p q h e (a ∷ ks) [] = refl
 first_of-zip p q h e (a ∷ ks) (y ∷ ys) = λ i. or_else (e a y i) (first_of-zip p q h e ks ys i)
@@ -120,7 +123,8 @@ module _ {X Y : Type 0} (h : Y → X) (v : Data) where
 
     at_texts-map : (m : SmallMap Y) (ts : List Name) → flat_map (λ t. option_to_list (lookup_name t (named (g m)))) ts ≡ map h (flat_map (λ t. option_to_list (lookup_name t (named m))) ts)
     at_texts-map m [] = refl
-    at_texts-map m (t ∷ ts) = (λ i. at_text-map m t i ++ at_texts-map m ts i) ∙ sym (map-append h (option_to_list (lookup_name t (named m))) (flat_map (λ t. option_to_list (lookup_name t (named m))) ts))
+    at_texts-map m (t ∷ ts) =
+        (λ i. at_text-map m t i ++ at_texts-map m ts i) ∙ sym (map-append h (option_to_list (lookup_name t (named m))) (flat_map (λ t. option_to_list (lookup_name t (named m))) ts))
 
     chosen_at-map : (m : SmallMap Y) (w : Data) → chosen_at (g m) w ≡ map h (chosen_at m w)
     chosen_at-map m w = at_texts-map m (as_text w)
@@ -142,12 +146,14 @@ module _ {X Y : Type 0} (t : X → Data → Path → Tree) (s : Y → Data → P
   at_found m (Some y) = ap (λ x. x ∷ []) (same y m.1 (Q // m.0))
 
   at_members : (ks : List Name) (ys : List Y) (ms : List (Name × Data))
-      → flat_map (λ m. map (λ x. t x m.1 (Q // m.0)) (option_to_list (lookup_name m.0 (zip ks (map h ys))))) ms ≡ flat_map (λ m. map (λ y. s y m.1 (Q // m.0)) (option_to_list (lookup_name m.0 (zip ks ys)))) ms
+      → flat_map (λ m. map (λ x. t x m.1 (Q // m.0)) (option_to_list (lookup_name m.0 (zip ks (map h ys))))) ms ≡ flat_map
+          (λ m. map (λ y. s y m.1 (Q // m.0)) (option_to_list (lookup_name m.0 (zip ks ys)))) ms
   at_members ks ys [] = refl
   at_members ks ys (m ∷ ms) = λ i. (ap (λ o. map (λ x. t x m.1 (Q // m.0)) (option_to_list o)) (lookup_name-zip h m.0 ks ys) ∙ at_found m (lookup_name m.0 (zip ks ys))) i ++ at_members ks ys ms i
 
   pub properties_tree-map : (P : Path) (ks : List Name) (ys : List Y) (more : List Tree) → properties_tree t v Q P (zip ks (map h ys)) more ≡ properties_tree s v Q P (zip ks ys) more
-  properties_tree-map P ks ys more = λ i. result P Q (cond (is_object v) (Some (map (λ m. m.0) (filter_once (λ m. is_among m.0 (names-zip h ks ys i)) (members v)))) None) false [] (at_members ks ys (members v) i ++ more)
+  properties_tree-map P ks ys more =
+      λ i. result P Q (cond (is_object v) (Some (map (λ m. m.0) (filter_once (λ m. is_among m.0 (names-zip h ks ys i)) (members v)))) None) false [] (at_members ks ys (members v) i ++ more)
 
   pub branch_trees-map : (ys : List Y) → branch_trees t v Q (map h ys) ≡ branch_trees s v Q ys
   branch_trees-map ys = map-map (λ x. t x v Q) (λ y. s y v Q) h (λ y. same y v Q) ys
@@ -169,18 +175,28 @@ module _ {R X Y : Type 0} (answers : R → Name → Says) (h : Y → X) where
   beside_pattern e = (e.0, h e.1)
 
   module _ (v : Data) where
-    pub patterns_mean-map : (costs : R → Bool) (m : X → Data → Question) (k : Y → Data → Question) → ((y : Y) (w : Data) → m (h y) w ≡ k y w) → (es : List (CompiledPattern R × Y)) → patterns_mean answers costs m (map beside_pattern es) v ≡ patterns_mean answers costs k es v
-    patterns_mean-map costs m k same es = every-map (λ e. matched_mean answers costs m e.0 e.1 v) (λ e. matched_mean answers costs k e.0 e.1 v) beside_pattern (λ e i. every (λ x. conditional (match_question answers costs e.0 x.0) (same e.1 x.1 i) (always true)) (members v)) es
+    pub patterns_mean-map : (costs : R → Bool) (m : X → Data → Question) (k : Y → Data → Question) → ((y : Y) (w : Data) → m (h y) w ≡ k y w)
+        → (es : List (CompiledPattern R × Y)) → patterns_mean answers costs m (map beside_pattern es) v ≡ patterns_mean answers costs k es v
+    patterns_mean-map costs m k same es =
+        every-map (λ e. matched_mean answers costs m e.0 e.1 v) (λ e. matched_mean answers costs k e.0 e.1 v) beside_pattern
+            (λ e i. every (λ x. conditional (match_question answers costs e.0 x.0) (same e.1 x.1 i) (always true)) (members v)) es
 
   module _ (u : Bool) (v : Data) where
     module _ (r : X → Bool → Data → Path → List Fault) (k : Y → Bool → Data → Path → List Fault) (same : (y : Y) (w : Data) (Q : Path) → r (h y) u w Q ≡ k y u w Q) (Q : Path) where
       pub patterns_report-map : (es : List (CompiledPattern R × Y)) → patterns_report answers r u (map beside_pattern es) v Q ≡ patterns_report answers k u es v Q
-      patterns_report-map es = flat_map-map (λ e. matched_report answers r u e.0 e.1 v Q) (λ e. matched_report answers k u e.0 e.1 v Q) beside_pattern (λ e i. flat_map (λ x. same e.1 x.1 (Q // x.0) i) (matched answers u e.0 v)) es
+      patterns_report-map es =
+          flat_map-map (λ e. matched_report answers r u e.0 e.1 v Q) (λ e. matched_report answers k u e.0 e.1 v Q) beside_pattern
+              (λ e i. flat_map (λ x. same e.1 x.1 (Q // x.0) i) (matched answers u e.0 v)) es
 
       pub patterns_first-map : (es : List (CompiledPattern R × Y)) → patterns_first answers r u (map beside_pattern es) v Q ≡ patterns_first answers k u es v Q
-      patterns_first-map es = λ i. first_of (λ x. (ap (first_of (λ e. r e.1 u x.1 (Q // x.0))) (filter_once-map (λ e. is_match answers u e.0 x.0) (λ e. is_match answers u e.0 x.0) beside_pattern (λ e. refl) es)
+      patterns_first-map es =
+          λ i. first_of (λ x. (ap (first_of (λ e. r e.1 u x.1 (Q // x.0))) (filter_once-map (λ e. is_match answers u e.0 x.0) (λ e. is_match answers u e.0 x.0) beside_pattern (λ e. refl) es)
           ∙ first_of-map (λ e. r e.1 u x.1 (Q // x.0)) (λ e. k e.1 u x.1 (Q // x.0)) beside_pattern (λ e. same e.1 x.1 (Q // x.0)) (matching answers u es x.0)) i) (members v)
 
-    pub patterns_tree-map : (t : X → Data → Path → Tree) (s : Y → Data → Path → Tree) → ((y : Y) (w : Data) (Q : Path) → t (h y) w Q ≡ s y w Q) → (P Q : Path) (es : List (CompiledPattern R × Y)) → patterns_tree t v Q answers u P (map beside_pattern es) ≡ patterns_tree s v Q answers u P es
-    patterns_tree-map t s same P Q es = λ i. result P Q (cond (is_object v) (Some (flat_map-map (λ e. map (λ x. x.0) (matched answers u e.0 v)) (λ e. map (λ x. x.0) (matched answers u e.0 v)) beside_pattern (λ e. refl) es i)) None) false []
-        (flat_map-map (λ e. map (λ x. t e.1 x.1 (Q // x.0)) (matched answers u e.0 v)) (λ e. map (λ x. s e.1 x.1 (Q // x.0)) (matched answers u e.0 v)) beside_pattern (λ e i. map (λ x. same e.1 x.1 (Q // x.0) i) (matched answers u e.0 v)) es i)
+    pub patterns_tree-map : (t : X → Data → Path → Tree) (s : Y → Data → Path → Tree) → ((y : Y) (w : Data) (Q : Path) → t (h y) w Q ≡ s y w Q)
+        → (P Q : Path) (es : List (CompiledPattern R × Y)) → patterns_tree t v Q answers u P (map beside_pattern es) ≡ patterns_tree s v Q answers u P es
+    patterns_tree-map t s same P Q es =
+        λ i. result P Q (cond (is_object v) (Some (flat_map-map (λ e. map (λ x. x.0) (matched answers u e.0 v)) (λ e. map (λ x. x.0) (matched answers u e.0 v)) beside_pattern
+            (λ e. refl) es i)) None) false []
+        (flat_map-map (λ e. map (λ x. t e.1 x.1 (Q // x.0)) (matched answers u e.0 v)) (λ e. map (λ x. s e.1 x.1 (Q // x.0)) (matched answers u e.0 v)) beside_pattern
+            (λ e i. map (λ x. same e.1 x.1 (Q // x.0) i) (matched answers u e.0 v)) es i)

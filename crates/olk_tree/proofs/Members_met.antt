@@ -53,9 +53,12 @@ module _ {N : Type 0} (ms : Members) where
       mean_if_declared x (Some n) = refl
 
       mean_each : (xs : List (Name × Data)) → every (λ x. every (λ n. m n x.1) (option_to_list (lookup_name x.0 es))) xs ≡ every (λ d. m d.node d.value) (members_declared es xs)
-      mean_each xs = (λ i. every (λ x. mean_if_declared x (lookup_name x.0 es) i) xs) ∙ sym (every-flat_map (λ d. m d.node d.value) (λ x. flat_map (λ n. declared_as x.0 n x.1) (option_to_list (lookup_name x.0 es))) xs)
+      mean_each xs =
+          (λ i. every (λ x. mean_if_declared x (lookup_name x.0 es) i) xs)
+              ∙ sym (every-flat_map (λ d. m d.node d.value) (λ x. flat_map (λ n. declared_as x.0 n x.1) (option_to_list (lookup_name x.0 es))) xs)
 
-      pub means_of_members : names_met es (listed ms) ≡ members_declared es (listed ms) → every (λ x. every (λ n. m n x.1) (option_to_list (lookup_name x.0 es))) (listed ms) ≡ properties_mean m es (object ms)
+      pub means_of_members : names_met es (listed ms) ≡ members_declared es (listed ms) → every (λ x. every (λ n. m n x.1) (option_to_list (lookup_name x.0 es)))
+          (listed ms) ≡ properties_mean m es (object ms)
       means_of_members agree = mean_each (listed ms) ∙ ap (every (λ d. m d.node d.value)) (sym agree) ∙ means_of_met es
 
   module _ (f : N → Bool → Data → Path → List Fault) (u : Bool) (Q : Path) where

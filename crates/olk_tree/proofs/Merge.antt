@@ -43,11 +43,6 @@ module _ {X : Type 0} where
   pub skips : (n : Name) (m : Name × X) (ms : List (Name × X)) → order m.0 n ≡ Less → lookup_name n (m ∷ ms) ≡ lookup_name n ms
   skips n m ms e = ap (λ o. first_if_equal o m.1 (lookup_name n ms)) (greater_from m.0 n e)
 
-  -- a name before that of m stands before m, if it stands anywhere
-  pub found_before : (n : Name) (m : Name × X) (rest : List (Name × X)) → slice_cmp nat_cmp n m.0 ≡ Less → (es : List (Name × X)) → Rising (es ++ m ∷ rest) → lookup_name n (es ++ m ∷ rest) ≡ lookup_name n es
-  found_before n m rest e [] h = none_after n (m ∷ rest) (e, after_after n m.0 e rest h.0)
-  found_before n m rest e (x ∷ es) h = ap (first_if_equal (slice_cmp nat_cmp n x.0) x.1) (found_before n m rest e es h.1)
-
 module _ {A C : Type 0} where
   -- walks over names after n, looked up in a list with n at its head, or without it
   walk_skips : {B : Type 0} (g : Name → A → B → List C) (m : Name × A) (ms : List (Name × A)) (es : List (Name × B)) → After m.0 es
@@ -71,7 +66,8 @@ module _ {A B C : Type 0} (g : Name → A → B → List C) where
   second_walk es ms = flat_map (λ m. flat_map (λ a. g m.0 a m.1) (option_to_list (lookup_name m.0 es))) ms
 
   module _ (e : Name × A) (es : List (Name × A)) (r : Rising (e ∷ es)) (others : (ms : List (Name × B)) → Rising ms → first_walk es ms ≡ second_walk es ms) where
-    one_more : (m : Name × B) (ms : List (Name × B)) → Rising (m ∷ ms) → first_walk (e ∷ es) ms ≡ second_walk (e ∷ es) ms → (o : Ordering) → order e.0 m.0 ≡ o → first_walk (e ∷ es) (m ∷ ms) ≡ second_walk (e ∷ es) (m ∷ ms)
+    one_more : (m : Name × B) (ms : List (Name × B)) → Rising (m ∷ ms) → first_walk (e ∷ es) ms ≡ second_walk (e ∷ es) ms → (o : Ordering) → order e.0 m.0 ≡ o
+        → first_walk (e ∷ es) (m ∷ ms) ≡ second_walk (e ∷ es) (m ∷ ms)
     one_more m ms s h Less q =
         ap (λ o. flat_map (λ b. g e.0 e.1 b) (option_to_list o) ++ first_walk es (m ∷ ms)) (none_after e.0 (m ∷ ms) (q, after_after e.0 m.0 q ms s.0))
         ∙ others (m ∷ ms) s
@@ -80,7 +76,8 @@ module _ {A B C : Type 0} (g : Name → A → B → List C) where
         let same : e.0 ≡ m.0 = slice_cmp-IsAntisymmetric nat_cmp-IsAntisymmetric e.0 m.0 q in
         (λ i. flat_map (λ b. g e.0 e.1 b) (option_to_list (first_if_equal (q i) m.1 (lookup_name e.0 ms))) ++ walk_skips (λ n b a. g n a b) m ms es (subst (λ n. After n es) same r.0) i)
         ∙ (λ i. (g (same i) e.1 m.1 ++ []) ++ others ms s.1 i)
-        ∙ sym (λ i. flat_map (λ a. g m.0 a m.1) (option_to_list (first_if_equal ((nat_list_cmp_total.antisymm m.0 e.0 ∙ ap ordering_reverse q) i) e.1 (lookup_name m.0 es))) ++ walk_skips g e es ms (subst (λ n. After n ms) (sym same) s.0) i)
+        ∙ sym (λ i. flat_map (λ a. g m.0 a m.1) (option_to_list (first_if_equal ((nat_list_cmp_total.antisymm m.0 e.0 ∙ ap ordering_reverse q) i) e.1 (lookup_name m.0 es)))
+            ++ walk_skips g e es ms (subst (λ n. After n ms) (sym same) s.0) i)
     one_more m ms s h Greater q =
         let back : order m.0 e.0 ≡ Less = nat_list_cmp_total.antisymm m.0 e.0 ∙ ap ordering_reverse q in
         walk_skips (λ n b a. g n a b) m ms (e ∷ es) (back, after_after m.0 e.0 back es r.0)

@@ -29,9 +29,6 @@ comes_after x y p = turned x y ∙ ap ordering_reverse p
 below_equal : (x y n : Name) → cmp x y ≡ Less → cmp y n ≡ Equal → cmp x n ≡ Less
 below_equal x y n p q = turned x n ∙ ap ordering_reverse (sym (nat_list_cmp_total.congr y n x q)) ∙ sym (turned x y) ∙ p
 
-equal_below : (x y n : Name) → cmp x y ≡ Equal → cmp y n ≡ Less → cmp x n ≡ Less
-equal_below x y n p q = nat_list_cmp_total.congr x y n p ∙ q
-
 at_most_two : (o : Ordering) → ordering_index o ≤ 2
 at_most_two Less = omega arith
 at_most_two Equal = omega arith
@@ -65,7 +62,9 @@ module _ (names : List (String Global)) (n : Name) (asc : Ascend (map string_byt
   long = length-map names string_bytes
 
   pair : (i j : ℕ) (d : String Global) → i < j → j < length names → cmp (string_bytes (get_or names i d)) (string_bytes (get_or names j d)) ≡ Less
-  pair i j d lt in_range = subst (λ x. cmp x (string_bytes (get_or names j d)) ≡ Less) (name_at i d (omega arith)) (subst (λ y. cmp (get_or (map string_bytes names) i []) y ≡ Less) (name_at j d in_range) (asc i j lt (omega (arith, long))))
+  pair i j d lt in_range =
+      subst (λ x. cmp x (string_bytes (get_or names j d)) ≡ Less) (name_at i d (omega arith))
+          (subst (λ y. cmp (get_or (map string_bytes names) i []) y ≡ Less) (name_at j d in_range) (asc i j lt (omega (arith, long))))
 
   comparisons_rise : IsNonDecreasingBy (λ y. ordering_index (ord y)) names
   comparisons_rise i j d le lt = by (nat_lt i j) refl
@@ -141,7 +140,9 @@ module _ (ks : List Name) (n : Name) where
     after_here {p} lt e i l j = by (nat_lt p i) refl
       where
         by : (b : Bool) → nat_lt p i ≡ b → cmp (get_or ks i []) n ≡ Greater
-        by true f = turned (get_or ks i []) n ∙ ap ordering_reverse (nat_list_cmp_total.trans n (get_or ks p []) (get_or ks i []) (turned n (get_or ks p []) ∙ ap ordering_reverse e) (asc p i (grind (arith, nat_tests)) j))
+        by true f =
+            turned (get_or ks i []) n ∙ ap ordering_reverse (nat_list_cmp_total.trans n (get_or ks p []) (get_or ks i []) (turned n (get_or ks p []) ∙ ap ordering_reverse e)
+                (asc p i (grind (arith, nat_tests)) j))
         by false f = let same : p ≡ i = grind (arith, nat_tests) in subst (λ z. cmp (get_or ks z []) n ≡ Greater) same e
 
     -- between the last name before p and those from p on
@@ -174,7 +175,9 @@ module _ (ks : List Name) (n : Name) where
       parts_behind i h = record {
         inside = omega (arith, length-drop (p + 1) ks, h.inside);
         below = λ k l j. by k l j (nat_lt k (p + 1)) refl;
-        above = λ k l j. let at : p + 1 + (k - (p + 1)) ≡ k = omega arith in subst (λ z. cmp (get_or ks z []) n ≡ Greater) at (ap (λ x. cmp x n) (sym (behind (k - (p + 1)))) ∙ h.above (k - (p + 1)) (omega arith) (omega (arith, length-drop (p + 1) ks)));
+        above =
+            λ k l j. let at : p + 1 + (k - (p + 1)) ≡ k = omega arith in subst (λ z. cmp (get_or ks z []) n ≡ Greater) at
+                (ap (λ x. cmp x n) (sym (behind (k - (p + 1)))) ∙ h.above (k - (p + 1)) (omega arith) (omega (arith, length-drop (p + 1) ks)));
       }
         where
           by : (k : ℕ) → k < p + 1 + i → k < length ks → (b : Bool) → nat_lt k (p + 1) ≡ b → cmp (get_or ks k []) n ≡ Less
@@ -198,7 +201,9 @@ behind_as : (names : List (String Global)) (l : ℕ) → map string_bytes (take 
 behind_as names l = ap (map string_bytes) (take_all (length names - l) (drop l names) (omega (arith, length-drop l names))) ∙ sym (drop-map string_bytes l names)
 
 behind_ascend : (ks : List Name) (l : ℕ) → Ascend ks → Ascend (drop l ks)
-behind_ascend ks l asc i j lt in_range = subst (λ x. cmp x (get_or (drop l ks) j []) ≡ Less) (sym (get_or-drop l ks i [])) (subst (λ y. cmp (get_or ks (l + i) []) y ≡ Less) (sym (get_or-drop l ks j [])) (asc (l + i) (l + j) (omega arith) (omega (arith, length-drop l ks))))
+behind_ascend ks l asc i j lt in_range =
+    subst (λ x. cmp x (get_or (drop l ks) j []) ≡ Less) (sym (get_or-drop l ks i []))
+        (subst (λ y. cmp (get_or ks (l + i) []) y ≡ Less) (sym (get_or-drop l ks j [])) (asc (l + i) (l + j) (omega arith) (omega (arith, length-drop l ks))))
 
 module _ {slice : List (String Global)} {ks : List Name} (h : Names slice ks) where
   pub same_length : length ks ≡ length slice
@@ -219,7 +224,8 @@ module _ {slice : List (String Global)} {ks : List Name} (h : Names slice ks) wh
   pub behind_ascends : (l : ℕ) → Ascend (map string_bytes (take (length slice - l) (drop l slice)))
   behind_ascends l = subst Ascend (sym (behind_seen l)) (behind_ascend ks l h.ascend)
 
-  pub stands_in : (n : Name) (p i : ℕ) → p < length slice → cmp (get_or ks p []) n ≡ Less → StandsAt (map string_bytes (take (length slice - (p + 1)) (drop (p + 1) slice))) n i → StandsAt ks n (p + 1 + i)
+  pub stands_in : (n : Name) (p i : ℕ) → p < length slice → cmp (get_or ks p []) n ≡ Less
+      → StandsAt (map string_bytes (take (length slice - (p + 1)) (drop (p + 1) slice))) n i → StandsAt ks n (p + 1 + i)
   stands_in n p i lt e at = stands_behind ks n h.ascend (omega (arith, same_length)) e i (subst (λ l. StandsAt l n i) (behind_seen (p + 1)) at)
 
   pub parts_in : (n : Name) (p i : ℕ) → p < length slice → cmp (get_or ks p []) n ≡ Less → Parts (map string_bytes (take (length slice - (p + 1)) (drop (p + 1) slice))) n i → Parts ks n (p + 1 + i)

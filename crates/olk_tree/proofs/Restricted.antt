@@ -41,14 +41,20 @@ and_regroup true true c e = refl
 and_regroup true false c e = refl
 and_regroup false b c e = refl
 
-module _ {K R N : Type 0} (o : Kit K R) (m : N → Data → Question) (r : N → Bool → Data → Path → List Fault) (t : N → Bool → Data → Path → Tree) {S : Sides R N} {fs es : List (Name × Data)} {d : Data} {P : Path} (h : SidesStand o m r t S fs es d P) (u : Bool) where
+module _ {K R N : Type 0} (o : Kit K R) (m : N → Data → Question) (r : N → Bool → Data → Path → List Fault)
+    (t : N → Bool → Data → Path → Tree) {S : Sides R N} {fs es : List (Name × Data)} {d : Data} {P : Path} (h : SidesStand o m r t S fs es d P) (u : Bool) where
   -- ---- whether it accepts
 
-  pub rest_accepted : (n : Name) (v : Data) → (list_all (λ s. accepts o.world u s.0 v) (rest_schemas o m r t h n u) && not (is_unexpected o.answers S u n)) ≡ (not (is_other o.world u fs es n) || accepts o.world u d v)
-  rest_accepted n v = (λ i. list_all (λ s. accepts o.world u s.0 v) (rest_schemas o m r t h n u) && not (is_none S.rest && is_additional_other o m r t h n u i)) ∙ by S.rest h.rest (is_other o.world u fs es n)
+  pub rest_accepted : (n : Name) (v : Data) → (list_all (λ s. accepts o.world u s.0 v) (rest_schemas o m r t h n u) && not (is_unexpected o.answers S u n)) ≡
+      (not (is_other o.world u fs es n) || accepts o.world u d v)
+  rest_accepted n v =
+      (λ i. list_all (λ s. accepts o.world u s.0 v) (rest_schemas o m r t h n u) && not (is_none S.rest && is_additional_other o m r t h n u i)) ∙ by S.rest h.rest (is_other o.world u fs es n)
     where
-      by : (x : Option N) → RestAnswers o m r t x d (P // codes "additionalProperties") → (b : Bool) → (list_all (λ (s : Data × Path). accepts o.world u s.0 v) (put_if (is_object d && b) (d, P // codes "additionalProperties") []) && not (is_none x && b)) ≡ (not b || accepts o.world u d v)
-      by None g true = (λ i. list_all (λ (s : Data × Path). accepts o.world u s.0 v) (put_if (false_is_no_object d g i && true) (d, P // codes "additionalProperties") []) && false) ∙ sym (false_refuses o.world u d v g)
+      by : (x : Option N) → RestAnswers o m r t x d (P // codes "additionalProperties") → (b : Bool)
+          → (list_all (λ (s : Data × Path). accepts o.world u s.0 v) (put_if (is_object d && b) (d, P // codes "additionalProperties") []) && not (is_none x && b)) ≡ (not b || accepts o.world u d v)
+      by None g true =
+          (λ i. list_all (λ (s : Data × Path). accepts o.world u s.0 v) (put_if (false_is_no_object d g i && true) (d, P // codes "additionalProperties") []) && false)
+              ∙ sym (false_refuses o.world u d v g)
       by None g false = λ i. list_all (λ (s : Data × Path). accepts o.world u s.0 v) (put_if (false_is_no_object d g i && false) (d, P // codes "additionalProperties") []) && true
       by (Some x) g true = (λ i. list_all (λ (s : Data × Path). accepts o.world u s.0 v) (put_if (g.0 i && true) (d, P // codes "additionalProperties") []) && true) ∙ alone (accepts o.world u d v)
         where
@@ -62,9 +68,12 @@ module _ {K R N : Type 0} (o : Kit K R) (m : N → Data → Question) (r : N →
     accept s = accepts o.world u s.0 x.1
 
     pub accepted_by_others : list_all accept (matching_schemas o m r t h x.0 u ++ rest_schemas o m r t h x.0 u) ≡ (matching_accept o.world u fs es x && list_all accept (rest_schemas o m r t h x.0 u))
-    accepted_by_others = list_all-append accept (matching_schemas o m r t h x.0 u) (rest_schemas o m r t h x.0 u) ∙ ap (λ b. b && list_all accept (rest_schemas o m r t h x.0 u)) (list_all-map accept (λ e. (e.1, P // codes "patternProperties" // e.0)) (matching_at o.world u es x.0))
+    accepted_by_others =
+        list_all-append accept (matching_schemas o m r t h x.0 u) (rest_schemas o m r t h x.0 u) ∙ ap (λ b. b && list_all accept (rest_schemas o m r t h x.0 u))
+            (list_all-map accept (λ e. (e.1, P // codes "patternProperties" // e.0)) (matching_at o.world u es x.0))
 
-    accepted_by_part : list_all accept (declared_schemas o m r t h x.0 u ++ (matching_schemas o m r t h x.0 u ++ rest_schemas o m r t h x.0 u)) ≡ (declared_accepts o.world u fs es x && (matching_accept o.world u fs es x && list_all accept (rest_schemas o m r t h x.0 u)))
+    accepted_by_part : list_all accept (declared_schemas o m r t h x.0 u ++ (matching_schemas o m r t h x.0 u ++ rest_schemas o m r t h x.0 u)) ≡
+        (declared_accepts o.world u fs es x && (matching_accept o.world u fs es x && list_all accept (rest_schemas o m r t h x.0 u)))
     accepted_by_part = list_all-append accept (declared_schemas o m r t h x.0 u) (matching_schemas o m r t h x.0 u ++ rest_schemas o m r t h x.0 u)
         ∙ (λ i. list_all-map accept (λ s. (s, P // codes "properties" // x.0)) (declared_at fs x.0) i && accepted_by_others i)
 
@@ -88,7 +97,9 @@ module _ {K R N : Type 0} (o : Kit K R) (m : N → Data → Question) (r : N →
   restricted_names v Q = λ i. map (λ x. x.0) (filter_once (λ x. is_additional_other o m r t h x.0 u i) (members v))
 
   pub restricted_matches : (v : Data) (Q : Path) → matched_names o.answers S u v Q ≡ names_matched o.world u fs es v
-  restricted_matches v Q = λ i. flat_map (λ x. (same_marks o m r t x.0 _ _ (nodes_matching_answer o m r t h x.0 u) ∙ map-map (λ s. x.0) (λ e. x.0) (λ e. (e.1, P // codes "patternProperties" // e.0)) (λ e. refl) (matching_at o.world u es x.0)) i) (members v)
+  restricted_matches v Q =
+      λ i. flat_map (λ x. (same_marks o m r t x.0 _ _ (nodes_matching_answer o m r t h x.0 u) ∙ map-map (λ s. x.0) (λ e. x.0)
+          (λ e. (e.1, P // codes "patternProperties" // e.0)) (λ e. refl) (matching_at o.world u es x.0)) i) (members v)
 
   -- where the rest is false, none of them is expected
   pub restricted_unexpected : (v : Data) → unexpected o.answers S u v ≡ cond (is_truth false d) (other_members o.world u fs es v) []
@@ -106,7 +117,8 @@ module _ {K R N : Type 0} (o : Kit K R) (m : N → Data → Question) (r : N →
     pub faults_of_others : unexpected_faults named (unexpected o.answers S u v) v (P // codes "additionalProperties") Q ≡ others_report o.world u fs es P Q named d v
     faults_of_others = ap (λ xs. unexpected_faults named xs v (P // codes "additionalProperties") Q) (restricted_unexpected v) ∙ by (is_truth false d)
       where
-        by : (b : Bool) → unexpected_faults named (cond b (other_members o.world u fs es v) []) v (P // codes "additionalProperties") Q ≡ cond b (unexpected_faults named (other_members o.world u fs es v) v (P // codes "additionalProperties") Q) []
+        by : (b : Bool) → unexpected_faults named (cond b (other_members o.world u fs es v) []) v (P // codes "additionalProperties") Q ≡ cond b
+            (unexpected_faults named (other_members o.world u fs es v) v (P // codes "additionalProperties") Q) []
         by true = refl
         by false = refl
 
@@ -118,7 +130,8 @@ module _ {K R N : Type 0} (o : Kit K R) (m : N → Data → Question) (r : N →
 
     pub found_by_others : flat_map finds (matching_schemas o m r t h x.0 u ++ rest_schemas o m r t h x.0 u) ≡ matching_report o.world u fs es P Q x ++ rest_report o.world u fs es P Q d x
     found_by_others = flat_map-append finds (matching_schemas o m r t h x.0 u) (rest_schemas o m r t h x.0 u)
-        ∙ (λ i. flat_map-map finds (λ e. finds (e.1, P // codes "patternProperties" // e.0)) (λ e. (e.1, P // codes "patternProperties" // e.0)) (λ e. refl) (matching_at o.world u es x.0) i ++ of_rest (is_object d) (is_other o.world u fs es x.0) i)
+        ∙ (λ i. flat_map-map finds (λ e. finds (e.1, P // codes "patternProperties" // e.0)) (λ e. (e.1, P // codes "patternProperties" // e.0))
+            (λ e. refl) (matching_at o.world u es x.0) i ++ of_rest (is_object d) (is_other o.world u fs es x.0) i)
       where
         of_rest : (a b : Bool) → flat_map finds (put_if (a && b) (d, P // codes "additionalProperties") []) ≡ cond b (cond a (finds (d, P // codes "additionalProperties")) []) []
         of_rest true true = append-nil _
@@ -135,8 +148,10 @@ module _ {K R N : Type 0} (o : Kit K R) (m : N → Data → Question) (r : N →
     found_each v = like_through (all_find o m r t u x.1 (Q // x.0) _ _ (asked_answer o m r t h x.0 u)) (∼_same found_by_part)
 
   -- it finds what is found in each member, and the members that are not expected
-  pub restricted_finds : (named : Bool) (v : Data) (Q : Path) → report_in_turn o.answers S u v Q named (P // codes "additionalProperties") r ∼ flat_map (each_report o.world u fs es P Q d) (members v) ++ others_report o.world u fs es P Q named d v
-  restricted_finds named v Q = ∼_append (∼_flat_map_any (member_report o.answers S u v Q r) (each_report o.world u fs es P Q d) (λ x. found_each x Q v) (members v)) (∼_same (faults_of_others named v Q))
+  pub restricted_finds : (named : Bool) (v : Data) (Q : Path) → report_in_turn o.answers S u v Q named (P // codes "additionalProperties") r ∼ flat_map
+      (each_report o.world u fs es P Q d) (members v) ++ others_report o.world u fs es P Q named d v
+  restricted_finds named v Q =
+      ∼_append (∼_flat_map_any (member_report o.answers S u v Q r) (each_report o.world u fs es P Q d) (λ x. found_each x Q v) (members v)) (∼_same (faults_of_others named v Q))
 
   -- ---- what it shows
 
@@ -159,19 +174,24 @@ module _ {K R N : Type 0} (o : Kit K R) (m : N → Data → Question) (r : N →
     shown_each : map (λ n. t n u x.1 (Q // x.0)) (nodes_asked o.answers S u x.0) ≡ each_shown o.world u fs es P Q d x
     shown_each = all_show o m r t u x.1 (Q // x.0) _ _ (asked_answer o m r t h x.0 u) ∙ shown_by_part
 
-  pub restricted_children : (v : Data) (Q : Path) → flat_map (λ x. map (λ n. t n u x.1 (Q // x.0)) (nodes_asked o.answers S u x.0)) (members v) ≡ flat_map (each_shown o.world u fs es P Q d) (members v)
+  pub restricted_children : (v : Data) (Q : Path) → flat_map (λ x. map (λ n. t n u x.1 (Q // x.0)) (nodes_asked o.answers S u x.0)) (members v) ≡ flat_map
+      (each_shown o.world u fs es P Q d) (members v)
   restricted_children v Q = λ i. flat_map (λ x. shown_each x Q i) (members v)
 
 -- beside the members of a schema object it shows what is shown of them
-module _ {K R N : Type 0} (o : Kit K R) (m : N → Data → Question) (r : N → Bool → Data → Path → List Fault) (t : N → Bool → Data → Path → Tree) (ms : Members) {S : Sides R N} {d : Data} {P : Path} (h : SidesStand o m r t S (declared_beside ms) (patterns_beside ms) d P) (u : Bool) (v : Data) (Q : Path) where
-  pub restricted_shows : (declares has_patterns : Bool) (A M : Path) (more : List Tree) → declares ≡ declares_beside ms → has_patterns ≡ matches_beside ms → A ≡ P // codes "additionalProperties" → M ≡ P // codes "patternProperties" → more ≡ required_child ms v P Q
+module _ {K R N : Type 0} (o : Kit K R) (m : N → Data → Question) (r : N → Bool → Data → Path → List Fault) (t : N → Bool → Data → Path → Tree)
+    (ms : Members) {S : Sides R N} {d : Data} {P : Path} (h : SidesStand o m r t S (declared_beside ms) (patterns_beside ms) d P) (u : Bool) (v : Data) (Q : Path) where
+  pub restricted_shows : (declares has_patterns : Bool) (A M : Path) (more : List Tree) → declares ≡ declares_beside ms → has_patterns ≡ matches_beside ms
+      → A ≡ P // codes "additionalProperties" → M ≡ P // codes "patternProperties" → more ≡ required_child ms v P Q
       → additional_tree o.answers S u v Q declares has_patterns A M (λ n. t n u) more ≡ restriction_shown o.world u ms v d P Q
   restricted_shows declares has_patterns A M more declares_same patterns_same at_rest at_patterns more_same =
       (λ i. additional_tree o.answers S u v Q (declares_same i) (patterns_same i) (at_rest i) (at_patterns i) (λ n. t n u) (more_same i))
       ∙ (λ i. result (P // codes "additionalProperties") Q
-      (cond (is_object v && (is_rest o m r t h i && (cond (declares_beside ms) (matches_beside ms) (not (matches_beside ms)) || not (is_empty (restricted_names o m r t h u v Q i))))) (Some (restricted_names o m r t h u v Q i)) None)
+      (cond (is_object v && (is_rest o m r t h i && (cond (declares_beside ms) (matches_beside ms) (not (matches_beside ms)) || not (is_empty (restricted_names o m r t h u v Q i)))))
+          (Some (restricted_names o m r t h u v Q i)) None)
       false
       (described (faults_of_others o m r t h u (declares_beside ms || matches_beside ms) v Q i))
       (restricted_children o m r t h u v Q i
-      ++ put_if (matches_beside ms && not (declares_beside ms) && not (is_empty (restricted_matches o m r t h u v Q i))) (node (P // codes "patternProperties") Q true (Some (restricted_matches o m r t h u v Q i)) [] no_tree) []
+      ++ put_if (matches_beside ms && not (declares_beside ms) && not (is_empty (restricted_matches o m r t h u v Q i)))
+          (node (P // codes "patternProperties") Q true (Some (restricted_matches o m r t h u v Q i)) [] no_tree) []
       ++ required_child ms v P Q))

@@ -40,18 +40,22 @@ module _ {R N : Type 0} (answers : R → Name → Says) (costs : R → Bool) (S 
     abbrev pub nodes_ask : Bool → List N → ℕ
     nodes_ask alone ns = (every (λ e. m e x) (ns ++ cond alone (option_to_list S.rest) [])).asks u
 
-    pub patterns_ask : (spoken : Bool) (i : ℕ) (ps : List (CompiledPattern R × N)) → (patterns_mean_from answers costs m S a n x spoken i ps).asks u ≡ nodes_ask (not spoken && is_empty (matching_from answers S a n u i ps)) (matching_from answers S a n u i ps) + matchers_asked i ps
+    pub patterns_ask : (spoken : Bool) (i : ℕ) (ps : List (CompiledPattern R × N)) → (patterns_mean_from answers costs m S a n x spoken i ps).asks u ≡ nodes_ask
+        (not spoken && is_empty (matching_from answers S a n u i ps)) (matching_from answers S a n u i ps) + matchers_asked i ps
     patterns_ask true i [] = omega arith
     patterns_ask false i [] = by S.rest
       where
         by : (y : Option N) → (rest_means m x y).asks u ≡ (every (λ e. m e x) (option_to_list y)).asks u + 0
         by None = omega arith
         by (Some y) = omega arith
-    patterns_ask spoken i (p ∷ ps) = ap {B = ℕ} (λ b. matcher_asked i p.0 + cond b ((m p.1 x).asks u + (patterns_mean_from answers costs m S a n x true (i + 1) ps).asks u) ((patterns_mean_from answers costs m S a n x spoken (i + 1) ps).asks u)) (match_is_said u (pattern_costs costs p.0) (known_at S a i) (pattern_answers answers p.0 n))
+    patterns_ask spoken i (p ∷ ps) =
+        ap {B = ℕ} (λ b. matcher_asked i p.0 + cond b ((m p.1 x).asks u + (patterns_mean_from answers costs m S a n x true (i + 1) ps).asks u)
+            ((patterns_mean_from answers costs m S a n x spoken (i + 1) ps).asks u)) (match_is_said u (pattern_costs costs p.0) (known_at S a i) (pattern_answers answers p.0 n))
         ∙ by spoken (is_matched_by answers S a n u i p.0) (matcher_asked i p.0) (patterns_ask true (i + 1) ps) (patterns_ask spoken (i + 1) ps)
       where
         by : (spoken b : Bool) (c : ℕ) → (patterns_mean_from answers costs m S a n x true (i + 1) ps).asks u ≡ nodes_ask false (matching_from answers S a n u (i + 1) ps) + matchers_asked (i + 1) ps
-            → (patterns_mean_from answers costs m S a n x spoken (i + 1) ps).asks u ≡ nodes_ask (not spoken && is_empty (matching_from answers S a n u (i + 1) ps)) (matching_from answers S a n u (i + 1) ps) + matchers_asked (i + 1) ps
+            → (patterns_mean_from answers costs m S a n x spoken (i + 1) ps).asks u ≡ nodes_ask (not spoken && is_empty (matching_from answers S a n u (i + 1) ps))
+                (matching_from answers S a n u (i + 1) ps) + matchers_asked (i + 1) ps
             → c + cond b ((m p.1 x).asks u + (patterns_mean_from answers costs m S a n x true (i + 1) ps).asks u) ((patterns_mean_from answers costs m S a n x spoken (i + 1) ps).asks u)
             ≡ nodes_ask (not spoken && is_empty (put_if b p.1 (matching_from answers S a n u (i + 1) ps))) (put_if b p.1 (matching_from answers S a n u (i + 1) ps)) + (c + matchers_asked (i + 1) ps)
         by true true c h g = omega (arith, h)
@@ -59,7 +63,10 @@ module _ {R N : Type 0} (answers : R → Name → Says) (costs : R → Bool) (S 
         by spoken false c h g = omega (arith, g)
 
 module _ {R N : Type 0} (answers : R → Name → Says) (costs : R → Bool) (m : N → Data → Question) (S : Sides R N) (n : Name) (x : Data) (u : Bool) where
-  member_asks_at : (a : Option (ℕ × N)) → (member_means_at answers costs m S a n x).asks u ≡ (every (λ e. m e x) (option_to_list (option_map (λ f. f.1) a) ++ (matching_from answers S a n u 0 S.patterns ++ cond (is_none a && is_empty (matching_from answers S a n u 0 S.patterns)) (option_to_list S.rest) []))).asks u + matchers_asked answers costs S n u a 0 S.patterns
+  member_asks_at : (a : Option (ℕ × N)) → (member_means_at answers costs m S a n x).asks u ≡
+      (every (λ e. m e x) (option_to_list (option_map (λ f. f.1) a) ++
+      (matching_from answers S a n u 0 S.patterns ++ cond (is_none a && is_empty (matching_from answers S a n u 0 S.patterns))
+      (option_to_list S.rest) []))).asks u + matchers_asked answers costs S n u a 0 S.patterns
   member_asks_at None = let p = patterns_ask answers costs S n u None m x false 0 S.patterns in omega (arith, p)
   member_asks_at (Some f) = let p = patterns_ask answers costs S n u (Some f) m x true 0 S.patterns in omega (arith, p)
 
@@ -69,10 +76,12 @@ module _ {R N : Type 0} (answers : R → Name → Says) (costs : R → Bool) (m 
 -- ---- the matchers that are asked for a name
 
 -- where what a text says is known, its matcher is asked if it left the name unfinished
-asked_if_unfinished : (W : World) (u : Bool) (text : Text) (n : Name) → (known_or_asked (pattern_says W text n) (said_to (is_open W text) (pattern_says W text n))).asks u ≡ cond (is_open W text) (cond (is_unfinished (W.says text n)) 1 0) 0
+asked_if_unfinished : (W : World) (u : Bool) (text : Text) (n : Name) → (known_or_asked (pattern_says W text n) (said_to (is_open W text) (pattern_says W text n))).asks u ≡ cond
+    (is_open W text) (cond (is_unfinished (W.says text n)) 1 0) 0
 asked_if_unfinished W u text n = by (literal text) (W.says text n)
   where
-    by : (l : Option Literal) (s : Says) → (known_or_asked (option_map_or (λ l. literal_says W l n) l s) (said_to (is_none l) (option_map_or (λ l. literal_says W l n) l s))).asks u ≡ cond (is_none l) (cond (is_unfinished s) 1 0) 0
+    by : (l : Option Literal) (s : Says) → (known_or_asked (option_map_or (λ l. literal_says W l n) l s)
+        (said_to (is_none l) (option_map_or (λ l. literal_says W l n) l s))).asks u ≡ cond (is_none l) (cond (is_unfinished s) 1 0) 0
     by None matched = refl
     by None unmatched = refl
     by None unfinished = refl
@@ -100,7 +109,9 @@ module _ {K R N : Type 0} (o : Kit K R) (m : N → Data → Question) (r : N →
   all_asked i [] [] h = refl
   all_asked i [] (e ∷ es) h = absurd h
   all_asked i (p ∷ ps) [] h = absurd h
-  all_asked i (p ∷ ps) (e ∷ es) h = (λ j. cond (h.0.costs j || is_unfinished (h.0.answers n j)) 1 0 + all_asked (i + 1) ps es h.2 j) ∙ ap (λ c. c + length (open_among o.world es)) (open_counts o.world e.0 n) ∙ by (is_open o.world e.0)
+  all_asked i (p ∷ ps) (e ∷ es) h =
+      (λ j. cond (h.0.costs j || is_unfinished (h.0.answers n j)) 1 0 + all_asked (i + 1) ps es h.2 j) ∙ ap (λ c. c + length (open_among o.world es))
+          (open_counts o.world e.0 n) ∙ by (is_open o.world e.0)
     where
       by : (b : Bool) → cond b 1 0 + length (open_among o.world es) ≡ length (put_if b e.0 (open_among o.world es))
       by true = omega arith
@@ -110,12 +121,14 @@ module _ {K R N : Type 0} (o : Kit K R) (m : N → Data → Question) (r : N →
   is_left text = is_unfinished (o.world.says text n)
 
   -- of a declared one, those that left it unfinished
-  unfinished_asked : (f : ℕ × N) (i : ℕ) (ps : List (CompiledPattern R × N)) (es : List (Name × Data)) → PatternsAnswer o m r t ps es L → Recalls o m r t n S (Some f) i ps → matchers_asked o.answers o.costs S n u (Some f) i ps ≡ count_by is_left (open_among o.world es)
+  unfinished_asked : (f : ℕ × N) (i : ℕ) (ps : List (CompiledPattern R × N)) (es : List (Name × Data)) → PatternsAnswer o m r t ps es L
+      → Recalls o m r t n S (Some f) i ps → matchers_asked o.answers o.costs S n u (Some f) i ps ≡ count_by is_left (open_among o.world es)
   unfinished_asked f i [] [] h k = refl
   unfinished_asked f i [] (e ∷ es) h k = absurd h
   unfinished_asked f i (p ∷ ps) [] h k = absurd h
   unfinished_asked f i (p ∷ ps) (e ∷ es) h k =
-      (λ j. (known_or_asked ((recalls_here o m r t n S (Some f) i p ps k ∙ h.0.answers n) j) (said_to (h.0.costs j) (h.0.answers n j))).asks u + unfinished_asked f (i + 1) ps es h.2 (recalls_later o m r t n S (Some f) i p ps k) j)
+      (λ j. (known_or_asked ((recalls_here o m r t n S (Some f) i p ps k ∙ h.0.answers n) j) (said_to (h.0.costs j) (h.0.answers n j))).asks u + unfinished_asked f
+          (i + 1) ps es h.2 (recalls_later o m r t n S (Some f) i p ps k) j)
       ∙ ap (λ c. c + count_by is_left (open_among o.world es)) (asked_if_unfinished o.world u e.0 n)
       ∙ by (is_open o.world e.0)
     where
@@ -123,13 +136,15 @@ module _ {K R N : Type 0} (o : Kit K R) (m : N → Data → Question) (r : N →
       by true = sym (sum_by-cons (λ x. cond (is_left x) 1 0) e.0 (open_among o.world es))
       by false = omega arith
 
-  matchers_counted : (a : Option (ℕ × N)) (ps : List (CompiledPattern R × N)) (es : List (Name × Data)) → PatternsAnswer o m r t ps es L → Recalls o m r t n S a 0 ps → matchers_asked o.answers o.costs S n u a 0 ps ≡ cond (is_some a) (count_by is_left (open_among o.world es)) (length (open_among o.world es))
+  matchers_counted : (a : Option (ℕ × N)) (ps : List (CompiledPattern R × N)) (es : List (Name × Data)) → PatternsAnswer o m r t ps es L
+      → Recalls o m r t n S a 0 ps → matchers_asked o.answers o.costs S n u a 0 ps ≡ cond (is_some a) (count_by is_left (open_among o.world es)) (length (open_among o.world es))
   matchers_counted None ps es h k = all_asked 0 ps es h
   matchers_counted (Some f) ps es h k = unfinished_asked f 0 ps es h k
 
 -- ---- all
 
-module _ {K R N : Type 0} (o : Kit K R) (m : N → Data → Question) (r : N → Bool → Data → Path → List Fault) (t : N → Bool → Data → Path → Tree) {S : Sides R N} {fs es : List (Name × Data)} {d : Data} {P : Path} (h : SidesStand o m r t S fs es d P) (u : Bool) where
+module _ {K R N : Type 0} (o : Kit K R) (m : N → Data → Question) (r : N → Bool → Data → Path → List Fault)
+    (t : N → Bool → Data → Path → Tree) {S : Sides R N} {fs es : List (Name × Data)} {d : Data} {P : Path} (h : SidesStand o m r t S fs es d P) (u : Bool) where
   pub matchers_for : (n : Name) → matchers_asked o.answers o.costs S n u (at_name S n) 0 S.patterns ≡ patterns_asked o.world fs es n
   matchers_for n = matchers_counted o m r t n u S (P // codes "patternProperties") (at_name S n) S.patterns es h.patterns (recalls o m r t h n)
       ∙ ap {B = ℕ} (λ b. cond b (count_by (λ x. is_unfinished (o.world.says x n)) (open_among o.world es)) (length (open_among o.world es))) (is_declared o m r t h n)
@@ -139,9 +154,12 @@ module _ {K R N : Type 0} (o : Kit K R) (m : N → Data → Question) (r : N →
     asking s = asks o.world u s.0 x.1
 
     pub asked_by_others : sum_by asking (matching_schemas o m r t h x.0 u ++ rest_schemas o m r t h x.0 u) ≡ matching_asks o.world u fs es x + sum_by asking (rest_schemas o m r t h x.0 u)
-    asked_by_others = sum_by-append asking (matching_schemas o m r t h x.0 u) (rest_schemas o m r t h x.0 u) ∙ ap (λ k. k + sum_by asking (rest_schemas o m r t h x.0 u)) (sum_by-map asking (λ e. (e.1, P // codes "patternProperties" // e.0)) (matching_at o.world u es x.0))
+    asked_by_others =
+        sum_by-append asking (matching_schemas o m r t h x.0 u) (rest_schemas o m r t h x.0 u) ∙ ap (λ k. k + sum_by asking (rest_schemas o m r t h x.0 u))
+            (sum_by-map asking (λ e. (e.1, P // codes "patternProperties" // e.0)) (matching_at o.world u es x.0))
 
-    asked_by_part : sum_by asking (declared_schemas o m r t h x.0 u ++ (matching_schemas o m r t h x.0 u ++ rest_schemas o m r t h x.0 u)) ≡ declared_asks o.world u fs es x + (matching_asks o.world u fs es x + sum_by asking (rest_schemas o m r t h x.0 u))
+    asked_by_part : sum_by asking (declared_schemas o m r t h x.0 u ++ (matching_schemas o m r t h x.0 u ++ rest_schemas o m r t h x.0 u)) ≡ declared_asks o.world u fs es x +
+        (matching_asks o.world u fs es x + sum_by asking (rest_schemas o m r t h x.0 u))
     asked_by_part = sum_by-append asking (declared_schemas o m r t h x.0 u) (matching_schemas o m r t h x.0 u ++ rest_schemas o m r t h x.0 u)
         ∙ (λ i. sum_by-map asking (λ s. (s, P // codes "properties" // x.0)) (declared_at fs x.0) i + asked_by_others i)
 

@@ -39,27 +39,34 @@ module _ {K R N : Type 0} (o : Kit K R) (m : N → Data → Question) (r : N →
 
   -- nodes under their names, with their places from k on
   module _ (L : Path) (u : Bool) (v : Data) where
-    declared_accept : (k : ℕ) (ns : List N) (fs : List (Name × Data)) → EntriesAnswer o m r t ns fs L → (every (λ e. every (m e.1.1) (at e.0 v)) (zip (map (λ e. e.0) fs) (enumerate_from k ns))).accepts u ≡ list_all (λ e. list_all (accepts o.world u e.1) (at e.0 v)) fs
+    declared_accept : (k : ℕ) (ns : List N) (fs : List (Name × Data)) → EntriesAnswer o m r t ns fs L
+        → (every (λ e. every (m e.1.1) (at e.0 v)) (zip (map (λ e. e.0) fs) (enumerate_from k ns))).accepts u ≡ list_all (λ e. list_all (accepts o.world u e.1) (at e.0 v)) fs
     declared_accept k [] [] h = refl
     declared_accept k [] (e ∷ fs) h = absurd h
     declared_accept k (n ∷ ns) [] h = absurd h
     declared_accept k (n ∷ ns) (e ∷ fs) h = λ i. values_accept n e.1 (L // e.0) h.0 u (at e.0 v) i && declared_accept (k + 1) ns fs h.1 i
 
-    declared_ask : (k : ℕ) (ns : List N) (fs : List (Name × Data)) → EntriesAnswer o m r t ns fs L → (every (λ e. every (m e.1.1) (at e.0 v)) (zip (map (λ e. e.0) fs) (enumerate_from k ns))).asks u ≤ sum_by (λ e. sum_by (asks o.world u e.1) (at e.0 v)) fs
+    declared_ask : (k : ℕ) (ns : List N) (fs : List (Name × Data)) → EntriesAnswer o m r t ns fs L
+        → (every (λ e. every (m e.1.1) (at e.0 v)) (zip (map (λ e. e.0) fs) (enumerate_from k ns))).asks u ≤ sum_by (λ e. sum_by (asks o.world u e.1) (at e.0 v)) fs
     declared_ask k [] [] h = omega arith
     declared_ask k [] (e ∷ fs) h = absurd h
     declared_ask k (n ∷ ns) [] h = absurd h
-    declared_ask k (n ∷ ns) (e ∷ fs) h = more_within _ _ _ _ _ (values_ask n e.1 (L // e.0) h.0 u (at e.0 v)) (declared_ask (k + 1) ns fs h.1) (sum_by-cons (λ (e : Name × Data). sum_by (asks o.world u e.1) (at e.0 v)) e fs)
+    declared_ask k (n ∷ ns) (e ∷ fs) h =
+        more_within _ _ _ _ _ (values_ask n e.1 (L // e.0) h.0 u (at e.0 v)) (declared_ask (k + 1) ns fs h.1) (sum_by-cons (λ (e : Name × Data). sum_by (asks o.world u e.1) (at e.0 v)) e fs)
 
-    declared_find : (Q : Path) (k : ℕ) (ns : List N) (fs : List (Name × Data)) → EntriesAnswer o m r t ns fs L → flat_map (λ e. flat_map (λ w. r e.1.1 u w (Q // e.0)) (at e.0 v)) (zip (map (λ e. e.0) fs) (enumerate_from k ns)) ∼ flat_map (λ e. flat_map (λ w. report o.world u e.1 w (L // e.0) (Q // e.0)) (at e.0 v)) fs
+    declared_find : (Q : Path) (k : ℕ) (ns : List N) (fs : List (Name × Data)) → EntriesAnswer o m r t ns fs L
+        → flat_map (λ e. flat_map (λ w. r e.1.1 u w (Q // e.0)) (at e.0 v)) (zip (map (λ e. e.0) fs) (enumerate_from k ns)) ∼ flat_map
+        (λ e. flat_map (λ w. report o.world u e.1 w (L // e.0) (Q // e.0)) (at e.0 v)) fs
     declared_find Q k [] [] h = like_empty
     declared_find Q k [] (e ∷ fs) h = absurd h
     declared_find Q k (n ∷ ns) [] h = absurd h
-    declared_find Q k (n ∷ ns) (e ∷ fs) h = ∼_append (∼_flat_map_any (λ w. r n u w (Q // e.0)) (λ w. report o.world u e.1 w (L // e.0) (Q // e.0)) (λ w. h.0.faults u w (Q // e.0)) (at e.0 v)) (declared_find Q (k + 1) ns fs h.1)
+    declared_find Q k (n ∷ ns) (e ∷ fs) h =
+        ∼_append (∼_flat_map_any (λ w. r n u w (Q // e.0)) (λ w. report o.world u e.1 w (L // e.0) (Q // e.0)) (λ w. h.0.faults u w (Q // e.0)) (at e.0 v)) (declared_find Q (k + 1) ns fs h.1)
 
 -- ---- all
 
-module _ {K R N : Type 0} (o : Kit K R) (m : N → Data → Question) (r : N → Bool → Data → Path → List Fault) (t : N → Bool → Data → Path → Tree) {S : Sides R N} {fs es : List (Name × Data)} {d : Data} {P : Path} (h : SidesStand o m r t S fs es d P) (u : Bool) where
+module _ {K R N : Type 0} (o : Kit K R) (m : N → Data → Question) (r : N → Bool → Data → Path → List Fault)
+    (t : N → Bool → Data → Path → Tree) {S : Sides R N} {fs es : List (Name × Data)} {d : Data} {P : Path} (h : SidesStand o m r t S fs es d P) (u : Bool) where
   -- ---- whether it accepts
 
   others_accept : (x : Name × Data) → (others_mean o.answers o.costs m S x.0 x.1).accepts u ≡ (matching_accept o.world u fs es x && rest_accepts o.world u fs es d x)
@@ -69,10 +76,13 @@ module _ {K R N : Type 0} (o : Kit K R) (m : N → Data → Question) (r : N →
       ∙ ap (λ b. matching_accept o.world u fs es x && b) (rest_accepted o m r t h u x.0 x.1)
 
   -- it accepts where the declared schemas accept the members of their names, and each member is accepted by the patterns and the rest
-  pub named_accepts : (v : Data) → (named_means o.answers o.costs m S v).accepts u ≡ (list_all (λ e. list_all (accepts o.world u e.1) (at e.0 v)) fs && list_all (λ x. matching_accept o.world u fs es x && rest_accepts o.world u fs es d x) (members v))
-  named_accepts v = λ i. (ap (λ l. (every (λ e. every (m e.1.1) (at e.0 v)) l).accepts u) h.placed_zip ∙ declared_accept o m r t (P // codes "properties") u v 0 h.nodes fs h.declared) i && along (members v) i
+  pub named_accepts : (v : Data) → (named_means o.answers o.costs m S v).accepts u ≡ (list_all (λ e. list_all (accepts o.world u e.1) (at e.0 v)) fs
+      && list_all (λ x. matching_accept o.world u fs es x && rest_accepts o.world u fs es d x) (members v))
+  named_accepts v =
+      λ i. (ap (λ l. (every (λ e. every (m e.1.1) (at e.0 v)) l).accepts u) h.placed_zip ∙ declared_accept o m r t (P // codes "properties") u v 0 h.nodes fs h.declared) i && along (members v) i
     where
-      along : (xs : List (Name × Data)) → (every (λ x. others_mean o.answers o.costs m S x.0 x.1) xs).accepts u ≡ list_all (λ x. matching_accept o.world u fs es x && rest_accepts o.world u fs es d x) xs
+      along : (xs : List (Name × Data)) → (every (λ x. others_mean o.answers o.costs m S x.0 x.1) xs).accepts u ≡ list_all
+          (λ x. matching_accept o.world u fs es x && rest_accepts o.world u fs es d x) xs
       along [] = refl
       along (x ∷ xs) = λ i. others_accept x i && along xs i
 
@@ -83,11 +93,14 @@ module _ {K R N : Type 0} (o : Kit K R) (m : N → Data → Question) (r : N →
 
   -- it finds what the declared schemas find, what the patterns and the rest find in each member, and the members that are not expected
   pub named_finds : (named : Bool) (v : Data) (Q : Path) → named_report o.answers S u v Q named (P // codes "additionalProperties") r
-      ∼ flat_map (λ e. flat_map (λ x. report o.world u e.1 x (P // codes "properties" // e.0) (Q // e.0)) (at e.0 v)) fs ++ flat_map (λ x. matching_report o.world u fs es P Q x ++ rest_report o.world u fs es P Q d x) (members v) ++ others_report o.world u fs es P Q named d v
+      ∼ flat_map (λ e. flat_map (λ x. report o.world u e.1 x (P // codes "properties" // e.0) (Q // e.0)) (at e.0 v)) fs
+          ++ flat_map (λ x. matching_report o.world u fs es P Q x ++ rest_report o.world u fs es P Q d x) (members v) ++ others_report o.world u fs es P Q named d v
   named_finds named v Q = like_through
-      (∼_append (like_through (∼_same (ap (flat_map (λ e. flat_map (λ w. r e.1.1 u w (Q // e.0)) (at e.0 v))) h.placed_zip)) (declared_find o m r t (P // codes "properties") u v Q 0 h.nodes fs h.declared))
+      (∼_append (like_through (∼_same (ap (flat_map (λ e. flat_map (λ w. r e.1.1 u w (Q // e.0)) (at e.0 v))) h.placed_zip))
+          (declared_find o m r t (P // codes "properties") u v Q 0 h.nodes fs h.declared))
       (∼_append (∼_flat_map_any (others_found o.answers S u v Q r) (λ x. matching_report o.world u fs es P Q x ++ rest_report o.world u fs es P Q d x) (others_find v Q) (members v)) (∼_same (faults_of_others o m r t h u named v Q))))
-      (∼_same (sym (append_assoc (flat_map (λ e. flat_map (λ x. report o.world u e.1 x (P // codes "properties" // e.0) (Q // e.0)) (at e.0 v)) fs) (flat_map (λ x. matching_report o.world u fs es P Q x ++ rest_report o.world u fs es P Q d x) (members v)) (others_report o.world u fs es P Q named d v))))
+      (∼_same (sym (append_assoc (flat_map (λ e. flat_map (λ x. report o.world u e.1 x (P // codes "properties" // e.0) (Q // e.0)) (at e.0 v)) fs)
+          (flat_map (λ x. matching_report o.world u fs es P Q x ++ rest_report o.world u fs es P Q d x) (members v)) (others_report o.world u fs es P Q named d v))))
 
   -- ---- how many matchers are asked
 
@@ -101,7 +114,8 @@ module _ {K R N : Type 0} (o : Kit K R) (m : N → Data → Question) (r : N →
       omega (arith, whole, nodes, parts, rest, matchers)
 
   -- it asks at most what the declared schemas ask, and what the patterns and the rest ask of each member
-  pub named_asks : (v : Data) → (named_means o.answers o.costs m S v).asks u ≤ sum_by (λ e. sum_by (asks o.world u e.1) (at e.0 v)) fs + sum_by (λ x. matching_asks o.world u fs es x + patterns_asked o.world fs es x.0) (members v) + sum_by (rest_asks o.world u fs es d) (members v)
+  pub named_asks : (v : Data) → (named_means o.answers o.costs m S v).asks u ≤ sum_by (λ e. sum_by (asks o.world u e.1) (at e.0 v)) fs + sum_by
+      (λ x. matching_asks o.world u fs es x + patterns_asked o.world fs es x.0) (members v) + sum_by (rest_asks o.world u fs es d) (members v)
   named_asks v =
       let same = ap (λ l. (every (λ e. every (m e.1.1) (at e.0 v)) l).asks u) h.placed_zip in
       let declared = declared_ask o m r t (P // codes "properties") u v 0 h.nodes fs h.declared in
@@ -109,6 +123,7 @@ module _ {K R N : Type 0} (o : Kit K R) (m : N → Data → Question) (r : N →
       let parts = sum_of_both (λ x. matching_asks o.world u fs es x + patterns_asked o.world fs es x.0) (rest_asks o.world u fs es d) (members v) in
       omega (arith, same, declared, others, parts)
     where
-      along : (xs : List (Name × Data)) → (every (λ x. others_mean o.answers o.costs m S x.0 x.1) xs).asks u ≤ sum_by (λ x. (matching_asks o.world u fs es x + patterns_asked o.world fs es x.0) + rest_asks o.world u fs es d x) xs
+      along : (xs : List (Name × Data)) → (every (λ x. others_mean o.answers o.costs m S x.0 x.1) xs).asks u ≤ sum_by
+          (λ x. (matching_asks o.world u fs es x + patterns_asked o.world fs es x.0) + rest_asks o.world u fs es d x) xs
       along [] = omega arith
       along (x ∷ xs) = more_within _ _ _ _ _ (others_ask x) (along xs) (sum_by-cons (λ x. (matching_asks o.world u fs es x + patterns_asked o.world fs es x.0) + rest_asks o.world u fs es d x) x xs)

@@ -37,25 +37,29 @@ use Rattle.olk_tree.proofs.RestrictedAsks.{restricted_asks}
 use Rattle.olk_tree.proofs.RestrictedNames.{named_accepts, named_finds, named_asks}
 
 -- the place of patterns counts where there are some
-patterns_placed : {R N : Type 0} (answers : R → Name → Says) (S : Sides R N) (u : Bool) (v : Data) (Q : Path) (declares has_patterns : Bool) (A : Path) {L M : Path} (t : N → Data → Path → Tree) (more : List Tree) → (has_patterns ≡ true → L ≡ M)
+patterns_placed : {R N : Type 0} (answers : R → Name → Says) (S : Sides R N) (u : Bool) (v : Data) (Q : Path) (declares has_patterns : Bool)
+    (A : Path) {L M : Path} (t : N → Data → Path → Tree) (more : List Tree) → (has_patterns ≡ true → L ≡ M)
     → additional_tree answers S u v Q declares has_patterns A L t more ≡ additional_tree answers S u v Q declares has_patterns A M t more
 patterns_placed answers S u v Q declares true A t more e = ap (λ L. additional_tree answers S u v Q declares true A L t more) (e refl)
 patterns_placed answers S u v Q declares false A t more e = refl
 
-module _ {K R N : Type 0} (o : Kit K R) (m : N → Data → Question) (r : N → Bool → Data → Path → List Fault) (t : N → Bool → Data → Path → Tree) (k : Box (AdditionalProperties R N) Global) {ms : Members} {d : Data} {P : Path} (h : RestrictionStands o m r t k.value ms d P) where
+module _ {K R N : Type 0} (o : Kit K R) (m : N → Data → Question) (r : N → Bool → Data → Path → List Fault) (t : N → Bool → Data → Path → Tree)
+    (k : Box (AdditionalProperties R N) Global) {ms : Members} {d : Data} {P : Path} (h : RestrictionStands o m r t k.value ms d P) where
   -- ---- the name that is required
 
   required_found : (v : Data) (Q : Path) → lacks k.value.required v Q ≡ required_faults (required_beside ms) v (P // codes "required") Q
   required_found v Q = by k.value.required h.requires h.required_place
     where
-      by : (q : Option RequiredName) → required_text q ≡ required_beside ms → (is_some q ≡ true → required_place q ≡ P // codes "required") → lacks q v Q ≡ required_faults (required_beside ms) v (P // codes "required") Q
+      by : (q : Option RequiredName) → required_text q ≡ required_beside ms → (is_some q ≡ true → required_place q ≡ P // codes "required")
+          → lacks q v Q ≡ required_faults (required_beside ms) v (P // codes "required") Q
       by None e p = ap (λ ns. required_faults ns v (P // codes "required") Q) e
       by (Some n) e p = λ i. required_faults (e i) v (p refl i) Q
 
   required_shown : (v : Data) (Q : Path) → missing_trees (required_text k.value.required) v (required_place k.value.required) Q ≡ required_child ms v P Q
   required_shown v Q = by k.value.required h.requires h.required_place
     where
-      by : (q : Option RequiredName) → required_text q ≡ required_beside ms → (is_some q ≡ true → required_place q ≡ P // codes "required") → missing_trees (required_text q) v (required_place q) Q ≡ required_child ms v P Q
+      by : (q : Option RequiredName) → required_text q ≡ required_beside ms → (is_some q ≡ true → required_place q ≡ P // codes "required")
+          → missing_trees (required_text q) v (required_place q) Q ≡ required_child ms v P Q
       by None e p = ap (λ ns. missing_trees ns v (P // codes "required") Q) e
       by (Some n) e p = λ i. missing_trees (e i) v (p refl i) Q
 
@@ -71,11 +75,13 @@ module _ {K R N : Type 0} (o : Kit K R) (m : N → Data → Question) (r : N →
     claimed = claims (head (plan_of ms)) (listed ms) (codes "additionalProperties", d)
 
     -- it accepts where each of these accepts
-    pub restriction_accepts : (u : Bool) (v : Data) → (validator_means o m (keyword.AdditionalProperties k) v).accepts u ≡ list_all (λ x. member_accepts o.world ms x (keyword_named o.world x.0) u v) claimed
+    pub restriction_accepts : (u : Bool) (v : Data) → (validator_means o m (keyword.AdditionalProperties k) v).accepts u ≡ list_all
+        (λ x. member_accepts o.world ms x (keyword_named o.world x.0) u v) claimed
     unfolding answers_of
     restriction_accepts u v = by (repeats v) refl
       where
-        by : (b : Bool) → repeats v ≡ b → ((cond b (named_means o.answers o.costs m (sides_of k.value) v) (means_in_turn o.answers o.costs m (sides_of k.value) v)).accepts u && is_empty (missing (required_text k.value.required) v)) ≡ list_all (λ x. member_accepts o.world ms x (keyword_named o.world x.0) u v) claimed
+        by : (b : Bool) → repeats v ≡ b → ((cond b (named_means o.answers o.costs m (sides_of k.value) v) (means_in_turn o.answers o.costs m (sides_of k.value) v)).accepts u
+            && is_empty (missing (required_text k.value.required) v)) ≡ list_all (λ x. member_accepts o.world ms x (keyword_named o.world x.0) u v) claimed
         by true q = (λ i. named_accepts o m r t h.sides u v i && is_empty (missing (h.requires i) v)) ∙ sym (claims_accept o.world ms d distinct there restricted u v)
         by false q = (λ i. restricted_accepts o m r t h.sides u v i && is_empty (missing (h.requires i) v)) ∙ sym (claims_accept_each o.world ms d distinct there restricted u v h.declared_once q)
 
@@ -84,7 +90,8 @@ module _ {K R N : Type 0} (o : Kit K R) (m : N → Data → Question) (r : N →
     unfolding answers_of
     restriction_asks u v = by (repeats v) refl
       where
-        by : (b : Bool) → repeats v ≡ b → (cond b (named_means o.answers o.costs m (sides_of k.value) v) (means_in_turn o.answers o.costs m (sides_of k.value) v)).asks u + 0 ≤ sum_by (λ x. member_asks o.world ms x (keyword_named o.world x.0) u v) claimed
+        by : (b : Bool) → repeats v ≡ b → (cond b (named_means o.answers o.costs m (sides_of k.value) v) (means_in_turn o.answers o.costs m (sides_of k.value) v)).asks u + 0 ≤ sum_by
+            (λ x. member_asks o.world ms x (keyword_named o.world x.0) u v) claimed
         by true q =
             let within = named_asks o m r t h.sides u v in
             let all = claims_ask o.world ms d distinct there restricted u v in
@@ -95,21 +102,29 @@ module _ {K R N : Type 0} (o : Kit K R) (m : N → Data → Question) (r : N →
             omega (arith, within, all)
 
     -- it finds what these find
-    pub restriction_finds : (u : Bool) (v : Data) (Q : Path) → validator_report o m r u (keyword.AdditionalProperties k) v Q ∼ flat_map (λ x. member_report o.world ms x (keyword_named o.world x.0) u v P Q) claimed
+    pub restriction_finds : (u : Bool) (v : Data) (Q : Path) → validator_report o m r u (keyword.AdditionalProperties k) v Q ∼ flat_map
+        (λ x. member_report o.world ms x (keyword_named o.world x.0) u v P Q) claimed
     unfolding answers_of
     restriction_finds u v Q = like_through (∼_append (∼_same placed) (∼_same (required_found v Q))) (by (repeats v) refl)
       where
         placed : reported u v Q (repeats v) (has_neighbours k.value) k.value.location ≡ reported u v Q (repeats v) (has_beside ms) (P // codes "additionalProperties")
         placed = λ i. reported u v Q (repeats v) (h.declares i || h.has_patterns i) (h.place i)
 
-        by : (b : Bool) → repeats v ≡ b → reported u v Q b (has_beside ms) (P // codes "additionalProperties") ++ required_faults (required_beside ms) v (P // codes "required") Q ∼ flat_map (λ x. member_report o.world ms x (keyword_named o.world x.0) u v P Q) claimed
-        by true q = like_through (∼_behind (required_faults (required_beside ms) v (P // codes "required") Q) (named_finds o m r t h.sides u (has_beside ms) v Q)) (∼_sym (claims_find o.world ms d distinct there restricted u v P Q))
-        by false q = like_through (∼_behind (required_faults (required_beside ms) v (P // codes "required") Q) (restricted_finds o m r t h.sides u (has_beside ms) v Q)) (∼_sym (claims_find_each o.world ms d distinct there restricted u v P Q h.declared_once q))
+        by : (b : Bool) → repeats v ≡ b → reported u v Q b (has_beside ms) (P // codes "additionalProperties") ++ required_faults (required_beside ms) v
+            (P // codes "required") Q ∼ flat_map (λ x. member_report o.world ms x (keyword_named o.world x.0) u v P Q) claimed
+        by true q =
+            like_through (∼_behind (required_faults (required_beside ms) v (P // codes "required") Q) (named_finds o m r t h.sides u (has_beside ms) v Q))
+                (∼_sym (claims_find o.world ms d distinct there restricted u v P Q))
+        by false q =
+            like_through (∼_behind (required_faults (required_beside ms) v (P // codes "required") Q) (restricted_finds o m r t h.sides u (has_beside ms) v Q))
+                (∼_sym (claims_find_each o.world ms d distinct there restricted u v P Q h.declared_once q))
 
     -- and it shows the child of `additionalProperties`
-    pub restriction_shows : (u : Bool) (v : Data) (Q : Path) → fuses_one (read_members (meaning_step o.world u) ms) ≡ is_some (fused_one ms) → validator_tree o m t u (keyword.AdditionalProperties k) v Q ∷ [] ≡ member_child o.world ms (codes "additionalProperties", d) additional_properties u v P Q
+    pub restriction_shows : (u : Bool) (v : Data) (Q : Path) → fuses_one (read_members (meaning_step o.world u) ms) ≡ is_some (fused_one ms)
+        → validator_tree o m t u (keyword.AdditionalProperties k) v Q ∷ [] ≡ member_child o.world ms (codes "additionalProperties", d) additional_properties u v P Q
     unfolding answers_of
     restriction_shows u v Q fused = ap (λ x. x ∷ [])
-        (patterns_placed o.answers (sides_of k.value) u v Q (is_some k.value.properties) (is_some k.value.patterns) k.value.location (λ n. t n u) (missing_trees (required_text k.value.required) v (required_place k.value.required) Q) h.patterns_place
+        (patterns_placed o.answers (sides_of k.value) u v Q (is_some k.value.properties) (is_some k.value.patterns) k.value.location (λ n. t n u)
+            (missing_trees (required_text k.value.required) v (required_place k.value.required) Q) h.patterns_place
         ∙ restricted_shows o m r t ms h.sides u v Q (is_some k.value.properties) (is_some k.value.patterns) k.value.location (P // codes "patternProperties") (missing_trees (required_text k.value.required) v (required_place k.value.required) Q) h.declares h.has_patterns h.place refl (required_shown v Q))
         ∙ sym (additional_shows o.world ms u v P Q d restricted fused)

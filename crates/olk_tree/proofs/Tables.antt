@@ -47,7 +47,9 @@ module _ (cost names : ℕ) (old before after : Counts) (k : ℕ) (so_far : befo
 
 module _ (says : ℕ → Says) (k : ℕ) where
   one_index_more : indices_below says (k + 1) ≡ indices_below says k ++ filter_map (λ i. index_said i (says i)) (k ∷ [])
-  one_index_more = ap (filter_map (λ i. index_said i (says i))) (sym (map-id _) ∙ map-range_with_len_more (λ i. i) 0 k k (omega arith) ∙ ap (λ is. is ++ k ∷ []) (map-id _)) ∙ filter_map-append (λ i. index_said i (says i)) (range_with_len 0 k) (k ∷ [])
+  one_index_more =
+      ap (filter_map (λ i. index_said i (says i))) (sym (map-id _) ∙ map-range_with_len_more (λ i. i) 0 k k (omega arith) ∙ ap (λ is. is ++ k ∷ []) (map-id _))
+          ∙ filter_map-append (λ i. index_said i (says i)) (range_with_len 0 k) (k ∷ [])
 
   pub index_told : (x : PatternIndex) → Some x ≡ index_said k (says k) → indices_below says k ++ x ∷ [] ≡ indices_below says (k + 1)
   index_told x e = ap (λ o. indices_below says k ++ cons_option o []) e ∙ sym one_index_more
@@ -65,7 +67,8 @@ module _ {R : Type 0} (answers : R → Name → Says) (costs : R → Bool) (patt
     pub blank : (i : ℕ) → k ≤ i → row_says row i ≡ unmatched
     pub asked : new ≡ count_asks (how_many_cost costs (take k patterns)) old
 
-  one_more : (k : ℕ) (d : CompiledPattern R) → k < length patterns → (b : Bool) → pattern_costs costs (get_or patterns k d) ≡ b → how_many_cost costs (take k patterns) + cond b 1 0 ≡ how_many_cost costs (take (k + 1) patterns)
+  one_more : (k : ℕ) (d : CompiledPattern R) → k < length patterns → (b : Bool) → pattern_costs costs (get_or patterns k d) ≡ b → how_many_cost costs
+      (take k patterns) + cond b 1 0 ≡ how_many_cost costs (take (k + 1) patterns)
   one_more k d lt true e = sym (count_by_more_yes (pattern_costs costs) patterns k d lt e)
   one_more k d lt false e = omega (arith, count_by_more_no (pattern_costs costs) patterns k d lt e)
 
@@ -78,7 +81,8 @@ module _ {R : Type 0} (answers : R → Name → Says) (costs : R → Bool) (patt
         ∙ asks_asks (how_many_cost costs (take k patterns)) (cond (pattern_costs costs e) 1 0) old
         ∙ ap (λ m. count_asks m old) (one_more k e lt (pattern_costs costs e) (ap (λ x. pattern_costs costs x) (sym is)))
 
-    noted_once_more : row_says row' k ≡ pattern_answers answers e n → ((i : ℕ) → i ≢ k → row_says row' i ≡ row_says row i) → (i : ℕ) (x : CompiledPattern R) → i < k + 1 → slice_get patterns i ≡ Some x → row_says row' i ≡ pattern_answers answers x n
+    noted_once_more : row_says row' k ≡ pattern_answers answers e n → ((i : ℕ) → i ≢ k → row_says row' i ≡ row_says row i) → (i : ℕ) (x : CompiledPattern R)
+        → i < k + 1 → slice_get patterns i ≡ Some x → row_says row' i ≡ pattern_answers answers x n
     noted_once_more here others i x le at =
         elim (cases_eq i k) [
           | inl same ↦
@@ -88,7 +92,8 @@ module _ {R : Type 0} (answers : R → Name → Says) (costs : R → Bool) (patt
           | inr other ↦ others i other ∙ so_far.noted i x (omega arith) at
         ]
 
-    pub asked_more : row_says row' k ≡ pattern_answers answers e n → ((i : ℕ) → i ≢ k → row_says row' i ≡ row_says row i) → ((i : ℕ) → HasWord i row → HasWord i row') → new' ≡ count_ask (pattern_costs costs e) new → IsAskedTo old (k + 1) row' new'
+    pub asked_more : row_says row' k ≡ pattern_answers answers e n → ((i : ℕ) → i ≢ k → row_says row' i ≡ row_says row i) → ((i : ℕ) → HasWord i row → HasWord i row')
+        → new' ≡ count_ask (pattern_costs costs e) new → IsAskedTo old (k + 1) row' new'
     asked_more here others words counts = record {
       words = λ i l. words i (so_far.words i l);
       noted = noted_once_more here others;
@@ -102,12 +107,15 @@ module _ {R : Type 0} (answers : R → Name → Says) (costs : R → Bool) (patt
 -- ---- a table, row by row
 
 module _ {R : Type 0} (answers : R → Name → Says) (patterns : List (CompiledPattern R)) (t : Table) (rows : AllZip (IsRowOf answers patterns) t.names t.rows) where
-  says_of_row : (i : ℕ) (n : Name) (e : CompiledPattern R) (o : Option Row) → IsSomeAnd o (IsRowOf answers patterns n) → slice_get patterns i ≡ Some e → option_map_or (λ r. row_says r i) o unfinished ≡ pattern_answers answers e n
+  says_of_row : (i : ℕ) (n : Name) (e : CompiledPattern R) (o : Option Row) → IsSomeAnd o (IsRowOf answers patterns n) → slice_get patterns i ≡ Some e
+      → option_map_or (λ r. row_says r i) o unfinished ≡ pattern_answers answers e n
   says_of_row i n e (Some r) h at = h i e at
   says_of_row i n e None h at = absurd h
 
   says : (p i : ℕ) (n : Name) (e : CompiledPattern R) → slice_get t.names p ≡ Some n → slice_get patterns i ≡ Some e → table_says t p i ≡ pattern_answers answers e n
-  says p i n e name at = says_of_row i n e (slice_get t.rows p) (MatchOption-at_some (Unit {0}) (λ x. IsSomeAnd (slice_get t.rows p) (IsRowOf answers patterns x)) n name (AllZip-left (IsRowOf answers patterns) t.names t.rows rows p)) at
+  says p i n e name at =
+      says_of_row i n e (slice_get t.rows p) (MatchOption-at_some (Unit {0}) (λ x. IsSomeAnd (slice_get t.rows p) (IsRowOf answers patterns x)) n name
+          (AllZip-left (IsRowOf answers patterns) t.names t.rows rows p)) at
 
   pub is_table : t.patterns ≡ length patterns → IsTableOf answers patterns t
   is_table count = record { says = says; count = λ some. count }
@@ -116,11 +124,14 @@ module _ {R : Type 0} (answers : R → Name → Says) (patterns : List (Compiled
   nothing_else p i le = ap (λ o. option_map_or (λ r. row_says r i) o unfinished) (slice_get_past t.rows p (omega (arith, AllZip-long (IsRowOf answers patterns) t.names t.rows rows)))
 
 -- a row more, of the next name
-pub row_told : {R : Type 0} (answers : R → Name → Says) (patterns : List (CompiledPattern R)) (names : List (String Global)) (k : ℕ) (name : String Global) (rows : List Row) (row : Row) → k < length names → name ≡ get_or names k name → AllZip (IsRowOf answers patterns) (map string_bytes (take k names)) rows → IsRowOf answers patterns (string_bytes name) row → AllZip (IsRowOf answers patterns) (map string_bytes (take (k + 1) names)) (rows ++ row ∷ [])
+pub row_told : {R : Type 0} (answers : R → Name → Says) (patterns : List (CompiledPattern R)) (names : List (String Global)) (k : ℕ) (name : String Global)
+    (rows : List Row) (row : Row) → k < length names → name ≡ get_or names k name → AllZip (IsRowOf answers patterns) (map string_bytes (take k names)) rows
+    → IsRowOf answers patterns (string_bytes name) row → AllZip (IsRowOf answers patterns) (map string_bytes (take (k + 1) names)) (rows ++ row ∷ [])
 row_told answers patterns names k name rows row lt is so_far more =
     let next : map string_bytes (take (k + 1) names) ≡ map string_bytes (take k names) ++ string_bytes name ∷ [] =
     ap (map string_bytes) (take_more names k name lt ∙ ap (λ s. take k names ++ s ∷ []) (sym is)) ∙ map-append string_bytes (take k names) (name ∷ []) in
-    subst (λ ns. AllZip (IsRowOf answers patterns) ns (rows ++ row ∷ [])) (sym next) (all_zipped_more (IsRowOf answers patterns) (map string_bytes (take k names)) rows (string_bytes name) row so_far more)
+    subst (λ ns. AllZip (IsRowOf answers patterns) ns (rows ++ row ∷ [])) (sym next)
+        (all_zipped_more (IsRowOf answers patterns) (map string_bytes (take k names)) rows (string_bytes name) row so_far more)
 
 -- what is so where nothing is given
 pub on_err : {T E P : Type 0} (r : Result T E) → P → OnErr r P

@@ -23,7 +23,8 @@ module _ {N : Type 0} where
     member_first m ms = refl
 
     module _ {left rest : List (String Global × Value)} {k : String Global} {v : Value} (n : Name) (next : left ≡ (k, v) ∷ rest) (name : n ≡ string_bytes k) where
-      step : (o : Option N) → o ≡ lookup_name n es → members_declared es (listed (members_view left)) ≡ flat_map (λ x. declared_as n x (view v)) (option_to_list o) ++ members_declared es (listed (members_view rest))
+      step : (o : Option N) → o ≡ lookup_name n es → members_declared es (listed (members_view left)) ≡ flat_map (λ x. declared_as n x (view v)) (option_to_list o)
+          ++ members_declared es (listed (members_view rest))
       step o e =
           ap (λ l. members_declared es (listed (members_view l))) next
           ∙ (λ i. flat_map (λ x. declared_as (name_back i) x (view v)) (option_to_list (lookup_name (name_back i) es)) ++ members_declared es (listed (members_view rest)))
@@ -33,7 +34,8 @@ module _ {N : Type 0} where
           name_back = sym name
 
       -- a member whose name is declared, and one whose name isn't
-      pub member_met : (x : N) → Some x ≡ lookup_name n es → members_declared es (listed (members_view left)) ≡ record { name = n; node = x; value = view v } ∷ members_declared es (listed (members_view rest))
+      pub member_met : (x : N) → Some x ≡ lookup_name n es → members_declared es (listed (members_view left)) ≡ record { name = n; node = x;
+          value = view v } ∷ members_declared es (listed (members_view rest))
       member_met x e = step (Some x) e
 
       pub member_passed : None ≡ lookup_name n es → members_declared es (listed (members_view left)) ≡ members_declared es (listed (members_view rest))
@@ -51,7 +53,8 @@ module _ {N : Type 0} where
     name_passed at = ap (λ l. names_met l ms) next ∙ ap (λ p. flat_map (λ w. declared_as n x w) (option_to_list p) ++ names_met rest ms) (sym at)
 
   -- the pairs that are left, where the next is taken
-  pub pairs_more : (left rest : Zip (Iter (String Global)) (Iter N)) (r : Option (Bor (String Global) × Bor N)) (p : Bor (String Global) × Bor N) → r ≡ Some p → zips fronts fronts left r rest → (n : Name) → n ≡ string_bytes p.0.now → pairs_of left ≡ (n, p.1.now) ∷ pairs_of rest
+  pub pairs_more : (left rest : Zip (Iter (String Global)) (Iter N)) (r : Option (Bor (String Global) × Bor N)) (p : Bor (String Global) × Bor N)
+      → r ≡ Some p → zips fronts fronts left r rest → (n : Name) → n ≡ string_bytes p.0.now → pairs_of left ≡ (n, p.1.now) ∷ pairs_of rest
   pairs_more left rest r p is steps n name =
       let here = Zip-more left rest r p is steps in
       (λ i. zip (map string_bytes (here.0 i)) (here.1 i)) ∙ ap (λ m. (m, p.1.now) ∷ pairs_of rest) (sym name)

@@ -12,20 +12,23 @@ use Rattle.olk_build.proofs.build.+compile.Given as goal
 -- the nodes so far are built for those of the entries so far that are read
 abbrev pub invariant-compile_entries-loop-name : goal.invariant-compile_entries-loop-name
 invariant-compile_entries-loop-name g l = record {
-  so_far : EntriesSoFar (kit g.L.Leaf.Leaf g.M.Engine.RegexEngine) g.N.Place.answers l.fn.place (entries_read l.passes_arrays (listed (members_view l.map.entries))) l.fn.meter l.nodes.items (entries_read l.passes_arrays (listed (members_view l.name-iterator))) l.meter;
+  so_far : EntriesSoFar (kit g.L.Leaf.Leaf g.M.Engine.RegexEngine) g.N.Place.answers l.fn.place
+      (entries_read l.passes_arrays (listed (members_view l.map.entries))) l.fn.meter l.nodes.items (entries_read l.passes_arrays (listed (members_view l.name-iterator))) l.meter;
   next : (goal.iterator-compile_entries-loop-name g).can_next l.name-iterator;
   ends : (goal.iterator-compile_entries-loop-name g).is_finite l.name-iterator;
 }
 
 abbrev pub invariant-compile_inner_entries-loop-name : goal.invariant-compile_inner_entries-loop-name
 invariant-compile_inner_entries-loop-name g l = record {
-  so_far : InnerSoFar (kit g.L.Leaf.Leaf g.M.Engine.RegexEngine) g.N.Place.answers l.fn.place (listed (members_view l.map.entries)) l.fn.meter l.nodes.items (listed (members_view l.name-iterator)) l.meter;
+  so_far : InnerSoFar (kit g.L.Leaf.Leaf g.M.Engine.RegexEngine) g.N.Place.answers l.fn.place (listed (members_view l.map.entries)) l.fn.meter l.nodes.items
+      (listed (members_view l.name-iterator)) l.meter;
   next : (goal.iterator-compile_inner_entries-loop-name g).can_next l.name-iterator;
   ends : (goal.iterator-compile_inner_entries-loop-name g).is_finite l.name-iterator;
 }
 
 abbrev pub invariant-compile_branches-loop-i : goal.invariant-compile_branches-loop-i
-invariant-compile_branches-loop-i g l = EntriesSoFar (kit g.L.Leaf.Leaf g.M.Engine.RegexEngine) g.N.Place.answers l.fn.place (numbered (map view l.schema-items)) l.fn.meter l.nodes.items (branches_from l.i l.schema-items) l.meter
+invariant-compile_branches-loop-i g l =
+    EntriesSoFar (kit g.L.Leaf.Leaf g.M.Engine.RegexEngine) g.N.Place.answers l.fn.place (numbered (map view l.schema-items)) l.fn.meter l.nodes.items (branches_from l.i l.schema-items) l.meter
 
 -- the parts so far are built for the members so far
 abbrev pub invariant-compile_parts-loop-name : goal.invariant-compile_parts-loop-name

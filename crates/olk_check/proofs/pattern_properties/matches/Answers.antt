@@ -10,4 +10,6 @@ returns-in-Exact g c = subst (λ p. Asks c.args.ctx.now c.args.ctx.now (match_qu
     (test_answers c.args.ctx.now (bytes_eq (string_bytes c.in-Exact.exact) c.args.name.now) c.is_exactly.result (c.is_exactly.ensures ∙ ap (λ s. bytes_eq s c.args.name.now) c.as_str.ensures.value))
 
 pub returns-in_default : goal.returns-in_default
-returns-in_default g c = match_answers (pattern_costs g.R.RegexEngine.costs c.args.pattern.now) (pattern_answers g.R.RegexEngine.answers c.args.pattern.now c.args.name.now) c.args.ctx.now c.is_match_in.new.ctx c.is_match_in.result c.is_match_in.ensures.answer c.is_match_in.ensures.counts
+returns-in_default g c =
+    match_answers (pattern_costs g.R.RegexEngine.costs c.args.pattern.now)
+        (pattern_answers g.R.RegexEngine.answers c.args.pattern.now c.args.name.now) c.args.ctx.now c.is_match_in.new.ctx c.is_match_in.result c.is_match_in.ensures.answer c.is_match_in.ensures.counts

@@ -5,4 +5,6 @@ use Rattle.olk_check.proofs.Walks.{AllLeft}
 use Rattle.olk_check.proofs.pattern_properties.patterns_accept.Given as goal
 
 abbrev pub invariant-loop-entry : goal.invariant-loop-entry
-invariant-loop-entry g l = AllLeft (λ e. matched_mean g.R.RegexEngine.answers g.R.RegexEngine.costs g.N.Means.means e.0 e.1 (object_of l.members.entries)) l.patterns.items (drop l.entry-index l.patterns.items) l.initial.ctx l.ctx
+invariant-loop-entry g l =
+    AllLeft (λ e. matched_mean g.R.RegexEngine.answers g.R.RegexEngine.costs g.N.Means.means e.0 e.1 (object_of l.members.entries)) l.patterns.items
+        (drop l.entry-index l.patterns.items) l.initial.ctx l.ctx

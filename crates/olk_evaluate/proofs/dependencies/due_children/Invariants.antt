@@ -10,5 +10,6 @@ abbrev pub invariant-loop-dependency : goal.invariant-loop-dependency
 invariant-loop-dependency g l = record {
   path : l.path ≡ l.initial.path;
   context : OnlyAsks l.initial.ctx l.ctx;
-  shown : ShownFrom (map (λ d. wanted g.N.Show.tree g.N.Means.means l.initial.ctx.answer d.node (data_of l.object) l.initial.path) (left_of l.initial.dependency-iterator)) (map (λ d. wanted g.N.Show.tree g.N.Means.means l.initial.ctx.answer d.node (data_of l.object) l.initial.path) (left_of l.dependency-iterator)) (trees_of l.children.items);
+  shown : ShownFrom (map (λ d. wanted g.N.Show.tree g.N.Means.means l.initial.ctx.answer d.node (data_of l.object) l.initial.path) (left_of l.initial.dependency-iterator))
+      (map (λ d. wanted g.N.Show.tree g.N.Means.means l.initial.ctx.answer d.node (data_of l.object) l.initial.path) (left_of l.dependency-iterator)) (trees_of l.children.items);
 }

@@ -11,7 +11,8 @@ pub loop-name-init : goal.loop-name-init
 loop-name-init g c = meeting_from (ap (λ es. listed (members_view es)) c.into_iter-name-iterator.ensures.into_iter_gives.0) (only_same c.args.ctx.now)
 
 pub loop-name-preserved : goal.loop-name-preserved
-loop-name-preserved g c = meeting_more c.loop-name.invariant (name_next c.in-Some.ensures.steps c.as_str.ensures.value) c.in_ok-meet_if_matched.ensures.met c.meet_if_matched.ensures.path c.meet_if_matched.ensures.context
+loop-name-preserved g c =
+    meeting_more c.loop-name.invariant (name_next c.in-Some.ensures.steps c.as_str.ensures.value) c.in_ok-meet_if_matched.ensures.met c.meet_if_matched.ensures.path c.meet_if_matched.ensures.context
 
 pub returns-clause-met : goal.returns-clause-met
 returns-clause-met g c = subst (λ ds. MeetsMore (wanted_at g.N.Show.tree g.N.Means.means c.args.ctx.now.answer c.args.path.now) ds c.args.met.now c.loop-name.met)

@@ -8,7 +8,8 @@ pub loop-entry-init : goal.loop-entry-init
 loop-entry-init g c = meeting_from refl (only_same c.args.ctx.now)
 
 pub loop-entry-preserved : goal.loop-entry-preserved
-loop-entry-preserved g c = meeting_more c.loop-entry.invariant (next_at c.deref-entry-items.ensures.value c.entry-item.is c.loop-entry-test.true) c.in_ok-meet_matched.ensures.met c.meet_matched.ensures.path c.meet_matched.ensures.context
+loop-entry-preserved g c =
+    meeting_more c.loop-entry.invariant (next_at c.deref-entry-items.ensures.value c.entry-item.is c.loop-entry-test.true) c.in_ok-meet_matched.ensures.met c.meet_matched.ensures.path c.meet_matched.ensures.context
 
 pub returns-clause-met : goal.returns-clause-met
 returns-clause-met g c = meeting_end c.loop-entry.invariant (past_end c.deref-entry-items.ensures.value (omega arith))

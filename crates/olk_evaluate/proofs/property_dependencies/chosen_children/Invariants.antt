@@ -12,5 +12,6 @@ abbrev pub invariant-loop-choices : goal.invariant-loop-choices
 invariant-loop-choices g l = record {
   path : l.path ≡ l.initial.path;
   context : OnlyAsks l.initial.ctx l.ctx;
-  shown : ShownFrom (flat_map (λ d. each_wanted g.N.Show.tree g.N.Means.means l.initial.ctx.answer (chosen d) (data_of l.object) l.initial.path) (left_of l.initial.choices-iterator)) (flat_map (λ d. each_wanted g.N.Show.tree g.N.Means.means l.initial.ctx.answer (chosen d) (data_of l.object) l.initial.path) (left_of l.choices-iterator)) (trees_of l.children.items);
+  shown : ShownFrom (flat_map (λ d. each_wanted g.N.Show.tree g.N.Means.means l.initial.ctx.answer (chosen d) (data_of l.object) l.initial.path) (left_of l.initial.choices-iterator))
+      (flat_map (λ d. each_wanted g.N.Show.tree g.N.Means.means l.initial.ctx.answer (chosen d) (data_of l.object) l.initial.path) (left_of l.choices-iterator)) (trees_of l.children.items);
 }

@@ -10,5 +10,6 @@ abbrev pub invariant-loop-name : goal.invariant-loop-name
 invariant-loop-name g l = record {
   path : l.path ≡ l.initial.path;
   context : OnlyAsks l.initial.ctx l.ctx;
-  shown : ShownFrom (names_wanted g.N.Show.tree g.N.Means.means l.initial.ctx.answer l.subschema l.initial.path (listed (members_view l.members.entries))) (names_wanted g.N.Show.tree g.N.Means.means l.initial.ctx.answer l.subschema l.initial.path (listed (members_view l.name-iterator))) (trees_of l.children.items);
+  shown : ShownFrom (names_wanted g.N.Show.tree g.N.Means.means l.initial.ctx.answer l.subschema l.initial.path (listed (members_view l.members.entries)))
+      (names_wanted g.N.Show.tree g.N.Means.means l.initial.ctx.answer l.subschema l.initial.path (listed (members_view l.name-iterator))) (trees_of l.children.items);
 }

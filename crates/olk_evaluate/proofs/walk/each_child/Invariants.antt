@@ -9,5 +9,6 @@ abbrev pub invariant-loop-schema : goal.invariant-loop-schema
 invariant-loop-schema g l = record {
   path : l.path ≡ l.initial.path;
   context : OnlyAsks l.initial.ctx l.ctx;
-  shown : ShownFrom (each_wanted g.N.Show.tree g.N.Means.means l.initial.ctx.answer l.schemas.items (data_of l.node) l.initial.path) (each_wanted g.N.Show.tree g.N.Means.means l.initial.ctx.answer (drop l.schema-index l.schemas.items) (data_of l.node) l.initial.path) (trees_of l.children.items);
+  shown : ShownFrom (each_wanted g.N.Show.tree g.N.Means.means l.initial.ctx.answer l.schemas.items (data_of l.node) l.initial.path)
+      (each_wanted g.N.Show.tree g.N.Means.means l.initial.ctx.answer (drop l.schema-index l.schemas.items) (data_of l.node) l.initial.path) (trees_of l.children.items);
 }

@@ -6,4 +6,5 @@ pub returns-clause-form : goal.returns-clause-form
 returns-clause-form g c = is_pattern_properties c.form.result c.args.location c.in_ok-entries.entries.items _ c.in_ok-entries.ensures c.form.ensures
 
 pub returns-clause-makes : goal.returns-clause-makes
-returns-clause-makes g c t = makes_pattern_properties (kit g.K.Leaf g.R.RegexEngine) g.N.Place.answers c.form.result c.args.location c.args.patterns t c.args.nodes.items c.in_ok-entries.entries.items c.in_ok-entries.ensures c.form.ensures
+returns-clause-makes g c t =
+    makes_pattern_properties (kit g.K.Leaf g.R.RegexEngine) g.N.Place.answers c.form.result c.args.location c.args.patterns t c.args.nodes.items c.in_ok-entries.entries.items c.in_ok-entries.ensures c.form.ensures

@@ -9,7 +9,9 @@ loop-entry-preserved g c =
     let patterns = c.in-Some.ensures.steps.0 in
     let nodes = c.in-Some.ensures.steps.1 in
     record {
-      made = one_made MadeOf (c.args.patterns.items, c.args.nodes.items) (c.loop-entry.entry-iterator.a.rest.items, c.loop-entry.entry-iterator.b.rest.items) (c.next.new.self.a.rest.items, c.next.new.self.b.rest.items) c.loop-entry.entries.items c.append.new.items.items c.in-Some.entry c.in_ok-append.ensures.items
+      made =
+          one_made MadeOf (c.args.patterns.items, c.args.nodes.items) (c.loop-entry.entry-iterator.a.rest.items, c.loop-entry.entry-iterator.b.rest.items)
+              (c.next.new.self.a.rest.items, c.next.new.self.b.rest.items) c.loop-entry.entries.items c.append.new.items.items c.in-Some.entry c.in_ok-append.ensures.items
           (both_next c.loop-entry.entry-iterator.a.rest.items c.next.new.self.a.rest.items c.loop-entry.entry-iterator.b.rest.items c.next.new.self.b.rest.items c.in-Some.entry patterns.0 nodes.0) c.loop-entry.invariant.made;
       patterns = let e = ap length patterns.0 in omega (arith, e, patterns.1, c.loop-entry.invariant.patterns);
       nodes = let e = ap length nodes.0 in omega (arith, e, nodes.1, c.loop-entry.invariant.nodes);

@@ -14,7 +14,8 @@ returns c =
     record { ok = text; err = tt }
 
 pub returns-then-is_plain-clause-ok : goal.returns-then-is_plain-clause-ok
-returns-then-is_plain-clause-ok c = pushed_plain c.push_str.result (string_bytes c.args.text.now) (string_bytes c.push_str.new.self) c.args.segment.now c.push_str.ensures.bytes (sym c.if-is_plain.ensures)
+returns-then-is_plain-clause-ok c =
+    pushed_plain c.push_str.result (string_bytes c.args.text.now) (string_bytes c.push_str.new.self) c.args.segment.now c.push_str.ensures.bytes (sym c.if-is_plain.ensures)
 
 pub returns-then-is_plain-clause-err : goal.returns-then-is_plain-clause-err
 returns-then-is_plain-clause-err c = kept_plain c.push_str.result (string_bytes c.args.text.now) (string_bytes c.push_str.new.self) c.args.segment.now c.push_str.ensures.bytes

@@ -12,10 +12,14 @@ pub loop-key-init : goal.loop-key-init
 loop-key-init c = none_so_far _ _ _ _ _ _ c.new-texts.ensures.items c.into_iter-key-iterator.ensures.into_iter_gives.0
 
 pub loop-key-preserved : goal.loop-key-preserved
-loop-key-preserved c = one_more_entry _ _ _ _ _ _ _ _ c.in-Some.ensures.steps _ _ _ c.in_ok-append.ensures.items c.in_ok-names.ensures.names (object_is_right _ _ c.in_ok-names.ensures.object) c.loop-key.invariant
+loop-key-preserved c =
+    one_more_entry _ _ _ _ _ _ _ _ c.in-Some.ensures.steps _ _ _ c.in_ok-append.ensures.items c.in_ok-names.ensures.names (object_is_right _ _ c.in_ok-names.ensures.object) c.loop-key.invariant
 
 pub returns-in_err-names-clause-refused : goal.returns-in_err-names-clause-refused
-returns-in_err-names-clause-refused c = exit _ _ _ c.from_residual-in_err-names.ensures.1 (λ e q. entry_refused _ _ _ _ _ _ _ _ c.in-Some.ensures.steps _ e c.loop-key.invariant (subst (λ P. TellsOneOf (unless_object (view c.in-Some.value.now) P) e) (c.in_ok-place.ensures ∙ ap (λ n. c.args.location.now // n) c.as_str.ensures.value) (subst (TellsOneOf _) (sym q) c.in_err-names.ensures.refused)))
+returns-in_err-names-clause-refused c =
+    exit _ _ _ c.from_residual-in_err-names.ensures.1 (λ e q. entry_refused _ _ _ _ _ _ _ _ c.in-Some.ensures.steps _ e c.loop-key.invariant
+        (subst (λ P. TellsOneOf (unless_object (view c.in-Some.value.now) P) e) (c.in_ok-place.ensures ∙ ap (λ n. c.args.location.now // n) c.as_str.ensures.value)
+        (subst (TellsOneOf _) (sym q) c.in_err-names.ensures.refused)))
 
 pub returns-clause-names : goal.returns-clause-names
 returns-clause-names c = sym (each_as_it_is c.loop-key.texts.items) ∙ entries_shown _ _ _ _ _ _ c.loop-key.invariant c.in-None.ensures.steps.0

@@ -10,7 +10,8 @@ loop-index-preserved g c =
 
 pub returns-clause-answers : goal.returns-clause-answers
 returns-clause-answers g c =
-    all_noted g.R.RegexEngine.answers g.R.RegexEngine.costs c.args.patterns.now c.args.name.now c.args.meter.now c.loop-index.index c.loop-index.row c.loop-index.meter (omega arith) c.loop-index.invariant
+    all_noted g.R.RegexEngine.answers g.R.RegexEngine.costs c.args.patterns.now c.args.name.now c.args.meter.now c.loop-index.index c.loop-index.row c.loop-index.meter
+        (omega arith) c.loop-index.invariant
 
 pub note-requires-clause-word : goal.note-requires-clause-word
 note-requires-clause-word g c = c.loop-index.invariant.words c.loop-index.index c.loop-index-test.true
@@ -27,4 +28,5 @@ loop-index-init g c = record {
 }
 
 pub returns-clause-asked : goal.returns-clause-asked
-returns-clause-asked g c = c.loop-index.invariant.asked ∙ ap (λ ps. count_asks (how_many_cost g.R.RegexEngine.costs ps) c.args.meter.now) (take_all c.loop-index.index c.args.patterns.now (omega arith))
+returns-clause-asked g c =
+    c.loop-index.invariant.asked ∙ ap (λ ps. count_asks (how_many_cost g.R.RegexEngine.costs ps) c.args.meter.now) (take_all c.loop-index.index c.args.patterns.now (omega arith))

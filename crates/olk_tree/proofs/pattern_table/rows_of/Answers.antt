@@ -18,11 +18,14 @@ loop-name-preserved g c = record {
   rows =
       subst (AllZip (IsRowOf g.R.RegexEngine.answers c.args.patterns.now) (map string_bytes (take (c.loop-name.name-index + 1) c.args.names.now))) (sym c.in_ok-push.ensures.items)
       (row_told g.R.RegexEngine.answers c.args.patterns.now c.args.names.now c.loop-name.name-index c.name-item.result c.loop-name.rows.items c.in_ok-row_of.field-0 c.loop-name-test.true c.name-item.is c.loop-name.invariant.rows (subst (λ n. IsRowOf g.R.RegexEngine.answers c.args.patterns.now n c.in_ok-row_of.field-0) c.as_str.ensures.value c.in_ok-row_of.ensures.answers));
-  asked = asks_a_name (how_many_cost g.R.RegexEngine.costs c.args.patterns.now) 0 c.args.meter.now c.loop-name.meter c.row_of.new.meter c.loop-name.name-index c.loop-name.invariant.asked c.in_ok-row_of.ensures.asked;
+  asked =
+      asks_a_name (how_many_cost g.R.RegexEngine.costs c.args.patterns.now) 0 c.args.meter.now c.loop-name.meter c.row_of.new.meter c.loop-name.name-index c.loop-name.invariant.asked c.in_ok-row_of.ensures.asked;
 }
 
 pub returns-clause-answers : goal.returns-clause-answers
-returns-clause-answers g c = subst (λ ns. AllZip (IsRowOf g.R.RegexEngine.answers c.args.patterns.now) (map string_bytes ns) c.loop-name.rows.items) (take_all c.loop-name.name-index c.args.names.now (omega arith)) c.loop-name.invariant.rows
+returns-clause-answers g c =
+    subst (λ ns. AllZip (IsRowOf g.R.RegexEngine.answers c.args.patterns.now) (map string_bytes ns) c.loop-name.rows.items)
+        (take_all c.loop-name.name-index c.args.names.now (omega arith)) c.loop-name.invariant.rows
 
 pub returns-clause-asked : goal.returns-clause-asked
 returns-clause-asked g c =

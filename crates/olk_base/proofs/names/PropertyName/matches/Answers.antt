@@ -13,4 +13,5 @@ same_heads h k e =
     λ i. record { len = len i; first = first i; last = last i }
 
 pub same_middle-requires : goal.same_middle-requires
-same_middle-requires c = ap head_of c.as_bytes.ensures.value ∙ sym c.self.invariant ∙ same_heads c.self.inside.head c.args.head c.if-eq.ensures ∙ c.requires ∙ ap head_of (sym c.as_bytes-then-eq.ensures.value)
+same_middle-requires c =
+    ap head_of c.as_bytes.ensures.value ∙ sym c.self.invariant ∙ same_heads c.self.inside.head c.args.head c.if-eq.ensures ∙ c.requires ∙ ap head_of (sym c.as_bytes-then-eq.ensures.value)

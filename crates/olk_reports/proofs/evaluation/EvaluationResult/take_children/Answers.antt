@@ -7,4 +7,5 @@ use Rattle.olk_reports.proofs.Evaluations.{shown_with_children}
 use Rattle.olk_reports.proofs.evaluation.EvaluationResult.take_children.Goals as goal
 
 pub returns : goal.returns
-returns c = rw out-roll-EvaluationResult (shown_with_children c.args.self.now c.args.children c.all_valid.result (c.all_valid.ensures ∙ ap (list_all (λ n. is_valid (tree_of n))) c.as_slice.ensures.value))
+returns c =
+    rw out-roll-EvaluationResult (shown_with_children c.args.self.now c.args.children c.all_valid.result (c.all_valid.ensures ∙ ap (list_all (λ n. is_valid (tree_of n))) c.as_slice.ensures.value))

@@ -16,12 +16,14 @@ returns-in_err-node-clause-validator g c =
     ∙ ap (λ ks. lookup_name c.args.name.now (zip ks nodes)) c.names-names.ensures)
 
 pub returns-clause-key : goal.returns-clause-key
-returns-clause-key g c = c.as_str.ensures.value ∙ name_read c.names-names.result.now c.as_slice.result.now c.args.name.now c.in_ok-place.place c.index-as_slice-place.result c.as_slice.ensures c.index-as_slice-place.is c.in_ok-place.ensures
+returns-clause-key g c =
+    c.as_str.ensures.value ∙ name_read c.names-names.result.now c.as_slice.result.now c.args.name.now c.in_ok-place.place c.index-as_slice-place.result c.as_slice.ensures c.index-as_slice-place.is c.in_ok-place.ensures
 
 pub returns-clause-validator : goal.returns-clause-validator
 returns-clause-validator g c =
     let nodes = g.Self.PropertiesValidatorsMap.nodes c.args.self.now in
-    zip_found c.names-names.result.now nodes c.nodes.result.now c.args.name.now c.in_ok-place.place (Some c.in_ok-node.node) c.nodes.ensures c.in_ok-place.ensures c.in_ok-node.ensures.lookup.1 c.in_ok-node.ensures.lookup.3
+    zip_found c.names-names.result.now nodes c.nodes.result.now c.args.name.now c.in_ok-place.place
+        (Some c.in_ok-node.node) c.nodes.ensures c.in_ok-place.ensures c.in_ok-node.ensures.lookup.1 c.in_ok-node.ensures.lookup.3
     ∙ ap (λ ks. lookup_name c.args.name.now (zip ks nodes)) c.names-names.ensures
 
 pub offset_bounds-as_slice-place : goal.offset_bounds-as_slice-place
