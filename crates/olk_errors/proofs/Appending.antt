@@ -43,7 +43,3 @@ pub told_so : {T : Type 0} (r : Result T ValidateError) {So Then : Fault → Typ
 told_so r {So} {Then} k h = IfErr-weaker r (λ e. IfInvalid e So) (λ e. IfInvalid e Then) (invalid_so k) h
 
 -- ---- taken back
-
-on_err : {T E F : Type 0} (r : Result T E) → F → OnErr r F
-on_err (Ok x) f = tt
-on_err (Err e) f = f

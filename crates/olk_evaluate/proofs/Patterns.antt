@@ -141,12 +141,6 @@ module _ {R N : Type 0} (answers : R → Name → Says) (t : N → Bool → Data
   module _ (es : List (CompiledPattern R × N)) where
     -- of what is no object
     module _ (v : Data) (none : None ≡ as_object v) {s : Shown} (h : s ≡ shown true None [] []) where
-      no_names : match_names (λ n. t n u) v Q answers u es ≡ []
-      no_names = (λ i. flat_map (λ (e : CompiledPattern R × N). map (λ (x : Name × Data). x.0) (filter_once (λ x. is_match answers u e.0 x.0) (no_members v none i))) es) ∙ nothing_each es
-        where
-          nothing_each : (xs : List (CompiledPattern R × N)) → flat_map (λ e. let none : List Name = [] in none) xs ≡ []
-          nothing_each [] = refl
-          nothing_each (x ∷ xs) = nothing_each xs
 
       no_trees : match_trees (λ n. t n u) v Q answers u es ≡ []
       no_trees =

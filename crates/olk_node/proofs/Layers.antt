@@ -91,9 +91,6 @@ module _ {K R : Type 0} (o : Kit K R) where
       rest = none_or_one k.value.rest (λ e. rw e refl) (λ r e. rw e refl);
     }
 
-    same_place : answered.location ≡ k.value.location
-    same_place = refl
-
     declares_alike : is_some answered.properties ≡ is_some k.value.properties
     declares_alike = none_few_or_many k.value.properties (λ e. rw e refl) (λ m e. rw e refl) (λ m e. rw e refl)
 

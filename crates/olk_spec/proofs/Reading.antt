@@ -107,10 +107,6 @@ module _ {X : Type 0} (step : Schema X → X) where
   lookup_read k no_members = refl
   lookup_read k (member n d ms) = found_first (read step) (slice_cmp nat_cmp k n) d (lookup_name k (read_members step ms)) (get_member k ms) (lookup_read k ms)
 
-  parts_of : (o : Option Data) → option_to_list (option_map (read step) o) ≡ map (read step) (option_to_list o)
-  parts_of None = refl
-  parts_of (Some d) = refl
-
   present_of : (o : Option Data) → is_some (option_map (read step) o) ≡ is_some o
   present_of None = refl
   present_of (Some d) = refl

@@ -19,8 +19,6 @@ use Rattle.olk_tree.specs.Visited.{Declared, declared_as, members_declared, name
 
 module _ {N : Type 0} where
   module _ (es : List (Name × N)) where
-    member_first : (m : Name × Data) (ms : List (Name × Data)) → members_declared es (m ∷ ms) ≡ flat_map (λ n. declared_as m.0 n m.1) (option_to_list (lookup_name m.0 es)) ++ members_declared es ms
-    member_first m ms = refl
 
     module _ {left rest : List (String Global × Value)} {k : String Global} {v : Value} (n : Name) (next : left ≡ (k, v) ∷ rest) (name : n ≡ string_bytes k) where
       step : (o : Option N) → o ≡ lookup_name n es → members_declared es (listed (members_view left)) ≡ flat_map (λ x. declared_as n x (view v)) (option_to_list o)
