@@ -1,5 +1,5 @@
 //! The tables of names and patterns, and a leaf set and a matcher called through their bounds.
-ghost use Rattle.std.specs.Prelude.{◌≡◌, ◌∷◌, ◌++◌, List, true, false, IfOk, string_bytes, codes};
+ghost use Rattle.std.specs.Prelude.{◌≡◌, true, false, IfOk};
 ghost use Rattle.serde_json.specs.View.{view};
 ghost use Rattle.olk_spec.specs.Names.{is_empty};
 ghost use Rattle.olk_base.specs.Nodes.{data_of};

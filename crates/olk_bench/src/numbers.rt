@@ -1,5 +1,5 @@
 //! Whole numbers of 64 bits.
-ghost use Rattle.std.specs.Prelude.{◌≡◌, ◌≢◌, ℕ, OnOk, string_bytes, ◌++◌, option_map, ◌==◌, IsSome, IfSome, ◌↔◌, ◌≤◌, ◌%◌, unsigned_abs};
+ghost use Rattle.std.specs.Prelude.{◌≡◌, ◌≢◌, OnOk, string_bytes, ◌++◌, option_map, ◌==◌, IsSome, IfSome, ◌↔◌, ◌≤◌, ◌%◌, unsigned_abs};
 
 use serde_json::Number;
 use std::alloc::AllocError;

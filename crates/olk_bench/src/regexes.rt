@@ -1,5 +1,5 @@
 //! A plain matcher of texts.
-ghost use Rattle.std.specs.Prelude.{◌≡◌, ℕ, List, IfOk, MatchOption, true, false, string_bytes, bytes_eq, nat_eq, option_map, length, drop, chars, IsTrue, nat_lt};
+ghost use Rattle.std.specs.Prelude.{◌≡◌, IfOk, MatchOption, true, false, string_bytes, bytes_eq, nat_eq, option_map, length, drop, chars, IsTrue, nat_lt};
 ghost use Rattle.std.specs.List.{starts_with, ends_with, list_all};
 ghost use Rattle.olk_spec.specs.Names.{is_empty};
 ghost use Rattle.olk_spec.specs.Literals.{body_of};

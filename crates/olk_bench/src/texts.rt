@@ -1,8 +1,7 @@
 //! The texts of values.
-ghost use Rattle.std.specs.Prelude.{◌≡◌, ◌++◌, IfOk, string_bytes, codes};
-ghost use Rattle.serde_json.specs.Data.{string};
+ghost use Rattle.std.specs.Prelude.{◌≡◌, ◌++◌, IfOk, string_bytes};
 ghost use Rattle.serde_json.specs.View.{view, items_view, members_view};
-ghost use Rattle.serde_json.specs.Written.{compact_text, number_text, has_float, items_have_float, members_have_float};
+ghost use Rattle.serde_json.specs.Written.{number_text, has_float, items_have_float, members_have_float};
 ghost use Rattle.olk_base.specs.Nodes.{data_of};
 ghost use Rattle.olk_spec.specs.Bench.{shown};
 ghost use Rattle.olk_bench.specs.Numbers.{num_of};

@@ -21,8 +21,6 @@ module _ {a b : Asking} where
     pub answered_one : {r : Bool} {s : Accepted} → s ≡ one_if r → Asks a b q r → AsksOne a b q s
     answered_one {r} e h = subst (AsksOne a b q) (sym e) (one_said r h)
 
-  module _ (p q : Question) where
-
 -- the first of a list
 module _ {X : Type 0} (f : X → Question) (a b : Asking) where
   one_first : (x : X) (xs : List X) (s : Accepted) → AsksOne a b (f x) s → AsksFirst a b f (x ∷ xs) s

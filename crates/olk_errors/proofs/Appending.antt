@@ -1,7 +1,6 @@
 -- Lists of errors that grow.
-use Rattle.std.proofs.Common.{◌≡◌, ℕ, true, true≢false, List, [], ◌∷◌, ◌++◌, length, take, sym, ap, subst, ◌∙◌, Result, Ok, Err, OnOk, OnErr, IfErr, IsErrAnd}
+use Rattle.std.proofs.Common.{◌≡◌, List, [], ◌∷◌, ◌++◌, sym, ap, subst, ◌∙◌, Result, IfErr, IsErrAnd}
 use Rattle.std.proofs.lemmas.List.{append_assoc, append-nil, map-append}
-use Rattle.std.proofs.Math.Seq.{take-append_seam}
 use Rattle.std.proofs.lemmas.Result.{err_from_is_err_and, IfErr-weaker}
 use Rattle.olk_reports.specs.declared.error.ValidateError.{ValidateError}
 use Rattle.olk_reports.specs.declared.error.ValidateError.TheVariants.{Invalid, Memory}
@@ -41,5 +40,3 @@ left_by r x {So} {Then} h told k = let p = err_from_is_err_and r h in subst (λ 
 
 pub told_so : {T : Type 0} (r : Result T ValidateError) {So Then : Fault → Type 0} → ((f : Fault) → So f → Then f) → IfErr r (λ e. IfInvalid e So) → IfErr r (λ e. IfInvalid e Then)
 told_so r {So} {Then} k h = IfErr-weaker r (λ e. IfInvalid e So) (λ e. IfInvalid e Then) (invalid_so k) h
-
--- ---- taken back

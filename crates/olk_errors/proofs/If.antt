@@ -1,7 +1,6 @@
 -- What asking a branch comes to that is asked in one of two cases.
-use Rattle.std.proofs.Common.{◌≡◌, Bool, true, false, cond, List, [], ap}
-use Rattle.olk_spec.specs.Faults.{Fault}
-use Rattle.olk_errors.specs.Found.{Outcome, Passes}
+use Rattle.std.proofs.Common.{◌≡◌, Bool, true, false, cond, [], ap}
+use Rattle.olk_errors.specs.Found.{Outcome}
 use Rattle.olk_errors.specs.Sinks.{GoesOn}
 use Rattle.olk_errors.specs.declared.sink.ErrorSink.{ErrorSink}
 use Rattle.olk_errors.proofs.Sinks.{goes_past}

@@ -1,10 +1,9 @@
 -- One walk after another, whatever the sink wants.
-use Rattle.std.proofs.Common.{◌≡◌, ℕ, Bool, true, false, true≢false, ◌&&◌, List, [], ◌∷◌, ◌++◌, length, take, Vec, Option, Some, get_or, refl, sym, ap, subst, ◌∙◌, arith, Result, Ok, Err, OnOk, OnErr, IfErr, IsErrAnd}
+use Rattle.std.proofs.Common.{◌≡◌, Bool, true, false, true≢false, ◌&&◌, List, [], ◌∷◌, ◌++◌, Vec, Option, Some, refl, sym, ap, subst, ◌∙◌, arith, Result, IfErr, IsErrAnd}
 use Rattle.std.specs.List.{Contains}
 use Rattle.std.proofs.lemmas.List.{append_assoc, append-nil}
 use Rattle.std.proofs.lemmas.List.Elements.{Contains-append_left, Contains-append_right}
-use Rattle.std.proofs.lemmas.Result.{err_from_is_err_and, IfErr-weaker}
-use Rattle.std.proofs.Math.Seq.{take-append_seam}
+use Rattle.std.proofs.lemmas.Result.{err_from_is_err_and}
 use Rattle.std.specs.declared.alloc.Global.{Global}
 use Rattle.olk_base.specs.Lawful.{Asking}
 use Rattle.olk_spec.specs.Faults.{Fault}
@@ -16,7 +15,7 @@ use Rattle.olk_check.specs.Asks.{OnlyAsks}
 use Rattle.olk_check.proofs.Asked.{only_same, only_then}
 use Rattle.olk_errors.specs.Found.{Appends, Outcome, Passes, IsErrorOf}
 use Rattle.olk_errors.specs.Outcomes.{of_each}
-use Rattle.olk_errors.specs.Sinks.{is_first, errors_in, wants_one, held, Took, GoesOn, Takes, HasOne, IsLonger, Kept, Keeps, Stopped, StopsBy}
+use Rattle.olk_errors.specs.Sinks.{is_first, errors_in, wants_one, held, Took, GoesOn, Takes, Kept, Keeps, Stopped, StopsBy}
 use Rattle.olk_errors.specs.declared.sink.ErrorSink.{ErrorSink}
 use Rattle.olk_errors.specs.declared.sink.Held.TheVariants.{First, All}
 use Rattle.olk_errors.specs.declared.sink.Stop.{Stop}

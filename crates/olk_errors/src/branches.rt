@@ -1,5 +1,5 @@
 //! Walks over nodes: the errors that they find.
-ghost use Rattle.std.specs.Prelude.{◌≡◌, ◌∷◌, [], map, IfOk, OnOk, IfErr};
+ghost use Rattle.std.specs.Prelude.{◌∷◌, [], map, IfOk, OnOk, IfErr};
 ghost use Rattle.olk_reports.proofs.Errors.{context_faults};
 ghost use Rattle.olk_base.specs.Nodes.{data_of};
 ghost use Rattle.olk_paths.specs.Trails.{path_at};

@@ -1,5 +1,5 @@
 //! `properties`: its errors.
-ghost use Rattle.std.specs.Prelude.{◌≡◌, OnOk, IfErr};
+ghost use Rattle.std.specs.Prelude.{OnOk, IfErr};
 ghost use Rattle.std.specs.List.{zip};
 ghost use Rattle.serde_json.specs.View.{view};
 ghost use Rattle.olk_paths.specs.Paths.{one_below};

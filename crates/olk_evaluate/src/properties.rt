@@ -1,10 +1,9 @@
 //! `properties`: what it shows.
-ghost use Rattle.std.specs.Prelude.{◌≡◌, ◌++◌, ◌∷◌, [], IfOk, OnOk};
+ghost use Rattle.std.specs.Prelude.{◌≡◌, [], IfOk, OnOk};
 ghost use Rattle.std.specs.List.{list_all, zip};
 ghost use Rattle.serde_json.specs.View.{view, members_view};
 ghost use Rattle.olk_spec.specs.Schemas.{listed};
 ghost use Rattle.olk_spec.specs.Tree.{is_valid};
-ghost use Rattle.olk_reports.specs.Evaluations.{tree_of};
 ghost use Rattle.olk_paths.specs.Paths.{one_below};
 ghost use Rattle.olk_tree.specs.Properties.{properties_mean};
 ghost use Rattle.olk_tree.specs.Visited.{declared_as, members_declared, object_of};

@@ -1,5 +1,5 @@
 //! `if`, `then` and `else`: what is compiled of their members of a schema object.
-ghost use Rattle.std.specs.Prelude.{◌≡◌, true, false, not, is_none, is_some, map, codes, IfOk, IfErr};
+ghost use Rattle.std.specs.Prelude.{◌≡◌, true, false, not, is_none, is_some, map, codes, IfOk};
 ghost use Rattle.std.specs.Option.{IfSome, IfNone};
 ghost use Rattle.serde_json.specs.View.{members_view, view};
 ghost use Rattle.olk_spec.specs.Names.{lookup_name};

@@ -1,5 +1,5 @@
 //! `if`, `then` and `else`: making their validators.
-ghost use Rattle.std.specs.Prelude.{◌≡◌, [], None, is_some, option_to_list};
+ghost use Rattle.std.specs.Prelude.{◌≡◌, None, is_some, option_to_list};
 ghost use Rattle.std.specs.Option.{IfSome, IfNone};
 ghost use Rattle.olk_base.specs.Kit.{kit};
 ghost use Rattle.olk_make.specs.Forms.{IsFormOfIf, IsIf};

@@ -240,6 +240,3 @@ module _ {X : Type 0} (step : Schema X → X) (d : Data) (k : Name) where
     dependencies_places = ap (each k)
         (ap (filter_once (λ e. not (is_array e.1.schema))) (entries_read step d)
         ∙ filter_once-map (λ e. not (is_array e.1.schema)) (λ e. not (is_array e.1)) (entry step) (λ e. refl) (members d))
-
-module _ (W : World) (ms : Members) (d : Data) where
-  module _ (P : Path) where

@@ -162,5 +162,3 @@ module _ (W : World) (d : Data) (k : Name) where
       total_cost-flat_map (λ e. map (λ c. (place (cost_step W) c.1, k ∷ e.0 ∷ c.0 ∷ [])) (members e.1)) (λ r. r.0.answer) (members d)
       ∙ (λ i. total_cost (λ e. total_cost-map (λ (r : Sub Cost × List Name). r.0.answer) (λ c. cost W c.1) (λ c. (place (cost_step W) c.1, k ∷ e.0 ∷ c.0 ∷ []))
           (λ c. refl) (members e.1) i) (members d))
-
-module _ (W : World) (ms : Members) (d : Data) where

@@ -1,16 +1,14 @@
 -- What `additionalProperties` shows where it restricts other members, and that what it takes over shows nothing.
-use Rattle.std.specs.Prelude.{◌≡◌, Bool, true, false, not, cond, ◌&&◌, ◌||◌, List, [], ◌∷◌, ◌++◌, map, codes, Option, Some, None, is_some, option_to_list, bytes_eq}
+use Rattle.std.specs.Prelude.{◌≡◌, Bool, true, false, not, cond, ◌&&◌, ◌||◌, List, [], ◌∷◌, ◌++◌, map, codes, Option, Some, None, is_some, option_to_list}
 use Rattle.std.specs.List.{flat_map}
-use Rattle.std.proofs.Common.{refl, sym, ◌∙◌, ap, subst}
-use Rattle.std.proofs.lemmas.List.{append-nil}
+use Rattle.std.proofs.Common.{refl, sym, ◌∙◌, ap}
 use Rattle.std.proofs.Math.Bool.{and-true}
 use mathlib.Core.Bool.{true≢false}
 use Rattle.serde_json.specs.Data.{Data, Members}
 use Rattle.olk_spec.specs.Names.{Name, Path, ◌//◌, lookup_name, put_if, is_among, is_empty}
 use Rattle.olk_spec.specs.World.{World}
 use Rattle.olk_spec.specs.Vocabulary.{properties, pattern_properties, additional_properties, required}
-use Rattle.olk_spec.specs.Schemas.{Keywords, read, read_members, listed, members, is_object, texts}
-use Rattle.olk_spec.specs.Malformed.{has_repeat}
+use Rattle.olk_spec.specs.Schemas.{Keywords, read, read_members, members, is_object, texts}
 use Rattle.olk_spec.specs.Meanings.{Meaning, Subschema}
 use Rattle.olk_spec.specs.Meaning.{tree, meaning, meaning_step}
 use Rattle.olk_spec.specs.Accepts.{missing}
@@ -21,7 +19,6 @@ use Rattle.olk_spec.proofs.Each.{Each, Each-implies}
 use Rattle.olk_spec.proofs.Maps.{map-map}
 use Rattle.olk_spec.proofs.Truth.{is_among-filter_once, Each-among}
 use Rattle.olk_spec.proofs.Reading.{entry, whole_read}
-use Rattle.olk_spec.proofs.Walks.{Distinct-from}
 use Rattle.olk_meaning.specs.Conditions.{is_restricted}
 use Rattle.olk_meaning.specs.Fused.{fused_one}
 use Rattle.olk_meaning.specs.Members.{member_child}
@@ -30,7 +27,6 @@ use Rattle.olk_meaning.proofs.AdditionalProperties.{own_others}
 use Rattle.olk_meaning.proofs.Beside.{entries_beside, matching_read, additional_read}
 use Rattle.olk_meaning.proofs.Children.{entry_shown}
 use Rattle.olk_meaning.proofs.Conditions.{present, restricted_read}
-use Rattle.olk_meaning.proofs.Heads.{names_of}
 use Rattle.olk_meaning.proofs.OneFused.{fused_reads, fused_names_read}
 
 -- ---- lists of trees
@@ -132,10 +128,3 @@ module _ (W : World) (ms : Members) (u : Bool) (v : Data) (P Q : Path) where
         by (Some n) q f =
             ap (λ b. put_if (not b && not (fuses_two S)) (erring (P // codes "required") Q
                 (required_faults (texts (read (meaning_step W u) d).whole.schema) v (P // codes "required") Q)) []) (fused_reads (meaning_step W u) ms n q)
-
--- ---- all that it stands for
-
-module _ {X Y : Type 0} (f : X → List Y) (s t : X → Bool) (kept : (x : X) → s x ≡ true → t x ≡ true) (empty : (x : X) → t x ≡ true → s x ≡ false → f x ≡ []) where
-
-module _ (W : World) (ms : Members) (d : Data) (distinct : has_repeat (names_of (listed ms)) ≡ false) (there : lookup_name (codes "additionalProperties") (listed ms) ≡ Some d)
-    (restricted : is_restricted ms ≡ true) (u : Bool) (v : Data) (P Q : Path) where

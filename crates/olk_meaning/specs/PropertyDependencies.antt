@@ -1,6 +1,6 @@
 -- Which schemas `propertyDependencies` chooses for a value, over its raw data.
-use Rattle.std.specs.Prelude.{Bool, List, map}
-use Rattle.std.specs.List.{list_all, flat_map}
+use Rattle.std.specs.Prelude.{List, map}
+use Rattle.std.specs.List.{flat_map}
 use Rattle.serde_json.specs.Data.{Data}
 use Rattle.olk_spec.specs.Names.{Name}
 use Rattle.olk_spec.specs.Schemas.{at, as_text}

@@ -1,6 +1,6 @@
 //! What a validator shows of a value: results, and nodes that have their places.
-ghost use Rattle.std.specs.Prelude.{◌≡◌, ◌++◌, ◌∷◌, [], ℕ, List, IfOk, OnOk, OnErr, Some, None, true, false, string_bytes, map, option_map};
-ghost use Rattle.olk_spec.specs.Tree.{trees_from, errors, annotations, is_valid, result_node};
+ghost use Rattle.std.specs.Prelude.{◌≡◌, OnOk, OnErr, Some, None, true, false, string_bytes, map, option_map};
+ghost use Rattle.olk_spec.specs.Tree.{errors, is_valid};
 ghost use Rattle.std.specs.List.{list_all};
 ghost use Rattle.olk_reports.specs.Evaluations.{tree_of};
 
@@ -71,7 +71,7 @@ impl Drop for EvaluationNode<'_> {
 }
 
 impl<'a> EvaluationResult<'a> {
-    ghost use Rattle.olk_reports.specs.Evaluations.{Shown, shown_of, tree_of, described_of, nothing_shown, annotated, errored, with_children, called_invalid};
+    ghost use Rattle.olk_reports.specs.Evaluations.{shown_of, tree_of, described_of, nothing_shown, annotated, errored, with_children, called_invalid};
 
     /// Valid, with nothing to show.
     pub fn valid_empty(alloc: Global) -> Self

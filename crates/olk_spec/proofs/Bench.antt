@@ -1,14 +1,10 @@
 -- The bench's search for a text in a name, against std's.
-use Rattle.std.proofs.Common.{◌≡◌, ℕ, Bool, true, nat_eq, [], ◌∷◌, ◌++◌, length, drop, refl, ap, sym, inl, inr, arith, None}
+use Rattle.std.proofs.Common.{◌≡◌, ℕ, true, nat_eq, [], ◌∷◌, length, drop, refl, ap, sym, inl, inr}
 use Rattle.std.proofs.lemmas.Bool.{true≢false, or_cases}
-use Rattle.std.proofs.Math.Bool.{or-true}
 use Rattle.std.proofs.lemmas.Slice.Eq.{starts_is}
 use Rattle.std.proofs.lemmas.Bool.Decides.{Decides-eqb}
 use Rattle.std.specs.List.{starts_with}
-use Rattle.std.proofs.lemmas.Str.Pattern.{contains_text}
-use Rattle.std.specs.Bool.{MatchBool}
 use Rattle.std.specs.Str.Iter.{HasSubslice}
-use Rattle.std.specs.Str.Pattern.{FindsText, HasMatch}
 use Rattle.olk_spec.specs.Names.{Text}
 use Rattle.olk_spec.specs.Bench.{is_in}
 

@@ -1,15 +1,11 @@
 -- A value that is no object passes the keywords of objects.
-use Rattle.std.specs.Prelude.{◌≡◌, Bool, true, false, ◌&&◌, List, [], ◌∷◌, codes}
+use Rattle.std.specs.Prelude.{◌≡◌, Bool, true, false, List, [], ◌∷◌, codes}
 use Rattle.std.specs.List.{flat_map}
-use Rattle.std.proofs.Common.{refl, sym}
+use Rattle.std.proofs.Common.{refl}
 use Rattle.std.proofs.Math.Bool.{or-true}
 use Rattle.serde_json.specs.Data.{Data, null, boolean, number, string, array, object}
-use Rattle.olk_spec.specs.Names.{Name, Path, filter_once}
-use Rattle.olk_spec.specs.Schemas.{Keywords, Part, members, is_object}
-use Rattle.olk_spec.specs.World.{World}
-use Rattle.olk_spec.specs.Vocabulary.{Keyword}
-use Rattle.olk_spec.specs.Meanings.{Meaning}
-use Rattle.olk_spec.specs.Faults.{Kind}
+use Rattle.olk_spec.specs.Names.{filter_once}
+use Rattle.olk_spec.specs.Schemas.{members, is_object}
 use Rattle.olk_spec.specs.Meaning.{meaning}
 use Rattle.olk_spec.specs.Laws.{Passes}
 use mathlib.Core.Bool.{true≢false}
@@ -65,7 +61,3 @@ passes_dependencies W u d v h = simp (no_members v h, filter_once-none) refl
 pub passes_property_dependencies : Passes (codes "propertyDependencies")
 unfolding meaning
 passes_property_dependencies W u d v h = simp (no_members v h, flat_map-none) refl
-
--- ---- the same beside other keywords: nothing is asked and nothing is found
-
-module _ (W : World) (u : Bool) (S : Keywords Meaning) (k : Name) (p : Part Meaning) (v : Data) (h : is_object v ≡ false) where

@@ -1,4 +1,4 @@
-use Rattle.std.proofs.Common.{subst, ◌∙◌}
+use Rattle.std.proofs.Common.{subst}
 use Rattle.serde_json.specs.View.{members_view}
 use Rattle.std.specs.List.{zip}
 use Rattle.olk_tree.specs.Ascending.{Ascend}

@@ -1,4 +1,4 @@
-use Rattle.std.proofs.Common.{map, not, refl, sym, ap, subst}
+use Rattle.std.proofs.Common.{map, not, sym, ap, subst}
 use Rattle.olk_base.specs.Nodes.{data_of}
 use Rattle.olk_spec.specs.Faults.{AnyOf, context}
 use Rattle.olk_paths.specs.Trails.{path_at}
