@@ -1,7 +1,8 @@
 //! Validation by the object and logic keywords of JSON Schema: what a user of the library calls.
 //!
 //! Stands on `olk_validator`, which has `Validator`, and on `olk_keywords`, the modules of the
-//! keywords, which no request goes through. Tested by `object_logic_tests`; `olk_example` is a caller.
+//! keywords, which no request goes through. Tested by `object_logic_tests`; `olk_example` is a
+//! caller.
 //!
 //! `AllOfValidator` and its like hold nodes of the type `SchemaNode`; `AllOf` and its like are the
 //! same over nodes of any type. `PropertiesMap` holds `SchemaNode`s too, and the one over nodes of

@@ -22,7 +22,13 @@ impl Model for Meter {
 
     ghost Value = { Counts };
 
-    ghost view = { λ m. record { compiled = m.compiled; leaves = m.leaves; made = m.made; asked = m.asked; unfinished = m.unfinished } };
+    ghost view = { λ m. record {
+      compiled = m.compiled;
+      leaves = m.leaves;
+      made = m.made;
+      asked = m.asked;
+      unfinished = m.unfinished;
+    } };
 }
 
 impl Meter {

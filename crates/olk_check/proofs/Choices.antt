@@ -47,7 +47,7 @@ module _ {R N : Type 0} (w : Spoken R N) where
     none_left i (e ∷ es) =
         let more : Question = patterns_from true (i + 1) es in
         ap (λ s. conditional (known_or_asked s (match_question w.answers w.costs e.0 w.name)) (both (w.means e.1 w.value) more) more) (blank i)
-            ∙ ap (conditional (always false) (both (w.means e.1 w.value) more)) (none_left (i + 1) es)
+        ∙ ap (conditional (always false) (both (w.means e.1 w.value) more)) (none_left (i + 1) es)
 
     pub nothing_matches : {a : Asking} {spoken : Bool} → spoken ≡ true → Asks a a (patterns_from spoken 0 w.sides.patterns) true
     nothing_matches {a} {spoken} e = subst (λ b. Asks a a (patterns_from b 0 w.sides.patterns) true) (sym e) (subst (λ q. Asks a a q true) (sym (none_left 0 w.sides.patterns)) (unasked a true))

@@ -28,7 +28,6 @@ pub record LeftAndHeld {Y X : Type 0} (f : Y → Question) (h : X → Question) 
   pub goes_on : (t : Question) (end : Asking) (result : Bool) → Asks b end (both (both (every f rest) (every h held)) t) result → Asks a end (both (every f all) t) result
 
 module _ {Y X : Type 0} {f : Y → Question} {h : X → Question} {all : List Y} where
-
   module _ {left : List Y} {held : List X} {a b : Asking} (w : LeftAndHeld f h all left held a b) where
     -- the other question decides alone, or what was put off does
     pub held_refused : {r p : Bool} → r ≡ p → r ≡ false → Asks a b (both (every f all) (always p)) r
@@ -48,7 +47,7 @@ module _ {Y X : Type 0} {f : Y → Question} {h : X → Question} {all : List Y}
       held_more {now} x same is = record {
         goes_on = λ t c r l. at_next t (settles (both (both (every f (y ∷ rest)) (every h held)) t) r (subst (λ xs. Asks b c (both (both (every f rest) (every h xs)) t) r) is l)
             (λ u e. e ∙ ap (λ z. z && t.accepts u) (ap (λ z. R u && z) (pushed_accepts h x held u) ∙ and_around (R u) ((h x).accepts u) (H u)
-                ∙ ap (λ z. z && H u) (and_comm (R u) ((h x).accepts u)) ∙ ap (λ q. (q.accepts u && R u) && H u) same))
+            ∙ ap (λ z. z && H u) (and_comm (R u) ((h x).accepts u)) ∙ ap (λ q. (q.accepts u && R u) && H u) same))
             (λ u e. let p = pushed_asks h x held u in let s = ap (λ q. q.asks u) same in omega arith));
       }
         where
@@ -63,7 +62,7 @@ module _ {Y X : Type 0} {f : Y → Question} {h : X → Question} {all : List Y}
         held_go_on q = record {
           goes_on = λ t d r l. at_next t (settles (both (both (every f (y ∷ rest)) (every h held)) t) r (both_go_on q l)
               (λ u e. e ∙ and_around ((f y).accepts u) ((every f rest).accepts u && (every h held).accepts u) (t.accepts u) ∙ ap (λ z. z && t.accepts u)
-                  (and_around ((f y).accepts u) ((every f rest).accepts u) ((every h held).accepts u)))
+              (and_around ((f y).accepts u) ((every f rest).accepts u) ((every h held).accepts u)))
               (λ u e. omega arith));
         }
 

@@ -28,14 +28,14 @@ module _ {names : List (String Global)} {ms : Members} where
     lacks_more {x} {ys} {n} h name e same is lt = record {
       as_left =
           h.as_left ∙ ap (λ l. is_empty (missing (texts_of l) (object ms))) (left_at same is lt)
-              ∙ ap (λ b. is_empty (put_if (not b) (string_bytes x) (missing (texts_of (drop (i + 1) names)) (object ms)))) (ap (λ k. has k (object ms)) (sym name) ∙ sym e);
+          ∙ ap (λ b. is_empty (put_if (not b) (string_bytes x) (missing (texts_of (drop (i + 1) names)) (object ms)))) (ap (λ k. has k (object ms)) (sym name) ∙ sym e);
     }
 
     pub lacks_stop : {x : String Global} {ys : List (String Global)} {n : Name} → Lacks names i ms → n ≡ string_bytes x → false ≡ has n (object ms)
         → ys ≡ names → x ≡ get_or ys i x → i < length ys → false ≡ is_empty (missing (texts_of names) (object ms))
     lacks_stop {x} {ys} {n} h name e same is lt =
         sym (h.as_left ∙ ap (λ l. is_empty (missing (texts_of l) (object ms))) (left_at same is lt)
-            ∙ ap (λ b. is_empty (put_if (not b) (string_bytes x) (missing (texts_of (drop (i + 1) names)) (object ms)))) (ap (λ k. has k (object ms)) (sym name) ∙ sym e))
+        ∙ ap (λ b. is_empty (put_if (not b) (string_bytes x) (missing (texts_of (drop (i + 1) names)) (object ms)))) (ap (λ k. has k (object ms)) (sym name) ∙ sym e))
 
 -- of one name, and of two
 one_there : (p : Bool) (n : Name) → p ≡ is_empty (put_if (not p) n [])

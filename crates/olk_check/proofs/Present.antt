@@ -18,14 +18,13 @@ first_or_later n x Equal r = refl
 first_or_later n x Greater r = refl
 
 module _ {n : Name} {all : List (Name × Data)} where
-
   module _ {rest : List (Name × Data)} {met : Bool} where
     pub sought_on : {k : Name} {x : Data} {more : List (Name × Data)} (now_met : Bool) → Sought n all rest met → rest ≡ (k, x) ∷ more → now_met ≡ (bytes_eq k n || met) → Sought n all more now_met
     sought_on {k} {x} {more} now_met h next e = record {
       as_left =
           h.as_left ∙ ap (λ l. met || is_some (lookup_name n l)) next ∙ ap (λ b. met || b)
-              (first_or_later n x (slice_cmp nat_cmp n k) (lookup_name n more) ∙ ap (λ b. b || is_some (lookup_name n more)) (sym (same_name k n)))
-              ∙ or_in_turn met (bytes_eq k n) (is_some (lookup_name n more)) ∙ ap (λ b. b || is_some (lookup_name n more)) (sym e);
+          (first_or_later n x (slice_cmp nat_cmp n k) (lookup_name n more) ∙ ap (λ b. b || is_some (lookup_name n more)) (sym (same_name k n)))
+          ∙ or_in_turn met (bytes_eq k n) (is_some (lookup_name n more)) ∙ ap (λ b. b || is_some (lookup_name n more)) (sym e);
     }
 
     pub sought_end : Sought n all rest met → rest ≡ [] → met ≡ is_some (lookup_name n all)

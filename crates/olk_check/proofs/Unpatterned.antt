@@ -32,7 +32,7 @@ module _ {N : Type 0} (m : N → Data → Question) where
       → (a : Asking) → Asks a a (every (λ x. declared_or_rest m rest x.1 (lookup_name x.0 es)) ms) false
   crowded rest none es ms r s l a = subst (λ o. Asks a a (every (λ x. declared_or_rest m o x.1 (lookup_name x.0 es)) ms) false) none
       (settles (every (λ x. declared_or_rest m None x.1 (lookup_name x.0 es)) ms) false (unasked a false)
-          (λ u e. sym (one_too_many (λ o x. declared_or_rest m None x o) u (λ x. refl) es ms r s l)) (λ u e. omega arith))
+      (λ u e. sym (one_too_many (λ o x. declared_or_rest m None x o) u (λ x. refl) es ms r s l)) (λ u e. omega arith))
 
   module _ (rest : Option N) (x : Data) {o : Option N} {a b : Asking} {r : Bool} where
     -- the question about a name that was found, and about one that was not

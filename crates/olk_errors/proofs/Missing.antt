@@ -74,8 +74,11 @@ module _ (ms : Members) (v : Data) (is : v ≡ object ms) (n : Name) {found : Bo
 
     pub lacked_own : found ≡ false → {k : Kind} → k ≡ Required n → IsOwn (fault k v Q P) (of_names (n ∷ []) v P Q)
     lacked_own f {k} kind =
-        subst (λ ns. IsOwn (fault k v Q P) (record { accepts = is_empty ns; first = head_of (map (λ m. fault (Required m) v Q P) ns);
-            all = map (λ m. fault (Required m) v Q P) ns })) (sym (not_there f))
+        subst (λ ns. IsOwn (fault k v Q P) (record {
+          accepts = is_empty ns;
+          first = head_of (map (λ m. fault (Required m) v Q P) ns);
+          all = map (λ m. fault (Required m) v Q P) ns;
+        })) (sym (not_there f))
         (is_own (Required n) v P Q {case = true} refl refl refl (like_at kind itself refl refl))
 
 module _ (v : Data) (P Q : Path) (names : List (String Global)) where
@@ -102,8 +105,11 @@ module _ (v : Data) (P Q : Path) (name : String Global) where
 
   pub same_one : of_names (string_bytes name ∷ []) v P Q ≡ of_one (is_there v) true (lacked v P Q) (lacked v P Q) name
   same_one =
-      λ i. record { accepts = is_empty (missing (string_bytes name ∷ []) v); first = one_first (is_object v && not (has (string_bytes name) v)) i;
-          all = required_faults (string_bytes name ∷ []) v P Q }
+      λ i. record {
+        accepts = is_empty (missing (string_bytes name ∷ []) v);
+        first = one_first (is_object v && not (has (string_bytes name) v)) i;
+        all = required_faults (string_bytes name ∷ []) v P Q;
+      }
 
 -- ---- of what is no object
 

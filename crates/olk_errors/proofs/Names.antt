@@ -36,8 +36,11 @@ module _ (v : Data) (Q : Path) where
     verdict = told.verdict;
     of_first = record { one = wrapped v Q told.of_first.one; among = contains_wrapped o.first told.of_first.one told.of_first.among; like = like_wrapped v Q told.of_first.like };
     of_all =
-        record { whole = wrapped v Q told.of_all.whole; among = contains_wrapped o.all told.of_all.whole told.of_all.among;
-            like = subst (IsLike (wrapped v Q g)) (cut_wrapped told.of_all.whole) (like_wrapped v Q told.of_all.like) };
+        record {
+          whole = wrapped v Q told.of_all.whole;
+          among = contains_wrapped o.all told.of_all.whole told.of_all.among;
+          like = subst (IsLike (wrapped v Q g)) (cut_wrapped told.of_all.whole) (like_wrapped v Q told.of_all.like);
+        };
   })
 
   -- the errors that were found, each told of the object

@@ -121,7 +121,6 @@ abbrev pub of_unexpected : {R N : Type 0} → AdditionalProperties R N → List 
 of_unexpected k xs v Q = record { accepts = is_empty xs; first = unexpected_faults (has_neighbours k) xs v k.location Q; all = unexpected_faults (has_neighbours k) xs v k.location Q }
 
 module _ {R N : Type 0} (answers : R → Name → Says) (m : N → Data → Question) (s r : N → Bool → Data → Path → List Fault) (u : Bool) (k : AdditionalProperties R N) where
-
   -- the same, as it is meant of each value
   abbrev pub of_asked_members : (R → Bool) → Data → Path → Outcome
   of_asked_members costs v Q = record { accepts = (additional_means answers costs m (sides_of k) v).accepts u; first = additional_first answers (sides_of k) u v Q (has_neighbours k) k.location s; all = additional_report answers (sides_of k) u v Q (has_neighbours k) k.location r }

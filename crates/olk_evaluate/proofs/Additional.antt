@@ -119,9 +119,9 @@ module _ {R N : Type 0} (answers : R → Name → Says) (t : N → Bool → Data
     members_accepted (x ∷ xs) =
         (λ i. none_more (is_unexpected answers S u x.0) i && list_all-append (λ w. w.1) (nodes_wanted t m u Q x.0 x.1 (nodes_at x)) (members_found answers t m u Q k xs).wanted i)
         ∙ and_middle (not (is_unexpected answers S u x.0)) (is_empty (filter_once (λ y. is_unexpected answers S u y.0) xs))
-            (all_wanted (nodes_wanted t m u Q x.0 x.1 (nodes_at x))) (all_wanted (members_found answers t m u Q k xs).wanted)
+        (all_wanted (nodes_wanted t m u Q x.0 x.1 (nodes_at x))) (all_wanted (members_found answers t m u Q k xs).wanted)
         ∙ (λ i. (and_comm (not (is_unexpected answers S u x.0)) (all_wanted (nodes_wanted t m u Q x.0 x.1 (nodes_at x)))
-            ∙ ap (λ b. b && not (is_unexpected answers S u x.0)) (all_accept x.0 x.1 (nodes_at x)) ∙ sym (member_accepted answers costs m S x.0 x.1 u)) i && members_accepted xs i)
+        ∙ ap (λ b. b && not (is_unexpected answers S u x.0)) (all_accept x.0 x.1 (nodes_at x)) ∙ sym (member_accepted answers costs m S x.0 x.1 u)) i && members_accepted xs i)
       where
         none_more : (b : Bool) → is_empty (put_if b x (filter_once (λ y. is_unexpected answers S u y.0) xs)) ≡ (not b && is_empty (filter_once (λ y. is_unexpected answers S u y.0) xs))
         none_more true = refl
@@ -135,7 +135,7 @@ module _ {R N : Type 0} (answers : R → Name → Says) (t : N → Bool → Data
     where
       by : (ps : Option (PropertiesMap N)) (qs : Option (Vec (CompiledPattern R × N) Global)) → (is_some ps || is_some qs) ≡ false
           → (is_none (at_name (record { declared = mapped_places ps; patterns = patterns_in qs; known = S.known; rest = k.rest }) n)
-              && is_empty (matching_from answers S (at_name S n) n u 0 (patterns_in qs))) ≡ true
+          && is_empty (matching_from answers S (at_name S n) n u 0 (patterns_in qs))) ≡ true
       by None None e = refl
       by None (Some q) e = cc
       by (Some p) None e = cc
@@ -241,7 +241,7 @@ module _ {R N : Type 0} (answers : R → Name → Says) (t : N → Bool → Data
         children_are : AreShown all_wants (trees_of all)
         children_are =
             subst (AreShown all_wants) (sym (ap trees_of parts ∙ map-append tree_of (c.children.items ++ matches) missing_child
-                ∙ ap (λ l. l ++ trees_of missing_child) (map-append tree_of c.children.items matches)))
+            ∙ ap (λ l. l ++ trees_of missing_child) (map-append tree_of c.children.items matches)))
             (shown_append (members_wanted ++ accepted matches_here) (refused lacking) (trees_of c.children.items ++ trees_of matches) (trees_of missing_child)
             (shown_append members_wanted (accepted matches_here) (trees_of c.children.items) (trees_of matches) collects.shown
             (subst (AreShown (accepted matches_here)) (sym matches_shown_here) (matches_are_shown (names_of c.matched.items) k.patterns_location Q))) lacks)
@@ -260,7 +260,7 @@ module _ {R N : Type 0} (answers : R → Name → Says) (t : N → Bool → Data
         object_verdict costs distinct =
             complete_verdict k.location Q annotation_here (faults_here k.location) all_wants (trees_of all) same (completes k.location Q) children_are
             ∙ (λ i. (ap is_empty (faults_are k.location) ∙ faults_emptiness (has_neighbours k) (filter_once (λ x. is_unexpected answers S u x.0) (listed ms))
-                (object ms) k.location Q) i && wants_verdict i)
+            (object ms) k.location Q) i && wants_verdict i)
             ∙ sym (and_assoc (is_empty (filter_once (λ x. is_unexpected answers S u x.0) (listed ms))) (all_wanted members_wanted) (is_empty (missing names (object ms))))
             ∙ ap (λ b. b && is_empty (missing names (object ms))) (members_accepted costs (listed ms) ∙ ap (λ q. q.accepts u) (each_is_all answers costs m S (object ms) distinct))
 
@@ -270,13 +270,13 @@ module _ {R N : Type 0} (answers : R → Name → Says) (t : N → Bool → Data
         pub additional_like : IsLikeTree (tree_of_all v) (node_at k.location Q r)
         additional_like =
             subst (λ w. AreShown (refused (lacking_trees names w (object ms) place Q)) (trees_of missing_child) → Completes k (names_of c.additional.items) (listed ms) w s r
-                → IsLikeTree (tree_of_all w) (node_at k.location Q r)) (object_is v ms is)
+            → IsLikeTree (tree_of_all w) (node_at k.location Q r)) (object_is v ms is)
             (λ l d. object_like l same d) lacks completes
 
         pub additional_verdict : (costs : R → Bool) → repeats (object ms) ≡ false → is_valid (node_at k.location Q r) ≡ ((additional_means answers costs m S v).accepts u && is_empty (missing names v))
         additional_verdict costs distinct =
             subst (λ w. AreShown (refused (lacking_trees names w (object ms) place Q)) (trees_of missing_child) → Completes k (names_of c.additional.items) (listed ms) w s r
-                → is_valid (node_at k.location Q r) ≡ ((additional_means answers costs m S w).accepts u && is_empty (missing names w))) (object_is v ms is)
+            → is_valid (node_at k.location Q r) ≡ ((additional_means answers costs m S w).accepts u && is_empty (missing names w))) (object_is v ms is)
             (λ l d. object_verdict l same d costs distinct) lacks completes
 
 -- of what is no object

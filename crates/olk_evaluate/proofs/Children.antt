@@ -172,12 +172,12 @@ module _ {N : Type 0} (t : N → Bool → Data → Path → Tree) (m : N → Dat
     pub names_like : IsLikeTree (plain P Q (name_trees (λ k. t k u) v Q n)) (node_at P Q s)
     names_like =
         plain_like P Q (names_wanted t m u n Q (members w)) (name_trees (λ k. t k u) v Q n)
-            (map-map (λ x. x.0) (λ x. wanted t m u n (string x.0) Q) (members w) ∙ ap (λ d. name_trees (λ k. t k u) d Q n) same) h e
+        (map-map (λ x. x.0) (λ x. wanted t m u n (string x.0) Q) (members w) ∙ ap (λ d. name_trees (λ k. t k u) d Q n) same) h e
 
     pub names_verdict : is_valid (node_at P Q s) ≡ (every (λ x. m n (string x.0)) (members v)).accepts u
     names_verdict =
         plain_verdict P Q (names_wanted t m u n Q (members w)) ((every (λ x. m n (string x.0)) (members v)).accepts u)
-            (names_verdicts (members w) ∙ ap (λ d. (every (λ x. m n (string x.0)) (members d)).accepts u) same) h e
+        (names_verdicts (members w) ∙ ap (λ d. (every (λ x. m n (string x.0)) (members d)).accepts u) same) h e
 
   -- where there is no member
   pub no_name_shown : (v : Data) → members v ≡ [] → AreShown (names_wanted t m u n Q (members v)) []

@@ -28,8 +28,13 @@ both_found f g = record { wanted = f.wanted ++ g.wanted; additional = f.addition
 
 pub collects_nothing : (a : Collected) → CollectsMore nothing_found a a
 collects_nothing a =
-    record { additional = sym (append-nil (names_of a.additional.items)); matched = sym (append-nil (names_of a.matched.items)); added = [];
-        children = sym (append-nil (trees_of a.children.items)); shown = tt }
+    record {
+      additional = sym (append-nil (names_of a.additional.items));
+      matched = sym (append-nil (names_of a.matched.items));
+      added = [];
+      children = sym (append-nil (trees_of a.children.items));
+      shown = tt;
+    }
 
 -- one more list behind two
 behind : {X : Type 0} {all before : List X} (xs ys zs : List X) → before ≡ xs ++ ys → all ≡ before ++ zs → all ≡ xs ++ (ys ++ zs)
@@ -49,8 +54,14 @@ pub collects_child : {w : Wanted} {ns ms : List Name} {a b : Collected}
     → names_of b.additional.items ≡ names_of a.additional.items ++ ns → names_of b.matched.items ≡ names_of a.matched.items ++ ms → ShowsMore w a.children.items b.children.items
     → CollectsMore (record { wanted = w ∷ []; additional = ns; matched = ms }) a b
 collects_child {a = a} additional matched more =
-    record { additional = additional; matched = matched; added = tree_of more.child ∷ []; children = ap trees_of more.added
-        ∙ map-append tree_of a.children.items (more.child ∷ []); shown = (more.shown, tt) }
+    record {
+      additional = additional;
+      matched = matched;
+      added = tree_of more.child ∷ [];
+      children = ap trees_of more.added
+          ∙ map-append tree_of a.children.items (more.child ∷ []);
+      shown = (more.shown, tt);
+    }
 
 -- ---- what is left adds up to all
 

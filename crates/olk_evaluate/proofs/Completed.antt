@@ -48,7 +48,7 @@ module _ (P Q : Path) (A : Option (List Name)) (fs : List Fault) (ws : List Want
   complete_like ts trees = subst (λ x. IsLikeTree (result P Q A false (described fs) ts) (node_at P Q x)) (sym result_is)
       (subst (λ us. IsLikeTree (result P Q A false (described fs) us) (node_at P Q all_shown)) trees
       (like_result P Q (is_empty (described fs) && true && list_all is_valid (trees_wanted ws)) (is_empty h.own && list_all is_valid cs) A A
-          (described fs) h.own (trees_from (trees_wanted ws)) (trees_from cs)
+      (described fs) h.own (trees_from (trees_wanted ws)) (trees_from cs)
       (λ i. (told_emptiness (described fs) h.own h.told ∙ sym (and-true (is_empty (described fs)))) i && all_wanted_valid ws cs children i)
       refl h.told (like_children ws cs children)))
 

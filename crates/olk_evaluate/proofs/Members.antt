@@ -178,7 +178,7 @@ module _ {N : Type 0} (t : N → Bool → Data → Path → Tree) (m : N → Dat
       pub beside_like : {s : Shown} → Some ms ≡ as_object v → HasMet (wanted_at t m u Q) (members_declared es (listed ms)) met → AreShown lacking (trees_of more)
           → b.names.items ≡ met.names.items → b.children.items ≡ met.children.items ++ more
           → s ≡ shown (list_all is_valid (trees_of b.children.items)) (Some (names_in b)) [] (trees_of b.children.items)
-              → IsLikeTree (properties_tree tree_at v Q P es (missing_trees ns v required Q)) (node_at P Q s)
+          → IsLikeTree (properties_tree tree_at v Q P es (missing_trees ns v required Q)) (node_at P Q s)
       beside_like {s} o h k names children e =
           subst (λ w. IsLikeTree (properties_tree tree_at w Q P es (lacking_trees ns v w required Q)) (node_at P Q s)) (object_is v ms o)
           (subst (λ ts. IsLikeTree (properties_tree tree_at (object ms) Q P es ts) (node_at P Q s)) (refused_trees (lacking_trees ns v (object ms) required Q))
@@ -188,7 +188,7 @@ module _ {N : Type 0} (t : N → Bool → Data → Path → Tree) (m : N → Dat
       pub beside_verdict : {s : Shown} → Some ms ≡ as_object v → list_all is_valid (trees_of met.children.items) ≡ (properties_mean m es (object ms)).accepts u
           → AreShown lacking (trees_of more) → b.children.items ≡ met.children.items ++ more
           → s ≡ shown (list_all is_valid (trees_of b.children.items)) (Some (names_in b)) [] (trees_of b.children.items) → is_valid (node_at P Q s) ≡
-              (is_empty (missing ns v) && (properties_mean m es v).accepts u)
+          (is_empty (missing ns v) && (properties_mean m es v).accepts u)
       beside_verdict {s} o verdict k children e =
           valid_shown P Q s (list_all is_valid (trees_of b.children.items)) (Some (names_in b)) [] (trees_of b.children.items) e
           ∙ ap (list_all is_valid) (both_children children)

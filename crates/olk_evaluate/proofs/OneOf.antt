@@ -42,7 +42,7 @@ module _ {N : Type 0} (t : N → Bool → Data → Path → Tree) (m : N → Dat
     count_shown : how_many (λ k. m k v) u ns ≡ length cs
     count_shown =
         count_those (accepts_here t m u v P Q ns) ns ∙ sym (length-map acceptors (λ k. wanted t m u k v Q)) ∙ ap length (sym (accepting_wanted t m u v P Q ns))
-            ∙ as_long (filter_once (λ w. w.1) wanted_here) cs h
+        ∙ as_long (filter_once (λ w. w.1) wanted_here) cs h
 
     acceptors_wanted : trees_wanted (filter_once (λ w. w.1) wanted_here) ≡ branch_trees (λ k. t k u) v Q acceptors
     acceptors_wanted = ap trees_wanted (accepting_wanted t m u v P Q ns) ∙ branches_wanted t m u v P Q acceptors
@@ -57,7 +57,7 @@ module _ {N : Type 0} (t : N → Bool → Data → Path → Tree) (m : N → Dat
       pub one_like : length cs ≡ 1 → s ≡ shown (list_all is_valid cs) None [] cs → IsLikeTree tree_here (node_at P Q s)
       one_like one e =
           subst (λ w. IsLikeTree w (node_at P Q s)) (sym (ap tree_of_count (count_shown ∙ one)))
-              (plain_like P Q (filter_once (λ w. w.1) wanted_here) (branch_trees (λ k. t k u) v Q acceptors) acceptors_wanted h e)
+          (plain_like P Q (filter_once (λ w. w.1) wanted_here) (branch_trees (λ k. t k u) v Q acceptors) acceptors_wanted h e)
 
       pub one_verdict : length cs ≡ 1 → s ≡ shown (list_all is_valid cs) None [] cs → is_valid (node_at P Q s) ≡ (how_many (λ k. m k v) u ns == 1)
       one_verdict one e = plain_verdict P Q (filter_once (λ w. w.1) wanted_here) true (those_pass (λ w. w.1) wanted_here) h e ∙ sym (ap (λ n. n == 1) (count_shown ∙ one))

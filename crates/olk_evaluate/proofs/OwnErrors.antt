@@ -55,7 +55,7 @@ module _ (P Q : Path) {s : Shown} where
   pub erring_like : (fs : List Fault) → HasErrors fs s → IsLikeTree (erring P Q fs) (node_at P Q s)
   erring_like fs h = subst (λ r. IsLikeTree (erring P Q fs) (node_at P Q r)) (sym h.is)
       (like_result P Q (is_empty (described fs) && true && true) (is_empty fs) None None (described fs) h.own no_tree no_tree
-          (sym (and_true (is_empty (described fs)) ∙ empty_described fs)) refl h.told tt)
+      (sym (and_true (is_empty (described fs)) ∙ empty_described fs)) refl h.told tt)
 
   pub erring_verdict : (fs : List Fault) → HasErrors fs s → is_valid (node_at P Q s) ≡ is_empty fs
   erring_verdict fs h = valid_shown P Q s (is_empty fs) None h.own [] h.is
@@ -106,7 +106,7 @@ module _ (ms : Members) (f : Name → Fault) (names ys : List (String Global)) (
       (not (has n (object ms))) (f n) [] ++ faults_from_at (i + 1)
   missing_at {x} {n} same is lt name =
       ap (λ l. map f (missing (texts_of l) (object ms))) (at_drop_more (λ l. l) names i x (subst (λ zs. i < length zs) same lt)
-          ∙ ap (λ y. y ∷ drop (i + 1) names) (sym (is ∙ ap (λ zs. get_or zs i x) same)))
+      ∙ ap (λ y. y ∷ drop (i + 1) names) (sym (is ∙ ap (λ zs. get_or zs i x) same)))
       ∙ one_missing f (not (has (string_bytes x) (object ms))) (string_bytes x) (missing (texts_of (drop (i + 1) names)) (object ms))
       ∙ ap (λ k. put_if (not (has k (object ms))) (f k) [] ++ faults_from_at (i + 1)) (sym name)
 
@@ -190,7 +190,7 @@ module _ (ns : List Name) (v w : Data) (P Q : Path) where
   some_lacking {s} e h place =
       subst (λ t. AreShown (refused (lacking_trees ns v w P Q)) (t ∷ [])) (sym place)
       (lacking_one (not (is_empty (missing ns w))) (erring P Q (map (λ n. fault (Required n) v Q P) (missing ns w))) (node_at P Q s) e
-          (erring_like P Q (map (λ n. fault (Required n) v Q P) (missing ns w)) h)
+      (erring_like P Q (map (λ n. fault (Required n) v Q P) (missing ns w)) h)
       (erring_verdict P Q (map (λ n. fault (Required n) v Q P) (missing ns w)) h ∙ same_emptiness (λ n. fault (Required n) v Q P) (missing ns w) ∙ is_some_empty (is_empty (missing ns w)) e))
 
   lacking_wanted : (b : Bool) (t : Tree) → list_all (λ x. x.1) (refused (put_if (not b) t [])) ≡ b

@@ -42,7 +42,7 @@ module _ {N : Type 0} {want : Declared N → Wanted} where
   meets_both {ds} {es} {a} h k = record {
     names =
         k.names ∙ ap (λ l. l ++ map (λ d. d.name) es) h.names ∙ append_assoc (names_in a) (map (λ d. d.name) ds) (map (λ d. d.name) es)
-            ∙ ap (λ l. names_in a ++ l) (sym (map-append (λ d. d.name) ds es));
+        ∙ ap (λ l. names_in a ++ l) (sym (map-append (λ d. d.name) ds es));
     added = h.added ++ k.added;
     children = k.children ∙ ap (λ l. l ++ k.added) h.children ∙ append_assoc (trees_of a.children.items) h.added k.added;
     shown = subst (λ ws. AreShown ws (h.added ++ k.added)) (sym (map-append want ds es)) (shown_append (map want ds) (map want es) h.added k.added h.shown k.shown);
@@ -72,7 +72,7 @@ module _ {X N : Type 0} {want : Bool → Path → Declared N → Wanted} {g : Bo
       split = append_assoc loop.done (x ∷ []) more ∙ ap (λ l. loop.done ++ l) (sym next) ∙ loop.split;
       met =
           subst (λ ds. MeetsMore (want a.answer Q) ds old newer) (ap (λ l. flat_map (g a.answer) loop.done ++ l) (sym (append-nil (g a.answer x)))
-              ∙ sym (flat_map-append (g a.answer) loop.done (x ∷ [])))
+          ∙ sym (flat_map-append (g a.answer) loop.done (x ∷ [])))
           (meets_both loop.met (subst₂ (λ u P. MeetsMore (want u P) (g u x) new newer) loop.only.answer loop.path found));
       path = path ∙ loop.path;
       only = only_then loop.only only;
@@ -127,7 +127,7 @@ module _ {R N : Type 0} (answers : R → Name → Says) (t : N → Bool → Data
         where
           by : (b : Bool) → (every (λ d. m d.node d.value) (flat_map (λ x. declared_as x.0 n x.1) (filter_once (λ x. is_match answers u p x.0) xs))).accepts u ≡ (every (asked_at p n) xs).accepts u
               → (every (λ d. m d.node d.value) (flat_map (λ x. declared_as x.0 n x.1) (put_if b x (filter_once (λ x. is_match answers u p x.0) xs)))).accepts u ≡
-                  (cond b ((m n x.1).accepts u) true && (every (asked_at p n) xs).accepts u)
+              (cond b ((m n x.1).accepts u) true && (every (asked_at p n) xs).accepts u)
           by true e = ap (λ b. (m n x.1).accepts u && b) e
           by false e = e
 
@@ -141,7 +141,6 @@ module _ {R N : Type 0} (answers : R → Name → Says) (t : N → Bool → Data
   module _ (es : List (CompiledPattern R × N)) where
     -- of what is no object
     module _ (v : Data) (none : None ≡ as_object v) {s : Shown} (h : s ≡ shown true None [] []) where
-
       no_trees : match_trees (λ n. t n u) v Q answers u es ≡ []
       no_trees =
           (λ i. flat_map (λ (e : CompiledPattern R × N). map (λ (x : Name × Data). t e.1 u x.1 (Q // x.0)) (filter_once (λ x. is_match answers u e.0 x.0) (no_members v none i))) es) ∙ nothing_each es
@@ -153,7 +152,7 @@ module _ {R N : Type 0} (answers : R → Name → Says) (t : N → Bool → Data
       pub other_like : (P : Path) → IsLikeTree (patterns_tree (λ n. t n u) v Q answers u P es) (node_at P Q s)
       other_like P = subst (λ r. IsLikeTree (patterns_tree (λ n. t n u) v Q answers u P es) (node_at P Q r)) (sym h)
           (subst (λ w. IsLikeTree w (node_at P Q (shown true None [] [])))
-              (λ i. result P Q (cond (sym (no_object v none) i) (Some (match_names (λ n. t n u) v Q answers u es)) None) false [] (sym no_trees i)) (refl, refl, refl, refl, tt, tt))
+          (λ i. result P Q (cond (sym (no_object v none) i) (Some (match_names (λ n. t n u) v Q answers u es)) None) false [] (sym no_trees i)) (refl, refl, refl, refl, tt, tt))
 
       pub other_verdict : (costs : R → Bool) (P : Path) → is_valid (node_at P Q s) ≡ (patterns_mean answers costs m es v).accepts u
       other_verdict costs P = valid_shown P Q s true None [] [] h ∙ sym (ap (λ q. q.accepts u) (patterns_nothing answers v none costs m es))

@@ -90,7 +90,8 @@ fn add_matches<'a>(
     path: &InstancePath,
     children: &mut Vec<EvaluationNode<'a>>,
 ) -> Result<(), AllocError>
-    ensures { OnOk result (AddsTrees (matches_shown (names_of matched.entry.items) location.now path.now)
+    ensures { OnOk result (AddsTrees
+        (matches_shown (names_of matched.entry.items) location.now path.now)
         children.old.items children.new.items) }
 {
     if matched.is_empty() {

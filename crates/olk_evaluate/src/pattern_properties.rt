@@ -50,7 +50,8 @@ impl<'a, R: RegexEngine, N: Show<'a>> Show<'a> for PatternProperties<R, N> {
 impl<'a, R: RegexEngine, N: Show<'a>> Show<'a> for SingleValuePatternProperties<R, N> {
     ghost use Rattle.olk_tree.specs.PatternProperties.{single_pattern_properties_answers};
 
-    ghost tree = { λ k. (single_pattern_properties_answers R.answers R.costs k).tree N.means N.tree };
+    ghost tree = { λ k.
+        (single_pattern_properties_answers R.answers R.costs k).tree N.means N.tree };
 
     #[inline(never)]
     #[tactic(auto, using(olk_check::proofs::Asked::only_same))]

@@ -145,7 +145,8 @@ pub(crate) fn add_missing_child<'a, N>(
 ) -> Result<(), AllocError>
     ensures { OnOk result (AddsShown
         (refused (lacking_trees (two_texts keyword.now.first keyword.now.second)
-        (data_of node.entry) (object_of members.now.entries) keyword.now.required_location path.now))
+        (data_of node.entry) (object_of members.now.entries)
+        keyword.now.required_location path.now))
         children.old.items children.new.items) }
 {
     let first = keyword.first.as_str();

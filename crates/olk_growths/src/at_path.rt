@@ -8,7 +8,7 @@ use serde_json::Value;
 use std::io;
 
 /// Makes each of them at one path, and tells the path behind the last one.
-pub fn ask_at_path<'a, K: Leaf, R: RegexEngine>(
+pub(crate) fn ask_at_path<'a, K: Leaf, R: RegexEngine>(
     rt: &HostRuntime,
     node: &'a SchemaNode<K, R>,
     instance: &'a Value,

@@ -74,15 +74,21 @@ module _ {K R N : Type 0} (o : Kit K R) (answers : N → Answers) (ms : Members)
 
     pub patterns_built : (v : Vec (CompiledPattern R) Global) (t : Table) → p.shape ≡ shape.PatternProperties v t → lookup_name (codes "patternProperties") (listed ms) ≡ Some d
         → NeighbourIsBuilt o ms (λ x. PatternsStand o answers (known_of ms) x (P // codes "patternProperties"))
-            (Some (record { location = p.location; patterns = v; table = t; nodes = p.nodes })) (codes "patternProperties") P a b
+        (Some (record { location = p.location; patterns = v; table = t; nodes = p.nodes })) (codes "patternProperties") P a b
     patterns_built v t q there =
         let s = patterns_part.stand.0 in
         let named = subst (IsShape o (codes "patternProperties") d) q s.shape in
         let fits = subst (Fits o (known_of ms)) q s.fits in
         neighbour_built o answers ms P (λ x. PatternsStand o answers (known_of ms) x (P // codes "patternProperties")) (codes "patternProperties")
-            (record { location = p.location; patterns = v; table = t; nodes = p.nodes }) d p a b there patterns_part
-        (record { place = s.place; kind = named.1; patterns = named.2; names = fits.0; table = fits.1;
-            nodes = subst (λ x. StandAt o answers (reads_of x) p.nodes.items d (P // codes "patternProperties")) q s.nodes })
+        (record { location = p.location; patterns = v; table = t; nodes = p.nodes }) d p a b there patterns_part
+        (record {
+          place = s.place;
+          kind = named.1;
+          patterns = named.2;
+          names = fits.0;
+          table = fits.1;
+          nodes = subst (λ x. StandAt o answers (reads_of x) p.nodes.items d (P // codes "patternProperties")) q s.nodes;
+        })
 
   -- ---- how many there are
 
@@ -129,7 +135,7 @@ module _ {K R N : Type 0} (o : Kit K R) (answers : N → Answers) (ms : Members)
     rest_is : RestStands o answers r d (P // codes "additionalProperties") × (is_some r ≡ is_object d)
     rest_is =
         let s = others_part.stand.0 in rest_there p.shape d p.nodes.items r (P // codes "additionalProperties")
-            (shape_named o answers p.shape (codes "additionalProperties") d s.shape refl) s.shape not_true last s.nodes
+        (shape_named o answers p.shape (codes "additionalProperties") d s.shape refl) s.shape not_true last s.nodes
 
     module _ (b : Beside R N) (n e : Counts) (declared : NeighbourIsBuilt o ms (λ x. DeclaredStand o answers x (P // codes "properties")) b.properties (codes "properties") P m n)
         (patterns : NeighbourIsBuilt o ms (λ x. PatternsStand o answers (known_of ms) x (P // codes "patternProperties")) b.patterns (codes "patternProperties") P n e)
@@ -146,8 +152,8 @@ module _ {K R N : Type 0} (o : Kit K R) (answers : N → Answers) (ms : Members)
       pub restriction_is_formed : (k : KeywordOver K R N) → IsAdditionalProperties P p.location (is_some r) (option_map (λ (m : SmallMap N). length m.names) b.properties)
           (option_map (λ (x : Patterns R N). length (zip x.patterns.items x.nodes.items)) b.patterns) plan.fused_one k
           → IsAdditionalProperties P (P // codes "additionalProperties") (is_object d) (option_map (λ d. length (members d)) (lookup_name (codes "properties") (listed ms)))
-              (option_map (λ d. length (members d)) (lookup_name (codes "patternProperties") (listed ms))) (plan_of ms).fused_one k
+          (option_map (λ d. length (members d)) (lookup_name (codes "patternProperties") (listed ms))) (plan_of ms).fused_one k
       restriction_is_formed k f =
           subst (λ T. T) (λ i. IsAdditionalProperties P (others_part.stand.0.place i) (rest_is.1 i)
-              (declared_counted b.properties (lookup_name (codes "properties") (listed ms)) (P // codes "properties") declared.stands i)
-              (patterns_counted b.patterns (lookup_name (codes "patternProperties") (listed ms)) (P // codes "patternProperties") patterns.stands i) ((chosen i).fused_one) k) f
+          (declared_counted b.properties (lookup_name (codes "properties") (listed ms)) (P // codes "properties") declared.stands i)
+          (patterns_counted b.patterns (lookup_name (codes "patternProperties") (listed ms)) (P // codes "patternProperties") patterns.stands i) ((chosen i).fused_one) k) f

@@ -233,7 +233,7 @@ module _ {K R N : Type 0} (o : Kit K R) (answers : N → Answers) where
         record {
           means =
               subst (λ r. KeywordsMean o answers ms ks (claims (head r) (listed ms) (k, d)) ((k, d) ∷ []) P) chosen
-                  (make ms (k, d) s.place s.shape (subst (StandAt o answers (reads_of p.shape) p.nodes.items d) (sym s.place) s.nodes) distinct there chosen untaken);
+              (make ms (k, d) s.place s.shape (subst (StandAt o answers (reads_of p.shape) p.nodes.items d) (sym s.place) s.nodes) distinct there chosen untaken);
           clean = sym (append-nil _) ∙ built.clean;
           spends = spends_same a b _ _ (sum_last _) built.spends;
         }
@@ -314,7 +314,7 @@ module _ {K R N : Type 0} (o : Kit K R) (answers : N → Answers) where
         pub not_without_node : p.nodes.items ≡ [] → ⊥
         not_without_node e =
             subst (λ ns. StandAt o answers Itself ns d (P // codes "not")) e
-                (subst (λ x. StandAt o answers (reads_of x) p.nodes.items d (P // codes "not")) q (stands p c (codes "not") d P a b h refl).nodes)
+            (subst (λ x. StandAt o answers (reads_of x) p.nodes.items d (P // codes "not")) q (stands p c (codes "not") d P a b h refl).nodes)
 
         pub not_built : (ks : List (KeywordOver K R N)) → MakesMember o answers (shape.Not v) p.location p.nodes.items ks → (ms : Members) (Q : Path)
             → P // codes "not" ≡ Q // codes "not" → MemberIsBuilt o answers ms ks (codes "not", d) Q a b
@@ -339,7 +339,7 @@ module _ {K R N : Type 0} (o : Kit K R) (answers : N → Answers) where
         pub required_built : (ms : Members) (Q : Path) → P // codes "required" ≡ Q // codes "required" → MemberIsBuilt o answers ms (required_keyword ∷ []) (codes "required", d) Q a b
         required_built =
             member_built p c (codes "required") d P a b h refl (required_keyword ∷ [])
-                (subst (λ x. MakesMember o answers x p.location p.nodes.items (required_keyword ∷ [])) (sym q) (makes_required o answers v p.location p.nodes.items))
+            (subst (λ x. MakesMember o answers x p.location p.nodes.items (required_keyword ∷ [])) (sym q) (makes_required o answers v p.location p.nodes.items))
 
         pub required_is_formed : IsRequired (P // codes "required") d required_keyword
         required_is_formed = let s = stands p c (codes "required") d P a b h refl in ((subst (IsShape o (codes "required") d) q s.shape).2, s.place)
@@ -408,8 +408,8 @@ module _ {K R N : Type 0} (o : Kit K R) (answers : N → Answers) where
           (map (λ e. map (λ c. c.0) (members e.1)) (members d)) k
       property_dependencies_is_formed n v q k f =
           let s = shape_is p c (codes "propertyDependencies") d P a b h refl _ q in
-              subst (λ L. IsPropertyDependencies L (map (λ e. e.0) (members d)) (map (λ e. map (λ c. c.0) (members e.1)) (members d)) k)
-              (stands p c (codes "propertyDependencies") d P a b h refl).place (subst₂ (λ ns ts. IsPropertyDependencies p.location ns ts k) s.2 s.3 f)
+          subst (λ L. IsPropertyDependencies L (map (λ e. e.0) (members d)) (map (λ e. map (λ c. c.0) (members e.1)) (members d)) k)
+          (stands p c (codes "propertyDependencies") d P a b h refl).place (subst₂ (λ ns ts. IsPropertyDependencies p.location ns ts k) s.2 s.3 f)
 
   -- ---- patterns, where nothing is restricted
 
@@ -447,7 +447,7 @@ module _ {K R N : Type 0} (o : Kit K R) (answers : N → Answers) where
           → IsPatternProperties (P // codes "patternProperties") (length (members d)) k
       pattern_properties_is_formed k f = subst₂ (λ L n. IsPatternProperties L n k) alone_stands.place
           (zip_length v.items p.nodes.items (members d) (P // codes "patternProperties") (subst (IsShape o (codes "patternProperties") d) q alone_stands.shape).2
-              (subst (λ x. StandAt o answers (reads_of x) p.nodes.items d (P // codes "patternProperties")) q alone_stands.nodes)) f
+          (subst (λ x. StandAt o answers (reads_of x) p.nodes.items d (P // codes "patternProperties")) q alone_stands.nodes)) f
 
   pub refuses_free_member : (c : Known) → c.declared ≡ [] → (d : Data) (P : Path) (a b : Counts) (e : BuildError) → RefusesPart o c (codes "patternProperties") d
       (P // codes "patternProperties") a b e → RefusesFreeMember o (codes "patternProperties") d (P // codes "patternProperties") a b e

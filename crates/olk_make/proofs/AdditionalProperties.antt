@@ -165,7 +165,7 @@ module _ {K R N : Type 0} (o : Kit K R) (answers : N → Answers) where
       patterns = subst (λ l. PatternsAnswer o means report tree l (members d) L) (sym same) (patterns_answer x.patterns.items x.nodes.items (members d) L h.patterns h.nodes);
       known = λ p i n c at_name at_pattern. ap (λ t. table_says t p i) form.1
           ∙ h.table.says p i n c (ap (λ ns. slice_get ns p) names ∙ at_name)
-              (ap (λ ps. slice_get ps i) (sym (ap (map (λ e. e.0)) same ∙ patterns_kept x.patterns.items x.nodes.items (members d) L h.patterns h.nodes)) ∙ at_pattern);
+          (ap (λ ps. slice_get ps i) (sym (ap (map (λ e. e.0)) same ∙ patterns_kept x.patterns.items x.nodes.items (members d) L h.patterns h.nodes)) ∙ at_pattern);
       there = of_items.0;
       place = λ e. form.2 ∙ h.place;
     }
@@ -212,7 +212,7 @@ module _ {K R N : Type 0} (o : Kit K R) (answers : N → Answers) where
   zipped_formed (p ∷ ps) [] h = refl
   zipped_formed (p ∷ ps) (n ∷ ns) h =
       and_from (has_form o answers n) (list_all (entry_formed o answers) (zip ps ns)) (and_first (has_form o answers n) (list_all (has_form o answers) ns) h)
-          (zipped_formed ps ns (and_second (has_form o answers n) (list_all (has_form o answers) ns) h))
+      (zipped_formed ps ns (and_second (has_form o answers n) (list_all (has_form o answers) ns) h))
 
   module _ (k : AdditionalProperties R N) (ms : Members) (restricted : is_restricted ms ≡ true) (names : List Name) (declared : names ≡ map (λ e. e.0) (declared_beside ms)) where
     abbrev are_formed_beside : Vec (CompiledPattern R × N) Global → Bool
@@ -291,7 +291,7 @@ module _ {K R N : Type 0} (o : Kit K R) (answers : N → Answers) where
         asks_within = λ u v. let h = restriction_asks o means report tree k restriction_stands distinct there restricted u v in omega (arith, h);
         faults =
             λ u v Q. subst (λ l. l ∼ flat_map (λ x. member_report o.world ms x (which o ms x) u v P Q) (claims (head (plan_of ms)) (listed ms) (codes "additionalProperties", d)))
-                (sym (append-nil _)) (restriction_finds o means report tree k restriction_stands distinct there restricted u v Q);
+            (sym (append-nil _)) (restriction_finds o means report tree k restriction_stands distinct there restricted u v Q);
       };
       shows =
           λ clean u v Q. restriction_shows o means report tree k restriction_stands distinct there restricted u v Q (clean_one_fused o.world ms P clean (meaning_step o.world u)) ∙ sym (append-nil _);
@@ -306,9 +306,9 @@ module _ {K R N : Type 0} (o : Kit K R) (answers : N → Answers) where
       → MakesRestriction o answers L rest b P p (k ∷ [])
   makes_restriction (keyword.AdditionalProperties k) L P rest b p form ms d place rest_stands stands distinct there chosen =
       subst (λ q. KeywordsMean o answers ms (keyword.AdditionalProperties k ∷ []) (claims (head q) (listed ms) (codes "additionalProperties", d))
-          ((codes "additionalProperties", d) ∷ []) P) (sym chosen)
+      ((codes "additionalProperties", d) ∷ []) P) (sym chosen)
       (restriction_means k L P rest b ms (subst (λ n. IsFormOfAdditionalProperties {K = K} P L rest b n (keyword.AdditionalProperties k))
-          (ap (λ q. q.fused_one) chosen) form) d place rest_stands stands (ap is_restriction there ∙ restricted_there rest d L rest_stands) distinct there)
+      (ap (λ q. q.fused_one) chosen) form) d place rest_stands stands (ap is_restriction there ∙ restricted_there rest d L rest_stands) distinct there)
   makes_restriction k L P rest b p form ms d place rest_stands stands distinct there chosen = absurd form
 
   -- ---- the form, by what there is
@@ -345,7 +345,7 @@ module _ {K R N : Type 0} (o : Kit K R) (answers : N → Answers) where
     part_of_rest before ns n ks split make ms m place named fits stand cases zip distinct there chosen untaken =
         subst (λ k. KeywordsMean o answers ms ks (claims (head p) (listed ms) (k, m.1)) ((k, m.1) ∷ []) P) (sym named.0)
         (make ms m.1 (place ∙ ap (λ k. P // k) named.0) (named.1, by before (subst (λ l. StandAt o answers Itself l m.1 L) split stand)) (zip refl) distinct
-            (ap (λ k. lookup_name k (listed ms)) (sym named.0) ∙ there) chosen)
+        (ap (λ k. lookup_name k (listed ms)) (sym named.0) ∙ there) chosen)
       where
         by : (before : List N) → StandAt o answers Itself (before ++ n ∷ []) m.1 L → Stands o answers n m.1 L
         by [] h = h
@@ -366,9 +366,9 @@ module _ {K R N : Type 0} (o : Kit K R) (answers : N → Answers) where
         let nothing = allowing_means_nothing o.world ms m.1 allows free in
         subst₂ (λ q k. KeywordsMean o answers ms [] (claims (head q) (listed ms) (k, m.1)) ((k, m.1) ∷ []) P) (sym chosen) (sym named.0)
         (subst (λ rows. KeywordsMean o answers ms [] rows ((codes "additionalProperties", m.1) ∷ []) P)
-            (sym (claims_itself ms distinct (head (plan_of ms)) (codes "additionalProperties", m.1)
-            (heads_elsewhere (plan_of ms) (codes "additionalProperties") refl refl (λ e. (refl, refl)) (free_takes_nothing ms (codes "additionalProperties") free))
-            (ap (λ k. lookup_name k (listed ms)) (sym named.0) ∙ there))) record {
+        (sym (claims_itself ms distinct (head (plan_of ms)) (codes "additionalProperties", m.1)
+        (heads_elsewhere (plan_of ms) (codes "additionalProperties") refl refl (λ e. (refl, refl)) (free_takes_nothing ms (codes "additionalProperties") free))
+        (ap (λ k. lookup_name k (listed ms)) (sym named.0) ∙ there))) record {
           covers = record {
             verdict = λ u v. sym (and-true _ ∙ nothing.verdict u v);
             asks_within = λ u v. omega arith;

@@ -248,7 +248,7 @@ module _ {K R N : Type 0} (o : Kit K R) (answers : N → Answers) where
         faults = λ u v Q. subst₂ (λ l r. l ∼ r)
             (ap (λ l. l ++ []) (sym (form_finds L n t e k form u v Q ∙ ap (λ b. cond b (case_found u t v Q) (case_found u e v Q)) (stands.verdict u v))))
             ((λ i. sym (then_report ms d there u v P Q at_then) i ++ sym (else_report ms d there u v P Q at_else) i)
-                ∙ sym (flat_map-append (row_report ms d there u v P Q) (rows (codes "then") at_then) (rows (codes "else") at_else)))
+            ∙ sym (flat_map-append (row_report ms d there u v P Q) (rows (codes "then") at_then) (rows (codes "else") at_else)))
             (one_found (tested ms d there u v) _ _ _ _ (case_finds u v t at_then (P // codes "then") Q then_stands) (case_finds u v e at_else (P // codes "else") Q else_stands));
       }
 
@@ -256,9 +256,9 @@ module _ {K R N : Type 0} (o : Kit K R) (answers : N → Answers) where
       shown_together u v Q =
           ap (λ t. t ∷ []) (form_shows L n t e k form u v Q
           ∙ (λ i. plain (place i) Q (cond (stands.verdict u v i) (subst_tree u v Q i ∷ case_shows u v t at_then (P // codes "then") Q then_stands i)
-              (case_shows u v e at_else (P // codes "else") Q else_stands i)))
+          (case_shows u v e at_else (P // codes "else") Q else_stands i)))
           ∙ ap (plain (P // codes "if") Q) (one_shown (tested ms d there u v) (tree o.world u d v (P // codes "if") Q) (case_trees u v at_then (P // codes "then") Q)
-              (case_trees u v at_else (P // codes "else") Q)
+          (case_trees u v at_else (P // codes "else") Q)
           ∙ (λ i. put_if (tested ms d there u v) (tree o.world u d v (P // codes "if") Q) [] ++ sym (shown_where u v (tested ms d there u v) at_then (P // codes "then") Q) i ++ sym (shown_where u v (not (tested ms d there u v)) at_else (P // codes "else") Q) i)))
           ∙ sym (append-nil _ ∙ fact.if_shows_beside o.world ms u v d read_here P Q)
         where
@@ -276,7 +276,7 @@ module _ {K R N : Type 0} (o : Kit K R) (answers : N → Answers) where
             shows = λ clean u v Q. shown_together u v Q;
             formed =
                 just_one_formed o answers k (if_formed o answers L n t e k form stands.formed (filled_formed t at_then (P // codes "then") then_stands)
-                    (filled_formed e at_else (P // codes "else") else_stands));
+                (filled_formed e at_else (P // codes "else") else_stands));
           })
 
   -- ---- what is made of the nodes
@@ -332,8 +332,8 @@ module _ {K R N : Type 0} (o : Kit K R) (answers : N → Answers) where
       let nothing = fact.unpaired_means_nothing o.world ms m named fits (ap is_some there) in
       subst (λ q. KeywordsMean o answers ms [] (claims (head q) (listed ms) m) (m ∷ []) P) (sym chosen)
       (subst (λ rows. KeywordsMean o answers ms [] rows (m ∷ []) P) (sym
-          (claims_itself ms distinct (head (plan_of ms)) m (heads_elsewhere (plan_of ms) m.0 (apart_from (codes "properties") refl refl refl)
-          (apart_from (codes "required") refl refl refl) (λ e. absurd (true≢false (sym e ∙ fits)))
+      (claims_itself ms distinct (head (plan_of ms)) m (heads_elsewhere (plan_of ms) m.0 (apart_from (codes "properties") refl refl refl)
+      (apart_from (codes "required") refl refl refl) (λ e. absurd (true≢false (sym e ∙ fits)))
       (never_taken (plan_of ms) m.0 (apart_from (codes "additionalProperties") refl refl refl) (apart_from (codes "properties") refl refl refl) (apart_from (codes "patternProperties") refl refl refl) (apart_from (codes "required") refl refl refl))) there)) record {
         covers = record {
           verdict = λ u v. sym (and-true _ ∙ nothing.verdict u v);

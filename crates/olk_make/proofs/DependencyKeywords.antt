@@ -115,11 +115,11 @@ module _ {K R N : Type 0} (o : Kit K R) (answers : N → Answers) where
           (λ u v. due_accept list_answers m L (members d) names each u v ∙ sym (fact.dependent_required_accepts o.world ms d u v lists))
           (λ u v. same_within _ _ _ (due_ask list_answers m L (members d) names each u v) (fact.dependent_required_asks o.world ms d u v ∙ sym (no_sum (due_entries d v))))
           (λ u v Q. subst (λ fs. found o answers u (dependencies_of m L) v Q ∼ fs)
-              (ap (λ M. flat_map (λ e. required_faults (texts e.1) v M Q) (due_entries d v)) p ∙ sym (fact.dependent_required_report o.world ms d u v lists P Q))
-              (due_find list_answers m L (members d) names each u v Q));
+          (ap (λ M. flat_map (λ e. required_faults (texts e.1) v M Q) (due_entries d v)) p ∙ sym (fact.dependent_required_report o.world ms d u v lists P Q))
+          (due_find list_answers m L (members d) names each u v Q));
       shows =
           λ u h v Q. ap (λ t. t ∷ []) (due_show list_answers m L (members d) names each u v Q
-              ∙ ap (λ M. plain M Q (map (λ e. erring M Q (required_faults (texts e.1) v M Q)) (due_entries d v))) p) ∙ sym (fact.dependent_required_child o.world ms d u v lists P Q);
+          ∙ ap (λ M. plain M Q (map (λ e. erring M Q (required_faults (texts e.1) v M Q)) (due_entries d v))) p) ∙ sym (fact.dependent_required_child o.world ms d u v lists P Q);
       formed = just_one_formed o answers (dependencies_of m L) (dependencies_formed m L (each_formed o answers list_answers m.nodes.items (members d) L each));
     }
       where
@@ -134,11 +134,11 @@ module _ {K R N : Type 0} (o : Kit K R) (answers : N → Answers) where
           (λ u v. due_accept (schema_answers o answers) m L (members d) names each u v ∙ sym (fact.dependent_schemas_accepts o.world ms d u v))
           (λ u v. same_within _ _ _ (due_ask (schema_answers o answers) m L (members d) names each u v) (fact.dependent_schemas_asks o.world ms d u v))
           (λ u v Q. subst (λ fs. found o answers u (dependencies_of m L) v Q ∼ fs)
-              (ap (λ M. flat_map (λ e. report o.world u e.1 v (M // e.0) Q) (due_entries d v)) p ∙ sym (fact.dependent_schemas_report o.world ms d u v P Q))
-              (due_find (schema_answers o answers) m L (members d) names each u v Q));
+          (ap (λ M. flat_map (λ e. report o.world u e.1 v (M // e.0) Q) (due_entries d v)) p ∙ sym (fact.dependent_schemas_report o.world ms d u v P Q))
+          (due_find (schema_answers o answers) m L (members d) names each u v Q));
       shows =
           λ u h v Q. ap (λ t. t ∷ []) (due_show (schema_answers o answers) m L (members d) names each u v Q
-              ∙ ap (λ M. plain M Q (map (λ e. tree o.world u e.1 v (M // e.0) Q) (due_entries d v))) p) ∙ sym (fact.dependent_schemas_child o.world ms d u v P Q);
+          ∙ ap (λ M. plain M Q (map (λ e. tree o.world u e.1 v (M // e.0) Q) (due_entries d v))) p) ∙ sym (fact.dependent_schemas_child o.world ms d u v P Q);
       formed = just_one_formed o answers (dependencies_of m L) (dependencies_formed m L (each_formed o answers (schema_answers o answers) m.nodes.items (members d) L each));
     }
 
@@ -149,10 +149,10 @@ module _ {K R N : Type 0} (o : Kit K R) (answers : N → Answers) where
           (λ u v. due_accept dependency_answers m L (members d) names each u v ∙ sym (fact.dependencies_accepts o.world ms d u v))
           (λ u v. same_within _ _ _ (due_ask dependency_answers m L (members d) names each u v) (fact.dependencies_asks o.world ms d u v))
           (λ u v Q. like_through (subst (λ fs. found o answers u (dependencies_of m L) v Q ∼ fs) (ap (λ M. flat_map (λ e. dependency_report o.world u e v M Q) (due_entries d v)) p)
-              (due_find dependency_answers m L (members d) names each u v Q)) (∼_sym (fact.dependencies_report o.world ms d u v P Q)));
+          (due_find dependency_answers m L (members d) names each u v Q)) (∼_sym (fact.dependencies_report o.world ms d u v P Q)));
       shows =
           λ u h v Q. ap (λ t. t ∷ []) (due_show dependency_answers m L (members d) names each u v Q
-              ∙ ap (λ M. plain M Q (map (λ e. dependency_shown o.world u e v M Q) (due_entries d v))) p) ∙ sym (fact.dependencies_child o.world ms d u v P Q);
+          ∙ ap (λ M. plain M Q (map (λ e. dependency_shown o.world u e v M Q) (due_entries d v))) p) ∙ sym (fact.dependencies_child o.world ms d u v P Q);
       formed = just_one_formed o answers (dependencies_of m L) (dependencies_formed m L (each_formed o answers dependency_answers m.nodes.items (members d) L each));
     }
 
@@ -212,7 +212,7 @@ module _ {K R N : Type 0} (o : Kit K R) (answers : N → Answers) where
       by : (v : Option (Vec (String Global) Global)) (b : Bool) → is_array e.1 ≡ b → (schemas ns : List N) → AreInOrder o answers L (v ∷ vs) schemas ns
           → names_in_list v ≡ cond b (Some (texts e.1)) None → StandEach o answers schemas (put_if (not b) e (schemas_among es)) L
           → ((schemas ns : List N) → AreInOrder o answers L vs schemas ns → StandEach o answers schemas (schemas_among es) L → AnswerEach o answers dependency_answers ns es L)
-              → AnswerEach o answers dependency_answers ns (e ∷ es) L
+          → AnswerEach o answers dependency_answers ns (e ∷ es) L
       by (Some v) true a schemas [] h same stand later = absurd h
       by (Some v) true a schemas (n ∷ ns) h same stand later = (list_is_dependency n e L a (list_answer v n e L h.0 (ap (λ x. unwrap_or x []) same)), later schemas ns h.1 stand)
       by None false a [] ns h same stand later = absurd stand

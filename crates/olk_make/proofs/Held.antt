@@ -147,7 +147,7 @@ module _ {K R N : Type 0} (o : Kit K R) (answers : N → Answers) where
     any_context Q (n ∷ ns) [] L h = absurd h
     any_context Q (n ∷ ns) (e ∷ es) L h =
         like_branch (subst₂ (λ x y. x ∼ y) (sym (faults_in-from ((answers n).report u v Q))) (sym (faults_in-from (report o.world u e.1 v (L // e.0) Q)))
-            (h.0.faults u v Q)) (any_context Q ns es L h.1)
+        (h.0.faults u v Q)) (any_context Q ns es L h.1)
 
     pub branches_show : (Q : Path) (ns : List N) (es : List (Name × Data)) (L : Path) → StandEach o answers ns es L → map (λ n. (answers n).tree u v Q) ns ≡ branches_shown o.world u v L Q es
     branches_show Q ns es L h = each_show o answers (schema_answers o answers) u v Q ns es L (schemas_answer o answers ns es L h)
@@ -174,7 +174,7 @@ module _ {K R N : Type 0} (o : Kit K R) (answers : N → Answers) where
         none : is_empty (filter_once accepts_value ns) ≡ is_empty (accepting_branches o.world u v es)
         none =
             sym (is_empty-map (λ n. (answers n).tree u v Q) (filter_once accepts_value ns)) ∙ ap is_empty (accepting_show Q ns es L h)
-                ∙ is_empty-map (λ e. tree o.world u e.1 v (L // e.0) Q) (accepting_branches o.world u v es)
+            ∙ is_empty-map (λ e. tree o.world u e.1 v (L // e.0) Q) (accepting_branches o.world u v es)
 
     zip_names : (ns : List N) (es : List (Name × Data)) (L : Path) → StandEach o answers ns es L → map {A = Name × N} (λ e. e.0) (zip (map (λ e. e.0) es) ns) ≡ map {A = Name × Data} (λ e. e.0) es
     zip_names [] [] L h = refl
@@ -191,7 +191,7 @@ module _ {K R N : Type 0} (o : Kit K R) (answers : N → Answers) where
       where
         by : (c : Ordering) → is_eq c ≡ bytes_eq m.0 e.0 → map (λ n. (answers n).tree u m.1 (Q // m.0)) (option_to_list (lookup_name m.0 (zip (map (λ e. e.0) es) ns))) ≡ shown_at o.world u v L Q es m
             → map (λ n. (answers n).tree u m.1 (Q // m.0)) (option_to_list (first_if_equal c n (lookup_name m.0 (zip (map (λ e. e.0) es) ns)))) ≡ map
-                (λ d. tree o.world u d m.1 (L // m.0) (Q // m.0)) (option_to_list (first_if_equal c e.1 (lookup_name m.0 es)))
+            (λ d. tree o.world u d m.1 (L // m.0) (Q // m.0)) (option_to_list (first_if_equal c e.1 (lookup_name m.0 es)))
         by Less q g = g
         by Equal q g = (λ i. h.0.evaluation u m.1 (Q // m.0) i ∷ []) ∙ ap (λ k. tree o.world u e.1 m.1 (L // k) (Q // m.0) ∷ []) (sym (same_name m.0 e.0 (sym q)))
         by Greater q g = g
@@ -205,7 +205,7 @@ module _ {K R N : Type 0} (o : Kit K R) (answers : N → Answers) where
         → properties_tree (λ n. (answers n).tree u) v Q L (zip (map (λ e. e.0) es) ns) more ≡ shown_declared o.world u v L Q es more
     declared_show Q more ns es L h =
         λ i. result L Q (cond (is_object v) (Some (map (λ m. m.0) (filter_once (λ m. is_among m.0 (zip_names ns es L h i)) (members v)))) None) false []
-            (members_show Q (members v) ns es L h i ++ more)
+        (members_show Q (members v) ns es L h i ++ more)
 
   any_fault : (b : Bool) (c d : Context) (v : Data) (P Q : Path) → IsLikeContext c d → fault_if b (AnyOf c) v P Q ∼ fault_if b (AnyOf d) v P Q
   any_fault true c d v P Q h = like_next (like (like_any_of h)) like_empty
@@ -249,7 +249,7 @@ module _ {K R N : Type 0} (o : Kit K R) (answers : N → Answers) where
       unfolding answers_of
       properties_find Q =
           subst (λ ks. flat_map (λ e. flat_map (λ x. (answers e.1).report u x (Q // e.0)) (at e.0 v)) (zip ks (nodes_in m)) ∼ flat_map
-              (λ e. flat_map (λ x. report o.world u e.1 x (L // e.0) (Q // e.0)) (at e.0 v)) es) (sym names) (members_find u v Q (nodes_in m) es L stand)
+          (λ e. flat_map (λ x. report o.world u e.1 x (L // e.0) (Q // e.0)) (at e.0 v)) es) (sym names) (members_find u v Q (nodes_in m) es L stand)
 
       properties_show : (Q : Path) (more : List Tree) → properties_tree (λ n. (answers n).tree u) v Q L (mapped m) more ≡ shown_declared o.world u v L Q es more
       properties_show Q more = ap (λ ks. properties_tree (λ n. (answers n).tree u) v Q L (zip ks (nodes_in m)) more) names ∙ declared_show u v Q more (nodes_in m) es L stand
@@ -308,7 +308,7 @@ module _ {K R N : Type 0} (o : Kit K R) (answers : N → Answers) where
     covers_both d unrestricted h = record {
       verdict =
           λ u v. ap (λ b. b && true) (both_accept u v) ∙ turned (is_empty (lacking v)) ((question alone v).accepts u)
-              ∙ (λ i. h.verdict u v i && (sym (fact.required_accepts o.world ms (listing t) u v) i && true));
+          ∙ (λ i. h.verdict u v i && (sym (fact.required_accepts o.world ms (listing t) u v) i && true));
       asks_within = λ u v.
           let f : Name × Data → ℕ = λ x. member_asks o.world ms x (which o ms x) u v in
           let b = both_ask u v in
@@ -343,14 +343,14 @@ module _ {K R N : Type 0} (o : Kit K R) (answers : N → Answers) where
   pub means_form : (k : KeywordOver K R N) (names : List Name) (ns : List N) (L P : Path) (t : Option (Name × Name)) (fs : Members) (d : Data)
       → d ≡ object fs → names ≡ map (λ e. e.0) (listed fs) → StandEach o answers ns (listed fs) L → IsFormOfProperties P L names ns t k
       → (ms : Members) → L ≡ P // codes "properties" → has_repeat (names_of (listed ms)) ≡ false → lookup_name (codes "properties") (listed ms) ≡ Some d
-          → t ≡ fused_pair ms → is_restricted ms ≡ false → KeywordsMean o answers ms (k ∷ []) (claims (head (plan_of ms)) (listed ms) (codes "properties", d)) ((codes "properties", d) ∷ []) P
+      → t ≡ fused_pair ms → is_restricted ms ≡ false → KeywordsMean o answers ms (k ∷ []) (claims (head (plan_of ms)) (listed ms) (codes "properties", d)) ((codes "properties", d) ∷ []) P
   means_form (keyword.Properties k) names ns L P None fs d q declared stand form ms p distinct there chosen unrestricted =
       subst (λ rows. KeywordsMean o answers ms (keyword.Properties k ∷ []) rows ((codes "properties", d) ∷ []) P)
-          (sym (claims_itself ms distinct (head (plan_of ms)) (codes "properties", d)
-          (head_itself (plan_of ms) (codes "properties") (λ e. absurd (true≢false (sym e ∙ ap is_some (sym chosen)))) (λ e. (refl, refl))
-          (free_takes_nothing ms (codes "properties") unrestricted)) there))
+      (sym (claims_itself ms distinct (head (plan_of ms)) (codes "properties", d)
+      (head_itself (plan_of ms) (codes "properties") (λ e. absurd (true≢false (sym e ∙ ap is_some (sym chosen)))) (λ e. (refl, refl))
+      (free_takes_nothing ms (codes "properties") unrestricted)) there))
       (subst (λ M. KeywordsMean o answers ms (keyword.Properties (record { properties = k.properties; location = M }) ∷ []) ((codes "properties", d) ∷ [])
-          ((codes "properties", d) ∷ []) P) (sym form.3)
+      ((codes "properties", d) ∷ []) P) (sym form.3)
       (means_alone o answers ms P _ (codes "properties", d) (ap (λ b. b && true) unrestricted)
       (λ clean u. (there, restricted_read (meaning_step o.world u) ms ∙ unrestricted, fused o.world ms P clean (meaning_step o.world u) ∙ ap is_some (sym chosen)))
       (means_properties k.properties L fs d q (map_formed k.properties (length names) (ap length form.0) form.2) (form.0 ∙ declared) (subst (λ l. StandEach o answers l (listed fs) L) (sym form.1) stand) ms P p)))
@@ -361,22 +361,22 @@ module _ {K R N : Type 0} (o : Kit K R) (answers : N → Answers) where
       let few : is_map_formed (Small k.properties) ≡ true = few_formed k fs d q same_names (ap declares_few (sym there ∙ both.declared) ∙ both.few) in
       let plain = means_properties (Small k.properties) L fs d q few same_names same_nodes ms P p in
       means_permuted o answers ms P (keyword.PropertiesWithRequired2 k ∷ []) ((codes "properties", d) ∷ (codes "required", listing t) ∷ [])
-          (claims (head (plan_of ms)) (listed ms) (codes "properties", d)) ((codes "properties", d) ∷ [])
+      (claims (head (plan_of ms)) (listed ms) (codes "properties", d)) ((codes "properties", d) ∷ [])
       (subst (λ s. IsPermutation ((codes "properties", d) ∷ (codes "required", listing t) ∷ []) (claims (head s) (listed ms) (codes "properties", d)))
-          (sym (plan_fusing ms t chosen)) (claims_both ms distinct t (is_condition ms) d there chosen)) record {
+      (sym (plan_fusing ms t chosen)) (claims_both ms distinct t (is_condition ms) d there chosen)) record {
         covers = covers_both ms L P k t names ns form d unrestricted plain.holds;
         shows = λ clean u v Q.
             let step = meaning_step o.world u in
             ap (λ x. x ∷ []) (both_show ms L P k t names ns form u v Q ∙ properties_show (Small k.properties) L (listed fs) same_names same_nodes u v Q
-                (missing_trees (t.0 ∷ t.1 ∷ []) v (P // codes "required") Q) ∙ ap (λ M. shown_declared o.world u v M Q (listed fs) (missing_trees (t.0 ∷ t.1 ∷ []) v (P // codes "required") Q)) p)
+            (missing_trees (t.0 ∷ t.1 ∷ []) v (P // codes "required") Q) ∙ ap (λ M. shown_declared o.world u v M Q (listed fs) (missing_trees (t.0 ∷ t.1 ∷ []) v (P // codes "required") Q)) p)
             ∙ (λ i. shown_declared o.world u v (P // codes "properties") Q (listed fs)
-                (put_if (sym (fused o.world ms P clean step ∙ ap is_some (sym chosen)) i && not (is_empty (missing (sym (names_fused step ms t both.listed_at) i) v)))
-                (erring (P // codes "required") Q (required_faults (sym (names_fused step ms t both.listed_at) i) v (P // codes "required") Q)) []) ∷ [])
+            (put_if (sym (fused o.world ms P clean step ∙ ap is_some (sym chosen)) i && not (is_empty (missing (sym (names_fused step ms t both.listed_at) i) v)))
+            (erring (P // codes "required") Q (required_faults (sym (names_fused step ms t both.listed_at) i) v (P // codes "required") Q)) []) ∷ [])
             ∙ sym (append-nil _ ∙ ap (λ x. member_child o.world ms (codes "properties", x) properties u v P Q) q ∙ properties_child o.world u v ms P Q fs
-                (there ∙ ap Some q) (restricted_read step ms ∙ unrestricted));
+            (there ∙ ap Some q) (restricted_read step ms ∙ unrestricted));
         formed =
             just_one_formed o answers (keyword.PropertiesWithRequired2 k)
-                (required2_formed o answers k few ((λ i. bytes_eq (form.3 i) (form.4 i)) ∙ both.differ) (stand_formed o answers k.properties.nodes.items (listed fs) L same_nodes));
+            (required2_formed o answers k few ((λ i. bytes_eq (form.3 i) (form.4 i)) ∙ both.differ) (stand_formed o answers k.properties.nodes.items (listed fs) L same_nodes));
       }
   means_form k names ns L P None fs d q declared stand form ms p distinct there chosen unrestricted = absurd form
   means_form k names ns L P (Some t) fs d q declared stand form ms p distinct there chosen unrestricted = absurd form
@@ -446,13 +446,13 @@ module _ {K R N : Type 0} (o : Kit K R) (answers : N → Answers) where
     holds = one ms k (codes "allOf", array ds) all_of P
         (λ u v. all_form_accepts L ns u v k form ∙ each_accept o answers (schema_answers o answers) u v ns (numbered (items_list ds)) L answer ∙ sym (fact.all_of_accepts o.world ms ds u v))
         (λ u v. same_within _ _ _ (at_most_through _ _ _ (all_form_asks L ns u v k form) (each_ask o answers (schema_answers o answers) u v ns (numbered (items_list ds)) L answer))
-            (fact.all_of_asks o.world ms ds u v))
+        (fact.all_of_asks o.world ms ds u v))
         (λ u v Q. subst₂ (λ x y. x ∼ y) (sym (all_form_finds L ns u v Q k form))
         (ap (λ M. flat_map (λ e. report o.world u e.1 v (M // e.0) Q) (numbered (items_list ds))) p ∙ sym (fact.all_of_report o.world ms ds u v P Q))
         (each_find o answers (schema_answers o answers) u v Q ns (numbered (items_list ds)) L answer));
     shows = λ u h v Q.
         ap (λ t. t ∷ []) (all_form_shows L ns u v Q k form ∙ ap (plain L Q) (branches_show u v Q ns (numbered (items_list ds)) L stand)
-            ∙ ap (λ M. plain M Q (branches_shown o.world u v M Q (numbered (items_list ds)))) p)
+        ∙ ap (λ M. plain M Q (branches_shown o.world u v M Q (numbered (items_list ds)))) p)
         ∙ sym (all_of_child o.world u v ms P Q ds);
     formed = just_one_formed o answers k (all_of_formed o answers k L ns form (stand_formed o answers ns (numbered (items_list ds)) L stand));
   })
@@ -479,13 +479,13 @@ module _ {K R N : Type 0} (o : Kit K R) (answers : N → Answers) where
           (AnyOf (context (map (λ n. (answers n).report u v Q) ns))) v L Q ≡ found u k v Q
       told u v Q =
           ap (λ b. fault_if (not b) (AnyOf (context (map (λ n. (answers n).report u v Q) ns))) v L Q) (sym (any_accept u v ns (numbered (items_list ds)) L stand))
-              ∙ sym (any_form_finds L ns u v Q k form)
+          ∙ sym (any_form_finds L ns u v Q k form)
 
       meant : (u : Bool) (v : Data) (Q : Path) → fault_if (not (list_any (λ e. accepts o.world u e.1 v) (numbered (items_list ds))))
           (AnyOf (context (map (λ e. report o.world u e.1 v (L // e.0) Q) (numbered (items_list ds))))) v L Q ≡ member_report o.world ms (codes "anyOf", array ds) any_of u v P Q
       meant u v Q =
           ap (λ M. fault_if (not (list_any (λ e. accepts o.world u e.1 v) (numbered (items_list ds))))
-              (AnyOf (context (map (λ e. report o.world u e.1 v (M // e.0) Q) (numbered (items_list ds))))) v M Q) p ∙ sym (fact.any_of_report o.world ms ds u v P Q)
+          (AnyOf (context (map (λ e. report o.world u e.1 v (M // e.0) Q) (numbered (items_list ds))))) v M Q) p ∙ sym (fact.any_of_report o.world ms ds u v P Q)
 
   -- ---- not
 
@@ -577,7 +577,7 @@ module _ {K R N : Type 0} (o : Kit K R) (answers : N → Answers) where
   means_fused t d ms P chosen =
       nothing_means ms (codes "required", d) P (plan_of ms) (ap (λ s. claims (head s) (listed ms) (codes "required", d)) (plan_fusing ms t chosen) ∙ claims_nothing t (is_condition ms) (listed ms) d)
       (λ clean u v Q. no_required_child o.world u v ms P Q d (clean_one_fused o.world ms P clean (meaning_step o.world u) ∙ free_fuses_none ms
-          (fusing_is_free ms (ap is_some (sym chosen)))) (fused o.world ms P clean (meaning_step o.world u) ∙ ap is_some (sym chosen)))
+      (fusing_is_free ms (ap is_some (sym chosen)))) (fused o.world ms P clean (meaning_step o.world u) ∙ ap is_some (sym chosen)))
 
   one_restricts : (ms : Members) → is_some (fused_one ms) ≡ true → is_restricted ms ≡ true
   one_restricts ms e = by (fused_one ms) refl e
@@ -597,7 +597,7 @@ module _ {K R N : Type 0} (o : Kit K R) (answers : N → Answers) where
       (claims (head (plan_of ms)) (listed ms) (codes "required", d)) ((codes "required", d) ∷ []) P
   means_required_alone names L d same ms P p distinct there not_two not_one =
       subst (λ rows. KeywordsMean o answers ms (keyword.Required (record { required = names; location = L }) ∷ []) rows ((codes "required", d) ∷ []) P)
-          (sym (claims_itself ms distinct (head (plan_of ms)) (codes "required", d) (head_of_required (plan_of ms) not_two not_one) there))
+      (sym (claims_itself ms distinct (head (plan_of ms)) (codes "required", d) (head_of_required (plan_of ms) not_two not_one) there))
       (means_alone o answers ms P _ (codes "required", d) (and-false (is_restricted ms))
       (λ clean u. (clean_one_fused o.world ms P clean (meaning_step o.world u) ∙ not_one, fused o.world ms P clean (meaning_step o.world u) ∙ not_two)) (means_required names L d same ms P p))
 
@@ -653,7 +653,7 @@ module _ {K R N : Type 0} (o : Kit K R) (answers : N → Answers) where
         (λ u v Q. ∼_same (leaf_find l L u v Q ∙ (λ i. map (λ t. fault (Leaf (name i) t) v Q (p i)) (same v i)) ∙ sym (fact.leaf_report o.world ms k d u v P Q))));
     shows =
         λ u h v Q. ap (λ t. t ∷ []) (leaf_show l L u v Q ∙ (λ i. leaf_node (p i) Q (described (map (λ t. fault (Leaf (name i) t) v Q (p i)) (same v i)))))
-            ∙ sym (leaf_child o.world u v ms P Q d k) ∙ ap (λ w. member_child o.world ms (k, d) w u v P Q) (sym q);
+        ∙ sym (leaf_child o.world u v ms P Q d k) ∙ ap (λ w. member_child o.world ms (k, d) w u v P Q) (sym q);
     formed = just_one_formed o answers (keyword.Leaf L l) (leaf_formed l L true d);
   }
 

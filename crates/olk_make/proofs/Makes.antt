@@ -83,19 +83,19 @@ module _ {K R N : Type 0} (o : Kit K R) (answers : N → Answers) where
   makes_all_of k L ns form ms m P p s h =
       let a = array_of m.1 s.1 in
       subst (λ n. KeywordMeans o answers ms (k ∷ []) (n, m.1) P) (sym s.0)
-          (means_all_of o answers k ns L a.0 m.1 a.1 form (subst (λ x. StandEach o answers ns (numbered (items_of_array x)) L) a.1 h) ms P (p ∙ ap (λ n. P // n) s.0))
+      (means_all_of o answers k ns L a.0 m.1 a.1 form (subst (λ x. StandEach o answers ns (numbered (items_of_array x)) L) a.1 h) ms P (p ∙ ap (λ n. P // n) s.0))
 
   pub makes_any_of : (k : KeywordOver K R N) (L : Path) (ns : List N) → IsFormOfAnyOf L ns k → MakesMember o answers shape.AnyOf L ns (k ∷ [])
   makes_any_of k L ns form ms m P p s h =
       let a = array_of m.1 s.1 in
       subst (λ n. KeywordMeans o answers ms (k ∷ []) (n, m.1) P) (sym s.0)
-          (means_any_of o answers k ns L a.0 m.1 a.1 form (subst (λ x. StandEach o answers ns (numbered (items_of_array x)) L) a.1 h) ms P (p ∙ ap (λ n. P // n) s.0))
+      (means_any_of o answers k ns L a.0 m.1 a.1 form (subst (λ x. StandEach o answers ns (numbered (items_of_array x)) L) a.1 h) ms P (p ∙ ap (λ n. P // n) s.0))
 
   pub makes_one_of : (k : KeywordOver K R N) (L : Path) (ns : List N) → IsFormOfOneOf L ns k → MakesMember o answers shape.OneOf L ns (k ∷ [])
   makes_one_of k L ns form ms m P p s h =
       let a = array_of m.1 s.1 in
       subst (λ n. KeywordMeans o answers ms (k ∷ []) (n, m.1) P) (sym s.0)
-          (means_one_of o answers k ns L a.0 m.1 a.1 form (subst (λ x. StandEach o answers ns (numbered (items_of_array x)) L) a.1 h) ms P (p ∙ ap (λ n. P // n) s.0))
+      (means_one_of o answers k ns L a.0 m.1 a.1 form (subst (λ x. StandEach o answers ns (numbered (items_of_array x)) L) a.1 h) ms P (p ∙ ap (λ n. P // n) s.0))
 
   pub makes_not : (original : Value) (L : Path) (n : N) (rest ns : List N) → ns ≡ rest ++ n ∷ [] → MakesMember o answers (shape.Not original) L ns
       (keyword.Not (record { original = original; node = n; location = L }) ∷ [])
@@ -105,7 +105,7 @@ module _ {K R N : Type 0} (o : Kit K R) (answers : N → Answers) where
           (keyword.Not (record { original = original; node = n; location = L }) ∷ []) m P
       by [] g =
           subst (λ k. KeywordMeans o answers ms (keyword.Not (record { original = original; node = n; location = L }) ∷ []) (k, m.1) P) (sym s.0)
-              (means_not o answers original n L m.1 s.1 g ms P (p ∙ ap (λ n. P // n) s.0))
+          (means_not o answers original n L m.1 s.1 g ms P (p ∙ ap (λ n. P // n) s.0))
       by (x ∷ []) g = absurd g
       by (x ∷ y ∷ rest) g = absurd g
 
@@ -126,7 +126,7 @@ module _ {K R N : Type 0} (o : Kit K R) (answers : N → Answers) where
       subst (λ n. KeywordsMean o answers ms (k ∷ []) (claims (head p) (listed ms) (n, m.1)) ((n, m.1) ∷ []) P) (sym s.0)
       (subst (λ q. KeywordsMean o answers ms (k ∷ []) (claims (head q) (listed ms) (codes "properties", m.1)) ((codes "properties", m.1) ∷ []) P) (sym chosen)
       (means_form o answers k names ns L P p.fused_pair a.0 m.1 a.1 (s.2 ∙ ap (λ x. map (λ e. e.0) (members x)) a.1) (subst (λ x. StandEach o answers ns (members x) L) a.1 h) form ms
-          (l ∙ ap (λ n. P // n) s.0) distinct (ap (λ n. lookup_name n (listed ms)) (sym s.0) ∙ there) (ap (λ q. q.fused_pair) chosen)
+      (l ∙ ap (λ n. P // n) s.0) distinct (ap (λ n. lookup_name n (listed ms)) (sym s.0) ∙ there) (ap (λ q. q.fused_pair) chosen)
       (ap (λ q. q.restricted) (sym chosen) ∙ unrestricted_if_untaken o answers p (codes "properties") refl (ap (is_taken p) (sym s.0) ∙ untaken))))
 
   module _ (v : Vec (String Global) Global) (L P : Path) (ns : List N) (p : Planned) where
@@ -154,8 +154,8 @@ module _ {K R N : Type 0} (o : Kit K R) (answers : N → Answers) where
     pub makes_required_alone : is_some p.fused_pair ≡ false → is_some p.fused_one ≡ false → MakesRequired (keyword.Required (record { required = v; location = L }) ∷ [])
     makes_required_alone e f =
         required_makes (keyword.Required (record { required = v; location = L }) ∷ [])
-            (λ ms d chosen l same distinct there. means_required_alone o answers v L d same ms P l distinct there (ap (λ q. is_some q.fused_pair) (sym chosen) ∙ e)
-            (ap (λ q. is_some q.fused_one) (sym chosen) ∙ f))
+        (λ ms d chosen l same distinct there. means_required_alone o answers v L d same ms P l distinct there (ap (λ q. is_some q.fused_pair) (sym chosen) ∙ e)
+        (ap (λ q. is_some q.fused_one) (sym chosen) ∙ f))
 
   -- a keyword that has no neighbours claims its own member
   abbrev pub IsAlone : Shape K R → Type 0
@@ -170,9 +170,9 @@ module _ {K R N : Type 0} (o : Kit K R) (answers : N → Answers) where
   claims_own x y L ns ks P p e alone make = subst (λ z. MakesClaims o answers z L ns P p ks) (sym e) (λ ms m l s h distinct there chosen untaken.
       subst (λ q. KeywordsMean o answers ms ks (claims (head q) (listed ms) m) (m ∷ []) P) (sym chosen)
       (means_own o answers ks ms m P distinct there (apart o.world (codes "properties") m.0 refl (alone m.0 m.1 s)) (apart o.world (codes "required") m.0 refl (alone m.0 m.1 s))
-          (no_case o.world (is_condition ms) m.0 (alone m.0 m.1 s))
+      (no_case o.world (is_condition ms) m.0 (alone m.0 m.1 s))
       (never_taken (plan_of ms) m.0 (apart o.world (codes "additionalProperties") m.0 refl (alone m.0 m.1 s)) (apart o.world (codes "properties") m.0 refl (alone m.0 m.1 s))
-          (apart o.world (codes "patternProperties") m.0 refl (alone m.0 m.1 s)) (apart o.world (codes "required") m.0 refl (alone m.0 m.1 s)))
+      (apart o.world (codes "patternProperties") m.0 refl (alone m.0 m.1 s)) (apart o.world (codes "required") m.0 refl (alone m.0 m.1 s)))
       (told_by_none ms p m.0 chosen untaken) (make ms m P l s h)))
 
   -- `patternProperties` does where nothing is restricted
@@ -181,7 +181,7 @@ module _ {K R N : Type 0} (o : Kit K R) (answers : N → Answers) where
   patterns_claim_own x v t L ns ks P p e make = subst (λ z. MakesClaims o answers z L ns P p ks) (sym e) (λ ms m l s h distinct there chosen untaken.
       subst (λ q. KeywordsMean o answers ms ks (claims (head q) (listed ms) m) (m ∷ []) P) (sym chosen)
       (means_own o answers ks ms m P distinct there (ap (bytes_eq (codes "properties")) s.0) (ap (bytes_eq (codes "required")) s.0)
-          (λ read_here. (ap (λ n. bytes_eq n (codes "if")) s.0, ap is_case s.0))
+      (λ read_here. (ap (λ n. bytes_eq n (codes "if")) s.0, ap is_case s.0))
       (free_takes_nothing ms m.0 (ap (λ q. q.restricted) (sym chosen) ∙ unrestricted_if_untaken o answers p m.0 (ap tells_members s.0) untaken))
       (told_by_none ms p m.0 chosen untaken) (make ms m P l s h)))
 
@@ -310,12 +310,12 @@ module _ {K R N : Type 0} (o : Kit K R) (answers : N → Answers) where
           ⊎ ((is_condition ms ≡ true) × (m.0 ≡ codes "then")) ⊎ ((is_condition ms ≡ true) × (m.0 ≡ codes "else"))
       taken_by =
           by (is_restricted ms) (bytes_eq m.0 (codes "properties")) (bytes_eq m.0 (codes "patternProperties")) (is_condition ms) (bytes_eq m.0 (codes "then"))
-              (bytes_eq m.0 (codes "else")) refl refl refl refl refl refl taken
+          (bytes_eq m.0 (codes "else")) refl refl refl refl refl refl taken
         where
           by : (r a b c t e : Bool) → is_restricted ms ≡ r → bytes_eq m.0 (codes "properties") ≡ a → bytes_eq m.0 (codes "patternProperties") ≡ b
               → is_condition ms ≡ c → bytes_eq m.0 (codes "then") ≡ t → bytes_eq m.0 (codes "else") ≡ e → ((r && (a || (b || false))) || (c && (t || (e || false)))) ≡ true
               → ((is_restricted ms ≡ true) × (m.0 ≡ codes "properties")) ⊎ ((is_restricted ms ≡ true) × (m.0 ≡ codes "patternProperties"))
-                  ⊎ ((is_condition ms ≡ true) × (m.0 ≡ codes "then")) ⊎ ((is_condition ms ≡ true) × (m.0 ≡ codes "else"))
+              ⊎ ((is_condition ms ≡ true) × (m.0 ≡ codes "then")) ⊎ ((is_condition ms ≡ true) × (m.0 ≡ codes "else"))
           by true true b c t e q i j r k l h = inl (q, same_name m.0 (codes "properties") i)
           by true false true c t e q i j r k l h = inr (inl (q, same_name m.0 (codes "patternProperties") j))
           by true false false true true e q i j r k l h = inr (inr (inl (r, same_name m.0 (codes "then") k)))
@@ -389,16 +389,16 @@ module _ {K R N : Type 0} (o : Kit K R) (answers : N → Answers) where
                 (make ms m stand.0.place stand.0.shape stand.0.fits (subst (λ L. StandAt o answers (reads_of part.shape) part.nodes.items m.1 L) (sym stand.0.place) stand.0.nodes)
                 (λ taking. h.cases (if_fits part.shape (known_of ms) stand.0.fits taking) (first (codes "if") (if_named part.shape m.0 m.1 stand.0.shape taking)))
                 (λ taking. let r = restriction_named part.shape m.0 m.1 stand.0.shape taking in
-                    h.beside (ap is_restriction (ap (λ k. lookup_name k (listed ms)) (sym r.0) ∙ found) ∙ r.1) (first (codes "additionalProperties") r.0))
+                h.beside (ap is_restriction (ap (λ k. lookup_name k (listed ms)) (sym r.0) ∙ found) ∙ r.1) (first (codes "additionalProperties") r.0))
                 distinct found chosen (ap (λ s. is_taken s m.0) chosen ∙ at_place (λ x. is_taken (plan_of ms) x.0 ≡ false) h.done m left (subst (Each (λ x. is_taken (plan_of ms) x.0 ≡ false)) (sym w) (stays_untaken (listed ms))))));
             stand = stand.1;
             cases = λ read none. let before = earlier (codes "if") h.done m none in
                 subst (λ x. CasesStand o answers x ms P) (sym (cases_kept
-                    (not_so (codes "if") m.0 (is_if_shape part.shape) (if_named part.shape m.0 m.1 stand.0.shape) before.1))) (h.cases read before.0);
+                (not_so (codes "if") m.0 (is_if_shape part.shape) (if_named part.shape m.0 m.1 stand.0.shape) before.1))) (h.cases read before.0);
             beside = λ restricted none. let before = earlier (codes "additionalProperties") h.done m none in
                 subst (λ x. BesideStands o answers (known_of ms) x ms P)
-                    (sym (beside_kept (not_so (codes "additionalProperties") m.0 (is_restriction_shape part.shape)
-                    (λ r. (restriction_named part.shape m.0 m.1 stand.0.shape r).0) before.1))) (h.beside restricted before.0);
+                (sym (beside_kept (not_so (codes "additionalProperties") m.0 (is_restriction_shape part.shape)
+                (λ r. (restriction_named part.shape m.0 m.1 stand.0.shape r).0) before.1))) (h.beside restricted before.0);
             whole = append_assoc h.done (m ∷ []) left ∙ w;
           }
             where
@@ -421,5 +421,5 @@ module _ {K R N : Type 0} (o : Kit K R) (answers : N → Answers) where
           by : (left : List (Name × Data)) → PartsStand o answers (known_of ms) [] left P → h.done ++ left ≡ stays → KeywordsMean o answers ms ks (listed ms) (listed ms) P
           by [] stand w =
               heads_mean_all o answers ms P heads ks distinct (heads_there ms distinct (plan_of ms) refl)
-                  (with_taken (subst (λ es. KeywordsMean o answers ms ks (flat_map (claims heads (listed ms)) es) es P) (sym (append-nil h.done) ∙ w) h.mean))
+              (with_taken (subst (λ es. KeywordsMean o answers ms ks (flat_map (claims heads (listed ms)) es) es P) (sym (append-nil h.done) ∙ w) h.mean))
           by (m ∷ left) stand w = absurd stand

@@ -110,7 +110,7 @@ module _ {K R N : Type 0} (o : Kit K R) (answers : N → Answers) where
         (multiple_valid (nat_lt 1 (fact.accepting_count o.world u v (numbered (items_list ds)))) _ _ v L Q (any_context o answers u v Q ns (numbered (items_list ds)) L stand))));
     shows = λ u h v Q.
         ap (λ t. t ∷ []) (form_shows L ns u v Q k form ∙ one_show u v Q ns (numbered (items_list ds)) L stand
-            ∙ ap (λ M. fact.one_shown o.world u v (fact.accepting_count o.world u v (numbered (items_list ds))) M Q (numbered (items_list ds))) p)
+        ∙ ap (λ M. fact.one_shown o.world u v (fact.accepting_count o.world u v (numbered (items_list ds))) M Q (numbered (items_list ds))) p)
         ∙ sym (fact.one_of_child o.world u v ms ds P Q);
     formed = just_one_formed o answers k (one_of_formed o answers k L ns form (stand_formed o answers ns (numbered (items_list ds)) L stand));
   })

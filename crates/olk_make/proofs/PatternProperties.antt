@@ -119,7 +119,7 @@ module _ {K R N : Type 0} (o : Kit K R) (answers : N → Answers) where
       matched_find : matched_report o.answers (λ n. (answers n).report) u e.0 e.1 v Q ∼ flat_map (λ x. report o.world u d.1 x.1 (L // d.0) (Q // x.0)) (matched_members o.world u d.0 v)
       matched_find =
           subst (λ xs. flat_map (λ x. (answers e.1).report u x.1 (Q // x.0)) xs ∼ flat_map (λ x. report o.world u d.1 x.1 (L // d.0) (Q // x.0))
-              (matched_members o.world u d.0 v)) (sym (matched_same v))
+          (matched_members o.world u d.0 v)) (sym (matched_same v))
           (∼_flat_map_any (λ x. (answers e.1).report u x.1 (Q // x.0)) (λ x. report o.world u d.1 x.1 (L // d.0) (Q // x.0)) (λ x. s.faults u x.1 (Q // x.0)) (matched_members o.world u d.0 v))
 
       trees_at : (xs : List (Name × Data)) → map (λ x. (answers e.1).tree u x.1 (Q // x.0)) xs ≡ map (λ x. tree o.world u d.1 x.1 (L // d.0) (Q // x.0)) xs
@@ -146,7 +146,7 @@ module _ {K R N : Type 0} (o : Kit K R) (answers : N → Answers) where
     patterns_ask (e ∷ es) [] h = absurd h
     patterns_ask (e ∷ es) (d ∷ ds) h =
         more_within _ _ _ _ _ (matched_ask e d L h.0 h.1 u (members v)) (patterns_ask es ds h.2)
-            (sum_by-cons (λ d. sum_by (λ x. pattern_asks o.world d.0 + cond (matches o.world u d.0 x.0) (asks o.world u d.1 x.1) 0) (members v)) d ds)
+        (sum_by-cons (λ d. sum_by (λ x. pattern_asks o.world d.0 + cond (matches o.world u d.0 x.0) (asks o.world u d.1 x.1) 0) (members v)) d ds)
 
     module _ (Q : Path) where
       patterns_find : (es : List Entry) (ds : List (Name × Data)) → EntriesStand o answers es ds L → patterns_report o.answers (λ n. (answers n).report) u es v Q ∼ flat_map
@@ -218,7 +218,7 @@ module _ {K R N : Type 0} (o : Kit K R) (answers : N → Answers) where
       holds = one_if_free o answers ms k (codes "patternProperties", d) pattern_properties P
           (λ u v. (of_patterns k L es form u v k form).0 ∙ patterns_accept L u v es (members d) stand ∙ sym (fact.pattern_properties_accepts o.world ms d u v))
           (λ free u v. let f = (of_patterns k L es form u v k form).1 in let a = patterns_ask L u v es (members d) stand in
-              let t = fact.pattern_properties_asks o.world ms d u v (restricted_read (meaning_step o.world u) ms ∙ unrestricted ms free) in omega (arith, f, a, t))
+          let t = fact.pattern_properties_asks o.world ms d u v (restricted_read (meaning_step o.world u) ms ∙ unrestricted ms free) in omega (arith, f, a, t))
           (λ u v Q. like_through (∼_same (form_finds k L es form u v Q k form)) (subst (λ fs. patterns_report o.answers (λ n. (answers n).report) u es v Q ∼ fs)
           (ap (λ M. flat_map (λ e. flat_map (λ x. report o.world u e.1 x.1 (M // e.0) (Q // x.0)) (matched_members o.world u e.0 v)) (members d)) p ∙ sym (fact.pattern_properties_report o.world ms d u v P Q)) (patterns_find L u v Q es (members d) stand)));
       shows = λ u alone v Q. ap (λ t. t ∷ []) (

@@ -132,7 +132,7 @@ module _ {K R N : Type 0} (o : Kit K R) (answers : N → Answers) where
       choices_accept (m ∷ maps) (e ∷ es) L h =
           ap (λ q. q.accepts u) (every-append (λ n. (answers n).means v) (flat_map (chosen_at m) (at e.0 v)) (chosen_of maps es))
           ∙ (λ i. each_accept o answers (schema_answers o answers) u v (flat_map (chosen_at m) (at e.0 v)) (chosen v e) (L // e.0) (chosen_answer m e (L // e.0) h.0 h.1) i
-              && choices_accept maps es L h.2 i)
+          && choices_accept maps es L h.2 i)
 
       choices_ask : (maps : List (SmallMap N)) (es : List (Name × Data)) (L : Path) → MapsAnswer maps es L
           → (every (λ n. (answers n).means v) (chosen_of maps es)).asks u ≤ sum_by (λ e. sum_by (λ c. asks o.world u c.1 v) (chosen v e)) es
@@ -141,9 +141,9 @@ module _ {K R N : Type 0} (o : Kit K R) (answers : N → Answers) where
       choices_ask (m ∷ maps) [] L h = absurd h
       choices_ask (m ∷ maps) (e ∷ es) L h =
           subst (λ q. q.asks u ≤ sum_by (λ e. sum_by (λ c. asks o.world u c.1 v) (chosen v e)) (e ∷ es))
-              (sym (every-append (λ n. (answers n).means v) (flat_map (chosen_at m) (at e.0 v)) (chosen_of maps es)))
+          (sym (every-append (λ n. (answers n).means v) (flat_map (chosen_at m) (at e.0 v)) (chosen_of maps es)))
           (more_within _ _ _ _ _ (each_ask o answers (schema_answers o answers) u v (flat_map (chosen_at m) (at e.0 v)) (chosen v e) (L // e.0) (chosen_answer m e (L // e.0) h.0 h.1))
-              (choices_ask maps es L h.2) (sum_by-cons (λ e. sum_by (λ c. asks o.world u c.1 v) (chosen v e)) e es))
+          (choices_ask maps es L h.2) (sum_by-cons (λ e. sum_by (λ c. asks o.world u c.1 v) (chosen v e)) e es))
 
       module _ (Q : Path) where
         choices_find : (maps : List (SmallMap N)) (es : List (Name × Data)) (L : Path) → MapsAnswer maps es L → flat_map (λ n. (answers n).report u v Q)
@@ -153,9 +153,9 @@ module _ {K R N : Type 0} (o : Kit K R) (answers : N → Answers) where
         choices_find (m ∷ maps) [] L h = absurd h
         choices_find (m ∷ maps) (e ∷ es) L h =
             subst (λ fs. fs ∼ flat_map (λ e. flat_map (λ c. report o.world u c.1 v (L // e.0 // c.0) Q) (chosen v e)) (e ∷ es))
-                (sym (flat_map-append (λ n. (answers n).report u v Q) (flat_map (chosen_at m) (at e.0 v)) (chosen_of maps es)))
+            (sym (flat_map-append (λ n. (answers n).report u v Q) (flat_map (chosen_at m) (at e.0 v)) (chosen_of maps es)))
             (∼_append (each_find o answers (schema_answers o answers) u v Q (flat_map (chosen_at m) (at e.0 v)) (chosen v e) (L // e.0) (chosen_answer m e (L // e.0) h.0 h.1))
-                (choices_find maps es L h.2))
+            (choices_find maps es L h.2))
 
         choices_show : (maps : List (SmallMap N)) (es : List (Name × Data)) (L : Path) → MapsAnswer maps es L → map (λ n. (answers n).tree u v Q)
             (chosen_of maps es) ≡ flat_map (λ e. map (λ c. tree o.world u c.1 v (L // e.0 // c.0) Q) (chosen v e)) es
@@ -164,7 +164,7 @@ module _ {K R N : Type 0} (o : Kit K R) (answers : N → Answers) where
         choices_show (m ∷ maps) [] L h = absurd h
         choices_show (m ∷ maps) (e ∷ es) L h = map-append (λ n. (answers n).tree u v Q) (flat_map (chosen_at m) (at e.0 v)) (chosen_of maps es)
             ∙ (λ i. each_show o answers (schema_answers o answers) u v Q (flat_map (chosen_at m) (at e.0 v)) (chosen v e) (L // e.0) (chosen_answer m e (L // e.0) h.0 h.1) i
-                ++ choices_show maps es L h.2 i)
+            ++ choices_show maps es L h.2 i)
 
   -- ---- the validator
 
@@ -184,13 +184,13 @@ module _ {K R N : Type 0} (o : Kit K R) (answers : N → Answers) where
       unfolding answers_of
       choice_asks =
           subst (λ ks. (every (λ n. (answers n).means v) (chosen_among ks)).asks u ≤ sum_by (λ e. sum_by (λ c. asks o.world u c.1 v) (chosen v e)) (members d))
-              (sym names) (choices_ask v u m.nodes.items (members d) L stand)
+          (sym names) (choices_ask v u m.nodes.items (members d) L stand)
 
       choice_finds : (Q : Path) → found o answers u (choices_of m L) v Q ∼ flat_map (λ e. flat_map (λ c. report o.world u c.1 v (L // e.0 // c.0) Q) (chosen v e)) (members d)
       unfolding answers_of
       choice_finds Q =
           subst (λ ks. flat_map (λ n. (answers n).report u v Q) (chosen_among ks) ∼ flat_map (λ e. flat_map (λ c. report o.world u c.1 v (L // e.0 // c.0) Q) (chosen v e)) (members d))
-              (sym names) (choices_find v u Q m.nodes.items (members d) L stand)
+          (sym names) (choices_find v u Q m.nodes.items (members d) L stand)
 
       choice_shows : (Q : Path) → shown o answers u (choices_of m L) v Q ≡ plain L Q (flat_map (λ e. map (λ c. tree o.world u c.1 v (L // e.0 // c.0) Q) (chosen v e)) (members d))
       unfolding answers_of
@@ -206,11 +206,11 @@ module _ {K R N : Type 0} (o : Kit K R) (answers : N → Answers) where
           (λ u v. choice_accepts u v ∙ sym (fact.property_dependencies_accepts o.world ms d u v))
           (λ u v. same_within _ _ _ (choice_asks u v) (fact.property_dependencies_asks o.world ms d u v))
           (λ u v Q. subst (λ fs. found o answers u (choices_of m L) v Q ∼ fs)
-              (ap (λ M. flat_map (λ e. flat_map (λ c. report o.world u c.1 v (M // e.0 // c.0) Q) (chosen v e)) (members d)) p
-              ∙ sym (fact.property_dependencies_report o.world ms d u v P Q)) (choice_finds u v Q));
+          (ap (λ M. flat_map (λ e. flat_map (λ c. report o.world u c.1 v (M // e.0 // c.0) Q) (chosen v e)) (members d)) p
+          ∙ sym (fact.property_dependencies_report o.world ms d u v P Q)) (choice_finds u v Q));
       shows =
           λ u h v Q. ap (λ t. t ∷ []) (choice_shows u v Q ∙ ap (λ M. plain M Q (flat_map (λ e. map (λ c. tree o.world u c.1 v (M // e.0 // c.0) Q) (chosen v e)) (members d))) p)
-              ∙ sym (fact.property_dependencies_child o.world ms d u v P Q);
+          ∙ sym (fact.property_dependencies_child o.world ms d u v P Q);
       formed = just_one_formed o answers (choices_of m L) choices_formed;
     }
 

@@ -61,7 +61,7 @@ module _ {K R N : Type 0} (o : Kit K R) (answers : N → Answers) where
       unfolding answers_of
       schema_finds Q =
           ∼_flat_map_any (λ x. map (wrapped v Q) ((answers n).report u (string x.0) Q)) (λ x. map (wrapped v Q) (report o.world u d (string x.0) L Q))
-              (λ x. fact.∼_wrapped v Q (stands.faults u (string x.0) Q)) (members v)
+          (λ x. fact.∼_wrapped v Q (stands.faults u (string x.0) Q)) (members v)
 
       schema_shows : (Q : Path) → shown o answers u names_of v Q ≡ plain L Q (map (λ x. tree o.world u d (string x.0) L Q) (members v))
       unfolding answers_of
@@ -78,10 +78,10 @@ module _ {K R N : Type 0} (o : Kit K R) (answers : N → Answers) where
           (λ u v. schema_accepts d stands u v ∙ sym (fact.property_names_accepts o.world ms d u v is))
           (λ u v. same_within _ _ _ (schema_asks d stands u v) (fact.property_names_asks o.world ms d u v))
           (λ u v Q. subst (λ fs. found o answers u names_of v Q ∼ fs) (ap (λ M. flat_map (λ x. map (wrapped v Q) (report o.world u d (string x.0) M Q)) (members v)) p
-              ∙ sym (fact.property_names_report o.world ms d u v is P Q)) (schema_finds d stands u v Q));
+          ∙ sym (fact.property_names_report o.world ms d u v is P Q)) (schema_finds d stands u v Q));
       shows =
           λ u h v Q. ap (λ t. t ∷ []) (schema_shows d stands u v Q ∙ ap (λ M. plain M Q (map (λ x. tree o.world u d (string x.0) M Q) (members v))) p)
-              ∙ sym (fact.property_names_child o.world ms d u v is P Q);
+          ∙ sym (fact.property_names_child o.world ms d u v is P Q);
       formed = just_one_formed o answers names_of (names_formed ∙ stands.formed);
     }
 

@@ -106,7 +106,7 @@ nameless_not_taken W p k h =
 unpaired_not_taken : (p : Planned) (k : Name) → is_conditional_name k ≡ true → p.condition ≡ false → is_taken p k ≡ false
 unpaired_not_taken p k h off =
     not_taken p k (λ r i. apart_by is_conditional_name k (codes "properties") h refl i || (apart_by is_conditional_name k (codes "patternProperties") h refl i || false))
-        (λ c. absurd (true≢false (sym c ∙ off)))
+    (λ c. absurd (true≢false (sym c ∙ off)))
 
 module _ {K R N : Type 0} (o : Kit K R) (answers : N → Answers) where
   -- ---- one part
@@ -146,8 +146,8 @@ module _ {K R N : Type 0} (o : Kit K R) (answers : N → Answers) where
       left_after : (b : Bool) → is_taken p k ≡ b → left ≡ cond b None (Some part) → PartsStand o answers c (ps ++ option_to_list left) (untaken p (done ++ (k, d) ∷ [])) P
       left_after b e q =
           subst₂ (λ l es. PartsStand o answers c l es P) (ap (λ x. ps ++ option_to_list x) (sym q))
-              (sym (those_more (λ m. not (is_taken p m.0)) done (k, d) ∙ ap (λ x. untaken p done ++ put_if (not x) (k, d) []) e))
-              (parts_append ps (option_to_list (cond b None (Some part))) (untaken p done) (put_if (not b) (k, d) []) h.left (by b))
+          (sym (those_more (λ m. not (is_taken p m.0)) done (k, d) ∙ ap (λ x. untaken p done ++ put_if (not x) (k, d) []) e))
+          (parts_append ps (option_to_list (cond b None (Some part))) (untaken p done) (put_if (not b) (k, d) []) h.left (by b))
         where
           by : (b : Bool) → PartsStand o answers c (option_to_list (cond b None (Some part))) (put_if (not b) (k, d) []) P
           by true = tt
@@ -168,10 +168,10 @@ module _ {K R N : Type 0} (o : Kit K R) (answers : N → Answers) where
         at_else = λ read. slot_kept _ (codes "else") (ap (λ x. x.cases.else_schema) q.1) (apart_by (is_taken p) (codes "else") k (case_is_taken p (codes "else") read refl) e) (h.at_else read);
         at_properties =
             λ restricted. slot_kept _ (codes "properties") (ap (λ x. x.beside.properties) q.1)
-                (apart_by (is_taken p) (codes "properties") k (telling_is_taken p (codes "properties") restricted refl) e) (h.at_properties restricted);
+            (apart_by (is_taken p) (codes "properties") k (telling_is_taken p (codes "properties") restricted refl) e) (h.at_properties restricted);
         at_patterns =
             λ restricted. slot_kept _ (codes "patternProperties") (ap (λ x. x.beside.patterns) q.1)
-                (apart_by (is_taken p) (codes "patternProperties") k (telling_is_taken p (codes "patternProperties") restricted refl) e) (h.at_patterns restricted);
+            (apart_by (is_taken p) (codes "patternProperties") k (telling_is_taken p (codes "patternProperties") restricted refl) e) (h.at_patterns restricted);
       }
 
       where_restricted : (T : Type 0) → cond p.restricted T ((left ≡ Some part) × (after ≡ t)) → is_case k ≡ false → (p.restricted ≡ true → T → TakenAfter) → TakenAfter
@@ -186,7 +186,7 @@ module _ {K R N : Type 0} (o : Kit K R) (answers : N → Answers) where
         left = left_after true (ap (is_taken p) s ∙ case_is_taken p (codes "then") (sym same ∙ f) refl) q.0;
         at_then =
             λ read. slot_filled _ (codes "then") _ s (taken_stands part.nodes.items after.cases.then_schema d (P // codes "then") q.1
-                (subst (λ a. StandAt o answers Itself part.nodes.items d (P // a)) s n));
+            (subst (λ a. StandAt o answers Itself part.nodes.items d (P // a)) s n));
         at_else = λ read. slot_kept _ (codes "else") q.2 (ap (bytes_eq (codes "else")) s) (h.at_else read);
         at_properties = λ restricted. slot_kept _ (codes "properties") (ap (λ b. b.properties) q.3) (ap (bytes_eq (codes "properties")) s) (h.at_properties restricted);
         at_patterns = λ restricted. slot_kept _ (codes "patternProperties") (ap (λ b. b.patterns) q.3) (ap (bytes_eq (codes "patternProperties")) s) (h.at_patterns restricted);
@@ -196,7 +196,7 @@ module _ {K R N : Type 0} (o : Kit K R) (answers : N → Answers) where
         at_then = λ read. slot_kept _ (codes "then") q.2 (ap (bytes_eq (codes "then")) s) (h.at_then read);
         at_else =
             λ read. slot_filled _ (codes "else") _ s (taken_stands part.nodes.items after.cases.else_schema d (P // codes "else") q.1
-                (subst (λ a. StandAt o answers Itself part.nodes.items d (P // a)) s n));
+            (subst (λ a. StandAt o answers Itself part.nodes.items d (P // a)) s n));
         at_properties = λ restricted. slot_kept _ (codes "properties") (ap (λ b. b.properties) q.3) (ap (bytes_eq (codes "properties")) s) (h.at_properties restricted);
         at_patterns = λ restricted. slot_kept _ (codes "patternProperties") (ap (λ b. b.patterns) q.3) (ap (bytes_eq (codes "patternProperties")) s) (h.at_patterns restricted);
       }
@@ -206,7 +206,7 @@ module _ {K R N : Type 0} (o : Kit K R) (answers : N → Answers) where
         at_else = λ read. slot_kept _ (codes "else") (ap (λ x. x.cases.else_schema) e.1) (ap (bytes_eq (codes "else")) s.0) (h.at_else read);
         at_properties =
             λ r. slot_filled _ (codes "properties") _ s.0 (subst (λ x. Fills (λ y. DeclaredStand o answers y (P // codes "properties")) x (Some d))
-                (sym (ap (λ x. x.beside.properties) e.1)) (record { kind = s.1; names = s.2; nodes = subst (λ a. StandEach o answers part.nodes.items (members d) (P // a)) s.0 n }));
+            (sym (ap (λ x. x.beside.properties) e.1)) (record { kind = s.1; names = s.2; nodes = subst (λ a. StandEach o answers part.nodes.items (members d) (P // a)) s.0 n }));
         at_patterns = λ r. slot_kept _ (codes "patternProperties") (ap (λ x. x.beside.patterns) e.1) (ap (bytes_eq (codes "patternProperties")) s.0) (h.at_patterns r);
       }
       one_taken (shape.PatternProperties v w) s f n q = where_restricted _ q (ap is_case s.0) λ restricted e. record {
@@ -216,8 +216,14 @@ module _ {K R N : Type 0} (o : Kit K R) (answers : N → Answers) where
         at_properties = λ r. slot_kept _ (codes "properties") (ap (λ x. x.beside.properties) e.1) (ap (bytes_eq (codes "properties")) s.0) (h.at_properties r);
         at_patterns =
             λ r. slot_filled _ (codes "patternProperties") _ s.0 (subst (λ x. Fills (λ y. PatternsStand o answers c y (P // codes "patternProperties")) x (Some d))
-                (sym (ap (λ x. x.beside.patterns) e.1)) (record { place = stand.place ∙ ap (λ a. P // a) s.0; kind = s.1; patterns = s.2; names = f.0;
-                table = f.1; nodes = subst (λ a. StandEach o answers part.nodes.items (members d) (P // a)) s.0 n }));
+            (sym (ap (λ x. x.beside.patterns) e.1)) (record {
+              place = stand.place ∙ ap (λ a. P // a) s.0;
+              kind = s.1;
+              patterns = s.2;
+              names = f.0;
+              table = f.1;
+              nodes = subst (λ a. StandEach o answers part.nodes.items (members d) (P // a)) s.0 n;
+            }));
       }
       one_taken (shape.Leaf l) s f n q = kept (nameless_not_taken o.world p k (ap is_nameless s.0)) q
       one_taken shape.Unread s f n q = kept (nameless_not_taken o.world p k (ap is_nameless s)) q
@@ -274,7 +280,7 @@ module _ {K R N : Type 0} (o : Kit K R) (answers : N → Answers) where
             left = members;
             taken =
                 subst (AreTaken o answers p c (h.done ++ m ∷ []) P after) (sym q)
-                    (one_taken same ps h.done t after h.taken m.0 m.1 part left stand.0 part.shape stand.0.shape stand.0.fits stand.0.nodes takes);
+                (one_taken same ps h.done t after h.taken m.0 m.1 part left stand.0 part.shape stand.0.shape stand.0.fits stand.0.nodes takes);
             stand = stand.1;
             whole = append_assoc h.done (m ∷ []) members ∙ w;
           }

@@ -105,7 +105,7 @@ module _ (W : World) (ms : Members) (d : Data) (allows : is_restriction (Some d)
     nothing_found P Q =
         let h = neither (is_truth false d) (is_object d) allows in
         (λ i. flat_map (λ (x : Name × Data). cond (is_other W u fs es x.0) (cond (h.1 i) (report W u d x.1 (P // codes "additionalProperties") (Q // x.0)) []) []) (members v)
-            ++ cond (h.0 i) (unexpected_faults (has_beside ms) (other_members W u fs es v) v (P // codes "additionalProperties") Q) [])
+        ++ cond (h.0 i) (unexpected_faults (has_beside ms) (other_members W u fs es v) v (P // codes "additionalProperties") Q) [])
         ∙ append-nil _
         ∙ (λ i. flat_map (λ (x : Name × Data). no_other_truth {X = List Fault} (is_other W u fs es x.0) [] i) (members v))
         ∙ nothing_of_each (members v)

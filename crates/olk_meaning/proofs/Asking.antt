@@ -55,7 +55,7 @@ module _ (W : World) (u : Bool) (v : Data) (none : IsNoObject v) where
   keywords_nothing : (T S : Keywords Meaning) → Each (λ m. GoodPart AsksNothing m.1) S → Each (λ m. keyword_asks W u T m.0 m.1 v (keyword_named W m.0) ≡ 0) S
   keywords_nothing T S =
       Each-implies (λ m. GoodPart AsksNothing m.1) (λ m. keyword_asks W u T m.0 m.1 v (keyword_named W m.0) ≡ 0)
-          (λ m g. (λ i. applied_nothing T m.0 m.1 g (keyword_named W m.0) i + own_nothing T m.0 m.1 g (keyword_named W m.0) i)) S
+      (λ m g. (λ i. applied_nothing T m.0 m.1 g (keyword_named W m.0) i + own_nothing T m.0 m.1 g (keyword_named W m.0) i)) S
 
 module _ (W : World) (u : Bool) where
   step_asks_nothing : (S : Schema Meaning) → GoodSchema AsksNothing S → (v : Data) → IsNoObject v → (meaning_step W u S).asks v ≡ 0

@@ -64,8 +64,8 @@ module _ (W : World) (u : Bool) (v : Data) where
       where
         by : (o : Ordering) → map (λ s. s.answer.tree m.1 (L // m.0) (Q // m.0)) (option_to_list (lookup_name m.0 (map (entry (meaning_step W u)) es))) ≡ shown_at es m
             → map (λ s. s.answer.tree m.1 (L // m.0) (Q // m.0)) (option_to_list
-                (first_if_equal o (place (meaning_step W u) e.1) (lookup_name m.0 (map (entry (meaning_step W u)) es)))) ≡ map (λ d. tree W u d m.1 (L // m.0) (Q // m.0))
-                (option_to_list (first_if_equal o e.1 (lookup_name m.0 es)))
+            (first_if_equal o (place (meaning_step W u) e.1) (lookup_name m.0 (map (entry (meaning_step W u)) es)))) ≡ map (λ d. tree W u d m.1 (L // m.0) (Q // m.0))
+            (option_to_list (first_if_equal o e.1 (lookup_name m.0 es)))
         by Less h = h
         by Equal h = refl
         by Greater h = h
@@ -110,10 +110,10 @@ module _ (W : World) (u : Bool) (v : Data) where
   module _ (ms : Members) (P Q : Path) where
     pub properties_child : (fs : Members) → lookup_name (codes "properties") (listed ms) ≡ Some (object fs) → restricts (read_members (meaning_step W u) ms) ≡ false
         → member_child W ms (codes "properties", object fs) properties u v P Q ≡ shown_declared (P // codes "properties") Q (listed fs)
-            (missing_child W u (read_members (meaning_step W u) ms) v P Q (fuses_two (read_members (meaning_step W u) ms))) ∷ []
+        (missing_child W u (read_members (meaning_step W u) ms) v P Q (fuses_two (read_members (meaning_step W u) ms))) ∷ []
     properties_child fs there free =
         λ i. put_if (not (free i)) (result (P // codes "properties") Q (cond (and-true (is_object v) i) (Some (met i)) None) false []
-            (shown i ++ missing_child W u (read_members (meaning_step W u) ms) v P Q (fuses_two (read_members (meaning_step W u) ms)))) []
+        (shown i ++ missing_child W u (read_members (meaning_step W u) ms) v P Q (fuses_two (read_members (meaning_step W u) ms)))) []
       where
         here : entries_at (read_members (meaning_step W u) ms) (codes "properties") ≡ map (entry (meaning_step W u)) (listed fs)
         here = entries_there (meaning_step W u) ms (codes "properties") (object fs) (sym (lookup_listed (codes "properties") ms) ∙ there)
@@ -122,14 +122,14 @@ module _ (W : World) (u : Bool) (v : Data) where
             (λ m. m.0) (filter_once (λ m. is_among m.0 (map (λ e. e.0) (listed fs))) (members v))
         met =
             ap (λ ns. map (λ m. m.0) (filter_once (λ m. is_among m.0 ns) (members v)))
-                (ap (map {A = Name × Sub Meaning} (λ e. e.0)) here ∙ map-map {X = Name × Sub Meaning} {Y = Name × Data} (λ e. e.0) (λ e. e.0) (entry (meaning_step W u)) (λ e. refl) (listed fs))
+            (ap (map {A = Name × Sub Meaning} (λ e. e.0)) here ∙ map-map {X = Name × Sub Meaning} {Y = Name × Data} (λ e. e.0) (λ e. e.0) (entry (meaning_step W u)) (λ e. refl) (listed fs))
 
         shown : flat_map (λ m. map (λ s. s.answer.tree m.1 (P // codes "properties" // m.0) (Q // m.0))
             (option_to_list (lookup_name m.0 (entries_at (read_members (meaning_step W u) ms) (codes "properties"))))) (members v) ≡ flat_map
             (shown_at (P // codes "properties") Q (listed fs)) (members v)
         shown =
             ap (λ es. flat_map (λ m. map (λ s. s.answer.tree m.1 (P // codes "properties" // m.0) (Q // m.0)) (option_to_list (lookup_name m.0 es))) (members v)) here
-                ∙ entries_shown (P // codes "properties") Q (listed fs) (members v)
+            ∙ entries_shown (P // codes "properties") Q (listed fs) (members v)
 
     pub required_child : (d : Data) → StandsAlone W u ms (codes "required", d) required → member_child W ms (codes "required", d) required u v P Q ≡ erring
         (P // codes "required") Q (required_faults (texts d) v (P // codes "required") Q) ∷ []
@@ -151,7 +151,7 @@ module _ (W : World) (u : Bool) (v : Data) where
       unfolding meaning
       any_of_child =
           λ i. cond (count i) (result (P // codes "anyOf") Q None true [] (all_branches_shown (codes "anyOf") P Q ds i))
-              (plain (P // codes "anyOf") Q (accepting_branches_shown (codes "anyOf") P Q ds i)) ∷ []
+          (plain (P // codes "anyOf") Q (accepting_branches_shown (codes "anyOf") P Q ds i)) ∷ []
         where
           count : (accepting (read (meaning_step W u) (array ds)) v == 0) ≡ is_empty (accepting_branches (numbered (items_list ds)))
           count = none_counted (λ s. holds s v) ((read (meaning_step W u) (array ds)).items)

@@ -191,12 +191,12 @@ head_of_if p e n = over (is_taken_over p n) refl
     over true q = taken (taken_named p n q)
     over false q =
         ap (λ c. bytes_eq (codes "if") (cond (is_some p.fused_pair && bytes_eq (codes "required") n) (codes "properties") (cond (c && is_case n) (codes "if") n))) e
-            ∙ by (is_some p.fused_pair) (bytes_eq (codes "required") n) refl
+        ∙ by (is_some p.fused_pair) (bytes_eq (codes "required") n) refl
 
 case_heads_none : (p : Planned) → p.condition ≡ true → (k : Name) → is_case k ≡ true → (n : Name) → bytes_eq k (head p n) ≡ false
 case_heads_none p e k h n =
     ap (λ c. bytes_eq k (cond (is_taken_over p n) (codes "additionalProperties")
-        (cond (is_some p.fused_pair && bytes_eq (codes "required") n) (codes "properties") (cond (c && is_case n) (codes "if") n)))) e ∙ over (is_taken_over p n)
+    (cond (is_some p.fused_pair && bytes_eq (codes "required") n) (codes "properties") (cond (c && is_case n) (codes "if") n)))) e ∙ over (is_taken_over p n)
   where
     no_other : (x : Name) → is_case x ≡ false → bytes_eq k x ≡ false
     no_other x f = bytes_eq-sym k x ∙ cases_apart x k h f
@@ -233,7 +233,7 @@ module _ (ms : Members) (distinct : has_repeat (names_of (listed ms)) ≡ false)
   claims_both t c d there e = subst₂ IsPermutation
       (λ i. named_once (codes "properties") d (listed ms) (Distinct-from (listed ms) distinct) there i ++ (fuses ms distinct t e).required i)
       (filter_once-same (λ (x : Name × Data). bytes_eq (codes "properties") x.0 || bytes_eq (codes "required") x.0) (λ x. bytes_eq (codes "properties") (head (fusing t c) x.0))
-          (λ x. sym (head_of_both t c x.0)) (listed ms))
+      (λ x. sym (head_of_both t c x.0)) (listed ms))
       (those_split (λ x. bytes_eq (codes "properties") x.0) (λ x. bytes_eq (codes "required") x.0) (λ x. names_differ x.0) (listed ms))
 
   -- `if` that is read stands for itself, `then` and `else`
@@ -249,7 +249,7 @@ module _ (ms : Members) (distinct : has_repeat (names_of (listed ms)) ≡ false)
       cases : IsPermutation (members_named (codes "then") (listed ms) ++ members_named (codes "else") (listed ms)) (filter_once (λ x. is_case x.0) (listed ms))
       cases = subst (λ l. IsPermutation (members_named (codes "then") (listed ms) ++ members_named (codes "else") (listed ms)) l)
           (filter_once-same (λ (x : Name × Data). bytes_eq (codes "then") x.0 || bytes_eq (codes "else") x.0) (λ x. is_case x.0)
-              (λ x i. bytes_eq-sym (codes "then") x.0 i || (bytes_eq-sym (codes "else") x.0 ∙ sym (or-false (bytes_eq x.0 (codes "else")))) i) (listed ms))
+          (λ x i. bytes_eq-sym (codes "then") x.0 i || (bytes_eq-sym (codes "else") x.0 ∙ sym (or-false (bytes_eq x.0 (codes "else")))) i) (listed ms))
           (those_split (λ x. bytes_eq (codes "then") x.0) (λ x. bytes_eq (codes "else") x.0) (λ x q. ap (bytes_eq (codes "else")) (sym (same_name (codes "then") x.0 q))) (listed ms))
 
   -- the head of each member is there
@@ -278,7 +278,7 @@ module _ (ms : Members) (distinct : has_repeat (names_of (listed ms)) ≡ false)
 
       over : (r : Bool) → r ≡ is_restricted ms → (o : Option Name) → o ≡ fused_one ms → (a b : Bool)
           → is_among (cond ((r && a) || (is_some o && b)) (codes "additionalProperties")
-              (cond (is_some p.fused_pair && bytes_eq (codes "required") x.0) (codes "properties") (cond (p.condition && is_case x.0) (codes "if") x.0))) (names_of (listed ms)) ≡ true
+          (cond (is_some p.fused_pair && bytes_eq (codes "required") x.0) (codes "properties") (cond (p.condition && is_case x.0) (codes "if") x.0))) (names_of (listed ms)) ≡ true
       over true f o g true b = at_restriction (sym f)
       over true f (Some n) g false true = at_restriction (sym f)
       over true f (Some n) g false false = not_taken

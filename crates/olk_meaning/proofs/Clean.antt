@@ -66,7 +66,7 @@ module _ {X : Type 0} (step : Schema X → X) where
   -- t is what stands at `patternProperties`, and c says whether other members are free
   are_fused_names : (L : Path) (p r t : Option Data) (c : Bool) → IsObject p → ListsTexts L r
       → (is_some p && c && not (is_some t) && nat_lt (length (flat_map (λ d. map (entry step) (members d)) (option_to_list p))) HASHMAP_THRESHOLD
-          && are_two (flat_map texts (option_to_list r))) ≡ is_some (cond (declares_few p && is_none t && c) (two_names r) None)
+      && are_two (flat_map texts (option_to_list r))) ≡ is_some (cond (declares_few p && is_none t && c) (two_names r) None)
   are_fused_names L None r t c h k = refl
   are_fused_names L (Some (object fs)) r None true h k =
       ap (λ n. nat_lt n HASHMAP_THRESHOLD && are_two (flat_map texts (option_to_list r))) (entry_count fs) ∙ by (nat_lt (length (listed fs)) HASHMAP_THRESHOLD)
@@ -127,7 +127,7 @@ module _ (W : World) (ms : Members) (P : Path) (clean : flat_map (λ m. member_m
       refused : (d : Data) → at_name (codes "additionalProperties") ≡ Some d → is_rule d ≡ false → unless_kind (is_rule d) MultipleTypes d (P // codes "additionalProperties") ≡ []
       refused d q e =
           (nothing_in (unless_kind (is_rule d) MultipleTypes d (P // codes "additionalProperties")) _
-              (sym (additional_malformations W ms d P) ∙ clean_among W ms P (listed ms) clean (codes "additionalProperties") d q)).0
+          (sym (additional_malformations W ms d P) ∙ clean_among W ms P (listed ms) clean (codes "additionalProperties") d q)).0
 
       of : (d : Data) (b : Bool) → at_name (codes "additionalProperties") ≡ Some d → is_rule d ≡ b → b ≡ true
       of d true q e = refl
@@ -163,7 +163,7 @@ module _ (W : World) (ms : Members) (P : Path) (clean : flat_map (λ m. member_m
     fused =
         (λ i. here i && (ap not (restricted_read step ms) ∙ others_free) i && not (patterned i) && nat_lt (length (entries i)) HASHMAP_THRESHOLD && are_two (listed_names i))
         ∙ are_fused_names step (P // codes "required") (at_name (codes "properties")) (at_name (codes "required")) (at_name (codes "patternProperties"))
-            (allows_others (at_name (codes "additionalProperties"))) an_object texts_listed
+        (allows_others (at_name (codes "additionalProperties"))) an_object texts_listed
       where
         here : declares (read_members step ms) ≡ is_some (at_name (codes "properties"))
         here = is_present_read step ms (codes "properties") ∙ ap is_some (sym (lookup_listed (codes "properties") ms))

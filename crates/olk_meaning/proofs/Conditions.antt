@@ -51,7 +51,7 @@ module _ (ms : Members) where
   if_beside_else : is_some (lookup_name (codes "else") (listed ms)) ≡ true → is_condition ms ≡ is_some (lookup_name (codes "if") (listed ms))
   if_beside_else there =
       ap (λ b. is_some (lookup_name (codes "if") (listed ms)) && (is_some (lookup_name (codes "then") (listed ms)) || b)) there
-          ∙ ap (λ b. is_some (lookup_name (codes "if") (listed ms)) && b) (or-true _) ∙ and-true _
+      ∙ ap (λ b. is_some (lookup_name (codes "if") (listed ms)) && b) (or-true _) ∙ and-true _
 
 module _ {X : Type 0} (step : Schema X → X) (ms : Members) where
   pub present : (k : Name) → is_some (lookup_name k (read_members step ms)) ≡ is_some (lookup_name k (listed ms))
@@ -63,7 +63,7 @@ module _ {X : Type 0} (step : Schema X → X) (ms : Members) where
   pub restricted_read : restricts (read_members step ms) ≡ is_restricted ms
   restricted_read =
       ap (list_any (λ s. is_truth false s.schema || is_object s.schema)) (wholes_at_read step ms (codes "additionalProperties")) ∙ by _
-          ∙ ap is_restriction (sym (lookup_listed (codes "additionalProperties") ms))
+      ∙ ap is_restriction (sym (lookup_listed (codes "additionalProperties") ms))
     where
       by : (o : Option Data) → list_any (λ (s : Sub X). is_truth false s.schema || is_object s.schema) (map (place step) (option_to_list o)) ≡ is_restriction o
       by None = refl
@@ -83,10 +83,10 @@ module _ {X : Type 0} (step : Schema X → X) (ms : Members) where
         by (inl q) = subst PlacesByCondition (sym q) (ap (λ b. places_where (codes "if") b (itself (codes "if") (read step d).whole)) (condition_read ∙ sym (known.0 e).0))
         by (inr (inl q)) =
             subst PlacesByCondition (sym q) (ap (λ b. places_where (codes "then") b (itself (codes "then") (read step d).whole))
-                (present (codes "if") ∙ sym (if_beside_then ms (ap (λ n. is_some (lookup_name n (listed ms))) (sym q) ∙ (known.0 e).1)) ∙ sym (known.0 e).0))
+            (present (codes "if") ∙ sym (if_beside_then ms (ap (λ n. is_some (lookup_name n (listed ms))) (sym q) ∙ (known.0 e).1)) ∙ sym (known.0 e).0))
         by (inr (inr q)) =
             subst PlacesByCondition (sym q) (ap (λ b. places_where (codes "else") b (itself (codes "else") (read step d).whole))
-                (present (codes "if") ∙ sym (if_beside_else ms (ap (λ n. is_some (lookup_name n (listed ms))) (sym q) ∙ (known.0 e).1)) ∙ sym (known.0 e).0))
+            (present (codes "if") ∙ sym (if_beside_else ms (ap (λ n. is_some (lookup_name n (listed ms))) (sym q) ∙ (known.0 e).1)) ∙ sym (known.0 e).0))
 
 -- what is shown where the test holds, of the schema that stands there
 module _ (W : World) (u : Bool) (v : Data) where
@@ -101,13 +101,12 @@ module _ (W : World) (ms : Members) (u : Bool) (v : Data) where
   -- ---- where `if` is not read
 
   module _ (d : Data) (alone : is_condition ms ≡ false) where
-
     pub if_shows_alone : (P Q : Path) → member_child W ms (codes "if", d) if_keyword u v P Q ≡ []
     if_shows_alone P Q =
         ap (λ b. put_if b (plain (P // codes "if") Q (put_if ((read (meaning_step W u) d).whole.answer.accepts v)
-            ((read (meaning_step W u) d).whole.answer.tree v (P // codes "if") Q) [] ++ case_trees W u neighbours v P Q (codes "if") (read (meaning_step W u) d)
-            ((read (meaning_step W u) d).whole.answer.accepts v) (codes "then") ++ case_trees W u neighbours v P Q (codes "if") (read (meaning_step W u) d)
-            (not ((read (meaning_step W u) d).whole.answer.accepts v)) (codes "else"))) []) (condition_read (meaning_step W u) ms ∙ alone)
+        ((read (meaning_step W u) d).whole.answer.tree v (P // codes "if") Q) [] ++ case_trees W u neighbours v P Q (codes "if") (read (meaning_step W u) d)
+        ((read (meaning_step W u) d).whole.answer.accepts v) (codes "then") ++ case_trees W u neighbours v P Q (codes "if") (read (meaning_step W u) d)
+        (not ((read (meaning_step W u) d).whole.answer.accepts v)) (codes "else"))) []) (condition_read (meaning_step W u) ms ∙ alone)
 
   -- `then` and `else` without `if`
   module _ (d : Data) (absent : lookup_name (codes "if") (listed ms) ≡ None) where
@@ -121,17 +120,17 @@ module _ (W : World) (ms : Members) (u : Bool) (v : Data) where
     pub else_accepts_alone : member_accepts W ms (codes "else", d) else_keyword u v ≡ true
     else_accepts_alone =
         ap (λ ss. list_all (λ a. a.sub.answer.accepts a.value) (put_if (list_any (λ s. not (s.answer.accepts v)) ss)
-            (asked (read (meaning_step W u) d).whole v (codes "else" ∷ []) []) []) && true) none
+        (asked (read (meaning_step W u) d).whole v (codes "else" ∷ []) []) []) && true) none
 
     pub then_report_alone : (P Q : Path) → member_report W ms (codes "then", d) then_keyword u v P Q ≡ []
     then_report_alone P Q =
         ap (λ ss. flat_map (λ a. a.sub.answer.report a.value (down P a.in_schema) (down Q a.in_instance))
-            (put_if (list_any (λ s. s.answer.accepts v) ss) (asked (read (meaning_step W u) d).whole v (codes "then" ∷ []) []) []) ++ []) none
+        (put_if (list_any (λ s. s.answer.accepts v) ss) (asked (read (meaning_step W u) d).whole v (codes "then" ∷ []) []) []) ++ []) none
 
     pub else_report_alone : (P Q : Path) → member_report W ms (codes "else", d) else_keyword u v P Q ≡ []
     else_report_alone P Q =
         ap (λ ss. flat_map (λ a. a.sub.answer.report a.value (down P a.in_schema) (down Q a.in_instance))
-            (put_if (list_any (λ s. not (s.answer.accepts v)) ss) (asked (read (meaning_step W u) d).whole v (codes "else" ∷ []) []) []) ++ []) none
+        (put_if (list_any (λ s. not (s.answer.accepts v)) ss) (asked (read (meaning_step W u) d).whole v (codes "else" ∷ []) []) []) ++ []) none
 
   -- ---- where it is read
 
@@ -149,7 +148,6 @@ module _ (W : World) (ms : Members) (u : Bool) (v : Data) where
     if_fails = ap (list_any (λ s. not (s.answer.accepts v))) at_if ∙ or-false _
 
     module _ (read_here : is_condition ms ≡ true) where
-
       pub if_asks_beside : member_asks W ms (codes "if", d) if_keyword u v ≡ asks W u d v
       unfolding meaning
       if_asks_beside = nothing_first _ ∙ ap (λ b. cond b ((read (meaning_step W u) d).whole.answer.asks v) 0) (condition_read (meaning_step W u) ms ∙ read_here)
@@ -184,7 +182,7 @@ module _ (W : World) (ms : Members) (u : Bool) (v : Data) where
       pub then_report_beside : (P Q : Path) → member_report W ms (codes "then", e) then_keyword u v P Q ≡ cond (accepts W u d v) (report W u e v (P // codes "then") Q) []
       then_report_beside P Q =
           ap (λ b. flat_map (λ a. a.sub.answer.report a.value (down P a.in_schema) (down Q a.in_instance)) (asked_where b (codes "then")) ++ []) if_holds
-              ∙ found_where (accepts W u d v) (codes "then") P Q
+          ∙ found_where (accepts W u d v) (codes "then") P Q
 
       pub else_accepts_beside : member_accepts W ms (codes "else", e) else_keyword u v ≡ cond (not (accepts W u d v)) (accepts W u e v) true
       else_accepts_beside = ap (λ b. list_all (λ a. a.sub.answer.accepts a.value) (asked_where b (codes "else")) && true) if_fails ∙ accepted_where (not (accepts W u d v)) (codes "else")
@@ -195,14 +193,14 @@ module _ (W : World) (ms : Members) (u : Bool) (v : Data) where
       pub else_report_beside : (P Q : Path) → member_report W ms (codes "else", e) else_keyword u v P Q ≡ cond (not (accepts W u d v)) (report W u e v (P // codes "else") Q) []
       else_report_beside P Q =
           ap (λ b. flat_map (λ a. a.sub.answer.report a.value (down P a.in_schema) (down Q a.in_instance)) (asked_where b (codes "else")) ++ []) if_fails
-              ∙ found_where (not (accepts W u d v)) (codes "else") P Q
+          ∙ found_where (not (accepts W u d v)) (codes "else") P Q
 
   -- what stands at a name, shown where the test holds
   case_read : (d : Data) (b : Bool) (k : Name) (P Q : Path) → case_trees W u neighbours v P Q (codes "if") (read (meaning_step W u) d) b k ≡ case_shown W u v b (P // k) Q (lookup_name k (listed ms))
   unfolding meaning
   case_read d b k P Q =
       ap (flat_map (λ s. put_if b (s.answer.tree v (P // k) Q) [])) (wholes_at_read (meaning_step W u) ms k ∙ ap (λ o. map (place (meaning_step W u)) (option_to_list o))
-          (sym (lookup_listed k ms))) ∙ by (lookup_name k (listed ms))
+      (sym (lookup_listed k ms))) ∙ by (lookup_name k (listed ms))
     where
       by : (o : Option Data) → flat_map (λ s. put_if b (s.answer.tree v (P // k) Q) []) (map (place (meaning_step W u)) (option_to_list o)) ≡ case_shown W u v b (P // k) Q o
       by None = refl
@@ -210,7 +208,7 @@ module _ (W : World) (ms : Members) (u : Bool) (v : Data) where
 
   pub if_shows_beside : (d : Data) → is_condition ms ≡ true → (P Q : Path) → member_child W ms (codes "if", d) if_keyword u v P Q
       ≡ plain (P // codes "if") Q (put_if (accepts W u d v) (tree W u d v (P // codes "if") Q) [] ++ case_shown W u v (accepts W u d v) (P // codes "then") Q
-          (lookup_name (codes "then") (listed ms)) ++ case_shown W u v (not (accepts W u d v)) (P // codes "else") Q (lookup_name (codes "else") (listed ms))) ∷ []
+      (lookup_name (codes "then") (listed ms)) ++ case_shown W u v (not (accepts W u d v)) (P // codes "else") Q (lookup_name (codes "else") (listed ms))) ∷ []
   unfolding meaning
   if_shows_beside d e P Q = λ i. put_if ((condition_read (meaning_step W u) ms ∙ e) i)
       (plain (P // codes "if") Q (put_if ((whole_read (meaning_step W u) d i).answer.accepts v) ((whole_read (meaning_step W u) d i).answer.tree v (P // codes "if") Q) []

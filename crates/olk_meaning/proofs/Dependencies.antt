@@ -113,7 +113,7 @@ module _ {X : Type 0} (step : Schema X → X) (d v : Data) where
   schemas_due : filter_once (λ e. has e.0 v && not (is_array e.1.schema)) (read step d).entries ≡ map (entry step) (filter_once (λ e. has e.0 v && not (is_array e.1)) (members d))
   schemas_due =
       ap (filter_once (λ e. has e.0 v && not (is_array e.1.schema))) (entries_read step d) ∙ filter_once-map (λ e. has e.0 v && not (is_array e.1.schema))
-          (λ e. has e.0 v && not (is_array e.1)) (entry step) (λ e. refl) (members d)
+      (λ e. has e.0 v && not (is_array e.1)) (entry step) (λ e. refl) (members d)
 
   lists_due : due (read step d) v ≡ map (λ e. (e.0, texts e.1)) (filter_once (λ e. has e.0 v && is_array e.1) (members d))
   lists_due = due_read ∙ ap (map {A = Name × Data} (λ e. (e.0, texts e.1))) (filter_once-filter_once (λ e. has e.0 v) (λ e. is_array e.1) (members d))
@@ -131,7 +131,7 @@ module _ (W : World) (ms : Members) (d : Data) (u : Bool) (v : Data) where
     dependent_required_report P Q =
         ap (flat_map (λ e. required_faults e.1 v (P // codes "dependentRequired") Q)) (due_lists (meaning_step W u) d v lists)
         ∙ flat_map-map (λ e. required_faults e.1 v (P // codes "dependentRequired") Q) (λ e. required_faults (texts e.1) v (P // codes "dependentRequired") Q)
-            (λ e. (e.0, texts e.1)) (λ e. refl) (due_entries d v)
+        (λ e. (e.0, texts e.1)) (λ e. refl) (due_entries d v)
 
     pub dependent_required_child : (P Q : Path) → member_child W ms (codes "dependentRequired", d) dependent_required u v P Q
         ≡ plain (P // codes "dependentRequired") Q (map (λ e. erring (P // codes "dependentRequired") Q (required_faults (texts e.1) v (P // codes "dependentRequired") Q)) (due_entries d v)) ∷ []
@@ -179,9 +179,9 @@ module _ (W : World) (ms : Members) (d : Data) (u : Bool) (v : Data) where
   unfolding meaning
   dependencies_accepts =
       (λ i. list_all (λ a. a.sub.answer.accepts a.value) (asked_whole (codes "dependencies") v (schemas_due (meaning_step W u) d v i))
-          && list_all (λ e. is_empty (missing e.1 v)) (lists_due (meaning_step W u) d v i))
+      && list_all (λ e. is_empty (missing e.1 v)) (lists_due (meaning_step W u) d v i))
       ∙ (λ i. at_whole_accept (meaning_step W u) (codes "dependencies") v (filter_once (λ e. has e.0 v && not (is_array e.1)) (members d)) i
-          && list_all-map (λ (e : Name × List Name). is_empty (missing e.1 v)) (λ e. (e.0, texts e.1)) (filter_once (λ e. has e.0 v && is_array e.1) (members d)) i)
+      && list_all-map (λ (e : Name × List Name). is_empty (missing e.1 v)) (λ e. (e.0, texts e.1)) (filter_once (λ e. has e.0 v && is_array e.1) (members d)) i)
       ∙ all_parted (λ e. has e.0 v) (λ e. is_array e.1) (λ e. accepts W u e.1 v) (λ e. is_empty (missing (texts e.1) v)) (λ e. dependency_accepts W u e v) (λ e. refl) (members d)
 
   pub dependencies_asks : member_asks W ms (codes "dependencies", d) dependencies u v ≡ sum_by (λ e. dependency_asks W u e v) (due_entries d v)
@@ -197,24 +197,24 @@ module _ (W : World) (ms : Members) (d : Data) (u : Bool) (v : Data) where
   unfolding meaning
   dependencies_report P Q = subst (λ fs. fs ∼ flat_map (λ e. dependency_report W u e v (P // codes "dependencies") Q) (due_entries d v)) (sym parted)
       (found_parted (λ e. has e.0 v) (λ e. is_array e.1) (λ e. report W u e.1 v (P // codes "dependencies" // e.0) Q)
-          (λ e. required_faults (texts e.1) v (P // codes "dependencies") Q) (λ e. dependency_report W u e v (P // codes "dependencies") Q) (λ e. refl) (members d))
+      (λ e. required_faults (texts e.1) v (P // codes "dependencies") Q) (λ e. dependency_report W u e v (P // codes "dependencies") Q) (λ e. refl) (members d))
     where
       parted : member_report W ms (codes "dependencies", d) dependencies u v P Q
           ≡ flat_map (λ e. report W u e.1 v (P // codes "dependencies" // e.0) Q) (filter_once (λ e. has e.0 v && not (is_array e.1)) (members d))
-              ++ flat_map (λ e. required_faults (texts e.1) v (P // codes "dependencies") Q) (filter_once (λ e. has e.0 v && is_array e.1) (members d))
+          ++ flat_map (λ e. required_faults (texts e.1) v (P // codes "dependencies") Q) (filter_once (λ e. has e.0 v && is_array e.1) (members d))
       parted =
           (λ i. flat_map (λ a. a.sub.answer.report a.value (down P a.in_schema) (down Q a.in_instance)) (asked_whole (codes "dependencies") v (schemas_due (meaning_step W u) d v i))
-              ++ flat_map (λ e. required_faults e.1 v (P // codes "dependencies") Q) (lists_due (meaning_step W u) d v i))
+          ++ flat_map (λ e. required_faults e.1 v (P // codes "dependencies") Q) (lists_due (meaning_step W u) d v i))
           ∙ (λ i. at_whole_find (meaning_step W u) (codes "dependencies") v P Q (filter_once (λ e. has e.0 v && not (is_array e.1)) (members d)) i
-              ++ flat_map-map (λ (e : Name × List Name). required_faults e.1 v (P // codes "dependencies") Q) (λ e. required_faults (texts e.1) v (P // codes "dependencies") Q)
-              (λ e. (e.0, texts e.1)) (λ e. refl) (filter_once (λ e. has e.0 v && is_array e.1) (members d)) i)
+          ++ flat_map-map (λ (e : Name × List Name). required_faults e.1 v (P // codes "dependencies") Q) (λ e. required_faults (texts e.1) v (P // codes "dependencies") Q)
+          (λ e. (e.0, texts e.1)) (λ e. refl) (filter_once (λ e. has e.0 v && is_array e.1) (members d)) i)
 
   pub dependencies_child : (P Q : Path) → member_child W ms (codes "dependencies", d) dependencies u v P Q ≡ plain (P // codes "dependencies") Q
       (map (λ e. dependency_shown W u e v (P // codes "dependencies") Q) (due_entries d v)) ∷ []
   unfolding meaning
   dependencies_child P Q = ap (λ ts. plain (P // codes "dependencies") Q ts ∷ [])
       (ap (map (λ e. cond (is_array e.1.schema) (erring (P // codes "dependencies") Q (required_faults (texts e.1.schema) v (P // codes "dependencies") Q))
-          (e.1.answer.tree v (P // codes "dependencies" // e.0) Q))) (entries_due (meaning_step W u) d v)
+      (e.1.answer.tree v (P // codes "dependencies" // e.0) Q))) (entries_due (meaning_step W u) d v)
       ∙ map-map (λ e. cond (is_array e.1.schema) (erring (P // codes "dependencies") Q (required_faults (texts e.1.schema) v (P // codes "dependencies") Q)) (e.1.answer.tree v (P // codes "dependencies" // e.0) Q)) (λ e. dependency_shown W u e v (P // codes "dependencies") Q) (entry (meaning_step W u)) (λ e. refl) (due_entries d v))
 
 -- ---- what is wrong with them, and the places that they read
@@ -232,7 +232,6 @@ module _ {X : Type 0} (step : Schema X → X) (d : Data) (k : Name) where
         ∙ ap (λ fs. unless_object d L ++ fs) (flat_map-map (λ e. not_a_text e.1.schema L) (λ e. not_a_text e.1 L) (entry step) (λ e. refl) (members d))
 
   module _ (S : Keywords X) where
-
     pub dependent_schemas_places : read_places k S (read step d) dependent_schemas ≡ each k (map (entry step) (members d))
     dependent_schemas_places = ap (each k) (entries_read step d)
 

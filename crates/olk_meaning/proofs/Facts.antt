@@ -102,9 +102,9 @@ module _ (step : Schema Meaning → Meaning) (k : Name) (v : Data) where
   at_members_find P Q [] = refl
   at_members_find P Q (e ∷ es) =
       flat_map-append (λ a. a.sub.answer.report a.value (down P a.in_schema) (down Q a.in_instance)) (map (λ w. asked (place step e.1) w (k ∷ e.0 ∷ []) (e.0 ∷ [])) (at e.0 v))
-          (at_members (map (entry step) es))
+      (at_members (map (entry step) es))
       ∙ (λ i. flat_map-map (λ a. a.sub.answer.report a.value (down P a.in_schema) (down Q a.in_instance)) (λ w. (answer_for step e.1).report w (P // k // e.0) (Q // e.0))
-          (λ w. asked (place step e.1) w (k ∷ e.0 ∷ []) (e.0 ∷ [])) (λ w. refl) (at e.0 v) i ++ at_members_find P Q es i)
+      (λ w. asked (place step e.1) w (k ∷ e.0 ∷ []) (e.0 ∷ [])) (λ w. refl) (at e.0 v) i ++ at_members_find P Q es i)
 
   pub at_whole_accept : (es : List (Name × Data)) → list_all (λ a. a.sub.answer.accepts a.value) (asked_whole k v (map (entry step) es)) ≡ list_all (λ e. (answer_for step e.1).accepts v) es
   at_whole_accept [] = refl
@@ -156,7 +156,7 @@ module _ (W : World) (ms : Members) where
       declared_find P Q =
           append-nil _
           ∙ ap (λ es. flat_map (λ a. a.sub.answer.report a.value (down P a.in_schema) (down Q a.in_instance)) (at_members (meaning_step W u) (codes "properties") v es))
-              (entries_read (meaning_step W u) d)
+          (entries_read (meaning_step W u) d)
           ∙ at_members_find (meaning_step W u) (codes "properties") v P Q (members d)
 
   module _ (fs : Members) where

@@ -35,7 +35,7 @@ module _ (o : Option (Bor Value)) (v : Bor Value) (is : o ≡ Some v) where
       → nat_lt n HASHMAP_THRESHOLD ≡ declares_few (option_map (λ x. view x.now) o)
   few_declared es n e l =
       ap (λ k. nat_lt k HASHMAP_THRESHOLD) (l ∙ sym (listed_length es)) ∙ ap (λ d. declares_few (Some d)) (sym (object_at (view v.now) (members_view es) (sym e)))
-          ∙ ap (λ p. declares_few (option_map (λ x. view x.now) p)) (sym is)
+      ∙ ap (λ p. declares_few (option_map (λ x. view x.now) p)) (sym is)
 
   pub not_two_items : (vs : List Value) → Some (items_view vs) ≡ as_array (view v.now) → (length vs ≡ 2 → ⊥) → None ≡ two_names (option_map (λ x. view x.now) o)
   not_two_items vs e l = sym (by vs l) ∙ ap (λ d. two_names (Some d)) (sym (array_at (view v.now) (items_view vs) (sym e))) ∙ ap (λ p. two_names (option_map (λ x. view x.now) p)) (sym is)

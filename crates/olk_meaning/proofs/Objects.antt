@@ -47,19 +47,19 @@ module _ (W : World) (ms : Members) where
   unfolding meaning
   object_tree u v P Q =
       ap (λ ps. plain P Q (flat_map (λ m. keyword_child W u (read_members (meaning_step W u) ms) v P Q m.0 m.1 (keyword_named W m.0)) ps)) (members_read (meaning_step W u) ms)
-          ∙ ap (plain P Q) (flat_map-map _ _ _ (λ m. refl) (listed ms))
+      ∙ ap (plain P Q) (flat_map-map _ _ _ (λ m. refl) (listed ms))
 
   pub object_malformed : (P : Path) → malformations_at W (object ms) P ≡ flat_map (λ m. member_malformations W ms m (keyword_named W m.0) P) (listed ms)
   unfolding malformations_at
   object_malformed P =
       ap (flat_map (λ m. keyword_malformations W (read_members (malformations_step W) ms) m.0 m.1 P (keyword_named W m.0))) (members_read (malformations_step W) ms)
-          ∙ flat_map-map _ _ _ (λ m. refl) (listed ms)
+      ∙ flat_map-map _ _ _ (λ m. refl) (listed ms)
 
   pub object_cost : cost W (object ms) ≡ one_place ⊕ total_cost (λ m. member_cost W ms m (keyword_named W m.0)) (listed ms)
   unfolding cost
   object_cost =
       ap (λ c. one_place ⊕ c) (ap (total_cost (λ m. keyword_cost W (read_members (cost_step W) ms) m.0 m.1 (keyword_named W m.0))) (members_read (cost_step W) ms)
-          ∙ total_cost-map _ _ _ (λ m. refl) (listed ms))
+      ∙ total_cost-map _ _ _ (λ m. refl) (listed ms))
 
 -- ---- what is no schema, and the two truth values
 

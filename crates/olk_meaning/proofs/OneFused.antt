@@ -25,7 +25,7 @@ module _ {X : Type 0} (step : Schema X → X) (ms : Members) where
   closed_read : list_any (λ s. is_truth false s.schema) (wholes_at (read_members step ms) (codes "additionalProperties")) ≡ refuses_others (lookup_name (codes "additionalProperties") (listed ms))
   closed_read =
       ap (list_any (λ s. is_truth false s.schema)) (wholes_at_read step ms (codes "additionalProperties") ∙ ap (λ o. map (place step) (option_to_list o))
-          (sym (lookup_listed (codes "additionalProperties") ms))) ∙ by (lookup_name (codes "additionalProperties") (listed ms))
+      (sym (lookup_listed (codes "additionalProperties") ms))) ∙ by (lookup_name (codes "additionalProperties") (listed ms))
     where
       by : (o : Option Data) → list_any (λ (s : Sub X). is_truth false s.schema) (map (place step) (option_to_list o)) ≡ refuses_others o
       by None = refl
@@ -52,7 +52,7 @@ module _ {X : Type 0} (step : Schema X → X) (ms : Members) where
     pub fused_reads : fuses_one (read_members step ms) ≡ true
     fused_reads =
         fuses_one_read ∙ (λ i. fusing.declared i && refuses_others (fusing.closed i) && not (is_some (fusing.unpatterned i))
-            && nat_eq (length (flat_map texts (option_to_list (fusing.listed_at i)))) 1)
+        && nat_eq (length (flat_map texts (option_to_list (fusing.listed_at i)))) 1)
 
     pub fused_names_read : names_at (read_members step ms) (codes "required") ≡ n ∷ []
     fused_names_read = names_there step ms (codes "required") (array (item (string n) no_items)) (sym (lookup_listed (codes "required") ms) ∙ fusing.listed_at)
@@ -61,7 +61,7 @@ module _ {X : Type 0} (step : Schema X → X) (ms : Members) where
   pub one_fused : (L : Path) → ListsTexts L (lookup_name (codes "required") (listed ms)) → fuses_one (read_members step ms) ≡ is_some (fused_one ms)
   one_fused L h =
       fuses_one_read ∙ by (is_some (lookup_name (codes "properties") (listed ms))) (refuses_others (lookup_name (codes "additionalProperties") (listed ms)))
-          (lookup_name (codes "patternProperties") (listed ms)) (lookup_name (codes "required") (listed ms)) h
+      (lookup_name (codes "patternProperties") (listed ms)) (lookup_name (codes "required") (listed ms)) h
     where
       one : (o : Option Data) → ListsTexts L o → nat_eq (length (flat_map texts (option_to_list o))) 1 ≡ is_some (one_name o)
       one None k = refl

@@ -64,4 +64,4 @@ module _ (W : World) (u : Bool) (v : Data) where
     one_of_child P Q = λ i. cond (counted i == 0)
         (result (P // codes "oneOf") Q None true [] (all_branches_shown W u v (codes "oneOf") P Q ds i))
         (result (P // codes "oneOf") Q None false (put_if (nat_lt 1 (counted i)) (codes "oneOf", codes "more than one subschema succeeded", false) [])
-            (accepting_branches_shown W u v (codes "oneOf") P Q ds i)) ∷ []
+        (accepting_branches_shown W u v (codes "oneOf") P Q ds i)) ∷ []

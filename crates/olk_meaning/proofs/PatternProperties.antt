@@ -76,7 +76,7 @@ module _ (W : World) (u : Bool) (step : Schema Meaning → Meaning) (k : Name) (
     at_matched_show (e ∷ es) =
         map-append (λ a. a.sub.answer.tree a.value (down P a.in_schema) (down Q a.in_instance)) (asked_in (entry step e)) (at_matched es)
         ∙ (λ i. map-map (λ a. a.sub.answer.tree a.value (down P a.in_schema) (down Q a.in_instance)) (λ x. (answer_for step e.1).tree x.1 (P // k // e.0) (Q // x.0))
-            (asked_of (entry step e)) (λ x. refl) (matched_members W u e.0 v) i ++ at_matched_show es i)
+        (asked_of (entry step e)) (λ x. refl) (matched_members W u e.0 v) i ++ at_matched_show es i)
 
   named_by_entries : (es : List (Name × Data)) → flat_map (λ e. map (λ x. x.0) (matched_members W u e.0 v)) (map (entry step) es) ≡ flat_map (λ e. map (λ x. x.0) (matched_members W u e.0 v)) es
   named_by_entries [] = refl
@@ -119,7 +119,7 @@ module _ (W : World) (ms : Members) (d : Data) (u : Bool) (v : Data) where
   pattern_properties_report P Q =
       append-nil _
       ∙ ap (λ es. flat_map (λ a. a.sub.answer.report a.value (down P a.in_schema) (down Q a.in_instance)) (flat_map (asked_in W u (meaning_step W u) (codes "patternProperties") v) es))
-          (entries_read (meaning_step W u) d)
+      (entries_read (meaning_step W u) d)
       ∙ at_matched_find W u (meaning_step W u) (codes "patternProperties") v P Q (members d)
 
   -- ---- where it has a validator of its own
@@ -128,7 +128,7 @@ module _ (W : World) (ms : Members) (d : Data) (u : Bool) (v : Data) where
     own_asked : sum_by (λ m. asks_at W (read_members (meaning_step W u) ms) (read (meaning_step W u) d) m.0) (members v) ≡ sum_by (λ e. sum_by (λ x. pattern_asks W e.0) (members v)) (members d)
     own_asked =
         (λ i. sum_by (λ m. cond (free i && is_declared (read_members (meaning_step W u) ms) m.0)
-            (count_by (λ t. is_unfinished (W.says t m.0)) (open_patterns W (read (meaning_step W u) d))) (length (open_patterns W (read (meaning_step W u) d)))) (members v))
+        (count_by (λ t. is_unfinished (W.says t m.0)) (open_patterns W (read (meaning_step W u) d))) (length (open_patterns W (read (meaning_step W u) d)))) (members v))
         ∙ ap (λ n. sum_by (λ (m : Name × Data). n) (members v)) (ap length (open_read W (meaning_step W u) d) ∙ open_counted W (members d))
         ∙ sym (sums_exchanged (λ (e x : Name × Data). pattern_asks W e.0) (members d) (members v))
 
@@ -151,7 +151,7 @@ module _ (W : World) (ms : Members) (d : Data) (u : Bool) (v : Data) where
     -- a child for each match, and a name for each match, pattern by pattern
     pub pattern_properties_child : (P Q : Path) → member_child W ms (codes "patternProperties", d) pattern_properties u v P Q
         ≡ result (P // codes "patternProperties") Q (cond (is_object v) (Some (flat_map (λ e. map (λ x. x.0) (matched_members W u e.0 v)) (members d))) None) false []
-            (flat_map (λ e. map (λ x. tree W u e.1 x.1 (P // codes "patternProperties" // e.0) (Q // x.0)) (matched_members W u e.0 v)) (members d)) ∷ []
+        (flat_map (λ e. map (λ x. tree W u e.1 x.1 (P // codes "patternProperties" // e.0) (Q // x.0)) (matched_members W u e.0 v)) (members d)) ∷ []
     unfolding meaning
     pattern_properties_child P Q = λ i. put_if (not (free i)) (result (P // codes "patternProperties") Q (cond (and-true (is_object v) i) (Some (names i)) None) false [] (trees i)) []
       where
@@ -159,14 +159,14 @@ module _ (W : World) (ms : Members) (d : Data) (u : Bool) (v : Data) where
             (λ e. map (λ x. x.0) (matched_members W u e.0 v)) (members d)
         names =
             ap (flat_map (λ (e : Name × Subschema). map (λ x. x.0) (matched_members W u e.0 v))) (entries_read (meaning_step W u) d)
-                ∙ named_by_entries W u (meaning_step W u) (codes "patternProperties") v (members d)
+            ∙ named_by_entries W u (meaning_step W u) (codes "patternProperties") v (members d)
 
         trees : map (λ a. a.sub.answer.tree a.value (down P a.in_schema) (down Q a.in_instance))
             (flat_map (asked_in W u (meaning_step W u) (codes "patternProperties") v) (read (meaning_step W u) d).entries) ≡ flat_map
             (λ e. map (λ x. tree W u e.1 x.1 (P // codes "patternProperties" // e.0) (Q // x.0)) (matched_members W u e.0 v)) (members d)
         trees =
             ap (λ es. map (λ a. a.sub.answer.tree a.value (down P a.in_schema) (down Q a.in_instance)) (flat_map (asked_in W u (meaning_step W u) (codes "patternProperties") v) es))
-                (entries_read (meaning_step W u) d) ∙ at_matched_show W u (meaning_step W u) (codes "patternProperties") v P Q (members d)
+            (entries_read (meaning_step W u) d) ∙ at_matched_show W u (meaning_step W u) (codes "patternProperties") v P Q (members d)
 
   -- ---- where `additionalProperties` stands for it
 
@@ -175,7 +175,7 @@ module _ (W : World) (ms : Members) (d : Data) (u : Bool) (v : Data) where
         (λ x. patterns_asked W (declared_beside ms) (members d) x.0) (members v)
     table_asked =
         λ i. sum_by (λ m. cond (restricted i && declared_read (meaning_step W u) ms m.0 i) (count_by (λ t. is_unfinished (W.says t m.0)) (open_read W (meaning_step W u) d i))
-            (length (open_read W (meaning_step W u) d i))) (members v)
+        (length (open_read W (meaning_step W u) d i))) (members v)
 
     -- member by member the schemas of the patterns that match, and the matchers that are asked of its name
     pub pattern_properties_asks_beside : member_asks W ms (codes "patternProperties", d) pattern_properties u v ≡ sum_by
@@ -202,12 +202,13 @@ module _ {X : Type 0} (step : Schema X → X) (d : Data) (k : Name) where
   pattern_properties_places S = ap (each k) (entries_read step d)
 
 module _ (W : World) (ms : Members) (d : Data) where
-
   -- a matcher for each pattern that has no test, and what is asked for a table
   abbrev pub tables_asked : Cost
   tables_asked =
-      record no_cost { table_asks = cond (restricts (read_members (cost_step W) ms))
-          (length (entries_at (read_members (cost_step W) ms) (codes "properties")) * length (open_patterns W (read (cost_step W) d))) 0 }
+      record no_cost {
+        table_asks = cond (restricts (read_members (cost_step W) ms))
+            (length (entries_at (read_members (cost_step W) ms) (codes "properties")) * length (open_patterns W (read (cost_step W) d))) 0;
+      }
 
   pub pattern_properties_own_cost : own_cost W (read_members (cost_step W) ms) (read (cost_step W) d) pattern_properties ≡ matchers_made W d ⊕ tables_asked
   pattern_properties_own_cost = λ i. record no_cost { pattern_places = made i; table_asks = asked i }
@@ -220,8 +221,10 @@ module _ (W : World) (ms : Members) (d : Data) where
 
   pub pattern_properties_free_cost : restricts (read_members (cost_step W) ms) ≡ false → own_cost W (read_members (cost_step W) ms) (read (cost_step W) d) pattern_properties ≡ matchers_made W d
   pattern_properties_free_cost free = pattern_properties_own_cost
-      ∙ ap (λ b. matchers_made W d ⊕ record no_cost { table_asks = cond b
-          (length (entries_at (read_members (cost_step W) ms) (codes "properties")) * length (open_patterns W (read (cost_step W) d))) 0 }) free
+      ∙ ap (λ b. matchers_made W d ⊕ record no_cost {
+        table_asks = cond b
+            (length (entries_at (read_members (cost_step W) ms) (codes "properties")) * length (open_patterns W (read (cost_step W) d))) 0;
+      }) free
       ∙ sum_last (matchers_made W d)
 
   -- each of its matchers is asked for each declared name
@@ -252,8 +255,10 @@ module _ (W : World) where
   made_together [] = refl
   made_together (e ∷ es) = ap (λ c. matcher_made W e.0 ⊕ c) (made_together es) ∙ by (is_open W e.0)
     where
-      by : (b : Bool) → cond b (record no_cost { pattern_places = 1 }) no_cost ⊕ record no_cost { pattern_places = length
-          (filter_once (is_open W) (map (λ e. e.0) es)) } ≡ record no_cost { pattern_places = length (put_if b e.0 (filter_once (is_open W) (map (λ e. e.0) es))) }
+      by : (b : Bool) → cond b (record no_cost { pattern_places = 1 }) no_cost ⊕ record no_cost {
+        pattern_places = length
+            (filter_once (is_open W) (map (λ e. e.0) es));
+      } ≡ record no_cost { pattern_places = length (put_if b e.0 (filter_once (is_open W) (map (λ e. e.0) es))) }
       by true = λ i. record no_cost { pattern_places = one_more i }
         where
           one_more : 1 + length (filter_once (is_open W) (map (λ e. e.0) es)) ≡ length (e.0 ∷ filter_once (is_open W) (map (λ e. e.0) es))

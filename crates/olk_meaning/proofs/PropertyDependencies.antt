@@ -68,7 +68,7 @@ module _ (step : Schema Meaning → Meaning) (k : Name) (v : Data) where
   asked_at e [] = refl
   asked_at e (t ∷ ts) =
       (λ i. (ap (map (λ s. asked s v (k ∷ e.0 ∷ t ∷ []) [])) (at_entries step t (members e.1)) ∙ map-map (λ s. asked s v (k ∷ e.0 ∷ t ∷ []) [])
-          (λ s. asked_of e.0 (t, s)) (place step) (λ s. refl) (at t e.1)
+      (λ s. asked_of e.0 (t, s)) (place step) (λ s. refl) (at t e.1)
       ∙ sym (map-map (asked_of e.0) (λ s. asked_of e.0 (t, s)) (λ s. (t, s)) (λ s. refl) (at t e.1))) i ++ asked_at e ts i)
       ∙ sym (map-append (asked_of e.0) (map (λ s. (t, s)) (at t e.1)) (flat_map (λ t. map (λ s. (t, s)) (at t e.1)) ts))
 
@@ -80,7 +80,7 @@ module _ (step : Schema Meaning → Meaning) (k : Name) (v : Data) where
   asked_read W u S d =
       ap (flat_map (λ e. flat_map (λ t. map (λ s. asked s v (k ∷ e.0 ∷ t ∷ []) []) (option_to_list (lookup_name t e.1))) (flat_map as_text (at e.0 v)))) (inner_read step d)
       ∙ flat_map-map (λ e. flat_map (λ t. map (λ s. asked s v (k ∷ e.0 ∷ t ∷ []) []) (option_to_list (lookup_name t e.1))) (flat_map as_text (at e.0 v)))
-          (λ e. map (asked_of e.0) (chosen v e)) (inner_entry step) asked_by (members d)
+      (λ e. map (asked_of e.0) (chosen v e)) (inner_entry step) asked_by (members d)
 
 -- ---- what it means
 
@@ -119,7 +119,7 @@ module _ (W : World) (ms : Members) (d : Data) (u : Bool) (v : Data) where
         ∙ ap (flat_map (λ a. a.sub.answer.report a.value (down P a.in_schema) (down Q a.in_instance))) chosen_asked
         ∙ flat_map-flat_map (λ e. map (asked_here e.0) (chosen v e)) (λ a. a.sub.answer.report a.value (down P a.in_schema) (down Q a.in_instance)) (members d)
         ∙ (λ i. flat_map (λ e. flat_map-map (λ a. a.sub.answer.report a.value (down P a.in_schema) (down Q a.in_instance))
-            (λ c. report W u c.1 v (P // codes "propertyDependencies" // e.0 // c.0) Q) (asked_here e.0) (λ c. refl) (chosen v e) i) (members d))
+        (λ c. report W u c.1 v (P // codes "propertyDependencies" // e.0 // c.0) Q) (asked_here e.0) (λ c. refl) (chosen v e) i) (members d))
 
     pub property_dependencies_child : member_child W ms (codes "propertyDependencies", d) property_dependencies u v P Q ≡ plain (P // codes "propertyDependencies") Q
         (flat_map (λ e. map (λ c. tree W u c.1 v (P // codes "propertyDependencies" // e.0 // c.0) Q) (chosen v e)) (members d)) ∷ []
@@ -154,11 +154,11 @@ module _ (W : World) (d : Data) (k : Name) where
   inner_malformations P =
       flat_map-flat_map (λ e. map (λ c. (place (malformations_step W) c.1, k ∷ e.0 ∷ c.0 ∷ [])) (members e.1)) (λ r. r.0.answer (down P r.1)) (members d)
       ∙ (λ i. flat_map (λ e. flat_map-map (λ (r : Sub (Path → List Fault) × List Name). r.0.answer (down P r.1)) (λ c. malformations_at W c.1 (P // k // e.0 // c.0))
-          (λ c. (place (malformations_step W) c.1, k ∷ e.0 ∷ c.0 ∷ [])) (λ c. refl) (members e.1) i) (members d))
+      (λ c. (place (malformations_step W) c.1, k ∷ e.0 ∷ c.0 ∷ [])) (λ c. refl) (members e.1) i) (members d))
 
   pub inner_costs : total_cost (λ r. r.0.answer) (inner_places (cost_step W) d k) ≡ total_cost (λ e. total_cost (λ c. cost W c.1) (members e.1)) (members d)
   unfolding cost
   inner_costs =
       total_cost-flat_map (λ e. map (λ c. (place (cost_step W) c.1, k ∷ e.0 ∷ c.0 ∷ [])) (members e.1)) (λ r. r.0.answer) (members d)
       ∙ (λ i. total_cost (λ e. total_cost-map (λ (r : Sub Cost × List Name). r.0.answer) (λ c. cost W c.1) (λ c. (place (cost_step W) c.1, k ∷ e.0 ∷ c.0 ∷ []))
-          (λ c. refl) (members e.1) i) (members d))
+      (λ c. refl) (members e.1) i) (members d))

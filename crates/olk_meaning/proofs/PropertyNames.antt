@@ -60,26 +60,26 @@ module _ (W : World) (ms : Members) (d : Data) (u : Bool) (v : Data) where
     unfolding meaning
     accepts_by =
         (λ i. (not (is_object (whole_read (meaning_step W u) d i).schema) || list_all (λ m. (whole_read (meaning_step W u) d i).answer.accepts (string m.0)) (members v))
-            && (not (is_truth false (whole_read (meaning_step W u) d i).schema) || is_empty (members v)))
+        && (not (is_truth false (whole_read (meaning_step W u) d i).schema) || is_empty (members v)))
         ∙ (λ i. (not (is_names i) || list_all (λ m. accepts W u d (string m.0)) (members v)) && (not (is_none i) || is_empty (members v)))
 
     report_by : (P Q : Path) → member_report W ms (codes "propertyNames", d) property_names u v P Q
         ≡ flat_map (λ s. flat_map (λ m. map (wrapped v Q) (s.answer.report (string m.0) (P // codes "propertyNames") Q)) (members v)) (put_if names (place (meaning_step W u) d) [])
-            ++ fault_if (none && not (is_empty (members v))) FalseSchema v (P // codes "propertyNames") Q
+        ++ fault_if (none && not (is_empty (members v))) FalseSchema v (P // codes "propertyNames") Q
     report_by P Q =
         (λ i. flat_map (λ s. flat_map (λ m. map (wrapped v Q) (s.answer.report (string m.0) (P // codes "propertyNames") Q)) (members v))
-            (put_if (is_object (whole_read (meaning_step W u) d i).schema) (whole_read (meaning_step W u) d i) [])
-            ++ fault_if (is_truth false (whole_read (meaning_step W u) d i).schema && not (is_empty (members v))) FalseSchema v (P // codes "propertyNames") Q)
+        (put_if (is_object (whole_read (meaning_step W u) d i).schema) (whole_read (meaning_step W u) d i) [])
+        ++ fault_if (is_truth false (whole_read (meaning_step W u) d i).schema && not (is_empty (members v))) FalseSchema v (P // codes "propertyNames") Q)
         ∙ (λ i. flat_map (λ s. flat_map (λ m. map (wrapped v Q) (s.answer.report (string m.0) (P // codes "propertyNames") Q)) (members v))
-            (put_if (is_names i) (place (meaning_step W u) d) []) ++ fault_if (is_none i && not (is_empty (members v))) FalseSchema v (P // codes "propertyNames") Q)
+        (put_if (is_names i) (place (meaning_step W u) d) []) ++ fault_if (is_none i && not (is_empty (members v))) FalseSchema v (P // codes "propertyNames") Q)
 
     child_by : (P Q : Path) → member_child W ms (codes "propertyNames", d) property_names u v P Q
         ≡ put_if names (plain (P // codes "propertyNames") Q (map (λ m. tree W u d (string m.0) (P // codes "propertyNames") Q) (members v))) []
-            ++ put_if none (erring (P // codes "propertyNames") Q (fault_if (not (is_empty (members v))) FalseSchema v (P // codes "propertyNames") Q)) []
+        ++ put_if none (erring (P // codes "propertyNames") Q (fault_if (not (is_empty (members v))) FalseSchema v (P // codes "propertyNames") Q)) []
     unfolding meaning
     child_by P Q =
         (λ i. put_if (is_object (whole_read (meaning_step W u) d i).schema)
-            (plain (P // codes "propertyNames") Q (map (λ m. (whole_read (meaning_step W u) d i).answer.tree (string m.0) (P // codes "propertyNames") Q) (members v))) []
+        (plain (P // codes "propertyNames") Q (map (λ m. (whole_read (meaning_step W u) d i).answer.tree (string m.0) (P // codes "propertyNames") Q) (members v))) []
         ++ put_if (is_truth false (whole_read (meaning_step W u) d i).schema) (erring (P // codes "propertyNames") Q (fault_if (not (is_empty (members v))) FalseSchema v (P // codes "propertyNames") Q)) [])
         ∙ (λ i. put_if (is_names i) (plain (P // codes "propertyNames") Q (map (λ m. tree W u d (string m.0) (P // codes "propertyNames") Q) (members v))) []
         ++ put_if (is_none i) (erring (P // codes "propertyNames") Q (fault_if (not (is_empty (members v))) FalseSchema v (P // codes "propertyNames") Q)) [])
@@ -136,7 +136,6 @@ module _ (W : World) (ms : Members) (d : Data) (u : Bool) (v : Data) where
 -- ---- what is wrong with it, and the places that it reads
 
 module _ {X : Type 0} (step : Schema X → X) (d : Data) (k : Name) where
-
   module _ (S : Keywords X) where
     places_by : (b : Bool) → is_object d ≡ b → read_places k S (read step d) property_names ≡ places_where k b (itself k (place step d))
     places_by b e = (λ i. places_where k (is_object (whole_read step d i).schema) (itself k (whole_read step d i))) ∙ (λ i. places_where k (e i) (itself k (place step d)))

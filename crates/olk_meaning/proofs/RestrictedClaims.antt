@@ -32,7 +32,7 @@ module _ (p : Planned) (restricted : p.restricted ≡ true) (unfused : is_some p
   pub head_of_restriction : (n : Name) → bytes_eq (codes "additionalProperties") (head p n) ≡ is_below p n
   head_of_restriction n =
       (λ i. bytes_eq (codes "additionalProperties") (cond ((restricted i && (bytes_eq-sym n (codes "properties") i || (bytes_eq-sym n (codes "patternProperties") i || false)))
-          || (is_some p.fused_one && bytes_eq (codes "required") n)) (codes "additionalProperties") (not_taken n)))
+      || (is_some p.fused_one && bytes_eq (codes "required") n)) (codes "additionalProperties") (not_taken n)))
       ∙ by (bytes_eq (codes "properties") n) (bytes_eq (codes "patternProperties") n) (is_some p.fused_one && bytes_eq (codes "required") n)
     where
       by : (a b c : Bool) → bytes_eq (codes "additionalProperties") (cond ((true && (a || (b || false))) || c) (codes "additionalProperties") (not_taken n)) ≡
@@ -66,17 +66,17 @@ module _ (ms : Members) (restricted : is_restricted ms ≡ true) where
     pub claims_no_properties : claims (head (plan_of ms)) es (codes "properties", d) ≡ []
     claims_no_properties =
         filter_once-same (λ (x : Name × Data). bytes_eq (codes "properties") (head plan x.0)) (λ x. false)
-            (λ x. taken_heads_none plan restricted unfused (codes "properties") (ap (λ b. (b && true) || (is_some plan.fused_one && false)) restricted) refl refl refl x.0) es ∙ those_none es
+        (λ x. taken_heads_none plan restricted unfused (codes "properties") (ap (λ b. (b && true) || (is_some plan.fused_one && false)) restricted) refl refl refl x.0) es ∙ those_none es
 
     pub claims_no_patterns : claims (head (plan_of ms)) es (codes "patternProperties", d) ≡ []
     claims_no_patterns =
         filter_once-same (λ (x : Name × Data). bytes_eq (codes "patternProperties") (head plan x.0)) (λ x. false)
-            (λ x. taken_heads_none plan restricted unfused (codes "patternProperties") (ap (λ b. (b && true) || (is_some plan.fused_one && false)) restricted) refl refl refl x.0) es ∙ those_none es
+        (λ x. taken_heads_none plan restricted unfused (codes "patternProperties") (ap (λ b. (b && true) || (is_some plan.fused_one && false)) restricted) refl refl refl x.0) es ∙ those_none es
 
     pub claims_no_fused : is_some (fused_one ms) ≡ true → claims (head (plan_of ms)) es (codes "required", d) ≡ []
     claims_no_fused f =
         filter_once-same (λ (x : Name × Data). bytes_eq (codes "required") (head plan x.0)) (λ x. false)
-            (λ x. taken_heads_none plan restricted unfused (codes "required") (λ i. (restricted i && false) || (f i && true)) refl refl refl x.0) es ∙ those_none es
+        (λ x. taken_heads_none plan restricted unfused (codes "required") (λ i. (restricted i && false) || (f i && true)) refl refl refl x.0) es ∙ those_none es
 
   module _ (distinct : has_repeat (names_of (listed ms)) ≡ false) where
     rows_found : (k : Name) → members_named k (listed ms) ≡ rows_at k ms
@@ -105,15 +105,15 @@ module _ (ms : Members) (restricted : is_restricted ms ≡ true) where
             → IsPermutation (members_named k (listed ms) ++ xs) (filter_once (λ x. bytes_eq k x.0 || test x.0) (listed ms))
         one_more k test {xs} e h =
             IsPermutation-trans _ _ _ (IsPermutation-append _ _ _ _ (IsPermutation-refl (members_named k (listed ms))) h)
-                (those_split (λ x. bytes_eq k x.0) (λ x. test x.0) (apart_of k test e) (listed ms))
+            (those_split (λ x. bytes_eq k x.0) (λ x. test x.0) (apart_of k test e) (listed ms))
 
     -- itself, `properties` and `patternProperties` where they stand, and `required` where it is fused
     pub claims_restriction : (d : Data) → lookup_name (codes "additionalProperties") (listed ms) ≡ Some d
         → IsPermutation ((codes "additionalProperties", d) ∷ (rows_at (codes "properties") ms ++ (rows_at (codes "patternProperties") ms ++ fused_rows ms)))
-            (claims (head (plan_of ms)) (listed ms) (codes "additionalProperties", d))
+        (claims (head (plan_of ms)) (listed ms) (codes "additionalProperties", d))
     claims_restriction d there = subst₂ IsPermutation
         (λ i. named_once (codes "additionalProperties") d (listed ms) (Distinct-from (listed ms) distinct) there i
-            ++ (rows_found (codes "properties") i ++ (rows_found (codes "patternProperties") i ++ fused_found (fused_one ms) refl i)))
+        ++ (rows_found (codes "properties") i ++ (rows_found (codes "patternProperties") i ++ fused_found (fused_one ms) refl i)))
         (filter_once-same (λ (x : Name × Data). is_below plan x.0) (λ x. bytes_eq (codes "additionalProperties") (head plan x.0))
-            (λ x. sym (head_of_restriction plan restricted unfused x.0)) (listed ms))
+        (λ x. sym (head_of_restriction plan restricted unfused x.0)) (listed ms))
         tested

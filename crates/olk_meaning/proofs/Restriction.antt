@@ -98,11 +98,11 @@ module _ (W : World) (ms : Members) (d : Data) (distinct : has_repeat (names_of 
       sym (list_all-permuted row_accepts _ claimed (claims_restriction ms restricted distinct d there))
       ∙ ap (λ b. row_accepts (codes "additionalProperties", d) && b) (list_all-append row_accepts (rows_at (codes "properties") ms) (rows_at (codes "patternProperties") ms ++ fused_rows ms))
       ∙ (λ i. additional_accepts W ms d u v i && (declared_rows_accept i
-          && (list_all-append row_accepts (rows_at (codes "patternProperties") ms) (fused_rows ms) ∙ (λ j. pattern_rows_accept j && fused_rows_accept j)) i))
+      && (list_all-append row_accepts (rows_at (codes "patternProperties") ms) (fused_rows ms) ∙ (λ j. pattern_rows_accept j && fused_rows_accept j)) i))
       ∙ in_order (list_all (rest_accepts W u fs es d) (members v)) (list_all (λ e. list_all (accepts W u e.1) (at e.0 v)) fs)
-          (list_all (matching_accept W u fs es) (members v)) (is_empty (missing (required_beside ms) v))
+      (list_all (matching_accept W u fs es) (members v)) (is_empty (missing (required_beside ms) v))
       ∙ ap (λ b. (list_all (λ e. list_all (accepts W u e.1) (at e.0 v)) fs && b) && is_empty (missing (required_beside ms) v))
-          (sym (list_all-and (matching_accept W u fs es) (rest_accepts W u fs es d) (members v)))
+      (sym (list_all-and (matching_accept W u fs es) (rest_accepts W u fs es d) (members v)))
 
   -- where no name stands twice among the declared and among the members, member by member
   module _ (declared_once : has_repeat (names_of fs) ≡ false) (members_once : has_repeat (names_of (members v)) ≡ false) where
@@ -142,7 +142,7 @@ module _ (W : World) (ms : Members) (d : Data) (distinct : has_repeat (names_of 
     pattern_rows_find : flat_map row_report (rows_at (codes "patternProperties") ms) ∼ flat_map (matching_report W u fs es P Q) (members v)
     pattern_rows_find =
         like_through (∼_same (by (lookup_name (codes "patternProperties") (listed ms))))
-            (∼_exchanged (λ e x. matches W u e.0 x.0) (λ e x. report W u e.1 x.1 (P // codes "patternProperties" // e.0) (Q // x.0)) es (members v))
+        (∼_exchanged (λ e x. matches W u e.0 x.0) (λ e x. report W u e.1 x.1 (P // codes "patternProperties" // e.0) (Q // x.0)) es (members v))
       where
         by : (o : Option Data) → flat_map row_report (map (λ d. (codes "patternProperties", d)) (option_to_list o)) ≡ flat_map
             (λ e. flat_map (λ x. report W u e.1 x.1 (P // codes "patternProperties" // e.0) (Q // x.0)) (matched_members W u e.0 v)) (entries_in o)

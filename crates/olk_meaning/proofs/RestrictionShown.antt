@@ -54,13 +54,13 @@ module _ (W : World) (ms : Members) (u : Bool) (v : Data) (P Q : Path) where
   declared_trees_read : (x : Name × Data) → declared_trees W u S v P Q x ≡ declared_shown W u fs es P Q x
   declared_trees_read x =
       ap (λ l. map (λ s. s.answer.tree x.1 (P // codes "properties" // x.0) (Q // x.0)) (option_to_list (lookup_name x.0 l))) (entries_beside (meaning_step W u) ms (codes "properties"))
-          ∙ entry_shown W u v (P // codes "properties") Q x fs
+      ∙ entry_shown W u v (P // codes "properties") Q x fs
 
   pattern_trees_read : (x : Name × Data) → pattern_trees W u S v P Q x ≡ matching_shown W u fs es P Q x
   unfolding meaning
   pattern_trees_read x = ap (map (λ (e : Name × Subschema). e.1.answer.tree x.1 (P // codes "patternProperties" // e.0) (Q // x.0))) (matching_read (meaning_step W u) ms W u x.0)
       ∙ map-map (λ e. e.1.answer.tree x.1 (P // codes "patternProperties" // e.0) (Q // x.0)) (λ e. tree W u e.1 x.1 (P // codes "patternProperties" // e.0) (Q // x.0))
-          (entry (meaning_step W u)) (λ e. refl) (matching_at W u es x.0)
+      (entry (meaning_step W u)) (λ e. refl) (matching_at W u es x.0)
 
   other_names_read : additional_names W u S v P Q ≡ other_names W u fs es v
   other_names_read = ap (map (λ x. x.0)) (additional_read (meaning_step W u) ms W u v)
@@ -68,7 +68,7 @@ module _ (W : World) (ms : Members) (u : Bool) (v : Data) (P Q : Path) where
   names_matched_read : matched_names W u S v P Q ≡ names_matched W u fs es v
   names_matched_read =
       λ i. flat_map (λ m. (ap (map (λ (e : Name × Subschema). m.0)) (matching_read (meaning_step W u) ms W u m.0) ∙ map-map (λ (e : Name × Subschema). m.0)
-          (λ (e : Name × Data). m.0) (entry (meaning_step W u)) (λ e. refl) (matching_at W u es m.0)) i) (members v)
+      (λ (e : Name × Data). m.0) (entry (meaning_step W u)) (λ e. refl) (matching_at W u es m.0)) i) (members v)
 
   -- a member is among the others if it is one
   others_there : Each (λ x. is_among x.0 (other_names W u fs es v) ≡ is_other W u fs es x.0) (members v)
@@ -95,20 +95,20 @@ module _ (W : World) (ms : Members) (u : Bool) (v : Data) (P Q : Path) where
     unfolding meaning
     each_read =
         (λ i. flat_map (λ m. declared_trees_read m i ++ pattern_trees_read m i ++ put_if (is_object (whole_read (meaning_step W u) d i).schema && is_among m.0 (other_names_read i))
-            ((whole_read (meaning_step W u) d i).answer.tree m.1 (P // codes "additionalProperties") (Q // m.0)) []) (members v))
+        ((whole_read (meaning_step W u) d i).answer.tree m.1 (P // codes "additionalProperties") (Q // m.0)) []) (members v))
         ∙ each_flat (λ m. declared_shown W u fs es P Q m ++ matching_shown W u fs es P Q m ++ put_if (is_object d && is_among m.0 (other_names W u fs es v))
-            (tree W u d m.1 (P // codes "additionalProperties") (Q // m.0)) []) (each_shown W u fs es P Q d) (members v)
+        (tree W u d m.1 (P // codes "additionalProperties") (Q // m.0)) []) (each_shown W u fs es P Q d) (members v)
         (Each-implies (λ x. is_among x.0 (other_names W u fs es v) ≡ is_other W u fs es x.0) _
-            (λ m h. ap (λ b. declared_shown W u fs es P Q m ++ matching_shown W u fs es P Q m ++ put_if (is_object d && b)
-            (tree W u d m.1 (P // codes "additionalProperties") (Q // m.0)) []) h) (members v) others_there)
+        (λ m h. ap (λ b. declared_shown W u fs es P Q m ++ matching_shown W u fs es P Q m ++ put_if (is_object d && b)
+        (tree W u d m.1 (P // codes "additionalProperties") (Q // m.0)) []) h) (members v) others_there)
 
     pub additional_shows : is_restricted ms ≡ true → fuses_one S ≡ is_some (fused_one ms) → member_child W ms
         (codes "additionalProperties", d) additional_properties u v P Q ≡ restriction_shown W u ms v d P Q ∷ []
     additional_shows restricted fused = λ i. put_if ((restricted_read (meaning_step W u) ms ∙ restricted) i)
         (result (P // codes "additionalProperties") Q
         (cond (is_object v && (is_object (whole_read (meaning_step W u) d i).schema
-            && (cond (present (meaning_step W u) ms (codes "properties") i) (present (meaning_step W u) ms (codes "patternProperties") i)
-            (not (present (meaning_step W u) ms (codes "patternProperties") i)) || not (is_empty (other_names_read i))))) (Some (other_names_read i)) None)
+        && (cond (present (meaning_step W u) ms (codes "properties") i) (present (meaning_step W u) ms (codes "patternProperties") i)
+        (not (present (meaning_step W u) ms (codes "patternProperties") i)) || not (is_empty (other_names_read i))))) (Some (other_names_read i)) None)
         false (described (own_others W ms d u v P Q i))
         (each_read i ++ put_if (present (meaning_step W u) ms (codes "patternProperties") i && not (present (meaning_step W u) ms (codes "properties") i) && not (is_empty (names_matched_read i))) (node (P // codes "patternProperties") Q true (Some (names_matched_read i)) [] no_tree) [] ++ missing_read fused i)) []
 
@@ -127,4 +127,4 @@ module _ (W : World) (ms : Members) (u : Bool) (v : Data) (P Q : Path) where
         by None q f = absurd (true≢false (sym f))
         by (Some n) q f =
             ap (λ b. put_if (not b && not (fuses_two S)) (erring (P // codes "required") Q
-                (required_faults (texts (read (meaning_step W u) d).whole.schema) v (P // codes "required") Q)) []) (fused_reads (meaning_step W u) ms n q)
+            (required_faults (texts (read (meaning_step W u) d).whole.schema) v (P // codes "required") Q)) []) (fused_reads (meaning_step W u) ms n q)

@@ -93,8 +93,8 @@ refused_closed o e = no_truth e
 pub fusing_is_free : (ms : Members) → is_some (fused_pair ms) ≡ true → is_restricted ms ≡ false
 fusing_is_free ms e =
     allowed_unrestricted (lookup_name (codes "additionalProperties") (listed ms))
-        (by (declares_few (lookup_name (codes "properties") (listed ms))) (is_none (lookup_name (codes "patternProperties") (listed ms)))
-        (allows_others (lookup_name (codes "additionalProperties") (listed ms))) (two_names (lookup_name (codes "required") (listed ms))) e)
+    (by (declares_few (lookup_name (codes "properties") (listed ms))) (is_none (lookup_name (codes "patternProperties") (listed ms)))
+    (allows_others (lookup_name (codes "additionalProperties") (listed ms))) (two_names (lookup_name (codes "required") (listed ms))) e)
   where
     by : (a b c : Bool) (o : Option (Name × Name)) → is_some (cond (a && b && c) o None) ≡ true → c ≡ true
     by true true true o h = refl

@@ -144,39 +144,39 @@ module _ {K R : Type 0} (o : Kit K R) where
   finds_layer n (RequiredNames k) u v Q = refl
   finds_layer n (Keywords ks) u v Q =
       flat_map-map (λ k. validator_report o (λ a. a.means) (λ a. a.report) u k v Q) (λ k. validator_report o (λ n. (answers o n).means) (λ n. (answers o n).report) u k v Q) _ (elim [
-    | keyword.Properties k ↦ few_or_many k.properties (λ m e. rw e (flat_map-zip (λ e. flat_map (λ x. e.1.report u x (Q // e.0)) (at e.0 v))
-        (λ e. flat_map (λ x. (answers o e.1).report u x (Q // e.0)) (at e.0 v)) (answers o) (λ a y. refl) m.names m.nodes.items))
-        (λ m e. rw e (flat_map-zip (λ e. flat_map (λ x. e.1.report u x (Q // e.0)) (at e.0 v)) (λ e. flat_map (λ x. (answers o e.1).report u x (Q // e.0)) (at e.0 v))
-        (answers o) (λ a y. refl) m.names m.nodes.items))
-    | keyword.PropertiesWithRequired2 k ↦ ap (λ fs. required_faults (two_texts k.first k.second) v k.required_location Q ++ fs)
-        (flat_map-zip (λ e. flat_map (λ x. e.1.report u x (Q // e.0)) (at e.0 v)) (λ e. flat_map (λ x. (answers o e.1).report u x (Q // e.0)) (at e.0 v))
-        (answers o) (λ a y. refl) k.properties.names k.properties.nodes.items)
-    | keyword.Required k ↦ refl
-    | keyword.AllOf k ↦ flat_map-map (λ a. a.report u v Q) (λ n. (answers o n).report u v Q) (answers o) (λ n. refl) k.schemas.items
-    | keyword.SingleValueAllOf k ↦ refl
-    | keyword.AnyOf k ↦ λ i. fault_if (not ((some-map (λ a. a.means v) (λ n. (answers o n).means v) (answers o) (λ n. refl) k.schemas.items i).accepts u))
-        (AnyOf (context (map-map (λ a. a.report u v Q) (λ n. (answers o n).report u v Q) (answers o) (λ n. refl) k.schemas.items i))) v k.location Q
-    | keyword.SingleAnyOf k ↦ refl
-    | keyword.OneOf k ↦ λ i. one_of_report (how_many-map (λ a. a.means v) (λ n. (answers o n).means v) (answers o) (λ n. refl) u k.schemas.items i)
-        (context (map-map (λ a. a.report u v Q) (λ n. (answers o n).report u v Q) (answers o) (λ n. refl) k.schemas.items i)) v k.location Q
-    | keyword.SingleOneOf k ↦ refl
-    | keyword.Not k ↦ refl
-    | keyword.IfThen k ↦ refl
-    | keyword.IfElse k ↦ refl
-    | keyword.IfThenElse k ↦ refl
-    | keyword.Dependencies k ↦ ap (flat_map (λ a. a.report u v Q)) (due_nodes-map (answers o) v k.dependencies.names k.dependencies.nodes.items)
-        ∙ flat_map-map (λ a. a.report u v Q) (λ n. (answers o n).report u v Q) (answers o) (λ n. refl) (due_nodes (named k.dependencies) v)
-    | keyword.PropertyNames k ↦ refl
-    | keyword.PropertyNamesFalse k ↦ refl
-    | keyword.PropertyDependencies k ↦ ap (flat_map (λ a. a.report u v Q)) (chosen_nodes-map (answers o) v _ (λ m. refl) k.dependencies.names k.dependencies.nodes.items)
-        ∙ flat_map-map (λ a. a.report u v Q) (λ n. (answers o n).report u v Q) (answers o) (λ n. refl) (chosen_nodes (named k.dependencies) v)
-    | keyword.PatternProperties k ↦ patterns_report-map o.answers (answers o) u v (λ a. a.report) (λ n. (answers o n).report) (λ n w R. refl) Q k.patterns.items
-    | keyword.SingleValuePatternProperties k ↦ refl
-    | keyword.AdditionalProperties k ↦ ap (λ b. additional_report o.answers (sides_of (answered n ks k)) u v Q b k.value.location (λ a. a.report) ++ lacks k.value.required v Q)
-        (neighbours_alike n ks k) ∙ ap (λ fs. fs ++ lacks k.value.required v Q)
-        (additional_report-map (answers o) o.answers (sides_answer n ks k) u v Q (λ a. a.report) (λ n. (answers o n).report) (λ y w R. refl) (has_neighbours k.value) k.value.location)
-    | keyword.Leaf p l ↦ refl
-  ]) ks.items
+        | keyword.Properties k ↦ few_or_many k.properties (λ m e. rw e (flat_map-zip (λ e. flat_map (λ x. e.1.report u x (Q // e.0)) (at e.0 v))
+            (λ e. flat_map (λ x. (answers o e.1).report u x (Q // e.0)) (at e.0 v)) (answers o) (λ a y. refl) m.names m.nodes.items))
+            (λ m e. rw e (flat_map-zip (λ e. flat_map (λ x. e.1.report u x (Q // e.0)) (at e.0 v)) (λ e. flat_map (λ x. (answers o e.1).report u x (Q // e.0)) (at e.0 v))
+            (answers o) (λ a y. refl) m.names m.nodes.items))
+        | keyword.PropertiesWithRequired2 k ↦ ap (λ fs. required_faults (two_texts k.first k.second) v k.required_location Q ++ fs)
+            (flat_map-zip (λ e. flat_map (λ x. e.1.report u x (Q // e.0)) (at e.0 v)) (λ e. flat_map (λ x. (answers o e.1).report u x (Q // e.0)) (at e.0 v))
+            (answers o) (λ a y. refl) k.properties.names k.properties.nodes.items)
+        | keyword.Required k ↦ refl
+        | keyword.AllOf k ↦ flat_map-map (λ a. a.report u v Q) (λ n. (answers o n).report u v Q) (answers o) (λ n. refl) k.schemas.items
+        | keyword.SingleValueAllOf k ↦ refl
+        | keyword.AnyOf k ↦ λ i. fault_if (not ((some-map (λ a. a.means v) (λ n. (answers o n).means v) (answers o) (λ n. refl) k.schemas.items i).accepts u))
+            (AnyOf (context (map-map (λ a. a.report u v Q) (λ n. (answers o n).report u v Q) (answers o) (λ n. refl) k.schemas.items i))) v k.location Q
+        | keyword.SingleAnyOf k ↦ refl
+        | keyword.OneOf k ↦ λ i. one_of_report (how_many-map (λ a. a.means v) (λ n. (answers o n).means v) (answers o) (λ n. refl) u k.schemas.items i)
+            (context (map-map (λ a. a.report u v Q) (λ n. (answers o n).report u v Q) (answers o) (λ n. refl) k.schemas.items i)) v k.location Q
+        | keyword.SingleOneOf k ↦ refl
+        | keyword.Not k ↦ refl
+        | keyword.IfThen k ↦ refl
+        | keyword.IfElse k ↦ refl
+        | keyword.IfThenElse k ↦ refl
+        | keyword.Dependencies k ↦ ap (flat_map (λ a. a.report u v Q)) (due_nodes-map (answers o) v k.dependencies.names k.dependencies.nodes.items)
+            ∙ flat_map-map (λ a. a.report u v Q) (λ n. (answers o n).report u v Q) (answers o) (λ n. refl) (due_nodes (named k.dependencies) v)
+        | keyword.PropertyNames k ↦ refl
+        | keyword.PropertyNamesFalse k ↦ refl
+        | keyword.PropertyDependencies k ↦ ap (flat_map (λ a. a.report u v Q)) (chosen_nodes-map (answers o) v _ (λ m. refl) k.dependencies.names k.dependencies.nodes.items)
+            ∙ flat_map-map (λ a. a.report u v Q) (λ n. (answers o n).report u v Q) (answers o) (λ n. refl) (chosen_nodes (named k.dependencies) v)
+        | keyword.PatternProperties k ↦ patterns_report-map o.answers (answers o) u v (λ a. a.report) (λ n. (answers o n).report) (λ n w R. refl) Q k.patterns.items
+        | keyword.SingleValuePatternProperties k ↦ refl
+        | keyword.AdditionalProperties k ↦ ap (λ b. additional_report o.answers (sides_of (answered n ks k)) u v Q b k.value.location (λ a. a.report) ++ lacks k.value.required v Q)
+            (neighbours_alike n ks k) ∙ ap (λ fs. fs ++ lacks k.value.required v Q)
+            (additional_report-map (answers o) o.answers (sides_answer n ks k) u v Q (λ a. a.report) (λ n. (answers o n).report) (λ y w R. refl) (has_neighbours k.value) k.value.location)
+        | keyword.Leaf p l ↦ refl
+      ]) ks.items
 
   first_layer : (n : SchemaNode-F K R (SchemaNode K R)) (b : Body (KeywordOver K R (SchemaNode K R))) (u : Bool) (v : Data) (Q : Path)
       → (node_step o (opened n b)).first u v Q ≡ body_first (validator_first o (λ n. (answers o n).means) (λ n. (answers o n).report) u (λ n. (answers o n).first)) n.location b v Q
@@ -186,40 +186,40 @@ module _ {K R : Type 0} (o : Kit K R) where
   first_layer n (RequiredNames k) u v Q = refl
   first_layer n (Keywords ks) u v Q =
       first_of-map (λ k. validator_first o (λ a. a.means) (λ a. a.report) u (λ a. a.first) k v Q)
-          (λ k. validator_first o (λ n. (answers o n).means) (λ n. (answers o n).report) u (λ n. (answers o n).first) k v Q) _ (elim [
-    | keyword.Properties k ↦ few_or_many k.properties (λ m e. rw e (first_of-zip (λ e. first_of (λ x. e.1.first u x (Q // e.0)) (at e.0 v))
-        (λ e. first_of (λ x. (answers o e.1).first u x (Q // e.0)) (at e.0 v)) (answers o) (λ a y. refl) m.names m.nodes.items))
-        (λ m e. rw e (first_of-zip (λ e. first_of (λ x. e.1.first u x (Q // e.0)) (at e.0 v)) (λ e. first_of (λ x. (answers o e.1).first u x (Q // e.0)) (at e.0 v))
-        (answers o) (λ a y. refl) m.names m.nodes.items))
-    | keyword.PropertiesWithRequired2 k ↦ ap (or_else (head_of (required_faults (two_texts k.first k.second) v k.required_location Q)))
-        (first_of-zip (λ e. first_of (λ x. e.1.first u x (Q // e.0)) (at e.0 v)) (λ e. first_of (λ x. (answers o e.1).first u x (Q // e.0)) (at e.0 v))
-        (answers o) (λ a y. refl) k.properties.names k.properties.nodes.items)
-    | keyword.Required k ↦ refl
-    | keyword.AllOf k ↦ first_of-map (λ a. a.first u v Q) (λ n. (answers o n).first u v Q) (answers o) (λ n. refl) k.schemas.items
-    | keyword.SingleValueAllOf k ↦ refl
-    | keyword.AnyOf k ↦ λ i. fault_if (not ((some-map (λ a. a.means v) (λ n. (answers o n).means v) (answers o) (λ n. refl) k.schemas.items i).accepts u))
-        (AnyOf (context (map-map (λ a. a.report u v Q) (λ n. (answers o n).report u v Q) (answers o) (λ n. refl) k.schemas.items i))) v k.location Q
-    | keyword.SingleAnyOf k ↦ refl
-    | keyword.OneOf k ↦ λ i. one_of_report (how_many-map (λ a. a.means v) (λ n. (answers o n).means v) (answers o) (λ n. refl) u k.schemas.items i)
-        (context (map-map (λ a. a.report u v Q) (λ n. (answers o n).report u v Q) (answers o) (λ n. refl) k.schemas.items i)) v k.location Q
-    | keyword.SingleOneOf k ↦ refl
-    | keyword.Not k ↦ refl
-    | keyword.IfThen k ↦ refl
-    | keyword.IfElse k ↦ refl
-    | keyword.IfThenElse k ↦ refl
-    | keyword.Dependencies k ↦ ap (first_of (λ a. a.first u v Q)) (due_nodes-map (answers o) v k.dependencies.names k.dependencies.nodes.items)
-        ∙ first_of-map (λ a. a.first u v Q) (λ n. (answers o n).first u v Q) (answers o) (λ n. refl) (due_nodes (named k.dependencies) v)
-    | keyword.PropertyNames k ↦ refl
-    | keyword.PropertyNamesFalse k ↦ refl
-    | keyword.PropertyDependencies k ↦ ap (first_of (λ a. a.first u v Q)) (chosen_nodes-map (answers o) v _ (λ m. refl) k.dependencies.names k.dependencies.nodes.items)
-        ∙ first_of-map (λ a. a.first u v Q) (λ n. (answers o n).first u v Q) (answers o) (λ n. refl) (chosen_nodes (named k.dependencies) v)
-    | keyword.PatternProperties k ↦ patterns_first-map o.answers (answers o) u v (λ a. a.first) (λ n. (answers o n).first) (λ n w R. refl) Q k.patterns.items
-    | keyword.SingleValuePatternProperties k ↦ refl
-    | keyword.AdditionalProperties k ↦ ap (λ b. or_else (additional_first o.answers (sides_of (answered n ks k)) u v Q b k.value.location (λ a. a.first)) (lacks k.value.required v Q))
-        (neighbours_alike n ks k) ∙ ap (λ fs. or_else fs (lacks k.value.required v Q))
-        (additional_first-map (answers o) o.answers (sides_answer n ks k) u v Q (λ a. a.first) (λ n. (answers o n).first) (λ y w R. refl) (has_neighbours k.value) k.value.location)
-    | keyword.Leaf p l ↦ refl
-  ]) ks.items
+      (λ k. validator_first o (λ n. (answers o n).means) (λ n. (answers o n).report) u (λ n. (answers o n).first) k v Q) _ (elim [
+        | keyword.Properties k ↦ few_or_many k.properties (λ m e. rw e (first_of-zip (λ e. first_of (λ x. e.1.first u x (Q // e.0)) (at e.0 v))
+            (λ e. first_of (λ x. (answers o e.1).first u x (Q // e.0)) (at e.0 v)) (answers o) (λ a y. refl) m.names m.nodes.items))
+            (λ m e. rw e (first_of-zip (λ e. first_of (λ x. e.1.first u x (Q // e.0)) (at e.0 v)) (λ e. first_of (λ x. (answers o e.1).first u x (Q // e.0)) (at e.0 v))
+            (answers o) (λ a y. refl) m.names m.nodes.items))
+        | keyword.PropertiesWithRequired2 k ↦ ap (or_else (head_of (required_faults (two_texts k.first k.second) v k.required_location Q)))
+            (first_of-zip (λ e. first_of (λ x. e.1.first u x (Q // e.0)) (at e.0 v)) (λ e. first_of (λ x. (answers o e.1).first u x (Q // e.0)) (at e.0 v))
+            (answers o) (λ a y. refl) k.properties.names k.properties.nodes.items)
+        | keyword.Required k ↦ refl
+        | keyword.AllOf k ↦ first_of-map (λ a. a.first u v Q) (λ n. (answers o n).first u v Q) (answers o) (λ n. refl) k.schemas.items
+        | keyword.SingleValueAllOf k ↦ refl
+        | keyword.AnyOf k ↦ λ i. fault_if (not ((some-map (λ a. a.means v) (λ n. (answers o n).means v) (answers o) (λ n. refl) k.schemas.items i).accepts u))
+            (AnyOf (context (map-map (λ a. a.report u v Q) (λ n. (answers o n).report u v Q) (answers o) (λ n. refl) k.schemas.items i))) v k.location Q
+        | keyword.SingleAnyOf k ↦ refl
+        | keyword.OneOf k ↦ λ i. one_of_report (how_many-map (λ a. a.means v) (λ n. (answers o n).means v) (answers o) (λ n. refl) u k.schemas.items i)
+            (context (map-map (λ a. a.report u v Q) (λ n. (answers o n).report u v Q) (answers o) (λ n. refl) k.schemas.items i)) v k.location Q
+        | keyword.SingleOneOf k ↦ refl
+        | keyword.Not k ↦ refl
+        | keyword.IfThen k ↦ refl
+        | keyword.IfElse k ↦ refl
+        | keyword.IfThenElse k ↦ refl
+        | keyword.Dependencies k ↦ ap (first_of (λ a. a.first u v Q)) (due_nodes-map (answers o) v k.dependencies.names k.dependencies.nodes.items)
+            ∙ first_of-map (λ a. a.first u v Q) (λ n. (answers o n).first u v Q) (answers o) (λ n. refl) (due_nodes (named k.dependencies) v)
+        | keyword.PropertyNames k ↦ refl
+        | keyword.PropertyNamesFalse k ↦ refl
+        | keyword.PropertyDependencies k ↦ ap (first_of (λ a. a.first u v Q)) (chosen_nodes-map (answers o) v _ (λ m. refl) k.dependencies.names k.dependencies.nodes.items)
+            ∙ first_of-map (λ a. a.first u v Q) (λ n. (answers o n).first u v Q) (answers o) (λ n. refl) (chosen_nodes (named k.dependencies) v)
+        | keyword.PatternProperties k ↦ patterns_first-map o.answers (answers o) u v (λ a. a.first) (λ n. (answers o n).first) (λ n w R. refl) Q k.patterns.items
+        | keyword.SingleValuePatternProperties k ↦ refl
+        | keyword.AdditionalProperties k ↦ ap (λ b. or_else (additional_first o.answers (sides_of (answered n ks k)) u v Q b k.value.location (λ a. a.first)) (lacks k.value.required v Q))
+            (neighbours_alike n ks k) ∙ ap (λ fs. or_else fs (lacks k.value.required v Q))
+            (additional_first-map (answers o) o.answers (sides_answer n ks k) u v Q (λ a. a.first) (λ n. (answers o n).first) (λ y w R. refl) (has_neighbours k.value) k.value.location)
+        | keyword.Leaf p l ↦ refl
+      ]) ks.items
 
   shows_layer : (n : SchemaNode-F K R (SchemaNode K R)) (b : Body (KeywordOver K R (SchemaNode K R))) (u : Bool) (v : Data) (Q : Path)
       → (node_step o (opened n b)).tree u v Q ≡ body_tree (validator_tree o (λ n. (answers o n).means) (λ n. (answers o n).tree) u) n.location b v Q
@@ -229,41 +229,41 @@ module _ {K R : Type 0} (o : Kit K R) where
   shows_layer n (RequiredNames k) u v Q = refl
   shows_layer n (Keywords ks) u v Q =
       ap (plain n.location Q) (map-map (λ k. validator_tree o (λ a. a.means) (λ a. a.tree) u k v Q) (λ k. validator_tree o (λ n. (answers o n).means) (λ n. (answers o n).tree) u k v Q) _ (elim [
-    | keyword.Properties k ↦ few_or_many k.properties (λ m e. rw e (properties_tree-map (λ a. a.tree u) (λ n. (answers o n).tree u) (answers o)
-        (λ y w R. refl) v Q k.location m.names m.nodes.items [])) (λ m e. rw e
-        (properties_tree-map (λ a. a.tree u) (λ n. (answers o n).tree u) (answers o) (λ y w R. refl) v Q k.location m.names m.nodes.items []))
-    | keyword.PropertiesWithRequired2 k ↦ properties_tree-map (λ a. a.tree u) (λ n. (answers o n).tree u) (answers o)
-        (λ y w R. refl) v Q k.location k.properties.names k.properties.nodes.items (missing_trees (two_texts k.first k.second) v k.required_location Q)
-    | keyword.Required k ↦ refl
-    | keyword.AllOf k ↦ ap (plain k.location Q) (branch_trees-map (λ a. a.tree u) (λ n. (answers o n).tree u) (answers o) (λ y w R. refl) v Q k.schemas.items)
-    | keyword.SingleValueAllOf k ↦ refl
-    | keyword.AnyOf k ↦ any_of_tree-map (λ a. a.tree u) (λ n. (answers o n).tree u) (answers o) (λ y w R. refl) v Q (λ a. (a.means v).accepts u)
-        (λ n. ((answers o n).means v).accepts u) (λ n. refl) k.location k.schemas.items
-    | keyword.SingleAnyOf k ↦ any_of_tree-map (λ a. a.tree u) (λ n. (answers o n).tree u) (answers o) (λ y w R. refl) v Q (λ a. (a.means v).accepts u)
-        (λ n. ((answers o n).means v).accepts u) (λ n. refl) k.location (k.node ∷ [])
-    | keyword.OneOf k ↦ one_of_tree-map (λ a. a.tree u) (λ n. (answers o n).tree u) (answers o) (λ y w R. refl) v Q (λ a. (a.means v).accepts u)
-        (λ n. ((answers o n).means v).accepts u) (λ n. refl) k.location k.schemas.items
-    | keyword.SingleOneOf k ↦ one_of_tree-map (λ a. a.tree u) (λ n. (answers o n).tree u) (answers o) (λ y w R. refl) v Q (λ a. (a.means v).accepts u)
-        (λ n. ((answers o n).means v).accepts u) (λ n. refl) k.location (k.node ∷ [])
-    | keyword.Not k ↦ refl
-    | keyword.IfThen k ↦ refl
-    | keyword.IfElse k ↦ refl
-    | keyword.IfThenElse k ↦ refl
-    | keyword.Dependencies k ↦ ap (λ ns. plain k.location Q (branch_trees (λ a. a.tree u) v Q ns)) (due_nodes-map (answers o) v k.dependencies.names k.dependencies.nodes.items)
-        ∙ ap (plain k.location Q) (branch_trees-map (λ a. a.tree u) (λ n. (answers o n).tree u) (answers o) (λ y w R. refl) v Q (due_nodes (named k.dependencies) v))
-    | keyword.PropertyNames k ↦ refl
-    | keyword.PropertyNamesFalse k ↦ refl
-    | keyword.PropertyDependencies k ↦ ap (λ ns. plain k.location Q (branch_trees (λ a. a.tree u) v Q ns))
-        (chosen_nodes-map (answers o) v _ (λ m. refl) k.dependencies.names k.dependencies.nodes.items) ∙ ap (plain k.location Q)
-        (branch_trees-map (λ a. a.tree u) (λ n. (answers o n).tree u) (answers o) (λ y w R. refl) v Q (chosen_nodes (named k.dependencies) v))
-    | keyword.PatternProperties k ↦ patterns_tree-map o.answers (answers o) u v (λ a. a.tree u) (λ n. (answers o n).tree u) (λ n w R. refl) k.location Q k.patterns.items
-    | keyword.SingleValuePatternProperties k ↦ refl
-    | keyword.AdditionalProperties k ↦ (λ i. additional_tree o.answers (sides_of (answered n ks k)) u v Q (declares_alike n ks k i)
-        (matches_alike n ks k i) k.value.location k.value.patterns_location (λ a. a.tree u) (missing_trees (required_text k.value.required) v (required_place k.value.required) Q))
-        ∙ additional_tree-map (answers o) o.answers (sides_answer n ks k) u v Q (λ a. a.tree u) (λ n. (answers o n).tree u) (λ y w R. refl)
-        (is_some k.value.properties) (is_some k.value.patterns) k.value.location k.value.patterns_location (missing_trees (required_text k.value.required) v (required_place k.value.required) Q)
-    | keyword.Leaf p l ↦ refl
-  ]) ks.items)
+        | keyword.Properties k ↦ few_or_many k.properties (λ m e. rw e (properties_tree-map (λ a. a.tree u) (λ n. (answers o n).tree u) (answers o)
+            (λ y w R. refl) v Q k.location m.names m.nodes.items [])) (λ m e. rw e
+            (properties_tree-map (λ a. a.tree u) (λ n. (answers o n).tree u) (answers o) (λ y w R. refl) v Q k.location m.names m.nodes.items []))
+        | keyword.PropertiesWithRequired2 k ↦ properties_tree-map (λ a. a.tree u) (λ n. (answers o n).tree u) (answers o)
+            (λ y w R. refl) v Q k.location k.properties.names k.properties.nodes.items (missing_trees (two_texts k.first k.second) v k.required_location Q)
+        | keyword.Required k ↦ refl
+        | keyword.AllOf k ↦ ap (plain k.location Q) (branch_trees-map (λ a. a.tree u) (λ n. (answers o n).tree u) (answers o) (λ y w R. refl) v Q k.schemas.items)
+        | keyword.SingleValueAllOf k ↦ refl
+        | keyword.AnyOf k ↦ any_of_tree-map (λ a. a.tree u) (λ n. (answers o n).tree u) (answers o) (λ y w R. refl) v Q (λ a. (a.means v).accepts u)
+            (λ n. ((answers o n).means v).accepts u) (λ n. refl) k.location k.schemas.items
+        | keyword.SingleAnyOf k ↦ any_of_tree-map (λ a. a.tree u) (λ n. (answers o n).tree u) (answers o) (λ y w R. refl) v Q (λ a. (a.means v).accepts u)
+            (λ n. ((answers o n).means v).accepts u) (λ n. refl) k.location (k.node ∷ [])
+        | keyword.OneOf k ↦ one_of_tree-map (λ a. a.tree u) (λ n. (answers o n).tree u) (answers o) (λ y w R. refl) v Q (λ a. (a.means v).accepts u)
+            (λ n. ((answers o n).means v).accepts u) (λ n. refl) k.location k.schemas.items
+        | keyword.SingleOneOf k ↦ one_of_tree-map (λ a. a.tree u) (λ n. (answers o n).tree u) (answers o) (λ y w R. refl) v Q (λ a. (a.means v).accepts u)
+            (λ n. ((answers o n).means v).accepts u) (λ n. refl) k.location (k.node ∷ [])
+        | keyword.Not k ↦ refl
+        | keyword.IfThen k ↦ refl
+        | keyword.IfElse k ↦ refl
+        | keyword.IfThenElse k ↦ refl
+        | keyword.Dependencies k ↦ ap (λ ns. plain k.location Q (branch_trees (λ a. a.tree u) v Q ns)) (due_nodes-map (answers o) v k.dependencies.names k.dependencies.nodes.items)
+            ∙ ap (plain k.location Q) (branch_trees-map (λ a. a.tree u) (λ n. (answers o n).tree u) (answers o) (λ y w R. refl) v Q (due_nodes (named k.dependencies) v))
+        | keyword.PropertyNames k ↦ refl
+        | keyword.PropertyNamesFalse k ↦ refl
+        | keyword.PropertyDependencies k ↦ ap (λ ns. plain k.location Q (branch_trees (λ a. a.tree u) v Q ns))
+            (chosen_nodes-map (answers o) v _ (λ m. refl) k.dependencies.names k.dependencies.nodes.items) ∙ ap (plain k.location Q)
+            (branch_trees-map (λ a. a.tree u) (λ n. (answers o n).tree u) (answers o) (λ y w R. refl) v Q (chosen_nodes (named k.dependencies) v))
+        | keyword.PatternProperties k ↦ patterns_tree-map o.answers (answers o) u v (λ a. a.tree u) (λ n. (answers o n).tree u) (λ n w R. refl) k.location Q k.patterns.items
+        | keyword.SingleValuePatternProperties k ↦ refl
+        | keyword.AdditionalProperties k ↦ (λ i. additional_tree o.answers (sides_of (answered n ks k)) u v Q (declares_alike n ks k i)
+            (matches_alike n ks k i) k.value.location k.value.patterns_location (λ a. a.tree u) (missing_trees (required_text k.value.required) v (required_place k.value.required) Q))
+            ∙ additional_tree-map (answers o) o.answers (sides_answer n ks k) u v Q (λ a. a.tree u) (λ n. (answers o n).tree u) (λ y w R. refl)
+            (is_some k.value.properties) (is_some k.value.patterns) k.value.location k.value.patterns_location (missing_trees (required_text k.value.required) v (required_place k.value.required) Q)
+        | keyword.Leaf p l ↦ refl
+      ]) ks.items)
 
   abbrev entry_answers : CompiledPattern R × SchemaNode K R → CompiledPattern R × Answers
   entry_answers e = (e.0, answers o e.1)
@@ -279,14 +279,14 @@ module _ {K R : Type 0} (o : Kit K R) where
         (λ m. is_map_formed m && list_all (λ n. (answers o n).formed) (nodes_in m)) k.value.properties true
     maps_alike =
         none_few_or_many k.value.properties (λ e. rw e refl) (λ m e. rw e (ap (λ b. is_map_formed (Small m) && b) (nodes_formed m.nodes.items)))
-            (λ m e. rw e (ap (λ b. is_map_formed (Big m) && b) (nodes_formed m.nodes.items)))
+        (λ m e. rw e (ap (λ b. is_map_formed (Big m) && b) (nodes_formed m.nodes.items)))
 
     tables_alike : (names : List Name) → option_map_or (λ es. is_table_formed o.answers names (map (λ e. e.0) es.items) k.value.table && list_all (λ e. e.1.formed) es.items)
         (answered n ks k).patterns true ≡ option_map_or (λ es. is_table_formed o.answers names (map (λ e. e.0) es.items) k.value.table
         && list_all (λ e. (answers o e.1).formed) es.items) k.value.patterns true
     tables_alike names =
         none_or_one k.value.patterns (λ e. rw e refl) (λ es e. rw e (λ i. is_table_formed o.answers names
-            (map-map (λ e. e.0) (λ e. e.0) entry_answers (λ e. refl) es.items i) k.value.table && list_all-map (λ e. e.1.formed) entry_answers es.items i))
+        (map-map (λ e. e.0) (λ e. e.0) entry_answers (λ e. refl) es.items i) k.value.table && list_all-map (λ e. e.1.formed) entry_answers es.items i))
 
     rest_alike : option_map_or (λ a. a.formed) (answered n ks k).rest true ≡ option_map_or (λ n. (answers o n).formed) k.value.rest true
     rest_alike = none_or_one k.value.rest (λ e. rw e refl) (λ r e. rw e refl)

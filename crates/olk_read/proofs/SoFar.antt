@@ -48,7 +48,7 @@ module _ {X N : Type 0} (wrong : X → List Fault) (costs : X → Cost) (Stand :
     spent : (ns : List N) (m b : Counts) (h : SoFar ns left m) → Spends m b (costs x) → Spends a b (total_cost costs (h.done ++ x ∷ []))
     spent ns m b h s =
         spends_same a b _ _ (sym (total_cost-append costs h.done (x ∷ []) ∙ ap (λ c. total_cost costs h.done ⊕ c) (sum_last (costs x))))
-            (spends_append a m b (total_cost costs h.done) (costs x) h.built.spends s)
+        (spends_append a m b (total_cost costs h.done) (costs x) h.built.spends s)
 
     pub one_more_so_far : (ns new : List N) (m b : Counts) (h : SoFar ns left m) → Stand new (h.done ++ x ∷ []) → wrong x ≡ [] → Spends m b (costs x) → SoFar new rest b
     one_more_so_far ns new m b h stand right s = record {

@@ -24,8 +24,13 @@ at_most_before b c d h =
 
 at_most_through : (b c d : Cost) → IsAtMost b c → IsAtMost c d → IsAtMost b d
 at_most_through b c d h k =
-    record { places = omega (arith, h.places, k.places); leaf_places = omega (arith, h.leaf_places, k.leaf_places); pattern_places = omega
-        (arith, h.pattern_places, k.pattern_places); table_asks = omega (arith, h.table_asks, k.table_asks) }
+    record {
+      places = omega (arith, h.places, k.places);
+      leaf_places = omega (arith, h.leaf_places, k.leaf_places);
+      pattern_places = omega
+          (arith, h.pattern_places, k.pattern_places);
+      table_asks = omega (arith, h.table_asks, k.table_asks);
+    }
 
 -- ---- one spending after another
 
@@ -97,4 +102,4 @@ module _ {X : Type 0} (f : X → List Fault) (c : X → Cost) (all : List X) (a 
   pub memory_among : (done rest : List X) (e : BuildError) (m : AllocError) → e ≡ Memory m → done ++ rest ≡ all → Spends a b (total_cost c done) → Refuses (flat_map f all) (total_cost c all) a b e
   memory_among done rest e m q p h = refuses_memory (flat_map f all) (total_cost c all) a b e m q
       (within_same a b (total_cost c done ⊕ total_cost c rest) (total_cost c all) (sym (total_cost-append c done rest) ∙ ap (total_cost c) p)
-          (within_before a b (total_cost c done) (total_cost c rest) (within_exactly a b (total_cost c done) h)))
+      (within_before a b (total_cost c done) (total_cost c rest) (within_exactly a b (total_cost c done) h)))

@@ -38,12 +38,12 @@ kind_of_any_of c =
 pub kind_of_one_of_not_valid : (c : Contexts) → kind_of (the.OneOfNotValid c) ≡ told.OneOfNotValid (context (context_faults c))
 kind_of_one_of_not_valid c =
     ap kind_of (sym (rolls-OneOfNotValid c)) ∙ fold-roll-ValidationErrorKind Kind Fault kind_step error_step (ValidationErrorKind-F.OneOfNotValid c)
-        ∙ ap (λ l. told.OneOfNotValid (context l)) (map-map _ _ c.items)
+    ∙ ap (λ l. told.OneOfNotValid (context l)) (map-map _ _ c.items)
 
 pub kind_of_one_of_multiple_valid : (c : Contexts) → kind_of (the.OneOfMultipleValid c) ≡ told.OneOfMultipleValid (context (context_faults c))
 kind_of_one_of_multiple_valid c =
     ap kind_of (sym (rolls-OneOfMultipleValid c)) ∙ fold-roll-ValidationErrorKind Kind Fault kind_step error_step (ValidationErrorKind-F.OneOfMultipleValid c)
-        ∙ ap (λ l. told.OneOfMultipleValid (context l)) (map-map _ _ c.items)
+    ∙ ap (λ l. told.OneOfMultipleValid (context l)) (map-map _ _ c.items)
 
 pub kind_of_not : (s : Bor Value) → kind_of (the.Not s) ≡ told.Not (view s.now)
 kind_of_not s = ap kind_of (sym (rolls-Not s)) ∙ fold-roll-ValidationErrorKind Kind Fault kind_step error_step (ValidationErrorKind-F.Not s)
@@ -89,6 +89,20 @@ parts_of_fault e = fold_out-ValidationError Kind Fault kind_step error_step e
 pub wrapped_is : (v : Data) (Q : Path) (f : Fault) → wrapped v Q f ≡ fault (told.PropertyNames f) v Q (fault_schema_path f)
 wrapped_is v Q (fault k n R P) = refl
 
-pub ruleset kinds =
-    (kind_of_additional_properties, kind_of_any_of, kind_of_one_of_not_valid, kind_of_one_of_multiple_valid, kind_of_not, kind_of_required,
-        kind_of_false_schema, kind_of_property_names, kind_of_leaf, kind_of_single_type, kind_of_multiple_types, kind_of_unique_items, kind_of_regex, kind_of_unsupported, kind_of_leaf_refused)
+pub ruleset kinds = (
+  kind_of_additional_properties,
+  kind_of_any_of,
+  kind_of_one_of_not_valid,
+  kind_of_one_of_multiple_valid,
+  kind_of_not,
+  kind_of_required,
+  kind_of_false_schema,
+  kind_of_property_names,
+  kind_of_leaf,
+  kind_of_single_type,
+  kind_of_multiple_types,
+  kind_of_unique_items,
+  kind_of_regex,
+  kind_of_unsupported,
+  kind_of_leaf_refused,
+)

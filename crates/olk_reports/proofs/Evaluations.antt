@@ -46,7 +46,7 @@ pub shown_errored : (r : EvaluationResult) (es : Vec ErrorDescription Global) (e
 shown_errored r es e more =
     ap called_invalid (shown_of_parts (out-EvaluationResult r).valid (out-EvaluationResult r).annotation es (out-EvaluationResult r).children)
     ∙ ap (λ l. shown false (option_map (λ ns. map (λ n. n.now) ns.items) (out-EvaluationResult r).annotation) l (map tree_of (out-EvaluationResult r).children.items))
-        (ap (map described_of) more ∙ map-append described_of (out-EvaluationResult r).errors.items (e ∷ []))
+    (ap (map described_of) more ∙ map-append described_of (out-EvaluationResult r).errors.items (e ∷ []))
     ∙ ap (errored (described_of e)) (sym (parts_of_shown r))
 
 valid_of_parts : (P Q : Path) (b : Bool) (a : Option (List Name)) (es : List Described) (ts : List Tree) → is_valid (node_at P Q (shown b a es ts)) ≡ b
@@ -71,12 +71,12 @@ node_of_parts n = fold_out-EvaluationNode Tree Shown node_step result_step n
 pub valid_of : (n : EvaluationNode) → is_valid (tree_of n) ≡ (out-EvaluationResult (out-EvaluationNode n).result).valid
 valid_of n =
     ap is_valid (node_of_parts n) ∙ ap (λ s. is_valid (node_at (out-EvaluationNode n).schema_path.now (out-EvaluationNode n).instance_path s))
-        (parts_of_shown (out-EvaluationNode n).result) ∙ valid_of_parts _ _ _ _ _ _
+    (parts_of_shown (out-EvaluationNode n).result) ∙ valid_of_parts _ _ _ _ _ _
 
 pub errors_of : (n : EvaluationNode) → tree_errors (tree_of n) ≡ map described_of (out-EvaluationResult (out-EvaluationNode n).result).errors.items
 errors_of n =
     ap tree_errors (node_of_parts n) ∙ ap (λ s. tree_errors (node_at (out-EvaluationNode n).schema_path.now (out-EvaluationNode n).instance_path s))
-        (parts_of_shown (out-EvaluationNode n).result) ∙ errors_of_parts _ _ _ _ _ _
+    (parts_of_shown (out-EvaluationNode n).result) ∙ errors_of_parts _ _ _ _ _ _
 
 pub schema_path_of : (n : EvaluationNode) → tree_schema_path (tree_of n) ≡ (out-EvaluationNode n).schema_path.now
 schema_path_of n = ap tree_schema_path (node_of_parts n) ∙ schema_path_of_parts _ _ (shown_of (out-EvaluationNode n).result)
@@ -96,10 +96,14 @@ module _ (P : Bor (List ℕ)) (Q : Path) (r : EvaluationResult) where
 
 -- other children, and invalid where one of them is
 pub shown_with_children : (r : EvaluationResult) (ts : Vec EvaluationNode Global) (valid : Bool) → valid ≡ list_all (λ n. is_valid (tree_of n)) ts.items
-    → shown_of (roll-EvaluationResult record { valid = (out-EvaluationResult r).valid && valid; annotation = (out-EvaluationResult r).annotation;
-        errors = (out-EvaluationResult r).errors; children = ts }) ≡ with_children (map tree_of ts.items) (shown_of r)
+    → shown_of (roll-EvaluationResult record {
+      valid = (out-EvaluationResult r).valid && valid;
+      annotation = (out-EvaluationResult r).annotation;
+      errors = (out-EvaluationResult r).errors;
+      children = ts;
+    }) ≡ with_children (map tree_of ts.items) (shown_of r)
 shown_with_children r ts valid is =
     shown_of_parts ((out-EvaluationResult r).valid && valid) (out-EvaluationResult r).annotation (out-EvaluationResult r).errors ts
     ∙ ap (λ b. shown ((out-EvaluationResult r).valid && b) (option_map (λ ns. map (λ n. n.now) ns.items) (out-EvaluationResult r).annotation)
-        (map described_of (out-EvaluationResult r).errors.items) (map tree_of ts.items)) (is ∙ sym (each_valid ts.items))
+    (map described_of (out-EvaluationResult r).errors.items) (map tree_of ts.items)) (is ∙ sym (each_valid ts.items))
     ∙ ap (with_children (map tree_of ts.items)) (sym (parts_of_shown r))

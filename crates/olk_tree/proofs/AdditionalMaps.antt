@@ -120,12 +120,12 @@ module _ {X Y : Type 0} (h : Y → X) where
       patterns_mean-map d n x spoken i [] = ap (cond spoken (always true)) (ap (rest_means p x) same.rest ∙ rest_means-map x T.rest)
       patterns_mean-map d n x spoken i (e ∷ es) =
           λ j. conditional (known_or_asked (known-map d i j) (said_to (pattern_costs costs e.0) (pattern_answers answers e.0 n)))
-              (both (means e.1 x j) (patterns_mean-map d n x true (i + 1) es j)) (patterns_mean-map d n x spoken (i + 1) es j)
+          (both (means e.1 x j) (patterns_mean-map d n x true (i + 1) es j)) (patterns_mean-map d n x spoken (i + 1) es j)
 
       member_means-map : (n : Name) (x : Data) → member_means answers costs p S n x ≡ member_means answers costs q T n x
       member_means-map n x = (λ j. both (declared_means p x (same.at n j)) (patterns_mean_from answers costs p S (same.at n j) n x (is_some (same.at n j)) 0 (same.patterns j)))
           ∙ (λ j. both (declared_means-map x (at_name T n) j) (patterns_mean_from answers costs p S (option_map at_place (at_name T n)) n x
-              (some-map at_place (at_name T n) j) 0 (map with_node T.patterns)))
+          (some-map at_place (at_name T n) j) 0 (map with_node T.patterns)))
           ∙ ap (both (declared_means q x (at_name T n))) (patterns_mean-map (at_name T n) n x (is_some (at_name T n)) 0 T.patterns)
 
       others_mean-map : (n : Name) (x : Data) → others_mean answers costs p S n x ≡ others_mean answers costs q T n x
@@ -150,26 +150,26 @@ module _ {X Y : Type 0} (h : Y → X) where
         declared_report-map : flat_map (λ e. flat_map (λ w. r e.1.1 u w (Q // e.0)) (at e.0 v)) S.declared ≡ flat_map (λ e. flat_map (λ w. s e.1.1 u w (Q // e.0)) (at e.0 v)) T.declared
         declared_report-map = ap (flat_map (λ e. flat_map (λ w. r e.1.1 u w (Q // e.0)) (at e.0 v))) same.declared
             ∙ flat_map-map (λ e. flat_map (λ w. r e.1.1 u w (Q // e.0)) (at e.0 v)) (λ e. flat_map (λ w. s e.1.1 u w (Q // e.0)) (at e.0 v)) with_place
-                (λ e i. flat_map (λ w. finds e.1.1 w (Q // e.0) i) (at e.0 v)) T.declared
+            (λ e i. flat_map (λ w. finds e.1.1 w (Q // e.0) i) (at e.0 v)) T.declared
 
         pub additional_report-map : additional_report answers S u v Q named P r ≡ additional_report answers T u v Q named P s
         additional_report-map = λ j. cond (repeats v)
             (declared_report-map j ++ (flat_map (λ x. asked_report-map x (others_asked answers S u x.0) (others_asked answers T u x.0) (others_asked-map u x.0) j) (members v)
-                ++ unexpected_faults named (unexpected-map u v j) v P Q))
+            ++ unexpected_faults named (unexpected-map u v j) v P Q))
             (flat_map (λ x. asked_report-map x (nodes_asked answers S u x.0) (nodes_asked answers T u x.0) (nodes_asked-map u x.0) j) (members v)
-                ++ unexpected_faults named (unexpected-map u v j) v P Q)
+            ++ unexpected_faults named (unexpected-map u v j) v P Q)
 
         asked_first-map : (x : Name × Data) (ns : List X) (ms : List Y) → ns ≡ map h ms → or_else (first_of (λ e. r e u x.1 (Q // x.0)) ns)
             (cond (is_unexpected answers S u x.0) (unexpected_faults named (x ∷ []) v P Q) []) ≡ or_else (first_of (λ e. s e u x.1 (Q // x.0)) ms)
             (cond (is_unexpected answers T u x.0) (unexpected_faults named (x ∷ []) v P Q) [])
         asked_first-map x ns ms e =
             λ j. or_else ((ap (first_of (λ e. r e u x.1 (Q // x.0))) e ∙ first_of-map (λ e. r e u x.1 (Q // x.0)) (λ e. s e u x.1 (Q // x.0)) h (λ y. finds y x.1 (Q // x.0)) ms) j)
-                (cond (is_unexpected-map u x.0 j) (unexpected_faults named (x ∷ []) v P Q) [])
+            (cond (is_unexpected-map u x.0 j) (unexpected_faults named (x ∷ []) v P Q) [])
 
         declared_first-map : first_of (λ e. first_of (λ w. r e.1.1 u w (Q // e.0)) (at e.0 v)) S.declared ≡ first_of (λ e. first_of (λ w. s e.1.1 u w (Q // e.0)) (at e.0 v)) T.declared
         declared_first-map = ap (first_of (λ e. first_of (λ w. r e.1.1 u w (Q // e.0)) (at e.0 v))) same.declared
             ∙ first_of-map (λ e. first_of (λ w. r e.1.1 u w (Q // e.0)) (at e.0 v)) (λ e. first_of (λ w. s e.1.1 u w (Q // e.0)) (at e.0 v)) with_place
-                (λ e i. first_of (λ w. finds e.1.1 w (Q // e.0) i) (at e.0 v)) T.declared
+            (λ e i. first_of (λ w. finds e.1.1 w (Q // e.0) i) (at e.0 v)) T.declared
 
         pub additional_first-map : additional_first answers S u v Q named P r ≡ additional_first answers T u v Q named P s
         additional_first-map = λ j. cond (repeats v)

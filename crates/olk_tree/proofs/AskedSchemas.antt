@@ -177,7 +177,7 @@ module _ {K R N : Type 0} (o : Kit K R) (m : N → Data → Question) (r : N →
           none_matching : is_empty (nodes_matching o.answers S u n) ≡ is_empty (matching_at o.world u es n)
           none_matching =
               both_empty o m r t (nodes_matching o.answers S u n) (map (λ e. (e.1, P // codes "patternProperties" // e.0)) (matching_at o.world u es n)) nodes_matching_answer
-                  ∙ is_empty-map _ (matching_at o.world u es n)
+              ∙ is_empty-map _ (matching_at o.world u es n)
 
       -- the schemas that are asked, each with its place: the declared one, those whose pattern matches, and where there is neither the rest
       abbrev pub declared_schemas : List (Data × Path)

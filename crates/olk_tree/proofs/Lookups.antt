@@ -92,4 +92,4 @@ pub name_read : (ks : List Name) (slice : List (String Global)) (n : Name) (i : 
     → Some i ≡ position (λ k. bytes_eq k n) ks → string_bytes x ≡ n
 name_read ks slice n i x same is e =
     ap string_bytes is ∙ sym (get_or-map string_bytes slice i x [] (place_inside ks slice n i same e)) ∙ ap (λ l. get_or l i []) same
-        ∙ (bytes_eq-Decides (get_or ks i []) n).0 (position-Some (λ k. bytes_eq k n) ks i [] (sym e)).1
+    ∙ (bytes_eq-Decides (get_or ks i []) n).0 (position-Some (λ k. bytes_eq k n) ks i [] (sym e)).1

@@ -147,7 +147,7 @@ module _ {X Y : Type 0} (t : X → Data → Path → Tree) (s : Y → Data → P
 
   at_members : (ks : List Name) (ys : List Y) (ms : List (Name × Data))
       → flat_map (λ m. map (λ x. t x m.1 (Q // m.0)) (option_to_list (lookup_name m.0 (zip ks (map h ys))))) ms ≡ flat_map
-          (λ m. map (λ y. s y m.1 (Q // m.0)) (option_to_list (lookup_name m.0 (zip ks ys)))) ms
+      (λ m. map (λ y. s y m.1 (Q // m.0)) (option_to_list (lookup_name m.0 (zip ks ys)))) ms
   at_members ks ys [] = refl
   at_members ks ys (m ∷ ms) = λ i. (ap (λ o. map (λ x. t x m.1 (Q // m.0)) (option_to_list o)) (lookup_name-zip h m.0 ks ys) ∙ at_found m (lookup_name m.0 (zip ks ys))) i ++ at_members ks ys ms i
 
@@ -179,14 +179,14 @@ module _ {R X Y : Type 0} (answers : R → Name → Says) (h : Y → X) where
         → (es : List (CompiledPattern R × Y)) → patterns_mean answers costs m (map beside_pattern es) v ≡ patterns_mean answers costs k es v
     patterns_mean-map costs m k same es =
         every-map (λ e. matched_mean answers costs m e.0 e.1 v) (λ e. matched_mean answers costs k e.0 e.1 v) beside_pattern
-            (λ e i. every (λ x. conditional (match_question answers costs e.0 x.0) (same e.1 x.1 i) (always true)) (members v)) es
+        (λ e i. every (λ x. conditional (match_question answers costs e.0 x.0) (same e.1 x.1 i) (always true)) (members v)) es
 
   module _ (u : Bool) (v : Data) where
     module _ (r : X → Bool → Data → Path → List Fault) (k : Y → Bool → Data → Path → List Fault) (same : (y : Y) (w : Data) (Q : Path) → r (h y) u w Q ≡ k y u w Q) (Q : Path) where
       pub patterns_report-map : (es : List (CompiledPattern R × Y)) → patterns_report answers r u (map beside_pattern es) v Q ≡ patterns_report answers k u es v Q
       patterns_report-map es =
           flat_map-map (λ e. matched_report answers r u e.0 e.1 v Q) (λ e. matched_report answers k u e.0 e.1 v Q) beside_pattern
-              (λ e i. flat_map (λ x. same e.1 x.1 (Q // x.0) i) (matched answers u e.0 v)) es
+          (λ e i. flat_map (λ x. same e.1 x.1 (Q // x.0) i) (matched answers u e.0 v)) es
 
       pub patterns_first-map : (es : List (CompiledPattern R × Y)) → patterns_first answers r u (map beside_pattern es) v Q ≡ patterns_first answers k u es v Q
       patterns_first-map es =
@@ -197,6 +197,6 @@ module _ {R X Y : Type 0} (answers : R → Name → Says) (h : Y → X) where
         → (P Q : Path) (es : List (CompiledPattern R × Y)) → patterns_tree t v Q answers u P (map beside_pattern es) ≡ patterns_tree s v Q answers u P es
     patterns_tree-map t s same P Q es =
         λ i. result P Q (cond (is_object v) (Some (flat_map-map (λ e. map (λ x. x.0) (matched answers u e.0 v)) (λ e. map (λ x. x.0) (matched answers u e.0 v)) beside_pattern
-            (λ e. refl) es i)) None) false []
+        (λ e. refl) es i)) None) false []
         (flat_map-map (λ e. map (λ x. t e.1 x.1 (Q // x.0)) (matched answers u e.0 v)) (λ e. map (λ x. s e.1 x.1 (Q // x.0)) (matched answers u e.0 v)) beside_pattern
-            (λ e i. map (λ x. same e.1 x.1 (Q // x.0) i) (matched answers u e.0 v)) es i)
+        (λ e i. map (λ x. same e.1 x.1 (Q // x.0) i) (matched answers u e.0 v)) es i)

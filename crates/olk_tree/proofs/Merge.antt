@@ -77,7 +77,7 @@ module _ {A B C : Type 0} (g : Name → A → B → List C) where
         (λ i. flat_map (λ b. g e.0 e.1 b) (option_to_list (first_if_equal (q i) m.1 (lookup_name e.0 ms))) ++ walk_skips (λ n b a. g n a b) m ms es (subst (λ n. After n es) same r.0) i)
         ∙ (λ i. (g (same i) e.1 m.1 ++ []) ++ others ms s.1 i)
         ∙ sym (λ i. flat_map (λ a. g m.0 a m.1) (option_to_list (first_if_equal ((nat_list_cmp_total.antisymm m.0 e.0 ∙ ap ordering_reverse q) i) e.1 (lookup_name m.0 es)))
-            ++ walk_skips g e es ms (subst (λ n. After n ms) (sym same) s.0) i)
+        ++ walk_skips g e es ms (subst (λ n. After n ms) (sym same) s.0) i)
     one_more m ms s h Greater q =
         let back : order m.0 e.0 ≡ Less = nat_list_cmp_total.antisymm m.0 e.0 ∙ ap ordering_reverse q in
         walk_skips (λ n b a. g n a b) m ms (e ∷ es) (back, after_after m.0 e.0 back es r.0)

@@ -64,7 +64,7 @@ module _ (names : List (String Global)) (n : Name) (asc : Ascend (map string_byt
   pair : (i j : ℕ) (d : String Global) → i < j → j < length names → cmp (string_bytes (get_or names i d)) (string_bytes (get_or names j d)) ≡ Less
   pair i j d lt in_range =
       subst (λ x. cmp x (string_bytes (get_or names j d)) ≡ Less) (name_at i d (omega arith))
-          (subst (λ y. cmp (get_or (map string_bytes names) i []) y ≡ Less) (name_at j d in_range) (asc i j lt (omega (arith, long))))
+      (subst (λ y. cmp (get_or (map string_bytes names) i []) y ≡ Less) (name_at j d in_range) (asc i j lt (omega (arith, long))))
 
   comparisons_rise : IsNonDecreasingBy (λ y. ordering_index (ord y)) names
   comparisons_rise i j d le lt = by (nat_lt i j) refl
@@ -142,7 +142,7 @@ module _ (ks : List Name) (n : Name) where
         by : (b : Bool) → nat_lt p i ≡ b → cmp (get_or ks i []) n ≡ Greater
         by true f =
             turned (get_or ks i []) n ∙ ap ordering_reverse (nat_list_cmp_total.trans n (get_or ks p []) (get_or ks i []) (turned n (get_or ks p []) ∙ ap ordering_reverse e)
-                (asc p i (grind (arith, nat_tests)) j))
+            (asc p i (grind (arith, nat_tests)) j))
         by false f = let same : p ≡ i = grind (arith, nat_tests) in subst (λ z. cmp (get_or ks z []) n ≡ Greater) same e
 
     -- between the last name before p and those from p on
@@ -177,7 +177,7 @@ module _ (ks : List Name) (n : Name) where
         below = λ k l j. by k l j (nat_lt k (p + 1)) refl;
         above =
             λ k l j. let at : p + 1 + (k - (p + 1)) ≡ k = omega arith in subst (λ z. cmp (get_or ks z []) n ≡ Greater) at
-                (ap (λ x. cmp x n) (sym (behind (k - (p + 1)))) ∙ h.above (k - (p + 1)) (omega arith) (omega (arith, length-drop (p + 1) ks)));
+            (ap (λ x. cmp x n) (sym (behind (k - (p + 1)))) ∙ h.above (k - (p + 1)) (omega arith) (omega (arith, length-drop (p + 1) ks)));
       }
         where
           by : (k : ℕ) → k < p + 1 + i → k < length ks → (b : Bool) → nat_lt k (p + 1) ≡ b → cmp (get_or ks k []) n ≡ Less
@@ -203,7 +203,7 @@ behind_as names l = ap (map string_bytes) (take_all (length names - l) (drop l n
 behind_ascend : (ks : List Name) (l : ℕ) → Ascend ks → Ascend (drop l ks)
 behind_ascend ks l asc i j lt in_range =
     subst (λ x. cmp x (get_or (drop l ks) j []) ≡ Less) (sym (get_or-drop l ks i []))
-        (subst (λ y. cmp (get_or ks (l + i) []) y ≡ Less) (sym (get_or-drop l ks j [])) (asc (l + i) (l + j) (omega arith) (omega (arith, length-drop l ks))))
+    (subst (λ y. cmp (get_or ks (l + i) []) y ≡ Less) (sym (get_or-drop l ks j [])) (asc (l + i) (l + j) (omega arith) (omega (arith, length-drop l ks))))
 
 module _ {slice : List (String Global)} {ks : List Name} (h : Names slice ks) where
   pub same_length : length ks ≡ length slice

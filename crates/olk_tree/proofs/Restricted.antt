@@ -54,7 +54,7 @@ module _ {K R N : Type 0} (o : Kit K R) (m : N → Data → Question) (r : N →
           → (list_all (λ (s : Data × Path). accepts o.world u s.0 v) (put_if (is_object d && b) (d, P // codes "additionalProperties") []) && not (is_none x && b)) ≡ (not b || accepts o.world u d v)
       by None g true =
           (λ i. list_all (λ (s : Data × Path). accepts o.world u s.0 v) (put_if (false_is_no_object d g i && true) (d, P // codes "additionalProperties") []) && false)
-              ∙ sym (false_refuses o.world u d v g)
+          ∙ sym (false_refuses o.world u d v g)
       by None g false = λ i. list_all (λ (s : Data × Path). accepts o.world u s.0 v) (put_if (false_is_no_object d g i && false) (d, P // codes "additionalProperties") []) && true
       by (Some x) g true = (λ i. list_all (λ (s : Data × Path). accepts o.world u s.0 v) (put_if (g.0 i && true) (d, P // codes "additionalProperties") []) && true) ∙ alone (accepts o.world u d v)
         where
@@ -70,7 +70,7 @@ module _ {K R N : Type 0} (o : Kit K R) (m : N → Data → Question) (r : N →
     pub accepted_by_others : list_all accept (matching_schemas o m r t h x.0 u ++ rest_schemas o m r t h x.0 u) ≡ (matching_accept o.world u fs es x && list_all accept (rest_schemas o m r t h x.0 u))
     accepted_by_others =
         list_all-append accept (matching_schemas o m r t h x.0 u) (rest_schemas o m r t h x.0 u) ∙ ap (λ b. b && list_all accept (rest_schemas o m r t h x.0 u))
-            (list_all-map accept (λ e. (e.1, P // codes "patternProperties" // e.0)) (matching_at o.world u es x.0))
+        (list_all-map accept (λ e. (e.1, P // codes "patternProperties" // e.0)) (matching_at o.world u es x.0))
 
     accepted_by_part : list_all accept (declared_schemas o m r t h x.0 u ++ (matching_schemas o m r t h x.0 u ++ rest_schemas o m r t h x.0 u)) ≡
         (declared_accepts o.world u fs es x && (matching_accept o.world u fs es x && list_all accept (rest_schemas o m r t h x.0 u)))
@@ -99,7 +99,7 @@ module _ {K R N : Type 0} (o : Kit K R) (m : N → Data → Question) (r : N →
   pub restricted_matches : (v : Data) (Q : Path) → matched_names o.answers S u v Q ≡ names_matched o.world u fs es v
   restricted_matches v Q =
       λ i. flat_map (λ x. (same_marks o m r t x.0 _ _ (nodes_matching_answer o m r t h x.0 u) ∙ map-map (λ s. x.0) (λ e. x.0)
-          (λ e. (e.1, P // codes "patternProperties" // e.0)) (λ e. refl) (matching_at o.world u es x.0)) i) (members v)
+      (λ e. (e.1, P // codes "patternProperties" // e.0)) (λ e. refl) (matching_at o.world u es x.0)) i) (members v)
 
   -- where the rest is false, none of them is expected
   pub restricted_unexpected : (v : Data) → unexpected o.answers S u v ≡ cond (is_truth false d) (other_members o.world u fs es v) []
@@ -131,7 +131,7 @@ module _ {K R N : Type 0} (o : Kit K R) (m : N → Data → Question) (r : N →
     pub found_by_others : flat_map finds (matching_schemas o m r t h x.0 u ++ rest_schemas o m r t h x.0 u) ≡ matching_report o.world u fs es P Q x ++ rest_report o.world u fs es P Q d x
     found_by_others = flat_map-append finds (matching_schemas o m r t h x.0 u) (rest_schemas o m r t h x.0 u)
         ∙ (λ i. flat_map-map finds (λ e. finds (e.1, P // codes "patternProperties" // e.0)) (λ e. (e.1, P // codes "patternProperties" // e.0))
-            (λ e. refl) (matching_at o.world u es x.0) i ++ of_rest (is_object d) (is_other o.world u fs es x.0) i)
+        (λ e. refl) (matching_at o.world u es x.0) i ++ of_rest (is_object d) (is_other o.world u fs es x.0) i)
       where
         of_rest : (a b : Bool) → flat_map finds (put_if (a && b) (d, P // codes "additionalProperties") []) ≡ cond b (cond a (finds (d, P // codes "additionalProperties")) []) []
         of_rest true true = append-nil _
@@ -188,10 +188,10 @@ module _ {K R N : Type 0} (o : Kit K R) (m : N → Data → Question) (r : N →
       (λ i. additional_tree o.answers S u v Q (declares_same i) (patterns_same i) (at_rest i) (at_patterns i) (λ n. t n u) (more_same i))
       ∙ (λ i. result (P // codes "additionalProperties") Q
       (cond (is_object v && (is_rest o m r t h i && (cond (declares_beside ms) (matches_beside ms) (not (matches_beside ms)) || not (is_empty (restricted_names o m r t h u v Q i)))))
-          (Some (restricted_names o m r t h u v Q i)) None)
+      (Some (restricted_names o m r t h u v Q i)) None)
       false
       (described (faults_of_others o m r t h u (declares_beside ms || matches_beside ms) v Q i))
       (restricted_children o m r t h u v Q i
       ++ put_if (matches_beside ms && not (declares_beside ms) && not (is_empty (restricted_matches o m r t h u v Q i)))
-          (node (P // codes "patternProperties") Q true (Some (restricted_matches o m r t h u v Q i)) [] no_tree) []
+      (node (P // codes "patternProperties") Q true (Some (restricted_matches o m r t h u v Q i)) [] no_tree) []
       ++ required_child ms v P Q))

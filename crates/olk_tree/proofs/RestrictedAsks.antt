@@ -50,12 +50,12 @@ module _ {R N : Type 0} (answers : R → Name → Says) (costs : R → Bool) (S 
         by (Some y) = omega arith
     patterns_ask spoken i (p ∷ ps) =
         ap {B = ℕ} (λ b. matcher_asked i p.0 + cond b ((m p.1 x).asks u + (patterns_mean_from answers costs m S a n x true (i + 1) ps).asks u)
-            ((patterns_mean_from answers costs m S a n x spoken (i + 1) ps).asks u)) (match_is_said u (pattern_costs costs p.0) (known_at S a i) (pattern_answers answers p.0 n))
+        ((patterns_mean_from answers costs m S a n x spoken (i + 1) ps).asks u)) (match_is_said u (pattern_costs costs p.0) (known_at S a i) (pattern_answers answers p.0 n))
         ∙ by spoken (is_matched_by answers S a n u i p.0) (matcher_asked i p.0) (patterns_ask true (i + 1) ps) (patterns_ask spoken (i + 1) ps)
       where
         by : (spoken b : Bool) (c : ℕ) → (patterns_mean_from answers costs m S a n x true (i + 1) ps).asks u ≡ nodes_ask false (matching_from answers S a n u (i + 1) ps) + matchers_asked (i + 1) ps
             → (patterns_mean_from answers costs m S a n x spoken (i + 1) ps).asks u ≡ nodes_ask (not spoken && is_empty (matching_from answers S a n u (i + 1) ps))
-                (matching_from answers S a n u (i + 1) ps) + matchers_asked (i + 1) ps
+            (matching_from answers S a n u (i + 1) ps) + matchers_asked (i + 1) ps
             → c + cond b ((m p.1 x).asks u + (patterns_mean_from answers costs m S a n x true (i + 1) ps).asks u) ((patterns_mean_from answers costs m S a n x spoken (i + 1) ps).asks u)
             ≡ nodes_ask (not spoken && is_empty (put_if b p.1 (matching_from answers S a n u (i + 1) ps))) (put_if b p.1 (matching_from answers S a n u (i + 1) ps)) + (c + matchers_asked (i + 1) ps)
         by true true c h g = omega (arith, h)
@@ -111,7 +111,7 @@ module _ {K R N : Type 0} (o : Kit K R) (m : N → Data → Question) (r : N →
   all_asked i (p ∷ ps) [] h = absurd h
   all_asked i (p ∷ ps) (e ∷ es) h =
       (λ j. cond (h.0.costs j || is_unfinished (h.0.answers n j)) 1 0 + all_asked (i + 1) ps es h.2 j) ∙ ap (λ c. c + length (open_among o.world es))
-          (open_counts o.world e.0 n) ∙ by (is_open o.world e.0)
+      (open_counts o.world e.0 n) ∙ by (is_open o.world e.0)
     where
       by : (b : Bool) → cond b 1 0 + length (open_among o.world es) ≡ length (put_if b e.0 (open_among o.world es))
       by true = omega arith
@@ -128,7 +128,7 @@ module _ {K R N : Type 0} (o : Kit K R) (m : N → Data → Question) (r : N →
   unfinished_asked f i (p ∷ ps) [] h k = absurd h
   unfinished_asked f i (p ∷ ps) (e ∷ es) h k =
       (λ j. (known_or_asked ((recalls_here o m r t n S (Some f) i p ps k ∙ h.0.answers n) j) (said_to (h.0.costs j) (h.0.answers n j))).asks u + unfinished_asked f
-          (i + 1) ps es h.2 (recalls_later o m r t n S (Some f) i p ps k) j)
+      (i + 1) ps es h.2 (recalls_later o m r t n S (Some f) i p ps k) j)
       ∙ ap (λ c. c + count_by is_left (open_among o.world es)) (asked_if_unfinished o.world u e.0 n)
       ∙ by (is_open o.world e.0)
     where
@@ -156,7 +156,7 @@ module _ {K R N : Type 0} (o : Kit K R) (m : N → Data → Question) (r : N →
     pub asked_by_others : sum_by asking (matching_schemas o m r t h x.0 u ++ rest_schemas o m r t h x.0 u) ≡ matching_asks o.world u fs es x + sum_by asking (rest_schemas o m r t h x.0 u)
     asked_by_others =
         sum_by-append asking (matching_schemas o m r t h x.0 u) (rest_schemas o m r t h x.0 u) ∙ ap (λ k. k + sum_by asking (rest_schemas o m r t h x.0 u))
-            (sum_by-map asking (λ e. (e.1, P // codes "patternProperties" // e.0)) (matching_at o.world u es x.0))
+        (sum_by-map asking (λ e. (e.1, P // codes "patternProperties" // e.0)) (matching_at o.world u es x.0))
 
     asked_by_part : sum_by asking (declared_schemas o m r t h x.0 u ++ (matching_schemas o m r t h x.0 u ++ rest_schemas o m r t h x.0 u)) ≡ declared_asks o.world u fs es x +
         (matching_asks o.world u fs es x + sum_by asking (rest_schemas o m r t h x.0 u))

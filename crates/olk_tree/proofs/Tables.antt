@@ -49,7 +49,7 @@ module _ (says : ℕ → Says) (k : ℕ) where
   one_index_more : indices_below says (k + 1) ≡ indices_below says k ++ filter_map (λ i. index_said i (says i)) (k ∷ [])
   one_index_more =
       ap (filter_map (λ i. index_said i (says i))) (sym (map-id _) ∙ map-range_with_len_more (λ i. i) 0 k k (omega arith) ∙ ap (λ is. is ++ k ∷ []) (map-id _))
-          ∙ filter_map-append (λ i. index_said i (says i)) (range_with_len 0 k) (k ∷ [])
+      ∙ filter_map-append (λ i. index_said i (says i)) (range_with_len 0 k) (k ∷ [])
 
   pub index_told : (x : PatternIndex) → Some x ≡ index_said k (says k) → indices_below says k ++ x ∷ [] ≡ indices_below says (k + 1)
   index_told x e = ap (λ o. indices_below says k ++ cons_option o []) e ∙ sym one_index_more
@@ -115,7 +115,7 @@ module _ {R : Type 0} (answers : R → Name → Says) (patterns : List (Compiled
   says : (p i : ℕ) (n : Name) (e : CompiledPattern R) → slice_get t.names p ≡ Some n → slice_get patterns i ≡ Some e → table_says t p i ≡ pattern_answers answers e n
   says p i n e name at =
       says_of_row i n e (slice_get t.rows p) (MatchOption-at_some (Unit {0}) (λ x. IsSomeAnd (slice_get t.rows p) (IsRowOf answers patterns x)) n name
-          (AllZip-left (IsRowOf answers patterns) t.names t.rows rows p)) at
+      (AllZip-left (IsRowOf answers patterns) t.names t.rows rows p)) at
 
   pub is_table : t.patterns ≡ length patterns → IsTableOf answers patterns t
   is_table count = record { says = says; count = λ some. count }
@@ -131,7 +131,7 @@ row_told answers patterns names k name rows row lt is so_far more =
     let next : map string_bytes (take (k + 1) names) ≡ map string_bytes (take k names) ++ string_bytes name ∷ [] =
     ap (map string_bytes) (take_more names k name lt ∙ ap (λ s. take k names ++ s ∷ []) (sym is)) ∙ map-append string_bytes (take k names) (name ∷ []) in
     subst (λ ns. AllZip (IsRowOf answers patterns) ns (rows ++ row ∷ [])) (sym next)
-        (all_zipped_more (IsRowOf answers patterns) (map string_bytes (take k names)) rows (string_bytes name) row so_far more)
+    (all_zipped_more (IsRowOf answers patterns) (map string_bytes (take k names)) rows (string_bytes name) row so_far more)
 
 -- what is so where nothing is given
 pub on_err : {T E P : Type 0} (r : Result T E) → P → OnErr r P

@@ -19,7 +19,6 @@ use Rattle.olk_tree.specs.Visited.{Declared, declared_as, members_declared, name
 
 module _ {N : Type 0} where
   module _ (es : List (Name × N)) where
-
     module _ {left rest : List (String Global × Value)} {k : String Global} {v : Value} (n : Name) (next : left ≡ (k, v) ∷ rest) (name : n ≡ string_bytes k) where
       step : (o : Option N) → o ≡ lookup_name n es → members_declared es (listed (members_view left)) ≡ flat_map (λ x. declared_as n x (view v)) (option_to_list o)
           ++ members_declared es (listed (members_view rest))
@@ -32,8 +31,11 @@ module _ {N : Type 0} where
           name_back = sym name
 
       -- a member whose name is declared, and one whose name isn't
-      pub member_met : (x : N) → Some x ≡ lookup_name n es → members_declared es (listed (members_view left)) ≡ record { name = n; node = x;
-          value = view v } ∷ members_declared es (listed (members_view rest))
+      pub member_met : (x : N) → Some x ≡ lookup_name n es → members_declared es (listed (members_view left)) ≡ record {
+        name = n;
+        node = x;
+        value = view v;
+      } ∷ members_declared es (listed (members_view rest))
       member_met x e = step (Some x) e
 
       pub member_passed : None ≡ lookup_name n es → members_declared es (listed (members_view left)) ≡ members_declared es (listed (members_view rest))

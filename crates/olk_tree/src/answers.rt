@@ -332,7 +332,8 @@ impl<R: RegexEngine, N: Reports> Reports for SingleValuePatternProperties<R, N> 
     ghost agrees = { λ k u. (single_pattern_properties_answers R.answers R.costs k).agrees
         N.means N.report u (λ n. N.agrees n u) };
 
-    ghost first_agrees = { λ k u. (single_pattern_properties_answers R.answers R.costs k).first_agrees
+    ghost first_agrees = { λ k u.
+        (single_pattern_properties_answers R.answers R.costs k).first_agrees
         N.means N.report N.first u (λ n. N.first_agrees n u) };
 }
 

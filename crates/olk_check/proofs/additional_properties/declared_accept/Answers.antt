@@ -33,7 +33,7 @@ returns-then-len g c =
     let listed_each = listed_length entries in
     omega arith in
     both_stop (always (is_empty (missing (required_text c.args.required.now) (object_of entries))))
-        (crowded g.N.Means.means (option_copied c.args.rest) (nothing_else c.args.rest (c.is_none.ensures ∙ ap not c.if-is_none.true)) (zip names nodes) (listed (members_view entries))
+    (crowded g.N.Means.means (option_copied c.args.rest) (nothing_else c.args.rest (c.is_none.ensures ∙ ap not c.if-is_none.true)) (zip names nodes) (listed (members_view entries))
     (ascending_rising names nodes ascend) (sorted_rising entries c.len.ensures.ordered) fewer c.args.ctx.now)
 
 pub returns-in-None-Some : goal.returns-in-None-Some

@@ -7,4 +7,4 @@ use Rattle.olk_check.proofs.additional_properties.each_accepted.Given as goal
 abbrev pub invariant-loop-name : goal.invariant-loop-name
 invariant-loop-name g l =
     AllLeft (λ x. member_means g.R.RegexEngine.answers g.R.RegexEngine.costs g.N.Means.means (sides_of l.keyword) x.0 x.1) (listed (members_view l.members.entries))
-        (listed (members_view l.name-iterator)) l.initial.ctx l.ctx
+    (listed (members_view l.name-iterator)) l.initial.ctx l.ctx

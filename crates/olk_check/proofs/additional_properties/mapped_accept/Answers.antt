@@ -12,12 +12,12 @@ use Rattle.olk_check.proofs.additional_properties.mapped_accept.Goals as goal
 pub returns-in-Small : goal.returns-in-Small
 returns-in-Small g c =
     subst (λ p. AsksOne c.args.ctx.now c.declared_accept.new.ctx (both (names_mean g.N.Means.means (mapped p) (option_copied c.args.rest) (object_of c.args.members.now.entries))
-        (always (is_empty (missing (required_text c.args.required.now) (object_of c.args.members.now.entries))))) c.declared_accept.result)
+    (always (is_empty (missing (required_text c.args.required.now) (object_of c.args.members.now.entries))))) c.declared_accept.result)
     (sym c.in-Small.is) c.declared_accept.ensures
 
 pub returns-in-Big : goal.returns-in-Big
 returns-in-Big g c =
     subst (λ p. AsksOne c.args.ctx.now c.declared_accept-in-Big.new.ctx
-        (both (names_mean g.N.Means.means (mapped p) (option_copied c.args.rest) (object_of c.args.members.now.entries))
-        (always (is_empty (missing (required_text c.args.required.now) (object_of c.args.members.now.entries))))) c.declared_accept-in-Big.result)
+    (both (names_mean g.N.Means.means (mapped p) (option_copied c.args.rest) (object_of c.args.members.now.entries))
+    (always (is_empty (missing (required_text c.args.required.now) (object_of c.args.members.now.entries))))) c.declared_accept-in-Big.result)
     (sym c.in-Big.is) c.declared_accept-in-Big.ensures

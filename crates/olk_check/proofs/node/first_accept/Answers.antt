@@ -11,4 +11,4 @@ unfolding answers_of
 returns-in-Leaf g c =
     first_one (λ k. validator_means (kit g.K.Leaf g.R.RegexEngine) g.N.Means.means k (data_of c.args.node)) c.args.ctx.now c.args.ctx.now c.one_if.result (by_first c.index-keywords-0.is c.requires)
     (answered_one c.one_if.ensures (subst (λ k. Asks c.args.ctx.now c.args.ctx.now
-        (validator_means (kit g.K.Leaf g.R.RegexEngine) g.N.Means.means k (data_of c.args.node)) c.is_valid.result) (sym c.in-Leaf.is) (said c.args.ctx.now c.is_valid.ensures)))
+    (validator_means (kit g.K.Leaf g.R.RegexEngine) g.N.Means.means k (data_of c.args.node)) c.is_valid.result) (sym c.in-Leaf.is) (said c.args.ctx.now c.is_valid.ensures)))

@@ -13,56 +13,56 @@ pub returns-else-keywords-gt1 : goal.returns-else-keywords-gt1
 unfolding answers_of
 returns-else-keywords-gt1 g c =
     first_one (λ k. validator_means (kit g.K.Leaf g.R.RegexEngine) g.N.Means.means k (data_of c.args.node)) c.args.ctx.now c.properties_accept.new.ctx c.properties_accept.result
-        (by_first c.index-keywords-0.is c.requires)
+    (by_first c.index-keywords-0.is c.requires)
     (subst (λ k. AsksOne c.args.ctx.now c.properties_accept.new.ctx (validator_means (kit g.K.Leaf g.R.RegexEngine) g.N.Means.means k (data_of c.args.node)) c.properties_accept.result)
-        (sym c.in-Properties.is) c.properties_accept.ensures)
+    (sym c.in-Properties.is) c.properties_accept.ensures)
 
 pub returns-in-PropertiesWithRequired2 : goal.returns-in-PropertiesWithRequired2
 unfolding answers_of
 returns-in-PropertiesWithRequired2 g c =
     first_one (λ k. validator_means (kit g.K.Leaf g.R.RegexEngine) g.N.Means.means k
-        (data_of c.args.node)) c.args.ctx.now c.properties_with_required2_accept.new.ctx c.properties_with_required2_accept.result (by_first c.index-keywords-0.is c.requires)
+    (data_of c.args.node)) c.args.ctx.now c.properties_with_required2_accept.new.ctx c.properties_with_required2_accept.result (by_first c.index-keywords-0.is c.requires)
     (subst (λ k. AsksOne c.args.ctx.now c.properties_with_required2_accept.new.ctx
-        (validator_means (kit g.K.Leaf g.R.RegexEngine) g.N.Means.means k (data_of c.args.node)) c.properties_with_required2_accept.result)
-        (sym c.in-PropertiesWithRequired2.is) c.properties_with_required2_accept.ensures)
+    (validator_means (kit g.K.Leaf g.R.RegexEngine) g.N.Means.means k (data_of c.args.node)) c.properties_with_required2_accept.result)
+    (sym c.in-PropertiesWithRequired2.is) c.properties_with_required2_accept.ensures)
 
 pub returns-in-AdditionalProperties : goal.returns-in-AdditionalProperties
 unfolding answers_of
 returns-in-AdditionalProperties g c =
     first_one (λ k. validator_means (kit g.K.Leaf g.R.RegexEngine) g.N.Means.means k
-        (data_of c.args.node)) c.args.ctx.now c.additional_properties_accept.new.ctx c.additional_properties_accept.result (by_first c.index-keywords-0.is c.requires)
+    (data_of c.args.node)) c.args.ctx.now c.additional_properties_accept.new.ctx c.additional_properties_accept.result (by_first c.index-keywords-0.is c.requires)
     (subst (λ k. AsksOne c.args.ctx.now c.additional_properties_accept.new.ctx
-        (validator_means (kit g.K.Leaf g.R.RegexEngine) g.N.Means.means k (data_of c.args.node)) c.additional_properties_accept.result)
+    (validator_means (kit g.K.Leaf g.R.RegexEngine) g.N.Means.means k (data_of c.args.node)) c.additional_properties_accept.result)
     (ap (λ a. keyword.AdditionalProperties record c.in-AdditionalProperties.additional { value = a }) c.deref.ensures ∙ sym c.in-AdditionalProperties.is) c.additional_properties_accept.ensures)
 
 pub returns-in-Required : goal.returns-in-Required
 unfolding answers_of
 returns-in-Required g c =
     first_one (λ k. validator_means (kit g.K.Leaf g.R.RegexEngine) g.N.Means.means k (data_of c.args.node)) c.args.ctx.now c.is_valid.new._ctx c.one_if.result
-        (by_first c.index-keywords-0.is c.requires)
+    (by_first c.index-keywords-0.is c.requires)
     (answered_one c.one_if.ensures (subst (λ k. Asks c.args.ctx.now c.is_valid.new._ctx
-        (validator_means (kit g.K.Leaf g.R.RegexEngine) g.N.Means.means k (data_of c.args.node)) c.is_valid.result) (sym c.in-Required.is) c.is_valid.ensures))
+    (validator_means (kit g.K.Leaf g.R.RegexEngine) g.N.Means.means k (data_of c.args.node)) c.is_valid.result) (sym c.in-Required.is) c.is_valid.ensures))
 
 pub returns-in-AnyOf : goal.returns-in-AnyOf
 unfolding answers_of
 returns-in-AnyOf g c =
     first_one (λ k. validator_means (kit g.K.Leaf g.R.RegexEngine) g.N.Means.means k (data_of c.args.node)) c.args.ctx.now c.is_valid-in-AnyOf.new.ctx c.one_if-in-AnyOf.result
-        (by_first c.index-keywords-0.is c.requires)
+    (by_first c.index-keywords-0.is c.requires)
     (answered_one c.one_if-in-AnyOf.ensures (subst (λ k. Asks c.args.ctx.now c.is_valid-in-AnyOf.new.ctx
-        (validator_means (kit g.K.Leaf g.R.RegexEngine) g.N.Means.means k (data_of c.args.node)) c.is_valid-in-AnyOf.result) (sym c.in-AnyOf.is) c.is_valid-in-AnyOf.ensures))
+    (validator_means (kit g.K.Leaf g.R.RegexEngine) g.N.Means.means k (data_of c.args.node)) c.is_valid-in-AnyOf.result) (sym c.in-AnyOf.is) c.is_valid-in-AnyOf.ensures))
 
 pub returns-in_default : goal.returns-in_default
 unfolding answers_of
 returns-in_default g c =
     first_one (λ k. validator_means (kit g.K.Leaf g.R.RegexEngine) g.N.Means.means k (data_of c.args.node)) c.args.ctx.now c.keyword_accepts.new.ctx c.one_if-in_default.result
-        (by_first c.index-keywords-0.is c.requires)
+    (by_first c.index-keywords-0.is c.requires)
     (answered_one c.one_if-in_default.ensures c.keyword_accepts.ensures)
 
 pub returns-in-Properties : goal.returns-in-Properties
 unfolding answers_of
 returns-in-Properties g c =
     first_two (λ k. validator_means (kit g.K.Leaf g.R.RegexEngine) g.N.Means.means k
-        (data_of c.args.node)) c.args.ctx.now c.properties_with_required_accept.new.ctx c.properties_with_required_accept.result
-        (by_first_two c.index-keywords-0.is c.index-keywords-1.is c.if-keywords-gt1.true)
+    (data_of c.args.node)) c.args.ctx.now c.properties_with_required_accept.new.ctx c.properties_with_required_accept.result
+    (by_first_two c.index-keywords-0.is c.index-keywords-1.is c.if-keywords-gt1.true)
     (subst {A = Question × Question} (λ q. AsksTwo c.args.ctx.now c.properties_with_required_accept.new.ctx q.0 q.1 c.properties_with_required_accept.result)
     (λ i. (validator_means (kit g.K.Leaf g.R.RegexEngine) g.N.Means.means (sym c.in-Properties.is i) (data_of c.args.node), sym (c.in-Some.ensures (data_of c.args.node)) i)) c.properties_with_required_accept.ensures)

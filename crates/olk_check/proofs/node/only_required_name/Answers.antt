@@ -11,4 +11,4 @@ pub returns-in-len1 : goal.returns-in-len1
 unfolding answers_of
 returns-in-len1 g c v = ap (λ k. validator_means (kit g.K.Leaf g.R.RegexEngine) g.N.Means.means k v) c.in-Required.is
     ∙ ap (λ names. always (is_empty (missing names v))) (ap (map string_bytes) (sym c.as_slice.ensures.value ∙ by_only c.name-item.is (omega arith) (omega arith))
-        ∙ ap (λ n. n ∷ []) (sym c.as_str.ensures.value))
+    ∙ ap (λ n. n ∷ []) (sym c.as_str.ensures.value))

@@ -12,4 +12,4 @@ returns-in-Exact g c = subst (λ p. Asks c.args.ctx.now c.args.ctx.now (match_qu
 pub returns-in_default : goal.returns-in_default
 returns-in_default g c =
     match_answers (pattern_costs g.R.RegexEngine.costs c.args.pattern.now)
-        (pattern_answers g.R.RegexEngine.answers c.args.pattern.now c.args.name.now) c.args.ctx.now c.is_match_in.new.ctx c.is_match_in.result c.is_match_in.ensures.answer c.is_match_in.ensures.counts
+    (pattern_answers g.R.RegexEngine.answers c.args.pattern.now c.args.name.now) c.args.ctx.now c.is_match_in.new.ctx c.is_match_in.result c.is_match_in.ensures.answer c.is_match_in.ensures.counts

@@ -7,4 +7,4 @@ use Rattle.olk_check.proofs.pattern_properties.patterns_accept.Given as goal
 abbrev pub invariant-loop-entry : goal.invariant-loop-entry
 invariant-loop-entry g l =
     AllLeft (λ e. matched_mean g.R.RegexEngine.answers g.R.RegexEngine.costs g.N.Means.means e.0 e.1 (object_of l.members.entries)) l.patterns.items
-        (drop l.entry-index l.patterns.items) l.initial.ctx l.ctx
+    (drop l.entry-index l.patterns.items) l.initial.ctx l.ctx

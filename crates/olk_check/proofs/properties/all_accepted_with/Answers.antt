@@ -20,7 +20,7 @@ returns-then-len g c =
     let nodes = g.M.PropertiesValidatorsMap.nodes c.args.properties.now in
     let ascend = subst Ascend c.names.ensures c.len-2.ensures.ordered in
     subst (λ q. Asks c.args.ctx.now c.each_member_accepted_with.new.ctx
-        (both q (always (is_empty (missing (c.args.name.now ∷ []) (object_of c.args.members.now.entries))))) c.each_member_accepted_with.result)
+    (both q (always (is_empty (missing (c.args.name.now ∷ []) (object_of c.args.members.now.entries))))) c.each_member_accepted_with.result)
     (means_of_members (members_view c.args.members.now.entries) g.N.Means.means (zip names nodes) (walks_agree names nodes c.args.members.now.entries ascend c.len.ensures.ordered))
     c.each_member_accepted_with.ensures
 
@@ -30,8 +30,8 @@ returns-then-is_present g c = both_where c.each_name_accepted.ensures (sym (one_
 pub returns-else-is_present : goal.returns-else-is_present
 returns-else-is_present g c =
     subst (λ r. Asks c.args.ctx.now c.args.ctx.now (both (properties_mean g.N.Means.means
-        (zip (g.M.PropertiesValidatorsMap.names c.args.properties.now) (g.M.PropertiesValidatorsMap.nodes c.args.properties.now)) (object_of c.args.members.now.entries))
-        (always (is_empty (missing (c.args.name.now ∷ []) (object_of c.args.members.now.entries))))) r)
+    (zip (g.M.PropertiesValidatorsMap.names c.args.properties.now) (g.M.PropertiesValidatorsMap.nodes c.args.properties.now)) (object_of c.args.members.now.entries))
+    (always (is_empty (missing (c.args.name.now ∷ []) (object_of c.args.members.now.entries))))) r)
     (sym c.if-is_present.false)
     (refused_where c.args.ctx.now (properties_mean g.N.Means.means (zip (g.M.PropertiesValidatorsMap.names c.args.properties.now)
-        (g.M.PropertiesValidatorsMap.nodes c.args.properties.now)) (object_of c.args.members.now.entries)) (sym (one_met c.args.name.now c.is_present.ensures) ∙ c.if-is_present.false))
+    (g.M.PropertiesValidatorsMap.nodes c.args.properties.now)) (object_of c.args.members.now.entries)) (sym (one_met c.args.name.now c.is_present.ensures) ∙ c.if-is_present.false))

@@ -17,6 +17,6 @@ returns-then-len g c =
     let nodes = g.M.PropertiesValidatorsMap.nodes c.args.properties.now in
     let ascend = subst Ascend c.names.ensures c.len-2.ensures.ordered in
     subst (λ q. Asks c.args.ctx.now c.each_member_accepted_with_both.new.ctx
-        (both (always (is_empty (missing (c.args.first.now ∷ c.args.second.now ∷ []) (object_of c.args.members.now.entries)))) q) c.each_member_accepted_with_both.result)
+    (both (always (is_empty (missing (c.args.first.now ∷ c.args.second.now ∷ []) (object_of c.args.members.now.entries)))) q) c.each_member_accepted_with_both.result)
     (means_of_members (members_view c.args.members.now.entries) g.N.Means.means (zip names nodes) (walks_agree names nodes c.args.members.now.entries ascend c.len.ensures.ordered))
     c.each_member_accepted_with_both.ensures

@@ -22,7 +22,7 @@ loop-name-preserved g c =
     let next = name_next c.in-Some.ensures.steps c.as_str-name.ensures.value in (
       all_go_on c.loop-name.invariant.0 next
           (subst (λ o. Asks c.loop-name.ctx c.accepted_if_declared.new.ctx
-              (every (λ n. g.N.Means.means n (view c.in-Some.value.now)) (option_to_list o)) true) c.validator_from-next.ensures c.if-not-accepted_if_declared.ensures),
+          (every (λ n. g.N.Means.means n (view c.in-Some.value.now)) (option_to_list o)) true) c.validator_from-next.ensures c.if-not-accepted_if_declared.ensures),
       sought_on _ c.loop-name.invariant.1 next c.is_met-met.ensures,
     )
 

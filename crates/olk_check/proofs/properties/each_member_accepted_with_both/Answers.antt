@@ -22,7 +22,7 @@ loop-name-preserved g c =
     let next = name_next c.in-Some.ensures.steps c.as_str-name.ensures.value in (
       all_go_on c.loop-name.invariant.0 next
           (subst (λ o. Asks c.loop-name.ctx c.accepted_if_declared.new.ctx
-              (every (λ n. g.N.Means.means n (view c.in-Some.value.now)) (option_to_list o)) true) c.validator_from-next.ensures c.if-not-accepted_if_declared.ensures),
+          (every (λ n. g.N.Means.means n (view c.in-Some.value.now)) (option_to_list o)) true) c.validator_from-next.ensures c.if-not-accepted_if_declared.ensures),
       sought_on _ c.loop-name.invariant.1 next c.is_met-has_first.ensures,
       sought_on _ c.loop-name.invariant.2 next c.is_met-has_second.ensures,
     )
@@ -31,12 +31,12 @@ pub returns-then-has_first : goal.returns-then-has_first
 returns-then-has_first g c =
     let none = no_name_next c.in-None.ensures.steps.0 in
     condition_and (ap (λ b. b && c.loop-name.has_second) (sym c.if-has_first.true) ∙ both_met c.args.first.now c.args.second.now (sought_end c.loop-name.invariant.1 none)
-        (sought_end c.loop-name.invariant.2 none))
+    (sought_end c.loop-name.invariant.2 none))
     (all_end c.loop-name.invariant.0 none)
 
 pub returns-else-has_first : goal.returns-else-has_first
 returns-else-has_first g c =
     let none = no_name_next c.in-None.ensures.steps.0 in
     condition_and (c.if-has_first.false ∙ ap (λ b. b && c.loop-name.has_second) (sym c.if-has_first.false) ∙ both_met c.args.first.now c.args.second.now
-        (sought_end c.loop-name.invariant.1 none) (sought_end c.loop-name.invariant.2 none))
+    (sought_end c.loop-name.invariant.1 none) (sought_end c.loop-name.invariant.2 none))
     (all_end c.loop-name.invariant.0 none)

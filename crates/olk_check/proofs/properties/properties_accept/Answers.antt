@@ -9,4 +9,4 @@ use Rattle.olk_check.proofs.properties.properties_accept.Goals as goal
 pub returns-in-None : goal.returns-in-None
 returns-in-None g c =
     subst (λ q. Asks c.args.ctx.now c.args.ctx.now q true) (sym (means_nothing (mapped c.args.keyword.now.properties) (data_of c.args.node) c.in-None.ensures g.N.Means.means))
-        (unasked c.args.ctx.now true)
+    (unasked c.args.ctx.now true)

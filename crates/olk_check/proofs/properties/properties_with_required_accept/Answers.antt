@@ -12,5 +12,5 @@ use Rattle.olk_check.proofs.properties.properties_with_required_accept.Goals as 
 pub returns-in-None : goal.returns-in-None
 returns-in-None g c = subst (λ q. Asks c.args.ctx.now c.args.ctx.now q true)
     (sym ((λ i. both (means_nothing (mapped c.args.keyword.now.properties) (data_of c.args.node) c.in-None.ensures g.N.Means.means i)
-        (always (lacks_nothing (c.args.name.now ∷ []) (data_of c.args.node) c.in-None.ensures i))) ∙ both_last (always true)))
+    (always (lacks_nothing (c.args.name.now ∷ []) (data_of c.args.node) c.in-None.ensures i))) ∙ both_last (always true)))
     (unasked c.args.ctx.now true)

@@ -15,11 +15,11 @@ returns-then-is_present-clause-on c = goes_past c.args.sink.now
 pub returns-clause-on : goal.returns-clause-on
 returns-clause-on c =
     reported_on (lacked_own (members_view c.args.members.now.entries) (data_of c.args.node) c.requires c.args.name.now c.is_present.ensures c.args.location.now
-        (path_at c.args.trail.now) c.if-is_present.false (kind_of_required c.args.name))
+    (path_at c.args.trail.now) c.if-is_present.false (kind_of_required c.args.name))
     _ _ c.report.result c.report.ensures.on
 
 pub returns-clause-stop : goal.returns-clause-stop
 returns-clause-stop c =
     reported_stop (lacked_own (members_view c.args.members.now.entries) (data_of c.args.node) c.requires c.args.name.now c.is_present.ensures c.args.location.now
-        (path_at c.args.trail.now) c.if-is_present.false (kind_of_required c.args.name))
+    (path_at c.args.trail.now) c.if-is_present.false (kind_of_required c.args.name))
     _ _ c.report.result c.report.ensures.stop

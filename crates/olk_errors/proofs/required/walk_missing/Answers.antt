@@ -20,7 +20,7 @@ loop-name-preserved c = walked_more c.loop-name.invariant (next_at c.deref-name-
 pub returns-in_err-report_if_missing-clause-stop : goal.returns-in_err-report_if_missing-clause-stop
 returns-in_err-report_if_missing-clause-stop c = left_by c.from_residual.result _ _ c.from_residual.ensures.1
     (subst (λ n. StopsBy c.in_err-report_if_missing.field-0.0 c.loop-name.sink c.report_if_missing.new.sink
-        (IsErrorOf (of_names (n ∷ []) (data_of c.args.node) c.args.location.now (path_at c.args.trail.now)))) c.as_str.ensures.value c.in_err-report_if_missing.ensures.stop)
+    (IsErrorOf (of_names (n ∷ []) (data_of c.args.node) c.args.location.now (path_at c.args.trail.now)))) c.as_str.ensures.value c.in_err-report_if_missing.ensures.stop)
     (λ h. stops_same (names_together (data_of c.args.node) c.args.location.now (path_at c.args.trail.now) c.args.names.now.items)
     (walked_stop c.loop-name.invariant (next_at c.deref-name-items.ensures.value c.name-item.is c.loop-name-test.true)
     (stops_same (same_one (data_of c.args.node) c.args.location.now (path_at c.args.trail.now) c.name-item.result) h)))

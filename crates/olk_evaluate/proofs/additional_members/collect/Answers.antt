@@ -35,5 +35,5 @@ loop-name-init g c = walk_begins (ap (λ es. listed (members_view es)) c.into_it
 pub loop-name-preserved : goal.loop-name-preserved
 loop-name-preserved g c = member_done c.loop-name.invariant (name_next c.in-Some.ensures.steps c.as_str-name.ensures.value)
     (subst (λ d. CollectsMore (member_found g.R.RegexEngine.answers g.N.Show.tree g.N.Means.means c.loop-name.ctx.answer c.loop-name.path c.args.keyword.now d c.as_str-name.result.now
-        (view c.in-Some.value.now)) c.loop-name.collected c.collect_member.new.collected) c.declared_from-next.ensures c.in_ok-collect_member.ensures.collected)
+    (view c.in-Some.value.now)) c.loop-name.collected c.collect_member.new.collected) c.declared_from-next.ensures c.in_ok-collect_member.ensures.collected)
     c.in_ok-collect_member.ensures.path c.in_ok-collect_member.ensures.context

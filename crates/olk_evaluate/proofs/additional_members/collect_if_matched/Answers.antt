@@ -11,7 +11,7 @@ use Rattle.olk_evaluate.proofs.additional_members.collect_if_matched.Goals as go
 pub returns-clause-collected : goal.returns-clause-collected
 returns-clause-collected g c = collects_child (sym (append-nil (names_of c.args.collected.now.additional.items))) c.in_ok-push_if.ensures
     (subst (λ u. ShowsMore (wanted g.N.Show.tree g.N.Means.means u c.args.entry.now.1 (view c.args.value.now)
-        (c.args.path.now // c.args.name.now)) c.args.collected.now.children.items c.add_child_below.new.children.items) c.if-not-matches_unless_known.ensures.only.answer c.in_ok-add_child_below.ensures.shown)
+    (c.args.path.now // c.args.name.now)) c.args.collected.now.children.items c.add_child_below.new.children.items) c.if-not-matches_unless_known.ensures.only.answer c.in_ok-add_child_below.ensures.shown)
 
 pub returns-clause-context : goal.returns-clause-context
 returns-clause-context g c = only_then c.if-not-matches_unless_known.ensures.only c.add_child_below.ensures.context

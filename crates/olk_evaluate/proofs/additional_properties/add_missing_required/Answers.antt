@@ -10,5 +10,5 @@ use Rattle.olk_evaluate.proofs.additional_properties.add_missing_required.Goals 
 pub returns-in-None : goal.returns-in-None
 returns-in-None c =
     subst (λ o. AddsShown (refused (lacking_trees (required_text o) (data_of c.args.node) (object (members_view c.args.members.now.entries))
-        (required_place o) c.args.path.now)) c.args.children.now.items c.args.children.now.items) (sym c.in-None.is)
+    (required_place o) c.args.path.now)) c.args.children.now.items c.args.children.now.items) (sym c.in-None.is)
     (record { nodes = []; added = sym (append-nil c.args.children.now.items); shown = tt })

@@ -10,8 +10,8 @@ use Rattle.olk_evaluate.proofs.any_of.accepting_children.Goals as goal
 pub returns-clause-shown : goal.returns-clause-shown
 returns-clause-shown g c =
     shown_end c.loop-schema.invariant.shown (ap (filter_once (λ w. w.1))
-        (none_left (λ n. wanted g.N.Show.tree g.N.Means.means c.args.ctx.now.answer n
-        (data_of c.args.node) c.args.path.now) c.args.schemas.now.items c.deref-schema-items.result.now c.loop-schema.schema-index c.deref-schema-items.ensures.value c.loop-schema-test.false))
+    (none_left (λ n. wanted g.N.Show.tree g.N.Means.means c.args.ctx.now.answer n
+    (data_of c.args.node) c.args.path.now) c.args.schemas.now.items c.deref-schema-items.result.now c.loop-schema.schema-index c.deref-schema-items.ensures.value c.loop-schema-test.false))
 
 pub loop-schema-preserved : goal.loop-schema-preserved
 loop-schema-preserved g c = grind (arith, common_steps)

@@ -16,7 +16,7 @@ loop-dependency-preserved g c = record {
   shown = shown_more c.loop-dependency.invariant.shown
       (ap (map (λ d. wanted g.N.Show.tree g.N.Means.means c.args.ctx.now.answer d.node (data_of c.args.object) c.args.path.now)) c.in-Some.ensures.steps)
       (subst₂ (λ u Q. ShowsMore (wanted g.N.Show.tree g.N.Means.means u c.in-Some.dependency.now
-          (data_of c.args.object) Q) c.loop-dependency.children.items c.add_child.new.children.items) c.loop-dependency.invariant.context.answer c.loop-dependency.invariant.path c.in_ok-add_child.ensures.shown);
+      (data_of c.args.object) Q) c.loop-dependency.children.items c.add_child.new.children.items) c.loop-dependency.invariant.context.answer c.loop-dependency.invariant.path c.in_ok-add_child.ensures.shown);
 }
 
 pub returns-clause-shown : goal.returns-clause-shown

@@ -13,7 +13,7 @@ returns g c =
     let items = c.in_ok-text-items.text-items in
     let all = YieldsList-end (YieldsList-from_vec items.items c.into_iter-text-iterator.ensures.into_iter_gives.0 (c.into_iter-text-iterator.ensures.into_iter_gives.1 ∙ items.ok.0)) c.loop-text.yielded c.loop-text.text-iterator c.loop-text.yielded_by c.next.result c.next.new.self c.in-None.is c.next.ensures.steps in
     has_texts (g.K.Leaf.keyword_of c.args.leaf.now) (subst (λ l. IsPermutation (g.K.Leaf.finds c.args.leaf.now (data_of c.args.node)) (texts_of l))
-        (sym (sym (map-id c.loop-text.yielded) ∙ all.0)) c.in_ok-text-items.ensures) c.loop-text.invariant
+    (sym (sym (map-id c.loop-text.yielded) ∙ all.0)) c.in_ok-text-items.ensures) c.loop-text.invariant
 
 pub loop-text-preserved : goal.loop-text-preserved
 loop-text-preserved g c = grind (arith, common_steps)

@@ -25,7 +25,7 @@ returns-in-Keywords-clause-verdict g c = on_ok_weaker c.show_each.result (λ sho
 pub returns-in-False-clause-tree : goal.returns-in-False-clause-tree
 returns-in-False-clause-tree g c = on_ok_weaker c.add_own_error.result (λ error P.
     subst (λ b. IsLikeTree (body_tree (λ k. g.W.Show.tree k c.args.ctx.now.answer) P b (data_of c.args.node) c.args.path.now)
-        (node_at P c.args.path.now (shown_of c.add_own_error.new.outcome))) (sym c.in-False.is)
+    (node_at P c.args.path.now (shown_of c.add_own_error.new.outcome))) (sym c.in-False.is)
     (erring_like P c.args.path.now (fault FalseSchema (data_of c.args.node) c.args.path.now P ∷ [])
     (subst (λ k. HasErrors (fault k (data_of c.args.node) c.args.path.now P ∷ []) (shown_of c.add_own_error.new.outcome)) kind_of_false_schema (error [] P c.args.path.now (no_error c.requires))))) c.add_own_error.ensures
 
@@ -37,21 +37,21 @@ returns-in-False-clause-verdict g c = on_ok_weaker c.add_own_error.result (λ er
 pub returns-in-RequiredNames-clause-tree : goal.returns-in-RequiredNames-clause-tree
 returns-in-RequiredNames-clause-tree g c = on_ok_weaker c.add_missing.result (λ errors P.
     subst (λ b. IsLikeTree (body_tree (λ k. g.W.Show.tree k c.args.ctx.now.answer) P b (data_of c.args.node) c.args.path.now)
-        (node_at P c.args.path.now (shown_of c.add_missing.new.outcome))) (sym c.in-RequiredNames.is)
+    (node_at P c.args.path.now (shown_of c.add_missing.new.outcome))) (sym c.in-RequiredNames.is)
     (erring_like P c.args.path.now (required_faults (texts_of c.in-RequiredNames.required.required.items) (data_of c.args.node) c.in-RequiredNames.required.location c.args.path.now) (errors c.in-RequiredNames.required.location c.args.path.now))) c.add_missing.ensures
 
 pub returns-in-RequiredNames-clause-verdict : goal.returns-in-RequiredNames-clause-verdict
 returns-in-RequiredNames-clause-verdict g c = on_ok_weaker c.add_missing.result (λ errors P.
     erring_verdict P c.args.path.now (required_faults (texts_of c.in-RequiredNames.required.required.items) (data_of c.args.node) c.in-RequiredNames.required.location c.args.path.now)
-        (errors c.in-RequiredNames.required.location c.args.path.now)
+    (errors c.in-RequiredNames.required.location c.args.path.now)
     ∙ same_emptiness (λ n. fault (Required n) (data_of c.args.node) c.args.path.now c.in-RequiredNames.required.location)
-        (missing (texts_of c.in-RequiredNames.required.required.items) (data_of c.args.node))
+    (missing (texts_of c.in-RequiredNames.required.required.items) (data_of c.args.node))
     ∙ ap (λ b. (body_means g.W.Means.means b (data_of c.args.node)).accepts c.args.ctx.now.answer) (sym c.in-RequiredNames.is)) c.add_missing.ensures
 
 pub returns-in-True-clause-tree : goal.returns-in-True-clause-tree
 returns-in-True-clause-tree g c P =
     subst (λ b. IsLikeTree (body_tree (λ k. g.W.Show.tree k c.args.ctx.now.answer) P b (data_of c.args.node) c.args.path.now)
-        (node_at P c.args.path.now (shown_of c.args.outcome.now))) (sym c.in-True.is)
+    (node_at P c.args.path.now (shown_of c.args.outcome.now))) (sym c.in-True.is)
     (no_child_like g.W.Show.tree g.W.Means.means c.args.ctx.now.answer (data_of c.args.node) P c.args.path.now [] refl c.requires)
 
 pub returns-in-True-clause-verdict : goal.returns-in-True-clause-verdict

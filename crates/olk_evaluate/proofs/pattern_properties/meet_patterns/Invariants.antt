@@ -8,4 +8,4 @@ use Rattle.olk_evaluate.proofs.pattern_properties.meet_patterns.Given as goal
 abbrev pub invariant-loop-entry : goal.invariant-loop-entry
 invariant-loop-entry g l =
     Meeting (wanted_at g.N.Show.tree g.N.Means.means) (λ u e. matches_of g.R.RegexEngine.answers u e.0 e.1 (object_of l.members.entries)) l.patterns.items
-        (drop l.entry-index l.patterns.items) l.initial.met l.met l.initial.path l.path l.initial.ctx l.ctx
+    (drop l.entry-index l.patterns.items) l.initial.met l.met l.initial.path l.path l.initial.ctx l.ctx

@@ -33,7 +33,7 @@ returns g c = record {
       (met_end c.loop-name.invariant.met c.in-None.ensures.steps);
   verdict = met_verdict g.N.Show.tree g.N.Means.means c.args.ctx.now.answer c.args.path.now (met_end c.loop-name.invariant.met c.in-None.ensures.steps)
       (means_of_walk (members_view c.args.members.now.entries) (zip (g.M.PropertiesValidatorsMap.names c.args.properties.now)
-          (g.M.PropertiesValidatorsMap.nodes c.args.properties.now)) c.into_iter-name-iterator.ensures.into_iter_gives c.declared_members-name-items.ensures.by_names g.N.Means.means);
+      (g.M.PropertiesValidatorsMap.nodes c.args.properties.now)) c.into_iter-name-iterator.ensures.into_iter_gives c.declared_members-name-items.ensures.by_names g.N.Means.means);
   path = c.loop-name.invariant.path;
   context = c.loop-name.invariant.context;
 }
@@ -44,5 +44,5 @@ loop-name-preserved g c = record {
   context = only_then c.loop-name.invariant.context c.meet_member.ensures.context;
   met = met_more (seen (c.in-Some.name, c.in-Some.subschema, c.in-Some.value)) c.loop-name.invariant.met c.in-Some.ensures.steps
       (subst₂ (λ u Q. MeetsMore (wanted_at g.N.Show.tree g.N.Means.means u Q)
-          (declared_as c.in-Some.name.now c.in-Some.subschema.now (view c.in-Some.value.now)) c.loop-name.met c.meet_member.new.met) c.loop-name.invariant.context.answer c.loop-name.invariant.path c.in_ok-meet_member.ensures.met);
+      (declared_as c.in-Some.name.now c.in-Some.subschema.now (view c.in-Some.value.now)) c.loop-name.met c.meet_member.new.met) c.loop-name.invariant.context.answer c.loop-name.invariant.path c.in_ok-meet_member.ensures.met);
 }

@@ -23,7 +23,7 @@ returns g c = record {
   shown = subst (λ ws. AreShown ws (trees_of c.loop-choices.children.items))
       (all_chosen (members_view c.args.members.now.entries) (named c.args.dependencies.now) c.into_iter-choices-iterator.ensures.into_iter_gives c.declared_members-choices-items.ensures.by_names (data_of c.args.object) c.requires (λ n. wanted g.N.Show.tree g.N.Means.means c.args.ctx.now.answer n (data_of c.args.object) c.args.path.now))
       (shown_end c.loop-choices.invariant.shown (ap (flat_map (λ d. each_wanted g.N.Show.tree g.N.Means.means c.args.ctx.now.answer (chosen d)
-          (data_of c.args.object) c.args.path.now)) c.in-None.ensures.steps));
+      (data_of c.args.object) c.args.path.now)) c.in-None.ensures.steps));
   path = c.loop-choices.invariant.path;
   context = c.loop-choices.invariant.context;
 }

@@ -36,5 +36,5 @@ loop-name-preserved g c = record {
   shown = shown_more c.loop-name.invariant.shown
       (ap (names_wanted g.N.Show.tree g.N.Means.means c.args.ctx.now.answer c.args.subschema.now c.args.path.now) (name_next c.in-Some.ensures.steps refl))
       (subst₂ (λ u Q. ShowsMore (wanted g.N.Show.tree g.N.Means.means u c.args.subschema.now
-          (string (string_bytes c.in-Some.name.now)) Q) c.loop-name.children.items c.add_child.new.children.items) c.loop-name.invariant.context.answer c.loop-name.invariant.path c.in_ok-add_child.ensures.shown);
+      (string (string_bytes c.in-Some.name.now)) Q) c.loop-name.children.items c.add_child.new.children.items) c.loop-name.invariant.context.answer c.loop-name.invariant.path c.in_ok-add_child.ensures.shown);
 }

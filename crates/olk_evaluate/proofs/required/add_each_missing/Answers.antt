@@ -11,10 +11,10 @@ loop-name-init c P Q = errors_start c.requires refl
 pub loop-name-preserved : goal.loop-name-preserved
 loop-name-preserved c P Q = errors_more _ _ (c.loop-name.invariant P Q)
     (missing_at (members_view c.args.members.now.entries) (λ n. fault (Required n)
-        (data_of c.args.node) Q P) c.args.names.now.items c.deref-name-items.result.now c.loop-name.name-index c.deref-name-items.ensures.value c.name-item.is c.loop-name-test.true c.as_str.ensures.value)
+    (data_of c.args.node) Q P) c.args.names.now.items c.deref-name-items.result.now c.loop-name.name-index c.deref-name-items.ensures.value c.name-item.is c.loop-name-test.true c.as_str.ensures.value)
     (λ before h. c.in_ok-add_error_if_missing.ensures before P Q h)
 
 pub returns : goal.returns
 returns c P Q =
     errors_end (c.loop-name.invariant P Q) (missing_end (members_view c.args.members.now.entries)
-        (λ n. fault (Required n) (data_of c.args.node) Q P) c.args.names.now.items c.deref-name-items.result.now c.loop-name.name-index c.deref-name-items.ensures.value c.loop-name-test.false)
+    (λ n. fault (Required n) (data_of c.args.node) Q P) c.args.names.now.items c.deref-name-items.result.now c.loop-name.name-index c.deref-name-items.ensures.value c.loop-name-test.false)

@@ -16,7 +16,7 @@ returns-then-has_member c = record {
   added = sym (append-nil c.args.children.now.items);
   shown =
       subst (λ n. AreShown (refused (lacking_trees (n ∷ []) (data_of c.args.node)
-          (object (members_view c.args.members.now.entries)) c.args.required.now.location c.args.path.now)) []) c.as_str-name.ensures.value
+      (object (members_view c.args.members.now.entries)) c.args.required.now.location c.args.path.now)) []) c.as_str-name.ensures.value
       (not_lacking c.as_str-name.result.now (data_of c.args.node) (members_view c.args.members.now.entries) c.args.required.now.location c.args.path.now c.if-has_member.ensures);
 }
 
@@ -29,9 +29,9 @@ returns c =
       added = c.in_ok-push.ensures.items;
       shown =
           subst (λ n. AreShown (refused (lacking_trees (n ∷ []) (data_of c.args.node) (object (members_view c.args.members.now.entries)) location c.args.path.now))
-              (tree_of (with_result c.at-child.result outcome) ∷ [])) c.as_str-name.ensures.value
+          (tree_of (with_result c.at-child.result outcome) ∷ [])) c.as_str-name.ensures.value
           (one_lacking c.as_str-name.result.now (data_of c.args.node) (members_view c.args.members.now.entries) location c.args.path.now c.if-has_member.ensures
           (subst (λ k. HasErrors (fault k (data_of c.args.node) c.args.path.now location ∷ []) (shown_of outcome)) (kind_of_required c.as_str-name.result)
-              (c.in_ok-add_own_error.ensures [] location c.args.path.now (no_error c.at-child.ensures.empty)))
+          (c.in_ok-add_own_error.ensures [] location c.args.path.now (no_error c.at-child.ensures.empty)))
           (c.at-child.ensures.places outcome ∙ ap (λ P. node_at P c.in_ok-text.text (shown_of outcome)) c.as_str-2.ensures ∙ ap (λ Q. node_at location Q (shown_of outcome)) (c.in_ok-text.ensures ∙ c.as_str.ensures)));
     }

@@ -24,9 +24,11 @@ pub returns-in_err-location-clause-same_meter : goal.returns-in_err-location-cla
 returns-in_err-location-clause-same_meter g c = c.compile_member.ensures.same_meter
 
 pub returns-in_default-clause-builds : goal.returns-in_default-clause-builds
-returns-in_default-clause-builds g c =
-    (no_neighbour (kit g.L.Leaf.Leaf g.M.Engine.RegexEngine) g.N.Place.answers (members_view c.args.parent.now.entries) c.args.ctx.now.place _
-        (codes "patternProperties") _ (sym c.in_default.ensures), tt)
+returns-in_default-clause-builds g c = (
+  no_neighbour (kit g.L.Leaf.Leaf g.M.Engine.RegexEngine) g.N.Place.answers (members_view c.args.parent.now.entries) c.args.ctx.now.place _
+      (codes "patternProperties") _ (sym c.in_default.ensures),
+  tt,
+)
 
 pub returns-in_err-location-clause-builds : goal.returns-in_err-location-clause-builds
 returns-in_err-location-clause-builds g c = (
@@ -41,9 +43,11 @@ returns-in_err-location-clause-builds g c = (
 pub unreachable-requires : goal.unreachable-requires
 unreachable-requires g c =
     no_other_patterns (kit g.L.Leaf.Leaf g.M.Engine.RegexEngine) g.N.Place.answers (members_view c.args.parent.now.entries) c.args.ctx.now.place c.in_ok-location.field-0
-        (view c.in-Some.value.now) _ _ c.in_ok-location.ensures.built c.in_default-shape.not-PatternProperties
+    (view c.in-Some.value.now) _ _ c.in_ok-location.ensures.built c.in_default-shape.not-PatternProperties
 
 pub returns-clause-builds : goal.returns-clause-builds
-returns-clause-builds g c =
-    (patterns_built (kit g.L.Leaf.Leaf g.M.Engine.RegexEngine) g.N.Place.answers (members_view c.args.parent.now.entries) c.args.ctx.now.place c.in_ok-location.field-0
-        (view c.in-Some.value.now) _ _ c.in_ok-location.ensures.built c.in-PatternProperties.patterns c.in-PatternProperties.table c.in-PatternProperties.is (sym c.in-Some.ensures), tt)
+returns-clause-builds g c = (
+  patterns_built (kit g.L.Leaf.Leaf g.M.Engine.RegexEngine) g.N.Place.answers (members_view c.args.parent.now.entries) c.args.ctx.now.place c.in_ok-location.field-0
+      (view c.in-Some.value.now) _ _ c.in_ok-location.ensures.built c.in-PatternProperties.patterns c.in-PatternProperties.table c.in-PatternProperties.is (sym c.in-Some.ensures),
+  tt,
+)

@@ -40,9 +40,11 @@ returns-in_err-shape-clause-builds g c = (
 pub unreachable-requires : goal.unreachable-requires
 unreachable-requires g c =
     no_other_declared (kit g.L.Leaf.Leaf g.M.Engine.RegexEngine) g.N.Place.answers (members_view c.args.parent.now.entries) c.args.ctx.now.place c.in_ok-shape.field-0
-        (view c.in-Some.value.now) _ _ c.in_ok-shape.ensures.built c.in_default-shape.not-Properties
+    (view c.in-Some.value.now) _ _ c.in_ok-shape.ensures.built c.in_default-shape.not-Properties
 
 pub returns-clause-builds : goal.returns-clause-builds
-returns-clause-builds g c =
-    (declared_built (kit g.L.Leaf.Leaf g.M.Engine.RegexEngine) g.N.Place.answers (members_view c.args.parent.now.entries) c.args.ctx.now.place c.in_ok-shape.field-0
-        (view c.in-Some.value.now) _ _ c.in_ok-shape.ensures.built c.in-Properties.names c.in-Properties.is (sym c.in-Some.ensures), tt)
+returns-clause-builds g c = (
+  declared_built (kit g.L.Leaf.Leaf g.M.Engine.RegexEngine) g.N.Place.answers (members_view c.args.parent.now.entries) c.args.ctx.now.place c.in_ok-shape.field-0
+      (view c.in-Some.value.now) _ _ c.in_ok-shape.ensures.built c.in-Properties.names c.in-Properties.is (sym c.in-Some.ensures),
+  tt,
+)

@@ -10,19 +10,23 @@ unreachable-requires g c =
     no_other_dependencies (kit g.L.Leaf.Leaf g.M.Engine.RegexEngine) g.N.Place.answers c.in-Ok.part _ (view c.args.schema.now) _ _ _ c.in-Ok.ensures.built c.in_default.not-Dependencies
 
 pub returns-in-Ok-make-clause-gives : goal.returns-in-Ok-make-clause-gives
-returns-in-Ok-make-clause-gives g c =
-    (built_of_shape (kit g.L.Leaf.Leaf g.M.Engine.RegexEngine) g.N.Place.answers c.in-Ok.part _ (codes "dependencies")
-        (view c.args.schema.now) _ _ _ c.in-Ok.ensures.built refl _ c.in-Dependencies.is _ c.in-Ok-make.ensures.makes, tt)
+returns-in-Ok-make-clause-gives g c = (
+  built_of_shape (kit g.L.Leaf.Leaf g.M.Engine.RegexEngine) g.N.Place.answers c.in-Ok.part _ (codes "dependencies")
+      (view c.args.schema.now) _ _ _ c.in-Ok.ensures.built refl _ c.in-Dependencies.is _ c.in-Ok-make.ensures.makes,
+  tt,
+)
 
 pub returns-in-Ok-make-clause-form : goal.returns-in-Ok-make-clause-form
 returns-in-Ok-make-clause-form g c =
     dependencies_is_formed (kit g.L.Leaf.Leaf g.M.Engine.RegexEngine) g.N.Place.answers c.in-Ok.part _
-        (view c.args.schema.now) _ _ _ c.in-Ok.ensures.built c.in-Dependencies.keys c.in-Dependencies.lists c.in-Dependencies.is c.in-Ok-make.keyword c.in-Ok-make.ensures.form
+    (view c.args.schema.now) _ _ _ c.in-Ok.ensures.built c.in-Dependencies.keys c.in-Dependencies.lists c.in-Dependencies.is c.in-Ok-make.keyword c.in-Ok-make.ensures.form
 
 pub returns-in-Err-make-clause-gives : goal.returns-in-Err-make-clause-gives
-returns-in-Err-make-clause-gives g c =
-    (tt, memory_after (kit g.L.Leaf.Leaf g.M.Engine.RegexEngine) g.N.Place.answers c.in-Ok.part _ (codes "dependencies")
-        (view c.args.schema.now) _ _ _ c.in-Ok.ensures.built refl _ c.in-Err-make.error refl)
+returns-in-Err-make-clause-gives g c = (
+  tt,
+  memory_after (kit g.L.Leaf.Leaf g.M.Engine.RegexEngine) g.N.Place.answers c.in-Ok.part _ (codes "dependencies")
+      (view c.args.schema.now) _ _ _ c.in-Ok.ensures.built refl _ c.in-Err-make.error refl,
+)
 
 pub returns-in-Err-clause-gives : goal.returns-in-Err-clause-gives
 returns-in-Err-clause-gives g c =

@@ -10,19 +10,23 @@ unreachable-requires g c =
     no_other_dependent_required (kit g.L.Leaf.Leaf g.M.Engine.RegexEngine) g.N.Place.answers c.in-Ok.part _ (view c.args.schema.now) _ _ _ c.in-Ok.ensures.built c.in_default.not-DependentRequired
 
 pub returns-in-Ok-make_required-clause-gives : goal.returns-in-Ok-make_required-clause-gives
-returns-in-Ok-make_required-clause-gives g c =
-    (built_without_nodes (kit g.L.Leaf.Leaf g.M.Engine.RegexEngine) g.N.Place.answers c.in-Ok.part _ (codes "dependentRequired")
-        (view c.args.schema.now) _ _ _ c.in-Ok.ensures.built refl _ c.in-DependentRequired.is refl _ c.in-Ok-make_required.ensures.makes, tt)
+returns-in-Ok-make_required-clause-gives g c = (
+  built_without_nodes (kit g.L.Leaf.Leaf g.M.Engine.RegexEngine) g.N.Place.answers c.in-Ok.part _ (codes "dependentRequired")
+      (view c.args.schema.now) _ _ _ c.in-Ok.ensures.built refl _ c.in-DependentRequired.is refl _ c.in-Ok-make_required.ensures.makes,
+  tt,
+)
 
 pub returns-in-Ok-make_required-clause-form : goal.returns-in-Ok-make_required-clause-form
 returns-in-Ok-make_required-clause-form g c =
     dependent_required_is_formed (kit g.L.Leaf.Leaf g.M.Engine.RegexEngine) g.N.Place.answers c.in-Ok.part _
-        (view c.args.schema.now) _ _ _ c.in-Ok.ensures.built c.in-DependentRequired.keys c.in-DependentRequired.lists c.in-DependentRequired.is c.in-Ok-make_required.keyword c.in-Ok-make_required.ensures.form
+    (view c.args.schema.now) _ _ _ c.in-Ok.ensures.built c.in-DependentRequired.keys c.in-DependentRequired.lists c.in-DependentRequired.is c.in-Ok-make_required.keyword c.in-Ok-make_required.ensures.form
 
 pub returns-in-Ok-clause-gives : goal.returns-in-Ok-clause-gives
-returns-in-Ok-clause-gives g c =
-    (tt, memory_after (kit g.L.Leaf.Leaf g.M.Engine.RegexEngine) g.N.Place.answers c.in-Ok.part _ (codes "dependentRequired")
-        (view c.args.schema.now) _ _ _ c.in-Ok.ensures.built refl _ c.in-Err-make_required.error refl)
+returns-in-Ok-clause-gives g c = (
+  tt,
+  memory_after (kit g.L.Leaf.Leaf g.M.Engine.RegexEngine) g.N.Place.answers c.in-Ok.part _ (codes "dependentRequired")
+      (view c.args.schema.now) _ _ _ c.in-Ok.ensures.built refl _ c.in-Err-make_required.error refl,
+)
 
 pub returns-clause-gives : goal.returns-clause-gives
 returns-clause-gives g c =

@@ -11,17 +11,19 @@ unreachable-requires g c = no_other_not (kit g.L.Leaf.Leaf g.M.Engine.RegexEngin
 pub unreachable-requires-in_default-make : goal.unreachable-requires-in_default-make
 unreachable-requires-in_default-make g c =
     not_without_node (kit g.L.Leaf.Leaf g.M.Engine.RegexEngine) g.N.Place.answers c.in-Ok.part _
-        (view c.args.schema.now) _ _ _ c.in-Ok.ensures.built c.in-Not.original c.in-Not.is c.in_default-make.ensures.none
+    (view c.args.schema.now) _ _ _ c.in-Ok.ensures.built c.in-Not.original c.in-Not.is c.in_default-make.ensures.none
 
 pub returns-in-Some-clause-gives : goal.returns-in-Some-clause-gives
-returns-in-Some-clause-gives g c =
-    (not_built (kit g.L.Leaf.Leaf g.M.Engine.RegexEngine) g.N.Place.answers c.in-Ok.part _
-        (view c.args.schema.now) _ _ _ c.in-Ok.ensures.built c.in-Not.original c.in-Not.is _ c.in-Some.ensures.makes, tt)
+returns-in-Some-clause-gives g c = (
+  not_built (kit g.L.Leaf.Leaf g.M.Engine.RegexEngine) g.N.Place.answers c.in-Ok.part _
+      (view c.args.schema.now) _ _ _ c.in-Ok.ensures.built c.in-Not.original c.in-Not.is _ c.in-Some.ensures.makes,
+  tt,
+)
 
 pub returns-in-Some-clause-form : goal.returns-in-Some-clause-form
 returns-in-Some-clause-form g c =
     not_is_formed (kit g.L.Leaf.Leaf g.M.Engine.RegexEngine) g.N.Place.answers c.in-Ok.part _
-        (view c.args.schema.now) _ _ _ c.in-Ok.ensures.built c.in-Not.original c.in-Not.is c.in-Some.keyword c.in-Some.ensures.form
+    (view c.args.schema.now) _ _ _ c.in-Ok.ensures.built c.in-Not.original c.in-Not.is c.in-Some.keyword c.in-Some.ensures.form
 
 pub returns-in-Err-clause-gives : goal.returns-in-Err-clause-gives
 returns-in-Err-clause-gives g c =

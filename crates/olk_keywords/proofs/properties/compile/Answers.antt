@@ -14,20 +14,22 @@ unreachable-requires g c =
     no_other_properties (kit g.L.Leaf.Leaf g.M.Engine.RegexEngine) g.N.Place.answers c.in-Ok.part _ (view c.args.schema.now) _ _ _ c.in-Ok.ensures.built c.in_default.not-Properties
 
 pub returns-in-Ok-make-clause-gives : goal.returns-in-Ok-make-clause-gives
-returns-in-Ok-make-clause-gives g c =
-    (properties_built (kit g.L.Leaf.Leaf g.M.Engine.RegexEngine) g.N.Place.answers c.in-Ok.part _
-        (view c.args.schema.now) _ _ _ c.in-Ok.ensures.built c.in-Properties.names c.in-Properties.is (members_view c.args.parent.now.entries)
-        (planned c.of-plan.result) c.of-plan.ensures.plan (search rules) (c.in-Ok-make.keyword ∷ [])
-        (subst (λ P. MakesClaims (kit g.L.Leaf.Leaf g.M.Engine.RegexEngine) g.N.Place.answers (shape.Properties c.in-Properties.names) c.in-Ok.part.location c.in-Ok.part.nodes.items P
-        (planned c.of-plan.result) (c.in-Ok-make.keyword ∷ [])) c.compile_member.ensures.place c.in-Ok-make.ensures.makes) c.of-plan.ensures.distinct, tt)
+returns-in-Ok-make-clause-gives g c = (
+  properties_built (kit g.L.Leaf.Leaf g.M.Engine.RegexEngine) g.N.Place.answers c.in-Ok.part _
+      (view c.args.schema.now) _ _ _ c.in-Ok.ensures.built c.in-Properties.names c.in-Properties.is (members_view c.args.parent.now.entries)
+      (planned c.of-plan.result) c.of-plan.ensures.plan (search rules) (c.in-Ok-make.keyword ∷ [])
+      (subst (λ P. MakesClaims (kit g.L.Leaf.Leaf g.M.Engine.RegexEngine) g.N.Place.answers (shape.Properties c.in-Properties.names) c.in-Ok.part.location c.in-Ok.part.nodes.items P
+      (planned c.of-plan.result) (c.in-Ok-make.keyword ∷ [])) c.compile_member.ensures.place c.in-Ok-make.ensures.makes) c.of-plan.ensures.distinct,
+  tt,
+)
 
 pub returns-in-Ok-make-clause-form : goal.returns-in-Ok-make-clause-form
 returns-in-Ok-make-clause-form g c =
     properties_is_formed (kit g.L.Leaf.Leaf g.M.Engine.RegexEngine) g.N.Place.answers c.in-Ok.part _
-        (view c.args.schema.now) _ _ _ c.in-Ok.ensures.built c.in-Properties.names c.in-Properties.is (members_view c.args.parent.now.entries)
-        (planned c.of-plan.result) c.of-plan.ensures.plan (search rules) c.in-Ok-make.keyword
-        (subst (λ P. IsProperties P c.in-Ok.part.location (length c.in-Properties.names)
-        (planned c.of-plan.result).fused_pair c.in-Ok-make.keyword) c.compile_member.ensures.place c.in-Ok-make.ensures.form)
+    (view c.args.schema.now) _ _ _ c.in-Ok.ensures.built c.in-Properties.names c.in-Properties.is (members_view c.args.parent.now.entries)
+    (planned c.of-plan.result) c.of-plan.ensures.plan (search rules) c.in-Ok-make.keyword
+    (subst (λ P. IsProperties P c.in-Ok.part.location (length c.in-Properties.names)
+    (planned c.of-plan.result).fused_pair c.in-Ok-make.keyword) c.compile_member.ensures.place c.in-Ok-make.ensures.form)
 
 pub returns-in-Err-make-clause-gives : goal.returns-in-Err-make-clause-gives
 returns-in-Err-make-clause-gives g c =

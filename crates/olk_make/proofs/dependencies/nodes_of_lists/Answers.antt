@@ -19,7 +19,7 @@ loop-list-preserved g c = record {
   made =
       one_made (AreListsAt (kit g.K.Leaf g.R.RegexEngine) g.N.Place.answers c.args.location.now) c.args.lists.items c.loop-list.list-iterator.rest.items c.next.new.self.rest.items c.loop-list.nodes.items c.append.new.items.items c.in_ok-node.node c.in_ok-append.ensures.items
       (λ rest h. subst (λ ls. AreListsAt (kit g.K.Leaf g.R.RegexEngine) g.N.Place.answers c.args.location.now ls (c.in_ok-node.node ∷ rest))
-          (sym c.in-Some.ensures.steps.0) (c.in_ok-node.ensures, h)) c.loop-list.invariant.made;
+      (sym c.in-Some.ensures.steps.0) (c.in_ok-node.ensures, h)) c.loop-list.invariant.made;
   count = let e = ap length c.in-Some.ensures.steps.0 in omega (arith, e, c.in-Some.ensures.steps.1, c.loop-list.invariant.count);
   next = tt;
   ends = tt;
@@ -28,4 +28,4 @@ loop-list-preserved g c = record {
 pub returns : goal.returns
 returns g c = all_made (AreListsAt (kit g.K.Leaf g.R.RegexEngine) g.N.Place.answers c.args.location.now) c.args.lists.items c.loop-list.list-iterator.rest.items c.loop-list.nodes.items
     (subst (λ ls. AreListsAt (kit g.K.Leaf g.R.RegexEngine) g.N.Place.answers c.args.location.now ls [])
-        (sym (nil_from_length _ (c.loop-list.invariant.count ∙ c.in-None.ensures.steps.0))) tt) c.loop-list.invariant.made
+    (sym (nil_from_length _ (c.loop-list.invariant.count ∙ c.in-None.ensures.steps.0))) tt) c.loop-list.invariant.made

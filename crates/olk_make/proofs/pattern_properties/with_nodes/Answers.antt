@@ -11,7 +11,7 @@ loop-entry-preserved g c =
     record {
       made =
           one_made MadeOf (c.args.patterns.items, c.args.nodes.items) (c.loop-entry.entry-iterator.a.rest.items, c.loop-entry.entry-iterator.b.rest.items)
-              (c.next.new.self.a.rest.items, c.next.new.self.b.rest.items) c.loop-entry.entries.items c.append.new.items.items c.in-Some.entry c.in_ok-append.ensures.items
+          (c.next.new.self.a.rest.items, c.next.new.self.b.rest.items) c.loop-entry.entries.items c.append.new.items.items c.in-Some.entry c.in_ok-append.ensures.items
           (both_next c.loop-entry.entry-iterator.a.rest.items c.next.new.self.a.rest.items c.loop-entry.entry-iterator.b.rest.items c.next.new.self.b.rest.items c.in-Some.entry patterns.0 nodes.0) c.loop-entry.invariant.made;
       patterns = let e = ap length patterns.0 in omega (arith, e, patterns.1, c.loop-entry.invariant.patterns);
       nodes = let e = ap length nodes.0 in omega (arith, e, nodes.1, c.loop-entry.invariant.nodes);

@@ -8,7 +8,7 @@ use Rattle.olk_paths.proofs.path.push_segment.Goals as goal
 pub returns-clause-ok : goal.returns-clause-ok
 returns-clause-ok c =
     c.in_ok-push_escaped.ensures.ok ∙ ap (λ l. l ++ flat_map escaped c.args.segment.now) c.in_ok-push_str.ensures.bytes
-        ∙ append_assoc (string_bytes c.args.text.now) (47 ∷ []) (flat_map escaped c.args.segment.now)
+    ∙ append_assoc (string_bytes c.args.text.now) (47 ∷ []) (flat_map escaped c.args.segment.now)
 
 pub returns-in_err-push_str-clause-err : goal.returns-in_err-push_str-clause-err
 returns-in_err-push_str-clause-err c = on_err c.from_residual.result ([], c.in_err-push_str.ensures.bytes ∙ sym (append-nil (string_bytes c.args.text.now)), tt)

@@ -10,15 +10,15 @@ pub returns-in-Err-Refused-clause-refused : goal.returns-in-Err-Refused-clause-r
 returns-in-Err-Refused-clause-refused g c = record {
   tells =
       tells_same (sym (refused_pattern (world g.L.Leaf.Leaf g.M.Engine.RegexEngine) (string_bytes c.args.pattern.now) c.args.location.now
-          (subst (λ n. pattern_builds (matcher g.M.Engine.RegexEngine.builds g.M.Engine.RegexEngine.says) n ≡ false) c.as_str.ensures.value
-          (c.in-Err-Refused.ensures.refused (subst IsRefused (sym c.in-Err-Refused.field-0-is) tt))))) c.refuse_pattern.result c.refuse_pattern.ensures;
+      (subst (λ n. pattern_builds (matcher g.M.Engine.RegexEngine.builds g.M.Engine.RegexEngine.says) n ≡ false) c.as_str.ensures.value
+      (c.in-Err-Refused.ensures.refused (subst IsRefused (sym c.in-Err-Refused.field-0-is) tt))))) c.refuse_pattern.result c.refuse_pattern.ensures;
   spends =
       spends_open_at_most (world g.L.Leaf.Leaf g.M.Engine.RegexEngine) (string_bytes c.args.pattern.now) c.args.meter.now c.compile_pattern.new.meter
-          (subst (λ n. (c.compile_pattern.new.meter ≡ c.args.meter.now) ⊎ (c.compile_pattern.new.meter ≡ count_open n c.args.meter.now)) c.as_str.ensures.value c.in-Err-Refused.ensures.made_at_most);
+      (subst (λ n. (c.compile_pattern.new.meter ≡ c.args.meter.now) ⊎ (c.compile_pattern.new.meter ≡ count_open n c.args.meter.now)) c.as_str.ensures.value c.in-Err-Refused.ensures.made_at_most);
 }
 
 pub returns-in-Err-Memory-clause-refused : goal.returns-in-Err-Memory-clause-refused
 returns-in-Err-Memory-clause-refused g c =
     refuses_memory _ _ _ _ _ c.in-Err-Memory.error refl (spends_open_at_most (world g.L.Leaf.Leaf g.M.Engine.RegexEngine)
-        (string_bytes c.args.pattern.now) c.args.meter.now c.compile_pattern.new.meter
-        (subst (λ n. (c.compile_pattern.new.meter ≡ c.args.meter.now) ⊎ (c.compile_pattern.new.meter ≡ count_open n c.args.meter.now)) c.as_str.ensures.value c.in-Err-Memory.ensures.made_at_most))
+    (string_bytes c.args.pattern.now) c.args.meter.now c.compile_pattern.new.meter
+    (subst (λ n. (c.compile_pattern.new.meter ≡ c.args.meter.now) ⊎ (c.compile_pattern.new.meter ≡ count_open n c.args.meter.now)) c.as_str.ensures.value c.in-Err-Memory.ensures.made_at_most))

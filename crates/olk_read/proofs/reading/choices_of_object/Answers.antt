@@ -10,13 +10,13 @@ use Rattle.olk_read.proofs.reading.choices_of_object.Goals as goal
 pub returns-in_err-texts-clause-refused : goal.returns-in_err-texts-clause-refused
 returns-in_err-texts-clause-refused c =
     exit _ _ _ c.from_residual-in_err-texts.ensures.1 (λ e q. tells_right (unless_object (view c.args.value.now) c.args.location.now)
-        (no_object_faults c.args.location.now (members (view c.args.value.now))) e
-        (subst (λ d. TellsOneOf (no_object_faults c.args.location.now (members d)) e) (sym c.in_ok-entries.ensures.object) (subst (TellsOneOf _) (sym q) c.in_err-texts.ensures.refused)))
+    (no_object_faults c.args.location.now (members (view c.args.value.now))) e
+    (subst (λ d. TellsOneOf (no_object_faults c.args.location.now (members d)) e) (sym c.in_ok-entries.ensures.object) (subst (TellsOneOf _) (sym q) c.in_err-texts.ensures.refused)))
 
 pub returns-in_err-entries-clause-refused : goal.returns-in_err-entries-clause-refused
 returns-in_err-entries-clause-refused c =
     exit _ _ _ c.from_residual.ensures.1 (λ e q. tells_left (unless_object (view c.args.value.now) c.args.location.now)
-        (no_object_faults c.args.location.now (members (view c.args.value.now))) e (subst (TellsOneOf _) (sym q) c.in_err-entries.ensures.refused))
+    (no_object_faults c.args.location.now (members (view c.args.value.now))) e (subst (TellsOneOf _) (sym q) c.in_err-entries.ensures.refused))
 
 pub returns-in_err-keys-clause-refused : goal.returns-in_err-keys-clause-refused
 returns-in_err-keys-clause-refused c = exit _ _ _ c.from_residual-in_err-keys.ensures.1 (λ e q. tells_memory _ e _ q)

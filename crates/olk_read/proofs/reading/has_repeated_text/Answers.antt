@@ -12,7 +12,7 @@ loop-item-preserved c =
     elim c.match-as_str.branch [
       | in-Some+in_ok-is_new+else-not-is_new w ↦ ap (λ s. meets_again s (drop (c.loop-item.item-index + 1) c.args.items.now)) w.seen-is
           ∙ sym (meets_past_new c.loop-item.seen w.in-Some.text.now c.item-item.result _ (sym w.in-Some.ensures) w.insert.new.self
-              (sym w.if-not-is_new.false ∙ w.in_ok-is_new.ensures.added) (seen_one_more c.loop-item.seen w.insert.new.self w.in-Some.text w.in_ok-is_new.ensures.updates))
+          (sym w.if-not-is_new.false ∙ w.in_ok-is_new.ensures.added) (seen_one_more c.loop-item.seen w.insert.new.self w.in-Some.text w.in_ok-is_new.ensures.updates))
           ∙ before
       | in_default w ↦ ap (λ s. meets_again s (drop (c.loop-item.item-index + 1) c.args.items.now)) w.seen-is
           ∙ sym (meets_past_others c.loop-item.seen c.item-item.result _ (sym w.in_default.ensures))

@@ -17,7 +17,7 @@ returns-in_err-texts_of_items c = record {
   texts = IfOk-from_err c.from_residual.result _ c.from_residual.ensures.0;
   refused =
       exit _ _ _ c.from_residual.ensures.1 (λ e q. subst (λ d. TellsOneOf (not_a_text d c.args.location.now) e) (sym (view_of_array c.args.value.now c.in-Array.items c.in-Array.is))
-          (subst (TellsOneOf _) (sym q) c.in_err-texts_of_items.ensures.refused));
+      (subst (TellsOneOf _) (sym q) c.in_err-texts_of_items.ensures.refused));
 }
 
 pub returns : goal.returns

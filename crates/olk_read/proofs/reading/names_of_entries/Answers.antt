@@ -12,12 +12,12 @@ loop-key-init c = none_so_far _ _ _ _ _ _ c.new-required.ensures.items c.into_it
 pub loop-key-preserved : goal.loop-key-preserved
 loop-key-preserved c =
     one_more_entry _ _ _ _ _ _ _ _ c.in-Some.ensures.steps _ _ _ c.in_ok-append.ensures.items c.in_ok-names.ensures.names
-        (subst (λ n. name_list_refusals n (view c.in-Some.value.now) c.args.location.now ≡ []) c.as_str.ensures.value c.in_ok-names.ensures.right) c.loop-key.invariant
+    (subst (λ n. name_list_refusals n (view c.in-Some.value.now) c.args.location.now ≡ []) c.as_str.ensures.value c.in_ok-names.ensures.right) c.loop-key.invariant
 
 pub returns-in_err-names-clause-refused : goal.returns-in_err-names-clause-refused
 returns-in_err-names-clause-refused c =
     exit _ _ _ c.from_residual.ensures.1 (λ e q. entry_refused _ _ _ _ _ _ _ _ c.in-Some.ensures.steps _ e c.loop-key.invariant
-        (subst (λ n. TellsOneOf (name_list_refusals n (view c.in-Some.value.now) c.args.location.now) e) c.as_str.ensures.value (subst (TellsOneOf _) (sym q) c.in_err-names.ensures.refused)))
+    (subst (λ n. TellsOneOf (name_list_refusals n (view c.in-Some.value.now) c.args.location.now) e) c.as_str.ensures.value (subst (TellsOneOf _) (sym q) c.in_err-names.ensures.refused)))
 
 pub returns-clause-names : goal.returns-clause-names
 returns-clause-names c = entries_shown _ _ _ _ _ _ c.loop-key.invariant c.in-None.ensures.steps.0

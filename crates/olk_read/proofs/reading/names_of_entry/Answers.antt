@@ -24,7 +24,7 @@ returns-in_err-items c = record {
   right = IfOk-from_err c.from_residual-in_err-items.result _ c.from_residual-in_err-items.ensures.0;
   refused =
       exit _ _ _ c.from_residual-in_err-items.ensures.1 (λ e q. no_array_told c.args.key.now c.args.location.now (view c.args.value.now) e
-          (subst (λ P. TellsOneOf (unless_array (view c.args.value.now) P) e) c.in_ok-place.ensures (subst (TellsOneOf _) (sym q) c.in_err-items.ensures.refused)));
+      (subst (λ P. TellsOneOf (unless_array (view c.args.value.now) P) e) c.in_ok-place.ensures (subst (TellsOneOf _) (sym q) c.in_err-items.ensures.refused)));
 }
 
 pub returns-in_err-has_repeated_text : goal.returns-in_err-has_repeated_text

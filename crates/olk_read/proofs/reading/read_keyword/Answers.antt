@@ -19,9 +19,9 @@ returns-in_err-names_of_object-in-Properties g c = record {
   built = IfOk-from_err c.from_residual.result _ c.from_residual.ensures.0;
   refused =
       exit _ _ _ c.from_residual.ensures.1 (λ e q. refuses_own (world g.L.Leaf.Leaf g.M.Engine.RegexEngine) c.args.name.now (codes "properties")
-          (view c.args.value.now) c.args.location.now _ _ c.args.meter.now e (subst (IsFor c.args.name.now) c.in-Properties.is c.keyword_for.ensures)
-          (own_properties (world g.L.Leaf.Leaf g.M.Engine.RegexEngine) (view c.args.value.now) c.args.location.now)
-          (subst (TellsOneOf _) (sym q) c.in_err-names_of_object-in-Properties.ensures.refused));
+      (view c.args.value.now) c.args.location.now _ _ c.args.meter.now e (subst (IsFor c.args.name.now) c.in-Properties.is c.keyword_for.ensures)
+      (own_properties (world g.L.Leaf.Leaf g.M.Engine.RegexEngine) (view c.args.value.now) c.args.location.now)
+      (subst (TellsOneOf _) (sym q) c.in_err-names_of_object-in-Properties.ensures.refused));
 }
 
 pub returns-in_err-texts_of_array-in-Required : goal.returns-in_err-texts_of_array-in-Required
@@ -29,9 +29,9 @@ returns-in_err-texts_of_array-in-Required g c = record {
   built = IfOk-from_err c.from_residual-in_err-texts_of_array-in-Required.result _ c.from_residual-in_err-texts_of_array-in-Required.ensures.0;
   refused =
       exit _ _ _ c.from_residual-in_err-texts_of_array-in-Required.ensures.1
-          (λ e q. refuses_own (world g.L.Leaf.Leaf g.M.Engine.RegexEngine) c.args.name.now (codes "required") (view c.args.value.now) c.args.location.now _ _ c.args.meter.now e
-          (subst (IsFor c.args.name.now) c.in-Required.is c.keyword_for.ensures) (own_required (world g.L.Leaf.Leaf g.M.Engine.RegexEngine) (view c.args.value.now) c.args.location.now)
-          (subst (TellsOneOf _) (sym q) c.in_err-texts_of_array-in-Required.ensures.refused));
+      (λ e q. refuses_own (world g.L.Leaf.Leaf g.M.Engine.RegexEngine) c.args.name.now (codes "required") (view c.args.value.now) c.args.location.now _ _ c.args.meter.now e
+      (subst (IsFor c.args.name.now) c.in-Required.is c.keyword_for.ensures) (own_required (world g.L.Leaf.Leaf g.M.Engine.RegexEngine) (view c.args.value.now) c.args.location.now)
+      (subst (TellsOneOf _) (sym q) c.in_err-texts_of_array-in-Required.ensures.refused));
 }
 
 pub returns-in_err-keys-in-DependentRequired : goal.returns-in_err-keys-in-DependentRequired
@@ -39,10 +39,10 @@ returns-in_err-keys-in-DependentRequired g c = record {
   built = IfOk-from_err c.from_residual-in_err-keys-in-DependentRequired.result _ c.from_residual-in_err-keys-in-DependentRequired.ensures.0;
   refused =
       exit _ _ _ c.from_residual-in_err-keys-in-DependentRequired.ensures.1
-          (λ e q. refuses_own (world g.L.Leaf.Leaf g.M.Engine.RegexEngine) c.args.name.now (codes "dependentRequired")
-          (view c.args.value.now) c.args.location.now _ _ c.args.meter.now e (subst (IsFor c.args.name.now) c.in-DependentRequired.is c.keyword_for.ensures)
-          (own_dependent_required (world g.L.Leaf.Leaf g.M.Engine.RegexEngine) (view c.args.value.now) c.args.location.now)
-          (subst (TellsOneOf _) (sym q) c.in_err-keys-in-DependentRequired.ensures.refused));
+      (λ e q. refuses_own (world g.L.Leaf.Leaf g.M.Engine.RegexEngine) c.args.name.now (codes "dependentRequired")
+      (view c.args.value.now) c.args.location.now _ _ c.args.meter.now e (subst (IsFor c.args.name.now) c.in-DependentRequired.is c.keyword_for.ensures)
+      (own_dependent_required (world g.L.Leaf.Leaf g.M.Engine.RegexEngine) (view c.args.value.now) c.args.location.now)
+      (subst (TellsOneOf _) (sym q) c.in_err-keys-in-DependentRequired.ensures.refused));
 }
 
 pub returns-in_err-names_of_object-in-DependentSchemas : goal.returns-in_err-names_of_object-in-DependentSchemas
@@ -50,10 +50,10 @@ returns-in_err-names_of_object-in-DependentSchemas g c = record {
   built = IfOk-from_err c.from_residual-in_err-names_of_object-in-DependentSchemas.result _ c.from_residual-in_err-names_of_object-in-DependentSchemas.ensures.0;
   refused =
       exit _ _ _ c.from_residual-in_err-names_of_object-in-DependentSchemas.ensures.1
-          (λ e q. refuses_own (world g.L.Leaf.Leaf g.M.Engine.RegexEngine) c.args.name.now (codes "dependentSchemas")
-          (view c.args.value.now) c.args.location.now _ _ c.args.meter.now e (subst (IsFor c.args.name.now) c.in-DependentSchemas.is c.keyword_for.ensures)
-          (own_dependent_schemas (world g.L.Leaf.Leaf g.M.Engine.RegexEngine) (view c.args.value.now) c.args.location.now)
-          (subst (TellsOneOf _) (sym q) c.in_err-names_of_object-in-DependentSchemas.ensures.refused));
+      (λ e q. refuses_own (world g.L.Leaf.Leaf g.M.Engine.RegexEngine) c.args.name.now (codes "dependentSchemas")
+      (view c.args.value.now) c.args.location.now _ _ c.args.meter.now e (subst (IsFor c.args.name.now) c.in-DependentSchemas.is c.keyword_for.ensures)
+      (own_dependent_schemas (world g.L.Leaf.Leaf g.M.Engine.RegexEngine) (view c.args.value.now) c.args.location.now)
+      (subst (TellsOneOf _) (sym q) c.in_err-names_of_object-in-DependentSchemas.ensures.refused));
 }
 
 pub returns-in_err-keys-in-Dependencies : goal.returns-in_err-keys-in-Dependencies
@@ -61,8 +61,8 @@ returns-in_err-keys-in-Dependencies g c = record {
   built = IfOk-from_err c.from_residual-in_err-keys-in-Dependencies.result _ c.from_residual-in_err-keys-in-Dependencies.ensures.0;
   refused =
       exit _ _ _ c.from_residual-in_err-keys-in-Dependencies.ensures.1 (λ e q. refuses_own (world g.L.Leaf.Leaf g.M.Engine.RegexEngine) c.args.name.now
-          (codes "dependencies") (view c.args.value.now) c.args.location.now _ _ c.args.meter.now e (subst (IsFor c.args.name.now) c.in-Dependencies.is c.keyword_for.ensures)
-          (own_dependencies (world g.L.Leaf.Leaf g.M.Engine.RegexEngine) (view c.args.value.now) c.args.location.now) (subst (TellsOneOf _) (sym q) c.in_err-keys-in-Dependencies.ensures.refused));
+      (codes "dependencies") (view c.args.value.now) c.args.location.now _ _ c.args.meter.now e (subst (IsFor c.args.name.now) c.in-Dependencies.is c.keyword_for.ensures)
+      (own_dependencies (world g.L.Leaf.Leaf g.M.Engine.RegexEngine) (view c.args.value.now) c.args.location.now) (subst (TellsOneOf _) (sym q) c.in_err-keys-in-Dependencies.ensures.refused));
 }
 
 pub returns-in_err-keys-in-PropertyDependencies : goal.returns-in_err-keys-in-PropertyDependencies
@@ -70,10 +70,10 @@ returns-in_err-keys-in-PropertyDependencies g c = record {
   built = IfOk-from_err c.from_residual-in_err-keys-in-PropertyDependencies.result _ c.from_residual-in_err-keys-in-PropertyDependencies.ensures.0;
   refused =
       exit _ _ _ c.from_residual-in_err-keys-in-PropertyDependencies.ensures.1
-          (λ e q. refuses_own (world g.L.Leaf.Leaf g.M.Engine.RegexEngine) c.args.name.now (codes "propertyDependencies")
-          (view c.args.value.now) c.args.location.now _ _ c.args.meter.now e (subst (IsFor c.args.name.now) c.in-PropertyDependencies.is c.keyword_for.ensures)
-          (own_property_dependencies (world g.L.Leaf.Leaf g.M.Engine.RegexEngine) (view c.args.value.now) c.args.location.now)
-          (subst (TellsOneOf _) (sym q) c.in_err-keys-in-PropertyDependencies.ensures.refused));
+      (λ e q. refuses_own (world g.L.Leaf.Leaf g.M.Engine.RegexEngine) c.args.name.now (codes "propertyDependencies")
+      (view c.args.value.now) c.args.location.now _ _ c.args.meter.now e (subst (IsFor c.args.name.now) c.in-PropertyDependencies.is c.keyword_for.ensures)
+      (own_property_dependencies (world g.L.Leaf.Leaf g.M.Engine.RegexEngine) (view c.args.value.now) c.args.location.now)
+      (subst (TellsOneOf _) (sym q) c.in_err-keys-in-PropertyDependencies.ensures.refused));
 }
 
 pub returns-in_err-shape_of_others-in-AdditionalProperties : goal.returns-in_err-shape_of_others-in-AdditionalProperties
@@ -81,10 +81,10 @@ returns-in_err-shape_of_others-in-AdditionalProperties g c = record {
   built = IfOk-from_err c.from_residual-in_err-shape_of_others-in-AdditionalProperties.result _ c.from_residual-in_err-shape_of_others-in-AdditionalProperties.ensures.0;
   refused =
       exit _ _ _ c.from_residual-in_err-shape_of_others-in-AdditionalProperties.ensures.1
-          (λ e q. refuses_own (world g.L.Leaf.Leaf g.M.Engine.RegexEngine) c.args.name.now (codes "additionalProperties")
-          (view c.args.value.now) c.args.location.now _ _ c.args.meter.now e (subst (IsFor c.args.name.now) c.in-AdditionalProperties.is c.keyword_for.ensures)
-          (own_additional_properties (world g.L.Leaf.Leaf g.M.Engine.RegexEngine) (view c.args.value.now) c.args.location.now)
-          (subst (TellsOneOf _) (sym q) c.in_err-shape_of_others-in-AdditionalProperties.ensures.refused));
+      (λ e q. refuses_own (world g.L.Leaf.Leaf g.M.Engine.RegexEngine) c.args.name.now (codes "additionalProperties")
+      (view c.args.value.now) c.args.location.now _ _ c.args.meter.now e (subst (IsFor c.args.name.now) c.in-AdditionalProperties.is c.keyword_for.ensures)
+      (own_additional_properties (world g.L.Leaf.Leaf g.M.Engine.RegexEngine) (view c.args.value.now) c.args.location.now)
+      (subst (TellsOneOf _) (sym q) c.in_err-shape_of_others-in-AdditionalProperties.ensures.refused));
 }
 
 pub returns-in_err-shape_of_branches-in-AllOf : goal.returns-in_err-shape_of_branches-in-AllOf
@@ -92,9 +92,9 @@ returns-in_err-shape_of_branches-in-AllOf g c = record {
   built = IfOk-from_err c.from_residual-in_err-shape_of_branches-in-AllOf.result _ c.from_residual-in_err-shape_of_branches-in-AllOf.ensures.0;
   refused =
       exit _ _ _ c.from_residual-in_err-shape_of_branches-in-AllOf.ensures.1
-          (λ e q. refuses_own (world g.L.Leaf.Leaf g.M.Engine.RegexEngine) c.args.name.now (codes "allOf") (view c.args.value.now) c.args.location.now _ _ c.args.meter.now e
-          (subst (IsFor c.args.name.now) c.in-AllOf.is c.keyword_for.ensures) (own_all_of (world g.L.Leaf.Leaf g.M.Engine.RegexEngine) (view c.args.value.now) c.args.location.now)
-          (subst (TellsOneOf _) (sym q) c.in_err-shape_of_branches-in-AllOf.ensures.refused));
+      (λ e q. refuses_own (world g.L.Leaf.Leaf g.M.Engine.RegexEngine) c.args.name.now (codes "allOf") (view c.args.value.now) c.args.location.now _ _ c.args.meter.now e
+      (subst (IsFor c.args.name.now) c.in-AllOf.is c.keyword_for.ensures) (own_all_of (world g.L.Leaf.Leaf g.M.Engine.RegexEngine) (view c.args.value.now) c.args.location.now)
+      (subst (TellsOneOf _) (sym q) c.in_err-shape_of_branches-in-AllOf.ensures.refused));
 }
 
 pub returns-in_err-shape_of_branches-in-AnyOf : goal.returns-in_err-shape_of_branches-in-AnyOf
@@ -102,9 +102,9 @@ returns-in_err-shape_of_branches-in-AnyOf g c = record {
   built = IfOk-from_err c.from_residual-in_err-shape_of_branches-in-AnyOf.result _ c.from_residual-in_err-shape_of_branches-in-AnyOf.ensures.0;
   refused =
       exit _ _ _ c.from_residual-in_err-shape_of_branches-in-AnyOf.ensures.1
-          (λ e q. refuses_own (world g.L.Leaf.Leaf g.M.Engine.RegexEngine) c.args.name.now (codes "anyOf") (view c.args.value.now) c.args.location.now _ _ c.args.meter.now e
-          (subst (IsFor c.args.name.now) c.in-AnyOf.is c.keyword_for.ensures) (own_any_of (world g.L.Leaf.Leaf g.M.Engine.RegexEngine) (view c.args.value.now) c.args.location.now)
-          (subst (TellsOneOf _) (sym q) c.in_err-shape_of_branches-in-AnyOf.ensures.refused));
+      (λ e q. refuses_own (world g.L.Leaf.Leaf g.M.Engine.RegexEngine) c.args.name.now (codes "anyOf") (view c.args.value.now) c.args.location.now _ _ c.args.meter.now e
+      (subst (IsFor c.args.name.now) c.in-AnyOf.is c.keyword_for.ensures) (own_any_of (world g.L.Leaf.Leaf g.M.Engine.RegexEngine) (view c.args.value.now) c.args.location.now)
+      (subst (TellsOneOf _) (sym q) c.in_err-shape_of_branches-in-AnyOf.ensures.refused));
 }
 
 pub returns-in_err-shape_of_branches-in-OneOf : goal.returns-in_err-shape_of_branches-in-OneOf
@@ -112,9 +112,9 @@ returns-in_err-shape_of_branches-in-OneOf g c = record {
   built = IfOk-from_err c.from_residual-in_err-shape_of_branches-in-OneOf.result _ c.from_residual-in_err-shape_of_branches-in-OneOf.ensures.0;
   refused =
       exit _ _ _ c.from_residual-in_err-shape_of_branches-in-OneOf.ensures.1
-          (λ e q. refuses_own (world g.L.Leaf.Leaf g.M.Engine.RegexEngine) c.args.name.now (codes "oneOf") (view c.args.value.now) c.args.location.now _ _ c.args.meter.now e
-          (subst (IsFor c.args.name.now) c.in-OneOf.is c.keyword_for.ensures) (own_one_of (world g.L.Leaf.Leaf g.M.Engine.RegexEngine) (view c.args.value.now) c.args.location.now)
-          (subst (TellsOneOf _) (sym q) c.in_err-shape_of_branches-in-OneOf.ensures.refused));
+      (λ e q. refuses_own (world g.L.Leaf.Leaf g.M.Engine.RegexEngine) c.args.name.now (codes "oneOf") (view c.args.value.now) c.args.location.now _ _ c.args.meter.now e
+      (subst (IsFor c.args.name.now) c.in-OneOf.is c.keyword_for.ensures) (own_one_of (world g.L.Leaf.Leaf g.M.Engine.RegexEngine) (view c.args.value.now) c.args.location.now)
+      (subst (TellsOneOf _) (sym q) c.in_err-shape_of_branches-in-OneOf.ensures.refused));
 }
 
 pub returns-in_err-clone-in-Not : goal.returns-in_err-clone-in-Not
@@ -126,17 +126,20 @@ returns-in_err-clone-in-Not g c = record {
 pub returns-in-Refused : goal.returns-in-Refused
 returns-in-Refused g c =
     let h = subst (IsFor c.args.name.now) c.in-Refused.is c.keyword_for.ensures in
-    record { built = tt; refused = refuses_name (world g.L.Leaf.Leaf g.M.Engine.RegexEngine) c.args.name.now
-        (view c.args.value.now) c.args.location.now _ c.args.meter.now c.refuse.result h.0 h.1
-        (subst (λ k. TellsOneOf (fault k (view c.args.value.now) [] c.args.location.now ∷ []) c.refuse.result) (kind_of_unsupported c.args.name) c.refuse.ensures) }
+    record {
+      built = tt;
+      refused = refuses_name (world g.L.Leaf.Leaf g.M.Engine.RegexEngine) c.args.name.now
+          (view c.args.value.now) c.args.location.now _ c.args.meter.now c.refuse.result h.0 h.1
+          (subst (λ k. TellsOneOf (fault k (view c.args.value.now) [] c.args.location.now ∷ []) c.refuse.result) (kind_of_unsupported c.args.name) c.refuse.ensures);
+    }
 
 pub returns-in-PropertyNames : goal.returns-in-PropertyNames
 returns-in-PropertyNames g c = record {
   built =
       subst (λ x. IsRead (kit g.L.Leaf.Leaf g.M.Engine.RegexEngine) x (known c.args.neighbours) c.args.name.now
-          (view c.args.value.now) c.args.location.now c.args.meter.now c.args.meter.now) (sym c.shape_of_names.ensures)
+      (view c.args.value.now) c.args.location.now c.args.meter.now c.args.meter.now) (sym c.shape_of_names.ensures)
       (names_are_read (kit g.L.Leaf.Leaf g.M.Engine.RegexEngine) (known c.args.neighbours) c.args.name.now (view c.args.value.now) c.args.location.now c.args.meter.now
-          (subst (IsFor c.args.name.now) c.in-PropertyNames.is c.keyword_for.ensures));
+      (subst (IsFor c.args.name.now) c.in-PropertyNames.is c.keyword_for.ensures));
   refused = tt;
 }
 
@@ -144,11 +147,16 @@ pub returns-in_ok-keys-in-DependentRequired : goal.returns-in_ok-keys-in-Depende
 returns-in_ok-keys-in-DependentRequired g c = record {
   built =
       is_read (kit g.L.Leaf.Leaf g.M.Engine.RegexEngine) _ (known c.args.neighbours) c.args.name.now (codes "dependentRequired")
-          (view c.args.value.now) c.args.location.now c.args.meter.now (subst (IsFor c.args.name.now) c.in-DependentRequired.is c.keyword_for.ensures)
-      (refl, c.in_ok-keys-in-DependentRequired.ensures.object, c.in_ok-keys-in-DependentRequired.ensures.keys, name_lists_are_arrays c.args.location.now
-          (members (view c.args.value.now)) c.in_ok-keys-in-DependentRequired.ensures.right, c.in_ok-keys-in-DependentRequired.ensures.names) tt
+      (view c.args.value.now) c.args.location.now c.args.meter.now (subst (IsFor c.args.name.now) c.in-DependentRequired.is c.keyword_for.ensures) (
+        refl,
+        c.in_ok-keys-in-DependentRequired.ensures.object,
+        c.in_ok-keys-in-DependentRequired.ensures.keys,
+        name_lists_are_arrays c.args.location.now
+            (members (view c.args.value.now)) c.in_ok-keys-in-DependentRequired.ensures.right,
+        c.in_ok-keys-in-DependentRequired.ensures.names,
+      ) tt
       (right_dependent_required (world g.L.Leaf.Leaf g.M.Engine.RegexEngine)
-          (view c.args.value.now) c.args.location.now c.in_ok-keys-in-DependentRequired.ensures.object c.in_ok-keys-in-DependentRequired.ensures.right) refl;
+      (view c.args.value.now) c.args.location.now c.in_ok-keys-in-DependentRequired.ensures.object c.in_ok-keys-in-DependentRequired.ensures.right) refl;
   refused = tt;
 }
 
@@ -156,10 +164,10 @@ pub returns-in_ok-keys-in-Dependencies : goal.returns-in_ok-keys-in-Dependencies
 returns-in_ok-keys-in-Dependencies g c = record {
   built =
       is_read (kit g.L.Leaf.Leaf g.M.Engine.RegexEngine) _ (known c.args.neighbours) c.args.name.now (codes "dependencies")
-          (view c.args.value.now) c.args.location.now c.args.meter.now (subst (IsFor c.args.name.now) c.in-Dependencies.is c.keyword_for.ensures)
+      (view c.args.value.now) c.args.location.now c.args.meter.now (subst (IsFor c.args.name.now) c.in-Dependencies.is c.keyword_for.ensures)
       (refl, c.in_ok-keys-in-Dependencies.ensures.object, c.in_ok-keys-in-Dependencies.ensures.keys, c.in_ok-keys-in-Dependencies.ensures.lists) tt
       (right_dependencies (world g.L.Leaf.Leaf g.M.Engine.RegexEngine)
-          (view c.args.value.now) c.args.location.now c.in_ok-keys-in-Dependencies.ensures.object c.in_ok-keys-in-Dependencies.ensures.texts) refl;
+      (view c.args.value.now) c.args.location.now c.in_ok-keys-in-Dependencies.ensures.object c.in_ok-keys-in-Dependencies.ensures.texts) refl;
   refused = tt;
 }
 
@@ -167,10 +175,10 @@ pub returns-in_ok-keys-in-PropertyDependencies : goal.returns-in_ok-keys-in-Prop
 returns-in_ok-keys-in-PropertyDependencies g c = record {
   built =
       is_read (kit g.L.Leaf.Leaf g.M.Engine.RegexEngine) _ (known c.args.neighbours) c.args.name.now (codes "propertyDependencies")
-          (view c.args.value.now) c.args.location.now c.args.meter.now (subst (IsFor c.args.name.now) c.in-PropertyDependencies.is c.keyword_for.ensures)
+      (view c.args.value.now) c.args.location.now c.args.meter.now (subst (IsFor c.args.name.now) c.in-PropertyDependencies.is c.keyword_for.ensures)
       (refl, c.in_ok-keys-in-PropertyDependencies.ensures.object, c.in_ok-keys-in-PropertyDependencies.ensures.keys, c.in_ok-keys-in-PropertyDependencies.ensures.texts) tt
       (right_property_dependencies (world g.L.Leaf.Leaf g.M.Engine.RegexEngine)
-          (view c.args.value.now) c.args.location.now c.in_ok-keys-in-PropertyDependencies.ensures.object c.in_ok-keys-in-PropertyDependencies.ensures.objects) refl;
+      (view c.args.value.now) c.args.location.now c.in_ok-keys-in-PropertyDependencies.ensures.object c.in_ok-keys-in-PropertyDependencies.ensures.objects) refl;
   refused = tt;
 }
 
@@ -178,10 +186,10 @@ pub returns-in-If : goal.returns-in-If
 returns-in-If g c = record {
   built =
       subst (λ x. IsRead (kit g.L.Leaf.Leaf g.M.Engine.RegexEngine) x (known c.args.neighbours) c.args.name.now
-          (view c.args.value.now) c.args.location.now c.args.meter.now c.args.meter.now) (sym c.shape_beside.ensures)
+      (view c.args.value.now) c.args.location.now c.args.meter.now c.args.meter.now) (sym c.shape_beside.ensures)
       (conditional_is_read (kit g.L.Leaf.Leaf g.M.Engine.RegexEngine) shape.If (known c.args.neighbours) c.args.name.now (codes "if")
-          (view c.args.value.now) c.args.location.now c.args.meter.now (subst (IsFor c.args.name.now) c.in-If.is c.keyword_for.ensures) refl (λ e. e) refl
-          (own_if (world g.L.Leaf.Leaf g.M.Engine.RegexEngine) (view c.args.value.now) c.args.location.now) refl);
+      (view c.args.value.now) c.args.location.now c.args.meter.now (subst (IsFor c.args.name.now) c.in-If.is c.keyword_for.ensures) refl (λ e. e) refl
+      (own_if (world g.L.Leaf.Leaf g.M.Engine.RegexEngine) (view c.args.value.now) c.args.location.now) refl);
   refused = tt;
 }
 
@@ -189,10 +197,10 @@ pub returns-in-Then : goal.returns-in-Then
 returns-in-Then g c = record {
   built =
       subst (λ x. IsRead (kit g.L.Leaf.Leaf g.M.Engine.RegexEngine) x (known c.args.neighbours) c.args.name.now
-          (view c.args.value.now) c.args.location.now c.args.meter.now c.args.meter.now) (sym c.shape_beside-in-Then.ensures)
+      (view c.args.value.now) c.args.location.now c.args.meter.now c.args.meter.now) (sym c.shape_beside-in-Then.ensures)
       (conditional_is_read (kit g.L.Leaf.Leaf g.M.Engine.RegexEngine) shape.Then (known c.args.neighbours) c.args.name.now (codes "then")
-          (view c.args.value.now) c.args.location.now c.args.meter.now (subst (IsFor c.args.name.now) c.in-Then.is c.keyword_for.ensures) refl (λ e. e) refl
-          (own_then (world g.L.Leaf.Leaf g.M.Engine.RegexEngine) (view c.args.value.now) c.args.location.now) refl);
+      (view c.args.value.now) c.args.location.now c.args.meter.now (subst (IsFor c.args.name.now) c.in-Then.is c.keyword_for.ensures) refl (λ e. e) refl
+      (own_then (world g.L.Leaf.Leaf g.M.Engine.RegexEngine) (view c.args.value.now) c.args.location.now) refl);
   refused = tt;
 }
 
@@ -200,10 +208,10 @@ pub returns-in-Else : goal.returns-in-Else
 returns-in-Else g c = record {
   built =
       subst (λ x. IsRead (kit g.L.Leaf.Leaf g.M.Engine.RegexEngine) x (known c.args.neighbours) c.args.name.now
-          (view c.args.value.now) c.args.location.now c.args.meter.now c.args.meter.now) (sym c.shape_beside-in-Else.ensures)
+      (view c.args.value.now) c.args.location.now c.args.meter.now c.args.meter.now) (sym c.shape_beside-in-Else.ensures)
       (conditional_is_read (kit g.L.Leaf.Leaf g.M.Engine.RegexEngine) shape.Else (known c.args.neighbours) c.args.name.now (codes "else")
-          (view c.args.value.now) c.args.location.now c.args.meter.now (subst (IsFor c.args.name.now) c.in-Else.is c.keyword_for.ensures) refl (λ e. e) refl
-          (own_else (world g.L.Leaf.Leaf g.M.Engine.RegexEngine) (view c.args.value.now) c.args.location.now) refl);
+      (view c.args.value.now) c.args.location.now c.args.meter.now (subst (IsFor c.args.name.now) c.in-Else.is c.keyword_for.ensures) refl (λ e. e) refl
+      (own_else (world g.L.Leaf.Leaf g.M.Engine.RegexEngine) (view c.args.value.now) c.args.location.now) refl);
   refused = tt;
 }
 
@@ -217,9 +225,9 @@ pub returns-in_ok-names_of_object-in-Properties : goal.returns-in_ok-names_of_ob
 returns-in_ok-names_of_object-in-Properties g c = record {
   built =
       is_read (kit g.L.Leaf.Leaf g.M.Engine.RegexEngine) _ (known c.args.neighbours) c.args.name.now (codes "properties")
-          (view c.args.value.now) c.args.location.now c.args.meter.now (subst (IsFor c.args.name.now) c.in-Properties.is c.keyword_for.ensures)
-          (refl, c.in_ok-names_of_object-in-Properties.ensures.object, c.in_ok-names_of_object-in-Properties.ensures.names) tt
-          (right_properties (world g.L.Leaf.Leaf g.M.Engine.RegexEngine) (view c.args.value.now) c.args.location.now c.in_ok-names_of_object-in-Properties.ensures.object) refl;
+      (view c.args.value.now) c.args.location.now c.args.meter.now (subst (IsFor c.args.name.now) c.in-Properties.is c.keyword_for.ensures)
+      (refl, c.in_ok-names_of_object-in-Properties.ensures.object, c.in_ok-names_of_object-in-Properties.ensures.names) tt
+      (right_properties (world g.L.Leaf.Leaf g.M.Engine.RegexEngine) (view c.args.value.now) c.args.location.now c.in_ok-names_of_object-in-Properties.ensures.object) refl;
   refused = tt;
 }
 
@@ -227,9 +235,9 @@ pub returns-in_ok-names_of_object-in-DependentSchemas : goal.returns-in_ok-names
 returns-in_ok-names_of_object-in-DependentSchemas g c = record {
   built =
       is_read (kit g.L.Leaf.Leaf g.M.Engine.RegexEngine) _ (known c.args.neighbours) c.args.name.now (codes "dependentSchemas")
-          (view c.args.value.now) c.args.location.now c.args.meter.now (subst (IsFor c.args.name.now) c.in-DependentSchemas.is c.keyword_for.ensures)
-          (refl, c.in_ok-names_of_object-in-DependentSchemas.ensures.object, c.in_ok-names_of_object-in-DependentSchemas.ensures.names) tt
-          (right_dependent_schemas (world g.L.Leaf.Leaf g.M.Engine.RegexEngine) (view c.args.value.now) c.args.location.now c.in_ok-names_of_object-in-DependentSchemas.ensures.object) refl;
+      (view c.args.value.now) c.args.location.now c.args.meter.now (subst (IsFor c.args.name.now) c.in-DependentSchemas.is c.keyword_for.ensures)
+      (refl, c.in_ok-names_of_object-in-DependentSchemas.ensures.object, c.in_ok-names_of_object-in-DependentSchemas.ensures.names) tt
+      (right_dependent_schemas (world g.L.Leaf.Leaf g.M.Engine.RegexEngine) (view c.args.value.now) c.args.location.now c.in_ok-names_of_object-in-DependentSchemas.ensures.object) refl;
   refused = tt;
 }
 
@@ -237,9 +245,12 @@ pub returns-in_ok-texts_of_array-in-Required : goal.returns-in_ok-texts_of_array
 returns-in_ok-texts_of_array-in-Required g c = record {
   built =
       is_read (kit g.L.Leaf.Leaf g.M.Engine.RegexEngine) _ (known c.args.neighbours) c.args.name.now (codes "required") (view c.args.value.now) c.args.location.now c.args.meter.now
-          (subst (IsFor c.args.name.now) c.in-Required.is c.keyword_for.ensures) (refl, c.in_ok-texts_of_array-in-Required.ensures.array,
-          c.in_ok-texts_of_array-in-Required.ensures.names) tt (right_required (world g.L.Leaf.Leaf g.M.Engine.RegexEngine)
-          (view c.args.value.now) c.args.location.now c.in_ok-texts_of_array-in-Required.ensures.array c.in_ok-texts_of_array-in-Required.ensures.texts) refl;
+      (subst (IsFor c.args.name.now) c.in-Required.is c.keyword_for.ensures) (
+        refl,
+        c.in_ok-texts_of_array-in-Required.ensures.array,
+        c.in_ok-texts_of_array-in-Required.ensures.names,
+      ) tt (right_required (world g.L.Leaf.Leaf g.M.Engine.RegexEngine)
+      (view c.args.value.now) c.args.location.now c.in_ok-texts_of_array-in-Required.ensures.array c.in_ok-texts_of_array-in-Required.ensures.texts) refl;
   refused = tt;
 }
 
@@ -247,11 +258,11 @@ pub returns-in_ok-shape_of_branches-in-AllOf : goal.returns-in_ok-shape_of_branc
 returns-in_ok-shape_of_branches-in-AllOf g c = record {
   built =
       subst (λ x. IsRead (kit g.L.Leaf.Leaf g.M.Engine.RegexEngine) x (known c.args.neighbours) c.args.name.now
-          (view c.args.value.now) c.args.location.now c.args.meter.now c.args.meter.now) (sym c.in_ok-shape_of_branches-in-AllOf.ensures.same)
+      (view c.args.value.now) c.args.location.now c.args.meter.now c.args.meter.now) (sym c.in_ok-shape_of_branches-in-AllOf.ensures.same)
       (is_read (kit g.L.Leaf.Leaf g.M.Engine.RegexEngine) shape.AllOf (known c.args.neighbours) c.args.name.now (codes "allOf")
-          (view c.args.value.now) c.args.location.now c.args.meter.now (subst (IsFor c.args.name.now) c.in-AllOf.is c.keyword_for.ensures)
-          (refl, c.in_ok-shape_of_branches-in-AllOf.ensures.array) tt (right_all_of (world g.L.Leaf.Leaf g.M.Engine.RegexEngine)
-          (view c.args.value.now) c.args.location.now c.in_ok-shape_of_branches-in-AllOf.ensures.array) refl);
+      (view c.args.value.now) c.args.location.now c.args.meter.now (subst (IsFor c.args.name.now) c.in-AllOf.is c.keyword_for.ensures)
+      (refl, c.in_ok-shape_of_branches-in-AllOf.ensures.array) tt (right_all_of (world g.L.Leaf.Leaf g.M.Engine.RegexEngine)
+      (view c.args.value.now) c.args.location.now c.in_ok-shape_of_branches-in-AllOf.ensures.array) refl);
   refused = tt;
 }
 
@@ -259,11 +270,11 @@ pub returns-in_ok-shape_of_branches-in-AnyOf : goal.returns-in_ok-shape_of_branc
 returns-in_ok-shape_of_branches-in-AnyOf g c = record {
   built =
       subst (λ x. IsRead (kit g.L.Leaf.Leaf g.M.Engine.RegexEngine) x (known c.args.neighbours) c.args.name.now
-          (view c.args.value.now) c.args.location.now c.args.meter.now c.args.meter.now) (sym c.in_ok-shape_of_branches-in-AnyOf.ensures.same)
+      (view c.args.value.now) c.args.location.now c.args.meter.now c.args.meter.now) (sym c.in_ok-shape_of_branches-in-AnyOf.ensures.same)
       (is_read (kit g.L.Leaf.Leaf g.M.Engine.RegexEngine) shape.AnyOf (known c.args.neighbours) c.args.name.now (codes "anyOf")
-          (view c.args.value.now) c.args.location.now c.args.meter.now (subst (IsFor c.args.name.now) c.in-AnyOf.is c.keyword_for.ensures)
-          (refl, c.in_ok-shape_of_branches-in-AnyOf.ensures.array) tt (right_any_of (world g.L.Leaf.Leaf g.M.Engine.RegexEngine)
-          (view c.args.value.now) c.args.location.now c.in_ok-shape_of_branches-in-AnyOf.ensures.array) refl);
+      (view c.args.value.now) c.args.location.now c.args.meter.now (subst (IsFor c.args.name.now) c.in-AnyOf.is c.keyword_for.ensures)
+      (refl, c.in_ok-shape_of_branches-in-AnyOf.ensures.array) tt (right_any_of (world g.L.Leaf.Leaf g.M.Engine.RegexEngine)
+      (view c.args.value.now) c.args.location.now c.in_ok-shape_of_branches-in-AnyOf.ensures.array) refl);
   refused = tt;
 }
 
@@ -271,11 +282,11 @@ pub returns-in_ok-shape_of_branches-in-OneOf : goal.returns-in_ok-shape_of_branc
 returns-in_ok-shape_of_branches-in-OneOf g c = record {
   built =
       subst (λ x. IsRead (kit g.L.Leaf.Leaf g.M.Engine.RegexEngine) x (known c.args.neighbours) c.args.name.now
-          (view c.args.value.now) c.args.location.now c.args.meter.now c.args.meter.now) (sym c.in_ok-shape_of_branches-in-OneOf.ensures.same)
+      (view c.args.value.now) c.args.location.now c.args.meter.now c.args.meter.now) (sym c.in_ok-shape_of_branches-in-OneOf.ensures.same)
       (is_read (kit g.L.Leaf.Leaf g.M.Engine.RegexEngine) shape.OneOf (known c.args.neighbours) c.args.name.now (codes "oneOf")
-          (view c.args.value.now) c.args.location.now c.args.meter.now (subst (IsFor c.args.name.now) c.in-OneOf.is c.keyword_for.ensures)
-          (refl, c.in_ok-shape_of_branches-in-OneOf.ensures.array) tt (right_one_of (world g.L.Leaf.Leaf g.M.Engine.RegexEngine)
-          (view c.args.value.now) c.args.location.now c.in_ok-shape_of_branches-in-OneOf.ensures.array) refl);
+      (view c.args.value.now) c.args.location.now c.args.meter.now (subst (IsFor c.args.name.now) c.in-OneOf.is c.keyword_for.ensures)
+      (refl, c.in_ok-shape_of_branches-in-OneOf.ensures.array) tt (right_one_of (world g.L.Leaf.Leaf g.M.Engine.RegexEngine)
+      (view c.args.value.now) c.args.location.now c.in_ok-shape_of_branches-in-OneOf.ensures.array) refl);
   refused = tt;
 }
 
@@ -283,9 +294,9 @@ pub returns-in_ok-shape_of_others-in-AdditionalProperties : goal.returns-in_ok-s
 returns-in_ok-shape_of_others-in-AdditionalProperties g c = record {
   built =
       subst (λ x. IsRead (kit g.L.Leaf.Leaf g.M.Engine.RegexEngine) x (known c.args.neighbours) c.args.name.now
-          (view c.args.value.now) c.args.location.now c.args.meter.now c.args.meter.now) (sym c.in_ok-shape_of_others-in-AdditionalProperties.ensures.shape)
+      (view c.args.value.now) c.args.location.now c.args.meter.now c.args.meter.now) (sym c.in_ok-shape_of_others-in-AdditionalProperties.ensures.shape)
       (others_are_read (kit g.L.Leaf.Leaf g.M.Engine.RegexEngine) (known c.args.neighbours) c.args.name.now (view c.args.value.now) c.args.location.now c.args.meter.now
-          (subst (IsFor c.args.name.now) c.in-AdditionalProperties.is c.keyword_for.ensures) c.in_ok-shape_of_others-in-AdditionalProperties.ensures.rule);
+      (subst (IsFor c.args.name.now) c.in-AdditionalProperties.is c.keyword_for.ensures) c.in_ok-shape_of_others-in-AdditionalProperties.ensures.rule);
   refused = tt;
 }
 
@@ -293,8 +304,8 @@ pub returns-in_ok-clone-in-Not : goal.returns-in_ok-clone-in-Not
 returns-in_ok-clone-in-Not g c = record {
   built =
       is_read (kit g.L.Leaf.Leaf g.M.Engine.RegexEngine) _ (known c.args.neighbours) c.args.name.now (codes "not") (view c.args.value.now) c.args.location.now c.args.meter.now
-          (subst (IsFor c.args.name.now) c.in-Not.is c.keyword_for.ensures) (refl, c.in_ok-clone-in-Not.ensures.cases) tt
-          (own_not (world g.L.Leaf.Leaf g.M.Engine.RegexEngine) (view c.args.value.now) c.args.location.now) refl;
+      (subst (IsFor c.args.name.now) c.in-Not.is c.keyword_for.ensures) (refl, c.in_ok-clone-in-Not.ensures.cases) tt
+      (own_not (world g.L.Leaf.Leaf g.M.Engine.RegexEngine) (view c.args.value.now) c.args.location.now) refl;
   refused = tt;
 }
 
@@ -302,8 +313,8 @@ pub returns-in_ok-shape_of_patterns-in-PatternProperties : goal.returns-in_ok-sh
 returns-in_ok-shape_of_patterns-in-PatternProperties g c = record {
   built =
       subst (λ n. IsRead (kit g.L.Leaf.Leaf g.M.Engine.RegexEngine) c.in_ok-shape_of_patterns-in-PatternProperties.field-0 (known c.args.neighbours) n
-          (view c.args.value.now) c.args.location.now c.args.meter.now c.shape_of_patterns.new.meter)
-          (sym (subst (IsFor c.args.name.now) c.in-PatternProperties.is c.keyword_for.ensures)) c.in_ok-shape_of_patterns-in-PatternProperties.ensures.built;
+      (view c.args.value.now) c.args.location.now c.args.meter.now c.shape_of_patterns.new.meter)
+      (sym (subst (IsFor c.args.name.now) c.in-PatternProperties.is c.keyword_for.ensures)) c.in_ok-shape_of_patterns-in-PatternProperties.ensures.built;
   refused = tt;
 }
 
@@ -312,8 +323,8 @@ returns-in_err-shape_of_patterns-in-PatternProperties g c = record {
   built = IfOk-from_err c.from_residual-in_err-shape_of_patterns-in-PatternProperties.result _ c.from_residual-in_err-shape_of_patterns-in-PatternProperties.ensures.0;
   refused =
       exit _ _ _ c.from_residual-in_err-shape_of_patterns-in-PatternProperties.ensures.1
-          (λ e q. subst (λ n. RefusesKeyword (kit g.L.Leaf.Leaf g.M.Engine.RegexEngine) (known c.args.neighbours) n
-          (view c.args.value.now) c.args.location.now c.args.meter.now c.shape_of_patterns.new.meter e) (sym (subst (IsFor c.args.name.now) c.in-PatternProperties.is c.keyword_for.ensures))
+      (λ e q. subst (λ n. RefusesKeyword (kit g.L.Leaf.Leaf g.M.Engine.RegexEngine) (known c.args.neighbours) n
+      (view c.args.value.now) c.args.location.now c.args.meter.now c.shape_of_patterns.new.meter e) (sym (subst (IsFor c.args.name.now) c.in-PatternProperties.is c.keyword_for.ensures))
       (subst (RefusesKeyword (kit g.L.Leaf.Leaf g.M.Engine.RegexEngine) (known c.args.neighbours) (codes "patternProperties") (view c.args.value.now) c.args.location.now c.args.meter.now c.shape_of_patterns.new.meter) (sym q) c.in_err-shape_of_patterns-in-PatternProperties.ensures.refused));
 }
 
@@ -322,8 +333,8 @@ returns-in_err-read_other-in-Other g c = record {
   built = IfOk-from_err c.from_residual-in_err-read_other-in-Other.result _ c.from_residual-in_err-read_other-in-Other.ensures.0;
   refused =
       exit _ _ _ c.from_residual-in_err-read_other-in-Other.ensures.1 (λ e q. subst
-          (RefusesKeyword (kit g.L.Leaf.Leaf g.M.Engine.RegexEngine) (known c.args.neighbours) c.args.name.now
-          (view c.args.value.now) c.args.location.now c.args.meter.now c.read_other.new.meter) (sym q) (c.in_err-read_other-in-Other.ensures.refused (known c.args.neighbours)));
+      (RefusesKeyword (kit g.L.Leaf.Leaf g.M.Engine.RegexEngine) (known c.args.neighbours) c.args.name.now
+      (view c.args.value.now) c.args.location.now c.args.meter.now c.read_other.new.meter) (sym q) (c.in_err-read_other-in-Other.ensures.refused (known c.args.neighbours)));
 }
 
 pub read_other-requires : goal.read_other-requires

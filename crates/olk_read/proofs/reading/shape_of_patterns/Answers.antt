@@ -13,32 +13,32 @@ use Rattle.olk_read.proofs.reading.shape_of_patterns.Goals as goal
 pub returns-in_err-entries-clause-refused : goal.returns-in_err-entries-clause-refused
 returns-in_err-entries-clause-refused g c =
     exit _ _ _ c.from_residual.ensures.1 (λ e q. refuses_own (world g.L.Leaf.Leaf g.M.Engine.RegexEngine) (codes "patternProperties") (codes "patternProperties")
-        (view c.args.value.now) c.args.location.now _ _ c.args.meter.now e refl
-        (own_pattern_properties (world g.L.Leaf.Leaf g.M.Engine.RegexEngine) (view c.args.value.now) c.args.location.now)
-        (tells_left _ _ e (subst (TellsOneOf _) (sym q) c.in_err-entries.ensures.refused)))
+    (view c.args.value.now) c.args.location.now _ _ c.args.meter.now e refl
+    (own_pattern_properties (world g.L.Leaf.Leaf g.M.Engine.RegexEngine) (view c.args.value.now) c.args.location.now)
+    (tells_left _ _ e (subst (TellsOneOf _) (sym q) c.in_err-entries.ensures.refused)))
 
 pub returns-in_err-patterns-clause-refused : goal.returns-in_err-patterns-clause-refused
 returns-in_err-patterns-clause-refused g c =
     exit _ _ _ c.from_residual-in_err-patterns.ensures.1 (λ e q. refuses_patterns (kit g.L.Leaf.Leaf g.M.Engine.RegexEngine) (known c.args.neighbours)
-        (view c.args.value.now) c.args.location.now (ap is_object c.in_ok-entries.ensures.object) c.args.meter.now c.patterns_of_entries.new.meter e
-        (subst (λ d. RefusesPatterns (kit g.L.Leaf.Leaf g.M.Engine.RegexEngine) (members d) c.args.location.now c.args.meter.now c.patterns_of_entries.new.meter e)
-        (sym c.in_ok-entries.ensures.object) (subst (λ x. RefusesPatterns (kit g.L.Leaf.Leaf g.M.Engine.RegexEngine)
-        (listed (members_view c.in_ok-entries.entries.now.entries)) c.args.location.now c.args.meter.now c.patterns_of_entries.new.meter x) (sym q) c.in_err-patterns.ensures.refused)))
+    (view c.args.value.now) c.args.location.now (ap is_object c.in_ok-entries.ensures.object) c.args.meter.now c.patterns_of_entries.new.meter e
+    (subst (λ d. RefusesPatterns (kit g.L.Leaf.Leaf g.M.Engine.RegexEngine) (members d) c.args.location.now c.args.meter.now c.patterns_of_entries.new.meter e)
+    (sym c.in_ok-entries.ensures.object) (subst (λ x. RefusesPatterns (kit g.L.Leaf.Leaf g.M.Engine.RegexEngine)
+    (listed (members_view c.in_ok-entries.entries.now.entries)) c.args.location.now c.args.meter.now c.patterns_of_entries.new.meter x) (sym q) c.in_err-patterns.ensures.refused)))
 
 pub returns-in_err-table-clause-refused : goal.returns-in_err-table-clause-refused
 returns-in_err-table-clause-refused g c =
     exit _ _ _ c.from_residual-in_err-table.ensures.1 (λ e q. table_without_memory (kit g.L.Leaf.Leaf g.M.Engine.RegexEngine) (known c.args.neighbours)
-        (view c.args.value.now) c.args.location.now (ap is_object c.in_ok-entries.ensures.object) c.args.meter.now c.patterns_of_entries.new.meter c.in_ok-patterns.patterns
+    (view c.args.value.now) c.args.location.now (ap is_object c.in_ok-entries.ensures.object) c.args.meter.now c.patterns_of_entries.new.meter c.in_ok-patterns.patterns
     (subst (λ d. PatternsAreRead (kit g.L.Leaf.Leaf g.M.Engine.RegexEngine) c.in_ok-patterns.patterns.items
-        (members d) c.args.location.now c.args.meter.now c.patterns_of_entries.new.meter)
-        (sym c.in_ok-entries.ensures.object) c.in_ok-patterns.ensures.read) c.as_slice.result.now c.as_slice.ensures.value
+    (members d) c.args.location.now c.args.meter.now c.patterns_of_entries.new.meter)
+    (sym c.in_ok-entries.ensures.object) c.in_ok-patterns.ensures.read) c.as_slice.result.now c.as_slice.ensures.value
     c.table_of_declared.new.meter e _ q c.in_err-table.ensures.asked_at_most)
 
 pub returns-clause-built : goal.returns-clause-built
 returns-clause-built g c =
     patterns_are_read (kit g.L.Leaf.Leaf g.M.Engine.RegexEngine) (known c.args.neighbours) (view c.args.value.now) c.args.location.now
-        (ap is_object c.in_ok-entries.ensures.object) c.args.meter.now c.patterns_of_entries.new.meter c.in_ok-patterns.patterns
+    (ap is_object c.in_ok-entries.ensures.object) c.args.meter.now c.patterns_of_entries.new.meter c.in_ok-patterns.patterns
     (subst (λ d. PatternsAreRead (kit g.L.Leaf.Leaf g.M.Engine.RegexEngine) c.in_ok-patterns.patterns.items
-        (members d) c.args.location.now c.args.meter.now c.patterns_of_entries.new.meter)
-        (sym c.in_ok-entries.ensures.object) c.in_ok-patterns.ensures.read) c.as_slice.result.now c.as_slice.ensures.value
+    (members d) c.args.location.now c.args.meter.now c.patterns_of_entries.new.meter)
+    (sym c.in_ok-entries.ensures.object) c.in_ok-patterns.ensures.read) c.as_slice.result.now c.as_slice.ensures.value
     c.table_of_declared.new.meter c.in_ok-table.table c.in_ok-table.ensures.names c.in_ok-table.ensures.answers c.in_ok-table.ensures.asked

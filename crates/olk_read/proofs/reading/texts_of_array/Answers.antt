@@ -9,7 +9,7 @@ use Rattle.olk_read.proofs.reading.texts_of_array.Goals as goal
 pub returns-in_err-items-clause-refused : goal.returns-in_err-items-clause-refused
 returns-in_err-items-clause-refused c =
     exit _ _ _ c.from_residual.ensures.1 (λ e q. tells_left (unless_array (view c.args.value.now) c.args.location.now) (not_a_text (view c.args.value.now) c.args.location.now) e
-        (subst (TellsOneOf _) (sym q) c.in_err-items.ensures.refused))
+    (subst (TellsOneOf _) (sym q) c.in_err-items.ensures.refused))
 
 pub returns-clause-names : goal.returns-clause-names
 returns-clause-names c = rw c.in_ok-items.ensures.array c.texts_of_items.ensures.names
@@ -20,4 +20,4 @@ returns-clause-texts c = rw c.in_ok-items.ensures.array c.texts_of_items.ensures
 pub returns-clause-refused : goal.returns-clause-refused
 returns-clause-refused c =
     IfErr-weaker c.texts_of_items.result _ _ (tells_right (unless_array (view c.args.value.now) c.args.location.now) (not_a_text (view c.args.value.now) c.args.location.now))
-        (rw c.in_ok-items.ensures.array c.texts_of_items.ensures.refused)
+    (rw c.in_ok-items.ensures.array c.texts_of_items.ensures.refused)

@@ -18,8 +18,8 @@ loop-key-preserved c =
 pub returns-in_err-names-clause-refused : goal.returns-in_err-names-clause-refused
 returns-in_err-names-clause-refused c =
     exit _ _ _ c.from_residual-in_err-names.ensures.1 (λ e q. entry_refused _ _ _ _ _ _ _ _ c.in-Some.ensures.steps _ e c.loop-key.invariant
-        (subst (λ P. TellsOneOf (unless_object (view c.in-Some.value.now) P) e) (c.in_ok-place.ensures ∙ ap (λ n. c.args.location.now // n) c.as_str.ensures.value)
-        (subst (TellsOneOf _) (sym q) c.in_err-names.ensures.refused)))
+    (subst (λ P. TellsOneOf (unless_object (view c.in-Some.value.now) P) e) (c.in_ok-place.ensures ∙ ap (λ n. c.args.location.now // n) c.as_str.ensures.value)
+    (subst (TellsOneOf _) (sym q) c.in_err-names.ensures.refused)))
 
 pub returns-clause-names : goal.returns-clause-names
 returns-clause-names c = sym (each_as_it_is c.loop-key.texts.items) ∙ entries_shown _ _ _ _ _ _ c.loop-key.invariant c.in-None.ensures.steps.0

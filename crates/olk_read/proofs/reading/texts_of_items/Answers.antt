@@ -10,15 +10,15 @@ loop-item-preserved c =
 pub returns-in_default-clause-refused : goal.returns-in_default-clause-refused
 returns-in_default-clause-refused c =
     tells_same (first_no_text c.deref-item-items.result.now c.loop-item.item-index c.args.items.now.items c.deref-item-items.ensures.value
-        (map string_bytes c.loop-item.names.items) c.loop-item.invariant c.args.place.now c.item-item.result c.loop-item-test.true c.item-item.is
-        (sym c.in_default.ensures)) c.refuse_type.result c.refuse_type.ensures
+    (map string_bytes c.loop-item.names.items) c.loop-item.invariant c.args.place.now c.item-item.result c.loop-item-test.true c.item-item.is
+    (sym c.in_default.ensures)) c.refuse_type.result c.refuse_type.ensures
 
 pub returns-clause-names : goal.returns-clause-names
 returns-clause-names c =
     all_are_texts c.deref-item-items.result.now c.loop-item.item-index c.args.items.now.items c.deref-item-items.ensures.value
-        (map string_bytes c.loop-item.names.items) c.loop-item.invariant c.loop-item-test.false
+    (map string_bytes c.loop-item.names.items) c.loop-item.invariant c.loop-item-test.false
 
 pub returns-clause-texts : goal.returns-clause-texts
 returns-clause-texts c =
     none_is_no_text c.deref-item-items.result.now c.loop-item.item-index c.args.items.now.items c.deref-item-items.ensures.value
-        (map string_bytes c.loop-item.names.items) c.loop-item.invariant c.loop-item-test.false c.args.place.now
+    (map string_bytes c.loop-item.names.items) c.loop-item.invariant c.loop-item-test.false c.args.place.now

@@ -7,12 +7,12 @@ use Rattle.olk_tree.proofs.declared.next_member.Goals as goal
 pub returns-in-Some-found : goal.returns-in-Some-found
 returns-in-Some-found g c =
     c.loop-name.invariant ∙ member_met (zip c.args.names.now c.args.nodes.now) c.as_str-name.result.now c.in-Some.ensures.steps c.as_str-name.ensures.value c.in-Some-found.node.now
-        (sym (ap option_copied c.in-Some-found.is) ∙ c.node_from-next.ensures)
+    (sym (ap option_copied c.in-Some-found.is) ∙ c.node_from-next.ensures)
 
 pub loop-name-preserved : goal.loop-name-preserved
 loop-name-preserved g c =
     c.loop-name.invariant ∙ member_passed (zip c.args.names.now c.args.nodes.now) c.as_str-name.result.now c.in-Some.ensures.steps c.as_str-name.ensures.value
-        (sym (ap option_copied c.in_default-found.is) ∙ c.node_from-next.ensures)
+    (sym (ap option_copied c.in_default-found.is) ∙ c.node_from-next.ensures)
 
 pub returns : goal.returns
 returns g c = c.loop-name.invariant ∙ no_member_left (zip c.args.names.now c.args.nodes.now) c.in_default.ensures.steps.0

@@ -15,9 +15,9 @@ pub loop-name-preserved : goal.loop-name-preserved
 loop-name-preserved g c =
     c.loop-name.invariant
     ∙ name_passed (listed (members_view c.args.members.now.entries)) _ _
-        (pairs_more c.loop-name.names c.next.new.self c.next.result _ c.in-Some.is c.next.ensures.steps c.as_str-name.result.now c.as_str-name.ensures.value) c.in_default-member.ensures
+    (pairs_more c.loop-name.names c.next.new.self c.next.result _ c.in-Some.is c.next.ensures.steps c.as_str-name.result.now c.as_str-name.ensures.value) c.in_default-member.ensures
 
 pub returns : goal.returns
 returns g c =
     c.loop-name.invariant ∙ no_name_left (listed (members_view c.args.members.now.entries)) _ _
-        (either_empty_from_Zip c.loop-name.names c.next.new.self c.next.result c.in_default.is c.next.ensures.steps)
+    (either_empty_from_Zip c.loop-name.names c.next.new.self c.next.result c.in_default.is c.next.ensures.steps)

@@ -6,5 +6,5 @@ pub returns : goal.returns
 returns c true =
     let h = names_are c.args.names.now c.args.names.now (map string_bytes c.args.names.now) refl refl c.requires in
     after_here (map string_bytes c.args.names.now) c.args.name.now c.requires (omega (arith, same_length h))
-        (compared_at h c.args.hint _ _ c.args.name.now Greater c.index-names-hint.is c.as_str.ensures.value (omega arith)
-        (sym (comes_after c.as_str.result.now c.args.name.now (c.starts_before.ensures true))))
+    (compared_at h c.args.hint _ _ c.args.name.now Greater c.index-names-hint.is c.as_str.ensures.value (omega arith)
+    (sym (comes_after c.as_str.result.now c.args.name.now (c.starts_before.ensures true))))

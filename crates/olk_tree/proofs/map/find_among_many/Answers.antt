@@ -14,26 +14,28 @@ find_before-requires-in-Greater-clause-later c =
     let h = names_are c.args.names.now c.args.names.now (map string_bytes c.args.names.now) refl refl c.requires in
     subst (λ ks. IsAfter ks c.args.hint c.args.name.now) h.as_seen
     (after_here (map string_bytes c.args.names.now) c.args.name.now h.ascend (omega (arith, same_length h))
-        (compared_at h c.args.hint _ _ c.args.name.now Greater c.index-names-hint.is c.as_str.ensures.value (omega arith) c.in-Greater.ensures))
+    (compared_at h c.args.hint _ _ c.args.name.now Greater c.index-names-hint.is c.as_str.ensures.value (omega arith) c.in-Greater.ensures))
 
 pub returns-in-Equal : goal.returns-in-Equal
 returns-in-Equal c =
     let h = names_are c.args.names.now c.args.names.now (map string_bytes c.args.names.now) refl refl c.requires in
-    stands_some (map string_bytes c.args.names.now) c.args.name.now h.ascend record { inside = omega (arith, same_length h);
-        here = compared_at h c.args.hint _ _ c.args.name.now Equal c.index-names-hint.is c.as_str.ensures.value (omega arith) c.in-Equal.ensures }
+    stands_some (map string_bytes c.args.names.now) c.args.name.now h.ascend record {
+      inside = omega (arith, same_length h);
+      here = compared_at h c.args.hint _ _ c.args.name.now Equal c.index-names-hint.is c.as_str.ensures.value (omega arith) c.in-Equal.ensures;
+    }
 
 pub returns-in-Ok : goal.returns-in-Ok
 returns-in-Ok c =
     let h = names_are c.args.names.now c.args.names.now (map string_bytes c.args.names.now) refl refl c.requires in
     stands_some (map string_bytes c.args.names.now) c.args.name.now h.ascend
-        (stands_in h c.args.name.now c.args.hint c.in-Ok.place (omega arith)
-        (compared_at h c.args.hint _ _ c.args.name.now Less c.index-names-hint.is c.as_str.ensures.value (omega arith) c.in-Less.ensures) c.in-Ok.ensures)
+    (stands_in h c.args.name.now c.args.hint c.in-Ok.place (omega arith)
+    (compared_at h c.args.hint _ _ c.args.name.now Less c.index-names-hint.is c.as_str.ensures.value (omega arith) c.in-Less.ensures) c.in-Ok.ensures)
 
 pub returns-in-Err : goal.returns-in-Err
 returns-in-Err c =
     let h = names_are c.args.names.now c.args.names.now (map string_bytes c.args.names.now) refl refl c.requires in
     parts_none (map string_bytes c.args.names.now) c.args.name.now (parts_in h c.args.name.now c.args.hint c.in-Err.place (omega arith)
-        (compared_at h c.args.hint _ _ c.args.name.now Less c.index-names-hint.is c.as_str.ensures.value (omega arith) c.in-Less.ensures) c.in-Err.ensures)
+    (compared_at h c.args.hint _ _ c.args.name.now Less c.index-names-hint.is c.as_str.ensures.value (omega arith) c.in-Less.ensures) c.in-Err.ensures)
 
 pub returns-in-Greater : goal.returns-in-Greater
 returns-in-Greater c = search rules

@@ -6,4 +6,4 @@ pub returns-in-None : goal.returns-in-None
 returns-in-None c =
     let h = names_are c.args.names.now c.args.names.now (map string_bytes c.args.names.now) refl refl c.requires in
     missed_none (map string_bytes c.args.names.now) c.args.name.now {k = length c.args.names.now} {end = length c.args.names.now}
-        (omega (arith, same_length h)) c.in-None.ensures (λ i from to inside. absurd (omega (arith, from, to)))
+    (omega (arith, same_length h)) c.in-None.ensures (λ i from to inside. absurd (omega (arith, from, to)))

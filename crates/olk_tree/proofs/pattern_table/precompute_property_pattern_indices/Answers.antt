@@ -26,10 +26,10 @@ pub returns-clause-asked : goal.returns-clause-asked
 returns-clause-asked g c =
     let members = listed (members_view c.args.properties.now.entries) in
     c.in_ok-rows.ensures.asked ∙ ap (λ n. count_asks (n * how_many_cost g.R.RegexEngine.costs c.args.patterns.now) c.args.meter.now)
-        (as_many c.as_slice.result.now c.in_ok-names.names members c.as_slice.ensures c.in_ok-names.ensures)
+    (as_many c.as_slice.result.now c.in_ok-names.names members c.as_slice.ensures c.in_ok-names.ensures)
 
 pub returns-in_err-rows-clause-asked_at_most : goal.returns-in_err-rows-clause-asked_at_most
 returns-in_err-rows-clause-asked_at_most g c =
     let members = listed (members_view c.args.properties.now.entries) in
     on_err _ (subst (λ n. AsksAtMost (n * how_many_cost g.R.RegexEngine.costs c.args.patterns.now) c.args.meter.now c.rows_of.new.meter)
-        (as_many c.as_slice.result.now c.in_ok-names.names members c.as_slice.ensures c.in_ok-names.ensures) c.in_err-rows.ensures.asked_at_most)
+    (as_many c.as_slice.result.now c.in_ok-names.names members c.as_slice.ensures c.in_ok-names.ensures) c.in_err-rows.ensures.asked_at_most)

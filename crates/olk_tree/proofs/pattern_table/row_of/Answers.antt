@@ -11,7 +11,7 @@ loop-index-preserved g c =
 pub returns-clause-answers : goal.returns-clause-answers
 returns-clause-answers g c =
     all_noted g.R.RegexEngine.answers g.R.RegexEngine.costs c.args.patterns.now c.args.name.now c.args.meter.now c.loop-index.index c.loop-index.row c.loop-index.meter
-        (omega arith) c.loop-index.invariant
+    (omega arith) c.loop-index.invariant
 
 pub note-requires-clause-word : goal.note-requires-clause-word
 note-requires-clause-word g c = c.loop-index.invariant.words c.loop-index.index c.loop-index-test.true

@@ -25,7 +25,7 @@ loop-name-preserved g c = record {
 pub returns-clause-answers : goal.returns-clause-answers
 returns-clause-answers g c =
     subst (λ ns. AllZip (IsRowOf g.R.RegexEngine.answers c.args.patterns.now) (map string_bytes ns) c.loop-name.rows.items)
-        (take_all c.loop-name.name-index c.args.names.now (omega arith)) c.loop-name.invariant.rows
+    (take_all c.loop-name.name-index c.args.names.now (omega arith)) c.loop-name.invariant.rows
 
 pub returns-clause-asked : goal.returns-clause-asked
 returns-clause-asked g c =

@@ -10,7 +10,7 @@ use Rattle.olk_check.proofs.dependencies.DependenciesIsValid.is_valid.Goals as g
 pub returns-in-None : goal.returns-in-None
 returns-in-None g c =
     subst (λ q. Asks c.args.ctx.now c.args.ctx.now q true) (sym (ap (every (λ n. g.N.Means.means n (data_of c.args.node)))
-        (none_due (data_of c.args.node) c.in-None.ensures (named c.args.self.now.dependencies)))) (unasked c.args.ctx.now true)
+    (none_due (data_of c.args.node) c.in-None.ensures (named c.args.self.now.dependencies)))) (unasked c.args.ctx.now true)
 
 pub returns-in-Some : goal.returns-in-Some
 returns-in-Some g c = search rules

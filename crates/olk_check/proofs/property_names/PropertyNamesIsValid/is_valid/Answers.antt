@@ -10,7 +10,7 @@ use Rattle.olk_check.proofs.property_names.PropertyNamesIsValid.is_valid.Goals a
 pub returns-in-None : goal.returns-in-None
 returns-in-None g c =
     subst (λ q. Asks c.args.ctx.now c.args.ctx.now q true) (sym (ap (every (λ m. g.N.Means.means c.args.self.now.node (string m.0)))
-        (no_members (data_of c.args.node) c.in-None.ensures))) (unasked c.args.ctx.now true)
+    (no_members (data_of c.args.node) c.in-None.ensures))) (unasked c.args.ctx.now true)
 
 pub returns-in-Some : goal.returns-in-Some
 returns-in-Some g c = search rules

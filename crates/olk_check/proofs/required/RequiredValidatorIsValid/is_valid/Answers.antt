@@ -10,4 +10,4 @@ use Rattle.olk_check.proofs.required.RequiredValidatorIsValid.is_valid.Goals as 
 pub returns-in-None : goal.returns-in-None
 returns-in-None c =
     subst (λ b. Asks c.args._ctx.now c.args._ctx.now (always b) true) (sym (lacks_nothing (texts_of c.args.self.now.required.items) (data_of c.args.node) c.in-None.ensures))
-        (unasked c.args._ctx.now true)
+    (unasked c.args._ctx.now true)

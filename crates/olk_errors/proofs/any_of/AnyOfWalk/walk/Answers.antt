@@ -19,10 +19,10 @@ pub returns-clause-on : goal.returns-clause-on
 returns-clause-on g c =
     let alike = subst (λ u. AreLike (context_faults c.in_ok-context.context) (map (λ n. g.N.Reports.report n u (data_of c.args.node) (path_at c.args.trail.now)) c.args.self.now.schemas.items)) c.if-is_valid.ensures.only.answer c.in_ok-context.ensures.contexts in
     reported_on (any_of_own (context_faults c.in_ok-context.context) _ alike (data_of c.args.node) c.as_str.ensures (sym c.if-is_valid.ensures.verdict)
-        (kind_of_any_of c.in_ok-context.context)) _ _ c.report.result c.report.ensures.on
+    (kind_of_any_of c.in_ok-context.context)) _ _ c.report.result c.report.ensures.on
 
 pub returns-clause-stop : goal.returns-clause-stop
 returns-clause-stop g c =
     let alike = subst (λ u. AreLike (context_faults c.in_ok-context.context) (map (λ n. g.N.Reports.report n u (data_of c.args.node) (path_at c.args.trail.now)) c.args.self.now.schemas.items)) c.if-is_valid.ensures.only.answer c.in_ok-context.ensures.contexts in
     reported_stop (any_of_own (context_faults c.in_ok-context.context) _ alike (data_of c.args.node) c.as_str.ensures (sym c.if-is_valid.ensures.verdict)
-        (kind_of_any_of c.in_ok-context.context)) _ _ c.report.result c.report.ensures.stop
+    (kind_of_any_of c.in_ok-context.context)) _ _ c.report.result c.report.ensures.stop

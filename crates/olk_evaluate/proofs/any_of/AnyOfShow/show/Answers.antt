@@ -10,30 +10,30 @@ use Rattle.olk_evaluate.proofs.any_of.AnyOfShow.show.Goals as goal
 pub returns-then-is_empty-clause-tree : goal.returns-then-is_empty-clause-tree
 returns-then-is_empty-clause-tree g c =
     refusing_like g.N.Show.tree g.N.Means.means c.args.ctx.now.answer (data_of c.args.node) c.args.self.now.location c.args.path.now c.args.self.now.schemas.items
-        (trees_of c.in_ok-children.children.items) (trees_of c.in_ok-accepting.accepting.items) c.in_ok-accepting.ensures.shown
-        (none_here c.in_ok-accepting.accepting.items _ c.in_ok-accepting.accepting.ok.0 c.if-is_empty.ensures)
+    (trees_of c.in_ok-children.children.items) (trees_of c.in_ok-accepting.accepting.items) c.in_ok-accepting.ensures.shown
+    (none_here c.in_ok-accepting.accepting.items _ c.in_ok-accepting.accepting.ok.0 c.if-is_empty.ensures)
     (subst₂ (λ u Q. AreShown (each_wanted g.N.Show.tree g.N.Means.means u c.args.self.now.schemas.items (data_of c.args.node) Q)
-        (trees_of c.in_ok-children.children.items)) c.accepting_children.ensures.context.answer c.accepting_children.ensures.path c.in_ok-children.ensures.shown)
-        (over_refusing c.in_ok-children.children.items c.requires c.take_children.ensures c.mark_invalid.ensures)
+    (trees_of c.in_ok-children.children.items)) c.accepting_children.ensures.context.answer c.accepting_children.ensures.path c.in_ok-children.ensures.shown)
+    (over_refusing c.in_ok-children.children.items c.requires c.take_children.ensures c.mark_invalid.ensures)
 
 pub returns-then-is_empty-clause-verdict : goal.returns-then-is_empty-clause-verdict
 returns-then-is_empty-clause-verdict g c =
     refusing_verdict g.N.Show.tree g.N.Means.means c.args.ctx.now.answer (data_of c.args.node) c.args.self.now.location c.args.path.now c.args.self.now.schemas.items
-        (trees_of c.in_ok-children.children.items) (trees_of c.in_ok-accepting.accepting.items) c.in_ok-accepting.ensures.shown
-        (none_here c.in_ok-accepting.accepting.items _ c.in_ok-accepting.accepting.ok.0 c.if-is_empty.ensures)
-        (over_refusing c.in_ok-children.children.items c.requires c.take_children.ensures c.mark_invalid.ensures)
+    (trees_of c.in_ok-children.children.items) (trees_of c.in_ok-accepting.accepting.items) c.in_ok-accepting.ensures.shown
+    (none_here c.in_ok-accepting.accepting.items _ c.in_ok-accepting.accepting.ok.0 c.if-is_empty.ensures)
+    (over_refusing c.in_ok-children.children.items c.requires c.take_children.ensures c.mark_invalid.ensures)
 
 pub returns-clause-tree : goal.returns-clause-tree
 returns-clause-tree g c =
     accepting_like g.N.Show.tree g.N.Means.means c.args.ctx.now.answer (data_of c.args.node) c.args.self.now.location c.args.path.now c.args.self.now.schemas.items
-        (trees_of c.in_ok-accepting.accepting.items) c.in_ok-accepting.ensures.shown
-        (some_here c.in_ok-accepting.accepting.items _ c.in_ok-accepting.accepting.ok.0 c.if-is_empty.ensures) (over_children c.in_ok-accepting.accepting.items c.requires c.take_children-2.ensures)
+    (trees_of c.in_ok-accepting.accepting.items) c.in_ok-accepting.ensures.shown
+    (some_here c.in_ok-accepting.accepting.items _ c.in_ok-accepting.accepting.ok.0 c.if-is_empty.ensures) (over_children c.in_ok-accepting.accepting.items c.requires c.take_children-2.ensures)
 
 pub returns-clause-verdict : goal.returns-clause-verdict
 returns-clause-verdict g c =
     accepting_verdict g.N.Show.tree g.N.Means.means c.args.ctx.now.answer (data_of c.args.node) c.args.self.now.location c.args.path.now c.args.self.now.schemas.items
-        (trees_of c.in_ok-accepting.accepting.items) c.in_ok-accepting.ensures.shown
-        (some_here c.in_ok-accepting.accepting.items _ c.in_ok-accepting.accepting.ok.0 c.if-is_empty.ensures) (over_children c.in_ok-accepting.accepting.items c.requires c.take_children-2.ensures)
+    (trees_of c.in_ok-accepting.accepting.items) c.in_ok-accepting.ensures.shown
+    (some_here c.in_ok-accepting.accepting.items _ c.in_ok-accepting.accepting.ok.0 c.if-is_empty.ensures) (over_children c.in_ok-accepting.accepting.items c.requires c.take_children-2.ensures)
 
 pub returns-clause-context : goal.returns-clause-context
 returns-clause-context g c = c.accepting_children.ensures.context

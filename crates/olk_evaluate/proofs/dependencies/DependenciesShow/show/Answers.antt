@@ -8,21 +8,21 @@ use Rattle.olk_evaluate.proofs.dependencies.DependenciesShow.show.Goals as goal
 pub returns-in_ok-children-in-Some-clause-tree : goal.returns-in_ok-children-in-Some-clause-tree
 returns-in_ok-children-in-Some-clause-tree g c =
     branches_like g.N.Show.tree g.N.Means.means c.args.ctx.now.answer (data_of c.args.node) c.args.self.now.location c.args.path.now
-        (due_nodes (named c.args.self.now.dependencies) (data_of c.args.node)) c.in_ok-children-in-Some.ensures.shown
-        (over_children c.in_ok-children-in-Some.children.items c.requires c.take_children.ensures)
+    (due_nodes (named c.args.self.now.dependencies) (data_of c.args.node)) c.in_ok-children-in-Some.ensures.shown
+    (over_children c.in_ok-children-in-Some.children.items c.requires c.take_children.ensures)
 
 pub returns-in_ok-children-in-Some-clause-verdict : goal.returns-in_ok-children-in-Some-clause-verdict
 returns-in_ok-children-in-Some-clause-verdict g c =
     branches_verdict g.N.Show.tree g.N.Means.means c.args.ctx.now.answer (data_of c.args.node) c.args.self.now.location c.args.path.now
-        (due_nodes (named c.args.self.now.dependencies) (data_of c.args.node)) c.in_ok-children-in-Some.ensures.shown
-        (over_children c.in_ok-children-in-Some.children.items c.requires c.take_children.ensures)
+    (due_nodes (named c.args.self.now.dependencies) (data_of c.args.node)) c.in_ok-children-in-Some.ensures.shown
+    (over_children c.in_ok-children-in-Some.children.items c.requires c.take_children.ensures)
 
 pub returns-in-None-clause-tree : goal.returns-in-None-clause-tree
 returns-in-None-clause-tree g c =
     no_child_like g.N.Show.tree g.N.Means.means c.args.ctx.now.answer (data_of c.args.node) c.args.self.now.location c.args.path.now
-        (due_nodes (named c.args.self.now.dependencies) (data_of c.args.node)) (none_due (data_of c.args.node) c.in-None.ensures (named c.args.self.now.dependencies)) c.requires
+    (due_nodes (named c.args.self.now.dependencies) (data_of c.args.node)) (none_due (data_of c.args.node) c.in-None.ensures (named c.args.self.now.dependencies)) c.requires
 
 pub returns-in-None-clause-verdict : goal.returns-in-None-clause-verdict
 returns-in-None-clause-verdict g c =
     no_child_verdict g.N.Show.tree g.N.Means.means c.args.ctx.now.answer (data_of c.args.node) c.args.self.now.location c.args.path.now
-        (due_nodes (named c.args.self.now.dependencies) (data_of c.args.node)) (none_due (data_of c.args.node) c.in-None.ensures (named c.args.self.now.dependencies)) c.requires
+    (due_nodes (named c.args.self.now.dependencies) (data_of c.args.node)) (none_due (data_of c.args.node) c.in-None.ensures (named c.args.self.now.dependencies)) c.requires

@@ -13,7 +13,7 @@ use Rattle.olk_evaluate.proofs.if_.IfThenElseShow.show.Goals as goal
 pub returns-then-is_valid-clause-tree : goal.returns-then-is_valid-clause-tree
 returns-then-is_valid-clause-tree g c = on_ok_weaker c.show_both.result (λ shows.
     subst₂ (λ a u. IsLikeTree (if_tree (λ n. g.N.Show.tree n u) (data_of c.args.node) c.args.path.now a c.args.self.now.location c.args.self.now.schema
-        (c.args.self.now.then_schema ∷ []) (c.args.self.now.else_schema ∷ [])) (node_at c.args.self.now.location c.args.path.now (shown_of c.show_both.new.outcome)))
+    (c.args.self.now.then_schema ∷ []) (c.args.self.now.else_schema ∷ [])) (node_at c.args.self.now.location c.args.path.now (shown_of c.show_both.new.outcome)))
     c.if-is_valid.ensures.verdict c.if-is_valid.ensures.only.answer (shows.tree c.args.self.now.location)) c.show_both.ensures.shown
 
 pub returns-then-is_valid-clause-verdict : goal.returns-then-is_valid-clause-verdict
@@ -33,7 +33,7 @@ returns-then-is_valid-clause-context g c = only_then c.if-is_valid.ensures.only 
 pub returns-else-is_valid-clause-tree : goal.returns-else-is_valid-clause-tree
 returns-else-is_valid-clause-tree g c = on_ok_weaker c.show_one.result (λ one.
     subst₂ (λ a u. IsLikeTree (if_tree (λ n. g.N.Show.tree n u) (data_of c.args.node) c.args.path.now a c.args.self.now.location c.args.self.now.schema
-        (c.args.self.now.then_schema ∷ []) (c.args.self.now.else_schema ∷ [])) (node_at c.args.self.now.location c.args.path.now (shown_of c.show_one.new.outcome)))
+    (c.args.self.now.then_schema ∷ []) (c.args.self.now.else_schema ∷ [])) (node_at c.args.self.now.location c.args.path.now (shown_of c.show_one.new.outcome)))
     c.if-is_valid.ensures.verdict c.if-is_valid.ensures.only.answer ((shows_the_one g.N.Show.tree g.N.Means.means c.is_valid.new.ctx.answer (data_of c.args.node) c.args.path.now c.args.self.now.else_schema one).tree c.args.self.now.location)) c.show_one.ensures.shown
 
 pub returns-else-is_valid-clause-verdict : goal.returns-else-is_valid-clause-verdict

@@ -18,7 +18,7 @@ returns-then-not-is_valid-clause-verdict g c = search rules
 pub returns-clause-tree : goal.returns-clause-tree
 returns-clause-tree g c = on_ok_weaker c.show_both.result (λ shows.
     subst₂ (λ a u. IsLikeTree (if_tree (λ n. g.N.Show.tree n u) (data_of c.args.node) c.args.path.now a c.args.self.now.location c.args.self.now.schema
-        (c.args.self.now.then_schema ∷ []) []) (node_at c.args.self.now.location c.args.path.now (shown_of c.show_both.new.outcome)))
+    (c.args.self.now.then_schema ∷ []) []) (node_at c.args.self.now.location c.args.path.now (shown_of c.show_both.new.outcome)))
     c.if-not-is_valid.ensures.verdict c.if-not-is_valid.ensures.only.answer (shows.tree c.args.self.now.location)) c.show_both.ensures.shown
 
 pub returns-clause-verdict : goal.returns-clause-verdict

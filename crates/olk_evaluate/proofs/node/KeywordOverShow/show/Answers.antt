@@ -17,7 +17,7 @@ unfolding answers_of
 returns-in-Leaf g c = record {
   tree = on_ok_weaker c.show_leaf.result (λ texts.
       subst (λ k. IsLikeTree (validator_tree (kit g.K.Leaf g.R.RegexEngine) g.N.Means.means g.N.Show.tree c.args.ctx.now.answer k (data_of c.args.node) c.args.path.now)
-          (node_at ((answers_of (kit g.K.Leaf g.R.RegexEngine) k).location) c.args.path.now (shown_of c.show_leaf.new.outcome))) (sym c.in-Leaf.is)
+      (node_at ((answers_of (kit g.K.Leaf g.R.RegexEngine) k).location) c.args.path.now (shown_of c.show_leaf.new.outcome))) (sym c.in-Leaf.is)
       (leaf_like (g.K.Leaf.keyword_of c.in-Leaf.leaf) c.in-Leaf.field-0 c.args.path.now (data_of c.args.node) (g.K.Leaf.finds c.in-Leaf.leaf (data_of c.args.node)) texts)) c.show_leaf.ensures;
   verdict = rw c.in-Leaf.is (on_ok_weaker c.show_leaf.result (λ texts.
       valid_shown c.in-Leaf.field-0 c.args.path.now (shown_of c.show_leaf.new.outcome) (is_empty (g.K.Leaf.finds c.in-Leaf.leaf (data_of c.args.node))) None texts.own [] texts.is) c.show_leaf.ensures);
@@ -30,12 +30,12 @@ unfolding answers_of
 returns-in-AdditionalProperties g c = record {
   tree =
       subst (λ k. OnOk c.show-in-AdditionalProperties.result (IsLikeTree
-          (validator_tree (kit g.K.Leaf g.R.RegexEngine) g.N.Means.means g.N.Show.tree c.args.ctx.now.answer k (data_of c.args.node) c.args.path.now)
-          (node_at ((answers_of (kit g.K.Leaf g.R.RegexEngine) k).location) c.args.path.now (shown_of c.show-in-AdditionalProperties.new.outcome))))
+      (validator_tree (kit g.K.Leaf g.R.RegexEngine) g.N.Means.means g.N.Show.tree c.args.ctx.now.answer k (data_of c.args.node) c.args.path.now)
+      (node_at ((answers_of (kit g.K.Leaf g.R.RegexEngine) k).location) c.args.path.now (shown_of c.show-in-AdditionalProperties.new.outcome))))
       (ap (λ a. keyword.AdditionalProperties record c.in-AdditionalProperties.keyword { value = a }) c.deref.ensures ∙ sym c.in-AdditionalProperties.is) c.show-in-AdditionalProperties.ensures.tree;
   verdict =
       subst (λ k. OnOk c.show-in-AdditionalProperties.result (is_valid (node_at ((answers_of (kit g.K.Leaf g.R.RegexEngine) k).location) c.args.path.now
-          (shown_of c.show-in-AdditionalProperties.new.outcome)) ≡ (validator_means (kit g.K.Leaf g.R.RegexEngine) g.N.Means.means k (data_of c.args.node)).accepts c.args.ctx.now.answer))
+      (shown_of c.show-in-AdditionalProperties.new.outcome)) ≡ (validator_means (kit g.K.Leaf g.R.RegexEngine) g.N.Means.means k (data_of c.args.node)).accepts c.args.ctx.now.answer))
       (ap (λ a. keyword.AdditionalProperties record c.in-AdditionalProperties.keyword { value = a }) c.deref.ensures ∙ sym c.in-AdditionalProperties.is) c.show-in-AdditionalProperties.ensures.verdict;
   path = c.show-in-AdditionalProperties.ensures.path;
   context = c.show-in-AdditionalProperties.ensures.context;

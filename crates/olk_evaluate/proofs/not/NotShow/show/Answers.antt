@@ -13,9 +13,9 @@ use Rattle.olk_evaluate.proofs.not.NotShow.show.Goals as goal
 pub returns-clause-tree : goal.returns-clause-tree
 returns-clause-tree g c = on_ok_weaker c.add_own_error.result (λ error.
     erring_like c.args.self.now.location c.args._path.now (fault_if ((g.N.Means.means c.args.self.now.node (data_of c.args.node)).accepts c.args.ctx.now.answer)
-        (Refuses (view c.args.self.now.original)) (data_of c.args.node) c.args.self.now.location c.args._path.now)
+    (Refuses (view c.args.self.now.original)) (data_of c.args.node) c.args.self.now.location c.args._path.now)
     (subst (λ b. HasErrors (fault_if b (Refuses (view c.args.self.now.original)) (data_of c.args.node) c.args.self.now.location c.args._path.now)
-        (shown_of c.add_own_error.new.outcome)) c.if-not-is_valid.ensures.verdict
+    (shown_of c.add_own_error.new.outcome)) c.if-not-is_valid.ensures.verdict
     (subst (λ k. HasErrors (fault k (data_of c.args.node) c.args._path.now c.args.self.now.location ∷ []) (shown_of c.add_own_error.new.outcome)) (kind_of_not _) (error [] c.args.self.now.location c.args._path.now (no_error c.requires))))) c.add_own_error.ensures
 
 pub returns-clause-verdict : goal.returns-clause-verdict

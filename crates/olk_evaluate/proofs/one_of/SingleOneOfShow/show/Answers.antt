@@ -6,9 +6,9 @@ use Rattle.olk_evaluate.proofs.one_of.SingleOneOfShow.show.Goals as goal
 pub returns-clause-tree : goal.returns-clause-tree
 returns-clause-tree g c =
     on_ok_weaker c.show_one.result (λ one. single_like g.N.Show.tree g.N.Means.means c.args.ctx.now.answer
-        (data_of c.args.node) c.args.self.now.location c.args.path.now c.args.self.now.node one.shown one.is) c.show_one.ensures.shown
+    (data_of c.args.node) c.args.self.now.location c.args.path.now c.args.self.now.node one.shown one.is) c.show_one.ensures.shown
 
 pub returns-clause-verdict : goal.returns-clause-verdict
 returns-clause-verdict g c =
     on_ok_weaker c.show_one.result (λ one. single_verdict g.N.Show.tree g.N.Means.means c.args.ctx.now.answer
-        (data_of c.args.node) c.args.self.now.location c.args.path.now c.args.self.now.node one.shown one.is) c.show_one.ensures.shown
+    (data_of c.args.node) c.args.self.now.location c.args.path.now c.args.self.now.node one.shown one.is) c.show_one.ensures.shown

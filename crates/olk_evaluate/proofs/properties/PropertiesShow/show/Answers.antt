@@ -7,12 +7,12 @@ use Rattle.olk_evaluate.proofs.properties.PropertiesShow.show.Goals as goal
 pub returns-in_ok-met-in-Some-clause-tree : goal.returns-in_ok-met-in-Some-clause-tree
 returns-in_ok-met-in-Some-clause-tree g c =
     alone_like g.N.Show.tree g.N.Means.means c.args.ctx.now.answer c.args.path.now (mapped c.args.self.now.properties) c.args.self.now.location
-        (data_of c.args.node) (members_view c.in-Some.members.now.entries) c.in_ok-met-in-Some.met c.in-Some.ensures c.in_ok-met-in-Some.ensures.shown c.show.ensures
+    (data_of c.args.node) (members_view c.in-Some.members.now.entries) c.in_ok-met-in-Some.met c.in-Some.ensures c.in_ok-met-in-Some.ensures.shown c.show.ensures
 
 pub returns-in_ok-met-in-Some-clause-verdict : goal.returns-in_ok-met-in-Some-clause-verdict
 returns-in_ok-met-in-Some-clause-verdict g c =
     alone_verdict g.N.Show.tree g.N.Means.means c.args.ctx.now.answer c.args.path.now (mapped c.args.self.now.properties) c.args.self.now.location
-        (data_of c.args.node) (members_view c.in-Some.members.now.entries) c.in_ok-met-in-Some.met c.in-Some.ensures c.in_ok-met-in-Some.ensures.verdict c.show.ensures
+    (data_of c.args.node) (members_view c.in-Some.members.now.entries) c.in_ok-met-in-Some.met c.in-Some.ensures c.in_ok-met-in-Some.ensures.verdict c.show.ensures
 
 pub returns-in-None-clause-verdict : goal.returns-in-None-clause-verdict
 returns-in-None-clause-verdict g c =

@@ -12,7 +12,7 @@ returns-in_ok-add_missing_child-in-Some-clause-tree g c =
     let added = c.in_ok-add_missing_child-in-Some.ensures in
     let lacking = subst (λ Q. AreShown (refused (lacking_trees (two_texts c.args.self.now.first c.args.self.now.second) (data_of c.args.node) (object (members_view c.in-Some.members.now.entries)) c.args.self.now.required_location Q)) (trees_of added.nodes)) c.in_ok-met-in-Some.ensures.path added.shown in
     beside_like g.N.Show.tree g.N.Means.means c.args.ctx.now.answer c.args.path.now (named c.args.self.now.properties) c.args.self.now.location
-        (data_of c.args.node) (members_view c.in-Some.members.now.entries) (two_texts c.args.self.now.first c.args.self.now.second) c.args.self.now.required_location
+    (data_of c.args.node) (members_view c.in-Some.members.now.entries) (two_texts c.args.self.now.first c.args.self.now.second) c.args.self.now.required_location
     c.in_ok-met-in-Some.met added.nodes (record c.in_ok-met-in-Some.met { children = c.add_missing_child.new.children }) c.in-Some.ensures c.in_ok-met-in-Some.ensures.shown lacking refl added.added c.show.ensures
 
 pub returns-in_ok-add_missing_child-in-Some-clause-verdict : goal.returns-in_ok-add_missing_child-in-Some-clause-verdict
@@ -20,13 +20,13 @@ returns-in_ok-add_missing_child-in-Some-clause-verdict g c =
     let added = c.in_ok-add_missing_child-in-Some.ensures in
     let lacking = subst (λ Q. AreShown (refused (lacking_trees (two_texts c.args.self.now.first c.args.self.now.second) (data_of c.args.node) (object (members_view c.in-Some.members.now.entries)) c.args.self.now.required_location Q)) (trees_of added.nodes)) c.in_ok-met-in-Some.ensures.path added.shown in
     beside_verdict g.N.Show.tree g.N.Means.means c.args.ctx.now.answer c.args.path.now (named c.args.self.now.properties) c.args.self.now.location
-        (data_of c.args.node) (members_view c.in-Some.members.now.entries) (two_texts c.args.self.now.first c.args.self.now.second) c.args.self.now.required_location
+    (data_of c.args.node) (members_view c.in-Some.members.now.entries) (two_texts c.args.self.now.first c.args.self.now.second) c.args.self.now.required_location
     c.in_ok-met-in-Some.met added.nodes (record c.in_ok-met-in-Some.met { children = c.add_missing_child.new.children }) c.in-Some.ensures c.in_ok-met-in-Some.ensures.verdict lacking added.added c.show.ensures
 
 pub returns-in-None-clause-verdict : goal.returns-in-None-clause-verdict
 returns-in-None-clause-verdict g c =
     nothing_missing g.N.Show.tree g.N.Means.means c.args.ctx.now.answer c.args.path.now (named c.args.self.now.properties) c.args.self.now.location
-        (data_of c.args.node) (two_texts c.args.self.now.first c.args.self.now.second) c.in-None.ensures c.requires
+    (data_of c.args.node) (two_texts c.args.self.now.first c.args.self.now.second) c.in-None.ensures c.requires
 
 pub returns-in_err-met-in-Some-clause-context : goal.returns-in_err-met-in-Some-clause-context
 returns-in_err-met-in-Some-clause-context g c = c.meet.ensures.context

@@ -20,11 +20,11 @@ returns-in-None-clause-verdict c = no_member_verdict (data_of c.args.node) c.arg
 pub returns-else-is_empty-clause-tree : goal.returns-else-is_empty-clause-tree
 returns-else-is_empty-clause-tree c =
     on_ok_weaker c.add_own_error.result (λ error. some_member_like (data_of c.args.node) c.args.self.now.location c.args._path.now
-        (sym (has_none (data_of c.args.node) c.in-Some.members.now.entries c.in-Some.ensures c.is_empty.result c.is_empty.ensures.0 c.is_empty.ensures.1) ∙ c.if-is_empty.false)
+    (sym (has_none (data_of c.args.node) c.in-Some.members.now.entries c.in-Some.ensures c.is_empty.result c.is_empty.ensures.0 c.is_empty.ensures.1) ∙ c.if-is_empty.false)
     (subst (λ k. HasErrors (fault k (data_of c.args.node) c.args._path.now c.args.self.now.location ∷ []) (shown_of c.add_own_error.new.outcome)) kind_of_false_schema (error [] c.args.self.now.location c.args._path.now (no_error c.requires)))) c.add_own_error.ensures
 
 pub returns-else-is_empty-clause-verdict : goal.returns-else-is_empty-clause-verdict
 returns-else-is_empty-clause-verdict c =
     on_ok_weaker c.add_own_error.result (λ error. some_member_verdict (data_of c.args.node) c.args.self.now.location c.args._path.now
-        (sym (has_none (data_of c.args.node) c.in-Some.members.now.entries c.in-Some.ensures c.is_empty.result c.is_empty.ensures.0 c.is_empty.ensures.1) ∙ c.if-is_empty.false)
+    (sym (has_none (data_of c.args.node) c.in-Some.members.now.entries c.in-Some.ensures c.is_empty.result c.is_empty.ensures.0 c.is_empty.ensures.1) ∙ c.if-is_empty.false)
     (subst (λ k. HasErrors (fault k (data_of c.args.node) c.args._path.now c.args.self.now.location ∷ []) (shown_of c.add_own_error.new.outcome)) kind_of_false_schema (error [] c.args.self.now.location c.args._path.now (no_error c.requires)))) c.add_own_error.ensures

@@ -11,11 +11,11 @@ use Rattle.olk_evaluate.proofs.required.RequiredValidatorShow.show.Goals as goal
 pub returns-clause-tree : goal.returns-clause-tree
 returns-clause-tree c =
     on_ok_weaker c.add_missing.result (λ errors. erring_like c.args.self.now.location c.args._path.now
-        (required_faults (texts_of c.args.self.now.required.items) (data_of c.args.node) c.args.self.now.location c.args._path.now)
-        (errors c.args.self.now.location c.args._path.now)) c.add_missing.ensures
+    (required_faults (texts_of c.args.self.now.required.items) (data_of c.args.node) c.args.self.now.location c.args._path.now)
+    (errors c.args.self.now.location c.args._path.now)) c.add_missing.ensures
 
 pub returns-clause-verdict : goal.returns-clause-verdict
 returns-clause-verdict c =
     on_ok_weaker c.add_missing.result (λ errors. erring_verdict c.args.self.now.location c.args._path.now
-        (required_faults (texts_of c.args.self.now.required.items) (data_of c.args.node) c.args.self.now.location c.args._path.now) (errors c.args.self.now.location c.args._path.now)
+    (required_faults (texts_of c.args.self.now.required.items) (data_of c.args.node) c.args.self.now.location c.args._path.now) (errors c.args.self.now.location c.args._path.now)
     ∙ same_emptiness (λ n. fault (Required n) (data_of c.args.node) c.args._path.now c.args.self.now.location) (missing (texts_of c.args.self.now.required.items) (data_of c.args.node))) c.add_missing.ensures

@@ -19,7 +19,7 @@ unfinished_is c = with_items_is c.self.inside.unfinished c.set_bit-in-Err.new.wo
 pub returns-in-Ok-true-clause-noted : goal.returns-in-Ok-true-clause-noted
 returns-in-Ok-true-clause-noted c =
     says_matched (has_bit c.self.inside.unfinished.items c.args.index) (has_bit c.self.inside.matched.items c.args.index) _
-        (ap (λ r. row_says r c.args.index) c.self.view_is ∙ c.requires.unmatched) (ap (λ ws. has_bit ws c.args.index) (matched_is c) ∙ c.set_bit.ensures.set)
+    (ap (λ r. row_says r c.args.index) c.self.view_is ∙ c.requires.unmatched) (ap (λ ws. has_bit ws c.args.index) (matched_is c) ∙ c.set_bit.ensures.set)
     ∙ sym (ap said (c.in-Ok-true.is ∙ ap Ok c.in-Ok-true.field-0-test))
 
 pub returns-in-Ok-true-clause-others : goal.returns-in-Ok-true-clause-others

@@ -10,6 +10,6 @@ loop-index-preserved c =
     elim c.match-index_at.branch [
       | in-Some+in_ok-push w ↦
           ap (λ v. v.items) w.indices-is ∙ w.in_ok-push.ensures.items ∙ ap (λ l. l ++ w.in-Some.entry ∷ []) c.loop-index.invariant
-              ∙ index_told says c.loop-index.index w.in-Some.entry w.in-Some.ensures
+          ∙ index_told says c.loop-index.index w.in-Some.entry w.in-Some.ensures
       | in_default w ↦ ap (λ v. v.items) w.indices-is ∙ c.loop-index.invariant ∙ index_untold says c.loop-index.index w.in_default.ensures
     ]

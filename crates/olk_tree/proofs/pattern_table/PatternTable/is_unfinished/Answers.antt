@@ -19,4 +19,4 @@ returns-in-Some c =
     ∙ ap is_unfinished c.known.ensures
     ∙ ap (λ o. option_map_or (λ p. is_unfinished (table_says c.args.self.now p c.args.index)) o false) (c.in-Some.ensures ∙ ap (λ t. place_in t c.args.name.now) c.self.view_is)
     ∙ ap (λ b. b && option_map_or (λ p. is_unfinished (table_says c.args.self.now p c.args.index)) (place_in c.args.self.now c.args.name.now) false)
-        (sym (lt-ltb c.args.index c.args.self.now.patterns (subst (λ t. c.args.index < t.patterns) c.self.view_is (omega (arith, c.if-index-self.true)))))
+    (sym (lt-ltb c.args.index c.args.self.now.patterns (subst (λ t. c.args.index < t.patterns) c.self.view_is (omega (arith, c.if-index-self.true)))))

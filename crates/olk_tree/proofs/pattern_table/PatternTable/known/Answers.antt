@@ -9,11 +9,11 @@ pub returns-in-Some : goal.returns-in-Some
 returns-in-Some c =
     c.known.ensures
     ∙ ap (λ o. option_map_or (λ r. row_says r c.args.index) o unfinished)
-        (sym (ap option_copied c.in-Some.is) ∙ read_in c.args.self.now.rows c.deref.result.now c.args.place c.get.result
-        (c.deref.ensures.value ∙ ap (λ t. t.rows) c.self.view_is) c.get.ensures.lookup.1 c.get.ensures.lookup.3)
+    (sym (ap option_copied c.in-Some.is) ∙ read_in c.args.self.now.rows c.deref.result.now c.args.place c.get.result
+    (c.deref.ensures.value ∙ ap (λ t. t.rows) c.self.view_is) c.get.ensures.lookup.1 c.get.ensures.lookup.3)
 
 pub returns-in-None : goal.returns-in-None
 returns-in-None c =
     ap (λ o. option_map_or (λ r. row_says r c.args.index) o unfinished)
-        (sym (ap option_copied c.in-None.is) ∙ read_in c.args.self.now.rows c.deref.result.now c.args.place c.get.result
-        (c.deref.ensures.value ∙ ap (λ t. t.rows) c.self.view_is) c.get.ensures.lookup.1 c.get.ensures.lookup.3)
+    (sym (ap option_copied c.in-None.is) ∙ read_in c.args.self.now.rows c.deref.result.now c.args.place c.get.result
+    (c.deref.ensures.value ∙ ap (λ t. t.rows) c.self.view_is) c.get.ensures.lookup.1 c.get.ensures.lookup.3)

@@ -9,7 +9,7 @@ use Rattle.olk_tree.proofs.pattern_table.PatternTable.matches_nothing.Goals as g
 row_is : (c : goal.After-is_blank) → Some c.in-Some.row.now ≡ slice_get c.args.self.now.rows c.args.place
 row_is c =
     sym (ap option_copied c.in-Some.is) ∙ read_in c.args.self.now.rows c.deref.result.now c.args.place c.get.result
-        (c.deref.ensures.value ∙ ap (λ t. t.rows) c.self.view_is) c.get.ensures.lookup.1 c.get.ensures.lookup.3
+    (c.deref.ensures.value ∙ ap (λ t. t.rows) c.self.view_is) c.get.ensures.lookup.1 c.get.ensures.lookup.3
 
 pub returns-in-Some-clause-value : goal.returns-in-Some-clause-value
 returns-in-Some-clause-value c = c.is_blank.ensures.value ∙ ap (λ o. option_map_or is_blank o false) (row_is c)
@@ -20,4 +20,4 @@ returns-in-Some-clause-unmatched c blank i = ap (λ o. option_map_or (λ r. row_
 pub returns-in-None-clause-value : goal.returns-in-None-clause-value
 returns-in-None-clause-value c =
     ap (λ o. option_map_or is_blank o false) (sym (ap option_copied c.in-None.is) ∙ read_in c.args.self.now.rows c.deref.result.now c.args.place c.get.result
-        (c.deref.ensures.value ∙ ap (λ t. t.rows) c.self.view_is) c.get.ensures.lookup.1 c.get.ensures.lookup.3)
+    (c.deref.ensures.value ∙ ap (λ t. t.rows) c.self.view_is) c.get.ensures.lookup.1 c.get.ensures.lookup.3)

@@ -23,7 +23,7 @@ pub returns-clause-validator : goal.returns-clause-validator
 returns-clause-validator g c =
     let nodes = g.Self.PropertiesValidatorsMap.nodes c.args.self.now in
     zip_found c.names-names.result.now nodes c.nodes.result.now c.args.name.now c.in_ok-place.place
-        (Some c.in_ok-node.node) c.nodes.ensures c.in_ok-place.ensures c.in_ok-node.ensures.lookup.1 c.in_ok-node.ensures.lookup.3
+    (Some c.in_ok-node.node) c.nodes.ensures c.in_ok-place.ensures c.in_ok-node.ensures.lookup.1 c.in_ok-node.ensures.lookup.3
     ∙ ap (λ ks. lookup_name c.args.name.now (zip ks nodes)) c.names-names.ensures
 
 pub offset_bounds-as_slice-place : goal.offset_bounds-as_slice-place
