@@ -55,11 +55,8 @@ returns-in-Some-pop-clause-makes g c =
     (subst (λ t. MakesCondition (kit g.K.Leaf g.R.RegexEngine) g.N.Place.answers c.args.part.location c.in-Some-pop.schema t (option_to_list c.make-in-Some-pop.result)) c.take-in-Some-pop.ensures.taken c.make-in-Some-pop.ensures.makes))
 
 pub returns-in_ok-make-in-Some-clause-makes : goal.returns-in_ok-make-in-Some-clause-makes
-returns-in_ok-make-in-Some-clause-makes g c =
-    subst (λ x. MakesPart (kit g.K.Leaf g.R.RegexEngine) g.N.Place.answers x c.args.part.location c.args.part.nodes.items c.args.taken.now c.args.place.now
-    (planned c.args.plan) (c.in_ok-make-in-Some.field-0 ∷ [])) (sym c.in-AdditionalProperties.is)
-    (part_of_rest (kit g.K.Leaf g.R.RegexEngine) g.N.Place.answers c.args.part.location c.args.taken.now c.args.place.now
-    (planned c.args.plan) c.pop.new.self.items c.args.part.nodes.items c.in-Some.rest (c.in_ok-make-in-Some.field-0 ∷ []) c.in-Some.ensures.items
+returns-in_ok-make-in-Some-clause-makes g c = subst (λ x. MakesPart (kit g.K.Leaf g.R.RegexEngine) g.N.Place.answers x c.args.part.location c.args.part.nodes.items c.args.taken.now c.args.place.now (planned c.args.plan) (c.in_ok-make-in-Some.field-0 ∷ [])) (sym c.in-AdditionalProperties.is)
+    (part_of_rest (kit g.K.Leaf g.R.RegexEngine) g.N.Place.answers c.args.part.location c.args.taken.now c.args.place.now (planned c.args.plan) c.pop.new.self.items c.args.part.nodes.items c.in-Some.rest (c.in_ok-make-in-Some.field-0 ∷ []) c.in-Some.ensures.items
     (subst (λ b. MakesRestriction (kit g.K.Leaf g.R.RegexEngine) g.N.Place.answers c.args.part.location (Some c.in-Some.rest) b c.args.place.now (planned c.args.plan) (c.in_ok-make-in-Some.field-0 ∷ [])) c.take.ensures.taken c.in_ok-make-in-Some.ensures.makes))
 
 pub returns-in_ok-make-in-NoOthers-clause-makes : goal.returns-in_ok-make-in-NoOthers-clause-makes
