@@ -150,8 +150,3 @@ module _ (W : World) (ms : Members) (d : Data) (u : Bool) (v : Data) where
           ≡ flat_map (λ x. cond b (report W u d x.1 (P // codes "additionalProperties") (Q // x.0)) []) others
       by true = found_of_each (asked_of (place (meaning_step W u) d)) (λ a. a.sub.answer.report a.value (down P a.in_schema) (down Q a.in_instance)) others
       by false = ap (flat_map (λ (a : Asked). a.sub.answer.report a.value (down P a.in_schema) (down Q a.in_instance))) (nothing_of_each others) ∙ sym (nothing_of_each others)
-
--- ---- a member by cases: it is declared or matched, or it is another
-
-module _ (W : World) (u : Bool) (fs es : List (Name × Data)) where
-  )

@@ -194,8 +194,6 @@ module _ {K R : Type 0} (o : Kit K R) where
       by false true e f = is_read shape.NoNames c k (codes "propertyNames") d L a p (refl, f) tt (own_property_names o.world d L) refl
       by false false e f = is_read shape.AnyNames c k (codes "propertyNames") d L a p (refl, e, f) tt (own_property_names o.world d L) refl
 
-  }
-
 module _ (W : World) (d : Data) (L : Path) (object : is_object d ≡ true) where
   pub right_dependent_required : name_list_faults L (members d) ≡ [] → own_faults W (codes "dependentRequired") d L ≡ []
   right_dependent_required h = own_dependent_required W d L ∙ (λ i. object_is_right d L object i ++ h i)
