@@ -5,8 +5,8 @@ use object_logic::{
     Leaf, MakeError, MakeLeaf, Meter, Node, ValidateError, ValidationContext, Validator,
     holds_whole_numbers,
 };
-use olk_bench::{BenchLeaves, BenchRegexes};
 use olk_base_tests::counting::Counting;
+use olk_bench::{BenchLeaves, BenchRegexes};
 use serde_json::Value;
 use std::alloc::{AllocError, Global};
 use std::cell::Cell;

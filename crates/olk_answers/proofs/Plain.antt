@@ -112,7 +112,7 @@ module _ (W : World) (u : Bool) where
     own_prints additional_properties =
         Each-flat_map PrintsNone (λ s. unexpected_faults (has_neighbour S) (additional S W u v) v (P // k) Q) (put_if (is_truth false p.whole.schema) p.whole [])
         (Each-any _ (λ s. unexpected_prints (has_neighbour S) (additional S W u v) v (P // k) Q (Each-filter_once (λ m. IsPlain m.1) _ (members v) (members_plain v fine)))
-            (put_if (is_truth false p.whole.schema) p.whole []))
+        (put_if (is_truth false p.whole.schema) p.whole []))
     own_prints property_names =
         Each-append PrintsNone (flat_map (λ s. flat_map (λ m. map (wrapped v Q) (s.answer.report (string m.0) (P // k) Q)) (members v)) (put_if (is_object p.whole.schema) p.whole [])) _
         (Each-flat_map PrintsNone (λ s. flat_map (λ m. map (wrapped v Q) (s.answer.report (string m.0) (P // k) Q)) (members v)) (put_if (is_object p.whole.schema) p.whole [])
@@ -195,7 +195,7 @@ module _ (W : World) (u : Bool) where
       patterns_plain : Each PlainTree (patterns_child W u S v P Q k p)
       patterns_plain = put_each PlainTree _ _
           (result_plain (P // k) Q (on_objects W u S v P Q true (flat_map (λ e. map (λ m. m.0) (filter_once (λ m. matches W u e.0 m.0) (members v))) p.entries)) false [] _ tt
-              (asked_plain pattern_properties))
+          (asked_plain pattern_properties))
 
       additionals_plain : Each PlainTree (additional_child W u S v P Q k p)
       additionals_plain = put_each PlainTree _ _ (result_plain (P // k) Q shown_names false _ _ (own_told additional_properties)
@@ -209,7 +209,7 @@ module _ (W : World) (u : Bool) where
           shown_names : Option (List Name)
           shown_names =
               on_objects W u S v P Q (is_object p.whole.schema && (cond (declares S) (has_patterns S) (not (has_patterns S)) || not (is_empty (additional_names W u S v P Q))))
-                  (additional_names W u S v P Q)
+              (additional_names W u S v P Q)
 
           each_tree : Name × Data → List Tree
           each_tree m = declared_trees W u S v P Q m ++ pattern_trees W u S v P Q m ++ additional_trees W u S v P Q k p m
@@ -225,7 +225,7 @@ module _ (W : World) (u : Bool) where
       names_plain =
           Each-append PlainTree (where_so (is_object p.whole.schema) (plain (P // k) Q (map (λ m. p.whole.answer.tree (string m.0) (P // k) Q) (members v)))) _
           (put_each PlainTree _ _ (plain_plain (P // k) Q _ (Each-map PlainTree (λ m. p.whole.answer.tree (string m.0) (P // k) Q) (members v)
-              (Each-any _ (λ m. h.0.2 (string m.0) refl _ _) (members v)))))
+          (Each-any _ (λ m. h.0.2 (string m.0) refl _ _) (members v)))))
           (put_each PlainTree _ _ (erring_plain (P // k) Q _ (put_prints (not (is_empty (members v))) (fault FalseSchema v Q (P // k)) fine)))
 
       dependency_plain : (e : Name × Subschema) → GoodEntry Good e → PlainTree (dependency_tree W u S v P Q k p e)
@@ -246,7 +246,7 @@ module _ (W : World) (u : Bool) where
       if_plain = put_each PlainTree _ _ (plain_plain (P // k) Q _
           (Each-append PlainTree (where_so (holds p.whole v) (p.whole.answer.tree v (P // k) Q) ++ case_trees W u S v P Q k p (holds p.whole v) (codes "then")) _
           (Each-append PlainTree (where_so (holds p.whole v) (p.whole.answer.tree v (P // k) Q)) _ (put_each PlainTree (holds p.whole v) _ (h.0.2 v fine _ _))
-              (case_plain (holds p.whole v) (codes "then")))
+          (case_plain (holds p.whole v) (codes "then")))
           (case_plain (not (holds p.whole v)) (codes "else"))))
 
       child_plain : (w : Keyword) → Each PlainTree (keyword_child W u S v P Q k p w)
@@ -255,13 +255,17 @@ module _ (W : World) (u : Bool) where
       child_plain additional_properties = additionals_plain
       child_plain property_names = names_plain
       child_plain required = put_each PlainTree _ _ (erring_plain (P // k) Q _ (required_prints (names p) v (P // k) Q))
-      child_plain dependent_required =
-          (plain_plain (P // k) Q _ (Each-map PlainTree (λ e. erring (P // k) Q (required_faults e.1 v (P // k) Q)) (due p v)
-              (Each-any _ (λ e. erring_plain (P // k) Q _ (required_prints e.1 v (P // k) Q)) (due p v))), tt)
+      child_plain dependent_required = (
+        plain_plain (P // k) Q _ (Each-map PlainTree (λ e. erring (P // k) Q (required_faults e.1 v (P // k) Q)) (due p v)
+            (Each-any _ (λ e. erring_plain (P // k) Q _ (required_prints e.1 v (P // k) Q)) (due p v))),
+        tt,
+      )
       child_plain dependent_schemas = (plain_plain (P // k) Q _ (asked_plain dependent_schemas), tt)
-      child_plain dependencies =
-          (plain_plain (P // k) Q _ (Each-map PlainTree (dependency_tree W u S v P Q k p) (filter_once (λ e. has e.0 v) p.entries)
-              (Each-implies (GoodEntry Good) _ dependency_plain _ (Each-filter_once (GoodEntry Good) (λ e. has e.0 v) p.entries h.1))), tt)
+      child_plain dependencies = (
+        plain_plain (P // k) Q _ (Each-map PlainTree (dependency_tree W u S v P Q k p) (filter_once (λ e. has e.0 v) p.entries)
+            (Each-implies (GoodEntry Good) _ dependency_plain _ (Each-filter_once (GoodEntry Good) (λ e. has e.0 v) p.entries h.1))),
+        tt,
+      )
       child_plain property_dependencies = (plain_plain (P // k) Q _ (asked_plain property_dependencies), tt)
       child_plain all_of = (plain_plain (P // k) Q _ (asked_plain all_of), tt)
       child_plain any_of = (any_of_plain, tt)

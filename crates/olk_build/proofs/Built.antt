@@ -70,7 +70,7 @@ refuses_no_schema W d P a b e h c t = record {
 
 pub refuses_object : (W : World) (ms : Members) (d : Data) (P : Path) (a m b : Counts) (e : BuildError) → d ≡ object ms → m ≡ count_compiled a
     → Refuses (flat_map (λ k. member_malformations W ms k (keyword_named W k.0) P) (listed ms)) (total_cost (λ k. member_cost W ms k (keyword_named W k.0)) (listed ms)) m b e
-        → Refuses (malformations_at W d P) (cost W d) a b e
+    → Refuses (malformations_at W d P) (cost W d) a b e
 refuses_object W ms d P a m b e p c r = subst (λ x. Refuses (malformations_at W x P) (cost W x) a b e) (sym p) record {
   tells = tells_same (sym (object_malformed W ms P)) e r.tells;
   spends = within_same a b _ (cost W (object ms)) (sym (object_cost W ms)) (within_after a m b one_place _ (spends_place a m c) r.spends);

@@ -67,7 +67,7 @@ module _ {K R N : Type 0} (o : Kit K R) (answers : N → Answers) where
     unfolding malformations_at
     read_here_found k P c f h e =
         ap (flat_map (λ r. r.0.answer (down P r.1))) (places_by_condition (malformations_step o.world) ms o.world k d c h e)
-            ∙ ap (λ b. flat_map (λ r. r.0.answer (down P r.1)) (places_where k b (itself k (read (malformations_step o.world) d).whole))) f ∙ append-nil _
+        ∙ ap (λ b. flat_map (λ r. r.0.answer (down P r.1)) (places_where k b (itself k (read (malformations_step o.world) d).whole))) f ∙ append-nil _
 
     no_others_found : (P : Path) → is_object d ≡ false → found (codes "additionalProperties") P additional_properties ≡ []
     no_others_found P e = ap (flat_map (λ r. r.0.answer (down P r.1))) (additional_places (malformations_step o.world) d (codes "additionalProperties") (read_members (malformations_step o.world) ms))
@@ -78,21 +78,21 @@ module _ {K R N : Type 0} (o : Kit K R) (answers : N → Answers) where
     unfolding malformations_at
     places_found k P (shape.Properties n) s c f h = subst (λ n. found n P (keyword_named o.world n) ≡ each_malformed o (P // n) (members d)) (sym s.0)
         (ap (λ es. flat_map (λ r. r.0.answer (down P r.1)) (each (codes "properties") es)) (entries_read (malformations_step o.world) d)
-            ∙ each_malformations o.world (codes "properties") P (members d))
+        ∙ each_malformations o.world (codes "properties") P (members d))
     places_found k P (shape.PatternProperties v t) s c f h = subst (λ n. found n P (keyword_named o.world n) ≡ each_malformed o (P // n) (members d)) (sym s.0)
         (ap (flat_map (λ r. r.0.answer (down P r.1))) (pattern_properties_places (malformations_step o.world) d (codes "patternProperties")
-            (read_members (malformations_step o.world) ms)) ∙ each_malformations o.world (codes "patternProperties") P (members d))
+        (read_members (malformations_step o.world) ms)) ∙ each_malformations o.world (codes "patternProperties") P (members d))
     places_found k P (shape.Required v) s c f h = subst (λ n. found n P (keyword_named o.world n) ≡ []) (sym s.0) refl
     places_found k P (shape.DependentRequired n v) s c f h = subst (λ n. found n P (keyword_named o.world n) ≡ []) (sym s.0) refl
     places_found k P (shape.DependentSchemas n) s c f h = subst (λ n. found n P (keyword_named o.world n) ≡ each_malformed o (P // n) (members d)) (sym s.0)
         (ap (flat_map (λ r. r.0.answer (down P r.1))) (dependent_schemas_places (malformations_step o.world) d (codes "dependentSchemas") (read_members (malformations_step o.world) ms))
-            ∙ each_malformations o.world (codes "dependentSchemas") P (members d))
+        ∙ each_malformations o.world (codes "dependentSchemas") P (members d))
     places_found k P (shape.Dependencies n v) s c f h = subst (λ n. found n P (keyword_named o.world n) ≡ each_malformed o (P // n) (schema_entries d)) (sym s.0)
         (ap (flat_map (λ r. r.0.answer (down P r.1))) (dependencies_places (malformations_step o.world) d (codes "dependencies") (read_members (malformations_step o.world) ms))
-            ∙ each_malformations o.world (codes "dependencies") P (schema_entries d))
+        ∙ each_malformations o.world (codes "dependencies") P (schema_entries d))
     places_found k P (shape.PropertyDependencies n v) s c f h = subst (λ n. found n P (keyword_named o.world n) ≡ inner_malformed o (P // n) (members d)) (sym s.0)
         (ap (flat_map (λ r. r.0.answer (down P r.1))) (property_dependencies_places (malformations_step o.world) d (codes "propertyDependencies")
-            (read_members (malformations_step o.world) ms)) ∙ inner_malformations o.world d (codes "propertyDependencies") P)
+        (read_members (malformations_step o.world) ms)) ∙ inner_malformations o.world d (codes "propertyDependencies") P)
     places_found k P shape.AdditionalProperties s c f h = subst (λ n. found n P (keyword_named o.world n) ≡ malformations_at o.world d (P // n)) (sym s.0)
         (ap (flat_map (λ r. r.0.answer (down P r.1))) (additional_places (malformations_step o.world) d (codes "additionalProperties") (read_members (malformations_step o.world) ms))
         ∙ ap (λ b. flat_map (λ r. r.0.answer (down P r.1)) (places_where (codes "additionalProperties") b (itself (codes "additionalProperties") (place (malformations_step o.world) d)))) s.1 ∙ append-nil _)
@@ -102,25 +102,25 @@ module _ {K R N : Type 0} (o : Kit K R) (answers : N → Answers) where
         (ap (flat_map (λ r. r.0.answer (down P r.1))) (property_names_places (malformations_step o.world) d (codes "propertyNames") (read_members (malformations_step o.world) ms) s.1) ∙ append-nil _)
     places_found k P shape.NoNames s c f h = subst (λ n. found n P (keyword_named o.world n) ≡ []) (sym s.0)
         (ap (flat_map (λ r. r.0.answer (down P r.1))) (other_names_places (malformations_step o.world) d (codes "propertyNames")
-            (read_members (malformations_step o.world) ms) (false_is_no_object d s.1)))
+        (read_members (malformations_step o.world) ms) (false_is_no_object d s.1)))
     places_found k P shape.AnyNames s c f h = subst (λ n. found n P (keyword_named o.world n) ≡ []) (sym s.0)
         (ap (flat_map (λ r. r.0.answer (down P r.1))) (other_names_places (malformations_step o.world) d (codes "propertyNames") (read_members (malformations_step o.world) ms) s.1))
     places_found k P shape.AllOf s c f h = subst (λ n. found n P (keyword_named o.world n) ≡ each_malformed o (P // n) (numbered (items_of_array d))) (sym s.0)
         (ap (λ es. flat_map (λ r. r.0.answer (down P r.1)) (each (codes "allOf") es)) (branch_entries (malformations_step o.world) d)
-            ∙ each_malformations o.world (codes "allOf") P (numbered (items_of_array d)))
+        ∙ each_malformations o.world (codes "allOf") P (numbered (items_of_array d)))
     places_found k P shape.AnyOf s c f h = subst (λ n. found n P (keyword_named o.world n) ≡ each_malformed o (P // n) (numbered (items_of_array d))) (sym s.0)
         (ap (λ es. flat_map (λ r. r.0.answer (down P r.1)) (each (codes "anyOf") es)) (branch_entries (malformations_step o.world) d)
-            ∙ each_malformations o.world (codes "anyOf") P (numbered (items_of_array d)))
+        ∙ each_malformations o.world (codes "anyOf") P (numbered (items_of_array d)))
     places_found k P shape.OneOf s c f h = subst (λ n. found n P (keyword_named o.world n) ≡ each_malformed o (P // n) (numbered (items_of_array d))) (sym s.0)
         (ap (λ es. flat_map (λ r. r.0.answer (down P r.1)) (each (codes "oneOf") es)) (branch_entries (malformations_step o.world) d)
-            ∙ each_malformations o.world (codes "oneOf") P (numbered (items_of_array d)))
+        ∙ each_malformations o.world (codes "oneOf") P (numbered (items_of_array d)))
     places_found k P (shape.Not v) s c f h = subst (λ n. found n P (keyword_named o.world n) ≡ malformations_at o.world d (P // n)) (sym s.0) (append-nil _)
     places_found k P shape.If s c f h = read_here_found k P c f h (ap is_conditional_name s)
     places_found k P shape.Then s c f h = read_here_found k P c f h (ap is_conditional_name s)
     places_found k P shape.Else s c f h = read_here_found k P c f h (ap is_conditional_name s)
     places_found k P shape.Unpaired s c f h =
         ap (flat_map (λ r. r.0.answer (down P r.1))) (places_by_condition (malformations_step o.world) ms o.world k d c h s)
-            ∙ ap (λ b. flat_map (λ r. r.0.answer (down P r.1)) (places_where k b (itself k (read (malformations_step o.world) d).whole))) f
+        ∙ ap (λ b. flat_map (λ r. r.0.answer (down P r.1)) (places_where k b (itself k (read (malformations_step o.world) d).whole))) f
     places_found k P (shape.Leaf l) s c f h = ap (found k P) s.0
     places_found k P shape.Unread s c f h = ap (found k P) s
 
@@ -128,7 +128,7 @@ module _ {K R N : Type 0} (o : Kit K R) (answers : N → Answers) where
     unfolding cost
     read_here_summed k c f h e =
         ap (total_cost (λ r. r.0.answer)) (places_by_condition (cost_step o.world) ms o.world k d c h e)
-            ∙ ap (λ b. total_cost (λ r. r.0.answer) (places_where k b (itself k (read (cost_step o.world) d).whole))) f ∙ sum_last _
+        ∙ ap (λ b. total_cost (λ r. r.0.answer) (places_where k b (itself k (read (cost_step o.world) d).whole))) f ∙ sum_last _
 
     no_others_summed : is_object d ≡ false → summed (codes "additionalProperties") additional_properties ≡ no_cost
     no_others_summed e = ap (total_cost (λ r. r.0.answer)) (additional_places (cost_step o.world) d (codes "additionalProperties") (read_members (cost_step o.world) ms))
@@ -140,18 +140,18 @@ module _ {K R N : Type 0} (o : Kit K R) (answers : N → Answers) where
         (ap (λ es. total_cost (λ r. r.0.answer) (each (codes "properties") es)) (entries_read (cost_step o.world) d) ∙ each_costs o.world (codes "properties") (members d))
     places_summed k (shape.PatternProperties v t) s c f h = subst (λ n. summed n (keyword_named o.world n) ≡ each_cost o (members d)) (sym s.0)
         (ap (total_cost (λ r. r.0.answer)) (pattern_properties_places (cost_step o.world) d (codes "patternProperties") (read_members (cost_step o.world) ms))
-            ∙ each_costs o.world (codes "patternProperties") (members d))
+        ∙ each_costs o.world (codes "patternProperties") (members d))
     places_summed k (shape.Required v) s c f h = subst (λ n. summed n (keyword_named o.world n) ≡ no_cost) (sym s.0) refl
     places_summed k (shape.DependentRequired n v) s c f h = subst (λ n. summed n (keyword_named o.world n) ≡ no_cost) (sym s.0) refl
     places_summed k (shape.DependentSchemas n) s c f h = subst (λ n. summed n (keyword_named o.world n) ≡ each_cost o (members d)) (sym s.0)
         (ap (total_cost (λ r. r.0.answer)) (dependent_schemas_places (cost_step o.world) d (codes "dependentSchemas") (read_members (cost_step o.world) ms))
-            ∙ each_costs o.world (codes "dependentSchemas") (members d))
+        ∙ each_costs o.world (codes "dependentSchemas") (members d))
     places_summed k (shape.Dependencies n v) s c f h = subst (λ n. summed n (keyword_named o.world n) ≡ each_cost o (schema_entries d)) (sym s.0)
         (ap (total_cost (λ r. r.0.answer)) (dependencies_places (cost_step o.world) d (codes "dependencies") (read_members (cost_step o.world) ms))
-            ∙ each_costs o.world (codes "dependencies") (schema_entries d))
+        ∙ each_costs o.world (codes "dependencies") (schema_entries d))
     places_summed k (shape.PropertyDependencies n v) s c f h = subst (λ n. summed n (keyword_named o.world n) ≡ inner_cost o (members d)) (sym s.0)
         (ap (total_cost (λ r. r.0.answer)) (property_dependencies_places (cost_step o.world) d (codes "propertyDependencies") (read_members (cost_step o.world) ms))
-            ∙ inner_costs o.world d (codes "propertyDependencies"))
+        ∙ inner_costs o.world d (codes "propertyDependencies"))
     places_summed k shape.AdditionalProperties s c f h = subst (λ n. summed n (keyword_named o.world n) ≡ cost o.world d) (sym s.0)
         (ap (total_cost (λ r. r.0.answer)) (additional_places (cost_step o.world) d (codes "additionalProperties") (read_members (cost_step o.world) ms))
         ∙ ap (λ b. total_cost (λ r. r.0.answer) (places_where (codes "additionalProperties") b (itself (codes "additionalProperties") (place (cost_step o.world) d)))) s.1 ∙ sum_last _)
@@ -175,7 +175,7 @@ module _ {K R N : Type 0} (o : Kit K R) (answers : N → Answers) where
     places_summed k shape.Else s c f h = read_here_summed k c f h (ap is_conditional_name s)
     places_summed k shape.Unpaired s c f h =
         ap (total_cost (λ r. r.0.answer)) (places_by_condition (cost_step o.world) ms o.world k d c h s)
-            ∙ ap (λ b. total_cost (λ r. r.0.answer) (places_where k b (itself k (read (cost_step o.world) d).whole))) f
+        ∙ ap (λ b. total_cost (λ r. r.0.answer) (places_where k b (itself k (read (cost_step o.world) d).whole))) f
     places_summed k (shape.Leaf l) s c f h = ap (summed k) s.0
     places_summed k shape.Unread s c f h = ap (summed k) s
 
@@ -219,7 +219,7 @@ module _ {K R N : Type 0} (o : Kit K R) (answers : N → Answers) where
     refuses_part_inside b e r ms P p known = record {
       tells =
           tells_right (own_faults o.world k d (P // k)) (found ms d k P (keyword_named o.world k)) e
-              (tells_same (ap (places_malformed o (reads_of x) d) p ∙ sym (places_found ms d k P x h.shape c h.fits known)) e r.tells);
+          (tells_same (ap (places_malformed o (reads_of x) d) p ∙ sym (places_found ms d k P x h.shape c h.fits known)) e r.tells);
       spends = within_after a m b _ _ (own_spent ms known) (within_same m b _ _ (sym (places_summed ms d k x h.shape c h.fits known)) r.spends);
     }
 
@@ -264,5 +264,5 @@ module _ {K R N : Type 0} (o : Kit K R) (answers : N → Answers) where
       clean = flat_map-append (λ x. member_malformations o.world ms x (keyword_named o.world x.0) P) es ((k, d) ∷ []) ∙ (λ i. h.clean i ++ one.clean i);
       spends =
           spends_same a b _ (all_cost o ms (es ++ (k, d) ∷ [])) (sym (total_cost-append (λ x. member_cost o.world ms x (keyword_named o.world x.0)) es ((k, d) ∷ [])))
-              (spends_append a m b (all_cost o ms es) (all_cost o ms ((k, d) ∷ [])) h.spends one.spends);
+          (spends_append a m b (all_cost o ms es) (all_cost o ms ((k, d) ∷ [])) h.spends one.spends);
     }

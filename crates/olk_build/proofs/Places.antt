@@ -114,19 +114,19 @@ module _ {K R N : Type 0} (o : Kit K R) (answers : N → Answers) (d : Data) (L 
   pub entries_are_built : (es : List (Name × Data)) → r ≡ Entries → members d ≡ es → EntriesTold es → PlacesTold r
   entries_are_built es q e h =
       subst PlacesTold (sym q) (IfOk-weaker x (λ v. AreBuilt o answers v.items (members d) L a b) _ (λ v k. record { stand = k.stand; clean = k.clean; spends = k.spends })
-          (subst EntriesTold (sym e) h))
+      (subst EntriesTold (sym e) h))
 
   pub schema_entries_are_built : (es : List (Name × Data)) → r ≡ SchemaEntries → members d ≡ es → EntriesTold (no_lists es) → PlacesTold r
   schema_entries_are_built es q e h =
       subst PlacesTold (sym q) (IfOk-weaker x (λ v. AreBuilt o answers v.items (no_lists (members d)) L a b) _ (λ v k. record { stand = k.stand; clean = k.clean; spends = k.spends })
-          (subst (λ l. EntriesTold (no_lists l)) (sym e) h))
+      (subst (λ l. EntriesTold (no_lists l)) (sym e) h))
 
   pub inner_entries_are_built : (es : List (Name × Data)) → r ≡ InnerEntries → members d ≡ es → InnerTold es → PlacesTold r
   inner_entries_are_built es q e h =
       subst PlacesTold (sym q) (IfOk-weaker x (λ v. InnerAreBuilt o answers v.items (members d) L a b) _
-          (λ v k. record { stand = k.stand; clean = k.clean; spends = k.spends }) (subst InnerTold (sym e) h))
+      (λ v k. record { stand = k.stand; clean = k.clean; spends = k.spends }) (subst InnerTold (sym e) h))
 
   pub branches_are_built : (ds : List Data) → r ≡ Branches → items_of_array d ≡ ds → EntriesTold (numbered ds) → PlacesTold r
   branches_are_built ds q e h =
       subst PlacesTold (sym q) (IfOk-weaker x (λ v. AreBuilt o answers v.items (numbered (items_of_array d)) L a b) _
-          (λ v k. record { stand = k.stand; clean = k.clean; spends = k.spends }) (subst (λ l. EntriesTold (numbered l)) (sym e) h))
+      (λ v k. record { stand = k.stand; clean = k.clean; spends = k.spends }) (subst (λ l. EntriesTold (numbered l)) (sym e) h))

@@ -2,10 +2,10 @@
 use crate::lines::{push_nodes, push_patterns};
 use crate::shown::{PlainNode, Shown};
 use olk_base::{CompiledPattern, Meter};
-use olk_build::Context;
-use olk_keywords::{pattern_properties, properties};
 use olk_base_tests::doubles::{EqualTo, Equality, NoText, NoTexts};
 use olk_base_tests::tables::expect_rows;
+use olk_build::Context;
+use olk_keywords::{pattern_properties, properties};
 use olk_reports::BuildError;
 use olk_tree::place::Place;
 use olk_tree::{BigMap, SmallMap, SortedNames};

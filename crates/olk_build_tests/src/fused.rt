@@ -1,10 +1,10 @@
 //! Whether `properties` fuses the names that `required` lists.
 use crate::shown::{PlainNode, Shown};
 use olk_base::Meter;
-use olk_build::{Context, compile};
-use olk_keywords::{properties, required};
 use olk_base_tests::doubles::{EqualTo, Equality, NoText, NoTexts};
 use olk_base_tests::tables::expect_rows;
+use olk_build::{Context, compile};
+use olk_keywords::{properties, required};
 use olk_reports::BuildError;
 use olk_tree::KeywordOver;
 use olk_tree::place::Place;

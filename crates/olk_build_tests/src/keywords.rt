@@ -2,13 +2,13 @@
 use crate::lines::{push_all, push_node, push_nodes, push_pattern, push_patterns};
 use crate::shown::{PlainNode, Shown};
 use olk_base::{CompiledPattern, Meter};
+use olk_base_tests::doubles::{EqualTo, Equality, NoText, NoTexts};
+use olk_base_tests::tables::expect_rows;
 use olk_build::Context;
 use olk_keywords::{
     additional_properties, all_of, any_of, dependencies, if_, not, pattern_properties,
     property_dependencies, property_names,
 };
-use olk_base_tests::doubles::{EqualTo, Equality, NoText, NoTexts};
-use olk_base_tests::tables::expect_rows;
 use olk_reports::BuildError;
 use olk_tree::additional_properties::AdditionalProperties;
 use olk_tree::place::Place;

@@ -2,9 +2,9 @@
 //! refused.
 use crate::shown::{PlainNode, Shown};
 use olk_base::Meter;
-use olk_build::{Context, compile};
 use olk_base_tests::doubles::{EqualTo, Equality, NoText, NoTexts};
 use olk_base_tests::tables::expect_rows;
+use olk_build::{Context, compile};
 use olk_reports::{BuildError, ValidationError};
 use olk_tree::place::Place;
 use serde_json::Value;

@@ -2,9 +2,9 @@
 use crate::lines::push_all;
 use crate::shown::PlainNode;
 use olk_base::{CompiledPattern, Meter};
-use olk_build::{Context, compile};
 use olk_base_tests::doubles::{EqualTo, Equality, NoText, NoTexts};
 use olk_base_tests::tables::expect_rows;
+use olk_build::{Context, compile};
 use olk_reports::BuildError;
 use olk_tree::additional_properties::AdditionalProperties;
 use olk_tree::place::Place;

@@ -98,7 +98,7 @@ module _ (W : World) (ms : Members) (d : Data) (u : Bool) (v : Data) where
       by (boolean false) = ap (λ l. list_all (λ a. a.sub.answer.accepts a.value) l && is_empty others) (nothing_of_each others) ∙ none_passes (λ x. is_other W u fs es x.0) (members v)
       by (object gs) =
           and-true _ ∙ all_of_each (asked_of (place (meaning_step W u) (object gs))) (λ a. a.sub.answer.accepts a.value) others ∙ list_all-filter_once
-              (λ x. accepts W u (object gs) x.1) (λ x. is_other W u fs es x.0) (members v)
+          (λ x. accepts W u (object gs) x.1) (λ x. is_other W u fs es x.0) (members v)
       by (boolean true) = allowing
       by null = allowing
       by (number n) = allowing
@@ -129,7 +129,7 @@ module _ (W : World) (ms : Members) (d : Data) (u : Bool) (v : Data) where
       (read (meaning_step W u) d) v P Q additional_properties ≡ others_report W u fs es P Q (has_beside ms) d v
   own_others P Q =
       (λ i. flat_map (λ s. unexpected_faults (neighbour_read (meaning_step W u) ms i) (additional_read (meaning_step W u) ms W u v i) v (P // codes "additionalProperties") Q)
-          (put_if (is_truth false (whole_read (meaning_step W u) d i).schema) (whole_read (meaning_step W u) d i) []))
+      (put_if (is_truth false (whole_read (meaning_step W u) d i).schema) (whole_read (meaning_step W u) d i) []))
       ∙ by (is_truth false d)
     where
       by : (b : Bool) → flat_map (λ s. unexpected_faults (has_beside ms) others v (P // codes "additionalProperties") Q) (put_if b (place (meaning_step W u) d) []) ≡ cond b
@@ -142,7 +142,7 @@ module _ (W : World) (ms : Members) (d : Data) (u : Bool) (v : Data) where
   unfolding meaning
   additional_report P Q =
       (λ i. flat_map (λ a. a.sub.answer.report a.value (down P a.in_schema) (down Q a.in_instance))
-          (asked_by (whole_read (meaning_step W u) d i) (additional_read (meaning_step W u) ms W u v i)) ++ own_others P Q i)
+      (asked_by (whole_read (meaning_step W u) d i) (additional_read (meaning_step W u) ms W u v i)) ++ own_others P Q i)
       ∙ ap (λ l. l ++ others_report W u fs es P Q (has_beside ms) d v)
       (by (is_object d) ∙ flat_map-filter_once (λ x. is_other W u fs es x.0) (λ x. cond (is_object d) (report W u d x.1 (P // codes "additionalProperties") (Q // x.0)) []) (members v))
     where

@@ -3,9 +3,9 @@ use crate::objects::{add_names, add_text, beside, both, sorted_names};
 use olk_base::{
     CompiledPattern, MakeRegex, Meter, Node, RegexEngine, ValidationContext, compile_pattern,
 };
-use olk_check::{IsValid, matches};
 use olk_base_tests::doubles::{EqualTo, Equality, NoText};
 use olk_base_tests::tables::{expect_rows, three};
+use olk_check::{IsValid, matches};
 use olk_node::SchemaNode;
 use olk_paths::Location;
 use olk_tree::all_of::{AllOf, SingleValueAllOf};

@@ -37,9 +37,13 @@ compile_entries-returns-in_err-nodes-clause-refused g t c = exit _ _ _ c.from_re
 
 pub compile_entries-loop-name-init : goal.compile_entries-loop-name-init
 compile_entries-loop-name-init g t c =
-    record { so_far = no_entries (kit g.L.Leaf.Leaf g.M.Engine.RegexEngine) g.N.Place.answers c.args.place.now
-        (entries_read c.args.passes_arrays (listed (members_view c.args.map.now.entries))) c.args.meter.now c.in_ok-nodes.nodes.items _ c.in_ok-nodes.ensures.items
-        (ap (λ l. entries_read c.args.passes_arrays (listed (members_view l))) c.into_iter-name-iterator.ensures.into_iter_gives.0); next = tt; ends = tt }
+    record {
+      so_far = no_entries (kit g.L.Leaf.Leaf g.M.Engine.RegexEngine) g.N.Place.answers c.args.place.now
+          (entries_read c.args.passes_arrays (listed (members_view c.args.map.now.entries))) c.args.meter.now c.in_ok-nodes.nodes.items _ c.in_ok-nodes.ensures.items
+          (ap (λ l. entries_read c.args.passes_arrays (listed (members_view l))) c.into_iter-name-iterator.ensures.into_iter_gives.0);
+      next = tt;
+      ends = tt;
+    }
 
 pub compile_entries-join-requires-text-segment : goal.compile_entries-join-requires-text-segment
 compile_entries-join-requires-text-segment g t c κs = c.as_str.utf8
@@ -50,8 +54,8 @@ compile_entries-returns-in_err-location-clause-built g t c = IfOk-from_err _ _ c
 pub compile_entries-returns-in_err-location-clause-refused : goal.compile_entries-returns-in_err-location-clause-refused
 compile_entries-returns-in_err-location-clause-refused g t c =
     exit _ _ _ c.from_residual-in_err-location.ensures.1 (λ e q. entries_memory (kit g.L.Leaf.Leaf g.M.Engine.RegexEngine) g.N.Place.answers c.args.place.now
-        (entries_read c.args.passes_arrays (listed (members_view c.args.map.now.entries))) c.args.meter.now c.loop-name.nodes.items
-        (entries_read c.args.passes_arrays (listed (members_view c.loop-name.name-iterator))) _ e _ q c.loop-name.invariant.so_far)
+    (entries_read c.args.passes_arrays (listed (members_view c.args.map.now.entries))) c.args.meter.now c.loop-name.nodes.items
+    (entries_read c.args.passes_arrays (listed (members_view c.loop-name.name-iterator))) _ e _ q c.loop-name.invariant.so_far)
 
 pub compile_entries-returns-in_err-node-clause-built : goal.compile_entries-returns-in_err-node-clause-built
 compile_entries-returns-in_err-node-clause-built g t c = IfOk-from_err _ _ c.from_residual-in_err-node.ensures.0
@@ -59,20 +63,24 @@ compile_entries-returns-in_err-node-clause-built g t c = IfOk-from_err _ _ c.fro
 pub compile_entries-returns-in_err-node-clause-refused : goal.compile_entries-returns-in_err-node-clause-refused
 compile_entries-returns-in_err-node-clause-refused g t c =
     exit _ _ _ c.from_residual-in_err-node.ensures.1 (λ e q. entry_refused (kit g.L.Leaf.Leaf g.M.Engine.RegexEngine) g.N.Place.answers c.args.place.now
-        (entries_read c.args.passes_arrays (listed (members_view c.args.map.now.entries))) c.args.meter.now (string_bytes c.in-Some.name.now, view c.in-Some.schema.now)
-        (entries_read c.args.passes_arrays (listed (members_view c.loop-name.name-iterator))) (entries_read c.args.passes_arrays (listed (members_view c.next.new.self)))
-        (ap (λ l. entries_read c.args.passes_arrays (listed (members_view l))) c.in-Some.ensures.steps ∙ at_an_entry (string_bytes c.in-Some.name.now, view c.in-Some.schema.now)
-        (listed (members_view c.next.new.self)) c.args.passes_arrays (sym c.is_read.ensures ∙ c.if-is_read.true)) c.loop-name.nodes.items _ _ c.in_ok-location.location
-        (c.in_ok-location.ensures ∙ ap (λ n. c.args.place.now // n) c.as_str.ensures.value) c.loop-name.invariant.so_far e _ q c.in_err-node.ensures.refused)
+    (entries_read c.args.passes_arrays (listed (members_view c.args.map.now.entries))) c.args.meter.now (string_bytes c.in-Some.name.now, view c.in-Some.schema.now)
+    (entries_read c.args.passes_arrays (listed (members_view c.loop-name.name-iterator))) (entries_read c.args.passes_arrays (listed (members_view c.next.new.self)))
+    (ap (λ l. entries_read c.args.passes_arrays (listed (members_view l))) c.in-Some.ensures.steps ∙ at_an_entry (string_bytes c.in-Some.name.now, view c.in-Some.schema.now)
+    (listed (members_view c.next.new.self)) c.args.passes_arrays (sym c.is_read.ensures ∙ c.if-is_read.true)) c.loop-name.nodes.items _ _ c.in_ok-location.location
+    (c.in_ok-location.ensures ∙ ap (λ n. c.args.place.now // n) c.as_str.ensures.value) c.loop-name.invariant.so_far e _ q c.in_err-node.ensures.refused)
 
 pub compile_entries-loop-name-preserved-in-Continue-branch-4 : goal.compile_entries-loop-name-preserved-in-Continue-branch-4
 compile_entries-loop-name-preserved-in-Continue-branch-4 g t c =
-    record { so_far = one_more_entry (kit g.L.Leaf.Leaf g.M.Engine.RegexEngine) g.N.Place.answers c.args.place.now
-        (entries_read c.args.passes_arrays (listed (members_view c.args.map.now.entries))) c.args.meter.now (string_bytes c.in-Some.name.now, view c.in-Some.schema.now)
-        (entries_read c.args.passes_arrays (listed (members_view c.loop-name.name-iterator))) (entries_read c.args.passes_arrays (listed (members_view c.next.new.self)))
-        (ap (λ l. entries_read c.args.passes_arrays (listed (members_view l))) c.in-Some.ensures.steps ∙ at_an_entry (string_bytes c.in-Some.name.now, view c.in-Some.schema.now)
-        (listed (members_view c.next.new.self)) c.args.passes_arrays (sym c.is_read.ensures ∙ c.if-is_read.true)) c.loop-name.nodes.items _ _ c.in_ok-location.location
-        (c.in_ok-location.ensures ∙ ap (λ n. c.args.place.now // n) c.as_str.ensures.value) c.loop-name.invariant.so_far c.in_ok-node.node c.in_ok-node.ensures.built _ c.in_ok-append.ensures.items; next = tt; ends = tt }
+    record {
+      so_far = one_more_entry (kit g.L.Leaf.Leaf g.M.Engine.RegexEngine) g.N.Place.answers c.args.place.now
+          (entries_read c.args.passes_arrays (listed (members_view c.args.map.now.entries))) c.args.meter.now (string_bytes c.in-Some.name.now, view c.in-Some.schema.now)
+          (entries_read c.args.passes_arrays (listed (members_view c.loop-name.name-iterator))) (entries_read c.args.passes_arrays (listed (members_view c.next.new.self)))
+          (ap (λ l. entries_read c.args.passes_arrays (listed (members_view l))) c.in-Some.ensures.steps ∙ at_an_entry (string_bytes c.in-Some.name.now, view c.in-Some.schema.now)
+          (listed (members_view c.next.new.self)) c.args.passes_arrays (sym c.is_read.ensures ∙ c.if-is_read.true)) c.loop-name.nodes.items _ _ c.in_ok-location.location
+          (c.in_ok-location.ensures ∙ ap (λ n. c.args.place.now // n) c.as_str.ensures.value) c.loop-name.invariant.so_far c.in_ok-node.node c.in_ok-node.ensures.built _ c.in_ok-append.ensures.items;
+      next = tt;
+      ends = tt;
+    }
 
 pub compile_entries-returns-in_err-append-clause-built : goal.compile_entries-returns-in_err-append-clause-built
 compile_entries-returns-in_err-append-clause-built g t c = IfOk-from_err _ _ c.from_residual-in_err-append.ensures.0
@@ -80,35 +88,43 @@ compile_entries-returns-in_err-append-clause-built g t c = IfOk-from_err _ _ c.f
 pub compile_entries-returns-in_err-append-clause-refused : goal.compile_entries-returns-in_err-append-clause-refused
 compile_entries-returns-in_err-append-clause-refused g t c =
     exit _ _ _ c.from_residual-in_err-append.ensures.1 (λ e q. entry_memory (kit g.L.Leaf.Leaf g.M.Engine.RegexEngine) g.N.Place.answers c.args.place.now
-        (entries_read c.args.passes_arrays (listed (members_view c.args.map.now.entries))) c.args.meter.now (string_bytes c.in-Some.name.now, view c.in-Some.schema.now)
-        (entries_read c.args.passes_arrays (listed (members_view c.loop-name.name-iterator))) (entries_read c.args.passes_arrays (listed (members_view c.next.new.self)))
-        (ap (λ l. entries_read c.args.passes_arrays (listed (members_view l))) c.in-Some.ensures.steps ∙ at_an_entry (string_bytes c.in-Some.name.now, view c.in-Some.schema.now)
-        (listed (members_view c.next.new.self)) c.args.passes_arrays (sym c.is_read.ensures ∙ c.if-is_read.true)) c.loop-name.nodes.items _ _ c.in_ok-location.location
-        (c.in_ok-location.ensures ∙ ap (λ n. c.args.place.now // n) c.as_str.ensures.value) c.loop-name.invariant.so_far c.in_ok-node.node c.in_ok-node.ensures.built e _ q)
+    (entries_read c.args.passes_arrays (listed (members_view c.args.map.now.entries))) c.args.meter.now (string_bytes c.in-Some.name.now, view c.in-Some.schema.now)
+    (entries_read c.args.passes_arrays (listed (members_view c.loop-name.name-iterator))) (entries_read c.args.passes_arrays (listed (members_view c.next.new.self)))
+    (ap (λ l. entries_read c.args.passes_arrays (listed (members_view l))) c.in-Some.ensures.steps ∙ at_an_entry (string_bytes c.in-Some.name.now, view c.in-Some.schema.now)
+    (listed (members_view c.next.new.self)) c.args.passes_arrays (sym c.is_read.ensures ∙ c.if-is_read.true)) c.loop-name.nodes.items _ _ c.in_ok-location.location
+    (c.in_ok-location.ensures ∙ ap (λ n. c.args.place.now // n) c.as_str.ensures.value) c.loop-name.invariant.so_far c.in_ok-node.node c.in_ok-node.ensures.built e _ q)
 
 pub compile_entries-loop-name-preserved : goal.compile_entries-loop-name-preserved
 compile_entries-loop-name-preserved g t c =
-    record { so_far = subst (λ l. EntriesSoFar (kit g.L.Leaf.Leaf g.M.Engine.RegexEngine) g.N.Place.answers c.args.place.now
-        (entries_read c.args.passes_arrays (listed (members_view c.args.map.now.entries))) c.args.meter.now c.loop-name.nodes.items l c.loop-name.meter)
-        (ap (λ l. entries_read c.args.passes_arrays (listed (members_view l))) c.in-Some.ensures.steps
-        ∙ past_an_entry (string_bytes c.in-Some.name.now, view c.in-Some.schema.now) (listed (members_view c.next.new.self)) c.args.passes_arrays
-        (sym c.is_read.ensures ∙ c.if-is_read.false)) c.loop-name.invariant.so_far; next = tt; ends = tt }
+    record {
+      so_far = subst (λ l. EntriesSoFar (kit g.L.Leaf.Leaf g.M.Engine.RegexEngine) g.N.Place.answers c.args.place.now
+          (entries_read c.args.passes_arrays (listed (members_view c.args.map.now.entries))) c.args.meter.now c.loop-name.nodes.items l c.loop-name.meter)
+          (ap (λ l. entries_read c.args.passes_arrays (listed (members_view l))) c.in-Some.ensures.steps
+          ∙ past_an_entry (string_bytes c.in-Some.name.now, view c.in-Some.schema.now) (listed (members_view c.next.new.self)) c.args.passes_arrays
+          (sym c.is_read.ensures ∙ c.if-is_read.false)) c.loop-name.invariant.so_far;
+      next = tt;
+      ends = tt;
+    }
 
 pub compile_entries-returns-clause-built : goal.compile_entries-returns-clause-built
 compile_entries-returns-clause-built g t c =
     entries_built (kit g.L.Leaf.Leaf g.M.Engine.RegexEngine) g.N.Place.answers c.args.place.now
-        (entries_read c.args.passes_arrays (listed (members_view c.args.map.now.entries))) c.args.meter.now c.loop-name.nodes.items
-        (entries_read c.args.passes_arrays (listed (members_view c.loop-name.name-iterator))) _
-        (ap (λ l. entries_read c.args.passes_arrays (listed (members_view l))) c.in-None.ensures.steps.0 ∙ none_is_read c.args.passes_arrays) c.loop-name.invariant.so_far
+    (entries_read c.args.passes_arrays (listed (members_view c.args.map.now.entries))) c.args.meter.now c.loop-name.nodes.items
+    (entries_read c.args.passes_arrays (listed (members_view c.loop-name.name-iterator))) _
+    (ap (λ l. entries_read c.args.passes_arrays (listed (members_view l))) c.in-None.ensures.steps.0 ∙ none_is_read c.args.passes_arrays) c.loop-name.invariant.so_far
 
 pub compile_entries-returns-clause-refused : goal.compile_entries-returns-clause-refused
 compile_entries-returns-clause-refused g t c = tt
 
 pub compile_inner_entries-loop-name-init : goal.compile_inner_entries-loop-name-init
 compile_inner_entries-loop-name-init g t c =
-    record { so_far = no_inner (kit g.L.Leaf.Leaf g.M.Engine.RegexEngine) g.N.Place.answers c.args.place.now
-        (listed (members_view c.args.map.now.entries)) c.args.meter.now c.new-nodes.result.items _ c.new-nodes.ensures.items
-        (ap (λ l. listed (members_view l)) c.into_iter-name-iterator.ensures.into_iter_gives.0); next = tt; ends = tt }
+    record {
+      so_far = no_inner (kit g.L.Leaf.Leaf g.M.Engine.RegexEngine) g.N.Place.answers c.args.place.now
+          (listed (members_view c.args.map.now.entries)) c.args.meter.now c.new-nodes.result.items _ c.new-nodes.ensures.items
+          (ap (λ l. listed (members_view l)) c.into_iter-name-iterator.ensures.into_iter_gives.0);
+      next = tt;
+      ends = tt;
+    }
 
 pub compile_inner_entries-join-requires-text-segment : goal.compile_inner_entries-join-requires-text-segment
 compile_inner_entries-join-requires-text-segment g t c κs = c.as_str.utf8
@@ -119,7 +135,7 @@ compile_inner_entries-returns-in_err-location-clause-built g t c = IfOk-from_err
 pub compile_inner_entries-returns-in_err-location-clause-refused : goal.compile_inner_entries-returns-in_err-location-clause-refused
 compile_inner_entries-returns-in_err-location-clause-refused g t c =
     exit _ _ _ c.from_residual.ensures.1 (λ e q. inner_memory (kit g.L.Leaf.Leaf g.M.Engine.RegexEngine) g.N.Place.answers c.args.place.now
-        (listed (members_view c.args.map.now.entries)) c.args.meter.now c.loop-name.nodes.items (listed (members_view c.loop-name.name-iterator)) _ e _ q c.loop-name.invariant.so_far)
+    (listed (members_view c.args.map.now.entries)) c.args.meter.now c.loop-name.nodes.items (listed (members_view c.loop-name.name-iterator)) _ e _ q c.loop-name.invariant.so_far)
 
 pub compile_inner_entries-returns-in_err-inner-clause-built : goal.compile_inner_entries-returns-in_err-inner-clause-built
 compile_inner_entries-returns-in_err-inner-clause-built g t c = IfOk-from_err _ _ c.from_residual-in_err-inner.ensures.0
@@ -127,10 +143,10 @@ compile_inner_entries-returns-in_err-inner-clause-built g t c = IfOk-from_err _ 
 pub compile_inner_entries-returns-in_err-inner-clause-refused : goal.compile_inner_entries-returns-in_err-inner-clause-refused
 compile_inner_entries-returns-in_err-inner-clause-refused g t c =
     exit _ _ _ c.from_residual-in_err-inner.ensures.1 (λ e q. inner_refused (kit g.L.Leaf.Leaf g.M.Engine.RegexEngine) g.N.Place.answers c.args.place.now
-        (listed (members_view c.args.map.now.entries)) c.args.meter.now (string_bytes c.in-Some.name.now, view c.in-Some.entry.now)
-        (listed (members_view c.loop-name.name-iterator)) (listed (members_view c.next.new.self))
-        (ap (λ l. listed (members_view l)) c.in-Some.ensures.steps) c.loop-name.nodes.items _ _ c.in_ok-location.location
-        (c.in_ok-location.ensures ∙ ap (λ n. c.args.place.now // n) c.as_str.ensures.value) c.loop-name.invariant.so_far e _ q c.in_err-inner.ensures.refused)
+    (listed (members_view c.args.map.now.entries)) c.args.meter.now (string_bytes c.in-Some.name.now, view c.in-Some.entry.now)
+    (listed (members_view c.loop-name.name-iterator)) (listed (members_view c.next.new.self))
+    (ap (λ l. listed (members_view l)) c.in-Some.ensures.steps) c.loop-name.nodes.items _ _ c.in_ok-location.location
+    (c.in_ok-location.ensures ∙ ap (λ n. c.args.place.now // n) c.as_str.ensures.value) c.loop-name.invariant.so_far e _ q c.in_err-inner.ensures.refused)
 
 pub compile_inner_entries-returns-in_err-append_all-clause-built : goal.compile_inner_entries-returns-in_err-append_all-clause-built
 compile_inner_entries-returns-in_err-append_all-clause-built g t c = IfOk-from_err _ _ c.from_residual-in_err-append_all.ensures.0
@@ -138,22 +154,26 @@ compile_inner_entries-returns-in_err-append_all-clause-built g t c = IfOk-from_e
 pub compile_inner_entries-returns-in_err-append_all-clause-refused : goal.compile_inner_entries-returns-in_err-append_all-clause-refused
 compile_inner_entries-returns-in_err-append_all-clause-refused g t c =
     exit _ _ _ c.from_residual-in_err-append_all.ensures.1 (λ e q. more_inner_memory (kit g.L.Leaf.Leaf g.M.Engine.RegexEngine) g.N.Place.answers c.args.place.now
-        (listed (members_view c.args.map.now.entries)) c.args.meter.now (string_bytes c.in-Some.name.now, view c.in-Some.entry.now)
-        (listed (members_view c.loop-name.name-iterator)) (listed (members_view c.next.new.self))
-        (ap (λ l. listed (members_view l)) c.in-Some.ensures.steps) c.loop-name.nodes.items _ _ c.in_ok-location.location
-        (c.in_ok-location.ensures ∙ ap (λ n. c.args.place.now // n) c.as_str.ensures.value) c.loop-name.invariant.so_far c.in_ok-inner.inner.items c.in_ok-inner.ensures.built e _ q)
+    (listed (members_view c.args.map.now.entries)) c.args.meter.now (string_bytes c.in-Some.name.now, view c.in-Some.entry.now)
+    (listed (members_view c.loop-name.name-iterator)) (listed (members_view c.next.new.self))
+    (ap (λ l. listed (members_view l)) c.in-Some.ensures.steps) c.loop-name.nodes.items _ _ c.in_ok-location.location
+    (c.in_ok-location.ensures ∙ ap (λ n. c.args.place.now // n) c.as_str.ensures.value) c.loop-name.invariant.so_far c.in_ok-inner.inner.items c.in_ok-inner.ensures.built e _ q)
 
 pub compile_inner_entries-loop-name-preserved : goal.compile_inner_entries-loop-name-preserved
 compile_inner_entries-loop-name-preserved g t c =
-    record { so_far = one_more_inner (kit g.L.Leaf.Leaf g.M.Engine.RegexEngine) g.N.Place.answers c.args.place.now (listed (members_view c.args.map.now.entries)) c.args.meter.now
-        (string_bytes c.in-Some.name.now, view c.in-Some.entry.now) (listed (members_view c.loop-name.name-iterator)) (listed (members_view c.next.new.self))
-        (ap (λ l. listed (members_view l)) c.in-Some.ensures.steps) c.loop-name.nodes.items _ _ c.in_ok-location.location
-        (c.in_ok-location.ensures ∙ ap (λ n. c.args.place.now // n) c.as_str.ensures.value) c.loop-name.invariant.so_far c.in_ok-inner.inner.items c.in_ok-inner.ensures.built _ c.in_ok-append_all.ensures; next = tt; ends = tt }
+    record {
+      so_far = one_more_inner (kit g.L.Leaf.Leaf g.M.Engine.RegexEngine) g.N.Place.answers c.args.place.now (listed (members_view c.args.map.now.entries)) c.args.meter.now
+          (string_bytes c.in-Some.name.now, view c.in-Some.entry.now) (listed (members_view c.loop-name.name-iterator)) (listed (members_view c.next.new.self))
+          (ap (λ l. listed (members_view l)) c.in-Some.ensures.steps) c.loop-name.nodes.items _ _ c.in_ok-location.location
+          (c.in_ok-location.ensures ∙ ap (λ n. c.args.place.now // n) c.as_str.ensures.value) c.loop-name.invariant.so_far c.in_ok-inner.inner.items c.in_ok-inner.ensures.built _ c.in_ok-append_all.ensures;
+      next = tt;
+      ends = tt;
+    }
 
 pub compile_inner_entries-returns-clause-built : goal.compile_inner_entries-returns-clause-built
 compile_inner_entries-returns-clause-built g t c =
     inner_built (kit g.L.Leaf.Leaf g.M.Engine.RegexEngine) g.N.Place.answers c.args.place.now (listed (members_view c.args.map.now.entries)) c.args.meter.now c.loop-name.nodes.items
-        (listed (members_view c.loop-name.name-iterator)) _ (ap (λ l. listed (members_view l)) c.in-None.ensures.steps.0) c.loop-name.invariant.so_far
+    (listed (members_view c.loop-name.name-iterator)) _ (ap (λ l. listed (members_view l)) c.in-None.ensures.steps.0) c.loop-name.invariant.so_far
 
 pub compile_inner_entries-returns-clause-refused : goal.compile_inner_entries-returns-clause-refused
 compile_inner_entries-returns-clause-refused g t c = tt
@@ -167,7 +187,7 @@ compile_branches-returns-in_err-nodes-clause-refused g t c = exit _ _ _ c.from_r
 pub compile_branches-loop-i-init : goal.compile_branches-loop-i-init
 compile_branches-loop-i-init g t c =
     no_entries (kit g.L.Leaf.Leaf g.M.Engine.RegexEngine) g.N.Place.answers c.args.place.now
-        (numbered (map view c.deref-schema-items.result.now)) c.args.meter.now c.in_ok-nodes.nodes.items _ c.in_ok-nodes.ensures.items refl
+    (numbered (map view c.deref-schema-items.result.now)) c.args.meter.now c.in_ok-nodes.nodes.items _ c.in_ok-nodes.ensures.items refl
 
 pub compile_branches-returns-in_err-location-clause-built : goal.compile_branches-returns-in_err-location-clause-built
 compile_branches-returns-in_err-location-clause-built g t c = IfOk-from_err _ _ c.from_residual-in_err-location.ensures.0
@@ -175,10 +195,10 @@ compile_branches-returns-in_err-location-clause-built g t c = IfOk-from_err _ _ 
 pub compile_branches-returns-in_err-location-clause-refused : goal.compile_branches-returns-in_err-location-clause-refused
 compile_branches-returns-in_err-location-clause-refused g t c =
     exit _ _ _ c.from_residual-in_err-location.ensures.1 (λ e q. subst
-        (λ all. RefusesEach (kit g.L.Leaf.Leaf g.M.Engine.RegexEngine) all c.args.place.now c.args.meter.now c.loop-i.meter e)
-        (ap (λ l. numbered (map view l)) c.deref-schema-items.ensures.value ∙ ap numbered (sym (items_list-view c.args.items.now.items)))
-        (entries_memory (kit g.L.Leaf.Leaf g.M.Engine.RegexEngine) g.N.Place.answers c.args.place.now
-        (numbered (map view c.deref-schema-items.result.now)) c.args.meter.now c.loop-i.nodes.items (branches_from c.loop-i.i c.deref-schema-items.result.now) _ e _ q c.loop-i.invariant))
+    (λ all. RefusesEach (kit g.L.Leaf.Leaf g.M.Engine.RegexEngine) all c.args.place.now c.args.meter.now c.loop-i.meter e)
+    (ap (λ l. numbered (map view l)) c.deref-schema-items.ensures.value ∙ ap numbered (sym (items_list-view c.args.items.now.items)))
+    (entries_memory (kit g.L.Leaf.Leaf g.M.Engine.RegexEngine) g.N.Place.answers c.args.place.now
+    (numbered (map view c.deref-schema-items.result.now)) c.args.meter.now c.loop-i.nodes.items (branches_from c.loop-i.i c.deref-schema-items.result.now) _ e _ q c.loop-i.invariant))
 
 pub compile_branches-returns-in_err-node-clause-built : goal.compile_branches-returns-in_err-node-clause-built
 compile_branches-returns-in_err-node-clause-built g t c = IfOk-from_err _ _ c.from_residual-in_err-node.ensures.0
@@ -186,11 +206,11 @@ compile_branches-returns-in_err-node-clause-built g t c = IfOk-from_err _ _ c.fr
 pub compile_branches-returns-in_err-node-clause-refused : goal.compile_branches-returns-in_err-node-clause-refused
 compile_branches-returns-in_err-node-clause-refused g t c =
     exit _ _ _ c.from_residual-in_err-node.ensures.1 (λ e q. subst (λ all. RefusesEach
-        (kit g.L.Leaf.Leaf g.M.Engine.RegexEngine) all c.args.place.now c.args.meter.now c.compile_schema.new.meter e)
-        (ap (λ l. numbered (map view l)) c.deref-schema-items.ensures.value ∙ ap numbered (sym (items_list-view c.args.items.now.items)))
-        (entry_refused (kit g.L.Leaf.Leaf g.M.Engine.RegexEngine) g.N.Place.answers c.args.place.now (numbered (map view c.deref-schema-items.result.now)) c.args.meter.now
-        (decimal c.loop-i.i, view c.schema-item.result) (branches_from c.loop-i.i c.deref-schema-items.result.now) (branches_from (c.loop-i.i + 1) c.deref-schema-items.result.now)
-        (next_branch c.loop-i.i c.deref-schema-items.result.now c.schema-item.result c.loop-i-test.true c.schema-item.is) c.loop-i.nodes.items _ _ c.in_ok-location.location c.in_ok-location.ensures c.loop-i.invariant e _ q c.in_err-node.ensures.refused))
+    (kit g.L.Leaf.Leaf g.M.Engine.RegexEngine) all c.args.place.now c.args.meter.now c.compile_schema.new.meter e)
+    (ap (λ l. numbered (map view l)) c.deref-schema-items.ensures.value ∙ ap numbered (sym (items_list-view c.args.items.now.items)))
+    (entry_refused (kit g.L.Leaf.Leaf g.M.Engine.RegexEngine) g.N.Place.answers c.args.place.now (numbered (map view c.deref-schema-items.result.now)) c.args.meter.now
+    (decimal c.loop-i.i, view c.schema-item.result) (branches_from c.loop-i.i c.deref-schema-items.result.now) (branches_from (c.loop-i.i + 1) c.deref-schema-items.result.now)
+    (next_branch c.loop-i.i c.deref-schema-items.result.now c.schema-item.result c.loop-i-test.true c.schema-item.is) c.loop-i.nodes.items _ _ c.in_ok-location.location c.in_ok-location.ensures c.loop-i.invariant e _ q c.in_err-node.ensures.refused))
 
 pub compile_branches-returns-in_err-append-clause-built : goal.compile_branches-returns-in_err-append-clause-built
 compile_branches-returns-in_err-append-clause-built g t c = IfOk-from_err _ _ c.from_residual-in_err-append.ensures.0
@@ -198,11 +218,11 @@ compile_branches-returns-in_err-append-clause-built g t c = IfOk-from_err _ _ c.
 pub compile_branches-returns-in_err-append-clause-refused : goal.compile_branches-returns-in_err-append-clause-refused
 compile_branches-returns-in_err-append-clause-refused g t c =
     exit _ _ _ c.from_residual-in_err-append.ensures.1 (λ e q. subst (λ all. RefusesEach
-        (kit g.L.Leaf.Leaf g.M.Engine.RegexEngine) all c.args.place.now c.args.meter.now c.compile_schema.new.meter e)
-        (ap (λ l. numbered (map view l)) c.deref-schema-items.ensures.value ∙ ap numbered (sym (items_list-view c.args.items.now.items)))
-        (entry_memory (kit g.L.Leaf.Leaf g.M.Engine.RegexEngine) g.N.Place.answers c.args.place.now (numbered (map view c.deref-schema-items.result.now)) c.args.meter.now
-        (decimal c.loop-i.i, view c.schema-item.result) (branches_from c.loop-i.i c.deref-schema-items.result.now) (branches_from (c.loop-i.i + 1) c.deref-schema-items.result.now)
-        (next_branch c.loop-i.i c.deref-schema-items.result.now c.schema-item.result c.loop-i-test.true c.schema-item.is) c.loop-i.nodes.items _ _ c.in_ok-location.location c.in_ok-location.ensures c.loop-i.invariant c.in_ok-node.node c.in_ok-node.ensures.built e _ q))
+    (kit g.L.Leaf.Leaf g.M.Engine.RegexEngine) all c.args.place.now c.args.meter.now c.compile_schema.new.meter e)
+    (ap (λ l. numbered (map view l)) c.deref-schema-items.ensures.value ∙ ap numbered (sym (items_list-view c.args.items.now.items)))
+    (entry_memory (kit g.L.Leaf.Leaf g.M.Engine.RegexEngine) g.N.Place.answers c.args.place.now (numbered (map view c.deref-schema-items.result.now)) c.args.meter.now
+    (decimal c.loop-i.i, view c.schema-item.result) (branches_from c.loop-i.i c.deref-schema-items.result.now) (branches_from (c.loop-i.i + 1) c.deref-schema-items.result.now)
+    (next_branch c.loop-i.i c.deref-schema-items.result.now c.schema-item.result c.loop-i-test.true c.schema-item.is) c.loop-i.nodes.items _ _ c.in_ok-location.location c.in_ok-location.ensures c.loop-i.invariant c.in_ok-node.node c.in_ok-node.ensures.built e _ q))
 
 pub compile_branches-loop-i-smaller : goal.compile_branches-loop-i-smaller
 compile_branches-loop-i-smaller g t c = falls _ _ c.loop-i-test.true
@@ -210,16 +230,16 @@ compile_branches-loop-i-smaller g t c = falls _ _ c.loop-i-test.true
 pub compile_branches-loop-i-preserved : goal.compile_branches-loop-i-preserved
 compile_branches-loop-i-preserved g t c =
     one_more_entry (kit g.L.Leaf.Leaf g.M.Engine.RegexEngine) g.N.Place.answers c.args.place.now (numbered (map view c.deref-schema-items.result.now)) c.args.meter.now
-        (decimal c.loop-i.i, view c.schema-item.result) (branches_from c.loop-i.i c.deref-schema-items.result.now) (branches_from (c.loop-i.i + 1) c.deref-schema-items.result.now)
-        (next_branch c.loop-i.i c.deref-schema-items.result.now c.schema-item.result c.loop-i-test.true c.schema-item.is) c.loop-i.nodes.items _ _ c.in_ok-location.location c.in_ok-location.ensures c.loop-i.invariant c.in_ok-node.node c.in_ok-node.ensures.built _ c.in_ok-append.ensures.items
+    (decimal c.loop-i.i, view c.schema-item.result) (branches_from c.loop-i.i c.deref-schema-items.result.now) (branches_from (c.loop-i.i + 1) c.deref-schema-items.result.now)
+    (next_branch c.loop-i.i c.deref-schema-items.result.now c.schema-item.result c.loop-i-test.true c.schema-item.is) c.loop-i.nodes.items _ _ c.in_ok-location.location c.in_ok-location.ensures c.loop-i.invariant c.in_ok-node.node c.in_ok-node.ensures.built _ c.in_ok-append.ensures.items
 
 pub compile_branches-returns-clause-built : goal.compile_branches-returns-clause-built
 compile_branches-returns-clause-built g t c =
     subst (λ all. AreBuilt (kit g.L.Leaf.Leaf g.M.Engine.RegexEngine) g.N.Place.answers c.loop-i.nodes.items all c.args.place.now c.args.meter.now c.loop-i.meter)
-        (ap (λ l. numbered (map view l)) c.deref-schema-items.ensures.value ∙ ap numbered (sym (items_list-view c.args.items.now.items)))
-        (entries_built (kit g.L.Leaf.Leaf g.M.Engine.RegexEngine) g.N.Place.answers c.args.place.now
-        (numbered (map view c.deref-schema-items.result.now)) c.args.meter.now c.loop-i.nodes.items (branches_from c.loop-i.i c.deref-schema-items.result.now) _
-        (no_branch c.loop-i.i c.deref-schema-items.result.now c.loop-i-test.false) c.loop-i.invariant)
+    (ap (λ l. numbered (map view l)) c.deref-schema-items.ensures.value ∙ ap numbered (sym (items_list-view c.args.items.now.items)))
+    (entries_built (kit g.L.Leaf.Leaf g.M.Engine.RegexEngine) g.N.Place.answers c.args.place.now
+    (numbered (map view c.deref-schema-items.result.now)) c.args.meter.now c.loop-i.nodes.items (branches_from c.loop-i.i c.deref-schema-items.result.now) _
+    (no_branch c.loop-i.i c.deref-schema-items.result.now c.loop-i-test.false) c.loop-i.invariant)
 
 pub compile_branches-returns-clause-refused : goal.compile_branches-returns-clause-refused
 compile_branches-returns-clause-refused g t c = tt
@@ -230,10 +250,10 @@ compile_part-returns-in_err-shape-clause-built g t c = IfOk-from_err _ _ c.from_
 pub compile_part-returns-in_err-shape-clause-refused : goal.compile_part-returns-in_err-shape-clause-refused
 compile_part-returns-in_err-shape-clause-refused g t c =
     exit _ _ _ c.from_residual.ensures.1 (λ e q. refuses_part_own (kit g.L.Leaf.Leaf g.M.Engine.RegexEngine) g.N.Place.answers (known c.args.neighbours) c.args.name.now
-        (view c.args.value.now) c.args.location c.args.meter.now c.read_keyword.new.meter e
-        (subst (λ x. Refuses (own_faults (world g.L.Leaf.Leaf g.M.Engine.RegexEngine) c.args.name.now (view c.args.value.now) c.args.location)
-        (own_cost_of (world g.L.Leaf.Leaf g.M.Engine.RegexEngine) (known c.args.neighbours) (view c.args.value.now)
-        (keyword_named (world g.L.Leaf.Leaf g.M.Engine.RegexEngine) c.args.name.now)) c.args.meter.now c.read_keyword.new.meter x) (sym q) c.in_err-shape.ensures.refused))
+    (view c.args.value.now) c.args.location c.args.meter.now c.read_keyword.new.meter e
+    (subst (λ x. Refuses (own_faults (world g.L.Leaf.Leaf g.M.Engine.RegexEngine) c.args.name.now (view c.args.value.now) c.args.location)
+    (own_cost_of (world g.L.Leaf.Leaf g.M.Engine.RegexEngine) (known c.args.neighbours) (view c.args.value.now)
+    (keyword_named (world g.L.Leaf.Leaf g.M.Engine.RegexEngine) c.args.name.now)) c.args.meter.now c.read_keyword.new.meter x) (sym q) c.in_err-shape.ensures.refused))
 
 pub compile_part-returns-in_err-nodes-clause-built : goal.compile_part-returns-in_err-nodes-clause-built
 compile_part-returns-in_err-nodes-clause-built g t c = IfOk-from_err _ _ c.from_residual-in_err-nodes.ensures.0
@@ -241,14 +261,14 @@ compile_part-returns-in_err-nodes-clause-built g t c = IfOk-from_err _ _ c.from_
 pub compile_part-returns-in_err-nodes-clause-refused : goal.compile_part-returns-in_err-nodes-clause-refused
 compile_part-returns-in_err-nodes-clause-refused g t c =
     exit _ _ _ c.from_residual-in_err-nodes.ensures.1 (λ e q. refuses_part_inside (kit g.L.Leaf.Leaf g.M.Engine.RegexEngine) g.N.Place.answers c.in_ok-shape.shape
-        (known c.args.neighbours) c.args.name.now (view c.args.value.now) c.args.location c.args.meter.now c.read_keyword.new.meter c.in_ok-shape.ensures.built c.compile_places.new.meter e (subst₂ (λ r x. Refuses (places_malformed (kit g.L.Leaf.Leaf g.M.Engine.RegexEngine) r (view c.args.value.now) c.args.location) (places_cost (kit g.L.Leaf.Leaf g.M.Engine.RegexEngine) r (view c.args.value.now)) c.read_keyword.new.meter c.compile_places.new.meter x) c.reads.ensures (sym q) c.in_err-nodes.ensures.refused))
+    (known c.args.neighbours) c.args.name.now (view c.args.value.now) c.args.location c.args.meter.now c.read_keyword.new.meter c.in_ok-shape.ensures.built c.compile_places.new.meter e (subst₂ (λ r x. Refuses (places_malformed (kit g.L.Leaf.Leaf g.M.Engine.RegexEngine) r (view c.args.value.now) c.args.location) (places_cost (kit g.L.Leaf.Leaf g.M.Engine.RegexEngine) r (view c.args.value.now)) c.read_keyword.new.meter c.compile_places.new.meter x) c.reads.ensures (sym q) c.in_err-nodes.ensures.refused))
 
 pub compile_part-returns-clause-built : goal.compile_part-returns-clause-built
 compile_part-returns-clause-built g t c =
     part_is_built (kit g.L.Leaf.Leaf g.M.Engine.RegexEngine) g.N.Place.answers c.in_ok-shape.shape (known c.args.neighbours) c.args.name.now
-        (view c.args.value.now) c.args.location c.args.meter.now c.read_keyword.new.meter c.in_ok-shape.ensures.built c.in_ok-nodes.nodes _ c.compile_places.new.meter refl refl refl
-        (subst (λ r. PlacesAreBuilt (kit g.L.Leaf.Leaf g.M.Engine.RegexEngine) g.N.Place.answers r c.in_ok-nodes.nodes.items
-        (view c.args.value.now) c.args.location c.read_keyword.new.meter c.compile_places.new.meter) c.reads.ensures c.in_ok-nodes.ensures.built)
+    (view c.args.value.now) c.args.location c.args.meter.now c.read_keyword.new.meter c.in_ok-shape.ensures.built c.in_ok-nodes.nodes _ c.compile_places.new.meter refl refl refl
+    (subst (λ r. PlacesAreBuilt (kit g.L.Leaf.Leaf g.M.Engine.RegexEngine) g.N.Place.answers r c.in_ok-nodes.nodes.items
+    (view c.args.value.now) c.args.location c.read_keyword.new.meter c.compile_places.new.meter) c.reads.ensures c.in_ok-nodes.ensures.built)
 
 pub compile_part-returns-clause-refused : goal.compile_part-returns-clause-refused
 compile_part-returns-clause-refused g t c = tt
@@ -261,9 +281,14 @@ compile_parts-returns-in_err-parts-clause-refused g t c = exit _ _ _ c.from_resi
 
 pub compile_parts-loop-name-init : goal.compile_parts-loop-name-init
 compile_parts-loop-name-init g t c =
-    record { done = []; built = no_parts (kit g.L.Leaf.Leaf g.M.Engine.RegexEngine) g.N.Place.answers
-        (members_view c.args.members.now.entries) c.args.place.now c.args.meter.now c.in_ok-parts.parts.items c.in_ok-parts.ensures.items;
-        rest = ap (λ l. listed (members_view l)) c.into_iter-name-iterator.ensures.into_iter_gives.0; next = tt; ends = tt }
+    record {
+      done = [];
+      built = no_parts (kit g.L.Leaf.Leaf g.M.Engine.RegexEngine) g.N.Place.answers
+          (members_view c.args.members.now.entries) c.args.place.now c.args.meter.now c.in_ok-parts.parts.items c.in_ok-parts.ensures.items;
+      rest = ap (λ l. listed (members_view l)) c.into_iter-name-iterator.ensures.into_iter_gives.0;
+      next = tt;
+      ends = tt;
+    }
 
 pub compile_parts-join-requires-text-segment : goal.compile_parts-join-requires-text-segment
 compile_parts-join-requires-text-segment g t c κs = c.as_str.utf8
@@ -274,11 +299,11 @@ compile_parts-returns-in_err-location-clause-built g t c = IfOk-from_err _ _ c.f
 pub compile_parts-returns-in_err-location-clause-refused : goal.compile_parts-returns-in_err-location-clause-refused
 compile_parts-returns-in_err-location-clause-refused g t c =
     exit _ _ _ c.from_residual-in_err-location.ensures.1 (λ e q. memory_among
-        (λ (x : Name × Data). member_malformations (world g.L.Leaf.Leaf g.M.Engine.RegexEngine) (members_view c.args.members.now.entries) x
-        (keyword_named (world g.L.Leaf.Leaf g.M.Engine.RegexEngine) x.0) c.args.place.now)
-        (λ (x : Name × Data). member_cost (world g.L.Leaf.Leaf g.M.Engine.RegexEngine) (members_view c.args.members.now.entries) x
-        (keyword_named (world g.L.Leaf.Leaf g.M.Engine.RegexEngine) x.0)) _ _ _ c.loop-name.invariant.done
-        (listed (members_view c.loop-name.name-iterator)) e _ q c.loop-name.invariant.rest c.loop-name.invariant.built.spends)
+    (λ (x : Name × Data). member_malformations (world g.L.Leaf.Leaf g.M.Engine.RegexEngine) (members_view c.args.members.now.entries) x
+    (keyword_named (world g.L.Leaf.Leaf g.M.Engine.RegexEngine) x.0) c.args.place.now)
+    (λ (x : Name × Data). member_cost (world g.L.Leaf.Leaf g.M.Engine.RegexEngine) (members_view c.args.members.now.entries) x
+    (keyword_named (world g.L.Leaf.Leaf g.M.Engine.RegexEngine) x.0)) _ _ _ c.loop-name.invariant.done
+    (listed (members_view c.loop-name.name-iterator)) e _ q c.loop-name.invariant.rest c.loop-name.invariant.built.spends)
 
 pub compile_parts-compile_part-requires-text-name : goal.compile_parts-compile_part-requires-text-name
 compile_parts-compile_part-requires-text-name g t c κs within = c.as_str-in-loop-name.utf8
@@ -289,34 +314,39 @@ compile_parts-returns-in_err-part-clause-built g t c = IfOk-from_err _ _ c.from_
 pub compile_parts-returns-in_err-part-clause-refused : goal.compile_parts-returns-in_err-part-clause-refused
 compile_parts-returns-in_err-part-clause-refused g t c =
     exit _ _ _ c.from_residual-in_err-part.ensures.1 (λ e q. refuses_among
-        (λ (x : Name × Data). member_malformations (world g.L.Leaf.Leaf g.M.Engine.RegexEngine) (members_view c.args.members.now.entries) x
-        (keyword_named (world g.L.Leaf.Leaf g.M.Engine.RegexEngine) x.0) c.args.place.now)
-        (λ (x : Name × Data). member_cost (world g.L.Leaf.Leaf g.M.Engine.RegexEngine) (members_view c.args.members.now.entries) x
-        (keyword_named (world g.L.Leaf.Leaf g.M.Engine.RegexEngine) x.0)) _ _ _ c.loop-name.invariant.done (string_bytes c.in-Some.name.now, view c.in-Some.value.now)
-        (listed (members_view c.next.new.self)) c.loop-name.meter e (ap (λ l. c.loop-name.invariant.done ++ listed (members_view l)) (sym c.in-Some.ensures.steps)
-        ∙ c.loop-name.invariant.rest) c.loop-name.invariant.built.spends
-        (subst (λ x. Refuses ((λ (x : Name × Data). member_malformations (world g.L.Leaf.Leaf g.M.Engine.RegexEngine) (members_view c.args.members.now.entries) x
-        (keyword_named (world g.L.Leaf.Leaf g.M.Engine.RegexEngine) x.0) c.args.place.now) (string_bytes c.in-Some.name.now, view c.in-Some.value.now))
-        ((λ (x : Name × Data). member_cost (world g.L.Leaf.Leaf g.M.Engine.RegexEngine) (members_view c.args.members.now.entries) x
-        (keyword_named (world g.L.Leaf.Leaf g.M.Engine.RegexEngine) x.0)) (string_bytes c.in-Some.name.now, view c.in-Some.value.now)) c.loop-name.meter c.compile_part.new.meter x)
-        (sym q) ((subst (λ n. RefusesPart (kit g.L.Leaf.Leaf g.M.Engine.RegexEngine) (known c.of-neighbours.result) n
-        (view c.in-Some.value.now) c.in_ok-location.location c.loop-name.meter c.compile_part.new.meter c.in_err-part.field-0.0) c.as_str-in-loop-name.ensures.value c.in_err-part.ensures.refused) (members_view c.args.members.now.entries) c.args.place.now (c.in_ok-location.ensures ∙ ap (λ n. c.args.place.now // n) c.as_str.ensures.value) (known_there (kit g.L.Leaf.Leaf g.M.Engine.RegexEngine) g.N.Place.answers (members_view c.args.members.now.entries) c.args.place.now (known c.of-neighbours.result) c.loop-name.invariant.done (listed (members_view c.next.new.self)) (string_bytes c.in-Some.name.now) (view c.in-Some.value.now) c.of-neighbours.ensures (ap (λ l. c.loop-name.invariant.done ++ listed (members_view l)) (sym c.in-Some.ensures.steps) ∙ c.loop-name.invariant.rest)))))
+    (λ (x : Name × Data). member_malformations (world g.L.Leaf.Leaf g.M.Engine.RegexEngine) (members_view c.args.members.now.entries) x
+    (keyword_named (world g.L.Leaf.Leaf g.M.Engine.RegexEngine) x.0) c.args.place.now)
+    (λ (x : Name × Data). member_cost (world g.L.Leaf.Leaf g.M.Engine.RegexEngine) (members_view c.args.members.now.entries) x
+    (keyword_named (world g.L.Leaf.Leaf g.M.Engine.RegexEngine) x.0)) _ _ _ c.loop-name.invariant.done (string_bytes c.in-Some.name.now, view c.in-Some.value.now)
+    (listed (members_view c.next.new.self)) c.loop-name.meter e (ap (λ l. c.loop-name.invariant.done ++ listed (members_view l)) (sym c.in-Some.ensures.steps)
+    ∙ c.loop-name.invariant.rest) c.loop-name.invariant.built.spends
+    (subst (λ x. Refuses ((λ (x : Name × Data). member_malformations (world g.L.Leaf.Leaf g.M.Engine.RegexEngine) (members_view c.args.members.now.entries) x
+    (keyword_named (world g.L.Leaf.Leaf g.M.Engine.RegexEngine) x.0) c.args.place.now) (string_bytes c.in-Some.name.now, view c.in-Some.value.now))
+    ((λ (x : Name × Data). member_cost (world g.L.Leaf.Leaf g.M.Engine.RegexEngine) (members_view c.args.members.now.entries) x
+    (keyword_named (world g.L.Leaf.Leaf g.M.Engine.RegexEngine) x.0)) (string_bytes c.in-Some.name.now, view c.in-Some.value.now)) c.loop-name.meter c.compile_part.new.meter x)
+    (sym q) ((subst (λ n. RefusesPart (kit g.L.Leaf.Leaf g.M.Engine.RegexEngine) (known c.of-neighbours.result) n
+    (view c.in-Some.value.now) c.in_ok-location.location c.loop-name.meter c.compile_part.new.meter c.in_err-part.field-0.0) c.as_str-in-loop-name.ensures.value c.in_err-part.ensures.refused) (members_view c.args.members.now.entries) c.args.place.now (c.in_ok-location.ensures ∙ ap (λ n. c.args.place.now // n) c.as_str.ensures.value) (known_there (kit g.L.Leaf.Leaf g.M.Engine.RegexEngine) g.N.Place.answers (members_view c.args.members.now.entries) c.args.place.now (known c.of-neighbours.result) c.loop-name.invariant.done (listed (members_view c.next.new.self)) (string_bytes c.in-Some.name.now) (view c.in-Some.value.now) c.of-neighbours.ensures (ap (λ l. c.loop-name.invariant.done ++ listed (members_view l)) (sym c.in-Some.ensures.steps) ∙ c.loop-name.invariant.rest)))))
 
 pub compile_parts-loop-name-preserved : goal.compile_parts-loop-name-preserved
 compile_parts-loop-name-preserved g t c =
-    record { done = c.loop-name.invariant.done ++ (string_bytes c.in-Some.name.now, view c.in-Some.value.now) ∷ [];
-        built = (one_more_part (kit g.L.Leaf.Leaf g.M.Engine.RegexEngine) g.N.Place.answers
-        (members_view c.args.members.now.entries) c.args.place.now c.loop-name.parts.items _ c.loop-name.invariant.done c.in_ok-part.part
-        (known c.of-neighbours.result) (string_bytes c.in-Some.name.now)
-        (view c.in-Some.value.now) c.args.meter.now c.loop-name.meter c.compile_part.new.meter c.in_ok-location.location c.in_ok-append.ensures.items
-        (c.in_ok-location.ensures ∙ ap (λ n. c.args.place.now // n) c.as_str.ensures.value) c.loop-name.invariant.built
-        (subst (λ n. IsPart (kit g.L.Leaf.Leaf g.M.Engine.RegexEngine) g.N.Place.answers c.in_ok-part.part (known c.of-neighbours.result) n
-        (view c.in-Some.value.now) c.in_ok-location.location c.loop-name.meter c.compile_part.new.meter) c.as_str-in-loop-name.ensures.value c.in_ok-part.ensures.built)
-        (known_there (kit g.L.Leaf.Leaf g.M.Engine.RegexEngine) g.N.Place.answers (members_view c.args.members.now.entries) c.args.place.now
-        (known c.of-neighbours.result) c.loop-name.invariant.done (listed (members_view c.next.new.self)) (string_bytes c.in-Some.name.now)
-        (view c.in-Some.value.now) c.of-neighbours.ensures (ap (λ l. c.loop-name.invariant.done ++ listed (members_view l)) (sym c.in-Some.ensures.steps)
-        ∙ c.loop-name.invariant.rest))); rest = (append_assoc c.loop-name.invariant.done ((string_bytes c.in-Some.name.now, view c.in-Some.value.now) ∷ [])
-        (listed (members_view c.next.new.self)) ∙ (ap (λ l. c.loop-name.invariant.done ++ listed (members_view l)) (sym c.in-Some.ensures.steps) ∙ c.loop-name.invariant.rest)); next = tt; ends = tt }
+    record {
+      done = c.loop-name.invariant.done ++ (string_bytes c.in-Some.name.now, view c.in-Some.value.now) ∷ [];
+      built = (one_more_part (kit g.L.Leaf.Leaf g.M.Engine.RegexEngine) g.N.Place.answers
+          (members_view c.args.members.now.entries) c.args.place.now c.loop-name.parts.items _ c.loop-name.invariant.done c.in_ok-part.part
+          (known c.of-neighbours.result) (string_bytes c.in-Some.name.now)
+          (view c.in-Some.value.now) c.args.meter.now c.loop-name.meter c.compile_part.new.meter c.in_ok-location.location c.in_ok-append.ensures.items
+          (c.in_ok-location.ensures ∙ ap (λ n. c.args.place.now // n) c.as_str.ensures.value) c.loop-name.invariant.built
+          (subst (λ n. IsPart (kit g.L.Leaf.Leaf g.M.Engine.RegexEngine) g.N.Place.answers c.in_ok-part.part (known c.of-neighbours.result) n
+          (view c.in-Some.value.now) c.in_ok-location.location c.loop-name.meter c.compile_part.new.meter) c.as_str-in-loop-name.ensures.value c.in_ok-part.ensures.built)
+          (known_there (kit g.L.Leaf.Leaf g.M.Engine.RegexEngine) g.N.Place.answers (members_view c.args.members.now.entries) c.args.place.now
+          (known c.of-neighbours.result) c.loop-name.invariant.done (listed (members_view c.next.new.self)) (string_bytes c.in-Some.name.now)
+          (view c.in-Some.value.now) c.of-neighbours.ensures (ap (λ l. c.loop-name.invariant.done ++ listed (members_view l)) (sym c.in-Some.ensures.steps)
+          ∙ c.loop-name.invariant.rest)));
+      rest = (append_assoc c.loop-name.invariant.done ((string_bytes c.in-Some.name.now, view c.in-Some.value.now) ∷ [])
+          (listed (members_view c.next.new.self)) ∙ (ap (λ l. c.loop-name.invariant.done ++ listed (members_view l)) (sym c.in-Some.ensures.steps) ∙ c.loop-name.invariant.rest));
+      next = tt;
+      ends = tt;
+    }
 
 pub compile_parts-returns-in_err-append-clause-built : goal.compile_parts-returns-in_err-append-clause-built
 compile_parts-returns-in_err-append-clause-built g t c = IfOk-from_err _ _ c.from_residual-in_err-append.ensures.0
@@ -324,29 +354,29 @@ compile_parts-returns-in_err-append-clause-built g t c = IfOk-from_err _ _ c.fro
 pub compile_parts-returns-in_err-append-clause-refused : goal.compile_parts-returns-in_err-append-clause-refused
 compile_parts-returns-in_err-append-clause-refused g t c =
     exit _ _ _ c.from_residual-in_err-append.ensures.1 (λ e q. memory_among
-        (λ (x : Name × Data). member_malformations (world g.L.Leaf.Leaf g.M.Engine.RegexEngine) (members_view c.args.members.now.entries) x
-        (keyword_named (world g.L.Leaf.Leaf g.M.Engine.RegexEngine) x.0) c.args.place.now)
-        (λ (x : Name × Data). member_cost (world g.L.Leaf.Leaf g.M.Engine.RegexEngine) (members_view c.args.members.now.entries) x
-        (keyword_named (world g.L.Leaf.Leaf g.M.Engine.RegexEngine) x.0)) _ _ _ (c.loop-name.invariant.done ++ (string_bytes c.in-Some.name.now, view c.in-Some.value.now) ∷ [])
-        (listed (members_view c.next.new.self)) e _ q (append_assoc c.loop-name.invariant.done ((string_bytes c.in-Some.name.now, view c.in-Some.value.now) ∷ [])
-        (listed (members_view c.next.new.self)) ∙ (ap (λ l. c.loop-name.invariant.done ++ listed (members_view l)) (sym c.in-Some.ensures.steps) ∙ c.loop-name.invariant.rest))
-        (one_more_part (kit g.L.Leaf.Leaf g.M.Engine.RegexEngine) g.N.Place.answers
-        (members_view c.args.members.now.entries) c.args.place.now c.loop-name.parts.items _ c.loop-name.invariant.done c.in_ok-part.part
-        (known c.of-neighbours.result) (string_bytes c.in-Some.name.now)
-        (view c.in-Some.value.now) c.args.meter.now c.loop-name.meter c.compile_part.new.meter c.in_ok-location.location refl
-        (c.in_ok-location.ensures ∙ ap (λ n. c.args.place.now // n) c.as_str.ensures.value) c.loop-name.invariant.built
-        (subst (λ n. IsPart (kit g.L.Leaf.Leaf g.M.Engine.RegexEngine) g.N.Place.answers c.in_ok-part.part (known c.of-neighbours.result) n
-        (view c.in-Some.value.now) c.in_ok-location.location c.loop-name.meter c.compile_part.new.meter) c.as_str-in-loop-name.ensures.value c.in_ok-part.ensures.built)
-        (known_there (kit g.L.Leaf.Leaf g.M.Engine.RegexEngine) g.N.Place.answers (members_view c.args.members.now.entries) c.args.place.now
-        (known c.of-neighbours.result) c.loop-name.invariant.done (listed (members_view c.next.new.self)) (string_bytes c.in-Some.name.now)
-        (view c.in-Some.value.now) c.of-neighbours.ensures (ap (λ l. c.loop-name.invariant.done ++ listed (members_view l)) (sym c.in-Some.ensures.steps) ∙ c.loop-name.invariant.rest))).spends)
+    (λ (x : Name × Data). member_malformations (world g.L.Leaf.Leaf g.M.Engine.RegexEngine) (members_view c.args.members.now.entries) x
+    (keyword_named (world g.L.Leaf.Leaf g.M.Engine.RegexEngine) x.0) c.args.place.now)
+    (λ (x : Name × Data). member_cost (world g.L.Leaf.Leaf g.M.Engine.RegexEngine) (members_view c.args.members.now.entries) x
+    (keyword_named (world g.L.Leaf.Leaf g.M.Engine.RegexEngine) x.0)) _ _ _ (c.loop-name.invariant.done ++ (string_bytes c.in-Some.name.now, view c.in-Some.value.now) ∷ [])
+    (listed (members_view c.next.new.self)) e _ q (append_assoc c.loop-name.invariant.done ((string_bytes c.in-Some.name.now, view c.in-Some.value.now) ∷ [])
+    (listed (members_view c.next.new.self)) ∙ (ap (λ l. c.loop-name.invariant.done ++ listed (members_view l)) (sym c.in-Some.ensures.steps) ∙ c.loop-name.invariant.rest))
+    (one_more_part (kit g.L.Leaf.Leaf g.M.Engine.RegexEngine) g.N.Place.answers
+    (members_view c.args.members.now.entries) c.args.place.now c.loop-name.parts.items _ c.loop-name.invariant.done c.in_ok-part.part
+    (known c.of-neighbours.result) (string_bytes c.in-Some.name.now)
+    (view c.in-Some.value.now) c.args.meter.now c.loop-name.meter c.compile_part.new.meter c.in_ok-location.location refl
+    (c.in_ok-location.ensures ∙ ap (λ n. c.args.place.now // n) c.as_str.ensures.value) c.loop-name.invariant.built
+    (subst (λ n. IsPart (kit g.L.Leaf.Leaf g.M.Engine.RegexEngine) g.N.Place.answers c.in_ok-part.part (known c.of-neighbours.result) n
+    (view c.in-Some.value.now) c.in_ok-location.location c.loop-name.meter c.compile_part.new.meter) c.as_str-in-loop-name.ensures.value c.in_ok-part.ensures.built)
+    (known_there (kit g.L.Leaf.Leaf g.M.Engine.RegexEngine) g.N.Place.answers (members_view c.args.members.now.entries) c.args.place.now
+    (known c.of-neighbours.result) c.loop-name.invariant.done (listed (members_view c.next.new.self)) (string_bytes c.in-Some.name.now)
+    (view c.in-Some.value.now) c.of-neighbours.ensures (ap (λ l. c.loop-name.invariant.done ++ listed (members_view l)) (sym c.in-Some.ensures.steps) ∙ c.loop-name.invariant.rest))).spends)
 
 pub compile_parts-returns-clause-built : goal.compile_parts-returns-clause-built
 compile_parts-returns-clause-built g t c =
     subst (λ l. PartsAreBuilt (kit g.L.Leaf.Leaf g.M.Engine.RegexEngine) g.N.Place.answers
-        (members_view c.args.members.now.entries) c.loop-name.parts.items l c.args.place.now c.args.meter.now c.loop-name.meter)
-        (sym (append-nil c.loop-name.invariant.done) ∙ ap (λ l. c.loop-name.invariant.done ++ listed (members_view l)) (sym c.in-None.ensures.steps.0)
-        ∙ c.loop-name.invariant.rest) c.loop-name.invariant.built
+    (members_view c.args.members.now.entries) c.loop-name.parts.items l c.args.place.now c.args.meter.now c.loop-name.meter)
+    (sym (append-nil c.loop-name.invariant.done) ∙ ap (λ l. c.loop-name.invariant.done ++ listed (members_view l)) (sym c.in-None.ensures.steps.0)
+    ∙ c.loop-name.invariant.rest) c.loop-name.invariant.built
 
 pub compile_parts-returns-clause-refused : goal.compile_parts-returns-clause-refused
 compile_parts-returns-clause-refused g t c = tt
@@ -363,7 +393,7 @@ compile_places-returns-in_err-node-in-Itself-clause-built g t c = IfOk-from_err 
 pub compile_places-returns-in_err-node-in-Itself-clause-refused : goal.compile_places-returns-in_err-node-in-Itself-clause-refused
 compile_places-returns-in_err-node-in-Itself-clause-refused g t c =
     exit _ _ _ c.from_residual-in_err-node-in-Itself.ensures.1 (λ e q. itself_is_refused (kit g.L.Leaf.Leaf g.M.Engine.RegexEngine) g.N.Place.answers
-        (view c.args.value.now) c.args.location.now c.args.meter.now c.args.reads [] c.compile_schema.new.meter _ c.in_ok-place-in-Itself.ensures c.in-Itself.is e _ q c.in_err-node-in-Itself.ensures.refused)
+    (view c.args.value.now) c.args.location.now c.args.meter.now c.args.reads [] c.compile_schema.new.meter _ c.in_ok-place-in-Itself.ensures c.in-Itself.is e _ q c.in_err-node-in-Itself.ensures.refused)
 
 pub compile_places-returns-in_err-one-in-Itself-clause-built : goal.compile_places-returns-in_err-one-in-Itself-clause-built
 compile_places-returns-in_err-one-in-Itself-clause-built g t c = IfOk-from_err _ _ c.from_residual-in_err-one-in-Itself.ensures.0
@@ -371,27 +401,39 @@ compile_places-returns-in_err-one-in-Itself-clause-built g t c = IfOk-from_err _
 pub compile_places-returns-in_err-one-in-Itself-clause-refused : goal.compile_places-returns-in_err-one-in-Itself-clause-refused
 compile_places-returns-in_err-one-in-Itself-clause-refused g t c =
     exit _ _ _ c.from_residual-in_err-one-in-Itself.ensures.1 (λ e q. itself_lost (kit g.L.Leaf.Leaf g.M.Engine.RegexEngine) g.N.Place.answers
-        (view c.args.value.now) c.args.location.now c.args.meter.now c.args.reads [] c.compile_schema.new.meter _ c.in_ok-place-in-Itself.ensures c.in-Itself.is _ c.in_ok-node-in-Itself.ensures.built e _ q)
+    (view c.args.value.now) c.args.location.now c.args.meter.now c.args.reads [] c.compile_schema.new.meter _ c.in_ok-place-in-Itself.ensures c.in-Itself.is _ c.in_ok-node-in-Itself.ensures.built e _ q)
 
 pub compile_places-returns-in_default : goal.compile_places-returns-in_default
 compile_places-returns-in_default g t c =
-    record { built = no_entry_is_built (kit g.L.Leaf.Leaf g.M.Engine.RegexEngine) g.N.Place.answers _ _ _ _ _ c.in-Entries.is c.new-in_default.ensures.items
-        (no_object_no_members _ c.in_default.not-Object); refused = tt }
+    record {
+      built = no_entry_is_built (kit g.L.Leaf.Leaf g.M.Engine.RegexEngine) g.N.Place.answers _ _ _ _ _ c.in-Entries.is c.new-in_default.ensures.items
+          (no_object_no_members _ c.in_default.not-Object);
+      refused = tt;
+    }
 
 pub compile_places-returns-in_default-value : goal.compile_places-returns-in_default-value
 compile_places-returns-in_default-value g t c =
-    record { built = no_schema_entry_is_built (kit g.L.Leaf.Leaf g.M.Engine.RegexEngine) g.N.Place.answers _ _ _ _ _ c.in-SchemaEntries.is c.new-in_default-value.ensures.items
-        (no_object_no_members _ c.in_default-value.not-Object); refused = tt }
+    record {
+      built = no_schema_entry_is_built (kit g.L.Leaf.Leaf g.M.Engine.RegexEngine) g.N.Place.answers _ _ _ _ _ c.in-SchemaEntries.is c.new-in_default-value.ensures.items
+          (no_object_no_members _ c.in_default-value.not-Object);
+      refused = tt;
+    }
 
 pub compile_places-returns-in_default-value-2 : goal.compile_places-returns-in_default-value-2
 compile_places-returns-in_default-value-2 g t c =
-    record { built = no_inner_entry_is_built (kit g.L.Leaf.Leaf g.M.Engine.RegexEngine) g.N.Place.answers _ _ _ _ _ c.in-InnerEntries.is c.new-in_default-value-2.ensures.items
-        (no_object_no_members _ c.in_default-value-2.not-Object); refused = tt }
+    record {
+      built = no_inner_entry_is_built (kit g.L.Leaf.Leaf g.M.Engine.RegexEngine) g.N.Place.answers _ _ _ _ _ c.in-InnerEntries.is c.new-in_default-value-2.ensures.items
+          (no_object_no_members _ c.in_default-value-2.not-Object);
+      refused = tt;
+    }
 
 pub compile_places-returns-in_default-value-3 : goal.compile_places-returns-in_default-value-3
 compile_places-returns-in_default-value-3 g t c =
-    record { built = no_branch_is_built (kit g.L.Leaf.Leaf g.M.Engine.RegexEngine) g.N.Place.answers _ _ _ _ _ c.in-Branches.is c.new-in_default-value-3.ensures.items
-        (no_array_no_items _ c.in_default-value-3.not-Array); refused = tt }
+    record {
+      built = no_branch_is_built (kit g.L.Leaf.Leaf g.M.Engine.RegexEngine) g.N.Place.answers _ _ _ _ _ c.in-Branches.is c.new-in_default-value-3.ensures.items
+          (no_array_no_items _ c.in_default-value-3.not-Array);
+      refused = tt;
+    }
 
 pub compile_places-returns-in-Nothing-clause-built : goal.compile_places-returns-in-Nothing-clause-built
 compile_places-returns-in-Nothing-clause-built g t c = nothing_is_built (kit g.L.Leaf.Leaf g.M.Engine.RegexEngine) g.N.Place.answers _ _ _ _ _ c.in-Nothing.is c.new.ensures.items
@@ -409,49 +451,49 @@ compile_places-returns-in_ok-one-in-Itself-clause-refused g t c = tt
 pub compile_places-returns-in-Object-clause-built : goal.compile_places-returns-in-Object-clause-built
 compile_places-returns-in-Object-clause-built g t c =
     entries_are_built (kit g.L.Leaf.Leaf g.M.Engine.RegexEngine) g.N.Place.answers _ _ _ _ _ _ _ c.in-Entries.is
-        (ap members (ap view c.in-Object.is ∙ view-Object c.in-Object.map)) c.compile_entries.ensures.built
+    (ap members (ap view c.in-Object.is ∙ view-Object c.in-Object.map)) c.compile_entries.ensures.built
 
 pub compile_places-returns-in-Object-clause-refused : goal.compile_places-returns-in-Object-clause-refused
 compile_places-returns-in-Object-clause-refused g t c =
     subst₂ (λ s d. IfErr c.compile_entries.result (RefusesPlaces (kit g.L.Leaf.Leaf g.M.Engine.RegexEngine) s d c.args.location.now c.args.meter.now c.compile_entries.new.meter))
-        (sym c.in-Entries.is) (sym (ap view c.in-Object.is ∙ view-Object c.in-Object.map)) c.compile_entries.ensures.refused
+    (sym c.in-Entries.is) (sym (ap view c.in-Object.is ∙ view-Object c.in-Object.map)) c.compile_entries.ensures.refused
 
 pub compile_places-returns-in-Object-value-clause-built : goal.compile_places-returns-in-Object-value-clause-built
 compile_places-returns-in-Object-value-clause-built g t c =
     schema_entries_are_built (kit g.L.Leaf.Leaf g.M.Engine.RegexEngine) g.N.Place.answers _ _ _ _ _ _ _ c.in-SchemaEntries.is
-        (ap members (ap view c.in-Object-value.is ∙ view-Object c.in-Object-value.map)) c.compile_entries-in-SchemaEntries.ensures.built
+    (ap members (ap view c.in-Object-value.is ∙ view-Object c.in-Object-value.map)) c.compile_entries-in-SchemaEntries.ensures.built
 
 pub compile_places-returns-in-Object-value-clause-refused : goal.compile_places-returns-in-Object-value-clause-refused
 compile_places-returns-in-Object-value-clause-refused g t c =
     subst₂ (λ s d. IfErr c.compile_entries-in-SchemaEntries.result (RefusesPlaces
-        (kit g.L.Leaf.Leaf g.M.Engine.RegexEngine) s d c.args.location.now c.args.meter.now c.compile_entries-in-SchemaEntries.new.meter))
-        (sym c.in-SchemaEntries.is) (sym (ap view c.in-Object-value.is ∙ view-Object c.in-Object-value.map)) c.compile_entries-in-SchemaEntries.ensures.refused
+    (kit g.L.Leaf.Leaf g.M.Engine.RegexEngine) s d c.args.location.now c.args.meter.now c.compile_entries-in-SchemaEntries.new.meter))
+    (sym c.in-SchemaEntries.is) (sym (ap view c.in-Object-value.is ∙ view-Object c.in-Object-value.map)) c.compile_entries-in-SchemaEntries.ensures.refused
 
 pub compile_places-returns-in-Object-value-2-clause-built : goal.compile_places-returns-in-Object-value-2-clause-built
 compile_places-returns-in-Object-value-2-clause-built g t c =
     inner_entries_are_built (kit g.L.Leaf.Leaf g.M.Engine.RegexEngine) g.N.Place.answers _ _ _ _ _ _ _ c.in-InnerEntries.is
-        (ap members (ap view c.in-Object-value-2.is ∙ view-Object c.in-Object-value-2.map)) c.compile_inner_entries.ensures.built
+    (ap members (ap view c.in-Object-value-2.is ∙ view-Object c.in-Object-value-2.map)) c.compile_inner_entries.ensures.built
 
 pub compile_places-returns-in-Object-value-2-clause-refused : goal.compile_places-returns-in-Object-value-2-clause-refused
 compile_places-returns-in-Object-value-2-clause-refused g t c =
     subst₂ (λ s d. IfErr c.compile_inner_entries.result (RefusesPlaces
-        (kit g.L.Leaf.Leaf g.M.Engine.RegexEngine) s d c.args.location.now c.args.meter.now c.compile_inner_entries.new.meter)) (sym c.in-InnerEntries.is)
-        (sym (ap view c.in-Object-value-2.is ∙ view-Object c.in-Object-value-2.map)) c.compile_inner_entries.ensures.refused
+    (kit g.L.Leaf.Leaf g.M.Engine.RegexEngine) s d c.args.location.now c.args.meter.now c.compile_inner_entries.new.meter)) (sym c.in-InnerEntries.is)
+    (sym (ap view c.in-Object-value-2.is ∙ view-Object c.in-Object-value-2.map)) c.compile_inner_entries.ensures.refused
 
 pub compile_places-returns-in-Array-clause-built : goal.compile_places-returns-in-Array-clause-built
 compile_places-returns-in-Array-clause-built g t c =
     branches_are_built (kit g.L.Leaf.Leaf g.M.Engine.RegexEngine) g.N.Place.answers _ _ _ _ _ _ _ c.in-Branches.is
-        (ap items_of_array (ap view c.in-Array.is ∙ view-Array c.in-Array.items)) c.compile_branches.ensures.built
+    (ap items_of_array (ap view c.in-Array.is ∙ view-Array c.in-Array.items)) c.compile_branches.ensures.built
 
 pub compile_places-returns-in-Array-clause-refused : goal.compile_places-returns-in-Array-clause-refused
 compile_places-returns-in-Array-clause-refused g t c =
     subst₂ (λ s d. IfErr c.compile_branches.result (RefusesPlaces (kit g.L.Leaf.Leaf g.M.Engine.RegexEngine) s d c.args.location.now c.args.meter.now c.compile_branches.new.meter))
-        (sym c.in-Branches.is) (sym (ap view c.in-Array.is ∙ view-Array c.in-Array.items)) c.compile_branches.ensures.refused
+    (sym c.in-Branches.is) (sym (ap view c.in-Array.is ∙ view-Array c.in-Array.items)) c.compile_branches.ensures.refused
 
 pub compile_schema-returns-in-Bool-true-clause-built : goal.compile_schema-returns-in-Bool-true-clause-built
 compile_schema-returns-in-Bool-true-clause-built g t c =
     built_truth (kit g.L.Leaf.Leaf g.M.Engine.RegexEngine) g.N.Place.answers c.new.result c.args.location
-        (view c.args.schema.now) c.args.meter.now c.tick_compiled.new.self c.tick_compiled.ensures true c.new.ensures (ap view c.in-Bool-true.is ∙ search (rules, value_lemmas))
+    (view c.args.schema.now) c.args.meter.now c.tick_compiled.new.self c.tick_compiled.ensures true c.new.ensures (ap view c.in-Bool-true.is ∙ search (rules, value_lemmas))
 
 pub compile_schema-returns-in-Bool-true-clause-refused : goal.compile_schema-returns-in-Bool-true-clause-refused
 compile_schema-returns-in-Bool-true-clause-refused g t c = tt
@@ -459,7 +501,7 @@ compile_schema-returns-in-Bool-true-clause-refused g t c = tt
 pub compile_schema-returns-in-Bool-false-clause-built : goal.compile_schema-returns-in-Bool-false-clause-built
 compile_schema-returns-in-Bool-false-clause-built g t c =
     built_truth (kit g.L.Leaf.Leaf g.M.Engine.RegexEngine) g.N.Place.answers c.new-in-Bool-false.result c.args.location
-        (view c.args.schema.now) c.args.meter.now c.tick_compiled.new.self c.tick_compiled.ensures false c.new-in-Bool-false.ensures (ap view c.in-Bool-false.is ∙ search (rules, value_lemmas))
+    (view c.args.schema.now) c.args.meter.now c.tick_compiled.new.self c.tick_compiled.ensures false c.new-in-Bool-false.ensures (ap view c.in-Bool-false.is ∙ search (rules, value_lemmas))
 
 pub compile_schema-returns-in-Bool-false-clause-refused : goal.compile_schema-returns-in-Bool-false-clause-refused
 compile_schema-returns-in-Bool-false-clause-refused g t c = tt
@@ -470,11 +512,11 @@ compile_schema-returns-in_err-parts-in-Object-clause-built g t c = IfOk-from_err
 pub compile_schema-returns-in_err-parts-in-Object-clause-refused : goal.compile_schema-returns-in_err-parts-in-Object-clause-refused
 compile_schema-returns-in_err-parts-in-Object-clause-refused g t c =
     exit _ _ _ c.from_residual.ensures.1 (λ e q. refuses_object (world g.L.Leaf.Leaf g.M.Engine.RegexEngine) (members_view c.in-Object.members.entries)
-        (view c.args.schema.now) c.args.location c.args.meter.now c.tick_compiled.new.self c.compile_parts.new.meter e
-        (ap view c.in-Object.is ∙ view-Object c.in-Object.members) c.tick_compiled.ensures
-        (subst (λ x. Refuses (all_malformed (kit g.L.Leaf.Leaf g.M.Engine.RegexEngine) (members_view c.in-Object.members.entries) c.args.location
-        (listed (members_view c.in-Object.members.entries))) (all_cost (kit g.L.Leaf.Leaf g.M.Engine.RegexEngine) (members_view c.in-Object.members.entries)
-        (listed (members_view c.in-Object.members.entries))) c.tick_compiled.new.self c.compile_parts.new.meter x) (sym q) c.in_err-parts-in-Object.ensures.refused))
+    (view c.args.schema.now) c.args.location c.args.meter.now c.tick_compiled.new.self c.compile_parts.new.meter e
+    (ap view c.in-Object.is ∙ view-Object c.in-Object.members) c.tick_compiled.ensures
+    (subst (λ x. Refuses (all_malformed (kit g.L.Leaf.Leaf g.M.Engine.RegexEngine) (members_view c.in-Object.members.entries) c.args.location
+    (listed (members_view c.in-Object.members.entries))) (all_cost (kit g.L.Leaf.Leaf g.M.Engine.RegexEngine) (members_view c.in-Object.members.entries)
+    (listed (members_view c.in-Object.members.entries))) c.tick_compiled.new.self c.compile_parts.new.meter x) (sym q) c.in_err-parts-in-Object.ensures.refused))
 
 pub compile_schema-returns-in_err-keywords-in-Object-clause-built : goal.compile_schema-returns-in_err-keywords-in-Object-clause-built
 compile_schema-returns-in_err-keywords-in-Object-clause-built g t c = IfOk-from_err _ _ c.from_residual-in_err-keywords-in-Object.ensures.0
@@ -482,15 +524,15 @@ compile_schema-returns-in_err-keywords-in-Object-clause-built g t c = IfOk-from_
 pub compile_schema-returns-in_err-keywords-in-Object-clause-refused : goal.compile_schema-returns-in_err-keywords-in-Object-clause-refused
 compile_schema-returns-in_err-keywords-in-Object-clause-refused g t c =
     exit _ _ _ c.from_residual-in_err-keywords-in-Object.ensures.1 (λ e q. refuses_object (world g.L.Leaf.Leaf g.M.Engine.RegexEngine)
-        (members_view c.in-Object.members.entries) (view c.args.schema.now) c.args.location c.args.meter.now c.tick_compiled.new.self c.compile_parts.new.meter e
-        (ap view c.in-Object.is ∙ view-Object c.in-Object.members) c.tick_compiled.ensures (refuses_memory _ _ _ _ e _ q (within_exactly _ _ _ c.in_ok-parts-in-Object.ensures.built.spends)))
+    (members_view c.in-Object.members.entries) (view c.args.schema.now) c.args.location c.args.meter.now c.tick_compiled.new.self c.compile_parts.new.meter e
+    (ap view c.in-Object.is ∙ view-Object c.in-Object.members) c.tick_compiled.ensures (refuses_memory _ _ _ _ e _ q (within_exactly _ _ _ c.in_ok-parts-in-Object.ensures.built.spends)))
 
 pub compile_schema-returns-in-Object-clause-built : goal.compile_schema-returns-in-Object-clause-built
 compile_schema-returns-in-Object-clause-built g t c =
     built_object (kit g.L.Leaf.Leaf g.M.Engine.RegexEngine) g.N.Place.answers c.new-in-Object.result c.args.location
-        (view c.args.schema.now) c.args.meter.now c.tick_compiled.new.self c.tick_compiled.ensures
-        (members_view c.in-Object.members.entries) c.in_ok-keywords-in-Object.keywords c.compile_parts.new.meter c.new-in-Object.ensures
-        (ap view c.in-Object.is ∙ view-Object c.in-Object.members) c.in_ok-keywords-in-Object.ensures c.in_ok-parts-in-Object.ensures.built.clean c.in_ok-parts-in-Object.ensures.built.spends
+    (view c.args.schema.now) c.args.meter.now c.tick_compiled.new.self c.tick_compiled.ensures
+    (members_view c.in-Object.members.entries) c.in_ok-keywords-in-Object.keywords c.compile_parts.new.meter c.new-in-Object.ensures
+    (ap view c.in-Object.is ∙ view-Object c.in-Object.members) c.in_ok-keywords-in-Object.ensures c.in_ok-parts-in-Object.ensures.built.clean c.in_ok-parts-in-Object.ensures.built.spends
 
 pub compile_schema-returns-in-Object-clause-refused : goal.compile_schema-returns-in-Object-clause-refused
 compile_schema-returns-in-Object-clause-refused g t c = tt
@@ -501,13 +543,13 @@ compile_schema-returns-clause-built g t c = tt
 pub compile_schema-returns-clause-refused : goal.compile_schema-returns-clause-refused
 compile_schema-returns-clause-refused g t c =
     refuses_no_schema (world g.L.Leaf.Leaf g.M.Engine.RegexEngine) (view c.args.schema.now) c.args.location c.args.meter.now c.tick_compiled.new.self c.refuse.result
-        (no_schema_is (view c.args.schema.now) (elim c.in-Null.is [
-  | inl h ↦ rw h (search (rules, value_lemmas))
-  | inr h ↦ elim h [
-    | inl i ↦ rw i.1 (search (rules, value_lemmas))
-    | inr i ↦ elim i [
-      | inl j ↦ rw j.1 (search (rules, value_lemmas))
-      | inr j ↦ rw j.1 (search (rules, value_lemmas))
-    ]
-  ]
-])) c.tick_compiled.ensures (subst (λ k. TellsOneOf (fault k (view c.args.schema.now) [] c.args.location ∷ []) c.refuse.result) kind_of_multiple_types c.refuse.ensures)
+    (no_schema_is (view c.args.schema.now) (elim c.in-Null.is [
+      | inl h ↦ rw h (search (rules, value_lemmas))
+      | inr h ↦ elim h [
+        | inl i ↦ rw i.1 (search (rules, value_lemmas))
+        | inr i ↦ elim i [
+          | inl j ↦ rw j.1 (search (rules, value_lemmas))
+          | inr j ↦ rw j.1 (search (rules, value_lemmas))
+        ]
+      ]
+    ])) c.tick_compiled.ensures (subst (λ k. TellsOneOf (fault k (view c.args.schema.now) [] c.args.location ∷ []) c.refuse.result) kind_of_multiple_types c.refuse.ensures)

@@ -11,7 +11,7 @@ use Rattle.olk_validator.proofs.validator.Validator.collect_errors.Goals as goal
 pub returns-clause-report : goal.returns-clause-report
 returns-clause-report g c S stands = on_ok_weaker c.collect_errors.result
     (λ h. subst (λ Q. Appends c.args.errors.now.items c.collect_errors.new.errors.items
-        (report (world g.K.Leaf g.R.RegexEngine) c.args.ctx.now.answer S (view c.args.instance.now) [] Q)) c.new-path.ensures
+    (report (world g.K.Leaf g.R.RegexEngine) c.args.ctx.now.answer S (view c.args.instance.now) [] Q)) c.new-path.ensures
     (report_of_schema (kit g.K.Leaf g.R.RegexEngine) c.args.self.now.root c.args.ctx.now.answer (view c.args.instance.now) c.new-path.result h S [] stands.root)) c.collect_errors.ensures.report
 
 pub returns-clause-verdict : goal.returns-clause-verdict

@@ -20,4 +20,4 @@ returns-clause-invalid g c S stands = told_so c.validate.result
 pub returns-clause-first : goal.returns-clause-first
 returns-clause-first g c = told_so c.validate.result
     (λ f h. subst (λ Q. IsLikeOneOf ((answers (kit g.K.Leaf g.R.RegexEngine) c.args.self.now.root).first c.args.ctx.now.answer
-        (view c.args.instance.now) Q) f) c.new-path.ensures h.of_first) c.validate.ensures.invalid
+    (view c.args.instance.now) Q) f) c.new-path.ensures h.of_first) c.validate.ensures.invalid
