@@ -9,7 +9,7 @@ use olk_build::{Context, compile};
 use olk_check::{IsValid, are_properties_valid};
 use olk_keywords::properties::compile_small_map;
 use olk_node::SchemaNode;
-use olk_tree::{Place, PropertiesMap};
+use olk_tree::{BuiltNode, PropertiesMap};
 use serde_json::{Map, Value};
 use std::alloc::{AllocError, Global};
 use std::test::Fail;
@@ -56,7 +56,7 @@ fn an_error_speaks_of_the_object_or_of_its_first_member(rt: HostRuntime) -> Resu
 
 type BenchNode = SchemaNode<BenchLeaf, BenchRegex>;
 
-fn declared<N: Place<BenchLeaf, BenchRegex>>(
+fn declared<N: BuiltNode<BenchLeaf, BenchRegex>>(
     alloc: Global,
     names: &Map<String, Value>,
 ) -> Option<PropertiesMap<N>> {
@@ -88,7 +88,7 @@ fn verdicts<N: IsValid>(
     format!(in alloc; "{with_rest}, {without}")
 }
 
-fn beside<N: Place<BenchLeaf, BenchRegex> + IsValid>(
+fn beside<N: BuiltNode<BenchLeaf, BenchRegex> + IsValid>(
     alloc: Global,
     names: &Map<String, Value>,
     rest: &N,
@@ -104,7 +104,7 @@ fn beside<N: Place<BenchLeaf, BenchRegex> + IsValid>(
 }
 
 /// The verdicts of `beside`, over values.
-fn zip_names<N: Place<BenchLeaf, BenchRegex> + IsValid>(
+fn zip_names<N: BuiltNode<BenchLeaf, BenchRegex> + IsValid>(
     alloc: Global,
     names: &Value,
     rest: &N,
@@ -117,7 +117,7 @@ fn zip_names<N: Place<BenchLeaf, BenchRegex> + IsValid>(
 }
 
 /// The verdicts of `beside_names`, where the node for the rest is built of this schema.
-fn with_rest<N: Place<BenchLeaf, BenchRegex> + IsValid>(
+fn with_rest<N: BuiltNode<BenchLeaf, BenchRegex> + IsValid>(
     alloc: Global,
     names: &Value,
     rest: &Value,

@@ -19,8 +19,8 @@ use olk_meaning::Neighbours;
 use olk_paths::Location;
 use olk_read::{Makers, ReadPlaces, read_keyword, refuse};
 use olk_reports::{BuildError, ValidationErrorKind};
+use olk_tree::built_node::BuiltNode;
 use olk_tree::node::Body;
-use olk_tree::place::Place;
 use serde_json::{Map, Value};
 use std::alloc::{AllocError, Global};
 
@@ -38,7 +38,7 @@ fn place_of_item(alloc: Global, place: &Location, index: usize) -> Result<Locati
 ///
 /// One of the schema's malformations; else out of memory.
 #[cycle(compile)]
-fn compile_schema<'a, L: MakeLeaf, M: MakeRegex, N: Place<L::Leaf, M::Engine>>(
+fn compile_schema<'a, L: MakeLeaf, M: MakeRegex, N: BuiltNode<L::Leaf, M::Engine>>(
     alloc: Global,
     makers: &Makers<'_, L, M>,
     meter: &mut Meter,
@@ -71,7 +71,7 @@ fn compile_schema<'a, L: MakeLeaf, M: MakeRegex, N: Place<L::Leaf, M::Engine>>(
 ///
 /// One of the members' malformations; else out of memory.
 #[cycle(compile)]
-fn compile_parts<'a, L: MakeLeaf, M: MakeRegex, N: Place<L::Leaf, M::Engine>>(
+fn compile_parts<'a, L: MakeLeaf, M: MakeRegex, N: BuiltNode<L::Leaf, M::Engine>>(
     alloc: Global,
     makers: &Makers<'_, L, M>,
     meter: &mut Meter,
@@ -107,7 +107,7 @@ fn compile_parts<'a, L: MakeLeaf, M: MakeRegex, N: Place<L::Leaf, M::Engine>>(
 ///
 /// One of the member's malformations; else out of memory.
 #[cycle(compile)]
-fn compile_part<'a, L: MakeLeaf, M: MakeRegex, N: Place<L::Leaf, M::Engine>>(
+fn compile_part<'a, L: MakeLeaf, M: MakeRegex, N: BuiltNode<L::Leaf, M::Engine>>(
     alloc: Global,
     makers: &Makers<'_, L, M>,
     meter: &mut Meter,
@@ -136,7 +136,7 @@ fn compile_part<'a, L: MakeLeaf, M: MakeRegex, N: Place<L::Leaf, M::Engine>>(
 ///
 /// One of these places' malformations; else out of memory.
 #[cycle(compile)]
-fn compile_places<'a, L: MakeLeaf, M: MakeRegex, N: Place<L::Leaf, M::Engine>>(
+fn compile_places<'a, L: MakeLeaf, M: MakeRegex, N: BuiltNode<L::Leaf, M::Engine>>(
     alloc: Global,
     makers: &Makers<'_, L, M>,
     meter: &mut Meter,
@@ -197,7 +197,7 @@ fn is_read(passes_arrays: bool, entry: &Value) -> bool
 ///
 /// One of these entries' malformations; else out of memory.
 #[cycle(compile)]
-fn compile_entries<'a, L: MakeLeaf, M: MakeRegex, N: Place<L::Leaf, M::Engine>>(
+fn compile_entries<'a, L: MakeLeaf, M: MakeRegex, N: BuiltNode<L::Leaf, M::Engine>>(
     alloc: Global,
     makers: &Makers<'_, L, M>,
     meter: &mut Meter,
@@ -229,7 +229,7 @@ fn compile_entries<'a, L: MakeLeaf, M: MakeRegex, N: Place<L::Leaf, M::Engine>>(
 ///
 /// One of these inner entries' malformations; else out of memory.
 #[cycle(compile)]
-fn compile_inner_entries<'a, L: MakeLeaf, M: MakeRegex, N: Place<L::Leaf, M::Engine>>(
+fn compile_inner_entries<'a, L: MakeLeaf, M: MakeRegex, N: BuiltNode<L::Leaf, M::Engine>>(
     alloc: Global,
     makers: &Makers<'_, L, M>,
     meter: &mut Meter,
@@ -257,7 +257,7 @@ fn compile_inner_entries<'a, L: MakeLeaf, M: MakeRegex, N: Place<L::Leaf, M::Eng
 ///
 /// One of the branches' malformations; else out of memory.
 #[cycle(compile)]
-fn compile_branches<'a, L: MakeLeaf, M: MakeRegex, N: Place<L::Leaf, M::Engine>>(
+fn compile_branches<'a, L: MakeLeaf, M: MakeRegex, N: BuiltNode<L::Leaf, M::Engine>>(
     alloc: Global,
     makers: &Makers<'_, L, M>,
     meter: &mut Meter,
@@ -285,7 +285,7 @@ fn compile_branches<'a, L: MakeLeaf, M: MakeRegex, N: Place<L::Leaf, M::Engine>>
 /// # Errors
 ///
 /// One of the member's malformations; else out of memory.
-pub fn compile_member<'a, L: MakeLeaf, M: MakeRegex, N: Place<L::Leaf, M::Engine>>(
+pub fn compile_member<'a, L: MakeLeaf, M: MakeRegex, N: BuiltNode<L::Leaf, M::Engine>>(
     alloc: Global,
     ctx: &mut Context<'_, L, M>,
     parent: &Map<String, Value>,
@@ -320,7 +320,7 @@ pub fn compile_member<'a, L: MakeLeaf, M: MakeRegex, N: Place<L::Leaf, M::Engine
 /// # Errors
 ///
 /// One of these entries' malformations; else out of memory.
-pub fn compile_declared<'a, L: MakeLeaf, M: MakeRegex, N: Place<L::Leaf, M::Engine>>(
+pub fn compile_declared<'a, L: MakeLeaf, M: MakeRegex, N: BuiltNode<L::Leaf, M::Engine>>(
     alloc: Global,
     ctx: &mut Context<'_, L, M>,
     name: &str,
@@ -350,7 +350,7 @@ pub fn compile_declared<'a, L: MakeLeaf, M: MakeRegex, N: Place<L::Leaf, M::Engi
 ///
 /// A malformed schema is refused, with one of its malformations (JSON Schema 2020-12 Core, 4.3, and
 /// the shapes of the keywords). Without memory nothing is said of the schema.
-pub fn compile<'a, L: MakeLeaf, M: MakeRegex, N: Place<L::Leaf, M::Engine>>(
+pub fn compile<'a, L: MakeLeaf, M: MakeRegex, N: BuiltNode<L::Leaf, M::Engine>>(
     alloc: Global,
     ctx: &mut Context<'_, L, M>,
     schema: &'a Value,

@@ -7,7 +7,7 @@ use olk_base_tests::tables::expect_rows;
 use olk_build::Context;
 use olk_keywords::{pattern_properties, properties};
 use olk_reports::BuildError;
-use olk_tree::place::Place;
+use olk_tree::built_node::BuiltNode;
 use olk_tree::{BigMap, SmallMap, SortedNames};
 use serde_json::{Map, Value};
 use std::alloc::{AllocError, Global};
@@ -74,7 +74,7 @@ fn pattern_line<R, N: Shown>(
     }
 }
 
-fn line_of_small_map<N: Place<NoText, EqualTo> + Shown>(
+fn line_of_small_map<N: BuiltNode<NoText, EqualTo> + Shown>(
     alloc: Global,
     declared: &Map<String, Value>,
     meter: &mut Meter,
@@ -89,7 +89,7 @@ fn line_of_small_map<N: Place<NoText, EqualTo> + Shown>(
     line
 }
 
-fn line_of_big_map<N: Place<NoText, EqualTo> + Shown>(
+fn line_of_big_map<N: BuiltNode<NoText, EqualTo> + Shown>(
     alloc: Global,
     declared: &Map<String, Value>,
     meter: &mut Meter,
@@ -104,7 +104,7 @@ fn line_of_big_map<N: Place<NoText, EqualTo> + Shown>(
     line
 }
 
-fn line_of_patterns<N: Place<NoText, EqualTo> + Shown>(
+fn line_of_patterns<N: BuiltNode<NoText, EqualTo> + Shown>(
     alloc: Global,
     patterns: &Map<String, Value>,
     meter: &mut Meter,
@@ -118,7 +118,7 @@ fn line_of_patterns<N: Place<NoText, EqualTo> + Shown>(
     line
 }
 
-fn line_of<N: Place<NoText, EqualTo> + Shown>(
+fn line_of<N: BuiltNode<NoText, EqualTo> + Shown>(
     alloc: Global,
     kind: &str,
     entries: &Map<String, Value>,

@@ -7,7 +7,7 @@ use olk_build::{Context, compile};
 use olk_keywords::{properties, required};
 use olk_reports::BuildError;
 use olk_tree::KeywordOver;
-use olk_tree::place::Place;
+use olk_tree::built_node::BuiltNode;
 use serde_json::{Map, Value};
 use std::alloc::{AllocError, Global};
 use std::test::Fail;
@@ -79,7 +79,7 @@ fn is_fused<N>(made: &Made<'_, N>) -> Result<bool, Fail> {
 }
 
 /// Whether the keyword of `properties` fuses what `required` lists.
-fn fuses<N: Place<NoText, EqualTo>>(
+fn fuses<N: BuiltNode<NoText, EqualTo>>(
     alloc: Global,
     parent: &Map<String, Value>,
 ) -> Result<bool, Fail> {
@@ -94,7 +94,7 @@ fn fuses<N: Place<NoText, EqualTo>>(
 }
 
 /// Whether `required` has a keyword of its own.
-fn stands_alone<N: Place<NoText, EqualTo>>(alloc: Global, parent: &Map<String, Value>) -> bool {
+fn stands_alone<N: BuiltNode<NoText, EqualTo>>(alloc: Global, parent: &Map<String, Value>) -> bool {
     let mut meter = Meter::new();
     let mut ctx = Context::new(alloc, &NoTexts, &Equality, &mut meter);
     let listed = parent.get("required").unwrap_or(&Value::Null);
@@ -114,7 +114,7 @@ fn count_of<N: Shown>(built: &Result<N, BuildError<'_>>) -> Result<usize, Fail> 
 }
 
 /// How many keywords the schema has.
-fn keyword_count<N: Place<NoText, EqualTo> + Shown>(
+fn keyword_count<N: BuiltNode<NoText, EqualTo> + Shown>(
     alloc: Global,
     schema: &Value,
 ) -> Result<usize, Fail> {
@@ -127,7 +127,7 @@ fn keyword_count<N: Place<NoText, EqualTo> + Shown>(
     count
 }
 
-fn line_of<N: Place<NoText, EqualTo> + Shown>(
+fn line_of<N: BuiltNode<NoText, EqualTo> + Shown>(
     alloc: Global,
     schema: &Value,
     parent: &Map<String, Value>,

@@ -11,7 +11,7 @@ use olk_keywords::{
 };
 use olk_reports::BuildError;
 use olk_tree::additional_properties::AdditionalProperties;
-use olk_tree::place::Place;
+use olk_tree::built_node::BuiltNode;
 use olk_tree::properties_map::PropertiesMap;
 use olk_tree::{KeywordOver, SmallMap};
 use serde_json::{Map, Value};
@@ -195,7 +195,7 @@ fn keyword_line<K, R, N: Shown>(
 type Made<'a, N> = Option<Result<KeywordOver<NoText, EqualTo, N>, BuildError<'a>>>;
 
 /// What the module of the keyword compiles.
-fn compiled<'a, N: Place<NoText, EqualTo>>(
+fn compiled<'a, N: BuiltNode<NoText, EqualTo>>(
     alloc: Global,
     ctx: &mut Context<'_, NoTexts, Equality>,
     parent: &'a Map<String, Value>,
@@ -212,7 +212,7 @@ fn compiled<'a, N: Place<NoText, EqualTo>>(
 }
 
 /// What the module of a keyword compiles that speaks of members.
-fn compiled_of_members<'a, N: Place<NoText, EqualTo>>(
+fn compiled_of_members<'a, N: BuiltNode<NoText, EqualTo>>(
     alloc: Global,
     ctx: &mut Context<'_, NoTexts, Equality>,
     parent: &'a Map<String, Value>,
@@ -228,7 +228,7 @@ fn compiled_of_members<'a, N: Place<NoText, EqualTo>>(
 }
 
 /// What the module of a keyword compiles that speaks of what a member wants of the others.
-fn compiled_of_dependencies<'a, N: Place<NoText, EqualTo>>(
+fn compiled_of_dependencies<'a, N: BuiltNode<NoText, EqualTo>>(
     alloc: Global,
     ctx: &mut Context<'_, NoTexts, Equality>,
     parent: &'a Map<String, Value>,
@@ -256,7 +256,7 @@ fn line_of<N: Shown>(alloc: Global, made: &Made<'_, N>) -> Result<String, AllocE
 }
 
 /// What is compiled of the member of this name, as a line.
-fn compiled_line<N: Place<NoText, EqualTo> + Shown>(
+fn compiled_line<N: BuiltNode<NoText, EqualTo> + Shown>(
     alloc: Global,
     parent: &Map<String, Value>,
     name: &str,

@@ -6,7 +6,7 @@ use olk_base_tests::doubles::{EqualTo, Equality, NoText, NoTexts};
 use olk_base_tests::tables::expect_rows;
 use olk_build::{Context, compile};
 use olk_reports::{BuildError, ValidationError};
-use olk_tree::place::Place;
+use olk_tree::built_node::BuiltNode;
 use serde_json::Value;
 use std::alloc::{AllocError, Global};
 use std::test::Fail;
@@ -39,7 +39,7 @@ fn below_definitions<'c>(
 }
 
 /// The place of the node that is built there.
-fn built_place<N: Place<NoText, EqualTo> + Shown>(
+fn built_place<N: BuiltNode<NoText, EqualTo> + Shown>(
     alloc: Global,
     schema: &Value,
     meter: &mut Meter,
@@ -168,7 +168,10 @@ fn told<N>(
     Ok(told_of(alloc, error)?)
 }
 
-fn told_of_value<N: Place<NoText, EqualTo>>(alloc: Global, schema: &Value) -> Result<String, Fail> {
+fn told_of_value<N: BuiltNode<NoText, EqualTo>>(
+    alloc: Global,
+    schema: &Value,
+) -> Result<String, Fail> {
     let mut meter = Meter::new();
     let mut ctx = Context::new(alloc, &NoTexts, &Equality, &mut meter);
     let built: Result<N, BuildError<'_>> = compile(alloc, &mut ctx, schema);

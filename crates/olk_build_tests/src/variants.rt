@@ -7,7 +7,7 @@ use olk_base_tests::tables::expect_rows;
 use olk_build::{Context, compile};
 use olk_reports::BuildError;
 use olk_tree::additional_properties::AdditionalProperties;
-use olk_tree::place::Place;
+use olk_tree::built_node::BuiltNode;
 use olk_tree::properties_map::PropertiesMap;
 use olk_tree::{Body, KeywordOver, SmallMap};
 use serde_json::Value;
@@ -263,7 +263,7 @@ fn push_built<N: VariedInside>(
     }
 }
 
-fn push_schema<N: Place<NoText, EqualTo> + VariedInside>(
+fn push_schema<N: BuiltNode<NoText, EqualTo> + VariedInside>(
     text: &mut String,
     alloc: Global,
     schema: &Value,

@@ -19,9 +19,9 @@ use olk_make::{Beside, Part, Patterns};
 use olk_meaning::{Plan, member};
 use olk_read::Shape;
 use olk_reports::BuildError;
+use olk_tree::built_node::BuiltNode;
 use olk_tree::map::SmallMap;
 use olk_tree::node::KeywordOver;
-use olk_tree::place::Place;
 use serde_json::{Map, Value};
 use std::alloc::Global;
 
@@ -30,7 +30,7 @@ use std::alloc::Global;
 /// # Errors
 ///
 /// One of its malformations; else out of memory.
-fn compile_properties<'a, L: MakeLeaf, M: MakeRegex, N: Place<L::Leaf, M::Engine>>(
+fn compile_properties<'a, L: MakeLeaf, M: MakeRegex, N: BuiltNode<L::Leaf, M::Engine>>(
     alloc: Global,
     ctx: &mut Context<'_, L, M>,
     parent: &'a Map<String, Value>,
@@ -61,7 +61,7 @@ fn compile_properties<'a, L: MakeLeaf, M: MakeRegex, N: Place<L::Leaf, M::Engine
 /// # Errors
 ///
 /// One of its malformations; else out of memory.
-fn compile_patterns<'a, L: MakeLeaf, M: MakeRegex, N: Place<L::Leaf, M::Engine>>(
+fn compile_patterns<'a, L: MakeLeaf, M: MakeRegex, N: BuiltNode<L::Leaf, M::Engine>>(
     alloc: Global,
     ctx: &mut Context<'_, L, M>,
     parent: &'a Map<String, Value>,
@@ -97,7 +97,7 @@ fn compile_patterns<'a, L: MakeLeaf, M: MakeRegex, N: Place<L::Leaf, M::Engine>>
 ///
 /// One of the malformations of `additionalProperties`, whose kind is tested before anything beside
 /// it is compiled, of `properties` and of `patternProperties`; else out of memory.
-fn compile_restriction<'a, L: MakeLeaf, M: MakeRegex, N: Place<L::Leaf, M::Engine>>(
+fn compile_restriction<'a, L: MakeLeaf, M: MakeRegex, N: BuiltNode<L::Leaf, M::Engine>>(
     alloc: Global,
     ctx: &mut Context<'_, L, M>,
     parent: &'a Map<String, Value>,
@@ -144,7 +144,7 @@ fn compile_restriction<'a, L: MakeLeaf, M: MakeRegex, N: Place<L::Leaf, M::Engin
 /// # Errors
 ///
 /// One of the malformations of the three; else out of memory.
-pub fn compile<'a, L: MakeLeaf, M: MakeRegex, N: Place<L::Leaf, M::Engine>>(
+pub fn compile<'a, L: MakeLeaf, M: MakeRegex, N: BuiltNode<L::Leaf, M::Engine>>(
     alloc: Global,
     ctx: &mut Context<'_, L, M>,
     parent: &'a Map<String, Value>,

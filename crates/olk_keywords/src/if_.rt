@@ -19,8 +19,8 @@ use olk_make::if_::make;
 use olk_make::{Cases, Part};
 use olk_meaning::{Plan, member};
 use olk_reports::BuildError;
+use olk_tree::built_node::BuiltNode;
 use olk_tree::node::KeywordOver;
-use olk_tree::place::Place;
 use serde_json::{Map, Value};
 use std::alloc::Global;
 
@@ -29,7 +29,7 @@ use std::alloc::Global;
 /// # Errors
 ///
 /// One of its malformations; else out of memory.
-fn compile_case<'a, L: MakeLeaf, M: MakeRegex, N: Place<L::Leaf, M::Engine>>(
+fn compile_case<'a, L: MakeLeaf, M: MakeRegex, N: BuiltNode<L::Leaf, M::Engine>>(
     alloc: Global,
     ctx: &mut Context<'_, L, M>,
     parent: &'a Map<String, Value>,
@@ -57,7 +57,7 @@ fn compile_case<'a, L: MakeLeaf, M: MakeRegex, N: Place<L::Leaf, M::Engine>>(
 /// # Errors
 ///
 /// One of the malformations of `if`, `then` and `else`; else out of memory.
-fn compile_condition<'a, L: MakeLeaf, M: MakeRegex, N: Place<L::Leaf, M::Engine>>(
+fn compile_condition<'a, L: MakeLeaf, M: MakeRegex, N: BuiltNode<L::Leaf, M::Engine>>(
     alloc: Global,
     ctx: &mut Context<'_, L, M>,
     parent: &'a Map<String, Value>,
@@ -106,7 +106,7 @@ fn compile_condition<'a, L: MakeLeaf, M: MakeRegex, N: Place<L::Leaf, M::Engine>
 /// # Errors
 ///
 /// One of the malformations of the three; else out of memory.
-pub fn compile<'a, L: MakeLeaf, M: MakeRegex, N: Place<L::Leaf, M::Engine>>(
+pub fn compile<'a, L: MakeLeaf, M: MakeRegex, N: BuiltNode<L::Leaf, M::Engine>>(
     alloc: Global,
     ctx: &mut Context<'_, L, M>,
     parent: &'a Map<String, Value>,

@@ -17,8 +17,8 @@ use olk_make::pattern_properties::{make, with_nodes};
 use olk_meaning::is_restricted;
 use olk_read::{Shape, patterns_of_entries};
 use olk_reports::BuildError;
+use olk_tree::built_node::BuiltNode;
 use olk_tree::node::KeywordOver;
-use olk_tree::place::Place;
 use serde_json::{Map, Value};
 use std::alloc::Global;
 
@@ -32,7 +32,7 @@ use std::alloc::Global;
 /// # Errors
 ///
 /// One of the malformations of the keyword; else out of memory.
-pub fn compile<'a, L: MakeLeaf, M: MakeRegex, N: Place<L::Leaf, M::Engine>>(
+pub fn compile<'a, L: MakeLeaf, M: MakeRegex, N: BuiltNode<L::Leaf, M::Engine>>(
     alloc: Global,
     ctx: &mut Context<'_, L, M>,
     parent: &'a Map<String, Value>,
@@ -80,7 +80,7 @@ pub fn compile<'a, L: MakeLeaf, M: MakeRegex, N: Place<L::Leaf, M::Engine>>(
 /// # Errors
 ///
 /// A pattern that does not build, or one of the subschemas' malformations; else out of memory.
-pub fn compile_patterns<'a, L: MakeLeaf, M: MakeRegex, N: Place<L::Leaf, M::Engine>>(
+pub fn compile_patterns<'a, L: MakeLeaf, M: MakeRegex, N: BuiltNode<L::Leaf, M::Engine>>(
     alloc: Global,
     ctx: &mut Context<'_, L, M>,
     patterns: &'a Map<String, Value>,

@@ -19,9 +19,9 @@ use olk_meaning::Plan;
 use olk_read::Shape;
 use olk_reports::BuildError;
 use olk_tree::big_map::BigMap;
+use olk_tree::built_node::BuiltNode;
 use olk_tree::map::{SmallMap, SortedNames};
 use olk_tree::node::KeywordOver;
-use olk_tree::place::Place;
 use serde_json::{Map, Value};
 use std::alloc::Global;
 
@@ -36,7 +36,7 @@ use std::alloc::Global;
 /// # Errors
 ///
 /// One of the malformations of the keyword; else out of memory.
-pub fn compile<'a, L: MakeLeaf, M: MakeRegex, N: Place<L::Leaf, M::Engine>>(
+pub fn compile<'a, L: MakeLeaf, M: MakeRegex, N: BuiltNode<L::Leaf, M::Engine>>(
     alloc: Global,
     ctx: &mut Context<'_, L, M>,
     parent: &'a Map<String, Value>,
@@ -85,7 +85,7 @@ pub fn compile<'a, L: MakeLeaf, M: MakeRegex, N: Place<L::Leaf, M::Engine>>(
 /// # Errors
 ///
 /// One of the subschemas' malformations; else out of memory.
-pub fn compile_small_map<'a, L: MakeLeaf, M: MakeRegex, N: Place<L::Leaf, M::Engine>>(
+pub fn compile_small_map<'a, L: MakeLeaf, M: MakeRegex, N: BuiltNode<L::Leaf, M::Engine>>(
     alloc: Global,
     ctx: &mut Context<'_, L, M>,
     properties: &'a Map<String, Value>,
@@ -114,7 +114,7 @@ pub fn compile_small_map<'a, L: MakeLeaf, M: MakeRegex, N: Place<L::Leaf, M::Eng
 /// # Errors
 ///
 /// One of the subschemas' malformations; else out of memory.
-pub fn compile_big_map<'a, L: MakeLeaf, M: MakeRegex, N: Place<L::Leaf, M::Engine>>(
+pub fn compile_big_map<'a, L: MakeLeaf, M: MakeRegex, N: BuiltNode<L::Leaf, M::Engine>>(
     alloc: Global,
     ctx: &mut Context<'_, L, M>,
     properties: &'a Map<String, Value>,

@@ -13,8 +13,8 @@ use olk_make::Part;
 use olk_make::property_dependencies::make;
 use olk_read::Shape;
 use olk_reports::BuildError;
+use olk_tree::built_node::BuiltNode;
 use olk_tree::node::KeywordOver;
-use olk_tree::place::Place;
 use serde_json::{Map, Value};
 use std::alloc::Global;
 
@@ -28,7 +28,7 @@ use std::alloc::Global;
 /// # Errors
 ///
 /// One of the malformations of the keyword; else out of memory. There always is an answer.
-pub fn compile<'a, L: MakeLeaf, M: MakeRegex, N: Place<L::Leaf, M::Engine>>(
+pub fn compile<'a, L: MakeLeaf, M: MakeRegex, N: BuiltNode<L::Leaf, M::Engine>>(
     alloc: Global,
     ctx: &mut Context<'_, L, M>,
     parent: &'a Map<String, Value>,

@@ -14,8 +14,8 @@ use olk_make::Part;
 use olk_meaning::Plan;
 use olk_read::Shape;
 use olk_reports::BuildError;
+use olk_tree::built_node::BuiltNode;
 use olk_tree::node::KeywordOver;
-use olk_tree::place::Place;
 use olk_tree::required::RequiredValidator;
 use serde_json::{Map, Value};
 use std::alloc::Global;
@@ -30,7 +30,7 @@ use std::alloc::Global;
 /// # Errors
 ///
 /// One of the malformations of the keyword; else out of memory.
-pub fn compile<'a, L: MakeLeaf, M: MakeRegex, N: Place<L::Leaf, M::Engine>>(
+pub fn compile<'a, L: MakeLeaf, M: MakeRegex, N: BuiltNode<L::Leaf, M::Engine>>(
     alloc: Global,
     ctx: &mut Context<'_, L, M>,
     parent: &'a Map<String, Value>,

@@ -12,10 +12,10 @@ use olk_base::{Leaf, RegexEngine};
 use olk_meaning::Plan;
 use olk_paths::Location;
 use olk_tree::additional_properties::{AdditionalProperties, RequiredName};
+use olk_tree::built_node::BuiltNode;
 use olk_tree::map::SmallMap;
 use olk_tree::node::KeywordOver;
 use olk_tree::pattern_table::PatternTable;
-use olk_tree::place::Place;
 use olk_tree::properties_map::PropertiesMap;
 use std::alloc::{AllocError, Global};
 
@@ -117,7 +117,7 @@ fn form<K, R: Drop, N: Drop>(
 /// # Errors
 ///
 /// Out of memory.
-pub fn make<K: Leaf, R: RegexEngine, N: Place<K, R>>(
+pub fn make<K: Leaf, R: RegexEngine, N: BuiltNode<K, R>>(
     alloc: Global,
     plan: Plan<'_>,
     place: &Location,

@@ -8,8 +8,8 @@ ghost use Rattle.olk_read.specs.declared.shape.Shape.TheVariants as shape;
 use olk_base::{Leaf, RegexEngine};
 use olk_paths::Location;
 use olk_tree::all_of::{AllOf, SingleValueAllOf};
+use olk_tree::built_node::BuiltNode;
 use olk_tree::node::KeywordOver;
-use olk_tree::place::Place;
 
 /// The form for so many branches.
 fn form<K, R, N: Drop>(location: Location, mut schemas: Vec<N>) -> KeywordOver<K, R, N>
@@ -25,7 +25,7 @@ fn form<K, R, N: Drop>(location: Location, mut schemas: Vec<N>) -> KeywordOver<K
 }
 
 /// The validator of the branches' nodes.
-pub fn make<K: Leaf, R: RegexEngine, N: Place<K, R>>(
+pub fn make<K: Leaf, R: RegexEngine, N: BuiltNode<K, R>>(
     location: Location,
     nodes: Vec<N>,
 ) -> KeywordOver<K, R, N>

@@ -7,10 +7,10 @@ ghost use Rattle.olk_read.specs.declared.shape.Shape.TheVariants as shape;
 
 use olk_base::{Leaf, RegexEngine, append};
 use olk_paths::Location;
+use olk_tree::built_node::BuiltNode;
 use olk_tree::dependencies::Dependencies;
 use olk_tree::map::{SmallMap, SortedNames};
 use olk_tree::node::{Body, KeywordOver};
-use olk_tree::place::Place;
 use olk_tree::required::RequiredValidator;
 use std::alloc::{AllocError, Global};
 
@@ -19,7 +19,7 @@ use std::alloc::{AllocError, Global};
 /// # Errors
 ///
 /// Out of memory.
-fn node_of_list<K: Leaf, R: RegexEngine, N: Place<K, R>>(
+fn node_of_list<K: Leaf, R: RegexEngine, N: BuiltNode<K, R>>(
     alloc: Global,
     location: &Location,
     required: Vec<String>,
@@ -39,7 +39,7 @@ fn node_of_list<K: Leaf, R: RegexEngine, N: Place<K, R>>(
 /// # Errors
 ///
 /// Out of memory.
-fn nodes_of_lists<K: Leaf, R: RegexEngine, N: Place<K, R>>(
+fn nodes_of_lists<K: Leaf, R: RegexEngine, N: BuiltNode<K, R>>(
     alloc: Global,
     location: &Location,
     lists: Vec<Vec<String>>,
@@ -61,7 +61,7 @@ fn nodes_of_lists<K: Leaf, R: RegexEngine, N: Place<K, R>>(
 /// # Errors
 ///
 /// Out of memory.
-fn nodes_in_order<K: Leaf, R: RegexEngine, N: Place<K, R>>(
+fn nodes_in_order<K: Leaf, R: RegexEngine, N: BuiltNode<K, R>>(
     alloc: Global,
     location: &Location,
     lists: Vec<Option<Vec<String>>>,
@@ -91,7 +91,7 @@ fn nodes_in_order<K: Leaf, R: RegexEngine, N: Place<K, R>>(
 /// # Errors
 ///
 /// Out of memory.
-pub fn make_required<K: Leaf, R: RegexEngine, N: Place<K, R>>(
+pub fn make_required<K: Leaf, R: RegexEngine, N: BuiltNode<K, R>>(
     alloc: Global,
     location: Location,
     keys: SortedNames,
@@ -109,7 +109,7 @@ pub fn make_required<K: Leaf, R: RegexEngine, N: Place<K, R>>(
 }
 
 /// The validator of `dependentSchemas` with these keys, and the node of each.
-pub fn make_schemas<K: Leaf, R: RegexEngine, N: Place<K, R>>(
+pub fn make_schemas<K: Leaf, R: RegexEngine, N: BuiltNode<K, R>>(
     location: Location,
     keys: SortedNames,
     nodes: Vec<N>,
@@ -130,7 +130,7 @@ pub fn make_schemas<K: Leaf, R: RegexEngine, N: Place<K, R>>(
 /// # Errors
 ///
 /// Out of memory.
-pub fn make<K: Leaf, R: RegexEngine, N: Place<K, R>>(
+pub fn make<K: Leaf, R: RegexEngine, N: BuiltNode<K, R>>(
     alloc: Global,
     location: Location,
     keys: SortedNames,

@@ -8,9 +8,9 @@ ghost use Rattle.olk_make.specs.Making.{MakesCondition};
 use crate::part::Cases;
 use olk_base::{Leaf, RegexEngine};
 use olk_paths::Location;
+use olk_tree::built_node::BuiltNode;
 use olk_tree::if_::{IfElse, IfThen, IfThenElse};
 use olk_tree::node::KeywordOver;
-use olk_tree::place::Place;
 
 /// The form for the nodes that there are.
 fn form<K, R, N: Drop>(
@@ -50,7 +50,7 @@ fn form<K, R, N: Drop>(
 
 /// The validator of the node of `if` and of those of `then` and `else`, and none where there is
 /// neither.
-pub fn make<K: Leaf, R: RegexEngine, N: Place<K, R>>(
+pub fn make<K: Leaf, R: RegexEngine, N: BuiltNode<K, R>>(
     location: Location,
     schema: N,
     cases: Cases<N>,

@@ -19,9 +19,9 @@ use olk_base::{Leaf, RegexEngine, append};
 use olk_meaning::Plan;
 use olk_paths::Location;
 use olk_read::Shape;
+use olk_tree::built_node::BuiltNode;
 use olk_tree::map::SmallMap;
 use olk_tree::node::KeywordOver;
-use olk_tree::place::Place;
 use serde_json::{Map, Value};
 use std::alloc::{AllocError, Global};
 
@@ -74,7 +74,7 @@ fn take<K, R: Drop, N: Drop>(
 /// # Errors
 ///
 /// Out of memory.
-fn take_all<K: Leaf, R: RegexEngine, N: Place<K, R>>(
+fn take_all<K: Leaf, R: RegexEngine, N: BuiltNode<K, R>>(
     alloc: Global,
     plan: Plan<'_>,
     parts: Vec<Part<K, R, N>>,
@@ -104,7 +104,7 @@ fn take_all<K: Leaf, R: RegexEngine, N: Place<K, R>>(
 /// # Errors
 ///
 /// Out of memory.
-fn make_keyword<K: Leaf, R: RegexEngine, N: Place<K, R>>(
+fn make_keyword<K: Leaf, R: RegexEngine, N: BuiltNode<K, R>>(
     alloc: Global,
     plan: Plan<'_>,
     place: &Location,
@@ -185,7 +185,7 @@ fn make_keyword<K: Leaf, R: RegexEngine, N: Place<K, R>>(
 /// # Errors
 ///
 /// Out of memory.
-pub fn make_keywords<K: Leaf, R: RegexEngine, N: Place<K, R>>(
+pub fn make_keywords<K: Leaf, R: RegexEngine, N: BuiltNode<K, R>>(
     alloc: Global,
     place: &Location,
     members: &Map<String, Value>,

@@ -9,13 +9,13 @@ ghost use Rattle.olk_read.specs.declared.shape.Shape.TheVariants as shape;
 
 use olk_base::{Leaf, RegexEngine};
 use olk_paths::Location;
+use olk_tree::built_node::BuiltNode;
 use olk_tree::node::KeywordOver;
 use olk_tree::not::Not;
-use olk_tree::place::Place;
 use serde_json::Value;
 
 /// The validator of a schema's node, and none where there is no node.
-pub fn make<K: Leaf, R: RegexEngine, N: Place<K, R>>(
+pub fn make<K: Leaf, R: RegexEngine, N: BuiltNode<K, R>>(
     location: Location,
     original: Value,
     mut nodes: Vec<N>,

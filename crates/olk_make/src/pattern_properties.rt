@@ -8,9 +8,9 @@ ghost use Rattle.olk_read.specs.declared.shape.Shape.TheVariants as shape;
 
 use olk_base::{CompiledPattern, Leaf, RegexEngine, append};
 use olk_paths::Location;
+use olk_tree::built_node::BuiltNode;
 use olk_tree::node::KeywordOver;
 use olk_tree::pattern_properties::{PatternProperties, SingleValuePatternProperties};
-use olk_tree::place::Place;
 use std::alloc::{AllocError, Global};
 
 /// Each pattern with its node, as far as there are both.
@@ -57,7 +57,7 @@ fn form<K, R: Drop, N: Drop>(
 /// # Errors
 ///
 /// Out of memory.
-pub fn make<K: Leaf, R: RegexEngine, N: Place<K, R>>(
+pub fn make<K: Leaf, R: RegexEngine, N: BuiltNode<K, R>>(
     alloc: Global,
     location: Location,
     patterns: Vec<CompiledPattern<R>>,

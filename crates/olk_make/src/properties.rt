@@ -13,9 +13,9 @@ use olk_meaning::Plan;
 use olk_paths::Location;
 use olk_spec::HASHMAP_THRESHOLD;
 use olk_tree::big_map::BigMap;
+use olk_tree::built_node::BuiltNode;
 use olk_tree::map::{SmallMap, SortedNames};
 use olk_tree::node::KeywordOver;
-use olk_tree::place::Place;
 use olk_tree::properties::{Properties, SmallPropertiesWithRequired2};
 use olk_tree::properties_map::PropertiesMap;
 use std::alloc::{AllocError, Global};
@@ -73,7 +73,7 @@ fn form<K, R, N: Drop>(
 /// # Errors
 ///
 /// Out of memory.
-pub fn make<K: Leaf, R: RegexEngine, N: Place<K, R>>(
+pub fn make<K: Leaf, R: RegexEngine, N: BuiltNode<K, R>>(
     alloc: Global,
     plan: Plan<'_>,
     place: &Location,

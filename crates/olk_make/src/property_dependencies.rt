@@ -8,9 +8,9 @@ ghost use Rattle.olk_read.specs.declared.shape.Shape.TheVariants as shape;
 
 use olk_base::{Leaf, RegexEngine, append};
 use olk_paths::Location;
+use olk_tree::built_node::BuiltNode;
 use olk_tree::map::{SmallMap, SortedNames};
 use olk_tree::node::KeywordOver;
-use olk_tree::place::Place;
 use olk_tree::property_dependencies::PropertyDependencies;
 use std::alloc::{AllocError, Global};
 use std::vec::IntoIter;
@@ -68,7 +68,7 @@ fn cut<N: Drop>(
 /// # Errors
 ///
 /// Out of memory.
-pub fn make<K: Leaf, R: RegexEngine, N: Place<K, R>>(
+pub fn make<K: Leaf, R: RegexEngine, N: BuiltNode<K, R>>(
     alloc: Global,
     location: Location,
     keys: SortedNames,

@@ -8,12 +8,12 @@ ghost use Rattle.olk_read.specs.declared.shape.Shape.TheVariants as shape;
 
 use olk_base::{Leaf, RegexEngine};
 use olk_paths::Location;
+use olk_tree::built_node::BuiltNode;
 use olk_tree::node::KeywordOver;
-use olk_tree::place::Place;
 use olk_tree::property_names::{PropertyNames, PropertyNamesFalse};
 
 /// The validator of a schema's node, and none where there is no node.
-pub fn make<K: Leaf, R: RegexEngine, N: Place<K, R>>(
+pub fn make<K: Leaf, R: RegexEngine, N: BuiltNode<K, R>>(
     location: Location,
     mut nodes: Vec<N>,
 ) -> Option<KeywordOver<K, R, N>>
@@ -29,7 +29,7 @@ pub fn make<K: Leaf, R: RegexEngine, N: Place<K, R>>(
 }
 
 /// The validator of `false`, which allows no name.
-pub fn make_false<K: Leaf, R: RegexEngine, N: Place<K, R>>(
+pub fn make_false<K: Leaf, R: RegexEngine, N: BuiltNode<K, R>>(
     location: Location,
 ) -> KeywordOver<K, R, N>
     ensures form { IsPropertyNamesFalse location result }

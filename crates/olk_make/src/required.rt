@@ -9,13 +9,13 @@ ghost use Rattle.olk_read.specs.declared.shape.Shape.TheVariants as shape;
 use olk_base::{Leaf, RegexEngine};
 use olk_meaning::Plan;
 use olk_paths::Location;
+use olk_tree::built_node::BuiltNode;
 use olk_tree::node::KeywordOver;
-use olk_tree::place::Place;
 use olk_tree::required::RequiredValidator;
 
 /// The validator of the names, unless the plan fuses them: two into `properties`, or one into
 /// `additionalProperties`.
-pub fn make<K: Leaf, R: RegexEngine, N: Place<K, R>>(
+pub fn make<K: Leaf, R: RegexEngine, N: BuiltNode<K, R>>(
     plan: Plan<'_>,
     location: Location,
     required: Vec<String>,

@@ -6,6 +6,7 @@ use olk_paths::Location;
 use olk_tree::all_of::{AllOf, SingleValueAllOf};
 use olk_tree::any_of::{AnyOf, SingleAnyOf};
 use olk_tree::big_map::BigMap;
+use olk_tree::built_node::BuiltNode;
 use olk_tree::dependencies::{Dependencies, DependentRequired, DependentSchemas};
 use olk_tree::if_::{IfElse, IfThen, IfThenElse};
 use olk_tree::map::SmallMap;
@@ -13,7 +14,6 @@ use olk_tree::node::{Body, KeywordOver};
 use olk_tree::not::Not;
 use olk_tree::one_of::{OneOf, SingleOneOf};
 use olk_tree::pattern_properties::{PatternProperties, SingleValuePatternProperties};
-use olk_tree::place::Place;
 use olk_tree::properties::{Properties, SmallPropertiesWithRequired2};
 use olk_tree::property_dependencies::PropertyDependencies;
 use olk_tree::property_names::PropertyNames;
@@ -54,7 +54,7 @@ impl<K, R> SchemaNode<K, R> {
     }
 }
 
-impl<K: Leaf, R: RegexEngine> Place<K, R> for SchemaNode<K, R> {
+impl<K: Leaf, R: RegexEngine> BuiltNode<K, R> for SchemaNode<K, R> {
     ghost use Rattle.olk_base.specs.Kit.{kit};
     ghost use Rattle.olk_tree.specs.Places.{AnswersBy};
     ghost use Rattle.olk_node.specs.Nodes.{answers};

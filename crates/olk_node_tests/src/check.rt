@@ -11,10 +11,10 @@ use olk_paths::Location;
 use olk_tree::all_of::{AllOf, SingleValueAllOf};
 use olk_tree::any_of::{AnyOf, SingleAnyOf};
 use olk_tree::big_map::BigMap;
+use olk_tree::built_node::BuiltNode;
 use olk_tree::map::{SmallMap, SortedNames};
 use olk_tree::node::{Body, KeywordOver};
 use olk_tree::not::Not;
-use olk_tree::place::Place;
 use olk_tree::properties::{Properties, SmallPropertiesWithRequired2};
 use olk_tree::properties_map::PropertiesMap;
 use olk_tree::required::RequiredValidator;
@@ -39,7 +39,7 @@ impl Accepts for PlainNode {
 }
 
 /// Accepts everything where the word is `true`, and nothing else.
-fn truth<N: Place<NoText, EqualTo>>(alloc: Global, word: &str) -> N {
+fn truth<N: BuiltNode<NoText, EqualTo>>(alloc: Global, word: &str) -> N {
     let body = if word == "true" {
         Body::True
     } else {
@@ -48,7 +48,7 @@ fn truth<N: Place<NoText, EqualTo>>(alloc: Global, word: &str) -> N {
     N::new(Location::new(alloc), body)
 }
 
-fn keyword<N: Place<NoText, EqualTo>>(
+fn keyword<N: BuiltNode<NoText, EqualTo>>(
     alloc: Global,
     keyword: KeywordOver<NoText, EqualTo, N>,
 ) -> Result<N, AllocError> {
@@ -57,11 +57,11 @@ fn keyword<N: Place<NoText, EqualTo>>(
     Ok(N::new(Location::new(alloc), Body::Keywords(keywords)))
 }
 
-fn no_text<N: Place<NoText, EqualTo>>(alloc: Global) -> Result<N, AllocError> {
+fn no_text<N: BuiltNode<NoText, EqualTo>>(alloc: Global) -> Result<N, AllocError> {
     keyword(alloc, KeywordOver::Leaf(Location::new(alloc), NoText))
 }
 
-fn push_truth<N: Place<NoText, EqualTo>>(
+fn push_truth<N: BuiltNode<NoText, EqualTo>>(
     nodes: &mut Vec<N>,
     alloc: Global,
     word: &str,
@@ -69,7 +69,10 @@ fn push_truth<N: Place<NoText, EqualTo>>(
     Ok(nodes.push(truth(alloc, word))?)
 }
 
-fn branches<N: Place<NoText, EqualTo>>(alloc: Global, words: &str) -> Result<Vec<N>, AllocError> {
+fn branches<N: BuiltNode<NoText, EqualTo>>(
+    alloc: Global,
+    words: &str,
+) -> Result<Vec<N>, AllocError> {
     let mut nodes = Vec::new(alloc);
     for word in words.split_terminator(" ") {
         push_truth(&mut nodes, alloc, word)?;
@@ -77,19 +80,19 @@ fn branches<N: Place<NoText, EqualTo>>(alloc: Global, words: &str) -> Result<Vec
     Ok(nodes)
 }
 
-fn all_of<N: Place<NoText, EqualTo>>(alloc: Global, words: &str) -> Result<N, AllocError> {
+fn all_of<N: BuiltNode<NoText, EqualTo>>(alloc: Global, words: &str) -> Result<N, AllocError> {
     let schemas = branches(alloc, words)?;
     let location = Location::new(alloc);
     keyword(alloc, KeywordOver::AllOf(AllOf { schemas, location }))
 }
 
-fn any_of<N: Place<NoText, EqualTo>>(alloc: Global, words: &str) -> Result<N, AllocError> {
+fn any_of<N: BuiltNode<NoText, EqualTo>>(alloc: Global, words: &str) -> Result<N, AllocError> {
     let schemas = branches(alloc, words)?;
     let location = Location::new(alloc);
     keyword(alloc, KeywordOver::AnyOf(AnyOf { schemas, location }))
 }
 
-fn all_of_one<N: Place<NoText, EqualTo>>(alloc: Global, word: &str) -> Result<N, AllocError> {
+fn all_of_one<N: BuiltNode<NoText, EqualTo>>(alloc: Global, word: &str) -> Result<N, AllocError> {
     let node = truth(alloc, word);
     let location = Location::new(alloc);
     keyword(
@@ -98,7 +101,7 @@ fn all_of_one<N: Place<NoText, EqualTo>>(alloc: Global, word: &str) -> Result<N,
     )
 }
 
-fn any_of_one<N: Place<NoText, EqualTo>>(alloc: Global, word: &str) -> Result<N, AllocError> {
+fn any_of_one<N: BuiltNode<NoText, EqualTo>>(alloc: Global, word: &str) -> Result<N, AllocError> {
     let node = truth(alloc, word);
     let location = Location::new(alloc);
     keyword(
@@ -107,7 +110,7 @@ fn any_of_one<N: Place<NoText, EqualTo>>(alloc: Global, word: &str) -> Result<N,
     )
 }
 
-fn not<N: Place<NoText, EqualTo>>(alloc: Global, word: &str) -> Result<N, AllocError> {
+fn not<N: BuiltNode<NoText, EqualTo>>(alloc: Global, word: &str) -> Result<N, AllocError> {
     let node = truth(alloc, word);
     let location = Location::new(alloc);
     let original = Value::Bool(word == "true");
@@ -133,7 +136,7 @@ fn texts(alloc: Global, words: &str) -> Result<Vec<String>, AllocError> {
     Ok(texts)
 }
 
-fn required<N: Place<NoText, EqualTo>>(alloc: Global, words: &str) -> Result<N, AllocError> {
+fn required<N: BuiltNode<NoText, EqualTo>>(alloc: Global, words: &str) -> Result<N, AllocError> {
     let required = texts(alloc, words)?;
     let location = Location::new(alloc);
     keyword(
@@ -148,14 +151,14 @@ fn required<N: Place<NoText, EqualTo>>(alloc: Global, words: &str) -> Result<N, 
 const NUMBERED: &str =
     "m00 m01 m02 m03 m04 m05 m06 m07 m08 m09 m10 m11 m12 m13 m14 m15 m16 m17 m18 m19";
 
-fn push_leaf<N: Place<NoText, EqualTo>>(
+fn push_leaf<N: BuiltNode<NoText, EqualTo>>(
     nodes: &mut Vec<N>,
     alloc: Global,
 ) -> Result<(), AllocError> {
     Ok(nodes.push(no_text(alloc)?)?)
 }
 
-fn leaf_nodes<N: Place<NoText, EqualTo>>(
+fn leaf_nodes<N: BuiltNode<NoText, EqualTo>>(
     alloc: Global,
     count: usize,
 ) -> Result<Vec<N>, AllocError> {
@@ -179,7 +182,7 @@ fn mapped<N: Drop>(map: SmallMap<N>, many: bool) -> PropertiesMap<N> {
 }
 
 /// So many names, each with the leaf.
-fn leaf_names<N: Place<NoText, EqualTo>>(
+fn leaf_names<N: BuiltNode<NoText, EqualTo>>(
     alloc: Global,
     names: &str,
     count: usize,
@@ -188,7 +191,7 @@ fn leaf_names<N: Place<NoText, EqualTo>>(
 }
 
 /// `properties` of these names.
-fn declared<N: Place<NoText, EqualTo>>(
+fn declared<N: BuiltNode<NoText, EqualTo>>(
     alloc: Global,
     count: usize,
     many: bool,
@@ -209,7 +212,7 @@ fn two_names(alloc: Global) -> Result<(String, String), AllocError> {
 }
 
 /// `properties` of the name `a`, and the required names `c` and `b`.
-fn beside_required<N: Place<NoText, EqualTo>>(alloc: Global) -> Result<N, AllocError> {
+fn beside_required<N: BuiltNode<NoText, EqualTo>>(alloc: Global) -> Result<N, AllocError> {
     let ((first, second), properties) = both(two_names(alloc), leaf_names(alloc, "a", 1))?;
     let both = SmallPropertiesWithRequired2 {
         properties,
@@ -224,7 +227,7 @@ fn beside_required<N: Place<NoText, EqualTo>>(alloc: Global) -> Result<N, AllocE
 // ---- what a validator accepts
 
 /// The validator of this form, of these words.
-fn validator<N: Place<NoText, EqualTo>>(
+fn validator<N: BuiltNode<NoText, EqualTo>>(
     alloc: Global,
     form: &str,
     words: &str,
@@ -245,7 +248,7 @@ fn validator<N: Place<NoText, EqualTo>>(
 
 /// Whether a validator accepts a value. A node is dropped by name, so that none ends with its
 /// scope.
-fn accepts_line<N: Place<NoText, EqualTo> + Accepts>(
+fn accepts_line<N: BuiltNode<NoText, EqualTo> + Accepts>(
     alloc: Global,
     form: &str,
     words: &str,
@@ -257,7 +260,7 @@ fn accepts_line<N: Place<NoText, EqualTo> + Accepts>(
     String::from_str(alloc, if accepted { "true" } else { "false" })
 }
 
-fn accepts_json<N: Place<NoText, EqualTo> + Accepts>(
+fn accepts_json<N: BuiltNode<NoText, EqualTo> + Accepts>(
     alloc: Global,
     form: &str,
     words: &str,
@@ -360,7 +363,7 @@ fn leaf_answers<N: IsValid>(node: &N, text: &Value, name: &String) -> (bool, boo
     (is_text, is_name, is_null, ctx.meter().asked())
 }
 
-fn leaf_line<N: Place<NoText, EqualTo> + IsValid>(
+fn leaf_line<N: BuiltNode<NoText, EqualTo> + IsValid>(
     alloc: Global,
     text: &Value,
     name: &String,
@@ -499,7 +502,7 @@ fn expect_names<N: Accepts>(
     expect_refused(place, alloc, OTHERS, 0, besides)
 }
 
-fn expect_declared<N: Place<NoText, EqualTo> + Accepts>(
+fn expect_declared<N: BuiltNode<NoText, EqualTo> + Accepts>(
     alloc: Global,
     count: usize,
     many: bool,

@@ -1,7 +1,7 @@
 //! Validators, and what they hold: what they mean and what they report, over the nodes that they
 //! are generic in.
 //!
-//! `Place` is a node as building knows it. Stands on `olk_paths` and `olk_meaning`. Tested by
+//! `BuiltNode` is a node as building knows it. Stands on `olk_paths` and `olk_meaning`. Tested by
 //! `object_logic_tests`.
 #![tactic(auto)]
 
@@ -10,6 +10,7 @@ pub mod all_of;
 pub mod answers;
 pub mod any_of;
 pub mod big_map;
+pub mod built_node;
 pub mod declared;
 pub mod dependencies;
 pub mod if_;
@@ -20,7 +21,6 @@ pub mod not;
 pub mod one_of;
 pub mod pattern_properties;
 pub mod pattern_table;
-pub mod place;
 pub mod properties;
 pub mod properties_map;
 pub mod property_dependencies;
@@ -29,10 +29,10 @@ pub mod required;
 pub mod validators_map;
 
 pub use big_map::BigMap;
+pub use built_node::BuiltNode;
 pub use map::{SmallMap, SortedNames};
 pub use means::{Means, Reports};
 pub use node::{Body, KeywordOver};
-pub use place::Place;
 pub use properties_map::PropertiesMap;
 pub use required::RequiredValidator;
 pub use validators_map::PropertiesValidatorsMap;

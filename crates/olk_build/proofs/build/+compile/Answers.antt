@@ -38,7 +38,7 @@ compile_entries-returns-in_err-nodes-clause-refused g t c = exit _ _ _ c.from_re
 pub compile_entries-loop-name-init : goal.compile_entries-loop-name-init
 compile_entries-loop-name-init g t c =
     record {
-      so_far = no_entries (kit g.L.Leaf.Leaf g.M.Engine.RegexEngine) g.N.Place.answers c.args.place.now
+      so_far = no_entries (kit g.L.Leaf.Leaf g.M.Engine.RegexEngine) g.N.BuiltNode.answers c.args.place.now
           (entries_read c.args.passes_arrays (listed (members_view c.args.map.now.entries))) c.args.meter.now c.in_ok-nodes.nodes.items _ c.in_ok-nodes.ensures.items
           (ap (λ l. entries_read c.args.passes_arrays (listed (members_view l))) c.into_iter-name-iterator.ensures.into_iter_gives.0);
       next = tt;
@@ -53,7 +53,7 @@ compile_entries-returns-in_err-location-clause-built g t c = IfOk-from_err _ _ c
 
 pub compile_entries-returns-in_err-location-clause-refused : goal.compile_entries-returns-in_err-location-clause-refused
 compile_entries-returns-in_err-location-clause-refused g t c =
-    exit _ _ _ c.from_residual-in_err-location.ensures.1 (λ e q. entries_memory (kit g.L.Leaf.Leaf g.M.Engine.RegexEngine) g.N.Place.answers c.args.place.now
+    exit _ _ _ c.from_residual-in_err-location.ensures.1 (λ e q. entries_memory (kit g.L.Leaf.Leaf g.M.Engine.RegexEngine) g.N.BuiltNode.answers c.args.place.now
     (entries_read c.args.passes_arrays (listed (members_view c.args.map.now.entries))) c.args.meter.now c.loop-name.nodes.items
     (entries_read c.args.passes_arrays (listed (members_view c.loop-name.name-iterator))) _ e _ q c.loop-name.invariant.so_far)
 
@@ -62,7 +62,7 @@ compile_entries-returns-in_err-node-clause-built g t c = IfOk-from_err _ _ c.fro
 
 pub compile_entries-returns-in_err-node-clause-refused : goal.compile_entries-returns-in_err-node-clause-refused
 compile_entries-returns-in_err-node-clause-refused g t c =
-    exit _ _ _ c.from_residual-in_err-node.ensures.1 (λ e q. entry_refused (kit g.L.Leaf.Leaf g.M.Engine.RegexEngine) g.N.Place.answers c.args.place.now
+    exit _ _ _ c.from_residual-in_err-node.ensures.1 (λ e q. entry_refused (kit g.L.Leaf.Leaf g.M.Engine.RegexEngine) g.N.BuiltNode.answers c.args.place.now
     (entries_read c.args.passes_arrays (listed (members_view c.args.map.now.entries))) c.args.meter.now (string_bytes c.in-Some.name.now, view c.in-Some.schema.now)
     (entries_read c.args.passes_arrays (listed (members_view c.loop-name.name-iterator))) (entries_read c.args.passes_arrays (listed (members_view c.next.new.self)))
     (ap (λ l. entries_read c.args.passes_arrays (listed (members_view l))) c.in-Some.ensures.steps ∙ at_an_entry (string_bytes c.in-Some.name.now, view c.in-Some.schema.now)
@@ -72,7 +72,7 @@ compile_entries-returns-in_err-node-clause-refused g t c =
 pub compile_entries-loop-name-preserved-in-Continue-branch-4 : goal.compile_entries-loop-name-preserved-in-Continue-branch-4
 compile_entries-loop-name-preserved-in-Continue-branch-4 g t c =
     record {
-      so_far = one_more_entry (kit g.L.Leaf.Leaf g.M.Engine.RegexEngine) g.N.Place.answers c.args.place.now
+      so_far = one_more_entry (kit g.L.Leaf.Leaf g.M.Engine.RegexEngine) g.N.BuiltNode.answers c.args.place.now
           (entries_read c.args.passes_arrays (listed (members_view c.args.map.now.entries))) c.args.meter.now (string_bytes c.in-Some.name.now, view c.in-Some.schema.now)
           (entries_read c.args.passes_arrays (listed (members_view c.loop-name.name-iterator))) (entries_read c.args.passes_arrays (listed (members_view c.next.new.self)))
           (ap (λ l. entries_read c.args.passes_arrays (listed (members_view l))) c.in-Some.ensures.steps ∙ at_an_entry (string_bytes c.in-Some.name.now, view c.in-Some.schema.now)
@@ -87,7 +87,7 @@ compile_entries-returns-in_err-append-clause-built g t c = IfOk-from_err _ _ c.f
 
 pub compile_entries-returns-in_err-append-clause-refused : goal.compile_entries-returns-in_err-append-clause-refused
 compile_entries-returns-in_err-append-clause-refused g t c =
-    exit _ _ _ c.from_residual-in_err-append.ensures.1 (λ e q. entry_memory (kit g.L.Leaf.Leaf g.M.Engine.RegexEngine) g.N.Place.answers c.args.place.now
+    exit _ _ _ c.from_residual-in_err-append.ensures.1 (λ e q. entry_memory (kit g.L.Leaf.Leaf g.M.Engine.RegexEngine) g.N.BuiltNode.answers c.args.place.now
     (entries_read c.args.passes_arrays (listed (members_view c.args.map.now.entries))) c.args.meter.now (string_bytes c.in-Some.name.now, view c.in-Some.schema.now)
     (entries_read c.args.passes_arrays (listed (members_view c.loop-name.name-iterator))) (entries_read c.args.passes_arrays (listed (members_view c.next.new.self)))
     (ap (λ l. entries_read c.args.passes_arrays (listed (members_view l))) c.in-Some.ensures.steps ∙ at_an_entry (string_bytes c.in-Some.name.now, view c.in-Some.schema.now)
@@ -97,7 +97,7 @@ compile_entries-returns-in_err-append-clause-refused g t c =
 pub compile_entries-loop-name-preserved : goal.compile_entries-loop-name-preserved
 compile_entries-loop-name-preserved g t c =
     record {
-      so_far = subst (λ l. EntriesSoFar (kit g.L.Leaf.Leaf g.M.Engine.RegexEngine) g.N.Place.answers c.args.place.now
+      so_far = subst (λ l. EntriesSoFar (kit g.L.Leaf.Leaf g.M.Engine.RegexEngine) g.N.BuiltNode.answers c.args.place.now
           (entries_read c.args.passes_arrays (listed (members_view c.args.map.now.entries))) c.args.meter.now c.loop-name.nodes.items l c.loop-name.meter)
           (ap (λ l. entries_read c.args.passes_arrays (listed (members_view l))) c.in-Some.ensures.steps
           ∙ past_an_entry (string_bytes c.in-Some.name.now, view c.in-Some.schema.now) (listed (members_view c.next.new.self)) c.args.passes_arrays
@@ -108,7 +108,7 @@ compile_entries-loop-name-preserved g t c =
 
 pub compile_entries-returns-clause-built : goal.compile_entries-returns-clause-built
 compile_entries-returns-clause-built g t c =
-    entries_built (kit g.L.Leaf.Leaf g.M.Engine.RegexEngine) g.N.Place.answers c.args.place.now
+    entries_built (kit g.L.Leaf.Leaf g.M.Engine.RegexEngine) g.N.BuiltNode.answers c.args.place.now
     (entries_read c.args.passes_arrays (listed (members_view c.args.map.now.entries))) c.args.meter.now c.loop-name.nodes.items
     (entries_read c.args.passes_arrays (listed (members_view c.loop-name.name-iterator))) _
     (ap (λ l. entries_read c.args.passes_arrays (listed (members_view l))) c.in-None.ensures.steps.0 ∙ none_is_read c.args.passes_arrays) c.loop-name.invariant.so_far
@@ -119,7 +119,7 @@ compile_entries-returns-clause-refused g t c = tt
 pub compile_inner_entries-loop-name-init : goal.compile_inner_entries-loop-name-init
 compile_inner_entries-loop-name-init g t c =
     record {
-      so_far = no_inner (kit g.L.Leaf.Leaf g.M.Engine.RegexEngine) g.N.Place.answers c.args.place.now
+      so_far = no_inner (kit g.L.Leaf.Leaf g.M.Engine.RegexEngine) g.N.BuiltNode.answers c.args.place.now
           (listed (members_view c.args.map.now.entries)) c.args.meter.now c.new-nodes.result.items _ c.new-nodes.ensures.items
           (ap (λ l. listed (members_view l)) c.into_iter-name-iterator.ensures.into_iter_gives.0);
       next = tt;
@@ -134,7 +134,7 @@ compile_inner_entries-returns-in_err-location-clause-built g t c = IfOk-from_err
 
 pub compile_inner_entries-returns-in_err-location-clause-refused : goal.compile_inner_entries-returns-in_err-location-clause-refused
 compile_inner_entries-returns-in_err-location-clause-refused g t c =
-    exit _ _ _ c.from_residual.ensures.1 (λ e q. inner_memory (kit g.L.Leaf.Leaf g.M.Engine.RegexEngine) g.N.Place.answers c.args.place.now
+    exit _ _ _ c.from_residual.ensures.1 (λ e q. inner_memory (kit g.L.Leaf.Leaf g.M.Engine.RegexEngine) g.N.BuiltNode.answers c.args.place.now
     (listed (members_view c.args.map.now.entries)) c.args.meter.now c.loop-name.nodes.items (listed (members_view c.loop-name.name-iterator)) _ e _ q c.loop-name.invariant.so_far)
 
 pub compile_inner_entries-returns-in_err-inner-clause-built : goal.compile_inner_entries-returns-in_err-inner-clause-built
@@ -142,7 +142,7 @@ compile_inner_entries-returns-in_err-inner-clause-built g t c = IfOk-from_err _ 
 
 pub compile_inner_entries-returns-in_err-inner-clause-refused : goal.compile_inner_entries-returns-in_err-inner-clause-refused
 compile_inner_entries-returns-in_err-inner-clause-refused g t c =
-    exit _ _ _ c.from_residual-in_err-inner.ensures.1 (λ e q. inner_refused (kit g.L.Leaf.Leaf g.M.Engine.RegexEngine) g.N.Place.answers c.args.place.now
+    exit _ _ _ c.from_residual-in_err-inner.ensures.1 (λ e q. inner_refused (kit g.L.Leaf.Leaf g.M.Engine.RegexEngine) g.N.BuiltNode.answers c.args.place.now
     (listed (members_view c.args.map.now.entries)) c.args.meter.now (string_bytes c.in-Some.name.now, view c.in-Some.entry.now)
     (listed (members_view c.loop-name.name-iterator)) (listed (members_view c.next.new.self))
     (ap (λ l. listed (members_view l)) c.in-Some.ensures.steps) c.loop-name.nodes.items _ _ c.in_ok-location.location
@@ -153,7 +153,7 @@ compile_inner_entries-returns-in_err-append_all-clause-built g t c = IfOk-from_e
 
 pub compile_inner_entries-returns-in_err-append_all-clause-refused : goal.compile_inner_entries-returns-in_err-append_all-clause-refused
 compile_inner_entries-returns-in_err-append_all-clause-refused g t c =
-    exit _ _ _ c.from_residual-in_err-append_all.ensures.1 (λ e q. more_inner_memory (kit g.L.Leaf.Leaf g.M.Engine.RegexEngine) g.N.Place.answers c.args.place.now
+    exit _ _ _ c.from_residual-in_err-append_all.ensures.1 (λ e q. more_inner_memory (kit g.L.Leaf.Leaf g.M.Engine.RegexEngine) g.N.BuiltNode.answers c.args.place.now
     (listed (members_view c.args.map.now.entries)) c.args.meter.now (string_bytes c.in-Some.name.now, view c.in-Some.entry.now)
     (listed (members_view c.loop-name.name-iterator)) (listed (members_view c.next.new.self))
     (ap (λ l. listed (members_view l)) c.in-Some.ensures.steps) c.loop-name.nodes.items _ _ c.in_ok-location.location
@@ -162,7 +162,7 @@ compile_inner_entries-returns-in_err-append_all-clause-refused g t c =
 pub compile_inner_entries-loop-name-preserved : goal.compile_inner_entries-loop-name-preserved
 compile_inner_entries-loop-name-preserved g t c =
     record {
-      so_far = one_more_inner (kit g.L.Leaf.Leaf g.M.Engine.RegexEngine) g.N.Place.answers c.args.place.now (listed (members_view c.args.map.now.entries)) c.args.meter.now
+      so_far = one_more_inner (kit g.L.Leaf.Leaf g.M.Engine.RegexEngine) g.N.BuiltNode.answers c.args.place.now (listed (members_view c.args.map.now.entries)) c.args.meter.now
           (string_bytes c.in-Some.name.now, view c.in-Some.entry.now) (listed (members_view c.loop-name.name-iterator)) (listed (members_view c.next.new.self))
           (ap (λ l. listed (members_view l)) c.in-Some.ensures.steps) c.loop-name.nodes.items _ _ c.in_ok-location.location
           (c.in_ok-location.ensures ∙ ap (λ n. c.args.place.now // n) c.as_str.ensures.value) c.loop-name.invariant.so_far c.in_ok-inner.inner.items c.in_ok-inner.ensures.built _ c.in_ok-append_all.ensures;
@@ -172,7 +172,7 @@ compile_inner_entries-loop-name-preserved g t c =
 
 pub compile_inner_entries-returns-clause-built : goal.compile_inner_entries-returns-clause-built
 compile_inner_entries-returns-clause-built g t c =
-    inner_built (kit g.L.Leaf.Leaf g.M.Engine.RegexEngine) g.N.Place.answers c.args.place.now (listed (members_view c.args.map.now.entries)) c.args.meter.now c.loop-name.nodes.items
+    inner_built (kit g.L.Leaf.Leaf g.M.Engine.RegexEngine) g.N.BuiltNode.answers c.args.place.now (listed (members_view c.args.map.now.entries)) c.args.meter.now c.loop-name.nodes.items
     (listed (members_view c.loop-name.name-iterator)) _ (ap (λ l. listed (members_view l)) c.in-None.ensures.steps.0) c.loop-name.invariant.so_far
 
 pub compile_inner_entries-returns-clause-refused : goal.compile_inner_entries-returns-clause-refused
@@ -186,7 +186,7 @@ compile_branches-returns-in_err-nodes-clause-refused g t c = exit _ _ _ c.from_r
 
 pub compile_branches-loop-i-init : goal.compile_branches-loop-i-init
 compile_branches-loop-i-init g t c =
-    no_entries (kit g.L.Leaf.Leaf g.M.Engine.RegexEngine) g.N.Place.answers c.args.place.now
+    no_entries (kit g.L.Leaf.Leaf g.M.Engine.RegexEngine) g.N.BuiltNode.answers c.args.place.now
     (numbered (map view c.deref-schema-items.result.now)) c.args.meter.now c.in_ok-nodes.nodes.items _ c.in_ok-nodes.ensures.items refl
 
 pub compile_branches-returns-in_err-location-clause-built : goal.compile_branches-returns-in_err-location-clause-built
@@ -197,7 +197,7 @@ compile_branches-returns-in_err-location-clause-refused g t c =
     exit _ _ _ c.from_residual-in_err-location.ensures.1 (λ e q. subst
     (λ all. RefusesEach (kit g.L.Leaf.Leaf g.M.Engine.RegexEngine) all c.args.place.now c.args.meter.now c.loop-i.meter e)
     (ap (λ l. numbered (map view l)) c.deref-schema-items.ensures.value ∙ ap numbered (sym (items_list-view c.args.items.now.items)))
-    (entries_memory (kit g.L.Leaf.Leaf g.M.Engine.RegexEngine) g.N.Place.answers c.args.place.now
+    (entries_memory (kit g.L.Leaf.Leaf g.M.Engine.RegexEngine) g.N.BuiltNode.answers c.args.place.now
     (numbered (map view c.deref-schema-items.result.now)) c.args.meter.now c.loop-i.nodes.items (branches_from c.loop-i.i c.deref-schema-items.result.now) _ e _ q c.loop-i.invariant))
 
 pub compile_branches-returns-in_err-node-clause-built : goal.compile_branches-returns-in_err-node-clause-built
@@ -208,7 +208,7 @@ compile_branches-returns-in_err-node-clause-refused g t c =
     exit _ _ _ c.from_residual-in_err-node.ensures.1 (λ e q. subst (λ all. RefusesEach
     (kit g.L.Leaf.Leaf g.M.Engine.RegexEngine) all c.args.place.now c.args.meter.now c.compile_schema.new.meter e)
     (ap (λ l. numbered (map view l)) c.deref-schema-items.ensures.value ∙ ap numbered (sym (items_list-view c.args.items.now.items)))
-    (entry_refused (kit g.L.Leaf.Leaf g.M.Engine.RegexEngine) g.N.Place.answers c.args.place.now (numbered (map view c.deref-schema-items.result.now)) c.args.meter.now
+    (entry_refused (kit g.L.Leaf.Leaf g.M.Engine.RegexEngine) g.N.BuiltNode.answers c.args.place.now (numbered (map view c.deref-schema-items.result.now)) c.args.meter.now
     (decimal c.loop-i.i, view c.schema-item.result) (branches_from c.loop-i.i c.deref-schema-items.result.now) (branches_from (c.loop-i.i + 1) c.deref-schema-items.result.now)
     (next_branch c.loop-i.i c.deref-schema-items.result.now c.schema-item.result c.loop-i-test.true c.schema-item.is) c.loop-i.nodes.items _ _ c.in_ok-location.location c.in_ok-location.ensures c.loop-i.invariant e _ q c.in_err-node.ensures.refused))
 
@@ -220,7 +220,7 @@ compile_branches-returns-in_err-append-clause-refused g t c =
     exit _ _ _ c.from_residual-in_err-append.ensures.1 (λ e q. subst (λ all. RefusesEach
     (kit g.L.Leaf.Leaf g.M.Engine.RegexEngine) all c.args.place.now c.args.meter.now c.compile_schema.new.meter e)
     (ap (λ l. numbered (map view l)) c.deref-schema-items.ensures.value ∙ ap numbered (sym (items_list-view c.args.items.now.items)))
-    (entry_memory (kit g.L.Leaf.Leaf g.M.Engine.RegexEngine) g.N.Place.answers c.args.place.now (numbered (map view c.deref-schema-items.result.now)) c.args.meter.now
+    (entry_memory (kit g.L.Leaf.Leaf g.M.Engine.RegexEngine) g.N.BuiltNode.answers c.args.place.now (numbered (map view c.deref-schema-items.result.now)) c.args.meter.now
     (decimal c.loop-i.i, view c.schema-item.result) (branches_from c.loop-i.i c.deref-schema-items.result.now) (branches_from (c.loop-i.i + 1) c.deref-schema-items.result.now)
     (next_branch c.loop-i.i c.deref-schema-items.result.now c.schema-item.result c.loop-i-test.true c.schema-item.is) c.loop-i.nodes.items _ _ c.in_ok-location.location c.in_ok-location.ensures c.loop-i.invariant c.in_ok-node.node c.in_ok-node.ensures.built e _ q))
 
@@ -229,15 +229,15 @@ compile_branches-loop-i-smaller g t c = falls _ _ c.loop-i-test.true
 
 pub compile_branches-loop-i-preserved : goal.compile_branches-loop-i-preserved
 compile_branches-loop-i-preserved g t c =
-    one_more_entry (kit g.L.Leaf.Leaf g.M.Engine.RegexEngine) g.N.Place.answers c.args.place.now (numbered (map view c.deref-schema-items.result.now)) c.args.meter.now
+    one_more_entry (kit g.L.Leaf.Leaf g.M.Engine.RegexEngine) g.N.BuiltNode.answers c.args.place.now (numbered (map view c.deref-schema-items.result.now)) c.args.meter.now
     (decimal c.loop-i.i, view c.schema-item.result) (branches_from c.loop-i.i c.deref-schema-items.result.now) (branches_from (c.loop-i.i + 1) c.deref-schema-items.result.now)
     (next_branch c.loop-i.i c.deref-schema-items.result.now c.schema-item.result c.loop-i-test.true c.schema-item.is) c.loop-i.nodes.items _ _ c.in_ok-location.location c.in_ok-location.ensures c.loop-i.invariant c.in_ok-node.node c.in_ok-node.ensures.built _ c.in_ok-append.ensures.items
 
 pub compile_branches-returns-clause-built : goal.compile_branches-returns-clause-built
 compile_branches-returns-clause-built g t c =
-    subst (λ all. AreBuilt (kit g.L.Leaf.Leaf g.M.Engine.RegexEngine) g.N.Place.answers c.loop-i.nodes.items all c.args.place.now c.args.meter.now c.loop-i.meter)
+    subst (λ all. AreBuilt (kit g.L.Leaf.Leaf g.M.Engine.RegexEngine) g.N.BuiltNode.answers c.loop-i.nodes.items all c.args.place.now c.args.meter.now c.loop-i.meter)
     (ap (λ l. numbered (map view l)) c.deref-schema-items.ensures.value ∙ ap numbered (sym (items_list-view c.args.items.now.items)))
-    (entries_built (kit g.L.Leaf.Leaf g.M.Engine.RegexEngine) g.N.Place.answers c.args.place.now
+    (entries_built (kit g.L.Leaf.Leaf g.M.Engine.RegexEngine) g.N.BuiltNode.answers c.args.place.now
     (numbered (map view c.deref-schema-items.result.now)) c.args.meter.now c.loop-i.nodes.items (branches_from c.loop-i.i c.deref-schema-items.result.now) _
     (no_branch c.loop-i.i c.deref-schema-items.result.now c.loop-i-test.false) c.loop-i.invariant)
 
@@ -249,7 +249,7 @@ compile_part-returns-in_err-shape-clause-built g t c = IfOk-from_err _ _ c.from_
 
 pub compile_part-returns-in_err-shape-clause-refused : goal.compile_part-returns-in_err-shape-clause-refused
 compile_part-returns-in_err-shape-clause-refused g t c =
-    exit _ _ _ c.from_residual.ensures.1 (λ e q. refuses_part_own (kit g.L.Leaf.Leaf g.M.Engine.RegexEngine) g.N.Place.answers (known c.args.neighbours) c.args.name.now
+    exit _ _ _ c.from_residual.ensures.1 (λ e q. refuses_part_own (kit g.L.Leaf.Leaf g.M.Engine.RegexEngine) g.N.BuiltNode.answers (known c.args.neighbours) c.args.name.now
     (view c.args.value.now) c.args.location c.args.meter.now c.read_keyword.new.meter e
     (subst (λ x. Refuses (own_faults (world g.L.Leaf.Leaf g.M.Engine.RegexEngine) c.args.name.now (view c.args.value.now) c.args.location)
     (own_cost_of (world g.L.Leaf.Leaf g.M.Engine.RegexEngine) (known c.args.neighbours) (view c.args.value.now)
@@ -260,14 +260,14 @@ compile_part-returns-in_err-nodes-clause-built g t c = IfOk-from_err _ _ c.from_
 
 pub compile_part-returns-in_err-nodes-clause-refused : goal.compile_part-returns-in_err-nodes-clause-refused
 compile_part-returns-in_err-nodes-clause-refused g t c =
-    exit _ _ _ c.from_residual-in_err-nodes.ensures.1 (λ e q. refuses_part_inside (kit g.L.Leaf.Leaf g.M.Engine.RegexEngine) g.N.Place.answers c.in_ok-shape.shape
+    exit _ _ _ c.from_residual-in_err-nodes.ensures.1 (λ e q. refuses_part_inside (kit g.L.Leaf.Leaf g.M.Engine.RegexEngine) g.N.BuiltNode.answers c.in_ok-shape.shape
     (known c.args.neighbours) c.args.name.now (view c.args.value.now) c.args.location c.args.meter.now c.read_keyword.new.meter c.in_ok-shape.ensures.built c.compile_places.new.meter e (subst₂ (λ r x. Refuses (places_malformed (kit g.L.Leaf.Leaf g.M.Engine.RegexEngine) r (view c.args.value.now) c.args.location) (places_cost (kit g.L.Leaf.Leaf g.M.Engine.RegexEngine) r (view c.args.value.now)) c.read_keyword.new.meter c.compile_places.new.meter x) c.reads.ensures (sym q) c.in_err-nodes.ensures.refused))
 
 pub compile_part-returns-clause-built : goal.compile_part-returns-clause-built
 compile_part-returns-clause-built g t c =
-    part_is_built (kit g.L.Leaf.Leaf g.M.Engine.RegexEngine) g.N.Place.answers c.in_ok-shape.shape (known c.args.neighbours) c.args.name.now
+    part_is_built (kit g.L.Leaf.Leaf g.M.Engine.RegexEngine) g.N.BuiltNode.answers c.in_ok-shape.shape (known c.args.neighbours) c.args.name.now
     (view c.args.value.now) c.args.location c.args.meter.now c.read_keyword.new.meter c.in_ok-shape.ensures.built c.in_ok-nodes.nodes _ c.compile_places.new.meter refl refl refl
-    (subst (λ r. PlacesAreBuilt (kit g.L.Leaf.Leaf g.M.Engine.RegexEngine) g.N.Place.answers r c.in_ok-nodes.nodes.items
+    (subst (λ r. PlacesAreBuilt (kit g.L.Leaf.Leaf g.M.Engine.RegexEngine) g.N.BuiltNode.answers r c.in_ok-nodes.nodes.items
     (view c.args.value.now) c.args.location c.read_keyword.new.meter c.compile_places.new.meter) c.reads.ensures c.in_ok-nodes.ensures.built)
 
 pub compile_part-returns-clause-refused : goal.compile_part-returns-clause-refused
@@ -283,7 +283,7 @@ pub compile_parts-loop-name-init : goal.compile_parts-loop-name-init
 compile_parts-loop-name-init g t c =
     record {
       done = [];
-      built = no_parts (kit g.L.Leaf.Leaf g.M.Engine.RegexEngine) g.N.Place.answers
+      built = no_parts (kit g.L.Leaf.Leaf g.M.Engine.RegexEngine) g.N.BuiltNode.answers
           (members_view c.args.members.now.entries) c.args.place.now c.args.meter.now c.in_ok-parts.parts.items c.in_ok-parts.ensures.items;
       rest = ap (λ l. listed (members_view l)) c.into_iter-name-iterator.ensures.into_iter_gives.0;
       next = tt;
@@ -325,20 +325,20 @@ compile_parts-returns-in_err-part-clause-refused g t c =
     ((λ (x : Name × Data). member_cost (world g.L.Leaf.Leaf g.M.Engine.RegexEngine) (members_view c.args.members.now.entries) x
     (keyword_named (world g.L.Leaf.Leaf g.M.Engine.RegexEngine) x.0)) (string_bytes c.in-Some.name.now, view c.in-Some.value.now)) c.loop-name.meter c.compile_part.new.meter x)
     (sym q) ((subst (λ n. RefusesPart (kit g.L.Leaf.Leaf g.M.Engine.RegexEngine) (known c.of-neighbours.result) n
-    (view c.in-Some.value.now) c.in_ok-location.location c.loop-name.meter c.compile_part.new.meter c.in_err-part.field-0.0) c.as_str-in-loop-name.ensures.value c.in_err-part.ensures.refused) (members_view c.args.members.now.entries) c.args.place.now (c.in_ok-location.ensures ∙ ap (λ n. c.args.place.now // n) c.as_str.ensures.value) (known_there (kit g.L.Leaf.Leaf g.M.Engine.RegexEngine) g.N.Place.answers (members_view c.args.members.now.entries) c.args.place.now (known c.of-neighbours.result) c.loop-name.invariant.done (listed (members_view c.next.new.self)) (string_bytes c.in-Some.name.now) (view c.in-Some.value.now) c.of-neighbours.ensures (ap (λ l. c.loop-name.invariant.done ++ listed (members_view l)) (sym c.in-Some.ensures.steps) ∙ c.loop-name.invariant.rest)))))
+    (view c.in-Some.value.now) c.in_ok-location.location c.loop-name.meter c.compile_part.new.meter c.in_err-part.field-0.0) c.as_str-in-loop-name.ensures.value c.in_err-part.ensures.refused) (members_view c.args.members.now.entries) c.args.place.now (c.in_ok-location.ensures ∙ ap (λ n. c.args.place.now // n) c.as_str.ensures.value) (known_there (kit g.L.Leaf.Leaf g.M.Engine.RegexEngine) g.N.BuiltNode.answers (members_view c.args.members.now.entries) c.args.place.now (known c.of-neighbours.result) c.loop-name.invariant.done (listed (members_view c.next.new.self)) (string_bytes c.in-Some.name.now) (view c.in-Some.value.now) c.of-neighbours.ensures (ap (λ l. c.loop-name.invariant.done ++ listed (members_view l)) (sym c.in-Some.ensures.steps) ∙ c.loop-name.invariant.rest)))))
 
 pub compile_parts-loop-name-preserved : goal.compile_parts-loop-name-preserved
 compile_parts-loop-name-preserved g t c =
     record {
       done = c.loop-name.invariant.done ++ (string_bytes c.in-Some.name.now, view c.in-Some.value.now) ∷ [];
-      built = (one_more_part (kit g.L.Leaf.Leaf g.M.Engine.RegexEngine) g.N.Place.answers
+      built = (one_more_part (kit g.L.Leaf.Leaf g.M.Engine.RegexEngine) g.N.BuiltNode.answers
           (members_view c.args.members.now.entries) c.args.place.now c.loop-name.parts.items _ c.loop-name.invariant.done c.in_ok-part.part
           (known c.of-neighbours.result) (string_bytes c.in-Some.name.now)
           (view c.in-Some.value.now) c.args.meter.now c.loop-name.meter c.compile_part.new.meter c.in_ok-location.location c.in_ok-append.ensures.items
           (c.in_ok-location.ensures ∙ ap (λ n. c.args.place.now // n) c.as_str.ensures.value) c.loop-name.invariant.built
-          (subst (λ n. IsPart (kit g.L.Leaf.Leaf g.M.Engine.RegexEngine) g.N.Place.answers c.in_ok-part.part (known c.of-neighbours.result) n
+          (subst (λ n. IsPart (kit g.L.Leaf.Leaf g.M.Engine.RegexEngine) g.N.BuiltNode.answers c.in_ok-part.part (known c.of-neighbours.result) n
           (view c.in-Some.value.now) c.in_ok-location.location c.loop-name.meter c.compile_part.new.meter) c.as_str-in-loop-name.ensures.value c.in_ok-part.ensures.built)
-          (known_there (kit g.L.Leaf.Leaf g.M.Engine.RegexEngine) g.N.Place.answers (members_view c.args.members.now.entries) c.args.place.now
+          (known_there (kit g.L.Leaf.Leaf g.M.Engine.RegexEngine) g.N.BuiltNode.answers (members_view c.args.members.now.entries) c.args.place.now
           (known c.of-neighbours.result) c.loop-name.invariant.done (listed (members_view c.next.new.self)) (string_bytes c.in-Some.name.now)
           (view c.in-Some.value.now) c.of-neighbours.ensures (ap (λ l. c.loop-name.invariant.done ++ listed (members_view l)) (sym c.in-Some.ensures.steps)
           ∙ c.loop-name.invariant.rest)));
@@ -360,20 +360,20 @@ compile_parts-returns-in_err-append-clause-refused g t c =
     (keyword_named (world g.L.Leaf.Leaf g.M.Engine.RegexEngine) x.0)) _ _ _ (c.loop-name.invariant.done ++ (string_bytes c.in-Some.name.now, view c.in-Some.value.now) ∷ [])
     (listed (members_view c.next.new.self)) e _ q (append_assoc c.loop-name.invariant.done ((string_bytes c.in-Some.name.now, view c.in-Some.value.now) ∷ [])
     (listed (members_view c.next.new.self)) ∙ (ap (λ l. c.loop-name.invariant.done ++ listed (members_view l)) (sym c.in-Some.ensures.steps) ∙ c.loop-name.invariant.rest))
-    (one_more_part (kit g.L.Leaf.Leaf g.M.Engine.RegexEngine) g.N.Place.answers
+    (one_more_part (kit g.L.Leaf.Leaf g.M.Engine.RegexEngine) g.N.BuiltNode.answers
     (members_view c.args.members.now.entries) c.args.place.now c.loop-name.parts.items _ c.loop-name.invariant.done c.in_ok-part.part
     (known c.of-neighbours.result) (string_bytes c.in-Some.name.now)
     (view c.in-Some.value.now) c.args.meter.now c.loop-name.meter c.compile_part.new.meter c.in_ok-location.location refl
     (c.in_ok-location.ensures ∙ ap (λ n. c.args.place.now // n) c.as_str.ensures.value) c.loop-name.invariant.built
-    (subst (λ n. IsPart (kit g.L.Leaf.Leaf g.M.Engine.RegexEngine) g.N.Place.answers c.in_ok-part.part (known c.of-neighbours.result) n
+    (subst (λ n. IsPart (kit g.L.Leaf.Leaf g.M.Engine.RegexEngine) g.N.BuiltNode.answers c.in_ok-part.part (known c.of-neighbours.result) n
     (view c.in-Some.value.now) c.in_ok-location.location c.loop-name.meter c.compile_part.new.meter) c.as_str-in-loop-name.ensures.value c.in_ok-part.ensures.built)
-    (known_there (kit g.L.Leaf.Leaf g.M.Engine.RegexEngine) g.N.Place.answers (members_view c.args.members.now.entries) c.args.place.now
+    (known_there (kit g.L.Leaf.Leaf g.M.Engine.RegexEngine) g.N.BuiltNode.answers (members_view c.args.members.now.entries) c.args.place.now
     (known c.of-neighbours.result) c.loop-name.invariant.done (listed (members_view c.next.new.self)) (string_bytes c.in-Some.name.now)
     (view c.in-Some.value.now) c.of-neighbours.ensures (ap (λ l. c.loop-name.invariant.done ++ listed (members_view l)) (sym c.in-Some.ensures.steps) ∙ c.loop-name.invariant.rest))).spends)
 
 pub compile_parts-returns-clause-built : goal.compile_parts-returns-clause-built
 compile_parts-returns-clause-built g t c =
-    subst (λ l. PartsAreBuilt (kit g.L.Leaf.Leaf g.M.Engine.RegexEngine) g.N.Place.answers
+    subst (λ l. PartsAreBuilt (kit g.L.Leaf.Leaf g.M.Engine.RegexEngine) g.N.BuiltNode.answers
     (members_view c.args.members.now.entries) c.loop-name.parts.items l c.args.place.now c.args.meter.now c.loop-name.meter)
     (sym (append-nil c.loop-name.invariant.done) ∙ ap (λ l. c.loop-name.invariant.done ++ listed (members_view l)) (sym c.in-None.ensures.steps.0)
     ∙ c.loop-name.invariant.rest) c.loop-name.invariant.built
@@ -392,7 +392,7 @@ compile_places-returns-in_err-node-in-Itself-clause-built g t c = IfOk-from_err 
 
 pub compile_places-returns-in_err-node-in-Itself-clause-refused : goal.compile_places-returns-in_err-node-in-Itself-clause-refused
 compile_places-returns-in_err-node-in-Itself-clause-refused g t c =
-    exit _ _ _ c.from_residual-in_err-node-in-Itself.ensures.1 (λ e q. itself_is_refused (kit g.L.Leaf.Leaf g.M.Engine.RegexEngine) g.N.Place.answers
+    exit _ _ _ c.from_residual-in_err-node-in-Itself.ensures.1 (λ e q. itself_is_refused (kit g.L.Leaf.Leaf g.M.Engine.RegexEngine) g.N.BuiltNode.answers
     (view c.args.value.now) c.args.location.now c.args.meter.now c.args.reads [] c.compile_schema.new.meter _ c.in_ok-place-in-Itself.ensures c.in-Itself.is e _ q c.in_err-node-in-Itself.ensures.refused)
 
 pub compile_places-returns-in_err-one-in-Itself-clause-built : goal.compile_places-returns-in_err-one-in-Itself-clause-built
@@ -400,13 +400,13 @@ compile_places-returns-in_err-one-in-Itself-clause-built g t c = IfOk-from_err _
 
 pub compile_places-returns-in_err-one-in-Itself-clause-refused : goal.compile_places-returns-in_err-one-in-Itself-clause-refused
 compile_places-returns-in_err-one-in-Itself-clause-refused g t c =
-    exit _ _ _ c.from_residual-in_err-one-in-Itself.ensures.1 (λ e q. itself_lost (kit g.L.Leaf.Leaf g.M.Engine.RegexEngine) g.N.Place.answers
+    exit _ _ _ c.from_residual-in_err-one-in-Itself.ensures.1 (λ e q. itself_lost (kit g.L.Leaf.Leaf g.M.Engine.RegexEngine) g.N.BuiltNode.answers
     (view c.args.value.now) c.args.location.now c.args.meter.now c.args.reads [] c.compile_schema.new.meter _ c.in_ok-place-in-Itself.ensures c.in-Itself.is _ c.in_ok-node-in-Itself.ensures.built e _ q)
 
 pub compile_places-returns-in_default : goal.compile_places-returns-in_default
 compile_places-returns-in_default g t c =
     record {
-      built = no_entry_is_built (kit g.L.Leaf.Leaf g.M.Engine.RegexEngine) g.N.Place.answers _ _ _ _ _ c.in-Entries.is c.new-in_default.ensures.items
+      built = no_entry_is_built (kit g.L.Leaf.Leaf g.M.Engine.RegexEngine) g.N.BuiltNode.answers _ _ _ _ _ c.in-Entries.is c.new-in_default.ensures.items
           (no_object_no_members _ c.in_default.not-Object);
       refused = tt;
     }
@@ -414,7 +414,7 @@ compile_places-returns-in_default g t c =
 pub compile_places-returns-in_default-value : goal.compile_places-returns-in_default-value
 compile_places-returns-in_default-value g t c =
     record {
-      built = no_schema_entry_is_built (kit g.L.Leaf.Leaf g.M.Engine.RegexEngine) g.N.Place.answers _ _ _ _ _ c.in-SchemaEntries.is c.new-in_default-value.ensures.items
+      built = no_schema_entry_is_built (kit g.L.Leaf.Leaf g.M.Engine.RegexEngine) g.N.BuiltNode.answers _ _ _ _ _ c.in-SchemaEntries.is c.new-in_default-value.ensures.items
           (no_object_no_members _ c.in_default-value.not-Object);
       refused = tt;
     }
@@ -422,7 +422,7 @@ compile_places-returns-in_default-value g t c =
 pub compile_places-returns-in_default-value-2 : goal.compile_places-returns-in_default-value-2
 compile_places-returns-in_default-value-2 g t c =
     record {
-      built = no_inner_entry_is_built (kit g.L.Leaf.Leaf g.M.Engine.RegexEngine) g.N.Place.answers _ _ _ _ _ c.in-InnerEntries.is c.new-in_default-value-2.ensures.items
+      built = no_inner_entry_is_built (kit g.L.Leaf.Leaf g.M.Engine.RegexEngine) g.N.BuiltNode.answers _ _ _ _ _ c.in-InnerEntries.is c.new-in_default-value-2.ensures.items
           (no_object_no_members _ c.in_default-value-2.not-Object);
       refused = tt;
     }
@@ -430,27 +430,27 @@ compile_places-returns-in_default-value-2 g t c =
 pub compile_places-returns-in_default-value-3 : goal.compile_places-returns-in_default-value-3
 compile_places-returns-in_default-value-3 g t c =
     record {
-      built = no_branch_is_built (kit g.L.Leaf.Leaf g.M.Engine.RegexEngine) g.N.Place.answers _ _ _ _ _ c.in-Branches.is c.new-in_default-value-3.ensures.items
+      built = no_branch_is_built (kit g.L.Leaf.Leaf g.M.Engine.RegexEngine) g.N.BuiltNode.answers _ _ _ _ _ c.in-Branches.is c.new-in_default-value-3.ensures.items
           (no_array_no_items _ c.in_default-value-3.not-Array);
       refused = tt;
     }
 
 pub compile_places-returns-in-Nothing-clause-built : goal.compile_places-returns-in-Nothing-clause-built
-compile_places-returns-in-Nothing-clause-built g t c = nothing_is_built (kit g.L.Leaf.Leaf g.M.Engine.RegexEngine) g.N.Place.answers _ _ _ _ _ c.in-Nothing.is c.new.ensures.items
+compile_places-returns-in-Nothing-clause-built g t c = nothing_is_built (kit g.L.Leaf.Leaf g.M.Engine.RegexEngine) g.N.BuiltNode.answers _ _ _ _ _ c.in-Nothing.is c.new.ensures.items
 
 pub compile_places-returns-in-Nothing-clause-refused : goal.compile_places-returns-in-Nothing-clause-refused
 compile_places-returns-in-Nothing-clause-refused g t c = tt
 
 pub compile_places-returns-in_ok-one-in-Itself-clause-built : goal.compile_places-returns-in_ok-one-in-Itself-clause-built
 compile_places-returns-in_ok-one-in-Itself-clause-built g t c =
-    itself_is_built (kit g.L.Leaf.Leaf g.M.Engine.RegexEngine) g.N.Place.answers _ _ _ _ _ _ _ c.in_ok-place-in-Itself.ensures c.in-Itself.is _ c.in_ok-one-in-Itself.ensures c.in_ok-node-in-Itself.ensures.built
+    itself_is_built (kit g.L.Leaf.Leaf g.M.Engine.RegexEngine) g.N.BuiltNode.answers _ _ _ _ _ _ _ c.in_ok-place-in-Itself.ensures c.in-Itself.is _ c.in_ok-one-in-Itself.ensures c.in_ok-node-in-Itself.ensures.built
 
 pub compile_places-returns-in_ok-one-in-Itself-clause-refused : goal.compile_places-returns-in_ok-one-in-Itself-clause-refused
 compile_places-returns-in_ok-one-in-Itself-clause-refused g t c = tt
 
 pub compile_places-returns-in-Object-clause-built : goal.compile_places-returns-in-Object-clause-built
 compile_places-returns-in-Object-clause-built g t c =
-    entries_are_built (kit g.L.Leaf.Leaf g.M.Engine.RegexEngine) g.N.Place.answers _ _ _ _ _ _ _ c.in-Entries.is
+    entries_are_built (kit g.L.Leaf.Leaf g.M.Engine.RegexEngine) g.N.BuiltNode.answers _ _ _ _ _ _ _ c.in-Entries.is
     (ap members (ap view c.in-Object.is ∙ view-Object c.in-Object.map)) c.compile_entries.ensures.built
 
 pub compile_places-returns-in-Object-clause-refused : goal.compile_places-returns-in-Object-clause-refused
@@ -460,7 +460,7 @@ compile_places-returns-in-Object-clause-refused g t c =
 
 pub compile_places-returns-in-Object-value-clause-built : goal.compile_places-returns-in-Object-value-clause-built
 compile_places-returns-in-Object-value-clause-built g t c =
-    schema_entries_are_built (kit g.L.Leaf.Leaf g.M.Engine.RegexEngine) g.N.Place.answers _ _ _ _ _ _ _ c.in-SchemaEntries.is
+    schema_entries_are_built (kit g.L.Leaf.Leaf g.M.Engine.RegexEngine) g.N.BuiltNode.answers _ _ _ _ _ _ _ c.in-SchemaEntries.is
     (ap members (ap view c.in-Object-value.is ∙ view-Object c.in-Object-value.map)) c.compile_entries-in-SchemaEntries.ensures.built
 
 pub compile_places-returns-in-Object-value-clause-refused : goal.compile_places-returns-in-Object-value-clause-refused
@@ -471,7 +471,7 @@ compile_places-returns-in-Object-value-clause-refused g t c =
 
 pub compile_places-returns-in-Object-value-2-clause-built : goal.compile_places-returns-in-Object-value-2-clause-built
 compile_places-returns-in-Object-value-2-clause-built g t c =
-    inner_entries_are_built (kit g.L.Leaf.Leaf g.M.Engine.RegexEngine) g.N.Place.answers _ _ _ _ _ _ _ c.in-InnerEntries.is
+    inner_entries_are_built (kit g.L.Leaf.Leaf g.M.Engine.RegexEngine) g.N.BuiltNode.answers _ _ _ _ _ _ _ c.in-InnerEntries.is
     (ap members (ap view c.in-Object-value-2.is ∙ view-Object c.in-Object-value-2.map)) c.compile_inner_entries.ensures.built
 
 pub compile_places-returns-in-Object-value-2-clause-refused : goal.compile_places-returns-in-Object-value-2-clause-refused
@@ -482,7 +482,7 @@ compile_places-returns-in-Object-value-2-clause-refused g t c =
 
 pub compile_places-returns-in-Array-clause-built : goal.compile_places-returns-in-Array-clause-built
 compile_places-returns-in-Array-clause-built g t c =
-    branches_are_built (kit g.L.Leaf.Leaf g.M.Engine.RegexEngine) g.N.Place.answers _ _ _ _ _ _ _ c.in-Branches.is
+    branches_are_built (kit g.L.Leaf.Leaf g.M.Engine.RegexEngine) g.N.BuiltNode.answers _ _ _ _ _ _ _ c.in-Branches.is
     (ap items_of_array (ap view c.in-Array.is ∙ view-Array c.in-Array.items)) c.compile_branches.ensures.built
 
 pub compile_places-returns-in-Array-clause-refused : goal.compile_places-returns-in-Array-clause-refused
@@ -492,7 +492,7 @@ compile_places-returns-in-Array-clause-refused g t c =
 
 pub compile_schema-returns-in-Bool-true-clause-built : goal.compile_schema-returns-in-Bool-true-clause-built
 compile_schema-returns-in-Bool-true-clause-built g t c =
-    built_truth (kit g.L.Leaf.Leaf g.M.Engine.RegexEngine) g.N.Place.answers c.new.result c.args.location
+    built_truth (kit g.L.Leaf.Leaf g.M.Engine.RegexEngine) g.N.BuiltNode.answers c.new.result c.args.location
     (view c.args.schema.now) c.args.meter.now c.tick_compiled.new.self c.tick_compiled.ensures true c.new.ensures (ap view c.in-Bool-true.is ∙ search (rules, value_lemmas))
 
 pub compile_schema-returns-in-Bool-true-clause-refused : goal.compile_schema-returns-in-Bool-true-clause-refused
@@ -500,7 +500,7 @@ compile_schema-returns-in-Bool-true-clause-refused g t c = tt
 
 pub compile_schema-returns-in-Bool-false-clause-built : goal.compile_schema-returns-in-Bool-false-clause-built
 compile_schema-returns-in-Bool-false-clause-built g t c =
-    built_truth (kit g.L.Leaf.Leaf g.M.Engine.RegexEngine) g.N.Place.answers c.new-in-Bool-false.result c.args.location
+    built_truth (kit g.L.Leaf.Leaf g.M.Engine.RegexEngine) g.N.BuiltNode.answers c.new-in-Bool-false.result c.args.location
     (view c.args.schema.now) c.args.meter.now c.tick_compiled.new.self c.tick_compiled.ensures false c.new-in-Bool-false.ensures (ap view c.in-Bool-false.is ∙ search (rules, value_lemmas))
 
 pub compile_schema-returns-in-Bool-false-clause-refused : goal.compile_schema-returns-in-Bool-false-clause-refused
@@ -529,7 +529,7 @@ compile_schema-returns-in_err-keywords-in-Object-clause-refused g t c =
 
 pub compile_schema-returns-in-Object-clause-built : goal.compile_schema-returns-in-Object-clause-built
 compile_schema-returns-in-Object-clause-built g t c =
-    built_object (kit g.L.Leaf.Leaf g.M.Engine.RegexEngine) g.N.Place.answers c.new-in-Object.result c.args.location
+    built_object (kit g.L.Leaf.Leaf g.M.Engine.RegexEngine) g.N.BuiltNode.answers c.new-in-Object.result c.args.location
     (view c.args.schema.now) c.args.meter.now c.tick_compiled.new.self c.tick_compiled.ensures
     (members_view c.in-Object.members.entries) c.in_ok-keywords-in-Object.keywords c.compile_parts.new.meter c.new-in-Object.ensures
     (ap view c.in-Object.is ∙ view-Object c.in-Object.members) c.in_ok-keywords-in-Object.ensures c.in_ok-parts-in-Object.ensures.built.clean c.in_ok-parts-in-Object.ensures.built.spends

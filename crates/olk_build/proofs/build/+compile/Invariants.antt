@@ -12,7 +12,7 @@ use Rattle.olk_build.proofs.build.+compile.Given as goal
 -- the nodes so far are built for those of the entries so far that are read
 abbrev pub invariant-compile_entries-loop-name : goal.invariant-compile_entries-loop-name
 invariant-compile_entries-loop-name g l = record {
-  so_far : EntriesSoFar (kit g.L.Leaf.Leaf g.M.Engine.RegexEngine) g.N.Place.answers l.fn.place
+  so_far : EntriesSoFar (kit g.L.Leaf.Leaf g.M.Engine.RegexEngine) g.N.BuiltNode.answers l.fn.place
       (entries_read l.passes_arrays (listed (members_view l.map.entries))) l.fn.meter l.nodes.items (entries_read l.passes_arrays (listed (members_view l.name-iterator))) l.meter;
   next : (goal.iterator-compile_entries-loop-name g).can_next l.name-iterator;
   ends : (goal.iterator-compile_entries-loop-name g).is_finite l.name-iterator;
@@ -20,7 +20,7 @@ invariant-compile_entries-loop-name g l = record {
 
 abbrev pub invariant-compile_inner_entries-loop-name : goal.invariant-compile_inner_entries-loop-name
 invariant-compile_inner_entries-loop-name g l = record {
-  so_far : InnerSoFar (kit g.L.Leaf.Leaf g.M.Engine.RegexEngine) g.N.Place.answers l.fn.place (listed (members_view l.map.entries)) l.fn.meter l.nodes.items
+  so_far : InnerSoFar (kit g.L.Leaf.Leaf g.M.Engine.RegexEngine) g.N.BuiltNode.answers l.fn.place (listed (members_view l.map.entries)) l.fn.meter l.nodes.items
       (listed (members_view l.name-iterator)) l.meter;
   next : (goal.iterator-compile_inner_entries-loop-name g).can_next l.name-iterator;
   ends : (goal.iterator-compile_inner_entries-loop-name g).is_finite l.name-iterator;
@@ -28,13 +28,13 @@ invariant-compile_inner_entries-loop-name g l = record {
 
 abbrev pub invariant-compile_branches-loop-i : goal.invariant-compile_branches-loop-i
 invariant-compile_branches-loop-i g l =
-    EntriesSoFar (kit g.L.Leaf.Leaf g.M.Engine.RegexEngine) g.N.Place.answers l.fn.place (numbered (map view l.schema-items)) l.fn.meter l.nodes.items (branches_from l.i l.schema-items) l.meter
+    EntriesSoFar (kit g.L.Leaf.Leaf g.M.Engine.RegexEngine) g.N.BuiltNode.answers l.fn.place (numbered (map view l.schema-items)) l.fn.meter l.nodes.items (branches_from l.i l.schema-items) l.meter
 
 -- the parts so far are built for the members so far
 abbrev pub invariant-compile_parts-loop-name : goal.invariant-compile_parts-loop-name
 invariant-compile_parts-loop-name g l = record {
   done : List (Name × Data);
-  built : PartsAreBuilt (kit g.L.Leaf.Leaf g.M.Engine.RegexEngine) g.N.Place.answers (members_view l.members.entries) l.parts.items done l.fn.place l.fn.meter l.meter;
+  built : PartsAreBuilt (kit g.L.Leaf.Leaf g.M.Engine.RegexEngine) g.N.BuiltNode.answers (members_view l.members.entries) l.parts.items done l.fn.place l.fn.meter l.meter;
   rest : done ++ listed (members_view l.name-iterator) ≡ listed (members_view l.members.entries);
   next : (goal.iterator-compile_parts-loop-name g).can_next l.name-iterator;
   ends : (goal.iterator-compile_parts-loop-name g).is_finite l.name-iterator;

@@ -25,7 +25,7 @@ returns-in_err-location-clause-same_meter g c = c.compile_member.ensures.same_me
 
 pub returns-in_default-clause-builds : goal.returns-in_default-clause-builds
 returns-in_default-clause-builds g c = (
-  no_neighbour (kit g.L.Leaf.Leaf g.M.Engine.RegexEngine) g.N.Place.answers (members_view c.args.parent.now.entries) c.args.ctx.now.place _
+  no_neighbour (kit g.L.Leaf.Leaf g.M.Engine.RegexEngine) g.N.BuiltNode.answers (members_view c.args.parent.now.entries) c.args.ctx.now.place _
       (codes "patternProperties") _ (sym c.in_default.ensures),
   tt,
 )
@@ -33,21 +33,21 @@ returns-in_default-clause-builds g c = (
 pub returns-in_err-location-clause-builds : goal.returns-in_err-location-clause-builds
 returns-in_err-location-clause-builds g c = (
   IfOk-from_err c.from_residual.result _ c.from_residual.ensures.0,
-  exit _ _ _ c.from_residual.ensures.1 (λ e q. neighbour_refused (kit g.L.Leaf.Leaf g.M.Engine.RegexEngine) g.N.Place.answers
+  exit _ _ _ c.from_residual.ensures.1 (λ e q. neighbour_refused (kit g.L.Leaf.Leaf g.M.Engine.RegexEngine) g.N.BuiltNode.answers
       (members_view c.args.parent.now.entries) c.args.ctx.now.place (known_of (members_view c.args.parent.now.entries)) (codes "patternProperties")
-      (view c.in-Some.value.now) _ _ e (patterns_known (kit g.L.Leaf.Leaf g.M.Engine.RegexEngine) g.N.Place.answers
+      (view c.in-Some.value.now) _ _ e (patterns_known (kit g.L.Leaf.Leaf g.M.Engine.RegexEngine) g.N.BuiltNode.answers
       (members_view c.args.parent.now.entries) c.args.ctx.now.place) (sym c.in-Some.ensures)
       (subst (RefusesPart (kit g.L.Leaf.Leaf g.M.Engine.RegexEngine) (known_of (members_view c.args.parent.now.entries)) (codes "patternProperties") (view c.in-Some.value.now) (c.args.ctx.now.place // codes "patternProperties") _ _) (sym q) c.in_err-location.ensures.refused)),
 )
 
 pub unreachable-requires : goal.unreachable-requires
 unreachable-requires g c =
-    no_other_patterns (kit g.L.Leaf.Leaf g.M.Engine.RegexEngine) g.N.Place.answers (members_view c.args.parent.now.entries) c.args.ctx.now.place c.in_ok-location.field-0
+    no_other_patterns (kit g.L.Leaf.Leaf g.M.Engine.RegexEngine) g.N.BuiltNode.answers (members_view c.args.parent.now.entries) c.args.ctx.now.place c.in_ok-location.field-0
     (view c.in-Some.value.now) _ _ c.in_ok-location.ensures.built c.in_default-shape.not-PatternProperties
 
 pub returns-clause-builds : goal.returns-clause-builds
 returns-clause-builds g c = (
-  patterns_built (kit g.L.Leaf.Leaf g.M.Engine.RegexEngine) g.N.Place.answers (members_view c.args.parent.now.entries) c.args.ctx.now.place c.in_ok-location.field-0
+  patterns_built (kit g.L.Leaf.Leaf g.M.Engine.RegexEngine) g.N.BuiltNode.answers (members_view c.args.parent.now.entries) c.args.ctx.now.place c.in_ok-location.field-0
       (view c.in-Some.value.now) _ _ c.in_ok-location.ensures.built c.in-PatternProperties.patterns c.in-PatternProperties.table c.in-PatternProperties.is (sym c.in-Some.ensures),
   tt,
 )

@@ -25,26 +25,26 @@ returns-in_err-shape-clause-same_meter g c = c.compile_member.ensures.same_meter
 
 pub returns-in_default-clause-builds : goal.returns-in_default-clause-builds
 returns-in_default-clause-builds g c =
-    (no_neighbour (kit g.L.Leaf.Leaf g.M.Engine.RegexEngine) g.N.Place.answers (members_view c.args.parent.now.entries) c.args.ctx.now.place _ (codes "properties") _ (sym c.in_default.ensures), tt)
+    (no_neighbour (kit g.L.Leaf.Leaf g.M.Engine.RegexEngine) g.N.BuiltNode.answers (members_view c.args.parent.now.entries) c.args.ctx.now.place _ (codes "properties") _ (sym c.in_default.ensures), tt)
 
 pub returns-in_err-shape-clause-builds : goal.returns-in_err-shape-clause-builds
 returns-in_err-shape-clause-builds g c = (
   IfOk-from_err c.from_residual.result _ c.from_residual.ensures.0,
-  exit _ _ _ c.from_residual.ensures.1 (λ e q. neighbour_refused (kit g.L.Leaf.Leaf g.M.Engine.RegexEngine) g.N.Place.answers
+  exit _ _ _ c.from_residual.ensures.1 (λ e q. neighbour_refused (kit g.L.Leaf.Leaf g.M.Engine.RegexEngine) g.N.BuiltNode.answers
       (members_view c.args.parent.now.entries) c.args.ctx.now.place (known_of (members_view c.args.parent.now.entries)) (codes "properties")
-      (view c.in-Some.value.now) _ _ e (declared_known (kit g.L.Leaf.Leaf g.M.Engine.RegexEngine) g.N.Place.answers
+      (view c.in-Some.value.now) _ _ e (declared_known (kit g.L.Leaf.Leaf g.M.Engine.RegexEngine) g.N.BuiltNode.answers
       (members_view c.args.parent.now.entries) c.args.ctx.now.place) (sym c.in-Some.ensures)
       (subst (RefusesPart (kit g.L.Leaf.Leaf g.M.Engine.RegexEngine) (known_of (members_view c.args.parent.now.entries)) (codes "properties") (view c.in-Some.value.now) (c.args.ctx.now.place // codes "properties") _ _) (sym q) c.in_err-shape.ensures.refused)),
 )
 
 pub unreachable-requires : goal.unreachable-requires
 unreachable-requires g c =
-    no_other_declared (kit g.L.Leaf.Leaf g.M.Engine.RegexEngine) g.N.Place.answers (members_view c.args.parent.now.entries) c.args.ctx.now.place c.in_ok-shape.field-0
+    no_other_declared (kit g.L.Leaf.Leaf g.M.Engine.RegexEngine) g.N.BuiltNode.answers (members_view c.args.parent.now.entries) c.args.ctx.now.place c.in_ok-shape.field-0
     (view c.in-Some.value.now) _ _ c.in_ok-shape.ensures.built c.in_default-shape.not-Properties
 
 pub returns-clause-builds : goal.returns-clause-builds
 returns-clause-builds g c = (
-  declared_built (kit g.L.Leaf.Leaf g.M.Engine.RegexEngine) g.N.Place.answers (members_view c.args.parent.now.entries) c.args.ctx.now.place c.in_ok-shape.field-0
+  declared_built (kit g.L.Leaf.Leaf g.M.Engine.RegexEngine) g.N.BuiltNode.answers (members_view c.args.parent.now.entries) c.args.ctx.now.place c.in_ok-shape.field-0
       (view c.in-Some.value.now) _ _ c.in_ok-shape.ensures.built c.in-Properties.names c.in-Properties.is (sym c.in-Some.ensures),
   tt,
 )

@@ -17,59 +17,59 @@ use Rattle.olk_keywords.proofs.additional_properties.compile_restriction.Goals a
 
 pub returns-in_err-location-clause-builds : goal.returns-in_err-location-clause-builds
 returns-in_err-location-clause-builds g c =
-    left_by _ _ _ _ c.from_residual.ensures.1 (λ e q. first_refused (kit g.L.Leaf.Leaf g.M.Engine.RegexEngine) g.N.Place.answers
+    left_by _ _ _ _ c.from_residual.ensures.1 (λ e q. first_refused (kit g.L.Leaf.Leaf g.M.Engine.RegexEngine) g.N.BuiltNode.answers
     (members_view c.args.parent.now.entries) c.args.ctx.now.place (codes "additionalProperties") (codes "properties") (codes "patternProperties")
     (view c.args.schema.now) (known_of (members_view c.args.parent.now.entries)) _ _ e
-    (others_known (kit g.L.Leaf.Leaf g.M.Engine.RegexEngine) g.N.Place.answers (members_view c.args.parent.now.entries) c.args.ctx.now.place)
+    (others_known (kit g.L.Leaf.Leaf g.M.Engine.RegexEngine) g.N.BuiltNode.answers (members_view c.args.parent.now.entries) c.args.ctx.now.place)
     (subst (RefusesPart (kit g.L.Leaf.Leaf g.M.Engine.RegexEngine) (known_of (members_view c.args.parent.now.entries)) (codes "additionalProperties") (view c.args.schema.now) (c.args.ctx.now.place // codes "additionalProperties") _ _) (sym q) c.in_err-location.ensures.refused))
 
 pub returns-in_err-properties-clause-builds : goal.returns-in_err-properties-clause-builds
 returns-in_err-properties-clause-builds g c =
-    left_by _ _ _ _ c.from_residual-in_err-properties.ensures.1 (λ e q. second_refused (kit g.L.Leaf.Leaf g.M.Engine.RegexEngine) g.N.Place.answers
+    left_by _ _ _ _ c.from_residual-in_err-properties.ensures.1 (λ e q. second_refused (kit g.L.Leaf.Leaf g.M.Engine.RegexEngine) g.N.BuiltNode.answers
     (members_view c.args.parent.now.entries) c.args.ctx.now.place (codes "additionalProperties") (codes "properties") (codes "patternProperties")
     (view c.args.schema.now) _ _ (c.in_ok-location.ensures.built (members_view c.args.parent.now.entries) c.args.ctx.now.place refl
-    (others_known (kit g.L.Leaf.Leaf g.M.Engine.RegexEngine) g.N.Place.answers (members_view c.args.parent.now.entries) c.args.ctx.now.place)).spends _ e
-    (subst₂ (λ Q x. RefusesAll (kit g.L.Leaf.Leaf g.M.Engine.RegexEngine) g.N.Place.answers (members_view c.args.parent.now.entries) Q (member_at (codes "properties") (members_view c.args.parent.now.entries)) c.compile_member.new.ctx.meter.now c.compile_properties.new.ctx.meter.now x) c.compile_member.ensures.place (sym q) c.in_err-properties.ensures.builds.1))
+    (others_known (kit g.L.Leaf.Leaf g.M.Engine.RegexEngine) g.N.BuiltNode.answers (members_view c.args.parent.now.entries) c.args.ctx.now.place)).spends _ e
+    (subst₂ (λ Q x. RefusesAll (kit g.L.Leaf.Leaf g.M.Engine.RegexEngine) g.N.BuiltNode.answers (members_view c.args.parent.now.entries) Q (member_at (codes "properties") (members_view c.args.parent.now.entries)) c.compile_member.new.ctx.meter.now c.compile_properties.new.ctx.meter.now x) c.compile_member.ensures.place (sym q) c.in_err-properties.ensures.builds.1))
 
 pub returns-in_err-patterns-clause-builds : goal.returns-in_err-patterns-clause-builds
 returns-in_err-patterns-clause-builds g c =
-    left_by _ _ _ _ c.from_residual-in_err-patterns.ensures.1 (λ e q. third_refused (kit g.L.Leaf.Leaf g.M.Engine.RegexEngine) g.N.Place.answers
+    left_by _ _ _ _ c.from_residual-in_err-patterns.ensures.1 (λ e q. third_refused (kit g.L.Leaf.Leaf g.M.Engine.RegexEngine) g.N.BuiltNode.answers
     (members_view c.args.parent.now.entries) c.args.ctx.now.place (codes "additionalProperties") (codes "properties") (codes "patternProperties")
     (view c.args.schema.now) _ _ (c.in_ok-location.ensures.built (members_view c.args.parent.now.entries) c.args.ctx.now.place refl
-    (others_known (kit g.L.Leaf.Leaf g.M.Engine.RegexEngine) g.N.Place.answers (members_view c.args.parent.now.entries) c.args.ctx.now.place)).spends _
+    (others_known (kit g.L.Leaf.Leaf g.M.Engine.RegexEngine) g.N.BuiltNode.answers (members_view c.args.parent.now.entries) c.args.ctx.now.place)).spends _
     (subst (λ Q. NeighbourIsBuilt (kit g.L.Leaf.Leaf g.M.Engine.RegexEngine) (members_view c.args.parent.now.entries)
-    (λ x. DeclaredStand (kit g.L.Leaf.Leaf g.M.Engine.RegexEngine) g.N.Place.answers x (Q // codes "properties")) c.in_ok-properties.properties
+    (λ x. DeclaredStand (kit g.L.Leaf.Leaf g.M.Engine.RegexEngine) g.N.BuiltNode.answers x (Q // codes "properties")) c.in_ok-properties.properties
     (codes "properties") Q c.compile_member.new.ctx.meter.now c.compile_properties.new.ctx.meter.now) c.compile_member.ensures.place (c.in_ok-properties.ensures.builds.0)).spends _ e
-    (subst₂ (λ Q x. RefusesAll (kit g.L.Leaf.Leaf g.M.Engine.RegexEngine) g.N.Place.answers (members_view c.args.parent.now.entries) Q (member_at (codes "patternProperties") (members_view c.args.parent.now.entries)) c.compile_properties.new.ctx.meter.now c.compile_patterns.new.ctx.meter.now x) (c.compile_properties.ensures.place ∙ c.compile_member.ensures.place) (sym q) c.in_err-patterns.ensures.builds.1))
+    (subst₂ (λ Q x. RefusesAll (kit g.L.Leaf.Leaf g.M.Engine.RegexEngine) g.N.BuiltNode.answers (members_view c.args.parent.now.entries) Q (member_at (codes "patternProperties") (members_view c.args.parent.now.entries)) c.compile_properties.new.ctx.meter.now c.compile_patterns.new.ctx.meter.now x) (c.compile_properties.ensures.place ∙ c.compile_member.ensures.place) (sym q) c.in_err-patterns.ensures.builds.1))
 
 pub returns-in_err-make-clause-builds : goal.returns-in_err-make-clause-builds
 returns-in_err-make-clause-builds g c =
-    left_by _ _ _ _ c.from_residual-in_err-make.ensures.1 (λ e q. memory_lost (kit g.L.Leaf.Leaf g.M.Engine.RegexEngine) g.N.Place.answers
+    left_by _ _ _ _ c.from_residual-in_err-make.ensures.1 (λ e q. memory_lost (kit g.L.Leaf.Leaf g.M.Engine.RegexEngine) g.N.BuiltNode.answers
     (members_view c.args.parent.now.entries) c.args.ctx.now.place (codes "additionalProperties") (codes "properties") (codes "patternProperties")
     (view c.args.schema.now) _ _ (c.in_ok-location.ensures.built (members_view c.args.parent.now.entries) c.args.ctx.now.place refl
-    (others_known (kit g.L.Leaf.Leaf g.M.Engine.RegexEngine) g.N.Place.answers (members_view c.args.parent.now.entries) c.args.ctx.now.place)).spends _
+    (others_known (kit g.L.Leaf.Leaf g.M.Engine.RegexEngine) g.N.BuiltNode.answers (members_view c.args.parent.now.entries) c.args.ctx.now.place)).spends _
     (subst (λ Q. NeighbourIsBuilt (kit g.L.Leaf.Leaf g.M.Engine.RegexEngine) (members_view c.args.parent.now.entries)
-    (λ x. DeclaredStand (kit g.L.Leaf.Leaf g.M.Engine.RegexEngine) g.N.Place.answers x (Q // codes "properties")) c.in_ok-properties.properties
+    (λ x. DeclaredStand (kit g.L.Leaf.Leaf g.M.Engine.RegexEngine) g.N.BuiltNode.answers x (Q // codes "properties")) c.in_ok-properties.properties
     (codes "properties") Q c.compile_member.new.ctx.meter.now c.compile_properties.new.ctx.meter.now) c.compile_member.ensures.place (c.in_ok-properties.ensures.builds.0)).spends _
     (subst (λ Q. NeighbourIsBuilt (kit g.L.Leaf.Leaf g.M.Engine.RegexEngine) (members_view c.args.parent.now.entries)
-    (λ x. PatternsStand (kit g.L.Leaf.Leaf g.M.Engine.RegexEngine) g.N.Place.answers (known_of (members_view c.args.parent.now.entries)) x
+    (λ x. PatternsStand (kit g.L.Leaf.Leaf g.M.Engine.RegexEngine) g.N.BuiltNode.answers (known_of (members_view c.args.parent.now.entries)) x
     (Q // codes "patternProperties")) c.in_ok-patterns.patterns (codes "patternProperties") Q c.compile_properties.new.ctx.meter.now c.compile_patterns.new.ctx.meter.now)
     (c.compile_properties.ensures.place ∙ c.compile_member.ensures.place) (c.in_ok-patterns.ensures.builds.0)).spends e _ q)
 
 pub returns-clause-builds : goal.returns-clause-builds
 returns-clause-builds g c = (
-  restriction_is_built (kit g.L.Leaf.Leaf g.M.Engine.RegexEngine) g.N.Place.answers (members_view c.args.parent.now.entries) c.args.ctx.now.place c.in_ok-location.field-0
+  restriction_is_built (kit g.L.Leaf.Leaf g.M.Engine.RegexEngine) g.N.BuiltNode.answers (members_view c.args.parent.now.entries) c.args.ctx.now.place c.in_ok-location.field-0
       (view c.args.schema.now) _ _ c.in_ok-location.ensures.built c.requires.read c.pop.result (search rules)
       (record { properties = c.in_ok-properties.properties; patterns = c.in_ok-patterns.patterns }) _ _
       (subst (λ Q. NeighbourIsBuilt (kit g.L.Leaf.Leaf g.M.Engine.RegexEngine) (members_view c.args.parent.now.entries)
-      (λ x. DeclaredStand (kit g.L.Leaf.Leaf g.M.Engine.RegexEngine) g.N.Place.answers x (Q // codes "properties")) c.in_ok-properties.properties
+      (λ x. DeclaredStand (kit g.L.Leaf.Leaf g.M.Engine.RegexEngine) g.N.BuiltNode.answers x (Q // codes "properties")) c.in_ok-properties.properties
       (codes "properties") Q c.compile_member.new.ctx.meter.now c.compile_properties.new.ctx.meter.now) c.compile_member.ensures.place (c.in_ok-properties.ensures.builds.0))
       (subst (λ Q. NeighbourIsBuilt (kit g.L.Leaf.Leaf g.M.Engine.RegexEngine) (members_view c.args.parent.now.entries)
-      (λ x. PatternsStand (kit g.L.Leaf.Leaf g.M.Engine.RegexEngine) g.N.Place.answers (known_of (members_view c.args.parent.now.entries)) x
+      (λ x. PatternsStand (kit g.L.Leaf.Leaf g.M.Engine.RegexEngine) g.N.BuiltNode.answers (known_of (members_view c.args.parent.now.entries)) x
       (Q // codes "patternProperties")) c.in_ok-patterns.patterns (codes "patternProperties") Q c.compile_properties.new.ctx.meter.now c.compile_patterns.new.ctx.meter.now)
       (c.compile_properties.ensures.place ∙ c.compile_member.ensures.place) (c.in_ok-patterns.ensures.builds.0)) (planned c.of-plan.result) c.of-plan.ensures.plan
       (c.in_ok-make.field-0 ∷ []) c.of-plan.ensures.distinct
-      (subst (λ Q. MakesRestriction (kit g.L.Leaf.Leaf g.M.Engine.RegexEngine) g.N.Place.answers c.in_ok-location.field-0.location c.pop.result
+      (subst (λ Q. MakesRestriction (kit g.L.Leaf.Leaf g.M.Engine.RegexEngine) g.N.BuiltNode.answers c.in_ok-location.field-0.location c.pop.result
       (record { properties = c.in_ok-properties.properties; patterns = c.in_ok-patterns.patterns }) Q (planned c.of-plan.result) (c.in_ok-make.field-0 ∷ []))
       (c.compile_patterns.ensures.place ∙ c.compile_properties.ensures.place ∙ c.compile_member.ensures.place) c.in_ok-make.ensures.makes),
   tt,
@@ -77,14 +77,14 @@ returns-clause-builds g c = (
 
 pub returns-clause-form : goal.returns-clause-form
 returns-clause-form g c =
-    restriction_is_formed (kit g.L.Leaf.Leaf g.M.Engine.RegexEngine) g.N.Place.answers (members_view c.args.parent.now.entries) c.args.ctx.now.place c.in_ok-location.field-0
+    restriction_is_formed (kit g.L.Leaf.Leaf g.M.Engine.RegexEngine) g.N.BuiltNode.answers (members_view c.args.parent.now.entries) c.args.ctx.now.place c.in_ok-location.field-0
     (view c.args.schema.now) _ _ c.in_ok-location.ensures.built c.requires.read c.pop.result (search rules)
     (record { properties = c.in_ok-properties.properties; patterns = c.in_ok-patterns.patterns }) _ _
     (subst (λ Q. NeighbourIsBuilt (kit g.L.Leaf.Leaf g.M.Engine.RegexEngine) (members_view c.args.parent.now.entries)
-    (λ x. DeclaredStand (kit g.L.Leaf.Leaf g.M.Engine.RegexEngine) g.N.Place.answers x (Q // codes "properties")) c.in_ok-properties.properties
+    (λ x. DeclaredStand (kit g.L.Leaf.Leaf g.M.Engine.RegexEngine) g.N.BuiltNode.answers x (Q // codes "properties")) c.in_ok-properties.properties
     (codes "properties") Q c.compile_member.new.ctx.meter.now c.compile_properties.new.ctx.meter.now) c.compile_member.ensures.place (c.in_ok-properties.ensures.builds.0))
     (subst (λ Q. NeighbourIsBuilt (kit g.L.Leaf.Leaf g.M.Engine.RegexEngine) (members_view c.args.parent.now.entries)
-    (λ x. PatternsStand (kit g.L.Leaf.Leaf g.M.Engine.RegexEngine) g.N.Place.answers (known_of (members_view c.args.parent.now.entries)) x
+    (λ x. PatternsStand (kit g.L.Leaf.Leaf g.M.Engine.RegexEngine) g.N.BuiltNode.answers (known_of (members_view c.args.parent.now.entries)) x
     (Q // codes "patternProperties")) c.in_ok-patterns.patterns (codes "patternProperties") Q c.compile_properties.new.ctx.meter.now c.compile_patterns.new.ctx.meter.now)
     (c.compile_properties.ensures.place ∙ c.compile_member.ensures.place) (c.in_ok-patterns.ensures.builds.0)) (planned c.of-plan.result) c.of-plan.ensures.plan c.in_ok-make.field-0
     (subst (λ Q. IsAdditionalProperties Q c.in_ok-location.field-0.location (is_some c.pop.result) (option_map (λ m. length m.names) c.in_ok-properties.properties)

@@ -12,31 +12,31 @@ use Rattle.olk_keywords.proofs.if_.compile_condition.Goals as goal
 
 pub returns-in_err-location-clause-builds : goal.returns-in_err-location-clause-builds
 returns-in_err-location-clause-builds g c =
-    left_by _ _ _ _ c.from_residual.ensures.1 (λ e q. if_refused (kit g.L.Leaf.Leaf g.M.Engine.RegexEngine) g.N.Place.answers
+    left_by _ _ _ _ c.from_residual.ensures.1 (λ e q. if_refused (kit g.L.Leaf.Leaf g.M.Engine.RegexEngine) g.N.BuiltNode.answers
     (members_view c.args.parent.now.entries) c.requires.read (view c.args.schema.now) c.args.ctx.now.place _ _ e
     (subst (RefusesPart (kit g.L.Leaf.Leaf g.M.Engine.RegexEngine) (known_of (members_view c.args.parent.now.entries)) (codes "if") (view c.args.schema.now) (c.args.ctx.now.place // codes "if") _ _) (sym q) c.in_err-location.ensures.refused))
 
 pub returns-in_err-then_schema-clause-builds : goal.returns-in_err-then_schema-clause-builds
 returns-in_err-then_schema-clause-builds g c =
-    left_by _ _ _ _ c.from_residual-in_err-then_schema.ensures.1 (λ e q. then_refused (kit g.L.Leaf.Leaf g.M.Engine.RegexEngine) g.N.Place.answers
+    left_by _ _ _ _ c.from_residual-in_err-then_schema.ensures.1 (λ e q. then_refused (kit g.L.Leaf.Leaf g.M.Engine.RegexEngine) g.N.BuiltNode.answers
     (members_view c.args.parent.now.entries) c.requires.read (view c.args.schema.now) c.args.ctx.now.place c.in_ok-location.field-0 _ _ c.in_ok-location.ensures.built _ e
-    (subst₂ (λ Q x. RefusesCase (kit g.L.Leaf.Leaf g.M.Engine.RegexEngine) g.N.Place.answers (members_view c.args.parent.now.entries) c.requires.read (view c.args.schema.now) Q (codes "then") c.compile_member.new.ctx.meter.now c.compile_case.new.ctx.meter.now x) c.compile_member.ensures.place (sym q) (c.in_err-then_schema.ensures.builds refl c.requires.read).1))
+    (subst₂ (λ Q x. RefusesCase (kit g.L.Leaf.Leaf g.M.Engine.RegexEngine) g.N.BuiltNode.answers (members_view c.args.parent.now.entries) c.requires.read (view c.args.schema.now) Q (codes "then") c.compile_member.new.ctx.meter.now c.compile_case.new.ctx.meter.now x) c.compile_member.ensures.place (sym q) (c.in_err-then_schema.ensures.builds refl c.requires.read).1))
 
 pub returns-in_err-else_schema-clause-builds : goal.returns-in_err-else_schema-clause-builds
 returns-in_err-else_schema-clause-builds g c =
-    left_by _ _ _ _ c.from_residual-in_err-else_schema.ensures.1 (λ e q. else_refused (kit g.L.Leaf.Leaf g.M.Engine.RegexEngine) g.N.Place.answers
+    left_by _ _ _ _ c.from_residual-in_err-else_schema.ensures.1 (λ e q. else_refused (kit g.L.Leaf.Leaf g.M.Engine.RegexEngine) g.N.BuiltNode.answers
     (members_view c.args.parent.now.entries) c.requires.read (view c.args.schema.now) c.args.ctx.now.place c.in_ok-location.field-0 _ _ c.in_ok-location.ensures.built c.in_ok-then_schema.then_schema _ _ e
-    (subst (λ Q. CaseIsBuilt (kit g.L.Leaf.Leaf g.M.Engine.RegexEngine) g.N.Place.answers (members_view c.args.parent.now.entries) c.in_ok-then_schema.then_schema
+    (subst (λ Q. CaseIsBuilt (kit g.L.Leaf.Leaf g.M.Engine.RegexEngine) g.N.BuiltNode.answers (members_view c.args.parent.now.entries) c.in_ok-then_schema.then_schema
     (codes "then") Q c.compile_member.new.ctx.meter.now c.compile_case.new.ctx.meter.now) c.compile_member.ensures.place (c.in_ok-then_schema.ensures.builds refl c.requires.read).0)
-    (subst₂ (λ Q x. RefusesCase (kit g.L.Leaf.Leaf g.M.Engine.RegexEngine) g.N.Place.answers (members_view c.args.parent.now.entries) c.requires.read (view c.args.schema.now) Q (codes "else") c.compile_case.new.ctx.meter.now c.compile_case-2.new.ctx.meter.now x) (c.compile_case.ensures.place ∙ c.compile_member.ensures.place) (sym q) (c.in_err-else_schema.ensures.builds refl c.requires.read).1))
+    (subst₂ (λ Q x. RefusesCase (kit g.L.Leaf.Leaf g.M.Engine.RegexEngine) g.N.BuiltNode.answers (members_view c.args.parent.now.entries) c.requires.read (view c.args.schema.now) Q (codes "else") c.compile_case.new.ctx.meter.now c.compile_case-2.new.ctx.meter.now x) (c.compile_case.ensures.place ∙ c.compile_member.ensures.place) (sym q) (c.in_err-else_schema.ensures.builds refl c.requires.read).1))
 
 pub returns-clause-builds : goal.returns-clause-builds
 returns-clause-builds g c = (
-  condition_is_built (kit g.L.Leaf.Leaf g.M.Engine.RegexEngine) g.N.Place.answers (members_view c.args.parent.now.entries) c.requires.read
+  condition_is_built (kit g.L.Leaf.Leaf g.M.Engine.RegexEngine) g.N.BuiltNode.answers (members_view c.args.parent.now.entries) c.requires.read
       (view c.args.schema.now) c.args.ctx.now.place c.in_ok-location.field-0 _ _ c.in_ok-location.ensures.built c.in_ok-then_schema.then_schema c.in_ok-else_schema.else_schema _ _
-      (subst (λ Q. CaseIsBuilt (kit g.L.Leaf.Leaf g.M.Engine.RegexEngine) g.N.Place.answers (members_view c.args.parent.now.entries) c.in_ok-then_schema.then_schema
+      (subst (λ Q. CaseIsBuilt (kit g.L.Leaf.Leaf g.M.Engine.RegexEngine) g.N.BuiltNode.answers (members_view c.args.parent.now.entries) c.in_ok-then_schema.then_schema
       (codes "then") Q c.compile_member.new.ctx.meter.now c.compile_case.new.ctx.meter.now) c.compile_member.ensures.place (c.in_ok-then_schema.ensures.builds refl c.requires.read).0)
-      (subst (λ Q. CaseIsBuilt (kit g.L.Leaf.Leaf g.M.Engine.RegexEngine) g.N.Place.answers (members_view c.args.parent.now.entries) c.in_ok-else_schema.else_schema
+      (subst (λ Q. CaseIsBuilt (kit g.L.Leaf.Leaf g.M.Engine.RegexEngine) g.N.BuiltNode.answers (members_view c.args.parent.now.entries) c.in_ok-else_schema.else_schema
       (codes "else") Q c.compile_case.new.ctx.meter.now c.compile_case-2.new.ctx.meter.now) (c.compile_case.ensures.place ∙ c.compile_member.ensures.place)
       (c.in_ok-else_schema.ensures.builds refl c.requires.read).0)
       c.pop.new.self.items c.in-Some.schema (c.in-Some-make.keyword ∷ []) c.in-Some.ensures.items c.requires.distinct c.in-Some-make.ensures.makes,
@@ -45,18 +45,18 @@ returns-clause-builds g c = (
 
 pub returns-clause-form : goal.returns-clause-form
 returns-clause-form g c =
-    if_is_formed (kit g.L.Leaf.Leaf g.M.Engine.RegexEngine) g.N.Place.answers (members_view c.args.parent.now.entries) c.requires.read
+    if_is_formed (kit g.L.Leaf.Leaf g.M.Engine.RegexEngine) g.N.BuiltNode.answers (members_view c.args.parent.now.entries) c.requires.read
     (view c.args.schema.now) c.args.ctx.now.place c.in_ok-location.field-0 _ _ c.in_ok-location.ensures.built c.in_ok-then_schema.then_schema c.in_ok-else_schema.else_schema _ _
-    (subst (λ Q. CaseIsBuilt (kit g.L.Leaf.Leaf g.M.Engine.RegexEngine) g.N.Place.answers (members_view c.args.parent.now.entries) c.in_ok-then_schema.then_schema
+    (subst (λ Q. CaseIsBuilt (kit g.L.Leaf.Leaf g.M.Engine.RegexEngine) g.N.BuiltNode.answers (members_view c.args.parent.now.entries) c.in_ok-then_schema.then_schema
     (codes "then") Q c.compile_member.new.ctx.meter.now c.compile_case.new.ctx.meter.now) c.compile_member.ensures.place (c.in_ok-then_schema.ensures.builds refl c.requires.read).0)
-    (subst (λ Q. CaseIsBuilt (kit g.L.Leaf.Leaf g.M.Engine.RegexEngine) g.N.Place.answers (members_view c.args.parent.now.entries) c.in_ok-else_schema.else_schema
+    (subst (λ Q. CaseIsBuilt (kit g.L.Leaf.Leaf g.M.Engine.RegexEngine) g.N.BuiltNode.answers (members_view c.args.parent.now.entries) c.in_ok-else_schema.else_schema
     (codes "else") Q c.compile_case.new.ctx.meter.now c.compile_case-2.new.ctx.meter.now) (c.compile_case.ensures.place ∙ c.compile_member.ensures.place)
     (c.in_ok-else_schema.ensures.builds refl c.requires.read).0)
     c.in-Some-make.keyword c.in-Some-make.ensures.form
 
 pub unreachable-requires : goal.unreachable-requires
 unreachable-requires g c =
-    if_without_node (kit g.L.Leaf.Leaf g.M.Engine.RegexEngine) g.N.Place.answers (members_view c.args.parent.now.entries) c.requires.read
+    if_without_node (kit g.L.Leaf.Leaf g.M.Engine.RegexEngine) g.N.BuiltNode.answers (members_view c.args.parent.now.entries) c.requires.read
     (view c.args.schema.now) c.args.ctx.now.place c.in_ok-location.field-0 _ _ c.in_ok-location.ensures.built (search rules)
 
 pub returns-clause-place : goal.returns-clause-place

@@ -12,25 +12,25 @@ returns-in_err-location-clause-refused g c = exit _ _ _ c.from_residual.ensures.
 
 pub returns-in_err-compiled-clause-refused : goal.returns-in_err-compiled-clause-refused
 returns-in_err-compiled-clause-refused g c =
-    exit _ _ _ c.from_residual-in_err-compiled.ensures.1 (λ e q. refuses_pattern (kit g.L.Leaf.Leaf g.M.Engine.RegexEngine) g.N.Place.answers
+    exit _ _ _ c.from_residual-in_err-compiled.ensures.1 (λ e q. refuses_pattern (kit g.L.Leaf.Leaf g.M.Engine.RegexEngine) g.N.BuiltNode.answers
     (listed (members_view c.args.patterns.now.entries)) c.in_ok-location.location
     (c.args.ctx.now.place // codes "patternProperties") c.in_ok-location.ensures c.args.ctx.now.meter.now c.patterns_of_entries.new.meter e _ q c.in_err-compiled.ensures.refused)
 
 pub returns-in_err-nodes-clause-refused : goal.returns-in_err-nodes-clause-refused
 returns-in_err-nodes-clause-refused g c =
-    exit _ _ _ c.from_residual-in_err-nodes.ensures.1 (λ e q. refuses_node (kit g.L.Leaf.Leaf g.M.Engine.RegexEngine) g.N.Place.answers
+    exit _ _ _ c.from_residual-in_err-nodes.ensures.1 (λ e q. refuses_node (kit g.L.Leaf.Leaf g.M.Engine.RegexEngine) g.N.BuiltNode.answers
     (listed (members_view c.args.patterns.now.entries)) c.in_ok-location.location
     (c.args.ctx.now.place // codes "patternProperties") c.in_ok-location.ensures c.args.ctx.now.meter.now c.in_ok-compiled.compiled.items c.patterns_of_entries.new.meter c.compile_declared.new.ctx.meter.now c.in_ok-compiled.ensures.read e _ q c.in_err-nodes.ensures.refused)
 
 pub returns-in_err-with_nodes-clause-refused : goal.returns-in_err-with_nodes-clause-refused
 returns-in_err-with_nodes-clause-refused g c =
-    exit _ _ _ c.from_residual-in_err-with_nodes.ensures.1 (λ e q. refuses_entries (kit g.L.Leaf.Leaf g.M.Engine.RegexEngine) g.N.Place.answers
+    exit _ _ _ c.from_residual-in_err-with_nodes.ensures.1 (λ e q. refuses_entries (kit g.L.Leaf.Leaf g.M.Engine.RegexEngine) g.N.BuiltNode.answers
     (listed (members_view c.args.patterns.now.entries)) c.in_ok-location.location
     (c.args.ctx.now.place // codes "patternProperties") c.in_ok-location.ensures c.args.ctx.now.meter.now c.in_ok-compiled.compiled.items c.patterns_of_entries.new.meter c.compile_declared.new.ctx.meter.now c.in_ok-compiled.ensures.read c.in_ok-nodes.nodes.items c.in_ok-nodes.ensures.built e _ q)
 
 pub returns-clause-built : goal.returns-clause-built
 returns-clause-built g c =
-    patterns_built (kit g.L.Leaf.Leaf g.M.Engine.RegexEngine) g.N.Place.answers (listed (members_view c.args.patterns.now.entries)) c.in_ok-location.location
+    patterns_built (kit g.L.Leaf.Leaf g.M.Engine.RegexEngine) g.N.BuiltNode.answers (listed (members_view c.args.patterns.now.entries)) c.in_ok-location.location
     (c.args.ctx.now.place // codes "patternProperties") c.in_ok-location.ensures c.args.ctx.now.meter.now c.in_ok-compiled.compiled.items c.patterns_of_entries.new.meter c.compile_declared.new.ctx.meter.now c.in_ok-compiled.ensures.read c.in_ok-nodes.nodes.items c.in_ok-nodes.ensures.built c.in_ok-with_nodes.field-0.items c.in_ok-with_nodes.ensures
 
 pub returns-clause-place : goal.returns-clause-place

@@ -9,20 +9,20 @@ use Rattle.olk_keywords.proofs.property_names.compile.Goals as goal
 
 pub returns-in-Some-clause-gives : goal.returns-in-Some-clause-gives
 returns-in-Some-clause-gives g c = (
-  built_of_shape (kit g.L.Leaf.Leaf g.M.Engine.RegexEngine) g.N.Place.answers c.in-Ok.part _ (codes "propertyNames")
+  built_of_shape (kit g.L.Leaf.Leaf g.M.Engine.RegexEngine) g.N.BuiltNode.answers c.in-Ok.part _ (codes "propertyNames")
       (view c.args.schema.now) _ _ _ c.in-Ok.ensures.built refl _ c.in-PropertyNames.is (c.in-Some.keyword ∷ [])
-      (subst (λ r. MakesMember (kit g.L.Leaf.Leaf g.M.Engine.RegexEngine) g.N.Place.answers shape.PropertyNames c.in-Ok.part.location c.in-Ok.part.nodes.items
+      (subst (λ r. MakesMember (kit g.L.Leaf.Leaf g.M.Engine.RegexEngine) g.N.BuiltNode.answers shape.PropertyNames c.in-Ok.part.location c.in-Ok.part.nodes.items
       (option_to_list r)) c.in-Some.is c.make.ensures.makes),
   tt,
 )
 
 pub returns-in-NoNames-clause-gives : goal.returns-in-NoNames-clause-gives
 returns-in-NoNames-clause-gives g c = (
-  built_without_nodes (kit g.L.Leaf.Leaf g.M.Engine.RegexEngine) g.N.Place.answers c.in-Ok.part _ (codes "propertyNames")
+  built_without_nodes (kit g.L.Leaf.Leaf g.M.Engine.RegexEngine) g.N.BuiltNode.answers c.in-Ok.part _ (codes "propertyNames")
       (view c.args.schema.now) _ _ _ c.in-Ok.ensures.built refl _ c.in-NoNames.is refl _ c.make_false.ensures.makes,
   tt,
 )
 
 pub returns-in-Err-clause-gives : goal.returns-in-Err-clause-gives
 returns-in-Err-clause-gives g c =
-    (tt, refuses_member (kit g.L.Leaf.Leaf g.M.Engine.RegexEngine) g.N.Place.answers _ (codes "propertyNames") (view c.args.schema.now) _ _ _ c.in-Err.error refl c.in-Err.ensures.refused)
+    (tt, refuses_member (kit g.L.Leaf.Leaf g.M.Engine.RegexEngine) g.N.BuiltNode.answers _ (codes "propertyNames") (view c.args.schema.now) _ _ _ c.in-Err.error refl c.in-Err.ensures.refused)

@@ -6,10 +6,10 @@ use Rattle.olk_make.proofs.additional_properties.make.Goals as goal
 
 pub returns-clause-form : goal.returns-clause-form
 returns-clause-form g c =
-    IfOk-weaker c.form.result _ _ (λ k. is_additional_properties (kit g.K.Leaf g.R.RegexEngine) g.N.Place.answers k c.args.place.now c.args.location c.args.rest c.args.beside
+    IfOk-weaker c.form.result _ _ (λ k. is_additional_properties (kit g.K.Leaf g.R.RegexEngine) g.N.BuiltNode.answers k c.args.place.now c.args.location c.args.rest c.args.beside
     (planned c.args.plan).fused_one) c.form.ensures
 
 pub returns-clause-makes : goal.returns-clause-makes
 returns-clause-makes g c =
-    IfOk-weaker c.form.result _ _ (λ k. makes_restriction (kit g.K.Leaf g.R.RegexEngine) g.N.Place.answers k c.args.location c.args.place.now c.args.rest c.args.beside
+    IfOk-weaker c.form.result _ _ (λ k. makes_restriction (kit g.K.Leaf g.R.RegexEngine) g.N.BuiltNode.answers k c.args.location c.args.place.now c.args.rest c.args.beside
     (planned c.args.plan)) c.form.ensures

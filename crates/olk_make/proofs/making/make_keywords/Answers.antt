@@ -13,16 +13,16 @@ use Rattle.olk_make.proofs.making.make_keywords.Goals as goal
 
 pub loop-part-init : goal.loop-part-init
 loop-part-init g c =
-    let taken = subst (λ p. AreTaken (kit g.K.Leaf g.R.RegexEngine) g.N.Place.answers p (known_of (members_view c.args.members.now.entries)) (listed (members_view c.args.members.now.entries)) c.args.place.now c.in_ok-taken.taken c.in_ok-taken.parts.items) c.of-plan.ensures.plan (c.in_ok-taken.ensures (listed (members_view c.args.members.now.entries)) c.args.place.now (known_of (members_view c.args.members.now.entries)) (ap (λ p. p.condition) (sym c.of-plan.ensures.plan)) c.requires) in
+    let taken = subst (λ p. AreTaken (kit g.K.Leaf g.R.RegexEngine) g.N.BuiltNode.answers p (known_of (members_view c.args.members.now.entries)) (listed (members_view c.args.members.now.entries)) c.args.place.now c.in_ok-taken.taken c.in_ok-taken.parts.items) c.of-plan.ensures.plan (c.in_ok-taken.ensures (listed (members_view c.args.members.now.entries)) c.args.place.now (known_of (members_view c.args.members.now.entries)) (ap (λ p. p.condition) (sym c.of-plan.ensures.plan)) c.requires) in
     record {
       made =
-          none_made (kit g.K.Leaf g.R.RegexEngine) g.N.Place.answers (members_view c.args.members.now.entries) c.args.place.now c.in_ok-keywords.keywords.items c.into_iter-part-iterator.result.rest.items c.in_ok-taken.taken c.in_ok-keywords.ensures.items
-          (subst (λ l. PartsStand (kit g.K.Leaf g.R.RegexEngine) g.N.Place.answers (known_of (members_view c.args.members.now.entries)) l
+          none_made (kit g.K.Leaf g.R.RegexEngine) g.N.BuiltNode.answers (members_view c.args.members.now.entries) c.args.place.now c.in_ok-keywords.keywords.items c.into_iter-part-iterator.result.rest.items c.in_ok-taken.taken c.in_ok-keywords.ensures.items
+          (subst (λ l. PartsStand (kit g.K.Leaf g.R.RegexEngine) g.N.BuiltNode.answers (known_of (members_view c.args.members.now.entries)) l
           (untaken (plan_of (members_view c.args.members.now.entries)) (listed (members_view c.args.members.now.entries))) c.args.place.now)
           (sym c.into_iter-part-iterator.ensures.into_iter_gives.0) taken.left)
-          (λ read. cases_stand (kit g.K.Leaf g.R.RegexEngine) g.N.Place.answers
+          (λ read. cases_stand (kit g.K.Leaf g.R.RegexEngine) g.N.BuiltNode.answers
           (members_view c.args.members.now.entries) c.args.place.now c.in_ok-taken.taken c.in_ok-taken.parts.items c.of-plan.ensures.distinct taken read)
-          (λ restricted. beside_stands (kit g.K.Leaf g.R.RegexEngine) g.N.Place.answers
+          (λ restricted. beside_stands (kit g.K.Leaf g.R.RegexEngine) g.N.BuiltNode.answers
           (members_view c.args.members.now.entries) c.args.place.now c.in_ok-taken.taken c.in_ok-taken.parts.items c.of-plan.ensures.distinct taken restricted);
       count = ap length c.into_iter-part-iterator.ensures.into_iter_gives.0 ∙ search rules ∙ sym c.into_iter-part-iterator.ensures.into_iter_gives.1;
       next = tt;
@@ -32,10 +32,10 @@ loop-part-init g c =
 pub loop-part-preserved-in-Continue-branch-5 : goal.loop-part-preserved-in-Continue-branch-5
 loop-part-preserved-in-Continue-branch-5 g c = record {
   made =
-      one_more_made (kit g.K.Leaf g.R.RegexEngine) g.N.Place.answers (members_view c.args.members.now.entries) c.args.place.now
+      one_more_made (kit g.K.Leaf g.R.RegexEngine) g.N.BuiltNode.answers (members_view c.args.members.now.entries) c.args.place.now
       (planned c.of-plan.result) c.of-plan.ensures.plan c.of-plan.ensures.distinct c.loop-part.keywords.items
       (c.in-Some-2.keyword ∷ []) c.append.new.items.items c.in-Some.part c.next.new.self.rest.items c.loop-part.part-iterator.rest.items c.loop-part.taken c.make_keyword.new.taken c.in_ok-append.ensures.items c.in-Some.ensures.steps.0 c.loop-part.invariant.made
-      (subst (λ x. MakesPart (kit g.K.Leaf g.R.RegexEngine) g.N.Place.answers c.in-Some.part.shape c.in-Some.part.location c.in-Some.part.nodes.items c.loop-part.taken c.args.place.now
+      (subst (λ x. MakesPart (kit g.K.Leaf g.R.RegexEngine) g.N.BuiltNode.answers c.in-Some.part.shape c.in-Some.part.location c.in-Some.part.nodes.items c.loop-part.taken c.args.place.now
       (planned c.of-plan.result) (option_to_list x)) c.in-Some-2.is c.in_ok-keyword.ensures.makes) c.in_ok-keyword.ensures.cases c.in_ok-keyword.ensures.beside;
   count = let e = ap length c.in-Some.ensures.steps.0 in omega (arith, e, c.in-Some.ensures.steps.1, c.loop-part.invariant.count);
   next = tt;
@@ -45,9 +45,9 @@ loop-part-preserved-in-Continue-branch-5 g c = record {
 pub loop-part-preserved : goal.loop-part-preserved
 loop-part-preserved g c = record {
   made =
-      one_more_made (kit g.K.Leaf g.R.RegexEngine) g.N.Place.answers (members_view c.args.members.now.entries) c.args.place.now
+      one_more_made (kit g.K.Leaf g.R.RegexEngine) g.N.BuiltNode.answers (members_view c.args.members.now.entries) c.args.place.now
       (planned c.of-plan.result) c.of-plan.ensures.plan c.of-plan.ensures.distinct c.loop-part.keywords.items [] c.loop-part.keywords.items c.in-Some.part c.next.new.self.rest.items c.loop-part.part-iterator.rest.items c.loop-part.taken c.make_keyword.new.taken (sym (append-nil c.loop-part.keywords.items)) c.in-Some.ensures.steps.0 c.loop-part.invariant.made
-      (subst (λ x. MakesPart (kit g.K.Leaf g.R.RegexEngine) g.N.Place.answers c.in-Some.part.shape c.in-Some.part.location c.in-Some.part.nodes.items c.loop-part.taken c.args.place.now
+      (subst (λ x. MakesPart (kit g.K.Leaf g.R.RegexEngine) g.N.BuiltNode.answers c.in-Some.part.shape c.in-Some.part.location c.in-Some.part.nodes.items c.loop-part.taken c.args.place.now
       (planned c.of-plan.result) (option_to_list x)) c.in_default.is c.in_ok-keyword.ensures.makes) c.in_ok-keyword.ensures.cases c.in_ok-keyword.ensures.beside;
   count = let e = ap length c.in-Some.ensures.steps.0 in omega (arith, e, c.in-Some.ensures.steps.1, c.loop-part.invariant.count);
   next = tt;
@@ -56,6 +56,6 @@ loop-part-preserved g c = record {
 
 pub returns : goal.returns
 returns g c =
-    all_made (kit g.K.Leaf g.R.RegexEngine) g.N.Place.answers (members_view c.args.members.now.entries) c.args.place.now
+    all_made (kit g.K.Leaf g.R.RegexEngine) g.N.BuiltNode.answers (members_view c.args.members.now.entries) c.args.place.now
     (planned c.of-plan.result) c.of-plan.ensures.plan c.of-plan.ensures.distinct c.loop-part.keywords.items c.loop-part.part-iterator.rest.items c.loop-part.taken
     (nil_from_length _ (c.loop-part.invariant.count ∙ c.in-None.ensures.steps.0)) c.loop-part.invariant.made

@@ -7,4 +7,4 @@ returns-clause-form g c = is_pattern_properties c.form.result c.args.location c.
 
 pub returns-clause-makes : goal.returns-clause-makes
 returns-clause-makes g c t =
-    makes_pattern_properties (kit g.K.Leaf g.R.RegexEngine) g.N.Place.answers c.form.result c.args.location c.args.patterns t c.args.nodes.items c.in_ok-entries.entries.items c.in_ok-entries.ensures c.form.ensures
+    makes_pattern_properties (kit g.K.Leaf g.R.RegexEngine) g.N.BuiltNode.answers c.form.result c.args.location c.args.patterns t c.args.nodes.items c.in_ok-entries.entries.items c.in_ok-entries.ensures c.form.ensures

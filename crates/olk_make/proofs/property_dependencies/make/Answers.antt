@@ -8,7 +8,7 @@ returns-clause-form g c = (refl, cut_names c.args.texts.items c.args.nodes.items
 
 pub returns-clause-makes : goal.returns-clause-makes
 returns-clause-makes g c =
-    makes_property_dependencies (kit g.K.Leaf g.R.RegexEngine) g.N.Place.answers record {
+    makes_property_dependencies (kit g.K.Leaf g.R.RegexEngine) g.N.BuiltNode.answers record {
       names = c.args.keys;
       nodes = c.in_ok-maps.maps;
     } c.args.texts c.args.nodes.items c.args.location c.in_ok-maps.ensures

@@ -1,10 +1,10 @@
-//! Places of a schema, as building knows them.
+//! Nodes as building makes them.
 use crate::node::{Body, KeywordOver};
 use olk_base::{Leaf, RegexEngine};
 use olk_paths::Location;
 
-/// A place of a schema, as building knows it: it answers as what stands there does.
-pub trait Place<K: Leaf, R: RegexEngine>: Drop {
+/// A type of nodes that building makes: each answers as what it is made with does.
+pub trait BuiltNode<K: Leaf, R: RegexEngine>: Drop {
     ghost use Rattle.olk_base.specs.Kit.{kit};
     ghost use Rattle.olk_tree.specs.Answers.{Answers};
     ghost use Rattle.olk_tree.specs.Places.{AnswersBy};
@@ -12,7 +12,7 @@ pub trait Place<K: Leaf, R: RegexEngine>: Drop {
     // what it answers
     ghost answers: { Self → Answers };
 
-    /// The place with what stands there.
+    /// The node at the place, with what stands there.
     fn new(location: Location, body: Body<KeywordOver<K, R, Self>>) -> Self
         ensures { AnswersBy (kit K.Leaf R.RegexEngine) answers location body result };
 }
