@@ -17,7 +17,7 @@ use crate::IsValid;
 use crate::accepted::Accepted;
 use crate::required::{has_both, is_met, is_present};
 use olk_base::{Node, ValidationContext};
-use olk_members::member;
+use olk_meaning::member;
 use olk_tree::properties::{Properties, SmallPropertiesWithRequired2};
 use olk_tree::properties_map::PropertiesMap;
 use olk_tree::validators_map::PropertiesValidatorsMap;
