@@ -1,5 +1,5 @@
 -- Names by their first bytes, read as a number.
-use Rattle.std.proofs.Common.{◌≡◌, ℕ, zero, suc, ◌+◌, ◌-◌, drop, length-drop, IsUtf8, ◌*◌, ◌/◌, ◌^◌, ◌<◌, ◌≤◌, Bool, true, false, cond, ◌&&◌, List, [], ◌∷◌, ◌++◌, length, map, get_or, Ordering, Less, Equal, Greater, String, Global, string_bytes, refl, sym, ap, subst, ◌∙◌, arith, true≢false, mul-le-mul_right, subst₂, ◌≢◌, None, bytes_eq}
+use Rattle.std.proofs.Common.{◌≡◌, ℕ, zero, suc, ◌+◌, ◌-◌, drop, length-drop, IsUtf8, ◌*◌, ◌/◌, ◌%◌, ◌^◌, ◌<◌, ◌≤◌, Bool, true, false, cond, ◌&&◌, List, [], ◌∷◌, ◌++◌, length, map, get_or, Ordering, Less, Equal, Greater, String, Global, string_bytes, refl, sym, ap, subst, ◌∙◌, arith, true≢false, mul-le-mul_right, subst₂, ◌≢◌, None, bytes_eq}
 use Rattle.std.specs.List.{position, position_or_len}
 use Rattle.std.specs.List.Sorted.{IsPartitionPoint, IsPartitionedBy}
 use Rattle.std.proofs.lemmas.List.Sums.{position_or_len_is}
@@ -14,6 +14,7 @@ use native.Mathlib.Nat.{pow-suc}
 use lib.Utf8.{scalar, scalars, encode, encodes}
 use Rattle.olk_spec.specs.Names.{Name}
 use Rattle.olk_tree.specs.Ascending.{Ascend, AreKept, IsBefore, IsFirst, Rise, first_bytes}
+use Rattle.olk_tree.proofs.Places.{Names, nowhere}
 
 -- ---- the bytes of a text are below 256
 
@@ -35,9 +36,9 @@ bytes_of_one c e = by (nat_lt c 128) (nat_lt c 2048) (nat_lt c 65536) refl refl 
     by : (x y z : Bool) → nat_lt c 128 ≡ x → nat_lt c 2048 ≡ y → nat_lt c 65536 ≡ z
         → Bytes (cond x (c ∷ []) (cond y ((192 + c / 64) ∷ (128 + c % 64) ∷ []) (cond z ((224 + c / 4096) ∷ (128 + c / 64 % 64) ∷ (128 + c % 64) ∷ []) ((240 + c / 262144) ∷ (128 + c / 4096 % 64) ∷ (128 + c / 64 % 64) ∷ (128 + c % 64) ∷ []))))
     by true y z p q r = let lt : c < 128 = grind (arith, nat_tests) in (omega arith, tt)
-    by false true z p q r = let lt : c < 2048 = grind (arith, nat_tests) in (omega arith, omega arith, tt)
-    by false false true p q r = let lt : c < 65536 = grind (arith, nat_tests) in (omega arith, omega arith, omega arith, tt)
-    by false false false p q r = let lt = scalar_below c e in (omega arith, omega arith, omega arith, omega arith, tt)
+    by false true z p q r = let lt : c < 2048 = grind (arith, nat_tests) in (omega arith, (omega arith, tt))
+    by false false true p q r = let lt : c < 65536 = grind (arith, nat_tests) in (omega arith, (omega arith, (omega arith, tt)))
+    by false false false p q r = let lt = scalar_below c e in (omega arith, (omega arith, (omega arith, (omega arith, tt))))
 
 both : (x y : Bool) → (x && y) ≡ true → (x ≡ true) × (y ≡ true)
 both true y e = (refl, e)
@@ -84,19 +85,20 @@ worth_rises (suc k) (a ∷ m) [] g h e = absurd (greater_less e)
   where
     greater_less : Greater ≡ Less → ⊥
     greater_less e = grind arith
-worth_rises (suc k) (a ∷ m) (b ∷ n) g h e = by (nat_cmp a b) refl e
+worth_rises (suc k) (a ∷ m) (b ∷ n) g h e = by (worth_rises k m n g.1 h.1) (nat_cmp a b) refl e
   where
-    by : (o : Ordering) → nat_cmp a b ≡ o → ordering_then o (slice_cmp nat_cmp m n) ≡ Less → a * 256 ^ k + worth k m ≤ b * 256 ^ k + worth k n
-    by Less p q =
+    by : (slice_cmp nat_cmp m n ≡ Less → worth k m ≤ worth k n) → (o : Ordering) → nat_cmp a b ≡ o → ordering_then o (slice_cmp nat_cmp m n) ≡ Less
+        → a * 256 ^ k + worth k m ≤ b * 256 ^ k + worth k n
+    by rises Less p q =
         let lt : a < b = grind (arith, nat_tests) in
         let more : suc a * 256 ^ k ≤ b * 256 ^ k = mul-le-mul_right (256 ^ k) lt in
         let rest = worth_below k m g.1 in
         grind arith
-    by Equal p q =
+    by rises Equal p q =
         let same : a ≡ b = grind (arith, nat_tests) in
-        let rest = worth_rises k m n g.1 h.1 q in
+        let rest = rises q in
         subst (λ c. a * 256 ^ k + worth k m ≤ c * 256 ^ k + worth k n) same (omega arith)
-    by Greater p q = grind arith
+    by rises Greater p q = grind arith
 
 -- ---- the heads of names
 
@@ -126,9 +128,11 @@ heads_rise names asc i j le lt = by (nat_lt i j) refl
 
     by : (b : Bool) → nat_lt i j ≡ b → get_or (map first_bytes ks) i 0 ≤ get_or (map first_bytes ks) j 0
     by true e =
-        let lower = head_at i (grind (arith, nat_tests)) in
+        let less : i < j = grind (arith, nat_tests) in
+        let last : j < length ks = inside in
+        let lower = head_at i (omega arith) in
         let upper = head_at j inside in
-        let rises = worth_rises 8 (get_or ks i []) (get_or ks j []) (bytes_at names i) (bytes_at names j) (asc i j (grind (arith, nat_tests)) inside) in
+        let rises = worth_rises 8 (get_or ks i []) (get_or ks j []) (bytes_at names i) (bytes_at names j) (asc i j less inside) in
         let at_lower = worth_is (get_or ks i []) in
         let at_upper = worth_is (get_or ks j []) in
         subst₂ (λ x y. x ≤ y) (sym (lower ∙ at_lower)) (sym (upper ∙ at_upper)) rises
@@ -193,42 +197,34 @@ module _ {names : List (String Global)} {hs : List ℕ} {ks : List Name} (kept :
   pub kept_rise : Rise hs
   kept_rise = subst Rise (sym kept.heads) (heads_rise names kept.ascend)
 
--- a name stands nowhere whose first bytes are those of none
-pub unlike_none : (names : List (String Global)) (hs : List ℕ) (n : Name) (place : ℕ) → AreKept names hs → IsFirst hs (first_bytes n) place → (place < length hs → get_or hs place 0 ≢ first_bytes n) → None ≡ position (λ k. bytes_eq k n) (map string_bytes names)
-unlike_none names hs n place kept first differs = none (position_or_len_is (λ k. bytes_eq k n) ks (length ks) [] (omega arith) (λ i l. unlike i l (bytes_eq (get_or ks i []) n) refl) (λ l. absurd (omega arith)))
-  where
-    ks : List Name
-    ks = map string_bytes names
+  -- a name stands nowhere whose first bytes are those of none
+  module _ (n : Name) {h place : ℕ} (head : h ≡ first_bytes n) (first : IsFirst (map first_bytes ks) h place) where
+    found : IsFirst hs h place
+    found = subst (λ l. IsFirst l h place) (sym heads_seen) first
 
-    rise : Rise hs
-    rise = kept_rise kept refl
+    as_many : length hs ≡ length ks
+    as_many = ap length heads_seen ∙ length-map ks first_bytes
 
-    long : length hs ≡ length ks
-    long = ap length kept.heads ∙ length-map ks first_bytes
+    head_of_same : (i : ℕ) → i < length ks → get_or ks i [] ≡ n → get_or hs i 0 ≡ h
+    head_of_same i l e = ap (λ l. get_or l i 0) heads_seen ∙ get_or-map first_bytes ks i [] 0 l ∙ ap first_bytes e ∙ sym head
 
-    head_at : (i : ℕ) → i < length ks → get_or ks i [] ≡ n → get_or hs i 0 ≡ first_bytes n
-    head_at i l e = ap (λ l. get_or l i 0) kept.heads ∙ get_or-map first_bytes ks i [] 0 l ∙ ap first_bytes e
+    module _ (differs : place < length hs → get_or hs place 0 ≢ h) where
+      never : (i : ℕ) → i < length ks → get_or ks i [] ≡ n → (b : Bool) → nat_lt i place ≡ b → ⊥
+      never i l e true f = let less = found.before.below i (grind (arith, nat_tests)) in let same = head_of_same i l e in omega arith
+      never i l e false f =
+          let behind : place ≤ i = grind (arith, nat_tests) in
+          let inside : place < length hs = omega (arith, as_many) in
+          let least = found.here inside in
+          let most = kept_rise place i behind (omega (arith, as_many)) in
+          let same = head_of_same i l e in
+          differs inside (omega arith)
 
-    never : (i : ℕ) → i < length ks → get_or ks i [] ≡ n → ⊥
-    never i l e = by (nat_lt i place) refl
-      where
-        by : (b : Bool) → nat_lt i place ≡ b → ⊥
-        by true f = let less = first.before.below i (grind (arith, nat_tests)) in let same = head_at i l e in omega arith
-        by false f =
-            let behind : place ≤ i = grind (arith, nat_tests) in
-            let inside : place < length hs = omega (arith, long) in
-            let least = first.here inside in
-            let most = rise place i behind (omega (arith, long)) in
-            let same = head_at i l e in
-            let other : get_or hs place 0 ≡ first_bytes n = omega arith in
-            differs inside other
+      unlike : (i : ℕ) → i < length ks → (b : Bool) → bytes_eq (get_or ks i []) n ≡ b → bytes_eq (get_or ks i []) n ≡ false
+      unlike i l true e = absurd (never i l ((bytes_eq-Decides (get_or ks i []) n).0 e) (nat_lt i place) refl)
+      unlike i l false e = e
 
-    unlike : (i : ℕ) → i < length ks → (b : Bool) → bytes_eq (get_or ks i []) n ≡ b → bytes_eq (get_or ks i []) n ≡ false
-    unlike i l true e = absurd (never i l ((bytes_eq-Decides (get_or ks i []) n).0 e))
-    unlike i l false e = e
-
-    none : position_or_len (λ k. bytes_eq k n) ks ≡ length ks → None ≡ position (λ k. bytes_eq k n) ks
-    none e = grind (arith, nat_tests)
+      pub unlike_none : None ≡ position (λ k. bytes_eq k n) ks
+      unlike_none = nowhere ks n (λ i l. unlike i l (bytes_eq (get_or ks i []) n) refl)
 
 -- ---- equal first bytes of equally short names
 
@@ -237,37 +233,35 @@ worth_same k [] [] g h long few e = refl
 worth_same k [] (b ∷ n) g h long few e = absurd (omega (arith, long))
 worth_same k (a ∷ m) [] g h long few e = absurd (omega (arith, long))
 worth_same zero (a ∷ m) (b ∷ n) g h long few e = absurd (omega (arith, few))
-worth_same (suc k) (a ∷ m) (b ∷ n) g h long few e = by (nat_lt a b) (nat_lt b a) refl refl
+worth_same (suc k) (a ∷ m) (b ∷ n) g h long few e = by (worth_same k m n g.1 h.1 (omega (arith, long)) (omega (arith, few))) (nat_lt a b) (nat_lt b a) refl refl
   where
-    rest_m : worth k m < 256 ^ k
-    rest_m = worth_below k m g.1
-
-    rest_n : worth k n < 256 ^ k
-    rest_n = worth_below k n h.1
-
-    by : (x y : Bool) → nat_lt a b ≡ x → nat_lt b a ≡ y → (a ∷ m) ≡ (b ∷ n)
-    by true y p q =
+    by : (worth k m ≡ worth k n → m ≡ n) → (x y : Bool) → nat_lt a b ≡ x → nat_lt b a ≡ y → (a ∷ m) ≡ (b ∷ n)
+    by rest true y p q =
         let lt : a < b = grind (arith, nat_tests) in
         let more : suc a * 256 ^ k ≤ b * 256 ^ k = mul-le-mul_right (256 ^ k) lt in
+        let below = worth_below k m g.1 in
         absurd (grind arith)
-    by false true p q =
+    by rest false true p q =
         let lt : b < a = grind (arith, nat_tests) in
         let more : suc b * 256 ^ k ≤ a * 256 ^ k = mul-le-mul_right (256 ^ k) lt in
+        let below = worth_below k n h.1 in
         absurd (grind arith)
-    by false false p q =
+    by rest false false p q =
         let same : a ≡ b = grind (arith, nat_tests) in
         let other : worth k m ≡ worth k n = grind arith in
-        let tail = worth_same k m n g.1 h.1 (omega (arith, long)) (omega (arith, few)) other in
+        let tail = rest other in
         λ i. same i ∷ tail i
 
 -- a name of at most eight bytes stands where one of its length and its first bytes does
-pub short_stands : (names : List (String Global)) (n : Name) (place : ℕ) → place < length (map string_bytes names) → IsUtf8 n
-    → length (get_or (map string_bytes names) place []) ≡ length n → length n ≤ 8 → get_or (map first_bytes (map string_bytes names)) place 0 ≡ first_bytes n
-    → true ≡ bytes_eq (get_or (map string_bytes names) place []) n
-short_stands names n place inside u long few same = sym ((bytes_eq-Decides here n).1 (worth_same 8 here n (bytes_at names place) (bytes_of_utf8 n u) long (omega (arith, long)) worths))
+pub short_stands : {names : List (String Global)} {ks : List Name} (n : Name) (place : ℕ) → Names names ks → place < length ks → IsUtf8 n
+    → length (get_or ks place []) ≡ length n → length n ≤ 8 → get_or (map first_bytes ks) place 0 ≡ first_bytes n → true ≡ bytes_eq (get_or ks place []) n
+short_stands {names} {ks} n place seen inside u long few same = sym ((bytes_eq-Decides here n).1 (worth_same 8 here n bytes (bytes_of_utf8 n u) long (omega (arith, long, few)) worths))
   where
     here : Name
-    here = get_or (map string_bytes names) place []
+    here = get_or ks place []
+
+    bytes : Bytes here
+    bytes = subst (λ l. Bytes (get_or l place [])) (sym seen.as_seen) (bytes_at names place)
 
     worths : worth 8 here ≡ worth 8 n
-    worths = sym (worth_is here) ∙ sym (get_or-map first_bytes (map string_bytes names) place [] 0 inside) ∙ same ∙ worth_is n
+    worths = sym (worth_is here) ∙ sym (get_or-map first_bytes ks place [] 0 inside) ∙ same ∙ worth_is n

@@ -90,8 +90,11 @@ module _ (ks : List Name) (n : Name) where
   not_found : position_or_len test ks ≡ length ks → None ≡ position test ks
   not_found e = grind (arith, nat_tests)
 
+  pub nowhere : ((k : ℕ) → k < length ks → bytes_eq (get_or ks k []) n ≡ false) → None ≡ position test ks
+  nowhere unlike = not_found (position_or_len_is test ks (length ks) [] (omega arith) unlike (λ l. absurd (omega arith)))
+
   pub parts_none : {p : ℕ} → Parts ks n p → None ≡ position test ks
-  parts_none {p} h = not_found (position_or_len_is test ks (length ks) [] (omega arith) (λ k l. by k l (nat_lt k p) refl) (λ l. absurd (omega arith)))
+  parts_none {p} h = nowhere (λ k l. by k l (nat_lt k p) refl)
     where
       by : (k : ℕ) → k < length ks → (b : Bool) → nat_lt k p ≡ b → bytes_eq (get_or ks k []) n ≡ false
       by k l true e = differs (get_or ks k []) n Less (h.below k (grind (arith, nat_tests)) l) refl
@@ -132,8 +135,11 @@ module _ {slice : List (String Global)} {ks : List Name} (h : Names slice ks) wh
   pub same_length : length ks ≡ length slice
   same_length = ap length h.as_seen ∙ length-map slice string_bytes
 
+  pub text_at : (p : ℕ) (x : String Global) (t : Name) → x ≡ get_or slice p x → t ≡ string_bytes x → p < length slice → t ≡ get_or ks p []
+  text_at p x t is text lt = text ∙ ap string_bytes is ∙ sym (get_or-map string_bytes slice p x [] lt) ∙ ap (λ l. get_or l p []) (sym h.as_seen)
+
   pub seen_at : (p : ℕ) (x : String Global) (t n : Name) → x ≡ get_or slice p x → t ≡ string_bytes x → p < length slice → bytes_eq t n ≡ bytes_eq (get_or ks p []) n
-  seen_at p x t n is text lt = ap (λ k. bytes_eq k n) (text ∙ ap string_bytes is ∙ sym (get_or-map string_bytes slice p x [] lt) ∙ ap (λ l. get_or l p []) (sym h.as_seen))
+  seen_at p x t n is text lt = ap (λ k. bytes_eq k n) (text_at p x t is text lt)
 
   pub equal_at : {b : Bool} (p : ℕ) (x : String Global) (t n : Name) → x ≡ get_or slice p x → t ≡ string_bytes x → p < length slice → b ≡ bytes_eq t n → b ≡ bytes_eq (get_or ks p []) n
   equal_at p x t n is text lt e = e ∙ seen_at p x t n is text lt

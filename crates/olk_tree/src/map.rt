@@ -217,7 +217,7 @@ fn first_behind(heads: &[u64], start: usize, head: u64) -> usize
     start
         + behind.partition_point(
             |it: &u64| -> bool
-                ensures { result ≡ nat_lt it.now head.entry }
+                ensures { result ≡ nat_lt it.now head }
             { *it < head },
         )
 }

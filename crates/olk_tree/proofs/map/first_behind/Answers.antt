@@ -1,4 +1,4 @@
-use Rattle.std.proofs.Common.{nat_lt, ◌≡◌, true, false, rules, subst, sym, length}
+use Rattle.std.proofs.Common.{nat_lt, ◌≡◌, ◌≤◌, true, false, rules, subst, sym, length}
 use Rattle.std.proofs.lemmas.Fn.{always_returns_same}
 use Rattle.std.proofs.lemmas.List.{take_rest}
 use Rattle.std.specs.List.Sorted.{IsPartitionPoint, IsPartitionedBy}
