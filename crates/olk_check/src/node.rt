@@ -32,8 +32,8 @@ impl<K: Leaf, R: RegexEngine, N: IsValid> IsValid for KeywordOver<K, R, N> {
     }
 }
 
-/// Whether the keyword accepts the value.
-#[inline(always)]
+/// Whether the keyword accepts the value; apart, so that a walk over leaves stays small.
+#[inline(never)]
 #[tactic(auto, unfolding(olk_tree::specs::Validators::answers_of))]
 fn keyword_accepts<K: Leaf, R: RegexEngine, N: IsValid>(
     keyword: &KeywordOver<K, R, N>,

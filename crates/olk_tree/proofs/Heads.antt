@@ -10,8 +10,9 @@ use Rattle.std.proofs.lemmas.Str.{IsUtf8-string_bytes}
 use Rattle.std.proofs.lemmas.List.{get_or-map, get_or-drop, get_or_read, get_or_default, length-map}
 use Rattle.std.proofs.lemmas.Bool.Decides.{nat_tests}
 use native.Mathlib.Nat.{pow-suc}
-use lib.Utf8.{scalar, scalars, encode, encodes}
+use lib.Utf8.{scalar, scalars, next, encode, encodes}
 use Rattle.olk_spec.specs.Names.{Name}
+use Rattle.olk_spec.proofs.Truth.{and_first, and_second}
 use Rattle.olk_tree.specs.Ascending.{Ascend, AreKept, IsBefore, IsFirst, Rise, first_bytes}
 use Rattle.olk_tree.proofs.Places.{Names, nowhere}
 
@@ -33,19 +34,15 @@ unfolding encode
 bytes_of_one c e = by (nat_lt c 128) (nat_lt c 2048) (nat_lt c 65536) refl refl refl
   where
     by : (x y z : Bool) → nat_lt c 128 ≡ x → nat_lt c 2048 ≡ y → nat_lt c 65536 ≡ z
-        → Bytes (cond x (c ∷ []) (cond y ((192 + c / 64) ∷ (128 + c % 64) ∷ []) (cond z ((224 + c / 4096) ∷ (128 + c / 64 % 64) ∷ (128 + c % 64) ∷ []) ((240 + c / 262144) ∷ (128 + c / 4096 % 64) ∷ (128 + c / 64 % 64) ∷ (128 + c % 64) ∷ []))))
+        → Bytes (cond x (c ∷ []) (cond y ((192 + c / 64) ∷ next c ∷ []) (cond z ((224 + c / 4096) ∷ next (c / 64) ∷ next c ∷ []) ((240 + c / 262144) ∷ next (c / 4096) ∷ next (c / 64) ∷ next c ∷ []))))
     by true y z p q r = let lt : c < 128 = grind (arith, nat_tests) in (omega arith, tt)
     by false true z p q r = let lt : c < 2048 = grind (arith, nat_tests) in (omega arith, (omega arith, tt))
     by false false true p q r = let lt : c < 65536 = grind (arith, nat_tests) in (omega arith, (omega arith, (omega arith, tt)))
     by false false false p q r = let lt = scalar_below c e in (omega arith, (omega arith, (omega arith, (omega arith, tt))))
 
-both : (x y : Bool) → (x && y) ≡ true → (x ≡ true) × (y ≡ true)
-both true y e = (refl, e)
-both false y e = absurd (true≢false (sym e))
-
 bytes_of_all : (cs : List ℕ) → scalars cs ≡ true → Bytes (encodes cs)
 bytes_of_all [] e = tt
-bytes_of_all (c ∷ cs) e = let p = both (scalar c) (scalars cs) e in bytes_append (encode c) (encodes cs) (bytes_of_one c p.0) (bytes_of_all cs p.1)
+bytes_of_all (c ∷ cs) e = bytes_append (encode c) (encodes cs) (bytes_of_one c (and_first (scalar c) (scalars cs) e)) (bytes_of_all cs (and_second (scalar c) (scalars cs) e))
 
 bytes_of_utf8 : (n : Name) → IsUtf8 n → Bytes n
 bytes_of_utf8 n u = subst Bytes u.1.1 (bytes_of_all u.0 u.1.0)

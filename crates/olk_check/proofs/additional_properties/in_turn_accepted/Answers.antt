@@ -11,7 +11,7 @@ use Rattle.olk_check.proofs.additional_properties.in_turn_accepted.Goals as goal
 pub returns-in-Some : goal.returns-in-Some
 returns-in-Some g c =
     let v = object_of c.args.members.now.entries in
-    answered_one c.one_if-in-Some.ensures
+    answered_one c.one_if.ensures
     (both_where (subst (λ q. Asks c.args.ctx.now c.each_value_accepted.new.ctx q c.each_value_accepted.result)
     (alone_means g.N.Means.means g.R.RegexEngine.answers g.R.RegexEngine.costs (table_says c.args.keyword.now.table) c.in-Some.rest.now v
     ∙ ap (λ s. means_in_turn g.R.RegexEngine.answers g.R.RegexEngine.costs g.N.Means.means s v) (sym c.in-Some.ensures)

@@ -6,4 +6,6 @@ use Rattle.olk_check.proofs.Walks.{AllLeft}
 use Rattle.olk_check.proofs.properties.each_name_accepted.Given as goal
 
 abbrev pub invariant-loop-name : goal.invariant-loop-name
-invariant-loop-name g l = AllLeft (λ e. every (g.N.Means.means e.1) (at e.0 (object_of l.members.entries))) (zip (g.M.PropertiesValidatorsMap.names l.properties) (g.M.PropertiesValidatorsMap.nodes l.properties)) (pairs_of l.name-iterator) l.initial.ctx l.ctx
+invariant-loop-name g l =
+    AllLeft (λ e. every (g.N.Means.means e.1) (at e.0 (object_of l.members.entries)))
+    (zip (g.M.PropertiesValidatorsMap.names l.properties) (g.M.PropertiesValidatorsMap.nodes l.properties)) (pairs_of l.name-iterator) l.initial.ctx l.ctx
