@@ -1,5 +1,5 @@
 -- Names by their first bytes, read as a number.
-use Rattle.std.proofs.Common.{◌≡◌, ℕ, zero, suc, ◌+◌, ◌-◌, drop, length-drop, IsUtf8, ◌*◌, ◌/◌, ◌%◌, ◌^◌, ◌<◌, ◌≤◌, Bool, true, false, cond, ◌&&◌, List, [], ◌∷◌, ◌++◌, length, map, get_or, Ordering, Less, Equal, Greater, String, Global, string_bytes, refl, sym, ap, subst, ◌∙◌, arith, true≢false, mul-le-mul_right, subst₂, ◌≢◌, None, bytes_eq}
+use Rattle.std.proofs.Common.{◌≡◌, ℕ, zero, suc, ◌+◌, ◌-◌, drop, length-drop, IsUtf8, ◌*◌, ◌/◌, ◌^◌, ◌<◌, ◌≤◌, Bool, true, false, cond, List, [], ◌∷◌, ◌++◌, length, map, get_or, Ordering, Less, Equal, Greater, String, Global, string_bytes, refl, sym, ap, subst, ◌∙◌, arith, mul-le-mul_right, subst₂, ◌≢◌, None, bytes_eq}
 use Rattle.std.specs.List.{position}
 use Rattle.std.specs.List.Sorted.{IsPartitionPoint, IsPartitionedBy}
 use Rattle.std.proofs.lemmas.Slice.Eq.{bytes_eq-Decides}

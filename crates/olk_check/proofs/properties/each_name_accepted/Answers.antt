@@ -1,4 +1,4 @@
-use Rattle.std.proofs.Common.{◌≡◌, ◌∷◌, true, false, rules, map, string_bytes, option_to_list, ap, subst, ◌∙◌}
+use Rattle.std.proofs.Common.{◌≡◌, true, false, rules, map, string_bytes, option_to_list, ap, subst, ◌∙◌}
 use Rattle.std.specs.List.{zip}
 use Rattle.std.proofs.lemmas.Slice.Zip.{either_empty_from_Zip}
 use Rattle.olk_spec.specs.Schemas.{at}
@@ -20,8 +20,8 @@ whole_pairs g c =
 pub loop-name-init : goal.loop-name-init
 loop-name-init g c = record {
   goes_on = λ end r h.
-  subst (λ es. Asks c.args.ctx.now end (every (λ e. every (g.N.Means.means e.1) (at e.0 (object_of c.args.members.now.entries))) es) r)
-  (ap pairs_of c.into_iter-name-iterator.ensures.into_iter_gives ∙ whole_pairs g c) h;
+      subst (λ es. Asks c.args.ctx.now end (every (λ e. every (g.N.Means.means e.1) (at e.0 (object_of c.args.members.now.entries))) es) r)
+      (ap pairs_of c.into_iter-name-iterator.ensures.into_iter_gives ∙ whole_pairs g c) h;
 }
 
 pub returns-then-not-accepted_if_present : goal.returns-then-not-accepted_if_present
