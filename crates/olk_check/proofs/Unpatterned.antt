@@ -1,5 +1,5 @@
 -- Members that declared names and the rest speak of, and no patterns.
-use Rattle.std.proofs.Common.{◌≡◌, ℕ, ◌+◌, ◌<◌, length, Bool, true, false, List, [], ◌∷◌, map, Option, Some, None, option_map, refl, sym, ap, subst, ◌∙◌, is_some, arith}
+use Rattle.std.proofs.Common.{◌≡◌, ℕ, ◌+◌, ◌<◌, length, Bool, false, List, [], ◌∷◌, map, Option, Some, None, option_map, refl, sym, ap, subst, ◌∙◌, is_some, arith}
 use Rattle.std.specs.List.{enumerate_from, zip}
 use denote.Ref.{Bor}
 use mathlib.Core.Bool.{true≢false}
@@ -20,7 +20,7 @@ use Rattle.olk_tree.proofs.Crowded.{one_too_many}
 use Rattle.olk_tree.proofs.Merge.{Rising}
 use Rattle.olk_check.specs.Asks.{Asks}
 use Rattle.olk_check.proofs.Asked.{settles, unasked}
-use Rattle.olk_check.specs.Unpatterned.{unpatterned, declared_or_rest, names_mean}
+use Rattle.olk_check.specs.Unpatterned.{unpatterned, alone, declared_or_rest, names_mean, values_mean}
 
 pub nothing_else : {A : Type 0} (o : Option (Bor A)) → is_some o ≡ false → None ≡ option_copied o
 nothing_else None e = refl
@@ -61,3 +61,11 @@ module _ {N : Type 0} (m : N → Data → Question) where
       -- where no patterns stand there
       pub unpatterned_means : (v : Data) → names_mean m (mapped p) rest v ≡ means_in_turn answers costs m (unpatterned p rest known) v
       unpatterned_means v = λ i. every (λ x. member_declared x.0 x.1 i) (members v)
+
+    -- where nothing stands beside the rest
+    module _ (rest : N) where
+      at_rest : (n : Name) (x : Data) → m rest x ≡ member_means answers costs m (alone rest known) n x
+      at_rest n x = sym (λ i. record { accepts = (m rest x).accepts; asks = λ u. nothing_first ((m rest x).asks u) i })
+
+      pub alone_means : (v : Data) → values_mean m rest v ≡ means_in_turn answers costs m (alone rest known) v
+      alone_means v = λ i. every (λ x. at_rest x.0 x.1 i) (members v)

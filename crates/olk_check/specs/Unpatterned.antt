@@ -15,6 +15,10 @@ use Rattle.olk_tree.specs.declared.properties_map.PropertiesMap.{PropertiesMap}
 abbrev pub unpatterned : {R N : Type 0} → PropertiesMap N → Option N → (ℕ → ℕ → Says) → Sides R N
 unpatterned m rest known = record { declared = mapped_places (Some m); patterns = []; known = known; rest = rest }
 
+-- no names, no patterns, and this for the rest
+abbrev pub alone : {R N : Type 0} → N → (ℕ → ℕ → Says) → Sides R N
+alone rest known = record { declared = []; patterns = []; known = known; rest = Some rest }
+
 module _ {N : Type 0} (m : N → Data → Question) where
   -- a member is to be accepted by what is declared at its name, and any other by the rest; with nothing it is not expected
   abbrev pub declared_or_rest : Option N → Data → Option N → Question
@@ -23,6 +27,10 @@ module _ {N : Type 0} (m : N → Data → Question) where
 
   abbrev pub names_mean : List (Name × N) → Option N → Data → Question
   names_mean es rest v = every (λ x. declared_or_rest rest x.1 (lookup_name x.0 es)) (members v)
+
+  -- each member is to be accepted by the same
+  abbrev pub values_mean : N → Data → Question
+  values_mean n v = every (λ x. m n x.1) (members v)
 
   -- what is held back
   abbrev pub held_means : Option (Bor N × Bor Value) → Question

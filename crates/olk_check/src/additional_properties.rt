@@ -15,7 +15,7 @@ ghost use Rattle.olk_tree.specs.Tables.{known_says, table_says};
 ghost use Rattle.olk_tree.specs.Visited.{object_of};
 ghost use Rattle.olk_check.specs.Asks.{Asks};
 ghost use Rattle.olk_check.specs.Together.{AsksOne};
-ghost use Rattle.olk_check.specs.Unpatterned.{unpatterned, names_mean, declared_or_rest, held_means};
+ghost use Rattle.olk_check.specs.Unpatterned.{unpatterned, alone, names_mean, values_mean, declared_or_rest, held_means};
 
 use crate::IsValid;
 use crate::accepted::Accepted;
@@ -131,7 +131,39 @@ fn in_turn_accepted<R: RegexEngine, N: IsValid>(
     if !has_required(&keyword.required, members) {
         return Accepted::None;
     }
-    Accepted::one_if(each_accepted(keyword, members, ctx))
+    match rest_alone(keyword) {
+        Some(rest) => Accepted::one_if(each_value_accepted(rest, members, ctx)),
+        None => Accepted::one_if(each_accepted(keyword, members, ctx)),
+    }
+}
+
+/// The rest, where no names and no patterns stand beside it.
+fn rest_alone<R, N>(keyword: &AdditionalProperties<R, N>) -> Option<&N>
+    ensures { IfSome result (λ rest. sides_of keyword.now
+        ≡ alone rest.now (table_says keyword.now.table)) }
+{
+    match (&keyword.properties, &keyword.patterns) {
+        (None, None) => keyword.rest.as_ref(),
+        _ => None,
+    }
+}
+
+/// Whether the value of each member is accepted by the same.
+#[inline(never)]
+fn each_value_accepted<N: IsValid>(
+    subschema: &N,
+    members: &Map<String, Value>,
+    ctx: &mut ValidationContext,
+) -> bool
+    ensures { Asks ctx.old ctx.new (values_mean N.means
+        subschema.now (object_of members.now.entries)) result }
+{
+    for (_, value) in members {
+        if !subschema.is_valid(Node::Value(value), ctx) {
+            return false;
+        }
+    }
+    true
 }
 
 /// The declared names and the rest, where no patterns stand beside them.

@@ -1,5 +1,5 @@
 //! `properties`: its verdict.
-ghost use Rattle.std.specs.Prelude.{[], ◌∷◌, option_copied, option_to_list};
+ghost use Rattle.std.specs.Prelude.{[], ◌∷◌, option_copied, option_map, option_to_list};
 ghost use Rattle.serde_json.specs.View.{view, members_view};
 ghost use Rattle.olk_base.specs.Nodes.{data_of};
 ghost use Rattle.olk_spec.specs.Names.{lookup_name, is_empty};
@@ -17,6 +17,7 @@ use crate::IsValid;
 use crate::accepted::Accepted;
 use crate::required::{has_both, is_met, is_present};
 use olk_base::{Node, ValidationContext};
+use olk_meaning::member;
 use olk_tree::properties::{Properties, SmallPropertiesWithRequired2};
 use olk_tree::properties_map::PropertiesMap;
 use olk_tree::validators_map::PropertiesValidatorsMap;
@@ -312,10 +313,25 @@ fn each_name_accepted<M: PropertiesValidatorsMap<N>, N: IsValid>(
         (zip (M.names properties.now) (M.nodes properties.now))
         (object_of members.now.entries)) result }
 {
-    for (_, subschema, value) in properties.declared_members(members) {
-        if !subschema.is_valid(Node::Value(value), ctx) {
+    for (name, subschema) in properties.names().as_slice().iter().zip(properties.nodes()) {
+        if !accepted_if_present(subschema, member(members, name.as_str()), ctx) {
             return false;
         }
     }
     true
+}
+
+#[inline(always)]
+fn accepted_if_present<N: IsValid>(
+    subschema: &N,
+    value: Option<&Value>,
+    ctx: &mut ValidationContext,
+) -> bool
+    ensures { Asks ctx.old ctx.new (every (N.means subschema.now)
+        (option_to_list (option_map (λ v. view v.now) value.entry))) result }
+{
+    match value {
+        Some(value) => subschema.is_valid(Node::Value(value), ctx),
+        None => true,
+    }
 }

@@ -5,6 +5,7 @@ pub mod Members_met
 pub mod Due
 mod Places
 pub mod Lookups
+mod Heads
 mod Entries
 pub mod Merge
 pub mod Walked

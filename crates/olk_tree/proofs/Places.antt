@@ -1,5 +1,5 @@
 -- Where a name stands among ascending names.
-use Rattle.std.proofs.Common.{◌≡◌, ℕ, true≢false, suc, ◌+◌, ◌-◌, ◌<◌, ◌≤◌, Bool, true, false, List, [], ◌∷◌, length, map, take, drop, get_or, Some, None, Result, Ok, Err, String, Global, string_bytes, bytes_eq, refl, ap, sym, subst, ◌∙◌, arith, length-drop}
+use Rattle.std.proofs.Common.{◌≡◌, ℕ, true≢false, ◌<◌, ◌≤◌, Bool, true, false, List, [], ◌∷◌, length, map, get_or, Some, None, Result, Ok, Err, String, Global, string_bytes, bytes_eq, refl, ap, sym, subst, ◌∙◌, arith}
 use Rattle.std.specs.List.{position, position_or_len}
 use Rattle.std.specs.List.Sorted.{IsBinarySearchResult, IsSearchInRange, IsNonDecreasingBy}
 use Rattle.std.specs.Ordering.{nat_cmp, ordering_index, is_eq, ordering_reverse}
@@ -9,21 +9,18 @@ use Rattle.std.specs.Cmp.Lexicographic.{slice_cmp}
 use Rattle.std.specs.declared.cmp.Ordering.{Ordering}
 use Rattle.std.specs.declared.cmp.Ordering.TheVariants.{Less, Equal, Greater}
 use Rattle.std.proofs.lemmas.Cmp.{nat_list_cmp_total}
-use Rattle.std.proofs.lemmas.List.{get_or-map, get_or-drop, length-map, drop-map, take_all}
+use Rattle.std.proofs.lemmas.List.{get_or-map, length-map}
 use Rattle.std.proofs.lemmas.List.Sums.{position_or_len_is}
 use Rattle.std.proofs.lemmas.Map.Text.{is_eq-slice_cmp}
 use Rattle.std.proofs.lemmas.Bool.Decides.{nat_tests}
 use Rattle.olk_spec.specs.Names.{Name}
-use Rattle.olk_tree.specs.Ascending.{Ascend, IsAfter, IsMissed, StandsAt, Parts, IsPlaceOf}
+use Rattle.olk_tree.specs.Ascending.{Ascend, StandsAt, Parts, IsPlaceOf}
 
 abbrev cmp : Name → Name → Ordering
 cmp = slice_cmp nat_cmp
 
 turned : (x y : Name) → cmp x y ≡ ordering_reverse (cmp y x)
 turned x y = nat_list_cmp_total.antisymm x y
-
-pub comes_after : (x y : Name) → cmp y x ≡ Less → cmp x y ≡ Greater
-comes_after x y p = turned x y ∙ ap ordering_reverse p
 
 -- what is below an equal is below
 below_equal : (x y n : Name) → cmp x y ≡ Less → cmp y n ≡ Equal → cmp x n ≡ Less
@@ -93,27 +90,15 @@ module _ (ks : List Name) (n : Name) where
   not_found : position_or_len test ks ≡ length ks → None ≡ position test ks
   not_found e = grind (arith, nat_tests)
 
+  pub nowhere : ((k : ℕ) → k < length ks → bytes_eq (get_or ks k []) n ≡ false) → None ≡ position test ks
+  nowhere unlike = not_found (position_or_len_is test ks (length ks) [] (omega arith) unlike (λ l. absurd (omega arith)))
+
   pub parts_none : {p : ℕ} → Parts ks n p → None ≡ position test ks
-  parts_none {p} h = not_found (position_or_len_is test ks (length ks) [] (omega arith) (λ k l. by k l (nat_lt k p) refl) (λ l. absurd (omega arith)))
+  parts_none {p} h = nowhere (λ k l. by k l (nat_lt k p) refl)
     where
       by : (k : ℕ) → k < length ks → (b : Bool) → nat_lt k p ≡ b → bytes_eq (get_or ks k []) n ≡ false
       by k l true e = differs (get_or ks k []) n Less (h.below k (grind (arith, nat_tests)) l) refl
       by k l false e = differs (get_or ks k []) n Greater (h.above k (grind (arith, nat_tests)) l) refl
-
-  pub missed_more : {from k : ℕ} → IsMissed ks from k n → false ≡ bytes_eq (get_or ks k []) n → IsMissed ks from (k + 1) n
-  missed_more {from} {k} h e i f l j = by (nat_lt i k) refl
-    where
-      by : (b : Bool) → nat_lt i k ≡ b → false ≡ bytes_eq (get_or ks i []) n
-      by true g = h i f (grind (arith, nat_tests)) j
-      by false g = let same : k ≡ i = grind (arith, nat_tests) in subst (λ z. false ≡ bytes_eq (get_or ks z []) n) same e
-
-  -- missed before a place and from there on
-  pub missed_none : {k end : ℕ} → length ks ≤ end → IsMissed ks 0 k n → IsMissed ks k end n → None ≡ position test ks
-  missed_none {k} {end} le before behind = not_found (position_or_len_is test ks (length ks) [] (omega arith) (λ i l. sym (by i l (nat_lt i k) refl)) (λ l. absurd (omega arith)))
-    where
-      by : (i : ℕ) → i < length ks → (b : Bool) → nat_lt i k ≡ b → false ≡ bytes_eq (get_or ks i []) n
-      by i l true f = before i (omega arith) (grind (arith, nat_tests)) l
-      by i l false f = behind i (grind (arith, nat_tests)) (omega arith) l
 
   module _ (asc : Ascend ks) where
     pub stands_some : {p : ℕ} → StandsAt ks n p → Some p ≡ position test ks
@@ -136,57 +121,6 @@ module _ (ks : List Name) (n : Name) where
         equal_by Less h = absurd (true≢false (sym h))
         equal_by Greater h = absurd (true≢false (sym h))
 
-    pub after_here : {p : ℕ} → p < length ks → cmp (get_or ks p []) n ≡ Greater → IsAfter ks p n
-    after_here {p} lt e i l j = by (nat_lt p i) refl
-      where
-        by : (b : Bool) → nat_lt p i ≡ b → cmp (get_or ks i []) n ≡ Greater
-        by true f =
-            turned (get_or ks i []) n ∙ ap ordering_reverse (nat_list_cmp_total.trans n (get_or ks p []) (get_or ks i []) (turned n (get_or ks p []) ∙ ap ordering_reverse e)
-            (asc p i (grind (arith, nat_tests)) j))
-        by false f = let same : p ≡ i = grind (arith, nat_tests) in subst (λ z. cmp (get_or ks z []) n ≡ Greater) same e
-
-    -- between the last name before p and those from p on
-    pub parts_between : {p : ℕ} (k : ℕ) → p ≡ suc k → p ≤ length ks → cmp (get_or ks k []) n ≡ Less → IsAfter ks p n → Parts ks n p
-    parts_between {p} k is le e above = record { inside = le; below = λ i l j. by i l j (nat_lt i k) refl; above = above }
-      where
-        by : (i : ℕ) → i < p → i < length ks → (b : Bool) → nat_lt i k ≡ b → cmp (get_or ks i []) n ≡ Less
-        by i l j true f = nat_list_cmp_total.trans (get_or ks i []) (get_or ks k []) n (asc i k (grind (arith, nat_tests)) (omega arith)) e
-        by i l j false f = let same : k ≡ i = grind (arith, nat_tests) in subst (λ z. cmp (get_or ks z []) n ≡ Less) same e
-
-    pub parts_first : IsAfter ks 0 n → Parts ks n 0
-    parts_first above = record { inside = omega arith; below = λ i l j. absurd (omega arith); above = above }
-
-    -- what a place among the names behind p says of all
-    module _ {p : ℕ} (lt : p < length ks) (e : cmp (get_or ks p []) n ≡ Less) where
-      behind : (i : ℕ) → get_or (drop (p + 1) ks) i [] ≡ get_or ks (p + 1 + i) []
-      behind i = get_or-drop (p + 1) ks i []
-
-      before : (i : ℕ) → i < p + 1 → cmp (get_or ks i []) n ≡ Less
-      before i l = by (nat_lt i p) refl
-        where
-          by : (b : Bool) → nat_lt i p ≡ b → cmp (get_or ks i []) n ≡ Less
-          by true f = nat_list_cmp_total.trans (get_or ks i []) (get_or ks p []) n (asc i p (grind (arith, nat_tests)) lt) e
-          by false f = let same : p ≡ i = grind (arith, nat_tests) in subst (λ z. cmp (get_or ks z []) n ≡ Less) same e
-
-      pub stands_behind : (i : ℕ) → StandsAt (drop (p + 1) ks) n i → StandsAt ks n (p + 1 + i)
-      stands_behind i h = record { inside = omega (arith, length-drop (p + 1) ks, h.inside); here = ap (λ x. cmp x n) (sym (behind i)) ∙ h.here }
-
-      pub parts_behind : (i : ℕ) → Parts (drop (p + 1) ks) n i → Parts ks n (p + 1 + i)
-      parts_behind i h = record {
-        inside = omega (arith, length-drop (p + 1) ks, h.inside);
-        below = λ k l j. by k l j (nat_lt k (p + 1)) refl;
-        above =
-            λ k l j. let at : p + 1 + (k - (p + 1)) ≡ k = omega arith in subst (λ z. cmp (get_or ks z []) n ≡ Greater) at
-            (ap (λ x. cmp x n) (sym (behind (k - (p + 1)))) ∙ h.above (k - (p + 1)) (omega arith) (omega (arith, length-drop (p + 1) ks)));
-      }
-        where
-          by : (k : ℕ) → k < p + 1 + i → k < length ks → (b : Bool) → nat_lt k (p + 1) ≡ b → cmp (get_or ks k []) n ≡ Less
-          by k l j true f = before k (grind (arith, nat_tests))
-          by k l j false f =
-              let le : p + 1 ≤ k = grind (arith, nat_tests) in
-              let at : p + 1 + (k - (p + 1)) ≡ k = omega arith in
-              subst (λ z. cmp (get_or ks z []) n ≡ Less) at (ap (λ x. cmp x n) (sym (behind (k - (p + 1)))) ∙ h.below (k - (p + 1)) (omega arith) (omega (arith, length-drop (p + 1) ks)))
-
 -- ---- slices of owned names
 
 -- a slice of names that ascend, and what it is seen as
@@ -197,36 +131,15 @@ pub record Names (slice : List (String Global)) (ks : List Name) : Type 0 where
 pub names_are : (slice items : List (String Global)) (ks : List Name) → slice ≡ items → ks ≡ map string_bytes items → Ascend (map string_bytes items) → Names slice ks
 names_are slice items ks s v asc = record { as_seen = v ∙ ap (map string_bytes) (sym s); ascend = subst Ascend (sym v) asc }
 
-behind_as : (names : List (String Global)) (l : ℕ) → map string_bytes (take (length names - l) (drop l names)) ≡ drop l (map string_bytes names)
-behind_as names l = ap (map string_bytes) (take_all (length names - l) (drop l names) (omega (arith, length-drop l names))) ∙ sym (drop-map string_bytes l names)
-
-behind_ascend : (ks : List Name) (l : ℕ) → Ascend ks → Ascend (drop l ks)
-behind_ascend ks l asc i j lt in_range =
-    subst (λ x. cmp x (get_or (drop l ks) j []) ≡ Less) (sym (get_or-drop l ks i []))
-    (subst (λ y. cmp (get_or ks (l + i) []) y ≡ Less) (sym (get_or-drop l ks j [])) (asc (l + i) (l + j) (omega arith) (omega (arith, length-drop l ks))))
-
 module _ {slice : List (String Global)} {ks : List Name} (h : Names slice ks) where
   pub same_length : length ks ≡ length slice
   same_length = ap length h.as_seen ∙ length-map slice string_bytes
 
-  pub compared_at : (p : ℕ) (x : String Global) (t n : Name) (o : Ordering) → x ≡ get_or slice p x → t ≡ string_bytes x → p < length slice → o ≡ cmp t n → cmp (get_or ks p []) n ≡ o
-  compared_at p x t n o is text lt e = ap (λ k. cmp k n) (ap (λ l. get_or l p []) h.as_seen ∙ get_or-map string_bytes slice p x [] lt ∙ ap string_bytes (sym is) ∙ sym text) ∙ sym e
+  pub text_at : (p : ℕ) (x : String Global) (t : Name) → x ≡ get_or slice p x → t ≡ string_bytes x → p < length slice → t ≡ get_or ks p []
+  text_at p x t is text lt = text ∙ ap string_bytes is ∙ sym (get_or-map string_bytes slice p x [] lt) ∙ ap (λ l. get_or l p []) (sym h.as_seen)
 
   pub seen_at : (p : ℕ) (x : String Global) (t n : Name) → x ≡ get_or slice p x → t ≡ string_bytes x → p < length slice → bytes_eq t n ≡ bytes_eq (get_or ks p []) n
-  seen_at p x t n is text lt = ap (λ k. bytes_eq k n) (text ∙ ap string_bytes is ∙ sym (get_or-map string_bytes slice p x [] lt) ∙ ap (λ l. get_or l p []) (sym h.as_seen))
+  seen_at p x t n is text lt = ap (λ k. bytes_eq k n) (text_at p x t is text lt)
 
   pub equal_at : {b : Bool} (p : ℕ) (x : String Global) (t n : Name) → x ≡ get_or slice p x → t ≡ string_bytes x → p < length slice → b ≡ bytes_eq t n → b ≡ bytes_eq (get_or ks p []) n
   equal_at p x t n is text lt e = e ∙ seen_at p x t n is text lt
-
-  behind_seen : (l : ℕ) → map string_bytes (take (length slice - l) (drop l slice)) ≡ drop l ks
-  behind_seen l = behind_as slice l ∙ ap (drop l) (sym h.as_seen)
-
-  pub behind_ascends : (l : ℕ) → Ascend (map string_bytes (take (length slice - l) (drop l slice)))
-  behind_ascends l = subst Ascend (sym (behind_seen l)) (behind_ascend ks l h.ascend)
-
-  pub stands_in : (n : Name) (p i : ℕ) → p < length slice → cmp (get_or ks p []) n ≡ Less
-      → StandsAt (map string_bytes (take (length slice - (p + 1)) (drop (p + 1) slice))) n i → StandsAt ks n (p + 1 + i)
-  stands_in n p i lt e at = stands_behind ks n h.ascend (omega (arith, same_length)) e i (subst (λ l. StandsAt l n i) (behind_seen (p + 1)) at)
-
-  pub parts_in : (n : Name) (p i : ℕ) → p < length slice → cmp (get_or ks p []) n ≡ Less → Parts (map string_bytes (take (length slice - (p + 1)) (drop (p + 1) slice))) n i → Parts ks n (p + 1 + i)
-  parts_in n p i lt e at = parts_behind ks n h.ascend (omega (arith, same_length)) e i (subst (λ l. Parts l n i) (behind_seen (p + 1)) at)

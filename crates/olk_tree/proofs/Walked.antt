@@ -63,9 +63,12 @@ module _ {N : Type 0} where
   zip_nothing [] = refl
   zip_nothing (k ∷ ks) = refl
 
+  pub no_pair_left : (ks : List (String Global)) (xs : List N) → (ks ≡ []) ⊎ (xs ≡ []) → zip (map string_bytes ks) xs ≡ []
+  no_pair_left ks xs (inl none) = ap (λ l. zip (map string_bytes l) xs) none
+  no_pair_left ks xs (inr none) = ap (zip (map string_bytes ks)) none ∙ zip_nothing (map string_bytes ks)
+
   pub no_name_left : (ms : List (Name × Data)) (ks : List (String Global)) (xs : List N) → (ks ≡ []) ⊎ (xs ≡ []) → names_met (zip (map string_bytes ks) xs) ms ≡ []
-  no_name_left ms ks xs (inl none) = ap (λ l. names_met (zip (map string_bytes l) xs) ms) none
-  no_name_left ms ks xs (inr none) = ap (λ l. names_met (zip (map string_bytes ks) l) ms) none ∙ ap (λ es. names_met es ms) (zip_nothing (map string_bytes ks))
+  no_name_left ms ks xs none = ap (λ es. names_met es ms) (no_pair_left ks xs none)
 
   -- whichever side is walked
   pub either_side : (b : Bool) (x y z : List (Declared N)) → x ≡ z → y ≡ z → cond b x y ≡ z

@@ -1,5 +1,7 @@
 -- Names in order, and where a name stands among them.
-use Rattle.std.specs.Prelude.{◌≡◌, ◌<◌, ◌≤◌, false, length, bytes_eq, slice_index_or as get_or, ℕ, List, [], Result, Ok, Err}
+use Rattle.std.specs.Prelude.{◌≡◌, ◌<◌, ◌≤◌, length, map, slice_index_or as get_or, ℕ, List, [], String, string_bytes, Result, Ok, Err}
+use Rattle.std.specs.Int.{w64, from_be_bytes}
+use Rattle.std.specs.declared.alloc.Global.{Global}
 use Rattle.std.specs.Ordering.{nat_cmp}
 use Rattle.std.specs.declared.cmp.Ordering.TheVariants.{Less, Equal, Greater}
 use Rattle.std.specs.Cmp.Lexicographic.{slice_cmp}
@@ -9,13 +11,28 @@ use Rattle.olk_spec.specs.Names.{Name}
 abbrev pub Ascend : List Name → Type 0
 Ascend ks = (i j : ℕ) → i < j → j < length ks → slice_cmp nat_cmp (get_or ks i []) (get_or ks j []) ≡ Less
 
--- the names from this place on come after n
-abbrev pub IsAfter : List Name → ℕ → Name → Type 0
-IsAfter ks from n = (i : ℕ) → from ≤ i → i < length ks → slice_cmp nat_cmp (get_or ks i []) n ≡ Greater
+-- the first eight bytes of a name, as a number: zeros follow where it has fewer
+abbrev pub first_bytes : Name → ℕ
+first_bytes n = from_be_bytes w64 n
 
--- none of the names at these places is n
-abbrev pub IsMissed : List Name → ℕ → ℕ → Name → Type 0
-IsMissed ks from to n = (i : ℕ) → from ≤ i → i < to → i < length ks → false ≡ bytes_eq (get_or ks i []) n
+-- numbers none of which is below one before it
+abbrev pub Rise : List ℕ → Type 0
+Rise hs = (i j : ℕ) → i ≤ j → j < length hs → get_or hs i 0 ≤ get_or hs j 0
+
+-- the numbers before a place are below h
+pub record IsBefore (hs : List ℕ) (h place : ℕ) : Type 0 where
+  pub inside : place ≤ length hs
+  pub below : (i : ℕ) → i < place → get_or hs i 0 < h
+
+-- the place of the first number that is not below h, or the end
+pub record IsFirst (hs : List ℕ) (h place : ℕ) : Type 0 where
+  pub before : IsBefore hs h place
+  pub here : place < length hs → h ≤ get_or hs place 0
+
+-- names that ascend, and their first bytes
+pub record AreKept (names : List (String Global)) (hs : List ℕ) : Type 0 where
+  pub ascend : Ascend (map string_bytes names)
+  pub heads : hs ≡ map first_bytes (map string_bytes names)
 
 -- n stands at this place
 pub record StandsAt (ks : List Name) (n : Name) (place : ℕ) : Type 0 where

@@ -1,12 +1,11 @@
 //! Names in order, and what stands beside them.
 ghost use Rattle.std.specs.Ordering.{nat_cmp};
-ghost use Rattle.std.specs.Result.{result_ok};
+ghost use Rattle.std.specs.Result.{MatchResult, result_ok};
 ghost use Rattle.std.specs.Cmp.Lexicographic.{slice_cmp};
-ghost use Rattle.std.specs.declared.cmp.Ordering.TheVariants.{Less};
-ghost use Rattle.std.specs.Prelude.{◌≡◌, ◌+◌, ◌<◌, ◌≤◌, ◌↔◌, IsTrue, IfOk, MatchOption, Some, None, bytes_eq, length, map, string_bytes, position};
+ghost use Rattle.std.specs.Prelude.{◌≡◌, ◌<◌, ◌↔◌, IsTrue, IfOk, Some, bytes_eq, length, map, nat_lt, slice_index, string_bytes, position};
 ghost use Rattle.serde_json.specs.View.{members_view};
 ghost use Rattle.olk_spec.specs.Schemas.{listed};
-ghost use Rattle.olk_tree.specs.Ascending.{Ascend, IsAfter, IsMissed, IsPlaceOf};
+ghost use Rattle.olk_tree.specs.Ascending.{Ascend, IsBefore, IsFirst, IsPlaceOf, Rise, first_bytes};
 
 use crate::validators_map::PropertiesValidatorsMap;
 use olk_base::is_same_text;
@@ -19,25 +18,23 @@ use std::marker::Model;
 #[derive(Drop)]
 pub struct SortedNames {
     names: Vec<String>,
+    // the first eight bytes of each name, as a number
+    heads: Vec<u64>,
 }
 
 impl Model for SortedNames {
     ghost use Rattle.std.specs.Prelude.{ℕ, List, map, string_bytes};
-    ghost use Rattle.olk_tree.specs.Ascending.{Ascend};
+    ghost use Rattle.olk_tree.specs.Ascending.{AreKept};
 
     ghost Value = { List (List ℕ) };
 
     ghost view = { λ m. map string_bytes m.names.items };
 
-    ghost invariant = { λ m. Ascend (map string_bytes m.names.items) };
+    ghost invariant = { λ m. AreKept m.names.items m.heads.items };
 }
 
-/// So many names are compared, before the rest is bisected.
-const NEAR: usize = 4;
-
-// So many names are never bisected: comparing each for equality takes less, since most differ in
-// their lengths.
-const FEW: usize = 14;
+// So many heads are passed in turn, before the rest is bisected.
+const NEAR: usize = 8;
 
 impl SortedNames {
     /// No names.
@@ -46,6 +43,7 @@ impl SortedNames {
     {
         SortedNames {
             names: Vec::new(alloc),
+            heads: Vec::new(alloc),
         }
     }
 
@@ -58,11 +56,13 @@ impl SortedNames {
         ensures { IfOk result (λ names. names ≡ map (λ m. m.0)
             (listed (members_view object.now.entries))) }
     {
-        let mut names = Vec::new(alloc);
+        let mut names = Vec::with_capacity(alloc, object.len())?;
+        let mut heads = Vec::with_capacity(alloc, object.len())?;
         for (name, _) in object {
+            heads.push(head_of(name.as_str()))?;
             names.push(name.clone()?)?;
         }
-        Ok(SortedNames { names })
+        Ok(SortedNames { names, heads })
     }
 
     /// How many names there are.
@@ -80,14 +80,11 @@ impl SortedNames {
         &self.names
     }
 
-    /// At which place the name stands, found by bisection.
+    /// At which place the name stands.
     pub fn find(&self, name: &str) -> Option<usize>
         ensures { result ≡ position (λ k. bytes_eq k name.now) self.now }
     {
-        match place_of(&self.names, name) {
-            Ok(place) => Some(place),
-            Err(_) => None,
-        }
+        self.find_from(0, name).1
     }
 
     /// Whether the name stands at the place.
@@ -102,9 +99,8 @@ impl SortedNames {
     /// At which place the name stands, looked for at `hint` first, and where to look first for a
     /// later name.
     ///
-    /// Names that are asked for in ascending order are found in step: the next one is compared
-    /// first, then a few behind it, then the rest is bisected. A hint that is no good costs a
-    /// bisection. The place is the same with every hint, so nothing is promised of the next one.
+    /// Names that are asked for in ascending order are found in step. The place is the same with
+    /// every hint, so nothing is promised of the next one.
     #[inline(always)]
     pub fn find_from(&self, hint: usize, name: &str) -> (usize, Option<usize>)
         ensures { result.1 ≡ position (λ k. bytes_eq k name.now) self.now }
@@ -124,172 +120,140 @@ impl SortedNames {
     fn find_apart(&self, hint: usize, name: &str) -> Result<usize, usize>
         ensures { result_ok result ≡ position (λ k. bytes_eq k name.now) self.now }
     {
-        let names = self.names.as_slice();
-        if would_stand_at(names, hint, name) {
-            return Err(hint);
-        }
-        if names.len() <= FEW {
-            return find_equal(names, hint, name);
-        }
-        find_among_many(names, hint, name)
-    }
-}
-
-/// What `find_apart` tells of many names: the next few are compared, and then the rest is bisected.
-#[inline(never)]
-fn find_among_many(names: &[String], hint: usize, name: &str) -> Result<usize, usize>
-    requires { Ascend (map string_bytes names.now) }
-    ensures { result_ok result
-        ≡ position (λ k. bytes_eq k name.now) (map string_bytes names.now) }
-{
-    if let Some(place) = find_near(names, hint.saturating_add(1), name) {
-        return Ok(place);
-    }
-    if hint >= names.len() {
-        return find_before(names, hint, name);
-    }
-    match names[hint].as_str().cmp(name) {
-        Ordering::Equal => Ok(hint),
-        Ordering::Greater => find_before(names, hint, name),
-        Ordering::Less => {
-            let later = hint + 1;
-            match place_of(&names[later..], name) {
-                Ok(place) => Ok(later + place),
-                Err(place) => Err(later + place),
-            }
+        let head = head_of(name);
+        match first_near(&self.heads, hint, head) {
+            Ok(place) => self.find_at(place, head, name),
+            Err(start) => self.find_far(start, head, name),
         }
     }
-}
 
-/// At which of the next places from `hint` on the name stands, if it stands there. Where it stands
-/// at another place, that may be told too.
-#[inline(always)]
-fn find_near(names: &[String], hint: usize, name: &str) -> Option<usize>
-    requires { Ascend (map string_bytes names.now) }
-    ensures { MatchOption result
-        (IsMissed (map string_bytes names.now) hint (hint + NEAR) name.now)
-        (λ p. (p < length names.now)
-        × (Some p ≡ position (λ k. bytes_eq k name.now) (map string_bytes names.now))) }
-{
-    let end = names.len().min(hint.saturating_add(NEAR));
-    find_between(names, hint, end, name)
-}
-
-/// At which of these places the name stands, if it stands there. Where it stands at another place,
-/// that may be told too.
-#[inline(always)]
-fn find_between(names: &[String], from: usize, to: usize, name: &str) -> Option<usize>
-    requires ordered { Ascend (map string_bytes names.now) }
-    requires inside { to ≤ length names.now }
-    ensures { MatchOption result (IsMissed (map string_bytes names.now) from to name.now)
-        (λ p. (p < length names.now)
-        × (Some p ≡ position (λ k. bytes_eq k name.now) (map string_bytes names.now))) }
-{
-    for place in from..to {
-        if is_same_text(names[place].as_str(), name) {
-            return Some(place);
-        }
-    }
-    None
-}
-
-/// At which place the name stands, by comparing each.
-#[inline(never)]
-fn find_equal(names: &[String], hint: usize, name: &str) -> Result<usize, usize>
-    requires { Ascend (map string_bytes names.now) }
-    ensures { result_ok result
-        ≡ position (λ k. bytes_eq k name.now) (map string_bytes names.now) }
-{
-    match find_between(names, 0, names.len(), name) {
-        Some(place) => Ok(place),
-        None => Err(later_hint(names, hint, name)),
-    }
-}
-
-/// Where a name would stand that is found nowhere, looked for from the hint on. It is the next
-/// hint, so nothing is promised of it.
-#[inline(never)]
-fn later_hint(names: &[String], hint: usize, name: &str) -> usize {
-    for place in hint..names.len() {
-        if !is_before(names[place].as_str(), name) {
-            return place;
-        }
-    }
-    names.len()
-}
-
-/// Whether first bytes tell that the name stands nowhere, and would stand at the hint. Only the
-/// first is promised, and `false` tells nothing.
-#[inline(always)]
-fn would_stand_at(names: &[String], hint: usize, name: &str) -> bool
-    requires { Ascend (map string_bytes names.now) }
-    ensures { IsTrue result
-        → None ≡ position (λ k. bytes_eq k name.now) (map string_bytes names.now) }
-{
-    if hint > names.len() || !comes_before(names, hint, name) {
-        return false;
-    }
-    hint == 0 || starts_before(names[hint - 1].as_str(), name)
-}
-
-/// Whether first bytes tell that the names from the hint on come after this one.
-#[inline(always)]
-fn comes_before(names: &[String], hint: usize, name: &str) -> bool
-    requires { Ascend (map string_bytes names.now) }
-    ensures { IsTrue result → IsAfter (map string_bytes names.now) hint name.now }
-{
-    if hint >= names.len() {
-        return true;
-    }
-    starts_before(name, names[hint].as_str())
-}
-
-/// Whether the one is less than the other, in the order of their bytes. Most differ in the first.
-/// Nothing is promised of `false`.
-#[inline(always)]
-fn is_before(one: &str, other: &str) -> bool
-    ensures { IsTrue result → slice_cmp nat_cmp one.now other.now ≡ Less }
-{
-    if starts_before(one, other) {
-        return true;
-    }
-    if starts_before(other, one) {
-        return false;
-    }
-    matches!(one.cmp(other), Ordering::Less)
-}
-
-/// Whether the first byte of the one is less than that of the other.
-#[inline(always)]
-fn starts_before(one: &str, other: &str) -> bool
-    ensures { IsTrue result → slice_cmp nat_cmp one.now other.now ≡ Less }
-{
-    match (one.as_bytes().first(), other.as_bytes().first()) {
-        (Some(first), Some(its_first)) => first < its_first,
-        _ => false,
-    }
-}
-
-/// What `find_apart` tells where no name from `hint` on is the one that is looked for: the last one
-/// before is compared first.
-fn find_before(names: &[String], hint: usize, name: &str) -> Result<usize, usize>
-    requires ordered { Ascend (map string_bytes names.now) }
-    requires later { IsAfter (map string_bytes names.now) hint name.now }
-    ensures { result_ok result
-        ≡ position (λ k. bytes_eq k name.now) (map string_bytes names.now) }
-{
-    if hint == 0 {
-        return Err(0);
-    }
-    if hint <= names.len()
-        && let Ordering::Less = names[hint - 1].as_str().cmp(name)
+    /// The same, where the heads before `start` are less than the name's.
+    #[inline(never)]
+    fn find_far(&self, start: usize, head: u64, name: &str) -> Result<usize, usize>
+        requires head { head ≡ first_bytes name.now }
+        requires before { IsBefore (map first_bytes self.now) head start }
+        ensures { result_ok result ≡ position (λ k. bytes_eq k name.now) self.now }
     {
-        return Err(hint);
+        self.find_at(first_behind(&self.heads, start, head), head, name)
     }
-    place_of(names, name)
+
+    /// The same, where at the place stands the first head that is not less than the name's.
+    #[inline(always)]
+    fn find_at(&self, place: usize, head: u64, name: &str) -> Result<usize, usize>
+        requires head { head ≡ first_bytes name.now }
+        requires first { IsFirst (map first_bytes self.now) head place }
+        ensures { result_ok result ≡ position (λ k. bytes_eq k name.now) self.now }
+    {
+        if place >= self.heads.len() {
+            return Err(place);
+        }
+        if self.heads[place] != head {
+            return Err(place);
+        }
+        if self.stands_with_head(place, name) {
+            return Ok(place);
+        }
+        place_of(&self.names, name)
+    }
+
+    /// Whether the name stands at the place, where one of its first bytes does: up to eight bytes
+    /// aren't compared again.
+    #[inline(always)]
+    fn stands_with_head(&self, place: usize, name: &str) -> bool
+        requires inside { place < length self.now }
+        requires head { slice_index (map first_bytes self.now) place ≡ first_bytes name.now }
+        ensures { IsTrue result → Some place ≡ position (λ k. bytes_eq k name.now) self.now }
+    {
+        let found = self.names[place].as_str();
+        let count = name.as_bytes().len();
+        if found.len() != count {
+            return false;
+        }
+        count <= 8 || found == name
+    }
+}
+
+/// At which place the first head stands that is not less than this one, or up to where they are
+/// less, if that is far from the hint.
+#[inline(always)]
+#[tactic(auto, using(crate::proofs::Heads::first_places))]
+fn first_near(heads: &[u64], hint: usize, head: u64) -> Result<usize, usize>
+    requires { Rise heads.now }
+    ensures { MatchResult result (IsFirst heads.now head) (IsBefore heads.now head) }
+{
+    let start = start_from(heads, hint, head);
+    if NEAR <= heads.len() - start && heads[start + NEAR - 1] < head {
+        return Err(start + NEAR);
+    }
+    for place in start..heads.len() {
+        if heads[place] >= head {
+            return Ok(place);
+        }
+    }
+    Ok(heads.len())
+}
+
+/// The hint, if the head before it is less, and else the start.
+#[inline(always)]
+#[tactic(auto, using(crate::proofs::Heads::first_places))]
+fn start_from(heads: &[u64], hint: usize, head: u64) -> usize
+    requires { Rise heads.now }
+    ensures { IsBefore heads.now head result }
+{
+    if hint > 0 && hint <= heads.len() && heads[hint - 1] < head {
+        return hint;
+    }
+    0
+}
+
+/// At which place the first head stands that is not less than this one, from `start` on.
+#[inline(always)]
+fn first_behind(heads: &[u64], start: usize, head: u64) -> usize
+    requires rise { Rise heads.now }
+    requires before { IsBefore heads.now head start }
+    ensures { IsFirst heads.now head result }
+{
+    let behind = &heads[start..];
+    start
+        + behind.partition_point(
+            |it: &u64| -> bool
+                ensures { result ≡ nat_lt it.now head }
+            { *it < head },
+        )
+}
+
+/// The first eight bytes of a text as a number, as if zeros followed the text.
+#[inline(always)]
+fn head_of(text: &str) -> u64
+    ensures { result ≡ first_bytes text.now }
+{
+    let bytes = text.as_bytes();
+    match bytes.first_chunk::<8>() {
+        Some(first) => u64::from_be_bytes(*first),
+        None => head_of_few(bytes),
+    }
+}
+
+/// The same of fewer than eight bytes.
+#[inline(always)]
+fn head_of_few(bytes: &[u8]) -> u64
+    requires { length bytes.now < 8 }
+    ensures { result ≡ first_bytes bytes.now }
+{
+    match bytes {
+        [a, b, c, d, e, f, g] => u64::from_be_bytes([*a, *b, *c, *d, *e, *f, *g, 0]),
+        [a, b, c, d, e, f] => u64::from_be_bytes([*a, *b, *c, *d, *e, *f, 0, 0]),
+        [a, b, c, d, e] => u64::from_be_bytes([*a, *b, *c, *d, *e, 0, 0, 0]),
+        [a, b, c, d] => u64::from_be_bytes([*a, *b, *c, *d, 0, 0, 0, 0]),
+        [a, b, c] => u64::from_be_bytes([*a, *b, *c, 0, 0, 0, 0, 0]),
+        [a, b] => u64::from_be_bytes([*a, *b, 0, 0, 0, 0, 0, 0]),
+        [a] => u64::from_be_bytes([*a, 0, 0, 0, 0, 0, 0, 0]),
+        _ => 0,
+    }
 }
 
 /// Where the name stands, or else where it would stand, found by bisection.
+#[inline(never)]
 fn place_of(names: &[String], name: &str) -> Result<usize, usize>
     requires { Ascend (map string_bytes names.now) }
     ensures { IsPlaceOf (map string_bytes names.now) name.now result }

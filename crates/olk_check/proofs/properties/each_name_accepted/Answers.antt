@@ -1,22 +1,42 @@
-use Rattle.std.proofs.Common.{true, false, subst}
-use Rattle.serde_json.specs.View.{members_view}
+use Rattle.std.proofs.Common.{◌≡◌, true, false, rules, map, string_bytes, option_to_list, ap, subst, ◌∙◌}
 use Rattle.std.specs.List.{zip}
-use Rattle.olk_tree.proofs.Members_met.{means_of_walk}
+use Rattle.std.proofs.lemmas.Slice.Zip.{either_empty_from_Zip}
+use Rattle.olk_spec.specs.Schemas.{at}
+use Rattle.olk_tree.specs.Questions.{every}
+use Rattle.olk_tree.specs.Visited.{object_of, pairs_of}
+use Rattle.olk_tree.proofs.Walked.{pairs_more, no_pair_left}
 use Rattle.olk_check.specs.Asks.{Asks}
 use Rattle.olk_check.proofs.Walks.{all_go_on, all_stop, all_end}
+use Rattle.olk_check.proofs.properties.each_name_accepted.Given.{Over}
 use Rattle.olk_check.proofs.properties.each_name_accepted.Goals as goal
 
-pub returns-then-not-is_valid : goal.returns-then-not-is_valid
-returns-then-not-is_valid g c = subst (λ q. Asks c.args.ctx.now c.is_valid.new.ctx q false)
-    (means_of_walk (members_view c.args.members.now.entries) (zip (g.M.PropertiesValidatorsMap.names c.args.properties.now)
-    (g.M.PropertiesValidatorsMap.nodes c.args.properties.now)) c.into_iter-subschema-iterator.ensures.into_iter_gives c.declared_members-subschema-items.ensures.by_names g.N.Means.means)
-    (all_stop c.loop-subschema.invariant c.in-Some.ensures.steps c.if-not-is_valid.ensures)
+whole_pairs : (g : Over) (c : goal.After-into_iter-name-iterator g)
+    → pairs_of c.zip-name-items.result ≡ zip (g.M.PropertiesValidatorsMap.names c.args.properties.now) (g.M.PropertiesValidatorsMap.nodes c.args.properties.now)
+whole_pairs g c =
+    let names : map string_bytes c.zip-name-items.result.a.rest.now ≡ g.M.PropertiesValidatorsMap.names c.args.properties.now = search rules in
+    let nodes : c.zip-name-items.result.b.rest.now ≡ g.M.PropertiesValidatorsMap.nodes c.args.properties.now = search rules in
+    λ i. zip (names i) (nodes i)
 
-pub loop-subschema-preserved : goal.loop-subschema-preserved
-loop-subschema-preserved g c = all_go_on c.loop-subschema.invariant c.in-Some.ensures.steps c.if-not-is_valid.ensures
+pub loop-name-init : goal.loop-name-init
+loop-name-init g c = record {
+  goes_on = λ end r h.
+      subst (λ es. Asks c.args.ctx.now end (every (λ e. every (g.N.Means.means e.1) (at e.0 (object_of c.args.members.now.entries))) es) r)
+      (ap pairs_of c.into_iter-name-iterator.ensures.into_iter_gives ∙ whole_pairs g c) h;
+}
+
+pub returns-then-not-accepted_if_present : goal.returns-then-not-accepted_if_present
+returns-then-not-accepted_if_present g c =
+    let next = pairs_more c.loop-name.name-iterator c.next.new.self c.next.result _ c.in-Some.is c.next.ensures.steps c.as_str.result.now c.as_str.ensures.value in
+    all_stop c.loop-name.invariant next
+    (subst (λ o. Asks c.loop-name.ctx c.accepted_if_present.new.ctx (every (g.N.Means.means c.in-Some.subschema.now) (option_to_list o)) false)
+    c.member.ensures c.if-not-accepted_if_present.ensures)
+
+pub loop-name-preserved : goal.loop-name-preserved
+loop-name-preserved g c =
+    let next = pairs_more c.loop-name.name-iterator c.next.new.self c.next.result _ c.in-Some.is c.next.ensures.steps c.as_str.result.now c.as_str.ensures.value in
+    all_go_on c.loop-name.invariant next
+    (subst (λ o. Asks c.loop-name.ctx c.accepted_if_present.new.ctx (every (g.N.Means.means c.in-Some.subschema.now) (option_to_list o)) true)
+    c.member.ensures c.if-not-accepted_if_present.ensures)
 
 pub returns : goal.returns
-returns g c = subst (λ q. Asks c.args.ctx.now c.loop-subschema.ctx q true)
-    (means_of_walk (members_view c.args.members.now.entries) (zip (g.M.PropertiesValidatorsMap.names c.args.properties.now)
-    (g.M.PropertiesValidatorsMap.nodes c.args.properties.now)) c.into_iter-subschema-iterator.ensures.into_iter_gives c.declared_members-subschema-items.ensures.by_names g.N.Means.means)
-    (all_end c.loop-subschema.invariant c.in-None.ensures.steps)
+returns g c = all_end c.loop-name.invariant (no_pair_left _ _ (either_empty_from_Zip c.loop-name.name-iterator c.next.new.self c.next.result c.in-None.is c.next.ensures.steps))

@@ -1,6 +1,11 @@
-use Rattle.olk_tree.specs.Visited.{left_of}
+use Rattle.std.specs.List.{zip}
+use Rattle.olk_spec.specs.Schemas.{at}
+use Rattle.olk_tree.specs.Questions.{every}
+use Rattle.olk_tree.specs.Visited.{object_of, pairs_of}
 use Rattle.olk_check.proofs.Walks.{AllLeft}
 use Rattle.olk_check.proofs.properties.each_name_accepted.Given as goal
 
-abbrev pub invariant-loop-subschema : goal.invariant-loop-subschema
-invariant-loop-subschema g l = AllLeft (λ d. g.N.Means.means d.node d.value) (left_of l.initial.subschema-iterator) (left_of l.subschema-iterator) l.initial.ctx l.ctx
+abbrev pub invariant-loop-name : goal.invariant-loop-name
+invariant-loop-name g l =
+    AllLeft (λ e. every (g.N.Means.means e.1) (at e.0 (object_of l.members.entries)))
+    (zip (g.M.PropertiesValidatorsMap.names l.properties) (g.M.PropertiesValidatorsMap.nodes l.properties)) (pairs_of l.name-iterator) l.initial.ctx l.ctx

@@ -5,7 +5,7 @@ use Rattle.olk_tree.proofs.map.SortedNames.stands_at.Goals as goal
 
 pub returns-then-place-names : goal.returns-then-place-names
 returns-then-place-names c =
-    let h = names_are _ _ c.args.self.now c.as_slice-names.ensures.value (sym c.self.view_is) c.self.invariant in
+    let h = names_are _ _ c.args.self.now c.as_slice-names.ensures.value (sym c.self.view_is) c.self.invariant.ascend in
     let inside = c.if-place-names.true in (
       λ same. sym (equal_here c.args.self.now c.args.name.now h.ascend c.args.place (omega (arith, same_length h, c.as_slice-names.ensures.len, inside))
           (equal_at h c.args.place _ _ c.args.name.now c.index-names-place.is c.as_str.ensures.value (omega (arith, inside)) (sym same ∙ c.is_same_text.ensures))),

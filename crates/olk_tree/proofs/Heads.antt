@@ -1,0 +1,263 @@
+-- Names by their first bytes, read as a number.
+use Rattle.std.proofs.Common.{◌≡◌, ℕ, zero, suc, ◌+◌, ◌-◌, drop, length-drop, IsUtf8, ◌*◌, ◌/◌, ◌^◌, ◌<◌, ◌≤◌, Bool, true, false, cond, List, [], ◌∷◌, ◌++◌, length, map, get_or, Ordering, Less, Equal, Greater, String, Global, string_bytes, refl, sym, ap, subst, ◌∙◌, arith, mul-le-mul_right, subst₂, ◌≢◌, None, bytes_eq}
+use Rattle.std.specs.List.{position}
+use Rattle.std.specs.List.Sorted.{IsPartitionPoint, IsPartitionedBy}
+use Rattle.std.proofs.lemmas.Slice.Eq.{bytes_eq-Decides}
+use Rattle.std.specs.Bool.{nat_lt}
+use Rattle.std.specs.Ordering.{nat_cmp, ordering_then}
+use Rattle.std.specs.Cmp.Lexicographic.{slice_cmp}
+use Rattle.std.proofs.lemmas.Str.{IsUtf8-string_bytes}
+use Rattle.std.proofs.lemmas.List.{get_or-map, get_or-drop, get_or_read, get_or_default, length-map}
+use Rattle.std.proofs.lemmas.Bool.Decides.{nat_tests}
+use native.Mathlib.Nat.{pow-suc}
+use lib.Utf8.{scalar, scalars, next, encode, encodes}
+use Rattle.olk_spec.specs.Names.{Name}
+use Rattle.olk_spec.proofs.Truth.{and_first, and_second}
+use Rattle.olk_tree.specs.Ascending.{Ascend, AreKept, IsBefore, IsFirst, Rise, first_bytes}
+use Rattle.olk_tree.proofs.Places.{Names, nowhere}
+
+-- ---- the bytes of a text are below 256
+
+abbrev Bytes : Name → Type 0
+Bytes [] = Unit {0}
+Bytes (b ∷ bs) = (b < 256) × Bytes bs
+
+bytes_append : (bs cs : Name) → Bytes bs → Bytes cs → Bytes (bs ++ cs)
+bytes_append [] cs h g = g
+bytes_append (b ∷ bs) cs h g = (h.0, bytes_append bs cs h.1 g)
+
+scalar_below : (c : ℕ) → scalar c ≡ true → c < 1114112
+scalar_below c e = grind (arith, nat_tests)
+
+bytes_of_one : (c : ℕ) → scalar c ≡ true → Bytes (encode c)
+unfolding encode
+bytes_of_one c e = by (nat_lt c 128) (nat_lt c 2048) (nat_lt c 65536) refl refl refl
+  where
+    by : (x y z : Bool) → nat_lt c 128 ≡ x → nat_lt c 2048 ≡ y → nat_lt c 65536 ≡ z
+        → Bytes (cond x (c ∷ []) (cond y ((192 + c / 64) ∷ next c ∷ []) (cond z ((224 + c / 4096) ∷ next (c / 64) ∷ next c ∷ []) ((240 + c / 262144) ∷ next (c / 4096) ∷ next (c / 64) ∷ next c ∷ []))))
+    by true y z p q r = let lt : c < 128 = grind (arith, nat_tests) in (omega arith, tt)
+    by false true z p q r = let lt : c < 2048 = grind (arith, nat_tests) in (omega arith, (omega arith, tt))
+    by false false true p q r = let lt : c < 65536 = grind (arith, nat_tests) in (omega arith, (omega arith, (omega arith, tt)))
+    by false false false p q r = let lt = scalar_below c e in (omega arith, (omega arith, (omega arith, (omega arith, tt))))
+
+bytes_of_all : (cs : List ℕ) → scalars cs ≡ true → Bytes (encodes cs)
+bytes_of_all [] e = tt
+bytes_of_all (c ∷ cs) e = bytes_append (encode c) (encodes cs) (bytes_of_one c (and_first (scalar c) (scalars cs) e)) (bytes_of_all cs (and_second (scalar c) (scalars cs) e))
+
+bytes_of_utf8 : (n : Name) → IsUtf8 n → Bytes n
+bytes_of_utf8 n u = subst Bytes u.1.1 (bytes_of_all u.0 u.1.0)
+
+bytes_of_text : (s : String Global) → Bytes (string_bytes s)
+bytes_of_text s = bytes_of_utf8 (string_bytes s) (IsUtf8-string_bytes s)
+
+bytes_at : (names : List (String Global)) (k : ℕ) → Bytes (get_or (map string_bytes names) k [])
+bytes_at [] k = tt
+bytes_at (s ∷ ss) zero = bytes_of_text s
+bytes_at (s ∷ ss) (suc k) = bytes_at ss k
+
+-- ---- the first k bytes, as a number
+
+abbrev worth : ℕ → Name → ℕ
+worth zero n = 0
+worth (suc k) [] = 0
+worth (suc k) (b ∷ bs) = b * 256 ^ k + worth k bs
+
+some_power : (k : ℕ) → 0 < 256 ^ k
+some_power zero = omega arith
+some_power (suc k) = let h = some_power k in omega (arith, pow-suc 256 k)
+
+worth_below : (k : ℕ) (n : Name) → Bytes n → worth k n < 256 ^ k
+worth_below zero n h = omega arith
+worth_below (suc k) [] h = some_power (suc k)
+worth_below (suc k) (b ∷ bs) h =
+    let rest = worth_below k bs h.1 in
+    let most : suc b * 256 ^ k ≤ 256 * 256 ^ k = mul-le-mul_right (256 ^ k) h.0 in
+    grind (arith, pow-suc 256 k)
+
+worth_rises : (k : ℕ) (m n : Name) → Bytes m → Bytes n → slice_cmp nat_cmp m n ≡ Less → worth k m ≤ worth k n
+worth_rises zero m n g h e = omega arith
+worth_rises (suc k) [] n g h e = omega arith
+worth_rises (suc k) (a ∷ m) [] g h e = absurd (greater_less e)
+  where
+    greater_less : Greater ≡ Less → ⊥
+    greater_less e = grind arith
+worth_rises (suc k) (a ∷ m) (b ∷ n) g h e = by (worth_rises k m n g.1 h.1) (nat_cmp a b) refl e
+  where
+    by : (slice_cmp nat_cmp m n ≡ Less → worth k m ≤ worth k n) → (o : Ordering) → nat_cmp a b ≡ o → ordering_then o (slice_cmp nat_cmp m n) ≡ Less
+        → a * 256 ^ k + worth k m ≤ b * 256 ^ k + worth k n
+    by rises Less p q =
+        let lt : a < b = grind (arith, nat_tests) in
+        let more : suc a * 256 ^ k ≤ b * 256 ^ k = mul-le-mul_right (256 ^ k) lt in
+        let rest = worth_below k m g.1 in
+        grind arith
+    by rises Equal p q =
+        let same : a ≡ b = grind (arith, nat_tests) in
+        let rest = rises q in
+        subst (λ c. a * 256 ^ k + worth k m ≤ c * 256 ^ k + worth k n) same (omega arith)
+    by rises Greater p q = grind arith
+
+-- ---- the heads of names
+
+worth_is : (n : Name) → first_bytes n ≡ worth 8 n
+worth_is [] = refl
+worth_is (a ∷ []) = omega arith
+worth_is (a ∷ b ∷ []) = omega arith
+worth_is (a ∷ b ∷ c ∷ []) = omega arith
+worth_is (a ∷ b ∷ c ∷ d ∷ []) = omega arith
+worth_is (a ∷ b ∷ c ∷ d ∷ e ∷ []) = omega arith
+worth_is (a ∷ b ∷ c ∷ d ∷ e ∷ f ∷ []) = omega arith
+worth_is (a ∷ b ∷ c ∷ d ∷ e ∷ f ∷ g ∷ []) = omega arith
+worth_is (a ∷ b ∷ c ∷ d ∷ e ∷ f ∷ g ∷ h ∷ n) = omega arith
+
+-- the first bytes of names that ascend don't fall
+pub heads_rise : (names : List (String Global)) → Ascend (map string_bytes names) → Rise (map first_bytes (map string_bytes names))
+heads_rise names asc i j le lt = by (nat_lt i j) refl
+  where
+    ks : List Name
+    ks = map string_bytes names
+
+    inside : j < length ks
+    inside = omega (arith, length-map ks first_bytes, lt)
+
+    head_at : (k : ℕ) → k < length ks → get_or (map first_bytes ks) k 0 ≡ first_bytes (get_or ks k [])
+    head_at k l = get_or-map first_bytes ks k [] 0 l
+
+    by : (b : Bool) → nat_lt i j ≡ b → get_or (map first_bytes ks) i 0 ≤ get_or (map first_bytes ks) j 0
+    by true e =
+        let less : i < j = grind (arith, nat_tests) in
+        let last : j < length ks = inside in
+        let lower = head_at i (omega arith) in
+        let upper = head_at j inside in
+        let rises = worth_rises 8 (get_or ks i []) (get_or ks j []) (bytes_at names i) (bytes_at names j) (asc i j less inside) in
+        let at_lower = worth_is (get_or ks i []) in
+        let at_upper = worth_is (get_or ks j []) in
+        subst₂ (λ x y. x ≤ y) (sym (lower ∙ at_lower)) (sym (upper ∙ at_upper)) rises
+    by false e = let same : i ≡ j = grind (arith, nat_tests) in subst (λ k. get_or (map first_bytes ks) i 0 ≤ get_or (map first_bytes ks) k 0) same (omega arith)
+
+-- ---- the place of the first
+
+module _ {hs : List ℕ} {h : ℕ} where
+  pub nothing_before : IsBefore hs h 0
+  nothing_before = record { inside = omega arith; below = λ i l. absurd (omega (arith, l)) }
+
+  -- all up to a number below h are below h
+  pub before_more : {k : ℕ} (x : ℕ) → Rise hs → k < length hs → x ≡ get_or hs k x → x < h → IsBefore hs h (k + 1)
+  before_more {k} x rise lt is less = record {
+    inside = omega arith;
+    below = λ i l. let up = rise i k (omega arith) lt in let here = get_or_read hs k x lt is 0 in omega arith;
+  }
+
+  pub before_hint : {place : ℕ} (x : ℕ) → Rise hs → 0 < place → place ≤ length hs → x ≡ get_or hs (place - 1) x → x < h → IsBefore hs h place
+  before_hint {place} x rise some le is less = let at : place - 1 + 1 ≡ place = omega arith in subst (IsBefore hs h) at (before_more x rise (omega arith) is less)
+
+  pub first_here : {place : ℕ} (x : ℕ) → IsBefore hs h place → place < length hs → x ≡ get_or hs place x → h ≤ x → IsFirst hs h place
+  first_here {place} x before lt is le = record { before = before; here = λ l. let here = get_or_read hs place x lt is 0 in omega arith }
+
+  pub first_nowhere : {place : ℕ} → IsBefore hs h place → length hs ≤ place → IsFirst hs h place
+  first_nowhere before past = record { before = before; here = λ l. absurd (omega (arith, past, l)) }
+
+  -- a bisection of those from a place on that all before it are below
+  module _ {start : ℕ} (rise : Rise hs) (before : IsBefore hs h start) where
+    at_behind : (k : ℕ) → get_or (drop start hs) k 0 ≡ get_or hs (start + k) 0
+    at_behind k = get_or-drop start hs k 0
+
+    pub behind_parted : IsPartitionedBy (λ y. nat_lt y h) (drop start hs)
+    behind_parted i j d le lt less =
+        let lower = get_or_default (drop start hs) i d 0 (omega arith) ∙ at_behind i in
+        let upper = get_or_default (drop start hs) j d 0 lt ∙ at_behind j in
+        let up = rise (start + i) (start + j) (omega arith) (omega (arith, length-drop start hs)) in
+        grind (arith, nat_tests)
+
+    pub first_parted : {p : ℕ} → p ≤ length (drop start hs) → IsPartitionPoint (λ y. nat_lt y h ≡ true) (λ y. nat_lt y h ≡ false) (drop start hs) p → IsFirst hs h (start + p)
+    first_parted {p} le parted = record {
+      before = record { inside = omega (arith, length-drop start hs, before.inside); below = λ i l. below i l (nat_lt i start) refl };
+      here = λ l. let t = parted.1 p 0 (omega arith) (omega (arith, length-drop start hs)) in let at = at_behind p in grind (arith, nat_tests);
+    }
+      where
+        below : (i : ℕ) → i < start + p → (b : Bool) → nat_lt i start ≡ b → get_or hs i 0 < h
+        below i l true e = before.below i (grind (arith, nat_tests))
+        below i l false e =
+            let from : start ≤ i = grind (arith, nat_tests) in
+            let at : start + (i - start) ≡ i = omega arith in
+            let here = at_behind (i - start) ∙ ap (λ k. get_or hs k 0) at in
+            let t = parted.0 (i - start) 0 (omega arith) (omega arith) in
+            grind (arith, nat_tests)
+
+pub ruleset first_places = (nothing_before, before_more, before_hint, first_here, first_nowhere)
+
+-- the first bytes that are kept, as those of the names that are seen
+module _ {names : List (String Global)} {hs : List ℕ} {ks : List Name} (kept : AreKept names hs) (seen : ks ≡ map string_bytes names) where
+  pub heads_seen : hs ≡ map first_bytes ks
+  heads_seen = kept.heads ∙ ap (map first_bytes) (sym seen)
+
+  pub kept_rise : Rise hs
+  kept_rise = subst Rise (sym kept.heads) (heads_rise names kept.ascend)
+
+  -- a name stands nowhere whose first bytes are those of none
+  module _ (n : Name) {h place : ℕ} (head : h ≡ first_bytes n) (first : IsFirst (map first_bytes ks) h place) where
+    found : IsFirst hs h place
+    found = subst (λ l. IsFirst l h place) (sym heads_seen) first
+
+    as_many : length hs ≡ length ks
+    as_many = ap length heads_seen ∙ length-map ks first_bytes
+
+    head_of_same : (i : ℕ) → i < length ks → get_or ks i [] ≡ n → get_or hs i 0 ≡ h
+    head_of_same i l e = ap (λ l. get_or l i 0) heads_seen ∙ get_or-map first_bytes ks i [] 0 l ∙ ap first_bytes e ∙ sym head
+
+    module _ (differs : place < length hs → get_or hs place 0 ≢ h) where
+      never : (i : ℕ) → i < length ks → get_or ks i [] ≡ n → (b : Bool) → nat_lt i place ≡ b → ⊥
+      never i l e true f = let less = found.before.below i (grind (arith, nat_tests)) in let same = head_of_same i l e in omega arith
+      never i l e false f =
+          let behind : place ≤ i = grind (arith, nat_tests) in
+          let inside : place < length hs = omega (arith, as_many) in
+          let least = found.here inside in
+          let most = kept_rise place i behind (omega (arith, as_many)) in
+          let same = head_of_same i l e in
+          differs inside (omega arith)
+
+      unlike : (i : ℕ) → i < length ks → (b : Bool) → bytes_eq (get_or ks i []) n ≡ b → bytes_eq (get_or ks i []) n ≡ false
+      unlike i l true e = absurd (never i l ((bytes_eq-Decides (get_or ks i []) n).0 e) (nat_lt i place) refl)
+      unlike i l false e = e
+
+      pub unlike_none : None ≡ position (λ k. bytes_eq k n) ks
+      unlike_none = nowhere ks n (λ i l. unlike i l (bytes_eq (get_or ks i []) n) refl)
+
+-- ---- equal first bytes of equally short names
+
+worth_same : (k : ℕ) (m n : Name) → Bytes m → Bytes n → length m ≡ length n → length m ≤ k → worth k m ≡ worth k n → m ≡ n
+worth_same k [] [] g h long few e = refl
+worth_same k [] (b ∷ n) g h long few e = absurd (omega (arith, long))
+worth_same k (a ∷ m) [] g h long few e = absurd (omega (arith, long))
+worth_same zero (a ∷ m) (b ∷ n) g h long few e = absurd (omega (arith, few))
+worth_same (suc k) (a ∷ m) (b ∷ n) g h long few e = by (worth_same k m n g.1 h.1 (omega (arith, long)) (omega (arith, few))) (nat_lt a b) (nat_lt b a) refl refl
+  where
+    by : (worth k m ≡ worth k n → m ≡ n) → (x y : Bool) → nat_lt a b ≡ x → nat_lt b a ≡ y → (a ∷ m) ≡ (b ∷ n)
+    by rest true y p q =
+        let lt : a < b = grind (arith, nat_tests) in
+        let more : suc a * 256 ^ k ≤ b * 256 ^ k = mul-le-mul_right (256 ^ k) lt in
+        let below = worth_below k m g.1 in
+        absurd (grind arith)
+    by rest false true p q =
+        let lt : b < a = grind (arith, nat_tests) in
+        let more : suc b * 256 ^ k ≤ a * 256 ^ k = mul-le-mul_right (256 ^ k) lt in
+        let below = worth_below k n h.1 in
+        absurd (grind arith)
+    by rest false false p q =
+        let same : a ≡ b = grind (arith, nat_tests) in
+        let other : worth k m ≡ worth k n = grind arith in
+        let tail = rest other in
+        λ i. same i ∷ tail i
+
+-- a name of at most eight bytes stands where one of its length and its first bytes does
+pub short_stands : {names : List (String Global)} {ks : List Name} (n : Name) (place : ℕ) → Names names ks → place < length ks → IsUtf8 n
+    → length (get_or ks place []) ≡ length n → length n ≤ 8 → get_or (map first_bytes ks) place 0 ≡ first_bytes n → true ≡ bytes_eq (get_or ks place []) n
+short_stands {names} {ks} n place seen inside u long few same = sym ((bytes_eq-Decides here n).1 (worth_same 8 here n bytes (bytes_of_utf8 n u) long (omega (arith, long, few)) worths))
+  where
+    here : Name
+    here = get_or ks place []
+
+    bytes : Bytes here
+    bytes = subst (λ l. Bytes (get_or l place [])) (sym seen.as_seen) (bytes_at names place)
+
+    worths : worth 8 here ≡ worth 8 n
+    worths = sym (worth_is here) ∙ sym (get_or-map first_bytes ks place [] 0 inside) ∙ same ∙ worth_is n
