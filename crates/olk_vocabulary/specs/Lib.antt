@@ -1,0 +1,4 @@
+pub mod Further
+pub mod Kinds
+pub mod Leaves
+pub mod Vocabulary

@@ -1,0 +1,94 @@
+//! Rows of the vocabulary: a keyword, its value, an instance, and what is told.
+use olk_base::{Leaf, MakeError, MakeLeaf, Meter, Node};
+use olk_base_tests::tables::{expect_rows, two};
+use olk_vocabulary::Vocabulary;
+use serde_json::Value;
+use std::alloc::{AllocError, Global};
+use std::test::Fail;
+
+fn told<L: Leaf>(alloc: Global, leaf: &L, node: Node<'_>) -> Result<String, AllocError> {
+    match leaf.validate(alloc, node)? {
+        Some(_) if leaf.is_valid(node) => String::from_str(alloc, "the ways of asking differ"),
+        Some(text) => Ok(text),
+        None => String::from_str(alloc, "-"),
+    }
+}
+
+fn told_or_refused(
+    alloc: Global,
+    keyword: &str,
+    value: &Value,
+    instance: &Value,
+) -> Result<String, AllocError> {
+    match Vocabulary.make(alloc, keyword, value, &mut Meter::new()) {
+        Ok(leaf) if leaf.keyword() == keyword => told(alloc, &leaf, Node::Value(instance)),
+        Ok(_) => String::from_str(alloc, "another keyword"),
+        Err(MakeError::Refused) => String::from_str(alloc, "refused"),
+        Err(MakeError::Memory(error)) => Err(error),
+    }
+}
+
+/// A text that isn't JSON ends the test too.
+fn read(alloc: Global, text: &str) -> Result<Value, AllocError> {
+    match Value::from_str(alloc, text) {
+        Ok(value) => Ok(value),
+        Err(_) => Err(AllocError),
+    }
+}
+
+/// What is told of a keyword, its value and an instance.
+fn row(alloc: Global, cells: &str) -> Result<String, Fail> {
+    let (keyword, values) = two(cells);
+    let (value, instance) = two(values);
+    let value = read(alloc, value)?;
+    let instance = read(alloc, instance)?;
+    let told = told_or_refused(alloc, keyword, &value, &instance);
+    drop(value);
+    drop(instance);
+    Ok(told?)
+}
+
+// A keyword, its value, an instance, and what is told of it, or `-`.
+const ROWS: &str = r#"type | "integer" | 3.5 | value is not of type "integer"
+type | ["integer","null"] | null | -
+type | ["integer","null"] | "a" | "a" is not of types "integer", "null"
+type | ["integer","text"] | 0 | refused
+const | "a" | "b" | "a" was expected
+const | null | null | refused
+minimum | 5 | 4 | 4 is less than the minimum of 5
+maximum | 5 | 5 | -
+exclusiveMinimum | 5 | 5 | 5 is less than or equal to the minimum of 5
+exclusiveMinimum | -5 | 0 | -
+exclusiveMaximum | 5 | 5 | 5 is greater than or equal to the maximum of 5
+exclusiveMaximum | 18446744073709551615 | -1 | -
+exclusiveMaximum | 0.5 | 0 | refused
+multipleOf | 3 | 7 | 7 is not a multiple of 3
+minLength | 2 | "é" | "é" is shorter than 2 characters
+maxLength | 1 | "é" | -
+minItems | 1 | [] | [] has less than 1 item
+minItems | 2 | [1] | [1] has less than 2 items
+maxItems | 1 | [1,2] | [1,2] has more than 1 item
+maxItems | 1 | {} | -
+minProperties | 1 | {} | {} has less than 1 property
+maxProperties | 0 | {"a":1} | {"a":1} has more than 0 properties
+maxProperties | -1 | {} | refused
+prefixItems | [] | [] | refused
+items | true | [] | refused
+contains | true | [] | refused
+minContains | 0 | [] | refused
+maxContains | 1 | [] | refused
+pattern | "a" | "a" | refused
+enum | [1] | 1 | refused
+uniqueItems | false | [] | refused"#;
+
+#[test]
+fn keywords_accept_or_tell(rt: HostRuntime) -> Result<(), Fail> {
+    expect_rows(rt.alloc(), ROWS, row)
+}
+
+#[test]
+fn annotations_are_not_read(rt: HostRuntime) {
+    assert!(rt; Vocabulary.reads("enum") && Vocabulary.reads("items"));
+    assert!(rt; !Vocabulary.reads("title") && !Vocabulary.reads("format"));
+    assert!(rt; !Vocabulary.reads("$defs") && !Vocabulary.reads("x-note"));
+}
