@@ -3,6 +3,7 @@ use Rattle.serde_json.specs.Find.{as_array}
 use Rattle.serde_json.specs.View.{view}
 use Rattle.serde_json.specs.declared.value.Value.TheVariants.{Array}
 use Rattle.serde_json.proofs.Views.{view-Array}
+use Rattle.olk_base.specs.Nodes.{data_of}
 use Rattle.olk_spec.specs.Malformed.{items_list}
 use Rattle.olk_vocabulary.proofs.Lists.{items_size}
 use Rattle.olk_vocabulary.proofs.sizes.item_count.Goals as goal
@@ -11,4 +12,4 @@ pub returns-in-Value-Array : goal.returns-in-Value-Array
 returns-in-Value-Array c =
     let items = c.in-Value-Array.items in
     let is : c.in-Value-Array.field-0.now ≡ Array items = search rules in
-    ap Some (c.len.ensures ∙ items.ok.0 ∙ sym (items_size items.items)) ∙ ap (λ d. option_map (λ ds. length (items_list ds)) (as_array d)) (sym (ap view is ∙ view-Array items))
+    ap Some (c.len.ensures ∙ items.ok.0 ∙ sym (items_size items.items)) ∙ ap (λ d. option_map (λ ds. length (items_list ds)) (as_array d)) (sym (ap data_of c.in-Value-Array.is ∙ ap view is ∙ view-Array items))

@@ -3,6 +3,7 @@ use Rattle.serde_json.specs.Find.{as_object}
 use Rattle.serde_json.specs.View.{view}
 use Rattle.serde_json.specs.declared.value.Value.TheVariants.{Object}
 use Rattle.serde_json.proofs.Views.{view-Object}
+use Rattle.olk_base.specs.Nodes.{data_of}
 use Rattle.olk_spec.specs.Schemas.{listed}
 use Rattle.olk_vocabulary.proofs.Lists.{members_size}
 use Rattle.olk_vocabulary.proofs.sizes.member_count.Goals as goal
@@ -11,4 +12,4 @@ pub returns-in-Value-Object : goal.returns-in-Value-Object
 returns-in-Value-Object c =
     let members = c.in-Value-Object.members in
     let is : c.in-Value-Object.field-0.now ≡ Object members = search rules in
-    ap Some (c.len.ensures.len ∙ sym (members_size members.entries)) ∙ ap (λ d. option_map (λ ms. length (listed ms)) (as_object d)) (sym (ap view is ∙ view-Object members))
+    ap Some (c.len.ensures.len ∙ sym (members_size members.entries)) ∙ ap (λ d. option_map (λ ms. length (listed ms)) (as_object d)) (sym (ap data_of c.in-Value-Object.is ∙ ap view is ∙ view-Object members))
