@@ -1,11 +1,11 @@
 -- Assertion keywords that hold no schema, besides those of the bench (JSON Schema 2020-12 Validation, 6.1, 6.2, 6.4, 6.5): what they take, and what they find.
-use Rattle.std.specs.Prelude.{ℕ, Bool, true, false, ◌||◌, ◌&&◌, ◌==◌, cond, if◌then◌else◌, nat_le, int_lt, List, [], ◌∷◌, ◌++◌, length, map, Option, Some, None, is_some, codes, bytes_eq, decimal}
+use Rattle.std.specs.Prelude.{ℕ, Bool, false, ◌||◌, ◌==◌, cond, if◌then◌else◌, nat_le, int_lt, List, [], ◌∷◌, ◌++◌, length, map, Option, Some, None, is_some, codes, bytes_eq, decimal}
 use Rattle.std.specs.List.{list_any, list_all}
 use Rattle.std.specs.Option.{option_map_or}
 use Rattle.serde_json.specs.Data.{Data, number, string, array, object, unsigned}
 use Rattle.serde_json.specs.Find.{is_float}
 use Rattle.serde_json.specs.Written.{compact_text}
-use Rattle.olk_spec.specs.Names.{Text, Name, is_among}
+use Rattle.olk_spec.specs.Names.{Text, Name}
 use Rattle.olk_spec.specs.Malformed.{items_list}
 use Rattle.olk_spec.specs.Schemas.{listed}
 use Rattle.olk_spec.specs.Bench.{names_kind, is_whole, is_natural_from, shown, unless, is_of_kind, whole_value, type_faults}

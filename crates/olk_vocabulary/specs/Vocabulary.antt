@@ -1,5 +1,5 @@
 -- The vocabulary: the keywords of the bench and the further ones, and the assertions that it refuses.
-use Rattle.std.specs.Prelude.{Bool, false, ◌||◌, cond, List, [], ◌∷◌, codes}
+use Rattle.std.specs.Prelude.{Bool, ◌||◌, cond, List, [], ◌∷◌, codes}
 use Rattle.serde_json.specs.Data.{Data}
 use Rattle.olk_spec.specs.Names.{Text, Name, is_among}
 use Rattle.olk_spec.specs.Bench.{leaf_reads, leaf_fits, leaf_faults}

@@ -1,5 +1,4 @@
-use Rattle.std.proofs.Common.{ap, sym, ◌∙◌}
-use Rattle.olk_spec.specs.Names.{is_empty}
+use Rattle.std.proofs.Common.{sym, ◌∙◌}
 use Rattle.olk_base.specs.Nodes.{data_of}
 use Rattle.olk_vocabulary.proofs.Findings.{kinds_accept}
 use Rattle.olk_vocabulary.proofs.further.FurtherLeafLeaf.is_valid.Goals as goal
