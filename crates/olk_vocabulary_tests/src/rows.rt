@@ -50,27 +50,63 @@ fn row(alloc: Global, cells: &str) -> Result<String, Fail> {
 
 // A keyword, its value, an instance, and what is told of it, or `-`.
 const ROWS: &str = r#"type | "integer" | 3.5 | value is not of type "integer"
+type | "integer" | -3 | -
+type | "number" | 3.5 | -
+type | "null" | null | -
+type | "boolean" | false | -
+type | "string" | "null" | -
+type | "array" | {} | {} is not of type "array"
+type | "object" | [] | [] is not of type "object"
+type | "any" | 0 | refused
 type | ["integer","null"] | null | -
 type | ["integer","null"] | "a" | "a" is not of types "integer", "null"
+type | ["string"] | 1 | 1 is not of types "string"
+type | ["array","object","boolean"] | true | -
 type | ["integer","text"] | 0 | refused
+type | {} | 0 | refused
 const | "a" | "b" | "a" was expected
+const | -7 | -7 | -
 const | null | null | refused
 minimum | 5 | 4 | 4 is less than the minimum of 5
+minimum | 5 | 5 | -
+minimum | 5 | "4" | -
 maximum | 5 | 5 | -
+maximum | 5 | 6 | 6 is greater than the maximum of 5
 exclusiveMinimum | 5 | 5 | 5 is less than or equal to the minimum of 5
+exclusiveMinimum | 5 | 6 | -
 exclusiveMinimum | -5 | 0 | -
+exclusiveMinimum | -5 | -6 | -6 is less than or equal to the minimum of -5
+exclusiveMinimum | 5 | [1] | -
 exclusiveMaximum | 5 | 5 | 5 is greater than or equal to the maximum of 5
+exclusiveMaximum | 5 | 4 | -
 exclusiveMaximum | 18446744073709551615 | -1 | -
+exclusiveMaximum | -1 | 18446744073709551615 | 18446744073709551615 is greater than or equal to the maximum of -1
 exclusiveMaximum | 0.5 | 0 | refused
+exclusiveMaximum | "5" | 0 | refused
 multipleOf | 3 | 7 | 7 is not a multiple of 3
+multipleOf | 3 | -9 | -
+multipleOf | 0 | 1 | refused
 minLength | 2 | "é" | "é" is shorter than 2 characters
 maxLength | 1 | "é" | -
+maxLength | 1 | ["a","b"] | -
+minItems | 0 | [] | -
 minItems | 1 | [] | [] has less than 1 item
 minItems | 2 | [1] | [1] has less than 2 items
+minItems | 2 | [1,2] | -
+minItems | 2 | "a" | -
+maxItems | 0 | [] | -
 maxItems | 1 | [1,2] | [1,2] has more than 1 item
 maxItems | 1 | {} | -
+maxItems | 0 | [0.5] | value has more than 0 items
+maxItems | 1.5 | [] | refused
+minProperties | 0 | {} | -
 minProperties | 1 | {} | {} has less than 1 property
+minProperties | 2 | {"a":1} | {"a":1} has less than 2 properties
+minProperties | 1 | [] | -
+maxProperties | 1 | {"a":1} | -
+maxProperties | 1 | {"a":1,"b":2} | {"a":1,"b":2} has more than 1 property
 maxProperties | 0 | {"a":1} | {"a":1} has more than 0 properties
+maxProperties | 0 | null | -
 maxProperties | -1 | {} | refused
 prefixItems | [] | [] | refused
 items | true | [] | refused
