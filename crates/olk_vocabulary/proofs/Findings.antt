@@ -9,10 +9,11 @@ use Rattle.olk_spec.specs.Names.{Text, is_empty}
 use Rattle.olk_spec.specs.Bench.{unless, shown, is_of_kind}
 use Rattle.olk_bench.specs.Leaves.{kind_name}
 use Rattle.olk_bench.specs.declared.leaf.ValueKind.{ValueKind}
-use Rattle.olk_vocabulary.specs.Further.{counted, separated, above_faults, below_faults, few_items_faults, many_items_faults, few_members_faults, many_members_faults}
+use Rattle.olk_vocabulary.specs.Further.{kinds_text, items_text, members_text, candidates, above_faults, below_faults, few_items_faults, many_items_faults, few_members_faults, many_members_faults}
 use Rattle.olk_vocabulary.specs.Leaves.{leaf_finds, leaf_text}
 use Rattle.olk_vocabulary.specs.declared.further.FurtherLeaf.{FurtherLeaf}
 use Rattle.olk_vocabulary.specs.declared.further.FurtherLeaf.TheVariants as leaf
+use Rattle.olk_spec.proofs.Maps.{items_list-view}
 use Rattle.olk_vocabulary.proofs.Lists.{kind_texts, some_kind}
 
 unless_text : (ok : Bool) (t : Text) → is_empty (unless ok t) ≡ false → unless ok t ≡ t ∷ []
@@ -29,25 +30,27 @@ below_text m (number (unsigned n)) h = unless_text _ _ h
 below_text m (number (negative z)) h = unless_text _ _ h
 below_text m v h = absurd (true≢false h)
 
-few_items_text : (m : ℕ) (v : Data) → is_empty (few_items_faults (number (unsigned m)) v) ≡ false → few_items_faults (number (unsigned m)) v ≡ (shown v ++ codes " has less than " ++ counted m (codes " item") (codes " items")) ∷ []
+few_items_text : (m : ℕ) (v : Data) → is_empty (few_items_faults (number (unsigned m)) v) ≡ false → few_items_faults (number (unsigned m)) v ≡ items_text v (codes " has less than ") m ∷ []
 few_items_text m (array ds) h = unless_text _ _ h
 few_items_text m v h = absurd (true≢false h)
 
-many_items_text : (m : ℕ) (v : Data) → is_empty (many_items_faults (number (unsigned m)) v) ≡ false → many_items_faults (number (unsigned m)) v ≡ (shown v ++ codes " has more than " ++ counted m (codes " item") (codes " items")) ∷ []
+many_items_text : (m : ℕ) (v : Data) → is_empty (many_items_faults (number (unsigned m)) v) ≡ false → many_items_faults (number (unsigned m)) v ≡ items_text v (codes " has more than ") m ∷ []
 many_items_text m (array ds) h = unless_text _ _ h
 many_items_text m v h = absurd (true≢false h)
 
-few_members_text : (m : ℕ) (v : Data) → is_empty (few_members_faults (number (unsigned m)) v) ≡ false → few_members_faults (number (unsigned m)) v ≡ (shown v ++ codes " has less than " ++ counted m (codes " property") (codes " properties")) ∷ []
+few_members_text : (m : ℕ) (v : Data) → is_empty (few_members_faults (number (unsigned m)) v) ≡ false → few_members_faults (number (unsigned m)) v ≡ members_text v (codes " has less than ") m ∷ []
 few_members_text m (object ms) h = unless_text _ _ h
 few_members_text m v h = absurd (true≢false h)
 
-many_members_text : (m : ℕ) (v : Data) → is_empty (many_members_faults (number (unsigned m)) v) ≡ false → many_members_faults (number (unsigned m)) v ≡ (shown v ++ codes " has more than " ++ counted m (codes " property") (codes " properties")) ∷ []
+many_members_text : (m : ℕ) (v : Data) → is_empty (many_members_faults (number (unsigned m)) v) ≡ false → many_members_faults (number (unsigned m)) v ≡ members_text v (codes " has more than ") m ∷ []
 many_members_text m (object ms) h = unless_text _ _ h
 many_members_text m v h = absurd (true≢false h)
 
 pub finds_text : (l : FurtherLeaf) (v : Data) → is_empty (leaf_finds l v) ≡ false → leaf_finds l v ≡ leaf_text l v ∷ []
 finds_text (leaf.Type k) v h = unless_text _ _ h
-finds_text (leaf.Types ks) v h = unless_text _ _ h ∙ ap (λ ts. (shown v ++ codes " is not of types " ++ separated ts) ∷ []) (kind_texts ks.items)
+finds_text (leaf.Types ks) v h = unless_text _ _ h ∙ ap (λ ts. kinds_text v ts ∷ []) (kind_texts ks.items)
+finds_text (leaf.Const x) v h = unless_text _ _ h
+finds_text (leaf.Enum xs) v h = unless_text _ _ h ∙ ap (λ ds. (shown v ++ codes " is not one of " ++ candidates ds) ∷ []) (items_list-view xs.items)
 finds_text (leaf.ExclusiveMinimum n) v h = above_text _ v h
 finds_text (leaf.ExclusiveMaximum n) v h = below_text _ v h
 finds_text (leaf.MinItems n) v h = few_items_text n v h
@@ -56,7 +59,8 @@ finds_text (leaf.MinProperties n) v h = few_members_text n v h
 finds_text (leaf.MaxProperties n) v h = many_members_text n v h
 
 -- a list of texts, with one more at its end
-pub one_more : (old new : List (String Global)) (s : String Global) (t : Text) (found : List Text) → new ≡ old ++ s ∷ [] → string_bytes s ≡ t → found ≡ t ∷ [] → map string_bytes new ≡ map string_bytes old ++ found
+pub one_more : (old new : List (String Global)) (s : String Global) (t : Text) (found : List Text) → new ≡ old ++ s ∷ [] → string_bytes s ≡ t → found ≡ t ∷ []
+    → map string_bytes new ≡ map string_bytes old ++ found
 one_more old new s t found is e f = ap (map string_bytes) is ∙ map-append string_bytes old (s ∷ []) ∙ ap (λ u. map string_bytes old ++ (u ∷ [])) e ∙ ap (λ fs. map string_bytes old ++ fs) (sym f)
 
 is_empty-unless : (ok : Bool) (t : Text) → is_empty (unless ok t) ≡ ok

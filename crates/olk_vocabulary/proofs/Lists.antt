@@ -1,5 +1,5 @@
 -- Lists of values and of kinds, as data.
-use Rattle.std.proofs.Common.{◌≡◌, ◌++◌, ◌∷◌, [], ◌||◌, suc, List, map, length, String, Global, true, false, refl, sym, ap, ◌∙◌}
+use Rattle.std.proofs.Common.{◌≡◌, ◌++◌, ◌∷◌, [], ◌||◌, suc, List, map, length, String, Global, Bool, ◌&&◌, true, false, refl, sym, ap, ◌∙◌}
 use Rattle.std.specs.List.{list_any, list_all}
 use Rattle.serde_json.specs.Data.{Data, array, Items, no_items, item}
 use Rattle.serde_json.specs.View.{view, items_view, members_view}
@@ -16,22 +16,33 @@ use Rattle.olk_bench.specs.declared.leaf.ValueKind.{ValueKind}
 use Rattle.olk_bench.specs.declared.leaf.ValueKind.TheVariants as kind
 use Rattle.olk_bench.specs.Leaves.{kind_name}
 use Rattle.olk_spec.proofs.Maps.{items_list-view}
-use Rattle.olk_vocabulary.specs.Further.{is_of_named_kind, name_kinds, takes_kinds}
+use Rattle.olk_vocabulary.specs.Further.{is_of_named_kind, is_short, name_kinds, takes_kinds}
 use Rattle.olk_vocabulary.specs.Leaves.{kind_value}
 
 items_from-list : (ds : Items) → items_from (items_list ds) ≡ ds
 items_from-list no_items = refl
 items_from-list (item d ds) = ap (λ es. item d es) (items_from-list ds)
 
-pub kinds_made : (vs : List Value) (d : Data) (ks : List ValueKind) → d ≡ array (items_view vs) → name_kinds (map view vs) ≡ true → map kind_value ks ≡ map view vs → (takes_kinds d ≡ true) × (arr (map kind_value ks) ≡ d)
-kinds_made vs d ks is names made = (ap takes_kinds is ∙ ap name_kinds (items_list-view vs) ∙ names, ap arr made ∙ ap arr (sym (items_list-view vs)) ∙ ap array (items_from-list (items_view vs)) ∙ sym is)
-
-pub kinds_refused : (vs : List Value) (d : Data) → d ≡ array (items_view vs) → name_kinds (map view vs) ≡ false → takes_kinds d ≡ false
-kinds_refused vs d is names = ap takes_kinds is ∙ ap name_kinds (items_list-view vs) ∙ names
-
 pub items_size : (vs : List Value) → length (items_list (items_view vs)) ≡ length vs
 items_size [] = refl
 items_size (v ∷ vs) = ap (λ n. suc n) (items_size vs)
+
+pub kinds_made : (vs : List Value) (ks : List ValueKind) → is_short (items_view vs) ≡ true → name_kinds (map view vs) ≡ true → map kind_value ks ≡ map view vs
+    → (takes_kinds (array (items_view vs)) ≡ true) × (arr (map kind_value ks) ≡ array (items_view vs))
+kinds_made vs ks few names made = (
+  ap (λ b. b && name_kinds (items_list (items_view vs))) few ∙ ap name_kinds (items_list-view vs) ∙ names,
+  ap arr made ∙ ap arr (sym (items_list-view vs)) ∙ ap array (items_from-list (items_view vs)),
+)
+
+pub and_false : (b : Bool) → (b && false) ≡ false
+and_false true = refl
+and_false false = refl
+
+pub kinds_refused : (vs : List Value) → name_kinds (map view vs) ≡ false → takes_kinds (array (items_view vs)) ≡ false
+kinds_refused vs names = ap (λ b. is_short (items_view vs) && b) (ap name_kinds (items_list-view vs) ∙ names) ∙ and_false (is_short (items_view vs))
+
+pub many_kinds_refused : (vs : List Value) (d : Data) → d ≡ array (items_view vs) → is_short (items_view vs) ≡ false → takes_kinds d ≡ false
+many_kinds_refused vs d is many = ap takes_kinds is ∙ ap (λ b. b && name_kinds (items_list (items_view vs))) many
 
 pub members_size : (es : List (String Global × Value)) → length (listed (members_view es)) ≡ length es
 members_size [] = refl

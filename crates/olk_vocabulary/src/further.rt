@@ -10,8 +10,9 @@ ghost use Rattle.olk_bench.specs.Leaves.{kind_name};
 ghost use Rattle.olk_vocabulary.specs.Further.{above_faults, below_faults};
 ghost use Rattle.olk_vocabulary.specs.Leaves.{leaf_name, leaf_finds, leaf_text};
 
+use crate::equality::{is_candidate, is_value};
 use crate::sizes::{has_items_from, has_items_up_to, has_members_from, has_members_up_to};
-use crate::texts::{bound_text, kind_text, kinds_text, size_text};
+use crate::texts::{bound_text, candidates_text, constant_text, kind_text, kinds_text, size_text};
 use olk_base::{Leaf, Node};
 use olk_bench::{ValueKind, WholeNumber};
 use serde_json::Value;
@@ -24,6 +25,10 @@ pub enum FurtherLeaf {
     Type(ValueKind),
     /// `type`: the kinds of which a value is to be of one.
     Types(Vec<ValueKind>),
+    /// `const`: what a value is to be.
+    Const(Value),
+    /// `enum`: what a value is to be one of.
+    Enum(Vec<Value>),
     /// `exclusiveMinimum`: what a whole number is to be above.
     ExclusiveMinimum(WholeNumber),
     /// `exclusiveMaximum`: what a whole number is to be below.
@@ -54,6 +59,8 @@ impl Leaf for FurtherLeaf {
     fn keyword(&self) -> &str {
         match self {
             FurtherLeaf::Type(_) | FurtherLeaf::Types(_) => "type",
+            FurtherLeaf::Const(_) => "const",
+            FurtherLeaf::Enum(_) => "enum",
             FurtherLeaf::ExclusiveMinimum(_) => "exclusiveMinimum",
             FurtherLeaf::ExclusiveMaximum(_) => "exclusiveMaximum",
             FurtherLeaf::MinItems(_) => "minItems",
@@ -64,16 +71,10 @@ impl Leaf for FurtherLeaf {
     }
 
     fn is_valid(&self, node: Node<'_>) -> bool {
-        match self {
-            FurtherLeaf::Type(kind) => is_of_kind(*kind, node),
-            FurtherLeaf::Types(kinds) => is_of_some_kind(kinds, node),
-            FurtherLeaf::ExclusiveMinimum(bound) => is_above(*bound, node),
-            FurtherLeaf::ExclusiveMaximum(bound) => is_below(*bound, node),
-            FurtherLeaf::MinItems(least) => has_items_from(*least, node),
-            FurtherLeaf::MaxItems(most) => has_items_up_to(*most, node),
-            FurtherLeaf::MinProperties(least) => has_members_from(*least, node),
-            FurtherLeaf::MaxProperties(most) => has_members_up_to(*most, node),
+        if let FurtherLeaf::Type(kind) = self {
+            return is_of_kind(*kind, node);
         }
+        self.accepts(node)
     }
 
     fn collect_errors(
@@ -92,6 +93,25 @@ impl Leaf for FurtherLeaf {
 }
 
 impl FurtherLeaf {
+    /// Whether the value is accepted; apart, so that asking for a type is inlined into walks.
+    #[inline(never)]
+    fn accepts(&self, node: Node<'_>) -> bool
+        ensures { result ≡ is_empty (leaf_finds self.now (data_of node.entry)) }
+    {
+        match self {
+            FurtherLeaf::Type(kind) => is_of_kind(*kind, node),
+            FurtherLeaf::Types(kinds) => is_of_some_kind(kinds, node),
+            FurtherLeaf::Const(value) => is_value(value, node),
+            FurtherLeaf::Enum(values) => is_candidate(values, node),
+            FurtherLeaf::ExclusiveMinimum(bound) => is_above(*bound, node),
+            FurtherLeaf::ExclusiveMaximum(bound) => is_below(*bound, node),
+            FurtherLeaf::MinItems(least) => has_items_from(*least, node),
+            FurtherLeaf::MaxItems(most) => has_items_up_to(*most, node),
+            FurtherLeaf::MinProperties(least) => has_members_from(*least, node),
+            FurtherLeaf::MaxProperties(most) => has_members_up_to(*most, node),
+        }
+    }
+
     /// What is said of a value that is not accepted.
     fn text(&self, alloc: Global, node: Node<'_>) -> Result<String, AllocError>
         ensures { IfOk result (λ s. string_bytes s ≡ leaf_text self.now (data_of node.entry)) }
@@ -99,6 +119,8 @@ impl FurtherLeaf {
         match self {
             FurtherLeaf::Type(kind) => kind_text(alloc, node, *kind),
             FurtherLeaf::Types(kinds) => kinds_text(alloc, node, kinds),
+            FurtherLeaf::Const(value) => constant_text(alloc, value),
+            FurtherLeaf::Enum(values) => candidates_text(alloc, node, values),
             FurtherLeaf::ExclusiveMinimum(bound) => {
                 bound_text(
                     alloc,

@@ -3,6 +3,7 @@
 //! Stands on `olk_base` and on the leaves of `olk_bench`, for the keywords that those read.
 #![tactic(auto)]
 
+mod equality;
 mod further;
 mod maker;
 mod sizes;

@@ -1,14 +1,16 @@
 //! Makes the further leaves of keywords and their values.
 ghost use Rattle.std.specs.Prelude.{◌≡◌, IfOk, MatchOption, option_map, true, false, map};
-ghost use Rattle.serde_json.specs.View.{view};
+ghost use Rattle.serde_json.specs.Data.{array};
+ghost use Rattle.serde_json.specs.View.{view, items_view};
 ghost use Rattle.olk_spec.specs.Names.{is_among};
 ghost use Rattle.olk_spec.specs.Bench.{names_kind, kind_names};
 ghost use Rattle.olk_bench.specs.Numbers.{num_of, whole_in};
-ghost use Rattle.olk_vocabulary.specs.Further.{further_named, name_kinds, type_keyword, exclusive_minimum, exclusive_maximum, min_items, max_items, min_properties, max_properties};
+ghost use Rattle.olk_vocabulary.specs.Further.{further_named, name_kinds, is_short, type_keyword, const_keyword, enum_keyword, exclusive_minimum, exclusive_maximum, min_items, max_items, min_properties, max_properties};
 ghost use Rattle.olk_bench.specs.Leaves.{kind_name};
 ghost use Rattle.olk_vocabulary.specs.Leaves.{keyword_named, kind_value, IsMade};
 
 use crate::further::FurtherLeaf;
+use crate::texts::has_fraction;
 use olk_base::{JsonType, MakeError, MakeLeaf, Meter};
 use olk_bench::{ValueKind, WholeNumber};
 use serde_json::Value;
@@ -16,9 +18,9 @@ use std::alloc::{AllocError, Global};
 
 /// Makes the leaves of the assertion keywords that the bench lacks.
 ///
-/// `type` takes the name of a kind of values or a list of such names, `exclusiveMinimum` and
-/// `exclusiveMaximum` a whole number, `minItems`, `maxItems`, `minProperties` and `maxProperties`
-/// one from 0.
+/// `type` takes the name of a kind of values or a list of at most seven such names, `const` a value
+/// and `enum` a list of values, whose numbers are whole, `exclusiveMinimum` and `exclusiveMaximum` a
+/// whole number, `minItems`, `maxItems`, `minProperties` and `maxProperties` one from 0.
 #[derive(Drop)]
 pub struct FurtherLeaves;
 
@@ -50,6 +52,8 @@ impl MakeLeaf for FurtherLeaves {
 #[derive(Clone, Copy)]
 enum FurtherKeyword {
     Type,
+    Const,
+    Enum,
     ExclusiveMinimum,
     ExclusiveMaximum,
     MinItems,
@@ -63,6 +67,8 @@ fn keyword_of(name: &str) -> Option<FurtherKeyword>
 {
     match name {
         "type" => Some(FurtherKeyword::Type),
+        "const" => Some(FurtherKeyword::Const),
+        "enum" => Some(FurtherKeyword::Enum),
         "exclusiveMinimum" => Some(FurtherKeyword::ExclusiveMinimum),
         "exclusiveMaximum" => Some(FurtherKeyword::ExclusiveMaximum),
         "minItems" => Some(FurtherKeyword::MinItems),
@@ -82,6 +88,8 @@ fn leaf_of(
 {
     match keyword {
         FurtherKeyword::Type => type_leaf(alloc, value),
+        FurtherKeyword::Const => const_leaf(value),
+        FurtherKeyword::Enum => enum_leaf(value),
         FurtherKeyword::ExclusiveMinimum => Ok(exclusive_minimum_leaf(value)),
         FurtherKeyword::ExclusiveMaximum => Ok(exclusive_maximum_leaf(value)),
         FurtherKeyword::MinItems => Ok(least_items_leaf(value)),
@@ -95,14 +103,55 @@ fn type_leaf(alloc: Global, value: &Value) -> Result<Option<FurtherLeaf>, AllocE
     ensures { IfOk result (IsMade type_keyword (view value.now)) }
 {
     match value {
-        Value::Array(items) => match kinds_of(alloc, items)? {
-            Some(kinds) => Ok(Some(FurtherLeaf::Types(kinds))),
-            None => Ok(None),
+        Value::Array(items) => if is_short(items) {
+            types_leaf(alloc, items)
+        } else {
+            Ok(None)
         },
         _ => match kind_of(value) {
             Some(kind) => Ok(Some(FurtherLeaf::Type(kind))),
             None => Ok(None),
         },
+    }
+}
+
+/// Whether there are no more items than kinds. A longer list of names has one of them twice.
+fn is_short(items: &Vec<Value>) -> bool
+    ensures { result ≡ is_short (items_view items.now.items) }
+{
+    items.len() <= 7
+}
+
+fn types_leaf(alloc: Global, items: &Vec<Value>) -> Result<Option<FurtherLeaf>, AllocError>
+    requires { is_short (items_view items.now.items) ≡ true }
+    ensures { IfOk result (IsMade type_keyword (array (items_view items.now.items))) }
+{
+    match kinds_of(alloc, items)? {
+        Some(kinds) => Ok(Some(FurtherLeaf::Types(kinds))),
+        None => Ok(None),
+    }
+}
+
+fn const_leaf(value: &Value) -> Result<Option<FurtherLeaf>, AllocError>
+    ensures { IfOk result (IsMade const_keyword (view value.now)) }
+{
+    if has_fraction(value) {
+        return Ok(None);
+    }
+    let value = value.clone()?;
+    Ok(Some(FurtherLeaf::Const(value)))
+}
+
+fn enum_leaf(value: &Value) -> Result<Option<FurtherLeaf>, AllocError>
+    ensures { IfOk result (IsMade enum_keyword (view value.now)) }
+{
+    if has_fraction(value) {
+        return Ok(None);
+    }
+    match value.clone()? {
+        Value::Array(values) => Ok(Some(FurtherLeaf::Enum(values))),
+        Value::Null | Value::Bool(_) | Value::Number(_) => Ok(None),
+        Value::String(_) | Value::Object(_) => Ok(None),
     }
 }
 

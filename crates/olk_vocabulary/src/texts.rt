@@ -6,7 +6,7 @@ ghost use Rattle.olk_base.specs.Nodes.{data_of};
 ghost use Rattle.olk_spec.specs.Bench.{shown};
 ghost use Rattle.olk_bench.specs.Leaves.{kind_name};
 ghost use Rattle.olk_bench.specs.Numbers.{num_of};
-ghost use Rattle.olk_vocabulary.specs.Further.{led, separated, counted};
+ghost use Rattle.olk_vocabulary.specs.Further.{led, separated, counted, candidates};
 ghost use Rattle.olk_vocabulary.specs.Leaves.{kind_value};
 
 use olk_base::{JsonType, Node, SAID_ROOM, quoted_text};
@@ -143,6 +143,87 @@ pub(crate) fn kinds_text(
     let mut text = text_of(alloc, node, " is not of types ")?;
     push_kinds(&mut text, kinds)?;
     Ok(text)
+}
+
+pub(crate) fn constant_text(alloc: Global, value: &Value) -> Result<String, AllocError>
+    ensures { IfOk result (λ s. string_bytes s ≡ shown (view value.now) ++ codes " was expected") }
+{
+    let mut text = value_text(alloc, value)?;
+    text.push_str(" was expected")?;
+    Ok(text)
+}
+
+pub(crate) fn candidates_text(
+    alloc: Global,
+    node: Node<'_>,
+    values: &Vec<Value>,
+) -> Result<String, AllocError>
+    ensures { IfOk result (λ s. string_bytes s
+        ≡ (shown (data_of node.entry) ++ codes " is not one of ")
+        ++ candidates (map view values.now.items)) }
+{
+    let mut text = text_of(alloc, node, " is not one of ")?;
+    push_candidates(alloc, &mut text, values)?;
+    Ok(text)
+}
+
+fn push_candidates(alloc: Global, text: &mut String, values: &[Value]) -> Result<(), AllocError>
+    ensures { OnOk result (string_bytes text.new
+        ≡ string_bytes text.old ++ candidates (map view values.now)) }
+{
+    match values {
+        [] => Ok(()),
+        [one] => push_value(alloc, text, one),
+        [one, two] => {
+            push_value(alloc, text, one)?;
+            push_further(alloc, text, " or ", two)
+        }
+        [one, two, three] => {
+            push_value(alloc, text, one)?;
+            push_further(alloc, text, ", ", two)?;
+            push_further(alloc, text, " or ", three)
+        }
+        [one, two, rest @ ..] => {
+            push_value(alloc, text, one)?;
+            push_further(alloc, text, ", ", two)?;
+            push_others(text, rest.len())
+        }
+    }
+}
+
+fn push_value(alloc: Global, text: &mut String, value: &Value) -> Result<(), AllocError>
+    ensures { OnOk result (string_bytes text.new
+        ≡ string_bytes text.old ++ shown (view value.now)) }
+{
+    let shown = value_text(alloc, value)?;
+    text.push_str(shown.as_str())?;
+    Ok(())
+}
+
+/// The word and the value.
+fn push_further(
+    alloc: Global,
+    text: &mut String,
+    word: &str,
+    value: &Value,
+) -> Result<(), AllocError>
+    ensures { OnOk result (string_bytes text.new
+        ≡ string_bytes text.old ++ (word.now ++ shown (view value.now))) }
+{
+    text.push_str(word)?;
+    push_value(alloc, text, value)
+}
+
+/// How many values are not shown.
+fn push_others(text: &mut String, count: usize) -> Result<(), AllocError>
+    ensures { OnOk result (string_bytes text.new
+        ≡ string_bytes text.old
+        ++ (codes " or " ++ (decimal count ++ codes " other candidates"))) }
+{
+    text.push_str(" or ")?;
+    write!(text, "{count}")?;
+    text.push_str(" other candidates")?;
+    Ok(())
 }
 
 fn push_kinds(text: &mut String, kinds: &[ValueKind]) -> Result<(), AllocError>

@@ -63,7 +63,7 @@ impl Leaf for VocabularyLeaf {
 /// (6.1 to 6.5).
 ///
 /// The others that assert something are refused with every value: `prefixItems`, `items`,
-/// `contains`, `minContains`, `maxContains`, `pattern`, `enum` and `uniqueItems`.
+/// `contains`, `minContains`, `maxContains`, `pattern` and `uniqueItems`.
 #[derive(Drop)]
 pub struct Vocabulary;
 
@@ -103,7 +103,6 @@ fn is_unread(name: &str) -> bool
             | "minContains"
             | "maxContains"
             | "pattern"
-            | "enum"
             | "uniqueItems"
     )
 }
