@@ -2,7 +2,7 @@
 use Rattle.std.proofs.Common.{◌≡◌, ◌++◌, ℕ, List, ◌∷◌, [], map, true, false, Bool, String, Global, Vec, string_bytes, refl, sym, ap, ◌∙◌, true≢false}
 use Rattle.std.specs.Prelude.{codes}
 use Rattle.std.specs.List.{list_any}
-use Rattle.std.proofs.lemmas.List.{map-append}
+use Rattle.std.proofs.lemmas.List.{append-nil, map-append}
 use Rattle.serde_json.specs.Data.{Num, unsigned, negative, Data, number, array, object}
 use Rattle.serde_json.specs.Written.{number_text}
 use Rattle.olk_spec.specs.Names.{Text, is_empty}
@@ -57,6 +57,10 @@ finds_text (leaf.MinItems n) v h = few_items_text n v h
 finds_text (leaf.MaxItems n) v h = many_items_text n v h
 finds_text (leaf.MinProperties n) v h = few_members_text n v h
 finds_text (leaf.MaxProperties n) v h = many_members_text n v h
+
+pub none_more : (texts found : List Text) → is_empty found ≡ true → texts ≡ texts ++ found
+none_more texts [] h = sym (append-nil texts)
+none_more texts (t ∷ found) h = absurd (true≢false (sym h))
 
 -- a list of texts, with one more at its end
 pub one_more : (old new : List (String Global)) (s : String Global) (t : Text) (found : List Text) → new ≡ old ++ s ∷ [] → string_bytes s ≡ t → found ≡ t ∷ []

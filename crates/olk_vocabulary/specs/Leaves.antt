@@ -6,7 +6,7 @@ use Rattle.serde_json.specs.Written.{compact_text}
 use Rattle.olk_spec.specs.Names.{Text, Name}
 use Rattle.olk_spec.specs.Json.{arr}
 use Rattle.olk_spec.specs.Bench.{shown}
-use Rattle.olk_bench.specs.Leaves.{kind_name, leaf_name as plain_name, leaf_finds as plain_finds}
+use Rattle.olk_bench.specs.Leaves.{kind_name}
 use Rattle.olk_bench.specs.Numbers.{num_of}
 use Rattle.olk_bench.specs.declared.leaf.ValueKind.{ValueKind}
 use Rattle.olk_vocabulary.specs.Further.{Further_keyword, type_keyword, const_keyword, enum_keyword, exclusive_minimum, exclusive_maximum, min_items, max_items, min_properties, max_properties, takes, finds, kinds_text, items_text, members_text, candidates}

@@ -1,6 +1,7 @@
 -- Equality of JSON values (Core 4.2.2): numbers by value where both are whole, and else not the same; members by their names, which stand in byte order.
-use Rattle.std.specs.Prelude.{Bool, true, false, not, cond, ◌&&◌, List, bytes_eq}
+use Rattle.std.specs.Prelude.{Bool, true, false, not, cond, ◌&&◌, bytes_eq}
 use Rattle.serde_json.specs.Data.{Num, Data, null, boolean, number, string, array, object, Items, no_items, item, Members, no_members, member}
+use Rattle.olk_spec.specs.Names.{Text}
 use Rattle.olk_spec.specs.Bench.{is_same_number}
 
 abbrev pub is_bool : Bool → Data → Bool
@@ -11,7 +12,7 @@ abbrev pub is_number : Num → Data → Bool
 is_number m (number n) = is_same_number m n
 is_number m v = false
 
-abbrev pub is_text : List ℕ → Data → Bool
+abbrev pub is_text : Text → Data → Bool
 is_text s (string t) = bytes_eq s t
 is_text s v = false
 

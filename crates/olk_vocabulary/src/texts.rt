@@ -221,7 +221,7 @@ fn push_others(text: &mut String, count: usize) -> Result<(), AllocError>
         ++ (codes " or " ++ (decimal count ++ codes " other candidates"))) }
 {
     text.push_str(" or ")?;
-    write!(text, "{count}")?;
+    push_number(text, WholeNumber::Unsigned(count as u64))?;
     text.push_str(" other candidates")?;
     Ok(())
 }

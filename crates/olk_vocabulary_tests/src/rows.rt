@@ -64,9 +64,34 @@ type | ["string"] | 1 | 1 is not of types "string"
 type | ["array","object","boolean"] | true | -
 type | ["integer","text"] | 0 | refused
 type | {} | 0 | refused
+type | ["null","boolean","integer","number","string","array","object"] | {} | -
+type | ["null","null","null","null","null","null","null","null"] | null | refused
 const | "a" | "b" | "a" was expected
 const | -7 | -7 | -
-const | null | null | refused
+const | null | null | -
+const | null | 0 | null was expected
+const | false | 0 | false was expected
+const | "1" | 1 | "1" was expected
+const | {"a":[1,null]} | {"a":[1,null]} | -
+const | {"a":[1,null]} | {"a":[1]} | {"a":[1,null]} was expected
+const | {"a":1,"b":2} | {"b":2,"a":1} | -
+const | {"a":1,"b":2} | {"a":1} | {"a":1,"b":2} was expected
+const | {"a":1} | {"a":1,"b":2} | {"a":1} was expected
+const | [1,2] | [2,1] | [1,2] was expected
+const | [1] | [1,2] | [1] was expected
+const | [] | {} | [] was expected
+const | 2 | 2.5 | 2 was expected
+const | 1.5 | 1.5 | refused
+enum | [1] | 2 | 2 is not one of 1
+enum | [1,2] | 3 | 3 is not one of 1 or 2
+enum | ["a","b",1] | "c" | "c" is not one of "a", "b" or 1
+enum | ["a","b","c","d"] | "e" | "e" is not one of "a", "b" or 2 other candidates
+enum | ["a","b","c","d"] | "d" | -
+enum | [[],{}] | {} | -
+enum | [6,"foo",[],true,{"foo":12}] | {"foo":12} | -
+enum | [null] | 0.5 | value is not one of null
+enum | {} | 0 | refused
+enum | [0.5] | 0.5 | refused
 minimum | 5 | 4 | 4 is less than the minimum of 5
 minimum | 5 | 5 | -
 minimum | 5 | "4" | -
@@ -114,7 +139,6 @@ contains | true | [] | refused
 minContains | 0 | [] | refused
 maxContains | 1 | [] | refused
 pattern | "a" | "a" | refused
-enum | [1] | 1 | refused
 uniqueItems | false | [] | refused"#;
 
 #[test]
