@@ -1,11 +1,11 @@
 -- Assertion keywords that hold no schema, besides those of the bench (JSON Schema 2020-12 Validation, 6.1, 6.2, 6.4, 6.5): what they take, and what they find.
-use Rattle.std.specs.Prelude.{ℕ, Bool, true, false, ◌||◌, ◌&&◌, ◌==◌, cond, not, if◌then◌else◌, nat_le, int_lt, List, [], ◌∷◌, ◌++◌, length, map, Option, Some, None, is_some, codes, bytes_eq, decimal}
+use Rattle.std.specs.Prelude.{ℕ, Bool, false, ◌||◌, ◌&&◌, ◌==◌, cond, not, if◌then◌else◌, nat_le, int_lt, List, [], ◌∷◌, ◌++◌, length, map, Option, Some, None, is_some, codes, bytes_eq, decimal}
 use Rattle.std.specs.List.{list_any, list_all}
 use Rattle.std.specs.Option.{option_map_or}
-use Rattle.serde_json.specs.Data.{Data, Items, number, string, array, object, unsigned}
+use Rattle.serde_json.specs.Data.{Num, Data, Items, number, string, array, object, unsigned}
 use Rattle.serde_json.specs.Find.{is_float}
 use Rattle.serde_json.specs.Written.{compact_text, has_float, items_have_float}
-use Rattle.olk_spec.specs.Names.{Text, Name, is_among}
+use Rattle.olk_spec.specs.Names.{Text, Name}
 use Rattle.olk_spec.specs.Malformed.{items_list}
 use Rattle.olk_spec.specs.Schemas.{listed}
 use Rattle.olk_spec.specs.Bench.{names_kind, is_whole, is_natural_from, shown, unless, is_of_kind, whole_value, type_faults}
@@ -103,13 +103,17 @@ abbrev pub enum_faults : Data → Data → List Text
 enum_faults (array ds) v = candidates_faults (items_list ds) v
 enum_faults x v = []
 
+-- a number, the words and its bound
+abbrev pub bound_text : Num → Text → Num → Text
+bound_text n words m = compact_text (number n) ++ words ++ compact_text (number m)
+
 -- 6.2.5, 6.2.3: as the bench's bounds, of whole numbers alone, but for the bound itself
 abbrev pub above_faults : Data → Data → List Text
-above_faults (number m) (number n) = unless (is_float n || int_lt (whole_value m) (whole_value n)) (compact_text (number n) ++ codes " is less than or equal to the minimum of " ++ compact_text (number m))
+above_faults (number m) (number n) = unless (is_float n || int_lt (whole_value m) (whole_value n)) (bound_text n (codes " is less than or equal to the minimum of ") m)
 above_faults x v = []
 
 abbrev pub below_faults : Data → Data → List Text
-below_faults (number m) (number n) = unless (is_float n || int_lt (whole_value n) (whole_value m)) (compact_text (number n) ++ codes " is greater than or equal to the maximum of " ++ compact_text (number m))
+below_faults (number m) (number n) = unless (is_float n || int_lt (whole_value n) (whole_value m)) (bound_text n (codes " is greater than or equal to the maximum of ") m)
 below_faults x v = []
 
 -- a number of things by their name

@@ -1,5 +1,5 @@
 -- The further leaves as keywords with their values, and their texts.
-use Rattle.std.specs.Prelude.{◌≡◌, ◌++◌, ◌∷◌, true, false, List, Option, MatchOption, codes, map}
+use Rattle.std.specs.Prelude.{◌≡◌, ◌++◌, true, false, List, Option, MatchOption, codes, map}
 use Rattle.serde_json.specs.Data.{unsigned, Data, number, string, array}
 use Rattle.serde_json.specs.View.{view, items_view}
 use Rattle.serde_json.specs.Written.{compact_text}

@@ -130,7 +130,8 @@ fn items_are_same(one: &Vec<Value>, other: &Vec<Value>) -> bool
 
 #[cycle(equality)]
 fn members_are_same(one: &Map<String, Value>, other: &Map<String, Value>) -> bool
-    ensures { result ≡ same_members (members_view one.now.entries) (members_view other.now.entries) }
+    ensures { result
+        ≡ same_members (members_view one.now.entries) (members_view other.now.entries) }
 {
     let mut others = other.iter();
     for (name, member) in one.iter() {

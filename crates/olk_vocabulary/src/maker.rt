@@ -19,8 +19,8 @@ use std::alloc::{AllocError, Global};
 /// Makes the leaves of the assertion keywords that the bench lacks.
 ///
 /// `type` takes the name of a kind of values or a list of at most seven such names, `const` a value
-/// and `enum` a list of values, whose numbers are whole, `exclusiveMinimum` and `exclusiveMaximum` a
-/// whole number, `minItems`, `maxItems`, `minProperties` and `maxProperties` one from 0.
+/// and `enum` a list of values, whose numbers are whole, `exclusiveMinimum` and `exclusiveMaximum`
+/// a whole number, `minItems`, `maxItems`, `minProperties` and `maxProperties` one from 0.
 #[derive(Drop)]
 pub struct FurtherLeaves;
 

@@ -7,4 +7,5 @@ use Rattle.olk_vocabulary.specs.Same.{same_value}
 use Rattle.olk_vocabulary.proofs.equality.is_candidate.Given as goal
 
 abbrev pub invariant-loop-value : goal.invariant-loop-value
-invariant-loop-value l = list_any (λ d. same_value d (data_of l.node)) (items_list (items_view l.value-items)) ≡ list_any (λ d. same_value d (data_of l.node)) (items_list (items_view (drop l.value-index l.value-items)))
+invariant-loop-value l =
+    list_any (λ d. same_value d (data_of l.node)) (items_list (items_view l.value-items)) ≡ list_any (λ d. same_value d (data_of l.node)) (items_list (items_view (drop l.value-index l.value-items)))

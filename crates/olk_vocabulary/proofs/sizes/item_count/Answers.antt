@@ -12,4 +12,6 @@ pub returns-in-Value-Array : goal.returns-in-Value-Array
 returns-in-Value-Array c =
     let items = c.in-Value-Array.items in
     let is : c.in-Value-Array.field-0.now ≡ Array items = search rules in
-    ap Some (c.len.ensures ∙ items.ok.0 ∙ sym (items_size items.items)) ∙ ap (λ d. option_map (λ ds. length (items_list ds)) (as_array d)) (sym (ap data_of c.in-Value-Array.is ∙ ap view is ∙ view-Array items))
+    let value = ap data_of c.in-Value-Array.is ∙ ap view is ∙ view-Array items in
+    let count = c.len.ensures ∙ items.ok.0 ∙ sym (items_size items.items) in
+    ap Some count ∙ ap (λ d. option_map (λ ds. length (items_list ds)) (as_array d)) (sym value)

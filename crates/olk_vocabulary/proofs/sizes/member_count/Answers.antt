@@ -12,4 +12,6 @@ pub returns-in-Value-Object : goal.returns-in-Value-Object
 returns-in-Value-Object c =
     let members = c.in-Value-Object.members in
     let is : c.in-Value-Object.field-0.now ≡ Object members = search rules in
-    ap Some (c.len.ensures.len ∙ sym (members_size members.entries)) ∙ ap (λ d. option_map (λ ms. length (listed ms)) (as_object d)) (sym (ap data_of c.in-Value-Object.is ∙ ap view is ∙ view-Object members))
+    let value = ap data_of c.in-Value-Object.is ∙ ap view is ∙ view-Object members in
+    let count = c.len.ensures.len ∙ sym (members_size members.entries) in
+    ap Some count ∙ ap (λ d. option_map (λ ms. length (listed ms)) (as_object d)) (sym value)
