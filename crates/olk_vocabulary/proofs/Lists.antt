@@ -41,9 +41,6 @@ and_false false = refl
 pub kinds_refused : (vs : List Value) → name_kinds (map view vs) ≡ false → takes_kinds (array (items_view vs)) ≡ false
 kinds_refused vs names = ap (λ b. is_short (items_view vs) && b) (ap name_kinds (items_list-view vs) ∙ names) ∙ and_false (is_short (items_view vs))
 
-pub many_kinds_refused : (vs : List Value) (d : Data) → d ≡ array (items_view vs) → is_short (items_view vs) ≡ false → takes_kinds d ≡ false
-many_kinds_refused vs d is many = ap takes_kinds is ∙ ap (λ b. b && name_kinds (items_list (items_view vs))) many
-
 pub members_size : (es : List (String Global × Value)) → length (listed (members_view es)) ≡ length es
 members_size [] = refl
 members_size (e ∷ es) = ap (λ n. suc n) (members_size es)

@@ -1,5 +1,5 @@
 //! Equality of JSON values (JSON Schema 2020-12 Core, 4.2.2).
-ghost use Rattle.std.specs.Prelude.{◌≡◌, bytes_eq};
+ghost use Rattle.std.specs.Prelude.{◌≡◌};
 ghost use Rattle.std.specs.List.{list_any};
 ghost use Rattle.serde_json.specs.Data.{string};
 ghost use Rattle.serde_json.specs.View.{view, number_view, items_view, members_view};

@@ -1,5 +1,5 @@
 //! Leaves of the assertion keywords that the bench lacks.
-ghost use Rattle.std.specs.Prelude.{◌≡◌, IfOk, string_bytes, option_map, map};
+ghost use Rattle.std.specs.Prelude.{◌≡◌, IfOk, string_bytes, option_map};
 ghost use Rattle.std.specs.List.{list_any};
 ghost use Rattle.serde_json.specs.Data.{number};
 ghost use Rattle.olk_base.specs.Nodes.{data_of};

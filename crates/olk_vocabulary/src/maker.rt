@@ -103,11 +103,7 @@ fn type_leaf(alloc: Global, value: &Value) -> Result<Option<FurtherLeaf>, AllocE
     ensures { IfOk result (IsMade type_keyword (view value.now)) }
 {
     match value {
-        Value::Array(items) => if is_short(items) {
-            types_leaf(alloc, items)
-        } else {
-            Ok(None)
-        },
+        Value::Array(items) => types_leaf(alloc, items),
         _ => match kind_of(value) {
             Some(kind) => Ok(Some(FurtherLeaf::Type(kind))),
             None => Ok(None),
@@ -123,9 +119,11 @@ fn is_short(items: &Vec<Value>) -> bool
 }
 
 fn types_leaf(alloc: Global, items: &Vec<Value>) -> Result<Option<FurtherLeaf>, AllocError>
-    requires { is_short (items_view items.now.items) ≡ true }
     ensures { IfOk result (IsMade type_keyword (array (items_view items.now.items))) }
 {
+    if !is_short(items) {
+        return Ok(None);
+    }
     match kinds_of(alloc, items)? {
         Some(kinds) => Ok(Some(FurtherLeaf::Types(kinds))),
         None => Ok(None),

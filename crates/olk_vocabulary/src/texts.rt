@@ -1,5 +1,5 @@
 //! What a further keyword says of a value.
-ghost use Rattle.std.specs.Prelude.{◌≡◌, ◌++◌, ◌==◌, ◌∷◌, [], cond, IfOk, OnOk, string_bytes, codes, map, decimal};
+ghost use Rattle.std.specs.Prelude.{◌≡◌, ◌++◌, IfOk, OnOk, string_bytes, codes, map, decimal};
 ghost use Rattle.serde_json.specs.View.{view, items_view, members_view};
 ghost use Rattle.serde_json.specs.Written.{compact_text, number_text, has_float, items_have_float, members_have_float};
 ghost use Rattle.olk_base.specs.Nodes.{data_of};
@@ -9,7 +9,7 @@ ghost use Rattle.olk_bench.specs.Numbers.{num_of};
 ghost use Rattle.olk_vocabulary.specs.Further.{led, separated, counted, candidates};
 ghost use Rattle.olk_vocabulary.specs.Leaves.{kind_value};
 
-use olk_base::{JsonType, Node, SAID_ROOM, quoted_text};
+use olk_base::{JsonType, Node, quoted_text};
 use olk_bench::{ValueKind, WholeNumber};
 use serde_json::{Map, Value};
 use std::alloc::{AllocError, Global};
