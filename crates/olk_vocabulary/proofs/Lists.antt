@@ -1,6 +1,7 @@
 -- Lists of values and of kinds, as data.
-use Rattle.std.proofs.Common.{◌≡◌, ◌++◌, ◌∷◌, [], ◌||◌, suc, List, map, length, String, Global, Bool, ◌&&◌, true, false, refl, sym, ap, ◌∙◌}
+use Rattle.std.proofs.Common.{◌≡◌, ◌++◌, ◌∷◌, [], ◌||◌, suc, List, map, length, String, Global, ◌&&◌, true, false, refl, sym, ap, ◌∙◌}
 use Rattle.std.specs.List.{list_any, list_all}
+use Rattle.std.proofs.Math.Bool.{and-false}
 use Rattle.serde_json.specs.Data.{Data, array, Items, no_items, item}
 use Rattle.serde_json.specs.View.{view, items_view, members_view}
 use Rattle.serde_json.specs.Written.{compact_text}
@@ -34,12 +35,8 @@ kinds_made vs ks few names made = (
   ap arr made ∙ ap arr (sym (items_list-view vs)) ∙ ap array (items_from-list (items_view vs)),
 )
 
-pub and_false : (b : Bool) → (b && false) ≡ false
-and_false true = refl
-and_false false = refl
-
 pub kinds_refused : (vs : List Value) → name_kinds (map view vs) ≡ false → takes_kinds (array (items_view vs)) ≡ false
-kinds_refused vs names = ap (λ b. is_short (items_view vs) && b) (ap name_kinds (items_list-view vs) ∙ names) ∙ and_false (is_short (items_view vs))
+kinds_refused vs names = ap (λ b. is_short (items_view vs) && b) (ap name_kinds (items_list-view vs) ∙ names) ∙ and-false (is_short (items_view vs))
 
 pub members_size : (es : List (String Global × Value)) → length (listed (members_view es)) ≡ length es
 members_size [] = refl

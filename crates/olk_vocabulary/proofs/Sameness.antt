@@ -1,10 +1,10 @@
 -- Two lists of values, item by item.
 use Rattle.std.proofs.Common.{◌≡◌, ◌≢◌, ◌≤◌, ◌<◌, ℕ, suc, List, [], ◌∷◌, true, false, ◌&&◌, length, drop, get_or, drop-cons, refl, sym, ap, ◌∙◌}
 use Rattle.std.proofs.lemmas.List.{drop_all}
+use Rattle.std.proofs.Math.Bool.{and-false}
 use Rattle.serde_json.specs.View.{view, items_view}
 use Rattle.serde_json.specs.declared.value.Value.{Value}
 use Rattle.olk_vocabulary.specs.Same.{same_value, same_items}
-use Rattle.olk_vocabulary.proofs.Lists.{and_false}
 
 at_item : (xs : List Value) (i : ℕ) (x : Value) → i < length xs → x ≡ get_or xs i x → drop i xs ≡ x ∷ drop (suc i) xs
 at_item xs i x p e = drop-cons xs i x p ∙ ap (λ y. y ∷ drop (suc i) xs) (sym e)
@@ -21,6 +21,6 @@ lengths_differ [] [] h = absurd (h refl)
 lengths_differ [] (y ∷ ys) h = refl
 lengths_differ (x ∷ xs) [] h = refl
 lengths_differ (x ∷ xs) (y ∷ ys) h =
-    ap (λ b. same_value (view x) (view y) && b) (lengths_differ xs ys (λ e. h (ap (λ n. suc n) e))) ∙ and_false (same_value (view x) (view y))
+    ap (λ b. same_value (view x) (view y) && b) (lengths_differ xs ys (λ e. h (ap (λ n. suc n) e))) ∙ and-false (same_value (view x) (view y))
 
 pub ruleset item_rules = (items_step, items_end, lengths_differ)

@@ -1,8 +1,9 @@
 //! Equality of JSON values (JSON Schema 2020-12 Core, 4.2.2).
-ghost use Rattle.std.specs.Prelude.{◌≡◌};
+ghost use Rattle.std.specs.Prelude.{◌≡◌, ◌↔◌, true, false};
 ghost use Rattle.std.specs.List.{list_any};
 ghost use Rattle.serde_json.specs.Data.{string};
 ghost use Rattle.serde_json.specs.View.{view, number_view, items_view, members_view};
+ghost use Rattle.serde_json.specs.Written.{has_float};
 ghost use Rattle.olk_base.specs.Nodes.{data_of};
 ghost use Rattle.olk_spec.specs.Bench.{is_same_number};
 ghost use Rattle.olk_spec.specs.Malformed.{items_list};
@@ -15,7 +16,9 @@ use serde_json::{Map, Number, Value};
 
 /// Whether the node is the value.
 pub(crate) fn is_value(value: &Value, node: Node<'_>) -> bool
-    ensures { result ≡ same_value (view value.now) (data_of node.entry) }
+    ensures same { result ≡ same_value (view value.now) (data_of node.entry) }
+    ensures equal { has_float (view value.now) ≡ false
+        → (result ≡ true) ↔ (view value.now ≡ data_of node.entry) }
 {
     match node {
         Node::Value(other) => is_same_value(value, other),
