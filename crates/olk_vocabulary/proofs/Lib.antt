@@ -1,0 +1,4 @@
+pub mod Equal
+pub mod Findings
+pub mod Lists
+pub mod Sameness

@@ -1,0 +1,5 @@
+pub mod Further
+pub mod Kinds
+pub mod Leaves
+pub mod Same
+pub mod Vocabulary
