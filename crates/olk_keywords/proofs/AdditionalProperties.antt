@@ -36,6 +36,16 @@ use Rattle.olk_keywords.specs.Together.{restriction_members, NeighbourIsBuilt, T
 use Rattle.olk_keywords.proofs.Modules.{number_of, which_of, shape_named, only_properties, only_pattern_properties, zip_length}
 use Rattle.olk_keywords.proofs.Together.{neighbour_built, all_clean, all_spent}
 
+-- a neighbour that is built at a place is built at the same place under another name
+module _ {K R N : Type 0} {o : Kit K R} {answers : N → Answers} {ms : Members} {P Q : Path} {a b : Counts} (place : Q ≡ P) where
+  pub declared_there : {x : Option (SmallMap N)} → NeighbourIsBuilt o ms (λ m. DeclaredStand o answers m (Q // codes "properties")) x (codes "properties") Q a b
+      → NeighbourIsBuilt o ms (λ m. DeclaredStand o answers m (P // codes "properties")) x (codes "properties") P a b
+  declared_there {x} = subst (λ W. NeighbourIsBuilt o ms (λ m. DeclaredStand o answers m (W // codes "properties")) x (codes "properties") W a b) place
+
+  pub patterns_there : {x : Option (Patterns R N)} → NeighbourIsBuilt o ms (λ m. PatternsStand o answers (known_of ms) m (Q // codes "patternProperties")) x (codes "patternProperties") Q a b
+      → NeighbourIsBuilt o ms (λ m. PatternsStand o answers (known_of ms) m (P // codes "patternProperties")) x (codes "patternProperties") P a b
+  patterns_there {x} = subst (λ W. NeighbourIsBuilt o ms (λ m. PatternsStand o answers (known_of ms) m (W // codes "patternProperties")) x (codes "patternProperties") W a b) place
+
 module _ {K R N : Type 0} (o : Kit K R) (answers : N → Answers) (ms : Members) (P : Path) where
   pub others_known : IsKnown (known_of ms) ms (codes "additionalProperties")
   others_known = known_alone (known_of ms) ms (codes "additionalProperties") refl

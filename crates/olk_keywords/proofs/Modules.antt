@@ -41,7 +41,7 @@ use Rattle.olk_make.specs.Making.{KeywordsMean, MakesMember, MakesClaims}
 use Rattle.olk_keywords.specs.Parts.{MemberIsBuilt, ClaimsAreBuilt}
 use Rattle.olk_make.specs.declared.part.Part.{Part}
 use Rattle.olk_read.specs.declared.shape.Shape.{Shape}
-use Rattle.olk_read.specs.declared.shape.ReadPlaces.TheVariants.{Nothing, Itself}
+use Rattle.olk_read.specs.declared.shape.ReadPlaces.TheVariants.{Nothing, Itself, Branches}
 use Rattle.olk_read.specs.declared.shape.Shape.TheVariants as shape
 use Rattle.olk_spec.proofs.CostSums.{sum_last}
 use Rattle.olk_read.proofs.Spending.{spends_same, refuses_memory, within_exactly}
@@ -123,29 +123,13 @@ module _ {K R N : Type 0} (o : Kit K R) (answers : N → Answers) where
   which_of shape.Unread = unread
 
   pub shape_named : (x : Shape K R) (k : Name) (d : Data) → IsShape o k d x → is_conditional_name k ≡ false → keyword_named o.world k ≡ which_of x
-  shape_named (shape.Properties n) k d s other = ap (keyword_named o.world) s.0
-  shape_named (shape.PatternProperties v t) k d s other = ap (keyword_named o.world) s.0
-  shape_named shape.AdditionalProperties k d s other = ap (keyword_named o.world) s.0
-  shape_named shape.NoOthers k d s other = ap (keyword_named o.world) s.0
-  shape_named shape.AnyOthers k d s other = ap (keyword_named o.world) s.0
-  shape_named (shape.Required v) k d s other = ap (keyword_named o.world) s.0
-  shape_named (shape.DependentRequired n v) k d s other = ap (keyword_named o.world) s.0
-  shape_named (shape.DependentSchemas n) k d s other = ap (keyword_named o.world) s.0
-  shape_named (shape.Dependencies n v) k d s other = ap (keyword_named o.world) s.0
-  shape_named (shape.PropertyDependencies n v) k d s other = ap (keyword_named o.world) s.0
-  shape_named shape.PropertyNames k d s other = ap (keyword_named o.world) s.0
-  shape_named shape.NoNames k d s other = ap (keyword_named o.world) s.0
-  shape_named shape.AnyNames k d s other = ap (keyword_named o.world) s.0
-  shape_named shape.AllOf k d s other = ap (keyword_named o.world) s.0
-  shape_named shape.AnyOf k d s other = ap (keyword_named o.world) s.0
-  shape_named shape.OneOf k d s other = ap (keyword_named o.world) s.0
-  shape_named (shape.Not v) k d s other = ap (keyword_named o.world) s.0
   shape_named shape.If k d s other = ap (keyword_named o.world) s
   shape_named shape.Then k d s other = ap (keyword_named o.world) s
   shape_named shape.Else k d s other = ap (keyword_named o.world) s
   shape_named shape.Unpaired k d s other = absurd (true≢false (sym s ∙ other))
   shape_named (shape.Leaf l) k d s other = s.0
   shape_named shape.Unread k d s other = s
+  shape_named x k d s other = ap (keyword_named o.world) s.0
 
   only_all_of : (x : Shape K R) → all_of ≡ which_of x → x ≡ shape.AllOf
   only_all_of shape.AllOf e = refl
@@ -247,6 +231,11 @@ module _ {K R N : Type 0} (o : Kit K R) (answers : N → Answers) where
           → MemberIsBuilt o answers ms ks (k, d) Q a b
       built_of_shape ks make = member_built ks (subst (λ y. MakesMember o answers y p.location p.nodes.items ks) (sym q) make)
 
+      -- there are as many nodes as branches
+      pub branches_counted : reads_of x ≡ Branches → length p.nodes.items ≡ length (items_of_array d)
+      branches_counted r =
+          stand_length p.nodes.items (numbered (items_of_array d)) (P // k) (subst (λ y. StandAt o answers y p.nodes.items d (P // k)) (ap reads_of q ∙ r) stands.nodes) ∙ length-numbered (items_of_array d)
+
       pub built_without_nodes : reads_of x ≡ Nothing → (ks : List (KeywordOver K R N)) → MakesMember o answers x p.location [] ks → (ms : Members) (Q : Path)
           → P // k ≡ Q // k → MemberIsBuilt o answers ms ks (k, d) Q a b
       built_without_nodes r ks make = built_of_shape ks (subst (λ ns. MakesMember o answers x p.location ns ks) (sym none) make)
@@ -267,13 +256,12 @@ module _ {K R N : Type 0} (o : Kit K R) (answers : N → Answers) where
 
       pub all_of_built : (ks : List (KeywordOver K R N)) → MakesMember o answers shape.AllOf p.location p.nodes.items ks → (ms : Members) (Q : Path)
           → P // codes "allOf" ≡ Q // codes "allOf" → MemberIsBuilt o answers ms ks (codes "allOf", d) Q a b
-      all_of_built ks make = member_built p c (codes "allOf") d P a b h refl ks (subst (λ x. MakesMember o answers x p.location p.nodes.items ks) (sym all_of_shape) make)
+      all_of_built = built_of_shape p c (codes "allOf") d P a b h refl shape.AllOf all_of_shape
 
       pub all_of_is_formed : (k : KeywordOver K R N) → IsFormOfAllOf p.location p.nodes.items k → IsAllOf (P // codes "allOf") d k
       all_of_is_formed k f =
-          let s = stands p c (codes "allOf") d P a b h refl in
-          subst (λ L. IsAllOf L d k) s.place (all_of_form p.location p.nodes.items d
-          (stand_length p.nodes.items (numbered (items_of_array d)) (P // codes "allOf") (subst (λ x. StandAt o answers (reads_of x) p.nodes.items d (P // codes "allOf")) all_of_shape s.nodes) ∙ length-numbered (items_of_array d)) k f)
+          subst (λ L. IsAllOf L d k) (stands p c (codes "allOf") d P a b h refl).place
+          (all_of_form p.location p.nodes.items d (branches_counted p c (codes "allOf") d P a b h refl shape.AllOf all_of_shape refl) k f)
 
     module _ (h : IsPart o answers p c (codes "anyOf") d (P // codes "anyOf") a b) where
       any_of_shape : p.shape ≡ shape.AnyOf
@@ -281,13 +269,12 @@ module _ {K R N : Type 0} (o : Kit K R) (answers : N → Answers) where
 
       pub any_of_built : (ks : List (KeywordOver K R N)) → MakesMember o answers shape.AnyOf p.location p.nodes.items ks → (ms : Members) (Q : Path)
           → P // codes "anyOf" ≡ Q // codes "anyOf" → MemberIsBuilt o answers ms ks (codes "anyOf", d) Q a b
-      any_of_built ks make = member_built p c (codes "anyOf") d P a b h refl ks (subst (λ x. MakesMember o answers x p.location p.nodes.items ks) (sym any_of_shape) make)
+      any_of_built = built_of_shape p c (codes "anyOf") d P a b h refl shape.AnyOf any_of_shape
 
       pub any_of_is_formed : (k : KeywordOver K R N) → IsFormOfAnyOf p.location p.nodes.items k → IsAnyOf (P // codes "anyOf") d k
       any_of_is_formed k f =
-          let s = stands p c (codes "anyOf") d P a b h refl in
-          subst (λ L. IsAnyOf L d k) s.place (any_of_form p.location p.nodes.items d
-          (stand_length p.nodes.items (numbered (items_of_array d)) (P // codes "anyOf") (subst (λ x. StandAt o answers (reads_of x) p.nodes.items d (P // codes "anyOf")) any_of_shape s.nodes) ∙ length-numbered (items_of_array d)) k f)
+          subst (λ L. IsAnyOf L d k) (stands p c (codes "anyOf") d P a b h refl).place
+          (any_of_form p.location p.nodes.items d (branches_counted p c (codes "anyOf") d P a b h refl shape.AnyOf any_of_shape refl) k f)
 
     module _ (h : IsPart o answers p c (codes "oneOf") d (P // codes "oneOf") a b) where
       one_of_shape : p.shape ≡ shape.OneOf
@@ -295,13 +282,12 @@ module _ {K R N : Type 0} (o : Kit K R) (answers : N → Answers) where
 
       pub one_of_built : (ks : List (KeywordOver K R N)) → MakesMember o answers shape.OneOf p.location p.nodes.items ks → (ms : Members) (Q : Path)
           → P // codes "oneOf" ≡ Q // codes "oneOf" → MemberIsBuilt o answers ms ks (codes "oneOf", d) Q a b
-      one_of_built ks make = member_built p c (codes "oneOf") d P a b h refl ks (subst (λ x. MakesMember o answers x p.location p.nodes.items ks) (sym one_of_shape) make)
+      one_of_built = built_of_shape p c (codes "oneOf") d P a b h refl shape.OneOf one_of_shape
 
       pub one_of_is_formed : (k : KeywordOver K R N) → IsFormOfOneOf p.location p.nodes.items k → IsOneOf (P // codes "oneOf") d k
       one_of_is_formed k f =
-          let s = stands p c (codes "oneOf") d P a b h refl in
-          subst (λ L. IsOneOf L d k) s.place (one_of_form p.location p.nodes.items d
-          (stand_length p.nodes.items (numbered (items_of_array d)) (P // codes "oneOf") (subst (λ x. StandAt o answers (reads_of x) p.nodes.items d (P // codes "oneOf")) one_of_shape s.nodes) ∙ length-numbered (items_of_array d)) k f)
+          subst (λ L. IsOneOf L d k) (stands p c (codes "oneOf") d P a b h refl).place
+          (one_of_form p.location p.nodes.items d (branches_counted p c (codes "oneOf") d P a b h refl shape.OneOf one_of_shape refl) k f)
 
     module _ (h : IsPart o answers p c (codes "not") d (P // codes "not") a b) where
       not_shape : (v : Value) × (p.shape ≡ shape.Not v)
@@ -318,7 +304,7 @@ module _ {K R N : Type 0} (o : Kit K R) (answers : N → Answers) where
 
         pub not_built : (ks : List (KeywordOver K R N)) → MakesMember o answers (shape.Not v) p.location p.nodes.items ks → (ms : Members) (Q : Path)
             → P // codes "not" ≡ Q // codes "not" → MemberIsBuilt o answers ms ks (codes "not", d) Q a b
-        not_built ks make = member_built p c (codes "not") d P a b h refl ks (subst (λ x. MakesMember o answers x p.location p.nodes.items ks) (sym q) make)
+        not_built = built_of_shape p c (codes "not") d P a b h refl (shape.Not v) q
 
         pub not_is_formed : (k : KeywordOver K R N) → IsNot p.location (view v) k → IsNot (P // codes "not") d k
         not_is_formed k f =
