@@ -3,7 +3,7 @@ use Rattle.std.specs.Prelude.{◌≡◌, ℕ, suc, ◌+◌, ◌&&◌, ◌||◌, 
 use Rattle.std.specs.List.{enumerate_from}
 use Rattle.std.specs.declared.alloc.Global.{Global}
 use Rattle.std.specs.declared.alloc.AllocError.{AllocError}
-use Rattle.std.proofs.Common.{refl, sym, ◌∙◌, ap, subst, arith}
+use Rattle.std.proofs.Common.{refl, sym, ◌∙◌, ap, subst}
 use Rattle.std.proofs.lemmas.List.{append-nil, length-map}
 use Rattle.std.proofs.Math.Bool.{and-false}
 use mathlib.Core.Bool.{true≢false}
@@ -46,22 +46,6 @@ use Rattle.olk_read.specs.declared.shape.Shape.TheVariants as shape
 use Rattle.olk_spec.proofs.CostSums.{sum_last}
 use Rattle.olk_read.proofs.Spending.{spends_same, refuses_memory, within_exactly}
 use Rattle.olk_make.proofs.Makes.{makes_required}
-
--- keywords that differ have other numbers
-abbrev pub number_of : Keyword → ℕ
-number_of properties = 0
-number_of pattern_properties = 1
-number_of required = 2
-number_of dependent_required = 3
-number_of dependent_schemas = 4
-number_of dependencies = 5
-number_of property_dependencies = 6
-number_of all_of = 7
-number_of any_of = 8
-number_of one_of = 9
-number_of not_keyword = 10
-number_of additional_properties = 11
-number_of w = 12
 
 -- ---- how many
 
@@ -133,47 +117,47 @@ module _ {K R N : Type 0} (o : Kit K R) (answers : N → Answers) where
 
   only_all_of : (x : Shape K R) → all_of ≡ which_of x → x ≡ shape.AllOf
   only_all_of shape.AllOf e = refl
-  only_all_of x e = absurd (let q = ap number_of e in omega (arith, q))
+  only_all_of x e = absurd (cc)
 
   only_any_of : (x : Shape K R) → any_of ≡ which_of x → x ≡ shape.AnyOf
   only_any_of shape.AnyOf e = refl
-  only_any_of x e = absurd (let q = ap number_of e in omega (arith, q))
+  only_any_of x e = absurd (cc)
 
   only_one_of : (x : Shape K R) → one_of ≡ which_of x → x ≡ shape.OneOf
   only_one_of shape.OneOf e = refl
-  only_one_of x e = absurd (let q = ap number_of e in omega (arith, q))
+  only_one_of x e = absurd (cc)
 
   only_not : (x : Shape K R) → not_keyword ≡ which_of x → (v : Value) × (x ≡ shape.Not v)
   only_not (shape.Not v) e = (v, refl)
-  only_not x e = absurd (let q = ap number_of e in omega (arith, q))
+  only_not x e = absurd (cc)
 
   pub only_properties : (x : Shape K R) → properties ≡ which_of x → (n : List Name) × (x ≡ shape.Properties n)
   only_properties (shape.Properties n) e = (n, refl)
-  only_properties x e = absurd (let q = ap number_of e in omega (arith, q))
+  only_properties x e = absurd (cc)
 
   pub only_pattern_properties : (x : Shape K R) → pattern_properties ≡ which_of x → (v : Vec (CompiledPattern R) Global) × (t : Table) × (x ≡ shape.PatternProperties v t)
   only_pattern_properties (shape.PatternProperties v t) e = (v, t, refl)
-  only_pattern_properties x e = absurd (let q = ap number_of e in omega (arith, q))
+  only_pattern_properties x e = absurd (cc)
 
   only_required : (x : Shape K R) → required ≡ which_of x → (v : Vec (String Global) Global) × (x ≡ shape.Required v)
   only_required (shape.Required v) e = (v, refl)
-  only_required x e = absurd (let q = ap number_of e in omega (arith, q))
+  only_required x e = absurd (cc)
 
   only_dependent_required : (x : Shape K R) → dependent_required ≡ which_of x → (n : List Name) × (v : Vec (Vec (String Global) Global) Global) × (x ≡ shape.DependentRequired n v)
   only_dependent_required (shape.DependentRequired n v) e = (n, v, refl)
-  only_dependent_required x e = absurd (let q = ap number_of e in omega (arith, q))
+  only_dependent_required x e = absurd (cc)
 
   only_dependent_schemas : (x : Shape K R) → dependent_schemas ≡ which_of x → (n : List Name) × (x ≡ shape.DependentSchemas n)
   only_dependent_schemas (shape.DependentSchemas n) e = (n, refl)
-  only_dependent_schemas x e = absurd (let q = ap number_of e in omega (arith, q))
+  only_dependent_schemas x e = absurd (cc)
 
   only_dependencies : (x : Shape K R) → dependencies ≡ which_of x → (n : List Name) × (v : Vec (Option (Vec (String Global) Global)) Global) × (x ≡ shape.Dependencies n v)
   only_dependencies (shape.Dependencies n v) e = (n, v, refl)
-  only_dependencies x e = absurd (let q = ap number_of e in omega (arith, q))
+  only_dependencies x e = absurd (cc)
 
   only_property_dependencies : (x : Shape K R) → property_dependencies ≡ which_of x → (n : List Name) × (v : Vec (List Name) Global) × (x ≡ shape.PropertyDependencies n v)
   only_property_dependencies (shape.PropertyDependencies n v) e = (n, v, refl)
-  only_property_dependencies x e = absurd (let q = ap number_of e in omega (arith, q))
+  only_property_dependencies x e = absurd (cc)
 
   -- ---- a part at its name, below P
 
