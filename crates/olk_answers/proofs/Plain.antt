@@ -52,12 +52,8 @@ listed_plain no_members h = tt
 listed_plain (member n d ms) h = let p = neither (has_float d) (members_have_float ms) h in (p.0, listed_plain ms p.1)
 
 members_plain : (v : Data) → IsPlain v → Each (λ m. IsPlain m.1) (members v)
-members_plain null h = tt
-members_plain (boolean b) h = tt
-members_plain (number n) h = tt
-members_plain (string s) h = tt
-members_plain (array ds) h = tt
 members_plain (object ms) h = listed_plain ms h
+members_plain v h = tt
 
 -- ---- a keyword itself
 
@@ -131,16 +127,7 @@ module _ (W : World) (u : Bool) where
         (put_prints (nat_lt 1 (accepting p v)) (fault (OneOfMultipleValid (branch_faults p v (P // k) Q)) v Q (P // k)) fine)
     own_prints not_keyword = put_prints (holds p.whole v) (fault (Not p.whole.schema) v Q (P // k)) (rw (h.0.0, fine) refl)
     own_prints leaf = Each-map PrintsNone (λ t. fault (Leaf k t) v Q (P // k)) (W.faults k p.whole.schema v) (Each-any _ (λ t. refl) (W.faults k p.whole.schema v))
-    own_prints properties = tt
-    own_prints pattern_properties = tt
-    own_prints dependent_schemas = tt
-    own_prints property_dependencies = tt
-    own_prints all_of = tt
-    own_prints if_keyword = tt
-    own_prints then_keyword = tt
-    own_prints else_keyword = tt
-    own_prints unsupported = tt
-    own_prints unread = tt
+    own_prints w = tt
 
     keyword_prints : (w : Keyword) → Each PrintsNone (keyword_report W u S k p v P Q w)
     keyword_prints w =
@@ -273,10 +260,7 @@ module _ (W : World) (u : Bool) where
       child_plain not_keyword = (erring_plain (P // k) Q _ (own_prints S k p h v fine P Q not_keyword), tt)
       child_plain if_keyword = if_plain
       child_plain leaf = (own_told leaf, tt)
-      child_plain then_keyword = tt
-      child_plain else_keyword = tt
-      child_plain unsupported = tt
-      child_plain unread = tt
+      child_plain w = tt
 
   keywords_print : (S : Keywords Meaning) → GoodKeywords Good S → ReportsNone (meaning_step W u (keywords S))
   keywords_print S g v fine P Q =
@@ -331,20 +315,8 @@ mutual
   cut_kind_prints : (k : Kind) (v : Data) → kind_prints_fraction (cut_kind k) v ≡ kind_prints_fraction k v
   cut_kind_prints (AdditionalProperties []) v = refl
   cut_kind_prints (AdditionalProperties (n ∷ ns)) v = refl
-  cut_kind_prints (AnyOf c) v = refl
-  cut_kind_prints (OneOfNotValid c) v = refl
-  cut_kind_prints (OneOfMultipleValid c) v = refl
-  cut_kind_prints (Not d) v = refl
-  cut_kind_prints (Required n) v = refl
-  cut_kind_prints FalseSchema v = refl
   cut_kind_prints (PropertyNames f) v = cut_fault_prints f
-  cut_kind_prints (Leaf k t) v = refl
-  cut_kind_prints (SingleType t) v = refl
-  cut_kind_prints MultipleTypes v = refl
-  cut_kind_prints UniqueItems v = refl
-  cut_kind_prints Regex v = refl
-  cut_kind_prints (Unsupported k) v = refl
-  cut_kind_prints (LeafRefused k) v = refl
+  cut_kind_prints k v = refl
 
   cut_fault_prints : (f : Fault) → prints_fraction (cut f) ≡ prints_fraction f
   cut_fault_prints (fault k v Q P) = cut_kind_prints k v

@@ -89,12 +89,8 @@ module _ (v : Data) (P Q : Path) (names : List (String Global)) where
 -- what is no object lacks nothing
 pub nothing_missing : (ns : List Name) (v : Data) → None ≡ as_object v → missing ns v ≡ []
 nothing_missing [] v e = refl
-nothing_missing (n ∷ ns) null e = nothing_missing ns null e
-nothing_missing (n ∷ ns) (boolean b) e = nothing_missing ns (boolean b) e
-nothing_missing (n ∷ ns) (number x) e = nothing_missing ns (number x) e
-nothing_missing (n ∷ ns) (string s) e = nothing_missing ns (string s) e
-nothing_missing (n ∷ ns) (array ds) e = nothing_missing ns (array ds) e
 nothing_missing (n ∷ ns) (object ms) e = cc
+nothing_missing (n ∷ ns) v e = nothing_missing ns v e
 
 -- ---- one name
 
