@@ -5,7 +5,7 @@ use Rattle.std.specs.List.{flat_map, list_all}
 use Rattle.std.proofs.lemmas.List.{append-nil, map-append}
 use Rattle.std.proofs.lemmas.Grind.{flat_map-append}
 use Rattle.std.proofs.Math.Bool.{and-true}
-use Rattle.serde_json.specs.Data.{Data, Members, null, boolean, number, string, array, object}
+use Rattle.serde_json.specs.Data.{Data, Members, object}
 use Rattle.serde_json.specs.Find.{as_object}
 use Rattle.olk_spec.specs.Names.{Name, Path, ◌//◌, filter_once, put_if}
 use Rattle.olk_spec.specs.World.{Says}
