@@ -9,10 +9,9 @@ use Rattle.olk_errors.proofs.one_of.OneOfWalk.walk.Goals as goal
 
 pub returns-in-Some : goal.returns-in-Some
 returns-in-Some g c =
-    let own =
-        one_of_own (how_many (λ n. g.N.Means.means n (data_of c.args.node)) c.args.ctx.now.answer c.args.self.now.schemas.items)
-        (map (λ n. g.N.Reports.report n c.args.ctx.now.answer (data_of c.args.node) (path_at c.args.trail.now)) c.args.self.now.schemas.items)
-        (data_of c.args.node) c.args.self.now.location (path_at c.args.trail.now) c.in-Some.is c.in_ok-kind.ensures.kind c.as_str.ensures in
+    let own = one_of_own (how_many (λ n. g.N.Means.means n (data_of c.args.node)) c.args.ctx.now.answer c.args.self.now.schemas.items)
+    (map (λ n. g.N.Reports.report n c.args.ctx.now.answer (data_of c.args.node) (path_at c.args.trail.now)) c.args.self.now.schemas.items)
+    (data_of c.args.node) c.args.self.now.location (path_at c.args.trail.now) c.in-Some.is c.in_ok-kind.ensures.kind c.as_str.ensures in
     record {
       on = reported_on own _ _ c.report.result c.report.ensures.on;
       stop = reported_stop own _ _ c.report.result c.report.ensures.stop;
