@@ -68,7 +68,8 @@ module _ {N : Type 0} (t : N → Bool → Data → Path → Tree) (m : N → Dat
         like = subst (λ w. IsLikeTree w (node_at P Q s)) (sym (several_shown more))
             (subst (λ r. IsLikeTree (result P Q None false (several_accept ∷ []) (branch_trees (λ k. t k u) v Q acceptors)) (node_at P Q r)) (sym e)
             (subst (λ ts. IsLikeTree (result P Q None false (several_accept ∷ []) ts) (node_at P Q (shown false None (several_accept ∷ []) cs))) acceptors_wanted
-            (like_result P Q false false None None (several_accept ∷ []) (several_accept ∷ []) (trees_from (trees_wanted (filter_once (λ w. w.1) wanted_here))) (trees_from cs) refl refl (refl, (λ q. refl), tt) (like_children (filter_once (λ w. w.1) wanted_here) cs h))));
+            (like_result P Q false false None None (several_accept ∷ []) (several_accept ∷ []) (trees_from (trees_wanted (filter_once (λ w. w.1) wanted_here))) (trees_from cs) refl refl
+            (refl, (λ q. refl), tt) (like_children (filter_once (λ w. w.1) wanted_here) cs h))));
         verdict = valid_shown P Q s false None (several_accept ∷ []) cs e ∙ sym (ap (λ n. n == 1) count_shown ∙ several_is_not_one (length cs) more);
       }
 

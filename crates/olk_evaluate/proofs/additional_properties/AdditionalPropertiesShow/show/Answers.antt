@@ -19,10 +19,11 @@ returns-in_ok-add_places-in-Some g c =
     =
     subst (λ Q. HasPlaces self (names_of found.matched.items) (data_of c.args.node)
     (object (members_view c.in-Some.members.now.entries)) Q found.children.items children) c.in_ok-collected-in-Some.ensures.path c.in_ok-add_places-in-Some.ensures in
-    let shows =
-    on_ok_weaker c.complete.result
-    (λ complete. additional_shown g.R.RegexEngine.answers g.N.Show.tree g.N.Means.means c.args.ctx.now.answer c.args.path.now self (members_view c.in-Some.members.now.entries) found c.in_ok-collected-in-Some.ensures.collected
-    places.matches places.missing places.matched (required_text self.required) (required_place self.required) children places.parts (data_of c.args.node) c.in-Some.ensures places.lacking (over_children children c.requires c.take_children.ensures) complete g.R.RegexEngine.costs c.law_of_names.ensures)
+    let shows = on_ok_weaker c.complete.result
+    (λ complete. additional_shown g.R.RegexEngine.answers g.N.Show.tree g.N.Means.means c.args.ctx.now.answer c.args.path.now self (members_view c.in-Some.members.now.entries) found
+    c.in_ok-collected-in-Some.ensures.collected
+    places.matches places.missing places.matched (required_text self.required) (required_place self.required) children places.parts (data_of c.args.node) c.in-Some.ensures places.lacking
+    (over_children children c.requires c.take_children.ensures) complete g.R.RegexEngine.costs c.law_of_names.ensures)
     c.complete.ensures in
     record {
       tree = on_ok_weaker c.complete.result (λ s. s.like) shows;
@@ -33,8 +34,7 @@ returns-in_ok-add_places-in-Some g c =
 
 pub returns-in-None : goal.returns-in-None
 returns-in-None g c =
-    let shows =
-    other_shown g.R.RegexEngine.answers (sides_of c.args.self.now) c.args.ctx.now.answer c.args.self.now.location c.args.self.now.patterns_location c.args.path.now
+    let shows = other_shown g.R.RegexEngine.answers (sides_of c.args.self.now) c.args.ctx.now.answer c.args.self.now.location c.args.self.now.patterns_location c.args.path.now
     (required_text c.args.self.now.required) (required_place c.args.self.now.required) (data_of c.args.node) c.in-None.ensures c.requires
     (is_some c.args.self.now.properties) (is_some c.args.self.now.patterns) (λ n. g.N.Show.tree n c.args.ctx.now.answer) g.R.RegexEngine.costs g.N.Means.means in
     record { tree = shows.like; verdict = shows.verdict; context = only_same c.args.ctx.now; path = refl }

@@ -16,13 +16,19 @@ returns-in_err-accepting-clause-path g c = c.accepting_children.ensures.path
 
 pub returns-then-is_empty : goal.returns-then-is_empty
 returns-then-is_empty g c =
-    let shows =
-    none_accepting g.N.Show.tree g.N.Means.means c.args.ctx.now.answer (data_of c.args.node) c.args.self.now.location c.args.path.now c.args.self.now.schemas.items (trees_of c.in_ok-accepting.accepting.items)
+    let shows = none_accepting g.N.Show.tree g.N.Means.means c.args.ctx.now.answer (data_of c.args.node) c.args.self.now.location c.args.path.now c.args.self.now.schemas.items
+    (trees_of c.in_ok-accepting.accepting.items)
     c.in_ok-accepting.ensures.shown (trees_of c.in_ok-children.children.items)
-    (no_node c.in_ok-accepting.accepting.items _ c.in_ok-accepting.accepting.ok.0 c.if-is_empty.ensures) (over_refusing c.in_ok-children.children.items c.requires c.take_children.ensures c.mark_invalid.ensures)
+    (no_node c.in_ok-accepting.accepting.items _ c.in_ok-accepting.accepting.ok.0 c.if-is_empty.ensures)
+    (over_refusing c.in_ok-children.children.items c.requires c.take_children.ensures c.mark_invalid.ensures)
     (subst₂ (λ u Q. AreShown (each_wanted g.N.Show.tree g.N.Means.means u c.args.self.now.schemas.items (data_of c.args.node) Q)
     (trees_of c.in_ok-children.children.items)) c.accepting_children.ensures.context.answer c.accepting_children.ensures.path c.in_ok-children.ensures.shown) in
-    record { tree = shows.like; verdict = shows.verdict; context = only_then c.accepting_children.ensures.context c.each_child.ensures.context; path = c.each_child.ensures.path ∙ c.accepting_children.ensures.path }
+    record {
+      tree = shows.like;
+      verdict = shows.verdict;
+      context = only_then c.accepting_children.ensures.context c.each_child.ensures.context;
+      path = c.each_child.ensures.path ∙ c.accepting_children.ensures.path;
+    }
 
 pub returns-in_err-children-clause-context : goal.returns-in_err-children-clause-context
 returns-in_err-children-clause-context g c = only_then c.accepting_children.ensures.context c.each_child.ensures.context
@@ -32,8 +38,9 @@ returns-in_err-children-clause-path g c = c.each_child.ensures.path ∙ c.accept
 
 pub returns-then-len-gt1 : goal.returns-then-len-gt1
 returns-then-len-gt1 g c =
-    let shows =
-    on_ok_weaker c.show_several.result (several_accepting g.N.Show.tree g.N.Means.means c.args.ctx.now.answer (data_of c.args.node) c.args.self.now.location c.args.path.now c.args.self.now.schemas.items (trees_of c.in_ok-accepting.accepting.items)
+    let shows = on_ok_weaker c.show_several.result
+    (several_accepting g.N.Show.tree g.N.Means.means c.args.ctx.now.answer (data_of c.args.node) c.args.self.now.location c.args.path.now c.args.self.now.schemas.items
+    (trees_of c.in_ok-accepting.accepting.items)
     c.in_ok-accepting.ensures.shown (several_nodes c.in_ok-accepting.accepting.items _ (c.len.ensures ∙ c.in_ok-accepting.accepting.ok.0) c.if-len-gt1.true)) c.show_several.ensures in
     record {
       tree = on_ok_weaker c.show_several.result (λ s. s.like) shows;
@@ -44,8 +51,8 @@ returns-then-len-gt1 g c =
 
 pub returns : goal.returns
 returns g c =
-    let shows =
-    one_accepting g.N.Show.tree g.N.Means.means c.args.ctx.now.answer (data_of c.args.node) c.args.self.now.location c.args.path.now c.args.self.now.schemas.items (trees_of c.in_ok-accepting.accepting.items) c.in_ok-accepting.ensures.shown
+    let shows = one_accepting g.N.Show.tree g.N.Means.means c.args.ctx.now.answer (data_of c.args.node) c.args.self.now.location c.args.path.now c.args.self.now.schemas.items
+    (trees_of c.in_ok-accepting.accepting.items) c.in_ok-accepting.ensures.shown
     (one_node c.in_ok-accepting.accepting.items _ c.in_ok-accepting.accepting.ok.0 c.if-is_empty.ensures (subst (λ n. n ≤ 1) c.len.ensures c.if-len-gt1.false))
     (over_children c.in_ok-accepting.accepting.items c.requires c.take_children-2.ensures) in
     record { tree = shows.like; verdict = shows.verdict; context = c.accepting_children.ensures.context; path = c.accepting_children.ensures.path }

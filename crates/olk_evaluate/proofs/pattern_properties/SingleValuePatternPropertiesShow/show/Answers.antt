@@ -8,9 +8,11 @@ use Rattle.olk_evaluate.proofs.pattern_properties.SingleValuePatternPropertiesSh
 
 pub returns-in_ok-meet_matched-in-Some : goal.returns-in_ok-meet_matched-in-Some
 returns-in_ok-meet_matched-in-Some g c =
-    let shows =
-    patterns_shown g.R.RegexEngine.answers g.N.Show.tree g.N.Means.means c.args.ctx.now.answer c.args.path.now ((c.args.self.now.regex, c.args.self.now.node) ∷ []) (data_of c.args.node) (members_view c.in-Some.members.now.entries) c.in-Some.ensures
-    c.in_ok-met-in-Some.met c.meet_matched.new.met c.in_ok-met-in-Some.ensures.names c.in_ok-met-in-Some.ensures.children (meets_matched g.R.RegexEngine.answers c.args.ctx.now.answer c.args.self.now.regex c.args.self.now.node (object (members_view c.in-Some.members.now.entries)) c.in_ok-meet_matched-in-Some.ensures.met) c.show.ensures g.R.RegexEngine.costs c.args.self.now.location in
+    let shows = patterns_shown g.R.RegexEngine.answers g.N.Show.tree g.N.Means.means c.args.ctx.now.answer c.args.path.now ((c.args.self.now.regex, c.args.self.now.node) ∷ []) (data_of c.args.node)
+    (members_view c.in-Some.members.now.entries) c.in-Some.ensures
+    c.in_ok-met-in-Some.met c.meet_matched.new.met c.in_ok-met-in-Some.ensures.names c.in_ok-met-in-Some.ensures.children
+    (meets_matched g.R.RegexEngine.answers c.args.ctx.now.answer c.args.self.now.regex c.args.self.now.node (object (members_view c.in-Some.members.now.entries))
+    c.in_ok-meet_matched-in-Some.ensures.met) c.show.ensures g.R.RegexEngine.costs c.args.self.now.location in
     record {
       tree = shows.like;
       verdict = shows.verdict ∙ mean_of_one g.R.RegexEngine.answers c.args.ctx.now.answer c.args.self.now.regex c.args.self.now.node (data_of c.args.node) g.R.RegexEngine.costs g.N.Means.means;
@@ -20,8 +22,8 @@ returns-in_ok-meet_matched-in-Some g c =
 
 pub returns-in-None : goal.returns-in-None
 returns-in-None g c =
-    let shows =
-    other_shown g.R.RegexEngine.answers g.N.Show.tree g.N.Means.means c.args.ctx.now.answer c.args.path.now ((c.args.self.now.regex, c.args.self.now.node) ∷ []) (data_of c.args.node) c.in-None.ensures c.requires g.R.RegexEngine.costs c.args.self.now.location in
+    let shows = other_shown g.R.RegexEngine.answers g.N.Show.tree g.N.Means.means c.args.ctx.now.answer c.args.path.now ((c.args.self.now.regex, c.args.self.now.node) ∷ [])
+    (data_of c.args.node) c.in-None.ensures c.requires g.R.RegexEngine.costs c.args.self.now.location in
     record {
       tree = shows.like;
       verdict = shows.verdict ∙ mean_of_one g.R.RegexEngine.answers c.args.ctx.now.answer c.args.self.now.regex c.args.self.now.node (data_of c.args.node) g.R.RegexEngine.costs g.N.Means.means;

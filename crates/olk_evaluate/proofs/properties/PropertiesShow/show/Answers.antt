@@ -6,8 +6,7 @@ use Rattle.olk_evaluate.proofs.properties.PropertiesShow.show.Goals as goal
 
 pub returns-in_ok-met-in-Some : goal.returns-in_ok-met-in-Some
 returns-in_ok-met-in-Some g c =
-    let shows =
-    alone_shown g.N.Show.tree g.N.Means.means c.args.ctx.now.answer c.args.path.now (mapped c.args.self.now.properties) c.args.self.now.location (data_of c.args.node)
+    let shows = alone_shown g.N.Show.tree g.N.Means.means c.args.ctx.now.answer c.args.path.now (mapped c.args.self.now.properties) c.args.self.now.location (data_of c.args.node)
     (members_view c.in-Some.members.now.entries) c.in_ok-met-in-Some.met c.in-Some.ensures c.in_ok-met-in-Some.ensures.shown c.in_ok-met-in-Some.ensures.verdict c.show.ensures in
     record { tree = shows.like; verdict = shows.verdict; context = c.meet.ensures.context; path = c.meet.ensures.path }
 

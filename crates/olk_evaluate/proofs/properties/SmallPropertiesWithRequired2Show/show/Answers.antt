@@ -10,11 +10,11 @@ use Rattle.olk_evaluate.proofs.properties.SmallPropertiesWithRequired2Show.show.
 pub returns-in_ok-add_missing_child-in-Some : goal.returns-in_ok-add_missing_child-in-Some
 returns-in_ok-add_missing_child-in-Some g c =
     let added = c.in_ok-add_missing_child-in-Some.ensures in
-    let lacking =
-    subst (λ Q. AreShown (refused (lacking_trees (two_texts c.args.self.now.first c.args.self.now.second) (data_of c.args.node) (object (members_view c.in-Some.members.now.entries)) c.args.self.now.required_location Q)) (trees_of added.nodes))
+    let lacking = subst (λ Q. AreShown
+    (refused (lacking_trees (two_texts c.args.self.now.first c.args.self.now.second) (data_of c.args.node) (object (members_view c.in-Some.members.now.entries)) c.args.self.now.required_location Q))
+    (trees_of added.nodes))
     c.in_ok-met-in-Some.ensures.path added.shown in
-    let shows =
-    beside_shown g.N.Show.tree g.N.Means.means c.args.ctx.now.answer c.args.path.now (named c.args.self.now.properties) c.args.self.now.location
+    let shows = beside_shown g.N.Show.tree g.N.Means.means c.args.ctx.now.answer c.args.path.now (named c.args.self.now.properties) c.args.self.now.location
     (data_of c.args.node) (members_view c.in-Some.members.now.entries) (two_texts c.args.self.now.first c.args.self.now.second) c.args.self.now.required_location
     c.in_ok-met-in-Some.met added.nodes (record c.in_ok-met-in-Some.met { children = c.add_missing_child.new.children }) c.in-Some.ensures c.in_ok-met-in-Some.ensures.shown
     c.in_ok-met-in-Some.ensures.verdict lacking refl added.added c.show.ensures in

@@ -9,16 +9,14 @@ use Rattle.olk_evaluate.proofs.property_dependencies.PropertyDependenciesShow.sh
 
 pub returns-in_ok-children-in-Some : goal.returns-in_ok-children-in-Some
 returns-in_ok-children-in-Some g c =
-    let shows =
-    shows_each g.N.Show.tree g.N.Means.means c.args.ctx.now.answer (data_of c.args.node) c.args.path.now
+    let shows = shows_each g.N.Show.tree g.N.Means.means c.args.ctx.now.answer (data_of c.args.node) c.args.path.now
     (chosen_nodes (named c.args.self.now.dependencies) (data_of c.args.node)) c.in_ok-children-in-Some.ensures.shown
     (over_children c.in_ok-children-in-Some.children.items c.requires c.take_children.ensures) in
     record { tree = shows.tree c.args.self.now.location; verdict = shows.verdict c.args.self.now.location; context = c.chosen_children.ensures.context; path = c.chosen_children.ensures.path }
 
 pub returns-in-None : goal.returns-in-None
 returns-in-None g c =
-    let shows =
-    shows_none g.N.Show.tree g.N.Means.means c.args.ctx.now.answer (data_of c.args.node) c.args.path.now
+    let shows = shows_none g.N.Show.tree g.N.Means.means c.args.ctx.now.answer (data_of c.args.node) c.args.path.now
     (chosen_nodes (named c.args.self.now.dependencies) (data_of c.args.node)) (none_chosen (data_of c.args.node) c.in-None.ensures (named c.args.self.now.dependencies)) c.requires in
     record { tree = shows.tree c.args.self.now.location; verdict = shows.verdict c.args.self.now.location; context = only_same c.args.ctx.now; path = refl }
 
