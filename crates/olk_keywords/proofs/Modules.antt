@@ -218,7 +218,8 @@ module _ {K R N : Type 0} (o : Kit K R) (answers : N → Answers) where
       -- there are as many nodes as branches
       pub branches_counted : reads_of x ≡ Branches → length p.nodes.items ≡ length (items_of_array d)
       branches_counted r =
-          stand_length p.nodes.items (numbered (items_of_array d)) (P // k) (subst (λ y. StandAt o answers y p.nodes.items d (P // k)) (ap reads_of q ∙ r) stands.nodes) ∙ length-numbered (items_of_array d)
+          stand_length p.nodes.items (numbered (items_of_array d)) (P // k) (subst (λ y. StandAt o answers y p.nodes.items d (P // k)) (ap reads_of q ∙ r) stands.nodes)
+          ∙ length-numbered (items_of_array d)
 
       pub built_without_nodes : reads_of x ≡ Nothing → (ks : List (KeywordOver K R N)) → MakesMember o answers x p.location [] ks → (ms : Members) (Q : Path)
           → P // k ≡ Q // k → MemberIsBuilt o answers ms ks (k, d) Q a b

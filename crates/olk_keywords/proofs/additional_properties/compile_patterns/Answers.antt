@@ -8,13 +8,19 @@ use Rattle.olk_keywords.proofs.AdditionalProperties.{patterns_known, patterns_bu
 use Rattle.olk_keywords.proofs.additional_properties.compile_patterns.Goals as goal
 
 pub returns-in_default-clause-builds : goal.returns-in_default-clause-builds
-returns-in_default-clause-builds g c =
-    (no_neighbour (kit g.L.Leaf.Leaf g.M.Engine.RegexEngine) g.N.BuiltNode.answers (members_view c.args.parent.now.entries) c.args.ctx.now.place _ (codes "patternProperties") _ (sym c.in_default.ensures), tt)
+returns-in_default-clause-builds g c = (
+  no_neighbour (kit g.L.Leaf.Leaf g.M.Engine.RegexEngine) g.N.BuiltNode.answers (members_view c.args.parent.now.entries) c.args.ctx.now.place _ (codes "patternProperties") _
+      (sym c.in_default.ensures),
+  tt,
+)
 
 pub returns-in_err-location : goal.returns-in_err-location
 returns-in_err-location g c = record {
-  builds = neighbour_left (kit g.L.Leaf.Leaf g.M.Engine.RegexEngine) g.N.BuiltNode.answers (members_view c.args.parent.now.entries) c.args.ctx.now.place _ (known_of (members_view c.args.parent.now.entries)) (codes "patternProperties")
-      (view c.in-Some.value.now) _ _ _ _ c.from_residual.ensures.1 (patterns_known (kit g.L.Leaf.Leaf g.M.Engine.RegexEngine) g.N.BuiltNode.answers (members_view c.args.parent.now.entries) c.args.ctx.now.place) (sym c.in-Some.ensures) c.in_err-location.ensures.refused;
+  builds = neighbour_left (kit g.L.Leaf.Leaf g.M.Engine.RegexEngine) g.N.BuiltNode.answers (members_view c.args.parent.now.entries) c.args.ctx.now.place _
+      (known_of (members_view c.args.parent.now.entries)) (codes "patternProperties")
+      (view c.in-Some.value.now) _ _ _ _ c.from_residual.ensures.1
+      (patterns_known (kit g.L.Leaf.Leaf g.M.Engine.RegexEngine) g.N.BuiltNode.answers (members_view c.args.parent.now.entries) c.args.ctx.now.place)
+      (sym c.in-Some.ensures) c.in_err-location.ensures.refused;
   place = c.compile_member.ensures.place;
   same_meter = c.compile_member.ensures.same_meter;
 }

@@ -13,8 +13,11 @@ returns-in_default-clause-builds g c =
 
 pub returns-in_err-shape : goal.returns-in_err-shape
 returns-in_err-shape g c = record {
-  builds = neighbour_left (kit g.L.Leaf.Leaf g.M.Engine.RegexEngine) g.N.BuiltNode.answers (members_view c.args.parent.now.entries) c.args.ctx.now.place _ (known_of (members_view c.args.parent.now.entries)) (codes "properties")
-      (view c.in-Some.value.now) _ _ _ _ c.from_residual.ensures.1 (declared_known (kit g.L.Leaf.Leaf g.M.Engine.RegexEngine) g.N.BuiltNode.answers (members_view c.args.parent.now.entries) c.args.ctx.now.place) (sym c.in-Some.ensures) c.in_err-shape.ensures.refused;
+  builds = neighbour_left (kit g.L.Leaf.Leaf g.M.Engine.RegexEngine) g.N.BuiltNode.answers (members_view c.args.parent.now.entries) c.args.ctx.now.place _
+      (known_of (members_view c.args.parent.now.entries)) (codes "properties")
+      (view c.in-Some.value.now) _ _ _ _ c.from_residual.ensures.1
+      (declared_known (kit g.L.Leaf.Leaf g.M.Engine.RegexEngine) g.N.BuiltNode.answers (members_view c.args.parent.now.entries) c.args.ctx.now.place)
+      (sym c.in-Some.ensures) c.in_err-shape.ensures.refused;
   place = c.compile_member.ensures.place;
   same_meter = c.compile_member.ensures.same_meter;
 }
