@@ -7,12 +7,12 @@ use Rattle.serde_json.specs.Data.{Data, null, boolean, number, string, array, ob
 use Rattle.serde_json.specs.Written.{has_float, members_have_float}
 use Rattle.olk_spec.specs.Names.{Name, Path, ◌//◌, down, filter_once, put_if, is_empty, lookup_name}
 use Rattle.olk_spec.specs.World.{World}
-use Rattle.olk_spec.specs.Vocabulary.{Keyword, properties, pattern_properties, additional_properties, property_names, required, dependent_required, dependent_schemas, dependencies, property_dependencies, all_of, any_of, one_of, not_keyword, if_keyword, then_keyword, else_keyword, unsupported, leaf, unread, keyword_named}
+use Rattle.olk_spec.specs.Vocabulary.{Keyword, properties, pattern_properties, additional_properties, property_names, required, dependent_required, dependent_schemas, dependencies, property_dependencies, all_of, any_of, one_of, not_keyword, if_keyword, leaf, keyword_named}
 use Rattle.olk_spec.specs.Schemas.{keywords, Part, Keywords, members, listed, has, is_object, is_array, is_truth, texts, names, names_at, entries_at, wholes_at, branches, read_members}
 use Rattle.olk_spec.specs.Meanings.{Meaning, Subschema, holds, applied, additional, is_declared, matches, matching}
 use Rattle.olk_spec.specs.Meaning.{meaning_step, meaning, report, tree, IsReport}
 use Rattle.olk_spec.specs.Accepts.{missing, due, accepting}
-use Rattle.olk_spec.specs.Faults.{Fault, fault, Kind, AdditionalProperties, AnyOf, OneOfNotValid, OneOfMultipleValid, Not, Required, FalseSchema, PropertyNames, Leaf, SingleType, MultipleTypes, UniqueItems, Regex, Unsupported, LeafRefused, IsLike, like, IsLikeKind, itself, like_any_of, like_not_valid, like_multiple, like_names, ◌∼◌, like_empty, like_next, like_swap, like_through}
+use Rattle.olk_spec.specs.Faults.{Fault, fault, Kind, AdditionalProperties, AnyOf, OneOfNotValid, OneOfMultipleValid, Not, Required, FalseSchema, PropertyNames, Leaf, IsLike, like, IsLikeKind, itself, like_any_of, like_not_valid, like_multiple, like_names, ◌∼◌, like_empty, like_next, like_swap, like_through}
 use Rattle.olk_spec.specs.Reports.{fault_if, required_faults, unexpected_faults, wrapped, branch_faults, has_neighbour, own, keyword_report, cut, cut_kind}
 use Rattle.olk_spec.specs.Texts.{prints_fraction, kind_prints_fraction}
 use Rattle.olk_spec.specs.Tree.{Tree, node, leaf_node, Trees, no_tree, and_tree, Described, described, result_node, result, plain, erring, trees_from, errors, errors_of}

@@ -1,7 +1,7 @@
 -- Names that an object lacks, one by one.
 use Rattle.std.proofs.Common.{◌≡◌, Bool, true, false, not, ◌&&◌, List, [], ◌∷◌, ◌++◌, map, String, Global, string_bytes, refl, sym, ap, subst, ◌∙◌, None}
 use Rattle.std.specs.List.{flat_map}
-use Rattle.serde_json.specs.Data.{Data, object, Members, null, boolean, number, string, array}
+use Rattle.serde_json.specs.Data.{Data, object, Members}
 use Rattle.serde_json.specs.Find.{as_object}
 use Rattle.olk_spec.specs.Names.{Name, Path, put_if, is_empty}
 use Rattle.olk_spec.specs.Faults.{Fault, fault, Kind, Required, itself}

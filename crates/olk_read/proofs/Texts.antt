@@ -4,7 +4,7 @@ use Rattle.std.specs.declared.alloc.Global.{Global}
 use Rattle.std.proofs.Common.{refl, sym, ◌∙◌, ap, subst, arith, zero, suc, take_all, true≢false}
 use mathlib.Core.Path.{subst₂}
 use Rattle.std.proofs.lemmas.List.{append-nil, map-append, take_more}
-use Rattle.serde_json.specs.Data.{Data, null, boolean, number, string, array, object, Items, no_items, item}
+use Rattle.serde_json.specs.Data.{Data, string, Items, no_items, item}
 use Rattle.serde_json.specs.Find.{as_str}
 use Rattle.serde_json.specs.View.{view, items_view}
 use Rattle.serde_json.specs.declared.value.Value.{Value}
