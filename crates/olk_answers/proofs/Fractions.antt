@@ -7,7 +7,7 @@ use Rattle.serde_json.specs.Written.{has_float, items_have_float, members_have_f
 use Rattle.olk_spec.proofs.Walks.{neither}
 use Rattle.olk_spec.specs.Names.{Name, Path, ◌//◌, down, filter_once, put_if}
 use Rattle.olk_spec.specs.World.{World}
-use Rattle.olk_spec.specs.Vocabulary.{Keyword, properties, pattern_properties, additional_properties, property_names, required, dependent_required, dependent_schemas, dependencies, property_dependencies, all_of, any_of, one_of, not_keyword, if_keyword, then_keyword, else_keyword, unsupported, leaf, unread, keyword_named}
+use Rattle.olk_spec.specs.Vocabulary.{Keyword, properties, pattern_properties, additional_properties, property_names, required, dependent_required, dependent_schemas, dependencies, property_dependencies, all_of, any_of, one_of, not_keyword, if_keyword, then_keyword, else_keyword, unsupported, leaf, keyword_named}
 use Rattle.olk_spec.specs.Schemas.{Sub, Part, Keywords, is_object, is_array, is_present, texts, read_members}
 use Rattle.olk_spec.specs.Meanings.{is_conditional}
 use Rattle.olk_spec.specs.Asks.{open_patterns}
@@ -70,11 +70,7 @@ places_good k S p h not_keyword = (h.0, tt)
 places_good k S p h if_keyword = where_good k (is_conditional S) _ (h.0, tt)
 places_good k S p h then_keyword = where_good k (is_present S (codes "if")) _ (h.0, tt)
 places_good k S p h else_keyword = where_good k (is_present S (codes "if")) _ (h.0, tt)
-places_good k S p h required = tt
-places_good k S p h dependent_required = tt
-places_good k S p h unsupported = tt
-places_good k S p h leaf = tt
-places_good k S p h unread = tt
+places_good k S p h w = tt
 
 -- ---- a keyword itself
 
@@ -95,12 +91,8 @@ list_plain no_items h = tt
 list_plain (item d ds) h = let p = neither (has_float d) (items_have_float ds) h in (p.0, list_plain ds p.1)
 
 items_plain : (d : Data) → IsPlain d → Each IsPlain (items_of_array d)
-items_plain null h = tt
-items_plain (boolean b) h = tt
-items_plain (number n) h = tt
-items_plain (string s) h = tt
 items_plain (array ds) h = list_plain ds h
-items_plain (object ms) h = tt
+items_plain d h = tt
 
 not_text_prints : (d : Data) (P : Path) → IsPlain d → Each PrintsNone (not_a_text d P)
 not_text_prints d P h = Each-map PrintsNone (λ i. refusal (SingleType string_type) i P) _ (first_prints _ (Each-filter_once IsPlain (λ i. not (is_text i)) (items_of_array d) (items_plain d h)))
@@ -133,12 +125,7 @@ module _ (W : World) where
   own_prints k p P h one_of = put_prints _ _ h.0.0
   own_prints k p P h unsupported = (refl, tt)
   own_prints k p P h leaf = put_prints _ _ h.0.0
-  own_prints k p P h property_names = tt
-  own_prints k p P h not_keyword = tt
-  own_prints k p P h if_keyword = tt
-  own_prints k p P h then_keyword = tt
-  own_prints k p P h else_keyword = tt
-  own_prints k p P h unread = tt
+  own_prints k p P h w = tt
 
   keyword_prints : (S : Keywords Told) (k : Name) (p : Part Told) (P : Path) → GoodPart Good p → (w : Keyword) → Each PrintsNone (keyword_malformations W S k p P w)
   keyword_prints S k p P h w =

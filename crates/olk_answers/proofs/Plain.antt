@@ -7,12 +7,12 @@ use Rattle.serde_json.specs.Data.{Data, null, boolean, number, string, array, ob
 use Rattle.serde_json.specs.Written.{has_float, members_have_float}
 use Rattle.olk_spec.specs.Names.{Name, Path, ◌//◌, down, filter_once, put_if, is_empty, lookup_name}
 use Rattle.olk_spec.specs.World.{World}
-use Rattle.olk_spec.specs.Vocabulary.{Keyword, properties, pattern_properties, additional_properties, property_names, required, dependent_required, dependent_schemas, dependencies, property_dependencies, all_of, any_of, one_of, not_keyword, if_keyword, then_keyword, else_keyword, unsupported, leaf, unread, keyword_named}
+use Rattle.olk_spec.specs.Vocabulary.{Keyword, properties, pattern_properties, additional_properties, property_names, required, dependent_required, dependent_schemas, dependencies, property_dependencies, all_of, any_of, one_of, not_keyword, if_keyword, leaf, keyword_named}
 use Rattle.olk_spec.specs.Schemas.{keywords, Part, Keywords, members, listed, has, is_object, is_array, is_truth, texts, names, names_at, entries_at, wholes_at, branches, read_members}
 use Rattle.olk_spec.specs.Meanings.{Meaning, Subschema, holds, applied, additional, is_declared, matches, matching}
 use Rattle.olk_spec.specs.Meaning.{meaning_step, meaning, report, tree, IsReport}
 use Rattle.olk_spec.specs.Accepts.{missing, due, accepting}
-use Rattle.olk_spec.specs.Faults.{Fault, fault, Kind, AdditionalProperties, AnyOf, OneOfNotValid, OneOfMultipleValid, Not, Required, FalseSchema, PropertyNames, Leaf, SingleType, MultipleTypes, UniqueItems, Regex, Unsupported, LeafRefused, IsLike, like, IsLikeKind, itself, like_any_of, like_not_valid, like_multiple, like_names, ◌∼◌, like_empty, like_next, like_swap, like_through}
+use Rattle.olk_spec.specs.Faults.{Fault, fault, Kind, AdditionalProperties, AnyOf, OneOfNotValid, OneOfMultipleValid, Not, Required, FalseSchema, PropertyNames, Leaf, IsLike, like, IsLikeKind, itself, like_any_of, like_not_valid, like_multiple, like_names, ◌∼◌, like_empty, like_next, like_swap, like_through}
 use Rattle.olk_spec.specs.Reports.{fault_if, required_faults, unexpected_faults, wrapped, branch_faults, has_neighbour, own, keyword_report, cut, cut_kind}
 use Rattle.olk_spec.specs.Texts.{prints_fraction, kind_prints_fraction}
 use Rattle.olk_spec.specs.Tree.{Tree, node, leaf_node, Trees, no_tree, and_tree, Described, described, result_node, result, plain, erring, trees_from, errors, errors_of}
@@ -52,12 +52,8 @@ listed_plain no_members h = tt
 listed_plain (member n d ms) h = let p = neither (has_float d) (members_have_float ms) h in (p.0, listed_plain ms p.1)
 
 members_plain : (v : Data) → IsPlain v → Each (λ m. IsPlain m.1) (members v)
-members_plain null h = tt
-members_plain (boolean b) h = tt
-members_plain (number n) h = tt
-members_plain (string s) h = tt
-members_plain (array ds) h = tt
 members_plain (object ms) h = listed_plain ms h
+members_plain v h = tt
 
 -- ---- a keyword itself
 
@@ -131,16 +127,7 @@ module _ (W : World) (u : Bool) where
         (put_prints (nat_lt 1 (accepting p v)) (fault (OneOfMultipleValid (branch_faults p v (P // k) Q)) v Q (P // k)) fine)
     own_prints not_keyword = put_prints (holds p.whole v) (fault (Not p.whole.schema) v Q (P // k)) (rw (h.0.0, fine) refl)
     own_prints leaf = Each-map PrintsNone (λ t. fault (Leaf k t) v Q (P // k)) (W.faults k p.whole.schema v) (Each-any _ (λ t. refl) (W.faults k p.whole.schema v))
-    own_prints properties = tt
-    own_prints pattern_properties = tt
-    own_prints dependent_schemas = tt
-    own_prints property_dependencies = tt
-    own_prints all_of = tt
-    own_prints if_keyword = tt
-    own_prints then_keyword = tt
-    own_prints else_keyword = tt
-    own_prints unsupported = tt
-    own_prints unread = tt
+    own_prints w = tt
 
     keyword_prints : (w : Keyword) → Each PrintsNone (keyword_report W u S k p v P Q w)
     keyword_prints w =
@@ -273,10 +260,7 @@ module _ (W : World) (u : Bool) where
       child_plain not_keyword = (erring_plain (P // k) Q _ (own_prints S k p h v fine P Q not_keyword), tt)
       child_plain if_keyword = if_plain
       child_plain leaf = (own_told leaf, tt)
-      child_plain then_keyword = tt
-      child_plain else_keyword = tt
-      child_plain unsupported = tt
-      child_plain unread = tt
+      child_plain w = tt
 
   keywords_print : (S : Keywords Meaning) → GoodKeywords Good S → ReportsNone (meaning_step W u (keywords S))
   keywords_print S g v fine P Q =
@@ -331,20 +315,8 @@ mutual
   cut_kind_prints : (k : Kind) (v : Data) → kind_prints_fraction (cut_kind k) v ≡ kind_prints_fraction k v
   cut_kind_prints (AdditionalProperties []) v = refl
   cut_kind_prints (AdditionalProperties (n ∷ ns)) v = refl
-  cut_kind_prints (AnyOf c) v = refl
-  cut_kind_prints (OneOfNotValid c) v = refl
-  cut_kind_prints (OneOfMultipleValid c) v = refl
-  cut_kind_prints (Not d) v = refl
-  cut_kind_prints (Required n) v = refl
-  cut_kind_prints FalseSchema v = refl
   cut_kind_prints (PropertyNames f) v = cut_fault_prints f
-  cut_kind_prints (Leaf k t) v = refl
-  cut_kind_prints (SingleType t) v = refl
-  cut_kind_prints MultipleTypes v = refl
-  cut_kind_prints UniqueItems v = refl
-  cut_kind_prints Regex v = refl
-  cut_kind_prints (Unsupported k) v = refl
-  cut_kind_prints (LeafRefused k) v = refl
+  cut_kind_prints k v = refl
 
   cut_fault_prints : (f : Fault) → prints_fraction (cut f) ≡ prints_fraction f
   cut_fault_prints (fault k v Q P) = cut_kind_prints k v

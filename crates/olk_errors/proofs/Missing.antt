@@ -1,7 +1,7 @@
 -- Names that an object lacks, one by one.
 use Rattle.std.proofs.Common.{◌≡◌, Bool, true, false, not, ◌&&◌, List, [], ◌∷◌, ◌++◌, map, String, Global, string_bytes, refl, sym, ap, subst, ◌∙◌, None}
 use Rattle.std.specs.List.{flat_map}
-use Rattle.serde_json.specs.Data.{Data, object, Members, null, boolean, number, string, array}
+use Rattle.serde_json.specs.Data.{Data, object, Members}
 use Rattle.serde_json.specs.Find.{as_object}
 use Rattle.olk_spec.specs.Names.{Name, Path, put_if, is_empty}
 use Rattle.olk_spec.specs.Faults.{Fault, fault, Kind, Required, itself}
@@ -89,12 +89,8 @@ module _ (v : Data) (P Q : Path) (names : List (String Global)) where
 -- what is no object lacks nothing
 pub nothing_missing : (ns : List Name) (v : Data) → None ≡ as_object v → missing ns v ≡ []
 nothing_missing [] v e = refl
-nothing_missing (n ∷ ns) null e = nothing_missing ns null e
-nothing_missing (n ∷ ns) (boolean b) e = nothing_missing ns (boolean b) e
-nothing_missing (n ∷ ns) (number x) e = nothing_missing ns (number x) e
-nothing_missing (n ∷ ns) (string s) e = nothing_missing ns (string s) e
-nothing_missing (n ∷ ns) (array ds) e = nothing_missing ns (array ds) e
 nothing_missing (n ∷ ns) (object ms) e = cc
+nothing_missing (n ∷ ns) v e = nothing_missing ns v e
 
 -- ---- one name
 

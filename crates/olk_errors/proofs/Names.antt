@@ -6,7 +6,7 @@ use Rattle.olk_meaning.proofs.PropertyNames.{like_wrapped, ∼_wrapped}
 use Rattle.olk_errors.proofs.Own.{no_place}
 use Rattle.serde_json.specs.Data.{Data, Members, string, object}
 use Rattle.olk_spec.specs.Names.{Name, Path}
-use Rattle.olk_spec.specs.Faults.{Fault, fault, IsLike, like, ◌∼◌}
+use Rattle.olk_spec.specs.Faults.{Fault, fault, IsLike, ◌∼◌}
 use Rattle.olk_spec.specs.Schemas.{listed, members}
 use Rattle.olk_spec.specs.Reports.{wrapped, cut}
 use Rattle.olk_reports.specs.Errors.{fault_of}

@@ -97,9 +97,10 @@ module _ {R N : Type 0} (k : keyword.AdditionalProperties R N) (v : Data) (Q : P
 
   -- where this is the fault of these members
   module _ (xs : List (Name × Data)) (new : ErrorSink) {f g : Fault} (is : unexpected_faults (has_neighbours k) xs v k.location Q ≡ g ∷ []) (same : f ≡ g) {A : Type 0} where
-    pub told_on : {E : Type 0} (r : Result A E) → OnOk r (Takes old new f) → OnOk r (GoesOn old new (of_unexpected k xs v Q))
-    told_on r h = on_ok_weaker r (λ takes. takes_own (of_unexpected k xs v Q) (λ a. subst (Appends (held old) (held new)) (ap (λ e. e ∷ []) same ∙ sym is) a) takes) h
-
-    pub told_stop : (r : Result A Stop) → IfErr r (λ t. StopsBy t old new (λ e. e ≡ f)) → IfErr r (λ t. StopsBy t old new (λ e. e ∷ [] ≡ unexpected_faults (has_neighbours k) xs v k.location Q))
-    told_stop r h = IfErr-weaker r (λ t. StopsBy t old new (λ e. e ≡ f)) (λ t. StopsBy t old new (λ e. e ∷ [] ≡ unexpected_faults (has_neighbours k) xs v k.location Q))
-        (λ t s. stops_weaker (λ e at. ap (λ x. x ∷ []) (at ∙ same) ∙ sym is) s) h
+    pub told : (r : Result A Stop) → OnOk r (Takes old new f) → IfErr r (λ t. StopsBy t old new (λ e. e ≡ f))
+        → OnOk r (GoesOn old new (of_unexpected k xs v Q)) × IfErr r (λ t. StopsBy t old new (λ e. e ∷ [] ≡ unexpected_faults (has_neighbours k) xs v k.location Q))
+    told r on stop = (
+      on_ok_weaker r (λ takes. takes_own (of_unexpected k xs v Q) (λ a. subst (Appends (held old) (held new)) (ap (λ e. e ∷ []) same ∙ sym is) a) takes) on,
+      IfErr-weaker r (λ t. StopsBy t old new (λ e. e ≡ f)) (λ t. StopsBy t old new (λ e. e ∷ [] ≡ unexpected_faults (has_neighbours k) xs v k.location Q))
+          (λ t s. stops_weaker (λ e at. ap (λ x. x ∷ []) (at ∙ same) ∙ sym is) s) stop,
+    )

@@ -6,7 +6,7 @@ use Rattle.std.proofs.lemmas.List.{map-append}
 use Rattle.std.proofs.lemmas.Simd.{map-map}
 use Rattle.std.proofs.Math.Bool.{and_assoc, and-true, and_comm}
 use Rattle.olk_spec.proofs.Walks.{and_middle}
-use Rattle.serde_json.specs.Data.{Data, Members, object, null, boolean, number, string, array}
+use Rattle.serde_json.specs.Data.{Data, Members, object}
 use Rattle.serde_json.specs.Find.{as_object}
 use Rattle.olk_spec.specs.Names.{Name, Path, ◌//◌, filter_once, put_if, is_empty}
 use Rattle.olk_spec.specs.World.{Says}
@@ -25,7 +25,7 @@ use Rattle.olk_tree.specs.declared.additional_properties.AdditionalProperties as
 use Rattle.olk_tree.proofs.Members_met.{object_is}
 use Rattle.olk_reports.specs.Evaluations.{Shown, shown, node_at, tree_of}
 use Rattle.olk_reports.specs.declared.evaluation.EvaluationNode.{EvaluationNode}
-use Rattle.olk_evaluate.specs.Wanted.{Wanted, AreShown, wanted, refused, lacking_trees, trees_of}
+use Rattle.olk_evaluate.specs.Wanted.{Wanted, IsShown, AreShown, wanted, refused, lacking_trees, trees_of}
 use Rattle.olk_check.proofs.Together.{each_is_all}
 use Rattle.olk_evaluate.specs.Additional.{Collects, names_of, nodes_wanted, members_found, matches_shown, rest_annotation, named_faults, faults_without_rest, Completes}
 use Rattle.olk_evaluate.specs.declared.additional_members.Collected.{Collected}
@@ -267,17 +267,12 @@ module _ {R N : Type 0} (answers : R → Name → Says) (t : N → Bool → Data
       -- of v, which is that object
       module _ (v : Data) (is : Some ms ≡ as_object v) (lacks : AreShown (refused (lacking_trees names v (object ms) place Q)) (trees_of missing_child)) {s r : Shown}
           (same : s ≡ shown (list_all is_valid (trees_of all)) None [] (trees_of all)) (completes : Completes k (names_of c.additional.items) (listed ms) v s r) where
-        pub additional_like : IsLikeTree (tree_of_all v) (node_at k.location Q r)
-        additional_like =
+        pub additional_shown : (costs : R → Bool) → repeats (object ms) ≡ false
+            → IsShown (tree_of_all v, (additional_means answers costs m S v).accepts u && is_empty (missing names v)) (node_at k.location Q r)
+        additional_shown costs distinct =
             subst (λ w. AreShown (refused (lacking_trees names w (object ms) place Q)) (trees_of missing_child) → Completes k (names_of c.additional.items) (listed ms) w s r
-            → IsLikeTree (tree_of_all w) (node_at k.location Q r)) (object_is v ms is)
-            (λ l d. object_like l same d) lacks completes
-
-        pub additional_verdict : (costs : R → Bool) → repeats (object ms) ≡ false → is_valid (node_at k.location Q r) ≡ ((additional_means answers costs m S v).accepts u && is_empty (missing names v))
-        additional_verdict costs distinct =
-            subst (λ w. AreShown (refused (lacking_trees names w (object ms) place Q)) (trees_of missing_child) → Completes k (names_of c.additional.items) (listed ms) w s r
-            → is_valid (node_at k.location Q r) ≡ ((additional_means answers costs m S w).accepts u && is_empty (missing names w))) (object_is v ms is)
-            (λ l d. object_verdict l same d costs distinct) lacks completes
+            → IsShown (tree_of_all w, (additional_means answers costs m S w).accepts u && is_empty (missing names w)) (node_at k.location Q r)) (object_is v ms is)
+            (λ l d. record { like = object_like l same d; verdict = object_verdict l same d costs distinct }) lacks completes
 
 -- of what is no object
 module _ {R N : Type 0} (answers : R → Name → Says) (S : Sides R N) (u : Bool) (P M Q : Path) (names : List Name) (place : Path) (v : Data) (none : None ≡ as_object v) where
@@ -288,9 +283,13 @@ module _ {R N : Type 0} (answers : R → Name → Says) (S : Sides R N) (u : Boo
   none_missing = (λ i. filter_once (λ n. no_object v none i && not (has n v)) names) ∙ none_of_those (λ n. not (has n v)) names
 
   module _ {s : Shown} (h : s ≡ shown true None [] []) where
-    pub other_like : (declares has_patterns : Bool) (t : N → Data → Path → Tree) → IsLikeTree (additional_tree answers S u v Q declares has_patterns P M t lacking_here) (node_at P Q s)
-    other_like declares has_patterns t = subst (λ r. IsLikeTree (additional_tree answers S u v Q declares has_patterns P M t lacking_here) (node_at P Q r)) (sym h)
-        (subst (λ w. IsLikeTree w (node_at P Q (shown true None [] []))) (sym (nothing v none)) (refl, refl, refl, refl, tt, tt))
+    pub other_shown : (declares has_patterns : Bool) (t : N → Data → Path → Tree) (costs : R → Bool) (m : N → Data → Question)
+        → IsShown (additional_tree answers S u v Q declares has_patterns P M t lacking_here, (additional_means answers costs m S v).accepts u && is_empty (missing names v)) (node_at P Q s)
+    other_shown declares has_patterns t costs m = record {
+      like = subst (λ r. IsLikeTree (additional_tree answers S u v Q declares has_patterns P M t lacking_here) (node_at P Q r)) (sym h)
+          (subst (λ w. IsLikeTree w (node_at P Q (shown true None [] []))) (sym (nothing v none)) (refl, refl, refl, refl, tt, tt));
+      verdict = valid_shown P Q s true None [] [] h ∙ sym (λ i. accepted_all v none i && is_empty (none_missing i));
+    }
       where
         no_match : (b c : Bool) (w : Tree) → put_if (b && not c && false) w [] ≡ []
         no_match true true w = refl
@@ -305,20 +304,9 @@ module _ {R N : Type 0} (answers : R → Name → Says) (S : Sides R N) (u : Boo
         alone = λ i. result P Q None false [] (no_match has_patterns declares (node M Q true (Some []) [] no_tree) i ++ none_lacking i)
 
         nothing : (w : Data) → None ≡ as_object w → additional_tree answers S u w Q declares has_patterns P M t lacking_here ≡ plain P Q []
-        nothing null e = alone
-        nothing (boolean b) e = alone
-        nothing (number x) e = alone
-        nothing (string x) e = alone
-        nothing (array ds) e = alone
         nothing (object ms) e = cc
+        nothing w e = alone
 
-    pub other_verdict : (costs : R → Bool) (m : N → Data → Question) → is_valid (node_at P Q s) ≡ ((additional_means answers costs m S v).accepts u && is_empty (missing names v))
-    other_verdict costs m = valid_shown P Q s true None [] [] h ∙ sym (λ i. accepted_all v none i && is_empty (none_missing i))
-      where
         accepted_all : (w : Data) → None ≡ as_object w → (additional_means answers costs m S w).accepts u ≡ true
-        accepted_all null e = refl
-        accepted_all (boolean b) e = refl
-        accepted_all (number x) e = refl
-        accepted_all (string x) e = refl
-        accepted_all (array ds) e = refl
         accepted_all (object ms) e = cc
+        accepted_all w e = refl

@@ -9,7 +9,7 @@ use Rattle.olk_reports.specs.Evaluations.{Shown, shown, node_at}
 use Rattle.olk_tree.specs.Questions.{Question, some}
 use Rattle.olk_tree.specs.Shown.{branch_trees, any_of_tree}
 use Rattle.olk_reports.specs.declared.evaluation.EvaluationNode.{EvaluationNode}
-use Rattle.olk_evaluate.specs.Wanted.{Wanted, AreShown, wanted, each_wanted, trees_of}
+use Rattle.olk_evaluate.specs.Wanted.{Wanted, AreShown, IsShown, wanted, each_wanted, trees_of}
 use Rattle.olk_evaluate.proofs.Children.{trees_wanted, plain_like, plain_verdict, valid_shown, like_result, like_children, branches_wanted}
 
 -- ---- those of a list
@@ -67,34 +67,31 @@ module _ {N : Type 0} (t : N → Bool → Data → Path → Tree) (m : N → Dat
 
   module _ (cs : List Tree) {s : Shown} where
     -- where one accepts
-    pub accepting_like : AreShown (filter_once (λ w. w.1) wanted_here) cs → is_empty cs ≡ false → s ≡ shown (list_all is_valid cs) None [] cs
-        → IsLikeTree (any_of_tree (λ n. t n u) v Q accepts_here P ns) (node_at P Q s)
-    accepting_like h some e =
-        subst (λ b. IsLikeTree (cond b (result P Q None true [] (branch_trees (λ n. t n u) v Q ns)) (plain P Q (branch_trees (λ n. t n u) v Q (filter_once accepts_here ns))))
-        (node_at P Q s)) (sym (emptiness cs h ∙ some))
-        (plain_like P Q (filter_once (λ w. w.1) wanted_here) (branch_trees (λ n. t n u) v Q (filter_once accepts_here ns))
-        (ap trees_wanted accepting_wanted ∙ branches_wanted t m u v P Q (filter_once accepts_here ns)) h e)
-
-    pub accepting_verdict : AreShown (filter_once (λ w. w.1) wanted_here) cs → is_empty cs ≡ false → s ≡ shown (list_all is_valid cs) None [] cs
-        → is_valid (node_at P Q s) ≡ (some (λ n. m n v) ns).accepts u
-    accepting_verdict h some e = plain_verdict P Q (filter_once (λ w. w.1) wanted_here) true (those_pass (λ w. w.1) wanted_here) h e ∙ sym (some_accepts ns ∙ ap not (emptiness cs h ∙ some))
-
-    module _ (none : List Tree) where
-      -- where none accepts
-      pub refusing_like : AreShown (filter_once (λ w. w.1) wanted_here) none → is_empty none ≡ true → AreShown wanted_here cs → s ≡ shown false None [] cs
-          → IsLikeTree (any_of_tree (λ n. t n u) v Q accepts_here P ns) (node_at P Q s)
-      refusing_like a nobody all e =
-          let refused : is_empty (filter_once (λ w. w.1) wanted_here) ≡ true = as_many (filter_once (λ w. w.1) wanted_here) none a ∙ nobody in
+    pub accepting_shown : AreShown (filter_once (λ w. w.1) wanted_here) cs → is_empty cs ≡ false → s ≡ shown (list_all is_valid cs) None [] cs
+        → IsShown (any_of_tree (λ n. t n u) v Q accepts_here P ns, (some (λ n. m n v) ns).accepts u) (node_at P Q s)
+    accepting_shown h some e = record {
+      like =
           subst (λ b. IsLikeTree (cond b (result P Q None true [] (branch_trees (λ n. t n u) v Q ns)) (plain P Q (branch_trees (λ n. t n u) v Q (filter_once accepts_here ns))))
-          (node_at P Q s)) (sym (sym (map_emptiness (λ n. wanted t m u n v Q) (filter_once accepts_here ns)) ∙ ap is_empty (sym accepting_wanted) ∙ refused))
-          (subst (λ r. IsLikeTree (result P Q None true [] (branch_trees (λ n. t n u) v Q ns)) (node_at P Q r)) (sym e)
-          (subst (λ ts. IsLikeTree (result P Q None true [] ts) (node_at P Q (shown false None [] cs))) (branches_wanted t m u v P Q ns)
-          (like_result P Q false false None None [] [] (trees_from (trees_wanted wanted_here)) (trees_from cs) refl refl tt (like_children wanted_here cs all))))
+          (node_at P Q s)) (sym (emptiness cs h ∙ some))
+          (plain_like P Q (filter_once (λ w. w.1) wanted_here) (branch_trees (λ n. t n u) v Q (filter_once accepts_here ns))
+          (ap trees_wanted accepting_wanted ∙ branches_wanted t m u v P Q (filter_once accepts_here ns)) h e);
+      verdict = plain_verdict P Q (filter_once (λ w. w.1) wanted_here) true (those_pass (λ w. w.1) wanted_here) h e ∙ sym (some_accepts ns ∙ ap not (emptiness cs h ∙ some));
+    }
 
-      pub refusing_verdict : AreShown (filter_once (λ w. w.1) wanted_here) none → is_empty none ≡ true → s ≡ shown false None [] cs → is_valid (node_at P Q s) ≡ (some (λ n. m n v) ns).accepts u
-      refusing_verdict a nobody e =
-          valid_shown P Q s false None [] cs e ∙ sym (some_accepts ns ∙ ap not (sym (map_emptiness (λ n. wanted t m u n v Q) (filter_once accepts_here ns))
-          ∙ ap is_empty (sym accepting_wanted) ∙ as_many (filter_once (λ w. w.1) wanted_here) none a ∙ nobody))
+    -- where none accepts
+    pub refusing_shown : (none : List Tree) → AreShown (filter_once (λ w. w.1) wanted_here) none → is_empty none ≡ true → AreShown wanted_here cs → s ≡ shown false None [] cs
+        → IsShown (any_of_tree (λ n. t n u) v Q accepts_here P ns, (some (λ n. m n v) ns).accepts u) (node_at P Q s)
+    refusing_shown none a nobody all e =
+        let refused : is_empty (filter_once accepts_here ns) ≡ true = emptiness none a ∙ nobody in
+        record {
+          like =
+              subst (λ b. IsLikeTree (cond b (result P Q None true [] (branch_trees (λ n. t n u) v Q ns)) (plain P Q (branch_trees (λ n. t n u) v Q (filter_once accepts_here ns))))
+              (node_at P Q s)) (sym refused)
+              (subst (λ r. IsLikeTree (result P Q None true [] (branch_trees (λ n. t n u) v Q ns)) (node_at P Q r)) (sym e)
+              (subst (λ ts. IsLikeTree (result P Q None true [] ts) (node_at P Q (shown false None [] cs))) (branches_wanted t m u v P Q ns)
+              (like_result P Q false false None None [] [] (trees_from (trees_wanted wanted_here)) (trees_from cs) refl refl tt (like_children wanted_here cs all))));
+          verdict = valid_shown P Q s false None [] cs e ∙ sym (some_accepts ns ∙ ap not refused);
+        }
 
 -- whether a list of nodes is empty, by its length
 pub none_here : (xs : List EvaluationNode) (n : ℕ) → n ≡ length xs → true ≡ (n == 0) → is_empty (trees_of xs) ≡ true

@@ -144,20 +144,13 @@ module _ {N : Type 0} (t : N → Bool → Data → Path → Tree) (m : N → Dat
         every_wanted [] = refl
         every_wanted (n ∷ ns) = ap (λ b. (m n v).accepts u && b) (every_wanted ns)
 
-  -- where there is no branch
-  module _ {s : Shown} (none : ns ≡ []) (h : s ≡ shown true None [] []) where
-    none_wanted : AreShown (each_wanted t m u ns v Q) []
-    none_wanted = subst (λ l. AreShown (each_wanted t m u l v Q) []) (sym none) tt
-
-    pub no_child_like : IsLikeTree (plain P Q (branch_trees (λ n. t n u) v Q ns)) (node_at P Q s)
-    no_child_like = branches_like none_wanted h
-
-    pub no_child_verdict : is_valid (node_at P Q s) ≡ (every (λ n. m n v) ns).accepts u
-    no_child_verdict = branches_verdict none_wanted h
-
 module _ {N : Type 0} (t : N → Bool → Data → Path → Tree) (m : N → Data → Question) (u : Bool) (v : Data) (Q : Path) {s : Shown} where
   pub shows_each : (ns : List N) {cs : List Tree} → AreShown (each_wanted t m u ns v Q) cs → s ≡ shown (list_all is_valid cs) None [] cs → ShowsEach t m u ns v Q s
   shows_each ns h e = record { tree = λ P. branches_like t m u v P Q ns h e; verdict = λ P. branches_verdict t m u v P Q ns h e }
+
+  -- where there is no branch
+  pub shows_none : (ns : List N) → ns ≡ [] → s ≡ shown true None [] [] → ShowsEach t m u ns v Q s
+  shows_none ns none h = shows_each ns {cs = []} (subst (λ l. AreShown (each_wanted t m u l v Q) []) (sym none) tt) h
 
   pub shows_the_one : (n : N) → ShowsOne (wanted t m u n v Q) s → ShowsEach t m u (n ∷ []) v Q s
   shows_the_one n h = shows_each (n ∷ []) {cs = h.child ∷ []} (h.shown, tt) (h.is ∙ ap (λ b. shown b None [] (h.child ∷ [])) (sym (and-true (is_valid h.child))))
@@ -169,15 +162,15 @@ module _ {N : Type 0} (t : N → Bool → Data → Path → Tree) (m : N → Dat
 
   -- a child for each name of w, which is v
   module _ (v w : Data) (same : w ≡ v) {cs : List Tree} {s : Shown} (h : AreShown (names_wanted t m u n Q (members w)) cs) (e : s ≡ shown (list_all is_valid cs) None [] cs) where
-    pub names_like : IsLikeTree (plain P Q (name_trees (λ k. t k u) v Q n)) (node_at P Q s)
-    names_like =
-        plain_like P Q (names_wanted t m u n Q (members w)) (name_trees (λ k. t k u) v Q n)
-        (map-map (λ x. x.0) (λ x. wanted t m u n (string x.0) Q) (members w) ∙ ap (λ d. name_trees (λ k. t k u) d Q n) same) h e
-
-    pub names_verdict : is_valid (node_at P Q s) ≡ (every (λ x. m n (string x.0)) (members v)).accepts u
-    names_verdict =
-        plain_verdict P Q (names_wanted t m u n Q (members w)) ((every (λ x. m n (string x.0)) (members v)).accepts u)
-        (names_verdicts (members w) ∙ ap (λ d. (every (λ x. m n (string x.0)) (members d)).accepts u) same) h e
+    pub names_shown : IsShown (plain P Q (name_trees (λ k. t k u) v Q n), (every (λ x. m n (string x.0)) (members v)).accepts u) (node_at P Q s)
+    names_shown = record {
+      like =
+          plain_like P Q (names_wanted t m u n Q (members w)) (name_trees (λ k. t k u) v Q n)
+          (map-map (λ x. x.0) (λ x. wanted t m u n (string x.0) Q) (members w) ∙ ap (λ d. name_trees (λ k. t k u) d Q n) same) h e;
+      verdict =
+          plain_verdict P Q (names_wanted t m u n Q (members w)) ((every (λ x. m n (string x.0)) (members v)).accepts u)
+          (names_verdicts (members w) ∙ ap (λ d. (every (λ x. m n (string x.0)) (members d)).accepts u) same) h e;
+    }
 
   -- where there is no member
   pub no_name_shown : (v : Data) → members v ≡ [] → AreShown (names_wanted t m u n Q (members v)) []

@@ -21,7 +21,7 @@ use Rattle.olk_tree.proofs.Members_met.{means_nothing, object_is}
 use Rattle.olk_check.proofs.Missing.{lacks_nothing}
 use Rattle.olk_reports.specs.Evaluations.{Shown, shown, node_at, tree_of}
 use Rattle.olk_reports.specs.declared.evaluation.EvaluationNode.{EvaluationNode}
-use Rattle.olk_evaluate.specs.Wanted.{Wanted, AreShown, refused, lacking_trees, trees_of}
+use Rattle.olk_evaluate.specs.Wanted.{Wanted, IsShown, AreShown, refused, lacking_trees, trees_of}
 use Rattle.olk_evaluate.specs.Members.{HasMet, MeetsMore, wanted_at}
 use Rattle.olk_evaluate.specs.declared.properties.Met.{Met}
 use Rattle.olk_evaluate.proofs.Children.{trees_wanted, all_wanted, like_result, valid_shown, like_children, all_valid, all_wanted_valid}
@@ -150,18 +150,19 @@ module _ {N : Type 0} (t : N → Bool → Data → Path → Tree) (m : N → Dat
 
     module _ (P : Path) (v : Data) (ms : Members) (met : Met) {s : Shown} where
       -- the members' children alone
-      pub alone_like : Some ms ≡ as_object v → HasMet (wanted_at t m u Q) (members_declared es (listed ms)) met
-          → s ≡ shown (list_all is_valid (trees_of met.children.items)) (Some (names_in met)) [] (trees_of met.children.items) → IsLikeTree (properties_tree tree_at v Q P es []) (node_at P Q s)
-      alone_like o h e =
-          subst (λ w. IsLikeTree (properties_tree tree_at w Q P es []) (node_at P Q s)) (object_is v ms o)
-          (properties_like ms [] P (names_in met) (trees_of met.children.items) h.names (subst (λ ws. AreShown ws (trees_of met.children.items)) (sym (append-nil (wanted_in ms))) h.shown) e)
-
-      pub alone_verdict : Some ms ≡ as_object v → list_all is_valid (trees_of met.children.items) ≡ (properties_mean m es (object ms)).accepts u
-          → s ≡ shown (list_all is_valid (trees_of met.children.items)) (Some (names_in met)) [] (trees_of met.children.items) → is_valid (node_at P Q s) ≡ (properties_mean m es v).accepts u
-      alone_verdict o verdict e =
-          valid_shown P Q s (list_all is_valid (trees_of met.children.items)) (Some (names_in met)) [] (trees_of met.children.items) e
-          ∙ verdict
-          ∙ ap (λ w. (properties_mean m es w).accepts u) (object_is v ms o)
+      pub alone_shown : Some ms ≡ as_object v → HasMet (wanted_at t m u Q) (members_declared es (listed ms)) met
+          → list_all is_valid (trees_of met.children.items) ≡ (properties_mean m es (object ms)).accepts u
+          → s ≡ shown (list_all is_valid (trees_of met.children.items)) (Some (names_in met)) [] (trees_of met.children.items)
+          → IsShown (properties_tree tree_at v Q P es [], (properties_mean m es v).accepts u) (node_at P Q s)
+      alone_shown o h verdict e = record {
+        like =
+            subst (λ w. IsLikeTree (properties_tree tree_at w Q P es []) (node_at P Q s)) (object_is v ms o)
+            (properties_like ms [] P (names_in met) (trees_of met.children.items) h.names (subst (λ ws. AreShown ws (trees_of met.children.items)) (sym (append-nil (wanted_in ms))) h.shown) e);
+        verdict =
+            valid_shown P Q s (list_all is_valid (trees_of met.children.items)) (Some (names_in met)) [] (trees_of met.children.items) e
+            ∙ verdict
+            ∙ ap (λ w. (properties_mean m es w).accepts u) (object_is v ms o);
+      }
 
     refused_trees : (ts : List Tree) → trees_wanted (refused ts) ≡ ts
     refused_trees [] = refl
@@ -175,27 +176,25 @@ module _ {N : Type 0} (t : N → Bool → Data → Path → Tree) (m : N → Dat
       both_children children = ap trees_of children ∙ map-append tree_of met.children.items more
 
       -- the members' children, and one for names that are missing
-      pub beside_like : {s : Shown} → Some ms ≡ as_object v → HasMet (wanted_at t m u Q) (members_declared es (listed ms)) met → AreShown lacking (trees_of more)
+      pub beside_shown : {s : Shown} → Some ms ≡ as_object v → HasMet (wanted_at t m u Q) (members_declared es (listed ms)) met
+          → list_all is_valid (trees_of met.children.items) ≡ (properties_mean m es (object ms)).accepts u → AreShown lacking (trees_of more)
           → b.names.items ≡ met.names.items → b.children.items ≡ met.children.items ++ more
           → s ≡ shown (list_all is_valid (trees_of b.children.items)) (Some (names_in b)) [] (trees_of b.children.items)
-          → IsLikeTree (properties_tree tree_at v Q P es (missing_trees ns v required Q)) (node_at P Q s)
-      beside_like {s} o h k names children e =
-          subst (λ w. IsLikeTree (properties_tree tree_at w Q P es (lacking_trees ns v w required Q)) (node_at P Q s)) (object_is v ms o)
-          (subst (λ ts. IsLikeTree (properties_tree tree_at (object ms) Q P es ts) (node_at P Q s)) (refused_trees (lacking_trees ns v (object ms) required Q))
-          (properties_like ms lacking P (names_in b) (trees_of b.children.items) (ap (map (λ n. n.now)) names ∙ h.names)
-          (subst (AreShown (wanted_in ms ++ lacking)) (sym (both_children children)) (shown_append (wanted_in ms) lacking (trees_of met.children.items) (trees_of more) h.shown k)) e))
-
-      pub beside_verdict : {s : Shown} → Some ms ≡ as_object v → list_all is_valid (trees_of met.children.items) ≡ (properties_mean m es (object ms)).accepts u
-          → AreShown lacking (trees_of more) → b.children.items ≡ met.children.items ++ more
-          → s ≡ shown (list_all is_valid (trees_of b.children.items)) (Some (names_in b)) [] (trees_of b.children.items) → is_valid (node_at P Q s) ≡
-          (is_empty (missing ns v) && (properties_mean m es v).accepts u)
-      beside_verdict {s} o verdict k children e =
-          valid_shown P Q s (list_all is_valid (trees_of b.children.items)) (Some (names_in b)) [] (trees_of b.children.items) e
-          ∙ ap (list_all is_valid) (both_children children)
-          ∙ list_all-append is_valid (trees_of met.children.items) (trees_of more)
-          ∙ (λ i. verdict i && (all_valid lacking (trees_of more) k ∙ all_there ns v (object ms) required Q) i)
-          ∙ and_comm ((properties_mean m es (object ms)).accepts u) (is_empty (missing ns (object ms)))
-          ∙ ap (λ w. is_empty (missing ns w) && (properties_mean m es w).accepts u) (object_is v ms o)
+          → IsShown (properties_tree tree_at v Q P es (missing_trees ns v required Q), is_empty (missing ns v) && (properties_mean m es v).accepts u) (node_at P Q s)
+      beside_shown {s} o h verdict k names children e = record {
+        like =
+            subst (λ w. IsLikeTree (properties_tree tree_at w Q P es (lacking_trees ns v w required Q)) (node_at P Q s)) (object_is v ms o)
+            (subst (λ ts. IsLikeTree (properties_tree tree_at (object ms) Q P es ts) (node_at P Q s)) (refused_trees (lacking_trees ns v (object ms) required Q))
+            (properties_like ms lacking P (names_in b) (trees_of b.children.items) (ap (map (λ n. n.now)) names ∙ h.names)
+            (subst (AreShown (wanted_in ms ++ lacking)) (sym (both_children children)) (shown_append (wanted_in ms) lacking (trees_of met.children.items) (trees_of more) h.shown k)) e));
+        verdict =
+            valid_shown P Q s (list_all is_valid (trees_of b.children.items)) (Some (names_in b)) [] (trees_of b.children.items) e
+            ∙ ap (list_all is_valid) (both_children children)
+            ∙ list_all-append is_valid (trees_of met.children.items) (trees_of more)
+            ∙ (λ i. verdict i && (all_valid lacking (trees_of more) k ∙ all_there ns v (object ms) required Q) i)
+            ∙ and_comm ((properties_mean m es (object ms)).accepts u) (is_empty (missing ns (object ms)))
+            ∙ ap (λ w. is_empty (missing ns w) && (properties_mean m es w).accepts u) (object_is v ms o);
+      }
 
     pub nothing_missing : (P : Path) (v : Data) (ns : List Name) {s : Shown} → None ≡ as_object v → s ≡ shown true None [] [] → is_valid (node_at P Q s) ≡
         (is_empty (missing ns v) && (properties_mean m es v).accepts u)

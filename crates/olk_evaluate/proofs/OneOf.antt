@@ -6,7 +6,7 @@ use Rattle.std.proofs.lemmas.Bool.Decides.{nat_tests}
 use Rattle.std.proofs.Math.Bool.{and-true}
 use Rattle.serde_json.specs.Data.{Data}
 use Rattle.olk_spec.specs.Names.{Path, filter_once, put_if}
-use Rattle.olk_spec.specs.Tree.{Tree, trees_from, IsLikeTree, is_valid, result}
+use Rattle.olk_spec.specs.Tree.{Tree, trees_from, IsLikeTree, is_valid, plain, result}
 use Rattle.olk_reports.specs.Evaluations.{Shown, shown, node_at, tree_of}
 use Rattle.olk_reports.specs.declared.evaluation.EvaluationNode.{EvaluationNode}
 use Rattle.olk_tree.specs.Questions.{Question, how_many}
@@ -54,34 +54,34 @@ module _ {N : Type 0} (t : N → Bool → Data → Path → Tree) (m : N → Dat
 
     module _ {s : Shown} where
       -- where one accepts
-      pub one_like : length cs ≡ 1 → s ≡ shown (list_all is_valid cs) None [] cs → IsLikeTree tree_here (node_at P Q s)
-      one_like one e =
-          subst (λ w. IsLikeTree w (node_at P Q s)) (sym (ap tree_of_count (count_shown ∙ one)))
-          (plain_like P Q (filter_once (λ w. w.1) wanted_here) (branch_trees (λ k. t k u) v Q acceptors) acceptors_wanted h e)
-
-      pub one_verdict : length cs ≡ 1 → s ≡ shown (list_all is_valid cs) None [] cs → is_valid (node_at P Q s) ≡ (how_many (λ k. m k v) u ns == 1)
-      one_verdict one e = plain_verdict P Q (filter_once (λ w. w.1) wanted_here) true (those_pass (λ w. w.1) wanted_here) h e ∙ sym (ap (λ n. n == 1) (count_shown ∙ one))
+      pub one_accepting : length cs ≡ 1 → s ≡ shown (list_all is_valid cs) None [] cs → IsShown (tree_here, how_many (λ k. m k v) u ns == 1) (node_at P Q s)
+      one_accepting one e = record {
+        like =
+            subst (λ w. IsLikeTree w (node_at P Q s)) (sym (ap tree_of_count (count_shown ∙ one)))
+            (plain_like P Q (filter_once (λ w. w.1) wanted_here) (branch_trees (λ k. t k u) v Q acceptors) acceptors_wanted h e);
+        verdict = plain_verdict P Q (filter_once (λ w. w.1) wanted_here) true (those_pass (λ w. w.1) wanted_here) h e ∙ sym (ap (λ n. n == 1) (count_shown ∙ one));
+      }
 
       -- where several accept
-      pub several_like : 1 < length cs → s ≡ shown false None (several_accept ∷ []) cs → IsLikeTree tree_here (node_at P Q s)
-      several_like more e = subst (λ w. IsLikeTree w (node_at P Q s)) (sym (several_shown more))
-          (subst (λ r. IsLikeTree (result P Q None false (several_accept ∷ []) (branch_trees (λ k. t k u) v Q acceptors)) (node_at P Q r)) (sym e)
-          (subst (λ ts. IsLikeTree (result P Q None false (several_accept ∷ []) ts) (node_at P Q (shown false None (several_accept ∷ []) cs))) acceptors_wanted
-          (like_result P Q false false None None (several_accept ∷ []) (several_accept ∷ []) (trees_from (trees_wanted (filter_once (λ w. w.1) wanted_here))) (trees_from cs) refl refl (refl, (λ q. refl), tt) (like_children (filter_once (λ w. w.1) wanted_here) cs h))))
-
-      pub several_verdict : 1 < length cs → s ≡ shown false None (several_accept ∷ []) cs → is_valid (node_at P Q s) ≡ (how_many (λ k. m k v) u ns == 1)
-      several_verdict more e = valid_shown P Q s false None (several_accept ∷ []) cs e ∙ sym (ap (λ n. n == 1) count_shown ∙ several_is_not_one (length cs) more)
+      pub several_accepting : 1 < length cs → s ≡ shown false None (several_accept ∷ []) cs → IsShown (tree_here, how_many (λ k. m k v) u ns == 1) (node_at P Q s)
+      several_accepting more e = record {
+        like = subst (λ w. IsLikeTree w (node_at P Q s)) (sym (several_shown more))
+            (subst (λ r. IsLikeTree (result P Q None false (several_accept ∷ []) (branch_trees (λ k. t k u) v Q acceptors)) (node_at P Q r)) (sym e)
+            (subst (λ ts. IsLikeTree (result P Q None false (several_accept ∷ []) ts) (node_at P Q (shown false None (several_accept ∷ []) cs))) acceptors_wanted
+            (like_result P Q false false None None (several_accept ∷ []) (several_accept ∷ []) (trees_from (trees_wanted (filter_once (λ w. w.1) wanted_here))) (trees_from cs) refl refl
+            (refl, (λ q. refl), tt) (like_children (filter_once (λ w. w.1) wanted_here) cs h))));
+        verdict = valid_shown P Q s false None (several_accept ∷ []) cs e ∙ sym (ap (λ n. n == 1) count_shown ∙ several_is_not_one (length cs) more);
+      }
 
       -- where none accepts, and all are shown
-      module _ (all : List Tree) (nobody : length cs ≡ 0) (e : s ≡ shown false None [] all) where
-        pub none_like : AreShown wanted_here all → IsLikeTree tree_here (node_at P Q s)
-        none_like each = subst (λ w. IsLikeTree w (node_at P Q s)) (sym (ap tree_of_count (count_shown ∙ nobody)))
+      pub none_accepting : (all : List Tree) → length cs ≡ 0 → s ≡ shown false None [] all → AreShown wanted_here all → IsShown (tree_here, how_many (λ k. m k v) u ns == 1) (node_at P Q s)
+      none_accepting all nobody e each = record {
+        like = subst (λ w. IsLikeTree w (node_at P Q s)) (sym (ap tree_of_count (count_shown ∙ nobody)))
             (subst (λ r. IsLikeTree (result P Q None true [] (branch_trees (λ k. t k u) v Q ns)) (node_at P Q r)) (sym e)
             (subst (λ ts. IsLikeTree (result P Q None true [] ts) (node_at P Q (shown false None [] all))) (branches_wanted t m u v P Q ns)
-            (like_result P Q false false None None [] [] (trees_from (trees_wanted wanted_here)) (trees_from all) refl refl tt (like_children wanted_here all each))))
-
-        pub none_verdict : is_valid (node_at P Q s) ≡ (how_many (λ k. m k v) u ns == 1)
-        none_verdict = valid_shown P Q s false None [] all e ∙ sym (ap (λ n. n == 1) (count_shown ∙ nobody))
+            (like_result P Q false false None None [] [] (trees_from (trees_wanted wanted_here)) (trees_from all) refl refl tt (like_children wanted_here all each))));
+        verdict = valid_shown P Q s false None [] all e ∙ sym (ap (λ n. n == 1) (count_shown ∙ nobody));
+      }
 
 -- how many nodes there are, by their length
 module _ (xs : List EvaluationNode) (n : ℕ) (len : n ≡ length xs) where
@@ -97,21 +97,22 @@ module _ (xs : List EvaluationNode) (n : ℕ) (len : n ≡ length xs) where
 -- one branch alone
 module _ {N : Type 0} (t : N → Bool → Data → Path → Tree) (m : N → Data → Question) (u : Bool) (v : Data) (P Q : Path) (n : N) {c : Tree} {s : Shown}
     (h : IsShown (wanted t m u n v Q) c) (e : s ≡ shown (is_valid c) None [] (c ∷ [])) where
-  pub single_like : IsLikeTree (one_of_tree (λ k. t k u) v Q (λ k. (m k v).accepts u) P (n ∷ [])) (node_at P Q s)
-  single_like = subst (λ r. IsLikeTree (one_of_tree (λ k. t k u) v Q (λ k. (m k v).accepts u) P (n ∷ [])) (node_at P Q r)) (sym e) (by ((m n v).accepts u) h.verdict)
+  single_shown : (tree : Bool → Tree) → tree true ≡ plain P Q (t n u v Q ∷ []) → tree false ≡ result P Q None true [] (t n u v Q ∷ [])
+      → IsShown (tree ((m n v).accepts u), (m n v).accepts u) (node_at P Q s)
+  single_shown tree accepted refused = record {
+    like = subst (λ r. IsLikeTree (tree ((m n v).accepts u)) (node_at P Q r)) (sym e) (by ((m n v).accepts u) h.verdict);
+    verdict = valid_shown P Q s (is_valid c) None [] (c ∷ []) e ∙ h.verdict;
+  }
     where
-      by : (b : Bool) → is_valid c ≡ b → IsLikeTree (one_of_tree (λ k. t k u) v Q (λ k. b) P (n ∷ [])) (node_at P Q (shown (is_valid c) None [] (c ∷ [])))
-      by true valid = like_result P Q (is_valid (t n u v Q) && true) (is_valid c) None None [] [] (trees_from (t n u v Q ∷ [])) (trees_from (c ∷ []))
-          (sym (and-true (is_valid c)) ∙ all_wanted_valid (wanted t m u n v Q ∷ []) (c ∷ []) (h, tt)) refl tt (h.like, tt)
-      by false valid = like_result P Q false (is_valid c) None None [] [] (trees_from (t n u v Q ∷ [])) (trees_from (c ∷ [])) valid refl tt (h.like, tt)
+      by : (b : Bool) → is_valid c ≡ b → IsLikeTree (tree b) (node_at P Q (shown (is_valid c) None [] (c ∷ [])))
+      by true valid = subst (λ w. IsLikeTree w (node_at P Q (shown (is_valid c) None [] (c ∷ [])))) (sym accepted)
+          (like_result P Q (is_valid (t n u v Q) && true) (is_valid c) None None [] [] (trees_from (t n u v Q ∷ [])) (trees_from (c ∷ []))
+          (sym (and-true (is_valid c)) ∙ all_wanted_valid (wanted t m u n v Q ∷ []) (c ∷ []) (h, tt)) refl tt (h.like, tt))
+      by false valid = subst (λ w. IsLikeTree w (node_at P Q (shown (is_valid c) None [] (c ∷ [])))) (sym refused)
+          (like_result P Q false (is_valid c) None None [] [] (trees_from (t n u v Q ∷ [])) (trees_from (c ∷ [])) valid refl tt (h.like, tt))
 
-  pub any_like : IsLikeTree (any_of_tree (λ k. t k u) v Q (λ k. (m k v).accepts u) P (n ∷ [])) (node_at P Q s)
-  any_like = subst (λ r. IsLikeTree (any_of_tree (λ k. t k u) v Q (λ k. (m k v).accepts u) P (n ∷ [])) (node_at P Q r)) (sym e) (by ((m n v).accepts u) h.verdict)
-    where
-      by : (b : Bool) → is_valid c ≡ b → IsLikeTree (any_of_tree (λ k. t k u) v Q (λ k. b) P (n ∷ [])) (node_at P Q (shown (is_valid c) None [] (c ∷ [])))
-      by true valid = like_result P Q (is_valid (t n u v Q) && true) (is_valid c) None None [] [] (trees_from (t n u v Q ∷ [])) (trees_from (c ∷ []))
-          (sym (and-true (is_valid c)) ∙ all_wanted_valid (wanted t m u n v Q ∷ []) (c ∷ []) (h, tt)) refl tt (h.like, tt)
-      by false valid = like_result P Q false (is_valid c) None None [] [] (trees_from (t n u v Q ∷ [])) (trees_from (c ∷ [])) valid refl tt (h.like, tt)
+  pub one_of_shown : IsShown (one_of_tree (λ k. t k u) v Q (λ k. (m k v).accepts u) P (n ∷ []), (m n v).accepts u) (node_at P Q s)
+  one_of_shown = single_shown (λ b. one_of_tree (λ k. t k u) v Q (λ k. b) P (n ∷ [])) refl refl
 
-  pub single_verdict : is_valid (node_at P Q s) ≡ (m n v).accepts u
-  single_verdict = valid_shown P Q s (is_valid c) None [] (c ∷ []) e ∙ h.verdict
+  pub any_of_shown : IsShown (any_of_tree (λ k. t k u) v Q (λ k. (m k v).accepts u) P (n ∷ []), (m n v).accepts u) (node_at P Q s)
+  any_of_shown = single_shown (λ b. any_of_tree (λ k. t k u) v Q (λ k. b) P (n ∷ [])) refl refl

@@ -5,7 +5,7 @@ use Rattle.std.specs.List.{flat_map, list_all}
 use Rattle.std.proofs.lemmas.List.{append-nil, map-append}
 use Rattle.std.proofs.lemmas.Grind.{flat_map-append}
 use Rattle.std.proofs.Math.Bool.{and-true}
-use Rattle.serde_json.specs.Data.{Data, Members, null, boolean, number, string, array, object}
+use Rattle.serde_json.specs.Data.{Data, Members, object}
 use Rattle.serde_json.specs.Find.{as_object}
 use Rattle.olk_spec.specs.Names.{Name, Path, ◌//◌, filter_once, put_if}
 use Rattle.olk_spec.specs.World.{Says}
@@ -84,12 +84,8 @@ module _ {X N : Type 0} {want : Bool → Path → Declared N → Wanted} {g : Bo
 -- ---- the tree
 
 pub no_object : (v : Data) → None ≡ as_object v → is_object v ≡ false
-no_object null e = refl
-no_object (boolean b) e = refl
-no_object (number x) e = refl
-no_object (string s) e = refl
-no_object (array ds) e = refl
 no_object (object ms) e = cc
+no_object v e = refl
 
 module _ {R N : Type 0} (answers : R → Name → Says) (t : N → Bool → Data → Path → Tree) (m : N → Data → Question) (u : Bool) (Q : Path) where
   -- a member, if the pattern matches its name, one after the other
@@ -149,13 +145,13 @@ module _ {R N : Type 0} (answers : R → Name → Says) (t : N → Bool → Data
           nothing_each [] = refl
           nothing_each (x ∷ xs) = nothing_each xs
 
-      pub other_like : (P : Path) → IsLikeTree (patterns_tree (λ n. t n u) v Q answers u P es) (node_at P Q s)
-      other_like P = subst (λ r. IsLikeTree (patterns_tree (λ n. t n u) v Q answers u P es) (node_at P Q r)) (sym h)
-          (subst (λ w. IsLikeTree w (node_at P Q (shown true None [] [])))
-          (λ i. result P Q (cond (sym (no_object v none) i) (Some (match_names (λ n. t n u) v Q answers u es)) None) false [] (sym no_trees i)) (refl, refl, refl, refl, tt, tt))
-
-      pub other_verdict : (costs : R → Bool) (P : Path) → is_valid (node_at P Q s) ≡ (patterns_mean answers costs m es v).accepts u
-      other_verdict costs P = valid_shown P Q s true None [] [] h ∙ sym (ap (λ q. q.accepts u) (patterns_nothing answers v none costs m es))
+      pub other_shown : (costs : R → Bool) (P : Path) → IsShown (patterns_tree (λ n. t n u) v Q answers u P es, (patterns_mean answers costs m es v).accepts u) (node_at P Q s)
+      other_shown costs P = record {
+        like = subst (λ r. IsLikeTree (patterns_tree (λ n. t n u) v Q answers u P es) (node_at P Q r)) (sym h)
+            (subst (λ w. IsLikeTree w (node_at P Q (shown true None [] [])))
+            (λ i. result P Q (cond (sym (no_object v none) i) (Some (match_names (λ n. t n u) v Q answers u es)) None) false [] (sym no_trees i)) (refl, refl, refl, refl, tt, tt));
+        verdict = valid_shown P Q s true None [] [] h ∙ sym (ap (λ q. q.accepts u) (patterns_nothing answers v none costs m es));
+      }
 
     -- of an object
     module _ (v : Data) (ms : Members) (is : Some ms ≡ as_object v) (empty met : Met) (none : empty.names.items ≡ []) (no_child : empty.children.items ≡ [])
@@ -170,24 +166,24 @@ module _ {R N : Type 0} (answers : R → Name → Says) (t : N → Bool → Data
       children_shown : AreShown wants (trees_of met.children.items)
       children_shown = subst (AreShown wants) (sym (h.children ∙ ap (λ l. trees_of l ++ h.added) no_child)) h.shown
 
-      pub patterns_like : (P : Path) → IsLikeTree (patterns_tree (λ n. t n u) v Q answers u P es) (node_at P Q s)
-      patterns_like P =
-          subst (λ w. IsLikeTree (patterns_tree (λ n. t n u) w Q answers u P es) (node_at P Q s)) (object_is v ms is)
-          (subst (λ r. IsLikeTree (patterns_tree (λ n. t n u) (object ms) Q answers u P es) (node_at P Q r)) (sym e)
-          (like_result P Q (list_all is_valid (match_trees (λ n. t n u) (object ms) Q answers u es)) (list_all is_valid (trees_of met.children.items))
-          (Some (match_names (λ n. t n u) (object ms) Q answers u es)) (Some (names_in met)) [] []
-          (trees_from (match_trees (λ n. t n u) (object ms) Q answers u es)) (trees_from (trees_of met.children.items))
-          (all_wanted_valid wants (trees_of met.children.items) children_shown ∙ ap (list_all is_valid) (trees_of_all (object ms) es))
-          (ap Some names_met) tt
-          (subst (λ ts. AreLikeTrees (trees_from ts) (trees_from (trees_of met.children.items))) (trees_of_all (object ms) es) (like_children wants (trees_of met.children.items) children_shown))))
-
-      pub patterns_verdict : (costs : R → Bool) (P : Path) → is_valid (node_at P Q s) ≡ (patterns_mean answers costs m es v).accepts u
-      patterns_verdict costs P =
-          valid_shown P Q s (list_all is_valid (trees_of met.children.items)) (Some (names_in met)) [] (trees_of met.children.items) e
-          ∙ all_valid wants (trees_of met.children.items) children_shown
-          ∙ wanted_each t m u Q (matches_of_all answers u es (object ms))
-          ∙ patterns_accepted (object ms) costs es
-          ∙ ap (λ w. (patterns_mean answers costs m es w).accepts u) (object_is v ms is)
+      pub patterns_shown : (costs : R → Bool) (P : Path) → IsShown (patterns_tree (λ n. t n u) v Q answers u P es, (patterns_mean answers costs m es v).accepts u) (node_at P Q s)
+      patterns_shown costs P = record {
+        like =
+            subst (λ w. IsLikeTree (patterns_tree (λ n. t n u) w Q answers u P es) (node_at P Q s)) (object_is v ms is)
+            (subst (λ r. IsLikeTree (patterns_tree (λ n. t n u) (object ms) Q answers u P es) (node_at P Q r)) (sym e)
+            (like_result P Q (list_all is_valid (match_trees (λ n. t n u) (object ms) Q answers u es)) (list_all is_valid (trees_of met.children.items))
+            (Some (match_names (λ n. t n u) (object ms) Q answers u es)) (Some (names_in met)) [] []
+            (trees_from (match_trees (λ n. t n u) (object ms) Q answers u es)) (trees_from (trees_of met.children.items))
+            (all_wanted_valid wants (trees_of met.children.items) children_shown ∙ ap (list_all is_valid) (trees_of_all (object ms) es))
+            (ap Some names_met) tt
+            (subst (λ ts. AreLikeTrees (trees_from ts) (trees_from (trees_of met.children.items))) (trees_of_all (object ms) es) (like_children wants (trees_of met.children.items) children_shown))));
+        verdict =
+            valid_shown P Q s (list_all is_valid (trees_of met.children.items)) (Some (names_in met)) [] (trees_of met.children.items) e
+            ∙ all_valid wants (trees_of met.children.items) children_shown
+            ∙ wanted_each t m u Q (matches_of_all answers u es (object ms))
+            ∙ patterns_accepted (object ms) costs es
+            ∙ ap (λ w. (patterns_mean answers costs m es w).accepts u) (object_is v ms is);
+      }
 
 -- ---- one pattern
 

@@ -1,7 +1,7 @@
 -- Building `additionalProperties`, `properties` and `patternProperties`.
 use Rattle.std.specs.Prelude.{◌≡◌, true, false, List, [], ◌∷◌, ◌++◌, zip, length, codes, Option, Some, None, is_some, option_map, Vec}
 use Rattle.std.specs.declared.alloc.Global.{Global}
-use Rattle.std.proofs.Common.{refl, sym, ◌∙◌, ap, subst, arith}
+use Rattle.std.proofs.Common.{refl, sym, ◌∙◌, ap, subst}
 use Rattle.std.proofs.lemmas.List.{length-map}
 use mathlib.Core.Bool.{true≢false}
 use Rattle.serde_json.specs.Data.{Data, Members}
@@ -33,8 +33,18 @@ use Rattle.olk_make.specs.declared.part.Part.{Part}
 use Rattle.olk_make.specs.declared.part.Patterns.{Patterns}
 use Rattle.olk_build.specs.Placing.{PartsAreBuilt, IsPart}
 use Rattle.olk_keywords.specs.Together.{restriction_members, NeighbourIsBuilt, TogetherAreBuilt}
-use Rattle.olk_keywords.proofs.Modules.{number_of, which_of, shape_named, only_properties, only_pattern_properties, zip_length}
+use Rattle.olk_keywords.proofs.Modules.{which_of, shape_named, only_properties, only_pattern_properties, zip_length}
 use Rattle.olk_keywords.proofs.Together.{neighbour_built, all_clean, all_spent}
+
+-- a neighbour that is built at a place is built at the same place under another name
+module _ {K R N : Type 0} {o : Kit K R} {answers : N → Answers} {ms : Members} {P Q : Path} {a b : Counts} (place : Q ≡ P) where
+  pub declared_there : {x : Option (SmallMap N)} → NeighbourIsBuilt o ms (λ m. DeclaredStand o answers m (Q // codes "properties")) x (codes "properties") Q a b
+      → NeighbourIsBuilt o ms (λ m. DeclaredStand o answers m (P // codes "properties")) x (codes "properties") P a b
+  declared_there {x} = subst (λ W. NeighbourIsBuilt o ms (λ m. DeclaredStand o answers m (W // codes "properties")) x (codes "properties") W a b) place
+
+  pub patterns_there : {x : Option (Patterns R N)} → NeighbourIsBuilt o ms (λ m. PatternsStand o answers (known_of ms) m (Q // codes "patternProperties")) x (codes "patternProperties") Q a b
+      → NeighbourIsBuilt o ms (λ m. PatternsStand o answers (known_of ms) m (P // codes "patternProperties")) x (codes "patternProperties") P a b
+  patterns_there {x} = subst (λ W. NeighbourIsBuilt o ms (λ m. PatternsStand o answers (known_of ms) m (W // codes "patternProperties")) x (codes "patternProperties") W a b) place
 
 module _ {K R N : Type 0} (o : Kit K R) (answers : N → Answers) (ms : Members) (P : Path) where
   pub others_known : IsKnown (known_of ms) ms (codes "additionalProperties")
@@ -125,7 +135,7 @@ module _ {K R N : Type 0} (o : Kit K R) (answers : N → Answers) (ms : Members)
       none_last [] q = true≢false (sym (ap is_empty q))
       none_last (y ∷ before) q = true≢false (sym (ap is_empty q))
   rest_there shape.AnyOthers d ns r L e s not_true last h = absurd (true≢false (sym s.1 ∙ not_true))
-  rest_there x d ns r L e s not_true last h = absurd (let q = ap number_of e in omega (arith, q))
+  rest_there x d ns r L e s not_true last h = absurd (cc)
 
   module _ (p : Part K R N) (d : Data) (a m : Counts) (part : IsPart o answers p (known_of ms) (codes "additionalProperties") d (P // codes "additionalProperties") a m)
       (not_true : is_truth true d ≡ false) (r : Option N) (last : IsLast p.nodes.items r) where

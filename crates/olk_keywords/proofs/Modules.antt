@@ -3,7 +3,7 @@ use Rattle.std.specs.Prelude.{◌≡◌, ℕ, suc, ◌+◌, ◌&&◌, ◌||◌, 
 use Rattle.std.specs.List.{enumerate_from}
 use Rattle.std.specs.declared.alloc.Global.{Global}
 use Rattle.std.specs.declared.alloc.AllocError.{AllocError}
-use Rattle.std.proofs.Common.{refl, sym, ◌∙◌, ap, subst, arith}
+use Rattle.std.proofs.Common.{refl, sym, ◌∙◌, ap, subst}
 use Rattle.std.proofs.lemmas.List.{append-nil, length-map}
 use Rattle.std.proofs.Math.Bool.{and-false}
 use mathlib.Core.Bool.{true≢false}
@@ -41,27 +41,11 @@ use Rattle.olk_make.specs.Making.{KeywordsMean, MakesMember, MakesClaims}
 use Rattle.olk_keywords.specs.Parts.{MemberIsBuilt, ClaimsAreBuilt}
 use Rattle.olk_make.specs.declared.part.Part.{Part}
 use Rattle.olk_read.specs.declared.shape.Shape.{Shape}
-use Rattle.olk_read.specs.declared.shape.ReadPlaces.TheVariants.{Nothing, Itself}
+use Rattle.olk_read.specs.declared.shape.ReadPlaces.TheVariants.{Nothing, Itself, Branches}
 use Rattle.olk_read.specs.declared.shape.Shape.TheVariants as shape
 use Rattle.olk_spec.proofs.CostSums.{sum_last}
 use Rattle.olk_read.proofs.Spending.{spends_same, refuses_memory, within_exactly}
 use Rattle.olk_make.proofs.Makes.{makes_required}
-
--- keywords that differ have other numbers
-abbrev pub number_of : Keyword → ℕ
-number_of properties = 0
-number_of pattern_properties = 1
-number_of required = 2
-number_of dependent_required = 3
-number_of dependent_schemas = 4
-number_of dependencies = 5
-number_of property_dependencies = 6
-number_of all_of = 7
-number_of any_of = 8
-number_of one_of = 9
-number_of not_keyword = 10
-number_of additional_properties = 11
-number_of w = 12
 
 -- ---- how many
 
@@ -123,73 +107,57 @@ module _ {K R N : Type 0} (o : Kit K R) (answers : N → Answers) where
   which_of shape.Unread = unread
 
   pub shape_named : (x : Shape K R) (k : Name) (d : Data) → IsShape o k d x → is_conditional_name k ≡ false → keyword_named o.world k ≡ which_of x
-  shape_named (shape.Properties n) k d s other = ap (keyword_named o.world) s.0
-  shape_named (shape.PatternProperties v t) k d s other = ap (keyword_named o.world) s.0
-  shape_named shape.AdditionalProperties k d s other = ap (keyword_named o.world) s.0
-  shape_named shape.NoOthers k d s other = ap (keyword_named o.world) s.0
-  shape_named shape.AnyOthers k d s other = ap (keyword_named o.world) s.0
-  shape_named (shape.Required v) k d s other = ap (keyword_named o.world) s.0
-  shape_named (shape.DependentRequired n v) k d s other = ap (keyword_named o.world) s.0
-  shape_named (shape.DependentSchemas n) k d s other = ap (keyword_named o.world) s.0
-  shape_named (shape.Dependencies n v) k d s other = ap (keyword_named o.world) s.0
-  shape_named (shape.PropertyDependencies n v) k d s other = ap (keyword_named o.world) s.0
-  shape_named shape.PropertyNames k d s other = ap (keyword_named o.world) s.0
-  shape_named shape.NoNames k d s other = ap (keyword_named o.world) s.0
-  shape_named shape.AnyNames k d s other = ap (keyword_named o.world) s.0
-  shape_named shape.AllOf k d s other = ap (keyword_named o.world) s.0
-  shape_named shape.AnyOf k d s other = ap (keyword_named o.world) s.0
-  shape_named shape.OneOf k d s other = ap (keyword_named o.world) s.0
-  shape_named (shape.Not v) k d s other = ap (keyword_named o.world) s.0
   shape_named shape.If k d s other = ap (keyword_named o.world) s
   shape_named shape.Then k d s other = ap (keyword_named o.world) s
   shape_named shape.Else k d s other = ap (keyword_named o.world) s
   shape_named shape.Unpaired k d s other = absurd (true≢false (sym s ∙ other))
   shape_named (shape.Leaf l) k d s other = s.0
   shape_named shape.Unread k d s other = s
+  shape_named x k d s other = ap (keyword_named o.world) s.0
 
   only_all_of : (x : Shape K R) → all_of ≡ which_of x → x ≡ shape.AllOf
   only_all_of shape.AllOf e = refl
-  only_all_of x e = absurd (let q = ap number_of e in omega (arith, q))
+  only_all_of x e = absurd (cc)
 
   only_any_of : (x : Shape K R) → any_of ≡ which_of x → x ≡ shape.AnyOf
   only_any_of shape.AnyOf e = refl
-  only_any_of x e = absurd (let q = ap number_of e in omega (arith, q))
+  only_any_of x e = absurd (cc)
 
   only_one_of : (x : Shape K R) → one_of ≡ which_of x → x ≡ shape.OneOf
   only_one_of shape.OneOf e = refl
-  only_one_of x e = absurd (let q = ap number_of e in omega (arith, q))
+  only_one_of x e = absurd (cc)
 
   only_not : (x : Shape K R) → not_keyword ≡ which_of x → (v : Value) × (x ≡ shape.Not v)
   only_not (shape.Not v) e = (v, refl)
-  only_not x e = absurd (let q = ap number_of e in omega (arith, q))
+  only_not x e = absurd (cc)
 
   pub only_properties : (x : Shape K R) → properties ≡ which_of x → (n : List Name) × (x ≡ shape.Properties n)
   only_properties (shape.Properties n) e = (n, refl)
-  only_properties x e = absurd (let q = ap number_of e in omega (arith, q))
+  only_properties x e = absurd (cc)
 
   pub only_pattern_properties : (x : Shape K R) → pattern_properties ≡ which_of x → (v : Vec (CompiledPattern R) Global) × (t : Table) × (x ≡ shape.PatternProperties v t)
   only_pattern_properties (shape.PatternProperties v t) e = (v, t, refl)
-  only_pattern_properties x e = absurd (let q = ap number_of e in omega (arith, q))
+  only_pattern_properties x e = absurd (cc)
 
   only_required : (x : Shape K R) → required ≡ which_of x → (v : Vec (String Global) Global) × (x ≡ shape.Required v)
   only_required (shape.Required v) e = (v, refl)
-  only_required x e = absurd (let q = ap number_of e in omega (arith, q))
+  only_required x e = absurd (cc)
 
   only_dependent_required : (x : Shape K R) → dependent_required ≡ which_of x → (n : List Name) × (v : Vec (Vec (String Global) Global) Global) × (x ≡ shape.DependentRequired n v)
   only_dependent_required (shape.DependentRequired n v) e = (n, v, refl)
-  only_dependent_required x e = absurd (let q = ap number_of e in omega (arith, q))
+  only_dependent_required x e = absurd (cc)
 
   only_dependent_schemas : (x : Shape K R) → dependent_schemas ≡ which_of x → (n : List Name) × (x ≡ shape.DependentSchemas n)
   only_dependent_schemas (shape.DependentSchemas n) e = (n, refl)
-  only_dependent_schemas x e = absurd (let q = ap number_of e in omega (arith, q))
+  only_dependent_schemas x e = absurd (cc)
 
   only_dependencies : (x : Shape K R) → dependencies ≡ which_of x → (n : List Name) × (v : Vec (Option (Vec (String Global) Global)) Global) × (x ≡ shape.Dependencies n v)
   only_dependencies (shape.Dependencies n v) e = (n, v, refl)
-  only_dependencies x e = absurd (let q = ap number_of e in omega (arith, q))
+  only_dependencies x e = absurd (cc)
 
   only_property_dependencies : (x : Shape K R) → property_dependencies ≡ which_of x → (n : List Name) × (v : Vec (List Name) Global) × (x ≡ shape.PropertyDependencies n v)
   only_property_dependencies (shape.PropertyDependencies n v) e = (n, v, refl)
-  only_property_dependencies x e = absurd (let q = ap number_of e in omega (arith, q))
+  only_property_dependencies x e = absurd (cc)
 
   -- ---- a part at its name, below P
 
@@ -247,6 +215,12 @@ module _ {K R N : Type 0} (o : Kit K R) (answers : N → Answers) where
           → MemberIsBuilt o answers ms ks (k, d) Q a b
       built_of_shape ks make = member_built ks (subst (λ y. MakesMember o answers y p.location p.nodes.items ks) (sym q) make)
 
+      -- there are as many nodes as branches
+      pub branches_counted : reads_of x ≡ Branches → length p.nodes.items ≡ length (items_of_array d)
+      branches_counted r =
+          stand_length p.nodes.items (numbered (items_of_array d)) (P // k) (subst (λ y. StandAt o answers y p.nodes.items d (P // k)) (ap reads_of q ∙ r) stands.nodes)
+          ∙ length-numbered (items_of_array d)
+
       pub built_without_nodes : reads_of x ≡ Nothing → (ks : List (KeywordOver K R N)) → MakesMember o answers x p.location [] ks → (ms : Members) (Q : Path)
           → P // k ≡ Q // k → MemberIsBuilt o answers ms ks (k, d) Q a b
       built_without_nodes r ks make = built_of_shape ks (subst (λ ns. MakesMember o answers x p.location ns ks) (sym none) make)
@@ -267,13 +241,12 @@ module _ {K R N : Type 0} (o : Kit K R) (answers : N → Answers) where
 
       pub all_of_built : (ks : List (KeywordOver K R N)) → MakesMember o answers shape.AllOf p.location p.nodes.items ks → (ms : Members) (Q : Path)
           → P // codes "allOf" ≡ Q // codes "allOf" → MemberIsBuilt o answers ms ks (codes "allOf", d) Q a b
-      all_of_built ks make = member_built p c (codes "allOf") d P a b h refl ks (subst (λ x. MakesMember o answers x p.location p.nodes.items ks) (sym all_of_shape) make)
+      all_of_built = built_of_shape p c (codes "allOf") d P a b h refl shape.AllOf all_of_shape
 
       pub all_of_is_formed : (k : KeywordOver K R N) → IsFormOfAllOf p.location p.nodes.items k → IsAllOf (P // codes "allOf") d k
       all_of_is_formed k f =
-          let s = stands p c (codes "allOf") d P a b h refl in
-          subst (λ L. IsAllOf L d k) s.place (all_of_form p.location p.nodes.items d
-          (stand_length p.nodes.items (numbered (items_of_array d)) (P // codes "allOf") (subst (λ x. StandAt o answers (reads_of x) p.nodes.items d (P // codes "allOf")) all_of_shape s.nodes) ∙ length-numbered (items_of_array d)) k f)
+          subst (λ L. IsAllOf L d k) (stands p c (codes "allOf") d P a b h refl).place
+          (all_of_form p.location p.nodes.items d (branches_counted p c (codes "allOf") d P a b h refl shape.AllOf all_of_shape refl) k f)
 
     module _ (h : IsPart o answers p c (codes "anyOf") d (P // codes "anyOf") a b) where
       any_of_shape : p.shape ≡ shape.AnyOf
@@ -281,13 +254,12 @@ module _ {K R N : Type 0} (o : Kit K R) (answers : N → Answers) where
 
       pub any_of_built : (ks : List (KeywordOver K R N)) → MakesMember o answers shape.AnyOf p.location p.nodes.items ks → (ms : Members) (Q : Path)
           → P // codes "anyOf" ≡ Q // codes "anyOf" → MemberIsBuilt o answers ms ks (codes "anyOf", d) Q a b
-      any_of_built ks make = member_built p c (codes "anyOf") d P a b h refl ks (subst (λ x. MakesMember o answers x p.location p.nodes.items ks) (sym any_of_shape) make)
+      any_of_built = built_of_shape p c (codes "anyOf") d P a b h refl shape.AnyOf any_of_shape
 
       pub any_of_is_formed : (k : KeywordOver K R N) → IsFormOfAnyOf p.location p.nodes.items k → IsAnyOf (P // codes "anyOf") d k
       any_of_is_formed k f =
-          let s = stands p c (codes "anyOf") d P a b h refl in
-          subst (λ L. IsAnyOf L d k) s.place (any_of_form p.location p.nodes.items d
-          (stand_length p.nodes.items (numbered (items_of_array d)) (P // codes "anyOf") (subst (λ x. StandAt o answers (reads_of x) p.nodes.items d (P // codes "anyOf")) any_of_shape s.nodes) ∙ length-numbered (items_of_array d)) k f)
+          subst (λ L. IsAnyOf L d k) (stands p c (codes "anyOf") d P a b h refl).place
+          (any_of_form p.location p.nodes.items d (branches_counted p c (codes "anyOf") d P a b h refl shape.AnyOf any_of_shape refl) k f)
 
     module _ (h : IsPart o answers p c (codes "oneOf") d (P // codes "oneOf") a b) where
       one_of_shape : p.shape ≡ shape.OneOf
@@ -295,13 +267,12 @@ module _ {K R N : Type 0} (o : Kit K R) (answers : N → Answers) where
 
       pub one_of_built : (ks : List (KeywordOver K R N)) → MakesMember o answers shape.OneOf p.location p.nodes.items ks → (ms : Members) (Q : Path)
           → P // codes "oneOf" ≡ Q // codes "oneOf" → MemberIsBuilt o answers ms ks (codes "oneOf", d) Q a b
-      one_of_built ks make = member_built p c (codes "oneOf") d P a b h refl ks (subst (λ x. MakesMember o answers x p.location p.nodes.items ks) (sym one_of_shape) make)
+      one_of_built = built_of_shape p c (codes "oneOf") d P a b h refl shape.OneOf one_of_shape
 
       pub one_of_is_formed : (k : KeywordOver K R N) → IsFormOfOneOf p.location p.nodes.items k → IsOneOf (P // codes "oneOf") d k
       one_of_is_formed k f =
-          let s = stands p c (codes "oneOf") d P a b h refl in
-          subst (λ L. IsOneOf L d k) s.place (one_of_form p.location p.nodes.items d
-          (stand_length p.nodes.items (numbered (items_of_array d)) (P // codes "oneOf") (subst (λ x. StandAt o answers (reads_of x) p.nodes.items d (P // codes "oneOf")) one_of_shape s.nodes) ∙ length-numbered (items_of_array d)) k f)
+          subst (λ L. IsOneOf L d k) (stands p c (codes "oneOf") d P a b h refl).place
+          (one_of_form p.location p.nodes.items d (branches_counted p c (codes "oneOf") d P a b h refl shape.OneOf one_of_shape refl) k f)
 
     module _ (h : IsPart o answers p c (codes "not") d (P // codes "not") a b) where
       not_shape : (v : Value) × (p.shape ≡ shape.Not v)
@@ -318,7 +289,7 @@ module _ {K R N : Type 0} (o : Kit K R) (answers : N → Answers) where
 
         pub not_built : (ks : List (KeywordOver K R N)) → MakesMember o answers (shape.Not v) p.location p.nodes.items ks → (ms : Members) (Q : Path)
             → P // codes "not" ≡ Q // codes "not" → MemberIsBuilt o answers ms ks (codes "not", d) Q a b
-        not_built ks make = member_built p c (codes "not") d P a b h refl ks (subst (λ x. MakesMember o answers x p.location p.nodes.items ks) (sym q) make)
+        not_built = built_of_shape p c (codes "not") d P a b h refl (shape.Not v) q
 
         pub not_is_formed : (k : KeywordOver K R N) → IsNot p.location (view v) k → IsNot (P // codes "not") d k
         not_is_formed k f =

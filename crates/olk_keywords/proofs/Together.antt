@@ -81,6 +81,12 @@ module _ {K R N : Type 0} (o : Kit K R) (answers : N → Answers) (ms : Members)
   neighbour_refused c k d a b e known there h =
       refuses_among malformed_of cost_of (member_at k ms) a b [] (k, d) [] a e (ap (λ x. map (λ d. (k, d)) (option_to_list x)) (sym there)) (spends_nothing a) (h ms P refl known)
 
+  -- the neighbour's part is refused, and its error leaves by a `?`
+  pub neighbour_left : {T : Type 0} (A : T → Type 0) (c : Known) (k : Name) (d : Data) (a b : Counts) (r : Result T BuildError) (x : BuildError) → IsErrAnd r (λ e. e ≡ x)
+      → IsKnown c ms k → lookup_name k (listed ms) ≡ Some d → RefusesPart o c k d (P // k) a b x → IfOk r A × IfErr r (RefusesAll (member_at k ms) a b)
+  neighbour_left A c k d a b r x left known there h =
+      left_by A (RefusesAll (member_at k ms) a b) r (λ e. e ≡ x) left (λ e q. subst (RefusesAll (member_at k ms) a b) (sym q) (neighbour_refused c k d a b x known there h))
+
   -- ---- all three
 
   module _ (k x y : Name) (d : Data) where

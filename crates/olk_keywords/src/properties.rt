@@ -130,7 +130,6 @@ pub fn compile_big_map<'a, L: MakeLeaf, M: MakeRegex, N: BuiltNode<L::Leaf, M::E
     ensures place { ctx.new.place ≡ ctx.old.place }
     ensures same_meter { ctx.new.meter.ghost_name ≡ ctx.old.meter.ghost_name }
 {
-    let names = SortedNames::of(alloc, properties)?;
-    let nodes = compile_declared(alloc, ctx, "properties", properties)?;
+    let SmallMap { names, nodes } = compile_small_map(alloc, ctx, properties)?;
     Ok(BigMap { names, nodes })
 }

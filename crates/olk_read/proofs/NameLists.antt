@@ -45,12 +45,8 @@ pub meets_past_others : (seen : BTreeSet (Bor (List ℕ))) (v : Value) (vs : Lis
 meets_past_others seen v vs e = past (view v) e
   where
     past : (d : Data) → as_str d ≡ None → (list_any (is_seen seen) (texts_in (item d (items_view vs))) || has_repeat (texts_in (item d (items_view vs)))) ≡ meets_again seen vs
-    past null h = refl
-    past (boolean b) h = refl
-    past (number n) h = refl
     past (string s) h = absurd (true≢false (ap is_some h))
-    past (array ds) h = refl
-    past (object ms) h = refl
+    past d h = refl
 
 module _ (seen : BTreeSet (Bor (List ℕ))) (n : Name) (v : Value) (vs : List Value) (text : as_str (view v) ≡ Some n) where
   with_text : meets_again seen (v ∷ vs) ≡ (list_any (is_seen seen) (n ∷ texts_in (items_view vs)) || has_repeat (n ∷ texts_in (items_view vs)))

@@ -5,7 +5,7 @@ use Rattle.std.specs.declared.alloc.AllocError.{AllocError}
 use Rattle.std.proofs.Common.{refl, sym, ◌∙◌, ap, subst}
 use Rattle.std.proofs.Math.Bool.{or-false}
 use mathlib.Core.Bool.{true≢false}
-use Rattle.serde_json.specs.Data.{Data, null, boolean, number, string, array, object, Items}
+use Rattle.serde_json.specs.Data.{Data, array, object, Items}
 use Rattle.olk_spec.specs.Names.{Name, Path, is_among}
 use Rattle.olk_spec.specs.World.{World}
 use Rattle.olk_spec.specs.Vocabulary.{Keyword, leaf, unsupported, unsupported_names, keyword_named}
@@ -41,19 +41,11 @@ spends_leaf a b e = e ∙ rw (raised_zero a.compiled, raised_zero a.made, raised
 
 pub array_of : (d : Data) → is_array d ≡ true → (ds : Items) × (d ≡ array ds)
 array_of (array ds) e = (ds, refl)
-array_of null e = absurd (true≢false (sym e))
-array_of (boolean b) e = absurd (true≢false (sym e))
-array_of (number n) e = absurd (true≢false (sym e))
-array_of (string s) e = absurd (true≢false (sym e))
-array_of (object ms) e = absurd (true≢false (sym e))
+array_of d e = absurd (true≢false (sym e))
 
 pub no_text_missed : (d : Data) (L : Path) → is_array d ≡ false → not_a_text d L ≡ []
 no_text_missed (array ds) L e = absurd (true≢false e)
-no_text_missed null L e = refl
-no_text_missed (boolean b) L e = refl
-no_text_missed (number n) L e = refl
-no_text_missed (string s) L e = refl
-no_text_missed (object ms) L e = refl
+no_text_missed d L e = refl
 
 module _ (W : World) (d : Data) (L : Path) where
   abbrev whole : Data

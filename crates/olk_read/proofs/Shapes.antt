@@ -15,11 +15,7 @@ rolled v = search (rules, the_lemmas)
 
 no_array_layer : (x : Value-F Value) → ((ds : Vec Value Global) → roll-Value x ≡ Array ds → ⊥) → is_array (view (roll-Value x)) ≡ false
 no_array_layer (Value-F.Array ds) h = absurd (h ds (rolls-Array ds))
-no_array_layer Value-F.Null h = search (rules, the_lemmas)
-no_array_layer (Value-F.Bool b) h = search (rules, the_lemmas)
-no_array_layer (Value-F.Number n) h = search (rules, the_lemmas)
-no_array_layer (Value-F.String s) h = search (rules, the_lemmas)
-no_array_layer (Value-F.Object m) h = search (rules, the_lemmas)
+no_array_layer x h = search (rules, the_lemmas)
 
 array_viewed : (ds : Vec Value Global) → view (Array ds) ≡ array (items_view ds.items)
 array_viewed ds = search (rules, the_lemmas)
@@ -32,11 +28,7 @@ no_array v = subst (λ x. ((ds : Vec Value Global) → x ≡ Array ds → ⊥) �
 
 no_object_layer : (x : Value-F Value) → ((m : BTreeMap (String Global) Value) → roll-Value x ≡ Object m → ⊥) → is_object (view (roll-Value x)) ≡ false
 no_object_layer (Value-F.Object m) h = absurd (h m (rolls-Object m))
-no_object_layer Value-F.Null h = search (rules, the_lemmas)
-no_object_layer (Value-F.Bool b) h = search (rules, the_lemmas)
-no_object_layer (Value-F.Number n) h = search (rules, the_lemmas)
-no_object_layer (Value-F.String s) h = search (rules, the_lemmas)
-no_object_layer (Value-F.Array ds) h = search (rules, the_lemmas)
+no_object_layer x h = search (rules, the_lemmas)
 
 pub no_object : (v : Value) → ((m : BTreeMap (String Global) Value) → v ≡ Object m → ⊥) → is_object (view v) ≡ false
 no_object v = subst (λ x. ((m : BTreeMap (String Global) Value) → x ≡ Object m → ⊥) → is_object (view x) ≡ false) (rolled v) (no_object_layer (out-Value v))

@@ -4,7 +4,7 @@ use Rattle.std.specs.declared.alloc.Global.{Global}
 use Rattle.std.proofs.Common.{refl, sym, ◌∙◌, ap, subst, arith, zero, suc, take_all, true≢false}
 use mathlib.Core.Path.{subst₂}
 use Rattle.std.proofs.lemmas.List.{append-nil, map-append, take_more}
-use Rattle.serde_json.specs.Data.{Data, null, boolean, number, string, array, object, Items, no_items, item}
+use Rattle.serde_json.specs.Data.{Data, string, Items, no_items, item}
 use Rattle.serde_json.specs.Find.{as_str}
 use Rattle.serde_json.specs.View.{view, items_view}
 use Rattle.serde_json.specs.declared.value.Value.{Value}
@@ -29,20 +29,12 @@ texts_push (c ∷ ds) [] d n h e = absurd h
 texts_push (c ∷ ds) (m ∷ ns) d n h e = (h.0, texts_push ds ns d n h.1 e)
 
 pub text_at : (d : Data) (s : Name) → as_str d ≡ Some s → d ≡ string s
-text_at null s e = absurd (true≢false (sym (ap is_some e)))
-text_at (boolean b) s e = absurd (true≢false (sym (ap is_some e)))
-text_at (number n) s e = absurd (true≢false (sym (ap is_some e)))
 text_at (string t) s e = ap (λ o. string (unwrap_or o s)) e
-text_at (array ds) s e = absurd (true≢false (sym (ap is_some e)))
-text_at (object ms) s e = absurd (true≢false (sym (ap is_some e)))
+text_at d s e = absurd (true≢false (sym (ap is_some e)))
 
 no_text_at : (d : Data) → as_str d ≡ None → is_text d ≡ false
-no_text_at null e = refl
-no_text_at (boolean b) e = refl
-no_text_at (number n) e = refl
 no_text_at (string t) e = absurd (true≢false (ap is_some e))
-no_text_at (array ds) e = refl
-no_text_at (object ms) e = refl
+no_text_at d e = refl
 
 skip_texts : (ds : List Data) (ns : List Name) (more : List Data) → AllTexts ds ns → filter_once (λ i. not (is_text i)) (ds ++ more) ≡ filter_once (λ i. not (is_text i)) more
 skip_texts [] [] more h = refl

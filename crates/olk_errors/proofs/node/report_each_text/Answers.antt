@@ -4,7 +4,7 @@ use Rattle.std.specs.Vec.Iter.{into_iter_items}
 use Rattle.olk_base.specs.Lawful.{texts_of}
 use Rattle.olk_base.specs.Nodes.{data_of}
 use Rattle.olk_paths.specs.Trails.{path_at}
-use Rattle.olk_spec.specs.Faults.{fault, Leaf}
+use Rattle.olk_spec.specs.Faults.{fault}
 use Rattle.olk_reports.proofs.Errors.{kind_of_leaf}
 use Rattle.olk_errors.specs.Outcomes.{of_leaf}
 use Rattle.olk_errors.specs.Sinks.{Takes}

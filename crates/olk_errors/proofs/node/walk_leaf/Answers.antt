@@ -1,6 +1,5 @@
 use Rattle.std.proofs.Common.{sym, ◌∙◌}
 use Rattle.olk_base.specs.Nodes.{data_of}
-use Rattle.olk_spec.specs.Faults.{Leaf}
 use Rattle.olk_paths.specs.Trails.{path_at}
 use Rattle.olk_errors.proofs.Own.{leaf_fault, leaf_passes}
 use Rattle.olk_errors.proofs.Sinks.{goes_past}

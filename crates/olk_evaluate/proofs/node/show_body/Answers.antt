@@ -10,7 +10,7 @@ use Rattle.olk_reports.proofs.Errors.{kind_of_false_schema}
 use Rattle.olk_tree.specs.Maps.{texts_of}
 use Rattle.olk_tree.specs.Bodies.{body_means, body_tree}
 use Rattle.olk_evaluate.specs.Wanted.{HasErrors}
-use Rattle.olk_evaluate.proofs.Children.{no_child_like, no_child_verdict}
+use Rattle.olk_evaluate.proofs.Children.{shows_none}
 use Rattle.olk_evaluate.proofs.OwnErrors.{erring_like, erring_verdict, no_error, same_emptiness}
 use Rattle.olk_evaluate.proofs.node.show_body.Goals as goal
 
@@ -52,9 +52,9 @@ pub returns-in-True-clause-tree : goal.returns-in-True-clause-tree
 returns-in-True-clause-tree g c P =
     subst (λ b. IsLikeTree (body_tree (λ k. g.W.Show.tree k c.args.ctx.now.answer) P b (data_of c.args.node) c.args.path.now)
     (node_at P c.args.path.now (shown_of c.args.outcome.now))) (sym c.in-True.is)
-    (no_child_like g.W.Show.tree g.W.Means.means c.args.ctx.now.answer (data_of c.args.node) P c.args.path.now [] refl c.requires)
+    ((shows_none g.W.Show.tree g.W.Means.means c.args.ctx.now.answer (data_of c.args.node) c.args.path.now [] refl c.requires).tree P)
 
 pub returns-in-True-clause-verdict : goal.returns-in-True-clause-verdict
 returns-in-True-clause-verdict g c P =
-    no_child_verdict g.W.Show.tree g.W.Means.means c.args.ctx.now.answer (data_of c.args.node) P c.args.path.now [] refl c.requires
+    (shows_none g.W.Show.tree g.W.Means.means c.args.ctx.now.answer (data_of c.args.node) c.args.path.now [] refl c.requires).verdict P
     ∙ ap (λ b. (body_means g.W.Means.means b (data_of c.args.node)).accepts c.args.ctx.now.answer) (sym c.in-True.is)

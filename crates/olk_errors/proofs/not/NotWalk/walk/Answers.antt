@@ -15,16 +15,13 @@ returns-then-not-is_valid-clause-on g c =
     (own_passes (Not (view c.args.self.now.original)) (data_of c.args.node) c.args.self.now.location (path_at c.args.trail.now) (ap not refused) refused)
     (own_nothing (Not (view c.args.self.now.original)) (data_of c.args.node) c.args.self.now.location (path_at c.args.trail.now) refused)
 
-pub returns-clause-on : goal.returns-clause-on
-returns-clause-on g c =
+pub returns : goal.returns
+returns g c =
     let accepted = sym c.if-not-is_valid.ensures.verdict in
     let alike = like_at (kind_of_not _) itself refl c.as_str.ensures in
-    reported_on (is_own (Not (view c.args.self.now.original)) (data_of c.args.node) c.args.self.now.location (path_at c.args.trail.now) (ap not accepted) accepted refl alike)
-    _ _ c.report.result c.report.ensures.on
-
-pub returns-clause-stop : goal.returns-clause-stop
-returns-clause-stop g c =
-    let accepted = sym c.if-not-is_valid.ensures.verdict in
-    let alike = like_at (kind_of_not _) itself refl c.as_str.ensures in
-    reported_stop (is_own (Not (view c.args.self.now.original)) (data_of c.args.node) c.args.self.now.location (path_at c.args.trail.now) (ap not accepted) accepted refl alike)
-    _ _ c.report.result c.report.ensures.stop
+    let own = is_own (Not (view c.args.self.now.original)) (data_of c.args.node) c.args.self.now.location (path_at c.args.trail.now) (ap not accepted) accepted refl alike in
+    record {
+      on = reported_on own _ _ c.report.result c.report.ensures.on;
+      stop = reported_stop own _ _ c.report.result c.report.ensures.stop;
+      context = c.if-not-is_valid.ensures.only;
+    }

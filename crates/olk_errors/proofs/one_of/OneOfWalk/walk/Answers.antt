@@ -7,19 +7,16 @@ use Rattle.olk_errors.proofs.OneOf.{one_of_own, one_of_passes, one_of_nothing}
 use Rattle.olk_errors.proofs.Own.{reported_on, reported_stop}
 use Rattle.olk_errors.proofs.one_of.OneOfWalk.walk.Goals as goal
 
-pub returns-in-Some-clause-on : goal.returns-in-Some-clause-on
-returns-in-Some-clause-on g c = reported_on
-    (one_of_own (how_many (λ n. g.N.Means.means n (data_of c.args.node)) c.args.ctx.now.answer c.args.self.now.schemas.items)
+pub returns-in-Some : goal.returns-in-Some
+returns-in-Some g c =
+    let own = one_of_own (how_many (λ n. g.N.Means.means n (data_of c.args.node)) c.args.ctx.now.answer c.args.self.now.schemas.items)
     (map (λ n. g.N.Reports.report n c.args.ctx.now.answer (data_of c.args.node) (path_at c.args.trail.now)) c.args.self.now.schemas.items)
-    (data_of c.args.node) c.args.self.now.location (path_at c.args.trail.now) c.in-Some.is c.in_ok-kind.ensures.kind c.as_str.ensures)
-    _ _ c.report.result c.report.ensures.on
-
-pub returns-in-Some-clause-stop : goal.returns-in-Some-clause-stop
-returns-in-Some-clause-stop g c = reported_stop
-    (one_of_own (how_many (λ n. g.N.Means.means n (data_of c.args.node)) c.args.ctx.now.answer c.args.self.now.schemas.items)
-    (map (λ n. g.N.Reports.report n c.args.ctx.now.answer (data_of c.args.node) (path_at c.args.trail.now)) c.args.self.now.schemas.items)
-    (data_of c.args.node) c.args.self.now.location (path_at c.args.trail.now) c.in-Some.is c.in_ok-kind.ensures.kind c.as_str.ensures)
-    _ _ c.report.result c.report.ensures.stop
+    (data_of c.args.node) c.args.self.now.location (path_at c.args.trail.now) c.in-Some.is c.in_ok-kind.ensures.kind c.as_str.ensures in
+    record {
+      on = reported_on own _ _ c.report.result c.report.ensures.on;
+      stop = reported_stop own _ _ c.report.result c.report.ensures.stop;
+      context = c.one_of_kind.ensures.context;
+    }
 
 pub returns-in-None-clause-on : goal.returns-in-None-clause-on
 returns-in-None-clause-on g c = goes_past c.args.sink.now
