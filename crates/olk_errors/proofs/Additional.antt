@@ -180,7 +180,7 @@ module _ {R N : Type 0} (w : Asked R N) where
               → StopsBy t old newer (IsErrorOf (outcome a.answer Q (asked a.answer)))
           rest_stops h = walking_each_stop loop.walking (option_to_list w.sides.rest) [] (rest_left a.answer spoken i none e) h
 
--- ---- of a single node, or of none
+-- ---- of a single node
 
 -- where the pattern says b of the name
 pub if_matched_is : {N : Type 0} (u costs : Bool) (known s : Says) (n : N) {b : Bool} → b ≡ (known_or_asked known (said_to costs s)).accepts u
@@ -188,9 +188,6 @@ pub if_matched_is : {N : Type 0} (u costs : Bool) (known s : Says) (n : N) {b : 
 if_matched_is u costs known s n told = ap (λ b. put_if b n []) (sym (told ∙ match_is_said u costs known s))
 
 module _ {N : Type 0} (m : N → Data → Question) (s r : N → Bool → Data → Path → List Fault) (v : Data) (Q : Path) {ns : List N} where
-  pub none_goes : (u : Bool) (k : ErrorSink) → ns ≡ [] → GoesOn k k (of_branches m s r u ns v Q)
-  none_goes u k none = subst (λ l. GoesOn k k (of_branches m s r u l v Q)) (sym none) (goes_nowhere k)
-
   module _ {t u : Bool} (same : t ≡ u) {n : N} (one : ns ≡ n ∷ []) {old new : ErrorSink} where
     pub one_goes : GoesOn old new (of_node m s r t n v Q) → GoesOn old new (of_branches m s r u ns v Q)
     one_goes on = subst₂ (λ a l. GoesOn old new (of_branches m s r a l v Q)) same (sym one) (goes_after on (goes_nowhere new))

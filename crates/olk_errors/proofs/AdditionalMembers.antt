@@ -5,7 +5,6 @@ use Rattle.std.proofs.Math.Bool.{and_assoc}
 use Rattle.std.proofs.lemmas.List.{append_assoc, append-nil, map-append}
 use Rattle.std.specs.List.{flat_map, Contains}
 use Rattle.std.proofs.lemmas.List.Elements.{Contains-append_right}
-use Rattle.std.specs.declared.alloc.AllocError.{AllocError}
 use Rattle.serde_json.specs.Data.{Data}
 use Rattle.serde_json.specs.Find.{as_object}
 use Rattle.olk_spec.specs.Names.{Name, Path, ◌//◌, filter_once, put_if, is_empty}
@@ -31,9 +30,8 @@ use Rattle.olk_errors.specs.Outcomes.{of_branches, declared_nodes, unspoken_from
 use Rattle.olk_errors.specs.Sinks.{wants_one, GoesOn, StopsBy}
 use Rattle.olk_errors.specs.declared.sink.ErrorSink.{ErrorSink}
 use Rattle.olk_errors.specs.declared.sink.Stop.{Stop}
-use Rattle.olk_errors.specs.declared.sink.Stop.TheVariants.{Memory}
 use Rattle.olk_errors.proofs.Missing.{one_first, other_lacks_none, other_lacks_nothing}
-use Rattle.olk_errors.proofs.Sinks.{after, contains_first, pass_both, goes_past, goes_after, goes_same, goes_keeping, goes_passing, stops_after, stops_before, stops_same}
+use Rattle.olk_errors.proofs.Sinks.{after, contains_first, pass_both, goes_past, goes_after, goes_same, stops_then, goes_passing, stops_after, stops_before, stops_same}
 use Rattle.olk_errors.proofs.Several.{goes_either, stops_where}
 use Rattle.olk_errors.proofs.Unexpected.{told_of_one, kept_of_first}
 
@@ -203,8 +201,8 @@ module _ {R N : Type 0} (answers : R → Name → Says) (costs : R → Bool) (m 
             (stops_same (with_others a.answer aside more x declared) (stops_after walked_at h))
 
         -- there was no memory to put it aside
-        pub members_cut : (m : AllocError) → StopsBy (Memory m) old newer (IsErrorOf (by_members a.answer))
-        members_cut m = loop.stop newer (record { stopped = goes_keeping walked })
+        pub members_cut : {s : Stop} → StopsBy s old newer (IsErrorOf (by_members a.answer))
+        members_cut = loop.stop newer (stops_then walked)
 
         module _ {told_so : Bool} (is : told_so ≡ unexpected_at answers b.answer (sides_of k) d x.0) where
           is_so : not_expected a.answer x ≡ told_so

@@ -1,7 +1,7 @@
 -- Lists of errors that grow.
-use Rattle.std.proofs.Common.{◌≡◌, List, [], ◌∷◌, ◌++◌, sym, ap, subst, ◌∙◌, Result, IfErr, IsErrAnd}
+use Rattle.std.proofs.Common.{◌≡◌, List, [], ◌∷◌, ◌++◌, sym, ap, subst, ◌∙◌, Result, IfErr}
 use Rattle.std.proofs.lemmas.List.{append_assoc, append-nil, map-append}
-use Rattle.std.proofs.lemmas.Result.{err_from_is_err_and, IfErr-weaker}
+use Rattle.std.proofs.lemmas.Result.{IfErr-weaker}
 use Rattle.olk_reports.specs.declared.error.ValidateError.{ValidateError}
 use Rattle.olk_reports.specs.declared.error.ValidateError.TheVariants.{Invalid, Memory}
 use Rattle.olk_spec.specs.Faults.{Fault, ◌∼◌, like_empty, like_through}
@@ -32,11 +32,6 @@ module _ {old new : List ValidationError} {faults : List Fault} where
 invalid_so : {So Then : Fault → Type 0} → ((f : Fault) → So f → Then f) → (e : ValidateError) → IfInvalid e So → IfInvalid e Then
 invalid_so k (Invalid e) h = k (fault_of e) h
 invalid_so k (Memory m) h = tt
-
--- an error that leaves by a `?`
-pub left_by : {T : Type 0} (r : Result T ValidateError) (x : ValidateError) {So Then : Fault → Type 0} → IsErrAnd r (λ e. e ≡ x) → IfInvalid x So
-    → ((f : Fault) → So f → Then f) → IfErr r (λ e. IfInvalid e Then)
-left_by r x {So} {Then} h told k = let p = err_from_is_err_and r h in subst (λ z. IfErr z (λ e. IfInvalid e Then)) (sym p.1) (invalid_so k p.0 (subst (λ e. IfInvalid e So) (sym p.2) told))
 
 pub told_so : {T : Type 0} (r : Result T ValidateError) {So Then : Fault → Type 0} → ((f : Fault) → So f → Then f) → IfErr r (λ e. IfInvalid e So) → IfErr r (λ e. IfInvalid e Then)
 told_so r {So} {Then} k h = IfErr-weaker r (λ e. IfInvalid e So) (λ e. IfInvalid e Then) (invalid_so k) h

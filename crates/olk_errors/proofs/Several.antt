@@ -1,5 +1,5 @@
 -- Walks that go on by several at once, and outcomes that differ only in what one way of asking sees.
-use Rattle.std.proofs.Common.{◌≡◌, Bool, true, false, List, [], ◌∷◌, ◌++◌, refl, sym, ap, subst, ◌∙◌}
+use Rattle.std.proofs.Common.{◌≡◌, inl, inr, Bool, true, false, List, [], ◌∷◌, ◌++◌, refl, sym, ap, subst, ◌∙◌}
 use Rattle.std.proofs.lemmas.Grind.{flat_map-append}
 use Rattle.olk_base.specs.Lawful.{Asking}
 use Rattle.olk_spec.specs.Faults.{Fault}
@@ -16,7 +16,6 @@ use Rattle.olk_errors.specs.Outcomes.{of_each}
 use Rattle.olk_errors.specs.Sinks.{wants_one, held, Took, GoesOn, Stopped, StopsBy}
 use Rattle.olk_errors.specs.declared.sink.ErrorSink.{ErrorSink}
 use Rattle.olk_errors.specs.declared.sink.Stop.{Stop}
-use Rattle.olk_errors.specs.declared.sink.Stop.TheVariants.{Enough, Memory}
 use Rattle.olk_errors.proofs.Sinks.{after, goes_after, goes_same, stops_after, stops_before, stops_same, Walked, Walking}
 
 -- ---- several at once
@@ -59,13 +58,13 @@ took_either : (b : Bool) (old new : List ValidationError) (o p : Outcome) → (b
 took_either false old new o p one all h = subst (Appends old new) all h
 took_either true old new o p one all h = (one refl h.0, h.1)
 
-stopped_where : (s : Stop) (old new : ErrorSink) {So Then : Fault → Type 0} → (wants_one old ≡ true → (f : Fault) → So f → Then f) → Stopped s old new So → Stopped s old new Then
-stopped_where Enough old new k h = record { one = h.one; same = h.same; error = h.error; is = h.is; found = k h.one (fault_of h.error) h.found }
-stopped_where (Memory m) old new k h = h
+stopped_where : {old new : ErrorSink} {So Then : Fault → Type 0} → (wants_one old ≡ true → (f : Fault) → So f → Then f) → Stopped old new So → Stopped old new Then
+stopped_where k (inl h) = inl (record { one = h.one; same = h.same; error = h.error; is = h.is; found = k h.one (fault_of h.error) h.found })
+stopped_where k (inr h) = inr h
 
 module _ {old new : ErrorSink} where
   pub goes_either : {o : Outcome} (p : Outcome) → (wants_one old ≡ true → Passes o → Passes p) → o.all ≡ p.all → GoesOn old new o → GoesOn old new p
   goes_either {o} p one all h = record { same = h.same; took = took_either (wants_one old) (held old) (held new) o p one all h.took }
 
   pub stops_where : {s : Stop} {So Then : Fault → Type 0} → (wants_one old ≡ true → (f : Fault) → So f → Then f) → StopsBy s old new So → StopsBy s old new Then
-  stops_where {s} k h = record { stopped = stopped_where s old new k h.stopped }
+  stops_where k h = record { stopped = stopped_where k h.stopped }

@@ -1,9 +1,10 @@
 -- One walk after another, whatever the sink wants.
-use Rattle.std.proofs.Common.{◌≡◌, Bool, true, false, true≢false, ◌&&◌, List, [], ◌∷◌, ◌++◌, Vec, Option, Some, refl, sym, ap, subst, ◌∙◌, arith, Result, IfErr, IsErrAnd}
+use Rattle.std.proofs.Common.{◌≡◌, inl, inr, ℕ, Bool, true, false, true≢false, ◌&&◌, List, [], ◌∷◌, ◌++◌, length, take, Vec, Option, Some, refl, sym, ap, subst, ◌∙◌, arith, Result, Ok, Err, IfErr, IsErrAnd}
 use Rattle.std.specs.List.{Contains}
 use Rattle.std.proofs.lemmas.List.{append_assoc, append-nil}
 use Rattle.std.proofs.lemmas.List.Elements.{Contains-append_left, Contains-append_right}
 use Rattle.std.proofs.lemmas.Result.{err_from_is_err_and}
+use Rattle.std.proofs.Math.Seq.{take-append_seam}
 use Rattle.std.specs.declared.alloc.Global.{Global}
 use Rattle.olk_base.specs.Lawful.{Asking}
 use Rattle.olk_spec.specs.Faults.{Fault}
@@ -15,11 +16,10 @@ use Rattle.olk_check.specs.Asks.{OnlyAsks}
 use Rattle.olk_check.proofs.Asked.{only_same, only_then}
 use Rattle.olk_errors.specs.Found.{Appends, Outcome, Passes, IsErrorOf}
 use Rattle.olk_errors.specs.Outcomes.{of_each}
-use Rattle.olk_errors.specs.Sinks.{is_first, errors_in, wants_one, held, Took, GoesOn, Takes, Kept, Keeps, Stopped, StopsBy}
+use Rattle.olk_errors.specs.Sinks.{is_first, errors_in, wants_one, held, Took, GoesOn, Takes, IsLonger, Kept, Keeps, Stopped, StopsBy}
 use Rattle.olk_errors.specs.declared.sink.ErrorSink.{ErrorSink}
 use Rattle.olk_errors.specs.declared.sink.Held.TheVariants.{First, All}
 use Rattle.olk_errors.specs.declared.sink.Stop.{Stop}
-use Rattle.olk_errors.specs.declared.sink.Stop.TheVariants.{Enough, Memory}
 use Rattle.olk_errors.proofs.Appending.{appends_nothing, appends_more, appends_one}
 
 -- one asking after the other
@@ -72,7 +72,7 @@ took_passing true l o passes none = (passes, refl)
 
 took_kept : (b : Bool) (old new : List ValidationError) (o : Outcome) → Took b old new o → Kept b old new
 took_kept false old new o h = record { added = h.added; is = h.is }
-took_kept true old new o h = tt
+took_kept true old new o h = h.1
 
 took_passed : (b : Bool) (old new : List ValidationError) (o : Outcome) → b ≡ true → Took b old new o → Passes o
 took_passed true old new o e h = h.0
@@ -92,11 +92,11 @@ took_first false old new o p e k h = absurd (true≢false (sym e))
 
 kept_same : (b : Bool) (l : List ValidationError) → Kept b l l
 kept_same false l = record { added = []; is = sym (append-nil l) }
-kept_same true l = tt
+kept_same true l = refl
 
 kept_more : (b : Bool) (old mid new : List ValidationError) → Kept b old mid → Kept b mid new → Kept b old new
 kept_more false old mid new h k = record { added = h.added ++ k.added; is = k.is ∙ ap (λ l. l ++ k.added) h.is ∙ append_assoc old h.added k.added }
-kept_more true old mid new h k = tt
+kept_more true old mid new h k = k ∙ h
 
 -- ---- of sinks
 
@@ -146,40 +146,49 @@ module _ {old new : ErrorSink} where
 
 -- ---- stopped
 
-stopped_weaker : (s : Stop) (old new : ErrorSink) {So Then : Fault → Type 0} → ((f : Fault) → So f → Then f) → Stopped s old new So → Stopped s old new Then
-stopped_weaker Enough old new k h = record { one = h.one; same = h.same; error = h.error; is = h.is; found = k (fault_of h.error) h.found }
-stopped_weaker (Memory m) old new k h = h
+module _ {old new : ErrorSink} {So Then : Fault → Type 0} where
+  stopped_weaker : ((f : Fault) → So f → Then f) → Stopped old new So → Stopped old new Then
+  stopped_weaker k (inl h) = inl (record { one = h.one; same = h.same; error = h.error; is = h.is; found = k (fault_of h.error) h.found })
+  stopped_weaker k (inr h) = inr h
 
-stopped_all : (s : Stop) (old new : ErrorSink) (So Then : Fault → Type 0) → wants_one old ≡ false → Stopped s old new So → Stopped s old new Then
-stopped_all Enough old new So Then all h = absurd (true≢false (sym h.one ∙ all))
-stopped_all (Memory m) old new So Then all h = h
+  stopped_all : wants_one old ≡ false → Stopped old new So → Stopped old new Then
+  stopped_all all (inl h) = absurd (true≢false (sym h.one ∙ all))
+  stopped_all all (inr h) = inr h
 
-stopped_after : (s : Stop) (old mid new : ErrorSink) (o p : Outcome) → GoesOn old mid o → Stopped s mid new (IsErrorOf p) → Stopped s old new (IsErrorOf (after o p))
-stopped_after Enough old mid new o p h k = record { one = sym h.same ∙ k.one; same = k.same ∙ h.same; error = k.error; is = k.is; found = error_after (goes_passing (sym h.same ∙ k.one) h) k.found }
-stopped_after (Memory m) old mid new o p h k = keeps_more (goes_keeping h) k
+stopped_after : {old mid new : ErrorSink} {o p : Outcome} → GoesOn old mid o → Stopped mid new (IsErrorOf p) → Stopped old new (IsErrorOf (after o p))
+stopped_after h (inl k) = inl (record { one = sym h.same ∙ k.one; same = k.same ∙ h.same; error = k.error; is = k.is; found = error_after (goes_passing (sym h.same ∙ k.one) h) k.found })
+stopped_after h (inr k) = inr (keeps_more (goes_keeping h) k)
 
 module _ {s : Stop} {old new : ErrorSink} where
   pub stops_weaker : {So Then : Fault → Type 0} → ((f : Fault) → So f → Then f) → StopsBy s old new So → StopsBy s old new Then
-  stops_weaker k h = record { stopped = stopped_weaker s old new k h.stopped }
+  stops_weaker k h = record { stopped = stopped_weaker k h.stopped }
 
   pub stops_same : {o p : Outcome} → o ≡ p → StopsBy s old new (IsErrorOf o) → StopsBy s old new (IsErrorOf p)
   stops_same e h = stops_weaker (λ f is. subst (λ x. IsErrorOf x f) e is) h
 
   -- where all are wanted, no error stops the walk
   pub stops_all : {So Then : Fault → Type 0} → wants_one old ≡ false → StopsBy s old new So → StopsBy s old new Then
-  stops_all {So} {Then} all h = record { stopped = stopped_all s old new So Then all h.stopped }
+  stops_all all h = record { stopped = stopped_all all h.stopped }
 
   pub stops_before : {o : Outcome} (p : Outcome) → StopsBy s old new (IsErrorOf o) → StopsBy s old new (IsErrorOf (after o p))
   stops_before p h = stops_weaker (λ f e. error_before p e) h
 
 pub stops_after : {s : Stop} {old mid new : ErrorSink} {o p : Outcome} → GoesOn old mid o → StopsBy s mid new (IsErrorOf p) → StopsBy s old new (IsErrorOf (after o p))
-stops_after {s} {old} {mid} {new} {o} {p} h k = record { stopped = stopped_after s old mid new o p h k.stopped }
+stops_after h k = record { stopped = stopped_after h k.stopped }
+
+-- there was no memory, and nothing was taken before
+pub stops_here : (k : ErrorSink) {s : Stop} {So : Fault → Type 0} → StopsBy s k k So
+stops_here k = record { stopped = inr (keeps_same k) }
+
+-- or an outcome was
+pub stops_then : {s : Stop} {old new : ErrorSink} {o : Outcome} {So : Fault → Type 0} → GoesOn old new o → StopsBy s old new So
+stops_then h = record { stopped = inr (goes_keeping h) }
 
 -- ---- one error
 
 module _ {old : ErrorSink} (e : ValidationError) where
-  pub takes_first : {slot : Option ValidationError} → old.held ≡ First slot → StopsBy Enough old (record { alloc = old.alloc; held = First (Some e) }) (λ f. f ≡ fault_of e)
-  takes_first is = record { stopped = record { one = ap is_first is; same = sym (ap is_first is); error = e; is = refl; found = refl } }
+  pub takes_first : {s : Stop} {slot : Option ValidationError} → old.held ≡ First slot → StopsBy s old (record { alloc = old.alloc; held = First (Some e) }) (λ f. f ≡ fault_of e)
+  takes_first is = record { stopped = inl (record { one = ap is_first is; same = sym (ap is_first is); error = e; is = refl; found = refl }) }
 
   pub takes_more : {es fs : Vec ValidationError Global} → old.held ≡ All es → fs.items ≡ es.items ++ e ∷ [] → Takes old (record { alloc = old.alloc; held = All fs }) (fault_of e)
   takes_more is more = record { all = ap is_first is; same = sym (ap is_first is); took = appends_one e (more ∙ ap (λ l. l ++ e ∷ []) (sym (ap errors_in is))) refl }
@@ -239,7 +248,57 @@ module _ {X : Type 0} {q : X → Question} {s f : Bool → X → List Fault} {al
     pub walking_end : rest ≡ [] → GoesOn old new (of_each a.answer q (s a.answer) (f a.answer) all)
     walking_end none = walked_end loop.so_far none
 
+-- ---- what a stop leaves in the sink
+
+kept_one : (b : Bool) (old new : List ValidationError) → b ≡ true → Kept b old new → new ≡ old
+kept_one true old new e h = h
+kept_one false old new e h = absurd (true≢false (sym e))
+
+kept_all : (b : Bool) (old new : List ValidationError) → b ≡ false → Kept b old new → IsLonger old new
+kept_all false old new e h = h
+kept_all true old new e h = absurd (true≢false e)
+
+longer_kept : (b : Bool) (old new : List ValidationError) → b ≡ false → new ≡ old → Kept b old new
+longer_kept false old new e same = record { added = []; is = same ∙ sym (append-nil old) }
+longer_kept true old new e same = absurd (true≢false e)
+
+only_error : {x y : ValidationError} → x ∷ [] ≡ y ∷ [] → x ≡ y
+only_error h = cc
+
+none_is_some : {X : Type 0} {x : X} → x ∷ [] ≡ [] → ⊥
+none_is_some h = cc
+
+module _ {old new : ErrorSink} {So : Fault → Type 0} where
+  error_is : {e : ValidationError} → wants_one old ≡ true → held old ≡ [] → e ∷ [] ≡ held new → Stopped old new So → So (fault_of e)
+  error_is {e} one none is (inl h) = subst So (ap fault_of (sym (only_error (is ∙ h.is)))) h.found
+  error_is {e} one none is (inr h) = absurd (none_is_some (is ∙ kept_one (wants_one old) (held old) (held new) one h.kept ∙ none))
+
+  all_kept : wants_one old ≡ false → Stopped old new So → IsLonger (held old) (held new)
+  all_kept all (inl h) = absurd (true≢false (sym h.one ∙ all))
+  all_kept all (inr h) = kept_all (wants_one old) (held old) (held new) all h.kept
+
+  module _ {s : Stop} (stops : StopsBy s old new So) where
+    -- an error in a sink that wanted one, and had none, is the one by which it was stopped
+    pub stopping_error : {e : ValidationError} → wants_one old ≡ true → held old ≡ [] → e ∷ [] ≡ held new → So (fault_of e)
+    stopping_error one none is = error_is one none is stops.stopped
+
+    -- a list of all errors, cut back to the length before, is the list before
+    pub stopping_list : {len : ℕ} → wants_one old ≡ false → len ≡ length (held old) → take len (held new) ≡ held old
+    stopping_list all len = let longer = all_kept all stops.stopped in (λ i. take (len i) (longer.is i)) ∙ take-append_seam (held old) longer.added
+
+-- where there was no memory for an error more
+pub takes_none : {old : ErrorSink} {s : Stop} {So : Fault → Type 0} {es fs : Vec ValidationError Global} → old.held ≡ All es → fs.items ≡ es.items
+    → StopsBy s old (record { alloc = old.alloc; held = All fs }) So
+takes_none {old} {es = es} {fs} is same = record {
+  stopped = inr (record { same = sym (ap is_first is); kept = longer_kept (wants_one old) (held old) fs.items (ap is_first is) (same ∙ ap errors_in (sym is)) });
+}
+
 -- ---- results
+
+-- a stop of which nothing is known but that it is one
+pub any_stop : {T : Type 0} (r : Result T Stop) {P : Stop → Type 0} → ((s : Stop) → P s) → IfErr r P
+any_stop (Ok x) k = tt
+any_stop (Err s) k = k s
 
 -- a stop that leaves by a `?`
 pub left_by : {T : Type 0} (r : Result T Stop) (x : Stop) {So : Type 0} (Then : Stop → Type 0) → IsErrAnd r (λ s. s ≡ x) → So → (So → Then x) → IfErr r Then

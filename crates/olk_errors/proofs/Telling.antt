@@ -4,23 +4,14 @@ use Rattle.std.specs.List.{flat_map}
 use Rattle.olk_spec.specs.Faults.{Fault, ◌∼◌}
 use Rattle.olk_tree.specs.Questions.{Question, always}
 use Rattle.olk_errors.specs.Found.{Outcome, IsErrorOf}
-use Rattle.olk_errors.specs.Sinks.{wants_one, held, Took, GoesOn, Takes, Stopped, StopsBy}
+use Rattle.olk_errors.specs.Sinks.{wants_one, held, Took, GoesOn, Takes, StopsBy}
 use Rattle.olk_errors.specs.declared.sink.ErrorSink.{ErrorSink}
 use Rattle.olk_errors.specs.declared.sink.Stop.{Stop}
-use Rattle.olk_errors.specs.declared.sink.Stop.TheVariants.{Enough, Memory}
 use Rattle.olk_reports.specs.declared.error.ValidationError.{ValidationError}
 use Rattle.olk_errors.proofs.Appending.{appends_like}
-use Rattle.olk_errors.proofs.Sinks.{Walked, walked_start, walked_more, walked_stop, walked_end, of_one, goes_all, takes_own}
+use Rattle.olk_errors.proofs.Sinks.{Walked, walked_start, walked_more, walked_stop, walked_end, of_one, goes_all, stops_all, takes_own}
 
 -- ---- by what the sink wants
-
-stopped_anyway : (s : Stop) (old new : ErrorSink) (So Then : Fault → Type 0) → wants_one old ≡ false → Stopped s old new So → Stopped s old new Then
-stopped_anyway Enough old new So Then all h = absurd (true≢false (sym h.one ∙ all))
-stopped_anyway (Memory m) old new So Then all h = h
-
--- a sink that wants all is stopped by a lack of memory alone
-pub stops_anyway : {s : Stop} {old new : ErrorSink} {So Then : Fault → Type 0} → wants_one old ≡ false → StopsBy s old new So → StopsBy s old new Then
-stops_anyway {s} {old} {new} {So} {Then} all h = record { stopped = stopped_anyway s old new So Then all h.stopped }
 
 -- where all are wanted, what all are up to order is what matters
 pub goes_alike : {old new : ErrorSink} {o : Outcome} (p : Outcome) → wants_one old ≡ false → o.all ∼ p.all → GoesOn old new o → GoesOn old new p
@@ -67,7 +58,7 @@ module _ {X : Type 0} {h : X → Fault} {all : List X} where
     }
 
     pub telling_stop : {x : X} {more : List X} {newer : ErrorSink} {t : Stop} {So : Fault → Type 0} (o : Outcome) → rest ≡ x ∷ more → StopsBy t new newer So → StopsBy t old newer (IsErrorOf o)
-    telling_stop {x} o next stops = stops_anyway loop.before (walked_stop loop.so_far {x = x} next (stops_anyway loop.now stops))
+    telling_stop {x} o next stops = stops_all loop.before (walked_stop loop.so_far {x = x} next (stops_all loop.now stops))
 
     pub telling_end : (o : Outcome) → map h all ≡ o.all → rest ≡ [] → GoesOn old new o
     telling_end o same none = goes_all o loop.before (each_told h all ∙ same) (walked_end loop.so_far none)

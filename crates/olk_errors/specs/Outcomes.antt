@@ -17,6 +17,7 @@ use Rattle.olk_tree.specs.Matched.{is_match, matching, match_question}
 use Rattle.olk_tree.specs.Additional.{Sides, known_or, matching_from, additional_means, additional_report, additional_first, sides_of, has_neighbours}
 use Rattle.olk_tree.specs.Firsts.{first_of, head_of}
 use Rattle.olk_tree.specs.OneOf.{one_of_report}
+use Rattle.olk_tree.specs.Visited.{Declared}
 use Rattle.olk_tree.specs.Properties.{properties_mean, properties_report, properties_first}
 use Rattle.olk_tree.specs.PropertyNames.{names_mean, names_report, names_first}
 use Rattle.olk_tree.specs.PatternProperties.{matched_mean, matched_report, matched_first, patterns_mean, patterns_report, patterns_first}
@@ -52,6 +53,10 @@ module _ {N : Type 0} (m : N → Data → Question) (s r : N → Bool → Data �
 
   abbrev pub of_branches : List N → Data → Path → Outcome
   of_branches ns v Q = of_each u (λ n. m n v) (λ n. s n u v Q) (λ n. r n u v Q) ns
+
+  -- members, each with what is declared at its name
+  abbrev pub of_declared : List (Declared N) → Path → Outcome
+  of_declared ds Q = of_each u (λ d. m d.node d.value) (λ d. s d.node u d.value (Q // d.name)) (λ d. r d.node u d.value (Q // d.name)) ds
 
   abbrev pub of_properties : List (Name × N) → Data → Path → Outcome
   of_properties es v Q = record { accepts = (properties_mean m es v).accepts u; first = properties_first s u es v Q; all = properties_report r u es v Q }

@@ -1,5 +1,5 @@
 -- What a sink has after a walk, and after one error.
-use Rattle.std.specs.Prelude.{◌≡◌, ⊤, Bool, true, false, List, [], ◌∷◌, ◌++◌, option_to_list}
+use Rattle.std.specs.Prelude.{◌≡◌, ◌⊎◌, Bool, true, false, List, [], ◌∷◌, ◌++◌, option_to_list}
 use Rattle.olk_spec.specs.Faults.{Fault}
 use Rattle.olk_reports.specs.Errors.{fault_of}
 use Rattle.olk_reports.specs.declared.error.ValidationError.{ValidationError}
@@ -8,7 +8,6 @@ use Rattle.olk_errors.specs.declared.sink.ErrorSink.{ErrorSink}
 use Rattle.olk_errors.specs.declared.sink.Held.{Held}
 use Rattle.olk_errors.specs.declared.sink.Held.TheVariants.{First, All}
 use Rattle.olk_errors.specs.declared.sink.Stop.{Stop}
-use Rattle.olk_errors.specs.declared.sink.Stop.TheVariants.{Enough, Memory}
 
 abbrev pub is_first : Held → Bool
 is_first (First e) = true
@@ -57,17 +56,16 @@ pub record IsLonger (old new : List ValidationError) : Type 0 where
 
 abbrev pub Kept : Bool → List ValidationError → List ValidationError → Type 0
 Kept false old new = IsLonger old new
-Kept true old new = ⊤
+Kept true old new = new ≡ old
 
--- nothing is lost that was in a list of all errors
+-- nothing is lost that was in a list of all errors, and where one is wanted there is none more
 pub record Keeps (old new : ErrorSink) : Type 0 where
   pub same : wants_one new ≡ wants_one old
   pub kept : Kept (wants_one old) (held old) (held new)
 
-abbrev pub Stopped : Stop → ErrorSink → ErrorSink → (Fault → Type 0) → Type 0
-Stopped Enough old new So = HasOne old new So
-Stopped (Memory m) old new So = Keeps old new
+abbrev pub Stopped : ErrorSink → ErrorSink → (Fault → Type 0) → Type 0
+Stopped old new So = HasOne old new So ⊎ Keeps old new
 
 -- after a walk that was stopped: by an error of which that is so, or by a lack of memory
 pub record StopsBy (s : Stop) (old new : ErrorSink) (So : Fault → Type 0) : Type 0 where
-  pub stopped : Stopped s old new So
+  pub stopped : Stopped old new So

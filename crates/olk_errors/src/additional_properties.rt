@@ -212,7 +212,31 @@ fn walk_rest<'a, N: Walk<'a>>(
 }
 
 /// One error of the members that are not expected, if there are some.
+#[inline(always)]
 fn report_unexpected<'a, R, N>(
+    keyword: &'a AdditionalProperties<R, N>,
+    unexpected: &Vec<(&'a str, &'a Value)>,
+    object: Node<'a>,
+    trail: &Trail<'_, 'a>,
+    sink: &mut ErrorSink<'a>,
+) -> Result<(), Stop>
+    ensures on { OnOk result (GoesOn sink.old sink.new (of_unexpected keyword.now
+        (map (λ x. (x.0.now, view x.1.now)) unexpected.now.items)
+        (data_of object.entry) (path_at trail.now))) }
+    ensures stop { IfErr result (λ s. StopsBy s sink.old sink.new (λ f. f ∷ []
+        ≡ unexpected_faults (has_neighbours keyword.now)
+        (map (λ x. (x.0.now, view x.1.now)) unexpected.now.items)
+        (data_of object.entry) keyword.now.location (path_at trail.now))) }
+{
+    match unexpected.first() {
+        Some(_) => report_some(keyword, unexpected, object, trail, sink),
+        None => Ok(()),
+    }
+}
+
+/// One error of the members that are not expected, out of line.
+#[inline(never)]
+fn report_some<'a, R, N>(
     keyword: &'a AdditionalProperties<R, N>,
     unexpected: &Vec<(&'a str, &'a Value)>,
     object: Node<'a>,

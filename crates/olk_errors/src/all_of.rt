@@ -6,6 +6,7 @@ use olk_paths::Trail;
 use olk_tree::all_of::{AllOf, SingleValueAllOf};
 
 impl<'a, N: Walk<'a>> Walk<'a> for AllOf<N> {
+    #[inline(never)]
     fn walk(
         &'a self,
         node: Node<'a>,
@@ -18,6 +19,7 @@ impl<'a, N: Walk<'a>> Walk<'a> for AllOf<N> {
 }
 
 impl<'a, N: Walk<'a>> Walk<'a> for SingleValueAllOf<N> {
+    #[inline(never)]
     fn walk(
         &'a self,
         node: Node<'a>,

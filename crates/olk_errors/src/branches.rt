@@ -88,12 +88,13 @@ pub(crate) fn errors_of<'a, N: Walk<'a>>(
 {
     let mut sink: ErrorSink<'a> = ErrorSink::all(alloc, Vec::new(alloc));
     match asked.walk(node, trail, ctx, &mut sink) {
-        Err(Stop::Memory(error)) => Err(error),
-        _ => Ok(sink.into_errors()),
+        Ok(()) => Ok(sink.into_errors()),
+        Err(Stop) => Err(AllocError),
     }
 }
 
 /// The first error of a node, if there is one.
+#[tactic(auto, using(crate::proofs::Sinks::stopping_error))]
 pub(crate) fn first_error_of<'a, N: Walk<'a>>(
     alloc: Global,
     asked: &'a N,
@@ -107,7 +108,10 @@ pub(crate) fn first_error_of<'a, N: Walk<'a>>(
 {
     let mut sink: ErrorSink<'a> = ErrorSink::first(alloc);
     match asked.walk(node, trail, ctx, &mut sink) {
-        Err(Stop::Memory(error)) => Err(error),
-        _ => Ok(sink.into_first()),
+        Ok(()) => Ok(None),
+        Err(Stop) => match sink.into_first() {
+            Some(error) => Ok(Some(error)),
+            None => Err(AllocError),
+        },
     }
 }

@@ -9,7 +9,7 @@ ghost use Rattle.olk_errors.specs.Found.{IsErrorOf};
 ghost use Rattle.olk_errors.specs.Outcomes.{of_node};
 ghost use Rattle.olk_errors.specs.Sinks.{GoesOn, StopsBy};
 
-use crate::node::walk_leaf;
+use crate::node::{report_texts, walk_leaf};
 use crate::{ErrorSink, Stop, Walk};
 use olk_base::{Leaf, Node, RegexEngine, ValidationContext};
 use olk_paths::Trail;
@@ -77,6 +77,6 @@ fn walk_validator<'a, K: Leaf, R: RegexEngine, N: Walk<'a>>(
             keyword.walk(node, trail, ctx, sink)
         }
         KeywordOver::AdditionalProperties(keyword) => keyword.walk(node, trail, ctx, sink),
-        KeywordOver::Leaf(location, leaf) => walk_leaf(leaf, location, node, trail, sink),
+        KeywordOver::Leaf(location, leaf) => report_texts(leaf, location, node, trail, sink),
     }
 }

@@ -107,6 +107,7 @@ pub trait Errors<'a>: IsValid + Reports {
 }
 
 impl<'a, W: Walk<'a>> Errors<'a> for W {
+    #[tactic(auto, using(crate::proofs::Sinks::stopping_error))]
     fn validate(
         &'a self,
         alloc: Global,
@@ -118,14 +119,14 @@ impl<'a, W: Walk<'a>> Errors<'a> for W {
         let trail = Trail::At(path.as_str());
         match self.walk(node, &trail, ctx, &mut sink) {
             Ok(()) => Ok(()),
-            Err(Stop::Enough) => match sink.into_first() {
+            Err(Stop) => match sink.into_first() {
                 Some(error) => Err(ValidateError::Invalid(error)),
-                None => Ok(()),
+                None => Err(ValidateError::Memory(AllocError)),
             },
-            Err(Stop::Memory(error)) => Err(ValidateError::Memory(error)),
         }
     }
 
+    #[tactic(auto, using(crate::proofs::Sinks::stopping_list))]
     fn collect_errors(
         &'a self,
         alloc: Global,
@@ -143,10 +144,9 @@ impl<'a, W: Walk<'a>> Errors<'a> for W {
         *errors = sink.into_errors();
         match walked {
             Ok(()) => Ok(()),
-            Err(Stop::Enough) => Ok(()),
-            Err(Stop::Memory(error)) => {
+            Err(Stop) => {
                 errors.truncate(len);
-                Err(error)
+                Err(AllocError)
             }
         }
     }

@@ -114,6 +114,23 @@ pub(crate) fn walk_leaf<'a, K: Leaf>(
     if leaf.is_valid(node) {
         return Ok(());
     }
+    report_texts(leaf, location, node, trail, sink)
+}
+
+/// An error for each text that a leaf finds, or for one of them where one is enough.
+#[inline(never)]
+pub(crate) fn report_texts<'a, K: Leaf>(
+    leaf: &'a K,
+    location: &'a Location,
+    node: Node<'a>,
+    trail: &Trail<'_, 'a>,
+    sink: &mut ErrorSink<'a>,
+) -> Result<(), Stop>
+    ensures on { OnOk result (GoesOn sink.old sink.new
+        (of_leaf K.Leaf leaf.now (data_of node.entry) location.now (path_at trail.now))) }
+    ensures stop { IfErr result (λ s. StopsBy s sink.old sink.new (IsErrorOf
+        (of_leaf K.Leaf leaf.now (data_of node.entry) location.now (path_at trail.now)))) }
+{
     if sink.wants_one() {
         report_one_text(leaf, location, node, trail, sink)
     } else {
@@ -122,7 +139,6 @@ pub(crate) fn walk_leaf<'a, K: Leaf>(
 }
 
 /// An error for one of the texts that a leaf finds, if it finds any.
-#[inline(never)]
 fn report_one_text<'a, K: Leaf>(
     leaf: &'a K,
     location: &'a Location,
@@ -147,7 +163,6 @@ fn report_one_text<'a, K: Leaf>(
 }
 
 /// An error for each text that a leaf finds.
-#[inline(never)]
 fn report_each_text<'a, K: Leaf>(
     leaf: &'a K,
     location: &'a Location,

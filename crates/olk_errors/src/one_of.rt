@@ -17,7 +17,7 @@ use std::alloc::{AllocError, Global};
 
 impl<'a, N: Walk<'a>> Walk<'a> for OneOf<N> {
     #[inline(never)]
-    #[tactic(auto, using(crate::proofs::Sinks::keeps_same))]
+    #[tactic(auto, using(crate::proofs::Sinks::stops_here))]
     fn walk(
         &'a self,
         node: Node<'a>,
@@ -62,7 +62,7 @@ fn one_of_kind<'a, N: Walk<'a>>(
 
 impl<'a, N: Walk<'a>> Walk<'a> for SingleOneOf<N> {
     #[inline(never)]
-    #[tactic(auto, using(crate::proofs::Sinks::keeps_same, olk_check::proofs::Asked::only_then))]
+    #[tactic(auto, using(crate::proofs::Sinks::stops_here, olk_check::proofs::Asked::only_then))]
     fn walk(
         &'a self,
         node: Node<'a>,

@@ -1,13 +1,14 @@
 //! `properties`: its errors.
-ghost use Rattle.std.specs.Prelude.{OnOk, IfErr};
+ghost use Rattle.std.specs.Prelude.{option_copied, option_to_list, OnOk, IfErr};
 ghost use Rattle.std.specs.List.{zip};
-ghost use Rattle.serde_json.specs.View.{view};
+ghost use Rattle.serde_json.specs.View.{view, members_view};
+ghost use Rattle.olk_spec.specs.Schemas.{listed};
 ghost use Rattle.olk_paths.specs.Paths.{one_below};
 ghost use Rattle.olk_paths.specs.Trails.{path_at};
-ghost use Rattle.olk_tree.specs.Visited.{object_of};
+ghost use Rattle.olk_tree.specs.Visited.{members_declared, object_of};
 ghost use Rattle.olk_check.specs.Asks.{OnlyAsks};
 ghost use Rattle.olk_errors.specs.Found.{IsErrorOf};
-ghost use Rattle.olk_errors.specs.Outcomes.{of_node, of_properties};
+ghost use Rattle.olk_errors.specs.Outcomes.{of_branches, of_declared, of_node, of_properties};
 ghost use Rattle.olk_errors.specs.Sinks.{GoesOn, StopsBy};
 
 use crate::required::report_if_missing;
@@ -20,6 +21,7 @@ use olk_tree::validators_map::PropertiesValidatorsMap;
 use serde_json::{Map, Value};
 
 impl<'a, N: Walk<'a>> Walk<'a> for Properties<N> {
+    #[inline(never)]
     fn walk(
         &'a self,
         node: Node<'a>,
@@ -38,6 +40,7 @@ impl<'a, N: Walk<'a>> Walk<'a> for Properties<N> {
 }
 
 impl<'a, N: Walk<'a>> Walk<'a> for SmallPropertiesWithRequired2<N> {
+    #[inline(never)]
     fn walk(
         &'a self,
         node: Node<'a>,
@@ -57,9 +60,91 @@ impl<'a, N: Walk<'a>> Walk<'a> for SmallPropertiesWithRequired2<N> {
     }
 }
 
-/// Walks over the members whose names are declared.
-#[inline(never)]
+/// Walks over the members whose names are declared. A declared name that is looked up takes as long
+/// as two members that are walked.
+#[inline(always)]
 fn walk_members<'a, M: PropertiesValidatorsMap<N>, N: Walk<'a> + 'a>(
+    properties: &'a M,
+    members: &'a Map<String, Value>,
+    trail: &Trail<'_, 'a>,
+    ctx: &mut ValidationContext,
+    sink: &mut ErrorSink<'a>,
+) -> Result<(), Stop>
+    ensures on { OnOk result (GoesOn sink.old sink.new
+        (of_properties N.means N.first N.report ctx.old.answer
+        (zip (M.names properties.now) (M.nodes properties.now))
+        (object_of members.now.entries) (path_at trail.now))) }
+    ensures stop { IfErr result (λ s. StopsBy s sink.old sink.new (IsErrorOf
+        (of_properties N.means N.first N.report ctx.old.answer
+        (zip (M.names properties.now) (M.nodes properties.now))
+        (object_of members.now.entries) (path_at trail.now)))) }
+    ensures context { OnlyAsks ctx.old ctx.new }
+{
+    if members.len() / 2 <= properties.names().len() {
+        walk_each_member(properties, members, trail, ctx, sink)
+    } else {
+        walk_each_name(properties, members, trail, ctx, sink)
+    }
+}
+
+/// Walks over the members whose names are declared, member by member.
+#[inline(never)]
+fn walk_each_member<'a, M: PropertiesValidatorsMap<N>, N: Walk<'a> + 'a>(
+    properties: &'a M,
+    members: &'a Map<String, Value>,
+    trail: &Trail<'_, 'a>,
+    ctx: &mut ValidationContext,
+    sink: &mut ErrorSink<'a>,
+) -> Result<(), Stop>
+    ensures on { OnOk result (GoesOn sink.old sink.new
+        (of_declared N.means N.first N.report ctx.old.answer
+        (members_declared (zip (M.names properties.now) (M.nodes properties.now))
+        (listed (members_view members.now.entries))) (path_at trail.now))) }
+    ensures stop { IfErr result (λ s. StopsBy s sink.old sink.new (IsErrorOf
+        (of_declared N.means N.first N.report ctx.old.answer
+        (members_declared (zip (M.names properties.now) (M.nodes properties.now))
+        (listed (members_view members.now.entries))) (path_at trail.now)))) }
+    ensures context { OnlyAsks ctx.old ctx.new }
+{
+    let mut hint = 0;
+    for (name, value) in members {
+        let name = name.as_str();
+        let (next, declared) = properties.validator_from(hint, name);
+        hint = next;
+        walk_if_declared(declared, name, value, trail, ctx, sink)?;
+    }
+    Ok(())
+}
+
+/// Walks over a member with what is declared at its name, if anything is.
+#[inline(always)]
+fn walk_if_declared<'a, N: Walk<'a>>(
+    declared: Option<&'a N>,
+    name: &'a str,
+    value: &'a Value,
+    trail: &Trail<'_, 'a>,
+    ctx: &mut ValidationContext,
+    sink: &mut ErrorSink<'a>,
+) -> Result<(), Stop>
+    ensures on { OnOk result (GoesOn sink.old sink.new
+        (of_branches N.means N.first N.report ctx.old.answer
+        (option_to_list (option_copied declared.entry))
+        (view value.now) (one_below (path_at trail.now) name.now))) }
+    ensures stop { IfErr result (λ s. StopsBy s sink.old sink.new (IsErrorOf
+        (of_branches N.means N.first N.report ctx.old.answer
+        (option_to_list (option_copied declared.entry))
+        (view value.now) (one_below (path_at trail.now) name.now)))) }
+    ensures context { OnlyAsks ctx.old ctx.new }
+{
+    match declared {
+        Some(subschema) => walk_below(subschema, name, value, trail, ctx, sink),
+        None => Ok(()),
+    }
+}
+
+/// Walks over the members whose names are declared, declared name by declared name.
+#[inline(never)]
+fn walk_each_name<'a, M: PropertiesValidatorsMap<N>, N: Walk<'a> + 'a>(
     properties: &'a M,
     members: &'a Map<String, Value>,
     trail: &Trail<'_, 'a>,

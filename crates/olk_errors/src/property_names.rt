@@ -38,7 +38,7 @@ impl<'a, N: Walk<'a>> Walk<'a> for PropertyNames<N> {
 
 impl<'a> Walk<'a> for PropertyNamesFalse {
     #[inline(never)]
-    #[tactic(auto, using(crate::proofs::Sinks::keeps_same))]
+    #[tactic(auto, using(crate::proofs::Sinks::stops_here))]
     fn walk(
         &'a self,
         node: Node<'a>,

@@ -27,23 +27,18 @@ enum Held<'a> {
     All(Vec<ValidationError<'a>>),
 }
 
-/// Why a walk ended early.
+/// A walk ended early: the sink has the one error that it wants, or else there was no memory.
 #[derive(Drop)]
-pub enum Stop {
-    /// The sink has the one error that it wants.
-    Enough,
-    /// There was no memory.
-    Memory(AllocError),
-}
+pub struct Stop;
 
 impl From<AllocError> for Stop {
-    ghost use Rattle.olk_errors.specs.declared.sink.Stop.TheVariants.{Memory};
+    ghost use Rattle.std.specs.Prelude.{⊤};
 
-    ghost from_gives = { λ a e. e ≡ Memory a };
+    ghost from_gives = { λ a e. ⊤ };
 
-    /// Gives `Memory`.
-    fn from(error: AllocError) -> Stop {
-        Stop::Memory(error)
+    /// Gives the one stop there is.
+    fn from(_error: AllocError) -> Stop {
+        Stop
     }
 }
 
@@ -123,7 +118,7 @@ impl<'a> ErrorSink<'a> {
         match &mut self.held {
             Held::First(slot) => {
                 *slot = Some(error);
-                Err(Stop::Enough)
+                Err(Stop)
             }
             Held::All(errors) => {
                 append(errors, error)?;

@@ -27,7 +27,7 @@ impl Trail<'_, '_> {
         ensures { IfOk result (λ t. t ≡ path_at self.now) }
     {
         let mut short = ArrayString::new();
-        if self.fits(&mut short) {
+        if self.fits(&mut short, INLINE) {
             return Ok(PathText::inline(short));
         }
         let mut text = String::with_capacity(alloc, self.room())?;
@@ -35,13 +35,17 @@ impl Trail<'_, '_> {
         Ok(PathText::from(text))
     }
 
-    /// Appends the text, if it has room and each segment is written as it is.
-    fn fits(&self, text: &mut ArrayString<INLINE>) -> bool
+    /// Appends the text, if it takes no more than the room, which the text has, and each segment is
+    /// written as it is.
+    fn fits(&self, text: &mut ArrayString<INLINE>, room: usize) -> bool
         ensures { result ≡ true → text.new.bytes ≡ text.old.bytes ++ path_at self.now }
     {
         match self {
             Trail::At(path) => text.try_push_str(path).is_ok(),
-            Trail::Below(up, name) => up.fits(text) && push_plain(text, name),
+            Trail::Below(up, name) => {
+                let len = name.len();
+                len < room && up.fits(text, room - len - 1) && push_plain(text, name)
+            }
         }
     }
 

@@ -43,7 +43,7 @@ module _ {N : Type 0} (ms : Members) where
     means_at [] = refl
     means_at (e ∷ es) = λ i. both (mean_at e (lookup_name e.0 (listed ms)) i) (means_at es i)
 
-    means_of_met : (es : List (Name × N)) → every (λ d. m d.node d.value) (names_met es (listed ms)) ≡ properties_mean m es (object ms)
+    pub means_of_met : (es : List (Name × N)) → every (λ d. m d.node d.value) (names_met es (listed ms)) ≡ properties_mean m es (object ms)
     means_of_met es = every-flat_map (λ d. m d.node d.value) (λ e. met_at e (lookup_name e.0 (listed ms))) es ∙ means_at es
 
     -- the same member by member
@@ -73,7 +73,7 @@ module _ {N : Type 0} (ms : Members) where
     reports_at [] = refl
     reports_at (e ∷ es) = λ i. report_at e (lookup_name e.0 (listed ms)) i ++ reports_at es i
 
-    report_of_met : (es : List (Name × N)) → flat_map fault_at (names_met es (listed ms)) ≡ properties_report f u es (object ms) Q
+    pub report_of_met : (es : List (Name × N)) → flat_map fault_at (names_met es (listed ms)) ≡ properties_report f u es (object ms) Q
     report_of_met es = flat_map-flat_map fault_at (λ e. met_at e (lookup_name e.0 (listed ms))) es ∙ reports_at es
 
     first_at : (e : Name × N) (o : Option Data) → first_of fault_at (met_at e o) ≡ first_of (λ x. f e.1 u x (Q // e.0)) (option_to_list o)
@@ -84,7 +84,7 @@ module _ {N : Type 0} (ms : Members) where
     firsts_at [] = refl
     firsts_at (e ∷ es) = λ i. or_else (first_at e (lookup_name e.0 (listed ms)) i) (firsts_at es i)
 
-    first_of_met : (es : List (Name × N)) → first_of fault_at (names_met es (listed ms)) ≡ properties_first f u es (object ms) Q
+    pub first_of_met : (es : List (Name × N)) → first_of fault_at (names_met es (listed ms)) ≡ properties_first f u es (object ms) Q
     first_of_met es = first_of-flat_map fault_at (λ e. met_at e (lookup_name e.0 (listed ms))) es ∙ firsts_at es
 
   -- ---- over what a walk has left at its start

@@ -5,7 +5,7 @@ use Rattle.olk_spec.specs.Schemas.{listed, members}
 use Rattle.olk_tree.specs.Additional.{repeats}
 use Rattle.olk_tree.proofs.Due.{name_next, no_name_next}
 use Rattle.olk_check.proofs.Asked.{only_then}
-use Rattle.olk_errors.proofs.Sinks.{left_by}
+use Rattle.olk_errors.proofs.Sinks.{any_stop, left_by}
 use Rattle.olk_errors.proofs.AdditionalMembers.{map_more, members_start, members_more, members_aside, members_cut, members_stop, told_goes, told_stops, members_end, members_end_stop}
 use Rattle.olk_errors.proofs.additional_properties.walk_members.Goals as goal
 
@@ -22,8 +22,8 @@ loop-name-preserved-then-not-branch g c = members_more _ _ _ _ _ _ _ _ c.loop-na
     c.in_ok-walk_asked.ensures.on c.in_ok-walk_asked.ensures.unexpected c.if-not-branch.true c.walk_asked.ensures.context
 
 pub returns-in_err-append-clause-stop : goal.returns-in_err-append-clause-stop
-returns-in_err-append-clause-stop g c = left_by c.from_residual-in_err-append.result _ _ c.from_residual-in_err-append.ensures.1
-    (members_cut _ _ _ _ _ _ _ _ c.loop-name.invariant (name_next c.in-Some.ensures.steps c.as_str-name.ensures.value) c.declared_from-next.ensures c.in_ok-walk_asked.ensures.on _) (λ h. h)
+returns-in_err-append-clause-stop g c = any_stop c.from_residual-in_err-append.result
+    (λ s. members_cut _ _ _ _ _ _ _ _ c.loop-name.invariant (name_next c.in-Some.ensures.steps c.as_str-name.ensures.value) c.declared_from-next.ensures c.in_ok-walk_asked.ensures.on {s})
 
 pub loop-name-preserved : goal.loop-name-preserved
 loop-name-preserved g c = members_aside _ _ _ _ _ _ _ _ c.loop-name.invariant (name_next c.in-Some.ensures.steps c.as_str-name.ensures.value) c.declared_from-next.ensures

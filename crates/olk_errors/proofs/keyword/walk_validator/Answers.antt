@@ -237,8 +237,8 @@ returns-in-AdditionalProperties-clause-stop g c = subst (λ k. IfErr c.walk-in-A
 
 pub returns-in-Leaf-clause-on : goal.returns-in-Leaf-clause-on
 unfolding answers_of
-returns-in-Leaf-clause-on g c = rw c.in-Leaf.is c.walk_leaf.ensures.on
+returns-in-Leaf-clause-on g c = rw c.in-Leaf.is c.report_texts.ensures.on
 
 pub returns-in-Leaf-clause-stop : goal.returns-in-Leaf-clause-stop
 unfolding answers_of
-returns-in-Leaf-clause-stop g c = rw c.in-Leaf.is c.walk_leaf.ensures.stop
+returns-in-Leaf-clause-stop g c = rw c.in-Leaf.is c.report_texts.ensures.stop

@@ -1,26 +1,28 @@
+use Rattle.std.proofs.Common.{subst}
+use Rattle.std.proofs.lemmas.Result.{on_ok_weaker, IfErr-weaker}
 use Rattle.std.specs.List.{zip}
 use Rattle.serde_json.specs.View.{members_view}
 use Rattle.olk_paths.specs.Trails.{path_at}
-use Rattle.olk_check.proofs.Asked.{only_then}
-use Rattle.olk_errors.proofs.Members.{outcome_of_walk}
-use Rattle.olk_errors.proofs.Sinks.{walking_start, walking_more, walking_stop, walking_end, left_by, goes_same, stops_same}
+use Rattle.olk_tree.specs.Ascending.{Ascend}
+use Rattle.olk_tree.proofs.Walked.{walks_agree}
+use Rattle.olk_errors.proofs.Members.{outcome_of_members}
+use Rattle.olk_errors.proofs.Sinks.{goes_same, stops_same}
 use Rattle.olk_errors.proofs.properties.walk_members.Goals as goal
 
-pub loop-name-init : goal.loop-name-init
-loop-name-init g c = walking_start
+pub returns-then-len-clause-on : goal.returns-then-len-clause-on
+returns-then-len-clause-on g c =
+    let names = g.M.PropertiesValidatorsMap.names c.args.properties.now in
+    let nodes = g.M.PropertiesValidatorsMap.nodes c.args.properties.now in
+    let ascend = subst Ascend c.names.ensures c.len-2.ensures.ordered in
+    let whole = outcome_of_members g.N.Means.means g.N.Reports.first g.N.Reports.report c.args.ctx.now.answer (zip names nodes) (path_at c.args.trail.now) (members_view c.args.members.now.entries)
+    (walks_agree names nodes c.args.members.now.entries ascend c.len.ensures.ordered) in
+    on_ok_weaker c.walk_each_member.result (goes_same whole) c.walk_each_member.ensures.on
 
-pub loop-name-preserved : goal.loop-name-preserved
-loop-name-preserved g c = walking_more c.loop-name.invariant c.in-Some.ensures.steps c.in_ok-walk_below.ensures.on c.walk_below.ensures.context
-
-pub returns-in_err-walk_below-clause-context : goal.returns-in_err-walk_below-clause-context
-returns-in_err-walk_below-clause-context g c = only_then c.loop-name.invariant.only c.walk_below.ensures.context
-
-pub returns-in_err-walk_below-clause-stop : goal.returns-in_err-walk_below-clause-stop
-returns-in_err-walk_below-clause-stop g c =
-    let whole = outcome_of_walk g.N.Means.means g.N.Reports.first g.N.Reports.report c.args.ctx.now.answer (zip (g.M.PropertiesValidatorsMap.names c.args.properties.now) (g.M.PropertiesValidatorsMap.nodes c.args.properties.now)) (path_at c.args.trail.now) (members_view c.args.members.now.entries) c.into_iter-name-iterator.ensures.into_iter_gives c.declared_members-name-items.ensures.by_names in
-    left_by c.from_residual.result _ _ c.from_residual.ensures.1 c.in_err-walk_below.ensures.stop (λ h. stops_same whole (walking_stop c.loop-name.invariant c.in-Some.ensures.steps h))
-
-pub returns-clause-on : goal.returns-clause-on
-returns-clause-on g c =
-    let whole = outcome_of_walk g.N.Means.means g.N.Reports.first g.N.Reports.report c.args.ctx.now.answer (zip (g.M.PropertiesValidatorsMap.names c.args.properties.now) (g.M.PropertiesValidatorsMap.nodes c.args.properties.now)) (path_at c.args.trail.now) (members_view c.args.members.now.entries) c.into_iter-name-iterator.ensures.into_iter_gives c.declared_members-name-items.ensures.by_names in
-    goes_same whole (walking_end c.loop-name.invariant c.in-None.ensures.steps)
+pub returns-then-len-clause-stop : goal.returns-then-len-clause-stop
+returns-then-len-clause-stop g c =
+    let names = g.M.PropertiesValidatorsMap.names c.args.properties.now in
+    let nodes = g.M.PropertiesValidatorsMap.nodes c.args.properties.now in
+    let ascend = subst Ascend c.names.ensures c.len-2.ensures.ordered in
+    let whole = outcome_of_members g.N.Means.means g.N.Reports.first g.N.Reports.report c.args.ctx.now.answer (zip names nodes) (path_at c.args.trail.now) (members_view c.args.members.now.entries)
+    (walks_agree names nodes c.args.members.now.entries ascend c.len.ensures.ordered) in
+    IfErr-weaker c.walk_each_member.result _ _ (λ s h. stops_same whole h) c.walk_each_member.ensures.stop
