@@ -277,14 +277,20 @@ module _ {old new : ErrorSink} {So : Fault → Type 0} where
   all_kept all (inl h) = absurd (true≢false (sym h.one ∙ all))
   all_kept all (inr h) = kept_all (wants_one old) (held old) (held new) all h.kept
 
+  wants_same : Stopped old new So → wants_one new ≡ wants_one old
+  wants_same (inl h) = h.same
+  wants_same (inr h) = h.same
+
   module _ {s : Stop} (stops : StopsBy s old new So) where
     -- an error in a sink that wanted one, and had none, is the one by which it was stopped
-    pub stopping_error : {e : ValidationError} → wants_one old ≡ true → held old ≡ [] → e ∷ [] ≡ held new → So (fault_of e)
-    stopping_error one none is = error_is one none is stops.stopped
+    pub stopping_error : {e : ValidationError} → wants_one old ≡ true → held old ≡ [] → (wants_one new ≡ true → e ∷ [] ≡ held new) → So (fault_of e)
+    stopping_error one none is = error_is one none (is (wants_same stops.stopped ∙ one)) stops.stopped
 
     -- a list of all errors, cut back to the length before, is the list before
-    pub stopping_list : {len : ℕ} → wants_one old ≡ false → len ≡ length (held old) → take len (held new) ≡ held old
-    stopping_list all len = let longer = all_kept all stops.stopped in (λ i. take (len i) (longer.is i)) ∙ take-append_seam (held old) longer.added
+    pub stopping_list : {n : ℕ} {es : List ValidationError} → wants_one old ≡ false → n ≡ length (held old) → (wants_one new ≡ false → es ≡ held new) → take n es ≡ held old
+    stopping_list {n} {es} all len is =
+        let longer = all_kept all stops.stopped in
+        ap (λ k. take k es) len ∙ ap (take (length (held old))) (is (wants_same stops.stopped ∙ all) ∙ longer.is) ∙ take-append_seam (held old) longer.added
 
 -- where there was no memory for an error more
 pub takes_none : {old : ErrorSink} {s : Stop} {So : Fault → Type 0} {es fs : Vec ValidationError Global} → old.held ≡ All es → fs.items ≡ es.items

@@ -23,7 +23,7 @@ loop-name-preserved-then-not-branch g c = members_more _ _ _ _ _ _ _ _ c.loop-na
 
 pub returns-in_err-append-clause-stop : goal.returns-in_err-append-clause-stop
 returns-in_err-append-clause-stop g c = any_stop c.from_residual-in_err-append.result
-    (λ s. members_cut _ _ _ _ _ _ _ _ c.loop-name.invariant (name_next c.in-Some.ensures.steps c.as_str-name.ensures.value) c.declared_from-next.ensures c.in_ok-walk_asked.ensures.on {s})
+    (λ s. members_cut _ _ _ _ _ _ _ _ c.loop-name.invariant (name_next c.in-Some.ensures.steps c.as_str-name.ensures.value) c.declared_from-next.ensures c.in_ok-walk_asked.ensures.on)
 
 pub loop-name-preserved : goal.loop-name-preserved
 loop-name-preserved g c = members_aside _ _ _ _ _ _ _ _ c.loop-name.invariant (name_next c.in-Some.ensures.steps c.as_str-name.ensures.value) c.declared_from-next.ensures

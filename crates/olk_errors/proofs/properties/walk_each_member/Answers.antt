@@ -17,13 +17,13 @@ loop-name-init g c = walking_from (ap (λ es. members_declared (zip (g.M.Propert
 pub loop-name-preserved : goal.loop-name-preserved
 loop-name-preserved g c = declared_more g.N.Means.means g.N.Reports.first g.N.Reports.report (path_at c.args.trail.now)
     (zip (g.M.PropertiesValidatorsMap.names c.args.properties.now) (g.M.PropertiesValidatorsMap.nodes c.args.properties.now))
-    c.loop-name.invariant (name_next c.in-Some.ensures.steps c.as_str-name.ensures.value) c.validator_from-next.ensures c.in_ok-walk_if_declared.ensures.on c.walk_if_declared.ensures.context
+    (listed (members_view c.args.members.now.entries)) c.loop-name.invariant (name_next c.in-Some.ensures.steps c.as_str-name.ensures.value) c.validator_from-next.ensures c.in_ok-walk_if_declared.ensures.on c.walk_if_declared.ensures.context
 
 pub returns-in_err-walk_if_declared-clause-stop : goal.returns-in_err-walk_if_declared-clause-stop
 returns-in_err-walk_if_declared-clause-stop g c = left_by c.from_residual.result _ _ c.from_residual.ensures.1 c.in_err-walk_if_declared.ensures.stop
     (declared_stop g.N.Means.means g.N.Reports.first g.N.Reports.report (path_at c.args.trail.now)
     (zip (g.M.PropertiesValidatorsMap.names c.args.properties.now) (g.M.PropertiesValidatorsMap.nodes c.args.properties.now))
-    c.loop-name.invariant (name_next c.in-Some.ensures.steps c.as_str-name.ensures.value) c.validator_from-next.ensures)
+    (listed (members_view c.args.members.now.entries)) c.loop-name.invariant (name_next c.in-Some.ensures.steps c.as_str-name.ensures.value) c.validator_from-next.ensures)
 
 pub returns-in_err-walk_if_declared-clause-context : goal.returns-in_err-walk_if_declared-clause-context
 returns-in_err-walk_if_declared-clause-context g c = only_then c.loop-name.invariant.only c.walk_if_declared.ensures.context
