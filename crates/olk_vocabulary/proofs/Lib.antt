@@ -1,4 +1,0 @@
-pub mod Equal
-pub mod Findings
-pub mod Lists
-pub mod Sameness
