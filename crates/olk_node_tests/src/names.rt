@@ -29,7 +29,7 @@ fn first_names(alloc: Global, count: usize) -> Result<SmallMap<usize>, AllocErro
     )
 }
 
-/// The same in a map of many.
+/// The first names in a map of many, each with its place.
 fn first_of_many(alloc: Global, count: usize) -> Result<BigMap<usize>, AllocError> {
     let SmallMap { names, nodes } = first_names(alloc, count)?;
     Ok(BigMap { names, nodes })

@@ -127,7 +127,7 @@ impl SortedNames {
         }
     }
 
-    /// The same, where the heads before `start` are less than the name's.
+    /// What `find_apart` tells, if the heads before `start` are less than the name's.
     #[inline(never)]
     fn find_far(&self, start: usize, head: u64, name: &str) -> Result<usize, usize>
         requires head { head ≡ first_bytes name.now }
@@ -137,7 +137,7 @@ impl SortedNames {
         self.find_at(first_behind(&self.heads, start, head), head, name)
     }
 
-    /// The same, where at the place stands the first head that is not less than the name's.
+    /// What `find_apart` tells, if the first head that is not less than the name's is at the place.
     #[inline(always)]
     fn find_at(&self, place: usize, head: u64, name: &str) -> Result<usize, usize>
         requires head { head ≡ first_bytes name.now }
@@ -234,7 +234,7 @@ fn head_of(text: &str) -> u64
     }
 }
 
-/// The same of fewer than eight bytes.
+/// The first bytes of fewer than eight, as `head_of` gives them.
 #[inline(always)]
 fn head_of_few(bytes: &[u8]) -> u64
     requires { length bytes.now < 8 }
