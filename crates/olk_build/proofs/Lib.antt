@@ -1,3 +1,5 @@
 pub mod Built
+mod Each
 mod Parts
 mod Places
+mod Sizes

@@ -1,12 +1,12 @@
 -- What building a node, or a part of one, promises.
-use Rattle.std.specs.Prelude.{◌≡◌, Bool, true, false, not, List, [], ◌++◌}
+use Rattle.std.specs.Prelude.{◌≡◌, Bool, true, false, not, List, [], ◌++◌, map}
 use Rattle.std.specs.List.{flat_map}
 use Rattle.serde_json.specs.Data.{Data, Members}
 use Rattle.olk_spec.specs.Names.{Name, Path, ◌//◌, filter_once}
 use Rattle.olk_spec.specs.Faults.{Fault}
 use Rattle.olk_spec.specs.Schemas.{listed, members, is_array}
 use Rattle.olk_spec.specs.Costs.{Cost, cost, total_cost, ◌⊕◌}
-use Rattle.olk_spec.specs.Malformed.{malformations_at}
+use Rattle.olk_spec.specs.Malformed.{has_repeat, malformations_at}
 use Rattle.olk_base.specs.Count.{Counts}
 use Rattle.olk_reports.specs.declared.error.BuildError.{BuildError}
 use Rattle.olk_base.specs.Kit.{Kit}
@@ -15,10 +15,20 @@ use Rattle.olk_tree.specs.Answers.{Answers}
 use Rattle.olk_tree.specs.Places.{Stands}
 use Rattle.olk_meaning.specs.Conditions.{Known, is_restricted, IsKnown}
 use Rattle.olk_meaning.specs.Members.{member_malformations, member_cost}
+use Rattle.olk_meaning.specs.Plans.{Planned, plan_of}
 use Rattle.olk_read.specs.Refusing.{Spends, Refuses}
 use Rattle.olk_read.specs.Patterns.{patterns_wrong, patterns_cost}
 use Rattle.olk_make.specs.Holding.{StandEach, StandInner, which, all_malformed}
 use Rattle.olk_make.specs.Standing.{EntriesStand}
+use Rattle.olk_make.specs.Making.{ObjectIsMade}
+use Rattle.olk_tree.specs.declared.node.KeywordOver.{KeywordOver}
+
+-- by the plan of the object with these members no keyword takes what another holds
+pub record NothingIsTaken (ms : Members) (p : Planned) : Type 0 where
+  pub plan : p ≡ plan_of ms
+  pub distinct : has_repeat (map (λ m. m.0) (listed ms)) ≡ false
+  pub no_condition : p.condition ≡ false
+  pub unrestricted : p.restricted ≡ false
 
 -- the entries that are no lists
 abbrev pub no_lists : List (Name × Data) → List (Name × Data)
@@ -86,11 +96,17 @@ module _ {K R : Type 0} (o : Kit K R) where
   abbrev pub RefusesInner : List (Name × Data) → Path → Counts → Counts → BuildError → Type 0
   RefusesInner es P old new e = Refuses (inner_malformed P es) (inner_cost es) old new e
 
-  -- ---- parts of the schema object with the members ms at P
+  -- ---- keywords and parts of the schema object with the members ms at P
 
   module _ (ms : Members) where
     abbrev pub all_cost : List (Name × Data) → Cost
     all_cost es = total_cost (λ m. member_cost o.world ms m (which o ms m)) es
+
+    -- keywords for the object
+    pub record ObjectIsBuilt {N : Type 0} (answers : N → Answers) (ks : List (KeywordOver K R N)) (P : Path) (old new : Counts) : Type 0 where
+      pub mean : ObjectIsMade o answers ms ks P
+      pub clean : all_malformed o ms P (listed ms) ≡ []
+      pub spends : Spends old new (all_cost (listed ms))
 
     abbrev pub RefusesObject : Path → Counts → Counts → BuildError → Type 0
     RefusesObject P old new e = Refuses (all_malformed o ms P (listed ms)) (all_cost (listed ms)) old new e

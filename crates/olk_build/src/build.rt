@@ -7,20 +7,21 @@ ghost use Rattle.olk_spec.specs.Costs.{cost};
 ghost use Rattle.olk_paths.specs.Paths.{one_below};
 ghost use Rattle.olk_base.specs.Kit.{kit, world};
 ghost use Rattle.olk_tree.specs.Places.{Stands};
-ghost use Rattle.olk_build.specs.Building.{IsBuilt, AreBuilt, InnerAreBuilt, is_read, entries_read, RefusesSchema, RefusesEach, RefusesInner, RefusesObject, RefusesPart};
+ghost use Rattle.olk_build.specs.Building.{IsBuilt, NothingIsTaken, ObjectIsBuilt, AreBuilt, InnerAreBuilt, is_read, entries_read, RefusesSchema, RefusesEach, RefusesInner, RefusesObject, RefusesPart};
 ghost use Rattle.olk_meaning.specs.Conditions.{known, known_of};
+ghost use Rattle.olk_meaning.specs.Plans.{planned};
 ghost use Rattle.olk_read.specs.Refusing.{TellsOneOf, Spends, SpendsWithin};
 ghost use Rattle.olk_build.specs.Placing.{ObjectIsParted, IsPart, PlacesAreBuilt, RefusesPlaces};
 
 use crate::context::Context;
 use olk_base::{MakeLeaf, MakeRegex, Meter, append, append_all, one};
-use olk_make::{Part, make_keywords};
-use olk_meaning::Neighbours;
+use olk_make::{Part, append_keyword, make_keywords};
+use olk_meaning::{Neighbours, Plan};
 use olk_paths::Location;
-use olk_read::{Makers, ReadPlaces, read_keyword, refuse};
+use olk_read::{Makers, ReadPlaces, Stop, read_keyword, refuse};
 use olk_reports::{BuildError, ValidationErrorKind};
 use olk_tree::built_node::BuiltNode;
-use olk_tree::node::Body;
+use olk_tree::node::{Body, KeywordOver};
 use serde_json::{Map, Value};
 use std::alloc::{AllocError, Global};
 
@@ -44,7 +45,7 @@ fn compile_schema<'a, L: MakeLeaf, M: MakeRegex, N: BuiltNode<L::Leaf, M::Engine
     meter: &mut Meter,
     location: Location,
     schema: &'a Value,
-) -> Result<N, BuildError<'a>>
+) -> Result<N, Stop<'a>>
     ensures built { IfOk result (λ n. IsBuilt (kit L.Leaf.Leaf M.Engine.RegexEngine) N.answers n
         (view schema.now) location meter.old meter.new) }
     ensures refused { IfErr result (RefusesSchema (kit L.Leaf.Leaf M.Engine.RegexEngine)
@@ -55,14 +56,40 @@ fn compile_schema<'a, L: MakeLeaf, M: MakeRegex, N: BuiltNode<L::Leaf, M::Engine
         Value::Bool(true) => Ok(N::new(location, Body::True)),
         Value::Bool(false) => Ok(N::new(location, Body::False)),
         Value::Object(members) => {
-            let parts = compile_parts(alloc, makers, meter, &location, members)?;
-            let keywords = make_keywords(alloc, &location, members, parts)?;
+            let keywords = compile_object(alloc, makers, meter, &location, members)?;
             Ok(N::new(location, Body::Keywords(keywords)))
         }
         Value::Null | Value::Number(_) | Value::String(_) | Value::Array(_) => {
             Err(refuse(alloc, ValidationErrorKind::MultipleTypes, schema, &location))
         }
     }
+}
+
+/// The keywords of a schema object, in the order of their names.
+///
+/// # Errors
+///
+/// One of the members' malformations; else out of memory.
+#[cycle(compile)]
+fn compile_object<'a, L: MakeLeaf, M: MakeRegex, N: BuiltNode<L::Leaf, M::Engine>>(
+    alloc: Global,
+    makers: &Makers<'_, L, M>,
+    meter: &mut Meter,
+    place: &Location,
+    members: &'a Map<String, Value>,
+) -> Result<Vec<KeywordOver<L::Leaf, M::Engine, N>>, Stop<'a>>
+    ensures built { IfOk result (λ ks. ObjectIsBuilt (kit L.Leaf.Leaf M.Engine.RegexEngine)
+        (members_view members.now.entries) N.answers ks.items place.now meter.old meter.new) }
+    ensures refused { IfErr result (RefusesObject (kit L.Leaf.Leaf M.Engine.RegexEngine)
+        (members_view members.now.entries) place.now meter.old meter.new) }
+{
+    let plan = Plan::of(members);
+    if !plan.is_condition() && !plan.is_restricted() {
+        return compile_each(alloc, makers, meter, plan, place, members);
+    }
+    let parts = compile_parts(alloc, makers, meter, place, members)?;
+    let keywords = make_keywords(alloc, plan, place, parts)?;
+    Ok(keywords)
 }
 
 /// The parts of a schema object, one for each member, in the order of their names.
@@ -77,7 +104,7 @@ fn compile_parts<'a, L: MakeLeaf, M: MakeRegex, N: BuiltNode<L::Leaf, M::Engine>
     meter: &mut Meter,
     place: &Location,
     members: &'a Map<String, Value>,
-) -> Result<Vec<Part<L::Leaf, M::Engine, N>>, BuildError<'a>>
+) -> Result<Vec<Part<L::Leaf, M::Engine, N>>, Stop<'a>>
     ensures built { IfOk result (λ ps. ObjectIsParted (kit L.Leaf.Leaf M.Engine.RegexEngine)
         N.answers (members_view members.now.entries) ps.items place.now meter.old meter.new) }
     ensures refused { IfErr result (RefusesObject (kit L.Leaf.Leaf M.Engine.RegexEngine)
@@ -101,6 +128,39 @@ fn compile_parts<'a, L: MakeLeaf, M: MakeRegex, N: BuiltNode<L::Leaf, M::Engine>
     Ok(parts)
 }
 
+/// The keywords of a schema object in which none takes what another holds, in the order of their
+/// names. They are made one by one, without a list of their parts.
+///
+/// # Errors
+///
+/// One of the members' malformations; else out of memory.
+#[cycle(compile)]
+fn compile_each<'a, L: MakeLeaf, M: MakeRegex, N: BuiltNode<L::Leaf, M::Engine>>(
+    alloc: Global,
+    makers: &Makers<'_, L, M>,
+    meter: &mut Meter,
+    plan: Plan<'_>,
+    place: &Location,
+    members: &'a Map<String, Value>,
+) -> Result<Vec<KeywordOver<L::Leaf, M::Engine, N>>, Stop<'a>>
+    ensures built { IfOk result (λ ks.
+        NothingIsTaken (members_view members.now.entries) (planned plan.entry)
+        → ObjectIsBuilt (kit L.Leaf.Leaf M.Engine.RegexEngine) (members_view members.now.entries)
+        N.answers ks.items place.now meter.old meter.new) }
+    ensures refused { IfErr result (RefusesObject (kit L.Leaf.Leaf M.Engine.RegexEngine)
+        (members_view members.now.entries) place.now meter.old meter.new) }
+{
+    let neighbours = Neighbours::of(members);
+    let mut keywords = Vec::with_capacity(alloc, members.len())?;
+    for (name, value) in members {
+        let name = name.as_str();
+        let location = place.join(alloc, name)?;
+        let part = compile_part(alloc, makers, meter, neighbours, location, name, value)?;
+        append_keyword(alloc, plan, place, part, &mut keywords)?;
+    }
+    Ok(keywords)
+}
+
 /// The part of a member of a schema object, by what it has to know of its neighbours.
 ///
 /// # Errors
@@ -115,7 +175,7 @@ fn compile_part<'a, L: MakeLeaf, M: MakeRegex, N: BuiltNode<L::Leaf, M::Engine>>
     location: Location,
     name: &'a str,
     value: &'a Value,
-) -> Result<Part<L::Leaf, M::Engine, N>, BuildError<'a>>
+) -> Result<Part<L::Leaf, M::Engine, N>, Stop<'a>>
     ensures built { IfOk result (λ p. IsPart (kit L.Leaf.Leaf M.Engine.RegexEngine) N.answers p
         (known neighbours.entry) name.now (view value.now) location meter.old meter.new) }
     ensures refused { IfErr result (RefusesPart (kit L.Leaf.Leaf M.Engine.RegexEngine)
@@ -143,7 +203,7 @@ fn compile_places<'a, L: MakeLeaf, M: MakeRegex, N: BuiltNode<L::Leaf, M::Engine
     location: &Location,
     reads: ReadPlaces,
     value: &'a Value,
-) -> Result<Vec<N>, BuildError<'a>>
+) -> Result<Vec<N>, Stop<'a>>
     ensures built { IfOk result (λ ns. PlacesAreBuilt (kit L.Leaf.Leaf M.Engine.RegexEngine)
         N.answers reads ns.items (view value.now) location.now meter.old meter.new) }
     ensures refused { IfErr result (RefusesPlaces (kit L.Leaf.Leaf M.Engine.RegexEngine)
@@ -204,7 +264,7 @@ fn compile_entries<'a, L: MakeLeaf, M: MakeRegex, N: BuiltNode<L::Leaf, M::Engin
     place: &Location,
     passes_arrays: bool,
     map: &'a Map<String, Value>,
-) -> Result<Vec<N>, BuildError<'a>>
+) -> Result<Vec<N>, Stop<'a>>
     ensures built { IfOk result (λ ns. AreBuilt (kit L.Leaf.Leaf M.Engine.RegexEngine)
         N.answers ns.items (entries_read passes_arrays (listed (members_view map.now.entries)))
         place.now meter.old meter.new) }
@@ -235,7 +295,7 @@ fn compile_inner_entries<'a, L: MakeLeaf, M: MakeRegex, N: BuiltNode<L::Leaf, M:
     meter: &mut Meter,
     place: &Location,
     map: &'a Map<String, Value>,
-) -> Result<Vec<N>, BuildError<'a>>
+) -> Result<Vec<N>, Stop<'a>>
     ensures built { IfOk result (λ ns. InnerAreBuilt (kit L.Leaf.Leaf M.Engine.RegexEngine)
         N.answers ns.items (listed (members_view map.now.entries)) place.now meter.old meter.new) }
     ensures refused { IfErr result (RefusesInner (kit L.Leaf.Leaf M.Engine.RegexEngine)
@@ -263,7 +323,7 @@ fn compile_branches<'a, L: MakeLeaf, M: MakeRegex, N: BuiltNode<L::Leaf, M::Engi
     meter: &mut Meter,
     place: &Location,
     items: &'a Vec<Value>,
-) -> Result<Vec<N>, BuildError<'a>>
+) -> Result<Vec<N>, Stop<'a>>
     ensures built { IfOk result (λ ns. AreBuilt (kit L.Leaf.Leaf M.Engine.RegexEngine)
         N.answers ns.items
         (numbered (items_list (items_view items.now.items))) place.now meter.old meter.new) }
@@ -303,7 +363,7 @@ pub fn compile_member<'a, L: MakeLeaf, M: MakeRegex, N: BuiltNode<L::Leaf, M::En
 {
     let location = ctx.place.join(alloc, name)?;
     let neighbours = Neighbours::of(parent);
-    compile_part(
+    Ok(compile_part(
         alloc,
         &ctx.makers,
         ctx.meter,
@@ -311,7 +371,7 @@ pub fn compile_member<'a, L: MakeLeaf, M: MakeRegex, N: BuiltNode<L::Leaf, M::En
         location,
         name,
         value,
-    )
+    )?)
 }
 
 /// The nodes of the entries of an object, each below the keyword of this name at the context's
@@ -337,7 +397,7 @@ pub fn compile_declared<'a, L: MakeLeaf, M: MakeRegex, N: BuiltNode<L::Leaf, M::
     ensures same_meter { ctx.new.meter.ghost_name ≡ ctx.old.meter.ghost_name }
 {
     let location = ctx.place.join(alloc, name)?;
-    compile_entries(alloc, &ctx.makers, ctx.meter, &location, false, entries)
+    Ok(compile_entries(alloc, &ctx.makers, ctx.meter, &location, false, entries)?)
 }
 
 /// The node of a schema at the context's place, with all that it reads inside. It is of any type
@@ -370,5 +430,5 @@ pub fn compile<'a, L: MakeLeaf, M: MakeRegex, N: BuiltNode<L::Leaf, M::Engine>>(
     ensures same_meter { ctx.new.meter.ghost_name ≡ ctx.old.meter.ghost_name }
 {
     let location = ctx.place.try_clone(alloc)?;
-    compile_schema(alloc, &ctx.makers, ctx.meter, location, schema)
+    Ok(compile_schema(alloc, &ctx.makers, ctx.meter, location, schema)?)
 }

@@ -11,6 +11,9 @@ use Rattle.olk_spec.specs.Malformed.{has_repeat}
 use Rattle.olk_base.specs.Count.{Counts}
 use Rattle.olk_base.specs.Kit.{Kit}
 use Rattle.olk_reports.specs.declared.error.BuildError.{BuildError}
+use Rattle.olk_reports.specs.declared.error.BuildError.TheVariants.{Memory}
+use Rattle.std.specs.declared.alloc.AllocError.{AllocError}
+use Rattle.olk_read.proofs.Spending.{refuses_memory, within_exactly}
 use Rattle.olk_tree.specs.Answers.{Answers}
 use Rattle.olk_tree.specs.Places.{Stands}
 use Rattle.olk_tree.specs.declared.node.KeywordOver.{KeywordOver}
@@ -75,6 +78,11 @@ module _ {K R N : Type 0} (o : Kit K R) (answers : N → Answers) (ms : Members)
             (is_some (lookup_name (codes "then") (listed ms))) (is_some (lookup_name (codes "else") (listed ms))) k
         if_is_formed k f = subst (λ L. IsIf L (is_some (lookup_name (codes "then") (listed ms))) (is_some (lookup_name (codes "else") (listed ms))) k) part_here.stand.0.place
             (subst₂ (λ t e. IsIf p.location t e k) (stands_as then_schema _ (P // codes "then") at_then.stands) (stands_as else_schema _ (P // codes "else") at_else.stands) f)
+
+        -- all is built, and there is no memory for the keyword
+        pub condition_lost : (e : BuildError) (w : AllocError) → e ≡ Memory w → RefusesCondition a b e
+        condition_lost e w q = refuses_memory _ _ a b e w q (within_exactly a b _ (all_spent o answers ms P (codes "if") (codes "then")
+            (codes "else") d a m part_here.spends n at_then.spends b at_else.spends))
 
         pub condition_is_built : (before : List N) (schema : N) (ks : List (KeywordOver K R N)) → p.nodes.items ≡ before ++ schema ∷ []
             → has_repeat (names_of (listed ms)) ≡ false → MakesCondition o answers p.location schema both_cases ks → lookup_name (codes "if") (listed ms) ≡ Some d

@@ -90,7 +90,7 @@ fn compile_condition<'a, L: MakeLeaf, M: MakeRegex, N: BuiltNode<L::Leaf, M::Eng
         then_schema,
         else_schema,
     };
-    let Some(keyword) = make(location, schema, cases) else {
+    let Some(keyword) = make(alloc, location, schema, cases)? else {
         unreachable!()
     };
     Ok(keyword)

@@ -245,11 +245,11 @@ module _ {K R N : Type 0} (o : Kit K R) (answers : N → Answers) where
   if_named shape.If k d s e = s
   if_named x k d s e = absurd (true≢false (sym e))
 
-  if_fits : (x : Shape K R) (c : Known) → Fits o c x → is_if_shape x ≡ true → c.condition ≡ true
+  pub if_fits : (x : Shape K R) (c : Known) → Fits o c x → is_if_shape x ≡ true → c.condition ≡ true
   if_fits shape.If c f e = f
   if_fits x c f e = absurd (true≢false (sym e))
 
-  restriction_named : (x : Shape K R) (k : Name) (d : Data) → IsShape o k d x → is_restriction_shape x ≡ true → (k ≡ codes "additionalProperties") × (is_restriction (Some d) ≡ true)
+  pub restriction_named : (x : Shape K R) (k : Name) (d : Data) → IsShape o k d x → is_restriction_shape x ≡ true → (k ≡ codes "additionalProperties") × (is_restriction (Some d) ≡ true)
   restriction_named shape.AdditionalProperties k d s e = (s.0, ap (λ b. is_truth false d || b) s.1 ∙ or-true (is_truth false d))
   restriction_named shape.NoOthers k d s e = (s.0, ap (λ b. b || is_object d) s.1)
   restriction_named x k d s e = absurd (true≢false (sym e))

@@ -90,9 +90,9 @@ IsFormOfAdditionalProperties P L rest b n k = ⊥
 
 -- `if` over its node, and those of `then` and `else` that there are
 abbrev pub IsFormOfIf : {K R N : Type 0} → Path → N → Option N → Option N → KeywordOver K R N → Type 0
-IsFormOfIf L n (Some t) None (keyword.IfThen k) = (k.schema ≡ n) × (k.then_schema ≡ t) × (k.location ≡ L)
-IsFormOfIf L n None (Some e) (keyword.IfElse k) = (k.schema ≡ n) × (k.else_schema ≡ e) × (k.location ≡ L)
-IsFormOfIf L n (Some t) (Some e) (keyword.IfThenElse k) = (k.schema ≡ n) × (k.then_schema ≡ t) × (k.else_schema ≡ e) × (k.location ≡ L)
+IsFormOfIf L n (Some t) None (keyword.IfThen k) = (k.value.schema ≡ n) × (k.value.then_schema ≡ t) × (k.value.location ≡ L)
+IsFormOfIf L n None (Some e) (keyword.IfElse k) = (k.value.schema ≡ n) × (k.value.else_schema ≡ e) × (k.value.location ≡ L)
+IsFormOfIf L n (Some t) (Some e) (keyword.IfThenElse k) = (k.value.schema ≡ n) × (k.value.then_schema ≡ t) × (k.value.else_schema ≡ e) × (k.value.location ≡ L)
 IsFormOfIf L n t e k = ⊥
 
 -- ---- nodes of lists of names, and nodes that are cut into maps
@@ -150,9 +150,9 @@ IsNot L d k = ⊥
 
 -- `if` beside `then`, beside `else`, or beside both
 abbrev pub IsIf : {K R N : Type 0} → Path → Bool → Bool → KeywordOver K R N → Type 0
-IsIf L true false (keyword.IfThen k) = k.location ≡ L
-IsIf L false true (keyword.IfElse k) = k.location ≡ L
-IsIf L true true (keyword.IfThenElse k) = k.location ≡ L
+IsIf L true false (keyword.IfThen k) = k.value.location ≡ L
+IsIf L false true (keyword.IfElse k) = k.value.location ≡ L
+IsIf L true true (keyword.IfThenElse k) = k.value.location ≡ L
 IsIf L t e k = ⊥
 
 abbrev pub IsRequired : {K R N : Type 0} → Path → Data → KeywordOver K R N → Type 0

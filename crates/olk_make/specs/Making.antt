@@ -1,5 +1,5 @@
 -- What making the validators of a schema object from its parts promises.
-use Rattle.std.specs.Prelude.{◌≡◌, true, false, Bool, List, [], ◌∷◌, map, codes, Option, Some}
+use Rattle.std.specs.Prelude.{◌≡◌, true, false, Bool, List, [], ◌∷◌, ◌++◌, map, codes, Option, Some}
 use Rattle.std.specs.List.{flat_map}
 use Rattle.serde_json.specs.Data.{Data, Members}
 use Rattle.olk_spec.specs.Names.{Name, Path, ◌//◌, lookup_name}
@@ -14,9 +14,10 @@ use Rattle.olk_meaning.specs.Conditions.{is_condition, known_of}
 use Rattle.olk_tree.specs.Answers.{Answers}
 use Rattle.olk_tree.specs.Places.{Stands}
 use Rattle.olk_read.specs.Reading.{reads_of, IsShape, Fits}
-use Rattle.olk_make.specs.Standing.{StandAt, is_taken, is_if_shape, is_restriction_shape, RestStands, CasesStand, BesideStands}
+use Rattle.olk_make.specs.Standing.{StandAt, is_taken, is_if_shape, is_restriction_shape, RestStands, PartsStand, CasesStand, BesideStands, nothing_taken}
 use Rattle.olk_make.specs.declared.part.Cases.{Cases}
 use Rattle.olk_make.specs.declared.part.Beside.{Beside}
+use Rattle.olk_make.specs.declared.part.Part.{Part}
 use Rattle.olk_make.specs.declared.part.Taken.{Taken}
 use Rattle.olk_read.specs.declared.shape.Shape.{Shape}
 
@@ -66,3 +67,13 @@ module _ {K R N : Type 0} (o : Kit K R) (answers : N → Answers) where
       → (is_if_shape x ≡ true → CasesStand o answers t.cases ms P) → (is_restriction_shape x ≡ true → BesideStands o answers (known_of ms) t.beside ms P)
       → has_repeat (map (λ m. m.0) (listed ms)) ≡ false → lookup_name m.0 (listed ms) ≡ Some m.1 → p ≡ plan_of ms → is_taken p m.0 ≡ false
       → KeywordsMean ms ks (claims (head p) (listed ms) m) (m ∷ []) P
+
+  -- new keywords behind old ones are made of a part for which nothing was taken
+  pub record AppendsPart (x : Shape K R) (L : Path) (ns : List N) (P : Path) (p : Planned) (old new : List (KeywordOver K R N)) : Type 0 where
+    pub made : List (KeywordOver K R N)
+    pub behind : new ≡ old ++ made
+    pub makes : MakesPart x L ns nothing_taken P p made
+
+  -- keywords that are made of parts mean what each object at P means that has this plan and that the parts stand for
+  abbrev pub MakesObject : List (Part K R N) → Path → Planned → List (KeywordOver K R N) → Type 0
+  MakesObject ps P p ks = (ms : Members) → has_repeat (map (λ m. m.0) (listed ms)) ≡ false → p ≡ plan_of ms → PartsStand o answers (known_of ms) ps (listed ms) P → ObjectIsMade ms ks P

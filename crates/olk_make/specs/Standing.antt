@@ -60,6 +60,9 @@ Fills Stands None (Some d) = ⊥
 Fills Stands (Some x) None = ⊥
 Fills Stands (Some x) (Some d) = Stands x d
 
+abbrev pub nothing_taken : {R N : Type 0} → Taken R N
+nothing_taken = record { cases = record { then_schema = None; else_schema = None }; beside = record { properties = None; patterns = None } }
+
 -- what is taken of a part of this shape, and what is left of it
 module _ {K R N : Type 0} (p : Planned) where
   abbrev pub Takes : Shape K R → Part K R N → Taken R N → Taken R N → Option (Part K R N) → Type 0

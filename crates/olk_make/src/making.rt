@@ -1,14 +1,12 @@
 //! Making the validators of a schema object from its parts.
-ghost use Rattle.std.specs.Prelude.{◌≡◌, false, List, option_to_list, IfOk};
-ghost use Rattle.serde_json.specs.View.{members_view};
+ghost use Rattle.std.specs.Prelude.{◌≡◌, false, List, option_to_list, IfOk, OnOk};
 ghost use Rattle.serde_json.specs.Data.{Data};
 ghost use Rattle.olk_spec.specs.Names.{Name, Path};
-ghost use Rattle.olk_spec.specs.Schemas.{listed};
 ghost use Rattle.olk_base.specs.Kit.{kit};
-ghost use Rattle.olk_meaning.specs.Conditions.{Known, known_of};
+ghost use Rattle.olk_meaning.specs.Conditions.{Known};
 ghost use Rattle.olk_meaning.specs.Plans.{planned};
 ghost use Rattle.olk_make.specs.Standing.{is_if_shape, is_restriction_shape, Takes, PartsStand, AreTaken};
-ghost use Rattle.olk_make.specs.Making.{MakesPart, ObjectIsMade};
+ghost use Rattle.olk_make.specs.Making.{MakesPart, AppendsPart, MakesObject};
 
 use crate::part::{Part, Patterns, Taken};
 use crate::{
@@ -22,7 +20,6 @@ use olk_read::Shape;
 use olk_tree::built_node::BuiltNode;
 use olk_tree::map::SmallMap;
 use olk_tree::node::KeywordOver;
-use serde_json::{Map, Value};
 use std::alloc::{AllocError, Global};
 
 /// The part, or nothing where another keyword takes what it holds.
@@ -68,8 +65,7 @@ fn take<K, R: Drop, N: Drop>(
     }
 }
 
-/// What `if` and `additionalProperties` take, and the other parts; nothing, and the parts as they
-/// are, where neither takes anything.
+/// What `if` and `additionalProperties` take, and the other parts.
 ///
 /// # Errors
 ///
@@ -86,9 +82,6 @@ fn take_all<K: Leaf, R: RegexEngine, N: BuiltNode<K, R>>(
         N.answers (planned plan.entry) c es P r.0 r.1.items) }
 {
     let mut taken = Taken::none();
-    if !plan.is_condition() && !plan.is_restricted() {
-        return Ok((taken, parts));
-    }
     let mut left = Vec::with_capacity(alloc, parts.len())?;
     for part in parts {
         if let Some(part) = take(plan, &mut taken, part) {
@@ -104,6 +97,7 @@ fn take_all<K: Leaf, R: RegexEngine, N: BuiltNode<K, R>>(
 /// # Errors
 ///
 /// Out of memory.
+#[inline(never)]
 fn make_keyword<K: Leaf, R: RegexEngine, N: BuiltNode<K, R>>(
     alloc: Global,
     plan: Plan<'_>,
@@ -171,7 +165,7 @@ fn make_keyword<K: Leaf, R: RegexEngine, N: BuiltNode<K, R>>(
         Shape::OneOf => Ok(Some(one_of::make(location, nodes))),
         Shape::Not(original) => Ok(not::make(location, original, nodes)),
         Shape::If => match nodes.pop() {
-            Some(schema) => Ok(if_::make(location, schema, taken.cases.take())),
+            Some(schema) => Ok(if_::make(alloc, location, schema, taken.cases.take())?),
             None => Ok(None),
         },
         Shape::Then | Shape::Else | Shape::Unpaired => Ok(None),
@@ -180,24 +174,79 @@ fn make_keyword<K: Leaf, R: RegexEngine, N: BuiltNode<K, R>>(
     }
 }
 
-/// The keywords of a schema object, in the order of their names.
+/// Appends the keyword of a part that may be no leaf, as `append_keyword` does.
+///
+/// # Errors
+///
+/// Out of memory.
+#[inline(never)]
+fn append_other<K: Leaf, R: RegexEngine, N: BuiltNode<K, R>>(
+    alloc: Global,
+    plan: Plan<'_>,
+    place: &Location,
+    part: Part<K, R, N>,
+    keywords: &mut Vec<KeywordOver<K, R, N>>,
+) -> Result<(), AllocError>
+    ensures { OnOk result (AppendsPart (kit K.Leaf R.RegexEngine) N.answers part.shape part.location
+        part.nodes.items place.now (planned plan.entry) keywords.old.items keywords.new.items) }
+{
+    let mut nothing = Taken::none();
+    match make_keyword(alloc, plan, place, &mut nothing, part)? {
+        Some(keyword) => append(keywords, keyword),
+        None => Ok(()),
+    }
+}
+
+/// Appends the keyword of a part of the object at the place, if it is read and the plan names no
+/// other for it. Nothing was taken for it. Most parts are leaves, so these are made here.
+///
+/// # Errors
+///
+/// Out of memory.
+#[inline(always)]
+pub fn append_keyword<K: Leaf, R: RegexEngine, N: BuiltNode<K, R>>(
+    alloc: Global,
+    plan: Plan<'_>,
+    place: &Location,
+    part: Part<K, R, N>,
+    keywords: &mut Vec<KeywordOver<K, R, N>>,
+) -> Result<(), AllocError>
+    ensures { OnOk result (AppendsPart (kit K.Leaf R.RegexEngine) N.answers part.shape part.location
+        part.nodes.items place.now (planned plan.entry) keywords.old.items keywords.new.items) }
+{
+    let Part {
+        location,
+        shape,
+        nodes,
+    } = part;
+    match shape {
+        Shape::Leaf(leaf) => append(keywords, KeywordOver::Leaf(location, leaf)),
+        shape => {
+            let part = Part {
+                location,
+                shape,
+                nodes,
+            };
+            append_other(alloc, plan, place, part, keywords)
+        }
+    }
+}
+
+/// The keywords of a schema object, in the order of their names: `if` and `additionalProperties`
+/// take what others hold, where the plan says so.
 ///
 /// # Errors
 ///
 /// Out of memory.
 pub fn make_keywords<K: Leaf, R: RegexEngine, N: BuiltNode<K, R>>(
     alloc: Global,
+    plan: Plan<'_>,
     place: &Location,
-    members: &Map<String, Value>,
     parts: Vec<Part<K, R, N>>,
 ) -> Result<Vec<KeywordOver<K, R, N>>, AllocError>
-    requires { PartsStand (kit K.Leaf R.RegexEngine) N.answers
-        (known_of (members_view members.now.entries)) parts.items
-        (listed (members_view members.now.entries)) place.now }
-    ensures { IfOk result (λ ks. ObjectIsMade (kit K.Leaf R.RegexEngine) N.answers
-        (members_view members.now.entries) ks.items place.now) }
+    ensures { IfOk result (λ ks. MakesObject (kit K.Leaf R.RegexEngine) N.answers parts.items
+        place.now (planned plan.entry) ks.items) }
 {
-    let plan = Plan::of(members);
     let (mut taken, parts) = take_all(alloc, plan, parts)?;
     let mut keywords = Vec::with_capacity(alloc, parts.len())?;
     for part in parts {

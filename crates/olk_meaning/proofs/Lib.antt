@@ -1,5 +1,6 @@
 mod MemberLookups
 mod Fused
+mod FewMembers
 pub mod Heads
 pub mod Listed
 pub mod TakenOver

@@ -43,7 +43,7 @@ declared_in None = []
 declared_in (Some m) = listed (members_view m.entries)
 
 abbrev pub known : Neighbours → Known
-known n = record { condition = n.condition; declared = declared_in (option_map (λ m. m.now) n.declared) }
+known n = known_of (members_view n.members.now.entries)
 
 -- of `if`, `then` and `else`: the keyword stands in the object, and it is known whether `if` is read there; of `patternProperties`: it is known of which names the patterns are asked
 abbrev pub IsKnown : Known → Members → Name → Type 0

@@ -10,11 +10,10 @@ use serde_json::{Map, Value};
 
 /// What a keyword of a schema object has to know of the other members when its value is read:
 /// whether `if` is read there, and where `additionalProperties` restricts other members, the
-/// entries of `properties`.
+/// entries of `properties`. They are looked up when they are asked for.
 #[derive(Clone, Copy)]
 pub struct Neighbours<'a> {
-    condition: bool,
-    declared: Option<&'a Map<String, Value>>,
+    members: &'a Map<String, Value>,
 }
 
 /// The entries of `properties`, where it is an object.
@@ -30,14 +29,7 @@ impl<'a> Neighbours<'a> {
     pub fn of(members: &'a Map<String, Value>) -> Neighbours<'a>
         ensures { known result ≡ known_of (members_view members.now.entries) }
     {
-        Neighbours {
-            condition: is_condition(members),
-            declared: if is_restricted(members) {
-                declared(members)
-            } else {
-                None
-            },
-        }
+        Neighbours { members }
     }
 
     /// Whether `if` is read: it is beside `then` or `else` alone (JSON Schema 2020-12 Core,
@@ -45,7 +37,7 @@ impl<'a> Neighbours<'a> {
     pub fn is_condition(self) -> bool
         ensures { result ≡ (known self.entry).condition }
     {
-        self.condition
+        is_condition(self.members)
     }
 
     /// The entries of `properties`, where other members are restricted (JSON Schema 2020-12 Core,
@@ -53,6 +45,10 @@ impl<'a> Neighbours<'a> {
     pub fn declared(self) -> Option<&'a Map<String, Value>>
         ensures { declared_in (option_map (λ m. m.now) result) ≡ (known self.entry).declared }
     {
-        self.declared
+        if is_restricted(self.members) {
+            declared(self.members)
+        } else {
+            None
+        }
     }
 }

@@ -151,12 +151,21 @@ impl<'a> Plan<'a> {
         ensures distinct { has_repeat (map (λ m. m.0) (listed (members_view members.now.entries)))
             ≡ false }
     {
-        // Here for what it says of the names' order.
-        let _count = members.len();
+        // Here for what it says of the names' order too.
+        let count = members.len();
+        let restricted = is_restricted(members);
+        if count < 2 {
+            return Plan {
+                fused_pair: None,
+                condition: false,
+                restricted,
+                fused_one: None,
+            };
+        }
         Plan {
             fused_pair: fused_pair(members),
             condition: is_condition(members),
-            restricted: is_restricted(members),
+            restricted,
             fused_one: fused_one(members),
         }
     }

@@ -10,9 +10,11 @@ mod patterns;
 mod reading;
 mod refusal;
 mod shape;
+mod stop;
 
 pub use makers::Makers;
 pub use patterns::patterns_of_entries;
 pub use reading::read_keyword;
 pub use refusal::{refuse, refuse_type};
 pub use shape::{ReadPlaces, Shape};
+pub use stop::Stop;

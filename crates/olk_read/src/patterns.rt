@@ -14,32 +14,36 @@ ghost use Rattle.olk_read.specs.Refusing.{TellsOneOf, Spends, Refuses};
 ghost use Rattle.olk_read.specs.Patterns.{IsPattern, PatternsAreRead, RefusesPatterns};
 
 use crate::makers::Makers;
+use crate::stop::Stop;
 use olk_base::{
     CompiledPattern, MakeError, MakeLeaf, MakeRegex, Meter, Node, RegexEngine, append,
     compile_pattern,
 };
 use olk_meaning::Neighbours;
 use olk_paths::Location;
-use olk_reports::{BuildError, ValidationError, ValidationErrorKind};
+use olk_reports::{ValidationError, ValidationErrorKind};
 use olk_tree::pattern_table::{PatternTable, precompute_property_pattern_indices};
 use serde_json::{Map, Value};
 use std::alloc::{AllocError, Global};
 
 /// The refusal of a pattern, as a bare name below the keyword; out of memory where there is none
 /// for the place.
-fn refuse_pattern<'a>(alloc: Global, location: &Location, pattern: &'a String) -> BuildError<'a>
+fn refuse_pattern<'a>(alloc: Global, location: &Location, pattern: &'a String) -> Stop<'a>
     ensures { TellsOneOf
         (fault Regex (string (string_bytes pattern.now)) []
         (one_below location.now (string_bytes pattern.now)) ∷ []) result }
 {
     match location.join(alloc, pattern.as_str()) {
-        Ok(place) => BuildError::Refused(ValidationError::refusing(
-            ValidationErrorKind::Regex,
-            Node::Name(pattern),
-            String::new(alloc),
-            place,
-        )),
-        Err(error) => BuildError::Memory(error),
+        Ok(place) => {
+            let error = ValidationError::refusing(
+                ValidationErrorKind::Regex,
+                Node::Name(pattern),
+                String::new(alloc),
+                place,
+            );
+            Stop::refusing(alloc, error)
+        }
+        Err(error) => Stop::from(error),
     }
 }
 
@@ -54,7 +58,7 @@ fn read_pattern<'a, L: MakeLeaf, M: MakeRegex>(
     meter: &mut Meter,
     location: &Location,
     pattern: &'a String,
-) -> Result<CompiledPattern<M::Engine>, BuildError<'a>>
+) -> Result<CompiledPattern<M::Engine>, Stop<'a>>
     ensures pattern { IfOk result (λ p. IsPattern (kit L.Leaf.Leaf M.Engine.RegexEngine)
         p (string_bytes pattern.now)) }
     ensures right { OnOk result (pattern_faults (world L.Leaf.Leaf M.Engine.RegexEngine)
@@ -69,7 +73,7 @@ fn read_pattern<'a, L: MakeLeaf, M: MakeRegex>(
     match compile_pattern(alloc, makers.regexes, pattern.as_str(), meter) {
         Ok(compiled) => Ok(compiled),
         Err(MakeError::Refused) => Err(refuse_pattern(alloc, location, pattern)),
-        Err(MakeError::Memory(error)) => Err(BuildError::Memory(error)),
+        Err(MakeError::Memory(error)) => Err(Stop::from(error)),
     }
 }
 
@@ -86,7 +90,7 @@ pub fn patterns_of_entries<'a, L: MakeLeaf, M: MakeRegex>(
     meter: &mut Meter,
     location: &Location,
     entries: &'a Map<String, Value>,
-) -> Result<Vec<CompiledPattern<M::Engine>>, BuildError<'a>>
+) -> Result<Vec<CompiledPattern<M::Engine>>, Stop<'a>>
     ensures read { IfOk result (λ v. PatternsAreRead (kit L.Leaf.Leaf M.Engine.RegexEngine)
         v.items (listed (members_view entries.now.entries)) location.now meter.old meter.new) }
     ensures refused { IfErr result (RefusesPatterns (kit L.Leaf.Leaf M.Engine.RegexEngine)

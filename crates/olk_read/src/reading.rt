@@ -19,10 +19,11 @@ use crate::makers::Makers;
 use crate::patterns::{patterns_of_entries, table_of_declared};
 use crate::refusal::{refuse, refuse_type};
 use crate::shape::Shape;
+use crate::stop::Stop;
 use olk_base::{JsonType, MakeError, MakeLeaf, MakeRegex, Meter, append};
 use olk_meaning::Neighbours;
 use olk_paths::Location;
-use olk_reports::{BuildError, ValidationErrorKind};
+use olk_reports::ValidationErrorKind;
 use olk_tree::map::SortedNames;
 use serde_json::{Map, Value};
 use std::alloc::{AllocError, Global};
@@ -122,7 +123,7 @@ fn names_of_object<'a>(
     alloc: Global,
     location: &Location,
     value: &'a Value,
-) -> Result<SortedNames, BuildError<'a>>
+) -> Result<SortedNames, Stop<'a>>
     ensures object { IfOk result (λ n. is_object (view value.now) ≡ true) }
     ensures names { IfOk result (λ n. n ≡ map (λ e. e.0) (members (view value.now))) }
     ensures refused { IfErr result (TellsOneOf (unless_object (view value.now) location.now)) }
@@ -142,7 +143,7 @@ fn items_of_array<'a>(
     alloc: Global,
     location: &Location,
     value: &'a Value,
-) -> Result<&'a Vec<Value>, BuildError<'a>>
+) -> Result<&'a Vec<Value>, Stop<'a>>
     ensures array { IfOk result (λ items. view value.now ≡ array (items_view items.now.items)) }
     ensures refused { IfErr result (TellsOneOf (unless_array (view value.now) location.now)) }
 {
@@ -161,7 +162,7 @@ fn texts_of_items<'a>(
     alloc: Global,
     place: &Location,
     items: &'a Vec<Value>,
-) -> Result<Vec<String>, BuildError<'a>>
+) -> Result<Vec<String>, Stop<'a>>
     ensures names { IfOk result (λ v. map string_bytes v.items
         ≡ texts_in (items_view items.now.items)) }
     ensures texts { IfOk result (λ v. not_texts place.now (items_view items.now.items) ≡ []) }
@@ -187,7 +188,7 @@ fn texts_of_array<'a>(
     alloc: Global,
     location: &Location,
     value: &'a Value,
-) -> Result<Vec<String>, BuildError<'a>>
+) -> Result<Vec<String>, Stop<'a>>
     ensures array { IfOk result (λ v. is_array (view value.now) ≡ true) }
     ensures names { IfOk result (λ v. map string_bytes v.items ≡ texts (view value.now)) }
     ensures texts { IfOk result (λ v. not_a_text (view value.now) location.now ≡ []) }
@@ -207,7 +208,7 @@ fn members_of_object<'a>(
     alloc: Global,
     location: &Location,
     value: &'a Value,
-) -> Result<&'a Map<String, Value>, BuildError<'a>>
+) -> Result<&'a Map<String, Value>, Stop<'a>>
     ensures object { IfOk result (λ m. view value.now ≡ object (members_view m.now.entries)) }
     ensures refused { IfErr result (TellsOneOf (unless_object (view value.now) location.now)) }
 {
@@ -248,7 +249,7 @@ fn names_of_entry<'a>(
     location: &Location,
     key: &str,
     value: &'a Value,
-) -> Result<Vec<String>, BuildError<'a>>
+) -> Result<Vec<String>, Stop<'a>>
     ensures names { IfOk result (λ v. map string_bytes v.items ≡ texts (view value.now)) }
     ensures right { IfOk result (λ v.
         name_list_refusals key.now (view value.now) location.now ≡ []) }
@@ -273,7 +274,7 @@ fn names_of_entries<'a>(
     alloc: Global,
     location: &Location,
     entries: &'a Map<String, Value>,
-) -> Result<Vec<Vec<String>>, BuildError<'a>>
+) -> Result<Vec<Vec<String>>, Stop<'a>>
     ensures names { IfOk result (λ v. map names_in v.items
         ≡ map (λ e. texts e.1) (listed (members_view entries.now.entries))) }
     ensures right { IfOk result (λ v.
@@ -299,7 +300,7 @@ fn required_of_object<'a>(
     alloc: Global,
     location: &Location,
     value: &'a Value,
-) -> Result<(SortedNames, Vec<Vec<String>>), BuildError<'a>>
+) -> Result<(SortedNames, Vec<Vec<String>>), Stop<'a>>
     ensures object { IfOk result (λ r. is_object (view value.now) ≡ true) }
     ensures keys { IfOk result (λ r. r.0 ≡ map (λ e. e.0) (members (view value.now))) }
     ensures names { IfOk result (λ r. map names_in r.1.items
@@ -325,7 +326,7 @@ fn list_of_entry<'a>(
     alloc: Global,
     location: &Location,
     value: &'a Value,
-) -> Result<Option<Vec<String>>, BuildError<'a>>
+) -> Result<Option<Vec<String>>, Stop<'a>>
     ensures list { IfOk result (λ l. names_in_list l ≡ list_of (view value.now)) }
     ensures texts { IfOk result (λ l. not_a_text (view value.now) location.now ≡ []) }
     ensures refused { IfErr result (TellsOneOf (not_a_text (view value.now) location.now)) }
@@ -346,7 +347,7 @@ fn lists_of_entries<'a>(
     alloc: Global,
     location: &Location,
     entries: &'a Map<String, Value>,
-) -> Result<Vec<Option<Vec<String>>>, BuildError<'a>>
+) -> Result<Vec<Option<Vec<String>>>, Stop<'a>>
     ensures lists { IfOk result (λ v. map names_in_list v.items
         ≡ map (λ e. list_of e.1) (listed (members_view entries.now.entries))) }
     ensures texts { IfOk result (λ v.
@@ -371,7 +372,7 @@ fn lists_of_object<'a>(
     alloc: Global,
     location: &Location,
     value: &'a Value,
-) -> Result<(SortedNames, Vec<Option<Vec<String>>>), BuildError<'a>>
+) -> Result<(SortedNames, Vec<Option<Vec<String>>>), Stop<'a>>
     ensures object { IfOk result (λ r. is_object (view value.now) ≡ true) }
     ensures keys { IfOk result (λ r. r.0 ≡ map (λ e. e.0) (members (view value.now))) }
     ensures lists { IfOk result (λ r. map names_in_list r.1.items
@@ -395,7 +396,7 @@ fn texts_of_entries<'a>(
     alloc: Global,
     location: &Location,
     entries: &'a Map<String, Value>,
-) -> Result<Vec<SortedNames>, BuildError<'a>>
+) -> Result<Vec<SortedNames>, Stop<'a>>
     ensures names { IfOk result (λ v. v.items
         ≡ map (λ e. names_of e.1) (listed (members_view entries.now.entries))) }
     ensures objects { IfOk result (λ v.
@@ -421,7 +422,7 @@ fn choices_of_object<'a>(
     alloc: Global,
     location: &Location,
     value: &'a Value,
-) -> Result<(SortedNames, Vec<SortedNames>), BuildError<'a>>
+) -> Result<(SortedNames, Vec<SortedNames>), Stop<'a>>
     ensures object { IfOk result (λ r. is_object (view value.now) ≡ true) }
     ensures keys { IfOk result (λ r. r.0 ≡ map (λ e. e.0) (members (view value.now))) }
     ensures texts { IfOk result (λ r. r.1.items
@@ -447,7 +448,7 @@ fn shape_of_branches<'a, K: Drop, R: Drop>(
     location: &Location,
     shape: Shape<K, R>,
     value: &'a Value,
-) -> Result<Shape<K, R>, BuildError<'a>>
+) -> Result<Shape<K, R>, Stop<'a>>
     ensures array { IfOk result (λ x. is_array (view value.now) ≡ true) }
     ensures same { IfOk result (λ x. x ≡ shape) }
     ensures refused { IfErr result (TellsOneOf (unless_array (view value.now) location.now)) }
@@ -481,7 +482,7 @@ fn shape_of_patterns<'a, L: MakeLeaf, M: MakeRegex>(
     neighbours: Neighbours<'_>,
     location: &Location,
     value: &'a Value,
-) -> Result<Shape<L::Leaf, M::Engine>, BuildError<'a>>
+) -> Result<Shape<L::Leaf, M::Engine>, Stop<'a>>
     ensures built { IfOk result (λ x. IsRead (kit L.Leaf.Leaf M.Engine.RegexEngine) x
         (known neighbours.entry) (codes "patternProperties") (view value.now) location.now
         meter.old meter.new) }
@@ -505,7 +506,7 @@ fn shape_of_others<'a, K: Drop, R: Drop>(
     alloc: Global,
     location: &Location,
     value: &'a Value,
-) -> Result<Shape<K, R>, BuildError<'a>>
+) -> Result<Shape<K, R>, Stop<'a>>
     ensures rule { IfOk result (λ x. is_rule (view value.now) ≡ true) }
     ensures shape { IfOk result (λ x. x ≡ cond (is_object (view value.now)) AdditionalProperties
         (cond (is_truth false (view value.now)) NoOthers AnyOthers)) }
@@ -555,7 +556,7 @@ pub fn read_keyword<'a, L: MakeLeaf, M: MakeRegex>(
     location: &Location,
     name: &'a str,
     value: &'a Value,
-) -> Result<Shape<L::Leaf, M::Engine>, BuildError<'a>>
+) -> Result<Shape<L::Leaf, M::Engine>, Stop<'a>>
     ensures built { IfOk result (λ x. IsRead (kit L.Leaf.Leaf M.Engine.RegexEngine) x
         (known neighbours.entry) name.now (view value.now) location.now meter.old meter.new) }
     ensures refused { IfErr result (RefusesKeyword (kit L.Leaf.Leaf M.Engine.RegexEngine)
@@ -611,7 +612,7 @@ fn read_other<'a, L: MakeLeaf, M: MakeRegex>(
     location: &Location,
     name: &'a str,
     value: &'a Value,
-) -> Result<Shape<L::Leaf, M::Engine>, BuildError<'a>>
+) -> Result<Shape<L::Leaf, M::Engine>, Stop<'a>>
     requires other { IsOther name.now }
     requires let_through { is_among name.now unsupported_names ≡ false }
     ensures built { IfOk result (λ x. (c : Known)
@@ -639,7 +640,7 @@ fn read_leaf<'a, L: MakeLeaf, M: MakeRegex>(
     location: &Location,
     name: &'a str,
     value: &'a Value,
-) -> Result<Shape<L::Leaf, M::Engine>, BuildError<'a>>
+) -> Result<Shape<L::Leaf, M::Engine>, Stop<'a>>
     requires leaf { keyword_named (world L.Leaf.Leaf M.Engine.RegexEngine) name.now ≡ leaf }
     ensures built { IfOk result (λ x. (c : Known)
         → IsRead (kit L.Leaf.Leaf M.Engine.RegexEngine) x
@@ -654,6 +655,6 @@ fn read_leaf<'a, L: MakeLeaf, M: MakeRegex>(
             let kind = ValidationErrorKind::LeafRefused { keyword: name };
             Err(refuse(alloc, kind, value, location))
         }
-        Err(MakeError::Memory(error)) => Err(BuildError::Memory(error)),
+        Err(MakeError::Memory(error)) => Err(Stop::from(error)),
     }
 }

@@ -35,9 +35,9 @@ module _ {K R N : Type 0} (o : Kit K R) where
   answers_of (keyword.OneOf k) = one_of_answers k
   answers_of (keyword.SingleOneOf k) = single_one_of_answers k
   answers_of (keyword.Not k) = not_answers k
-  answers_of (keyword.IfThen k) = if_then_answers k
-  answers_of (keyword.IfElse k) = if_else_answers k
-  answers_of (keyword.IfThenElse k) = if_then_else_answers k
+  answers_of (keyword.IfThen k) = if_then_answers k.value
+  answers_of (keyword.IfElse k) = if_else_answers k.value
+  answers_of (keyword.IfThenElse k) = if_then_else_answers k.value
   answers_of (keyword.Dependencies k) = dependencies_answers k
   answers_of (keyword.PropertyNames k) = property_names_answers k
   answers_of (keyword.PropertyNamesFalse k) = alone (property_names_false_answers k)

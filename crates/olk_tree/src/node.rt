@@ -38,11 +38,11 @@ pub enum KeywordOver<K, R, N> {
     /// `not`.
     Not(Not<N>),
     /// `if` with `then`.
-    IfThen(IfThen<N>),
+    IfThen(Box<IfThen<N>>),
     /// `if` with `else`.
-    IfElse(IfElse<N>),
+    IfElse(Box<IfElse<N>>),
     /// `if` with `then` and `else`.
-    IfThenElse(IfThenElse<N>),
+    IfThenElse(Box<IfThenElse<N>>),
     /// `dependentRequired`, `dependentSchemas` or `dependencies`.
     Dependencies(Dependencies<N>),
     /// `propertyNames` with a subschema.

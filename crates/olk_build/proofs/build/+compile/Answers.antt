@@ -1,7 +1,7 @@
 use borrow.Author.Count.{falls}
-use Rattle.std.proofs.lemmas.Result.{IfOk-from_err}
+use Rattle.std.proofs.lemmas.Result.{IfOk-from_err, IfOk-weaker}
 use Rattle.olk_build.proofs.Places.{no_object_no_members, no_array_no_items, nothing_is_built, no_entry_is_built, no_schema_entry_is_built, no_inner_entry_is_built, no_branch_is_built, itself_is_built, itself_is_refused, itself_lost, entries_are_built, schema_entries_are_built, inner_entries_are_built, branches_are_built}
-use Rattle.std.proofs.Common.{IfErr, rules, true, false, inl, inr, ◌+◌, ◌++◌, [], ◌∷◌, map, string_bytes, decimal, refl, sym, ap, subst, ◌∙◌}
+use Rattle.std.proofs.Common.{arith, IfErr, rules, true, false, inl, inr, ◌+◌, ◌++◌, [], ◌∷◌, map, string_bytes, decimal, refl, sym, ap, subst, ◌∙◌}
 use Rattle.olk_meaning.specs.Conditions.{known}
 use mathlib.Core.Path.{subst₂}
 use Rattle.std.proofs.lemmas.List.{append-nil, append_assoc}
@@ -17,9 +17,8 @@ use Rattle.olk_spec.specs.Faults.{fault}
 use Rattle.olk_reports.proofs.Errors.{kind_of_multiple_types}
 use Rattle.olk_base.specs.Kit.{kit, world}
 use Rattle.olk_meaning.specs.Members.{member_malformations, member_cost}
-use Rattle.olk_build.specs.Building.{AreBuilt, RefusesEach, RefusesPart, entries_read, all_cost}
+use Rattle.olk_build.specs.Building.{AreBuilt, RefusesEach, RefusesObject, RefusesPart, entries_read}
 use Rattle.olk_read.specs.Refusing.{Refuses, TellsOneOf}
-use Rattle.olk_make.specs.Holding.{all_malformed}
 use Rattle.olk_read.specs.Reading.{own_faults, own_cost_of}
 use Rattle.olk_build.specs.Placing.{RefusesPlaces, places_malformed, places_cost, PlacesAreBuilt, PartsAreBuilt, IsPart}
 use Rattle.olk_read.proofs.Spending.{exit, refuses_among, memory_among, refuses_memory, within_nothing, within_exactly}
@@ -27,6 +26,10 @@ use Rattle.olk_spec.proofs.Maps.{items_list-view}
 use Rattle.olk_build.proofs.Built.{EntriesSoFar, branches_from, next_branch, no_branch, no_entries, entries_built, entries_memory, entry_refused, entry_memory, one_more_entry, no_inner, inner_built, inner_memory, inner_refused, more_inner_memory, one_more_inner, at_an_entry, past_an_entry, none_is_read, built_truth, built_object, refuses_object, refuses_no_schema}
 use Rattle.olk_meaning.proofs.Objects.{no_schema_is}
 use Rattle.olk_build.proofs.Parts.{known_there, refuses_part_own, refuses_part_inside, part_is_built, no_parts, one_more_part}
+use Rattle.olk_meaning.specs.Plans.{planned}
+use Rattle.serde_json.proofs.value.Value.TheLaws.{the_size}
+use Rattle.olk_build.proofs.Sizes.{size_among}
+use Rattle.olk_build.proofs.Each.{none_so_far, memory_so_far, each_is_built, member_refused, memory_past_member, one_more_so_far}
 use Rattle.olk_build.proofs.build.+compile.Goals as goal
 
 pub compile_entries-returns-in_err-nodes-clause-built : goal.compile_entries-returns-in_err-nodes-clause-built
@@ -273,6 +276,42 @@ compile_part-returns-clause-built g t c =
 pub compile_part-returns-clause-refused : goal.compile_part-returns-clause-refused
 compile_part-returns-clause-refused g t c = tt
 
+pub compile_object-returns-then-not-is_restricted-clause-built : goal.compile_object-returns-then-not-is_restricted-clause-built
+compile_object-returns-then-not-is_restricted-clause-built g t c =
+    IfOk-weaker c.compile_each.result _ _ (λ ks built. built record {
+      plan = c.of-plan.ensures.plan;
+      distinct = c.of-plan.ensures.distinct;
+      no_condition = sym c.is_condition.ensures ∙ c.if-not-is_condition.true;
+      unrestricted = sym c.is_restricted.ensures ∙ c.if-not-is_restricted.true;
+    }) c.compile_each.ensures.built
+
+pub compile_object-returns-in_err-parts-clause-built : goal.compile_object-returns-in_err-parts-clause-built
+compile_object-returns-in_err-parts-clause-built g t c = IfOk-from_err _ _ c.from_residual.ensures.0
+
+pub compile_object-returns-in_err-parts-clause-refused : goal.compile_object-returns-in_err-parts-clause-refused
+compile_object-returns-in_err-parts-clause-refused g t c =
+    exit _ _ _ c.from_residual.ensures.1 (λ e q. subst (RefusesObject (kit g.L.Leaf.Leaf g.M.Engine.RegexEngine)
+        (members_view c.args.members.now.entries) c.args.place.now c.args.meter.now c.compile_parts.new.meter) (sym q) c.in_err-parts.ensures.refused)
+
+pub compile_object-returns-in_err-keywords-clause-built : goal.compile_object-returns-in_err-keywords-clause-built
+compile_object-returns-in_err-keywords-clause-built g t c = IfOk-from_err _ _ c.from_residual-in_err-keywords.ensures.0
+
+pub compile_object-returns-in_err-keywords-clause-refused : goal.compile_object-returns-in_err-keywords-clause-refused
+compile_object-returns-in_err-keywords-clause-refused g t c =
+    exit _ _ _ c.from_residual-in_err-keywords.ensures.1 (λ e q. refuses_memory _ _ _ _ e _ q (within_exactly _ _ _ c.in_ok-parts.ensures.built.spends))
+
+pub compile_object-returns-clause-built : goal.compile_object-returns-clause-built
+compile_object-returns-clause-built g t c =
+    let parts = c.in_ok-parts.ensures.built in
+    record {
+      mean = c.in_ok-keywords.ensures (members_view c.args.members.now.entries) c.of-plan.ensures.distinct c.of-plan.ensures.plan parts.stand;
+      clean = parts.clean;
+      spends = parts.spends;
+    }
+
+pub compile_object-returns-clause-refused : goal.compile_object-returns-clause-refused
+compile_object-returns-clause-refused g t c = tt
+
 pub compile_parts-returns-in_err-parts-clause-built : goal.compile_parts-returns-in_err-parts-clause-built
 compile_parts-returns-in_err-parts-clause-built g t c = IfOk-from_err _ _ c.from_residual.ensures.0
 
@@ -380,6 +419,95 @@ compile_parts-returns-clause-built g t c =
 
 pub compile_parts-returns-clause-refused : goal.compile_parts-returns-clause-refused
 compile_parts-returns-clause-refused g t c = tt
+
+pub compile_each-returns-in_err-keywords-clause-built : goal.compile_each-returns-in_err-keywords-clause-built
+compile_each-returns-in_err-keywords-clause-built g t c = IfOk-from_err _ _ c.from_residual.ensures.0
+
+pub compile_each-returns-in_err-keywords-clause-refused : goal.compile_each-returns-in_err-keywords-clause-refused
+compile_each-returns-in_err-keywords-clause-refused g t c = exit _ _ _ c.from_residual.ensures.1 (λ e q. refuses_memory _ _ _ _ e _ q (within_nothing _ _))
+
+pub compile_each-loop-name-init : goal.compile_each-loop-name-init
+compile_each-loop-name-init g t c = record {
+  so_far = none_so_far (kit g.L.Leaf.Leaf g.M.Engine.RegexEngine) g.N.BuiltNode.answers (members_view c.args.members.now.entries) c.args.place.now
+      (planned c.args.plan) c.args.meter.now c.in_ok-keywords.keywords.items _
+      c.in_ok-keywords.ensures.items (ap (λ l. listed (members_view l)) c.into_iter-name-iterator.ensures.into_iter_gives.0);
+  before = [];
+  entries = c.into_iter-name-iterator.ensures.into_iter_gives.0;
+  next = tt;
+  ends = tt;
+}
+
+pub compile_each-join-requires-text-segment : goal.compile_each-join-requires-text-segment
+compile_each-join-requires-text-segment g t c κs = c.as_str-name.utf8
+
+pub compile_each-returns-in_err-location-clause-built : goal.compile_each-returns-in_err-location-clause-built
+compile_each-returns-in_err-location-clause-built g t c = IfOk-from_err _ _ c.from_residual-in_err-location.ensures.0
+
+pub compile_each-returns-in_err-location-clause-refused : goal.compile_each-returns-in_err-location-clause-refused
+compile_each-returns-in_err-location-clause-refused g t c =
+    exit _ _ _ c.from_residual-in_err-location.ensures.1 (λ e q. memory_so_far (kit g.L.Leaf.Leaf g.M.Engine.RegexEngine) g.N.BuiltNode.answers
+        (members_view c.args.members.now.entries) c.args.place.now (planned c.args.plan) c.args.meter.now c.loop-name.meter c.loop-name.keywords.items
+    (listed (members_view c.loop-name.name-iterator)) c.loop-name.invariant.so_far e _ q)
+
+pub compile_each-compile_part-requires : goal.compile_each-compile_part-requires
+compile_each-compile_part-requires g t c κs within =
+    let lower = size_among the_size c.loop-name.invariant.before c.in-Some.name.now c.in-Some.value.now c.next.new.self c.args.members.now.entries
+    (ap (λ l. c.loop-name.invariant.before ++ l) (sym c.in-Some.ensures.steps) ∙ c.loop-name.invariant.entries) in
+    (omega (arith, c.decreases, lower), within)
+
+pub compile_each-returns-in_err-part-clause-built : goal.compile_each-returns-in_err-part-clause-built
+compile_each-returns-in_err-part-clause-built g t c = IfOk-from_err _ _ c.from_residual-in_err-part.ensures.0
+
+pub compile_each-returns-in_err-part-clause-refused : goal.compile_each-returns-in_err-part-clause-refused
+compile_each-returns-in_err-part-clause-refused g t c =
+    exit _ _ _ c.from_residual-in_err-part.ensures.1 (λ e q. member_refused (kit g.L.Leaf.Leaf g.M.Engine.RegexEngine) g.N.BuiltNode.answers
+        (members_view c.args.members.now.entries) c.args.place.now (planned c.args.plan) c.args.meter.now c.loop-name.meter c.loop-name.keywords.items
+    (listed (members_view c.loop-name.name-iterator)) c.loop-name.invariant.so_far
+    (listed (members_view c.next.new.self)) (known c.of-neighbours.result) (string_bytes c.in-Some.name.now) (view c.in-Some.value.now) c.in_ok-location.location c.compile_part.new.meter
+    (ap (λ l. listed (members_view l)) c.in-Some.ensures.steps) c.of-neighbours.ensures (c.in_ok-location.ensures ∙ ap (λ n. c.args.place.now // n) c.as_str-name.ensures.value)
+    e c.in_err-part.field-0.0 q (subst (λ n. RefusesPart (kit g.L.Leaf.Leaf g.M.Engine.RegexEngine) (known c.of-neighbours.result) n (view c.in-Some.value.now) c.in_ok-location.location
+    c.loop-name.meter c.compile_part.new.meter c.in_err-part.field-0.0) c.as_str-name.ensures.value c.in_err-part.ensures.refused))
+
+pub compile_each-loop-name-preserved : goal.compile_each-loop-name-preserved
+compile_each-loop-name-preserved g t c = record {
+  so_far = one_more_so_far (kit g.L.Leaf.Leaf g.M.Engine.RegexEngine) g.N.BuiltNode.answers (members_view c.args.members.now.entries) c.args.place.now
+      (planned c.args.plan) c.args.meter.now c.loop-name.meter c.loop-name.keywords.items
+      (listed (members_view c.loop-name.name-iterator)) c.loop-name.invariant.so_far
+      (listed (members_view c.next.new.self)) (known c.of-neighbours.result) (string_bytes c.in-Some.name.now) (view c.in-Some.value.now) c.in_ok-location.location c.compile_part.new.meter
+      (ap (λ l. listed (members_view l)) c.in-Some.ensures.steps) c.of-neighbours.ensures (c.in_ok-location.ensures ∙ ap (λ n. c.args.place.now // n) c.as_str-name.ensures.value)
+      c.in_ok-part.part
+      (subst (λ n. IsPart (kit g.L.Leaf.Leaf g.M.Engine.RegexEngine) g.N.BuiltNode.answers c.in_ok-part.part (known c.of-neighbours.result) n (view c.in-Some.value.now) c.in_ok-location.location
+      c.loop-name.meter c.compile_part.new.meter) c.as_str-name.ensures.value c.in_ok-part.ensures.built)
+      c.append_keyword.new.keywords.items c.in_ok-append_keyword.ensures;
+  before = c.loop-name.invariant.before ++ (c.in-Some.name.now, c.in-Some.value.now) ∷ [];
+  entries = append_assoc c.loop-name.invariant.before ((c.in-Some.name.now, c.in-Some.value.now) ∷ []) c.next.new.self
+      ∙ ap (λ l. c.loop-name.invariant.before ++ l) (sym c.in-Some.ensures.steps) ∙ c.loop-name.invariant.entries;
+  next = tt;
+  ends = tt;
+}
+
+pub compile_each-returns-in_err-append_keyword-clause-built : goal.compile_each-returns-in_err-append_keyword-clause-built
+compile_each-returns-in_err-append_keyword-clause-built g t c = IfOk-from_err _ _ c.from_residual-in_err-append_keyword.ensures.0
+
+pub compile_each-returns-in_err-append_keyword-clause-refused : goal.compile_each-returns-in_err-append_keyword-clause-refused
+compile_each-returns-in_err-append_keyword-clause-refused g t c =
+    exit _ _ _ c.from_residual-in_err-append_keyword.ensures.1 (λ e q. memory_past_member (kit g.L.Leaf.Leaf g.M.Engine.RegexEngine) g.N.BuiltNode.answers
+        (members_view c.args.members.now.entries) c.args.place.now (planned c.args.plan) c.args.meter.now c.loop-name.meter c.loop-name.keywords.items
+    (listed (members_view c.loop-name.name-iterator)) c.loop-name.invariant.so_far
+    (listed (members_view c.next.new.self)) (known c.of-neighbours.result) (string_bytes c.in-Some.name.now) (view c.in-Some.value.now) c.in_ok-location.location c.compile_part.new.meter
+    (ap (λ l. listed (members_view l)) c.in-Some.ensures.steps) c.of-neighbours.ensures (c.in_ok-location.ensures ∙ ap (λ n. c.args.place.now // n) c.as_str-name.ensures.value)
+    c.in_ok-part.part
+    (subst (λ n. IsPart (kit g.L.Leaf.Leaf g.M.Engine.RegexEngine) g.N.BuiltNode.answers c.in_ok-part.part (known c.of-neighbours.result) n (view c.in-Some.value.now) c.in_ok-location.location
+    c.loop-name.meter c.compile_part.new.meter) c.as_str-name.ensures.value c.in_ok-part.ensures.built) e _ q)
+
+pub compile_each-returns-clause-built : goal.compile_each-returns-clause-built
+compile_each-returns-clause-built g t c =
+    each_is_built (kit g.L.Leaf.Leaf g.M.Engine.RegexEngine) g.N.BuiltNode.answers (members_view c.args.members.now.entries) c.args.place.now
+        (planned c.args.plan) c.args.meter.now c.loop-name.meter c.loop-name.keywords.items
+    (listed (members_view c.loop-name.name-iterator)) c.loop-name.invariant.so_far (ap (λ l. listed (members_view l)) c.in-None.ensures.steps.0)
+
+pub compile_each-returns-clause-refused : goal.compile_each-returns-clause-refused
+compile_each-returns-clause-refused g t c = tt
 
 pub compile_places-returns-in_err-place-in-Itself-clause-built : goal.compile_places-returns-in_err-place-in-Itself-clause-built
 compile_places-returns-in_err-place-in-Itself-clause-built g t c = IfOk-from_err _ _ c.from_residual.ensures.0
@@ -506,33 +634,24 @@ compile_schema-returns-in-Bool-false-clause-built g t c =
 pub compile_schema-returns-in-Bool-false-clause-refused : goal.compile_schema-returns-in-Bool-false-clause-refused
 compile_schema-returns-in-Bool-false-clause-refused g t c = tt
 
-pub compile_schema-returns-in_err-parts-in-Object-clause-built : goal.compile_schema-returns-in_err-parts-in-Object-clause-built
-compile_schema-returns-in_err-parts-in-Object-clause-built g t c = IfOk-from_err _ _ c.from_residual.ensures.0
-
-pub compile_schema-returns-in_err-parts-in-Object-clause-refused : goal.compile_schema-returns-in_err-parts-in-Object-clause-refused
-compile_schema-returns-in_err-parts-in-Object-clause-refused g t c =
-    exit _ _ _ c.from_residual.ensures.1 (λ e q. refuses_object (world g.L.Leaf.Leaf g.M.Engine.RegexEngine) (members_view c.in-Object.members.entries)
-    (view c.args.schema.now) c.args.location c.args.meter.now c.tick_compiled.new.self c.compile_parts.new.meter e
-    (ap view c.in-Object.is ∙ view-Object c.in-Object.members) c.tick_compiled.ensures
-    (subst (λ x. Refuses (all_malformed (kit g.L.Leaf.Leaf g.M.Engine.RegexEngine) (members_view c.in-Object.members.entries) c.args.location
-    (listed (members_view c.in-Object.members.entries))) (all_cost (kit g.L.Leaf.Leaf g.M.Engine.RegexEngine) (members_view c.in-Object.members.entries)
-    (listed (members_view c.in-Object.members.entries))) c.tick_compiled.new.self c.compile_parts.new.meter x) (sym q) c.in_err-parts-in-Object.ensures.refused))
-
 pub compile_schema-returns-in_err-keywords-in-Object-clause-built : goal.compile_schema-returns-in_err-keywords-in-Object-clause-built
-compile_schema-returns-in_err-keywords-in-Object-clause-built g t c = IfOk-from_err _ _ c.from_residual-in_err-keywords-in-Object.ensures.0
+compile_schema-returns-in_err-keywords-in-Object-clause-built g t c = IfOk-from_err _ _ c.from_residual.ensures.0
 
 pub compile_schema-returns-in_err-keywords-in-Object-clause-refused : goal.compile_schema-returns-in_err-keywords-in-Object-clause-refused
 compile_schema-returns-in_err-keywords-in-Object-clause-refused g t c =
-    exit _ _ _ c.from_residual-in_err-keywords-in-Object.ensures.1 (λ e q. refuses_object (world g.L.Leaf.Leaf g.M.Engine.RegexEngine)
-    (members_view c.in-Object.members.entries) (view c.args.schema.now) c.args.location c.args.meter.now c.tick_compiled.new.self c.compile_parts.new.meter e
-    (ap view c.in-Object.is ∙ view-Object c.in-Object.members) c.tick_compiled.ensures (refuses_memory _ _ _ _ e _ q (within_exactly _ _ _ c.in_ok-parts-in-Object.ensures.built.spends)))
+    exit _ _ _ c.from_residual.ensures.1 (λ e q. refuses_object (world g.L.Leaf.Leaf g.M.Engine.RegexEngine) (members_view c.in-Object.members.entries)
+    (view c.args.schema.now) c.args.location c.args.meter.now c.tick_compiled.new.self c.compile_object.new.meter e
+    (ap view c.in-Object.is ∙ view-Object c.in-Object.members) c.tick_compiled.ensures
+    (subst (RefusesObject (kit g.L.Leaf.Leaf g.M.Engine.RegexEngine) (members_view c.in-Object.members.entries) c.args.location c.tick_compiled.new.self c.compile_object.new.meter)
+    (sym q) c.in_err-keywords-in-Object.ensures.refused))
 
 pub compile_schema-returns-in-Object-clause-built : goal.compile_schema-returns-in-Object-clause-built
 compile_schema-returns-in-Object-clause-built g t c =
+    let object = c.in_ok-keywords-in-Object.ensures.built in
     built_object (kit g.L.Leaf.Leaf g.M.Engine.RegexEngine) g.N.BuiltNode.answers c.new-in-Object.result c.args.location
     (view c.args.schema.now) c.args.meter.now c.tick_compiled.new.self c.tick_compiled.ensures
-    (members_view c.in-Object.members.entries) c.in_ok-keywords-in-Object.keywords c.compile_parts.new.meter c.new-in-Object.ensures
-    (ap view c.in-Object.is ∙ view-Object c.in-Object.members) c.in_ok-keywords-in-Object.ensures c.in_ok-parts-in-Object.ensures.built.clean c.in_ok-parts-in-Object.ensures.built.spends
+    (members_view c.in-Object.members.entries) c.in_ok-keywords-in-Object.keywords c.compile_object.new.meter c.new-in-Object.ensures
+    (ap view c.in-Object.is ∙ view-Object c.in-Object.members) object.mean object.clean object.spends
 
 pub compile_schema-returns-in-Object-clause-refused : goal.compile_schema-returns-in-Object-clause-refused
 compile_schema-returns-in-Object-clause-refused g t c = tt

@@ -1,4 +1,5 @@
-use Rattle.std.proofs.Common.{◌≡◌, ◌++◌, List, map}
+use Rattle.std.proofs.Common.{◌≡◌, ◌++◌, List, map, String, Global}
+use Rattle.serde_json.specs.declared.value.Value.{Value}
 use Rattle.serde_json.specs.Data.{Data}
 use Rattle.serde_json.specs.View.{view, members_view}
 use Rattle.olk_spec.specs.Names.{Name}
@@ -7,6 +8,8 @@ use Rattle.olk_base.specs.Kit.{kit}
 use Rattle.olk_build.specs.Building.{entries_read}
 use Rattle.olk_build.proofs.Built.{EntriesSoFar, InnerSoFar, branches_from}
 use Rattle.olk_build.specs.Placing.{PartsAreBuilt}
+use Rattle.olk_meaning.specs.Plans.{planned}
+use Rattle.olk_build.proofs.Each.{EachSoFar}
 use Rattle.olk_build.proofs.build.+compile.Given as goal
 
 -- the nodes so far are built for those of the entries so far that are read
@@ -38,4 +41,15 @@ invariant-compile_parts-loop-name g l = record {
   rest : done ++ listed (members_view l.name-iterator) ≡ listed (members_view l.members.entries);
   next : (goal.iterator-compile_parts-loop-name g).can_next l.name-iterator;
   ends : (goal.iterator-compile_parts-loop-name g).is_finite l.name-iterator;
+}
+
+-- the keywords so far mean what the members so far claim; the entries so far, which the next is none of, bound its size
+abbrev pub invariant-compile_each-loop-name : goal.invariant-compile_each-loop-name
+invariant-compile_each-loop-name g l = record {
+  so_far : EachSoFar (kit g.L.Leaf.Leaf g.M.Engine.RegexEngine) g.N.BuiltNode.answers (members_view l.members.entries) l.fn.place
+      (planned l.fn.plan) l.fn.meter l.keywords.items (listed (members_view l.name-iterator)) l.meter;
+  before : List (String Global × Value);
+  entries : before ++ l.name-iterator ≡ l.members.entries;
+  next : (goal.iterator-compile_each-loop-name g).can_next l.name-iterator;
+  ends : (goal.iterator-compile_each-loop-name g).is_finite l.name-iterator;
 }

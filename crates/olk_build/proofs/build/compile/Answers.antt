@@ -1,6 +1,22 @@
+use Rattle.std.proofs.Common.{sym}
+use mathlib.Core.Path.{subst₂}
 use Rattle.std.proofs.lemmas.Result.{err_from_is_err_and}
+use Rattle.serde_json.specs.View.{view}
+use Rattle.olk_spec.specs.Malformed.{malformations_at}
+use Rattle.olk_base.specs.Kit.{world}
+use Rattle.olk_read.specs.Refusing.{TellsOneOf}
 use Rattle.olk_read.proofs.Spending.{within_nothing}
 use Rattle.olk_build.proofs.build.compile.Goals as goal
 
 pub returns-in_err-location-clause-costs_at_most : goal.returns-in_err-location-clause-costs_at_most
 returns-in_err-location-clause-costs_at_most g c = let p = err_from_is_err_and c.from_residual.result c.from_residual.ensures.1 in rw p.1 (within_nothing _ _)
+
+pub returns-in_err-compile_schema-clause-refused : goal.returns-in_err-compile_schema-clause-refused
+returns-in_err-compile_schema-clause-refused g c =
+    let p = err_from_is_err_and c.from_residual-in_err-compile_schema.result c.from_residual-in_err-compile_schema.ensures.1 in
+    rw p.1 (subst₂ (λ P e. TellsOneOf (malformations_at (world g.L.Leaf.Leaf g.M.Engine.RegexEngine) (view c.args.schema.now) P) e)
+    c.in_ok-location.ensures (sym p.2) c.in_err-compile_schema.ensures.refused.tells)
+
+pub returns-in_err-compile_schema-clause-costs_at_most : goal.returns-in_err-compile_schema-clause-costs_at_most
+returns-in_err-compile_schema-clause-costs_at_most g c =
+    let p = err_from_is_err_and c.from_residual-in_err-compile_schema.result c.from_residual-in_err-compile_schema.ensures.1 in rw p.1 c.in_err-compile_schema.ensures.refused.spends

@@ -1,8 +1,10 @@
-use Rattle.std.specs.Prelude.{IfOk}
+use Rattle.std.proofs.Common.{sym, subst}
 use mathlib.Core.Path.{subst₂}
 use Rattle.serde_json.specs.View.{view}
 use Rattle.olk_spec.specs.Names.{◌//◌}
 use Rattle.olk_base.specs.Kit.{kit}
+use Rattle.olk_meaning.specs.Conditions.{known}
+use Rattle.olk_build.specs.Building.{RefusesPart}
 use Rattle.olk_build.specs.Placing.{IsPart}
 use Rattle.olk_read.proofs.Spending.{exit}
 use Rattle.olk_build.proofs.Parts.{refuses_part_memory}
@@ -15,5 +17,13 @@ returns-in_err-location-clause-refused g c =
 
 pub returns-clause-built : goal.returns-clause-built
 returns-clause-built g c =
-    subst₂ (λ L b. IfOk c.compile_part.result (λ p. IsPart (kit g.L.Leaf.Leaf g.M.Engine.RegexEngine) g.N.BuiltNode.answers p b c.args.name.now
-    (view c.args.value.now) L c.args.ctx.now.meter.now c.compile_part.new.meter)) c.in_ok-location.ensures c.of-neighbours.ensures c.compile_part.ensures.built
+    subst₂ (λ L b. IsPart (kit g.L.Leaf.Leaf g.M.Engine.RegexEngine) g.N.BuiltNode.answers c.in_ok-compile_part.field-0 b c.args.name.now
+        (view c.args.value.now) L c.args.ctx.now.meter.now c.compile_part.new.meter) c.in_ok-location.ensures c.of-neighbours.ensures c.in_ok-compile_part.ensures.built
+
+pub returns-in_err-compile_part-clause-refused : goal.returns-in_err-compile_part-clause-refused
+returns-in_err-compile_part-clause-refused g c =
+    exit _ _ _ c.from_residual-in_err-compile_part.ensures.1 (λ e q. subst₂ (λ L b. RefusesPart (kit g.L.Leaf.Leaf g.M.Engine.RegexEngine) b c.args.name.now
+        (view c.args.value.now) L c.args.ctx.now.meter.now c.compile_part.new.meter e) c.in_ok-location.ensures c.of-neighbours.ensures
+        (subst (RefusesPart (kit g.L.Leaf.Leaf g.M.Engine.RegexEngine) (known c.of-neighbours.result) c.args.name.now
+        (view c.args.value.now) c.in_ok-location.location c.args.ctx.now.meter.now c.compile_part.new.meter)
+        (sym q) c.in_err-compile_part.ensures.refused))

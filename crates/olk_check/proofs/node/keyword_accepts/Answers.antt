@@ -8,13 +8,20 @@ use Rattle.olk_check.proofs.node.keyword_accepts.Goals as goal
 
 pub returns-in-OneOf : goal.returns-in-OneOf
 unfolding answers_of
-returns-in-OneOf g c =
-    subst (λ k. Asks c.args.ctx.now c.is_valid-in-OneOf.new.ctx (validator_means (kit g.K.Leaf g.R.RegexEngine) g.N.Means.means k (data_of c.args.node)) c.is_valid-in-OneOf.result)
-    (sym c.in-OneOf.is) c.is_valid-in-OneOf.ensures
+returns-in-OneOf g c = rw c.in-OneOf.is c.is_valid-in-OneOf.ensures
 
 pub returns-in-AdditionalProperties : goal.returns-in-AdditionalProperties
 unfolding answers_of
-returns-in-AdditionalProperties g c =
-    subst (λ k. Asks c.args.ctx.now c.is_valid-in-AdditionalProperties.new.ctx
-    (validator_means (kit g.K.Leaf g.R.RegexEngine) g.N.Means.means k (data_of c.args.node)) c.is_valid-in-AdditionalProperties.result)
-    (ap (λ a. keyword.AdditionalProperties record c.in-AdditionalProperties.validator { value = a }) c.deref.ensures ∙ sym c.in-AdditionalProperties.is) c.is_valid-in-AdditionalProperties.ensures
+returns-in-AdditionalProperties g c = rw c.in-AdditionalProperties.is (rw (sym c.deref-in-AdditionalProperties.ensures) c.is_valid-in-AdditionalProperties.ensures)
+
+pub returns-in-IfThen : goal.returns-in-IfThen
+unfolding answers_of
+returns-in-IfThen g c = rw c.in-IfThen.is (rw (sym c.deref.ensures) c.is_valid-in-IfThen.ensures)
+
+pub returns-in-IfElse : goal.returns-in-IfElse
+unfolding answers_of
+returns-in-IfElse g c = rw c.in-IfElse.is (rw (sym c.deref-in-IfElse.ensures) c.is_valid-in-IfElse.ensures)
+
+pub returns-in-IfThenElse : goal.returns-in-IfThenElse
+unfolding answers_of
+returns-in-IfThenElse g c = rw c.in-IfThenElse.is (rw (sym c.deref-in-IfThenElse.ensures) c.is_valid-in-IfThenElse.ensures)

@@ -120,33 +120,33 @@ returns-in-Not-clause-context g c = c.walk-in-Not.ensures.context
 
 pub returns-in-IfThen-clause-on : goal.returns-in-IfThen-clause-on
 unfolding answers_of
-returns-in-IfThen-clause-on g c = rw c.in-IfThen.is c.walk-in-IfThen.ensures.on
+returns-in-IfThen-clause-on g c = rw c.in-IfThen.is (rw (sym c.deref.ensures) c.walk-in-IfThen.ensures.on)
 
 pub returns-in-IfThen-clause-stop : goal.returns-in-IfThen-clause-stop
 unfolding answers_of
-returns-in-IfThen-clause-stop g c = rw c.in-IfThen.is c.walk-in-IfThen.ensures.stop
+returns-in-IfThen-clause-stop g c = rw c.in-IfThen.is (rw (sym c.deref.ensures) c.walk-in-IfThen.ensures.stop)
 
 pub returns-in-IfThen-clause-context : goal.returns-in-IfThen-clause-context
 returns-in-IfThen-clause-context g c = c.walk-in-IfThen.ensures.context
 
 pub returns-in-IfElse-clause-on : goal.returns-in-IfElse-clause-on
 unfolding answers_of
-returns-in-IfElse-clause-on g c = rw c.in-IfElse.is c.walk-in-IfElse.ensures.on
+returns-in-IfElse-clause-on g c = rw c.in-IfElse.is (rw (sym c.deref-in-IfElse.ensures) c.walk-in-IfElse.ensures.on)
 
 pub returns-in-IfElse-clause-stop : goal.returns-in-IfElse-clause-stop
 unfolding answers_of
-returns-in-IfElse-clause-stop g c = rw c.in-IfElse.is c.walk-in-IfElse.ensures.stop
+returns-in-IfElse-clause-stop g c = rw c.in-IfElse.is (rw (sym c.deref-in-IfElse.ensures) c.walk-in-IfElse.ensures.stop)
 
 pub returns-in-IfElse-clause-context : goal.returns-in-IfElse-clause-context
 returns-in-IfElse-clause-context g c = c.walk-in-IfElse.ensures.context
 
 pub returns-in-IfThenElse-clause-on : goal.returns-in-IfThenElse-clause-on
 unfolding answers_of
-returns-in-IfThenElse-clause-on g c = rw c.in-IfThenElse.is c.walk-in-IfThenElse.ensures.on
+returns-in-IfThenElse-clause-on g c = rw c.in-IfThenElse.is (rw (sym c.deref-in-IfThenElse.ensures) c.walk-in-IfThenElse.ensures.on)
 
 pub returns-in-IfThenElse-clause-stop : goal.returns-in-IfThenElse-clause-stop
 unfolding answers_of
-returns-in-IfThenElse-clause-stop g c = rw c.in-IfThenElse.is c.walk-in-IfThenElse.ensures.stop
+returns-in-IfThenElse-clause-stop g c = rw c.in-IfThenElse.is (rw (sym c.deref-in-IfThenElse.ensures) c.walk-in-IfThenElse.ensures.stop)
 
 pub returns-in-IfThenElse-clause-context : goal.returns-in-IfThenElse-clause-context
 returns-in-IfThenElse-clause-context g c = c.walk-in-IfThenElse.ensures.context
@@ -219,21 +219,11 @@ returns-in-SingleValuePatternProperties-clause-context g c = c.walk-in-SingleVal
 
 pub returns-in-AdditionalProperties-clause-on : goal.returns-in-AdditionalProperties-clause-on
 unfolding answers_of
-returns-in-AdditionalProperties-clause-on g c = subst (λ k. OnOk c.walk-in-AdditionalProperties.result (GoesOn c.args.sink.now c.walk-in-AdditionalProperties.new.sink (record {
-  accepts = (validator_means (kit g.K.Leaf g.R.RegexEngine) g.N.Means.means k (data_of c.args.node)).accepts c.args.ctx.now.answer;
-  first = validator_first (kit g.K.Leaf g.R.RegexEngine) g.N.Means.means g.N.Reports.report c.args.ctx.now.answer g.N.Reports.first k (data_of c.args.node) (path_at c.args.trail.now);
-  all = validator_report (kit g.K.Leaf g.R.RegexEngine) g.N.Means.means g.N.Reports.report c.args.ctx.now.answer k (data_of c.args.node) (path_at c.args.trail.now);
-})))
-    (ap (λ a. keyword.AdditionalProperties record c.in-AdditionalProperties.keyword { value = a }) c.deref.ensures ∙ sym c.in-AdditionalProperties.is) c.walk-in-AdditionalProperties.ensures.on
+returns-in-AdditionalProperties-clause-on g c = rw c.in-AdditionalProperties.is (rw (sym c.deref-in-AdditionalProperties.ensures) c.walk-in-AdditionalProperties.ensures.on)
 
 pub returns-in-AdditionalProperties-clause-stop : goal.returns-in-AdditionalProperties-clause-stop
 unfolding answers_of
-returns-in-AdditionalProperties-clause-stop g c = subst (λ k. IfErr c.walk-in-AdditionalProperties.result (λ s. StopsBy s c.args.sink.now c.walk-in-AdditionalProperties.new.sink (IsErrorOf (record {
-  accepts = (validator_means (kit g.K.Leaf g.R.RegexEngine) g.N.Means.means k (data_of c.args.node)).accepts c.args.ctx.now.answer;
-  first = validator_first (kit g.K.Leaf g.R.RegexEngine) g.N.Means.means g.N.Reports.report c.args.ctx.now.answer g.N.Reports.first k (data_of c.args.node) (path_at c.args.trail.now);
-  all = validator_report (kit g.K.Leaf g.R.RegexEngine) g.N.Means.means g.N.Reports.report c.args.ctx.now.answer k (data_of c.args.node) (path_at c.args.trail.now);
-}))))
-    (ap (λ a. keyword.AdditionalProperties record c.in-AdditionalProperties.keyword { value = a }) c.deref.ensures ∙ sym c.in-AdditionalProperties.is) c.walk-in-AdditionalProperties.ensures.stop
+returns-in-AdditionalProperties-clause-stop g c = rw c.in-AdditionalProperties.is (rw (sym c.deref-in-AdditionalProperties.ensures) c.walk-in-AdditionalProperties.ensures.stop)
 
 pub returns-in-Leaf-clause-on : goal.returns-in-Leaf-clause-on
 unfolding answers_of

@@ -6,7 +6,7 @@ use Rattle.olk_spec.specs.Names.{◌//◌}
 use Rattle.olk_meaning.specs.Conditions.{known_of}
 use Rattle.olk_build.specs.Building.{RefusesPart}
 use Rattle.olk_keywords.specs.Conditions.{CaseIsBuilt}
-use Rattle.olk_keywords.proofs.Conditions.{RefusesCase, if_without_node, if_refused, then_refused, else_refused, if_is_formed, condition_is_built}
+use Rattle.olk_keywords.proofs.Conditions.{RefusesCase, if_without_node, if_refused, then_refused, else_refused, condition_lost, if_is_formed, condition_is_built}
 use Rattle.olk_keywords.proofs.Together.{left_by}
 use Rattle.olk_keywords.proofs.if_.compile_condition.Goals as goal
 
@@ -29,6 +29,24 @@ returns-in_err-else_schema-clause-builds g c =
     (subst (λ Q. CaseIsBuilt (kit g.L.Leaf.Leaf g.M.Engine.RegexEngine) g.N.BuiltNode.answers (members_view c.args.parent.now.entries) c.in_ok-then_schema.then_schema
     (codes "then") Q c.compile_member.new.ctx.meter.now c.compile_case.new.ctx.meter.now) c.compile_member.ensures.place (c.in_ok-then_schema.ensures.builds refl c.requires.read).0)
     (subst₂ (λ Q x. RefusesCase (kit g.L.Leaf.Leaf g.M.Engine.RegexEngine) g.N.BuiltNode.answers (members_view c.args.parent.now.entries) c.requires.read (view c.args.schema.now) Q (codes "else") c.compile_case.new.ctx.meter.now c.compile_case-2.new.ctx.meter.now x) (c.compile_case.ensures.place ∙ c.compile_member.ensures.place) (sym q) (c.in_err-else_schema.ensures.builds refl c.requires.read).1))
+
+pub returns-in_err-keyword-clause-builds : goal.returns-in_err-keyword-clause-builds
+returns-in_err-keyword-clause-builds g c =
+    left_by _ _ _ _ c.from_residual-in_err-keyword.ensures.1 (λ e q. condition_lost (kit g.L.Leaf.Leaf g.M.Engine.RegexEngine) g.N.Place.answers
+    (members_view c.args.parent.now.entries) c.requires.read (view c.args.schema.now) c.args.ctx.now.place c.in_ok-location.field-0 _ _ c.in_ok-location.ensures.built
+    c.in_ok-then_schema.then_schema c.in_ok-else_schema.else_schema _ _
+    (subst (λ Q. CaseIsBuilt (kit g.L.Leaf.Leaf g.M.Engine.RegexEngine) g.N.Place.answers (members_view c.args.parent.now.entries) c.in_ok-then_schema.then_schema
+    (codes "then") Q c.compile_member.new.ctx.meter.now c.compile_case.new.ctx.meter.now) c.compile_member.ensures.place (c.in_ok-then_schema.ensures.builds refl c.requires.read).0)
+    (subst (λ Q. CaseIsBuilt (kit g.L.Leaf.Leaf g.M.Engine.RegexEngine) g.N.Place.answers (members_view c.args.parent.now.entries) c.in_ok-else_schema.else_schema
+    (codes "else") Q c.compile_case.new.ctx.meter.now c.compile_case-2.new.ctx.meter.now) (c.compile_case.ensures.place ∙ c.compile_member.ensures.place)
+    (c.in_ok-else_schema.ensures.builds refl c.requires.read).0)
+    e _ q)
+
+pub returns-in_err-keyword-clause-place : goal.returns-in_err-keyword-clause-place
+returns-in_err-keyword-clause-place g c = c.compile_case-2.ensures.place ∙ c.compile_case.ensures.place ∙ c.compile_member.ensures.place
+
+pub returns-in_err-keyword-clause-same_meter : goal.returns-in_err-keyword-clause-same_meter
+returns-in_err-keyword-clause-same_meter g c = c.compile_case-2.ensures.same_meter ∙ c.compile_case.ensures.same_meter ∙ c.compile_member.ensures.same_meter
 
 pub returns-clause-builds : goal.returns-clause-builds
 returns-clause-builds g c = (

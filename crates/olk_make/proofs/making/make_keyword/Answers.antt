@@ -47,12 +47,14 @@ returns-in-Required-clause-makes g c =
     (subst (λ x. MakesClaims (kit g.K.Leaf g.R.RegexEngine) g.N.BuiltNode.answers x c.args.part.location c.args.part.nodes.items c.args.place.now
     (planned c.args.plan) (option_to_list c.make-in-Required.result)) (sym c.in-Required.is) (c.make-in-Required.ensures c.args.place.now))
 
-pub returns-in-Some-pop-clause-makes : goal.returns-in-Some-pop-clause-makes
-returns-in-Some-pop-clause-makes g c =
+pub returns-in_ok-make-in-Some-pop-clause-makes : goal.returns-in_ok-make-in-Some-pop-clause-makes
+returns-in_ok-make-in-Some-pop-clause-makes g c =
     subst (λ x. MakesPart (kit g.K.Leaf g.R.RegexEngine) g.N.BuiltNode.answers x c.args.part.location c.args.part.nodes.items c.args.taken.now c.args.place.now
-    (planned c.args.plan) (option_to_list c.make-in-Some-pop.result)) (sym c.in-If.is)
-    (part_of_if (kit g.K.Leaf g.R.RegexEngine) g.N.BuiltNode.answers c.args.part.location c.pop-in-If.new.self.items c.args.part.nodes.items c.in-Some-pop.schema c.args.taken.now c.args.place.now (planned c.args.plan) (option_to_list c.make-in-Some-pop.result) c.in-Some-pop.ensures.items
-    (subst (λ t. MakesCondition (kit g.K.Leaf g.R.RegexEngine) g.N.BuiltNode.answers c.args.part.location c.in-Some-pop.schema t (option_to_list c.make-in-Some-pop.result)) c.take-in-Some-pop.ensures.taken c.make-in-Some-pop.ensures.makes))
+    (planned c.args.plan) (option_to_list c.in_ok-make-in-Some-pop.field-0)) (sym c.in-If.is)
+    (part_of_if (kit g.K.Leaf g.R.RegexEngine) g.N.BuiltNode.answers c.args.part.location c.pop-in-If.new.self.items c.args.part.nodes.items c.in-Some-pop.schema c.args.taken.now
+    c.args.place.now (planned c.args.plan) (option_to_list c.in_ok-make-in-Some-pop.field-0) c.in-Some-pop.ensures.items
+    (subst (λ t. MakesCondition (kit g.K.Leaf g.R.RegexEngine) g.N.BuiltNode.answers c.args.part.location c.in-Some-pop.schema t
+    (option_to_list c.in_ok-make-in-Some-pop.field-0)) c.take-in-Some-pop.ensures.taken c.in_ok-make-in-Some-pop.ensures.makes))
 
 pub returns-in_ok-make-in-Some-clause-makes : goal.returns-in_ok-make-in-Some-clause-makes
 returns-in_ok-make-in-Some-clause-makes g c = subst (λ x. MakesPart (kit g.K.Leaf g.R.RegexEngine) g.N.BuiltNode.answers x c.args.part.location c.args.part.nodes.items c.args.taken.now c.args.place.now (planned c.args.plan) (c.in_ok-make-in-Some.field-0 ∷ [])) (sym c.in-AdditionalProperties.is)

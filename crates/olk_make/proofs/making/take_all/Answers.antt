@@ -3,7 +3,7 @@ use Rattle.std.proofs.lemmas.List.{append-nil, nil_from_length}
 use Rattle.olk_base.specs.Kit.{kit}
 use Rattle.olk_meaning.specs.Plans.{planned}
 use Rattle.olk_make.specs.Standing.{PartsStand}
-use Rattle.olk_make.proofs.Taking.{nothing_to_take, none_taken, one_more_taken, all_taken}
+use Rattle.olk_make.proofs.Taking.{none_taken, one_more_taken, all_taken}
 use Rattle.olk_make.proofs.making.take_all.Goals as goal
 
 pub loop-part-init : goal.loop-part-init
@@ -41,8 +41,3 @@ pub returns : goal.returns
 returns g c es P k same h =
     all_taken (kit g.K.Leaf g.R.RegexEngine) g.N.BuiltNode.answers (planned c.args.plan) k P es c.loop-part.taken c.loop-part.left.items c.loop-part.part-iterator.rest.items
     (nil_from_length _ (c.loop-part.invariant.count ∙ c.in-None.ensures.steps.0)) (c.loop-part.invariant.taken es P k same h)
-
-pub returns-then-not-is_restricted : goal.returns-then-not-is_restricted
-returns-then-not-is_restricted g c es P k same h =
-    nothing_to_take (kit g.K.Leaf g.R.RegexEngine) g.N.BuiltNode.answers (planned c.args.plan) k P es c.none-taken.result c.args.parts.items
-    (sym c.is_condition.ensures ∙ c.if-not-is_condition.true) (sym c.is_restricted.ensures ∙ c.if-not-is_restricted.true) h

@@ -27,19 +27,7 @@ returns-in-Leaf g c = record {
 
 pub returns-in-AdditionalProperties : goal.returns-in-AdditionalProperties
 unfolding answers_of
-returns-in-AdditionalProperties g c = record {
-  tree =
-      subst (λ k. OnOk c.show-in-AdditionalProperties.result (IsLikeTree
-      (validator_tree (kit g.K.Leaf g.R.RegexEngine) g.N.Means.means g.N.Show.tree c.args.ctx.now.answer k (data_of c.args.node) c.args.path.now)
-      (node_at ((answers_of (kit g.K.Leaf g.R.RegexEngine) k).location) c.args.path.now (shown_of c.show-in-AdditionalProperties.new.outcome))))
-      (ap (λ a. keyword.AdditionalProperties record c.in-AdditionalProperties.keyword { value = a }) c.deref.ensures ∙ sym c.in-AdditionalProperties.is) c.show-in-AdditionalProperties.ensures.tree;
-  verdict =
-      subst (λ k. OnOk c.show-in-AdditionalProperties.result (is_valid (node_at ((answers_of (kit g.K.Leaf g.R.RegexEngine) k).location) c.args.path.now
-      (shown_of c.show-in-AdditionalProperties.new.outcome)) ≡ (validator_means (kit g.K.Leaf g.R.RegexEngine) g.N.Means.means k (data_of c.args.node)).accepts c.args.ctx.now.answer))
-      (ap (λ a. keyword.AdditionalProperties record c.in-AdditionalProperties.keyword { value = a }) c.deref.ensures ∙ sym c.in-AdditionalProperties.is) c.show-in-AdditionalProperties.ensures.verdict;
-  path = c.show-in-AdditionalProperties.ensures.path;
-  context = c.show-in-AdditionalProperties.ensures.context;
-}
+returns-in-AdditionalProperties g c = rw c.in-AdditionalProperties.is (rw (sym c.deref-in-AdditionalProperties.ensures) c.show-in-AdditionalProperties.ensures)
 
 pub returns-in-Properties : goal.returns-in-Properties
 unfolding answers_of
@@ -83,15 +71,15 @@ returns-in-Not g c = rw c.in-Not.is c.show-in-Not.ensures
 
 pub returns-in-IfThen : goal.returns-in-IfThen
 unfolding answers_of
-returns-in-IfThen g c = rw c.in-IfThen.is c.show-in-IfThen.ensures
+returns-in-IfThen g c = rw c.in-IfThen.is (rw (sym c.deref.ensures) c.show-in-IfThen.ensures)
 
 pub returns-in-IfElse : goal.returns-in-IfElse
 unfolding answers_of
-returns-in-IfElse g c = rw c.in-IfElse.is c.show-in-IfElse.ensures
+returns-in-IfElse g c = rw c.in-IfElse.is (rw (sym c.deref-in-IfElse.ensures) c.show-in-IfElse.ensures)
 
 pub returns-in-IfThenElse : goal.returns-in-IfThenElse
 unfolding answers_of
-returns-in-IfThenElse g c = rw c.in-IfThenElse.is c.show-in-IfThenElse.ensures
+returns-in-IfThenElse g c = rw c.in-IfThenElse.is (rw (sym c.deref-in-IfThenElse.ensures) c.show-in-IfThenElse.ensures)
 
 pub returns-in-Dependencies : goal.returns-in-Dependencies
 unfolding answers_of
