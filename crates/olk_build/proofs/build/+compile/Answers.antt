@@ -291,7 +291,7 @@ compile_object-returns-in_err-parts-clause-built g t c = IfOk-from_err _ _ c.fro
 pub compile_object-returns-in_err-parts-clause-refused : goal.compile_object-returns-in_err-parts-clause-refused
 compile_object-returns-in_err-parts-clause-refused g t c =
     exit _ _ _ c.from_residual.ensures.1 (λ e q. subst (RefusesObject (kit g.L.Leaf.Leaf g.M.Engine.RegexEngine)
-        (members_view c.args.members.now.entries) c.args.place.now c.args.meter.now c.compile_parts.new.meter) (sym q) c.in_err-parts.ensures.refused)
+    (members_view c.args.members.now.entries) c.args.place.now c.args.meter.now c.compile_parts.new.meter) (sym q) c.in_err-parts.ensures.refused)
 
 pub compile_object-returns-in_err-keywords-clause-built : goal.compile_object-returns-in_err-keywords-clause-built
 compile_object-returns-in_err-keywords-clause-built g t c = IfOk-from_err _ _ c.from_residual-in_err-keywords.ensures.0
@@ -446,7 +446,7 @@ compile_each-returns-in_err-location-clause-built g t c = IfOk-from_err _ _ c.fr
 pub compile_each-returns-in_err-location-clause-refused : goal.compile_each-returns-in_err-location-clause-refused
 compile_each-returns-in_err-location-clause-refused g t c =
     exit _ _ _ c.from_residual-in_err-location.ensures.1 (λ e q. memory_so_far (kit g.L.Leaf.Leaf g.M.Engine.RegexEngine) g.N.BuiltNode.answers
-        (members_view c.args.members.now.entries) c.args.place.now (planned c.args.plan) c.args.meter.now c.loop-name.meter c.loop-name.keywords.items
+    (members_view c.args.members.now.entries) c.args.place.now (planned c.args.plan) c.args.meter.now c.loop-name.meter c.loop-name.keywords.items
     (listed (members_view c.loop-name.name-iterator)) c.loop-name.invariant.so_far e _ q)
 
 pub compile_each-compile_part-requires : goal.compile_each-compile_part-requires
@@ -461,7 +461,7 @@ compile_each-returns-in_err-part-clause-built g t c = IfOk-from_err _ _ c.from_r
 pub compile_each-returns-in_err-part-clause-refused : goal.compile_each-returns-in_err-part-clause-refused
 compile_each-returns-in_err-part-clause-refused g t c =
     exit _ _ _ c.from_residual-in_err-part.ensures.1 (λ e q. member_refused (kit g.L.Leaf.Leaf g.M.Engine.RegexEngine) g.N.BuiltNode.answers
-        (members_view c.args.members.now.entries) c.args.place.now (planned c.args.plan) c.args.meter.now c.loop-name.meter c.loop-name.keywords.items
+    (members_view c.args.members.now.entries) c.args.place.now (planned c.args.plan) c.args.meter.now c.loop-name.meter c.loop-name.keywords.items
     (listed (members_view c.loop-name.name-iterator)) c.loop-name.invariant.so_far
     (listed (members_view c.next.new.self)) (known c.of-neighbours.result) (string_bytes c.in-Some.name.now) (view c.in-Some.value.now) c.in_ok-location.location c.compile_part.new.meter
     (ap (λ l. listed (members_view l)) c.in-Some.ensures.steps) c.of-neighbours.ensures (c.in_ok-location.ensures ∙ ap (λ n. c.args.place.now // n) c.as_str-name.ensures.value)
@@ -492,7 +492,7 @@ compile_each-returns-in_err-append_keyword-clause-built g t c = IfOk-from_err _ 
 pub compile_each-returns-in_err-append_keyword-clause-refused : goal.compile_each-returns-in_err-append_keyword-clause-refused
 compile_each-returns-in_err-append_keyword-clause-refused g t c =
     exit _ _ _ c.from_residual-in_err-append_keyword.ensures.1 (λ e q. memory_past_member (kit g.L.Leaf.Leaf g.M.Engine.RegexEngine) g.N.BuiltNode.answers
-        (members_view c.args.members.now.entries) c.args.place.now (planned c.args.plan) c.args.meter.now c.loop-name.meter c.loop-name.keywords.items
+    (members_view c.args.members.now.entries) c.args.place.now (planned c.args.plan) c.args.meter.now c.loop-name.meter c.loop-name.keywords.items
     (listed (members_view c.loop-name.name-iterator)) c.loop-name.invariant.so_far
     (listed (members_view c.next.new.self)) (known c.of-neighbours.result) (string_bytes c.in-Some.name.now) (view c.in-Some.value.now) c.in_ok-location.location c.compile_part.new.meter
     (ap (λ l. listed (members_view l)) c.in-Some.ensures.steps) c.of-neighbours.ensures (c.in_ok-location.ensures ∙ ap (λ n. c.args.place.now // n) c.as_str-name.ensures.value)
@@ -503,7 +503,7 @@ compile_each-returns-in_err-append_keyword-clause-refused g t c =
 pub compile_each-returns-clause-built : goal.compile_each-returns-clause-built
 compile_each-returns-clause-built g t c =
     each_is_built (kit g.L.Leaf.Leaf g.M.Engine.RegexEngine) g.N.BuiltNode.answers (members_view c.args.members.now.entries) c.args.place.now
-        (planned c.args.plan) c.args.meter.now c.loop-name.meter c.loop-name.keywords.items
+    (planned c.args.plan) c.args.meter.now c.loop-name.meter c.loop-name.keywords.items
     (listed (members_view c.loop-name.name-iterator)) c.loop-name.invariant.so_far (ap (λ l. listed (members_view l)) c.in-None.ensures.steps.0)
 
 pub compile_each-returns-clause-refused : goal.compile_each-returns-clause-refused

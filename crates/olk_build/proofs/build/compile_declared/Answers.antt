@@ -12,7 +12,7 @@ returns-in_err-location-clause-refused g c = exit _ _ _ c.from_residual.ensures.
 pub returns-in_err-compile_entries-clause-refused : goal.returns-in_err-compile_entries-clause-refused
 returns-in_err-compile_entries-clause-refused g c =
     exit _ _ _ c.from_residual-in_err-compile_entries.ensures.1 (λ e q. subst (λ L. RefusesEach (kit g.L.Leaf.Leaf g.M.Engine.RegexEngine) (listed (members_view c.args.entries.now.entries)) L
-        c.args.ctx.now.meter.now c.compile_entries.new.meter e) c.in_ok-location.ensures
-        (subst (RefusesEach (kit g.L.Leaf.Leaf g.M.Engine.RegexEngine) (listed
-        (members_view c.args.entries.now.entries)) c.in_ok-location.location c.args.ctx.now.meter.now c.compile_entries.new.meter)
-        (sym q) c.in_err-compile_entries.ensures.refused))
+    c.args.ctx.now.meter.now c.compile_entries.new.meter e) c.in_ok-location.ensures
+    (subst (RefusesEach (kit g.L.Leaf.Leaf g.M.Engine.RegexEngine) (listed
+    (members_view c.args.entries.now.entries)) c.in_ok-location.location c.args.ctx.now.meter.now c.compile_entries.new.meter)
+    (sym q) c.in_err-compile_entries.ensures.refused))

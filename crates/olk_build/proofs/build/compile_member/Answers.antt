@@ -18,12 +18,12 @@ returns-in_err-location-clause-refused g c =
 pub returns-clause-built : goal.returns-clause-built
 returns-clause-built g c =
     subst₂ (λ L b. IsPart (kit g.L.Leaf.Leaf g.M.Engine.RegexEngine) g.N.BuiltNode.answers c.in_ok-compile_part.field-0 b c.args.name.now
-        (view c.args.value.now) L c.args.ctx.now.meter.now c.compile_part.new.meter) c.in_ok-location.ensures c.of-neighbours.ensures c.in_ok-compile_part.ensures.built
+    (view c.args.value.now) L c.args.ctx.now.meter.now c.compile_part.new.meter) c.in_ok-location.ensures c.of-neighbours.ensures c.in_ok-compile_part.ensures.built
 
 pub returns-in_err-compile_part-clause-refused : goal.returns-in_err-compile_part-clause-refused
 returns-in_err-compile_part-clause-refused g c =
     exit _ _ _ c.from_residual-in_err-compile_part.ensures.1 (λ e q. subst₂ (λ L b. RefusesPart (kit g.L.Leaf.Leaf g.M.Engine.RegexEngine) b c.args.name.now
-        (view c.args.value.now) L c.args.ctx.now.meter.now c.compile_part.new.meter e) c.in_ok-location.ensures c.of-neighbours.ensures
-        (subst (RefusesPart (kit g.L.Leaf.Leaf g.M.Engine.RegexEngine) (known c.of-neighbours.result) c.args.name.now
-        (view c.args.value.now) c.in_ok-location.location c.args.ctx.now.meter.now c.compile_part.new.meter)
-        (sym q) c.in_err-compile_part.ensures.refused))
+    (view c.args.value.now) L c.args.ctx.now.meter.now c.compile_part.new.meter e) c.in_ok-location.ensures c.of-neighbours.ensures
+    (subst (RefusesPart (kit g.L.Leaf.Leaf g.M.Engine.RegexEngine) (known c.of-neighbours.result) c.args.name.now
+    (view c.args.value.now) c.in_ok-location.location c.args.ctx.now.meter.now c.compile_part.new.meter)
+    (sym q) c.in_err-compile_part.ensures.refused))

@@ -15,10 +15,10 @@ loop-part-init g c =
     record {
       made = λ ms distinct chosen stand.
           let taken = subst (λ p. AreTaken (kit g.K.Leaf g.R.RegexEngine) g.N.BuiltNode.answers p (known_of ms)
-              (listed ms) c.args.place.now c.in_ok-taken.taken c.in_ok-taken.parts.items) chosen (c.in_ok-taken.ensures (listed ms) c.args.place.now (known_of ms) (ap
-              (λ p. p.condition) (sym chosen)) stand) in
+          (listed ms) c.args.place.now c.in_ok-taken.taken c.in_ok-taken.parts.items) chosen (c.in_ok-taken.ensures (listed ms) c.args.place.now (known_of ms) (ap
+          (λ p. p.condition) (sym chosen)) stand) in
           none_made (kit g.K.Leaf g.R.RegexEngine) g.N.BuiltNode.answers ms c.args.place.now c.in_ok-keywords.keywords.items c.into_iter-part-iterator.result.rest.items
-              c.in_ok-taken.taken c.in_ok-keywords.ensures.items
+          c.in_ok-taken.taken c.in_ok-keywords.ensures.items
           (subst (λ l. PartsStand (kit g.K.Leaf g.R.RegexEngine) g.N.BuiltNode.answers (known_of ms) l (untaken (plan_of ms) (listed ms)) c.args.place.now)
           (sym c.into_iter-part-iterator.ensures.into_iter_gives.0) taken.left)
           (λ read. cases_stand (kit g.K.Leaf g.R.RegexEngine) g.N.BuiltNode.answers ms c.args.place.now c.in_ok-taken.taken c.in_ok-taken.parts.items distinct taken read)
