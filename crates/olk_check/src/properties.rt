@@ -157,7 +157,7 @@ fn all_accepted<M: PropertiesValidatorsMap<N>, N: IsValid>(
         (zip (M.names properties.now) (M.nodes properties.now))
         (object_of members.now.entries)) result }
 {
-    if members.len() / 2 <= properties.names().len() {
+    if members.len() / 2 < properties.names().len() {
         each_member_accepted(properties, members, ctx)
     } else {
         each_name_accepted(properties, members, ctx)
@@ -200,7 +200,7 @@ fn all_accepted_with<M: PropertiesValidatorsMap<N>, N: IsValid>(
         (object_of members.now.entries))
         (always (is_empty (missing (name.now ∷ []) (object_of members.now.entries))))) result }
 {
-    if members.len() / 2 <= properties.names().len() {
+    if members.len() / 2 < properties.names().len() {
         each_member_accepted_with(properties, members, name, ctx)
     } else {
         is_present(members, name) && each_name_accepted(properties, members, ctx)
@@ -251,7 +251,7 @@ fn all_accepted_with_both<M: PropertiesValidatorsMap<N>, N: IsValid>(
         (properties_mean N.means (zip (M.names properties.now) (M.nodes properties.now))
         (object_of members.now.entries))) result }
 {
-    if members.len() / 2 <= properties.names().len() {
+    if members.len() / 2 < properties.names().len() {
         each_member_accepted_with_both(properties, members, first, second, ctx)
     } else {
         has_both(members, first, second) && each_name_accepted(properties, members, ctx)

@@ -80,7 +80,7 @@ fn walk_members<'a, M: PropertiesValidatorsMap<N>, N: Walk<'a> + 'a>(
         (object_of members.now.entries) (path_at trail.now)))) }
     ensures context { OnlyAsks ctx.old ctx.new }
 {
-    if members.len() / 2 <= properties.names().len() {
+    if members.len() / 2 < properties.names().len() {
         walk_each_member(properties, members, trail, ctx, sink)
     } else {
         walk_each_name(properties, members, trail, ctx, sink)

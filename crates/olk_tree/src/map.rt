@@ -2,7 +2,7 @@
 ghost use Rattle.std.specs.Ordering.{nat_cmp};
 ghost use Rattle.std.specs.Result.{MatchResult, result_ok};
 ghost use Rattle.std.specs.Cmp.Lexicographic.{slice_cmp};
-ghost use Rattle.std.specs.Prelude.{◌≡◌, ◌<◌, ◌↔◌, IsTrue, IfOk, Some, bytes_eq, length, map, nat_lt, slice_index, string_bytes, position};
+ghost use Rattle.std.specs.Prelude.{◌≡◌, ◌<◌, ◌≤◌, ◌↔◌, IsTrue, IfOk, Some, bytes_eq, length, map, nat_lt, slice_index, string_bytes, position};
 ghost use Rattle.serde_json.specs.View.{members_view};
 ghost use Rattle.olk_spec.specs.Schemas.{listed};
 ghost use Rattle.olk_tree.specs.Ascending.{Ascend, IsBefore, IsFirst, IsPlaceOf, Rise, first_bytes};
@@ -106,10 +106,10 @@ impl SortedNames {
         ensures { result.1 ≡ position (λ k. bytes_eq k name.now) self.now }
     {
         if self.stands_at(hint, name) {
-            return (hint.saturating_add(1), Some(hint));
+            return (hint.wrapping_add(1), Some(hint));
         }
         match self.find_apart(hint, name) {
-            Ok(place) => (place.saturating_add(1), Some(place)),
+            Ok(place) => (place.wrapping_add(1), Some(place)),
             Err(next) => (next, None),
         }
     }
@@ -240,15 +240,38 @@ fn head_of_few(bytes: &[u8]) -> u64
     requires { length bytes.now < 8 }
     ensures { result ≡ first_bytes bytes.now }
 {
+    if bytes.len() < 4 {
+        head_up_to_three(bytes)
+    } else {
+        head_from_four(bytes)
+    }
+}
+
+#[inline(always)]
+fn head_up_to_three(bytes: &[u8]) -> u64
+    requires { length bytes.now < 4 }
+    ensures { result ≡ first_bytes bytes.now }
+{
     match bytes {
-        [a, b, c, d, e, f, g] => u64::from_be_bytes([*a, *b, *c, *d, *e, *f, *g, 0]),
-        [a, b, c, d, e, f] => u64::from_be_bytes([*a, *b, *c, *d, *e, *f, 0, 0]),
-        [a, b, c, d, e] => u64::from_be_bytes([*a, *b, *c, *d, *e, 0, 0, 0]),
-        [a, b, c, d] => u64::from_be_bytes([*a, *b, *c, *d, 0, 0, 0, 0]),
         [a, b, c] => u64::from_be_bytes([*a, *b, *c, 0, 0, 0, 0, 0]),
         [a, b] => u64::from_be_bytes([*a, *b, 0, 0, 0, 0, 0, 0]),
         [a] => u64::from_be_bytes([*a, 0, 0, 0, 0, 0, 0, 0]),
         _ => 0,
+    }
+}
+
+#[inline(always)]
+fn head_from_four(bytes: &[u8]) -> u64
+    requires few { length bytes.now < 8 }
+    requires many { 4 ≤ length bytes.now }
+    ensures { result ≡ first_bytes bytes.now }
+{
+    match bytes {
+        [a, b, c, d] => u64::from_be_bytes([*a, *b, *c, *d, 0, 0, 0, 0]),
+        [a, b, c, d, e] => u64::from_be_bytes([*a, *b, *c, *d, *e, 0, 0, 0]),
+        [a, b, c, d, e, f] => u64::from_be_bytes([*a, *b, *c, *d, *e, *f, 0, 0]),
+        [a, b, c, d, e, f, g] => u64::from_be_bytes([*a, *b, *c, *d, *e, *f, *g, 0]),
+        _ => unreachable!(),
     }
 }
 
@@ -289,10 +312,10 @@ impl<N> PropertiesValidatorsMap<N> for SmallMap<N> {
     #[inline(always)]
     fn validator_from(&self, hint: usize, name: &str) -> (usize, Option<&N>) {
         if self.names.stands_at(hint, name) {
-            return (hint.saturating_add(1), self.nodes.get(hint));
+            return (hint.wrapping_add(1), self.nodes.get(hint));
         }
         match self.names.find_apart(hint, name) {
-            Ok(place) => (place.saturating_add(1), self.nodes.get(place)),
+            Ok(place) => (place.wrapping_add(1), self.nodes.get(place)),
             Err(next) => (next, None),
         }
     }

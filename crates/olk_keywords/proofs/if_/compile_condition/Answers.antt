@@ -1,9 +1,12 @@
 use Rattle.olk_base.specs.Kit.{kit}
-use Rattle.std.proofs.Common.{rules, [], ◌∷◌, codes, refl, sym, ◌∙◌, subst}
+use Rattle.std.proofs.Common.{rules, [], ◌∷◌, codes, option_to_list, is_some, refl, sym, ◌∙◌, subst}
 use mathlib.Core.Path.{subst₂}
+use Rattle.std.specs.Option.{IfSome}
 use Rattle.serde_json.specs.View.{view, members_view}
 use Rattle.olk_spec.specs.Names.{◌//◌}
 use Rattle.olk_meaning.specs.Conditions.{known_of}
+use Rattle.olk_make.specs.Forms.{IsIf}
+use Rattle.olk_make.specs.Making.{MakesCondition}
 use Rattle.olk_build.specs.Building.{RefusesPart}
 use Rattle.olk_keywords.specs.Conditions.{CaseIsBuilt}
 use Rattle.olk_keywords.proofs.Conditions.{RefusesCase, if_without_node, if_refused, then_refused, else_refused, condition_lost, if_is_formed, condition_is_built}
@@ -32,12 +35,12 @@ returns-in_err-else_schema-clause-builds g c =
 
 pub returns-in_err-keyword-clause-builds : goal.returns-in_err-keyword-clause-builds
 returns-in_err-keyword-clause-builds g c =
-    left_by _ _ _ _ c.from_residual-in_err-keyword.ensures.1 (λ e q. condition_lost (kit g.L.Leaf.Leaf g.M.Engine.RegexEngine) g.N.Place.answers
+    left_by _ _ _ _ c.from_residual-in_err-keyword.ensures.1 (λ e q. condition_lost (kit g.L.Leaf.Leaf g.M.Engine.RegexEngine) g.N.BuiltNode.answers
     (members_view c.args.parent.now.entries) c.requires.read (view c.args.schema.now) c.args.ctx.now.place c.in_ok-location.field-0 _ _ c.in_ok-location.ensures.built
     c.in_ok-then_schema.then_schema c.in_ok-else_schema.else_schema _ _
-    (subst (λ Q. CaseIsBuilt (kit g.L.Leaf.Leaf g.M.Engine.RegexEngine) g.N.Place.answers (members_view c.args.parent.now.entries) c.in_ok-then_schema.then_schema
+    (subst (λ Q. CaseIsBuilt (kit g.L.Leaf.Leaf g.M.Engine.RegexEngine) g.N.BuiltNode.answers (members_view c.args.parent.now.entries) c.in_ok-then_schema.then_schema
     (codes "then") Q c.compile_member.new.ctx.meter.now c.compile_case.new.ctx.meter.now) c.compile_member.ensures.place (c.in_ok-then_schema.ensures.builds refl c.requires.read).0)
-    (subst (λ Q. CaseIsBuilt (kit g.L.Leaf.Leaf g.M.Engine.RegexEngine) g.N.Place.answers (members_view c.args.parent.now.entries) c.in_ok-else_schema.else_schema
+    (subst (λ Q. CaseIsBuilt (kit g.L.Leaf.Leaf g.M.Engine.RegexEngine) g.N.BuiltNode.answers (members_view c.args.parent.now.entries) c.in_ok-else_schema.else_schema
     (codes "else") Q c.compile_case.new.ctx.meter.now c.compile_case-2.new.ctx.meter.now) (c.compile_case.ensures.place ∙ c.compile_member.ensures.place)
     (c.in_ok-else_schema.ensures.builds refl c.requires.read).0)
     e _ q)
@@ -57,7 +60,9 @@ returns-clause-builds g c = (
       (subst (λ Q. CaseIsBuilt (kit g.L.Leaf.Leaf g.M.Engine.RegexEngine) g.N.BuiltNode.answers (members_view c.args.parent.now.entries) c.in_ok-else_schema.else_schema
       (codes "else") Q c.compile_case.new.ctx.meter.now c.compile_case-2.new.ctx.meter.now) (c.compile_case.ensures.place ∙ c.compile_member.ensures.place)
       (c.in_ok-else_schema.ensures.builds refl c.requires.read).0)
-      c.pop.new.self.items c.in-Some.schema (c.in-Some-make.keyword ∷ []) c.in-Some.ensures.items c.requires.distinct c.in-Some-make.ensures.makes,
+      c.pop.new.self.items c.in-Some.schema (c.in-Some-2.keyword ∷ []) c.in-Some.ensures.items c.requires.distinct
+      (subst (λ k. MakesCondition (kit g.L.Leaf.Leaf g.M.Engine.RegexEngine) g.N.BuiltNode.answers c.in_ok-location.field-0.location c.in-Some.schema
+      (record { then_schema = c.in_ok-then_schema.then_schema; else_schema = c.in_ok-else_schema.else_schema }) (option_to_list k)) c.in-Some-2.is c.in_ok-keyword.ensures.makes),
   tt,
 )
 
@@ -70,7 +75,7 @@ returns-clause-form g c =
     (subst (λ Q. CaseIsBuilt (kit g.L.Leaf.Leaf g.M.Engine.RegexEngine) g.N.BuiltNode.answers (members_view c.args.parent.now.entries) c.in_ok-else_schema.else_schema
     (codes "else") Q c.compile_case.new.ctx.meter.now c.compile_case-2.new.ctx.meter.now) (c.compile_case.ensures.place ∙ c.compile_member.ensures.place)
     (c.in_ok-else_schema.ensures.builds refl c.requires.read).0)
-    c.in-Some-make.keyword c.in-Some-make.ensures.form
+    c.in-Some-2.keyword (subst (λ k. IfSome k (IsIf c.in_ok-location.field-0.location (is_some c.in_ok-then_schema.then_schema) (is_some c.in_ok-else_schema.else_schema))) c.in-Some-2.is c.in_ok-keyword.ensures.form)
 
 pub unreachable-requires : goal.unreachable-requires
 unreachable-requires g c =
