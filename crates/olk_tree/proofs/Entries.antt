@@ -9,7 +9,9 @@ use Rattle.serde_json.specs.View.{members_view}
 use Rattle.serde_json.specs.declared.value.Value.{Value}
 use Rattle.olk_spec.specs.Names.{Name}
 use Rattle.olk_spec.specs.Schemas.{listed}
-use Rattle.olk_tree.specs.Ascending.{Ascend, first_bytes}
+use Rattle.olk_tree.specs.declared.sorted_name.SortedName.{SortedName}
+use Rattle.olk_tree.specs.Sorted.{name_of}
+use Rattle.olk_tree.specs.Ascending.{Ascend}
 
 abbrev pub names_in : List (String Global × Value) → List Name
 names_in es = map (λ m. string_bytes m.0) es
@@ -32,14 +34,12 @@ ascending (e ∷ es) h zero (suc j) l g = below_each e.0 es h.0 j (omega arith)
 ascending (e ∷ es) h (suc i) zero l g = absurd (omega arith)
 ascending (e ∷ es) h (suc i) (suc j) l g = ascending es h.1 i j (omega arith) (omega arith)
 
--- the names so far, and those that are left, are all, and these are the first bytes of those so far
-pub record NamesSoFar (names : List (String Global)) (heads : List ℕ) (left all : List (String Global × Value)) : Type 0 where
-  pub are_all : map string_bytes names ++ names_in left ≡ names_in all
-  pub heads_are : heads ≡ map first_bytes (map string_bytes names)
+-- the names so far, and those that are left, are all
+pub record NamesSoFar (names : List SortedName) (left all : List (String Global × Value)) : Type 0 where
+  pub are_all : map name_of names ++ names_in left ≡ names_in all
 
-pub so_far_end : {names : List (String Global)} {heads : List ℕ} {left all : List (String Global × Value)} → NamesSoFar names heads left all → left ≡ [] → map string_bytes names ≡ names_in all
-so_far_end {names} {heads} {left} {all} h e = sym (append-nil (map string_bytes names)) ∙ ap (λ es. map string_bytes names ++ names_in es) (sym e) ∙ h.are_all
+pub so_far_end : {names : List SortedName} {left all : List (String Global × Value)} → NamesSoFar names left all → left ≡ [] → map name_of names ≡ names_in all
+so_far_end {names} {left} {all} h e = sym (append-nil (map name_of names)) ∙ ap (λ es. map name_of names ++ names_in es) (sym e) ∙ h.are_all
 
-pub so_far_ascends : (names : List (String Global)) (all : List (String Global × Value)) → map string_bytes names ≡ names_in all
-    → IsStrictlySortedBy string_cmp (keys_of all) → Ascend (map string_bytes names)
+pub so_far_ascends : (names : List SortedName) (all : List (String Global × Value)) → map name_of names ≡ names_in all → IsStrictlySortedBy string_cmp (keys_of all) → Ascend (map name_of names)
 so_far_ascends names all e h = subst Ascend (sym e) (ascending all h)

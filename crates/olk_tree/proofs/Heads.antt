@@ -7,14 +7,16 @@ use Rattle.std.specs.Bool.{nat_lt}
 use Rattle.std.specs.Ordering.{nat_cmp, ordering_then}
 use Rattle.std.specs.Cmp.Lexicographic.{slice_cmp}
 use Rattle.std.proofs.lemmas.Str.{IsUtf8-string_bytes}
-use Rattle.std.proofs.lemmas.List.{get_or-map, get_or-drop, get_or_read, get_or_default, length-map}
+use Rattle.std.proofs.lemmas.List.{get_or-map, get_or-drop, length-map}
 use Rattle.std.proofs.lemmas.Bool.Decides.{nat_tests}
 use native.Mathlib.Nat.{pow-suc}
 use lib.Utf8.{scalar, scalars, next, encode, encodes}
 use Rattle.olk_spec.specs.Names.{Name}
 use Rattle.olk_spec.proofs.Truth.{and_first, and_second}
-use Rattle.olk_tree.specs.Ascending.{Ascend, AreKept, IsBefore, IsFirst, Rise, first_bytes}
-use Rattle.olk_tree.proofs.Places.{Names, nowhere}
+use Rattle.olk_tree.specs.declared.sorted_name.SortedName.{SortedName}
+use Rattle.olk_tree.specs.Sorted.{name_of, heads_of}
+use Rattle.olk_tree.specs.Ascending.{Ascend, IsBefore, IsFirst, Rise, first_bytes}
+use Rattle.olk_tree.proofs.Places.{Names, nowhere, some_name}
 
 -- ---- the bytes of a text are below 256
 
@@ -50,10 +52,10 @@ bytes_of_utf8 n u = subst Bytes u.1.1 (bytes_of_all u.0 u.1.0)
 bytes_of_text : (s : String Global) → Bytes (string_bytes s)
 bytes_of_text s = bytes_of_utf8 (string_bytes s) (IsUtf8-string_bytes s)
 
-bytes_at : (names : List (String Global)) (k : ℕ) → Bytes (get_or (map string_bytes names) k [])
+bytes_at : (names : List SortedName) (k : ℕ) → Bytes (get_or (map name_of names) k [])
 bytes_at [] k = tt
-bytes_at (s ∷ ss) zero = bytes_of_text s
-bytes_at (s ∷ ss) (suc k) = bytes_at ss k
+bytes_at (n ∷ ns) zero = bytes_of_text n.text
+bytes_at (n ∷ ns) (suc k) = bytes_at ns k
 
 -- ---- the first k bytes, as a number
 
@@ -109,12 +111,17 @@ worth_is (a ∷ b ∷ c ∷ d ∷ e ∷ f ∷ []) = omega arith
 worth_is (a ∷ b ∷ c ∷ d ∷ e ∷ f ∷ g ∷ []) = omega arith
 worth_is (a ∷ b ∷ c ∷ d ∷ e ∷ f ∷ g ∷ h ∷ n) = omega arith
 
+-- the first bytes that are kept
+heads_are : (names : List SortedName) → heads_of names ≡ map first_bytes (map name_of names)
+heads_are [] = refl
+heads_are (n ∷ ns) = λ i. n.head_is i ∷ heads_are ns i
+
 -- the first bytes of names that ascend don't fall
-pub heads_rise : (names : List (String Global)) → Ascend (map string_bytes names) → Rise (map first_bytes (map string_bytes names))
+heads_rise : (names : List SortedName) → Ascend (map name_of names) → Rise (map first_bytes (map name_of names))
 heads_rise names asc i j le lt = by (nat_lt i j) refl
   where
     ks : List Name
-    ks = map string_bytes names
+    ks = map name_of names
 
     inside : j < length ks
     inside = omega (arith, length-map ks first_bytes, lt)
@@ -136,84 +143,100 @@ heads_rise names asc i j le lt = by (nat_lt i j) refl
 
 -- ---- the place of the first
 
-module _ {hs : List ℕ} {h : ℕ} where
-  pub nothing_before : IsBefore hs h 0
+pub head_read : (names : List SortedName) (k : ℕ) (x : SortedName) → k < length names → x ≡ get_or names k x → (d : ℕ) → x.head ≡ get_or (heads_of names) k d
+head_read names k x lt is d = ap (λ n. n.head) is ∙ sym (get_or-map (λ n. n.head) names k x d lt)
+
+as_long : (names : List SortedName) → length (heads_of names) ≡ length names
+as_long names = length-map names (λ n. n.head)
+
+module _ (names : List SortedName) {h : ℕ} where
+  pub nothing_before : IsBefore (heads_of names) h 0
   nothing_before = record { inside = omega arith; below = λ i l. absurd (omega (arith, l)) }
 
   -- all up to a number below h are below h
-  pub before_more : {k : ℕ} (x : ℕ) → Rise hs → k < length hs → x ≡ get_or hs k x → x < h → IsBefore hs h (k + 1)
+  pub before_more : {k : ℕ} (x : SortedName) → Rise (heads_of names) → k < length names → x ≡ get_or names k x → x.head < h → IsBefore (heads_of names) h (k + 1)
   before_more {k} x rise lt is less = record {
-    inside = omega arith;
-    below = λ i l. let up = rise i k (omega arith) lt in let here = get_or_read hs k x lt is 0 in omega arith;
+    inside = omega (arith, as_long names);
+    below = λ i l. let up = rise i k (omega arith) (omega (arith, as_long names, lt)) in let here = head_read names k x lt is 0 in omega arith;
   }
 
-  pub before_hint : {place : ℕ} (x : ℕ) → Rise hs → 0 < place → place ≤ length hs → x ≡ get_or hs (place - 1) x → x < h → IsBefore hs h place
-  before_hint {place} x rise some le is less = let at : place - 1 + 1 ≡ place = omega arith in subst (IsBefore hs h) at (before_more x rise (omega arith) is less)
+  pub before_hint : {place : ℕ} (x : SortedName) → Rise (heads_of names) → 0 < place → place ≤ length names → x ≡ get_or names (place - 1) x → x.head < h → IsBefore (heads_of names) h place
+  before_hint {place} x rise some le is less = let at : place - 1 + 1 ≡ place = omega arith in subst (IsBefore (heads_of names) h) at (before_more x rise (omega arith) is less)
 
-  pub first_here : {place : ℕ} (x : ℕ) → IsBefore hs h place → place < length hs → x ≡ get_or hs place x → h ≤ x → IsFirst hs h place
-  first_here {place} x before lt is le = record { before = before; here = λ l. let here = get_or_read hs place x lt is 0 in omega arith }
+  pub first_here : {place : ℕ} (x : SortedName) → IsBefore (heads_of names) h place → place < length names → x ≡ get_or names place x → h ≤ x.head → IsFirst (heads_of names) h place
+  first_here {place} x before lt is le = record { before = before; here = λ l. let here = head_read names place x lt is 0 in omega arith }
 
-  pub first_nowhere : {place : ℕ} → IsBefore hs h place → length hs ≤ place → IsFirst hs h place
-  first_nowhere before past = record { before = before; here = λ l. absurd (omega (arith, past, l)) }
+  pub first_nowhere : {place : ℕ} → IsBefore (heads_of names) h place → length names ≤ place → IsFirst (heads_of names) h place
+  first_nowhere before past = record { before = before; here = λ l. absurd (omega (arith, as_long names, past, l)) }
+
+  pub within_names : {place : ℕ} → IsBefore (heads_of names) h place → place ≤ length names
+  within_names before = omega (arith, as_long names, before.inside)
 
   -- a bisection of those from a place on that all before it are below
-  module _ {start : ℕ} (rise : Rise hs) (before : IsBefore hs h start) where
-    at_behind : (k : ℕ) → get_or (drop start hs) k 0 ≡ get_or hs (start + k) 0
-    at_behind k = get_or-drop start hs k 0
+  module _ {start : ℕ} (rise : Rise (heads_of names)) (before : IsBefore (heads_of names) h start) where
+    at_behind : (k : ℕ) (d : SortedName) → k < length (drop start names) → (get_or (drop start names) k d).head ≡ get_or (heads_of names) (start + k) 0
+    at_behind k d lt = ap (λ n. n.head) (get_or-drop start names k d) ∙ sym (get_or-map (λ n. n.head) names (start + k) d 0 (omega (arith, length-drop start names, lt)))
 
-    pub behind_parted : IsPartitionedBy (λ y. nat_lt y h) (drop start hs)
+    pub behind_parted : IsPartitionedBy (λ y. nat_lt y.head h) (drop start names)
     behind_parted i j d le lt less =
-        let lower = get_or_default (drop start hs) i d 0 (omega arith) ∙ at_behind i in
-        let upper = get_or_default (drop start hs) j d 0 lt ∙ at_behind j in
-        let up = rise (start + i) (start + j) (omega arith) (omega (arith, length-drop start hs)) in
+        let lower = at_behind i d (omega arith) in
+        let upper = at_behind j d lt in
+        let up = rise (start + i) (start + j) (omega arith) (omega (arith, as_long names, length-drop start names)) in
         grind (arith, nat_tests)
 
-    pub first_parted : {p : ℕ} → p ≤ length (drop start hs) → IsPartitionPoint (λ y. nat_lt y h ≡ true) (λ y. nat_lt y h ≡ false) (drop start hs) p → IsFirst hs h (start + p)
+    pub first_parted : {p : ℕ} → p ≤ length (drop start names) → IsPartitionPoint (λ y. nat_lt y.head h ≡ true) (λ y. nat_lt y.head h ≡ false) (drop start names) p → IsFirst (heads_of names) h (start + p)
     first_parted {p} le parted = record {
-      before = record { inside = omega (arith, length-drop start hs, before.inside); below = λ i l. below i l (nat_lt i start) refl };
-      here = λ l. let t = parted.1 p 0 (omega arith) (omega (arith, length-drop start hs)) in let at = at_behind p in grind (arith, nat_tests);
+      before = record { inside = omega (arith, as_long names, length-drop start names, before.inside); below = λ i l. below i l (nat_lt i start) refl };
+      here = λ l.
+          let lt : p < length (drop start names) = omega (arith, as_long names, length-drop start names, l) in
+          let d = some_name (drop start names) p lt in
+          let t = parted.1 p d (omega arith) lt in
+          let at = at_behind p d lt in
+          grind (arith, nat_tests);
     }
       where
-        below : (i : ℕ) → i < start + p → (b : Bool) → nat_lt i start ≡ b → get_or hs i 0 < h
+        below : (i : ℕ) → i < start + p → (b : Bool) → nat_lt i start ≡ b → get_or (heads_of names) i 0 < h
         below i l true e = before.below i (grind (arith, nat_tests))
         below i l false e =
             let from : start ≤ i = grind (arith, nat_tests) in
+            let lt : i - start < length (drop start names) = omega (arith, from, l, le) in
+            let d = some_name (drop start names) (i - start) lt in
             let at : start + (i - start) ≡ i = omega arith in
-            let here = at_behind (i - start) ∙ ap (λ k. get_or hs k 0) at in
-            let t = parted.0 (i - start) 0 (omega arith) (omega arith) in
+            let here = at_behind (i - start) d lt ∙ ap (λ k. get_or (heads_of names) k 0) at in
+            let t = parted.0 (i - start) d (omega arith) (omega arith) in
             grind (arith, nat_tests)
 
-pub ruleset first_places = (nothing_before, before_more, before_hint, first_here, first_nowhere)
+pub ruleset first_places = (nothing_before, before_more, before_hint, first_here, first_nowhere, within_names)
 
--- the first bytes that are kept, as those of the names that are seen
-module _ {names : List (String Global)} {hs : List ℕ} {ks : List Name} (kept : AreKept names hs) (seen : ks ≡ map string_bytes names) where
-  pub heads_seen : hs ≡ map first_bytes ks
-  heads_seen = kept.heads ∙ ap (map first_bytes) (sym seen)
+-- these, as those of the names that are seen
+module _ (names : List SortedName) {ks : List Name} (asc : Ascend (map name_of names)) (seen : ks ≡ map name_of names) where
+  pub heads_seen : heads_of names ≡ map first_bytes ks
+  heads_seen = heads_are names ∙ ap (map first_bytes) (sym seen)
 
-  pub kept_rise : Rise hs
-  kept_rise = subst Rise (sym kept.heads) (heads_rise names kept.ascend)
+  pub kept_rise : Rise (heads_of names)
+  kept_rise = subst Rise (sym (heads_are names)) (heads_rise names asc)
 
   -- a name stands nowhere whose first bytes are those of none
   module _ (n : Name) {h place : ℕ} (head : h ≡ first_bytes n) (first : IsFirst (map first_bytes ks) h place) where
-    found : IsFirst hs h place
+    found : IsFirst (heads_of names) h place
     found = subst (λ l. IsFirst l h place) (sym heads_seen) first
 
-    as_many : length hs ≡ length ks
+    as_many : length (heads_of names) ≡ length ks
     as_many = ap length heads_seen ∙ length-map ks first_bytes
 
-    head_of_same : (i : ℕ) → i < length ks → get_or ks i [] ≡ n → get_or hs i 0 ≡ h
+    head_of_same : (i : ℕ) → i < length ks → get_or ks i [] ≡ n → get_or (heads_of names) i 0 ≡ h
     head_of_same i l e = ap (λ l. get_or l i 0) heads_seen ∙ get_or-map first_bytes ks i [] 0 l ∙ ap first_bytes e ∙ sym head
 
-    module _ (differs : place < length hs → get_or hs place 0 ≢ h) where
+    module _ (differs : place < length names → get_or (heads_of names) place 0 ≢ h) where
       never : (i : ℕ) → i < length ks → get_or ks i [] ≡ n → (b : Bool) → nat_lt i place ≡ b → ⊥
       never i l e true f = let less = found.before.below i (grind (arith, nat_tests)) in let same = head_of_same i l e in omega arith
       never i l e false f =
           let behind : place ≤ i = grind (arith, nat_tests) in
-          let inside : place < length hs = omega (arith, as_many) in
+          let inside : place < length (heads_of names) = omega (arith, as_many) in
           let least = found.here inside in
           let most = kept_rise place i behind (omega (arith, as_many)) in
           let same = head_of_same i l e in
-          differs inside (omega arith)
+          differs (omega (arith, as_long names, inside)) (omega arith)
 
       unlike : (i : ℕ) → i < length ks → (b : Bool) → bytes_eq (get_or ks i []) n ≡ b → bytes_eq (get_or ks i []) n ≡ false
       unlike i l true e = absurd (never i l ((bytes_eq-Decides (get_or ks i []) n).0 e) (nat_lt i place) refl)
@@ -249,7 +272,7 @@ worth_same (suc k) (a ∷ m) (b ∷ n) g h long few e = by (worth_same k m n g.1
         λ i. same i ∷ tail i
 
 -- a name of at most eight bytes stands where one of its length and its first bytes does
-pub short_stands : {names : List (String Global)} {ks : List Name} (n : Name) (place : ℕ) → Names names ks → place < length ks → IsUtf8 n
+pub short_stands : {names : List SortedName} {ks : List Name} (n : Name) (place : ℕ) → Names names ks → place < length ks → IsUtf8 n
     → length (get_or ks place []) ≡ length n → length n ≤ 8 → get_or (map first_bytes ks) place 0 ≡ first_bytes n → true ≡ bytes_eq (get_or ks place []) n
 short_stands {names} {ks} n place seen inside u long few same = sym ((bytes_eq-Decides here n).1 (worth_same 8 here n bytes (bytes_of_utf8 n u) long (omega (arith, long, few)) worths))
   where

@@ -1,5 +1,5 @@
 -- What stands zip a name.
-use Rattle.std.proofs.Common.{◌≡◌, ℕ, zero, suc, ◌+◌, ◌<◌, ◌≤◌, length, get_or, Bor, option_copied, Bool, true, false, List, [], ◌∷◌, Option, Some, None, option_map, bytes_eq, map, String, Global, string_bytes, refl, ap, ◌∙◌, sym, arith}
+use Rattle.std.proofs.Common.{◌≡◌, ℕ, zero, suc, ◌+◌, ◌<◌, ◌≤◌, length, get_or, Bor, option_copied, Bool, true, false, List, [], ◌∷◌, Option, Some, None, option_map, bytes_eq, map, refl, ap, ◌∙◌, sym, arith}
 use Rattle.std.specs.Option.{option_and_then, IfSome, MatchOption}
 use Rattle.std.specs.List.{position, slice_get, enumerate_from, HoldsAt, zip}
 use Rattle.std.proofs.lemmas.Option.{slice_get_past, slice_get_read}
@@ -14,6 +14,8 @@ use Rattle.std.proofs.lemmas.List.{get_or-map, length-map}
 use Rattle.std.proofs.lemmas.List.Quantifiers.{position-Some}
 use Rattle.std.proofs.lemmas.Slice.Eq.{bytes_eq-Decides}
 use Rattle.olk_spec.specs.Names.{Name, lookup_name, first_if_equal}
+use Rattle.olk_tree.specs.declared.sorted_name.SortedName.{SortedName}
+use Rattle.olk_tree.specs.Sorted.{name_of}
 use Rattle.olk_tree.specs.Additional.{placed}
 
 is_eq-turned : (o : Ordering) → is_eq (ordering_reverse o) ≡ is_eq o
@@ -85,11 +87,11 @@ module _ {X : Type 0} where
       with_index (Some x) = refl
 
 -- the place of a name is in the slice, and the name is read there
-pub place_inside : (ks : List Name) (slice : List (String Global)) (n : Name) (i : ℕ) → map string_bytes slice ≡ ks → Some i ≡ position (λ k. bytes_eq k n) ks → i < length slice
-place_inside ks slice n i same e = omega (arith, length-map slice string_bytes, ap length same, (position-Some (λ k. bytes_eq k n) ks i [] (sym e)).0)
+pub place_inside : (ks : List Name) (slice : List SortedName) (n : Name) (i : ℕ) → map name_of slice ≡ ks → Some i ≡ position (λ k. bytes_eq k n) ks → i < length slice
+place_inside ks slice n i same e = omega (arith, length-map slice name_of, ap length same, (position-Some (λ k. bytes_eq k n) ks i [] (sym e)).0)
 
-pub name_read : (ks : List Name) (slice : List (String Global)) (n : Name) (i : ℕ) (x : String Global) → map string_bytes slice ≡ ks → x ≡ get_or slice i x
-    → Some i ≡ position (λ k. bytes_eq k n) ks → string_bytes x ≡ n
+pub name_read : (ks : List Name) (slice : List SortedName) (n : Name) (i : ℕ) (x : SortedName) → map name_of slice ≡ ks → x ≡ get_or slice i x
+    → Some i ≡ position (λ k. bytes_eq k n) ks → name_of x ≡ n
 name_read ks slice n i x same is e =
-    ap string_bytes is ∙ sym (get_or-map string_bytes slice i x [] (place_inside ks slice n i same e)) ∙ ap (λ l. get_or l i []) same
+    ap name_of is ∙ sym (get_or-map name_of slice i x [] (place_inside ks slice n i same e)) ∙ ap (λ l. get_or l i []) same
     ∙ (bytes_eq-Decides (get_or ks i []) n).0 (position-Some (λ k. bytes_eq k n) ks i [] (sym e)).1

@@ -1,5 +1,5 @@
 -- Where a name stands among ascending names.
-use Rattle.std.proofs.Common.{◌≡◌, ℕ, true≢false, ◌<◌, ◌≤◌, Bool, true, false, List, [], ◌∷◌, length, map, get_or, Some, None, Result, Ok, Err, String, Global, string_bytes, bytes_eq, refl, ap, sym, subst, ◌∙◌, arith}
+use Rattle.std.proofs.Common.{◌≡◌, ℕ, true≢false, ◌<◌, ◌≤◌, Bool, true, false, List, [], ◌∷◌, length, map, get_or, Some, None, Result, Ok, Err, bytes_eq, refl, ap, sym, subst, ◌∙◌, arith}
 use Rattle.std.specs.List.{position, position_or_len}
 use Rattle.std.specs.List.Sorted.{IsBinarySearchResult, IsSearchInRange, IsNonDecreasingBy}
 use Rattle.std.specs.Ordering.{nat_cmp, ordering_index, is_eq, ordering_reverse}
@@ -14,6 +14,8 @@ use Rattle.std.proofs.lemmas.List.Sums.{position_or_len_is}
 use Rattle.std.proofs.lemmas.Map.Text.{is_eq-slice_cmp}
 use Rattle.std.proofs.lemmas.Bool.Decides.{nat_tests}
 use Rattle.olk_spec.specs.Names.{Name}
+use Rattle.olk_tree.specs.declared.sorted_name.SortedName.{SortedName}
+use Rattle.olk_tree.specs.Sorted.{name_of}
 use Rattle.olk_tree.specs.Ascending.{Ascend, StandsAt, Parts, IsPlaceOf}
 
 abbrev cmp : Name → Name → Ordering
@@ -44,41 +46,41 @@ differs x n o e f = sym (is_eq-slice_cmp x n) ∙ ap is_eq e ∙ f
 
 -- ---- bisection
 
-head : (xs : List (String Global)) (k : ℕ) → k < length xs → String Global
-head [] k lt = absurd (omega arith)
-head (x ∷ xs) k lt = x
+pub some_name : (xs : List SortedName) (k : ℕ) → k < length xs → SortedName
+some_name [] k lt = absurd (omega arith)
+some_name (x ∷ xs) k lt = x
 
-module _ (names : List (String Global)) (n : Name) (asc : Ascend (map string_bytes names)) where
-  abbrev ord : String Global → Ordering
-  ord k = cmp (string_bytes k) n
+module _ (names : List SortedName) (n : Name) (asc : Ascend (map name_of names)) where
+  abbrev ord : SortedName → Ordering
+  ord k = cmp (name_of k) n
 
-  name_at : (i : ℕ) (d : String Global) → i < length names → get_or (map string_bytes names) i [] ≡ string_bytes (get_or names i d)
-  name_at i d lt = get_or-map string_bytes names i d [] lt
+  name_at : (i : ℕ) (d : SortedName) → i < length names → get_or (map name_of names) i [] ≡ name_of (get_or names i d)
+  name_at i d lt = get_or-map name_of names i d [] lt
 
-  long : length (map string_bytes names) ≡ length names
-  long = length-map names string_bytes
+  long : length (map name_of names) ≡ length names
+  long = length-map names name_of
 
-  pair : (i j : ℕ) (d : String Global) → i < j → j < length names → cmp (string_bytes (get_or names i d)) (string_bytes (get_or names j d)) ≡ Less
+  pair : (i j : ℕ) (d : SortedName) → i < j → j < length names → cmp (name_of (get_or names i d)) (name_of (get_or names j d)) ≡ Less
   pair i j d lt in_range =
-      subst (λ x. cmp x (string_bytes (get_or names j d)) ≡ Less) (name_at i d (omega arith))
-      (subst (λ y. cmp (get_or (map string_bytes names) i []) y ≡ Less) (name_at j d in_range) (asc i j lt (omega (arith, long))))
+      subst (λ x. cmp x (name_of (get_or names j d)) ≡ Less) (name_at i d (omega arith))
+      (subst (λ y. cmp (get_or (map name_of names) i []) y ≡ Less) (name_at j d in_range) (asc i j lt (omega (arith, long))))
 
   comparisons_rise : IsNonDecreasingBy (λ y. ordering_index (ord y)) names
   comparisons_rise i j d le lt = by (nat_lt i j) refl
     where
       by : (b : Bool) → nat_lt i j ≡ b → ordering_index (ord (get_or names i d)) ≤ ordering_index (ord (get_or names j d))
-      by true e = rises (string_bytes (get_or names i d)) (string_bytes (get_or names j d)) n (pair i j d (grind (arith, nat_tests)) lt)
+      by true e = rises (name_of (get_or names i d)) (name_of (get_or names j d)) n (pair i j d (grind (arith, nat_tests)) lt)
       by false e = let same : i ≡ j = grind (arith, nat_tests) in let f = ap (λ z. ordering_index (ord (get_or names z d))) same in omega arith
 
-  at : (k : ℕ) (d : String Global) (o : Ordering) → k < length names → ord (get_or names k d) ≡ o → cmp (get_or (map string_bytes names) k []) n ≡ o
+  at : (k : ℕ) (d : SortedName) (o : Ordering) → k < length names → ord (get_or names k d) ≡ o → cmp (get_or (map name_of names) k []) n ≡ o
   at k d o lt e = ap (λ x. cmp x n) (name_at k d lt) ∙ e
 
-  pub searched : (r : Result ℕ ℕ) → IsSearchInRange r (length names) → IsBinarySearchResult ord names r → IsPlaceOf (map string_bytes names) n r
-  searched (Ok i) in_range equal = let d = head names i in_range in record { inside = omega (arith, long); here = at i d Equal in_range (equal d) }
+  pub searched : (r : Result ℕ ℕ) → IsSearchInRange r (length names) → IsBinarySearchResult ord names r → IsPlaceOf (map name_of names) n r
+  searched (Ok i) in_range equal = let d = some_name names i in_range in record { inside = omega (arith, long); here = at i d Equal in_range (equal d) }
   searched (Err i) in_range parted = record {
     inside = omega (arith, long);
-    below = λ k l j. let lt : k < length names = omega (arith, long) in let d = head names k lt in at k d Less lt ((parted comparisons_rise).0 k d (omega arith) l);
-    above = λ k l j. let lt : k < length names = omega (arith, long) in let d = head names k lt in at k d Greater lt ((parted comparisons_rise).1 k d l lt);
+    below = λ k l j. let lt : k < length names = omega (arith, long) in let d = some_name names k lt in at k d Less lt ((parted comparisons_rise).0 k d (omega arith) l);
+    above = λ k l j. let lt : k < length names = omega (arith, long) in let d = some_name names k lt in at k d Greater lt ((parted comparisons_rise).1 k d l lt);
   }
 
 -- ---- what a place says
@@ -121,25 +123,25 @@ module _ (ks : List Name) (n : Name) where
         equal_by Less h = absurd (true≢false (sym h))
         equal_by Greater h = absurd (true≢false (sym h))
 
--- ---- slices of owned names
+-- ---- slices of names in order
 
 -- a slice of names that ascend, and what it is seen as
-pub record Names (slice : List (String Global)) (ks : List Name) : Type 0 where
-  pub as_seen : ks ≡ map string_bytes slice
+pub record Names (slice : List SortedName) (ks : List Name) : Type 0 where
+  pub as_seen : ks ≡ map name_of slice
   pub ascend : Ascend ks
 
-pub names_are : (slice items : List (String Global)) (ks : List Name) → slice ≡ items → ks ≡ map string_bytes items → Ascend (map string_bytes items) → Names slice ks
-names_are slice items ks s v asc = record { as_seen = v ∙ ap (map string_bytes) (sym s); ascend = subst Ascend (sym v) asc }
+pub names_are : (slice items : List SortedName) (ks : List Name) → slice ≡ items → ks ≡ map name_of items → Ascend (map name_of items) → Names slice ks
+names_are slice items ks s v asc = record { as_seen = v ∙ ap (map name_of) (sym s); ascend = subst Ascend (sym v) asc }
 
-module _ {slice : List (String Global)} {ks : List Name} (h : Names slice ks) where
+module _ {slice : List SortedName} {ks : List Name} (h : Names slice ks) where
   pub same_length : length ks ≡ length slice
-  same_length = ap length h.as_seen ∙ length-map slice string_bytes
+  same_length = ap length h.as_seen ∙ length-map slice name_of
 
-  pub text_at : (p : ℕ) (x : String Global) (t : Name) → x ≡ get_or slice p x → t ≡ string_bytes x → p < length slice → t ≡ get_or ks p []
-  text_at p x t is text lt = text ∙ ap string_bytes is ∙ sym (get_or-map string_bytes slice p x [] lt) ∙ ap (λ l. get_or l p []) (sym h.as_seen)
+  pub text_at : (p : ℕ) (x : SortedName) (t : Name) → x ≡ get_or slice p x → t ≡ name_of x → p < length slice → t ≡ get_or ks p []
+  text_at p x t is text lt = text ∙ ap name_of is ∙ sym (get_or-map name_of slice p x [] lt) ∙ ap (λ l. get_or l p []) (sym h.as_seen)
 
-  pub seen_at : (p : ℕ) (x : String Global) (t n : Name) → x ≡ get_or slice p x → t ≡ string_bytes x → p < length slice → bytes_eq t n ≡ bytes_eq (get_or ks p []) n
+  pub seen_at : (p : ℕ) (x : SortedName) (t n : Name) → x ≡ get_or slice p x → t ≡ name_of x → p < length slice → bytes_eq t n ≡ bytes_eq (get_or ks p []) n
   seen_at p x t n is text lt = ap (λ k. bytes_eq k n) (text_at p x t is text lt)
 
-  pub equal_at : {b : Bool} (p : ℕ) (x : String Global) (t n : Name) → x ≡ get_or slice p x → t ≡ string_bytes x → p < length slice → b ≡ bytes_eq t n → b ≡ bytes_eq (get_or ks p []) n
+  pub equal_at : {b : Bool} (p : ℕ) (x : SortedName) (t n : Name) → x ≡ get_or slice p x → t ≡ name_of x → p < length slice → b ≡ bytes_eq t n → b ≡ bytes_eq (get_or ks p []) n
   equal_at p x t n is text lt e = e ∙ seen_at p x t n is text lt

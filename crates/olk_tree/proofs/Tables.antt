@@ -1,5 +1,5 @@
 -- Tables of what patterns say: filled row by row, asked once for each name.
-use Rattle.std.proofs.Common.{◌≡◌, ℕ, ◌+◌, ◌*◌, ◌<◌, ◌≤◌, Bool, true, false, cond, List, [], ◌∷◌, ◌++◌, length, get_or, take, map, Option, Some, None, Result, Ok, Err, String, Global, string_bytes, ap, sym, subst, ◌∙◌, inl, inr, arith}
+use Rattle.std.proofs.Common.{◌≡◌, ℕ, ◌+◌, ◌*◌, ◌<◌, ◌≤◌, Bool, true, false, cond, List, [], ◌∷◌, ◌++◌, length, get_or, take, map, Option, Some, None, Result, Ok, Err, ap, sym, subst, ◌∙◌, inl, inr, arith}
 use Rattle.std.specs.Prelude.{◌≢◌, slice_get, IsSomeAnd, OnErr}
 use Rattle.std.specs.List.{AllZip, filter_map, cons_option, range_with_len}
 use Rattle.std.specs.Option.{option_map_or}
@@ -18,7 +18,9 @@ use Rattle.olk_base.specs.Compiled.{pattern_answers, pattern_costs}
 use Rattle.olk_base.specs.Lawful.{count_ask}
 use Rattle.olk_base.specs.declared.pattern.CompiledPattern.{CompiledPattern}
 use Rattle.olk_base.proofs.CountLemmas.{raised_by_none, raised_by_sum, count_asked_is}
+use Rattle.olk_tree.specs.declared.sorted_name.SortedName.{SortedName}
 use Rattle.olk_tree.specs.declared.pattern_table.PatternIndex.{PatternIndex}
+use Rattle.olk_tree.specs.Sorted.{name_of}
 use Rattle.olk_tree.specs.Tables.{Row, row_says, HasWord, Table, table_says, index_said, indices_below, IsRowOf, IsTableOf, how_many_cost, count_asks, AsksAtMost}
 
 -- ---- how asks add up
@@ -124,14 +126,14 @@ module _ {R : Type 0} (answers : R → Name → Says) (patterns : List (Compiled
   nothing_else p i le = ap (λ o. option_map_or (λ r. row_says r i) o unfinished) (slice_get_past t.rows p (omega (arith, AllZip-long (IsRowOf answers patterns) t.names t.rows rows)))
 
 -- a row more, of the next name
-pub row_told : {R : Type 0} (answers : R → Name → Says) (patterns : List (CompiledPattern R)) (names : List (String Global)) (k : ℕ) (name : String Global)
-    (rows : List Row) (row : Row) → k < length names → name ≡ get_or names k name → AllZip (IsRowOf answers patterns) (map string_bytes (take k names)) rows
-    → IsRowOf answers patterns (string_bytes name) row → AllZip (IsRowOf answers patterns) (map string_bytes (take (k + 1) names)) (rows ++ row ∷ [])
+pub row_told : {R : Type 0} (answers : R → Name → Says) (patterns : List (CompiledPattern R)) (names : List SortedName) (k : ℕ) (name : SortedName)
+    (rows : List Row) (row : Row) → k < length names → name ≡ get_or names k name → AllZip (IsRowOf answers patterns) (map name_of (take k names)) rows
+    → IsRowOf answers patterns (name_of name) row → AllZip (IsRowOf answers patterns) (map name_of (take (k + 1) names)) (rows ++ row ∷ [])
 row_told answers patterns names k name rows row lt is so_far more =
-    let next : map string_bytes (take (k + 1) names) ≡ map string_bytes (take k names) ++ string_bytes name ∷ [] =
-    ap (map string_bytes) (take_more names k name lt ∙ ap (λ s. take k names ++ s ∷ []) (sym is)) ∙ map-append string_bytes (take k names) (name ∷ []) in
+    let next : map name_of (take (k + 1) names) ≡ map name_of (take k names) ++ name_of name ∷ [] =
+    ap (map name_of) (take_more names k name lt ∙ ap (λ s. take k names ++ s ∷ []) (sym is)) ∙ map-append name_of (take k names) (name ∷ []) in
     subst (λ ns. AllZip (IsRowOf answers patterns) ns (rows ++ row ∷ [])) (sym next)
-    (all_zipped_more (IsRowOf answers patterns) (map string_bytes (take k names)) rows (string_bytes name) row so_far more)
+    (all_zipped_more (IsRowOf answers patterns) (map name_of (take k names)) rows (name_of name) row so_far more)
 
 -- what is so where nothing is given
 pub on_err : {T E P : Type 0} (r : Result T E) → P → OnErr r P

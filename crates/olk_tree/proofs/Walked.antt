@@ -13,6 +13,8 @@ use Rattle.std.specs.declared.slice.Iter.{Iter}
 use Rattle.std.proofs.iter.Yields.{fronts}
 use Rattle.std.proofs.lemmas.Iterator.{zips}
 use Rattle.std.proofs.lemmas.Slice.Zip.{Zip-more}
+use Rattle.olk_tree.specs.declared.sorted_name.SortedName.{SortedName}
+use Rattle.olk_tree.specs.Sorted.{name_of}
 use Rattle.olk_tree.specs.Ascending.{Ascend}
 use Rattle.olk_tree.proofs.Merge.{in_step, ascending_rising, sorted_rising}
 use Rattle.olk_tree.specs.Visited.{Declared, declared_as, members_declared, names_met, pairs_of}
@@ -53,21 +55,21 @@ module _ {N : Type 0} where
     name_passed at = ap (λ l. names_met l ms) next ∙ ap (λ p. flat_map (λ w. declared_as n x w) (option_to_list p) ++ names_met rest ms) (sym at)
 
   -- the pairs that are left, where the next is taken
-  pub pairs_more : (left rest : Zip (Iter (String Global)) (Iter N)) (r : Option (Bor (String Global) × Bor N)) (p : Bor (String Global) × Bor N)
-      → r ≡ Some p → zips fronts fronts left r rest → (n : Name) → n ≡ string_bytes p.0.now → pairs_of left ≡ (n, p.1.now) ∷ pairs_of rest
+  pub pairs_more : (left rest : Zip (Iter SortedName) (Iter N)) (r : Option (Bor SortedName × Bor N)) (p : Bor SortedName × Bor N)
+      → r ≡ Some p → zips fronts fronts left r rest → (n : Name) → n ≡ name_of p.0.now → pairs_of left ≡ (n, p.1.now) ∷ pairs_of rest
   pairs_more left rest r p is steps n name =
       let here = Zip-more left rest r p is steps in
-      (λ i. zip (map string_bytes (here.0 i)) (here.1 i)) ∙ ap (λ m. (m, p.1.now) ∷ pairs_of rest) (sym name)
+      (λ i. zip (map name_of (here.0 i)) (here.1 i)) ∙ ap (λ m. (m, p.1.now) ∷ pairs_of rest) (sym name)
 
   zip_nothing : (ks : List Name) → zip {X = N} ks [] ≡ []
   zip_nothing [] = refl
   zip_nothing (k ∷ ks) = refl
 
-  pub no_pair_left : (ks : List (String Global)) (xs : List N) → (ks ≡ []) ⊎ (xs ≡ []) → zip (map string_bytes ks) xs ≡ []
-  no_pair_left ks xs (inl none) = ap (λ l. zip (map string_bytes l) xs) none
-  no_pair_left ks xs (inr none) = ap (zip (map string_bytes ks)) none ∙ zip_nothing (map string_bytes ks)
+  pub no_pair_left : (ks : List SortedName) (xs : List N) → (ks ≡ []) ⊎ (xs ≡ []) → zip (map name_of ks) xs ≡ []
+  no_pair_left ks xs (inl none) = ap (λ l. zip (map name_of l) xs) none
+  no_pair_left ks xs (inr none) = ap (zip (map name_of ks)) none ∙ zip_nothing (map name_of ks)
 
-  pub no_name_left : (ms : List (Name × Data)) (ks : List (String Global)) (xs : List N) → (ks ≡ []) ⊎ (xs ≡ []) → names_met (zip (map string_bytes ks) xs) ms ≡ []
+  pub no_name_left : (ms : List (Name × Data)) (ks : List SortedName) (xs : List N) → (ks ≡ []) ⊎ (xs ≡ []) → names_met (zip (map name_of ks) xs) ms ≡ []
   no_name_left ms ks xs none = ap (λ es. names_met es ms) (no_pair_left ks xs none)
 
   -- whichever side is walked

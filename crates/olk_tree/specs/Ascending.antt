@@ -1,7 +1,6 @@
 -- Names in order, and where a name stands among them.
-use Rattle.std.specs.Prelude.{◌≡◌, ◌<◌, ◌≤◌, length, map, slice_index_or as get_or, ℕ, List, [], String, string_bytes, Result, Ok, Err}
+use Rattle.std.specs.Prelude.{◌≡◌, ◌<◌, ◌≤◌, length, slice_index_or as get_or, ℕ, List, [], Result, Ok, Err}
 use Rattle.std.specs.Int.{w64, from_be_bytes}
-use Rattle.std.specs.declared.alloc.Global.{Global}
 use Rattle.std.specs.Ordering.{nat_cmp}
 use Rattle.std.specs.declared.cmp.Ordering.TheVariants.{Less, Equal, Greater}
 use Rattle.std.specs.Cmp.Lexicographic.{slice_cmp}
@@ -28,11 +27,6 @@ pub record IsBefore (hs : List ℕ) (h place : ℕ) : Type 0 where
 pub record IsFirst (hs : List ℕ) (h place : ℕ) : Type 0 where
   pub before : IsBefore hs h place
   pub here : place < length hs → h ≤ get_or hs place 0
-
--- names that ascend, and their first bytes
-pub record AreKept (names : List (String Global)) (hs : List ℕ) : Type 0 where
-  pub ascend : Ascend (map string_bytes names)
-  pub heads : hs ≡ map first_bytes (map string_bytes names)
 
 -- n stands at this place
 pub record StandsAt (ks : List Name) (n : Name) (place : ℕ) : Type 0 where

@@ -1,5 +1,5 @@
 -- The members of an object whose names are declared: each with what stands at its name.
-use Rattle.std.specs.Prelude.{◌≡◌, ℕ, Option, MatchOption, cond, map, String, string_bytes, List, [], ◌∷◌, option_to_list}
+use Rattle.std.specs.Prelude.{◌≡◌, ℕ, Option, MatchOption, cond, map, String, List, [], ◌∷◌, option_to_list}
 use denote.Ref.{Bor}
 use Rattle.std.specs.List.{flat_map, zip}
 use Rattle.serde_json.specs.Data.{Data, object}
@@ -10,7 +10,9 @@ use Rattle.olk_spec.specs.Schemas.{listed}
 use Rattle.std.specs.declared.alloc.Global.{Global}
 use Rattle.std.specs.declared.iter.Zip.{Zip}
 use Rattle.std.specs.declared.slice.Iter.{Iter}
+use Rattle.olk_tree.specs.declared.sorted_name.SortedName.{SortedName}
 use Rattle.olk_tree.specs.declared.declared.DeclaredMembers.{DeclaredMembers}
+use Rattle.olk_tree.specs.Sorted.{name_of}
 
 -- the value that has these members
 abbrev pub object_of : List (String Global × Value) → Data
@@ -42,8 +44,8 @@ module _ {N : Type 0} where
   names_met es ms = flat_map (λ e. flat_map (λ v. declared_as e.0 e.1 v) (option_to_list (lookup_name e.0 ms))) es
 
 -- names, and what stands zip them, that are left
-abbrev pub pairs_of : {N : Type 0} → Zip (Iter (String Global)) (Iter N) → List (Name × N)
-pairs_of z = zip (map string_bytes z.a.rest.now) z.b.rest.now
+abbrev pub pairs_of : {N : Type 0} → Zip (Iter SortedName) (Iter N) → List (Name × N)
+pairs_of z = zip (map name_of z.a.rest.now) z.b.rest.now
 
 -- what is left of a walk over the declared members
 abbrev pub left_of : {N : Type 0} → DeclaredMembers N → List (Declared N)

@@ -6,6 +6,7 @@ ghost use Rattle.std.specs.List.{zip};
 ghost use Rattle.olk_tree.specs.Visited.{members_declared, names_met, Yields, left_of, pairs_of};
 
 use crate::map::SortedNames;
+use crate::sorted_name::SortedName;
 use crate::validators_map::node_from;
 use olk_meaning::member;
 use serde_json::{Map, Value};
@@ -28,7 +29,7 @@ pub struct DeclaredMembers<'a, N> {
     left: Iter<'a, String, Value>,
     // where the next name is looked for first
     hint: usize,
-    unasked: Zip<slice::Iter<'a, String>, slice::Iter<'a, N>>,
+    unasked: Zip<slice::Iter<'a, SortedName>, slice::Iter<'a, N>>,
 }
 
 impl<'a, N> Iterator for DeclaredMembers<'a, N> {
@@ -101,7 +102,7 @@ fn next_member<'a, N>(
 /// The next declared name at which there is a member.
 fn next_name<'a, N>(
     members: &'a Map<String, Value>,
-    names: &mut Zip<slice::Iter<'a, String>, slice::Iter<'a, N>>,
+    names: &mut Zip<slice::Iter<'a, SortedName>, slice::Iter<'a, N>>,
 ) -> Option<(&'a str, &'a N, &'a Value)>
     ensures { Yields result
         (names_met (pairs_of names.old) (listed (members_view members.now.entries)))

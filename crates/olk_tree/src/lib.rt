@@ -26,6 +26,7 @@ pub mod properties_map;
 pub mod property_dependencies;
 pub mod property_names;
 pub mod required;
+pub mod sorted_name;
 pub mod validators_map;
 
 pub use big_map::BigMap;
@@ -35,4 +36,5 @@ pub use means::{Means, Reports};
 pub use node::{Body, KeywordOver};
 pub use properties_map::PropertiesMap;
 pub use required::RequiredValidator;
+pub use sorted_name::SortedName;
 pub use validators_map::PropertiesValidatorsMap;

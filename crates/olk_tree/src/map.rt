@@ -2,11 +2,13 @@
 ghost use Rattle.std.specs.Ordering.{nat_cmp};
 ghost use Rattle.std.specs.Result.{MatchResult, result_ok};
 ghost use Rattle.std.specs.Cmp.Lexicographic.{slice_cmp};
-ghost use Rattle.std.specs.Prelude.{◌≡◌, ◌<◌, ◌≤◌, ◌↔◌, IsTrue, IfOk, Some, bytes_eq, length, map, nat_lt, slice_index, string_bytes, position};
+ghost use Rattle.std.specs.Prelude.{◌≡◌, ◌<◌, ◌↔◌, IsTrue, IfOk, Some, bytes_eq, length, map, nat_lt, slice_index, position};
 ghost use Rattle.serde_json.specs.View.{members_view};
 ghost use Rattle.olk_spec.specs.Schemas.{listed};
 ghost use Rattle.olk_tree.specs.Ascending.{Ascend, IsBefore, IsFirst, IsPlaceOf, Rise, first_bytes};
+ghost use Rattle.olk_tree.specs.Sorted.{name_of, heads_of};
 
+use crate::sorted_name::{SortedName, head_of};
 use crate::validators_map::PropertiesValidatorsMap;
 use olk_base::is_same_text;
 use serde_json::{Map, Value};
@@ -17,20 +19,19 @@ use std::marker::Model;
 /// Names in strictly ascending order of their bytes.
 #[derive(Drop)]
 pub struct SortedNames {
-    names: Vec<String>,
-    // the first eight bytes of each name, as a number
-    heads: Vec<u64>,
+    names: Vec<SortedName>,
 }
 
 impl Model for SortedNames {
-    ghost use Rattle.std.specs.Prelude.{ℕ, List, map, string_bytes};
-    ghost use Rattle.olk_tree.specs.Ascending.{AreKept};
+    ghost use Rattle.std.specs.Prelude.{ℕ, List, map};
+    ghost use Rattle.olk_tree.specs.Ascending.{Ascend};
+    ghost use Rattle.olk_tree.specs.Sorted.{name_of};
 
     ghost Value = { List (List ℕ) };
 
-    ghost view = { λ m. map string_bytes m.names.items };
+    ghost view = { λ m. map name_of m.names.items };
 
-    ghost invariant = { λ m. AreKept m.names.items m.heads.items };
+    ghost invariant = { λ m. Ascend (map name_of m.names.items) };
 }
 
 // So many heads are passed in turn, before the rest is bisected.
@@ -43,7 +44,6 @@ impl SortedNames {
     {
         SortedNames {
             names: Vec::new(alloc),
-            heads: Vec::new(alloc),
         }
     }
 
@@ -57,12 +57,10 @@ impl SortedNames {
             (listed (members_view object.now.entries))) }
     {
         let mut names = Vec::with_capacity(alloc, object.len())?;
-        let mut heads = Vec::with_capacity(alloc, object.len())?;
         for (name, _) in object {
-            heads.push(head_of(name.as_str()))?;
-            names.push(name.clone()?)?;
+            names.push(SortedName::of(name.clone()?))?;
         }
-        Ok(SortedNames { names, heads })
+        Ok(SortedNames { names })
     }
 
     /// How many names there are.
@@ -74,8 +72,8 @@ impl SortedNames {
     }
 
     /// The names, in order.
-    pub fn as_slice(&self) -> &[String]
-        ensures { map string_bytes result.now ≡ self.now }
+    pub fn as_slice(&self) -> &[SortedName]
+        ensures { map name_of result.now ≡ self.now }
     {
         &self.names
     }
@@ -121,7 +119,7 @@ impl SortedNames {
         ensures { result_ok result ≡ position (λ k. bytes_eq k name.now) self.now }
     {
         let head = head_of(name);
-        match first_near(&self.heads, hint, head) {
+        match first_near(&self.names, hint, head) {
             Ok(place) => self.find_at(place, head, name),
             Err(start) => self.find_far(start, head, name),
         }
@@ -134,7 +132,7 @@ impl SortedNames {
         requires before { IsBefore (map first_bytes self.now) head start }
         ensures { result_ok result ≡ position (λ k. bytes_eq k name.now) self.now }
     {
-        self.find_at(first_behind(&self.heads, start, head), head, name)
+        self.find_at(first_behind(&self.names, start, head), head, name)
     }
 
     /// What `find_apart` tells, if the first head that is not less than the name's is at the place.
@@ -144,10 +142,10 @@ impl SortedNames {
         requires first { IsFirst (map first_bytes self.now) head place }
         ensures { result_ok result ≡ position (λ k. bytes_eq k name.now) self.now }
     {
-        if place >= self.heads.len() {
+        if place >= self.names.len() {
             return Err(place);
         }
-        if self.heads[place] != head {
+        if self.names[place].head != head {
             return Err(place);
         }
         if self.stands_with_head(place, name) {
@@ -177,30 +175,30 @@ impl SortedNames {
 /// less, if that is far from the hint.
 #[inline(always)]
 #[tactic(auto, using(crate::proofs::Heads::first_places))]
-fn first_near(heads: &[u64], hint: usize, head: u64) -> Result<usize, usize>
-    requires { Rise heads.now }
-    ensures { MatchResult result (IsFirst heads.now head) (IsBefore heads.now head) }
+fn first_near(names: &[SortedName], hint: usize, head: u64) -> Result<usize, usize>
+    requires { Rise (heads_of names.now) }
+    ensures { MatchResult result (IsFirst (heads_of names.now) head) (IsBefore (heads_of names.now) head) }
 {
-    let start = start_from(heads, hint, head);
-    if NEAR <= heads.len() - start && heads[start + NEAR - 1] < head {
+    let start = start_from(names, hint, head);
+    if NEAR <= names.len() - start && names[start + NEAR - 1].head < head {
         return Err(start + NEAR);
     }
-    for place in start..heads.len() {
-        if heads[place] >= head {
+    for place in start..names.len() {
+        if names[place].head >= head {
             return Ok(place);
         }
     }
-    Ok(heads.len())
+    Ok(names.len())
 }
 
 /// The hint, if the head before it is less, and else the start.
 #[inline(always)]
 #[tactic(auto, using(crate::proofs::Heads::first_places))]
-fn start_from(heads: &[u64], hint: usize, head: u64) -> usize
-    requires { Rise heads.now }
-    ensures { IsBefore heads.now head result }
+fn start_from(names: &[SortedName], hint: usize, head: u64) -> usize
+    requires { Rise (heads_of names.now) }
+    ensures { IsBefore (heads_of names.now) head result }
 {
-    if hint > 0 && hint <= heads.len() && heads[hint - 1] < head {
+    if hint > 0 && hint <= names.len() && names[hint - 1].head < head {
         return hint;
     }
     0
@@ -208,82 +206,29 @@ fn start_from(heads: &[u64], hint: usize, head: u64) -> usize
 
 /// At which place the first head stands that is not less than this one, from `start` on.
 #[inline(always)]
-fn first_behind(heads: &[u64], start: usize, head: u64) -> usize
-    requires rise { Rise heads.now }
-    requires before { IsBefore heads.now head start }
-    ensures { IsFirst heads.now head result }
+fn first_behind(names: &[SortedName], start: usize, head: u64) -> usize
+    requires rise { Rise (heads_of names.now) }
+    requires before { IsBefore (heads_of names.now) head start }
+    ensures { IsFirst (heads_of names.now) head result }
 {
-    let behind = &heads[start..];
+    let behind = &names[start..];
     start
         + behind.partition_point(
-            |it: &u64| -> bool
-                ensures { result ≡ nat_lt it.now head }
-            { *it < head },
+            |it: &SortedName| -> bool
+                ensures { result ≡ nat_lt it.now.head head }
+            { it.head < head },
         )
-}
-
-/// The first eight bytes of a text as a number, as if zeros followed the text.
-#[inline(always)]
-fn head_of(text: &str) -> u64
-    ensures { result ≡ first_bytes text.now }
-{
-    let bytes = text.as_bytes();
-    match bytes.first_chunk::<8>() {
-        Some(first) => u64::from_be_bytes(*first),
-        None => head_of_few(bytes),
-    }
-}
-
-/// The first bytes of fewer than eight, as `head_of` gives them.
-#[inline(always)]
-fn head_of_few(bytes: &[u8]) -> u64
-    requires { length bytes.now < 8 }
-    ensures { result ≡ first_bytes bytes.now }
-{
-    if bytes.len() < 4 {
-        head_up_to_three(bytes)
-    } else {
-        head_from_four(bytes)
-    }
-}
-
-#[inline(always)]
-fn head_up_to_three(bytes: &[u8]) -> u64
-    requires { length bytes.now < 4 }
-    ensures { result ≡ first_bytes bytes.now }
-{
-    match bytes {
-        [a, b, c] => u64::from_be_bytes([*a, *b, *c, 0, 0, 0, 0, 0]),
-        [a, b] => u64::from_be_bytes([*a, *b, 0, 0, 0, 0, 0, 0]),
-        [a] => u64::from_be_bytes([*a, 0, 0, 0, 0, 0, 0, 0]),
-        _ => 0,
-    }
-}
-
-#[inline(always)]
-fn head_from_four(bytes: &[u8]) -> u64
-    requires few { length bytes.now < 8 }
-    requires many { 4 ≤ length bytes.now }
-    ensures { result ≡ first_bytes bytes.now }
-{
-    match bytes {
-        [a, b, c, d] => u64::from_be_bytes([*a, *b, *c, *d, 0, 0, 0, 0]),
-        [a, b, c, d, e] => u64::from_be_bytes([*a, *b, *c, *d, *e, 0, 0, 0]),
-        [a, b, c, d, e, f] => u64::from_be_bytes([*a, *b, *c, *d, *e, *f, 0, 0]),
-        [a, b, c, d, e, f, g] => u64::from_be_bytes([*a, *b, *c, *d, *e, *f, *g, 0]),
-        _ => unreachable!(),
-    }
 }
 
 /// Where the name stands, or else where it would stand, found by bisection.
 #[inline(never)]
-fn place_of(names: &[String], name: &str) -> Result<usize, usize>
-    requires { Ascend (map string_bytes names.now) }
-    ensures { IsPlaceOf (map string_bytes names.now) name.now result }
+fn place_of(names: &[SortedName], name: &str) -> Result<usize, usize>
+    requires { Ascend (map name_of names.now) }
+    ensures { IsPlaceOf (map name_of names.now) name.now result }
 {
     names.binary_search_by(
-        |k: &String| -> Ordering
-            ensures { result ≡ slice_cmp nat_cmp (string_bytes k.now) name.entry.now }
+        |k: &SortedName| -> Ordering
+            ensures { result ≡ slice_cmp nat_cmp (name_of k.now) name.entry.now }
         { k.as_str().cmp(name) },
     )
 }

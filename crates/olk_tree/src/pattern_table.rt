@@ -1,13 +1,15 @@
 //! What patterns say of declared names (JSON Schema 2020-12 Core, 10.3.2.2 and 10.3.2.3).
-ghost use Rattle.std.specs.Prelude.{◌≡◌, ℕ, ◌/◌, ◌*◌, ◌<◌, ◌≤◌, ◌≢◌, ◌==◌, IsTrue, true, IfOk, OnOk, OnErr, length, map, string_bytes};
+ghost use Rattle.std.specs.Prelude.{◌≡◌, ℕ, ◌/◌, ◌*◌, ◌<◌, ◌≤◌, ◌≢◌, ◌==◌, IsTrue, true, IfOk, OnOk, OnErr, length, map};
 ghost use Rattle.std.specs.List.{AllZip, list_all};
 ghost use Rattle.serde_json.specs.View.{members_view};
 ghost use Rattle.olk_spec.specs.Schemas.{listed};
 ghost use Rattle.olk_spec.specs.World.{unmatched, unfinished};
 ghost use Rattle.olk_base.specs.Lawful.{said};
+ghost use Rattle.olk_tree.specs.Sorted.{name_of};
 ghost use Rattle.olk_tree.specs.Tables.{has_bit, row_says, HasWord, no_table, table_says, known_says, matched_in, unfinished_in, index_said, indices_below, indices_in, IsRowOf, IsTableOf, how_many_cost, count_asks, AsksAtMost, is_blank, is_blank_at};
 
 use crate::map::SortedNames;
+use crate::sorted_name::SortedName;
 use olk_base::{CompiledPattern, Meter, RegexEngine, Unfinished};
 use serde_json::{Map, Value};
 use std::alloc::{AllocError, Global};
@@ -183,12 +185,12 @@ pub fn precompute_property_pattern_indices<R: RegexEngine>(
 /// A row for each name: each pattern is asked once of each, on the meter.
 fn rows_of<R: RegexEngine>(
     alloc: Global,
-    names: &[String],
+    names: &[SortedName],
     patterns: &[CompiledPattern<R>],
     meter: &mut Meter,
 ) -> Result<Vec<PatternRow>, AllocError>
     ensures answers { IfOk result (λ rows. AllZip (IsRowOf R.answers patterns.now)
-        (map string_bytes names.now) rows.items) }
+        (map name_of names.now) rows.items) }
     ensures asked { OnOk result (meter.new
         ≡ count_asks (length names.now * how_many_cost R.costs patterns.now) meter.old) }
     ensures asked_at_most { OnErr result (AsksAtMost

@@ -9,13 +9,13 @@ pub returns-in-Some-member : goal.returns-in-Some-member
 returns-in-Some-member g c =
     let member = view c.in-Some-member.value.now in
     c.loop-name.invariant
-    ∙ name_met (listed (members_view c.args.members.now.entries)) _ _ (pairs_more c.loop-name.names c.next.new.self c.next.result _ c.in-Some.is c.next.ensures.steps c.as_str-name.result.now c.as_str-name.ensures.value) member (Some member) refl c.in-Some-member.ensures
+    ∙ name_met (listed (members_view c.args.members.now.entries)) _ _ (pairs_more c.loop-name.names c.next.new.self c.next.result _ c.in-Some.is c.next.ensures.steps c.as_str-name.result.now c.as_str-name.ensures) member (Some member) refl c.in-Some-member.ensures
 
 pub loop-name-preserved : goal.loop-name-preserved
 loop-name-preserved g c =
     c.loop-name.invariant
     ∙ name_passed (listed (members_view c.args.members.now.entries)) _ _
-    (pairs_more c.loop-name.names c.next.new.self c.next.result _ c.in-Some.is c.next.ensures.steps c.as_str-name.result.now c.as_str-name.ensures.value) c.in_default-member.ensures
+    (pairs_more c.loop-name.names c.next.new.self c.next.result _ c.in-Some.is c.next.ensures.steps c.as_str-name.result.now c.as_str-name.ensures) c.in_default-member.ensures
 
 pub returns : goal.returns
 returns g c =

@@ -8,8 +8,8 @@ use Rattle.olk_tree.proofs.map.first_behind.Goals as goal
 pub returns : goal.returns
 returns c =
     let facts = c.partition_point.ensures in
-    let rest = take_rest c.args.heads.now c.args.start in
-    let parted = facts.partitioned (λ y. nat_lt y c.args.head) (always_returns_same _ _ _ (λ a r g called. search rules))
-    (subst (IsPartitionedBy (λ y. nat_lt y c.args.head)) (sym rest) (behind_parted c.requires.rise c.requires.before)) in
-    first_parted c.requires.rise c.requires.before (subst (λ l. c.partition_point.result ≤ length l) rest facts.bound)
-    (subst (λ l. IsPartitionPoint (λ y. nat_lt y c.args.head ≡ true) (λ y. nat_lt y c.args.head ≡ false) l c.partition_point.result) rest parted)
+    let rest = take_rest c.args.names.now c.args.start in
+    let parted = facts.partitioned (λ y. nat_lt y.head c.args.head) (always_returns_same _ _ _ (λ a r g called. search rules))
+    (subst (IsPartitionedBy (λ y. nat_lt y.head c.args.head)) (sym rest) (behind_parted c.args.names.now c.requires.rise c.requires.before)) in
+    first_parted c.args.names.now c.requires.rise c.requires.before (subst (λ l. c.partition_point.result ≤ length l) rest facts.bound)
+    (subst (λ l. IsPartitionPoint (λ y. nat_lt y.head c.args.head ≡ true) (λ y. nat_lt y.head c.args.head ≡ false) l c.partition_point.result) rest parted)

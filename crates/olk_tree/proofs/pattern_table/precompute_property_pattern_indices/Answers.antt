@@ -1,10 +1,12 @@
-use Rattle.std.proofs.Common.{◌≡◌, ◌*◌, List, String, Global, length, map, string_bytes, refl, sym, ap, subst, ◌∙◌}
+use Rattle.std.proofs.Common.{◌≡◌, ◌*◌, List, length, map, refl, sym, ap, subst, ◌∙◌}
 use Rattle.std.specs.List.{AllZip}
 use Rattle.std.proofs.lemmas.List.{length-map}
 use Rattle.serde_json.specs.View.{members_view}
 use Rattle.serde_json.specs.Data.{Data}
 use Rattle.olk_spec.specs.Names.{Name}
 use Rattle.olk_spec.specs.Schemas.{listed}
+use Rattle.olk_tree.specs.declared.sorted_name.SortedName.{SortedName}
+use Rattle.olk_tree.specs.Sorted.{name_of}
 use Rattle.olk_tree.specs.Tables.{IsRowOf, how_many_cost, count_asks, AsksAtMost}
 use Rattle.olk_tree.proofs.Tables.{is_table, nothing_else, on_err}
 use Rattle.olk_tree.proofs.pattern_table.precompute_property_pattern_indices.Goals as goal
@@ -19,8 +21,8 @@ returns-clause-nothing_else g c =
     nothing_else g.R.RegexEngine.answers c.args.patterns.now (record { names = c.in_ok-names.names; patterns = length c.args.patterns.now; rows = c.in_ok-rows.rows.items })
     (subst (λ ns. AllZip (IsRowOf g.R.RegexEngine.answers c.args.patterns.now) ns c.in_ok-rows.rows.items) c.as_slice.ensures c.in_ok-rows.ensures.answers)
 
-as_many : (names : List (String Global)) (seen : List Name) (members : List (Name × Data)) → map string_bytes names ≡ seen → seen ≡ map (λ m. m.0) members → length names ≡ length members
-as_many names seen members e f = sym (length-map names string_bytes) ∙ ap length (e ∙ f) ∙ length-map members (λ m. m.0)
+as_many : (names : List SortedName) (seen : List Name) (members : List (Name × Data)) → map name_of names ≡ seen → seen ≡ map (λ m. m.0) members → length names ≡ length members
+as_many names seen members e f = sym (length-map names name_of) ∙ ap length (e ∙ f) ∙ length-map members (λ m. m.0)
 
 pub returns-clause-asked : goal.returns-clause-asked
 returns-clause-asked g c =

@@ -1,7 +1,8 @@
-use Rattle.std.proofs.Common.{◌≡◌, rules, map, string_bytes, sym, ap, ◌∙◌}
+use Rattle.std.proofs.Common.{◌≡◌, rules, map, sym, ap, ◌∙◌}
 use Rattle.serde_json.specs.View.{members_view}
 use Rattle.olk_spec.specs.Schemas.{listed}
 use Rattle.std.specs.List.{zip}
+use Rattle.olk_tree.specs.Sorted.{name_of}
 use Rattle.olk_tree.specs.Visited.{members_declared, names_met, pairs_of}
 use Rattle.olk_tree.proofs.Walked.{either_side, walks_agree}
 use Rattle.olk_tree.proofs.declared.DeclaredMembers.of.Given.{Over}
@@ -9,7 +10,7 @@ use Rattle.olk_tree.proofs.declared.DeclaredMembers.of.Goals as goal
 
 whole_pairs : (g : Over) (c : goal.After-zip g) → pairs_of c.zip.result ≡ zip c.args.names.now c.args.nodes.now
 whole_pairs g c =
-    let names : map string_bytes c.zip.result.a.rest.now ≡ c.args.names.now = search rules in
+    let names : map name_of c.zip.result.a.rest.now ≡ c.args.names.now = search rules in
     let nodes : c.zip.result.b.rest.now ≡ c.args.nodes.now = search rules in
     λ i. zip (names i) (nodes i)
 

@@ -2,4 +2,4 @@ use Rattle.olk_tree.proofs.Entries.{NamesSoFar}
 use Rattle.olk_tree.proofs.map.SortedNames.of.Given as goal
 
 abbrev pub invariant-loop-name : goal.invariant-loop-name
-invariant-loop-name l = NamesSoFar l.names.items l.heads.items l.name-iterator l.object.entries
+invariant-loop-name l = NamesSoFar l.names.items l.name-iterator l.object.entries

@@ -17,7 +17,7 @@ returns-in_err-node-clause-validator g c =
 
 pub returns-clause-key : goal.returns-clause-key
 returns-clause-key g c =
-    c.as_str.ensures.value ∙ name_read c.names-names.result.now c.as_slice.result.now c.args.name.now c.in_ok-place.place c.index-as_slice-place.result c.as_slice.ensures c.index-as_slice-place.is c.in_ok-place.ensures
+    c.as_str.ensures ∙ name_read c.names-names.result.now c.as_slice.result.now c.args.name.now c.in_ok-place.place c.index-as_slice-place.result c.as_slice.ensures c.index-as_slice-place.is c.in_ok-place.ensures
 
 pub returns-clause-validator : goal.returns-clause-validator
 returns-clause-validator g c =

@@ -1,0 +1,10 @@
+-- Names in order, as they are kept: each with its first bytes.
+use Rattle.std.specs.Prelude.{ℕ, List, map, string_bytes}
+use Rattle.olk_spec.specs.Names.{Name}
+use Rattle.olk_tree.specs.declared.sorted_name.SortedName.{SortedName}
+
+abbrev pub name_of : SortedName → Name
+name_of n = string_bytes n.text
+
+abbrev pub heads_of : List SortedName → List ℕ
+heads_of ns = map (λ n. n.head) ns
