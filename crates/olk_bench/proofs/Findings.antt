@@ -9,7 +9,7 @@ use Rattle.olk_bench.specs.Leaves.{leaf_finds, leaf_text}
 use Rattle.olk_bench.specs.declared.leaf.BenchLeaf.{BenchLeaf}
 use Rattle.olk_bench.specs.declared.leaf.BenchLeaf.TheVariants as leaf
 
-unless_text : (ok : Bool) (t : Text) → is_empty (unless ok t) ≡ false → unless ok t ≡ t ∷ []
+pub unless_text : (ok : Bool) (t : Text) → is_empty (unless ok t) ≡ false → unless ok t ≡ t ∷ []
 unless_text true t h = absurd (true≢false h)
 unless_text false t h = refl
 

@@ -1,6 +1,5 @@
--- What is said of a value of another kind.
-use Rattle.std.proofs.Common.{◌≡◌, ◌++◌, ◌∷◌, [], ℕ, List, true, refl, sym, ap, ◌∙◌, append_assoc}
-use Rattle.std.specs.Prelude.{codes}
+-- The names of kinds as JSON.
+use Rattle.std.proofs.Common.{◌≡◌, ◌++◌, ◌∷◌, [], true, refl}
 use Rattle.std.specs.List.{list_all}
 use Rattle.serde_json.specs.Data.{string}
 use Rattle.serde_json.specs.Written.{compact_text}
@@ -20,8 +19,5 @@ kind_name-plain (kind.Of type.String) = refl
 kind_name-plain (kind.Of type.Array) = refl
 kind_name-plain (kind.Of type.Object) = refl
 
-pub kind_in_quotes : (k : ValueKind) (s : List ℕ) → s ++ (codes " is not of type \"" ++ kind_name k ++ codes "\"") ≡ (s ++ codes " is not of type ") ++ compact_text (string (kind_name k))
-kind_in_quotes k s =
-    let name = kind_name k in
-    let quoted = compact_text-plain name (kind_name-plain k) in
-    sym (append_assoc s (codes " is not of type ") (34 ∷ (name ++ 34 ∷ []))) ∙ ap (λ t. (s ++ codes " is not of type ") ++ t) (sym quoted)
+pub kind_in_quotes : (k : ValueKind) → compact_text (string (kind_name k)) ≡ 34 ∷ (kind_name k ++ 34 ∷ [])
+kind_in_quotes k = compact_text-plain (kind_name k) (kind_name-plain k)

@@ -1,11 +1,11 @@
 //! Leaves of seven keywords.
-ghost use Rattle.std.specs.Prelude.{◌≡◌, ◌++◌, IfOk, string_bytes, codes, option_map, nat_lt, length, chars};
+ghost use Rattle.std.specs.Prelude.{◌≡◌, ◌++◌, true, false, IfOk, MatchOption, string_bytes, codes, option_map, nat_lt, length, chars};
 ghost use Rattle.serde_json.specs.Find.{as_str};
-ghost use Rattle.serde_json.specs.Data.{number, unsigned};
+ghost use Rattle.serde_json.specs.Data.{number, string, unsigned};
 ghost use Rattle.serde_json.specs.Written.{compact_text, number_text};
 ghost use Rattle.olk_base.specs.Nodes.{data_of};
-ghost use Rattle.olk_spec.specs.Names.{is_empty};
-ghost use Rattle.olk_spec.specs.Bench.{is_of_kind, is_same, shown, minimum_faults, maximum_faults, multiple_faults, shorter_faults, longer_faults};
+ghost use Rattle.olk_spec.specs.Names.{is_among, is_empty};
+ghost use Rattle.olk_spec.specs.Bench.{kind_names, is_of_kind, is_same, shown, minimum_faults, maximum_faults, multiple_faults, shorter_faults, longer_faults};
 ghost use Rattle.olk_bench.specs.Numbers.{num_of, whole_in};
 ghost use Rattle.olk_bench.specs.Leaves.{kind_name, constant_value, leaf_name, leaf_finds, leaf_text};
 
@@ -151,19 +151,42 @@ impl BenchLeaf {
 }
 
 impl ValueKind {
-    /// What is said of a value of another kind.
-    fn refusal(self) -> &'static str
-        ensures { result.now ≡ codes " is not of type \"" ++ kind_name self ++ codes "\"" }
+    /// The kind of this name (JSON Schema 2020-12 Validation, 6.1.1), if there is one.
+    pub fn named(name: &str) -> Option<ValueKind>
+        ensures { MatchOption result (is_among name.now kind_names ≡ false)
+            (λ k. (is_among name.now kind_names ≡ true) × (kind_name k ≡ name.now)) }
     {
-        match self {
-            ValueKind::Integer => " is not of type \"integer\"",
-            ValueKind::Of(JsonType::Null) => " is not of type \"null\"",
-            ValueKind::Of(JsonType::Boolean) => " is not of type \"boolean\"",
-            ValueKind::Of(JsonType::Number) => " is not of type \"number\"",
-            ValueKind::Of(JsonType::String) => " is not of type \"string\"",
-            ValueKind::Of(JsonType::Array) => " is not of type \"array\"",
-            ValueKind::Of(JsonType::Object) => " is not of type \"object\"",
+        match name {
+            "null" => Some(ValueKind::Of(JsonType::Null)),
+            "boolean" => Some(ValueKind::Of(JsonType::Boolean)),
+            "integer" => Some(ValueKind::Integer),
+            "number" => Some(ValueKind::Of(JsonType::Number)),
+            "string" => Some(ValueKind::Of(JsonType::String)),
+            "array" => Some(ValueKind::Of(JsonType::Array)),
+            "object" => Some(ValueKind::Of(JsonType::Object)),
+            _ => None,
         }
+    }
+
+    /// The name as JSON.
+    pub fn quoted(self) -> &'static str
+        ensures { result.now ≡ compact_text (string (kind_name self)) }
+    {
+        quoted_name(self)
+    }
+}
+
+fn quoted_name(kind: ValueKind) -> &'static str
+    ensures { result.now ≡ codes "\"" ++ (kind_name kind ++ codes "\"") }
+{
+    match kind {
+        ValueKind::Integer => "\"integer\"",
+        ValueKind::Of(JsonType::Null) => "\"null\"",
+        ValueKind::Of(JsonType::Boolean) => "\"boolean\"",
+        ValueKind::Of(JsonType::Number) => "\"number\"",
+        ValueKind::Of(JsonType::String) => "\"string\"",
+        ValueKind::Of(JsonType::Array) => "\"array\"",
+        ValueKind::Of(JsonType::Object) => "\"object\"",
     }
 }
 
@@ -238,7 +261,7 @@ fn is_multiple_of(divisor: Divisor, node: Node<'_>) -> bool
 }
 
 /// Whether the text has more characters than this; each of them is a byte or more.
-fn has_more_chars(text: &str, count: u64) -> bool
+pub fn has_more_chars(text: &str, count: u64) -> bool
     ensures { result ≡ nat_lt count (length (chars text.now)) }
 {
     count < text.len() as u64 && text.chars().nth(count as usize).is_some()
@@ -267,7 +290,8 @@ fn kind_text(alloc: Global, kind: ValueKind, node: Node<'_>) -> Result<String, A
         ≡ leaf_text (BenchLeaf.Type kind) (data_of node.entry)) }
 {
     let mut text = shown_text(alloc, node)?;
-    text.push_str(kind.refusal())?;
+    text.push_str(" is not of type ")?;
+    text.push_str(kind.quoted())?;
     Ok(text)
 }
 

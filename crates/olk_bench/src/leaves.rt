@@ -1,15 +1,14 @@
 //! The maker of leaves.
-ghost use Rattle.std.specs.Prelude.{◌≡◌, IfOk, MatchOption, option_map, true, false};
+ghost use Rattle.std.specs.Prelude.{◌≡◌, IfOk, option_map};
 ghost use Rattle.serde_json.specs.Find.{as_str};
 ghost use Rattle.serde_json.specs.View.{view};
-ghost use Rattle.olk_spec.specs.Bench.{leaf_named, kind_names, type_keyword, const_keyword, minimum, maximum, multiple_of, min_length, max_length};
-ghost use Rattle.olk_spec.specs.Names.{is_among};
+ghost use Rattle.olk_spec.specs.Bench.{leaf_named, type_keyword, const_keyword, minimum, maximum, multiple_of, min_length, max_length};
 ghost use Rattle.olk_bench.specs.Numbers.{num_of, whole_in};
-ghost use Rattle.olk_bench.specs.Leaves.{keyword_named, kind_name, IsMade};
+ghost use Rattle.olk_bench.specs.Leaves.{keyword_named, IsMade};
 
 use crate::leaf::{BenchLeaf, Constant, ValueKind};
 use crate::numbers::{Divisor, WholeNumber};
-use olk_base::{JsonType, MakeError, MakeLeaf, Meter};
+use olk_base::{MakeError, MakeLeaf, Meter};
 use serde_json::Value;
 use std::alloc::{AllocError, Global};
 
@@ -103,24 +102,8 @@ fn type_leaf(value: &Value) -> Option<BenchLeaf>
     ensures { IsMade type_keyword (view value.now) result }
 {
     let name = value.as_str()?;
-    let kind = kind_named(name)?;
+    let kind = ValueKind::named(name)?;
     Some(BenchLeaf::Type(kind))
-}
-
-fn kind_named(name: &str) -> Option<ValueKind>
-    ensures { MatchOption result (is_among name.now kind_names ≡ false)
-        (λ k. (is_among name.now kind_names ≡ true) × (kind_name k ≡ name.now)) }
-{
-    match name {
-        "null" => Some(ValueKind::Of(JsonType::Null)),
-        "boolean" => Some(ValueKind::Of(JsonType::Boolean)),
-        "integer" => Some(ValueKind::Integer),
-        "number" => Some(ValueKind::Of(JsonType::Number)),
-        "string" => Some(ValueKind::Of(JsonType::String)),
-        "array" => Some(ValueKind::Of(JsonType::Array)),
-        "object" => Some(ValueKind::Of(JsonType::Object)),
-        _ => None,
-    }
 }
 
 fn const_leaf(alloc: Global, value: &Value) -> Result<Option<BenchLeaf>, AllocError>

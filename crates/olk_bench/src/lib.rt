@@ -10,7 +10,8 @@ mod numbers;
 mod regexes;
 mod texts;
 
-pub use leaf::{BenchLeaf, Constant, ValueKind};
+pub use leaf::{BenchLeaf, Constant, ValueKind, has_more_chars};
 pub use leaves::BenchLeaves;
 pub use numbers::{Divisor, WholeNumber};
 pub use regexes::{BenchRegex, BenchRegexes};
+pub use texts::shown_text;

@@ -47,8 +47,12 @@ fn members_have_fraction(members: &Map<String, Value>) -> bool
     false
 }
 
-/// The value as JSON, and `value` where it has a number that is not whole.
-pub(crate) fn shown_text(alloc: Global, node: Node<'_>) -> Result<String, AllocError>
+/// The node as JSON, and `value` where it has a number that is not whole.
+///
+/// # Errors
+///
+/// Out of memory.
+pub fn shown_text(alloc: Global, node: Node<'_>) -> Result<String, AllocError>
     ensures { IfOk result (λ s. string_bytes s ≡ shown (data_of node.entry)) }
 {
     match node {

@@ -1,0 +1,5 @@
+pub mod Comparisons
+pub mod Findings
+pub mod Lists
+pub mod Remainders
+pub mod Sameness

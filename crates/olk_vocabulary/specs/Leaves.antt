@@ -1,0 +1,62 @@
+-- The leaves of the vocabulary as keywords with their values, and their texts.
+use Rattle.std.specs.Prelude.{◌≡◌, ◌++◌, true, false, List, Option, MatchOption, codes, map}
+use Rattle.serde_json.specs.Data.{unsigned, Data, number, string, array}
+use Rattle.serde_json.specs.View.{view, items_view}
+use Rattle.serde_json.specs.Written.{compact_text}
+use Rattle.olk_spec.specs.Names.{Text, Name}
+use Rattle.olk_spec.specs.Json.{arr}
+use Rattle.olk_spec.specs.Bench.{shown}
+use Rattle.olk_bench.specs.Leaves.{kind_name}
+use Rattle.olk_bench.specs.declared.leaf.ValueKind.{ValueKind}
+use Rattle.olk_vocabulary.specs.Numbers.{num_of}
+use Rattle.olk_vocabulary.specs.Keywords.{keyword_name, takes, finds, kinds_text, candidates, multiple_text, bound_text, limit_text}
+use Rattle.olk_vocabulary.specs.declared.keyword.Keyword.{Keyword}
+use Rattle.olk_vocabulary.specs.declared.keyword.Keyword.TheVariants as keyword
+use Rattle.olk_vocabulary.specs.declared.leaf.VocabularyLeaf.{VocabularyLeaf}
+use Rattle.olk_vocabulary.specs.declared.leaf.VocabularyLeaf.TheVariants as leaf
+
+abbrev pub kind_value : ValueKind → Data
+kind_value k = string (kind_name k)
+
+-- ---- the keyword and the value that a leaf stands for
+
+abbrev pub leaf_keyword : VocabularyLeaf → Keyword
+leaf_keyword (leaf.Type k) = keyword.Type
+leaf_keyword (leaf.Types ks) = keyword.Type
+leaf_keyword (leaf.Enum xs) = keyword.Enum
+leaf_keyword (leaf.Const x) = keyword.Const
+leaf_keyword (leaf.MultipleOf d) = keyword.MultipleOf
+leaf_keyword (leaf.Bound b n) = keyword.Bound b
+leaf_keyword (leaf.Limit l n) = keyword.Limit l
+
+abbrev pub leaf_value : VocabularyLeaf → Data
+leaf_value (leaf.Type k) = kind_value k
+leaf_value (leaf.Types ks) = arr (map kind_value ks.items)
+leaf_value (leaf.Enum xs) = array (items_view xs.items)
+leaf_value (leaf.Const x) = view x
+leaf_value (leaf.MultipleOf d) = number (unsigned d.value)
+leaf_value (leaf.Bound b n) = number (num_of n)
+leaf_value (leaf.Limit l n) = number (unsigned n)
+
+abbrev pub leaf_name : VocabularyLeaf → Name
+leaf_name l = keyword_name (leaf_keyword l)
+
+-- what a leaf says of a value
+abbrev pub leaf_finds : VocabularyLeaf → Data → List Text
+leaf_finds l v = finds (leaf_keyword l) (leaf_value l) v
+
+-- the text of a leaf for a value that it does not accept
+abbrev pub leaf_text : VocabularyLeaf → Data → Text
+leaf_text (leaf.Type k) v = shown v ++ codes " is not of type " ++ compact_text (kind_value k)
+leaf_text (leaf.Types ks) v = kinds_text v (map (λ k. compact_text (kind_value k)) ks.items)
+leaf_text (leaf.Enum xs) v = shown v ++ codes " is not one of " ++ candidates (map view xs.items)
+leaf_text (leaf.Const x) v = shown (view x) ++ codes " was expected"
+leaf_text (leaf.MultipleOf d) v = multiple_text v d.value
+leaf_text (leaf.Bound b n) v = bound_text b (num_of n) v
+leaf_text (leaf.Limit l n) v = limit_text l n v
+
+-- ---- what is made of a keyword and a value
+
+-- none where the value does not fit the keyword, else the leaf of both
+abbrev pub IsMade : Keyword → Data → Option VocabularyLeaf → Type 0
+IsMade w x o = MatchOption o (takes w x ≡ false) (λ l. (takes w x ≡ true) × (leaf_keyword l ≡ w) × (leaf_value l ≡ x))

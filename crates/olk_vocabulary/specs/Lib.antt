@@ -1,0 +1,5 @@
+pub mod Keywords
+pub mod Leaves
+pub mod Numbers
+pub mod Same
+pub mod Vocabulary

@@ -1,0 +1,43 @@
+-- Numbers of JSON by their values: whole numbers of 64 bits as they are, and every other number as the double that was read.
+use Rattle.std.specs.Prelude.{ℕ, suc, ◌*◌, ◌%◌, ◌==◌, ◌||◌, Bool, true, false, ℤ, pos, negsuc}
+use Rattle.std.specs.Float.{Float, nan, inf, fin}
+use Rattle.std.specs.Float.Ieee.{up, down, lt, eq}
+use Rattle.serde_json.specs.Data.{Num, unsigned, negative, float}
+use Rattle.olk_vocabulary.specs.declared.numbers.JsonNumber.{JsonNumber}
+use Rattle.olk_vocabulary.specs.declared.numbers.JsonNumber.TheVariants.{Unsigned, Negative, Float as Double}
+
+abbrev pub num_of : JsonNumber → Num
+num_of (Unsigned n) = unsigned n
+num_of (Negative z) = negative z
+num_of (Double x) = float x
+
+-- a whole number, without rounding
+abbrev pub of_whole : ℤ → Float
+of_whole (pos n) = fin false n (pos 0)
+of_whole (negsuc n) = fin true (suc n) (pos 0)
+
+abbrev pub exact : Num → Float
+exact (unsigned n) = of_whole (pos n)
+exact (negative z) = of_whole z
+exact (float x) = x
+
+abbrev pub is_below : Num → Num → Bool
+is_below m n = lt (exact m) (exact n)
+
+abbrev pub is_same_number : Num → Num → Bool
+is_same_number m n = eq (exact m) (exact n)
+
+abbrev pub is_at_most : Num → Num → Bool
+is_at_most m n = is_below m n || is_same_number m n
+
+-- no fraction: 1.0 and 1e300 have none
+abbrev pub is_integral : Float → Bool
+is_integral nan = false
+is_integral (inf s) = false
+is_integral (fin s m e) = (m * up e) % down e == 0
+
+-- the whole number d times a whole number
+abbrev pub is_multiple_of : Float → ℕ → Bool
+is_multiple_of nan d = false
+is_multiple_of (inf s) d = false
+is_multiple_of (fin s m e) d = (m * up e) % (d * down e) == 0

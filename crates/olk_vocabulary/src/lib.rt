@@ -1,0 +1,21 @@
+//! The assertion keywords of JSON Schema 2020-12 Validation that hold no schema, as a leaf set.
+//!
+//! Stands on `olk_base`, and on the kinds of values and the texts of `olk_bench`. Tested by
+//! `olk_vocabulary_tests`.
+#![tactic(auto)]
+
+mod divisor;
+mod equality;
+mod keyword;
+mod kinds;
+mod leaf;
+mod lengths;
+mod maker;
+mod numbers;
+mod texts;
+
+pub use divisor::Divisor;
+pub use keyword::{Bound, Keyword, Limit};
+pub use leaf::VocabularyLeaf;
+pub use maker::Vocabulary;
+pub use numbers::JsonNumber;

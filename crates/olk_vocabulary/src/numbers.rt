@@ -1,0 +1,145 @@
+//! Numbers of JSON by their values.
+ghost use Rattle.std.specs.Prelude.{◌≡◌, option_map, pos};
+ghost use Rattle.std.specs.Ordering.{float_partial_cmp, ordering_reverse};
+ghost use Rattle.serde_json.specs.View.{number_view};
+ghost use Rattle.olk_vocabulary.specs.Numbers.{num_of, of_whole, exact};
+ghost use Rattle.olk_vocabulary.specs.Numbers.{is_below, is_same_number, is_at_most, is_integral, is_multiple_of};
+
+use crate::divisor::Divisor;
+use serde_json::Number;
+use std::cmp::Ordering;
+use std::num::{nearest_u64_to_f64, saturating_f64_to_u64};
+
+const TWO_TO_64: f64 = 18446744073709551616.0;
+
+/// A number of JSON: a whole number of 64 bits, or else the double that was read.
+///
+/// Numbers are compared by value and without rounding, so 1.0 is 1, and a double is never taken for
+/// the whole number next to it.
+#[derive(Clone, Copy)]
+pub enum JsonNumber {
+    /// A number that answers `as_u64`.
+    Unsigned(u64),
+    /// A number that answers `as_i64` alone.
+    Negative(i64),
+    /// Every other number.
+    Float(f64),
+}
+
+impl JsonNumber {
+    /// The number of a value of JSON.
+    pub fn of(number: &Number) -> JsonNumber
+        ensures { num_of result ≡ number_view number.now }
+    {
+        match (number.as_u64(), number.as_i64()) {
+            (Some(n), _) => JsonNumber::Unsigned(n),
+            (None, Some(n)) => JsonNumber::Negative(n),
+            (None, None) => JsonNumber::Float(number.as_f64().unwrap()),
+        }
+    }
+
+    /// Whether this is below the other, which `maximum` and its three kin ask (JSON Schema 2020-12
+    /// Validation 6.2.2 to 6.2.5).
+    pub fn is_below(self, other: JsonNumber) -> bool
+        ensures { result ≡ is_below (num_of self) (num_of other) }
+    {
+        self.compare(other).is_some_and(Ordering::is_lt)
+    }
+
+    /// Whether this is not above the other.
+    pub fn is_at_most(self, other: JsonNumber) -> bool
+        ensures { result ≡ is_at_most (num_of self) (num_of other) }
+    {
+        self.is_below(other) || self.equals(other)
+    }
+
+    /// Whether both are the same number, as 1.0 and 1 are (JSON Schema 2020-12 Core 4.2.2).
+    pub fn equals(self, other: JsonNumber) -> bool
+        ensures { result ≡ is_same_number (num_of self) (num_of other) }
+    {
+        self.compare(other).is_some_and(Ordering::is_eq)
+    }
+
+    /// Whether it has no fraction, as an `integer` has none (JSON Schema 2020-12 Validation 6.1.1).
+    pub fn is_integral(self) -> bool
+        ensures { result ≡ is_integral (exact (num_of self)) }
+    {
+        match self {
+            JsonNumber::Unsigned(_) => true,
+            JsonNumber::Negative(_) => true,
+            JsonNumber::Float(x) => has_no_fraction(x),
+        }
+    }
+
+    /// Whether it is the divisor times a whole number (JSON Schema 2020-12 Validation 6.2.1).
+    pub fn is_multiple_of(self, divisor: Divisor) -> bool
+        ensures { result ≡ is_multiple_of (exact (num_of self)) divisor.value }
+    {
+        match self {
+            JsonNumber::Unsigned(n) => n % divisor.value == 0,
+            JsonNumber::Negative(n) => n.unsigned_abs() % divisor.value == 0,
+            JsonNumber::Float(x) => x % nearest_u64_to_f64(divisor.value) == 0.0,
+        }
+    }
+
+    fn compare(self, other: JsonNumber) -> Option<Ordering>
+        ensures { result ≡ float_partial_cmp (exact (num_of self)) (exact (num_of other)) }
+    {
+        match (self, other) {
+            (JsonNumber::Unsigned(m), JsonNumber::Unsigned(n)) => Some(m.cmp(&n)),
+            (JsonNumber::Unsigned(m), JsonNumber::Negative(n)) => {
+                Some(i128::from(m).cmp(&i128::from(n)))
+            }
+            (JsonNumber::Negative(m), JsonNumber::Unsigned(n)) => {
+                Some(i128::from(m).cmp(&i128::from(n)))
+            }
+            (JsonNumber::Negative(m), JsonNumber::Negative(n)) => Some(m.cmp(&n)),
+            (JsonNumber::Unsigned(m), JsonNumber::Float(y)) => reversed(compare_to_unsigned(y, m)),
+            (JsonNumber::Negative(m), JsonNumber::Float(y)) => reversed(compare_to_signed(y, m)),
+            (JsonNumber::Float(x), JsonNumber::Unsigned(n)) => compare_to_unsigned(x, n),
+            (JsonNumber::Float(x), JsonNumber::Negative(n)) => compare_to_signed(x, n),
+            (JsonNumber::Float(x), JsonNumber::Float(y)) => x.partial_cmp(&y),
+        }
+    }
+}
+
+fn has_no_fraction(x: f64) -> bool
+    ensures { result ≡ is_integral x }
+{
+    x % 1.0 == 0.0
+}
+
+fn compare_to_unsigned(x: f64, n: u64) -> Option<Ordering>
+    ensures { result ≡ float_partial_cmp x (of_whole (pos n)) }
+{
+    if x < 0.0 {
+        Some(Ordering::Less)
+    } else if x < TWO_TO_64 {
+        let whole = saturating_f64_to_u64(x);
+        if whole == n && !has_no_fraction(x) {
+            Some(Ordering::Greater)
+        } else {
+            Some(whole.cmp(&n))
+        }
+    } else if x.is_nan() {
+        None
+    } else {
+        Some(Ordering::Greater)
+    }
+}
+
+fn compare_to_signed(x: f64, n: i64) -> Option<Ordering>
+    ensures { result ≡ float_partial_cmp x (of_whole n) }
+{
+    if n < 0 {
+        reversed(compare_to_unsigned(-x, n.unsigned_abs()))
+    } else {
+        compare_to_unsigned(x, n.unsigned_abs())
+    }
+}
+
+fn reversed(order: Option<Ordering>) -> Option<Ordering>
+    ensures { result ≡ option_map ordering_reverse order }
+{
+    order.map(Ordering::reverse)
+}
