@@ -57,6 +57,15 @@ def cases():
         "properties": {"c": {"minimum": 5}, "d": {"type": "integer"}},
         "required": ["a", "b"],
     }
+    leaves = {
+        "c": {"const": {"a": [1, None]}},
+        "e": {"enum": ["a", 2, [3], {"b": 4}]},
+        "i": {"maxItems": 0, "minItems": 2},
+        "l": {"maxLength": 0, "minLength": 9},
+        "n": {"exclusiveMaximum": 7, "exclusiveMinimum": 7, "maximum": 6, "minimum": 8, "multipleOf": 2},
+        "o": {"maxProperties": 0, "minProperties": 2},
+        "t": {"type": ["null", "integer"]},
+    }
     return [
         ("two patterns that refuse, beside declared names", of_patterns, {"bar": 4, "spam": 11, "foo": 3, "faz": 1}),
         ("a pattern that refuses a declared name", of_patterns, {"barbaz": 3}),
@@ -71,6 +80,7 @@ def cases():
         ("66 patterns, one left unfinished", {**one, "patternProperties": {**many, "(slow)m64": False}}, {"m64": 1}),
         ("annotations", {"properties": {"a": {"properties": {"b": {}}}}, "patternProperties": {"a": {}}}, {"a": {"b": 1}}),
         ("every keyword", every_keyword, {"c": 1, "d": 2, "k": "t"}),
+        ("every leaf", {"properties": leaves}, {"c": 1, "e": 1, "i": [1], "l": "text", "n": 7, "o": {"a": 1}, "t": "a"}),
         ("16 declared names", {**of_names, "required": ["p00", "zz"]}, dict.fromkeys(names, "x")),
         (
             "16 declared names, patterns and a rest",

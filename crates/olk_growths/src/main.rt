@@ -3,17 +3,18 @@
 //! A line names a call, with what it has to leave as it was, and the lines behind it say what was
 //! answered. `tools/refused_growths` refuses each growth in turn and compares the lines.
 //!
-//! Stands on `olk_validator` and `olk_bench`. Tested by its files `stdin` and `stdout`.
+//! Stands on `olk_validator`, `olk_vocabulary` and the matcher of `olk_bench`. Tested by its files `stdin` and `stdout`.
 #![tactic(auto)]
 
 mod at_path;
 
 use at_path::ask_at_path;
-use olk_bench::{BenchLeaves, BenchRegexes};
+use olk_bench::BenchRegexes;
 use olk_validator::{
     AnnotationEntry, BuildError, Context, ErrorEntry, Evaluation, Leaf, Meter, RegexEngine,
     ValidateError, ValidationContext, ValidationError, Validator, compile,
 };
+use olk_vocabulary::Vocabulary;
 use serde_json::Value;
 use std::alloc::Global;
 use std::io::{self, ErrorKind, Read};
@@ -38,7 +39,7 @@ fn parse(alloc: Global, bytes: &[u8]) -> io::Result<Value> {
 
 fn ask(rt: &HostRuntime, schema: &Value, instance: &Value) -> io::Result<()> {
     let mut meter = Meter::new();
-    let mut ctx = Context::new(rt.alloc(), &BenchLeaves, &BenchRegexes, &mut meter);
+    let mut ctx = Context::new(rt.alloc(), &Vocabulary, &BenchRegexes, &mut meter);
     if let Ok(node) = compile(rt.alloc(), &mut ctx, schema) {
         ask_at_path(rt, &node, instance)?;
     }
@@ -49,7 +50,7 @@ fn build(rt: &HostRuntime, schema: &Value, instance: &Value) -> io::Result<()> {
     for _ in 0..TRIES {
         println!(rt; "build")?;
         let mut meter = Meter::new();
-        match Validator::build(rt.alloc(), &BenchLeaves, &BenchRegexes, schema, &mut meter) {
+        match Validator::build(rt.alloc(), &Vocabulary, &BenchRegexes, schema, &mut meter) {
             Ok(validator) => return ask_validator(rt, &validator, instance),
             Err(BuildError::Refused(error)) => return print_error(rt, &error),
             Err(BuildError::Memory(_)) => println!(rt; "out of memory")?,
