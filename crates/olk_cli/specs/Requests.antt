@@ -4,7 +4,8 @@ use Rattle.std.specs.Str.{is_utf8}
 use Rattle.serde_json.specs.Data.{Data, null, boolean, number, string, array, object, Members, no_members, member}
 use Rattle.serde_json.specs.Find.{get_member, as_str, as_bool}
 use Rattle.serde_json.specs.Read.{read}
-use Rattle.serde_json.specs.Written.{has_float}
+use Rattle.olk_replies.specs.Replies as replies
+use Rattle.olk_replies.specs.Replies.{has_fraction}
 use Rattle.olk_cli.specs.declared.request.Ask.{Ask}
 use Rattle.olk_cli.specs.declared.request.Ask.TheVariants.{Valid, First, Errors, Evaluate}
 
@@ -61,9 +62,9 @@ asked (number n) = None
 asked (string s) = None
 asked (array ds) = None
 
--- a number of the schema or of the instance is no whole number of 64 bits
-abbrev pub has_fraction : Asked → Bool
-has_fraction r = has_float r.schema || has_float r.instance
+-- what is asked about
+abbrev pub question : Asked → replies.Asked
+question r = record { schema = r.schema; instance = r.instance; unfinished = r.unfinished }
 
 -- what a line is understood as: the first of these that it is
 pub data Understood : Type 0 where
@@ -74,7 +75,7 @@ pub data Understood : Type 0 where
 
 abbrev pub understood_request : Option Asked → Understood
 understood_request None = not_a_request
-understood_request (Some r) = if has_fraction r then not_whole else asks r
+understood_request (Some r) = if has_fraction (question r) then not_whole else asks r
 
 abbrev pub understood_value : Option Data → Understood
 understood_value None = not_json

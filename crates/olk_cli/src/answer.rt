@@ -4,17 +4,16 @@ ghost use Rattle.serde_json.specs.View.{view};
 ghost use Rattle.olk_spec.specs.Bench.{bench};
 ghost use Rattle.olk_base.specs.Kit.{kit, world};
 ghost use Rattle.olk_validator.specs.Validators.{IsValidatorOf};
+ghost use Rattle.olk_replies.specs.Replies.{has_fraction};
 ghost use Rattle.olk_cli.specs.Answers.{IsReply, IsReplyBy, IsAnswer};
-ghost use Rattle.olk_cli.specs.Requests.{value_of, has_fraction};
+ghost use Rattle.olk_cli.specs.Requests.{value_of, question};
 ghost use Rattle.olk_cli.specs.Seen.{seen};
-ghost use Rattle.olk_cli.specs.declared.request.Ask.TheVariants.{Valid, First, Errors, Evaluate};
 
 use crate::request::{Ask, Request, read_request};
-use olk_answers::{
-    errors_text, evaluation_text, first_text, malformation_text, refusal_text, verdict_text,
-};
+use olk_answers::{malformation_text, refusal_text};
 use olk_bench::{BenchLeaves, BenchRegexes};
-use olk_validator::{BuildError, Leaf, Meter, RegexEngine, ValidationContext, Validator};
+use olk_replies::{Question, tell_errors, tell_evaluation, tell_first, tell_verdict};
+use olk_validator::{BuildError, Leaf, Meter, RegexEngine, Validator};
 use serde_json::Value;
 use std::alloc::{AllocError, Global};
 
@@ -53,7 +52,7 @@ fn read_value(alloc: Global, line: &[u8]) -> Result<Option<Value>, AllocError>
 
 /// The answer to a request, whose numbers are whole numbers of 64 bits.
 fn reply(alloc: Global, request: &Request<'_>) -> Result<Vec<u8>, AllocError>
-    requires { has_fraction (seen request.now) ≡ false }
+    requires { has_fraction (question (seen request.now)) ≡ false }
     ensures { IfOk result (λ answer. IsReply (seen request.now) answer.items) }
 {
     let mut meter = Meter::new();
@@ -77,80 +76,22 @@ fn tell<K: Leaf, R: RegexEngine>(
     request: &Request<'_>,
     validator: &Validator<K, R>,
 ) -> Result<Vec<u8>, AllocError>
-    requires plain { has_fraction (seen request.now) ≡ false }
+    requires plain { has_fraction (question (seen request.now)) ≡ false }
     requires bench { world K.Leaf R.RegexEngine ≡ bench }
     requires stands { IsValidatorOf (kit K.Leaf R.RegexEngine) validator.now
         (view request.now.schema.now) }
     ensures { IfOk result
         (λ answer. IsReplyBy request.now.ask (seen request.now) answer.items) }
 {
+    let question = Question {
+        schema: request.schema,
+        instance: request.instance,
+        unfinished: request.unfinished,
+    };
     match request.ask {
-        Ask::Valid => tell_verdict(alloc, request, validator),
-        Ask::First => tell_first(alloc, request, validator),
-        Ask::Errors => tell_errors(alloc, request, validator),
-        Ask::Evaluate => tell_evaluation(alloc, request, validator),
+        Ask::Valid => tell_verdict(alloc, &question, validator),
+        Ask::First => tell_first(alloc, &question, validator),
+        Ask::Errors => tell_errors(alloc, &question, validator),
+        Ask::Evaluate => tell_evaluation(alloc, &question, validator),
     }
-}
-
-fn tell_verdict<K: Leaf, R: RegexEngine>(
-    alloc: Global,
-    request: &Request<'_>,
-    validator: &Validator<K, R>,
-) -> Result<Vec<u8>, AllocError>
-    requires bench { world K.Leaf R.RegexEngine ≡ bench }
-    requires stands { IsValidatorOf (kit K.Leaf R.RegexEngine) validator.now
-        (view request.now.schema.now) }
-    ensures { IfOk result (λ answer. IsReplyBy Valid (seen request.now) answer.items) }
-{
-    let mut ctx = ValidationContext::new(request.unfinished);
-    verdict_text(alloc, validator.is_valid(request.instance, &mut ctx))
-}
-
-fn tell_first<K: Leaf, R: RegexEngine>(
-    alloc: Global,
-    request: &Request<'_>,
-    validator: &Validator<K, R>,
-) -> Result<Vec<u8>, AllocError>
-    requires plain { has_fraction (seen request.now) ≡ false }
-    requires bench { world K.Leaf R.RegexEngine ≡ bench }
-    requires stands { IsValidatorOf (kit K.Leaf R.RegexEngine) validator.now
-        (view request.now.schema.now) }
-    ensures { IfOk result (λ answer. IsReplyBy First (seen request.now) answer.items) }
-{
-    let mut ctx = ValidationContext::new(request.unfinished);
-    let found = validator.validate(alloc, request.instance, &mut ctx);
-    first_text(alloc, found)
-}
-
-fn tell_errors<K: Leaf, R: RegexEngine>(
-    alloc: Global,
-    request: &Request<'_>,
-    validator: &Validator<K, R>,
-) -> Result<Vec<u8>, AllocError>
-    requires plain { has_fraction (seen request.now) ≡ false }
-    requires bench { world K.Leaf R.RegexEngine ≡ bench }
-    requires stands { IsValidatorOf (kit K.Leaf R.RegexEngine) validator.now
-        (view request.now.schema.now) }
-    ensures { IfOk result (λ answer. IsReplyBy Errors (seen request.now) answer.items) }
-{
-    let mut ctx = ValidationContext::new(request.unfinished);
-    let mut errors = Vec::new(alloc);
-    validator.collect_errors(alloc, request.instance, &mut ctx, &mut errors)?;
-    errors_text(alloc, &errors)
-}
-
-fn tell_evaluation<K: Leaf, R: RegexEngine>(
-    alloc: Global,
-    request: &Request<'_>,
-    validator: &Validator<K, R>,
-) -> Result<Vec<u8>, AllocError>
-    requires plain { has_fraction (seen request.now) ≡ false }
-    requires bench { world K.Leaf R.RegexEngine ≡ bench }
-    requires stands { IsValidatorOf (kit K.Leaf R.RegexEngine) validator.now
-        (view request.now.schema.now) }
-    ensures { IfOk result (λ answer. IsReplyBy Evaluate (seen request.now) answer.items) }
-{
-    let mut ctx = ValidationContext::new(request.unfinished);
-    let evaluation = validator.evaluate(alloc, request.instance, &mut ctx)?;
-    evaluation_text(alloc, &evaluation)
 }

@@ -1,7 +1,7 @@
 //! Answers requests to validate, one a line.
 //!
-//! Stands on `olk_validator`, `olk_bench`, `olk_answers` and `olk_lines`. Tested by its files
-//! `stdin` and `stdout`.
+//! Stands on `olk_validator`, `olk_bench`, `olk_answers`, `olk_replies` and `olk_lines`. Tested by
+//! its files `stdin` and `stdout`.
 #![tactic(auto)]
 
 mod answer;
