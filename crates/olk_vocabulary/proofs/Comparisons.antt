@@ -23,7 +23,7 @@ same_lt a b c d f g = go (nat_lt a b) refl
           | inr h ↦ sym (le-ltb c d h)
         ]
 
-same_eq : (a b c d : ℕ) → (a ≡ b → c ≡ d) → (c ≡ d → a ≡ b) → nat_eq a b ≡ nat_eq c d
+pub same_eq : (a b c d : ℕ) → (a ≡ b → c ≡ d) → (c ≡ d → a ≡ b) → nat_eq a b ≡ nat_eq c d
 same_eq a b c d f g = go (nat_eq a b) refl
   where
     go : (t : Bool) → nat_eq a b ≡ t → t ≡ nat_eq c d
@@ -186,7 +186,7 @@ quotient_order a d t n p q r =
     λ i. cond (smaller i) Less (cond (same i) Equal Greater)
 
 -- the whole part of a double that is not negative, and below 2 ^ 64
-to_unsigned-whole : (m : ℕ) (e : ℤ) (t : ℕ) → lt (fin false m e) (two_to 64) ≡ true → t ≡ to_unsigned 64 (fin false m e) → t ≡ m * up e / down e
+pub to_unsigned-whole : (m : ℕ) (e : ℤ) (t : ℕ) → lt (fin false m e) (two_to 64) ≡ true → t ≡ to_unsigned 64 (fin false m e) → t ≡ m * up e / down e
 unfolding lt to_unsigned
 to_unsigned-whole m e t h c =
     let room : m * up e < 2 ^ 64 * down e = omega (arith, ltb-true _ _ h) in

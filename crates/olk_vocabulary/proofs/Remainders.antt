@@ -1,64 +1,79 @@
--- When the remainder of two doubles is zero.
-use Rattle.std.proofs.Common.{lit≤, lit<, pow_pos, ◌≡◌, ℕ, zero, suc, ◌+◌, ◌-◌, ◌*◌, ◌/◌, ◌%◌, ◌^◌, ◌<◌, ◌≤◌, refl, sym, ap, subst, ◌∙◌, arith}
-use Rattle.std.proofs.Common.{nat_lt, negsuc, Bool, true, false, cond, ◌&&◌, nat_eq, ℤ, pos, T, inl, inr}
+-- When a double is a whole number, and when it is a multiple of one.
+use Rattle.std.proofs.Common.{pow_pos, lit<, ◌≡◌, ℕ, zero, suc, ◌*◌, ◌/◌, ◌%◌, ◌^◌, ◌+◌, ◌<◌, ◌≤◌, refl, sym, ap, subst, ◌∙◌, arith, true≢false}
+use Rattle.std.proofs.Common.{nat_lt, nat_eq, negsuc, Bool, true, false, ◌&&◌, ℤ, pos, T, inl, inr}
+use Rattle.std.proofs.Math.Bool.{and-false, and-true}
+use Rattle.std.proofs.Math.Dec.{ltb→lt}
+use Rattle.std.proofs.lemmas.Bool.{ltb-true, ltb-false, lt-ltb, le-ltb, eq-eqb, eqb-true, eqb-false, ne_eqb}
+use Rattle.std.proofs.Math.Nat.{eq-or-lt_of_le, eq_of_mul-eq-mul_right, div-lt_iff_lt-mul, mul-div-mul_right, mul_right_comm, mul-mod_left, mul_assoc, zero-mul, mod-one, zero-mod, div-add-mod'}
+use Rattle.std.specs.Float.{Float, nan, inf, fin, binary64, two_to, float_with_sign, float_is_finite}
+use Rattle.std.specs.Float.Ieee.{of_int, up, down, eq, lt, round, fits, to_unsigned}
+use Rattle.std.specs.Float.Ieee.Exact.{HasValue, round_exact}
+use Rattle.std.specs.Float.Ieee.Fits.{and_l, and_r, down_pos}
 use Rattle.olk_vocabulary.specs.Numbers.{is_multiple_of, is_integral}
-use Rattle.std.proofs.Math.Dec.{leb, eqb→eq, leb→le}
-use Rattle.std.proofs.lemmas.Bool.{ne_eqb}
-use Rattle.std.proofs.Math.Nat.{one-mul, eq-or-lt_of_le, mul_right_comm, le_trans, mul-div-mul_right, div-add-mod', le-div_iff_mul-le, mul-pos}
-use Rattle.std.specs.Float.{Float, nan, inf, fin, binary64}
-use Rattle.std.specs.Float.Ieee.{of_int, up, down, eq, rem, round, units, size, fits}
-use Rattle.std.specs.Float.Ieee.Exact.{HasValue, round_exact, odd_sign}
-use Rattle.std.specs.Float.Ieee.Fits.{and_l, and_r, down_pos, round_is}
-use Rattle.std.specs.Float.Ieee.Digits.{size_reaches}
-use Rattle.std.specs.Float.Ieee.Nearest.{nearest-ge}
-use Rattle.std.specs.Float.Ieee.Scale.{round_same}
+use Rattle.olk_vocabulary.proofs.Comparisons.{same_eq, to_unsigned-whole}
 
-abbrev float_zero : Float
-float_zero = fin false 0 (pos 0)
+-- each whole number up to 2 ^ 53 is a double
+of_int-exact : (k : ℕ) → k ≤ 2 ^ 53 → HasValue (of_int binary64 (pos k)) false k 1
+unfolding of_int
+of_int-exact k h =
+    elim (eq-or-lt_of_le h) [
+      | inl e ↦ subst (λ n. HasValue (round binary64 false n 1) false n 1) (sym e) (refl, refl)
+      | inr l ↦ round_exact binary64 false k 1 k 1074 (lit< tt) l (omega (arith, l)) (omega arith)
+    ]
 
-not_zero : (x : Float) (s : Bool) (a c : ℕ) → HasValue x s a c → 0 < a → eq x float_zero ≡ false
+-- a number is its whole quotient times the divisor just where nothing remains
+nothing_remains : (a c : ℕ) → nat_eq (a / c * c) a ≡ nat_eq (a % c) 0
+nothing_remains a c =
+    let parts : a / c * c + a % c ≡ a = div-add-mod' a c in
+    same_eq (a / c * c) a (a % c) 0 (λ h. omega (arith, h, parts)) (λ h. omega (arith, h, parts))
+
+-- a float of the value q is the same as m * 2 ^ e just where these are the same number
+eq_by_value : (y : Float) (q m : ℕ) (e : ℤ) → HasValue y false q 1 → eq y (fin false m e) ≡ nat_eq (q * down e) (m * up e)
 unfolding eq
-not_zero nan s a c v p = refl
-not_zero (inf t) s a c v p = refl
-not_zero (fin t m e) s a c v p =
-    let above : 0 < a * down e = mul-pos p (down_pos e) in
-    let size : m * up e ≡ 0 → ⊥ = λ z. absurd (omega (arith, sym v.1 ∙ ap (λ n. n * c) z, above)) in
-    let apart : nat_eq (m * up e * 1) (0 * 2 ^ 0 * down e) ≡ false = ne_eqb _ _ (λ h. size (omega (arith, h))) in
-    rw apart refl
+eq_by_value nan q m e v = absurd v
+eq_by_value (inf t) q m e v = absurd v
+eq_by_value (fin true n d) q m e v = absurd (true≢false v.0)
+eq_by_value (fin false n d) q m e v =
+    let size : n * up d ≡ q * down d = omega (arith, v.1) in
+    let scaled : n * up d * down e ≡ q * down e * down d = ap (λ j. j * down e) size ∙ mul_right_comm q (down d) (down e) in
+    and-true _ ∙ same_eq _ _ (q * down e) (m * up e) (λ h. eq_of_mul-eq-mul_right (down d) (down_pos d) _ _ (sym scaled ∙ h)) (λ h. scaled ∙ ap (λ j. j * down d) h)
 
-either_not_zero : (b : Bool) (x : Float) (s : Bool) → eq x float_zero ≡ false → eq (cond b x (inf s)) float_zero ≡ false
-unfolding eq
-either_not_zero true x s h = h
-either_not_zero false x s h = refl
+integral_small : (m : ℕ) (e : ℤ) (w : ℕ) → lt (fin false m e) (two_to 53) ≡ true → w ≡ to_unsigned 64 (fin false m e) → eq (of_int binary64 (pos w)) (fin false m e) ≡ is_integral (fin false m e)
+unfolding lt to_unsigned
+integral_small m e w h c =
+    let room : m * up e < 2 ^ 53 * down e = omega (arith, ltb-true _ _ h) in
+    let small : m * up e / down e < 2 ^ 53 = (div-lt_iff_lt-mul (down_pos e)).1 room in
+    let whole : w ≡ m * up e / down e = omega (arith, c) in
+    let value = of_int-exact (m * up e / down e) (omega (arith, small)) in
+    ap (λ k. eq (of_int binary64 (pos k)) (fin false m e)) whole ∙ eq_by_value _ (m * up e / down e) m e value ∙ nothing_remains (m * up e) (down e)
 
-units_not_zero : (s : Bool) (q k : ℕ) → 1 ≤ q → eq (units binary64 s q k) float_zero ≡ false
-unfolding units
-units_not_zero s q k p = either_not_zero _ _ s (not_zero _ s _ _ (odd_sign 54 s q k 1074) (mul-pos p (pow_pos k)))
+-- below 2 ^ 53 a double has no fraction where its whole part is all of it
+pub integral_below : (x y : Float) (w : ℕ) → y ≡ float_with_sign false x → lt y (two_to 53) ≡ true → w ≡ to_unsigned 64 y → eq (of_int binary64 (pos w)) y ≡ is_integral x
+unfolding lt float_with_sign
+integral_below nan y w s h c = absurd (true≢false (sym h ∙ ap (λ z. lt z (two_to 53)) s))
+integral_below (inf t) y w s h c = absurd (true≢false (sym h ∙ ap (λ z. lt z (two_to 53)) s))
+integral_below (fin t m e) y w s h c =
+    subst (λ z. lt z (two_to 53) ≡ true → w ≡ to_unsigned 64 z → eq (of_int binary64 (pos w)) z ≡ is_integral (fin false m e)) (sym s) (integral_small m e w) h c
 
-digits_reach : (w : ℕ) → 1 ≤ w → 2 ^ (size w - 53) ≤ w
-digits_reach w p = go (size w - 53) refl
-  where
-    go : (k : ℕ) → k ≡ size w - 53 → 2 ^ k ≤ w
-    go zero e = p
-    go (suc k) e = size_reaches w (suc k) (omega arith)
+second : (a b c d : Bool) → T (a && b && c && d) → T b
+second a b c d h = and_r a b (and_l (a && b) c (and_l (a && b && c) d h))
 
-round_not_zero : (s : Bool) (r e : ℕ) → 0 < e → e ≤ r * 2 ^ 1074 → eq (round binary64 s r e) float_zero ≡ false
-round_not_zero s r e p h =
-    let n = r * 2 ^ 1074 in
-    let k = size (n / e) - 53 in
-    let reached : 2 ^ k ≤ n / e = digits_reach (n / e) ((le-div_iff_mul-le p).1 (omega arith)) in
-    let whole : 1 ≤ n / (e * 2 ^ k) = (le-div_iff_mul-le (mul-pos p (pow_pos k))).1 (omega (arith, (le-div_iff_mul-le p).0 reached)) in
-    rw (round_is binary64 s r e) (units_not_zero s _ k (le_trans whole (nearest-ge _ _)))
+integral_large : (t : Bool) (m : ℕ) (e : ℤ) → T (fits binary64 (fin t m e)) → lt (fin false m e) (two_to 53) ≡ false → is_integral (fin t m e) ≡ true
+unfolding lt fits
+integral_large t m (pos k) f h = eq-eqb _ _ (mod-one (m * up (pos k)))
+integral_large t zero (negsuc k) f h = eq-eqb _ _ (zero-mod (down (negsuc k)))
+integral_large t (suc m) (negsuc k) f h =
+    let few : suc m < 2 ^ 53 = ltb→lt _ _ (second (nat_eq (suc m % 2) 1) (nat_lt (suc m) (2 ^ 53)) _ _ f) in
+    absurd (omega (arith, few, ltb-false _ _ h, pow_pos (suc k)))
 
-round_zero : (s : Bool) (e : ℕ) → 0 < e → eq (round binary64 s 0 e) float_zero ≡ true
-unfolding eq round
-round_zero true e p = rw (round_same binary64 true 0 e 0 1 p (lit< tt) (omega arith)) refl
-round_zero false e p = rw (round_same binary64 false 0 e 0 1 p (lit< tt) (omega arith)) refl
+-- and from there on none has one
+pub integral_past : (x y : Float) → y ≡ float_with_sign false x → T (fits binary64 x) → lt y (two_to 53) ≡ false → float_is_finite y ≡ is_integral x
+unfolding lt float_with_sign float_is_finite
+integral_past nan y s f h = ap float_is_finite s
+integral_past (inf t) y s f h = ap float_is_finite s
+integral_past (fin t m e) y s f h = ap float_is_finite s ∙ sym (integral_large t m e f (sym (ap (λ z. lt z (two_to 53)) s) ∙ h))
 
--- a remainder of two doubles that is no zero is not rounded to zero
-round_tells : (s : Bool) (r e : ℕ) → 0 < e → e ≤ 2 ^ 1074 → eq (round binary64 s r e) float_zero ≡ nat_eq r 0
-round_tells s zero e p h = round_zero s e p
-round_tells s (suc r) e p h = round_not_zero s (suc r) e p (omega arith) ∙ sym (ne_eqb (suc r) 0 (λ z. absurd (omega (arith, z))))
+-- ---- multiples
 
 remainder_scaled : (a k d : ℕ) → 0 < d → (a * d) % (k * d) ≡ a % k * d
 remainder_scaled a k d p =
@@ -69,50 +84,47 @@ remainder_scaled a k d p =
     let times : (a / k * k + a % k) * d ≡ a * d = ap (λ n. n * d) small in
     omega (arith, same, times)
 
--- ±m * 2 ^ e as a multiple of k, where k is n * 2 ^ d
-rem_tells : (s : Bool) (m : ℕ) (e : ℤ) (t : Bool) (n : ℕ) (d : ℤ) (k : ℕ) → 0 < k → n * up d ≡ k * down d → down e ≤ 2 ^ 1074
-    → eq (rem binary64 (fin s m e) (fin t n d)) float_zero ≡ nat_eq ((m * up e) % (k * down e)) 0
-unfolding rem
-rem_tells s m e t n d k p h small =
-    let above : 0 < k * down d = mul-pos p (down_pos d) in
-    let some : nat_eq n 0 ≡ false = ne_eqb n 0 (λ z. absurd (omega (arith, h, above, ap (λ j. j * up d) z))) in
-    let size : n * up d * down e ≡ k * down e * down d = ap (λ j. j * down e) h ∙ mul_right_comm k (down d) (down e) in
-    let left : m * up e * down d % (n * up d * down e) ≡ (m * up e) % (k * down e) * down d =
-    ap (λ j. m * up e * down d % j) size ∙ remainder_scaled (m * up e) (k * down e) (down d) (down_pos d) in
-    let r = (m * up e) % (k * down e) in
-    let same : round binary64 s (r * down d) (down e * down d) ≡ round binary64 s r (down e) =
-    round_same binary64 s (r * down d) (down e * down d) r (down e) (mul-pos (down_pos e) (down_pos d)) (down_pos e) (omega arith) in
-    rw (some, left, same) (round_tells s r (down e) (down_pos e) small)
+multiple_small : (t : Bool) (m : ℕ) (e : ℤ) (w k : ℕ) → lt (fin false m e) (two_to 64) ≡ true → is_integral (fin t m e) ≡ true → w ≡ to_unsigned 64 (fin false m e)
+    → nat_eq (w % k) 0 ≡ is_multiple_of (fin t m e) k
+unfolding lt
+multiple_small t m e w k h i c =
+    let room : m * up e < 2 ^ 64 * down e = omega (arith, ltb-true _ _ h) in
+    let parts : m * up e / down e * down e + (m * up e) % down e ≡ m * up e = div-add-mod' (m * up e) (down e) in
+    let none : (m * up e) % down e ≡ 0 = eqb-true _ _ i in
+    let all : m * up e / down e * down e ≡ m * up e = omega (arith, parts, none) in
+    let product : w * down e ≡ m * up e = ap (λ j. j * down e) (to_unsigned-whole m e w h c) ∙ all in
+    let scaled : (m * up e) % (k * down e) ≡ w % k * down e = ap (λ j. j % (k * down e)) (sym product) ∙ remainder_scaled w k (down e) (down_pos e) in
+    let none_scaled : 0 * down e ≡ 0 = zero-mul (down e) in
+    let same = same_eq (w % k) 0 (w % k * down e) 0 (λ z. ap (λ j. j * down e) z ∙ none_scaled) (λ z. eq_of_mul-eq-mul_right (down e) (down_pos e) (w % k) 0 (z ∙ sym none_scaled)) in
+    same ∙ ap (λ j. nat_eq j 0) (sym scaled) ∙ ap (λ b. b && nat_eq ((m * up e) % (k * down e)) 0) (sym (lt-ltb _ _ room))
 
-third : (a b c d : Bool) → T (a && b && c && d) → T c
-third a b c d h = and_r (a && b) c (and_l (a && b && c) d h)
+-- a whole number less than 2 ^ 64 in size
+pub multiple_below : (x y : Float) (w k : ℕ) → y ≡ float_with_sign false x → lt y (two_to 64) ≡ true → is_integral y ≡ true → w ≡ to_unsigned 64 y → nat_eq (w % k) 0 ≡ is_multiple_of x k
+unfolding lt float_with_sign
+multiple_below nan y w k s h i c = absurd (true≢false (sym h ∙ ap (λ z. lt z (two_to 64)) s))
+multiple_below (inf t) y w k s h i c = absurd (true≢false (sym h ∙ ap (λ z. lt z (two_to 64)) s))
+multiple_below (fin t m e) y w k s h i c =
+    subst (λ z. lt z (two_to 64) ≡ true → is_integral z ≡ true → w ≡ to_unsigned 64 z → nat_eq (w % k) 0 ≡ is_multiple_of (fin t m e) k) (sym s) (multiple_small t m e w k) h i c
 
--- a double is a whole number of the smallest ones
-places_few : (s : Bool) (m : ℕ) (e : ℤ) → T (fits binary64 (fin s m e)) → down e ≤ 2 ^ 1074
-unfolding fits
-places_few s m (pos k) h = lit≤ tt
-places_few s zero (negsuc k) h = omega (arith, eqb→eq _ _ h)
-places_few s (suc m) (negsuc k) h = leb→le _ _ (third (nat_eq (suc m % 2) 1) (nat_lt (suc m) (2 ^ 53)) (leb (2 ^ suc k) (2 ^ 1074)) (nat_lt (suc m * 1) (2 ^ 1024 * 2 ^ suc k)) h)
+pub multiple_past : (x y : Float) (k : ℕ) → y ≡ float_with_sign false x → lt y (two_to 64) ≡ false → false ≡ is_multiple_of x k
+unfolding lt float_with_sign
+multiple_past nan y k s h = refl
+multiple_past (inf t) y k s h = refl
+multiple_past (fin t m e) y k s h =
+    let far : 2 ^ 64 * down e ≤ m * up e = omega (arith, ltb-false _ _ (sym (ap (λ z. lt z (two_to 64)) s) ∙ h)) in
+    ap (λ b. b && nat_eq ((m * up e) % (k * down e)) 0) (sym (le-ltb _ _ far))
 
--- what `x % y == 0.0` tells, where y is the whole number k
-pub rem-is_multiple_of : (x y : Float) (k : ℕ) → T (fits binary64 x) → 0 < k → HasValue y false k 1 → eq (rem binary64 x y) float_zero ≡ is_multiple_of x k
-unfolding eq rem
-rem-is_multiple_of nan y k f p v = refl
-rem-is_multiple_of (inf s) y k f p v = refl
-rem-is_multiple_of (fin s m e) nan k f p v = absurd v
-rem-is_multiple_of (fin s m e) (inf t) k f p v = absurd v
-rem-is_multiple_of (fin s m e) (fin t n d) k f p v = rem_tells s m e t n d k p (omega (arith, v.1)) (places_few s m e f)
+multiples_are_whole : (a k d : ℕ) → a % (k * d) ≡ 0 → a % d ≡ 0
+multiples_are_whole a k d z =
+    let parts : a / (k * d) * (k * d) + a % (k * d) ≡ a = div-add-mod' a (k * d) in
+    let all : a / (k * d) * (k * d) ≡ a = omega (arith, parts, z) in
+    ap (λ j. j % d) (sym all ∙ sym (mul_assoc (a / (k * d)) k d)) ∙ mul-mod_left (a / (k * d) * k) d
 
-pub is_multiple_of-one : (x : Float) → is_multiple_of x 1 ≡ is_integral x
-is_multiple_of-one nan = refl
-is_multiple_of-one (inf s) = refl
-is_multiple_of-one (fin s m e) = ap (λ n. nat_eq ((m * up e) % n) 0) (one-mul (down e))
-
--- each whole number up to 2 ^ 53 is a double
-pub of_int-exact : (k : ℕ) → k ≤ 2 ^ 53 → HasValue (of_int binary64 (pos k)) false k 1
-unfolding of_int
-of_int-exact k h =
-    elim (eq-or-lt_of_le h) [
-      | inl e ↦ subst (λ n. HasValue (round binary64 false n 1) false n 1) (sym e) (refl, refl)
-      | inr l ↦ round_exact binary64 false k 1 k 1074 (lit< tt) l (omega (arith, l)) (omega arith)
-    ]
+pub fraction_is_none : (x y : Float) (k : ℕ) → y ≡ float_with_sign false x → is_integral y ≡ false → false ≡ is_multiple_of x k
+unfolding float_with_sign
+fraction_is_none nan y k s i = refl
+fraction_is_none (inf t) y k s i = refl
+fraction_is_none (fin t m e) y k s i =
+    let some : (m * up e) % down e ≡ 0 → ⊥ = eqb-false _ _ (sym (ap is_integral s) ∙ i) in
+    let apart = ne_eqb ((m * up e) % (k * down e)) 0 (λ z. some (multiples_are_whole (m * up e) k (down e) z)) in
+    sym (ap (λ b. nat_lt (m * up e) (2 ^ 64 * down e) && b) apart ∙ and-false _)

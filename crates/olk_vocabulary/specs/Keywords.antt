@@ -73,16 +73,11 @@ abbrev pub takes_kinds : Data → Bool
 takes_kinds (array ds) = is_short ds && name_kinds (items_list ds)
 takes_kinds x = names_kind x
 
--- a whole number from 1 to 2^53, which is a double as it is
-abbrev pub takes_divisor : Data → Bool
-takes_divisor (number (unsigned d)) = nat_le 1 d && nat_le d 9007199254740992
-takes_divisor x = false
-
 abbrev pub takes : Keyword → Data → Bool
 takes keyword.Type x = takes_kinds x
 takes keyword.Enum x = is_some (as_array x)
 takes keyword.Const x = true
-takes keyword.MultipleOf x = takes_divisor x
+takes keyword.MultipleOf x = is_natural_from 1 x
 takes (keyword.Bound b) x = is_some (as_number x)
 takes (keyword.Limit l) x = is_natural_from 0 x
 

@@ -1,5 +1,5 @@
 -- Numbers of JSON by their values: whole numbers of 64 bits as they are, and every other number as the double that was read.
-use Rattle.std.specs.Prelude.{ℕ, suc, ◌*◌, ◌%◌, ◌==◌, ◌||◌, Bool, true, false, ℤ, pos, negsuc}
+use Rattle.std.specs.Prelude.{ℕ, suc, ◌*◌, ◌%◌, ◌^◌, ◌==◌, ◌&&◌, ◌||◌, nat_lt, Bool, true, false, ℤ, pos, negsuc}
 use Rattle.std.specs.Float.{Float, nan, inf, fin}
 use Rattle.std.specs.Float.Ieee.{up, down, lt, eq}
 use Rattle.serde_json.specs.Data.{Num, unsigned, negative, float}
@@ -36,8 +36,8 @@ is_integral nan = false
 is_integral (inf s) = false
 is_integral (fin s m e) = (m * up e) % down e == 0
 
--- the whole number d times a whole number
+-- the whole number d times a whole number, if it is less than 2 ^ 64 in size
 abbrev pub is_multiple_of : Float → ℕ → Bool
 is_multiple_of nan d = false
 is_multiple_of (inf s) d = false
-is_multiple_of (fin s m e) d = (m * up e) % (d * down e) == 0
+is_multiple_of (fin s m e) d = nat_lt (m * up e) (2 ^ 64 * down e) && ((m * up e) % (d * down e) == 0)

@@ -8,7 +8,6 @@ ghost use Rattle.olk_vocabulary.specs.Keywords.{is_within};
 ghost use Rattle.olk_vocabulary.specs.Numbers.{num_of, exact, is_multiple_of};
 ghost use Rattle.olk_vocabulary.specs.Leaves.{leaf_keyword, leaf_name, leaf_finds, leaf_text};
 
-use crate::divisor::Divisor;
 use crate::equality::{is_candidate, is_value};
 use crate::keyword::{Bound, Keyword, Limit};
 use crate::kinds::{is_of_kind, is_of_some_kind};
@@ -18,7 +17,7 @@ use crate::texts::{
     bound_text, candidates_text, constant_text, kind_text, kinds_text, limit_text, multiple_text,
 };
 use olk_base::{Leaf, Node};
-use olk_bench::ValueKind;
+use olk_bench::{Divisor, ValueKind};
 use serde_json::Value;
 use std::alloc::{AllocError, Global};
 

@@ -4,7 +4,6 @@
 //! `olk_vocabulary_tests`.
 #![tactic(auto)]
 
-mod divisor;
 mod equality;
 mod keyword;
 mod kinds;
@@ -14,7 +13,6 @@ mod maker;
 mod numbers;
 mod texts;
 
-pub use divisor::Divisor;
 pub use keyword::{Bound, Keyword, Limit};
 pub use leaf::VocabularyLeaf;
 pub use maker::Vocabulary;

@@ -5,12 +5,12 @@ ghost use Rattle.serde_json.specs.View.{view, items_view};
 ghost use Rattle.olk_vocabulary.specs.Leaves.{IsMade};
 ghost use Rattle.olk_vocabulary.specs.Vocabulary.{is_unread};
 
-use crate::divisor::Divisor;
 use crate::keyword::{Bound, Keyword, Limit};
 use crate::kinds::{is_short, kind_of, kinds_of};
 use crate::leaf::VocabularyLeaf;
 use crate::numbers::JsonNumber;
 use olk_base::{MakeError, MakeLeaf, Meter};
+use olk_bench::Divisor;
 use serde_json::Value;
 use std::alloc::{AllocError, Global};
 

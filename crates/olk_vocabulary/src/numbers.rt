@@ -5,10 +5,12 @@ ghost use Rattle.serde_json.specs.View.{number_view};
 ghost use Rattle.olk_vocabulary.specs.Numbers.{num_of, of_whole, exact};
 ghost use Rattle.olk_vocabulary.specs.Numbers.{is_below, is_same_number, is_at_most, is_integral, is_multiple_of};
 
-use crate::divisor::Divisor;
+use olk_bench::Divisor;
 use serde_json::Number;
 use std::cmp::Ordering;
 use std::num::{nearest_u64_to_f64, saturating_f64_to_u64};
+
+const TWO_TO_53: f64 = 9007199254740992.0;
 
 const TWO_TO_64: f64 = 18446744073709551616.0;
 
@@ -71,14 +73,15 @@ impl JsonNumber {
         }
     }
 
-    /// Whether it is the divisor times a whole number (JSON Schema 2020-12 Validation 6.2.1).
+    /// Whether it is the divisor times a whole number, and less than 2^64 in size (JSON Schema
+    /// 2020-12 Validation 6.2.1). The digits of larger numbers are not known.
     pub fn is_multiple_of(self, divisor: Divisor) -> bool
         ensures { result ≡ is_multiple_of (exact (num_of self)) divisor.value }
     {
         match self {
-            JsonNumber::Unsigned(n) => n % divisor.value == 0,
-            JsonNumber::Negative(n) => n.unsigned_abs() % divisor.value == 0,
-            JsonNumber::Float(x) => x % nearest_u64_to_f64(divisor.value) == 0.0,
+            JsonNumber::Unsigned(n) => divisor.divides(n),
+            JsonNumber::Negative(n) => divisor.divides(n.unsigned_abs()),
+            JsonNumber::Float(x) => is_multiple(x, divisor),
         }
     }
 
@@ -103,10 +106,27 @@ impl JsonNumber {
     }
 }
 
+/// Whether a double has no fraction, as none has from 2^53 on.
 fn has_no_fraction(x: f64) -> bool
     ensures { result ≡ is_integral x }
 {
-    x % 1.0 == 0.0
+    let size = x.abs();
+    if size < TWO_TO_53 {
+        nearest_u64_to_f64(saturating_f64_to_u64(size)) == size
+    } else {
+        size.is_finite()
+    }
+}
+
+fn is_multiple(x: f64, divisor: Divisor) -> bool
+    ensures { result ≡ is_multiple_of x divisor.value }
+{
+    let size = x.abs();
+    if size < TWO_TO_64 && has_no_fraction(size) {
+        divisor.divides(saturating_f64_to_u64(size))
+    } else {
+        false
+    }
 }
 
 fn compare_to_unsigned(x: f64, n: u64) -> Option<Ordering>

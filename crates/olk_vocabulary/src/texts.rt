@@ -9,11 +9,10 @@ ghost use Rattle.olk_vocabulary.specs.Keywords.{bound_words, limit_words, one_th
 ghost use Rattle.olk_vocabulary.specs.Leaves.{kind_value};
 ghost use Rattle.olk_vocabulary.specs.Numbers.{num_of};
 
-use crate::divisor::Divisor;
 use crate::keyword::{Bound, Limit};
 use crate::numbers::JsonNumber;
 use olk_base::Node;
-use olk_bench::{ValueKind, shown_text};
+use olk_bench::{Divisor, ValueKind, shown_text};
 use serde_json::Value;
 use std::alloc::{AllocError, Global};
 use std::fmt::Write;

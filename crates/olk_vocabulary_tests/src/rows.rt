@@ -139,9 +139,11 @@ multipleOf | 3 | -9 | -
 multipleOf | 2 | 4.0 | -
 multipleOf | 2 | 4.5 | value is not a multiple of 2
 multipleOf | 2 | -3.0 | value is not a multiple of 2
-multipleOf | 4096 | 1e300 | -
-multipleOf | 9007199254740992 | 0 | -
-multipleOf | 9007199254740993 | 0 | refused
+multipleOf | 3 | 9007199254740993 | -
+multipleOf | 4096 | 1e19 | -
+multipleOf | 7 | 1e19 | value is not a multiple of 7
+multipleOf | 2 | 18446744073709551616 | value is not a multiple of 2
+multipleOf | 18446744073709551615 | 18446744073709551615 | -
 multipleOf | 0.01 | 1 | refused
 multipleOf | 0 | 1 | refused
 minLength | 2 | "é" | "é" is shorter than 2 characters

@@ -1,11 +1,18 @@
-use Rattle.std.proofs.Common.{refl, ◌∙◌, rules, lit<, T}
-use Rattle.std.specs.Float.{float_one, binary64}
-use Rattle.std.specs.Float.Ieee.{fits, of_bits}
-use Rattle.olk_vocabulary.proofs.Remainders.{rem-is_multiple_of, is_multiple_of-one}
+use Rattle.std.proofs.Common.{T, ap, ◌∙◌, rules}
+use Rattle.std.specs.Float.{binary64}
+use Rattle.std.specs.Float.Ieee.{fits, of_bits, eq}
+use Rattle.olk_vocabulary.proofs.Remainders.{integral_below, integral_past}
 use Rattle.olk_vocabulary.proofs.numbers.has_no_fraction.Goals as goal
 
-pub returns : goal.returns
+pub returns-then-size : goal.returns-then-size
 unfolding of_bits
-returns c =
+returns-then-size c =
+    let size = c.abs-size.result in
+    let whole = c.saturating_f64_to_u64.result in
+    ap (λ y. eq y size) c.nearest_u64_to_f64.ensures ∙ integral_below c.args.x size whole c.abs-size.ensures.value c.if-size.true c.saturating_f64_to_u64.ensures
+
+pub returns-else-size : goal.returns-else-size
+unfolding of_bits
+returns-else-size c =
     let fits : T (fits binary64 c.args.x) = search rules in
-    rem-is_multiple_of c.args.x float_one 1 fits (lit< tt) (refl, refl) ∙ is_multiple_of-one c.args.x
+    c.is_finite.ensures.value ∙ integral_past c.args.x c.abs-size.result c.abs-size.ensures.value fits c.if-size.false

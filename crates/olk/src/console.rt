@@ -1,0 +1,150 @@
+//! Where a run tells what it found, and how far it came.
+use crate::visible::Visible;
+use std::alloc::Global;
+use std::fmt::{self, Display, Formatter};
+use std::io::{self, BufWriter, ErrorKind, Printer, Write};
+
+/// How many bytes of output are written at once.
+const OUTPUT_LEN: usize = 65536;
+
+/// How far a run came, from the best to the worst.
+#[derive(Clone, Copy, PartialEq, Eq, PartialOrd, Ord, Drop)]
+pub enum Status {
+    /// All instances are valid.
+    Valid,
+    /// Some are not.
+    Invalid,
+    /// Something could not be read, or was not asked rightly.
+    Failed,
+    /// There was no memory.
+    Memory,
+}
+
+impl Status {
+    /// Of an instance that is valid or not.
+    pub fn of(is_valid: bool) -> Status {
+        if is_valid {
+            Status::Valid
+        } else {
+            Status::Invalid
+        }
+    }
+
+    /// The exit status.
+    pub fn code(self) -> u8 {
+        match self {
+            Status::Valid => 0,
+            Status::Invalid => 1,
+            Status::Failed => 2,
+            Status::Memory => 3,
+        }
+    }
+}
+
+/// The place of a value: a file, and a line of it where each line is a value.
+#[derive(Clone, Copy)]
+pub struct Place<'n> {
+    /// The file's path.
+    pub name: &'n str,
+    /// The line's number, from 1.
+    pub line: Option<u64>,
+}
+
+impl Display for Place<'_> {
+    fn fmt<W: fmt::Write>(&self, f: &mut Formatter<W>) -> fmt::Result {
+        write!(f, "{}", Visible(self.name))?;
+        match self.line {
+            Some(line) => write!(f, ":{line}"),
+            None => Ok(()),
+        }
+    }
+}
+
+/// Standard output and standard error, and the worst status so far.
+#[derive(Drop)]
+pub struct Console<'r, T: Print> {
+    rt: &'r T,
+    out: BufWriter<Printer<'r, T>>,
+    status: Status,
+}
+
+impl<'r, T: Print + Eprint + AllocGlobal> Console<'r, T> {
+    /// With nothing told.
+    ///
+    /// # Errors
+    ///
+    /// Out of memory.
+    pub fn new(rt: &'r T) -> io::Result<Console<'r, T>> {
+        let out = BufWriter::with_capacity(rt.alloc(), OUTPUT_LEN, io::writer(rt))?;
+        Ok(Console {
+            rt,
+            out,
+            status: Status::Valid,
+        })
+    }
+
+    /// Counts what an instance, or something else, came to.
+    pub fn count(&mut self, status: Status) {
+        if self.status < status {
+            self.status = status;
+        }
+    }
+
+    /// The allocator.
+    pub fn alloc(&self) -> Global {
+        self.rt.alloc()
+    }
+
+    /// Writes to standard output.
+    ///
+    /// # Errors
+    ///
+    /// A write failed.
+    pub fn write<D: Display + Drop>(&mut self, text: D) -> io::Result<()> {
+        write!(self.out, "{text}")
+    }
+
+    /// Writes a line to standard output, that is given without its line feed.
+    ///
+    /// # Errors
+    ///
+    /// A write failed.
+    pub fn write_line(&mut self, line: &[u8]) -> io::Result<()> {
+        self.out.write_all(line)?;
+        self.out.write_all(b"\n")
+    }
+
+    /// Says on standard error why something failed, behind what was written before.
+    ///
+    /// # Errors
+    ///
+    /// A write failed.
+    pub fn fail<D: Display + Drop>(&mut self, why: D) -> io::Result<()> {
+        self.count(Status::Failed);
+        self.out.flush()?;
+        eprintln!(self.rt; "olk: {why}")
+    }
+
+    /// Says that a file can't be read.
+    ///
+    /// # Errors
+    ///
+    /// A write failed, or the error is out of memory.
+    pub fn fail_to_read(&mut self, name: &str, error: io::Error) -> io::Result<()> {
+        if error.kind() == ErrorKind::OutOfMemory {
+            return Err(error);
+        }
+        let name = Visible(name);
+        self.fail(format_args!("{name}: {error}"))
+    }
+
+    /// The worst status, once all is written.
+    ///
+    /// # Errors
+    ///
+    /// A write failed.
+    pub fn finish(mut self) -> io::Result<Status> {
+        self.out.flush()?;
+        Ok(self.status)
+    }
+}

@@ -1,0 +1,20 @@
+//! Checks files of JSON values by a schema.
+//!
+//! Stands on `olk_validator`, `olk_vocabulary` and `olk_replies`. Tested by its files `args`,
+//! `data` and `stdout`, and by `tools/checked_files`.
+#![tactic(auto)]
+
+mod answer;
+mod console;
+mod instances;
+mod lines;
+mod options;
+mod program;
+mod reading;
+mod visible;
+
+use std::process::ExitCode;
+
+fn main(rt: HostRuntime) -> ExitCode {
+    ExitCode::from(program::run(&rt).code())
+}

@@ -1,0 +1,164 @@
+//! What a command line asks for.
+use clap::error::ErrorKind;
+use clap::{Arg, ArgAction, ArgMatches, Command, Error};
+use std::alloc::{AllocError, Global};
+
+/// How answers are written.
+#[derive(Clone, Copy, PartialEq, Eq, Drop)]
+pub enum Format {
+    /// Lines for people.
+    Text,
+    /// A line of compact JSON for each value.
+    Json,
+}
+
+/// What is asked of each instance.
+#[derive(Clone, Copy, PartialEq, Eq, Drop)]
+pub enum Ask {
+    /// The first error.
+    First,
+    /// Every error.
+    Errors,
+    /// What the schema shows.
+    Evaluate,
+}
+
+/// The name of the standard input on a command line.
+pub const STANDARD_INPUT: &str = "-";
+
+/// A schema, instances, and how they are asked.
+#[derive(Drop)]
+pub struct Options<'w> {
+    /// The schema's path.
+    pub schema: &'w str,
+    /// The instances' paths; there is at least one.
+    pub instances: Vec<&'w str>,
+    /// Each line of an instance is a value, and else the whole.
+    pub has_lines: bool,
+    /// What is asked.
+    pub ask: Ask,
+    /// How it is answered.
+    pub format: Format,
+    /// Nothing is answered but the status.
+    pub is_quiet: bool,
+}
+
+impl Options<'_> {
+    /// Whether both the schema and an instance are to be read from the standard input.
+    fn reads_input_twice(&self) -> bool {
+        self.schema == STANDARD_INPUT && self.instances.iter().any(|path| *path == STANDARD_INPUT)
+    }
+}
+
+const READ_TWICE: &str = "the standard input cannot be both the schema and an instance";
+
+const VERSION: &str = "1.1.0";
+
+const AFTER_HELP: &str = "\
+A path may be - for the standard input, which is read where no instance is named.
+
+Status:
+  0  all instances are valid
+  1  some are not
+  2  wrong use, a file that can't be read, a malformed schema, or a text that isn't JSON
+  3  out of memory
+The status is that of the worst of all; what has status 2 or 3 is said on standard error.
+
+A text is no JSON here if a number in it is too large for a double, or it is nested over 127 deep.
+A schema that has a keyword of the standard which is not read is malformed: docs/VOCABULARY.md.";
+
+/// What the words of a command line ask for, the program's name first.
+///
+/// # Errors
+///
+/// What is wrong with the words, the help or the version where that is asked for, or out of memory.
+pub fn read_options<'w>(alloc: Global, words: &'w [String]) -> Result<Options<'w>, Error> {
+    let mut command = command(alloc)?;
+    let matches = command.try_get_matches_from_mut(words)?;
+    let options = options_of(alloc, &matches)?;
+    if options.reads_input_twice() {
+        return Err(command.error(ErrorKind::ArgumentConflict, READ_TWICE)?);
+    }
+    Ok(options)
+}
+
+fn command<'w>(alloc: Global) -> Result<Command<'w>, AllocError> {
+    Command::new(alloc, "olk")
+        .bin_name("olk")?
+        .version(VERSION)
+        .about("Checks JSON values by a JSON Schema (2020-12).")
+        .after_help(AFTER_HELP)
+        .arg(schema_argument(alloc))?
+        .arg(instances_argument(alloc))?
+        .arg(flag(alloc, "lines", "Take each line for a value"))?
+        .arg(flag(alloc, "first", "Tell the first error alone").conflicts_with("evaluate")?)?
+        .arg(flag(alloc, "evaluate", "Tell what the schema shows, as JSON"))?
+        .arg(format_argument(alloc))?
+        .arg(flag(alloc, "quiet", "Tell nothing but the status").short('q'))
+}
+
+fn schema_argument<'w>(alloc: Global) -> Arg<'w> {
+    Arg::new(alloc, "schema")
+        .value_name("SCHEMA")
+        .required(true)
+        .help("The file that holds the schema")
+}
+
+fn instances_argument<'w>(alloc: Global) -> Arg<'w> {
+    Arg::new(alloc, "instances")
+        .value_name("INSTANCE")
+        .num_args(0..)
+        .default_value(STANDARD_INPUT)
+        .help("The files that hold the values to check")
+}
+
+fn flag<'w>(alloc: Global, name: &'w str, help: &'w str) -> Arg<'w> {
+    Arg::new(alloc, name)
+        .long(name)
+        .action(ArgAction::SetTrue)
+        .help(help)
+}
+
+fn format_argument<'w>(alloc: Global) -> Arg<'w> {
+    Arg::new(alloc, "format")
+        .long("format")
+        .value_name("FORMAT")
+        .value_parser(["text", "json"].as_slice())
+        .default_value("text")
+        .help("Write lines for people, or a line of JSON for each value")
+}
+
+fn options_of<'w>(alloc: Global, matches: &ArgMatches<'w>) -> Result<Options<'w>, AllocError> {
+    let mut instances = Vec::new(alloc);
+    for path in matches.get_strs("instances").unwrap_or(&[]) {
+        instances.push(*path)?;
+    }
+    let ask = ask_of(matches);
+    Ok(Options {
+        schema: matches.get_str("schema").unwrap_or(STANDARD_INPUT),
+        instances,
+        has_lines: matches.get_flag("lines"),
+        ask,
+        format: format_of(ask, matches),
+        is_quiet: matches.get_flag("quiet"),
+    })
+}
+
+fn ask_of(matches: &ArgMatches<'_>) -> Ask {
+    if matches.get_flag("evaluate") {
+        Ask::Evaluate
+    } else if matches.get_flag("first") {
+        Ask::First
+    } else {
+        Ask::Errors
+    }
+}
+
+/// What the schema shows is told as JSON alone.
+fn format_of(ask: Ask, matches: &ArgMatches<'_>) -> Format {
+    if ask == Ask::Evaluate || matches.get_str("format") == Some("json") {
+        Format::Json
+    } else {
+        Format::Text
+    }
+}
