@@ -32,7 +32,8 @@ none_more texts (t ∷ found) h = absurd (true≢false (sym h))
 -- a list of texts, with one more at its end
 pub one_more : (old new : List (String Global)) (s : String Global) (t : Text) (found : List Text) → new ≡ old ++ s ∷ [] → string_bytes s ≡ t → found ≡ t ∷ []
     → map string_bytes new ≡ map string_bytes old ++ found
-one_more old new s t found is e f = ap (map string_bytes) is ∙ map-append string_bytes old (s ∷ []) ∙ ap (λ u. map string_bytes old ++ (u ∷ [])) e ∙ ap (λ fs. map string_bytes old ++ fs) (sym f)
+one_more old new s t found is e f =
+    ap (map string_bytes) is ∙ map-append string_bytes old (s ∷ []) ∙ ap (λ u. map string_bytes old ++ (u ∷ [])) e ∙ ap (λ fs. map string_bytes old ++ fs) (sym f)
 
 is_empty-unless : (ok : Bool) (t : Text) → is_empty (unless ok t) ≡ ok
 is_empty-unless true t = refl

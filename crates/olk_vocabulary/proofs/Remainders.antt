@@ -38,7 +38,8 @@ eq_by_value (fin false n d) q m e v =
     let scaled : n * up d * down e ≡ q * down e * down d = ap (λ j. j * down e) size ∙ mul_right_comm q (down d) (down e) in
     and-true _ ∙ same_eq _ _ (q * down e) (m * up e) (λ h. eq_of_mul-eq-mul_right (down d) (down_pos d) _ _ (sym scaled ∙ h)) (λ h. scaled ∙ ap (λ j. j * down d) h)
 
-integral_small : (m : ℕ) (e : ℤ) (w : ℕ) → lt (fin false m e) (two_to 53) ≡ true → w ≡ to_unsigned 64 (fin false m e) → eq (of_int binary64 (pos w)) (fin false m e) ≡ is_integral (fin false m e)
+integral_small : (m : ℕ) (e : ℤ) (w : ℕ) → lt (fin false m e) (two_to 53) ≡ true → w ≡ to_unsigned 64 (fin false m e)
+    → eq (of_int binary64 (pos w)) (fin false m e) ≡ is_integral (fin false m e)
 unfolding lt to_unsigned
 integral_small m e w h c =
     let room : m * up e < 2 ^ 53 * down e = omega (arith, ltb-true _ _ h) in
@@ -99,7 +100,8 @@ multiple_small t m e w k h i c =
     same ∙ ap (λ j. nat_eq j 0) (sym scaled) ∙ ap (λ b. b && nat_eq ((m * up e) % (k * down e)) 0) (sym (lt-ltb _ _ room))
 
 -- a whole number less than 2 ^ 64 in size
-pub multiple_below : (x y : Float) (w k : ℕ) → y ≡ float_with_sign false x → lt y (two_to 64) ≡ true → is_integral y ≡ true → w ≡ to_unsigned 64 y → nat_eq (w % k) 0 ≡ is_multiple_of x k
+pub multiple_below : (x y : Float) (w k : ℕ) → y ≡ float_with_sign false x → lt y (two_to 64) ≡ true → is_integral y ≡ true → w ≡ to_unsigned 64 y
+    → nat_eq (w % k) 0 ≡ is_multiple_of x k
 unfolding lt float_with_sign
 multiple_below nan y w k s h i c = absurd (true≢false (sym h ∙ ap (λ z. lt z (two_to 64)) s))
 multiple_below (inf t) y w k s h i c = absurd (true≢false (sym h ∙ ap (λ z. lt z (two_to 64)) s))
