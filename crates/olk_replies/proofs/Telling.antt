@@ -67,7 +67,8 @@ module _ (W : World) (q : Asked) (plain : has_fraction q ≡ false) where
       like_told (fault k v Q P) (fault l w R O) (like h) = ap (λ m. record { instance_path = Q; schema_path = P; message = m }) (like_text (fault k v Q P) (fault l v Q P) (like h))
 
   -- what `evaluate` gives is the evaluation
-  pub shown_is_evaluation : (t : Tree) (answer : Text) → IsTree W q.unfinished q.schema q.instance [] [] t → is_valid t ≡ accepted W q → answer ≡ json_text (tree_data t) → TellsEvaluation W q answer
+  pub shown_is_evaluation : (t : Tree) (answer : Text) → IsTree W q.unfinished q.schema q.instance [] [] t → is_valid t ≡ accepted W q
+      → answer ≡ json_text (tree_data t) → TellsEvaluation W q answer
   shown_is_evaluation t answer shows valid tells = record {
     tree = t;
     is_tree = shows;
