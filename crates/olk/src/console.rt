@@ -3,9 +3,14 @@ use crate::visible::Visible;
 use std::alloc::Global;
 use std::fmt::{self, Display, Formatter};
 use std::io::{self, BufWriter, ErrorKind, Printer, Write};
+use std::rt::Clock;
+use std::time::Instant;
 
 /// How many bytes of output are written at once.
 const OUTPUT_LEN: usize = 65536;
+
+/// For how many seconds nothing is told of how far a run came.
+const PAUSE: u64 = 1;
 
 /// How far a run came, from the best to the worst.
 #[derive(Clone, Copy, PartialEq, Eq, PartialOrd, Ord, Drop)]
@@ -66,20 +71,23 @@ pub struct Console<'r, T: Print> {
     rt: &'r T,
     out: BufWriter<Printer<'r, T>>,
     status: Status,
+    /// When it was last told how far the run came, where that is told.
+    told: Option<Instant>,
 }
 
 impl<'r, T: Print + Eprint + AllocGlobal> Console<'r, T> {
-    /// With nothing told.
+    /// With nothing told; from `start` on, where there is one, it is told how far the run came.
     ///
     /// # Errors
     ///
     /// Out of memory.
-    pub fn new(rt: &'r T) -> io::Result<Console<'r, T>> {
+    pub fn new(rt: &'r T, start: Option<Instant>) -> io::Result<Console<'r, T>> {
         let out = BufWriter::with_capacity(rt.alloc(), OUTPUT_LEN, io::writer(rt))?;
         Ok(Console {
             rt,
             out,
             status: Status::Valid,
+            told: start,
         })
     }
 
@@ -146,5 +154,23 @@ impl<'r, T: Print + Eprint + AllocGlobal> Console<'r, T> {
     pub fn finish(mut self) -> io::Result<Status> {
         self.out.flush()?;
         Ok(self.status)
+    }
+}
+
+impl<'r, T: Print + Eprint + Clock> Console<'r, T> {
+    /// Tells on standard error how many of the files are checked, once a second.
+    ///
+    /// # Errors
+    ///
+    /// A write failed.
+    pub fn tell_progress(&mut self, checked: usize, files: usize) -> io::Result<()> {
+        let (Some(told), Ok(now)) = (self.told, Instant::now(self.rt)) else {
+            return Ok(());
+        };
+        if now.saturating_duration_since(told).as_secs() < PAUSE {
+            return Ok(());
+        }
+        self.told = Some(now);
+        eprintln!(self.rt; "olk: {checked} of {files} files are checked")
     }
 }

@@ -15,7 +15,7 @@ use serde_json::Value;
 use std::alloc::{AllocError, Global};
 use std::fs;
 use std::io::{self, BufRead, BufReader};
-use std::rt::Files;
+use std::rt::{Clock, Files};
 
 /// A schema, its validator, and how it is asked.
 #[derive(Drop)]
@@ -33,15 +33,17 @@ pub struct Checker<'c, K, R> {
 /// # Errors
 ///
 /// Out of memory, or what is told can't be written.
-pub fn check_instances<T: Files + Input + Print + Eprint + AllocGlobal, K: Leaf, R: RegexEngine>(
-    rt: &T,
-    console: &mut Console<'_, T>,
-    checker: &Checker<'_, K, R>,
-) -> io::Result<()>
+pub fn check_instances<
+    T: Files + Input + Print + Eprint + Clock + AllocGlobal,
+    K: Leaf,
+    R: RegexEngine,
+>(rt: &T, console: &mut Console<'_, T>, checker: &Checker<'_, K, R>) -> io::Result<()>
     requires stands { IsValidatorOf (kit K.Leaf R.RegexEngine) checker.now.validator.now
         (view checker.now.schema.now) }
 {
-    for path in &checker.options.instances {
+    let files = checker.options.instances.len();
+    for (checked, path) in checker.options.instances.iter().enumerate() {
+        console.tell_progress(checked, files)?;
         if checker.options.has_lines {
             check_lines(rt, console, checker, path)?;
         } else {

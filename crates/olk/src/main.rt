@@ -13,8 +13,10 @@ mod program;
 mod reading;
 mod visible;
 
+use std::io::IsTerminal;
 use std::process::ExitCode;
 
 fn main(rt: HostRuntime) -> ExitCode {
-    ExitCode::from(program::run(&rt).code())
+    let has_terminal = rt.stderr().is_terminal();
+    ExitCode::from(program::run(&rt, has_terminal).code())
 }

@@ -13,11 +13,20 @@ use serde_json::Value;
 use std::alloc::AllocError;
 use std::env::{self, Env};
 use std::io;
-use std::rt::Files;
+use std::rt::{Clock, Files};
+use std::time::Instant;
 
-/// What the command line asks for, and how far that came.
-pub fn run<T: Env + Files + Input + Print + Eprint + AllocGlobal>(rt: &T) -> Status {
-    match run_words(rt) {
+/// What the command line asks for, and how far that came. On a terminal it is told on the way.
+pub fn run<T: Env + Files + Input + Print + Eprint + Clock + AllocGlobal>(
+    rt: &T,
+    has_terminal: bool,
+) -> Status {
+    let start = if has_terminal {
+        Instant::now(rt).ok()
+    } else {
+        None
+    };
+    match run_words(rt, start) {
         Ok(status) => status,
         Err(error) => failed_status(rt, &error),
     }
@@ -33,13 +42,16 @@ fn failed_status<T: Eprint>(rt: &T, error: &io::Error) -> Status {
     }
 }
 
-fn run_words<T: Env + Files + Input + Print + Eprint + AllocGlobal>(rt: &T) -> io::Result<Status> {
+fn run_words<T: Env + Files + Input + Print + Eprint + Clock + AllocGlobal>(
+    rt: &T,
+    start: Option<Instant>,
+) -> io::Result<Status> {
     let words: Vec<String> = match env::args(rt) {
         Ok(words) => words.collect(rt.alloc())?,
         Err(error) => return refuse_words(rt, error),
     };
     match read_options(rt.alloc(), &words) {
-        Ok(options) => check_all(rt, &options),
+        Ok(options) => check_all(rt, &options, start),
         Err(error) => tell_usage(rt, &error),
     }
 }
@@ -67,18 +79,19 @@ fn tell_usage<T: Print + Eprint>(rt: &T, error: &Error) -> io::Result<Status> {
 }
 
 /// Checks by the schema's file. What is told before an error that ends the run is written as well.
-fn check_all<T: Files + Input + Print + Eprint + AllocGlobal>(
+fn check_all<T: Files + Input + Print + Eprint + Clock + AllocGlobal>(
     rt: &T,
     options: &Options<'_>,
+    start: Option<Instant>,
 ) -> io::Result<Status> {
-    let mut console = Console::new(rt)?;
+    let mut console = Console::new(rt, start)?;
     let done = check_by_file(rt, &mut console, options);
     let status = console.finish()?;
     done?;
     Ok(status)
 }
 
-fn check_by_file<T: Files + Input + Print + Eprint + AllocGlobal>(
+fn check_by_file<T: Files + Input + Print + Eprint + Clock + AllocGlobal>(
     rt: &T,
     console: &mut Console<'_, T>,
     options: &Options<'_>,
@@ -106,7 +119,7 @@ fn read_schema<T: Files + Input + Print + Eprint + AllocGlobal>(
 }
 
 /// Builds the schema's validator, and checks each instance by it.
-fn check_by<T: Files + Input + Print + Eprint + AllocGlobal>(
+fn check_by<T: Files + Input + Print + Eprint + Clock + AllocGlobal>(
     rt: &T,
     console: &mut Console<'_, T>,
     options: &Options<'_>,
