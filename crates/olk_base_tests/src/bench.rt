@@ -1,93 +1,15 @@
 //! What leaves of the bench accept and tell, and what its matcher answers.
 use crate::doubles::NoTexts;
+use crate::leaves::told_of_row;
 use crate::tables::{expect_rows, two};
 use olk_base::{Leaf, MakeError, MakeLeaf, MakeRegex, Meter, Node, RegexEngine};
 use olk_bench::{BenchLeaves, BenchRegexes};
-use serde_json::Value;
-use std::alloc::{AllocError, Global};
+use std::alloc::Global;
 use std::test::Fail;
-
-/// What `evaluate`, `collect_errors` and `validate` tell of the instance.
-fn told_in_turn<L: Leaf>(
-    alloc: Global,
-    leaf: &L,
-    node: Node<'_>,
-) -> Result<Vec<String>, AllocError> {
-    let mut told = leaf.evaluate(alloc, node)?;
-    leaf.collect_errors(alloc, node, &mut told)?;
-    if let Some(text) = leaf.validate(alloc, node)? {
-        told.push(text)?;
-    }
-    Ok(told)
-}
-
-const DIFFER: &str = "the ways of asking differ";
-
-fn are_same(one: &str, other: &str, third: &str) -> bool {
-    one == other && other == third
-}
-
-/// The text that all of them tell, or `-` where none tells one.
-fn one_text(told: &[String]) -> &str {
-    match told {
-        [] => "-",
-        [one, other, third] if are_same(one, other, third) => one,
-        _ => DIFFER,
-    }
-}
-
-fn told<L: Leaf>(alloc: Global, leaf: &L, node: Node<'_>) -> Result<String, AllocError> {
-    let told = told_in_turn(alloc, leaf, node)?;
-    let is_agreed = leaf.is_valid(node) == told.is_empty();
-    let text = if is_agreed { one_text(&told) } else { DIFFER };
-    let text = String::from_str(alloc, text);
-    drop(told);
-    text
-}
-
-fn told_or_refused<M: MakeLeaf>(
-    alloc: Global,
-    leaves: &M,
-    keyword: &str,
-    value: &Value,
-    instance: &Value,
-) -> Result<String, AllocError> {
-    match leaves.make(alloc, keyword, value, &mut Meter::new()) {
-        Ok(leaf) if leaf.keyword() == keyword => told(alloc, &leaf, Node::Value(instance)),
-        Ok(_) => String::from_str(alloc, "another keyword"),
-        Err(MakeError::Refused) => String::from_str(alloc, "refused"),
-        Err(MakeError::Memory(error)) => Err(error),
-    }
-}
-
-/// A text that isn't JSON ends the test too.
-fn read(alloc: Global, text: &str) -> Result<Value, AllocError> {
-    match Value::from_str(alloc, text) {
-        Ok(value) => Ok(value),
-        Err(_) => Err(AllocError),
-    }
-}
-
-fn told_of_values(
-    alloc: Global,
-    keyword: &str,
-    value: &Value,
-    instance: &str,
-) -> Result<String, AllocError> {
-    let instance = read(alloc, instance)?;
-    let told = told_or_refused(alloc, &BenchLeaves, keyword, value, &instance);
-    drop(instance);
-    told
-}
 
 /// What is told of a leaf's keyword, its value and an instance.
 fn leaf(alloc: Global, cells: &str) -> Result<String, Fail> {
-    let (keyword, values) = two(cells);
-    let (value, instance) = two(values);
-    let value = read(alloc, value)?;
-    let told = told_of_values(alloc, keyword, &value, instance);
-    drop(value);
-    Ok(told?)
+    told_of_row(alloc, &BenchLeaves, cells)
 }
 
 fn matched<M: MakeRegex>(alloc: Global, regexes: &M, pattern: &str, name: &str) -> &'static str {

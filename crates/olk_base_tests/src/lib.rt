@@ -13,6 +13,7 @@ mod base;
 mod bench;
 pub mod counting;
 pub mod doubles;
+pub mod leaves;
 #[cfg(test)]
 mod lines;
 #[cfg(test)]

@@ -151,6 +151,7 @@ fn each_accepted<R: RegexEngine, N: IsValid>(
 }
 
 /// Whether the node accepts the value, if the pattern matches its name.
+#[inline(always)]
 #[tactic(auto, using(crate::proofs::Walks::conditional_answers))]
 fn accepted_if_matched<R: RegexEngine, N: IsValid>(
     pattern: &CompiledPattern<R>,

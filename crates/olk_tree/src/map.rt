@@ -177,7 +177,8 @@ impl SortedNames {
 #[tactic(auto, using(crate::proofs::Heads::first_places))]
 fn first_near(names: &[SortedName], hint: usize, head: u64) -> Result<usize, usize>
     requires { Rise (heads_of names.now) }
-    ensures { MatchResult result (IsFirst (heads_of names.now) head) (IsBefore (heads_of names.now) head) }
+    ensures { MatchResult result (IsFirst (heads_of names.now) head)
+        (IsBefore (heads_of names.now) head) }
 {
     let start = start_from(names, hint, head);
     if NEAR <= names.len() - start && names[start + NEAR - 1].head < head {

@@ -1,51 +1,14 @@
 //! Rows of the vocabulary: a keyword, its value, an instance, and what is told.
-use olk_base::{Leaf, MakeError, MakeLeaf, Meter, Node};
-use olk_base_tests::tables::{expect_rows, two};
+use olk_base::MakeLeaf;
+use olk_base_tests::leaves::told_of_row;
+use olk_base_tests::tables::expect_rows;
 use olk_vocabulary::Vocabulary;
-use serde_json::Value;
-use std::alloc::{AllocError, Global};
+use std::alloc::Global;
 use std::test::Fail;
-
-fn told<L: Leaf>(alloc: Global, leaf: &L, node: Node<'_>) -> Result<String, AllocError> {
-    match leaf.validate(alloc, node)? {
-        Some(_) if leaf.is_valid(node) => String::from_str(alloc, "the ways of asking differ"),
-        Some(text) => Ok(text),
-        None => String::from_str(alloc, "-"),
-    }
-}
-
-fn told_or_refused(
-    alloc: Global,
-    keyword: &str,
-    value: &Value,
-    instance: &Value,
-) -> Result<String, AllocError> {
-    match Vocabulary.make(alloc, keyword, value, &mut Meter::new()) {
-        Ok(leaf) if leaf.keyword() == keyword => told(alloc, &leaf, Node::Value(instance)),
-        Ok(_) => String::from_str(alloc, "another keyword"),
-        Err(MakeError::Refused) => String::from_str(alloc, "refused"),
-        Err(MakeError::Memory(error)) => Err(error),
-    }
-}
-
-/// A text that isn't JSON ends the test too.
-fn read(alloc: Global, text: &str) -> Result<Value, AllocError> {
-    match Value::from_str(alloc, text) {
-        Ok(value) => Ok(value),
-        Err(_) => Err(AllocError),
-    }
-}
 
 /// What is told of a keyword, its value and an instance.
 fn row(alloc: Global, cells: &str) -> Result<String, Fail> {
-    let (keyword, values) = two(cells);
-    let (value, instance) = two(values);
-    let value = read(alloc, value)?;
-    let instance = read(alloc, instance)?;
-    let told = told_or_refused(alloc, keyword, &value, &instance);
-    drop(value);
-    drop(instance);
-    Ok(told?)
+    told_of_row(alloc, &Vocabulary, cells)
 }
 
 // A keyword, its value, an instance, and what is told of it, or `-`.
