@@ -57,9 +57,9 @@ pub use olk_validator::{
 // Validators over nodes of any type, and what they hold.
 pub use olk_validator::{
     AdditionalProperties, AllOf, AnyOf, BigMap, Body, DeclaredMembers, Dependencies,
-    DependentRequired, DependentSchemas, IfElse, IfThen, IfThenElse, KeywordOver, Not, OneOf,
-    PatternIndex, PatternProperties, PatternTable, Properties, PropertiesValidatorsMap,
+    DependentRequired, DependentSchemas, Entry, IfElse, IfThen, IfThenElse, KeywordOver, Not,
+    OneOf, PatternIndex, PatternProperties, PatternTable, Properties, PropertiesValidatorsMap,
     PropertyDependencies, PropertyNames, RequiredName, SingleAnyOf, SingleOneOf, SingleValueAllOf,
-    SingleValuePatternProperties, SmallMap, SmallPropertiesWithRequired2, SortedNames,
-    pattern_table, precompute_property_pattern_indices, properties_map,
+    SingleValuePatternProperties, SmallMap, SmallPropertiesWithRequired2, SortedEntries,
+    SortedNames, pattern_table, precompute_property_pattern_indices, properties_map,
 };

@@ -12,7 +12,8 @@ pub fn is_same_text(one: &str, other: &str) -> bool
     one.len() == other.len() && bytes_are_equal(one, other)
 }
 
-/// Two runs that may overlap cover a short text.
+/// Two runs that may overlap cover a short text. The last is compared first: names that stand beside
+/// one another in order begin alike.
 #[inline(always)]
 fn bytes_are_equal(one: &str, other: &str) -> bool
     requires { length one.now ≡ length other.now }
@@ -33,7 +34,7 @@ fn bytes_are_equal(one: &str, other: &str) -> bool
     }
 }
 
-/// The first, the middle and the last of at most three bytes are all of them.
+/// The last, the first and the middle of at most three bytes are all of them.
 #[inline(always)]
 fn few_are_equal(one: &[u8], other: &[u8]) -> bool
     requires same { length one.now ≡ length other.now }
@@ -45,7 +46,7 @@ fn few_are_equal(one: &[u8], other: &[u8]) -> bool
         return true;
     }
     let (middle, last) = (count / 2, count - 1);
-    one[0] == other[0] && one[middle] == other[middle] && one[last] == other[last]
+    one[last] == other[last] && one[0] == other[0] && one[middle] == other[middle]
 }
 
 #[inline(always)]
@@ -55,14 +56,14 @@ fn ends_are_equal<const N: usize>(one: &[u8], other: &[u8]) -> bool
     requires covered { length one.now ≤ N + N }
     ensures { result ≡ bytes_eq one.now other.now }
 {
-    let (Some(start), Some(its_start)) = (one.first_chunk::<N>(), other.first_chunk::<N>()) else {
+    let (Some(end), Some(its_end)) = (one.last_chunk::<N>(), other.last_chunk::<N>()) else {
         return false;
     };
-    if *start != *its_start {
+    if *end != *its_end {
         return false;
     }
-    match (one.last_chunk::<N>(), other.last_chunk::<N>()) {
-        (Some(end), Some(its_end)) => *end == *its_end,
+    match (one.first_chunk::<N>(), other.first_chunk::<N>()) {
+        (Some(start), Some(its_start)) => *start == *its_start,
         _ => false,
     }
 }

@@ -8,7 +8,7 @@ use olk_build::Context;
 use olk_keywords::{pattern_properties, properties};
 use olk_reports::BuildError;
 use olk_tree::built_node::BuiltNode;
-use olk_tree::{BigMap, SmallMap, SortedNames};
+use olk_tree::{BigMap, SmallMap, SortedEntries};
 use serde_json::{Map, Value};
 use std::alloc::{AllocError, Global};
 use std::test::Fail;
@@ -24,13 +24,9 @@ fn refused_line(alloc: Global, error: &BuildError<'_>) -> Result<String, AllocEr
 }
 
 /// Names, each with its node.
-fn nodes_line<N: Shown>(
-    alloc: Global,
-    names: &SortedNames,
-    nodes: &[N],
-) -> Result<String, AllocError> {
+fn nodes_line<N: Shown>(alloc: Global, entries: &SortedEntries<N>) -> Result<String, AllocError> {
     let mut text = String::new(alloc);
-    push_nodes(&mut text, names, nodes)?;
+    push_nodes(&mut text, entries)?;
     Ok(text)
 }
 
@@ -39,7 +35,7 @@ fn small_map_line<N: Shown>(
     built: &Result<SmallMap<N>, BuildError<'_>>,
 ) -> Result<String, AllocError> {
     match built {
-        Ok(map) => nodes_line(alloc, &map.names, map.nodes.as_slice()),
+        Ok(map) => nodes_line(alloc, &map.entries),
         Err(error) => refused_line(alloc, error),
     }
 }
@@ -49,7 +45,7 @@ fn big_map_line<N: Shown>(
     built: &Result<BigMap<N>, BuildError<'_>>,
 ) -> Result<String, AllocError> {
     match built {
-        Ok(map) => nodes_line(alloc, &map.names, map.nodes.as_slice()),
+        Ok(map) => nodes_line(alloc, &map.entries),
         Err(error) => refused_line(alloc, error),
     }
 }

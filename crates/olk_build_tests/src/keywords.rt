@@ -21,7 +21,7 @@ use std::test::Fail;
 // ---- a keyword as text
 
 fn push_small_map<N: Shown>(text: &mut String, map: &SmallMap<N>) -> Result<(), AllocError> {
-    push_nodes(text, &map.names, map.nodes.as_slice())
+    push_nodes(text, &map.entries)
 }
 
 /// A name with the texts that choose, each with its node.
@@ -39,8 +39,8 @@ fn push_choices<N: Shown>(
     text: &mut String,
     map: &SmallMap<SmallMap<N>>,
 ) -> Result<(), AllocError> {
-    for (name, chosen) in map.names.as_slice().iter().zip(&map.nodes) {
-        push_choice(text, name.as_str(), chosen)?;
+    for entry in map.entries.as_slice() {
+        push_choice(text, entry.name.as_str(), &entry.node)?;
     }
     Ok(())
 }
@@ -48,7 +48,7 @@ fn push_choices<N: Shown>(
 fn push_map<N: Shown>(text: &mut String, map: &PropertiesMap<N>) -> Result<(), AllocError> {
     match map {
         PropertiesMap::Small(map) => push_small_map(text, map),
-        PropertiesMap::Big(map) => push_nodes(text, &map.names, map.nodes.as_slice()),
+        PropertiesMap::Big(map) => push_nodes(text, &map.entries),
     }
 }
 

@@ -1,7 +1,7 @@
 //! Nodes and what holds them, as text.
 use crate::shown::Shown;
 use olk_base::CompiledPattern;
-use olk_tree::{RequiredValidator, SortedNames};
+use olk_tree::{RequiredValidator, SortedEntries};
 use std::alloc::AllocError;
 
 /// Adds these parts in turn.
@@ -37,11 +37,10 @@ fn push_named<N: Shown>(text: &mut String, name: &str, node: &N) -> Result<(), A
 /// Each name with its node.
 pub(crate) fn push_nodes<N: Shown>(
     text: &mut String,
-    names: &SortedNames,
-    nodes: &[N],
+    entries: &SortedEntries<N>,
 ) -> Result<(), AllocError> {
-    for (name, node) in names.as_slice().iter().zip(nodes) {
-        push_named(text, name.as_str(), node)?;
+    for entry in entries.as_slice() {
+        push_named(text, entry.name.as_str(), &entry.node)?;
     }
     Ok(())
 }

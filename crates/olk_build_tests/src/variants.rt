@@ -9,7 +9,7 @@ use olk_reports::BuildError;
 use olk_tree::additional_properties::AdditionalProperties;
 use olk_tree::built_node::BuiltNode;
 use olk_tree::properties_map::PropertiesMap;
-use olk_tree::{Body, KeywordOver, SmallMap};
+use olk_tree::{Body, KeywordOver, SmallMap, SortedEntries};
 use serde_json::Value;
 use std::alloc::{AllocError, Global};
 use std::test::Fail;
@@ -127,10 +127,17 @@ fn push_variant<K, R, N>(
 
 // ---- the first node that a keyword holds; of `additionalProperties` that for the rest
 
+fn first_of<N>(entries: &SortedEntries<N>) -> Option<&N> {
+    match entries.as_slice().first() {
+        Some(entry) => Some(&entry.node),
+        None => None,
+    }
+}
+
 fn first_declared<N>(map: &PropertiesMap<N>) -> Option<&N> {
     match map {
-        PropertiesMap::Small(map) => map.nodes.first(),
-        PropertiesMap::Big(map) => map.nodes.first(),
+        PropertiesMap::Small(map) => first_of(&map.entries),
+        PropertiesMap::Big(map) => first_of(&map.entries),
     }
 }
 
@@ -142,8 +149,8 @@ fn first_matched<R, N>(patterns: &[(CompiledPattern<R>, N)]) -> Option<&N> {
 }
 
 fn first_chosen<N>(map: &SmallMap<SmallMap<N>>) -> Option<&N> {
-    match map.nodes.first() {
-        Some(chosen) => chosen.nodes.first(),
+    match map.entries.as_slice().first() {
+        Some(chosen) => first_of(&chosen.node.entries),
         None => None,
     }
 }
@@ -167,7 +174,7 @@ fn first_node_of_condition<K, R, N>(keyword: &KeywordOver<K, R, N>) -> Option<&N
         KeywordOver::IfThen(keyword) => Some(&keyword.schema),
         KeywordOver::IfElse(keyword) => Some(&keyword.schema),
         KeywordOver::IfThenElse(keyword) => Some(&keyword.schema),
-        KeywordOver::Dependencies(keyword) => keyword.dependencies.nodes.first(),
+        KeywordOver::Dependencies(keyword) => first_of(&keyword.dependencies.entries),
         KeywordOver::PropertyDependencies(keyword) => first_chosen(&keyword.dependencies),
         _ => first_node_of_members(keyword),
     }
@@ -177,7 +184,7 @@ fn first_node_of_condition<K, R, N>(keyword: &KeywordOver<K, R, N>) -> Option<&N
 fn first_node_of_members<K, R, N>(keyword: &KeywordOver<K, R, N>) -> Option<&N> {
     match keyword {
         KeywordOver::Properties(keyword) => first_declared(&keyword.properties),
-        KeywordOver::PropertiesWithRequired2(keyword) => keyword.properties.nodes.first(),
+        KeywordOver::PropertiesWithRequired2(keyword) => first_of(&keyword.properties.entries),
         KeywordOver::PropertyNames(keyword) => Some(&keyword.node),
         KeywordOver::PatternProperties(keyword) => first_matched(keyword.patterns.as_slice()),
         KeywordOver::SingleValuePatternProperties(keyword) => Some(&keyword.node),

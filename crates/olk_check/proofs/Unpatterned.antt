@@ -13,7 +13,8 @@ use Rattle.olk_spec.specs.Schemas.{members}
 use Rattle.olk_base.specs.Lawful.{Asking}
 use Rattle.olk_tree.specs.Questions.{Question, every}
 use Rattle.olk_tree.specs.Additional.{placed, rest_means, member_means, member_means_at, means_in_turn}
-use Rattle.olk_tree.specs.Maps.{mapped, names_in, nodes_in}
+use Rattle.olk_tree.specs.Maps.{mapped, keys_in, nodes_in, placed_entries}
+use Rattle.olk_tree.proofs.Walked.{zip_parts}
 use Rattle.olk_tree.specs.declared.properties_map.PropertiesMap.{PropertiesMap}
 use Rattle.olk_tree.proofs.Maps.{lookup_name-zip}
 use Rattle.olk_tree.proofs.Crowded.{one_too_many}
@@ -52,11 +53,13 @@ module _ {N : Type 0} (m : N → Data → Question) where
       at_declared None n x = λ i. record { accepts = (rest_means m x rest).accepts; asks = λ u. nothing_first ((rest_means m x rest).asks u) i }
       at_declared (Some f) n x = λ i. record { accepts = λ u. and-true ((m f.1 x).accepts u) i; asks = λ u. nothing_last ((m f.1 x).asks u) i }
 
-      found_zip : (n : Name) → lookup_name n (mapped p) ≡ option_map (λ f. f.1) (lookup_name n (zip (names_in p) (placed (nodes_in p))))
-      found_zip n = ap (λ l. lookup_name n (zip (names_in p) l)) (sym (without_places 0 (nodes_in p))) ∙ lookup_name-zip (λ f. f.1) n (names_in p) (placed (nodes_in p))
+      found_placed : (n : Name) → lookup_name n (mapped p) ≡ option_map (λ f. f.1) (lookup_name n (placed_entries (mapped p)))
+      found_placed n =
+          ap (lookup_name n) (sym (zip_parts (mapped p))) ∙ ap (λ l. lookup_name n (zip (keys_in (mapped p)) l)) (sym (without_places 0 (nodes_in (mapped p))))
+          ∙ lookup_name-zip (λ f. f.1) n (keys_in (mapped p)) (placed (nodes_in (mapped p)))
 
       member_declared : (n : Name) (x : Data) → declared_or_rest m rest x (lookup_name n (mapped p)) ≡ member_means answers costs m (unpatterned p rest known) n x
-      member_declared n x = ap (declared_or_rest m rest x) (found_zip n) ∙ sym (at_declared (lookup_name n (zip (names_in p) (placed (nodes_in p)))) n x)
+      member_declared n x = ap (declared_or_rest m rest x) (found_placed n) ∙ sym (at_declared (lookup_name n (placed_entries (mapped p))) n x)
 
       -- where no patterns stand there
       pub unpatterned_means : (v : Data) → names_mean m (mapped p) rest v ≡ means_in_turn answers costs m (unpatterned p rest known) v

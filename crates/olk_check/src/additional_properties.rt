@@ -25,6 +25,7 @@ use arrayvec::ArrayVec;
 use olk_base::{CompiledPattern, Node, RegexEngine, ValidationContext};
 use olk_meaning::law_of_names;
 use olk_tree::additional_properties::{AdditionalProperties, RequiredName};
+use olk_tree::entries::node_among;
 use olk_tree::properties_map::PropertiesMap;
 use olk_tree::validators_map::PropertiesValidatorsMap;
 use serde_json::{Map, Value};
@@ -209,11 +210,11 @@ fn declared_accept<M: PropertiesValidatorsMap<N>, N: IsValid>(
     ctx: &mut ValidationContext,
 ) -> Accepted
     ensures { AsksOne ctx.old ctx.new (both (names_mean N.means
-        (zip (M.names properties.now) (M.nodes properties.now))
+        (M.entries properties.now)
         (option_copied rest.entry) (object_of members.now.entries)) (always (is_empty (missing
         (required_text required.now) (object_of members.now.entries))))) result }
 {
-    if rest.is_none() && members.len() > properties.names().len() {
+    if rest.is_none() && members.len() > properties.entries().len() {
         return Accepted::None;
     }
     match (rest, required) {
@@ -233,7 +234,7 @@ fn declared_or_rest_accept<M: PropertiesValidatorsMap<N>, N: IsValid>(
     ctx: &mut ValidationContext,
 ) -> Accepted
     ensures { AsksOne ctx.old ctx.new (both (names_mean N.means
-        (zip (M.names properties.now) (M.nodes properties.now))
+        (M.entries properties.now)
         (option_copied rest.entry) (object_of members.now.entries)) (always (is_empty (missing
         (required_text required.now) (object_of members.now.entries))))) result }
 {
@@ -251,7 +252,7 @@ fn each_declared<M: PropertiesValidatorsMap<N>, N: IsValid>(
     ctx: &mut ValidationContext,
 ) -> Accepted
     ensures { AsksOne ctx.old ctx.new (names_mean N.means
-        (zip (M.names properties.now) (M.nodes properties.now))
+        (M.entries properties.now)
         None (object_of members.now.entries)) result }
 {
     Accepted::one_if(each_declared_or_rest(properties, members, None, ctx))
@@ -267,7 +268,7 @@ fn all_declared<M: PropertiesValidatorsMap<N>, N: IsValid>(
     ctx: &mut ValidationContext,
 ) -> Accepted
     ensures { AsksOne ctx.old ctx.new (both (names_mean N.means
-        (zip (M.names properties.now) (M.nodes properties.now))
+        (M.entries properties.now)
         None (object_of members.now.entries)) (always (is_empty (missing
         (required.now ∷ []) (object_of members.now.entries))))) result }
 {
@@ -286,7 +287,7 @@ pub fn are_properties_valid<M: PropertiesValidatorsMap<N>, N: IsValid>(
     ctx: &mut ValidationContext,
 ) -> bool
     ensures { Asks ctx.old ctx.new (names_mean N.means
-        (zip (M.names properties.now) (M.nodes properties.now))
+        (M.entries properties.now)
         (option_copied additional.entry) (object_of members.now.entries)) result }
 {
     each_declared_or_rest(properties, members, additional, ctx)
@@ -302,12 +303,13 @@ fn each_declared_or_rest<'a, M: PropertiesValidatorsMap<N>, N: IsValid>(
     ctx: &mut ValidationContext,
 ) -> bool
     ensures { Asks ctx.old ctx.new (names_mean N.means
-        (zip (M.names properties.now) (M.nodes properties.now))
+        (M.entries properties.now)
         (option_copied additional.entry) (object_of members.now.entries)) result }
 {
+    let entries = properties.entries().as_slice();
     let mut hint = 0;
     for (name, value) in members {
-        let (next, declared) = properties.validator_from(hint, name.as_str());
+        let (next, declared) = node_among(entries, hint, name.as_str());
         hint = next;
         if !is_accepted(declared, additional, value, ctx) {
             return false;
@@ -344,17 +346,18 @@ fn each_declared_with<M: PropertiesValidatorsMap<N>, N: IsValid>(
     ctx: &mut ValidationContext,
 ) -> bool
     ensures { Asks ctx.old ctx.new (both (names_mean N.means
-        (zip (M.names properties.now) (M.nodes properties.now))
+        (M.entries properties.now)
         None (object_of members.now.entries)) (always (is_empty (missing
         (required.now ∷ []) (object_of members.now.entries))))) result }
 {
     let mut met = false;
     let mut held: ArrayVec<Option<(&N, &Value)>, DEFERRED_MEMBERS> = ArrayVec::new();
+    let entries = properties.entries().as_slice();
     let mut hint = 0;
     for (name, value) in members {
         let name = name.as_str();
         met = is_met(met, name, required);
-        let (next, declared) = properties.validator_from(hint, name);
+        let (next, declared) = node_among(entries, hint, name);
         hint = next;
         let Some(subschema) = declared else {
             return false;

@@ -32,8 +32,9 @@ impl<K: Leaf, R: RegexEngine, N: IsValid> IsValid for KeywordOver<K, R, N> {
     }
 }
 
-/// Whether the keyword accepts the value; apart, so that a walk over leaves stays small.
-#[inline(never)]
+/// Whether the keyword accepts the value; inlined where a keyword is asked that is no leaf, so that
+/// one choice is made there.
+#[inline(always)]
 #[tactic(auto, unfolding(olk_tree::specs::Validators::answers_of))]
 fn keyword_accepts<K: Leaf, R: RegexEngine, N: IsValid>(
     keyword: &KeywordOver<K, R, N>,

@@ -18,6 +18,7 @@ use crate::accepted::Accepted;
 use crate::required::{has_both, is_met, is_present};
 use olk_base::{Node, ValidationContext};
 use olk_meaning::member;
+use olk_tree::entries::node_among;
 use olk_tree::properties::{Properties, SmallPropertiesWithRequired2};
 use olk_tree::properties_map::PropertiesMap;
 use olk_tree::validators_map::PropertiesValidatorsMap;
@@ -104,7 +105,7 @@ fn members_accepted<M: PropertiesValidatorsMap<N>, N: IsValid>(
     ctx: &mut ValidationContext,
 ) -> Accepted
     ensures { AsksOne ctx.old ctx.new (properties_mean N.means
-        (zip (M.names properties.now) (M.nodes properties.now))
+        (M.entries properties.now)
         (object_of members.now.entries)) result }
 {
     Accepted::one_if(all_accepted(properties, members, ctx))
@@ -120,7 +121,7 @@ fn members_accepted_with<M: PropertiesValidatorsMap<N>, N: IsValid>(
     ctx: &mut ValidationContext,
 ) -> Accepted
     ensures { AsksTwo ctx.old ctx.new (properties_mean N.means
-        (zip (M.names properties.now) (M.nodes properties.now))
+        (M.entries properties.now)
         (object_of members.now.entries))
         (always (is_empty (missing (name.now ∷ []) (object_of members.now.entries)))) result }
 {
@@ -154,10 +155,10 @@ fn all_accepted<M: PropertiesValidatorsMap<N>, N: IsValid>(
     ctx: &mut ValidationContext,
 ) -> bool
     ensures { Asks ctx.old ctx.new (properties_mean N.means
-        (zip (M.names properties.now) (M.nodes properties.now))
+        (M.entries properties.now)
         (object_of members.now.entries)) result }
 {
-    if members.len() / 2 < properties.names().len() {
+    if members.len() / 2 < properties.entries().len() {
         each_member_accepted(properties, members, ctx)
     } else {
         each_name_accepted(properties, members, ctx)
@@ -172,12 +173,13 @@ fn each_member_accepted<M: PropertiesValidatorsMap<N>, N: IsValid>(
     ctx: &mut ValidationContext,
 ) -> bool
     ensures { Asks ctx.old ctx.new (every (λ x. every (λ n. N.means n x.1) (option_to_list
-        (lookup_name x.0 (zip (M.names properties.now) (M.nodes properties.now)))))
+        (lookup_name x.0 (M.entries properties.now))))
         (listed (members_view members.now.entries))) result }
 {
+    let entries = properties.entries().as_slice();
     let mut hint = 0;
     for (name, value) in members {
-        let (next, declared) = properties.validator_from(hint, name.as_str());
+        let (next, declared) = node_among(entries, hint, name.as_str());
         hint = next;
         if !accepted_if_declared(declared, value, ctx) {
             return false;
@@ -196,11 +198,11 @@ fn all_accepted_with<M: PropertiesValidatorsMap<N>, N: IsValid>(
     ctx: &mut ValidationContext,
 ) -> bool
     ensures { Asks ctx.old ctx.new (both
-        (properties_mean N.means (zip (M.names properties.now) (M.nodes properties.now))
+        (properties_mean N.means (M.entries properties.now)
         (object_of members.now.entries))
         (always (is_empty (missing (name.now ∷ []) (object_of members.now.entries))))) result }
 {
-    if members.len() / 2 < properties.names().len() {
+    if members.len() / 2 < properties.entries().len() {
         each_member_accepted_with(properties, members, name, ctx)
     } else {
         is_present(members, name) && each_name_accepted(properties, members, ctx)
@@ -216,17 +218,18 @@ fn each_member_accepted_with<M: PropertiesValidatorsMap<N>, N: IsValid>(
 ) -> bool
     ensures { Asks ctx.old ctx.new (both
         (every (λ x. every (λ n. N.means n x.1) (option_to_list
-        (lookup_name x.0 (zip (M.names properties.now) (M.nodes properties.now)))))
+        (lookup_name x.0 (M.entries properties.now))))
         (listed (members_view members.now.entries)))
         (always (is_empty (missing (required.now ∷ [])
         (object_of members.now.entries))))) result }
 {
+    let entries = properties.entries().as_slice();
     let mut hint = 0;
     let mut met = false;
     for (name, value) in members {
         let name = name.as_str();
         met = is_met(met, name, required);
-        let (next, declared) = properties.validator_from(hint, name);
+        let (next, declared) = node_among(entries, hint, name);
         hint = next;
         if !accepted_if_declared(declared, value, ctx) {
             return false;
@@ -248,10 +251,10 @@ fn all_accepted_with_both<M: PropertiesValidatorsMap<N>, N: IsValid>(
     ensures { Asks ctx.old ctx.new (both
         (always (is_empty (missing (first.now ∷ second.now ∷ [])
         (object_of members.now.entries))))
-        (properties_mean N.means (zip (M.names properties.now) (M.nodes properties.now))
+        (properties_mean N.means (M.entries properties.now)
         (object_of members.now.entries))) result }
 {
-    if members.len() / 2 < properties.names().len() {
+    if members.len() / 2 < properties.entries().len() {
         each_member_accepted_with_both(properties, members, first, second, ctx)
     } else {
         has_both(members, first, second) && each_name_accepted(properties, members, ctx)
@@ -270,16 +273,17 @@ fn each_member_accepted_with_both<M: PropertiesValidatorsMap<N>, N: IsValid>(
         (always (is_empty (missing (first.now ∷ second.now ∷ [])
         (object_of members.now.entries))))
         (every (λ x. every (λ n. N.means n x.1) (option_to_list
-        (lookup_name x.0 (zip (M.names properties.now) (M.nodes properties.now)))))
+        (lookup_name x.0 (M.entries properties.now))))
         (listed (members_view members.now.entries)))) result }
 {
+    let entries = properties.entries().as_slice();
     let mut hint = 0;
     let (mut has_first, mut has_second) = (false, false);
     for (name, value) in members {
         let name = name.as_str();
         has_first = is_met(has_first, name, first);
         has_second = is_met(has_second, name, second);
-        let (next, declared) = properties.validator_from(hint, name);
+        let (next, declared) = node_among(entries, hint, name);
         hint = next;
         if !accepted_if_declared(declared, value, ctx) {
             return false;
@@ -310,11 +314,11 @@ fn each_name_accepted<M: PropertiesValidatorsMap<N>, N: IsValid>(
     ctx: &mut ValidationContext,
 ) -> bool
     ensures { Asks ctx.old ctx.new (properties_mean N.means
-        (zip (M.names properties.now) (M.nodes properties.now))
+        (M.entries properties.now)
         (object_of members.now.entries)) result }
 {
-    for (name, subschema) in properties.names().as_slice().iter().zip(properties.nodes()) {
-        if !accepted_if_present(subschema, member(members, name.as_str()), ctx) {
+    for entry in properties.entries().as_slice() {
+        if !accepted_if_present(&entry.node, member(members, entry.name.as_str()), ctx) {
             return false;
         }
     }

@@ -15,6 +15,7 @@ use crate::required::report_if_missing;
 use crate::{ErrorSink, Stop, Walk};
 use olk_base::{Node, ValidationContext};
 use olk_paths::Trail;
+use olk_tree::entries::node_among;
 use olk_tree::properties::{Properties, SmallPropertiesWithRequired2};
 use olk_tree::properties_map::PropertiesMap;
 use olk_tree::validators_map::PropertiesValidatorsMap;
@@ -72,15 +73,15 @@ fn walk_members<'a, M: PropertiesValidatorsMap<N>, N: Walk<'a> + 'a>(
 ) -> Result<(), Stop>
     ensures on { OnOk result (GoesOn sink.old sink.new
         (of_properties N.means N.first N.report ctx.old.answer
-        (zip (M.names properties.now) (M.nodes properties.now))
+        (M.entries properties.now)
         (object_of members.now.entries) (path_at trail.now))) }
     ensures stop { IfErr result (λ s. StopsBy s sink.old sink.new (IsErrorOf
         (of_properties N.means N.first N.report ctx.old.answer
-        (zip (M.names properties.now) (M.nodes properties.now))
+        (M.entries properties.now)
         (object_of members.now.entries) (path_at trail.now)))) }
     ensures context { OnlyAsks ctx.old ctx.new }
 {
-    if members.len() / 2 < properties.names().len() {
+    if members.len() / 2 < properties.entries().len() {
         walk_each_member(properties, members, trail, ctx, sink)
     } else {
         walk_each_name(properties, members, trail, ctx, sink)
@@ -98,18 +99,19 @@ fn walk_each_member<'a, M: PropertiesValidatorsMap<N>, N: Walk<'a> + 'a>(
 ) -> Result<(), Stop>
     ensures on { OnOk result (GoesOn sink.old sink.new
         (of_declared N.means N.first N.report ctx.old.answer
-        (members_declared (zip (M.names properties.now) (M.nodes properties.now))
+        (members_declared (M.entries properties.now)
         (listed (members_view members.now.entries))) (path_at trail.now))) }
     ensures stop { IfErr result (λ s. StopsBy s sink.old sink.new (IsErrorOf
         (of_declared N.means N.first N.report ctx.old.answer
-        (members_declared (zip (M.names properties.now) (M.nodes properties.now))
+        (members_declared (M.entries properties.now)
         (listed (members_view members.now.entries))) (path_at trail.now)))) }
     ensures context { OnlyAsks ctx.old ctx.new }
 {
+    let entries = properties.entries().as_slice();
     let mut hint = 0;
     for (name, value) in members {
         let name = name.as_str();
-        let (next, declared) = properties.validator_from(hint, name);
+        let (next, declared) = node_among(entries, hint, name);
         hint = next;
         walk_if_declared(declared, name, value, trail, ctx, sink)?;
     }
@@ -153,11 +155,11 @@ fn walk_each_name<'a, M: PropertiesValidatorsMap<N>, N: Walk<'a> + 'a>(
 ) -> Result<(), Stop>
     ensures on { OnOk result (GoesOn sink.old sink.new
         (of_properties N.means N.first N.report ctx.old.answer
-        (zip (M.names properties.now) (M.nodes properties.now))
+        (M.entries properties.now)
         (object_of members.now.entries) (path_at trail.now))) }
     ensures stop { IfErr result (λ s. StopsBy s sink.old sink.new (IsErrorOf
         (of_properties N.means N.first N.report ctx.old.answer
-        (zip (M.names properties.now) (M.nodes properties.now))
+        (M.entries properties.now)
         (object_of members.now.entries) (path_at trail.now)))) }
     ensures context { OnlyAsks ctx.old ctx.new }
 {

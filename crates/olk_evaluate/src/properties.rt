@@ -124,15 +124,15 @@ fn meet<'a, M: PropertiesValidatorsMap<N>, N: Show<'a> + 'a>(
     ctx: &mut ValidationContext,
 ) -> Result<Met<'a>, AllocError>
     ensures shown { IfOk result (λ m. HasMet (wanted_at N.tree N.means ctx.old.answer path.old)
-        (members_declared (zip (M.names properties.now) (M.nodes properties.now))
+        (members_declared (M.entries properties.now)
         (listed (members_view members.now.entries))) m) }
     ensures verdict { IfOk result (λ m. list_all is_valid (trees_of m.children.items)
-        ≡ (properties_mean N.means (zip (M.names properties.now) (M.nodes properties.now))
+        ≡ (properties_mean N.means (M.entries properties.now)
         (object_of members.now.entries)).accepts ctx.old.answer) }
     ensures path { path.new ≡ path.old }
     ensures context { OnlyAsks ctx.old ctx.new }
 {
-    let most = members.len().min(properties.names().len());
+    let most = members.len().min(properties.entries().len());
     let mut met: Met<'a> = Met::with_capacity(alloc, most)?;
     for (name, subschema, value) in properties.declared_members(members) {
         meet_member(alloc, subschema, name, value, path, ctx, &mut met)?;

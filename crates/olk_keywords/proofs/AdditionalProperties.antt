@@ -14,7 +14,6 @@ use Rattle.olk_base.specs.Kit.{Kit}
 use Rattle.olk_base.specs.declared.pattern.CompiledPattern.{CompiledPattern}
 use Rattle.olk_tree.specs.Answers.{Answers}
 use Rattle.olk_tree.specs.Tables.{Table}
-use Rattle.olk_tree.specs.declared.map.SmallMap.{SmallMap}
 use Rattle.olk_tree.specs.declared.node.KeywordOver.{KeywordOver}
 use Rattle.olk_meaning.specs.Conditions.{known_of, IsKnown}
 use Rattle.olk_meaning.specs.Plans.{Planned, plan_of, head, claims}
@@ -29,6 +28,7 @@ use Rattle.olk_make.specs.Forms.{IsAdditionalProperties}
 use Rattle.olk_make.specs.Making.{KeywordsMean, MakesRestriction}
 use Rattle.olk_make.specs.Standing.{StandAt, IsLast, Fills, DeclaredStand, PatternsStand, RestStands}
 use Rattle.olk_make.specs.declared.part.Beside.{Beside}
+use Rattle.olk_make.specs.declared.part.DeclaredNodes.{DeclaredNodes}
 use Rattle.olk_make.specs.declared.part.Part.{Part}
 use Rattle.olk_make.specs.declared.part.Patterns.{Patterns}
 use Rattle.olk_build.specs.Placing.{PartsAreBuilt, IsPart}
@@ -38,7 +38,7 @@ use Rattle.olk_keywords.proofs.Together.{neighbour_built, all_clean, all_spent}
 
 -- a neighbour that is built at a place is built at the same place under another name
 module _ {K R N : Type 0} {o : Kit K R} {answers : N → Answers} {ms : Members} {P Q : Path} {a b : Counts} (place : Q ≡ P) where
-  pub declared_there : {x : Option (SmallMap N)} → NeighbourIsBuilt o ms (λ m. DeclaredStand o answers m (Q // codes "properties")) x (codes "properties") Q a b
+  pub declared_there : {x : Option (DeclaredNodes N)} → NeighbourIsBuilt o ms (λ m. DeclaredStand o answers m (Q // codes "properties")) x (codes "properties") Q a b
       → NeighbourIsBuilt o ms (λ m. DeclaredStand o answers m (P // codes "properties")) x (codes "properties") P a b
   declared_there {x} = subst (λ W. NeighbourIsBuilt o ms (λ m. DeclaredStand o answers m (W // codes "properties")) x (codes "properties") W a b) place
 
@@ -102,8 +102,8 @@ module _ {K R N : Type 0} (o : Kit K R) (answers : N → Answers) (ms : Members)
 
   -- ---- how many there are
 
-  declared_counted : (x : Option (SmallMap N)) (a : Option Data) (L : Path) → Fills (λ x. DeclaredStand o answers x L) x a
-      → option_map (λ (m : SmallMap N). length m.names) x ≡ option_map (λ d. length (members d)) a
+  declared_counted : (x : Option (DeclaredNodes N)) (a : Option Data) (L : Path) → Fills (λ x. DeclaredStand o answers x L) x a
+      → option_map (λ (m : DeclaredNodes N). length m.names) x ≡ option_map (λ d. length (members d)) a
   declared_counted None None L h = refl
   declared_counted (Some m) (Some d) L h = ap Some (ap length h.names ∙ length-map (members d) (λ e. e.0))
   declared_counted None (Some d) L h = absurd h
@@ -159,7 +159,7 @@ module _ {K R N : Type 0} (o : Kit K R) (answers : N → Answers) (ms : Members)
         spends = all_spent o answers ms P (codes "additionalProperties") (codes "properties") (codes "patternProperties") d a m others_part.spends n declared.spends e patterns.spends;
       }
 
-      pub restriction_is_formed : (k : KeywordOver K R N) → IsAdditionalProperties P p.location (is_some r) (option_map (λ (m : SmallMap N). length m.names) b.properties)
+      pub restriction_is_formed : (k : KeywordOver K R N) → IsAdditionalProperties P p.location (is_some r) (option_map (λ (m : DeclaredNodes N). length m.names) b.properties)
           (option_map (λ (x : Patterns R N). length (zip x.patterns.items x.nodes.items)) b.patterns) plan.fused_one k
           → IsAdditionalProperties P (P // codes "additionalProperties") (is_object d) (option_map (λ d. length (members d)) (lookup_name (codes "properties") (listed ms)))
           (option_map (λ d. length (members d)) (lookup_name (codes "patternProperties") (listed ms))) (plan_of ms).fused_one k

@@ -37,7 +37,7 @@ use Rattle.olk_build.specs.Building.{RefusesMember, RefusesPart, RefusesFreeMemb
 use Rattle.olk_read.specs.Reading.{reads_of, IsShape}
 use Rattle.olk_make.specs.Standing.{StandAt, is_taken, PartStands}
 use Rattle.olk_build.specs.Placing.{IsPart}
-use Rattle.olk_make.specs.Making.{KeywordsMean, MakesMember, MakesClaims}
+use Rattle.olk_make.specs.Making.{KeywordsMean, MakesMember, MakesDependencies, MakesPropertyDependencies, MakesClaims}
 use Rattle.olk_keywords.specs.Parts.{MemberIsBuilt, ClaimsAreBuilt}
 use Rattle.olk_make.specs.declared.part.Part.{Part}
 use Rattle.olk_read.specs.declared.shape.Shape.{Shape}
@@ -215,6 +215,22 @@ module _ {K R N : Type 0} (o : Kit K R) (answers : N → Answers) where
           → MemberIsBuilt o answers ms ks (k, d) Q a b
       built_of_shape ks make = member_built ks (subst (λ y. MakesMember o answers y p.location p.nodes.items ks) (sym q) make)
 
+      nodes_stand : StandAt o answers (reads_of x) p.nodes.items d p.location
+      nodes_stand = subst₂ (λ y L. StandAt o answers (reads_of y) p.nodes.items d L) q (sym stands.place) stands.nodes
+
+      -- the keys that it has
+      pub keys_of_shape : (w : KeywordOver K R N) → MakesDependencies o answers x p.location p.nodes.items w → IsDependencies (P // k) (map (λ e. e.0) (members d)) w
+      keys_of_shape w make = subst (λ L. IsDependencies L (map (λ e. e.0) (members d)) w) stands.place (make (k, d) shape_is nodes_stand)
+
+      pub keys_without_nodes : reads_of x ≡ Nothing → (w : KeywordOver K R N) → MakesDependencies o answers x p.location [] w → IsDependencies (P // k) (map (λ e. e.0) (members d)) w
+      keys_without_nodes r w make = subst (λ L. IsDependencies L (map (λ e. e.0) (members d)) w) stands.place
+          (make (k, d) shape_is (subst (λ y. StandAt o answers y [] d p.location) (sym r) refl))
+
+      pub texts_of_shape : (w : KeywordOver K R N) → MakesPropertyDependencies o answers x p.location p.nodes.items w
+          → IsPropertyDependencies (P // k) (map (λ e. e.0) (members d)) (map (λ e. map (λ c. c.0) (members e.1)) (members d)) w
+      texts_of_shape w make =
+          subst (λ L. IsPropertyDependencies L (map (λ e. e.0) (members d)) (map (λ e. map (λ c. c.0) (members e.1)) (members d)) w) stands.place (make (k, d) shape_is nodes_stand)
+
       -- there are as many nodes as branches
       pub branches_counted : reads_of x ≡ Branches → length p.nodes.items ≡ length (items_of_array d)
       branches_counted r =
@@ -346,41 +362,19 @@ module _ {K R N : Type 0} (o : Kit K R) (answers : N → Answers) where
       no_other_dependent_required f =
           let r = only_dependent_required p.shape (shape_named p.shape (codes "dependentRequired") d (stands p c (codes "dependentRequired") d P a b h refl).shape refl) in f r.0 r.1 r.2
 
-      pub dependent_required_is_formed : (n : List Name) (v : Vec (Vec (String Global) Global) Global) → p.shape ≡ shape.DependentRequired n v
-          → (k : KeywordOver K R N) → IsDependencies p.location n k → IsDependencies (P // codes "dependentRequired") (map (λ e. e.0) (members d)) k
-      dependent_required_is_formed n v q k f =
-          subst₂ (λ L ns. IsDependencies L ns k) (stands p c (codes "dependentRequired") d P a b h refl).place (shape_is p c (codes "dependentRequired") d P a b h refl _ q).2 f
-
     module _ (h : IsPart o answers p c (codes "dependentSchemas") d (P // codes "dependentSchemas") a b) where
       pub no_other_dependent_schemas : ((n : List Name) → p.shape ≡ shape.DependentSchemas n → ⊥) → ⊥
       no_other_dependent_schemas f =
           let r = only_dependent_schemas p.shape (shape_named p.shape (codes "dependentSchemas") d (stands p c (codes "dependentSchemas") d P a b h refl).shape refl) in f r.0 r.1
 
-      pub dependent_schemas_is_formed : (n : List Name) → p.shape ≡ shape.DependentSchemas n → (k : KeywordOver K R N) → IsDependencies p.location n k
-          → IsDependencies (P // codes "dependentSchemas") (map (λ e. e.0) (members d)) k
-      dependent_schemas_is_formed n q k f =
-          subst₂ (λ L ns. IsDependencies L ns k) (stands p c (codes "dependentSchemas") d P a b h refl).place (shape_is p c (codes "dependentSchemas") d P a b h refl _ q).2 f
-
     module _ (h : IsPart o answers p c (codes "dependencies") d (P // codes "dependencies") a b) where
       pub no_other_dependencies : ((n : List Name) (v : Vec (Option (Vec (String Global) Global)) Global) → p.shape ≡ shape.Dependencies n v → ⊥) → ⊥
       no_other_dependencies f = let r = only_dependencies p.shape (shape_named p.shape (codes "dependencies") d (stands p c (codes "dependencies") d P a b h refl).shape refl) in f r.0 r.1 r.2
-
-      pub dependencies_is_formed : (n : List Name) (v : Vec (Option (Vec (String Global) Global)) Global) → p.shape ≡ shape.Dependencies n v
-          → (k : KeywordOver K R N) → IsDependencies p.location n k → IsDependencies (P // codes "dependencies") (map (λ e. e.0) (members d)) k
-      dependencies_is_formed n v q k f = subst₂ (λ L ns. IsDependencies L ns k) (stands p c (codes "dependencies") d P a b h refl).place (shape_is p c (codes "dependencies") d P a b h refl _ q).2 f
 
     module _ (h : IsPart o answers p c (codes "propertyDependencies") d (P // codes "propertyDependencies") a b) where
       pub no_other_property_dependencies : ((n : List Name) (v : Vec (List Name) Global) → p.shape ≡ shape.PropertyDependencies n v → ⊥) → ⊥
       no_other_property_dependencies f =
           let r = only_property_dependencies p.shape (shape_named p.shape (codes "propertyDependencies") d (stands p c (codes "propertyDependencies") d P a b h refl).shape refl) in f r.0 r.1 r.2
-
-      pub property_dependencies_is_formed : (n : List Name) (v : Vec (List Name) Global) → p.shape ≡ shape.PropertyDependencies n v → (k : KeywordOver K R N)
-          → IsPropertyDependencies p.location n v.items k → IsPropertyDependencies (P // codes "propertyDependencies") (map (λ e. e.0) (members d))
-          (map (λ e. map (λ c. c.0) (members e.1)) (members d)) k
-      property_dependencies_is_formed n v q k f =
-          let s = shape_is p c (codes "propertyDependencies") d P a b h refl _ q in
-          subst (λ L. IsPropertyDependencies L (map (λ e. e.0) (members d)) (map (λ e. map (λ c. c.0) (members e.1)) (members d)) k)
-          (stands p c (codes "propertyDependencies") d P a b h refl).place (subst₂ (λ ns ts. IsPropertyDependencies p.location ns ts k) s.2 s.3 f)
 
   -- ---- patterns, where nothing is restricted
 

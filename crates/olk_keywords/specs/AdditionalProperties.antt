@@ -6,7 +6,7 @@ use Rattle.olk_base.specs.Count.{Counts}
 use Rattle.olk_reports.specs.declared.error.BuildError.{BuildError}
 use Rattle.olk_base.specs.Kit.{Kit}
 use Rattle.olk_tree.specs.Answers.{Answers}
-use Rattle.olk_tree.specs.declared.map.SmallMap.{SmallMap}
+use Rattle.olk_make.specs.declared.part.DeclaredNodes.{DeclaredNodes}
 use Rattle.olk_meaning.specs.Conditions.{known_of}
 use Rattle.olk_make.specs.Standing.{DeclaredStand, PatternsStand}
 use Rattle.olk_make.specs.declared.part.Patterns.{Patterns}
@@ -14,7 +14,7 @@ use Rattle.olk_keywords.specs.Together.{BuildsNeighbour}
 
 module _ {K R N : Type 0} (o : Kit K R) (answers : N → Answers) (ms : Members) where
   -- the declared names with their nodes
-  abbrev pub BuildsDeclared : Path → Counts → Counts → Result (Option (SmallMap N)) BuildError → Type 0
+  abbrev pub BuildsDeclared : Path → Counts → Counts → Result (Option (DeclaredNodes N)) BuildError → Type 0
   BuildsDeclared P old new r = BuildsNeighbour o ms (λ x. DeclaredStand o answers x (P // codes "properties")) (codes "properties") P old new r
 
   -- and what `patternProperties` holds

@@ -15,12 +15,11 @@ ghost use Rattle.olk_keywords.specs.Parts.{Gives};
 use olk_base::{MakeLeaf, MakeRegex};
 use olk_build::{Context, compile_member};
 use olk_make::additional_properties::make;
-use olk_make::{Beside, Part, Patterns};
+use olk_make::{Beside, DeclaredNodes, Part, Patterns};
 use olk_meaning::{Plan, member};
 use olk_read::Shape;
 use olk_reports::BuildError;
 use olk_tree::built_node::BuiltNode;
-use olk_tree::map::SmallMap;
 use olk_tree::node::KeywordOver;
 use serde_json::{Map, Value};
 use std::alloc::Global;
@@ -34,7 +33,7 @@ fn compile_properties<'a, L: MakeLeaf, M: MakeRegex, N: BuiltNode<L::Leaf, M::En
     alloc: Global,
     ctx: &mut Context<'_, L, M>,
     parent: &'a Map<String, Value>,
-) -> Result<Option<SmallMap<N>>, BuildError<'a>>
+) -> Result<Option<DeclaredNodes<N>>, BuildError<'a>>
     ensures builds { BuildsDeclared (kit L.Leaf.Leaf M.Engine.RegexEngine) N.answers
         (members_view parent.now.entries) ctx.old.place
         ctx.old.meter.now ctx.new.meter.now result }
@@ -52,7 +51,7 @@ fn compile_properties<'a, L: MakeLeaf, M: MakeRegex, N: BuiltNode<L::Leaf, M::En
     let Shape::Properties(names) = shape else {
         unreachable!()
     };
-    Ok(Some(SmallMap { names, nodes }))
+    Ok(Some(DeclaredNodes { names, nodes }))
 }
 
 /// What the parent's `patternProperties` holds, if it stands there, with what its patterns say of

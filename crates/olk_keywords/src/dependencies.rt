@@ -136,7 +136,10 @@ pub fn compile_dependent_schemas<'a, L: MakeLeaf, M: MakeRegex, N: BuiltNode<L::
             let Shape::DependentSchemas(keys) = shape else {
                 unreachable!()
             };
-            Some(Ok(make_schemas(location, keys, nodes)))
+            match make_schemas(alloc, location, keys, nodes) {
+                Ok(keyword) => Some(Ok(keyword)),
+                Err(error) => Some(Err(BuildError::Memory(error))),
+            }
         }
         Err(error) => Some(Err(error)),
     }

@@ -33,7 +33,7 @@ use Rattle.olk_meaning.proofs.Heads.{names_of}
 use Rattle.olk_meaning.proofs.OneFused.{clean_one_fused}
 use Rattle.olk_meaning.proofs.TakenOver.{free_takes_nothing}
 use Rattle.olk_tree.specs.Additional.{placed, mapped_places, patterns_in, required_text, required_place}
-use Rattle.olk_tree.specs.Maps.{nodes_in}
+use Rattle.olk_tree.specs.Maps.{nodes_in, mapped}
 use Rattle.olk_tree.specs.Ascending.{Ascend}
 use Rattle.olk_tree.specs.Questions.{Question}
 use Rattle.olk_tree.specs.Sides.{AnswersAs, EntriesAnswer, PatternsAnswer, RestAnswers, RestrictionStands}
@@ -41,7 +41,6 @@ use Rattle.olk_tree.specs.Tables.{table_says}
 use Rattle.olk_tree.proofs.RestrictionMeans.{restriction_accepts, restriction_asks, restriction_finds, restriction_shows}
 use Rattle.olk_tree.specs.declared.additional_properties.AdditionalProperties.{AdditionalProperties}
 use Rattle.olk_tree.specs.declared.additional_properties.RequiredName.{RequiredName}
-use Rattle.olk_tree.specs.declared.map.SmallMap.{SmallMap}
 use Rattle.olk_tree.specs.declared.properties_map.PropertiesMap.{PropertiesMap}
 use Rattle.olk_tree.specs.declared.node.KeywordOver.{KeywordOver}
 use Rattle.olk_tree.specs.declared.node.KeywordOver.TheVariants as keyword
@@ -55,9 +54,10 @@ use Rattle.olk_make.specs.Holding.{StandEach, which}
 use Rattle.olk_make.specs.Making.{KeywordsMean, MakesRestriction, MakesPart}
 use Rattle.olk_make.specs.Standing.{StandAt, Fills, DeclaredStand, PatternsStand, RestStands, BesideStands}
 use Rattle.olk_make.specs.declared.part.Beside.{Beside}
+use Rattle.olk_make.specs.declared.part.DeclaredNodes.{DeclaredNodes}
 use Rattle.olk_make.specs.declared.part.Patterns.{Patterns}
 use Rattle.olk_make.specs.declared.part.Taken.{Taken}
-use Rattle.olk_make.proofs.Formed.{has_form, is_formed, just_one_formed, stand_formed, map_formed, entry_formed, case_formed}
+use Rattle.olk_make.proofs.Formed.{has_form, is_formed, just_one_formed, stand_formed, held_keys, held_count, held_nodes, held_formed, map_formed, entry_formed, case_formed}
 use Rattle.olk_tree.specs.Formed.{is_map_formed, names_beside, is_table_formed}
 use Rattle.olk_tree.specs.Validators.{answers_of}
 use Rattle.olk_tree.proofs.Formed.{table_formed}
@@ -130,15 +130,18 @@ module _ {K R N : Type 0} (o : Kit K R) (answers : N → Answers) where
     there : is_some x ≡ is_some a
     once : has_repeat (map (λ e. e.0) (entries_in a)) ≡ false
 
-  declared_side : (b : Option (SmallMap N)) (x : Option (PropertiesMap N)) (a : Option Data) (L : Path) → IsMapOf b x → Fills (λ m. DeclaredStand o answers m L) b a → DeclaredSide x a L
+  declared_side : (b : Option (DeclaredNodes N)) (x : Option (PropertiesMap N)) (a : Option Data) (L : Path) → IsMapOf b x → Fills (λ m. DeclaredStand o answers m L) b a → DeclaredSide x a L
   declared_side None None None L form h = record { nodes = []; placed_zip = refl; declared = tt; there = refl; once = refl }
   declared_side (Some b) (Some m) (Some d) L form h = record {
-    nodes = nodes_in m;
-    placed_zip = ap (λ ks. zip ks (placed (nodes_in m))) (form.0 ∙ h.names);
-    declared = entries_answer (nodes_in m) (members d) L (subst (λ l. StandEach o answers l (members d) L) (sym form.1) h.nodes);
+    nodes = b.nodes.items;
+    placed_zip = λ i. zip (held_keys o answers (mapped m) b.nodes.items (members d) L held h.nodes i) (placed (held_nodes o answers (mapped m) b.nodes.items (members d) L held h.nodes i));
+    declared = entries_answer b.nodes.items (members d) L h.nodes;
     there = refl;
-    once = ap has_repeat (sym h.names) ∙ ascend_once b.names form.3;
+    once = ap has_repeat (sym h.names) ∙ ascend_once b.names form.2;
   }
+    where
+      held : mapped m ≡ zip (map (λ e. e.0) (members d)) b.nodes.items
+      held = form.0 ∙ ap (λ ks. zip ks b.nodes.items) h.names
   declared_side None (Some m) a L form h = absurd form
   declared_side (Some b) None a L form h = absurd form
   declared_side None x (Some d) L form h = absurd h
@@ -188,20 +191,22 @@ module _ {K R N : Type 0} (o : Kit K R) (answers : N → Answers) where
 
   -- ---- the form of what stands zip it
 
-  declared_names : (b : Option (SmallMap N)) (x : Option (PropertiesMap N)) (a : Option Data) (L : Path) → IsMapOf b x → Fills (λ m. DeclaredStand o answers m L) b a
+  declared_names : (b : Option (DeclaredNodes N)) (x : Option (PropertiesMap N)) (a : Option Data) (L : Path) → IsMapOf b x → Fills (λ m. DeclaredStand o answers m L) b a
       → names_beside x ≡ map (λ e. e.0) (entries_in a)
   declared_names None None None L form h = refl
-  declared_names (Some b) (Some m) (Some d) L form h = form.0 ∙ h.names
+  declared_names (Some b) (Some m) (Some d) L form h = held_keys o answers (mapped m) b.nodes.items (members d) L (form.0 ∙ ap (λ ks. zip ks b.nodes.items) h.names) h.nodes
   declared_names None (Some m) a L form h = absurd form
   declared_names (Some b) None a L form h = absurd form
   declared_names None x (Some d) L form h = absurd h
   declared_names (Some b) x None L form h = absurd h
 
-  declared_formed : (b : Option (SmallMap N)) (x : Option (PropertiesMap N)) (a : Option Data) (L : Path) → IsMapOf b x → Fills (λ m. DeclaredStand o answers m L) b a
-      → option_map_or (λ m. is_map_formed m && list_all (has_form o answers) (nodes_in m)) x true ≡ true
+  declared_formed : (b : Option (DeclaredNodes N)) (x : Option (PropertiesMap N)) (a : Option Data) (L : Path) → IsMapOf b x → Fills (λ m. DeclaredStand o answers m L) b a
+      → option_map_or (λ m. is_map_formed m && list_all (has_form o answers) (nodes_in (mapped m))) x true ≡ true
   declared_formed None None None L form h = refl
   declared_formed (Some b) (Some m) (Some d) L form h =
-      and_from _ _ (map_formed m (length b.names) (ap length form.0) form.2) (stand_formed o answers (nodes_in m) (members d) L (subst (λ l. StandEach o answers l (members d) L) (sym form.1) h.nodes))
+      let held : mapped m ≡ zip (map (λ e. e.0) (members d)) b.nodes.items = form.0 ∙ ap (λ ks. zip ks b.nodes.items) h.names in
+      and_from _ _ (map_formed m (length b.names) (held_count o answers (mapped m) b.nodes.items (members d) L held h.nodes ∙ ap length (sym h.names)) form.1)
+      (held_formed o answers (mapped m) b.nodes.items (members d) L held h.nodes)
   declared_formed None (Some m) a L form h = absurd form
   declared_formed (Some b) None a L form h = absurd form
   declared_formed None x (Some d) L form h = absurd h
@@ -313,9 +318,9 @@ module _ {K R N : Type 0} (o : Kit K R) (answers : N → Answers) where
 
   -- ---- the form, by what there is
 
-  map_for : (b : Option (SmallMap N)) (x : Option (PropertiesMap N)) → IsMapOf b x → HasMapFor (option_map (λ (m : SmallMap N). length m.names) b) x
+  map_for : (b : Option (DeclaredNodes N)) (x : Option (PropertiesMap N)) → IsMapOf b x → HasMapFor (option_map (λ (m : DeclaredNodes N). length m.names) b) x
   map_for None None h = tt
-  map_for (Some b) (Some m) h = h.2
+  map_for (Some b) (Some m) h = h.1
   map_for None (Some m) h = absurd h
   map_for (Some b) None h = absurd h
 
@@ -330,7 +335,7 @@ module _ {K R N : Type 0} (o : Kit K R) (answers : N → Answers) where
       by (Some v) q = ap (option_map length) q
 
   pub is_additional_properties : (k : KeywordOver K R N) (P L : Path) (rest : Option N) (b : Beside R N) (n : Option Name) → IsFormOfAdditionalProperties P L rest b n k
-      → IsAdditionalProperties P L (is_some rest) (option_map (λ (m : SmallMap N). length m.names) b.properties)
+      → IsAdditionalProperties P L (is_some rest) (option_map (λ (m : DeclaredNodes N). length m.names) b.properties)
       (option_map (λ (x : Patterns R N). length (zip x.patterns.items x.nodes.items)) b.patterns) n k
   is_additional_properties (keyword.AdditionalProperties k) P L rest b n form =
       (ap is_some form.0, map_for b.properties k.value.properties form.1, many_patterns b.patterns k.value form.2, form.3, form.4)

@@ -21,20 +21,21 @@ use Rattle.olk_meaning.specs.Dependencies.{due_entries, are_lists, dependency_ac
 use Rattle.olk_meaning.proofs.Dependencies as fact
 use Rattle.olk_tree.specs.Questions.{always, every}
 use Rattle.olk_tree.specs.Dependencies.{due_nodes}
-use Rattle.olk_tree.specs.Validators.{answers_of}
 use Rattle.olk_tree.specs.declared.map.SmallMap.{SmallMap}
+use Rattle.olk_tree.specs.Maps.{nodes_in, named}
+use Rattle.olk_tree.specs.Validators.{answers_of}
 use Rattle.olk_tree.specs.declared.node.KeywordOver.{KeywordOver}
 use Rattle.olk_tree.specs.declared.node.KeywordOver.TheVariants as keyword
 use Rattle.olk_tree.specs.Answers.{Answers}
 use Rattle.olk_tree.specs.Places.{Stands}
 use Rattle.olk_read.specs.Lists.{list_of, names_in, names_in_list}
-use Rattle.olk_make.specs.Forms.{IsListAt, AreListsAt, AreInOrder}
+use Rattle.olk_make.specs.Forms.{IsListAt, AreListsAt, AreInOrder, IsDependencies, IsFormOfDependencies}
 use Rattle.olk_make.specs.Holding.{StandEach}
 use Rattle.olk_read.specs.declared.shape.Shape.TheVariants as shape
-use Rattle.olk_make.specs.Making.{KeywordMeans, MakesMember}
+use Rattle.olk_make.specs.Making.{KeywordMeans, MakesDependencies, MakesMember}
 use Rattle.olk_make.proofs.Entries.{EntryAnswers, AnswersFor, AnswerEach, each_accept, each_ask, each_find, each_show, schema_answers, schema_answer, schemas_answer}
 use Rattle.olk_make.proofs.Held.{question, shown, found, one, same_within}
-use Rattle.olk_make.proofs.Formed.{has_form, is_formed, just_one_formed, each_formed}
+use Rattle.olk_make.proofs.Formed.{has_form, is_formed, just_one_formed, each_keys, each_held_formed}
 
 -- an entry that is a list of names wants each of them, at the keyword itself
 abbrev list_answers : EntryAnswers
@@ -71,89 +72,89 @@ module _ {K R N : Type 0} (o : Kit K R) (answers : N → Answers) where
 
   -- ---- the validator
 
-  abbrev pub dependencies_of : SmallMap N → Path → KeywordOver K R N
+  abbrev dependencies_of : SmallMap N → Path → KeywordOver K R N
   dependencies_of m L = keyword.Dependencies (record { dependencies = m; location = L })
 
-  dependencies_formed : (m : SmallMap N) (L : Path) → list_all (has_form o answers) m.nodes.items ≡ true → is_formed o answers (dependencies_of m L) ≡ true
+  dependencies_formed : (m : SmallMap N) (L : Path) → list_all (has_form o answers) (nodes_in (named m)) ≡ true → is_formed o answers (dependencies_of m L) ≡ true
   unfolding answers_of
   dependencies_formed m L h = h
 
-  module _ (w : EntryAnswers) (m : SmallMap N) (L : Path) (es : List (Name × Data)) (names : m.names ≡ map (λ e. e.0) es) (each : AnswerEach o answers w m.nodes.items es L) (u : Bool) (v : Data) where
-    abbrev due_of : List Name → List N
-    due_of ks = due_nodes (zip ks m.nodes.items) v
+  module _ (w : EntryAnswers) (m : SmallMap N) (ns : List N) (L : Path) (es : List (Name × Data)) (held : named m ≡ zip (map (λ e. e.0) es) ns) (each : AnswerEach o answers w ns es L) (u : Bool) (v : Data) where
+    abbrev due_here : List N
+    due_here = due_nodes (zip (map (λ e. e.0) es) ns) v
 
     abbrev due : List (Name × Data)
     due = filter_once (λ e. has e.0 v) es
 
-    dues : AnswerEach o answers w (due_of (map (λ e. e.0) es)) due L
-    dues = due_answer w v m.nodes.items es L each
+    dues : AnswerEach o answers w due_here due L
+    dues = due_answer w v ns es L each
 
     due_accept : (question o answers (dependencies_of m L) v).accepts u ≡ list_all (λ e. w.verdict u e v) due
     unfolding answers_of
-    due_accept = ap (λ ks. (every (λ n. (answers n).means v) (due_of ks)).accepts u) names ∙ each_accept o answers w u v (due_of (map (λ e. e.0) es)) due L dues
+    due_accept = ap (λ ds. (every (λ n. (answers n).means v) (due_nodes ds v)).accepts u) held ∙ each_accept o answers w u v due_here due L dues
 
     due_ask : (question o answers (dependencies_of m L) v).asks u ≤ sum_by (λ e. w.asked u e v) due
     unfolding answers_of
-    due_ask = subst (λ ks. (every (λ n. (answers n).means v) (due_of ks)).asks u ≤ sum_by (λ e. w.asked u e v) due) (sym names) (each_ask o answers w u v (due_of (map (λ e. e.0) es)) due L dues)
+    due_ask = subst (λ ds. (every (λ n. (answers n).means v) (due_nodes ds v)).asks u ≤ sum_by (λ e. w.asked u e v) due) (sym held) (each_ask o answers w u v due_here due L dues)
 
     due_find : (Q : Path) → found o answers u (dependencies_of m L) v Q ∼ flat_map (λ e. w.faults u e v L Q) due
     unfolding answers_of
     due_find Q =
-        subst (λ ks. flat_map (λ n. (answers n).report u v Q) (due_of ks) ∼ flat_map (λ e. w.faults u e v L Q) due) (sym names) (each_find o answers w u v Q (due_of (map (λ e. e.0) es)) due L dues)
+        subst (λ ds. flat_map (λ n. (answers n).report u v Q) (due_nodes ds v) ∼ flat_map (λ e. w.faults u e v L Q) due) (sym held) (each_find o answers w u v Q due_here due L dues)
 
     due_show : (Q : Path) → shown o answers u (dependencies_of m L) v Q ≡ plain L Q (map (λ e. w.shown u e v L Q) due)
     unfolding answers_of
-    due_show Q = ap (λ ks. plain L Q (map (λ n. (answers n).tree u v Q) (due_of ks))) names ∙ ap (plain L Q) (each_show o answers w u v Q (due_of (map (λ e. e.0) es)) due L dues)
+    due_show Q = ap (λ ds. plain L Q (map (λ n. (answers n).tree u v Q) (due_nodes ds v))) held ∙ ap (plain L Q) (each_show o answers w u v Q due_here due L dues)
 
   -- ---- the three keywords
 
-  module _ (m : SmallMap N) (L : Path) (d : Data) (names : m.names ≡ map (λ e. e.0) (members d)) (ms : Members) (P : Path) where
-    pub means_dependent_required : are_lists d ≡ true → AnswerEach o answers list_answers m.nodes.items (members d) L → L ≡ P // codes "dependentRequired"
+  module _ (m : SmallMap N) (ns : List N) (L : Path) (d : Data) (held : named m ≡ zip (map (λ e. e.0) (members d)) ns) (ms : Members) (P : Path) where
+    pub means_dependent_required : are_lists d ≡ true → AnswerEach o answers list_answers ns (members d) L → L ≡ P // codes "dependentRequired"
         → KeywordMeans o answers ms (dependencies_of m L ∷ []) (codes "dependentRequired", d) P
     means_dependent_required lists each p = record {
       holds = one o answers ms (dependencies_of m L) (codes "dependentRequired", d) dependent_required P
-          (λ u v. due_accept list_answers m L (members d) names each u v ∙ sym (fact.dependent_required_accepts o.world ms d u v lists))
-          (λ u v. same_within _ _ _ (due_ask list_answers m L (members d) names each u v) (fact.dependent_required_asks o.world ms d u v ∙ sym (no_sum (due_entries d v))))
+          (λ u v. due_accept list_answers m ns L (members d) held each u v ∙ sym (fact.dependent_required_accepts o.world ms d u v lists))
+          (λ u v. same_within _ _ _ (due_ask list_answers m ns L (members d) held each u v) (fact.dependent_required_asks o.world ms d u v ∙ sym (no_sum (due_entries d v))))
           (λ u v Q. subst (λ fs. found o answers u (dependencies_of m L) v Q ∼ fs)
           (ap (λ M. flat_map (λ e. required_faults (texts e.1) v M Q) (due_entries d v)) p ∙ sym (fact.dependent_required_report o.world ms d u v lists P Q))
-          (due_find list_answers m L (members d) names each u v Q));
+          (due_find list_answers m ns L (members d) held each u v Q));
       shows =
-          λ u h v Q. ap (λ t. t ∷ []) (due_show list_answers m L (members d) names each u v Q
+          λ u h v Q. ap (λ t. t ∷ []) (due_show list_answers m ns L (members d) held each u v Q
           ∙ ap (λ M. plain M Q (map (λ e. erring M Q (required_faults (texts e.1) v M Q)) (due_entries d v))) p) ∙ sym (fact.dependent_required_child o.world ms d u v lists P Q);
-      formed = just_one_formed o answers (dependencies_of m L) (dependencies_formed m L (each_formed o answers list_answers m.nodes.items (members d) L each));
+      formed = just_one_formed o answers (dependencies_of m L) (dependencies_formed m L (each_held_formed o answers (named m) ns (members d) L held list_answers each));
     }
       where
         no_sum : (es : List (Name × Data)) → sum_by (λ e. 0) es ≡ 0
         no_sum [] = refl
         no_sum (e ∷ es) = sum_by-cons (λ e. 0) e es ∙ ap (λ n. 0 + n) (no_sum es)
 
-    pub means_dependent_schemas : AnswerEach o answers (schema_answers o answers) m.nodes.items (members d) L → L ≡ P // codes "dependentSchemas"
+    pub means_dependent_schemas : AnswerEach o answers (schema_answers o answers) ns (members d) L → L ≡ P // codes "dependentSchemas"
         → KeywordMeans o answers ms (dependencies_of m L ∷ []) (codes "dependentSchemas", d) P
     means_dependent_schemas each p = record {
       holds = one o answers ms (dependencies_of m L) (codes "dependentSchemas", d) dependent_schemas P
-          (λ u v. due_accept (schema_answers o answers) m L (members d) names each u v ∙ sym (fact.dependent_schemas_accepts o.world ms d u v))
-          (λ u v. same_within _ _ _ (due_ask (schema_answers o answers) m L (members d) names each u v) (fact.dependent_schemas_asks o.world ms d u v))
+          (λ u v. due_accept (schema_answers o answers) m ns L (members d) held each u v ∙ sym (fact.dependent_schemas_accepts o.world ms d u v))
+          (λ u v. same_within _ _ _ (due_ask (schema_answers o answers) m ns L (members d) held each u v) (fact.dependent_schemas_asks o.world ms d u v))
           (λ u v Q. subst (λ fs. found o answers u (dependencies_of m L) v Q ∼ fs)
           (ap (λ M. flat_map (λ e. report o.world u e.1 v (M // e.0) Q) (due_entries d v)) p ∙ sym (fact.dependent_schemas_report o.world ms d u v P Q))
-          (due_find (schema_answers o answers) m L (members d) names each u v Q));
+          (due_find (schema_answers o answers) m ns L (members d) held each u v Q));
       shows =
-          λ u h v Q. ap (λ t. t ∷ []) (due_show (schema_answers o answers) m L (members d) names each u v Q
+          λ u h v Q. ap (λ t. t ∷ []) (due_show (schema_answers o answers) m ns L (members d) held each u v Q
           ∙ ap (λ M. plain M Q (map (λ e. tree o.world u e.1 v (M // e.0) Q) (due_entries d v))) p) ∙ sym (fact.dependent_schemas_child o.world ms d u v P Q);
-      formed = just_one_formed o answers (dependencies_of m L) (dependencies_formed m L (each_formed o answers (schema_answers o answers) m.nodes.items (members d) L each));
+      formed = just_one_formed o answers (dependencies_of m L) (dependencies_formed m L (each_held_formed o answers (named m) ns (members d) L held (schema_answers o answers) each));
     }
 
-    pub means_dependencies : AnswerEach o answers dependency_answers m.nodes.items (members d) L → L ≡ P // codes "dependencies"
+    pub means_dependencies : AnswerEach o answers dependency_answers ns (members d) L → L ≡ P // codes "dependencies"
         → KeywordMeans o answers ms (dependencies_of m L ∷ []) (codes "dependencies", d) P
     means_dependencies each p = record {
       holds = one o answers ms (dependencies_of m L) (codes "dependencies", d) dependencies P
-          (λ u v. due_accept dependency_answers m L (members d) names each u v ∙ sym (fact.dependencies_accepts o.world ms d u v))
-          (λ u v. same_within _ _ _ (due_ask dependency_answers m L (members d) names each u v) (fact.dependencies_asks o.world ms d u v))
+          (λ u v. due_accept dependency_answers m ns L (members d) held each u v ∙ sym (fact.dependencies_accepts o.world ms d u v))
+          (λ u v. same_within _ _ _ (due_ask dependency_answers m ns L (members d) held each u v) (fact.dependencies_asks o.world ms d u v))
           (λ u v Q. like_through (subst (λ fs. found o answers u (dependencies_of m L) v Q ∼ fs) (ap (λ M. flat_map (λ e. dependency_report o.world u e v M Q) (due_entries d v)) p)
-          (due_find dependency_answers m L (members d) names each u v Q)) (∼_sym (fact.dependencies_report o.world ms d u v P Q)));
+          (due_find dependency_answers m ns L (members d) held each u v Q)) (∼_sym (fact.dependencies_report o.world ms d u v P Q)));
       shows =
-          λ u h v Q. ap (λ t. t ∷ []) (due_show dependency_answers m L (members d) names each u v Q
+          λ u h v Q. ap (λ t. t ∷ []) (due_show dependency_answers m ns L (members d) held each u v Q
           ∙ ap (λ M. plain M Q (map (λ e. dependency_shown o.world u e v M Q) (due_entries d v))) p) ∙ sym (fact.dependencies_child o.world ms d u v P Q);
-      formed = just_one_formed o answers (dependencies_of m L) (dependencies_formed m L (each_formed o answers dependency_answers m.nodes.items (members d) L each));
+      formed = just_one_formed o answers (dependencies_of m L) (dependencies_formed m L (each_held_formed o answers (named m) ns (members d) L held dependency_answers each));
     }
 
   -- ---- what is made of lists and nodes
@@ -222,19 +223,49 @@ module _ {K R N : Type 0} (o : Kit K R) (answers : N → Answers) where
       by (Some v) false a schemas ns h same stand later = absurd (true≢false (ap is_some same))
       by None true a schemas ns h same stand later = absurd (true≢false (sym (ap is_some same)))
 
-  pub makes_dependent_required : (m : SmallMap N) (lists : Vec (Vec (String Global) Global) Global) (L : Path) → AreListsAt o answers L lists.items m.nodes.items
-      → MakesMember o answers (shape.DependentRequired m.names lists) L [] (dependencies_of m L ∷ [])
-  makes_dependent_required m lists L is ms x P p s h = subst (λ n. KeywordMeans o answers ms (dependencies_of m L ∷ []) (n, x.1) P) (sym s.0)
-      (means_dependent_required m L x.1 s.2 ms P s.3 (lists_answer lists.items m.nodes.items (members x.1) L is s.4) (p ∙ ap (λ n. P // n) s.0))
+  -- ---- the keyword of these keys, each with its node
 
-  pub makes_dependent_schemas : (m : SmallMap N) (L : Path) → MakesMember o answers (shape.DependentSchemas m.names) L m.nodes.items (dependencies_of m L ∷ [])
-  makes_dependent_schemas m L ms x P p s h = subst (λ n. KeywordMeans o answers ms (dependencies_of m L ∷ []) (n, x.1) P) (sym s.0)
-      (means_dependent_schemas m L x.1 s.2 ms P (schemas_answer o answers m.nodes.items (members x.1) L h) (p ∙ ap (λ n. P // n) s.0))
+  module _ (keys : List Name) (ns : List N) (L : Path) (k : KeywordOver K R N) (form : IsFormOfDependencies L (zip keys ns) k) where
+    -- over the entries of a value
+    module _ (d : Data) (named_keys : keys ≡ map (λ e. e.0) (members d)) where
+      keyword_means : (ms : Members) (n : Name) (P : Path) → ((m : SmallMap N) → named m ≡ zip (map (λ e. e.0) (members d)) ns
+          → KeywordMeans o answers ms (dependencies_of m L ∷ []) (n, d) P) → KeywordMeans o answers ms (k ∷ []) (n, d) P
+      keyword_means ms n P means = by k form
+        where
+          by : (k : KeywordOver K R N) → IsFormOfDependencies L (zip keys ns) k → KeywordMeans o answers ms (k ∷ []) (n, d) P
+          by (keyword.Dependencies x) f =
+              subst (λ M. KeywordMeans o answers ms (dependencies_of x.dependencies M ∷ []) (n, d) P) (sym f.1) (means x.dependencies (f.0 ∙ ap (λ ks. zip ks ns) named_keys))
+          by x f = absurd f
 
-  pub makes_dependencies : (m : SmallMap N) (lists : Vec (Option (Vec (String Global) Global)) Global) (schemas : List N) (L : Path)
-      → AreInOrder o answers L lists.items schemas m.nodes.items → MakesMember o answers (shape.Dependencies m.names lists) L schemas (dependencies_of m L ∷ [])
-  makes_dependencies m lists schemas L is ms x P p s h = subst (λ n. KeywordMeans o answers ms (dependencies_of m L ∷ []) (n, x.1) P) (sym s.0)
-      (means_dependencies m L x.1 s.2 ms P (dependencies_answer lists.items schemas m.nodes.items (members x.1) L is s.3 h) (p ∙ ap (λ n. P // n) s.0))
+      keys_are : (w : EntryAnswers) → AnswerEach o answers w ns (members d) L → IsDependencies L (map (λ e. e.0) (members d)) k
+      keys_are w each = by k form
+        where
+          by : (k : KeywordOver K R N) → IsFormOfDependencies L (zip keys ns) k → IsDependencies L (map (λ e. e.0) (members d)) k
+          by (keyword.Dependencies x) f = (each_keys o answers (named x.dependencies) ns (members d) L (f.0 ∙ ap (λ ks. zip ks ns) named_keys) w each, f.1)
+          by x f = absurd f
+
+    module _ (lists : Vec (Vec (String Global) Global) Global) (is : AreListsAt o answers L lists.items ns) where
+      pub makes_dependent_required : MakesMember o answers (shape.DependentRequired keys lists) L [] (k ∷ [])
+      makes_dependent_required ms x P p s h = subst (λ n. KeywordMeans o answers ms (k ∷ []) (n, x.1) P) (sym s.0) (keyword_means x.1 s.2 ms (codes "dependentRequired") P
+          (λ m held. means_dependent_required m ns L x.1 held ms P s.3 (lists_answer lists.items ns (members x.1) L is s.4) (p ∙ ap (λ n. P // n) s.0)))
+
+      pub keys_of_dependent_required : MakesDependencies o answers (shape.DependentRequired keys lists) L [] k
+      keys_of_dependent_required x s h = keys_are x.1 s.2 list_answers (lists_answer lists.items ns (members x.1) L is s.4)
+
+    pub makes_dependent_schemas : MakesMember o answers (shape.DependentSchemas keys) L ns (k ∷ [])
+    makes_dependent_schemas ms x P p s h = subst (λ n. KeywordMeans o answers ms (k ∷ []) (n, x.1) P) (sym s.0) (keyword_means x.1 s.2 ms (codes "dependentSchemas") P
+        (λ m held. means_dependent_schemas m ns L x.1 held ms P (schemas_answer o answers ns (members x.1) L h) (p ∙ ap (λ n. P // n) s.0)))
+
+    pub keys_of_dependent_schemas : MakesDependencies o answers (shape.DependentSchemas keys) L ns k
+    keys_of_dependent_schemas x s h = keys_are x.1 s.2 (schema_answers o answers) (schemas_answer o answers ns (members x.1) L h)
+
+    module _ (lists : Vec (Option (Vec (String Global) Global)) Global) (schemas : List N) (is : AreInOrder o answers L lists.items schemas ns) where
+      pub makes_dependencies : MakesMember o answers (shape.Dependencies keys lists) L schemas (k ∷ [])
+      makes_dependencies ms x P p s h = subst (λ n. KeywordMeans o answers ms (k ∷ []) (n, x.1) P) (sym s.0) (keyword_means x.1 s.2 ms (codes "dependencies") P
+          (λ m held. means_dependencies m ns L x.1 held ms P (dependencies_answer lists.items schemas ns (members x.1) L is s.3 h) (p ∙ ap (λ n. P // n) s.0)))
+
+      pub keys_of_dependencies : MakesDependencies o answers (shape.Dependencies keys lists) L schemas k
+      keys_of_dependencies x s h = keys_are x.1 s.2 dependency_answers (dependencies_answer lists.items schemas ns (members x.1) L is s.3 h)
 
 -- ---- nodes in order, made one after the other
 

@@ -1,7 +1,7 @@
 -- Nodes that answer as entries of a keyword's value are to be answered.
-use Rattle.std.specs.Prelude.{◌≡◌, ◌≤◌, ⊤, ℕ, Bool, ◌&&◌, List, [], ◌∷◌, map, sum_by, true}
+use Rattle.std.specs.Prelude.{◌≡◌, ◌≤◌, ⊤, ℕ, suc, Bool, ◌&&◌, List, [], ◌∷◌, map, length, sum_by, true}
 use Rattle.std.specs.List.{list_all, flat_map}
-use Rattle.std.proofs.Common.{refl, arith}
+use Rattle.std.proofs.Common.{refl, ap, arith}
 use Rattle.std.proofs.lemmas.List.Sums.{sum_by-cons}
 use Rattle.olk_tree.proofs.Answering.{more_within}
 use Rattle.serde_json.specs.Data.{Data}
@@ -37,6 +37,13 @@ module _ {K R N : Type 0} (o : Kit K R) (answers : N → Answers) where
     AnswerEach [] (e ∷ es) L = ⊥
     AnswerEach (n ∷ ns) [] L = ⊥
     AnswerEach (n ∷ ns) (e ∷ es) L = AnswersFor n e L × AnswerEach ns es L
+
+    -- there are as many nodes as entries
+    pub each_count : (ns : List N) (es : List (Name × Data)) (L : Path) → AnswerEach ns es L → length ns ≡ length (map {A = Name × Data} (λ e. e.0) es)
+    each_count [] [] L h = refl
+    each_count [] (e ∷ es) L h = absurd h
+    each_count (n ∷ ns) [] L h = absurd h
+    each_count (n ∷ ns) (e ∷ es) L h = ap suc (each_count ns es L h.1)
 
     module _ (u : Bool) (v : Data) where
       pub each_accept : (ns : List N) (es : List (Name × Data)) (L : Path) → AnswerEach ns es L → (every (λ n. (answers n).means v) ns).accepts u ≡ list_all (λ e. w.verdict u e v) es

@@ -1,9 +1,11 @@
 -- What is made has the form that is chosen for what it holds.
-use Rattle.std.specs.Prelude.{◌≡◌, ◌≢◌, ℕ, Bool, true, false, not, ◌&&◌, List, [], ◌∷◌, length, bytes_eq, string_bytes, Option, Some, None}
+use Rattle.std.specs.Prelude.{◌≡◌, ◌≢◌, ℕ, Bool, true, false, not, ◌&&◌, List, [], ◌∷◌, length, map, zip, bytes_eq, string_bytes, Option, Some, None}
 use Rattle.std.specs.List.{list_all}
 use Rattle.std.specs.Option.{option_map_or}
 use Rattle.std.proofs.Common.{refl, sym, ◌∙◌, ap, arith}
 use Rattle.std.proofs.lemmas.Bool.{lt-ltb, le-ltb, ne_eqb}
+use Rattle.std.proofs.lemmas.List.{length-map}
+use Rattle.std.proofs.lemmas.Slice.Zip.{firsts-zip, seconds-zip}
 use Rattle.std.proofs.Math.Bool.{and-true}
 use Rattle.serde_json.specs.Data.{Data}
 use Rattle.olk_spec.specs.Names.{Name, Path}
@@ -11,7 +13,7 @@ use Rattle.olk_spec.specs.declared.TheConstants.{HASHMAP_THRESHOLD}
 use Rattle.olk_spec.proofs.Truth.{and_from}
 use Rattle.olk_base.specs.Kit.{Kit}
 use Rattle.olk_base.specs.declared.pattern.CompiledPattern.{CompiledPattern}
-use Rattle.olk_tree.specs.Maps.{names_in, nodes_in}
+use Rattle.olk_tree.specs.Maps.{keys_in, nodes_in, mapped, named}
 use Rattle.olk_tree.specs.Formed.{is_one, is_map_formed}
 use Rattle.olk_tree.specs.Validators.{answers_of, validator_formed}
 use Rattle.olk_tree.specs.Answers.{Answers}
@@ -22,7 +24,7 @@ use Rattle.olk_tree.specs.declared.node.KeywordOver.{KeywordOver}
 use Rattle.olk_tree.specs.declared.node.KeywordOver.TheVariants as keyword
 use Rattle.olk_make.specs.Forms.{IsMapFor, IsFormOfAllOf, IsFormOfAnyOf, IsFormOfOneOf, IsFormOfPatternProperties, IsFormOfIf}
 use Rattle.olk_make.specs.Holding.{StandEach}
-use Rattle.olk_make.proofs.Entries.{EntryAnswers, AnswerEach, schema_answers, schemas_answer}
+use Rattle.olk_make.proofs.Entries.{EntryAnswers, AnswerEach, each_count, schema_answers, schemas_answer}
 
 -- ---- one, or several
 
@@ -33,9 +35,9 @@ module _ {X : Type 0} (f : X → Bool) where
   pub single_formed : (x : X) (ys : List X) → ys ≡ x ∷ [] → list_all f ys ≡ true → f x ≡ true
   single_formed x ys e h = sym (and-true (f x)) ∙ ap (list_all f) (sym e) ∙ h
 
-pub map_formed : {N : Type 0} (m : PropertiesMap N) (n : ℕ) → length (names_in m) ≡ n → IsMapFor n m → is_map_formed m ≡ true
-map_formed (Small m) n e h = lt-ltb (length m.names) HASHMAP_THRESHOLD (omega (arith, e, h))
-map_formed (Big m) n e h = ap not (le-ltb (length m.names) HASHMAP_THRESHOLD (omega (arith, e, h)))
+pub map_formed : {N : Type 0} (m : PropertiesMap N) (n : ℕ) → length (mapped m) ≡ n → IsMapFor n m → is_map_formed m ≡ true
+map_formed (Small m) n e h = lt-ltb (length m.entries) HASHMAP_THRESHOLD (omega (arith, e, h))
+map_formed (Big m) n e h = ap not (le-ltb (length m.entries) HASHMAP_THRESHOLD (omega (arith, e, h)))
 
 module _ {K R N : Type 0} (o : Kit K R) (answers : N → Answers) where
   abbrev pub has_form : N → Bool
@@ -58,15 +60,41 @@ module _ {K R N : Type 0} (o : Kit K R) (answers : N → Answers) where
   pub stand_formed : (ns : List N) (es : List (Name × Data)) (L : Path) → StandEach o answers ns es L → list_all has_form ns ≡ true
   stand_formed ns es L h = each_formed (schema_answers o answers) ns es L (schemas_answer o answers ns es L h)
 
+  -- ---- entries of these names and nodes
+
+  module _ (ds : List (Name × N)) (ns : List N) (es : List (Name × Data)) (L : Path) (held : ds ≡ zip (map (λ e. e.0) es) ns) where
+    module _ (w : EntryAnswers) (each : AnswerEach o answers w ns es L) where
+      pub each_keys : keys_in ds ≡ map (λ e. e.0) es
+      each_keys = ap keys_in held ∙ firsts-zip (map (λ e. e.0) es) ns (each_count o answers w ns es L each)
+
+      pub each_nodes : nodes_in ds ≡ ns
+      each_nodes = ap nodes_in held ∙ seconds-zip (map (λ e. e.0) es) ns (each_count o answers w ns es L each)
+
+      pub each_held_formed : list_all has_form (nodes_in ds) ≡ true
+      each_held_formed = ap (list_all has_form) each_nodes ∙ each_formed w ns es L each
+
+    module _ (stand : StandEach o answers ns es L) where
+      pub held_keys : keys_in ds ≡ map (λ e. e.0) es
+      held_keys = each_keys (schema_answers o answers) (schemas_answer o answers ns es L stand)
+
+      pub held_nodes : nodes_in ds ≡ ns
+      held_nodes = each_nodes (schema_answers o answers) (schemas_answer o answers ns es L stand)
+
+      pub held_count : length ds ≡ length (map {A = Name × Data} (λ e. e.0) es)
+      held_count = sym (length-map ds (λ e. e.0)) ∙ ap length held_keys
+
+      pub held_formed : list_all has_form (nodes_in ds) ≡ true
+      held_formed = each_held_formed (schema_answers o answers) (schemas_answer o answers ns es L stand)
+
   -- ---- validators
 
-  pub properties_formed : (m : PropertiesMap N) (L : Path) → is_map_formed m ≡ true → list_all has_form (nodes_in m) ≡ true
+  pub properties_formed : (m : PropertiesMap N) (L : Path) → is_map_formed m ≡ true → list_all has_form (nodes_in (mapped m)) ≡ true
       → is_formed (keyword.Properties (record { properties = m; location = L })) ≡ true
   unfolding answers_of
-  properties_formed m L sized nodes = and_from (is_map_formed m) (list_all has_form (nodes_in m)) sized nodes
+  properties_formed m L sized nodes = and_from (is_map_formed m) (list_all has_form (nodes_in (mapped m))) sized nodes
 
   pub required2_formed : (k : SmallPropertiesWithRequired2 N) → is_map_formed (Small k.properties) ≡ true → bytes_eq (string_bytes k.first) (string_bytes k.second) ≡ false
-      → list_all has_form k.properties.nodes.items ≡ true → is_formed (keyword.PropertiesWithRequired2 k) ≡ true
+      → list_all has_form (nodes_in (named k.properties)) ≡ true → is_formed (keyword.PropertiesWithRequired2 k) ≡ true
   unfolding answers_of
   required2_formed k sized differ nodes = and_from _ _ (and_from _ _ sized (ap not differ)) nodes
 

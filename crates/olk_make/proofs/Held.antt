@@ -32,7 +32,7 @@ use Rattle.olk_spec.proofs.Order.{∼_same, ∼_append, ∼_behind, ∼_swap, �
 use Rattle.olk_spec.proofs.Walks.{same_name}
 use Rattle.olk_base.specs.Kit.{Kit}
 use Rattle.olk_tree.specs.Questions.{Question, every, some}
-use Rattle.olk_tree.specs.Maps.{named, names_in, nodes_in, mapped}
+use Rattle.olk_tree.specs.Maps.{named, mapped}
 use Rattle.olk_tree.specs.Validators.{answers_of, validator_means, validator_report, validator_tree}
 use Rattle.olk_tree.specs.Answers.{Answers}
 use Rattle.olk_tree.specs.Shown.{missing_trees, properties_tree, branch_trees, any_of_tree}
@@ -63,7 +63,7 @@ use Rattle.olk_meaning.proofs.Heads.{names_of}
 use Rattle.olk_meaning.proofs.Clean.{fused, names_fused}
 use Rattle.olk_meaning.proofs.Children.{shown_at, shown_declared, branches_shown, accepting_branches, any_shown, properties_child, required_child, no_required_child, all_of_child, any_of_child, not_child, leaf_child}
 use Rattle.olk_spec.proofs.Maps.{is_empty-map}
-use Rattle.olk_make.proofs.Formed.{has_form, is_formed, just_one_formed, stand_formed, map_formed, properties_formed, required2_formed, all_of_formed, any_of_formed}
+use Rattle.olk_make.proofs.Formed.{has_form, is_formed, just_one_formed, stand_formed, held_formed, held_count, map_formed, properties_formed, required2_formed, all_of_formed, any_of_formed}
 use Rattle.olk_tree.specs.Formed.{is_map_formed}
 use Rattle.olk_spec.specs.declared.TheConstants.{HASHMAP_THRESHOLD}
 
@@ -232,47 +232,47 @@ module _ {K R N : Type 0} (o : Kit K R) (answers : N → Answers) where
 
   -- ---- properties
 
-  module _ (m : PropertiesMap N) (L : Path) (es : List (Name × Data)) (names : names_in m ≡ map (λ e. e.0) es) (stand : StandEach o answers (nodes_in m) es L) where
+  module _ (m : PropertiesMap N) (ns : List N) (L : Path) (es : List (Name × Data)) (held : mapped m ≡ zip (map (λ e. e.0) es) ns) (stand : StandEach o answers ns es L) where
     abbrev properties_keyword : KeywordOver K R N
     properties_keyword = keyword.Properties (record { properties = m; location = L })
 
     module _ (u : Bool) (v : Data) where
       properties_accept : (question properties_keyword v).accepts u ≡ list_all (λ e. list_all (accepts o.world u e.1) (at e.0 v)) es
       unfolding answers_of
-      properties_accept = ap (λ ks. (every (each_at u v) (zip ks (nodes_in m))).accepts u) names ∙ members_accept u v (nodes_in m) es L stand
+      properties_accept = ap (λ ds. (every (each_at u v) ds).accepts u) held ∙ members_accept u v ns es L stand
 
       properties_ask : (question properties_keyword v).asks u ≤ sum_by (λ e. sum_by (asks o.world u e.1) (at e.0 v)) es
       unfolding answers_of
-      properties_ask = subst (λ ks. (every (each_at u v) (zip ks (nodes_in m))).asks u ≤ sum_by (λ e. sum_by (asks o.world u e.1) (at e.0 v)) es) (sym names) (members_ask u v (nodes_in m) es L stand)
+      properties_ask = subst (λ ds. (every (each_at u v) ds).asks u ≤ sum_by (λ e. sum_by (asks o.world u e.1) (at e.0 v)) es) (sym held) (members_ask u v ns es L stand)
 
       properties_find : (Q : Path) → found u properties_keyword v Q ∼ flat_map (λ e. flat_map (λ x. report o.world u e.1 x (L // e.0) (Q // e.0)) (at e.0 v)) es
       unfolding answers_of
       properties_find Q =
-          subst (λ ks. flat_map (λ e. flat_map (λ x. (answers e.1).report u x (Q // e.0)) (at e.0 v)) (zip ks (nodes_in m)) ∼ flat_map
-          (λ e. flat_map (λ x. report o.world u e.1 x (L // e.0) (Q // e.0)) (at e.0 v)) es) (sym names) (members_find u v Q (nodes_in m) es L stand)
+          subst (λ ds. flat_map (λ e. flat_map (λ x. (answers e.1).report u x (Q // e.0)) (at e.0 v)) ds ∼ flat_map
+          (λ e. flat_map (λ x. report o.world u e.1 x (L // e.0) (Q // e.0)) (at e.0 v)) es) (sym held) (members_find u v Q ns es L stand)
 
       properties_show : (Q : Path) (more : List Tree) → properties_tree (λ n. (answers n).tree u) v Q L (mapped m) more ≡ shown_declared o.world u v L Q es more
-      properties_show Q more = ap (λ ks. properties_tree (λ n. (answers n).tree u) v Q L (zip ks (nodes_in m)) more) names ∙ declared_show u v Q more (nodes_in m) es L stand
+      properties_show Q more = ap (λ ds. properties_tree (λ n. (answers n).tree u) v Q L ds more) held ∙ declared_show u v Q more ns es L stand
 
       alone_show : (Q : Path) → shown u properties_keyword v Q ≡ properties_tree (λ n. (answers n).tree u) v Q L (mapped m) []
       unfolding answers_of
       alone_show Q = refl
 
-  pub means_properties : (m : PropertiesMap N) (L : Path) (fs : Members) (d : Data) → d ≡ object fs → is_map_formed m ≡ true → names_in m ≡ map (λ e. e.0) (listed fs)
-      → StandEach o answers (nodes_in m) (listed fs) L → (ms : Members) (P : Path) → L ≡ P // codes "properties" → KeywordMeans o answers ms
+  pub means_properties : (m : PropertiesMap N) (ns : List N) (L : Path) (fs : Members) (d : Data) → d ≡ object fs → is_map_formed m ≡ true
+      → mapped m ≡ zip (map (λ e. e.0) (listed fs)) ns → StandEach o answers ns (listed fs) L → (ms : Members) (P : Path) → L ≡ P // codes "properties" → KeywordMeans o answers ms
       (keyword.Properties (record { properties = m; location = L }) ∷ []) (codes "properties", d) P
-  means_properties m L fs d q sized names stand ms P p = subst (λ x. KeywordMeans o answers ms (properties_keyword m L (listed fs) names stand ∷ []) (codes "properties", x) P) (sym q) (record {
-    holds = one ms (properties_keyword m L (listed fs) names stand) (codes "properties", object fs) properties P
-        (λ u v. properties_accept m L (listed fs) names stand u v ∙ sym (fact.properties_accepts o.world ms fs u v))
-        (λ u v. same_within _ _ _ (properties_ask m L (listed fs) names stand u v) (fact.properties_asks o.world ms fs u v))
-        (λ u v Q. subst (λ l. found u (properties_keyword m L (listed fs) names stand) v Q ∼ l)
+  means_properties m ns L fs d q sized held stand ms P p = subst (λ x. KeywordMeans o answers ms (properties_keyword m ns L (listed fs) held stand ∷ []) (codes "properties", x) P) (sym q) (record {
+    holds = one ms (properties_keyword m ns L (listed fs) held stand) (codes "properties", object fs) properties P
+        (λ u v. properties_accept m ns L (listed fs) held stand u v ∙ sym (fact.properties_accepts o.world ms fs u v))
+        (λ u v. same_within _ _ _ (properties_ask m ns L (listed fs) held stand u v) (fact.properties_asks o.world ms fs u v))
+        (λ u v Q. subst (λ l. found u (properties_keyword m ns L (listed fs) held stand) v Q ∼ l)
         (ap (λ M. flat_map (λ e. flat_map (λ x. report o.world u e.1 x (M // e.0) (Q // e.0)) (at e.0 v)) (listed fs)) p ∙ sym (fact.properties_report o.world ms fs u v P Q))
-        (properties_find m L (listed fs) names stand u v Q));
+        (properties_find m ns L (listed fs) held stand u v Q));
     shows = λ u h v Q.
-        ap (λ t. t ∷ []) (alone_show m L (listed fs) names stand u v Q ∙ properties_show m L (listed fs) names stand u v Q [] ∙ ap (λ M. shown_declared o.world u v M Q (listed fs) []) p)
+        ap (λ t. t ∷ []) (alone_show m ns L (listed fs) held stand u v Q ∙ properties_show m ns L (listed fs) held stand u v Q [] ∙ ap (λ M. shown_declared o.world u v M Q (listed fs) []) p)
         ∙ ap (λ b. shown_declared o.world u v (P // codes "properties") Q (listed fs) (missing_child o.world u (read_members (meaning_step o.world u) ms) v P Q b) ∷ []) (sym h.2)
         ∙ sym (properties_child o.world u v ms P Q fs h.0 h.1);
-    formed = just_one_formed o answers (properties_keyword m L (listed fs) names stand) (properties_formed o answers m L sized (stand_formed o answers (nodes_in m) (listed fs) L stand));
+    formed = just_one_formed o answers (properties_keyword m ns L (listed fs) held stand) (properties_formed o answers m L sized (held_formed o answers (mapped m) ns (listed fs) L held stand));
   })
 
   -- ---- properties, with required or alone
@@ -288,7 +288,7 @@ module _ {K R N : Type 0} (o : Kit K R) (answers : N → Answers) where
     module _ (u : Bool) (v : Data) where
       both_accept : (question (keyword.PropertiesWithRequired2 k) v).accepts u ≡ (is_empty (lacking v) && (question alone v).accepts u)
       unfolding answers_of
-      both_accept = λ i. is_empty (missing (form.3 i ∷ form.4 i ∷ []) v) && (question alone v).accepts u
+      both_accept = λ i. is_empty (missing (form.2 i ∷ form.3 i ∷ []) v) && (question alone v).accepts u
 
       both_ask : (question (keyword.PropertiesWithRequired2 k) v).asks u ≡ 0 + (question alone v).asks u
       unfolding answers_of
@@ -296,12 +296,12 @@ module _ {K R N : Type 0} (o : Kit K R) (answers : N → Answers) where
 
       both_find : (Q : Path) → found u (keyword.PropertiesWithRequired2 k) v Q ≡ required_faults (t.0 ∷ t.1 ∷ []) v (P // codes "required") Q ++ found u alone v Q
       unfolding answers_of
-      both_find Q = λ i. required_faults (form.3 i ∷ form.4 i ∷ []) v (form.5 i) Q ++ found u alone v Q
+      both_find Q = λ i. required_faults (form.2 i ∷ form.3 i ∷ []) v (form.4 i) Q ++ found u alone v Q
 
       both_show : (Q : Path) → shown u (keyword.PropertiesWithRequired2 k) v Q ≡ properties_tree (λ n. (answers n).tree u) v Q L (named k.properties)
           (missing_trees (t.0 ∷ t.1 ∷ []) v (P // codes "required") Q)
       unfolding answers_of
-      both_show Q = λ i. properties_tree (λ n. (answers n).tree u) v Q (form.2 i) (named k.properties) (missing_trees (form.3 i ∷ form.4 i ∷ []) v (form.5 i) Q)
+      both_show Q = λ i. properties_tree (λ n. (answers n).tree u) v Q (form.1 i) (named k.properties) (missing_trees (form.2 i ∷ form.3 i ∷ []) v (form.4 i) Q)
 
     covers_both : (d : Data) → is_restricted ms ≡ false → Holds o answers ms (alone ∷ []) (codes "properties", d) properties P → Covers o answers ms
         (keyword.PropertiesWithRequired2 k ∷ []) ((codes "properties", d) ∷ (codes "required", listing t) ∷ []) P
@@ -336,9 +336,9 @@ module _ {K R N : Type 0} (o : Kit K R) (answers : N → Answers) where
       by false h = refl
       by true h = h
 
-  few_formed : (k : SmallPropertiesWithRequired2 N) (fs : Members) (d : Data) → d ≡ object fs → k.properties.names ≡ map (λ e. e.0) (listed fs)
+  few_formed : (k : SmallPropertiesWithRequired2 N) (fs : Members) (d : Data) → d ≡ object fs → length (named k.properties) ≡ length (map (λ e. e.0) (listed fs))
       → declares_few (Some d) ≡ true → is_map_formed (Small k.properties) ≡ true
-  few_formed k fs d q names few = ap (λ n. nat_lt n HASHMAP_THRESHOLD) (ap length names ∙ length-map (listed fs) (λ e. e.0)) ∙ ap (λ x. declares_few (Some x)) (sym q) ∙ few
+  few_formed k fs d q count few = ap (λ n. nat_lt n HASHMAP_THRESHOLD) (count ∙ length-map (listed fs) (λ e. e.0)) ∙ ap (λ x. declares_few (Some x)) (sym q) ∙ few
 
   pub means_form : (k : KeywordOver K R N) (names : List Name) (ns : List N) (L P : Path) (t : Option (Name × Name)) (fs : Members) (d : Data)
       → d ≡ object fs → names ≡ map (λ e. e.0) (listed fs) → StandEach o answers ns (listed fs) L → IsFormOfProperties P L names ns t k
@@ -350,16 +350,19 @@ module _ {K R N : Type 0} (o : Kit K R) (answers : N → Answers) where
       (head_itself (plan_of ms) (codes "properties") (λ e. absurd (true≢false (sym e ∙ ap is_some (sym chosen)))) (λ e. (refl, refl))
       (free_takes_nothing ms (codes "properties") unrestricted)) there))
       (subst (λ M. KeywordsMean o answers ms (keyword.Properties (record { properties = k.properties; location = M }) ∷ []) ((codes "properties", d) ∷ [])
-      ((codes "properties", d) ∷ []) P) (sym form.3)
+      ((codes "properties", d) ∷ []) P) (sym form.2)
       (means_alone o answers ms P _ (codes "properties", d) (ap (λ b. b && true) unrestricted)
       (λ clean u. (there, restricted_read (meaning_step o.world u) ms ∙ unrestricted, fused o.world ms P clean (meaning_step o.world u) ∙ ap is_some (sym chosen)))
-      (means_properties k.properties L fs d q (map_formed k.properties (length names) (ap length form.0) form.2) (form.0 ∙ declared) (subst (λ l. StandEach o answers l (listed fs) L) (sym form.1) stand) ms P p)))
+      (means_properties k.properties ns L fs d q (map_formed k.properties (length names) (held_count o answers (mapped k.properties) ns (listed fs) L held stand ∙ ap length (sym declared)) form.1) held stand ms P p)))
+    where
+      held : mapped k.properties ≡ zip (map (λ e. e.0) (listed fs)) ns
+      held = form.0 ∙ ap (λ ks. zip ks ns) declared
   means_form (keyword.PropertiesWithRequired2 k) names ns L P (Some t) fs d q declared stand form ms p distinct there chosen unrestricted =
       let both = fuses ms distinct t chosen in
-      let same_names : k.properties.names ≡ map (λ e. e.0) (listed fs) = form.0 ∙ declared in
-      let same_nodes : StandEach o answers k.properties.nodes.items (listed fs) L = subst (λ l. StandEach o answers l (listed fs) L) (sym form.1) stand in
-      let few : is_map_formed (Small k.properties) ≡ true = few_formed k fs d q same_names (ap declares_few (sym there ∙ both.declared) ∙ both.few) in
-      let plain = means_properties (Small k.properties) L fs d q few same_names same_nodes ms P p in
+      let held : named k.properties ≡ zip (map (λ e. e.0) (listed fs)) ns = form.0 ∙ ap (λ ks. zip ks ns) declared in
+      let count = held_count o answers (named k.properties) ns (listed fs) L held stand in
+      let few : is_map_formed (Small k.properties) ≡ true = few_formed k fs d q count (ap declares_few (sym there ∙ both.declared) ∙ both.few) in
+      let plain = means_properties (Small k.properties) ns L fs d q few held stand ms P p in
       means_permuted o answers ms P (keyword.PropertiesWithRequired2 k ∷ []) ((codes "properties", d) ∷ (codes "required", listing t) ∷ [])
       (claims (head (plan_of ms)) (listed ms) (codes "properties", d)) ((codes "properties", d) ∷ [])
       (subst (λ s. IsPermutation ((codes "properties", d) ∷ (codes "required", listing t) ∷ []) (claims (head s) (listed ms) (codes "properties", d)))
@@ -367,7 +370,7 @@ module _ {K R N : Type 0} (o : Kit K R) (answers : N → Answers) where
         covers = covers_both ms L P k t names ns form d unrestricted plain.holds;
         shows = λ clean u v Q.
             let step = meaning_step o.world u in
-            ap (λ x. x ∷ []) (both_show ms L P k t names ns form u v Q ∙ properties_show (Small k.properties) L (listed fs) same_names same_nodes u v Q
+            ap (λ x. x ∷ []) (both_show ms L P k t names ns form u v Q ∙ properties_show (Small k.properties) ns L (listed fs) held stand u v Q
             (missing_trees (t.0 ∷ t.1 ∷ []) v (P // codes "required") Q) ∙ ap (λ M. shown_declared o.world u v M Q (listed fs) (missing_trees (t.0 ∷ t.1 ∷ []) v (P // codes "required") Q)) p)
             ∙ (λ i. shown_declared o.world u v (P // codes "properties") Q (listed fs)
             (put_if (sym (fused o.world ms P clean step ∙ ap is_some (sym chosen)) i && not (is_empty (missing (sym (names_fused step ms t both.listed_at) i) v)))
@@ -376,7 +379,7 @@ module _ {K R N : Type 0} (o : Kit K R) (answers : N → Answers) where
             (there ∙ ap Some q) (restricted_read step ms ∙ unrestricted));
         formed =
             just_one_formed o answers (keyword.PropertiesWithRequired2 k)
-            (required2_formed o answers k few ((λ i. bytes_eq (form.3 i) (form.4 i)) ∙ both.differ) (stand_formed o answers k.properties.nodes.items (listed fs) L same_nodes));
+            (required2_formed o answers k few ((λ i. bytes_eq (form.2 i) (form.3 i)) ∙ both.differ) (held_formed o answers (named k.properties) ns (listed fs) L held stand));
       }
   means_form k names ns L P None fs d q declared stand form ms p distinct there chosen unrestricted = absurd form
   means_form k names ns L P (Some t) fs d q declared stand form ms p distinct there chosen unrestricted = absurd form

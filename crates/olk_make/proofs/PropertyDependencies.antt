@@ -10,6 +10,7 @@ use Rattle.std.proofs.Common.{suc, refl, sym, ◌∙◌, ap, subst, arith}
 use Rattle.std.proofs.lemmas.List.{map-append, take_at, drop_at, take_min, drop_min}
 use Rattle.std.proofs.lemmas.List.Sums.{sum_by-cons}
 use Rattle.std.proofs.lemmas.Map.Text.{is_eq-slice_cmp}
+use Rattle.std.proofs.lemmas.Slice.Zip.{firsts-zip, seconds-zip}
 use Rattle.std.proofs.lemmas.Grind.{flat_map-append}
 use Rattle.olk_tree.proofs.Answering.{more_within}
 use mathlib.Core.Bool.{true≢false}
@@ -26,7 +27,7 @@ use Rattle.olk_base.specs.Kit.{Kit}
 use Rattle.olk_meaning.specs.PropertyDependencies.{chosen, chosen_by}
 use Rattle.olk_meaning.proofs.PropertyDependencies as fact
 use Rattle.olk_tree.specs.Questions.{every}
-use Rattle.olk_tree.specs.Maps.{named}
+use Rattle.olk_tree.specs.Maps.{keys_in, nodes_in, named}
 use Rattle.olk_tree.specs.PropertyDependencies.{chosen_at, chosen_nodes}
 use Rattle.olk_tree.specs.Validators.{answers_of}
 use Rattle.olk_tree.proofs.Questions.{every-append}
@@ -36,23 +37,17 @@ use Rattle.olk_tree.specs.declared.node.KeywordOver.TheVariants as keyword
 use Rattle.olk_tree.specs.Answers.{Answers}
 use Rattle.olk_read.specs.Lists.{names_of}
 use Rattle.olk_read.specs.declared.shape.Shape.TheVariants as shape
-use Rattle.olk_make.specs.Forms.{AreCut}
-use Rattle.olk_make.specs.Holding.{StandEach, StandInner}
-use Rattle.olk_make.specs.Making.{KeywordMeans, MakesMember}
-use Rattle.olk_make.proofs.Entries.{AnswersFor, AnswerEach, each_accept, each_ask, each_find, each_show, schema_answers, schemas_answer}
+use Rattle.olk_make.specs.Forms.{AreCut, IsPropertyDependencies}
+use Rattle.olk_make.specs.Holding.{StandInner}
+use Rattle.olk_make.specs.Making.{KeywordMeans, MakesMember, MakesPropertyDependencies}
+use Rattle.olk_make.proofs.Entries.{AnswersFor, AnswerEach, each_count, each_accept, each_ask, each_find, each_show, schema_answers, schemas_answer}
 use Rattle.olk_make.proofs.Held.{question, shown, found, one, same_within}
-use Rattle.olk_make.proofs.Formed.{has_form, is_formed, just_one_formed, each_formed}
+use Rattle.olk_make.proofs.Formed.{has_form, is_formed, just_one_formed, each_keys, each_held_formed}
 use Rattle.olk_spec.proofs.Truth.{and_from}
 
 -- maps, made of the lists of names and the nodes that are left
 abbrev pub MadeByCutting : {N : Type 0} → List (List Name) × List N → List (SmallMap N) → Type 0
 MadeByCutting x maps = AreCut x.0 x.1 maps
-
-pub cut_names : {N : Type 0} (ts : List (List Name)) (ns : List N) (maps : List (SmallMap N)) → AreCut ts ns maps → map (λ m. m.names) maps ≡ ts
-cut_names [] ns [] h = refl
-cut_names [] ns (m ∷ maps) h = absurd h
-cut_names (t ∷ ts) ns [] h = absurd h
-cut_names (t ∷ ts) ns (m ∷ maps) h = λ i. h.0 i ∷ cut_names ts (drop (length t) ns) maps h.2 i
 
 -- as many nodes are taken as are wanted, or all
 module _ {N : Type 0} (n : ℕ) (ns taken left : List N) (parts : ns ≡ taken ++ left) (count : length taken ≡ min n (length ns)) where
@@ -62,10 +57,11 @@ module _ {N : Type 0} (n : ℕ) (ns taken left : List N) (parts : ns ≡ taken +
   pub left_behind : left ≡ drop n ns
   left_behind = sym (drop_at taken left (length taken) refl) ∙ (λ i. drop (count i) (sym parts i)) ∙ drop_min n ns
 
-  -- with names zip the nodes that are taken, one map more is cut
-  pub one_cut : (names : List Name) → length names ≡ n → (nodes : Vec N Global) → nodes.items ≡ taken → (ts : List (List Name)) (maps : List (SmallMap N))
-      → AreCut ts left maps → AreCut (names ∷ ts) ns (record { names = names; nodes = nodes } ∷ maps)
-  one_cut names len nodes same ts maps h = (refl, same ∙ taken_first ∙ ap (λ k. take k ns) (sym len), subst (λ l. AreCut ts l maps) (left_behind ∙ ap (λ k. drop k ns) (sym len)) h)
+  -- with names beside the nodes that are taken, one map more is cut
+  pub one_cut : (names : List Name) → length names ≡ n → (m : SmallMap N) → named m ≡ zip names taken → (ts : List (List Name)) (maps : List (SmallMap N))
+      → AreCut ts left maps → AreCut (names ∷ ts) ns (m ∷ maps)
+  one_cut names len m held ts maps h =
+      (held ∙ ap (zip names) (taken_first ∙ ap (λ k. take k ns) (sym len)), subst (λ l. AreCut ts l maps) (left_behind ∙ ap (λ k. drop k ns) (sym len)) h)
 
 module _ {K R N : Type 0} (o : Kit K R) (answers : N → Answers) where
   abbrev SchemaFor : N → Name × Data → Path → Type 0
@@ -101,24 +97,45 @@ module _ {K R N : Type 0} (o : Kit K R) (answers : N → Answers) where
       by Equal q k = (subst (λ a. SchemaFor n (a, e.1) L) (sym (same_name t e.0 (sym q))) h.0, tt)
       by Greater q k = k
 
-  -- a map for each entry, whose nodes stand for what is in it
+  -- a map whose nodes stand for what is in the entry
+  record MapAnswers (m : SmallMap N) (e : Name × Data) (L : Path) : Type 0 where
+    nodes : List N
+    held : named m ≡ zip (names_of e.1) nodes
+    each : SchemaEach nodes (members e.1) (L // e.0)
+
+  -- a map for each entry
   abbrev MapsAnswer : List (SmallMap N) → List (Name × Data) → Path → Type 0
   MapsAnswer [] [] L = ⊤
   MapsAnswer [] (e ∷ es) L = ⊥
   MapsAnswer (m ∷ maps) [] L = ⊥
-  MapsAnswer (m ∷ maps) (e ∷ es) L = (m.names ≡ names_of e.1) × SchemaEach m.nodes.items (members e.1) (L // e.0) × MapsAnswer maps es L
+  MapsAnswer (m ∷ maps) (e ∷ es) L = MapAnswers m e L × MapsAnswer maps es L
 
-  maps_formed : (maps : List (SmallMap N)) (es : List (Name × Data)) (L : Path) → MapsAnswer maps es L → list_all (λ m. list_all (has_form o answers) m.nodes.items) maps ≡ true
+  maps_formed : (maps : List (SmallMap N)) (es : List (Name × Data)) (L : Path) → MapsAnswer maps es L → list_all (λ m. list_all (has_form o answers) (nodes_in (named m))) maps ≡ true
   maps_formed [] [] L h = refl
   maps_formed [] (e ∷ es) L h = absurd h
   maps_formed (m ∷ maps) [] L h = absurd h
-  maps_formed (m ∷ maps) (e ∷ es) L h = and_from _ _ (each_formed o answers (schema_answers o answers) m.nodes.items (members e.1) (L // e.0) h.1) (maps_formed maps es L h.2)
+  maps_formed (m ∷ maps) (e ∷ es) L h = and_from _ _ (each_held_formed o answers (named m) h.0.nodes (members e.1) (L // e.0) h.0.held (schema_answers o answers) h.0.each) (maps_formed maps es L h.1)
+
+  -- the names of each
+  maps_names : (maps : List (SmallMap N)) (es : List (Name × Data)) (L : Path) → MapsAnswer maps es L → map (λ m. keys_in (named m)) maps ≡ map (λ e. names_of e.1) es
+  maps_names [] [] L h = refl
+  maps_names [] (e ∷ es) L h = absurd h
+  maps_names (m ∷ maps) [] L h = absurd h
+  maps_names (m ∷ maps) (e ∷ es) L h =
+      λ i. each_keys o answers (named m) h.0.nodes (members e.1) (L // e.0) h.0.held (schema_answers o answers) h.0.each i ∷ maps_names maps es L h.1 i
+
+  -- as many as entries
+  maps_count : (maps : List (SmallMap N)) (es : List (Name × Data)) (L : Path) → MapsAnswer maps es L → length maps ≡ length (map {A = Name × Data} (λ e. e.0) es)
+  maps_count [] [] L h = refl
+  maps_count [] (e ∷ es) L h = absurd h
+  maps_count (m ∷ maps) [] L h = absurd h
+  maps_count (m ∷ maps) (e ∷ es) L h = ap suc (maps_count maps es L h.1)
 
   module _ (v : Data) where
-    chosen_answer : (m : SmallMap N) (e : Name × Data) (L : Path) → m.names ≡ names_of e.1 → SchemaEach m.nodes.items (members e.1) L → SchemaEach (flat_map (chosen_at m) (at e.0 v)) (chosen v e) L
-    chosen_answer m e L names h = each_of_all (chosen_at m) (chosen_by e.1) L
-        (λ w. each_of_all (λ t. option_to_list (lookup_name t (named m))) (λ t. map (λ s. (t, s)) (at t e.1)) L
-        (λ t. subst (λ ks. SchemaEach (option_to_list (lookup_name t (zip ks m.nodes.items))) (map (λ s. (t, s)) (at t e.1)) L) (sym names) (found_answers t m.nodes.items (members e.1) L h)) (as_text w)) (at e.0 v)
+    chosen_answer : (m : SmallMap N) (e : Name × Data) (L : Path) → MapAnswers m e L → SchemaEach (flat_map (chosen_at m) (at e.0 v)) (chosen v e) (L // e.0)
+    chosen_answer m e L h = each_of_all (chosen_at m) (chosen_by e.1) (L // e.0)
+        (λ w. each_of_all (λ t. option_to_list (lookup_name t (named m))) (λ t. map (λ s. (t, s)) (at t e.1)) (L // e.0)
+        (λ t. subst (λ ds. SchemaEach (option_to_list (lookup_name t ds)) (map (λ s. (t, s)) (at t e.1)) (L // e.0)) (sym h.held) (found_answers t h.nodes (members e.1) (L // e.0) h.each)) (as_text w)) (at e.0 v)
 
     abbrev chosen_of : List (SmallMap N) → List (Name × Data) → List N
     chosen_of maps es = chosen_nodes (zip (map (λ e. e.0) es) maps) v
@@ -131,8 +148,8 @@ module _ {K R N : Type 0} (o : Kit K R) (answers : N → Answers) where
       choices_accept (m ∷ maps) [] L h = absurd h
       choices_accept (m ∷ maps) (e ∷ es) L h =
           ap (λ q. q.accepts u) (every-append (λ n. (answers n).means v) (flat_map (chosen_at m) (at e.0 v)) (chosen_of maps es))
-          ∙ (λ i. each_accept o answers (schema_answers o answers) u v (flat_map (chosen_at m) (at e.0 v)) (chosen v e) (L // e.0) (chosen_answer m e (L // e.0) h.0 h.1) i
-          && choices_accept maps es L h.2 i)
+          ∙ (λ i. each_accept o answers (schema_answers o answers) u v (flat_map (chosen_at m) (at e.0 v)) (chosen v e) (L // e.0) (chosen_answer m e L h.0) i
+          && choices_accept maps es L h.1 i)
 
       choices_ask : (maps : List (SmallMap N)) (es : List (Name × Data)) (L : Path) → MapsAnswer maps es L
           → (every (λ n. (answers n).means v) (chosen_of maps es)).asks u ≤ sum_by (λ e. sum_by (λ c. asks o.world u c.1 v) (chosen v e)) es
@@ -142,8 +159,8 @@ module _ {K R N : Type 0} (o : Kit K R) (answers : N → Answers) where
       choices_ask (m ∷ maps) (e ∷ es) L h =
           subst (λ q. q.asks u ≤ sum_by (λ e. sum_by (λ c. asks o.world u c.1 v) (chosen v e)) (e ∷ es))
           (sym (every-append (λ n. (answers n).means v) (flat_map (chosen_at m) (at e.0 v)) (chosen_of maps es)))
-          (more_within _ _ _ _ _ (each_ask o answers (schema_answers o answers) u v (flat_map (chosen_at m) (at e.0 v)) (chosen v e) (L // e.0) (chosen_answer m e (L // e.0) h.0 h.1))
-          (choices_ask maps es L h.2) (sum_by-cons (λ e. sum_by (λ c. asks o.world u c.1 v) (chosen v e)) e es))
+          (more_within _ _ _ _ _ (each_ask o answers (schema_answers o answers) u v (flat_map (chosen_at m) (at e.0 v)) (chosen v e) (L // e.0) (chosen_answer m e L h.0))
+          (choices_ask maps es L h.1) (sum_by-cons (λ e. sum_by (λ c. asks o.world u c.1 v) (chosen v e)) e es))
 
       module _ (Q : Path) where
         choices_find : (maps : List (SmallMap N)) (es : List (Name × Data)) (L : Path) → MapsAnswer maps es L → flat_map (λ n. (answers n).report u v Q)
@@ -154,8 +171,8 @@ module _ {K R N : Type 0} (o : Kit K R) (answers : N → Answers) where
         choices_find (m ∷ maps) (e ∷ es) L h =
             subst (λ fs. fs ∼ flat_map (λ e. flat_map (λ c. report o.world u c.1 v (L // e.0 // c.0) Q) (chosen v e)) (e ∷ es))
             (sym (flat_map-append (λ n. (answers n).report u v Q) (flat_map (chosen_at m) (at e.0 v)) (chosen_of maps es)))
-            (∼_append (each_find o answers (schema_answers o answers) u v Q (flat_map (chosen_at m) (at e.0 v)) (chosen v e) (L // e.0) (chosen_answer m e (L // e.0) h.0 h.1))
-            (choices_find maps es L h.2))
+            (∼_append (each_find o answers (schema_answers o answers) u v Q (flat_map (chosen_at m) (at e.0 v)) (chosen v e) (L // e.0) (chosen_answer m e L h.0))
+            (choices_find maps es L h.1))
 
         choices_show : (maps : List (SmallMap N)) (es : List (Name × Data)) (L : Path) → MapsAnswer maps es L → map (λ n. (answers n).tree u v Q)
             (chosen_of maps es) ≡ flat_map (λ e. map (λ c. tree o.world u c.1 v (L // e.0 // c.0) Q) (chosen v e)) es
@@ -163,42 +180,49 @@ module _ {K R N : Type 0} (o : Kit K R) (answers : N → Answers) where
         choices_show [] (e ∷ es) L h = absurd h
         choices_show (m ∷ maps) [] L h = absurd h
         choices_show (m ∷ maps) (e ∷ es) L h = map-append (λ n. (answers n).tree u v Q) (flat_map (chosen_at m) (at e.0 v)) (chosen_of maps es)
-            ∙ (λ i. each_show o answers (schema_answers o answers) u v Q (flat_map (chosen_at m) (at e.0 v)) (chosen v e) (L // e.0) (chosen_answer m e (L // e.0) h.0 h.1) i
-            ++ choices_show maps es L h.2 i)
+            ∙ (λ i. each_show o answers (schema_answers o answers) u v Q (flat_map (chosen_at m) (at e.0 v)) (chosen v e) (L // e.0) (chosen_answer m e L h.0) i
+            ++ choices_show maps es L h.1 i)
 
   -- ---- the validator
 
   abbrev choices_of : SmallMap (SmallMap N) → Path → KeywordOver K R N
   choices_of m L = keyword.PropertyDependencies (record { dependencies = m; location = L })
 
-  module _ (m : SmallMap (SmallMap N)) (L : Path) (d : Data) (names : m.names ≡ names_of d) (stand : MapsAnswer m.nodes.items (members d) L) where
+  module _ (m : SmallMap (SmallMap N)) (maps : List (SmallMap N)) (L : Path) (d : Data) (held : named m ≡ zip (names_of d) maps) (stand : MapsAnswer maps (members d) L) where
     module _ (u : Bool) (v : Data) where
-      abbrev chosen_among : List Name → List N
-      chosen_among ks = chosen_nodes (zip ks m.nodes.items) v
-
       choice_accepts : (question o answers (choices_of m L) v).accepts u ≡ list_all (λ e. list_all (λ c. accepts o.world u c.1 v) (chosen v e)) (members d)
       unfolding answers_of
-      choice_accepts = ap (λ ks. (every (λ n. (answers n).means v) (chosen_among ks)).accepts u) names ∙ choices_accept v u m.nodes.items (members d) L stand
+      choice_accepts = ap (λ ds. (every (λ n. (answers n).means v) (chosen_nodes ds v)).accepts u) held ∙ choices_accept v u maps (members d) L stand
 
       choice_asks : (question o answers (choices_of m L) v).asks u ≤ sum_by (λ e. sum_by (λ c. asks o.world u c.1 v) (chosen v e)) (members d)
       unfolding answers_of
       choice_asks =
-          subst (λ ks. (every (λ n. (answers n).means v) (chosen_among ks)).asks u ≤ sum_by (λ e. sum_by (λ c. asks o.world u c.1 v) (chosen v e)) (members d))
-          (sym names) (choices_ask v u m.nodes.items (members d) L stand)
+          subst (λ ds. (every (λ n. (answers n).means v) (chosen_nodes ds v)).asks u ≤ sum_by (λ e. sum_by (λ c. asks o.world u c.1 v) (chosen v e)) (members d))
+          (sym held) (choices_ask v u maps (members d) L stand)
 
       choice_finds : (Q : Path) → found o answers u (choices_of m L) v Q ∼ flat_map (λ e. flat_map (λ c. report o.world u c.1 v (L // e.0 // c.0) Q) (chosen v e)) (members d)
       unfolding answers_of
       choice_finds Q =
-          subst (λ ks. flat_map (λ n. (answers n).report u v Q) (chosen_among ks) ∼ flat_map (λ e. flat_map (λ c. report o.world u c.1 v (L // e.0 // c.0) Q) (chosen v e)) (members d))
-          (sym names) (choices_find v u Q m.nodes.items (members d) L stand)
+          subst (λ ds. flat_map (λ n. (answers n).report u v Q) (chosen_nodes ds v) ∼ flat_map (λ e. flat_map (λ c. report o.world u c.1 v (L // e.0 // c.0) Q) (chosen v e)) (members d))
+          (sym held) (choices_find v u Q maps (members d) L stand)
 
       choice_shows : (Q : Path) → shown o answers u (choices_of m L) v Q ≡ plain L Q (flat_map (λ e. map (λ c. tree o.world u c.1 v (L // e.0 // c.0) Q) (chosen v e)) (members d))
       unfolding answers_of
-      choice_shows Q = ap (λ ks. plain L Q (map (λ n. (answers n).tree u v Q) (chosen_among ks))) names ∙ ap (plain L Q) (choices_show v u Q m.nodes.items (members d) L stand)
+      choice_shows Q = ap (λ ds. plain L Q (map (λ n. (answers n).tree u v Q) (chosen_nodes ds v))) held ∙ ap (plain L Q) (choices_show v u Q maps (members d) L stand)
+
+    held_maps : nodes_in (named m) ≡ maps
+    held_maps = ap nodes_in held ∙ seconds-zip (names_of d) maps (maps_count maps (members d) L stand)
+
+    choices_are : IsPropertyDependencies {K = K} {R = R} L (names_of d) (map (λ e. names_of e.1) (members d)) (choices_of m L)
+    choices_are = (
+      ap keys_in held ∙ firsts-zip (names_of d) maps (maps_count maps (members d) L stand),
+      ap (map (λ m. keys_in (named m))) held_maps ∙ maps_names maps (members d) L stand,
+      refl,
+    )
 
     choices_formed : is_formed o answers (choices_of m L) ≡ true
     unfolding answers_of
-    choices_formed = maps_formed m.nodes.items (members d) L stand
+    choices_formed = ap (list_all (λ m. list_all (has_form o answers) (nodes_in (named m)))) held_maps ∙ maps_formed maps (members d) L stand
 
     means_property_dependencies : (ms : Members) (P : Path) → L ≡ P // codes "propertyDependencies" → KeywordMeans o answers ms (choices_of m L ∷ []) (codes "propertyDependencies", d) P
     means_property_dependencies ms P p = record {
@@ -216,13 +240,6 @@ module _ {K R N : Type 0} (o : Kit K R) (answers : N → Answers) where
 
   -- ---- what is made of the nodes
 
-  -- as many nodes as entries
-  stand_count : (ns : List N) (es : List (Name × Data)) (L : Path) → StandEach o answers ns es L → length (map {A = Name × Data} (λ e. e.0) es) ≡ length ns
-  stand_count [] [] L h = refl
-  stand_count [] (e ∷ es) L h = absurd h
-  stand_count (n ∷ ns) [] L h = absurd h
-  stand_count (n ∷ ns) (e ∷ es) L h = ap suc (stand_count ns es L h.1)
-
   maps_answer : (ts : List (List Name)) (ns : List N) (maps : List (SmallMap N)) (es : List (Name × Data)) (L : Path) → AreCut ts ns maps
       → ts ≡ map (λ e. names_of e.1) es → StandInner o answers ns es L → MapsAnswer maps es L
   maps_answer [] ns [] [] L h q stand = tt
@@ -234,14 +251,21 @@ module _ {K R N : Type 0} (o : Kit K R) (answers : N → Answers) where
       let here = stand.0 in
       let after = stand.1 in
       let name : t ≡ names_of e.1 = ap (λ l. get_or l 0 []) q in
-      let count : length here ≡ length t = sym (ap length name ∙ stand_count here (members e.1) (L // e.0) stand.3) in (
-        h.0 ∙ name,
-        subst (λ l. SchemaEach l (members e.1) (L // e.0)) (sym (h.1 ∙ ap (take (length t)) stand.2 ∙ take_at here after (length t) count))
-            (schemas_answer o answers here (members e.1) (L // e.0) stand.3),
-        maps_answer ts (drop (length t) ns) maps es L h.2 (ap (drop 1) q) (subst (λ l. StandInner o answers l es L) (sym (ap (drop (length t)) stand.2 ∙ drop_at here after (length t) count)) stand.4),
+      let each = schemas_answer o answers here (members e.1) (L // e.0) stand.3 in
+      let count : length here ≡ length t = each_count o answers (schema_answers o answers) here (members e.1) (L // e.0) each ∙ sym (ap length name) in (
+        record {
+          nodes = here;
+          held = h.0 ∙ (λ i. zip (name i) ((ap (take (length t)) stand.2 ∙ take_at here after (length t) count) i));
+          each = each;
+        },
+        maps_answer ts (drop (length t) ns) maps es L h.1 (ap (drop 1) q) (subst (λ l. StandInner o answers l es L) (sym (ap (drop (length t)) stand.2 ∙ drop_at here after (length t) count)) stand.4),
       )
 
-  pub makes_property_dependencies : (m : SmallMap (SmallMap N)) (texts : Vec (List Name) Global) (ns : List N) (L : Path) → AreCut texts.items ns m.nodes.items
-      → MakesMember o answers (shape.PropertyDependencies m.names texts) L ns (choices_of m L ∷ [])
-  makes_property_dependencies m texts ns L is ms x P p s h = subst (λ n. KeywordMeans o answers ms (choices_of m L ∷ []) (n, x.1) P) (sym s.0)
-      (means_property_dependencies m L x.1 s.2 (maps_answer texts.items ns m.nodes.items (members x.1) L is s.3 h) ms P (p ∙ ap (λ n. P // n) s.0))
+  module _ (m : SmallMap (SmallMap N)) (maps : List (SmallMap N)) (keys : List Name) (held : named m ≡ zip keys maps) (texts : Vec (List Name) Global) (ns : List N) (L : Path)
+      (is : AreCut texts.items ns maps) where
+    pub makes_property_dependencies : MakesMember o answers (shape.PropertyDependencies keys texts) L ns (choices_of m L ∷ [])
+    makes_property_dependencies ms x P p s h = subst (λ n. KeywordMeans o answers ms (choices_of m L ∷ []) (n, x.1) P) (sym s.0)
+        (means_property_dependencies m maps L x.1 (held ∙ ap (λ ks. zip ks maps) s.2) (maps_answer texts.items ns maps (members x.1) L is s.3 h) ms P (p ∙ ap (λ n. P // n) s.0))
+
+    pub keys_of_property_dependencies : MakesPropertyDependencies o answers (shape.PropertyDependencies keys texts) L ns (choices_of m L)
+    keys_of_property_dependencies x s h = choices_are m maps L x.1 (held ∙ ap (λ ks. zip ks maps) s.2) (maps_answer texts.items ns maps (members x.1) L is s.3 h)

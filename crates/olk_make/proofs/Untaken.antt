@@ -1,5 +1,5 @@
 -- What is made of parts in an object where no keyword takes what another holds.
-use Rattle.std.specs.Prelude.{◌≡◌, true, false, Bool, ◌||◌, ◌&&◌, List, [], ◌∷◌, ◌++◌, map, codes, Option, Some, None}
+use Rattle.std.specs.Prelude.{◌≡◌, false, ◌||◌, ◌&&◌, List, [], ◌∷◌, ◌++◌, map, Option, Some, None}
 use Rattle.std.specs.List.{flat_map}
 use Rattle.std.proofs.Common.{refl, sym, ◌∙◌, ap, subst}
 use mathlib.Core.Bool.{true≢false}
@@ -9,7 +9,6 @@ use Rattle.olk_spec.specs.Schemas.{listed}
 use Rattle.olk_spec.specs.Malformed.{has_repeat}
 use Rattle.olk_base.specs.Kit.{Kit}
 use Rattle.olk_tree.specs.Answers.{Answers}
-use Rattle.olk_tree.specs.declared.map.SmallMap.{SmallMap}
 use Rattle.olk_tree.specs.declared.node.KeywordOver.{KeywordOver}
 use Rattle.olk_meaning.specs.Conditions.{known_of, is_condition, is_restricted, is_restriction}
 use Rattle.olk_meaning.specs.Plans.{Planned, plan_of, is_case, tells_members, head, claims}
@@ -19,16 +18,17 @@ use Rattle.olk_read.specs.Reading.{reads_of}
 use Rattle.olk_read.specs.declared.shape.Shape.{Shape}
 use Rattle.olk_read.specs.declared.shape.Shape.TheVariants as shape
 use Rattle.olk_tree.specs.declared.node.KeywordOver.TheVariants as keyword
+use Rattle.olk_make.specs.declared.part.DeclaredNodes.{DeclaredNodes}
 use Rattle.olk_make.specs.declared.part.Part.{Part}
 use Rattle.olk_make.specs.declared.part.Patterns.{Patterns}
 use Rattle.olk_make.specs.declared.part.Taken.{Taken}
-use Rattle.olk_make.specs.Standing.{StandAt, PartStands, is_taken, nothing_taken}
+use Rattle.olk_make.specs.Standing.{StandAt, PartStands, nothing_taken}
 use Rattle.olk_make.specs.Making.{KeywordsMean, MakesPart, AppendsPart, ObjectIsMade}
 use Rattle.olk_make.proofs.Together.{one_more_keyword, heads_mean_all}
 use Rattle.olk_make.proofs.Makes.{if_fits, restriction_named, part_of_own, leaf_alone, makes_leaf}
 
 module _ {K R N : Type 0} (o : Kit K R) (answers : N → Answers) where
-  abbrev taken_of : Option N → Option N → Option (SmallMap N) → Option (Patterns R N) → Taken R N
+  abbrev taken_of : Option N → Option N → Option (DeclaredNodes N) → Option (Patterns R N) → Taken R N
   taken_of t e ds ps = record { cases = record { then_schema = t; else_schema = e }; beside = record { properties = ds; patterns = ps } }
 
   is_nothing : (t : Taken R N) → t.cases.then_schema ≡ None → t.cases.else_schema ≡ None → t.beside.properties ≡ None → t.beside.patterns ≡ None → t ≡ nothing_taken

@@ -9,7 +9,7 @@ use Rattle.olk_spec.specs.Malformed.{items_of_array}
 use Rattle.olk_spec.specs.declared.TheConstants.{HASHMAP_THRESHOLD}
 use Rattle.olk_base.specs.Kit.{Kit}
 use Rattle.olk_base.specs.declared.pattern.CompiledPattern.{CompiledPattern}
-use Rattle.olk_tree.specs.Maps.{names_in, nodes_in}
+use Rattle.olk_tree.specs.Maps.{keys_in, nodes_in, mapped, named}
 use Rattle.olk_tree.specs.Ascending.{Ascend}
 use Rattle.olk_tree.specs.declared.map.SmallMap.{SmallMap}
 use Rattle.olk_tree.specs.declared.properties_map.PropertiesMap.{PropertiesMap}
@@ -23,6 +23,7 @@ use Rattle.olk_tree.specs.Answers.{Answers}
 use Rattle.olk_tree.specs.Places.{AnswersBy}
 use Rattle.olk_make.specs.declared.part.Patterns.{Patterns}
 use Rattle.olk_make.specs.declared.part.Beside.{Beside}
+use Rattle.olk_make.specs.declared.part.DeclaredNodes.{DeclaredNodes}
 
 -- ---- the form over given nodes, at its place
 
@@ -55,16 +56,16 @@ IsMapFor n (Big m) = HASHMAP_THRESHOLD ≤ n
 
 -- the form at L in the object at P, over these names and nodes: with two fused names, or alone
 abbrev pub IsFormOfProperties : {K R N : Type 0} → Path → Path → List Name → List N → Option (Name × Name) → KeywordOver K R N → Type 0
-IsFormOfProperties P L names ns None (keyword.Properties k) = (names_in k.properties ≡ names) × (nodes_in k.properties ≡ ns) × IsMapFor (length names) k.properties × (k.location ≡ L)
-IsFormOfProperties P L names ns (Some t) (keyword.PropertiesWithRequired2 k) = (k.properties.names ≡ names) × (k.properties.nodes.items ≡ ns) × (k.location ≡ L) × (string_bytes k.first ≡ t.0) × (string_bytes k.second ≡ t.1) × (k.required_location ≡ P // codes "required")
+IsFormOfProperties P L names ns None (keyword.Properties k) = (mapped k.properties ≡ zip names ns) × IsMapFor (length names) k.properties × (k.location ≡ L)
+IsFormOfProperties P L names ns (Some t) (keyword.PropertiesWithRequired2 k) = (named k.properties ≡ zip names ns) × (k.location ≡ L) × (string_bytes k.first ≡ t.0) × (string_bytes k.second ≡ t.1) × (k.required_location ≡ P // codes "required")
 IsFormOfProperties P L names ns t k = ⊥
 
 -- a map of these names, which ascend, and nodes, or none
-abbrev pub IsMapOf : {N : Type 0} → Option (SmallMap N) → Option (PropertiesMap N) → Type 0
+abbrev pub IsMapOf : {N : Type 0} → Option (DeclaredNodes N) → Option (PropertiesMap N) → Type 0
 IsMapOf None None = ⊤
 IsMapOf None (Some m) = ⊥
 IsMapOf (Some d) None = ⊥
-IsMapOf (Some d) (Some m) = (names_in m ≡ d.names) × (nodes_in m ≡ d.nodes.items) × IsMapFor (length d.names) m × Ascend d.names
+IsMapOf (Some d) (Some m) = (mapped m ≡ zip d.names d.nodes.items) × IsMapFor (length d.names) m × Ascend d.names
 
 -- the one name of `required` in the object at P, or none
 abbrev pub IsRequiredName : Path → Option Name → Option RequiredName → Type 0
@@ -87,6 +88,11 @@ IsBoxed v k = ⊥
 abbrev pub IsFormOfAdditionalProperties : {K R N : Type 0} → Path → Path → Option N → Beside R N → Option Name → KeywordOver K R N → Type 0
 IsFormOfAdditionalProperties P L rest b n (keyword.AdditionalProperties k) = (k.value.rest ≡ rest) × IsMapOf b.properties k.value.properties × HasPatterns b.patterns k.value × IsRequiredName P n k.value.required × (k.value.location ≡ L)
 IsFormOfAdditionalProperties P L rest b n k = ⊥
+
+-- `dependentRequired`, `dependentSchemas` or `dependencies` at L over these keys and nodes
+abbrev pub IsFormOfDependencies : {K R N : Type 0} → Path → List (Name × N) → KeywordOver K R N → Type 0
+IsFormOfDependencies L es (keyword.Dependencies k) = (named k.dependencies ≡ es) × (k.location ≡ L)
+IsFormOfDependencies L es k = ⊥
 
 -- `if` over its node, and those of `then` and `else` that there are
 abbrev pub IsFormOfIf : {K R N : Type 0} → Path → N → Option N → Option N → KeywordOver K R N → Type 0
@@ -123,7 +129,7 @@ abbrev pub AreCut : {N : Type 0} → List (List Name) → List N → List (Small
 AreCut [] ns [] = ⊤
 AreCut [] ns (m ∷ maps) = ⊥
 AreCut (t ∷ ts) ns [] = ⊥
-AreCut (t ∷ ts) ns (m ∷ maps) = (m.names ≡ t) × (m.nodes.items ≡ take (length t) ns) × AreCut ts (drop (length t) ns) maps
+AreCut (t ∷ ts) ns (m ∷ maps) = (named m ≡ zip t (take (length t) ns)) × AreCut ts (drop (length t) ns) maps
 
 -- ---- the form for a value, at its place L
 
@@ -185,7 +191,7 @@ IsAdditionalProperties P L rest names patterns n k = ⊥
 
 -- `dependentRequired`, `dependentSchemas` or `dependencies` with these keys
 abbrev pub IsDependencies : {K R N : Type 0} → Path → List Name → KeywordOver K R N → Type 0
-IsDependencies L ns (keyword.Dependencies k) = (k.dependencies.names ≡ ns) × (k.location ≡ L)
+IsDependencies L ns (keyword.Dependencies k) = (keys_in (named k.dependencies) ≡ ns) × (k.location ≡ L)
 IsDependencies L ns k = ⊥
 
 -- `propertyNames` with a schema
@@ -200,5 +206,5 @@ IsPropertyNamesFalse L k = ⊥
 
 -- `propertyDependencies` with these keys, and these texts at each
 abbrev pub IsPropertyDependencies : {K R N : Type 0} → Path → List Name → List (List Name) → KeywordOver K R N → Type 0
-IsPropertyDependencies L ns ts (keyword.PropertyDependencies k) = (k.dependencies.names ≡ ns) × (map (λ m. m.names) k.dependencies.nodes.items ≡ ts) × (k.location ≡ L)
+IsPropertyDependencies L ns ts (keyword.PropertyDependencies k) = (keys_in (named k.dependencies) ≡ ns) × (map (λ m. keys_in (named m)) (nodes_in (named k.dependencies)) ≡ ts) × (k.location ≡ L)
 IsPropertyDependencies L ns ts k = ⊥

@@ -3,12 +3,13 @@ use Rattle.std.specs.Prelude.{◌≡◌, true, false, Bool, List, [], ◌∷◌,
 use Rattle.std.specs.List.{flat_map}
 use Rattle.serde_json.specs.Data.{Data, Members}
 use Rattle.olk_spec.specs.Names.{Name, Path, ◌//◌, lookup_name}
-use Rattle.olk_spec.specs.Schemas.{listed}
+use Rattle.olk_spec.specs.Schemas.{listed, members}
 use Rattle.olk_spec.specs.Malformed.{has_repeat}
 use Rattle.olk_base.specs.Kit.{Kit}
 use Rattle.olk_tree.specs.declared.node.KeywordOver.{KeywordOver}
 use Rattle.olk_meaning.specs.Plans.{Planned, plan_of, head, claims}
 use Rattle.olk_meaning.specs.Members.{member_child, StandsAlone}
+use Rattle.olk_make.specs.Forms.{IsDependencies, IsPropertyDependencies}
 use Rattle.olk_make.specs.Holding.{which, all_malformed, show, all_formed, Holds, Covers}
 use Rattle.olk_meaning.specs.Conditions.{is_condition, known_of}
 use Rattle.olk_tree.specs.Answers.{Answers}
@@ -42,6 +43,15 @@ module _ {K R N : Type 0} (o : Kit K R) (answers : N → Answers) where
   -- keywords that are made of a shape and nodes at L mean the member whose part these are, in each object
   abbrev pub MakesMember : Shape K R → Path → List N → List (KeywordOver K R N) → Type 0
   MakesMember x L ns ks = (ms : Members) (m : Name × Data) (P : Path) → L ≡ P // m.0 → IsShape o m.0 m.1 x → StandAt o answers (reads_of x) ns m.1 L → KeywordMeans ms ks m P
+
+  -- a keyword that is made of a shape and nodes at L has the keys of each value whose part these are
+  abbrev pub MakesDependencies : Shape K R → Path → List N → KeywordOver K R N → Type 0
+  MakesDependencies x L ns k = (m : Name × Data) → IsShape o m.0 m.1 x → StandAt o answers (reads_of x) ns m.1 L → IsDependencies L (map (λ e. e.0) (members m.1)) k
+
+  -- and the texts at each
+  abbrev pub MakesPropertyDependencies : Shape K R → Path → List N → KeywordOver K R N → Type 0
+  MakesPropertyDependencies x L ns k = (m : Name × Data) → IsShape o m.0 m.1 x → StandAt o answers (reads_of x) ns m.1 L
+      → IsPropertyDependencies L (map (λ e. e.0) (members m.1)) (map (λ e. map (λ c. c.0) (members e.1)) (members m.1)) k
 
   -- and what it claims in each object at P that has this plan, where no other keyword takes what it holds
   abbrev pub MakesClaims : Shape K R → Path → List N → Path → Planned → List (KeywordOver K R N) → Type 0

@@ -7,7 +7,6 @@ use Rattle.olk_spec.specs.Malformed.{items_of_array}
 use Rattle.olk_base.specs.Kit.{Kit}
 use Rattle.olk_base.specs.declared.pattern.CompiledPattern.{CompiledPattern}
 use Rattle.olk_tree.specs.Tables.{IsTableOf}
-use Rattle.olk_tree.specs.declared.map.SmallMap.{SmallMap}
 use Rattle.olk_tree.specs.Answers.{Answers}
 use Rattle.olk_tree.specs.Places.{Stands}
 use Rattle.olk_make.specs.Holding.{StandEach, StandInner}
@@ -17,6 +16,7 @@ use Rattle.olk_make.specs.declared.part.Part.{Part}
 use Rattle.olk_make.specs.declared.part.Cases.{Cases}
 use Rattle.olk_make.specs.declared.part.Patterns.{Patterns}
 use Rattle.olk_make.specs.declared.part.Beside.{Beside}
+use Rattle.olk_make.specs.declared.part.DeclaredNodes.{DeclaredNodes}
 use Rattle.olk_make.specs.declared.part.Taken.{Taken}
 use Rattle.olk_meaning.specs.Conditions.{Known}
 use Rattle.olk_meaning.specs.Plans.{Planned, is_case, tells_members}
@@ -116,7 +116,7 @@ module _ {K R N : Type 0} (o : Kit K R) (answers : N → Answers) where
       pub nodes : StandEach o answers x.nodes.items (members d) L
 
   -- names with their nodes stand for `properties` at L
-  pub record DeclaredStand (x : SmallMap N) (L : Path) (d : Data) : Type 0 where
+  pub record DeclaredStand (x : DeclaredNodes N) (L : Path) (d : Data) : Type 0 where
     pub kind : is_object d ≡ true
     pub names : x.names ≡ map (λ e. e.0) (members d)
     pub nodes : StandEach o answers x.nodes.items (members d) L

@@ -5,7 +5,7 @@ ghost use Rattle.olk_make.specs.Forms.{IsBoxed, IsMapOf, IsRequiredName, IsFormO
 ghost use Rattle.olk_meaning.specs.Plans.{planned};
 ghost use Rattle.olk_make.specs.Making.{MakesRestriction};
 
-use crate::part::Beside;
+use crate::part::{Beside, DeclaredNodes};
 use crate::pattern_properties::with_nodes;
 use crate::properties::map_of;
 use olk_base::{Leaf, RegexEngine};
@@ -13,19 +13,25 @@ use olk_meaning::Plan;
 use olk_paths::Location;
 use olk_tree::additional_properties::{AdditionalProperties, RequiredName};
 use olk_tree::built_node::BuiltNode;
-use olk_tree::map::SmallMap;
 use olk_tree::node::KeywordOver;
 use olk_tree::pattern_table::PatternTable;
 use olk_tree::properties_map::PropertiesMap;
 use std::alloc::{AllocError, Global};
 
 /// The map of the declared names, if there are any.
-fn declared<N: Drop>(properties: Option<SmallMap<N>>) -> Option<PropertiesMap<N>>
-    ensures { IsMapOf properties result }
+///
+/// # Errors
+///
+/// Out of memory.
+fn declared<N: Drop>(
+    alloc: Global,
+    properties: Option<DeclaredNodes<N>>,
+) -> Result<Option<PropertiesMap<N>>, AllocError>
+    ensures { IfOk result (IsMapOf properties) }
 {
     match properties {
-        Some(map) => Some(map_of(map.names, map.nodes)),
-        None => None,
+        Some(held) => Ok(Some(map_of(alloc, held.names, held.nodes)?)),
+        None => Ok(None),
     }
 }
 
@@ -86,7 +92,7 @@ fn form<K, R: Drop, N: Drop>(
         properties,
         patterns,
     } = beside;
-    let properties = declared(properties);
+    let properties = declared(alloc, properties)?;
     let required = required(alloc, plan, place)?;
     let (patterns, table, patterns_location) = match patterns {
         Some(held) => (

@@ -1,14 +1,15 @@
 //! `dependentRequired`, `dependentSchemas` and `dependencies`: making their validators.
-ghost use Rattle.std.specs.Prelude.{◌∷◌, [], IfOk};
+ghost use Rattle.std.specs.Prelude.{◌∷◌, [], IfOk, zip};
 ghost use Rattle.olk_base.specs.Kit.{kit};
-ghost use Rattle.olk_make.specs.Forms.{IsDependencies, IsListAt, AreListsAt, AreInOrder};
-ghost use Rattle.olk_make.specs.Making.{MakesMember};
+ghost use Rattle.olk_make.specs.Forms.{IsFormOfDependencies, IsListAt, AreListsAt, AreInOrder};
+ghost use Rattle.olk_make.specs.Making.{MakesDependencies, MakesMember};
 ghost use Rattle.olk_read.specs.declared.shape.Shape.TheVariants as shape;
 
 use olk_base::{Leaf, RegexEngine, append};
 use olk_paths::Location;
 use olk_tree::built_node::BuiltNode;
 use olk_tree::dependencies::Dependencies;
+use olk_tree::entries::SortedEntries;
 use olk_tree::map::{SmallMap, SortedNames};
 use olk_tree::node::{Body, KeywordOver};
 use olk_tree::required::RequiredValidator;
@@ -86,6 +87,26 @@ fn nodes_in_order<K: Leaf, R: RegexEngine, N: BuiltNode<K, R>>(
     Ok(nodes)
 }
 
+/// The validator of these keys, each with the node beside it.
+///
+/// # Errors
+///
+/// Out of memory.
+fn over_entries<K, R, N: Drop>(
+    alloc: Global,
+    location: Location,
+    keys: SortedNames,
+    nodes: Vec<N>,
+) -> Result<KeywordOver<K, R, N>, AllocError>
+    ensures { IfOk result (IsFormOfDependencies location (zip keys nodes.items)) }
+{
+    let entries = SortedEntries::of(alloc, keys, nodes)?;
+    Ok(KeywordOver::Dependencies(Dependencies {
+        dependencies: SmallMap { entries },
+        location,
+    }))
+}
+
 /// The validator of `dependentRequired` with these keys, and the names that each lists.
 ///
 /// # Errors
@@ -97,31 +118,32 @@ pub fn make_required<K: Leaf, R: RegexEngine, N: BuiltNode<K, R>>(
     keys: SortedNames,
     lists: Vec<Vec<String>>,
 ) -> Result<KeywordOver<K, R, N>, AllocError>
-    ensures form { IfOk result (IsDependencies location keys) }
+    ensures form { IfOk result (MakesDependencies (kit K.Leaf R.RegexEngine) N.answers
+        (shape.DependentRequired keys lists) location []) }
     ensures makes { IfOk result (λ k. MakesMember (kit K.Leaf R.RegexEngine) N.answers
         (shape.DependentRequired keys lists) location [] (k ∷ [])) }
 {
     let nodes = nodes_of_lists(alloc, &location, lists)?;
-    Ok(KeywordOver::Dependencies(Dependencies {
-        dependencies: SmallMap { names: keys, nodes },
-        location,
-    }))
+    over_entries(alloc, location, keys, nodes)
 }
 
 /// The validator of `dependentSchemas` with these keys, and the node of each.
+///
+/// # Errors
+///
+/// Out of memory.
 pub fn make_schemas<K: Leaf, R: RegexEngine, N: BuiltNode<K, R>>(
+    alloc: Global,
     location: Location,
     keys: SortedNames,
     nodes: Vec<N>,
-) -> KeywordOver<K, R, N>
-    ensures form { IsDependencies location keys result }
-    ensures makes { MakesMember (kit K.Leaf R.RegexEngine) N.answers (shape.DependentSchemas keys)
-        location nodes.items (result ∷ []) }
+) -> Result<KeywordOver<K, R, N>, AllocError>
+    ensures form { IfOk result (MakesDependencies (kit K.Leaf R.RegexEngine) N.answers
+        (shape.DependentSchemas keys) location nodes.items) }
+    ensures makes { IfOk result (λ k. MakesMember (kit K.Leaf R.RegexEngine) N.answers
+        (shape.DependentSchemas keys) location nodes.items (k ∷ [])) }
 {
-    KeywordOver::Dependencies(Dependencies {
-        dependencies: SmallMap { names: keys, nodes },
-        location,
-    })
+    over_entries(alloc, location, keys, nodes)
 }
 
 /// The validator of `dependencies` with these keys, the names that each lists, and the nodes of
@@ -137,13 +159,11 @@ pub fn make<K: Leaf, R: RegexEngine, N: BuiltNode<K, R>>(
     lists: Vec<Option<Vec<String>>>,
     schemas: Vec<N>,
 ) -> Result<KeywordOver<K, R, N>, AllocError>
-    ensures form { IfOk result (IsDependencies location keys) }
+    ensures form { IfOk result (MakesDependencies (kit K.Leaf R.RegexEngine) N.answers
+        (shape.Dependencies keys lists) location schemas.items) }
     ensures makes { IfOk result (λ k. MakesMember (kit K.Leaf R.RegexEngine) N.answers
         (shape.Dependencies keys lists) location schemas.items (k ∷ [])) }
 {
     let nodes = nodes_in_order(alloc, &location, lists, schemas)?;
-    Ok(KeywordOver::Dependencies(Dependencies {
-        dependencies: SmallMap { names: keys, nodes },
-        location,
-    }))
+    over_entries(alloc, location, keys, nodes)
 }

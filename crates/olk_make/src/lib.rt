@@ -20,4 +20,4 @@ pub mod property_names;
 pub mod required;
 
 pub use making::{append_keyword, make_keywords};
-pub use part::{Beside, Cases, Part, Patterns, Taken};
+pub use part::{Beside, Cases, DeclaredNodes, Part, Patterns, Taken};

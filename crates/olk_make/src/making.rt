@@ -8,7 +8,7 @@ ghost use Rattle.olk_meaning.specs.Plans.{planned};
 ghost use Rattle.olk_make.specs.Standing.{is_if_shape, is_restriction_shape, Takes, PartsStand, AreTaken};
 ghost use Rattle.olk_make.specs.Making.{MakesPart, AppendsPart, MakesObject};
 
-use crate::part::{Part, Patterns, Taken};
+use crate::part::{DeclaredNodes, Part, Patterns, Taken};
 use crate::{
     additional_properties, all_of, any_of, dependencies, if_, not, one_of, pattern_properties,
     properties, property_dependencies, property_names, required,
@@ -18,7 +18,6 @@ use olk_meaning::Plan;
 use olk_paths::Location;
 use olk_read::Shape;
 use olk_tree::built_node::BuiltNode;
-use olk_tree::map::SmallMap;
 use olk_tree::node::KeywordOver;
 use std::alloc::{AllocError, Global};
 
@@ -45,7 +44,7 @@ fn take<K, R: Drop, N: Drop>(
             None
         }
         Shape::Properties(names) if plan.is_restricted() => {
-            taken.beside.properties = Some(SmallMap { names, nodes });
+            taken.beside.properties = Some(DeclaredNodes { names, nodes });
             None
         }
         Shape::PatternProperties(patterns, table) if plan.is_restricted() => {
@@ -151,9 +150,9 @@ fn make_keyword<K: Leaf, R: RegexEngine, N: BuiltNode<K, R>>(
         Shape::DependentRequired(keys, lists) => Ok(Some(dependencies::make_required(
             alloc, location, keys, lists,
         )?)),
-        Shape::DependentSchemas(keys) => {
-            Ok(Some(dependencies::make_schemas(location, keys, nodes)))
-        }
+        Shape::DependentSchemas(keys) => Ok(Some(dependencies::make_schemas(
+            alloc, location, keys, nodes,
+        )?)),
         Shape::Dependencies(keys, lists) => Ok(Some(dependencies::make(
             alloc, location, keys, lists, nodes,
         )?)),

@@ -4,7 +4,7 @@ ghost use Rattle.std.specs.Prelude.{◌≡◌, None};
 use olk_base::CompiledPattern;
 use olk_paths::Location;
 use olk_read::Shape;
-use olk_tree::map::SmallMap;
+use olk_tree::map::SortedNames;
 use olk_tree::pattern_table::PatternTable;
 
 /// A member of a schema object: its place, its shape, and the nodes of the places that it reads.
@@ -47,6 +47,13 @@ impl<N> Cases<N> {
     }
 }
 
+/// What `properties` holds: the declared names, and the nodes of their schemas.
+#[derive(Drop)]
+pub struct DeclaredNodes<N> {
+    pub names: SortedNames,
+    pub nodes: Vec<N>,
+}
+
 /// What `patternProperties` holds: its place, its patterns, what they say of the names that are
 /// declared beside it, and the nodes of its entries.
 #[derive(Drop)]
@@ -61,7 +68,7 @@ pub struct Patterns<R, N> {
 /// does, and what `patternProperties` holds, if that does.
 #[derive(Drop)]
 pub struct Beside<R, N> {
-    pub properties: Option<SmallMap<N>>,
+    pub properties: Option<DeclaredNodes<N>>,
     pub patterns: Option<Patterns<R, N>>,
 }
 

@@ -1,7 +1,7 @@
 //! `properties`: making its validator.
-ghost use Rattle.std.specs.Prelude.{◌≡◌, ◌∷◌, [], IfOk, length};
+ghost use Rattle.std.specs.Prelude.{◌≡◌, ◌∷◌, [], IfOk, length, zip};
 ghost use Rattle.olk_base.specs.Kit.{kit};
-ghost use Rattle.olk_tree.specs.Maps.{names_in, nodes_in};
+ghost use Rattle.olk_tree.specs.Maps.{mapped};
 ghost use Rattle.olk_tree.specs.Ascending.{Ascend};
 ghost use Rattle.olk_make.specs.Forms.{IsMapFor, IsFormOfProperties, IsProperties};
 ghost use Rattle.olk_meaning.specs.Plans.{planned};
@@ -14,23 +14,33 @@ use olk_paths::Location;
 use olk_spec::HASHMAP_THRESHOLD;
 use olk_tree::big_map::BigMap;
 use olk_tree::built_node::BuiltNode;
+use olk_tree::entries::SortedEntries;
 use olk_tree::map::{SmallMap, SortedNames};
 use olk_tree::node::KeywordOver;
 use olk_tree::properties::{Properties, SmallPropertiesWithRequired2};
 use olk_tree::properties_map::PropertiesMap;
 use std::alloc::{AllocError, Global};
 
-/// The map of these names.
-pub(crate) fn map_of<N: Drop>(names: SortedNames, nodes: Vec<N>) -> PropertiesMap<N>
-    ensures names { names_in result ≡ names }
-    ensures nodes { nodes_in result ≡ nodes.items }
-    ensures size { IsMapFor (length names) result }
+/// The map of these names, each with the node beside it.
+///
+/// # Errors
+///
+/// Out of memory.
+pub(crate) fn map_of<N: Drop>(
+    alloc: Global,
+    names: SortedNames,
+    nodes: Vec<N>,
+) -> Result<PropertiesMap<N>, AllocError>
+    ensures entries { IfOk result (λ m. mapped m ≡ zip names nodes.items) }
+    ensures size { IfOk result (IsMapFor (length names)) }
     ensures ordered { Ascend names }
 {
-    if names.len() < HASHMAP_THRESHOLD {
-        return PropertiesMap::Small(SmallMap { names, nodes });
+    let is_small = names.len() < HASHMAP_THRESHOLD;
+    let entries = SortedEntries::of(alloc, names, nodes)?;
+    if is_small {
+        return Ok(PropertiesMap::Small(SmallMap { entries }));
     }
-    PropertiesMap::Big(BigMap { names, nodes })
+    Ok(PropertiesMap::Big(BigMap { entries }))
 }
 
 /// The form that the plan names, in the object at the place.
@@ -46,7 +56,7 @@ fn form<K, R, N: Drop>(
         (planned plan.entry).fused_pair) }
 {
     let Some((first, second)) = plan.fused_pair() else {
-        let properties = map_of(names, nodes);
+        let properties = map_of(alloc, names, nodes)?;
         return Ok(KeywordOver::Properties(Properties {
             properties,
             location,
@@ -55,9 +65,9 @@ fn form<K, R, N: Drop>(
     let first = String::from_str(alloc, first)?;
     let second = String::from_str(alloc, second)?;
     let required_location = place.join(alloc, "required")?;
-    let properties = SmallMap { names, nodes };
+    let entries = SortedEntries::of(alloc, names, nodes)?;
     Ok(KeywordOver::PropertiesWithRequired2(SmallPropertiesWithRequired2 {
-        properties,
+        properties: SmallMap { entries },
         first,
         second,
         location,

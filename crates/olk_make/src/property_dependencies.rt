@@ -2,13 +2,14 @@
 ghost use Rattle.std.specs.Prelude.{◌≡◌, ◌+◌, ◌++◌, ◌∷◌, [], length, min, IfOk};
 ghost use Rattle.std.specs.Vec.Iter.{into_iter_items, into_iter_len};
 ghost use Rattle.olk_base.specs.Kit.{kit};
-ghost use Rattle.olk_make.specs.Forms.{IsPropertyDependencies, AreCut};
-ghost use Rattle.olk_make.specs.Making.{MakesMember};
+ghost use Rattle.olk_make.specs.Forms.{AreCut};
+ghost use Rattle.olk_make.specs.Making.{MakesMember, MakesPropertyDependencies};
 ghost use Rattle.olk_read.specs.declared.shape.Shape.TheVariants as shape;
 
 use olk_base::{Leaf, RegexEngine, append};
 use olk_paths::Location;
 use olk_tree::built_node::BuiltNode;
+use olk_tree::entries::SortedEntries;
 use olk_tree::map::{SmallMap, SortedNames};
 use olk_tree::node::KeywordOver;
 use olk_tree::property_dependencies::PropertyDependencies;
@@ -58,7 +59,8 @@ fn cut<N: Drop>(
     let mut maps = Vec::new(alloc);
     for names in texts {
         let nodes = take_next(alloc, &mut nodes, names.len())?;
-        append(&mut maps, SmallMap { names, nodes })?;
+        let entries = SortedEntries::of(alloc, names, nodes)?;
+        append(&mut maps, SmallMap { entries })?;
     }
     Ok(maps)
 }
@@ -75,16 +77,15 @@ pub fn make<K: Leaf, R: RegexEngine, N: BuiltNode<K, R>>(
     texts: Vec<SortedNames>,
     nodes: Vec<N>,
 ) -> Result<KeywordOver<K, R, N>, AllocError>
-    ensures form { IfOk result (IsPropertyDependencies location keys texts.items) }
+    ensures form { IfOk result (MakesPropertyDependencies (kit K.Leaf R.RegexEngine) N.answers
+        (shape.PropertyDependencies keys texts) location nodes.items) }
     ensures makes { IfOk result (λ k. MakesMember (kit K.Leaf R.RegexEngine) N.answers
         (shape.PropertyDependencies keys texts) location nodes.items (k ∷ [])) }
 {
     let maps = cut(alloc, texts, nodes)?;
+    let entries = SortedEntries::of(alloc, keys, maps)?;
     Ok(KeywordOver::PropertyDependencies(PropertyDependencies {
-        dependencies: SmallMap {
-            names: keys,
-            nodes: maps,
-        },
+        dependencies: SmallMap { entries },
         location,
     }))
 }

@@ -1,5 +1,5 @@
 -- One level of a node: its answers, over those of the nodes below it.
-use Rattle.std.specs.Prelude.{◌≡◌, ◌==◌, [], ◌∷◌, Bool, true, not, ◌++◌, ◌||◌, ◌&&◌, map, Option, Some, None, is_some, List, Vec, Box, bytes_eq, string_bytes}
+use Rattle.std.specs.Prelude.{◌≡◌, ◌==◌, nat_lt, length, [], ◌∷◌, Bool, true, not, ◌++◌, ◌||◌, ◌&&◌, map, Option, Some, None, is_some, List, Vec, Box, bytes_eq, string_bytes}
 use Rattle.std.specs.declared.alloc.Global.{Global}
 use Rattle.std.specs.List.{flat_map, list_all}
 use Rattle.std.specs.Option.{option_map_or}
@@ -9,6 +9,7 @@ use Rattle.std.proofs.lemmas.List.Folds.{list_all-map}
 use mathlib.Core.Path.{subst₂}
 use Rattle.serde_json.specs.Data.{Data}
 use Rattle.olk_spec.specs.Names.{Name, Path, ◌//◌, is_empty}
+use Rattle.olk_spec.specs.declared.TheConstants.{HASHMAP_THRESHOLD}
 use Rattle.olk_spec.specs.Faults.{AnyOf, context}
 use Rattle.olk_spec.specs.Schemas.{at}
 use Rattle.olk_spec.specs.Accepts.{missing}
@@ -18,7 +19,7 @@ use Rattle.olk_base.specs.Kit.{Kit}
 use Rattle.olk_base.specs.declared.pattern.CompiledPattern.{CompiledPattern}
 use Rattle.olk_tree.specs.Shown.{missing_trees, branch_trees}
 use Rattle.olk_tree.specs.Questions.{always, both, every}
-use Rattle.olk_tree.specs.Maps.{named, nodes_in, two_texts}
+use Rattle.olk_tree.specs.Maps.{named, nodes_in, mapped, two_texts}
 use Rattle.olk_tree.specs.Dependencies.{due_nodes}
 use Rattle.olk_tree.specs.PropertyDependencies.{chosen_nodes}
 use Rattle.olk_tree.specs.OneOf.{one_of_report}
@@ -43,8 +44,8 @@ use Rattle.olk_tree.specs.declared.node.Body.TheVariants.{True, False, Keywords,
 use Rattle.olk_node.specs.declared.node.SchemaNode.{SchemaNode, map-SchemaNode, out-SchemaNode, fold_out-SchemaNode}
 use Rattle.olk_node.specs.declared.node.SchemaNode.TheOpen.{SchemaNode-F}
 use Rattle.olk_spec.proofs.Maps.{flat_map-map, map-map}
-use Rattle.olk_tree.proofs.AdditionalMaps.{Mapped, at-zip, declared-zip, additional_means-map, additional_report-map, additional_first-map, additional_tree-map}
-use Rattle.olk_tree.proofs.Maps.{all-map, due_nodes-map, chosen_nodes-map, every-map, some-map, every-zip, flat_map-zip, first_of-map, first_of-zip, properties_tree-map, branch_trees-map, any_of_tree-map, one_of_tree-map, how_many-map, exactly_one-map, patterns_mean-map, patterns_report-map, patterns_first-map, patterns_tree-map}
+use Rattle.olk_tree.proofs.AdditionalMaps.{Mapped, placed_entries-map, lookup_placed-map, additional_means-map, additional_report-map, additional_first-map, additional_tree-map}
+use Rattle.olk_tree.proofs.Maps.{with_name, keys_in-map, nodes_in-map, all-map, due_nodes-map, chosen_nodes-map, every-map, some-map, first_of-map, properties_tree-map, branch_trees-map, any_of_tree-map, one_of_tree-map, how_many-map, exactly_one-map, patterns_mean-map, patterns_report-map, patterns_first-map, patterns_tree-map}
 
 -- what holds where a map is of few names, and where it is of many
 few_or_many : {N G : Type 0} (m : PropertiesMap N) → ((s : SmallMap N) → m ≡ Small s → G) → ((b : BigMap N) → m ≡ Big b → G) → G
@@ -84,8 +85,8 @@ module _ {K R : Type 0} (o : Kit K R) where
 
     sides_answer : Mapped (answers o) (sides_of answered) (sides_of k.value)
     sides_answer = record {
-      declared = none_few_or_many k.value.properties (λ e. rw e refl) (λ m e. rw e (declared-zip (answers o) m.names m.nodes.items)) (λ m e. rw e (declared-zip (answers o) m.names m.nodes.items));
-      at = λ x. none_few_or_many k.value.properties (λ e. rw e refl) (λ m e. rw e (at-zip (answers o) m.names m.nodes.items x)) (λ m e. rw e (at-zip (answers o) m.names m.nodes.items x));
+      declared = none_few_or_many k.value.properties (λ e. rw e refl) (λ m e. rw e (placed_entries-map (answers o) m.entries)) (λ m e. rw e (placed_entries-map (answers o) m.entries));
+      at = λ x. none_few_or_many k.value.properties (λ e. rw e refl) (λ m e. rw e (lookup_placed-map (answers o) m.entries x)) (λ m e. rw e (lookup_placed-map (answers o) m.entries x));
       patterns = none_or_one k.value.patterns (λ e. rw e refl) (λ ps e. rw e refl);
       known = refl;
       rest = none_or_one k.value.rest (λ e. rw e refl) (λ r e. rw e refl);
@@ -107,11 +108,11 @@ module _ {K R : Type 0} (o : Kit K R) where
   means_layer n False v = refl
   means_layer n (RequiredNames k) v = refl
   means_layer n (Keywords ks) v = every-map (λ k. validator_means o (λ a. a.means) k v) (λ k. validator_means o (λ n. (answers o n).means) k v) _ (elim [
-    | keyword.Properties k ↦ few_or_many k.properties (λ m e. rw e (every-zip (λ e. every e.1.means (at e.0 v)) (λ e. every (answers o e.1).means (at e.0 v))
-        (answers o) (λ a y. refl) m.names m.nodes.items)) (λ m e. rw e
-        (every-zip (λ e. every e.1.means (at e.0 v)) (λ e. every (answers o e.1).means (at e.0 v)) (answers o) (λ a y. refl) m.names m.nodes.items))
+    | keyword.Properties k ↦ few_or_many k.properties (λ m e. rw e (every-map (λ e. every e.1.means (at e.0 v)) (λ e. every (answers o e.1).means (at e.0 v))
+        (with_name (answers o)) (λ e. refl) m.entries)) (λ m e. rw e
+        (every-map (λ e. every e.1.means (at e.0 v)) (λ e. every (answers o e.1).means (at e.0 v)) (with_name (answers o)) (λ e. refl) m.entries))
     | keyword.PropertiesWithRequired2 k ↦ ap (both (always (is_empty (missing (two_texts k.first k.second) v))))
-        (every-zip (λ e. every e.1.means (at e.0 v)) (λ e. every (answers o e.1).means (at e.0 v)) (answers o) (λ a y. refl) k.properties.names k.properties.nodes.items)
+        (every-map (λ e. every e.1.means (at e.0 v)) (λ e. every (answers o e.1).means (at e.0 v)) (with_name (answers o)) (λ e. refl) k.properties.entries)
     | keyword.Required k ↦ refl
     | keyword.AllOf k ↦ every-map (λ a. a.means v) (λ n. (answers o n).means v) (answers o) (λ n. refl) k.schemas.items
     | keyword.SingleValueAllOf k ↦ refl
@@ -123,11 +124,11 @@ module _ {K R : Type 0} (o : Kit K R) where
     | keyword.IfThen k ↦ refl
     | keyword.IfElse k ↦ refl
     | keyword.IfThenElse k ↦ refl
-    | keyword.Dependencies k ↦ ap (every (λ a. a.means v)) (due_nodes-map (answers o) v k.dependencies.names k.dependencies.nodes.items)
+    | keyword.Dependencies k ↦ ap (every (λ a. a.means v)) (due_nodes-map (answers o) v k.dependencies.entries)
         ∙ every-map (λ a. a.means v) (λ n. (answers o n).means v) (answers o) (λ n. refl) (due_nodes (named k.dependencies) v)
     | keyword.PropertyNames k ↦ refl
     | keyword.PropertyNamesFalse k ↦ refl
-    | keyword.PropertyDependencies k ↦ ap (every (λ a. a.means v)) (chosen_nodes-map (answers o) v _ (λ m. refl) k.dependencies.names k.dependencies.nodes.items)
+    | keyword.PropertyDependencies k ↦ ap (every (λ a. a.means v)) (chosen_nodes-map (answers o) v _ (λ m. refl) k.dependencies.entries)
         ∙ every-map (λ a. a.means v) (λ n. (answers o n).means v) (answers o) (λ n. refl) (chosen_nodes (named k.dependencies) v)
     | keyword.PatternProperties k ↦ patterns_mean-map o.answers (answers o) v o.costs (λ a. a.means) (λ n. (answers o n).means) (λ n w. refl) k.patterns.items
     | keyword.SingleValuePatternProperties k ↦ refl
@@ -144,13 +145,13 @@ module _ {K R : Type 0} (o : Kit K R) where
   finds_layer n (RequiredNames k) u v Q = refl
   finds_layer n (Keywords ks) u v Q =
       flat_map-map (λ k. validator_report o (λ a. a.means) (λ a. a.report) u k v Q) (λ k. validator_report o (λ n. (answers o n).means) (λ n. (answers o n).report) u k v Q) _ (elim [
-        | keyword.Properties k ↦ few_or_many k.properties (λ m e. rw e (flat_map-zip (λ e. flat_map (λ x. e.1.report u x (Q // e.0)) (at e.0 v))
-            (λ e. flat_map (λ x. (answers o e.1).report u x (Q // e.0)) (at e.0 v)) (answers o) (λ a y. refl) m.names m.nodes.items))
-            (λ m e. rw e (flat_map-zip (λ e. flat_map (λ x. e.1.report u x (Q // e.0)) (at e.0 v)) (λ e. flat_map (λ x. (answers o e.1).report u x (Q // e.0)) (at e.0 v))
-            (answers o) (λ a y. refl) m.names m.nodes.items))
+        | keyword.Properties k ↦ few_or_many k.properties (λ m e. rw e (flat_map-map (λ e. flat_map (λ x. e.1.report u x (Q // e.0)) (at e.0 v))
+            (λ e. flat_map (λ x. (answers o e.1).report u x (Q // e.0)) (at e.0 v)) (with_name (answers o)) (λ e. refl) m.entries))
+            (λ m e. rw e (flat_map-map (λ e. flat_map (λ x. e.1.report u x (Q // e.0)) (at e.0 v)) (λ e. flat_map (λ x. (answers o e.1).report u x (Q // e.0)) (at e.0 v))
+            (with_name (answers o)) (λ e. refl) m.entries))
         | keyword.PropertiesWithRequired2 k ↦ ap (λ fs. required_faults (two_texts k.first k.second) v k.required_location Q ++ fs)
-            (flat_map-zip (λ e. flat_map (λ x. e.1.report u x (Q // e.0)) (at e.0 v)) (λ e. flat_map (λ x. (answers o e.1).report u x (Q // e.0)) (at e.0 v))
-            (answers o) (λ a y. refl) k.properties.names k.properties.nodes.items)
+            (flat_map-map (λ e. flat_map (λ x. e.1.report u x (Q // e.0)) (at e.0 v)) (λ e. flat_map (λ x. (answers o e.1).report u x (Q // e.0)) (at e.0 v))
+            (with_name (answers o)) (λ e. refl) k.properties.entries)
         | keyword.Required k ↦ refl
         | keyword.AllOf k ↦ flat_map-map (λ a. a.report u v Q) (λ n. (answers o n).report u v Q) (answers o) (λ n. refl) k.schemas.items
         | keyword.SingleValueAllOf k ↦ refl
@@ -164,11 +165,11 @@ module _ {K R : Type 0} (o : Kit K R) where
         | keyword.IfThen k ↦ refl
         | keyword.IfElse k ↦ refl
         | keyword.IfThenElse k ↦ refl
-        | keyword.Dependencies k ↦ ap (flat_map (λ a. a.report u v Q)) (due_nodes-map (answers o) v k.dependencies.names k.dependencies.nodes.items)
+        | keyword.Dependencies k ↦ ap (flat_map (λ a. a.report u v Q)) (due_nodes-map (answers o) v k.dependencies.entries)
             ∙ flat_map-map (λ a. a.report u v Q) (λ n. (answers o n).report u v Q) (answers o) (λ n. refl) (due_nodes (named k.dependencies) v)
         | keyword.PropertyNames k ↦ refl
         | keyword.PropertyNamesFalse k ↦ refl
-        | keyword.PropertyDependencies k ↦ ap (flat_map (λ a. a.report u v Q)) (chosen_nodes-map (answers o) v _ (λ m. refl) k.dependencies.names k.dependencies.nodes.items)
+        | keyword.PropertyDependencies k ↦ ap (flat_map (λ a. a.report u v Q)) (chosen_nodes-map (answers o) v _ (λ m. refl) k.dependencies.entries)
             ∙ flat_map-map (λ a. a.report u v Q) (λ n. (answers o n).report u v Q) (answers o) (λ n. refl) (chosen_nodes (named k.dependencies) v)
         | keyword.PatternProperties k ↦ patterns_report-map o.answers (answers o) u v (λ a. a.report) (λ n. (answers o n).report) (λ n w R. refl) Q k.patterns.items
         | keyword.SingleValuePatternProperties k ↦ refl
@@ -187,13 +188,13 @@ module _ {K R : Type 0} (o : Kit K R) where
   first_layer n (Keywords ks) u v Q =
       first_of-map (λ k. validator_first o (λ a. a.means) (λ a. a.report) u (λ a. a.first) k v Q)
       (λ k. validator_first o (λ n. (answers o n).means) (λ n. (answers o n).report) u (λ n. (answers o n).first) k v Q) _ (elim [
-        | keyword.Properties k ↦ few_or_many k.properties (λ m e. rw e (first_of-zip (λ e. first_of (λ x. e.1.first u x (Q // e.0)) (at e.0 v))
-            (λ e. first_of (λ x. (answers o e.1).first u x (Q // e.0)) (at e.0 v)) (answers o) (λ a y. refl) m.names m.nodes.items))
-            (λ m e. rw e (first_of-zip (λ e. first_of (λ x. e.1.first u x (Q // e.0)) (at e.0 v)) (λ e. first_of (λ x. (answers o e.1).first u x (Q // e.0)) (at e.0 v))
-            (answers o) (λ a y. refl) m.names m.nodes.items))
+        | keyword.Properties k ↦ few_or_many k.properties (λ m e. rw e (first_of-map (λ e. first_of (λ x. e.1.first u x (Q // e.0)) (at e.0 v))
+            (λ e. first_of (λ x. (answers o e.1).first u x (Q // e.0)) (at e.0 v)) (with_name (answers o)) (λ e. refl) m.entries))
+            (λ m e. rw e (first_of-map (λ e. first_of (λ x. e.1.first u x (Q // e.0)) (at e.0 v)) (λ e. first_of (λ x. (answers o e.1).first u x (Q // e.0)) (at e.0 v))
+            (with_name (answers o)) (λ e. refl) m.entries))
         | keyword.PropertiesWithRequired2 k ↦ ap (or_else (head_of (required_faults (two_texts k.first k.second) v k.required_location Q)))
-            (first_of-zip (λ e. first_of (λ x. e.1.first u x (Q // e.0)) (at e.0 v)) (λ e. first_of (λ x. (answers o e.1).first u x (Q // e.0)) (at e.0 v))
-            (answers o) (λ a y. refl) k.properties.names k.properties.nodes.items)
+            (first_of-map (λ e. first_of (λ x. e.1.first u x (Q // e.0)) (at e.0 v)) (λ e. first_of (λ x. (answers o e.1).first u x (Q // e.0)) (at e.0 v))
+            (with_name (answers o)) (λ e. refl) k.properties.entries)
         | keyword.Required k ↦ refl
         | keyword.AllOf k ↦ first_of-map (λ a. a.first u v Q) (λ n. (answers o n).first u v Q) (answers o) (λ n. refl) k.schemas.items
         | keyword.SingleValueAllOf k ↦ refl
@@ -207,11 +208,11 @@ module _ {K R : Type 0} (o : Kit K R) where
         | keyword.IfThen k ↦ refl
         | keyword.IfElse k ↦ refl
         | keyword.IfThenElse k ↦ refl
-        | keyword.Dependencies k ↦ ap (first_of (λ a. a.first u v Q)) (due_nodes-map (answers o) v k.dependencies.names k.dependencies.nodes.items)
+        | keyword.Dependencies k ↦ ap (first_of (λ a. a.first u v Q)) (due_nodes-map (answers o) v k.dependencies.entries)
             ∙ first_of-map (λ a. a.first u v Q) (λ n. (answers o n).first u v Q) (answers o) (λ n. refl) (due_nodes (named k.dependencies) v)
         | keyword.PropertyNames k ↦ refl
         | keyword.PropertyNamesFalse k ↦ refl
-        | keyword.PropertyDependencies k ↦ ap (first_of (λ a. a.first u v Q)) (chosen_nodes-map (answers o) v _ (λ m. refl) k.dependencies.names k.dependencies.nodes.items)
+        | keyword.PropertyDependencies k ↦ ap (first_of (λ a. a.first u v Q)) (chosen_nodes-map (answers o) v _ (λ m. refl) k.dependencies.entries)
             ∙ first_of-map (λ a. a.first u v Q) (λ n. (answers o n).first u v Q) (answers o) (λ n. refl) (chosen_nodes (named k.dependencies) v)
         | keyword.PatternProperties k ↦ patterns_first-map o.answers (answers o) u v (λ a. a.first) (λ n. (answers o n).first) (λ n w R. refl) Q k.patterns.items
         | keyword.SingleValuePatternProperties k ↦ refl
@@ -230,10 +231,10 @@ module _ {K R : Type 0} (o : Kit K R) where
   shows_layer n (Keywords ks) u v Q =
       ap (plain n.location Q) (map-map (λ k. validator_tree o (λ a. a.means) (λ a. a.tree) u k v Q) (λ k. validator_tree o (λ n. (answers o n).means) (λ n. (answers o n).tree) u k v Q) _ (elim [
         | keyword.Properties k ↦ few_or_many k.properties (λ m e. rw e (properties_tree-map (λ a. a.tree u) (λ n. (answers o n).tree u) (answers o)
-            (λ y w R. refl) v Q k.location m.names m.nodes.items [])) (λ m e. rw e
-            (properties_tree-map (λ a. a.tree u) (λ n. (answers o n).tree u) (answers o) (λ y w R. refl) v Q k.location m.names m.nodes.items []))
+            (λ y w R. refl) v Q k.location m.entries [])) (λ m e. rw e
+            (properties_tree-map (λ a. a.tree u) (λ n. (answers o n).tree u) (answers o) (λ y w R. refl) v Q k.location m.entries []))
         | keyword.PropertiesWithRequired2 k ↦ properties_tree-map (λ a. a.tree u) (λ n. (answers o n).tree u) (answers o)
-            (λ y w R. refl) v Q k.location k.properties.names k.properties.nodes.items (missing_trees (two_texts k.first k.second) v k.required_location Q)
+            (λ y w R. refl) v Q k.location k.properties.entries (missing_trees (two_texts k.first k.second) v k.required_location Q)
         | keyword.Required k ↦ refl
         | keyword.AllOf k ↦ ap (plain k.location Q) (branch_trees-map (λ a. a.tree u) (λ n. (answers o n).tree u) (answers o) (λ y w R. refl) v Q k.schemas.items)
         | keyword.SingleValueAllOf k ↦ refl
@@ -249,12 +250,12 @@ module _ {K R : Type 0} (o : Kit K R) where
         | keyword.IfThen k ↦ refl
         | keyword.IfElse k ↦ refl
         | keyword.IfThenElse k ↦ refl
-        | keyword.Dependencies k ↦ ap (λ ns. plain k.location Q (branch_trees (λ a. a.tree u) v Q ns)) (due_nodes-map (answers o) v k.dependencies.names k.dependencies.nodes.items)
+        | keyword.Dependencies k ↦ ap (λ ns. plain k.location Q (branch_trees (λ a. a.tree u) v Q ns)) (due_nodes-map (answers o) v k.dependencies.entries)
             ∙ ap (plain k.location Q) (branch_trees-map (λ a. a.tree u) (λ n. (answers o n).tree u) (answers o) (λ y w R. refl) v Q (due_nodes (named k.dependencies) v))
         | keyword.PropertyNames k ↦ refl
         | keyword.PropertyNamesFalse k ↦ refl
         | keyword.PropertyDependencies k ↦ ap (λ ns. plain k.location Q (branch_trees (λ a. a.tree u) v Q ns))
-            (chosen_nodes-map (answers o) v _ (λ m. refl) k.dependencies.names k.dependencies.nodes.items) ∙ ap (plain k.location Q)
+            (chosen_nodes-map (answers o) v _ (λ m. refl) k.dependencies.entries) ∙ ap (plain k.location Q)
             (branch_trees-map (λ a. a.tree u) (λ n. (answers o n).tree u) (answers o) (λ y w R. refl) v Q (chosen_nodes (named k.dependencies) v))
         | keyword.PatternProperties k ↦ patterns_tree-map o.answers (answers o) u v (λ a. a.tree u) (λ n. (answers o n).tree u) (λ n w R. refl) k.location Q k.patterns.items
         | keyword.SingleValuePatternProperties k ↦ refl
@@ -271,15 +272,28 @@ module _ {K R : Type 0} (o : Kit K R) where
   nodes_formed : (ns : List (SchemaNode K R)) → list_all (λ a. a.formed) (map (answers o) ns) ≡ list_all (λ n. (answers o n).formed) ns
   nodes_formed ns = list_all-map (λ a. a.formed) (answers o) ns
 
+  entries_formed : (es : List (Name × SchemaNode K R)) → list_all (λ a. a.formed) (nodes_in (map (with_name (answers o)) es)) ≡ list_all (λ n. (answers o n).formed) (nodes_in es)
+  entries_formed es = ap (list_all (λ a. a.formed)) (nodes_in-map (answers o) es) ∙ nodes_formed (nodes_in es)
+
+  abbrev map_answered : SmallMap (SchemaNode K R) → SmallMap Answers
+  map_answered m = record { entries = map (with_name (answers o)) m.entries }
+
+  few_formed : (es : List (Name × SchemaNode K R)) → (nat_lt (length (map (with_name (answers o)) es)) HASHMAP_THRESHOLD && list_all (λ a. a.formed) (nodes_in (map (with_name (answers o)) es)))
+      ≡ (nat_lt (length es) HASHMAP_THRESHOLD && list_all (λ n. (answers o n).formed) (nodes_in es))
+  few_formed es = λ i. nat_lt (length-map es (with_name (answers o)) i) HASHMAP_THRESHOLD && entries_formed es i
+
+  many_formed : (es : List (Name × SchemaNode K R)) → (not (nat_lt (length (map (with_name (answers o)) es)) HASHMAP_THRESHOLD) && list_all (λ a. a.formed) (nodes_in (map (with_name (answers o)) es)))
+      ≡ (not (nat_lt (length es) HASHMAP_THRESHOLD) && list_all (λ n. (answers o n).formed) (nodes_in es))
+  many_formed es = λ i. not (nat_lt (length-map es (with_name (answers o)) i) HASHMAP_THRESHOLD) && entries_formed es i
+
   module _ (n : SchemaNode-F K R (SchemaNode K R)) (ks : Vec (KeywordOver K R (SchemaNode K R)) Global) (k : Box (AdditionalProperties R (SchemaNode K R)) Global) where
     names_alike : names_beside (answered n ks k).properties ≡ names_beside k.value.properties
-    names_alike = none_few_or_many k.value.properties (λ e. rw e refl) (λ m e. rw e refl) (λ m e. rw e refl)
+    names_alike = none_few_or_many k.value.properties (λ e. rw e refl) (λ m e. rw e (keys_in-map (answers o) m.entries)) (λ m e. rw e (keys_in-map (answers o) m.entries))
 
-    maps_alike : option_map_or (λ m. is_map_formed m && list_all (λ a. a.formed) (nodes_in m)) (answered n ks k).properties true ≡ option_map_or
-        (λ m. is_map_formed m && list_all (λ n. (answers o n).formed) (nodes_in m)) k.value.properties true
+    maps_alike : option_map_or (λ m. is_map_formed m && list_all (λ a. a.formed) (nodes_in (mapped m))) (answered n ks k).properties true ≡ option_map_or
+        (λ m. is_map_formed m && list_all (λ n. (answers o n).formed) (nodes_in (mapped m))) k.value.properties true
     maps_alike =
-        none_few_or_many k.value.properties (λ e. rw e refl) (λ m e. rw e (ap (λ b. is_map_formed (Small m) && b) (nodes_formed m.nodes.items)))
-        (λ m e. rw e (ap (λ b. is_map_formed (Big m) && b) (nodes_formed m.nodes.items)))
+        none_few_or_many k.value.properties (λ e. rw e refl) (λ m e. rw e (few_formed m.entries)) (λ m e. rw e (many_formed m.entries))
 
     tables_alike : (names : List Name) → option_map_or (λ es. is_table_formed o.answers names (map (λ e. e.0) es.items) k.value.table && list_all (λ e. e.1.formed) es.items)
         (answered n ks k).patterns true ≡ option_map_or (λ es. is_table_formed o.answers names (map (λ e. e.0) es.items) k.value.table
@@ -298,9 +312,9 @@ module _ {K R : Type 0} (o : Kit K R) where
   formed_layer n False = refl
   formed_layer n (RequiredNames k) = refl
   formed_layer n (Keywords ks) = all-map (λ k. validator_formed o (λ a. a.formed) k) (λ k. validator_formed o (λ n. (answers o n).formed) k) _ (elim [
-    | keyword.Properties k ↦ few_or_many k.properties (λ m e. rw e (ap (λ b. is_map_formed (Small m) && b) (nodes_formed m.nodes.items)))
-        (λ m e. rw e (ap (λ b. is_map_formed (Big m) && b) (nodes_formed m.nodes.items)))
-    | keyword.PropertiesWithRequired2 k ↦ ap (λ b. is_map_formed (Small k.properties) && not (bytes_eq (string_bytes k.first) (string_bytes k.second)) && b) (nodes_formed k.properties.nodes.items)
+    | keyword.Properties k ↦ few_or_many k.properties (λ m e. rw e (few_formed m.entries)) (λ m e. rw e (many_formed m.entries))
+    | keyword.PropertiesWithRequired2 k ↦ λ i. nat_lt (length-map k.properties.entries (with_name (answers o)) i) HASHMAP_THRESHOLD
+        && not (bytes_eq (string_bytes k.first) (string_bytes k.second)) && entries_formed k.properties.entries i
     | keyword.Required k ↦ refl
     | keyword.AllOf k ↦ λ i. not (length-map k.schemas.items (answers o) i == 1) && nodes_formed k.schemas.items i
     | keyword.SingleValueAllOf k ↦ refl
@@ -312,11 +326,12 @@ module _ {K R : Type 0} (o : Kit K R) where
     | keyword.IfThen k ↦ refl
     | keyword.IfElse k ↦ refl
     | keyword.IfThenElse k ↦ refl
-    | keyword.Dependencies k ↦ nodes_formed k.dependencies.nodes.items
+    | keyword.Dependencies k ↦ entries_formed k.dependencies.entries
     | keyword.PropertyNames k ↦ refl
     | keyword.PropertyNamesFalse k ↦ refl
-    | keyword.PropertyDependencies k ↦ all-map (λ m. list_all (λ a. a.formed) m.nodes.items) (λ m. list_all (λ n. (answers o n).formed) m.nodes.items) _
-        (λ m. nodes_formed m.nodes.items) k.dependencies.nodes.items
+    | keyword.PropertyDependencies k ↦ ap (list_all (λ m. list_all (λ a. a.formed) (nodes_in m.entries))) (nodes_in-map map_answered k.dependencies.entries)
+        ∙ all-map (λ m. list_all (λ a. a.formed) (nodes_in m.entries)) (λ m. list_all (λ n. (answers o n).formed) (nodes_in m.entries)) map_answered
+        (λ m. entries_formed m.entries) (nodes_in k.dependencies.entries)
     | keyword.PatternProperties k ↦ λ i. not (length-map k.patterns.items entry_answers i == 1) && list_all-map (λ e. e.1.formed) entry_answers k.patterns.items i
     | keyword.SingleValuePatternProperties k ↦ refl
     | keyword.AdditionalProperties k ↦ (λ i. maps_alike n ks k i && tables_alike n ks k (names_alike n ks k i) i && rest_alike n ks k i)

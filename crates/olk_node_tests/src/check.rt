@@ -173,8 +173,7 @@ fn leaf_nodes<N: BuiltNode<NoText, EqualTo>>(
 fn mapped<N: Drop>(map: SmallMap<N>, many: bool) -> PropertiesMap<N> {
     if many {
         PropertiesMap::Big(BigMap {
-            names: map.names,
-            nodes: map.nodes,
+            entries: map.entries,
         })
     } else {
         PropertiesMap::Small(map)
@@ -187,7 +186,11 @@ fn leaf_names<N: BuiltNode<NoText, EqualTo>>(
     names: &str,
     count: usize,
 ) -> Result<SmallMap<N>, AllocError> {
-    beside(sorted_names(alloc, names, count), leaf_nodes(alloc, count))
+    beside(
+        alloc,
+        sorted_names(alloc, names, count),
+        leaf_nodes(alloc, count),
+    )
 }
 
 /// `properties` of these names.

@@ -24,6 +24,7 @@ fn positions(alloc: Global, count: usize) -> Result<Vec<usize>, AllocError> {
 /// The first so many names, each with its position.
 fn first_names(alloc: Global, count: usize) -> Result<SmallMap<usize>, AllocError> {
     beside(
+        alloc,
         sorted_names(alloc, DECLARED, count),
         positions(alloc, count),
     )
@@ -31,8 +32,8 @@ fn first_names(alloc: Global, count: usize) -> Result<SmallMap<usize>, AllocErro
 
 /// The first names in a map of many, each with its place.
 fn first_of_many(alloc: Global, count: usize) -> Result<BigMap<usize>, AllocError> {
-    let SmallMap { names, nodes } = first_names(alloc, count)?;
-    Ok(BigMap { names, nodes })
+    let SmallMap { entries } = first_names(alloc, count)?;
+    Ok(BigMap { entries })
 }
 
 // ---- looking up
@@ -45,13 +46,13 @@ fn is_at<M: PropertiesValidatorsMap<usize>>(map: &M, name: &str, position: Optio
         _ => false,
     };
     is_keyed_so
-        && map.names().find(name) == position
+        && map.entries().find(name) == position
         && map.get_validator(name).copied() == position
 }
 
 fn has_length<M: PropertiesValidatorsMap<usize>>(map: &M, length: usize) -> bool {
-    let names = map.names();
-    names.len() == length && names.as_slice().len() == length && map.nodes().len() == length
+    let entries = map.entries();
+    entries.len() == length && entries.as_slice().len() == length
 }
 
 /// The first of these names that is not found as it is to be: the first so many stand in the map,

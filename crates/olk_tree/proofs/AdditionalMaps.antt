@@ -15,8 +15,9 @@ use Rattle.olk_base.specs.Compiled.{pattern_answers, pattern_costs}
 use Rattle.olk_base.specs.declared.pattern.CompiledPattern.{CompiledPattern}
 use Rattle.olk_tree.specs.Questions.{Question, always, said_to, both, conditional, every}
 use Rattle.olk_tree.specs.Firsts.{or_else, first_of}
-use Rattle.olk_tree.specs.Additional.{Sides, placed, known_at, known_or, known_or_asked, matching_from, at_name, nodes_matching, is_additional, others_asked, nodes_asked, is_unexpected, unexpected, repeats, declared_means, rest_means, patterns_mean_from, member_means, others_mean, additional_means, additional_report, additional_first, additional_tree}
-use Rattle.olk_tree.proofs.Maps.{lookup_name-zip, every-map, first_of-map}
+use Rattle.olk_tree.specs.Additional.{Sides, known_at, known_or, known_or_asked, matching_from, at_name, nodes_matching, is_additional, others_asked, nodes_asked, is_unexpected, unexpected, repeats, declared_means, rest_means, patterns_mean_from, member_means, others_mean, additional_means, additional_report, additional_first, additional_tree}
+use Rattle.olk_tree.specs.Maps.{keys_in, nodes_in, placed_entries}
+use Rattle.olk_tree.proofs.Maps.{with_name, lookup_name-map, every-map, first_of-map}
 
 module _ {X Y : Type 0} (h : Y → X) where
   abbrev pub at_place : ℕ × Y → ℕ × X
@@ -36,20 +37,16 @@ module _ {X Y : Type 0} (h : Y → X) where
     pub known : S.known ≡ T.known
     pub rest : S.rest ≡ option_map h T.rest
 
-  placed-map : (i : ℕ) (ys : List Y) → enumerate_from i (map h ys) ≡ map at_place (enumerate_from i ys)
-  placed-map i [] = refl
-  placed-map i (y ∷ ys) = ap (λ l. (i, h y) ∷ l) (placed-map (i + 1) ys)
+  placed_from-map : (i : ℕ) (es : List (Name × Y)) → zip (keys_in (map (with_name h) es)) (enumerate_from i (nodes_in (map (with_name h) es)))
+      ≡ map with_place (zip (keys_in es) (enumerate_from i (nodes_in es)))
+  placed_from-map i [] = refl
+  placed_from-map i (e ∷ es) = ap (λ l. (e.0, (i, h e.1)) ∷ l) (placed_from-map (i + 1) es)
 
-  pub at-zip : (ks : List Name) (ys : List Y) (n : Name) → lookup_name n (zip ks (placed (map h ys))) ≡ option_map at_place (lookup_name n (zip ks (placed ys)))
-  at-zip ks ys n = ap (λ l. lookup_name n (zip ks l)) (placed-map 0 ys) ∙ lookup_name-zip at_place n ks (placed ys)
+  pub placed_entries-map : (es : List (Name × Y)) → placed_entries (map (with_name h) es) ≡ map with_place (placed_entries es)
+  placed_entries-map es = placed_from-map 0 es
 
-  paired : (ks : List Name) (fs : List (ℕ × Y)) → zip ks (map at_place fs) ≡ map with_place (zip ks fs)
-  paired [] fs = refl
-  paired (k ∷ ks) [] = refl
-  paired (k ∷ ks) (f ∷ fs) = ap (λ l. (k, at_place f) ∷ l) (paired ks fs)
-
-  pub declared-zip : (ks : List Name) (ys : List Y) → zip ks (placed (map h ys)) ≡ map with_place (zip ks (placed ys))
-  declared-zip ks ys = ap (zip ks) (placed-map 0 ys) ∙ paired ks (placed ys)
+  pub lookup_placed-map : (es : List (Name × Y)) (n : Name) → lookup_name n (placed_entries (map (with_name h) es)) ≡ option_map at_place (lookup_name n (placed_entries es))
+  lookup_placed-map es n = ap (lookup_name n) (placed_entries-map es) ∙ lookup_name-map at_place n (placed_entries es)
 
   put-map : (b : Bool) (y : Y) (ys : List Y) → put_if b (h y) (map h ys) ≡ map h (put_if b y ys)
   put-map true y ys = refl

@@ -13,10 +13,10 @@ use native.Mathlib.Nat.{pow-suc}
 use lib.Utf8.{scalar, scalars, next, encode, encodes}
 use Rattle.olk_spec.specs.Names.{Name}
 use Rattle.olk_spec.proofs.Truth.{and_first, and_second}
-use Rattle.olk_tree.specs.declared.sorted_name.SortedName.{SortedName}
-use Rattle.olk_tree.specs.Sorted.{name_of, heads_of}
+use Rattle.olk_tree.specs.declared.entries.Entry.{Entry}
+use Rattle.olk_tree.specs.Entries.{names_of, heads_of}
 use Rattle.olk_tree.specs.Ascending.{Ascend, IsBefore, IsFirst, Rise, first_bytes}
-use Rattle.olk_tree.proofs.Places.{Names, nowhere, some_name}
+use Rattle.olk_tree.proofs.Places.{nowhere, some_entry}
 
 -- ---- the bytes of a text are below 256
 
@@ -52,10 +52,10 @@ bytes_of_utf8 n u = subst Bytes u.1.1 (bytes_of_all u.0 u.1.0)
 bytes_of_text : (s : String Global) → Bytes (string_bytes s)
 bytes_of_text s = bytes_of_utf8 (string_bytes s) (IsUtf8-string_bytes s)
 
-bytes_at : (names : List SortedName) (k : ℕ) → Bytes (get_or (map name_of names) k [])
+bytes_at : {N : Type 0} (es : List (Entry N)) (k : ℕ) → Bytes (get_or (names_of es) k [])
 bytes_at [] k = tt
-bytes_at (n ∷ ns) zero = bytes_of_text n.text
-bytes_at (n ∷ ns) (suc k) = bytes_at ns k
+bytes_at (e ∷ es) zero = bytes_of_text e.name.text
+bytes_at (e ∷ es) (suc k) = bytes_at es k
 
 -- ---- the first k bytes, as a number
 
@@ -112,16 +112,16 @@ worth_is (a ∷ b ∷ c ∷ d ∷ e ∷ f ∷ g ∷ []) = omega arith
 worth_is (a ∷ b ∷ c ∷ d ∷ e ∷ f ∷ g ∷ h ∷ n) = omega arith
 
 -- the first bytes that are kept
-heads_are : (names : List SortedName) → heads_of names ≡ map first_bytes (map name_of names)
+heads_are : {N : Type 0} (es : List (Entry N)) → heads_of es ≡ map first_bytes (names_of es)
 heads_are [] = refl
-heads_are (n ∷ ns) = λ i. n.head_is i ∷ heads_are ns i
+heads_are (e ∷ es) = λ i. e.name.head_is i ∷ heads_are es i
 
 -- the first bytes of names that ascend don't fall
-heads_rise : (names : List SortedName) → Ascend (map name_of names) → Rise (map first_bytes (map name_of names))
-heads_rise names asc i j le lt = by (nat_lt i j) refl
+heads_rise : {N : Type 0} (es : List (Entry N)) → Ascend (names_of es) → Rise (map first_bytes (names_of es))
+heads_rise es asc i j le lt = by (nat_lt i j) refl
   where
     ks : List Name
-    ks = map name_of names
+    ks = names_of es
 
     inside : j < length ks
     inside = omega (arith, length-map ks first_bytes, lt)
@@ -135,7 +135,7 @@ heads_rise names asc i j le lt = by (nat_lt i j) refl
         let last : j < length ks = inside in
         let lower = head_at i (omega arith) in
         let upper = head_at j inside in
-        let rises = worth_rises 8 (get_or ks i []) (get_or ks j []) (bytes_at names i) (bytes_at names j) (asc i j less inside) in
+        let rises = worth_rises 8 (get_or ks i []) (get_or ks j []) (bytes_at es i) (bytes_at es j) (asc i j less inside) in
         let at_lower = worth_is (get_or ks i []) in
         let at_upper = worth_is (get_or ks j []) in
         subst₂ (λ x y. x ≤ y) (sym (lower ∙ at_lower)) (sym (upper ∙ at_upper)) rises
@@ -143,100 +143,100 @@ heads_rise names asc i j le lt = by (nat_lt i j) refl
 
 -- ---- the place of the first
 
-pub head_read : (names : List SortedName) (k : ℕ) (x : SortedName) → k < length names → x ≡ get_or names k x → (d : ℕ) → x.head ≡ get_or (heads_of names) k d
-head_read names k x lt is d = ap (λ n. n.head) is ∙ sym (get_or-map (λ n. n.head) names k x d lt)
+pub head_read : {N : Type 0} (es : List (Entry N)) (k : ℕ) (x : Entry N) → k < length es → x ≡ get_or es k x → (d : ℕ) → x.name.head ≡ get_or (heads_of es) k d
+head_read es k x lt is d = ap (λ e. e.name.head) is ∙ sym (get_or-map (λ e. e.name.head) es k x d lt)
 
-as_long : (names : List SortedName) → length (heads_of names) ≡ length names
-as_long names = length-map names (λ n. n.head)
+pub head_at_place : {N : Type 0} (es : List (Entry N)) (k : ℕ) (x : Entry N) → k < length es → (get_or es k x).name.head ≡ get_or (heads_of es) k 0
+head_at_place es k x lt = sym (get_or-map (λ e. e.name.head) es k x 0 lt)
 
-module _ (names : List SortedName) {h : ℕ} where
-  pub nothing_before : IsBefore (heads_of names) h 0
+as_long : {N : Type 0} (es : List (Entry N)) → length (heads_of es) ≡ length es
+as_long es = length-map es (λ e. e.name.head)
+
+module _ {N : Type 0} (es : List (Entry N)) {h : ℕ} where
+  pub nothing_before : IsBefore (heads_of es) h 0
   nothing_before = record { inside = omega arith; below = λ i l. absurd (omega (arith, l)) }
 
   -- all up to a number below h are below h
-  pub before_more : {k : ℕ} (x : SortedName) → Rise (heads_of names) → k < length names → x ≡ get_or names k x → x.head < h → IsBefore (heads_of names) h (k + 1)
+  pub before_more : {k : ℕ} (x : Entry N) → Rise (heads_of es) → k < length es → x ≡ get_or es k x → x.name.head < h → IsBefore (heads_of es) h (k + 1)
   before_more {k} x rise lt is less = record {
-    inside = omega (arith, as_long names);
-    below = λ i l. let up = rise i k (omega arith) (omega (arith, as_long names, lt)) in let here = head_read names k x lt is 0 in omega arith;
+    inside = omega (arith, as_long es);
+    below = λ i l. let up = rise i k (omega arith) (omega (arith, as_long es, lt)) in let here = head_read es k x lt is 0 in omega arith;
   }
 
-  pub before_hint : {place : ℕ} (x : SortedName) → Rise (heads_of names) → 0 < place → place ≤ length names → x ≡ get_or names (place - 1) x → x.head < h → IsBefore (heads_of names) h place
-  before_hint {place} x rise some le is less = let at : place - 1 + 1 ≡ place = omega arith in subst (IsBefore (heads_of names) h) at (before_more x rise (omega arith) is less)
+  pub before_hint : {place : ℕ} (x : Entry N) → Rise (heads_of es) → 0 < place → place ≤ length es → x ≡ get_or es (place - 1) x → x.name.head < h → IsBefore (heads_of es) h place
+  before_hint {place} x rise some le is less = let at : place - 1 + 1 ≡ place = omega arith in subst (IsBefore (heads_of es) h) at (before_more x rise (omega arith) is less)
 
-  pub first_here : {place : ℕ} (x : SortedName) → IsBefore (heads_of names) h place → place < length names → x ≡ get_or names place x → h ≤ x.head → IsFirst (heads_of names) h place
-  first_here {place} x before lt is le = record { before = before; here = λ l. let here = head_read names place x lt is 0 in omega arith }
+  pub first_here : {place : ℕ} (x : Entry N) → IsBefore (heads_of es) h place → place < length es → x ≡ get_or es place x → h ≤ x.name.head → IsFirst (heads_of es) h place
+  first_here {place} x before lt is le = record { before = before; here = λ l. let here = head_read es place x lt is 0 in omega arith }
 
-  pub first_nowhere : {place : ℕ} → IsBefore (heads_of names) h place → length names ≤ place → IsFirst (heads_of names) h place
-  first_nowhere before past = record { before = before; here = λ l. absurd (omega (arith, as_long names, past, l)) }
+  pub first_nowhere : {place : ℕ} → IsBefore (heads_of es) h place → length es ≤ place → IsFirst (heads_of es) h place
+  first_nowhere before past = record { before = before; here = λ l. absurd (omega (arith, as_long es, past, l)) }
 
-  pub within_names : {place : ℕ} → IsBefore (heads_of names) h place → place ≤ length names
-  within_names before = omega (arith, as_long names, before.inside)
+  pub within_names : {place : ℕ} → IsBefore (heads_of es) h place → place ≤ length es
+  within_names before = omega (arith, as_long es, before.inside)
 
   -- a bisection of those from a place on that all before it are below
-  module _ {start : ℕ} (rise : Rise (heads_of names)) (before : IsBefore (heads_of names) h start) where
-    at_behind : (k : ℕ) (d : SortedName) → k < length (drop start names) → (get_or (drop start names) k d).head ≡ get_or (heads_of names) (start + k) 0
-    at_behind k d lt = ap (λ n. n.head) (get_or-drop start names k d) ∙ sym (get_or-map (λ n. n.head) names (start + k) d 0 (omega (arith, length-drop start names, lt)))
+  module _ {start : ℕ} (rise : Rise (heads_of es)) (before : IsBefore (heads_of es) h start) where
+    at_behind : (k : ℕ) (d : Entry N) → k < length (drop start es) → (get_or (drop start es) k d).name.head ≡ get_or (heads_of es) (start + k) 0
+    at_behind k d lt = ap (λ e. e.name.head) (get_or-drop start es k d) ∙ sym (get_or-map (λ e. e.name.head) es (start + k) d 0 (omega (arith, length-drop start es, lt)))
 
-    pub behind_parted : IsPartitionedBy (λ y. nat_lt y.head h) (drop start names)
+    pub behind_parted : IsPartitionedBy (λ y. nat_lt y.name.head h) (drop start es)
     behind_parted i j d le lt less =
         let lower = at_behind i d (omega arith) in
         let upper = at_behind j d lt in
-        let up = rise (start + i) (start + j) (omega arith) (omega (arith, as_long names, length-drop start names)) in
+        let up = rise (start + i) (start + j) (omega arith) (omega (arith, as_long es, length-drop start es)) in
         grind (arith, nat_tests)
 
-    pub first_parted : {p : ℕ} → p ≤ length (drop start names) → IsPartitionPoint (λ y. nat_lt y.head h ≡ true) (λ y. nat_lt y.head h ≡ false) (drop start names) p → IsFirst (heads_of names) h (start + p)
+    pub first_parted : {p : ℕ} → p ≤ length (drop start es) → IsPartitionPoint (λ y. nat_lt y.name.head h ≡ true) (λ y. nat_lt y.name.head h ≡ false) (drop start es) p → IsFirst (heads_of es) h (start + p)
     first_parted {p} le parted = record {
-      before = record { inside = omega (arith, as_long names, length-drop start names, before.inside); below = λ i l. below i l (nat_lt i start) refl };
+      before = record { inside = omega (arith, as_long es, length-drop start es, before.inside); below = λ i l. below i l (nat_lt i start) refl };
       here = λ l.
-          let lt : p < length (drop start names) = omega (arith, as_long names, length-drop start names, l) in
-          let d = some_name (drop start names) p lt in
+          let lt : p < length (drop start es) = omega (arith, as_long es, length-drop start es, l) in
+          let d = some_entry (drop start es) p lt in
           let t = parted.1 p d (omega arith) lt in
           let at = at_behind p d lt in
           grind (arith, nat_tests);
     }
       where
-        below : (i : ℕ) → i < start + p → (b : Bool) → nat_lt i start ≡ b → get_or (heads_of names) i 0 < h
+        below : (i : ℕ) → i < start + p → (b : Bool) → nat_lt i start ≡ b → get_or (heads_of es) i 0 < h
         below i l true e = before.below i (grind (arith, nat_tests))
         below i l false e =
             let from : start ≤ i = grind (arith, nat_tests) in
-            let lt : i - start < length (drop start names) = omega (arith, from, l, le) in
-            let d = some_name (drop start names) (i - start) lt in
+            let lt : i - start < length (drop start es) = omega (arith, from, l, le) in
+            let d = some_entry (drop start es) (i - start) lt in
             let at : start + (i - start) ≡ i = omega arith in
-            let here = at_behind (i - start) d lt ∙ ap (λ k. get_or (heads_of names) k 0) at in
+            let here = at_behind (i - start) d lt ∙ ap (λ k. get_or (heads_of es) k 0) at in
             let t = parted.0 (i - start) d (omega arith) (omega arith) in
             grind (arith, nat_tests)
 
 pub ruleset first_places = (nothing_before, before_more, before_hint, first_here, first_nowhere, within_names)
 
 -- these, as those of the names that are seen
-module _ (names : List SortedName) {ks : List Name} (asc : Ascend (map name_of names)) (seen : ks ≡ map name_of names) where
-  pub heads_seen : heads_of names ≡ map first_bytes ks
-  heads_seen = heads_are names ∙ ap (map first_bytes) (sym seen)
-
-  pub kept_rise : Rise (heads_of names)
-  kept_rise = subst Rise (sym (heads_are names)) (heads_rise names asc)
+module _ {N : Type 0} (es : List (Entry N)) (asc : Ascend (names_of es)) where
+  pub kept_rise : Rise (heads_of es)
+  kept_rise = subst Rise (sym (heads_are es)) (heads_rise es asc)
 
   -- a name stands nowhere whose first bytes are those of none
-  module _ (n : Name) {h place : ℕ} (head : h ≡ first_bytes n) (first : IsFirst (map first_bytes ks) h place) where
-    found : IsFirst (heads_of names) h place
-    found = subst (λ l. IsFirst l h place) (sym heads_seen) first
+  module _ (n : Name) {h place : ℕ} (head : h ≡ first_bytes n) (found : IsFirst (heads_of es) h place) where
+    abbrev ks : List Name
+    ks = names_of es
 
-    as_many : length (heads_of names) ≡ length ks
-    as_many = ap length heads_seen ∙ length-map ks first_bytes
+    as_many : length (heads_of es) ≡ length ks
+    as_many = ap length (heads_are es) ∙ length-map ks first_bytes
 
-    head_of_same : (i : ℕ) → i < length ks → get_or ks i [] ≡ n → get_or (heads_of names) i 0 ≡ h
-    head_of_same i l e = ap (λ l. get_or l i 0) heads_seen ∙ get_or-map first_bytes ks i [] 0 l ∙ ap first_bytes e ∙ sym head
+    head_of_same : (i : ℕ) → i < length ks → get_or ks i [] ≡ n → get_or (heads_of es) i 0 ≡ h
+    head_of_same i l e = ap (λ l. get_or l i 0) (heads_are es) ∙ get_or-map first_bytes ks i [] 0 l ∙ ap first_bytes e ∙ sym head
 
-    module _ (differs : place < length names → get_or (heads_of names) place 0 ≢ h) where
+    module _ (differs : place < length es → get_or (heads_of es) place 0 ≢ h) where
       never : (i : ℕ) → i < length ks → get_or ks i [] ≡ n → (b : Bool) → nat_lt i place ≡ b → ⊥
       never i l e true f = let less = found.before.below i (grind (arith, nat_tests)) in let same = head_of_same i l e in omega arith
       never i l e false f =
           let behind : place ≤ i = grind (arith, nat_tests) in
-          let inside : place < length (heads_of names) = omega (arith, as_many) in
+          let inside : place < length (heads_of es) = omega (arith, as_many) in
           let least = found.here inside in
           let most = kept_rise place i behind (omega (arith, as_many)) in
           let same = head_of_same i l e in
-          differs (omega (arith, as_long names, inside)) (omega arith)
+          differs (omega (arith, as_long es, inside)) (omega arith)
 
       unlike : (i : ℕ) → i < length ks → (b : Bool) → bytes_eq (get_or ks i []) n ≡ b → bytes_eq (get_or ks i []) n ≡ false
       unlike i l true e = absurd (never i l ((bytes_eq-Decides (get_or ks i []) n).0 e) (nat_lt i place) refl)
@@ -272,15 +272,18 @@ worth_same (suc k) (a ∷ m) (b ∷ n) g h long few e = by (worth_same k m n g.1
         λ i. same i ∷ tail i
 
 -- a name of at most eight bytes stands where one of its length and its first bytes does
-pub short_stands : {names : List SortedName} {ks : List Name} (n : Name) (place : ℕ) → Names names ks → place < length ks → IsUtf8 n
-    → length (get_or ks place []) ≡ length n → length n ≤ 8 → get_or (map first_bytes ks) place 0 ≡ first_bytes n → true ≡ bytes_eq (get_or ks place []) n
-short_stands {names} {ks} n place seen inside u long few same = sym ((bytes_eq-Decides here n).1 (worth_same 8 here n bytes (bytes_of_utf8 n u) long (omega (arith, long, few)) worths))
+pub short_stands : {N : Type 0} (es : List (Entry N)) (n : Name) (place : ℕ) → place < length (names_of es) → IsUtf8 n
+    → length (get_or (names_of es) place []) ≡ length n → length n ≤ 8 → get_or (heads_of es) place 0 ≡ first_bytes n → true ≡ bytes_eq (get_or (names_of es) place []) n
+short_stands es n place inside u long few same = sym ((bytes_eq-Decides here n).1 (worth_same 8 here n bytes (bytes_of_utf8 n u) long (omega (arith, long, few)) worths))
   where
+    ks : List Name
+    ks = names_of es
+
     here : Name
     here = get_or ks place []
 
     bytes : Bytes here
-    bytes = subst (λ l. Bytes (get_or l place [])) (sym seen.as_seen) (bytes_at names place)
+    bytes = bytes_at es place
 
     worths : worth 8 here ≡ worth 8 n
-    worths = sym (worth_is here) ∙ sym (get_or-map first_bytes ks place [] 0 inside) ∙ same ∙ worth_is n
+    worths = sym (worth_is here) ∙ sym (get_or-map first_bytes ks place [] 0 inside) ∙ ap (λ hs. get_or hs place 0) (sym (heads_are es)) ∙ same ∙ worth_is n

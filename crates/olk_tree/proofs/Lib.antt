@@ -5,8 +5,9 @@ pub mod Members_met
 pub mod Due
 mod Places
 pub mod Lookups
+mod Joined
 mod Heads
-mod Entries
+mod Members_named
 pub mod Merge
 pub mod Walked
 pub mod Crowded

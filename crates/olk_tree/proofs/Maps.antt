@@ -19,7 +19,7 @@ use Rattle.olk_spec.proofs.Maps.{flat_map-map, map-map, filter_once-map, is_empt
 use Rattle.olk_base.specs.declared.pattern.CompiledPattern.{CompiledPattern}
 use Rattle.olk_tree.specs.Matched.{is_match, matched, matching, match_question}
 use Rattle.olk_tree.specs.Shown.{properties_tree, patterns_tree, branch_trees, any_of_tree, several_accept, one_of_tree}
-use Rattle.olk_tree.specs.Maps.{named}
+use Rattle.olk_tree.specs.Maps.{named, keys_in, nodes_in}
 use Rattle.olk_tree.specs.Firsts.{or_else, first_of}
 use Rattle.olk_tree.specs.Dependencies.{due_nodes}
 use Rattle.olk_tree.specs.PropertyDependencies.{chosen_at, chosen_nodes}
@@ -51,34 +51,11 @@ module _ {X Y : Type 0} (p : X → Question) (q : Y → Question) (h : Y → X) 
   pub exactly_one-map : (ys : List Y) → exactly_one p (map h ys) ≡ exactly_one q ys
   exactly_one-map ys = λ i. record { accepts = λ u. how_many-map u ys i == 1; asks = (some-map p q h same ys i).asks }
 
-pub every-zip : {A X Y : Type 0} (p : A × X → Question) (q : A × Y → Question) (h : Y → X) → ((a : A) (y : Y) → p (a, h y) ≡ q (a, y)) → (ks : List A) (ys : List Y)
-    → every p (zip ks (map h ys)) ≡ every q (zip ks ys)
-every-zip p q h e [] ys = refl
-every-zip p q h e (a ∷ ks) [] = refl
-every-zip p q h e (a ∷ ks) (y ∷ ys) = λ i. both (e a y i) (every-zip p q h e ks ys i)
-
-pub flat_map-zip : {A X Y B : Type 0} (p : A × X → List B) (q : A × Y → List B) (h : Y → X) → ((a : A) (y : Y) → p (a, h y) ≡ q (a, y))
-    → (ks : List A) (ys : List Y) → flat_map p (zip ks (map h ys)) ≡ flat_map q (zip ks ys)
-flat_map-zip p q h e [] ys = refl
-flat_map-zip p q h e (a ∷ ks) [] = refl
-flat_map-zip p q h e (a ∷ ks) (y ∷ ys) = λ i. e a y i ++ flat_map-zip p q h e ks ys i
-
 pub first_of-map : {X Y : Type 0} (p : X → List Fault) (q : Y → List Fault) (h : Y → X) → ((y : Y) → p (h y) ≡ q y) → (ys : List Y) → first_of p (map h ys) ≡ first_of q ys
 first_of-map p q h e [] = refl
 first_of-map p q h e (y ∷ ys) = λ i. or_else (e y i) (first_of-map p q h e ys i)
 
-pub first_of-zip : {A X Y : Type 0} (p : A × X → List Fault) (q : A × Y → List Fault) (h : Y → X) → ((a : A) (y : Y) → p (a, h y) ≡ q (a, y))
-    → (ks : List A) (ys : List Y) → first_of p (zip ks (map h ys)) ≡ first_of q (zip ks ys)
-first_of-zip p q h e [] ys = refl
-first_of-zip p q h e (a ∷ ks) [] = refl
-first_of-zip p q h e (a ∷ ks) (y ∷ ys) = λ i. or_else (e a y i) (first_of-zip p q h e ks ys i)
-
 module _ {X Y : Type 0} (h : Y → X) where
-  pub names-zip : (ks : List Name) (ys : List Y) → map {A = Name × X} (λ e. e.0) (zip ks (map h ys)) ≡ map {A = Name × Y} (λ e. e.0) (zip ks ys)
-  names-zip [] ys = refl
-  names-zip (k ∷ ks) [] = refl
-  names-zip (k ∷ ks) (y ∷ ys) = ap (λ ns. k ∷ ns) (names-zip ks ys)
-
   found_at : (o : Ordering) (y : Y) (r : Option X) (s : Option Y) → r ≡ option_map h s → first_if_equal o (h y) r ≡ option_map h (first_if_equal o y s)
   found_at Less y r s e = e
   found_at Equal y r s e = refl
@@ -88,6 +65,22 @@ module _ {X Y : Type 0} (h : Y → X) where
   lookup_name-zip n [] ys = refl
   lookup_name-zip n (k ∷ ks) [] = refl
   lookup_name-zip n (k ∷ ks) (y ∷ ys) = found_at (slice_cmp nat_cmp n k) y _ _ (lookup_name-zip n ks ys)
+
+  -- a name, and what stands for what stands at it
+  abbrev pub with_name : Name × Y → Name × X
+  with_name e = (e.0, h e.1)
+
+  pub keys_in-map : (es : List (Name × Y)) → keys_in (map with_name es) ≡ keys_in es
+  keys_in-map [] = refl
+  keys_in-map (e ∷ es) = ap (λ ns. e.0 ∷ ns) (keys_in-map es)
+
+  pub nodes_in-map : (es : List (Name × Y)) → nodes_in (map with_name es) ≡ map h (nodes_in es)
+  nodes_in-map [] = refl
+  nodes_in-map (e ∷ es) = ap (λ ns. h e.1 ∷ ns) (nodes_in-map es)
+
+  pub lookup_name-map : (n : Name) (es : List (Name × Y)) → lookup_name n (map with_name es) ≡ option_map h (lookup_name n es)
+  lookup_name-map n [] = refl
+  lookup_name-map n (e ∷ es) = found_at (slice_cmp nat_cmp n e.0) e.1 _ _ (lookup_name-map n es)
 
 -- ---- lists of lists
 
@@ -103,23 +96,22 @@ module _ {X B : Type 0} where
 -- ---- the nodes that a dependency asks
 
 module _ {X Y : Type 0} (h : Y → X) (v : Data) where
-  pub due_nodes-map : (ks : List Name) (ys : List Y) → due_nodes (zip ks (map h ys)) v ≡ map h (due_nodes (zip ks ys) v)
-  due_nodes-map [] ys = refl
-  due_nodes-map (k ∷ ks) [] = refl
-  due_nodes-map (k ∷ ks) (y ∷ ys) = by (has k v) (due_nodes-map ks ys)
+  pub due_nodes-map : (es : List (Name × Y)) → due_nodes (map (with_name h) es) v ≡ map h (due_nodes es v)
+  due_nodes-map [] = refl
+  due_nodes-map (x ∷ es) = by (has x.0 v) (due_nodes-map es)
     where
-      by : (b : Bool) → due_nodes (zip ks (map h ys)) v ≡ map h (due_nodes (zip ks ys) v)
-          → map (λ e. e.1) (put_if b (k, h y) (filter_once (λ e. has e.0 v) (zip ks (map h ys)))) ≡ map h (map (λ e. e.1) (put_if b (k, y) (filter_once (λ e. has e.0 v) (zip ks ys))))
-      by true e = ap (λ l. h y ∷ l) e
+      by : (b : Bool) → due_nodes (map (with_name h) es) v ≡ map h (due_nodes es v)
+          → map (λ e. e.1) (put_if b (with_name h x) (filter_once (λ e. has e.0 v) (map (with_name h) es))) ≡ map h (map (λ e. e.1) (put_if b x (filter_once (λ e. has e.0 v) es)))
+      by true e = ap (λ l. h x.1 ∷ l) e
       by false e = e
 
   listed-map : (o : Option Y) → option_to_list (option_map h o) ≡ map h (option_to_list o)
   listed-map None = refl
   listed-map (Some y) = refl
 
-  module _ (g : SmallMap Y → SmallMap X) (names : (m : SmallMap Y) → named (g m) ≡ zip m.names (map h m.nodes.items)) where
+  module _ (g : SmallMap Y → SmallMap X) (names : (m : SmallMap Y) → named (g m) ≡ map (with_name h) (named m)) where
     at_text-map : (m : SmallMap Y) (t : Name) → option_to_list (lookup_name t (named (g m))) ≡ map h (option_to_list (lookup_name t (named m)))
-    at_text-map m t = ap option_to_list (ap (lookup_name t) (names m) ∙ lookup_name-zip h t m.names m.nodes.items) ∙ listed-map (lookup_name t (named m))
+    at_text-map m t = ap option_to_list (ap (lookup_name t) (names m) ∙ lookup_name-map h t (named m)) ∙ listed-map (lookup_name t (named m))
 
     at_texts-map : (m : SmallMap Y) (ts : List Name) → flat_map (λ t. option_to_list (lookup_name t (named (g m)))) ts ≡ map h (flat_map (λ t. option_to_list (lookup_name t (named m))) ts)
     at_texts-map m [] = refl
@@ -133,10 +125,9 @@ module _ {X Y : Type 0} (h : Y → X) (v : Data) where
     chosen_in-map m [] = refl
     chosen_in-map m (w ∷ ws) = (λ i. chosen_at-map m w i ++ chosen_in-map m ws i) ∙ sym (map-append h (chosen_at m w) (flat_map (chosen_at m) ws))
 
-    pub chosen_nodes-map : (ks : List Name) (ms : List (SmallMap Y)) → chosen_nodes (zip ks (map g ms)) v ≡ map h (chosen_nodes (zip ks ms) v)
-    chosen_nodes-map [] ms = refl
-    chosen_nodes-map (k ∷ ks) [] = refl
-    chosen_nodes-map (k ∷ ks) (m ∷ ms) = (λ i. chosen_in-map m (at k v) i ++ chosen_nodes-map ks ms i) ∙ sym (map-append h (flat_map (chosen_at m) (at k v)) (chosen_nodes (zip ks ms) v))
+    pub chosen_nodes-map : (es : List (Name × SmallMap Y)) → chosen_nodes (map (with_name g) es) v ≡ map h (chosen_nodes es v)
+    chosen_nodes-map [] = refl
+    chosen_nodes-map (e ∷ es) = (λ i. chosen_in-map e.1 (at e.0 v) i ++ chosen_nodes-map es i) ∙ sym (map-append h (flat_map (chosen_at e.1) (at e.0 v)) (chosen_nodes es v))
 
 -- ---- what is shown
 
@@ -145,15 +136,15 @@ module _ {X Y : Type 0} (t : X → Data → Path → Tree) (s : Y → Data → P
   at_found m None = refl
   at_found m (Some y) = ap (λ x. x ∷ []) (same y m.1 (Q // m.0))
 
-  at_members : (ks : List Name) (ys : List Y) (ms : List (Name × Data))
-      → flat_map (λ m. map (λ x. t x m.1 (Q // m.0)) (option_to_list (lookup_name m.0 (zip ks (map h ys))))) ms ≡ flat_map
-      (λ m. map (λ y. s y m.1 (Q // m.0)) (option_to_list (lookup_name m.0 (zip ks ys)))) ms
-  at_members ks ys [] = refl
-  at_members ks ys (m ∷ ms) = λ i. (ap (λ o. map (λ x. t x m.1 (Q // m.0)) (option_to_list o)) (lookup_name-zip h m.0 ks ys) ∙ at_found m (lookup_name m.0 (zip ks ys))) i ++ at_members ks ys ms i
+  at_members : (es : List (Name × Y)) (ms : List (Name × Data))
+      → flat_map (λ m. map (λ x. t x m.1 (Q // m.0)) (option_to_list (lookup_name m.0 (map (with_name h) es)))) ms ≡ flat_map
+      (λ m. map (λ y. s y m.1 (Q // m.0)) (option_to_list (lookup_name m.0 es))) ms
+  at_members es [] = refl
+  at_members es (m ∷ ms) = λ i. (ap (λ o. map (λ x. t x m.1 (Q // m.0)) (option_to_list o)) (lookup_name-map h m.0 es) ∙ at_found m (lookup_name m.0 es)) i ++ at_members es ms i
 
-  pub properties_tree-map : (P : Path) (ks : List Name) (ys : List Y) (more : List Tree) → properties_tree t v Q P (zip ks (map h ys)) more ≡ properties_tree s v Q P (zip ks ys) more
-  properties_tree-map P ks ys more =
-      λ i. result P Q (cond (is_object v) (Some (map (λ m. m.0) (filter_once (λ m. is_among m.0 (names-zip h ks ys i)) (members v)))) None) false [] (at_members ks ys (members v) i ++ more)
+  pub properties_tree-map : (P : Path) (es : List (Name × Y)) (more : List Tree) → properties_tree t v Q P (map (with_name h) es) more ≡ properties_tree s v Q P es more
+  properties_tree-map P es more =
+      λ i. result P Q (cond (is_object v) (Some (map (λ m. m.0) (filter_once (λ m. is_among m.0 (keys_in-map h es i)) (members v)))) None) false [] (at_members es (members v) i ++ more)
 
   pub branch_trees-map : (ys : List Y) → branch_trees t v Q (map h ys) ≡ branch_trees s v Q ys
   branch_trees-map ys = map-map (λ x. t x v Q) (λ y. s y v Q) h (λ y. same y v Q) ys

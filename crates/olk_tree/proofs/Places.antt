@@ -1,5 +1,5 @@
 -- Where a name stands among ascending names.
-use Rattle.std.proofs.Common.{◌≡◌, ℕ, true≢false, ◌<◌, ◌≤◌, Bool, true, false, List, [], ◌∷◌, length, map, get_or, Some, None, Result, Ok, Err, bytes_eq, refl, ap, sym, subst, ◌∙◌, arith}
+use Rattle.std.proofs.Common.{◌≡◌, ℕ, suc, true≢false, ◌<◌, ◌≤◌, Bool, true, false, List, [], ◌∷◌, length, get_or, Some, None, Result, Ok, Err, bytes_eq, refl, ap, sym, subst, ◌∙◌, arith}
 use Rattle.std.specs.List.{position, position_or_len}
 use Rattle.std.specs.List.Sorted.{IsBinarySearchResult, IsSearchInRange, IsNonDecreasingBy}
 use Rattle.std.specs.Ordering.{nat_cmp, ordering_index, is_eq, ordering_reverse}
@@ -14,8 +14,8 @@ use Rattle.std.proofs.lemmas.List.Sums.{position_or_len_is}
 use Rattle.std.proofs.lemmas.Map.Text.{is_eq-slice_cmp}
 use Rattle.std.proofs.lemmas.Bool.Decides.{nat_tests}
 use Rattle.olk_spec.specs.Names.{Name}
-use Rattle.olk_tree.specs.declared.sorted_name.SortedName.{SortedName}
-use Rattle.olk_tree.specs.Sorted.{name_of}
+use Rattle.olk_tree.specs.declared.entries.Entry.{Entry}
+use Rattle.olk_tree.specs.Entries.{text_of, names_of, entries_are}
 use Rattle.olk_tree.specs.Ascending.{Ascend, StandsAt, Parts, IsPlaceOf}
 
 abbrev cmp : Name → Name → Ordering
@@ -46,41 +46,41 @@ differs x n o e f = sym (is_eq-slice_cmp x n) ∙ ap is_eq e ∙ f
 
 -- ---- bisection
 
-pub some_name : (xs : List SortedName) (k : ℕ) → k < length xs → SortedName
-some_name [] k lt = absurd (omega arith)
-some_name (x ∷ xs) k lt = x
+pub some_entry : {N : Type 0} (xs : List (Entry N)) (k : ℕ) → k < length xs → Entry N
+some_entry [] k lt = absurd (omega arith)
+some_entry (x ∷ xs) k lt = x
 
-module _ (names : List SortedName) (n : Name) (asc : Ascend (map name_of names)) where
-  abbrev ord : SortedName → Ordering
-  ord k = cmp (name_of k) n
+module _ {N : Type 0} (es : List (Entry N)) (n : Name) (asc : Ascend (names_of es)) where
+  abbrev ord : Entry N → Ordering
+  ord k = cmp (text_of k) n
 
-  name_at : (i : ℕ) (d : SortedName) → i < length names → get_or (map name_of names) i [] ≡ name_of (get_or names i d)
-  name_at i d lt = get_or-map name_of names i d [] lt
+  name_at : (i : ℕ) (d : Entry N) → i < length es → get_or (names_of es) i [] ≡ text_of (get_or es i d)
+  name_at i d lt = get_or-map text_of es i d [] lt
 
-  long : length (map name_of names) ≡ length names
-  long = length-map names name_of
+  long : length (names_of es) ≡ length es
+  long = length-map es text_of
 
-  pair : (i j : ℕ) (d : SortedName) → i < j → j < length names → cmp (name_of (get_or names i d)) (name_of (get_or names j d)) ≡ Less
+  pair : (i j : ℕ) (d : Entry N) → i < j → j < length es → cmp (text_of (get_or es i d)) (text_of (get_or es j d)) ≡ Less
   pair i j d lt in_range =
-      subst (λ x. cmp x (name_of (get_or names j d)) ≡ Less) (name_at i d (omega arith))
-      (subst (λ y. cmp (get_or (map name_of names) i []) y ≡ Less) (name_at j d in_range) (asc i j lt (omega (arith, long))))
+      subst (λ x. cmp x (text_of (get_or es j d)) ≡ Less) (name_at i d (omega arith))
+      (subst (λ y. cmp (get_or (names_of es) i []) y ≡ Less) (name_at j d in_range) (asc i j lt (omega (arith, long))))
 
-  comparisons_rise : IsNonDecreasingBy (λ y. ordering_index (ord y)) names
+  comparisons_rise : IsNonDecreasingBy (λ y. ordering_index (ord y)) es
   comparisons_rise i j d le lt = by (nat_lt i j) refl
     where
-      by : (b : Bool) → nat_lt i j ≡ b → ordering_index (ord (get_or names i d)) ≤ ordering_index (ord (get_or names j d))
-      by true e = rises (name_of (get_or names i d)) (name_of (get_or names j d)) n (pair i j d (grind (arith, nat_tests)) lt)
-      by false e = let same : i ≡ j = grind (arith, nat_tests) in let f = ap (λ z. ordering_index (ord (get_or names z d))) same in omega arith
+      by : (b : Bool) → nat_lt i j ≡ b → ordering_index (ord (get_or es i d)) ≤ ordering_index (ord (get_or es j d))
+      by true e = rises (text_of (get_or es i d)) (text_of (get_or es j d)) n (pair i j d (grind (arith, nat_tests)) lt)
+      by false e = let same : i ≡ j = grind (arith, nat_tests) in let f = ap (λ z. ordering_index (ord (get_or es z d))) same in omega arith
 
-  at : (k : ℕ) (d : SortedName) (o : Ordering) → k < length names → ord (get_or names k d) ≡ o → cmp (get_or (map name_of names) k []) n ≡ o
+  at : (k : ℕ) (d : Entry N) (o : Ordering) → k < length es → ord (get_or es k d) ≡ o → cmp (get_or (names_of es) k []) n ≡ o
   at k d o lt e = ap (λ x. cmp x n) (name_at k d lt) ∙ e
 
-  pub searched : (r : Result ℕ ℕ) → IsSearchInRange r (length names) → IsBinarySearchResult ord names r → IsPlaceOf (map name_of names) n r
-  searched (Ok i) in_range equal = let d = some_name names i in_range in record { inside = omega (arith, long); here = at i d Equal in_range (equal d) }
+  pub searched : (r : Result ℕ ℕ) → IsSearchInRange r (length es) → IsBinarySearchResult ord es r → IsPlaceOf (names_of es) n r
+  searched (Ok i) in_range equal = let d = some_entry es i in_range in record { inside = omega (arith, long); here = at i d Equal in_range (equal d) }
   searched (Err i) in_range parted = record {
     inside = omega (arith, long);
-    below = λ k l j. let lt : k < length names = omega (arith, long) in let d = some_name names k lt in at k d Less lt ((parted comparisons_rise).0 k d (omega arith) l);
-    above = λ k l j. let lt : k < length names = omega (arith, long) in let d = some_name names k lt in at k d Greater lt ((parted comparisons_rise).1 k d l lt);
+    below = λ k l j. let lt : k < length es = omega (arith, long) in let d = some_entry es k lt in at k d Less lt ((parted comparisons_rise).0 k d (omega arith) l);
+    above = λ k l j. let lt : k < length es = omega (arith, long) in let d = some_entry es k lt in at k d Greater lt ((parted comparisons_rise).1 k d l lt);
   }
 
 -- ---- what a place says
@@ -123,25 +123,21 @@ module _ (ks : List Name) (n : Name) where
         equal_by Less h = absurd (true≢false (sym h))
         equal_by Greater h = absurd (true≢false (sym h))
 
--- ---- slices of names in order
+-- ---- entries whose names ascend
 
--- a slice of names that ascend, and what it is seen as
-pub record Names (slice : List SortedName) (ks : List Name) : Type 0 where
-  pub as_seen : ks ≡ map name_of slice
-  pub ascend : Ascend ks
+module _ {N : Type 0} (es : List (Entry N)) where
+  pub as_many_names : length (names_of es) ≡ length es
+  as_many_names = length-map es text_of
 
-pub names_are : (slice items : List SortedName) (ks : List Name) → slice ≡ items → ks ≡ map name_of items → Ascend (map name_of items) → Names slice ks
-names_are slice items ks s v asc = record { as_seen = v ∙ ap (map name_of) (sym s); ascend = subst Ascend (sym v) asc }
+  pub text_at : (p : ℕ) (d : Entry N) (t : Name) → t ≡ text_of (get_or es p d) → p < length es → t ≡ get_or (names_of es) p []
+  text_at p d t text lt = text ∙ sym (get_or-map text_of es p d [] lt)
 
-module _ {slice : List SortedName} {ks : List Name} (h : Names slice ks) where
-  pub same_length : length ks ≡ length slice
-  same_length = ap length h.as_seen ∙ length-map slice name_of
+  pub seen_at : (p : ℕ) (d : Entry N) (t n : Name) → t ≡ text_of (get_or es p d) → p < length es → bytes_eq t n ≡ bytes_eq (get_or (names_of es) p []) n
+  seen_at p d t n text lt = ap (λ k. bytes_eq k n) (text_at p d t text lt)
 
-  pub text_at : (p : ℕ) (x : SortedName) (t : Name) → x ≡ get_or slice p x → t ≡ name_of x → p < length slice → t ≡ get_or ks p []
-  text_at p x t is text lt = text ∙ ap name_of is ∙ sym (get_or-map name_of slice p x [] lt) ∙ ap (λ l. get_or l p []) (sym h.as_seen)
+  pub equal_at : {b : Bool} (p : ℕ) (d : Entry N) (t n : Name) → t ≡ text_of (get_or es p d) → p < length es → b ≡ bytes_eq t n → b ≡ bytes_eq (get_or (names_of es) p []) n
+  equal_at p d t n text lt e = e ∙ seen_at p d t n text lt
 
-  pub seen_at : (p : ℕ) (x : SortedName) (t n : Name) → x ≡ get_or slice p x → t ≡ name_of x → p < length slice → bytes_eq t n ≡ bytes_eq (get_or ks p []) n
-  seen_at p x t n is text lt = ap (λ k. bytes_eq k n) (text_at p x t is text lt)
-
-  pub equal_at : {b : Bool} (p : ℕ) (x : SortedName) (t n : Name) → x ≡ get_or slice p x → t ≡ name_of x → p < length slice → b ≡ bytes_eq t n → b ≡ bytes_eq (get_or ks p []) n
-  equal_at p x t n is text lt e = e ∙ seen_at p x t n is text lt
+pub as_many_entries : {N : Type 0} (es : List (Entry N)) → length (entries_are es) ≡ length es
+as_many_entries [] = refl
+as_many_entries (e ∷ es) = ap suc (as_many_entries es)

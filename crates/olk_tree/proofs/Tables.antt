@@ -1,7 +1,9 @@
 -- Tables of what patterns say: filled row by row, asked once for each name.
-use Rattle.std.proofs.Common.{◌≡◌, ℕ, ◌+◌, ◌*◌, ◌<◌, ◌≤◌, Bool, true, false, cond, List, [], ◌∷◌, ◌++◌, length, get_or, take, map, Option, Some, None, Result, Ok, Err, ap, sym, subst, ◌∙◌, inl, inr, arith}
+use Rattle.std.proofs.Common.{◌≡◌, ℕ, ◌+◌, ◌*◌, ◌<◌, ◌≤◌, Bool, true, false, cond, List, [], ◌∷◌, ◌++◌, length, get_or, take, map, Option, Some, None, Result, Ok, Err, ap, sym, subst, ◌∙◌, inl, inr, arith, subst₂}
 use Rattle.std.specs.Prelude.{◌≢◌, slice_get, IsSomeAnd, OnErr}
-use Rattle.std.specs.List.{AllZip, filter_map, cons_option, range_with_len}
+use Rattle.std.specs.List.{AllZip, filter_map, cons_option, range_with_len, zip}
+use Rattle.olk_tree.specs.Maps.{keys_in, nodes_in}
+use Rattle.olk_tree.proofs.Lookups.{keys_of_zip, nodes_of_zip}
 use Rattle.std.specs.Option.{option_map_or}
 use Rattle.std.proofs.lemmas.Bool.{cases_eq}
 use Rattle.std.proofs.lemmas.Option.{MatchOption-at_some, same_Some, slice_get_within, slice_get-get_or, slice_get_past}
@@ -124,6 +126,19 @@ module _ {R : Type 0} (answers : R → Name → Says) (patterns : List (Compiled
 
   pub nothing_else : (p i : ℕ) → length t.names ≤ p → table_says t p i ≡ unfinished
   nothing_else p i le = ap (λ o. option_map_or (λ r. row_says r i) o unfinished) (slice_get_past t.rows p (omega (arith, AllZip-long (IsRowOf answers patterns) t.names t.rows rows)))
+
+-- ---- names and rows, joined
+
+module _ {R : Type 0} (answers : R → Name → Says) (patterns : List (CompiledPattern R)) (names : List Name) (rows : List Row) {entries : List (Name × Row)} (joined : entries ≡ zip names rows)
+    (all : AllZip (IsRowOf answers patterns) names rows) where
+  as_many_rows : length names ≡ length rows
+  as_many_rows = omega (arith, AllZip-long (IsRowOf answers patterns) names rows all)
+
+  pub names_joined : keys_in entries ≡ names
+  names_joined = ap keys_in joined ∙ keys_of_zip names rows as_many_rows
+
+  pub rows_joined : AllZip (IsRowOf answers patterns) (keys_in entries) (nodes_in entries)
+  rows_joined = subst₂ (AllZip (IsRowOf answers patterns)) (sym names_joined) (sym (ap nodes_in joined ∙ nodes_of_zip names rows as_many_rows)) all
 
 -- a row more, of the next name
 pub row_told : {R : Type 0} (answers : R → Name → Says) (patterns : List (CompiledPattern R)) (names : List SortedName) (k : ℕ) (name : SortedName)

@@ -1,5 +1,5 @@
 -- What is left of a walk over the members whose names are declared.
-use Rattle.std.proofs.Common.{◌≡◌, ◌⊎◌, inl, inr, Bool, true, false, cond, map, List, [], ◌∷◌, ◌++◌, Option, Some, None, option_to_list, Bor, String, Global, string_bytes, string_cmp, refl, sym, ap, ◌∙◌}
+use Rattle.std.proofs.Common.{◌≡◌, Bool, true, false, cond, List, [], ◌∷◌, ◌++◌, Option, Some, None, option_to_list, String, Global, string_bytes, string_cmp, refl, sym, ap, subst, ◌∙◌}
 use Rattle.std.specs.List.{flat_map, zip}
 use Rattle.serde_json.specs.Data.{Data}
 use Rattle.serde_json.specs.View.{view, members_view}
@@ -8,16 +8,12 @@ use Rattle.olk_spec.specs.Names.{Name, lookup_name}
 use Rattle.olk_spec.specs.Schemas.{listed}
 use Rattle.std.specs.List.Sorted.{IsStrictlySortedBy}
 use Rattle.std.specs.Map.{keys_of}
-use Rattle.std.specs.declared.iter.Zip.{Zip}
-use Rattle.std.specs.declared.slice.Iter.{Iter}
-use Rattle.std.proofs.iter.Yields.{fronts}
-use Rattle.std.proofs.lemmas.Iterator.{zips}
-use Rattle.std.proofs.lemmas.Slice.Zip.{Zip-more}
-use Rattle.olk_tree.specs.declared.sorted_name.SortedName.{SortedName}
-use Rattle.olk_tree.specs.Sorted.{name_of}
+use Rattle.olk_tree.specs.declared.entries.Entry.{Entry}
+use Rattle.olk_tree.specs.Entries.{text_of, entries_are}
 use Rattle.olk_tree.specs.Ascending.{Ascend}
-use Rattle.olk_tree.proofs.Merge.{in_step, ascending_rising, sorted_rising}
-use Rattle.olk_tree.specs.Visited.{Declared, declared_as, members_declared, names_met, pairs_of}
+use Rattle.olk_tree.specs.Maps.{keys_in, nodes_in}
+use Rattle.olk_tree.proofs.Merge.{Rising, in_step, ascending_rising, sorted_rising}
+use Rattle.olk_tree.specs.Visited.{Declared, declared_as, members_declared, names_met}
 
 module _ {N : Type 0} where
   module _ (es : List (Name × N)) where
@@ -54,29 +50,26 @@ module _ {N : Type 0} where
     pub name_passed : None ≡ lookup_name n ms → names_met es ms ≡ names_met rest ms
     name_passed at = ap (λ l. names_met l ms) next ∙ ap (λ p. flat_map (λ w. declared_as n x w) (option_to_list p) ++ names_met rest ms) (sym at)
 
-  -- the pairs that are left, where the next is taken
-  pub pairs_more : (left rest : Zip (Iter SortedName) (Iter N)) (r : Option (Bor SortedName × Bor N)) (p : Bor SortedName × Bor N)
-      → r ≡ Some p → zips fronts fronts left r rest → (n : Name) → n ≡ name_of p.0.now → pairs_of left ≡ (n, p.1.now) ∷ pairs_of rest
-  pairs_more left rest r p is steps n name =
-      let here = Zip-more left rest r p is steps in
-      (λ i. zip (map name_of (here.0 i)) (here.1 i)) ∙ ap (λ m. (m, p.1.now) ∷ pairs_of rest) (sym name)
+  -- the entries that are left, where the next is taken
+  pub entries_more : (left rest : List (Entry N)) (e : Entry N) → left ≡ e ∷ rest → (n : Name) → n ≡ text_of e → entries_are left ≡ (n, e.node) ∷ entries_are rest
+  entries_more left rest e steps n name = ap entries_are steps ∙ ap (λ m. (m, e.node) ∷ entries_are rest) (sym name)
 
-  zip_nothing : (ks : List Name) → zip {X = N} ks [] ≡ []
-  zip_nothing [] = refl
-  zip_nothing (k ∷ ks) = refl
-
-  pub no_pair_left : (ks : List SortedName) (xs : List N) → (ks ≡ []) ⊎ (xs ≡ []) → zip (map name_of ks) xs ≡ []
-  no_pair_left ks xs (inl none) = ap (λ l. zip (map name_of l) xs) none
-  no_pair_left ks xs (inr none) = ap (zip (map name_of ks)) none ∙ zip_nothing (map name_of ks)
-
-  pub no_name_left : (ms : List (Name × Data)) (ks : List SortedName) (xs : List N) → (ks ≡ []) ⊎ (xs ≡ []) → names_met (zip (map name_of ks) xs) ms ≡ []
-  no_name_left ms ks xs none = ap (λ es. names_met es ms) (no_pair_left ks xs none)
+  pub no_name_left : (ms : List (Name × Data)) (left : List (Entry N)) → left ≡ [] → names_met (entries_are left) ms ≡ []
+  no_name_left ms left none = ap (λ es. names_met (entries_are es) ms) none
 
   -- whichever side is walked
   pub either_side : (b : Bool) (x y z : List (Declared N)) → x ≡ z → y ≡ z → cond b x y ≡ z
   either_side true x y z e f = e
   either_side false x y z e f = f
 
-  pub walks_agree : (names : List Name) (nodes : List N) (es : List (String Global × Value)) → Ascend names → IsStrictlySortedBy string_cmp (keys_of es)
-      → names_met (zip names nodes) (listed (members_view es)) ≡ members_declared (zip names nodes) (listed (members_view es))
-  walks_agree names nodes es ascend sorted = in_step declared_as (zip names nodes) (listed (members_view es)) (ascending_rising names nodes ascend) (sorted_rising es sorted)
+  -- a list of pairs is its keys and what stands beside them
+  pub zip_parts : (es : List (Name × N)) → zip (keys_in es) (nodes_in es) ≡ es
+  zip_parts [] = refl
+  zip_parts (e ∷ es) = ap (λ l. e ∷ l) (zip_parts es)
+
+  pub keys_rising : (es : List (Name × N)) → Ascend (keys_in es) → Rising es
+  keys_rising es ascend = subst Rising (zip_parts es) (ascending_rising (keys_in es) (nodes_in es) ascend)
+
+  pub walks_agree : (declared : List (Name × N)) (es : List (String Global × Value)) → Ascend (keys_in declared) → IsStrictlySortedBy string_cmp (keys_of es)
+      → names_met declared (listed (members_view es)) ≡ members_declared declared (listed (members_view es))
+  walks_agree declared es ascend sorted = in_step declared_as declared (listed (members_view es)) (keys_rising declared ascend) (sorted_rising es sorted)

@@ -1,7 +1,7 @@
 -- What is asked of a member beside `additionalProperties`: what is declared at its name, what stands at the patterns that match it, and where there is neither the rest.
 use Rattle.std.specs.Prelude.{ℕ, ◌+◌, Bool, true, false, not, ◌&&◌, ◌||◌, cond, List, [], ◌∷◌, ◌++◌, map, Option, Some, None, is_none, is_some, option_map, option_to_list, string_bytes, Vec}
 use Rattle.std.specs.declared.alloc.Global.{Global}
-use Rattle.std.specs.List.{flat_map, enumerate_from, zip}
+use Rattle.std.specs.List.{flat_map, enumerate_from}
 use Rattle.serde_json.specs.Data.{Data}
 use Rattle.olk_spec.specs.Names.{Name, Text, Path, ◌//◌, lookup_name, filter_once, put_if, is_empty}
 use Rattle.olk_spec.specs.World.{Says, matched, unmatched, unfinished, reads_as}
@@ -14,7 +14,7 @@ use Rattle.olk_base.specs.Compiled.{pattern_answers, pattern_costs}
 use Rattle.olk_base.specs.declared.pattern.CompiledPattern.{CompiledPattern}
 use Rattle.olk_tree.specs.Questions.{Question, always, said_to, both, conditional, every}
 use Rattle.olk_tree.specs.Firsts.{or_else, first_of}
-use Rattle.olk_tree.specs.Maps.{names_in, nodes_in}
+use Rattle.olk_tree.specs.Maps.{mapped, placed_entries}
 use Rattle.olk_tree.specs.Tables.{table_says}
 use Rattle.olk_tree.specs.declared.additional_properties.AdditionalProperties.{AdditionalProperties}
 use Rattle.olk_tree.specs.declared.additional_properties.RequiredName.{RequiredName}
@@ -36,7 +36,7 @@ placed ns = enumerate_from 0 ns
 -- each declared name with its place and its node, where there is a map
 abbrev pub mapped_places : {N : Type 0} → Option (PropertiesMap N) → List (Name × (ℕ × N))
 mapped_places None = []
-mapped_places (Some m) = zip (names_in m) (placed (nodes_in m))
+mapped_places (Some m) = placed_entries (mapped m)
 
 abbrev pub patterns_in : {R N : Type 0} → Option (Vec (CompiledPattern R × N) Global) → List (CompiledPattern R × N)
 patterns_in None = []

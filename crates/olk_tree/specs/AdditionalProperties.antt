@@ -10,7 +10,7 @@ use Rattle.olk_tree.specs.AdditionalAgreement.{additional_agrees, additional_fir
 use Rattle.olk_tree.specs.Answers.{AnswersOver}
 use Rattle.olk_tree.specs.Firsts.{or_else}
 use Rattle.olk_tree.specs.Formed.{is_map_formed, names_beside, is_table_formed}
-use Rattle.olk_tree.specs.Maps.{nodes_in}
+use Rattle.olk_tree.specs.Maps.{mapped, nodes_in}
 use Rattle.olk_tree.specs.Questions.{always, both}
 use Rattle.olk_tree.specs.Shown.{missing_trees}
 use Rattle.olk_tree.specs.declared.additional_properties.AdditionalProperties.{AdditionalProperties}
@@ -26,7 +26,7 @@ module _ {R N : Type 0} (answers : R → Name → Says) (costs : R → Bool) whe
     tree = λ m t u v Q. additional_tree answers (sides_of k) u v Q (is_some k.properties) (is_some k.patterns) k.location k.patterns_location (λ n. t n u)
         (missing_trees (required_text k.required) v (required_place k.required) Q);
     location = k.location;
-    formed = λ f. option_map_or (λ m. is_map_formed m && list_all f (nodes_in m)) k.properties true
+    formed = λ f. option_map_or (λ m. is_map_formed m && list_all f (nodes_in (mapped m))) k.properties true
         && option_map_or (λ es. is_table_formed answers (names_beside k.properties) (map (λ e. e.0) es.items) k.table && list_all (λ e. f e.1) es.items) k.patterns true
         && option_map_or f k.rest true;
   }

@@ -8,7 +8,7 @@ use Rattle.olk_spec.specs.World.{Says, matched, unmatched, unfinished}
 use Rattle.olk_spec.specs.declared.TheConstants.{HASHMAP_THRESHOLD}
 use Rattle.olk_base.specs.Compiled.{pattern_answers}
 use Rattle.olk_base.specs.declared.pattern.CompiledPattern.{CompiledPattern}
-use Rattle.olk_tree.specs.Maps.{names_in}
+use Rattle.olk_tree.specs.Maps.{keys_in, mapped}
 use Rattle.olk_tree.specs.Tables.{Table, table_says}
 use Rattle.olk_tree.specs.declared.properties_map.PropertiesMap.{PropertiesMap}
 use Rattle.olk_tree.specs.declared.properties_map.PropertiesMap.TheVariants.{Small, Big}
@@ -19,12 +19,12 @@ is_one xs = length xs == 1
 
 -- few names stand in a small map, and many in a big one
 abbrev pub is_map_formed : {N : Type 0} → PropertiesMap N → Bool
-is_map_formed (Small m) = nat_lt (length m.names) HASHMAP_THRESHOLD
-is_map_formed (Big m) = not (nat_lt (length m.names) HASHMAP_THRESHOLD)
+is_map_formed (Small m) = nat_lt (length m.entries) HASHMAP_THRESHOLD
+is_map_formed (Big m) = not (nat_lt (length m.entries) HASHMAP_THRESHOLD)
 
 -- the names that are declared, if any are
 abbrev pub names_beside : {N : Type 0} → Option (PropertiesMap N) → List Name
-names_beside m = option_map_or names_in m []
+names_beside m = option_map_or (λ x. keys_in (mapped x)) m []
 
 -- ---- the table of patterns
 

@@ -9,8 +9,10 @@ pub mod Bodies
 pub mod Dependencies
 pub mod Each
 pub mod Emptiness
+pub mod Entries
 pub mod Firsts
 pub mod Formed
+pub mod formers
 pub mod If
 pub mod Leaf
 pub mod Maps

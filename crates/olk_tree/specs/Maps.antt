@@ -1,26 +1,30 @@
 -- What maps and lists of names hold.
-use Rattle.std.specs.Prelude.{List, [], ◌∷◌, map, String, string_bytes}
+use Rattle.std.specs.Prelude.{ℕ, List, [], ◌∷◌, map, String, string_bytes}
 use Rattle.std.specs.declared.alloc.Global.{Global}
-use Rattle.std.specs.List.{zip}
+use Rattle.std.specs.List.{zip, enumerate_from}
 use Rattle.olk_spec.specs.Names.{Name, Text}
 use Rattle.olk_tree.specs.declared.map.SmallMap.{SmallMap}
 use Rattle.olk_tree.specs.declared.properties_map.PropertiesMap.{PropertiesMap}
 use Rattle.olk_tree.specs.declared.properties_map.PropertiesMap.TheVariants.{Small, Big}
 
 abbrev pub named : {N : Type 0} → SmallMap N → List (Name × N)
-named m = zip m.names m.nodes.items
+named m = m.entries
 
 -- what a map of few names or of many has
-abbrev pub names_in : {N : Type 0} → PropertiesMap N → List Name
-names_in (Small m) = m.names
-names_in (Big m) = m.names
-
-abbrev pub nodes_in : {N : Type 0} → PropertiesMap N → List N
-nodes_in (Small m) = m.nodes.items
-nodes_in (Big m) = m.nodes.items
-
 abbrev pub mapped : {N : Type 0} → PropertiesMap N → List (Name × N)
-mapped m = zip (names_in m) (nodes_in m)
+mapped (Small m) = m.entries
+mapped (Big m) = m.entries
+
+-- the names, and what stands at them
+abbrev pub keys_in : {N : Type 0} → List (Name × N) → List Name
+keys_in es = map (λ e. e.0) es
+
+abbrev pub nodes_in : {N : Type 0} → List (Name × N) → List N
+nodes_in es = map (λ e. e.1) es
+
+-- what stands at each name, with its place
+abbrev pub placed_entries : {N : Type 0} → List (Name × N) → List (Name × (ℕ × N))
+placed_entries es = zip (keys_in es) (enumerate_from 0 (nodes_in es))
 
 -- the texts of owned names
 abbrev pub texts_of : List (String Global) → List Text

@@ -48,7 +48,7 @@ module _ {N : Type 0} where
     first_agrees = λ m r s u h v Q. properties_first_agrees m s u h (mapped k.properties) v Q;
     tree = λ m t u v Q. properties_tree (λ n. t n u) v Q k.location (mapped k.properties) [];
     location = k.location;
-    formed = λ f. is_map_formed k.properties && list_all f (nodes_in k.properties);
+    formed = λ f. is_map_formed k.properties && list_all f (nodes_in (mapped k.properties));
   }
 
   -- the names that are missing, and behind them what `properties` finds
@@ -64,5 +64,5 @@ module _ {N : Type 0} where
         (properties_first_agrees m s u h (named k.properties) v Q);
     tree = λ m t u v Q. properties_tree (λ n. t n u) v Q k.location (named k.properties) (missing_trees (two_texts k.first k.second) v k.required_location Q);
     location = k.location;
-    formed = λ f. is_map_formed (Small k.properties) && not (bytes_eq (string_bytes k.first) (string_bytes k.second)) && list_all f k.properties.nodes.items;
+    formed = λ f. is_map_formed (Small k.properties) && not (bytes_eq (string_bytes k.first) (string_bytes k.second)) && list_all f (nodes_in (named k.properties));
   }

@@ -6,7 +6,7 @@ use Rattle.olk_spec.specs.Names.{Name, lookup_name}
 use Rattle.olk_spec.specs.Schemas.{at, as_text}
 use Rattle.olk_tree.specs.Answers.{AnswersOver}
 use Rattle.olk_tree.specs.Each.{each_answers}
-use Rattle.olk_tree.specs.Maps.{named}
+use Rattle.olk_tree.specs.Maps.{named, nodes_in}
 use Rattle.olk_tree.specs.declared.map.SmallMap.{SmallMap}
 use Rattle.olk_tree.specs.declared.property_dependencies.PropertyDependencies.{PropertyDependencies}
 
@@ -19,4 +19,4 @@ abbrev pub chosen_nodes : {N : Type 0} → List (Name × SmallMap N) → Data �
 chosen_nodes es v = flat_map (λ e. flat_map (chosen_at e.1) (at e.0 v)) es
 
 abbrev pub property_dependencies_answers : {N : Type 0} → PropertyDependencies N → AnswersOver N
-property_dependencies_answers k = each_answers (chosen_nodes (named k.dependencies)) k.location (λ f. list_all (λ m. list_all f m.nodes.items) k.dependencies.nodes.items)
+property_dependencies_answers k = each_answers (chosen_nodes (named k.dependencies)) k.location (λ f. list_all (λ m. list_all f (nodes_in m.entries)) (nodes_in k.dependencies.entries))

@@ -1,18 +1,15 @@
 -- The members of an object whose names are declared: each with what stands at its name.
-use Rattle.std.specs.Prelude.{◌≡◌, ℕ, Option, MatchOption, cond, map, String, List, [], ◌∷◌, option_to_list}
+use Rattle.std.specs.Prelude.{◌≡◌, ℕ, Option, MatchOption, cond, String, List, [], ◌∷◌, option_to_list}
 use denote.Ref.{Bor}
-use Rattle.std.specs.List.{flat_map, zip}
+use Rattle.std.specs.List.{flat_map}
 use Rattle.serde_json.specs.Data.{Data, object}
 use Rattle.serde_json.specs.View.{view, members_view}
 use Rattle.serde_json.specs.declared.value.Value.{Value}
 use Rattle.olk_spec.specs.Names.{Name, lookup_name}
 use Rattle.olk_spec.specs.Schemas.{listed}
 use Rattle.std.specs.declared.alloc.Global.{Global}
-use Rattle.std.specs.declared.iter.Zip.{Zip}
-use Rattle.std.specs.declared.slice.Iter.{Iter}
-use Rattle.olk_tree.specs.declared.sorted_name.SortedName.{SortedName}
 use Rattle.olk_tree.specs.declared.declared.DeclaredMembers.{DeclaredMembers}
-use Rattle.olk_tree.specs.Sorted.{name_of}
+use Rattle.olk_tree.specs.Entries.{entries_are}
 
 -- the value that has these members
 abbrev pub object_of : List (String Global × Value) → Data
@@ -43,10 +40,6 @@ module _ {N : Type 0} where
   abbrev pub names_met : List (Name × N) → List (Name × Data) → List (Declared N)
   names_met es ms = flat_map (λ e. flat_map (λ v. declared_as e.0 e.1 v) (option_to_list (lookup_name e.0 ms))) es
 
--- names, and what stands zip them, that are left
-abbrev pub pairs_of : {N : Type 0} → Zip (Iter SortedName) (Iter N) → List (Name × N)
-pairs_of z = zip (map name_of z.a.rest.now) z.b.rest.now
-
 -- what is left of a walk over the declared members
 abbrev pub left_of : {N : Type 0} → DeclaredMembers N → List (Declared N)
-left_of w = cond w.by_members (members_declared (zip w.names.now w.nodes.now) (listed (members_view w.left))) (names_met (pairs_of w.unasked) (listed (members_view w.members.now.entries)))
+left_of w = cond w.by_members (members_declared w.entries.now (listed (members_view w.left))) (names_met (entries_are w.unasked.rest.now) (listed (members_view w.members.now.entries)))

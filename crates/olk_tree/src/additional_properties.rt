@@ -7,7 +7,7 @@ ghost use Rattle.olk_tree.specs.Tables.{known_says, is_blank_at};
 
 use crate::pattern_table::PatternTable;
 use crate::properties_map::PropertiesMap;
-use crate::validators_map::{PropertiesValidatorsMap, placed_from};
+use crate::validators_map::PropertiesValidatorsMap;
 use olk_base::{CompiledPattern, RegexEngine};
 use olk_paths::Location;
 
@@ -57,7 +57,7 @@ impl<R, N> AdditionalProperties<R, N> {
             ≡ at_name (sides_of self.now) name.now }
     {
         match &self.properties {
-            Some(map) => placed_from(map.names(), map.nodes(), hint, name),
+            Some(map) => map.entries().placed_from(hint, name),
             None => (hint, None),
         }
     }

@@ -2,16 +2,13 @@
 ghost use Rattle.std.specs.Prelude.{◌≡◌};
 ghost use Rattle.serde_json.specs.View.{members_view};
 ghost use Rattle.olk_spec.specs.Schemas.{listed};
-ghost use Rattle.std.specs.List.{zip};
-ghost use Rattle.olk_tree.specs.Visited.{members_declared, names_met, Yields, left_of, pairs_of};
+ghost use Rattle.olk_tree.specs.Entries.{entries_are};
+ghost use Rattle.olk_tree.specs.Visited.{members_declared, names_met, Yields, left_of};
 
-use crate::map::SortedNames;
-use crate::sorted_name::SortedName;
-use crate::validators_map::node_from;
+use crate::entries::{Entry, SortedEntries};
 use olk_meaning::member;
 use serde_json::{Map, Value};
 use std::collections::btree_map::Iter;
-use std::iter::Zip;
 use std::slice;
 
 /// The members of an object whose names are declared, in the order of their names: each with what
@@ -21,15 +18,14 @@ use std::slice;
 /// members, and otherwise each member among the declared names, from the place of the last one on.
 #[derive(Drop)]
 pub struct DeclaredMembers<'a, N> {
-    names: &'a SortedNames,
-    nodes: &'a [N],
+    entries: &'a SortedEntries<N>,
     members: &'a Map<String, Value>,
     // whether the members are walked; otherwise the declared names are
     by_members: bool,
     left: Iter<'a, String, Value>,
     // where the next name is looked for first
     hint: usize,
-    unasked: Zip<slice::Iter<'a, SortedName>, slice::Iter<'a, N>>,
+    unasked: slice::Iter<'a, Entry<N>>,
 }
 
 impl<'a, N> Iterator for DeclaredMembers<'a, N> {
@@ -45,7 +41,7 @@ impl<'a, N> Iterator for DeclaredMembers<'a, N> {
     #[inline(always)]
     fn next(&mut self) -> Option<(&'a str, &'a N, &'a Value)> {
         if self.by_members {
-            next_member(self.names, self.nodes, &mut self.left, &mut self.hint)
+            next_member(self.entries, &mut self.left, &mut self.hint)
         } else {
             next_name(self.members, &mut self.unasked)
         }
@@ -55,23 +51,21 @@ impl<'a, N> Iterator for DeclaredMembers<'a, N> {
 impl<'a, N> DeclaredMembers<'a, N> {
     /// The members whose names are declared, each with the node that stands beside its name.
     pub fn of(
-        names: &'a SortedNames,
-        nodes: &'a [N],
+        entries: &'a SortedEntries<N>,
         members: &'a Map<String, Value>,
     ) -> DeclaredMembers<'a, N>
-        ensures by_members { left_of result ≡ members_declared
-            (zip names.now nodes.now) (listed (members_view members.now.entries)) }
-        ensures by_names { left_of result ≡ names_met
-            (zip names.now nodes.now) (listed (members_view members.now.entries)) }
+        ensures by_members { left_of result
+            ≡ members_declared entries.now (listed (members_view members.now.entries)) }
+        ensures by_names { left_of result
+            ≡ names_met entries.now (listed (members_view members.now.entries)) }
     {
         DeclaredMembers {
-            names,
-            nodes,
+            entries,
             members,
-            by_members: members.len() <= names.len(),
+            by_members: members.len() <= entries.len(),
             left: members.iter(),
             hint: 0,
-            unasked: names.as_slice().iter().zip(nodes),
+            unasked: entries.as_slice().iter(),
         }
     }
 }
@@ -79,18 +73,17 @@ impl<'a, N> DeclaredMembers<'a, N> {
 /// The next member whose name is declared.
 #[inline(always)]
 fn next_member<'a, N>(
-    names: &'a SortedNames,
-    nodes: &'a [N],
+    entries: &'a SortedEntries<N>,
     left: &mut Iter<'a, String, Value>,
     hint: &mut usize,
 ) -> Option<(&'a str, &'a N, &'a Value)>
-    ensures { let declared = zip names.now nodes.now in Yields result
-        (members_declared declared (listed (members_view left.old)))
-        (members_declared declared (listed (members_view left.new))) }
+    ensures { Yields result
+        (members_declared entries.now (listed (members_view left.old)))
+        (members_declared entries.now (listed (members_view left.new))) }
 {
     while let Some((name, value)) = left.next() {
         let name = name.as_str();
-        let (next, found) = node_from(names, nodes, *hint, name);
+        let (next, found) = entries.node_from(*hint, name);
         *hint = next;
         if let Some(node) = found {
             return Some((name, node, value));
@@ -102,16 +95,16 @@ fn next_member<'a, N>(
 /// The next declared name at which there is a member.
 fn next_name<'a, N>(
     members: &'a Map<String, Value>,
-    names: &mut Zip<slice::Iter<'a, SortedName>, slice::Iter<'a, N>>,
+    entries: &mut slice::Iter<'a, Entry<N>>,
 ) -> Option<(&'a str, &'a N, &'a Value)>
     ensures { Yields result
-        (names_met (pairs_of names.old) (listed (members_view members.now.entries)))
-        (names_met (pairs_of names.new) (listed (members_view members.now.entries))) }
+        (names_met (entries_are entries.old.rest.now) (listed (members_view members.now.entries)))
+        (names_met (entries_are entries.new.rest.now) (listed (members_view members.now.entries))) }
 {
-    while let Some((name, node)) = names.next() {
-        let name = name.as_str();
+    while let Some(entry) = entries.next() {
+        let name = entry.name.as_str();
         if let Some(value) = member(members, name) {
-            return Some((name, node, value));
+            return Some((name, &entry.node, value));
         }
     }
     None

@@ -13,6 +13,7 @@ pub mod big_map;
 pub mod built_node;
 pub mod declared;
 pub mod dependencies;
+pub mod entries;
 pub mod if_;
 pub mod map;
 pub mod means;
@@ -31,6 +32,7 @@ pub mod validators_map;
 
 pub use big_map::BigMap;
 pub use built_node::BuiltNode;
+pub use entries::{Entry, SortedEntries};
 pub use map::{SmallMap, SortedNames};
 pub use means::{Means, Reports};
 pub use node::{Body, KeywordOver};

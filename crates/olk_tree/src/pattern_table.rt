@@ -8,6 +8,7 @@ ghost use Rattle.olk_base.specs.Lawful.{said};
 ghost use Rattle.olk_tree.specs.Sorted.{name_of};
 ghost use Rattle.olk_tree.specs.Tables.{has_bit, row_says, HasWord, no_table, table_says, known_says, matched_in, unfinished_in, index_said, indices_below, indices_in, IsRowOf, IsTableOf, how_many_cost, count_asks, AsksAtMost, is_blank, is_blank_at};
 
+use crate::entries::SortedEntries;
 use crate::map::SortedNames;
 use crate::sorted_name::SortedName;
 use olk_base::{CompiledPattern, Meter, RegexEngine, Unfinished};
@@ -30,17 +31,17 @@ pub struct PatternIndex {
 /// Names, and beside each what patterns say of it, as far as that is known.
 #[derive(Drop)]
 pub struct PatternTable {
-    names: SortedNames,
+    entries: SortedEntries<PatternRow>,
     patterns: usize,
-    rows: Vec<PatternRow>,
 }
 
 impl Model for PatternTable {
+    ghost use Rattle.olk_tree.specs.Maps.{keys_in, nodes_in};
     ghost use Rattle.olk_tree.specs.Tables.{Table};
 
     ghost Value = { Table };
 
-    ghost view = { λ t. record { names = t.names; patterns = t.patterns; rows = t.rows.items } };
+    ghost view = { λ t. record { names = keys_in t.entries; patterns = t.patterns; rows = nodes_in t.entries } };
 }
 
 impl PatternTable {
@@ -49,9 +50,8 @@ impl PatternTable {
         ensures { result ≡ no_table }
     {
         PatternTable {
-            names: SortedNames::none(alloc),
+            entries: SortedEntries::none(alloc),
             patterns: 0,
-            rows: Vec::new(alloc),
         }
     }
 
@@ -61,8 +61,8 @@ impl PatternTable {
     pub fn known(&self, place: usize, index: usize) -> Option<bool>
         ensures { known_says result ≡ table_says self.now place index }
     {
-        match self.rows.get(place) {
-            Some(row) => row.known(index),
+        match self.entries.as_slice().get(place) {
+            Some(entry) => entry.node.known(index),
             None => None,
         }
     }
@@ -75,8 +75,8 @@ impl PatternTable {
         ensures unmatched { IsTrue result
             → (i : ℕ) → table_says self.now place i ≡ unmatched }
     {
-        match self.rows.get(place) {
-            Some(row) => row.is_blank(),
+        match self.entries.as_slice().get(place) {
+            Some(entry) => entry.node.is_blank(),
             None => false,
         }
     }
@@ -86,7 +86,7 @@ impl PatternTable {
     pub fn is_matched(&self, name: &str, index: usize) -> bool
         ensures { result ≡ matched_in self.now name.now index }
     {
-        match self.names.find(name) {
+        match self.entries.find(name) {
             Some(place) if index < self.patterns => matches!(self.known(place, index), Some(true)),
             _ => false,
         }
@@ -97,7 +97,7 @@ impl PatternTable {
     pub fn is_unfinished(&self, name: &str, index: usize) -> bool
         ensures { result ≡ unfinished_in self.now name.now index }
     {
-        match self.names.find(name) {
+        match self.entries.find(name) {
             Some(place) if index < self.patterns => self.known(place, index).is_none(),
             _ => false,
         }
@@ -112,7 +112,7 @@ impl PatternTable {
     pub fn indices(&self, alloc: Global, name: &str) -> Result<Vec<PatternIndex>, AllocError>
         ensures { IfOk result (λ indices. indices.items ≡ indices_in self.now name.now) }
     {
-        match self.names.find(name) {
+        match self.entries.find(name) {
             Some(place) => self.indices_at(alloc, place),
             None => Ok(Vec::new(alloc)),
         }
@@ -176,9 +176,8 @@ pub fn precompute_property_pattern_indices<R: RegexEngine>(
     let names = SortedNames::of(alloc, properties)?;
     let rows = rows_of(alloc, names.as_slice(), patterns, meter)?;
     Ok(PatternTable {
-        names,
+        entries: SortedEntries::of(alloc, names, rows)?,
         patterns: patterns.len(),
-        rows,
     })
 }
 

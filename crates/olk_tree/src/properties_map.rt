@@ -1,6 +1,7 @@
 //! A map of few names, or of many.
 use crate::big_map::BigMap;
-use crate::map::{SmallMap, SortedNames};
+use crate::entries::SortedEntries;
+use crate::map::SmallMap;
 use crate::validators_map::PropertiesValidatorsMap;
 
 /// A map of few names, or of many.
@@ -13,23 +14,14 @@ pub enum PropertiesMap<N> {
 }
 
 impl<N> PropertiesValidatorsMap<N> for PropertiesMap<N> {
-    ghost use Rattle.olk_tree.specs.Maps.{names_in, nodes_in};
+    ghost use Rattle.olk_tree.specs.Maps.{mapped};
 
-    ghost names = { names_in };
+    ghost entries = { mapped };
 
-    ghost nodes = { nodes_in };
-
-    fn names(&self) -> &SortedNames {
+    fn entries(&self) -> &SortedEntries<N> {
         match self {
-            PropertiesMap::Small(map) => map.names(),
-            PropertiesMap::Big(map) => map.names(),
-        }
-    }
-
-    fn nodes(&self) -> &[N] {
-        match self {
-            PropertiesMap::Small(map) => &map.nodes,
-            PropertiesMap::Big(map) => &map.nodes,
+            PropertiesMap::Small(map) => &map.entries,
+            PropertiesMap::Big(map) => &map.entries,
         }
     }
 }

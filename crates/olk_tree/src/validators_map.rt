@@ -1,57 +1,45 @@
 //! What finds the subschemas that are declared for names.
 ghost use Rattle.std.specs.Prelude.{◌≡◌, IfSome, option_copied, option_map};
-ghost use Rattle.olk_tree.specs.Additional.{placed};
-ghost use Rattle.std.specs.List.{slice_get, zip};
 ghost use Rattle.serde_json.specs.View.{members_view};
 ghost use Rattle.olk_spec.specs.Names.{lookup_name};
 ghost use Rattle.olk_spec.specs.Schemas.{listed};
 ghost use Rattle.olk_tree.specs.Visited.{left_of, members_declared, names_met};
 
 use crate::declared::DeclaredMembers;
-use crate::map::SortedNames;
+use crate::entries::SortedEntries;
 use serde_json::{Map, Value};
 
 /// A finite map from names to what stands at them.
 ///
-/// Two maps of the same names, with the same beside them, answer alike. No look-up takes memory.
+/// Two maps of the same entries answer alike. No look-up takes memory.
 pub trait PropertiesValidatorsMap<N> {
     ghost use Rattle.std.specs.Prelude.{List};
     ghost use Rattle.olk_spec.specs.Names.{Name};
 
-    // the names, and what stands beside each
-    ghost names: { Self → List Name };
+    // the names, with what stands at each
+    ghost entries: { Self → List (Name × N) };
 
-    ghost nodes: { Self → List N };
-
-    /// The names.
-    fn names(&self) -> &SortedNames
-        ensures { result.now ≡ names self.now };
-
-    /// What stands at the names, in their order.
-    fn nodes(&self) -> &[N]
-        ensures { result.now ≡ nodes self.now };
+    /// The names in order, and what stands at each.
+    fn entries(&self) -> &SortedEntries<N>
+        ensures { result.now ≡ entries self.now };
 
     /// What stands at the name.
     fn get_validator(&self, name: &str) -> Option<&N>
-        ensures { option_copied result
-            ≡ lookup_name name.now (zip (names self.now) (nodes self.now)) }
+        ensures { option_copied result ≡ lookup_name name.now (entries self.now) }
     {
-        match self.names().find(name) {
-            Some(place) => self.nodes().get(place),
-            None => None,
-        }
+        self.entries().node_from(0, name).1
     }
 
     /// The name as it is declared, and what stands at it.
     fn get_key_validator(&self, name: &str) -> Option<(&str, &N)>
         ensures key { IfSome result (λ found. found.0.now ≡ name.now) }
         ensures validator { option_map (λ found. found.1.now) result
-            ≡ lookup_name name.now (zip (names self.now) (nodes self.now)) }
+            ≡ lookup_name name.now (entries self.now) }
     {
-        let names = self.names();
-        let place = names.find(name)?;
-        let node = self.nodes().get(place)?;
-        Some((names.as_slice()[place].as_str(), node))
+        match self.entries().get(name) {
+            Some(entry) => Some((entry.name.as_str(), &entry.node)),
+            None => None,
+        }
     }
 
     /// What stands at the name, looked for at `hint` first, and where to look first for a later
@@ -60,72 +48,18 @@ pub trait PropertiesValidatorsMap<N> {
     /// It is the same with every hint, so nothing is promised of the next one.
     #[inline(always)]
     fn validator_from(&self, hint: usize, name: &str) -> (usize, Option<&N>)
-        ensures { option_copied result.1
-            ≡ lookup_name name.now (zip (names self.now) (nodes self.now)) }
+        ensures { option_copied result.1 ≡ lookup_name name.now (entries self.now) }
     {
-        node_from(self.names(), self.nodes(), hint, name)
+        self.entries().node_from(hint, name)
     }
 
     /// The members whose names are declared, each with what stands at its name.
     fn declared_members<'a>(&'a self, members: &'a Map<String, Value>) -> DeclaredMembers<'a, N>
         ensures by_members { left_of result
-            ≡ members_declared (zip (names self.now) (nodes self.now))
-            (listed (members_view members.now.entries)) }
+            ≡ members_declared (entries self.now) (listed (members_view members.now.entries)) }
         ensures by_names { left_of result
-            ≡ names_met (zip (names self.now) (nodes self.now))
-            (listed (members_view members.now.entries)) }
+            ≡ names_met (entries self.now) (listed (members_view members.now.entries)) }
     {
-        DeclaredMembers::of(self.names(), self.nodes(), members)
-    }
-}
-
-/// What stands at the name, looked for at `hint` first, and where to look first for a later name.
-///
-/// It is the same with every hint, so nothing is promised of the next one.
-#[inline(always)]
-pub fn node_from<'a, N>(
-    names: &'a SortedNames,
-    nodes: &'a [N],
-    hint: usize,
-    name: &str,
-) -> (usize, Option<&'a N>)
-    ensures { option_copied result.1
-        ≡ lookup_name name.now (zip names.now nodes.now) }
-{
-    let (next, place) = names.find_from(hint, name);
-    match place {
-        Some(place) => (next, nodes.get(place)),
-        None => (next, None),
-    }
-}
-
-/// The place of the name and what stands at it, looked for at `hint` first, and where to look first
-/// for a later name.
-///
-/// Both are the same with every hint, so nothing is promised of the next one.
-#[inline(always)]
-pub fn placed_from<'a, N>(
-    names: &'a SortedNames,
-    nodes: &'a [N],
-    hint: usize,
-    name: &str,
-) -> (usize, Option<(usize, &'a N)>)
-    ensures { option_map (λ f. (f.0, f.1.now)) result.1
-        ≡ lookup_name name.now (zip names.now (placed nodes.now)) }
-{
-    let (next, place) = names.find_from(hint, name);
-    match place {
-        Some(place) => (next, numbered(nodes, place)),
-        None => (next, None),
-    }
-}
-
-#[inline(always)]
-fn numbered<N>(nodes: &[N], place: usize) -> Option<(usize, &N)>
-    ensures { option_map (λ f. (f.0, f.1.now)) result ≡ slice_get (placed nodes.now) place }
-{
-    match nodes.get(place) {
-        Some(node) => Some((place, node)),
-        None => None,
+        DeclaredMembers::of(self.entries(), members)
     }
 }

@@ -68,6 +68,6 @@ pub use olk_tree::property_names::{
     PropertyNames, PropertyNamesFalse as PropertyNamesBooleanValidator,
 };
 pub use olk_tree::{
-    BigMap, Body, BuiltNode, KeywordOver, Means, PropertiesValidatorsMap, Reports,
-    RequiredValidator, SmallMap, SortedNames, pattern_table, properties_map,
+    BigMap, Body, BuiltNode, Entry, KeywordOver, Means, PropertiesValidatorsMap, Reports,
+    RequiredValidator, SmallMap, SortedEntries, SortedNames, pattern_table, properties_map,
 };

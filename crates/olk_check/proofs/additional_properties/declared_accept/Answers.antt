@@ -4,14 +4,14 @@ use Rattle.olk_spec.specs.Schemas.{listed}
 use Rattle.olk_meaning.proofs.Listed.{listed_length}
 use Rattle.olk_spec.specs.Names.{is_empty}
 use Rattle.olk_spec.specs.Accepts.{missing}
-use Rattle.std.specs.List.{zip}
+use Rattle.olk_tree.specs.Maps.{keys_in}
 use Rattle.olk_tree.specs.Additional.{required_text}
 use Rattle.olk_tree.specs.Questions.{always, both}
 use Rattle.olk_tree.specs.Visited.{object_of}
 use Rattle.olk_tree.specs.Ascending.{Ascend}
-use Rattle.olk_tree.proofs.Crowded.{zip_length}
 use Rattle.olk_tree.proofs.Questions.{both_last}
-use Rattle.olk_tree.proofs.Merge.{ascending_rising, sorted_rising}
+use Rattle.olk_tree.proofs.Merge.{sorted_rising}
+use Rattle.olk_tree.proofs.Walked.{keys_rising}
 use Rattle.olk_check.specs.Together.{AsksOne}
 use Rattle.olk_check.specs.Unpatterned.{names_mean}
 use Rattle.olk_check.proofs.Unpatterned.{crowded, nothing_else}
@@ -20,26 +20,24 @@ use Rattle.olk_check.proofs.additional_properties.declared_accept.Goals as goal
 
 pub returns-then-len : goal.returns-then-len
 returns-then-len g c =
-    let names = g.M.PropertiesValidatorsMap.names c.args.properties.now in
-    let nodes = g.M.PropertiesValidatorsMap.nodes c.args.properties.now in
+    let declared = g.M.PropertiesValidatorsMap.entries c.args.properties.now in
     let entries = c.args.members.now.entries in
-    let same : c.names.result.now ≡ names = c.names.ensures in
-    let ascend = subst Ascend same c.len-then-is_none.ensures.ordered in
-    let fewer : length (zip names nodes) < length (listed (members_view entries)) =
-    let declared = c.len-then-is_none.ensures.len ∙ ap length same in
+    let same : c.entries.result.now ≡ declared = c.entries.ensures in
+    let ascend = subst (λ es. Ascend (keys_in es)) same c.len-then-is_none.ensures.ordered in
+    let fewer : length declared < length (listed (members_view entries)) =
+    let many = c.len-then-is_none.ensures.len ∙ ap length same in
     let there = c.len.ensures.len in
     let more = c.if-len.true in
-    let at_most = zip_length names nodes in
     let listed_each = listed_length entries in
     omega arith in
     both_stop (always (is_empty (missing (required_text c.args.required.now) (object_of entries))))
-    (crowded g.N.Means.means (option_copied c.args.rest) (nothing_else c.args.rest (c.is_none.ensures ∙ ap not c.if-is_none.true)) (zip names nodes) (listed (members_view entries))
-    (ascending_rising names nodes ascend) (sorted_rising entries c.len.ensures.ordered) fewer c.args.ctx.now)
+    (crowded g.N.Means.means (option_copied c.args.rest) (nothing_else c.args.rest (c.is_none.ensures ∙ ap not c.if-is_none.true)) declared (listed (members_view entries))
+    (keys_rising declared ascend) (sorted_rising entries c.len.ensures.ordered) fewer c.args.ctx.now)
 
 pub returns-in-None-Some : goal.returns-in-None-Some
 returns-in-None-Some g c =
     let v = object_of c.args.members.now.entries in
-    let declared = zip (g.M.PropertiesValidatorsMap.names c.args.properties.now) (g.M.PropertiesValidatorsMap.nodes c.args.properties.now) in
+    let declared = g.M.PropertiesValidatorsMap.entries c.args.properties.now in
     subst (λ q. AsksOne c.args.ctx.now c.all_declared.new.ctx q c.all_declared.result)
     ((λ i. both (names_mean g.N.Means.means declared None v) (always (is_empty (missing (c.as_str.ensures.value i ∷ []) v))))
     ∙ (λ i. both (names_mean g.N.Means.means declared (option_copied (sym c.in-None-Some.is-0 i)) v) (always (is_empty (missing (required_text (sym c.in-None-Some.is-1 i)) v)))))
@@ -48,7 +46,7 @@ returns-in-None-Some g c =
 pub returns-in-None-None : goal.returns-in-None-None
 returns-in-None-None g c =
     let v = object_of c.args.members.now.entries in
-    let declared = zip (g.M.PropertiesValidatorsMap.names c.args.properties.now) (g.M.PropertiesValidatorsMap.nodes c.args.properties.now) in
+    let declared = g.M.PropertiesValidatorsMap.entries c.args.properties.now in
     subst (λ q. AsksOne c.args.ctx.now c.each_declared.new.ctx q c.each_declared.result)
     (sym (both_last (names_mean g.N.Means.means declared None v))
     ∙ (λ i. both (names_mean g.N.Means.means declared (option_copied (sym c.in-None-None.is-0 i)) v) (always (is_empty (missing (required_text (sym c.in-None-None.is-1 i)) v)))))

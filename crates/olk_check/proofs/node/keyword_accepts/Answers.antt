@@ -1,9 +1,5 @@
-use Rattle.std.proofs.Common.{sym, ap, subst, ◌∙◌}
-use Rattle.olk_base.specs.Kit.{kit}
-use Rattle.olk_base.specs.Nodes.{data_of}
-use Rattle.olk_tree.specs.Validators.{answers_of, validator_means}
-use Rattle.olk_tree.specs.declared.node.KeywordOver.TheVariants as keyword
-use Rattle.olk_check.specs.Asks.{Asks}
+use Rattle.std.proofs.Common.{sym}
+use Rattle.olk_tree.specs.Validators.{answers_of}
 use Rattle.olk_check.proofs.node.keyword_accepts.Goals as goal
 
 pub returns-in-OneOf : goal.returns-in-OneOf

@@ -2,7 +2,7 @@ use Rattle.std.proofs.Common.{[], ◌∷◌, subst}
 use Rattle.serde_json.specs.View.{members_view}
 use Rattle.olk_spec.specs.Names.{is_empty}
 use Rattle.olk_spec.specs.Accepts.{missing}
-use Rattle.std.specs.List.{zip}
+use Rattle.olk_tree.specs.Maps.{keys_in}
 use Rattle.olk_tree.specs.Ascending.{Ascend}
 use Rattle.olk_tree.specs.Questions.{always, both}
 use Rattle.olk_tree.specs.Visited.{object_of}
@@ -13,10 +13,9 @@ use Rattle.olk_check.proofs.properties.all_accepted_with_both.Goals as goal
 
 pub returns-then-len : goal.returns-then-len
 returns-then-len g c =
-    let names = g.M.PropertiesValidatorsMap.names c.args.properties.now in
-    let nodes = g.M.PropertiesValidatorsMap.nodes c.args.properties.now in
-    let ascend = subst Ascend c.names.ensures c.len-2.ensures.ordered in
+    let declared = g.M.PropertiesValidatorsMap.entries c.args.properties.now in
+    let ascend = subst (λ es. Ascend (keys_in es)) c.entries.ensures c.len-2.ensures.ordered in
     subst (λ q. Asks c.args.ctx.now c.each_member_accepted_with_both.new.ctx
     (both (always (is_empty (missing (c.args.first.now ∷ c.args.second.now ∷ []) (object_of c.args.members.now.entries)))) q) c.each_member_accepted_with_both.result)
-    (means_of_members (members_view c.args.members.now.entries) g.N.Means.means (zip names nodes) (walks_agree names nodes c.args.members.now.entries ascend c.len.ensures.ordered))
+    (means_of_members (members_view c.args.members.now.entries) g.N.Means.means declared (walks_agree declared c.args.members.now.entries ascend c.len.ensures.ordered))
     c.each_member_accepted_with_both.ensures

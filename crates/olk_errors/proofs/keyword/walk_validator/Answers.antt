@@ -1,11 +1,5 @@
-use Rattle.std.proofs.Common.{OnOk, IfErr, sym, ap, subst, ◌∙◌}
-use Rattle.olk_base.specs.Kit.{kit}
-use Rattle.olk_base.specs.Nodes.{data_of}
-use Rattle.olk_paths.specs.Trails.{path_at}
-use Rattle.olk_tree.specs.Validators.{answers_of, validator_means, validator_report, validator_first}
-use Rattle.olk_tree.specs.declared.node.KeywordOver.TheVariants as keyword
-use Rattle.olk_errors.specs.Found.{IsErrorOf}
-use Rattle.olk_errors.specs.Sinks.{GoesOn, StopsBy}
+use Rattle.std.proofs.Common.{sym}
+use Rattle.olk_tree.specs.Validators.{answers_of}
 use Rattle.olk_errors.proofs.keyword.walk_validator.Goals as goal
 
 pub returns-in-Properties-clause-on : goal.returns-in-Properties-clause-on

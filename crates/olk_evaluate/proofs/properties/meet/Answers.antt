@@ -2,7 +2,6 @@ use mathlib.Core.Path.{subst₂}
 use Rattle.std.proofs.Common.{refl, ap, ◌∙◌, subst}
 use Rattle.std.proofs.lemmas.Result.{IfOk-from_err}
 use Rattle.serde_json.specs.View.{view, members_view}
-use Rattle.std.specs.List.{zip}
 use Rattle.olk_tree.specs.Visited.{declared_as, left_of, seen}
 use Rattle.olk_tree.proofs.Members_met.{means_of_walk}
 use Rattle.olk_check.proofs.Asked.{only_same, only_then}
@@ -32,8 +31,7 @@ returns g c = record {
       (ap left_of c.into_iter-name-iterator.ensures.into_iter_gives ∙ c.declared_members-name-items.ensures.by_members)
       (met_end c.loop-name.invariant.met c.in-None.ensures.steps);
   verdict = met_verdict g.N.Show.tree g.N.Means.means c.args.ctx.now.answer c.args.path.now (met_end c.loop-name.invariant.met c.in-None.ensures.steps)
-      (means_of_walk (members_view c.args.members.now.entries) (zip (g.M.PropertiesValidatorsMap.names c.args.properties.now)
-      (g.M.PropertiesValidatorsMap.nodes c.args.properties.now)) c.into_iter-name-iterator.ensures.into_iter_gives c.declared_members-name-items.ensures.by_names g.N.Means.means);
+      (means_of_walk (members_view c.args.members.now.entries) (g.M.PropertiesValidatorsMap.entries c.args.properties.now) c.into_iter-name-iterator.ensures.into_iter_gives c.declared_members-name-items.ensures.by_names g.N.Means.means);
   path = c.loop-name.invariant.path;
   context = c.loop-name.invariant.context;
 }

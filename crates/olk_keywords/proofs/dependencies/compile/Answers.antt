@@ -2,7 +2,7 @@ use Rattle.std.specs.Prelude.{codes}
 use Rattle.std.proofs.Common.{refl}
 use Rattle.serde_json.specs.View.{view}
 use Rattle.olk_base.specs.Kit.{kit}
-use Rattle.olk_keywords.proofs.Modules.{no_other_dependencies, dependencies_is_formed, built_of_shape, memory_after, refuses_member}
+use Rattle.olk_keywords.proofs.Modules.{no_other_dependencies, keys_of_shape, built_of_shape, memory_after, refuses_member}
 use Rattle.olk_keywords.proofs.dependencies.compile.Goals as goal
 
 pub unreachable-requires : goal.unreachable-requires
@@ -18,8 +18,8 @@ returns-in-Ok-make-clause-gives g c = (
 
 pub returns-in-Ok-make-clause-form : goal.returns-in-Ok-make-clause-form
 returns-in-Ok-make-clause-form g c =
-    dependencies_is_formed (kit g.L.Leaf.Leaf g.M.Engine.RegexEngine) g.N.BuiltNode.answers c.in-Ok.part _
-    (view c.args.schema.now) _ _ _ c.in-Ok.ensures.built c.in-Dependencies.keys c.in-Dependencies.lists c.in-Dependencies.is c.in-Ok-make.keyword c.in-Ok-make.ensures.form
+    keys_of_shape (kit g.L.Leaf.Leaf g.M.Engine.RegexEngine) g.N.BuiltNode.answers c.in-Ok.part _ (codes "dependencies")
+    (view c.args.schema.now) _ _ _ c.in-Ok.ensures.built refl _ c.in-Dependencies.is c.in-Ok-make.keyword c.in-Ok-make.ensures.form
 
 pub returns-in-Err-make-clause-gives : goal.returns-in-Err-make-clause-gives
 returns-in-Err-make-clause-gives g c = (

@@ -2,7 +2,7 @@ use Rattle.std.specs.Prelude.{codes}
 use Rattle.std.proofs.Common.{refl}
 use Rattle.serde_json.specs.View.{view}
 use Rattle.olk_base.specs.Kit.{kit}
-use Rattle.olk_keywords.proofs.Modules.{no_other_dependent_required, dependent_required_is_formed, built_without_nodes, memory_after, refuses_member}
+use Rattle.olk_keywords.proofs.Modules.{no_other_dependent_required, keys_without_nodes, built_without_nodes, memory_after, refuses_member}
 use Rattle.olk_keywords.proofs.dependencies.compile_dependent_required.Goals as goal
 
 pub unreachable-requires : goal.unreachable-requires
@@ -18,8 +18,8 @@ returns-in-Ok-make_required-clause-gives g c = (
 
 pub returns-in-Ok-make_required-clause-form : goal.returns-in-Ok-make_required-clause-form
 returns-in-Ok-make_required-clause-form g c =
-    dependent_required_is_formed (kit g.L.Leaf.Leaf g.M.Engine.RegexEngine) g.N.BuiltNode.answers c.in-Ok.part _
-    (view c.args.schema.now) _ _ _ c.in-Ok.ensures.built c.in-DependentRequired.keys c.in-DependentRequired.lists c.in-DependentRequired.is c.in-Ok-make_required.keyword c.in-Ok-make_required.ensures.form
+    keys_without_nodes (kit g.L.Leaf.Leaf g.M.Engine.RegexEngine) g.N.BuiltNode.answers c.in-Ok.part _ (codes "dependentRequired")
+    (view c.args.schema.now) _ _ _ c.in-Ok.ensures.built refl _ c.in-DependentRequired.is refl c.in-Ok-make_required.keyword c.in-Ok-make_required.ensures.form
 
 pub returns-in-Ok-clause-gives : goal.returns-in-Ok-clause-gives
 returns-in-Ok-clause-gives g c = (

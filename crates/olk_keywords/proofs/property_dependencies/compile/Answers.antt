@@ -2,7 +2,7 @@ use Rattle.std.specs.Prelude.{codes}
 use Rattle.std.proofs.Common.{refl}
 use Rattle.serde_json.specs.View.{view}
 use Rattle.olk_base.specs.Kit.{kit}
-use Rattle.olk_keywords.proofs.Modules.{no_other_property_dependencies, property_dependencies_is_formed, built_of_shape, memory_after, refuses_member}
+use Rattle.olk_keywords.proofs.Modules.{no_other_property_dependencies, texts_of_shape, built_of_shape, memory_after, refuses_member}
 use Rattle.olk_keywords.proofs.property_dependencies.compile.Goals as goal
 
 pub unreachable-requires : goal.unreachable-requires
@@ -19,8 +19,8 @@ returns-in-Ok-make-clause-gives g c = (
 
 pub returns-in-Ok-make-clause-form : goal.returns-in-Ok-make-clause-form
 returns-in-Ok-make-clause-form g c =
-    property_dependencies_is_formed (kit g.L.Leaf.Leaf g.M.Engine.RegexEngine) g.N.BuiltNode.answers c.in-Ok.part _
-    (view c.args.schema.now) _ _ _ c.in-Ok.ensures.built c.in-PropertyDependencies.keys c.in-PropertyDependencies.texts c.in-PropertyDependencies.is c.in-Ok-make.keyword c.in-Ok-make.ensures.form
+    texts_of_shape (kit g.L.Leaf.Leaf g.M.Engine.RegexEngine) g.N.BuiltNode.answers c.in-Ok.part _ (codes "propertyDependencies")
+    (view c.args.schema.now) _ _ _ c.in-Ok.ensures.built refl _ c.in-PropertyDependencies.is c.in-Ok-make.keyword c.in-Ok-make.ensures.form
 
 pub returns-in-Err-make-clause-gives : goal.returns-in-Err-make-clause-gives
 returns-in-Err-make-clause-gives g c = (

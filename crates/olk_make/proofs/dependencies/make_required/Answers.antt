@@ -1,7 +1,14 @@
+use Rattle.std.proofs.lemmas.Result.{IfOk-weaker}
 use Rattle.olk_base.specs.Kit.{kit}
-use Rattle.olk_make.proofs.DependencyKeywords.{makes_dependent_required}
+use Rattle.olk_make.proofs.DependencyKeywords.{makes_dependent_required, keys_of_dependent_required}
 use Rattle.olk_make.proofs.dependencies.make_required.Goals as goal
+
+pub returns-clause-form : goal.returns-clause-form
+returns-clause-form g c =
+    IfOk-weaker c.over_entries.result _ _ (λ k form. keys_of_dependent_required (kit g.K.Leaf g.R.RegexEngine) g.N.BuiltNode.answers c.args.keys c.in_ok-nodes.nodes.items c.args.location k form
+    c.args.lists c.in_ok-nodes.ensures) c.over_entries.ensures
 
 pub returns-clause-makes : goal.returns-clause-makes
 returns-clause-makes g c =
-    makes_dependent_required (kit g.K.Leaf g.R.RegexEngine) g.N.BuiltNode.answers record { names = c.args.keys; nodes = c.in_ok-nodes.nodes } c.args.lists c.args.location c.in_ok-nodes.ensures
+    IfOk-weaker c.over_entries.result _ _ (λ k form. makes_dependent_required (kit g.K.Leaf g.R.RegexEngine) g.N.BuiltNode.answers c.args.keys c.in_ok-nodes.nodes.items c.args.location k form
+    c.args.lists c.in_ok-nodes.ensures) c.over_entries.ensures

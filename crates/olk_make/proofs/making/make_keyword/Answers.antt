@@ -104,10 +104,10 @@ returns-in-AnyNames-clause-makes g c =
     (planned c.args.plan) c.in-AnyNames.is (any_names_alone (kit g.K.Leaf g.R.RegexEngine) g.N.BuiltNode.answers)
     (makes_any_names (kit g.K.Leaf g.R.RegexEngine) g.N.BuiltNode.answers c.args.part.location c.args.part.nodes.items)
 
-pub returns-in-DependentSchemas-clause-makes : goal.returns-in-DependentSchemas-clause-makes
-returns-in-DependentSchemas-clause-makes g c =
+pub returns-in_ok-make_schemas-in-DependentSchemas-clause-makes : goal.returns-in_ok-make_schemas-in-DependentSchemas-clause-makes
+returns-in_ok-make_schemas-in-DependentSchemas-clause-makes g c =
     part_of_own (kit g.K.Leaf g.R.RegexEngine) g.N.BuiltNode.answers c.args.part.shape _ c.args.part.location c.args.part.nodes.items c.args.taken.now _ c.args.place.now
-    (planned c.args.plan) c.in-DependentSchemas.is (dependent_schemas_alone (kit g.K.Leaf g.R.RegexEngine) g.N.BuiltNode.answers _) c.make_schemas.ensures.makes
+    (planned c.args.plan) c.in-DependentSchemas.is (dependent_schemas_alone (kit g.K.Leaf g.R.RegexEngine) g.N.BuiltNode.answers _) c.in_ok-make_schemas-in-DependentSchemas.ensures.makes
 
 pub returns-in_ok-make_required-in-DependentRequired-clause-makes : goal.returns-in_ok-make_required-in-DependentRequired-clause-makes
 returns-in_ok-make_required-in-DependentRequired-clause-makes g c =

@@ -1,11 +1,10 @@
-use Rattle.std.proofs.Common.{◌≡◌, OnOk, refl, sym, ap, subst, ◌∙◌, None, []}
+use Rattle.std.proofs.Common.{refl, sym, subst, None, []}
 use Rattle.std.proofs.lemmas.Result.{on_ok_weaker}
 use Rattle.olk_base.specs.Kit.{kit}
 use Rattle.olk_base.specs.Nodes.{data_of}
-use Rattle.olk_spec.specs.Tree.{IsLikeTree, is_valid}
+use Rattle.olk_spec.specs.Tree.{IsLikeTree}
 use Rattle.olk_reports.specs.Evaluations.{node_at, shown_of}
-use Rattle.olk_tree.specs.Validators.{answers_of, validator_means, validator_tree}
-use Rattle.olk_tree.specs.declared.node.KeywordOver.TheVariants as keyword
+use Rattle.olk_tree.specs.Validators.{answers_of, validator_tree}
 use Rattle.olk_check.proofs.Asked.{only_same}
 use Rattle.olk_evaluate.proofs.OwnErrors.{leaf_like}
 use Rattle.olk_spec.specs.Names.{is_empty}

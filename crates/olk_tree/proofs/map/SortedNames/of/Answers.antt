@@ -1,6 +1,6 @@
 use Rattle.std.proofs.Common.{arith, ◌∙◌}
 use Rattle.std.proofs.lemmas.Grind.{common_steps}
-use Rattle.olk_tree.proofs.Entries.{names_listed, so_far_end, so_far_ascends}
+use Rattle.olk_tree.proofs.Members_named.{names_listed, so_far_end, so_far_ascends}
 use Rattle.olk_tree.proofs.map.SortedNames.of.Goals as goal
 
 pub invariant_of-result : goal.invariant_of-result

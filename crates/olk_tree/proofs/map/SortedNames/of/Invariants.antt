@@ -1,4 +1,4 @@
-use Rattle.olk_tree.proofs.Entries.{NamesSoFar}
+use Rattle.olk_tree.proofs.Members_named.{NamesSoFar}
 use Rattle.olk_tree.proofs.map.SortedNames.of.Given as goal
 
 abbrev pub invariant-loop-name : goal.invariant-loop-name
