@@ -298,7 +298,7 @@ fn walk_required<'a>(
 {
     match required {
         Some(required) => {
-            let (name, location) = (required.name.as_str(), required.location.as_str());
+            let (name, location) = (required.name.as_str(), &required.location);
             report_if_missing(name, location, members, node, trail, sink)
         }
         None => Ok(()),

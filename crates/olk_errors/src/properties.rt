@@ -51,7 +51,7 @@ impl<'a, N: Walk<'a>> Walk<'a> for SmallPropertiesWithRequired2<N> {
     ) -> Result<(), Stop> {
         match node.as_object() {
             Some(members) => {
-                let location = self.required_location.as_str();
+                let location = &self.required_location;
                 report_if_missing(self.first.as_str(), location, members, node, trail, sink)?;
                 report_if_missing(self.second.as_str(), location, members, node, trail, sink)?;
                 walk_members(&self.properties, members, trail, ctx, sink)

@@ -1,17 +1,18 @@
 //! `required`: its errors.
 ghost use Rattle.std.specs.Prelude.{◌≡◌, ◌∷◌, [], OnOk, IfErr};
 ghost use Rattle.olk_base.specs.Nodes.{data_of};
+ghost use Rattle.olk_spec.specs.Faults.{Required, fault};
 ghost use Rattle.olk_paths.specs.Trails.{path_at};
 ghost use Rattle.olk_tree.specs.Maps.{texts_of};
 ghost use Rattle.olk_tree.specs.Visited.{object_of};
 ghost use Rattle.olk_errors.specs.Found.{IsErrorOf};
 ghost use Rattle.olk_errors.specs.Outcomes.{of_names};
-ghost use Rattle.olk_errors.specs.Sinks.{GoesOn, StopsBy};
+ghost use Rattle.olk_errors.specs.Sinks.{GoesOn, StopsBy, Takes};
 
 use crate::{ErrorSink, Stop, Walk};
 use olk_base::{Node, ValidationContext};
 use olk_check::is_present;
-use olk_paths::Trail;
+use olk_paths::{Location, Trail};
 use olk_reports::ValidationErrorKind;
 use olk_tree::required::RequiredValidator;
 use serde_json::{Map, Value};
@@ -26,9 +27,10 @@ impl<'a> Walk<'a> for RequiredValidator {
         _ctx: &mut ValidationContext,
         sink: &mut ErrorSink<'a>,
     ) -> Result<(), Stop> {
-        let location = self.location.as_str();
         match node.as_object() {
-            Some(members) => walk_missing(&self.required, location, members, node, trail, sink),
+            Some(members) => {
+                walk_missing(&self.required, &self.location, members, node, trail, sink)
+            }
             None => Ok(()),
         }
     }
@@ -37,7 +39,7 @@ impl<'a> Walk<'a> for RequiredValidator {
 /// An error for each name that is absent.
 fn walk_missing<'a>(
     names: &'a Vec<String>,
-    location: &'a str,
+    location: &'a Location,
     members: &Map<String, Value>,
     node: Node<'a>,
     trail: &Trail<'_, 'a>,
@@ -61,7 +63,7 @@ fn walk_missing<'a>(
 #[inline(always)]
 pub(crate) fn report_if_missing<'a>(
     name: &'a str,
-    location: &'a str,
+    location: &'a Location,
     members: &Map<String, Value>,
     node: Node<'a>,
     trail: &Trail<'_, 'a>,
@@ -76,6 +78,23 @@ pub(crate) fn report_if_missing<'a>(
     if is_present(members, name) {
         return Ok(());
     }
+    report_absent(name, location, node, trail, sink)
+}
+
+/// The error of an absent name. Apart, so that room for an error is made only where there is one.
+#[inline(never)]
+fn report_absent<'a>(
+    name: &'a str,
+    location: &'a Location,
+    node: Node<'a>,
+    trail: &Trail<'_, 'a>,
+    sink: &mut ErrorSink<'a>,
+) -> Result<(), Stop>
+    ensures on { OnOk result (Takes sink.old sink.new
+        (fault (Required name.now) (data_of node.entry) (path_at trail.now) location.now)) }
+    ensures stop { IfErr result (λ s. StopsBy s sink.old sink.new (λ f. f
+        ≡ fault (Required name.now) (data_of node.entry) (path_at trail.now) location.now)) }
+{
     let kind = ValidationErrorKind::Required { property: name };
-    sink.report(kind, node, trail, location)
+    sink.report(kind, node, trail, location.as_str())
 }

@@ -1,4 +1,4 @@
-use Rattle.std.proofs.Common.{[], ◌∷◌, ◌++◌, string_bytes}
+use Rattle.std.proofs.Common.{[], ◌∷◌, ◌++◌, string_bytes, refl}
 use Rattle.std.proofs.lemmas.Result.{on_ok_weaker, IfErr-weaker}
 use Rattle.serde_json.specs.Data.{object}
 use Rattle.serde_json.specs.View.{members_view}
@@ -18,16 +18,16 @@ returns-in_err-report_if_missing-in-Some-clause-stop g c =
     let members = of_properties g.N.Means.means g.N.Reports.first g.N.Reports.report c.args.ctx.now.answer (named c.args.self.now.properties) in
     left_by c.from_residual.result _ _ c.from_residual.ensures.1 c.in_err-report_if_missing-in-Some.ensures.stop
     (λ h. stops_same (two_then_members (λ v. members v (path_at c.args.trail.now)) (path_at c.args.trail.now) c.as_str.ensures.value (λ i. string_bytes c.args.self.now.second)
-    c.as_str-location.ensures
+    refl
     (object_is (data_of c.args.node) (members_view c.in-Some.members.now.entries) c.in-Some.ensures))
     (stops_before (members (object (members_view c.in-Some.members.now.entries)) (path_at c.args.trail.now)) (stops_before
-    (of_names (string_bytes c.args.self.now.second ∷ []) (data_of c.args.node) c.as_str-location.result.now (path_at c.args.trail.now)) h)))
+    (of_names (string_bytes c.args.self.now.second ∷ []) (data_of c.args.node) c.args.self.now.required_location (path_at c.args.trail.now)) h)))
 
 pub returns-in_err-report_if_missing-in-Some-2-clause-stop : goal.returns-in_err-report_if_missing-in-Some-2-clause-stop
 returns-in_err-report_if_missing-in-Some-2-clause-stop g c =
     let members = of_properties g.N.Means.means g.N.Reports.first g.N.Reports.report c.args.ctx.now.answer (named c.args.self.now.properties) in
     left_by c.from_residual-in_err-report_if_missing-in-Some-2.result _ _ c.from_residual-in_err-report_if_missing-in-Some-2.ensures.1 c.in_err-report_if_missing-in-Some-2.ensures.stop
-    (λ h. stops_same (two_then_members (λ v. members v (path_at c.args.trail.now)) (path_at c.args.trail.now) c.as_str.ensures.value c.as_str-in-Some.ensures.value c.as_str-location.ensures
+    (λ h. stops_same (two_then_members (λ v. members v (path_at c.args.trail.now)) (path_at c.args.trail.now) c.as_str.ensures.value c.as_str-in-Some.ensures.value refl
     (object_is (data_of c.args.node) (members_view c.in-Some.members.now.entries) c.in-Some.ensures))
     (stops_before (members (object (members_view c.in-Some.members.now.entries)) (path_at c.args.trail.now)) (stops_after c.in_ok-report_if_missing-in-Some.ensures.on h)))
 
@@ -35,7 +35,7 @@ pub returns-in_ok-report_if_missing-in-Some-2-clause-on : goal.returns-in_ok-rep
 returns-in_ok-report_if_missing-in-Some-2-clause-on g c =
     let members = of_properties g.N.Means.means g.N.Reports.first g.N.Reports.report c.args.ctx.now.answer (named c.args.self.now.properties) in
     on_ok_weaker c.walk_members.result
-    (λ h. goes_same (two_then_members (λ v. members v (path_at c.args.trail.now)) (path_at c.args.trail.now) c.as_str.ensures.value c.as_str-in-Some.ensures.value c.as_str-location.ensures
+    (λ h. goes_same (two_then_members (λ v. members v (path_at c.args.trail.now)) (path_at c.args.trail.now) c.as_str.ensures.value c.as_str-in-Some.ensures.value refl
     (object_is (data_of c.args.node) (members_view c.in-Some.members.now.entries) c.in-Some.ensures))
     (goes_after (goes_after c.in_ok-report_if_missing-in-Some.ensures.on c.in_ok-report_if_missing-in-Some-2.ensures.on) h)) c.walk_members.ensures.on
 
@@ -43,7 +43,7 @@ pub returns-in_ok-report_if_missing-in-Some-2-clause-stop : goal.returns-in_ok-r
 returns-in_ok-report_if_missing-in-Some-2-clause-stop g c =
     let members = of_properties g.N.Means.means g.N.Reports.first g.N.Reports.report c.args.ctx.now.answer (named c.args.self.now.properties) in
     IfErr-weaker c.walk_members.result _ _
-    (λ s h. stops_same (two_then_members (λ v. members v (path_at c.args.trail.now)) (path_at c.args.trail.now) c.as_str.ensures.value c.as_str-in-Some.ensures.value c.as_str-location.ensures
+    (λ s h. stops_same (two_then_members (λ v. members v (path_at c.args.trail.now)) (path_at c.args.trail.now) c.as_str.ensures.value c.as_str-in-Some.ensures.value refl
     (object_is (data_of c.args.node) (members_view c.in-Some.members.now.entries) c.in-Some.ensures))
     (stops_after (goes_after c.in_ok-report_if_missing-in-Some.ensures.on c.in_ok-report_if_missing-in-Some-2.ensures.on) h)) c.walk_members.ensures.stop
 
