@@ -175,39 +175,36 @@ module _ {N : Type 0} (es : List (Entry N)) {h : ℕ} where
   pub within_names : {place : ℕ} → IsBefore (heads_of es) h place → place ≤ length es
   within_names before = omega (arith, as_long es, before.inside)
 
-  -- a bisection of those from a place on that all before it are below
-  module _ {start : ℕ} (rise : Rise (heads_of es)) (before : IsBefore (heads_of es) h start) where
-    at_behind : (k : ℕ) (d : Entry N) → k < length (drop start es) → (get_or (drop start es) k d).name.head ≡ get_or (heads_of es) (start + k) 0
-    at_behind k d lt = ap (λ e. e.name.head) (get_or-drop start es k d) ∙ sym (get_or-map (λ e. e.name.head) es (start + k) d 0 (omega (arith, length-drop start es, lt)))
+-- a bisection of all
+module _ {N : Type 0} (es : List (Entry N)) (h : ℕ) (rise : Rise (heads_of es)) where
+  at_place : (k : ℕ) (d : Entry N) → k < length es → (get_or es k d).name.head ≡ get_or (heads_of es) k 0
+  at_place k d lt = sym (get_or-map (λ e. e.name.head) es k d 0 lt)
 
-    pub behind_parted : IsPartitionedBy (λ y. nat_lt y.name.head h) (drop start es)
-    behind_parted i j d le lt less =
-        let lower = at_behind i d (omega arith) in
-        let upper = at_behind j d lt in
-        let up = rise (start + i) (start + j) (omega arith) (omega (arith, as_long es, length-drop start es)) in
-        grind (arith, nat_tests)
+  pub heads_parted : IsPartitionedBy (λ y. nat_lt y.name.head h) es
+  heads_parted i j d le lt less =
+      let lower = at_place i d (omega arith) in
+      let upper = at_place j d lt in
+      let up = rise i j le (omega (arith, as_long es, lt)) in
+      grind (arith, nat_tests)
 
-    pub first_parted : {p : ℕ} → p ≤ length (drop start es) → IsPartitionPoint (λ y. nat_lt y.name.head h ≡ true) (λ y. nat_lt y.name.head h ≡ false) (drop start es) p → IsFirst (heads_of es) h (start + p)
-    first_parted {p} le parted = record {
-      before = record { inside = omega (arith, as_long es, length-drop start es, before.inside); below = λ i l. below i l (nat_lt i start) refl };
-      here = λ l.
-          let lt : p < length (drop start es) = omega (arith, as_long es, length-drop start es, l) in
-          let d = some_entry (drop start es) p lt in
-          let t = parted.1 p d (omega arith) lt in
-          let at = at_behind p d lt in
-          grind (arith, nat_tests);
-    }
-      where
-        below : (i : ℕ) → i < start + p → (b : Bool) → nat_lt i start ≡ b → get_or (heads_of es) i 0 < h
-        below i l true e = before.below i (grind (arith, nat_tests))
-        below i l false e =
-            let from : start ≤ i = grind (arith, nat_tests) in
-            let lt : i - start < length (drop start es) = omega (arith, from, l, le) in
-            let d = some_entry (drop start es) (i - start) lt in
-            let at : start + (i - start) ≡ i = omega arith in
-            let here = at_behind (i - start) d lt ∙ ap (λ k. get_or (heads_of es) k 0) at in
-            let t = parted.0 (i - start) d (omega arith) (omega arith) in
-            grind (arith, nat_tests)
+  pub first_parted : {p : ℕ} → p ≤ length es → IsPartitionPoint (λ y. nat_lt y.name.head h ≡ true) (λ y. nat_lt y.name.head h ≡ false) es p → IsFirst (heads_of es) h p
+  first_parted {p} le parted = record {
+    before = record { inside = omega (arith, as_long es, le); below = below };
+    here = λ l.
+        let lt : p < length es = omega (arith, as_long es, l) in
+        let d = some_entry es p lt in
+        let t = parted.1 p d (omega arith) lt in
+        let at = at_place p d lt in
+        grind (arith, nat_tests);
+  }
+    where
+      below : (i : ℕ) → i < p → get_or (heads_of es) i 0 < h
+      below i l =
+          let lt : i < length es = omega (arith, l, le) in
+          let d = some_entry es i lt in
+          let at = at_place i d lt in
+          let t = parted.0 i d (omega arith) (omega (arith, l)) in
+          grind (arith, nat_tests)
 
 pub ruleset first_places = (nothing_before, before_more, before_hint, first_here, first_nowhere, within_names)
 

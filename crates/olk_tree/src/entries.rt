@@ -1,6 +1,6 @@
 //! Names in order, and what stands at each: looked up by their first bytes.
 ghost use Rattle.std.specs.Ordering.{nat_cmp};
-ghost use Rattle.std.specs.Result.{MatchResult, result_ok};
+ghost use Rattle.std.specs.Result.{result_ok};
 ghost use Rattle.std.specs.Cmp.Lexicographic.{slice_cmp};
 ghost use Rattle.std.specs.List.{zip};
 ghost use Rattle.std.specs.Prelude.{[], ◌≡◌, ◌<◌, ◌↔◌, IsTrue, IfOk, IfSome, Some, bytes_eq, length, nat_lt, option_copied, option_map, slice_index, position};
@@ -180,20 +180,19 @@ pub(crate) fn find_apart<N>(entries: &[Entry<N>], hint: usize, name: &str) -> Re
 {
     let head = head_of(name);
     match first_near(entries, hint, head) {
-        Ok(place) => find_at(entries, place, head, name),
-        Err(start) => find_far(entries, start, head, name),
+        Some(place) => find_at(entries, place, head, name),
+        None => find_far(entries, head, name),
     }
 }
 
-/// What `find_apart` tells, if the heads before `start` are less than the name's.
+/// What `find_apart` tells, found by bisection.
 #[inline(never)]
-fn find_far<N>(entries: &[Entry<N>], start: usize, head: u64, name: &str) -> Result<usize, usize>
+fn find_far<N>(entries: &[Entry<N>], head: u64, name: &str) -> Result<usize, usize>
     requires ascend { Ascend (names_of entries.now) }
     requires head { head ≡ first_bytes name.now }
-    requires before { IsBefore (heads_of entries.now) head start }
     ensures { result_ok result ≡ position (λ k. bytes_eq k name.now) (names_of entries.now) }
 {
-    find_at(entries, first_behind(entries, start, head), head, name)
+    find_at(entries, first_of_all(entries, head), head, name)
 }
 
 /// What `find_apart` tells, if the first head that is not less than the name's is at the place.
@@ -234,25 +233,24 @@ fn stands_with_head<N>(entries: &[Entry<N>], place: usize, name: &str) -> bool
     count <= 8 || found == name
 }
 
-/// At which place the first head stands that is not less than this one, or up to where they are
-/// less, if that is far from the hint.
+/// At which place the first head stands that is not less than this one, if that isn't far from the
+/// hint.
 #[inline(always)]
 #[tactic(auto, using(crate::proofs::Heads::first_places))]
-fn first_near<N>(entries: &[Entry<N>], hint: usize, head: u64) -> Result<usize, usize>
+fn first_near<N>(entries: &[Entry<N>], hint: usize, head: u64) -> Option<usize>
     requires { Rise (heads_of entries.now) }
-    ensures { MatchResult result (IsFirst (heads_of entries.now) head)
-        (IsBefore (heads_of entries.now) head) }
+    ensures { IfSome result (IsFirst (heads_of entries.now) head) }
 {
     let start = start_from(entries, hint, head);
     if NEAR <= entries.len() - start && entries[start + NEAR - 1].name.head < head {
-        return Err(start + NEAR);
+        return None;
     }
     for place in start..entries.len() {
         if entries[place].name.head >= head {
-            return Ok(place);
+            return Some(place);
         }
     }
-    Ok(entries.len())
+    Some(entries.len())
 }
 
 /// The hint, if the head before it is less, and else the start.
@@ -268,20 +266,17 @@ fn start_from<N>(entries: &[Entry<N>], hint: usize, head: u64) -> usize
     0
 }
 
-/// At which place the first head stands that is not less than this one, from `start` on.
+/// At which place the first head stands that is not less than this one.
 #[inline(always)]
-fn first_behind<N>(entries: &[Entry<N>], start: usize, head: u64) -> usize
-    requires rise { Rise (heads_of entries.now) }
-    requires before { IsBefore (heads_of entries.now) head start }
+fn first_of_all<N>(entries: &[Entry<N>], head: u64) -> usize
+    requires { Rise (heads_of entries.now) }
     ensures { IsFirst (heads_of entries.now) head result }
 {
-    let behind = &entries[start..];
-    start
-        + behind.partition_point(
-            |it: &Entry<N>| -> bool
-                ensures { result ≡ nat_lt it.now.name.head head }
-            { it.name.head < head },
-        )
+    entries.partition_point(
+        |it: &Entry<N>| -> bool
+            ensures { result ≡ nat_lt it.now.name.head head }
+        { it.name.head < head },
+    )
 }
 
 /// Where the name stands, or else where it would stand, found by bisection.
