@@ -57,7 +57,8 @@ use Rattle.olk_make.specs.declared.part.Beside.{Beside}
 use Rattle.olk_make.specs.declared.part.DeclaredNodes.{DeclaredNodes}
 use Rattle.olk_make.specs.declared.part.Patterns.{Patterns}
 use Rattle.olk_make.specs.declared.part.Taken.{Taken}
-use Rattle.olk_make.proofs.Formed.{has_form, is_formed, just_one_formed, stand_formed, held_keys, held_count, held_nodes, held_formed, map_formed, entry_formed, case_formed}
+use Rattle.olk_make.proofs.Entries.{schema_answers, schemas_answer}
+use Rattle.olk_make.proofs.Formed.{has_form, is_formed, just_one_formed, stand_formed, each_keys, each_nodes, each_long, each_held_formed, map_formed, entry_formed, case_formed}
 use Rattle.olk_tree.specs.Formed.{is_map_formed, names_beside, is_table_formed}
 use Rattle.olk_tree.specs.Validators.{answers_of}
 use Rattle.olk_tree.proofs.Formed.{table_formed}
@@ -134,7 +135,7 @@ module _ {K R N : Type 0} (o : Kit K R) (answers : N → Answers) where
   declared_side None None None L form h = record { nodes = []; placed_zip = refl; declared = tt; there = refl; once = refl }
   declared_side (Some b) (Some m) (Some d) L form h = record {
     nodes = b.nodes.items;
-    placed_zip = λ i. zip (held_keys o answers (mapped m) b.nodes.items (members d) L held h.nodes i) (placed (held_nodes o answers (mapped m) b.nodes.items (members d) L held h.nodes i));
+    placed_zip = λ i. zip (each_keys o answers (mapped m) b.nodes.items (members d) L held (schema_answers o answers) (schemas_answer o answers b.nodes.items (members d) L h.nodes) i) (placed (each_nodes o answers (mapped m) b.nodes.items (members d) L held (schema_answers o answers) (schemas_answer o answers b.nodes.items (members d) L h.nodes) i));
     declared = entries_answer b.nodes.items (members d) L h.nodes;
     there = refl;
     once = ap has_repeat (sym h.names) ∙ ascend_once b.names form.2;
@@ -194,7 +195,7 @@ module _ {K R N : Type 0} (o : Kit K R) (answers : N → Answers) where
   declared_names : (b : Option (DeclaredNodes N)) (x : Option (PropertiesMap N)) (a : Option Data) (L : Path) → IsMapOf b x → Fills (λ m. DeclaredStand o answers m L) b a
       → names_beside x ≡ map (λ e. e.0) (entries_in a)
   declared_names None None None L form h = refl
-  declared_names (Some b) (Some m) (Some d) L form h = held_keys o answers (mapped m) b.nodes.items (members d) L (form.0 ∙ ap (λ ks. zip ks b.nodes.items) h.names) h.nodes
+  declared_names (Some b) (Some m) (Some d) L form h = each_keys o answers (mapped m) b.nodes.items (members d) L (form.0 ∙ ap (λ ks. zip ks b.nodes.items) h.names) (schema_answers o answers) (schemas_answer o answers b.nodes.items (members d) L h.nodes)
   declared_names None (Some m) a L form h = absurd form
   declared_names (Some b) None a L form h = absurd form
   declared_names None x (Some d) L form h = absurd h
@@ -205,8 +206,8 @@ module _ {K R N : Type 0} (o : Kit K R) (answers : N → Answers) where
   declared_formed None None None L form h = refl
   declared_formed (Some b) (Some m) (Some d) L form h =
       let held : mapped m ≡ zip (map (λ e. e.0) (members d)) b.nodes.items = form.0 ∙ ap (λ ks. zip ks b.nodes.items) h.names in
-      and_from _ _ (map_formed m (length b.names) (held_count o answers (mapped m) b.nodes.items (members d) L held h.nodes ∙ ap length (sym h.names)) form.1)
-      (held_formed o answers (mapped m) b.nodes.items (members d) L held h.nodes)
+      and_from _ _ (map_formed m (length b.names) (each_long o answers (mapped m) b.nodes.items (members d) L held (schema_answers o answers) (schemas_answer o answers b.nodes.items (members d) L h.nodes) ∙ ap length (sym h.names)) form.1)
+      (each_held_formed o answers (mapped m) b.nodes.items (members d) L held (schema_answers o answers) (schemas_answer o answers b.nodes.items (members d) L h.nodes))
   declared_formed None (Some m) a L form h = absurd form
   declared_formed (Some b) None a L form h = absurd form
   declared_formed None x (Some d) L form h = absurd h

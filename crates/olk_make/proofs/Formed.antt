@@ -70,21 +70,11 @@ module _ {K R N : Type 0} (o : Kit K R) (answers : N → Answers) where
       pub each_nodes : nodes_in ds ≡ ns
       each_nodes = ap nodes_in held ∙ seconds-zip (map (λ e. e.0) es) ns (each_count o answers w ns es L each)
 
+      pub each_long : length ds ≡ length (map {A = Name × Data} (λ e. e.0) es)
+      each_long = sym (length-map ds (λ e. e.0)) ∙ ap length each_keys
+
       pub each_held_formed : list_all has_form (nodes_in ds) ≡ true
       each_held_formed = ap (list_all has_form) each_nodes ∙ each_formed w ns es L each
-
-    module _ (stand : StandEach o answers ns es L) where
-      pub held_keys : keys_in ds ≡ map (λ e. e.0) es
-      held_keys = each_keys (schema_answers o answers) (schemas_answer o answers ns es L stand)
-
-      pub held_nodes : nodes_in ds ≡ ns
-      held_nodes = each_nodes (schema_answers o answers) (schemas_answer o answers ns es L stand)
-
-      pub held_count : length ds ≡ length (map {A = Name × Data} (λ e. e.0) es)
-      held_count = sym (length-map ds (λ e. e.0)) ∙ ap length held_keys
-
-      pub held_formed : list_all has_form (nodes_in ds) ≡ true
-      held_formed = each_held_formed (schema_answers o answers) (schemas_answer o answers ns es L stand)
 
   -- ---- validators
 

@@ -63,7 +63,7 @@ use Rattle.olk_meaning.proofs.Heads.{names_of}
 use Rattle.olk_meaning.proofs.Clean.{fused, names_fused}
 use Rattle.olk_meaning.proofs.Children.{shown_at, shown_declared, branches_shown, accepting_branches, any_shown, properties_child, required_child, no_required_child, all_of_child, any_of_child, not_child, leaf_child}
 use Rattle.olk_spec.proofs.Maps.{is_empty-map}
-use Rattle.olk_make.proofs.Formed.{has_form, is_formed, just_one_formed, stand_formed, held_formed, held_count, map_formed, properties_formed, required2_formed, all_of_formed, any_of_formed}
+use Rattle.olk_make.proofs.Formed.{has_form, is_formed, just_one_formed, stand_formed, each_held_formed, each_long, map_formed, properties_formed, required2_formed, all_of_formed, any_of_formed}
 use Rattle.olk_tree.specs.Formed.{is_map_formed}
 use Rattle.olk_spec.specs.declared.TheConstants.{HASHMAP_THRESHOLD}
 
@@ -272,7 +272,7 @@ module _ {K R N : Type 0} (o : Kit K R) (answers : N → Answers) where
         ap (λ t. t ∷ []) (alone_show m ns L (listed fs) held stand u v Q ∙ properties_show m ns L (listed fs) held stand u v Q [] ∙ ap (λ M. shown_declared o.world u v M Q (listed fs) []) p)
         ∙ ap (λ b. shown_declared o.world u v (P // codes "properties") Q (listed fs) (missing_child o.world u (read_members (meaning_step o.world u) ms) v P Q b) ∷ []) (sym h.2)
         ∙ sym (properties_child o.world u v ms P Q fs h.0 h.1);
-    formed = just_one_formed o answers (properties_keyword m ns L (listed fs) held stand) (properties_formed o answers m L sized (held_formed o answers (mapped m) ns (listed fs) L held stand));
+    formed = just_one_formed o answers (properties_keyword m ns L (listed fs) held stand) (properties_formed o answers m L sized (each_held_formed o answers (mapped m) ns (listed fs) L held (schema_answers o answers) (schemas_answer o answers ns (listed fs) L stand)));
   })
 
   -- ---- properties, with required or alone
@@ -353,14 +353,14 @@ module _ {K R N : Type 0} (o : Kit K R) (answers : N → Answers) where
       ((codes "properties", d) ∷ []) P) (sym form.2)
       (means_alone o answers ms P _ (codes "properties", d) (ap (λ b. b && true) unrestricted)
       (λ clean u. (there, restricted_read (meaning_step o.world u) ms ∙ unrestricted, fused o.world ms P clean (meaning_step o.world u) ∙ ap is_some (sym chosen)))
-      (means_properties k.properties ns L fs d q (map_formed k.properties (length names) (held_count o answers (mapped k.properties) ns (listed fs) L held stand ∙ ap length (sym declared)) form.1) held stand ms P p)))
+      (means_properties k.properties ns L fs d q (map_formed k.properties (length names) (each_long o answers (mapped k.properties) ns (listed fs) L held (schema_answers o answers) (schemas_answer o answers ns (listed fs) L stand) ∙ ap length (sym declared)) form.1) held stand ms P p)))
     where
       held : mapped k.properties ≡ zip (map (λ e. e.0) (listed fs)) ns
       held = form.0 ∙ ap (λ ks. zip ks ns) declared
   means_form (keyword.PropertiesWithRequired2 k) names ns L P (Some t) fs d q declared stand form ms p distinct there chosen unrestricted =
       let both = fuses ms distinct t chosen in
       let held : named k.properties ≡ zip (map (λ e. e.0) (listed fs)) ns = form.0 ∙ ap (λ ks. zip ks ns) declared in
-      let count = held_count o answers (named k.properties) ns (listed fs) L held stand in
+      let count = each_long o answers (named k.properties) ns (listed fs) L held (schema_answers o answers) (schemas_answer o answers ns (listed fs) L stand) in
       let few : is_map_formed (Small k.properties) ≡ true = few_formed k fs d q count (ap declares_few (sym there ∙ both.declared) ∙ both.few) in
       let plain = means_properties (Small k.properties) ns L fs d q few held stand ms P p in
       means_permuted o answers ms P (keyword.PropertiesWithRequired2 k ∷ []) ((codes "properties", d) ∷ (codes "required", listing t) ∷ [])
@@ -379,7 +379,7 @@ module _ {K R N : Type 0} (o : Kit K R) (answers : N → Answers) where
             (there ∙ ap Some q) (restricted_read step ms ∙ unrestricted));
         formed =
             just_one_formed o answers (keyword.PropertiesWithRequired2 k)
-            (required2_formed o answers k few ((λ i. bytes_eq (form.2 i) (form.3 i)) ∙ both.differ) (held_formed o answers (named k.properties) ns (listed fs) L held stand));
+            (required2_formed o answers k few ((λ i. bytes_eq (form.2 i) (form.3 i)) ∙ both.differ) (each_held_formed o answers (named k.properties) ns (listed fs) L held (schema_answers o answers) (schemas_answer o answers ns (listed fs) L stand)));
       }
   means_form k names ns L P None fs d q declared stand form ms p distinct there chosen unrestricted = absurd form
   means_form k names ns L P (Some t) fs d q declared stand form ms p distinct there chosen unrestricted = absurd form
