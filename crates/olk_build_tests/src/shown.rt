@@ -24,7 +24,7 @@ impl Shown for PlainNode {
 
     fn names(&self) -> Option<&RequiredValidator> {
         match &self.body {
-            Body::RequiredNames(names) => Some(names),
+            Body::RequiredNames(names) => Some(&**names),
             _ => None,
         }
     }

@@ -163,13 +163,19 @@ module _ {K R N : Type 0} (o : Kit K R) (answers : N → Answers) where
   list_answer v n e L is same = record {
     verdict = λ u x. ap (λ q. q.accepts u) (means x);
     asks_within = λ u x. let q = ap (λ q. q.asks u) (means x) in omega (arith, q);
-    faults = λ u x Q. ∼_same (is.faults u x Q ∙ ap (λ ns. required_faults ns x L Q) same);
-    evaluation = λ u x Q. is.evaluation u x Q ∙ ap (λ ns. erring L Q (required_faults ns x L Q)) same;
-    formed = is.formed;
+    faults = λ u x Q. ∼_same (is.answers_by.faults u x Q ∙ listed x Q);
+    evaluation = λ u x Q. is.answers_by.evaluation u x Q ∙ ap (erring L Q) (listed x Q);
+    formed = is.answers_by.formed;
   }
     where
+      names : names_in is.boxed.value.required ≡ texts e.1
+      names = ap names_in is.holds.0 ∙ same
+
       means : (x : Data) → (answers n).means x ≡ always (is_empty (missing (texts e.1) x))
-      means x = is.verdict x ∙ ap (λ ns. always (is_empty (missing ns x))) same
+      means x = is.answers_by.verdict x ∙ ap (λ ns. always (is_empty (missing ns x))) names
+
+      listed : (x : Data) (Q : Path) → required_faults (names_in is.boxed.value.required) x is.boxed.value.location Q ≡ required_faults (texts e.1) x L Q
+      listed x Q = subst₂ (λ ns P. required_faults (names_in is.boxed.value.required) x is.boxed.value.location Q ≡ required_faults ns x P Q) names is.holds.1 refl
 
   lists_answer : (vs : List (Vec (String Global) Global)) (ns : List N) (es : List (Name × Data)) (L : Path) → AreListsAt o answers L vs ns
       → map names_in vs ≡ map (λ e. texts e.1) es → AnswerEach o answers list_answers ns es L

@@ -2,6 +2,8 @@
 use Rattle.std.specs.Prelude.{◌≡◌, ◌≢◌, ℕ, Bool, true, false, not, ◌&&◌, List, [], ◌∷◌, length, map, zip, bytes_eq, string_bytes, Option, Some, None}
 use Rattle.std.specs.List.{list_all}
 use Rattle.std.specs.Option.{option_map_or}
+use Rattle.std.specs.declared.alloc.Global.{Global}
+use Rattle.std.specs.declared.boxed.Box.{Box}
 use Rattle.std.proofs.Common.{refl, sym, ◌∙◌, ap, arith}
 use Rattle.std.proofs.lemmas.Bool.{lt-ltb, le-ltb, ne_eqb}
 use Rattle.std.proofs.lemmas.List.{length-map}
@@ -83,8 +85,8 @@ module _ {K R N : Type 0} (o : Kit K R) (answers : N → Answers) where
   unfolding answers_of
   properties_formed m L sized nodes = and_from (is_map_formed m) (list_all has_form (nodes_in (mapped m))) sized nodes
 
-  pub required2_formed : (k : SmallPropertiesWithRequired2 N) → is_map_formed (Small k.properties) ≡ true → bytes_eq (string_bytes k.first) (string_bytes k.second) ≡ false
-      → list_all has_form (nodes_in (named k.properties)) ≡ true → is_formed (keyword.PropertiesWithRequired2 k) ≡ true
+  pub required2_formed : (k : Box (SmallPropertiesWithRequired2 N) Global) → is_map_formed (Small k.value.properties) ≡ true → bytes_eq (string_bytes k.value.first) (string_bytes k.value.second) ≡ false
+      → list_all has_form (nodes_in (named k.value.properties)) ≡ true → is_formed (keyword.PropertiesWithRequired2 k) ≡ true
   unfolding answers_of
   required2_formed k sized differ nodes = and_from _ _ (and_from _ _ sized (ap not differ)) nodes
 
@@ -112,7 +114,7 @@ module _ {K R N : Type 0} (o : Kit K R) (answers : N → Answers) where
   pub patterns_formed : (k : KeywordOver K R N) (L : Path) (es : List (CompiledPattern R × N)) → IsFormOfPatternProperties L es k → list_all entry_formed es ≡ true → is_formed k ≡ true
   unfolding answers_of
   patterns_formed (keyword.PatternProperties k) L es f h = several_formed entry_formed k.patterns.items es f.0 f.1 h
-  patterns_formed (keyword.SingleValuePatternProperties k) L es f h = single_formed entry_formed (k.regex, k.node) es f.0 h
+  patterns_formed (keyword.SingleValuePatternProperties k) L es f h = single_formed entry_formed (k.value.regex, k.value.node) es f.0 h
   patterns_formed k L es f h = absurd f
 
   abbrev pub case_formed : Option N → Bool

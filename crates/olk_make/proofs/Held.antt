@@ -7,6 +7,7 @@ use Rattle.std.specs.declared.cmp.Ordering.{Ordering}
 use Rattle.std.specs.declared.cmp.Ordering.TheVariants.{Less, Equal, Greater}
 use Rattle.std.proofs.lemmas.Map.Text.{is_eq-slice_cmp}
 use Rattle.std.specs.declared.alloc.Global.{Global}
+use Rattle.std.specs.declared.boxed.Box.{Box}
 use Rattle.std.proofs.Common.{refl, sym, ◌∙◌, ap, subst, arith}
 use Rattle.std.proofs.lemmas.List.{append-nil, length-map}
 use Rattle.std.proofs.lemmas.List.Sums.{sum_by-cons}
@@ -277,10 +278,10 @@ module _ {K R N : Type 0} (o : Kit K R) (answers : N → Answers) where
 
   -- ---- properties, with required or alone
 
-  module _ (ms : Members) (L P : Path) (k : SmallPropertiesWithRequired2 N) (t : Name × Name) (names : List Name) (ns : List N)
+  module _ (ms : Members) (L P : Path) (k : Box (SmallPropertiesWithRequired2 N) Global) (t : Name × Name) (names : List Name) (ns : List N)
       (form : IsFormOfProperties {K = K} {R = R} P L names ns (Some t) (keyword.PropertiesWithRequired2 k)) where
     abbrev alone : KeywordOver K R N
-    alone = keyword.Properties (record { properties = Small k.properties; location = L })
+    alone = keyword.Properties (record { properties = Small k.value.properties; location = L })
 
     abbrev lacking : Data → List Name
     lacking v = missing (t.0 ∷ t.1 ∷ []) v
@@ -298,10 +299,10 @@ module _ {K R N : Type 0} (o : Kit K R) (answers : N → Answers) where
       unfolding answers_of
       both_find Q = λ i. required_faults (form.2 i ∷ form.3 i ∷ []) v (form.4 i) Q ++ found u alone v Q
 
-      both_show : (Q : Path) → shown u (keyword.PropertiesWithRequired2 k) v Q ≡ properties_tree (λ n. (answers n).tree u) v Q L (named k.properties)
+      both_show : (Q : Path) → shown u (keyword.PropertiesWithRequired2 k) v Q ≡ properties_tree (λ n. (answers n).tree u) v Q L (named k.value.properties)
           (missing_trees (t.0 ∷ t.1 ∷ []) v (P // codes "required") Q)
       unfolding answers_of
-      both_show Q = λ i. properties_tree (λ n. (answers n).tree u) v Q (form.1 i) (named k.properties) (missing_trees (form.2 i ∷ form.3 i ∷ []) v (form.4 i) Q)
+      both_show Q = λ i. properties_tree (λ n. (answers n).tree u) v Q (form.1 i) (named k.value.properties) (missing_trees (form.2 i ∷ form.3 i ∷ []) v (form.4 i) Q)
 
     covers_both : (d : Data) → is_restricted ms ≡ false → Holds o answers ms (alone ∷ []) (codes "properties", d) properties P → Covers o answers ms
         (keyword.PropertiesWithRequired2 k ∷ []) ((codes "properties", d) ∷ (codes "required", listing t) ∷ []) P
@@ -359,10 +360,10 @@ module _ {K R N : Type 0} (o : Kit K R) (answers : N → Answers) where
       held = form.0 ∙ ap (λ ks. zip ks ns) declared
   means_form (keyword.PropertiesWithRequired2 k) names ns L P (Some t) fs d q declared stand form ms p distinct there chosen unrestricted =
       let both = fuses ms distinct t chosen in
-      let held : named k.properties ≡ zip (map (λ e. e.0) (listed fs)) ns = form.0 ∙ ap (λ ks. zip ks ns) declared in
-      let count = each_long o answers (named k.properties) ns (listed fs) L held (schema_answers o answers) (schemas_answer o answers ns (listed fs) L stand) in
-      let few : is_map_formed (Small k.properties) ≡ true = few_formed k fs d q count (ap declares_few (sym there ∙ both.declared) ∙ both.few) in
-      let plain = means_properties (Small k.properties) ns L fs d q few held stand ms P p in
+      let held : named k.value.properties ≡ zip (map (λ e. e.0) (listed fs)) ns = form.0 ∙ ap (λ ks. zip ks ns) declared in
+      let count = each_long o answers (named k.value.properties) ns (listed fs) L held (schema_answers o answers) (schemas_answer o answers ns (listed fs) L stand) in
+      let few : is_map_formed (Small k.value.properties) ≡ true = few_formed k.value fs d q count (ap declares_few (sym there ∙ both.declared) ∙ both.few) in
+      let plain = means_properties (Small k.value.properties) ns L fs d q few held stand ms P p in
       means_permuted o answers ms P (keyword.PropertiesWithRequired2 k ∷ []) ((codes "properties", d) ∷ (codes "required", listing t) ∷ [])
       (claims (head (plan_of ms)) (listed ms) (codes "properties", d)) ((codes "properties", d) ∷ [])
       (subst (λ s. IsPermutation ((codes "properties", d) ∷ (codes "required", listing t) ∷ []) (claims (head s) (listed ms) (codes "properties", d)))
@@ -370,7 +371,7 @@ module _ {K R N : Type 0} (o : Kit K R) (answers : N → Answers) where
         covers = covers_both ms L P k t names ns form d unrestricted plain.holds;
         shows = λ clean u v Q.
             let step = meaning_step o.world u in
-            ap (λ x. x ∷ []) (both_show ms L P k t names ns form u v Q ∙ properties_show (Small k.properties) ns L (listed fs) held stand u v Q
+            ap (λ x. x ∷ []) (both_show ms L P k t names ns form u v Q ∙ properties_show (Small k.value.properties) ns L (listed fs) held stand u v Q
             (missing_trees (t.0 ∷ t.1 ∷ []) v (P // codes "required") Q) ∙ ap (λ M. shown_declared o.world u v M Q (listed fs) (missing_trees (t.0 ∷ t.1 ∷ []) v (P // codes "required") Q)) p)
             ∙ (λ i. shown_declared o.world u v (P // codes "properties") Q (listed fs)
             (put_if (sym (fused o.world ms P clean step ∙ ap is_some (sym chosen)) i && not (is_empty (missing (sym (names_fused step ms t both.listed_at) i) v)))
@@ -379,7 +380,7 @@ module _ {K R N : Type 0} (o : Kit K R) (answers : N → Answers) where
             (there ∙ ap Some q) (restricted_read step ms ∙ unrestricted));
         formed =
             just_one_formed o answers (keyword.PropertiesWithRequired2 k)
-            (required2_formed o answers k few ((λ i. bytes_eq (form.2 i) (form.3 i)) ∙ both.differ) (each_held_formed o answers (named k.properties) ns (listed fs) L held (schema_answers o answers) (schemas_answer o answers ns (listed fs) L stand)));
+            (required2_formed o answers k few ((λ i. bytes_eq (form.2 i) (form.3 i)) ∙ both.differ) (each_held_formed o answers (named k.value.properties) ns (listed fs) L held (schema_answers o answers) (schemas_answer o answers ns (listed fs) L stand)));
       }
   means_form k names ns L P None fs d q declared stand form ms p distinct there chosen unrestricted = absurd form
   means_form k names ns L P (Some t) fs d q declared stand form ms p distinct there chosen unrestricted = absurd form

@@ -182,7 +182,7 @@ module _ {K R N : Type 0} (o : Kit K R) (answers : N → Answers) where
       let q = ap (λ l. (patterns_mean o.answers o.costs (λ n. (answers n).means) l v).asks u) f.0 in omega (arith, q),
     )
     of_patterns (keyword.SingleValuePatternProperties p) f = (
-      sym (ap (λ l. (patterns_mean o.answers o.costs (λ n. (answers n).means) l v).accepts u) f.0 ∙ alone ((matched_mean o.answers o.costs (λ n. (answers n).means) p.regex p.node v).accepts u)),
+      sym (ap (λ l. (patterns_mean o.answers o.costs (λ n. (answers n).means) l v).accepts u) f.0 ∙ alone ((matched_mean o.answers o.costs (λ n. (answers n).means) p.value.regex p.value.node v).accepts u)),
       let q = ap (λ l. (patterns_mean o.answers o.costs (λ n. (answers n).means) l v).asks u) f.0 in omega (arith, q),
     )
       where

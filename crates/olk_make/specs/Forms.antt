@@ -1,6 +1,7 @@
 -- Which form of a validator is built.
 use Rattle.std.specs.Prelude.{◌≡◌, ◌≢◌, ◌<◌, ◌≤◌, ⊤, ℕ, Bool, true, false, List, [], ◌∷◌, map, length, take, drop, zip, Option, Some, None, is_some, option_map, codes, Vec, String, string_bytes}
 use Rattle.std.specs.declared.alloc.Global.{Global}
+use Rattle.std.specs.declared.boxed.Box.{Box}
 use Rattle.serde_json.specs.Data.{Data}
 use Rattle.serde_json.specs.View.{view}
 use Rattle.olk_spec.specs.Names.{Name, Path, ◌//◌}
@@ -19,6 +20,7 @@ use Rattle.olk_tree.specs.declared.additional_properties.RequiredName.{RequiredN
 use Rattle.olk_tree.specs.declared.node.KeywordOver.{KeywordOver}
 use Rattle.olk_tree.specs.declared.node.KeywordOver.TheVariants as keyword
 use Rattle.olk_tree.specs.declared.node.Body.TheVariants.{RequiredNames}
+use Rattle.olk_tree.specs.declared.required.RequiredValidator.{RequiredValidator}
 use Rattle.olk_tree.specs.Answers.{Answers}
 use Rattle.olk_tree.specs.Places.{AnswersBy}
 use Rattle.olk_make.specs.declared.part.Patterns.{Patterns}
@@ -46,7 +48,7 @@ IsFormOfOneOf P ns k = ⊥
 -- patterns, each with its node
 abbrev pub IsFormOfPatternProperties : {K R N : Type 0} → Path → List (CompiledPattern R × N) → KeywordOver K R N → Type 0
 IsFormOfPatternProperties P es (keyword.PatternProperties k) = (k.patterns.items ≡ es) × (length es ≢ 1) × (k.location ≡ P)
-IsFormOfPatternProperties P es (keyword.SingleValuePatternProperties k) = (es ≡ (k.regex, k.node) ∷ []) × (k.location ≡ P)
+IsFormOfPatternProperties P es (keyword.SingleValuePatternProperties k) = (es ≡ (k.value.regex, k.value.node) ∷ []) × (k.value.location ≡ P)
 IsFormOfPatternProperties P es k = ⊥
 
 -- a map for so many names: from HASHMAP_THRESHOLD names on they are held in a big map
@@ -57,7 +59,7 @@ IsMapFor n (Big m) = HASHMAP_THRESHOLD ≤ n
 -- the form at L in the object at P, over these names and nodes: with two fused names, or alone
 abbrev pub IsFormOfProperties : {K R N : Type 0} → Path → Path → List Name → List N → Option (Name × Name) → KeywordOver K R N → Type 0
 IsFormOfProperties P L names ns None (keyword.Properties k) = (mapped k.properties ≡ zip names ns) × IsMapFor (length names) k.properties × (k.location ≡ L)
-IsFormOfProperties P L names ns (Some t) (keyword.PropertiesWithRequired2 k) = (named k.properties ≡ zip names ns) × (k.location ≡ L) × (string_bytes k.first ≡ t.0) × (string_bytes k.second ≡ t.1) × (k.required_location ≡ P // codes "required")
+IsFormOfProperties P L names ns (Some t) (keyword.PropertiesWithRequired2 k) = (named k.value.properties ≡ zip names ns) × (k.value.location ≡ L) × (string_bytes k.value.first ≡ t.0) × (string_bytes k.value.second ≡ t.1) × (k.value.required_location ≡ P // codes "required")
 IsFormOfProperties P L names ns t k = ⊥
 
 -- a map of these names, which ascend, and nodes, or none
@@ -105,8 +107,10 @@ IsFormOfIf L n t e k = ⊥
 
 module _ {K R N : Type 0} (o : Kit K R) (answers : N → Answers) (L : Path) where
   -- a node at L that answers as this list of names
-  abbrev pub IsListAt : Vec (String Global) Global → N → Type 0
-  IsListAt v n = AnswersBy o answers L (RequiredNames (record { required = v; location = L })) n
+  pub record IsListAt (v : Vec (String Global) Global) (n : N) : Type 0 where
+    pub boxed : Box RequiredValidator Global
+    pub holds : (boxed.value.required ≡ v) × (boxed.value.location ≡ L)
+    pub answers_by : AnswersBy o answers L (RequiredNames boxed) n
 
   -- for each list its node
   abbrev pub AreListsAt : List (Vec (String Global) Global) → List N → Type 0
@@ -168,13 +172,13 @@ IsRequired L d k = ⊥
 -- `properties` of so many names at L in the object at P: with two fused names it has them, and without any it stands alone
 abbrev pub IsProperties : {K R N : Type 0} → Path → Path → ℕ → Option (Name × Name) → KeywordOver K R N → Type 0
 IsProperties P L n None (keyword.Properties k) = IsMapFor n k.properties × (k.location ≡ L)
-IsProperties P L n (Some t) (keyword.PropertiesWithRequired2 k) = (k.location ≡ L) × (string_bytes k.first ≡ t.0) × (string_bytes k.second ≡ t.1) × (k.required_location ≡ P // codes "required")
+IsProperties P L n (Some t) (keyword.PropertiesWithRequired2 k) = (k.value.location ≡ L) × (string_bytes k.value.first ≡ t.0) × (string_bytes k.value.second ≡ t.1) × (k.value.required_location ≡ P // codes "required")
 IsProperties P L n t k = ⊥
 
 -- `patternProperties` of so many patterns
 abbrev pub IsPatternProperties : {K R N : Type 0} → Path → ℕ → KeywordOver K R N → Type 0
 IsPatternProperties L n (keyword.PatternProperties k) = (n ≢ 1) × (k.location ≡ L)
-IsPatternProperties L n (keyword.SingleValuePatternProperties k) = (n ≡ 1) × (k.location ≡ L)
+IsPatternProperties L n (keyword.SingleValuePatternProperties k) = (n ≡ 1) × (k.value.location ≡ L)
 IsPatternProperties L n k = ⊥
 
 -- a map for so many names, or none

@@ -32,7 +32,7 @@ fn node_of_list<K: Leaf, R: RegexEngine, N: BuiltNode<K, R>>(
         location: location.try_clone(alloc)?,
     };
     let place = location.try_clone(alloc)?;
-    Ok(N::new(place, Body::RequiredNames(names)))
+    Ok(N::new(place, Body::RequiredNames(Box::new(alloc, names)?)))
 }
 
 /// The nodes of lists of names.

@@ -34,21 +34,23 @@ pub fn with_nodes<R: Drop, N: Drop>(
 
 /// The form over the patterns and their nodes: that of one pattern, or that of none or several.
 fn form<K, R: Drop, N: Drop>(
+    alloc: Global,
     location: Location,
     mut patterns: Vec<(CompiledPattern<R>, N)>,
-) -> KeywordOver<K, R, N>
-    ensures { IsFormOfPatternProperties location patterns.items result }
+) -> Result<KeywordOver<K, R, N>, AllocError>
+    ensures { IfOk result (IsFormOfPatternProperties location patterns.items) }
 {
     if patterns.len() == 1
         && let Some((regex, node)) = patterns.pop()
     {
-        KeywordOver::SingleValuePatternProperties(SingleValuePatternProperties {
+        let keyword = SingleValuePatternProperties {
             regex,
             node,
             location,
-        })
+        };
+        Ok(KeywordOver::SingleValuePatternProperties(Box::new(alloc, keyword)?))
     } else {
-        KeywordOver::PatternProperties(PatternProperties { patterns, location })
+        Ok(KeywordOver::PatternProperties(PatternProperties { patterns, location }))
     }
 }
 
@@ -69,5 +71,5 @@ pub fn make<K: Leaf, R: RegexEngine, N: BuiltNode<K, R>>(
         N.answers (shape.PatternProperties patterns t) location nodes.items (k ∷ [])) }
 {
     let entries = with_nodes(alloc, patterns, nodes)?;
-    Ok(form(location, entries))
+    form(alloc, location, entries)
 }

@@ -66,13 +66,14 @@ fn form<K, R, N: Drop>(
     let second = String::from_str(alloc, second)?;
     let required_location = place.join(alloc, "required")?;
     let entries = SortedEntries::of(alloc, names, nodes)?;
-    Ok(KeywordOver::PropertiesWithRequired2(SmallPropertiesWithRequired2 {
+    let keyword = SmallPropertiesWithRequired2 {
         properties: SmallMap { entries },
         first,
         second,
         location,
         required_location,
-    }))
+    };
+    Ok(KeywordOver::PropertiesWithRequired2(Box::new(alloc, keyword)?))
 }
 
 /// The validator of the declared names' nodes in the object at the place, and of the names that the

@@ -107,9 +107,9 @@ fn one_name(value: Option<&Value>) -> Option<&str>
 fn fused_one(members: &Map<String, Value>) -> Option<&str>
     ensures { option_map (λ t. t.now) result ≡ fused_one (members_view members.now.entries) }
 {
-    if !has_member(members, "patternProperties")
+    if refuses_others(member(members, "additionalProperties"))
         && has_member(members, "properties")
-        && refuses_others(member(members, "additionalProperties"))
+        && !has_member(members, "patternProperties")
     {
         one_name(member(members, "required"))
     } else {

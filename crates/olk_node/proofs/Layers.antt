@@ -111,8 +111,8 @@ module _ {K R : Type 0} (o : Kit K R) where
     | keyword.Properties k ↦ few_or_many k.properties (λ m e. rw e (every-map (λ e. every e.1.means (at e.0 v)) (λ e. every (answers o e.1).means (at e.0 v))
         (with_name (answers o)) (λ e. refl) m.entries)) (λ m e. rw e
         (every-map (λ e. every e.1.means (at e.0 v)) (λ e. every (answers o e.1).means (at e.0 v)) (with_name (answers o)) (λ e. refl) m.entries))
-    | keyword.PropertiesWithRequired2 k ↦ ap (both (always (is_empty (missing (two_texts k.first k.second) v))))
-        (every-map (λ e. every e.1.means (at e.0 v)) (λ e. every (answers o e.1).means (at e.0 v)) (with_name (answers o)) (λ e. refl) k.properties.entries)
+    | keyword.PropertiesWithRequired2 k ↦ ap (both (always (is_empty (missing (two_texts k.value.first k.value.second) v))))
+        (every-map (λ e. every e.1.means (at e.0 v)) (λ e. every (answers o e.1).means (at e.0 v)) (with_name (answers o)) (λ e. refl) k.value.properties.entries)
     | keyword.Required k ↦ refl
     | keyword.AllOf k ↦ every-map (λ a. a.means v) (λ n. (answers o n).means v) (answers o) (λ n. refl) k.schemas.items
     | keyword.SingleValueAllOf k ↦ refl
@@ -149,9 +149,9 @@ module _ {K R : Type 0} (o : Kit K R) where
             (λ e. flat_map (λ x. (answers o e.1).report u x (Q // e.0)) (at e.0 v)) (with_name (answers o)) (λ e. refl) m.entries))
             (λ m e. rw e (flat_map-map (λ e. flat_map (λ x. e.1.report u x (Q // e.0)) (at e.0 v)) (λ e. flat_map (λ x. (answers o e.1).report u x (Q // e.0)) (at e.0 v))
             (with_name (answers o)) (λ e. refl) m.entries))
-        | keyword.PropertiesWithRequired2 k ↦ ap (λ fs. required_faults (two_texts k.first k.second) v k.required_location Q ++ fs)
+        | keyword.PropertiesWithRequired2 k ↦ ap (λ fs. required_faults (two_texts k.value.first k.value.second) v k.value.required_location Q ++ fs)
             (flat_map-map (λ e. flat_map (λ x. e.1.report u x (Q // e.0)) (at e.0 v)) (λ e. flat_map (λ x. (answers o e.1).report u x (Q // e.0)) (at e.0 v))
-            (with_name (answers o)) (λ e. refl) k.properties.entries)
+            (with_name (answers o)) (λ e. refl) k.value.properties.entries)
         | keyword.Required k ↦ refl
         | keyword.AllOf k ↦ flat_map-map (λ a. a.report u v Q) (λ n. (answers o n).report u v Q) (answers o) (λ n. refl) k.schemas.items
         | keyword.SingleValueAllOf k ↦ refl
@@ -192,9 +192,9 @@ module _ {K R : Type 0} (o : Kit K R) where
             (λ e. first_of (λ x. (answers o e.1).first u x (Q // e.0)) (at e.0 v)) (with_name (answers o)) (λ e. refl) m.entries))
             (λ m e. rw e (first_of-map (λ e. first_of (λ x. e.1.first u x (Q // e.0)) (at e.0 v)) (λ e. first_of (λ x. (answers o e.1).first u x (Q // e.0)) (at e.0 v))
             (with_name (answers o)) (λ e. refl) m.entries))
-        | keyword.PropertiesWithRequired2 k ↦ ap (or_else (head_of (required_faults (two_texts k.first k.second) v k.required_location Q)))
+        | keyword.PropertiesWithRequired2 k ↦ ap (or_else (head_of (required_faults (two_texts k.value.first k.value.second) v k.value.required_location Q)))
             (first_of-map (λ e. first_of (λ x. e.1.first u x (Q // e.0)) (at e.0 v)) (λ e. first_of (λ x. (answers o e.1).first u x (Q // e.0)) (at e.0 v))
-            (with_name (answers o)) (λ e. refl) k.properties.entries)
+            (with_name (answers o)) (λ e. refl) k.value.properties.entries)
         | keyword.Required k ↦ refl
         | keyword.AllOf k ↦ first_of-map (λ a. a.first u v Q) (λ n. (answers o n).first u v Q) (answers o) (λ n. refl) k.schemas.items
         | keyword.SingleValueAllOf k ↦ refl
@@ -234,7 +234,7 @@ module _ {K R : Type 0} (o : Kit K R) where
             (λ y w R. refl) v Q k.location m.entries [])) (λ m e. rw e
             (properties_tree-map (λ a. a.tree u) (λ n. (answers o n).tree u) (answers o) (λ y w R. refl) v Q k.location m.entries []))
         | keyword.PropertiesWithRequired2 k ↦ properties_tree-map (λ a. a.tree u) (λ n. (answers o n).tree u) (answers o)
-            (λ y w R. refl) v Q k.location k.properties.entries (missing_trees (two_texts k.first k.second) v k.required_location Q)
+            (λ y w R. refl) v Q k.value.location k.value.properties.entries (missing_trees (two_texts k.value.first k.value.second) v k.value.required_location Q)
         | keyword.Required k ↦ refl
         | keyword.AllOf k ↦ ap (plain k.location Q) (branch_trees-map (λ a. a.tree u) (λ n. (answers o n).tree u) (answers o) (λ y w R. refl) v Q k.schemas.items)
         | keyword.SingleValueAllOf k ↦ refl
@@ -313,8 +313,8 @@ module _ {K R : Type 0} (o : Kit K R) where
   formed_layer n (RequiredNames k) = refl
   formed_layer n (Keywords ks) = all-map (λ k. validator_formed o (λ a. a.formed) k) (λ k. validator_formed o (λ n. (answers o n).formed) k) _ (elim [
     | keyword.Properties k ↦ few_or_many k.properties (λ m e. rw e (few_formed m.entries)) (λ m e. rw e (many_formed m.entries))
-    | keyword.PropertiesWithRequired2 k ↦ λ i. nat_lt (length-map k.properties.entries (with_name (answers o)) i) HASHMAP_THRESHOLD
-        && not (bytes_eq (string_bytes k.first) (string_bytes k.second)) && entries_formed k.properties.entries i
+    | keyword.PropertiesWithRequired2 k ↦ λ i. nat_lt (length-map k.value.properties.entries (with_name (answers o)) i) HASHMAP_THRESHOLD
+        && not (bytes_eq (string_bytes k.value.first) (string_bytes k.value.second)) && entries_formed k.value.properties.entries i
     | keyword.Required k ↦ refl
     | keyword.AllOf k ↦ λ i. not (length-map k.schemas.items (answers o) i == 1) && nodes_formed k.schemas.items i
     | keyword.SingleValueAllOf k ↦ refl

@@ -224,7 +224,10 @@ fn beside_required<N: BuiltNode<NoText, EqualTo>>(alloc: Global) -> Result<N, Al
         location: Location::new(alloc),
         required_location: Location::new(alloc),
     };
-    keyword(alloc, KeywordOver::PropertiesWithRequired2(both))
+    keyword(
+        alloc,
+        KeywordOver::PropertiesWithRequired2(Box::new(alloc, both)?),
+    )
 }
 
 // ---- what a validator accepts

@@ -19,28 +19,28 @@ abbrev pub body_means : {W : Type 0} → (W → Data → Question) → Body W �
 body_means f True v = always true
 body_means f False v = always false
 body_means f (Keywords ks) v = every (λ k. f k v) ks.items
-body_means f (RequiredNames k) v = (required_answers k).means v
+body_means f (RequiredNames k) v = (required_answers k.value).means v
 
 -- what a body finds at its place
 abbrev pub body_report : {W : Type 0} → (W → Data → Path → List Fault) → Path → Body W → Data → Path → List Fault
 body_report f P True v Q = []
 body_report f P False v Q = fault FalseSchema v Q P ∷ []
 body_report f P (Keywords ks) v Q = flat_map (λ k. f k v Q) ks.items
-body_report f P (RequiredNames k) v Q = (required_answers k).report true v Q
+body_report f P (RequiredNames k) v Q = (required_answers k.value).report true v Q
 
 -- and at its first step that refuses
 abbrev pub body_first : {W : Type 0} → (W → Data → Path → List Fault) → Path → Body W → Data → Path → List Fault
 body_first f P True v Q = []
 body_first f P False v Q = fault FalseSchema v Q P ∷ []
 body_first f P (Keywords ks) v Q = first_of (λ k. f k v Q) ks.items
-body_first f P (RequiredNames k) v Q = (required_answers k).first true v Q
+body_first f P (RequiredNames k) v Q = (required_answers k.value).first true v Q
 
 -- what a body shows at its place
 abbrev pub body_tree : {W : Type 0} → (W → Data → Path → Tree) → Path → Body W → Data → Path → Tree
 body_tree f P True v Q = plain P Q []
 body_tree f P False v Q = erring P Q (fault FalseSchema v Q P ∷ [])
 body_tree f P (Keywords ks) v Q = plain P Q (map (λ k. f k v Q) ks.items)
-body_tree f P (RequiredNames k) v Q = erring P Q ((required_answers k).report true v Q)
+body_tree f P (RequiredNames k) v Q = erring P Q ((required_answers k.value).report true v Q)
 
 -- whether all of a body have their form
 abbrev pub body_formed : {W : Type 0} → (W → Bool) → Body W → Bool
@@ -54,13 +54,13 @@ module _ {W : Type 0} (q : W → Data → Question) (f : W → Data → Path →
   body_agrees True v Q = refl
   body_agrees False v Q = refl
   body_agrees (Keywords ks) v Q = each_agrees (λ k. f k v Q) (λ k. q k v) u (λ k. h k v Q) ks.items
-  body_agrees (RequiredNames k) v Q = (required_answers k).agrees true v Q
+  body_agrees (RequiredNames k) v Q = (required_answers k.value).agrees true v Q
 
   pub body_first_agrees : (b : Body W) (v : Data) (Q : Path) → is_empty (body_first f P b v Q) ≡ (body_means q b v).accepts u
   body_first_agrees True v Q = refl
   body_first_agrees False v Q = refl
   body_first_agrees (Keywords ks) v Q = first_of_agrees (λ k. f k v Q) (λ k. q k v) u (λ k. h k v Q) ks.items
-  body_first_agrees (RequiredNames k) v Q = (required_answers k).first_agrees true v Q
+  body_first_agrees (RequiredNames k) v Q = (required_answers k.value).first_agrees true v Q
 
 -- of a place, over what its keywords answer
 abbrev pub body_answers : {W : Type 0} → (W → Answers) → Path → Body W → Answers

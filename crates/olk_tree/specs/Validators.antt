@@ -26,7 +26,7 @@ use Rattle.olk_tree.specs.declared.node.KeywordOver.TheVariants as keyword
 module _ {K R N : Type 0} (o : Kit K R) where
   unfoldable pub answers_of : KeywordOver K R N → AnswersOver N
   answers_of (keyword.Properties k) = properties_answers k
-  answers_of (keyword.PropertiesWithRequired2 k) = properties_with_required2_answers k
+  answers_of (keyword.PropertiesWithRequired2 k) = properties_with_required2_answers k.value
   answers_of (keyword.Required k) = alone (required_answers k)
   answers_of (keyword.AllOf k) = all_of_answers k
   answers_of (keyword.SingleValueAllOf k) = single_all_of_answers k
@@ -43,7 +43,7 @@ module _ {K R N : Type 0} (o : Kit K R) where
   answers_of (keyword.PropertyNamesFalse k) = alone (property_names_false_answers k)
   answers_of (keyword.PropertyDependencies k) = property_dependencies_answers k
   answers_of (keyword.PatternProperties k) = pattern_properties_answers o.answers o.costs k
-  answers_of (keyword.SingleValuePatternProperties k) = single_pattern_properties_answers o.answers o.costs k
+  answers_of (keyword.SingleValuePatternProperties k) = single_pattern_properties_answers o.answers o.costs k.value
   answers_of (keyword.AdditionalProperties k) = additional_properties_answers o.answers o.costs k.value
   answers_of (keyword.Leaf P l) = alone (leaf_answers o P l)
 

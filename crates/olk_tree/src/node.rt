@@ -20,7 +20,7 @@ pub enum KeywordOver<K, R, N> {
     /// `properties`.
     Properties(Properties<N>),
     /// `properties` together with `required` of two names.
-    PropertiesWithRequired2(SmallPropertiesWithRequired2<N>),
+    PropertiesWithRequired2(Box<SmallPropertiesWithRequired2<N>>),
     /// `required`.
     Required(RequiredValidator),
     /// `allOf` of several branches, or of none.
@@ -54,7 +54,7 @@ pub enum KeywordOver<K, R, N> {
     /// `patternProperties` of several patterns, or of none.
     PatternProperties(PatternProperties<R, N>),
     /// `patternProperties` of one pattern.
-    SingleValuePatternProperties(SingleValuePatternProperties<R, N>),
+    SingleValuePatternProperties(Box<SingleValuePatternProperties<R, N>>),
     /// `additionalProperties` that is `false` or a schema, with what it takes over.
     AdditionalProperties(Box<AdditionalProperties<R, N>>),
     /// A leaf, and its place.
@@ -71,5 +71,5 @@ pub enum Body<W> {
     /// Keywords.
     Keywords(Vec<W>),
     /// A list of names that an object is to have.
-    RequiredNames(RequiredValidator),
+    RequiredNames(Box<RequiredValidator>),
 }

@@ -24,7 +24,7 @@ returns-in-PropertiesWithRequired2 g c =
     (data_of c.args.node)) c.args.ctx.now c.properties_with_required2_accept.new.ctx c.properties_with_required2_accept.result (by_first c.index-keywords-0.is c.requires)
     (subst (λ k. AsksOne c.args.ctx.now c.properties_with_required2_accept.new.ctx
     (validator_means (kit g.K.Leaf g.R.RegexEngine) g.N.Means.means k (data_of c.args.node)) c.properties_with_required2_accept.result)
-    (sym c.in-PropertiesWithRequired2.is) c.properties_with_required2_accept.ensures)
+    (ap (λ p. keyword.PropertiesWithRequired2 record c.in-PropertiesWithRequired2.properties { value = p }) c.deref.ensures ∙ sym c.in-PropertiesWithRequired2.is) c.properties_with_required2_accept.ensures)
 
 pub returns-in-AdditionalProperties : goal.returns-in-AdditionalProperties
 unfolding answers_of
@@ -33,7 +33,7 @@ returns-in-AdditionalProperties g c =
     (data_of c.args.node)) c.args.ctx.now c.additional_properties_accept.new.ctx c.additional_properties_accept.result (by_first c.index-keywords-0.is c.requires)
     (subst (λ k. AsksOne c.args.ctx.now c.additional_properties_accept.new.ctx
     (validator_means (kit g.K.Leaf g.R.RegexEngine) g.N.Means.means k (data_of c.args.node)) c.additional_properties_accept.result)
-    (ap (λ a. keyword.AdditionalProperties record c.in-AdditionalProperties.additional { value = a }) c.deref.ensures ∙ sym c.in-AdditionalProperties.is) c.additional_properties_accept.ensures)
+    (ap (λ a. keyword.AdditionalProperties record c.in-AdditionalProperties.additional { value = a }) c.deref-in-AdditionalProperties.ensures ∙ sym c.in-AdditionalProperties.is) c.additional_properties_accept.ensures)
 
 pub returns-in-Required : goal.returns-in-Required
 unfolding answers_of

@@ -12,7 +12,7 @@ returns-in-AdditionalProperties g c = rw c.in-AdditionalProperties.is (rw (sym c
 
 pub returns-in-IfThen : goal.returns-in-IfThen
 unfolding answers_of
-returns-in-IfThen g c = rw c.in-IfThen.is (rw (sym c.deref.ensures) c.is_valid-in-IfThen.ensures)
+returns-in-IfThen g c = rw c.in-IfThen.is (rw (sym c.deref-in-IfThen.ensures) c.is_valid-in-IfThen.ensures)
 
 pub returns-in-IfElse : goal.returns-in-IfElse
 unfolding answers_of
@@ -21,3 +21,11 @@ returns-in-IfElse g c = rw c.in-IfElse.is (rw (sym c.deref-in-IfElse.ensures) c.
 pub returns-in-IfThenElse : goal.returns-in-IfThenElse
 unfolding answers_of
 returns-in-IfThenElse g c = rw c.in-IfThenElse.is (rw (sym c.deref-in-IfThenElse.ensures) c.is_valid-in-IfThenElse.ensures)
+
+pub returns-in-PropertiesWithRequired2 : goal.returns-in-PropertiesWithRequired2
+unfolding answers_of
+returns-in-PropertiesWithRequired2 g c = rw c.in-PropertiesWithRequired2.is (rw (sym c.deref.ensures) c.is_valid-in-PropertiesWithRequired2.ensures)
+
+pub returns-in-SingleValuePatternProperties : goal.returns-in-SingleValuePatternProperties
+unfolding answers_of
+returns-in-SingleValuePatternProperties g c = rw c.in-SingleValuePatternProperties.is (rw (sym c.deref-in-SingleValuePatternProperties.ensures) c.is_valid-in-SingleValuePatternProperties.ensures)

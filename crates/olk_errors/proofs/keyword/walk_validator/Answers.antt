@@ -15,11 +15,11 @@ returns-in-Properties-clause-context g c = c.walk.ensures.context
 
 pub returns-in-PropertiesWithRequired2-clause-on : goal.returns-in-PropertiesWithRequired2-clause-on
 unfolding answers_of
-returns-in-PropertiesWithRequired2-clause-on g c = rw c.in-PropertiesWithRequired2.is c.walk-in-PropertiesWithRequired2.ensures.on
+returns-in-PropertiesWithRequired2-clause-on g c = rw c.in-PropertiesWithRequired2.is (rw (sym c.deref.ensures) c.walk-in-PropertiesWithRequired2.ensures.on)
 
 pub returns-in-PropertiesWithRequired2-clause-stop : goal.returns-in-PropertiesWithRequired2-clause-stop
 unfolding answers_of
-returns-in-PropertiesWithRequired2-clause-stop g c = rw c.in-PropertiesWithRequired2.is c.walk-in-PropertiesWithRequired2.ensures.stop
+returns-in-PropertiesWithRequired2-clause-stop g c = rw c.in-PropertiesWithRequired2.is (rw (sym c.deref.ensures) c.walk-in-PropertiesWithRequired2.ensures.stop)
 
 pub returns-in-PropertiesWithRequired2-clause-context : goal.returns-in-PropertiesWithRequired2-clause-context
 returns-in-PropertiesWithRequired2-clause-context g c = c.walk-in-PropertiesWithRequired2.ensures.context
@@ -114,11 +114,11 @@ returns-in-Not-clause-context g c = c.walk-in-Not.ensures.context
 
 pub returns-in-IfThen-clause-on : goal.returns-in-IfThen-clause-on
 unfolding answers_of
-returns-in-IfThen-clause-on g c = rw c.in-IfThen.is (rw (sym c.deref.ensures) c.walk-in-IfThen.ensures.on)
+returns-in-IfThen-clause-on g c = rw c.in-IfThen.is (rw (sym c.deref-in-IfThen.ensures) c.walk-in-IfThen.ensures.on)
 
 pub returns-in-IfThen-clause-stop : goal.returns-in-IfThen-clause-stop
 unfolding answers_of
-returns-in-IfThen-clause-stop g c = rw c.in-IfThen.is (rw (sym c.deref.ensures) c.walk-in-IfThen.ensures.stop)
+returns-in-IfThen-clause-stop g c = rw c.in-IfThen.is (rw (sym c.deref-in-IfThen.ensures) c.walk-in-IfThen.ensures.stop)
 
 pub returns-in-IfThen-clause-context : goal.returns-in-IfThen-clause-context
 returns-in-IfThen-clause-context g c = c.walk-in-IfThen.ensures.context
@@ -202,11 +202,11 @@ returns-in-PatternProperties-clause-context g c = c.walk-in-PatternProperties.en
 
 pub returns-in-SingleValuePatternProperties-clause-on : goal.returns-in-SingleValuePatternProperties-clause-on
 unfolding answers_of
-returns-in-SingleValuePatternProperties-clause-on g c = rw c.in-SingleValuePatternProperties.is c.walk-in-SingleValuePatternProperties.ensures.on
+returns-in-SingleValuePatternProperties-clause-on g c = rw c.in-SingleValuePatternProperties.is (rw (sym c.deref-in-SingleValuePatternProperties.ensures) c.walk-in-SingleValuePatternProperties.ensures.on)
 
 pub returns-in-SingleValuePatternProperties-clause-stop : goal.returns-in-SingleValuePatternProperties-clause-stop
 unfolding answers_of
-returns-in-SingleValuePatternProperties-clause-stop g c = rw c.in-SingleValuePatternProperties.is c.walk-in-SingleValuePatternProperties.ensures.stop
+returns-in-SingleValuePatternProperties-clause-stop g c = rw c.in-SingleValuePatternProperties.is (rw (sym c.deref-in-SingleValuePatternProperties.ensures) c.walk-in-SingleValuePatternProperties.ensures.stop)
 
 pub returns-in-SingleValuePatternProperties-clause-context : goal.returns-in-SingleValuePatternProperties-clause-context
 returns-in-SingleValuePatternProperties-clause-context g c = c.walk-in-SingleValuePatternProperties.ensures.context

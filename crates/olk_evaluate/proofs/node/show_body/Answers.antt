@@ -9,6 +9,7 @@ use Rattle.olk_reports.specs.Evaluations.{node_at, shown_of}
 use Rattle.olk_reports.proofs.Errors.{kind_of_false_schema}
 use Rattle.olk_tree.specs.Maps.{texts_of}
 use Rattle.olk_tree.specs.Bodies.{body_means, body_tree}
+use Rattle.olk_tree.specs.declared.node.Body.TheVariants.{RequiredNames}
 use Rattle.olk_evaluate.specs.Wanted.{HasErrors}
 use Rattle.olk_evaluate.proofs.Children.{shows_none}
 use Rattle.olk_evaluate.proofs.OwnErrors.{erring_like, erring_verdict, no_error, same_emptiness}
@@ -37,16 +38,18 @@ returns-in-False-clause-verdict g c = on_ok_weaker c.add_own_error.result (λ er
 pub returns-in-RequiredNames-clause-tree : goal.returns-in-RequiredNames-clause-tree
 returns-in-RequiredNames-clause-tree g c = on_ok_weaker c.add_missing.result (λ errors P.
     subst (λ b. IsLikeTree (body_tree (λ k. g.W.Show.tree k c.args.ctx.now.answer) P b (data_of c.args.node) c.args.path.now)
-    (node_at P c.args.path.now (shown_of c.add_missing.new.outcome))) (sym c.in-RequiredNames.is)
-    (erring_like P c.args.path.now (required_faults (texts_of c.in-RequiredNames.required.required.items) (data_of c.args.node) c.in-RequiredNames.required.location c.args.path.now) (errors c.in-RequiredNames.required.location c.args.path.now))) c.add_missing.ensures
+    (node_at P c.args.path.now (shown_of c.add_missing.new.outcome)))
+    (ap (λ k. RequiredNames record c.in-RequiredNames.required { value = k }) c.deref.ensures ∙ sym c.in-RequiredNames.is)
+    (erring_like P c.args.path.now (required_faults (texts_of c.deref.result.now.required.items) (data_of c.args.node) c.deref.result.now.location c.args.path.now) (errors c.deref.result.now.location c.args.path.now))) c.add_missing.ensures
 
 pub returns-in-RequiredNames-clause-verdict : goal.returns-in-RequiredNames-clause-verdict
 returns-in-RequiredNames-clause-verdict g c = on_ok_weaker c.add_missing.result (λ errors P.
-    erring_verdict P c.args.path.now (required_faults (texts_of c.in-RequiredNames.required.required.items) (data_of c.args.node) c.in-RequiredNames.required.location c.args.path.now)
-    (errors c.in-RequiredNames.required.location c.args.path.now)
-    ∙ same_emptiness (λ n. fault (Required n) (data_of c.args.node) c.args.path.now c.in-RequiredNames.required.location)
-    (missing (texts_of c.in-RequiredNames.required.required.items) (data_of c.args.node))
-    ∙ ap (λ b. (body_means g.W.Means.means b (data_of c.args.node)).accepts c.args.ctx.now.answer) (sym c.in-RequiredNames.is)) c.add_missing.ensures
+    erring_verdict P c.args.path.now (required_faults (texts_of c.deref.result.now.required.items) (data_of c.args.node) c.deref.result.now.location c.args.path.now)
+    (errors c.deref.result.now.location c.args.path.now)
+    ∙ same_emptiness (λ n. fault (Required n) (data_of c.args.node) c.args.path.now c.deref.result.now.location)
+    (missing (texts_of c.deref.result.now.required.items) (data_of c.args.node))
+    ∙ ap (λ b. (body_means g.W.Means.means b (data_of c.args.node)).accepts c.args.ctx.now.answer)
+    (ap (λ k. RequiredNames record c.in-RequiredNames.required { value = k }) c.deref.ensures ∙ sym c.in-RequiredNames.is)) c.add_missing.ensures
 
 pub returns-in-True-clause-tree : goal.returns-in-True-clause-tree
 returns-in-True-clause-tree g c P =

@@ -34,7 +34,7 @@ returns-in-Properties g c = rw c.in-Properties.is c.show.ensures
 
 pub returns-in-PropertiesWithRequired2 : goal.returns-in-PropertiesWithRequired2
 unfolding answers_of
-returns-in-PropertiesWithRequired2 g c = rw c.in-PropertiesWithRequired2.is c.show-in-PropertiesWithRequired2.ensures
+returns-in-PropertiesWithRequired2 g c = rw c.in-PropertiesWithRequired2.is (rw (sym c.deref.ensures) c.show-in-PropertiesWithRequired2.ensures)
 
 pub returns-in-Required : goal.returns-in-Required
 unfolding answers_of
@@ -70,7 +70,7 @@ returns-in-Not g c = rw c.in-Not.is c.show-in-Not.ensures
 
 pub returns-in-IfThen : goal.returns-in-IfThen
 unfolding answers_of
-returns-in-IfThen g c = rw c.in-IfThen.is (rw (sym c.deref.ensures) c.show-in-IfThen.ensures)
+returns-in-IfThen g c = rw c.in-IfThen.is (rw (sym c.deref-in-IfThen.ensures) c.show-in-IfThen.ensures)
 
 pub returns-in-IfElse : goal.returns-in-IfElse
 unfolding answers_of
@@ -102,4 +102,4 @@ returns-in-PatternProperties g c = rw c.in-PatternProperties.is c.show-in-Patter
 
 pub returns-in-SingleValuePatternProperties : goal.returns-in-SingleValuePatternProperties
 unfolding answers_of
-returns-in-SingleValuePatternProperties g c = rw c.in-SingleValuePatternProperties.is c.show-in-SingleValuePatternProperties.ensures
+returns-in-SingleValuePatternProperties g c = rw c.in-SingleValuePatternProperties.is (rw (sym c.deref-in-SingleValuePatternProperties.ensures) c.show-in-SingleValuePatternProperties.ensures)
