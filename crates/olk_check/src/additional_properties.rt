@@ -25,7 +25,7 @@ use arrayvec::ArrayVec;
 use olk_base::{CompiledPattern, Node, RegexEngine, ValidationContext};
 use olk_meaning::law_of_names;
 use olk_tree::additional_properties::{AdditionalProperties, RequiredName};
-use olk_tree::entries::node_among;
+use olk_tree::entries::{SortedEntries, node_among};
 use olk_tree::properties_map::PropertiesMap;
 use olk_tree::validators_map::PropertiesValidatorsMap;
 use serde_json::{Map, Value};
@@ -111,7 +111,7 @@ fn members_accepted<R: RegexEngine, N: IsValid>(
     law_of_names(members);
     match without_patterns(keyword) {
         Some((properties, rest)) => {
-            mapped_accept(properties, members, rest, &keyword.required, ctx)
+            declared_accept(properties.entries(), members, rest, &keyword.required, ctx)
         }
         None => in_turn_accepted(keyword, members, ctx),
     }
@@ -181,40 +181,21 @@ fn without_patterns<R, N>(
 }
 
 /// The verdict of `are_properties_valid`, and whether there is a member at the name, if one is
-/// required.
-#[inline(always)]
-fn mapped_accept<N: IsValid>(
-    properties: &PropertiesMap<N>,
-    members: &Map<String, Value>,
-    rest: Option<&N>,
-    required: &Option<RequiredName>,
-    ctx: &mut ValidationContext,
-) -> Accepted
-    ensures { AsksOne ctx.old ctx.new (both (names_mean N.means (mapped properties.now)
-        (option_copied rest.entry) (object_of members.now.entries)) (always (is_empty (missing
-        (required_text required.now) (object_of members.now.entries))))) result }
-{
-    match properties {
-        PropertiesMap::Small(map) => declared_accept(map, members, rest, required, ctx),
-        PropertiesMap::Big(map) => declared_accept(map, members, rest, required, ctx),
-    }
-}
-
-/// The verdict of `mapped_accept`, over one kind of map. Where nothing else is expected, and there
-/// are more members than declared names, one of them is not declared.
-fn declared_accept<M: PropertiesValidatorsMap<N>, N: IsValid>(
-    properties: &M,
+/// required. Where nothing else is expected, and there are more members than declared names, one of
+/// them is not declared.
+fn declared_accept<N: IsValid>(
+    properties: &SortedEntries<N>,
     members: &Map<String, Value>,
     rest: Option<&N>,
     required: &Option<RequiredName>,
     ctx: &mut ValidationContext,
 ) -> Accepted
     ensures { AsksOne ctx.old ctx.new (both (names_mean N.means
-        (M.entries properties.now)
+        properties.now
         (option_copied rest.entry) (object_of members.now.entries)) (always (is_empty (missing
         (required_text required.now) (object_of members.now.entries))))) result }
 {
-    if rest.is_none() && members.len() > properties.entries().len() {
+    if rest.is_none() && members.len() > properties.len() {
         return Accepted::None;
     }
     match (rest, required) {
@@ -226,33 +207,33 @@ fn declared_accept<M: PropertiesValidatorsMap<N>, N: IsValid>(
 
 /// The verdict of `declared_accept` where something else is expected.
 #[inline(never)]
-fn declared_or_rest_accept<M: PropertiesValidatorsMap<N>, N: IsValid>(
-    properties: &M,
+fn declared_or_rest_accept<N: IsValid>(
+    properties: &SortedEntries<N>,
     members: &Map<String, Value>,
     rest: Option<&N>,
     required: &Option<RequiredName>,
     ctx: &mut ValidationContext,
 ) -> Accepted
     ensures { AsksOne ctx.old ctx.new (both (names_mean N.means
-        (M.entries properties.now)
+        properties.now
         (option_copied rest.entry) (object_of members.now.entries)) (always (is_empty (missing
         (required_text required.now) (object_of members.now.entries))))) result }
 {
     if !has_required(required, members) {
         return Accepted::None;
     }
-    Accepted::one_if(are_properties_valid(properties, members, rest, ctx))
+    Accepted::one_if(each_declared_or_rest(properties, members, rest, ctx))
 }
 
 /// Whether each member is declared, and accepted by what is declared at its name.
 #[inline(never)]
-fn each_declared<M: PropertiesValidatorsMap<N>, N: IsValid>(
-    properties: &M,
+fn each_declared<N: IsValid>(
+    properties: &SortedEntries<N>,
     members: &Map<String, Value>,
     ctx: &mut ValidationContext,
 ) -> Accepted
     ensures { AsksOne ctx.old ctx.new (names_mean N.means
-        (M.entries properties.now)
+        properties.now
         None (object_of members.now.entries)) result }
 {
     Accepted::one_if(each_declared_or_rest(properties, members, None, ctx))
@@ -261,14 +242,14 @@ fn each_declared<M: PropertiesValidatorsMap<N>, N: IsValid>(
 /// Whether each member is declared, and accepted by what is declared at its name, and there is a
 /// member at the required name.
 #[inline(never)]
-fn all_declared<M: PropertiesValidatorsMap<N>, N: IsValid>(
-    properties: &M,
+fn all_declared<N: IsValid>(
+    properties: &SortedEntries<N>,
     members: &Map<String, Value>,
     required: &str,
     ctx: &mut ValidationContext,
 ) -> Accepted
     ensures { AsksOne ctx.old ctx.new (both (names_mean N.means
-        (M.entries properties.now)
+        properties.now
         None (object_of members.now.entries)) (always (is_empty (missing
         (required.now ∷ []) (object_of members.now.entries))))) result }
 {
@@ -290,23 +271,23 @@ pub fn are_properties_valid<M: PropertiesValidatorsMap<N>, N: IsValid>(
         (M.entries properties.now)
         (option_copied additional.entry) (object_of members.now.entries)) result }
 {
-    each_declared_or_rest(properties, members, additional, ctx)
+    each_declared_or_rest(properties.entries(), members, additional, ctx)
 }
 
 /// The verdict of `are_properties_valid`; inlined, so that a walk for which nothing else is
 /// expected doesn't look for it.
 #[inline(always)]
-fn each_declared_or_rest<'a, M: PropertiesValidatorsMap<N>, N: IsValid>(
-    properties: &'a M,
+fn each_declared_or_rest<'a, N: IsValid>(
+    properties: &'a SortedEntries<N>,
     members: &Map<String, Value>,
     additional: Option<&'a N>,
     ctx: &mut ValidationContext,
 ) -> bool
     ensures { Asks ctx.old ctx.new (names_mean N.means
-        (M.entries properties.now)
+        properties.now
         (option_copied additional.entry) (object_of members.now.entries)) result }
 {
-    let entries = properties.entries().as_slice();
+    let entries = properties.as_slice();
     let mut hint = 0;
     for (name, value) in members {
         let (next, declared) = node_among(entries, hint, name.as_str());
@@ -339,20 +320,20 @@ fn is_accepted<N: IsValid>(
 /// member at the required name. Arrays and objects are asked last, as many as can be held back, and
 /// only where that name was met.
 #[inline(always)]
-fn each_declared_with<M: PropertiesValidatorsMap<N>, N: IsValid>(
-    properties: &M,
+fn each_declared_with<N: IsValid>(
+    properties: &SortedEntries<N>,
     members: &Map<String, Value>,
     required: &str,
     ctx: &mut ValidationContext,
 ) -> bool
     ensures { Asks ctx.old ctx.new (both (names_mean N.means
-        (M.entries properties.now)
+        properties.now
         None (object_of members.now.entries)) (always (is_empty (missing
         (required.now ∷ []) (object_of members.now.entries))))) result }
 {
     let mut met = false;
     let mut held: ArrayVec<Option<(&N, &Value)>, DEFERRED_MEMBERS> = ArrayVec::new();
-    let entries = properties.entries().as_slice();
+    let entries = properties.as_slice();
     let mut hint = 0;
     for (name, value) in members {
         let name = name.as_str();

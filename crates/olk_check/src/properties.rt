@@ -18,9 +18,8 @@ use crate::accepted::Accepted;
 use crate::required::{has_both, is_met, is_present};
 use olk_base::{Node, ValidationContext};
 use olk_meaning::member;
-use olk_tree::entries::node_among;
+use olk_tree::entries::{SortedEntries, node_among};
 use olk_tree::properties::{Properties, SmallPropertiesWithRequired2};
-use olk_tree::properties_map::PropertiesMap;
 use olk_tree::validators_map::PropertiesValidatorsMap;
 use serde_json::{Map, Value};
 
@@ -47,10 +46,7 @@ pub(crate) fn properties_accept<N: IsValid>(
         (properties_mean N.means (mapped keyword.now.properties) (data_of node.entry)) result }
 {
     match node.as_object() {
-        Some(members) => match &keyword.properties {
-            PropertiesMap::Small(map) => members_accepted(map, members, ctx),
-            PropertiesMap::Big(map) => members_accepted(map, members, ctx),
-        },
+        Some(members) => members_accepted(keyword.properties.entries(), members, ctx),
         None => Accepted::One,
     }
 }
@@ -69,10 +65,7 @@ pub(crate) fn properties_with_required_accept<N: IsValid>(
         (always (is_empty (missing (name.now ∷ []) (data_of node.entry)))) result }
 {
     match node.as_object() {
-        Some(members) => match &keyword.properties {
-            PropertiesMap::Small(map) => members_accepted_with(map, members, name, ctx),
-            PropertiesMap::Big(map) => members_accepted_with(map, members, name, ctx),
-        },
+        Some(members) => { members_accepted_with(keyword.properties.entries(), members, name, ctx) }
         None => Accepted::Two,
     }
 }
@@ -96,16 +89,16 @@ pub(crate) fn properties_with_required2_accept<N: IsValid>(
     }
 }
 
-/// Whether each member of an object is accepted whose name is declared in one kind of map; apart,
-/// so that the function that asks a keyword stays small.
+/// Whether each member of an object is accepted whose name is declared; apart, so that the function
+/// that asks a keyword stays small.
 #[inline(never)]
-fn members_accepted<M: PropertiesValidatorsMap<N>, N: IsValid>(
-    properties: &M,
+fn members_accepted<N: IsValid>(
+    properties: &SortedEntries<N>,
     members: &Map<String, Value>,
     ctx: &mut ValidationContext,
 ) -> Accepted
     ensures { AsksOne ctx.old ctx.new (properties_mean N.means
-        (M.entries properties.now)
+        properties.now
         (object_of members.now.entries)) result }
 {
     Accepted::one_if(all_accepted(properties, members, ctx))
@@ -114,14 +107,14 @@ fn members_accepted<M: PropertiesValidatorsMap<N>, N: IsValid>(
 /// Whether each member of an object is accepted whose name is declared, and whether there is a
 /// member at the name.
 #[inline(never)]
-fn members_accepted_with<M: PropertiesValidatorsMap<N>, N: IsValid>(
-    properties: &M,
+fn members_accepted_with<N: IsValid>(
+    properties: &SortedEntries<N>,
     members: &Map<String, Value>,
     name: &str,
     ctx: &mut ValidationContext,
 ) -> Accepted
     ensures { AsksTwo ctx.old ctx.new (properties_mean N.means
-        (M.entries properties.now)
+        properties.now
         (object_of members.now.entries))
         (always (is_empty (missing (name.now ∷ []) (object_of members.now.entries)))) result }
 {
@@ -143,22 +136,28 @@ fn members_accepted_with_both<N: IsValid>(
         (object_of members.now.entries))) result }
 {
     let (first, second) = (keyword.first.as_str(), keyword.second.as_str());
-    Accepted::one_if(all_accepted_with_both(&keyword.properties, members, first, second, ctx))
+    Accepted::one_if(all_accepted_with_both(
+        &keyword.properties.entries,
+        members,
+        first,
+        second,
+        ctx,
+    ))
 }
 
 /// Whether each member whose name is declared is accepted. A declared name that is looked up takes
 /// as long as two members that are walked.
 #[inline(always)]
-fn all_accepted<M: PropertiesValidatorsMap<N>, N: IsValid>(
-    properties: &M,
+fn all_accepted<N: IsValid>(
+    properties: &SortedEntries<N>,
     members: &Map<String, Value>,
     ctx: &mut ValidationContext,
 ) -> bool
     ensures { Asks ctx.old ctx.new (properties_mean N.means
-        (M.entries properties.now)
+        properties.now
         (object_of members.now.entries)) result }
 {
-    if members.len() / 2 < properties.entries().len() {
+    if members.len() / 2 < properties.len() {
         each_member_accepted(properties, members, ctx)
     } else {
         each_name_accepted(properties, members, ctx)
@@ -167,16 +166,16 @@ fn all_accepted<M: PropertiesValidatorsMap<N>, N: IsValid>(
 
 /// Whether each member is accepted by what is declared at its name, if anything is, member by
 /// member.
-fn each_member_accepted<M: PropertiesValidatorsMap<N>, N: IsValid>(
-    properties: &M,
+fn each_member_accepted<N: IsValid>(
+    properties: &SortedEntries<N>,
     members: &Map<String, Value>,
     ctx: &mut ValidationContext,
 ) -> bool
     ensures { Asks ctx.old ctx.new (every (λ x. every (λ n. N.means n x.1) (option_to_list
-        (lookup_name x.0 (M.entries properties.now))))
+        (lookup_name x.0 properties.now)))
         (listed (members_view members.now.entries))) result }
 {
-    let entries = properties.entries().as_slice();
+    let entries = properties.as_slice();
     let mut hint = 0;
     for (name, value) in members {
         let (next, declared) = node_among(entries, hint, name.as_str());
@@ -191,18 +190,18 @@ fn each_member_accepted<M: PropertiesValidatorsMap<N>, N: IsValid>(
 /// The verdict of `all_accepted`, and whether there is a member at the name, for which few members
 /// are walked once.
 #[inline(always)]
-fn all_accepted_with<M: PropertiesValidatorsMap<N>, N: IsValid>(
-    properties: &M,
+fn all_accepted_with<N: IsValid>(
+    properties: &SortedEntries<N>,
     members: &Map<String, Value>,
     name: &str,
     ctx: &mut ValidationContext,
 ) -> bool
     ensures { Asks ctx.old ctx.new (both
-        (properties_mean N.means (M.entries properties.now)
+        (properties_mean N.means properties.now
         (object_of members.now.entries))
         (always (is_empty (missing (name.now ∷ []) (object_of members.now.entries))))) result }
 {
-    if members.len() / 2 < properties.entries().len() {
+    if members.len() / 2 < properties.len() {
         each_member_accepted_with(properties, members, name, ctx)
     } else {
         is_present(members, name) && each_name_accepted(properties, members, ctx)
@@ -210,20 +209,20 @@ fn all_accepted_with<M: PropertiesValidatorsMap<N>, N: IsValid>(
 }
 
 /// The verdict of `each_member_accepted`, and whether there is a member at the name.
-fn each_member_accepted_with<M: PropertiesValidatorsMap<N>, N: IsValid>(
-    properties: &M,
+fn each_member_accepted_with<N: IsValid>(
+    properties: &SortedEntries<N>,
     members: &Map<String, Value>,
     required: &str,
     ctx: &mut ValidationContext,
 ) -> bool
     ensures { Asks ctx.old ctx.new (both
         (every (λ x. every (λ n. N.means n x.1) (option_to_list
-        (lookup_name x.0 (M.entries properties.now))))
+        (lookup_name x.0 properties.now)))
         (listed (members_view members.now.entries)))
         (always (is_empty (missing (required.now ∷ [])
         (object_of members.now.entries))))) result }
 {
-    let entries = properties.entries().as_slice();
+    let entries = properties.as_slice();
     let mut hint = 0;
     let mut met = false;
     for (name, value) in members {
@@ -241,8 +240,8 @@ fn each_member_accepted_with<M: PropertiesValidatorsMap<N>, N: IsValid>(
 /// The verdict of `all_accepted`, and whether there is a member at both names, for which few
 /// members are walked once.
 #[inline(always)]
-fn all_accepted_with_both<M: PropertiesValidatorsMap<N>, N: IsValid>(
-    properties: &M,
+fn all_accepted_with_both<N: IsValid>(
+    properties: &SortedEntries<N>,
     members: &Map<String, Value>,
     first: &str,
     second: &str,
@@ -251,10 +250,10 @@ fn all_accepted_with_both<M: PropertiesValidatorsMap<N>, N: IsValid>(
     ensures { Asks ctx.old ctx.new (both
         (always (is_empty (missing (first.now ∷ second.now ∷ [])
         (object_of members.now.entries))))
-        (properties_mean N.means (M.entries properties.now)
+        (properties_mean N.means properties.now
         (object_of members.now.entries))) result }
 {
-    if members.len() / 2 < properties.entries().len() {
+    if members.len() / 2 < properties.len() {
         each_member_accepted_with_both(properties, members, first, second, ctx)
     } else {
         has_both(members, first, second) && each_name_accepted(properties, members, ctx)
@@ -262,8 +261,8 @@ fn all_accepted_with_both<M: PropertiesValidatorsMap<N>, N: IsValid>(
 }
 
 /// The verdict of `each_member_accepted`, and whether there is a member at both names.
-fn each_member_accepted_with_both<M: PropertiesValidatorsMap<N>, N: IsValid>(
-    properties: &M,
+fn each_member_accepted_with_both<N: IsValid>(
+    properties: &SortedEntries<N>,
     members: &Map<String, Value>,
     first: &str,
     second: &str,
@@ -273,10 +272,10 @@ fn each_member_accepted_with_both<M: PropertiesValidatorsMap<N>, N: IsValid>(
         (always (is_empty (missing (first.now ∷ second.now ∷ [])
         (object_of members.now.entries))))
         (every (λ x. every (λ n. N.means n x.1) (option_to_list
-        (lookup_name x.0 (M.entries properties.now))))
+        (lookup_name x.0 properties.now)))
         (listed (members_view members.now.entries)))) result }
 {
-    let entries = properties.entries().as_slice();
+    let entries = properties.as_slice();
     let mut hint = 0;
     let (mut has_first, mut has_second) = (false, false);
     for (name, value) in members {
@@ -308,16 +307,16 @@ fn accepted_if_declared<N: IsValid>(
 }
 
 /// Whether each member whose name is declared is accepted, declared name by declared name.
-fn each_name_accepted<M: PropertiesValidatorsMap<N>, N: IsValid>(
-    properties: &M,
+fn each_name_accepted<N: IsValid>(
+    properties: &SortedEntries<N>,
     members: &Map<String, Value>,
     ctx: &mut ValidationContext,
 ) -> bool
     ensures { Asks ctx.old ctx.new (properties_mean N.means
-        (M.entries properties.now)
+        properties.now
         (object_of members.now.entries)) result }
 {
-    for entry in properties.entries().as_slice() {
+    for entry in properties.as_slice() {
         if !accepted_if_present(&entry.node, member(members, entry.name.as_str()), ctx) {
             return false;
         }

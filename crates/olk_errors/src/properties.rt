@@ -15,9 +15,9 @@ use crate::required::report_if_missing;
 use crate::{ErrorSink, Stop, Walk};
 use olk_base::{Node, ValidationContext};
 use olk_paths::Trail;
-use olk_tree::entries::node_among;
+use olk_tree::declared::DeclaredMembers;
+use olk_tree::entries::{SortedEntries, node_among};
 use olk_tree::properties::{Properties, SmallPropertiesWithRequired2};
-use olk_tree::properties_map::PropertiesMap;
 use olk_tree::validators_map::PropertiesValidatorsMap;
 use serde_json::{Map, Value};
 
@@ -31,10 +31,7 @@ impl<'a, N: Walk<'a>> Walk<'a> for Properties<N> {
         sink: &mut ErrorSink<'a>,
     ) -> Result<(), Stop> {
         match node.as_object() {
-            Some(members) => match &self.properties {
-                PropertiesMap::Small(map) => walk_members(map, members, trail, ctx, sink),
-                PropertiesMap::Big(map) => walk_members(map, members, trail, ctx, sink),
-            },
+            Some(members) => walk_members(self.properties.entries(), members, trail, ctx, sink),
             None => Ok(()),
         }
     }
@@ -54,7 +51,7 @@ impl<'a, N: Walk<'a>> Walk<'a> for SmallPropertiesWithRequired2<N> {
                 let location = &self.required_location;
                 report_if_missing(self.first.as_str(), location, members, node, trail, sink)?;
                 report_if_missing(self.second.as_str(), location, members, node, trail, sink)?;
-                walk_members(&self.properties, members, trail, ctx, sink)
+                walk_members(&self.properties.entries, members, trail, ctx, sink)
             }
             None => Ok(()),
         }
@@ -64,8 +61,8 @@ impl<'a, N: Walk<'a>> Walk<'a> for SmallPropertiesWithRequired2<N> {
 /// Walks over the members whose names are declared. A declared name that is looked up takes as long
 /// as two members that are walked.
 #[inline(always)]
-fn walk_members<'a, M: PropertiesValidatorsMap<N>, N: Walk<'a> + 'a>(
-    properties: &'a M,
+fn walk_members<'a, N: Walk<'a> + 'a>(
+    properties: &'a SortedEntries<N>,
     members: &'a Map<String, Value>,
     trail: &Trail<'_, 'a>,
     ctx: &mut ValidationContext,
@@ -73,15 +70,15 @@ fn walk_members<'a, M: PropertiesValidatorsMap<N>, N: Walk<'a> + 'a>(
 ) -> Result<(), Stop>
     ensures on { OnOk result (GoesOn sink.old sink.new
         (of_properties N.means N.first N.report ctx.old.answer
-        (M.entries properties.now)
+        properties.now
         (object_of members.now.entries) (path_at trail.now))) }
     ensures stop { IfErr result (λ s. StopsBy s sink.old sink.new (IsErrorOf
         (of_properties N.means N.first N.report ctx.old.answer
-        (M.entries properties.now)
+        properties.now
         (object_of members.now.entries) (path_at trail.now)))) }
     ensures context { OnlyAsks ctx.old ctx.new }
 {
-    if members.len() / 2 < properties.entries().len() {
+    if members.len() / 2 < properties.len() {
         walk_each_member(properties, members, trail, ctx, sink)
     } else {
         walk_each_name(properties, members, trail, ctx, sink)
@@ -90,8 +87,8 @@ fn walk_members<'a, M: PropertiesValidatorsMap<N>, N: Walk<'a> + 'a>(
 
 /// Walks over the members whose names are declared, member by member.
 #[inline(never)]
-fn walk_each_member<'a, M: PropertiesValidatorsMap<N>, N: Walk<'a> + 'a>(
-    properties: &'a M,
+fn walk_each_member<'a, N: Walk<'a> + 'a>(
+    properties: &'a SortedEntries<N>,
     members: &'a Map<String, Value>,
     trail: &Trail<'_, 'a>,
     ctx: &mut ValidationContext,
@@ -99,15 +96,15 @@ fn walk_each_member<'a, M: PropertiesValidatorsMap<N>, N: Walk<'a> + 'a>(
 ) -> Result<(), Stop>
     ensures on { OnOk result (GoesOn sink.old sink.new
         (of_declared N.means N.first N.report ctx.old.answer
-        (members_declared (M.entries properties.now)
+        (members_declared properties.now
         (listed (members_view members.now.entries))) (path_at trail.now))) }
     ensures stop { IfErr result (λ s. StopsBy s sink.old sink.new (IsErrorOf
         (of_declared N.means N.first N.report ctx.old.answer
-        (members_declared (M.entries properties.now)
+        (members_declared properties.now
         (listed (members_view members.now.entries))) (path_at trail.now)))) }
     ensures context { OnlyAsks ctx.old ctx.new }
 {
-    let entries = properties.entries().as_slice();
+    let entries = properties.as_slice();
     let mut hint = 0;
     for (name, value) in members {
         let name = name.as_str();
@@ -146,8 +143,8 @@ fn walk_if_declared<'a, N: Walk<'a>>(
 
 /// Walks over the members whose names are declared, declared name by declared name.
 #[inline(never)]
-fn walk_each_name<'a, M: PropertiesValidatorsMap<N>, N: Walk<'a> + 'a>(
-    properties: &'a M,
+fn walk_each_name<'a, N: Walk<'a> + 'a>(
+    properties: &'a SortedEntries<N>,
     members: &'a Map<String, Value>,
     trail: &Trail<'_, 'a>,
     ctx: &mut ValidationContext,
@@ -155,15 +152,15 @@ fn walk_each_name<'a, M: PropertiesValidatorsMap<N>, N: Walk<'a> + 'a>(
 ) -> Result<(), Stop>
     ensures on { OnOk result (GoesOn sink.old sink.new
         (of_properties N.means N.first N.report ctx.old.answer
-        (M.entries properties.now)
+        properties.now
         (object_of members.now.entries) (path_at trail.now))) }
     ensures stop { IfErr result (λ s. StopsBy s sink.old sink.new (IsErrorOf
         (of_properties N.means N.first N.report ctx.old.answer
-        (M.entries properties.now)
+        properties.now
         (object_of members.now.entries) (path_at trail.now)))) }
     ensures context { OnlyAsks ctx.old ctx.new }
 {
-    for (name, subschema, value) in properties.declared_members(members) {
+    for (name, subschema, value) in DeclaredMembers::of(properties, members) {
         walk_below(subschema, name, value, trail, ctx, sink)?;
     }
     Ok(())

@@ -17,6 +17,8 @@ use crate::walk::add_child;
 use olk_base::{Node, ValidationContext};
 use olk_paths::InstancePath;
 use olk_reports::{EvaluationNode, EvaluationResult};
+use olk_tree::declared::DeclaredMembers;
+use olk_tree::entries::SortedEntries;
 use olk_tree::properties::{Properties, SmallPropertiesWithRequired2};
 use olk_tree::validators_map::PropertiesValidatorsMap;
 use serde_json::{Map, Value};
@@ -41,7 +43,7 @@ impl<'a, N: Show<'a>> Show<'a> for Properties<N> {
     ) -> Result<(), AllocError> {
         match node.as_object() {
             Some(members) => {
-                let met = meet(alloc, &self.properties, members, path, ctx)?;
+                let met = meet(alloc, self.properties.entries(), members, path, ctx)?;
                 met.show(outcome);
                 Ok(())
             }
@@ -69,7 +71,7 @@ impl<'a, N: Show<'a>> Show<'a> for SmallPropertiesWithRequired2<N> {
     ) -> Result<(), AllocError> {
         match node.as_object() {
             Some(members) => {
-                let mut met = meet(alloc, &self.properties, members, path, ctx)?;
+                let mut met = meet(alloc, &self.properties.entries, members, path, ctx)?;
                 add_missing_child(alloc, self, members, node, path, &mut met.children)?;
                 met.show(outcome);
                 Ok(())
@@ -116,25 +118,25 @@ impl<'a> Met<'a> {
 }
 
 /// The members that are declared, in the order of their names.
-fn meet<'a, M: PropertiesValidatorsMap<N>, N: Show<'a> + 'a>(
+fn meet<'a, N: Show<'a> + 'a>(
     alloc: Global,
-    properties: &'a M,
+    properties: &'a SortedEntries<N>,
     members: &'a Map<String, Value>,
     path: &mut InstancePath,
     ctx: &mut ValidationContext,
 ) -> Result<Met<'a>, AllocError>
     ensures shown { IfOk result (λ m. HasMet (wanted_at N.tree N.means ctx.old.answer path.old)
-        (members_declared (M.entries properties.now)
+        (members_declared properties.now
         (listed (members_view members.now.entries))) m) }
     ensures verdict { IfOk result (λ m. list_all is_valid (trees_of m.children.items)
-        ≡ (properties_mean N.means (M.entries properties.now)
+        ≡ (properties_mean N.means properties.now
         (object_of members.now.entries)).accepts ctx.old.answer) }
     ensures path { path.new ≡ path.old }
     ensures context { OnlyAsks ctx.old ctx.new }
 {
-    let most = members.len().min(properties.entries().len());
+    let most = members.len().min(properties.len());
     let mut met: Met<'a> = Met::with_capacity(alloc, most)?;
-    for (name, subschema, value) in properties.declared_members(members) {
+    for (name, subschema, value) in DeclaredMembers::of(properties, members) {
         meet_member(alloc, subschema, name, value, path, ctx, &mut met)?;
     }
     Ok(met)

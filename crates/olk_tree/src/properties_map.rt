@@ -18,6 +18,7 @@ impl<N> PropertiesValidatorsMap<N> for PropertiesMap<N> {
 
     ghost entries = { mapped };
 
+    #[inline(always)]
     fn entries(&self) -> &SortedEntries<N> {
         match self {
             PropertiesMap::Small(map) => &map.entries,

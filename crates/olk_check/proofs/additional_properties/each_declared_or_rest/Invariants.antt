@@ -9,5 +9,5 @@ use Rattle.olk_check.proofs.additional_properties.each_declared_or_rest.Given as
 abbrev pub invariant-loop-name : goal.invariant-loop-name
 invariant-loop-name g l =
     AllLeft (λ x. declared_or_rest g.N.Means.means (option_copied l.additional) x.1
-    (lookup_name x.0 (g.M.PropertiesValidatorsMap.entries l.properties)))
+    (lookup_name x.0 l.properties))
     (listed (members_view l.members.entries)) (listed (members_view l.name-iterator)) l.initial.ctx l.ctx

@@ -10,6 +10,6 @@ use Rattle.olk_check.proofs.additional_properties.each_declared_with.Given as go
 abbrev pub invariant-loop-name : goal.invariant-loop-name
 invariant-loop-name g l =
     LeftAndHeld (λ x. declared_or_rest g.N.Means.means None x.1 (lookup_name x.0
-    (g.M.PropertiesValidatorsMap.entries l.properties))) (held_means g.N.Means.means)
+    l.properties)) (held_means g.N.Means.means)
     (listed (members_view l.members.entries)) (listed (members_view l.name-iterator)) l.held.items l.initial.ctx l.ctx
     × Sought l.required (listed (members_view l.members.entries)) (listed (members_view l.name-iterator)) l.met

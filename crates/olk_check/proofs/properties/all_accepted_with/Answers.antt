@@ -2,9 +2,7 @@ use Rattle.std.proofs.Common.{[], ◌∷◌, sym, subst, ◌∙◌}
 use Rattle.serde_json.specs.View.{members_view}
 use Rattle.olk_spec.specs.Names.{is_empty}
 use Rattle.olk_spec.specs.Accepts.{missing}
-use Rattle.olk_tree.specs.Maps.{keys_in}
 use Rattle.olk_tree.specs.Properties.{properties_mean}
-use Rattle.olk_tree.specs.Ascending.{Ascend}
 use Rattle.olk_tree.specs.Questions.{always, both}
 use Rattle.olk_tree.specs.Visited.{object_of}
 use Rattle.olk_tree.proofs.Members_met.{means_of_members}
@@ -16,11 +14,10 @@ use Rattle.olk_check.proofs.properties.all_accepted_with.Goals as goal
 
 pub returns-then-len : goal.returns-then-len
 returns-then-len g c =
-    let declared = g.M.PropertiesValidatorsMap.entries c.args.properties.now in
-    let ascend = subst (λ es. Ascend (keys_in es)) c.entries.ensures c.len-2.ensures.ordered in
+    let declared = c.args.properties.now in
     subst (λ q. Asks c.args.ctx.now c.each_member_accepted_with.new.ctx
     (both q (always (is_empty (missing (c.args.name.now ∷ []) (object_of c.args.members.now.entries))))) c.each_member_accepted_with.result)
-    (means_of_members (members_view c.args.members.now.entries) g.N.Means.means declared (walks_agree declared c.args.members.now.entries ascend c.len.ensures.ordered))
+    (means_of_members (members_view c.args.members.now.entries) g.N.Means.means declared (walks_agree declared c.args.members.now.entries c.len-2.ensures.ordered c.len.ensures.ordered))
     c.each_member_accepted_with.ensures
 
 pub returns-then-is_present : goal.returns-then-is_present
@@ -29,7 +26,7 @@ returns-then-is_present g c = both_where c.each_name_accepted.ensures (sym (one_
 pub returns-else-is_present : goal.returns-else-is_present
 returns-else-is_present g c =
     subst (λ r. Asks c.args.ctx.now c.args.ctx.now (both (properties_mean g.N.Means.means
-    (g.M.PropertiesValidatorsMap.entries c.args.properties.now) (object_of c.args.members.now.entries))
+    c.args.properties.now (object_of c.args.members.now.entries))
     (always (is_empty (missing (c.args.name.now ∷ []) (object_of c.args.members.now.entries))))) r)
     (sym c.if-is_present.false)
-    (refused_where c.args.ctx.now (properties_mean g.N.Means.means (g.M.PropertiesValidatorsMap.entries c.args.properties.now) (object_of c.args.members.now.entries)) (sym (one_met c.args.name.now c.is_present.ensures) ∙ c.if-is_present.false))
+    (refused_where c.args.ctx.now (properties_mean g.N.Means.means c.args.properties.now (object_of c.args.members.now.entries)) (sym (one_met c.args.name.now c.is_present.ensures) ∙ c.if-is_present.false))

@@ -2,8 +2,6 @@ use Rattle.std.proofs.Common.{[], ◌∷◌, subst}
 use Rattle.serde_json.specs.View.{members_view}
 use Rattle.olk_spec.specs.Names.{is_empty}
 use Rattle.olk_spec.specs.Accepts.{missing}
-use Rattle.olk_tree.specs.Maps.{keys_in}
-use Rattle.olk_tree.specs.Ascending.{Ascend}
 use Rattle.olk_tree.specs.Questions.{always, both}
 use Rattle.olk_tree.specs.Visited.{object_of}
 use Rattle.olk_tree.proofs.Members_met.{means_of_members}
@@ -13,9 +11,8 @@ use Rattle.olk_check.proofs.properties.all_accepted_with_both.Goals as goal
 
 pub returns-then-len : goal.returns-then-len
 returns-then-len g c =
-    let declared = g.M.PropertiesValidatorsMap.entries c.args.properties.now in
-    let ascend = subst (λ es. Ascend (keys_in es)) c.entries.ensures c.len-2.ensures.ordered in
+    let declared = c.args.properties.now in
     subst (λ q. Asks c.args.ctx.now c.each_member_accepted_with_both.new.ctx
     (both (always (is_empty (missing (c.args.first.now ∷ c.args.second.now ∷ []) (object_of c.args.members.now.entries)))) q) c.each_member_accepted_with_both.result)
-    (means_of_members (members_view c.args.members.now.entries) g.N.Means.means declared (walks_agree declared c.args.members.now.entries ascend c.len.ensures.ordered))
+    (means_of_members (members_view c.args.members.now.entries) g.N.Means.means declared (walks_agree declared c.args.members.now.entries c.len-2.ensures.ordered c.len.ensures.ordered))
     c.each_member_accepted_with_both.ensures

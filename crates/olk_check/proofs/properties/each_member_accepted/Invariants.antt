@@ -9,5 +9,5 @@ use Rattle.olk_check.proofs.properties.each_member_accepted.Given as goal
 abbrev pub invariant-loop-name : goal.invariant-loop-name
 invariant-loop-name g l =
     AllLeft (λ x. every (λ n. g.N.Means.means n x.1) (option_to_list (lookup_name x.0
-    (g.M.PropertiesValidatorsMap.entries l.properties)))) (listed (members_view l.members.entries))
+    l.properties))) (listed (members_view l.members.entries))
     (listed (members_view l.name-iterator)) l.initial.ctx l.ctx

@@ -15,14 +15,14 @@ use Rattle.olk_check.proofs.properties.each_member_accepted_with_both.Goals as g
 pub returns-then-not-accepted_if_declared : goal.returns-then-not-accepted_if_declared
 returns-then-not-accepted_if_declared g c = condition_and_refused (is_empty (missing (c.args.first.now ∷ c.args.second.now ∷ []) (object_of c.args.members.now.entries)))
     (all_stop c.loop-name.invariant.0 (name_next c.in-Some.ensures.steps c.as_str-name.ensures.value)
-    (subst (λ o. Asks c.loop-name.ctx c.accepted_if_declared.new.ctx (every (λ n. g.N.Means.means n (view c.in-Some.value.now)) (option_to_list o)) false) (c.node_among-next.ensures ∙ ap (lookup_name c.as_str-name.result.now) (c.as_slice-entries.ensures.entries ∙ c.entries.ensures)) c.if-not-accepted_if_declared.ensures))
+    (subst (λ o. Asks c.loop-name.ctx c.accepted_if_declared.new.ctx (every (λ n. g.N.Means.means n (view c.in-Some.value.now)) (option_to_list o)) false) (c.node_among-next.ensures ∙ ap (lookup_name c.as_str-name.result.now) c.as_slice-entries.ensures.entries) c.if-not-accepted_if_declared.ensures))
 
 pub loop-name-preserved : goal.loop-name-preserved
 loop-name-preserved g c =
     let next = name_next c.in-Some.ensures.steps c.as_str-name.ensures.value in (
       all_go_on c.loop-name.invariant.0 next
           (subst (λ o. Asks c.loop-name.ctx c.accepted_if_declared.new.ctx
-          (every (λ n. g.N.Means.means n (view c.in-Some.value.now)) (option_to_list o)) true) (c.node_among-next.ensures ∙ ap (lookup_name c.as_str-name.result.now) (c.as_slice-entries.ensures.entries ∙ c.entries.ensures)) c.if-not-accepted_if_declared.ensures),
+          (every (λ n. g.N.Means.means n (view c.in-Some.value.now)) (option_to_list o)) true) (c.node_among-next.ensures ∙ ap (lookup_name c.as_str-name.result.now) c.as_slice-entries.ensures.entries) c.if-not-accepted_if_declared.ensures),
       sought_on _ c.loop-name.invariant.1 next c.is_met-has_first.ensures,
       sought_on _ c.loop-name.invariant.2 next c.is_met-has_second.ensures,
     )

@@ -10,7 +10,7 @@ use Rattle.olk_check.proofs.properties.each_member_accepted_with_both.Given as g
 abbrev pub invariant-loop-name : goal.invariant-loop-name
 invariant-loop-name g l =
     AllLeft (λ x. every (λ n. g.N.Means.means n x.1) (option_to_list (lookup_name x.0
-    (g.M.PropertiesValidatorsMap.entries l.properties)))) (listed (members_view l.members.entries))
+    l.properties))) (listed (members_view l.members.entries))
     (listed (members_view l.name-iterator)) l.initial.ctx l.ctx
     × Sought l.first (listed (members_view l.members.entries)) (listed (members_view l.name-iterator)) l.has_first
     × Sought l.second (listed (members_view l.members.entries)) (listed (members_view l.name-iterator)) l.has_second

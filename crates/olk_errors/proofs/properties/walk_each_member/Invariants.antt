@@ -6,5 +6,5 @@ use Rattle.olk_errors.proofs.properties.walk_each_member.Given as goal
 
 abbrev pub invariant-loop-name : goal.invariant-loop-name
 invariant-loop-name g l = WalkingDeclared g.N.Means.means g.N.Reports.first g.N.Reports.report (path_at l.trail)
-    (g.M.PropertiesValidatorsMap.entries l.properties)
+    l.properties
     (listed (members_view l.members.entries)) (listed (members_view l.name-iterator)) l.initial.sink l.sink l.initial.ctx l.ctx

@@ -16,10 +16,10 @@ returns-in_err-walk_below-clause-context g c = only_then c.loop-name.invariant.o
 
 pub returns-in_err-walk_below-clause-stop : goal.returns-in_err-walk_below-clause-stop
 returns-in_err-walk_below-clause-stop g c =
-    let whole = outcome_of_walk g.N.Means.means g.N.Reports.first g.N.Reports.report c.args.ctx.now.answer (g.M.PropertiesValidatorsMap.entries c.args.properties.now) (path_at c.args.trail.now) (members_view c.args.members.now.entries) c.into_iter-name-iterator.ensures.into_iter_gives c.declared_members-name-items.ensures.by_names in
+    let whole = outcome_of_walk g.N.Means.means g.N.Reports.first g.N.Reports.report c.args.ctx.now.answer c.args.properties.now (path_at c.args.trail.now) (members_view c.args.members.now.entries) c.into_iter-name-iterator.ensures.into_iter_gives c.of-name-items.ensures.by_names in
     left_by c.from_residual.result _ _ c.from_residual.ensures.1 c.in_err-walk_below.ensures.stop (λ h. stops_same whole (walking_stop c.loop-name.invariant c.in-Some.ensures.steps h))
 
 pub returns-clause-on : goal.returns-clause-on
 returns-clause-on g c =
-    let whole = outcome_of_walk g.N.Means.means g.N.Reports.first g.N.Reports.report c.args.ctx.now.answer (g.M.PropertiesValidatorsMap.entries c.args.properties.now) (path_at c.args.trail.now) (members_view c.args.members.now.entries) c.into_iter-name-iterator.ensures.into_iter_gives c.declared_members-name-items.ensures.by_names in
+    let whole = outcome_of_walk g.N.Means.means g.N.Reports.first g.N.Reports.report c.args.ctx.now.answer c.args.properties.now (path_at c.args.trail.now) (members_view c.args.members.now.entries) c.into_iter-name-iterator.ensures.into_iter_gives c.of-name-items.ensures.by_names in
     goes_same whole (walking_end c.loop-name.invariant c.in-None.ensures.steps)

@@ -28,10 +28,10 @@ returns-in_err-meet_member g c = record {
 pub returns : goal.returns
 returns g c = record {
   shown = subst (λ ds. HasMet (wanted_at g.N.Show.tree g.N.Means.means c.args.ctx.now.answer c.args.path.now) ds c.loop-name.met)
-      (ap left_of c.into_iter-name-iterator.ensures.into_iter_gives ∙ c.declared_members-name-items.ensures.by_members)
+      (ap left_of c.into_iter-name-iterator.ensures.into_iter_gives ∙ c.of-name-items.ensures.by_members)
       (met_end c.loop-name.invariant.met c.in-None.ensures.steps);
   verdict = met_verdict g.N.Show.tree g.N.Means.means c.args.ctx.now.answer c.args.path.now (met_end c.loop-name.invariant.met c.in-None.ensures.steps)
-      (means_of_walk (members_view c.args.members.now.entries) (g.M.PropertiesValidatorsMap.entries c.args.properties.now) c.into_iter-name-iterator.ensures.into_iter_gives c.declared_members-name-items.ensures.by_names g.N.Means.means);
+      (means_of_walk (members_view c.args.members.now.entries) c.args.properties.now c.into_iter-name-iterator.ensures.into_iter_gives c.of-name-items.ensures.by_names g.N.Means.means);
   path = c.loop-name.invariant.path;
   context = c.loop-name.invariant.context;
 }
