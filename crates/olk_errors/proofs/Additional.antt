@@ -1,6 +1,5 @@
 -- What is asked of a member beside `additionalProperties`, node by node.
-use Rattle.std.proofs.Common.{◌≡◌, ℕ, ◌+◌, Bool, true, false, not, ◌&&◌, ◌||◌, cond, List, [], ◌∷◌, ◌++◌, drop, Option, is_none, is_some, option_to_list, refl, sym, ap, subst, ◌∙◌}
-use mathlib.Core.Path.{subst₂}
+use Rattle.std.proofs.Common.{◌≡◌, ℕ, ◌+◌, Bool, true, false, not, ◌&&◌, ◌||◌, cond, List, [], ◌∷◌, ◌++◌, drop, Option, is_none, is_some, option_to_list, refl, sym, ap, subst, ◌∙◌, Result, Ok}
 use Rattle.std.proofs.lemmas.List.{append-nil}
 use Rattle.std.proofs.Math.Bool.{and-false, and-true}
 use Rattle.serde_json.specs.Data.{Data}
@@ -14,15 +13,14 @@ use Rattle.olk_tree.specs.Questions.{Question, said_to}
 use Rattle.olk_tree.specs.Additional.{Sides, known_at, known_or, known_or_asked, is_matched_by, matching_from, sides_of}
 use Rattle.olk_tree.specs.declared.additional_properties.AdditionalProperties.{AdditionalProperties}
 use Rattle.olk_tree.specs.AdditionalAgreement.{match_is_said}
-use Rattle.olk_check.specs.Asks.{OnlyAsks}
-use Rattle.olk_check.proofs.Asked.{only_same}
-use Rattle.olk_errors.specs.Found.{Outcome, IsErrorOf}
+use Rattle.olk_errors.specs.Found.{Outcome}
 use Rattle.olk_errors.specs.Outcomes.{of_node, of_branches, declared_nodes, unspoken_from, asked_from, asked_at, unexpected_at, if_matched}
-use Rattle.olk_errors.specs.Sinks.{GoesOn, StopsBy}
+use Rattle.olk_errors.specs.Sinks.{Walks}
 use Rattle.olk_errors.specs.declared.sink.ErrorSink.{ErrorSink}
 use Rattle.olk_errors.specs.declared.sink.Stop.{Stop}
-use Rattle.olk_errors.proofs.Sinks.{unasked, goes_nowhere, goes_after, stops_before, Walking, walking_start, walking_end}
-use Rattle.olk_errors.proofs.Several.{walking_each, walking_each_stop}
+use Rattle.olk_errors.proofs.Sinks.{Turns, turns_on, Walking, walking_start, walking_end, last_turn}
+use Rattle.olk_errors.proofs.Several.{several_turn}
+use Rattle.olk_errors.proofs.Due.{one_branch}
 
 -- a member, and what its nodes answer
 pub record Asked (R N : Type 0) : Type 0 where
@@ -136,49 +134,37 @@ module _ {R N : Type 0} (w : Asked R N) where
     pub walking : Walking asks_at (first_at Q) (report_at Q) (asked a.answer) (asked_left a.answer spoken i) old new a b
     pub so_far : alone a.answer ≡ alone_left a.answer spoken i
 
-  pub declared_stops : (Q : Path) (a : Asking) {old new : ErrorSink} {t : Stop} → StopsBy t old new (IsErrorOf (outcome a.answer Q (declared_nodes w.declared)))
-      → StopsBy t old new (IsErrorOf (outcome a.answer Q (asked a.answer)))
-  declared_stops Q a h = walking_each_stop {q = asks_at} {s = first_at Q} {f = report_at Q} {a = a} walking_start (declared_nodes w.declared) (asked_left a.answer (is_some w.declared) 0) refl h
+  abbrev whole : Bool → Path → Outcome
+  whole u Q = outcome u Q (asked u)
 
-  module _ {Q : Path} {a : Asking} {old : ErrorSink} where
-    pub declared_goes : {spoken : Bool} {new : ErrorSink} {b : Asking} → spoken ≡ is_some w.declared → GoesOn old new (outcome a.answer Q (declared_nodes w.declared)) → OnlyAsks a b
-        → WalkingMember Q spoken 0 old new a b
-    declared_goes {new = new} {b = b} e on only = subst (λ s. WalkingMember Q s 0 old new a b) (sym e)
-        (record { walking = walking_each walking_start (declared_nodes w.declared) (asked_left a.answer (is_some w.declared) 0) refl on only; so_far = refl })
+  pub named_turn : (Q : Path) {a b : Asking} {old new : ErrorSink} {spoken : Bool} {T : Type 0} {r : Result T Stop} → spoken ≡ is_some w.declared
+      → Walks r old new a b (outcome a.answer Q (declared_nodes w.declared)) → Turns r (WalkingMember Q spoken 0 old new a b) (Walks r old new a b (whole a.answer Q))
+  named_turn Q {a} {b} {old} {new} {r = r} e h = turns_on r _ _ _ (λ walking. subst (λ s. WalkingMember Q s 0 old new a b) (sym e) (record { walking = walking; so_far = refl }))
+      (several_turn {q = asks_at} {s = first_at Q} {f = report_at Q} walking_start (declared_nodes w.declared) (asked_left a.answer (is_some w.declared) 0) refl h)
 
-    module _ {spoken : Bool} {i : ℕ} {new : ErrorSink} {b : Asking} (loop : WalkingMember Q spoken i old new a b) where
-      module _ {e : CompiledPattern R × N} (here : drop i w.sides.patterns ≡ e ∷ drop (i + 1) w.sides.patterns) {known : Says} (is : known ≡ known_at w.sides w.declared i) where
-        pub pattern_goes : {m : Bool} {newer : ErrorSink} {c : Asking} → m ≡ reads_as b.answer (known_or known (pattern_answers w.answers e.0 w.name))
-            → GoesOn new newer (outcome b.answer Q (if_matched w.answers b.answer known e.0 e.1 w.name)) → OnlyAsks b c → WalkingMember Q (spoken || m) (i + 1) old newer a c
-        pattern_goes {m} told on only = record {
-          walking = walking_each loop.walking (if_matched w.answers b.answer known e.0 e.1 w.name) (asked_left a.answer (spoken || m) (i + 1))
-              (asked_here a.answer spoken i here is loop.walking.only.answer told) on only;
-          so_far = loop.so_far ∙ alone_here a.answer spoken i here is loop.walking.only.answer told;
-        }
+  module _ {Q : Path} {a : Asking} {old : ErrorSink} {spoken : Bool} {i : ℕ} {new : ErrorSink} {b : Asking} (loop : WalkingMember Q spoken i old new a b) where
+    pub pattern_turn : {e : CompiledPattern R × N} → drop i w.sides.patterns ≡ e ∷ drop (i + 1) w.sides.patterns → {known : Says} → known ≡ known_at w.sides w.declared i
+        → {m : Bool} → m ≡ reads_as b.answer (known_or known (pattern_answers w.answers e.0 w.name)) → {newer : ErrorSink} {c : Asking} {T : Type 0} {r : Result T Stop}
+        → Walks r new newer b c (outcome b.answer Q (if_matched w.answers b.answer known e.0 e.1 w.name))
+        → Turns r (WalkingMember Q (spoken || m) (i + 1) old newer a c) (Walks r old newer a c (whole a.answer Q))
+    pattern_turn {e} here {known} is {m} told {r = r} h = turns_on r _ _ _
+        (λ walking. record { walking = walking; so_far = loop.so_far ∙ alone_here a.answer spoken i here is loop.walking.only.answer told })
+        (several_turn loop.walking (if_matched w.answers b.answer known e.0 e.1 w.name) (asked_left a.answer (spoken || m) (i + 1))
+        (asked_here a.answer spoken i here is loop.walking.only.answer told) h)
 
-        pub pattern_stops : {newer : ErrorSink} {t : Stop} → StopsBy t new newer (IsErrorOf (outcome b.answer Q (if_matched w.answers b.answer known e.0 e.1 w.name)))
-            → StopsBy t old newer (IsErrorOf (outcome a.answer Q (asked a.answer)))
-        pattern_stops h = walking_each_stop loop.walking (if_matched w.answers b.answer known e.0 e.1 w.name)
-            (asked_left a.answer (spoken || reads_as b.answer (known_or known (pattern_answers w.answers e.0 w.name))) (i + 1))
-            (asked_here a.answer spoken i here is loop.walking.only.answer refl) h
+    module _ (none : drop i w.sides.patterns ≡ []) where
+      pub spoken_expected : spoken ≡ true → false ≡ unexpected a.answer
+      spoken_expected e = expected a.answer spoken i none loop.so_far e
 
-      module _ (none : drop i w.sides.patterns ≡ []) where
-        pub spoken_expected : spoken ≡ true → false ≡ unexpected a.answer
-        spoken_expected e = expected a.answer spoken i none loop.so_far e
+      pub rest_unexpected : {m : Bool} → spoken ≡ false → m ≡ is_none w.sides.rest → m ≡ unexpected a.answer
+      rest_unexpected e is = left_to_rest a.answer spoken i none loop.so_far e is
 
-        pub rest_unexpected : {m : Bool} → spoken ≡ false → m ≡ is_none w.sides.rest → m ≡ unexpected a.answer
-        rest_unexpected e is = left_to_rest a.answer spoken i none loop.so_far e is
+      pub spoken_end : {T : Type 0} {y : T} → spoken ≡ true → Walks (Ok y) old new a b (whole a.answer Q)
+      spoken_end e = walking_end loop.walking (none_left a.answer spoken i none e)
 
-        pub spoken_goes : spoken ≡ true → GoesOn old new (outcome a.answer Q (asked a.answer))
-        spoken_goes e = walking_end loop.walking (none_left a.answer spoken i none e)
-
-        module _ (e : spoken ≡ false) where
-          pub rest_goes : {newer : ErrorSink} → GoesOn new newer (outcome b.answer Q (option_to_list w.sides.rest)) → GoesOn old newer (outcome a.answer Q (asked a.answer))
-          rest_goes on = walking_end (walking_each loop.walking (option_to_list w.sides.rest) [] (rest_left a.answer spoken i none e) on (only_same b)) refl
-
-          pub rest_stops : {newer : ErrorSink} {t : Stop} → StopsBy t new newer (IsErrorOf (outcome b.answer Q (option_to_list w.sides.rest)))
-              → StopsBy t old newer (IsErrorOf (outcome a.answer Q (asked a.answer)))
-          rest_stops h = walking_each_stop loop.walking (option_to_list w.sides.rest) [] (rest_left a.answer spoken i none e) h
+      pub rest_end : {newer : ErrorSink} {c : Asking} {T : Type 0} {r : Result T Stop} → spoken ≡ false → Walks r new newer b c (outcome b.answer Q (option_to_list w.sides.rest))
+          → Walks r old newer a c (whole a.answer Q)
+      rest_end {r = r} e h = last_turn asks_at (first_at Q) (report_at Q) (asked a.answer) r (several_turn loop.walking (option_to_list w.sides.rest) [] (rest_left a.answer spoken i none e) h)
 
 -- ---- of a single node
 
@@ -188,9 +174,5 @@ pub if_matched_is : {N : Type 0} (u costs : Bool) (known s : Says) (n : N) {b : 
 if_matched_is u costs known s n told = ap (λ b. put_if b n []) (sym (told ∙ match_is_said u costs known s))
 
 module _ {N : Type 0} (m : N → Data → Question) (s r : N → Bool → Data → Path → List Fault) (v : Data) (Q : Path) {ns : List N} where
-  module _ {t u : Bool} (same : t ≡ u) {n : N} (one : ns ≡ n ∷ []) {old new : ErrorSink} where
-    pub one_goes : GoesOn old new (of_node m s r t n v Q) → GoesOn old new (of_branches m s r u ns v Q)
-    one_goes on = subst₂ (λ a l. GoesOn old new (of_branches m s r a l v Q)) same (sym one) (goes_after on (goes_nowhere new))
-
-    pub one_stops : {x : Stop} → StopsBy x old new (IsErrorOf (of_node m s r t n v Q)) → StopsBy x old new (IsErrorOf (of_branches m s r u ns v Q))
-    one_stops {x} h = subst₂ (λ a l. StopsBy x old new (IsErrorOf (of_branches m s r a l v Q))) same (sym one) (stops_before unasked h)
+  pub one_alone : {t u : Bool} → t ≡ u → {n : N} → ns ≡ n ∷ [] → of_node m s r t n v Q ≡ of_branches m s r u ns v Q
+  one_alone {t} {u} same {n} one = one_branch m s r t v Q n ∙ (λ i. of_branches m s r (same i) (sym one i) v Q)

@@ -1,9 +1,10 @@
 -- What asking the members comes to beside `additionalProperties`, and then the name that is wanted.
-use Rattle.std.proofs.Common.{◌≡◌, ℕ, Bool, true, false, true≢false, not, ◌&&◌, cond, List, [], ◌∷◌, ◌++◌, map, Option, Some, None, is_none, is_some, option_to_list, string_bytes, refl, sym, ap, subst, ◌∙◌}
+use Rattle.std.proofs.Common.{◌≡◌, ℕ, Bool, true, false, true≢false, not, ◌&&◌, cond, List, [], ◌∷◌, ◌++◌, map, Option, Some, None, is_none, is_some, option_to_list, string_bytes, refl, sym, ap, subst, ◌∙◌, inr, Result, Ok, Err}
 use mathlib.Core.Path.{subst₂}
 use Rattle.std.proofs.Math.Bool.{and_assoc}
 use Rattle.std.proofs.lemmas.List.{append_assoc, append-nil, map-append}
 use Rattle.std.specs.List.{flat_map, Contains}
+use Rattle.std.specs.Result.{IsErr}
 use Rattle.std.proofs.lemmas.List.Elements.{Contains-append_right}
 use Rattle.serde_json.specs.Data.{Data}
 use Rattle.serde_json.specs.Find.{as_object}
@@ -27,12 +28,12 @@ use Rattle.olk_check.specs.Asks.{OnlyAsks}
 use Rattle.olk_check.proofs.Asked.{only_same, only_then}
 use Rattle.olk_errors.specs.Found.{Outcome, Passes, IsErrorOf}
 use Rattle.olk_errors.specs.Outcomes.{of_branches, declared_nodes, unspoken_from, asked_at, unexpected_at, of_unexpected, of_asked_members, of_names}
-use Rattle.olk_errors.specs.Sinks.{wants_one, GoesOn, StopsBy}
+use Rattle.olk_errors.specs.Sinks.{wants_one, GoesOn, Stopped, Ends, EndsAlone, Walks}
 use Rattle.olk_errors.specs.declared.sink.ErrorSink.{ErrorSink}
 use Rattle.olk_errors.specs.declared.sink.Stop.{Stop}
 use Rattle.olk_errors.proofs.Missing.{one_first, other_lacks_none, other_lacks_nothing}
-use Rattle.olk_errors.proofs.Sinks.{after, contains_first, pass_both, goes_past, goes_after, goes_same, stops_then, goes_passing, stops_after, stops_before, stops_same}
-use Rattle.olk_errors.proofs.Several.{goes_either, stops_where}
+use Rattle.olk_errors.proofs.Sinks.{after, contains_first, pass_both, goes_after, goes_same, goes_keeping, goes_passing, stopped_where, stopped_same, stopped_before, stopped_after, ends_left, ends_past, ends_through}
+use Rattle.olk_errors.proofs.Several.{goes_either}
 use Rattle.olk_errors.proofs.Unexpected.{told_of_one, kept_of_first}
 
 not_some : {A : Type 0} (o : Option A) → not (is_some o) ≡ is_none o
@@ -65,9 +66,8 @@ module _ {R N : Type 0} (answers : R → Name → Says) (u : Bool) (S : Sides R 
 
 -- ---- the name that is wanted
 
-pub nothing_wanted : (v : Data) (Q : Path) (k : ErrorSink) (name : Option RequiredName) → name ≡ None → GoesOn k k (of_names (required_text name) v (required_place name) Q)
-nothing_wanted v Q k None e = goes_past k (record { verdict = refl; nothing = refl }) refl
-nothing_wanted v Q k (Some x) e = cc
+pub nothing_wanted : (v : Data) (Q : Path) {T : Type 0} {y : T} {k : ErrorSink} {name : Option RequiredName} → name ≡ None → Ends (Ok y) k k (of_names (required_text name) v (required_place name) Q)
+nothing_wanted v Q {y = y} {k} none = subst (λ o. Ends (Ok y) k k (of_names (required_text o) v (required_place o) Q)) (sym none) (ends_past (record { verdict = refl; nothing = refl }) refl)
 
 wanted : (v : Data) (Q : Path) (name : Option RequiredName) → of_names (required_text name) v (required_place name) Q
     ≡ record { accepts = is_empty (missing (required_text name) v); first = lacks name v Q; all = lacks name v Q }
@@ -178,78 +178,87 @@ module _ {R N : Type 0} (answers : R → Name → Says) (costs : R → Bool) (m 
   -- what a walk over the rest does from now on, where these are put aside, is what a walk over all does from the start; where one error is wanted, none is put aside
   pub record WalkingMembers (rest aside : List (Name × Data)) (old new : ErrorSink) (a b : Asking) : Type 0 where
     pub on : (newer : ErrorSink) → GoesOn new newer (of_left a.answer aside rest) → GoesOn old newer (by_members a.answer)
-    pub stop : (newer : ErrorSink) {t : Stop} → StopsBy t new newer (IsErrorOf (of_left a.answer aside rest)) → StopsBy t old newer (IsErrorOf (by_members a.answer))
+    pub stop : (newer : ErrorSink) → Stopped new newer (IsErrorOf (of_left a.answer aside rest)) → Stopped old newer (IsErrorOf (by_members a.answer))
     pub none : wants_one new ≡ true → aside ≡ []
     pub only : OnlyAsks a b
 
   pub members_start : {a : Asking} {rest aside : List (Name × Data)} {old : ErrorSink} → repeats v ≡ false → rest ≡ members v → aside ≡ [] → WalkingMembers rest aside old old a a
   members_start {a} {old = old} distinct all none = subst₂ (λ l xs. WalkingMembers l xs old old a a) (sym all) (sym none)
-      (record { on = λ newer h. goes_same (in_turn a.answer distinct) h; stop = λ newer {t} h. stops_same (in_turn a.answer distinct) h; none = λ one. refl; only = only_same a })
+      (record { on = λ newer. goes_same (in_turn a.answer distinct); stop = λ newer. stopped_same (in_turn a.answer distinct); none = λ one. refl; only = only_same a })
 
   module _ {rest aside : List (Name × Data)} {old new : ErrorSink} {a b : Asking} (loop : WalkingMembers rest aside old new a b) where
-    module _ {x : Name × Data} {more : List (Name × Data)} (next : rest ≡ x ∷ more) {d : Option (ℕ × N)} (declared : d ≡ at_name (sides_of k) x.0) where
-      -- the member is walked over
-      module _ {newer : ErrorSink} (walked : GoesOn new newer (of_asked b.answer d x)) where
+    module _ {x : Name × Data} {more : List (Name × Data)} (next : rest ≡ x ∷ more) {d : Option (ℕ × N)} (declared : d ≡ at_name (sides_of k) x.0) {newer : ErrorSink} {c : Asking} where
+      -- the walk over the member was stopped
+      pub members_stop : {T : Type 0} {t : Stop} → Walks {T = T} (Err t) new newer b c (of_asked b.answer d x) → Walks {T = T} (Err t) old newer a c (by_members a.answer)
+      members_stop h = record {
+        ends = record { so = loop.stop newer (subst (λ l. Stopped new newer (IsErrorOf (of_left a.answer aside l))) (sym next)
+            (stopped_same (with_others a.answer aside more x declared) (stopped_before (of_others a.answer aside more x)
+            (subst (λ u. Stopped new newer (IsErrorOf (of_asked u d x))) loop.only.answer h.ends.so)))) };
+        only = only_then loop.only h.only;
+      }
+
+      -- it went to its end, and says whether the member is not expected
+      module _ {told_so : Bool} (walked : Walks (Ok told_so) new newer b c (of_asked b.answer d x)) where
+        abbrev only : OnlyAsks a c
+        only = only_then loop.only walked.only
+
         walked_at : GoesOn new newer (of_asked a.answer d x)
-        walked_at = subst (λ u. GoesOn new newer (of_asked u d x)) loop.only.answer walked
+        walked_at = subst (λ u. GoesOn new newer (of_asked u d x)) loop.only.answer walked.ends.so
 
         goes_left : {newest : ErrorSink} → GoesOn newer newest (of_others a.answer aside more x) → GoesOn new newest (of_left a.answer aside rest)
         goes_left {newest} h = subst (λ l. GoesOn new newest (of_left a.answer aside l)) (sym next) (goes_same (with_others a.answer aside more x declared) (goes_after walked_at h))
 
-        stops_left : {newest : ErrorSink} {t : Stop} → StopsBy t newer newest (IsErrorOf (of_others a.answer aside more x)) → StopsBy t new newest (IsErrorOf (of_left a.answer aside rest))
-        stops_left {newest} {t} h = subst (λ l. StopsBy t new newest (IsErrorOf (of_left a.answer aside l))) (sym next)
-            (stops_same (with_others a.answer aside more x declared) (stops_after walked_at h))
+        stops_left : {newest : ErrorSink} → Stopped newer newest (IsErrorOf (of_others a.answer aside more x)) → Stopped new newest (IsErrorOf (of_left a.answer aside rest))
+        stops_left {newest} h = subst (λ l. Stopped new newest (IsErrorOf (of_left a.answer aside l))) (sym next)
+            (stopped_same (with_others a.answer aside more x declared) (stopped_after walked_at h))
 
         -- there was no memory to put it aside
-        pub members_cut : {s : Stop} → StopsBy s old newer (IsErrorOf (by_members a.answer))
-        members_cut = loop.stop newer (stops_then walked)
+        pub members_cut : {T : Type 0} {r : Result T Stop} → IsErr r → Walks r old newer a c (by_members a.answer)
+        members_cut e = record { ends = ends_left e (loop.stop newer (inr (goes_keeping walked.ends.so))); only = only }
 
-        module _ {told_so : Bool} (is : told_so ≡ unexpected_at answers b.answer (sides_of k) d x.0) where
+        module _ (is : told_so ≡ unexpected_at answers b.answer (sides_of k) d x.0) where
           is_so : not_expected a.answer x ≡ told_so
           is_so = sym (is ∙ ap (λ e. unexpected_at answers b.answer (sides_of k) e x.0) declared ∙ unexpected_is answers b.answer (sides_of k) x.0 ∙ ap (λ u. not_expected u x) loop.only.answer)
 
-          members_on : {longer : List (Name × Data)} {c : Asking} → longer ≡ aside ++ put_if told_so x [] → (wants_one newer ≡ true → told_so ≡ false) → (wants_one newer ≡ true → longer ≡ [])
-              → OnlyAsks b c → WalkingMembers more longer old newer a c
-          members_on {longer} put one none only = let grown : longer ≡ aside ++ put_if (not_expected a.answer x) x [] = put ∙ ap (λ e. aside ++ put_if e x []) (sym is_so) in record {
+          members_on : {longer : List (Name × Data)} → longer ≡ aside ++ put_if told_so x [] → (wants_one newer ≡ true → told_so ≡ false) → (wants_one newer ≡ true → longer ≡ [])
+              → WalkingMembers more longer old newer a c
+          members_on {longer} put one none = let grown : longer ≡ aside ++ put_if (not_expected a.answer x) x [] = put ∙ ap (λ e. aside ++ put_if e x []) (sym is_so) in record {
             on = λ newest h. loop.on newest (goes_left (goes_either (of_others a.answer aside more x)
                 (λ w. subst Passes (only_others a.answer aside more x grown (is_so ∙ one w))) (all_others a.answer aside more x grown) h));
-            stop = λ newest {t} h. loop.stop newest (stops_left (stops_where (λ w f. subst (λ o. IsErrorOf o f) (only_others a.answer aside more x grown (is_so ∙ one w))) h));
+            stop = λ newest h. loop.stop newest (stops_left (stopped_where (λ w f. subst (λ o. IsErrorOf o f) (only_others a.answer aside more x grown (is_so ∙ one w))) h));
             none = none;
-            only = only_then loop.only only;
+            only = only;
           }
 
           -- it is expected
-          pub members_more : {c : Asking} → told_so ≡ false → OnlyAsks b c → WalkingMembers more aside old newer a c
-          members_more e only = members_on (sym (append-nil aside) ∙ ap (λ o. aside ++ put_if o x []) (sym e)) (λ w. e) (λ w. loop.none (sym walked.same ∙ w)) only
+          pub members_more : told_so ≡ false → WalkingMembers more aside old newer a c
+          members_more e = members_on (sym (append-nil aside) ∙ ap (λ o. aside ++ put_if o x []) (sym e)) (λ w. e) (λ w. loop.none (sym walked.ends.so.same ∙ w))
 
           module _ (e : told_so ≡ true) {longer : List (Name × Data)} (put : longer ≡ aside ++ x ∷ []) where
             -- it is not, and all are wanted
-            pub members_aside : {c : Asking} → wants_one newer ≡ false → OnlyAsks b c → WalkingMembers more longer old newer a c
-            members_aside all only = members_on (put ∙ ap (λ o. aside ++ put_if o x []) (sym e)) (λ w. absurd (true≢false (sym w ∙ all))) (λ w. absurd (true≢false (sym w ∙ all))) only
+            pub members_aside : wants_one newer ≡ false → WalkingMembers more longer old newer a c
+            members_aside all = members_on (put ∙ ap (λ o. aside ++ put_if o x []) (sym e)) (λ w. absurd (true≢false (sym w ∙ all))) (λ w. absurd (true≢false (sym w ∙ all)))
 
             -- it is not, and one error is wanted
-            module _ (w : wants_one newer ≡ true) {newest : ErrorSink} where
-              pub told_goes : GoesOn newer newest (of_unexpected k longer v Q) → GoesOn old newest (by_members a.answer)
-              told_goes h = absurd (true≢false (sym (goes_passing w h).verdict ∙ ap is_empty put ∙ never_empty aside x))
-
-              pub told_stops : {t : Stop} → StopsBy t newer newest (λ f. f ∷ [] ≡ told longer) → StopsBy t old newest (IsErrorOf (by_members a.answer))
-              told_stops {t} h = let nothing : aside ≡ [] = loop.none (sym walked.same ∙ w) in
-                  loop.stop newest (stops_left (subst (λ l. StopsBy t newer newest (IsErrorOf (of_others a.answer l more x))) (sym nothing)
-                  (stops_where (λ o f is. told_of_others a.answer more x (is_so ∙ e) f (is ∙ ap told (put ∙ ap (λ l. l ++ x ∷ []) nothing))) h)))
-
-      -- the walk over it was stopped
-      pub members_stop : {newer : ErrorSink} {t : Stop} → StopsBy t new newer (IsErrorOf (of_asked b.answer d x)) → StopsBy t old newer (IsErrorOf (by_members a.answer))
-      members_stop {newer} {t} h = loop.stop newer (subst (λ l. StopsBy t new newer (IsErrorOf (of_left a.answer aside l))) (sym next)
-          (stops_same (with_others a.answer aside more x declared) (stops_before (of_others a.answer aside more x) (subst (λ u. StopsBy t new newer (IsErrorOf (of_asked u d x))) loop.only.answer h))))
+            pub members_told : {newest : ErrorSink} {T : Type 0} {r : Result T Stop} → wants_one newer ≡ true → EndsAlone r newer newest (of_unexpected k longer v Q) → Walks r old newest a c (by_members a.answer)
+            members_told {newest} w h = record {
+              ends = ends_through
+                  (λ g. absurd (true≢false (sym (goes_passing w g).verdict ∙ ap is_empty put ∙ never_empty aside x)))
+                  (λ g. let nothing : aside ≡ [] = loop.none (sym walked.ends.so.same ∙ w) in
+                  loop.stop newest (stops_left (subst (λ l. Stopped newer newest (IsErrorOf (of_others a.answer l more x))) (sym nothing)
+                  (stopped_where (λ o f is. told_of_others a.answer more x (is_so ∙ e) f (is ∙ ap told (put ∙ ap (λ l. l ++ x ∷ []) nothing))) g)))) h;
+              only = only;
+            }
 
     -- no member is left
-    module _ (none : rest ≡ []) {newer : ErrorSink} where
-      pub members_end : GoesOn new newer (of_unexpected k aside v Q) → GoesOn old newer (by_members a.answer)
-      members_end h = loop.on newer (subst (λ l. GoesOn new newer (of_left a.answer aside l)) (sym none)
-          (goes_either (of_left a.answer aside []) (λ w p. record { verdict = refl; nothing = refl }) (ap told (sym (append-nil aside))) h))
-
-      pub members_end_stop : {t : Stop} → StopsBy t new newer (λ f. f ∷ [] ≡ told aside) → StopsBy t old newer (IsErrorOf (by_members a.answer))
-      members_end_stop h = loop.stop newer (stops_where (λ w f is. absurd (none_is_one f (is ∙ ap told (loop.none w)))) h)
+    pub members_end : rest ≡ [] → {newer : ErrorSink} {T : Type 0} {r : Result T Stop} → EndsAlone r new newer (of_unexpected k aside v Q) → Walks r old newer a b (by_members a.answer)
+    members_end none {newer} h = record {
+      ends = ends_through
+          (λ g. loop.on newer (subst (λ l. GoesOn new newer (of_left a.answer aside l)) (sym none)
+          (goes_either (of_left a.answer aside []) (λ w p. record { verdict = refl; nothing = refl }) (ap told (sym (append-nil aside))) g)))
+          (λ g. loop.stop newer (stopped_where (λ w f is. absurd (none_is_one f (is ∙ ap told (loop.none w)))) g)) h;
+      only = loop.only;
+    }
 
   -- ---- and a name that is wanted
 

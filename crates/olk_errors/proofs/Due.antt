@@ -1,5 +1,5 @@
 -- What asking the nodes of a dependency comes to, over what a walk has left at its start.
-use Rattle.std.proofs.Common.{◌≡◌, Bool, List, [], ◌∷◌, append-nil, refl, sym, subst}
+use Rattle.std.proofs.Common.{◌≡◌, Bool, List, [], ◌∷◌, append-nil, refl, sym, subst, Ok}
 use Rattle.std.proofs.Math.Bool.{and-true}
 use Rattle.serde_json.specs.Data.{Data, Members, object}
 use Rattle.olk_spec.specs.Names.{Name, Path}
@@ -12,11 +12,13 @@ use Rattle.olk_tree.specs.PropertyDependencies.{chosen_nodes}
 use Rattle.olk_tree.specs.Visited.{names_met, left_of}
 use Rattle.olk_tree.specs.declared.map.SmallMap.{SmallMap}
 use Rattle.olk_tree.specs.declared.declared.DeclaredMembers.{DeclaredMembers}
+use Rattle.olk_base.specs.Lawful.{Asking}
+use Rattle.olk_check.specs.Asks.{OnlyAsks}
 use Rattle.olk_tree.proofs.Due.{every_due, each_due, first_due, chosen, every_chosen, each_chosen, first_chosen}
 use Rattle.olk_errors.specs.Outcomes.{of_each, of_node, of_branches}
-use Rattle.olk_errors.specs.Sinks.{GoesOn}
+use Rattle.olk_errors.specs.Sinks.{Walks}
 use Rattle.olk_errors.specs.declared.sink.ErrorSink.{ErrorSink}
-use Rattle.olk_errors.proofs.Sinks.{goes_nowhere}
+use Rattle.olk_errors.proofs.Sinks.{walks_past}
 
 or_else_nothing : (fs : List Fault) → or_else fs [] ≡ fs
 or_else_nothing [] = refl
@@ -46,5 +48,5 @@ module _ {N : Type 0} (m : N → Data → Question) (s r : N → Bool → Data �
     }
 
   -- where nothing is asked
-  pub goes_past_none : {ns : List N} (sink : ErrorSink) → ns ≡ [] → GoesOn sink sink (of_branches m s r u ns v Q)
-  goes_past_none sink none = subst (λ l. GoesOn sink sink (of_branches m s r u l v Q)) (sym none) (goes_nowhere sink)
+  pub past_none : {T : Type 0} {y : T} {ns : List N} {sink : ErrorSink} {a b : Asking} → OnlyAsks a b → ns ≡ [] → Walks (Ok y) sink sink a b (of_branches m s r u ns v Q)
+  past_none {y = y} {sink = sink} {a} {b} only none = subst (λ l. Walks (Ok y) sink sink a b (of_branches m s r u l v Q)) (sym none) (walks_past only (record { verdict = refl; nothing = refl }) refl)

@@ -1,9 +1,12 @@
 -- What asking a branch comes to that is asked in one of two cases.
-use Rattle.std.proofs.Common.{◌≡◌, Bool, true, false, cond, [], ap}
+use Rattle.std.proofs.Common.{◌≡◌, Bool, true, false, cond, [], sym, ap, Result, Ok}
+use Rattle.olk_base.specs.Lawful.{Asking}
+use Rattle.olk_check.specs.Asks.{OnlyAsks}
 use Rattle.olk_errors.specs.Found.{Outcome}
-use Rattle.olk_errors.specs.Sinks.{GoesOn}
+use Rattle.olk_errors.specs.Sinks.{Walks}
 use Rattle.olk_errors.specs.declared.sink.ErrorSink.{ErrorSink}
-use Rattle.olk_errors.proofs.Sinks.{goes_past}
+use Rattle.olk_errors.specs.declared.sink.Stop.{Stop}
+use Rattle.olk_errors.proofs.Sinks.{walks_past, walks_same}
 
 module _ (o : Outcome) where
   abbrev pub if_so : Bool → Outcome
@@ -12,9 +15,16 @@ module _ (o : Outcome) where
   abbrev pub if_not_so : Bool → Outcome
   if_not_so b = record { accepts = cond b true o.accepts; first = cond b [] o.first; all = cond b [] o.all }
 
-  module _ (sink : ErrorSink) {b : Bool} where
-    pub goes_past_then : b ≡ false → GoesOn sink sink (if_so b)
-    goes_past_then e = goes_past sink {o = if_so b} (record { verdict = ap (λ x. cond x o.accepts true) e; nothing = ap (λ x. cond x o.first []) e }) (ap (λ x. cond x o.all []) e)
+  module _ {T : Type 0} {y : T} {sink : ErrorSink} {s t : Asking} (only : OnlyAsks s t) {b : Bool} where
+    pub past_then : b ≡ false → Walks (Ok y) sink sink s t (if_so b)
+    past_then e = walks_past only (record { verdict = ap (λ x. cond x o.accepts true) e; nothing = ap (λ x. cond x o.first []) e }) (ap (λ x. cond x o.all []) e)
 
-    pub goes_past_else : b ≡ true → GoesOn sink sink (if_not_so b)
-    goes_past_else e = goes_past sink {o = if_not_so b} (record { verdict = ap (λ x. cond x true o.accepts) e; nothing = ap (λ x. cond x [] o.first) e }) (ap (λ x. cond x [] o.all) e)
+    pub past_else : b ≡ true → Walks (Ok y) sink sink s t (if_not_so b)
+    past_else e = walks_past only (record { verdict = ap (λ x. cond x true o.accepts) e; nothing = ap (λ x. cond x [] o.first) e }) (ap (λ x. cond x [] o.all) e)
+
+  module _ {T : Type 0} {r : Result T Stop} {old new : ErrorSink} {s t : Asking} {b : Bool} where
+    pub walks_then : b ≡ true → Walks r old new s t o → Walks r old new s t (if_so b)
+    walks_then e = walks_same (λ i. record { accepts = cond (sym e i) o.accepts true; first = cond (sym e i) o.first []; all = cond (sym e i) o.all [] })
+
+    pub walks_else : b ≡ false → Walks r old new s t o → Walks r old new s t (if_not_so b)
+    walks_else e = walks_same (λ i. record { accepts = cond (sym e i) true o.accepts; first = cond (sym e i) [] o.first; all = cond (sym e i) [] o.all })

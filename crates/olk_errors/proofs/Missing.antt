@@ -1,5 +1,5 @@
 -- Names that an object lacks, one by one.
-use Rattle.std.proofs.Common.{◌≡◌, Bool, true, false, not, ◌&&◌, List, [], ◌∷◌, ◌++◌, map, String, Global, string_bytes, refl, sym, ap, subst, ◌∙◌, None}
+use Rattle.std.proofs.Common.{◌≡◌, Bool, true, false, not, ◌&&◌, List, [], ◌∷◌, ◌++◌, map, String, Global, string_bytes, refl, sym, ap, subst, ◌∙◌, None, Ok}
 use Rattle.std.specs.List.{flat_map}
 use Rattle.serde_json.specs.Data.{Data, object, Members}
 use Rattle.serde_json.specs.Find.{as_object}
@@ -13,7 +13,9 @@ use Rattle.olk_tree.specs.Firsts.{or_else, first_of, head_of}
 use Rattle.olk_tree.specs.Questions.{Question, always, every}
 use Rattle.olk_errors.specs.Outcomes.{of_each, of_names}
 use Rattle.olk_errors.specs.Found.{Passes}
-use Rattle.olk_errors.proofs.Sinks.{of_one}
+use Rattle.olk_errors.specs.Sinks.{Ends}
+use Rattle.olk_errors.specs.declared.sink.ErrorSink.{ErrorSink}
+use Rattle.olk_errors.proofs.Sinks.{ends_past, of_one}
 use Rattle.olk_errors.proofs.Own.{IsOwn, is_own, like_at}
 
 module _ (v : Data) where
@@ -66,11 +68,9 @@ module _ (ms : Members) (v : Data) (is : v ≡ object ms) (n : Name) {found : Bo
   not_there f = ap (λ c. put_if c n []) (absent_if ∙ ap not f)
 
   module _ (P Q : Path) where
-    pub there_passes : found ≡ true → Passes (of_names (n ∷ []) v P Q)
-    there_passes t = record { verdict = ap is_empty (there t); nothing = ap (λ ns. head_of (map (λ m. fault (Required m) v Q P) ns)) (there t) }
-
-    pub there_nothing : found ≡ true → (of_names (n ∷ []) v P Q).all ≡ []
-    there_nothing t = ap (map (λ m. fault (Required m) v Q P)) (there t)
+    pub there_past : {T : Type 0} {y : T} {sink : ErrorSink} → found ≡ true → Ends (Ok y) sink sink (of_names (n ∷ []) v P Q)
+    there_past t = ends_past (record { verdict = ap is_empty (there t); nothing = ap (λ ns. head_of (map (λ m. fault (Required m) v Q P) ns)) (there t) })
+        (ap (map (λ m. fault (Required m) v Q P)) (there t))
 
     pub lacked_own : found ≡ false → {k : Kind} → k ≡ Required n → IsOwn (fault k v Q P) (of_names (n ∷ []) v P Q)
     lacked_own f {k} kind =

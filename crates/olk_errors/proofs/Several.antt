@@ -1,22 +1,20 @@
 -- Walks that go on by several at once, and outcomes that differ only in what one way of asking sees.
-use Rattle.std.proofs.Common.{◌≡◌, inl, inr, Bool, true, false, List, [], ◌∷◌, ◌++◌, refl, sym, ap, subst, ◌∙◌}
+use Rattle.std.proofs.Common.{◌≡◌, Bool, true, false, List, [], ◌∷◌, ◌++◌, refl, sym, ap, subst, ◌∙◌, Result, Ok, Err}
 use Rattle.std.proofs.lemmas.Grind.{flat_map-append}
 use Rattle.olk_base.specs.Lawful.{Asking}
 use Rattle.olk_spec.specs.Faults.{Fault}
-use Rattle.olk_reports.specs.Errors.{fault_of}
 use Rattle.olk_reports.specs.declared.error.ValidationError.{ValidationError}
 use Rattle.olk_tree.specs.Firsts.{or_else, first_of}
 use Rattle.olk_tree.specs.Questions.{Question}
 use Rattle.olk_tree.proofs.Questions.{every-append}
 use Rattle.olk_tree.proofs.Faults.{or_around}
-use Rattle.olk_check.specs.Asks.{OnlyAsks}
 use Rattle.olk_check.proofs.Asked.{only_then}
 use Rattle.olk_errors.specs.Found.{Appends, Outcome, Passes, IsErrorOf}
 use Rattle.olk_errors.specs.Outcomes.{of_each}
-use Rattle.olk_errors.specs.Sinks.{wants_one, held, Took, GoesOn, Stopped, StopsBy}
+use Rattle.olk_errors.specs.Sinks.{wants_one, held, Took, GoesOn, Stopped, Walks}
 use Rattle.olk_errors.specs.declared.sink.ErrorSink.{ErrorSink}
 use Rattle.olk_errors.specs.declared.sink.Stop.{Stop}
-use Rattle.olk_errors.proofs.Sinks.{after, goes_after, goes_same, stops_after, stops_before, stops_same, Walked, Walking}
+use Rattle.olk_errors.proofs.Sinks.{after, goes_after, goes_same, stopped_same, stopped_after, stopped_before, Turns, Walked, Walking}
 
 -- ---- several at once
 
@@ -28,29 +26,33 @@ module _ {X : Type 0} (q : X → Question) (u : Bool) (s f : X → List Fault) w
   each_split : (xs ys : List X) → after (of_each u q s f xs) (of_each u q s f ys) ≡ of_each u q s f (xs ++ ys)
   each_split xs ys = sym (λ i. record { accepts = (every-append q xs ys i).accepts u; first = first_of-both s xs ys i; all = flat_map-append f xs ys i })
 
-module _ {X : Type 0} {q : X → Question} {u : Bool} {s f : X → List Fault} {all rest : List X} {old new : ErrorSink} (loop : Walked q u s f all rest old new) (xs more : List X)
-    (next : rest ≡ xs ++ more) where
-  walked_each : {newer : ErrorSink} → GoesOn new newer (of_each u q s f xs) → Walked q u s f all more old newer
-  walked_each {newer} on = record {
-    on = λ newest h. loop.on newest (subst (λ l. GoesOn new newest (of_each u q s f l)) (sym next) (goes_same (each_split q u s f xs more) (goes_after on h)));
-    stop = λ newest {t} h. loop.stop newest (subst (λ l. StopsBy t new newest (IsErrorOf (of_each u q s f l))) (sym next) (stops_same (each_split q u s f xs more) (stops_after on h)));
-  }
-
-  walked_each_stop : {newer : ErrorSink} {t : Stop} → StopsBy t new newer (IsErrorOf (of_each u q s f xs)) → StopsBy t old newer (IsErrorOf (of_each u q s f all))
-  walked_each_stop {newer} {t} h = loop.stop newer (subst (λ l. StopsBy t new newer (IsErrorOf (of_each u q s f l))) (sym next)
-      (stops_same (each_split q u s f xs more) (stops_before (of_each u q s f more) h)))
-
 module _ {X : Type 0} {q : X → Question} {s f : Bool → X → List Fault} {all rest : List X} {old new : ErrorSink} {a b : Asking} (loop : Walking q s f all rest old new a b) (xs more : List X)
     (next : rest ≡ xs ++ more) where
-  pub walking_each : {newer : ErrorSink} {c : Asking} → GoesOn new newer (of_each b.answer q (s b.answer) (f b.answer) xs) → OnlyAsks b c → Walking q s f all more old newer a c
-  walking_each {newer} on only = record {
-    so_far = walked_each loop.so_far xs more next (subst (λ u. GoesOn new newer (of_each u q (s u) (f u) xs)) loop.only.answer on);
-    only = only_then loop.only only;
-  }
+  abbrev several : Bool → List X → Outcome
+  several u = of_each u q (s u) (f u)
 
-  pub walking_each_stop : {newer : ErrorSink} {t : Stop} → StopsBy t new newer (IsErrorOf (of_each b.answer q (s b.answer) (f b.answer) xs))
-      → StopsBy t old newer (IsErrorOf (of_each a.answer q (s a.answer) (f a.answer) all))
-  walking_each_stop {newer} {t} h = walked_each_stop loop.so_far xs more next (subst (λ u. StopsBy t new newer (IsErrorOf (of_each u q (s u) (f u) xs))) loop.only.answer h)
+  goes_several : {newer newest : ErrorSink} → GoesOn new newer (several b.answer xs) → GoesOn newer newest (several a.answer more) → GoesOn new newest (several a.answer rest)
+  goes_several {newer} {newest} on h = subst (λ l. GoesOn new newest (several a.answer l)) (sym next)
+      (goes_same (each_split q a.answer (s a.answer) (f a.answer) xs more) (goes_after (subst (λ u. GoesOn new newer (several u xs)) loop.only.answer on) h))
+
+  stops_several : {newer newest : ErrorSink} → GoesOn new newer (several b.answer xs) → Stopped newer newest (IsErrorOf (several a.answer more)) → Stopped new newest (IsErrorOf (several a.answer rest))
+  stops_several {newer} {newest} on h = subst (λ l. Stopped new newest (IsErrorOf (several a.answer l))) (sym next)
+      (stopped_same (each_split q a.answer (s a.answer) (f a.answer) xs more) (stopped_after (subst (λ u. GoesOn new newer (several u xs)) loop.only.answer on) h))
+
+  stopped_several : {newer : ErrorSink} → Stopped new newer (IsErrorOf (several b.answer xs)) → Stopped new newer (IsErrorOf (several a.answer rest))
+  stopped_several {newer} h = subst (λ l. Stopped new newer (IsErrorOf (several a.answer l))) (sym next)
+      (stopped_same (each_split q a.answer (s a.answer) (f a.answer) xs more) (stopped_before (several a.answer more) (subst (λ u. Stopped new newer (IsErrorOf (several u xs))) loop.only.answer h)))
+
+  pub several_turn : {newer : ErrorSink} {c : Asking} {T : Type 0} {r : Result T Stop} → Walks r new newer b c (several b.answer xs)
+      → Turns r (Walking q s f all more old newer a c) (Walks r old newer a c (several a.answer all))
+  several_turn {newer} {c} {T} {r} = turn r
+    where
+      turn : (r : Result T Stop) → Walks r new newer b c (several b.answer xs) → Turns r (Walking q s f all more old newer a c) (Walks r old newer a c (several a.answer all))
+      turn (Ok y) h = record {
+        so_far = record { on = λ newest k. loop.so_far.on newest (goes_several h.ends.so k); stop = λ newest k. loop.so_far.stop newest (stops_several h.ends.so k) };
+        only = only_then loop.only h.only;
+      }
+      turn (Err t) h = record { ends = record { so = loop.so_far.stop newer (stopped_several h.ends.so) }; only = only_then loop.only h.only }
 
 -- ---- what matters where one error is wanted, and where all are
 
@@ -58,13 +60,5 @@ took_either : (b : Bool) (old new : List ValidationError) (o p : Outcome) → (b
 took_either false old new o p one all h = subst (Appends old new) all h
 took_either true old new o p one all h = (one refl h.0, h.1)
 
-stopped_where : {old new : ErrorSink} {So Then : Fault → Type 0} → (wants_one old ≡ true → (f : Fault) → So f → Then f) → Stopped old new So → Stopped old new Then
-stopped_where k (inl h) = inl (record { one = h.one; same = h.same; error = h.error; is = h.is; found = k h.one (fault_of h.error) h.found })
-stopped_where k (inr h) = inr h
-
-module _ {old new : ErrorSink} where
-  pub goes_either : {o : Outcome} (p : Outcome) → (wants_one old ≡ true → Passes o → Passes p) → o.all ≡ p.all → GoesOn old new o → GoesOn old new p
-  goes_either {o} p one all h = record { same = h.same; took = took_either (wants_one old) (held old) (held new) o p one all h.took }
-
-  pub stops_where : {s : Stop} {So Then : Fault → Type 0} → (wants_one old ≡ true → (f : Fault) → So f → Then f) → StopsBy s old new So → StopsBy s old new Then
-  stops_where k h = record { stopped = stopped_where k h.stopped }
+pub goes_either : {old new : ErrorSink} {o : Outcome} (p : Outcome) → (wants_one old ≡ true → Passes o → Passes p) → o.all ≡ p.all → GoesOn old new o → GoesOn old new p
+goes_either {old} {new} {o} p one all h = record { same = h.same; took = took_either (wants_one old) (held old) (held new) o p one all h.took }

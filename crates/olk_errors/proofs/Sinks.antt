@@ -1,9 +1,9 @@
 -- One walk after another, whatever the sink wants.
-use Rattle.std.proofs.Common.{◌≡◌, inl, inr, ℕ, Bool, true, false, true≢false, ◌&&◌, List, [], ◌∷◌, ◌++◌, length, take, Vec, Option, Some, refl, sym, ap, subst, ◌∙◌, arith, Result, Ok, Err, IfErr, IsErrAnd}
+use Rattle.std.proofs.Common.{◌≡◌, inl, inr, ℕ, Bool, true, false, true≢false, ◌&&◌, List, [], ◌∷◌, ◌++◌, length, take, Vec, Option, Some, refl, sym, ap, subst, ◌∙◌, arith, Result, Ok, Err}
 use Rattle.std.specs.List.{Contains}
+use Rattle.std.specs.Result.{IsErr}
 use Rattle.std.proofs.lemmas.List.{append_assoc, append-nil}
 use Rattle.std.proofs.lemmas.List.Elements.{Contains-append_left, Contains-append_right}
-use Rattle.std.proofs.lemmas.Result.{err_from_is_err_and}
 use Rattle.std.proofs.Math.Seq.{take-append_seam}
 use Rattle.std.specs.declared.alloc.Global.{Global}
 use Rattle.olk_base.specs.Lawful.{Asking}
@@ -16,7 +16,7 @@ use Rattle.olk_check.specs.Asks.{OnlyAsks}
 use Rattle.olk_check.proofs.Asked.{only_same, only_then}
 use Rattle.olk_errors.specs.Found.{Appends, Outcome, Passes, IsErrorOf}
 use Rattle.olk_errors.specs.Outcomes.{of_each}
-use Rattle.olk_errors.specs.Sinks.{is_first, errors_in, wants_one, held, Took, GoesOn, Takes, IsLonger, Kept, Keeps, Stopped, StopsBy}
+use Rattle.olk_errors.specs.Sinks.{is_first, errors_in, wants_one, held, Took, GoesOn, IsLonger, Kept, Keeps, Stopped, Ended, EndsBy, Ends, one_error, Takes, Walks}
 use Rattle.olk_errors.specs.declared.sink.ErrorSink.{ErrorSink}
 use Rattle.olk_errors.specs.declared.sink.Held.TheVariants.{First, All}
 use Rattle.olk_errors.specs.declared.sink.Stop.{Stop}
@@ -90,6 +90,10 @@ took_first : (b : Bool) (old new : List ValidationError) (o p : Outcome) → b �
 took_first true old new o p e k h = (k h.0, h.1)
 took_first false old new o p e k h = absurd (true≢false (sym e))
 
+took_own : (b : Bool) (old new : List ValidationError) (o : Outcome) (f : Fault) → (Appends old new (f ∷ []) → Appends old new o.all) → Took b old new (one_error f) → Took b old new o
+took_own false old new o f k h = k h
+took_own true old new o f k h = absurd (true≢false (sym h.0.verdict))
+
 kept_same : (b : Bool) (l : List ValidationError) → Kept b l l
 kept_same false l = record { added = []; is = sym (append-nil l) }
 kept_same true l = refl
@@ -141,57 +145,130 @@ module _ {old new : ErrorSink} where
   goes_first {o} p one k h = record { same = h.same; took = took_first (wants_one old) (held old) (held new) o p one k h.took }
 
   -- one error of its own
-  pub takes_own : (o : Outcome) {f : Fault} → (Appends (held old) (held new) (f ∷ []) → Appends (held old) (held new) o.all) → Takes old new f → GoesOn old new o
-  takes_own o k h = record { same = h.same; took = from_all (wants_one old) (held old) (held new) o h.all (k h.took) }
+  pub goes_own : (o : Outcome) {f : Fault} → (Appends (held old) (held new) (f ∷ []) → Appends (held old) (held new) o.all) → GoesOn old new (one_error f) → GoesOn old new o
+  goes_own o {f} k h = record { same = h.same; took = took_own (wants_one old) (held old) (held new) o f k h.took }
 
 -- ---- stopped
 
 module _ {old new : ErrorSink} {So Then : Fault → Type 0} where
-  stopped_weaker : ((f : Fault) → So f → Then f) → Stopped old new So → Stopped old new Then
-  stopped_weaker k (inl h) = inl (record { one = h.one; same = h.same; error = h.error; is = h.is; found = k (fault_of h.error) h.found })
-  stopped_weaker k (inr h) = inr h
+  -- what is so of the error is so of one that is wanted
+  pub stopped_where : (wants_one old ≡ true → (f : Fault) → So f → Then f) → Stopped old new So → Stopped old new Then
+  stopped_where k (inl h) = inl (record { one = h.one; same = h.same; error = h.error; is = h.is; found = k h.one (fault_of h.error) h.found })
+  stopped_where k (inr h) = inr h
 
-  stopped_all : wants_one old ≡ false → Stopped old new So → Stopped old new Then
-  stopped_all all (inl h) = absurd (true≢false (sym h.one ∙ all))
-  stopped_all all (inr h) = inr h
+pub stopped_same : {old new : ErrorSink} {o p : Outcome} → o ≡ p → Stopped old new (IsErrorOf o) → Stopped old new (IsErrorOf p)
+stopped_same e = stopped_where (λ w f is. subst (λ o. IsErrorOf o f) e is)
 
-stopped_after : {old mid new : ErrorSink} {o p : Outcome} → GoesOn old mid o → Stopped mid new (IsErrorOf p) → Stopped old new (IsErrorOf (after o p))
+-- where all are wanted, no error stops the walk
+pub stopped_all : {old new : ErrorSink} {So Then : Fault → Type 0} → wants_one old ≡ false → Stopped old new So → Stopped old new Then
+stopped_all all = stopped_where (λ one f x. absurd (true≢false (sym one ∙ all)))
+
+pub stopped_before : {old new : ErrorSink} {o : Outcome} (p : Outcome) → Stopped old new (IsErrorOf o) → Stopped old new (IsErrorOf (after o p))
+stopped_before p = stopped_where (λ w f e. error_before p e)
+
+pub stopped_after : {old mid new : ErrorSink} {o p : Outcome} → GoesOn old mid o → Stopped mid new (IsErrorOf p) → Stopped old new (IsErrorOf (after o p))
 stopped_after h (inl k) = inl (record { one = sym h.same ∙ k.one; same = k.same ∙ h.same; error = k.error; is = k.is; found = error_after (goes_passing (sym h.same ∙ k.one) h) k.found })
 stopped_after h (inr k) = inr (keeps_more (goes_keeping h) k)
 
-module _ {s : Stop} {old new : ErrorSink} where
-  pub stops_weaker : {So Then : Fault → Type 0} → ((f : Fault) → So f → Then f) → StopsBy s old new So → StopsBy s old new Then
-  stops_weaker k h = record { stopped = stopped_weaker k h.stopped }
+-- ---- by results
 
-  pub stops_same : {o p : Outcome} → o ≡ p → StopsBy s old new (IsErrorOf o) → StopsBy s old new (IsErrorOf p)
-  stops_same e h = stops_weaker (λ f is. subst (λ x. IsErrorOf x f) e is) h
+module _ {T : Type 0} {r : Result T Stop} where
+  -- what the sink has where the walk went on, and where it was stopped
+  pub ends_through : {a b c d : ErrorSink} {o p : Outcome} {So Then : Fault → Type 0} → (GoesOn a b o → GoesOn c d p) → (Stopped a b So → Stopped c d Then) → EndsBy r a b o So → EndsBy r c d p Then
+  ends_through {a} {b} {c} {d} {o} {p} {So} {Then} goes stops h = record { so = ended r h.so }
+    where
+      ended : (r : Result T Stop) → Ended r a b o So → Ended r c d p Then
+      ended (Ok x) k = goes k
+      ended (Err s) k = stops k
 
-  -- where all are wanted, no error stops the walk
-  pub stops_all : {So Then : Fault → Type 0} → wants_one old ≡ false → StopsBy s old new So → StopsBy s old new Then
-  stops_all all h = record { stopped = stopped_all all h.stopped }
+  -- it was stopped, and its result is that
+  pub ends_left : {old new : ErrorSink} {o : Outcome} {So : Fault → Type 0} → IsErr r → Stopped old new So → EndsBy r old new o So
+  ends_left {old} {new} {o} {So} h k = record { so = ended r h }
+    where
+      ended : (r : Result T Stop) → IsErr r → Ended r old new o So
+      ended (Ok x) h = absurd (true≢false (sym h))
+      ended (Err s) h = k
 
-  pub stops_before : {o : Outcome} (p : Outcome) → StopsBy s old new (IsErrorOf o) → StopsBy s old new (IsErrorOf (after o p))
-  stops_before p h = stops_weaker (λ f e. error_before p e) h
+  -- there was no memory, and nothing was taken
+  pub ends_nowhere : {s : ErrorSink} {o : Outcome} {So : Fault → Type 0} → IsErr r → EndsBy r s s o So
+  ends_nowhere {s = s} e = ends_left e (inr (keeps_same s))
 
-pub stops_after : {s : Stop} {old mid new : ErrorSink} {o p : Outcome} → GoesOn old mid o → StopsBy s mid new (IsErrorOf p) → StopsBy s old new (IsErrorOf (after o p))
-stops_after h k = record { stopped = stopped_after h k.stopped }
+  module _ {old new : ErrorSink} where
+    -- where all are wanted, what all are is what matters
+    pub ends_all : {o : Outcome} (p : Outcome) → wants_one old ≡ false → o.all ≡ p.all → Ends r old new o → Ends r old new p
+    ends_all p all e = ends_through (goes_all p all e) (stopped_all all)
 
--- there was no memory, and nothing was taken before
-pub stops_here : (k : ErrorSink) {s : Stop} {So : Fault → Type 0} → StopsBy s k k So
-stops_here k = record { stopped = inr (keeps_same k) }
+    -- where one is wanted, whether it passes and what the error is matter
+    pub ends_first : {o : Outcome} (p : Outcome) → wants_one old ≡ true → (Passes o → Passes p) → ((f : Fault) → IsErrorOf o f → IsErrorOf p f) → Ends r old new o → Ends r old new p
+    ends_first p one passes errs = ends_through (goes_first p one passes) (stopped_where (λ w. errs))
 
--- or an outcome was
-pub stops_then : {s : Stop} {old new : ErrorSink} {o : Outcome} {So : Fault → Type 0} → GoesOn old new o → StopsBy s old new So
-stops_then h = record { stopped = inr (goes_keeping h) }
+    -- a fault alone
+    pub ends_one : {f : Fault} (o : Outcome) → (Appends (held old) (held new) (f ∷ []) → Appends (held old) (held new) o.all) → (wants_one old ≡ true → IsErrorOf o f) → Takes r old new f → Ends r old new o
+    ends_one o k err = ends_through (goes_own o k) (stopped_where (λ w g is. subst (IsErrorOf o) (sym is) (err w)))
+
+    -- an error of it, where one is wanted
+    pub ends_wanted : {o : Outcome} {f : Fault} → wants_one old ≡ true → IsErrorOf o f → Takes r old new f → Ends r old new o
+    ends_wanted {o} one err = ends_through (λ h. absurd (true≢false (sym (goes_passing one h).verdict))) (stopped_where (λ w g is. subst (IsErrorOf o) (sym is) err))
+
+-- ---- of walks
+
+pub ends_past : {T : Type 0} {x : T} {s : ErrorSink} {o : Outcome} → Passes o → o.all ≡ [] → Ends (Ok x) s s o
+ends_past {s = s} passes none = record { so = goes_past s passes none }
+
+-- nothing is asked
+pub walks_past : {T : Type 0} {x : T} {s : ErrorSink} {a b : Asking} {o : Outcome} → OnlyAsks a b → Passes o → o.all ≡ [] → Walks (Ok x) s s a b o
+walks_past only passes none = record { ends = ends_past passes none; only = only }
+
+module _ {T : Type 0} {r : Result T Stop} where
+  pub walks_same : {old new : ErrorSink} {a b : Asking} {o p : Outcome} → o ≡ p → Walks r old new a b o → Walks r old new a b p
+  walks_same {old} {new} {a} {b} e h = subst (Walks r old new a b) e h
+
+  pub walks_by : {old new : ErrorSink} {a b : Asking} {o p : Outcome} → (Ends r old new o → Ends r old new p) → Walks r old new a b o → Walks r old new a b p
+  walks_by k h = record { ends = k h.ends; only = h.only }
+
+  -- a walk that asks the context nothing
+  pub walks_alone : {old new : ErrorSink} {a b : Asking} {o : Outcome} → OnlyAsks a b → Ends r old new o → Walks r old new a b o
+  walks_alone only h = record { ends = h; only = only }
+
+  -- one walk after another, or after a question
+  pub walks_after : {old mid new : ErrorSink} {a b c : Asking} {o p : Outcome} → GoesOn old mid o → OnlyAsks a b → Walks r mid new b c p → Walks r old new a c (after o p)
+  walks_after on only h = record { ends = ends_through (goes_after on) (stopped_after on) h.ends; only = only_then only h.only }
+
+  pub walks_asked : {old new : ErrorSink} {a b c : Asking} (o : Bool → Outcome) → OnlyAsks a b → Walks r old new b c (o b.answer) → Walks r old new a c (o a.answer)
+  walks_asked {old} {new} {b = b} {c} o only h = let same = subst (λ u. Walks r old new b c (o u)) only.answer h in record { ends = same.ends; only = only_then only same.only }
+
+  -- one that leaves by a `?`
+  pub walks_left : {S : Type 0} {s : Stop} {old new : ErrorSink} {a b : Asking} {o : Outcome} → IsErr r → Walks {T = S} (Err s) old new a b o → Walks r old new a b o
+  walks_left e h = record { ends = ends_left e h.ends.so; only = h.only }
+
+  -- there was no memory, and nothing was taken before, or an outcome was
+  pub walks_nowhere : {s : ErrorSink} {a b : Asking} {o : Outcome} → IsErr r → OnlyAsks a b → Walks r s s a b o
+  walks_nowhere e only = record { ends = ends_nowhere e; only = only }
+
+  pub walks_cut : {old new : ErrorSink} {a b : Asking} {p : Outcome} (o : Outcome) → IsErr r → GoesOn old new p → OnlyAsks a b → Walks r old new a b o
+  walks_cut o e on only = record { ends = ends_left e (inr (goes_keeping on)); only = only }
+
+-- a walk to its end, with another result
+pub walks_on : {S T : Type 0} {x : S} {y : T} {old new : ErrorSink} {a b : Asking} {o : Outcome} → Walks (Ok x) old new a b o → Walks (Ok y) old new a b o
+walks_on h = record { ends = record { so = h.ends.so }; only = h.only }
+
+-- a walk that was stopped, before another
+pub walks_before : {S : Type 0} {s : Stop} {old new : ErrorSink} {a b : Asking} {o : Outcome} (p : Outcome) → Walks {T = S} (Err s) old new a b o → Walks {T = S} (Err s) old new a b (after o p)
+walks_before p h = record { ends = record { so = stopped_before p h.ends.so }; only = h.only }
 
 -- ---- one error
 
 module _ {old : ErrorSink} (e : ValidationError) where
-  pub takes_first : {s : Stop} {slot : Option ValidationError} → old.held ≡ First slot → StopsBy s old (record { alloc = old.alloc; held = First (Some e) }) (λ f. f ≡ fault_of e)
-  takes_first is = record { stopped = inl (record { one = ap is_first is; same = sym (ap is_first is); error = e; is = refl; found = refl }) }
+  pub takes_first : {T : Type 0} {s : Stop} {slot : Option ValidationError} → old.held ≡ First slot → Takes {T = T} (Err s) old (record { alloc = old.alloc; held = First (Some e) }) (fault_of e)
+  takes_first is = record { so = inl (record { one = ap is_first is; same = sym (ap is_first is); error = e; is = refl; found = refl }) }
 
-  pub takes_more : {es fs : Vec ValidationError Global} → old.held ≡ All es → fs.items ≡ es.items ++ e ∷ [] → Takes old (record { alloc = old.alloc; held = All fs }) (fault_of e)
-  takes_more is more = record { all = ap is_first is; same = sym (ap is_first is); took = appends_one e (more ∙ ap (λ l. l ++ e ∷ []) (sym (ap errors_in is))) refl }
+  pub takes_more : {T : Type 0} {x : T} {es fs : Vec ValidationError Global} → old.held ≡ All es → fs.items ≡ es.items ++ e ∷ [] → Takes (Ok x) old (record { alloc = old.alloc; held = All fs }) (fault_of e)
+  takes_more {fs = fs} is more = record {
+    so = record {
+      same = sym (ap is_first is);
+      took = from_all (wants_one old) (held old) fs.items (one_error (fault_of e)) (ap is_first is) (appends_one e (more ∙ ap (λ l. l ++ e ∷ []) (sym (ap errors_in is))) refl);
+    };
+  }
 
 -- ---- each of a list
 
@@ -202,25 +279,33 @@ module _ {X : Type 0} (q : X → Question) (u : Bool) (s f : X → List Fault) w
   -- what a walk over the rest does from now on is what a walk over all does from the start
   pub record Walked (all rest : List X) (old new : ErrorSink) : Type 0 where
     pub on : (newer : ErrorSink) → GoesOn new newer (of_each u q s f rest) → GoesOn old newer (of_each u q s f all)
-    pub stop : (newer : ErrorSink) {t : Stop} → StopsBy t new newer (IsErrorOf (of_each u q s f rest)) → StopsBy t old newer (IsErrorOf (of_each u q s f all))
+    pub stop : (newer : ErrorSink) → Stopped new newer (IsErrorOf (of_each u q s f rest)) → Stopped old newer (IsErrorOf (of_each u q s f all))
 
 module _ {X : Type 0} {q : X → Question} {u : Bool} {s f : X → List Fault} {all : List X} where
   pub walked_start : {k : ErrorSink} → Walked q u s f all all k k
-  walked_start = record { on = λ newer h. h; stop = λ newer {t} h. h }
+  walked_start = record { on = λ newer h. h; stop = λ newer h. h }
 
   module _ {rest : List X} {old new : ErrorSink} (loop : Walked q u s f all rest old new) where
     pub walked_more : {x : X} {more : List X} {newer : ErrorSink} → rest ≡ x ∷ more → GoesOn new newer (of_one q u s f x) → Walked q u s f all more old newer
-    walked_more {x} {more} {newer} next on = record {
+    walked_more next on = record {
       on = λ newest h. loop.on newest (subst (λ l. GoesOn new newest (of_each u q s f l)) (sym next) (goes_after on h));
-      stop = λ newest {t} h. loop.stop newest (subst (λ l. StopsBy t new newest (IsErrorOf (of_each u q s f l))) (sym next) (stops_after on h));
+      stop = λ newest h. loop.stop newest (subst (λ l. Stopped new newest (IsErrorOf (of_each u q s f l))) (sym next) (stopped_after on h));
     }
 
-    pub walked_stop : {x : X} {more : List X} {newer : ErrorSink} {t : Stop} → rest ≡ x ∷ more → StopsBy t new newer (IsErrorOf (of_one q u s f x))
-        → StopsBy t old newer (IsErrorOf (of_each u q s f all))
-    walked_stop {x} {more} {newer} {t} next h = loop.stop newer (subst (λ l. StopsBy t new newer (IsErrorOf (of_each u q s f l))) (sym next) (stops_before (of_each u q s f more) h))
+    pub walked_stop : {x : X} {more : List X} {newer : ErrorSink} → rest ≡ x ∷ more → Stopped new newer (IsErrorOf (of_one q u s f x)) → Stopped old newer (IsErrorOf (of_each u q s f all))
+    walked_stop {x} {more} {newer} next h = loop.stop newer (subst (λ l. Stopped new newer (IsErrorOf (of_each u q s f l))) (sym next) (stopped_before (of_each u q s f more) h))
 
     pub walked_end : rest ≡ [] → GoesOn old new (of_each u q s f all)
     walked_end none = loop.on new (subst (λ l. GoesOn new new (of_each u q s f l)) (sym none) (goes_nowhere new))
+
+-- what a turn of a loop comes to: the loop goes on, or it is left
+abbrev pub Turns : {T : Type 0} → Result T Stop → Type 0 → Type 0 → Type 0
+Turns (Ok y) On Left = On
+Turns (Err t) On Left = Left
+
+pub turns_on : {T : Type 0} (r : Result T Stop) (On Then Left : Type 0) → (On → Then) → Turns r On Left → Turns r Then Left
+turns_on (Ok y) On Then Left k h = k h
+turns_on (Err t) On Then Left k h = h
 
 -- ---- with the context's answer, which a walk keeps; a and b are the context at the start and now
 
@@ -236,17 +321,26 @@ module _ {X : Type 0} {q : X → Question} {s f : Bool → X → List Fault} {al
   walking_from {k = k} whole = subst (λ l. Walking q s f all l k k a a) (sym whole) walking_start
 
   module _ {rest : List X} {old new : ErrorSink} {b : Asking} (loop : Walking q s f all rest old new a b) where
-    pub walking_more : {x : X} {more : List X} {newer : ErrorSink} {c : Asking} → rest ≡ x ∷ more → GoesOn new newer (of_one q b.answer (s b.answer) (f b.answer) x)
-        → OnlyAsks b c → Walking q s f all more old newer a c
-    walking_more {x} {newer = newer} next on only =
-        record { so_far = walked_more loop.so_far next (subst (λ u. GoesOn new newer (of_one q u (s u) (f u) x)) loop.only.answer on); only = only_then loop.only only }
+    pub walking_turn : {x : X} {more : List X} {newer : ErrorSink} {c : Asking} {T : Type 0} {r : Result T Stop} → rest ≡ x ∷ more → Walks r new newer b c (of_one q b.answer (s b.answer) (f b.answer) x)
+        → Turns r (Walking q s f all more old newer a c) (Walks r old newer a c (of_each a.answer q (s a.answer) (f a.answer) all))
+    walking_turn {x} {more} {newer} {c} {T} {r} next = turn r
+      where
+        turn : (r : Result T Stop) → Walks r new newer b c (of_one q b.answer (s b.answer) (f b.answer) x)
+            → Turns r (Walking q s f all more old newer a c) (Walks r old newer a c (of_each a.answer q (s a.answer) (f a.answer) all))
+        turn (Ok y) h = record { so_far = walked_more loop.so_far next (subst (λ u. GoesOn new newer (of_one q u (s u) (f u) x)) loop.only.answer h.ends.so); only = only_then loop.only h.only }
+        turn (Err t) h = record {
+          ends = record { so = walked_stop loop.so_far next (subst (λ u. Stopped new newer (IsErrorOf (of_one q u (s u) (f u) x))) loop.only.answer h.ends.so) };
+          only = only_then loop.only h.only;
+        }
 
-    pub walking_stop : {x : X} {more : List X} {newer : ErrorSink} {t : Stop} → rest ≡ x ∷ more → StopsBy t new newer (IsErrorOf (of_one q b.answer (s b.answer) (f b.answer) x))
-        → StopsBy t old newer (IsErrorOf (of_each a.answer q (s a.answer) (f a.answer) all))
-    walking_stop {x} {newer = newer} {t} next h = walked_stop loop.so_far next (subst (λ u. StopsBy t new newer (IsErrorOf (of_one q u (s u) (f u) x))) loop.only.answer h)
+    pub walking_end : {T : Type 0} {y : T} → rest ≡ [] → Walks (Ok y) old new a b (of_each a.answer q (s a.answer) (f a.answer) all)
+    walking_end none = record { ends = record { so = walked_end loop.so_far none }; only = loop.only }
 
-    pub walking_end : rest ≡ [] → GoesOn old new (of_each a.answer q (s a.answer) (f a.answer) all)
-    walking_end none = walked_end loop.so_far none
+-- the last turn
+pub last_turn : {X : Type 0} (q : X → Question) (s f : Bool → X → List Fault) (all : List X) {old new : ErrorSink} {a b : Asking} {T : Type 0} (r : Result T Stop)
+    → Turns r (Walking q s f all [] old new a b) (Walks r old new a b (of_each a.answer q (s a.answer) (f a.answer) all)) → Walks r old new a b (of_each a.answer q (s a.answer) (f a.answer) all)
+last_turn q s f all (Ok y) loop = walking_end loop refl
+last_turn q s f all (Err t) h = h
 
 -- ---- what a stop leaves in the sink
 
@@ -281,31 +375,19 @@ module _ {old new : ErrorSink} {So : Fault → Type 0} where
   wants_same (inl h) = h.same
   wants_same (inr h) = h.same
 
-  module _ {s : Stop} (stops : StopsBy s old new So) where
+  module _ {T : Type 0} {s : Stop} {o : Outcome} (stops : EndsBy {T = T} (Err s) old new o So) where
     -- an error in a sink that wanted one, and had none, is the one by which it was stopped
     pub stopping_error : {e : ValidationError} → wants_one old ≡ true → held old ≡ [] → (wants_one new ≡ true → e ∷ [] ≡ held new) → So (fault_of e)
-    stopping_error one none is = error_is one none (is (wants_same stops.stopped ∙ one)) stops.stopped
+    stopping_error one none is = error_is one none (is (wants_same stops.so ∙ one)) stops.so
 
     -- a list of all errors, cut back to the length before, is the list before
     pub stopping_list : {n : ℕ} {es : List ValidationError} → wants_one old ≡ false → n ≡ length (held old) → (wants_one new ≡ false → es ≡ held new) → take n es ≡ held old
     stopping_list {n} {es} all len is =
-        let longer = all_kept all stops.stopped in
-        ap (λ k. take k es) len ∙ ap (take (length (held old))) (is (wants_same stops.stopped ∙ all) ∙ longer.is) ∙ take-append_seam (held old) longer.added
+        let longer = all_kept all stops.so in
+        ap (λ k. take k es) len ∙ ap (take (length (held old))) (is (wants_same stops.so ∙ all) ∙ longer.is) ∙ take-append_seam (held old) longer.added
 
 -- where there was no memory for an error more
-pub takes_none : {old : ErrorSink} {s : Stop} {So : Fault → Type 0} {es fs : Vec ValidationError Global} → old.held ≡ All es → fs.items ≡ es.items
-    → StopsBy s old (record { alloc = old.alloc; held = All fs }) So
-takes_none {old} {es = es} {fs} is same = record {
-  stopped = inr (record { same = sym (ap is_first is); kept = longer_kept (wants_one old) (held old) fs.items (ap is_first is) (same ∙ ap errors_in (sym is)) });
-}
-
--- ---- results
-
--- a stop of which nothing is known but that it is one
-pub any_stop : {T : Type 0} (r : Result T Stop) {P : Stop → Type 0} → ((s : Stop) → P s) → IfErr r P
-any_stop (Ok x) k = tt
-any_stop (Err s) k = k s
-
--- a stop that leaves by a `?`
-pub left_by : {T : Type 0} (r : Result T Stop) (x : Stop) {So : Type 0} (Then : Stop → Type 0) → IsErrAnd r (λ s. s ≡ x) → So → (So → Then x) → IfErr r Then
-left_by r x Then h so k = let p = err_from_is_err_and r h in subst (λ z. IfErr z Then) (sym p.1) (subst Then (sym p.2) (k so))
+pub takes_none : {T : Type 0} {r : Result T Stop} {old : ErrorSink} {o : Outcome} {So : Fault → Type 0} {es fs : Vec ValidationError Global} → IsErr r → old.held ≡ All es → fs.items ≡ es.items
+    → EndsBy r old (record { alloc = old.alloc; held = All fs }) o So
+takes_none {old = old} {fs = fs} e is same =
+    ends_left e (inr (record { same = sym (ap is_first is); kept = longer_kept (wants_one old) (held old) fs.items (ap is_first is) (same ∙ ap errors_in (sym is)) }))

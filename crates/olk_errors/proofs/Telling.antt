@@ -1,15 +1,15 @@
 -- One error for each of a list, in a sink that wants all.
-use Rattle.std.proofs.Common.{◌≡◌, Bool, true, false, true≢false, List, [], ◌∷◌, length, map, arith, refl, sym, ap, subst, ◌∙◌}
+use Rattle.std.proofs.Common.{◌≡◌, Bool, true, false, true≢false, List, [], ◌∷◌, length, map, arith, refl, sym, ap, subst, ◌∙◌, Result, Ok, Err}
 use Rattle.std.specs.List.{flat_map}
 use Rattle.olk_spec.specs.Faults.{Fault, ◌∼◌}
 use Rattle.olk_tree.specs.Questions.{Question, always}
-use Rattle.olk_errors.specs.Found.{Outcome, IsErrorOf}
-use Rattle.olk_errors.specs.Sinks.{wants_one, held, Took, GoesOn, Takes, StopsBy}
+use Rattle.olk_errors.specs.Found.{Outcome}
+use Rattle.olk_errors.specs.Sinks.{wants_one, held, Took, GoesOn, Ends, Takes}
 use Rattle.olk_errors.specs.declared.sink.ErrorSink.{ErrorSink}
 use Rattle.olk_errors.specs.declared.sink.Stop.{Stop}
 use Rattle.olk_reports.specs.declared.error.ValidationError.{ValidationError}
 use Rattle.olk_errors.proofs.Appending.{appends_like}
-use Rattle.olk_errors.proofs.Sinks.{Walked, walked_start, walked_more, walked_stop, walked_end, of_one, goes_all, stops_all, takes_own}
+use Rattle.olk_errors.proofs.Sinks.{Walked, walked_start, walked_more, walked_stop, walked_end, goes_all, stopped_all, Turns}
 
 -- ---- by what the sink wants
 
@@ -50,19 +50,18 @@ module _ {X : Type 0} {h : X → Fault} {all : List X} where
   telling_start wants = record { so_far = walked_start; before = wants; now = wants }
 
   module _ {rest : List X} {old new : ErrorSink} (loop : Telling h all rest old new) where
-    pub telling_more : {x : X} {more : List X} {newer : ErrorSink} → rest ≡ x ∷ more → Takes new newer (h x) → Telling h all more old newer
-    telling_more {x} next takes = record {
-      so_far = walked_more loop.so_far next (takes_own (of_one (refused h) true (told h) (told h) x) (λ a. a) takes);
-      before = loop.before;
-      now = takes.same ∙ loop.now;
-    }
+    pub telling_turn : {x : X} {more : List X} {newer : ErrorSink} {T : Type 0} {r : Result T Stop} (o : Outcome) → rest ≡ x ∷ more → Takes r new newer (h x)
+        → Turns r (Telling h all more old newer) (Ends r old newer o)
+    telling_turn {x} {more} {newer} {T} {r} o next = turn r
+      where
+        turn : (r : Result T Stop) → Takes r new newer (h x) → Turns r (Telling h all more old newer) (Ends r old newer o)
+        turn (Ok y) takes = record { so_far = walked_more loop.so_far next takes.so; before = loop.before; now = takes.so.same ∙ loop.now }
+        turn (Err t) takes = record { so = stopped_all loop.before (walked_stop loop.so_far {x = x} next (stopped_all loop.now takes.so)) }
 
-    pub telling_stop : {x : X} {more : List X} {newer : ErrorSink} {t : Stop} {So : Fault → Type 0} (o : Outcome) → rest ≡ x ∷ more → StopsBy t new newer So → StopsBy t old newer (IsErrorOf o)
-    telling_stop {x} o next stops = stops_all loop.before (walked_stop loop.so_far {x = x} next (stops_all loop.now stops))
+    module _ {T : Type 0} {y : T} (o : Outcome) where
+      pub telling_end : map h all ≡ o.all → rest ≡ [] → Ends (Ok y) old new o
+      telling_end same none = record { so = goes_all o loop.before (each_told h all ∙ same) (walked_end loop.so_far none) }
 
-    pub telling_end : (o : Outcome) → map h all ≡ o.all → rest ≡ [] → GoesOn old new o
-    telling_end o same none = goes_all o loop.before (each_told h all ∙ same) (walked_end loop.so_far none)
-
-    -- the same up to order
-    pub telling_like : (o : Outcome) → map h all ∼ o.all → rest ≡ [] → GoesOn old new o
-    telling_like o like none = goes_alike o loop.before (subst (λ l. l ∼ o.all) (sym (each_told h all)) like) (walked_end loop.so_far none)
+      -- the same up to order
+      pub telling_like : map h all ∼ o.all → rest ≡ [] → Ends (Ok y) old new o
+      telling_like like none = record { so = goes_alike o loop.before (subst (λ l. l ∼ o.all) (sym (each_told h all)) like) (walked_end loop.so_far none) }

@@ -1,7 +1,6 @@
 -- What is told of members that are not expected.
-use Rattle.std.proofs.Common.{◌≡◌, ℕ, zero, suc, ◌<◌, Bool, true, false, List, [], ◌∷◌, ◌++◌, map, get_or, Some, None, slice_get, refl, sym, ap, subst, ◌∙◌, arith, Result, OnOk, IfErr}
+use Rattle.std.proofs.Common.{◌≡◌, ℕ, zero, suc, ◌<◌, Bool, true, false, List, [], ◌∷◌, ◌++◌, map, get_or, Some, None, slice_get, refl, sym, ap, subst, ◌∙◌, arith, Result, Ok}
 use Rattle.std.proofs.lemmas.List.{append_assoc, append-nil, map-append}
-use Rattle.std.proofs.lemmas.Result.{on_ok_weaker, IfErr-weaker}
 use Rattle.std.specs.List.{Contains}
 use Rattle.serde_json.specs.Data.{Data}
 use Rattle.olk_spec.specs.Names.{Name, Path}
@@ -12,11 +11,11 @@ use Rattle.olk_tree.specs.Additional.{has_neighbours}
 use Rattle.olk_tree.specs.declared.additional_properties.AdditionalProperties as keyword
 use Rattle.olk_errors.specs.Found.{Appends, IsLikeOneOf, IsKeptOf}
 use Rattle.olk_errors.specs.Outcomes.{of_unexpected}
-use Rattle.olk_errors.specs.Sinks.{held, GoesOn, Takes, StopsBy}
+use Rattle.olk_errors.specs.Sinks.{held, EndsAlone, Takes}
 use Rattle.olk_errors.specs.declared.sink.ErrorSink.{ErrorSink}
 use Rattle.olk_errors.specs.declared.sink.Stop.{Stop}
 use Rattle.olk_errors.proofs.Own.{contains_one}
-use Rattle.olk_errors.proofs.Sinks.{goes_past, takes_own, stops_weaker}
+use Rattle.olk_errors.proofs.Sinks.{goes_past, goes_own, ends_through, stopped_where}
 
 -- ---- one fault of members that are not expected
 
@@ -91,16 +90,13 @@ module _ {A : Type 0} (g : A → Name × Data) (name : A → Name) (same : (x : 
       first_is : Some y ≡ slice_get (x ∷ xs) 0 → y ≡ x
       first_is h = cc
 
-module _ {R N : Type 0} (k : keyword.AdditionalProperties R N) (v : Data) (Q : Path) (old : ErrorSink) where
-  pub none_unexpected : {xs : List (Name × Data)} → xs ≡ [] → GoesOn old old (of_unexpected k xs v Q)
-  none_unexpected none = subst (λ l. GoesOn old old (of_unexpected k l v Q)) (sym none) (goes_past old (record { verdict = refl; nothing = refl }) refl)
+module _ {R N : Type 0} (k : keyword.AdditionalProperties R N) (v : Data) (Q : Path) {T : Type 0} where
+  pub none_unexpected : {y : T} {old : ErrorSink} {xs : List (Name × Data)} → xs ≡ [] → EndsAlone (Ok y) old old (of_unexpected k xs v Q)
+  none_unexpected {y} {old} none = subst (λ l. EndsAlone (Ok y) old old (of_unexpected k l v Q)) (sym none) (record { so = goes_past old (record { verdict = refl; nothing = refl }) refl })
 
   -- where this is the fault of these members
-  module _ (xs : List (Name × Data)) (new : ErrorSink) {f g : Fault} (is : unexpected_faults (has_neighbours k) xs v k.location Q ≡ g ∷ []) (same : f ≡ g) {A : Type 0} where
-    pub told : (r : Result A Stop) → OnOk r (Takes old new f) → IfErr r (λ t. StopsBy t old new (λ e. e ≡ f))
-        → OnOk r (GoesOn old new (of_unexpected k xs v Q)) × IfErr r (λ t. StopsBy t old new (λ e. e ∷ [] ≡ unexpected_faults (has_neighbours k) xs v k.location Q))
-    told r on stop = (
-      on_ok_weaker r (λ takes. takes_own (of_unexpected k xs v Q) (λ a. subst (Appends (held old) (held new)) (ap (λ e. e ∷ []) same ∙ sym is) a) takes) on,
-      IfErr-weaker r (λ t. StopsBy t old new (λ e. e ≡ f)) (λ t. StopsBy t old new (λ e. e ∷ [] ≡ unexpected_faults (has_neighbours k) xs v k.location Q))
-          (λ t s. stops_weaker (λ e at. ap (λ x. x ∷ []) (at ∙ same) ∙ sym is) s) stop,
-    )
+  pub told : (xs : List (Name × Data)) {f g : Fault} {r : Result T Stop} {old new : ErrorSink} → unexpected_faults (has_neighbours k) xs v k.location Q ≡ g ∷ [] → f ≡ g → Takes r old new f
+      → EndsAlone r old new (of_unexpected k xs v Q)
+  told xs {f} {old = old} {new} is same = ends_through
+      (goes_own (of_unexpected k xs v Q) (subst (Appends (held old) (held new)) (ap (λ e. e ∷ []) same ∙ sym is)))
+      (stopped_where (λ w e at. ap (λ x. x ∷ []) (at ∙ same) ∙ sym is))

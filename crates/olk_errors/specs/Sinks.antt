@@ -1,9 +1,11 @@
--- What a sink has after a walk, and after one error.
-use Rattle.std.specs.Prelude.{◌≡◌, ◌⊎◌, Bool, true, false, List, [], ◌∷◌, ◌++◌, option_to_list}
+-- What a sink has after a walk, or after one error.
+use Rattle.std.specs.Prelude.{◌≡◌, ◌⊎◌, Bool, true, false, List, [], ◌∷◌, ◌++◌, option_to_list, Result, Ok, Err}
+use Rattle.olk_base.specs.Lawful.{Asking}
 use Rattle.olk_spec.specs.Faults.{Fault}
 use Rattle.olk_reports.specs.Errors.{fault_of}
 use Rattle.olk_reports.specs.declared.error.ValidationError.{ValidationError}
-use Rattle.olk_errors.specs.Found.{Appends, Outcome, Passes}
+use Rattle.olk_check.specs.Asks.{OnlyAsks}
+use Rattle.olk_errors.specs.Found.{Appends, Outcome, Passes, IsErrorOf}
 use Rattle.olk_errors.specs.declared.sink.ErrorSink.{ErrorSink}
 use Rattle.olk_errors.specs.declared.sink.Held.{Held}
 use Rattle.olk_errors.specs.declared.sink.Held.TheVariants.{First, All}
@@ -35,12 +37,6 @@ pub record GoesOn (old new : ErrorSink) (o : Outcome) : Type 0 where
   pub same : wants_one new ≡ wants_one old
   pub took : Took (wants_one old) (held old) (held new) o
 
--- after one error that does not end the walk
-pub record Takes (old new : ErrorSink) (f : Fault) : Type 0 where
-  pub all : wants_one old ≡ false
-  pub same : wants_one new ≡ wants_one old
-  pub took : Appends (held old) (held new) (f ∷ [])
-
 -- the one error that it wants is this, of which that is so
 pub record HasOne (old new : ErrorSink) (So : Fault → Type 0) : Type 0 where
   pub one : wants_one old ≡ true
@@ -66,6 +62,30 @@ pub record Keeps (old new : ErrorSink) : Type 0 where
 abbrev pub Stopped : ErrorSink → ErrorSink → (Fault → Type 0) → Type 0
 Stopped old new So = HasOne old new So ⊎ Keeps old new
 
--- after a walk that was stopped: by an error of which that is so, or by a lack of memory
-pub record StopsBy (s : Stop) (old new : ErrorSink) (So : Fault → Type 0) : Type 0 where
-  pub stopped : Stopped old new So
+-- what a sink has by how a walk ended: all of the outcome was taken; or the walk was stopped, by an error of which that is so, or by a lack of memory
+abbrev pub Ended : {T : Type 0} → Result T Stop → ErrorSink → ErrorSink → Outcome → (Fault → Type 0) → Type 0
+Ended (Ok x) old new o So = GoesOn old new o
+Ended (Err s) old new o So = Stopped old new So
+
+pub record EndsBy {T : Type 0} (r : Result T Stop) (old new : ErrorSink) (o : Outcome) (So : Fault → Type 0) : Type 0 where
+  pub so : Ended r old new o So
+
+-- the error is one of the outcome
+abbrev pub Ends : {T : Type 0} → Result T Stop → ErrorSink → ErrorSink → Outcome → Type 0
+Ends r old new o = EndsBy r old new o (IsErrorOf o)
+
+-- the error is the only one of the outcome
+abbrev pub EndsAlone : {T : Type 0} → Result T Stop → ErrorSink → ErrorSink → Outcome → Type 0
+EndsAlone r old new o = EndsBy r old new o (λ f. f ∷ [] ≡ o.all)
+
+abbrev pub one_error : Fault → Outcome
+one_error f = record { accepts = false; first = f ∷ []; all = f ∷ [] }
+
+-- the error is this
+abbrev pub Takes : {T : Type 0} → Result T Stop → ErrorSink → ErrorSink → Fault → Type 0
+Takes r old new f = EndsBy r old new (one_error f) (λ g. g ≡ f)
+
+-- what a walk leaves in a sink and in a context, which are these before and after
+pub record Walks {T : Type 0} (r : Result T Stop) (old new : ErrorSink) (a b : Asking) (o : Outcome) : Type 0 where
+  pub ends : Ends r old new o
+  pub only : OnlyAsks a b

@@ -1,19 +1,16 @@
 //! `additionalProperties`, and what it takes over: the errors.
-ghost use Rattle.std.specs.Prelude.{◌≡◌, ◌∷◌, [], map, is_none, option_map, option_to_list, IfOk, OnOk, IfErr};
+ghost use Rattle.std.specs.Prelude.{◌≡◌, map, is_none, option_map, option_to_list, IfOk};
 ghost use Rattle.serde_json.specs.View.{view};
 ghost use Rattle.olk_base.specs.Nodes.{data_of};
 ghost use Rattle.olk_base.specs.Compiled.{pattern_answers};
 ghost use Rattle.olk_spec.specs.World.{reads_as};
-ghost use Rattle.olk_spec.specs.Reports.{unexpected_faults};
-ghost use Rattle.olk_tree.specs.Additional.{known_or, sides_of, has_neighbours, required_text, required_place};
+ghost use Rattle.olk_tree.specs.Additional.{known_or, sides_of, required_text, required_place};
 ghost use Rattle.olk_tree.specs.Tables.{known_says};
 ghost use Rattle.olk_tree.specs.Visited.{object_of};
 ghost use Rattle.olk_paths.specs.Paths.{one_below};
 ghost use Rattle.olk_paths.specs.Trails.{path_at};
-ghost use Rattle.olk_check.specs.Asks.{OnlyAsks};
-ghost use Rattle.olk_errors.specs.Found.{IsErrorOf};
 ghost use Rattle.olk_errors.specs.Outcomes.{of_branches, of_names, declared_nodes, asked_at, unexpected_at, if_matched, of_unexpected, of_asked_members};
-ghost use Rattle.olk_errors.specs.Sinks.{GoesOn, StopsBy};
+ghost use Rattle.olk_errors.specs.Sinks.{Walks, Ends, EndsAlone};
 
 use crate::properties::walk_below;
 use crate::required::report_if_missing;
@@ -60,13 +57,9 @@ fn walk_members<'a, R: RegexEngine, N: Walk<'a>>(
     sink: &mut ErrorSink<'a>,
 ) -> Result<(), Stop>
     requires { data_of object ≡ object_of members.now.entries }
-    ensures on { OnOk result (GoesOn sink.old sink.new (of_asked_members
-        R.answers N.means N.first N.report ctx.old.answer
-        keyword.now R.costs (data_of object.entry) (path_at trail.now))) }
-    ensures stop { IfErr result (λ s. StopsBy s sink.old sink.new (IsErrorOf (of_asked_members
-        R.answers N.means N.first N.report ctx.old.answer
-        keyword.now R.costs (data_of object.entry) (path_at trail.now)))) }
-    ensures context { OnlyAsks ctx.old ctx.new }
+    ensures { Walks result sink.old sink.new ctx.old ctx.new
+        (of_asked_members R.answers N.means N.first N.report ctx.old.answer keyword.now R.costs
+        (data_of object.entry) (path_at trail.now)) }
 {
     law_of_names(members);
     let mut unexpected: Vec<(&'a str, &'a Value)> = Vec::new(sink.alloc());
@@ -99,17 +92,10 @@ fn walk_asked<'a, R: RegexEngine, N: Walk<'a>>(
 ) -> Result<bool, Stop>
     ensures unexpected { IfOk result (λ b. b ≡ unexpected_at R.answers ctx.old.answer
         (sides_of keyword.now) (option_map (λ f. (f.0, f.1.now)) declared.entry) name.now) }
-    ensures on { OnOk result (GoesOn sink.old sink.new
-        (of_branches N.means N.first N.report ctx.old.answer
-        (asked_at R.answers ctx.old.answer (sides_of keyword.now)
-        (option_map (λ f. (f.0, f.1.now)) declared.entry) name.now)
-        (view value.now) (one_below (path_at trail.now) name.now))) }
-    ensures stop { IfErr result (λ s. StopsBy s sink.old sink.new (IsErrorOf
-        (of_branches N.means N.first N.report ctx.old.answer
-        (asked_at R.answers ctx.old.answer (sides_of keyword.now)
-        (option_map (λ f. (f.0, f.1.now)) declared.entry) name.now)
-        (view value.now) (one_below (path_at trail.now) name.now)))) }
-    ensures context { OnlyAsks ctx.old ctx.new }
+    ensures walk { Walks result sink.old sink.new ctx.old ctx.new
+        (of_branches N.means N.first N.report ctx.old.answer (asked_at R.answers ctx.old.answer
+        (sides_of keyword.now) (option_map (λ f. (f.0, f.1.now)) declared.entry) name.now)
+        (view value.now) (one_below (path_at trail.now) name.now)) }
 {
     walk_declared(declared, name, value, trail, ctx, sink)?;
     let mut spoken = declared.is_some();
@@ -134,15 +120,10 @@ fn walk_declared<'a, N: Walk<'a>>(
     ctx: &mut ValidationContext,
     sink: &mut ErrorSink<'a>,
 ) -> Result<(), Stop>
-    ensures on { OnOk result (GoesOn sink.old sink.new
+    ensures { Walks result sink.old sink.new ctx.old ctx.new
         (of_branches N.means N.first N.report ctx.old.answer
-        (declared_nodes (option_map (λ f. (f.0, f.1.now)) declared.entry))
-        (view value.now) (one_below (path_at trail.now) name.now))) }
-    ensures stop { IfErr result (λ s. StopsBy s sink.old sink.new (IsErrorOf
-        (of_branches N.means N.first N.report ctx.old.answer
-        (declared_nodes (option_map (λ f. (f.0, f.1.now)) declared.entry))
-        (view value.now) (one_below (path_at trail.now) name.now)))) }
-    ensures context { OnlyAsks ctx.old ctx.new }
+        (declared_nodes (option_map (λ f. (f.0, f.1.now)) declared.entry)) (view value.now)
+        (one_below (path_at trail.now) name.now)) }
 {
     match declared {
         Some((_, subschema)) => walk_below(subschema, name, value, trail, ctx, sink),
@@ -164,17 +145,10 @@ fn walk_if_matched<'a, R: RegexEngine, N: Walk<'a>>(
 ) -> Result<bool, Stop>
     ensures matches { IfOk result (λ b. b ≡ reads_as ctx.old.answer
         (known_or (known_says known) (pattern_answers R.answers entry.now.0 name.now))) }
-    ensures on { OnOk result (GoesOn sink.old sink.new
-        (of_branches N.means N.first N.report ctx.old.answer
-        (if_matched R.answers ctx.old.answer (known_says known)
-        entry.now.0 entry.now.1 name.now)
-        (view value.now) (one_below (path_at trail.now) name.now))) }
-    ensures stop { IfErr result (λ s. StopsBy s sink.old sink.new (IsErrorOf
-        (of_branches N.means N.first N.report ctx.old.answer
-        (if_matched R.answers ctx.old.answer (known_says known)
-        entry.now.0 entry.now.1 name.now)
-        (view value.now) (one_below (path_at trail.now) name.now)))) }
-    ensures context { OnlyAsks ctx.old ctx.new }
+    ensures walk { Walks result sink.old sink.new ctx.old ctx.new
+        (of_branches N.means N.first N.report ctx.old.answer (if_matched R.answers ctx.old.answer
+        (known_says known) entry.now.0 entry.now.1 name.now) (view value.now)
+        (one_below (path_at trail.now) name.now)) }
 {
     if !matches_unless_known(known, &entry.0, name, ctx) {
         return Ok(false);
@@ -194,13 +168,9 @@ fn walk_rest<'a, N: Walk<'a>>(
     sink: &mut ErrorSink<'a>,
 ) -> Result<bool, Stop>
     ensures unexpected { IfOk result (λ b. b ≡ is_none rest.now) }
-    ensures on { OnOk result (GoesOn sink.old sink.new
-        (of_branches N.means N.first N.report ctx.old.answer
-        (option_to_list rest.now) (view value.now) (one_below (path_at trail.now) name.now))) }
-    ensures stop { IfErr result (λ s. StopsBy s sink.old sink.new (IsErrorOf
-        (of_branches N.means N.first N.report ctx.old.answer
-        (option_to_list rest.now) (view value.now) (one_below (path_at trail.now) name.now)))) }
-    ensures context { OnlyAsks ctx.old ctx.new }
+    ensures walk { Walks result sink.old sink.new ctx.old ctx.new
+        (of_branches N.means N.first N.report ctx.old.answer (option_to_list rest.now)
+        (view value.now) (one_below (path_at trail.now) name.now)) }
 {
     match rest {
         Some(subschema) => {
@@ -220,13 +190,9 @@ fn report_unexpected<'a, R, N>(
     trail: &Trail<'_, 'a>,
     sink: &mut ErrorSink<'a>,
 ) -> Result<(), Stop>
-    ensures on { OnOk result (GoesOn sink.old sink.new (of_unexpected keyword.now
-        (map (λ x. (x.0.now, view x.1.now)) unexpected.now.items)
-        (data_of object.entry) (path_at trail.now))) }
-    ensures stop { IfErr result (λ s. StopsBy s sink.old sink.new (λ f. f ∷ []
-        ≡ unexpected_faults (has_neighbours keyword.now)
-        (map (λ x. (x.0.now, view x.1.now)) unexpected.now.items)
-        (data_of object.entry) keyword.now.location (path_at trail.now))) }
+    ensures { EndsAlone result sink.old sink.new
+        (of_unexpected keyword.now (map (λ x. (x.0.now, view x.1.now)) unexpected.now.items)
+        (data_of object.entry) (path_at trail.now)) }
 {
     match unexpected.first() {
         Some(_) => report_some(keyword, unexpected, object, trail, sink),
@@ -243,13 +209,9 @@ fn report_some<'a, R, N>(
     trail: &Trail<'_, 'a>,
     sink: &mut ErrorSink<'a>,
 ) -> Result<(), Stop>
-    ensures on { OnOk result (GoesOn sink.old sink.new (of_unexpected keyword.now
-        (map (λ x. (x.0.now, view x.1.now)) unexpected.now.items)
-        (data_of object.entry) (path_at trail.now))) }
-    ensures stop { IfErr result (λ s. StopsBy s sink.old sink.new (λ f. f ∷ []
-        ≡ unexpected_faults (has_neighbours keyword.now)
-        (map (λ x. (x.0.now, view x.1.now)) unexpected.now.items)
-        (data_of object.entry) keyword.now.location (path_at trail.now))) }
+    ensures { EndsAlone result sink.old sink.new
+        (of_unexpected keyword.now (map (λ x. (x.0.now, view x.1.now)) unexpected.now.items)
+        (data_of object.entry) (path_at trail.now)) }
 {
     let location = keyword.location.as_str();
     match unexpected.first() {
@@ -290,11 +252,9 @@ fn walk_required<'a>(
     sink: &mut ErrorSink<'a>,
 ) -> Result<(), Stop>
     requires { data_of node ≡ object_of members.now.entries }
-    ensures on { OnOk result (GoesOn sink.old sink.new (of_names (required_text required.now)
-        (data_of node.entry) (required_place required.now) (path_at trail.now))) }
-    ensures stop { IfErr result (λ s. StopsBy s sink.old sink.new (IsErrorOf
-        (of_names (required_text required.now)
-        (data_of node.entry) (required_place required.now) (path_at trail.now)))) }
+    ensures { Ends result sink.old sink.new
+        (of_names (required_text required.now) (data_of node.entry) (required_place required.now)
+        (path_at trail.now)) }
 {
     match required {
         Some(required) => {

@@ -9,7 +9,6 @@ use olk_tree::any_of::{AnyOf, SingleAnyOf};
 
 impl<'a, N: Walk<'a>> Walk<'a> for AnyOf<N> {
     #[inline(never)]
-    #[tactic(auto, using(crate::proofs::Sinks::stops_here, olk_check::proofs::Asked::only_then))]
     fn walk(
         &'a self,
         node: Node<'a>,
@@ -28,7 +27,6 @@ impl<'a, N: Walk<'a>> Walk<'a> for AnyOf<N> {
 
 impl<'a, N: Walk<'a>> Walk<'a> for SingleAnyOf<N> {
     #[inline(never)]
-    #[tactic(auto, using(crate::proofs::Sinks::stops_here, olk_check::proofs::Asked::only_then))]
     fn walk(
         &'a self,
         node: Node<'a>,

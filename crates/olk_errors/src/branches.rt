@@ -1,12 +1,12 @@
 //! Walks over nodes: the errors that they find.
-ghost use Rattle.std.specs.Prelude.{◌∷◌, [], map, IfOk, OnOk, IfErr};
+ghost use Rattle.std.specs.Prelude.{◌∷◌, [], map, IfOk};
 ghost use Rattle.olk_reports.proofs.Errors.{context_faults};
 ghost use Rattle.olk_base.specs.Nodes.{data_of};
 ghost use Rattle.olk_paths.specs.Trails.{path_at};
 ghost use Rattle.olk_check.specs.Asks.{OnlyAsks};
-ghost use Rattle.olk_errors.specs.Found.{Appends, AreLike, IsErrorOf, IsFirstOf};
+ghost use Rattle.olk_errors.specs.Found.{Appends, AreLike, IsFirstOf};
 ghost use Rattle.olk_errors.specs.Outcomes.{of_branches, of_node};
-ghost use Rattle.olk_errors.specs.Sinks.{GoesOn, StopsBy};
+ghost use Rattle.olk_errors.specs.Sinks.{Walks};
 
 use crate::{ErrorSink, Stop, Walk};
 use olk_base::{Node, ValidationContext, one};
@@ -23,13 +23,9 @@ pub(crate) fn walk_each<'a, N: Walk<'a>>(
     ctx: &mut ValidationContext,
     sink: &mut ErrorSink<'a>,
 ) -> Result<(), Stop>
-    ensures on { OnOk result (GoesOn sink.old sink.new
-        (of_branches N.means N.first N.report ctx.old.answer
-        nodes.now.items (data_of node.entry) (path_at trail.now))) }
-    ensures stop { IfErr result (λ s. StopsBy s sink.old sink.new (IsErrorOf
-        (of_branches N.means N.first N.report ctx.old.answer
-        nodes.now.items (data_of node.entry) (path_at trail.now)))) }
-    ensures context { OnlyAsks ctx.old ctx.new }
+    ensures { Walks result sink.old sink.new ctx.old ctx.new
+        (of_branches N.means N.first N.report ctx.old.answer nodes.now.items (data_of node.entry)
+        (path_at trail.now)) }
 {
     for n in nodes {
         n.walk(node, trail, ctx, sink)?;

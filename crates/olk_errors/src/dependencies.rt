@@ -1,14 +1,12 @@
 //! `dependentRequired`, `dependentSchemas` and `dependencies`: their errors.
-ghost use Rattle.std.specs.Prelude.{◌≡◌, OnOk, IfErr};
+ghost use Rattle.std.specs.Prelude.{◌≡◌};
 ghost use Rattle.olk_base.specs.Nodes.{data_of};
 ghost use Rattle.olk_paths.specs.Trails.{path_at};
 ghost use Rattle.olk_tree.specs.Maps.{named};
 ghost use Rattle.olk_tree.specs.Dependencies.{due_nodes};
 ghost use Rattle.olk_tree.specs.Visited.{object_of};
-ghost use Rattle.olk_check.specs.Asks.{OnlyAsks};
-ghost use Rattle.olk_errors.specs.Found.{IsErrorOf};
 ghost use Rattle.olk_errors.specs.Outcomes.{of_branches};
-ghost use Rattle.olk_errors.specs.Sinks.{GoesOn, StopsBy};
+ghost use Rattle.olk_errors.specs.Sinks.{Walks};
 
 use crate::{ErrorSink, Stop, Walk};
 use olk_base::{Node, ValidationContext};
@@ -44,15 +42,10 @@ fn walk_due<'a, N: Walk<'a>>(
     sink: &mut ErrorSink<'a>,
 ) -> Result<(), Stop>
     requires { data_of object ≡ object_of members.now.entries }
-    ensures on { OnOk result (GoesOn sink.old sink.new
+    ensures { Walks result sink.old sink.new ctx.old ctx.new
         (of_branches N.means N.first N.report ctx.old.answer
-        (due_nodes (named dependencies.now) (data_of object.entry))
-        (data_of object.entry) (path_at trail.now))) }
-    ensures stop { IfErr result (λ s. StopsBy s sink.old sink.new (IsErrorOf
-        (of_branches N.means N.first N.report ctx.old.answer
-        (due_nodes (named dependencies.now) (data_of object.entry))
-        (data_of object.entry) (path_at trail.now)))) }
-    ensures context { OnlyAsks ctx.old ctx.new }
+        (due_nodes (named dependencies.now) (data_of object.entry)) (data_of object.entry)
+        (path_at trail.now)) }
 {
     for (_, dependency, _) in dependencies.declared_members(members) {
         dependency.walk(object, trail, ctx, sink)?;

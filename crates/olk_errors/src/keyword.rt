@@ -1,13 +1,10 @@
 //! Keywords: their errors.
-ghost use Rattle.std.specs.Prelude.{OnOk, IfErr};
 ghost use Rattle.olk_base.specs.Kit.{kit};
 ghost use Rattle.olk_base.specs.Nodes.{data_of};
 ghost use Rattle.olk_paths.specs.Trails.{path_at};
 ghost use Rattle.olk_tree.specs.Validators.{answers_of};
-ghost use Rattle.olk_check.specs.Asks.{OnlyAsks};
-ghost use Rattle.olk_errors.specs.Found.{IsErrorOf};
 ghost use Rattle.olk_errors.specs.Outcomes.{of_node};
-ghost use Rattle.olk_errors.specs.Sinks.{GoesOn, StopsBy};
+ghost use Rattle.olk_errors.specs.Sinks.{Walks};
 
 use crate::node::{report_texts, walk_leaf};
 use crate::{ErrorSink, Stop, Walk};
@@ -42,17 +39,11 @@ fn walk_validator<'a, K: Leaf, R: RegexEngine, N: Walk<'a>>(
     ctx: &mut ValidationContext,
     sink: &mut ErrorSink<'a>,
 ) -> Result<(), Stop>
-    ensures on { OnOk result (GoesOn sink.old sink.new (of_node
-        (λ k. (answers_of (kit K.Leaf R.RegexEngine) k).means N.means)
-        (λ k. (answers_of (kit K.Leaf R.RegexEngine) k).first N.means N.report N.first)
-        (λ k. (answers_of (kit K.Leaf R.RegexEngine) k).report N.means N.report)
-        ctx.old.answer keyword.now (data_of node.entry) (path_at trail.now))) }
-    ensures stop { IfErr result (λ s. StopsBy s sink.old sink.new (IsErrorOf (of_node
-        (λ k. (answers_of (kit K.Leaf R.RegexEngine) k).means N.means)
-        (λ k. (answers_of (kit K.Leaf R.RegexEngine) k).first N.means N.report N.first)
-        (λ k. (answers_of (kit K.Leaf R.RegexEngine) k).report N.means N.report)
-        ctx.old.answer keyword.now (data_of node.entry) (path_at trail.now)))) }
-    ensures context { OnlyAsks ctx.old ctx.new }
+    ensures { Walks result sink.old sink.new ctx.old ctx.new
+        (of_node (λ k. (answers_of (kit K.Leaf R.RegexEngine) k).means N.means) (λ k.
+        (answers_of (kit K.Leaf R.RegexEngine) k).first N.means N.report N.first) (λ k.
+        (answers_of (kit K.Leaf R.RegexEngine) k).report N.means N.report) ctx.old.answer
+        keyword.now (data_of node.entry) (path_at trail.now)) }
 {
     match keyword {
         KeywordOver::Properties(keyword) => keyword.walk(node, trail, ctx, sink),

@@ -19,7 +19,7 @@ pub trait Walk<'a>: IsValid + Reports {
     ghost use Rattle.olk_check.specs.Asks.{OnlyAsks};
     ghost use Rattle.olk_errors.specs.Found.{IsErrorOf};
     ghost use Rattle.olk_errors.specs.Outcomes.{of_node};
-    ghost use Rattle.olk_errors.specs.Sinks.{GoesOn, StopsBy};
+    ghost use Rattle.olk_errors.specs.Sinks.{Walks};
     ghost use Rattle.olk_paths.specs.Trails.{path_at};
 
     /// Hands the errors of the node, which stands where the trail leads, to the sink: one by one,
@@ -39,13 +39,9 @@ pub trait Walk<'a>: IsValid + Reports {
         ctx: &mut ValidationContext,
         sink: &mut ErrorSink<'a>,
     ) -> Result<(), Stop>
-        ensures on { OnOk result (GoesOn sink.old sink.new
-            (of_node Self.means Self.first Self.report ctx.old.answer
-            self.now (data_of node.entry) (path_at trail.now))) }
-        ensures stop { IfErr result (λ s. StopsBy s sink.old sink.new (IsErrorOf
-            (of_node Self.means Self.first Self.report ctx.old.answer
-            self.now (data_of node.entry) (path_at trail.now)))) }
-        ensures context { OnlyAsks ctx.old ctx.new };
+        ensures { Walks result sink.old sink.new ctx.old ctx.new
+            (of_node Self.means Self.first Self.report ctx.old.answer self.now (data_of node.entry)
+            (path_at trail.now)) };
 }
 
 /// What can be asked what is wrong with a value: all that walks.

@@ -1,11 +1,9 @@
 //! Leaves and bodies: their errors.
-ghost use Rattle.std.specs.Prelude.{◌≡◌, true, false, OnOk, IfErr};
+ghost use Rattle.std.specs.Prelude.{◌≡◌, true, false};
 ghost use Rattle.olk_base.specs.Nodes.{data_of};
 ghost use Rattle.olk_paths.specs.Trails.{path_at};
-ghost use Rattle.olk_check.specs.Asks.{OnlyAsks};
-ghost use Rattle.olk_errors.specs.Found.{IsErrorOf};
 ghost use Rattle.olk_errors.specs.Outcomes.{of_leaf, of_body, of_branches};
-ghost use Rattle.olk_errors.specs.Sinks.{wants_one, GoesOn, StopsBy};
+ghost use Rattle.olk_errors.specs.Sinks.{wants_one, Walks, Ends};
 
 use crate::branches::walk_each;
 use crate::{ErrorSink, Stop, Walk};
@@ -30,13 +28,9 @@ pub fn walk_body<'a, W: Walk<'a>>(
     ctx: &mut ValidationContext,
     sink: &mut ErrorSink<'a>,
 ) -> Result<(), Stop>
-    ensures on { OnOk result (GoesOn sink.old sink.new
-        (of_body W.means W.first W.report ctx.old.answer
-        location.now body.now (data_of node.entry) (path_at trail.now))) }
-    ensures stop { IfErr result (λ s. StopsBy s sink.old sink.new (IsErrorOf
-        (of_body W.means W.first W.report ctx.old.answer
-        location.now body.now (data_of node.entry) (path_at trail.now)))) }
-    ensures context { OnlyAsks ctx.old ctx.new }
+    ensures { Walks result sink.old sink.new ctx.old ctx.new
+        (of_body W.means W.first W.report ctx.old.answer location.now body.now (data_of node.entry)
+        (path_at trail.now)) }
 {
     match body {
         Body::Keywords(keywords) => walk_keywords(keywords, node, trail, ctx, sink),
@@ -54,13 +48,9 @@ fn walk_other<'a, W: Walk<'a>>(
     ctx: &mut ValidationContext,
     sink: &mut ErrorSink<'a>,
 ) -> Result<(), Stop>
-    ensures on { OnOk result (GoesOn sink.old sink.new
-        (of_body W.means W.first W.report ctx.old.answer
-        location.now body.now (data_of node.entry) (path_at trail.now))) }
-    ensures stop { IfErr result (λ s. StopsBy s sink.old sink.new (IsErrorOf
-        (of_body W.means W.first W.report ctx.old.answer
-        location.now body.now (data_of node.entry) (path_at trail.now)))) }
-    ensures context { OnlyAsks ctx.old ctx.new }
+    ensures { Walks result sink.old sink.new ctx.old ctx.new
+        (of_body W.means W.first W.report ctx.old.answer location.now body.now (data_of node.entry)
+        (path_at trail.now)) }
 {
     match body {
         Body::True => Ok(()),
@@ -83,13 +73,9 @@ fn walk_keywords<'a, W: Walk<'a>>(
     ctx: &mut ValidationContext,
     sink: &mut ErrorSink<'a>,
 ) -> Result<(), Stop>
-    ensures on { OnOk result (GoesOn sink.old sink.new
-        (of_branches W.means W.first W.report ctx.old.answer
-        keywords.now.items (data_of node.entry) (path_at trail.now))) }
-    ensures stop { IfErr result (λ s. StopsBy s sink.old sink.new (IsErrorOf
-        (of_branches W.means W.first W.report ctx.old.answer
-        keywords.now.items (data_of node.entry) (path_at trail.now)))) }
-    ensures context { OnlyAsks ctx.old ctx.new }
+    ensures { Walks result sink.old sink.new ctx.old ctx.new
+        (of_branches W.means W.first W.report ctx.old.answer keywords.now.items (data_of node.entry)
+        (path_at trail.now)) }
 {
     match keywords.as_slice() {
         [keyword] => keyword.walk(node, trail, ctx, sink),
@@ -106,10 +92,8 @@ pub(crate) fn walk_leaf<'a, K: Leaf>(
     trail: &Trail<'_, 'a>,
     sink: &mut ErrorSink<'a>,
 ) -> Result<(), Stop>
-    ensures on { OnOk result (GoesOn sink.old sink.new
-        (of_leaf K.Leaf leaf.now (data_of node.entry) location.now (path_at trail.now))) }
-    ensures stop { IfErr result (λ s. StopsBy s sink.old sink.new (IsErrorOf
-        (of_leaf K.Leaf leaf.now (data_of node.entry) location.now (path_at trail.now)))) }
+    ensures { Ends result sink.old sink.new
+        (of_leaf K.Leaf leaf.now (data_of node.entry) location.now (path_at trail.now)) }
 {
     if leaf.is_valid(node) {
         return Ok(());
@@ -126,10 +110,8 @@ pub(crate) fn report_texts<'a, K: Leaf>(
     trail: &Trail<'_, 'a>,
     sink: &mut ErrorSink<'a>,
 ) -> Result<(), Stop>
-    ensures on { OnOk result (GoesOn sink.old sink.new
-        (of_leaf K.Leaf leaf.now (data_of node.entry) location.now (path_at trail.now))) }
-    ensures stop { IfErr result (λ s. StopsBy s sink.old sink.new (IsErrorOf
-        (of_leaf K.Leaf leaf.now (data_of node.entry) location.now (path_at trail.now)))) }
+    ensures { Ends result sink.old sink.new
+        (of_leaf K.Leaf leaf.now (data_of node.entry) location.now (path_at trail.now)) }
 {
     if sink.wants_one() {
         report_one_text(leaf, location, node, trail, sink)
@@ -147,10 +129,8 @@ fn report_one_text<'a, K: Leaf>(
     sink: &mut ErrorSink<'a>,
 ) -> Result<(), Stop>
     requires { wants_one sink.now ≡ true }
-    ensures on { OnOk result (GoesOn sink.old sink.new
-        (of_leaf K.Leaf leaf.now (data_of node.entry) location.now (path_at trail.now))) }
-    ensures stop { IfErr result (λ s. StopsBy s sink.old sink.new (IsErrorOf
-        (of_leaf K.Leaf leaf.now (data_of node.entry) location.now (path_at trail.now)))) }
+    ensures { Ends result sink.old sink.new
+        (of_leaf K.Leaf leaf.now (data_of node.entry) location.now (path_at trail.now)) }
 {
     match leaf.validate(sink.alloc(), node)? {
         Some(text) => {
@@ -171,10 +151,8 @@ fn report_each_text<'a, K: Leaf>(
     sink: &mut ErrorSink<'a>,
 ) -> Result<(), Stop>
     requires { wants_one sink.now ≡ false }
-    ensures on { OnOk result (GoesOn sink.old sink.new
-        (of_leaf K.Leaf leaf.now (data_of node.entry) location.now (path_at trail.now))) }
-    ensures stop { IfErr result (λ s. StopsBy s sink.old sink.new (IsErrorOf
-        (of_leaf K.Leaf leaf.now (data_of node.entry) location.now (path_at trail.now)))) }
+    ensures { Ends result sink.old sink.new
+        (of_leaf K.Leaf leaf.now (data_of node.entry) location.now (path_at trail.now)) }
 {
     let mut texts = Vec::new(sink.alloc());
     leaf.collect_errors(sink.alloc(), node, &mut texts)?;

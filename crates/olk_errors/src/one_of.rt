@@ -17,7 +17,6 @@ use std::alloc::{AllocError, Global};
 
 impl<'a, N: Walk<'a>> Walk<'a> for OneOf<N> {
     #[inline(never)]
-    #[tactic(auto, using(crate::proofs::Sinks::stops_here))]
     fn walk(
         &'a self,
         node: Node<'a>,
@@ -62,7 +61,6 @@ fn one_of_kind<'a, N: Walk<'a>>(
 
 impl<'a, N: Walk<'a>> Walk<'a> for SingleOneOf<N> {
     #[inline(never)]
-    #[tactic(auto, using(crate::proofs::Sinks::stops_here, olk_check::proofs::Asked::only_then))]
     fn walk(
         &'a self,
         node: Node<'a>,

@@ -1,12 +1,10 @@
 //! `patternProperties`: its errors.
-ghost use Rattle.std.specs.Prelude.{◌≡◌, true, false, OnOk, IfErr};
+ghost use Rattle.std.specs.Prelude.{◌≡◌, true, false};
 ghost use Rattle.serde_json.specs.View.{view};
 ghost use Rattle.olk_paths.specs.Trails.{path_at};
 ghost use Rattle.olk_tree.specs.Visited.{object_of};
-ghost use Rattle.olk_check.specs.Asks.{OnlyAsks};
-ghost use Rattle.olk_errors.specs.Found.{IsErrorOf};
 ghost use Rattle.olk_errors.specs.Outcomes.{of_match, of_matched, of_matching, of_patterns};
-ghost use Rattle.olk_errors.specs.Sinks.{wants_one, GoesOn, StopsBy};
+ghost use Rattle.olk_errors.specs.Sinks.{wants_one, Walks};
 
 use crate::properties::walk_below;
 use crate::{ErrorSink, Stop, Walk};
@@ -57,13 +55,9 @@ fn walk_patterns<'a, R: RegexEngine, N: Walk<'a>>(
     ctx: &mut ValidationContext,
     sink: &mut ErrorSink<'a>,
 ) -> Result<(), Stop>
-    ensures on { OnOk result (GoesOn sink.old sink.new (of_patterns
-        R.answers R.costs N.means N.first N.report ctx.old.answer
-        patterns.now.items (object_of members.now.entries) (path_at trail.now))) }
-    ensures stop { IfErr result (λ s. StopsBy s sink.old sink.new (IsErrorOf (of_patterns
-        R.answers R.costs N.means N.first N.report ctx.old.answer
-        patterns.now.items (object_of members.now.entries) (path_at trail.now)))) }
-    ensures context { OnlyAsks ctx.old ctx.new }
+    ensures { Walks result sink.old sink.new ctx.old ctx.new
+        (of_patterns R.answers R.costs N.means N.first N.report ctx.old.answer patterns.now.items
+        (object_of members.now.entries) (path_at trail.now)) }
 {
     if sink.wants_one() {
         walk_by_member(patterns, members, trail, ctx, sink)
@@ -81,13 +75,9 @@ fn walk_by_member<'a, R: RegexEngine, N: Walk<'a>>(
     sink: &mut ErrorSink<'a>,
 ) -> Result<(), Stop>
     requires { wants_one sink.now ≡ true }
-    ensures on { OnOk result (GoesOn sink.old sink.new (of_patterns
-        R.answers R.costs N.means N.first N.report ctx.old.answer
-        patterns.now.items (object_of members.now.entries) (path_at trail.now))) }
-    ensures stop { IfErr result (λ s. StopsBy s sink.old sink.new (IsErrorOf (of_patterns
-        R.answers R.costs N.means N.first N.report ctx.old.answer
-        patterns.now.items (object_of members.now.entries) (path_at trail.now)))) }
-    ensures context { OnlyAsks ctx.old ctx.new }
+    ensures { Walks result sink.old sink.new ctx.old ctx.new
+        (of_patterns R.answers R.costs N.means N.first N.report ctx.old.answer patterns.now.items
+        (object_of members.now.entries) (path_at trail.now)) }
 {
     for (name, value) in members {
         walk_matching(patterns, name.as_str(), value, trail, ctx, sink)?;
@@ -104,13 +94,9 @@ fn walk_by_pattern<'a, R: RegexEngine, N: Walk<'a>>(
     sink: &mut ErrorSink<'a>,
 ) -> Result<(), Stop>
     requires { wants_one sink.now ≡ false }
-    ensures on { OnOk result (GoesOn sink.old sink.new (of_patterns
-        R.answers R.costs N.means N.first N.report ctx.old.answer
-        patterns.now.items (object_of members.now.entries) (path_at trail.now))) }
-    ensures stop { IfErr result (λ s. StopsBy s sink.old sink.new (IsErrorOf (of_patterns
-        R.answers R.costs N.means N.first N.report ctx.old.answer
-        patterns.now.items (object_of members.now.entries) (path_at trail.now)))) }
-    ensures context { OnlyAsks ctx.old ctx.new }
+    ensures { Walks result sink.old sink.new ctx.old ctx.new
+        (of_patterns R.answers R.costs N.means N.first N.report ctx.old.answer patterns.now.items
+        (object_of members.now.entries) (path_at trail.now)) }
 {
     for entry in patterns {
         walk_matched(&entry.0, &entry.1, members, trail, ctx, sink)?;
@@ -127,13 +113,9 @@ fn walk_matching<'a, R: RegexEngine, N: Walk<'a>>(
     ctx: &mut ValidationContext,
     sink: &mut ErrorSink<'a>,
 ) -> Result<(), Stop>
-    ensures on { OnOk result (GoesOn sink.old sink.new (of_matching
-        R.answers R.costs N.means N.first N.report ctx.old.answer
-        patterns.now.items name.now (view value.now) (path_at trail.now))) }
-    ensures stop { IfErr result (λ s. StopsBy s sink.old sink.new (IsErrorOf (of_matching
-        R.answers R.costs N.means N.first N.report ctx.old.answer
-        patterns.now.items name.now (view value.now) (path_at trail.now)))) }
-    ensures context { OnlyAsks ctx.old ctx.new }
+    ensures { Walks result sink.old sink.new ctx.old ctx.new
+        (of_matching R.answers R.costs N.means N.first N.report ctx.old.answer patterns.now.items
+        name.now (view value.now) (path_at trail.now)) }
 {
     for entry in patterns {
         walk_if_matched(&entry.0, &entry.1, name, value, trail, ctx, sink)?;
@@ -150,13 +132,9 @@ fn walk_matched<'a, R: RegexEngine, N: Walk<'a>>(
     ctx: &mut ValidationContext,
     sink: &mut ErrorSink<'a>,
 ) -> Result<(), Stop>
-    ensures on { OnOk result (GoesOn sink.old sink.new (of_matched
-        R.answers R.costs N.means N.first N.report ctx.old.answer
-        pattern.now subschema.now (object_of members.now.entries) (path_at trail.now))) }
-    ensures stop { IfErr result (λ s. StopsBy s sink.old sink.new (IsErrorOf (of_matched
-        R.answers R.costs N.means N.first N.report ctx.old.answer
-        pattern.now subschema.now (object_of members.now.entries) (path_at trail.now)))) }
-    ensures context { OnlyAsks ctx.old ctx.new }
+    ensures { Walks result sink.old sink.new ctx.old ctx.new
+        (of_matched R.answers R.costs N.means N.first N.report ctx.old.answer pattern.now
+        subschema.now (object_of members.now.entries) (path_at trail.now)) }
 {
     for (name, value) in members {
         walk_if_matched(pattern, subschema, name.as_str(), value, trail, ctx, sink)?;
@@ -174,13 +152,9 @@ fn walk_if_matched<'a, R: RegexEngine, N: Walk<'a>>(
     ctx: &mut ValidationContext,
     sink: &mut ErrorSink<'a>,
 ) -> Result<(), Stop>
-    ensures on { OnOk result (GoesOn sink.old sink.new (of_match
-        R.answers R.costs N.means N.first N.report ctx.old.answer
-        pattern.now subschema.now name.now (view value.now) (path_at trail.now))) }
-    ensures stop { IfErr result (λ s. StopsBy s sink.old sink.new (IsErrorOf (of_match
-        R.answers R.costs N.means N.first N.report ctx.old.answer
-        pattern.now subschema.now name.now (view value.now) (path_at trail.now)))) }
-    ensures context { OnlyAsks ctx.old ctx.new }
+    ensures { Walks result sink.old sink.new ctx.old ctx.new
+        (of_match R.answers R.costs N.means N.first N.report ctx.old.answer pattern.now
+        subschema.now name.now (view value.now) (path_at trail.now)) }
 {
     if !matches(pattern, name, ctx) {
         return Ok(());

@@ -1,15 +1,12 @@
 //! `properties`: its errors.
-ghost use Rattle.std.specs.Prelude.{option_copied, option_to_list, OnOk, IfErr};
-ghost use Rattle.std.specs.List.{zip};
+ghost use Rattle.std.specs.Prelude.{option_copied, option_to_list};
 ghost use Rattle.serde_json.specs.View.{view, members_view};
 ghost use Rattle.olk_spec.specs.Schemas.{listed};
 ghost use Rattle.olk_paths.specs.Paths.{one_below};
 ghost use Rattle.olk_paths.specs.Trails.{path_at};
 ghost use Rattle.olk_tree.specs.Visited.{members_declared, object_of};
-ghost use Rattle.olk_check.specs.Asks.{OnlyAsks};
-ghost use Rattle.olk_errors.specs.Found.{IsErrorOf};
 ghost use Rattle.olk_errors.specs.Outcomes.{of_branches, of_declared, of_node, of_properties};
-ghost use Rattle.olk_errors.specs.Sinks.{GoesOn, StopsBy};
+ghost use Rattle.olk_errors.specs.Sinks.{Walks};
 
 use crate::required::report_if_missing;
 use crate::{ErrorSink, Stop, Walk};
@@ -68,15 +65,9 @@ fn walk_members<'a, N: Walk<'a> + 'a>(
     ctx: &mut ValidationContext,
     sink: &mut ErrorSink<'a>,
 ) -> Result<(), Stop>
-    ensures on { OnOk result (GoesOn sink.old sink.new
-        (of_properties N.means N.first N.report ctx.old.answer
-        properties.now
-        (object_of members.now.entries) (path_at trail.now))) }
-    ensures stop { IfErr result (λ s. StopsBy s sink.old sink.new (IsErrorOf
-        (of_properties N.means N.first N.report ctx.old.answer
-        properties.now
-        (object_of members.now.entries) (path_at trail.now)))) }
-    ensures context { OnlyAsks ctx.old ctx.new }
+    ensures { Walks result sink.old sink.new ctx.old ctx.new
+        (of_properties N.means N.first N.report ctx.old.answer properties.now
+        (object_of members.now.entries) (path_at trail.now)) }
 {
     if members.len() / 2 < properties.len() {
         walk_each_member(properties, members, trail, ctx, sink)
@@ -94,15 +85,9 @@ fn walk_each_member<'a, N: Walk<'a> + 'a>(
     ctx: &mut ValidationContext,
     sink: &mut ErrorSink<'a>,
 ) -> Result<(), Stop>
-    ensures on { OnOk result (GoesOn sink.old sink.new
-        (of_declared N.means N.first N.report ctx.old.answer
-        (members_declared properties.now
-        (listed (members_view members.now.entries))) (path_at trail.now))) }
-    ensures stop { IfErr result (λ s. StopsBy s sink.old sink.new (IsErrorOf
-        (of_declared N.means N.first N.report ctx.old.answer
-        (members_declared properties.now
-        (listed (members_view members.now.entries))) (path_at trail.now)))) }
-    ensures context { OnlyAsks ctx.old ctx.new }
+    ensures { Walks result sink.old sink.new ctx.old ctx.new
+        (of_declared N.means N.first N.report ctx.old.answer (members_declared properties.now
+        (listed (members_view members.now.entries))) (path_at trail.now)) }
 {
     let entries = properties.as_slice();
     let mut hint = 0;
@@ -125,15 +110,10 @@ fn walk_if_declared<'a, N: Walk<'a>>(
     ctx: &mut ValidationContext,
     sink: &mut ErrorSink<'a>,
 ) -> Result<(), Stop>
-    ensures on { OnOk result (GoesOn sink.old sink.new
+    ensures { Walks result sink.old sink.new ctx.old ctx.new
         (of_branches N.means N.first N.report ctx.old.answer
-        (option_to_list (option_copied declared.entry))
-        (view value.now) (one_below (path_at trail.now) name.now))) }
-    ensures stop { IfErr result (λ s. StopsBy s sink.old sink.new (IsErrorOf
-        (of_branches N.means N.first N.report ctx.old.answer
-        (option_to_list (option_copied declared.entry))
-        (view value.now) (one_below (path_at trail.now) name.now)))) }
-    ensures context { OnlyAsks ctx.old ctx.new }
+        (option_to_list (option_copied declared.entry)) (view value.now)
+        (one_below (path_at trail.now) name.now)) }
 {
     match declared {
         Some(subschema) => walk_below(subschema, name, value, trail, ctx, sink),
@@ -150,15 +130,9 @@ fn walk_each_name<'a, N: Walk<'a> + 'a>(
     ctx: &mut ValidationContext,
     sink: &mut ErrorSink<'a>,
 ) -> Result<(), Stop>
-    ensures on { OnOk result (GoesOn sink.old sink.new
-        (of_properties N.means N.first N.report ctx.old.answer
-        properties.now
-        (object_of members.now.entries) (path_at trail.now))) }
-    ensures stop { IfErr result (λ s. StopsBy s sink.old sink.new (IsErrorOf
-        (of_properties N.means N.first N.report ctx.old.answer
-        properties.now
-        (object_of members.now.entries) (path_at trail.now)))) }
-    ensures context { OnlyAsks ctx.old ctx.new }
+    ensures { Walks result sink.old sink.new ctx.old ctx.new
+        (of_properties N.means N.first N.report ctx.old.answer properties.now
+        (object_of members.now.entries) (path_at trail.now)) }
 {
     for (name, subschema, value) in DeclaredMembers::of(properties, members) {
         walk_below(subschema, name, value, trail, ctx, sink)?;
@@ -176,13 +150,9 @@ pub(crate) fn walk_below<'a, N: Walk<'a>>(
     ctx: &mut ValidationContext,
     sink: &mut ErrorSink<'a>,
 ) -> Result<(), Stop>
-    ensures on { OnOk result (GoesOn sink.old sink.new
-        (of_node N.means N.first N.report ctx.old.answer
-        subschema.now (view value.now) (one_below (path_at trail.now) name.now))) }
-    ensures stop { IfErr result (λ s. StopsBy s sink.old sink.new (IsErrorOf
-        (of_node N.means N.first N.report ctx.old.answer
-        subschema.now (view value.now) (one_below (path_at trail.now) name.now)))) }
-    ensures context { OnlyAsks ctx.old ctx.new }
+    ensures { Walks result sink.old sink.new ctx.old ctx.new
+        (of_node N.means N.first N.report ctx.old.answer subschema.now (view value.now)
+        (one_below (path_at trail.now) name.now)) }
 {
     let below = Trail::Below(&*trail, name);
     subschema.walk(Node::Value(value), &below, ctx, sink)

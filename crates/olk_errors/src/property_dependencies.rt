@@ -1,15 +1,13 @@
 //! `propertyDependencies`: its errors.
-ghost use Rattle.std.specs.Prelude.{◌≡◌, OnOk, IfErr};
+ghost use Rattle.std.specs.Prelude.{◌≡◌};
 ghost use Rattle.serde_json.specs.View.{view};
 ghost use Rattle.olk_base.specs.Nodes.{data_of};
 ghost use Rattle.olk_paths.specs.Trails.{path_at};
 ghost use Rattle.olk_tree.specs.Maps.{named};
 ghost use Rattle.olk_tree.specs.PropertyDependencies.{chosen_at, chosen_nodes};
 ghost use Rattle.olk_tree.specs.Visited.{object_of};
-ghost use Rattle.olk_check.specs.Asks.{OnlyAsks};
-ghost use Rattle.olk_errors.specs.Found.{IsErrorOf};
 ghost use Rattle.olk_errors.specs.Outcomes.{of_branches};
-ghost use Rattle.olk_errors.specs.Sinks.{GoesOn, StopsBy};
+ghost use Rattle.olk_errors.specs.Sinks.{Walks};
 
 use crate::{ErrorSink, Stop, Walk};
 use olk_base::{Node, ValidationContext};
@@ -45,15 +43,10 @@ fn walk_chosen<'a, N: Walk<'a>>(
     sink: &mut ErrorSink<'a>,
 ) -> Result<(), Stop>
     requires { data_of object ≡ object_of members.now.entries }
-    ensures on { OnOk result (GoesOn sink.old sink.new
+    ensures { Walks result sink.old sink.new ctx.old ctx.new
         (of_branches N.means N.first N.report ctx.old.answer
-        (chosen_nodes (named dependencies.now) (data_of object.entry))
-        (data_of object.entry) (path_at trail.now))) }
-    ensures stop { IfErr result (λ s. StopsBy s sink.old sink.new (IsErrorOf
-        (of_branches N.means N.first N.report ctx.old.answer
-        (chosen_nodes (named dependencies.now) (data_of object.entry))
-        (data_of object.entry) (path_at trail.now)))) }
-    ensures context { OnlyAsks ctx.old ctx.new }
+        (chosen_nodes (named dependencies.now) (data_of object.entry)) (data_of object.entry)
+        (path_at trail.now)) }
 {
     for (_, choices, value) in dependencies.declared_members(members) {
         walk_choice(choices, value, object, trail, ctx, sink)?;
@@ -70,13 +63,9 @@ fn walk_choice<'a, N: Walk<'a>>(
     ctx: &mut ValidationContext,
     sink: &mut ErrorSink<'a>,
 ) -> Result<(), Stop>
-    ensures on { OnOk result (GoesOn sink.old sink.new
+    ensures { Walks result sink.old sink.new ctx.old ctx.new
         (of_branches N.means N.first N.report ctx.old.answer
-        (chosen_at choices.now (view value.now)) (data_of object.entry) (path_at trail.now))) }
-    ensures stop { IfErr result (λ s. StopsBy s sink.old sink.new (IsErrorOf
-        (of_branches N.means N.first N.report ctx.old.answer
-        (chosen_at choices.now (view value.now)) (data_of object.entry) (path_at trail.now)))) }
-    ensures context { OnlyAsks ctx.old ctx.new }
+        (chosen_at choices.now (view value.now)) (data_of object.entry) (path_at trail.now)) }
 {
     match choices.chosen_by(value) {
         Some(dependency) => dependency.walk(object, trail, ctx, sink),

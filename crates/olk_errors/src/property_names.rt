@@ -1,14 +1,12 @@
 //! `propertyNames`: its errors.
-ghost use Rattle.std.specs.Prelude.{◌≡◌, true, false, IfOk, OnOk, IfErr, string_bytes};
+ghost use Rattle.std.specs.Prelude.{◌≡◌, true, false, IfOk, string_bytes};
 ghost use Rattle.olk_base.specs.Nodes.{data_of};
 ghost use Rattle.olk_paths.specs.Trails.{path_at};
 ghost use Rattle.olk_spec.specs.Reports.{wrapped};
 ghost use Rattle.olk_reports.specs.Errors.{fault_of};
 ghost use Rattle.olk_tree.specs.Visited.{object_of};
-ghost use Rattle.olk_check.specs.Asks.{OnlyAsks};
-ghost use Rattle.olk_errors.specs.Found.{IsErrorOf};
 ghost use Rattle.olk_errors.specs.Outcomes.{of_asked_name, of_asked_names};
-ghost use Rattle.olk_errors.specs.Sinks.{wants_one, GoesOn, Takes, StopsBy};
+ghost use Rattle.olk_errors.specs.Sinks.{wants_one, Walks, Takes};
 
 use crate::branches::{errors_of, first_error_of};
 use crate::{ErrorSink, Stop, Walk};
@@ -38,7 +36,6 @@ impl<'a, N: Walk<'a>> Walk<'a> for PropertyNames<N> {
 
 impl<'a> Walk<'a> for PropertyNamesFalse {
     #[inline(never)]
-    #[tactic(auto, using(crate::proofs::Sinks::stops_here))]
     fn walk(
         &'a self,
         node: Node<'a>,
@@ -64,13 +61,9 @@ fn walk_names<'a, N: Walk<'a>>(
     sink: &mut ErrorSink<'a>,
 ) -> Result<(), Stop>
     requires { data_of object ≡ object_of members.now.entries }
-    ensures on { OnOk result (GoesOn sink.old sink.new
-        (of_asked_names N.means N.first N.report ctx.old.answer
-        subschema.now (data_of object.entry) (path_at trail.now))) }
-    ensures stop { IfErr result (λ s. StopsBy s sink.old sink.new (IsErrorOf
-        (of_asked_names N.means N.first N.report ctx.old.answer
-        subschema.now (data_of object.entry) (path_at trail.now)))) }
-    ensures context { OnlyAsks ctx.old ctx.new }
+    ensures { Walks result sink.old sink.new ctx.old ctx.new
+        (of_asked_names N.means N.first N.report ctx.old.answer subschema.now (data_of object.entry)
+        (path_at trail.now)) }
 {
     for (name, _) in members {
         walk_name(subschema, name, object, trail, ctx, sink)?;
@@ -87,13 +80,9 @@ fn walk_name<'a, N: Walk<'a>>(
     ctx: &mut ValidationContext,
     sink: &mut ErrorSink<'a>,
 ) -> Result<(), Stop>
-    ensures on { OnOk result (GoesOn sink.old sink.new
-        (of_asked_name N.means N.first N.report ctx.old.answer
-        subschema.now (data_of object.entry) (string_bytes name.now) (path_at trail.now))) }
-    ensures stop { IfErr result (λ s. StopsBy s sink.old sink.new (IsErrorOf
-        (of_asked_name N.means N.first N.report ctx.old.answer
-        subschema.now (data_of object.entry) (string_bytes name.now) (path_at trail.now)))) }
-    ensures context { OnlyAsks ctx.old ctx.new }
+    ensures { Walks result sink.old sink.new ctx.old ctx.new
+        (of_asked_name N.means N.first N.report ctx.old.answer subschema.now (data_of object.entry)
+        (string_bytes name.now) (path_at trail.now)) }
 {
     if sink.wants_one() {
         take_first_of_name(subschema, name, object, trail, ctx, sink)
@@ -112,13 +101,9 @@ fn take_first_of_name<'a, N: Walk<'a>>(
     sink: &mut ErrorSink<'a>,
 ) -> Result<(), Stop>
     requires { wants_one sink.now ≡ true }
-    ensures on { OnOk result (GoesOn sink.old sink.new
-        (of_asked_name N.means N.first N.report ctx.old.answer
-        subschema.now (data_of object.entry) (string_bytes name.now) (path_at trail.now))) }
-    ensures stop { IfErr result (λ s. StopsBy s sink.old sink.new (IsErrorOf
-        (of_asked_name N.means N.first N.report ctx.old.answer
-        subschema.now (data_of object.entry) (string_bytes name.now) (path_at trail.now)))) }
-    ensures context { OnlyAsks ctx.old ctx.new }
+    ensures { Walks result sink.old sink.new ctx.old ctx.new
+        (of_asked_name N.means N.first N.report ctx.old.answer subschema.now (data_of object.entry)
+        (string_bytes name.now) (path_at trail.now)) }
 {
     match first_error_of(sink.alloc(), subschema, Node::Name(name), trail, ctx)? {
         Some(error) => take_wrapped(error, object, trail, sink),
@@ -136,13 +121,9 @@ fn take_all_of_name<'a, N: Walk<'a>>(
     sink: &mut ErrorSink<'a>,
 ) -> Result<(), Stop>
     requires { wants_one sink.now ≡ false }
-    ensures on { OnOk result (GoesOn sink.old sink.new
-        (of_asked_name N.means N.first N.report ctx.old.answer
-        subschema.now (data_of object.entry) (string_bytes name.now) (path_at trail.now))) }
-    ensures stop { IfErr result (λ s. StopsBy s sink.old sink.new (IsErrorOf
-        (of_asked_name N.means N.first N.report ctx.old.answer
-        subschema.now (data_of object.entry) (string_bytes name.now) (path_at trail.now)))) }
-    ensures context { OnlyAsks ctx.old ctx.new }
+    ensures { Walks result sink.old sink.new ctx.old ctx.new
+        (of_asked_name N.means N.first N.report ctx.old.answer subschema.now (data_of object.entry)
+        (string_bytes name.now) (path_at trail.now)) }
 {
     let errors = errors_of(sink.alloc(), subschema, Node::Name(name), trail, ctx)?;
     for error in errors {
@@ -158,10 +139,8 @@ fn take_wrapped<'a>(
     trail: &Trail<'_, 'a>,
     sink: &mut ErrorSink<'a>,
 ) -> Result<(), Stop>
-    ensures on { OnOk result (Takes sink.old sink.new
-        (wrapped (data_of object.entry) (path_at trail.now) (fault_of error.entry))) }
-    ensures stop { IfErr result (λ s. StopsBy s sink.old sink.new (λ f. f
-        ≡ wrapped (data_of object.entry) (path_at trail.now) (fault_of error.entry))) }
+    ensures { Takes result sink.old sink.new
+        (wrapped (data_of object.entry) (path_at trail.now) (fault_of error.entry)) }
 {
     let (error, instance_path) = boxed_at(sink.alloc(), error, trail)?;
     sink.take(ValidationError::wrapping(error, object, instance_path))

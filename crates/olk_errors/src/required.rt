@@ -1,13 +1,12 @@
 //! `required`: its errors.
-ghost use Rattle.std.specs.Prelude.{◌≡◌, ◌∷◌, [], OnOk, IfErr};
+ghost use Rattle.std.specs.Prelude.{◌≡◌, ◌∷◌, []};
 ghost use Rattle.olk_base.specs.Nodes.{data_of};
 ghost use Rattle.olk_spec.specs.Faults.{Required, fault};
 ghost use Rattle.olk_paths.specs.Trails.{path_at};
 ghost use Rattle.olk_tree.specs.Maps.{texts_of};
 ghost use Rattle.olk_tree.specs.Visited.{object_of};
-ghost use Rattle.olk_errors.specs.Found.{IsErrorOf};
 ghost use Rattle.olk_errors.specs.Outcomes.{of_names};
-ghost use Rattle.olk_errors.specs.Sinks.{GoesOn, StopsBy, Takes};
+ghost use Rattle.olk_errors.specs.Sinks.{Ends, Takes};
 
 use crate::{ErrorSink, Stop, Walk};
 use olk_base::{Node, ValidationContext};
@@ -46,12 +45,9 @@ fn walk_missing<'a>(
     sink: &mut ErrorSink<'a>,
 ) -> Result<(), Stop>
     requires { data_of node ≡ object_of members.now.entries }
-    ensures on { OnOk result (GoesOn sink.old sink.new
+    ensures { Ends result sink.old sink.new
         (of_names (texts_of names.now.items) (data_of node.entry) location.now
-        (path_at trail.now))) }
-    ensures stop { IfErr result (λ s. StopsBy s sink.old sink.new (IsErrorOf
-        (of_names (texts_of names.now.items) (data_of node.entry) location.now
-        (path_at trail.now)))) }
+        (path_at trail.now)) }
 {
     for name in names {
         report_if_missing(name.as_str(), location, members, node, trail, sink)?;
@@ -70,10 +66,8 @@ pub(crate) fn report_if_missing<'a>(
     sink: &mut ErrorSink<'a>,
 ) -> Result<(), Stop>
     requires { data_of node ≡ object_of members.now.entries }
-    ensures on { OnOk result (GoesOn sink.old sink.new
-        (of_names (name.now ∷ []) (data_of node.entry) location.now (path_at trail.now))) }
-    ensures stop { IfErr result (λ s. StopsBy s sink.old sink.new (IsErrorOf
-        (of_names (name.now ∷ []) (data_of node.entry) location.now (path_at trail.now)))) }
+    ensures { Ends result sink.old sink.new
+        (of_names (name.now ∷ []) (data_of node.entry) location.now (path_at trail.now)) }
 {
     if is_present(members, name) {
         return Ok(());
@@ -90,10 +84,8 @@ fn report_absent<'a>(
     trail: &Trail<'_, 'a>,
     sink: &mut ErrorSink<'a>,
 ) -> Result<(), Stop>
-    ensures on { OnOk result (Takes sink.old sink.new
-        (fault (Required name.now) (data_of node.entry) (path_at trail.now) location.now)) }
-    ensures stop { IfErr result (λ s. StopsBy s sink.old sink.new (λ f. f
-        ≡ fault (Required name.now) (data_of node.entry) (path_at trail.now) location.now)) }
+    ensures { Takes result sink.old sink.new
+        (fault (Required name.now) (data_of node.entry) (path_at trail.now) location.now) }
 {
     let kind = ValidationErrorKind::Required { property: name };
     sink.report(kind, node, trail, location.as_str())

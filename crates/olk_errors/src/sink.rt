@@ -1,10 +1,10 @@
 //! What takes the errors of a walk.
-ghost use Rattle.std.specs.Prelude.{◌≡◌, [], true, false, option_to_list, OnOk, IfErr};
+ghost use Rattle.std.specs.Prelude.{◌≡◌, [], true, false, option_to_list};
 ghost use Rattle.olk_base.specs.Nodes.{data_of};
 ghost use Rattle.olk_paths.specs.Trails.{path_at};
 ghost use Rattle.olk_reports.specs.Errors.{kind_of, fault_of};
 ghost use Rattle.olk_spec.specs.Faults.{fault};
-ghost use Rattle.olk_errors.specs.Sinks.{wants_one, held, Takes, StopsBy};
+ghost use Rattle.olk_errors.specs.Sinks.{wants_one, held, Takes};
 
 use olk_base::{Node, append};
 use olk_paths::Trail;
@@ -93,12 +93,8 @@ impl<'a> ErrorSink<'a> {
         trail: &Trail<'_, 'a>,
         schema_path: &'a str,
     ) -> Result<(), Stop>
-        ensures on { OnOk result (Takes self.old self.new
-            (fault (kind_of kind.entry) (data_of node.entry) (path_at trail.now)
-            schema_path.now)) }
-        ensures stop { IfErr result (λ s. StopsBy s self.old self.new (λ f. f
-            ≡ fault (kind_of kind.entry) (data_of node.entry) (path_at trail.now)
-            schema_path.now)) }
+        ensures { Takes result self.old self.new
+            (fault (kind_of kind.entry) (data_of node.entry) (path_at trail.now) schema_path.now) }
     {
         let instance_path = trail.text(self.alloc)?;
         self.take(ValidationError::at(kind, node, instance_path, schema_path))
@@ -111,9 +107,7 @@ impl<'a> ErrorSink<'a> {
     /// That this error is enough; or out of memory, and then a list that takes all errors is as
     /// before.
     pub fn take(&mut self, error: ValidationError<'a>) -> Result<(), Stop>
-        ensures on { OnOk result (Takes self.old self.new (fault_of error.entry)) }
-        ensures stop { IfErr result (λ s. StopsBy s self.old self.new
-            (λ f. f ≡ fault_of error.entry)) }
+        ensures { Takes result self.old self.new (fault_of error.entry) }
     {
         match &mut self.held {
             Held::First(slot) => {

@@ -1,12 +1,13 @@
-use Rattle.std.proofs.Common.{ℕ, option_map, ap}
+use Rattle.std.proofs.Common.{ℕ, ap, option_map}
 use Rattle.serde_json.specs.View.{view}
 use Rattle.olk_spec.specs.Names.{◌//◌}
 use Rattle.olk_paths.specs.Trails.{path_at}
+use Rattle.olk_check.proofs.Asked.{only_same}
+use Rattle.olk_errors.proofs.Due.{past_none}
 use Rattle.olk_errors.specs.Outcomes.{declared_nodes}
-use Rattle.olk_errors.proofs.Due.{goes_past_none}
 use Rattle.olk_errors.proofs.additional_properties.walk_declared.Goals as goal
 
-pub returns-in-None-clause-on : goal.returns-in-None-clause-on
-returns-in-None-clause-on g c = goes_past_none g.N.Means.means g.N.Reports.first g.N.Reports.report c.args.ctx.now.answer (view c.args.value.now)
-    (path_at c.args.trail.now // c.args.name.now) c.args.sink.now
+pub returns-in-None : goal.returns-in-None
+returns-in-None g c = past_none g.N.Means.means g.N.Reports.first g.N.Reports.report c.args.ctx.now.answer (view c.args.value.now)
+    (path_at c.args.trail.now // c.args.name.now) (only_same c.args.ctx.now)
     (ap (λ d. declared_nodes (option_map {U = ℕ × g.row.N.Denot} (λ f. (f.0, f.1.now)) d)) c.in-None.is)

@@ -1,24 +1,19 @@
-use Rattle.std.proofs.Common.{refl, sym, subst, true, false}
-use Rattle.std.proofs.lemmas.Result.{IfErr-weaker}
+use Rattle.std.proofs.Common.{true, false, refl, sym, subst, Ok}
 use Rattle.olk_base.specs.Nodes.{data_of}
+use Rattle.olk_spec.specs.Faults.{itself, FalseSchema}
 use Rattle.olk_paths.specs.Trails.{path_at}
-use Rattle.olk_spec.specs.Faults.{FalseSchema, itself}
 use Rattle.olk_reports.proofs.Errors.{kind_of_false_schema}
-use Rattle.olk_errors.specs.Found.{IsErrorOf}
+use Rattle.olk_check.proofs.Asked.{only_same}
+use Rattle.olk_errors.proofs.Own.{like_at, walks_own, is_own}
+use Rattle.olk_errors.proofs.Sinks.{walks_past}
 use Rattle.olk_errors.specs.Outcomes.{of_body}
-use Rattle.olk_errors.specs.Sinks.{GoesOn}
-use Rattle.olk_errors.proofs.Own.{own_error, like_at}
-use Rattle.olk_errors.proofs.Sinks.{goes_nowhere, stops_weaker}
+use Rattle.olk_errors.specs.Sinks.{Walks}
 use Rattle.olk_errors.proofs.node.walk_other.Goals as goal
 
-pub returns-in-True-clause-on : goal.returns-in-True-clause-on
-returns-in-True-clause-on g c = subst (λ b. GoesOn c.args.sink.now c.args.sink.now (of_body g.W.Means.means g.W.Reports.first g.W.Reports.report c.args.ctx.now.answer c.args.location.now b
-    (data_of c.args.node) (path_at c.args.trail.now))) (sym c.in-True.is)
-    (goes_nowhere c.args.sink.now)
+pub returns-in-True : goal.returns-in-True
+returns-in-True g c = subst (λ b. Walks (Ok tt) c.args.sink.now c.args.sink.now c.args.ctx.now c.args.ctx.now (of_body g.W.Means.means g.W.Reports.first g.W.Reports.report c.args.ctx.now.answer c.args.location.now b (data_of c.args.node) (path_at c.args.trail.now))) (sym c.in-True.is)
+    (walks_past (only_same c.args.ctx.now) (record { verdict = refl; nothing = refl }) refl)
 
-pub returns-in-False-clause-stop : goal.returns-in-False-clause-stop
-returns-in-False-clause-stop g c = IfErr-weaker c.report.result _ _
-    (λ s h. stops_weaker (λ f is. subst (λ b. IsErrorOf (of_body g.W.Means.means g.W.Reports.first g.W.Reports.report c.args.ctx.now.answer c.args.location.now b
-    (data_of c.args.node) (path_at c.args.trail.now)) f) (sym c.in-False.is)
-    (own_error FalseSchema (data_of c.args.node) c.args.location.now (path_at c.args.trail.now) {accepts = false} {case = true}
-    refl refl refl (like_at kind_of_false_schema itself refl refl) f is)) h) c.report.ensures.stop
+pub returns-in-False : goal.returns-in-False
+returns-in-False g c = subst (λ b. Walks c.report.result c.args.sink.now c.report.new.self c.args.ctx.now c.args.ctx.now (of_body g.W.Means.means g.W.Reports.first g.W.Reports.report c.args.ctx.now.answer c.args.location.now b (data_of c.args.node) (path_at c.args.trail.now))) (sym c.in-False.is)
+    (walks_own (only_same c.args.ctx.now) (is_own FalseSchema (data_of c.args.node) c.args.location.now (path_at c.args.trail.now) {accepts = false} {case = true} refl refl refl (like_at kind_of_false_schema itself refl refl)) c.report.ensures)

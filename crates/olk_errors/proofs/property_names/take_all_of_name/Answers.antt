@@ -1,44 +1,52 @@
-use Rattle.std.proofs.Common.{◌≡◌, rules, arith, length, map, [], ◌∷◌, string_bytes, sym, ap, subst, ◌∙◌}
+use Rattle.std.proofs.Common.{◌≡◌, [], ◌∷◌, map, length, sym, ap, subst, arith, ◌∙◌, string_bytes, rules}
 use Rattle.std.specs.Vec.Iter.{into_iter_items}
 use Rattle.serde_json.specs.Data.{string}
 use Rattle.olk_base.specs.Nodes.{data_of}
-use Rattle.olk_paths.specs.Trails.{path_at}
 use Rattle.olk_spec.specs.Faults.{◌∼◌}
 use Rattle.olk_spec.specs.Reports.{wrapped}
+use Rattle.olk_paths.specs.Trails.{path_at}
 use Rattle.olk_reports.specs.Errors.{fault_of}
-use Rattle.olk_errors.specs.Outcomes.{of_asked_name}
 use Rattle.olk_errors.proofs.Names.{names_told}
-use Rattle.olk_errors.proofs.Sinks.{left_by}
-use Rattle.olk_errors.proofs.Telling.{telling_start, telling_more, telling_stop, telling_like, nothing_left}
+use Rattle.olk_errors.proofs.Sinks.{ends_left, walks_nowhere}
+use Rattle.olk_errors.proofs.Telling.{nothing_left, telling_start, telling_turn, telling_like}
+use Rattle.olk_errors.proofs.Unexpected.{told}
+use Rattle.olk_errors.specs.Outcomes.{of_asked_name}
 use Rattle.olk_errors.proofs.property_names.take_all_of_name.Goals as goal
+
+pub returns-in_err-errors : goal.returns-in_err-errors
+returns-in_err-errors g c = walks_nowhere c.from_residual.ensures.0 c.errors_of.ensures.context
 
 pub loop-error-init : goal.loop-error-init
 loop-error-init g c = record { told = telling_start c.requires; left = search rules }
 
 pub loop-error-preserved : goal.loop-error-preserved
-loop-error-preserved g c =
+loop-error-preserved g c = 
     let next : into_iter_items c.loop-error.error-iterator ≡ c.in-Some.error ∷ into_iter_items c.next.new.self = c.in-Some.ensures.steps.0 in
     record {
-      told = telling_more c.loop-error.invariant.told next c.in_ok-take_wrapped.ensures.on;
+      told = telling_turn c.loop-error.invariant.told (of_asked_name g.N.Means.means g.N.Reports.first g.N.Reports.report c.args.ctx.now.answer c.args.subschema.now
+    (data_of c.args.object) (string_bytes c.args.name.now) (path_at c.args.trail.now)) next c.in_ok-take_wrapped.ensures;
       left = (let was = c.loop-error.invariant.left in
           let gone = c.in-Some.ensures.steps.1 in
           let short = ap length next in
           omega arith);
     }
 
-pub returns-in_err-take_wrapped-clause-stop : goal.returns-in_err-take_wrapped-clause-stop
-returns-in_err-take_wrapped-clause-stop g c = left_by c.from_residual-in_err-take_wrapped.result _ _ c.from_residual-in_err-take_wrapped.ensures.1 c.in_err-take_wrapped.ensures.stop
-    (telling_stop c.loop-error.invariant.told
-    (of_asked_name g.N.Means.means g.N.Reports.first g.N.Reports.report c.args.ctx.now.answer c.args.subschema.now
-    (data_of c.args.object) (string_bytes c.args.name.now) (path_at c.args.trail.now)) c.in-Some.ensures.steps.0)
+pub returns-in_err-take_wrapped : goal.returns-in_err-take_wrapped
+returns-in_err-take_wrapped g c = record {
+      ends = ends_left c.from_residual-in_err-take_wrapped.ensures.0 (telling_turn c.loop-error.invariant.told (of_asked_name g.N.Means.means g.N.Reports.first g.N.Reports.report c.args.ctx.now.answer c.args.subschema.now
+    (data_of c.args.object) (string_bytes c.args.name.now) (path_at c.args.trail.now)) c.in-Some.ensures.steps.0 c.in_err-take_wrapped.ensures).so;
+      only = c.errors_of.ensures.context;
+    }
 
-pub returns-clause-on : goal.returns-clause-on
-returns-clause-on g c =
+pub returns : goal.returns
+returns g c = 
     let none : into_iter_items c.loop-error.error-iterator ≡ [] = nothing_left (into_iter_items c.loop-error.error-iterator) (sym c.loop-error.invariant.left ∙ c.in-None.ensures.steps.0) in
     let all : into_iter_items c.into_iter-error-iterator.result ≡ c.in_ok-errors.errors.items = search rules in
-    telling_like c.loop-error.invariant.told
-    (of_asked_name g.N.Means.means g.N.Reports.first g.N.Reports.report c.args.ctx.now.answer c.args.subschema.now
+    record {
+      ends = telling_like c.loop-error.invariant.told (of_asked_name g.N.Means.means g.N.Reports.first g.N.Reports.report c.args.ctx.now.answer c.args.subschema.now
     (data_of c.args.object) (string_bytes c.args.name.now) (path_at c.args.trail.now))
-    (subst (λ l. map (λ e. wrapped (data_of c.args.object) (path_at c.args.trail.now) (fault_of e)) l
-    ∼ map (wrapped (data_of c.args.object) (path_at c.args.trail.now)) (g.N.Reports.report c.args.subschema.now c.args.ctx.now.answer (string (string_bytes c.args.name.now)) (path_at c.args.trail.now))) (sym all)
-    (names_told (data_of c.args.object) (path_at c.args.trail.now) c.in_ok-errors.ensures.errors)) none
+          (subst (λ l. map (λ e. wrapped (data_of c.args.object) (path_at c.args.trail.now) (fault_of e)) l
+          ∼ map (wrapped (data_of c.args.object) (path_at c.args.trail.now)) (g.N.Reports.report c.args.subschema.now c.args.ctx.now.answer (string (string_bytes c.args.name.now)) (path_at c.args.trail.now))) (sym all)
+          (names_told (data_of c.args.object) (path_at c.args.trail.now) c.in_ok-errors.ensures.errors)) none;
+      only = c.errors_of.ensures.context;
+    }
