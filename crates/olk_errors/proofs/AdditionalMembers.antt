@@ -32,8 +32,7 @@ use Rattle.olk_errors.specs.Sinks.{wants_one, GoesOn, Stopped, Ends, EndsAlone, 
 use Rattle.olk_errors.specs.declared.sink.ErrorSink.{ErrorSink}
 use Rattle.olk_errors.specs.declared.sink.Stop.{Stop}
 use Rattle.olk_errors.proofs.Missing.{one_first, other_lacks_none, other_lacks_nothing}
-use Rattle.olk_errors.proofs.Sinks.{after, contains_first, pass_both, goes_after, goes_same, goes_keeping, goes_passing, stopped_where, stopped_same, stopped_before, stopped_after, ends_left, ends_past, ends_through}
-use Rattle.olk_errors.proofs.Several.{goes_either}
+use Rattle.olk_errors.proofs.Sinks.{after, contains_first, pass_both, goes_after, goes_same, goes_keeping, goes_passing, goes_either, stopped_where, stopped_same, stopped_before, stopped_after, ends_left, ends_past, ends_through}
 use Rattle.olk_errors.proofs.Unexpected.{told_of_one, kept_of_first}
 
 not_some : {A : Type 0} (o : Option A) → not (is_some o) ≡ is_none o
@@ -191,9 +190,11 @@ module _ {R N : Type 0} (answers : R → Name → Says) (costs : R → Bool) (m 
       -- the walk over the member was stopped
       pub members_stop : {T : Type 0} {t : Stop} → Walks {T = T} (Err t) new newer b c (of_asked b.answer d x) → Walks {T = T} (Err t) old newer a c (by_members a.answer)
       members_stop h = record {
-        ends = record { so = loop.stop newer (subst (λ l. Stopped new newer (IsErrorOf (of_left a.answer aside l))) (sym next)
-            (stopped_same (with_others a.answer aside more x declared) (stopped_before (of_others a.answer aside more x)
-            (subst (λ u. Stopped new newer (IsErrorOf (of_asked u d x))) loop.only.answer h.ends.so)))) };
+        ends = record {
+          so = loop.stop newer (subst (λ l. Stopped new newer (IsErrorOf (of_left a.answer aside l))) (sym next)
+              (stopped_same (with_others a.answer aside more x declared) (stopped_before (of_others a.answer aside more x)
+              (subst (λ u. Stopped new newer (IsErrorOf (of_asked u d x))) loop.only.answer h.ends.so))));
+        };
         only = only_then loop.only h.only;
       }
 

@@ -1,12 +1,10 @@
 -- What asking the nodes of a dependency comes to, over what a walk has left at its start.
-use Rattle.std.proofs.Common.{◌≡◌, Bool, List, [], ◌∷◌, append-nil, refl, sym, subst, Ok}
-use Rattle.std.proofs.Math.Bool.{and-true}
+use Rattle.std.proofs.Common.{◌≡◌, Bool, List, [], ◌∷◌, refl, sym, subst, Ok}
 use Rattle.serde_json.specs.Data.{Data, Members, object}
 use Rattle.olk_spec.specs.Names.{Name, Path}
 use Rattle.olk_spec.specs.Faults.{Fault}
 use Rattle.olk_spec.specs.Schemas.{listed}
 use Rattle.olk_tree.specs.Questions.{Question, every}
-use Rattle.olk_tree.specs.Firsts.{or_else}
 use Rattle.olk_tree.specs.Dependencies.{due_nodes}
 use Rattle.olk_tree.specs.PropertyDependencies.{chosen_nodes}
 use Rattle.olk_tree.specs.Visited.{names_met, left_of}
@@ -19,15 +17,12 @@ use Rattle.olk_errors.specs.Outcomes.{of_each, of_node, of_branches}
 use Rattle.olk_errors.specs.Sinks.{Walks}
 use Rattle.olk_errors.specs.declared.sink.ErrorSink.{ErrorSink}
 use Rattle.olk_errors.proofs.Sinks.{walks_past}
-
-or_else_nothing : (fs : List Fault) → or_else fs [] ≡ fs
-or_else_nothing [] = refl
-or_else_nothing (f ∷ fs) = refl
+use Rattle.olk_errors.proofs.Loops.{each_one}
 
 module _ {N : Type 0} (m : N → Data → Question) (s r : N → Bool → Data → Path → List Fault) (u : Bool) (v : Data) (Q : Path) where
   -- of one branch
   pub one_branch : (n : N) → of_node m s r u n v Q ≡ of_branches m s r u (n ∷ []) v Q
-  one_branch n = λ i. record { accepts = sym (and-true ((m n v).accepts u)) i; first = sym (or_else_nothing (s n u v Q)) i; all = sym (append-nil (r n u v Q)) i }
+  one_branch n = each_one (λ k. m k v) u (λ k. s k u v Q) (λ k. r k u v Q) n
 
   module _ (ms : Members) (is : v ≡ object ms) where
     pub due_of_walk : (es : List (Name × N)) {w x : DeclaredMembers N} → w ≡ x → left_of x ≡ names_met es (listed ms)

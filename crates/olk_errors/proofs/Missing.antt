@@ -15,7 +15,7 @@ use Rattle.olk_errors.specs.Outcomes.{of_each, of_names}
 use Rattle.olk_errors.specs.Found.{Passes}
 use Rattle.olk_errors.specs.Sinks.{Ends}
 use Rattle.olk_errors.specs.declared.sink.ErrorSink.{ErrorSink}
-use Rattle.olk_errors.proofs.Sinks.{ends_past, of_one}
+use Rattle.olk_errors.proofs.Sinks.{ends_past}
 use Rattle.olk_errors.proofs.Own.{IsOwn, is_own, like_at}
 
 module _ (v : Data) where
@@ -98,14 +98,6 @@ module _ (v : Data) (P Q : Path) (name : String Global) where
   pub one_first : (b : Bool) → head_of (map (λ n. fault (Required n) v Q P) (put_if b (string_bytes name) [])) ≡ map (λ n. fault (Required n) v Q P) (put_if b (string_bytes name) [])
   one_first true = refl
   one_first false = refl
-
-  pub same_one : of_names (string_bytes name ∷ []) v P Q ≡ of_one (is_there v) true (lacked v P Q) (lacked v P Q) name
-  same_one =
-      λ i. record {
-        accepts = is_empty (missing (string_bytes name ∷ []) v);
-        first = one_first (is_object v && not (has (string_bytes name) v)) i;
-        all = required_faults (string_bytes name ∷ []) v P Q;
-      }
 
 -- ---- of what is no object
 

@@ -11,11 +11,9 @@ use Rattle.olk_spec.specs.Faults.{Fault}
 use Rattle.olk_reports.specs.Errors.{fault_of}
 use Rattle.olk_reports.specs.declared.error.ValidationError.{ValidationError}
 use Rattle.olk_tree.specs.Firsts.{or_else}
-use Rattle.olk_tree.specs.Questions.{Question}
 use Rattle.olk_check.specs.Asks.{OnlyAsks}
-use Rattle.olk_check.proofs.Asked.{only_same, only_then}
+use Rattle.olk_check.proofs.Asked.{only_then}
 use Rattle.olk_errors.specs.Found.{Appends, Outcome, Passes, IsErrorOf}
-use Rattle.olk_errors.specs.Outcomes.{of_each}
 use Rattle.olk_errors.specs.Sinks.{is_first, errors_in, wants_one, held, Took, GoesOn, IsLonger, Kept, Keeps, Stopped, Ended, EndsBy, Ends, one_error, Takes, Walks}
 use Rattle.olk_errors.specs.declared.sink.ErrorSink.{ErrorSink}
 use Rattle.olk_errors.specs.declared.sink.Held.TheVariants.{First, All}
@@ -86,6 +84,10 @@ from_all : (b : Bool) (old new : List ValidationError) (o : Outcome) → b ≡ f
 from_all false old new o e h = h
 from_all true old new o e h = absurd (true≢false e)
 
+took_either : (b : Bool) (old new : List ValidationError) (o p : Outcome) → (b ≡ true → Passes o → Passes p) → o.all ≡ p.all → Took b old new o → Took b old new p
+took_either false old new o p one all h = subst (Appends old new) all h
+took_either true old new o p one all h = (one refl h.0, h.1)
+
 took_first : (b : Bool) (old new : List ValidationError) (o p : Outcome) → b ≡ true → (Passes o → Passes p) → Took b old new o → Took b old new p
 took_first true old new o p e k h = (k h.0, h.1)
 took_first false old new o p e k h = absurd (true≢false (sym e))
@@ -136,11 +138,13 @@ module _ {old new : ErrorSink} where
   pub goes_appending : {o : Outcome} → wants_one old ≡ false → GoesOn old new o → Appends (held old) (held new) o.all
   goes_appending {o} all h = took_all (wants_one old) (held old) (held new) o all h.took
 
-  -- where all are wanted, what all are is what matters
-  pub goes_all : {o : Outcome} (p : Outcome) → wants_one old ≡ false → o.all ≡ p.all → GoesOn old new o → GoesOn old new p
-  goes_all {o} p all e h = record { same = h.same; took = from_all (wants_one old) (held old) (held new) p all (subst (Appends (held old) (held new)) e (goes_appending all h)) }
+  -- where one is wanted, that it passes is what matters, and where all are, what these are
+  pub goes_either : {o : Outcome} (p : Outcome) → (wants_one old ≡ true → Passes o → Passes p) → o.all ≡ p.all → GoesOn old new o → GoesOn old new p
+  goes_either {o} p one all h = record { same = h.same; took = took_either (wants_one old) (held old) (held new) o p one all h.took }
 
-  -- where one is wanted, that it passes is what matters
+  pub goes_all : {o : Outcome} (p : Outcome) → wants_one old ≡ false → o.all ≡ p.all → GoesOn old new o → GoesOn old new p
+  goes_all p all e = goes_either p (λ one. absurd (true≢false (sym one ∙ all))) e
+
   pub goes_first : {o : Outcome} (p : Outcome) → wants_one old ≡ true → (Passes o → Passes p) → GoesOn old new o → GoesOn old new p
   goes_first {o} p one k h = record { same = h.same; took = took_first (wants_one old) (held old) (held new) o p one k h.took }
 
@@ -194,6 +198,9 @@ module _ {T : Type 0} {r : Result T Stop} where
   ends_nowhere {s = s} e = ends_left e (inr (keeps_same s))
 
   module _ {old new : ErrorSink} where
+    pub ends_same : {o p : Outcome} → o ≡ p → Ends r old new o → Ends r old new p
+    ends_same = subst (Ends r old new)
+
     -- where all are wanted, what all are is what matters
     pub ends_all : {o : Outcome} (p : Outcome) → wants_one old ≡ false → o.all ≡ p.all → Ends r old new o → Ends r old new p
     ends_all p all e = ends_through (goes_all p all e) (stopped_all all)
@@ -241,12 +248,9 @@ module _ {T : Type 0} {r : Result T Stop} where
   pub walks_left : {S : Type 0} {s : Stop} {old new : ErrorSink} {a b : Asking} {o : Outcome} → IsErr r → Walks {T = S} (Err s) old new a b o → Walks r old new a b o
   walks_left e h = record { ends = ends_left e h.ends.so; only = h.only }
 
-  -- there was no memory, and nothing was taken before, or an outcome was
+  -- there was no memory, and nothing was taken before
   pub walks_nowhere : {s : ErrorSink} {a b : Asking} {o : Outcome} → IsErr r → OnlyAsks a b → Walks r s s a b o
   walks_nowhere e only = record { ends = ends_nowhere e; only = only }
-
-  pub walks_cut : {old new : ErrorSink} {a b : Asking} {p : Outcome} (o : Outcome) → IsErr r → GoesOn old new p → OnlyAsks a b → Walks r old new a b o
-  walks_cut o e on only = record { ends = ends_left e (inr (goes_keeping on)); only = only }
 
 -- a walk to its end, with another result
 pub walks_on : {S T : Type 0} {x : S} {y : T} {old new : ErrorSink} {a b : Asking} {o : Outcome} → Walks (Ok x) old new a b o → Walks (Ok y) old new a b o
@@ -269,78 +273,6 @@ module _ {old : ErrorSink} (e : ValidationError) where
       took = from_all (wants_one old) (held old) fs.items (one_error (fault_of e)) (ap is_first is) (appends_one e (more ∙ ap (λ l. l ++ e ∷ []) (sym (ap errors_in is))) refl);
     };
   }
-
--- ---- each of a list
-
-module _ {X : Type 0} (q : X → Question) (u : Bool) (s f : X → List Fault) where
-  abbrev pub of_one : X → Outcome
-  of_one x = record { accepts = (q x).accepts u; first = s x; all = f x }
-
-  -- what a walk over the rest does from now on is what a walk over all does from the start
-  pub record Walked (all rest : List X) (old new : ErrorSink) : Type 0 where
-    pub on : (newer : ErrorSink) → GoesOn new newer (of_each u q s f rest) → GoesOn old newer (of_each u q s f all)
-    pub stop : (newer : ErrorSink) → Stopped new newer (IsErrorOf (of_each u q s f rest)) → Stopped old newer (IsErrorOf (of_each u q s f all))
-
-module _ {X : Type 0} {q : X → Question} {u : Bool} {s f : X → List Fault} {all : List X} where
-  pub walked_start : {k : ErrorSink} → Walked q u s f all all k k
-  walked_start = record { on = λ newer h. h; stop = λ newer h. h }
-
-  module _ {rest : List X} {old new : ErrorSink} (loop : Walked q u s f all rest old new) where
-    pub walked_more : {x : X} {more : List X} {newer : ErrorSink} → rest ≡ x ∷ more → GoesOn new newer (of_one q u s f x) → Walked q u s f all more old newer
-    walked_more next on = record {
-      on = λ newest h. loop.on newest (subst (λ l. GoesOn new newest (of_each u q s f l)) (sym next) (goes_after on h));
-      stop = λ newest h. loop.stop newest (subst (λ l. Stopped new newest (IsErrorOf (of_each u q s f l))) (sym next) (stopped_after on h));
-    }
-
-    pub walked_stop : {x : X} {more : List X} {newer : ErrorSink} → rest ≡ x ∷ more → Stopped new newer (IsErrorOf (of_one q u s f x)) → Stopped old newer (IsErrorOf (of_each u q s f all))
-    walked_stop {x} {more} {newer} next h = loop.stop newer (subst (λ l. Stopped new newer (IsErrorOf (of_each u q s f l))) (sym next) (stopped_before (of_each u q s f more) h))
-
-    pub walked_end : rest ≡ [] → GoesOn old new (of_each u q s f all)
-    walked_end none = loop.on new (subst (λ l. GoesOn new new (of_each u q s f l)) (sym none) (goes_nowhere new))
-
--- what a turn of a loop comes to: the loop goes on, or it is left
-abbrev pub Turns : {T : Type 0} → Result T Stop → Type 0 → Type 0 → Type 0
-Turns (Ok y) On Left = On
-Turns (Err t) On Left = Left
-
-pub turns_on : {T : Type 0} (r : Result T Stop) (On Then Left : Type 0) → (On → Then) → Turns r On Left → Turns r Then Left
-turns_on (Ok y) On Then Left k h = k h
-turns_on (Err t) On Then Left k h = h
-
--- ---- with the context's answer, which a walk keeps; a and b are the context at the start and now
-
-pub record Walking {X : Type 0} (q : X → Question) (s f : Bool → X → List Fault) (all rest : List X) (old new : ErrorSink) (a b : Asking) : Type 0 where
-  pub so_far : Walked q a.answer (s a.answer) (f a.answer) all rest old new
-  pub only : OnlyAsks a b
-
-module _ {X : Type 0} {q : X → Question} {s f : Bool → X → List Fault} {all : List X} {a : Asking} where
-  pub walking_start : {k : ErrorSink} → Walking q s f all all k k a a
-  walking_start = record { so_far = walked_start; only = only_same a }
-
-  pub walking_from : {rest : List X} {k : ErrorSink} → rest ≡ all → Walking q s f all rest k k a a
-  walking_from {k = k} whole = subst (λ l. Walking q s f all l k k a a) (sym whole) walking_start
-
-  module _ {rest : List X} {old new : ErrorSink} {b : Asking} (loop : Walking q s f all rest old new a b) where
-    pub walking_turn : {x : X} {more : List X} {newer : ErrorSink} {c : Asking} {T : Type 0} {r : Result T Stop} → rest ≡ x ∷ more → Walks r new newer b c (of_one q b.answer (s b.answer) (f b.answer) x)
-        → Turns r (Walking q s f all more old newer a c) (Walks r old newer a c (of_each a.answer q (s a.answer) (f a.answer) all))
-    walking_turn {x} {more} {newer} {c} {T} {r} next = turn r
-      where
-        turn : (r : Result T Stop) → Walks r new newer b c (of_one q b.answer (s b.answer) (f b.answer) x)
-            → Turns r (Walking q s f all more old newer a c) (Walks r old newer a c (of_each a.answer q (s a.answer) (f a.answer) all))
-        turn (Ok y) h = record { so_far = walked_more loop.so_far next (subst (λ u. GoesOn new newer (of_one q u (s u) (f u) x)) loop.only.answer h.ends.so); only = only_then loop.only h.only }
-        turn (Err t) h = record {
-          ends = record { so = walked_stop loop.so_far next (subst (λ u. Stopped new newer (IsErrorOf (of_one q u (s u) (f u) x))) loop.only.answer h.ends.so) };
-          only = only_then loop.only h.only;
-        }
-
-    pub walking_end : {T : Type 0} {y : T} → rest ≡ [] → Walks (Ok y) old new a b (of_each a.answer q (s a.answer) (f a.answer) all)
-    walking_end none = record { ends = record { so = walked_end loop.so_far none }; only = loop.only }
-
--- the last turn
-pub last_turn : {X : Type 0} (q : X → Question) (s f : Bool → X → List Fault) (all : List X) {old new : ErrorSink} {a b : Asking} {T : Type 0} (r : Result T Stop)
-    → Turns r (Walking q s f all [] old new a b) (Walks r old new a b (of_each a.answer q (s a.answer) (f a.answer) all)) → Walks r old new a b (of_each a.answer q (s a.answer) (f a.answer) all)
-last_turn q s f all (Ok y) loop = walking_end loop refl
-last_turn q s f all (Err t) h = h
 
 -- ---- what a stop leaves in the sink
 

@@ -9,7 +9,8 @@ use Rattle.olk_errors.specs.declared.sink.ErrorSink.{ErrorSink}
 use Rattle.olk_errors.specs.declared.sink.Stop.{Stop}
 use Rattle.olk_reports.specs.declared.error.ValidationError.{ValidationError}
 use Rattle.olk_errors.proofs.Appending.{appends_like}
-use Rattle.olk_errors.proofs.Sinks.{Walked, walked_start, walked_more, walked_stop, walked_end, goes_all, stopped_all, Turns}
+use Rattle.olk_errors.proofs.Sinks.{goes_all, stopped_all}
+use Rattle.olk_errors.proofs.Loops.{Turns, Walked, walked_start, walked_turn, walked_end}
 
 -- ---- by what the sink wants
 
@@ -55,8 +56,8 @@ module _ {X : Type 0} {h : X → Fault} {all : List X} where
     telling_turn {x} {more} {newer} {T} {r} o next = turn r
       where
         turn : (r : Result T Stop) → Takes r new newer (h x) → Turns r (Telling h all more old newer) (Ends r old newer o)
-        turn (Ok y) takes = record { so_far = walked_more loop.so_far next takes.so; before = loop.before; now = takes.so.same ∙ loop.now }
-        turn (Err t) takes = record { so = stopped_all loop.before (walked_stop loop.so_far {x = x} next (stopped_all loop.now takes.so)) }
+        turn (Ok y) takes = record { so_far = walked_turn loop.so_far (x ∷ []) more next {T = T} {r = Ok y} (record { so = takes.so }); before = loop.before; now = takes.so.same ∙ loop.now }
+        turn (Err t) takes = record { so = stopped_all loop.before (walked_turn loop.so_far (x ∷ []) more next {T = T} {r = Err t} (record { so = stopped_all loop.now takes.so })).so }
 
     module _ {T : Type 0} {y : T} (o : Outcome) where
       pub telling_end : map h all ≡ o.all → rest ≡ [] → Ends (Ok y) old new o

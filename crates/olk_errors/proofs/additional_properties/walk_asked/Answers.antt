@@ -9,8 +9,10 @@ use Rattle.olk_errors.proofs.Sinks.{walks_left}
 use Rattle.olk_errors.proofs.additional_properties.walk_asked.Goals as goal
 
 pub returns-in_err-walk_declared-clause-walk : goal.returns-in_err-walk_declared-clause-walk
-returns-in_err-walk_declared-clause-walk g c = walks_left c.from_residual.ensures.0 (named_turn (asked_member g.R.RegexEngine.answers g.N.Means.means g.N.Reports.first g.N.Reports.report c.args.keyword.now
-    (option_map {U = ℕ × g.row.N.Denot} (λ f. (f.0, f.1.now)) c.args.declared) c.args.name.now (view c.args.value.now)) (path_at c.args.trail.now) refl c.in_err-walk_declared.ensures)
+returns-in_err-walk_declared-clause-walk g c = walks_left c.from_residual.ensures.0
+    (named_turn (asked_member g.R.RegexEngine.answers g.N.Means.means g.N.Reports.first g.N.Reports.report c.args.keyword.now
+    (option_map {U = ℕ × g.row.N.Denot} (λ f. (f.0, f.1.now)) c.args.declared) c.args.name.now (view c.args.value.now))
+    (path_at c.args.trail.now) refl c.in_err-walk_declared.ensures)
 
 pub loop-index-init : goal.loop-index-init
 loop-index-init g c = named_turn _ (path_at c.args.trail.now) (c.is_some-spoken.ensures ∙ is_some-map (λ f. (f.0, f.1.now)) c.args.declared) c.in_ok-walk_declared.ensures
@@ -21,7 +23,8 @@ loop-index-preserved g c = pattern_turn _ c.loop-index.invariant (next_at c.patt
 
 pub returns-in_err-is_match-clause-walk : goal.returns-in_err-is_match-clause-walk
 returns-in_err-is_match-clause-walk g c = walks_left c.from_residual-in_err-is_match.ensures.0
-    (pattern_turn _ c.loop-index.invariant (next_at c.patterns-entry-items.ensures c.entry-item.is c.loop-index-test.true) c.known-known.ensures refl c.in_err-is_match.ensures.walk)
+    (pattern_turn _ c.loop-index.invariant (next_at c.patterns-entry-items.ensures c.entry-item.is c.loop-index-test.true) c.known-known.ensures refl
+    c.in_err-is_match.ensures.walk)
 
 pub returns-then-spoken : goal.returns-then-spoken
 returns-then-spoken g c = let none = past_end c.patterns-entry-items.ensures (omega arith) in

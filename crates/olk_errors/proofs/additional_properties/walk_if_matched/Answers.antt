@@ -21,11 +21,13 @@ returns-in_err-walk_below-clause-walk g c = walks_same (one_alone g.N.Means.mean
     (path_at c.args.trail.now // c.args.name.now) refl
     (if_matched_is c.args.ctx.now.answer (pattern_costs g.R.RegexEngine.costs c.args.entry.now.0) (known_says c.args.known)
     (pattern_answers g.R.RegexEngine.answers c.args.entry.now.0 c.args.name.now) c.args.entry.now.1 c.if-not-matches_unless_known.ensures.verdict))
-    (walks_left c.from_residual.ensures.0 (walks_asked (λ u. of_node g.N.Means.means g.N.Reports.first g.N.Reports.report u c.args.entry.now.1 (view c.args.value.now) (path_at c.args.trail.now // c.args.name.now)) c.if-not-matches_unless_known.ensures.only c.in_err-walk_below.ensures))
+    (walks_left c.from_residual.ensures.0 (walks_asked (λ u. of_node g.N.Means.means g.N.Reports.first g.N.Reports.report u c.args.entry.now.1 (view c.args.value.now)
+    (path_at c.args.trail.now // c.args.name.now)) c.if-not-matches_unless_known.ensures.only c.in_err-walk_below.ensures))
 
 pub returns-clause-walk : goal.returns-clause-walk
 returns-clause-walk g c = walks_same (one_alone g.N.Means.means g.N.Reports.first g.N.Reports.report (view c.args.value.now)
     (path_at c.args.trail.now // c.args.name.now) refl
     (if_matched_is c.args.ctx.now.answer (pattern_costs g.R.RegexEngine.costs c.args.entry.now.0) (known_says c.args.known)
     (pattern_answers g.R.RegexEngine.answers c.args.entry.now.0 c.args.name.now) c.args.entry.now.1 c.if-not-matches_unless_known.ensures.verdict))
-    (walks_on (walks_asked (λ u. of_node g.N.Means.means g.N.Reports.first g.N.Reports.report u c.args.entry.now.1 (view c.args.value.now) (path_at c.args.trail.now // c.args.name.now)) c.if-not-matches_unless_known.ensures.only c.in_ok-walk_below.ensures))
+    (walks_on (walks_asked (λ u. of_node g.N.Means.means g.N.Reports.first g.N.Reports.report u c.args.entry.now.1 (view c.args.value.now)
+    (path_at c.args.trail.now // c.args.name.now)) c.if-not-matches_unless_known.ensures.only c.in_ok-walk_below.ensures))

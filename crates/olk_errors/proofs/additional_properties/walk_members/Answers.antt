@@ -9,13 +9,17 @@ use Rattle.olk_errors.proofs.additional_properties.walk_members.Goals as goal
 
 pub loop-name-init : goal.loop-name-init
 loop-name-init g c = members_start _ _ _ _ _ _ _ _ (ap repeats c.requires ∙ c.law_of_names.ensures)
-    (ap (λ es. listed (members_view es)) c.into_iter-name-iterator.ensures.into_iter_gives.0 ∙ sym (ap members c.requires)) (ap (map (λ x. (x.0.now, view x.1.now))) c.new-unexpected.ensures.items)
+    (ap (λ es. listed (members_view es)) c.into_iter-name-iterator.ensures.into_iter_gives.0 ∙ sym (ap members c.requires))
+    (ap (map (λ x. (x.0.now, view x.1.now))) c.new-unexpected.ensures.items)
 
 pub returns-in_err-walk_asked : goal.returns-in_err-walk_asked
-returns-in_err-walk_asked g c = walks_left c.from_residual.ensures.0 (members_stop _ _ _ _ _ _ _ _ c.loop-name.invariant (name_next c.in-Some.ensures.steps c.as_str-name.ensures.value) c.declared_from-next.ensures c.in_err-walk_asked.ensures.walk)
+returns-in_err-walk_asked g c = walks_left c.from_residual.ensures.0
+    (members_stop _ _ _ _ _ _ _ _ c.loop-name.invariant (name_next c.in-Some.ensures.steps c.as_str-name.ensures.value) c.declared_from-next.ensures
+    c.in_err-walk_asked.ensures.walk)
 
 pub loop-name-preserved-then-not-branch : goal.loop-name-preserved-then-not-branch
-loop-name-preserved-then-not-branch g c = members_more _ _ _ _ _ _ _ _ c.loop-name.invariant (name_next c.in-Some.ensures.steps c.as_str-name.ensures.value) c.declared_from-next.ensures
+loop-name-preserved-then-not-branch g c = members_more _ _ _ _ _ _ _ _ c.loop-name.invariant
+    (name_next c.in-Some.ensures.steps c.as_str-name.ensures.value) c.declared_from-next.ensures
     c.in_ok-walk_asked.ensures.walk c.in_ok-walk_asked.ensures.unexpected c.if-not-branch.true
 
 pub returns-in_err-append : goal.returns-in_err-append
@@ -30,7 +34,8 @@ loop-name-preserved g c = members_aside _ _ _ _ _ _ _ _ c.loop-name.invariant (n
 pub returns-then-wants_one : goal.returns-then-wants_one
 returns-then-wants_one g c = members_told _ _ _ _ _ _ _ _ c.loop-name.invariant (name_next c.in-Some.ensures.steps c.as_str-name.ensures.value) c.declared_from-next.ensures
     c.in_ok-walk_asked.ensures.walk c.in_ok-walk_asked.ensures.unexpected c.if-not-branch.false
-    (map_more (λ x. (x.0.now, view x.1.now)) c.loop-name.unexpected.items _ c.in_ok-append.ensures.items) (sym c.wants_one.ensures ∙ c.if-wants_one.true) c.report_unexpected.ensures
+    (map_more (λ x. (x.0.now, view x.1.now)) c.loop-name.unexpected.items _ c.in_ok-append.ensures.items)
+    (sym c.wants_one.ensures ∙ c.if-wants_one.true) c.report_unexpected.ensures
 
 pub returns : goal.returns
 returns g c = members_end _ _ _ _ _ _ _ _ c.loop-name.invariant (no_name_next c.in-None.ensures.steps.0) c.report_unexpected-2.ensures

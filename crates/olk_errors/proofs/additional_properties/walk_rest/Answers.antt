@@ -9,7 +9,8 @@ use Rattle.olk_errors.proofs.Sinks.{walks_same, walks_left, walks_on}
 use Rattle.olk_errors.proofs.additional_properties.walk_rest.Goals as goal
 
 pub returns-in_err-walk_below-in-Some-clause-walk : goal.returns-in_err-walk_below-in-Some-clause-walk
-returns-in_err-walk_below-in-Some-clause-walk g c = walks_left c.from_residual.ensures.0 (walks_same (one_alone g.N.Means.means g.N.Reports.first g.N.Reports.report (view c.args.value.now)
+returns-in_err-walk_below-in-Some-clause-walk g c = walks_left c.from_residual.ensures.0
+    (walks_same (one_alone g.N.Means.means g.N.Reports.first g.N.Reports.report (view c.args.value.now)
     (path_at c.args.trail.now // c.args.name.now) refl (ap option_to_list c.in-Some.is)) c.in_err-walk_below-in-Some.ensures)
 
 pub returns-in_ok-walk_below-in-Some-clause-walk : goal.returns-in_ok-walk_below-in-Some-clause-walk

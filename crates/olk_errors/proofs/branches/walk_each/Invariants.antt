@@ -1,7 +1,7 @@
 use Rattle.std.proofs.Common.{drop}
 use Rattle.olk_base.specs.Nodes.{data_of}
 use Rattle.olk_paths.specs.Trails.{path_at}
-use Rattle.olk_errors.proofs.Sinks.{Walking}
+use Rattle.olk_errors.proofs.Loops.{Walking}
 use Rattle.olk_errors.proofs.branches.walk_each.Given as goal
 
 abbrev pub invariant-loop-n : goal.invariant-loop-n

@@ -78,7 +78,8 @@ returns-in-PatternProperties g c = rw c.in-PatternProperties.is c.walk-in-Patter
 
 pub returns-in-SingleValuePatternProperties : goal.returns-in-SingleValuePatternProperties
 unfolding answers_of
-returns-in-SingleValuePatternProperties g c = rw c.in-SingleValuePatternProperties.is (rw (sym c.deref-in-SingleValuePatternProperties.ensures) c.walk-in-SingleValuePatternProperties.ensures)
+returns-in-SingleValuePatternProperties g c = rw c.in-SingleValuePatternProperties.is
+    (rw (sym c.deref-in-SingleValuePatternProperties.ensures) c.walk-in-SingleValuePatternProperties.ensures)
 
 pub returns-in-AdditionalProperties : goal.returns-in-AdditionalProperties
 unfolding answers_of

@@ -21,10 +21,11 @@ pub loop-text-init : goal.loop-text-init
 loop-text-init g c = record { told = telling_start c.requires; left = search rules }
 
 pub loop-text-preserved : goal.loop-text-preserved
-loop-text-preserved g c = 
+loop-text-preserved g c =
     let next : into_iter_items c.loop-text.text-iterator ≡ c.in-Some.text ∷ into_iter_items c.next.new.self = c.in-Some.ensures.steps.0 in
     record {
-      told = telling_turn c.loop-text.invariant.told (of_leaf g.K.Leaf c.args.leaf.now (data_of c.args.node) c.args.location.now (path_at c.args.trail.now)) next (subst (Takes _ c.loop-text.sink c.report.new.self)
+      told = telling_turn c.loop-text.invariant.told (of_leaf g.K.Leaf c.args.leaf.now (data_of c.args.node) c.args.location.now (path_at c.args.trail.now)) next
+          (subst (Takes _ c.loop-text.sink c.report.new.self)
           (λ i. fault (kind_of_leaf c.keyword-keyword.result c.in-Some.text i) (data_of c.args.node) (path_at c.args.trail.now) (c.as_str.ensures i)) c.in_ok-report.ensures);
       left = (let was = c.loop-text.invariant.left in
           let gone = c.in-Some.ensures.steps.1 in
@@ -34,12 +35,14 @@ loop-text-preserved g c =
 
 pub returns-in_err-report : goal.returns-in_err-report
 returns-in_err-report g c = ends_left c.from_residual-in_err-report.ensures.0
-    (telling_turn c.loop-text.invariant.told (of_leaf g.K.Leaf c.args.leaf.now (data_of c.args.node) c.args.location.now (path_at c.args.trail.now)) c.in-Some.ensures.steps.0 (subst (Takes _ c.loop-text.sink c.report.new.self)
+    (telling_turn c.loop-text.invariant.told (of_leaf g.K.Leaf c.args.leaf.now (data_of c.args.node) c.args.location.now (path_at c.args.trail.now)) c.in-Some.ensures.steps.0
+    (subst (Takes _ c.loop-text.sink c.report.new.self)
     (λ i. fault (kind_of_leaf c.keyword-keyword.result c.in-Some.text i) (data_of c.args.node) (path_at c.args.trail.now) (c.as_str.ensures i)) c.in_err-report.ensures)).so
 
 pub returns : goal.returns
-returns g c = 
-    let none : into_iter_items c.loop-text.text-iterator ≡ [] = nothing_left (into_iter_items c.loop-text.text-iterator) (sym c.loop-text.invariant.left ∙ c.in-None.ensures.steps.0) in
+returns g c =
+    let none : into_iter_items c.loop-text.text-iterator ≡ [] = nothing_left (into_iter_items c.loop-text.text-iterator)
+    (sym c.loop-text.invariant.left ∙ c.in-None.ensures.steps.0) in
     let all : into_iter_items c.into_iter-text-iterator.result ≡ c.collect_errors.new.texts.items = search rules in
     let texts : texts_of c.collect_errors.new.texts.items ≡ g.K.Leaf.finds c.args.leaf.now (data_of c.args.node) = search rules in
     telling_end c.loop-text.invariant.told (of_leaf g.K.Leaf c.args.leaf.now (data_of c.args.node) c.args.location.now (path_at c.args.trail.now))

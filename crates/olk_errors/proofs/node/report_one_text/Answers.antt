@@ -13,6 +13,7 @@ returns-in_err-text g c = ends_nowhere c.from_residual.ensures.0
 
 pub returns-in-Some : goal.returns-in-Some
 returns-in-Some g c = let told = kind_of_leaf c.keyword-keyword.result c.in-Some.text ∙ ap (λ k. Leaf k (string_bytes c.in-Some.text)) c.keyword-keyword.ensures in
-    ends_wanted c.requires (leaf_error (g.K.Leaf.keyword_of c.args.leaf.now) (data_of c.args.node) c.args.location.now (path_at c.args.trail.now) (g.K.Leaf.finds c.args.leaf.now (data_of c.args.node)) (string_bytes c.in-Some.text)
+    ends_wanted c.requires (leaf_error (g.K.Leaf.keyword_of c.args.leaf.now) (data_of c.args.node) c.args.location.now (path_at c.args.trail.now)
+    (g.K.Leaf.finds c.args.leaf.now (data_of c.args.node)) (string_bytes c.in-Some.text)
     (subst (IsOneOf (g.K.Leaf.finds c.args.leaf.now (data_of c.args.node))) c.in-Some.is c.in_ok-text.ensures) _
     (λ i. fault (told i) (data_of c.args.node) (path_at c.args.trail.now) (c.as_str.ensures i))) c.report.ensures

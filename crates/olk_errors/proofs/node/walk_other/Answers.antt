@@ -11,9 +11,12 @@ use Rattle.olk_errors.specs.Sinks.{Walks}
 use Rattle.olk_errors.proofs.node.walk_other.Goals as goal
 
 pub returns-in-True : goal.returns-in-True
-returns-in-True g c = subst (λ b. Walks (Ok tt) c.args.sink.now c.args.sink.now c.args.ctx.now c.args.ctx.now (of_body g.W.Means.means g.W.Reports.first g.W.Reports.report c.args.ctx.now.answer c.args.location.now b (data_of c.args.node) (path_at c.args.trail.now))) (sym c.in-True.is)
+returns-in-True g c = subst (λ b. Walks (Ok tt) c.args.sink.now c.args.sink.now c.args.ctx.now c.args.ctx.now
+    (of_body g.W.Means.means g.W.Reports.first g.W.Reports.report c.args.ctx.now.answer c.args.location.now b (data_of c.args.node) (path_at c.args.trail.now))) (sym c.in-True.is)
     (walks_past (only_same c.args.ctx.now) (record { verdict = refl; nothing = refl }) refl)
 
 pub returns-in-False : goal.returns-in-False
-returns-in-False g c = subst (λ b. Walks c.report.result c.args.sink.now c.report.new.self c.args.ctx.now c.args.ctx.now (of_body g.W.Means.means g.W.Reports.first g.W.Reports.report c.args.ctx.now.answer c.args.location.now b (data_of c.args.node) (path_at c.args.trail.now))) (sym c.in-False.is)
-    (walks_own (only_same c.args.ctx.now) (is_own FalseSchema (data_of c.args.node) c.args.location.now (path_at c.args.trail.now) {accepts = false} {case = true} refl refl refl (like_at kind_of_false_schema itself refl refl)) c.report.ensures)
+returns-in-False g c = subst (λ b. Walks c.report.result c.args.sink.now c.report.new.self c.args.ctx.now c.args.ctx.now
+    (of_body g.W.Means.means g.W.Reports.first g.W.Reports.report c.args.ctx.now.answer c.args.location.now b (data_of c.args.node) (path_at c.args.trail.now))) (sym c.in-False.is)
+    (walks_own (only_same c.args.ctx.now) (is_own FalseSchema (data_of c.args.node) c.args.location.now (path_at c.args.trail.now) {accepts = false} {case = true} refl refl refl
+    (like_at kind_of_false_schema itself refl refl)) c.report.ensures)

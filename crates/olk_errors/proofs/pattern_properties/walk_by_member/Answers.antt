@@ -4,8 +4,9 @@ use Rattle.olk_spec.specs.Schemas.{listed}
 use Rattle.olk_paths.specs.Trails.{path_at}
 use Rattle.olk_tree.proofs.Due.{name_next, no_name_next}
 use Rattle.olk_tree.specs.Visited.{object_of}
+use Rattle.olk_errors.proofs.Loops.{walking_from, walking_turn, walking_end}
 use Rattle.olk_errors.proofs.Patterns.{patterns_pass, patterns_err}
-use Rattle.olk_errors.proofs.Sinks.{ends_first, walks_by, walks_left, walking_from, walking_turn, walking_end}
+use Rattle.olk_errors.proofs.Sinks.{ends_first, walks_by, walks_left}
 use Rattle.olk_errors.specs.Outcomes.{of_patterns}
 use Rattle.olk_errors.proofs.pattern_properties.walk_by_member.Goals as goal
 
@@ -16,10 +17,12 @@ pub loop-name-preserved : goal.loop-name-preserved
 loop-name-preserved g c = walking_turn c.loop-name.invariant (name_next c.in-Some.ensures.steps c.as_str.ensures.value) c.in_ok-walk_matching.ensures
 
 pub returns-in_err-walk_matching : goal.returns-in_err-walk_matching
-returns-in_err-walk_matching g c = walks_by (ends_first (of_patterns g.R.RegexEngine.answers g.R.RegexEngine.costs g.N.Means.means g.N.Reports.first g.N.Reports.report c.args.ctx.now.answer
+returns-in_err-walk_matching g c = walks_by (ends_first (of_patterns g.R.RegexEngine.answers g.R.RegexEngine.costs g.N.Means.means g.N.Reports.first g.N.Reports.report
+    c.args.ctx.now.answer
     c.args.patterns.now.items (object_of c.args.members.now.entries) (path_at c.args.trail.now)) c.requires
     (patterns_pass g.R.RegexEngine.answers g.R.RegexEngine.costs g.N.Means.means g.N.Reports.first g.N.Reports.report c.args.ctx.now.answer (path_at c.args.trail.now)
-    c.args.patterns.now.items (members_view c.args.members.now.entries)) (patterns_err g.R.RegexEngine.answers g.R.RegexEngine.costs g.N.Means.means g.N.Reports.first g.N.Reports.report c.args.ctx.now.answer (path_at c.args.trail.now)
+    c.args.patterns.now.items (members_view c.args.members.now.entries))
+    (patterns_err g.R.RegexEngine.answers g.R.RegexEngine.costs g.N.Means.means g.N.Reports.first g.N.Reports.report c.args.ctx.now.answer (path_at c.args.trail.now)
     c.args.patterns.now.items (members_view c.args.members.now.entries)))
     (walks_left c.from_residual.ensures.0 (walking_turn c.loop-name.invariant (name_next c.in-Some.ensures.steps c.as_str.ensures.value) c.in_err-walk_matching.ensures))
 
@@ -27,6 +30,7 @@ pub returns : goal.returns
 returns g c = walks_by (ends_first (of_patterns g.R.RegexEngine.answers g.R.RegexEngine.costs g.N.Means.means g.N.Reports.first g.N.Reports.report c.args.ctx.now.answer
     c.args.patterns.now.items (object_of c.args.members.now.entries) (path_at c.args.trail.now)) c.requires
     (patterns_pass g.R.RegexEngine.answers g.R.RegexEngine.costs g.N.Means.means g.N.Reports.first g.N.Reports.report c.args.ctx.now.answer (path_at c.args.trail.now)
-    c.args.patterns.now.items (members_view c.args.members.now.entries)) (patterns_err g.R.RegexEngine.answers g.R.RegexEngine.costs g.N.Means.means g.N.Reports.first g.N.Reports.report c.args.ctx.now.answer (path_at c.args.trail.now)
+    c.args.patterns.now.items (members_view c.args.members.now.entries))
+    (patterns_err g.R.RegexEngine.answers g.R.RegexEngine.costs g.N.Means.means g.N.Reports.first g.N.Reports.report c.args.ctx.now.answer (path_at c.args.trail.now)
     c.args.patterns.now.items (members_view c.args.members.now.entries)))
     (walking_end c.loop-name.invariant (no_name_next c.in-None.ensures.steps.0))

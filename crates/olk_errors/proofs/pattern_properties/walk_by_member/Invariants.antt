@@ -5,7 +5,7 @@ use Rattle.olk_paths.specs.Trails.{path_at}
 use Rattle.olk_tree.specs.Questions.{always, conditional, every}
 use Rattle.olk_tree.specs.Matched.{match_question}
 use Rattle.olk_errors.specs.Outcomes.{of_matching}
-use Rattle.olk_errors.proofs.Sinks.{Walking}
+use Rattle.olk_errors.proofs.Loops.{Walking}
 use Rattle.olk_errors.proofs.pattern_properties.walk_by_member.Given as goal
 
 abbrev pub invariant-loop-name : goal.invariant-loop-name

@@ -3,7 +3,7 @@ use Rattle.olk_paths.specs.Trails.{path_at}
 use Rattle.olk_tree.specs.Visited.{object_of}
 use Rattle.olk_tree.specs.PatternProperties.{matched_mean}
 use Rattle.olk_errors.specs.Outcomes.{of_matched}
-use Rattle.olk_errors.proofs.Sinks.{Walking}
+use Rattle.olk_errors.proofs.Loops.{Walking}
 use Rattle.olk_errors.proofs.pattern_properties.walk_by_pattern.Given as goal
 
 abbrev pub invariant-loop-entry : goal.invariant-loop-entry

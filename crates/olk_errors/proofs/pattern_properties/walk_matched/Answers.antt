@@ -3,8 +3,9 @@ use Rattle.serde_json.specs.View.{members_view}
 use Rattle.olk_spec.specs.Schemas.{listed}
 use Rattle.olk_paths.specs.Trails.{path_at}
 use Rattle.olk_tree.proofs.Due.{name_next, no_name_next}
+use Rattle.olk_errors.proofs.Loops.{walking_from, walking_turn, walking_end}
 use Rattle.olk_errors.proofs.Patterns.{matched_of_walk}
-use Rattle.olk_errors.proofs.Sinks.{walks_same, walks_left, walking_from, walking_turn, walking_end}
+use Rattle.olk_errors.proofs.Sinks.{walks_same, walks_left}
 use Rattle.olk_errors.proofs.pattern_properties.walk_matched.Goals as goal
 
 pub loop-name-init : goal.loop-name-init
@@ -14,11 +15,13 @@ pub loop-name-preserved : goal.loop-name-preserved
 loop-name-preserved g c = walking_turn c.loop-name.invariant (name_next c.in-Some.ensures.steps c.as_str.ensures.value) c.in_ok-walk_if_matched.ensures
 
 pub returns-in_err-walk_if_matched : goal.returns-in_err-walk_if_matched
-returns-in_err-walk_if_matched g c = walks_same (matched_of_walk g.R.RegexEngine.answers g.R.RegexEngine.costs g.N.Means.means g.N.Reports.first g.N.Reports.report c.args.ctx.now.answer (path_at c.args.trail.now)
+returns-in_err-walk_if_matched g c = walks_same (matched_of_walk g.R.RegexEngine.answers g.R.RegexEngine.costs g.N.Means.means g.N.Reports.first g.N.Reports.report
+    c.args.ctx.now.answer (path_at c.args.trail.now)
     c.args.pattern.now c.args.subschema.now (members_view c.args.members.now.entries))
     (walks_left c.from_residual.ensures.0 (walking_turn c.loop-name.invariant (name_next c.in-Some.ensures.steps c.as_str.ensures.value) c.in_err-walk_if_matched.ensures))
 
 pub returns : goal.returns
-returns g c = walks_same (matched_of_walk g.R.RegexEngine.answers g.R.RegexEngine.costs g.N.Means.means g.N.Reports.first g.N.Reports.report c.args.ctx.now.answer (path_at c.args.trail.now)
+returns g c = walks_same (matched_of_walk g.R.RegexEngine.answers g.R.RegexEngine.costs g.N.Means.means g.N.Reports.first g.N.Reports.report c.args.ctx.now.answer
+    (path_at c.args.trail.now)
     c.args.pattern.now c.args.subschema.now (members_view c.args.members.now.entries))
     (walking_end c.loop-name.invariant (no_name_next c.in-None.ensures.steps.0))

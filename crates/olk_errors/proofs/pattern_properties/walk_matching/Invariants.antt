@@ -4,7 +4,7 @@ use Rattle.olk_paths.specs.Trails.{path_at}
 use Rattle.olk_tree.specs.Questions.{always, conditional}
 use Rattle.olk_tree.specs.Matched.{match_question}
 use Rattle.olk_errors.specs.Outcomes.{of_match}
-use Rattle.olk_errors.proofs.Sinks.{Walking}
+use Rattle.olk_errors.proofs.Loops.{Walking}
 use Rattle.olk_errors.proofs.pattern_properties.walk_matching.Given as goal
 
 abbrev pub invariant-loop-entry : goal.invariant-loop-entry

@@ -4,7 +4,7 @@ use Rattle.olk_tree.specs.Questions.{every}
 use Rattle.olk_tree.specs.Visited.{left_of}
 use Rattle.olk_tree.proofs.Due.{chosen}
 use Rattle.olk_errors.specs.Outcomes.{of_branches}
-use Rattle.olk_errors.proofs.Sinks.{Walking}
+use Rattle.olk_errors.proofs.Loops.{Walking}
 use Rattle.olk_errors.proofs.property_dependencies.walk_chosen.Given as goal
 
 abbrev pub invariant-loop-choices : goal.invariant-loop-choices

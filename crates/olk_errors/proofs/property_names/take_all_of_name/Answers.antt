@@ -20,11 +20,11 @@ pub loop-error-init : goal.loop-error-init
 loop-error-init g c = record { told = telling_start c.requires; left = search rules }
 
 pub loop-error-preserved : goal.loop-error-preserved
-loop-error-preserved g c = 
+loop-error-preserved g c =
     let next : into_iter_items c.loop-error.error-iterator ≡ c.in-Some.error ∷ into_iter_items c.next.new.self = c.in-Some.ensures.steps.0 in
     record {
       told = telling_turn c.loop-error.invariant.told (of_asked_name g.N.Means.means g.N.Reports.first g.N.Reports.report c.args.ctx.now.answer c.args.subschema.now
-    (data_of c.args.object) (string_bytes c.args.name.now) (path_at c.args.trail.now)) next c.in_ok-take_wrapped.ensures;
+          (data_of c.args.object) (string_bytes c.args.name.now) (path_at c.args.trail.now)) next c.in_ok-take_wrapped.ensures;
       left = (let was = c.loop-error.invariant.left in
           let gone = c.in-Some.ensures.steps.1 in
           let short = ap length next in
@@ -33,20 +33,23 @@ loop-error-preserved g c =
 
 pub returns-in_err-take_wrapped : goal.returns-in_err-take_wrapped
 returns-in_err-take_wrapped g c = record {
-      ends = ends_left c.from_residual-in_err-take_wrapped.ensures.0 (telling_turn c.loop-error.invariant.told (of_asked_name g.N.Means.means g.N.Reports.first g.N.Reports.report c.args.ctx.now.answer c.args.subschema.now
-    (data_of c.args.object) (string_bytes c.args.name.now) (path_at c.args.trail.now)) c.in-Some.ensures.steps.0 c.in_err-take_wrapped.ensures).so;
-      only = c.errors_of.ensures.context;
-    }
+  ends = ends_left c.from_residual-in_err-take_wrapped.ensures.0
+      (telling_turn c.loop-error.invariant.told (of_asked_name g.N.Means.means g.N.Reports.first g.N.Reports.report c.args.ctx.now.answer c.args.subschema.now
+      (data_of c.args.object) (string_bytes c.args.name.now) (path_at c.args.trail.now)) c.in-Some.ensures.steps.0 c.in_err-take_wrapped.ensures).so;
+  only = c.errors_of.ensures.context;
+}
 
 pub returns : goal.returns
-returns g c = 
-    let none : into_iter_items c.loop-error.error-iterator ≡ [] = nothing_left (into_iter_items c.loop-error.error-iterator) (sym c.loop-error.invariant.left ∙ c.in-None.ensures.steps.0) in
+returns g c =
+    let none : into_iter_items c.loop-error.error-iterator ≡ [] = nothing_left (into_iter_items c.loop-error.error-iterator)
+    (sym c.loop-error.invariant.left ∙ c.in-None.ensures.steps.0) in
     let all : into_iter_items c.into_iter-error-iterator.result ≡ c.in_ok-errors.errors.items = search rules in
     record {
       ends = telling_like c.loop-error.invariant.told (of_asked_name g.N.Means.means g.N.Reports.first g.N.Reports.report c.args.ctx.now.answer c.args.subschema.now
-    (data_of c.args.object) (string_bytes c.args.name.now) (path_at c.args.trail.now))
+          (data_of c.args.object) (string_bytes c.args.name.now) (path_at c.args.trail.now))
           (subst (λ l. map (λ e. wrapped (data_of c.args.object) (path_at c.args.trail.now) (fault_of e)) l
-          ∼ map (wrapped (data_of c.args.object) (path_at c.args.trail.now)) (g.N.Reports.report c.args.subschema.now c.args.ctx.now.answer (string (string_bytes c.args.name.now)) (path_at c.args.trail.now))) (sym all)
+          ∼ map (wrapped (data_of c.args.object) (path_at c.args.trail.now))
+          (g.N.Reports.report c.args.subschema.now c.args.ctx.now.answer (string (string_bytes c.args.name.now)) (path_at c.args.trail.now))) (sym all)
           (names_told (data_of c.args.object) (path_at c.args.trail.now) c.in_ok-errors.ensures.errors)) none;
       only = c.errors_of.ensures.context;
     }

@@ -14,7 +14,8 @@ returns-in_err-error g c = walks_nowhere c.from_residual.ensures.0 c.first_error
 
 pub returns-in-Some : goal.returns-in-Some
 returns-in-Some g c = record {
-      ends = ends_wanted c.requires (name_errs (data_of c.args.object) (path_at c.args.trail.now) _ (fault_of c.in-Some.error) refl
-          (subst (IsFirstOf (of_node g.N.Means.means g.N.Reports.first g.N.Reports.report c.args.ctx.now.answer c.args.subschema.now (string (string_bytes c.args.name.now)) (path_at c.args.trail.now))) c.in-Some.is c.in_ok-error.ensures.error)) c.take_wrapped.ensures;
-      only = c.first_error_of.ensures.context;
-    }
+  ends = ends_wanted c.requires (name_errs (data_of c.args.object) (path_at c.args.trail.now) _ (fault_of c.in-Some.error) refl
+      (subst (IsFirstOf (of_node g.N.Means.means g.N.Reports.first g.N.Reports.report c.args.ctx.now.answer c.args.subschema.now (string (string_bytes c.args.name.now))
+      (path_at c.args.trail.now))) c.in-Some.is c.in_ok-error.ensures.error)) c.take_wrapped.ensures;
+  only = c.first_error_of.ensures.context;
+}

@@ -4,8 +4,9 @@ use Rattle.olk_base.specs.Nodes.{data_of}
 use Rattle.olk_spec.specs.Schemas.{listed}
 use Rattle.olk_paths.specs.Trails.{path_at}
 use Rattle.olk_tree.proofs.Due.{name_next, no_name_next}
+use Rattle.olk_errors.proofs.Loops.{walking_from, walking_turn, walking_end}
 use Rattle.olk_errors.proofs.Names.{names_of_walk}
-use Rattle.olk_errors.proofs.Sinks.{walks_same, walks_left, walking_from, walking_turn, walking_end}
+use Rattle.olk_errors.proofs.Sinks.{walks_same, walks_left}
 use Rattle.olk_errors.proofs.property_names.walk_names.Goals as goal
 
 pub loop-name-init : goal.loop-name-init

@@ -4,7 +4,7 @@ use Rattle.olk_base.specs.Nodes.{data_of}
 use Rattle.olk_paths.specs.Trails.{path_at}
 use Rattle.olk_spec.specs.Schemas.{listed}
 use Rattle.olk_errors.specs.Outcomes.{of_asked_name}
-use Rattle.olk_errors.proofs.Sinks.{Walking}
+use Rattle.olk_errors.proofs.Loops.{Walking}
 use Rattle.olk_errors.proofs.property_names.walk_names.Given as goal
 
 abbrev pub invariant-loop-name : goal.invariant-loop-name

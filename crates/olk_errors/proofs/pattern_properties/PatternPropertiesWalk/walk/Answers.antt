@@ -8,5 +8,7 @@ use Rattle.olk_errors.proofs.pattern_properties.PatternPropertiesWalk.walk.Goals
 
 pub returns-in-None : goal.returns-in-None
 returns-in-None g c = walks_past (only_same c.args.ctx.now)
-    (other_patterns_pass g.R.RegexEngine.answers g.R.RegexEngine.costs g.N.Means.means g.N.Reports.first g.N.Reports.report c.args.ctx.now.answer (path_at c.args.trail.now) (data_of c.args.node) c.in-None.ensures c.args.self.now.patterns.items)
-    (patterns_find_nothing g.R.RegexEngine.answers (data_of c.args.node) c.in-None.ensures g.N.Reports.report c.args.ctx.now.answer (path_at c.args.trail.now) c.args.self.now.patterns.items)
+    (other_patterns_pass g.R.RegexEngine.answers g.R.RegexEngine.costs g.N.Means.means g.N.Reports.first g.N.Reports.report c.args.ctx.now.answer (path_at c.args.trail.now)
+    (data_of c.args.node) c.in-None.ensures c.args.self.now.patterns.items)
+    (patterns_find_nothing g.R.RegexEngine.answers (data_of c.args.node) c.in-None.ensures g.N.Reports.report c.args.ctx.now.answer
+    (path_at c.args.trail.now) c.args.self.now.patterns.items)

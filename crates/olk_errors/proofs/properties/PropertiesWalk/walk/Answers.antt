@@ -9,5 +9,6 @@ use Rattle.olk_errors.proofs.properties.PropertiesWalk.walk.Goals as goal
 
 pub returns-in-None : goal.returns-in-None
 returns-in-None g c = walks_past (only_same c.args.ctx.now)
-    (other_passes g.N.Means.means g.N.Reports.first g.N.Reports.report c.args.ctx.now.answer (mapped c.args.self.now.properties) (path_at c.args.trail.now) (data_of c.args.node) c.in-None.ensures)
+    (other_passes g.N.Means.means g.N.Reports.first g.N.Reports.report c.args.ctx.now.answer (mapped c.args.self.now.properties) (path_at c.args.trail.now)
+    (data_of c.args.node) c.in-None.ensures)
     (reports_nothing (mapped c.args.self.now.properties) (data_of c.args.node) c.in-None.ensures g.N.Reports.report c.args.ctx.now.answer (path_at c.args.trail.now))

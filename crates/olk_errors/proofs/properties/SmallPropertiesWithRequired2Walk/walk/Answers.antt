@@ -14,31 +14,38 @@ use Rattle.olk_errors.specs.Outcomes.{of_names, of_properties}
 use Rattle.olk_errors.proofs.properties.SmallPropertiesWithRequired2Walk.walk.Goals as goal
 
 pub returns-in_err-report_if_missing-in-Some : goal.returns-in_err-report_if_missing-in-Some
-returns-in_err-report_if_missing-in-Some g c = 
+returns-in_err-report_if_missing-in-Some g c =
     let members = of_properties g.N.Means.means g.N.Reports.first g.N.Reports.report c.args.ctx.now.answer (named c.args.self.now.properties) in
     let found = walks_alone (only_same c.args.ctx.now) c.in_err-report_if_missing-in-Some.ensures in
-    walks_same (two_then_members (λ v. members v (path_at c.args.trail.now)) (path_at c.args.trail.now) c.as_str.ensures.value (λ i. string_bytes c.args.self.now.second) refl (object_is (data_of c.args.node) (members_view c.in-Some.members.now.entries) c.in-Some.ensures))
+    walks_same (two_then_members (λ v. members v (path_at c.args.trail.now)) (path_at c.args.trail.now) c.as_str.ensures.value (λ i. string_bytes c.args.self.now.second) refl
+    (object_is (data_of c.args.node) (members_view c.in-Some.members.now.entries) c.in-Some.ensures))
     (walks_left c.from_residual.ensures.0 (walks_before (members (object (members_view c.in-Some.members.now.entries)) (path_at c.args.trail.now))
     (walks_before (of_names (string_bytes c.args.self.now.second ∷ []) (data_of c.args.node) c.args.self.now.required_location (path_at c.args.trail.now)) found)))
 
 pub returns-in_err-report_if_missing-in-Some-2 : goal.returns-in_err-report_if_missing-in-Some-2
-returns-in_err-report_if_missing-in-Some-2 g c = 
+returns-in_err-report_if_missing-in-Some-2 g c =
     let members = of_properties g.N.Means.means g.N.Reports.first g.N.Reports.report c.args.ctx.now.answer (named c.args.self.now.properties) in
-    let found = walks_after c.in_ok-report_if_missing-in-Some.ensures.so (only_same c.args.ctx.now) (walks_alone (only_same c.args.ctx.now) c.in_err-report_if_missing-in-Some-2.ensures) in
-    walks_same (two_then_members (λ v. members v (path_at c.args.trail.now)) (path_at c.args.trail.now) c.as_str.ensures.value c.as_str-in-Some.ensures.value refl (object_is (data_of c.args.node) (members_view c.in-Some.members.now.entries) c.in-Some.ensures))
-    (walks_left c.from_residual-in_err-report_if_missing-in-Some-2.ensures.0 (walks_before (members (object (members_view c.in-Some.members.now.entries)) (path_at c.args.trail.now)) found))
+    let found = walks_after c.in_ok-report_if_missing-in-Some.ensures.so (only_same c.args.ctx.now)
+    (walks_alone (only_same c.args.ctx.now) c.in_err-report_if_missing-in-Some-2.ensures) in
+    walks_same (two_then_members (λ v. members v (path_at c.args.trail.now)) (path_at c.args.trail.now) c.as_str.ensures.value c.as_str-in-Some.ensures.value refl
+    (object_is (data_of c.args.node) (members_view c.in-Some.members.now.entries) c.in-Some.ensures))
+    (walks_left c.from_residual-in_err-report_if_missing-in-Some-2.ensures.0
+    (walks_before (members (object (members_view c.in-Some.members.now.entries)) (path_at c.args.trail.now)) found))
 
 pub returns-in_ok-report_if_missing-in-Some-2 : goal.returns-in_ok-report_if_missing-in-Some-2
-returns-in_ok-report_if_missing-in-Some-2 g c = 
+returns-in_ok-report_if_missing-in-Some-2 g c =
     let members = of_properties g.N.Means.means g.N.Reports.first g.N.Reports.report c.args.ctx.now.answer (named c.args.self.now.properties) in
-    walks_same (two_then_members (λ v. members v (path_at c.args.trail.now)) (path_at c.args.trail.now) c.as_str.ensures.value c.as_str-in-Some.ensures.value refl (object_is (data_of c.args.node) (members_view c.in-Some.members.now.entries) c.in-Some.ensures))
+    walks_same (two_then_members (λ v. members v (path_at c.args.trail.now)) (path_at c.args.trail.now) c.as_str.ensures.value c.as_str-in-Some.ensures.value refl
+    (object_is (data_of c.args.node) (members_view c.in-Some.members.now.entries) c.in-Some.ensures))
     (walks_after (goes_after c.in_ok-report_if_missing-in-Some.ensures.so c.in_ok-report_if_missing-in-Some-2.ensures.so) (only_same c.args.ctx.now) c.walk_members.ensures)
 
 pub returns-in-None : goal.returns-in-None
-returns-in-None g c = 
+returns-in-None g c =
     let names = two_texts c.args.self.now.first c.args.self.now.second in
     let place = c.args.self.now.required_location in
     walks_past (only_same c.args.ctx.now)
     (pass_both (other_lacks_none names (data_of c.args.node) place (path_at c.args.trail.now) c.in-None.ensures)
-    (other_passes g.N.Means.means g.N.Reports.first g.N.Reports.report c.args.ctx.now.answer (named c.args.self.now.properties) (path_at c.args.trail.now) (data_of c.args.node) c.in-None.ensures))
-    (λ i. other_lacks_nothing names (data_of c.args.node) place (path_at c.args.trail.now) c.in-None.ensures i ++ reports_nothing (named c.args.self.now.properties) (data_of c.args.node) c.in-None.ensures g.N.Reports.report c.args.ctx.now.answer (path_at c.args.trail.now) i)
+    (other_passes g.N.Means.means g.N.Reports.first g.N.Reports.report c.args.ctx.now.answer (named c.args.self.now.properties) (path_at c.args.trail.now)
+    (data_of c.args.node) c.in-None.ensures))
+    (λ i. other_lacks_nothing names (data_of c.args.node) place (path_at c.args.trail.now) c.in-None.ensures i ++ reports_nothing (named c.args.self.now.properties)
+    (data_of c.args.node) c.in-None.ensures g.N.Reports.report c.args.ctx.now.answer (path_at c.args.trail.now) i)

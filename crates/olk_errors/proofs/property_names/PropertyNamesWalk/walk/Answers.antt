@@ -8,5 +8,6 @@ use Rattle.olk_errors.proofs.property_names.PropertyNamesWalk.walk.Goals as goal
 
 pub returns-in-None : goal.returns-in-None
 returns-in-None g c = let none = no_members (data_of c.args.node) c.in-None.ensures in
-    walks_past (only_same c.args.ctx.now) (no_names_pass (data_of c.args.node) (path_at c.args.trail.now) g.N.Means.means g.N.Reports.first g.N.Reports.report c.args.ctx.now.answer c.args.self.now.node none)
+    walks_past (only_same c.args.ctx.now) (no_names_pass (data_of c.args.node)
+    (path_at c.args.trail.now) g.N.Means.means g.N.Reports.first g.N.Reports.report c.args.ctx.now.answer c.args.self.now.node none)
     (no_names_told (data_of c.args.node) (path_at c.args.trail.now) g.N.Means.means g.N.Reports.first g.N.Reports.report c.args.ctx.now.answer c.args.self.now.node none)
