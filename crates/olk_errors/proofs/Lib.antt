@@ -1,3 +1,4 @@
+pub mod Common
 pub mod Appending
 pub mod Sinks
 pub mod Own
