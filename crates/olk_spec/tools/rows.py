@@ -182,21 +182,14 @@ class Group:
         with open(f"specs/{self.module}.antt", "w") as out:
             out.write(head + body)
 
-        opened = "unfolding literal chars digits meaning malformations_at cost serde_json_on_literals"
         proof = (
             "use Rattle.std.proofs.Common.{refl}\n"
-            "use Rattle.std.specs.Fmt.{digits}\n"
-            "use Rattle.std.specs.Str.{chars}\n"
-            "use Rattle.olk_spec.specs.Literals.{literal}\n"
-            "use Rattle.olk_spec.specs.Meaning.{meaning}\n"
-            "use Rattle.olk_spec.specs.Malformed.{malformations_at}\n"
-            "use Rattle.olk_spec.specs.Costs.{cost}\n"
-            "use Rattle.serde_json.proofs.OnLiterals.{serde_json_on_literals}\n"
+            "use Rattle.olk_spec.proofs.Computed.{computed}\n"
             f"use Rattle.olk_spec.specs.{self.module} as rows\n"
         )
         for name, form, _ in self.rows:
             fact = name[0].lower() + name[1:]
-            proof += f"\npub {fact} : rows.{name}\n{opened}\n{fact} = {PROOFS[form]}\n"
+            proof += f"\npub {fact} : rows.{name}\nunfolding computed\n{fact} = {PROOFS[form]}\n"
         joined = product[0].lower() + product[1:]
         facts = ", ".join(n[0].lower() + n[1:] for n, _, _ in self.rows)
         proof += f"\npub {joined} : rows.{product}\n{joined} = ({facts})\n"
