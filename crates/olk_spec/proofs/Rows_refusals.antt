@@ -134,13 +134,25 @@ pub in_properties : rows.In_properties
 unfolding computed
 in_properties = refl
 
+pub no_schema_in_properties : rows.No_schema_in_properties
+unfolding computed
+no_schema_in_properties = refl
+
 pub in_pattern_properties : rows.In_pattern_properties
 unfolding computed
 in_pattern_properties = refl
 
+pub no_schema_in_pattern_properties : rows.No_schema_in_pattern_properties
+unfolding computed
+no_schema_in_pattern_properties = refl
+
 pub in_additional_properties : rows.In_additional_properties
 unfolding computed
 in_additional_properties = refl
+
+pub no_schema_in_additional_properties : rows.No_schema_in_additional_properties
+unfolding computed
+no_schema_in_additional_properties = refl
 
 pub in_property_names : rows.In_property_names
 unfolding computed
@@ -150,41 +162,81 @@ pub in_dependent_schemas : rows.In_dependent_schemas
 unfolding computed
 in_dependent_schemas = refl
 
+pub no_schema_in_dependent_schemas : rows.No_schema_in_dependent_schemas
+unfolding computed
+no_schema_in_dependent_schemas = refl
+
 pub in_dependencies : rows.In_dependencies
 unfolding computed
 in_dependencies = refl
+
+pub no_schema_in_dependencies : rows.No_schema_in_dependencies
+unfolding computed
+no_schema_in_dependencies = refl
 
 pub in_property_dependencies : rows.In_property_dependencies
 unfolding computed
 in_property_dependencies = refl
 
+pub no_schema_in_property_dependencies : rows.No_schema_in_property_dependencies
+unfolding computed
+no_schema_in_property_dependencies = refl
+
 pub in_all_of : rows.In_all_of
 unfolding computed
 in_all_of = refl
+
+pub no_schema_in_all_of : rows.No_schema_in_all_of
+unfolding computed
+no_schema_in_all_of = refl
 
 pub in_any_of : rows.In_any_of
 unfolding computed
 in_any_of = refl
 
+pub no_schema_in_any_of : rows.No_schema_in_any_of
+unfolding computed
+no_schema_in_any_of = refl
+
 pub in_one_of : rows.In_one_of
 unfolding computed
 in_one_of = refl
+
+pub no_schema_in_one_of : rows.No_schema_in_one_of
+unfolding computed
+no_schema_in_one_of = refl
 
 pub in_not : rows.In_not
 unfolding computed
 in_not = refl
 
+pub no_schema_in_not : rows.No_schema_in_not
+unfolding computed
+no_schema_in_not = refl
+
 pub in_if : rows.In_if
 unfolding computed
 in_if = refl
+
+pub no_schema_in_if : rows.No_schema_in_if
+unfolding computed
+no_schema_in_if = refl
 
 pub in_then : rows.In_then
 unfolding computed
 in_then = refl
 
+pub no_schema_in_then : rows.No_schema_in_then
+unfolding computed
+no_schema_in_then = refl
+
 pub in_else : rows.In_else
 unfolding computed
 in_else = refl
+
+pub no_schema_in_else : rows.No_schema_in_else
+unfolding computed
+no_schema_in_else = refl
 
 pub a_condition_alone_builds : rows.A_condition_alone_builds
 unfolding computed
@@ -215,4 +267,4 @@ unfolding computed
 a_dependency_may_list_a_name_twice = refl
 
 pub rows_refusals : rows.Rows_refusals
-rows_refusals = (a_refused_pattern, declared_names_that_are_no_object, a_reference_inside, a_list_with_a_repeated_name, a_read_condition_that_is_no_schema, a_branch_that_is_no_schema, a_leaf_value_that_does_not_fit, a_listed_name_that_is_no_text, equal_items_that_are_no_texts, a_repeated_name_before_another_item, additional_properties_that_are_no_schema, a_required_item_that_is_no_text, a_reference_in_a_branch, property_dependencies_that_are_no_object, an_entry_of_property_dependencies_that_is_no_object, a_schema_of_property_dependencies_that_is_none, a_root_that_is_no_schema, the_first_of_two_items_that_are_no_texts, a_name_repeated_behind_another, a_name_repeated_after_another, beside_else_a_condition_is_read, beside_patterns_an_additional_schema_is_read, the_second_branch_of_one_of_is_read, the_second_dependent_schema_is_read, the_second_schema_of_dependencies_is_read, the_second_list_of_dependencies_is_checked, the_second_entry_of_property_dependencies_is_checked, the_second_entry_of_property_dependencies_is_read, each_refused_pattern_is_told, each_entry_that_is_no_list_is_told, a_reference_is_refused_whatever_the_leaves_read, at_the_root, in_properties, in_pattern_properties, in_additional_properties, in_property_names, in_dependent_schemas, in_dependencies, in_property_dependencies, in_all_of, in_any_of, in_one_of, in_not, in_if, in_then, in_else, a_condition_alone_builds, an_ignored_keyword_holds_no_schema, names_that_are_neither_false_nor_an_object_build, null_for_names_builds, a_test_that_the_matcher_refuses_builds, else_alone_builds, a_dependency_may_list_a_name_twice)
+rows_refusals = (a_refused_pattern, declared_names_that_are_no_object, a_reference_inside, a_list_with_a_repeated_name, a_read_condition_that_is_no_schema, a_branch_that_is_no_schema, a_leaf_value_that_does_not_fit, a_listed_name_that_is_no_text, equal_items_that_are_no_texts, a_repeated_name_before_another_item, additional_properties_that_are_no_schema, a_required_item_that_is_no_text, a_reference_in_a_branch, property_dependencies_that_are_no_object, an_entry_of_property_dependencies_that_is_no_object, a_schema_of_property_dependencies_that_is_none, a_root_that_is_no_schema, the_first_of_two_items_that_are_no_texts, a_name_repeated_behind_another, a_name_repeated_after_another, beside_else_a_condition_is_read, beside_patterns_an_additional_schema_is_read, the_second_branch_of_one_of_is_read, the_second_dependent_schema_is_read, the_second_schema_of_dependencies_is_read, the_second_list_of_dependencies_is_checked, the_second_entry_of_property_dependencies_is_checked, the_second_entry_of_property_dependencies_is_read, each_refused_pattern_is_told, each_entry_that_is_no_list_is_told, a_reference_is_refused_whatever_the_leaves_read, at_the_root, in_properties, no_schema_in_properties, in_pattern_properties, no_schema_in_pattern_properties, in_additional_properties, no_schema_in_additional_properties, in_property_names, in_dependent_schemas, no_schema_in_dependent_schemas, in_dependencies, no_schema_in_dependencies, in_property_dependencies, no_schema_in_property_dependencies, in_all_of, no_schema_in_all_of, in_any_of, no_schema_in_any_of, in_one_of, no_schema_in_one_of, in_not, no_schema_in_not, in_if, no_schema_in_if, in_then, no_schema_in_then, in_else, no_schema_in_else, a_condition_alone_builds, an_ignored_keyword_holds_no_schema, names_that_are_neither_false_nor_an_object_build, null_for_names_builds, a_test_that_the_matcher_refuses_builds, else_alone_builds, a_dependency_may_list_a_name_twice)
