@@ -18,6 +18,7 @@ pub mod Named
 pub mod Tree_verdicts
 pub mod Refused
 pub mod Refused_trees
+pub mod Computed
 pub mod Rows_properties
 pub mod Rows_patterns
 pub mod Rows_branches

@@ -1,211 +1,205 @@
 use Rattle.std.proofs.Common.{refl}
-use Rattle.std.specs.Fmt.{digits}
-use Rattle.std.specs.Str.{chars}
-use Rattle.olk_spec.specs.Literals.{literal}
-use Rattle.olk_spec.specs.Meaning.{meaning}
-use Rattle.olk_spec.specs.Malformed.{malformations_at}
-use Rattle.olk_spec.specs.Costs.{cost}
-use Rattle.serde_json.proofs.OnLiterals.{serde_json_on_literals}
+use Rattle.olk_spec.proofs.Computed.{computed}
 use Rattle.olk_spec.specs.Rows_bench as rows
 
 pub a_value_of_kind_null : rows.A_value_of_kind_null
-unfolding literal chars digits meaning malformations_at cost serde_json_on_literals
+unfolding computed
 a_value_of_kind_null = λ u. (refl, refl, refl)
 
 pub a_value_of_kind_boolean : rows.A_value_of_kind_boolean
-unfolding literal chars digits meaning malformations_at cost serde_json_on_literals
+unfolding computed
 a_value_of_kind_boolean = λ u. (refl, refl, refl)
 
 pub a_value_of_kind_integer : rows.A_value_of_kind_integer
-unfolding literal chars digits meaning malformations_at cost serde_json_on_literals
+unfolding computed
 a_value_of_kind_integer = λ u. (refl, refl, refl)
 
 pub a_value_of_kind_number : rows.A_value_of_kind_number
-unfolding literal chars digits meaning malformations_at cost serde_json_on_literals
+unfolding computed
 a_value_of_kind_number = λ u. (refl, refl, refl)
 
 pub a_value_of_kind_string : rows.A_value_of_kind_string
-unfolding literal chars digits meaning malformations_at cost serde_json_on_literals
+unfolding computed
 a_value_of_kind_string = λ u. (refl, refl, refl)
 
 pub a_value_of_kind_array : rows.A_value_of_kind_array
-unfolding literal chars digits meaning malformations_at cost serde_json_on_literals
+unfolding computed
 a_value_of_kind_array = λ u. (refl, refl, refl)
 
 pub a_value_of_kind_object : rows.A_value_of_kind_object
-unfolding literal chars digits meaning malformations_at cost serde_json_on_literals
+unfolding computed
 a_value_of_kind_object = λ u. (refl, refl, refl)
 
 pub a_value_of_kind_null_is_of_no_other : rows.A_value_of_kind_null_is_of_no_other
-unfolding literal chars digits meaning malformations_at cost serde_json_on_literals
+unfolding computed
 a_value_of_kind_null_is_of_no_other = λ u. (refl, refl, refl)
 
 pub a_value_of_kind_boolean_is_of_no_other : rows.A_value_of_kind_boolean_is_of_no_other
-unfolding literal chars digits meaning malformations_at cost serde_json_on_literals
+unfolding computed
 a_value_of_kind_boolean_is_of_no_other = λ u. (refl, refl, refl)
 
 pub a_value_of_kind_integer_is_of_no_other : rows.A_value_of_kind_integer_is_of_no_other
-unfolding literal chars digits meaning malformations_at cost serde_json_on_literals
+unfolding computed
 a_value_of_kind_integer_is_of_no_other = λ u. (refl, refl, refl)
 
 pub a_value_of_kind_string_is_of_no_other : rows.A_value_of_kind_string_is_of_no_other
-unfolding literal chars digits meaning malformations_at cost serde_json_on_literals
+unfolding computed
 a_value_of_kind_string_is_of_no_other = λ u. (refl, refl, refl)
 
 pub a_value_of_kind_array_is_of_no_other : rows.A_value_of_kind_array_is_of_no_other
-unfolding literal chars digits meaning malformations_at cost serde_json_on_literals
+unfolding computed
 a_value_of_kind_array_is_of_no_other = λ u. (refl, refl, refl)
 
 pub a_value_of_kind_object_is_of_no_other : rows.A_value_of_kind_object_is_of_no_other
-unfolding literal chars digits meaning malformations_at cost serde_json_on_literals
+unfolding computed
 a_value_of_kind_object_is_of_no_other = λ u. (refl, refl, refl)
 
 pub a_fraction_is_a_number : rows.A_fraction_is_a_number
-unfolding literal chars digits meaning malformations_at cost serde_json_on_literals
+unfolding computed
 a_fraction_is_a_number = λ u. (refl, refl, refl)
 
 pub a_fraction_is_no_integer : rows.A_fraction_is_no_integer
-unfolding literal chars digits meaning malformations_at cost serde_json_on_literals
+unfolding computed
 a_fraction_is_no_integer = λ u. (refl, refl, refl)
 
 pub a_text_shows_no_fraction : rows.A_text_shows_no_fraction
-unfolding literal chars digits meaning malformations_at cost serde_json_on_literals
+unfolding computed
 a_text_shows_no_fraction = λ u. (refl, refl, refl)
 
 pub a_constant_number : rows.A_constant_number
-unfolding literal chars digits meaning malformations_at cost serde_json_on_literals
+unfolding computed
 a_constant_number = λ u. (refl, refl, refl)
 
 pub another_number : rows.Another_number
-unfolding literal chars digits meaning malformations_at cost serde_json_on_literals
+unfolding computed
 another_number = λ u. (refl, refl, refl)
 
 pub a_text_for_a_number : rows.A_text_for_a_number
-unfolding literal chars digits meaning malformations_at cost serde_json_on_literals
+unfolding computed
 a_text_for_a_number = λ u. (refl, refl, refl)
 
 pub a_constant_text : rows.A_constant_text
-unfolding literal chars digits meaning malformations_at cost serde_json_on_literals
+unfolding computed
 a_constant_text = λ u. (refl, refl, refl)
 
 pub another_text : rows.Another_text
-unfolding literal chars digits meaning malformations_at cost serde_json_on_literals
+unfolding computed
 another_text = λ u. (refl, refl, refl)
 
 pub the_minimum_itself : rows.The_minimum_itself
-unfolding literal chars digits meaning malformations_at cost serde_json_on_literals
+unfolding computed
 the_minimum_itself = λ u. (refl, refl, refl)
 
 pub less_than_the_minimum : rows.Less_than_the_minimum
-unfolding literal chars digits meaning malformations_at cost serde_json_on_literals
+unfolding computed
 less_than_the_minimum = λ u. (refl, refl, refl)
 
 pub the_maximum_itself : rows.The_maximum_itself
-unfolding literal chars digits meaning malformations_at cost serde_json_on_literals
+unfolding computed
 the_maximum_itself = λ u. (refl, refl, refl)
 
 pub greater_than_the_maximum : rows.Greater_than_the_maximum
-unfolding literal chars digits meaning malformations_at cost serde_json_on_literals
+unfolding computed
 greater_than_the_maximum = λ u. (refl, refl, refl)
 
 pub a_fraction_is_no_whole_number : rows.A_fraction_is_no_whole_number
-unfolding literal chars digits meaning malformations_at cost serde_json_on_literals
+unfolding computed
 a_fraction_is_no_whole_number = λ u. (refl, refl, refl)
 
 pub a_text_is_no_whole_number : rows.A_text_is_no_whole_number
-unfolding literal chars digits meaning malformations_at cost serde_json_on_literals
+unfolding computed
 a_text_is_no_whole_number = λ u. (refl, refl, refl)
 
 pub a_multiple_below_zero : rows.A_multiple_below_zero
-unfolding literal chars digits meaning malformations_at cost serde_json_on_literals
+unfolding computed
 a_multiple_below_zero = λ u. (refl, refl, refl)
 
 pub no_multiple_below_zero : rows.No_multiple_below_zero
-unfolding literal chars digits meaning malformations_at cost serde_json_on_literals
+unfolding computed
 no_multiple_below_zero = λ u. (refl, refl, refl)
 
 pub two_characters_of_four_bytes : rows.Two_characters_of_four_bytes
-unfolding literal chars digits meaning malformations_at cost serde_json_on_literals
+unfolding computed
 two_characters_of_four_bytes = λ u. (refl, refl, refl)
 
 pub one_character_of_two_bytes : rows.One_character_of_two_bytes
-unfolding literal chars digits meaning malformations_at cost serde_json_on_literals
+unfolding computed
 one_character_of_two_bytes = λ u. (refl, refl, refl)
 
 pub three_characters : rows.Three_characters
-unfolding literal chars digits meaning malformations_at cost serde_json_on_literals
+unfolding computed
 three_characters = λ u. (refl, refl, refl)
 
 pub a_number_has_no_length : rows.A_number_has_no_length
-unfolding literal chars digits meaning malformations_at cost serde_json_on_literals
+unfolding computed
 a_number_has_no_length = λ u. (refl, refl, refl)
 
 pub kinds_have_names : rows.Kinds_have_names
-unfolding literal chars digits meaning malformations_at cost serde_json_on_literals
+unfolding computed
 kinds_have_names = refl
 
 pub a_constant_object : rows.A_constant_object
-unfolding literal chars digits meaning malformations_at cost serde_json_on_literals
+unfolding computed
 a_constant_object = refl
 
 pub a_text_as_maximum : rows.A_text_as_maximum
-unfolding literal chars digits meaning malformations_at cost serde_json_on_literals
+unfolding computed
 a_text_as_maximum = refl
 
 pub multiples_of_zero : rows.Multiples_of_zero
-unfolding literal chars digits meaning malformations_at cost serde_json_on_literals
+unfolding computed
 multiples_of_zero = refl
 
 pub a_length_below_zero : rows.A_length_below_zero
-unfolding literal chars digits meaning malformations_at cost serde_json_on_literals
+unfolding computed
 a_length_below_zero = refl
 
 pub kind_is_unknown : rows.Kind_is_unknown
-unfolding literal chars digits meaning malformations_at cost serde_json_on_literals
+unfolding computed
 kind_is_unknown = refl
 
 pub an_unknown_keyword_is_ignored : rows.An_unknown_keyword_is_ignored
-unfolding literal chars digits meaning malformations_at cost serde_json_on_literals
+unfolding computed
 an_unknown_keyword_is_ignored = λ u. (refl, refl, refl)
 
 pub a_class_is_refused : rows.A_class_is_refused
-unfolding literal chars digits meaning malformations_at cost serde_json_on_literals
+unfolding computed
 a_class_is_refused = refl
 
 pub a_slow_nothing_is_refused : rows.A_slow_nothing_is_refused
-unfolding literal chars digits meaning malformations_at cost serde_json_on_literals
+unfolding computed
 a_slow_nothing_is_refused = refl
 
 pub a_slow_anchor_is_refused : rows.A_slow_anchor_is_refused
-unfolding literal chars digits meaning malformations_at cost serde_json_on_literals
+unfolding computed
 a_slow_anchor_is_refused = refl
 
 pub an_empty_pattern_is_refused : rows.An_empty_pattern_is_refused
-unfolding literal chars digits meaning malformations_at cost serde_json_on_literals
+unfolding computed
 an_empty_pattern_is_refused = refl
 
 pub two_anchors_is_refused : rows.Two_anchors_is_refused
-unfolding literal chars digits meaning malformations_at cost serde_json_on_literals
+unfolding computed
 two_anchors_is_refused = refl
 
 pub the_end_is_not_the_start : rows.The_end_is_not_the_start
-unfolding literal chars digits meaning malformations_at cost serde_json_on_literals
+unfolding computed
 the_end_is_not_the_start = (refl, refl)
 
 pub the_end_is_the_end : rows.The_end_is_the_end
-unfolding literal chars digits meaning malformations_at cost serde_json_on_literals
+unfolding computed
 the_end_is_the_end = (refl, refl)
 
 pub a_test_needs_no_matcher : rows.A_test_needs_no_matcher
-unfolding literal chars digits meaning malformations_at cost serde_json_on_literals
+unfolding computed
 a_test_needs_no_matcher = (refl, refl)
 
 pub a_body_stands_anywhere : rows.A_body_stands_anywhere
-unfolding literal chars digits meaning malformations_at cost serde_json_on_literals
+unfolding computed
 a_body_stands_anywhere = λ u. (refl, refl, refl)
 
 pub an_escaped_body_stands_anywhere : rows.An_escaped_body_stands_anywhere
-unfolding literal chars digits meaning malformations_at cost serde_json_on_literals
+unfolding computed
 an_escaped_body_stands_anywhere = λ u. (refl, refl, refl)
 
 pub rows_bench : rows.Rows_bench

@@ -1,83 +1,77 @@
 use Rattle.std.proofs.Common.{refl}
-use Rattle.std.specs.Fmt.{digits}
-use Rattle.std.specs.Str.{chars}
-use Rattle.olk_spec.specs.Literals.{literal}
-use Rattle.olk_spec.specs.Meaning.{meaning}
-use Rattle.olk_spec.specs.Malformed.{malformations_at}
-use Rattle.olk_spec.specs.Costs.{cost}
-use Rattle.serde_json.proofs.OnLiterals.{serde_json_on_literals}
+use Rattle.olk_spec.proofs.Computed.{computed}
 use Rattle.olk_spec.specs.Vectors_patterns as rows
 
 pub an_open_group_alone : rows.An_open_group_alone
-unfolding literal chars digits meaning malformations_at cost serde_json_on_literals
+unfolding computed
 an_open_group_alone = refl
 
 pub an_open_group_beside_a_prefix : rows.An_open_group_beside_a_prefix
-unfolding literal chars digits meaning malformations_at cost serde_json_on_literals
+unfolding computed
 an_open_group_beside_a_prefix = refl
 
 pub an_open_group_beside_true : rows.An_open_group_beside_true
-unfolding literal chars digits meaning malformations_at cost serde_json_on_literals
+unfolding computed
 an_open_group_beside_true = refl
 
 pub an_open_group_beside_false : rows.An_open_group_beside_false
-unfolding literal chars digits meaning malformations_at cost serde_json_on_literals
+unfolding computed
 an_open_group_beside_false = refl
 
 pub an_open_group_beside_a_schema : rows.An_open_group_beside_a_schema
-unfolding literal chars digits meaning malformations_at cost serde_json_on_literals
+unfolding computed
 an_open_group_beside_a_schema = refl
 
 pub an_open_group_beside_false_and_a_name : rows.An_open_group_beside_false_and_a_name
-unfolding literal chars digits meaning malformations_at cost serde_json_on_literals
+unfolding computed
 an_open_group_beside_false_and_a_name = refl
 
 pub an_open_group_beside_a_schema_and_a_name : rows.An_open_group_beside_a_schema_and_a_name
-unfolding literal chars digits meaning malformations_at cost serde_json_on_literals
+unfolding computed
 an_open_group_beside_a_schema_and_a_name = refl
 
 pub an_open_group_beside_false_and_15_names : rows.An_open_group_beside_false_and_15_names
-unfolding literal chars digits meaning malformations_at cost serde_json_on_literals
+unfolding computed
 an_open_group_beside_false_and_15_names = refl
 
 pub an_open_group_beside_a_schema_and_15_names : rows.An_open_group_beside_a_schema_and_15_names
-unfolding literal chars digits meaning malformations_at cost serde_json_on_literals
+unfolding computed
 an_open_group_beside_a_schema_and_15_names = refl
 
 pub a_look_behind_alone : rows.A_look_behind_alone
-unfolding literal chars digits meaning malformations_at cost serde_json_on_literals
+unfolding computed
 a_look_behind_alone = refl
 
 pub a_look_behind_beside_a_prefix : rows.A_look_behind_beside_a_prefix
-unfolding literal chars digits meaning malformations_at cost serde_json_on_literals
+unfolding computed
 a_look_behind_beside_a_prefix = refl
 
 pub a_look_behind_beside_true : rows.A_look_behind_beside_true
-unfolding literal chars digits meaning malformations_at cost serde_json_on_literals
+unfolding computed
 a_look_behind_beside_true = refl
 
 pub a_look_behind_beside_false : rows.A_look_behind_beside_false
-unfolding literal chars digits meaning malformations_at cost serde_json_on_literals
+unfolding computed
 a_look_behind_beside_false = refl
 
 pub a_look_behind_beside_a_schema : rows.A_look_behind_beside_a_schema
-unfolding literal chars digits meaning malformations_at cost serde_json_on_literals
+unfolding computed
 a_look_behind_beside_a_schema = refl
 
 pub a_look_behind_beside_false_and_a_name : rows.A_look_behind_beside_false_and_a_name
-unfolding literal chars digits meaning malformations_at cost serde_json_on_literals
+unfolding computed
 a_look_behind_beside_false_and_a_name = refl
 
 pub a_look_behind_beside_a_schema_and_a_name : rows.A_look_behind_beside_a_schema_and_a_name
-unfolding literal chars digits meaning malformations_at cost serde_json_on_literals
+unfolding computed
 a_look_behind_beside_a_schema_and_a_name = refl
 
 pub a_look_behind_beside_false_and_15_names : rows.A_look_behind_beside_false_and_15_names
-unfolding literal chars digits meaning malformations_at cost serde_json_on_literals
+unfolding computed
 a_look_behind_beside_false_and_15_names = refl
 
 pub a_look_behind_beside_a_schema_and_15_names : rows.A_look_behind_beside_a_schema_and_15_names
-unfolding literal chars digits meaning malformations_at cost serde_json_on_literals
+unfolding computed
 a_look_behind_beside_a_schema_and_15_names = refl
 
 pub vectors_patterns : rows.Vectors_patterns

@@ -8,7 +8,7 @@ use Rattle.std.specs.Cmp.Lexicographic.{slice_cmp}
 use Prim.Native.String.{String as Quoted}
 use Rattle.serde_json.specs.Data.{Data, boolean}
 use Rattle.olk_spec.specs.Names.{Text, Name, Path, is_empty}
-use Rattle.olk_spec.specs.Json.{json, obj, arr, str}
+use Rattle.olk_spec.specs.Json.{json, json_of, obj, arr, str}
 use Rattle.olk_spec.specs.Bench.{bench}
 use Rattle.olk_spec.specs.Literals.{Literal, literal}
 use Rattle.olk_spec.specs.Faults.{Fault, fault, Kind, AnyOf, OneOfNotValid, OneOfMultipleValid, Context, no_branch, branch, Faults, no_fault, and_fault}
@@ -124,8 +124,9 @@ refusals S = lines (malformations_at bench S [])
 abbrev pub Is_refused : Quoted → List Quoted → Type 0
 Is_refused S ls = refusals (json S) ≡ map codes ls
 
-abbrev pub Are_refused : List (Quoted × Quoted) → Type 0
-Are_refused es = map (λ e. refusals (json e.0)) es ≡ map (λ e. codes e.1 ∷ []) es
+-- schemas that are each refused for one thing at one path, where they stand at this path between two texts
+abbrev pub Are_refused_at : Quoted → Quoted → Quoted → List (Quoted × Quoted × Quoted) → Type 0
+Are_refused_at P before after es = map (λ e. refusals (json_of (codes before ++ codes e.0 ++ codes after))) es ≡ map (λ e. (codes e.1 ++ codes " @ \"\", " ++ codes P ++ codes e.2) ∷ []) es
 
 abbrev pub Builds : Quoted → Type 0
 Builds S = refusals (json S) ≡ []

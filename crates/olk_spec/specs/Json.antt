@@ -6,8 +6,11 @@ use Rattle.serde_json.specs.Read.{read}
 use Rattle.olk_spec.specs.Names.{Text, Name}
 
 -- the data that a JSON text stands for, as `serde_json` reads it
+abbrev pub json_of : Text → Data
+json_of t = unwrap_or (read t) null
+
 abbrev pub json : Quoted → Data
-json t = unwrap_or (read (codes t)) null
+json t = json_of (codes t)
 
 abbrev pub members_from : List (Name × Data) → Members
 members_from [] = no_members

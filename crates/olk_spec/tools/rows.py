@@ -22,7 +22,7 @@ FORMS = {
     "Costs": "(refl, refl, refl, refl)",
     "Is_refused": "refl",
     "Builds": "refl",
-    "Are_refused": "refl",
+    "Are_refused_at": "refl",
     "Is_pattern": "refl",
     "Is_no_pattern": "refl",
 }
@@ -60,13 +60,20 @@ class Group:
 
     def __init__(self, module, title):
         self.module, self.title = module, title
-        self.schemas, self.rows = {}, []
+        self.schemas, self.tables, self.rows = {}, {}, []
 
     def schema(self, name, value):
         text = value if isinstance(value, str) else compact(value)
         json.loads(text)
         assert name not in self.schemas, name
         self.schemas[name] = text
+        return name
+
+    def table(self, name, rows):
+        """Schemas, with what is wrong with each and at which path."""
+        for schema, _, _ in rows:
+            json.loads(schema)
+        self.tables[name] = rows
         return name
 
     def add(self, name, form, *words):
@@ -109,10 +116,9 @@ class Group:
     def is_refused(self, name, schema, lines):
         self.add(name, "Is_refused", self.text_of(schema), texts(ordered(lines)))
 
-    def are_refused(self, name, pairs):
-        for schema, _ in pairs:
-            json.loads(schema)
-        self.add(name, "Are_refused", "(" + " ∷ ".join(f"({quote(s)}, {quote(l)})" for s, l in pairs) + " ∷ [])")
+    def are_refused_at(self, name, path, place, table):
+        before, after = place.split("%s")
+        self.add(name, "Are_refused_at", quote(path), quote(before), quote(after), table)
 
     def builds(self, name, schema):
         self.add(name, "Builds", self.text_of(schema))
@@ -158,6 +164,9 @@ class Group:
     def write(self):
         product = self.module  # the module and the fact that joins its rows have one name
         body = "".join(f"\nabbrev pub {n} : Quoted\n{n} = {quote(t)}\n" for n, t in self.schemas.items())
+        for name, rows in self.tables.items():
+            lines = "".join(f"    ({', '.join(map(quote, row))}) ∷\n" for row in rows)
+            body += f"\n-- schemas, what each is refused for, and at which path below its own\nabbrev pub {name} : List (Quoted × Quoted × Quoted)\n{name} =\n{lines}    []\n"
         body += "".join(f"\nabbrev pub {n} : Type 0\n{n} = {f} {w}\n" for n, f, w in self.rows)
         body += f"\nabbrev pub {product} : Type 0\n{product} = " + " × ".join(n for n, _, _ in self.rows) + "\n"
         code = re.sub(r'"(\\.|[^"\\])*"', '""', body)
@@ -169,7 +178,7 @@ class Group:
         head = f"-- {self.title}\n"
         if prelude:
             head += f"use Rattle.std.specs.Prelude.{{{', '.join(prelude)}}}\n"
-        if self.schemas:
+        if self.schemas or self.tables:
             head += "use Prim.Native.String.{String as Quoted}\n"
         if literals:
             head += f"use Rattle.olk_spec.specs.Literals.{{{', '.join(literals)}}}\n"
@@ -182,21 +191,14 @@ class Group:
         with open(f"specs/{self.module}.antt", "w") as out:
             out.write(head + body)
 
-        opened = "unfolding literal chars digits meaning malformations_at cost serde_json_on_literals"
         proof = (
             "use Rattle.std.proofs.Common.{refl}\n"
-            "use Rattle.std.specs.Fmt.{digits}\n"
-            "use Rattle.std.specs.Str.{chars}\n"
-            "use Rattle.olk_spec.specs.Literals.{literal}\n"
-            "use Rattle.olk_spec.specs.Meaning.{meaning}\n"
-            "use Rattle.olk_spec.specs.Malformed.{malformations_at}\n"
-            "use Rattle.olk_spec.specs.Costs.{cost}\n"
-            "use Rattle.serde_json.proofs.OnLiterals.{serde_json_on_literals}\n"
+            "use Rattle.olk_spec.proofs.Computed.{computed}\n"
             f"use Rattle.olk_spec.specs.{self.module} as rows\n"
         )
         for name, form, _ in self.rows:
             fact = name[0].lower() + name[1:]
-            proof += f"\npub {fact} : rows.{name}\n{opened}\n{fact} = {PROOFS[form]}\n"
+            proof += f"\npub {fact} : rows.{name}\nunfolding computed\n{fact} = {PROOFS[form]}\n"
         joined = product[0].lower() + product[1:]
         facts = ", ".join(n[0].lower() + n[1:] for n, _, _ in self.rows)
         proof += f"\npub {joined} : rows.{product}\n{joined} = ({facts})\n"
@@ -488,8 +490,7 @@ def refusals():
     g.is_refused("Each_refused_pattern_is_told", '{"patternProperties":{"a(":{},"b(":{}}}', ['"%s(" is not a "regex" @ "", /patternProperties/%s(' % (n, n) for n in "ab"])
     g.is_refused("Each_entry_that_is_no_list_is_told", '{"dependentRequired":{"a":5,"b":5}}', ['5 is not of type "array" @ "", /dependentRequired/%s' % n for n in "ab"])
     g.is_always_refused("A_reference_is_refused_whatever_the_leaves_read", '{"$ref":"#"}', ['"$ref" is not supported here @ "", /$ref'])
-    bad = [("5", '5 is not of types "boolean", "object"', "")]
-    bad += [('{"%s":5}' % k, '5 is not of type "%s"' % t, "/" + k)
+    bad = [('{"%s":5}' % k, '5 is not of type "%s"' % t, "/" + k)
             for t, ks in (("object", ("properties", "patternProperties", "dependentRequired", "dependentSchemas", "dependencies", "propertyDependencies")),
                           ("array", ("required", "allOf", "anyOf", "oneOf"))) for k in ks]
     bad += [('{"%s":5}' % k, '"%s" is not supported here' % k, "/" + k) for k in ("$ref", "$dynamicRef", "$recursiveRef", "unevaluatedProperties", "unevaluatedItems")]
@@ -498,6 +499,8 @@ def refusals():
             ('{"dependentRequired":{"a":["b","b"]}}', '["b","b"] has non-unique elements', "/dependentRequired/a"), ('{"dependentRequired":{"a":[5]}}', '5 is not of type "string"', "/dependentRequired"),
             ('{"dependencies":{"a":[5]}}', '5 is not of type "string"', "/dependencies"), ('{"propertyDependencies":{"a":5}}', '5 is not of type "object"', "/propertyDependencies/a"),
             ('{"type":5}', '5 is not a value for "type"', "/type")]
+    inside = g.table("wrong_inside", bad)
+    alone = g.table("no_schema", [("5", '5 is not of types "boolean", "object"', "")])
     for label, place, path in (
         ("At_the_root", "%s", ""), ("In_properties", '{"properties":{"n":%s}}', "/properties/n"), ("In_pattern_properties", '{"patternProperties":{"n":%s}}', "/patternProperties/n"),
         ("In_additional_properties", '{"additionalProperties":%s}', "/additionalProperties"), ("In_property_names", '{"propertyNames":%s}', "/propertyNames"),
@@ -506,8 +509,9 @@ def refusals():
         ("In_all_of", '{"allOf":[%s]}', "/allOf/0"), ("In_any_of", '{"anyOf":[true,%s]}', "/anyOf/1"), ("In_one_of", '{"oneOf":[%s]}', "/oneOf/0"), ("In_not", '{"not":%s}', "/not"),
         ("In_if", '{"if":%s,"then":{}}', "/if"), ("In_then", '{"if":{},"then":%s}', "/then"), ("In_else", '{"if":{},"else":%s}', "/else"),
     ):
-        pairs = [(place.replace("%s", s), '%s @ "", %s' % (text, (path + tail) or '""')) for s, text, tail in bad if not (label == "In_property_names" and s == "5")]
-        g.are_refused(label, pairs)
+        g.are_refused_at(label, path, place, inside)
+        if label not in ("At_the_root", "In_property_names"):
+            g.are_refused_at(label.replace("In_", "No_schema_in_"), path, place, alone)
     g.builds("A_condition_alone_builds", '{"if":5}')
     g.builds("An_ignored_keyword_holds_no_schema", '{"x":{"$ref":1}}')
     g.builds("Names_that_are_neither_false_nor_an_object_build", '{"propertyNames":5}')
