@@ -2,11 +2,10 @@
 ghost use Rattle.std.specs.Prelude.{◌≡◌, OnOk};
 ghost use Rattle.olk_base.specs.Nodes.{data_of};
 ghost use Rattle.olk_spec.specs.Names.{Path};
-ghost use Rattle.olk_spec.specs.Tree.{IsLikeTree, is_valid};
 ghost use Rattle.olk_reports.specs.Evaluations.{node_at, nothing_shown, shown_of};
 ghost use Rattle.olk_tree.specs.Bodies.{body_means, body_tree};
-ghost use Rattle.olk_check.specs.Asks.{OnlyAsks};
-ghost use Rattle.olk_evaluate.specs.Wanted.{HasTexts};
+ghost use Rattle.olk_evaluate.specs.Shows.{Shows};
+ghost use Rattle.olk_evaluate.specs.Wanted.{HasTexts, IsShown};
 
 use crate::Show;
 use crate::own::add_own_error;
@@ -124,13 +123,10 @@ pub fn show_body<'a, W: Show<'a>>(
     outcome: &mut EvaluationResult<'a>,
 ) -> Result<(), AllocError>
     requires { shown_of outcome.old ≡ nothing_shown }
-    ensures tree { OnOk result ((P : Path) → IsLikeTree
-        (body_tree (λ k. W.tree k ctx.old.answer) P body.now (data_of node.entry) path.old)
+    ensures { Shows result path.old path.new ctx.old ctx.new (λ _. (P : Path) → IsShown
+        (body_tree (λ k. W.tree k ctx.old.answer) P body.now (data_of node.entry) path.old,
+        (body_means W.means body.now (data_of node.entry)).accepts ctx.old.answer)
         (node_at P path.old (shown_of outcome.new))) }
-    ensures verdict { OnOk result ((P : Path) → is_valid (node_at P path.old (shown_of outcome.new))
-        ≡ (body_means W.means body.now (data_of node.entry)).accepts ctx.old.answer) }
-    ensures path { path.new ≡ path.old }
-    ensures context { OnlyAsks ctx.old ctx.new }
 {
     match body {
         Body::True => Ok(()),
