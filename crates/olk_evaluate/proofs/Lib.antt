@@ -8,3 +8,4 @@ pub mod Members
 pub mod Patterns
 pub mod Collected
 pub mod Additional
+pub mod Bodies

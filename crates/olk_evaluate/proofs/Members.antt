@@ -70,6 +70,10 @@ module _ {N : Type 0} where
       shown = subst (AreShown (map want ds)) (sym (h.children ∙ ap (λ l. trees_of l ++ h.added) no_child)) h.shown;
     }
 
+one_each : {X : Type 0} (xs : List X) → flat_map (λ x. x ∷ []) xs ≡ xs
+one_each [] = refl
+one_each (x ∷ xs) = ap (λ l. x ∷ l) (one_each xs)
+
 -- of all, what is left is still to meet; p and q are the path at the start and now, a and b the context
 pub record Meeting {X N : Type 0} (want : Bool → Path → Declared N → Wanted) (met_at : Bool → X → List (Declared N)) (all left : List X) (old new : Met) (p q : Path) (a b : Asking) : Type 0 where
   pub goes_on : (end : Met) → MeetsMore (want a.answer p) (flat_map (met_at a.answer) left) new end → MeetsMore (want a.answer p) (flat_map (met_at a.answer) all) old end
@@ -117,10 +121,13 @@ module _ {N : Type 0} (t : N → Bool → Data → Path → Tree) (m : N → Dat
   wanted_each [] = refl
   wanted_each (d ∷ ds) = ap (λ b. (m d.node d.value).accepts u && b) (wanted_each ds)
 
-  -- all that is shown is valid exactly if each of the members is accepted
-  pub met_verdict : {ds : List (Declared N)} {b : Met} {q : Question} → HasMet (wanted_at t m u Q) ds b → every (λ d. m d.node d.value) ds ≡ q
-      → list_all is_valid (trees_of b.children.items) ≡ q.accepts u
-  met_verdict {ds} {b} h same = all_valid (map (wanted_at t m u Q) ds) (trees_of b.children.items) h.shown ∙ wanted_each ds ∙ ap (λ p. p.accepts u) same
+  -- all that is met, which is these members; what is shown is valid exactly if each is accepted
+  pub all_met : {ds es : List (Declared N)} {b : Met} {q : Question} → ds ≡ es → every (λ d. m d.node d.value) ds ≡ q → HasMet (wanted_at t m u Q) (flat_map (λ d. d ∷ []) ds) b
+      → HasMet (wanted_at t m u Q) es b × list_all is_valid (trees_of b.children.items) ≡ q.accepts u
+  all_met {ds} {es} {b} same asked h =
+      let met : HasMet (wanted_at t m u Q) ds b = subst (λ l. HasMet (wanted_at t m u Q) l b) (one_each ds) h in
+      (subst (λ l. HasMet (wanted_at t m u Q) l b) same met,
+      all_valid (map (wanted_at t m u Q) ds) (trees_of b.children.items) met.shown ∙ wanted_each ds ∙ ap (λ p. p.accepts u) asked)
 
   module _ (es : List (Name × N)) where
     -- the names that are met, and the trees that are wanted there

@@ -7,7 +7,7 @@ use Rattle.olk_tree.specs.Visited.{left_of}
 use Rattle.olk_tree.proofs.Due.{chosen, all_chosen}
 use Rattle.olk_tree.proofs.Maps.{map-flat_map}
 use Rattle.olk_evaluate.specs.Wanted.{AreShown, wanted, trees_of}
-use Rattle.olk_evaluate.proofs.Children.{showing_start, showing_more, showing_none, showing_at, showing_end}
+use Rattle.olk_evaluate.proofs.Children.{showing_start, showing_more, showing_none, showing_end}
 use Rattle.olk_evaluate.proofs.Shows.{kept_same, kept_then, shows_err}
 use Rattle.olk_evaluate.proofs.property_dependencies.chosen_children.Goals as goal
 
@@ -19,7 +19,9 @@ loop-choices-preserved g c = showing_none c.loop-choices.invariant
     (ap (flat_map chosen) c.in-Some.ensures.steps ∙ ap (λ ns. ns ++ flat_map chosen (left_of c.next.new.self)) (sym c.in_default.ensures)) kept_same
 
 pub loop-choices-preserved-in-Continue-1 : goal.loop-choices-preserved-in-Continue-1
-loop-choices-preserved-in-Continue-1 g c = ?
+loop-choices-preserved-in-Continue-1 g c = showing_more c.loop-choices.invariant
+    (ap (flat_map chosen) c.in-Some.ensures.steps ∙ ap (λ ns. ns ++ flat_map chosen (left_of c.next.new.self)) (sym c.in-Some-chosen_by.ensures))
+    c.in_ok-add_child.ensures.shown c.add_child.ensures.kept
 
 pub returns-in_err-add_child : goal.returns-in_err-add_child
 returns-in_err-add_child g c = shows_err c.from_residual.ensures.0 (kept_then c.loop-choices.invariant.kept c.add_child.ensures.kept)
