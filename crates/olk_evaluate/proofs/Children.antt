@@ -131,18 +131,16 @@ pub those_next : {X : Type 0} (f : X → Bool) {left rest : List X} {x : X} {b :
 those_next f {rest = rest} {x} next e = ap (filter_once f) next ∙ ap (λ b. put_if b x (filter_once f rest)) (sym e)
 
 -- a node that is put behind the others, and its result written then
-pub shows_last : {w : Wanted} (xs ys : List EvaluationNode) (i : ℕ) (made at : EvaluationNode) (r : EvaluationResult) → ys ≡ xs ++ made ∷ [] → i ≡ length xs → at ≡ get_or ys i at
-    → IsShown w (tree_of (with_result made r)) → ShowsMore w xs (set ys i (with_result at r))
-shows_last xs ys i made at r more last there is = record {
-  child = with_result made r;
-  added =
-      (λ j. set (more j) (last j) (with_result (found j) r))
-      ∙ set-append_seam xs made [] (with_result made r);
-  shown = is;
-}
-  where
-    found : at ≡ made
-    found = there ∙ (λ j. get_or (more j) (last j) at) ∙ get_or-append_seam xs made [] at
+module _ (xs ys : List EvaluationNode) (i : ℕ) (made at : EvaluationNode) (more : ys ≡ xs ++ made ∷ []) (last : i ≡ length xs) (there : at ≡ get_or ys i at) where
+  pub last_is : at ≡ made
+  last_is = there ∙ (λ j. get_or (more j) (last j) at) ∙ get_or-append_seam xs made [] at
+
+  pub shows_last : {w : Wanted} (r : EvaluationResult) → IsShown w (tree_of (with_result made r)) → ShowsMore w xs (set ys i (with_result at r))
+  shows_last r is = record {
+    child = with_result made r;
+    added = (λ j. set (more j) (last j) (with_result (last_is j) r)) ∙ set-append_seam xs made [] (with_result made r);
+    shown = is;
+  }
 
 -- what stands at its places
 pub shown_there : {w : Wanted} {P R Q S : Path} (s : Shown) {t : Tree} → t ≡ node_at P Q s → P ≡ R → Q ≡ S → IsShown w (node_at R S s) → IsShown w t

@@ -204,10 +204,6 @@ module _ (k : Name) where
 
 -- ---- a child for names that are missing
 
-lacking_none : (b : Bool) (t : Tree) → false ≡ b → AreShown (refused (put_if b t [])) []
-lacking_none false t e = tt
-lacking_none true t e = cc
-
 lacking_one : (b : Bool) (t r : Tree) → true ≡ not b → IsShown (t, b) r → AreShown (refused (put_if (not b) t [])) (r ∷ [])
 lacking_one false t r e h = (h, tt)
 lacking_one true t r e h = cc
@@ -217,7 +213,7 @@ module _ (ns : List Name) (v w : Data) (P Q : Path) where
   lacking_faults = map (λ n. fault (Required n) v Q P) (missing ns w)
 
   pub none_lacking : false ≡ not (is_empty (missing ns w)) → AreShown (refused (lacking_trees ns v w P Q)) []
-  none_lacking e = lacking_none (not (is_empty (missing ns w))) (erring P Q lacking_faults) e
+  none_lacking e = subst (λ b. AreShown (refused (put_if b (erring P Q lacking_faults) [])) []) e tt
 
   pub some_lacking : {s r : Shown} {t : Tree} → true ≡ not (is_empty (missing ns w)) → s ≡ shown true None [] [] → AddsErrors lacking_faults s r
       → t ≡ node_at P Q r → AreShown (refused (lacking_trees ns v w P Q)) (t ∷ [])
@@ -233,25 +229,17 @@ module _ (ns : List Name) (v w : Data) (P Q : Path) where
   all_there = lacking_wanted (is_empty (missing ns w)) (erring P Q lacking_faults)
 
 -- the same of one name
-lacks_one : (b : Bool) (n : Name) → false ≡ b → true ≡ not (is_empty (put_if (not b) n []))
-lacks_one true n e = cc
-lacks_one false n e = refl
+module _ (n : Name) (v : Data) (ms : Members) (P Q : Path) where
+  abbrev lacks_if : Bool → Bool
+  lacks_if has = not (is_empty (put_if (not has) n []))
 
-error_of_one : (f : Name → Fault) (b : Bool) (n : Name) {s r : Shown} → false ≡ b → AddsErrors (f n ∷ []) s r → AddsErrors (map f (put_if (not b) n [])) s r
-error_of_one f true n e h = cc
-error_of_one f false n e h = h
+  pub not_lacking : true ≡ has n (object ms) → AreShown (refused (lacking_trees (n ∷ []) v (object ms) P Q)) []
+  not_lacking e = none_lacking (n ∷ []) v (object ms) P Q (ap lacks_if e)
 
-pub one_lacking : (n : Name) (v : Data) (ms : Members) (P Q : Path) {s r : Shown} {t : Tree} → false ≡ has n (object ms) → s ≡ shown true None [] [] → AddsErrors (fault (Required n) v Q P ∷ []) s r
-    → t ≡ node_at P Q r → AreShown (refused (lacking_trees (n ∷ []) v (object ms) P Q)) (t ∷ [])
-one_lacking n v ms P Q e none h place = some_lacking (n ∷ []) v (object ms) P Q (lacks_one (has n (object ms)) n e) none
-    (error_of_one (λ k. fault (Required k) v Q P) (has n (object ms)) n e h) place
-
-none_of_one : (b : Bool) (n : Name) → true ≡ b → false ≡ not (is_empty (put_if (not b) n []))
-none_of_one true n e = refl
-none_of_one false n e = cc
-
-pub not_lacking : (n : Name) (v : Data) (ms : Members) (P Q : Path) → true ≡ has n (object ms) → AreShown (refused (lacking_trees (n ∷ []) v (object ms) P Q)) []
-not_lacking n v ms P Q e = none_lacking (n ∷ []) v (object ms) P Q (none_of_one (has n (object ms)) n e)
+  pub one_lacking : {s r : Shown} {t : Tree} → false ≡ has n (object ms) → s ≡ shown true None [] [] → AddsErrors (fault (Required n) v Q P ∷ []) s r
+      → t ≡ node_at P Q r → AreShown (refused (lacking_trees (n ∷ []) v (object ms) P Q)) (t ∷ [])
+  one_lacking {s} {r} e none h place = some_lacking (n ∷ []) v (object ms) P Q (ap lacks_if e) none
+      (subst (λ b. AddsErrors (map (λ k. fault (Required k) v Q P) (put_if (not b) n [])) s r) e h) place
 
 pub same_lacking : {a b c d : Name} {P R Q S : Path} (v w : Data) (ts : List Tree) → a ≡ c → b ≡ d → P ≡ R → Q ≡ S → AreShown (refused (lacking_trees (a ∷ b ∷ []) v w P Q)) ts
     → AreShown (refused (lacking_trees (c ∷ d ∷ []) v w R S)) ts

@@ -38,7 +38,6 @@ impl<'a, R: RegexEngine, N: Show<'a>> Show<'a> for AdditionalProperties<R, N> {
     ghost tree = { λ k. (additional_properties_answers R.answers R.costs k).tree N.means N.tree };
 
     #[inline(never)]
-    #[tactic(auto, using(olk_check::proofs::Asked::only_same))]
     fn show(
         &'a self,
         alloc: Global,

@@ -25,7 +25,6 @@ impl<'a, N: Show<'a>> Show<'a> for Dependencies<N> {
     ghost tree = { λ k. (dependencies_answers k).tree N.means N.tree };
 
     #[inline(never)]
-    #[tactic(auto, using(olk_check::proofs::Asked::only_same))]
     fn show(
         &'a self,
         alloc: Global,

@@ -24,7 +24,6 @@ impl<'a, K: Leaf, R: RegexEngine, N: Show<'a>> Show<'a> for KeywordOver<K, R, N>
 
     ghost tree = { λ k. (answers_of (kit K.Leaf R.RegexEngine) k).tree N.means N.tree };
 
-    #[tactic(auto, using(olk_check::proofs::Asked::only_same), unfolding(olk_tree::specs::Validators::answers_of))]
     fn show(
         &'a self,
         alloc: Global,
@@ -113,7 +112,6 @@ fn add_texts<'a, K: Leaf>(
 /// # Errors
 ///
 /// Out of memory.
-#[tactic(auto, using(olk_check::proofs::Asked::only_same))]
 pub fn show_body<'a, W: Show<'a>>(
     alloc: Global,
     body: &'a Body<W>,

@@ -23,7 +23,6 @@ impl<'a, R: RegexEngine, N: Show<'a>> Show<'a> for PatternProperties<R, N> {
     ghost tree = { λ k. (pattern_properties_answers R.answers R.costs k).tree N.means N.tree };
 
     #[inline(never)]
-    #[tactic(auto, using(olk_check::proofs::Asked::only_same))]
     fn show(
         &'a self,
         alloc: Global,
@@ -53,7 +52,6 @@ impl<'a, R: RegexEngine, N: Show<'a>> Show<'a> for SingleValuePatternProperties<
         (single_pattern_properties_answers R.answers R.costs k).tree N.means N.tree };
 
     #[inline(never)]
-    #[tactic(auto, using(olk_check::proofs::Asked::only_same))]
     fn show(
         &'a self,
         alloc: Global,

@@ -32,7 +32,6 @@ impl<'a, N: Show<'a>> Show<'a> for Properties<N> {
     ghost tree = { λ k. (properties_answers k).tree N.means N.tree };
 
     #[inline(never)]
-    #[tactic(auto, using(olk_check::proofs::Asked::only_same))]
     fn show(
         &'a self,
         alloc: Global,
@@ -60,7 +59,6 @@ impl<'a, N: Show<'a>> Show<'a> for SmallPropertiesWithRequired2<N> {
     ghost tree = { λ k. (properties_with_required2_answers k).tree N.means N.tree };
 
     #[inline(never)]
-    #[tactic(auto, using(olk_check::proofs::Asked::only_same))]
     fn show(
         &'a self,
         alloc: Global,

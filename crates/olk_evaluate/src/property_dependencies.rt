@@ -26,7 +26,6 @@ impl<'a, N: Show<'a>> Show<'a> for PropertyDependencies<N> {
     ghost tree = { λ k. (property_dependencies_answers k).tree N.means N.tree };
 
     #[inline(never)]
-    #[tactic(auto, using(olk_check::proofs::Asked::only_same))]
     fn show(
         &'a self,
         alloc: Global,

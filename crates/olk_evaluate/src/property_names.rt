@@ -21,7 +21,6 @@ impl<'a, N: Show<'a>> Show<'a> for PropertyNames<N> {
     ghost tree = { λ k. (property_names_answers k).tree N.means N.tree };
 
     #[inline(never)]
-    #[tactic(auto, using(olk_check::proofs::Asked::only_same))]
     fn show(
         &'a self,
         alloc: Global,
@@ -48,7 +47,6 @@ impl<'a> Show<'a> for PropertyNamesFalse {
     ghost tree = { λ k. (property_names_false_answers k).tree };
 
     #[inline(never)]
-    #[tactic(auto, using(olk_check::proofs::Asked::only_same))]
     fn show(
         &'a self,
         alloc: Global,

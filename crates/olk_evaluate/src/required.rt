@@ -31,7 +31,6 @@ impl<'a> Show<'a> for RequiredValidator {
     ghost tree = { λ k. (required_answers k).tree };
 
     #[inline(never)]
-    #[tactic(auto, using(olk_check::proofs::Asked::only_same))]
     fn show(
         &'a self,
         alloc: Global,
