@@ -29,10 +29,10 @@ use Rattle.olk_evaluate.specs.Wanted.{Wanted, IsShown, AreShown, wanted, refused
 use Rattle.olk_check.proofs.Together.{each_is_all}
 use Rattle.olk_evaluate.specs.Additional.{Collects, names_of, nodes_wanted, members_found, matches_shown, rest_annotation, named_faults, faults_without_rest, Completes}
 use Rattle.olk_evaluate.specs.declared.additional_members.Collected.{Collected}
-use Rattle.olk_evaluate.proofs.Children.{trees_wanted, all_wanted, shown_as, shows_nothing}
+use Rattle.olk_evaluate.proofs.Children.{trees_wanted, all_wanted, same_trees, shown_as, shows_nothing}
 use Rattle.olk_evaluate.proofs.Members.{shown_append}
 use Rattle.olk_evaluate.proofs.OwnErrors.{all_there, complete_shown}
-use Rattle.olk_evaluate.proofs.Patterns.{no_object}
+use Rattle.olk_evaluate.proofs.Patterns.{no_object, nothing_each}
 
 -- ---- names, trees and verdicts of the members
 
@@ -53,10 +53,6 @@ module _ {X : Type 0} (p : X → Bool) where
       by true = refl
       by false = refl
 
-nothing_each : {X B : Type 0} (xs : List X) → flat_map (λ x. let none : List B = [] in none) xs ≡ []
-nothing_each [] = refl
-nothing_each (x ∷ xs) = nothing_each xs
-
 each_if : {X B : Type 0} (f : X → List B) (b : Bool) (xs : List X) → flat_map (λ x. cond b (f x) []) xs ≡ cond b (flat_map f xs) []
 each_if f true xs = refl
 each_if f false xs = nothing_each xs
@@ -65,10 +61,6 @@ each_if f false xs = nothing_each xs
 
 abbrev accepted : List Tree → List Wanted
 accepted = map (λ t. (t, true))
-
-same_trees : (b : Bool) (ts : List Tree) → trees_wanted (map (λ t. (t, b)) ts) ≡ ts
-same_trees b [] = refl
-same_trees b (t ∷ ts) = ap (λ l. t ∷ l) (same_trees b ts)
 
 all_accepted : (ts : List Tree) → all_wanted (accepted ts) ≡ true
 all_accepted [] = refl

@@ -1,6 +1,5 @@
 -- Branches that accept, and those that refuse.
-use Rattle.std.proofs.Common.{◌≡◌, ℕ, ◌==◌, length, arith, Bool, true, false, not, cond, ◌||◌, List, [], ◌∷◌, None, refl, sym, ap, ◌∙◌, ◌&&◌}
-use Rattle.std.proofs.lemmas.Bool.Decides.{nat_tests}
+use Rattle.std.proofs.Common.{◌≡◌, Bool, true, false, not, cond, ◌||◌, List, [], ◌∷◌, None, refl, sym, ap, ◌∙◌, ◌&&◌}
 use Rattle.serde_json.specs.Data.{Data}
 use Rattle.olk_spec.specs.Names.{Path, filter_once, put_if, is_empty}
 use Rattle.olk_spec.specs.Tree.{Tree, is_valid, plain, result}
@@ -8,15 +7,14 @@ use Rattle.std.specs.List.{list_all}
 use Rattle.olk_reports.specs.Evaluations.{Shown, shown, node_at}
 use Rattle.olk_tree.specs.Questions.{Question, some}
 use Rattle.olk_tree.specs.Shown.{branch_trees, any_of_tree}
-use Rattle.olk_reports.specs.declared.evaluation.EvaluationNode.{EvaluationNode}
-use Rattle.olk_evaluate.specs.Wanted.{AreShown, IsShown, wanted, each_wanted, trees_of}
+use Rattle.olk_evaluate.specs.Wanted.{AreShown, IsShown, wanted, each_wanted}
 use Rattle.olk_evaluate.proofs.Children.{all_wanted, shown_as, result_shown, plain_shown, branches_wanted}
 
 module _ {N : Type 0} (t : N → Bool → Data → Path → Tree) (m : N → Data → Question) (u : Bool) (v : Data) (P Q : Path) where
   abbrev pub accepts_here : N → Bool
   accepts_here n = (m n v).accepts u
 
-  as_many : (ns : List N) (cs : List Tree) → AreShown (each_wanted t m u ns v Q) cs → is_empty ns ≡ is_empty cs
+  as_many : (ns : List N) (cs : List Tree) → AreShown (each_wanted t m u ns v Q) cs → is_empty cs ≡ is_empty ns
   as_many [] [] h = refl
   as_many [] (c ∷ cs) h = absurd h
   as_many (n ∷ ns) [] h = absurd h
@@ -48,22 +46,15 @@ module _ {N : Type 0} (t : N → Bool → Data → Path → Tree) (m : N → Dat
     tree_if none = cond none (result P Q None true [] (branch_trees (λ n. t n u) v Q ns)) (plain P Q (branch_trees (λ n. t n u) v Q acceptors))
 
     -- where one accepts
-    pub accepting_shown : {s : Shown} → is_empty cs ≡ false → s ≡ shown (list_all is_valid cs) None [] cs
+    pub accepting_shown : {s : Shown} → false ≡ is_empty cs → s ≡ shown (list_all is_valid cs) None [] cs
         → IsShown (any_of_tree (λ n. t n u) v Q accepts_here P ns, (some (λ n. m n v) ns).accepts u) (node_at P Q s)
     accepting_shown some e = shown_as (plain_shown P Q (each_wanted t m u acceptors v Q) h e)
-        (ap (plain P Q) (branches_wanted t m u v Q acceptors) ∙ ap tree_if (sym (as_many acceptors cs h ∙ some)))
-        (acceptors_pass ns ∙ sym (some_accepts ns ∙ ap not (as_many acceptors cs h ∙ some)))
+        (ap (plain P Q) (branches_wanted t m u v Q acceptors) ∙ ap tree_if (some ∙ as_many acceptors cs h))
+        (acceptors_pass ns ∙ ap not (some ∙ as_many acceptors cs h) ∙ sym (some_accepts ns))
 
     -- where none accepts, and all are shown
-    pub refusing_shown : {s : Shown} (all : List Tree) → is_empty cs ≡ true → AreShown (each_wanted t m u ns v Q) all → s ≡ shown false None [] all
+    pub refusing_shown : {s : Shown} (all : List Tree) → true ≡ is_empty cs → AreShown (each_wanted t m u ns v Q) all → s ≡ shown false None [] all
         → IsShown (any_of_tree (λ n. t n u) v Q accepts_here P ns, (some (λ n. m n v) ns).accepts u) (node_at P Q s)
     refusing_shown all none each e = shown_as (result_shown P Q None true [] [] (each_wanted t m u ns v Q) all e tt each)
-        (ap (result P Q None true []) (branches_wanted t m u v Q ns) ∙ ap tree_if (sym (as_many acceptors cs h ∙ none)))
-        (sym (some_accepts ns ∙ ap not (as_many acceptors cs h ∙ none)))
-
--- whether a list of nodes is empty, by its length
-pub emptiness_of : (xs : List EvaluationNode) (n : ℕ) (b : Bool) → n ≡ length xs → b ≡ (n == 0) → is_empty (trees_of xs) ≡ b
-emptiness_of [] n true l e = refl
-emptiness_of [] n false l e = absurd (grind (arith, nat_tests))
-emptiness_of (x ∷ xs) n true l e = absurd (grind (arith, nat_tests))
-emptiness_of (x ∷ xs) n false l e = refl
+        (ap (result P Q None true []) (branches_wanted t m u v Q ns) ∙ ap tree_if (none ∙ as_many acceptors cs h))
+        (ap not (none ∙ as_many acceptors cs h) ∙ sym (some_accepts ns))

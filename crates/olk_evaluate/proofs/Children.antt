@@ -1,7 +1,8 @@
 -- Children beside those that are wanted.
-use Rattle.std.proofs.Common.{◌≡◌, ℕ, Bool, true, false, not, ◌&&◌, List, [], ◌∷◌, ◌++◌, map, length, get_or, Option, None, append_assoc, refl, sym, ap, subst, ◌∙◌}
+use Rattle.std.proofs.Common.{◌≡◌, ℕ, ◌==◌, arith, Bool, true, false, not, ◌&&◌, List, [], ◌∷◌, ◌++◌, map, length, get_or, Option, None, append_assoc, refl, sym, ap, subst, ◌∙◌}
 use mathlib.Core.Path.{subst₂}
 use Rattle.std.specs.List.{list_all}
+use Rattle.std.proofs.lemmas.Bool.Decides.{nat_tests}
 use Rattle.std.proofs.lemmas.List.{append-nil, map-append}
 use Rattle.std.proofs.lemmas.Simd.{map-map}
 use Rattle.std.proofs.Math.Bool.{and-true}
@@ -21,6 +22,11 @@ use Rattle.olk_tree.specs.Shown.{branch_trees, name_trees}
 use Rattle.olk_evaluate.specs.Shows.{Kept}
 use Rattle.olk_evaluate.proofs.Shows.{kept_same, kept_then, as_before}
 use Rattle.olk_evaluate.specs.Wanted.{Wanted, AreShown, IsShown, ShowsMore, ShowsOne, ShowsEach, wanted, each_wanted, names_wanted, trees_of}
+
+-- whether a list is empty, by its length
+pub emptiness_of : {X Y : Type 0} (f : X → Y) (xs : List X) {n : ℕ} {b : Bool} → n ≡ length xs → b ≡ (n == 0) → b ≡ is_empty (map f xs)
+emptiness_of f [] len e = e ∙ ap (λ n. n == 0) len
+emptiness_of f (x ∷ xs) {n} len e = e ∙ grind (arith, nat_tests)
 
 -- ---- the tree of a result
 
@@ -70,6 +76,10 @@ told_emptiness [] [] h = refl
 told_emptiness [] (e ∷ es) h = absurd h
 told_emptiness (d ∷ ds) [] h = absurd h
 told_emptiness (d ∷ ds) (e ∷ es) h = refl
+
+pub same_trees : (b : Bool) (ts : List Tree) → trees_wanted (map (λ t. (t, b)) ts) ≡ ts
+same_trees b [] = refl
+same_trees b (t ∷ ts) = ap (λ l. t ∷ l) (same_trees b ts)
 
 -- what is wanted under other names
 pub shown_as : {t u : Tree} {b c : Bool} {s : Tree} → IsShown (t, b) s → t ≡ u → b ≡ c → IsShown (u, c) s

@@ -28,7 +28,7 @@ use Rattle.olk_evaluate.proofs.Shows.{kept_same, kept_then, as_before}
 use Rattle.olk_evaluate.specs.Wanted.{Wanted, IsShown, AreShown, ShowsMore, refused, lacking_trees, trees_of}
 use Rattle.olk_evaluate.specs.Members.{HasMet, MeetsMore, wanted_at}
 use Rattle.olk_evaluate.specs.declared.properties.Met.{Met}
-use Rattle.olk_evaluate.proofs.Children.{trees_wanted, all_wanted, shown_as, result_shown, shows_nothing, all_valid}
+use Rattle.olk_evaluate.proofs.Children.{trees_wanted, all_wanted, same_trees, shown_as, result_shown, shows_nothing, all_valid}
 use Rattle.olk_evaluate.proofs.OwnErrors.{all_there}
 
 abbrev pub names_in : Met → List Name
@@ -145,10 +145,6 @@ module _ {N : Type 0} (t : N → Bool → Data → Path → Tree) (m : N → Dat
         ∙ ap (λ l. declared_names (flat_map (λ n. declared_as x.0 n x.1) (option_to_list (lookup_name x.0 es))) ++ l) (names_there xs)
         ∙ named_here (lookup_name x.0 es) (is_declared x.0 es) x (filter_once (λ y. is_declared y.0 es) xs) (declared_found x.0 es)
 
-    refused_trees : (ts : List Tree) → trees_wanted (refused ts) ≡ ts
-    refused_trees [] = refl
-    refused_trees (r ∷ ts) = ap (λ l. r ∷ l) (refused_trees ts)
-
     abbrev trees_at : List (Declared N) → List Tree
     trees_at ds = trees_wanted (map (wanted_at t m u Q) ds)
 
@@ -214,7 +210,7 @@ module _ {N : Type 0} (t : N → Bool → Data → Path → Tree) (m : N → Dat
             let lacking : List Wanted = refused (lacking_trees ns v (object ms) place Q) in
             shown_as (beside lacking (trees_of cs) (subst (AreShown (wanted_in ++ lacking)) (sym (ap trees_of parts ∙ map-append tree_of met.children.items more))
             (shown_append wanted_in lacking (trees_of met.children.items) (trees_of more) h.shown lacks)) e)
-            (ap (properties_tree tree_at v Q P es) (refused_trees (lacking_trees ns v (object ms) place Q) ∙ ap (λ w. lacking_trees ns v w place Q) (object_is v ms is)))
+            (ap (properties_tree tree_at v Q P es) (same_trees false (lacking_trees ns v (object ms) place Q) ∙ ap (λ w. lacking_trees ns v w place Q) (object_is v ms is)))
             (list_all-append (λ w. w.1) wanted_in lacking
             ∙ (λ i. as_meant i && (all_there ns v (object ms) place Q ∙ ap (λ w. is_empty (missing ns w)) (object_is v ms is)) i)
             ∙ and_comm ((properties_mean m es v).accepts u) (is_empty (missing ns v)))

@@ -1,7 +1,6 @@
 -- Errors that a keyword shows itself.
 use Rattle.std.proofs.Common.{◌≡◌, ℕ, ◌+◌, ◌==◌, ◌<◌, ◌≤◌, length, get_or, drop, String, Global, Bor, string_bytes, Bool, true, false, not, ◌&&◌, arith, List, [], ◌∷◌, ◌++◌, map, Option, Some, None, refl, sym, ap, subst, ◌∙◌, append_assoc}
 use Rattle.std.specs.List.{list_all}
-use Rattle.std.proofs.lemmas.Bool.Decides.{nat_tests}
 use Rattle.std.proofs.lemmas.List.{append-nil, at_drop_more, drop_all}
 use Rattle.std.proofs.lemmas.List.Sorted.{IsPermutation-map, IsPermutation-refl, length_permutation}
 use Rattle.std.proofs.lemmas.Simd.{map-map}
@@ -23,7 +22,7 @@ use Rattle.olk_tree.specs.OwnFaults.{fault_if_agrees, unless}
 use Rattle.olk_reports.specs.Evaluations.{Shown, shown, errored, node_at}
 use Rattle.olk_evaluate.specs.Wanted.{Wanted, IsShown, AreShown, refused, lacking_trees, errored_by, AddsErrors, HasTexts, IsDescribedBy}
 use Rattle.olk_evaluate.specs.Additional.{annotated_if, named_faults, names_of}
-use Rattle.olk_evaluate.proofs.Children.{trees_wanted, all_wanted, shown_as, result_shown, valid_shown}
+use Rattle.olk_evaluate.proofs.Children.{emptiness_of, trees_wanted, all_wanted, shown_as, result_shown, valid_shown}
 
 -- ---- errors more
 
@@ -110,8 +109,8 @@ members_shown v P Q b e none h = shown_as (refusal_shown FalseSchema v P Q (not 
 -- told by name
 pub names_told : (ns : List (Bor (List ℕ))) (v : Data) (P Q : Path) {n : ℕ} {d : Described} {s r : Shown} → n ≡ length ns → false ≡ (n == 0)
     → IsDescribedBy (fault (AdditionalProperties (names_of ns)) v Q P) d → r ≡ errored d s → AddsErrors (named_faults (names_of ns) v P Q) s r
-names_told [] v P Q len some t is = absurd (grind (arith, nat_tests))
-names_told (n ∷ ns) v P Q len some t is = adds_one t is
+names_told ns v P Q {s = s} {r} len some t is =
+    subst (λ b. AddsErrors (put_if (not b) (fault (AdditionalProperties (names_of ns)) v Q P) []) s r) (emptiness_of (λ n. n.now) ns len some) (adds_one t is)
 
 -- the first of them
 pub first_told : (v : Data) (P Q : Path) {all left rest : List (String Global × Value)} {k : String Global} {w : Value} {d : Described} {s r : Shown} → left ≡ (k, w) ∷ rest → left ≡ all

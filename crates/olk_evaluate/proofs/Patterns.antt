@@ -32,6 +32,10 @@ use Rattle.olk_evaluate.specs.declared.properties.Met.{Met}
 use Rattle.olk_evaluate.proofs.Children.{trees_wanted, shown_as, result_shown, shows_nothing}
 use Rattle.olk_evaluate.proofs.Members.{names_in, wanted_each}
 
+pub nothing_each : {X B : Type 0} (xs : List X) → flat_map (λ x. let none : List B = [] in none) xs ≡ []
+nothing_each [] = refl
+nothing_each (x ∷ xs) = nothing_each xs
+
 pub no_object : (v : Data) → None ≡ as_object v → is_object v ≡ false
 no_object (object ms) e = cc
 no_object v e = refl
@@ -90,10 +94,6 @@ module _ {R N : Type 0} (answers : R → Name → Says) (t : N → Bool → Data
     other_shown v none h costs P = shows_nothing P Q h
         (λ i. result P Q (cond (no_object v none i) (Some (match_names (λ n. t n u) v Q answers u es)) None) false [] (no_trees i)) (ap (λ q. q.accepts u) (patterns_nothing answers v none costs m es))
       where
-        nothing_each : (xs : List (CompiledPattern R × N)) → flat_map (λ e. let none : List Tree = [] in none) xs ≡ []
-        nothing_each [] = refl
-        nothing_each (x ∷ xs) = nothing_each xs
-
         no_trees : match_trees (λ n. t n u) v Q answers u es ≡ []
         no_trees =
             (λ i. flat_map (λ (e : CompiledPattern R × N). map (λ (x : Name × Data). t e.1 u x.1 (Q // x.0)) (filter_once (λ x. is_match answers u e.0 x.0) (no_members v none i))) es) ∙ nothing_each es
