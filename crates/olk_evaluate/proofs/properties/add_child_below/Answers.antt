@@ -1,4 +1,4 @@
-use Rattle.std.proofs.Common.{take, ap, subst, ◌∙◌}
+use Rattle.std.proofs.Common.{rules, subst}
 use Rattle.serde_json.specs.View.{view}
 use Rattle.olk_check.proofs.Asked.{only_same}
 use Rattle.olk_evaluate.specs.Wanted.{ShowsMore, wanted}
@@ -10,6 +10,6 @@ returns-in_err-mark g c = shows_err c.from_residual.ensures.0 (record { path = c
 
 pub returns : goal.returns
 returns g c = shows_by c.add_child-added.ensures.shown
-    (record { path = c.pop.ensures ∙ ap (take c.in_ok-mark.mark.len) c.add_child-added.ensures.kept.path ∙ c.in_ok-mark.ensures.back; only = c.add_child-added.ensures.kept.only })
+    (record { path = search rules; only = c.add_child-added.ensures.kept.only })
     (λ _ more. subst (λ Q. ShowsMore (wanted g.N.Show.tree g.N.Means.means c.args.ctx.now.answer c.args.subschema.now (view c.args.value.now) Q)
     c.args.children.now.items c.add_child-added.new.children.items) c.in_ok-mark.ensures.path more)
