@@ -7,7 +7,7 @@ use Rattle.std.specs.List.{list_all}
 use Rattle.olk_reports.specs.Evaluations.{Shown, shown, node_at}
 use Rattle.olk_tree.specs.Questions.{Question, some}
 use Rattle.olk_tree.specs.Shown.{branch_trees, any_of_tree}
-use Rattle.olk_evaluate.specs.Wanted.{AreShown, IsShown, wanted, each_wanted}
+use Rattle.olk_evaluate.specs.Wanted.{AreShown, IsShown, each_wanted}
 use Rattle.olk_evaluate.proofs.Children.{all_wanted, shown_as, result_shown, plain_shown, branches_wanted}
 
 module _ {N : Type 0} (t : N → Bool → Data → Path → Tree) (m : N → Data → Question) (u : Bool) (v : Data) (P Q : Path) where

@@ -8,4 +8,3 @@ pub mod Members
 pub mod Patterns
 pub mod Collected
 pub mod Additional
-pub mod Bodies

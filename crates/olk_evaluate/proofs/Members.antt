@@ -16,7 +16,7 @@ use Rattle.olk_spec.specs.Accepts.{missing}
 use Rattle.olk_spec.specs.Reports.{required_faults}
 use Rattle.olk_tree.specs.Questions.{Question, every}
 use Rattle.olk_tree.specs.Properties.{properties_mean}
-use Rattle.olk_tree.specs.Shown.{member_trees, met_names, properties_tree, missing_trees}
+use Rattle.olk_tree.specs.Shown.{properties_tree, missing_trees}
 use Rattle.olk_tree.specs.Visited.{Declared, declared_as, members_declared}
 use Rattle.olk_tree.proofs.Members_met.{means_nothing, object_is}
 use Rattle.olk_check.proofs.Missing.{lacks_nothing}
@@ -61,7 +61,12 @@ module _ {N : Type 0} where
     }
 
     pub meets_one : {a b : Met} {d : Declared N} → names_in b ≡ names_in a ++ d.name ∷ [] → ShowsMore (want d) a.children.items b.children.items → MeetsMore want (d ∷ []) a b
-    meets_one {a} names more = record { names = names; added = tree_of more.child ∷ []; children = ap trees_of more.added ∙ map-append tree_of a.children.items (more.child ∷ []); shown = (more.shown, tt) }
+    meets_one {a} names more = record {
+      names = names;
+      added = tree_of more.child ∷ [];
+      children = ap trees_of more.added ∙ map-append tree_of a.children.items (more.child ∷ []);
+      shown = (more.shown, tt);
+    }
 
     -- what is met from nothing
     pub meets_all : {ds : List (Declared N)} {a b : Met} → a.names.items ≡ [] → a.children.items ≡ [] → MeetsMore want ds a b → HasMet want ds b
@@ -125,9 +130,10 @@ module _ {N : Type 0} (t : N → Bool → Data → Path → Tree) (m : N → Dat
   pub all_met : {ds es : List (Declared N)} {b : Met} {q : Question} → ds ≡ es → every (λ d. m d.node d.value) ds ≡ q → HasMet (wanted_at t m u Q) (flat_map (λ d. d ∷ []) ds) b
       → HasMet (wanted_at t m u Q) es b × list_all is_valid (trees_of b.children.items) ≡ q.accepts u
   all_met {ds} {es} {b} same asked h =
-      let met : HasMet (wanted_at t m u Q) ds b = subst (λ l. HasMet (wanted_at t m u Q) l b) (one_each ds) h in
-      (subst (λ l. HasMet (wanted_at t m u Q) l b) same met,
-      all_valid (map (wanted_at t m u Q) ds) (trees_of b.children.items) met.shown ∙ wanted_each ds ∙ ap (λ p. p.accepts u) asked)
+      let met : HasMet (wanted_at t m u Q) ds b = subst (λ l. HasMet (wanted_at t m u Q) l b) (one_each ds) h in (
+        subst (λ l. HasMet (wanted_at t m u Q) l b) same met,
+        all_valid (map (wanted_at t m u Q) ds) (trees_of b.children.items) met.shown ∙ wanted_each ds ∙ ap (λ p. p.accepts u) asked,
+      )
 
   module _ (es : List (Name × N)) where
     -- the names that are met, and the trees that are wanted there

@@ -1,9 +1,7 @@
 -- Members that are met because patterns match their names.
-use Rattle.std.proofs.Common.{◌≡◌, Bool, true, false, ◌&&◌, cond, List, [], ◌∷◌, ◌++◌, map, Some, None, append_assoc, refl, sym, ap, subst, ◌∙◌}
-use mathlib.Core.Path.{subst₂}
+use Rattle.std.proofs.Common.{◌≡◌, Bool, true, false, ◌&&◌, cond, List, [], ◌∷◌, ◌++◌, map, Some, None, refl, sym, ap, subst, ◌∙◌}
 use Rattle.std.specs.List.{flat_map, list_all}
 use Rattle.std.proofs.lemmas.List.{append-nil, map-append}
-use Rattle.std.proofs.lemmas.Grind.{flat_map-append}
 use Rattle.std.proofs.Math.Bool.{and-true}
 use Rattle.serde_json.specs.Data.{Data, Members, object}
 use Rattle.serde_json.specs.Find.{as_object}
@@ -12,7 +10,6 @@ use Rattle.olk_spec.specs.World.{Says}
 use Rattle.olk_spec.specs.Schemas.{listed, members, is_object}
 use Rattle.olk_spec.specs.Tree.{Tree, is_valid, result}
 use Rattle.olk_base.specs.declared.pattern.CompiledPattern.{CompiledPattern}
-use Rattle.olk_base.specs.Lawful.{Asking}
 use Rattle.olk_tree.specs.Questions.{Question, always, conditional, every}
 use Rattle.olk_tree.specs.Matched.{is_match, matched, match_question}
 use Rattle.olk_tree.specs.PatternProperties.{matched_mean, patterns_mean}
@@ -21,11 +18,8 @@ use Rattle.olk_tree.specs.Visited.{Declared, declared_as}
 use Rattle.olk_tree.proofs.Questions.{every-flat_map}
 use Rattle.olk_tree.proofs.Members_met.{no_members, object_is}
 use Rattle.olk_tree.proofs.Patterns.{each_of_those, patterns_nothing}
-use Rattle.olk_check.specs.Asks.{OnlyAsks}
-use Rattle.olk_check.proofs.Asked.{only_then}
-use Rattle.olk_reports.specs.Evaluations.{Shown, shown, node_at, tree_of}
-use Rattle.olk_reports.specs.declared.evaluation.EvaluationNode.{EvaluationNode}
-use Rattle.olk_evaluate.specs.Wanted.{Wanted, IsShown, AreShown, trees_of}
+use Rattle.olk_reports.specs.Evaluations.{Shown, shown, node_at}
+use Rattle.olk_evaluate.specs.Wanted.{Wanted, IsShown, trees_of}
 use Rattle.olk_evaluate.specs.Members.{HasMet, MeetsMore, wanted_at}
 use Rattle.olk_evaluate.specs.Patterns.{match_here, matches_of, matches_of_all}
 use Rattle.olk_evaluate.specs.declared.properties.Met.{Met}

@@ -7,8 +7,10 @@ use Rattle.olk_spec.specs.Tree.{Tree, IsLikeTree, is_valid, Described, AreTold, 
 use Rattle.olk_spec.specs.Accepts.{missing}
 use Rattle.olk_reports.specs.Evaluations.{Shown, shown, errored, tree_of, node_at}
 use Rattle.olk_reports.specs.declared.evaluation.EvaluationNode.{EvaluationNode}
+use Rattle.olk_tree.specs.Bodies.{body_means, body_tree}
 use Rattle.olk_tree.specs.Questions.{Question, every}
 use Rattle.olk_tree.specs.Shown.{branch_trees}
+use Rattle.olk_tree.specs.declared.node.Body.{Body}
 
 -- a tree, and whether it is to be valid
 abbrev pub Wanted : Type 0
@@ -81,6 +83,10 @@ module _ {N : Type 0} (t : N → Bool → Data → Path → Tree) (m : N → Dat
   -- what each of these nodes shows, and nothing else
   abbrev pub ShowsEach : List N → Data → Path → Shown → Type 0
   ShowsEach ns v Q s = (P : Path) → IsShown (plain P Q (branch_trees (λ n. t n u) v Q ns), (every (λ n. m n v) ns).accepts u) (node_at P Q s)
+
+  -- what a body shows
+  abbrev pub ShowsBody : Body N → Data → Path → Shown → Type 0
+  ShowsBody b v Q s = (P : Path) → IsShown (body_tree (λ n. t n u) P b v Q, (body_means m b v).accepts u) (node_at P Q s)
 
 -- trees that are to be invalid
 abbrev pub refused : List Tree → List Wanted

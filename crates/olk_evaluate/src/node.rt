@@ -1,11 +1,9 @@
 //! Keywords and bodies: what they show.
 ghost use Rattle.std.specs.Prelude.{◌≡◌, OnOk};
 ghost use Rattle.olk_base.specs.Nodes.{data_of};
-ghost use Rattle.olk_spec.specs.Names.{Path};
-ghost use Rattle.olk_reports.specs.Evaluations.{node_at, nothing_shown, shown_of};
-ghost use Rattle.olk_tree.specs.Bodies.{body_means, body_tree};
+ghost use Rattle.olk_reports.specs.Evaluations.{nothing_shown, shown_of};
 ghost use Rattle.olk_evaluate.specs.Shows.{Shows};
-ghost use Rattle.olk_evaluate.specs.Wanted.{HasTexts, IsShown};
+ghost use Rattle.olk_evaluate.specs.Wanted.{HasTexts, ShowsBody};
 
 use crate::Show;
 use crate::own::add_own_error;
@@ -121,10 +119,9 @@ pub fn show_body<'a, W: Show<'a>>(
     outcome: &mut EvaluationResult<'a>,
 ) -> Result<(), AllocError>
     requires { shown_of outcome.old ≡ nothing_shown }
-    ensures { Shows result path.old path.new ctx.old ctx.new (λ _. (P : Path) → IsShown
-        (body_tree (λ k. W.tree k ctx.old.answer) P body.now (data_of node.entry) path.old,
-        (body_means W.means body.now (data_of node.entry)).accepts ctx.old.answer)
-        (node_at P path.old (shown_of outcome.new))) }
+    ensures { Shows result path.old path.new ctx.old ctx.new (λ _. ShowsBody
+        W.tree W.means ctx.old.answer
+        body.now (data_of node.entry) path.old (shown_of outcome.new)) }
 {
     match body {
         Body::True => Ok(()),

@@ -13,8 +13,11 @@ use Rattle.olk_evaluate.proofs.additional_members.collect_if_matched.Goals as go
 
 pub returns-then-not-matches_unless_known : goal.returns-then-not-matches_unless_known
 returns-then-not-matches_unless_known g c = record {
-  shown = (c.if-not-matches_unless_known.ensures.verdict ∙ match_is_said c.args.ctx.now.answer (pattern_costs g.R.RegexEngine.costs c.args.entry.now.0) (known_says c.args.known)
-      (pattern_answers g.R.RegexEngine.answers c.args.entry.now.0 c.args.name.now), collects_no_match c.args.is_shown c.args.collected.now);
+  shown = (
+    c.if-not-matches_unless_known.ensures.verdict ∙ match_is_said c.args.ctx.now.answer (pattern_costs g.R.RegexEngine.costs c.args.entry.now.0) (known_says c.args.known)
+        (pattern_answers g.R.RegexEngine.answers c.args.entry.now.0 c.args.name.now),
+    collects_no_match c.args.is_shown c.args.collected.now,
+  );
   kept = kept_asked c.if-not-matches_unless_known.ensures.only;
 }
 
@@ -28,9 +31,12 @@ pub returns : goal.returns
 returns g c =
     let asked = kept_asked c.if-not-matches_unless_known.ensures.only in
     record {
-      shown = (c.if-not-matches_unless_known.ensures.verdict ∙ match_is_said c.args.ctx.now.answer (pattern_costs g.R.RegexEngine.costs c.args.entry.now.0) (known_says c.args.known)
-      (pattern_answers g.R.RegexEngine.answers c.args.entry.now.0 c.args.name.now), collects_child (sym (append-nil (names_of c.args.collected.now.additional.items))) c.in_ok-push_if.ensures
-          (as_before (λ u Q. ShowsMore (wanted g.N.Show.tree g.N.Means.means u c.args.entry.now.1 (view c.args.value.now) (Q // c.args.name.now))
-          c.args.collected.now.children.items c.add_child_below.new.children.items) asked c.in_ok-add_child_below.ensures.shown));
+      shown = (
+        c.if-not-matches_unless_known.ensures.verdict ∙ match_is_said c.args.ctx.now.answer (pattern_costs g.R.RegexEngine.costs c.args.entry.now.0) (known_says c.args.known)
+            (pattern_answers g.R.RegexEngine.answers c.args.entry.now.0 c.args.name.now),
+        collects_child (sym (append-nil (names_of c.args.collected.now.additional.items))) c.in_ok-push_if.ensures
+            (as_before (λ u Q. ShowsMore (wanted g.N.Show.tree g.N.Means.means u c.args.entry.now.1 (view c.args.value.now) (Q // c.args.name.now))
+            c.args.collected.now.children.items c.add_child_below.new.children.items) asked c.in_ok-add_child_below.ensures.shown),
+      );
       kept = kept_then asked c.add_child_below.ensures.kept;
     }

@@ -16,9 +16,9 @@ loop-schema-preserved g c =
     let next = next_at c.deref-schema-items.ensures.value c.schema-item.is c.loop-schema-test.true in
     let accepts = c.is_valid.ensures.verdict ∙ ap (g.N.Means.means c.schema-item.result (data_of c.args.node)).accepts c.loop-schema.invariant.kept.only.answer in
     elim c.if-is_valid.branch [
-      then-is_valid+in_ok-add_child w ↦ showing_at (showing_more asked (those_next _ next (sym w.if-is_valid.true ∙ accepts)) w.in_ok-add_child.ensures.shown w.add_child.ensures.kept)
+      | then-is_valid+in_ok-add_child w ↦ showing_at (showing_more asked (those_next _ next (sym w.if-is_valid.true ∙ accepts)) w.in_ok-add_child.ensures.shown w.add_child.ensures.kept)
           (ap (λ v. v.items) w.children-is) w.path-is w.ctx-is
-    | else-is_valid w ↦ showing_at (showing_none asked (those_next _ next (sym w.if-is_valid.false ∙ accepts)) kept_same) (ap (λ v. v.items) w.children-is) w.path-is w.ctx-is
+      | else-is_valid w ↦ showing_at (showing_none asked (those_next _ next (sym w.if-is_valid.false ∙ accepts)) kept_same) (ap (λ v. v.items) w.children-is) w.path-is w.ctx-is
     ]
 
 pub returns-in_err-add_child : goal.returns-in_err-add_child

@@ -1,4 +1,4 @@
-use Rattle.std.proofs.Common.{Bool, List, drop}
+use Rattle.std.proofs.Common.{List, drop}
 use Rattle.olk_base.specs.Nodes.{data_of}
 use Rattle.olk_spec.specs.Names.{filter_once}
 use Rattle.olk_evaluate.specs.Wanted.{wanted}

@@ -17,9 +17,9 @@ returns-in_err-add_child-2 g c = shows_err c.from_residual-in_err-add_child-2.en
 pub returns : goal.returns
 returns g c =
     let both : Showing (λ u Q n. wanted g.N.Show.tree g.N.Means.means u n (data_of c.args.node) Q) (c.args.first.now ∷ c.args.second.now ∷ []) [] c.add_child-2.new.children.items
-        c.args.path.now c.add_child-2.new.path c.args.ctx.now c.add_child-2.new.ctx
-        = showing_more (showing_more (showing_start c.in_ok-children.ensures.items refl) refl c.in_ok-add_child.ensures.shown c.add_child.ensures.kept)
-        refl c.in_ok-add_child-2.ensures.shown c.add_child-2.ensures.kept in
+    c.args.path.now c.add_child-2.new.path c.args.ctx.now c.add_child-2.new.ctx
+    = showing_more (showing_more (showing_start c.in_ok-children.ensures.items refl) refl c.in_ok-add_child.ensures.shown c.add_child.ensures.kept)
+    refl c.in_ok-add_child-2.ensures.shown c.add_child-2.ensures.kept in
     record {
       shown = shows_each g.N.Show.tree g.N.Means.means c.args.ctx.now.answer (data_of c.args.node) c.args.path.now (c.args.first.now ∷ c.args.second.now ∷ []) (showing_end both refl)
           (over_children c.add_child-2.new.children.items c.requires c.take_children.ensures);

@@ -1,4 +1,4 @@
-use Rattle.std.proofs.Common.{[], ◌∷◌, refl, sym, ap, ◌∙◌}
+use Rattle.std.proofs.Common.{[], ◌∷◌, refl, sym, ap, subst, ◌∙◌}
 use Rattle.olk_base.specs.Nodes.{data_of}
 use Rattle.olk_spec.specs.Faults.{fault, FalseSchema, Required}
 use Rattle.olk_spec.specs.Accepts.{missing}
@@ -7,7 +7,7 @@ use Rattle.olk_reports.specs.Evaluations.{shown_of}
 use Rattle.olk_reports.proofs.Errors.{kind_of_false_schema}
 use Rattle.olk_tree.specs.Maps.{texts_of}
 use Rattle.olk_tree.specs.declared.node.Body.TheVariants.{RequiredNames}
-use Rattle.olk_evaluate.proofs.Bodies.{body_shown}
+use Rattle.olk_evaluate.specs.Wanted.{ShowsBody}
 use Rattle.olk_evaluate.proofs.Children.{shown_as, shows_nothing}
 use Rattle.olk_evaluate.proofs.OwnErrors.{adds_as, erring_shown, same_emptiness}
 use Rattle.olk_evaluate.proofs.Shows.{kept_same, shows_by, shows_weaker}
@@ -15,24 +15,25 @@ use Rattle.olk_evaluate.proofs.node.show_body.Goals as goal
 
 pub returns-in-True : goal.returns-in-True
 returns-in-True g c = record {
-  shown = body_shown g.W.Show.tree g.W.Means.means c.args.ctx.now.answer (data_of c.args.node) c.args.path.now (shown_of c.args.outcome.now) (sym c.in-True.is) (λ P. shows_nothing P c.args.path.now c.requires refl refl);
+  shown = subst (λ b. ShowsBody g.W.Show.tree g.W.Means.means c.args.ctx.now.answer b (data_of c.args.node) c.args.path.now (shown_of c.args.outcome.now)) (sym c.in-True.is)
+      (λ P. shows_nothing P c.args.path.now c.requires refl refl);
   kept = kept_same;
 }
 
 pub returns-in-False : goal.returns-in-False
 returns-in-False g c = shows_by c.add_own_error.ensures kept_same (λ _ error.
-    body_shown g.W.Show.tree g.W.Means.means c.args.ctx.now.answer (data_of c.args.node) c.args.path.now (shown_of c.add_own_error.new.outcome) (sym c.in-False.is)
+    subst (λ b. ShowsBody g.W.Show.tree g.W.Means.means c.args.ctx.now.answer b (data_of c.args.node) c.args.path.now (shown_of c.add_own_error.new.outcome)) (sym c.in-False.is)
     (λ P. erring_shown P c.args.path.now (fault FalseSchema (data_of c.args.node) c.args.path.now P ∷ []) c.requires (adds_as kind_of_false_schema (error P c.args.path.now))))
 
 pub returns-in-Keywords : goal.returns-in-Keywords
 returns-in-Keywords g c = shows_weaker c.show_each.ensures (λ _ shows.
-    body_shown g.W.Show.tree g.W.Means.means c.args.ctx.now.answer (data_of c.args.node) c.args.path.now (shown_of c.show_each.new.outcome) (sym c.in-Keywords.is) shows)
+    subst (λ b. ShowsBody g.W.Show.tree g.W.Means.means c.args.ctx.now.answer b (data_of c.args.node) c.args.path.now (shown_of c.show_each.new.outcome)) (sym c.in-Keywords.is) shows)
 
 pub returns-in-RequiredNames : goal.returns-in-RequiredNames
 returns-in-RequiredNames g c =
     let required = c.deref.result.now in
     shows_by c.add_missing.ensures kept_same (λ _ errors.
-    body_shown g.W.Show.tree g.W.Means.means c.args.ctx.now.answer (data_of c.args.node) c.args.path.now (shown_of c.add_missing.new.outcome)
+    subst (λ b. ShowsBody g.W.Show.tree g.W.Means.means c.args.ctx.now.answer b (data_of c.args.node) c.args.path.now (shown_of c.add_missing.new.outcome))
     (ap (λ k. RequiredNames record c.in-RequiredNames.required { value = k }) c.deref.ensures ∙ sym c.in-RequiredNames.is)
     (λ P. shown_as (erring_shown P c.args.path.now (required_faults (texts_of required.required.items) (data_of c.args.node) required.location c.args.path.now) c.requires
     (errors required.location c.args.path.now)) refl

@@ -21,8 +21,8 @@ returns-in_ok-add_places-in-Some g c =
     let found = c.in_ok-collected-in-Some.collected in
     let children = c.add_places.new.children.items in
     let places : HasPlaces self (names_of found.matched.items) (data_of c.args.node) (object (members_view c.in-Some.members.now.entries)) c.args.path.now found.children.items children
-        = subst (λ Q. HasPlaces self (names_of found.matched.items) (data_of c.args.node)
-        (object (members_view c.in-Some.members.now.entries)) Q found.children.items children) c.collect.ensures.kept.path c.in_ok-add_places-in-Some.ensures in
+    = subst (λ Q. HasPlaces self (names_of found.matched.items) (data_of c.args.node)
+    (object (members_view c.in-Some.members.now.entries)) Q found.children.items children) c.collect.ensures.kept.path c.in_ok-add_places-in-Some.ensures in
     shows_by c.complete.ensures c.collect.ensures.kept
     (λ _ complete. additional_shown g.R.RegexEngine.answers g.N.Show.tree g.N.Means.means c.args.ctx.now.answer c.args.path.now self (members_view c.in-Some.members.now.entries) found
     c.in_ok-collected-in-Some.ensures.shown

@@ -20,6 +20,7 @@ returns-in_ok-children-in-Some g c = record {
 pub returns-in-None : goal.returns-in-None
 returns-in-None g c = record {
   shown = shows_none g.N.Show.tree g.N.Means.means c.args.ctx.now.answer (data_of c.args.node) c.args.path.now
-      (due_nodes (named c.args.self.now.dependencies) (data_of c.args.node)) (none_due (data_of c.args.node) c.in-None.ensures (named c.args.self.now.dependencies)) c.requires c.args.self.now.location;
+      (due_nodes (named c.args.self.now.dependencies) (data_of c.args.node)) (none_due (data_of c.args.node) c.in-None.ensures (named c.args.self.now.dependencies)) c.requires
+      c.args.self.now.location;
   kept = kept_same;
 }

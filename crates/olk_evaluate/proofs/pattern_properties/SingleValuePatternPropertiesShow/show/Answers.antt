@@ -16,9 +16,10 @@ returns-in_err-meet_matched-in-Some g c = shows_err c.from_residual-in_err-meet_
 
 pub returns-in_ok-meet_matched-in-Some : goal.returns-in_ok-meet_matched-in-Some
 returns-in_ok-meet_matched-in-Some g c = record {
-  shown = shown_as (patterns_shown g.R.RegexEngine.answers g.N.Show.tree g.N.Means.means c.args.ctx.now.answer c.args.path.now ((c.args.self.now.regex, c.args.self.now.node) ∷ []) (data_of c.args.node)
-      (members_view c.in-Some.members.now.entries) c.in-Some.ensures (meets_all c.in_ok-met-in-Some.ensures.names c.in_ok-met-in-Some.ensures.children (meets_matched g.R.RegexEngine.answers c.args.ctx.now.answer c.args.self.now.regex c.args.self.now.node (object (members_view c.in-Some.members.now.entries))
-      c.in_ok-meet_matched-in-Some.ensures.shown))
+  shown = shown_as (patterns_shown g.R.RegexEngine.answers g.N.Show.tree g.N.Means.means c.args.ctx.now.answer c.args.path.now ((c.args.self.now.regex, c.args.self.now.node) ∷ [])
+      (data_of c.args.node) (members_view c.in-Some.members.now.entries) c.in-Some.ensures (meets_all c.in_ok-met-in-Some.ensures.names c.in_ok-met-in-Some.ensures.children
+      (meets_matched g.R.RegexEngine.answers c.args.ctx.now.answer c.args.self.now.regex c.args.self.now.node
+      (object (members_view c.in-Some.members.now.entries)) c.in_ok-meet_matched-in-Some.ensures.shown))
       g.R.RegexEngine.costs c.args.self.now.location c.show.ensures)
       refl (mean_of_one g.R.RegexEngine.answers c.args.ctx.now.answer c.args.self.now.regex c.args.self.now.node (data_of c.args.node) g.R.RegexEngine.costs g.N.Means.means);
   kept = c.meet_matched.ensures.kept;

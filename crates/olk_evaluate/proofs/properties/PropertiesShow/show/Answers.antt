@@ -26,6 +26,7 @@ returns-in_ok-met-in-Some g c = record {
 
 pub returns-in-None : goal.returns-in-None
 returns-in-None g c = record {
-  shown = no_member_shown g.N.Show.tree g.N.Means.means c.args.ctx.now.answer c.args.path.now (mapped c.args.self.now.properties) c.args.self.now.location (data_of c.args.node) c.in-None.ensures c.requires;
+  shown = no_member_shown g.N.Show.tree g.N.Means.means c.args.ctx.now.answer c.args.path.now (mapped c.args.self.now.properties) c.args.self.now.location
+      (data_of c.args.node) c.in-None.ensures c.requires;
   kept = kept_same;
 }

@@ -30,7 +30,7 @@ returns-in_ok-add_missing_child-in-Some g c =
 
 pub returns-in-None : goal.returns-in-None
 returns-in-None g c = record {
-  shown = nothing_missing_shown g.N.Show.tree g.N.Means.means c.args.ctx.now.answer c.args.path.now (named c.args.self.now.properties) c.args.self.now.location (data_of c.args.node) c.in-None.ensures c.requires
-      (two_texts c.args.self.now.first c.args.self.now.second) c.args.self.now.required_location;
+  shown = nothing_missing_shown g.N.Show.tree g.N.Means.means c.args.ctx.now.answer c.args.path.now (named c.args.self.now.properties) c.args.self.now.location
+      (data_of c.args.node) c.in-None.ensures c.requires (two_texts c.args.self.now.first c.args.self.now.second) c.args.self.now.required_location;
   kept = kept_same;
 }
