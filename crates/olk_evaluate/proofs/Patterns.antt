@@ -90,7 +90,8 @@ module _ {R N : Type 0} (answers : R → Name → Says) (t : N → Bool → Data
       where
         no_trees : match_trees (λ n. t n u) v Q answers u es ≡ []
         no_trees =
-            (λ i. flat_map (λ (e : CompiledPattern R × N). map (λ (x : Name × Data). t e.1 u x.1 (Q // x.0)) (filter_once (λ x. is_match answers u e.0 x.0) (no_members v none i))) es) ∙ nothing_each es
+            (λ i. flat_map (λ (e : CompiledPattern R × N). map (λ (x : Name × Data). t e.1 u x.1 (Q // x.0)) (filter_once (λ x. is_match answers u e.0 x.0) (no_members v none i))) es)
+            ∙ nothing_each es
 
     -- of an object
     pub patterns_shown : (v : Data) (ms : Members) → Some ms ≡ as_object v → {met : Met} → HasMet (wanted_at t m u Q) (matches_of_all answers u es (object ms)) met → (costs : R → Bool) (P : Path)

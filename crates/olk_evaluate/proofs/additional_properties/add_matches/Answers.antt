@@ -24,5 +24,6 @@ returns c =
       added = c.in_ok-push.ensures.items;
       trees =
           ap (λ t. t ∷ []) (c.at-child.ensures.places c.annotate.new.self ∙ (λ i. node_at c.args.location.now (path_is i) ((c.annotate.ensures ∙ ap (annotated names) c.at-child.ensures.empty) i)))
-          ∙ ap (λ b. put_if (not b) (node c.args.location.now c.args.path.now true (Some names) [] no_tree) []) (emptiness_of (λ n. n.now) c.args.matched.items c.args.matched.ok.0 c.if-is_empty.ensures);
+          ∙ ap (λ b. put_if (not b) (node c.args.location.now c.args.path.now true (Some names) [] no_tree) [])
+          (emptiness_of (λ n. n.now) c.args.matched.items c.args.matched.ok.0 c.if-is_empty.ensures);
     }

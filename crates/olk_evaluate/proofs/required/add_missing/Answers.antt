@@ -12,7 +12,8 @@ use Rattle.olk_evaluate.proofs.OwnErrors.{lacks_none}
 use Rattle.olk_evaluate.proofs.required.add_missing.Goals as goal
 
 pub returns-in-None : goal.returns-in-None
-returns-in-None c P Q = lacks_none (λ n. fault (Required n) (data_of c.args.node) Q P) (texts_of c.args.required.now.required.items) (data_of c.args.node) (shown_of c.args.outcome.now) c.in-None.ensures
+returns-in-None c P Q = lacks_none (λ n. fault (Required n) (data_of c.args.node) Q P) (texts_of c.args.required.now.required.items)
+    (data_of c.args.node) (shown_of c.args.outcome.now) c.in-None.ensures
 
 pub returns-in-Some : goal.returns-in-Some
 returns-in-Some c = on_ok_weaker c.add_each_missing.result (λ errors P Q.

@@ -31,5 +31,6 @@ returns c =
           (tree_of (with_result c.at-child.result outcome) ∷ [])) c.as_str-name.ensures.value
           (one_lacking c.as_str-name.result.now (data_of c.args.node) (members_view c.args.members.now.entries) location c.args.path.now c.if-has_member.ensures
           c.at-child.ensures.empty (adds_as (kind_of_required c.as_str-name.result) (c.in_ok-add_own_error.ensures location c.args.path.now))
-          (c.at-child.ensures.places outcome ∙ ap (λ P. node_at P c.in_ok-text.text (shown_of outcome)) c.as_str-2.ensures ∙ ap (λ Q. node_at location Q (shown_of outcome)) (c.in_ok-text.ensures ∙ c.as_str.ensures)));
+          (c.at-child.ensures.places outcome ∙ ap (λ P. node_at P c.in_ok-text.text (shown_of outcome)) c.as_str-2.ensures
+          ∙ ap (λ Q. node_at location Q (shown_of outcome)) (c.in_ok-text.ensures ∙ c.as_str.ensures)));
     }

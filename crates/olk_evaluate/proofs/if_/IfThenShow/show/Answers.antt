@@ -9,7 +9,8 @@ pub returns-then-not-is_valid : goal.returns-then-not-is_valid
 returns-then-not-is_valid g c = record {
   shown = none_fits g.N.Show.tree g.N.Means.means (data_of c.args.node) c.args.self.now.location c.args.path.now c.args.self.now.schema
       (shown_of c.args.outcome.now)
-      c.if-not-is_valid.ensures.only (c.args.self.now.then_schema ∷ []) ((g.N.Means.means c.args.self.now.then_schema (data_of c.args.node)).accepts c.args.ctx.now.answer) c.if-not-is_valid.ensures.verdict c.requires;
+      c.if-not-is_valid.ensures.only (c.args.self.now.then_schema ∷ []) ((g.N.Means.means c.args.self.now.then_schema (data_of c.args.node)).accepts c.args.ctx.now.answer)
+      c.if-not-is_valid.ensures.verdict c.requires;
   kept = kept_asked c.if-not-is_valid.ensures.only;
 }
 
