@@ -14,7 +14,7 @@ use Rattle.olk_spec.specs.Faults.{Fault}
 use Rattle.olk_spec.specs.Reports.{unexpected_faults, required_faults}
 use Rattle.olk_spec.specs.Schemas.{listed, members, has}
 use Rattle.olk_spec.specs.Accepts.{missing}
-use Rattle.olk_spec.specs.Tree.{Tree, node, no_tree, IsLikeTree, described, is_valid, result, plain, erring}
+use Rattle.olk_spec.specs.Tree.{Tree, node, no_tree, described, is_valid, result, plain, erring}
 use Rattle.olk_base.specs.declared.pattern.CompiledPattern.{CompiledPattern}
 use Rattle.olk_tree.specs.Questions.{Question, every}
 use Rattle.olk_tree.specs.Additional.{Sides, matching_from, at_name, nodes_matching, nodes_asked, is_additional, is_unexpected, faults_of_unexpected, additional_names, matched_names, additional_annotation, matches_child, additional_tree, repeats, member_means, additional_means, sides_of, mapped_places, patterns_in, has_neighbours}
@@ -29,11 +29,10 @@ use Rattle.olk_evaluate.specs.Wanted.{Wanted, IsShown, AreShown, wanted, refused
 use Rattle.olk_check.proofs.Together.{each_is_all}
 use Rattle.olk_evaluate.specs.Additional.{Collects, names_of, nodes_wanted, members_found, matches_shown, rest_annotation, named_faults, faults_without_rest, Completes}
 use Rattle.olk_evaluate.specs.declared.additional_members.Collected.{Collected}
-use Rattle.olk_evaluate.proofs.Children.{trees_wanted, all_wanted, valid_shown}
+use Rattle.olk_evaluate.proofs.Children.{trees_wanted, all_wanted, same_trees, shown_as, shows_nothing}
 use Rattle.olk_evaluate.proofs.Members.{shown_append}
-use Rattle.olk_evaluate.proofs.OwnErrors.{all_there}
-use Rattle.olk_evaluate.proofs.Patterns.{no_object}
-use Rattle.olk_evaluate.proofs.Completed.{complete_like, complete_verdict}
+use Rattle.olk_evaluate.proofs.OwnErrors.{all_there, complete_shown}
+use Rattle.olk_evaluate.proofs.Patterns.{no_object, nothing_each}
 
 -- ---- names, trees and verdicts of the members
 
@@ -54,10 +53,6 @@ module _ {X : Type 0} (p : X → Bool) where
       by true = refl
       by false = refl
 
-nothing_each : {X B : Type 0} (xs : List X) → flat_map (λ x. let none : List B = [] in none) xs ≡ []
-nothing_each [] = refl
-nothing_each (x ∷ xs) = nothing_each xs
-
 each_if : {X B : Type 0} (f : X → List B) (b : Bool) (xs : List X) → flat_map (λ x. cond b (f x) []) xs ≡ cond b (flat_map f xs) []
 each_if f true xs = refl
 each_if f false xs = nothing_each xs
@@ -66,10 +61,6 @@ each_if f false xs = nothing_each xs
 
 abbrev accepted : List Tree → List Wanted
 accepted = map (λ t. (t, true))
-
-same_trees : (b : Bool) (ts : List Tree) → trees_wanted (map (λ t. (t, b)) ts) ≡ ts
-same_trees b [] = refl
-same_trees b (t ∷ ts) = ap (λ l. t ∷ l) (same_trees b ts)
 
 all_accepted : (ts : List Tree) → all_wanted (accepted ts) ≡ true
 all_accepted [] = refl
@@ -246,23 +237,20 @@ module _ {R N : Type 0} (answers : R → Name → Says) (t : N → Bool → Data
             (shown_append members_wanted (accepted matches_here) (trees_of c.children.items) (trees_of matches) collects.shown
             (subst (AreShown (accepted matches_here)) (sym matches_shown_here) (matches_are_shown (names_of c.matched.items) k.patterns_location Q))) lacks)
 
-        object_like : IsLikeTree (tree_of_all (object ms)) (node_at k.location Q r)
-        object_like = subst (λ w. IsLikeTree w (node_at k.location Q r)) (λ i. result k.location Q (annotation_is i) false (described (faults_are k.location i)) (trees_are i))
-            (complete_like k.location Q annotation_here (faults_here k.location) all_wants (trees_of all) same (completes k.location Q) children_are (trees_wanted all_wants) refl)
-
         wants_verdict : all_wanted all_wants ≡ (all_wanted members_wanted && is_empty (missing names (object ms)))
         wants_verdict = list_all-append (λ w. w.1) (members_wanted ++ accepted matches_here) (refused lacking)
             ∙ (λ i. (list_all-append (λ w. w.1) members_wanted (accepted matches_here) ∙ ap (λ b. all_wanted members_wanted && b) (all_accepted matches_here) ∙ and-true (all_wanted members_wanted)) i
             && all_there names (object ms) (object ms) place Q i)
 
-        object_verdict : (costs : R → Bool) → repeats (object ms) ≡ false → is_valid (node_at k.location Q r) ≡
-            ((additional_means answers costs m S (object ms)).accepts u && is_empty (missing names (object ms)))
-        object_verdict costs distinct =
-            complete_verdict k.location Q annotation_here (faults_here k.location) all_wants (trees_of all) same (completes k.location Q) children_are
-            ∙ (λ i. (ap is_empty (faults_are k.location) ∙ faults_emptiness (has_neighbours k) (filter_once (λ x. is_unexpected answers S u x.0) (listed ms))
+        object_shown : (costs : R → Bool) → repeats (object ms) ≡ false
+            → IsShown (tree_of_all (object ms), (additional_means answers costs m S (object ms)).accepts u && is_empty (missing names (object ms))) (node_at k.location Q r)
+        object_shown costs distinct = shown_as
+            (complete_shown k.location Q (faults_here k.location) annotation_here all_wants (trees_of all) same (completes k.location Q) children_are)
+            (λ i. result k.location Q (annotation_is i) false (described (faults_are k.location i)) (trees_are i))
+            ((λ i. (ap is_empty (faults_are k.location) ∙ faults_emptiness (has_neighbours k) (filter_once (λ x. is_unexpected answers S u x.0) (listed ms))
             (object ms) k.location Q) i && wants_verdict i)
             ∙ sym (and_assoc (is_empty (filter_once (λ x. is_unexpected answers S u x.0) (listed ms))) (all_wanted members_wanted) (is_empty (missing names (object ms))))
-            ∙ ap (λ b. b && is_empty (missing names (object ms))) (members_accepted costs (listed ms) ∙ ap (λ q. q.accepts u) (each_is_all answers costs m S (object ms) distinct))
+            ∙ ap (λ b. b && is_empty (missing names (object ms))) (members_accepted costs (listed ms) ∙ ap (λ q. q.accepts u) (each_is_all answers costs m S (object ms) distinct)))
 
       -- of v, which is that object
       module _ (v : Data) (is : Some ms ≡ as_object v) (lacks : AreShown (refused (lacking_trees names v (object ms) place Q)) (trees_of missing_child)) {s r : Shown}
@@ -272,7 +260,7 @@ module _ {R N : Type 0} (answers : R → Name → Says) (t : N → Bool → Data
         additional_shown costs distinct =
             subst (λ w. AreShown (refused (lacking_trees names w (object ms) place Q)) (trees_of missing_child) → Completes k (names_of c.additional.items) (listed ms) w s r
             → IsShown (tree_of_all w, (additional_means answers costs m S w).accepts u && is_empty (missing names w)) (node_at k.location Q r)) (object_is v ms is)
-            (λ l d. record { like = object_like l same d; verdict = object_verdict l same d costs distinct }) lacks completes
+            (λ l d. object_shown l same d costs distinct) lacks completes
 
 -- of what is no object
 module _ {R N : Type 0} (answers : R → Name → Says) (S : Sides R N) (u : Bool) (P M Q : Path) (names : List Name) (place : Path) (v : Data) (none : None ≡ as_object v) where
@@ -285,11 +273,7 @@ module _ {R N : Type 0} (answers : R → Name → Says) (S : Sides R N) (u : Boo
   module _ {s : Shown} (h : s ≡ shown true None [] []) where
     pub other_shown : (declares has_patterns : Bool) (t : N → Data → Path → Tree) (costs : R → Bool) (m : N → Data → Question)
         → IsShown (additional_tree answers S u v Q declares has_patterns P M t lacking_here, (additional_means answers costs m S v).accepts u && is_empty (missing names v)) (node_at P Q s)
-    other_shown declares has_patterns t costs m = record {
-      like = subst (λ r. IsLikeTree (additional_tree answers S u v Q declares has_patterns P M t lacking_here) (node_at P Q r)) (sym h)
-          (subst (λ w. IsLikeTree w (node_at P Q (shown true None [] []))) (sym (nothing v none)) (refl, refl, refl, refl, tt, tt));
-      verdict = valid_shown P Q s true None [] [] h ∙ sym (λ i. accepted_all v none i && is_empty (none_missing i));
-    }
+    other_shown declares has_patterns t costs m = shows_nothing P Q h (nothing v none) (λ i. accepted_all v none i && is_empty (none_missing i))
       where
         no_match : (b c : Bool) (w : Tree) → put_if (b && not c && false) w [] ≡ []
         no_match true true w = refl

@@ -1,36 +1,41 @@
 -- Children beside those that are wanted.
-use Rattle.std.proofs.Common.{Result, Ok, Err, OnOk, ◌≡◌, ℕ, ◌≤◌, Bool, true, false, ◌&&◌, List, [], ◌∷◌, ◌++◌, map, length, drop, get_or, Option, None, append_assoc, refl, sym, ap, subst, ◌∙◌}
+use Rattle.std.proofs.Common.{◌≡◌, ℕ, ◌==◌, arith, Bool, true, false, not, ◌&&◌, List, [], ◌∷◌, ◌++◌, map, length, get_or, Option, None, append_assoc, refl, sym, ap, subst, ◌∙◌}
+use mathlib.Core.Path.{subst₂}
 use Rattle.std.specs.List.{list_all}
-use Rattle.std.proofs.lemmas.List.{append-nil, drop_all, map-append}
+use Rattle.std.proofs.lemmas.Bool.Decides.{nat_tests}
+use Rattle.std.proofs.lemmas.List.{append-nil, map-append}
 use Rattle.std.proofs.lemmas.Simd.{map-map}
 use Rattle.std.proofs.Math.Bool.{and-true}
 use Rattle.std.proofs.Math.ListN.{set}
 use Rattle.std.proofs.Math.Seq.{set-append_seam, get_or-append_seam}
 use Rattle.olk_spec.proofs.Refused_trees.{same_validity}
-use Rattle.olk_spec.specs.Names.{Name, Path}
-use Rattle.olk_spec.specs.Tree.{Tree, Trees, trees_from, IsLikeTree, AreLikeTrees, AreTold, Described, is_valid, result_node, plain}
+use Rattle.olk_spec.specs.Names.{Name, Path, filter_once, put_if, is_empty}
+use Rattle.olk_spec.specs.Tree.{Tree, Trees, trees_from, IsLikeTree, AreLikeTrees, AreTold, Described, is_valid, result_node, result, plain}
 use Rattle.olk_reports.specs.Evaluations.{Shown, shown, nothing_shown, with_children, called_invalid, node_at, tree_of, with_result}
 use Rattle.olk_reports.specs.declared.evaluation.EvaluationNode.{EvaluationNode}
 use Rattle.olk_reports.specs.declared.evaluation.EvaluationResult.{EvaluationResult}
 use Rattle.serde_json.specs.Data.{Data, string}
 use Rattle.olk_spec.specs.Schemas.{members}
+use Rattle.olk_base.specs.Lawful.{Asking}
 use Rattle.olk_tree.specs.Questions.{Question, every}
 use Rattle.olk_tree.specs.Shown.{branch_trees, name_trees}
+use Rattle.olk_evaluate.specs.Shows.{Kept}
+use Rattle.olk_evaluate.proofs.Shows.{kept_same, kept_then, as_before}
 use Rattle.olk_evaluate.specs.Wanted.{Wanted, AreShown, IsShown, ShowsMore, ShowsOne, ShowsEach, wanted, each_wanted, names_wanted, trees_of}
 
-pub on_ok_of_two : {T E P Q S : Type 0} (r : Result T E) → (P → Q → S) → OnOk r P → OnOk r Q → OnOk r S
-on_ok_of_two (Ok x) f p q = f p q
-on_ok_of_two (Err e) f p q = tt
+-- whether a list is empty, by its length
+pub emptiness_of : {X Y : Type 0} (f : X → Y) (xs : List X) {n : ℕ} {b : Bool} → n ≡ length xs → b ≡ (n == 0) → b ≡ is_empty (map f xs)
+emptiness_of f [] len e = e ∙ ap (λ n. n == 0) len
+emptiness_of f (x ∷ xs) {n} len e = e ∙ grind (arith, nat_tests)
 
 -- ---- the tree of a result
 
--- a result that has what is wanted shows the tree that is wanted
-pub like_result : (P Q : Path) (b b' : Bool) (a a' : Option (List Name)) (es es' : List Described) (ts ts' : Trees)
-    → b' ≡ b → a' ≡ a → AreTold es es' → AreLikeTrees ts ts' → IsLikeTree (result_node P Q b a es ts) (result_node P Q b' a' es' ts')
-like_result P Q true true a a' es es' ts ts' valid annotation own below = (refl, refl, refl, annotation, own, below)
-like_result P Q true false a a' es es' ts ts' valid annotation own below = cc
-like_result P Q false true a a' es es' ts ts' valid annotation own below = cc
-like_result P Q false false a a' es es' ts ts' valid annotation own below = (refl, refl, refl, refl, own, below)
+like_result : (P Q : Path) (b b' : Bool) (a : Option (List Name)) (es es' : List Described) (ts ts' : Trees)
+    → b' ≡ b → AreTold es es' → AreLikeTrees ts ts' → IsLikeTree (result_node P Q b a es ts) (result_node P Q b' a es' ts')
+like_result P Q true true a es es' ts ts' valid own below = (refl, refl, refl, refl, own, below)
+like_result P Q true false a es es' ts ts' valid own below = cc
+like_result P Q false true a es es' ts ts' valid own below = cc
+like_result P Q false false a es es' ts ts' valid own below = (refl, refl, refl, refl, own, below)
 
 valid_result : (P Q : Path) (b : Bool) (a : Option (List Name)) (es : List Described) (ts : Trees) → is_valid (result_node P Q b a es ts) ≡ b
 valid_result P Q true a es ts = refl
@@ -41,15 +46,13 @@ valid_shown P Q s b a es ts e = ap (λ r. is_valid (node_at P Q r)) e ∙ valid_
 
 -- ---- children
 
--- what is like a tree is valid where the tree is
-
 abbrev pub trees_wanted : List Wanted → List Tree
 trees_wanted = map (λ w. w.0)
 
 abbrev pub all_wanted : List Wanted → Bool
 all_wanted = list_all (λ w. w.1)
 
-pub like_children : (ws : List Wanted) (ts : List Tree) → AreShown ws ts → AreLikeTrees (trees_from (trees_wanted ws)) (trees_from ts)
+like_children : (ws : List Wanted) (ts : List Tree) → AreShown ws ts → AreLikeTrees (trees_from (trees_wanted ws)) (trees_from ts)
 like_children [] [] h = tt
 like_children [] (t ∷ ts) h = absurd h
 like_children (w ∷ ws) [] h = absurd h
@@ -61,51 +64,97 @@ all_valid [] (t ∷ ts) h = absurd h
 all_valid (w ∷ ws) [] h = absurd h
 all_valid (w ∷ ws) (t ∷ ts) h = λ i. h.0.verdict i && all_valid ws ts h.1 i
 
-pub all_wanted_valid : (ws : List Wanted) (ts : List Tree) → AreShown ws ts → list_all is_valid ts ≡ list_all is_valid (trees_wanted ws)
+-- what is like a tree is valid where the tree is
+all_wanted_valid : (ws : List Wanted) (ts : List Tree) → AreShown ws ts → list_all is_valid ts ≡ list_all is_valid (trees_wanted ws)
 all_wanted_valid [] [] h = refl
 all_wanted_valid [] (t ∷ ts) h = absurd h
 all_wanted_valid (w ∷ ws) [] h = absurd h
 all_wanted_valid (w ∷ ws) (t ∷ ts) h = λ i. same_validity w.0 t h.0.like i && all_wanted_valid ws ts h.1 i
 
+pub told_emptiness : (ds es : List Described) → AreTold ds es → is_empty es ≡ is_empty ds
+told_emptiness [] [] h = refl
+told_emptiness [] (e ∷ es) h = absurd h
+told_emptiness (d ∷ ds) [] h = absurd h
+told_emptiness (d ∷ ds) (e ∷ es) h = refl
+
+pub same_trees : (b : Bool) (ts : List Tree) → trees_wanted (map (λ t. (t, b)) ts) ≡ ts
+same_trees b [] = refl
+same_trees b (t ∷ ts) = ap (λ l. t ∷ l) (same_trees b ts)
+
+-- what is wanted under other names
+pub shown_as : {t u : Tree} {b c : Bool} {s : Tree} → IsShown (t, b) s → t ≡ u → b ≡ c → IsShown (u, c) s
+shown_as {s = s} h e f = subst (λ w. IsShown w s) (λ i. (e i, f i)) h
+
+-- a result with the annotation, the own errors and the children that are wanted
+pub result_shown : (P Q : Path) (a : Option (List Name)) (refuses : Bool) (ds own : List Described) (ws : List Wanted) (cs : List Tree) {s : Shown}
+    → s ≡ shown (is_empty own && not refuses && list_all is_valid cs) a own cs → AreTold ds own → AreShown ws cs
+    → IsShown (result P Q a refuses ds (trees_wanted ws), is_empty ds && not refuses && all_wanted ws) (node_at P Q s)
+result_shown P Q a refuses ds own ws cs {s} e told h = record {
+  like = subst (λ r. IsLikeTree (result P Q a refuses ds (trees_wanted ws)) (node_at P Q r)) (sym e)
+      (like_result P Q (is_empty ds && not refuses && list_all is_valid (trees_wanted ws)) (is_empty own && not refuses && list_all is_valid cs) a ds own
+      (trees_from (trees_wanted ws)) (trees_from cs) (λ i. told_emptiness ds own told i && not refuses && all_wanted_valid ws cs h i) told (like_children ws cs h));
+  verdict =
+      valid_shown P Q s (is_empty own && not refuses && list_all is_valid cs) a own cs e
+      ∙ (λ i. told_emptiness ds own told i && not refuses && all_valid ws cs h i);
+}
+
 -- ---- one child after another
 
--- the children so far, and those of what is left, are all
-pub record ShownFrom (all left : List Wanted) (ts : List Tree) : Type 0 where
-  pub goes_on : (more : List Tree) → AreShown left more → AreShown all (ts ++ more)
+-- of all, what is left is still to show; p and q are the path at the start and now, a and b the context
+pub record Showing {X : Type 0} (each : Bool → Path → X → Wanted) (all left : List X) (cs : List EvaluationNode) (p q : Path) (a b : Asking) : Type 0 where
+  pub goes_on : (more : List Tree) → AreShown (map (each a.answer p) left) more → AreShown (map (each a.answer p) all) (trees_of cs ++ more)
+  pub kept : Kept p q a b
 
-module _ {all : List Wanted} where
-  pub shown_end : {left : List Wanted} {ts : List Tree} → ShownFrom all left ts → left ≡ [] → AreShown all ts
-  shown_end {ts = ts} h e = subst (AreShown all) (append-nil ts) (h.goes_on [] (subst (λ ws. AreShown ws []) (sym e) tt))
-
-  pub shown_more : {left rest : List Wanted} {w : Wanted} {xs ys : List EvaluationNode} → ShownFrom all left (trees_of xs) → left ≡ w ∷ rest → ShowsMore w xs ys → ShownFrom all rest (trees_of ys)
-  shown_more {xs = xs} h next m = record {
-    goes_on = λ more k. subst (AreShown all) (sym (ap (λ l. l ++ more) (ap trees_of m.added ∙ map-append tree_of xs (m.child ∷ [])) ∙ append_assoc (trees_of xs) (tree_of m.child ∷ []) more))
-        (h.goes_on (tree_of m.child ∷ more) (subst (λ ws. AreShown ws (tree_of m.child ∷ more)) (sym next) (m.shown, k)));
+module _ {X : Type 0} {each : Bool → Path → X → Wanted} {all left : List X} {p : Path} {a : Asking} where
+  pub showing_start : {cs : List EvaluationNode} → cs ≡ [] → left ≡ all → Showing each all left cs p p a a
+  showing_start none whole = record {
+    goes_on = λ more h. subst (AreShown (map (each a.answer p) all)) (ap (λ l. trees_of l ++ more) (sym none)) (subst (λ l. AreShown (map (each a.answer p) l) more) whole h);
+    kept = kept_same;
   }
 
-  pub shown_none_more : {left rest : List Wanted} {ts : List Tree} → ShownFrom all left ts → left ≡ rest → ShownFrom all rest ts
-  shown_none_more {ts = ts} h e = subst (λ ws. ShownFrom all ws ts) e h
+  module _ {xs : List EvaluationNode} {q : Path} {b : Asking} (loop : Showing each all left xs p q a b) where
+    pub showing_more : {x : X} {rest : List X} {ys : List EvaluationNode} {s : Path} {c : Asking} → left ≡ x ∷ rest → ShowsMore (each b.answer q x) xs ys → Kept q s b c
+        → Showing each all rest ys p s a c
+    showing_more {x} next m kept = record {
+      goes_on = λ more k.
+          subst (AreShown (map (each a.answer p) all)) (sym (ap (λ l. l ++ more) (ap trees_of m.added ∙ map-append tree_of xs (m.child ∷ [])) ∙ append_assoc (trees_of xs) (tree_of m.child ∷ []) more))
+          (loop.goes_on (tree_of m.child ∷ more) (subst (λ l. AreShown (map (each a.answer p) l) (tree_of m.child ∷ more)) (sym next)
+          (as_before (λ u Q. IsShown (each u Q x) (tree_of m.child)) loop.kept m.shown, k)));
+      kept = kept_then loop.kept kept;
+    }
 
-pub none_left : {X : Type 0} (g : X → Wanted) (xs ys : List X) (i : ℕ) → ys ≡ xs → length ys ≤ i → map g (drop i xs) ≡ []
-none_left g xs ys i same le = ap (map g) (drop_all i xs (subst (λ zs. length zs ≤ i) same le))
+    pub showing_none : {rest : List X} {s : Path} {c : Asking} → left ≡ rest → Kept q s b c → Showing each all rest xs p s a c
+    showing_none same kept = record {
+      goes_on = λ more k. loop.goes_on more (subst (λ l. AreShown (map (each a.answer p) l) more) (sym same) k);
+      kept = kept_then loop.kept kept;
+    }
+
+    -- where branches join
+    pub showing_at : {ys : List EvaluationNode} {s : Path} {c : Asking} → ys ≡ xs → s ≡ q → c ≡ b → Showing each all left ys p s a c
+    showing_at {c = c} e f h = subst₂ (λ ys s. Showing each all left ys p s a c) (sym e) (sym f) (subst (λ c. Showing each all left xs p q a c) (sym h) loop)
+
+    pub showing_end : left ≡ [] → AreShown (map (each a.answer p) all) (trees_of xs)
+    showing_end none = subst (AreShown (map (each a.answer p) all)) (append-nil (trees_of xs)) (loop.goes_on [] (subst (λ l. AreShown (map (each a.answer p) l) []) (sym none) tt))
+
+-- of those that pass, one is next, or it is not among them
+pub those_next : {X : Type 0} (f : X → Bool) {left rest : List X} {x : X} {b : Bool} → left ≡ x ∷ rest → b ≡ f x → filter_once f left ≡ put_if b x (filter_once f rest)
+those_next f {rest = rest} {x} next e = ap (filter_once f) next ∙ ap (λ b. put_if b x (filter_once f rest)) (sym e)
 
 -- a node that is put behind the others, and its result written then
-pub shows_last : {w : Wanted} (xs ys : List EvaluationNode) (i : ℕ) (made at : EvaluationNode) (r : EvaluationResult) → ys ≡ xs ++ made ∷ [] → i ≡ length xs → at ≡ get_or ys i at
-    → IsShown w (tree_of (with_result made r)) → ShowsMore w xs (set ys i (with_result at r))
-shows_last xs ys i made at r more last there is = record {
-  child = with_result made r;
-  added =
-      (λ j. set (more j) (last j) (with_result (found j) r))
-      ∙ set-append_seam xs made [] (with_result made r);
-  shown = is;
-}
-  where
-    found : at ≡ made
-    found = there ∙ (λ j. get_or (more j) (last j) at) ∙ get_or-append_seam xs made [] at
+module _ (xs ys : List EvaluationNode) (i : ℕ) (made at : EvaluationNode) (more : ys ≡ xs ++ made ∷ []) (last : i ≡ length xs) (there : at ≡ get_or ys i at) where
+  pub last_is : at ≡ made
+  last_is = there ∙ (λ j. get_or (more j) (last j) at) ∙ get_or-append_seam xs made [] at
+
+  pub shows_last : {w : Wanted} (r : EvaluationResult) → IsShown w (tree_of (with_result made r)) → ShowsMore w xs (set ys i (with_result at r))
+  shows_last r is = record {
+    child = with_result made r;
+    added = (λ j. set (more j) (last j) (with_result (last_is j) r)) ∙ set-append_seam xs made [] (with_result made r);
+    shown = is;
+  }
 
 -- what stands at its places
-pub shown_there : {w : Wanted} {P R Q S : Path} (s : Shown) {t : Tree} → t ≡ node_at P Q s → P ≡ R → Q ≡ S → IsLikeTree w.0 (node_at R S s) → is_valid (node_at R S s) ≡ w.1 → IsShown w t
-shown_there {w} s e p q like verdict = subst (IsShown w) (sym (e ∙ (λ i. node_at (p i) (q i) s))) (record { like = like; verdict = verdict })
+pub shown_there : {w : Wanted} {P R Q S : Path} (s : Shown) {t : Tree} → t ≡ node_at P Q s → P ≡ R → Q ≡ S → IsShown w (node_at R S s) → IsShown w t
+shown_there {w} s e p q h = subst (IsShown w) (sym (e ∙ (λ i. node_at (p i) (q i) s))) h
 
 pub one_shown : {w : Wanted} {xs ys : List EvaluationNode} → xs ≡ [] → (h : ShowsMore w xs ys) → trees_of ys ≡ tree_of h.child ∷ []
 one_shown none h = ap trees_of (h.added ∙ ap (λ l. l ++ h.child ∷ []) none)
@@ -119,41 +168,33 @@ module _ (ns : List EvaluationNode) {s r : Shown} (empty : s ≡ nothing_shown) 
   pub over_refusing : {q : Shown} → q ≡ called_invalid r → q ≡ shown false None [] (trees_of ns)
   over_refusing e = e ∙ ap called_invalid over_children
 
-module _ (P Q : Path) (ws : List Wanted) {cs : List Tree} {s : Shown} where
-  -- valid exactly if all children are
-  pub plain_like : (ts : List Tree) → trees_wanted ws ≡ ts → AreShown ws cs → s ≡ shown (list_all is_valid cs) None [] cs → IsLikeTree (plain P Q ts) (node_at P Q s)
-  plain_like ts same h e = subst (λ r. IsLikeTree (plain P Q ts) (node_at P Q r)) (sym e) (subst (λ us. IsLikeTree (plain P Q us) (node_at P Q (shown (list_all is_valid cs) None [] cs))) same
-      (like_result P Q (list_all is_valid (trees_wanted ws)) (list_all is_valid cs) None None [] [] (trees_from (trees_wanted ws)) (trees_from cs) (all_wanted_valid ws cs h) refl tt (like_children ws cs h)))
+-- valid exactly if all children are
+pub plain_shown : (P Q : Path) (ws : List Wanted) {cs : List Tree} {s : Shown} → AreShown ws cs → s ≡ shown (list_all is_valid cs) None [] cs
+    → IsShown (plain P Q (trees_wanted ws), all_wanted ws) (node_at P Q s)
+plain_shown P Q ws {cs} h e = result_shown P Q None false [] [] ws cs e tt h
 
-  pub plain_verdict : (b : Bool) → all_wanted ws ≡ b → AreShown ws cs → s ≡ shown (list_all is_valid cs) None [] cs → is_valid (node_at P Q s) ≡ b
-  plain_verdict b same h e = valid_shown P Q s (list_all is_valid cs) None [] cs e ∙ all_valid ws cs h ∙ same
+-- where nothing is wanted
+pub shows_nothing : (P Q : Path) {s : Shown} {t : Tree} {b : Bool} → s ≡ shown true None [] [] → t ≡ plain P Q [] → b ≡ true → IsShown (t, b) (node_at P Q s)
+shows_nothing P Q h e f = shown_as (plain_shown P Q [] {cs = []} tt h) (sym e) (sym f)
 
-module _ {N : Type 0} (t : N → Bool → Data → Path → Tree) (m : N → Data → Question) (u : Bool) (v : Data) (P Q : Path) (ns : List N) where
-  pub branches_wanted : trees_wanted (each_wanted t m u ns v Q) ≡ branch_trees (λ n. t n u) v Q ns
-  branches_wanted = map-map (λ w. w.0) (λ n. wanted t m u n v Q) ns
+module _ {N : Type 0} (t : N → Bool → Data → Path → Tree) (m : N → Data → Question) (u : Bool) (v : Data) (Q : Path) where
+  pub branches_wanted : (ns : List N) → trees_wanted (each_wanted t m u ns v Q) ≡ branch_trees (λ n. t n u) v Q ns
+  branches_wanted ns = map-map (λ w. w.0) (λ n. wanted t m u n v Q) ns
 
-  module _ {cs : List Tree} {s : Shown} where
-    -- a child for each branch
-    pub branches_like : AreShown (each_wanted t m u ns v Q) cs → s ≡ shown (list_all is_valid cs) None [] cs → IsLikeTree (plain P Q (branch_trees (λ n. t n u) v Q ns)) (node_at P Q s)
-    branches_like = plain_like P Q (each_wanted t m u ns v Q) (branch_trees (λ n. t n u) v Q ns) branches_wanted
+  every_wanted : (ns : List N) → all_wanted (each_wanted t m u ns v Q) ≡ (every (λ n. m n v) ns).accepts u
+  every_wanted [] = refl
+  every_wanted (n ∷ ns) = ap (λ b. (m n v).accepts u && b) (every_wanted ns)
 
-    pub branches_verdict : AreShown (each_wanted t m u ns v Q) cs → s ≡ shown (list_all is_valid cs) None [] cs → is_valid (node_at P Q s) ≡ (every (λ n. m n v) ns).accepts u
-    branches_verdict = plain_verdict P Q (each_wanted t m u ns v Q) ((every (λ n. m n v) ns).accepts u) (every_wanted ns)
-      where
-        every_wanted : (ns : List N) → all_wanted (each_wanted t m u ns v Q) ≡ (every (λ n. m n v) ns).accepts u
-        every_wanted [] = refl
-        every_wanted (n ∷ ns) = ap (λ b. (m n v).accepts u && b) (every_wanted ns)
+  module _ {s : Shown} where
+    pub shows_each : (ns : List N) {cs : List Tree} → AreShown (each_wanted t m u ns v Q) cs → s ≡ shown (list_all is_valid cs) None [] cs → ShowsEach t m u ns v Q s
+    shows_each ns h e P = shown_as (plain_shown P Q (each_wanted t m u ns v Q) h e) (ap (plain P Q) (branches_wanted ns)) (every_wanted ns)
 
-module _ {N : Type 0} (t : N → Bool → Data → Path → Tree) (m : N → Data → Question) (u : Bool) (v : Data) (Q : Path) {s : Shown} where
-  pub shows_each : (ns : List N) {cs : List Tree} → AreShown (each_wanted t m u ns v Q) cs → s ≡ shown (list_all is_valid cs) None [] cs → ShowsEach t m u ns v Q s
-  shows_each ns h e = record { tree = λ P. branches_like t m u v P Q ns h e; verdict = λ P. branches_verdict t m u v P Q ns h e }
+    -- where there is no branch
+    pub shows_none : (ns : List N) → ns ≡ [] → s ≡ shown true None [] [] → ShowsEach t m u ns v Q s
+    shows_none ns none h = shows_each ns {cs = []} (subst (λ l. AreShown (each_wanted t m u l v Q) []) (sym none) tt) h
 
-  -- where there is no branch
-  pub shows_none : (ns : List N) → ns ≡ [] → s ≡ shown true None [] [] → ShowsEach t m u ns v Q s
-  shows_none ns none h = shows_each ns {cs = []} (subst (λ l. AreShown (each_wanted t m u l v Q) []) (sym none) tt) h
-
-  pub shows_the_one : (n : N) → ShowsOne (wanted t m u n v Q) s → ShowsEach t m u (n ∷ []) v Q s
-  shows_the_one n h = shows_each (n ∷ []) {cs = h.child ∷ []} (h.shown, tt) (h.is ∙ ap (λ b. shown b None [] (h.child ∷ [])) (sym (and-true (is_valid h.child))))
+    pub shows_the_one : (n : N) → ShowsOne (wanted t m u n v Q) s → ShowsEach t m u (n ∷ []) v Q s
+    shows_the_one n h = shows_each (n ∷ []) {cs = h.child ∷ []} (h.shown, tt) (h.is ∙ ap (λ b. shown b None [] (h.child ∷ [])) (sym (and-true (is_valid h.child))))
 
 module _ {N : Type 0} (t : N → Bool → Data → Path → Tree) (m : N → Data → Question) (u : Bool) (n : N) (P Q : Path) where
   names_verdicts : (ms : List (Name × Data)) → all_wanted (names_wanted t m u n Q ms) ≡ (every (λ x. m n (string x.0)) ms).accepts u
@@ -161,16 +202,11 @@ module _ {N : Type 0} (t : N → Bool → Data → Path → Tree) (m : N → Dat
   names_verdicts (x ∷ ms) = ap (λ b. (m n (string x.0)).accepts u && b) (names_verdicts ms)
 
   -- a child for each name of w, which is v
-  module _ (v w : Data) (same : w ≡ v) {cs : List Tree} {s : Shown} (h : AreShown (names_wanted t m u n Q (members w)) cs) (e : s ≡ shown (list_all is_valid cs) None [] cs) where
-    pub names_shown : IsShown (plain P Q (name_trees (λ k. t k u) v Q n), (every (λ x. m n (string x.0)) (members v)).accepts u) (node_at P Q s)
-    names_shown = record {
-      like =
-          plain_like P Q (names_wanted t m u n Q (members w)) (name_trees (λ k. t k u) v Q n)
-          (map-map (λ x. x.0) (λ x. wanted t m u n (string x.0) Q) (members w) ∙ ap (λ d. name_trees (λ k. t k u) d Q n) same) h e;
-      verdict =
-          plain_verdict P Q (names_wanted t m u n Q (members w)) ((every (λ x. m n (string x.0)) (members v)).accepts u)
-          (names_verdicts (members w) ∙ ap (λ d. (every (λ x. m n (string x.0)) (members d)).accepts u) same) h e;
-    }
+  pub names_shown : (v w : Data) → w ≡ v → {cs : List Tree} {s : Shown} → AreShown (names_wanted t m u n Q (members w)) cs → s ≡ shown (list_all is_valid cs) None [] cs
+      → IsShown (plain P Q (name_trees (λ k. t k u) v Q n), (every (λ x. m n (string x.0)) (members v)).accepts u) (node_at P Q s)
+  names_shown v w same h e = shown_as (plain_shown P Q (names_wanted t m u n Q (members w)) h e)
+      (ap (plain P Q) (map-map (λ x. x.0) (λ x. wanted t m u n (string x.0) Q) (members w)) ∙ ap (λ d. plain P Q (name_trees (λ k. t k u) d Q n)) same)
+      (names_verdicts (members w) ∙ ap (λ d. (every (λ x. m n (string x.0)) (members d)).accepts u) same)
 
   -- where there is no member
   pub no_name_shown : (v : Data) → members v ≡ [] → AreShown (names_wanted t m u n Q (members v)) []

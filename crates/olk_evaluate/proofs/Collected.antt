@@ -1,6 +1,5 @@
 -- What is collected of members, one after another.
 use Rattle.std.proofs.Common.{◌≡◌, ℕ, ◌+◌, Bool, true, false, not, ◌&&◌, ◌||◌, cond, List, [], ◌∷◌, ◌++◌, map, Option, Some, None, is_none, is_some, option_map, option_to_list, drop, append_assoc, refl, sym, ap, subst, ◌∙◌}
-use mathlib.Core.Path.{subst₂}
 use Rattle.std.proofs.lemmas.List.{append-nil, map-append}
 use Rattle.serde_json.specs.Data.{Data}
 use Rattle.olk_spec.specs.Names.{Name, Path, put_if, is_empty}
@@ -12,13 +11,13 @@ use Rattle.olk_base.specs.declared.pattern.CompiledPattern.{CompiledPattern}
 use Rattle.olk_tree.specs.Questions.{Question}
 use Rattle.olk_tree.specs.Additional.{known_at, known_or, is_matched_by, matching_from, sides_of}
 use Rattle.olk_tree.specs.declared.additional_properties.AdditionalProperties.{AdditionalProperties}
-use Rattle.olk_check.specs.Asks.{OnlyAsks}
-use Rattle.olk_check.proofs.Asked.{only_then}
 use Rattle.olk_reports.specs.Evaluations.{tree_of}
 use Rattle.olk_evaluate.specs.Wanted.{Wanted, AreShown, ShowsMore, trees_of}
 use Rattle.olk_evaluate.specs.Additional.{Found, Collects, CollectsMore, names_of, nodes_wanted, declared_found, match_found, rest_found, member_found, found_at, members_found}
 use Rattle.olk_evaluate.specs.declared.additional_members.Collected.{Collected}
+use Rattle.olk_evaluate.specs.Shows.{Kept}
 use Rattle.olk_evaluate.proofs.Members.{shown_append}
+use Rattle.olk_evaluate.proofs.Shows.{kept_same, kept_then, as_before}
 
 abbrev pub nothing_found : Found
 nothing_found = record { wanted = []; additional = []; matched = [] }
@@ -62,6 +61,16 @@ collects_child {a = a} additional matched more =
           ∙ map-append tree_of a.children.items (more.child ∷ []);
       shown = (more.shown, tt);
     }
+
+-- no child more, and such names
+pub collects_name : {ns ms : List Name} {a b : Collected} → names_of b.additional.items ≡ names_of a.additional.items ++ ns → names_of b.matched.items ≡ names_of a.matched.items ++ ms
+    → b.children.items ≡ a.children.items → CollectsMore (record { wanted = []; additional = ns; matched = ms }) a b
+collects_name {a = a} additional matched same =
+    record { additional = additional; matched = matched; added = []; children = ap trees_of same ∙ sym (append-nil (trees_of a.children.items)); shown = tt }
+
+pub collects_no_match : (shows : Bool) (a : Collected) → CollectsMore (record { wanted = []; additional = []; matched = cond shows [] [] }) a a
+collects_no_match true a = collects_nothing a
+collects_no_match false a = collects_nothing a
 
 -- ---- what is left adds up to all
 
@@ -186,16 +195,14 @@ module _ {R N : Type 0} (w : Member R N) where
 
 -- what is declared and the patterns before i are done
 pub record OnTheWay {R N : Type 0} (w : Member R N) (spoken : Bool) (i : ℕ) (P : Path) (b : Asking) (old new : Collected) : Type 0 where
-  pub path : P ≡ w.path
-  pub context : OnlyAsks w.asking b
+  pub kept : Kept w.path P w.asking b
   pub leaves : Leaves (all_found w) (patterns_left w spoken i (drop i (sides_of w.keyword).patterns)) old new
 
 module _ {R N : Type 0} {w : Member R N} where
   pub declared_done : {spoken : Bool} {P : Path} {b : Asking} {old new : Collected} → spoken ≡ is_some w.declared → CollectsMore (declared_here w) old new
-      → P ≡ w.path → OnlyAsks w.asking b → OnTheWay w spoken 0 P b old new
-  declared_done {b = b} is h path context = record {
-    path = path;
-    context = context;
+      → Kept w.path P w.asking b → OnTheWay w spoken 0 P b old new
+  declared_done is h kept = record {
+    kept = kept;
     leaves = leaves_more (declared_here w) (ap (λ s. both_found (declared_here w) (patterns_left w s 0 (sides_of w.keyword).patterns)) is ∙ after_declared w) leaves_all h;
   }
 
@@ -204,14 +211,13 @@ module _ {R N : Type 0} {w : Member R N} where
         → drop i (sides_of w.keyword).patterns ≡ e ∷ drop (i + 1) (sides_of w.keyword).patterns → known ≡ known_at (sides_of w.keyword) w.declared i
         → matches ≡ reads_as b.answer (known_or known (pattern_answers w.answers e.0 w.name))
         → shows ≡ is_none w.keyword.properties → CollectsMore (match_found w.tree w.means b.answer P w.name w.value shows e.1 matches) new newer
-        → S ≡ P → OnlyAsks b c → OnTheWay w (spoken || matches) (i + 1) S c old newer
-    pattern_done {e} {known} {shows} {matches} {S} {c} {newer} next is verdict shown found path context = record {
-      path = path ∙ loop.path;
-      context = only_then loop.context context;
+        → Kept P S b c → OnTheWay w (spoken || matches) (i + 1) S c old newer
+    pattern_done {e} {known} {shows} {matches} {newer = newer} next is verdict shown found kept = record {
+      kept = kept_then loop.kept kept;
       leaves = leaves_more (match_here w e.1 matches)
-          (after_pattern w spoken i next (verdict ∙ (λ j. reads_as (loop.context.answer j) (known_or (is j) (pattern_answers w.answers e.0 w.name)))))
+          (after_pattern w spoken i next (verdict ∙ (λ j. reads_as (loop.kept.only.answer j) (known_or (is j) (pattern_answers w.answers e.0 w.name)))))
           loop.leaves
-          (subst₂ (λ u Q. CollectsMore (match_found w.tree w.means u Q w.name w.value (is_none w.keyword.properties) e.1 matches) new newer) loop.context.answer loop.path
+          (as_before (λ u Q. CollectsMore (match_found w.tree w.means u Q w.name w.value (is_none w.keyword.properties) e.1 matches) new newer) loop.kept
           (subst (λ z. CollectsMore (match_found w.tree w.means b.answer P w.name w.value z e.1 matches) new newer) shown found));
     }
 
@@ -221,7 +227,7 @@ module _ {R N : Type 0} {w : Member R N} where
     pub rest_done : {newer : Collected} → drop i (sides_of w.keyword).patterns ≡ [] → spoken ≡ false
         → CollectsMore (rest_found w.tree w.means b.answer P w.name w.value w.keyword.rest) new newer → CollectsMore (all_found w) old newer
     rest_done {newer} none is found = leaves_last (rest_here w) (left_to_rest w spoken i none is) loop.leaves
-        (subst₂ (λ u Q. CollectsMore (rest_found w.tree w.means u Q w.name w.value w.keyword.rest) new newer) loop.context.answer loop.path found)
+        (as_before (λ u Q. CollectsMore (rest_found w.tree w.means u Q w.name w.value w.keyword.rest) new newer) loop.kept found)
 
 -- ---- members
 
@@ -236,22 +242,20 @@ abbrev pub found_in : {R N : Type 0} → Walk R N → Asking → Path → List (
 found_in w a Q xs = members_found w.answers w.tree w.means a.answer Q w.keyword xs
 
 pub record Walking {R N : Type 0} (w : Walk R N) (all left : List (Name × Data)) (Q P : Path) (a b : Asking) (old new : Collected) : Type 0 where
-  pub path : P ≡ Q
-  pub context : OnlyAsks a b
+  pub kept : Kept Q P a b
   pub leaves : Leaves (found_in w a Q all) (found_in w a Q left) old new
 
 module _ {R N : Type 0} {w : Walk R N} {all : List (Name × Data)} {Q : Path} {a : Asking} where
-  pub walk_begins : {left : List (Name × Data)} {old : Collected} → left ≡ all → OnlyAsks a a → Walking w all left Q Q a a old old
-  walk_begins {old = old} whole same = record { path = refl; context = same; leaves = subst (λ l. Leaves (found_in w a Q all) (found_in w a Q l) old old) (sym whole) leaves_all }
+  pub walk_begins : {left : List (Name × Data)} {old : Collected} → left ≡ all → Walking w all left Q Q a a old old
+  walk_begins {old = old} whole = record { kept = kept_same; leaves = subst (λ l. Leaves (found_in w a Q all) (found_in w a Q l) old old) (sym whole) leaves_all }
 
   module _ {left : List (Name × Data)} {P : Path} {b : Asking} {old new : Collected} (loop : Walking w all left Q P a b old new) where
     pub member_done : {x : Name × Data} {more : List (Name × Data)} {S : Path} {c : Asking} {newer : Collected} → left ≡ x ∷ more
-        → CollectsMore (found_at w.answers w.tree w.means b.answer P w.keyword x) new newer → S ≡ P → OnlyAsks b c → Walking w all more Q S a c old newer
-    member_done {x} {more} {newer = newer} next found path context = record {
-      path = path ∙ loop.path;
-      context = only_then loop.context context;
+        → CollectsMore (found_at w.answers w.tree w.means b.answer P w.keyword x) new newer → Kept P S b c → Walking w all more Q S a c old newer
+    member_done {x} {more} {newer = newer} next found kept = record {
+      kept = kept_then loop.kept kept;
       leaves = leaves_more (found_at w.answers w.tree w.means a.answer Q w.keyword x) (ap (found_in w a Q) (sym next)) loop.leaves
-          (subst₂ (λ u R. CollectsMore (found_at w.answers w.tree w.means u R w.keyword x) new newer) loop.context.answer loop.path found);
+          (as_before (λ u R. CollectsMore (found_at w.answers w.tree w.means u R w.keyword x) new newer) loop.kept found);
     }
 
     pub members_done : left ≡ [] → old.children.items ≡ [] → old.additional.items ≡ [] → old.matched.items ≡ [] → Collects (found_in w a Q all) new

@@ -1,9 +1,10 @@
+pub mod Shows
 pub mod Children
 pub mod OwnErrors
 pub mod Branches
 pub mod OneOf
+pub mod If
 pub mod Members
 pub mod Patterns
 pub mod Collected
-pub mod Completed
 pub mod Additional

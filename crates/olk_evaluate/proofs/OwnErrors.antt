@@ -1,86 +1,121 @@
 -- Errors that a keyword shows itself.
-use Rattle.std.proofs.Common.{◌≡◌, ℕ, ◌+◌, ◌<◌, ◌≤◌, length, get_or, drop, String, Global, string_bytes, Bool, true, false, not, ◌&&◌, arith, List, [], ◌∷◌, ◌++◌, map, None, refl, sym, ap, subst, ◌∙◌, append_assoc}
+use Rattle.std.proofs.Common.{◌≡◌, ℕ, ◌+◌, ◌==◌, ◌<◌, ◌≤◌, length, get_or, drop, String, Global, Bor, string_bytes, Bool, true, false, not, ◌&&◌, arith, List, [], ◌∷◌, ◌++◌, map, Option, Some, None, refl, sym, ap, subst, ◌∙◌, append_assoc}
 use Rattle.std.specs.List.{list_all}
 use Rattle.std.proofs.lemmas.List.{append-nil, at_drop_more, drop_all}
 use Rattle.std.proofs.lemmas.List.Sorted.{IsPermutation-map, IsPermutation-refl, length_permutation}
 use Rattle.std.proofs.lemmas.Simd.{map-map}
+use Rattle.std.proofs.Math.Bool.{and-false, and-true, not-not}
 use Rattle.std.specs.List.Sorted.{IsPermutation}
 use Rattle.serde_json.specs.Data.{Data, Members, object}
+use Rattle.serde_json.specs.View.{view, members_view}
+use Rattle.serde_json.specs.declared.value.Value.{Value}
 use Rattle.olk_spec.specs.Names.{Name, Text, Path, is_empty, put_if}
-use Rattle.olk_spec.specs.Faults.{Fault, Kind, fault, Leaf, Required, FalseSchema}
-use Rattle.olk_spec.specs.Tree.{Tree, IsLikeTree, AreTold, Described, described, described_fault, leaf_node, is_valid, erring, no_tree}
+use Rattle.olk_spec.specs.Faults.{Fault, Kind, fault, AdditionalProperties, Leaf, Required, FalseSchema}
+use Rattle.olk_spec.specs.Reports.{fault_if, unexpected_faults}
+use Rattle.olk_spec.specs.Tree.{Tree, AreTold, Described, described, described_fault, leaf_node, IsLikeTree, is_valid, erring, result}
 use Rattle.serde_json.specs.Find.{as_object}
 use Rattle.olk_check.proofs.Missing.{lacks_nothing}
-use Rattle.olk_spec.specs.Schemas.{has, members}
+use Rattle.olk_spec.specs.Schemas.{has, listed, members}
 use Rattle.olk_spec.specs.Accepts.{missing}
 use Rattle.olk_tree.specs.Maps.{texts_of}
-use Rattle.olk_tree.specs.OwnFaults.{unless}
+use Rattle.olk_tree.specs.OwnFaults.{fault_if_agrees, unless}
 use Rattle.olk_reports.specs.Evaluations.{Shown, shown, errored, node_at}
-use Rattle.olk_evaluate.specs.Wanted.{AreShown, refused, lacking_trees, HasErrors, HasTexts, IsDescribedBy}
-use Rattle.olk_evaluate.proofs.Children.{like_result, valid_shown}
+use Rattle.olk_evaluate.specs.Wanted.{Wanted, IsShown, AreShown, refused, lacking_trees, errored_by, AddsErrors, HasTexts, IsDescribedBy}
+use Rattle.olk_evaluate.specs.Additional.{annotated_if, named_faults, names_of}
+use Rattle.olk_evaluate.proofs.Children.{emptiness_of, trees_wanted, all_wanted, shown_as, result_shown, valid_shown}
 
-pub no_error : {s : Shown} → s ≡ shown true None [] [] → HasErrors [] s
-no_error e = record { own = []; is = e; told = tt }
+-- ---- errors more
 
-told_more : (fs : List Fault) (ds : List Described) (f : Fault) (d : Described) → AreTold (described fs) ds → IsDescribedBy f d → AreTold (described (fs ++ f ∷ [])) (ds ++ d ∷ [])
-told_more [] [] f d h t = (t.keyword, t.text, tt)
-told_more [] (e ∷ ds) f d h t = absurd h
-told_more (g ∷ fs) [] f d h t = absurd h
-told_more (g ∷ fs) (e ∷ ds) f d h t = (h.0, h.1, told_more fs ds f d h.2 t)
+pub adds_none : (s : Shown) → AddsErrors [] s s
+adds_none s = record { own = []; told = tt; is = refl }
 
-some_error : (fs : List Fault) (f : Fault) → is_empty (fs ++ f ∷ []) ≡ false
-some_error [] f = refl
-some_error (g ∷ fs) f = refl
+pub adds_one : {f : Fault} {d : Described} {s r : Shown} → IsDescribedBy f d → r ≡ errored d s → AddsErrors (f ∷ []) s r
+adds_one {d = d} t is = record { own = d ∷ []; told = (t.keyword, t.text, tt); is = is }
 
--- one error more, at any places
-pub marked : (P Q : Path) {before : List Fault} {k : Kind} {v : Data} {d : Described} {s r : Shown} → HasErrors before s → IsDescribedBy (fault k v Q P) d
-    → r ≡ errored d s → HasErrors (before ++ fault k v Q P ∷ []) r
-marked P Q {before} {k} {v} {d} {s} {r} h t e = record {
-  own = h.own ++ d ∷ [];
-  is = e ∙ ap (errored d) h.is ∙ ap (λ b. shown b None (h.own ++ d ∷ []) []) (sym (some_error before (fault k v Q P)));
-  told = told_more before h.own (fault k v Q P) d h.told t;
+-- the same of another kind
+pub adds_as : {j k : Kind} {v : Data} {P Q : Path} {s r : Shown} → j ≡ k → AddsErrors (fault j v Q P ∷ []) s r → AddsErrors (fault k v Q P ∷ []) s r
+adds_as {v = v} {P} {Q} {s} {r} e h = subst (λ k. AddsErrors (fault k v Q P ∷ []) s r) e h
+
+errored_both : (ds es : List Described) (s : Shown) → errored_by es (errored_by ds s) ≡ errored_by (ds ++ es) s
+errored_both [] es s = refl
+errored_both (d ∷ ds) es s = errored_both ds es (errored d s)
+
+told_both : (fs gs : List Fault) (ds es : List Described) → AreTold (described fs) ds → AreTold (described gs) es → AreTold (described (fs ++ gs)) (ds ++ es)
+told_both [] gs [] es h k = k
+told_both [] gs (d ∷ ds) es h k = absurd h
+told_both (f ∷ fs) gs [] es h k = absurd h
+told_both (f ∷ fs) gs (d ∷ ds) es h k = (h.0, h.1, told_both fs gs ds es h.2 k)
+
+pub adds_both : {fs gs : List Fault} {a b c : Shown} → AddsErrors fs a b → AddsErrors gs b c → AddsErrors (fs ++ gs) a c
+adds_both {fs} {gs} {a} h k = record {
+  own = h.own ++ k.own;
+  told = told_both fs gs h.own k.own h.told k.told;
+  is = k.is ∙ ap (errored_by k.own) h.is ∙ errored_both h.own k.own a;
 }
+
+-- the errors so far, and those that are left, are all
+pub record ErrorsFrom (all left : List Fault) (old new : Shown) : Type 0 where
+  pub goes_on : (end : Shown) → AddsErrors left new end → AddsErrors all old end
+
+pub errors_start : {fs : List Fault} {s : Shown} → ErrorsFrom fs fs s s
+errors_start = record { goes_on = λ end h. h }
+
+module _ {all left : List Fault} {a b : Shown} where
+  pub errors_more : {here rest : List Fault} {c : Shown} → ErrorsFrom all left a b → left ≡ here ++ rest → AddsErrors here b c → ErrorsFrom all rest a c
+  errors_more h e more = record { goes_on = λ end k. h.goes_on end (subst (λ fs. AddsErrors fs b end) (sym e) (adds_both more k)) }
+
+  pub errors_end : ErrorsFrom all left a b → left ≡ [] → AddsErrors all a b
+  errors_end h e = h.goes_on b (subst (λ fs. AddsErrors fs b b) (sym e) (adds_none b))
 
 -- ---- the tree of own errors
 
-and_true : (b : Bool) → (b && true && true) ≡ b
-and_true true = refl
-and_true false = refl
+errored_shown : (own : List Described) (b : Bool) (A : Option (List Name)) (es : List Described) (cs : List Tree) → errored_by own (shown b A es cs) ≡ shown (is_empty own && b) A (es ++ own) cs
+errored_shown [] b A es cs = ap (λ l. shown b A l cs) (sym (append-nil es))
+errored_shown (d ∷ ds) b A es cs = errored_shown ds false A (es ++ d ∷ []) cs ∙ (λ i. shown (and-false (is_empty ds) i) A (append_assoc es (d ∷ []) ds i) cs)
 
-pub empty_described : (fs : List Fault) → is_empty (described fs) ≡ is_empty fs
+annotated_shown : (A : Option (List Name)) (b : Bool) (cs : List Tree) → annotated_if A (shown b None [] cs) ≡ shown b A [] cs
+annotated_shown None b cs = refl
+annotated_shown (Some ns) b cs = refl
+
+empty_described : (fs : List Fault) → is_empty (described fs) ≡ is_empty fs
 empty_described [] = refl
 empty_described (f ∷ fs) = refl
 
-module _ (P Q : Path) {s : Shown} where
-  pub erring_like : (fs : List Fault) → HasErrors fs s → IsLikeTree (erring P Q fs) (node_at P Q s)
-  erring_like fs h = subst (λ r. IsLikeTree (erring P Q fs) (node_at P Q r)) (sym h.is)
-      (like_result P Q (is_empty (described fs) && true && true) (is_empty fs) None None (described fs) h.own no_tree no_tree
-      (sym (and_true (is_empty (described fs)) ∙ empty_described fs)) refl h.told tt)
+module _ (P Q : Path) (fs : List Fault) {s r : Shown} where
+  -- own errors, an annotation and children that are wanted
+  pub complete_shown : (A : Option (List Name)) (ws : List Wanted) (cs : List Tree) → s ≡ shown (list_all is_valid cs) None [] cs → AddsErrors fs (annotated_if A s) r → AreShown ws cs
+      → IsShown (result P Q A false (described fs) (trees_wanted ws), is_empty fs && all_wanted ws) (node_at P Q r)
+  complete_shown A ws cs same h children = shown_as (result_shown P Q A false (described fs) h.own ws cs
+      (h.is ∙ ap (λ x. errored_by h.own (annotated_if A x)) same ∙ ap (errored_by h.own) (annotated_shown A (list_all is_valid cs) cs)
+      ∙ errored_shown h.own (list_all is_valid cs) A [] cs ∙ (λ i. shown (sym (and-true (is_empty h.own)) i && list_all is_valid cs) A h.own cs))
+      h.told children) refl (λ i. (and-true (is_empty (described fs)) ∙ empty_described fs) i && all_wanted ws)
 
-  pub erring_verdict : (fs : List Fault) → HasErrors fs s → is_valid (node_at P Q s) ≡ is_empty fs
-  erring_verdict fs h = valid_shown P Q s (is_empty fs) None h.own [] h.is
+  -- own errors alone
+  pub erring_shown : s ≡ shown true None [] [] → AddsErrors fs s r → IsShown (erring P Q fs, is_empty fs) (node_at P Q r)
+  erring_shown none h = shown_as (complete_shown None [] [] none h tt) refl (and-true (is_empty fs))
 
--- ---- one error after another
+-- one error, or none
+pub refusal_shown : (k : Kind) (v : Data) (P Q : Path) (b : Bool) {c : Bool} {s r : Shown} → b ≡ c → s ≡ shown true None [] [] → AddsErrors (fault_if b k v P Q) s r
+    → IsShown (erring P Q (fault_if c k v P Q), not c) (node_at P Q r)
+refusal_shown k v P Q b e none h = shown_as (erring_shown P Q (fault_if b k v P Q) none h) (ap (λ c. erring P Q (fault_if c k v P Q)) e) (fault_if_agrees b k v P Q ∙ ap not e)
 
--- the errors so far, and those that are left, are all
-pub record ErrorsFrom (all left : List Fault) (s : Shown) : Type 0 where
-  pub done : List Fault
-  pub parts : all ≡ done ++ left
-  pub has : HasErrors done s
+-- an object that is to have no members
+pub members_shown : (v : Data) (P Q : Path) (b : Bool) {s r : Shown} → b ≡ is_empty (members v) → s ≡ shown true None [] [] → AddsErrors (unless b FalseSchema v P Q) s r
+    → IsShown (erring P Q (unless (is_empty (members v)) FalseSchema v P Q), is_empty (members v)) (node_at P Q r)
+members_shown v P Q b e none h = shown_as (refusal_shown FalseSchema v P Q (not b) (ap not e) none h) refl (not-not (is_empty (members v)))
 
-pub errors_start : {all left : List Fault} {s : Shown} → s ≡ shown true None [] [] → left ≡ all → ErrorsFrom all left s
-errors_start e same = record { done = []; parts = sym same; has = no_error e }
+-- ---- members that are not expected
 
-pub errors_more : {all left : List Fault} (here rest : List Fault) {s r : Shown} → ErrorsFrom all left s → left ≡ here ++ rest
-    → ((before : List Fault) → HasErrors before s → HasErrors (before ++ here) r) → ErrorsFrom all rest r
-errors_more here rest h e more = record {
-  done = h.done ++ here;
-  parts = h.parts ∙ ap (λ l. h.done ++ l) e ∙ sym (append_assoc h.done here rest);
-  has = more h.done h.has;
-}
+-- told by name
+pub names_told : (ns : List (Bor (List ℕ))) (v : Data) (P Q : Path) {n : ℕ} {d : Described} {s r : Shown} → n ≡ length ns → false ≡ (n == 0)
+    → IsDescribedBy (fault (AdditionalProperties (names_of ns)) v Q P) d → r ≡ errored d s → AddsErrors (named_faults (names_of ns) v P Q) s r
+names_told ns v P Q {s = s} {r} len some t is =
+    subst (λ b. AddsErrors (put_if (not b) (fault (AdditionalProperties (names_of ns)) v Q P) []) s r) (emptiness_of (λ n. n.now) ns len some) (adds_one t is)
 
-pub errors_end : {all left : List Fault} {s : Shown} → ErrorsFrom all left s → left ≡ [] → HasErrors all s
-errors_end {s = s} h e = subst (λ fs. HasErrors fs s) (sym (append-nil h.done) ∙ ap (λ l. h.done ++ l) (sym e) ∙ sym h.parts) h.has
+-- the first of them
+pub first_told : (v : Data) (P Q : Path) {all left rest : List (String Global × Value)} {k : String Global} {w : Value} {d : Described} {s r : Shown} → left ≡ (k, w) ∷ rest → left ≡ all
+    → IsDescribedBy (fault FalseSchema (view w) Q P) d → r ≡ errored d s → AddsErrors (unexpected_faults false (listed (members_view all)) v P Q) s r
+first_told v P Q {s = s} {r} first whole t is = subst (λ es. AddsErrors (unexpected_faults false (listed (members_view es)) v P Q) s r) (sym first ∙ whole) (adds_one t is)
 
 -- ---- names that an object lacks
 
@@ -97,6 +132,17 @@ module _ (f : Name → Fault) where
   same_emptiness [] = refl
   same_emptiness (n ∷ ns) = refl
 
+  -- what is no object lacks nothing
+  pub lacks_none : (ns : List Name) (v : Data) (s : Shown) → None ≡ as_object v → AddsErrors (map f (missing ns v)) s s
+  lacks_none ns v s e = subst (λ fs. AddsErrors fs s s) (sym (none_missing (missing ns v) (lacks_nothing ns v e))) (adds_none s)
+
+  -- the errors of two names
+  pub two_missing : (a b : Bool) (n k : Name) {s r : Shown} → AddsErrors (put_if a (f n) [] ++ put_if b (f k) []) s r → AddsErrors (map f (put_if a n (put_if b k []))) s r
+  two_missing true true n k h = h
+  two_missing true false n k h = h
+  two_missing false true n k h = h
+  two_missing false false n k h = h
+
 module _ (ms : Members) (f : Name → Fault) (names ys : List (String Global)) (i : ℕ) where
   -- the faults of the names from i on
   abbrev pub faults_from_at : ℕ → List Fault
@@ -112,17 +158,6 @@ module _ (ms : Members) (f : Name → Fault) (names ys : List (String Global)) (
 
   pub missing_end : ys ≡ names → length ys ≤ i → faults_from_at i ≡ []
   missing_end same le = ap (λ l. map f (missing (texts_of l) (object ms))) (drop_all i names (subst (λ zs. length zs ≤ i) same le))
-
--- what is no object lacks nothing
-pub lacks_none : (f : Name → Fault) (ns : List Name) (v : Data) {s : Shown} → None ≡ as_object v → s ≡ shown true None [] [] → HasErrors (map f (missing ns v)) s
-lacks_none f ns v {s} e h = subst (λ fs. HasErrors fs s) (sym (none_missing f (missing ns v) (lacks_nothing ns v e))) (no_error h)
-
--- the errors of two names
-pub two_missing : (f : Name → Fault) (a b : Bool) (n k : Name) {s : Shown} → HasErrors (([] ++ put_if a (f n) []) ++ put_if b (f k) []) s → HasErrors (map f (put_if a n (put_if b k []))) s
-two_missing f true true n k h = h
-two_missing f true false n k h = h
-two_missing f false true n k h = h
-two_missing f false false n k h = h
 
 -- ---- the texts of a leaf
 
@@ -151,13 +186,12 @@ module _ (k : Name) where
     abbrev faults_told : List Fault
     faults_told = map (λ t. fault (Leaf k t) v Q P) ts
 
-    told_faults : map told_as ts ≡ described faults_told
-    told_faults = sym (map-map described_fault (λ t. fault (Leaf k t) v Q P) ts)
-
-    pub leaf_like : {s : Shown} → HasTexts k ts s → IsLikeTree (leaf_node P Q (described faults_told)) (node_at P Q s)
-    leaf_like h =
-        subst (λ r. IsLikeTree (leaf_node P Q (described faults_told)) (node_at P Q r)) (sym h.is)
-        (subst (λ ds. IsLikeTree (leaf_node P Q ds) (node_at P Q (shown (is_empty ts) None h.own []))) told_faults (by (is_empty ts) refl))
+    pub leaf_shown : {s : Shown} → HasTexts k ts s → IsShown (leaf_node P Q (described faults_told), is_empty ts) (node_at P Q s)
+    leaf_shown {s} h = record {
+      like = subst (λ r. IsLikeTree (leaf_node P Q (described faults_told)) (node_at P Q r)) (sym h.is)
+          (subst (λ ds. IsLikeTree (leaf_node P Q ds) (node_at P Q (shown (is_empty ts) None h.own []))) (sym (map-map described_fault (λ t. fault (Leaf k t) v Q P) ts)) (by (is_empty ts) refl));
+      verdict = valid_shown P Q s (is_empty ts) None h.own [] h.is;
+    }
       where
         empty_as : (us : List Text) → is_empty (map told_as us) ≡ is_empty us
         empty_as [] = refl
@@ -169,82 +203,43 @@ module _ (k : Name) where
 
 -- ---- a child for names that are missing
 
-lacking_none : (b : Bool) (t : Tree) → false ≡ b → AreShown (refused (put_if b t [])) []
-lacking_none false t e = tt
-lacking_none true t e = cc
-
-lacking_one : (b : Bool) (t r : Tree) → true ≡ b → IsLikeTree t r → is_valid r ≡ false → AreShown (refused (put_if b t [])) (r ∷ [])
-lacking_one false t r e like refuses = cc
-lacking_one true t r e like refuses = (record { like = like; verdict = refuses }, tt)
-
-is_some_empty : (b : Bool) → true ≡ not b → b ≡ false
-is_some_empty true e = cc
-is_some_empty false e = refl
+lacking_one : (b : Bool) (t r : Tree) → true ≡ not b → IsShown (t, b) r → AreShown (refused (put_if (not b) t [])) (r ∷ [])
+lacking_one false t r e h = (h, tt)
+lacking_one true t r e h = cc
 
 module _ (ns : List Name) (v w : Data) (P Q : Path) where
-  pub none_lacking : false ≡ not (is_empty (missing ns w)) → AreShown (refused (lacking_trees ns v w P Q)) []
-  none_lacking e = lacking_none (not (is_empty (missing ns w))) (erring P Q (map (λ n. fault (Required n) v Q P) (missing ns w))) e
+  abbrev lacking_faults : List Fault
+  lacking_faults = map (λ n. fault (Required n) v Q P) (missing ns w)
 
-  pub some_lacking : {s : Shown} {r : Tree} → true ≡ not (is_empty (missing ns w)) → HasErrors (map (λ n. fault (Required n) v Q P) (missing ns w)) s
-      → r ≡ node_at P Q s → AreShown (refused (lacking_trees ns v w P Q)) (r ∷ [])
-  some_lacking {s} e h place =
-      subst (λ t. AreShown (refused (lacking_trees ns v w P Q)) (t ∷ [])) (sym place)
-      (lacking_one (not (is_empty (missing ns w))) (erring P Q (map (λ n. fault (Required n) v Q P) (missing ns w))) (node_at P Q s) e
-      (erring_like P Q (map (λ n. fault (Required n) v Q P) (missing ns w)) h)
-      (erring_verdict P Q (map (λ n. fault (Required n) v Q P) (missing ns w)) h ∙ same_emptiness (λ n. fault (Required n) v Q P) (missing ns w) ∙ is_some_empty (is_empty (missing ns w)) e))
+  pub none_lacking : false ≡ not (is_empty (missing ns w)) → AreShown (refused (lacking_trees ns v w P Q)) []
+  none_lacking e = subst (λ b. AreShown (refused (put_if b (erring P Q lacking_faults) [])) []) e tt
+
+  pub some_lacking : {s r : Shown} {t : Tree} → true ≡ not (is_empty (missing ns w)) → s ≡ shown true None [] [] → AddsErrors lacking_faults s r
+      → t ≡ node_at P Q r → AreShown (refused (lacking_trees ns v w P Q)) (t ∷ [])
+  some_lacking {t = t} e none h place = lacking_one (is_empty (missing ns w)) (erring P Q lacking_faults) t e
+      (subst (IsShown (erring P Q lacking_faults, is_empty (missing ns w))) (sym place)
+      (shown_as (erring_shown P Q lacking_faults none h) refl (same_emptiness (λ n. fault (Required n) v Q P) (missing ns w))))
 
   lacking_wanted : (b : Bool) (t : Tree) → list_all (λ x. x.1) (refused (put_if (not b) t [])) ≡ b
   lacking_wanted true t = refl
   lacking_wanted false t = refl
 
   pub all_there : list_all (λ x. x.1) (refused (lacking_trees ns v w P Q)) ≡ is_empty (missing ns w)
-  all_there = lacking_wanted (is_empty (missing ns w)) (erring P Q (map (λ n. fault (Required n) v Q P) (missing ns w)))
+  all_there = lacking_wanted (is_empty (missing ns w)) (erring P Q lacking_faults)
 
 -- the same of one name
-lacks_one : (b : Bool) (n : Name) → false ≡ b → true ≡ not (is_empty (put_if (not b) n []))
-lacks_one true n e = cc
-lacks_one false n e = refl
+module _ (n : Name) (v : Data) (ms : Members) (P Q : Path) where
+  abbrev lacks_if : Bool → Bool
+  lacks_if has = not (is_empty (put_if (not has) n []))
 
-error_of_one : (f : Name → Fault) (b : Bool) (n : Name) {s : Shown} → false ≡ b → HasErrors (f n ∷ []) s → HasErrors (map f (put_if (not b) n [])) s
-error_of_one f true n e h = cc
-error_of_one f false n e h = h
+  pub not_lacking : true ≡ has n (object ms) → AreShown (refused (lacking_trees (n ∷ []) v (object ms) P Q)) []
+  not_lacking e = none_lacking (n ∷ []) v (object ms) P Q (ap lacks_if e)
 
-pub one_lacking : (n : Name) (v : Data) (ms : Members) (P Q : Path) {s : Shown} {r : Tree} → false ≡ has n (object ms) → HasErrors (fault (Required n) v Q P ∷ []) s
-    → r ≡ node_at P Q s → AreShown (refused (lacking_trees (n ∷ []) v (object ms) P Q)) (r ∷ [])
-one_lacking n v ms P Q e h place = some_lacking (n ∷ []) v (object ms) P Q (lacks_one (has n (object ms)) n e) (error_of_one (λ k. fault (Required k) v Q P) (has n (object ms)) n e h) place
-
-none_of_one : (b : Bool) (n : Name) → true ≡ b → false ≡ not (is_empty (put_if (not b) n []))
-none_of_one true n e = refl
-none_of_one false n e = cc
-
-pub not_lacking : (n : Name) (v : Data) (ms : Members) (P Q : Path) → true ≡ has n (object ms) → AreShown (refused (lacking_trees (n ∷ []) v (object ms) P Q)) []
-not_lacking n v ms P Q e = none_lacking (n ∷ []) v (object ms) P Q (none_of_one (has n (object ms)) n e)
+  pub one_lacking : {s r : Shown} {t : Tree} → false ≡ has n (object ms) → s ≡ shown true None [] [] → AddsErrors (fault (Required n) v Q P ∷ []) s r
+      → t ≡ node_at P Q r → AreShown (refused (lacking_trees (n ∷ []) v (object ms) P Q)) (t ∷ [])
+  one_lacking {s} {r} e none h place = some_lacking (n ∷ []) v (object ms) P Q (ap lacks_if e) none
+      (subst (λ b. AddsErrors (map (λ k. fault (Required k) v Q P) (put_if (not b) n [])) s r) e h) place
 
 pub same_lacking : {a b c d : Name} {P R Q S : Path} (v w : Data) (ts : List Tree) → a ≡ c → b ≡ d → P ≡ R → Q ≡ S → AreShown (refused (lacking_trees (a ∷ b ∷ []) v w P Q)) ts
     → AreShown (refused (lacking_trees (c ∷ d ∷ []) v w R S)) ts
 same_lacking v w ts e f g h = subst (λ l. AreShown (refused l) ts) (λ i. lacking_trees (e i ∷ f i ∷ []) v w (g i) (h i))
-
--- ---- an object that is to have no members
-
-module _ (v : Data) (P Q : Path) where
-  abbrev member_faults : List Fault
-  member_faults = unless (is_empty (members v)) FalseSchema v P Q
-
-  module _ {s : Shown} (b : Bool) (e : is_empty (members v) ≡ b) (h : HasErrors (unless b FalseSchema v P Q) s) where
-    members_like : IsLikeTree (erring P Q member_faults) (node_at P Q s)
-    members_like = subst (λ c. IsLikeTree (erring P Q (unless c FalseSchema v P Q)) (node_at P Q s)) (sym e) (erring_like P Q (unless b FalseSchema v P Q) h)
-
-    members_verdict : is_valid (node_at P Q s) ≡ is_empty (unless b FalseSchema v P Q)
-    members_verdict = erring_verdict P Q (unless b FalseSchema v P Q) h
-
-  pub no_member_like : {s : Shown} → is_empty (members v) ≡ true → s ≡ shown true None [] [] → IsLikeTree (erring P Q member_faults) (node_at P Q s)
-  no_member_like e h = members_like true e (no_error h)
-
-  pub no_member_verdict : {s : Shown} → is_empty (members v) ≡ true → s ≡ shown true None [] [] → is_valid (node_at P Q s) ≡ is_empty (members v)
-  no_member_verdict e h = members_verdict true e (no_error h) ∙ sym e
-
-  pub some_member_like : {s : Shown} → is_empty (members v) ≡ false → HasErrors (fault FalseSchema v Q P ∷ []) s → IsLikeTree (erring P Q member_faults) (node_at P Q s)
-  some_member_like e h = members_like false e h
-
-  pub some_member_verdict : {s : Shown} → is_empty (members v) ≡ false → HasErrors (fault FalseSchema v Q P ∷ []) s → is_valid (node_at P Q s) ≡ is_empty (members v)
-  some_member_verdict e h = members_verdict false e h ∙ sym e

@@ -1,18 +1,15 @@
 -- Members that are met because patterns match their names.
-use Rattle.std.proofs.Common.{◌≡◌, Bool, true, false, ◌&&◌, cond, List, [], ◌∷◌, ◌++◌, map, Some, None, append_assoc, refl, sym, ap, subst, ◌∙◌}
-use mathlib.Core.Path.{subst₂}
+use Rattle.std.proofs.Common.{◌≡◌, Bool, true, false, ◌&&◌, cond, List, [], ◌∷◌, ◌++◌, map, Some, None, refl, sym, ap, subst, ◌∙◌}
 use Rattle.std.specs.List.{flat_map, list_all}
 use Rattle.std.proofs.lemmas.List.{append-nil, map-append}
-use Rattle.std.proofs.lemmas.Grind.{flat_map-append}
 use Rattle.std.proofs.Math.Bool.{and-true}
 use Rattle.serde_json.specs.Data.{Data, Members, object}
 use Rattle.serde_json.specs.Find.{as_object}
 use Rattle.olk_spec.specs.Names.{Name, Path, ◌//◌, filter_once, put_if}
 use Rattle.olk_spec.specs.World.{Says}
 use Rattle.olk_spec.specs.Schemas.{listed, members, is_object}
-use Rattle.olk_spec.specs.Tree.{Tree, IsLikeTree, AreLikeTrees, trees_from, is_valid, result}
+use Rattle.olk_spec.specs.Tree.{Tree, is_valid, result}
 use Rattle.olk_base.specs.declared.pattern.CompiledPattern.{CompiledPattern}
-use Rattle.olk_base.specs.Lawful.{Asking}
 use Rattle.olk_tree.specs.Questions.{Question, always, conditional, every}
 use Rattle.olk_tree.specs.Matched.{is_match, matched, match_question}
 use Rattle.olk_tree.specs.PatternProperties.{matched_mean, patterns_mean}
@@ -21,67 +18,17 @@ use Rattle.olk_tree.specs.Visited.{Declared, declared_as}
 use Rattle.olk_tree.proofs.Questions.{every-flat_map}
 use Rattle.olk_tree.proofs.Members_met.{no_members, object_is}
 use Rattle.olk_tree.proofs.Patterns.{each_of_those, patterns_nothing}
-use Rattle.olk_check.specs.Asks.{OnlyAsks}
-use Rattle.olk_check.proofs.Asked.{only_then}
-use Rattle.olk_reports.specs.Evaluations.{Shown, shown, node_at, tree_of}
-use Rattle.olk_reports.specs.declared.evaluation.EvaluationNode.{EvaluationNode}
-use Rattle.olk_evaluate.specs.Wanted.{Wanted, IsShown, AreShown, trees_of}
-use Rattle.olk_evaluate.specs.Members.{MeetsMore, wanted_at}
+use Rattle.olk_reports.specs.Evaluations.{Shown, shown, node_at}
+use Rattle.olk_evaluate.specs.Wanted.{Wanted, IsShown, trees_of}
+use Rattle.olk_evaluate.specs.Members.{HasMet, MeetsMore, wanted_at}
 use Rattle.olk_evaluate.specs.Patterns.{match_here, matches_of, matches_of_all}
 use Rattle.olk_evaluate.specs.declared.properties.Met.{Met}
-use Rattle.olk_evaluate.proofs.Children.{trees_wanted, like_result, valid_shown, like_children, all_valid, all_wanted_valid}
-use Rattle.olk_evaluate.proofs.Members.{names_in, shown_append, wanted_each}
+use Rattle.olk_evaluate.proofs.Children.{trees_wanted, shown_as, result_shown, shows_nothing}
+use Rattle.olk_evaluate.proofs.Members.{names_in, wanted_each}
 
--- ---- more members, one after another
-
-module _ {N : Type 0} {want : Declared N → Wanted} where
-  pub meets_nothing : (a : Met) → MeetsMore want [] a a
-  meets_nothing a = record { names = sym (append-nil (names_in a)); added = []; children = sym (append-nil (trees_of a.children.items)); shown = tt }
-
-  meets_both : {ds es : List (Declared N)} {a b c : Met} → MeetsMore want ds a b → MeetsMore want es b c → MeetsMore want (ds ++ es) a c
-  meets_both {ds} {es} {a} h k = record {
-    names =
-        k.names ∙ ap (λ l. l ++ map (λ d. d.name) es) h.names ∙ append_assoc (names_in a) (map (λ d. d.name) ds) (map (λ d. d.name) es)
-        ∙ ap (λ l. names_in a ++ l) (sym (map-append (λ d. d.name) ds es));
-    added = h.added ++ k.added;
-    children = k.children ∙ ap (λ l. l ++ k.added) h.children ∙ append_assoc (trees_of a.children.items) h.added k.added;
-    shown = subst (λ ws. AreShown ws (h.added ++ k.added)) (sym (map-append want ds es)) (shown_append (map want ds) (map want es) h.added k.added h.shown k.shown);
-  }
-
-  pub meets_one : {a b : Met} (d : Declared N) (child : EvaluationNode) → names_in b ≡ names_in a ++ d.name ∷ [] → b.children.items ≡ a.children.items
-      ++ child ∷ [] → IsShown (want d) (tree_of child) → MeetsMore want (d ∷ []) a b
-  meets_one {a} d child names children is = record { names = names; added = tree_of child ∷ []; children = ap trees_of children ∙ map-append tree_of a.children.items (child ∷ []); shown = (is, tt) }
-
--- of all, some are done, whose members are met, and the rest is left; Q and R are the path at the start and now, a and b the context
-pub record Meeting {X N : Type 0} (want : Bool → Path → Declared N → Wanted) (g : Bool → X → List (Declared N)) (all rest : List X) (old new : Met) (Q R : Path) (a b : Asking) : Type 0 where
-  pub done : List X
-  pub split : done ++ rest ≡ all
-  pub met : MeetsMore (want a.answer Q) (flat_map (g a.answer) done) old new
-  pub path : R ≡ Q
-  pub only : OnlyAsks a b
-
-module _ {X N : Type 0} {want : Bool → Path → Declared N → Wanted} {g : Bool → X → List (Declared N)} {all : List X} {Q : Path} {a : Asking} where
-  pub meeting_from : {rest : List X} {old : Met} → rest ≡ all → OnlyAsks a a → Meeting want g all rest old old Q Q a a
-  meeting_from {old = old} whole same = record { done = []; split = whole; met = meets_nothing old; path = refl; only = same }
-
-  module _ {rest : List X} {old new : Met} {R : Path} {b : Asking} (loop : Meeting want g all rest old new Q R a b) where
-    pub meeting_more : {x : X} {more : List X} {newer : Met} {S : Path} {c : Asking} → rest ≡ x ∷ more → MeetsMore (want b.answer R) (g b.answer x) new newer
-        → S ≡ R → OnlyAsks b c → Meeting want g all more old newer Q S a c
-    meeting_more {x} {more} {newer} next found path only = record {
-      done = loop.done ++ x ∷ [];
-      split = append_assoc loop.done (x ∷ []) more ∙ ap (λ l. loop.done ++ l) (sym next) ∙ loop.split;
-      met =
-          subst (λ ds. MeetsMore (want a.answer Q) ds old newer) (ap (λ l. flat_map (g a.answer) loop.done ++ l) (sym (append-nil (g a.answer x)))
-          ∙ sym (flat_map-append (g a.answer) loop.done (x ∷ [])))
-          (meets_both loop.met (subst₂ (λ u P. MeetsMore (want u P) (g u x) new newer) loop.only.answer loop.path found));
-      path = path ∙ loop.path;
-      only = only_then loop.only only;
-    }
-
-    pub meeting_end : rest ≡ [] → MeetsMore (want a.answer Q) (flat_map (g a.answer) all) old new
-    meeting_end none = subst (λ l. MeetsMore (want a.answer Q) (flat_map (g a.answer) l) old new) (sym (append-nil loop.done) ∙ ap (λ l. loop.done ++ l) (sym none) ∙ loop.split) loop.met
-
--- ---- the tree
+pub nothing_each : {X B : Type 0} (xs : List X) → flat_map (λ x. let none : List B = [] in none) xs ≡ []
+nothing_each [] = refl
+nothing_each (x ∷ xs) = nothing_each xs
 
 pub no_object : (v : Data) → None ≡ as_object v → is_object v ≡ false
 no_object (object ms) e = cc
@@ -136,54 +83,25 @@ module _ {R N : Type 0} (answers : R → Name → Says) (t : N → Bool → Data
 
   module _ (es : List (CompiledPattern R × N)) where
     -- of what is no object
-    module _ (v : Data) (none : None ≡ as_object v) {s : Shown} (h : s ≡ shown true None [] []) where
-      no_trees : match_trees (λ n. t n u) v Q answers u es ≡ []
-      no_trees =
-          (λ i. flat_map (λ (e : CompiledPattern R × N). map (λ (x : Name × Data). t e.1 u x.1 (Q // x.0)) (filter_once (λ x. is_match answers u e.0 x.0) (no_members v none i))) es) ∙ nothing_each es
-        where
-          nothing_each : (xs : List (CompiledPattern R × N)) → flat_map (λ e. let none : List Tree = [] in none) xs ≡ []
-          nothing_each [] = refl
-          nothing_each (x ∷ xs) = nothing_each xs
-
-      pub other_shown : (costs : R → Bool) (P : Path) → IsShown (patterns_tree (λ n. t n u) v Q answers u P es, (patterns_mean answers costs m es v).accepts u) (node_at P Q s)
-      other_shown costs P = record {
-        like = subst (λ r. IsLikeTree (patterns_tree (λ n. t n u) v Q answers u P es) (node_at P Q r)) (sym h)
-            (subst (λ w. IsLikeTree w (node_at P Q (shown true None [] [])))
-            (λ i. result P Q (cond (sym (no_object v none) i) (Some (match_names (λ n. t n u) v Q answers u es)) None) false [] (sym no_trees i)) (refl, refl, refl, refl, tt, tt));
-        verdict = valid_shown P Q s true None [] [] h ∙ sym (ap (λ q. q.accepts u) (patterns_nothing answers v none costs m es));
-      }
+    pub other_shown : (v : Data) → None ≡ as_object v → {s : Shown} → s ≡ shown true None [] [] → (costs : R → Bool) (P : Path)
+        → IsShown (patterns_tree (λ n. t n u) v Q answers u P es, (patterns_mean answers costs m es v).accepts u) (node_at P Q s)
+    other_shown v none h costs P = shows_nothing P Q h
+        (λ i. result P Q (cond (no_object v none i) (Some (match_names (λ n. t n u) v Q answers u es)) None) false [] (no_trees i)) (ap (λ q. q.accepts u) (patterns_nothing answers v none costs m es))
+      where
+        no_trees : match_trees (λ n. t n u) v Q answers u es ≡ []
+        no_trees =
+            (λ i. flat_map (λ (e : CompiledPattern R × N). map (λ (x : Name × Data). t e.1 u x.1 (Q // x.0)) (filter_once (λ x. is_match answers u e.0 x.0) (no_members v none i))) es)
+            ∙ nothing_each es
 
     -- of an object
-    module _ (v : Data) (ms : Members) (is : Some ms ≡ as_object v) (empty met : Met) (none : empty.names.items ≡ []) (no_child : empty.children.items ≡ [])
-        (h : MeetsMore (wanted_at t m u Q) (matches_of_all answers u es (object ms)) empty met)
-        {s : Shown} (e : s ≡ shown (list_all is_valid (trees_of met.children.items)) (Some (names_in met)) [] (trees_of met.children.items)) where
-      abbrev wants : List Wanted
-      wants = map (wanted_at t m u Q) (matches_of_all answers u es (object ms))
-
-      names_met : names_in met ≡ match_names (λ n. t n u) (object ms) Q answers u es
-      names_met = h.names ∙ ap (λ l. map (λ n. n.now) l ++ map (λ d. d.name) (matches_of_all answers u es (object ms))) none ∙ names_of_all (object ms) es
-
-      children_shown : AreShown wants (trees_of met.children.items)
-      children_shown = subst (AreShown wants) (sym (h.children ∙ ap (λ l. trees_of l ++ h.added) no_child)) h.shown
-
-      pub patterns_shown : (costs : R → Bool) (P : Path) → IsShown (patterns_tree (λ n. t n u) v Q answers u P es, (patterns_mean answers costs m es v).accepts u) (node_at P Q s)
-      patterns_shown costs P = record {
-        like =
-            subst (λ w. IsLikeTree (patterns_tree (λ n. t n u) w Q answers u P es) (node_at P Q s)) (object_is v ms is)
-            (subst (λ r. IsLikeTree (patterns_tree (λ n. t n u) (object ms) Q answers u P es) (node_at P Q r)) (sym e)
-            (like_result P Q (list_all is_valid (match_trees (λ n. t n u) (object ms) Q answers u es)) (list_all is_valid (trees_of met.children.items))
-            (Some (match_names (λ n. t n u) (object ms) Q answers u es)) (Some (names_in met)) [] []
-            (trees_from (match_trees (λ n. t n u) (object ms) Q answers u es)) (trees_from (trees_of met.children.items))
-            (all_wanted_valid wants (trees_of met.children.items) children_shown ∙ ap (list_all is_valid) (trees_of_all (object ms) es))
-            (ap Some names_met) tt
-            (subst (λ ts. AreLikeTrees (trees_from ts) (trees_from (trees_of met.children.items))) (trees_of_all (object ms) es) (like_children wants (trees_of met.children.items) children_shown))));
-        verdict =
-            valid_shown P Q s (list_all is_valid (trees_of met.children.items)) (Some (names_in met)) [] (trees_of met.children.items) e
-            ∙ all_valid wants (trees_of met.children.items) children_shown
-            ∙ wanted_each t m u Q (matches_of_all answers u es (object ms))
-            ∙ patterns_accepted (object ms) costs es
-            ∙ ap (λ w. (patterns_mean answers costs m es w).accepts u) (object_is v ms is);
-      }
+    pub patterns_shown : (v : Data) (ms : Members) → Some ms ≡ as_object v → {met : Met} → HasMet (wanted_at t m u Q) (matches_of_all answers u es (object ms)) met → (costs : R → Bool) (P : Path)
+        → {s : Shown} → s ≡ shown (list_all is_valid (trees_of met.children.items)) (Some (names_in met)) [] (trees_of met.children.items)
+        → IsShown (patterns_tree (λ n. t n u) v Q answers u P es, (patterns_mean answers costs m es v).accepts u) (node_at P Q s)
+    patterns_shown v ms is {met} h costs P e = shown_as
+        (result_shown P Q (Some (names_in met)) false [] [] (map (wanted_at t m u Q) (matches_of_all answers u es (object ms))) (trees_of met.children.items) e tt h.shown)
+        ((λ i. result P Q (Some ((h.names ∙ names_of_all (object ms) es) i)) false [] (trees_of_all (object ms) es i))
+        ∙ ap (λ w. patterns_tree (λ n. t n u) w Q answers u P es) (object_is v ms is))
+        (wanted_each t m u Q (matches_of_all answers u es (object ms)) ∙ patterns_accepted (object ms) costs es ∙ ap (λ w. (patterns_mean answers costs m es w).accepts u) (object_is v ms is))
 
 -- ---- one pattern
 

@@ -7,13 +7,13 @@ use Rattle.olk_spec.specs.Names.{Name, Path, ◌//◌, put_if, is_empty}
 use Rattle.olk_spec.specs.World.{Says}
 use Rattle.olk_spec.specs.Faults.{Fault, fault, AdditionalProperties}
 use Rattle.olk_spec.specs.Reports.{unexpected_faults}
-use Rattle.olk_spec.specs.Tree.{Tree, node, no_tree, Described, AreTold, described}
-use Rattle.olk_reports.specs.Evaluations.{Shown, annotated, errored}
+use Rattle.olk_spec.specs.Tree.{Tree, node, no_tree}
+use Rattle.olk_reports.specs.Evaluations.{Shown, annotated}
 use Rattle.olk_tree.specs.Questions.{Question}
 use Rattle.olk_tree.specs.Additional.{matching_from, at_name, sides_of, has_neighbours, required_text, required_place}
 use Rattle.olk_tree.specs.declared.additional_properties.AdditionalProperties as validator
 use Rattle.olk_reports.specs.declared.evaluation.EvaluationNode.{EvaluationNode}
-use Rattle.olk_evaluate.specs.Wanted.{Wanted, AreShown, wanted, refused, lacking_trees, trees_of}
+use Rattle.olk_evaluate.specs.Wanted.{Wanted, AreShown, wanted, refused, lacking_trees, trees_of, AddsErrors}
 use Rattle.olk_evaluate.specs.declared.additional_members.Collected.{Collected}
 
 abbrev pub names_of : List (Bor (List ℕ)) → List Name
@@ -105,16 +105,6 @@ pub record HasPlaces {R N : Type 0} (k : validator.AdditionalProperties R N) (ns
 abbrev pub annotated_if : Option (List Name) → Shown → Shown
 annotated_if None s = s
 annotated_if (Some ns) s = annotated ns s
-
-abbrev pub errored_by : List Described → Shown → Shown
-errored_by [] s = s
-errored_by (d ∷ ds) s = errored_by ds (errored d s)
-
--- own errors more, which show faults
-pub record AddsErrors (fs : List Fault) (old new : Shown) : Type 0 where
-  pub own : List Described
-  pub told : AreTold (described fs) own
-  pub is : new ≡ errored_by own old
 
 -- names that are not expected, told by name
 abbrev pub named_faults : List Name → Data → Path → Path → List Fault

@@ -1,3 +1,4 @@
+pub mod Shows
 pub mod Wanted
 pub mod Members
 pub mod Patterns

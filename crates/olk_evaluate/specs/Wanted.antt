@@ -5,10 +5,12 @@ use Rattle.olk_spec.specs.Names.{Name, Text, Path, put_if, is_empty}
 use Rattle.olk_spec.specs.Faults.{Fault, fault, Required}
 use Rattle.olk_spec.specs.Tree.{Tree, IsLikeTree, is_valid, Described, AreTold, described, described_fault, plain, erring}
 use Rattle.olk_spec.specs.Accepts.{missing}
-use Rattle.olk_reports.specs.Evaluations.{Shown, shown, tree_of, node_at}
+use Rattle.olk_reports.specs.Evaluations.{Shown, shown, errored, tree_of, node_at}
 use Rattle.olk_reports.specs.declared.evaluation.EvaluationNode.{EvaluationNode}
+use Rattle.olk_tree.specs.Bodies.{body_means, body_tree}
 use Rattle.olk_tree.specs.Questions.{Question, every}
 use Rattle.olk_tree.specs.Shown.{branch_trees}
+use Rattle.olk_tree.specs.declared.node.Body.{Body}
 
 -- a tree, and whether it is to be valid
 abbrev pub Wanted : Type 0
@@ -56,11 +58,15 @@ pub record IsDescribedBy (f : Fault) (d : Described) : Type 0 where
   pub keyword : d.0 ≡ (described_fault f).0
   pub text : (described_fault f).2 ≡ false → d.1 ≡ (described_fault f).1
 
--- own errors, and nothing else
-pub record HasErrors (fs : List Fault) (s : Shown) : Type 0 where
+abbrev pub errored_by : List Described → Shown → Shown
+errored_by [] s = s
+errored_by (d ∷ ds) s = errored_by ds (errored d s)
+
+-- own errors more, which show faults
+pub record AddsErrors (fs : List Fault) (old new : Shown) : Type 0 where
   pub own : List Described
-  pub is : s ≡ shown (is_empty fs) None own []
   pub told : AreTold (described fs) own
+  pub is : new ≡ errored_by own old
 
 module _ {N : Type 0} (t : N → Bool → Data → Path → Tree) (m : N → Data → Question) (u : Bool) where
   -- what a node is to show of a value at a path
@@ -75,9 +81,12 @@ module _ {N : Type 0} (t : N → Bool → Data → Path → Tree) (m : N → Dat
   names_wanted n Q ms = map (λ m. wanted n (string m.0) Q) ms
 
   -- what each of these nodes shows, and nothing else
-  pub record ShowsEach (ns : List N) (v : Data) (Q : Path) (s : Shown) : Type 0 where
-    pub tree : (P : Path) → IsLikeTree (plain P Q (branch_trees (λ n. t n u) v Q ns)) (node_at P Q s)
-    pub verdict : (P : Path) → is_valid (node_at P Q s) ≡ (every (λ n. m n v) ns).accepts u
+  abbrev pub ShowsEach : List N → Data → Path → Shown → Type 0
+  ShowsEach ns v Q s = (P : Path) → IsShown (plain P Q (branch_trees (λ n. t n u) v Q ns), (every (λ n. m n v) ns).accepts u) (node_at P Q s)
+
+  -- what a body shows
+  abbrev pub ShowsBody : Body N → Data → Path → Shown → Type 0
+  ShowsBody b v Q s = (P : Path) → IsShown (body_tree (λ n. t n u) P b v Q, (body_means m b v).accepts u) (node_at P Q s)
 
 -- trees that are to be invalid
 abbrev pub refused : List Tree → List Wanted

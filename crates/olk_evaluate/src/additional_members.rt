@@ -6,8 +6,8 @@ ghost use Rattle.olk_spec.specs.Schemas.{listed};
 ghost use Rattle.olk_spec.specs.World.{reads_as};
 ghost use Rattle.olk_tree.specs.Additional.{known_or};
 ghost use Rattle.olk_tree.specs.Tables.{known_says};
-ghost use Rattle.olk_check.specs.Asks.{OnlyAsks};
 ghost use Rattle.olk_evaluate.specs.Additional.{Collects, CollectsMore, declared_found, match_found, rest_found, member_found, members_found, names_of};
+ghost use Rattle.olk_evaluate.specs.Shows.{Shows};
 
 use crate::Show;
 use crate::properties::add_child_below;
@@ -64,11 +64,9 @@ pub(crate) fn collect<'a, R: RegexEngine, N: Show<'a>>(
     path: &mut InstancePath,
     ctx: &mut ValidationContext,
 ) -> Result<Collected<'a>, AllocError>
-    ensures collected { IfOk result (λ c. Collects
+    ensures { Shows result path.old path.new ctx.old ctx.new (λ c. Collects
         (members_found R.answers N.tree N.means ctx.old.answer path.old keyword.now
         (listed (members_view members.now.entries))) c) }
-    ensures path { path.new ≡ path.old }
-    ensures context { OnlyAsks ctx.old ctx.new }
 {
     let mut collected: Collected<'a> = Collected::with_capacity(alloc, members.len())?;
     let mut hint = 0;
@@ -102,12 +100,10 @@ fn collect_member<'a, R: RegexEngine, N: Show<'a>>(
     ctx: &mut ValidationContext,
     collected: &mut Collected<'a>,
 ) -> Result<(), AllocError>
-    ensures collected { OnOk result (CollectsMore
+    ensures { Shows result path.old path.new ctx.old ctx.new (λ _. CollectsMore
         (member_found R.answers N.tree N.means ctx.old.answer path.old keyword.now
         (option_map (λ f. (f.0, f.1.now)) declared.entry) name.now (view value.now))
         collected.old collected.new) }
-    ensures path { path.new ≡ path.old }
-    ensures context { OnlyAsks ctx.old ctx.new }
 {
     collect_declared(alloc, declared, name, value, path, ctx, collected)?;
     let are_shown = keyword.properties.is_none();
@@ -136,12 +132,10 @@ fn collect_declared<'a, N: Show<'a>>(
     ctx: &mut ValidationContext,
     collected: &mut Collected<'a>,
 ) -> Result<(), AllocError>
-    ensures collected { OnOk result (CollectsMore
+    ensures { Shows result path.old path.new ctx.old ctx.new (λ _. CollectsMore
         (declared_found N.tree N.means ctx.old.answer path.old name.now (view value.now)
         (option_map (λ f. (f.0, f.1.now)) declared.entry))
         collected.old collected.new) }
-    ensures path { path.new ≡ path.old }
-    ensures context { OnlyAsks ctx.old ctx.new }
 {
     match declared {
         Some((_, subschema)) => {
@@ -172,13 +166,11 @@ fn collect_if_matched<'a, R: RegexEngine, N: Show<'a>>(
     ctx: &mut ValidationContext,
     collected: &mut Collected<'a>,
 ) -> Result<bool, AllocError>
-    ensures verdict { IfOk result (λ b. b ≡ reads_as ctx.old.answer
-        (known_or (known_says known) (pattern_answers R.answers entry.now.0 name.now))) }
-    ensures collected { IfOk result (λ b. CollectsMore
-        (match_found N.tree N.means ctx.old.answer path.old name.now (view value.now)
-        is_shown entry.now.1 b) collected.old collected.new) }
-    ensures path { path.new ≡ path.old }
-    ensures context { OnlyAsks ctx.old ctx.new }
+    ensures { Shows result path.old path.new ctx.old ctx.new (λ b.
+        b ≡ reads_as ctx.old.answer
+        (known_or (known_says known) (pattern_answers R.answers entry.now.0 name.now))
+        × CollectsMore (match_found N.tree N.means ctx.old.answer path.old
+        name.now (view value.now) is_shown entry.now.1 b) collected.old collected.new) }
 {
     if !matches_unless_known(known, &entry.0, name, ctx) {
         return Ok(false);
@@ -208,11 +200,9 @@ fn collect_additional<'a, N: Show<'a>>(
     ctx: &mut ValidationContext,
     collected: &mut Collected<'a>,
 ) -> Result<(), AllocError>
-    ensures collected { OnOk result (CollectsMore
+    ensures { Shows result path.old path.new ctx.old ctx.new (λ _. CollectsMore
         (rest_found N.tree N.means ctx.old.answer path.old name.now (view value.now) rest.now)
         collected.old collected.new) }
-    ensures path { path.new ≡ path.old }
-    ensures context { OnlyAsks ctx.old ctx.new }
 {
     collected.additional.push(name)?;
     match rest {

@@ -9,8 +9,8 @@ ghost use Rattle.olk_spec.specs.Schemas.{listed};
 ghost use Rattle.olk_reports.specs.Evaluations.{shown_of};
 ghost use Rattle.olk_tree.specs.Additional.{has_neighbours, required_text, required_place};
 ghost use Rattle.olk_tree.specs.Visited.{object_of};
-ghost use Rattle.olk_evaluate.specs.Additional.{matches_shown, names_of, annotated_if, rest_annotation, AddsErrors, named_faults, faults_without_rest, Completes, HasPlaces};
-ghost use Rattle.olk_evaluate.specs.Wanted.{AddsShown, AddsTrees, refused, lacking_trees};
+ghost use Rattle.olk_evaluate.specs.Additional.{matches_shown, names_of, annotated_if, rest_annotation, named_faults, faults_without_rest, Completes, HasPlaces};
+ghost use Rattle.olk_evaluate.specs.Wanted.{AddsErrors, AddsShown, AddsTrees, refused, lacking_trees};
 
 use crate::Show;
 use crate::additional_members::collect;
@@ -38,7 +38,6 @@ impl<'a, R: RegexEngine, N: Show<'a>> Show<'a> for AdditionalProperties<R, N> {
     ghost tree = { λ k. (additional_properties_answers R.answers R.costs k).tree N.means N.tree };
 
     #[inline(never)]
-    #[tactic(auto, using(olk_check::proofs::Asked::only_same))]
     fn show(
         &'a self,
         alloc: Global,

@@ -1,8 +1,7 @@
 //! `anyOf`: what it shows.
-ghost use Rattle.std.specs.Prelude.{◌≡◌, IfOk};
 ghost use Rattle.olk_base.specs.Nodes.{data_of};
 ghost use Rattle.olk_spec.specs.Names.{filter_once};
-ghost use Rattle.olk_check.specs.Asks.{OnlyAsks};
+ghost use Rattle.olk_evaluate.specs.Shows.{Shows};
 ghost use Rattle.olk_evaluate.specs.Wanted.{AreShown, each_wanted, trees_of};
 
 use crate::Show;
@@ -69,12 +68,11 @@ pub(crate) fn accepting_children<'a, N: Show<'a>>(
     path: &mut InstancePath,
     ctx: &mut ValidationContext,
 ) -> Result<Vec<EvaluationNode<'a>>, AllocError>
-    ensures shown { IfOk result (λ cs. AreShown
-        (filter_once (λ w. w.1)
-        (each_wanted N.tree N.means ctx.old.answer schemas.now.items (data_of node.entry) path.old))
+    ensures { Shows result path.old path.new ctx.old ctx.new (λ cs. AreShown
+        (each_wanted N.tree N.means ctx.old.answer
+        (filter_once (λ n. (N.means n (data_of node.entry)).accepts ctx.old.answer)
+        schemas.now.items) (data_of node.entry) path.old)
         (trees_of cs.items)) }
-    ensures path { path.new ≡ path.old }
-    ensures context { OnlyAsks ctx.old ctx.new }
 {
     let mut children: Vec<EvaluationNode<'a>> = Vec::new(alloc);
     for schema in schemas {

@@ -1,10 +1,10 @@
 //! `dependentRequired`, `dependentSchemas` and `dependencies`: what they show.
-ghost use Rattle.std.specs.Prelude.{◌≡◌, IfOk};
+ghost use Rattle.std.specs.Prelude.{◌≡◌};
 ghost use Rattle.olk_base.specs.Nodes.{data_of};
 ghost use Rattle.olk_tree.specs.Maps.{named};
 ghost use Rattle.olk_tree.specs.Dependencies.{due_nodes};
 ghost use Rattle.olk_tree.specs.Visited.{object_of};
-ghost use Rattle.olk_check.specs.Asks.{OnlyAsks};
+ghost use Rattle.olk_evaluate.specs.Shows.{Shows};
 ghost use Rattle.olk_evaluate.specs.Wanted.{AreShown, each_wanted, trees_of};
 
 use crate::Show;
@@ -25,7 +25,6 @@ impl<'a, N: Show<'a>> Show<'a> for Dependencies<N> {
     ghost tree = { λ k. (dependencies_answers k).tree N.means N.tree };
 
     #[inline(never)]
-    #[tactic(auto, using(olk_check::proofs::Asked::only_same))]
     fn show(
         &'a self,
         alloc: Global,
@@ -55,12 +54,10 @@ fn due_children<'a, N: Show<'a>>(
     ctx: &mut ValidationContext,
 ) -> Result<Vec<EvaluationNode<'a>>, AllocError>
     requires { data_of object ≡ object_of members.now.entries }
-    ensures shown { IfOk result (λ cs. AreShown
+    ensures { Shows result path.old path.new ctx.old ctx.new (λ cs. AreShown
         (each_wanted N.tree N.means ctx.old.answer
         (due_nodes (named dependencies.now) (data_of object.entry)) (data_of object.entry) path.old)
         (trees_of cs.items)) }
-    ensures path { path.new ≡ path.old }
-    ensures context { OnlyAsks ctx.old ctx.new }
 {
     let mut children: Vec<EvaluationNode<'a>> = Vec::new(alloc);
     for (_, dependency, _) in dependencies.declared_members(members) {

@@ -1,8 +1,8 @@
 //! `if`, `then` and `else`: what they show.
-ghost use Rattle.std.specs.Prelude.{◌≡◌, ◌∷◌, [], OnOk};
+ghost use Rattle.std.specs.Prelude.{◌≡◌, ◌∷◌, []};
 ghost use Rattle.olk_base.specs.Nodes.{data_of};
-ghost use Rattle.olk_check.specs.Asks.{OnlyAsks};
 ghost use Rattle.olk_reports.specs.Evaluations.{nothing_shown, shown_of};
+ghost use Rattle.olk_evaluate.specs.Shows.{Shows};
 ghost use Rattle.olk_evaluate.specs.Wanted.{ShowsEach};
 
 use crate::Show;
@@ -110,10 +110,9 @@ fn show_both<'a, N: Show<'a>>(
     outcome: &mut EvaluationResult<'a>,
 ) -> Result<(), AllocError>
     requires { shown_of outcome.old ≡ nothing_shown }
-    ensures shown { OnOk result (ShowsEach N.tree N.means ctx.old.answer
+    ensures { Shows result path.old path.new ctx.old ctx.new (λ _. ShowsEach
+        N.tree N.means ctx.old.answer
         (first.now ∷ second.now ∷ []) (data_of node.entry) path.old (shown_of outcome.new)) }
-    ensures path { path.new ≡ path.old }
-    ensures context { OnlyAsks ctx.old ctx.new }
 {
     let mut children: Vec<EvaluationNode<'a>> = Vec::with_capacity(alloc, 2)?;
     add_child(alloc, first, node, path, ctx, &mut children)?;

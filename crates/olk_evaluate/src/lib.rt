@@ -25,12 +25,13 @@ pub trait Located {
 
 /// What writes what it shows of a value, which stands at its place.
 pub trait Show<'a>: Located + IsValid {
-    ghost use Rattle.std.specs.Prelude.{◌≡◌, Bool, OnOk};
+    ghost use Rattle.std.specs.Prelude.{◌≡◌, Bool};
     ghost use Rattle.olk_base.specs.Nodes.{data_of};
     ghost use Rattle.olk_spec.specs.Names.{Path};
-    ghost use Rattle.olk_spec.specs.Tree.{Tree, IsLikeTree, is_valid};
+    ghost use Rattle.olk_spec.specs.Tree.{Tree};
     ghost use Rattle.olk_reports.specs.Evaluations.{node_at, nothing_shown, shown_of};
-    ghost use Rattle.olk_check.specs.Asks.{OnlyAsks};
+    ghost use Rattle.olk_evaluate.specs.Shows.{Shows};
+    ghost use Rattle.olk_evaluate.specs.Wanted.{IsShown, wanted};
 
     // the tree that it shows of a value, with either answer for unfinished matches
     ghost tree: { Self → Bool → Data → Path → Tree };
@@ -54,14 +55,9 @@ pub trait Show<'a>: Located + IsValid {
         outcome: &mut EvaluationResult<'a>,
     ) -> Result<(), AllocError>
         requires { shown_of outcome.old ≡ nothing_shown }
-        ensures tree { OnOk result (IsLikeTree
-            (tree self.now ctx.old.answer (data_of node.entry) path.old)
-            (node_at (Self.place self.now) path.old (shown_of outcome.new))) }
-        ensures verdict { OnOk result (
-            is_valid (node_at (Self.place self.now) path.old (shown_of outcome.new))
-            ≡ (Self.means self.now (data_of node.entry)).accepts ctx.old.answer) }
-        ensures path { path.new ≡ path.old }
-        ensures context { OnlyAsks ctx.old ctx.new };
+        ensures { Shows result path.old path.new ctx.old ctx.new (λ _. IsShown
+            (wanted tree Self.means ctx.old.answer self.now (data_of node.entry) path.old)
+            (node_at (Self.place self.now) path.old (shown_of outcome.new))) };
 }
 
 /// What can be asked what it shows of a value: all that shows.

@@ -1,12 +1,9 @@
 //! Keywords and bodies: what they show.
 ghost use Rattle.std.specs.Prelude.{◌≡◌, OnOk};
 ghost use Rattle.olk_base.specs.Nodes.{data_of};
-ghost use Rattle.olk_spec.specs.Names.{Path};
-ghost use Rattle.olk_spec.specs.Tree.{IsLikeTree, is_valid};
-ghost use Rattle.olk_reports.specs.Evaluations.{node_at, nothing_shown, shown_of};
-ghost use Rattle.olk_tree.specs.Bodies.{body_means, body_tree};
-ghost use Rattle.olk_check.specs.Asks.{OnlyAsks};
-ghost use Rattle.olk_evaluate.specs.Wanted.{HasTexts};
+ghost use Rattle.olk_reports.specs.Evaluations.{nothing_shown, shown_of};
+ghost use Rattle.olk_evaluate.specs.Shows.{Shows};
+ghost use Rattle.olk_evaluate.specs.Wanted.{HasTexts, ShowsBody};
 
 use crate::Show;
 use crate::own::add_own_error;
@@ -25,7 +22,6 @@ impl<'a, K: Leaf, R: RegexEngine, N: Show<'a>> Show<'a> for KeywordOver<K, R, N>
 
     ghost tree = { λ k. (answers_of (kit K.Leaf R.RegexEngine) k).tree N.means N.tree };
 
-    #[tactic(auto, using(olk_check::proofs::Asked::only_same), unfolding(olk_tree::specs::Validators::answers_of))]
     fn show(
         &'a self,
         alloc: Global,
@@ -114,7 +110,6 @@ fn add_texts<'a, K: Leaf>(
 /// # Errors
 ///
 /// Out of memory.
-#[tactic(auto, using(olk_check::proofs::Asked::only_same))]
 pub fn show_body<'a, W: Show<'a>>(
     alloc: Global,
     body: &'a Body<W>,
@@ -124,13 +119,9 @@ pub fn show_body<'a, W: Show<'a>>(
     outcome: &mut EvaluationResult<'a>,
 ) -> Result<(), AllocError>
     requires { shown_of outcome.old ≡ nothing_shown }
-    ensures tree { OnOk result ((P : Path) → IsLikeTree
-        (body_tree (λ k. W.tree k ctx.old.answer) P body.now (data_of node.entry) path.old)
-        (node_at P path.old (shown_of outcome.new))) }
-    ensures verdict { OnOk result ((P : Path) → is_valid (node_at P path.old (shown_of outcome.new))
-        ≡ (body_means W.means body.now (data_of node.entry)).accepts ctx.old.answer) }
-    ensures path { path.new ≡ path.old }
-    ensures context { OnlyAsks ctx.old ctx.new }
+    ensures { Shows result path.old path.new ctx.old ctx.new (λ _. ShowsBody
+        W.tree W.means ctx.old.answer
+        body.now (data_of node.entry) path.old (shown_of outcome.new)) }
 {
     match body {
         Body::True => Ok(()),

@@ -1,12 +1,12 @@
 //! The errors that a keyword shows itself.
-ghost use Rattle.std.specs.Prelude.{◌≡◌, ◌++◌, ◌∷◌, [], List, IfOk, OnOk};
+ghost use Rattle.std.specs.Prelude.{◌≡◌, ◌∷◌, [], IfOk, OnOk};
 ghost use Rattle.olk_base.specs.Nodes.{data_of};
 ghost use Rattle.olk_spec.specs.Names.{Path};
-ghost use Rattle.olk_spec.specs.Faults.{Fault, fault};
+ghost use Rattle.olk_spec.specs.Faults.{fault};
 ghost use Rattle.olk_spec.specs.Texts.{keyword as keyword_name};
 ghost use Rattle.olk_reports.specs.Errors.{kind_of, fault_of};
 ghost use Rattle.olk_reports.specs.Evaluations.{described_of, shown_of};
-ghost use Rattle.olk_evaluate.specs.Wanted.{HasErrors, IsDescribedBy};
+ghost use Rattle.olk_evaluate.specs.Wanted.{AddsErrors, IsDescribedBy};
 
 use olk_base::Node;
 use olk_reports::{ErrorDescription, EvaluationResult, ValidationError, ValidationErrorKind};
@@ -62,10 +62,9 @@ pub(crate) fn add_own_error<'a>(
     kind: ValidationErrorKind<'a>,
     node: Node<'a>,
 ) -> Result<(), AllocError>
-    ensures { OnOk result ((before : List Fault) (P Q : Path) →
-        HasErrors before (shown_of outcome.old) →
-        HasErrors (before ++ fault (kind_of kind.entry) (data_of node.entry) Q P ∷ [])
-        (shown_of outcome.new)) }
+    ensures { OnOk result ((P Q : Path) → AddsErrors
+        (fault (kind_of kind.entry) (data_of node.entry) Q P ∷ [])
+        (shown_of outcome.old) (shown_of outcome.new)) }
 {
     outcome.mark_errored(own_error(alloc, kind, node)?)
 }

@@ -1,10 +1,9 @@
 //! `patternProperties`: what it shows.
-ghost use Rattle.std.specs.Prelude.{◌≡◌, OnOk};
 ghost use Rattle.serde_json.specs.View.{view};
 ghost use Rattle.olk_tree.specs.Visited.{object_of};
-ghost use Rattle.olk_check.specs.Asks.{OnlyAsks};
 ghost use Rattle.olk_evaluate.specs.Members.{MeetsMore, wanted_at};
 ghost use Rattle.olk_evaluate.specs.Patterns.{match_here, matches_of, matches_of_all};
+ghost use Rattle.olk_evaluate.specs.Shows.{Shows};
 
 use crate::Show;
 use crate::properties::{Met, meet_member};
@@ -24,7 +23,6 @@ impl<'a, R: RegexEngine, N: Show<'a>> Show<'a> for PatternProperties<R, N> {
     ghost tree = { λ k. (pattern_properties_answers R.answers R.costs k).tree N.means N.tree };
 
     #[inline(never)]
-    #[tactic(auto, using(olk_check::proofs::Asked::only_same))]
     fn show(
         &'a self,
         alloc: Global,
@@ -54,7 +52,6 @@ impl<'a, R: RegexEngine, N: Show<'a>> Show<'a> for SingleValuePatternProperties<
         (single_pattern_properties_answers R.answers R.costs k).tree N.means N.tree };
 
     #[inline(never)]
-    #[tactic(auto, using(olk_check::proofs::Asked::only_same))]
     fn show(
         &'a self,
         alloc: Global,
@@ -84,11 +81,10 @@ fn meet_patterns<'a, R: RegexEngine, N: Show<'a>>(
     ctx: &mut ValidationContext,
     met: &mut Met<'a>,
 ) -> Result<(), AllocError>
-    ensures met { OnOk result (MeetsMore (wanted_at N.tree N.means ctx.old.answer path.old)
+    ensures { Shows result path.old path.new ctx.old ctx.new (λ _. MeetsMore
+        (wanted_at N.tree N.means ctx.old.answer path.old)
         (matches_of_all R.answers ctx.old.answer
         patterns.now.items (object_of members.now.entries)) met.old met.new) }
-    ensures path { path.new ≡ path.old }
-    ensures context { OnlyAsks ctx.old ctx.new }
 {
     for entry in patterns {
         meet_matched(alloc, &entry.0, &entry.1, members, path, ctx, met)?;
@@ -106,11 +102,10 @@ fn meet_matched<'a, R: RegexEngine, N: Show<'a>>(
     ctx: &mut ValidationContext,
     met: &mut Met<'a>,
 ) -> Result<(), AllocError>
-    ensures met { OnOk result (MeetsMore (wanted_at N.tree N.means ctx.old.answer path.old)
+    ensures { Shows result path.old path.new ctx.old ctx.new (λ _. MeetsMore
+        (wanted_at N.tree N.means ctx.old.answer path.old)
         (matches_of R.answers ctx.old.answer
         pattern.now subschema.now (object_of members.now.entries)) met.old met.new) }
-    ensures path { path.new ≡ path.old }
-    ensures context { OnlyAsks ctx.old ctx.new }
 {
     for (name, value) in members {
         meet_if_matched(
@@ -138,11 +133,10 @@ fn meet_if_matched<'a, R: RegexEngine, N: Show<'a>>(
     ctx: &mut ValidationContext,
     met: &mut Met<'a>,
 ) -> Result<(), AllocError>
-    ensures met { OnOk result (MeetsMore (wanted_at N.tree N.means ctx.old.answer path.old)
+    ensures { Shows result path.old path.new ctx.old ctx.new (λ _. MeetsMore
+        (wanted_at N.tree N.means ctx.old.answer path.old)
         (match_here R.answers ctx.old.answer
         pattern.now subschema.now name.now (view value.now)) met.old met.new) }
-    ensures path { path.new ≡ path.old }
-    ensures context { OnlyAsks ctx.old ctx.new }
 {
     if !matches(pattern, name, ctx) {
         return Ok(());

@@ -1,5 +1,5 @@
 //! `properties`: what it shows.
-ghost use Rattle.std.specs.Prelude.{◌≡◌, [], IfOk, OnOk};
+ghost use Rattle.std.specs.Prelude.{◌≡◌, [], IfOk};
 ghost use Rattle.std.specs.List.{list_all, zip};
 ghost use Rattle.serde_json.specs.View.{view, members_view};
 ghost use Rattle.olk_spec.specs.Schemas.{listed};
@@ -7,8 +7,8 @@ ghost use Rattle.olk_spec.specs.Tree.{is_valid};
 ghost use Rattle.olk_paths.specs.Paths.{one_below};
 ghost use Rattle.olk_tree.specs.Properties.{properties_mean};
 ghost use Rattle.olk_tree.specs.Visited.{declared_as, members_declared, object_of};
-ghost use Rattle.olk_check.specs.Asks.{OnlyAsks};
 ghost use Rattle.olk_evaluate.specs.Members.{HasMet, MeetsMore, wanted_at};
+ghost use Rattle.olk_evaluate.specs.Shows.{Shows};
 ghost use Rattle.olk_evaluate.specs.Wanted.{ShowsMore, wanted, trees_of};
 
 use crate::Show;
@@ -32,7 +32,6 @@ impl<'a, N: Show<'a>> Show<'a> for Properties<N> {
     ghost tree = { λ k. (properties_answers k).tree N.means N.tree };
 
     #[inline(never)]
-    #[tactic(auto, using(olk_check::proofs::Asked::only_same))]
     fn show(
         &'a self,
         alloc: Global,
@@ -60,7 +59,6 @@ impl<'a, N: Show<'a>> Show<'a> for SmallPropertiesWithRequired2<N> {
     ghost tree = { λ k. (properties_with_required2_answers k).tree N.means N.tree };
 
     #[inline(never)]
-    #[tactic(auto, using(olk_check::proofs::Asked::only_same))]
     fn show(
         &'a self,
         alloc: Global,
@@ -125,14 +123,11 @@ fn meet<'a, N: Show<'a> + 'a>(
     path: &mut InstancePath,
     ctx: &mut ValidationContext,
 ) -> Result<Met<'a>, AllocError>
-    ensures shown { IfOk result (λ m. HasMet (wanted_at N.tree N.means ctx.old.answer path.old)
-        (members_declared properties.now
-        (listed (members_view members.now.entries))) m) }
-    ensures verdict { IfOk result (λ m. list_all is_valid (trees_of m.children.items)
-        ≡ (properties_mean N.means properties.now
-        (object_of members.now.entries)).accepts ctx.old.answer) }
-    ensures path { path.new ≡ path.old }
-    ensures context { OnlyAsks ctx.old ctx.new }
+    ensures { Shows result path.old path.new ctx.old ctx.new (λ m. HasMet
+        (wanted_at N.tree N.means ctx.old.answer path.old)
+        (members_declared properties.now (listed (members_view members.now.entries))) m
+        × list_all is_valid (trees_of m.children.items) ≡ (properties_mean N.means
+        properties.now (object_of members.now.entries)).accepts ctx.old.answer) }
 {
     let most = members.len().min(properties.len());
     let mut met: Met<'a> = Met::with_capacity(alloc, most)?;
@@ -153,10 +148,9 @@ pub(crate) fn meet_member<'a, N: Show<'a>>(
     ctx: &mut ValidationContext,
     met: &mut Met<'a>,
 ) -> Result<(), AllocError>
-    ensures met { OnOk result (MeetsMore (wanted_at N.tree N.means ctx.old.answer path.old)
+    ensures { Shows result path.old path.new ctx.old ctx.new (λ _. MeetsMore
+        (wanted_at N.tree N.means ctx.old.answer path.old)
         (declared_as name.now subschema.now (view value.now)) met.old met.new) }
-    ensures path { path.new ≡ path.old }
-    ensures context { OnlyAsks ctx.old ctx.new }
 {
     met.names.push(name)?;
     add_child_below(alloc, subschema, name, value, path, ctx, &mut met.children)
@@ -173,12 +167,10 @@ pub(crate) fn add_child_below<'a, N: Show<'a>>(
     ctx: &mut ValidationContext,
     children: &mut Vec<EvaluationNode<'a>>,
 ) -> Result<(), AllocError>
-    ensures shown { OnOk result (ShowsMore
+    ensures { Shows result path.old path.new ctx.old ctx.new (λ _. ShowsMore
         (wanted N.tree N.means ctx.old.answer
         subschema.now (view value.now) (one_below path.old name.now))
         children.old.items children.new.items) }
-    ensures path { path.new ≡ path.old }
-    ensures context { OnlyAsks ctx.old ctx.new }
 {
     let mark = path.push(name)?;
     let added = add_child(alloc, subschema, Node::Value(value), path, ctx, children);

@@ -1,8 +1,7 @@
 //! `propertyNames`: what it shows.
-ghost use Rattle.std.specs.Prelude.{◌≡◌, IfOk};
 ghost use Rattle.serde_json.specs.View.{members_view};
 ghost use Rattle.olk_spec.specs.Schemas.{listed};
-ghost use Rattle.olk_check.specs.Asks.{OnlyAsks};
+ghost use Rattle.olk_evaluate.specs.Shows.{Shows};
 ghost use Rattle.olk_evaluate.specs.Wanted.{AreShown, names_wanted, trees_of};
 
 use crate::Show;
@@ -22,7 +21,6 @@ impl<'a, N: Show<'a>> Show<'a> for PropertyNames<N> {
     ghost tree = { λ k. (property_names_answers k).tree N.means N.tree };
 
     #[inline(never)]
-    #[tactic(auto, using(olk_check::proofs::Asked::only_same))]
     fn show(
         &'a self,
         alloc: Global,
@@ -49,7 +47,6 @@ impl<'a> Show<'a> for PropertyNamesFalse {
     ghost tree = { λ k. (property_names_false_answers k).tree };
 
     #[inline(never)]
-    #[tactic(auto, using(olk_check::proofs::Asked::only_same))]
     fn show(
         &'a self,
         alloc: Global,
@@ -79,12 +76,10 @@ fn name_children<'a, N: Show<'a>>(
     path: &mut InstancePath,
     ctx: &mut ValidationContext,
 ) -> Result<Vec<EvaluationNode<'a>>, AllocError>
-    ensures shown { IfOk result (λ cs. AreShown
+    ensures { Shows result path.old path.new ctx.old ctx.new (λ cs. AreShown
         (names_wanted N.tree N.means ctx.old.answer subschema.now path.old
         (listed (members_view members.now.entries)))
         (trees_of cs.items)) }
-    ensures path { path.new ≡ path.old }
-    ensures context { OnlyAsks ctx.old ctx.new }
 {
     let mut children: Vec<EvaluationNode<'a>> = Vec::with_capacity(alloc, members.len())?;
     for (name, _) in members {

@@ -1,15 +1,15 @@
 //! `required`: what it shows.
-ghost use Rattle.std.specs.Prelude.{◌≡◌, ◌++◌, ◌∷◌, [], not, map, List, OnOk, string_bytes};
+ghost use Rattle.std.specs.Prelude.{◌≡◌, ◌∷◌, [], not, map, OnOk, string_bytes};
 ghost use Rattle.olk_base.specs.Nodes.{data_of};
 ghost use Rattle.olk_spec.specs.Names.{Path, is_empty};
-ghost use Rattle.olk_spec.specs.Faults.{Fault, fault, Required};
+ghost use Rattle.olk_spec.specs.Faults.{fault, Required};
 ghost use Rattle.olk_spec.specs.Schemas.{has};
 ghost use Rattle.olk_spec.specs.Accepts.{missing};
 ghost use Rattle.olk_spec.specs.Reports.{fault_if, required_faults};
-ghost use Rattle.olk_reports.specs.Evaluations.{nothing_shown, shown_of};
+ghost use Rattle.olk_reports.specs.Evaluations.{shown_of};
 ghost use Rattle.olk_tree.specs.Maps.{texts_of, two_texts};
 ghost use Rattle.olk_tree.specs.Visited.{object_of};
-ghost use Rattle.olk_evaluate.specs.Wanted.{AddsShown, HasErrors, refused, lacking_trees};
+ghost use Rattle.olk_evaluate.specs.Wanted.{AddsErrors, AddsShown, refused, lacking_trees};
 
 use crate::Show;
 use crate::own::add_own_error;
@@ -31,7 +31,6 @@ impl<'a> Show<'a> for RequiredValidator {
     ghost tree = { λ k. (required_answers k).tree };
 
     #[inline(never)]
-    #[tactic(auto, using(olk_check::proofs::Asked::only_same))]
     fn show(
         &'a self,
         alloc: Global,
@@ -51,10 +50,9 @@ pub(crate) fn add_missing<'a>(
     required: &'a RequiredValidator,
     node: Node<'a>,
 ) -> Result<(), AllocError>
-    requires { shown_of outcome.old ≡ nothing_shown }
-    ensures { OnOk result ((P Q : Path) → HasErrors
+    ensures { OnOk result ((P Q : Path) → AddsErrors
         (required_faults (texts_of required.now.required.items) (data_of node.entry) P Q)
-        (shown_of outcome.new)) }
+        (shown_of outcome.old) (shown_of outcome.new)) }
 {
     match node.as_object() {
         Some(members) => add_each_missing(alloc, outcome, &required.required, members, node),
@@ -70,11 +68,10 @@ fn add_each_missing<'a>(
     members: &Map<String, Value>,
     node: Node<'a>,
 ) -> Result<(), AllocError>
-    requires { shown_of outcome.old ≡ nothing_shown }
-    ensures { OnOk result ((P Q : Path) → HasErrors
+    ensures { OnOk result ((P Q : Path) → AddsErrors
         (map (λ n. fault (Required n) (data_of node.entry) Q P)
         (missing (texts_of names.now.items) (object_of members.now.entries)))
-        (shown_of outcome.new)) }
+        (shown_of outcome.old) (shown_of outcome.new)) }
 {
     for name in names {
         add_error_if_missing(alloc, outcome, name.as_str(), members, node)?;
@@ -90,12 +87,10 @@ fn add_error_if_missing<'a>(
     members: &Map<String, Value>,
     node: Node<'a>,
 ) -> Result<(), AllocError>
-    ensures { OnOk result ((before : List Fault) (P Q : Path) →
-        HasErrors before (shown_of outcome.old) →
-        HasErrors
-        (before ++ fault_if (not (has name.now (object_of members.now.entries)))
+    ensures { OnOk result ((P Q : Path) → AddsErrors
+        (fault_if (not (has name.now (object_of members.now.entries)))
         (Required name.now) (data_of node.entry) P Q)
-        (shown_of outcome.new)) }
+        (shown_of outcome.old) (shown_of outcome.new)) }
 {
     if has_member(members, name) {
         return Ok(());
@@ -124,11 +119,10 @@ fn add_missing_of_two<'a>(
     members: &Map<String, Value>,
     node: Node<'a>,
 ) -> Result<(), AllocError>
-    requires { shown_of outcome.old ≡ nothing_shown }
-    ensures { OnOk result ((P Q : Path) → HasErrors
+    ensures { OnOk result ((P Q : Path) → AddsErrors
         (map (λ n. fault (Required n) (data_of node.entry) Q P)
         (missing (first.now ∷ second.now ∷ []) (object_of members.now.entries)))
-        (shown_of outcome.new)) }
+        (shown_of outcome.old) (shown_of outcome.new)) }
 {
     add_error_if_missing(alloc, outcome, first, members, node)?;
     add_error_if_missing(alloc, outcome, second, members, node)

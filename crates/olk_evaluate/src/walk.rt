@@ -1,8 +1,8 @@
 //! What the nodes of a keyword show.
-ghost use Rattle.std.specs.Prelude.{◌≡◌, IfOk, OnOk};
+ghost use Rattle.std.specs.Prelude.{◌≡◌};
 ghost use Rattle.olk_base.specs.Nodes.{data_of};
-ghost use Rattle.olk_check.specs.Asks.{OnlyAsks};
 ghost use Rattle.olk_reports.specs.Evaluations.{nothing_shown, shown_of, tree_of};
+ghost use Rattle.olk_evaluate.specs.Shows.{Shows};
 ghost use Rattle.olk_evaluate.specs.Wanted.{IsShown, AreShown, ShowsEach, ShowsMore, ShowsOne, wanted, each_wanted, trees_of};
 
 use crate::Show;
@@ -23,11 +23,9 @@ pub fn child<'a, N: Show<'a>>(
     path: &mut InstancePath,
     ctx: &mut ValidationContext,
 ) -> Result<EvaluationNode<'a>, AllocError>
-    ensures shown { IfOk result (λ c. IsShown
+    ensures { Shows result path.old path.new ctx.old ctx.new (λ c. IsShown
         (wanted N.tree N.means ctx.old.answer schema.now (data_of node.entry) path.old)
         (tree_of c)) }
-    ensures path { path.new ≡ path.old }
-    ensures context { OnlyAsks ctx.old ctx.new }
 {
     let text = PathText::from_str(alloc, path.as_str())?;
     let mut made: EvaluationNode<'a> = EvaluationNode::at(alloc, schema.location(), text);
@@ -45,11 +43,9 @@ pub(crate) fn add_child<'a, N: Show<'a>>(
     ctx: &mut ValidationContext,
     children: &mut Vec<EvaluationNode<'a>>,
 ) -> Result<(), AllocError>
-    ensures shown { OnOk result (ShowsMore
+    ensures { Shows result path.old path.new ctx.old ctx.new (λ _. ShowsMore
         (wanted N.tree N.means ctx.old.answer schema.now (data_of node.entry) path.old)
         children.old.items children.new.items) }
-    ensures path { path.new ≡ path.old }
-    ensures context { OnlyAsks ctx.old ctx.new }
 {
     let text = PathText::from_str(alloc, path.as_str())?;
     let last = children.len();
@@ -68,10 +64,9 @@ pub(crate) fn show_each<'a, N: Show<'a>>(
     outcome: &mut EvaluationResult<'a>,
 ) -> Result<(), AllocError>
     requires { shown_of outcome.old ≡ nothing_shown }
-    ensures shown { OnOk result (ShowsEach N.tree N.means ctx.old.answer
+    ensures { Shows result path.old path.new ctx.old ctx.new (λ _. ShowsEach
+        N.tree N.means ctx.old.answer
         schemas.now.items (data_of node.entry) path.old (shown_of outcome.new)) }
-    ensures path { path.new ≡ path.old }
-    ensures context { OnlyAsks ctx.old ctx.new }
 {
     let children = each_child(alloc, schemas, node, path, ctx)?;
     outcome.take_children(children);
@@ -88,11 +83,9 @@ pub(crate) fn show_one<'a, N: Show<'a>>(
     outcome: &mut EvaluationResult<'a>,
 ) -> Result<(), AllocError>
     requires { shown_of outcome.old ≡ nothing_shown }
-    ensures shown { OnOk result (ShowsOne
+    ensures { Shows result path.old path.new ctx.old ctx.new (λ _. ShowsOne
         (wanted N.tree N.means ctx.old.answer schema.now (data_of node.entry) path.old)
         (shown_of outcome.new)) }
-    ensures path { path.new ≡ path.old }
-    ensures context { OnlyAsks ctx.old ctx.new }
 {
     let mut children: Vec<EvaluationNode<'a>> = Vec::with_capacity(alloc, 1)?;
     add_child(alloc, schema, node, path, ctx, &mut children)?;
@@ -108,11 +101,9 @@ pub(crate) fn each_child<'a, N: Show<'a>>(
     path: &mut InstancePath,
     ctx: &mut ValidationContext,
 ) -> Result<Vec<EvaluationNode<'a>>, AllocError>
-    ensures shown { IfOk result (λ cs. AreShown
+    ensures { Shows result path.old path.new ctx.old ctx.new (λ cs. AreShown
         (each_wanted N.tree N.means ctx.old.answer schemas.now.items (data_of node.entry) path.old)
         (trees_of cs.items)) }
-    ensures path { path.new ≡ path.old }
-    ensures context { OnlyAsks ctx.old ctx.new }
 {
     let mut children: Vec<EvaluationNode<'a>> = Vec::with_capacity(alloc, schemas.len())?;
     for schema in schemas {

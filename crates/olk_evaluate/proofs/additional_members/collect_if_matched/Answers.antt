@@ -1,35 +1,42 @@
-use Rattle.olk_check.proofs.Asked.{only_then}
-use Rattle.std.proofs.Common.{sym, subst}
+use Rattle.std.proofs.Common.{sym, ◌∙◌}
 use Rattle.std.proofs.lemmas.List.{append-nil}
 use Rattle.serde_json.specs.View.{view}
 use Rattle.olk_spec.specs.Names.{◌//◌}
+use Rattle.olk_base.specs.Compiled.{pattern_answers, pattern_costs}
+use Rattle.olk_tree.specs.AdditionalAgreement.{match_is_said}
+use Rattle.olk_tree.specs.Tables.{known_says}
 use Rattle.olk_evaluate.specs.Additional.{names_of}
 use Rattle.olk_evaluate.specs.Wanted.{ShowsMore, wanted}
-use Rattle.olk_evaluate.proofs.Collected.{collects_child}
+use Rattle.olk_evaluate.proofs.Collected.{collects_child, collects_no_match}
+use Rattle.olk_evaluate.proofs.Shows.{kept_asked, kept_then, as_before, shows_err}
 use Rattle.olk_evaluate.proofs.additional_members.collect_if_matched.Goals as goal
 
-pub returns-clause-collected : goal.returns-clause-collected
-returns-clause-collected g c = collects_child (sym (append-nil (names_of c.args.collected.now.additional.items))) c.in_ok-push_if.ensures
-    (subst (λ u. ShowsMore (wanted g.N.Show.tree g.N.Means.means u c.args.entry.now.1 (view c.args.value.now)
-    (c.args.path.now // c.args.name.now)) c.args.collected.now.children.items c.add_child_below.new.children.items) c.if-not-matches_unless_known.ensures.only.answer c.in_ok-add_child_below.ensures.shown)
+pub returns-then-not-matches_unless_known : goal.returns-then-not-matches_unless_known
+returns-then-not-matches_unless_known g c = record {
+  shown = (
+    c.if-not-matches_unless_known.ensures.verdict ∙ match_is_said c.args.ctx.now.answer (pattern_costs g.R.RegexEngine.costs c.args.entry.now.0) (known_says c.args.known)
+        (pattern_answers g.R.RegexEngine.answers c.args.entry.now.0 c.args.name.now),
+    collects_no_match c.args.is_shown c.args.collected.now,
+  );
+  kept = kept_asked c.if-not-matches_unless_known.ensures.only;
+}
 
-pub returns-clause-context : goal.returns-clause-context
-returns-clause-context g c = only_then c.if-not-matches_unless_known.ensures.only c.add_child_below.ensures.context
+pub returns-in_err-add_child_below : goal.returns-in_err-add_child_below
+returns-in_err-add_child_below g c = shows_err c.from_residual.ensures.0 (kept_then (kept_asked c.if-not-matches_unless_known.ensures.only) c.add_child_below.ensures.kept)
 
-pub returns-clause-path : goal.returns-clause-path
-returns-clause-path g c = c.add_child_below.ensures.path
+pub returns-in_err-push_if : goal.returns-in_err-push_if
+returns-in_err-push_if g c = shows_err c.from_residual-in_err-push_if.ensures.0 (kept_then (kept_asked c.if-not-matches_unless_known.ensures.only) c.add_child_below.ensures.kept)
 
-pub returns-in_err-add_child_below-clause-context : goal.returns-in_err-add_child_below-clause-context
-returns-in_err-add_child_below-clause-context g c = only_then c.if-not-matches_unless_known.ensures.only c.add_child_below.ensures.context
-
-pub returns-in_err-add_child_below-clause-path : goal.returns-in_err-add_child_below-clause-path
-returns-in_err-add_child_below-clause-path g c = c.add_child_below.ensures.path
-
-pub returns-in_err-push_if-clause-context : goal.returns-in_err-push_if-clause-context
-returns-in_err-push_if-clause-context g c = only_then c.if-not-matches_unless_known.ensures.only c.add_child_below.ensures.context
-
-pub returns-in_err-push_if-clause-path : goal.returns-in_err-push_if-clause-path
-returns-in_err-push_if-clause-path g c = c.add_child_below.ensures.path
-
-pub returns-then-not-matches_unless_known-clause-context : goal.returns-then-not-matches_unless_known-clause-context
-returns-then-not-matches_unless_known-clause-context g c = c.if-not-matches_unless_known.ensures.only
+pub returns : goal.returns
+returns g c =
+    let asked = kept_asked c.if-not-matches_unless_known.ensures.only in
+    record {
+      shown = (
+        c.if-not-matches_unless_known.ensures.verdict ∙ match_is_said c.args.ctx.now.answer (pattern_costs g.R.RegexEngine.costs c.args.entry.now.0) (known_says c.args.known)
+            (pattern_answers g.R.RegexEngine.answers c.args.entry.now.0 c.args.name.now),
+        collects_child (sym (append-nil (names_of c.args.collected.now.additional.items))) c.in_ok-push_if.ensures
+            (as_before (λ u Q. ShowsMore (wanted g.N.Show.tree g.N.Means.means u c.args.entry.now.1 (view c.args.value.now) (Q // c.args.name.now))
+            c.args.collected.now.children.items c.add_child_below.new.children.items) asked c.in_ok-add_child_below.ensures.shown),
+      );
+      kept = kept_then asked c.add_child_below.ensures.kept;
+    }

@@ -5,7 +5,7 @@ use Rattle.olk_spec.specs.Faults.{fault}
 use Rattle.olk_reports.specs.Evaluations.{described_of}
 use Rattle.olk_reports.proofs.Errors.{kind_of_false_schema}
 use Rattle.olk_evaluate.specs.Wanted.{IsDescribedBy}
-use Rattle.olk_evaluate.proofs.Completed.{first_told}
+use Rattle.olk_evaluate.proofs.OwnErrors.{first_told}
 use Rattle.olk_evaluate.proofs.additional_properties.add_first.Goals as goal
 
 pub returns-in_ok-own_error-in-Some : goal.returns-in_ok-own_error-in-Some

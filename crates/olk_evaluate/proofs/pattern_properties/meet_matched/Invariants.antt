@@ -2,7 +2,7 @@ use Rattle.serde_json.specs.View.{members_view}
 use Rattle.olk_spec.specs.Schemas.{listed}
 use Rattle.olk_evaluate.specs.Members.{wanted_at}
 use Rattle.olk_evaluate.specs.Patterns.{match_here}
-use Rattle.olk_evaluate.proofs.Patterns.{Meeting}
+use Rattle.olk_evaluate.proofs.Members.{Meeting}
 use Rattle.olk_evaluate.proofs.pattern_properties.meet_matched.Given as goal
 
 abbrev pub invariant-loop-name : goal.invariant-loop-name

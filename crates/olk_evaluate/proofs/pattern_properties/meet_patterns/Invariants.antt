@@ -2,7 +2,7 @@ use Rattle.std.proofs.Common.{drop}
 use Rattle.olk_tree.specs.Visited.{object_of}
 use Rattle.olk_evaluate.specs.Members.{wanted_at}
 use Rattle.olk_evaluate.specs.Patterns.{matches_of}
-use Rattle.olk_evaluate.proofs.Patterns.{Meeting}
+use Rattle.olk_evaluate.proofs.Members.{Meeting}
 use Rattle.olk_evaluate.proofs.pattern_properties.meet_patterns.Given as goal
 
 abbrev pub invariant-loop-entry : goal.invariant-loop-entry

@@ -13,4 +13,5 @@ use Rattle.olk_evaluate.proofs.required.add_each_missing.Given as goal
 abbrev pub invariant-loop-name : goal.invariant-loop-name
 invariant-loop-name l =
     (P Q : Path) → ErrorsFrom (map (λ n. fault (Required n) (data_of l.node) Q P) (missing (texts_of l.names.items) (object (members_view l.members.entries))))
-    (map (λ n. fault (Required n) (data_of l.node) Q P) (missing (texts_of (drop l.name-index l.names.items)) (object (members_view l.members.entries)))) (shown_of l.outcome)
+    (map (λ n. fault (Required n) (data_of l.node) Q P) (missing (texts_of (drop l.name-index l.names.items)) (object (members_view l.members.entries))))
+    (shown_of l.initial.outcome) (shown_of l.outcome)

@@ -27,6 +27,7 @@ returns g c =
           same_lacking (data_of c.args.node) (object (members_view c.args.members.now.entries))
           (tree_of (with_result c.at-child.result outcome) ∷ []) c.as_str-first.ensures.value c.as_str-second.ensures.value c.as_str-location.ensures refl
           (some_lacking (c.as_str-first.result.now ∷ c.as_str-second.result.now ∷ []) (data_of c.args.node)
-          (object (members_view c.args.members.now.entries)) location c.args.path.now c.if-not-lacks_either.ensures (c.in_ok-add_missing_of_two.ensures location c.args.path.now)
+          (object (members_view c.args.members.now.entries)) location c.args.path.now c.if-not-lacks_either.ensures
+          c.at-child.ensures.empty (c.in_ok-add_missing_of_two.ensures location c.args.path.now)
           (c.at-child.ensures.places outcome ∙ ap (λ Q. node_at location Q (shown_of outcome)) (c.in_ok-text.ensures ∙ c.as_str.ensures)));
     }

@@ -1,14 +1,10 @@
-use Rattle.std.proofs.Common.{◌≡◌, drop}
+use Rattle.std.proofs.Common.{drop}
 use Rattle.olk_base.specs.Nodes.{data_of}
-use Rattle.olk_check.specs.Asks.{OnlyAsks}
-use Rattle.olk_evaluate.specs.Wanted.{each_wanted, trees_of}
-use Rattle.olk_evaluate.proofs.Children.{ShownFrom}
+use Rattle.olk_evaluate.specs.Wanted.{wanted}
+use Rattle.olk_evaluate.proofs.Children.{Showing}
 use Rattle.olk_evaluate.proofs.walk.each_child.Given as goal
 
 abbrev pub invariant-loop-schema : goal.invariant-loop-schema
-invariant-loop-schema g l = record {
-  path : l.path ≡ l.initial.path;
-  context : OnlyAsks l.initial.ctx l.ctx;
-  shown : ShownFrom (each_wanted g.N.Show.tree g.N.Means.means l.initial.ctx.answer l.schemas.items (data_of l.node) l.initial.path)
-      (each_wanted g.N.Show.tree g.N.Means.means l.initial.ctx.answer (drop l.schema-index l.schemas.items) (data_of l.node) l.initial.path) (trees_of l.children.items);
-}
+invariant-loop-schema g l =
+    Showing (λ u Q n. wanted g.N.Show.tree g.N.Means.means u n (data_of l.node) Q) l.schemas.items (drop l.schema-index l.schemas.items) l.children.items
+    l.initial.path l.path l.initial.ctx l.ctx

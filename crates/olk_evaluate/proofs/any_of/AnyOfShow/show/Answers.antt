@@ -1,43 +1,35 @@
-use Rattle.std.proofs.Common.{◌∙◌}
-use Rattle.olk_check.proofs.Asked.{only_then}
-use mathlib.Core.Path.{subst₂}
 use Rattle.olk_base.specs.Nodes.{data_of}
+use Rattle.olk_reports.specs.Evaluations.{tree_of}
 use Rattle.olk_evaluate.specs.Wanted.{AreShown, each_wanted, trees_of}
-use Rattle.olk_evaluate.proofs.Branches.{accepting_shown, refusing_shown, none_here, some_here}
-use Rattle.olk_evaluate.proofs.Children.{over_children, over_refusing}
+use Rattle.olk_evaluate.proofs.Branches.{accepting_shown, refusing_shown}
+use Rattle.olk_evaluate.proofs.Children.{emptiness_of, over_children, over_refusing}
+use Rattle.olk_evaluate.proofs.Shows.{kept_then, as_before, shows_err}
 use Rattle.olk_evaluate.proofs.any_of.AnyOfShow.show.Goals as goal
 
-pub returns-in_err-accepting-clause-context : goal.returns-in_err-accepting-clause-context
-returns-in_err-accepting-clause-context g c = c.accepting_children.ensures.context
+pub returns-in_err-accepting : goal.returns-in_err-accepting
+returns-in_err-accepting g c = shows_err c.from_residual.ensures.0 c.accepting_children.ensures.kept
 
-pub returns-in_err-accepting-clause-path : goal.returns-in_err-accepting-clause-path
-returns-in_err-accepting-clause-path g c = c.accepting_children.ensures.path
+pub returns-in_err-children : goal.returns-in_err-children
+returns-in_err-children g c = shows_err c.from_residual-in_err-children.ensures.0 (kept_then c.accepting_children.ensures.kept c.each_child.ensures.kept)
 
 pub returns-then-is_empty : goal.returns-then-is_empty
 returns-then-is_empty g c =
-    let shows = refusing_shown g.N.Show.tree g.N.Means.means c.args.ctx.now.answer (data_of c.args.node) c.args.self.now.location c.args.path.now c.args.self.now.schemas.items
-    (trees_of c.in_ok-children.children.items)
-    (trees_of c.in_ok-accepting.accepting.items) c.in_ok-accepting.ensures.shown
-    (none_here c.in_ok-accepting.accepting.items _ c.in_ok-accepting.accepting.ok.0 c.if-is_empty.ensures)
-    (subst₂ (λ u Q. AreShown (each_wanted g.N.Show.tree g.N.Means.means u c.args.self.now.schemas.items (data_of c.args.node) Q)
-    (trees_of c.in_ok-children.children.items)) c.accepting_children.ensures.context.answer c.accepting_children.ensures.path c.in_ok-children.ensures.shown)
-    (over_refusing c.in_ok-children.children.items c.requires c.take_children.ensures c.mark_invalid.ensures) in
+    let found = c.in_ok-accepting.accepting in
+    let children = c.in_ok-children.children.items in
     record {
-      tree = shows.like;
-      verdict = shows.verdict;
-      context = only_then c.accepting_children.ensures.context c.each_child.ensures.context;
-      path = c.each_child.ensures.path ∙ c.accepting_children.ensures.path;
+      shown = refusing_shown g.N.Show.tree g.N.Means.means c.args.ctx.now.answer (data_of c.args.node) c.args.self.now.location c.args.path.now c.args.self.now.schemas.items
+          (trees_of found.items) c.in_ok-accepting.ensures.shown (trees_of children) (emptiness_of tree_of found.items found.ok.0 c.if-is_empty.ensures)
+          (as_before (λ u Q. AreShown (each_wanted g.N.Show.tree g.N.Means.means u c.args.self.now.schemas.items (data_of c.args.node) Q) (trees_of children))
+          c.accepting_children.ensures.kept c.in_ok-children.ensures.shown)
+          (over_refusing children c.requires c.take_children.ensures c.mark_invalid.ensures);
+      kept = kept_then c.accepting_children.ensures.kept c.each_child.ensures.kept;
     }
-
-pub returns-in_err-children-clause-context : goal.returns-in_err-children-clause-context
-returns-in_err-children-clause-context g c = only_then c.accepting_children.ensures.context c.each_child.ensures.context
-
-pub returns-in_err-children-clause-path : goal.returns-in_err-children-clause-path
-returns-in_err-children-clause-path g c = c.each_child.ensures.path ∙ c.accepting_children.ensures.path
 
 pub returns : goal.returns
 returns g c =
-    let shows = accepting_shown g.N.Show.tree g.N.Means.means c.args.ctx.now.answer (data_of c.args.node) c.args.self.now.location c.args.path.now c.args.self.now.schemas.items
-    (trees_of c.in_ok-accepting.accepting.items) c.in_ok-accepting.ensures.shown
-    (some_here c.in_ok-accepting.accepting.items _ c.in_ok-accepting.accepting.ok.0 c.if-is_empty.ensures) (over_children c.in_ok-accepting.accepting.items c.requires c.take_children-2.ensures) in
-    record { tree = shows.like; verdict = shows.verdict; context = c.accepting_children.ensures.context; path = c.accepting_children.ensures.path }
+    let found = c.in_ok-accepting.accepting in
+    record {
+      shown = accepting_shown g.N.Show.tree g.N.Means.means c.args.ctx.now.answer (data_of c.args.node) c.args.self.now.location c.args.path.now c.args.self.now.schemas.items
+          (trees_of found.items) c.in_ok-accepting.ensures.shown (emptiness_of tree_of found.items found.ok.0 c.if-is_empty.ensures) (over_children found.items c.requires c.take_children-2.ensures);
+      kept = c.accepting_children.ensures.kept;
+    }

@@ -1,21 +1,26 @@
-use Rattle.std.proofs.Common.{refl}
 use Rattle.olk_base.specs.Nodes.{data_of}
 use Rattle.olk_tree.specs.Maps.{named}
 use Rattle.olk_tree.specs.Dependencies.{due_nodes}
 use Rattle.olk_tree.proofs.Due.{none_due}
-use Rattle.olk_check.proofs.Asked.{only_same}
 use Rattle.olk_evaluate.proofs.Children.{over_children, shows_each, shows_none}
+use Rattle.olk_evaluate.proofs.Shows.{kept_same, shows_err}
 use Rattle.olk_evaluate.proofs.dependencies.DependenciesShow.show.Goals as goal
 
+pub returns-in_err-children-in-Some : goal.returns-in_err-children-in-Some
+returns-in_err-children-in-Some g c = shows_err c.from_residual.ensures.0 c.due_children.ensures.kept
+
 pub returns-in_ok-children-in-Some : goal.returns-in_ok-children-in-Some
-returns-in_ok-children-in-Some g c =
-    let shows = shows_each g.N.Show.tree g.N.Means.means c.args.ctx.now.answer (data_of c.args.node) c.args.path.now
-    (due_nodes (named c.args.self.now.dependencies) (data_of c.args.node)) c.in_ok-children-in-Some.ensures.shown
-    (over_children c.in_ok-children-in-Some.children.items c.requires c.take_children.ensures) in
-    record { tree = shows.tree c.args.self.now.location; verdict = shows.verdict c.args.self.now.location; context = c.due_children.ensures.context; path = c.due_children.ensures.path }
+returns-in_ok-children-in-Some g c = record {
+  shown = shows_each g.N.Show.tree g.N.Means.means c.args.ctx.now.answer (data_of c.args.node) c.args.path.now
+      (due_nodes (named c.args.self.now.dependencies) (data_of c.args.node)) c.in_ok-children-in-Some.ensures.shown
+      (over_children c.in_ok-children-in-Some.children.items c.requires c.take_children.ensures) c.args.self.now.location;
+  kept = c.due_children.ensures.kept;
+}
 
 pub returns-in-None : goal.returns-in-None
-returns-in-None g c =
-    let shows = shows_none g.N.Show.tree g.N.Means.means c.args.ctx.now.answer (data_of c.args.node) c.args.path.now
-    (due_nodes (named c.args.self.now.dependencies) (data_of c.args.node)) (none_due (data_of c.args.node) c.in-None.ensures (named c.args.self.now.dependencies)) c.requires in
-    record { tree = shows.tree c.args.self.now.location; verdict = shows.verdict c.args.self.now.location; context = only_same c.args.ctx.now; path = refl }
+returns-in-None g c = record {
+  shown = shows_none g.N.Show.tree g.N.Means.means c.args.ctx.now.answer (data_of c.args.node) c.args.path.now
+      (due_nodes (named c.args.self.now.dependencies) (data_of c.args.node)) (none_due (data_of c.args.node) c.in-None.ensures (named c.args.self.now.dependencies)) c.requires
+      c.args.self.now.location;
+  kept = kept_same;
+}

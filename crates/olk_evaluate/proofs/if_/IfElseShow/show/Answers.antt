@@ -1,44 +1,20 @@
-use Rattle.std.proofs.Common.{true, cond, sym, ap, [], ◌∷◌, ◌∙◌}
-use Rattle.olk_check.proofs.Asked.{only_then}
-use mathlib.Core.Path.{subst₂}
-use Rattle.std.proofs.lemmas.Result.{on_ok_weaker}
-use Rattle.std.proofs.Math.Bool.{and-true}
+use Rattle.std.proofs.Common.{true, [], ◌∷◌}
 use Rattle.olk_base.specs.Nodes.{data_of}
-use Rattle.olk_spec.specs.Tree.{IsLikeTree}
-use Rattle.olk_reports.specs.Evaluations.{node_at, shown_of}
-use Rattle.olk_tree.specs.Shown.{if_tree}
-use Rattle.olk_evaluate.proofs.Children.{shows_the_one}
+use Rattle.olk_reports.specs.Evaluations.{shown_of}
+use Rattle.olk_evaluate.proofs.If.{first_fits, second_fits}
+use Rattle.olk_evaluate.proofs.Shows.{kept_asked, shows_then}
 use Rattle.olk_evaluate.proofs.if_.IfElseShow.show.Goals as goal
 
-pub returns-then-is_valid-clause-tree : goal.returns-then-is_valid-clause-tree
-returns-then-is_valid-clause-tree g c = on_ok_weaker c.show_one.result (λ one.
-    subst₂ (λ a u. IsLikeTree (if_tree (λ n. g.N.Show.tree n u) (data_of c.args.node) c.args.path.now a c.args.self.now.location c.args.self.now.schema []
-    (c.args.self.now.else_schema ∷ [])) (node_at c.args.self.now.location c.args.path.now (shown_of c.show_one.new.outcome)))
-    c.if-is_valid.ensures.verdict c.if-is_valid.ensures.only.answer ((shows_the_one g.N.Show.tree g.N.Means.means c.is_valid.new.ctx.answer (data_of c.args.node) c.args.path.now c.args.self.now.schema one).tree c.args.self.now.location)) c.show_one.ensures.shown
+pub returns-then-is_valid : goal.returns-then-is_valid
+returns-then-is_valid g c = shows_then (kept_asked c.if-is_valid.ensures.only) c.show_one.ensures (λ _ shows.
+    first_fits g.N.Show.tree g.N.Means.means (data_of c.args.node) c.args.self.now.location c.args.path.now c.args.self.now.schema
+    (shown_of c.show_one.new.outcome) c.if-is_valid.ensures.only
+    (c.args.self.now.else_schema ∷ []) ((g.N.Means.means c.args.self.now.else_schema (data_of c.args.node)).accepts c.args.ctx.now.answer)
+    c.if-is_valid.ensures.verdict shows)
 
-pub returns-then-is_valid-clause-verdict : goal.returns-then-is_valid-clause-verdict
-returns-then-is_valid-clause-verdict g c =
-    let if_means = g.N.Means.means c.args.self.now.schema (data_of c.args.node) in
-    let else_means = g.N.Means.means c.args.self.now.else_schema (data_of c.args.node) in
-    on_ok_weaker c.show_one.result (λ one.
-    (shows_the_one g.N.Show.tree g.N.Means.means c.is_valid.new.ctx.answer (data_of c.args.node) c.args.path.now c.args.self.now.schema one).verdict c.args.self.now.location
-    ∙ and-true (if_means.accepts c.is_valid.new.ctx.answer) ∙ ap if_means.accepts c.if-is_valid.ensures.only.answer ∙ sym c.if-is_valid.ensures.verdict
-    ∙ (λ i. cond (c.if-is_valid.ensures.verdict i) true (else_means.accepts c.args.ctx.now.answer))) c.show_one.ensures.shown
-
-pub returns-else-is_valid-clause-tree : goal.returns-else-is_valid-clause-tree
-returns-else-is_valid-clause-tree g c = on_ok_weaker c.show_one-else-is_valid.result (λ one.
-    subst₂ (λ a u. IsLikeTree (if_tree (λ n. g.N.Show.tree n u) (data_of c.args.node) c.args.path.now a c.args.self.now.location c.args.self.now.schema []
-    (c.args.self.now.else_schema ∷ [])) (node_at c.args.self.now.location c.args.path.now (shown_of c.show_one-else-is_valid.new.outcome)))
-    c.if-is_valid.ensures.verdict c.if-is_valid.ensures.only.answer ((shows_the_one g.N.Show.tree g.N.Means.means c.is_valid.new.ctx.answer (data_of c.args.node) c.args.path.now c.args.self.now.else_schema one).tree c.args.self.now.location)) c.show_one-else-is_valid.ensures.shown
-
-pub returns-else-is_valid-clause-verdict : goal.returns-else-is_valid-clause-verdict
-returns-else-is_valid-clause-verdict g c =
-    let else_means = g.N.Means.means c.args.self.now.else_schema (data_of c.args.node) in
-    on_ok_weaker c.show_one-else-is_valid.result (λ one.
-    (shows_the_one g.N.Show.tree g.N.Means.means c.is_valid.new.ctx.answer (data_of c.args.node) c.args.path.now c.args.self.now.else_schema one).verdict c.args.self.now.location ∙ and-true (else_means.accepts c.is_valid.new.ctx.answer) ∙ (λ i. cond (c.if-is_valid.ensures.verdict i) true (else_means.accepts (c.if-is_valid.ensures.only.answer i)))) c.show_one-else-is_valid.ensures.shown
-
-pub returns-then-is_valid-clause-context : goal.returns-then-is_valid-clause-context
-returns-then-is_valid-clause-context g c = only_then c.if-is_valid.ensures.only c.show_one.ensures.context
-
-pub returns-else-is_valid-clause-context : goal.returns-else-is_valid-clause-context
-returns-else-is_valid-clause-context g c = only_then c.if-is_valid.ensures.only c.show_one-else-is_valid.ensures.context
+pub returns-else-is_valid : goal.returns-else-is_valid
+returns-else-is_valid g c = shows_then (kept_asked c.if-is_valid.ensures.only) c.show_one-else-is_valid.ensures (λ _ shows.
+    second_fits g.N.Show.tree g.N.Means.means (data_of c.args.node) c.args.self.now.location c.args.path.now c.args.self.now.schema
+    (shown_of c.show_one-else-is_valid.new.outcome) c.if-is_valid.ensures.only
+    c.args.self.now.else_schema [] true
+    c.if-is_valid.ensures.verdict shows)

@@ -1,28 +1,14 @@
-use Rattle.std.proofs.Common.{refl, sym, subst, None, []}
-use Rattle.std.proofs.lemmas.Result.{on_ok_weaker}
-use Rattle.olk_base.specs.Kit.{kit}
+use Rattle.std.proofs.Common.{sym}
 use Rattle.olk_base.specs.Nodes.{data_of}
-use Rattle.olk_spec.specs.Tree.{IsLikeTree}
-use Rattle.olk_reports.specs.Evaluations.{node_at, shown_of}
-use Rattle.olk_tree.specs.Validators.{answers_of, validator_tree}
-use Rattle.olk_check.proofs.Asked.{only_same}
-use Rattle.olk_evaluate.proofs.OwnErrors.{leaf_like}
-use Rattle.olk_spec.specs.Names.{is_empty}
-use Rattle.olk_evaluate.proofs.Children.{valid_shown}
+use Rattle.olk_tree.specs.Validators.{answers_of}
+use Rattle.olk_evaluate.proofs.OwnErrors.{leaf_shown}
+use Rattle.olk_evaluate.proofs.Shows.{kept_same, shows_by}
 use Rattle.olk_evaluate.proofs.node.KeywordOverShow.show.Goals as goal
 
 pub returns-in-Leaf : goal.returns-in-Leaf
 unfolding answers_of
-returns-in-Leaf g c = record {
-  tree = on_ok_weaker c.show_leaf.result (λ texts.
-      subst (λ k. IsLikeTree (validator_tree (kit g.K.Leaf g.R.RegexEngine) g.N.Means.means g.N.Show.tree c.args.ctx.now.answer k (data_of c.args.node) c.args.path.now)
-      (node_at ((answers_of (kit g.K.Leaf g.R.RegexEngine) k).location) c.args.path.now (shown_of c.show_leaf.new.outcome))) (sym c.in-Leaf.is)
-      (leaf_like (g.K.Leaf.keyword_of c.in-Leaf.leaf) c.in-Leaf.field-0 c.args.path.now (data_of c.args.node) (g.K.Leaf.finds c.in-Leaf.leaf (data_of c.args.node)) texts)) c.show_leaf.ensures;
-  verdict = rw c.in-Leaf.is (on_ok_weaker c.show_leaf.result (λ texts.
-      valid_shown c.in-Leaf.field-0 c.args.path.now (shown_of c.show_leaf.new.outcome) (is_empty (g.K.Leaf.finds c.in-Leaf.leaf (data_of c.args.node))) None texts.own [] texts.is) c.show_leaf.ensures);
-  path = refl;
-  context = only_same c.args.ctx.now;
-}
+returns-in-Leaf g c = rw c.in-Leaf.is (shows_by c.show_leaf.ensures kept_same (λ _ texts.
+    leaf_shown (g.K.Leaf.keyword_of c.in-Leaf.leaf) c.in-Leaf.field-0 c.args.path.now (data_of c.args.node) (g.K.Leaf.finds c.in-Leaf.leaf (data_of c.args.node)) texts))
 
 pub returns-in-AdditionalProperties : goal.returns-in-AdditionalProperties
 unfolding answers_of

@@ -1,23 +1,21 @@
-use Rattle.std.proofs.Common.{not, [], ◌∷◌, ap, subst, ◌∙◌}
-use Rattle.std.proofs.lemmas.Result.{on_ok_weaker}
+use Rattle.std.proofs.Common.{false, true}
 use Rattle.serde_json.specs.View.{view}
 use Rattle.olk_base.specs.Nodes.{data_of}
-use Rattle.olk_spec.specs.Faults.{fault, Not as Refuses}
-use Rattle.olk_spec.specs.Reports.{fault_if}
+use Rattle.olk_spec.specs.Faults.{Not as Refuses}
 use Rattle.olk_reports.specs.Evaluations.{shown_of}
 use Rattle.olk_reports.proofs.Errors.{kind_of_not}
-use Rattle.olk_evaluate.specs.Wanted.{HasErrors}
-use Rattle.olk_evaluate.proofs.OwnErrors.{no_error, erring_like, erring_verdict}
+use Rattle.olk_evaluate.proofs.OwnErrors.{adds_none, adds_as, refusal_shown}
+use Rattle.olk_evaluate.proofs.Shows.{kept_asked, shows_by}
 use Rattle.olk_evaluate.proofs.not.NotShow.show.Goals as goal
 
-pub returns-clause-tree : goal.returns-clause-tree
-returns-clause-tree g c = on_ok_weaker c.add_own_error.result (λ error.
-    erring_like c.args.self.now.location c.args._path.now (fault_if ((g.N.Means.means c.args.self.now.node (data_of c.args.node)).accepts c.args.ctx.now.answer)
-    (Refuses (view c.args.self.now.original)) (data_of c.args.node) c.args.self.now.location c.args._path.now)
-    (subst (λ b. HasErrors (fault_if b (Refuses (view c.args.self.now.original)) (data_of c.args.node) c.args.self.now.location c.args._path.now)
-    (shown_of c.add_own_error.new.outcome)) c.if-not-is_valid.ensures.verdict
-    (subst (λ k. HasErrors (fault k (data_of c.args.node) c.args._path.now c.args.self.now.location ∷ []) (shown_of c.add_own_error.new.outcome)) (kind_of_not _) (error [] c.args.self.now.location c.args._path.now (no_error c.requires))))) c.add_own_error.ensures
+pub returns-then-not-is_valid : goal.returns-then-not-is_valid
+returns-then-not-is_valid g c = record {
+  shown = refusal_shown (Refuses (view c.args.self.now.original)) (data_of c.args.node) c.args.self.now.location c.args._path.now false c.if-not-is_valid.ensures.verdict c.requires
+      (adds_none (shown_of c.args.outcome.now));
+  kept = kept_asked c.if-not-is_valid.ensures.only;
+}
 
-pub returns-clause-verdict : goal.returns-clause-verdict
-returns-clause-verdict g c = on_ok_weaker c.add_own_error.result (λ error.
-    erring_verdict c.args.self.now.location c.args._path.now (fault _ (data_of c.args.node) c.args._path.now c.args.self.now.location ∷ []) (error [] c.args.self.now.location c.args._path.now (no_error c.requires)) ∙ ap not c.if-not-is_valid.ensures.verdict) c.add_own_error.ensures
+pub returns : goal.returns
+returns g c = shows_by c.add_own_error.ensures (kept_asked c.if-not-is_valid.ensures.only) (λ _ added.
+    refusal_shown (Refuses (view c.args.self.now.original)) (data_of c.args.node) c.args.self.now.location c.args._path.now true c.if-not-is_valid.ensures.verdict c.requires
+    (adds_as (kind_of_not _) (added c.args.self.now.location c.args._path.now)))
