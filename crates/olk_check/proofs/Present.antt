@@ -14,8 +14,7 @@ pub record Sought (n : Name) (all rest : List (Name × Data)) (met : Bool) : Typ
 
 first_or_later : (n : Name) (x : Data) (o : Ordering) (r : Option Data) → is_some (first_if_equal o x r) ≡ (is_eq o || is_some r)
 first_or_later n x Less r = refl
-first_or_later n x Equal r = refl
-first_or_later n x Greater r = refl
+first_or_later n x _ r = refl
 
 module _ {n : Name} {all : List (Name × Data)} where
   module _ {rest : List (Name × Data)} {met : Bool} where
