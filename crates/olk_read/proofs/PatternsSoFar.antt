@@ -32,8 +32,7 @@ module _ (W : World) (t : Text) where
     where
       by : (l : Option Literal) (b : Bool) → option_map_or (λ x. true) l b ≡ false → put_if (is_none l && not b) (refusal Regex (string t) (L // t)) [] ≡ refusal Regex (string t) (L // t) ∷ []
       by None false e = refl
-      by None true e = absurd (true≢false e)
-      by (Some l) b e = absurd (true≢false e)
+      by _ _ e = absurd (true≢false e)
 
   spends_made : (a b : Counts) → b ≡ count_made a → Spends a b (record no_cost { pattern_places = 1 })
   spends_made a b e = e ∙ rw (raised_zero a.compiled, raised_zero a.leaves, raised_zero a.asked, raised_zero a.unfinished) refl
@@ -66,9 +65,8 @@ module _ {K R : Type 0} (o : Kit K R) (L : Path) where
 
   push : (ps : List (CompiledPattern R)) (es : List (Name × Data)) (p : CompiledPattern R) (e : Name × Data) → ArePatterns o ps es → IsPattern o p e.0 → ArePatterns o (ps ++ p ∷ []) (es ++ e ∷ [])
   push [] [] p e h s = (s, tt)
-  push [] (x ∷ es) p e h s = absurd h
-  push (q ∷ ps) [] p e h s = absurd h
   push (q ∷ ps) (x ∷ es) p e h s = (h.0, push ps es p e h.1 s)
+  push _ _ p e h s = absurd h
 
   module _ (all : List (Name × Data)) (a : Counts) where
     pub no_patterns : (ps : List (CompiledPattern R)) (left : List (Name × Data)) → ps ≡ [] → left ≡ all → PatternsSoFar all a ps left a
