@@ -65,8 +65,7 @@ module _ {K R N : Type 0} (o : Kit K R) (answers : N → Answers) where
   filled_formed : (c : Option N) (a : Option Data) (L : Path) → Fills (Case L) c a → case_formed o answers c ≡ true
   filled_formed None None L h = refl
   filled_formed (Some n) (Some d) L h = h.formed
-  filled_formed None (Some d) L h = absurd h
-  filled_formed (Some n) None L h = absurd h
+  filled_formed _ _ L h = absurd h
 
   abbrev case_question : Option N → Data → Question
   case_question None v = always true
@@ -122,26 +121,22 @@ module _ {K R N : Type 0} (o : Kit K R) (answers : N → Answers) where
     case_accepts : (t : Option N) (a : Option Data) (L : Path) → Fills (Case L) t a → (case_question t v).accepts u ≡ case_verdict a
     case_accepts None None L h = refl
     case_accepts (Some n) (Some d) L h = h.verdict u v
-    case_accepts None (Some d) L h = absurd h
-    case_accepts (Some n) None L h = absurd h
+    case_accepts _ _ L h = absurd h
 
     case_asks : (t : Option N) (a : Option Data) (L : Path) → Fills (Case L) t a → (case_question t v).asks u ≤ case_asked a
     case_asks None None L h = omega arith
     case_asks (Some n) (Some d) L h = h.asks_within u v
-    case_asks None (Some d) L h = absurd h
-    case_asks (Some n) None L h = absurd h
+    case_asks _ _ L h = absurd h
 
     case_finds : (t : Option N) (a : Option Data) (L Q : Path) → Fills (Case L) t a → case_found u t v Q ∼ case_report a L Q
     case_finds None None L Q h = like_empty
     case_finds (Some n) (Some d) L Q h = h.faults u v Q
-    case_finds None (Some d) L Q h = absurd h
-    case_finds (Some n) None L Q h = absurd h
+    case_finds _ _ L Q h = absurd h
 
     case_shows : (t : Option N) (a : Option Data) (L Q : Path) → Fills (Case L) t a → branch_trees (λ n. (answers n).tree u) v Q (option_to_list t) ≡ case_trees a L Q
     case_shows None None L Q h = refl
     case_shows (Some n) (Some d) L Q h = ap (λ t. t ∷ []) (h.evaluation u v Q)
-    case_shows None (Some d) L Q h = absurd h
-    case_shows (Some n) None L Q h = absurd h
+    case_shows _ _ L Q h = absurd h
 
     shown_where : (b : Bool) (a : Option Data) (L Q : Path) → fact.case_shown o.world u v b L Q a ≡ cond b (case_trees a L Q) []
     shown_where true None L Q = refl
