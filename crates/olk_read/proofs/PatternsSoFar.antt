@@ -45,8 +45,8 @@ module _ (W : World) (t : Text) where
       by (Some l) q = subst (λ x. Spends a x no_cost) (sym q) (spends_nothing a)
 
   pub spends_open_at_most : (a b : Counts) → (b ≡ a) ⊎ (b ≡ count_open t a) → SpendsWithin a b (matcher_made W t)
-  spends_open_at_most a b (inl e) = subst (λ x. SpendsWithin a x (matcher_made W t)) (sym e) (within_nothing a (matcher_made W t))
-  spends_open_at_most a b (inr e) = within_exactly a b (matcher_made W t) (spends_open a b e)
+  spends_open_at_most a b (inl e) = subst (λ x. SpendsWithin a x (matcher_made W t)) (sym e) within_nothing
+  spends_open_at_most a b (inr e) = within_exactly (spends_open a b e)
 
 -- ---- one after another
 
@@ -84,5 +84,5 @@ module _ {K R : Type 0} (o : Kit K R) (L : Path) where
         one_more_pattern p new s q =
             one_more_so_far wrong costs stand all a x left rest next ps new m b h (subst (λ y. stand y (h.done ++ x ∷ [])) (sym q) (push ps h.done p x h.built.stand s)) right spent
 
-        pub pattern_memory : (e : BuildError) (w : AllocError) → e ≡ Memory w → RefusesPatterns o all L a b e
-        pattern_memory e w q = memory_past wrong costs stand all a x left rest next ps m b e w q h spent
+        pub pattern_memory : (e : BuildError) {w : AllocError} → e ≡ Memory w → RefusesPatterns o all L a b e
+        pattern_memory e q = memory_past wrong costs stand all a x left rest next ps m b e q h spent

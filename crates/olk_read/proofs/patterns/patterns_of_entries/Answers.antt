@@ -9,7 +9,7 @@ use Rattle.olk_read.proofs.PatternsSoFar.{no_patterns, patterns_read, pattern_re
 use Rattle.olk_read.proofs.patterns.patterns_of_entries.Goals as goal
 
 pub returns-in_err-patterns-clause-refused : goal.returns-in_err-patterns-clause-refused
-returns-in_err-patterns-clause-refused g c = exit _ _ _ c.from_residual.ensures.1 (λ e q. refuses_memory _ _ _ _ e _ q (within_nothing _ _))
+returns-in_err-patterns-clause-refused g c = exit _ _ _ c.from_residual.ensures.1 (λ e q. refuses_memory e q within_nothing)
 
 pub loop-pattern-init : goal.loop-pattern-init
 loop-pattern-init g c =
@@ -45,7 +45,7 @@ returns-in_err-append-clause-refused g c =
     exit _ _ _ c.from_residual-in_err-append.ensures.1 (λ e q. pattern_memory (kit g.L.Leaf.Leaf g.M.Engine.RegexEngine) c.args.location.now
     (listed (members_view c.args.entries.now.entries)) c.args.meter.now (string_bytes c.in-Some.pattern.now, view c.in-Some.field-0-1.now)
     (listed (members_view c.loop-pattern.pattern-iterator)) (listed (members_view c.next.new.self))
-    (ap (λ l. listed (members_view l)) c.in-Some.ensures.steps) c.loop-pattern.patterns.items c.loop-pattern.meter c.read_pattern.new.meter c.loop-pattern.invariant.so_far c.in_ok-compiled.ensures.right c.in_ok-compiled.ensures.spends e _ q)
+    (ap (λ l. listed (members_view l)) c.in-Some.ensures.steps) c.loop-pattern.patterns.items c.loop-pattern.meter c.read_pattern.new.meter c.loop-pattern.invariant.so_far c.in_ok-compiled.ensures.right c.in_ok-compiled.ensures.spends e q)
 
 pub returns-clause-read : goal.returns-clause-read
 returns-clause-read g c =

@@ -18,4 +18,4 @@ returns-in-Err-Refused-clause-refused g c n =
 pub returns-in-Err-Memory-clause-refused : goal.returns-in-Err-Memory-clause-refused
 returns-in-Err-Memory-clause-refused g c n =
     refuses_leaf_memory (world g.L.Leaf.Leaf g.M.Engine.RegexEngine) c.args.name.now
-    (view c.args.value.now) c.requires.leaf c.args.meter.now c.make.new.meter c.make.ensures.counts n _ _ c.in-Err-Memory.error c.from.ensures
+    (view c.args.value.now) c.requires.leaf c.args.meter.now c.make.new.meter c.make.ensures.counts n _ _ c.from.ensures
