@@ -115,14 +115,12 @@ module _ {K R N : Type 0} (o : Kit K R) (answers : N → Answers) where
         (ap (λ es. flat_map (λ r. r.0.answer (down P r.1)) (each (codes "oneOf") es)) (branch_entries (malformations_step o.world) d)
         ∙ each_malformations o.world (codes "oneOf") P (numbered (items_of_array d)))
     places_found k P (shape.Not v) s c f h = subst (λ n. found n P (keyword_named o.world n) ≡ malformations_at o.world d (P // n)) (sym s.0) (append-nil _)
-    places_found k P shape.If s c f h = read_here_found k P c f h (ap is_conditional_name s)
-    places_found k P shape.Then s c f h = read_here_found k P c f h (ap is_conditional_name s)
-    places_found k P shape.Else s c f h = read_here_found k P c f h (ap is_conditional_name s)
     places_found k P shape.Unpaired s c f h =
         ap (flat_map (λ r. r.0.answer (down P r.1))) (places_by_condition (malformations_step o.world) ms o.world k d c h s)
         ∙ ap (λ b. flat_map (λ r. r.0.answer (down P r.1)) (places_where k b (itself k (read (malformations_step o.world) d).whole))) f
     places_found k P (shape.Leaf l) s c f h = ap (found k P) s.0
     places_found k P shape.Unread s c f h = ap (found k P) s
+    places_found k P _ s c f h = read_here_found k P c f h (ap is_conditional_name s)
 
     read_here_summed : (k : Name) (c : Known) → c.condition ≡ true → IsKnown c ms k → is_conditional_name k ≡ true → summed k (keyword_named o.world k) ≡ cost o.world d
     unfolding cost
@@ -170,14 +168,12 @@ module _ {K R N : Type 0} (o : Kit K R) (answers : N → Answers) where
     places_summed k shape.OneOf s c f h = subst (λ n. summed n (keyword_named o.world n) ≡ each_cost o (numbered (items_of_array d))) (sym s.0)
         (ap (λ es. total_cost (λ r. r.0.answer) (each (codes "oneOf") es)) (branch_entries (cost_step o.world) d) ∙ each_costs o.world (codes "oneOf") (numbered (items_of_array d)))
     places_summed k (shape.Not v) s c f h = subst (λ n. summed n (keyword_named o.world n) ≡ cost o.world d) (sym s.0) (sum_last _)
-    places_summed k shape.If s c f h = read_here_summed k c f h (ap is_conditional_name s)
-    places_summed k shape.Then s c f h = read_here_summed k c f h (ap is_conditional_name s)
-    places_summed k shape.Else s c f h = read_here_summed k c f h (ap is_conditional_name s)
     places_summed k shape.Unpaired s c f h =
         ap (total_cost (λ r. r.0.answer)) (places_by_condition (cost_step o.world) ms o.world k d c h s)
         ∙ ap (λ b. total_cost (λ r. r.0.answer) (places_where k b (itself k (read (cost_step o.world) d).whole))) f
     places_summed k (shape.Leaf l) s c f h = ap (summed k) s.0
     places_summed k shape.Unread s c f h = ap (summed k) s
+    places_summed k _ s c f h = read_here_summed k c f h (ap is_conditional_name s)
 
     abbrev owned : Keyword → Cost
     owned w = own_cost o.world (read_members (cost_step o.world) ms) (read (cost_step o.world) d) w
@@ -205,11 +201,11 @@ module _ {K R N : Type 0} (o : Kit K R) (answers : N → Answers) where
       (own_cost_of o.world c d (keyword_named o.world k)) a b e → RefusesPart o c k d L a b e
   refuses_part_own c k d L a b e h ms P p known = record {
     tells = tells_left (own_faults o.world k d (P // k)) (found ms d k P (keyword_named o.world k)) e (tells_same (ap (own_faults o.world k d) p) e h.tells);
-    spends = within_before a b _ (summed ms d k (keyword_named o.world k)) (within_same a b _ _ (sym (own_of_keyword ms d c k known)) h.spends);
+    spends = within_before a b _ (summed ms d k (keyword_named o.world k)) (within_same (sym (own_of_keyword ms d c k known)) h.spends);
   }
 
-  pub refuses_part_memory : (c : Known) (k : Name) (d : Data) (L : Path) (a : Counts) (e : BuildError) (m : AllocError) → e ≡ Memory m → RefusesPart o c k d L a a e
-  refuses_part_memory c k d L a e m q ms P p known = refuses_memory _ _ a a e m q (within_nothing a _)
+  pub refuses_part_memory : (c : Known) (k : Name) (d : Data) (L : Path) (a : Counts) (e : BuildError) {m : AllocError} → e ≡ Memory m → RefusesPart o c k d L a a e
+  refuses_part_memory c k d L a e q ms P p known = refuses_memory e q within_nothing
 
   module _ (x : Shape K R) (c : Known) (k : Name) (d : Data) (L : Path) (a m : Counts) (h : IsRead o x c k d L a m) where
     own_spent : (ms : Members) → IsKnown c ms k → Spends a m (owned ms d (keyword_named o.world k))
@@ -220,7 +216,7 @@ module _ {K R N : Type 0} (o : Kit K R) (answers : N → Answers) where
       tells =
           tells_right (own_faults o.world k d (P // k)) (found ms d k P (keyword_named o.world k)) e
           (tells_same (ap (places_malformed o (reads_of x) d) p ∙ sym (places_found ms d k P x h.shape c h.fits known)) e r.tells);
-      spends = within_after a m b _ _ (own_spent ms known) (within_same m b _ _ (sym (places_summed ms d k x h.shape c h.fits known)) r.spends);
+      spends = within_after a m b _ _ (own_spent ms known) (within_same (sym (places_summed ms d k x h.shape c h.fits known)) r.spends);
     }
 
     pub part_is_built : (ns : Vec N Global) (p : Part K R N) (b : Counts) → p.location ≡ L → p.shape ≡ x → p.nodes ≡ ns → PlacesAreBuilt o answers
@@ -245,9 +241,8 @@ module _ {K R N : Type 0} (o : Kit K R) (answers : N → Answers) where
   pub parts_push : (c : Known) (P : Path) (ps : List (Part K R N)) (es : List (Name × Data)) (p : Part K R N) (e : Name × Data) → PartsStand o answers c ps es P
       → PartStands o answers c p e P → PartsStand o answers c (ps ++ p ∷ []) (es ++ e ∷ []) P
   parts_push c P [] [] p e h s = (s, tt)
-  parts_push c P [] (x ∷ es) p e h s = absurd h
-  parts_push c P (y ∷ ps) [] p e h s = absurd h
   parts_push c P (y ∷ ps) (x ∷ es) p e h s = (h.0, parts_push c P ps es p e h.1 s)
+  parts_push c P _ _ p e h s = absurd h
 
   module _ (ms : Members) (P : Path) where
     -- what the next member has to know of its neighbours
