@@ -16,7 +16,6 @@ use Rattle.olk_spec.specs.Faults.{Fault, ◌∼◌}
 use Rattle.olk_spec.specs.Malformed.{has_repeat}
 use Rattle.olk_spec.specs.Meaning.{meaning_step}
 use Rattle.olk_spec.specs.Tree.{Tree}
-use Rattle.olk_spec.proofs.Order.{∼_same}
 use Rattle.olk_spec.proofs.Truth.{and_from, and_first, and_second}
 use Rattle.olk_base.specs.Kit.{Kit}
 use Rattle.olk_base.specs.Compiled.{pattern_answers}
@@ -57,6 +56,7 @@ use Rattle.olk_make.specs.declared.part.Beside.{Beside}
 use Rattle.olk_make.specs.declared.part.DeclaredNodes.{DeclaredNodes}
 use Rattle.olk_make.specs.declared.part.Patterns.{Patterns}
 use Rattle.olk_make.specs.declared.part.Taken.{Taken}
+use Rattle.olk_make.proofs.Together.{means_nothing}
 use Rattle.olk_make.proofs.Entries.{schema_answers, schemas_answer}
 use Rattle.olk_make.proofs.Formed.{has_form, is_formed, just_one_formed, stand_formed, each_keys, each_nodes, each_long, each_held_formed, map_formed, entry_formed, case_formed}
 use Rattle.olk_tree.specs.Formed.{is_map_formed, names_beside, is_table_formed}
@@ -365,15 +365,7 @@ module _ {K R N : Type 0} (o : Kit K R) (answers : N → Answers) where
         (subst (λ rows. KeywordsMean o answers ms [] rows ((codes "additionalProperties", m.1) ∷ []) P)
         (sym (claims_itself ms distinct (head (plan_of ms)) (codes "additionalProperties", m.1)
         (heads_elsewhere (plan_of ms) (codes "additionalProperties") refl refl (λ e. (refl, refl)) (free_takes_nothing ms (codes "additionalProperties") free))
-        (ap (λ k. lookup_name k (listed ms)) (sym named.0) ∙ there))) record {
-          covers = record {
-            verdict = λ u v. sym (and-true _ ∙ nothing.verdict u v);
-            asks_within = λ u v. omega arith;
-            faults = λ u v Q. ∼_same (sym (append-nil _ ∙ nothing.report u v P Q));
-          };
-          shows = λ clean u v Q. sym (append-nil _ ∙ nothing.child u v P Q);
-          formed = refl;
-        })
+        (ap (λ k. lookup_name k (listed ms)) (sym named.0) ∙ there))) (means_nothing o answers ms P _ nothing))
       where
         allowed : (d : Data) → is_truth true d ≡ true → is_restriction (Some d) ≡ false
         allowed (boolean true) e = refl

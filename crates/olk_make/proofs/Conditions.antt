@@ -17,7 +17,6 @@ use Rattle.olk_spec.specs.Schemas.{listed}
 use Rattle.olk_spec.specs.Malformed.{has_repeat}
 use Rattle.olk_spec.specs.Meaning.{accepts, asks, report, tree}
 use Rattle.olk_spec.specs.Tree.{Tree, plain}
-use Rattle.olk_spec.proofs.Order.{∼_same}
 use Rattle.olk_base.specs.Kit.{Kit}
 use Rattle.olk_tree.specs.Questions.{Question, always, conditional}
 use Rattle.olk_tree.specs.Validators.{answers_of}
@@ -42,7 +41,7 @@ use Rattle.olk_read.specs.declared.shape.ReadPlaces.TheVariants.{Itself}
 use Rattle.olk_make.specs.declared.part.Cases.{Cases}
 use Rattle.olk_make.specs.declared.part.Taken.{Taken}
 use Rattle.olk_make.proofs.Held.{question, shown, found}
-use Rattle.olk_make.proofs.Together.{means_permuted}
+use Rattle.olk_make.proofs.Together.{means_permuted, means_nothing}
 use Rattle.olk_make.proofs.Formed.{just_one_formed, case_formed, if_formed}
 
 pub form_is_if : {K R N : Type 0} (L : Path) (n : N) (t e : Option N) (k : KeywordOver K R N) → IsFormOfIf L n t e k → IsIf L (is_some t) (is_some e) k
@@ -329,15 +328,7 @@ module _ {K R N : Type 0} (o : Kit K R) (answers : N → Answers) where
       (subst (λ rows. KeywordsMean o answers ms [] rows (m ∷ []) P) (sym
       (claims_itself ms distinct (head (plan_of ms)) m (heads_elsewhere (plan_of ms) m.0 (apart_from (codes "properties") refl refl refl)
       (apart_from (codes "required") refl refl refl) (λ e. absurd (true≢false (sym e ∙ fits)))
-      (never_taken (plan_of ms) m.0 (apart_from (codes "additionalProperties") refl refl refl) (apart_from (codes "properties") refl refl refl) (apart_from (codes "patternProperties") refl refl refl) (apart_from (codes "required") refl refl refl))) there)) record {
-        covers = record {
-          verdict = λ u v. sym (and-true _ ∙ nothing.verdict u v);
-          asks_within = λ u v. omega arith;
-          faults = λ u v Q. ∼_same (sym (append-nil _ ∙ nothing.report u v P Q));
-        };
-        shows = λ clean u v Q. sym (append-nil _ ∙ nothing.child u v P Q);
-        formed = refl;
-      })
+      (never_taken (plan_of ms) m.0 (apart_from (codes "additionalProperties") refl refl refl) (apart_from (codes "properties") refl refl refl) (apart_from (codes "patternProperties") refl refl refl) (apart_from (codes "required") refl refl refl))) there)) (means_nothing o answers ms P m nothing))
     where
       apart_from : (n : Name) → bytes_eq n (codes "if") ≡ false → bytes_eq n (codes "then") ≡ false → bytes_eq n (codes "else") ≡ false → bytes_eq n m.0 ≡ false
       apart_from n a b c = by (fact.conditional_named m.0 named)

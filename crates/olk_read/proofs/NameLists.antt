@@ -8,7 +8,7 @@ use Rattle.std.specs.BTreeSet.{BTreeSet, contains_by, IsEmpty, Updates}
 use Rattle.std.proofs.Common.{Bor, refl, sym, ◌∙◌, ap, subst, true≢false}
 use Rattle.std.proofs.lemmas.List.{at_drop_more}
 use Rattle.std.proofs.lemmas.Map.Text.{is_eq-slice_cmp}
-use Rattle.serde_json.specs.Data.{Data, null, boolean, number, string, array, object, Items, item}
+use Rattle.serde_json.specs.Data.{Data, string, array, Items, item}
 use Rattle.serde_json.specs.Find.{as_str}
 use Rattle.serde_json.specs.View.{view, items_view}
 use Rattle.serde_json.specs.declared.value.Value.{Value}

@@ -1,4 +1,4 @@
-use Rattle.std.proofs.Common.{◌≡◌, ◌⊎◌, false, string_bytes, refl, sym, subst}
+use Rattle.std.proofs.Common.{◌≡◌, ◌⊎◌, false, string_bytes, sym, subst}
 use Rattle.olk_base.specs.Kit.{world}
 use Rattle.olk_base.specs.Lawful.{matcher, IsRefused}
 use Rattle.olk_base.specs.Compiled.{pattern_builds, count_open}

@@ -1,5 +1,5 @@
 use Rattle.olk_base.specs.Kit.{world}
-use Rattle.std.proofs.Common.{[], ◌∷◌, refl, sym, subst}
+use Rattle.std.proofs.Common.{[], ◌∷◌, sym, subst}
 use Rattle.serde_json.specs.View.{view}
 use Rattle.olk_spec.specs.Faults.{fault}
 use Rattle.olk_read.specs.Refusing.{TellsOneOf}
