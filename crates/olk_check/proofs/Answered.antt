@@ -33,8 +33,8 @@ module _ {X : Type 0} (f : X → Question) (a b : Asking) where
   two_first x y xs One h = absurd h
   two_first x y xs Two h = h
 
-  pub first_one : {x : X} {xs ys : List X} (s : Accepted) → ys ≡ x ∷ xs → AsksOne a b (f x) s → AsksFirst a b f ys s
-  first_one {x} {xs} s e h = subst (λ l. AsksFirst a b f l s) (sym e) (one_first x xs s h)
+  pub first_one : {x y : X} {xs ys : List X} (s : Accepted) → ys ≡ x ∷ xs → x ≡ y → AsksOne a b (f y) s → AsksFirst a b f ys s
+  first_one {x} {y} {xs} s e is h = subst (λ l. AsksFirst a b f l s) (sym e) (one_first x xs s (subst (λ k. AsksOne a b (f k) s) (sym is) h))
 
   pub first_two : {x y : X} {xs ys : List X} (s : Accepted) → ys ≡ x ∷ y ∷ xs → AsksTwo a b (f x) (f y) s → AsksFirst a b f ys s
   first_two {x} {y} {xs} s e h = subst (λ l. AsksFirst a b f l s) (sym e) (two_first x y xs s h)

@@ -1,5 +1,5 @@
 -- A name that is looked for among the members of an object.
-use Rattle.std.proofs.Common.{◌≡◌, Bool, true, ◌||◌, List, [], ◌∷◌, bytes_eq, is_some, refl, sym, ap, ◌∙◌, Ordering, Less, Equal, Greater, Option}
+use Rattle.std.proofs.Common.{◌≡◌, Bool, true, ◌||◌, List, [], ◌∷◌, bytes_eq, is_some, refl, sym, ap, ◌∙◌, Ordering, Less, Option}
 use Rattle.std.specs.Ordering.{nat_cmp, is_eq}
 use Rattle.std.specs.Cmp.Lexicographic.{slice_cmp}
 use Rattle.std.proofs.Math.Bool.{or-false}
