@@ -9,11 +9,13 @@ loop-index-preserved-then-not-matches_unless_known g c =
 
 pub returns-then-not-is_valid : goal.returns-then-not-is_valid
 returns-then-not-is_valid g c =
-    matched_stops c.loop-index.invariant (next_at c.patterns-entry-items.ensures c.entry-item.is c.loop-index-test.true) c.known-known.ensures c.if-not-matches_unless_known.ensures c.if-not-is_valid.ensures
+    matched_stops c.loop-index.invariant (next_at c.patterns-entry-items.ensures c.entry-item.is c.loop-index-test.true) c.known-known.ensures c.if-not-matches_unless_known.ensures
+    c.if-not-is_valid.ensures
 
 pub loop-index-preserved : goal.loop-index-preserved
 loop-index-preserved g c =
-    matched_goes_on c.loop-index.invariant (next_at c.patterns-entry-items.ensures c.entry-item.is c.loop-index-test.true) c.known-known.ensures c.if-not-matches_unless_known.ensures c.if-not-is_valid.ensures
+    matched_goes_on c.loop-index.invariant (next_at c.patterns-entry-items.ensures c.entry-item.is c.loop-index-test.true) c.known-known.ensures c.if-not-matches_unless_known.ensures
+    c.if-not-is_valid.ensures
 
 pub returns-then-spoken : goal.returns-then-spoken
 returns-then-spoken g c = spoken_ends c.loop-index.invariant (past_end c.patterns-entry-items.ensures (omega arith)) c.if-spoken.true

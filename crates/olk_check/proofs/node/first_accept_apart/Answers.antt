@@ -17,13 +17,15 @@ returns-else-keywords-gt1 g c =
 pub returns-in-PropertiesWithRequired2 : goal.returns-in-PropertiesWithRequired2
 unfolding answers_of
 returns-in-PropertiesWithRequired2 g c =
-    first_one _ _ _ _ (by_first c.index-keywords-0.is c.requires) (c.in-PropertiesWithRequired2.is ∙ ap (λ p. keyword.PropertiesWithRequired2 record c.in-PropertiesWithRequired2.properties { value = p }) (sym c.deref.ensures))
+    first_one _ _ _ _ (by_first c.index-keywords-0.is c.requires) (c.in-PropertiesWithRequired2.is ∙ ap
+    (λ p. keyword.PropertiesWithRequired2 record c.in-PropertiesWithRequired2.properties { value = p }) (sym c.deref.ensures))
     c.properties_with_required2_accept.ensures
 
 pub returns-in-AdditionalProperties : goal.returns-in-AdditionalProperties
 unfolding answers_of
 returns-in-AdditionalProperties g c =
-    first_one _ _ _ _ (by_first c.index-keywords-0.is c.requires) (c.in-AdditionalProperties.is ∙ ap (λ a. keyword.AdditionalProperties record c.in-AdditionalProperties.additional { value = a }) (sym c.deref-in-AdditionalProperties.ensures))
+    first_one _ _ _ _ (by_first c.index-keywords-0.is c.requires) (c.in-AdditionalProperties.is ∙ ap
+    (λ a. keyword.AdditionalProperties record c.in-AdditionalProperties.additional { value = a }) (sym c.deref-in-AdditionalProperties.ensures))
     c.additional_properties_accept.ensures
 
 pub returns-in-Required : goal.returns-in-Required
